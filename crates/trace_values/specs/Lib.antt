@@ -1,0 +1,7 @@
+pub mod Placed
+pub mod Faults
+pub mod Grammar
+pub mod Walk
+pub mod Reading
+pub mod Stream
+pub mod Standing

@@ -1,0 +1,92 @@
+-- What a source reads as, and how the answers of a machine follow the readings of the list of bytes that it stands for.
+use Rattle.std.specs.Prelude.{◌≡◌, ℕ, ◌+◌, ◌*◌, ◌≤◌, List, [], ◌∷◌, ◌++◌, Bool, true, false, Option, None, Some, is_none, length, map}
+use Rattle.trace_values.specs.declared.fault.Reason.{Reason}
+use Rattle.trace_values.specs.declared.step.Step.{Step}
+use Rattle.trace_values.specs.declared.step.Step.TheVariants.{Quiet, Skipping, Item, Locked, Fault as Faulty}
+use Rattle.trace_values.specs.Placed.{Place}
+use Rattle.trace_values.specs.Reading.{Reading}
+
+-- what a source gives at a place: the notice of its lock with the units skipped, or an item
+pub data Said (V : Type 0) : Type 0 where
+  Notice : ℕ → Said V
+  Kept : V → Said V
+
+-- What a source's list of bytes reads as: its notice and items with their places, the fault, the units of the unfinished packet, and the hunt.
+pub record Stream (V : Type 0) : Type 0 where
+  pub given : List (Said V × Place)
+  pub fault : Option (Place × Reason)
+  pub held : ℕ
+  pub skipped : ℕ
+  pub locked : Bool
+
+abbrev pub kept : {V : Type 0} → List (V × Place) → List (Said V × Place)
+kept items = map (λ x. (Kept x.0, x.1)) items
+
+-- a reading behind so many skipped units, with what was given before its items
+abbrev pub shown : {V : Type 0} → List (Said V × Place) → ℕ → Reading V → Stream V
+shown front skipped r = record { given = front ++ kept r.items; fault = r.fault; held = length r.rest; skipped = skipped; locked = true }
+
+-- a reading from the list's first unit on
+abbrev pub stream_of : {V : Type 0} → Reading V → Stream V
+stream_of r = shown [] 0 r
+
+-- what a step at this offset gives
+abbrev pub given_by : {V : Type 0} → ℕ → Step V → List (Said V × Place)
+given_by at Quiet = []
+given_by at Skipping = []
+given_by at (Item half v) = (Kept v, record { at = at; half = half }) ∷ []
+given_by at (Locked skipped half v) = (Notice skipped, record { at = at; half = half }) ∷ ((Kept v, record { at = at; half = half }) ∷ [])
+given_by at (Faulty f) = []
+
+abbrev pub fault_by : {V : Type 0} → ℕ → Step V → Option (Place × Reason)
+fault_by at (Faulty f) = Some (record { at = at; half = f.half }, f.reason)
+fault_by at s = None
+
+-- a step with which the machine stays live
+abbrev pub goes_on : {V : Type 0} → Step V → Bool
+goes_on (Faulty f) = false
+goes_on s = true
+
+-- what a step says of the hunt, and a fault of its offset
+abbrev pub HuntBy : {V : Type 0} → Stream V → Stream V → ℕ → Step V → Type 0
+HuntBy old new at Quiet = (old.locked ≡ true) × (new.locked ≡ true) × (new.skipped ≡ old.skipped)
+HuntBy old new at Skipping = (old.locked ≡ false) × (new.locked ≡ false)
+HuntBy old new at (Item half v) = (old.locked ≡ true) × (new.locked ≡ true) × (new.skipped ≡ old.skipped)
+HuntBy old new at (Locked skipped half v) = (old.locked ≡ false) × (new.locked ≡ true) × (new.skipped ≡ skipped)
+HuntBy old new at (Faulty f) = (f.at ≡ at) × (old.locked ≡ true)
+
+-- With one more byte, at this offset, the reading grew from old to new, and the step says by what.
+pub record Grows {V : Type 0} (old new : Stream V) (at : ℕ) (step : Step V) : Type 0 where
+  pub given : new.given ≡ old.given ++ given_by at step
+  pub fault : new.fault ≡ fault_by at step
+  pub hunt : HuntBy old new at step
+
+-- What a machine shows of the reading of a list of this many bytes: of the hunt and the unfinished packet only while it is live.
+pub record Shows {V : Type 0} (live locked : Bool) (held skipped bytes : ℕ) (s : Stream V) : Type 0 where
+  pub live_is : live ≡ is_none s.fault
+  pub locked_is : live ≡ true → locked ≡ s.locked
+  pub held_is : live ≡ true → held ≡ s.held
+  pub skipped_is : live ≡ true → skipped ≡ s.skipped
+  pub room : live ≡ true → held + skipped ≤ 2 * bytes
+
+-- behind a fault nothing is read
+pub record Settled {V : Type 0} (old new : Stream V) : Type 0 where
+  pub given : new.given ≡ old.given
+  pub fault : new.fault ≡ old.fault
+
+-- all of these stand at this offset, the first half before the second
+abbrev pub AllAt : {W : Type 0} → ℕ → ℕ → List (W × Place) → Type 0
+AllAt at half [] = Unit {0}
+AllAt at half (x ∷ xs) = (x.1.at ≡ at) × (half ≤ x.1.half) × AllAt at x.1.half xs
+
+abbrev pub FaultAt : ℕ → Option (Place × Reason) → Option (Place × Reason) → Type 0
+FaultAt at None (Some f) = f.0.at ≡ at
+FaultAt at None None = Unit {0}
+FaultAt at (Some f) new = new ≡ Some f
+
+-- With one more byte at this offset a reading has more, and what is more stands there.
+pub record Rises {V : Type 0} (old new : Stream V) (at : ℕ) : Type 0 where
+  pub more : List (Said V × Place)
+  pub given : new.given ≡ old.given ++ more
+  pub all : AllAt at 0 more
+  pub fault : FaultAt at old.fault new.fault

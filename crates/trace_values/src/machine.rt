@@ -1,0 +1,78 @@
+//! What reads a source's bytes one by one.
+
+ghost use Rattle.std.specs.Prelude.{◌≡◌, ℕ, ◌+◌, ◌^◌, ◌≤◌, ◌++◌, ◌∷◌, [], List, Bool, true, false, None, is_none, length};
+ghost use Rattle.trace_values.specs.Placed.{Placed, byte_at};
+ghost use Rattle.trace_values.specs.Stream.{Stream, Grows, Shows, Settled, Rises, goes_on};
+
+use crate::step::Step;
+
+/// A machine that reads a list of bytes one by one, and keeps only what it needs of them.
+///
+/// It **stands for** a list of placed bytes if its kept parts are those that the reading of that list
+/// has. Several lists may have the same kept parts, and no machine keeps its history, so each clause
+/// holds for every list that the machine stood for before the call. A unit is a byte or a nibble.
+pub trait Machine {
+    type Item;
+
+    /// What a list of bytes reads as, in this machine's mode.
+    ghost reading: { Self → List Placed → Stream Self.Item };
+
+    /// Its kept parts are those of this list of bytes.
+    ghost stands: { Self → List Placed → Type 0 };
+
+    /// It has met no fault.
+    ghost live: { Self → Bool };
+
+    /// Its reading has begun.
+    ghost locked: { Self → Bool };
+
+    /// How many units of an unfinished item it holds.
+    ghost held_units: { Self → ℕ };
+
+    /// How many units stand before its reading.
+    ghost skipped_units: { Self → ℕ };
+
+    /// Takes the next byte, which stands at this offset of the capture.
+    fn feed(&mut self, at: u64, byte: u8) -> Step<Self::Item>
+        requires live { live self.old ≡ true }
+        requires room { held_units self.old ≤ 2 ^ 60 }
+        requires count { skipped_units self.old ≤ 2 ^ 60 }
+        ensures same { reading self.new ≡ reading self.old }
+        ensures list { (u : List Placed) → stands self.old u → stands self.new (u ++ byte_at at byte ∷ []) }
+        ensures step { (u : List Placed) → stands self.old u →
+            Grows (reading self.old u) (reading self.old (u ++ byte_at at byte ∷ [])) at result }
+        ensures live { live self.new ≡ goes_on result }
+        ensures few { held_units self.new + skipped_units self.new ≤ held_units self.old + skipped_units self.old + 2 };
+
+    /// False exactly behind a fault.
+    fn is_live(&self) -> bool
+        ensures { result ≡ live self.now };
+
+    /// True from the start where the reading begins with the first unit, and else from the lock on.
+    fn is_locked(&self) -> bool
+        ensures { result ≡ locked self.now };
+
+    /// How many units of an unfinished item it holds; 0 before the lock.
+    fn held(&self) -> u64
+        requires { live self.now ≡ true }
+        ensures { result ≡ held_units self.now };
+
+    /// How many units stand before the pattern that it hunted; before the lock, all units so far.
+    fn skipped(&self) -> u64
+        requires { live self.now ≡ true }
+        ensures { result ≡ skipped_units self.now };
+
+    /// What it shows is what the reading of its list has.
+    ghost shows: { (m : Self) (u : List Placed) → stands m u →
+        Shows (live m) (locked m) (held_units m) (skipped_units m) (length u) (reading m u) };
+
+    /// Nothing is read of no bytes.
+    ghost begins: { (m : Self) → ((reading m []).given ≡ []) × ((reading m []).fault ≡ None) };
+
+    /// A fault is the end of a reading.
+    ghost settles: { (m : Self) (u w : List Placed) → is_none (reading m u).fault ≡ false →
+        Settled (reading m u) (reading m (u ++ w)) };
+
+    /// With one more byte there is more, and what is more stands at that byte.
+    ghost rises: { (m : Self) (u : List Placed) (at byte : ℕ) → Rises (reading m u) (reading m (u ++ byte_at at byte ∷ [])) at };
+}
