@@ -3,3 +3,4 @@ pub mod Listing
 pub mod ListingLaws
 pub mod Statuses
 pub mod Words
+pub mod Show

@@ -1,6 +1,7 @@
 //! Shows software trace.
 #![tactic(auto)]
 
+mod show;
 mod status;
 mod text;
 mod words;

@@ -1,18 +1,18 @@
 //! The texts of the listing, put into the outlet.
 
-ghost use Rattle.std.specs.Prelude.{◌≡◌, ℕ, ◌+◌, ◌≤◌, ◌<◌, ◌++◌, length, decimal};
+ghost use Rattle.std.specs.Prelude.{◌≡◌, ℕ, ◌+◌, ◌*◌, ◌≤◌, ◌++◌, length, decimal, flat_map};
 ghost use Rattle.hex.specs.Hex.{encode_lower};
-ghost use Rattle.trace_values.specs.Stream.{Kept};
+ghost use Rattle.trace_values.specs.Stream.{Notice, Kept, given_by};
 ghost use Rattle.capture_command.specs.ItemText.{value_text, item_text};
 ghost use Rattle.capture_command.specs.Listing.{line, fault_line, end_lines};
 
 use itm_grammar::packet::{ItmPacket, Size};
 use itoa::Buffer;
 use trace_stream::{OUTLET_ROOM, Outlet};
-use trace_values::Fault;
+use trace_values::{Fault, Step};
 
 /// The most bytes of a line of an item.
-pub const LINE_ROOM: usize = 64;
+const LINE_ROOM: usize = 64;
 
 fn put_decimal(outlet: &mut Outlet, number: u64)
     requires room { length outlet.old + 20 ≤ OUTLET_ROOM }
@@ -74,14 +74,45 @@ fn put_item(outlet: &mut Outlet, packet: &ItmPacket)
 }
 
 /// The line of an item of source 1 at this offset: `AT 1 ITEM`.
-pub fn put_line(outlet: &mut Outlet, at: u64, packet: &ItmPacket)
+fn put_line(outlet: &mut Outlet, at: u64, half: u8, packet: &ItmPacket)
     requires room { length outlet.old + LINE_ROOM ≤ OUTLET_ROOM }
-    ensures { outlet.new ≡ outlet.old ++ line (Kept packet.now, record { at = at; half = 0 }) }
+    ensures { outlet.new ≡ outlet.old ++ line (Kept packet.now, record { at = at; half = half }) }
 {
     put_decimal(outlet, at);
     outlet.append(b" 1 ");
     put_item(outlet, packet);
     outlet.append(b"\n");
+}
+
+/// The line of a lock of source 1 behind so many skipped bytes: `AT 1 locked N`.
+fn put_lock(outlet: &mut Outlet, at: u64, half: u8, skipped: u64)
+    requires room { length outlet.old + LINE_ROOM ≤ OUTLET_ROOM }
+    ensures text { outlet.new ≡ outlet.old ++ line (Notice skipped, record { at = at; half = half }) }
+    ensures room { length outlet.new ≤ length outlet.old + LINE_ROOM }
+{
+    put_decimal(outlet, at);
+    outlet.append(b" 1 locked ");
+    put_decimal(outlet, skipped);
+    outlet.append(b"\n");
+}
+
+/// The lines of what a step at this offset gives.
+pub fn put_step(outlet: &mut Outlet, at: u64, step: &Step<ItmPacket>)
+    requires room { length outlet.old + 2 * LINE_ROOM ≤ OUTLET_ROOM }
+    ensures { outlet.new ≡ outlet.old ++ flat_map line (given_by at step.now) }
+{
+    match step {
+        Step::Item { half, item } => put_line(outlet, at, *half, item),
+        Step::Locked {
+            skipped,
+            half,
+            item,
+        } => {
+            put_lock(outlet, at, *half, *skipped);
+            put_line(outlet, at, *half, item);
+        }
+        Step::Quiet | Step::Skipping | Step::Fault(_) => {}
+    }
 }
 
 /// The line of a fault of source 1: `fault AT 1 R NAME`.

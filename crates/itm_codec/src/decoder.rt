@@ -36,7 +36,7 @@ impl Machine for ItmDecoder {
     ghost use Rattle.itm_grammar.specs.declared.partial.Partial.TheVariants.{Header};
     ghost use Rattle.trace_values.specs.Walk.{by_unit};
     ghost use Rattle.itm_codec.specs.Reading.{packets};
-    ghost use Rattle.itm_codec.specs.Decoder.{IsOf};
+    ghost use Rattle.itm_codec.specs.Decoder.{IsOf, is_live, held_of};
     ghost use Rattle.trace_values.proofs.Standings as laws;
     ghost use Rattle.itm_grammar.proofs.Counting as counting;
 
@@ -46,11 +46,11 @@ impl Machine for ItmDecoder {
 
     ghost stands = { IsOf };
 
-    ghost live = { λ m. m.live };
+    ghost live = { is_live };
 
     ghost locked = { λ _. true };
 
-    ghost held_units = { λ m. count_of m.partial };
+    ghost held_units = { held_of };
 
     ghost skipped_units = { λ _. 0 };
 

@@ -1,4 +1,4 @@
-ghost use Rattle.std.specs.Prelude.{◌≡◌, ℕ, ◌+◌, ◌<◌, ◌≤◌, List, [], ◌++◌, length, take};
+ghost use Rattle.std.specs.Prelude.{◌≡◌, ℕ, ◌+◌, ◌^◌, ◌<◌, ◌≤◌, List, [], ◌++◌, length, take};
 ghost use Rattle.trace_io.specs.Bytes.{TakesSome};
 ghost use Rattle.trace_stream.specs.Laws.{GrowsOnly};
 ghost use Rattle.trace_stream.specs.Taken.{HasTaken};
@@ -38,6 +38,8 @@ pub trait Action {
     ghost plan: { Self → Self.Plan };
     // it may be fed
     ghost live: { Self → Type 0 };
+    // how many bytes it took
+    ghost taken: { Self → ℕ };
     // it took these bytes
     ghost stands: { Self → List ℕ → Type 0 };
     // the reading of these bytes has a fault
@@ -53,8 +55,10 @@ pub trait Action {
         requires live { live self.old }
         requires some { 0 < length piece.now }
         requires room { length outlet.old + ACTION_ROOM ≤ OUTLET_ROOM }
+        requires count { taken self.old + length piece.now < 2 ^ 40 }
         ensures same { plan self.new ≡ plan self.old }
         ensures front { TakesSome piece.now result.bytes }
+        ensures count { taken self.new ≡ taken self.old + result.bytes }
         ensures fed { (seen : List ℕ) → stands self.old seen →
             HasTaken (stands self.new) (faulty (plan self.old)) (text (plan self.old)) seen (take result.bytes piece.now) outlet.old outlet.new result.flow }
         ensures live { result.flow ≡ Flow.On → live self.new };

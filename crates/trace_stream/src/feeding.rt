@@ -1,4 +1,4 @@
-ghost use Rattle.std.specs.Prelude.{◌≡◌, ℕ, ◌+◌, ◌≤◌, List, [], ◌++◌, length, OnOk, OnErr};
+ghost use Rattle.std.specs.Prelude.{◌≡◌, ℕ, ◌+◌, ◌^◌, ◌<◌, ◌≤◌, List, [], ◌++◌, length, OnOk, OnErr};
 ghost use Rattle.std.specs.declared.option.Option.{Option};
 ghost use Rattle.trace_io.specs.Bytes.{AppendsPrefix, TakesFront};
 ghost use Rattle.trace_io.specs.Causes.{HasCause, Rose};
@@ -37,9 +37,11 @@ pub fn feed_piece<A: Action, O: Sink>(
     output: &mut O,
     piece: &[u8],
 ) -> Fed
-    requires { A.live action.old }
+    requires live { A.live action.old }
+    requires count { A.taken action.old + length piece.now < 2 ^ 40 }
     ensures same { A.plan action.new ≡ A.plan action.old }
     ensures live { result ≡ Fed.All → A.live action.new }
+    ensures count { result ≡ Fed.All → A.taken action.new ≡ A.taken action.old + length piece.now }
     ensures fed { (start : Option (List ℕ)) (seen : List ℕ) (p : A.Plan) → A.plan action.old ≡ p →
         StandsAfter (A.stands action.old) (A.faulty p) (A.text p) start (O.held output.old) outlet.old seen →
         HasFed (A.stands action.new) (A.faulty p) (A.text p) start (O.held output.new) outlet.new seen piece.now result }

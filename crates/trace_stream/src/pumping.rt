@@ -43,6 +43,7 @@ pub fn pump<A: Action, I: Source, O: Sink>(
 ) -> Ending
     requires live { A.live action.old }
     requires fresh { A.stands action.old [] }
+    requires count { A.taken action.old ≡ 0 }
     requires pending { outlet.old ≡ [] }
     requires some { 0 < length buffer.old }
     requires small { limit < 2 ^ 40 }

@@ -53,6 +53,7 @@ fn pump_and_finish<A: Action, I: Source, O: Sink>(
 ) -> Outcome
     requires live { A.live action.old }
     requires fresh { A.stands action.old [] }
+    requires count { A.taken action.old ≡ 0 }
     requires pending { outlet.old ≡ [] }
     requires some { 0 < length buffer.old }
     requires small { limit < 2 ^ 40 }
@@ -93,6 +94,7 @@ pub fn serve<A: Action, I: Source, O: Sink>(
     requires pending { buffers.old ≡ [] }
     requires live { A.live action.old }
     requires fresh { A.stands action.old [] }
+    requires count { A.taken action.old ≡ 0 }
     requires small { limit < 2 ^ 40 }
     ensures served { HasServed (A.faulty (A.plan action.old)) (A.text (A.plan action.old)) (A.ending (A.plan action.old)) limit
         (I.left input.old) (I.left input.new) (O.held output.old) (O.held output.new) result }

@@ -1,6 +1,6 @@
 use Rattle.std.proofs.Common.{rules, true, ◌==◌, ◌≡◌, ℕ, [], length, arith, ◌∙◌, sym, refl}
 use Rattle.std.proofs.lemmas.Bool.Decides.{nat_tests}
-use Rattle.std.proofs.lemmas.List.{take_rest, nil_from_length}
+use Rattle.std.proofs.lemmas.List.{take_rest, nil_from_length, length-drop}
 use Rattle.trace_io.specs.Bytes.{AppendsPrefix, TakesFront}
 use Rattle.trace_stream.proofs.Pieces.{feeding_none, feeding_all, feeding_write_failed, feeding_more, feeding_stopped, taken_at}
 use Rattle.trace_stream.proofs.feeding.feed_piece.Goals as goal
@@ -8,7 +8,8 @@ use Rattle.trace_stream.proofs.feeding.feed_piece.Goals as goal
 pub loop-rest-init : goal.loop-rest-init
 loop-rest-init g c = record {
   same = refl;
-  live = c.requires;
+  live = c.requires.live;
+  count = refl;
   feeding = λ start seen p e after. feeding_none _ _ _ _ _ _ _ _ after;
   later = omega arith;
 }
@@ -22,6 +23,7 @@ pub loop-rest-preserved : goal.loop-rest-preserved
 loop-rest-preserved g c = record {
   same = c.feed-taken.ensures.same ∙ c.loop-rest.invariant.same;
   live = c.feed-taken.ensures.live c.in-On.is;
+  count = simp (take_rest, length-drop) (omega (arith, c.feed-taken.ensures.count, c.loop-rest.invariant.count, c.feed-taken.ensures.front.at_most_all));
   feeding = λ start seen p e after.
       let so_far = c.loop-rest.invariant.feeding start seen p e after in
       let room : TakesFront (g.O.Sink.held c.loop-rest.output) (g.O.Sink.held c.make_room.new.output) c.loop-rest.outlet c.make_room.new.outlet = search rules in

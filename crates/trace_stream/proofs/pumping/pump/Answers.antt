@@ -69,6 +69,7 @@ loop-got-preserved g c =
     record {
       same = c.in-All.ensures.same ∙ c.loop-got.invariant.same;
       live = c.in-All.ensures.live refl;
+      taken = omega (arith, c.in-All.ensures.count refl, count, c.loop-got.invariant.taken);
       empty = emptied;
       pumping = subst (λ n. IsPumping (g.A.Action.stands c.feed_piece.new.action) (g.A.Action.faulty (g.A.Action.plan c.args.action.now)) (g.A.Action.text (g.A.Action.plan c.args.action.now)) (g.I.Source.left c.args.input.now) (g.I.Source.left c.read_next.new.input) (g.O.Sink.held c.args.output.now) (g.O.Sink.held c.flush.new.sink) c.flush.new.self (c.loop-got.count + n)) count
           (pump_more _ _ _ _ _ _ _ _ _ _ _ _ _ _ c.loop-got.count piece c.loop-got.invariant.pumping lost fed put emptied);

@@ -6,6 +6,7 @@ abbrev pub invariant-loop-got : goal.invariant-loop-got
 invariant-loop-got g l = record {
   same : g.A.Action.plan l.action ≡ g.A.Action.plan l.initial.action;
   live : g.A.Action.live l.action;
+  taken : g.A.Action.taken l.action ≡ l.count;
   empty : l.outlet ≡ [];
   pumping : IsPumping (g.A.Action.stands l.action) (g.A.Action.faulty (g.A.Action.plan l.initial.action)) (g.A.Action.text (g.A.Action.plan l.initial.action))
       (g.I.Source.left l.initial.input) (g.I.Source.left l.input) (g.O.Sink.held l.initial.output) (g.O.Sink.held l.output) l.outlet l.count;
