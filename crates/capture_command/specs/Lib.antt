@@ -4,3 +4,4 @@ pub mod ListingLaws
 pub mod Statuses
 pub mod Words
 pub mod Show
+pub mod Run

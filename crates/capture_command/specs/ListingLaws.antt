@@ -1,11 +1,11 @@
 -- How the listing grows with the bytes.
-use Rattle.std.specs.Prelude.{◌≡◌, ℕ, List, [], ◌∷◌, ◌++◌, flat_map, length, refl, Option, Some, None, is_none, false, true}
-use Rattle.std.proofs.Common.{ap, sym, ◌∙◌, subst}
+use Rattle.std.specs.Prelude.{◌≡◌, ℕ, List, [], ◌++◌, flat_map, length, Option, Some, None, is_none, false}
+use Rattle.std.proofs.Common.{ap, ◌∙◌}
 use Rattle.std.proofs.lemmas.Grind.{flat_map-append}
 use Rattle.trace_stream.specs.Laws.{GrowsOnly}
 use Rattle.trace_values.specs.declared.fault.Reason.{Reason}
-use Rattle.trace_values.specs.Placed.{Place, Placed, placed}
-use Rattle.trace_values.specs.Stream.{Stream, Said, Settled}
+use Rattle.trace_values.specs.Placed.{Place}
+use Rattle.trace_values.specs.Stream.{Stream, Settled}
 use Rattle.trace_values.specs.Walk.{by_unit}
 use Rattle.trace_values.proofs.Streams.{capture_grows, capture_settles}
 use Rattle.trace_values.proofs.Standings as laws
@@ -13,7 +13,7 @@ use Rattle.itm_grammar.specs.declared.packet.ItmPacket.{ItmPacket}
 use Rattle.itm_grammar.specs.declared.partial.Partial.TheVariants.{Header}
 use Rattle.itm_grammar.specs.Rule.{rule}
 use Rattle.itm_codec.specs.Reading.{packets}
-use Rattle.capture_command.specs.Listing.{line, fault_line, ending_by, packets_of, IsFaulty, listed, ending}
+use Rattle.capture_command.specs.Listing.{line, ending_by, packets_of, IsFaulty, listed, ending}
 
 pub none_at_first : IsFaulty [] → ⊥
 none_at_first h = cc

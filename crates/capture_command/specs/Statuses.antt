@@ -1,5 +1,7 @@
--- The numbers of the statuses.
+-- Statuses: their numbers, and how they come from what happened to the stream.
 use Rattle.std.specs.Prelude.{ℕ}
+use Rattle.trace_stream.specs.declared.serving.Outcome.{Outcome}
+use Rattle.trace_stream.specs.declared.serving.Outcome.TheVariants.{AtEnd, Stopped, ReadFailed, WriteFailed, OverLimit}
 use Rattle.capture_command.specs.declared.status.Status.{Status}
 use Rattle.capture_command.specs.declared.status.Status.TheVariants.{Done, Usage, CaptureFault, ReadFault, WriteFault, NoMemory, Limit}
 
@@ -11,3 +13,11 @@ number_of ReadFault = 4
 number_of WriteFault = 5
 number_of NoMemory = 6
 number_of Limit = 8
+
+-- the status of a run whose stream was served so
+abbrev pub status_of : Outcome → Status
+status_of AtEnd = Done
+status_of Stopped = CaptureFault
+status_of ReadFailed = ReadFault
+status_of WriteFailed = WriteFault
+status_of OverLimit = Limit

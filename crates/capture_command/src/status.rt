@@ -1,7 +1,9 @@
 //! How a run ends.
 
 ghost use Rattle.std.specs.Prelude.{◌≡◌};
-ghost use Rattle.capture_command.specs.Statuses.{number_of};
+ghost use Rattle.capture_command.specs.Statuses.{number_of, status_of};
+
+use trace_stream::Outcome;
 
 /// How a run ended. A failed write comes before a fault, a fault before a failed read, and that before
 /// the limit.
@@ -36,6 +38,20 @@ impl Status {
             Status::WriteFault => 5,
             Status::NoMemory => 6,
             Status::Limit => 8,
+        }
+    }
+}
+
+impl From<Outcome> for Status {
+    ghost from_gives = { λ outcome status. status ≡ status_of outcome };
+
+    fn from(outcome: Outcome) -> Status {
+        match outcome {
+            Outcome::AtEnd => Status::Done,
+            Outcome::Stopped => Status::CaptureFault,
+            Outcome::ReadFailed => Status::ReadFault,
+            Outcome::WriteFailed => Status::WriteFault,
+            Outcome::OverLimit => Status::Limit,
         }
     }
 }

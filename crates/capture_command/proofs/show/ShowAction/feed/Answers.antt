@@ -1,4 +1,4 @@
-use Rattle.std.proofs.Common.{rules, ◌≡◌, ℕ, ◌+◌, List, [], ◌∷◌, ◌++◌, length, get_or, refl, sym, ◌∙◌, subst, arith, Some}
+use Rattle.std.proofs.Common.{rules, [], ◌∷◌, ◌++◌, get_or, refl, sym, ◌∙◌, subst, arith}
 use Rattle.std.proofs.lemmas.List.{length_push}
 use Rattle.trace_values.specs.Placed.{placed, byte_at}
 use Rattle.trace_values.specs.Stream.{Grows}

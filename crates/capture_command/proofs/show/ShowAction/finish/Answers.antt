@@ -1,7 +1,6 @@
-use Rattle.std.proofs.Common.{◌≡◌, List, ℕ, ◌++◌, sym, ◌∙◌, ap}
+use Rattle.std.proofs.Common.{◌≡◌, List, ℕ, ◌++◌, ◌∙◌, ap}
 use Rattle.std.proofs.Common.{true}
 use Rattle.std.specs.Prelude.{is_none}
-use Rattle.trace_values.specs.declared.fault.Fault.{Fault}
 use Rattle.itm_codec.specs.Decoder.{is_live}
 use Rattle.capture_command.specs.Listing.{end_lines}
 use Rattle.capture_command.proofs.Showing.{ended}

@@ -1,0 +1,47 @@
+-- What a run did, by its status.
+use Rattle.std.specs.Prelude.{◌≡◌, ◌⊎◌, ℕ, ◌+◌, ◌<◌, ◌≤◌, List, [], ◌++◌, length, take, Some}
+use Rattle.std.specs.declared.option.Option.{Option}
+use Rattle.std.specs.Io.KnownBytes.{Appends, Consumes, IsAtEnd, Keeps}
+use Rattle.trace_stream.specs.Laws.{GrowsOnly}
+use Rattle.trace_stream.specs.Served.{StopsWithin}
+use Rattle.capture_command.specs.declared.status.Status.{Status}
+use Rattle.capture_command.specs.declared.status.Status.TheVariants.{Done, Usage, CaptureFault, ReadFault, WriteFault, NoMemory, Limit}
+
+-- The table of statuses: what the bytes that were read are, and what was written for them. An action
+-- says by `faulty`, `text` and `ending` which bytes have a fault, what is written for bytes so far,
+-- and what stands behind it at the end or at a fault. The cases exclude each other.
+abbrev pub WritesBy : (List ℕ → Type 0) → (List ℕ → List ℕ) → (List ℕ → List ℕ) → ℕ → Status → List ℕ → List ℕ → Type 0
+WritesBy faulty text ending limit Done bytes out = (faulty bytes → ⊥) × (length bytes ≤ limit) × (out ≡ text bytes ++ ending bytes)
+WritesBy faulty text ending limit CaptureFault bytes out = StopsWithin faulty (take limit bytes) × (out ≡ text (take limit bytes) ++ ending (take limit bytes))
+WritesBy faulty text ending limit ReadFault bytes out = (faulty bytes → ⊥) × (length bytes ≤ limit) × (out ≡ text bytes)
+WritesBy faulty text ending limit Limit bytes out = (faulty (take limit bytes) → ⊥) × (limit < length bytes) × (out ≡ text (take limit bytes))
+WritesBy faulty text ending limit WriteFault bytes out = GrowsOnly out (text (take limit bytes) ++ ending (take limit bytes))
+WritesBy faulty text ending limit NoMemory bytes out = (bytes ≡ []) × (out ≡ [])
+WritesBy faulty text ending limit Usage bytes out = ⊥
+
+-- where all is done the input is at its end
+abbrev pub EndsAt : Option (List ℕ) → Status → Type 0
+EndsAt left Done = IsAtEnd left
+EndsAt left _ = Unit {0}
+
+-- The bytes are those that the input lost, at most one past the limit, and out is what the output gained.
+pub record HasRun (faulty : List ℕ → Type 0) (text ending : List ℕ → List ℕ) (limit : ℕ) (left_old left_new held_old held_new : Option (List ℕ)) (status : Status) : Type 0 where
+  pub bytes : List ℕ
+  pub out : List ℕ
+  pub lost : Consumes left_old left_new bytes
+  pub gained : Appends held_old held_new out
+  pub at_most : length bytes ≤ limit + 1
+  pub writes : WritesBy faulty text ending limit status bytes out
+  pub ended : EndsAt left_new status
+
+-- nothing was read, and nothing was written
+abbrev pub Untouched : Option (List ℕ) → Option (List ℕ) → Option (List ℕ) → Option (List ℕ) → Type 0
+Untouched left_old left_new held_old held_new = Keeps left_old left_new × Keeps held_old held_new
+
+-- the input told its bytes, and lost these
+abbrev pub Loses : Option (List ℕ) → Option (List ℕ) → List ℕ → Type 0
+Loses (Some xs) (Some ys) bytes = xs ≡ bytes ++ ys
+Loses _ _ bytes = ⊥
+
+abbrev pub IsDoneOrNoMemory : Status → Type 0
+IsDoneOrNoMemory status = (status ≡ Done) ⊎ (status ≡ NoMemory)
