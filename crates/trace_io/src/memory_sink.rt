@@ -11,12 +11,14 @@ use std::marker::Model;
 
 /// Room in memory that takes bytes in stated pieces, and fails at stated calls and once it is full.
 ///
-/// Call k, from 0, fails exactly where k is in `fail` or the room is full. Else it takes as many bytes of
-/// the piece as fit into the room, and at most `pieces[k % pieces.len()]`, where a 0 counts as 1; an empty
-/// `pieces` sets no such bound. The numbers of calls and of faults stay at 2^64 - 1 once they are there.
+/// Call k, from 0, fails exactly where k is in `fail` or the room is full. Else it takes as many
+/// bytes of the piece as fit into the room, and at most `pieces[k % pieces.len()]`, where a 0 counts
+/// as 1; an empty `pieces` sets no such bound. The numbers of calls and of faults stay at 2^64 - 1
+/// once they are there.
 #[derive(Drop)]
 pub struct MemorySink<'a> {
     room: &'a mut [u8],
+    // How many bytes of the room, from its front, are taken.
     filled: usize,
     pieces: &'a [usize],
     fail: &'a [u64],
@@ -43,7 +45,7 @@ impl<'a> Model for MemorySink<'a> {
 }
 
 impl<'a> MemorySink<'a> {
-    /// A sink that has taken nothing and has had no call. What stood in the room is written over.
+    /// A sink that has taken nothing and has had no call. The room is filled from its front.
     pub fn new(room: &'a mut [u8], pieces: &'a [usize], fail: &'a [u64]) -> MemorySink<'a>
         ensures taken { result.taken ≡ [] }
         ensures room { result.room ≡ length room.entry.now }

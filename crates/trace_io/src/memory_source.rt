@@ -10,11 +10,12 @@ use std::marker::Model;
 
 /// Bytes in memory that come in stated pieces and fail at stated calls.
 ///
-/// Call k, from 0, fails exactly where k is in `fail`. Else it gives as many bytes as are left and fit,
-/// and at most `pieces[k % pieces.len()]`, where a 0 counts as 1; an empty `pieces` sets no such bound.
-/// The numbers of calls and of faults stay at 2^64 - 1 once they are there.
+/// Call k, from 0, fails exactly where k is in `fail`. Else it gives as many bytes as are left and
+/// fit, and at most `pieces[k % pieces.len()]`, where a 0 counts as 1; an empty `pieces` sets no such
+/// bound. The numbers of calls and of faults stay at 2^64 - 1 once they are there.
 #[derive(Drop)]
 pub struct MemorySource<'a> {
+    // What is still to come.
     bytes: &'a [u8],
     pieces: &'a [usize],
     fail: &'a [u64],

@@ -9,8 +9,8 @@ use std::io::Read;
 
 /// A source over any reader of std.
 ///
-/// It counts the reader's errors, up to 2^64 - 1, and tells of the bytes what the reader tells: over a
-/// terminal, a pipe or a file that is nothing.
+/// It counts the reader's errors, up to 2^64 - 1, and tells of the bytes what the reader tells: over
+/// a terminal, a pipe or a file that is nothing.
 #[derive(Drop)]
 pub struct ReadAdapter<R> {
     inner: R,
@@ -35,8 +35,8 @@ impl<R: Read> Source for ReadAdapter<R> {
     fn read(&mut self, buf: &mut [u8]) -> Result<usize, Failed>
         requires { 0 < length buf.old }
         ensures bound { ReadsAtMost result buf.new }
-        ensures bytes { ReadConsumes (R.remaining (inner_reader self.old)) (R.remaining (inner_reader self.new))
-            result buf.new }
+        ensures bytes { ReadConsumes (R.remaining (inner_reader self.old))
+            (R.remaining (inner_reader self.new)) result buf.new }
         ensures cause { HasCause (reader_faults self.old) (reader_faults self.new) result }
 
         ensures faults { reader_faults self.new ≡ faults_after result (reader_faults self.old) }

@@ -10,9 +10,9 @@ use std::io::Write;
 
 /// A sink over any writer of std.
 ///
-/// It counts the writer's errors, up to 2^64 - 1, and a write of no bytes as one, since a caller that goes
-/// on would never end. It tells of the bytes what the writer tells: over a terminal, a pipe or a file that
-/// is nothing.
+/// It counts the writer's errors, up to 2^64 - 1, and a write of no bytes as one, since a caller that
+/// goes on might never end. It tells of the bytes what the writer tells: over a terminal, a pipe or a
+/// file that is nothing.
 #[derive(Drop)]
 pub struct WriteAdapter<W> {
     inner: W,
@@ -37,8 +37,8 @@ impl<W: Write> Sink for WriteAdapter<W> {
     fn write(&mut self, piece: &[u8]) -> Result<usize, Failed>
         requires { 0 < length piece.now }
         ensures bound { IfOk result (TakesSome piece.now) }
-        ensures bytes { WriteAppends (W.contents (inner_writer self.old)) (W.contents (inner_writer self.new))
-            result piece.now }
+        ensures bytes { WriteAppends (W.contents (inner_writer self.old))
+            (W.contents (inner_writer self.new)) result piece.now }
         ensures cause { HasCause (writer_faults self.old) (writer_faults self.new) result }
 
         ensures faults { writer_faults self.new ≡ faults_after result (writer_faults self.old) }
