@@ -1,0 +1,130 @@
+ghost use Rattle.std.specs.Prelude.{Some, ◌≡◌, ◌↔◌, ◌<◌, min, [], length, Contains, IsErr, IfOk};
+ghost use Rattle.std.specs.Io.{ReadsAtMost};
+ghost use Rattle.std.specs.Io.KnownBytes.{ReadConsumes};
+ghost use Rattle.trace_io.specs.Causes.{HasCause, raised, faults_after};
+ghost use Rattle.trace_io.specs.Memory.{piece_at};
+
+use crate::pieces::piece_len;
+use crate::source::{Failed, Source};
+use std::marker::Model;
+
+/// Bytes in memory that come in stated pieces and fail at stated calls.
+///
+/// Call k, from 0, fails exactly where k is in `fail`. Else it gives as many bytes as are left and
+/// fit, and at most `pieces[k % pieces.len()]`, where a 0 counts as 1; an empty `pieces` sets no such
+/// bound. The numbers of calls and of faults stay at 2^64 - 1 once they are there.
+#[derive(Drop)]
+pub struct MemorySource<'a> {
+    // What is still to come.
+    bytes: &'a [u8],
+    pieces: &'a [usize],
+    fail: &'a [u64],
+    calls: u64,
+    faults: u64,
+}
+
+impl<'a> Model for MemorySource<'a> {
+    ghost use Rattle.trace_io.specs.Memory.{SourceState};
+
+    ghost Value = { SourceState };
+
+    ghost view = { λ s. record {
+      left = s.bytes.now;
+      pieces = s.pieces.now;
+      fail = s.fail.now;
+      calls = s.calls;
+      faults = s.faults;
+    } };
+}
+
+impl<'a> MemorySource<'a> {
+    /// A source of these bytes that has had no call.
+    pub fn new(bytes: &'a [u8], pieces: &'a [usize], fail: &'a [u64]) -> MemorySource<'a>
+        ensures left { result.left ≡ bytes.entry.now }
+        ensures pieces { result.pieces ≡ pieces.entry.now }
+        ensures fail { result.fail ≡ fail.entry.now }
+        ensures calls { result.calls ≡ 0 }
+        ensures faults { result.faults ≡ 0 }
+    {
+        MemorySource {
+            bytes,
+            pieces,
+            fail,
+            calls: 0,
+            faults: 0,
+        }
+    }
+}
+
+impl Source for MemorySource<'_> {
+    ghost left = { λ s. Some s.left };
+
+    ghost faults = { λ s. s.faults };
+
+    fn read(&mut self, buf: &mut [u8]) -> Result<usize, Failed>
+        requires { 0 < length buf.old }
+        ensures bound { ReadsAtMost result buf.new }
+        ensures bytes { ReadConsumes (Some self.old.left) (Some self.new.left) result buf.new }
+        ensures cause { HasCause self.old.faults self.new.faults result }
+
+        // Which calls fail, and how many bytes the others give.
+        ensures fails { IsErr result ↔ Contains self.old.fail self.old.calls }
+        ensures count { IfOk result (λ n. n ≡
+            piece_at self.old.pieces self.old.calls (min (length self.old.left) (length buf.old))) }
+
+        ensures calls { self.new.calls ≡ raised self.old.calls }
+        ensures faults { self.new.faults ≡ faults_after result self.old.faults }
+        ensures pieces { self.new.pieces ≡ self.old.pieces }
+        ensures fail { self.new.fail ≡ self.old.fail }
+    {
+        let call = self.calls;
+        self.calls = call.saturating_add(1);
+        if self.fail.contains(&call) {
+            self.faults = self.faults.saturating_add(1);
+            return Err(Failed);
+        }
+        let count = piece_len(self.pieces, call, self.bytes.len().min(buf.len()));
+        let (front, rest) = self.bytes.split_at(count);
+        buf[..count].copy_from_slice(front);
+        self.bytes = rest;
+        Ok(count)
+    }
+}
+
+#[cfg(test)]
+mod tests {
+    use super::*;
+
+    #[test]
+    fn gives_its_pieces_to_the_end(rt: HostRuntime) {
+        let mut source = MemorySource::new(b"abcdef", &[1, 0, 2], &[2]);
+        let mut buf = [0; 4];
+        let table: [(Result<usize, Failed>, &str); 8] = [
+            (Ok(1), "a"),
+            (Ok(1), "b"),
+            (Err(Failed), ""),
+            (Ok(1), "c"),
+            (Ok(1), "d"),
+            (Ok(2), "ef"),
+            (Ok(0), ""),
+            (Ok(0), ""),
+        ];
+        for (want, bytes) in table {
+            let got = source.read(&mut buf);
+            assert_eq!(rt; got, want);
+            if let Ok(count) = got {
+                assert_eq!(rt; &buf[..count], bytes.as_bytes());
+            }
+        }
+    }
+
+    #[test]
+    fn fills_the_buffer_where_no_pieces_are_given(rt: HostRuntime) {
+        let mut source = MemorySource::new(b"abcdef", &[], &[]);
+        let mut buf = [0; 4];
+        for (want, bytes) in [(Ok(4), "abcd"), (Ok(2), "efcd"), (Ok(0), "efcd")] {
+            assert_eq!(rt; source.read(&mut buf), want);
+            assert_eq!(rt; buf.as_slice(), bytes.as_bytes());
+        }
+    }
+}

@@ -1,0 +1,90 @@
+ghost use Rattle.std.specs.Prelude.{◌≡◌, ◌<◌, length};
+ghost use Rattle.std.specs.Io.{ReadsAtMost};
+ghost use Rattle.std.specs.Io.KnownBytes.{ReadConsumes};
+ghost use Rattle.trace_io.specs.Adapters.{inner_reader, reader_faults};
+ghost use Rattle.trace_io.specs.Causes.{HasCause, faults_after};
+
+use crate::source::{Failed, Source};
+use std::io::Read;
+
+/// A source over any reader of std.
+///
+/// It counts the reader's errors, up to 2^64 - 1, and tells of the bytes what the reader tells: over
+/// a terminal, a pipe or a file that is nothing.
+#[derive(Drop)]
+pub struct ReadAdapter<R> {
+    inner: R,
+    faults: u64,
+}
+
+impl<R: Read> ReadAdapter<R> {
+    /// A source over this reader, with no fault so far.
+    pub fn new(inner: R) -> Self
+        ensures inner { inner_reader result ≡ inner }
+        ensures faults { reader_faults result ≡ 0 }
+    {
+        ReadAdapter { inner, faults: 0 }
+    }
+}
+
+impl<R: Read> Source for ReadAdapter<R> {
+    ghost left = { λ s. R.remaining (inner_reader s) };
+
+    ghost faults = { reader_faults };
+
+    fn read(&mut self, buf: &mut [u8]) -> Result<usize, Failed>
+        requires { 0 < length buf.old }
+        ensures bound { ReadsAtMost result buf.new }
+        ensures bytes { ReadConsumes (R.remaining (inner_reader self.old))
+            (R.remaining (inner_reader self.new)) result buf.new }
+        ensures cause { HasCause (reader_faults self.old) (reader_faults self.new) result }
+
+        ensures faults { reader_faults self.new ≡ faults_after result (reader_faults self.old) }
+    {
+        match self.inner.read(buf) {
+            Ok(count) => Ok(count),
+            Err(_) => {
+                self.faults = self.faults.saturating_add(1);
+                Err(Failed)
+            }
+        }
+    }
+}
+
+#[cfg(test)]
+mod tests {
+    use super::*;
+    use std::io;
+    use std::io::ErrorKind;
+
+    /// A reader that fails at each call.
+    #[derive(Drop)]
+    struct Broken;
+
+    impl Read for Broken {
+        fn read(&mut self, _buf: &mut [u8]) -> io::Result<usize> {
+            Err(ErrorKind::BrokenPipe.into())
+        }
+    }
+
+    #[test]
+    fn gives_the_bytes_of_its_reader(rt: HostRuntime) {
+        let bytes: &[u8] = b"abc";
+        let mut source = ReadAdapter::new(bytes);
+        let mut buf = [0; 2];
+        for (want, held) in [(Ok(2), "ab"), (Ok(1), "cb"), (Ok(0), "cb")] {
+            assert_eq!(rt; source.read(&mut buf), want);
+            assert_eq!(rt; buf.as_slice(), held.as_bytes());
+        }
+        assert_eq!(rt; source.faults, 0);
+    }
+
+    #[test]
+    fn counts_the_errors_of_its_reader(rt: HostRuntime) {
+        let mut source = ReadAdapter::new(Broken);
+        for faults in [1, 2] {
+            assert_eq!(rt; source.read(&mut [0; 2]), Err(Failed));
+            assert_eq!(rt; source.faults, faults);
+        }
+    }
+}
