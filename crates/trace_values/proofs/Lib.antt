@@ -1,2 +1,5 @@
 pub mod Lists
 pub mod Walks
+pub mod Readings
+pub mod Placing
+pub mod Standings

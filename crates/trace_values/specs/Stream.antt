@@ -4,7 +4,7 @@ use Rattle.trace_values.specs.declared.fault.Reason.{Reason}
 use Rattle.trace_values.specs.declared.step.Step.{Step}
 use Rattle.trace_values.specs.declared.step.Step.TheVariants.{Quiet, Skipping, Item, Locked, Fault as Faulty}
 use Rattle.trace_values.specs.Placed.{Place}
-use Rattle.trace_values.specs.Reading.{Reading}
+use Rattle.trace_values.specs.Reading.{Progress}
 
 -- what a source gives at a place: the notice of its lock with the units skipped, or an item
 pub data Said (V : Type 0) : Type 0 where
@@ -23,12 +23,12 @@ abbrev pub kept : {V : Type 0} → List (V × Place) → List (Said V × Place)
 kept items = map (λ x. (Kept x.0, x.1)) items
 
 -- a reading behind so many skipped units, with what was given before its items
-abbrev pub shown : {V : Type 0} → List (Said V × Place) → ℕ → Reading V → Stream V
-shown front skipped r = record { given = front ++ kept r.items; fault = r.fault; held = length r.rest; skipped = skipped; locked = true }
+abbrev pub shown : {S V : Type 0} → List (Said V × Place) → ℕ → Progress S V → Stream V
+shown front skipped p = record { given = front ++ kept p.items; fault = p.fault; held = length p.rest; skipped = skipped; locked = true }
 
 -- a reading from the list's first unit on
-abbrev pub stream_of : {V : Type 0} → Reading V → Stream V
-stream_of r = shown [] 0 r
+abbrev pub stream_of : {S V : Type 0} → Progress S V → Stream V
+stream_of p = shown [] 0 p
 
 -- what a step at this offset gives
 abbrev pub given_by : {V : Type 0} → ℕ → Step V → List (Said V × Place)
