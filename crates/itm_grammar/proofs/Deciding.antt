@@ -21,6 +21,7 @@ use Rattle.itm_grammar.specs.declared.partial.Partial.TheVariants.{Header, Zeros
 use Rattle.itm_grammar.specs.Header.{class_of}
 use Rattle.itm_grammar.specs.Spelling.{Spells, why, byte_count, size_bits, number}
 use Rattle.itm_grammar.specs.Rule.{rule, begin, zeros_with, payload_with, count_of}
+use Rattle.itm_grammar.proofs.Counting.{counts}
 use Rattle.itm_grammar.proofs.Headers.{chosen, zero_is, source_is, source_of}
 
 -- a list by the rule from a state on
@@ -206,14 +207,6 @@ more_payload port count value size t e = elim (chosen (count + 1 == byte_count s
   | inl m ↦ (let k = m.1 in cc)
   | inr m ↦ ((let k = m.0 in grind (arith, nat_tests)), (let k = m.1 in cc))
 ]
-
--- each byte of an unfinished packet counts
-pub counts : (s t : Partial) (b : ℕ) → rule s b ≡ Go t → count_of t ≡ count_of s + 1
-counts Header t b e = elim (began (class_of b) t e) [ inl m ↦ ap count_of m | inr m ↦ ap count_of m.2 ]
-counts (Zeros n) t b e = ap count_of (more_zeros n b t e)
-counts (Payload (Source port size) count value) t b e = ap count_of (more_payload port count (value + b * 256 ^ count) size t e).1
-counts (Payload Zero count value) t b e = cc
-counts (Payload Reserved count value) t b e = cc
 
 -- what a state must be so that it can be finished: payload bytes are wanting
 abbrev CanEnd : Partial → Type 0

@@ -123,7 +123,6 @@ impl Partial {
 
     /// How many bytes of the unfinished packet there are.
     pub fn len(self) -> u64
-        requires { count_of self ≤ 2 ^ 60 }
         ensures { result ≡ count_of self }
     {
         match self {

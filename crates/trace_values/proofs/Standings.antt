@@ -192,3 +192,17 @@ module _ {S V : Type 0} (rule : S → Placed → Next S V) (start : S) where
   Grows-fed front skipped p live state byte at n l e s =
       subst (λ (x : Next S V). Grows (shown front skipped p) (shown front skipped (advance rule start p (byte_at at byte))) at (step_after at x)) (sym e)
       (Grows-more front skipped p state byte at (subst (λ (x : Bool). Stands x state p) l s))
+
+  -- and for a reading from the first unit on
+  pub list_fed : (u : List Placed) (live : Bool) (state : S) (b : Placed) (live' : Bool) (state' : S) (n : Next S V) → live ≡ true →
+      n ≡ rule state b → live' ≡ live_after n → state' ≡ state_after start n state →
+      Stands live state (progress rule start u) → Stands live' state' (progress rule start (u ++ b ∷ []))
+  list_fed u live state b live' state' n l e f g s =
+      subst (λ (p : Progress S V). Stands live' state' p) (sym (progress_push u b)) (Stands-fed (progress rule start u) live state b live' state' n l e f g s)
+
+  pub step_fed : (u : List Placed) (live : Bool) (state : S) (byte at : ℕ) (n : Next S V) → live ≡ true → n ≡ rule state (byte_at at byte) →
+      Stands live state (progress rule start u) →
+      Grows (stream_of (progress rule start u)) (stream_of (progress rule start (u ++ byte_at at byte ∷ []))) at (step_after at n)
+  step_fed u live state byte at n l e s =
+      subst (λ (p : Progress S V). Grows (stream_of (progress rule start u)) (stream_of p) at (step_after at n)) (sym (progress_push u (byte_at at byte)))
+      (Grows-fed [] 0 (progress rule start u) live state byte at n l e s)

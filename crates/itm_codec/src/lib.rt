@@ -1,0 +1,7 @@
+//! Reads the ITM packets of a source's bytes (ARMv7-M Architecture Reference Manual, 'Debug ITM and
+//! DWT packet protocol').
+#![tactic(auto)]
+
+mod decoder;
+
+pub use decoder::ItmDecoder;

@@ -1,0 +1,58 @@
+-- A state counts the bytes of the unfinished packet.
+use Rattle.std.proofs.Common.{◌≡◌, ℕ, ◌+◌, ◌*◌, ◌^◌, ◌==◌, ◌&&◌, nat_le, Bool, true, false, cond, refl}
+use Rattle.trace_values.specs.declared.fault.Reason.TheVariants.{Unbuilt}
+use Rattle.trace_values.specs.declared.next.Next.{Next}
+use Rattle.trace_values.specs.declared.next.Next.TheVariants.{Go, Stop, Fail}
+use Rattle.trace_values.specs.Placed.{Placed}
+use Rattle.itm_grammar.specs.declared.packet.ItmPacket.{ItmPacket}
+use Rattle.itm_grammar.specs.declared.packet.ItmPacket.TheVariants.{Sync, Software}
+use Rattle.itm_grammar.specs.Spelling.{byte_count}
+use Rattle.itm_grammar.specs.declared.header.Class.{Class}
+use Rattle.itm_grammar.specs.declared.header.Class.TheVariants.{Zero, Source, Reserved}
+use Rattle.itm_grammar.specs.declared.partial.Partial.{Partial}
+use Rattle.itm_grammar.specs.declared.partial.Partial.TheVariants.{Header, Zeros, Payload}
+use Rattle.itm_grammar.specs.Header.{class_of}
+use Rattle.itm_grammar.specs.Rule.{rule, begin, zeros_with, payload_with, count_of}
+
+-- a step that goes on counts one more
+abbrev CountsOn : ℕ → Next Partial ItmPacket → Type 0
+CountsOn n (Go t) = count_of t ≡ n + 1
+CountsOn n (Stop v) = Unit {0}
+CountsOn n (Fail e) = Unit {0}
+
+either : (n : ℕ) (b : Bool) (x y : Next Partial ItmPacket) → CountsOn n x → CountsOn n y → CountsOn n (cond b x y)
+either n true x y p q = p
+either n false x y p q = q
+
+begun : (c : Class) → CountsOn 0 (begin c)
+begun Zero = refl
+begun (Source port size) = refl
+begun Reserved = tt
+
+paid : (c : Class) (count value : ℕ) → CountsOn (count + 1) (payload_with c count value)
+paid (Source port size) count value = either (count + 1) (count + 1 == byte_count size) (Stop (Software port size value)) (Go (Payload (Source port size) (count + 1) value)) tt refl
+paid Zero count value = tt
+paid Reserved count value = tt
+
+all_count : (s : Partial) (b : ℕ) → CountsOn (count_of s) (rule s b)
+all_count Header b = begun (class_of b)
+all_count (Zeros count) b =
+    either count (b == 0) (Go (Zeros (count + 1))) (cond (b == 128 && nat_le 5 count) (Stop Sync) (Fail Unbuilt)) refl (either count (b == 128 && nat_le 5 count) (Stop Sync) (Fail Unbuilt) tt tt)
+all_count (Payload class count value) b = paid class count (value + b * 256 ^ count)
+
+of_step : (n : ℕ) (x : Next Partial ItmPacket) (t : Partial) → x ≡ Go t → CountsOn n x → count_of t ≡ n + 1
+of_step n (Go s) t e h = let k : s ≡ t = cc in cc
+of_step n (Stop v) t e h = cc
+of_step n (Fail f) t e h = cc
+
+pub counts : (s t : Partial) (b : ℕ) → rule s b ≡ Go t → count_of t ≡ count_of s + 1
+counts s t b e = of_step (count_of s) (rule s b) t e (all_count s b)
+
+pub counts_placed : (s t : Partial) (b : Placed) → rule s b.unit ≡ Go t → count_of t ≡ count_of s + 1
+counts_placed s t b e = counts s t b.unit e
+
+-- whatever a step says, at most one byte more is held
+abbrev pub held_after : Next Partial ItmPacket → ℕ
+held_after (Go t) = count_of t
+held_after (Stop v) = 0
+held_after (Fail e) = 0
