@@ -1,14 +1,14 @@
 -- The rule decides the grammar.
-use Rattle.std.proofs.Common.{◌≡◌, ℕ, zero, suc, ◌+◌, ◌-◌, ◌*◌, ◌^◌, ◌<◌, ◌≤◌, List, [], ◌∷◌, ◌++◌, length, replicate, Bool, true, false, cond, refl, sym, ◌∙◌, ap, subst, ◌⊎◌, inl, inr, arith, append_assoc}
+use Rattle.std.proofs.Common.{◌≡◌, ℕ, zero, suc, ◌+◌, ◌-◌, ◌*◌, ◌^◌, ◌<◌, ◌≤◌, List, [], ◌∷◌, ◌++◌, length, replicate, refl, sym, ◌∙◌, ap, subst, ◌⊎◌, inl, inr, arith}
 use Rattle.std.proofs.Math.Nat.{pow-suc, mul-add, mul_assoc, mul_comm}
 use Rattle.std.proofs.lemmas.List.{length-replicate}
-use Rattle.std.specs.Prelude.{nat_lt, nat_le, ◌==◌, ◌&&◌}
+use Rattle.std.specs.Prelude.{◌==◌}
 use Rattle.std.proofs.lemmas.Bool.Decides.{nat_tests}
 use Rattle.trace_values.specs.declared.fault.Reason.{Reason}
 use Rattle.trace_values.specs.declared.fault.Reason.TheVariants.{Unbuilt}
 use Rattle.trace_values.specs.declared.next.Next.{Next}
 use Rattle.trace_values.specs.declared.next.Next.TheVariants.{Go, Stop, Fail}
-use Rattle.trace_values.specs.Walk.{Walked, Within, Whole, Beyond, Broken, after, walk, Decides}
+use Rattle.trace_values.specs.Walk.{Walked, Within, Whole, Beyond, after, walk, Decides}
 use Rattle.trace_values.proofs.Walks as walks
 use Rattle.itm_grammar.specs.declared.packet.Size.{Size}
 use Rattle.itm_grammar.specs.declared.packet.Size.TheVariants.{One, Two, Four}
@@ -186,8 +186,8 @@ complete (Software port size value) r s =
     let c : class_of h ≡ Source port size = source_of port size s.1 in
     let n : 0 + 1 * number p ≡ value = (let e = s.4 in omega arith) in
     rw s.2 (says (begin (class_of h)) (begin (Source port size)) p (ap begin c)
-        ∙ payload_whole port size 0 0 p (some_count size) (let l = s.3 in omega arith)
-        ∙ ap (λ (n : ℕ). Whole (Software port size n)) n)
+    ∙ payload_whole port size 0 0 p (some_count size) (let l = s.3 in omega arith)
+    ∙ ap (λ (n : ℕ). Whole (Software port size n)) n)
 
 -- what the rule says where an unfinished packet goes on
 began : (c : Class) (t : Partial) → begin c ≡ Go t → ((t ≡ Zeros 1) ⊎ ((port : ℕ) × (size : Size) × (t ≡ Payload (Source port size) 0 0)))

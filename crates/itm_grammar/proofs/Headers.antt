@@ -1,11 +1,10 @@
 -- Which headers the table gives which class.
 use Rattle.std.proofs.Common.{◌≡◌, ℕ, zero, suc, ◌+◌, ◌*◌, ◌/◌, ◌%◌, ◌<◌, Bool, true, false, cond, refl, sym, ◌∙◌, ap, ◌⊎◌, inl, inr, arith}
-use Rattle.std.specs.Prelude.{nat_lt, nat_le, ◌==◌, ◌&&◌}
+use Rattle.std.specs.Prelude.{nat_lt, ◌==◌, ◌&&◌}
 use Rattle.std.proofs.lemmas.Bool.Decides.{nat_tests}
 use Rattle.itm_grammar.specs.declared.packet.Size.{Size}
 use Rattle.itm_grammar.specs.declared.packet.Size.TheVariants.{One, Two, Four}
-use Rattle.itm_grammar.specs.declared.header.Class.{Class}
-use Rattle.itm_grammar.specs.declared.header.Class.TheVariants.{Zero, Source, Reserved}
+use Rattle.itm_grammar.specs.declared.header.Class.TheVariants.{Zero, Source}
 use Rattle.itm_grammar.specs.Header.{class_of, size_of}
 use Rattle.itm_grammar.specs.Spelling.{size_bits}
 

@@ -144,7 +144,12 @@ mod tests {
 
     /// Reads the bytes, which must end these packets at these offsets, and then leave so many bytes that
     /// end none, or break at the offset of the error.
-    fn check(rt: &impl Abort, bytes: &[u8], packets: &[(usize, ItmPacket)], end: Result<u64, usize>) {
+    fn check(
+        rt: &impl Abort,
+        bytes: &[u8],
+        packets: &[(usize, ItmPacket)],
+        end: Result<u64, usize>,
+    ) {
         assert!(rt; bytes.len() < 100);
         let mut partial = Partial::Header;
         let mut found = 0;
@@ -179,7 +184,10 @@ mod tests {
         check(
             &rt,
             b"\xfa\x34\x12\x13\xff\xff\xff\xff",
-            &[(2, software(31, Size::Two, 0x1234)), (7, software(2, Size::Four, 0xffff_ffff))],
+            &[
+                (2, software(31, Size::Two, 0x1234)),
+                (7, software(2, Size::Four, 0xffff_ffff)),
+            ],
             Ok(0),
         );
         check(
@@ -188,9 +196,19 @@ mod tests {
             &[(4, software(0, Size::Four, 0)), (10, ItmPacket::Sync)],
             Ok(0),
         );
-        check(&rt, b"\x03\x78\x56\x34\x12", &[(4, software(0, Size::Four, 0x1234_5678))], Ok(0));
+        check(
+            &rt,
+            b"\x03\x78\x56\x34\x12",
+            &[(4, software(0, Size::Four, 0x1234_5678))],
+            Ok(0),
+        );
         check(&rt, b"\x03\x01\x02", &[], Ok(3));
-        check(&rt, b"\x09\x55\0\0\0\0\0\0\0", &[(1, software(1, Size::One, 0x55))], Ok(7));
+        check(
+            &rt,
+            b"\x09\x55\0\0\0\0\0\0\0",
+            &[(1, software(1, Size::One, 0x55))],
+            Ok(7),
+        );
     }
 
     #[test]
@@ -199,6 +217,11 @@ mod tests {
         check(&rt, b"\0\0\x80", &[], Err(2));
         check(&rt, b"\0\0\0\0\x80", &[], Err(4));
         check(&rt, b"\0\0\0\0\0\x81", &[], Err(5));
-        check(&rt, b"\x01\x70\x05\x01\x70", &[(1, software(0, Size::One, 0x70))], Err(2));
+        check(
+            &rt,
+            b"\x01\x70\x05\x01\x70",
+            &[(1, software(0, Size::One, 0x70))],
+            Err(2),
+        );
     }
 }
