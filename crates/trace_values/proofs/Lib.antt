@@ -3,3 +3,4 @@ pub mod Walks
 pub mod Readings
 pub mod Placing
 pub mod Standings
+pub mod Streams

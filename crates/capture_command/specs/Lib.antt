@@ -1,0 +1,5 @@
+pub mod ItemText
+pub mod Listing
+pub mod ListingLaws
+pub mod Statuses
+pub mod Words

@@ -1,0 +1,13 @@
+-- The numbers of the statuses.
+use Rattle.std.specs.Prelude.{ℕ}
+use Rattle.capture_command.specs.declared.status.Status.{Status}
+use Rattle.capture_command.specs.declared.status.Status.TheVariants.{Done, Usage, CaptureFault, ReadFault, WriteFault, NoMemory, Limit}
+
+abbrev pub number_of : Status → ℕ
+number_of Done = 0
+number_of Usage = 2
+number_of CaptureFault = 3
+number_of ReadFault = 4
+number_of WriteFault = 5
+number_of NoMemory = 6
+number_of Limit = 8

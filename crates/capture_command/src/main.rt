@@ -1,0 +1,8 @@
+//! Shows software trace.
+#![tactic(auto)]
+
+mod status;
+mod text;
+mod words;
+
+fn main() {}

@@ -1,0 +1,4 @@
+pub mod Prefixes
+pub mod Pieces
+pub mod Inputs
+pub mod Parts

@@ -1,0 +1,81 @@
+use Rattle.std.proofs.Common.{◌≡◌, ℕ, List, [], ◌++◌, ap, ◌∙◌, sym, subst, refl, append_assoc, append-nil, take, drop, take-append-drop}
+use Rattle.std.specs.declared.option.Option.{Option}
+use Rattle.trace_io.specs.Bytes.{AppendsPrefix, TakesFront}
+use Rattle.trace_stream.proofs.Prefixes.{prefix_join, front_join}
+use Rattle.trace_stream.specs.Fed.{StandsAfter, StopsAfter, HasFed}
+use Rattle.trace_stream.specs.Taken.{HasTaken}
+use Rattle.trace_stream.specs.declared.action.Flow.{Flow}
+use Rattle.trace_stream.specs.declared.action.Flow.TheVariants.{On, Stopped}
+use Rattle.trace_stream.specs.declared.feeding.Fed.TheVariants.{All, FaultFound, WriteFailed}
+
+-- a front of the piece was fed, without a fault, and this is the rest
+pub record IsFeeding (stands faulty : List ℕ → Type 0) (text : List ℕ → List ℕ) (start held : Option (List ℕ)) (pending seen piece rest : List ℕ) : Type 0 where
+  pub fed : List ℕ
+  pub parts : piece ≡ fed ++ rest
+  pub after : StandsAfter stands faulty text start held pending (seen ++ fed)
+
+pub feeding_none : (stands faulty : List ℕ → Type 0) (text : List ℕ → List ℕ) (start held : Option (List ℕ)) (pending seen piece : List ℕ)
+    → StandsAfter stands faulty text start held pending seen → IsFeeding stands faulty text start held pending seen piece piece
+feeding_none stands faulty text start held pending seen piece after = record {
+  fed = [];
+  parts = refl;
+  after = subst (StandsAfter stands faulty text start held pending) (sym (append-nil seen)) after;
+}
+
+pub feeding_all : (stands faulty : List ℕ → Type 0) (text : List ℕ → List ℕ) (start held : Option (List ℕ)) (pending seen piece rest : List ℕ)
+    → IsFeeding stands faulty text start held pending seen piece rest → rest ≡ [] → HasFed stands faulty text start held pending seen piece All
+feeding_all stands faulty text start held pending seen piece rest so_far none = record { fed = so_far.fed; rest = rest; parts = so_far.parts; outcome = (so_far.after, none) }
+
+-- the room was not made
+pub feeding_write_failed : (was now faulty : List ℕ → Type 0) (text : List ℕ → List ℕ) (start held held' : Option (List ℕ)) (pending pending' seen piece rest : List ℕ)
+    → IsFeeding was faulty text start held pending seen piece rest → AppendsPrefix held held' pending → HasFed now faulty text start held' pending' seen piece WriteFailed
+feeding_write_failed was now faulty text start held held' pending pending' seen piece rest so_far put = record {
+  fed = so_far.fed;
+  rest = rest;
+  parts = so_far.parts;
+  outcome = prefix_join start held held' (text (seen ++ so_far.fed)) pending so_far.after.written put;
+}
+
+-- the front that the action takes comes to what was fed
+parts_more : (piece fed rest : List ℕ) (n : ℕ) → piece ≡ fed ++ rest → piece ≡ (fed ++ take n rest) ++ drop n rest
+parts_more piece fed rest n e = e ∙ ap (λ l. fed ++ l) (sym (take-append-drop n rest)) ∙ sym (append_assoc fed (take n rest) (drop n rest))
+
+-- the new text stands behind what is pending
+pub written_more : (start held held' : Option (List ℕ)) (text text' more pending mid pending' : List ℕ) → TakesFront start held text pending → TakesFront held held' pending mid
+    → text' ≡ text ++ more → pending' ≡ mid ++ more → TakesFront start held' text' pending'
+written_more start held held' text text' more pending mid pending' p q grown gained =
+    let joined = front_join start held held' text pending mid p q in
+    record { front = joined.front; took = joined.took; all = grown ∙ ap (λ l. l ++ more) joined.all ∙ append_assoc joined.front mid more ∙ ap (λ l. joined.front ++ l) (sym gained) }
+
+pub feeding_more : (was now faulty : List ℕ → Type 0) (text : List ℕ → List ℕ) (start held held' : Option (List ℕ)) (pending mid pending' seen piece rest : List ℕ) (n : ℕ)
+    (so_far : IsFeeding was faulty text start held pending seen piece rest) → TakesFront held held' pending mid
+    → HasTaken now faulty text (seen ++ so_far.fed) (take n rest) mid pending' On
+    → IsFeeding now faulty text start held' pending' seen piece (drop n rest)
+feeding_more was now faulty text start held held' pending mid pending' seen piece rest n so_far room taken =
+    let same : (seen ++ so_far.fed) ++ take n rest ≡ seen ++ (so_far.fed ++ take n rest) = append_assoc seen so_far.fed (take n rest) in
+    record {
+      fed = so_far.fed ++ take n rest;
+      parts = parts_more piece so_far.fed rest n so_far.parts;
+      after = subst (StandsAfter now faulty text start held' pending') same
+          (record { read = taken.read; sound = taken.goes_on; written = written_more start held held' (text (seen ++ so_far.fed)) (text ((seen ++ so_far.fed) ++ take n rest)) taken.more pending mid pending' so_far.after.written room taken.grown taken.gained });
+    }
+
+pub feeding_stopped : (was now faulty : List ℕ → Type 0) (text : List ℕ → List ℕ) (start held held' : Option (List ℕ)) (pending mid pending' seen piece rest : List ℕ) (n : ℕ)
+    (so_far : IsFeeding was faulty text start held pending seen piece rest) → TakesFront held held' pending mid
+    → HasTaken now faulty text (seen ++ so_far.fed) (take n rest) mid pending' Stopped
+    → HasFed now faulty text start held' pending' seen piece FaultFound
+feeding_stopped was now faulty text start held held' pending mid pending' seen piece rest n so_far room taken =
+    let same : (seen ++ so_far.fed) ++ take n rest ≡ seen ++ (so_far.fed ++ take n rest) = append_assoc seen so_far.fed (take n rest) in
+    record {
+      fed = so_far.fed ++ take n rest;
+      rest = drop n rest;
+      parts = parts_more piece so_far.fed rest n so_far.parts;
+      outcome = subst (StopsAfter now faulty text start held' pending') same
+          (record { read = taken.read; certain = taken.goes_on; written = written_more start held held' (text (seen ++ so_far.fed)) (text ((seen ++ so_far.fed) ++ take n rest)) taken.more pending mid pending' so_far.after.written room taken.grown taken.gained });
+    }
+
+-- what an action took, at a plan and a flow that are known
+pub taken_at : {Plan : Type 0} (now : List ℕ → Type 0) (faulty : Plan → List ℕ → Type 0) (text : Plan → List ℕ → List ℕ) (plan p : Plan) (seen front outlet_old outlet_new : List ℕ) (flow known : Flow)
+    → plan ≡ p → flow ≡ known → HasTaken now (faulty plan) (text plan) seen front outlet_old outlet_new flow → HasTaken now (faulty p) (text p) seen front outlet_old outlet_new known
+taken_at now faulty text plan p seen front outlet_old outlet_new flow known e f taken =
+    subst (λ q. HasTaken now (faulty q) (text q) seen front outlet_old outlet_new known) e (subst (λ k. HasTaken now (faulty plan) (text plan) seen front outlet_old outlet_new k) f taken)

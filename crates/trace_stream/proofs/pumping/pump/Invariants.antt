@@ -1,0 +1,18 @@
+use Rattle.std.proofs.Common.{◌≡◌, ◌+◌, ◌-◌, ◌≤◌, []}
+use Rattle.trace_stream.proofs.Inputs.{IsPumping}
+use Rattle.trace_stream.proofs.pumping.pump.Given as goal
+
+abbrev pub invariant-loop-got : goal.invariant-loop-got
+invariant-loop-got g l = record {
+  same : g.A.Action.plan l.action ≡ g.A.Action.plan l.initial.action;
+  live : g.A.Action.live l.action;
+  empty : l.outlet ≡ [];
+  pumping : IsPumping (g.A.Action.stands l.action) (g.A.Action.faulty (g.A.Action.plan l.initial.action)) (g.A.Action.text (g.A.Action.plan l.initial.action))
+      (g.I.Source.left l.initial.input) (g.I.Source.left l.input) (g.O.Sink.held l.initial.output) (g.O.Sink.held l.output) l.outlet l.count;
+  within : l.count ≤ l.limit;
+  read_later : g.I.Source.faults l.initial.input ≤ g.I.Source.faults l.input;
+  write_later : g.O.Sink.faults l.initial.output ≤ g.O.Sink.faults l.output;
+}
+
+abbrev pub decreases-loop-got : goal.decreases-loop-got
+decreases-loop-got g l = l.limit + 1 - l.count

@@ -1,0 +1,5 @@
+pub mod Fed
+pub mod Laws
+pub mod Pumped
+pub mod Served
+pub mod Taken

@@ -1,0 +1,79 @@
+ghost use Rattle.std.specs.Prelude.{◌≡◌, ℕ, ◌+◌, ◌<◌, ◌≤◌, List, [], ◌++◌, length, take};
+ghost use Rattle.trace_io.specs.Bytes.{TakesSome};
+ghost use Rattle.trace_stream.specs.Laws.{GrowsOnly};
+ghost use Rattle.trace_stream.specs.Taken.{HasTaken};
+
+use crate::outlet::{OUTLET_ROOM, Outlet};
+
+/// Bytes of room in the outlet before each call of an action.
+pub const ACTION_ROOM: usize = 2048;
+
+/// Whether an action goes on after the bytes that it took.
+#[derive(Clone, Copy, Debug, PartialEq, Eq)]
+pub enum Flow {
+    /// No fault so far.
+    On,
+    /// The reading has a fault, certain with the last byte that was taken.
+    Stopped,
+}
+
+/// What an action took of a piece.
+#[derive(Clone, Copy, Debug, PartialEq, Eq)]
+pub struct Taken {
+    /// How many of the piece's first bytes it took, at least one.
+    pub bytes: usize,
+    /// Whether it goes on after them.
+    pub flow: Flow,
+}
+
+/// What is done to the bytes of a capture as they come: each byte may add to the text that is written,
+/// and the first fault ends the reading.
+///
+/// `plan` is what stays the same during a run, and says by `faulty`, `text` and `ending` what the bytes
+/// mean; `stands` ties the action's state to the bytes that it took.
+pub trait Action {
+    type Plan;
+
+    // what stays the same during a run
+    ghost plan: { Self → Self.Plan };
+    // it may be fed
+    ghost live: { Self → Type 0 };
+    // it took these bytes
+    ghost stands: { Self → List ℕ → Type 0 };
+    // the reading of these bytes has a fault
+    ghost faulty: { Self.Plan → List ℕ → Type 0 };
+    // what is written for these bytes so far
+    ghost text: { Self.Plan → List ℕ → List ℕ };
+    // what is written behind it at the end or at a fault
+    ghost ending: { Self.Plan → List ℕ → List ℕ };
+
+    /// Takes a front of the piece and puts its text into the outlet. It stops exactly where a fault is
+    /// certain, at the byte that made it certain.
+    fn feed(&mut self, piece: &[u8], outlet: &mut Outlet) -> Taken
+        requires live { live self.old }
+        requires some { 0 < length piece.now }
+        requires room { length outlet.old + ACTION_ROOM ≤ OUTLET_ROOM }
+        ensures same { plan self.new ≡ plan self.old }
+        ensures front { TakesSome piece.now result.bytes }
+        ensures fed { (seen : List ℕ) → stands self.old seen →
+            HasTaken (stands self.new) (faulty (plan self.old)) (text (plan self.old)) seen (take result.bytes piece.now) outlet.old outlet.new result.flow }
+        ensures live { result.flow ≡ Flow.On → live self.new };
+
+    /// Puts what is written behind the text into the outlet.
+    fn finish(&self, outlet: &mut Outlet)
+        requires room { length outlet.old + ACTION_ROOM ≤ OUTLET_ROOM }
+        ensures ended { (seen : List ℕ) → stands self.now seen → outlet.new ≡ outlet.old ++ ending (plan self.now) seen };
+
+    // no bytes have no fault
+    ghost never_at_first: { (p : Self.Plan) → faulty p [] → ⊥ };
+    // and no text
+    ghost nothing_at_first: { (p : Self.Plan) → text p [] ≡ [] };
+    // bytes behind a fault don't mend it
+    ghost faulty_stays: { (p : Self.Plan) (xs ys : List ℕ) → faulty p xs → faulty p (xs ++ ys) };
+    // and add neither to the text
+    ghost text_stays: { (p : Self.Plan) (xs ys : List ℕ) → faulty p xs → text p (xs ++ ys) ≡ text p xs };
+    // nor to what stands behind it
+    ghost ending_stays: { (p : Self.Plan) (xs ys : List ℕ) → faulty p xs → ending p (xs ++ ys) ≡ ending p xs };
+    // further bytes take nothing of the text back
+    ghost text_grows: { (p : Self.Plan) (xs ys : List ℕ) → GrowsOnly (text p xs) (text p (xs ++ ys)) };
+}

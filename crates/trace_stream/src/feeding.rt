@@ -1,0 +1,61 @@
+ghost use Rattle.std.specs.Prelude.{◌≡◌, ℕ, ◌+◌, ◌≤◌, List, [], ◌++◌, length, OnOk, OnErr};
+ghost use Rattle.std.specs.declared.option.Option.{Option};
+ghost use Rattle.trace_io.specs.Bytes.{AppendsPrefix, TakesFront};
+ghost use Rattle.trace_io.specs.Causes.{HasCause, Rose};
+ghost use Rattle.trace_stream.specs.Fed.{StandsAfter, HasFed};
+
+use crate::action::{ACTION_ROOM, Action, Flow};
+use crate::outlet::{OUTLET_ROOM, Outlet};
+use trace_io::{Failed, Sink};
+
+/// How the feeding of a piece ended.
+#[derive(Clone, Copy, Debug, PartialEq, Eq)]
+pub enum Fed {
+    All,
+    FaultFound,
+    WriteFailed,
+}
+
+/// Writes what is pending where the outlet has less room than an action may need.
+#[inline]
+pub fn make_room<O: Sink>(outlet: &mut Outlet, output: &mut O) -> Result<(), Failed>
+    ensures ok { OnOk result (TakesFront (O.held output.old) (O.held output.new) outlet.old outlet.new) }
+    ensures room { OnOk result (length outlet.new + ACTION_ROOM ≤ OUTLET_ROOM) }
+    ensures err { OnErr result (AppendsPrefix (O.held output.old) (O.held output.new) outlet.old) }
+    ensures cause { HasCause (O.faults output.old) (O.faults output.new) result }
+{
+    if OUTLET_ROOM - outlet.len() < ACTION_ROOM {
+        outlet.flush(output)?;
+    }
+    Ok(())
+}
+
+/// Feeds a piece to the action, up to a fault. The outlet is written only where its room runs short.
+pub fn feed_piece<A: Action, O: Sink>(
+    action: &mut A,
+    outlet: &mut Outlet,
+    output: &mut O,
+    piece: &[u8],
+) -> Fed
+    requires { A.live action.old }
+    ensures same { A.plan action.new ≡ A.plan action.old }
+    ensures live { result ≡ Fed.All → A.live action.new }
+    ensures fed { (start : Option (List ℕ)) (seen : List ℕ) (p : A.Plan) → A.plan action.old ≡ p →
+        StandsAfter (A.stands action.old) (A.faulty p) (A.text p) start (O.held output.old) outlet.old seen →
+        HasFed (A.stands action.new) (A.faulty p) (A.text p) start (O.held output.new) outlet.new seen piece.now result }
+    ensures later { O.faults output.old ≤ O.faults output.new }
+    ensures cause { result ≡ Fed.WriteFailed → Rose (O.faults output.old) (O.faults output.new) }
+{
+    let mut rest = piece;
+    while !rest.is_empty() {
+        if make_room(outlet, output).is_err() {
+            return Fed::WriteFailed;
+        }
+        let taken = action.feed(rest, outlet);
+        match taken.flow {
+            Flow::On => rest = &rest[taken.bytes..],
+            Flow::Stopped => return Fed::FaultFound,
+        }
+    }
+    Fed::All
+}

@@ -1,0 +1,83 @@
+ghost use Rattle.std.specs.Prelude.{◌≡◌, ℕ, ◌+◌, ◌<◌, ◌≤◌, ◌^◌, List, [], length};
+ghost use Rattle.std.specs.Io.{ReadsAtMost};
+ghost use Rattle.std.specs.Io.KnownBytes.{ReadConsumes};
+ghost use Rattle.trace_io.specs.Causes.{HasCause, Rose};
+ghost use Rattle.trace_stream.specs.Pumped.{HasPumped};
+
+use crate::action::Action;
+use crate::feeding::{Fed, feed_piece};
+use crate::outlet::Outlet;
+use trace_io::{Failed, Sink, Source};
+
+/// How the reading of a whole input ended.
+#[derive(Clone, Copy, Debug, PartialEq, Eq)]
+pub enum Ending {
+    AtEnd,
+    FaultFound,
+    ReadFailed,
+    WriteFailed,
+    OverLimit,
+}
+
+/// Reads the next bytes. This may wait for them, so nothing may be pending: the text of all bytes so
+/// far is out by then.
+fn read_next<I: Source>(input: &mut I, buffer: &mut [u8], _outlet: &Outlet) -> Result<usize, Failed>
+    requires some { 0 < length buffer.old }
+    requires pending { _outlet.now ≡ [] }
+    ensures bound { ReadsAtMost result buffer.new }
+    ensures bytes { ReadConsumes (I.left input.old) (I.left input.new) result buffer.new }
+    ensures cause { HasCause (I.faults input.old) (I.faults input.new) result }
+{
+    input.read(buffer)
+}
+
+/// Reads the input to its end, a fault or the limit, and writes the text of what was read. Where a fault
+/// was found its text may still be pending.
+pub fn pump<A: Action, I: Source, O: Sink>(
+    action: &mut A,
+    buffer: &mut [u8],
+    outlet: &mut Outlet,
+    limit: u64,
+    input: &mut I,
+    output: &mut O,
+) -> Ending
+    requires live { A.live action.old }
+    requires fresh { A.stands action.old [] }
+    requires pending { outlet.old ≡ [] }
+    requires some { 0 < length buffer.old }
+    requires small { limit < 2 ^ 40 }
+    ensures same { A.plan action.new ≡ A.plan action.old }
+    ensures pumped { HasPumped (A.stands action.new) (A.faulty (A.plan action.old)) (A.text (A.plan action.old)) limit
+        (I.left input.old) (I.left input.new) (O.held output.old) (O.held output.new) outlet.new result }
+    ensures read_later { I.faults input.old ≤ I.faults input.new }
+    ensures write_later { O.faults output.old ≤ O.faults output.new }
+    ensures read_cause { result ≡ Ending.ReadFailed → Rose (I.faults input.old) (I.faults input.new) }
+    ensures write_cause { result ≡ Ending.WriteFailed → Rose (O.faults output.old) (O.faults output.new) }
+{
+    let mut count = 0;
+    loop {
+        let room = limit - count;
+        // One byte more than the limit shows whether the input goes on.
+        let want = buffer.len().min(room as usize + 1);
+        let got = match read_next(input, &mut buffer[..want], outlet) {
+            Ok(got) => got,
+            Err(_) => return Ending::ReadFailed,
+        };
+        if got == 0 {
+            return Ending::AtEnd;
+        }
+        let taken = got.min(room as usize);
+        match feed_piece(action, outlet, output, &buffer[..taken]) {
+            Fed::All => {}
+            Fed::FaultFound => return Ending::FaultFound,
+            Fed::WriteFailed => return Ending::WriteFailed,
+        }
+        if outlet.flush(output).is_err() {
+            return Ending::WriteFailed;
+        }
+        if taken < got {
+            return Ending::OverLimit;
+        }
+        count += got as u64;
+    }
+}
