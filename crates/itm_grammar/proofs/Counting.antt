@@ -12,7 +12,7 @@ use Rattle.itm_grammar.specs.declared.header.Class.TheVariants.{Zero, Source, Re
 use Rattle.itm_grammar.specs.declared.partial.Partial.{Partial}
 use Rattle.itm_grammar.specs.declared.partial.Partial.TheVariants.{Header, Zeros, Payload}
 use Rattle.itm_grammar.specs.Header.{class_of}
-use Rattle.itm_grammar.specs.Rule.{rule, begin, zeros_with, payload_with, count_of}
+use Rattle.itm_grammar.specs.Rule.{rule, begin, payload_with, count_of}
 
 -- a step that goes on counts one more
 abbrev CountsOn : ℕ → Next Partial ItmPacket → Type 0

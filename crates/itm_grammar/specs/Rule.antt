@@ -1,5 +1,5 @@
 -- One more byte of an unfinished packet: the grammar's rule, which keeps a state.
-use Rattle.std.specs.Prelude.{◌≡◌, ℕ, ◌+◌, ◌*◌, ◌^◌, ◌<◌, Bool, true, false, ◌==◌, ◌&&◌, nat_lt, nat_le, if◌then◌else◌}
+use Rattle.std.specs.Prelude.{◌≡◌, ℕ, ◌+◌, ◌*◌, ◌^◌, Bool, true, false, ◌==◌, ◌&&◌, nat_lt, nat_le, if◌then◌else◌}
 use Rattle.trace_values.specs.declared.fault.Reason.TheVariants.{Unbuilt}
 use Rattle.trace_values.specs.declared.next.Next.{Next}
 use Rattle.trace_values.specs.declared.next.Next.TheVariants.{Go, Stop, Fail}

@@ -42,3 +42,35 @@ pub fn classify(header: u8) -> Class
         Class::Reserved
     }
 }
+
+#[cfg(test)]
+mod tests {
+    use super::*;
+
+    /// By bits 7 to 3 and bits 2 to 0.
+    fn expected(header: u8) -> Class {
+        match (header >> 3, header & 7) {
+            (0, 0) => Class::Zero,
+            (port, 1) => Class::Source {
+                port,
+                size: Size::One,
+            },
+            (port, 2) => Class::Source {
+                port,
+                size: Size::Two,
+            },
+            (port, 3) => Class::Source {
+                port,
+                size: Size::Four,
+            },
+            _ => Class::Reserved,
+        }
+    }
+
+    #[test]
+    fn classifies_each_header(rt: HostRuntime) {
+        for header in 0..=255u8 {
+            assert_eq!(rt; classify(header), expected(header), "header {header}");
+        }
+    }
+}

@@ -6,3 +6,4 @@ pub mod header;
 pub mod laws;
 pub mod packet;
 pub mod partial;
+pub mod rows;
