@@ -3,11 +3,10 @@
 ghost use Rattle.std.specs.Prelude.{◌≡◌, ◌*◌, ◌≤◌, is_none};
 ghost use Rattle.itm_codec.specs.Decoder.{held_of, is_live};
 
+use crate::text::{put_end, put_fault, put_step};
 use itm_codec::ItmDecoder;
 use trace_stream::{Action, Flow, Outlet, Taken};
 use trace_values::{Fault, Machine, Step};
-
-use crate::text::{put_end, put_fault, put_step};
 
 /// The reading of a bare stream and what its listing needs of it.
 #[derive(Drop)]

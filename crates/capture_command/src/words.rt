@@ -11,7 +11,15 @@ pub fn asks_to_show(words: &[String]) -> bool
     let [action, frames, mode, packets, first, itm, id] = words else {
         return false;
     };
-    match (action.as_str(), frames.as_str(), mode.as_str(), packets.as_str(), first.as_str(), itm.as_str(), id.as_str()) {
+    match (
+        action.as_str(),
+        frames.as_str(),
+        mode.as_str(),
+        packets.as_str(),
+        first.as_str(),
+        itm.as_str(),
+        id.as_str(),
+    ) {
         ("show", "--frames", "bare", "--packets", "aligned", "--itm", "1") => true,
         _ => false,
     }

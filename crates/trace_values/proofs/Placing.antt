@@ -66,6 +66,9 @@ module _ {S V : Type 0} (rule : S → ℕ → Next S V) where
   } where
     goes_on : (s : S) (r : List Placed) → walk (by_unit rule) start r ≡ Within s → IsFront (InUnits Spells) r
     goes_on s r e =
-        let f = d.goes_on s (units_of r) (sym (walk_units start r) ∙ e) in
-        (f.0, unplaced f.1, subst (λ (l : List ℕ). Spells f.0 l)
-            (ap (λ (l : List ℕ). units_of r ++ l) (sym (units_of-unplaced f.1)) ∙ sym (map-append (λ (p : Placed). p.unit) r (unplaced f.1))) f.2)
+        let f = d.goes_on s (units_of r) (sym (walk_units start r) ∙ e) in (
+          f.0,
+          unplaced f.1,
+          subst (λ (l : List ℕ). Spells f.0 l)
+              (ap (λ (l : List ℕ). units_of r ++ l) (sym (units_of-unplaced f.1)) ∙ sym (map-append (λ (p : Placed). p.unit) r (unplaced f.1))) f.2,
+        )

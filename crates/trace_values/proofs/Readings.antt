@@ -34,10 +34,10 @@ module _ {S V : Type 0} (Spells : V → List Placed → Type 0) (why : List Plac
   front_alone s r f v a w t e =
       let more = d.goes_on s r f in
       no_spelling a w t (ap (λ l. l ++ more.1) e ∙ append_assoc a w more.1) e where
-    no_spelling : (a w : List Placed) → Spells v a → r ++ (d.goes_on s r f).1 ≡ a ++ (w ++ (d.goes_on s r f).1) → r ≡ a ++ w → ⊥
-    no_spelling a [] t k e = not_whole v s r (d.complete v r (subst (λ (l : List Placed). Spells v l) (sym (e ∙ append-nil a)) t)) f
-    no_spelling a (h ∷ w) t k e =
-        none_beyond Spells why rule start d v (d.goes_on s r f).0 a h (w ++ (d.goes_on s r f).1) t (subst (λ (l : List Placed). Spells (d.goes_on s r f).0 l) k (d.goes_on s r f).2)
+        no_spelling : (a w : List Placed) → Spells v a → r ++ (d.goes_on s r f).1 ≡ a ++ (w ++ (d.goes_on s r f).1) → r ≡ a ++ w → ⊥
+        no_spelling a [] t k e = not_whole v s r (d.complete v r (subst (λ (l : List Placed). Spells v l) (sym (e ∙ append-nil a)) t)) f
+        no_spelling a (h ∷ w) t k e =
+            none_beyond Spells why rule start d v (d.goes_on s r f).0 a h (w ++ (d.goes_on s r f).1) t (subst (λ (l : List Placed). Spells (d.goes_on s r f).0 l) k (d.goes_on s r f).2)
 
   -- what is kept of the list so far: a front and its state, or a front and the fault behind it
   record IsFaultAt (rest : List Placed) (f : Place × Reason) : Type 0 where

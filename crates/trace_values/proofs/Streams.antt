@@ -12,10 +12,11 @@ module _ {V : Type 0} (reading : List Placed → Stream V) where
   given_grows rises u at [] = ([], ap (λ (l : List Placed). (reading l).given) (append-nil u) ∙ sym (append-nil (reading u).given))
   given_grows rises u at (b ∷ bytes) =
       let one = rises u at b in
-      let rest = given_grows rises (u ++ byte_at at b ∷ []) (at + 1) bytes in
-      (one.more ++ rest.0,
+      let rest = given_grows rises (u ++ byte_at at b ∷ []) (at + 1) bytes in (
+        one.more ++ rest.0,
         ap (λ (l : List Placed). (reading l).given) (sym (append_assoc u (byte_at at b ∷ []) (placed_from (at + 1) bytes)))
-        ∙ rest.1 ∙ ap (λ (l : List (Said V × Place)). l ++ rest.0) one.given ∙ append_assoc (reading u).given one.more rest.0)
+            ∙ rest.1 ∙ ap (λ (l : List (Said V × Place)). l ++ rest.0) one.given ∙ append_assoc (reading u).given one.more rest.0,
+      )
 
   pub capture_grows : ((u : List Placed) (at byte : ℕ) → Rises (reading u) (reading (u ++ byte_at at byte ∷ [])) at) →
       (xs ys : List ℕ) → (more : List (Said V × Place)) × ((reading (placed (xs ++ ys))).given ≡ (reading (placed xs)).given ++ more)
