@@ -31,7 +31,10 @@ impl ItmDecoder {
 }
 
 impl Machine for ItmDecoder {
-    ghost use Rattle.std.specs.Prelude.{refl};
+    ghost use Rattle.std.specs.Prelude.{refl, ◌+◌, ◌^◌, ◌≤◌, ◌∷◌, ◌++◌, [], List};
+    ghost use Rattle.trace_values.specs.Placed.{Placed, byte_at};
+    ghost use Rattle.trace_values.specs.Stream.{Grows, goes_on};
+    ghost use Rattle.itm_codec.specs.Answers.{Answers};
     ghost use Rattle.itm_grammar.specs.Rule.{rule, count_of};
     ghost use Rattle.itm_grammar.specs.declared.partial.Partial.TheVariants.{Header};
     ghost use Rattle.trace_values.specs.Walk.{by_unit};
@@ -62,7 +65,18 @@ impl Machine for ItmDecoder {
 
     ghost rises = { λ _ u at byte. laws.rises (by_unit rule) Header u at byte };
 
-    fn feed(&mut self, at: u64, byte: u8) -> Step<ItmPacket> {
+    /// Takes the next byte. Beside what every machine says, its answer is the grammar's: an item exactly
+    /// where the unfinished packet with this byte is a packet, a fault exactly where no packet begins so.
+    fn feed(&mut self, at: u64, byte: u8) -> Step<ItmPacket>
+        requires live { is_live self.old ≡ true }
+        requires room { held_of self.old ≤ 2 ^ 60 }
+        ensures same { packets ≡ packets }
+        ensures list { (u : List Placed) → IsOf self.old u → IsOf self.new (u ++ byte_at at byte ∷ []) }
+        ensures step { (u : List Placed) → IsOf self.old u → Grows (packets u) (packets (u ++ byte_at at byte ∷ [])) at result }
+        ensures live { is_live self.new ≡ goes_on result }
+        ensures few { held_of self.new ≤ held_of self.old + 2 }
+        ensures grammar { (u : List Placed) → IsOf self.old u → Answers u at byte result }
+    {
         match self.partial.with_byte(byte) {
             Next::Go(partial) => {
                 self.partial = partial;

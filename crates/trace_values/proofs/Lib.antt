@@ -4,3 +4,4 @@ pub mod Readings
 pub mod Placing
 pub mod Standings
 pub mod Streams
+pub mod Answering

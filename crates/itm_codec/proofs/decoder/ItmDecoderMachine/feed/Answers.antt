@@ -5,6 +5,7 @@ use Rattle.trace_values.specs.Walk.{by_unit}
 use Rattle.trace_values.proofs.Standings as laws
 use Rattle.itm_grammar.specs.declared.partial.Partial.TheVariants.{Header}
 use Rattle.itm_grammar.specs.Rule.{rule}
+use Rattle.itm_codec.proofs.Answering.{answers}
 use Rattle.itm_codec.proofs.decoder.ItmDecoderMachine.feed.Goals as goal
 
 pub returns-in-Go-clause-list : goal.returns-in-Go-clause-list
@@ -29,4 +30,16 @@ returns-in-Fail-clause-list c = λ u s. laws.list_fed (by_unit rule) Header u c.
 
 pub returns-in-Fail-clause-step : goal.returns-in-Fail-clause-step
 returns-in-Fail-clause-step c = λ u s. laws.step_fed (by_unit rule) Header u c.args.self.now.live c.args.self.now.partial c.args.byte c.args.at (Fail c.in-Fail.reason)
+    c.requires.live c.in-Fail.ensures.next s
+
+pub returns-in-Go-clause-grammar : goal.returns-in-Go-clause-grammar
+returns-in-Go-clause-grammar c = λ u s. answers u c.args.self.now.live c.args.self.now.partial c.args.at c.args.byte (Go c.in-Go.partial)
+    c.requires.live c.in-Go.ensures.next s
+
+pub returns-in-Stop-clause-grammar : goal.returns-in-Stop-clause-grammar
+returns-in-Stop-clause-grammar c = λ u s. answers u c.args.self.now.live c.args.self.now.partial c.args.at c.args.byte (Stop c.in-Stop.packet)
+    c.requires.live c.in-Stop.ensures.next s
+
+pub returns-in-Fail-clause-grammar : goal.returns-in-Fail-clause-grammar
+returns-in-Fail-clause-grammar c = λ u s. answers u c.args.self.now.live c.args.self.now.partial c.args.at c.args.byte (Fail c.in-Fail.reason)
     c.requires.live c.in-Fail.ensures.next s
