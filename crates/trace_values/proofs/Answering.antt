@@ -4,8 +4,8 @@ use Rattle.trace_values.specs.declared.fault.Reason.{Reason}
 use Rattle.trace_values.specs.declared.next.Next.{Next}
 use Rattle.trace_values.specs.declared.next.Next.TheVariants.{Go, Stop, Fail}
 use Rattle.trace_values.specs.Placed.{Placed}
-use Rattle.trace_values.specs.Grammar.{IsFront, Says}
-use Rattle.trace_values.specs.Walk.{Walked, Within, Whole, Broken, walk, Decides}
+use Rattle.trace_values.specs.Grammar.{Says}
+use Rattle.trace_values.specs.Walk.{Within, Whole, walk, Decides}
 use Rattle.trace_values.specs.Reading.{progress}
 use Rattle.trace_values.specs.Standing.{Stands}
 use Rattle.trace_values.proofs.Walks.{walk_push, walked, no_front}

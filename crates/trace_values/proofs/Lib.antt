@@ -5,3 +5,4 @@ pub mod Placing
 pub mod Standings
 pub mod Streams
 pub mod Answering
+pub mod Blocks

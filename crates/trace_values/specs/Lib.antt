@@ -5,3 +5,4 @@ pub mod Walk
 pub mod Reading
 pub mod Stream
 pub mod Standing
+pub mod Block
