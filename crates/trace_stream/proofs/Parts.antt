@@ -10,7 +10,7 @@ use Rattle.trace_stream.specs.declared.pumping.Ending.{Ending}
 use Rattle.trace_stream.specs.declared.pumping.Ending.TheVariants.{AtEnd, FaultFound, ReadFailed, OverLimit}
 use Rattle.trace_stream.specs.declared.serving.Outcome.TheVariants as outcome_of
 use Rattle.trace_stream.specs.Pumped.{HasPumped}
-use Rattle.trace_stream.specs.Served.{HasServed}
+use Rattle.trace_stream.specs.Served.{HasServed, HasStopped}
 
 -- the first bytes up to the limit are those seen, and maybe more
 first_bytes : (limit : ℕ) (seen extra : List ℕ) → length seen ≤ limit → take limit (seen ++ extra) ≡ seen ++ take (limit - length seen) extra
@@ -115,3 +115,16 @@ stopped_in_part faulty text ending limit seen extra text_stays ending_stays brok
     let same_text : text (take limit (seen ++ extra)) ≡ text seen = ap text front ∙ text_stays seen more broken in
     let same_ending : ending (take limit (seen ++ extra)) ≡ ending seen = ap ending front ∙ ending_stays seen more broken in
     ([], ap (λ l. l ++ ending (take limit (seen ++ extra))) same_text ∙ ap (λ l. text seen ++ l) same_ending ∙ sym (append-nil (text seen ++ ending seen)))
+
+-- the action stands where the fault became certain
+pub stopped_there : (stands faulty : List ℕ → Type 0) (text : List ℕ → List ℕ) (limit : ℕ) (left_old left_new start held : Option (List ℕ)) (pending : List ℕ)
+    → HasPumped stands faulty text limit left_old left_new start held pending FaultFound → HasStopped stands faulty limit left_old left_new
+stopped_there stands faulty text limit left_old left_new start held pending pumped = record {
+  bytes = pumped.seen ++ pumped.extra;
+  seen = pumped.seen;
+  rest = take (limit - length pumped.seen) pumped.extra;
+  lost = pumped.lost;
+  parts = first_bytes limit pumped.seen pumped.extra pumped.within;
+  certain = pumped.outcome.certain;
+  holds = pumped.outcome.read;
+}

@@ -35,3 +35,13 @@ pub record HasServed (faulty : List ℕ → Type 0) (text ending : List ℕ → 
   pub at_most : length bytes ≤ limit + 1
   pub by_outcome : ServedBy faulty text ending limit outcome bytes out
   pub ended : EndsAt left_new outcome
+
+-- the input lost these bytes, and this holds of those up to the one at which the fault became certain
+pub record HasStopped (there faulty : List ℕ → Type 0) (limit : ℕ) (left_old left_new : Option (List ℕ)) : Type 0 where
+  pub bytes : List ℕ
+  pub seen : List ℕ
+  pub rest : List ℕ
+  pub lost : Consumes left_old left_new bytes
+  pub parts : take limit bytes ≡ seen ++ rest
+  pub certain : IsCertainAt faulty seen
+  pub holds : there seen
