@@ -1,4 +1,5 @@
-pub mod Prefixes
-pub mod Pieces
+pub mod Doubling
 pub mod Inputs
 pub mod Parts
+pub mod Pieces
+pub mod Prefixes
