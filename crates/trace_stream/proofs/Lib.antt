@@ -1,3 +1,4 @@
+pub mod Certain
 pub mod Doubling
 pub mod Inputs
 pub mod Parts

@@ -59,8 +59,7 @@ impl Outlet {
         requires room { length self.old + 1 ≤ OUTLET_ROOM }
         ensures { self.new ≡ self.old ++ byte ∷ [] }
     {
-        // The room was taken at opening, so this never fails.
-        let _ = self.bytes.push(byte);
+        self.bytes.push_reserved(byte);
     }
 
     /// Writes all that is pending, or a prefix of it where the sink fails.

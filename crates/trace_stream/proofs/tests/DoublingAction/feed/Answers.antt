@@ -1,4 +1,4 @@
-use Rattle.std.proofs.Common.{rules, ◌≡◌, ℕ, true, false, nat_eq, List, [], ◌∷◌, ◌++◌, get_or}
+use Rattle.std.proofs.Common.{rules, ◌≡◌, true, false, nat_eq, [], ◌∷◌, ◌++◌, get_or}
 use Rattle.trace_stream.proofs.Doubling.{doubling_stops, doubling_goes_on}
 use Rattle.trace_stream.proofs.tests.DoublingAction.feed.Goals as goal
 
