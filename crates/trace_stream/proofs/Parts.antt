@@ -25,7 +25,7 @@ served_at_end stands faulty text ending limit left_old left_new start held new p
   lost = subst (Consumes left_old left_new) (ap (λ l. pumped.seen ++ l) pumped.outcome.1 ∙ append-nil pumped.seen) pumped.lost;
   gained = written;
   at_most = omega (arith, pumped.within);
-  by_outcome = (pumped.outcome.0.sound, pumped.within, refl);
+  outcome = (pumped.outcome.0.sound, pumped.within, refl);
   ended = pumped.outcome.2;
 }
 
@@ -44,7 +44,7 @@ served_stopped stands faulty text ending limit left_old left_new start held new 
       lost = pumped.lost;
       gained = written;
       at_most = omega (arith, pumped.at_most, length-append pumped.seen pumped.extra);
-      by_outcome = (record { seen = pumped.seen; rest = more; parts = front; certain = pumped.outcome.certain; broken = subst faulty (sym front) (faulty_stays pumped.seen more pumped.outcome.certain.broken) }, cc);
+      outcome = (record { seen = pumped.seen; rest = more; parts = front; certain = pumped.outcome.certain; broken = subst faulty (sym front) (faulty_stays pumped.seen more pumped.outcome.certain.broken) }, cc);
       ended = tt;
     }
 
@@ -57,7 +57,7 @@ served_read_failed stands faulty text ending limit left_old left_new start held 
   lost = subst (Consumes left_old left_new) (ap (λ l. pumped.seen ++ l) pumped.outcome.1 ∙ append-nil pumped.seen) pumped.lost;
   gained = front_all start held (text pumped.seen) pending pumped.outcome.0.written pumped.outcome.2;
   at_most = omega (arith, pumped.within);
-  by_outcome = (pumped.outcome.0.sound, pumped.within, refl);
+  outcome = (pumped.outcome.0.sound, pumped.within, refl);
   ended = tt;
 }
 
@@ -73,7 +73,7 @@ served_over_limit stands faulty text ending limit left_old left_new start held p
       lost = pumped.lost;
       gained = front_all start held (text pumped.seen) pending pumped.outcome.0.written pumped.outcome.3;
       at_most = omega (arith, pumped.at_most, length-append pumped.seen pumped.extra);
-      by_outcome = (subst (λ l. faulty l → ⊥) (sym front) pumped.outcome.0.sound, omega (arith, count, pumped.outcome.2, length-append pumped.seen pumped.extra), sym (ap text front));
+      outcome = (subst (λ l. faulty l → ⊥) (sym front) pumped.outcome.0.sound, omega (arith, count, pumped.outcome.2, length-append pumped.seen pumped.extra), sym (ap text front));
       ended = tt;
     }
 
@@ -88,7 +88,7 @@ served_in_part stands faulty text ending limit left_old left_new start held new 
   lost = pumped.lost;
   gained = prefix.1.took;
   at_most = omega (arith, pumped.at_most, length-append pumped.seen pumped.extra);
-  by_outcome = (prefix.0 ++ grows.0, grows.1 ∙ ap (λ l. l ++ grows.0) prefix.1.all ∙ append_assoc prefix.1.front prefix.0 grows.0);
+  outcome = (prefix.0 ++ grows.0, grows.1 ∙ ap (λ l. l ++ grows.0) prefix.1.all ∙ append_assoc prefix.1.front prefix.0 grows.0);
   ended = tt;
 }
 
