@@ -62,7 +62,6 @@ module _ {V : Type 0} (reading : List Placed → Stream V) (u : List Placed) (at
           sound = ap (λ (n : ℕ). (reading (u ++ placed_from at (take n piece))).fault) one ∙ t.sound;
         }
 
-
     pub taking_quiet : (step ≡ Quiet) ⊎ (step ≡ Skipping) → IsTaking reading now u at piece (i + 1)
     taking_quiet (inl e) = taking_more (ap (λ x. given_by (at + i) x) e) (ap (λ x. fault_by (at + i) x) e)
     taking_quiet (inr e) = taking_more (ap (λ x. given_by (at + i) x) e) (ap (λ x. fault_by (at + i) x) e)

@@ -6,3 +6,6 @@ pub mod Reading
 pub mod Stream
 pub mod Standing
 pub mod Block
+pub mod Hunt
+pub mod Hunted
+pub mod Moded
