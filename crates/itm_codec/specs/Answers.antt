@@ -1,10 +1,9 @@
 -- What a decoder answers to a byte, by what the grammar says of the rest with that byte.
-use Rattle.std.specs.Prelude.{◌≡◌, ℕ, List, [], ◌∷◌, ◌++◌}
+use Rattle.std.specs.Prelude.{◌≡◌, ℕ, List}
 use Rattle.trace_values.specs.declared.step.Step.{Step}
 use Rattle.trace_values.specs.declared.step.Step.TheVariants.{Quiet, Skipping, Item, Locked, Fault as Faulty}
-use Rattle.trace_values.specs.Placed.{Placed, units_of, byte_at}
+use Rattle.trace_values.specs.Placed.{Placed, units_of}
 use Rattle.trace_values.specs.Grammar.{IsFront, InUnits}
-use Rattle.trace_values.specs.Reading.{Reading, IsReading}
 use Rattle.itm_grammar.specs.declared.packet.ItmPacket.{ItmPacket}
 use Rattle.itm_grammar.specs.Spelling.{Spells, why}
 
@@ -15,8 +14,3 @@ AnswersBy (Faulty f) at r = (f.at ≡ at) × (f.half ≡ 0) × (f.reason ≡ why
 AnswersBy Quiet at r = IsFront (InUnits Spells) r × ((packet : ItmPacket) → InUnits Spells packet r → ⊥)
 AnswersBy Skipping at r = ⊥
 AnswersBy (Locked skipped half packet) at r = ⊥
-
--- whatever the bytes so far read as, the step is the grammar's answer to the byte behind their rest
-abbrev pub Answers : List Placed → ℕ → ℕ → Step ItmPacket → Type 0
-Answers u at byte step =
-    (r : Reading ItmPacket) → IsReading (InUnits Spells) (λ x. why (units_of x)) u r → AnswersBy step at (r.rest ++ byte_at at byte ∷ [])
