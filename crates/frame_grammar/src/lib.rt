@@ -4,3 +4,4 @@
 
 pub mod frame;
 pub mod laws;
+pub mod rows;
