@@ -99,8 +99,8 @@ module _ (frame : List ℕ) where
     all_at_below zero = All-nil IsAt
     all_at_below (suc k) =
         All-append IsAt (cells_below frame offsets id k) _ (all_at_below k)
-        (All-append IsAt (even_cells frame offsets id k) (odd_cells frame offsets id k) (even_at k (names frame k)) 
-            (one IsAt (cell frame offsets id (2 * k + 1) (slice_index frame (2 * k + 1))) (record { index = 2 * k + 1; id_is = refl; run_is = refl })))
+        (All-append IsAt (even_cells frame offsets id k) (odd_cells frame offsets id k) (even_at k (names frame k))
+        (one IsAt (cell frame offsets id (2 * k + 1) (slice_index frame (2 * k + 1))) (record { index = 2 * k + 1; id_is = refl; run_is = refl })))
 
     all_at : All IsAt (cells frame offsets id)
     all_at = All-append IsAt (cells_below frame offsets id 7) (even_cells frame offsets id 7) (all_at_below 7) (even_at 7 (names frame 7))
@@ -134,7 +134,7 @@ module _ (frame : List ℕ) where
     rises_below (suc k) =
         let even = rises_even k (names frame k) (cells_below frame offsets id k) (run_at frame (2 * k)) (omega arith) (rises_below k) in
         let odd = rises_push (cells_below frame offsets id k ++ even_cells frame offsets id k) (run_at frame (2 * k)) (cell frame offsets id (2 * k + 1) (slice_index frame (2 * k + 1)))
-            (run_rises (2 * k) (2 * k + 1) 8 (omega arith)) even in
+        (run_rises (2 * k) (2 * k + 1) 8 (omega arith)) even in
         rises_up _ (run_at frame (2 * k + 1)) (run_at frame (2 * suc k)) (run_rises (2 * k + 1) (2 * suc k) 8 (omega arith))
         (subst (λ (l : List Cell). Rises l (run_at frame (2 * k + 1))) (append_assoc (cells_below frame offsets id k) (even_cells frame offsets id k) (odd_cells frame offsets id k)) odd)
 

@@ -77,12 +77,12 @@ words_on zero f h k g r l (here, later, a, b, g', w, i, ek, eg, m) =
     one_word zero f h here a b r w (omega arith) i
     ∙ ap (λ (u : List Placed). after (Stop (Frame (f ++ (a ∷ (b ∷ []))) (h + here))) (λ t. on t u) u) m.2
     ∙ same_whole (f ++ (a ∷ (b ∷ []))) (f ++ g) (h + here) (h + k)
-        (ap (λ (u : List Placed). f ++ u) (ap (λ (u : List Placed). a ∷ (b ∷ u)) (sym m.1) ∙ sym eg)) (let z = m.0 in omega arith)
+    (ap (λ (u : List Placed). f ++ u) (ap (λ (u : List Placed). a ∷ (b ∷ u)) (sym m.1) ∙ sym eg)) (let z = m.0 in omega arith)
 words_on (suc n) f h k g r l (here, later, a, b, g', w, i, ek, eg, m) =
     one_word (suc n) f h here a b r w (omega arith) i
     ∙ words_on n (f ++ (a ∷ (b ∷ []))) (h + here) later g' w (omega arith) m
     ∙ same_whole ((f ++ (a ∷ (b ∷ []))) ++ g') (f ++ g) (h + here + later) (h + k)
-        (append_assoc f (a ∷ (b ∷ [])) g' ∙ ap (λ (u : List Placed). f ++ u) (sym eg)) (omega arith)
+    (append_assoc f (a ∷ (b ∷ [])) g' ∙ ap (λ (u : List Placed). f ++ u) (sym eg)) (omega arith)
 
 complete_full : (r : List Placed) → units_of r ≡ 255 ∷ (255 ∷ (255 ∷ (127 ∷ []))) → on start r ≡ Whole Full
 complete_full [] e = cc

@@ -43,7 +43,9 @@ impl SourceId {
 }
 
 /// A data byte of a frame.
-#[derive(Clone, Copy, Debug, PartialEq, Eq, Drop)]
+///
+/// The default one only fills the unused places of a buffer.
+#[derive(Clone, Copy, Debug, Default, PartialEq, Eq, Drop)]
 pub struct Cell {
     /// Its offset in the capture.
     pub at: u64,

@@ -1,7 +1,7 @@
 use Rattle.std.proofs.Common.{◌≡◌, ℕ, ◌+◌, ◌*◌, sym, ◌∙◌, ap, arith, rules}
 use Rattle.std.specs.Prelude.{slice_index}
 use Rattle.frame_grammar.proofs.Looks.{starts}
-use Rattle.frame_grammar.proofs.Pairs.{more_cells, whole_plain, whole_named, after_plain, after_named, even_plain, even_named}
+use Rattle.frame_grammar.proofs.Pairs.{pushed, more_cells, whole_plain, whole_named, after_plain, after_named, even_plain, even_named}
 use Rattle.frame_grammar.proofs.frame.cells_of.Goals as goal
 
 pub loop-pair-init : goal.loop-pair-init
@@ -15,21 +15,21 @@ loop-pair-preserved c = record {
   run = omega arith;
 }
 
-pub returns-then-even-eq0-clause-cells : goal.returns-then-even-eq0-clause-cells
-returns-then-even-eq0-clause-cells c =
-    let e = c.if-even-eq0.true in
+pub returns-then-last-eq0-clause-cells : goal.returns-then-last-eq0-clause-cells
+returns-then-last-eq0-clause-cells c =
+    let e = c.if-last-eq0.true in
     whole_plain c.args.frame.now c.args.at.now c.args.id c.loop-pair.pair c.loop-pair.now.run _ c.loop-pair.now.id _ _ (omega arith) c.loop-pair.invariant.cells c.loop-pair.invariant.here
-    (even_plain (slice_index c.args.frame.now 14) e) (let h = e in omega arith) c.push.ensures.items
+    (even_plain (slice_index c.args.frame.now 14) e) (let h = e in omega arith) (pushed _ _ _ _ c.push.ensures.items c.cell.ensures)
 
-pub returns-then-even-eq0-clause-id : goal.returns-then-even-eq0-clause-id
-returns-then-even-eq0-clause-id c =
-    after_plain c.args.frame.now c.args.at.now c.args.id c.loop-pair.pair c.loop-pair.now.run _ (omega arith) c.loop-pair.invariant.here (even_plain (slice_index c.args.frame.now 14) c.if-even-eq0.true)
+pub returns-then-last-eq0-clause-id : goal.returns-then-last-eq0-clause-id
+returns-then-last-eq0-clause-id c =
+    after_plain c.args.frame.now c.args.at.now c.args.id c.loop-pair.pair c.loop-pair.now.run _ (omega arith) c.loop-pair.invariant.here (even_plain (slice_index c.args.frame.now 14) c.if-last-eq0.true)
 
-pub returns-else-even-eq0-clause-cells : goal.returns-else-even-eq0-clause-cells
-returns-else-even-eq0-clause-cells c =
-    whole_named c.args.frame.now c.args.at.now c.args.id c.loop-pair.pair _ (omega arith) c.loop-pair.invariant.cells (even_named (slice_index c.args.frame.now 14) c.if-even-eq0.false)
+pub returns-else-last-eq0-clause-cells : goal.returns-else-last-eq0-clause-cells
+returns-else-last-eq0-clause-cells c =
+    whole_named c.args.frame.now c.args.at.now c.args.id c.loop-pair.pair _ (omega arith) c.loop-pair.invariant.cells (even_named (slice_index c.args.frame.now 14) c.if-last-eq0.false)
 
-pub returns-else-even-eq0-clause-id : goal.returns-else-even-eq0-clause-id
-returns-else-even-eq0-clause-id c =
+pub returns-else-last-eq0-clause-id : goal.returns-else-last-eq0-clause-id
+returns-else-last-eq0-clause-id c =
     c.new.ensures ∙ after_named c.args.frame.now c.args.at.now c.args.id c.loop-pair.pair c.loop-pair.now.run c.loop-pair.now.id (omega arith) c.loop-pair.invariant.here
-    (even_named (slice_index c.args.frame.now 14) c.if-even-eq0.false)
+    (even_named (slice_index c.args.frame.now 14) c.if-last-eq0.false)
