@@ -1,5 +1,6 @@
 pub mod Placed
 pub mod Faults
+pub mod Cells
 pub mod Grammar
 pub mod Walk
 pub mod Reading

@@ -8,6 +8,10 @@ ghost use Rattle.trace_values.specs.Faults.{number_of, name_of};
 pub enum Reason {
     /// The grammar as it is built so far does not go on.
     Unbuilt,
+    /// A byte that breaks a synchronisation which FF began.
+    BadSync,
+    /// A full synchronisation inside a frame.
+    SyncInFrame,
 }
 
 impl Reason {
@@ -17,6 +21,8 @@ impl Reason {
     {
         match self {
             Reason::Unbuilt => 0,
+            Reason::BadSync => 1,
+            Reason::SyncInFrame => 2,
         }
     }
 
@@ -26,6 +32,8 @@ impl Reason {
     {
         match self {
             Reason::Unbuilt => "Unbuilt",
+            Reason::BadSync => "BadSync",
+            Reason::SyncInFrame => "SyncInFrame",
         }
     }
 }

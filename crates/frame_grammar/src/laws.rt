@@ -1,0 +1,53 @@
+//! Laws of the grammar and of cells, over their definitions alone.
+
+ghost use Rattle.std.specs.Prelude.{◌≡◌, ◌↔◌, ◌≤◌, ℕ, List, Option, map, length, slice_index};
+ghost use Rattle.std.specs.List.{Contains};
+ghost use Rattle.std.specs.List.Sorted.{IsNonDecreasingBy};
+ghost use Rattle.trace_values.specs.declared.cell.Cell.{Cell};
+ghost use Rattle.trace_values.specs.Placed.{Placed};
+ghost use Rattle.trace_values.specs.Grammar.{PrefixLaw};
+ghost use Rattle.trace_values.specs.Walk.{Decides};
+ghost use Rattle.trace_values.specs.Reading.{Reading, IsReading};
+ghost use Rattle.frame_grammar.specs.Frame.{cells, data_indexes};
+ghost use Rattle.frame_grammar.specs.Port.{Piece, Spells, why, rule, start};
+ghost use Rattle.frame_grammar.specs.Reading.{port_reading};
+
+/// One list of bytes spells at most one piece, and no spelling begins another.
+pub fn prefix_law()
+    ensures { PrefixLaw Spells }
+{}
+
+/// The rule, byte by byte, ends a piece exactly with the bytes that spell it, goes on exactly while a
+/// piece goes on so, and gives each fault its reason.
+pub fn rule_law()
+    ensures { Decides Spells why rule start }
+{}
+
+/// Each list of placed bytes has one reading, and reading them byte by byte computes it.
+pub fn reading_law()
+    ensures { (u : List Placed) (r : Reading Piece) → IsReading Spells why u r ↔ (r ≡ port_reading u) }
+{}
+
+/// The cells of a frame stand at the indexes 0 to 14 that are no ID bytes, in order.
+pub fn offsets_law()
+    ensures { (frame offsets : List ℕ) (id : Option ℕ) →
+        map (λ c. c.at) (cells frame offsets id) ≡ map (λ i. slice_index offsets i) (data_indexes frame) }
+{}
+
+/// A frame has at most 15 cells.
+pub fn length_law()
+    ensures { (frame offsets : List ℕ) (id : Option ℕ) → length (cells frame offsets id) ≤ 15 }
+{}
+
+/// Along a frame's cells the run never falls.
+pub fn runs_law()
+    ensures { (frame offsets : List ℕ) (id : Option ℕ) → IsNonDecreasingBy (λ c. c.run) (cells frame offsets id) }
+{}
+
+/// Cells of one run have one ID, and those of run 0 the ID before the frame.
+pub fn ids_law()
+    ensures one_id { (frame offsets : List ℕ) (id : Option ℕ) (c d : Cell) →
+        Contains (cells frame offsets id) c → Contains (cells frame offsets id) d → c.run ≡ d.run → c.id ≡ d.id }
+    ensures before { (frame offsets : List ℕ) (id : Option ℕ) (c : Cell) →
+        Contains (cells frame offsets id) c → c.run ≡ 0 → c.id ≡ id }
+{}
