@@ -9,6 +9,7 @@ ghost use Rattle.capture_command.specs.Listing.{IsFaulty, listed, ending};
 ghost use Rattle.capture_command.specs.Words.{IsShow};
 ghost use Rattle.capture_command.specs.Run.{HasRun, Untouched, Loses, IsDoneOrNoMemory};
 
+mod rows;
 mod show;
 mod status;
 mod text;
