@@ -12,6 +12,8 @@ ghost use Rattle.capture_command.specs.Run.{HasRun, Untouched, Loses, IsDoneOrNo
 mod rows;
 mod show;
 mod status;
+#[cfg(test)]
+mod tests;
 mod text;
 mod words;
 
