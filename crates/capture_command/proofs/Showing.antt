@@ -1,39 +1,41 @@
 -- How the listing grows with one more byte.
-use Rattle.std.proofs.Common.{append_assoc, append-nil, length-append, ◌-◌, ◌≤◌, ◌<◌, ◌≡◌, ℕ, ◌+◌, List, ◌∷◌, [], ◌++◌, length, take, get_or, flat_map, refl, sym, ◌∙◌, ap, subst, arith, Option, None, Some, true, false}
+use Rattle.std.proofs.Common.{Bool, append_assoc, append-nil, length-append, ◌-◌, ◌≤◌, ◌<◌, ◌≡◌, ℕ, ◌+◌, List, ◌∷◌, [], ◌++◌, length, take, get_or, flat_map, refl, sym, ◌∙◌, ap, subst, arith, Option, None, Some, true, false}
 use Rattle.std.specs.Prelude.{is_none}
 use Rattle.std.proofs.lemmas.Grind.{flat_map-append}
 use Rattle.std.proofs.lemmas.List.{take_more, length-take-le}
 use Rattle.trace_values.specs.declared.fault.Reason.{Reason}
 use Rattle.trace_values.specs.declared.fault.Fault.{Fault}
 use Rattle.trace_values.specs.Walk.{by_unit}
-use Rattle.trace_values.proofs.Standings as laws
+use Rattle.trace_values.proofs.Modes as laws
 use Rattle.trace_values.proofs.Standings.{none_of}
 use Rattle.itm_grammar.specs.declared.partial.Partial.TheVariants.{Header}
 use Rattle.itm_grammar.specs.Rule.{rule, count_of}
 use Rattle.itm_grammar.proofs.Counting.{counts_placed}
 use Rattle.itm_codec.specs.declared.decoder.ItmDecoder.{ItmDecoder}
-use Rattle.itm_codec.specs.Decoder.{IsOf, is_live, held_of}
+use Rattle.itm_codec.specs.Decoder.{IsOf, is_hunter, is_live, has_locked, held_of, skipped_by}
 use Rattle.trace_values.specs.declared.step.Step.{Step}
 use Rattle.trace_values.specs.declared.step.Step.TheVariants.{Quiet, Skipping, Item, Locked, Fault as Faulty}
 use Rattle.trace_stream.specs.declared.action.Flow.{Flow}
 use Rattle.trace_stream.specs.Laws.{IsCertainAt}
 use Rattle.trace_values.specs.Block.{Takes, given_after, fault_after}
 use Rattle.trace_stream.specs.Taken.{FlowAfter, HasTaken}
+use Rattle.capture_command.specs.declared.packets.PacketsMode.{PacketsMode}
 use Rattle.capture_command.specs.Show.{told}
 use Rattle.trace_values.specs.Placed.{Place, Placed, placed, placed_from}
-use Rattle.trace_values.specs.Stream.{Stream, Grows, given_by, fault_by, goes_on}
+use Rattle.trace_values.specs.Stream.{Shows, Stream, Grows, given_by, fault_by, goes_on}
 use Rattle.trace_values.proofs.Placing.{placed_append}
 use Rattle.itm_grammar.specs.declared.packet.ItmPacket.{ItmPacket}
-use Rattle.itm_codec.specs.Reading.{packets}
-use Rattle.capture_command.specs.Listing.{line, packets_of, IsFaulty, listed, ending, end_lines, ending_by}
+use Rattle.itm_grammar.specs.declared.packet.ItmPacket.TheVariants.{Sync}
+use Rattle.itm_codec.specs.Reading.{pattern, packets_in}
+use Rattle.capture_command.specs.Listing.{line, hunts_in, packets_of, IsFaulty, listed, ending, end_lines, ending_by}
 
 -- the bytes that are fed are the next of the capture
 pub next_bytes : (seen xs : List ℕ) (at : ℕ) → at ≡ length seen → placed seen ++ placed_from at xs ≡ placed (seen ++ xs)
 next_bytes seen xs at e = ap (λ (n : ℕ). placed seen ++ placed_from n xs) e ∙ sym (placed_append seen xs)
 
 -- bytes whose reading has none have no fault
-pub not_faulty : (seen : List ℕ) → (packets_of seen).fault ≡ None → IsFaulty seen → ⊥
-not_faulty seen n f = (let k = ap (λ (x : Option (Place × Reason)). is_none x) n in let g = f in cc)
+pub not_faulty : (m : PacketsMode) (seen : List ℕ) → (packets_of m seen).fault ≡ None → IsFaulty m seen → ⊥
+not_faulty m seen n f = (let k = ap (λ (x : Option (Place × Reason)). is_none x) n in let g = f in cc)
 
 -- the bytes that were taken are counted
 pub counted : (seen piece : List ℕ) (count bytes : ℕ) → count ≡ length seen → bytes ≤ length piece → count + bytes ≡ length (seen ++ take bytes piece)
@@ -47,40 +49,40 @@ put_after old new count bytes last step some e put =
     ∙ ap (λ (x : Option (Step ItmPacket)). old ++ flat_map line (given_after (count + (bytes - 1)) x)) (sym e)
 
 -- where a machine took these bytes of a piece behind those seen
-module _ (stands : List Placed → Type 0) (seen piece : List ℕ) (at bytes : ℕ) (step : Option (Step ItmPacket)) (e : at ≡ length seen)
-    (takes : Takes packets stands (placed seen) at piece bytes step) where
+module _ (m : PacketsMode) (stands : List Placed → Type 0) (seen piece : List ℕ) (at bytes : ℕ) (step : Option (Step ItmPacket)) (e : at ≡ length seen)
+    (takes : Takes (packets_in (hunts_in m)) stands (placed seen) at piece bytes step) where
   pub list_more : stands (placed (seen ++ take bytes piece))
   list_more = subst stands (next_bytes seen (take bytes piece) at e) takes.list
 
-  pub listed_more : listed (seen ++ take bytes piece) ≡ listed seen ++ flat_map line (given_after (at + (bytes - 1)) step)
+  pub listed_more : listed m (seen ++ take bytes piece) ≡ listed m seen ++ flat_map line (given_after (at + (bytes - 1)) step)
   listed_more =
-      ap (λ (u : List Placed). flat_map line (packets u).given) (sym (next_bytes seen (take bytes piece) at e))
-      ∙ ap (flat_map line) takes.given ∙ flat_map-append line (packets_of seen).given (given_after (at + (bytes - 1)) step)
+      ap (λ (u : List Placed). flat_map line (packets_in (hunts_in m) u).given) (sym (next_bytes seen (take bytes piece) at e))
+      ∙ ap (flat_map line) takes.given ∙ flat_map-append line (packets_of m seen).given (given_after (at + (bytes - 1)) step)
 
-  pub fault_more : (packets_of (seen ++ take bytes piece)).fault ≡ fault_after (at + (bytes - 1)) step
-  fault_more = ap (λ (u : List Placed). (packets u).fault) (sym (next_bytes seen (take bytes piece) at e)) ∙ takes.fault
+  pub fault_more : (packets_of m (seen ++ take bytes piece)).fault ≡ fault_after (at + (bytes - 1)) step
+  fault_more = ap (λ (u : List Placed). (packets_in (hunts_in m) u).fault) (sym (next_bytes seen (take bytes piece) at e)) ∙ takes.fault
 
-  pub still_sound : fault_after (at + (bytes - 1)) step ≡ None → IsFaulty (seen ++ take bytes piece) → ⊥
+  pub still_sound : fault_after (at + (bytes - 1)) step ≡ None → IsFaulty m (seen ++ take bytes piece) → ⊥
   still_sound n f = (let k = ap (λ (x : Option (Place × Reason)). is_none x) (fault_more ∙ n) in let g = f in cc)
 
-  pub now_certain : 0 < bytes → bytes ≤ length piece → (f : Place × Reason) → fault_after (at + (bytes - 1)) step ≡ Some f → IsCertainAt IsFaulty (seen ++ take bytes piece)
+  pub now_certain : 0 < bytes → bytes ≤ length piece → (f : Place × Reason) → fault_after (at + (bytes - 1)) step ≡ Some f → IsCertainAt (IsFaulty m) (seen ++ take bytes piece)
   now_certain some most f s = record {
     front = seen ++ take (bytes - 1) piece;
     last = get_or piece (bytes - 1) 0;
     all = ap (λ (l : List ℕ). seen ++ l) (ap (λ (n : ℕ). take n piece) (let k : bytes ≡ bytes - 1 + 1 = omega arith in k) ∙ take_more piece (bytes - 1) 0 (omega arith))
         ∙ sym (append_assoc seen (take (bytes - 1) piece) (get_or piece (bytes - 1) 0 ∷ []));
-    sound = not_faulty (seen ++ take (bytes - 1) piece) (ap (λ (u : List Placed). (packets u).fault) (sym (next_bytes seen (take (bytes - 1) piece) at e)) ∙ takes.sound);
+    sound = not_faulty m (seen ++ take (bytes - 1) piece) (ap (λ (u : List Placed). (packets_in (hunts_in m) u).fault) (sym (next_bytes seen (take (bytes - 1) piece) at e)) ∙ takes.sound);
     broken = ap (λ (x : Option (Place × Reason)). is_none x) (fault_more ∙ s);
   }
 
   pub taken : (now : List ℕ → Type 0) (old new : List ℕ) (flow : Flow) → new ≡ old ++ flat_map line (given_after (at + (bytes - 1)) step) →
-      now (seen ++ take bytes piece) → FlowAfter IsFaulty (seen ++ take bytes piece) flow → HasTaken now IsFaulty listed seen (take bytes piece) old new flow
-  taken now old new flow gained read goes_on = record {
+      now (seen ++ take bytes piece) → FlowAfter (IsFaulty m) (seen ++ take bytes piece) flow → HasTaken now (IsFaulty m) (listed m) seen (take bytes piece) old new flow
+  taken now old new flow gained read flows = record {
     read = read;
     more = flat_map line (given_after (at + (bytes - 1)) step);
     grown = listed_more;
     gained = gained;
-    goes_on = goes_on;
+    goes_on = flows;
   }
 
 -- a step that is no fault gives none
@@ -105,14 +107,36 @@ going (Item half v) n = refl
 going (Locked skipped half v) n = refl
 going (Faulty f) n = absurd (n f refl)
 
+-- what a decoder shows is what its reading has
+shown_by : (m : PacketsMode) (decoder : ItmDecoder) (seen : List ℕ) → is_hunter decoder ≡ hunts_in m → IsOf decoder (placed seen) →
+    Shows (is_live decoder) (has_locked decoder) (held_of decoder) (skipped_by decoder) (length (placed seen)) (packets_of m seen)
+shown_by m decoder seen h s =
+    subst (λ (b : Bool). Shows (is_live decoder) (has_locked decoder) (held_of decoder) (skipped_by decoder) (length (placed seen)) (packets_in b (placed seen))) h
+    (laws.shows pattern Sync (by_unit rule) Header count_of refl counts_placed decoder.mode decoder.live decoder.partial (placed seen) s)
+
 -- a decoder that is live stands for bytes without a fault
-pub sound_of : (decoder : ItmDecoder) (seen : List ℕ) → IsOf decoder (placed seen) → is_live decoder ≡ true → (packets_of seen).fault ≡ None
-sound_of decoder seen s l = none_of (packets_of seen).fault (sym l ∙ s.live_is)
+pub sound_of : (m : PacketsMode) (decoder : ItmDecoder) (seen : List ℕ) → is_hunter decoder ≡ hunts_in m → IsOf decoder (placed seen) → is_live decoder ≡ true → (packets_of m seen).fault ≡ None
+sound_of m decoder seen h s l = none_of (packets_of m seen).fault (sym l ∙ (shown_by m decoder seen h s).live_is)
 
 -- the end lines are those of the bytes
-pub ended : (decoder : ItmDecoder) (seen : List ℕ) (count : ℕ) (fault : Option Fault) → IsOf decoder (placed seen) → count ≡ length seen → told fault ≡ (packets_of seen).fault →
-    fault ≡ None → is_live decoder ≡ true → end_lines count (held_of decoder) ≡ ending seen
-ended decoder seen count fault s e f n l =
-    let held = (laws.Stands-shows (by_unit rule) Header count_of refl counts_placed decoder.live decoder.partial (placed seen) s).held_is l in
-    ap (λ (k : ℕ). end_lines k (held_of decoder)) e ∙ ap (λ (k : ℕ). end_lines (length seen) k) held
-    ∙ ap (λ (x : Option (Place × Reason)). ending_by (length seen) (packets_of seen) x) (ap told (sym n) ∙ f)
+pub ended : (m : PacketsMode) (decoder : ItmDecoder) (seen : List ℕ) (count : ℕ) (fault : Option Fault) → is_hunter decoder ≡ hunts_in m → IsOf decoder (placed seen) → count ≡ length seen →
+    told fault ≡ (packets_of m seen).fault → fault ≡ None → is_live decoder ≡ true → end_lines m count (has_locked decoder) (skipped_by decoder) (held_of decoder) ≡ ending m seen
+ended m decoder seen count fault h s e f n l =
+    let k = shown_by m decoder seen h s in
+    ap (λ (x : ℕ). end_lines m x (has_locked decoder) (skipped_by decoder) (held_of decoder)) e
+    ∙ ap (λ (x : Bool). end_lines m (length seen) x (skipped_by decoder) (held_of decoder)) (k.locked_is l)
+    ∙ ap (λ (x : ℕ). end_lines m (length seen) (packets_of m seen).locked x (held_of decoder)) (k.skipped_is l)
+    ∙ ap (λ (x : ℕ). end_lines m (length seen) (packets_of m seen).locked (packets_of m seen).skipped x) (k.held_is l)
+    ∙ ap (λ (x : Option (Place × Reason)). ending_by m (length seen) (packets_of m seen) x) (ap told (sym n) ∙ f)
+
+-- what a machine took, in the mode of the listing
+pub takes_in : (m : PacketsMode) (h : Bool) (stands : List Placed → Type 0) (u : List Placed) (at : ℕ) (piece : List ℕ) (bytes : ℕ) (step : Option (Step ItmPacket)) → h ≡ hunts_in m →
+    Takes (packets_in h) stands u at piece bytes step → Takes (packets_in (hunts_in m)) stands u at piece bytes step
+takes_in m h stands u at piece bytes step e t = subst (λ (b : Bool). Takes (packets_in b) stands u at piece bytes step) e t
+
+-- a decoder keeps the mode that it was made in
+pub same_mode : (a b : Bool) → packets_in a ≡ packets_in b → a ≡ b
+same_mode true true e = refl
+same_mode false false e = refl
+same_mode true false e = (let k = ap (λ f. (f []).locked) e in cc)
+same_mode false true e = (let k = ap (λ f. (f []).locked) e in cc)

@@ -5,6 +5,7 @@ use Rattle.trace_values.specs.declared.fault.Reason.{Reason}
 use Rattle.trace_values.specs.Placed.{Place, placed}
 use Rattle.itm_codec.specs.Decoder.{IsOf, is_live}
 use Rattle.capture_command.specs.Listing.{packets_of}
+use Rattle.capture_command.specs.declared.packets.PacketsMode.{PacketsMode}
 use Rattle.capture_command.specs.declared.show.Show.{Show}
 
 -- a kept fault, as a reading has it
@@ -16,8 +17,13 @@ told (Some fault) = Some (record { at = fault.at; half = fault.half }, fault.rea
 pub record Stands (show : Show) (seen : List ℕ) : Type 0 where
   pub decoder : IsOf show.decoder (placed seen)
   pub count : show.count ≡ length seen
-  pub fault : told show.fault ≡ (packets_of seen).fault
+  pub fault : told show.fault ≡ (packets_of show.mode seen).fault
 
+-- where its reading begins
+abbrev pub mode_of : Show → PacketsMode
+mode_of show = show.mode
+
+-- how many bytes it took
 abbrev pub count_of : Show → ℕ
 count_of show = show.count
 

@@ -1,10 +1,13 @@
--- The one call that is built.
+-- The calls that are built.
 use Rattle.std.specs.Prelude.{◌≡◌, ℕ, List, [], ◌∷◌, codes}
+use Rattle.capture_command.specs.declared.packets.PacketsMode.{PacketsMode}
+use Rattle.capture_command.specs.declared.packets.PacketsMode.TheVariants.{Hunt, Aligned}
 
-abbrev pub show_words : List (List ℕ)
-show_words =
+-- the words that ask for the listing of a bare stream of ITM packets of source 1, in this mode
+abbrev pub show_words : PacketsMode → List (List ℕ)
+show_words Hunt = codes "show" ∷ (codes "--frames" ∷ (codes "bare" ∷ (codes "--itm" ∷ (codes "1" ∷ []))))
+show_words Aligned =
     codes "show" ∷ (codes "--frames" ∷ (codes "bare" ∷ (codes "--packets" ∷ (codes "aligned" ∷ (codes "--itm" ∷ (codes "1" ∷ []))))))
 
--- the words ask for the listing of a bare stream of ITM packets of source 1 that begins with a packet
-abbrev pub IsShow : List (List ℕ) → Type 0
-IsShow words = words ≡ show_words
+abbrev pub AsksFor : List (List ℕ) → PacketsMode → Type 0
+AsksFor words mode = words ≡ show_words mode

@@ -5,15 +5,14 @@ ghost use Rattle.std.specs.Prelude.{◌≡◌, ℕ, ◌≤◌, List, length, map
 ghost use Rattle.std.specs.String.{string_bytes};
 ghost use Rattle.std.specs.Io.KnownBytes.{Keeps};
 ghost use Rattle.trace_io.specs.Causes.{Rose};
+ghost use Rattle.capture_command.specs.declared.packets.PacketsMode.{PacketsMode};
 ghost use Rattle.capture_command.specs.Listing.{IsFaulty, listed, ending};
-ghost use Rattle.capture_command.specs.Words.{IsShow};
+ghost use Rattle.capture_command.specs.Words.{AsksFor};
 ghost use Rattle.capture_command.specs.Run.{HasRun, Untouched, Loses, IsDoneOrNoMemory};
 
-mod rows;
+mod packets;
 mod show;
 mod status;
-#[cfg(test)]
-mod tests;
 mod text;
 mod words;
 
@@ -24,7 +23,7 @@ use std::env;
 use std::process::ExitCode;
 use trace_io::{ReadAdapter, Sink, Source, WriteAdapter};
 use trace_stream::{Buffers, serve};
-use words::asks_to_show;
+use words::mode_of;
 
 /// The most bytes of input.
 pub const LIMIT: u64 = 16777216;
@@ -42,29 +41,29 @@ pub fn run<I: Source, O: Sink, N: Sink>(
     _notes: &mut N,
 ) -> Status
     // The words.
-    ensures usage { result ≡ Status.Usage → IsShow (map string_bytes words.now) → ⊥ }
-    ensures misuse { (IsShow (map string_bytes words.now) → ⊥) → result ≡ Status.Usage }
+    ensures usage { (mode : PacketsMode) → result ≡ Status.Usage → AsksFor (map string_bytes words.now) mode → ⊥ }
+    ensures misuse { ((mode : PacketsMode) → AsksFor (map string_bytes words.now) mode → ⊥) → result ≡ Status.Usage }
     ensures untouched { result ≡ Status.Usage → Untouched (I.left input.old) (I.left input.new) (O.held output.old) (O.held output.new) }
 
     // What was read and written, by the status.
-    ensures show { IsShow (map string_bytes words.now) →
-        HasRun IsFaulty listed ending LIMIT (I.left input.old) (I.left input.new) (O.held output.old) (O.held output.new) result }
+    ensures show { (mode : PacketsMode) → AsksFor (map string_bytes words.now) mode →
+        HasRun (IsFaulty mode) (listed mode) (ending mode) LIMIT (I.left input.old) (I.left input.new) (O.held output.old) (O.held output.new) result }
 
     // The causes of what the outside does, and that without a cause all is done.
     ensures read_cause { result ≡ Status.ReadFault → Rose (I.faults input.old) (I.faults input.new) }
     ensures write_cause { result ≡ Status.WriteFault → Rose (O.faults output.old) (O.faults output.new) }
-    ensures complete { (bytes : List ℕ) → IsShow (map string_bytes words.now) → Loses (I.left input.old) (I.left input.new) bytes →
+    ensures complete { (mode : PacketsMode) (bytes : List ℕ) → AsksFor (map string_bytes words.now) mode → Loses (I.left input.old) (I.left input.new) bytes →
         (Rose (I.faults input.old) (I.faults input.new) → ⊥) → (Rose (O.faults output.old) (O.faults output.new) → ⊥) →
-        length bytes ≤ LIMIT → (IsFaulty bytes → ⊥) → IsDoneOrNoMemory result }
+        length bytes ≤ LIMIT → (IsFaulty mode bytes → ⊥) → IsDoneOrNoMemory result }
     ensures silent { Keeps (N.held _notes.old) (N.held _notes.new) }
 {
-    if !asks_to_show(words) {
+    let Some(mode) = mode_of(words) else {
         return Status::Usage;
-    }
+    };
     let Ok(mut buffers) = Buffers::open(alloc) else {
         return Status::NoMemory;
     };
-    Status::from(serve(&mut buffers, &mut Show::new(), LIMIT, input, output))
+    Status::from(serve(&mut buffers, &mut Show::new(mode), LIMIT, input, output))
 }
 
 fn main(rt: HostRuntime) -> ExitCode {

@@ -1,18 +1,20 @@
 //! The texts of the listing, put into the outlet.
 
-ghost use Rattle.std.specs.Prelude.{◌≡◌, ℕ, ◌+◌, ◌*◌, ◌≤◌, ◌++◌, length, decimal, flat_map};
+ghost use Rattle.std.specs.Prelude.{◌≡◌, ℕ, ◌+◌, ◌*◌, ◌≤◌, ◌∷◌, [], ◌++◌, length, codes, decimal, flat_map};
 ghost use Rattle.hex.specs.Hex.{encode_lower};
 ghost use Rattle.trace_values.specs.Stream.{Notice, Kept, given_by};
-ghost use Rattle.capture_command.specs.ItemText.{value_text, item_text};
-ghost use Rattle.capture_command.specs.Listing.{line, fault_line, end_lines};
+ghost use Rattle.itm_grammar.specs.declared.packet.ItmPacket.TheVariants.{Local, GlobalFirst, GlobalSecond, Extension};
+ghost use Rattle.capture_command.specs.ItemText.{value_text, lateness_text, flag_text, item_text};
+ghost use Rattle.capture_command.specs.Listing.{line, fault_line, state_text, port_end, source_end, end_lines};
 
-use itm_grammar::packet::{ItmPacket, Size};
+use crate::packets::PacketsMode;
+use itm_grammar::packet::{ItmPacket, Lateness, Size};
 use itoa::Buffer;
 use trace_stream::{OUTLET_ROOM, Outlet};
 use trace_values::{Fault, Step};
 
 /// The most bytes of a line of an item.
-const LINE_ROOM: usize = 64;
+const LINE_ROOM: usize = 96;
 
 fn put_decimal(outlet: &mut Outlet, number: u64)
     requires room { length outlet.old + 20 ≤ OUTLET_ROOM }
@@ -57,19 +59,119 @@ fn put_value(outlet: &mut Outlet, size: Size, value: u32)
     }
 }
 
-fn put_item(outlet: &mut Outlet, packet: &ItmPacket)
+fn lateness_word(lateness: Lateness) -> &'static str
+    ensures text { result.now ≡ lateness_text lateness }
+    ensures room { length result.now ≤ 11 }
+{
+    match lateness {
+        Lateness::Exact => "exact",
+        Lateness::StampLate => "stamp-late",
+        Lateness::PacketLate => "packet-late",
+        Lateness::BothLate => "both-late",
+    }
+}
+
+fn flag_digit(flag: bool) -> u8
+    ensures { result ∷ [] ≡ flag_text flag }
+{
+    if flag { b'1' } else { b'0' }
+}
+
+fn put_local(outlet: &mut Outlet, lateness: Lateness, delta: u32)
     requires room { length outlet.old + 40 ≤ OUTLET_ROOM }
-    ensures text { outlet.new ≡ outlet.old ++ item_text packet.now }
+    ensures text { outlet.new ≡ outlet.old ++ item_text (Local lateness delta) }
     ensures room { length outlet.new ≤ length outlet.old + 40 }
+{
+    outlet.append(b"local ");
+    outlet.append(lateness_word(lateness).as_bytes());
+    outlet.append(b" ");
+    put_decimal(outlet, u64::from(delta));
+}
+
+fn put_flags(outlet: &mut Outlet, change: bool, wrap: bool)
+    requires room { length outlet.old + 4 ≤ OUTLET_ROOM }
+    ensures text { outlet.new ≡ outlet.old ++ (codes " " ++ (flag_text change ++ (codes " " ++ flag_text wrap))) }
+    ensures room { length outlet.new ≤ length outlet.old + 4 }
+{
+    outlet.append(b" ");
+    outlet.push(flag_digit(change));
+    outlet.append(b" ");
+    outlet.push(flag_digit(wrap));
+}
+
+fn put_first_stamp(outlet: &mut Outlet, len: u8, value: u32, change: bool, wrap: bool)
+    requires room { length outlet.old + 60 ≤ OUTLET_ROOM }
+    ensures text { outlet.new ≡ outlet.old ++ item_text (GlobalFirst len value change wrap) }
+    ensures room { length outlet.new ≤ length outlet.old + 60 }
+{
+    outlet.append(b"global1 ");
+    put_decimal(outlet, u64::from(len));
+    outlet.append(b" ");
+    put_decimal(outlet, u64::from(value));
+    put_flags(outlet, change, wrap);
+}
+
+fn put_second_stamp(outlet: &mut Outlet, wide: bool, value: u64)
+    requires room { length outlet.old + 40 ≤ OUTLET_ROOM }
+    ensures text { outlet.new ≡ outlet.old ++ item_text (GlobalSecond wide value) }
+    ensures room { length outlet.new ≤ length outlet.old + 40 }
+{
+    if wide {
+        outlet.append(b"global2 64 ");
+    } else {
+        outlet.append(b"global2 48 ");
+    }
+    put_decimal(outlet, value);
+}
+
+fn put_extension(outlet: &mut Outlet, dwt: bool, value: u32)
+    requires room { length outlet.old + 20 ≤ OUTLET_ROOM }
+    ensures text { outlet.new ≡ outlet.old ++ item_text (Extension dwt value) }
+    ensures room { length outlet.new ≤ length outlet.old + 20 }
+{
+    if dwt {
+        outlet.append(b"ext dwt ");
+    } else {
+        outlet.append(b"ext itm ");
+    }
+    put_hexadecimal(outlet, &value.to_be_bytes());
+}
+
+fn put_source(outlet: &mut Outlet, number: u8, size: Size, value: u32)
+    requires room { length outlet.old + 36 ≤ OUTLET_ROOM }
+    ensures text { outlet.new ≡ outlet.old ++ (decimal number ++ (codes " " ++ value_text size value)) }
+    ensures room { length outlet.new ≤ length outlet.old + 36 }
+{
+    put_decimal(outlet, u64::from(number));
+    outlet.append(b" ");
+    put_value(outlet, size, value);
+}
+
+fn put_item(outlet: &mut Outlet, packet: &ItmPacket)
+    requires room { length outlet.old + 60 ≤ OUTLET_ROOM }
+    ensures text { outlet.new ≡ outlet.old ++ item_text packet.now }
+    ensures room { length outlet.new ≤ length outlet.old + 60 }
 {
     match *packet {
         ItmPacket::Sync => outlet.append(b"sync"),
+        ItmPacket::Overflow => outlet.append(b"overflow"),
         ItmPacket::Software { port, size, value } => {
             outlet.append(b"port ");
-            put_decimal(outlet, u64::from(port));
-            outlet.append(b" ");
-            put_value(outlet, size, value);
+            put_source(outlet, port, size, value);
         }
+        ItmPacket::Hardware { disc, size, value } => {
+            outlet.append(b"hw ");
+            put_source(outlet, disc, size, value);
+        }
+        ItmPacket::Local { lateness, delta } => put_local(outlet, lateness, delta),
+        ItmPacket::GlobalFirst {
+            len,
+            value,
+            change,
+            wrap,
+        } => put_first_stamp(outlet, len, value, change, wrap),
+        ItmPacket::GlobalSecond { wide, value } => put_second_stamp(outlet, wide, value),
+        ItmPacket::Extension { dwt, value } => put_extension(outlet, dwt, value),
     }
 }
 
@@ -129,14 +231,51 @@ pub fn put_fault(outlet: &mut Outlet, fault: &Fault)
     outlet.append(b"\n");
 }
 
-/// The end lines of a bare, aligned stream of so many bytes, with a tail of so many.
-pub fn put_end(outlet: &mut Outlet, count: u64, tail: u64)
-    requires room { length outlet.old + 256 ≤ OUTLET_ROOM }
-    ensures { outlet.new ≡ outlet.old ++ end_lines count tail }
+fn state_word(mode: PacketsMode, locked: bool) -> &'static str
+    ensures text { result.now ≡ state_text mode locked }
+    ensures room { length result.now ≤ 7 }
+{
+    match mode {
+        PacketsMode::Aligned => "aligned",
+        PacketsMode::Hunt => {
+            if locked {
+                "locked"
+            } else {
+                "hunting"
+            }
+        }
+    }
+}
+
+fn put_port_end(outlet: &mut Outlet, count: u64)
+    requires room { length outlet.old + 100 ≤ OUTLET_ROOM }
+    ensures text { outlet.new ≡ outlet.old ++ port_end count }
+    ensures room { length outlet.new ≤ length outlet.old + 100 }
 {
     outlet.append(b"end ");
     put_decimal(outlet, count);
-    outlet.append(b"\nport bare skipped 0 tail 0 unattributed 0\n1 itm aligned skipped 0 tail ");
+    outlet.append(b"\nport bare skipped 0 tail 0 unattributed 0\n");
+}
+
+fn put_source_end(outlet: &mut Outlet, mode: PacketsMode, locked: bool, skipped: u64, tail: u64)
+    requires room { length outlet.old + 100 ≤ OUTLET_ROOM }
+    ensures { outlet.new ≡ outlet.old ++ source_end mode locked skipped tail }
+{
+    outlet.append(b"1 itm ");
+    outlet.append(state_word(mode, locked).as_bytes());
+    outlet.append(b" skipped ");
+    put_decimal(outlet, skipped);
+    outlet.append(b" tail ");
     put_decimal(outlet, tail);
     outlet.append(b"\n");
+}
+
+/// The end lines of a bare stream of so many bytes, of which the source skipped so many and has so many
+/// of an unfinished packet.
+pub fn put_end(outlet: &mut Outlet, mode: PacketsMode, count: u64, locked: bool, skipped: u64, tail: u64)
+    requires room { length outlet.old + 200 ≤ OUTLET_ROOM }
+    ensures { outlet.new ≡ outlet.old ++ end_lines mode count locked skipped tail }
+{
+    put_port_end(outlet, count);
+    put_source_end(outlet, mode, locked, skipped, tail);
 }
