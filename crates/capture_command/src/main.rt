@@ -11,6 +11,7 @@ ghost use Rattle.capture_command.specs.Words.{AsksFor};
 ghost use Rattle.capture_command.specs.Run.{HasRun, Untouched, Loses, IsDoneOrNoMemory};
 
 mod packets;
+pub mod rows;
 mod show;
 mod status;
 mod text;
