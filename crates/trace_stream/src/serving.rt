@@ -93,7 +93,7 @@ pub fn serve<A: Action, I: Source, O: Sink>(
     input: &mut I,
     output: &mut O,
 ) -> Outcome
-    requires pending { buffers.old ≡ [] }
+    requires pending { buffers.old.pending ≡ [] }
     requires live { A.live action.old }
     requires fresh { A.stands action.old [] }
     requires count { A.taken action.old ≡ 0 }
@@ -102,7 +102,7 @@ pub fn serve<A: Action, I: Source, O: Sink>(
         (I.left input.old) (I.left input.new) (O.held output.old) (O.held output.new) result }
     ensures same { A.plan action.new ≡ A.plan action.old }
     ensures stopped { result ≡ Outcome.Stopped → HasStopped (A.stands action.new) (A.faulty (A.plan action.old)) limit (I.left input.old) (I.left input.new) }
-    ensures written { result ≢ Outcome.WriteFailed → buffers.new ≡ [] }
+    ensures written { result ≢ Outcome.WriteFailed → buffers.new.pending ≡ [] }
     ensures read_later { I.faults input.old ≤ I.faults input.new }
     ensures write_later { O.faults output.old ≤ O.faults output.new }
     ensures read_cause { result ≡ Outcome.ReadFailed → Rose (I.faults input.old) (I.faults input.new) }
