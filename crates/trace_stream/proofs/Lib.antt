@@ -1,6 +1,7 @@
 pub mod Certain
 pub mod Doubling
 pub mod Inputs
+pub mod Kept
 pub mod Parts
 pub mod Pieces
 pub mod Prefixes

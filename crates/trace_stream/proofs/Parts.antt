@@ -16,10 +16,10 @@ use Rattle.trace_stream.specs.Served.{HasServed, HasStopped}
 first_bytes : (limit : ℕ) (seen extra : List ℕ) → length seen ≤ limit → take limit (seen ++ extra) ≡ seen ++ take (limit - length seen) extra
 first_bytes limit seen extra h = ap (λ n. take n (seen ++ extra)) (let e : limit ≡ length seen + (limit - length seen) = omega arith in e) ∙ take-append-add seen extra (limit - length seen)
 
-pub served_at_end : (stands faulty : List ℕ → Type 0) (text ending : List ℕ → List ℕ) (limit : ℕ) (left_old left_new start held new : Option (List ℕ)) (pending : List ℕ)
-    (pumped : HasPumped stands faulty text limit left_old left_new start held pending AtEnd) → Appends start new (text pumped.seen ++ ending pumped.seen)
-    → HasServed faulty text ending limit left_old left_new start new outcome_of.AtEnd
-served_at_end stands faulty text ending limit left_old left_new start held new pending pumped written = record {
+pub served_at_end : (stands faulty : List ℕ → Type 0) (text ending : List ℕ → List ℕ) (limit : ℕ) (left_old left_new start held new : Option (List ℕ)) (pending recent : List ℕ)
+    (pumped : HasPumped stands faulty text limit left_old left_new start held pending recent AtEnd) → Appends start new (text pumped.seen ++ ending pumped.seen)
+    → HasServed faulty text ending limit left_old left_new start new recent outcome_of.AtEnd
+served_at_end stands faulty text ending limit left_old left_new start held new pending recent pumped written = record {
   bytes = pumped.seen;
   out = text pumped.seen ++ ending pumped.seen;
   lost = subst (Consumes left_old left_new) (ap (λ l. pumped.seen ++ l) pumped.outcome.1 ∙ append-nil pumped.seen) pumped.lost;
@@ -29,11 +29,11 @@ served_at_end stands faulty text ending limit left_old left_new start held new p
   ended = pumped.outcome.2;
 }
 
-pub served_stopped : (stands faulty : List ℕ → Type 0) (text ending : List ℕ → List ℕ) (limit : ℕ) (left_old left_new start held new : Option (List ℕ)) (pending : List ℕ)
+pub served_stopped : (stands faulty : List ℕ → Type 0) (text ending : List ℕ → List ℕ) (limit : ℕ) (left_old left_new start held new : Option (List ℕ)) (pending recent : List ℕ)
     → ((xs ys : List ℕ) → faulty xs → faulty (xs ++ ys)) → ((xs ys : List ℕ) → faulty xs → text (xs ++ ys) ≡ text xs) → ((xs ys : List ℕ) → faulty xs → ending (xs ++ ys) ≡ ending xs)
-    → (pumped : HasPumped stands faulty text limit left_old left_new start held pending FaultFound) → Appends start new (text pumped.seen ++ ending pumped.seen)
-    → HasServed faulty text ending limit left_old left_new start new outcome_of.Stopped
-served_stopped stands faulty text ending limit left_old left_new start held new pending faulty_stays text_stays ending_stays pumped written =
+    → (pumped : HasPumped stands faulty text limit left_old left_new start held pending recent FaultFound) → Appends start new (text pumped.seen ++ ending pumped.seen)
+    → HasServed faulty text ending limit left_old left_new start new recent outcome_of.Stopped
+served_stopped stands faulty text ending limit left_old left_new start held new pending recent faulty_stays text_stays ending_stays pumped written =
     let more = take (limit - length pumped.seen) pumped.extra in
     let front = first_bytes limit pumped.seen pumped.extra pumped.within in
     let same_text : text (take limit (pumped.seen ++ pumped.extra)) ≡ text pumped.seen = ap text front ∙ text_stays pumped.seen more pumped.outcome.certain.broken in
@@ -44,14 +44,14 @@ served_stopped stands faulty text ending limit left_old left_new start held new 
       lost = pumped.lost;
       gained = written;
       at_most = omega (arith, pumped.at_most, length-append pumped.seen pumped.extra);
-      outcome = (record { seen = pumped.seen; rest = more; parts = front; certain = pumped.outcome.certain; broken = subst faulty (sym front) (faulty_stays pumped.seen more pumped.outcome.certain.broken) }, cc);
+      outcome = (record { seen = pumped.seen; rest = more; parts = front; certain = pumped.outcome.certain; broken = subst faulty (sym front) (faulty_stays pumped.seen more pumped.outcome.certain.broken) }, cc, pumped.kept);
       ended = tt;
     }
 
-pub served_read_failed : (stands faulty : List ℕ → Type 0) (text ending : List ℕ → List ℕ) (limit : ℕ) (left_old left_new start held : Option (List ℕ)) (pending : List ℕ)
-    → HasPumped stands faulty text limit left_old left_new start held pending ReadFailed
-    → HasServed faulty text ending limit left_old left_new start held outcome_of.ReadFailed
-served_read_failed stands faulty text ending limit left_old left_new start held pending pumped = record {
+pub served_read_failed : (stands faulty : List ℕ → Type 0) (text ending : List ℕ → List ℕ) (limit : ℕ) (left_old left_new start held : Option (List ℕ)) (pending recent : List ℕ)
+    → HasPumped stands faulty text limit left_old left_new start held pending recent ReadFailed
+    → HasServed faulty text ending limit left_old left_new start held recent outcome_of.ReadFailed
+served_read_failed stands faulty text ending limit left_old left_new start held pending recent pumped = record {
   bytes = pumped.seen;
   out = text pumped.seen;
   lost = subst (Consumes left_old left_new) (ap (λ l. pumped.seen ++ l) pumped.outcome.1 ∙ append-nil pumped.seen) pumped.lost;
@@ -61,10 +61,10 @@ served_read_failed stands faulty text ending limit left_old left_new start held 
   ended = tt;
 }
 
-pub served_over_limit : (stands faulty : List ℕ → Type 0) (text ending : List ℕ → List ℕ) (limit : ℕ) (left_old left_new start held : Option (List ℕ)) (pending : List ℕ)
-    → HasPumped stands faulty text limit left_old left_new start held pending OverLimit
-    → HasServed faulty text ending limit left_old left_new start held outcome_of.OverLimit
-served_over_limit stands faulty text ending limit left_old left_new start held pending pumped =
+pub served_over_limit : (stands faulty : List ℕ → Type 0) (text ending : List ℕ → List ℕ) (limit : ℕ) (left_old left_new start held : Option (List ℕ)) (pending recent : List ℕ)
+    → HasPumped stands faulty text limit left_old left_new start held pending recent OverLimit
+    → HasServed faulty text ending limit left_old left_new start held recent outcome_of.OverLimit
+served_over_limit stands faulty text ending limit left_old left_new start held pending recent pumped =
     let count : length pumped.seen ≡ limit = pumped.outcome.1 in
     let front : take limit (pumped.seen ++ pumped.extra) ≡ pumped.seen = sym (ap (λ n. take n (pumped.seen ++ pumped.extra)) count) ∙ take-append_seam pumped.seen pumped.extra in
     record {
@@ -78,11 +78,11 @@ served_over_limit stands faulty text ending limit left_old left_new start held p
     }
 
 -- a write that failed, where some prefix of the whole text was written
-pub served_in_part : (stands faulty : List ℕ → Type 0) (text ending : List ℕ → List ℕ) (limit : ℕ) (left_old left_new start held new : Option (List ℕ)) (pending : List ℕ) (how : Ending)
-    (pumped : HasPumped stands faulty text limit left_old left_new start held pending how) (part : List ℕ) → AppendsPrefix start new part
+pub served_in_part : (stands faulty : List ℕ → Type 0) (text ending : List ℕ → List ℕ) (limit : ℕ) (left_old left_new start held new : Option (List ℕ)) (pending recent : List ℕ) (how : Ending)
+    (pumped : HasPumped stands faulty text limit left_old left_new start held pending recent how) (part : List ℕ) → AppendsPrefix start new part
     → GrowsOnly part (text (take limit (pumped.seen ++ pumped.extra)) ++ ending (take limit (pumped.seen ++ pumped.extra)))
-    → HasServed faulty text ending limit left_old left_new start new outcome_of.WriteFailed
-served_in_part stands faulty text ending limit left_old left_new start held new pending how pumped part prefix grows = record {
+    → HasServed faulty text ending limit left_old left_new start new recent outcome_of.WriteFailed
+served_in_part stands faulty text ending limit left_old left_new start held new pending recent how pumped part prefix grows = record {
   bytes = pumped.seen ++ pumped.extra;
   out = prefix.1.front;
   lost = pumped.lost;
@@ -117,9 +117,9 @@ stopped_in_part faulty text ending limit seen extra text_stays ending_stays brok
     ([], ap (λ l. l ++ ending (take limit (seen ++ extra))) same_text ∙ ap (λ l. text seen ++ l) same_ending ∙ sym (append-nil (text seen ++ ending seen)))
 
 -- the action stands where the fault became certain
-pub stopped_there : (stands faulty : List ℕ → Type 0) (text : List ℕ → List ℕ) (limit : ℕ) (left_old left_new start held : Option (List ℕ)) (pending : List ℕ)
-    → HasPumped stands faulty text limit left_old left_new start held pending FaultFound → HasStopped stands faulty limit left_old left_new
-stopped_there stands faulty text limit left_old left_new start held pending pumped = record {
+pub stopped_there : (stands faulty : List ℕ → Type 0) (text : List ℕ → List ℕ) (limit : ℕ) (left_old left_new start held : Option (List ℕ)) (pending recent : List ℕ)
+    → HasPumped stands faulty text limit left_old left_new start held pending recent FaultFound → HasStopped stands faulty limit left_old left_new
+stopped_there stands faulty text limit left_old left_new start held pending recent pumped = record {
   bytes = pumped.seen ++ pumped.extra;
   seen = pumped.seen;
   rest = take (limit - length pumped.seen) pumped.extra;

@@ -1,9 +1,9 @@
-use Rattle.std.specs.Prelude.{◌≡◌, ℕ, List, [], ◌++◌}
+use Rattle.std.specs.Prelude.{◌≡◌, ℕ, List, [], ◌++◌, length}
 use Rattle.std.specs.declared.option.Option.{Option}
 use Rattle.trace_io.specs.Bytes.{AppendsPrefix, TakesFront}
 use Rattle.trace_stream.specs.Laws.{IsCertainAt}
-use Rattle.trace_stream.specs.declared.feeding.Fed.{Fed}
-use Rattle.trace_stream.specs.declared.feeding.Fed.TheVariants.{All, FaultFound, WriteFailed}
+use Rattle.trace_stream.specs.declared.feeding.FeedEnd.{FeedEnd}
+use Rattle.trace_stream.specs.declared.feeding.FeedEnd.TheVariants.{All, FaultFound, WriteFailed}
 
 -- after these bytes, which have no fault, their text is in the output but for what is pending
 pub record StandsAfter (stands faulty : List ℕ → Type 0) (text : List ℕ → List ℕ) (start held : Option (List ℕ)) (pending seen : List ℕ) : Type 0 where
@@ -18,14 +18,15 @@ pub record StopsAfter (stands faulty : List ℕ → Type 0) (text : List ℕ →
   pub written : TakesFront start held (text seen) pending
 
 -- how the action, the outlet and the output stand after a front of a piece, by the way in which its feeding ended
-abbrev pub FedOutcome : (List ℕ → Type 0) → (List ℕ → Type 0) → (List ℕ → List ℕ) → Option (List ℕ) → Option (List ℕ) → List ℕ → List ℕ → List ℕ → Fed → Type 0
+abbrev pub FedOutcome : (List ℕ → Type 0) → (List ℕ → Type 0) → (List ℕ → List ℕ) → Option (List ℕ) → Option (List ℕ) → List ℕ → List ℕ → List ℕ → FeedEnd → Type 0
 FedOutcome stands faulty text start held pending seen rest All = StandsAfter stands faulty text start held pending seen × (rest ≡ [])
 FedOutcome stands faulty text start held pending seen rest FaultFound = StopsAfter stands faulty text start held pending seen
 FedOutcome stands faulty text start held pending seen rest WriteFailed = AppendsPrefix start held (text seen)
 
--- a front of the piece was fed, after the bytes seen
-pub record HasFed (stands faulty : List ℕ → Type 0) (text : List ℕ → List ℕ) (start held : Option (List ℕ)) (pending seen piece : List ℕ) (result : Fed) : Type 0 where
+-- after the bytes seen a front of the piece was fed, of so many bytes
+pub record HasFed (stands faulty : List ℕ → Type 0) (text : List ℕ → List ℕ) (start held : Option (List ℕ)) (pending seen piece : List ℕ) (count : ℕ) (end : FeedEnd) : Type 0 where
   pub fed : List ℕ
   pub rest : List ℕ
   pub parts : piece ≡ fed ++ rest
-  pub outcome : FedOutcome stands faulty text start held pending (seen ++ fed) rest result
+  pub counted : count ≡ length fed
+  pub outcome : FedOutcome stands faulty text start held pending (seen ++ fed) rest end

@@ -1,6 +1,7 @@
 use Rattle.std.specs.Prelude.{◌≡◌, ℕ, ◌+◌, ◌<◌, ◌≤◌, List, ◌++◌, length, take}
 use Rattle.std.specs.declared.option.Option.{Option}
 use Rattle.std.specs.Io.KnownBytes.{Appends, Consumes, IsAtEnd}
+use Rattle.circular_buffer.specs.Buffer.{keep_last}
 use Rattle.trace_stream.specs.Laws.{GrowsOnly, IsCertainAt}
 use Rattle.trace_stream.specs.declared.serving.Outcome.{Outcome}
 use Rattle.trace_stream.specs.declared.serving.Outcome.TheVariants.{AtEnd, Stopped, ReadFailed, WriteFailed, OverLimit}
@@ -13,27 +14,29 @@ pub record StopsWithin (faulty : List ℕ → Type 0) (bytes : List ℕ) : Type 
   pub certain : IsCertainAt faulty seen
   pub broken : faulty bytes
 
--- what the bytes that were read are, and what went out for them, by the outcome
-abbrev pub ServedBy : (List ℕ → Type 0) → (List ℕ → List ℕ) → (List ℕ → List ℕ) → ℕ → Outcome → List ℕ → List ℕ → Type 0
-ServedBy faulty text ending limit AtEnd bytes out = (faulty bytes → ⊥) × (length bytes ≤ limit) × (out ≡ text bytes ++ ending bytes)
-ServedBy faulty text ending limit Stopped bytes out = StopsWithin faulty (take limit bytes) × (out ≡ text (take limit bytes) ++ ending (take limit bytes))
-ServedBy faulty text ending limit ReadFailed bytes out = (faulty bytes → ⊥) × (length bytes ≤ limit) × (out ≡ text bytes)
-ServedBy faulty text ending limit WriteFailed bytes out = GrowsOnly out (text (take limit bytes) ++ ending (take limit bytes))
-ServedBy faulty text ending limit OverLimit bytes out = (faulty (take limit bytes) → ⊥) × (limit < length bytes) × (out ≡ text (take limit bytes))
+-- what the bytes that were read are, and what went out for them, by the outcome; at a stop the recent
+-- bytes are the last sixteen up to the one at which the fault became certain
+abbrev pub ServedBy : (List ℕ → Type 0) → (List ℕ → List ℕ) → (List ℕ → List ℕ) → ℕ → Outcome → List ℕ → List ℕ → List ℕ → Type 0
+ServedBy faulty text ending limit AtEnd bytes out recent = (faulty bytes → ⊥) × (length bytes ≤ limit) × (out ≡ text bytes ++ ending bytes)
+ServedBy faulty text ending limit Stopped bytes out recent = (stop : StopsWithin faulty (take limit bytes)) × (out ≡ text (take limit bytes) ++ ending (take limit bytes)) × (recent ≡ keep_last 16 stop.seen)
+ServedBy faulty text ending limit ReadFailed bytes out recent = (faulty bytes → ⊥) × (length bytes ≤ limit) × (out ≡ text bytes)
+ServedBy faulty text ending limit WriteFailed bytes out recent = GrowsOnly out (text (take limit bytes) ++ ending (take limit bytes))
+ServedBy faulty text ending limit OverLimit bytes out recent = (faulty (take limit bytes) → ⊥) × (limit < length bytes) × (out ≡ text (take limit bytes))
 
 -- where all was read the input is at its end
 abbrev pub EndsAt : Option (List ℕ) → Outcome → Type 0
 EndsAt left AtEnd = IsAtEnd left
 EndsAt left _ = Unit {0}
 
--- the bytes are those that the input lost, at most one past the limit, and out is what the output gained
-pub record HasServed (faulty : List ℕ → Type 0) (text ending : List ℕ → List ℕ) (limit : ℕ) (left_old left_new held_old held_new : Option (List ℕ)) (result : Outcome) : Type 0 where
+-- the bytes are those that the input lost, at most one past the limit, out is what the output gained, and
+-- recent is what the ring keeps after the run
+pub record HasServed (faulty : List ℕ → Type 0) (text ending : List ℕ → List ℕ) (limit : ℕ) (left_old left_new held_old held_new : Option (List ℕ)) (recent : List ℕ) (result : Outcome) : Type 0 where
   pub bytes : List ℕ
   pub out : List ℕ
   pub lost : Consumes left_old left_new bytes
   pub gained : Appends held_old held_new out
   pub at_most : length bytes ≤ limit + 1
-  pub outcome : ServedBy faulty text ending limit result bytes out
+  pub outcome : ServedBy faulty text ending limit result bytes out recent
   pub ended : EndsAt left_new result
 
 -- the input lost these bytes, and this holds of those up to the one at which the fault became certain

@@ -1,21 +1,27 @@
-ghost use Rattle.std.specs.Prelude.{◌≡◌, ℕ, List, [], length, IfOk};
+ghost use Rattle.std.specs.Prelude.{◌≡◌, ℕ, ◌≤◌, List, [], length, take, IfOk};
 
 use crate::outlet::Outlet;
+use crate::recent::{RECENT_ROOM, Recent};
 use std::alloc::{AllocError, Global};
 use std::marker::Model;
 
-/// All the memory of a run: a read buffer of 4,096 bytes and an outlet. Contracts see the bytes that
-/// are still to be written.
+/// All the memory of a run: a read buffer of 4,096 bytes, an outlet and the last bytes that were fed.
+/// Contracts see the bytes that are still to be written, as `pending`, and those last bytes, as
+/// `recent`.
 #[derive(Drop)]
 pub struct Buffers {
     pub(crate) input: Vec<u8>,
     pub(crate) outlet: Outlet,
+    pub(crate) recent: Recent,
 }
 
 impl Model for Buffers {
-    ghost Value = { List ℕ };
+    ghost use Rattle.std.specs.Prelude.{◌≡◌, length};
+    ghost use Rattle.trace_stream.specs.BuffersState.{BuffersState};
 
-    ghost view = { λ b. b.outlet };
+    ghost Value = { BuffersState };
+
+    ghost view = { λ b. record { pending = b.outlet; recent = b.recent } };
 
     ghost invariant = { λ b. length b.input.items ≡ 4096 };
 }
@@ -23,10 +29,25 @@ impl Model for Buffers {
 impl Buffers {
     /// Takes all the memory of a run: nothing after it allocates.
     pub fn open(alloc: Global) -> Result<Buffers, AllocError>
-        ensures { IfOk result (λ b. b ≡ []) }
+        ensures { IfOk result (λ b. (b.pending ≡ []) × (b.recent ≡ [])) }
     {
         let input = vec![in alloc; 0; 4096]?;
         let outlet = Outlet::open(alloc)?;
-        Ok(Buffers { input, outlet })
+        let recent = Recent::open(alloc)?;
+        Ok(Buffers {
+            input,
+            outlet,
+            recent,
+        })
+    }
+
+    /// Copies the last bytes that were fed, at most `RECENT_ROOM`, to the front of `into`, from the
+    /// oldest to the newest, and answers how many they are.
+    pub fn recent(&self, into: &mut [u8; RECENT_ROOM]) -> usize
+        ensures count { result ≡ length self.now.recent }
+        ensures bound { result ≤ RECENT_ROOM }
+        ensures bytes { take result into.new ≡ self.now.recent }
+    {
+        self.recent.copy_to(into)
     }
 }

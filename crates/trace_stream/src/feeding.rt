@@ -10,10 +10,19 @@ use trace_io::{Failed, Sink};
 
 /// How the feeding of a piece ended.
 #[derive(Clone, Copy, Debug, PartialEq, Eq)]
-pub enum Fed {
+pub enum FeedEnd {
     All,
     FaultFound,
     WriteFailed,
+}
+
+/// What was fed of a piece.
+#[derive(Clone, Copy, Debug, PartialEq, Eq)]
+pub struct Fed {
+    /// How many of the piece's first bytes were fed: at a fault those up to the one at which it became
+    /// certain.
+    pub bytes: usize,
+    pub end: FeedEnd,
 }
 
 /// Writes what is pending where the outlet has less room than an action may need.
@@ -40,26 +49,38 @@ fn feed_piece<A: Action, O: Sink>(
     requires live { A.live action.old }
     requires count { A.taken action.old + length piece.now < 2 ^ 40 }
     ensures same { A.plan action.new ≡ A.plan action.old }
-    ensures live { result ≡ Fed.All → A.live action.new }
-    ensures count { result ≡ Fed.All → A.taken action.new ≡ A.taken action.old + length piece.now }
+    ensures live { result.end ≡ FeedEnd.All → A.live action.new }
+    ensures count { result.end ≡ FeedEnd.All → A.taken action.new ≡ A.taken action.old + length piece.now }
     ensures fed { (start : Option (List ℕ)) (seen : List ℕ) (p : A.Plan) → A.plan action.old ≡ p →
         StandsAfter (A.stands action.old) (A.faulty p) (A.text p) start (O.held output.old) outlet.old seen →
-        HasFed (A.stands action.new) (A.faulty p) (A.text p) start (O.held output.new) outlet.new seen piece.now result }
+        HasFed (A.stands action.new) (A.faulty p) (A.text p) start (O.held output.new) outlet.new seen piece.now result.bytes result.end }
+    ensures front { result.bytes ≤ length piece.now }
     ensures later { O.faults output.old ≤ O.faults output.new }
-    ensures cause { result ≡ Fed.WriteFailed → Rose (O.faults output.old) (O.faults output.new) }
+    ensures cause { result.end ≡ FeedEnd.WriteFailed → Rose (O.faults output.old) (O.faults output.new) }
 {
     let mut rest = piece;
     while !rest.is_empty() {
         if make_room(outlet, output).is_err() {
-            return Fed::WriteFailed;
+            return Fed {
+                bytes: piece.len() - rest.len(),
+                end: FeedEnd::WriteFailed,
+            };
         }
         let taken = action.feed(rest, outlet);
         match taken.flow {
             Flow::On => rest = &rest[taken.bytes..],
-            Flow::Stopped => return Fed::FaultFound,
+            Flow::Stopped => {
+                return Fed {
+                    bytes: piece.len() - rest.len() + taken.bytes,
+                    end: FeedEnd::FaultFound,
+                };
+            }
         }
     }
-    Fed::All
+    Fed {
+        bytes: piece.len(),
+        end: FeedEnd::All,
+    }
 }
 
 /// Feeds a piece to the action and writes all its text. At a fault the last of the text is left pending,
@@ -73,21 +94,25 @@ pub fn feed_and_write<A: Action, O: Sink>(
     requires live { A.live action.old }
     requires count { A.taken action.old + length piece.now < 2 ^ 40 }
     ensures same { A.plan action.new ≡ A.plan action.old }
-    ensures live { result ≡ Fed.All → A.live action.new }
-    ensures count { result ≡ Fed.All → A.taken action.new ≡ A.taken action.old + length piece.now }
+    ensures live { result.end ≡ FeedEnd.All → A.live action.new }
+    ensures count { result.end ≡ FeedEnd.All → A.taken action.new ≡ A.taken action.old + length piece.now }
     ensures fed { (start : Option (List ℕ)) (seen : List ℕ) (p : A.Plan) → A.plan action.old ≡ p →
         StandsAfter (A.stands action.old) (A.faulty p) (A.text p) start (O.held output.old) outlet.old seen →
-        HasFed (A.stands action.new) (A.faulty p) (A.text p) start (O.held output.new) outlet.new seen piece.now result }
-    ensures written { result ≡ Fed.All → outlet.new ≡ [] }
+        HasFed (A.stands action.new) (A.faulty p) (A.text p) start (O.held output.new) outlet.new seen piece.now result.bytes result.end }
+    ensures written { result.end ≡ FeedEnd.All → outlet.new ≡ [] }
+    ensures front { result.bytes ≤ length piece.now }
     ensures later { O.faults output.old ≤ O.faults output.new }
-    ensures cause { result ≡ Fed.WriteFailed → Rose (O.faults output.old) (O.faults output.new) }
+    ensures cause { result.end ≡ FeedEnd.WriteFailed → Rose (O.faults output.old) (O.faults output.new) }
 {
-    match feed_piece(action, outlet, output, piece) {
-        Fed::All => match outlet.flush(output) {
-            Ok(()) => Fed::All,
-            Err(_) => Fed::WriteFailed,
+    let fed = feed_piece(action, outlet, output, piece);
+    match fed.end {
+        FeedEnd::All => match outlet.flush(output) {
+            Ok(()) => fed,
+            Err(_) => Fed {
+                bytes: fed.bytes,
+                end: FeedEnd::WriteFailed,
+            },
         },
-        Fed::FaultFound => Fed::FaultFound,
-        Fed::WriteFailed => Fed::WriteFailed,
+        FeedEnd::FaultFound | FeedEnd::WriteFailed => fed,
     }
 }

@@ -10,6 +10,7 @@ mod buffers;
 mod feeding;
 mod outlet;
 mod pumping;
+mod recent;
 mod serving;
 #[cfg(test)]
 mod tests;
@@ -17,4 +18,5 @@ mod tests;
 pub use action::{ACTION_ROOM, Action, Flow, Taken};
 pub use buffers::Buffers;
 pub use outlet::{OUTLET_ROOM, Outlet};
+pub use recent::RECENT_ROOM;
 pub use serving::{Outcome, serve};

@@ -5,8 +5,9 @@ ghost use Rattle.trace_io.specs.Causes.{HasCause, Rose};
 ghost use Rattle.trace_stream.specs.Pumped.{HasPumped};
 
 use crate::action::Action;
-use crate::feeding::{Fed, feed_and_write};
+use crate::feeding::{FeedEnd, feed_and_write};
 use crate::outlet::Outlet;
+use crate::recent::Recent;
 use trace_io::{Failed, Sink, Source};
 
 /// How the reading of a whole input ended.
@@ -32,11 +33,12 @@ fn read_next<I: Source>(input: &mut I, buffer: &mut [u8], _outlet: &Outlet) -> R
 }
 
 /// Reads the input to its end, a fault or the limit, and writes the text of what was read. Where a fault
-/// was found its text may still be pending.
+/// was found its text may still be pending. The ring keeps the last of the bytes that were fed.
 pub fn pump<A: Action, I: Source, O: Sink>(
     action: &mut A,
     buffer: &mut [u8],
     outlet: &mut Outlet,
+    recent: &mut Recent,
     limit: u64,
     input: &mut I,
     output: &mut O,
@@ -45,11 +47,12 @@ pub fn pump<A: Action, I: Source, O: Sink>(
     requires fresh { A.stands action.old [] }
     requires count { A.taken action.old ≡ 0 }
     requires pending { outlet.old ≡ [] }
+    requires recent { recent.old ≡ [] }
     requires some { 0 < length buffer.old }
     requires small { limit < 2 ^ 40 }
     ensures same { A.plan action.new ≡ A.plan action.old }
     ensures pumped { HasPumped (A.stands action.new) (A.faulty (A.plan action.old)) (A.text (A.plan action.old)) limit
-        (I.left input.old) (I.left input.new) (O.held output.old) (O.held output.new) outlet.new result }
+        (I.left input.old) (I.left input.new) (O.held output.old) (O.held output.new) outlet.new recent.new result }
     ensures read_later { I.faults input.old ≤ I.faults input.new }
     ensures write_later { O.faults output.old ≤ O.faults output.new }
     ensures read_cause { result ≡ Ending.ReadFailed → Rose (I.faults input.old) (I.faults input.new) }
@@ -68,10 +71,12 @@ pub fn pump<A: Action, I: Source, O: Sink>(
             return Ending::AtEnd;
         }
         let taken = got.min(room as usize);
-        match feed_and_write(action, outlet, output, &buffer[..taken]) {
-            Fed::All => {}
-            Fed::FaultFound => return Ending::FaultFound,
-            Fed::WriteFailed => return Ending::WriteFailed,
+        let fed = feed_and_write(action, outlet, output, &buffer[..taken]);
+        recent.keep(&buffer[..fed.bytes]);
+        match fed.end {
+            FeedEnd::All => {}
+            FeedEnd::FaultFound => return Ending::FaultFound,
+            FeedEnd::WriteFailed => return Ending::WriteFailed,
         }
         if taken < got {
             return Ending::OverLimit;

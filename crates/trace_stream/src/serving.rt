@@ -10,6 +10,7 @@ use crate::buffers::Buffers;
 use crate::feeding::make_room;
 use crate::outlet::Outlet;
 use crate::pumping::{Ending, pump};
+use crate::recent::Recent;
 use trace_io::{Failed, Sink, Source};
 
 /// Why a run ended. A failed write comes before all others.
@@ -47,6 +48,7 @@ fn pump_and_finish<A: Action, I: Source, O: Sink>(
     action: &mut A,
     buffer: &mut [u8],
     outlet: &mut Outlet,
+    recent: &mut Recent,
     limit: u64,
     input: &mut I,
     output: &mut O,
@@ -55,10 +57,11 @@ fn pump_and_finish<A: Action, I: Source, O: Sink>(
     requires fresh { A.stands action.old [] }
     requires count { A.taken action.old ≡ 0 }
     requires pending { outlet.old ≡ [] }
+    requires recent { recent.old ≡ [] }
     requires some { 0 < length buffer.old }
     requires small { limit < 2 ^ 40 }
     ensures served { HasServed (A.faulty (A.plan action.old)) (A.text (A.plan action.old)) (A.ending (A.plan action.old)) limit
-        (I.left input.old) (I.left input.new) (O.held output.old) (O.held output.new) result }
+        (I.left input.old) (I.left input.new) (O.held output.old) (O.held output.new) recent.new result }
     ensures same { A.plan action.new ≡ A.plan action.old }
     ensures stopped { result ≡ Outcome.Stopped → HasStopped (A.stands action.new) (A.faulty (A.plan action.old)) limit (I.left input.old) (I.left input.new) }
     ensures written { result ≢ Outcome.WriteFailed → outlet.new ≡ [] }
@@ -67,7 +70,7 @@ fn pump_and_finish<A: Action, I: Source, O: Sink>(
     ensures read_cause { result ≡ Outcome.ReadFailed → Rose (I.faults input.old) (I.faults input.new) }
     ensures write_cause { result ≡ Outcome.WriteFailed → Rose (O.faults output.old) (O.faults output.new) }
 {
-    match pump(action, buffer, outlet, limit, input, output) {
+    match pump(action, buffer, outlet, recent, limit, input, output) {
         Ending::AtEnd => match finish(action, outlet, output) {
             Ok(()) => Outcome::AtEnd,
             Err(_) => Outcome::WriteFailed,
@@ -85,7 +88,8 @@ fn pump_and_finish<A: Action, I: Source, O: Sink>(
 /// Serves the input by the action, from its first byte to its end, a fault or the limit of so many
 /// bytes, and writes what the action writes for it. It reads at most `limit` + 1 bytes.
 ///
-/// Before each read of the input all text so far is written.
+/// Before each read of the input all text so far is written. At a stop the recent bytes of the buffers
+/// are the last up to the one at which the fault became certain.
 pub fn serve<A: Action, I: Source, O: Sink>(
     buffers: &mut Buffers,
     action: &mut A,
@@ -93,16 +97,17 @@ pub fn serve<A: Action, I: Source, O: Sink>(
     input: &mut I,
     output: &mut O,
 ) -> Outcome
-    requires pending { buffers.old ≡ [] }
+    requires pending { buffers.old.pending ≡ [] }
+    requires recent { buffers.old.recent ≡ [] }
     requires live { A.live action.old }
     requires fresh { A.stands action.old [] }
     requires count { A.taken action.old ≡ 0 }
     requires small { limit < 2 ^ 40 }
     ensures served { HasServed (A.faulty (A.plan action.old)) (A.text (A.plan action.old)) (A.ending (A.plan action.old)) limit
-        (I.left input.old) (I.left input.new) (O.held output.old) (O.held output.new) result }
+        (I.left input.old) (I.left input.new) (O.held output.old) (O.held output.new) buffers.new.recent result }
     ensures same { A.plan action.new ≡ A.plan action.old }
     ensures stopped { result ≡ Outcome.Stopped → HasStopped (A.stands action.new) (A.faulty (A.plan action.old)) limit (I.left input.old) (I.left input.new) }
-    ensures written { result ≢ Outcome.WriteFailed → buffers.new ≡ [] }
+    ensures written { result ≢ Outcome.WriteFailed → buffers.new.pending ≡ [] }
     ensures read_later { I.faults input.old ≤ I.faults input.new }
     ensures write_later { O.faults output.old ≤ O.faults output.new }
     ensures read_cause { result ≡ Outcome.ReadFailed → Rose (I.faults input.old) (I.faults input.new) }
@@ -112,6 +117,7 @@ pub fn serve<A: Action, I: Source, O: Sink>(
         action,
         &mut buffers.input,
         &mut buffers.outlet,
+        &mut buffers.recent,
         limit,
         input,
         output,

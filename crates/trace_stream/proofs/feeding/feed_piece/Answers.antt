@@ -10,6 +10,7 @@ loop-rest-init g c = record {
   same = refl;
   live = c.requires.live;
   count = refl;
+  within = omega arith;
   feeding = λ start seen p e after. feeding_none _ _ _ _ _ _ _ _ after;
   later = omega arith;
 }
@@ -24,6 +25,7 @@ loop-rest-preserved g c = record {
   same = c.feed-taken.ensures.same ∙ c.loop-rest.invariant.same;
   live = c.feed-taken.ensures.live c.in-On.is;
   count = simp (take_rest, length-drop) (omega (arith, c.feed-taken.ensures.count, c.loop-rest.invariant.count, c.feed-taken.ensures.front.at_most_all));
+  within = simp (take_rest, length-drop) (omega (arith, c.loop-rest.invariant.within));
   feeding = λ start seen p e after.
       let so_far = c.loop-rest.invariant.feeding start seen p e after in
       let room : TakesFront (g.O.Sink.held c.loop-rest.output) (g.O.Sink.held c.make_room.new.output) c.loop-rest.outlet c.make_room.new.outlet = search rules in
@@ -37,7 +39,7 @@ returns-in-Stopped-clause-fed g c = λ start seen p e after.
     let so_far = c.loop-rest.invariant.feeding start seen p e after in
     let room : TakesFront (g.O.Sink.held c.loop-rest.output) (g.O.Sink.held c.make_room.new.output) c.loop-rest.outlet c.make_room.new.outlet = search rules in
     let taken = taken_at _ g.A.Action.faulty g.A.Action.text _ p _ _ _ _ _ _ (c.loop-rest.invariant.same ∙ e) c.in-Stopped.is (c.feed-taken.ensures.fed _ so_far.after.read) in
-    feeding_stopped _ _ _ _ _ _ _ _ _ _ _ _ _ _ so_far room taken
+    feeding_stopped _ _ _ _ _ _ _ _ _ _ _ _ _ _ so_far room taken c.feed-taken.ensures.front.at_most_all
 
 empty_from_test : (n : ℕ) → (n == 0) ≡ true → n ≡ 0
 empty_from_test n h = grind (arith, nat_tests)

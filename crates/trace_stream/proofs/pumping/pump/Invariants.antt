@@ -9,7 +9,7 @@ invariant-loop-got g l = record {
   taken : g.A.Action.taken l.action ≡ l.count;
   empty : l.outlet ≡ [];
   pumping : IsPumping (g.A.Action.stands l.action) (g.A.Action.faulty (g.A.Action.plan l.initial.action)) (g.A.Action.text (g.A.Action.plan l.initial.action))
-      (g.I.Source.left l.initial.input) (g.I.Source.left l.input) (g.O.Sink.held l.initial.output) (g.O.Sink.held l.output) l.outlet l.count;
+      (g.I.Source.left l.initial.input) (g.I.Source.left l.input) (g.O.Sink.held l.initial.output) (g.O.Sink.held l.output) l.outlet l.recent l.count;
   within : l.count ≤ l.limit;
   read_later : g.I.Source.faults l.initial.input ≤ g.I.Source.faults l.input;
   write_later : g.O.Sink.faults l.initial.output ≤ g.O.Sink.faults l.output;

@@ -1,0 +1,27 @@
+use Rattle.std.proofs.Common.{◌≡◌, ℕ, ◌+◌, ◌-◌, ◌≤◌, List, [], ◌++◌, ap, ◌∙◌, sym, length, length-append, length-drop, take, drop, drop-drop, append-nil, arith}
+use Rattle.std.proofs.lemmas.List.{drop-append-le, take_all}
+use Rattle.std.proofs.Math.Seq.{take-append_seam}
+use Rattle.circular_buffer.specs.Buffer.{keep_last}
+
+-- the last of the last bytes and more are the last of all
+keep_last_again : (n : ℕ) (xs ys : List ℕ) → keep_last n (keep_last n xs ++ ys) ≡ keep_last n (xs ++ ys)
+keep_last_again n xs ys =
+    let cut = length xs - n in
+    let kept = drop cut xs in
+    let rest = length (kept ++ ys) - n in
+    let front : kept ++ ys ≡ drop cut (xs ++ ys) = sym (drop-append-le cut xs ys (omega arith)) in
+    let all : cut + rest ≡ length (xs ++ ys) - n = omega (arith, length-append kept ys, length-append xs ys, length-drop cut xs) in
+    ap (drop rest) front ∙ drop-drop rest cut (xs ++ ys) ∙ ap (λ k. drop k (xs ++ ys)) all
+
+-- the ring goes on by what was fed
+pub kept_more : (recent recent' seen front fed : List ℕ) → recent ≡ keep_last 16 seen → recent' ≡ keep_last 16 (recent ++ front) → front ≡ fed → recent' ≡ keep_last 16 (seen ++ fed)
+kept_more recent recent' seen front fed was now same =
+    now ∙ ap (λ l. keep_last 16 (recent ++ l)) same ∙ ap (λ l. keep_last 16 (l ++ fed)) was ∙ keep_last_again 16 seen fed
+
+-- so many bytes of the piece are those that were fed
+pub kept_front : (piece fed rest : List ℕ) (count : ℕ) → count ≡ length fed → piece ≡ fed ++ rest → take count piece ≡ fed
+kept_front piece fed rest count counted parts = ap (λ n. take n piece) counted ∙ ap (take (length fed)) parts ∙ take-append_seam fed rest
+
+-- and all of it, where nothing is left
+pub kept_piece : (piece fed rest : List ℕ) (count : ℕ) → count ≡ length fed → piece ≡ fed ++ rest → rest ≡ [] → take count piece ≡ piece
+kept_piece piece fed rest count counted parts none = kept_front piece fed rest count counted parts ∙ sym (parts ∙ ap (λ l. fed ++ l) none ∙ append-nil fed)
