@@ -1,5 +1,5 @@
 -- One more byte of an unfinished packet: the grammar's rule, which keeps a state.
-use Rattle.std.specs.Prelude.{◌≡◌, ◌<◌, ℕ, ◌+◌, ◌*◌, ◌^◌, ◌/◌, ◌%◌, Bool, true, false, ◌==◌, ◌&&◌, nat_lt, nat_le, if◌then◌else◌}
+use Rattle.std.specs.Prelude.{◌≡◌, ◌<◌, ◌≤◌, ℕ, ◌+◌, ◌*◌, ◌^◌, ◌/◌, ◌%◌, Bool, true, false, ◌==◌, ◌&&◌, nat_lt, nat_le, if◌then◌else◌}
 use Rattle.trace_values.specs.declared.fault.Reason.TheVariants.{ReservedHeader, BadItmSync, LongStamp, ShortStamp}
 use Rattle.trace_values.specs.declared.next.Next.{Next}
 use Rattle.trace_values.specs.declared.next.Next.TheVariants.{Go, Stop, Fail}
@@ -116,3 +116,9 @@ FitsLast (Source hardware number size) value = value < 2 ^ 32
 FitsLast (LocalLong lateness) value = value < 2 ^ 28
 FitsLast (Extended more dwt low) value = (low < 8) × (value < 2 ^ 29)
 FitsLast class value = Unit {0}
+
+-- but for a run of bytes 00, no more than six bytes are kept
+abbrev pub HoldsFew : Partial → Type 0
+HoldsFew Header = Unit {0}
+HoldsFew (Zeros count) = Unit {0}
+HoldsFew (Payload class count value) = count_of (Payload class count value) ≤ 6
