@@ -138,8 +138,8 @@ mod tests {
 
     fn source(number: u8, hardware: bool, low: u8) -> Class {
         let size = match low {
-            1 => Size::One,
-            2 => Size::Two,
+            0b01 => Size::One,
+            0b10 => Size::Two,
             _ => Size::Four,
         };
         Class::Source {

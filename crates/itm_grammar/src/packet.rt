@@ -8,6 +8,23 @@ pub enum Size {
     Four,
 }
 
+impl Size {
+    ghost use Rattle.std.specs.Prelude.{◌≡◌, ◌≤◌};
+    ghost use Rattle.itm_grammar.specs.Spelling.{byte_count};
+
+    /// How many bytes that is.
+    pub fn byte_count(self) -> u8
+        ensures count { result ≡ byte_count self }
+        ensures few { result ≤ 4 }
+    {
+        match self {
+            Size::One => 1,
+            Size::Two => 2,
+            Size::Four => 4,
+        }
+    }
+}
+
 /// What a local timestamp was late by: it is exact, the timestamp itself was delayed, the packet that it
 /// belongs to was delayed, or both were.
 #[derive(Clone, Copy, Debug, PartialEq, Eq, Drop)]
