@@ -1,6 +1,6 @@
 -- One more payload byte leaves a number that fits.
-use Rattle.std.proofs.Common.{◌≡◌, ℕ, zero, suc, ◌+◌, ◌*◌, ◌^◌, ◌%◌, ◌<◌, ◌≤◌, Bool, true, false, cond, refl, subst, sym, arith, ◌⊎◌, inl, inr}
-use Rattle.std.specs.Prelude.{nat_lt, nat_le, ◌==◌, ◌&&◌}
+use Rattle.std.proofs.Common.{◌≡◌, ℕ, zero, suc, ◌+◌, ◌*◌, ◌^◌, ◌%◌, ◌<◌, ◌≤◌, true, false, cond, refl, subst, arith, ◌⊎◌, inl, inr}
+use Rattle.std.specs.Prelude.{nat_lt, ◌==◌, ◌&&◌}
 use Rattle.std.proofs.lemmas.Bool.Decides.{nat_tests}
 use Rattle.itm_grammar.specs.declared.packet.Size.{Size}
 use Rattle.itm_grammar.specs.declared.packet.Size.TheVariants.{One, Two, Four}
@@ -70,11 +70,13 @@ fits_last (LocalLong lateness) n v b h p s =
 fits_last First n v b h p s = tt
 fits_last Second n v b h p s = tt
 fits_last (Extended true dwt low) n v b h p s =
-    let k = parts n 4 v (128 ^ n) s in
-    (low_fits low p, elim (extension_digit n b h) [
-      | inl m ↦ extension_fits n v b (digit (Extended true dwt low) n b) k.0 k.1 h (inl m.1)
-      | inr m ↦ extension_fits n v b (digit (Extended true dwt low) n b) k.0 k.1 h (inr m)
-    ])
+    let k = parts n 4 v (128 ^ n) s in (
+      low_fits low p,
+      elim (extension_digit n b h) [
+        | inl m ↦ extension_fits n v b (digit (Extended true dwt low) n b) k.0 k.1 h (inl m.1)
+        | inr m ↦ extension_fits n v b (digit (Extended true dwt low) n b) k.0 k.1 h (inr m)
+      ],
+    )
 fits_last (Extended false dwt low) n v b h p s = absurd (omega (arith, parts n 0 v (128 ^ n) s))
 fits_last Reserved n v b h p s = tt
 

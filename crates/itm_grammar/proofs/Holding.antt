@@ -1,14 +1,12 @@
 -- But for a run of bytes 00, a state holds few bytes.
-use Rattle.std.proofs.Common.{◌≡◌, ℕ, ◌+◌, ◌<◌, ◌≤◌, List, [], ◌∷◌, length, Bool, true, false, subst, arith}
+use Rattle.std.proofs.Common.{◌≡◌, ℕ, ◌≤◌, List, [], ◌∷◌, length, true, false, subst, arith}
 use Rattle.trace_values.specs.Walk.{Within, walk}
-use Rattle.itm_grammar.specs.declared.packet.Size.{Size}
 use Rattle.itm_grammar.specs.declared.packet.Size.TheVariants.{One, Two, Four}
 use Rattle.itm_grammar.specs.declared.header.Class.{Class}
 use Rattle.itm_grammar.specs.declared.header.Class.TheVariants.{Zero, Overflow as Overflowed, Source, LocalShort, LocalLong, GlobalFirst as First, GlobalSecond as Second, Extension as Extended, Reserved}
 use Rattle.itm_grammar.specs.declared.partial.Partial.{Partial}
 use Rattle.itm_grammar.specs.declared.partial.Partial.TheVariants.{Header, Zeros, Payload}
 use Rattle.itm_grammar.specs.Header.{class_of}
-use Rattle.itm_grammar.specs.Spelling.{byte_count}
 use Rattle.itm_grammar.specs.Rule.{rule, most_bytes, HoldsFew}
 use Rattle.itm_grammar.proofs.Deciding.{Belongs, behind_header}
 

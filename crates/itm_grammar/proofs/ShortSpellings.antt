@@ -1,8 +1,8 @@
 -- The shortest spellings are spellings, and none is shorter; what bytes spell is proper.
-use Rattle.std.proofs.Common.{◌≡◌, ℕ, zero, suc, ◌+◌, ◌-◌, ◌*◌, ◌^◌, ◌/◌, ◌%◌, ◌<◌, ◌≤◌, List, [], ◌∷◌, ◌++◌, length, length-append, replicate, Bool, true, false, cond, refl, sym, ◌∙◌, ap, subst, ◌⊎◌, inl, inr, arith}
+use Rattle.std.proofs.Common.{◌≡◌, ℕ, zero, suc, ◌+◌, ◌*◌, ◌^◌, ◌/◌, ◌%◌, ◌<◌, ◌≤◌, List, [], ◌∷◌, length, length-append, replicate, Bool, true, false, cond, refl, sym, ◌∙◌, ap, subst, ◌⊎◌, inl, inr, arith}
 use Rattle.std.proofs.lemmas.List.{length-replicate}
 use Rattle.std.proofs.Math.Nat.{pow-suc}
-use Rattle.std.specs.Prelude.{nat_lt, nat_le, ◌==◌, ◌&&◌, All}
+use Rattle.std.specs.Prelude.{nat_lt, ◌&&◌, All}
 use Rattle.std.specs.List.{AllByRecursion as Each}
 use Rattle.std.proofs.lemmas.List.Elements.{All-from_recursion, recursion_from_All}
 use Rattle.std.proofs.lemmas.Bool.Decides.{nat_tests}
@@ -13,8 +13,8 @@ use Rattle.itm_grammar.specs.declared.packet.Lateness.TheVariants.{Exact, StampL
 use Rattle.itm_grammar.specs.declared.packet.ItmPacket.{ItmPacket}
 use Rattle.itm_grammar.specs.declared.packet.ItmPacket.TheVariants.{Sync, Overflow, Software, Hardware, Local, GlobalFirst, GlobalSecond, Extension}
 use Rattle.itm_grammar.specs.Spelling.{Spells, SpellsSource, byte_count, size_bits, late_bits, bit_of, number, groups, more_bit, IsContinued, IsExtended, extended}
-use Rattle.itm_grammar.specs.Proper.{IsProper, first_bits}
-use Rattle.itm_grammar.specs.Shortest.{bytes_of, groups_of, group_count, is_short, extension_bytes, extension_payload, short, shortest_len, HasShortest}
+use Rattle.itm_grammar.specs.Proper.{IsProper}
+use Rattle.itm_grammar.specs.Shortest.{bytes_of, groups_of, group_count, is_short, extension_bytes, short, shortest_len, HasShortest}
 use Rattle.itm_grammar.proofs.Deciding.{fits_within}
 
 abbrev AllBytes : List ℕ → Type 0
@@ -205,11 +205,11 @@ stamp_under (suc (suc (suc zero))) value change wrap h =
     let v : value < 2 ^ 26 = h.2 in
     (v, both change wrap v)
   where
-  both : (change wrap : Bool) → value < 2 ^ 26 → value + 2 ^ 26 * bit_of change + 2 ^ 27 * bit_of wrap < 128 ^ 4
-  both true true v = omega arith
-  both true false v = omega arith
-  both false true v = omega arith
-  both false false v = omega arith
+    both : (change wrap : Bool) → value < 2 ^ 26 → value + 2 ^ 26 * bit_of change + 2 ^ 27 * bit_of wrap < 128 ^ 4
+    both true true v = omega arith
+    both true false v = omega arith
+    both false true v = omega arith
+    both false false v = omega arith
 stamp_under (suc (suc (suc (suc n)))) value change wrap h = absurd (let k = h.1 in omega arith)
 
 first_least : (len value : ℕ) (change wrap : Bool) → IsProper (GlobalFirst len value change wrap) → Least (GlobalFirst len value change wrap) (short (GlobalFirst len value change wrap)) (1 + len)
@@ -292,11 +292,11 @@ extra_by high true e h =
       len = m.len;
     }
 extra_by high false e h = record {
-    value_is = omega arith;
-    proper = (omega arith, omega arith, omega arith, refl);
-    bytes = (omega arith, (omega arith, (omega arith, (omega arith, tt))));
-    len = sym (count_large high e);
-  }
+  value_is = omega arith;
+  proper = (omega arith, omega arith, omega arith, refl);
+  bytes = (omega arith, (omega arith, (omega arith, (omega arith, tt))));
+  len = sym (count_large high e);
+}
 
 extra_made : (high : ℕ) → high < 2 ^ 29 → Extra high (extension_bytes high)
 extra_made high h = extra_by high (nat_lt high (2 ^ 21)) refl h
@@ -332,8 +332,8 @@ extension_by dwt value true e h =
       least = λ r s. (let k : length r ≡ suc (length s.1) = ap length s.3 in omega arith);
     }
   where
-  small : (n : ℕ) → nat_lt n 8 ≡ true → n ≡ n % 8 + 8 * 0
-  small n e = let k : n < 8 = grind (arith, nat_tests) in omega arith
+    small : (n : ℕ) → nat_lt n 8 ≡ true → n ≡ n % 8 + 8 * 0
+    small n e = let k : n < 8 = grind (arith, nat_tests) in omega arith
 extension_by dwt value false e h =
     let x = extra_made (value / 8) (omega arith) in
     let p = extension_bytes (value / 8) in
@@ -346,20 +346,20 @@ extension_by dwt value false e h =
       bytes = (omega arith, x.bytes);
       len = omega arith;
       least = λ r s. (let k : length r ≡ suc (length s.1) = ap length s.3 in let a = s.2 in let w = s.5 in
-        let f = fewest_extended s.1 (value / 8) (omega arith) (large value e) in omega arith);
+          let f = fewest_extended s.1 (value / 8) (omega arith) (large value e) in omega arith);
     }
   where
-  large : (n : ℕ) → nat_lt n 8 ≡ false → 0 < n / 8
-  large n e = let k : 8 ≤ n = grind (arith, nat_tests) in omega arith
+    large : (n : ℕ) → nat_lt n 8 ≡ false → 0 < n / 8
+    large n e = let k : 8 ≤ n = grind (arith, nat_tests) in omega arith
 
 -- all of them
 least_all : (p : ItmPacket) → IsProper p → Least p (short p) (shortest_len p)
 least_all Sync h = record {
-    spells = (5, omega arith, refl);
-    bytes = (omega arith, (omega arith, (omega arith, (omega arith, (omega arith, (omega arith, tt))))));
-    len = refl;
-    least = λ r s. (let e = ap length s.2 in let k = s.1 in omega (arith, length-append {A = ℕ} (replicate s.0 0) (128 ∷ []), length-replicate {A = ℕ} s.0 0));
-  }
+  spells = (5, omega arith, refl);
+  bytes = (omega arith, (omega arith, (omega arith, (omega arith, (omega arith, (omega arith, tt))))));
+  len = refl;
+  least = λ r s. (let e = ap length s.2 in let k = s.1 in omega (arith, length-append {A = ℕ} (replicate s.0 0) (128 ∷ []), length-replicate {A = ℕ} s.0 0));
+}
 least_all Overflow h = record { spells = refl; bytes = (omega arith, tt); len = refl; least = λ r s. (let e = ap length s in omega arith) }
 least_all (Software port size value) h =
     let m = source_short 0 port size value (omega arith) h.0 h.1 in record { spells = m.spells; bytes = m.bytes; len = m.len; least = λ r s. m.least r s }

@@ -117,6 +117,12 @@ FitsLast (LocalLong lateness) value = value < 2 ^ 28
 FitsLast (Extended more dwt low) value = (low < 8) × (value < 2 ^ 29)
 FitsLast class value = Unit {0}
 
+-- and how many after a step
+abbrev pub held_after : Next Partial ItmPacket → ℕ
+held_after (Go partial) = count_of partial
+held_after (Stop packet) = 0
+held_after (Fail e) = 0
+
 -- but for a run of bytes 00, no more than six bytes are kept
 abbrev pub HoldsFew : Partial → Type 0
 HoldsFew Header = Unit {0}

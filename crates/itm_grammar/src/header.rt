@@ -28,7 +28,11 @@ pub enum Class {
     /// A second global timestamp, 4 or 6 bytes of which follow.
     GlobalSecond,
     /// An extension packet with these low bits of its value, 0 to 7. Up to 4 bytes follow where there are more.
-    Extension { more: bool, dwt: bool, low: u8 },
+    Extension {
+        more: bool,
+        dwt: bool,
+        low: u8,
+    },
     /// No packet.
     Reserved,
 }

@@ -2,7 +2,7 @@
 
 ghost use Rattle.std.specs.Prelude.{◌≡◌, ◌↔◌, IsTrue, ℕ, ◌+◌, ◌*◌, ◌^◌, ◌<◌, ◌≤◌, ◌%◌, true};
 ghost use Rattle.itm_grammar.specs.Header.{is_proper_class};
-ghost use Rattle.itm_grammar.specs.Rule.{rule, begin as begun, zeros_with as zeros_and, payload_with as payload_and, last as lasting, goes_on as going_on, source as sourced, first_stamp as first_stamped, second_stamp as second_stamped, digit, base_of, is_sound, is_sound_payload, IsSoundNext, FitsLast, count_of};
+ghost use Rattle.itm_grammar.specs.Rule.{rule, begin as begun, zeros_with as zeros_and, payload_with as payload_and, last as lasting, goes_on as going_on, source as sourced, first_stamp as first_stamped, second_stamp as second_stamped, digit, base_of, is_sound, is_sound_payload, IsSoundNext, FitsLast, count_of, held_after};
 
 use crate::header::{Class, classify};
 use crate::packet::{ItmPacket, Lateness, Size};
@@ -234,6 +234,7 @@ impl Partial {
         requires room { count_of self ≤ 2 ^ 60 }
         ensures next { result ≡ rule self byte }
         ensures sound { IsSoundNext result }
+        ensures held { held_after result ≤ count_of self + 1 }
     {
         match self {
             Partial::Header => begin(classify(byte)),

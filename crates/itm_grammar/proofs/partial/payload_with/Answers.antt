@@ -1,4 +1,4 @@
-use Rattle.std.proofs.Common.{◌≡◌, true, sym, subst, rules, arith, ◌+◌, ◌*◌, ◌^◌, ◌<◌}
+use Rattle.std.proofs.Common.{◌≡◌, true, sym, subst, arith, ◌+◌, ◌*◌, ◌^◌, ◌<◌}
 use Rattle.itm_grammar.specs.Rule.{digit, base_of, goes_on, is_sound_payload, FitsLast}
 use Rattle.itm_grammar.proofs.Fitting.{fits_last, sound_next, sound_whole}
 use Rattle.itm_grammar.proofs.partial.payload_with.Goals as goal

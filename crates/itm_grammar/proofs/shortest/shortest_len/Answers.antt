@@ -1,5 +1,4 @@
-use Rattle.std.proofs.Common.{◌≡◌, ◌∙◌, sym, subst, ◌≤◌, length}
-use Rattle.itm_grammar.specs.Shortest.{short}
+use Rattle.std.proofs.Common.{◌∙◌, sym, subst, ◌≤◌, length}
 use Rattle.itm_grammar.proofs.ShortSpellings.{shortest}
 use Rattle.itm_grammar.proofs.shortest.shortest_len.Goals as goal
 
