@@ -11,7 +11,7 @@ use Rattle.itm_grammar.specs.declared.header.Class.TheVariants.{Zero, Overflow a
 use Rattle.itm_grammar.specs.declared.partial.Partial.{Partial}
 use Rattle.itm_grammar.specs.declared.partial.Partial.TheVariants.{Header, Zeros, Payload}
 use Rattle.itm_grammar.specs.Header.{class_of}
-use Rattle.itm_grammar.specs.Rule.{rule, begin, payload_with, last, goes_on, count_of}
+use Rattle.itm_grammar.specs.Rule.{rule, begin, payload_with, last, another_follows, count_of}
 use Rattle.itm_grammar.proofs.Payloads.{last_ends, added}
 
 -- a step that goes on counts one more
@@ -43,7 +43,7 @@ ends_none n (Fail e) h = tt
 
 paid : (c : Class) (count value b : ℕ) → CountsOn (count + 1) (payload_with c count value b)
 paid c count value b =
-    either (count + 1) (goes_on c count b) (Go (Payload c (count + 1) value)) (last c (count + 1) value b) refl
+    either (count + 1) (another_follows c count b) (Go (Payload c (count + 1) value)) (last c (count + 1) value b) refl
     (ends_none (count + 1) (last c (count + 1) value b) (last_ends c (count + 1) value b))
 
 all_count : (s : Partial) (b : ℕ) → CountsOn (count_of s) (rule s b)

@@ -22,7 +22,7 @@ use Rattle.itm_grammar.specs.declared.partial.Partial.{Partial}
 use Rattle.itm_grammar.specs.declared.partial.Partial.TheVariants.{Header, Zeros, Payload}
 use Rattle.itm_grammar.specs.Header.{class_of, is_proper_class}
 use Rattle.itm_grammar.specs.Spelling.{Spells, SpellsSource, why, reason_of, byte_count, bit_of, number, groups, more_bit, IsContinued, IsExtended, extended}
-use Rattle.itm_grammar.specs.Rule.{rule, begin, zeros_with, last, goes_on, most_bytes, source, first_stamp, second_stamp, count_of}
+use Rattle.itm_grammar.specs.Rule.{rule, begin, zeros_with, last, another_follows, most_bytes, source, first_stamp, second_stamp, count_of}
 use Rattle.itm_grammar.proofs.Counting.{counts}
 use Rattle.itm_grammar.proofs.Headers.{chosen, header_of, header_is, made}
 use Rattle.itm_grammar.proofs.Payloads.{from, says, value_from, last_of, added, payload_cases, payload_sound, payload_complete, last_ends, fills_count, count_fills, longer, fills_continued, continued_fills, value_number, value_groups, extension_filled, extension_fills, value_extended}
@@ -415,7 +415,7 @@ began Reserved t e = cc
 longer_under : (most n b : ℕ) → longer most n b ≡ true → n + 1 < most
 longer_under most n b e = grind (arith, nat_tests)
 
-pub goes_under : (c : Class) (n b : ℕ) → goes_on c n b ≡ true → n + 1 < most_bytes c
+pub goes_under : (c : Class) (n b : ℕ) → another_follows c n b ≡ true → n + 1 < most_bytes c
 goes_under Zero n b e = longer_under 0 n b e
 goes_under Overflowed n b e = longer_under 0 n b e
 goes_under (Source hardware number size) n b e = lower (byte_count size) e where
@@ -577,7 +577,7 @@ second_fails n v b e l g h = elim (chosen (nat_lt b 128) h) [
   sixth : nat_lt b 128 ≡ false → longer 6 n b ≡ false → (n + 1 == 6) ≡ true
   sixth s g = grind (arith, nat_tests)
 
-last_fails : (c : Class) (n v b : ℕ) (e : Reason) → n < most_bytes c → goes_on c n b ≡ false → last c (n + 1) v b ≡ Fail e → e ≡ reason_of c (n + 1)
+last_fails : (c : Class) (n v b : ℕ) (e : Reason) → n < most_bytes c → another_follows c n b ≡ false → last c (n + 1) v b ≡ Fail e → e ≡ reason_of c (n + 1)
 last_fails Zero n v b e l g h = absurd (omega arith)
 last_fails Overflowed n v b e l g h = absurd (omega arith)
 last_fails (Source hardware number size) n v b e l g h = cc

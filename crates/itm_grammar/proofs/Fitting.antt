@@ -8,7 +8,7 @@ use Rattle.itm_grammar.specs.declared.header.Class.{Class}
 use Rattle.itm_grammar.specs.declared.header.Class.TheVariants.{Zero, Overflow as Overflowed, Source, LocalShort, LocalLong, GlobalFirst as First, GlobalSecond as Second, Extension as Extended, Reserved}
 use Rattle.itm_grammar.specs.Header.{is_proper_class}
 use Rattle.itm_grammar.specs.Spelling.{byte_count}
-use Rattle.itm_grammar.specs.Rule.{goes_on, digit, base_of, most_bytes, is_sound_payload, FitsLast}
+use Rattle.itm_grammar.specs.Rule.{another_follows, digit, base_of, most_bytes, is_sound_payload, FitsLast}
 use Rattle.itm_grammar.proofs.Deciding.{goes_under}
 
 -- what a sound payload is
@@ -86,7 +86,7 @@ extension_goes n v b g k h =
     rw e (more_groups n v (b % 128) (omega arith) k (omega arith)).0
 
 -- and where another byte follows, the state is sound
-pub sound_next : (c : Class) (n v b : ℕ) → b < 256 → is_sound_payload c n v ≡ true → goes_on c n b ≡ true → is_sound_payload c (n + 1) (v + digit c n b * base_of c ^ n) ≡ true
+pub sound_next : (c : Class) (n v b : ℕ) → b < 256 → is_sound_payload c n v ≡ true → another_follows c n b ≡ true → is_sound_payload c (n + 1) (v + digit c n b * base_of c ^ n) ≡ true
 sound_next c n v b h s g = joined (n + 1) (most_bytes c) (v + digit c n b * base_of c ^ n) (base_of c ^ (n + 1)) (goes_under c n b g) (next c s (goes_under c n b g)) where
   next : (c : Class) → is_sound_payload c n v ≡ true → n + 1 < most_bytes c → v + digit c n b * base_of c ^ n < base_of c ^ (n + 1)
   next Zero s u = absurd (omega arith)

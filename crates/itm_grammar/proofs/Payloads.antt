@@ -12,7 +12,7 @@ use Rattle.itm_grammar.specs.declared.header.Class.TheVariants.{Zero, Overflow a
 use Rattle.itm_grammar.specs.declared.partial.Partial.{Partial}
 use Rattle.itm_grammar.specs.declared.partial.Partial.TheVariants.{Payload}
 use Rattle.itm_grammar.specs.Spelling.{number, groups, IsContinued, IsExtended, extended}
-use Rattle.itm_grammar.specs.Rule.{rule, payload_with, last, goes_on, digit, base_of, second_stamp}
+use Rattle.itm_grammar.specs.Rule.{rule, payload_with, last, another_follows, digit, base_of, second_stamp}
 use Rattle.itm_grammar.proofs.Headers.{chosen}
 
 -- a list by the rule from a state on
@@ -73,15 +73,15 @@ abbrev pub with_of : Class → ℕ → ℕ → ℕ → Next Partial ItmPacket
 with_of c n v b = payload_with c n (v + added c n b) b
 
 pub payload_cases : (c : Class) (n v b : ℕ) →
-    ((goes_on c n b ≡ true) × (with_of c n v b ≡ Go (Payload c (n + 1) (v + added c n b))))
-    ⊎ ((goes_on c n b ≡ false) × (with_of c n v b ≡ last c (n + 1) (v + added c n b) b))
-payload_cases c n v b = decided (goes_on c n b) refl where
-  decided : (t : Bool) → goes_on c n b ≡ t → ((goes_on c n b ≡ true) × (with_of c n v b ≡ Go (Payload c (n + 1) (v + added c n b)))) ⊎ ((goes_on c n b ≡ false) × (with_of c n v b ≡ last c (n + 1) (v + added c n b) b))
+    ((another_follows c n b ≡ true) × (with_of c n v b ≡ Go (Payload c (n + 1) (v + added c n b))))
+    ⊎ ((another_follows c n b ≡ false) × (with_of c n v b ≡ last c (n + 1) (v + added c n b) b))
+payload_cases c n v b = decided (another_follows c n b) refl where
+  decided : (t : Bool) → another_follows c n b ≡ t → ((another_follows c n b ≡ true) × (with_of c n v b ≡ Go (Payload c (n + 1) (v + added c n b)))) ⊎ ((another_follows c n b ≡ false) × (with_of c n v b ≡ last c (n + 1) (v + added c n b) b))
   decided true e = inl (e, rw e refl)
   decided false e = inr (e, rw e refl)
 
 pub record Filled (c : Class) (n v : ℕ) (p : List ℕ) (x : ItmPacket) : Type 0 where
-  pub fills : Fills (λ i b. goes_on c i b) n p
+  pub fills : Fills (λ i b. another_follows c i b) n p
   pub ends : last c (n + length p) (value_from (λ i b. added c i b) n v p) (last_of p) ≡ Stop x
 
 pub payload_sound : (c : Class) (n v : ℕ) (p : List ℕ) (x : ItmPacket) → from (Payload c n v) p ≡ Whole x → Filled c n v p x

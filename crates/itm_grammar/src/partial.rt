@@ -2,7 +2,7 @@
 
 ghost use Rattle.std.specs.Prelude.{◌≡◌, ◌↔◌, IsTrue, ℕ, ◌+◌, ◌*◌, ◌^◌, ◌<◌, ◌≤◌, ◌%◌, true};
 ghost use Rattle.itm_grammar.specs.Header.{is_proper_class};
-ghost use Rattle.itm_grammar.specs.Rule.{rule, begin as begun, zeros_with as zeros_and, payload_with as payload_and, last as lasting, goes_on as going_on, source as sourced, first_stamp as first_stamped, second_stamp as second_stamped, digit, base_of, is_sound, is_sound_payload, IsSoundNext, FitsLast, count_of, held_after};
+ghost use Rattle.itm_grammar.specs.Rule.{rule, begin as begun, zeros_with as zeros_and, payload_with as payload_and, last as lasting, another_follows as follows_by_table, source as sourced, first_stamp as first_stamped, second_stamp as second_stamped, digit, base_of, is_sound, is_sound_payload, IsSoundNext, FitsLast, count_of, held_after};
 
 use crate::header::{Class, classify};
 use crate::packet::{ItmPacket, Lateness, Size};
@@ -116,9 +116,9 @@ fn value_with(class: Class, count: u8, value: u64, byte: u8) -> u64
 }
 
 /// Whether another payload byte follows this one, by the size or by bit 7.
-fn goes_on(class: Class, count: u8, byte: u8) -> bool
+fn another_follows(class: Class, count: u8, byte: u8) -> bool
     requires { count < 6 }
-    ensures { result ≡ going_on class count byte }
+    ensures { result ≡ follows_by_table class count byte }
 {
     match class {
         Class::Source { size, .. } => count + 1 < size.byte_count(),
@@ -216,7 +216,7 @@ fn payload_with(class: Class, count: u8, value: u64, byte: u8) -> Next<Partial, 
     ensures sound { IsSoundNext result }
 {
     let value = value_with(class, count, value, byte);
-    if goes_on(class, count, byte) {
+    if another_follows(class, count, byte) {
         Next::Go(Partial::Payload {
             class,
             count: count + 1,
