@@ -1,5 +1,5 @@
 -- A state counts the bytes of the unfinished packet.
-use Rattle.std.proofs.Common.{◌≡◌, ℕ, ◌+◌, ◌*◌, ◌^◌, ◌==◌, ◌&&◌, nat_lt, nat_le, Bool, true, false, cond, refl, ◌⊎◌, inl, inr}
+use Rattle.std.proofs.Common.{◌≡◌, ℕ, ◌+◌, ◌==◌, ◌&&◌, nat_le, Bool, true, false, cond, refl}
 use Rattle.trace_values.specs.declared.fault.Reason.TheVariants.{BadItmSync}
 use Rattle.trace_values.specs.declared.next.Next.{Next}
 use Rattle.trace_values.specs.declared.next.Next.TheVariants.{Go, Stop, Fail}
@@ -11,7 +11,7 @@ use Rattle.itm_grammar.specs.declared.header.Class.TheVariants.{Zero, Overflow a
 use Rattle.itm_grammar.specs.declared.partial.Partial.{Partial}
 use Rattle.itm_grammar.specs.declared.partial.Partial.TheVariants.{Header, Zeros, Payload}
 use Rattle.itm_grammar.specs.Header.{class_of}
-use Rattle.itm_grammar.specs.Rule.{rule, begin, payload_with, last, goes_on, digit, base_of, count_of}
+use Rattle.itm_grammar.specs.Rule.{rule, begin, payload_with, last, another_follows, count_of}
 use Rattle.itm_grammar.proofs.Payloads.{last_ends, added}
 
 -- a step that goes on counts one more
@@ -43,7 +43,7 @@ ends_none n (Fail e) h = tt
 
 paid : (c : Class) (count value b : ℕ) → CountsOn (count + 1) (payload_with c count value b)
 paid c count value b =
-    either (count + 1) (goes_on c count b) (Go (Payload c (count + 1) value)) (last c (count + 1) value b) refl
+    either (count + 1) (another_follows c count b) (Go (Payload c (count + 1) value)) (last c (count + 1) value b) refl
     (ends_none (count + 1) (last c (count + 1) value b) (last_ends c (count + 1) value b))
 
 all_count : (s : Partial) (b : ℕ) → CountsOn (count_of s) (rule s b)
@@ -62,9 +62,3 @@ counts s t b e = of_step (count_of s) (rule s b) t e (all_count s b)
 
 pub counts_placed : (s t : Partial) (b : Placed) → rule s b.unit ≡ Go t → count_of t ≡ count_of s + 1
 counts_placed s t b e = counts s t b.unit e
-
--- whatever a step says, at most one byte more is held
-abbrev pub held_after : Next Partial ItmPacket → ℕ
-held_after (Go t) = count_of t
-held_after (Stop v) = 0
-held_after (Fail e) = 0

@@ -2,13 +2,13 @@
 use Rattle.std.proofs.Common.{◌≡◌, ℕ, zero, suc, ◌+◌, ◌-◌, ◌*◌, ◌^◌, ◌/◌, ◌%◌, ◌<◌, ◌≤◌, List, [], ◌∷◌, ◌++◌, length, length-append, replicate, Bool, true, false, cond, refl, sym, ◌∙◌, ap, subst, ◌⊎◌, inl, inr, arith}
 use Rattle.std.proofs.lemmas.List.{length-replicate}
 use Rattle.std.proofs.Math.Nat.{pow-suc}
-use Rattle.std.specs.Prelude.{nat_lt, nat_le, ◌==◌, ◌&&◌}
+use Rattle.std.specs.Prelude.{nat_lt, ◌==◌, ◌&&◌}
 use Rattle.std.proofs.lemmas.Bool.Decides.{nat_tests}
 use Rattle.trace_values.specs.declared.fault.Reason.{Reason}
-use Rattle.trace_values.specs.declared.fault.Reason.TheVariants.{ReservedHeader, BadItmSync, LongStamp, ShortStamp}
+use Rattle.trace_values.specs.declared.fault.Reason.TheVariants.{BadItmSync, LongStamp, ShortStamp}
 use Rattle.trace_values.specs.declared.next.Next.{Next}
 use Rattle.trace_values.specs.declared.next.Next.TheVariants.{Go, Stop, Fail}
-use Rattle.trace_values.specs.Walk.{Walked, Within, Whole, Beyond, after, walk, Decides}
+use Rattle.trace_values.specs.Walk.{Walked, Within, Whole, after, Decides}
 use Rattle.trace_values.proofs.Walks as walks
 use Rattle.itm_grammar.specs.declared.packet.Size.{Size}
 use Rattle.itm_grammar.specs.declared.packet.Size.TheVariants.{One, Two, Four}
@@ -21,11 +21,11 @@ use Rattle.itm_grammar.specs.declared.header.Class.TheVariants.{Zero, Overflow a
 use Rattle.itm_grammar.specs.declared.partial.Partial.{Partial}
 use Rattle.itm_grammar.specs.declared.partial.Partial.TheVariants.{Header, Zeros, Payload}
 use Rattle.itm_grammar.specs.Header.{class_of, is_proper_class}
-use Rattle.itm_grammar.specs.Spelling.{Spells, SpellsSource, why, reason_of, byte_count, size_bits, bit_of, number, groups, more_bit, IsContinued, IsExtended, extended}
-use Rattle.itm_grammar.specs.Rule.{rule, begin, zeros_with, payload_with, last, goes_on, most_bytes, source, first_stamp, second_stamp, count_of}
+use Rattle.itm_grammar.specs.Spelling.{Spells, SpellsSource, why, reason_of, byte_count, bit_of, number, groups, more_bit, IsContinued, IsExtended, extended}
+use Rattle.itm_grammar.specs.Rule.{rule, begin, zeros_with, last, another_follows, most_bytes, source, first_stamp, second_stamp, count_of}
 use Rattle.itm_grammar.proofs.Counting.{counts}
 use Rattle.itm_grammar.proofs.Headers.{chosen, header_of, header_is, made}
-use Rattle.itm_grammar.proofs.Payloads.{from, says, Fills, value_from, last_of, added, with_of, payload_cases, Filled, payload_sound, payload_complete, last_ends, counted, fills_count, count_fills, longer, fills_continued, continued_fills, value_number, value_groups, groups_fit, extension_filled, extension_fills, value_extended}
+use Rattle.itm_grammar.proofs.Payloads.{from, says, value_from, last_of, added, payload_cases, payload_sound, payload_complete, last_ends, fills_count, count_fills, longer, fills_continued, continued_fills, value_number, value_groups, extension_filled, extension_fills, value_extended}
 
 stop_whole : (v w : ItmPacket) (k : Partial → Walked Partial ItmPacket) (p : List ℕ) → after (Stop v) k p ≡ Whole w → (w ≡ v) × (p ≡ [])
 stop_whole v w k [] e = (cc, refl)
@@ -76,10 +76,10 @@ parts g h =
     let b = bit_is (g / 2 ^ 27) in
     (omega arith, rw (a, b) (omega arith))
   where
-  bit_is : (n : ℕ) → bit_of (n % 2 == 1) ≡ n % 2
-  bit_is n = elim (two (n % 2) (omega arith)) [ inl m ↦ rw m refl | inr m ↦ rw m refl ] where
-    two : (k : ℕ) → k < 2 → (k ≡ 0) ⊎ (k ≡ 1)
-    two k h = grind arith
+    bit_is : (n : ℕ) → bit_of (n % 2 == 1) ≡ n % 2
+    bit_is n = elim (two (n % 2) (omega arith)) [ inl m ↦ rw m refl | inr m ↦ rw m refl ] where
+      two : (k : ℕ) → k < 2 → (k ≡ 0) ⊎ (k ≡ 1)
+      two k h = grind arith
 
 joined : (n g value : ℕ) (change wrap : Bool) → value < 2 ^ 26 → g ≡ value + 2 ^ 26 * bit_of change + 2 ^ 27 * bit_of wrap → first_stamp n g ≡ GlobalFirst n value change wrap
 joined n g value change wrap h e =
@@ -88,27 +88,27 @@ joined n g value change wrap h e =
     let c : ((g / 2 ^ 27) % 2 == 1) ≡ wrap = highest change wrap e in
     rw (a, b, c) refl
   where
-  one : (k : ℕ) (b : Bool) → k ≡ bit_of b → (k == 1) ≡ b
-  one k true e = rw e refl
-  one k false e = rw e refl
+    one : (k : ℕ) (b : Bool) → k ≡ bit_of b → (k == 1) ≡ b
+    one k true e = rw e refl
+    one k false e = rw e refl
 
-  low : (change wrap : Bool) → g ≡ value + 2 ^ 26 * bit_of change + 2 ^ 27 * bit_of wrap → g % 2 ^ 26 ≡ value
-  low true true e = omega arith
-  low true false e = omega arith
-  low false true e = omega arith
-  low false false e = omega arith
+    low : (change wrap : Bool) → g ≡ value + 2 ^ 26 * bit_of change + 2 ^ 27 * bit_of wrap → g % 2 ^ 26 ≡ value
+    low true true e = omega arith
+    low true false e = omega arith
+    low false true e = omega arith
+    low false false e = omega arith
 
-  high : (change wrap : Bool) → g ≡ value + 2 ^ 26 * bit_of change + 2 ^ 27 * bit_of wrap → ((g / 2 ^ 26) % 2 == 1) ≡ change
-  high true true e = one ((g / 2 ^ 26) % 2) true (omega arith)
-  high true false e = one ((g / 2 ^ 26) % 2) true (omega arith)
-  high false true e = one ((g / 2 ^ 26) % 2) false (omega arith)
-  high false false e = one ((g / 2 ^ 26) % 2) false (omega arith)
+    high : (change wrap : Bool) → g ≡ value + 2 ^ 26 * bit_of change + 2 ^ 27 * bit_of wrap → ((g / 2 ^ 26) % 2 == 1) ≡ change
+    high true true e = one ((g / 2 ^ 26) % 2) true (omega arith)
+    high true false e = one ((g / 2 ^ 26) % 2) true (omega arith)
+    high false true e = one ((g / 2 ^ 26) % 2) false (omega arith)
+    high false false e = one ((g / 2 ^ 26) % 2) false (omega arith)
 
-  highest : (change wrap : Bool) → g ≡ value + 2 ^ 26 * bit_of change + 2 ^ 27 * bit_of wrap → ((g / 2 ^ 27) % 2 == 1) ≡ wrap
-  highest true true e = one ((g / 2 ^ 27) % 2) true (omega arith)
-  highest true false e = one ((g / 2 ^ 27) % 2) false (omega arith)
-  highest false true e = one ((g / 2 ^ 27) % 2) true (omega arith)
-  highest false false e = one ((g / 2 ^ 27) % 2) false (omega arith)
+    highest : (change wrap : Bool) → g ≡ value + 2 ^ 26 * bit_of change + 2 ^ 27 * bit_of wrap → ((g / 2 ^ 27) % 2 == 1) ≡ wrap
+    highest true true e = one ((g / 2 ^ 27) % 2) true (omega arith)
+    highest true false e = one ((g / 2 ^ 27) % 2) false (omega arith)
+    highest false true e = one ((g / 2 ^ 27) % 2) true (omega arith)
+    highest false false e = one ((g / 2 ^ 27) % 2) false (omega arith)
 
 -- groups of no more than so many bytes fit their bits
 positive : (n : ℕ) → 0 < 128 ^ n
@@ -153,8 +153,8 @@ source_sound h hardware n size p v k e =
     let q : source hardware n size (value_from (λ i b. b * 256 ^ i) 0 0 p) ≡ v = cc in
     ((p, under n a.1, ap (λ (i : ℕ). i ∷ p) a.0, omega arith, refl), sym q ∙ ap (source hardware n size) w')
   where
-  under : (n : ℕ) → nat_lt n 32 ≡ true → n < 32
-  under n e = grind (arith, nat_tests)
+    under : (n : ℕ) → nat_lt n 32 ≡ true → n < 32
+    under n e = grind (arith, nat_tests)
 
 -- the number of a payload of seven bits a byte
 groups_whole : (p : List ℕ) → value_from (λ i b. b % 128 * 128 ^ i) 0 0 p ≡ groups p
@@ -203,7 +203,7 @@ second_sound h p v k e =
           let w = groups_whole p in
           let z : 0 + length p ≡ length p = omega arith in
           let s : second_stamp (length p) (groups p) ≡ Stop v =
-            ap (second_stamp (length p)) (sym w) ∙ ap (λ (n : ℕ). second_stamp n (value_from (λ i b. b % 128 * 128 ^ i) 0 0 p)) (sym z) ∙ m.1 in
+          ap (second_stamp (length p)) (sym w) ∙ ap (λ (n : ℕ). second_stamp n (value_from (λ i b. b % 128 * 128 ^ i) 0 0 p)) (sym z) ∙ m.1 in
           elim (chosen (length p == 4) s) [
             | inl o ↦
                 let q : v ≡ GlobalSecond false (groups p % 2 ^ 22) = stopped _ v o.1 in
@@ -283,13 +283,13 @@ source_complete hardware n size value r s =
     let w : value_from (λ i b. b * 256 ^ i) 0 0 p ≡ 0 + 256 ^ 0 * number p = value_number 0 0 p in
     let x : value_from (λ i b. b * 256 ^ i) 0 0 p ≡ value = (let e = s.4 in omega arith) in
     rw s.2 (class_whole c p (source hardware n size value) (under n s.1) (λ e. cc)
-      (payload_complete c 0 0 p (source hardware n size value) (record {
-        fills = count_fills (byte_count size) 0 p (some_count size) (let l = s.3 in omega arith);
-        ends = ap (λ (i : ℕ). (let y : Next Partial ItmPacket = Stop (source hardware n size i) in y)) x;
-      })))
+    (payload_complete c 0 0 p (source hardware n size value) (record {
+      fills = count_fills (byte_count size) 0 p (some_count size) (let l = s.3 in omega arith);
+      ends = ap (λ (i : ℕ). (let y : Next Partial ItmPacket = Stop (source hardware n size i) in y)) x;
+    })))
   where
-  under : (n : ℕ) → n < 32 → nat_lt n 32 ≡ true
-  under n h = grind (arith, nat_tests)
+    under : (n : ℕ) → n < 32 → nat_lt n 32 ≡ true
+    under n h = grind (arith, nat_tests)
 
 is_under_128 : (n : ℕ) → n < 128 → nat_lt n 128 ≡ true
 is_under_128 n h = grind (arith, nat_tests)
@@ -314,8 +314,8 @@ first_complete p h l =
     payload_complete First 0 0 p (first_stamp (length p) (groups p)) (record {
       fills = m.0;
       ends = taken (nat_lt (last_of p) 128) _ _ (Stop (first_stamp (length p) (groups p))) (is_under_128 (last_of p) m.1)
-        (ap (λ (i : ℕ). (let y : Next Partial ItmPacket = Stop (first_stamp (0 + length p) i) in y)) (groups_whole p)
-        ∙ ap (λ (i : ℕ). (let y : Next Partial ItmPacket = Stop (first_stamp i (groups p)) in y)) z);
+          (ap (λ (i : ℕ). (let y : Next Partial ItmPacket = Stop (first_stamp (0 + length p) i) in y)) (groups_whole p)
+          ∙ ap (λ (i : ℕ). (let y : Next Partial ItmPacket = Stop (first_stamp i (groups p)) in y)) z);
     })
 
 second_complete : (p : List ℕ) (x : ItmPacket) → IsContinued p → length p ≤ 6 → second_stamp (length p) (groups p) ≡ Stop x → from (Payload Second 0 0) p ≡ Whole x
@@ -325,7 +325,7 @@ second_complete p x h l e =
     payload_complete Second 0 0 p x (record {
       fills = m.0;
       ends = taken (nat_lt (last_of p) 128) _ _ (Stop x) (is_under_128 (last_of p) m.1)
-        (ap (second_stamp (0 + length p)) (groups_whole p) ∙ ap (λ (i : ℕ). second_stamp i (groups p)) z ∙ e);
+          (ap (second_stamp (0 + length p)) (groups_whole p) ∙ ap (λ (i : ℕ). second_stamp i (groups p)) z ∙ e);
     })
 
 second_of : (n g k : ℕ) (x : ItmPacket) → n ≡ k → second_stamp k g ≡ Stop x → second_stamp n g ≡ Stop x
@@ -337,19 +337,19 @@ extension_complete dwt low [] h x =
     let n : low ≡ low + 8 * 0 = omega arith in
     class_whole c [] (Extension dwt (low + 8 * 0)) (under low h) (λ e. cc) (ap (λ (i : ℕ). (let y : Walked Partial ItmPacket = Whole (Extension dwt i) in y)) n)
   where
-  under : (n : ℕ) → n < 8 → nat_lt n 8 ≡ true
-  under n h = grind (arith, nat_tests)
+    under : (n : ℕ) → n < 8 → nat_lt n 8 ≡ true
+    under n h = grind (arith, nat_tests)
 extension_complete dwt low (b ∷ p) h x =
     let c = Extended true dwt low in
     let w = value_extended dwt low (b ∷ p) x in
     class_whole c (b ∷ p) (Extension dwt (low + 8 * extended (b ∷ p))) (under low h) (λ e. cc)
-      (payload_complete c 0 0 (b ∷ p) (Extension dwt (low + 8 * extended (b ∷ p))) (record {
-        fills = extension_fills b p x;
-        ends = ap (λ (i : ℕ). (let y : Next Partial ItmPacket = Stop (Extension dwt (low + 8 * i)) in y)) w;
-      }))
+    (payload_complete c 0 0 (b ∷ p) (Extension dwt (low + 8 * extended (b ∷ p))) (record {
+      fills = extension_fills b p x;
+      ends = ap (λ (i : ℕ). (let y : Next Partial ItmPacket = Stop (Extension dwt (low + 8 * i)) in y)) w;
+    }))
   where
-  under : (n : ℕ) → n < 8 → nat_lt n 8 ≡ true
-  under n h = grind (arith, nat_tests)
+    under : (n : ℕ) → n < 8 → nat_lt n 8 ≡ true
+    under n h = grind (arith, nat_tests)
 
 whole_of : (v w : ItmPacket) (x : Walked Partial ItmPacket) → x ≡ Whole v → v ≡ w → x ≡ Whole w
 whole_of v w x e h = e ∙ ap (λ (i : ItmPacket). (let y : Walked Partial ItmPacket = Whole i in y)) h
@@ -364,33 +364,33 @@ complete (Software port size value) r s = source_complete false port size value 
 complete (Hardware disc size value) r s = source_complete true disc size value r s
 complete (Local lateness delta) r (inl s) =
     rw s.3 (whole_of (Local Exact delta) (Local lateness delta) (from Header ((16 * delta) ∷ []))
-      (class_whole (LocalShort delta) [] (Local Exact delta) (within delta s.1 s.2) (λ e. cc) refl)
-      (ap (λ (l : Lateness). Local l delta) (sym s.0)))
+    (class_whole (LocalShort delta) [] (Local Exact delta) (within delta s.1 s.2) (λ e. cc) refl)
+    (ap (λ (l : Lateness). Local l delta) (sym s.0)))
   where
-  within : (n : ℕ) → 0 < n → n < 7 → (nat_lt 0 n && nat_lt n 7) ≡ true
-  within n h k = grind (arith, nat_tests)
+    within : (n : ℕ) → 0 < n → n < 7 → (nat_lt 0 n && nat_lt n 7) ≡ true
+    within n h k = grind (arith, nat_tests)
 complete (Local lateness delta) r (inr s) =
     rw s.1 (whole_of (Local lateness (groups s.0)) (Local lateness delta) (from Header (header_of (LocalLong lateness) ∷ s.0))
-      (class_whole (LocalLong lateness) s.0 (Local lateness (groups s.0)) refl (λ e. cc) (local_complete lateness s.0 s.2 s.3))
-      (ap (Local lateness) (sym s.4)))
+    (class_whole (LocalLong lateness) s.0 (Local lateness (groups s.0)) refl (λ e. cc) (local_complete lateness s.0 s.2 s.3))
+    (ap (Local lateness) (sym s.4)))
 complete (GlobalFirst len value change wrap) r s =
     rw s.1 (whole_of (first_stamp (length s.0) (groups s.0)) (GlobalFirst len value change wrap) (from Header (148 ∷ s.0))
-      (class_whole First s.0 (first_stamp (length s.0) (groups s.0)) refl (λ e. cc) (first_complete s.0 s.2 (let a = s.3 in let b = s.4 in omega arith)))
-      (joined (length s.0) (groups s.0) value change wrap s.5 s.6 ∙ ap (λ (n : ℕ). GlobalFirst n value change wrap) s.3))
+    (class_whole First s.0 (first_stamp (length s.0) (groups s.0)) refl (λ e. cc) (first_complete s.0 s.2 (let a = s.3 in let b = s.4 in omega arith)))
+    (joined (length s.0) (groups s.0) value change wrap s.5 s.6 ∙ ap (λ (n : ℕ). GlobalFirst n value change wrap) s.3))
 complete (GlobalSecond false value) r s =
     rw s.1 (whole_of (GlobalSecond false (groups s.0 % 2 ^ 22)) (GlobalSecond false value) (from Header (180 ∷ s.0))
-      (class_whole Second s.0 (GlobalSecond false (groups s.0 % 2 ^ 22)) refl (λ e. cc)
-        (second_complete s.0 (GlobalSecond false (groups s.0 % 2 ^ 22)) s.2 (let l = s.3 in omega arith) (second_of (length s.0) (groups s.0) 4 (GlobalSecond false (groups s.0 % 2 ^ 22)) s.3 refl)))
-      (ap (GlobalSecond false) (sym s.4)))
+    (class_whole Second s.0 (GlobalSecond false (groups s.0 % 2 ^ 22)) refl (λ e. cc)
+    (second_complete s.0 (GlobalSecond false (groups s.0 % 2 ^ 22)) s.2 (let l = s.3 in omega arith) (second_of (length s.0) (groups s.0) 4 (GlobalSecond false (groups s.0 % 2 ^ 22)) s.3 refl)))
+    (ap (GlobalSecond false) (sym s.4)))
 complete (GlobalSecond true value) r s =
     rw s.1 (whole_of (GlobalSecond true (groups s.0 % 2 ^ 38)) (GlobalSecond true value) (from Header (180 ∷ s.0))
-      (class_whole Second s.0 (GlobalSecond true (groups s.0 % 2 ^ 38)) refl (λ e. cc)
-        (second_complete s.0 (GlobalSecond true (groups s.0 % 2 ^ 38)) s.2 (let l = s.3 in omega arith) (second_of (length s.0) (groups s.0) 6 (GlobalSecond true (groups s.0 % 2 ^ 38)) s.3 refl)))
-      (ap (GlobalSecond true) (sym s.4)))
+    (class_whole Second s.0 (GlobalSecond true (groups s.0 % 2 ^ 38)) refl (λ e. cc)
+    (second_complete s.0 (GlobalSecond true (groups s.0 % 2 ^ 38)) s.2 (let l = s.3 in omega arith) (second_of (length s.0) (groups s.0) 6 (GlobalSecond true (groups s.0 % 2 ^ 38)) s.3 refl)))
+    (ap (GlobalSecond true) (sym s.4)))
 complete (Extension dwt value) r s =
     rw s.3 (whole_of (Extension dwt (s.0 + 8 * extended s.1)) (Extension dwt value) (from Header ((128 * more_bit s.1 + 16 * s.0 + 4 * bit_of dwt + 8) ∷ s.1))
-      (extension_complete dwt s.0 s.1 s.2 s.4)
-      (ap (Extension dwt) (sym s.5)))
+    (extension_complete dwt s.0 s.1 s.2 s.4)
+    (ap (Extension dwt) (sym s.5)))
 
 -- what a state has of the header's class and of how many bytes stand behind the header
 abbrev pub Belongs : Class → ℕ → Partial → Type 0
@@ -415,7 +415,7 @@ began Reserved t e = cc
 longer_under : (most n b : ℕ) → longer most n b ≡ true → n + 1 < most
 longer_under most n b e = grind (arith, nat_tests)
 
-pub goes_under : (c : Class) (n b : ℕ) → goes_on c n b ≡ true → n + 1 < most_bytes c
+pub goes_under : (c : Class) (n b : ℕ) → another_follows c n b ≡ true → n + 1 < most_bytes c
 goes_under Zero n b e = longer_under 0 n b e
 goes_under Overflowed n b e = longer_under 0 n b e
 goes_under (Source hardware number size) n b e = lower (byte_count size) e where
@@ -490,21 +490,27 @@ second_ending count value h =
     let l : count + length w ≡ 6 = omega (arith, length-append {A = ℕ} (replicate (5 - count) 128) (0 ∷ []), length-replicate {A = ℕ} (5 - count) 128) in
     let m = continued_fills 6 count w (on_and_on (5 - count)) (omega arith) in
     let g = value_from (λ i b. added Second i b) count value w in
-    let x = GlobalSecond true (g % 2 ^ 38) in
-    (x, w, payload_complete Second count value w x (record {
-      fills = m.0;
-      ends = taken (nat_lt (last_of w) 128) (second_stamp (count + length w) g) (Fail LongStamp) (Stop x) (is_under_128 (last_of w) m.1) (second_of (count + length w) g 6 x l refl);
-    }))
+    let x = GlobalSecond true (g % 2 ^ 38) in (
+      x,
+      w,
+      payload_complete Second count value w x (record {
+        fills = m.0;
+        ends = taken (nat_lt (last_of w) 128) (second_stamp (count + length w) g) (Fail LongStamp) (Stop x) (is_under_128 (last_of w) m.1) (second_of (count + length w) g 6 x l refl);
+      }),
+    )
 
 source_ending : (hardware : Bool) (number : ℕ) (size : Size) (count value : ℕ) → count < byte_count size → CanEnd (Payload (Source hardware number size) count value)
 source_ending hardware number size count value h =
     let c = Source hardware number size in
     let w = replicate (byte_count size - count) 0 in
-    let x = source hardware number size (value_from (λ i b. added c i b) count value w) in
-    (x, w, payload_complete c count value w x (record {
-      fills = count_fills (byte_count size) count w h (omega (arith, length-replicate {A = ℕ} (byte_count size - count) 0));
-      ends = refl;
-    }))
+    let x = source hardware number size (value_from (λ i b. added c i b) count value w) in (
+      x,
+      w,
+      payload_complete c count value w x (record {
+        fills = count_fills (byte_count size) count w h (omega (arith, length-replicate {A = ℕ} (byte_count size - count) 0));
+        ends = refl;
+      }),
+    )
 
 payload_ending : (c : Class) (count value : ℕ) → count < most_bytes c → CanEnd (Payload c count value)
 payload_ending Zero count value h = absurd (omega arith)
@@ -571,7 +577,7 @@ second_fails n v b e l g h = elim (chosen (nat_lt b 128) h) [
   sixth : nat_lt b 128 ≡ false → longer 6 n b ≡ false → (n + 1 == 6) ≡ true
   sixth s g = grind (arith, nat_tests)
 
-last_fails : (c : Class) (n v b : ℕ) (e : Reason) → n < most_bytes c → goes_on c n b ≡ false → last c (n + 1) v b ≡ Fail e → e ≡ reason_of c (n + 1)
+last_fails : (c : Class) (n v b : ℕ) (e : Reason) → n < most_bytes c → another_follows c n b ≡ false → last c (n + 1) v b ≡ Fail e → e ≡ reason_of c (n + 1)
 last_fails Zero n v b e l g h = absurd (omega arith)
 last_fails Overflowed n v b e l g h = absurd (omega arith)
 last_fails (Source hardware number size) n v b e l g h = cc

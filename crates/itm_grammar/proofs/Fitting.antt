@@ -1,6 +1,6 @@
 -- One more payload byte leaves a number that fits.
-use Rattle.std.proofs.Common.{◌≡◌, ℕ, zero, suc, ◌+◌, ◌*◌, ◌^◌, ◌%◌, ◌<◌, ◌≤◌, Bool, true, false, cond, refl, subst, sym, arith, ◌⊎◌, inl, inr}
-use Rattle.std.specs.Prelude.{nat_lt, nat_le, ◌==◌, ◌&&◌}
+use Rattle.std.proofs.Common.{◌≡◌, ℕ, zero, suc, ◌+◌, ◌*◌, ◌^◌, ◌%◌, ◌<◌, ◌≤◌, true, false, cond, refl, subst, arith, ◌⊎◌, inl, inr}
+use Rattle.std.specs.Prelude.{nat_lt, ◌==◌, ◌&&◌}
 use Rattle.std.proofs.lemmas.Bool.Decides.{nat_tests}
 use Rattle.itm_grammar.specs.declared.packet.Size.{Size}
 use Rattle.itm_grammar.specs.declared.packet.Size.TheVariants.{One, Two, Four}
@@ -8,7 +8,7 @@ use Rattle.itm_grammar.specs.declared.header.Class.{Class}
 use Rattle.itm_grammar.specs.declared.header.Class.TheVariants.{Zero, Overflow as Overflowed, Source, LocalShort, LocalLong, GlobalFirst as First, GlobalSecond as Second, Extension as Extended, Reserved}
 use Rattle.itm_grammar.specs.Header.{is_proper_class}
 use Rattle.itm_grammar.specs.Spelling.{byte_count}
-use Rattle.itm_grammar.specs.Rule.{goes_on, digit, base_of, most_bytes, is_sound_payload, FitsLast}
+use Rattle.itm_grammar.specs.Rule.{another_follows, digit, base_of, most_bytes, is_sound_payload, FitsLast}
 use Rattle.itm_grammar.proofs.Deciding.{goes_under}
 
 -- what a sound payload is
@@ -70,11 +70,13 @@ fits_last (LocalLong lateness) n v b h p s =
 fits_last First n v b h p s = tt
 fits_last Second n v b h p s = tt
 fits_last (Extended true dwt low) n v b h p s =
-    let k = parts n 4 v (128 ^ n) s in
-    (low_fits low p, elim (extension_digit n b h) [
-      | inl m ↦ extension_fits n v b (digit (Extended true dwt low) n b) k.0 k.1 h (inl m.1)
-      | inr m ↦ extension_fits n v b (digit (Extended true dwt low) n b) k.0 k.1 h (inr m)
-    ])
+    let k = parts n 4 v (128 ^ n) s in (
+      low_fits low p,
+      elim (extension_digit n b h) [
+        | inl m ↦ extension_fits n v b (digit (Extended true dwt low) n b) k.0 k.1 h (inl m.1)
+        | inr m ↦ extension_fits n v b (digit (Extended true dwt low) n b) k.0 k.1 h (inr m)
+      ],
+    )
 fits_last (Extended false dwt low) n v b h p s = absurd (omega (arith, parts n 0 v (128 ^ n) s))
 fits_last Reserved n v b h p s = tt
 
@@ -84,7 +86,7 @@ extension_goes n v b g k h =
     rw e (more_groups n v (b % 128) (omega arith) k (omega arith)).0
 
 -- and where another byte follows, the state is sound
-pub sound_next : (c : Class) (n v b : ℕ) → b < 256 → is_sound_payload c n v ≡ true → goes_on c n b ≡ true → is_sound_payload c (n + 1) (v + digit c n b * base_of c ^ n) ≡ true
+pub sound_next : (c : Class) (n v b : ℕ) → b < 256 → is_sound_payload c n v ≡ true → another_follows c n b ≡ true → is_sound_payload c (n + 1) (v + digit c n b * base_of c ^ n) ≡ true
 sound_next c n v b h s g = joined (n + 1) (most_bytes c) (v + digit c n b * base_of c ^ n) (base_of c ^ (n + 1)) (goes_under c n b g) (next c s (goes_under c n b g)) where
   next : (c : Class) → is_sound_payload c n v ≡ true → n + 1 < most_bytes c → v + digit c n b * base_of c ^ n < base_of c ^ (n + 1)
   next Zero s u = absurd (omega arith)

@@ -52,8 +52,8 @@ under_at f (suc n) k e h =
       | inr l ↦ subst (λ (i : ℕ). f i ≡ true) (sym l) m.0
     ]
   where
-  split : (k n : ℕ) → k ≤ n → (k < n) ⊎ (k ≡ n)
-  split k n h = grind arith
+    split : (k n : ℕ) → k ≤ n → (k < n) ⊎ (k ≡ n)
+    split k n h = grind arith
 
 all_right : all_under is_right 256 ≡ true
 all_right = refl
@@ -126,19 +126,19 @@ extension_made h low more dwt a b c d e =
     let x : nat_le 128 h ≡ more = by_more more e in
     rw s (rw t (rw u (rw v (rw (x, w, d) refl))))
   where
-  some : (n : ℕ) → 0 < n → (n == 0) ≡ false
-  some n h = grind (arith, nat_tests)
+    some : (n : ℕ) → 0 < n → (n == 0) ≡ false
+    some n h = grind (arith, nat_tests)
 
-  other : (n : ℕ) → 4 < n → (n == 4) ≡ false
-  other n h = grind (arith, nat_tests)
+    other : (n : ℕ) → 4 < n → (n == 4) ≡ false
+    other n h = grind (arith, nat_tests)
 
-  by_dwt : (n : ℕ) (dwt : Bool) → n ≡ 4 * bit_of dwt + 8 → (n == 12) ≡ dwt
-  by_dwt n true c = grind (arith, nat_tests)
-  by_dwt n false c = grind (arith, nat_tests)
+    by_dwt : (n : ℕ) (dwt : Bool) → n ≡ 4 * bit_of dwt + 8 → (n == 12) ≡ dwt
+    by_dwt n true c = grind (arith, nat_tests)
+    by_dwt n false c = grind (arith, nat_tests)
 
-  by_more : (more : Bool) → h / 128 ≡ bit_of more → nat_le 128 h ≡ more
-  by_more true e = let k : 128 ≤ h = omega arith in grind (arith, nat_tests)
-  by_more false e = let k : h < 128 = omega arith in grind (arith, nat_tests)
+    by_more : (more : Bool) → h / 128 ≡ bit_of more → nat_le 128 h ≡ more
+    by_more true e = let k : 128 ≤ h = omega arith in grind (arith, nat_tests)
+    by_more false e = let k : h < 128 = omega arith in grind (arith, nat_tests)
 
 -- and the header of a class has it
 pub made : (c : Class) → is_proper_class c ≡ true → (c ≡ Reserved → ⊥) → class_of (header_of c) ≡ c

@@ -1,19 +1,18 @@
 -- The payload bytes of a packet by the rule: which lists are all of them, and what number they stand for.
-use Rattle.std.proofs.Common.{◌≡◌, ℕ, zero, suc, ◌+◌, ◌-◌, ◌*◌, ◌^◌, ◌/◌, ◌%◌, ◌<◌, ◌≤◌, List, [], ◌∷◌, ◌++◌, length, Bool, true, false, refl, sym, ◌∙◌, ap, subst, ◌⊎◌, inl, inr, arith}
+use Rattle.std.proofs.Common.{◌≡◌, ℕ, suc, ◌+◌, ◌*◌, ◌^◌, ◌%◌, ◌<◌, ◌≤◌, List, [], ◌∷◌, length, Bool, true, false, refl, sym, ◌∙◌, ap, subst, ◌⊎◌, inl, inr, arith}
 use Rattle.std.proofs.Math.Nat.{pow-suc, mul-add, mul_assoc, mul_comm}
 use Rattle.std.specs.Prelude.{nat_lt, nat_le, ◌==◌, ◌&&◌}
 use Rattle.std.proofs.lemmas.Bool.Decides.{nat_tests}
 use Rattle.trace_values.specs.declared.next.Next.{Next}
 use Rattle.trace_values.specs.declared.next.Next.TheVariants.{Go, Stop, Fail}
-use Rattle.trace_values.specs.Walk.{Walked, Within, Whole, Beyond, after, walk}
-use Rattle.itm_grammar.specs.declared.packet.Size.{Size}
+use Rattle.trace_values.specs.Walk.{Walked, Whole, after, walk}
 use Rattle.itm_grammar.specs.declared.packet.ItmPacket.{ItmPacket}
 use Rattle.itm_grammar.specs.declared.header.Class.{Class}
 use Rattle.itm_grammar.specs.declared.header.Class.TheVariants.{Zero, Overflow as Overflowed, Source, LocalShort, LocalLong, GlobalFirst as First, GlobalSecond as Second, Extension as Extended, Reserved}
 use Rattle.itm_grammar.specs.declared.partial.Partial.{Partial}
-use Rattle.itm_grammar.specs.declared.partial.Partial.TheVariants.{Header, Zeros, Payload}
-use Rattle.itm_grammar.specs.Spelling.{byte_count, number, groups, IsContinued, IsExtended, extended}
-use Rattle.itm_grammar.specs.Rule.{rule, begin, payload_with, last, goes_on, digit, base_of, most_bytes, second_stamp}
+use Rattle.itm_grammar.specs.declared.partial.Partial.TheVariants.{Payload}
+use Rattle.itm_grammar.specs.Spelling.{number, groups, IsContinued, IsExtended, extended}
+use Rattle.itm_grammar.specs.Rule.{rule, payload_with, last, another_follows, digit, base_of, second_stamp}
 use Rattle.itm_grammar.proofs.Headers.{chosen}
 
 -- a list by the rule from a state on
@@ -74,15 +73,15 @@ abbrev pub with_of : Class → ℕ → ℕ → ℕ → Next Partial ItmPacket
 with_of c n v b = payload_with c n (v + added c n b) b
 
 pub payload_cases : (c : Class) (n v b : ℕ) →
-    ((goes_on c n b ≡ true) × (with_of c n v b ≡ Go (Payload c (n + 1) (v + added c n b))))
-    ⊎ ((goes_on c n b ≡ false) × (with_of c n v b ≡ last c (n + 1) (v + added c n b) b))
-payload_cases c n v b = decided (goes_on c n b) refl where
-  decided : (t : Bool) → goes_on c n b ≡ t → ((goes_on c n b ≡ true) × (with_of c n v b ≡ Go (Payload c (n + 1) (v + added c n b)))) ⊎ ((goes_on c n b ≡ false) × (with_of c n v b ≡ last c (n + 1) (v + added c n b) b))
+    ((another_follows c n b ≡ true) × (with_of c n v b ≡ Go (Payload c (n + 1) (v + added c n b))))
+    ⊎ ((another_follows c n b ≡ false) × (with_of c n v b ≡ last c (n + 1) (v + added c n b) b))
+payload_cases c n v b = decided (another_follows c n b) refl where
+  decided : (t : Bool) → another_follows c n b ≡ t → ((another_follows c n b ≡ true) × (with_of c n v b ≡ Go (Payload c (n + 1) (v + added c n b)))) ⊎ ((another_follows c n b ≡ false) × (with_of c n v b ≡ last c (n + 1) (v + added c n b) b))
   decided true e = inl (e, rw e refl)
   decided false e = inr (e, rw e refl)
 
 pub record Filled (c : Class) (n v : ℕ) (p : List ℕ) (x : ItmPacket) : Type 0 where
-  pub fills : Fills (λ i b. goes_on c i b) n p
+  pub fills : Fills (λ i b. another_follows c i b) n p
   pub ends : last c (n + length p) (value_from (λ i b. added c i b) n v p) (last_of p) ≡ Stop x
 
 pub payload_sound : (c : Class) (n v : ℕ) (p : List ℕ) (x : ItmPacket) → from (Payload c n v) p ≡ Whole x → Filled c n v p x
@@ -116,9 +115,9 @@ payload_complete c n v (b ∷ (d ∷ p)) x f = elim (payload_cases c n v b) [
       let l : n + length (b ∷ (d ∷ p)) ≡ n + 1 + length (d ∷ p) = omega arith in
       says (with_of c n v b) (Go (Payload c (n + 1) w)) (d ∷ p) m.1
       ∙ payload_complete c (n + 1) w (d ∷ p) x (record {
-          fills = f.fills.1;
-          ends = subst (λ (i : ℕ). last c i (value_from (λ i b. added c i b) (n + 1) w (d ∷ p)) (last_of (d ∷ p)) ≡ Stop x) l f.ends;
-        })
+        fills = f.fills.1;
+        ends = subst (λ (i : ℕ). last c i (value_from (λ i b. added c i b) (n + 1) w (d ∷ p)) (last_of (d ∷ p)) ≡ Stop x) l f.ends;
+      })
   | inr m ↦ (let k = sym m.0 ∙ f.fills.0 in cc)
 ]
 
@@ -162,8 +161,8 @@ continued_fills most n (b ∷ []) h l = (stops h, h) where
 continued_fills most n (b ∷ (d ∷ p)) h l =
     let m = continued_fills most (n + 1) (d ∷ p) h.1 (omega arith) in ((goes h.0 (omega arith), m.0), m.1)
   where
-  goes : 128 ≤ b → n + 1 < most → longer most n b ≡ true
-  goes k j = grind (arith, nat_tests)
+    goes : 128 ≤ b → n + 1 < most → longer most n b ≡ true
+    goes k j = grind (arith, nat_tests)
 
 -- the weights of one more byte and of those behind it
 weigh : (base value count b more : ℕ) → value + b * base ^ count + base ^ (count + 1) * more ≡ value + base ^ count * (b + base * more)

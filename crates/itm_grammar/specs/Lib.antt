@@ -1,4 +1,6 @@
 pub mod Header
 pub mod Spelling
 pub mod Rule
+pub mod Proper
+pub mod Shortest
 pub mod Rows

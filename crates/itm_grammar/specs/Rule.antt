@@ -1,5 +1,5 @@
 -- One more byte of an unfinished packet: the grammar's rule, which keeps a state.
-use Rattle.std.specs.Prelude.{◌≡◌, ◌<◌, ℕ, ◌+◌, ◌*◌, ◌^◌, ◌/◌, ◌%◌, Bool, true, false, ◌==◌, ◌&&◌, nat_lt, nat_le, if◌then◌else◌}
+use Rattle.std.specs.Prelude.{◌≡◌, ◌<◌, ◌≤◌, ℕ, ◌+◌, ◌*◌, ◌^◌, ◌/◌, ◌%◌, Bool, true, false, ◌==◌, ◌&&◌, nat_lt, nat_le, if◌then◌else◌}
 use Rattle.trace_values.specs.declared.fault.Reason.TheVariants.{ReservedHeader, BadItmSync, LongStamp, ShortStamp}
 use Rattle.trace_values.specs.declared.next.Next.{Next}
 use Rattle.trace_values.specs.declared.next.Next.TheVariants.{Go, Stop, Fail}
@@ -54,10 +54,11 @@ digit (Extended more dwt low) count b = if count == 3 then b else b % 128
 digit class count b = b % 128
 
 -- behind this payload byte, which stands behind so many, there is another: by the size, or by bit 7
-abbrev pub goes_on : Class → ℕ → ℕ → Bool
-goes_on (Source hardware number size) count b = nat_lt (count + 1) (byte_count size)
-goes_on class count b = nat_le 128 b && nat_lt (count + 1) (most_bytes class)
+abbrev pub another_follows : Class → ℕ → ℕ → Bool
+another_follows (Source hardware number size) count b = nat_lt (count + 1) (byte_count size)
+another_follows class count b = nat_le 128 b && nat_lt (count + 1) (most_bytes class)
 
+-- a source packet, of hardware or of software
 abbrev pub source : Bool → ℕ → Size → ℕ → ItmPacket
 source true number size value = Hardware number size value
 source false number size value = Software number size value
@@ -83,8 +84,9 @@ last class count value b = Fail ReservedHeader
 
 -- a payload byte behind so many, where with this byte they stand for this number
 abbrev pub payload_with : Class → ℕ → ℕ → ℕ → Next Partial ItmPacket
-payload_with class count value b = if goes_on class count b then Go (Payload class (count + 1) value) else last class (count + 1) value b
+payload_with class count value b = if another_follows class count b then Go (Payload class (count + 1) value) else last class (count + 1) value b
 
+-- the rule: a header, a byte of a synchronisation, or a payload byte
 abbrev pub rule : Partial → ℕ → Next Partial ItmPacket
 rule Header b = begin (class_of b)
 rule (Zeros count) b = zeros_with count b
@@ -96,15 +98,23 @@ count_of Header = 0
 count_of (Zeros count) = count
 count_of (Payload class count value) = count + 1
 
+-- and how many after a step: none behind a whole packet or a fault
+abbrev pub held_after : Next Partial ItmPacket → ℕ
+held_after (Go partial) = count_of partial
+held_after (Stop packet) = 0
+held_after (Fail e) = 0
+
 -- what bytes leave: fewer payload bytes than the class may have, which stand for a number that fits them
 abbrev pub is_sound_payload : Class → ℕ → ℕ → Bool
 is_sound_payload class count value = nat_lt count (most_bytes class) && nat_lt value (base_of class ^ count)
 
+-- and with a class whose numbers fit their bits; of bytes 00, at least one
 abbrev pub is_sound : Partial → Bool
 is_sound Header = true
 is_sound (Zeros count) = nat_lt 0 count
 is_sound (Payload class count value) = is_proper_class class && is_sound_payload class count value
 
+-- where a packet goes on, it does so in such a state
 abbrev pub IsSoundNext : Next Partial ItmPacket → Type 0
 IsSoundNext (Go partial) = is_sound partial ≡ true
 IsSoundNext (Stop packet) = Unit {0}
@@ -116,3 +126,9 @@ FitsLast (Source hardware number size) value = value < 2 ^ 32
 FitsLast (LocalLong lateness) value = value < 2 ^ 28
 FitsLast (Extended more dwt low) value = (low < 8) × (value < 2 ^ 29)
 FitsLast class value = Unit {0}
+
+-- but for a run of bytes 00, no more than six bytes are kept
+abbrev pub HoldsFew : Partial → Type 0
+HoldsFew Header = Unit {0}
+HoldsFew (Zeros count) = Unit {0}
+HoldsFew (Payload class count value) = count_of (Payload class count value) ≤ 6

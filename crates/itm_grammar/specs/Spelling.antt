@@ -31,6 +31,7 @@ late_bits StampLate = 1
 late_bits PacketLate = 2
 late_bits BothLate = 3
 
+-- a bit, as a number
 abbrev pub bit_of : Bool → ℕ
 bit_of true = 1
 bit_of false = 0
@@ -84,7 +85,8 @@ more_bit (b ∷ bytes) = 1
 -- Local timestamp: 0TTT0000 with TTT 1 to 6, which is exact; or 11LL0000 and at most four bytes with the time, seven bits a byte.
 -- Global timestamp 1: 94 and at most four bytes, seven bits a byte: 26 bits of the time, then clock change, then wrap.
 -- Global timestamp 2: B4 and four bytes with 22 bits of the time, or six with 38; what is above these in the last byte is ignored.
--- Extension packet: CDDD1S00, with value bits 2 to 0 in DDD and S set for the DWT, and at most four bytes with the bits above these.
+-- Extension packet: CDDD1S00, with value bits 2 to 0 in DDD, S set for the DWT and C set where bytes follow, at most four, with the bits above these.
+-- (That a second global timestamp has four bytes or six, and that an extension's fourth byte has eight bits, is this project's profile.)
 abbrev pub Spells : ItmPacket → List ℕ → Type 0
 Spells Sync r = (zeros : ℕ) × (5 ≤ zeros) × (r ≡ replicate zeros 0 ++ 128 ∷ [])
 Spells Overflow r = r ≡ 112 ∷ []

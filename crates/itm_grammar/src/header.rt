@@ -28,7 +28,11 @@ pub enum Class {
     /// A second global timestamp, 4 or 6 bytes of which follow.
     GlobalSecond,
     /// An extension packet with these low bits of its value, 0 to 7. Up to 4 bytes follow where there are more.
-    Extension { more: bool, dwt: bool, low: u8 },
+    Extension {
+        more: bool,
+        dwt: bool,
+        low: u8,
+    },
     /// No packet.
     Reserved,
 }
@@ -138,8 +142,8 @@ mod tests {
 
     fn source(number: u8, hardware: bool, low: u8) -> Class {
         let size = match low {
-            1 => Size::One,
-            2 => Size::Two,
+            0b01 => Size::One,
+            0b10 => Size::Two,
             _ => Size::Four,
         };
         Class::Source {

@@ -1,14 +1,17 @@
 //! Laws of the grammar, over its definitions alone.
 
-ghost use Rattle.std.specs.Prelude.{◌≡◌, ◌↔◌, List};
+ghost use Rattle.std.specs.Prelude.{◌≡◌, ◌↔◌, ℕ, ◌<◌, List, All};
 ghost use Rattle.trace_values.specs.Placed.{Placed, units_of};
 ghost use Rattle.trace_values.specs.Grammar.{PrefixLaw, InUnits};
-ghost use Rattle.trace_values.specs.Walk.{Decides, by_unit};
+ghost use Rattle.trace_values.specs.Walk.{Decides, Within, walk, by_unit};
 ghost use Rattle.trace_values.specs.Reading.{Reading, IsReading, reading};
 ghost use Rattle.itm_grammar.specs.declared.packet.ItmPacket.{ItmPacket};
+ghost use Rattle.itm_grammar.specs.declared.partial.Partial.{Partial};
 ghost use Rattle.itm_grammar.specs.declared.partial.Partial.TheVariants.{Header};
 ghost use Rattle.itm_grammar.specs.Spelling.{Spells, why};
-ghost use Rattle.itm_grammar.specs.Rule.{rule};
+ghost use Rattle.itm_grammar.specs.Rule.{rule, HoldsFew};
+ghost use Rattle.itm_grammar.specs.Proper.{IsProper};
+ghost use Rattle.itm_grammar.specs.Shortest.{HasShortest};
 
 /// One list of bytes spells at most one packet, and no spelling begins another.
 pub fn prefix_law()
@@ -25,4 +28,19 @@ pub fn rule_law()
 pub fn reading_law()
     ensures { (u : List Placed) (r : Reading ItmPacket) →
         IsReading (InUnits Spells) (λ r. why (units_of r)) u r ↔ (r ≡ reading (by_unit rule) Header u) }
+{}
+
+/// What bytes spell has its numbers in their ranges.
+pub fn proper_law()
+    ensures { (packet : ItmPacket) (r : List ℕ) → Spells packet r → All (λ b. b < 256) r → IsProper packet }
+{}
+
+/// Each packet with its numbers in their ranges has a spelling, and this is the shortest.
+pub fn shortest_law()
+    ensures { (packet : ItmPacket) → IsProper packet → HasShortest packet }
+{}
+
+/// But for a run of bytes 00, the bytes of an unfinished packet are at most six.
+pub fn holding_law()
+    ensures { (s : Partial) (r : List ℕ) → walk rule Header r ≡ Within s → HoldsFew s }
 {}

@@ -6,4 +6,6 @@ pub mod header;
 pub mod laws;
 pub mod packet;
 pub mod partial;
+pub mod proper;
 pub mod rows;
+pub mod shortest;

@@ -8,6 +8,23 @@ pub enum Size {
     Four,
 }
 
+impl Size {
+    ghost use Rattle.std.specs.Prelude.{◌≡◌, ◌≤◌};
+    ghost use Rattle.itm_grammar.specs.Spelling.{byte_count};
+
+    /// How many bytes that is.
+    pub fn byte_count(self) -> u8
+        ensures count { result ≡ byte_count self }
+        ensures few { result ≤ 4 }
+    {
+        match self {
+            Size::One => 1,
+            Size::Two => 2,
+            Size::Four => 4,
+        }
+    }
+}
+
 /// What a local timestamp was late by: it is exact, the timestamp itself was delayed, the packet that it
 /// belongs to was delayed, or both were.
 #[derive(Clone, Copy, Debug, PartialEq, Eq, Drop)]
@@ -26,11 +43,22 @@ pub enum ItmPacket {
     /// The overflow packet: packets were lost.
     Overflow,
     /// An instrumentation packet: what was written to a stimulus port, 0 to 31. The value fits its size.
-    Software { port: u8, size: Size, value: u32 },
+    Software {
+        port: u8,
+        size: Size,
+        value: u32,
+    },
     /// A hardware source packet of the DWT: its discriminator, 0 to 31, and its payload, which fits its size.
-    Hardware { disc: u8, size: Size, value: u32 },
+    Hardware {
+        disc: u8,
+        size: Size,
+        value: u32,
+    },
     /// A local timestamp: the time since the one before, in ticks, under 2^28.
-    Local { lateness: Lateness, delta: u32 },
+    Local {
+        lateness: Lateness,
+        delta: u32,
+    },
     /// A first global timestamp: the time's low bits in so many payload bytes, 1 to 4, which hold 7, 14, 21
     /// or 26 of them. With four bytes it says also whether the clock's ratio changed, and whether the high
     /// bits did.
@@ -41,7 +69,13 @@ pub enum ItmPacket {
         wrap: bool,
     },
     /// A second global timestamp: the time's bits from bit 26 on, under 2^22, or under 2^38 where it is wide.
-    GlobalSecond { wide: bool, value: u64 },
+    GlobalSecond {
+        wide: bool,
+        value: u64,
+    },
     /// An extension packet, of the ITM or of the DWT.
-    Extension { dwt: bool, value: u32 },
+    Extension {
+        dwt: bool,
+        value: u32,
+    },
 }

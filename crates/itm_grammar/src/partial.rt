@@ -2,8 +2,7 @@
 
 ghost use Rattle.std.specs.Prelude.{◌≡◌, ◌↔◌, IsTrue, ℕ, ◌+◌, ◌*◌, ◌^◌, ◌<◌, ◌≤◌, ◌%◌, true};
 ghost use Rattle.itm_grammar.specs.Header.{is_proper_class};
-ghost use Rattle.itm_grammar.specs.Spelling.{byte_count as spelled_count};
-ghost use Rattle.itm_grammar.specs.Rule.{rule, begin as begun, zeros_with as zeros_and, payload_with as payload_and, last as lasting, goes_on as going_on, source as sourced, first_stamp as first_stamped, second_stamp as second_stamped, digit, base_of, is_sound, is_sound_payload, IsSoundNext, FitsLast, count_of};
+ghost use Rattle.itm_grammar.specs.Rule.{rule, begin as begun, zeros_with as zeros_and, payload_with as payload_and, last as lasting, another_follows as follows_by_table, source as sourced, first_stamp as first_stamped, second_stamp as second_stamped, digit, base_of, is_sound, is_sound_payload, IsSoundNext, FitsLast, count_of, held_after};
 
 use crate::header::{Class, classify};
 use crate::packet::{ItmPacket, Lateness, Size};
@@ -53,17 +52,6 @@ fn groups_with(value: u64, count: u8, bits: u8) -> u64
         3 => value + 0x20_0000 * bits,
         4 => value + 0x1000_0000 * bits,
         _ => value + 0x8_0000_0000 * bits,
-    }
-}
-
-fn byte_count(size: Size) -> u8
-    ensures count { result ≡ spelled_count size }
-    ensures few { result ≤ 4 }
-{
-    match size {
-        Size::One => 1,
-        Size::Two => 2,
-        Size::Four => 4,
     }
 }
 
@@ -128,12 +116,12 @@ fn value_with(class: Class, count: u8, value: u64, byte: u8) -> u64
 }
 
 /// Whether another payload byte follows this one, by the size or by bit 7.
-fn goes_on(class: Class, count: u8, byte: u8) -> bool
+fn another_follows(class: Class, count: u8, byte: u8) -> bool
     requires { count < 6 }
-    ensures { result ≡ going_on class count byte }
+    ensures { result ≡ follows_by_table class count byte }
 {
     match class {
-        Class::Source { size, .. } => count + 1 < byte_count(size),
+        Class::Source { size, .. } => count + 1 < size.byte_count(),
         Class::GlobalSecond => byte >= 128 && count < 5,
         Class::LocalLong(_) | Class::GlobalFirst | Class::Extension { more: true, .. } => {
             byte >= 128 && count < 3
@@ -228,7 +216,7 @@ fn payload_with(class: Class, count: u8, value: u64, byte: u8) -> Next<Partial, 
     ensures sound { IsSoundNext result }
 {
     let value = value_with(class, count, value, byte);
-    if goes_on(class, count, byte) {
+    if another_follows(class, count, byte) {
         Next::Go(Partial::Payload {
             class,
             count: count + 1,
@@ -246,6 +234,7 @@ impl Partial {
         requires room { count_of self ≤ 2 ^ 60 }
         ensures next { result ≡ rule self byte }
         ensures sound { IsSoundNext result }
+        ensures held { held_after result ≤ count_of self + 1 }
     {
         match self {
             Partial::Header => begin(classify(byte)),
@@ -271,94 +260,4 @@ impl Partial {
 }
 
 #[cfg(test)]
-mod tests {
-    use super::*;
-    use std::process::Abort;
-
-    fn software(port: u8, size: Size, value: u32) -> ItmPacket {
-        ItmPacket::Software { port, size, value }
-    }
-
-    /// Reads the bytes, which must end these packets at these offsets, and then leave so many bytes that
-    /// end none, or break at the offset of the error.
-    fn check(
-        rt: &impl Abort,
-        bytes: &[u8],
-        packets: &[(usize, ItmPacket)],
-        end: Result<u64, usize>,
-    ) {
-        assert!(rt; bytes.len() < 100);
-        let mut partial = Partial::Header;
-        let mut found = 0;
-        for at in 0..bytes.len() {
-            match partial.with_byte(bytes[at]) {
-                Next::Go(next) => partial = next,
-                Next::Stop(packet) => {
-                    assert_eq!(rt; packets.get(found), Some(&(at, packet)));
-                    partial = Partial::Header;
-                    found += 1;
-                }
-                Next::Fail(_) => {
-                    assert_eq!(rt; found, packets.len());
-                    assert_eq!(rt; Err(at), end);
-                    return;
-                }
-            }
-        }
-        assert_eq!(rt; found, packets.len());
-        assert_eq!(rt; Ok(partial.len()), end);
-    }
-
-    #[test]
-    fn reads_packets(rt: HostRuntime) {
-        check(&rt, b"", &[], Ok(0));
-        check(
-            &rt,
-            b"\0\0\0\0\0\x80\x01\x41",
-            &[(5, ItmPacket::Sync), (7, software(0, Size::One, 0x41))],
-            Ok(0),
-        );
-        check(
-            &rt,
-            b"\xfa\x34\x12\x13\xff\xff\xff\xff",
-            &[
-                (2, software(31, Size::Two, 0x1234)),
-                (7, software(2, Size::Four, 0xffff_ffff)),
-            ],
-            Ok(0),
-        );
-        check(
-            &rt,
-            b"\x03\0\0\0\0\0\0\0\0\0\x80",
-            &[(4, software(0, Size::Four, 0)), (10, ItmPacket::Sync)],
-            Ok(0),
-        );
-        check(
-            &rt,
-            b"\x03\x78\x56\x34\x12",
-            &[(4, software(0, Size::Four, 0x1234_5678))],
-            Ok(0),
-        );
-        check(&rt, b"\x03\x01\x02", &[], Ok(3));
-        check(
-            &rt,
-            b"\x09\x55\0\0\0\0\0\0\0",
-            &[(1, software(1, Size::One, 0x55))],
-            Ok(7),
-        );
-    }
-
-    #[test]
-    fn finds_faults(rt: HostRuntime) {
-        check(&rt, b"\xc0\x01", &[], Err(0));
-        check(&rt, b"\0\0\x80", &[], Err(2));
-        check(&rt, b"\0\0\0\0\x80", &[], Err(4));
-        check(&rt, b"\0\0\0\0\0\x81", &[], Err(5));
-        check(
-            &rt,
-            b"\x01\x70\x05\x01\x70",
-            &[(1, software(0, Size::One, 0x70))],
-            Err(2),
-        );
-    }
-}
+mod tests;
