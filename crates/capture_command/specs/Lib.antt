@@ -4,4 +4,5 @@ pub mod ListingLaws
 pub mod Statuses
 pub mod Words
 pub mod Show
+pub mod Notes
 pub mod Run

@@ -1,22 +1,26 @@
 //! Lists the packets of a bare ITM stream that comes on standard input.
 #![tactic(auto)]
 
-ghost use Rattle.std.specs.Prelude.{◌≡◌, ℕ, ◌≤◌, List, length, map};
+ghost use Rattle.std.specs.Prelude.{◌≡◌, ℕ, ◌≤◌, List, length, map, codes};
 ghost use Rattle.std.specs.String.{string_bytes};
-ghost use Rattle.std.specs.Io.KnownBytes.{Keeps};
 ghost use Rattle.trace_io.specs.Causes.{Rose};
 ghost use Rattle.capture_command.specs.declared.packets.PacketsMode.{PacketsMode};
 ghost use Rattle.capture_command.specs.Listing.{IsFaulty, listed, ending};
 ghost use Rattle.capture_command.specs.Words.{AsksFor};
+ghost use Rattle.capture_command.specs.Notes.{Notes};
 ghost use Rattle.capture_command.specs.Run.{HasRun, Untouched, Loses, IsDoneOrNoMemory};
 
+mod notes;
 mod packets;
 pub mod rows;
 mod show;
 mod status;
+#[cfg(test)]
+mod tests;
 mod text;
 mod words;
 
+use notes::{note, note_status};
 use show::Show;
 use status::Status;
 use std::alloc::Global;
@@ -30,25 +34,28 @@ use words::mode_of;
 pub const LIMIT: u64 = 16777216;
 
 /// All that the program does: it reads the words, does what they ask for on the input, and answers how
-/// that ended. Nothing goes to the notes yet.
+/// that ended.
 ///
 /// A status is the first that holds of WriteFault, CaptureFault, ReadFault, Limit and Done. Want of
-/// memory is the one free answer, and comes only before anything is read or written.
+/// memory is the one free answer, and comes only before anything is read or written. A failed write to
+/// the notes changes nothing.
 pub fn run<I: Source, O: Sink, N: Sink>(
     alloc: Global,
     words: &[String],
     input: &mut I,
     output: &mut O,
-    _notes: &mut N,
+    notes: &mut N,
 ) -> Status
     // The words.
     ensures usage { (mode : PacketsMode) → result ≡ Status.Usage → AsksFor (map string_bytes words.now) mode → ⊥ }
     ensures misuse { ((mode : PacketsMode) → AsksFor (map string_bytes words.now) mode → ⊥) → result ≡ Status.Usage }
     ensures untouched { result ≡ Status.Usage → Untouched (I.left input.old) (I.left input.new) (O.held output.old) (O.held output.new) }
+    ensures usage_note { result ≡ Status.Usage → Notes (N.held notes.old) (N.held notes.new) (N.faults notes.old) (N.faults notes.new) (codes "usage: unbuilt\n") }
 
-    // What was read and written, by the status.
+    // What was read, written and noted, by the status.
     ensures show { (mode : PacketsMode) → AsksFor (map string_bytes words.now) mode →
-        HasRun (IsFaulty mode) (listed mode) (ending mode) LIMIT (I.left input.old) (I.left input.new) (O.held output.old) (O.held output.new) result }
+        HasRun (IsFaulty mode) (listed mode) (ending mode) LIMIT (I.left input.old) (I.left input.new) (O.held output.old) (O.held output.new)
+            (N.held notes.old) (N.held notes.new) (N.faults notes.old) (N.faults notes.new) result }
 
     // The causes of what the outside does, and that without a cause all is done.
     ensures read_cause { result ≡ Status.ReadFault → Rose (I.faults input.old) (I.faults input.new) }
@@ -56,15 +63,19 @@ pub fn run<I: Source, O: Sink, N: Sink>(
     ensures complete { (mode : PacketsMode) (bytes : List ℕ) → AsksFor (map string_bytes words.now) mode → Loses (I.left input.old) (I.left input.new) bytes →
         (Rose (I.faults input.old) (I.faults input.new) → ⊥) → (Rose (O.faults output.old) (O.faults output.new) → ⊥) →
         length bytes ≤ LIMIT → (IsFaulty mode bytes → ⊥) → IsDoneOrNoMemory result }
-    ensures silent { Keeps (N.held _notes.old) (N.held _notes.new) }
 {
     let Some(mode) = mode_of(words) else {
+        note(notes, b"usage: unbuilt\n");
         return Status::Usage;
     };
     let Ok(mut buffers) = Buffers::open(alloc) else {
+        note(notes, b"no memory\n");
         return Status::NoMemory;
     };
-    Status::from(serve(&mut buffers, &mut Show::new(mode), LIMIT, input, output))
+    let outcome = serve(&mut buffers, &mut Show::new(mode), LIMIT, input, output);
+    let status = Status::from(outcome);
+    note_status(notes, status, LIMIT, &buffers);
+    status
 }
 
 fn main(rt: HostRuntime) -> ExitCode {
