@@ -5,6 +5,7 @@ ghost use Rattle.trace_stream.specs.DoublingLaws.{none_at_first, fault_stays, do
 use crate::action::{Action, Flow, Taken};
 use crate::buffers::Buffers;
 use crate::outlet::Outlet;
+use crate::recent::RECENT_ROOM;
 use crate::serving::{Outcome, serve};
 use std::alloc::Global;
 use std::process::Abort;
@@ -287,4 +288,50 @@ fn output_is_longer_than_the_outlet(rt: HostRuntime) -> Result<(), Fail> {
     check_long(rt.alloc(), &rt, &[1], &[], Outcome::ReadFailed, 8192)?;
     // the third write fails, in the middle of a piece
     check_long(rt.alloc(), &rt, &[], &[2], Outcome::WriteFailed, 1007)
+}
+
+// Runs up to a fault, and looks at the last bytes.
+fn check_recent(
+    alloc: Global,
+    rt: &impl Abort,
+    bytes: &[u8],
+    pieces: &[usize],
+    recent: &[u8],
+) -> Result<(), Fail> {
+    let mut buffers = Buffers::open(alloc)?;
+    let mut action = Doubling {
+        is_clean: true,
+        count: 0,
+    };
+    let mut room = [0; 128];
+    let mut input = MemorySource::new(bytes, pieces, &[]);
+    let mut output = MemorySink::new(&mut room, &[], &[]);
+    let ended = serve(&mut buffers, &mut action, 1 << 24, &mut input, &mut output);
+    assert_eq!(rt; ended, Outcome::Stopped);
+    let mut last = [0; RECENT_ROOM];
+    let count = buffers.recent(&mut last);
+    assert_eq!(rt; &last[..count], recent);
+    Ok(())
+}
+
+// The byte that made the fault certain is the last one, also where more was read behind it.
+#[test]
+fn recent_bytes_end_at_the_fault(rt: HostRuntime) -> Result<(), Fail> {
+    let rows: [(&'static [u8], &'static [u8]); 5] = [
+        (b"a\xffyz", b"a\xff"),
+        (b"abcde\xffyz", b"abcde\xff"),
+        (b"abcdefghijklmnop\xffyz", b"bcdefghijklmnop\xff"),
+        (b"abcdefghijklmnopq\xffyz", b"cdefghijklmnopq\xff"),
+        (
+            b"abcdefghijklmnopqrstuvwxyz0123456789ABCD\xffyz",
+            b"z0123456789ABCD\xff",
+        ),
+    ];
+    let sizes: [&'static [usize]; 4] = [&[1], &[3], &[16], &[]];
+    for (bytes, recent) in rows {
+        for pieces in sizes {
+            check_recent(rt.alloc(), &rt, bytes, pieces, recent)?;
+        }
+    }
+    Ok(())
 }
