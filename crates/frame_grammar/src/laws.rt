@@ -1,16 +1,16 @@
 //! Laws of the grammar and of cells, over their definitions alone.
 
-ghost use Rattle.std.specs.Prelude.{◌≡◌, ◌↔◌, ◌≤◌, ℕ, List, Option, map, length, slice_index};
+ghost use Rattle.std.specs.Prelude.{◌≡◌, ◌↔◌, ◌≤◌, ℕ, ◌+◌, ◌*◌, List, ◌++◌, Option, None, map, length, slice_index};
 ghost use Rattle.std.specs.List.{Contains};
 ghost use Rattle.std.specs.List.Sorted.{IsNonDecreasingBy};
 ghost use Rattle.trace_values.specs.declared.cell.Cell.{Cell};
-ghost use Rattle.trace_values.specs.Placed.{Placed};
+ghost use Rattle.trace_values.specs.Placed.{Placed, units_of};
 ghost use Rattle.trace_values.specs.Grammar.{PrefixLaw};
 ghost use Rattle.trace_values.specs.Walk.{Decides};
 ghost use Rattle.trace_values.specs.Reading.{Reading, IsReading};
-ghost use Rattle.frame_grammar.specs.Frame.{cells, data_indexes};
-ghost use Rattle.frame_grammar.specs.Port.{Piece, Spells, why, rule, start};
-ghost use Rattle.frame_grammar.specs.Reading.{port_reading};
+ghost use Rattle.frame_grammar.specs.Frame.{HasNoFullByte, cells, data_indexes};
+ghost use Rattle.frame_grammar.specs.Port.{Piece, Frame, Spells, why, rule, start, half_words};
+ghost use Rattle.frame_grammar.specs.Reading.{port_reading, port_progress, cells_of_pieces, id_of_pieces};
 
 /// One list of bytes spells at most one piece, and no spelling begins another.
 pub fn prefix_law()
@@ -26,6 +26,27 @@ pub fn rule_law()
 /// Each list of placed bytes has one reading, and reading them byte by byte computes it.
 pub fn reading_law()
     ensures { (u : List Placed) (r : Reading Piece) → IsReading Spells why u r ↔ (r ≡ port_reading u) }
+{}
+
+/// A frame has 16 bytes, none of the mixed-use ones is FF, and its spelling has them and its half synchronisations.
+pub fn frame_law()
+    ensures bytes { (f r : List Placed) (halves : ℕ) → Spells (Frame f halves) r → length f ≡ 16 }
+    ensures proper { (f r : List Placed) (halves : ℕ) → Spells (Frame f halves) r → HasNoFullByte (units_of f) }
+    ensures spelling { (f r : List Placed) (halves : ℕ) → Spells (Frame f halves) r → length r ≡ 16 + 2 * halves }
+{}
+
+/// Half synchronisations are counted in a frame by its spelling, and in an unfinished one by the bytes it has.
+pub fn halves_law()
+    ensures frame { (f r : List Placed) (halves : ℕ) → Spells (Frame f halves) r → halves ≡ half_words r }
+    ensures unfinished { (u : List Placed) → (port_reading u).fault ≡ None →
+        (port_progress u).state.halves ≡ half_words (port_reading u).rest }
+{}
+
+/// The ID carries over from pieces to those behind them.
+pub fn pieces_law()
+    ensures cells { (id : Option ℕ) (xs ys : List Piece) →
+        cells_of_pieces id (xs ++ ys) ≡ cells_of_pieces id xs ++ cells_of_pieces (id_of_pieces id xs) ys }
+    ensures id { (id : Option ℕ) (xs ys : List Piece) → id_of_pieces id (xs ++ ys) ≡ id_of_pieces (id_of_pieces id xs) ys }
 {}
 
 /// The cells of a frame stand at the indexes 0 to 14 that are no ID bytes, in order.
