@@ -10,7 +10,7 @@ use Rattle.trace_values.specs.Placed.{Place, Placed, units_of}
 use Rattle.trace_values.specs.Walk.{Walked, Within, after, walk}
 use Rattle.trace_values.specs.Reading.{Progress, with_unit, advance, progress_from, unread, progress}
 use Rattle.trace_values.proofs.Walks.{walk_push, walked}
-use Rattle.frame_grammar.specs.Frame.{HasNoFullByte}
+use Rattle.frame_grammar.specs.Frame.{IsProperFrame}
 use Rattle.frame_grammar.specs.Port.{Piece, Full, Half, Frame, half_spelling, IsWord, IsWords, Spells, half_words, Between, First, One, Two, Three, State, start, word_ended, rule}
 use Rattle.frame_grammar.specs.Reading.{piece_cells, piece_id, cells_of_pieces, id_of_pieces}
 use Rattle.frame_grammar.proofs.Deciding.{yes, no, is_yes, is_no, at, on}
@@ -74,7 +74,7 @@ spelled_length (suc n) k f r (here, later, a, b, g, w, i, ek, ef, m) = let l = s
 pub frame_bytes : (f r : List Placed) (halves : ℕ) → Spells (Frame f halves) r → length f ≡ 16
 frame_bytes f r halves (a, b, g, w, i, ef, m) = let l = words_length 7 halves g w m in let e : length f ≡ suc (suc (length g)) = ap length ef in omega arith
 
-pub frame_proper : (f r : List Placed) (halves : ℕ) → Spells (Frame f halves) r → HasNoFullByte (units_of f)
+pub frame_proper : (f r : List Placed) (halves : ℕ) → Spells (Frame f halves) r → IsProperFrame (units_of f)
 frame_proper f r halves (a, b, g, w, i, ef, m) = proper_more 7 a b f g i.proper ef (words_proper 7 halves g w m)
 
 pub frame_spelling : (f r : List Placed) (halves : ℕ) → Spells (Frame f halves) r → length r ≡ 16 + 2 * halves

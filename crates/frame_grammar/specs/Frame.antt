@@ -5,8 +5,8 @@ use Rattle.trace_values.specs.declared.cell.Cell.{Cell}
 use Rattle.trace_values.specs.Cells.{source_id}
 
 -- no mixed-use byte, one at an even index, is FF: the ID 127 is never used
-abbrev pub HasNoFullByte : List ℕ → Type 0
-HasNoFullByte frame = (k : ℕ) → k < 8 → slice_index frame (2 * k) ≢ 255
+abbrev pub IsProperFrame : List ℕ → Type 0
+IsProperFrame frame = (k : ℕ) → k < 8 → slice_index frame (2 * k) ≢ 255
 
 -- the byte at 2k names a source, by its bit 0
 abbrev pub names : List ℕ → ℕ → Bool

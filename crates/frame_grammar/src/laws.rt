@@ -8,7 +8,7 @@ ghost use Rattle.trace_values.specs.Placed.{Placed, units_of};
 ghost use Rattle.trace_values.specs.Grammar.{PrefixLaw};
 ghost use Rattle.trace_values.specs.Walk.{Decides};
 ghost use Rattle.trace_values.specs.Reading.{Reading, IsReading};
-ghost use Rattle.frame_grammar.specs.Frame.{HasNoFullByte, cells, data_indexes};
+ghost use Rattle.frame_grammar.specs.Frame.{IsProperFrame, cells, data_indexes};
 ghost use Rattle.frame_grammar.specs.Port.{Piece, Frame, Spells, why, rule, start, half_words};
 ghost use Rattle.frame_grammar.specs.Reading.{port_reading, port_progress, cells_of_pieces, id_of_pieces};
 
@@ -31,7 +31,7 @@ pub fn reading_law()
 /// A frame has 16 bytes, none of the mixed-use ones is FF, and its spelling has them and its half synchronisations.
 pub fn frame_law()
     ensures bytes { (f r : List Placed) (halves : ℕ) → Spells (Frame f halves) r → length f ≡ 16 }
-    ensures proper { (f r : List Placed) (halves : ℕ) → Spells (Frame f halves) r → HasNoFullByte (units_of f) }
+    ensures proper { (f r : List Placed) (halves : ℕ) → Spells (Frame f halves) r → IsProperFrame (units_of f) }
     ensures spelling { (f r : List Placed) (halves : ℕ) → Spells (Frame f halves) r → length r ≡ 16 + 2 * halves }
 {}
 
