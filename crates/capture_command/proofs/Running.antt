@@ -24,7 +24,7 @@ complete_of ReadFailed faulty text ending limit left_old left_new held_old held_
 complete_of WriteFailed faulty text ending limit left_old left_new held_old held_new read write bytes served r w lost no_read no_write within sound = absurd (no_write (w refl))
 complete_of Stopped faulty text ending limit left_old left_new held_old held_new read write bytes served r w lost no_read no_write within sound =
     let same = same_lost left_old left_new served.bytes bytes served.lost lost in
-    absurd (sound (subst faulty (ap (take limit) same ∙ take_all limit bytes within) served.by_outcome.0.broken))
+    absurd (sound (subst faulty (ap (take limit) same ∙ take_all limit bytes within) served.outcome.0.broken))
 complete_of OverLimit faulty text ending limit left_old left_new held_old held_new read write bytes served r w lost no_read no_write within sound =
     let same = same_lost left_old left_new served.bytes bytes served.lost lost in
-    absurd (omega (arith, ap length same, served.by_outcome.1))
+    absurd (omega (arith, ap length same, served.outcome.1))

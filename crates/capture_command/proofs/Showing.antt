@@ -1,7 +1,8 @@
 -- How the listing grows with one more byte.
-use Rattle.std.proofs.Common.{◌≡◌, ℕ, List, [], ◌∷◌, ◌++◌, length, take, get_or, ◌<◌, flat_map, refl, sym, ◌∙◌, ap, subst, arith, Option, None, Some, true}
+use Rattle.std.proofs.Common.{append_assoc, append-nil, length-append, ◌-◌, ◌≤◌, ◌<◌, ◌≡◌, ℕ, ◌+◌, List, ◌∷◌, [], ◌++◌, length, take, get_or, flat_map, refl, sym, ◌∙◌, ap, subst, arith, Option, None, Some, true, false}
 use Rattle.std.specs.Prelude.{is_none}
 use Rattle.std.proofs.lemmas.Grind.{flat_map-append}
+use Rattle.std.proofs.lemmas.List.{take_more, length-take-le}
 use Rattle.trace_values.specs.declared.fault.Reason.{Reason}
 use Rattle.trace_values.specs.declared.fault.Fault.{Fault}
 use Rattle.trace_values.specs.Walk.{by_unit}
@@ -15,38 +16,72 @@ use Rattle.itm_codec.specs.Decoder.{IsOf, is_live, held_of}
 use Rattle.trace_values.specs.declared.step.Step.{Step}
 use Rattle.trace_values.specs.declared.step.Step.TheVariants.{Quiet, Skipping, Item, Locked, Fault as Faulty}
 use Rattle.trace_stream.specs.declared.action.Flow.{Flow}
+use Rattle.trace_stream.specs.Laws.{IsCertainAt}
+use Rattle.trace_values.specs.Block.{Takes, given_after, fault_after}
 use Rattle.trace_stream.specs.Taken.{FlowAfter, HasTaken}
 use Rattle.capture_command.specs.Show.{told}
-use Rattle.trace_values.specs.Placed.{Place, Placed, placed, byte_at}
+use Rattle.trace_values.specs.Placed.{Place, Placed, placed, placed_from}
 use Rattle.trace_values.specs.Stream.{Stream, Grows, given_by, fault_by, goes_on}
-use Rattle.trace_values.proofs.Placing.{placed_push}
+use Rattle.trace_values.proofs.Placing.{placed_append}
 use Rattle.itm_grammar.specs.declared.packet.ItmPacket.{ItmPacket}
 use Rattle.itm_codec.specs.Reading.{packets}
 use Rattle.capture_command.specs.Listing.{line, packets_of, IsFaulty, listed, ending, end_lines, ending_by}
 
-pub front_one : (piece : List ℕ) → 0 < length piece → take 1 piece ≡ get_or piece 0 0 ∷ []
-front_one [] l = absurd (omega arith)
-front_one (b ∷ piece) l = refl
+-- the bytes that are fed are the next of the capture
+pub next_bytes : (seen xs : List ℕ) (at : ℕ) → at ≡ length seen → placed seen ++ placed_from at xs ≡ placed (seen ++ xs)
+next_bytes seen xs at e = ap (λ (n : ℕ). placed seen ++ placed_from n xs) e ∙ sym (placed_append seen xs)
 
--- the byte that is fed is the next of the capture
-pub next_byte : (seen : List ℕ) (at b : ℕ) → at ≡ length seen → placed seen ++ byte_at at b ∷ [] ≡ placed (seen ++ b ∷ [])
-next_byte seen at b e = ap (λ (n : ℕ). placed seen ++ byte_at n b ∷ []) e ∙ sym (placed_push seen b)
+-- bytes whose reading has none have no fault
+pub not_faulty : (seen : List ℕ) → (packets_of seen).fault ≡ None → IsFaulty seen → ⊥
+not_faulty seen n f = (let k = ap (λ (x : Option (Place × Reason)). is_none x) n in let g = f in cc)
 
-module _ (seen : List ℕ) (at b : ℕ) (step : Step ItmPacket) (e : at ≡ length seen)
-    (grows : Grows (packets (placed seen)) (packets (placed seen ++ byte_at at b ∷ [])) at step) where
-  pub listed_more : listed (seen ++ b ∷ []) ≡ listed seen ++ flat_map line (given_by at step)
+-- the bytes that were taken are counted
+pub counted : (seen piece : List ℕ) (count bytes : ℕ) → count ≡ length seen → bytes ≤ length piece → count + bytes ≡ length (seen ++ take bytes piece)
+counted seen piece count bytes e h = (let k = length-append seen (take bytes piece) in let l = length-take-le bytes piece h in omega arith)
+
+-- what the answer to the last byte puts out
+pub put_after : (old new : List ℕ) (count bytes : ℕ) (last : Step ItmPacket) (step : Option (Step ItmPacket)) → 0 < bytes → step ≡ Some last →
+    new ≡ old ++ flat_map line (given_by (count + bytes - 1) last) → new ≡ old ++ flat_map line (given_after (count + (bytes - 1)) step)
+put_after old new count bytes last step some e put =
+    put ∙ ap (λ (n : ℕ). old ++ flat_map line (given_by n last)) (let k : count + bytes - 1 ≡ count + (bytes - 1) = omega arith in k)
+    ∙ ap (λ (x : Option (Step ItmPacket)). old ++ flat_map line (given_after (count + (bytes - 1)) x)) (sym e)
+
+-- where a machine took these bytes of a piece behind those seen
+module _ (stands : List Placed → Type 0) (seen piece : List ℕ) (at bytes : ℕ) (step : Option (Step ItmPacket)) (e : at ≡ length seen)
+    (takes : Takes packets stands (placed seen) at piece bytes step) where
+  pub list_more : stands (placed (seen ++ take bytes piece))
+  list_more = subst stands (next_bytes seen (take bytes piece) at e) takes.list
+
+  pub listed_more : listed (seen ++ take bytes piece) ≡ listed seen ++ flat_map line (given_after (at + (bytes - 1)) step)
   listed_more =
-      ap (λ (u : List Placed). flat_map line (packets u).given) (sym (next_byte seen at b e))
-      ∙ ap (flat_map line) grows.given ∙ flat_map-append line (packets_of seen).given (given_by at step)
+      ap (λ (u : List Placed). flat_map line (packets u).given) (sym (next_bytes seen (take bytes piece) at e))
+      ∙ ap (flat_map line) takes.given ∙ flat_map-append line (packets_of seen).given (given_after (at + (bytes - 1)) step)
 
-  pub fault_more : (packets_of (seen ++ b ∷ [])).fault ≡ fault_by at step
-  fault_more = ap (λ (u : List Placed). (packets u).fault) (sym (next_byte seen at b e)) ∙ grows.fault
+  pub fault_more : (packets_of (seen ++ take bytes piece)).fault ≡ fault_after (at + (bytes - 1)) step
+  fault_more = ap (λ (u : List Placed). (packets u).fault) (sym (next_bytes seen (take bytes piece) at e)) ∙ takes.fault
 
-  pub still_sound : fault_by at step ≡ None → IsFaulty (seen ++ b ∷ []) → ⊥
+  pub still_sound : fault_after (at + (bytes - 1)) step ≡ None → IsFaulty (seen ++ take bytes piece) → ⊥
   still_sound n f = (let k = ap (λ (x : Option (Place × Reason)). is_none x) (fault_more ∙ n) in let g = f in cc)
 
-  pub now_faulty : (f : Place × Reason) → fault_by at step ≡ Some f → IsFaulty (seen ++ b ∷ [])
-  now_faulty f s = ap (λ (x : Option (Place × Reason)). is_none x) (fault_more ∙ s)
+  pub now_certain : 0 < bytes → bytes ≤ length piece → (f : Place × Reason) → fault_after (at + (bytes - 1)) step ≡ Some f → IsCertainAt IsFaulty (seen ++ take bytes piece)
+  now_certain some most f s = record {
+    front = seen ++ take (bytes - 1) piece;
+    last = get_or piece (bytes - 1) 0;
+    all = ap (λ (l : List ℕ). seen ++ l) (ap (λ (n : ℕ). take n piece) (let k : bytes ≡ bytes - 1 + 1 = omega arith in k) ∙ take_more piece (bytes - 1) 0 (omega arith))
+        ∙ sym (append_assoc seen (take (bytes - 1) piece) (get_or piece (bytes - 1) 0 ∷ []));
+    sound = not_faulty (seen ++ take (bytes - 1) piece) (ap (λ (u : List Placed). (packets u).fault) (sym (next_bytes seen (take (bytes - 1) piece) at e)) ∙ takes.sound);
+    broken = ap (λ (x : Option (Place × Reason)). is_none x) (fault_more ∙ s);
+  }
+
+  pub taken : (now : List ℕ → Type 0) (old new : List ℕ) (flow : Flow) → new ≡ old ++ flat_map line (given_after (at + (bytes - 1)) step) →
+      now (seen ++ take bytes piece) → FlowAfter IsFaulty (seen ++ take bytes piece) flow → HasTaken now IsFaulty listed seen (take bytes piece) old new flow
+  taken now old new flow gained read goes_on = record {
+    read = read;
+    more = flat_map line (given_after (at + (bytes - 1)) step);
+    grown = listed_more;
+    gained = gained;
+    goes_on = goes_on;
+  }
 
 -- a step that is no fault gives none
 pub no_fault : (at : ℕ) (step : Step ItmPacket) → ((f : Fault) → step ≡ Faulty f → ⊥) → fault_by at step ≡ None
@@ -56,23 +91,12 @@ no_fault at (Item half v) n = refl
 no_fault at (Locked skipped half v) n = refl
 no_fault at (Faulty f) n = absurd (n f refl)
 
--- the action took the piece's first byte
-pub taken : (now : List ℕ → Type 0) (seen piece old new : List ℕ) (at : ℕ) (step : Step ItmPacket) (flow : Flow) → 0 < length piece → at ≡ length seen →
-    Grows (packets (placed seen)) (packets (placed seen ++ byte_at at (get_or piece 0 0) ∷ [])) at step →
-    new ≡ old ++ flat_map line (given_by at step) → now (seen ++ get_or piece 0 0 ∷ []) → FlowAfter IsFaulty (seen ++ get_or piece 0 0 ∷ []) flow →
-    HasTaken now IsFaulty listed seen (take 1 piece) old new flow
-taken now seen piece old new at step flow some e grows gained read goes_on =
-    subst (λ (front : List ℕ). HasTaken now IsFaulty listed seen front old new flow) (sym (front_one piece some)) (record {
-      read = read;
-      more = flat_map line (given_by at step);
-      grown = listed_more seen at (get_or piece 0 0) step e grows;
-      gained = gained;
-      goes_on = goes_on;
-    })
+-- what is kept of a fault is the reading's
+pub told_fault : (at : ℕ) (f : Fault) → f.at ≡ at → told (Some f) ≡ fault_after {V = ItmPacket} at (Some (Faulty f))
+told_fault at f e = ap (λ (n : ℕ). Some (record { at = n; half = f.half }, f.reason)) e
 
--- what is kept of a fault in this byte is the reading's
-pub told_fault : (at : ℕ) (old new : Stream ItmPacket) (f : Fault) → Grows old new at (Faulty f) → told (Some f) ≡ fault_by {V = ItmPacket} at (Faulty f)
-told_fault at old new f g = ap (λ (n : ℕ). Some (record { at = n; half = f.half }, f.reason)) g.hunt.0
+pub no_fault_after : (at : ℕ) (step : Step ItmPacket) → ((f : Fault) → step ≡ Faulty f → ⊥) → fault_after at (Some step) ≡ None
+no_fault_after at step n = no_fault at step n
 
 pub going : (step : Step ItmPacket) → ((f : Fault) → step ≡ Faulty f → ⊥) → goes_on step ≡ true
 going Quiet n = refl
@@ -84,9 +108,6 @@ going (Faulty f) n = absurd (n f refl)
 -- a decoder that is live stands for bytes without a fault
 pub sound_of : (decoder : ItmDecoder) (seen : List ℕ) → IsOf decoder (placed seen) → is_live decoder ≡ true → (packets_of seen).fault ≡ None
 sound_of decoder seen s l = none_of (packets_of seen).fault (sym l ∙ s.live_is)
-
-pub not_faulty : (seen : List ℕ) → (packets_of seen).fault ≡ None → IsFaulty seen → ⊥
-not_faulty seen n f = (let k = ap (λ (x : Option (Place × Reason)). is_none x) n in let g = f in cc)
 
 -- the end lines are those of the bytes
 pub ended : (decoder : ItmDecoder) (seen : List ℕ) (count : ℕ) (fault : Option Fault) → IsOf decoder (placed seen) → count ≡ length seen → told fault ≡ (packets_of seen).fault →

@@ -9,8 +9,11 @@ ghost use Rattle.capture_command.specs.Listing.{IsFaulty, listed, ending};
 ghost use Rattle.capture_command.specs.Words.{IsShow};
 ghost use Rattle.capture_command.specs.Run.{HasRun, Untouched, Loses, IsDoneOrNoMemory};
 
+mod rows;
 mod show;
 mod status;
+#[cfg(test)]
+mod tests;
 mod text;
 mod words;
 

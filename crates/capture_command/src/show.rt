@@ -6,7 +6,7 @@ ghost use Rattle.itm_codec.specs.Decoder.{held_of, is_live};
 use crate::text::{put_end, put_fault, put_step};
 use itm_codec::ItmDecoder;
 use trace_stream::{Action, Flow, Outlet, Taken};
-use trace_values::{Fault, Machine, Step};
+use trace_values::{Fault, Machine, Step, feed_block};
 
 /// The reading of a bare stream and what its listing needs of it.
 #[derive(Drop)]
@@ -71,17 +71,20 @@ impl Action for Show {
     ghost text_grows = { λ _. listed_grows };
 
     fn feed(&mut self, piece: &[u8], outlet: &mut Outlet) -> Taken {
-        let step = self.decoder.feed(self.count, piece[0]);
-        put_step(outlet, self.count, &step);
-        self.count += 1;
-        let flow = match step {
-            Step::Fault(fault) => {
+        let block = feed_block(&mut self.decoder, self.count, piece);
+        self.count += block.bytes as u64;
+        let mut flow = Flow::On;
+        if let Some(step) = block.step {
+            put_step(outlet, self.count - 1, &step);
+            if let Step::Fault(fault) = step {
                 self.fault = Some(fault);
-                Flow::Stopped
+                flow = Flow::Stopped;
             }
-            _ => Flow::On,
-        };
-        Taken { bytes: 1, flow }
+        }
+        Taken {
+            bytes: block.bytes,
+            flow,
+        }
     }
 
     fn finish(&self, outlet: &mut Outlet) {

@@ -1,21 +1,34 @@
--- What a decoder stands for.
+-- What a decoder stands for, and what it shows.
 use Rattle.std.specs.Prelude.{ℕ, List, Bool}
 use Rattle.trace_values.specs.Placed.{Placed}
 use Rattle.trace_values.specs.Walk.{by_unit}
-use Rattle.trace_values.specs.Reading.{progress}
-use Rattle.trace_values.specs.Standing.{Stands}
+use Rattle.trace_values.specs.Moded.{StandsIn, hunts, is_locked, skipped_of}
+use Rattle.itm_grammar.specs.declared.packet.ItmPacket.TheVariants.{Sync}
 use Rattle.itm_grammar.specs.declared.partial.Partial.TheVariants.{Header}
 use Rattle.itm_grammar.specs.Rule.{rule, count_of}
+use Rattle.itm_codec.specs.Reading.{pattern}
 use Rattle.itm_codec.specs.declared.decoder.ItmDecoder.{ItmDecoder}
 
--- it is live exactly where the reading of the list has no fault, and keeps the unfinished packet of that reading
+-- before its lock it keeps how far the hunt has come; else it is live exactly where the reading of the list has no fault, and keeps the unfinished packet of that reading
 abbrev pub IsOf : ItmDecoder → List Placed → Type 0
-IsOf decoder u = Stands decoder.live decoder.partial (progress (by_unit rule) Header u)
+IsOf decoder u = StandsIn pattern Sync (by_unit rule) Header decoder.mode decoder.live decoder.partial u
+
+-- it was made to hunt
+abbrev pub is_hunter : ItmDecoder → Bool
+is_hunter decoder = hunts decoder.mode
 
 -- it has met no fault
 abbrev pub is_live : ItmDecoder → Bool
 is_live decoder = decoder.live
 
+-- its reading has begun
+abbrev pub has_locked : ItmDecoder → Bool
+has_locked decoder = is_locked decoder.mode
+
 -- how many bytes of an unfinished packet it holds
 abbrev pub held_of : ItmDecoder → ℕ
 held_of decoder = count_of decoder.partial
+
+-- how many bytes stand before its reading
+abbrev pub skipped_by : ItmDecoder → ℕ
+skipped_by decoder = skipped_of decoder.mode

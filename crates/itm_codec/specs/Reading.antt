@@ -1,13 +1,40 @@
 -- The packets that a source's list of bytes is.
-use Rattle.std.specs.Prelude.{List}
-use Rattle.trace_values.specs.Placed.{Placed}
+use Rattle.std.specs.Prelude.{◌≡◌, ◌⊎◌, List, [], ◌∷◌, ◌++◌, length, Bool, true, false, Option, None, Some}
+use Rattle.trace_values.specs.Placed.{Place, Placed, units_of}
 use Rattle.trace_values.specs.Walk.{by_unit}
+use Rattle.trace_values.specs.Hunt.{IsNowhere, IsFirst}
+use Rattle.trace_values.specs.Hunted.{Pattern, pattern_of, Found, hunt}
 use Rattle.trace_values.specs.Reading.{progress}
-use Rattle.trace_values.specs.Stream.{Stream, stream_of}
+use Rattle.trace_values.specs.Moded.{stream_in}
+use Rattle.trace_values.specs.Stream.{Stream, Notice, shown}
 use Rattle.itm_grammar.specs.declared.packet.ItmPacket.{ItmPacket}
+use Rattle.itm_grammar.specs.declared.packet.ItmPacket.TheVariants.{Sync}
+use Rattle.itm_grammar.specs.declared.partial.Partial.{Partial}
 use Rattle.itm_grammar.specs.declared.partial.Partial.TheVariants.{Header}
 use Rattle.itm_grammar.specs.Rule.{rule}
 
--- the reading of bytes that begin with a packet
-abbrev pub packets : List Placed → Stream ItmPacket
-packets u = stream_of (progress (by_unit rule) Header u)
+-- what a decoder hunts for: 00 00 00 00 00 80, which spells a synchronisation packet
+abbrev pub pattern : Pattern
+pattern = record { unit = 0; most = 5; last = 128 }
+
+-- the reading of the bytes from the first on, or in a hunt from the least place of the pattern on
+abbrev pub packets_in : Bool → List Placed → Stream ItmPacket
+packets_in hunts u = stream_in pattern Sync (by_unit rule) Header hunts u
+
+-- the bytes of the unfinished packet
+abbrev pub rest_found : Option (Found Partial ItmPacket) → List Placed
+rest_found None = []
+rest_found (Some found) = found.reading.rest
+
+abbrev pub rest_in : Bool → List Placed → List Placed
+rest_in false u = (progress (by_unit rule) Header u).rest
+rest_in true u = rest_found (hunt pattern Sync (by_unit rule) Header u).found
+
+-- What a hunt is: the pattern stands nowhere, and all bytes are skipped; or the bytes before its least place are
+-- skipped, and the reading begins there, with the lock's notice at the place of the pattern's last byte.
+abbrev pub IsHunt : List Placed → Stream ItmPacket → Type 0
+IsHunt u s =
+    (IsNowhere (pattern_of pattern) (units_of u) × (s ≡ record { given = []; fault = None; held = 0; skipped = length u; locked = false }))
+    ⊎ ((before : List Placed) × (behind : List Placed) × (place : Place) × (u ≡ before ++ behind) × IsFirst (pattern_of pattern) (units_of u) (units_of before)
+    × (s ≡ shown ((Notice (length before), place) ∷ []) (length before) (progress (by_unit rule) Header behind))
+    × ((more : List (ItmPacket × Place)) × ((progress (by_unit rule) Header behind).items ≡ (Sync, place) ∷ more)))

@@ -1,29 +1,52 @@
 //! The decoder of ITM packets.
 
 ghost use Rattle.std.specs.Prelude.{◌≡◌, true};
+ghost use Rattle.trace_values.specs.Moded.{is_counted};
 ghost use Rattle.itm_grammar.specs.Rule.{is_sound};
+ghost use Rattle.itm_codec.specs.Reading.{pattern};
 
+use crate::hunt::{ends_pattern, run_with};
 use itm_grammar::packet::ItmPacket;
 use itm_grammar::partial::Partial;
-use trace_values::{Fault, Machine, Next, Step};
+use trace_values::{Fault, Machine, Mode, Next, Step};
 
 /// A decoder of ITM packets. It keeps what it needs of the one unfinished packet.
 #[derive(Drop)]
 pub struct ItmDecoder {
+    mode: Mode,
     partial: Partial,
     live: bool,
     ghost sound: { is_sound partial ≡ true },
+    ghost counted: { is_counted pattern mode ≡ true },
 }
 
 impl ItmDecoder {
-    ghost use Rattle.std.specs.Prelude.{[]};
-    ghost use Rattle.itm_codec.specs.Decoder.{IsOf};
+    ghost use Rattle.std.specs.Prelude.{[], false};
+    ghost use Rattle.itm_codec.specs.Decoder.{IsOf, is_hunter, is_live, held_of, skipped_by};
 
     /// A decoder of bytes that begin with a packet.
     pub fn aligned() -> ItmDecoder
-        ensures { IsOf result [] }
+        ensures fresh { IsOf result [] }
+        ensures mode { is_hunter result ≡ false }
+        ensures live { is_live result ≡ true }
+        ensures empty { (held_of result ≡ 0) × (skipped_by result ≡ 0) }
     {
         ItmDecoder {
+            mode: Mode::Aligned,
+            partial: Partial::Header,
+            live: true,
+        }
+    }
+
+    /// A decoder of bytes that may begin anywhere: it skips them up to the first synchronisation packet.
+    pub fn hunting() -> ItmDecoder
+        ensures fresh { IsOf result [] }
+        ensures mode { is_hunter result ≡ true }
+        ensures live { is_live result ≡ true }
+        ensures empty { (held_of result ≡ 0) × (skipped_by result ≡ 0) }
+    {
+        ItmDecoder {
+            mode: Mode::Hunting { run: 0, skipped: 0 },
             partial: Partial::Header,
             live: true,
         }
@@ -31,57 +54,94 @@ impl ItmDecoder {
 }
 
 impl Machine for ItmDecoder {
-    ghost use Rattle.std.specs.Prelude.{refl};
+    ghost use Rattle.std.specs.Prelude.{refl, ◌+◌, ◌^◌, ◌≤◌, ◌∷◌, ◌++◌, [], List};
+    ghost use Rattle.trace_values.specs.Placed.{Placed, byte_at};
+    ghost use Rattle.trace_values.specs.Stream.{Grows, goes_on};
+    ghost use Rattle.itm_codec.specs.Answers.{AnswersBy};
     ghost use Rattle.itm_grammar.specs.Rule.{rule, count_of};
+    ghost use Rattle.itm_grammar.specs.declared.packet.ItmPacket.TheVariants.{Sync};
     ghost use Rattle.itm_grammar.specs.declared.partial.Partial.TheVariants.{Header};
     ghost use Rattle.trace_values.specs.Walk.{by_unit};
-    ghost use Rattle.itm_codec.specs.Reading.{packets};
-    ghost use Rattle.itm_codec.specs.Decoder.{IsOf, is_live, held_of};
-    ghost use Rattle.trace_values.proofs.Standings as laws;
+    ghost use Rattle.itm_codec.specs.Reading.{pattern, packets_in, rest_in};
+    ghost use Rattle.itm_codec.specs.Decoder.{IsOf, is_hunter, is_live, has_locked, held_of, skipped_by};
+    ghost use Rattle.trace_values.proofs.Modes as laws;
     ghost use Rattle.itm_grammar.proofs.Counting as counting;
 
     type Item = ItmPacket;
 
-    ghost reading = { λ _. packets };
+    ghost reading = { λ m. packets_in (is_hunter m) };
 
     ghost stands = { IsOf };
 
     ghost live = { is_live };
 
-    ghost locked = { λ _. true };
+    ghost locked = { has_locked };
 
     ghost held_units = { held_of };
 
-    ghost skipped_units = { λ _. 0 };
+    ghost skipped_units = { skipped_by };
 
-    ghost shows = { λ m u s. laws.Stands-shows (by_unit rule) Header count_of refl counting.counts_placed m.live m.partial u s };
+    ghost shows = { λ m u s. laws.shows pattern Sync (by_unit rule) Header count_of refl counting.counts_placed m.mode m.live m.partial u s };
 
-    ghost begins = { λ _. (refl, refl) };
+    ghost begins = { λ m. laws.begins pattern Sync (by_unit rule) Header (is_hunter m) };
 
-    ghost settles = { λ _ u w e. laws.settles (by_unit rule) Header u w e };
+    ghost settles = { λ m u w e. laws.settles pattern Sync (by_unit rule) Header (is_hunter m) u w e };
 
-    ghost rises = { λ _ u at byte. laws.rises (by_unit rule) Header u at byte };
+    ghost rises = { λ m u at byte. laws.rises pattern Sync (by_unit rule) Header (is_hunter m) u at byte };
 
-    fn feed(&mut self, at: u64, byte: u8) -> Step<ItmPacket> {
-        match self.partial.with_byte(byte) {
-            Next::Go(partial) => {
-                self.partial = partial;
-                Step::Quiet
-            }
-            Next::Stop(packet) => {
-                self.partial = Partial::Header;
-                Step::Item {
+    /// Takes the next byte. Beside what every machine says, its answer in a reading is the grammar's: an
+    /// item exactly where the unfinished packet with this byte is a packet, a fault exactly where no
+    /// packet begins so.
+    fn feed(&mut self, at: u64, byte: u8) -> Step<ItmPacket>
+        requires live { is_live self.old ≡ true }
+        requires room { held_of self.old ≤ 2 ^ 60 }
+        requires count { skipped_by self.old ≤ 2 ^ 60 }
+        ensures same { packets_in (is_hunter self.new) ≡ packets_in (is_hunter self.old) }
+        ensures list { (u : List Placed) → IsOf self.old u → IsOf self.new (u ++ byte_at at byte ∷ []) }
+        ensures step { (u : List Placed) → IsOf self.old u →
+            Grows (packets_in (is_hunter self.old) u) (packets_in (is_hunter self.old) (u ++ byte_at at byte ∷ [])) at result }
+        ensures live { is_live self.new ≡ goes_on result }
+        ensures few { held_of self.new + skipped_by self.new ≤ held_of self.old + skipped_by self.old + 2 }
+        ensures grammar { (u : List Placed) → IsOf self.old u → has_locked self.old ≡ true →
+            AnswersBy result at (rest_in (is_hunter self.old) u ++ byte_at at byte ∷ []) }
+    {
+        if let Mode::Hunting { run, skipped } = self.mode {
+            if ends_pattern(run, byte) {
+                let before = skipped - 5;
+                self.mode = Mode::Locked { skipped: before };
+                Step::Locked {
+                    skipped: before,
                     half: 0,
-                    item: packet,
+                    item: ItmPacket::Sync,
                 }
+            } else {
+                self.mode = Mode::Hunting {
+                    run: run_with(run, byte),
+                    skipped: skipped + 1,
+                };
+                Step::Skipping
             }
-            Next::Fail(reason) => {
-                self.live = false;
-                Step::Fault(Fault {
-                    at,
-                    half: 0,
-                    reason,
-                })
+        } else {
+            match self.partial.with_byte(byte) {
+                Next::Go(partial) => {
+                    self.partial = partial;
+                    Step::Quiet
+                }
+                Next::Stop(packet) => {
+                    self.partial = Partial::Header;
+                    Step::Item {
+                        half: 0,
+                        item: packet,
+                    }
+                }
+                Next::Fail(reason) => {
+                    self.live = false;
+                    Step::Fault(Fault {
+                        at,
+                        half: 0,
+                        reason,
+                    })
+                }
             }
         }
     }
@@ -91,7 +151,10 @@ impl Machine for ItmDecoder {
     }
 
     fn is_locked(&self) -> bool {
-        true
+        match self.mode {
+            Mode::Hunting { .. } => false,
+            Mode::Aligned | Mode::Locked { .. } => true,
+        }
     }
 
     fn held(&self) -> u64 {
@@ -99,6 +162,9 @@ impl Machine for ItmDecoder {
     }
 
     fn skipped(&self) -> u64 {
-        0
+        match self.mode {
+            Mode::Aligned => 0,
+            Mode::Hunting { skipped, .. } | Mode::Locked { skipped } => skipped,
+        }
     }
 }

@@ -3,5 +3,7 @@
 #![tactic(auto)]
 
 mod decoder;
+mod hunt;
+pub mod laws;
 
 pub use decoder::ItmDecoder;

@@ -1,18 +1,18 @@
 -- A state counts the bytes of the unfinished packet.
-use Rattle.std.proofs.Common.{◌≡◌, ℕ, ◌+◌, ◌*◌, ◌^◌, ◌==◌, ◌&&◌, nat_le, Bool, true, false, cond, refl}
-use Rattle.trace_values.specs.declared.fault.Reason.TheVariants.{Unbuilt}
+use Rattle.std.proofs.Common.{◌≡◌, ℕ, ◌+◌, ◌*◌, ◌^◌, ◌==◌, ◌&&◌, nat_lt, nat_le, Bool, true, false, cond, refl, ◌⊎◌, inl, inr}
+use Rattle.trace_values.specs.declared.fault.Reason.TheVariants.{BadItmSync}
 use Rattle.trace_values.specs.declared.next.Next.{Next}
 use Rattle.trace_values.specs.declared.next.Next.TheVariants.{Go, Stop, Fail}
 use Rattle.trace_values.specs.Placed.{Placed}
 use Rattle.itm_grammar.specs.declared.packet.ItmPacket.{ItmPacket}
-use Rattle.itm_grammar.specs.declared.packet.ItmPacket.TheVariants.{Sync, Software}
-use Rattle.itm_grammar.specs.Spelling.{byte_count}
+use Rattle.itm_grammar.specs.declared.packet.ItmPacket.TheVariants.{Sync}
 use Rattle.itm_grammar.specs.declared.header.Class.{Class}
-use Rattle.itm_grammar.specs.declared.header.Class.TheVariants.{Zero, Source, Reserved}
+use Rattle.itm_grammar.specs.declared.header.Class.TheVariants.{Zero, Overflow as Overflowed, Source, LocalShort, LocalLong, GlobalFirst as First, GlobalSecond as Second, Extension as Extended, Reserved}
 use Rattle.itm_grammar.specs.declared.partial.Partial.{Partial}
 use Rattle.itm_grammar.specs.declared.partial.Partial.TheVariants.{Header, Zeros, Payload}
 use Rattle.itm_grammar.specs.Header.{class_of}
-use Rattle.itm_grammar.specs.Rule.{rule, begin, payload_with, count_of}
+use Rattle.itm_grammar.specs.Rule.{rule, begin, payload_with, last, goes_on, digit, base_of, count_of}
+use Rattle.itm_grammar.proofs.Payloads.{last_ends, added}
 
 -- a step that goes on counts one more
 abbrev CountsOn : ℕ → Next Partial ItmPacket → Type 0
@@ -26,19 +26,31 @@ either n false x y p q = q
 
 begun : (c : Class) → CountsOn 0 (begin c)
 begun Zero = refl
-begun (Source port size) = refl
+begun Overflowed = tt
+begun (Source hardware number size) = refl
+begun (LocalShort delta) = tt
+begun (LocalLong lateness) = refl
+begun First = refl
+begun Second = refl
+begun (Extended true dwt low) = refl
+begun (Extended false dwt low) = tt
 begun Reserved = tt
 
-paid : (c : Class) (count value : ℕ) → CountsOn (count + 1) (payload_with c count value)
-paid (Source port size) count value = either (count + 1) (count + 1 == byte_count size) (Stop (Software port size value)) (Go (Payload (Source port size) (count + 1) value)) tt refl
-paid Zero count value = tt
-paid Reserved count value = tt
+ends_none : (n : ℕ) (x : Next Partial ItmPacket) → ((t : Partial) → x ≡ Go t → ⊥) → CountsOn n x
+ends_none n (Go t) h = absurd (h t refl)
+ends_none n (Stop v) h = tt
+ends_none n (Fail e) h = tt
+
+paid : (c : Class) (count value b : ℕ) → CountsOn (count + 1) (payload_with c count value b)
+paid c count value b =
+    either (count + 1) (goes_on c count b) (Go (Payload c (count + 1) value)) (last c (count + 1) value b) refl
+    (ends_none (count + 1) (last c (count + 1) value b) (last_ends c (count + 1) value b))
 
 all_count : (s : Partial) (b : ℕ) → CountsOn (count_of s) (rule s b)
 all_count Header b = begun (class_of b)
 all_count (Zeros count) b =
-    either count (b == 0) (Go (Zeros (count + 1))) (cond (b == 128 && nat_le 5 count) (Stop Sync) (Fail Unbuilt)) refl (either count (b == 128 && nat_le 5 count) (Stop Sync) (Fail Unbuilt) tt tt)
-all_count (Payload class count value) b = paid class count (value + b * 256 ^ count)
+    either count (b == 0) (Go (Zeros (count + 1))) (cond (b == 128 && nat_le 5 count) (Stop Sync) (Fail BadItmSync)) refl (either count (b == 128 && nat_le 5 count) (Stop Sync) (Fail BadItmSync) tt tt)
+all_count (Payload class count value) b = paid class count (value + added class count b) b
 
 of_step : (n : ℕ) (x : Next Partial ItmPacket) (t : Partial) → x ≡ Go t → CountsOn n x → count_of t ≡ n + 1
 of_step n (Go s) t e h = let k : s ≡ t = cc in cc

@@ -1,36 +1,31 @@
 -- The rule decides the grammar.
-use Rattle.std.proofs.Common.{◌≡◌, ℕ, zero, suc, ◌+◌, ◌-◌, ◌*◌, ◌^◌, ◌<◌, ◌≤◌, List, [], ◌∷◌, ◌++◌, length, replicate, refl, sym, ◌∙◌, ap, subst, ◌⊎◌, inl, inr, arith}
-use Rattle.std.proofs.Math.Nat.{pow-suc, mul-add, mul_assoc, mul_comm}
+use Rattle.std.proofs.Common.{◌≡◌, ℕ, zero, suc, ◌+◌, ◌-◌, ◌*◌, ◌^◌, ◌/◌, ◌%◌, ◌<◌, ◌≤◌, List, [], ◌∷◌, ◌++◌, length, length-append, replicate, Bool, true, false, cond, refl, sym, ◌∙◌, ap, subst, ◌⊎◌, inl, inr, arith}
 use Rattle.std.proofs.lemmas.List.{length-replicate}
-use Rattle.std.specs.Prelude.{◌==◌}
+use Rattle.std.proofs.Math.Nat.{pow-suc}
+use Rattle.std.specs.Prelude.{nat_lt, nat_le, ◌==◌, ◌&&◌}
 use Rattle.std.proofs.lemmas.Bool.Decides.{nat_tests}
 use Rattle.trace_values.specs.declared.fault.Reason.{Reason}
-use Rattle.trace_values.specs.declared.fault.Reason.TheVariants.{Unbuilt}
+use Rattle.trace_values.specs.declared.fault.Reason.TheVariants.{ReservedHeader, BadItmSync, LongStamp, ShortStamp}
 use Rattle.trace_values.specs.declared.next.Next.{Next}
 use Rattle.trace_values.specs.declared.next.Next.TheVariants.{Go, Stop, Fail}
 use Rattle.trace_values.specs.Walk.{Walked, Within, Whole, Beyond, after, walk, Decides}
 use Rattle.trace_values.proofs.Walks as walks
 use Rattle.itm_grammar.specs.declared.packet.Size.{Size}
 use Rattle.itm_grammar.specs.declared.packet.Size.TheVariants.{One, Two, Four}
+use Rattle.itm_grammar.specs.declared.packet.Lateness.{Lateness}
+use Rattle.itm_grammar.specs.declared.packet.Lateness.TheVariants.{Exact}
 use Rattle.itm_grammar.specs.declared.packet.ItmPacket.{ItmPacket}
-use Rattle.itm_grammar.specs.declared.packet.ItmPacket.TheVariants.{Sync, Software}
+use Rattle.itm_grammar.specs.declared.packet.ItmPacket.TheVariants.{Sync, Overflow, Software, Hardware, Local, GlobalFirst, GlobalSecond, Extension}
 use Rattle.itm_grammar.specs.declared.header.Class.{Class}
-use Rattle.itm_grammar.specs.declared.header.Class.TheVariants.{Zero, Source, Reserved}
+use Rattle.itm_grammar.specs.declared.header.Class.TheVariants.{Zero, Overflow as Overflowed, Source, LocalShort, LocalLong, GlobalFirst as First, GlobalSecond as Second, Extension as Extended, Reserved}
 use Rattle.itm_grammar.specs.declared.partial.Partial.{Partial}
 use Rattle.itm_grammar.specs.declared.partial.Partial.TheVariants.{Header, Zeros, Payload}
-use Rattle.itm_grammar.specs.Header.{class_of}
-use Rattle.itm_grammar.specs.Spelling.{Spells, why, byte_count, size_bits, number}
-use Rattle.itm_grammar.specs.Rule.{rule, begin, zeros_with, payload_with, count_of}
+use Rattle.itm_grammar.specs.Header.{class_of, is_proper_class}
+use Rattle.itm_grammar.specs.Spelling.{Spells, SpellsSource, why, reason_of, byte_count, size_bits, bit_of, number, groups, more_bit, IsContinued, IsExtended, extended}
+use Rattle.itm_grammar.specs.Rule.{rule, begin, zeros_with, payload_with, last, goes_on, most_bytes, source, first_stamp, second_stamp, count_of}
 use Rattle.itm_grammar.proofs.Counting.{counts}
-use Rattle.itm_grammar.proofs.Headers.{chosen, zero_is, source_is, source_of}
-
--- a list by the rule from a state on
-abbrev from : Partial → List ℕ → Walked Partial ItmPacket
-from s p = walk rule s p
-
--- what the rule says of the first byte, put in
-says : (x y : Next Partial ItmPacket) (p : List ℕ) → x ≡ y → after x (λ t. from t p) p ≡ after y (λ t. from t p) p
-says x y p e = ap (λ (n : Next Partial ItmPacket). after n (λ t. from t p) p) e
+use Rattle.itm_grammar.proofs.Headers.{chosen, header_of, header_is, made}
+use Rattle.itm_grammar.proofs.Payloads.{from, says, Fills, value_from, last_of, added, with_of, payload_cases, Filled, payload_sound, payload_complete, last_ends, counted, fills_count, count_fills, longer, fills_continued, continued_fills, value_number, value_groups, groups_fit, extension_filled, extension_fills, value_extended}
 
 stop_whole : (v w : ItmPacket) (k : Partial → Walked Partial ItmPacket) (p : List ℕ) → after (Stop v) k p ≡ Whole w → (w ≡ v) × (p ≡ [])
 stop_whole v w k [] e = (cc, refl)
@@ -38,7 +33,7 @@ stop_whole v w k (b ∷ p) e = cc
 
 -- bytes 00 and what ends them
 pub zeros_cases : (n b : ℕ) →
-    ((b ≡ 0) × (zeros_with n b ≡ Go (Zeros (n + 1)))) ⊎ ((b ≡ 128) × (5 ≤ n) × (zeros_with n b ≡ Stop Sync)) ⊎ (zeros_with n b ≡ Fail Unbuilt)
+    ((b ≡ 0) × (zeros_with n b ≡ Go (Zeros (n + 1)))) ⊎ ((b ≡ 128) × (5 ≤ n) × (zeros_with n b ≡ Stop Sync)) ⊎ (zeros_with n b ≡ Fail BadItmSync)
 zeros_cases n b = grind (arith, nat_tests)
 
 zeros_stop : (n : ℕ) → 5 ≤ n → zeros_with n 128 ≡ Stop Sync
@@ -65,171 +60,388 @@ zeros_sound n (b ∷ p) v e = elim (zeros_cases n b) [
     | inl o ↦
         let t = stop_whole Sync v (λ t. from t p) p (sym (says (zeros_with n b) (Stop Sync) p o.2) ∙ e) in
         (t.0, 0, (let h = o.1 in omega arith), (let a : b ≡ 128 = o.0 in let q : p ≡ [] = t.1 in cc))
-    | inr o ↦ (let k = sym (says (zeros_with n b) (Fail Unbuilt) p o) ∙ e in cc)
+    | inr o ↦ (let k = sym (says (zeros_with n b) (Fail BadItmSync) p o) ∙ e in cc)
   ]
 ]
-
--- payload bytes: under their count the number of the bytes so far is kept, at it they end the packet, and nothing stands behind
-payload_go : (port count value : ℕ) (size : Size) → count + 1 < byte_count size →
-    payload_with (Source port size) count value ≡ Go (Payload (Source port size) (count + 1) value)
-payload_go port count value size h = grind (arith, nat_tests)
-
-payload_stop : (port count value : ℕ) (size : Size) → count + 1 ≡ byte_count size →
-    payload_with (Source port size) count value ≡ Stop (Software port size value)
-payload_stop port count value size h = grind (arith, nat_tests)
-
--- the weights of one more byte and of those behind it
-weigh : (value count b more : ℕ) → value + b * 256 ^ count + 256 ^ (count + 1) * more ≡ value + 256 ^ count * (b + 256 * more)
-weigh value count b more =
-    let p : 256 ^ (count + 1) ≡ 256 ^ count * 256 = ap (λ (n : ℕ). 256 ^ n) (let e : count + 1 ≡ suc count = omega arith in e) ∙ pow-suc 256 count in
-    let q : 256 ^ count * 256 * more ≡ 256 ^ count * (256 * more) = mul_assoc (256 ^ count) 256 more in
-    let r : 256 ^ count * (b + 256 * more) ≡ 256 ^ count * b + 256 ^ count * (256 * more) = mul-add (256 ^ count) b (256 * more) in
-    let s : b * 256 ^ count ≡ 256 ^ count * b = mul_comm b (256 ^ count) in
-    rw p (omega arith)
-
--- a byte alone
-weigh_last : (value count b : ℕ) → value + b * 256 ^ count ≡ value + 256 ^ count * number (b ∷ [])
-weigh_last value count b = omega (arith, mul_comm b (256 ^ count))
-
-abbrev kept : ℕ → Size → ℕ → ℕ → Walked Partial ItmPacket
-kept port size count value = Within (Payload (Source port size) count value)
-
-pub payload_under : (port : ℕ) (size : Size) (count value : ℕ) (p : List ℕ) → count + length p < byte_count size →
-    from (Payload (Source port size) count value) p ≡ kept port size (count + length p) (value + 256 ^ count * number p)
-payload_under port size count value [] h =
-    let c : count ≡ count + 0 = omega arith in
-    let v : value ≡ value + 256 ^ count * 0 = omega arith in cc
-payload_under port size count value (b ∷ p) h =
-    let w = value + b * 256 ^ count in
-    let c : count + 1 + length p ≡ count + length (b ∷ p) = omega arith in
-    let v : w + 256 ^ (count + 1) * number p ≡ value + 256 ^ count * number (b ∷ p) = weigh value count b (number p) in
-    says (payload_with (Source port size) count w) (Go (Payload (Source port size) (count + 1) w)) p (payload_go port count w size (omega arith))
-    ∙ payload_under port size (count + 1) w p (omega arith)
-    ∙ ap (λ (n : ℕ). kept port size n (w + 256 ^ (count + 1) * number p)) c
-    ∙ ap (λ (n : ℕ). kept port size (count + length (b ∷ p)) n) v
-
-pub payload_whole : (port : ℕ) (size : Size) (count value : ℕ) (p : List ℕ) → count < byte_count size → count + length p ≡ byte_count size →
-    from (Payload (Source port size) count value) p ≡ Whole (Software port size (value + 256 ^ count * number p))
-payload_whole port size count value [] g h = absurd (omega arith)
-payload_whole port size count value (b ∷ []) g h =
-    let w = value + b * 256 ^ count in
-    says (payload_with (Source port size) count w) (Stop (Software port size w)) [] (payload_stop port count w size (omega arith))
-    ∙ ap (λ (n : ℕ). Whole (Software port size n)) (weigh_last value count b)
-payload_whole port size count value (b ∷ (c ∷ p)) g h =
-    let w = value + b * 256 ^ count in
-    let v : w + 256 ^ (count + 1) * number (c ∷ p) ≡ value + 256 ^ count * number (b ∷ (c ∷ p)) = weigh value count b (number (c ∷ p)) in
-    says (payload_with (Source port size) count w) (Go (Payload (Source port size) (count + 1) w)) (c ∷ p) (payload_go port count w size (omega arith))
-    ∙ payload_whole port size (count + 1) w (c ∷ p) (omega arith) (omega arith)
-    ∙ ap (λ (n : ℕ). Whole (Software port size n)) v
-
-pub payload_over : (port : ℕ) (size : Size) (count value : ℕ) (p : List ℕ) → count < byte_count size → byte_count size < count + length p →
-    from (Payload (Source port size) count value) p ≡ Beyond
-payload_over port size count value [] g h = absurd (omega arith)
-payload_over port size count value (b ∷ []) g h = absurd (omega arith)
-payload_over port size count value (b ∷ (c ∷ p)) g h = elim (split (count + 1) (byte_count size) (omega arith)) [
-  | inl m ↦ says (payload_with (Source port size) count w) (Go (Payload (Source port size) (count + 1) w)) (c ∷ p) (payload_go port count w size m)
-      ∙ payload_over port size (count + 1) w (c ∷ p) m (omega arith)
-  | inr m ↦ says (payload_with (Source port size) count w) (Stop (Software port size w)) (c ∷ p) (payload_stop port count w size m)
-] where
-  w : ℕ
-  w = value + b * 256 ^ count
-
-  split : (n m : ℕ) → n ≤ m → (n < m) ⊎ (n ≡ m)
-  split n m h = grind arith
-
--- so what is whole has just its bytes
-payload_sound : (port : ℕ) (size : Size) (count value : ℕ) (p : List ℕ) (v : ItmPacket) → count < byte_count size →
-    from (Payload (Source port size) count value) p ≡ Whole v → (count + length p ≡ byte_count size) × (v ≡ Software port size (value + 256 ^ count * number p))
-payload_sound port size count value p v g e = elim (ordered (count + length p) (byte_count size)) [
-  | inl m ↦ (let k = sym (payload_under port size count value p m) ∙ e in cc)
-  | inr m ↦ elim m [
-    | inl o ↦ (o, (let k = sym (payload_whole port size count value p g o) ∙ e in cc))
-    | inr o ↦ (let k = sym (payload_over port size count value p g o) ∙ e in cc)
-  ]
-] where
-  ordered : (n m : ℕ) → (n < m) ⊎ (n ≡ m) ⊎ (m < n)
-  ordered n m = grind arith
 
 some_count : (size : Size) → 0 < byte_count size
 some_count One = omega arith
 some_count Two = omega arith
 some_count Four = omega arith
 
+-- the parts of a first global timestamp, from its 28 bits and back
+parts : (g : ℕ) → g < 2 ^ 28 → (g % 2 ^ 26 < 2 ^ 26) × (g ≡ g % 2 ^ 26 + 2 ^ 26 * bit_of ((g / 2 ^ 26) % 2 == 1) + 2 ^ 27 * bit_of ((g / 2 ^ 27) % 2 == 1))
+parts g h =
+    let a = bit_is (g / 2 ^ 26) in
+    let b = bit_is (g / 2 ^ 27) in
+    (omega arith, rw (a, b) (omega arith))
+  where
+  bit_is : (n : ℕ) → bit_of (n % 2 == 1) ≡ n % 2
+  bit_is n = elim (two (n % 2) (omega arith)) [ inl m ↦ rw m refl | inr m ↦ rw m refl ] where
+    two : (k : ℕ) → k < 2 → (k ≡ 0) ⊎ (k ≡ 1)
+    two k h = grind arith
+
+joined : (n g value : ℕ) (change wrap : Bool) → value < 2 ^ 26 → g ≡ value + 2 ^ 26 * bit_of change + 2 ^ 27 * bit_of wrap → first_stamp n g ≡ GlobalFirst n value change wrap
+joined n g value change wrap h e =
+    let a : g % 2 ^ 26 ≡ value = low change wrap e in
+    let b : ((g / 2 ^ 26) % 2 == 1) ≡ change = high change wrap e in
+    let c : ((g / 2 ^ 27) % 2 == 1) ≡ wrap = highest change wrap e in
+    rw (a, b, c) refl
+  where
+  one : (k : ℕ) (b : Bool) → k ≡ bit_of b → (k == 1) ≡ b
+  one k true e = rw e refl
+  one k false e = rw e refl
+
+  low : (change wrap : Bool) → g ≡ value + 2 ^ 26 * bit_of change + 2 ^ 27 * bit_of wrap → g % 2 ^ 26 ≡ value
+  low true true e = omega arith
+  low true false e = omega arith
+  low false true e = omega arith
+  low false false e = omega arith
+
+  high : (change wrap : Bool) → g ≡ value + 2 ^ 26 * bit_of change + 2 ^ 27 * bit_of wrap → ((g / 2 ^ 26) % 2 == 1) ≡ change
+  high true true e = one ((g / 2 ^ 26) % 2) true (omega arith)
+  high true false e = one ((g / 2 ^ 26) % 2) true (omega arith)
+  high false true e = one ((g / 2 ^ 26) % 2) false (omega arith)
+  high false false e = one ((g / 2 ^ 26) % 2) false (omega arith)
+
+  highest : (change wrap : Bool) → g ≡ value + 2 ^ 26 * bit_of change + 2 ^ 27 * bit_of wrap → ((g / 2 ^ 27) % 2 == 1) ≡ wrap
+  highest true true e = one ((g / 2 ^ 27) % 2) true (omega arith)
+  highest true false e = one ((g / 2 ^ 27) % 2) false (omega arith)
+  highest false true e = one ((g / 2 ^ 27) % 2) true (omega arith)
+  highest false false e = one ((g / 2 ^ 27) % 2) false (omega arith)
+
+-- groups of no more than so many bytes fit their bits
+positive : (n : ℕ) → 0 < 128 ^ n
+positive zero = omega arith
+positive (suc n) = let k = positive n in let e : 128 ^ suc n ≡ 128 ^ n * 128 = pow-suc 128 n in rw e (omega arith)
+
+pub fits_within : (p : List ℕ) (n : ℕ) → length p ≤ n → groups p < 128 ^ n
+fits_within [] n h = positive n
+fits_within (b ∷ p) zero h = absurd (omega arith)
+fits_within (b ∷ p) (suc n) h =
+    let k = fits_within p n (omega arith) in
+    let e : 128 ^ suc n ≡ 128 ^ n * 128 = pow-suc 128 n in
+    rw e (omega arith)
+
+-- what the tests say
+equal : (n m : ℕ) → (n == m) ≡ true → n ≡ m
+equal n m e = grind (arith, nat_tests)
+
+under_128 : (n : ℕ) → nat_lt n 128 ≡ true → n < 128
+under_128 n e = grind (arith, nat_tests)
+
+under_8 : (n : ℕ) → nat_lt n 8 ≡ true → n < 8
+under_8 n e = grind (arith, nat_tests)
+
+between : (n : ℕ) → (nat_lt 0 n && nat_lt n 7) ≡ true → (0 < n) × (n < 7)
+between n e = grind (arith, nat_tests)
+
+stopped : (x v : ItmPacket) → (let s : Next Partial ItmPacket = Stop x in s ≡ Stop v) → v ≡ x
+stopped x v e = cc
+
+-- whole are only spellings, class by class
+source_sound : (h : ℕ) (hardware : Bool) (n : ℕ) (size : Size) (p : List ℕ) (v : ItmPacket) → class_of h ≡ Source hardware n size → from (Payload (Source hardware n size) 0 0) p ≡ Whole v →
+    SpellsSource (bit_of hardware) n size (number p) (h ∷ p) × (v ≡ source hardware n size (number p))
+source_sound h hardware n size p v k e =
+    let c = Source hardware n size in
+    let f = payload_sound c 0 0 p v e in
+    let a = header_is h c k (λ e. cc) in
+    let l : 0 + length p ≡ byte_count size = fills_count (byte_count size) 0 p (some_count size) f.fills in
+    let w : value_from (λ i b. b * 256 ^ i) 0 0 p ≡ 0 + 256 ^ 0 * number p = value_number 0 0 p in
+    let w' : value_from (λ i b. b * 256 ^ i) 0 0 p ≡ number p = omega arith in
+    let s : (let x : Next Partial ItmPacket = Stop (source hardware n size (value_from (λ i b. b * 256 ^ i) 0 0 p)) in x ≡ Stop v) = f.ends in
+    let q : source hardware n size (value_from (λ i b. b * 256 ^ i) 0 0 p) ≡ v = cc in
+    ((p, under n a.1, ap (λ (i : ℕ). i ∷ p) a.0, omega arith, refl), sym q ∙ ap (source hardware n size) w')
+  where
+  under : (n : ℕ) → nat_lt n 32 ≡ true → n < 32
+  under n e = grind (arith, nat_tests)
+
+-- the number of a payload of seven bits a byte
+groups_whole : (p : List ℕ) → value_from (λ i b. b % 128 * 128 ^ i) 0 0 p ≡ groups p
+groups_whole p = let w = value_groups 0 0 p in omega arith
+
+local_sound : (h : ℕ) (lateness : Lateness) (p : List ℕ) (v : ItmPacket) → class_of h ≡ LocalLong lateness → from (Payload (LocalLong lateness) 0 0) p ≡ Whole v → Spells v (h ∷ p)
+local_sound h lateness p v k e =
+    let c = LocalLong lateness in
+    let f = payload_sound c 0 0 p v e in
+    let a = header_is h c k (λ e. cc) in
+    elim (chosen (nat_lt (last_of p) 128) f.ends) [
+      | inl m ↦
+          let t = fills_continued 4 0 p (omega arith) f.fills (under_128 (last_of p) m.0) in
+          let w = groups_whole p in
+          let s = m.1 in
+          let q : v ≡ Local lateness (value_from (λ i b. b % 128 * 128 ^ i) 0 0 p) = cc in
+          subst (λ (x : ItmPacket). Spells x (h ∷ p)) (sym q) (inr (p, ap (λ (i : ℕ). i ∷ p) a.0, t.0, (let l = t.1 in omega arith), w))
+      | inr m ↦ (let s = m.1 in cc)
+    ]
+
+first_sound : (h : ℕ) (p : List ℕ) (v : ItmPacket) → class_of h ≡ First → from (Payload First 0 0) p ≡ Whole v → Spells v (h ∷ p)
+first_sound h p v k e =
+    let f = payload_sound First 0 0 p v e in
+    let a = header_is h First k (λ e. cc) in
+    elim (chosen (nat_lt (last_of p) 128) f.ends) [
+      | inl m ↦
+          let t = fills_continued 4 0 p (omega arith) f.fills (under_128 (last_of p) m.0) in
+          let w = groups_whole p in
+          let l : length p ≤ 4 = (let l = t.1 in omega arith) in
+          let z : 0 + length p ≡ length p = omega arith in
+          let s = m.1 in
+          let q : v ≡ first_stamp (0 + length p) (value_from (λ i b. b % 128 * 128 ^ i) 0 0 p) = stopped _ v s in
+          let r : v ≡ first_stamp (length p) (groups p) = q ∙ ap (λ (n : ℕ). first_stamp n (value_from (λ i b. b % 128 * 128 ^ i) 0 0 p)) z ∙ ap (first_stamp (length p)) w in
+          let d = parts (groups p) (fits_within p 4 l) in
+          subst (λ (x : ItmPacket). Spells x (h ∷ p)) (sym r) (p, ap (λ (i : ℕ). i ∷ p) a.0, t.0, refl, l, d.0, d.1)
+      | inr m ↦ (let s = m.1 in cc)
+    ]
+
+second_sound : (h : ℕ) (p : List ℕ) (v : ItmPacket) → class_of h ≡ Second → from (Payload Second 0 0) p ≡ Whole v → Spells v (h ∷ p)
+second_sound h p v k e =
+    let f = payload_sound Second 0 0 p v e in
+    let a = header_is h Second k (λ e. cc) in
+    elim (chosen (nat_lt (last_of p) 128) f.ends) [
+      | inl m ↦
+          let t = fills_continued 6 0 p (omega arith) f.fills (under_128 (last_of p) m.0) in
+          let w = groups_whole p in
+          let z : 0 + length p ≡ length p = omega arith in
+          let s : second_stamp (length p) (groups p) ≡ Stop v =
+            ap (second_stamp (length p)) (sym w) ∙ ap (λ (n : ℕ). second_stamp n (value_from (λ i b. b % 128 * 128 ^ i) 0 0 p)) (sym z) ∙ m.1 in
+          elim (chosen (length p == 4) s) [
+            | inl o ↦
+                let q : v ≡ GlobalSecond false (groups p % 2 ^ 22) = stopped _ v o.1 in
+                subst (λ (x : ItmPacket). Spells x (h ∷ p)) (sym q) (p, ap (λ (i : ℕ). i ∷ p) a.0, t.0, equal (length p) 4 o.0, refl)
+            | inr o ↦ elim (chosen (length p == 6) o.1) [
+              | inl u ↦
+                  let q : v ≡ GlobalSecond true (groups p % 2 ^ 38) = stopped _ v u.1 in
+                  subst (λ (x : ItmPacket). Spells x (h ∷ p)) (sym q) (p, ap (λ (i : ℕ). i ∷ p) a.0, t.0, equal (length p) 6 u.0, refl)
+              | inr u ↦ (let s = u.1 in cc)
+            ]
+          ]
+      | inr m ↦ (let s = m.1 in cc)
+    ]
+
+extension_sound : (h : ℕ) (dwt : Bool) (low : ℕ) (p : List ℕ) (v : ItmPacket) → class_of h ≡ Extended true dwt low → from (Payload (Extended true dwt low) 0 0) p ≡ Whole v → Spells v (h ∷ p)
+extension_sound h dwt low [] v k e = cc
+extension_sound h dwt low (b ∷ p) v k e =
+    let c = Extended true dwt low in
+    let f = payload_sound c 0 0 (b ∷ p) v e in
+    let a = header_is h c k (λ e. cc) in
+    let x = extension_filled (b ∷ p) f.fills in
+    let w = value_extended dwt low (b ∷ p) x in
+    let q : v ≡ Extension dwt (low + 8 * value_from (λ i b. added (Extended true dwt low) i b) 0 0 (b ∷ p)) = stopped _ v f.ends in
+    let r : v ≡ Extension dwt (low + 8 * extended (b ∷ p)) = q ∙ ap (λ (n : ℕ). Extension dwt (low + 8 * n)) w in
+    subst (λ (x : ItmPacket). Spells x (h ∷ (b ∷ p))) (sym r) (low, b ∷ p, under_8 low a.1, ap (λ (i : ℕ). i ∷ (b ∷ p)) a.0, x, refl)
+
 -- whole are only spellings
 class_sound : (c : Class) (h : ℕ) (p : List ℕ) (v : ItmPacket) → class_of h ≡ c → after (begin c) (λ t. from t p) p ≡ Whole v → Spells v (h ∷ p)
 class_sound Zero h p v k e =
     let z = zeros_sound 1 p v e in
     let q : p ≡ replicate z.1 0 ++ 128 ∷ [] = z.3 in
-    let a : h ≡ 0 = zero_is h k in
+    let a : h ≡ 0 = (header_is h Zero k (λ e. cc)).0 in
     let n : 5 ≤ 1 + z.1 = z.2 in
     subst (λ (x : ItmPacket). Spells x (h ∷ p)) (sym z.0) (suc z.1, omega arith, (let r : h ∷ p ≡ replicate (suc z.1) 0 ++ 128 ∷ [] = cc in r))
-class_sound (Source port size) h p v k e =
-    let s = payload_sound port size 0 0 p v (some_count size) e in
-    let a = source_is h port size k in
-    let n : 0 + 1 * number p ≡ number p = omega arith in
-    subst (λ (x : ItmPacket). Spells x (h ∷ p)) (sym s.1) (p, a.0, ap (λ (n : ℕ). n ∷ p) a.1, (let l = s.0 in omega arith), n)
+class_sound Overflowed h p v k e =
+    let s = stop_whole Overflow v (λ t. from t p) p e in
+    let a : h ≡ 112 = (header_is h Overflowed k (λ e. cc)).0 in
+    let q : p ≡ [] = s.1 in
+    subst (λ (x : ItmPacket). Spells x (h ∷ p)) (sym s.0) (let r : h ∷ p ≡ 112 ∷ [] = cc in r)
+class_sound (Source true n size) h p v k e =
+    let s = source_sound h true n size p v k e in subst (λ (x : ItmPacket). Spells x (h ∷ p)) (sym s.1) s.0
+class_sound (Source false n size) h p v k e =
+    let s = source_sound h false n size p v k e in subst (λ (x : ItmPacket). Spells x (h ∷ p)) (sym s.1) s.0
+class_sound (LocalShort delta) h p v k e =
+    let s = stop_whole (Local Exact delta) v (λ t. from t p) p e in
+    let c = LocalShort delta in
+    let a = header_is h c k (λ e. cc) in
+    let b = between delta a.1 in
+    let q : p ≡ [] = s.1 in
+    subst (λ (x : ItmPacket). Spells x (h ∷ p)) (sym s.0) (inl (refl, b.0, b.1, (let g : h ≡ 16 * delta = a.0 in let r : h ∷ p ≡ (16 * delta) ∷ [] = cc in r)))
+class_sound (LocalLong lateness) h p v k e = local_sound h lateness p v k e
+class_sound First h p v k e = first_sound h p v k e
+class_sound Second h p v k e = second_sound h p v k e
+class_sound (Extended false dwt low) h p v k e =
+    let s = stop_whole (Extension dwt low) v (λ t. from t p) p e in
+    let c = Extended false dwt low in
+    let a = header_is h c k (λ e. cc) in
+    let q : p ≡ [] = s.1 in
+    let n : low ≡ low + 8 * 0 = omega arith in
+    subst (λ (x : ItmPacket). Spells x (h ∷ p)) (sym s.0)
+    (low, [], under_8 low a.1, (let g : h ≡ 128 * 0 + 16 * low + 4 * bit_of dwt + 8 = a.0 in let r : h ∷ p ≡ (128 * 0 + 16 * low + 4 * bit_of dwt + 8) ∷ [] = cc in r), tt, n)
+class_sound (Extended true dwt low) h p v k e = extension_sound h dwt low p v k e
 class_sound Reserved h p v k e = cc
 
 sound : (v : ItmPacket) (r : List ℕ) → from Header r ≡ Whole v → Spells v r
 sound v [] e = cc
 sound v (h ∷ p) e = class_sound (class_of h) h p v refl e
 
--- and all of them are
+-- and all of them are: a header of a class, and what is whole behind it
+class_whole : (c : Class) (p : List ℕ) (v : ItmPacket) → is_proper_class c ≡ true → (c ≡ Reserved → ⊥) → after (begin c) (λ t. from t p) p ≡ Whole v → from Header (header_of c ∷ p) ≡ Whole v
+class_whole c p v a n e = says (begin (class_of (header_of c))) (begin c) p (ap begin (made c a n)) ∙ e
+
+source_complete : (hardware : Bool) (n : ℕ) (size : Size) (value : ℕ) (r : List ℕ) → SpellsSource (bit_of hardware) n size value r → from Header r ≡ Whole (source hardware n size value)
+source_complete hardware n size value r s =
+    let p = s.0 in
+    let c = Source hardware n size in
+    let w : value_from (λ i b. b * 256 ^ i) 0 0 p ≡ 0 + 256 ^ 0 * number p = value_number 0 0 p in
+    let x : value_from (λ i b. b * 256 ^ i) 0 0 p ≡ value = (let e = s.4 in omega arith) in
+    rw s.2 (class_whole c p (source hardware n size value) (under n s.1) (λ e. cc)
+      (payload_complete c 0 0 p (source hardware n size value) (record {
+        fills = count_fills (byte_count size) 0 p (some_count size) (let l = s.3 in omega arith);
+        ends = ap (λ (i : ℕ). (let y : Next Partial ItmPacket = Stop (source hardware n size i) in y)) x;
+      })))
+  where
+  under : (n : ℕ) → n < 32 → nat_lt n 32 ≡ true
+  under n h = grind (arith, nat_tests)
+
+is_under_128 : (n : ℕ) → n < 128 → nat_lt n 128 ≡ true
+is_under_128 n h = grind (arith, nat_tests)
+
+-- what a choice by a test gives where the test is true
+taken : (t : Bool) (x y z : Next Partial ItmPacket) → t ≡ true → x ≡ z → cond t x y ≡ z
+taken true x y z e h = h
+taken false x y z e h = cc
+
+local_complete : (lateness : Lateness) (p : List ℕ) → IsContinued p → length p ≤ 4 → from (Payload (LocalLong lateness) 0 0) p ≡ Whole (Local lateness (groups p))
+local_complete lateness p h l =
+    let m = continued_fills 4 0 p h (omega arith) in
+    payload_complete (LocalLong lateness) 0 0 p (Local lateness (groups p)) (record {
+      fills = m.0;
+      ends = taken (nat_lt (last_of p) 128) _ _ (Stop (Local lateness (groups p))) (is_under_128 (last_of p) m.1) (ap (λ (i : ℕ). (let y : Next Partial ItmPacket = Stop (Local lateness i) in y)) (groups_whole p));
+    })
+
+first_complete : (p : List ℕ) → IsContinued p → length p ≤ 4 → from (Payload First 0 0) p ≡ Whole (first_stamp (length p) (groups p))
+first_complete p h l =
+    let m = continued_fills 4 0 p h (omega arith) in
+    let z : 0 + length p ≡ length p = omega arith in
+    payload_complete First 0 0 p (first_stamp (length p) (groups p)) (record {
+      fills = m.0;
+      ends = taken (nat_lt (last_of p) 128) _ _ (Stop (first_stamp (length p) (groups p))) (is_under_128 (last_of p) m.1)
+        (ap (λ (i : ℕ). (let y : Next Partial ItmPacket = Stop (first_stamp (0 + length p) i) in y)) (groups_whole p)
+        ∙ ap (λ (i : ℕ). (let y : Next Partial ItmPacket = Stop (first_stamp i (groups p)) in y)) z);
+    })
+
+second_complete : (p : List ℕ) (x : ItmPacket) → IsContinued p → length p ≤ 6 → second_stamp (length p) (groups p) ≡ Stop x → from (Payload Second 0 0) p ≡ Whole x
+second_complete p x h l e =
+    let m = continued_fills 6 0 p h (omega arith) in
+    let z : 0 + length p ≡ length p = omega arith in
+    payload_complete Second 0 0 p x (record {
+      fills = m.0;
+      ends = taken (nat_lt (last_of p) 128) _ _ (Stop x) (is_under_128 (last_of p) m.1)
+        (ap (second_stamp (0 + length p)) (groups_whole p) ∙ ap (λ (i : ℕ). second_stamp i (groups p)) z ∙ e);
+    })
+
+second_of : (n g k : ℕ) (x : ItmPacket) → n ≡ k → second_stamp k g ≡ Stop x → second_stamp n g ≡ Stop x
+second_of n g k x e h = rw e h
+
+extension_complete : (dwt : Bool) (low : ℕ) (p : List ℕ) → low < 8 → IsExtended p → from Header ((128 * more_bit p + 16 * low + 4 * bit_of dwt + 8) ∷ p) ≡ Whole (Extension dwt (low + 8 * extended p))
+extension_complete dwt low [] h x =
+    let c = Extended false dwt low in
+    let n : low ≡ low + 8 * 0 = omega arith in
+    class_whole c [] (Extension dwt (low + 8 * 0)) (under low h) (λ e. cc) (ap (λ (i : ℕ). (let y : Walked Partial ItmPacket = Whole (Extension dwt i) in y)) n)
+  where
+  under : (n : ℕ) → n < 8 → nat_lt n 8 ≡ true
+  under n h = grind (arith, nat_tests)
+extension_complete dwt low (b ∷ p) h x =
+    let c = Extended true dwt low in
+    let w = value_extended dwt low (b ∷ p) x in
+    class_whole c (b ∷ p) (Extension dwt (low + 8 * extended (b ∷ p))) (under low h) (λ e. cc)
+      (payload_complete c 0 0 (b ∷ p) (Extension dwt (low + 8 * extended (b ∷ p))) (record {
+        fills = extension_fills b p x;
+        ends = ap (λ (i : ℕ). (let y : Next Partial ItmPacket = Stop (Extension dwt (low + 8 * i)) in y)) w;
+      }))
+  where
+  under : (n : ℕ) → n < 8 → nat_lt n 8 ≡ true
+  under n h = grind (arith, nat_tests)
+
+whole_of : (v w : ItmPacket) (x : Walked Partial ItmPacket) → x ≡ Whole v → v ≡ w → x ≡ Whole w
+whole_of v w x e h = e ∙ ap (λ (i : ItmPacket). (let y : Walked Partial ItmPacket = Whole i in y)) h
+
 complete : (v : ItmPacket) (r : List ℕ) → Spells v r → from Header r ≡ Whole v
 complete Sync r s = rw s.2 (zero_first s.0 s.1) where
   zero_first : (zeros : ℕ) → 5 ≤ zeros → from Header (replicate zeros 0 ++ 128 ∷ []) ≡ Whole Sync
   zero_first zero h = absurd (omega arith)
   zero_first (suc k) h = zeros_complete k 1 (omega arith)
-complete (Software port size value) r s =
-    let p = s.0 in
-    let h = 8 * port + size_bits size in
-    let c : class_of h ≡ Source port size = source_of port size s.1 in
-    let n : 0 + 1 * number p ≡ value = (let e = s.4 in omega arith) in
-    rw s.2 (says (begin (class_of h)) (begin (Source port size)) p (ap begin c)
-    ∙ payload_whole port size 0 0 p (some_count size) (let l = s.3 in omega arith)
-    ∙ ap (λ (n : ℕ). Whole (Software port size n)) n)
+complete Overflow r s = rw s refl
+complete (Software port size value) r s = source_complete false port size value r s
+complete (Hardware disc size value) r s = source_complete true disc size value r s
+complete (Local lateness delta) r (inl s) =
+    rw s.3 (whole_of (Local Exact delta) (Local lateness delta) (from Header ((16 * delta) ∷ []))
+      (class_whole (LocalShort delta) [] (Local Exact delta) (within delta s.1 s.2) (λ e. cc) refl)
+      (ap (λ (l : Lateness). Local l delta) (sym s.0)))
+  where
+  within : (n : ℕ) → 0 < n → n < 7 → (nat_lt 0 n && nat_lt n 7) ≡ true
+  within n h k = grind (arith, nat_tests)
+complete (Local lateness delta) r (inr s) =
+    rw s.1 (whole_of (Local lateness (groups s.0)) (Local lateness delta) (from Header (header_of (LocalLong lateness) ∷ s.0))
+      (class_whole (LocalLong lateness) s.0 (Local lateness (groups s.0)) refl (λ e. cc) (local_complete lateness s.0 s.2 s.3))
+      (ap (Local lateness) (sym s.4)))
+complete (GlobalFirst len value change wrap) r s =
+    rw s.1 (whole_of (first_stamp (length s.0) (groups s.0)) (GlobalFirst len value change wrap) (from Header (148 ∷ s.0))
+      (class_whole First s.0 (first_stamp (length s.0) (groups s.0)) refl (λ e. cc) (first_complete s.0 s.2 (let a = s.3 in let b = s.4 in omega arith)))
+      (joined (length s.0) (groups s.0) value change wrap s.5 s.6 ∙ ap (λ (n : ℕ). GlobalFirst n value change wrap) s.3))
+complete (GlobalSecond false value) r s =
+    rw s.1 (whole_of (GlobalSecond false (groups s.0 % 2 ^ 22)) (GlobalSecond false value) (from Header (180 ∷ s.0))
+      (class_whole Second s.0 (GlobalSecond false (groups s.0 % 2 ^ 22)) refl (λ e. cc)
+        (second_complete s.0 (GlobalSecond false (groups s.0 % 2 ^ 22)) s.2 (let l = s.3 in omega arith) (second_of (length s.0) (groups s.0) 4 (GlobalSecond false (groups s.0 % 2 ^ 22)) s.3 refl)))
+      (ap (GlobalSecond false) (sym s.4)))
+complete (GlobalSecond true value) r s =
+    rw s.1 (whole_of (GlobalSecond true (groups s.0 % 2 ^ 38)) (GlobalSecond true value) (from Header (180 ∷ s.0))
+      (class_whole Second s.0 (GlobalSecond true (groups s.0 % 2 ^ 38)) refl (λ e. cc)
+        (second_complete s.0 (GlobalSecond true (groups s.0 % 2 ^ 38)) s.2 (let l = s.3 in omega arith) (second_of (length s.0) (groups s.0) 6 (GlobalSecond true (groups s.0 % 2 ^ 38)) s.3 refl)))
+      (ap (GlobalSecond true) (sym s.4)))
+complete (Extension dwt value) r s =
+    rw s.3 (whole_of (Extension dwt (s.0 + 8 * extended s.1)) (Extension dwt value) (from Header ((128 * more_bit s.1 + 16 * s.0 + 4 * bit_of dwt + 8) ∷ s.1))
+      (extension_complete dwt s.0 s.1 s.2 s.4)
+      (ap (Extension dwt) (sym s.5)))
 
--- what the rule says where an unfinished packet goes on
-began : (c : Class) (t : Partial) → begin c ≡ Go t → ((t ≡ Zeros 1) ⊎ ((port : ℕ) × (size : Size) × (t ≡ Payload (Source port size) 0 0)))
-began Zero t e = inl cc
-began (Source port size) t e = inr (port, size, cc)
+-- what a state has of the header's class and of how many bytes stand behind the header
+abbrev pub Belongs : Class → ℕ → Partial → Type 0
+Belongs c n Header = ⊥
+Belongs c n (Zeros count) = c ≡ Zero
+Belongs c n (Payload d count value) = (d ≡ c) × (count ≡ n) × (count < most_bytes d)
+
+began : (c : Class) (t : Partial) → begin c ≡ Go t → Belongs c 0 t
+began Zero t e = (let k : t ≡ Zeros 1 = cc in subst (Belongs Zero 0) (sym k) refl)
+began Overflowed t e = cc
+began (Source hardware number size) t e =
+    let c = Source hardware number size in
+    let k : t ≡ Payload c 0 0 = cc in subst (Belongs c 0) (sym k) (refl, refl, some_count size)
+began (LocalShort delta) t e = cc
+began (LocalLong lateness) t e = let c = LocalLong lateness in let k : t ≡ Payload c 0 0 = cc in subst (Belongs c 0) (sym k) (refl, refl, omega arith)
+began First t e = let k : t ≡ Payload First 0 0 = cc in subst (Belongs First 0) (sym k) (refl, refl, omega arith)
+began Second t e = let k : t ≡ Payload Second 0 0 = cc in subst (Belongs Second 0) (sym k) (refl, refl, omega arith)
+began (Extended true dwt low) t e = let c = Extended true dwt low in let k : t ≡ Payload c 0 0 = cc in subst (Belongs c 0) (sym k) (refl, refl, omega arith)
+began (Extended false dwt low) t e = cc
 began Reserved t e = cc
 
-more_zeros : (n b : ℕ) (t : Partial) → zeros_with n b ≡ Go t → t ≡ Zeros (n + 1)
-more_zeros n b t e = elim (zeros_cases n b) [
-  | inl m ↦ (let k = m.1 in cc)
+longer_under : (most n b : ℕ) → longer most n b ≡ true → n + 1 < most
+longer_under most n b e = grind (arith, nat_tests)
+
+pub goes_under : (c : Class) (n b : ℕ) → goes_on c n b ≡ true → n + 1 < most_bytes c
+goes_under Zero n b e = longer_under 0 n b e
+goes_under Overflowed n b e = longer_under 0 n b e
+goes_under (Source hardware number size) n b e = lower (byte_count size) e where
+  lower : (m : ℕ) → nat_lt (n + 1) m ≡ true → n + 1 < m
+  lower m e = grind (arith, nat_tests)
+goes_under (LocalShort delta) n b e = longer_under 0 n b e
+goes_under (LocalLong lateness) n b e = longer_under 4 n b e
+goes_under First n b e = longer_under 4 n b e
+goes_under Second n b e = longer_under 6 n b e
+goes_under (Extended true dwt low) n b e = longer_under 4 n b e
+goes_under (Extended false dwt low) n b e = longer_under 0 n b e
+goes_under Reserved n b e = longer_under 0 n b e
+
+keeps : (c : Class) (n : ℕ) (s t : Partial) (b : ℕ) → Belongs c n s → rule s b ≡ Go t → Belongs c (n + 1) t
+keeps c n Header t b h e = absurd h
+keeps c n (Zeros count) t b h e = elim (zeros_cases count b) [
+  | inl m ↦ (let k = m.1 in let q : t ≡ Zeros (count + 1) = cc in subst (Belongs c (n + 1)) (sym q) h)
   | inr m ↦ elim m [ inl o ↦ (let k = o.2 in cc) | inr o ↦ cc ]
 ]
-
-more_payload : (port count value : ℕ) (size : Size) (t : Partial) → payload_with (Source port size) count value ≡ Go t →
-    (count + 1 ≡ byte_count size → ⊥) × (t ≡ Payload (Source port size) (count + 1) value)
-more_payload port count value size t e = elim (chosen (count + 1 == byte_count size) e) [
-  | inl m ↦ (let k = m.1 in cc)
-  | inr m ↦ ((let k = m.0 in grind (arith, nat_tests)), (let k = m.1 in cc))
+keeps c n (Payload d count value) t b h e = elim (payload_cases d count value b) [
+  | inl m ↦
+      let k = m.1 in
+      let q : t ≡ Payload d (count + 1) (value + added d count b) = cc in
+      subst (Belongs c (n + 1)) (sym q) (h.0, ap (λ (i : ℕ). i + 1) h.1, goes_under d count b m.0)
+  | inr m ↦ absurd (last_ends d (count + 1) (value + added d count b) b t (sym m.1 ∙ e))
 ]
-
--- what a state must be so that it can be finished: payload bytes are wanting
-abbrev CanEnd : Partial → Type 0
-CanEnd Header = Unit {0}
-CanEnd (Zeros count) = Unit {0}
-CanEnd (Payload (Source port size) count value) = count < byte_count size
-CanEnd (Payload Zero count value) = ⊥
-CanEnd (Payload Reserved count value) = ⊥
-
-under : (n m : ℕ) → n ≤ m → (n ≡ m → ⊥) → n < m
-under n m h k = omega arith
-
-keeps : (s t : Partial) (b : ℕ) → CanEnd s → rule s b ≡ Go t → CanEnd t
-keeps Header t b h e = elim (began (class_of b) t e) [
-  | inl m ↦ subst CanEnd (sym m) tt
-  | inr m ↦ subst CanEnd (sym m.2) (some_count m.1)
-]
-keeps (Zeros n) t b h e = subst CanEnd (sym (more_zeros n b t e)) tt
-keeps (Payload (Source port size) count value) t b h e =
-    let m = more_payload port count (value + b * 256 ^ count) size t e in
-    subst CanEnd (sym m.1) (under (count + 1) (byte_count size) (omega arith) m.0)
-keeps (Payload Zero count value) t b h e = absurd h
-keeps (Payload Reserved count value) t b h e = absurd h
 
 -- a walk that goes on does so by its first byte
 went_on : (x : Next Partial ItmPacket) (k : Partial → Walked Partial ItmPacket) (p : List ℕ) (t : Partial) → after x k p ≡ Within t →
@@ -239,36 +451,153 @@ went_on (Stop v) k [] t e = cc
 went_on (Stop v) k (b ∷ p) t e = cc
 went_on (Fail f) k p t e = cc
 
-reached : (s t : Partial) (r : List ℕ) → CanEnd s → from s r ≡ Within t → CanEnd t
-reached s t [] h e = subst CanEnd (let k : s ≡ t = cc in k) h
-reached s t (b ∷ p) h e =
+reached : (c : Class) (n : ℕ) (s t : Partial) (r : List ℕ) → Belongs c n s → from s r ≡ Within t → Belongs c (n + length r) t
+reached c n s t [] h e =
+    let z : n ≡ n + 0 = omega arith in
+    subst (λ (i : ℕ). Belongs c i t) z (subst (Belongs c n) (let k : s ≡ t = cc in k) h)
+reached c n s t (b ∷ p) h e =
     let m = went_on (rule s b) (λ u. from u p) p t e in
-    reached m.0 t p (keeps s m.0 b h m.1) m.2
+    let z : n + 1 + length p ≡ n + length (b ∷ p) = omega arith in
+    subst (λ (i : ℕ). Belongs c i t) z (reached c (n + 1) m.0 t p (keeps c n s m.0 b h m.1) m.2)
+
+pub behind_header : (h : ℕ) (p : List ℕ) (t : Partial) → from Header (h ∷ p) ≡ Within t → Belongs (class_of h) (length p) t
+behind_header h p t e =
+    let c = class_of h in
+    let m = went_on (begin c) (λ u. from u p) p t e in
+    let z : 0 + length p ≡ length p = omega arith in
+    subst (λ (i : ℕ). Belongs c i t) z (reached c 0 m.0 t p (began c m.0 m.1) m.2)
 
 -- so a state has as many bytes as it took
-pub counted : (s t : Partial) (r : List ℕ) → from s r ≡ Within t → count_of t ≡ count_of s + length r
-counted s t [] e = (let k : s ≡ t = cc in let n : count_of s ≡ count_of s + 0 = omega arith in cc)
-counted s t (b ∷ p) e =
+pub counted_bytes : (s t : Partial) (r : List ℕ) → from s r ≡ Within t → count_of t ≡ count_of s + length r
+counted_bytes s t [] e = (let k : s ≡ t = cc in let n : count_of s ≡ count_of s + 0 = omega arith in cc)
+counted_bytes s t (b ∷ p) e =
     let m = went_on (rule s b) (λ u. from u p) p t e in
-    let more = counted m.0 t p m.2 in
+    let more = counted_bytes m.0 t p m.2 in
     let one = counts s m.0 b m.1 in omega arith
 
 -- and each state that is reached can be finished: with the payload bytes that are wanting, or five bytes 00 and 80
-ending : (s : Partial) → CanEnd s → (v : ItmPacket) × (w : List ℕ) × (from s w ≡ Whole v)
-ending Header h = (Software 0 One 0, 1 ∷ (0 ∷ []), refl)
-ending (Zeros n) h = (Sync, replicate 5 0 ++ 128 ∷ [], zeros_complete 5 n (omega arith))
-ending (Payload (Source port size) count value) h =
+abbrev CanEnd : Partial → Type 0
+CanEnd s = (v : ItmPacket) × (w : List ℕ) × (from s w ≡ Whole v)
+
+on_and_on : (k : ℕ) → IsContinued (replicate k 128 ++ 0 ∷ [])
+on_and_on zero = omega arith
+on_and_on (suc zero) = (omega arith, omega arith)
+on_and_on (suc (suc k)) = (omega arith, on_and_on (suc k))
+
+second_ending : (count value : ℕ) → count < 6 → CanEnd (Payload Second count value)
+second_ending count value h =
+    let w = replicate (5 - count) 128 ++ 0 ∷ [] in
+    let l : count + length w ≡ 6 = omega (arith, length-append {A = ℕ} (replicate (5 - count) 128) (0 ∷ []), length-replicate {A = ℕ} (5 - count) 128) in
+    let m = continued_fills 6 count w (on_and_on (5 - count)) (omega arith) in
+    let g = value_from (λ i b. added Second i b) count value w in
+    let x = GlobalSecond true (g % 2 ^ 38) in
+    (x, w, payload_complete Second count value w x (record {
+      fills = m.0;
+      ends = taken (nat_lt (last_of w) 128) (second_stamp (count + length w) g) (Fail LongStamp) (Stop x) (is_under_128 (last_of w) m.1) (second_of (count + length w) g 6 x l refl);
+    }))
+
+source_ending : (hardware : Bool) (number : ℕ) (size : Size) (count value : ℕ) → count < byte_count size → CanEnd (Payload (Source hardware number size) count value)
+source_ending hardware number size count value h =
+    let c = Source hardware number size in
     let w = replicate (byte_count size - count) 0 in
-    (Software port size (value + 256 ^ count * number w), w, payload_whole port size count value w h (omega (arith, length-replicate {A = ℕ} (byte_count size - count) 0)))
-ending (Payload Zero count value) h = absurd h
-ending (Payload Reserved count value) h = absurd h
+    let x = source hardware number size (value_from (λ i b. added c i b) count value w) in
+    (x, w, payload_complete c count value w x (record {
+      fills = count_fills (byte_count size) count w h (omega (arith, length-replicate {A = ℕ} (byte_count size - count) 0));
+      ends = refl;
+    }))
 
-finish : (s : Partial) (r : List ℕ) → from Header r ≡ Within s → (v : ItmPacket) × (w : List ℕ) × (from s w ≡ Whole v)
-finish s r e = ending s (reached Header s r tt e)
+payload_ending : (c : Class) (count value : ℕ) → count < most_bytes c → CanEnd (Payload c count value)
+payload_ending Zero count value h = absurd (omega arith)
+payload_ending Overflowed count value h = absurd (omega arith)
+payload_ending (Source hardware number size) count value h = source_ending hardware number size count value h
+payload_ending (LocalShort delta) count value h = absurd (omega arith)
+payload_ending (LocalLong lateness) count value h =
+    let c = LocalLong lateness in
+    let x = Local lateness (value + added c count 0) in
+    (x, 0 ∷ [], payload_complete c count value (0 ∷ []) x (record { fills = refl; ends = refl }))
+payload_ending First count value h =
+    let x = first_stamp (count + 1) (value + added First count 0) in
+    (x, 0 ∷ [], payload_complete First count value (0 ∷ []) x (record { fills = refl; ends = refl }))
+payload_ending Second count value h = second_ending count value h
+payload_ending (Extended true dwt low) count value h =
+    let c = Extended true dwt low in
+    let x = Extension dwt (low + 8 * (value + added c count 0)) in
+    (x, 0 ∷ [], payload_complete c count value (0 ∷ []) x (record { fills = refl; ends = refl }))
+payload_ending (Extended false dwt low) count value h = absurd (omega arith)
+payload_ending Reserved count value h = absurd (omega arith)
 
--- there is one reason so far
+ending : (s : Partial) (c : Class) (n : ℕ) → Belongs c n s → CanEnd s
+ending Header c n h = absurd h
+ending (Zeros count) c n h = (Sync, replicate 5 0 ++ 128 ∷ [], zeros_complete 5 count (omega arith))
+ending (Payload d count value) c n h = payload_ending d count value h.2
+
+finish : (s : Partial) (r : List ℕ) → from Header r ≡ Within s → CanEnd s
+finish s [] e = subst CanEnd (let k : Header ≡ s = cc in k) (Overflow, 112 ∷ [], refl)
+finish s (h ∷ p) e = ending s (class_of h) (length p) (behind_header h p s e)
+
+-- each fault has its reason
+begin_fails : (c : Class) (e : Reason) → begin c ≡ Fail e → e ≡ reason_of c 0
+begin_fails Zero e h = cc
+begin_fails Overflowed e h = cc
+begin_fails (Source hardware number size) e h = cc
+begin_fails (LocalShort delta) e h = cc
+begin_fails (LocalLong lateness) e h = cc
+begin_fails First e h = cc
+begin_fails Second e h = cc
+begin_fails (Extended true dwt low) e h = cc
+begin_fails (Extended false dwt low) e h = cc
+begin_fails Reserved e h = cc
+
+zeros_fail : (n b : ℕ) (e : Reason) → zeros_with n b ≡ Fail e → e ≡ BadItmSync
+zeros_fail n b e h = elim (zeros_cases n b) [
+  | inl m ↦ (let k = m.1 in cc)
+  | inr m ↦ elim m [ inl o ↦ (let k = o.2 in cc) | inr o ↦ cc ]
+]
+
+stamp_fails : (n v b : ℕ) (x : Next Partial ItmPacket) (e : Reason) → ((f : Reason) → x ≡ Fail f → ⊥) → cond (nat_lt b 128) x (Fail LongStamp) ≡ Fail e → e ≡ LongStamp
+stamp_fails n v b x e f h = elim (chosen (nat_lt b 128) h) [ inl m ↦ absurd (f e m.1) | inr m ↦ (let k = m.1 in cc) ]
+
+second_fails : (n v b : ℕ) (e : Reason) → n < 6 → longer 6 n b ≡ false → last Second (n + 1) v b ≡ Fail e → e ≡ reason_of Second (n + 1)
+second_fails n v b e l g h = elim (chosen (nat_lt b 128) h) [
+  | inl m ↦ elim (chosen (n + 1 == 4) m.1) [
+    | inl o ↦ (let k = o.1 in cc)
+    | inr o ↦ elim (chosen (n + 1 == 6) o.1) [
+      | inl u ↦ (let k = u.1 in cc)
+      | inr u ↦ (let k = u.1 in let q : e ≡ ShortStamp = cc in rw u.0 q)
+    ]
+  ]
+  | inr m ↦ (let k = m.1 in let q : e ≡ LongStamp = cc in rw (sixth m.0 g) q)
+] where
+  sixth : nat_lt b 128 ≡ false → longer 6 n b ≡ false → (n + 1 == 6) ≡ true
+  sixth s g = grind (arith, nat_tests)
+
+last_fails : (c : Class) (n v b : ℕ) (e : Reason) → n < most_bytes c → goes_on c n b ≡ false → last c (n + 1) v b ≡ Fail e → e ≡ reason_of c (n + 1)
+last_fails Zero n v b e l g h = absurd (omega arith)
+last_fails Overflowed n v b e l g h = absurd (omega arith)
+last_fails (Source hardware number size) n v b e l g h = cc
+last_fails (LocalShort delta) n v b e l g h = absurd (omega arith)
+last_fails (LocalLong lateness) n v b e l g h = stamp_fails n v b (Stop (Local lateness v)) e (λ f k. cc) h
+last_fails First n v b e l g h = stamp_fails n v b (Stop (first_stamp (n + 1) v)) e (λ f k. cc) h
+last_fails Second n v b e l g h = second_fails n v b e l g h
+last_fails (Extended more dwt low) n v b e l g h = cc
+last_fails Reserved n v b e l g h = absurd (omega arith)
+
+fails : (s : Partial) (c : Class) (n b : ℕ) (e : Reason) → Belongs c n s → rule s b ≡ Fail e → e ≡ reason_of c (n + 1)
+fails Header c n b e m h = absurd m
+fails (Zeros count) c n b e m h = subst (λ (d : Class). e ≡ reason_of d (n + 1)) (sym m) (zeros_fail count b e h)
+fails (Payload d count value) c n b e m h = elim (payload_cases d count value b) [
+  | inl o ↦ (let k = o.1 in cc)
+  | inr o ↦
+      let k = last_fails d count (value + added d count b) b e m.2 o.0 (sym o.1 ∙ h) in
+      subst (λ (d : Class). e ≡ reason_of d (n + 1)) m.0 (subst (λ (i : ℕ). e ≡ reason_of d (i + 1)) m.1 k)
+]
+
 reason : (s : Partial) (r : List ℕ) (b : ℕ) (e : Reason) → from Header r ≡ Within s → rule s b ≡ Fail e → e ≡ why (r ++ b ∷ [])
-reason s r b Unbuilt h e = refl
+reason s [] b e h f = begin_fails (class_of b) e (let k : Header ≡ s = cc in subst (λ (t : Partial). rule t b ≡ Fail e) (sym k) f)
+reason s (h ∷ p) b e w f =
+    let k = fails s (class_of h) (length p) b e (behind_header h p s w) f in
+    let l : length p + 1 ≡ length (p ++ b ∷ []) = omega (arith, length-append p (b ∷ [])) in
+    subst (λ (i : ℕ). e ≡ reason_of (class_of h) i) l k
 
 pub decided : Decides Spells why rule Header
 decided = walks.decides rule Spells why Header sound complete finish reason

@@ -1,22 +1,47 @@
 -- The table of headers.
-use Rattle.std.specs.Prelude.{ℕ, ◌/◌, ◌%◌, ◌<◌, ◌==◌, ◌&&◌, nat_lt, if◌then◌else◌}
+use Rattle.std.specs.Prelude.{ℕ, ◌/◌, ◌%◌, Bool, true, ◌==◌, ◌&&◌, nat_lt, nat_le, if◌then◌else◌}
 use Rattle.itm_grammar.specs.declared.packet.Size.{Size}
 use Rattle.itm_grammar.specs.declared.packet.Size.TheVariants.{One, Two, Four}
+use Rattle.itm_grammar.specs.declared.packet.Lateness.{Lateness}
+use Rattle.itm_grammar.specs.declared.packet.Lateness.TheVariants.{Exact, StampLate, PacketLate, BothLate}
 use Rattle.itm_grammar.specs.declared.header.Class.{Class}
-use Rattle.itm_grammar.specs.declared.header.Class.TheVariants.{Zero, Source, Reserved}
+use Rattle.itm_grammar.specs.declared.header.Class.TheVariants.{Zero, Overflow, Source, LocalShort, LocalLong, GlobalFirst, GlobalSecond, Extension, Reserved}
 
 -- by bits 1 and 0, which are not 00
 abbrev pub size_of : ℕ → Size
 size_of low = if low == 1 then One else (if low == 2 then Two else Four)
 
--- 00 begins a synchronisation; a byte with bits 1 and 0 not 00 and bit 2 clear begins a software packet, with the port in bits 7 to 3
-abbrev pub class_of : ℕ → Class
-class_of header =
-    if header == 0 then Zero
-    else (if nat_lt header 256 && (nat_lt 0 (header % 4) && ((header / 4) % 2 == 0)) then Source (header / 8) (size_of (header % 4)) else Reserved)
+-- by bits 5 and 4
+abbrev pub lateness_of : ℕ → Lateness
+lateness_of bits = if bits == 0 then Exact else (if bits == 1 then StampLate else (if bits == 2 then PacketLate else BothLate))
 
--- the numbers of a header's class fit their bits
-abbrev pub IsProperClass : Class → Type 0
-IsProperClass (Source port size) = port < 32
-IsProperClass Zero = Unit {0}
-IsProperClass Reserved = Unit {0}
+-- with low nibble 0, by the high nibble: 0, 1 to 6, 7, 8 to B, C to F
+abbrev pub class_by_high : ℕ → Class
+class_by_high high =
+    if high == 0 then Zero
+    else (if nat_lt high 7 then LocalShort high
+    else (if high == 7 then Overflow
+    else (if nat_lt high 12 then Reserved else LocalLong (lateness_of (high % 4)))))
+
+-- with low nibble 4, by the high nibble
+abbrev pub class_of_stamp : ℕ → Class
+class_of_stamp high = if high == 9 then GlobalFirst else (if high == 11 then GlobalSecond else Reserved)
+
+-- by bits 1 and 0, and then by the low nibble
+abbrev pub class_of_byte : ℕ → Class
+class_of_byte header =
+    if nat_lt 0 (header % 4) then Source ((header / 4) % 2 == 1) (header / 8) (size_of (header % 4))
+    else (if header % 16 == 0 then class_by_high (header / 16)
+    else (if header % 16 == 4 then class_of_stamp (header / 16)
+    else Extension (nat_le 128 header) (header % 16 == 12) ((header / 16) % 8)))
+
+-- what is no byte is no header
+abbrev pub class_of : ℕ → Class
+class_of header = if nat_lt header 256 then class_of_byte header else Reserved
+
+-- the numbers of a header's class fit their bits, and a short timestamp's is one of six
+abbrev pub is_proper_class : Class → Bool
+is_proper_class (Source hardware number size) = nat_lt number 32
+is_proper_class (LocalShort delta) = nat_lt 0 delta && nat_lt delta 7
+is_proper_class (Extension more dwt low) = nat_lt low 8
+is_proper_class class = true

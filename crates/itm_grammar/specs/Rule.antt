@@ -1,40 +1,94 @@
 -- One more byte of an unfinished packet: the grammar's rule, which keeps a state.
-use Rattle.std.specs.Prelude.{◌≡◌, ℕ, ◌+◌, ◌*◌, ◌^◌, Bool, true, false, ◌==◌, ◌&&◌, nat_lt, nat_le, if◌then◌else◌}
-use Rattle.trace_values.specs.declared.fault.Reason.TheVariants.{Unbuilt}
+use Rattle.std.specs.Prelude.{◌≡◌, ◌<◌, ℕ, ◌+◌, ◌*◌, ◌^◌, ◌/◌, ◌%◌, Bool, true, false, ◌==◌, ◌&&◌, nat_lt, nat_le, if◌then◌else◌}
+use Rattle.trace_values.specs.declared.fault.Reason.TheVariants.{ReservedHeader, BadItmSync, LongStamp, ShortStamp}
 use Rattle.trace_values.specs.declared.next.Next.{Next}
 use Rattle.trace_values.specs.declared.next.Next.TheVariants.{Go, Stop, Fail}
+use Rattle.itm_grammar.specs.declared.packet.Size.{Size}
+use Rattle.itm_grammar.specs.declared.packet.Lateness.TheVariants.{Exact}
 use Rattle.itm_grammar.specs.declared.packet.ItmPacket.{ItmPacket}
-use Rattle.itm_grammar.specs.declared.packet.ItmPacket.TheVariants.{Sync, Software}
+use Rattle.itm_grammar.specs.declared.packet.ItmPacket.TheVariants.{Sync, Overflow, Software, Hardware, Local, GlobalFirst, GlobalSecond, Extension}
 use Rattle.itm_grammar.specs.declared.header.Class.{Class}
-use Rattle.itm_grammar.specs.declared.header.Class.TheVariants.{Zero, Source, Reserved}
+use Rattle.itm_grammar.specs.declared.header.Class.TheVariants.{Zero, Overflow as Overflowed, Source, LocalShort, LocalLong, GlobalFirst as First, GlobalSecond as Second, Extension as Extended, Reserved}
 use Rattle.itm_grammar.specs.declared.partial.Partial.{Partial}
 use Rattle.itm_grammar.specs.declared.partial.Partial.TheVariants.{Header, Zeros, Payload}
-use Rattle.itm_grammar.specs.Header.{class_of}
+use Rattle.itm_grammar.specs.Header.{class_of, is_proper_class}
 use Rattle.itm_grammar.specs.Spelling.{byte_count}
 
 -- a header of this class
 abbrev pub begin : Class → Next Partial ItmPacket
 begin Zero = Go (Zeros 1)
-begin (Source port size) = Go (Payload (Source port size) 0 0)
-begin Reserved = Fail Unbuilt
+begin Overflowed = Stop Overflow
+begin (Source hardware number size) = Go (Payload (Source hardware number size) 0 0)
+begin (LocalShort delta) = Stop (Local Exact delta)
+begin (LocalLong lateness) = Go (Payload (LocalLong lateness) 0 0)
+begin First = Go (Payload First 0 0)
+begin Second = Go (Payload Second 0 0)
+begin (Extended false dwt low) = Stop (Extension dwt low)
+begin (Extended true dwt low) = Go (Payload (Extended true dwt low) 0 0)
+begin Reserved = Fail ReservedHeader
 
 -- a byte behind so many bytes 00
 abbrev pub zeros_with : ℕ → ℕ → Next Partial ItmPacket
 zeros_with count b =
     if b == 0 then Go (Zeros (count + 1))
-    else (if b == 128 && nat_le 5 count then Stop Sync else Fail Unbuilt)
+    else (if b == 128 && nat_le 5 count then Stop Sync else Fail BadItmSync)
+
+-- how many payload bytes a packet of this class may have
+abbrev pub most_bytes : Class → ℕ
+most_bytes (Source hardware number size) = byte_count size
+most_bytes (LocalLong lateness) = 4
+most_bytes First = 4
+most_bytes Second = 6
+most_bytes (Extended true dwt low) = 4
+most_bytes class = 0
+
+-- how many values a payload byte has
+abbrev pub base_of : Class → ℕ
+base_of (Source hardware number size) = 256
+base_of class = 128
+
+-- what a payload byte behind so many says by itself: seven bits, but in a source packet and at the fourth byte of an extension all of it
+abbrev pub digit : Class → ℕ → ℕ → ℕ
+digit (Source hardware number size) count b = b
+digit (Extended more dwt low) count b = if count == 3 then b else b % 128
+digit class count b = b % 128
+
+-- behind this payload byte, which stands behind so many, there is another: by the size, or by bit 7
+abbrev pub goes_on : Class → ℕ → ℕ → Bool
+goes_on (Source hardware number size) count b = nat_lt (count + 1) (byte_count size)
+goes_on class count b = nat_le 128 b && nat_lt (count + 1) (most_bytes class)
+
+abbrev pub source : Bool → ℕ → Size → ℕ → ItmPacket
+source true number size value = Hardware number size value
+source false number size value = Software number size value
+
+-- a first global timestamp of so many bytes, whose groups are this number
+abbrev pub first_stamp : ℕ → ℕ → ItmPacket
+first_stamp count value = GlobalFirst count (value % 2 ^ 26) ((value / 2 ^ 26) % 2 == 1) ((value / 2 ^ 27) % 2 == 1)
+
+-- a second one
+abbrev pub second_stamp : ℕ → ℕ → Next Partial ItmPacket
+second_stamp count value =
+    if count == 4 then Stop (GlobalSecond false (value % 2 ^ 22))
+    else (if count == 6 then Stop (GlobalSecond true (value % 2 ^ 38)) else Fail ShortStamp)
+
+-- the last payload byte, with which they are so many, and stand for this number
+abbrev pub last : Class → ℕ → ℕ → ℕ → Next Partial ItmPacket
+last (Source hardware number size) count value b = Stop (source hardware number size value)
+last (LocalLong lateness) count value b = if nat_lt b 128 then Stop (Local lateness value) else Fail LongStamp
+last First count value b = if nat_lt b 128 then Stop (first_stamp count value) else Fail LongStamp
+last Second count value b = if nat_lt b 128 then second_stamp count value else Fail LongStamp
+last (Extended more dwt low) count value b = Stop (Extension dwt (low + 8 * value))
+last class count value b = Fail ReservedHeader
 
 -- a payload byte behind so many, where with this byte they stand for this number
-abbrev pub payload_with : Class → ℕ → ℕ → Next Partial ItmPacket
-payload_with (Source port size) count value =
-    if count + 1 == byte_count size then Stop (Software port size value) else Go (Payload (Source port size) (count + 1) value)
-payload_with Zero count value = Fail Unbuilt
-payload_with Reserved count value = Fail Unbuilt
+abbrev pub payload_with : Class → ℕ → ℕ → ℕ → Next Partial ItmPacket
+payload_with class count value b = if goes_on class count b then Go (Payload class (count + 1) value) else last class (count + 1) value b
 
 abbrev pub rule : Partial → ℕ → Next Partial ItmPacket
 rule Header b = begin (class_of b)
 rule (Zeros count) b = zeros_with count b
-rule (Payload class count value) b = payload_with class count (value + b * 256 ^ count)
+rule (Payload class count value) b = payload_with class count (value + digit class count b * base_of class ^ count) b
 
 -- how many bytes of the unfinished packet there are
 abbrev pub count_of : Partial → ℕ
@@ -42,18 +96,23 @@ count_of Header = 0
 count_of (Zeros count) = count
 count_of (Payload class count value) = count + 1
 
--- what bytes leave: fewer payload bytes than the class has, which stand for a number that fits them
+-- what bytes leave: fewer payload bytes than the class may have, which stand for a number that fits them
 abbrev pub is_sound_payload : Class → ℕ → ℕ → Bool
-is_sound_payload (Source port size) count value = nat_lt count (byte_count size) && nat_lt value (256 ^ count)
-is_sound_payload Zero count value = false
-is_sound_payload Reserved count value = false
+is_sound_payload class count value = nat_lt count (most_bytes class) && nat_lt value (base_of class ^ count)
 
 abbrev pub is_sound : Partial → Bool
 is_sound Header = true
 is_sound (Zeros count) = nat_lt 0 count
-is_sound (Payload class count value) = is_sound_payload class count value
+is_sound (Payload class count value) = is_proper_class class && is_sound_payload class count value
 
 abbrev pub IsSoundNext : Next Partial ItmPacket → Type 0
 IsSoundNext (Go partial) = is_sound partial ≡ true
 IsSoundNext (Stop packet) = Unit {0}
 IsSoundNext (Fail e) = Unit {0}
+
+-- the numbers of a whole payload of this class with its header's fit the packet's
+abbrev pub FitsLast : Class → ℕ → Type 0
+FitsLast (Source hardware number size) value = value < 2 ^ 32
+FitsLast (LocalLong lateness) value = value < 2 ^ 28
+FitsLast (Extended more dwt low) value = (low < 8) × (value < 2 ^ 29)
+FitsLast class value = Unit {0}

@@ -1,17 +1,34 @@
 //! What a header begins.
 
-ghost use Rattle.std.specs.Prelude.{◌≡◌};
-ghost use Rattle.itm_grammar.specs.Header.{class_of, size_of as size_named, IsProperClass};
+ghost use Rattle.std.specs.Prelude.{◌≡◌, true};
+ghost use Rattle.itm_grammar.specs.Header.{class_of, size_of as size_named, lateness_of as lateness_named, class_by_high as class_named_by_high, class_of_stamp as class_named_by_stamp, is_proper_class};
 
-use crate::packet::Size;
+use crate::packet::{Lateness, Size};
 
 /// What a header begins.
 #[derive(Clone, Copy, Debug, PartialEq, Eq, Drop)]
 pub enum Class {
     /// A synchronisation packet.
     Zero,
-    /// A software packet of this port, with a payload of this size.
-    Source { port: u8, size: Size },
+    /// An overflow packet, of which nothing follows.
+    Overflow,
+    /// A source packet: a software packet of this port or a hardware packet of this discriminator, 0 to
+    /// 31, with a payload of this size.
+    Source {
+        hardware: bool,
+        number: u8,
+        size: Size,
+    },
+    /// An exact local timestamp of this time, 1 to 6, of which nothing follows.
+    LocalShort(u8),
+    /// A local timestamp, 1 to 4 bytes of which follow.
+    LocalLong(Lateness),
+    /// A first global timestamp, 1 to 4 bytes of which follow.
+    GlobalFirst,
+    /// A second global timestamp, 4 or 6 bytes of which follow.
+    GlobalSecond,
+    /// An extension packet with these low bits of its value, 0 to 7. Up to 4 bytes follow where there are more.
+    Extension { more: bool, dwt: bool, low: u8 },
     /// No packet.
     Reserved,
 }
@@ -26,20 +43,64 @@ fn size_of(low: u8) -> Size
     }
 }
 
+fn lateness_of(bits: u8) -> Lateness
+    ensures { result ≡ lateness_named bits }
+{
+    match bits {
+        0 => Lateness::Exact,
+        1 => Lateness::StampLate,
+        2 => Lateness::PacketLate,
+        _ => Lateness::BothLate,
+    }
+}
+
+/// A header with low nibble 0, by its high nibble.
+fn class_by_high(high: u8) -> Class
+    ensures class { result ≡ class_named_by_high high }
+    ensures proper { is_proper_class result ≡ true }
+{
+    match high {
+        0 => Class::Zero,
+        1..=6 => Class::LocalShort(high),
+        7 => Class::Overflow,
+        8..=11 => Class::Reserved,
+        _ => Class::LocalLong(lateness_of(high % 4)),
+    }
+}
+
+/// A header with low nibble 4, by its high nibble.
+fn class_of_stamp(high: u8) -> Class
+    ensures class { result ≡ class_named_by_stamp high }
+    ensures proper { is_proper_class result ≡ true }
+{
+    match high {
+        9 => Class::GlobalFirst,
+        11 => Class::GlobalSecond,
+        _ => Class::Reserved,
+    }
+}
+
 /// The class of a header, by the table of headers.
 pub fn classify(header: u8) -> Class
     ensures class { result ≡ class_of header }
-    ensures proper { IsProperClass result }
+    ensures proper { is_proper_class result ≡ true }
 {
-    if header == 0 {
-        Class::Zero
-    } else if header % 4 > 0 && (header / 4) % 2 == 0 {
+    if header % 4 > 0 {
         Class::Source {
-            port: header / 8,
+            hardware: (header / 4) % 2 == 1,
+            number: header / 8,
             size: size_of(header % 4),
         }
+    } else if header % 16 == 0 {
+        class_by_high(header / 16)
+    } else if header % 16 == 4 {
+        class_of_stamp(header / 16)
     } else {
-        Class::Reserved
+        Class::Extension {
+            more: header >= 128,
+            dwt: header % 16 == 12,
+            low: (header / 16) % 8,
+        }
     }
 }
 
@@ -47,23 +108,44 @@ pub fn classify(header: u8) -> Class
 mod tests {
     use super::*;
 
-    /// By bits 7 to 3 and bits 2 to 0.
+    /// By the high and the low nibble, line by line as the standard's table of packets has them.
     fn expected(header: u8) -> Class {
-        match (header >> 3, header & 7) {
+        match (header >> 4, header & 15) {
             (0, 0) => Class::Zero,
-            (port, 1) => Class::Source {
-                port,
-                size: Size::One,
-            },
-            (port, 2) => Class::Source {
-                port,
-                size: Size::Two,
-            },
-            (port, 3) => Class::Source {
-                port,
-                size: Size::Four,
-            },
-            _ => Class::Reserved,
+            (7, 0) => Class::Overflow,
+            (1..=6, 0) => Class::LocalShort(header >> 4),
+            (12, 0) => Class::LocalLong(Lateness::Exact),
+            (13, 0) => Class::LocalLong(Lateness::StampLate),
+            (14, 0) => Class::LocalLong(Lateness::PacketLate),
+            (15, 0) => Class::LocalLong(Lateness::BothLate),
+            (_, 0) => Class::Reserved,
+            (9, 4) => Class::GlobalFirst,
+            (11, 4) => Class::GlobalSecond,
+            (_, 4) => Class::Reserved,
+            (high, 8) => extension(high, false),
+            (high, 12) => extension(high, true),
+            (_, low) => source(header >> 3, low & 4 != 0, low & 3),
+        }
+    }
+
+    fn extension(high: u8, dwt: bool) -> Class {
+        Class::Extension {
+            more: high & 8 != 0,
+            dwt,
+            low: high & 7,
+        }
+    }
+
+    fn source(number: u8, hardware: bool, low: u8) -> Class {
+        let size = match low {
+            1 => Size::One,
+            2 => Size::Two,
+            _ => Size::Four,
+        };
+        Class::Source {
+            hardware,
+            number,
+            size,
         }
     }
 

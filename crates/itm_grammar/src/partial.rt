@@ -1,12 +1,12 @@
 //! An unfinished packet, and one more byte of it.
 
-ghost use Rattle.std.specs.Prelude.{◌≡◌, ℕ, ◌+◌, ◌*◌, ◌^◌, ◌<◌, ◌≤◌, true};
-ghost use Rattle.itm_grammar.specs.Header.{IsProperClass};
+ghost use Rattle.std.specs.Prelude.{◌≡◌, ◌↔◌, IsTrue, ℕ, ◌+◌, ◌*◌, ◌^◌, ◌<◌, ◌≤◌, ◌%◌, true};
+ghost use Rattle.itm_grammar.specs.Header.{is_proper_class};
 ghost use Rattle.itm_grammar.specs.Spelling.{byte_count as spelled_count};
-ghost use Rattle.itm_grammar.specs.Rule.{rule, begin as begun, zeros_with as zeros_and, payload_with as payload_and, is_sound, is_sound_payload, IsSoundNext, count_of};
+ghost use Rattle.itm_grammar.specs.Rule.{rule, begin as begun, zeros_with as zeros_and, payload_with as payload_and, last as lasting, goes_on as going_on, source as sourced, first_stamp as first_stamped, second_stamp as second_stamped, digit, base_of, is_sound, is_sound_payload, IsSoundNext, FitsLast, count_of};
 
 use crate::header::{Class, classify};
-use crate::packet::{ItmPacket, Size};
+use crate::packet::{ItmPacket, Lateness, Size};
 use trace_values::{Next, Reason};
 
 /// What is kept of an unfinished packet.
@@ -36,8 +36,29 @@ fn number_with(value: u64, count: u8, byte: u8) -> u64
     }
 }
 
+/// The number that payload bytes stand for with one more of which these are the bits, seven a byte, the
+/// lowest first. The last byte of an extension packet has eight.
+fn groups_with(value: u64, count: u8, bits: u8) -> u64
+    requires few { count < 6 }
+    requires fits { value < 128 ^ count }
+    ensures value { result ≡ value + bits * 128 ^ count }
+    ensures fits { result < 2 * 128 ^ (count + 1) }
+    ensures seven { bits < 128 → result < 128 ^ (count + 1) }
+{
+    let bits = u64::from(bits);
+    match count {
+        0 => bits,
+        1 => value + 0x80 * bits,
+        2 => value + 0x4000 * bits,
+        3 => value + 0x20_0000 * bits,
+        4 => value + 0x1000_0000 * bits,
+        _ => value + 0x8_0000_0000 * bits,
+    }
+}
+
 fn byte_count(size: Size) -> u8
-    ensures { result ≡ spelled_count size }
+    ensures count { result ≡ spelled_count size }
+    ensures few { result ≤ 4 }
 {
     match size {
         Size::One => 1,
@@ -48,17 +69,35 @@ fn byte_count(size: Size) -> u8
 
 /// What a header of this class begins.
 fn begin(class: Class) -> Next<Partial, ItmPacket>
+    requires { is_proper_class class ≡ true }
     ensures next { result ≡ begun class }
     ensures sound { IsSoundNext result }
 {
     match class {
         Class::Zero => Next::Go(Partial::Zeros(1)),
-        Class::Source { .. } => Next::Go(Partial::Payload {
+        Class::Overflow => Next::Stop(ItmPacket::Overflow),
+        Class::LocalShort(delta) => Next::Stop(ItmPacket::Local {
+            lateness: Lateness::Exact,
+            delta: u32::from(delta),
+        }),
+        Class::Extension {
+            more: false,
+            dwt,
+            low,
+        } => Next::Stop(ItmPacket::Extension {
+            dwt,
+            value: u32::from(low),
+        }),
+        Class::Reserved => Next::Fail(Reason::ReservedHeader),
+        Class::Source { .. }
+        | Class::LocalLong(_)
+        | Class::GlobalFirst
+        | Class::GlobalSecond
+        | Class::Extension { .. } => Next::Go(Partial::Payload {
             class,
             count: 0,
             value: 0,
         }),
-        Class::Reserved => Next::Fail(Reason::Unbuilt),
     }
 }
 
@@ -72,33 +111,131 @@ fn zeros_with(count: u64, byte: u8) -> Next<Partial, ItmPacket>
     } else if byte == 128 && count >= 5 {
         Next::Stop(ItmPacket::Sync)
     } else {
-        Next::Fail(Reason::Unbuilt)
+        Next::Fail(Reason::BadItmSync)
+    }
+}
+
+/// The number of the payload with one more byte.
+fn value_with(class: Class, count: u8, value: u64, byte: u8) -> u64
+    requires sound { is_sound_payload class count value ≡ true }
+    ensures { result ≡ value + digit class count byte * base_of class ^ count }
+{
+    match class {
+        Class::Source { .. } => number_with(value, count, byte),
+        Class::Extension { .. } if count == 3 => groups_with(value, count, byte),
+        _ => groups_with(value, count, byte % 128),
+    }
+}
+
+/// Whether another payload byte follows this one, by the size or by bit 7.
+fn goes_on(class: Class, count: u8, byte: u8) -> bool
+    requires { count < 6 }
+    ensures { result ≡ going_on class count byte }
+{
+    match class {
+        Class::Source { size, .. } => count + 1 < byte_count(size),
+        Class::GlobalSecond => byte >= 128 && count < 5,
+        Class::LocalLong(_) | Class::GlobalFirst | Class::Extension { more: true, .. } => {
+            byte >= 128 && count < 3
+        }
+        _ => false,
+    }
+}
+
+fn source(hardware: bool, number: u8, size: Size, value: u32) -> ItmPacket
+    ensures { result ≡ sourced hardware number size value }
+{
+    if hardware {
+        ItmPacket::Hardware {
+            disc: number,
+            size,
+            value,
+        }
+    } else {
+        ItmPacket::Software {
+            port: number,
+            size,
+            value,
+        }
+    }
+}
+
+/// A first global timestamp of so many payload bytes: 26 bits of the time, clock change and wrap.
+fn first_stamp(count: u8, value: u64) -> ItmPacket
+    ensures { result ≡ first_stamped count value }
+{
+    ItmPacket::GlobalFirst {
+        len: count,
+        value: (value % 0x400_0000) as u32,
+        change: (value / 0x400_0000) % 2 == 1,
+        wrap: (value / 0x800_0000) % 2 == 1,
+    }
+}
+
+/// A second global timestamp of so many payload bytes; the bits above those of the time are ignored.
+fn second_stamp(count: u8, value: u64) -> Next<Partial, ItmPacket>
+    ensures next { result ≡ second_stamped count value }
+    ensures sound { IsSoundNext result }
+{
+    match count {
+        4 => Next::Stop(ItmPacket::GlobalSecond {
+            wide: false,
+            value: value % 0x40_0000,
+        }),
+        6 => Next::Stop(ItmPacket::GlobalSecond {
+            wide: true,
+            value: value % 0x40_0000_0000,
+        }),
+        _ => Next::Fail(Reason::ShortStamp),
+    }
+}
+
+/// The last payload byte, with which they are so many, and stand for this number.
+fn last(class: Class, count: u8, value: u64, byte: u8) -> Next<Partial, ItmPacket>
+    requires { FitsLast class value }
+    ensures next { result ≡ lasting class count value byte }
+    ensures sound { IsSoundNext result }
+{
+    match class {
+        Class::Source {
+            hardware,
+            number,
+            size,
+        } => Next::Stop(source(hardware, number, size, value as u32)),
+        Class::Extension { dwt, low, .. } => Next::Stop(ItmPacket::Extension {
+            dwt,
+            value: (u64::from(low) + 8 * value) as u32,
+        }),
+        Class::LocalLong(_) | Class::GlobalFirst | Class::GlobalSecond if byte >= 128 => {
+            Next::Fail(Reason::LongStamp)
+        }
+        Class::LocalLong(lateness) => Next::Stop(ItmPacket::Local {
+            lateness,
+            delta: value as u32,
+        }),
+        Class::GlobalFirst => Next::Stop(first_stamp(count, value)),
+        Class::GlobalSecond => second_stamp(count, value),
+        Class::Zero | Class::Overflow | Class::LocalShort(_) | Class::Reserved => {
+            Next::Fail(Reason::ReservedHeader)
+        }
     }
 }
 
 fn payload_with(class: Class, count: u8, value: u64, byte: u8) -> Next<Partial, ItmPacket>
-    requires { is_sound_payload class count value ≡ true }
-    ensures next { result ≡ payload_and class count (value + byte * 256 ^ count) }
+    requires proper { is_proper_class class ≡ true }
+    requires sound { is_sound_payload class count value ≡ true }
+    ensures next { result ≡ payload_and class count (value + digit class count byte * base_of class ^ count) byte }
     ensures sound { IsSoundNext result }
 {
-    match class {
-        Class::Source { port, size } => {
-            let value = number_with(value, count, byte);
-            if count + 1 == byte_count(size) {
-                Next::Stop(ItmPacket::Software {
-                    port,
-                    size,
-                    value: value as u32,
-                })
-            } else {
-                Next::Go(Partial::Payload {
-                    class,
-                    count: count + 1,
-                    value,
-                })
-            }
-        }
-        Class::Zero | Class::Reserved => Next::Fail(Reason::Unbuilt),
+    let value = value_with(class, count, value, byte);
+    if goes_on(class, count, byte) {
+        Next::Go(Partial::Payload {
+            class,
+            count: count + 1,
+            value,
+        })
+    } else {
+        last(class, count + 1, value, byte)
     }
 }
 

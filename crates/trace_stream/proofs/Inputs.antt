@@ -1,10 +1,9 @@
 use Rattle.std.proofs.Common.{◌≡◌, ℕ, ◌+◌, ◌≤◌, List, [], ◌++◌, ap, ◌∙◌, sym, subst, append_assoc, append-nil, length, length-append, take, drop, arith, take-append-drop}
 use Rattle.std.proofs.lemmas.List.{take-take, take-append-le, length-take}
 use Rattle.std.specs.declared.option.Option.{Option}
-use Rattle.std.specs.Io.KnownBytes.{Appends, Consumes}
+use Rattle.std.specs.Io.KnownBytes.{Consumes}
 use Rattle.std.proofs.KnownBytes.{Consumes-trans}
-use Rattle.trace_io.specs.Bytes.{AppendsPrefix}
-use Rattle.trace_stream.proofs.Prefixes.{prefix_join, front_written}
+use Rattle.trace_stream.proofs.Pieces.{all_fed}
 use Rattle.trace_stream.specs.Fed.{StandsAfter, HasFed}
 use Rattle.trace_stream.specs.Pumped.{HasPumped}
 use Rattle.trace_stream.specs.declared.feeding.Fed.TheVariants.{All, FaultFound, WriteFailed}
@@ -49,55 +48,27 @@ pump_write_failed was now faulty text limit left_old left left_new start held he
   outcome = fed.outcome;
 }
 
-all_fed : (stands faulty : List ℕ → Type 0) (text : List ℕ → List ℕ) (start held : Option (List ℕ)) (pending seen piece : List ℕ) → HasFed stands faulty text start held pending seen piece All → StandsAfter stands faulty text start held pending (seen ++ piece)
-all_fed stands faulty text start held pending seen piece fed =
-    let one : fed.fed ≡ piece = sym (fed.parts ∙ ap (λ l. fed.fed ++ l) fed.outcome.1 ∙ append-nil fed.fed) in
-    subst (λ l. StandsAfter stands faulty text start held pending (seen ++ l)) one fed.outcome.0
-
--- the whole piece was fed, and its text could not be written
-pub pump_flush_failed : (was now faulty : List ℕ → Type 0) (text : List ℕ → List ℕ) (limit : ℕ) (left_old left left_new start held held' held'' : Option (List ℕ)) (pending pending' pending'' : List ℕ) (count : ℕ) (bytes piece beyond : List ℕ)
-    (so_far : IsPumping was faulty text left_old left start held pending count) → Consumes left left_new bytes → bytes ≡ piece ++ beyond → count + length piece ≤ limit → count + length bytes ≤ limit + 1
-    → HasFed now faulty text start held' pending' so_far.seen piece All → AppendsPrefix held' held'' pending'
-    → HasPumped now faulty text limit left_old left_new start held'' pending'' ending.WriteFailed
-pump_flush_failed was now faulty text limit left_old left left_new start held held' held'' pending pending' pending'' count bytes piece beyond so_far q e within at_most fed put = record {
-  seen = so_far.seen ++ piece;
-  extra = beyond;
-  lost = parts_lost left_old left left_new so_far.seen bytes piece beyond piece [] so_far.lost q e (sym (append-nil piece));
-  within = omega (arith, so_far.counted, length-append so_far.seen piece);
-  at_most = omega (arith, so_far.counted, length-append so_far.seen piece, length-append piece beyond, ap length e);
-  outcome = prefix_join start held' held'' (text (so_far.seen ++ piece)) pending' (all_fed now faulty text start held' pending' so_far.seen piece fed).written put;
-}
-
--- what is pending was written
-flushed : (stands faulty : List ℕ → Type 0) (text : List ℕ → List ℕ) (start held held' : Option (List ℕ)) (pending pending' seen : List ℕ) → StandsAfter stands faulty text start held pending seen
-    → Appends held held' pending → pending' ≡ [] → StandsAfter stands faulty text start held' pending' seen
-flushed stands faulty text start held held' pending pending' seen after put none = record {
-  read = after.read;
-  sound = after.sound;
-  written = record { front = text seen; took = front_written start held held' (text seen) pending after.written put; all = sym (ap (λ l. text seen ++ l) none ∙ append-nil (text seen)) };
-}
-
-pub pump_over : (was now faulty : List ℕ → Type 0) (text : List ℕ → List ℕ) (limit : ℕ) (left_old left left_new start held held' held'' : Option (List ℕ)) (pending pending' pending'' : List ℕ) (count : ℕ) (bytes piece beyond : List ℕ)
+pub pump_over : (was now faulty : List ℕ → Type 0) (text : List ℕ → List ℕ) (limit : ℕ) (left_old left left_new start held held' : Option (List ℕ)) (pending pending' : List ℕ) (count : ℕ) (bytes piece beyond : List ℕ)
     (so_far : IsPumping was faulty text left_old left start held pending count) → Consumes left left_new bytes → bytes ≡ piece ++ beyond → count + length piece ≡ limit → count + length bytes ≡ limit + 1
-    → HasFed now faulty text start held' pending' so_far.seen piece All → Appends held' held'' pending' → pending'' ≡ []
-    → HasPumped now faulty text limit left_old left_new start held'' pending'' ending.OverLimit
-pump_over was now faulty text limit left_old left left_new start held held' held'' pending pending' pending'' count bytes piece beyond so_far q e within at_most fed put none = record {
+    → HasFed now faulty text start held' pending' so_far.seen piece All → pending' ≡ []
+    → HasPumped now faulty text limit left_old left_new start held' pending' ending.OverLimit
+pump_over was now faulty text limit left_old left left_new start held held' pending pending' count bytes piece beyond so_far q e within at_most fed none = record {
   seen = so_far.seen ++ piece;
   extra = beyond;
   lost = parts_lost left_old left left_new so_far.seen bytes piece beyond piece [] so_far.lost q e (sym (append-nil piece));
   within = omega (arith, so_far.counted, length-append so_far.seen piece);
   at_most = omega (arith, so_far.counted, length-append so_far.seen piece, length-append piece beyond, ap length e);
-  outcome = (flushed now faulty text start held' held'' pending' pending'' (so_far.seen ++ piece) (all_fed now faulty text start held' pending' so_far.seen piece fed) put none, omega (arith, so_far.counted, length-append so_far.seen piece), omega (arith, length-append piece beyond, ap length e), none);
+  outcome = (all_fed now faulty text start held' pending' so_far.seen piece fed, omega (arith, so_far.counted, length-append so_far.seen piece), omega (arith, length-append piece beyond, ap length e), none);
 }
 
-pub pump_more : (was now faulty : List ℕ → Type 0) (text : List ℕ → List ℕ) (left_old left left_new start held held' held'' : Option (List ℕ)) (pending pending' pending'' : List ℕ) (count : ℕ) (piece : List ℕ)
+pub pump_more : (was now faulty : List ℕ → Type 0) (text : List ℕ → List ℕ) (left_old left left_new start held held' : Option (List ℕ)) (pending pending' : List ℕ) (count : ℕ) (piece : List ℕ)
     (so_far : IsPumping was faulty text left_old left start held pending count) → Consumes left left_new piece
-    → HasFed now faulty text start held' pending' so_far.seen piece All → Appends held' held'' pending' → pending'' ≡ []
-    → IsPumping now faulty text left_old left_new start held'' pending'' (count + length piece)
-pump_more was now faulty text left_old left left_new start held held' held'' pending pending' pending'' count piece so_far q fed put none = record {
+    → HasFed now faulty text start held' pending' so_far.seen piece All
+    → IsPumping now faulty text left_old left_new start held' pending' (count + length piece)
+pump_more was now faulty text left_old left left_new start held held' pending pending' count piece so_far q fed = record {
   seen = so_far.seen ++ piece;
   lost = Consumes-trans left_old left left_new so_far.seen piece so_far.lost q;
-  after = flushed now faulty text start held' held'' pending' pending'' (so_far.seen ++ piece) (all_fed now faulty text start held' pending' so_far.seen piece fed) put none;
+  after = all_fed now faulty text start held' pending' so_far.seen piece fed;
   counted = omega (arith, so_far.counted, length-append so_far.seen piece);
 }
 

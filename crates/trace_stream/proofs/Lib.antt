@@ -1,4 +1,6 @@
-pub mod Prefixes
-pub mod Pieces
+pub mod Certain
+pub mod Doubling
 pub mod Inputs
 pub mod Parts
+pub mod Pieces
+pub mod Prefixes

@@ -10,7 +10,7 @@ use Rattle.trace_stream.specs.declared.pumping.Ending.{Ending}
 use Rattle.trace_stream.specs.declared.pumping.Ending.TheVariants.{AtEnd, FaultFound, ReadFailed, OverLimit}
 use Rattle.trace_stream.specs.declared.serving.Outcome.TheVariants as outcome_of
 use Rattle.trace_stream.specs.Pumped.{HasPumped}
-use Rattle.trace_stream.specs.Served.{HasServed}
+use Rattle.trace_stream.specs.Served.{HasServed, HasStopped}
 
 -- the first bytes up to the limit are those seen, and maybe more
 first_bytes : (limit : ℕ) (seen extra : List ℕ) → length seen ≤ limit → take limit (seen ++ extra) ≡ seen ++ take (limit - length seen) extra
@@ -25,7 +25,7 @@ served_at_end stands faulty text ending limit left_old left_new start held new p
   lost = subst (Consumes left_old left_new) (ap (λ l. pumped.seen ++ l) pumped.outcome.1 ∙ append-nil pumped.seen) pumped.lost;
   gained = written;
   at_most = omega (arith, pumped.within);
-  by_outcome = (pumped.outcome.0.sound, pumped.within, refl);
+  outcome = (pumped.outcome.0.sound, pumped.within, refl);
   ended = pumped.outcome.2;
 }
 
@@ -44,7 +44,7 @@ served_stopped stands faulty text ending limit left_old left_new start held new 
       lost = pumped.lost;
       gained = written;
       at_most = omega (arith, pumped.at_most, length-append pumped.seen pumped.extra);
-      by_outcome = (record { seen = pumped.seen; rest = more; parts = front; certain = pumped.outcome.certain; broken = subst faulty (sym front) (faulty_stays pumped.seen more pumped.outcome.certain.broken) }, cc);
+      outcome = (record { seen = pumped.seen; rest = more; parts = front; certain = pumped.outcome.certain; broken = subst faulty (sym front) (faulty_stays pumped.seen more pumped.outcome.certain.broken) }, cc);
       ended = tt;
     }
 
@@ -57,7 +57,7 @@ served_read_failed stands faulty text ending limit left_old left_new start held 
   lost = subst (Consumes left_old left_new) (ap (λ l. pumped.seen ++ l) pumped.outcome.1 ∙ append-nil pumped.seen) pumped.lost;
   gained = front_all start held (text pumped.seen) pending pumped.outcome.0.written pumped.outcome.2;
   at_most = omega (arith, pumped.within);
-  by_outcome = (pumped.outcome.0.sound, pumped.within, refl);
+  outcome = (pumped.outcome.0.sound, pumped.within, refl);
   ended = tt;
 }
 
@@ -73,7 +73,7 @@ served_over_limit stands faulty text ending limit left_old left_new start held p
       lost = pumped.lost;
       gained = front_all start held (text pumped.seen) pending pumped.outcome.0.written pumped.outcome.3;
       at_most = omega (arith, pumped.at_most, length-append pumped.seen pumped.extra);
-      by_outcome = (subst (λ l. faulty l → ⊥) (sym front) pumped.outcome.0.sound, omega (arith, count, pumped.outcome.2, length-append pumped.seen pumped.extra), sym (ap text front));
+      outcome = (subst (λ l. faulty l → ⊥) (sym front) pumped.outcome.0.sound, omega (arith, count, pumped.outcome.2, length-append pumped.seen pumped.extra), sym (ap text front));
       ended = tt;
     }
 
@@ -88,7 +88,7 @@ served_in_part stands faulty text ending limit left_old left_new start held new 
   lost = pumped.lost;
   gained = prefix.1.took;
   at_most = omega (arith, pumped.at_most, length-append pumped.seen pumped.extra);
-  by_outcome = (prefix.0 ++ grows.0, grows.1 ∙ ap (λ l. l ++ grows.0) prefix.1.all ∙ append_assoc prefix.1.front prefix.0 grows.0);
+  outcome = (prefix.0 ++ grows.0, grows.1 ∙ ap (λ l. l ++ grows.0) prefix.1.all ∙ append_assoc prefix.1.front prefix.0 grows.0);
   ended = tt;
 }
 
@@ -115,3 +115,16 @@ stopped_in_part faulty text ending limit seen extra text_stays ending_stays brok
     let same_text : text (take limit (seen ++ extra)) ≡ text seen = ap text front ∙ text_stays seen more broken in
     let same_ending : ending (take limit (seen ++ extra)) ≡ ending seen = ap ending front ∙ ending_stays seen more broken in
     ([], ap (λ l. l ++ ending (take limit (seen ++ extra))) same_text ∙ ap (λ l. text seen ++ l) same_ending ∙ sym (append-nil (text seen ++ ending seen)))
+
+-- the action stands where the fault became certain
+pub stopped_there : (stands faulty : List ℕ → Type 0) (text : List ℕ → List ℕ) (limit : ℕ) (left_old left_new start held : Option (List ℕ)) (pending : List ℕ)
+    → HasPumped stands faulty text limit left_old left_new start held pending FaultFound → HasStopped stands faulty limit left_old left_new
+stopped_there stands faulty text limit left_old left_new start held pending pumped = record {
+  bytes = pumped.seen ++ pumped.extra;
+  seen = pumped.seen;
+  rest = take (limit - length pumped.seen) pumped.extra;
+  lost = pumped.lost;
+  parts = first_bytes limit pumped.seen pumped.extra pumped.within;
+  certain = pumped.outcome.certain;
+  holds = pumped.outcome.read;
+}

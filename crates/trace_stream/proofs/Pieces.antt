@@ -1,7 +1,8 @@
 use Rattle.std.proofs.Common.{◌≡◌, ℕ, List, [], ◌++◌, ap, ◌∙◌, sym, subst, refl, append_assoc, append-nil, take, drop, take-append-drop}
 use Rattle.std.specs.declared.option.Option.{Option}
+use Rattle.std.specs.Io.KnownBytes.{Appends}
 use Rattle.trace_io.specs.Bytes.{AppendsPrefix, TakesFront}
-use Rattle.trace_stream.proofs.Prefixes.{prefix_join, front_join}
+use Rattle.trace_stream.proofs.Prefixes.{prefix_join, front_join, front_written}
 use Rattle.trace_stream.specs.Fed.{StandsAfter, StopsAfter, HasFed}
 use Rattle.trace_stream.specs.Taken.{HasTaken}
 use Rattle.trace_stream.specs.declared.action.Flow.{Flow}
@@ -79,3 +80,33 @@ pub taken_at : {Plan : Type 0} (now : List ℕ → Type 0) (faulty : Plan → Li
     → plan ≡ p → flow ≡ known → HasTaken now (faulty plan) (text plan) seen front outlet_old outlet_new flow → HasTaken now (faulty p) (text p) seen front outlet_old outlet_new known
 taken_at now faulty text plan p seen front outlet_old outlet_new flow known e f taken =
     subst (λ q. HasTaken now (faulty q) (text q) seen front outlet_old outlet_new known) e (subst (λ k. HasTaken now (faulty plan) (text plan) seen front outlet_old outlet_new k) f taken)
+
+-- ---- all of a piece
+
+pub all_fed : (stands faulty : List ℕ → Type 0) (text : List ℕ → List ℕ) (start held : Option (List ℕ)) (pending seen piece : List ℕ) → HasFed stands faulty text start held pending seen piece All → StandsAfter stands faulty text start held pending (seen ++ piece)
+all_fed stands faulty text start held pending seen piece fed =
+    let one : fed.fed ≡ piece = sym (fed.parts ∙ ap (λ l. fed.fed ++ l) fed.outcome.1 ∙ append-nil fed.fed) in
+    subst (λ l. StandsAfter stands faulty text start held pending (seen ++ l)) one fed.outcome.0
+
+-- what is pending was written
+pub fed_and_written : (stands faulty : List ℕ → Type 0) (text : List ℕ → List ℕ) (start held held' : Option (List ℕ)) (pending pending' seen piece : List ℕ) → HasFed stands faulty text start held pending seen piece All
+    → Appends held held' pending → pending' ≡ [] → HasFed stands faulty text start held' pending' seen piece All
+fed_and_written stands faulty text start held held' pending pending' seen piece fed put none =
+    let after = all_fed stands faulty text start held pending seen piece fed in
+    let all = text (seen ++ piece) in
+    record {
+      fed = piece;
+      rest = [];
+      parts = sym (append-nil piece);
+      outcome = (record { read = after.read; sound = after.sound; written = record { front = all; took = front_written start held held' all pending after.written put; all = sym (ap (λ l. all ++ l) none ∙ append-nil all) } }, refl);
+    }
+
+-- or could not be
+pub fed_and_not_written : (stands faulty : List ℕ → Type 0) (text : List ℕ → List ℕ) (start held held' : Option (List ℕ)) (pending pending' seen piece : List ℕ) → HasFed stands faulty text start held pending seen piece All
+    → AppendsPrefix held held' pending → HasFed stands faulty text start held' pending' seen piece WriteFailed
+fed_and_not_written stands faulty text start held held' pending pending' seen piece fed put = record {
+  fed = fed.fed;
+  rest = fed.rest;
+  parts = fed.parts;
+  outcome = prefix_join start held held' (text (seen ++ fed.fed)) pending fed.outcome.0.written put;
+}

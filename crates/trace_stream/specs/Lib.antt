@@ -1,3 +1,5 @@
+pub mod Doubling
+pub mod DoublingLaws
 pub mod Fed
 pub mod Laws
 pub mod Pumped

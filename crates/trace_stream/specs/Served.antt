@@ -27,11 +27,21 @@ EndsAt left AtEnd = IsAtEnd left
 EndsAt left _ = Unit {0}
 
 -- the bytes are those that the input lost, at most one past the limit, and out is what the output gained
-pub record HasServed (faulty : List ℕ → Type 0) (text ending : List ℕ → List ℕ) (limit : ℕ) (left_old left_new held_old held_new : Option (List ℕ)) (outcome : Outcome) : Type 0 where
+pub record HasServed (faulty : List ℕ → Type 0) (text ending : List ℕ → List ℕ) (limit : ℕ) (left_old left_new held_old held_new : Option (List ℕ)) (result : Outcome) : Type 0 where
   pub bytes : List ℕ
   pub out : List ℕ
   pub lost : Consumes left_old left_new bytes
   pub gained : Appends held_old held_new out
   pub at_most : length bytes ≤ limit + 1
-  pub by_outcome : ServedBy faulty text ending limit outcome bytes out
-  pub ended : EndsAt left_new outcome
+  pub outcome : ServedBy faulty text ending limit result bytes out
+  pub ended : EndsAt left_new result
+
+-- the input lost these bytes, and this holds of those up to the one at which the fault became certain
+pub record HasStopped (there faulty : List ℕ → Type 0) (limit : ℕ) (left_old left_new : Option (List ℕ)) : Type 0 where
+  pub bytes : List ℕ
+  pub seen : List ℕ
+  pub rest : List ℕ
+  pub lost : Consumes left_old left_new bytes
+  pub parts : take limit bytes ≡ seen ++ rest
+  pub certain : IsCertainAt faulty seen
+  pub holds : there seen

@@ -30,8 +30,8 @@ pub fn make_room<O: Sink>(outlet: &mut Outlet, output: &mut O) -> Result<(), Fai
     Ok(())
 }
 
-/// Feeds a piece to the action, up to a fault. The outlet is written only where its room runs short.
-pub fn feed_piece<A: Action, O: Sink>(
+// Feeds a piece to the action, up to a fault. The outlet is written only where its room runs short.
+fn feed_piece<A: Action, O: Sink>(
     action: &mut A,
     outlet: &mut Outlet,
     output: &mut O,
@@ -60,4 +60,34 @@ pub fn feed_piece<A: Action, O: Sink>(
         }
     }
     Fed::All
+}
+
+/// Feeds a piece to the action and writes all its text. At a fault the last of the text is left pending,
+/// since more is to come behind it.
+pub fn feed_and_write<A: Action, O: Sink>(
+    action: &mut A,
+    outlet: &mut Outlet,
+    output: &mut O,
+    piece: &[u8],
+) -> Fed
+    requires live { A.live action.old }
+    requires count { A.taken action.old + length piece.now < 2 ^ 40 }
+    ensures same { A.plan action.new ≡ A.plan action.old }
+    ensures live { result ≡ Fed.All → A.live action.new }
+    ensures count { result ≡ Fed.All → A.taken action.new ≡ A.taken action.old + length piece.now }
+    ensures fed { (start : Option (List ℕ)) (seen : List ℕ) (p : A.Plan) → A.plan action.old ≡ p →
+        StandsAfter (A.stands action.old) (A.faulty p) (A.text p) start (O.held output.old) outlet.old seen →
+        HasFed (A.stands action.new) (A.faulty p) (A.text p) start (O.held output.new) outlet.new seen piece.now result }
+    ensures written { result ≡ Fed.All → outlet.new ≡ [] }
+    ensures later { O.faults output.old ≤ O.faults output.new }
+    ensures cause { result ≡ Fed.WriteFailed → Rose (O.faults output.old) (O.faults output.new) }
+{
+    match feed_piece(action, outlet, output, piece) {
+        Fed::All => match outlet.flush(output) {
+            Ok(()) => Fed::All,
+            Err(_) => Fed::WriteFailed,
+        },
+        Fed::FaultFound => Fed::FaultFound,
+        Fed::WriteFailed => Fed::WriteFailed,
+    }
 }

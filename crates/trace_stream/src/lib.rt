@@ -11,6 +11,8 @@ mod feeding;
 mod outlet;
 mod pumping;
 mod serving;
+#[cfg(test)]
+mod tests;
 
 pub use action::{ACTION_ROOM, Action, Flow, Taken};
 pub use buffers::Buffers;

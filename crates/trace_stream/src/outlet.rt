@@ -2,6 +2,7 @@ ghost use Rattle.std.specs.Prelude.{◌≡◌, ℕ, ◌+◌, ◌≤◌, List, []
 ghost use Rattle.std.specs.Io.KnownBytes.{Appends};
 ghost use Rattle.trace_io.specs.Bytes.{AppendsPrefix};
 ghost use Rattle.trace_io.specs.Causes.{HasCause};
+ghost use Rattle.trace_stream.specs.declared.outlet.TheConstants.{OUTLET_ROOM};
 
 use std::alloc::{AllocError, Global};
 use std::marker::Model;
@@ -21,7 +22,7 @@ impl Model for Outlet {
 
     ghost view = { λ o. o.bytes.items };
 
-    ghost invariant = { λ o. (vec_len o.bytes ≤ 8192) × (8192 ≤ vec_capacity o.bytes) };
+    ghost invariant = { λ o. (vec_len o.bytes ≤ OUTLET_ROOM) × (OUTLET_ROOM ≤ vec_capacity o.bytes) };
 }
 
 impl Outlet {
@@ -58,8 +59,7 @@ impl Outlet {
         requires room { length self.old + 1 ≤ OUTLET_ROOM }
         ensures { self.new ≡ self.old ++ byte ∷ [] }
     {
-        // The room was taken at opening, so this never fails.
-        let _ = self.bytes.push(byte);
+        self.bytes.push_reserved(byte);
     }
 
     /// Writes all that is pending, or a prefix of it where the sink fails.

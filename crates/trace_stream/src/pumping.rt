@@ -5,7 +5,7 @@ ghost use Rattle.trace_io.specs.Causes.{HasCause, Rose};
 ghost use Rattle.trace_stream.specs.Pumped.{HasPumped};
 
 use crate::action::Action;
-use crate::feeding::{Fed, feed_piece};
+use crate::feeding::{Fed, feed_and_write};
 use crate::outlet::Outlet;
 use trace_io::{Failed, Sink, Source};
 
@@ -68,13 +68,10 @@ pub fn pump<A: Action, I: Source, O: Sink>(
             return Ending::AtEnd;
         }
         let taken = got.min(room as usize);
-        match feed_piece(action, outlet, output, &buffer[..taken]) {
+        match feed_and_write(action, outlet, output, &buffer[..taken]) {
             Fed::All => {}
             Fed::FaultFound => return Ending::FaultFound,
             Fed::WriteFailed => return Ending::WriteFailed,
-        }
-        if outlet.flush(output).is_err() {
-            return Ending::WriteFailed;
         }
         if taken < got {
             return Ending::OverLimit;

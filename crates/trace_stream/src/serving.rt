@@ -3,7 +3,7 @@ ghost use Rattle.std.specs.declared.option.Option.{Option};
 ghost use Rattle.std.specs.Io.KnownBytes.{Appends};
 ghost use Rattle.trace_io.specs.Bytes.{TakesFront, AppendsPrefix};
 ghost use Rattle.trace_io.specs.Causes.{HasCause, Rose};
-ghost use Rattle.trace_stream.specs.Served.{HasServed};
+ghost use Rattle.trace_stream.specs.Served.{HasServed, HasStopped};
 
 use crate::action::Action;
 use crate::buffers::Buffers;
@@ -59,6 +59,8 @@ fn pump_and_finish<A: Action, I: Source, O: Sink>(
     requires small { limit < 2 ^ 40 }
     ensures served { HasServed (A.faulty (A.plan action.old)) (A.text (A.plan action.old)) (A.ending (A.plan action.old)) limit
         (I.left input.old) (I.left input.new) (O.held output.old) (O.held output.new) result }
+    ensures same { A.plan action.new ≡ A.plan action.old }
+    ensures stopped { result ≡ Outcome.Stopped → HasStopped (A.stands action.new) (A.faulty (A.plan action.old)) limit (I.left input.old) (I.left input.new) }
     ensures written { result ≢ Outcome.WriteFailed → outlet.new ≡ [] }
     ensures read_later { I.faults input.old ≤ I.faults input.new }
     ensures write_later { O.faults output.old ≤ O.faults output.new }
@@ -98,6 +100,8 @@ pub fn serve<A: Action, I: Source, O: Sink>(
     requires small { limit < 2 ^ 40 }
     ensures served { HasServed (A.faulty (A.plan action.old)) (A.text (A.plan action.old)) (A.ending (A.plan action.old)) limit
         (I.left input.old) (I.left input.new) (O.held output.old) (O.held output.new) result }
+    ensures same { A.plan action.new ≡ A.plan action.old }
+    ensures stopped { result ≡ Outcome.Stopped → HasStopped (A.stands action.new) (A.faulty (A.plan action.old)) limit (I.left input.old) (I.left input.new) }
     ensures written { result ≢ Outcome.WriteFailed → buffers.new ≡ [] }
     ensures read_later { I.faults input.old ≤ I.faults input.new }
     ensures write_later { O.faults output.old ≤ O.faults output.new }

@@ -4,3 +4,10 @@ pub mod Readings
 pub mod Placing
 pub mod Standings
 pub mod Streams
+pub mod Answering
+pub mod Blocks
+pub mod Hunts
+pub mod Wholes
+pub mod HuntSteps
+pub mod Modes
+pub mod HuntedLemmas

@@ -119,6 +119,10 @@ module _ {S V : Type 0} (Spells : V → List Placed → Type 0) (why : List Plac
   keeps : (u : List Placed) → Keeps u (progress rule start u)
   keeps u = keeps_from u [] (unread start) (record { splits = refl; kept = refl })
 
+  -- while there is no fault the rest is a front, which leaves the rule in the reading's state
+  pub rest_walks : (u : List Placed) → (progress rule start u).fault ≡ None → walk rule start (progress rule start u).rest ≡ Within (progress rule start u).state
+  rest_walks u f = subst (λ (x : Option (Place × Reason)). Kept (progress rule start u).rest (progress rule start u).state x) f (keeps u).kept
+
   broken_of : (r : List Placed) (f : Place × Reason) (k : IsFaultAt r f) → walk rule start (k.before ++ k.unit ∷ []) ≡ Broken f.1
   broken_of r f k = walk_push rule start k.state k.before k.unit k.front ∙ ap (λ (n : Next S V). walked rule n) k.broken
 

@@ -70,6 +70,9 @@ module _ {S V : Type 0} (rule : S → Placed → Next S V) (start : S) where
   rest_in b p (Fail e) None = (let k = length_push p.rest b in omega arith)
   rest_in b p n (Some f) = (let k = length_push p.rest b in omega arith)
 
+  pub rest_on : (b : Placed) (p : Progress S V) → length (advance rule start p b).rest ≤ length p.rest + 1
+  rest_on b p = rest_in b p (rule p.state b) p.fault
+
   rest_from : (u : List Placed) (p : Progress S V) → length (progress_from rule start p u).rest ≤ length p.rest + length u
   rest_from [] p = omega arith
   rest_from (b ∷ u) p = (let k = rest_in b p (rule p.state b) p.fault in let l = rest_from u (advance rule start p b) in omega arith)
@@ -85,6 +88,10 @@ module _ {S V : Type 0} (rule : S → Placed → Next S V) (start : S) where
     counted_in p b (Stop v) None e f h g = sym none
     counted_in p b (Fail w) None e f h g = cc
     counted_in p b n (Some w) e f h g = cc
+
+    pub counted_on : (p : Progress S V) (b : Placed) → (p.fault ≡ None → length p.rest ≡ count p.state) →
+        (advance rule start p b).fault ≡ None → length (advance rule start p b).rest ≡ count (advance rule start p b).state
+    counted_on p b h = counted_in p b (rule p.state b) p.fault refl refl h
 
     counted_from : (u : List Placed) (p : Progress S V) → (p.fault ≡ None → length p.rest ≡ count p.state) →
         (progress_from rule start p u).fault ≡ None → length (progress_from rule start p u).rest ≡ count (progress_from rule start p u).state

@@ -1,5 +1,5 @@
 -- How the stream of a capture grows with the capture, for every machine's reading.
-use Rattle.std.proofs.Common.{◌≡◌, ℕ, ◌+◌, List, [], ◌∷◌, ◌++◌, length, refl, sym, ◌∙◌, ap, subst, append_assoc, append-nil, Option, None, Some, false}
+use Rattle.std.proofs.Common.{◌≡◌, ℕ, ◌+◌, List, [], ◌∷◌, ◌++◌, length, sym, ◌∙◌, ap, subst, append_assoc, append-nil, false}
 use Rattle.std.specs.Prelude.{is_none}
 use Rattle.trace_values.specs.Placed.{Place, Placed, byte_at, placed_from, placed}
 use Rattle.trace_values.specs.Stream.{Said, Stream, Settled, Rises}

@@ -1,14 +1,20 @@
 -- The reasons of faults, by number and name.
 use Rattle.std.specs.Prelude.{ℕ, List, codes}
 use Rattle.trace_values.specs.declared.fault.Reason.{Reason}
-use Rattle.trace_values.specs.declared.fault.Reason.TheVariants.{Unbuilt, BadSync, SyncInFrame}
+use Rattle.trace_values.specs.declared.fault.Reason.TheVariants.{BadSync, SyncInFrame, ReservedHeader, BadItmSync, LongStamp, ShortStamp}
 
 abbrev pub number_of : Reason → ℕ
-number_of Unbuilt = 0
 number_of BadSync = 1
 number_of SyncInFrame = 2
+number_of ReservedHeader = 3
+number_of BadItmSync = 4
+number_of LongStamp = 5
+number_of ShortStamp = 6
 
 abbrev pub name_of : Reason → List ℕ
-name_of Unbuilt = codes "Unbuilt"
 name_of BadSync = codes "BadSync"
 name_of SyncInFrame = codes "SyncInFrame"
+name_of ReservedHeader = codes "ReservedHeader"
+name_of BadItmSync = codes "BadItmSync"
+name_of LongStamp = codes "LongStamp"
+name_of ShortStamp = codes "ShortStamp"

@@ -6,12 +6,18 @@ ghost use Rattle.trace_values.specs.Faults.{number_of, name_of};
 /// Why no list of a grammar goes on with a unit.
 #[derive(Clone, Copy, Debug, PartialEq, Eq, Drop)]
 pub enum Reason {
-    /// The grammar as it is built so far does not go on.
-    Unbuilt,
-    /// A byte that breaks a synchronisation which FF began.
+    /// At the port, the bytes are not those of a synchronisation.
     BadSync,
-    /// A full synchronisation inside a frame.
+    /// At the port, a synchronisation stands inside a frame.
     SyncInFrame,
+    /// No packet has this header.
+    ReservedHeader,
+    /// A run of zero bytes that is no ITM synchronisation packet: too short, or ended by another byte than 80.
+    BadItmSync,
+    /// A timestamp goes on behind the last byte that it may have.
+    LongStamp,
+    /// A timestamp ends before it has as many bytes as it must have.
+    ShortStamp,
 }
 
 impl Reason {
@@ -20,9 +26,12 @@ impl Reason {
         ensures { result ≡ number_of self.now }
     {
         match self {
-            Reason::Unbuilt => 0,
             Reason::BadSync => 1,
             Reason::SyncInFrame => 2,
+            Reason::ReservedHeader => 3,
+            Reason::BadItmSync => 4,
+            Reason::LongStamp => 5,
+            Reason::ShortStamp => 6,
         }
     }
 
@@ -31,9 +40,12 @@ impl Reason {
         ensures { result.now ≡ name_of self.now }
     {
         match self {
-            Reason::Unbuilt => "Unbuilt",
             Reason::BadSync => "BadSync",
             Reason::SyncInFrame => "SyncInFrame",
+            Reason::ReservedHeader => "ReservedHeader",
+            Reason::BadItmSync => "BadItmSync",
+            Reason::LongStamp => "LongStamp",
+            Reason::ShortStamp => "ShortStamp",
         }
     }
 }

@@ -1,14 +1,19 @@
-//! What the layers of the trace share: faults, source IDs and cells, what a unit or a byte says, and the trait of machines.
+//! What the layers of the trace share: source IDs, faults, what a unit or a byte says, and the trait of
+//! machines.
 #![tactic(auto)]
 
+mod block;
 mod cell;
 mod fault;
 mod machine;
+mod mode;
 mod next;
 mod step;
 
+pub use block::{Block, feed_block};
 pub use cell::{Cell, SourceId};
 pub use fault::{Fault, Reason};
 pub use machine::Machine;
+pub use mode::Mode;
 pub use next::Next;
 pub use step::Step;

@@ -17,7 +17,7 @@ loop-rest-init g c = record {
 pub returns-then-is_err-clause-fed : goal.returns-then-is_err-clause-fed
 returns-then-is_err-clause-fed g c = λ start seen p e after.
     let put : AppendsPrefix (g.O.Sink.held c.loop-rest.output) (g.O.Sink.held c.make_room.new.output) c.loop-rest.outlet = search rules in
-    feeding_write_failed _ _ _ _ _ _ _ _ _ _ _ _ (c.loop-rest.invariant.feeding start seen p e after) put
+    feeding_write_failed _ (g.A.Action.stands c.loop-rest.action) _ _ _ _ _ _ c.make_room.new.outlet _ _ _ (c.loop-rest.invariant.feeding start seen p e after) put
 
 pub loop-rest-preserved : goal.loop-rest-preserved
 loop-rest-preserved g c = record {

@@ -1,4 +1,4 @@
-use Rattle.trace_stream.proofs.Parts.{served_at_end, served_stopped, served_read_failed, served_over_limit, served_in_part, text_in_part, all_in_part, stopped_in_part}
+use Rattle.trace_stream.proofs.Parts.{served_at_end, served_stopped, served_read_failed, served_over_limit, served_in_part, text_in_part, all_in_part, stopped_in_part, stopped_there}
 use Rattle.trace_stream.proofs.serving.pump_and_finish.Goals as goal
 
 pub returns-in-Ok-clause-served : goal.returns-in-Ok-clause-served
@@ -38,3 +38,6 @@ returns-in-WriteFailed-clause-served g c =
 
 pub returns-in-OverLimit-clause-served : goal.returns-in-OverLimit-clause-served
 returns-in-OverLimit-clause-served g c = served_over_limit _ _ _ _ _ _ _ _ _ _ c.in-OverLimit.ensures.pumped
+
+pub returns-in-Ok-finish-clause-stopped : goal.returns-in-Ok-finish-clause-stopped
+returns-in-Ok-finish-clause-stopped g c = λ e. stopped_there _ _ _ _ _ _ _ _ _ c.in-FaultFound.ensures.pumped

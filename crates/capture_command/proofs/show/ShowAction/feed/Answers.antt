@@ -1,44 +1,66 @@
-use Rattle.std.proofs.Common.{rules, [], ◌∷◌, ◌++◌, get_or, refl, sym, ◌∙◌, subst, arith}
-use Rattle.std.proofs.lemmas.List.{length_push}
-use Rattle.trace_values.specs.Placed.{placed, byte_at}
-use Rattle.trace_values.specs.Stream.{Grows}
+use Rattle.std.proofs.Common.{rules, ◌≡◌, ℕ, ◌+◌, ◌-◌, List, ◌++◌, length, take, append-nil, flat_map, refl, sym, ◌∙◌, ap, subst, arith, Option, Some, None}
+use Rattle.std.proofs.lemmas.List.{length-take-le}
+use Rattle.trace_values.specs.Placed.{placed}
+use Rattle.trace_values.specs.declared.step.Step.{Step}
 use Rattle.trace_values.specs.declared.step.Step.TheVariants.{Fault as Faulty}
+use Rattle.trace_values.specs.Block.{StandsAt, fault_after, given_after, goes_on_after}
+use Rattle.itm_grammar.specs.declared.packet.ItmPacket.{ItmPacket}
 use Rattle.itm_codec.specs.Decoder.{IsOf}
-use Rattle.itm_codec.specs.Reading.{packets}
-use Rattle.capture_command.proofs.Showing.{next_byte, fault_more, still_sound, now_faulty, no_fault, taken, told_fault, going, sound_of, not_faulty}
+use Rattle.capture_command.specs.Listing.{line}
+use Rattle.capture_command.proofs.Showing.{counted, put_after, list_more, fault_more, still_sound, now_certain, no_fault_after, taken, told_fault, going, sound_of}
 use Rattle.capture_command.proofs.show.ShowAction.feed.Goals as goal
 
 pub returns-in-Fault-clause-fed : goal.returns-in-Fault-clause-fed
 returns-in-Fault-clause-fed c = λ seen s.
     let at = c.args.self.now.count in
-    let b = get_or c.args.piece.now 0 0 in
-    let grows = c.feed-step.ensures.step (placed seen) s.decoder in
-    let broken : Grows (packets (placed seen)) (packets (placed seen ++ byte_at at b ∷ [])) at (Faulty c.in-Fault.fault) =
-    subst (λ x. Grows (packets (placed seen)) (packets (placed seen ++ byte_at at b ∷ [])) at x) c.in-Fault.is grows in
-    taken _ seen _ _ _ at c.feed-step.result _ c.requires.some s.count grows c.put_step.ensures
+    let bytes = c.feed_block-block.result.bytes in
+    let takes = c.feed_block-block.ensures.takes (placed seen) s.decoder in
+    let step : c.feed_block-block.result.step ≡ Some (Faulty c.in-Fault.fault) = c.in-Some.is ∙ ap (λ x. Some x) c.in-Fault.is in
+    let place : c.in-Fault.fault.at ≡ at + (bytes - 1) = subst (λ (x : Option (Step ItmPacket)). StandsAt (at + (bytes - 1)) x) step takes.place in
+    taken (IsOf c.feed_block-block.new.machine) seen c.args.piece.now at bytes c.feed_block-block.result.step s.count takes _ c.args.outlet.now _ _
+    (put_after _ _ at bytes c.in-Some.step c.feed_block-block.result.step c.feed_block-block.ensures.bytes.0 c.in-Some.is c.put_step.ensures)
     (record {
-      decoder = subst (IsOf c.feed-step.new.self) (next_byte seen at b s.count) (c.feed-step.ensures.list (placed seen) s.decoder);
-      count = (let k = length_push seen b in let e = s.count in omega arith);
-      fault = told_fault at _ _ c.in-Fault.fault broken ∙ sym (fault_more seen at b (Faulty c.in-Fault.fault) s.count broken);
+      decoder = list_more (IsOf c.feed_block-block.new.machine) seen c.args.piece.now at bytes c.feed_block-block.result.step s.count takes;
+      count = counted seen c.args.piece.now at bytes s.count c.feed_block-block.ensures.bytes.1;
+      fault = told_fault (at + (bytes - 1)) c.in-Fault.fault place ∙ ap (λ x. fault_after (at + (bytes - 1)) x) (sym step) ∙ sym (fault_more (IsOf c.feed_block-block.new.machine) seen c.args.piece.now at bytes c.feed_block-block.result.step s.count takes);
     })
-    (record { front = seen; last = b; all = refl; sound = not_faulty seen (sound_of c.args.self.now.decoder seen s.decoder c.requires.live); broken = now_faulty seen at b (Faulty c.in-Fault.fault) s.count broken _ refl })
+    (now_certain (IsOf c.feed_block-block.new.machine) seen c.args.piece.now at bytes c.feed_block-block.result.step s.count takes c.feed_block-block.ensures.bytes.0 c.feed_block-block.ensures.bytes.1 _ (ap (λ x. fault_after (at + (bytes - 1)) x) step))
 
-pub returns-in_default : goal.returns-in_default
-returns-in_default c = record {
+pub returns-in_default-step : goal.returns-in_default-step
+returns-in_default-step c = record {
   same = refl;
   front = search rules;
   count = refl;
   fed = λ seen s.
       let at = c.args.self.now.count in
-      let b = get_or c.args.piece.now 0 0 in
-      let grows = c.feed-step.ensures.step (placed seen) s.decoder in
-      let none = no_fault at c.feed-step.result c.in_default.not-Fault in
-      taken _ seen _ _ _ at c.feed-step.result _ c.requires.some s.count grows c.put_step.ensures
+      let bytes = c.feed_block-block.result.bytes in
+      let takes = c.feed_block-block.ensures.takes (placed seen) s.decoder in
+      let none : fault_after (at + (bytes - 1)) c.feed_block-block.result.step ≡ None =
+      ap (λ x. fault_after (at + (bytes - 1)) x) c.in-Some.is ∙ no_fault_after (at + (bytes - 1)) c.in-Some.step c.in_default-step.not-Fault in
+      taken (IsOf c.feed_block-block.new.machine) seen c.args.piece.now at bytes c.feed_block-block.result.step s.count takes _ c.args.outlet.now _ _
+      (put_after _ _ at bytes c.in-Some.step c.feed_block-block.result.step c.feed_block-block.ensures.bytes.0 c.in-Some.is c.put_step.ensures)
       (record {
-        decoder = subst (IsOf c.feed-step.new.self) (next_byte seen at b s.count) (c.feed-step.ensures.list (placed seen) s.decoder);
-        count = (let k = length_push seen b in let e = s.count in omega arith);
-        fault = s.fault ∙ sound_of c.args.self.now.decoder seen s.decoder c.requires.live ∙ sym (fault_more seen at b c.feed-step.result s.count grows ∙ none);
+        decoder = list_more (IsOf c.feed_block-block.new.machine) seen c.args.piece.now at bytes c.feed_block-block.result.step s.count takes;
+        count = counted seen c.args.piece.now at bytes s.count c.feed_block-block.ensures.bytes.1;
+        fault = s.fault ∙ sound_of c.args.self.now.decoder seen s.decoder c.requires.live
+            ∙ sym (fault_more (IsOf c.feed_block-block.new.machine) seen c.args.piece.now at bytes c.feed_block-block.result.step s.count takes ∙ none);
       })
-      (still_sound seen at b c.feed-step.result s.count grows none);
-  live = λ _. c.feed-step.ensures.live ∙ going c.feed-step.result c.in_default.not-Fault;
+      (still_sound (IsOf c.feed_block-block.new.machine) seen c.args.piece.now at bytes c.feed_block-block.result.step s.count takes none);
+  live = λ _. c.feed_block-block.ensures.live ∙ ap (λ x. goes_on_after x) c.in-Some.is ∙ going c.in-Some.step c.in_default-step.not-Fault;
 }
+
+pub returns-in_default-clause-fed : goal.returns-in_default-clause-fed
+returns-in_default-clause-fed c = λ seen s.
+    let at = c.args.self.now.count in
+    let bytes = c.feed_block-block.result.bytes in
+    let takes = c.feed_block-block.ensures.takes (placed seen) s.decoder in
+    let none : fault_after (at + (bytes - 1)) c.feed_block-block.result.step ≡ None = ap (λ x. fault_after (at + (bytes - 1)) x) c.in_default.is in
+    taken (IsOf c.feed_block-block.new.machine) seen c.args.piece.now at bytes c.feed_block-block.result.step s.count takes _ c.args.outlet.now _ _
+    (sym (append-nil c.args.outlet.now) ∙ ap (λ (x : Option (Step ItmPacket)). c.args.outlet.now ++ flat_map line (given_after (at + (bytes - 1)) x)) (sym c.in_default.is))
+    (record {
+      decoder = list_more (IsOf c.feed_block-block.new.machine) seen c.args.piece.now at bytes c.feed_block-block.result.step s.count takes;
+      count = counted seen c.args.piece.now at bytes s.count c.feed_block-block.ensures.bytes.1;
+      fault = s.fault ∙ sound_of c.args.self.now.decoder seen s.decoder c.requires.live
+          ∙ sym (fault_more (IsOf c.feed_block-block.new.machine) seen c.args.piece.now at bytes c.feed_block-block.result.step s.count takes ∙ none);
+    })
+    (still_sound (IsOf c.feed_block-block.new.machine) seen c.args.piece.now at bytes c.feed_block-block.result.step s.count takes none)

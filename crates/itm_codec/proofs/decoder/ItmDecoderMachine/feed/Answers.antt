@@ -1,32 +1,70 @@
-use Rattle.std.proofs.Common.{refl}
+use Rattle.std.proofs.Common.{arith, ℕ, ◌+◌, ◌++◌, [], ◌∷◌, refl, sym, ◌∙◌, subst}
 use Rattle.trace_values.specs.declared.next.Next.TheVariants.{Go, Stop, Fail}
 use Rattle.trace_values.specs.Placed.{byte_at}
 use Rattle.trace_values.specs.Walk.{by_unit}
-use Rattle.trace_values.proofs.Standings as laws
+use Rattle.trace_values.specs.Hunted.{Seeks}
+use Rattle.trace_values.proofs.Modes as laws
+use Rattle.itm_grammar.specs.declared.packet.ItmPacket.TheVariants.{Sync}
 use Rattle.itm_grammar.specs.declared.partial.Partial.TheVariants.{Header}
 use Rattle.itm_grammar.specs.Rule.{rule}
+use Rattle.itm_grammar.proofs.Counting.{counts}
+use Rattle.itm_codec.specs.Reading.{pattern}
+use Rattle.itm_codec.proofs.Answering.{answers}
 use Rattle.itm_codec.proofs.decoder.ItmDecoderMachine.feed.Goals as goal
 
-pub returns-in-Go-clause-list : goal.returns-in-Go-clause-list
-returns-in-Go-clause-list c = λ u s. laws.list_fed (by_unit rule) Header u c.args.self.now.live c.args.self.now.partial (byte_at c.args.at c.args.byte) _ _ (Go c.in-Go.partial)
-    c.requires.live c.in-Go.ensures.next c.requires.live refl s
+pub returns-then-ends_pattern-clause-list : goal.returns-then-ends_pattern-clause-list
+returns-then-ends_pattern-clause-list c = λ u s. laws.locks-list pattern Sync (by_unit rule) Header _ c.in-Hunting.run' c.in-Hunting.skipped c.args.at c.args.byte c.args.self.now.live c.args.self.now.partial u
+    c.in-Hunting.is (sym c.ends_pattern.ensures ∙ c.if-ends_pattern.true) s
 
-pub returns-in-Go-clause-step : goal.returns-in-Go-clause-step
-returns-in-Go-clause-step c = λ u s. laws.step_fed (by_unit rule) Header u c.args.self.now.live c.args.self.now.partial c.args.byte c.args.at (Go c.in-Go.partial)
-    c.requires.live c.in-Go.ensures.next s
+pub returns-then-ends_pattern-clause-step : goal.returns-then-ends_pattern-clause-step
+returns-then-ends_pattern-clause-step c = λ u s. laws.locks-step pattern Sync (by_unit rule) Header _ c.in-Hunting.run' c.in-Hunting.skipped c.args.at c.args.byte c.args.self.now.live c.args.self.now.partial u
+    c.in-Hunting.is (sym c.ends_pattern.ensures ∙ c.if-ends_pattern.true) s
 
-pub returns-in-Stop-clause-list : goal.returns-in-Stop-clause-list
-returns-in-Stop-clause-list c = λ u s. laws.list_fed (by_unit rule) Header u c.args.self.now.live c.args.self.now.partial (byte_at c.args.at c.args.byte) _ _ (Stop c.in-Stop.packet)
-    c.requires.live c.in-Stop.ensures.next c.requires.live refl s
+pub returns-else-ends_pattern-clause-list : goal.returns-else-ends_pattern-clause-list
+returns-else-ends_pattern-clause-list c = λ u s.
+    let k = laws.skips-list pattern Sync (by_unit rule) Header _ c.in-Hunting.run' c.in-Hunting.skipped c.args.at c.args.byte c.args.self.now.live c.args.self.now.partial u
+    c.in-Hunting.is (sym c.ends_pattern.ensures ∙ c.if-ends_pattern.false) s in
+    (subst (λ (n : ℕ). Seeks pattern Sync (by_unit rule) Header n (c.in-Hunting.skipped + 1) (u ++ byte_at c.args.at c.args.byte ∷ [])) (sym c.run_with.ensures.run) k.0, k.1, k.2)
 
-pub returns-in-Stop-clause-step : goal.returns-in-Stop-clause-step
-returns-in-Stop-clause-step c = λ u s. laws.step_fed (by_unit rule) Header u c.args.self.now.live c.args.self.now.partial c.args.byte c.args.at (Stop c.in-Stop.packet)
-    c.requires.live c.in-Stop.ensures.next s
+pub returns-else-ends_pattern-clause-step : goal.returns-else-ends_pattern-clause-step
+returns-else-ends_pattern-clause-step c = λ u s. laws.skips-step pattern Sync (by_unit rule) Header _ c.in-Hunting.run' c.in-Hunting.skipped c.args.at c.args.byte c.args.self.now.live c.args.self.now.partial u
+    c.in-Hunting.is (sym c.ends_pattern.ensures ∙ c.if-ends_pattern.false) s
 
-pub returns-in-Fail-clause-list : goal.returns-in-Fail-clause-list
-returns-in-Fail-clause-list c = λ u s. laws.list_fed (by_unit rule) Header u c.args.self.now.live c.args.self.now.partial (byte_at c.args.at c.args.byte) _ _ (Fail c.in-Fail.reason)
-    c.requires.live c.in-Fail.ensures.next refl refl s
+pub returns-in-Go : goal.returns-in-Go
+returns-in-Go c = record {
+  same = refl;
+  list = λ u s. laws.reads-list pattern Sync (by_unit rule) Header c.args.self.now.mode _ c.args.self.now.partial u (byte_at c.args.at c.args.byte) _ _ (Go c.in-Go.partial)
+      c.requires.live (laws.reads_on _ c.in_default.not-Hunting) c.in-Go.ensures.next c.requires.live refl s;
+  step = λ u s. laws.reads-step pattern Sync (by_unit rule) Header c.args.self.now.mode _ c.args.self.now.partial u c.args.byte c.args.at (Go c.in-Go.partial)
+      c.requires.live (laws.reads_on _ c.in_default.not-Hunting) c.in-Go.ensures.next s;
+  live = c.requires.live;
+  few = (let k = counts c.args.self.now.partial c.in-Go.partial c.args.byte (sym c.in-Go.ensures.next) in omega arith);
+  grammar = λ u s locked. answers c.args.self.now.mode _ c.args.self.now.partial u c.args.at c.args.byte (Go c.in-Go.partial)
+      c.requires.live locked c.in-Go.ensures.next s;
+}
 
-pub returns-in-Fail-clause-step : goal.returns-in-Fail-clause-step
-returns-in-Fail-clause-step c = λ u s. laws.step_fed (by_unit rule) Header u c.args.self.now.live c.args.self.now.partial c.args.byte c.args.at (Fail c.in-Fail.reason)
-    c.requires.live c.in-Fail.ensures.next s
+pub returns-in-Stop : goal.returns-in-Stop
+returns-in-Stop c = record {
+  same = refl;
+  list = λ u s. laws.reads-list pattern Sync (by_unit rule) Header c.args.self.now.mode _ c.args.self.now.partial u (byte_at c.args.at c.args.byte) _ _ (Stop c.in-Stop.packet)
+      c.requires.live (laws.reads_on _ c.in_default.not-Hunting) c.in-Stop.ensures.next c.requires.live refl s;
+  step = λ u s. laws.reads-step pattern Sync (by_unit rule) Header c.args.self.now.mode _ c.args.self.now.partial u c.args.byte c.args.at (Stop c.in-Stop.packet)
+      c.requires.live (laws.reads_on _ c.in_default.not-Hunting) c.in-Stop.ensures.next s;
+  live = c.requires.live;
+  few = omega arith;
+  grammar = λ u s locked. answers c.args.self.now.mode _ c.args.self.now.partial u c.args.at c.args.byte (Stop c.in-Stop.packet)
+      c.requires.live locked c.in-Stop.ensures.next s;
+}
+
+pub returns-in-Fail : goal.returns-in-Fail
+returns-in-Fail c = record {
+  same = refl;
+  list = λ u s. laws.reads-list pattern Sync (by_unit rule) Header c.args.self.now.mode _ c.args.self.now.partial u (byte_at c.args.at c.args.byte) _ _ (Fail c.in-Fail.reason)
+      c.requires.live (laws.reads_on _ c.in_default.not-Hunting) c.in-Fail.ensures.next refl refl s;
+  step = λ u s. laws.reads-step pattern Sync (by_unit rule) Header c.args.self.now.mode _ c.args.self.now.partial u c.args.byte c.args.at (Fail c.in-Fail.reason)
+      c.requires.live (laws.reads_on _ c.in_default.not-Hunting) c.in-Fail.ensures.next s;
+  live = refl;
+  few = omega arith;
+  grammar = λ u s locked. answers c.args.self.now.mode _ c.args.self.now.partial u c.args.at c.args.byte (Fail c.in-Fail.reason)
+      c.requires.live locked c.in-Fail.ensures.next s;
+}

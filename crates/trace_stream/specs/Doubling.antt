@@ -1,0 +1,18 @@
+use Rattle.std.specs.Prelude.{◌≡◌, ◌==◌, ◌||◌, ℕ, Bool, true, false, if◌then◌else◌, List, [], ◌∷◌, codes}
+
+-- what the tests' action does: whether an FF stands there
+abbrev pub has_fault : List ℕ → Bool
+has_fault [] = false
+has_fault (b ∷ bs) = (b == 255) || has_fault bs
+
+abbrev pub HasFault : List ℕ → Type 0
+HasFault bytes = has_fault bytes ≡ true
+
+-- each byte before the first FF, twice
+abbrev pub doubled : List ℕ → List ℕ
+doubled [] = []
+doubled (b ∷ bs) = if b == 255 then [] else b ∷ b ∷ doubled bs
+
+-- the line behind them
+abbrev pub last_line : List ℕ → List ℕ
+last_line bytes = if has_fault bytes then codes "\nfault\n" else codes "\nend\n"
