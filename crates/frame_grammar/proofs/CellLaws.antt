@@ -9,7 +9,7 @@ use Rattle.std.proofs.lemmas.List.Elements.{All-nil, All-cons, All-append, All-c
 use Rattle.std.proofs.lemmas.List.Sorted.{IsNonDecreasingBy-push, IsNonDecreasingBy-short}
 use Rattle.trace_values.specs.declared.cell.Cell.{Cell}
 use Rattle.trace_values.specs.Cells.{source_id}
-use Rattle.frame_grammar.specs.Frame.{names, aux_bit, in_effect, id_below, id_at, run_below, run_at, even_data, cell, even_cells, odd_cells, cells_below, cells, data_indexes}
+use Rattle.frame_grammar.specs.Frame.{names, aux_bit, in_effect, id_below, id_at, run_below, run_at, even_data, cell, even_cells, odd_cells, cells_below, cells, data_indexes, data_at}
 
 -- what is in effect at an index is in effect behind it
 lasts_by : (name : Bool) (j i k a : ℕ) → i ≤ k → (name && nat_lt j i && (a == 0 || nat_lt (j + 1) i)) ≡ true → (name && nat_lt j k && (a == 0 || nat_lt (j + 1) k)) ≡ true
@@ -153,60 +153,76 @@ module _ (frame : List ℕ) where
     unfolding is_data
     odd_is k = ap (λ (n : ℕ). not (n == 0 && slice_index frame (2 * k + 1) % 2 == 1)) (let e : (2 * k + 1) % 2 ≡ 1 = omega arith in e)
 
-    offsets_at : List ℕ → List ℕ
-    offsets_at l = map (λ i. slice_index offsets i) (filter is_data l)
+    even_data_is : (k : ℕ) → data_at frame (2 * k) ≡ even_data frame k
+    even_data_is k =
+        ap (λ (n : ℕ). cond (n == 0) (even_data frame ((2 * k) / 2)) (slice_index frame (2 * k))) (let e : (2 * k) % 2 ≡ 0 = omega arith in e)
+        ∙ ap (even_data frame) (let e : (2 * k) / 2 ≡ k = omega arith in e)
 
-    even_offsets : (k : ℕ) (b : Bool) → map (λ c. c.at) (cond b [] (cell frame offsets id (2 * k) (even_data frame k) ∷ [])) ≡ map (λ i. slice_index offsets i) (cond (not b) ((2 * k) ∷ []) [])
-    even_offsets k true = refl
-    even_offsets k false = refl
+    odd_data_is : (k : ℕ) → data_at frame (2 * k + 1) ≡ slice_index frame (2 * k + 1)
+    odd_data_is k = ap (λ (n : ℕ). cond (n == 0) (even_data frame ((2 * k + 1) / 2)) (slice_index frame (2 * k + 1))) (let e : (2 * k + 1) % 2 ≡ 1 = omega arith in e)
 
-    even_filtered : (k : ℕ) → filter is_data ((2 * k) ∷ []) ≡ cond (not (names frame k)) ((2 * k) ∷ []) []
-    even_filtered k = ap (λ (b : Bool). cond b ((2 * k) ∷ []) []) (even_is k)
+    cell_at : ℕ → Cell
+    cell_at i = cell frame offsets id i (data_at frame i)
 
-    odd_filtered : (k : ℕ) → filter is_data ((2 * k + 1) ∷ []) ≡ (2 * k + 1) ∷ []
-    odd_filtered k = ap (λ (b : Bool). cond b ((2 * k + 1) ∷ []) []) (odd_is k)
+    even_cell : (k : ℕ) → cell frame offsets id (2 * k) (even_data frame k) ≡ cell_at (2 * k)
+    unfolding cell_at
+    even_cell k = ap (cell frame offsets id (2 * k)) (sym (even_data_is k))
 
-    at_append : (xs ys : List ℕ) → offsets_at (xs ++ ys) ≡ offsets_at xs ++ offsets_at ys
-    unfolding offsets_at
-    at_append xs ys = ap (map (λ i. slice_index offsets i)) (filter-append is_data xs ys) ∙ map-append (λ i. slice_index offsets i) (filter is_data xs) (filter is_data ys)
+    odd_cell : (k : ℕ) → cell frame offsets id (2 * k + 1) (slice_index frame (2 * k + 1)) ≡ cell_at (2 * k + 1)
+    unfolding cell_at
+    odd_cell k = ap (cell frame offsets id (2 * k + 1)) (sym (odd_data_is k))
 
-    even_at_is : (k : ℕ) → map (λ c. c.at) (even_cells frame offsets id k) ≡ offsets_at ((2 * k) ∷ [])
-    unfolding offsets_at
-    even_at_is k = even_offsets k (names frame k) ∙ ap (map (λ i. slice_index offsets i)) (sym (even_filtered k))
+    cells_at : List ℕ → List Cell
+    cells_at l = map cell_at (filter is_data l)
 
-    odd_at_is : (k : ℕ) → map (λ c. c.at) (odd_cells frame offsets id k) ≡ offsets_at ((2 * k + 1) ∷ [])
-    unfolding offsets_at
-    odd_at_is k = ap (map (λ i. slice_index offsets i)) (sym (odd_filtered k))
+    at_append : (xs ys : List ℕ) → cells_at (xs ++ ys) ≡ cells_at xs ++ cells_at ys
+    unfolding cells_at
+    at_append xs ys = ap (map cell_at) (filter-append is_data xs ys) ∙ map-append cell_at (filter is_data xs) (filter is_data ys)
 
-    abbrev at_of : List Cell → List ℕ
-    at_of xs = map (λ c. c.at) xs
+    even_kept : (i : ℕ) (b : Bool) → cond b [] (cell_at i ∷ []) ≡ map cell_at (cond (not b) (i ∷ []) [])
+    even_kept i true = refl
+    even_kept i false = refl
 
-    pair_at_is : (k : ℕ) → at_of (even_cells frame offsets id k ++ odd_cells frame offsets id k) ≡ offsets_at ((2 * k) ∷ ((2 * k + 1) ∷ []))
-    pair_at_is k =
-        map-append (λ (c : Cell). c.at) (even_cells frame offsets id k) (odd_cells frame offsets id k)
-        ∙ ap (λ (l : List ℕ). l ++ at_of (odd_cells frame offsets id k)) (even_at_is k) ∙ ap (λ (l : List ℕ). offsets_at ((2 * k) ∷ []) ++ l) (odd_at_is k)
+    even_cells_are : (k : ℕ) → even_cells frame offsets id k ≡ cells_at ((2 * k) ∷ [])
+    unfolding cells_at
+    even_cells_are k =
+        ap (λ (c : Cell). cond (names frame k) [] (c ∷ [])) (even_cell k) ∙ even_kept (2 * k) (names frame k)
+        ∙ ap (λ (b : Bool). map cell_at (cond b ((2 * k) ∷ []) [])) (sym (even_is k))
+
+    odd_cells_are : (k : ℕ) → odd_cells frame offsets id k ≡ cells_at ((2 * k + 1) ∷ [])
+    unfolding cells_at
+    odd_cells_are k = ap (λ (c : Cell). c ∷ []) (odd_cell k) ∙ ap (λ (b : Bool). map cell_at (cond b ((2 * k + 1) ∷ []) [])) (sym (odd_is k))
+
+    pair_are : (k : ℕ) → even_cells frame offsets id k ++ odd_cells frame offsets id k ≡ cells_at ((2 * k) ∷ ((2 * k + 1) ∷ []))
+    pair_are k =
+        ap (λ (l : List Cell). l ++ odd_cells frame offsets id k) (even_cells_are k) ∙ ap (λ (l : List Cell). cells_at ((2 * k) ∷ []) ++ l) (odd_cells_are k)
         ∙ sym (at_append ((2 * k) ∷ []) ((2 * k + 1) ∷ []))
 
-    below_at_is : (n : ℕ) → at_of (cells_below frame offsets id n) ≡ offsets_at (range_with_len 0 (2 * n))
-    unfolding offsets_at
-    below_at_is zero = refl
-    below_at_is (suc k) =
-        map-append (λ (c : Cell). c.at) (cells_below frame offsets id k) (even_cells frame offsets id k ++ odd_cells frame offsets id k)
-        ∙ ap (λ (l : List ℕ). l ++ at_of (even_cells frame offsets id k ++ odd_cells frame offsets id k)) (below_at_is k)
-        ∙ ap (λ (l : List ℕ). offsets_at (range_with_len 0 (2 * k)) ++ l) (pair_at_is k)
+    below_are : (n : ℕ) → cells_below frame offsets id n ≡ cells_at (range_with_len 0 (2 * n))
+    unfolding cells_at
+    below_are zero = refl
+    below_are (suc k) =
+        ap (λ (l : List Cell). l ++ (even_cells frame offsets id k ++ odd_cells frame offsets id k)) (below_are k)
+        ∙ ap (λ (l : List Cell). cells_at (range_with_len 0 (2 * k)) ++ l) (pair_are k)
         ∙ sym (at_append (range_with_len 0 (2 * k)) ((2 * k) ∷ ((2 * k + 1) ∷ [])))
-        ∙ ap offsets_at (sym (range_pair k))
+        ∙ ap cells_at (sym (range_pair k))
 
-    all_at_is : at_of (cells frame offsets id) ≡ offsets_at (range_with_len 0 14 ++ 14 ∷ [])
-    all_at_is =
-        map-append (λ (c : Cell). c.at) (cells_below frame offsets id 7) (even_cells frame offsets id 7)
-        ∙ ap (λ (l : List ℕ). l ++ at_of (even_cells frame offsets id 7)) (below_at_is 7)
-        ∙ ap (λ (l : List ℕ). offsets_at (range_with_len 0 14) ++ l) (even_at_is 7)
+    all_are : cells frame offsets id ≡ cells_at (range_with_len 0 14 ++ 14 ∷ [])
+    all_are =
+        ap (λ (l : List Cell). l ++ even_cells frame offsets id 7) (below_are 7)
+        ∙ ap (λ (l : List Cell). cells_at (range_with_len 0 14) ++ l) (even_cells_are 7)
         ∙ sym (at_append (range_with_len 0 14) (14 ∷ []))
 
+    pub cells_are : cells frame offsets id ≡ map (λ i. cell frame offsets id i (data_at frame i)) (data_indexes frame)
+    unfolding is_data cells_at cell_at
+    cells_are = all_are
+
+    offsets_of_map : (l : List ℕ) → map (λ c. c.at) (map (λ i. cell frame offsets id i (data_at frame i)) l) ≡ map (λ i. slice_index offsets i) l
+    offsets_of_map [] = refl
+    offsets_of_map (i ∷ l) = ap (λ (m : List ℕ). slice_index offsets i ∷ m) (offsets_of_map l)
+
     pub offsets_are : map (λ c. c.at) (cells frame offsets id) ≡ map (λ i. slice_index offsets i) (data_indexes frame)
-    unfolding is_data offsets_at
-    offsets_are = all_at_is
+    offsets_are = ap (map (λ (c : Cell). c.at)) cells_are ∙ offsets_of_map (data_indexes frame)
 
     few_even : (k : ℕ) (b : Bool) → length (cond b [] (cell frame offsets id (2 * k) (even_data frame k) ∷ [])) ≤ 1
     few_even k true = omega arith

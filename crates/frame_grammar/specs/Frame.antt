@@ -74,3 +74,7 @@ pub record IsInForce (frame : List ℕ) (before : Option ℕ) (i : ℕ) (id : Op
 -- the indexes below 15 that are no ID bytes
 abbrev pub data_indexes : List ℕ → List ℕ
 data_indexes frame = filter (λ i. not (i % 2 == 0 && slice_index frame i % 2 == 1)) (range_with_len 0 15)
+
+-- the data at an index that is no ID byte
+abbrev pub data_at : List ℕ → ℕ → ℕ
+data_at frame i = if i % 2 == 0 then even_data frame (i / 2) else slice_index frame i

@@ -8,7 +8,7 @@ ghost use Rattle.trace_values.specs.Placed.{Placed, units_of};
 ghost use Rattle.trace_values.specs.Grammar.{PrefixLaw};
 ghost use Rattle.trace_values.specs.Walk.{Decides};
 ghost use Rattle.trace_values.specs.Reading.{Reading, IsReading};
-ghost use Rattle.frame_grammar.specs.Frame.{IsProperFrame, cells, data_indexes};
+ghost use Rattle.frame_grammar.specs.Frame.{IsProperFrame, cell, cells, data_indexes, data_at};
 ghost use Rattle.frame_grammar.specs.Port.{Piece, Frame, Spells, why, rule, start, half_words};
 ghost use Rattle.frame_grammar.specs.Reading.{port_reading, port_progress, cells_of_pieces, id_of_pieces};
 
@@ -49,9 +49,12 @@ pub fn pieces_law()
     ensures id { (id : Option ℕ) (xs ys : List Piece) → id_of_pieces id (xs ++ ys) ≡ id_of_pieces (id_of_pieces id xs) ys }
 {}
 
-/// The cells of a frame stand at the indexes 0 to 14 that are no ID bytes, in order.
-pub fn offsets_law()
-    ensures { (frame offsets : List ℕ) (id : Option ℕ) →
+/// The cells of a frame stand at the indexes 0 to 14 that are no ID bytes, in order; each has its index's
+/// offset, the ID and the run in force there, and the data there.
+pub fn cells_law()
+    ensures cells { (frame offsets : List ℕ) (id : Option ℕ) →
+        cells frame offsets id ≡ map (λ i. cell frame offsets id i (data_at frame i)) (data_indexes frame) }
+    ensures offsets { (frame offsets : List ℕ) (id : Option ℕ) →
         map (λ c. c.at) (cells frame offsets id) ≡ map (λ i. slice_index offsets i) (data_indexes frame) }
 {}
 
