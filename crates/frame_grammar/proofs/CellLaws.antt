@@ -1,11 +1,12 @@
 -- Laws of a frame's cells.
-use Rattle.std.proofs.Common.{◌≡◌, ℕ, zero, suc, ◌+◌, ◌-◌, ◌*◌, ◌/◌, ◌%◌, ◌≤◌, List, [], ◌∷◌, ◌++◌, refl, sym, ◌∙◌, ap, arith, Bool, true, false, cond, Option, length, map, get_or, ◌⊎◌, inl, inr, subst, append_assoc, append-nil}
+use Rattle.std.proofs.Common.{◌≡◌, ℕ, zero, suc, ◌+◌, ◌-◌, ◌*◌, ◌/◌, ◌%◌, ◌<◌, ◌≤◌, List, [], ◌∷◌, ◌++◌, refl, sym, ◌∙◌, ap, arith, Bool, true, false, cond, Option, length, map, get_or, ◌⊎◌, inl, inr, subst, append_assoc, append-nil}
 use Rattle.std.specs.Prelude.{nat_lt, ◌==◌, ◌&&◌, ◌||◌, not, slice_index}
-use Rattle.std.specs.List.{All, Contains, filter, range_with_len}
+use Rattle.std.specs.List.{All, Contains, filter, count_by, range_with_len}
 use Rattle.std.specs.List.Sorted.{IsNonDecreasingBy}
 use Rattle.std.proofs.lemmas.Bool.Decides.{nat_tests}
 use Rattle.std.proofs.lemmas.List.{map-append, length-append}
 use Rattle.std.proofs.lemmas.List.Elements.{All-nil, All-cons, All-append, All-contains, All-get_or, filter-append}
+use Rattle.std.proofs.lemmas.List.Sums.{sum_by_push}
 use Rattle.std.proofs.lemmas.List.Sorted.{IsNonDecreasingBy-push, IsNonDecreasingBy-short}
 use Rattle.trace_values.specs.declared.cell.Cell.{Cell}
 use Rattle.trace_values.specs.Cells.{source_id}
@@ -65,7 +66,54 @@ range_pair n =
     ∙ ap (λ (x : ℕ). range_with_len 0 (2 * n) ++ (x ∷ ((0 + suc (2 * n)) ∷ []))) (let e : 0 + 2 * n ≡ 2 * n = omega arith in e)
     ∙ ap (λ (x : ℕ). range_with_len 0 (2 * n) ++ ((2 * n) ∷ (x ∷ []))) (let e : 0 + suc (2 * n) ≡ 2 * n + 1 = omega arith in e)
 
+at_end : (k n : ℕ) → k < suc n → (k ≡ n) ⊎ (k < n)
+at_end k n h = grind arith
+
 module _ (frame : List ℕ) where
+  -- the last that is in effect names the ID
+  named_below : (id : Option ℕ) (i k n : ℕ) → k < n → in_effect frame i k ≡ true → ((m : ℕ) → k < m → m < n → in_effect frame i m ≡ false) →
+      id_below frame id i n ≡ source_id (slice_index frame (2 * k) / 2)
+  named_below id i k zero l e h = absurd (omega arith)
+  named_below id i k (suc n) l e h = elim (at_end k n l) [
+    | inl m ↦ (
+      let t : in_effect frame i n ≡ true = subst (λ (j : ℕ). in_effect frame i j ≡ true) m e in
+      ap (λ (b : Bool). cond b (source_id (slice_index frame (2 * n) / 2)) (id_below frame id i n)) t ∙ ap (λ (j : ℕ). source_id (slice_index frame (2 * j) / 2)) (sym m)
+    )
+    | inr m ↦ (
+      ap (λ (b : Bool). cond b (source_id (slice_index frame (2 * n) / 2)) (id_below frame id i n)) (h n m (omega arith))
+      ∙ named_below id i k n m e (λ j p q. h j p (omega arith))
+    )
+  ]
+
+  unnamed_below : (id : Option ℕ) (i n : ℕ) → ((m : ℕ) → m < n → in_effect frame i m ≡ false) → id_below frame id i n ≡ id
+  unnamed_below id i zero h = refl
+  unnamed_below id i (suc n) h =
+      ap (λ (b : Bool). cond b (source_id (slice_index frame (2 * n) / 2)) (id_below frame id i n)) (h n (omega arith))
+      ∙ unnamed_below id i n (λ j p. h j (omega arith))
+
+  counted_one : (b : Bool) (n : ℕ) → cond b (n + 1) n ≡ n + cond b 1 0
+  counted_one true n = omega arith
+  counted_one false n = omega arith
+
+  counted_below : (i n : ℕ) → run_below frame i n ≡ count_by (λ k. in_effect frame i k) (range_with_len 0 n)
+  counted_below i zero = refl
+  counted_below i (suc n) =
+      counted_one (in_effect frame i n) (run_below frame i n)
+      ∙ ap (λ (m : ℕ). m + cond (in_effect frame i n) 1 0) (counted_below i n)
+      ∙ ap (λ (k : ℕ). count_by (λ k. in_effect frame i k) (range_with_len 0 n) + cond (in_effect frame i k) 1 0) (let e : n ≡ 0 + n = omega arith in e)
+      ∙ sym (sum_by_push (λ (k : ℕ). cond (in_effect frame i k) 1 0) (range_with_len 0 n) (0 + n))
+      ∙ ap (count_by (λ k. in_effect frame i k)) (sym (range_push 0 n))
+
+  pub named_by_last : (id : Option ℕ) (i k : ℕ) → k < 8 → in_effect frame i k ≡ true → ((m : ℕ) → k < m → m < 8 → in_effect frame i m ≡ false) →
+      id_at frame id i ≡ source_id (slice_index frame (2 * k) / 2)
+  named_by_last id i k l e h = named_below id i k 8 l e h
+
+  pub named_by_none : (id : Option ℕ) (i : ℕ) → ((m : ℕ) → m < 8 → in_effect frame i m ≡ false) → id_at frame id i ≡ id
+  named_by_none id i h = unnamed_below id i 8 h
+
+  pub run_counts : (i : ℕ) → run_at frame i ≡ count_by (λ k. in_effect frame i k) (range_with_len 0 8)
+  run_counts i = counted_below i 8
+
   lasts : (i j k : ℕ) → i ≤ j → in_effect frame i k ≡ true → in_effect frame j k ≡ true
   lasts i j k h e = lasts_by (names frame k) (2 * k) i j (aux_bit frame k) h e
 

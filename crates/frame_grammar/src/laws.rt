@@ -1,14 +1,15 @@
 //! Laws of the grammar and of cells, over their definitions alone.
 
-ghost use Rattle.std.specs.Prelude.{◌≡◌, ◌↔◌, ◌≤◌, ℕ, ◌+◌, ◌*◌, List, ◌++◌, Option, None, map, length, slice_index};
-ghost use Rattle.std.specs.List.{Contains};
+ghost use Rattle.std.specs.Prelude.{◌≡◌, ◌↔◌, ◌<◌, ◌≤◌, ℕ, ◌+◌, ◌*◌, ◌/◌, true, false, List, ◌++◌, Option, None, map, length, slice_index};
+ghost use Rattle.std.specs.List.{Contains, count_by, range_with_len};
 ghost use Rattle.std.specs.List.Sorted.{IsNonDecreasingBy};
 ghost use Rattle.trace_values.specs.declared.cell.Cell.{Cell};
+ghost use Rattle.trace_values.specs.Cells.{source_id};
 ghost use Rattle.trace_values.specs.Placed.{Placed, units_of};
 ghost use Rattle.trace_values.specs.Grammar.{PrefixLaw};
 ghost use Rattle.trace_values.specs.Walk.{Decides};
 ghost use Rattle.trace_values.specs.Reading.{Reading, IsReading};
-ghost use Rattle.frame_grammar.specs.Frame.{IsProperFrame, cell, cells, data_indexes, data_at};
+ghost use Rattle.frame_grammar.specs.Frame.{IsProperFrame, in_effect, id_at, run_at, cell, cells, data_indexes, data_at};
 ghost use Rattle.frame_grammar.specs.Port.{Piece, Frame, Spells, why, rule, start, half_words};
 ghost use Rattle.frame_grammar.specs.Reading.{port_reading, port_progress, cells_of_pieces, id_of_pieces};
 
@@ -47,6 +48,16 @@ pub fn pieces_law()
     ensures cells { (id : Option ℕ) (xs ys : List Piece) →
         cells_of_pieces id (xs ++ ys) ≡ cells_of_pieces id xs ++ cells_of_pieces (id_of_pieces id xs) ys }
     ensures id { (id : Option ℕ) (xs ys : List Piece) → id_of_pieces id (xs ++ ys) ≡ id_of_pieces (id_of_pieces id xs) ys }
+{}
+
+/// The ID in force at an index is named by the last ID byte that is in effect there, and is the ID before
+/// the frame where none is; the run is how many are.
+pub fn force_law()
+    ensures named { (frame : List ℕ) (id : Option ℕ) (i k : ℕ) → k < 8 → in_effect frame i k ≡ true →
+        ((m : ℕ) → k < m → m < 8 → in_effect frame i m ≡ false) → id_at frame id i ≡ source_id (slice_index frame (2 * k) / 2) }
+    ensures before { (frame : List ℕ) (id : Option ℕ) (i : ℕ) →
+        ((m : ℕ) → m < 8 → in_effect frame i m ≡ false) → id_at frame id i ≡ id }
+    ensures run { (frame : List ℕ) (i : ℕ) → run_at frame i ≡ count_by (λ k. in_effect frame i k) (range_with_len 0 8) }
 {}
 
 /// The cells of a frame stand at the indexes 0 to 14 that are no ID bytes, in order; each has its index's
