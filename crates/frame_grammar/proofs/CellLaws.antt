@@ -66,7 +66,7 @@ range_pair n =
     ∙ ap (λ (x : ℕ). range_with_len 0 (2 * n) ++ (x ∷ ((0 + suc (2 * n)) ∷ []))) (let e : 0 + 2 * n ≡ 2 * n = omega arith in e)
     ∙ ap (λ (x : ℕ). range_with_len 0 (2 * n) ++ ((2 * n) ∷ (x ∷ []))) (let e : 0 + suc (2 * n) ≡ 2 * n + 1 = omega arith in e)
 
-at_end : (k n : ℕ) → k < suc n → (k ≡ n) ⊎ (k < n)
+pub at_end : (k n : ℕ) → k < suc n → (k ≡ n) ⊎ (k < n)
 at_end k n h = grind arith
 
 module _ (frame : List ℕ) where
@@ -76,13 +76,13 @@ module _ (frame : List ℕ) where
   named_below id i k zero l e h = absurd (omega arith)
   named_below id i k (suc n) l e h = elim (at_end k n l) [
     | inl m ↦ (
-      let t : in_effect frame i n ≡ true = subst (λ (j : ℕ). in_effect frame i j ≡ true) m e in
-      ap (λ (b : Bool). cond b (source_id (slice_index frame (2 * n) / 2)) (id_below frame id i n)) t ∙ ap (λ (j : ℕ). source_id (slice_index frame (2 * j) / 2)) (sym m)
-    )
+        let t : in_effect frame i n ≡ true = subst (λ (j : ℕ). in_effect frame i j ≡ true) m e in
+        ap (λ (b : Bool). cond b (source_id (slice_index frame (2 * n) / 2)) (id_below frame id i n)) t ∙ ap (λ (j : ℕ). source_id (slice_index frame (2 * j) / 2)) (sym m)
+        )
     | inr m ↦ (
-      ap (λ (b : Bool). cond b (source_id (slice_index frame (2 * n) / 2)) (id_below frame id i n)) (h n m (omega arith))
-      ∙ named_below id i k n m e (λ j p q. h j p (omega arith))
-    )
+        ap (λ (b : Bool). cond b (source_id (slice_index frame (2 * n) / 2)) (id_below frame id i n)) (h n m (omega arith))
+        ∙ named_below id i k n m e (λ j p q. h j p (omega arith))
+        )
   ]
 
   unnamed_below : (id : Option ℕ) (i n : ℕ) → ((m : ℕ) → m < n → in_effect frame i m ≡ false) → id_below frame id i n ≡ id

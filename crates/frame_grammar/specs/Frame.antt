@@ -4,9 +4,13 @@ use Rattle.std.specs.List.{filter, range_with_len}
 use Rattle.trace_values.specs.declared.cell.Cell.{Cell}
 use Rattle.trace_values.specs.Cells.{source_id}
 
--- no mixed-use byte, one at an even index, is FF: the ID 127 is never used
+-- none of the mixed-use bytes below 2n, those at even indexes, is FF: the ID 127 is never used
+abbrev pub IsProperBelow : ℕ → List ℕ → Type 0
+IsProperBelow n frame = (k : ℕ) → k < n → slice_index frame (2 * k) ≢ 255
+
+-- nor any of the frame
 abbrev pub IsProperFrame : List ℕ → Type 0
-IsProperFrame frame = (k : ℕ) → k < 8 → slice_index frame (2 * k) ≢ 255
+IsProperFrame frame = IsProperBelow 8 frame
 
 -- the byte at 2k names a source, by its bit 0
 abbrev pub names : List ℕ → ℕ → Bool

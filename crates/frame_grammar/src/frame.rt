@@ -63,9 +63,10 @@ fn take_pair(
     }
 }
 
-/// Puts the cells of a frame into `out`, and gives the ID after the frame.
+/// Puts the cells of a frame into `out`, which is empty, and gives the ID after the frame.
 ///
-/// The frame's bytes stand at these offsets of the capture, and `id` is the ID before the frame.
+/// The frame's bytes stand at these offsets of the capture, and `id` is the ID before the frame. None of
+/// the bytes at even indexes may be FF.
 pub fn cells_of(
     frame: &[u8; 16],
     at: &[u64; 16],
