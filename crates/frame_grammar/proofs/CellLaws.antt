@@ -1,15 +1,16 @@
 -- Laws of a frame's cells.
 use Rattle.std.proofs.Common.{◌≡◌, ℕ, zero, suc, ◌+◌, ◌-◌, ◌*◌, ◌/◌, ◌%◌, ◌<◌, ◌≤◌, List, [], ◌∷◌, ◌++◌, refl, sym, ◌∙◌, ap, arith, Bool, true, false, cond, Option, length, map, get_or, ◌⊎◌, inl, inr, subst, append_assoc, append-nil}
-use Rattle.std.specs.Prelude.{nat_lt, ◌==◌, ◌&&◌, ◌||◌, not, slice_index, slice_index_or}
-use Rattle.std.specs.List.{All, Contains, filter, range_with_len}
+use Rattle.std.specs.Prelude.{nat_lt, ◌==◌, ◌&&◌, ◌||◌, not, slice_index}
+use Rattle.std.specs.List.{All, Contains, filter, count_by, range_with_len}
 use Rattle.std.specs.List.Sorted.{IsNonDecreasingBy}
 use Rattle.std.proofs.lemmas.Bool.Decides.{nat_tests}
 use Rattle.std.proofs.lemmas.List.{map-append, length-append}
 use Rattle.std.proofs.lemmas.List.Elements.{All-nil, All-cons, All-append, All-contains, All-get_or, filter-append}
+use Rattle.std.proofs.lemmas.List.Sums.{sum_by_push}
 use Rattle.std.proofs.lemmas.List.Sorted.{IsNonDecreasingBy-push, IsNonDecreasingBy-short}
 use Rattle.trace_values.specs.declared.cell.Cell.{Cell}
 use Rattle.trace_values.specs.Cells.{source_id}
-use Rattle.frame_grammar.specs.Frame.{names, aux_bit, in_effect, id_below, id_at, run_below, run_at, even_data, cell, even_cells, odd_cells, cells_below, cells, data_indexes}
+use Rattle.frame_grammar.specs.Frame.{names, aux_bit, in_effect, id_below, id_at, run_below, run_at, even_data, cell, even_cells, odd_cells, cells_below, cells, data_indexes, data_at}
 
 -- what is in effect at an index is in effect behind it
 lasts_by : (name : Bool) (j i k a : ℕ) → i ≤ k → (name && nat_lt j i && (a == 0 || nat_lt (j + 1) i)) ≡ true → (name && nat_lt j k && (a == 0 || nat_lt (j + 1) k)) ≡ true
@@ -65,7 +66,54 @@ range_pair n =
     ∙ ap (λ (x : ℕ). range_with_len 0 (2 * n) ++ (x ∷ ((0 + suc (2 * n)) ∷ []))) (let e : 0 + 2 * n ≡ 2 * n = omega arith in e)
     ∙ ap (λ (x : ℕ). range_with_len 0 (2 * n) ++ ((2 * n) ∷ (x ∷ []))) (let e : 0 + suc (2 * n) ≡ 2 * n + 1 = omega arith in e)
 
+pub at_end : (k n : ℕ) → k < suc n → (k ≡ n) ⊎ (k < n)
+at_end k n h = grind arith
+
 module _ (frame : List ℕ) where
+  -- the last that is in effect names the ID
+  named_below : (id : Option ℕ) (i k n : ℕ) → k < n → in_effect frame i k ≡ true → ((m : ℕ) → k < m → m < n → in_effect frame i m ≡ false) →
+      id_below frame id i n ≡ source_id (slice_index frame (2 * k) / 2)
+  named_below id i k zero l e h = absurd (omega arith)
+  named_below id i k (suc n) l e h = elim (at_end k n l) [
+    | inl m ↦ (
+        let t : in_effect frame i n ≡ true = subst (λ (j : ℕ). in_effect frame i j ≡ true) m e in
+        ap (λ (b : Bool). cond b (source_id (slice_index frame (2 * n) / 2)) (id_below frame id i n)) t ∙ ap (λ (j : ℕ). source_id (slice_index frame (2 * j) / 2)) (sym m)
+        )
+    | inr m ↦ (
+        ap (λ (b : Bool). cond b (source_id (slice_index frame (2 * n) / 2)) (id_below frame id i n)) (h n m (omega arith))
+        ∙ named_below id i k n m e (λ j p q. h j p (omega arith))
+        )
+  ]
+
+  unnamed_below : (id : Option ℕ) (i n : ℕ) → ((m : ℕ) → m < n → in_effect frame i m ≡ false) → id_below frame id i n ≡ id
+  unnamed_below id i zero h = refl
+  unnamed_below id i (suc n) h =
+      ap (λ (b : Bool). cond b (source_id (slice_index frame (2 * n) / 2)) (id_below frame id i n)) (h n (omega arith))
+      ∙ unnamed_below id i n (λ j p. h j (omega arith))
+
+  counted_one : (b : Bool) (n : ℕ) → cond b (n + 1) n ≡ n + cond b 1 0
+  counted_one true n = omega arith
+  counted_one false n = omega arith
+
+  counted_below : (i n : ℕ) → run_below frame i n ≡ count_by (λ k. in_effect frame i k) (range_with_len 0 n)
+  counted_below i zero = refl
+  counted_below i (suc n) =
+      counted_one (in_effect frame i n) (run_below frame i n)
+      ∙ ap (λ (m : ℕ). m + cond (in_effect frame i n) 1 0) (counted_below i n)
+      ∙ ap (λ (k : ℕ). count_by (λ k. in_effect frame i k) (range_with_len 0 n) + cond (in_effect frame i k) 1 0) (let e : n ≡ 0 + n = omega arith in e)
+      ∙ sym (sum_by_push (λ (k : ℕ). cond (in_effect frame i k) 1 0) (range_with_len 0 n) (0 + n))
+      ∙ ap (count_by (λ k. in_effect frame i k)) (sym (range_push 0 n))
+
+  pub named_by_last : (id : Option ℕ) (i k : ℕ) → k < 8 → in_effect frame i k ≡ true → ((m : ℕ) → k < m → m < 8 → in_effect frame i m ≡ false) →
+      id_at frame id i ≡ source_id (slice_index frame (2 * k) / 2)
+  named_by_last id i k l e h = named_below id i k 8 l e h
+
+  pub named_by_none : (id : Option ℕ) (i : ℕ) → ((m : ℕ) → m < 8 → in_effect frame i m ≡ false) → id_at frame id i ≡ id
+  named_by_none id i h = unnamed_below id i 8 h
+
+  pub run_counts : (i : ℕ) → run_at frame i ≡ count_by (λ k. in_effect frame i k) (range_with_len 0 8)
+  run_counts i = counted_below i 8
+
   lasts : (i j k : ℕ) → i ≤ j → in_effect frame i k ≡ true → in_effect frame j k ≡ true
   lasts i j k h e = lasts_by (names frame k) (2 * k) i j (aux_bit frame k) h e
 
@@ -153,60 +201,76 @@ module _ (frame : List ℕ) where
     unfolding is_data
     odd_is k = ap (λ (n : ℕ). not (n == 0 && slice_index frame (2 * k + 1) % 2 == 1)) (let e : (2 * k + 1) % 2 ≡ 1 = omega arith in e)
 
-    offsets_at : List ℕ → List ℕ
-    offsets_at l = map (λ i. slice_index offsets i) (filter is_data l)
+    even_data_is : (k : ℕ) → data_at frame (2 * k) ≡ even_data frame k
+    even_data_is k =
+        ap (λ (n : ℕ). cond (n == 0) (even_data frame ((2 * k) / 2)) (slice_index frame (2 * k))) (let e : (2 * k) % 2 ≡ 0 = omega arith in e)
+        ∙ ap (even_data frame) (let e : (2 * k) / 2 ≡ k = omega arith in e)
 
-    even_offsets : (k : ℕ) (b : Bool) → map (λ c. c.at) (cond b [] (cell frame offsets id (2 * k) (even_data frame k) ∷ [])) ≡ map (λ i. slice_index offsets i) (cond (not b) ((2 * k) ∷ []) [])
-    even_offsets k true = refl
-    even_offsets k false = refl
+    odd_data_is : (k : ℕ) → data_at frame (2 * k + 1) ≡ slice_index frame (2 * k + 1)
+    odd_data_is k = ap (λ (n : ℕ). cond (n == 0) (even_data frame ((2 * k + 1) / 2)) (slice_index frame (2 * k + 1))) (let e : (2 * k + 1) % 2 ≡ 1 = omega arith in e)
 
-    even_filtered : (k : ℕ) → filter is_data ((2 * k) ∷ []) ≡ cond (not (names frame k)) ((2 * k) ∷ []) []
-    even_filtered k = ap (λ (b : Bool). cond b ((2 * k) ∷ []) []) (even_is k)
+    cell_at : ℕ → Cell
+    cell_at i = cell frame offsets id i (data_at frame i)
 
-    odd_filtered : (k : ℕ) → filter is_data ((2 * k + 1) ∷ []) ≡ (2 * k + 1) ∷ []
-    odd_filtered k = ap (λ (b : Bool). cond b ((2 * k + 1) ∷ []) []) (odd_is k)
+    even_cell : (k : ℕ) → cell frame offsets id (2 * k) (even_data frame k) ≡ cell_at (2 * k)
+    unfolding cell_at
+    even_cell k = ap (cell frame offsets id (2 * k)) (sym (even_data_is k))
 
-    at_append : (xs ys : List ℕ) → offsets_at (xs ++ ys) ≡ offsets_at xs ++ offsets_at ys
-    unfolding offsets_at
-    at_append xs ys = ap (map (λ i. slice_index offsets i)) (filter-append is_data xs ys) ∙ map-append (λ i. slice_index offsets i) (filter is_data xs) (filter is_data ys)
+    odd_cell : (k : ℕ) → cell frame offsets id (2 * k + 1) (slice_index frame (2 * k + 1)) ≡ cell_at (2 * k + 1)
+    unfolding cell_at
+    odd_cell k = ap (cell frame offsets id (2 * k + 1)) (sym (odd_data_is k))
 
-    even_at_is : (k : ℕ) → map (λ c. c.at) (even_cells frame offsets id k) ≡ offsets_at ((2 * k) ∷ [])
-    unfolding offsets_at
-    even_at_is k = even_offsets k (names frame k) ∙ ap (map (λ i. slice_index offsets i)) (sym (even_filtered k))
+    cells_at : List ℕ → List Cell
+    cells_at l = map cell_at (filter is_data l)
 
-    odd_at_is : (k : ℕ) → map (λ c. c.at) (odd_cells frame offsets id k) ≡ offsets_at ((2 * k + 1) ∷ [])
-    unfolding offsets_at
-    odd_at_is k = ap (map (λ i. slice_index offsets i)) (sym (odd_filtered k))
+    at_append : (xs ys : List ℕ) → cells_at (xs ++ ys) ≡ cells_at xs ++ cells_at ys
+    unfolding cells_at
+    at_append xs ys = ap (map cell_at) (filter-append is_data xs ys) ∙ map-append cell_at (filter is_data xs) (filter is_data ys)
 
-    abbrev at_of : List Cell → List ℕ
-    at_of xs = map (λ c. c.at) xs
+    even_kept : (i : ℕ) (b : Bool) → cond b [] (cell_at i ∷ []) ≡ map cell_at (cond (not b) (i ∷ []) [])
+    even_kept i true = refl
+    even_kept i false = refl
 
-    pair_at_is : (k : ℕ) → at_of (even_cells frame offsets id k ++ odd_cells frame offsets id k) ≡ offsets_at ((2 * k) ∷ ((2 * k + 1) ∷ []))
-    pair_at_is k =
-        map-append (λ (c : Cell). c.at) (even_cells frame offsets id k) (odd_cells frame offsets id k)
-        ∙ ap (λ (l : List ℕ). l ++ at_of (odd_cells frame offsets id k)) (even_at_is k) ∙ ap (λ (l : List ℕ). offsets_at ((2 * k) ∷ []) ++ l) (odd_at_is k)
+    even_cells_are : (k : ℕ) → even_cells frame offsets id k ≡ cells_at ((2 * k) ∷ [])
+    unfolding cells_at
+    even_cells_are k =
+        ap (λ (c : Cell). cond (names frame k) [] (c ∷ [])) (even_cell k) ∙ even_kept (2 * k) (names frame k)
+        ∙ ap (λ (b : Bool). map cell_at (cond b ((2 * k) ∷ []) [])) (sym (even_is k))
+
+    odd_cells_are : (k : ℕ) → odd_cells frame offsets id k ≡ cells_at ((2 * k + 1) ∷ [])
+    unfolding cells_at
+    odd_cells_are k = ap (λ (c : Cell). c ∷ []) (odd_cell k) ∙ ap (λ (b : Bool). map cell_at (cond b ((2 * k + 1) ∷ []) [])) (sym (odd_is k))
+
+    pair_are : (k : ℕ) → even_cells frame offsets id k ++ odd_cells frame offsets id k ≡ cells_at ((2 * k) ∷ ((2 * k + 1) ∷ []))
+    pair_are k =
+        ap (λ (l : List Cell). l ++ odd_cells frame offsets id k) (even_cells_are k) ∙ ap (λ (l : List Cell). cells_at ((2 * k) ∷ []) ++ l) (odd_cells_are k)
         ∙ sym (at_append ((2 * k) ∷ []) ((2 * k + 1) ∷ []))
 
-    below_at_is : (n : ℕ) → at_of (cells_below frame offsets id n) ≡ offsets_at (range_with_len 0 (2 * n))
-    unfolding offsets_at
-    below_at_is zero = refl
-    below_at_is (suc k) =
-        map-append (λ (c : Cell). c.at) (cells_below frame offsets id k) (even_cells frame offsets id k ++ odd_cells frame offsets id k)
-        ∙ ap (λ (l : List ℕ). l ++ at_of (even_cells frame offsets id k ++ odd_cells frame offsets id k)) (below_at_is k)
-        ∙ ap (λ (l : List ℕ). offsets_at (range_with_len 0 (2 * k)) ++ l) (pair_at_is k)
+    below_are : (n : ℕ) → cells_below frame offsets id n ≡ cells_at (range_with_len 0 (2 * n))
+    unfolding cells_at
+    below_are zero = refl
+    below_are (suc k) =
+        ap (λ (l : List Cell). l ++ (even_cells frame offsets id k ++ odd_cells frame offsets id k)) (below_are k)
+        ∙ ap (λ (l : List Cell). cells_at (range_with_len 0 (2 * k)) ++ l) (pair_are k)
         ∙ sym (at_append (range_with_len 0 (2 * k)) ((2 * k) ∷ ((2 * k + 1) ∷ [])))
-        ∙ ap offsets_at (sym (range_pair k))
+        ∙ ap cells_at (sym (range_pair k))
 
-    all_at_is : at_of (cells frame offsets id) ≡ offsets_at (range_with_len 0 14 ++ 14 ∷ [])
-    all_at_is =
-        map-append (λ (c : Cell). c.at) (cells_below frame offsets id 7) (even_cells frame offsets id 7)
-        ∙ ap (λ (l : List ℕ). l ++ at_of (even_cells frame offsets id 7)) (below_at_is 7)
-        ∙ ap (λ (l : List ℕ). offsets_at (range_with_len 0 14) ++ l) (even_at_is 7)
+    all_are : cells frame offsets id ≡ cells_at (range_with_len 0 14 ++ 14 ∷ [])
+    all_are =
+        ap (λ (l : List Cell). l ++ even_cells frame offsets id 7) (below_are 7)
+        ∙ ap (λ (l : List Cell). cells_at (range_with_len 0 14) ++ l) (even_cells_are 7)
         ∙ sym (at_append (range_with_len 0 14) (14 ∷ []))
 
+    pub cells_are : cells frame offsets id ≡ map (λ i. cell frame offsets id i (data_at frame i)) (data_indexes frame)
+    unfolding is_data cells_at cell_at
+    cells_are = all_are
+
+    offsets_of_map : (l : List ℕ) → map (λ c. c.at) (map (λ i. cell frame offsets id i (data_at frame i)) l) ≡ map (λ i. slice_index offsets i) l
+    offsets_of_map [] = refl
+    offsets_of_map (i ∷ l) = ap (λ (m : List ℕ). slice_index offsets i ∷ m) (offsets_of_map l)
+
     pub offsets_are : map (λ c. c.at) (cells frame offsets id) ≡ map (λ i. slice_index offsets i) (data_indexes frame)
-    unfolding is_data offsets_at
-    offsets_are = all_at_is
+    offsets_are = ap (map (λ (c : Cell). c.at)) cells_are ∙ offsets_of_map (data_indexes frame)
 
     few_even : (k : ℕ) (b : Bool) → length (cond b [] (cell frame offsets id (2 * k) (even_data frame k) ∷ [])) ≤ 1
     few_even k true = omega arith

@@ -7,26 +7,26 @@ use Rattle.trace_values.specs.declared.fault.Reason.TheVariants.{BadSync, SyncIn
 use Rattle.trace_values.specs.declared.next.Next.{Next}
 use Rattle.trace_values.specs.declared.next.Next.TheVariants.{Go, Stop, Fail}
 use Rattle.trace_values.specs.Placed.{Placed, byte_at, units_of}
-use Rattle.trace_values.specs.Walk.{Walked, Within, Whole, Beyond, Broken, after, walk, Decides}
+use Rattle.trace_values.specs.Walk.{Walked, Within, Whole, after, walk, Decides}
 use Rattle.trace_values.proofs.Walks as walks
-use Rattle.frame_grammar.specs.Port.{Piece, Full, Half, Frame, half_spelling, IsWord, IsWords, IsFrame, Spells, last_unit, why, Part, Between, First, One, Two, Three, State, start, word_ended, half_ended, full_begun, rule}
+use Rattle.frame_grammar.specs.Port.{Piece, Full, Half, Frame, half_spelling, IsWord, IsWords, Spells, last_unit, why, Part, Between, First, One, Two, Three, State, start, word_ended, half_ended, full_begun, rule}
 
-abbrev at : ℕ → List Placed → ℕ → Part → State
+abbrev pub at : ℕ → List Placed → ℕ → Part → State
 at n f h p = record { left = n; bytes = f; halves = h; part = p }
 
-abbrev on : State → List Placed → Walked State Piece
+abbrev pub on : State → List Placed → Walked State Piece
 on s r = walk rule s r
 
-yes : (a b : ℕ) → a ≡ b → (a == b) ≡ true
+pub yes : (a b : ℕ) → a ≡ b → (a == b) ≡ true
 yes a b e = grind (arith, nat_tests)
 
-no : (a b : ℕ) → a ≢ b → (a == b) ≡ false
+pub no : (a b : ℕ) → a ≢ b → (a == b) ≡ false
 no a b e = grind (arith, nat_tests)
 
-is_yes : (a b : ℕ) → (a == b) ≡ true → a ≡ b
+pub is_yes : (a b : ℕ) → (a == b) ≡ true → a ≡ b
 is_yes a b e = grind (arith, nat_tests)
 
-is_no : (a b : ℕ) → (a == b) ≡ false → a ≢ b
+pub is_no : (a b : ℕ) → (a == b) ≡ false → a ≢ b
 is_no a b e h = let k = yes a b h in cc
 
 -- the walk behind a unit of which the rule says this
@@ -106,7 +106,7 @@ complete_half (a ∷ (b ∷ [])) e =
     says start a (b ∷ []) _ (mark 7 [] 0 a ea)
     ∙ ap (λ (n : ℕ). after {U = Placed} (cond {A = Next State Piece} (n == 127) (Stop Half) (cond (n == 255) (Go (at 7 [] 0 Two)) (Fail BadSync))) (λ t. on t []) []) eb
 
-none_before : (l : List Placed) → units_of l ≡ [] → l ≡ []
+pub none_before : (l : List Placed) → units_of l ≡ [] → l ≡ []
 none_before [] e = refl
 none_before (x ∷ l) e = cc
 

@@ -2,3 +2,4 @@ pub mod Looks
 pub mod Pairs
 pub mod CellLaws
 pub mod Deciding
+pub mod Pieces

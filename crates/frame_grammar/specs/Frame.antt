@@ -4,9 +4,13 @@ use Rattle.std.specs.List.{filter, range_with_len}
 use Rattle.trace_values.specs.declared.cell.Cell.{Cell}
 use Rattle.trace_values.specs.Cells.{source_id}
 
--- no mixed-use byte, one at an even index, is FF: the ID 127 is never used
-abbrev pub HasNoFullByte : List ℕ → Type 0
-HasNoFullByte frame = (k : ℕ) → k < 8 → slice_index frame (2 * k) ≢ 255
+-- none of the mixed-use bytes below 2n, those at even indexes, is FF: the ID 127 is never used
+abbrev pub IsProperBelow : ℕ → List ℕ → Type 0
+IsProperBelow n frame = (k : ℕ) → k < n → slice_index frame (2 * k) ≢ 255
+
+-- nor any of the frame
+abbrev pub IsProperFrame : List ℕ → Type 0
+IsProperFrame frame = IsProperBelow 8 frame
 
 -- the byte at 2k names a source, by its bit 0
 abbrev pub names : List ℕ → ℕ → Bool
@@ -74,3 +78,7 @@ pub record IsInForce (frame : List ℕ) (before : Option ℕ) (i : ℕ) (id : Op
 -- the indexes below 15 that are no ID bytes
 abbrev pub data_indexes : List ℕ → List ℕ
 data_indexes frame = filter (λ i. not (i % 2 == 0 && slice_index frame i % 2 == 1)) (range_with_len 0 15)
+
+-- the data at an index that is no ID byte
+abbrev pub data_at : List ℕ → ℕ → ℕ
+data_at frame i = if i % 2 == 0 then even_data frame (i / 2) else slice_index frame i

@@ -1,5 +1,5 @@
 -- The port grammar (CoreSight Architecture Specification, formatter): full and half synchronisations, and frames of eight halfwords.
-use Rattle.std.specs.Prelude.{◌≡◌, ◌≢◌, ℕ, zero, suc, ◌+◌, List, [], ◌∷◌, ◌++◌, ◌==◌, if◌then◌else◌}
+use Rattle.std.specs.Prelude.{◌≡◌, ◌≢◌, ℕ, zero, suc, ◌+◌, List, [], ◌∷◌, ◌++◌, ◌==◌, ◌&&◌, if◌then◌else◌}
 use Rattle.trace_values.specs.declared.fault.Reason.{Reason}
 use Rattle.trace_values.specs.declared.fault.Reason.TheVariants.{BadSync, SyncInFrame}
 use Rattle.trace_values.specs.declared.next.Next.{Next}
@@ -41,6 +41,12 @@ abbrev pub Spells : Piece → List Placed → Type 0
 Spells Full r = units_of r ≡ 255 ∷ (255 ∷ (255 ∷ (127 ∷ [])))
 Spells Half r = units_of r ≡ 255 ∷ (127 ∷ [])
 Spells (Frame f halves) r = IsFrame halves f r
+
+-- how many of the halfwords, from the first byte on, are FF 7F
+abbrev pub half_words : List Placed → ℕ
+half_words [] = 0
+half_words (x ∷ []) = 0
+half_words (x ∷ (y ∷ r)) = if x.unit == 255 && y.unit == 127 then half_words r + 1 else half_words r
 
 -- the last unit; of none, 0
 abbrev pub last_unit : List Placed → ℕ

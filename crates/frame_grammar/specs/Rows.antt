@@ -1,8 +1,7 @@
 -- Worked rows of captures, in text.
 use Rattle.std.specs.Prelude.{ℕ, ◌+◌, ◌-◌, ◌*◌, List, [], ◌∷◌, length, map, Option, option_map, nat_lt, if◌then◌else◌}
-use Rattle.trace_values.specs.declared.cell.Cell.{Cell}
 use Rattle.trace_values.specs.declared.fault.Reason.{Reason}
-use Rattle.trace_values.specs.Placed.{Placed, placed}
+use Rattle.trace_values.specs.Placed.{placed}
 use Rattle.frame_grammar.specs.Reading.{port_reading, port_cells, full_count, half_count, frame_count, source_list}
 
 -- a character 0 to 9 or A to F, as a digit

@@ -1,7 +1,7 @@
 //! The cells of a frame.
 
 ghost use Rattle.std.specs.Prelude.{◌≡◌, ℕ, ◌<◌, ◌≤◌, ◌+◌, ◌*◌, ◌++◌, [], length, Option, IsTrue};
-ghost use Rattle.frame_grammar.specs.Frame.{HasNoFullByte, cells, id_after, even_cells, odd_cells, IsInForce};
+ghost use Rattle.frame_grammar.specs.Frame.{IsProperFrame, cells, id_after, even_cells, odd_cells, IsInForce};
 
 use arrayvec::ArrayVec;
 use trace_values::{Cell, SourceId};
@@ -63,16 +63,17 @@ fn take_pair(
     }
 }
 
-/// Puts the cells of a frame into `out`, and gives the ID after the frame.
+/// Puts the cells of a frame into `out`, which is empty, and gives the ID after the frame.
 ///
-/// The frame's bytes stand at these offsets of the capture, and `id` is the ID before the frame.
+/// The frame's bytes stand at these offsets of the capture, and `id` is the ID before the frame. None of
+/// the bytes at even indexes may be FF.
 pub fn cells_of(
     frame: &[u8; 16],
     at: &[u64; 16],
     id: Option<SourceId>,
     out: &mut ArrayVec<Cell, 15>,
 ) -> Option<SourceId>
-    requires proper { HasNoFullByte frame.now }
+    requires proper { IsProperFrame frame.now }
     requires empty { out.old.items ≡ [] }
     ensures cells { out.new.items ≡ cells frame.now at.now id }
     ensures id { result ≡ id_after frame.now id }
@@ -101,7 +102,7 @@ mod tests {
     ];
 
     fn is_proper(frame: &[u8; 16]) -> bool
-        ensures { IsTrue result → HasNoFullByte frame.now }
+        ensures { IsTrue result → IsProperFrame frame.now }
     {
         for pair in 0..8 {
             if frame[2 * pair] == 255 {

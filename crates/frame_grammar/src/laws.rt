@@ -1,16 +1,17 @@
 //! Laws of the grammar and of cells, over their definitions alone.
 
-ghost use Rattle.std.specs.Prelude.{◌≡◌, ◌↔◌, ◌≤◌, ℕ, List, Option, map, length, slice_index};
-ghost use Rattle.std.specs.List.{Contains};
+ghost use Rattle.std.specs.Prelude.{◌≡◌, ◌↔◌, ◌<◌, ◌≤◌, ℕ, ◌+◌, ◌*◌, ◌/◌, true, false, List, ◌++◌, Option, None, map, length, slice_index};
+ghost use Rattle.std.specs.List.{Contains, count_by, range_with_len};
 ghost use Rattle.std.specs.List.Sorted.{IsNonDecreasingBy};
 ghost use Rattle.trace_values.specs.declared.cell.Cell.{Cell};
-ghost use Rattle.trace_values.specs.Placed.{Placed};
+ghost use Rattle.trace_values.specs.Cells.{source_id};
+ghost use Rattle.trace_values.specs.Placed.{Placed, units_of};
 ghost use Rattle.trace_values.specs.Grammar.{PrefixLaw};
 ghost use Rattle.trace_values.specs.Walk.{Decides};
 ghost use Rattle.trace_values.specs.Reading.{Reading, IsReading};
-ghost use Rattle.frame_grammar.specs.Frame.{cells, data_indexes};
-ghost use Rattle.frame_grammar.specs.Port.{Piece, Spells, why, rule, start};
-ghost use Rattle.frame_grammar.specs.Reading.{port_reading};
+ghost use Rattle.frame_grammar.specs.Frame.{IsProperFrame, in_effect, id_at, run_at, cell, cells, data_indexes, data_at};
+ghost use Rattle.frame_grammar.specs.Port.{Piece, Frame, Spells, why, rule, start, half_words};
+ghost use Rattle.frame_grammar.specs.Reading.{port_reading, port_progress, cells_of_pieces, id_of_pieces};
 
 /// One list of bytes spells at most one piece, and no spelling begins another.
 pub fn prefix_law()
@@ -28,9 +29,43 @@ pub fn reading_law()
     ensures { (u : List Placed) (r : Reading Piece) → IsReading Spells why u r ↔ (r ≡ port_reading u) }
 {}
 
-/// The cells of a frame stand at the indexes 0 to 14 that are no ID bytes, in order.
-pub fn offsets_law()
-    ensures { (frame offsets : List ℕ) (id : Option ℕ) →
+/// A frame has 16 bytes, none of the mixed-use ones is FF, and its spelling has them and its half synchronisations.
+pub fn frame_law()
+    ensures bytes { (f r : List Placed) (halves : ℕ) → Spells (Frame f halves) r → length f ≡ 16 }
+    ensures proper { (f r : List Placed) (halves : ℕ) → Spells (Frame f halves) r → IsProperFrame (units_of f) }
+    ensures spelling { (f r : List Placed) (halves : ℕ) → Spells (Frame f halves) r → length r ≡ 16 + 2 * halves }
+{}
+
+/// Half synchronisations are counted in a frame by its spelling, and in an unfinished one by the bytes it has.
+pub fn halves_law()
+    ensures frame { (f r : List Placed) (halves : ℕ) → Spells (Frame f halves) r → halves ≡ half_words r }
+    ensures unfinished { (u : List Placed) → (port_reading u).fault ≡ None →
+        (port_progress u).state.halves ≡ half_words (port_reading u).rest }
+{}
+
+/// The ID carries over from pieces to those behind them.
+pub fn pieces_law()
+    ensures cells { (id : Option ℕ) (xs ys : List Piece) →
+        cells_of_pieces id (xs ++ ys) ≡ cells_of_pieces id xs ++ cells_of_pieces (id_of_pieces id xs) ys }
+    ensures id { (id : Option ℕ) (xs ys : List Piece) → id_of_pieces id (xs ++ ys) ≡ id_of_pieces (id_of_pieces id xs) ys }
+{}
+
+/// The ID in force at an index is named by the last ID byte that is in effect there, and is the ID before
+/// the frame where none is; the run is how many are.
+pub fn force_law()
+    ensures named { (frame : List ℕ) (id : Option ℕ) (i k : ℕ) → k < 8 → in_effect frame i k ≡ true →
+        ((m : ℕ) → k < m → m < 8 → in_effect frame i m ≡ false) → id_at frame id i ≡ source_id (slice_index frame (2 * k) / 2) }
+    ensures before { (frame : List ℕ) (id : Option ℕ) (i : ℕ) →
+        ((m : ℕ) → m < 8 → in_effect frame i m ≡ false) → id_at frame id i ≡ id }
+    ensures run { (frame : List ℕ) (i : ℕ) → run_at frame i ≡ count_by (λ k. in_effect frame i k) (range_with_len 0 8) }
+{}
+
+/// The cells of a frame stand at the indexes 0 to 14 that are no ID bytes, in order; each has its index's
+/// offset, the ID and the run in force there, and the data there.
+pub fn cells_law()
+    ensures cells { (frame offsets : List ℕ) (id : Option ℕ) →
+        cells frame offsets id ≡ map (λ i. cell frame offsets id i (data_at frame i)) (data_indexes frame) }
+    ensures offsets { (frame offsets : List ℕ) (id : Option ℕ) →
         map (λ c. c.at) (cells frame offsets id) ≡ map (λ i. slice_index offsets i) (data_indexes frame) }
 {}
 

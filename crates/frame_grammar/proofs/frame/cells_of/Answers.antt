@@ -1,4 +1,4 @@
-use Rattle.std.proofs.Common.{◌≡◌, ℕ, ◌+◌, ◌*◌, sym, ◌∙◌, ap, arith, rules}
+use Rattle.std.proofs.Common.{◌∙◌, arith, rules}
 use Rattle.std.specs.Prelude.{slice_index}
 use Rattle.frame_grammar.proofs.Looks.{starts}
 use Rattle.frame_grammar.proofs.Pairs.{pushed, more_cells, whole_plain, whole_named, after_plain, after_named, even_plain, even_named}
