@@ -161,6 +161,7 @@ fn first_stamp(count: u8, value: u64) -> ItmPacket
 fn second_stamp(count: u8, value: u64) -> Next<Partial, ItmPacket>
     ensures next { result ≡ second_stamped count value }
     ensures sound { IsSoundNext result }
+    ensures ends { held_after result ≡ 0 }
 {
     match count {
         4 => Next::Stop(ItmPacket::GlobalSecond {
@@ -180,6 +181,7 @@ fn last(class: Class, count: u8, value: u64, byte: u8) -> Next<Partial, ItmPacke
     requires { FitsLast class value }
     ensures next { result ≡ lasting class count value byte }
     ensures sound { IsSoundNext result }
+    ensures ends { held_after result ≡ 0 }
 {
     match class {
         Class::Source {
@@ -211,6 +213,7 @@ fn payload_with(class: Class, count: u8, value: u64, byte: u8) -> Next<Partial, 
     requires sound { is_sound_payload class count value ≡ true }
     ensures next { result ≡ payload_and class count (value + digit class count byte * base_of class ^ count) byte }
     ensures sound { IsSoundNext result }
+    ensures held { held_after result ≤ count + 2 }
 {
     let value = value_with(class, count, value, byte);
     if another_follows(class, count, byte) {
