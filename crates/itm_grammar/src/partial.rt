@@ -1,6 +1,6 @@
 //! An unfinished packet, and one more byte of it.
 
-ghost use Rattle.std.specs.Prelude.{◌≡◌, ◌↔◌, IsTrue, ℕ, ◌+◌, ◌*◌, ◌^◌, ◌<◌, ◌≤◌, ◌%◌, true};
+ghost use Rattle.std.specs.Prelude.{◌≡◌, ◌+◌, ◌*◌, ◌^◌, ◌<◌, ◌≤◌, true};
 ghost use Rattle.itm_grammar.specs.Header.{is_proper_class};
 ghost use Rattle.itm_grammar.specs.Rule.{rule, begin as begun, zeros_with as zeros_and, payload_with as payload_and, last as lasting, another_follows as follows_by_table, source as sourced, first_stamp as first_stamped, second_stamp as second_stamped, digit, base_of, is_sound, is_sound_payload, IsSoundNext, FitsLast, count_of, held_after};
 
@@ -23,8 +23,7 @@ pub enum Partial {
 fn number_with(value: u64, count: u8, byte: u8) -> u64
     requires few { count < 4 }
     requires fits { value < 256 ^ count }
-    ensures value { result ≡ value + byte * 256 ^ count }
-    ensures fits { result < 256 ^ (count + 1) }
+    ensures { result ≡ value + byte * 256 ^ count }
 {
     let byte = u64::from(byte);
     match count {
@@ -40,9 +39,7 @@ fn number_with(value: u64, count: u8, byte: u8) -> u64
 fn groups_with(value: u64, count: u8, bits: u8) -> u64
     requires few { count < 6 }
     requires fits { value < 128 ^ count }
-    ensures value { result ≡ value + bits * 128 ^ count }
-    ensures fits { result < 2 * 128 ^ (count + 1) }
-    ensures seven { bits < 128 → result < 128 ^ (count + 1) }
+    ensures { result ≡ value + bits * 128 ^ count }
 {
     let bits = u64::from(bits);
     match count {
@@ -164,6 +161,7 @@ fn first_stamp(count: u8, value: u64) -> ItmPacket
 fn second_stamp(count: u8, value: u64) -> Next<Partial, ItmPacket>
     ensures next { result ≡ second_stamped count value }
     ensures sound { IsSoundNext result }
+    ensures ends { held_after result ≡ 0 }
 {
     match count {
         4 => Next::Stop(ItmPacket::GlobalSecond {
@@ -183,6 +181,7 @@ fn last(class: Class, count: u8, value: u64, byte: u8) -> Next<Partial, ItmPacke
     requires { FitsLast class value }
     ensures next { result ≡ lasting class count value byte }
     ensures sound { IsSoundNext result }
+    ensures ends { held_after result ≡ 0 }
 {
     match class {
         Class::Source {
@@ -214,6 +213,7 @@ fn payload_with(class: Class, count: u8, value: u64, byte: u8) -> Next<Partial, 
     requires sound { is_sound_payload class count value ≡ true }
     ensures next { result ≡ payload_and class count (value + digit class count byte * base_of class ^ count) byte }
     ensures sound { IsSoundNext result }
+    ensures held { held_after result ≤ count + 2 }
 {
     let value = value_with(class, count, value, byte);
     if another_follows(class, count, byte) {
