@@ -8,7 +8,7 @@ use crate::packets::PacketsMode;
 use crate::text::{put_end, put_fault, put_step};
 use itm_codec::ItmDecoder;
 use trace_stream::{Action, Flow, Outlet, Taken};
-use trace_values::{Fault, Machine, Step, feed_block};
+use trace_values::{Fault, Machine, Step};
 
 /// The reading of a bare stream and what its listing needs of it.
 #[derive(Drop)]
@@ -80,7 +80,7 @@ impl Action for Show {
     ghost text_grows = { listed_grows };
 
     fn feed(&mut self, piece: &[u8], outlet: &mut Outlet) -> Taken {
-        let block = feed_block(&mut self.decoder, self.count, piece);
+        let block = self.decoder.feed_piece(self.count, piece);
         self.count += block.bytes as u64;
         let mut flow = Flow::On;
         if let Some(step) = block.step {

@@ -6,9 +6,10 @@ ghost use Rattle.itm_grammar.specs.Rule.{is_sound};
 ghost use Rattle.itm_codec.specs.Reading.{pattern};
 
 use crate::hunt::{ends_pattern, run_with};
+use crate::whole::source_packet;
 use itm_grammar::packet::ItmPacket;
 use itm_grammar::partial::Partial;
-use trace_values::{Fault, Machine, Mode, Next, Step};
+use trace_values::{Block, Fault, Machine, Mode, Next, Step, feed_block};
 
 /// A decoder of ITM packets. It keeps what it needs of the one unfinished packet.
 #[derive(Drop)]
@@ -21,8 +22,13 @@ pub struct ItmDecoder {
 }
 
 impl ItmDecoder {
-    ghost use Rattle.std.specs.Prelude.{[], false};
-    ghost use Rattle.itm_codec.specs.Decoder.{IsOf, is_hunter, is_live, held_of, skipped_by};
+    ghost use Rattle.std.specs.Prelude.{[], false, ℕ, ◌+◌, ◌*◌, ◌^◌, ◌<◌, ◌≤◌, List, length, take, IfSome};
+    ghost use Rattle.trace_values.specs.Placed.{Placed};
+    ghost use Rattle.trace_values.specs.Block.{Takes, goes_on_after};
+    ghost use Rattle.itm_grammar.specs.declared.partial.Partial.TheVariants.{Header};
+    ghost use Rattle.itm_grammar.specs.Spelling.{Spells};
+    ghost use Rattle.itm_codec.specs.Reading.{packets_in};
+    ghost use Rattle.itm_codec.specs.Decoder.{IsOf, is_hunter, is_live, has_locked, held_of, skipped_by};
 
     /// A decoder of bytes that begin with a packet.
     pub fn aligned() -> ItmDecoder
@@ -50,6 +56,46 @@ impl ItmDecoder {
             partial: Partial::Header,
             live: true,
         }
+    }
+
+    /// The whole source packet that the bytes begin with, where the next byte is a header.
+    #[inline]
+    fn source_packet(&self, piece: &[u8]) -> Option<(usize, ItmPacket)>
+        ensures header { IfSome result (λ x. (has_locked self.now ≡ true) × (self.now.partial ≡ Header)) }
+        ensures whole { IfSome result (λ x. (0 < x.0) × (x.0 ≤ length piece.now) × Spells x.1 (take x.0 piece.now)) }
+    {
+        match (&self.mode, &self.partial) {
+            (Mode::Aligned | Mode::Locked { .. }, Partial::Header) => source_packet(piece),
+            _ => None,
+        }
+    }
+
+    /// Feeds a piece, whose first byte stands at this offset, up to the first byte to which the answer is
+    /// neither `Quiet` nor `Skipping`, or to the piece's end. It takes a source packet at once whose bytes
+    /// are all there.
+    #[inline]
+    pub fn feed_piece(&mut self, at: u64, piece: &[u8]) -> Block<ItmPacket>
+        requires live { is_live self.old ≡ true }
+        requires room { held_of self.old + skipped_by self.old + 2 * length piece.now ≤ 2 ^ 60 }
+        requires offsets { at + length piece.now < 2 ^ 60 }
+        requires some { 0 < length piece.now }
+        ensures same { packets_in (is_hunter self.new) ≡ packets_in (is_hunter self.old) }
+        ensures bytes { (0 < result.bytes) × (result.bytes ≤ length piece.now) }
+        ensures takes { (u : List Placed) → IsOf self.old u →
+            Takes (packets_in (is_hunter self.old)) (IsOf self.new) u at piece.now result.bytes result.step }
+        ensures live { is_live self.new ≡ goes_on_after result.step }
+        ensures few { held_of self.new + skipped_by self.new ≤ held_of self.old + skipped_by self.old + 2 * result.bytes }
+    {
+        if let Some((bytes, packet)) = self.source_packet(piece) {
+            return Block {
+                bytes,
+                step: Some(Step::Item {
+                    half: 0,
+                    item: packet,
+                }),
+            };
+        }
+        feed_block(self, at, piece)
     }
 }
 

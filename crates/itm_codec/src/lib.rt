@@ -4,6 +4,7 @@
 
 mod decoder;
 mod hunt;
+mod whole;
 pub mod laws;
 
 pub use decoder::ItmDecoder;

@@ -10,4 +10,5 @@ pub mod Hunts
 pub mod Wholes
 pub mod HuntSteps
 pub mod Modes
+pub mod Pieces
 pub mod HuntedLemmas
