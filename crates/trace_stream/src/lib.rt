@@ -1,8 +1,8 @@
 //! The streaming engine: one loop from a source through an action to a sink, proved once for every
 //! action that reads its input byte after byte.
 //!
-//! An action's caller opens `Buffers` and calls `serve`. What was read, what was written and why the run
-//! ended are one table, `HasServed`.
+//! An action's caller opens `Buffers` and calls `serve`. What was read, what was written, why the run
+//! ended and, at a fault, which last bytes the buffers keep are one table, `HasServed`.
 #![tactic(auto)]
 
 mod action;
