@@ -1,11 +1,11 @@
 -- A machine over a piece of bytes at once.
-use Rattle.std.proofs.Common.{◌≡◌, ℕ, ◌+◌, ◌-◌, ◌<◌, ◌≤◌, List, [], ◌∷◌, ◌++◌, length, take, get_or, sym, ◌∙◌, ap, subst, append_assoc, append-nil, arith, ◌⊎◌, inl, inr, None, Some, true}
+use Rattle.std.proofs.Common.{◌≡◌, ℕ, ◌+◌, ◌-◌, ◌<◌, ◌≤◌, List, [], ◌∷◌, ◌++◌, length, take, get_or, sym, ◌∙◌, ap, subst, append_assoc, append-nil, arith, ◌⊎◌, inl, inr, None, Some, true, refl}
 use Rattle.std.proofs.lemmas.List.{take_more, length-take-le}
 use Rattle.trace_values.specs.declared.step.Step.{Step}
 use Rattle.trace_values.specs.declared.step.Step.TheVariants.{Quiet, Skipping, Item, Locked, Fault as Faulty}
 use Rattle.trace_values.specs.Placed.{Placed, byte_at, placed_from}
 use Rattle.trace_values.specs.Stream.{Stream, Grows, HuntBy, given_by, fault_by, goes_on}
-use Rattle.trace_values.specs.Block.{Takes, StandsAt}
+use Rattle.trace_values.specs.Block.{StopsFor, Takes, StandsAt}
 use Rattle.trace_values.proofs.Placing.{placed_from_push}
 
 -- behind so many quiet or skipped bytes
@@ -69,6 +69,14 @@ module _ {V : Type 0} (reading : List Placed → Stream V) (u : List Placed) (at
 pub quiet_goes_on : {V : Type 0} → (step : Step V) → (step ≡ Quiet) ⊎ (step ≡ Skipping) → goes_on step ≡ true
 quiet_goes_on step (inl e) = ap (λ x. goes_on x) e
 quiet_goes_on step (inr e) = ap (λ x. goes_on x) e
+
+-- a byte that is neither quiet nor skipped tells something
+pub stops_for : {V : Type 0} → (bytes length : ℕ) (step : Step V) → (step ≡ Quiet → ⊥) → (step ≡ Skipping → ⊥) → StopsFor bytes length (Some step)
+stops_for bytes length Quiet q s = absurd (q refl)
+stops_for bytes length Skipping q s = absurd (s refl)
+stops_for bytes length (Item half v) q s = tt
+stops_for bytes length (Locked skipped half v) q s = tt
+stops_for bytes length (Faulty f) q s = tt
 
 -- shorter fronts have no fault, where longer ones have none
 pub takes_all : {V : Type 0} → (reading : List Placed → Stream V) (stands : List Placed → Type 0) (u : List Placed) (at : ℕ) (piece : List ℕ) (i : ℕ) → length piece ≤ i → i ≤ length piece →

@@ -2,7 +2,7 @@
 use Rattle.std.specs.Prelude.{◌≡◌, ℕ, ◌+◌, ◌-◌, List, [], ◌++◌, take, Bool, true, Option, None, Some}
 use Rattle.trace_values.specs.declared.fault.Reason.{Reason}
 use Rattle.trace_values.specs.declared.step.Step.{Step}
-use Rattle.trace_values.specs.declared.step.Step.TheVariants.{Fault as Faulty}
+use Rattle.trace_values.specs.declared.step.Step.TheVariants.{Quiet, Skipping, Fault as Faulty}
 use Rattle.trace_values.specs.Placed.{Place, Placed, placed_from}
 use Rattle.trace_values.specs.Stream.{Said, Stream, given_by, fault_by, goes_on}
 
@@ -11,10 +11,12 @@ abbrev pub given_after : {V : Type 0} → ℕ → Option (Step V) → List (Said
 given_after at None = []
 given_after at (Some step) = given_by at step
 
+-- the fault that it tells, where there is one
 abbrev pub fault_after : {V : Type 0} → ℕ → Option (Step V) → Option (Place × Reason)
 fault_after at None = None
 fault_after at (Some step) = fault_by at step
 
+-- the machine stays live after it
 abbrev pub goes_on_after : {V : Type 0} → Option (Step V) → Bool
 goes_on_after None = true
 goes_on_after (Some step) = goes_on step
@@ -23,6 +25,13 @@ goes_on_after (Some step) = goes_on step
 abbrev pub StandsAt : {V : Type 0} → ℕ → Option (Step V) → Type 0
 StandsAt at (Some (Faulty f)) = f.at ≡ at
 StandsAt at step = Unit {0}
+
+-- why it took no more bytes: the last one told something, or it was the last of the piece
+abbrev pub StopsFor : {V : Type 0} → ℕ → ℕ → Option (Step V) → Type 0
+StopsFor bytes length None = bytes ≡ length
+StopsFor bytes length (Some Quiet) = ⊥
+StopsFor bytes length (Some Skipping) = ⊥
+StopsFor bytes length (Some step) = Unit {0}
 
 -- Behind u the machine took so many bytes of the piece, whose first stands at this offset. The reading
 -- grew by the answer to the last of them alone, and had no fault before it.

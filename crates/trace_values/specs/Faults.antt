@@ -3,6 +3,7 @@ use Rattle.std.specs.Prelude.{ℕ, List, codes}
 use Rattle.trace_values.specs.declared.fault.Reason.{Reason}
 use Rattle.trace_values.specs.declared.fault.Reason.TheVariants.{BadSync, SyncInFrame, ReservedHeader, BadItmSync, LongStamp, ShortStamp}
 
+-- the number of a reason
 abbrev pub number_of : Reason → ℕ
 number_of BadSync = 1
 number_of SyncInFrame = 2
@@ -11,6 +12,7 @@ number_of BadItmSync = 4
 number_of LongStamp = 5
 number_of ShortStamp = 6
 
+-- the name of a reason, letter by letter
 abbrev pub name_of : Reason → List ℕ
 name_of BadSync = codes "BadSync"
 name_of SyncInFrame = codes "SyncInFrame"

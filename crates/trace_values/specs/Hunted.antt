@@ -12,6 +12,7 @@ pub record Pattern : Type 0 where
   pub most : ℕ
   pub last : ℕ
 
+-- the pattern's units
 abbrev pub pattern_of : Pattern → List ℕ
 pattern_of p = replicate p.most p.unit ++ p.last ∷ []
 
@@ -27,6 +28,7 @@ pub record Hunt (S V : Type 0) : Type 0 where
   pub run : ℕ
   pub found : Option (Found S V)
 
+-- the run with one more unit: it counts no further than the pattern has it
 abbrev pub run_after : Pattern → ℕ → ℕ → ℕ
 run_after p run b = if b == p.unit then (if nat_lt run p.most then suc run else p.most) else 0
 
@@ -46,13 +48,16 @@ hunt_on p v rule start h b None =
       run_is = h.run == p.most
 hunt_on p v rule start h b (Some f) = record { units = suc h.units; run = 0; found = Some (record f { reading = advance rule start f.reading b }) }
 
+-- a hunt over more units
 abbrev pub hunt_from : {S V : Type 0} → Pattern → V → (S → Placed → Next S V) → S → Hunt S V → List Placed → Hunt S V
 hunt_from p v rule start h [] = h
 hunt_from p v rule start h (b ∷ u) = hunt_from p v rule start (hunt_on p v rule start h b h.found) u
 
+-- the hunt over no units
 abbrev pub no_hunt : {S V : Type 0} → Hunt S V
 no_hunt = record { units = 0; run = 0; found = None }
 
+-- the hunt over a list of units
 abbrev pub hunt : {S V : Type 0} → Pattern → V → (S → Placed → Next S V) → S → List Placed → Hunt S V
 hunt p v rule start u = hunt_from p v rule start no_hunt u
 
@@ -61,6 +66,7 @@ abbrev pub hunted_by : {S V : Type 0} → ℕ → Option (Found S V) → Stream 
 hunted_by units None = record { given = []; fault = None; held = 0; skipped = units; locked = false }
 hunted_by units (Some f) = shown ((Notice f.skipped, f.place) ∷ []) f.skipped f.reading
 
+-- what a list of units reads as in a hunt
 abbrev pub hunted : {S V : Type 0} → Pattern → V → (S → Placed → Next S V) → S → List Placed → Stream V
 hunted p v rule start u = hunted_by (hunt p v rule start u).units (hunt p v rule start u).found
 

@@ -14,15 +14,18 @@ abbrev pub stream_in : {S V : Type 0} → Pattern → V → (S → Placed → Ne
 stream_in p v rule start false u = stream_of (progress rule start u)
 stream_in p v rule start true u = hunted p v rule start u
 
+-- it began with a hunt, which may be over
 abbrev pub hunts : Mode → Bool
 hunts Aligned = false
 hunts (Hunting run skipped) = true
 hunts (Locked skipped) = true
 
+-- it reads: its hunt is over, or it had none
 abbrev pub is_locked : Mode → Bool
 is_locked (Hunting run skipped) = false
 is_locked m = true
 
+-- the units skipped so far
 abbrev pub skipped_of : Mode → ℕ
 skipped_of Aligned = 0
 skipped_of (Hunting run skipped) = skipped
@@ -33,6 +36,7 @@ abbrev pub is_counted : Pattern → Mode → Bool
 is_counted p (Hunting run skipped) = nat_le run p.most && nat_le run skipped
 is_counted p m = true
 
+-- what a decoder keeps (its mode, whether it is live, and the rule's state) is that of this list
 abbrev pub StandsIn : {S V : Type 0} → Pattern → V → (S → Placed → Next S V) → S → Mode → Bool → S → List Placed → Type 0
 StandsIn p v rule start Aligned live state u = Stands live state (progress rule start u)
 StandsIn p v rule start (Hunting run skipped) live state u = Seeks p v rule start run skipped u × (live ≡ true) × (state ≡ start)

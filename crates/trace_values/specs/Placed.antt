@@ -11,6 +11,7 @@ pub record Placed : Type 0 where
   pub unit : ℕ
   pub place : Place
 
+-- the units alone
 abbrev pub units_of : List Placed → List ℕ
 units_of u = map (λ p. p.unit) u
 

@@ -54,9 +54,11 @@ with_unit start p b (Stop v) None = record { items = p.items ++ (v, b.place) ∷
 with_unit start p b (Fail e) None = record { items = p.items; rest = p.rest ++ b ∷ []; fault = Some (b.place, e); state = p.state }
 with_unit start p b n (Some f) = record { items = p.items; rest = p.rest ++ b ∷ []; fault = Some f; state = p.state }
 
+-- with one more unit, as the rule has it
 abbrev pub advance : {S V : Type 0} → (S → Placed → Next S V) → S → Progress S V → Placed → Progress S V
 advance rule start p b = with_unit start p b (rule p.state b) p.fault
 
+-- with more units, one by one
 abbrev pub progress_from : {S V : Type 0} → (S → Placed → Next S V) → S → Progress S V → List Placed → Progress S V
 progress_from rule start p [] = p
 progress_from rule start p (b ∷ u) = progress_from rule start (advance rule start p b) u
@@ -65,11 +67,14 @@ progress_from rule start p (b ∷ u) = progress_from rule start (advance rule st
 abbrev pub unread : {S V : Type 0} → S → Progress S V
 unread start = record { items = []; rest = []; fault = None; state = start }
 
+-- the reading of a list of units with the state of its rest
 abbrev pub progress : {S V : Type 0} → (S → Placed → Next S V) → S → List Placed → Progress S V
 progress rule start u = progress_from rule start (unread start) u
 
+-- without the state
 abbrev pub reading_of : {S V : Type 0} → Progress S V → Reading V
 reading_of p = record { items = p.items; rest = p.rest; fault = p.fault }
 
+-- the reading of a list of units, as the rule computes it
 abbrev pub reading : {S V : Type 0} → (S → Placed → Next S V) → S → List Placed → Reading V
 reading rule start u = reading_of (progress rule start u)

@@ -17,6 +17,7 @@ live_after (Go s) = true
 live_after (Stop v) = true
 live_after (Fail e) = false
 
+-- its state after such a unit: the start again behind a value, and as before behind a fault
 abbrev pub state_after : {S V : Type 0} → S → Next S V → S → S
 state_after start (Go s) old = s
 state_after start (Stop v) old = start

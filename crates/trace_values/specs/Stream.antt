@@ -19,6 +19,7 @@ pub record Stream (V : Type 0) : Type 0 where
   pub skipped : ℕ
   pub locked : Bool
 
+-- the items of a reading, as a source gives them
 abbrev pub kept : {V : Type 0} → List (V × Place) → List (Said V × Place)
 kept items = map (λ x. (Kept x.0, x.1)) items
 
@@ -38,6 +39,7 @@ given_by at (Item half v) = (Kept v, record { at = at; half = half }) ∷ []
 given_by at (Locked skipped half v) = (Notice skipped, record { at = at; half = half }) ∷ ((Kept v, record { at = at; half = half }) ∷ [])
 given_by at (Faulty f) = []
 
+-- the fault that a step at this offset tells
 abbrev pub fault_by : {V : Type 0} → ℕ → Step V → Option (Place × Reason)
 fault_by at (Faulty f) = Some (record { at = at; half = f.half }, f.reason)
 fault_by at s = None
@@ -79,6 +81,7 @@ abbrev pub AllAt : {W : Type 0} → ℕ → ℕ → List (W × Place) → Type 0
 AllAt at half [] = Unit {0}
 AllAt at half (x ∷ xs) = (x.1.at ≡ at) × (half ≤ x.1.half) × AllAt at x.1.half xs
 
+-- a new fault stands at this offset, and an old one stays
 abbrev pub FaultAt : ℕ → Option (Place × Reason) → Option (Place × Reason) → Type 0
 FaultAt at None (Some f) = f.0.at ≡ at
 FaultAt at None None = Unit {0}

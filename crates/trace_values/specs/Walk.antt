@@ -14,12 +14,14 @@ pub data Walked (S V : Type 0) : Type 0 where
   Beyond : Walked S V
   Broken : Reason → Walked S V
 
+-- what the list is, by what the rule says of its first unit and how it walks on
 abbrev pub after : {U S V : Type 0} → Next S V → (S → Walked S V) → List U → Walked S V
 after (Go s) more u = more s
 after (Stop v) more [] = Whole v
 after (Stop v) more (b ∷ u) = Beyond
 after (Fail e) more u = Broken e
 
+-- the walk of a rule over a list of units, from a state on
 abbrev pub walk : {U S V : Type 0} → (S → U → Next S V) → S → List U → Walked S V
 walk rule s [] = Within s
 walk rule s (b ∷ u) = after (rule s b) (λ t. walk rule t u) u

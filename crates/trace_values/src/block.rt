@@ -2,21 +2,25 @@
 
 ghost use Rattle.std.specs.Prelude.{◌≡◌, ℕ, ◌+◌, ◌*◌, ◌^◌, ◌<◌, ◌≤◌, List, length, true};
 ghost use Rattle.trace_values.specs.Placed.{Placed};
-ghost use Rattle.trace_values.specs.Block.{Takes, goes_on_after};
+ghost use Rattle.trace_values.specs.Block.{StopsFor, Takes, goes_on_after};
 
 use crate::machine::Machine;
 use crate::step::Step;
 
-/// What a machine took of a piece: so many bytes from its front, and its answer to the last of them, or
-/// nothing where none of them but quiet and skipped ones came.
+/// What a machine took of a piece.
 #[derive(Clone, Copy, Debug, PartialEq, Eq, Drop)]
 pub struct Block<T> {
+    /// How many bytes from its front, at least one.
     pub bytes: usize,
+    /// The answer to the last of them, which is neither `Quiet` nor `Skipping`; none where the whole piece
+    /// was taken and had no other answers.
     pub step: Option<Step<T>>,
 }
 
-/// Feeds a piece, whose first byte stands at this offset, up to the first byte to which the answer is
-/// neither `Quiet` nor `Skipping`, or to the piece's end.
+/// Feeds a piece, whose first byte stands at this offset of the capture, up to the first byte to which the
+/// answer is neither `Quiet` nor `Skipping`, or to the piece's end.
+///
+/// The piece has a byte, and ends below the offset 2^60. The machine has met no fault.
 #[inline]
 pub fn feed_block<M: Machine>(machine: &mut M, at: u64, piece: &[u8]) -> Block<M::Item>
     requires live { M.live machine.old ≡ true }
@@ -25,6 +29,7 @@ pub fn feed_block<M: Machine>(machine: &mut M, at: u64, piece: &[u8]) -> Block<M
     requires some { 0 < length piece.now }
     ensures same { M.reading machine.new ≡ M.reading machine.old }
     ensures bytes { (0 < result.bytes) × (result.bytes ≤ length piece.now) }
+    ensures stops { StopsFor result.bytes (length piece.now) result.step }
     ensures takes { (u : List Placed) → M.stands machine.old u →
         Takes (M.reading machine.old) (M.stands machine.new) u at piece.now result.bytes result.step }
     ensures live { M.live machine.new ≡ goes_on_after result.step }
@@ -44,5 +49,123 @@ pub fn feed_block<M: Machine>(machine: &mut M, at: u64, piece: &[u8]) -> Block<M
     Block {
         bytes: piece.len(),
         step: None,
+    }
+}
+
+#[cfg(test)]
+mod tests {
+    use super::*;
+    use crate::fault::{Fault, Reason};
+
+    /// A machine that answers by the byte alone: 0 is quiet, 1 is skipped, 2 is a lock, 3 a fault, and any
+    /// other byte an item. A lock and an item tell their byte with its offset.
+    ///
+    /// It stands for no list, so only its answers are of use.
+    #[derive(Drop)]
+    struct Scripted {
+        live: bool,
+    }
+
+    impl Machine for Scripted {
+        ghost use Rattle.std.specs.Prelude.{[], None, true};
+        ghost use Rattle.std.proofs.Common.{refl};
+
+        type Item = (u64, u8);
+
+        ghost reading = { λ m u. record { given = []; fault = None; held = 0; skipped = 0; locked = true } };
+
+        ghost stands = { λ m u. ⊥ };
+
+        ghost live = { λ m. m.live };
+
+        ghost locked = { λ m. true };
+
+        ghost held_units = { λ m. 0 };
+
+        ghost skipped_units = { λ m. 0 };
+
+        ghost shows = { λ m u s. absurd s };
+
+        ghost begins = { λ m. (refl, refl) };
+
+        ghost settles = { λ m u w e. record { given = refl; fault = refl } };
+
+        ghost rises = { λ m u at byte. record { more = []; given = refl; all = tt; fault = tt } };
+
+        fn feed(&mut self, at: u64, byte: u8) -> Step<(u64, u8)> {
+            self.live = byte != 3;
+            let item = (at, byte);
+            match byte {
+                0 => Step::Quiet,
+                1 => Step::Skipping,
+                2 => Step::Locked {
+                    skipped: 9,
+                    half: 0,
+                    item,
+                },
+                3 => Step::Fault(fault(at)),
+                _ => Step::Item { half: 1, item },
+            }
+        }
+
+        fn is_live(&self) -> bool {
+            self.live
+        }
+
+        fn is_locked(&self) -> bool {
+            true
+        }
+
+        fn held(&self) -> u64 {
+            0
+        }
+
+        fn skipped(&self) -> u64 {
+            0
+        }
+    }
+
+    fn fault(at: u64) -> Fault {
+        Fault {
+            at,
+            half: 0,
+            reason: Reason::BadSync,
+        }
+    }
+
+    /// Pieces whose first byte stands at 100, with how many of their bytes are taken and what the last says.
+    #[test]
+    fn takes_a_piece_up_to_the_first_byte_that_tells(rt: HostRuntime) {
+        let item = |at, byte| Some(Step::Item {
+            half: 1,
+            item: (at, byte),
+        });
+        let table: [(&[u8], usize, Option<Step<(u64, u8)>>); 7] = [
+            (&[0], 1, None),
+            (&[0, 1, 0, 1, 0], 5, None),
+            (&[7], 1, item(100, 7)),
+            (&[0, 1, 0, 8], 4, item(103, 8)),
+            (&[1, 1, 5, 6, 3], 3, item(102, 5)),
+            (
+                &[1, 2, 4],
+                2,
+                Some(Step::Locked {
+                    skipped: 9,
+                    half: 0,
+                    item: (101, 2),
+                }),
+            ),
+            (&[0, 0, 3, 3, 4], 3, Some(Step::Fault(fault(102)))),
+        ];
+        for (piece, bytes, step) in table {
+            let mut machine = Scripted { live: true };
+            let block = feed_block(&mut machine, 100, piece);
+            assert_eq!(rt; block, Block { bytes, step }, "{piece:?}");
+            assert_eq!(rt;
+                machine.is_live(),
+                !matches!(step, Some(Step::Fault(_))),
+                "{piece:?}"
+            );
+        }
     }
 }

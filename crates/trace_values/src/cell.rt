@@ -22,7 +22,7 @@ impl Model for SourceId {
 }
 
 impl SourceId {
-    /// The source of this number: there is none over 126, since 127 is never used and an ID has seven bits.
+    /// The source of this number. None over 126: an ID has seven bits, and 127 is never used.
     pub fn new(number: u8) -> Option<SourceId>
         ensures { result ≡ source_id number }
     {
@@ -55,4 +55,32 @@ pub struct Cell {
     pub run: u8,
     /// The byte itself.
     pub byte: u8,
+}
+
+#[cfg(test)]
+mod tests {
+    use super::*;
+
+    #[test]
+    fn sources_are_0_to_126(rt: HostRuntime) {
+        for number in 0..=255u8 {
+            let found = SourceId::new(number).map(|id| id.number());
+            let want = match number {
+                127..=255 => None,
+                _ => Some(number),
+            };
+            assert_eq!(rt; found, want, "{number}");
+        }
+    }
+
+    #[test]
+    fn a_default_cell_has_no_source(rt: HostRuntime) {
+        let cell = Cell {
+            at: 0,
+            id: None,
+            run: 0,
+            byte: 0,
+        };
+        assert_eq!(rt; Cell::default(), cell);
+    }
 }

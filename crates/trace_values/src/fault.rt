@@ -21,7 +21,7 @@ pub enum Reason {
 }
 
 impl Reason {
-    /// The reason's number, as a fault line has it.
+    /// The reason's number, as a fault line has it, 1 to 6.
     pub fn number(&self) -> u8
         ensures { result ≡ number_of self.now }
     {
@@ -50,12 +50,34 @@ impl Reason {
     }
 }
 
-/// A fault: the offset of its byte in the capture, the half of that byte, and the reason.
-///
-/// The half is 0 for the low nibble and 1 for the high one; it is 0 where the units are bytes.
+/// A fault and its place.
 #[derive(Clone, Copy, Debug, PartialEq, Eq, Drop)]
 pub struct Fault {
+    /// The offset of its byte in the capture.
     pub at: u64,
+    /// The half of that byte: 0 for the low nibble, 1 for the high one, and 0 where the units are bytes.
     pub half: u8,
+    /// Why it is one.
     pub reason: Reason,
+}
+
+#[cfg(test)]
+mod tests {
+    use super::*;
+
+    #[test]
+    fn each_reason_has_its_number_and_name(rt: HostRuntime) {
+        let table = [
+            (Reason::BadSync, 1, "BadSync"),
+            (Reason::SyncInFrame, 2, "SyncInFrame"),
+            (Reason::ReservedHeader, 3, "ReservedHeader"),
+            (Reason::BadItmSync, 4, "BadItmSync"),
+            (Reason::LongStamp, 5, "LongStamp"),
+            (Reason::ShortStamp, 6, "ShortStamp"),
+        ];
+        for (reason, number, name) in table {
+            assert_eq!(rt; reason.number(), number, "{reason:?}");
+            assert_eq!(rt; reason.name(), name, "{reason:?}");
+        }
+    }
 }

@@ -12,6 +12,7 @@ use crate::step::Step;
 /// has. Several lists may have the same kept parts, and no machine keeps its history, so each clause
 /// holds for every list that the machine stood for before the call. A unit is a byte or a nibble.
 pub trait Machine {
+    /// What it reads: a packet.
     type Item;
 
     /// What a list of bytes reads as, in this machine's mode.
@@ -32,7 +33,8 @@ pub trait Machine {
     /// How many units stand before its reading.
     ghost skipped_units: { Self → ℕ };
 
-    /// Takes the next byte, which stands at this offset of the capture.
+    /// Takes the next byte, which stands at this offset of the capture. It has met no fault, and holds and
+    /// skipped at most 2^60 units.
     fn feed(&mut self, at: u64, byte: u8) -> Step<Self::Item>
         requires live { live self.old ≡ true }
         requires room { held_units self.old ≤ 2 ^ 60 }

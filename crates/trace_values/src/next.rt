@@ -2,10 +2,13 @@
 
 use crate::fault::Reason;
 
-/// One more unit of an unfinished value: it goes on in a state, it ends the value, or no value goes on so.
+/// What one more unit says of an unfinished value.
 #[derive(Clone, Copy, Debug, PartialEq, Eq, Drop)]
 pub enum Next<S, V> {
+    /// The value goes on, in this state.
     Go(S),
+    /// The unit ends this value.
     Stop(V),
+    /// No value goes on so.
     Fail(Reason),
 }

@@ -1,13 +1,14 @@
-use Rattle.std.proofs.Common.{below_more, ◌≡◌, ℕ, ◌+◌, List, [], ◌∷◌, ◌++◌, take, get_or, ◌∙◌, subst, arith, None}
+use Rattle.std.proofs.Common.{below_more, ◌≡◌, ℕ, ◌+◌, List, [], ◌∷◌, ◌++◌, take, get_or, length, ◌∙◌, subst, arith, None}
 use Rattle.trace_values.specs.Placed.{Placed, byte_at, placed_from}
 use Rattle.trace_values.specs.Stream.{Grows}
-use Rattle.trace_values.proofs.Blocks.{IsTaking, taking_quiet, takes_ended, takes_all, quiet_goes_on}
+use Rattle.trace_values.proofs.Blocks.{IsTaking, taking_quiet, takes_ended, takes_all, quiet_goes_on, stops_for}
 use Rattle.trace_values.proofs.block.feed_block.Goals as goal
 
 pub returns-in_default : goal.returns-in_default
 returns-in_default g c = record {
   same = c.feed.ensures.same ∙ c.loop-index.invariant.same;
   bytes = (omega arith, omega arith);
+  stops = stops_for (c.loop-index.index + 1) (length c.args.piece.now) c.feed.result c.in_default.not-Quiet c.in_default.not-Skipping;
   takes = λ u s.
       let t = c.loop-index.invariant.taking u s in
       takes_ended (g.M.Machine.reading c.args.machine.now) u c.args.at c.args.piece.now _ _ c.loop-index.index c.loop-index-test.true t c.feed.result (c.feed.ensures.list _ t.list)
