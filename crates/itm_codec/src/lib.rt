@@ -1,10 +1,12 @@
-//! Reads the ITM packets of a source's bytes (ARMv7-M Architecture Reference Manual, 'Debug ITM and
-//! DWT packet protocol').
+//! Reads the ITM packets of a source's bytes, and writes packets as bytes (ARMv7-M Architecture Reference
+//! Manual, 'Debug ITM and DWT packet protocol').
 #![tactic(auto)]
 
 mod decoder;
+mod encoder;
 mod hunt;
 mod whole;
 pub mod laws;
 
 pub use decoder::ItmDecoder;
+pub use encoder::encode;
