@@ -24,7 +24,7 @@ pub struct ItmDecoder {
 impl ItmDecoder {
     ghost use Rattle.std.specs.Prelude.{[], false, ℕ, ◌+◌, ◌*◌, ◌^◌, ◌<◌, ◌≤◌, List, length, take, IfSome};
     ghost use Rattle.trace_values.specs.Placed.{Placed};
-    ghost use Rattle.trace_values.specs.Block.{Takes, goes_on_after};
+    ghost use Rattle.trace_values.specs.Block.{Takes, StopsFor, goes_on_after};
     ghost use Rattle.itm_grammar.specs.declared.partial.Partial.TheVariants.{Header};
     ghost use Rattle.itm_grammar.specs.Spelling.{Spells};
     ghost use Rattle.itm_codec.specs.Reading.{packets_in};
@@ -81,6 +81,7 @@ impl ItmDecoder {
         requires some { 0 < length piece.now }
         ensures same { packets_in (is_hunter self.new) ≡ packets_in (is_hunter self.old) }
         ensures bytes { (0 < result.bytes) × (result.bytes ≤ length piece.now) }
+        ensures stops { StopsFor result.bytes (length piece.now) result.step }
         ensures takes { (u : List Placed) → IsOf self.old u →
             Takes (packets_in (is_hunter self.old)) (IsOf self.new) u at piece.now result.bytes result.step }
         ensures live { is_live self.new ≡ goes_on_after result.step }
