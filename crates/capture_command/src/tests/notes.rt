@@ -7,179 +7,98 @@ use std::process::Abort;
 use std::test::Fail;
 use trace_io::{Failed, MemorySink, MemorySource, Source};
 
-/// A run over memory, its status and what it writes and notes. The reads and writes fail at these calls.
-#[derive(Clone, Copy)]
-struct Case {
-    words: &'static [&'static str],
-    bytes: &'static [u8],
-    read_fails: &'static [u64],
-    write_fails: &'static [u64],
-    status: Status,
-    text: &'static str,
-    note: &'static str,
+/// Runs the words over the bytes with reads and writes that fail at these calls, and answers the status, how
+/// long the text is, and whether the notes hold just this note.
+fn noted(
+    alloc: Global,
+    words: &[&str],
+    bytes: &[u8],
+    fails: (&[u64], &[u64]),
+    note: &[u8],
+    notes: &mut MemorySink<'_>,
+) -> Result<(Status, usize, bool), Fail> {
+    let mut room = [0; ROOM];
+    let mut input = MemorySource::new(bytes, &[], fails.0);
+    let mut output = MemorySink::new(&mut room, &[], fails.1);
+    let status = answer(alloc, words, &mut input, &mut output, notes)?;
+    Ok((status, output.held().len(), notes.held() == note))
 }
 
-const CASES: [Case; 11] = [
-    Case {
-        words: &ALIGNED,
-        bytes: &[0x70],
-        read_fails: &[],
-        write_fails: &[],
-        status: Status::Done,
-        text: "0 1 overflow\nend 1\nport bare skipped 0 tail 0 unattributed 0\n1 itm aligned skipped 0 tail 0\n",
-        note: "",
-    },
-    Case {
-        words: &["show"],
-        bytes: &[0x80],
-        read_fails: &[0],
-        write_fails: &[0],
-        status: Status::Usage,
-        text: "",
-        note: "usage: unbuilt\n",
-    },
-    Case {
-        words: &ALIGNED,
-        bytes: &[0x70],
-        read_fails: &[0],
-        write_fails: &[0],
-        status: Status::ReadFault,
-        text: "",
-        note: "read fault\n",
-    },
-    Case {
-        words: &ALIGNED,
-        bytes: &[0x70],
-        read_fails: &[1],
-        write_fails: &[],
-        status: Status::ReadFault,
-        text: "0 1 overflow\n",
-        note: "read fault\n",
-    },
-    Case {
-        words: &ALIGNED,
-        bytes: &[0x70],
-        read_fails: &[1],
-        write_fails: &[0],
-        status: Status::WriteFault,
-        text: "",
-        note: "write fault\n",
-    },
-    Case {
-        words: &ALIGNED,
-        bytes: &[0x80],
-        read_fails: &[],
-        write_fails: &[0],
-        status: Status::WriteFault,
-        text: "",
-        note: "write fault\n",
-    },
-    Case {
-        words: &ALIGNED,
-        bytes: &[0x80],
-        read_fails: &[],
-        write_fails: &[],
-        status: Status::CaptureFault,
-        text: "fault 0 1 3 ReservedHeader\n",
-        note: "last 80\n",
-    },
-    // The bytes behind the fault are not among the last.
-    Case {
-        words: &ALIGNED,
-        bytes: &[0x01, 0x4F, 0xF4, 0x70, 0x80],
-        read_fails: &[],
-        write_fails: &[],
-        status: Status::CaptureFault,
-        text: "1 1 port 0 u8 4f\nfault 2 1 3 ReservedHeader\n",
-        note: "last 014ff4\n",
-    },
-    Case {
-        words: &ALIGNED,
-        bytes: &[
-            0x00, 0x00, 0x00, 0x00, 0x00, 0x00, 0x00, 0x00, 0x00, 0x00, 0x00, 0x00, 0x00, 0x00,
-            0x00, 0xFE, 0x41,
-        ],
-        read_fails: &[],
-        write_fails: &[],
-        status: Status::CaptureFault,
-        text: "fault 15 1 4 BadItmSync\n",
-        note: "last 000000000000000000000000000000fe\n",
-    },
-    // Sixteen of twenty-one.
-    Case {
-        words: &ALIGNED,
-        bytes: &[
-            0x01, 0x00, 0x03, 0x04, 0x05, 0x06, 0x07, 0xC0, 0x81, 0x82, 0x03, 0x98, 0x85, 0x86,
-            0x07, 0xB4, 0x8A, 0x8B, 0x8C, 0x8D, 0x0E, 0x41,
-        ],
-        read_fails: &[],
-        write_fails: &[],
-        status: Status::CaptureFault,
-        text: "1 1 port 0 u8 00\n6 1 port 0 u32 07060504\n10 1 local exact 49409\n14 1 ext itm 000e1829\nfault 20 1 6 ShortStamp\n",
-        note: "last 0607c081820398858607b48a8b8c8d0e\n",
-    },
-    // Skipped bytes are among the last.
-    Case {
-        words: &HUNTING,
-        bytes: &[0x41, 0x00, 0x00, 0x00, 0x00, 0x00, 0x80, 0xB0],
-        read_fails: &[],
-        write_fails: &[],
-        status: Status::CaptureFault,
-        text: "6 1 locked 1\n6 1 sync\nfault 7 1 3 ReservedHeader\n",
-        note: "last 41000000000080b0\n",
-    },
-];
-
-/// Runs the case with these notes, which hold so much of the note in the end.
-fn check_case(
+/// Checks a run's status, the length of its text and its note, and that notes which fail at once or in the
+/// middle change no other.
+fn check_note(
     alloc: Global,
     rt: &impl Abort,
-    case: &Case,
-    pieces: &[usize],
-    notes: &mut MemorySink<'_>,
+    words: &[&str],
+    bytes: &[u8],
+    fails: (&[u64], &[u64]),
+    want: (Status, usize, &str),
 ) -> Result<(), Fail> {
-    let mut room = [0; ROOM];
-    let mut input = MemorySource::new(case.bytes, pieces, case.read_fails);
-    let mut output = MemorySink::new(&mut room, &[], case.write_fails);
-    let got = answer(alloc, case.words, &mut input, &mut output, notes)?;
-    assert_eq!(rt; got, case.status, "{}", case.note);
-    assert_eq!(rt; output.held(), case.text.as_bytes(), "{}", case.note);
-    Ok(())
-}
-
-#[test]
-fn notes_how_a_run_ends(rt: HostRuntime) -> Result<(), Fail> {
-    for case in CASES {
-        for pieces in [&[1], &[64]] {
-            for note_pieces in [&[1], &[64]] {
-                let mut room = [0; ROOM];
-                let mut notes = MemorySink::new(&mut room, note_pieces, &[]);
-                check_case(rt.alloc(), &rt, &case, pieces, &mut notes)?;
-                assert_eq!(rt; notes.held(), case.note.as_bytes(), "{}", case.text);
-            }
-        }
-    }
-    Ok(())
-}
-
-#[test]
-fn failing_notes_change_nothing_else(rt: HostRuntime) -> Result<(), Fail> {
-    for case in CASES {
-        let note = case.note.as_bytes();
-        for size in [0, 1, 5] {
-            let mut room = [0; 5];
-            let mut notes = MemorySink::new(&mut room[..size.min(5)], &[], &[]);
-            check_case(rt.alloc(), &rt, &case, &[], &mut notes)?;
-            let want = &note[..size.min(note.len())];
-            assert_eq!(rt; notes.held(), want, "{size} bytes of {}", case.note);
-        }
+    let (status, count, text) = want;
+    let note = text.as_bytes();
+    for size in [ROOM, 0, 5] {
         let mut room = [0; ROOM];
-        let mut notes = MemorySink::new(&mut room, &[3], &[1]);
-        check_case(rt.alloc(), &rt, &case, &[], &mut notes)?;
-        let want = &note[..note.len().min(3)];
-        assert_eq!(rt; notes.held(), want, "3 bytes of {}", case.note);
+        let mut notes = MemorySink::new(&mut room[..size.min(ROOM)], &[3], &[]);
+        let held = &note[..size.min(note.len())];
+        let got = noted(alloc, words, bytes, fails, held, &mut notes)?;
+        assert_eq!(rt; got, (status, count, true), "{size} bytes of {text}");
     }
     Ok(())
+}
+
+#[test]
+fn notes_what_failed(rt: HostRuntime) -> Result<(), Fail> {
+    // The one byte, the read and the write that fail, and the status, the length of the text and the note.
+    let table: [(u8, u64, u64, Status, usize, &str); 6] = [
+        (0x70, 9, 9, Status::Done, 92, ""),
+        (0x70, 0, 0, Status::ReadFault, 0, "read fault\n"),
+        (0x70, 1, 9, Status::ReadFault, 13, "read fault\n"),
+        (0x70, 1, 0, Status::WriteFault, 0, "write fault\n"),
+        (0x80, 1, 0, Status::WriteFault, 0, "write fault\n"),
+        (0x80, 1, 9, Status::CaptureFault, 27, "last 80\n"),
+    ];
+    for (byte, read, write, status, count, note) in table {
+        let want = (status, count, note);
+        check_note(
+            rt.alloc(),
+            &rt,
+            &ALIGNED,
+            &[byte],
+            (&[read], &[write]),
+            want,
+        )?;
+    }
+    let want = (Status::Usage, 0, "usage: unbuilt\n");
+    check_note(rt.alloc(), &rt, &["show"], &[0x80], (&[0], &[0]), want)
+}
+
+#[test]
+fn notes_the_last_bytes_up_to_a_fault(rt: HostRuntime) -> Result<(), Fail> {
+    let table: [(&[u8], usize, &str); 3] = [
+        (&[0x01, 0x4F, 0xF4, 0x70, 0x80], 44, "last 014ff4\n"),
+        (
+            &[0, 0, 0, 0, 0, 0, 0, 0, 0, 0, 0, 0, 0, 0, 0, 0xFE, 0x41],
+            24,
+            "last 000000000000000000000000000000fe\n",
+        ),
+        // sixteen of the twenty-one bytes up to the fault
+        (
+            &[
+                0x01, 0x00, 0x03, 0x04, 0x05, 0x06, 0x07, 0xC0, 0x81, 0x82, 0x03, 0x98, 0x85, 0x86,
+                0x07, 0xB4, 0x8A, 0x8B, 0x8C, 0x8D, 0x0E, 0x41,
+            ],
+            110,
+            "last 0607c081820398858607b48a8b8c8d0e\n",
+        ),
+    ];
+    for (bytes, count, note) in table {
+        let want = (Status::CaptureFault, count, note);
+        check_note(rt.alloc(), &rt, &ALIGNED, bytes, (&[], &[]), want)?;
+    }
+    // skipped bytes are among the last
+    let hunted = [0x41, 0, 0, 0, 0, 0, 0x80, 0xB0];
+    let want = (Status::CaptureFault, 49, "last 41000000000080b0\n");
+    check_note(rt.alloc(), &rt, &HUNTING, &hunted, (&[], &[]), want)
 }
 
 /// So many bytes 00: a run that no packet ends.
