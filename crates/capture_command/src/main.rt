@@ -55,7 +55,7 @@ pub fn run<I: Source, O: Sink, N: Sink>(
     // What was read, written and noted, by the status.
     ensures show { (mode : PacketsMode) → AsksFor (map string_bytes words.now) mode →
         HasRun (IsFaulty mode) (listed mode) (ending mode) LIMIT (I.left input.old) (I.left input.new) (O.held output.old) (O.held output.new)
-            (N.held notes.old) (N.held notes.new) (N.faults notes.old) (N.faults notes.new) result }
+        (N.held notes.old) (N.held notes.new) (N.faults notes.old) (N.faults notes.new) result }
 
     // The causes of what the outside does, and that without a cause all is done.
     ensures read_cause { result ≡ Status.ReadFault → Rose (I.faults input.old) (I.faults input.new) }

@@ -237,13 +237,7 @@ fn state_word(mode: PacketsMode, locked: bool) -> &'static str
 {
     match mode {
         PacketsMode::Aligned => "aligned",
-        PacketsMode::Hunt => {
-            if locked {
-                "locked"
-            } else {
-                "hunting"
-            }
-        }
+        PacketsMode::Hunt => { if locked { "locked" } else { "hunting" } }
     }
 }
 
@@ -272,7 +266,14 @@ fn put_source_end(outlet: &mut Outlet, mode: PacketsMode, locked: bool, skipped:
 
 /// The end lines of a bare stream of so many bytes, of which the source skipped so many and has so many
 /// of an unfinished packet.
-pub fn put_end(outlet: &mut Outlet, mode: PacketsMode, count: u64, locked: bool, skipped: u64, tail: u64)
+pub fn put_end(
+    outlet: &mut Outlet,
+    mode: PacketsMode,
+    count: u64,
+    locked: bool,
+    skipped: u64,
+    tail: u64,
+)
     requires room { length outlet.old + 200 ≤ OUTLET_ROOM }
     ensures { outlet.new ≡ outlet.old ++ end_lines mode count locked skipped tail }
 {

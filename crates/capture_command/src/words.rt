@@ -15,7 +15,13 @@ pub fn mode_of(words: &[String]) -> Option<PacketsMode>
 {
     match words {
         [action, frames, mode, itm, id] => {
-            match (action.as_str(), frames.as_str(), mode.as_str(), itm.as_str(), id.as_str()) {
+            match (
+                action.as_str(),
+                frames.as_str(),
+                mode.as_str(),
+                itm.as_str(),
+                id.as_str(),
+            ) {
                 ("show", "--frames", "bare", "--itm", "1") => Some(PacketsMode::Hunt),
                 _ => None,
             }
