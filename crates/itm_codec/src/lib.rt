@@ -9,3 +9,6 @@ pub mod laws;
 
 pub use decoder::ItmDecoder;
 pub use encoder::encode;
+
+#[cfg(test)]
+mod tests;
