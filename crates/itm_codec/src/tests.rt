@@ -85,7 +85,13 @@ fn check(rt: &impl Abort, rows: &[(ItmPacket, &[u8])]) {
         let mut written = ArrayVec::new();
         encode(packet, &mut written);
         assert_eq!(rt; written.as_slice(), *bytes, "{packet:?}");
-        read(rt, &mut ItmDecoder::aligned(), 0, written.as_slice(), *packet);
+        read(
+            rt,
+            &mut ItmDecoder::aligned(),
+            0,
+            written.as_slice(),
+            *packet,
+        );
         read(rt, &mut stream, at, written.as_slice(), *packet);
         read(rt, &mut hunter, at, written.as_slice(), *packet);
         assert!(rt; at < 1000);
@@ -102,7 +108,10 @@ fn writes_source_packets(rt: HostRuntime) {
             (ItmPacket::Overflow, b"\x70"),
             (software(0, Size::One, 0x41), b"\x01\x41"),
             (software(31, Size::Two, 0x1234), b"\xfa\x34\x12"),
-            (software(2, Size::Four, 0x1234_5678), b"\x13\x78\x56\x34\x12"),
+            (
+                software(2, Size::Four, 0x1234_5678),
+                b"\x13\x78\x56\x34\x12",
+            ),
             (software(0, Size::Four, 0), b"\x03\0\0\0\0"),
             (ItmPacket::Sync, b"\0\0\0\0\0\x80"),
             (hardware(17, Size::One, 42), b"\x8d\x2a"),
@@ -128,7 +137,10 @@ fn writes_local_stamps(rt: HostRuntime) {
             (local(Lateness::Exact, 0x3fff), b"\xc0\xff\x7f"),
             (local(Lateness::Exact, 0x4000), b"\xc0\x80\x80\x01"),
             (local(Lateness::Exact, 0x1f_ffff), b"\xc0\xff\xff\x7f"),
-            (local(Lateness::BothLate, 0x20_0000), b"\xf0\x80\x80\x80\x01"),
+            (
+                local(Lateness::BothLate, 0x20_0000),
+                b"\xf0\x80\x80\x80\x01",
+            ),
             (local(Lateness::Exact, 0xfff_ffff), b"\xc0\xff\xff\xff\x7f"),
         ],
     );
@@ -150,8 +162,14 @@ fn writes_global_stamps(rt: HostRuntime) {
             (second(false, 2), b"\xb4\x82\x80\x80\0"),
             (second(false, 0x3f_ffff), b"\xb4\xff\xff\xff\x01"),
             (second(true, 2), b"\xb4\x82\x80\x80\x80\x80\0"),
-            (second(true, 0x20_0000_0002), b"\xb4\x82\x80\x80\x80\x80\x04"),
-            (second(true, 0x3f_ffff_ffff), b"\xb4\xff\xff\xff\xff\xff\x07"),
+            (
+                second(true, 0x20_0000_0002),
+                b"\xb4\x82\x80\x80\x80\x80\x04",
+            ),
+            (
+                second(true, 0x3f_ffff_ffff),
+                b"\xb4\xff\xff\xff\xff\xff\x07",
+            ),
         ],
     );
 }
