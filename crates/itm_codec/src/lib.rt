@@ -10,3 +10,6 @@ pub mod laws;
 
 pub use decoder::ItmDecoder;
 pub use encoder::encode;
+
+#[cfg(test)]
+mod tests;
