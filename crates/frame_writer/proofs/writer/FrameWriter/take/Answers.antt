@@ -1,0 +1,18 @@
+use Rattle.std.proofs.Common.{◌≡◌, ℕ, ◌+◌, ◌*◌, ◌/◌, ◌<◌, ◌++◌, ◌∷◌, [], sym, ◌∙◌, ap, arith, true, Some}
+use Rattle.frame_writer.proofs.Frames.{followed, deferred, held_room}
+use Rattle.frame_writer.proofs.Standing.{nothing_before}
+use Rattle.frame_writer.proofs.writer.FrameWriter.take.Goals as goal
+
+pub returns-then-is_in_force-clause-to_come : goal.returns-then-is_in_force-clause-to_come
+returns-then-is_in_force-clause-to_come c = λ t.
+    let w = c.args.self.now in
+    nothing_before c.args.out.now.items _ _ c.requires.empty (followed w.every w.halves w.frames w.pairs.items c.push.new.self.items w.id w.held c.args.id c.in-Some.held c.args.byte _ t w.sound c.in-Some.is
+    (held_room w.every w.frames w.pairs.items w.id w.held c.in-Some.held w.sound c.in-Some.is) (sym c.if-is_in_force.ensures) (omega arith) c.push.ensures.items)
+
+pub returns-else-is_in_force-clause-to_come : goal.returns-else-is_in_force-clause-to_come
+returns-else-is_in_force-clause-to_come c = λ t.
+    let w = c.args.self.now in
+    deferred w.every w.halves w.frames w.pairs.items c.push-else-is_in_force.new.self.items w.id w.held c.args.id c.in-Some.held c.args.byte t _ w.sound c.in-Some.is
+    (held_room w.every w.frames w.pairs.items w.id w.held c.in-Some.held w.sound c.in-Some.is) (sym c.if-is_in_force.ensures)
+    (c.push-else-is_in_force.ensures.items ∙ ap (λ n. w.pairs.items ++ record { even = 2 * n + 1; aux = true; odd = c.in-Some.held } ∷ []) c.number.ensures.value)
+    (c.place-else-is_in_force.ensures.to_come t)

@@ -1,0 +1,10 @@
+//! Writes tagged bytes as frames (CoreSight Architecture Specification, formatter).
+#![tactic(auto)]
+
+mod frame;
+pub mod laws;
+mod pair;
+pub mod rows;
+mod writer;
+
+pub use writer::FrameWriter;
