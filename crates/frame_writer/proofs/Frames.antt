@@ -70,7 +70,7 @@ module _ (every halves : ℕ) where
       let l = filled_less 6 (known every n c) x t in
       by_some k n c x t
       ∙ ap (λ r. frame_bytes every halves n (filled 7 (known every n c) (x ∷ t)).pairs (filled 7 (known every n c) (x ∷ t)).end.even (filled 7 (known every n c) (x ∷ t)).end.aux ∷ r)
-        (enough k j (n + 1) (filled 7 (known every n c) (x ∷ t)).end.id (filled 7 (known every n c) (x ∷ t)).end.rest (omega arith) (omega arith))
+      (enough k j (n + 1) (filled 7 (known every n c) (x ∷ t)).end.id (filled 7 (known every n c) (x ∷ t)).end.rest (omega arith) (omega arith))
       ∙ sym (by_some j n c x t)
 
   -- a frame is begun
@@ -181,8 +181,8 @@ module _ (every halves : ℕ) where
       in_middle n pairs (Some k) (Some h) _ (y ∷ t) x s refl
       ∙ takes every halves n pairs (Some k) (x ∷ (y ∷ t)) l
       ∙ ap (λ (p : Paired). middle every halves n (pairs ++ p.pair ∷ []) p.id p.rest)
-        (ap (λ q. cond q (following (Some k) x y (y ∷ t) t) (naming x (y ∷ t))) (same_id k)
-        ∙ ap (λ q. cond q (record { pair = record { even = 2 * (h / 2); aux = is_odd h; odd = b }; id = Some k; rest = t }) (record { pair = record { even = 2 * i + 1; aux = true; odd = h }; id = Some i; rest = y ∷ t })) is)
+      (ap (λ q. cond q (following (Some k) x y (y ∷ t) t) (naming x (y ∷ t))) (same_id k)
+      ∙ ap (λ q. cond q (record { pair = record { even = 2 * (h / 2); aux = is_odd h; odd = b }; id = Some k; rest = t }) (record { pair = record { even = 2 * i + 1; aux = true; odd = h }; id = Some i; rest = y ∷ t })) is)
       ∙ out_of_middle n pairs (record { even = 2 * (h / 2); aux = is_odd h; odd = b }) (Some k) t
 
   pub defers : (n : ℕ) (pairs : List Pair) (c : Option ℕ) (i h b : ℕ) (t : List Tagged) → is_sound every n pairs c (Some h) ≡ true → length pairs < 7 → is_id c i ≡ false →
@@ -195,8 +195,8 @@ module _ (every halves : ℕ) where
       in_middle n pairs (Some k) (Some h) _ (y ∷ t) x s refl
       ∙ takes every halves n pairs (Some k) (x ∷ (y ∷ t)) l
       ∙ ap (λ (p : Paired). middle every halves n (pairs ++ p.pair ∷ []) p.id p.rest)
-        (ap (λ q. cond q (following (Some k) x y (y ∷ t) t) (naming x (y ∷ t))) (same_id k)
-        ∙ ap (λ q. cond q (record { pair = record { even = 2 * (h / 2); aux = is_odd h; odd = b }; id = Some k; rest = t }) (record { pair = record { even = 2 * i + 1; aux = true; odd = h }; id = Some i; rest = y ∷ t })) (not_eq k i e))
+      (ap (λ q. cond q (following (Some k) x y (y ∷ t) t) (naming x (y ∷ t))) (same_id k)
+      ∙ ap (λ q. cond q (record { pair = record { even = 2 * (h / 2); aux = is_odd h; odd = b }; id = Some k; rest = t }) (record { pair = record { even = 2 * i + 1; aux = true; odd = h }; id = Some i; rest = y ∷ t })) (not_eq k i e))
       ∙ out_of_middle n pairs (record { even = 2 * i + 1; aux = true; odd = h }) (Some i) (y ∷ t)
 
   closed_end : (n : ℕ) (pairs : List Pair) (d e : Closed) → d ≡ e →
@@ -209,7 +209,7 @@ module _ (every halves : ℕ) where
       let x : Tagged = record { id = i; byte = b } in
       in_middle n pairs c None _ t x s refl ∙ closes every halves n pairs c (x ∷ t) h
       ∙ closed_end n pairs (closed c (x ∷ t)) (record { even = 2 * (b / 2); aux = is_odd b; id = c; rest = t })
-        (ap (λ q. cond q (record { even = 2 * (b / 2); aux = is_odd b; id = c; rest = t }) (record { even = 2 * i + 1; aux = false; id = Some i; rest = x ∷ t })) e)
+      (ap (λ q. cond q (record { even = 2 * (b / 2); aux = is_odd b; id = c; rest = t }) (record { even = 2 * i + 1; aux = false; id = Some i; rest = x ∷ t })) e)
 
   pub ends_named : (n : ℕ) (pairs : List Pair) (c : Option ℕ) (i b : ℕ) (t : List Tagged) → is_sound every n pairs c None ≡ true → length pairs ≡ 7 → is_id c i ≡ false →
       continued every halves n pairs c None (record { id = i; byte = b } ∷ t)
@@ -218,7 +218,7 @@ module _ (every halves : ℕ) where
       let x : Tagged = record { id = i; byte = b } in
       in_middle n pairs c None _ t x s refl ∙ closes every halves n pairs c (x ∷ t) h
       ∙ closed_end n pairs (closed c (x ∷ t)) (record { even = 2 * i + 1; aux = false; id = Some i; rest = x ∷ t })
-        (ap (λ q. cond q (record { even = 2 * (b / 2); aux = is_odd b; id = c; rest = t }) (record { even = 2 * i + 1; aux = false; id = Some i; rest = x ∷ t })) e)
+      (ap (λ q. cond q (record { even = 2 * (b / 2); aux = is_odd b; id = c; rest = t }) (record { even = 2 * i + 1; aux = false; id = Some i; rest = x ∷ t })) e)
 
   -- the next frame begins
   pub begins : (n : ℕ) (pairs : List Pair) (c held : Option ℕ) (t : List Tagged) → pairs ≡ [] → held ≡ None → is_due every n ≡ true →
@@ -304,8 +304,8 @@ module _ (every halves : ℕ) where
       in_middle every halves n pairs (Some i) (Some b) [] [] x s refl
       ∙ takes every halves n pairs (Some i) (x ∷ []) m.1
       ∙ ap (λ (p : Paired). middle every halves n (pairs ++ p.pair ∷ []) p.id p.rest)
-        (ap (λ q. cond q (following (Some i) x z [] []) (naming x [])) (same_id i)
-        ∙ ap (λ q. cond q (record { pair = record { even = 2 * (b / 2); aux = is_odd b; odd = 0 }; id = Some i; rest = [] }) (record { pair = record { even = 1; aux = true; odd = b }; id = Some 0; rest = [] })) (null_not i m.0))
+      (ap (λ q. cond q (following (Some i) x z [] []) (naming x [])) (same_id i)
+      ∙ ap (λ q. cond q (record { pair = record { even = 2 * (b / 2); aux = is_odd b; odd = 0 }; id = Some i; rest = [] }) (record { pair = record { even = 1; aux = true; odd = b }; id = Some 0; rest = [] })) (null_not i m.0))
       ∙ out_of_middle every halves n pairs (record { even = 1; aux = true; odd = b }) (Some 0) []
       ∙ ap (λ (y : ℕ). continued every halves n (pairs ++ record { even = 1; aux = true; odd = y } ∷ []) (Some 0) None []) same
       ∙ ap (λ (l : List Pair). continued every halves n l (Some 0) None []) (sym k)

@@ -62,12 +62,12 @@ has_pair : (done pairs : List Pair) (p : Pair) (even : ℕ) (last : Bool) → le
 has_pair done pairs p even last h =
     let tail = even ∷ (aux_byte (done ++ (p ∷ pairs)) last ∷ []) in
     let parts : frame_of (done ++ (p ∷ pairs)) even last ≡ flat done ++ (p.even ∷ (p.odd ∷ (flat pairs ++ tail))) =
-        ap (λ (l : List ℕ). l ++ tail) (flat_append done (p ∷ pairs)) ∙ append_assoc (flat done) (flat (p ∷ pairs)) tail in
+    ap (λ (l : List ℕ). l ++ tail) (flat_append done (p ∷ pairs)) ∙ append_assoc (flat done) (flat (p ∷ pairs)) tail in
     let end : slice_index (frame_of (done ++ (p ∷ pairs)) even last) 15 ≡ aux_byte (done ++ (p ∷ pairs)) last =
-        ap (λ (n : ℕ). slice_index (frame_of (done ++ (p ∷ pairs)) even last) (2 * n + 1)) (sym h) ∙ stands_at (done ++ (p ∷ pairs)) tail 1 in
+    ap (λ (n : ℕ). slice_index (frame_of (done ++ (p ∷ pairs)) even last) (2 * n + 1)) (sym h) ∙ stands_at (done ++ (p ∷ pairs)) tail 1 in
     record {
       even = ap (λ (l : List ℕ). slice_index l (2 * length done)) parts ∙ ap (λ (n : ℕ). slice_index (flat done ++ (p.even ∷ (p.odd ∷ (flat pairs ++ tail)))) n) (let e : 2 * length done ≡ 2 * length done + 0 = omega arith in e)
-        ∙ stands_at done (p.even ∷ (p.odd ∷ (flat pairs ++ tail))) 0;
+          ∙ stands_at done (p.even ∷ (p.odd ∷ (flat pairs ++ tail))) 0;
       odd = ap (λ (l : List ℕ). slice_index l (2 * length done + 1)) parts ∙ stands_at done (p.even ∷ (p.odd ∷ (flat pairs ++ tail))) 1;
       aux = ap (λ (n : ℕ). bit_at n (length done)) end ∙ aux_at done pairs p last;
     }
@@ -182,7 +182,7 @@ module _ (frame offsets : List ℕ) (before : Option ℕ) where
         id = Some j;
         run = run + 1;
         cells = odd_seen k run id (ap (λ (n : ℕ). n % 2 == 1) p.even ∙ odd_names j) (defers frame before id k run h (λ z. (let y : 1 ≡ 0 = sym p.aux ∙ z in absurd (omega arith))) f)
-          ∙ ap (λ (q : Option ℕ × ℕ). q ∷ []) (same_seen id (Some (first t).id) _ (first t).byte e p.odd);
+            ∙ ap (λ (q : Option ℕ × ℕ). q ∷ []) (same_seen id (Some (first t).id) _ (first t).byte e p.odd);
         bytes = (one t).1;
         force = named_then k j run id h l p.even f;
         knows = refl;
@@ -196,16 +196,16 @@ module _ (frame offsets : List ℕ) (before : Option ℕ) where
       let y = first (behind t) in
       let n : (slice_index frame (2 * k) % 2 == 1) ≡ false = ap (λ (m : ℕ). m % 2 == 1) p.even ∙ even_not x.byte in
       let whole : even_data frame k ≡ x.byte =
-          ap (λ (m : ℕ). 2 * (m / 2) + aux_bit frame k) p.even ∙ ap (λ (m : ℕ). 2 * (2 * (x.byte / 2) / 2) + m) (p.aux ∙ bit_odd x.byte) ∙ (let w : 2 * (2 * (x.byte / 2) / 2) + x.byte % 2 ≡ x.byte = omega arith in w) in
+      ap (λ (m : ℕ). 2 * (m / 2) + aux_bit frame k) p.even ∙ ap (λ (m : ℕ). 2 * (2 * (x.byte / 2) / 2) + m) (p.aux ∙ bit_odd x.byte) ∙ (let w : 2 * (2 * (x.byte / 2) / 2) + x.byte % 2 ≡ x.byte = omega arith in w) in
       record {
         taken = x ∷ (y ∷ []);
         nulls = (two t).0;
         id = id;
         run = run;
         cells = ap (λ (l : List Cell). map seen (l ++ odd_cells frame offsets before k)) (even_is frame offsets before k run x.byte id n f (sym whole))
-          ∙ ap (λ (l : List Cell). map seen ((made (slice_index offsets (2 * k)) id run x.byte ∷ []) ++ l)) (odd_is frame offsets before k run id (passes_odd frame before id k run h n f))
-          ∙ ap (λ (q : Option ℕ × ℕ). q ∷ ((id, slice_index frame (2 * k + 1)) ∷ [])) (same_seen id (Some x.id) x.byte x.byte e refl)
-          ∙ ap (λ (q : Option ℕ × ℕ). as_seen x ∷ (q ∷ [])) (same_seen id (Some y.id) _ y.byte (e ∙ ap (λ (m : ℕ). Some m) (sym s)) p.odd);
+            ∙ ap (λ (l : List Cell). map seen ((made (slice_index offsets (2 * k)) id run x.byte ∷ []) ++ l)) (odd_is frame offsets before k run id (passes_odd frame before id k run h n f))
+            ∙ ap (λ (q : Option ℕ × ℕ). q ∷ ((id, slice_index frame (2 * k + 1)) ∷ [])) (same_seen id (Some x.id) x.byte x.byte e refl)
+            ∙ ap (λ (q : Option ℕ × ℕ). as_seen x ∷ (q ∷ [])) (same_seen id (Some y.id) _ y.byte (e ∙ ap (λ (m : ℕ). Some m) (sym s)) p.odd);
         bytes = (two t).1;
         force = passes frame before id k run h n f;
         knows = kn;
@@ -267,7 +267,7 @@ module _ (frame offsets : List ℕ) (before : Option ℕ) where
       let x = first t in
       let n : names frame 7 ≡ false = ap (λ (m : ℕ). m % 2 == 1) p ∙ even_not x.byte in
       let whole : even_data frame 7 ≡ x.byte =
-          ap (λ (m : ℕ). 2 * (m / 2) + aux_bit frame 7) p ∙ ap (λ (m : ℕ). 2 * (2 * (x.byte / 2) / 2) + m) (q ∙ bit_odd x.byte) ∙ (let w : 2 * (2 * (x.byte / 2) / 2) + x.byte % 2 ≡ x.byte = omega arith in w) in
+      ap (λ (m : ℕ). 2 * (m / 2) + aux_bit frame 7) p ∙ ap (λ (m : ℕ). 2 * (2 * (x.byte / 2) / 2) + m) (q ∙ bit_odd x.byte) ∙ (let w : 2 * (2 * (x.byte / 2) / 2) + x.byte % 2 ≡ x.byte = omega arith in w) in
       record {
         taken = x ∷ [];
         nulls = (one t).0;
@@ -318,24 +318,24 @@ module _ (frame offsets : List ℕ) (before : Option ℕ) where
       let e : k ≡ 7 = omega arith in
       subst (λ (g : Filled). WalksFilled k zero t g) (sym (filled_zero c t))
       (λ p. subst (λ (n : ℕ). Walks t (even_cells frame offsets before n) (record { pairs = []; end = closed c t }) (id_after frame before)) (sym e)
-        (lasts run c id t a (at_seven k run id e f) kn (ap (λ (n : ℕ). slice_index frame (2 * n)) (sym e) ∙ p.0) (ap (λ (n : ℕ). aux_bit frame n) (sym e) ∙ p.1)))
+      (lasts run c id t a (at_seven k run id e f) kn (ap (λ (n : ℕ). slice_index frame (2 * n)) (sym e) ∙ p.0) (ap (λ (n : ℕ). aux_bit frame n) (sym e) ∙ p.1)))
   walks (suc r) k run c id t s a f kn =
       subst (λ (g : Filled). WalksFilled k (suc r) t g) (sym (filled_suc r c t))
       (λ p.
-        let q = carries k run c id t (omega arith) a f kn p.0 in
-        let more = walks r (suc k) q.run (paired c t).id q.id (paired c t).rest (omega arith) q.ids
-          (subst (λ (n : ℕ). IsInForce frame before (2 * n) q.id q.run) (let n : k + 1 ≡ suc k = omega arith in n) q.force) q.knows p.1 in
-        record {
-          taken = q.taken ++ more.taken;
-          nulls = q.nulls + more.nulls;
-          cells = map-append seen (even_cells frame offsets before k ++ odd_cells frame offsets before k) (cells_from (suc k) r)
+      let q = carries k run c id t (omega arith) a f kn p.0 in
+      let more = walks r (suc k) q.run (paired c t).id q.id (paired c t).rest (omega arith) q.ids
+      (subst (λ (n : ℕ). IsInForce frame before (2 * n) q.id q.run) (let n : k + 1 ≡ suc k = omega arith in n) q.force) q.knows p.1 in
+      record {
+        taken = q.taken ++ more.taken;
+        nulls = q.nulls + more.nulls;
+        cells = map-append seen (even_cells frame offsets before k ++ odd_cells frame offsets before k) (cells_from (suc k) r)
             ∙ ap (λ (l : List (Option ℕ × ℕ)). l ++ map seen (cells_from (suc k) r)) q.cells
             ∙ ap (λ (l : List (Option ℕ × ℕ)). map as_seen q.taken ++ l) more.cells ∙ sym (map-append as_seen q.taken more.taken);
-          bytes = joined q.taken more.taken (paired c t).rest (filled r (paired c t).id (paired c t).rest).end.rest t q.nulls more.nulls q.bytes more.bytes;
-          id = more.id;
-          named = more.named;
-          ids = more.ids;
-        })
+        bytes = joined q.taken more.taken (paired c t).rest (filled r (paired c t).id (paired c t).rest).end.rest t q.nulls more.nulls q.bytes more.bytes;
+        id = more.id;
+        named = more.named;
+        ids = more.ids;
+      })
 
   from_below : (r k : ℕ) → cells_below frame offsets before k ++ cells_from k r ≡ cells_below frame offsets before (k + r) ++ even_cells frame offsets before (k + r)
   from_below zero k = ap (λ (n : ℕ). cells_below frame offsets before n ++ even_cells frame offsets before n) (let e : k ≡ k + zero = omega arith in e)
@@ -356,16 +356,14 @@ has_all offsets before done [] e h =
     let frame = frame_of (done ++ []) e.even e.aux in
     let tail = e.even ∷ (aux_byte (done ++ []) e.aux ∷ []) in
     let l : length (done ++ []) ≡ length done = ap length same in
-    let end : slice_index frame 15 ≡ aux_byte (done ++ []) e.aux = ap (λ (n : ℕ). slice_index frame (2 * n + 1)) (sym h) ∙ stands_at (done ++ []) tail 1 in
-    (
+    let end : slice_index frame 15 ≡ aux_byte (done ++ []) e.aux = ap (λ (n : ℕ). slice_index frame (2 * n + 1)) (sym h) ∙ stands_at (done ++ []) tail 1 in (
       ap (λ (n : ℕ). slice_index frame n) (let k : 2 * length done ≡ 2 * length (done ++ []) + 0 = omega arith in k) ∙ stands_at (done ++ []) tail 0,
       ap (λ (n : ℕ). bit_at n (length done)) (end ∙ ap (λ (d : List Pair). aux_byte d e.aux) same) ∙ aux_last done e.aux,
     )
 has_all offsets before done (p ∷ pairs) e h =
     let again : done ++ (p ∷ pairs) ≡ (done ++ p ∷ []) ++ pairs = sym (append_assoc done (p ∷ []) pairs) in
     let more = has_all offsets before (done ++ p ∷ []) pairs e (ap length (sym again) ∙ h) in
-    let moved = subst (λ (d : List Pair). HasPairs (frame_of d e.even e.aux) offsets before (length (done ++ p ∷ [])) (record { pairs = pairs; end = e })) (sym again) more in
-    (
+    let moved = subst (λ (d : List Pair). HasPairs (frame_of d e.even e.aux) offsets before (length (done ++ p ∷ [])) (record { pairs = pairs; end = e })) (sym again) more in (
       has_pair done pairs p e.even e.aux h,
       subst (λ (n : ℕ). HasPairs (frame_of (done ++ (p ∷ pairs)) e.even e.aux) offsets before n (record { pairs = pairs; end = e })) (let k : length (done ++ p ∷ []) ≡ suc (length done) = length_push done p ∙ (let q : length done + 1 ≡ suc (length done) = omega arith in q) in k) moved,
     )

@@ -39,14 +39,20 @@ words : (h m : ℕ) (pairs : List Pair) (e a : ℕ) → NoMarks pairs → e ≢ 
 words h m [] e a n k =
     let z = m + length (half_spelling h) in
     let x = byte_at z e in
-    let y = byte_at (z + 1) a in
-    (
+    let y = byte_at (z + 1) a in (
       x ∷ (y ∷ []),
       refl,
       (
-        h, 0, x, y, [], [],
+        h,
+        0,
+        x,
+        y,
+        [],
+        [],
         record { before = placed_from m (half_spelling h); halves_are = units_placed m (half_spelling h); proper = k; parts = placed_from_append m (half_spelling h) (e ∷ (a ∷ [])) },
-        refl, refl, (refl, refl, refl)
+        refl,
+        refl,
+        (refl, refl, refl),
       ),
     )
 words h m (p ∷ pairs) e a n k =
@@ -54,20 +60,26 @@ words h m (p ∷ pairs) e a n k =
     let x = byte_at z p.even in
     let y = byte_at (z + 1) p.odd in
     let more = words h (z + 1 + 1) pairs e a n.1 k in
-    let w = placed_from (z + 1 + 1) (half_spelling h ++ (spread h pairs ++ (e ∷ (a ∷ [])))) in
-    (
+    let w = placed_from (z + 1 + 1) (half_spelling h ++ (spread h pairs ++ (e ∷ (a ∷ [])))) in (
       x ∷ (y ∷ more.0),
       ap (λ (l : List ℕ). p.even ∷ (p.odd ∷ l)) more.1,
       (
-        h, halves_in h pairs, x, y, more.0, w,
+        h,
+        halves_in h pairs,
+        x,
+        y,
+        more.0,
+        w,
         record {
           before = placed_from m (half_spelling h);
           halves_are = units_placed m (half_spelling h);
           proper = n.0;
           parts = placed_from_append m (half_spelling h) (spread h (p ∷ pairs) ++ (e ∷ (a ∷ [])))
-            ∙ ap (λ (l : List ℕ). placed_from m (half_spelling h) ++ (x ∷ (y ∷ placed_from (z + 1 + 1) l))) (append_assoc (half_spelling h) (spread h pairs) (e ∷ (a ∷ [])));
+              ∙ ap (λ (l : List ℕ). placed_from m (half_spelling h) ++ (x ∷ (y ∷ placed_from (z + 1 + 1) l))) (append_assoc (half_spelling h) (spread h pairs) (e ∷ (a ∷ [])));
         },
-        refl, refl, more.2
+        refl,
+        refl,
+        more.2,
       ),
     )
 
@@ -79,13 +91,15 @@ one_frame h m (p ∷ pairs) e a l n k =
     let x = byte_at m p.even in
     let y = byte_at (m + 1) p.odd in
     let more = words h (m + 1 + 1) pairs e a n.1 k in
-    let w = placed_from (m + 1 + 1) (half_spelling h ++ (spread h pairs ++ (e ∷ (a ∷ [])))) in
-    (
+    let w = placed_from (m + 1 + 1) (half_spelling h ++ (spread h pairs ++ (e ∷ (a ∷ [])))) in (
       x ∷ (y ∷ more.0),
       halves_in h pairs,
       ap (λ (l : List ℕ). p.even ∷ (p.odd ∷ l)) more.1,
       (
-        x, y, more.0, w,
+        x,
+        y,
+        more.0,
+        w,
         record {
           before = [];
           halves_are = refl;
@@ -93,7 +107,7 @@ one_frame h m (p ∷ pairs) e a l n k =
           parts = ap (λ (l : List ℕ). x ∷ (y ∷ placed_from (m + 1 + 1) l)) (append_assoc (half_spelling h) (spread h pairs) (e ∷ (a ∷ [])));
         },
         refl,
-        subst (λ (s : ℕ). IsWords s (halves_in h pairs) more.0 w) (let q : suc (length pairs) ≡ 7 = omega arith in q) more.2
+        subst (λ (s : ℕ). IsWords s (halves_in h pairs) more.0 w) (let q : suc (length pairs) ≡ 7 = omega arith in q) more.2,
       ),
     )
 
@@ -173,19 +187,18 @@ adds_last : (u a : List Placed) (l : Placed) (id : Option ℕ) (p : Piece) → C
 adds_last u a l id p c s =
     let more : List (Piece × Place) = c.items ++ (p, l.place) ∷ [] in
     let reads : port_progress (u ++ (a ++ l ∷ [])) ≡ whole_pieces more =
-        progress_append (record { items = []; rest = []; fault = None; state = start }) u (a ++ l ∷ [])
-        ∙ ap (λ (q : Progress State Piece). progress_from rule start q (a ++ l ∷ [])) c.reads
-        ∙ spelled_reads rule start Spells why port_decided c.items p a l s in
-    let pieces : map piece_of more ≡ map piece_of c.items ++ p ∷ [] = map-append piece_of c.items ((p, l.place) ∷ []) in
-    (
+    progress_append (record { items = []; rest = []; fault = None; state = start }) u (a ++ l ∷ [])
+    ∙ ap (λ (q : Progress State Piece). progress_from rule start q (a ++ l ∷ [])) c.reads
+    ∙ spelled_reads rule start Spells why port_decided c.items p a l s in
+    let pieces : map piece_of more ≡ map piece_of c.items ++ p ∷ [] = map-append piece_of c.items ((p, l.place) ∷ []) in (
       record {
         items = more;
         reads = reads;
         id_is = ap (id_of_pieces None) pieces ∙ id_push None (map piece_of c.items) p ∙ ap (λ (z : Option ℕ). piece_id z p) c.id_is;
       },
       pieces_are (u ++ (a ++ l ∷ [])) more reads ∙ ap (cells_of_pieces None) pieces ∙ cells_push None (map piece_of c.items) p
-        ∙ ap (λ (z : Option ℕ). cells_of_pieces None (map piece_of c.items) ++ piece_cells z p) c.id_is
-        ∙ ap (λ (x : List Cell). x ++ piece_cells id p) (sym (pieces_are u c.items c.reads)),
+          ∙ ap (λ (z : Option ℕ). cells_of_pieces None (map piece_of c.items) ++ piece_cells z p) c.id_is
+          ∙ ap (λ (x : List Cell). x ++ piece_cells id p) (sym (pieces_are u c.items c.reads)),
     )
 
 adds : (u : List Placed) (b : Placed) (w : List Placed) (id : Option ℕ) (p : Piece) → Clean u id → Spells p (b ∷ w) → Adds u (u ++ (b ∷ w)) id p
@@ -298,8 +311,8 @@ module _ (every halves : ℕ) where
         id = after;
         clean = subst (λ (l : List Placed). Clean l after) parts z.0;
         cells = ap (λ (l : List Placed). map seen (port_cells l)) (sym parts) ∙ ap (λ (l : List Cell). map seen l) (z.1 ∙ ap (λ (l : List Cell). l ++ piece_cells id (Frame one.0 one.1)) y.1)
-          ∙ map-append seen (port_cells u) (piece_cells id (Frame one.0 one.1))
-          ∙ ap (λ (l : List (Option ℕ × ℕ)). map seen (port_cells u) ++ l) (ap (λ (l : List ℕ). map seen (cells l (offsets_of one.0) id)) one.2 ∙ law.cells);
+            ∙ map-append seen (port_cells u) (piece_cells id (Frame one.0 one.1))
+            ∙ ap (λ (l : List (Option ℕ × ℕ)). map seen (port_cells u) ++ l) (ap (λ (l : List ℕ). map seen (cells l (offsets_of one.0) id)) one.2 ∙ law.cells);
         bytes = law.bytes;
         knows = knows_named f.end.id after law.named.0 law.named.1 (ap (λ (l : List ℕ). id_after l id) one.2 ∙ law.id);
         ids = law.ids;
@@ -318,17 +331,17 @@ module _ (every halves : ℕ) where
       let more = law_by k (m + length w) (n + 1) (u ++ placed_from m w) f.end.id fr.id f.end.rest (omega arith) fr.clean fr.knows fr.ids in
       let later = concat (frames_by every halves k (n + 1) f.end.id f.end.rest) in
       let parts : (u ++ placed_from m w) ++ placed_from (m + length w) later ≡ u ++ placed_from m (concat (frames_by every halves (suc k) n c (x ∷ t))) =
-          append_assoc u (placed_from m w) (placed_from (m + length w) later) ∙ ap (λ (q : List Placed). u ++ q) (sym (placed_from_append m w later) ∙ ap (λ (q : List (List ℕ)). placed_from m (concat q)) (sym (by_some every halves k n c x t))) in
+      append_assoc u (placed_from m w) (placed_from (m + length w) later) ∙ ap (λ (q : List Placed). u ++ q) (sym (placed_from_append m w later) ∙ ap (λ (q : List (List ℕ)). placed_from m (concat q)) (sym (by_some every halves k n c x t))) in
       subst (λ (v : List Placed). Grown u v (x ∷ t)) parts
       (record {
         nulls = fr.nulls + more.nulls;
         id = more.id;
         clean = more.clean;
         cells = more.cells ∙ ap (λ (q : List (Option ℕ × ℕ)). q ++ map as_seen (f.end.rest ++ replicate more.nulls null)) fr.cells
-          ∙ append_assoc (map seen (port_cells u)) (map as_seen fr.taken) (map as_seen (f.end.rest ++ replicate more.nulls null))
-          ∙ ap (λ (q : List (Option ℕ × ℕ)). map seen (port_cells u) ++ q) (sym (map-append as_seen fr.taken (f.end.rest ++ replicate more.nulls null))
+            ∙ append_assoc (map seen (port_cells u)) (map as_seen fr.taken) (map as_seen (f.end.rest ++ replicate more.nulls null))
+            ∙ ap (λ (q : List (Option ℕ × ℕ)). map seen (port_cells u) ++ q) (sym (map-append as_seen fr.taken (f.end.rest ++ replicate more.nulls null))
             ∙ ap (map as_seen) (sym (append_assoc fr.taken f.end.rest (replicate more.nulls null)) ∙ ap (λ (q : List Tagged). q ++ replicate more.nulls null) fr.bytes
-              ∙ append_assoc (x ∷ t) (replicate fr.nulls null) (replicate more.nulls null) ∙ ap (λ (q : List Tagged). (x ∷ t) ++ q) (replicate-append-replicate fr.nulls more.nulls null)));
+            ∙ append_assoc (x ∷ t) (replicate fr.nulls null) (replicate more.nulls null) ∙ ap (λ (q : List Tagged). (x ∷ t) ++ q) (replicate-append-replicate fr.nulls more.nulls null)));
       })
 
   grown : (t : List Tagged) → AllIds t → Grown [] (placed (capture every halves t)) t

@@ -1,5 +1,5 @@
 -- The writer stands for the bytes put, by the frames still to come.
-use Rattle.std.proofs.Common.{◌≡◌, ℕ, ◌+◌, Bool, List, [], ◌∷◌, ◌++◌, refl, sym, ◌∙◌, ap, subst, append_assoc, append-nil, length, length-append}
+use Rattle.std.proofs.Common.{◌≡◌, ℕ, ◌+◌, Bool, List, [], ◌∷◌, ◌++◌, refl, sym, ◌∙◌, ap, arith, subst, append_assoc, append-nil, length, length-append}
 use Rattle.std.specs.List.{concat}
 use Rattle.std.proofs.lemmas.List.Folds.{concat-append}
 use Rattle.frame_writer.specs.declared.pair.Pair.{Pair}
@@ -35,6 +35,9 @@ module _ (every halves n : ℕ) (pairs : List Pair) (aux : Bool) (out : List ℕ
 pub nothing_before : (out : List ℕ) (x y : List (List ℕ)) → out ≡ [] → x ≡ y → x ≡ as_frame out ++ y
 nothing_before out x y e f = f ∙ ap (λ (l : List ℕ). as_frame l ++ y) (sym e)
 
+pub none_more : (out : List ℕ) (m : ℕ) → out ≡ [] → m ≡ m + length (as_frame out)
+none_more out m e = (let k : m ≡ m + 0 = omega arith in k) ∙ ap (λ (l : List ℕ). m + length (as_frame l)) (sym e)
+
 as_bytes : (out : List ℕ) → out ≡ concat (as_frame out)
 as_bytes [] = refl
 as_bytes (b ∷ out) = sym (append-nil (b ∷ out))
@@ -50,7 +53,7 @@ stands_put w v every halves x out so_far t p q s = record {
   bytes = ap (λ (l : List ℕ). l ++ out) s.bytes ∙ ap (λ (l : List ℕ). concat s.done ++ l) (as_bytes out) ∙ sym (concat-append s.done (as_frame out));
   count = q ∙ ap (λ (n : ℕ). n + length (as_frame out)) s.count ∙ sym (length-append s.done (as_frame out));
   completes = λ u. (ap (frames every halves) (append_assoc t (x ∷ []) u) ∙ s.completes (x ∷ u) ∙ ap (λ (l : List (List ℕ)). s.done ++ l) (p u)
-    ∙ sym (append_assoc s.done (as_frame out) (to_come v u)));
+      ∙ sym (append_assoc s.done (as_frame out) (to_come v u)));
 }
 
 -- what is written so far, and what is still to come

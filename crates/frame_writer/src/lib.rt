@@ -5,6 +5,8 @@ mod frame;
 pub mod laws;
 mod pair;
 pub mod rows;
+#[cfg(test)]
+mod tests;
 mod writer;
 
 pub use writer::FrameWriter;

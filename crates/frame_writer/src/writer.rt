@@ -68,17 +68,6 @@ impl FrameWriter {
         ensures to_come { (t : List Tagged) → to_come self.old (record { id = id; byte = byte } ∷ t) ≡ as_frame out.new.items ++ to_come self.new t }
         ensures count { appended self.new ≡ appended self.old + length (as_frame out.new.items) }
     {
-        self.take(id, byte, out)
-    }
-
-    /// Puts a byte behind the one that is held, if there is one.
-    fn take(&mut self, id: SourceId, byte: u8, out: &mut ArrayVec<u8, 264>)
-        requires source { 0 < id }
-        requires empty { out.old.items ≡ [] }
-        requires room { appended self.old < 2 ^ 60 }
-        ensures to_come { (t : List Tagged) → to_come self.old (record { id = id; byte = byte } ∷ t) ≡ as_frame out.new.items ++ to_come self.new t }
-        ensures count { appended self.new ≡ appended self.old + length (as_frame out.new.items) }
-    {
         match self.held {
             None => self.place(id, byte, out),
             Some(held) => {
@@ -185,19 +174,10 @@ impl FrameWriter {
         requires empty { out.old.items ≡ [] }
         ensures capture { (every halves : ℕ) → (t : List Tagged) → (so_far : List ℕ) → Stands self every halves t so_far →
             so_far ++ out.new.items ≡ capture every halves t }
-        ensures count { (every halves : ℕ) → (t : List Tagged) → (so_far : List ℕ) → Stands self every halves t so_far →
+        ensures frames { (every halves : ℕ) → (t : List Tagged) → (so_far : List ℕ) → Stands self every halves t so_far →
             result ≡ length (frames every halves t) }
         ensures to_come { as_frame out.new.items ≡ to_come self [] }
-        ensures few { result ≡ appended self + length (as_frame out.new.items) }
-    {
-        self.finish_frame(out)
-    }
-
-    /// Appends the unfinished frame, and gives the number of frames in all.
-    fn finish_frame(&mut self, out: &mut ArrayVec<u8, 264>) -> u64
-        requires empty { out.old.items ≡ [] }
-        ensures to_come { as_frame out.new.items ≡ to_come self.old [] }
-        ensures count { result ≡ self.old.frames + length (as_frame out.new.items) }
+        ensures count { result ≡ appended self + length (as_frame out.new.items) }
     {
         self.release();
         if self.pairs.is_empty() {
