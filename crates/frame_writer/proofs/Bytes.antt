@@ -1,8 +1,8 @@
 -- The bytes of a frame.
-use Rattle.std.proofs.Common.{◌≡◌, ℕ, zero, suc, ◌+◌, ◌-◌, ◌*◌, ◌<◌, ◌≤◌, List, [], ◌∷◌, ◌++◌, refl, sym, ◌∙◌, ap, arith, Bool, true, false, append_assoc, append-nil, length, drop, take}
+use Rattle.std.proofs.Common.{◌≡◌, ℕ, zero, suc, ◌+◌, ◌<◌, ◌≤◌, List, [], ◌∷◌, ◌++◌, refl, sym, ◌∙◌, ap, arith, Bool, true, false, append_assoc, append-nil, length}
 use Rattle.frame_grammar.specs.Port.{half_spelling}
 use Rattle.frame_writer.specs.declared.pair.Pair.{Pair}
-use Rattle.frame_writer.specs.Written.{bit, aux_byte, spread, frame_bytes, sync, is_due}
+use Rattle.frame_writer.specs.Written.{bit, aux_byte, spread, frame_bytes, sync}
 
 abbrev twice : ℕ → ℕ
 twice zero = 1

@@ -1,5 +1,5 @@
 -- A frame of the next tagged bytes has these bytes as its cells.
-use Rattle.std.proofs.Common.{◌≡◌, ℕ, zero, suc, ◌+◌, ◌-◌, ◌*◌, ◌/◌, ◌%◌, ◌^◌, ◌<◌, ◌≤◌, ◌≢◌, List, [], ◌∷◌, ◌++◌, refl, sym, ◌∙◌, ap, ◌⊎◌, inl, inr, arith, subst, Bool, true, false, cond, Option, None, Some, append_assoc, append-nil, length, length-append, get_or, replicate, map}
+use Rattle.std.proofs.Common.{◌≡◌, ℕ, zero, suc, ◌+◌, ◌*◌, ◌/◌, ◌%◌, ◌<◌, ◌≤◌, List, [], ◌∷◌, ◌++◌, refl, sym, ◌∙◌, ap, arith, subst, Bool, true, false, cond, Option, None, Some, append_assoc, append-nil, length, replicate, map}
 use Rattle.std.specs.Prelude.{◌==◌, slice_index, nat_le}
 use Rattle.std.specs.Int.{bit_at}
 use Rattle.std.proofs.lemmas.Bool.Decides.{nat_tests}
@@ -7,11 +7,11 @@ use Rattle.std.proofs.lemmas.Nat.Bits.{bit_at-suc, bit_at_lowest}
 use Rattle.std.proofs.lemmas.List.{length_push, get_or-append-add, map-append, replicate-append-replicate}
 use Rattle.trace_values.specs.Cells.{source_id}
 use Rattle.trace_values.specs.declared.cell.Cell.{Cell}
-use Rattle.frame_grammar.specs.Frame.{names, aux_bit, even_data, even_cells, odd_cells, cells_below, cells, id_at, id_after, IsInForce}
+use Rattle.frame_grammar.specs.Frame.{names, aux_bit, even_data, even_cells, odd_cells, cells_below, cells, id_after, IsInForce}
 use Rattle.frame_grammar.proofs.Looks.{passes, passes_odd, names_now, names_next, defers, starts}
 use Rattle.frame_grammar.proofs.Pairs.{made, even_is, even_no, odd_is}
 use Rattle.frame_writer.specs.declared.pair.Pair.{Pair}
-use Rattle.frame_writer.specs.Written.{Tagged, first, behind, is_id, is_odd, paired, closed, Paired, Closed, Filled, with_pair, filled, following, naming, bit, aux_byte}
+use Rattle.frame_writer.specs.Written.{Tagged, first, behind, is_id, is_odd, paired, closed, Paired, Closed, Filled, filled, following, naming, bit, aux_byte}
 use Rattle.frame_writer.specs.ReadBack.{seen, as_seen}
 use Rattle.frame_writer.proofs.Frames.{filled_zero, filled_suc, eq_of}
 use Rattle.frame_writer.proofs.Bytes.{bit_small}

@@ -11,14 +11,14 @@ use Rattle.trace_values.specs.Reading.{Progress, progress_from, advance}
 use Rattle.trace_values.proofs.Placing.{placed_from_append}
 use Rattle.trace_values.proofs.Wholes.{spelled_reads}
 use Rattle.frame_grammar.specs.Frame.{cells, id_after}
-use Rattle.frame_grammar.specs.Port.{Piece, Full, Half, Frame, half_spelling, IsWord, IsWords, IsFrame, Spells, why, State, start, rule}
-use Rattle.frame_grammar.specs.Reading.{port_reading, port_progress, port_cells, port_pieces, cells_of_pieces, id_of_pieces, piece_cells, piece_id, offsets_of, is_source}
+use Rattle.frame_grammar.specs.Port.{Piece, Full, Frame, half_spelling, IsWords, IsFrame, Spells, why, State, start, rule}
+use Rattle.frame_grammar.specs.Reading.{port_progress, port_cells, cells_of_pieces, id_of_pieces, piece_cells, piece_id, offsets_of, is_source}
 use Rattle.frame_grammar.proofs.Deciding.{port_decided}
 use Rattle.frame_writer.specs.declared.pair.Pair.{Pair}
-use Rattle.frame_writer.specs.Written.{Tagged, first, behind, is_id, is_odd, paired, closed, Paired, Closed, Filled, filled, with_pair, following, naming, spread, aux_byte, sync, is_due, known, frame_bytes, frames_by, frames, capture}
+use Rattle.frame_writer.specs.Written.{Tagged, first, behind, is_id, paired, Paired, Closed, Filled, filled, spread, aux_byte, sync, is_due, known, frame_bytes, frames_by, capture}
 use Rattle.frame_writer.specs.ReadBack.{IsOfSource, seen, as_seen, source_cells, ReadsBack}
 use Rattle.frame_writer.proofs.Frames.{filled_zero, filled_suc, filled_less, by_some, by_nothing}
-use Rattle.frame_writer.proofs.Law.{flat, frame_of, null, AllIds, Knows, Walks, frame_law, filled_length, first_id, behind_ids}
+use Rattle.frame_writer.proofs.Law.{flat, null, AllIds, Knows, frame_law, filled_length, first_id, behind_ids}
 
 units_placed : (m : ℕ) (l : List ℕ) → units_of (placed_from m l) ≡ l
 units_placed m [] = refl

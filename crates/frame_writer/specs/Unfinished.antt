@@ -1,5 +1,5 @@
 -- What follows an unfinished frame.
-use Rattle.std.specs.Prelude.{◌≡◌, ℕ, zero, suc, ◌+◌, ◌-◌, List, [], ◌∷◌, ◌++◌, length, Bool, true, false, not, ◌&&◌, Option, None, Some, nat_lt}
+use Rattle.std.specs.Prelude.{ℕ, ◌+◌, ◌-◌, List, [], ◌∷◌, ◌++◌, length, Bool, true, false, not, ◌&&◌, Option, None, Some, nat_lt}
 use Rattle.frame_writer.specs.declared.pair.Pair.{Pair}
 use Rattle.frame_writer.specs.Written.{Tagged, filled, frame_bytes, frames_from, is_due}
 

@@ -1,5 +1,5 @@
 -- The frames that a list of tagged bytes is written as (CoreSight Architecture Specification, formatter).
-use Rattle.std.specs.Prelude.{◌≡◌, ℕ, zero, suc, ◌+◌, ◌*◌, ◌/◌, ◌%◌, List, [], ◌∷◌, ◌++◌, length, Bool, true, false, not, ◌==◌, ◌&&◌, if◌then◌else◌, Option, None, Some}
+use Rattle.std.specs.Prelude.{ℕ, zero, suc, ◌+◌, ◌*◌, ◌/◌, ◌%◌, List, [], ◌∷◌, ◌++◌, length, Bool, true, false, not, ◌==◌, ◌&&◌, if◌then◌else◌, Option, None, Some}
 use Rattle.std.specs.List.{concat}
 use Rattle.frame_grammar.specs.Port.{half_spelling}
 use Rattle.frame_writer.specs.declared.pair.Pair.{Pair}

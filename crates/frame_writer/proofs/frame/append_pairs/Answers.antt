@@ -1,4 +1,4 @@
-use Rattle.std.proofs.Common.{ℕ, ◌+◌, arith, length, false}
+use Rattle.std.proofs.Common.{arith, false}
 use Rattle.std.proofs.lemmas.List.{take_more}
 use Rattle.frame_writer.proofs.Bytes.{spread_more}
 use Rattle.frame_writer.proofs.frame.append_pairs.Goals as goal

@@ -1,6 +1,4 @@
-use Rattle.std.proofs.Common.{◌≡◌, ℕ, List, [], ◌∷◌, ◌++◌, sym, ◌∙◌, ap, cond, Bool, true, false}
-use Rattle.frame_writer.specs.Written.{is_due}
-use Rattle.frame_writer.proofs.frame.append_sync.Goals as goal
+use Rattle.std.proofs.Common.{◌≡◌, ℕ, List, [], ◌∷◌, ◌++◌, ◌∙◌, ap, cond, Bool, true, false}
 
 synced : (b : Bool) → b ≡ true → cond {A = List ℕ} b (255 ∷ (255 ∷ (255 ∷ (127 ∷ [])))) [] ≡ 255 ∷ (255 ∷ (255 ∷ (127 ∷ [])))
 synced b e = ap (λ x. cond {A = List ℕ} x (255 ∷ (255 ∷ (255 ∷ (127 ∷ [])))) []) e

@@ -1,4 +1,4 @@
-use Rattle.std.proofs.Common.{◌≡◌, ℕ, ◌<◌, ◌≤◌, ◌-◌, length, [], None}
+use Rattle.std.proofs.Common.{◌≡◌, ◌<◌, ◌-◌, length, [], None}
 use Rattle.frame_writer.specs.Writer.{to_come}
 use Rattle.frame_writer.proofs.writer.FrameWriter.fill_pairs.Given as goal
 

@@ -1,4 +1,4 @@
-use Rattle.std.proofs.Common.{ap, ◌∙◌, sym, Option, ℕ, None, [], ◌≡◌, ◌+◌, arith, length, cond, Bool, true, false}
+use Rattle.std.proofs.Common.{ap, ◌∙◌, sym, ℕ, ◌≡◌, ◌+◌, arith, cond, Bool, false}
 use Rattle.std.proofs.lemmas.Bool.Decides.{nat_tests}
 use Rattle.frame_writer.specs.Written.{is_id}
 use Rattle.frame_writer.proofs.Frames.{idle, last_null}

@@ -1,4 +1,4 @@
-use Rattle.std.proofs.Common.{◌≡◌, ℕ, ◌+◌, ◌*◌, ◌/◌, sym, ◌∙◌, ap, arith, length, false, true}
+use Rattle.std.proofs.Common.{◌+◌, ◌*◌, ◌/◌, sym, ◌∙◌, ap, arith, false}
 use Rattle.frame_writer.specs.Written.{is_odd}
 use Rattle.frame_writer.proofs.Frames.{ended, ended_named}
 use Rattle.frame_writer.proofs.Standing.{respelled, then_others, one_more}

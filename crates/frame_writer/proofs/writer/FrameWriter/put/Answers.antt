@@ -1,4 +1,4 @@
-use Rattle.std.proofs.Common.{◌≡◌, ℕ, ◌+◌, ◌*◌, ◌/◌, ◌<◌, ◌++◌, ◌∷◌, [], sym, ◌∙◌, ap, arith, true, Some}
+use Rattle.std.proofs.Common.{◌+◌, ◌*◌, ◌++◌, ◌∷◌, [], sym, ◌∙◌, ap, arith, true}
 use Rattle.frame_writer.proofs.Frames.{followed, deferred, held_room}
 use Rattle.frame_writer.proofs.Standing.{nothing_before, none_more, stands_put}
 use Rattle.frame_writer.proofs.writer.FrameWriter.put.Goals as goal

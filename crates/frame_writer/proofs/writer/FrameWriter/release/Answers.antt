@@ -1,5 +1,5 @@
 use Rattle.frame_writer.proofs.Frames.{defers_null}
-use Rattle.std.proofs.Common.{ap, ◌∙◌, sym, Option, ℕ, None, [], ◌≡◌}
+use Rattle.std.proofs.Common.{ap, ◌∙◌, sym, Option, ℕ, None, []}
 use Rattle.frame_writer.specs.Unfinished.{continued}
 use Rattle.frame_writer.proofs.writer.FrameWriter.release.Goals as goal
 
