@@ -1,0 +1,5 @@
+pub mod Frames
+pub mod Bytes
+pub mod Law
+pub mod Standing
+pub mod ReadingBack

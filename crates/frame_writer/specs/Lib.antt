@@ -1,0 +1,5 @@
+pub mod Written
+pub mod Unfinished
+pub mod Writer
+pub mod ReadBack
+pub mod Rows

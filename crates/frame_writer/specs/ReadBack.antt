@@ -1,0 +1,31 @@
+-- A written capture, read again.
+use Rattle.std.specs.Prelude.{◌≡◌, ◌≢◌, ◌≤◌, ℕ, List, [], map, not, Option, None, Some}
+use Rattle.std.specs.List.{All, filter}
+use Rattle.trace_values.specs.Placed.{placed}
+use Rattle.trace_values.specs.declared.cell.Cell.{Cell}
+use Rattle.frame_grammar.specs.Reading.{port_reading, port_cells, is_source}
+use Rattle.frame_writer.specs.Written.{Tagged, capture}
+
+-- a byte of a source from 1 to 126
+pub record IsOfSource (x : Tagged) : Type 0 where
+  pub named : 1 ≤ x.id
+  pub in_range : x.id ≤ 126
+
+-- what is seen of a cell, and of a tagged byte: the ID and the byte
+abbrev pub seen : Cell → Option ℕ × ℕ
+seen c = (c.id, c.byte)
+
+abbrev pub as_seen : Tagged → Option ℕ × ℕ
+as_seen x = (Some x.id, x.byte)
+
+-- the cells of sources other than 0
+abbrev pub source_cells : List Cell → List Cell
+source_cells cs = filter (λ c. not (is_source 0 c.id)) cs
+
+-- The capture of t reads back as t, from its first byte on: there is no fault and no tail, each cell has
+-- an ID, and the cells of IDs other than 0 are t, in order.
+pub record ReadsBack (every halves : ℕ) (t : List Tagged) : Type 0 where
+  pub no_fault : (port_reading (placed (capture every halves t))).fault ≡ None
+  pub no_tail : (port_reading (placed (capture every halves t))).rest ≡ []
+  pub attributed : All (λ c. c.id ≢ None) (port_cells (placed (capture every halves t)))
+  pub cells : map seen (source_cells (port_cells (placed (capture every halves t)))) ≡ map as_seen t

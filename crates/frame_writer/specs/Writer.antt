@@ -1,0 +1,27 @@
+-- What a writer stands for.
+use Rattle.std.specs.Prelude.{◌≡◌, ℕ, List, [], ◌∷◌, ◌++◌, length}
+use Rattle.std.specs.List.{concat}
+use Rattle.frame_writer.specs.declared.writer.FrameWriter.{FrameWriter}
+use Rattle.frame_writer.specs.Written.{Tagged, frames}
+use Rattle.frame_writer.specs.Unfinished.{continued}
+
+-- the frames that it will still append when these bytes are put and it is finished
+abbrev pub to_come : FrameWriter → List Tagged → List (List ℕ)
+to_come w t = continued w.every w.halves w.frames w.pairs.items w.id w.held t
+
+-- how many frames it has appended
+abbrev pub appended : FrameWriter → ℕ
+appended w = w.frames
+
+-- what one call appended: no frame, or these bytes as one frame
+abbrev pub as_frame : List ℕ → List (List ℕ)
+as_frame [] = []
+as_frame (b ∷ out) = (b ∷ out) ∷ []
+
+-- It stands for the bytes t, of which so much is written: whole frames, as many as it counts, and
+-- whatever is put behind t, what is still to come completes the frames of the whole list.
+pub record Stands (w : FrameWriter) (every halves : ℕ) (t : List Tagged) (so_far : List ℕ) : Type 0 where
+  pub done : List (List ℕ)
+  pub bytes : so_far ≡ concat done
+  pub count : appended w ≡ length done
+  pub completes : (u : List Tagged) → frames every halves (t ++ u) ≡ done ++ to_come w u
