@@ -4,7 +4,7 @@ use Rattle.std.specs.Prelude.{◌==◌}
 use Rattle.std.specs.List.{sum_by}
 use Rattle.std.proofs.lemmas.Bool.Decides.{nat_tests}
 use Rattle.std.proofs.lemmas.List.{map-append}
-use Rattle.std.proofs.lemmas.List.Sums.{sum_by_push}
+use Rattle.std.proofs.lemmas.List.Sums.{sum_by_push, sum_by-append}
 use Rattle.trace_values.specs.declared.cell.Cell.{Cell}
 use Rattle.trace_values.specs.declared.fault.Reason.{Reason}
 use Rattle.trace_values.specs.declared.next.Next.{Next}
@@ -19,7 +19,7 @@ use Rattle.deformatter.specs.Growth.{place_at, PortGrows, PortSettled, PortRises
 use Rattle.deformatter.specs.Rule.{step_by, cells_by, id_by}
 use Rattle.deformatter.specs.declared.step.PortStep.TheVariants.{Quiet, Half as HalfEnds}
 use Rattle.deformatter.proofs.Lawful.{Lawful}
-use Rattle.deformatter.proofs.Ruling.{quiet_step, half_step}
+use Rattle.deformatter.proofs.Parts.{quiet_step, half_step}
 
 pub id_push : (id : Option ℕ) (l : List Piece) (p : Piece) → id_of_pieces id (l ++ p ∷ []) ≡ piece_id (id_of_pieces id l) p
 id_push id [] p = refl
@@ -111,6 +111,13 @@ stays skipped p b (Go t) f e = record { pieces = refl; halves = refl; fault = sy
 stays skipped p b (Stop v) f e = record { pieces = refl; halves = refl; fault = sym e; skipped = refl; locked = refl }
 stays skipped p b (Fail r) f e = record { pieces = refl; halves = refl; fault = sym e; skipped = refl; locked = refl }
 
+-- with more pieces no count is less
+pub no_less : (f : Piece → ℕ) (old new more : List (Piece × Place)) → new ≡ old ++ more → sum_by f (pieces_of old) ≤ sum_by f (pieces_of new)
+no_less f old new more e =
+    let k : sum_by f (pieces_of new) ≡ sum_by f (pieces_of old) + sum_by f (pieces_of more) =
+    ap (λ (l : List (Piece × Place)). sum_by f (pieces_of l)) e ∙ ap (sum_by f) (map-append (λ (x : Piece × Place). x.0) old more) ∙ sum_by-append f (pieces_of old) (pieces_of more) in
+    omega arith
+
 -- what is more stands at the byte
 pub rises : (skipped : ℕ) (p : Progress State Piece) (at byte : ℕ) (n : Next State Piece) → p.fault ≡ None → Lawful p.state n →
     PortRises (read_behind skipped p) (read_behind skipped (with_unit start p (byte_at at byte) n None)) at
@@ -121,6 +128,8 @@ rises skipped p at byte (Go t) f l = record {
   more_cells = [];
   cells = cells_fed skipped p (byte_at at byte) (Go t);
   halves = elim l.1 [ inl e ↦ omega (arith, e) | inr e ↦ omega (arith, e) ];
+  fulls = omega arith;
+  frames = omega arith;
   fault = subst (λ (g : Option (Place × Reason)). FaultAt at g None) (sym f) tt;
 }
 rises skipped p at byte (Stop v) f l = record {
@@ -130,6 +139,8 @@ rises skipped p at byte (Stop v) f l = record {
   more_cells = piece_cells (id_in (read_behind skipped p)) v;
   cells = cells_fed skipped p (byte_at at byte) (Stop v);
   halves = more v l;
+  fulls = no_less fulls_in p.items (p.items ++ (v, place_at at) ∷ []) ((v, place_at at) ∷ []) refl;
+  frames = no_less frames_in p.items (p.items ++ (v, place_at at) ∷ []) ((v, place_at at) ∷ []) refl;
   fault = subst (λ (g : Option (Place × Reason)). FaultAt at g None) (sym f) tt;
 } where
   more : (v : Piece) → Lawful p.state (Stop v) → sum_by halves_in (pieces_of p.items) + p.state.halves ≤ sum_by halves_in (pieces_of (p.items ++ (v, place_at at) ∷ [])) + 0
@@ -143,5 +154,7 @@ rises skipped p at byte (Fail e) f l = record {
   more_cells = [];
   cells = cells_fed skipped p (byte_at at byte) (Fail e);
   halves = omega arith;
+  fulls = omega arith;
+  frames = omega arith;
   fault = subst (λ (g : Option (Place × Reason)). FaultAt at g (Some (place_at at, e))) (sym f) refl;
 }

@@ -2,6 +2,7 @@
 use Rattle.std.proofs.Common.{◌≡◌, ◌≢◌, ℕ, zero, suc, ◌+◌, ◌*◌, ◌≤◌, List, [], ◌∷◌, ◌++◌, length, refl, sym, ◌∙◌, ap, ◌⊎◌, inl, inr, arith, subst, Bool, true, false, cond, length-append, Option, None, Some}
 use Rattle.std.specs.Prelude.{◌==◌}
 use Rattle.std.proofs.lemmas.Bool.Decides.{nat_tests}
+use Rattle.std.proofs.lemmas.List.{length_push}
 use Rattle.trace_values.specs.declared.fault.Reason.{Reason}
 use Rattle.trace_values.specs.declared.fault.Reason.TheVariants.{BadSync, SyncInFrame}
 use Rattle.trace_values.specs.declared.next.Next.{Next}
@@ -102,6 +103,18 @@ sound_from (b ∷ u) p s = sound_from u (advance rule start p b) (sound_on p b s
 pub sound : (u : List Placed) → Sound (progress rule start u).state
 sound u = sound_from u (unread start) (record { within = omega arith; none = λ _. refl; fits = tt })
 
--- a state counts the bytes of its rest
-pub counts : (s t : State) (b : Placed) → Sound s → rule s b ≡ Go t → count_of t ≡ count_of s + 1
-counts s t b k e = (subst (λ (n : Next State Piece). Lawful s n) e (lawful s b k)).2
+-- and its state counts the bytes of its rest
+counted_by : (p : Progress State Piece) (b : Placed) (n : Next State Piece) (f : Option (Place × Reason)) → p.fault ≡ f → Lawful p.state n →
+    (p.fault ≡ None → length p.rest ≡ count_of p.state) → (with_unit start p b n f).fault ≡ None → length (with_unit start p b n f).rest ≡ count_of (with_unit start p b n f).state
+counted_by p b (Go t) None f l h g = (let k = length_push p.rest b in let e = l.2 in let m = h f in omega arith)
+counted_by p b (Stop v) None f l h g = refl
+counted_by p b (Fail w) None f l h g = cc
+counted_by p b n (Some w) f l h g = cc
+
+counted_from : (u : List Placed) (p : Progress State Piece) → Sound p.state → (p.fault ≡ None → length p.rest ≡ count_of p.state) →
+    (progress_from rule start p u).fault ≡ None → length (progress_from rule start p u).rest ≡ count_of (progress_from rule start p u).state
+counted_from [] p s h g = h g
+counted_from (b ∷ u) p s h g = counted_from u (advance rule start p b) (sound_on p b s) (counted_by p b (rule p.state b) p.fault refl (lawful p.state b s) h) g
+
+pub counted : (u : List Placed) → (progress rule start u).fault ≡ None → length (progress rule start u).rest ≡ count_of (progress rule start u).state
+counted u g = counted_from u (unread start) (record { within = omega arith; none = λ _. refl; fits = tt }) (λ _. refl) g

@@ -1,6 +1,6 @@
 pub mod Zipping
 pub mod Lawful
-pub mod Ruling
+pub mod Parts
 pub mod Growing
 pub mod Readings
 pub mod ReadingLaws

@@ -1,13 +1,15 @@
 -- Laws of the reading of a port's bytes.
 use Rattle.std.proofs.Common.{◌≡◌, ℕ, suc, ◌+◌, ◌-◌, List, [], ◌∷◌, ◌++◌, refl, sym, ◌∙◌, ap, inl, inr, arith, subst, append_assoc, append-nil, Bool, true, false, Option, None, Some}
 use Rattle.std.specs.Prelude.{is_none}
+use Rattle.trace_values.specs.declared.cell.Cell.{Cell}
 use Rattle.trace_values.specs.declared.fault.Reason.{Reason}
 use Rattle.trace_values.specs.declared.next.Next.{Next}
-use Rattle.trace_values.specs.Placed.{Place, Placed, byte_at}
+use Rattle.trace_values.specs.Placed.{Place, Placed, byte_at, placed_from}
 use Rattle.trace_values.specs.Reading.{Progress, with_unit, advance}
 use Rattle.trace_values.specs.Stream.{FaultAt}
 use Rattle.trace_values.proofs.Standings.{some_of}
 use Rattle.frame_grammar.specs.Port.{Piece, Full, State, start, rule}
+use Rattle.frame_grammar.specs.Reading.{fulls_in, frames_in}
 use Rattle.deformatter.specs.Reading.{PortStream, read_behind, all_skipped, port_stream, cells_in}
 use Rattle.deformatter.specs.Growth.{place_at, PortSettled, PortRises}
 use Rattle.deformatter.proofs.Lawful.{lawful}
@@ -59,6 +61,8 @@ rises_settled a b at f e s = record {
   more_cells = [];
   cells = ap (λ (l : List (Piece × Place)). cells_in (record a { pieces = l })) s.pieces ∙ sym (append-nil (cells_in a));
   halves = (let k = s.halves in omega arith);
+  fulls = growing.no_less fulls_in a.pieces b.pieces [] (s.pieces ∙ sym (append-nil a.pieces));
+  frames = growing.no_less frames_in a.pieces b.pieces [] (s.pieces ∙ sym (append-nil a.pieces));
   fault = subst (λ (g : Option (Place × Reason)). FaultAt at g b.fault) (sym e) (s.fault ∙ e);
 }
 
@@ -77,8 +81,8 @@ rises_seeking u at byte e =
     subst (λ (s : PortStream). PortRises s (port_stream true (u ++ byte_at at byte ∷ [])) at) (sym (seeks_old u e))
     (subst (λ (s : PortStream). PortRises (all_skipped (port_hunt u).units) s at) (sym (seeks_new u at byte e)) (by (locks_at (port_hunt u) byte))) where
       by : (t : Bool) → PortRises (all_skipped (port_hunt u).units) (after (port_hunt u) at byte t) at
-      by true = record { more = (Full, place_at at) ∷ []; pieces = refl; all = (refl, tt); more_cells = []; cells = refl; halves = omega arith; fault = tt }
-      by false = record { more = []; pieces = refl; all = tt; more_cells = []; cells = refl; halves = omega arith; fault = tt }
+      by true = record { more = (Full, place_at at) ∷ []; pieces = refl; all = (refl, tt); more_cells = []; cells = refl; halves = omega arith; fulls = omega arith; frames = omega arith; fault = tt }
+      by false = record { more = []; pieces = refl; all = tt; more_cells = []; cells = refl; halves = omega arith; fulls = omega arith; frames = omega arith; fault = tt }
 
 -- with one more byte there is more, and nothing is taken back
 pub rises : (h : Bool) (u : List Placed) (at byte : ℕ) → PortRises (port_stream h u) (port_stream h (u ++ byte_at at byte ∷ [])) at
@@ -86,3 +90,15 @@ rises h u at byte = elim (by_mode h u) [
   | inl r ↦ rises_read h u at byte r r.progress.fault refl
   | inr m ↦ subst (λ (x : Bool). PortRises (port_stream x u) (port_stream x (u ++ byte_at at byte ∷ [])) at) (sym m.0) (rises_seeking u at byte m.1)
 ]
+
+-- with more bytes there are more cells, and none is taken back
+pub cells_grow : (h : Bool) (u : List Placed) (at : ℕ) (bytes : List ℕ) →
+    (more : List Cell) × (cells_in (port_stream h (u ++ placed_from at bytes)) ≡ cells_in (port_stream h u) ++ more)
+cells_grow h u at [] = ([], ap (λ (l : List Placed). cells_in (port_stream h l)) (append-nil u) ∙ sym (append-nil (cells_in (port_stream h u))))
+cells_grow h u at (b ∷ bytes) =
+    let one = rises h u at b in
+    let rest = cells_grow h (u ++ byte_at at b ∷ []) (at + 1) bytes in (
+      one.more_cells ++ rest.0,
+      ap (λ (l : List Placed). cells_in (port_stream h l)) (sym (append_assoc u (byte_at at b ∷ []) (placed_from (at + 1) bytes)))
+          ∙ rest.1 ∙ ap (λ (l : List Cell). l ++ rest.0) one.cells ∙ append_assoc (cells_in (port_stream h u)) one.more_cells rest.0,
+    )

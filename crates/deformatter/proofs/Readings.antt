@@ -8,15 +8,17 @@ use Rattle.trace_values.specs.declared.mode.Mode.TheVariants.{Aligned, Hunting, 
 use Rattle.trace_values.specs.Placed.{Place, Placed, units_of, byte_at}
 use Rattle.trace_values.specs.Reading.{Progress, with_unit, advance}
 use Rattle.trace_values.specs.Hunted.{pattern_of, Found, Hunt, run_after, begun, hunt_on, hunt_from, no_hunt, hunt}
-use Rattle.trace_values.specs.Moded.{StandsIn, hunts, is_locked}
+use Rattle.trace_values.specs.Moded.{StandsIn, hunts, is_locked, skipped_of}
 use Rattle.trace_values.proofs.Standings.{progress_push, none_of}
 use Rattle.trace_values.proofs.HuntedLemmas as hunting
 use Rattle.frame_grammar.specs.Port.{Piece, Full, State, Spells, why, start, rule}
 use Rattle.frame_grammar.specs.Reading.{port_progress}
 use Rattle.frame_grammar.proofs.Deciding.{port_decided}
 use Rattle.port_sync.specs.Hunting.{pattern}
+use Rattle.deformatter.specs.Rule.{count_of}
+use Rattle.deformatter.specs.Growth.{PortShows}
 use Rattle.deformatter.specs.Reading.{PortStream, read_behind, all_skipped, port_hunted, port_stream, IsHunt}
-use Rattle.deformatter.proofs.Lawful.{Sound, sound, sound_on}
+use Rattle.deformatter.proofs.Lawful.{Sound, sound, counted}
 
 apart : pattern.unit ≢ pattern.last
 apart e = omega (arith, e)
@@ -66,6 +68,7 @@ pub record IsRead (hunts : Bool) (u : List Placed) : Type 0 where
   pub progress : Progress State Piece
   pub skipped : ℕ
   pub sound : Sound progress.state
+  pub counted : progress.fault ≡ None → length progress.rest ≡ count_of progress.state
   pub old : port_stream hunts u ≡ read_behind skipped progress
   pub new : (b : Placed) → port_stream hunts (u ++ b ∷ []) ≡ read_behind skipped (advance rule start progress b)
 
@@ -74,6 +77,7 @@ aligned_reads u = record {
   progress = port_progress u;
   skipped = 0;
   sound = sound u;
+  counted = counted u;
   old = refl;
   new = λ b. ap (λ (p : Progress State Piece). read_behind 0 p) (progress_push rule start u b);
 }
@@ -81,11 +85,17 @@ aligned_reads u = record {
 pub locked_sound : (u : List Placed) (f : Found State Piece) → (port_hunt u).found ≡ Some f → Sound f.reading.state
 locked_sound u f e = let k = knew u (Some f) e in subst (λ (p : Progress State Piece). Sound p.state) (sym k.5) (sound k.1)
 
+pub locked_counted : (u : List Placed) (f : Found State Piece) → (port_hunt u).found ≡ Some f → f.reading.fault ≡ None → length f.reading.rest ≡ count_of f.reading.state
+locked_counted u f e =
+    let k = knew u (Some f) e in
+    subst (λ (p : Progress State Piece). p.fault ≡ None → length p.rest ≡ count_of p.state) (sym k.5) (counted k.1)
+
 abbrev pub locked_reads : (u : List Placed) (f : Found State Piece) → (port_hunt u).found ≡ Some f → IsRead true u
 locked_reads u f e = record {
   progress = f.reading;
   skipped = f.skipped;
   sound = locked_sound u f e;
+  counted = locked_counted u f e;
   old = ap (λ (o : Option (Found State Piece)). port_hunted (port_hunt u).units o) e;
   new = λ b. ap (λ (h : Hunt State Piece). port_hunted h.units h.found) (hunt_push u b (Some f) e);
 }
@@ -127,7 +137,7 @@ pub record IsReadAt (hunts : Bool) (s : State) (u : List Placed) : Type 0 where
   pub state : read.progress.state ≡ s
   pub fault : read.progress.fault ≡ None
 
-pub is_read : (m : Mode) (live : Bool) (s : State) (u : List Placed) → live ≡ true → is_locked m ≡ true → StandsIn pattern Full rule start m live s u → IsReadAt (hunts m) s u
+abbrev pub is_read : (m : Mode) (live : Bool) (s : State) (u : List Placed) → live ≡ true → is_locked m ≡ true → StandsIn pattern Full rule start m live s u → IsReadAt (hunts m) s u
 is_read Aligned live s u l k r = record {
   read = aligned_reads u;
   state = r.state_is l;
@@ -139,3 +149,44 @@ is_read (Locked skipped) live s u l k r = record {
   state = r.stands.state_is l;
   fault = none_of r.found.reading.fault (sym l ∙ r.stands.live_is);
 }
+
+-- what a machine shows that has locked, or that hunts
+shows_read : (m : Mode) (s : State) (u : List Placed) (skipped : ℕ) (r : IsReadAt (hunts m) s u) → is_locked m ≡ true → r.read.skipped ≡ skipped →
+    PortShows true (is_locked m) (count_of s) skipped (port_stream (hunts m) u)
+shows_read m s u skipped r k e =
+    subst (λ (x : PortStream). PortShows true (is_locked m) (count_of s) skipped x) (sym r.read.old) (record {
+      live_is = ap (λ (f : Option (Place × Reason)). is_none f) (sym r.fault);
+      locked_is = k;
+      tail_is = λ _. ap count_of (sym r.state) ∙ sym (r.read.counted r.fault);
+      skipped_is = λ _. sym e;
+    })
+
+not_true : (live : Bool) → live ≡ false → live ≡ true → ⊥
+not_true live e f = (let k : false ≡ true = sym e ∙ f in cc)
+
+shows_by : (m : Mode) (live : Bool) (s : State) (u : List Placed) → live ≡ false → is_locked m ≡ true → live ≡ is_none (port_stream (hunts m) u).fault → (port_stream (hunts m) u).locked ≡ true →
+    PortShows live (is_locked m) (count_of s) (skipped_of m) (port_stream (hunts m) u)
+shows_by m live s u l k e f = record {
+  live_is = e;
+  locked_is = k ∙ sym f;
+  tail_is = λ t. absurd (not_true live l t);
+  skipped_is = λ t. absurd (not_true live l t);
+}
+
+-- what a machine shows is what the reading of its list has
+pub shows : (m : Mode) (live : Bool) (s : State) (u : List Placed) → StandsIn pattern Full rule start m live s u →
+    PortShows live (is_locked m) (count_of s) (skipped_of m) (port_stream (hunts m) u)
+shows Aligned live s u r = by live refl where
+  by : (t : Bool) → live ≡ t → PortShows live true (count_of s) 0 (port_stream false u)
+  by true e = subst (λ (x : Bool). PortShows x true (count_of s) 0 (port_stream false u)) (sym e) (shows_read Aligned s u 0 (is_read Aligned live s u e refl r) refl refl)
+  by false e = shows_by Aligned live s u e refl r.live_is refl
+shows (Hunting run skipped) live s u r =
+    subst (λ (x : PortStream). PortShows live false (count_of s) skipped x) (sym (seeks_old u r.0.none ∙ ap all_skipped r.0.units_is))
+    (record { live_is = r.1; locked_is = refl; tail_is = λ _. ap count_of r.2; skipped_is = λ _. refl })
+shows (Locked skipped) live s u r = by live refl where
+  old : port_stream true u ≡ read_behind r.found.skipped r.found.reading
+  old = ap (λ (o : Option (Found State Piece)). port_hunted (port_hunt u).units o) r.some
+
+  by : (t : Bool) → live ≡ t → PortShows live true (count_of s) skipped (port_stream true u)
+  by true e = subst (λ (x : Bool). PortShows x true (count_of s) skipped (port_stream true u)) (sym e) (shows_read (Locked skipped) s u skipped (is_read (Locked skipped) live s u e refl r) refl r.skipped_is)
+  by false e = shows_by (Locked skipped) live s u e refl (r.stands.live_is ∙ ap (λ (x : PortStream). is_none x.fault) (sym old)) (ap (λ (x : PortStream). x.locked) old)

@@ -1,5 +1,5 @@
 -- How the reading of a port's bytes grows with one more byte, and what a step says of it.
-use Rattle.std.specs.Prelude.{◌≡◌, ◌⊎◌, ℕ, ◌+◌, ◌≤◌, List, [], ◌∷◌, ◌++◌, Bool, true, false, if◌then◌else◌, Option, None, Some}
+use Rattle.std.specs.Prelude.{◌≡◌, ◌⊎◌, ℕ, ◌+◌, ◌≤◌, List, [], ◌∷◌, ◌++◌, Bool, true, false, if◌then◌else◌, Option, None, Some, is_none}
 use Rattle.trace_values.specs.declared.cell.Cell.{Cell}
 use Rattle.trace_values.specs.declared.fault.Reason.{Reason}
 use Rattle.trace_values.specs.Placed.{Place, Placed}
@@ -68,6 +68,13 @@ pub record PortGrows (old new : PortStream) (at : ℕ) (step : PortStep) : Type 
   pub fault : new.fault ≡ fault_by step
   pub hunt : HuntBy old new at step
 
+-- What a deformatter shows of the reading of a list: of the tail and the skipped bytes only while it is live.
+pub record PortShows (live locked : Bool) (tail skipped : ℕ) (s : PortStream) : Type 0 where
+  pub live_is : live ≡ is_none s.fault
+  pub locked_is : locked ≡ s.locked
+  pub tail_is : live ≡ true → tail ≡ s.tail
+  pub skipped_is : live ≡ true → skipped ≡ s.skipped
+
 -- behind a fault nothing is read
 pub record PortSettled (old new : PortStream) : Type 0 where
   pub pieces : new.pieces ≡ old.pieces
@@ -89,4 +96,6 @@ pub record PortRises (old new : PortStream) (at : ℕ) : Type 0 where
   pub more_cells : List Cell
   pub cells : cells_in new ≡ cells_in old ++ more_cells
   pub halves : old.halves ≤ new.halves
+  pub fulls : fulls_of old ≤ fulls_of new
+  pub frames : frames_of old ≤ frames_of new
   pub fault : FaultAt at old.fault new.fault

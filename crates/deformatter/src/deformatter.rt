@@ -39,7 +39,7 @@ pub struct Deformatter {
 }
 
 impl Deformatter {
-    ghost use Rattle.std.specs.Prelude.{◌^◌, ◌++◌, [], ◌∷◌, List, false};
+    ghost use Rattle.std.specs.Prelude.{◌^◌, ◌++◌, [], ◌∷◌, List, false, is_none};
     ghost use Rattle.port_sync.specs.Hunting.{run_of};
     ghost use Rattle.trace_values.specs.Placed.{Placed, byte_at};
     ghost use Rattle.trace_values.specs.Standing.{live_after, state_after};
@@ -92,14 +92,16 @@ impl Deformatter {
     /// False exactly behind a fault.
     #[inline]
     pub fn is_live(&self) -> bool
-        ensures { result ≡ is_live self.now }
+        ensures value { result ≡ is_live self.now }
+        ensures list { (u : List Placed) → IsOf self.now u → result ≡ is_none (port_stream (is_hunter self.now) u).fault }
     {
         self.aligner.is_live()
     }
 
     /// True from the start where the reading begins with the first byte, and else from the lock on.
     pub fn is_locked(&self) -> bool
-        ensures { result ≡ has_locked self.now }
+        ensures value { result ≡ has_locked self.now }
+        ensures list { (u : List Placed) → IsOf self.now u → result ≡ (port_stream (is_hunter self.now) u).locked }
     {
         match self.phase {
             Phase::Hunting => false,
@@ -110,7 +112,8 @@ impl Deformatter {
     /// How many bytes stand before the pattern that it hunted; before the lock, all bytes so far.
     pub fn skipped(&self) -> u64
         requires { is_live self.now ≡ true }
-        ensures { result ≡ skipped_by self.now }
+        ensures value { result ≡ skipped_by self.now }
+        ensures list { (u : List Placed) → IsOf self.now u → result ≡ (port_stream (is_hunter self.now) u).skipped }
     {
         match self.phase {
             Phase::Aligned => 0,
@@ -122,7 +125,8 @@ impl Deformatter {
     /// inside an unfinished frame too; 0 before the lock.
     pub fn tail(&self) -> u64
         requires { is_live self.now ≡ true }
-        ensures { result ≡ tail_of self.now }
+        ensures value { result ≡ tail_of self.now }
+        ensures list { (u : List Placed) → IsOf self.now u → result ≡ (port_stream (is_hunter self.now) u).tail }
     {
         self.frame.len() as u64 + 2 * self.frame.halves() + u64::from(self.aligner.len())
     }
@@ -199,6 +203,217 @@ impl Deformatter {
                 half: 0,
                 reason,
             }),
+        }
+    }
+}
+
+#[cfg(test)]
+mod tests {
+    use super::*;
+    use std::process::Abort;
+    use trace_values::Reason;
+
+    /// More bytes than any test has.
+    const MANY: u64 = 1 << 20;
+
+    /// A half synchronisation, a frame whose ID 16 is deferred by one byte, and a full synchronisation.
+    const CAPTURE: [u8; 22] = *b"\xff\x7f\x21\xff\xfe\xff\xfe\xff\xfe\xff\xfe\xff\xfe\xff\xfe\xff\xfe\xff\xff\xff\xff\x7f";
+
+    /// Takes the byte, with the frame's cells in `out`.
+    fn feed(
+        rt: &impl Abort,
+        port: &mut Deformatter,
+        at: usize,
+        byte: u8,
+        out: &mut ArrayVec<Cell, 15>,
+    ) -> PortStep {
+        out.clear();
+        assert!(rt; port.is_live());
+        assert!(rt; port.tail() < MANY && port.skipped() < MANY);
+        port.feed(at as u64, byte, out)
+    }
+
+    /// Takes these bytes, which must give these steps at these offsets, and no step at any other, and
+    /// leave so long a tail behind so many skipped bytes.
+    fn expect(
+        rt: &impl Abort,
+        mut port: Deformatter,
+        bytes: &[u8],
+        steps: &[(usize, PortStep)],
+        tail: u64,
+        skipped: u64,
+    ) {
+        let mut out = ArrayVec::new();
+        let mut next = 0;
+        for (at, byte) in bytes.iter().enumerate() {
+            let step = feed(rt, &mut port, at, *byte, &mut out);
+            let wanted = match steps.get(next) {
+                Some((place, step)) if *place == at => {
+                    next = next.wrapping_add(1);
+                    *step
+                }
+                _ => PortStep::Quiet,
+            };
+            assert_eq!(rt; step, wanted, "{bytes:?} at {at}");
+            assert_eq!(rt; out.is_empty(), step != PortStep::Frame, "{bytes:?} at {at}");
+        }
+        assert_eq!(rt; next, steps.len());
+        if port.is_live() {
+            assert_eq!(rt; port.tail(), tail, "{bytes:?}");
+            assert_eq!(rt; port.skipped(), skipped, "{bytes:?}");
+        }
+    }
+
+    /// Takes these bytes, whose cells stand in runs of so many at neighbouring offsets, with one ID each.
+    fn expect_ids(
+        rt: &impl Abort,
+        mut port: Deformatter,
+        bytes: &[u8],
+        runs: &[(usize, usize, Option<u8>)],
+    ) {
+        let mut out = ArrayVec::new();
+        let mut cells = 0usize;
+        for (at, byte) in bytes.iter().enumerate() {
+            feed(rt, &mut port, at, *byte, &mut out);
+            for cell in out.iter() {
+                let (offset, id) = place_of(runs, cells);
+                assert_eq!(rt; cell.at, offset as u64);
+                assert_eq!(rt; cell.id, id.and_then(SourceId::new), "{bytes:?} at {at}");
+                cells = cells.wrapping_add(1);
+            }
+        }
+        let all = runs.iter().fold(0usize, |sum, run| sum.wrapping_add(run.1));
+        assert_eq!(rt; cells, all, "{bytes:?}");
+    }
+
+    /// The offset and the ID of so manieth a cell.
+    fn place_of(runs: &[(usize, usize, Option<u8>)], cell: usize) -> (usize, Option<u8>) {
+        let mut before = cell;
+        for (from, count, id) in runs {
+            if before < *count {
+                return (from.wrapping_add(before), *id);
+            }
+            before -= *count;
+        }
+        (0, None)
+    }
+
+    fn fault(at: u64, reason: Reason) -> PortStep {
+        PortStep::Fault(Fault {
+            at,
+            half: 0,
+            reason,
+        })
+    }
+
+    #[test]
+    fn reads_from_the_first_byte(rt: HostRuntime) {
+        let aligned = [
+            (1, PortStep::Half),
+            (17, PortStep::Frame),
+            (21, PortStep::Full),
+        ];
+        expect(&rt, Deformatter::aligned(), &CAPTURE, &aligned, 0, 0);
+        expect_ids(
+            &rt,
+            Deformatter::aligned(),
+            &CAPTURE,
+            &[(3, 1, None), (4, 13, Some(16))],
+        );
+
+        let bad = Reason::BadSync;
+        let faults: [(&[u8], u64, Reason); 5] = [
+            (b"\xff\0", 1, bad),
+            (b"\x03\0\0\0\0\0\xff\xff", 7, Reason::SyncInFrame),
+            (b"\xff\xff\x7f", 2, bad),
+            (b"\xff\xff\xff\xff", 3, bad),
+            (b"\xff\xff\xff\0", 3, bad),
+        ];
+        for (bytes, at, reason) in faults {
+            let steps = [(at as usize, fault(at, reason))];
+            expect(&rt, Deformatter::aligned(), bytes, &steps, 0, 0);
+        }
+    }
+
+    #[test]
+    fn counts_the_tail(rt: HostRuntime) {
+        let steps = [(3, PortStep::Half), (5, PortStep::Half)];
+        let bytes = b"\x02\0\xff\x7f\xff\x7f\x02\x02\xff";
+        let tails = [0, 1, 2, 3, 4, 5, 6, 7, 8, 9];
+        for (len, tail) in tails.iter().enumerate() {
+            if len <= bytes.len() {
+                let count = (len > 3) as usize + (len > 5) as usize;
+                expect(
+                    &rt,
+                    Deformatter::aligned(),
+                    &bytes[..len],
+                    &steps[..count],
+                    *tail,
+                    0,
+                );
+            }
+        }
+        let half = [(1, PortStep::Half)];
+        expect(&rt, Deformatter::aligned(), b"\xff\x7f", &half, 0, 0);
+        expect(&rt, Deformatter::aligned(), b"\xff\x7f\xff\xff\xff", &half, 3, 0);
+    }
+
+    #[test]
+    fn hunts_for_a_full_synchronisation(rt: HostRuntime) {
+        let locked = [(21, PortStep::Locked { skipped: 18 })];
+        expect(&rt, Deformatter::hunting(), &CAPTURE, &locked, 0, 18);
+        let ones = [0xFF; 4096];
+        expect(&rt, Deformatter::hunting(), &ones, &[], 0, 4096);
+        expect(
+            &rt,
+            Deformatter::aligned(),
+            &ones[..4],
+            &[(3, fault(3, Reason::BadSync))],
+            0,
+            0,
+        );
+    }
+
+    /// A full synchronisation, a frame of ID 1, a full synchronisation, and a frame that names no ID.
+    const SMALL: [u8; 40] = *b"\xff\xff\xff\x7f\x03\0\0\0\0\0\0\0\0\0\0\0\0\0\0\0\xff\xff\xff\x7f\0\0\0\0\0\0\0\0\0\0\0\0\0\0\0\0";
+
+    #[test]
+    fn hunts_behind_each_cut(rt: HostRuntime) {
+        let whole = [
+            (3, PortStep::Locked { skipped: 0 }),
+            (19, PortStep::Frame),
+            (23, PortStep::Full),
+            (39, PortStep::Frame),
+        ];
+        expect(&rt, Deformatter::hunting(), &SMALL, &whole, 0, 0);
+        // The ID stays in force over the full synchronisation.
+        let ids = [(5, 14, Some(1)), (24, 15, Some(1))];
+        expect_ids(&rt, Deformatter::hunting(), &SMALL, &ids);
+        expect_ids(&rt, Deformatter::aligned(), &SMALL, &ids);
+        for cut in 1..21 {
+            let skipped = 20 - cut;
+            let steps = [
+                (
+                    23 - cut,
+                    PortStep::Locked {
+                        skipped: skipped as u64,
+                    },
+                ),
+                (39 - cut, PortStep::Frame),
+            ];
+            let rest = &SMALL[cut..];
+            expect(&rt, Deformatter::hunting(), rest, &steps, 0, skipped as u64);
+            expect_ids(&rt, Deformatter::hunting(), rest, &[(24 - cut, 15, None)]);
+        }
+        for cut in 21..41 {
+            expect(
+                &rt,
+                Deformatter::hunting(),
+                &SMALL[cut..],
+                &[],
+                0,
+                40 - cut as u64,
+            );
         }
     }
 }
