@@ -1,6 +1,6 @@
 -- One more byte, in what a deformatter stands for.
-use Rattle.std.proofs.Common.{◌≡◌, ◌≢◌, ℕ, suc, ◌+◌, ◌-◌, ◌*◌, ◌≤◌, List, [], ◌∷◌, ◌++◌, refl, sym, ◌∙◌, ap, inl, inr, arith, subst, append-nil, Bool, true, false, cond, Option, None, Some}
-use Rattle.std.specs.Prelude.{is_none, ◌==◌, ◌&&◌, nat_le}
+use Rattle.std.proofs.Common.{◌≡◌, ℕ, suc, ◌+◌, ◌-◌, ◌*◌, ◌≤◌, List, [], ◌∷◌, ◌++◌, refl, sym, ◌∙◌, ap, arith, subst, Bool, true, false, cond, Option, None}
+use Rattle.std.specs.Prelude.{◌==◌, ◌&&◌, nat_le}
 use Rattle.std.proofs.lemmas.Bool.Decides.{nat_tests}
 use Rattle.trace_values.specs.declared.cell.Cell.{Cell}
 use Rattle.trace_values.specs.declared.fault.Reason.{Reason}
@@ -9,7 +9,7 @@ use Rattle.trace_values.specs.declared.next.Next.TheVariants.{Go, Stop, Fail}
 use Rattle.trace_values.specs.declared.mode.Mode.{Mode}
 use Rattle.trace_values.specs.declared.mode.Mode.TheVariants.{Hunting}
 use Rattle.trace_values.specs.Placed.{Place, Placed, byte_at}
-use Rattle.trace_values.specs.Reading.{Progress, with_unit, advance}
+use Rattle.trace_values.specs.Reading.{with_unit}
 use Rattle.trace_values.specs.Hunted.{Seeks}
 use Rattle.trace_values.specs.Moded.{StandsIn, hunts, is_locked}
 use Rattle.trace_values.specs.Standing.{live_after, state_after}
@@ -17,7 +17,7 @@ use Rattle.frame_grammar.specs.Port as port
 use Rattle.frame_grammar.specs.Port.{Piece, Full, State, start, rule}
 use Rattle.port_sync.specs.Hunting.{pattern}
 use Rattle.deformatter.specs.Reading.{PortStream, read_behind, all_skipped, port_stream, cells_in, id_in}
-use Rattle.deformatter.specs.Growth.{place_at, PortGrows, goes_on}
+use Rattle.deformatter.specs.Growth.{PortGrows, goes_on}
 use Rattle.port_sync.specs.declared.aligner.Part.{Part}
 use Rattle.port_sync.specs.declared.aligner.Part.TheVariants.{Between, First, One, Two, Three}
 use Rattle.port_sync.specs.declared.hunter.Hunter.{Hunter}
@@ -28,9 +28,9 @@ use Rattle.deformatter.specs.declared.deformatter.Phase.{Phase}
 use Rattle.deformatter.specs.declared.deformatter.Phase.TheVariants.{Aligned as PhaseAligned, Hunting as PhaseHunting, Locked as PhaseLocked}
 use Rattle.deformatter.specs.declared.step.PortStep.{PortStep}
 use Rattle.deformatter.specs.declared.step.PortStep.TheVariants.{Quiet, Locked, Half as HalfEnds}
-use Rattle.deformatter.proofs.Lawful.{Fits, Sound, Lawful, lawful}
+use Rattle.deformatter.proofs.Lawful.{Fits, Lawful, lawful}
 use Rattle.deformatter.proofs.Growing as growing
-use Rattle.deformatter.proofs.Readings.{port_hunt, IsRead, IsReadAt, is_read, seeks_old, seeks_new, locks_at, after}
+use Rattle.deformatter.proofs.Readings.{port_hunt, IsReadAt, is_read, seeks_old, seeks_new, after}
 
 -- a byte of the reading: how the reading grew, its cells, and the ID in force
 pub record Fed (h : Bool) (u : List Placed) (at byte : ℕ) (s : State) (n : Next State Piece) : Type 0 where

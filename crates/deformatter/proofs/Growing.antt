@@ -1,8 +1,6 @@
 -- A reading with one more byte of which the rule says this.
-use Rattle.std.proofs.Common.{◌≡◌, ◌≢◌, ℕ, ◌+◌, ◌≤◌, List, [], ◌∷◌, ◌++◌, length, refl, sym, ◌∙◌, ap, ◌⊎◌, inl, inr, arith, subst, append_assoc, append-nil, Bool, true, false, cond, Option, None, Some}
-use Rattle.std.specs.Prelude.{◌==◌}
+use Rattle.std.proofs.Common.{◌≡◌, ℕ, ◌+◌, ◌≤◌, List, [], ◌∷◌, ◌++◌, refl, sym, ◌∙◌, ap, inl, inr, arith, subst, append_assoc, append-nil, Option, None, Some}
 use Rattle.std.specs.List.{sum_by}
-use Rattle.std.proofs.lemmas.Bool.Decides.{nat_tests}
 use Rattle.std.proofs.lemmas.List.{map-append}
 use Rattle.std.proofs.lemmas.List.Sums.{sum_by_push, sum_by-append}
 use Rattle.trace_values.specs.declared.cell.Cell.{Cell}
@@ -17,7 +15,6 @@ use Rattle.frame_grammar.specs.Reading.{piece_cells, piece_id, cells_of_pieces, 
 use Rattle.deformatter.specs.Reading.{pieces_of, read_behind, cells_in, id_in}
 use Rattle.deformatter.specs.Growth.{place_at, PortGrows, PortSettled, PortRises}
 use Rattle.deformatter.specs.Rule.{step_by, cells_by, id_by}
-use Rattle.deformatter.specs.declared.step.PortStep.TheVariants.{Quiet, Half as HalfEnds}
 use Rattle.deformatter.proofs.Lawful.{Lawful}
 use Rattle.deformatter.proofs.Parts.{quiet_step, half_step}
 

@@ -1,5 +1,5 @@
 -- What the port's rule keeps: two and three FF stand between frames, and between frames no half synchronisation is counted.
-use Rattle.std.proofs.Common.{◌≡◌, ◌≢◌, ℕ, zero, suc, ◌+◌, ◌*◌, ◌≤◌, List, [], ◌∷◌, ◌++◌, length, refl, sym, ◌∙◌, ap, ◌⊎◌, inl, inr, arith, subst, Bool, true, false, cond, length-append, Option, None, Some}
+use Rattle.std.proofs.Common.{◌≡◌, ◌≢◌, ℕ, zero, suc, ◌+◌, ◌≤◌, List, [], ◌∷◌, ◌++◌, length, refl, sym, ◌⊎◌, inl, inr, arith, subst, Bool, true, false, cond, length-append, Option, None, Some}
 use Rattle.std.specs.Prelude.{◌==◌}
 use Rattle.std.proofs.lemmas.Bool.Decides.{nat_tests}
 use Rattle.std.proofs.lemmas.List.{length_push}
@@ -9,7 +9,7 @@ use Rattle.trace_values.specs.declared.next.Next.{Next}
 use Rattle.trace_values.specs.declared.next.Next.TheVariants.{Go, Stop, Fail}
 use Rattle.trace_values.specs.Placed.{Place, Placed}
 use Rattle.trace_values.specs.Reading.{Progress, with_unit, advance, progress_from, unread, progress}
-use Rattle.frame_grammar.specs.Port.{Piece, Full, Half, Frame, Part, Between, First, One, Two, Three, State, start, with_part, word_ended, half_ended, full_begun, part_rule, rule}
+use Rattle.frame_grammar.specs.Port.{Piece, Full, Half, Frame, Part, Between, First, One, Two, Three, State, start, word_ended, part_rule, rule}
 use Rattle.deformatter.specs.Rule.{part_size, count_of}
 
 abbrev pub Fits : Part → ℕ → Type 0

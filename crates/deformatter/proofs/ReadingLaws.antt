@@ -1,14 +1,13 @@
 -- Laws of the reading of a port's bytes.
-use Rattle.std.proofs.Common.{◌≡◌, ℕ, suc, ◌+◌, ◌-◌, List, [], ◌∷◌, ◌++◌, refl, sym, ◌∙◌, ap, inl, inr, arith, subst, append_assoc, append-nil, Bool, true, false, Option, None, Some}
+use Rattle.std.proofs.Common.{◌≡◌, ℕ, ◌+◌, List, [], ◌∷◌, ◌++◌, refl, sym, ◌∙◌, ap, inl, inr, arith, subst, append_assoc, append-nil, Bool, true, false, Option, None, Some}
 use Rattle.std.specs.Prelude.{is_none}
 use Rattle.trace_values.specs.declared.cell.Cell.{Cell}
 use Rattle.trace_values.specs.declared.fault.Reason.{Reason}
-use Rattle.trace_values.specs.declared.next.Next.{Next}
 use Rattle.trace_values.specs.Placed.{Place, Placed, byte_at, placed_from}
-use Rattle.trace_values.specs.Reading.{Progress, with_unit, advance}
+use Rattle.trace_values.specs.Reading.{with_unit, advance}
 use Rattle.trace_values.specs.Stream.{FaultAt}
 use Rattle.trace_values.proofs.Standings.{some_of}
-use Rattle.frame_grammar.specs.Port.{Piece, Full, State, start, rule}
+use Rattle.frame_grammar.specs.Port.{Piece, Full, start, rule}
 use Rattle.frame_grammar.specs.Reading.{fulls_in, frames_in}
 use Rattle.deformatter.specs.Reading.{PortStream, read_behind, all_skipped, port_stream, cells_in}
 use Rattle.deformatter.specs.Growth.{place_at, PortSettled, PortRises}

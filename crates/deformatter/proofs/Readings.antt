@@ -1,12 +1,11 @@
 -- The reading of a port's bytes, in each mode.
-use Rattle.std.proofs.Common.{◌≡◌, ◌≢◌, ℕ, suc, ◌+◌, ◌-◌, ◌≤◌, List, [], ◌∷◌, ◌++◌, length, refl, sym, ◌∙◌, ap, ◌⊎◌, inl, inr, arith, subst, append_assoc, append-nil, Bool, true, false, cond, Option, None, Some}
+use Rattle.std.proofs.Common.{◌≡◌, ◌≢◌, ℕ, suc, ◌-◌, List, [], ◌∷◌, ◌++◌, length, refl, sym, ◌∙◌, ap, ◌⊎◌, inl, inr, arith, subst, Bool, true, false, cond, Option, None, Some}
 use Rattle.std.specs.Prelude.{is_none, ◌==◌, ◌&&◌}
 use Rattle.trace_values.specs.declared.fault.Reason.{Reason}
-use Rattle.trace_values.specs.declared.next.Next.{Next}
 use Rattle.trace_values.specs.declared.mode.Mode.{Mode}
 use Rattle.trace_values.specs.declared.mode.Mode.TheVariants.{Aligned, Hunting, Locked}
 use Rattle.trace_values.specs.Placed.{Place, Placed, units_of, byte_at}
-use Rattle.trace_values.specs.Reading.{Progress, with_unit, advance}
+use Rattle.trace_values.specs.Reading.{Progress, advance}
 use Rattle.trace_values.specs.Hunted.{pattern_of, Found, Hunt, run_after, begun, hunt_on, hunt_from, no_hunt, hunt}
 use Rattle.trace_values.specs.Moded.{StandsIn, hunts, is_locked, skipped_of}
 use Rattle.trace_values.proofs.Standings.{progress_push, none_of}

@@ -1,5 +1,5 @@
 -- The frame whose halfwords aren't all there yet.
-use Rattle.std.specs.Prelude.{◌≡◌, ◌≢◌, ℕ, ◌*◌, ◌<◌, List, [], ◌∷◌, take, slice_index}
+use Rattle.std.specs.Prelude.{ℕ, List, [], ◌∷◌, take}
 use Rattle.trace_values.specs.Placed.{Placed, byte_at}
 use Rattle.deformatter.specs.declared.unfinished.Unfinished.{Unfinished}
 

@@ -217,7 +217,8 @@ mod tests {
     const MANY: u64 = 1 << 20;
 
     /// A half synchronisation, a frame whose ID 16 is deferred by one byte, and a full synchronisation.
-    const CAPTURE: [u8; 22] = *b"\xff\x7f\x21\xff\xfe\xff\xfe\xff\xfe\xff\xfe\xff\xfe\xff\xfe\xff\xfe\xff\xff\xff\xff\x7f";
+    const CAPTURE: [u8; 22] =
+        *b"\xff\x7f\x21\xff\xfe\xff\xfe\xff\xfe\xff\xfe\xff\xfe\xff\xfe\xff\xfe\xff\xff\xff\xff\x7f";
 
     /// Takes the byte, with the frame's cells in `out`.
     fn feed(
@@ -255,7 +256,11 @@ mod tests {
                 _ => PortStep::Quiet,
             };
             assert_eq!(rt; step, wanted, "{bytes:?} at {at}");
-            assert_eq!(rt; out.is_empty(), step != PortStep::Frame, "{bytes:?} at {at}");
+            assert_eq!(rt;
+                out.is_empty(),
+                step != PortStep::Frame,
+                "{bytes:?} at {at}"
+            );
         }
         assert_eq!(rt; next, steps.len());
         if port.is_live() {
@@ -355,7 +360,14 @@ mod tests {
         }
         let half = [(1, PortStep::Half)];
         expect(&rt, Deformatter::aligned(), b"\xff\x7f", &half, 0, 0);
-        expect(&rt, Deformatter::aligned(), b"\xff\x7f\xff\xff\xff", &half, 3, 0);
+        expect(
+            &rt,
+            Deformatter::aligned(),
+            b"\xff\x7f\xff\xff\xff",
+            &half,
+            3,
+            0,
+        );
     }
 
     #[test]
@@ -375,7 +387,8 @@ mod tests {
     }
 
     /// A full synchronisation, a frame of ID 1, a full synchronisation, and a frame that names no ID.
-    const SMALL: [u8; 40] = *b"\xff\xff\xff\x7f\x03\0\0\0\0\0\0\0\0\0\0\0\0\0\0\0\xff\xff\xff\x7f\0\0\0\0\0\0\0\0\0\0\0\0\0\0\0\0";
+    const SMALL: [u8; 40] =
+        *b"\xff\xff\xff\x7f\x03\0\0\0\0\0\0\0\0\0\0\0\0\0\0\0\xff\xff\xff\x7f\0\0\0\0\0\0\0\0\0\0\0\0\0\0\0\0";
 
     #[test]
     fn hunts_behind_each_cut(rt: HostRuntime) {

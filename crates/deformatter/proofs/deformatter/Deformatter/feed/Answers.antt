@@ -1,20 +1,19 @@
-use Rattle.std.proofs.Common.{◌≡◌, ◌≤◌, ℕ, ◌+◌, ◌-◌, List, [], ◌∷◌, ◌++◌, refl, sym, ◌∙◌, ap, subst, arith, Bool, true, false, Option}
+use Rattle.std.proofs.Common.{◌≡◌, ◌≤◌, ℕ, ◌+◌, List, [], ◌∷◌, ◌++◌, refl, sym, ◌∙◌, ap, subst, arith, true, false, Option}
 use Rattle.std.specs.Prelude.{◌==◌, ◌&&◌}
 use Rattle.trace_values.specs.declared.cell.Cell.{Cell}
 use Rattle.trace_values.specs.declared.mode.Mode.{Mode}
 use Rattle.trace_values.specs.declared.mode.Mode.TheVariants.{Hunting}
-use Rattle.trace_values.specs.declared.next.Next.{Next}
 use Rattle.trace_values.specs.Placed.{Placed, byte_at}
 use Rattle.trace_values.specs.Moded.{StandsIn, hunts, skipped_of, is_counted}
 use Rattle.trace_values.specs.Standing.{state_after}
 use Rattle.trace_values.proofs.Modes as laws
-use Rattle.frame_grammar.specs.Port.{Full, Piece, State, start, rule}
+use Rattle.frame_grammar.specs.Port.{Full, start, rule}
 use Rattle.port_sync.specs.Hunting.{pattern, run_of}
 use Rattle.deformatter.specs.Phase.{mode_in}
 use Rattle.deformatter.specs.Reading.{port_stream, cells_in, id_in}
 use Rattle.deformatter.specs.Growth.{PortGrows, goes_on}
-use Rattle.deformatter.specs.Rule.{count_of, step_by, cells_by, id_by}
-use Rattle.deformatter.specs.Deformatter.{IsOf, mode_of, state_of, id_of, is_live, is_hunter, tail_of, skipped_by}
+use Rattle.deformatter.specs.Rule.{count_of, cells_by, id_by}
+use Rattle.deformatter.specs.Deformatter.{IsOf, mode_of, state_of, is_live, is_hunter, tail_of, skipped_by}
 use Rattle.deformatter.specs.declared.step.PortStep.{PortStep}
 use Rattle.deformatter.specs.declared.deformatter.Deformatter.{Deformatter}
 use Rattle.deformatter.specs.declared.deformatter.Phase.{Phase}
@@ -103,11 +102,11 @@ returns-in_default c =
           ∙ ap (λ (l : List Cell). cells_in (port_stream (is_hunter d) u) ++ l) (sym c.read.ensures.cells);
       live = c.read.ensures.live ∙ stays_live c.args.at (state_of d) (rule (state_of d) (byte_at c.args.at c.args.byte)) ∙ ap goes_on (sym c.read.ensures.step);
       few = (
-        let a : skipped_by c.read.new.self ≡ skipped_by d = ap skipped_of m in
-        let b : tail_of c.read.new.self ≡ count_of (state_after start (rule (state_of d) (byte_at c.args.at c.args.byte)) (state_of d)) = ap count_of c.read.ensures.state in
-        let e : count_of (state_after start (rule (state_of d) (byte_at c.args.at c.args.byte)) (state_of d)) ≤ tail_of d + 1 =
-        few_more d.aligner.left _ _ d.aligner.part d.first_at d.frame.len (byte_at c.args.at c.args.byte) d.whole d.between d.aligner.fit in
-        joined (tail_of c.read.new.self) (skipped_by c.read.new.self) (tail_of d) (skipped_by d) (count_of (state_after start (rule (state_of d) (byte_at c.args.at c.args.byte)) (state_of d))) a b e);
+          let a : skipped_by c.read.new.self ≡ skipped_by d = ap skipped_of m in
+          let b : tail_of c.read.new.self ≡ count_of (state_after start (rule (state_of d) (byte_at c.args.at c.args.byte)) (state_of d)) = ap count_of c.read.ensures.state in
+          let e : count_of (state_after start (rule (state_of d) (byte_at c.args.at c.args.byte)) (state_of d)) ≤ tail_of d + 1 =
+          few_more d.aligner.left _ _ d.aligner.part d.first_at d.frame.len (byte_at c.args.at c.args.byte) d.whole d.between d.aligner.fit in
+          joined (tail_of c.read.new.self) (skipped_by c.read.new.self) (tail_of d) (skipped_by d) (count_of (state_after start (rule (state_of d) (byte_at c.args.at c.args.byte)) (state_of d))) a b e);
     } where
       joined : (x y z w v : ℕ) → y ≡ w → x ≡ v → v ≤ z + 1 → x + y ≤ z + w + 1
       joined x y z w v a b e = omega arith

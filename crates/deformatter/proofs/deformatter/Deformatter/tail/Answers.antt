@@ -1,5 +1,4 @@
-use Rattle.std.proofs.Common.{◌≡◌, ℕ, ◌+◌, ◌*◌, length, arith, ◌∙◌}
-use Rattle.trace_values.specs.Placed.{Placed}
+use Rattle.std.proofs.Common.{◌≡◌, length, arith, ◌∙◌}
 use Rattle.port_sync.specs.Aligned.{size_of, placed_part}
 use Rattle.deformatter.specs.Rule.{part_size}
 use Rattle.deformatter.specs.Unfinished.{placed_of}

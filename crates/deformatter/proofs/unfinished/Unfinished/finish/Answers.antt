@@ -1,4 +1,4 @@
-use Rattle.std.proofs.Common.{◌≡◌, ℕ, List, sym, ◌∙◌, ap}
+use Rattle.std.proofs.Common.{ℕ, List, sym, ◌∙◌, ap}
 use Rattle.trace_values.specs.Placed.{units_of}
 use Rattle.frame_grammar.specs.Frame.{cells, id_after}
 use Rattle.deformatter.specs.Unfinished.{placed_of}
