@@ -1,8 +1,6 @@
 //! The notes of a run, each one line.
 
-ghost use Rattle.std.specs.Prelude.{◌≡◌, ◌≤◌, ◌++◌, codes, length};
-ghost use Rattle.hex.specs.Hex.{encode_lower};
-ghost use Rattle.trace_io.specs.Causes.{HasCause};
+ghost use Rattle.std.specs.Prelude.{◌≤◌};
 ghost use Rattle.capture_command.specs.Notes.{Notes, note_of, last_line, limit_line};
 
 use crate::status::Status;
