@@ -5,8 +5,8 @@
 mod decoder;
 mod encoder;
 mod hunt;
-mod whole;
 pub mod laws;
+mod whole;
 
 pub use decoder::ItmDecoder;
 pub use encoder::encode;

@@ -6,8 +6,8 @@ use Rattle.trace_values.specs.declared.next.Next.TheVariants.{Go, Stop, Fail}
 use Rattle.trace_values.specs.declared.step.Step.TheVariants.{Quiet, Item}
 use Rattle.trace_values.specs.declared.mode.Mode.{Mode}
 use Rattle.trace_values.specs.Placed.{Placed, byte_at, placed_from}
-use Rattle.trace_values.specs.Walk.{Walked, Within, Whole, after, walk, by_unit}
-use Rattle.trace_values.specs.Stream.{Stream, Grows}
+use Rattle.trace_values.specs.Walk.{Walked, Whole, after, walk, by_unit}
+use Rattle.trace_values.specs.Stream.{Stream}
 use Rattle.trace_values.specs.Hunted.{Pattern}
 use Rattle.trace_values.specs.Moded.{stream_in, hunts, is_locked, StandsIn}
 use Rattle.trace_values.specs.Block.{Takes}
@@ -43,20 +43,20 @@ module _ {S V : Type 0} (p : Pattern) (z : V) (rule : S → ℕ → Next S V) (s
   whole_takes zero i s v h e t = cc
   whole_takes (suc n) i s v h e t =
       by (rule s (get_or piece i 0)) refl (sym (ap (walk rule s) (next_bytes n i h)) ∙ e) (λ r f w. whole_takes n (i + 1) r v (omega arith) f w) where
-    by : (x : Next S V) → rule s (get_or piece i 0) ≡ x → after x (λ r. walk rule r (take n (drop (i + 1) piece))) (take n (drop (i + 1) piece)) ≡ Whole v →
-        ((r : S) → walk rule r (take n (drop (i + 1) piece)) ≡ Whole v → IsTaking reading (stands r) u at piece (i + 1) → Takes reading (stands start) u at piece (i + 1 + n) (Some (Item 0 v))) →
-        Takes reading (stands start) u at piece (i + suc n) (Some (Item 0 v))
-    by (Go r) k f more =
-        subst (λ (c : ℕ). Takes reading (stands start) u at piece c (Some (Item 0 v))) (let q : i + 1 + n ≡ i + suc n = omega arith in q)
-        (more r f
-        (taking_more reading u at piece (stands s) (stands r) i (omega arith) t Quiet
-        (reads-list p z (by_unit rule) start m true s (here i) (byte_at (at + i) (get_or piece i 0)) true r (Go r) refl locked (sym k) refl refl t.list)
-        (reads-step p z (by_unit rule) start m true s (here i) (get_or piece i 0) (at + i) (Go r) refl locked (sym k) t.list) refl refl))
-    by (Stop w) k f more =
-        let same = whole_is w v (λ r. walk rule r (take n (drop (i + 1) piece))) (take n (drop (i + 1) piece)) f in
-        subst (λ (c : ℕ). Takes reading (stands start) u at piece c (Some (Item 0 v))) (let q = none_left n i h same.1 in omega arith)
-        (subst (λ (y : V). Takes reading (stands start) u at piece (i + 1) (Some (Item 0 y))) same.0
-        (takes_ended reading u at piece (stands s) (stands start) i (omega arith) t (Item 0 w)
-        (reads-list p z (by_unit rule) start m true s (here i) (byte_at (at + i) (get_or piece i 0)) true start (Stop w) refl locked (sym k) refl refl t.list)
-        (reads-step p z (by_unit rule) start m true s (here i) (get_or piece i 0) (at + i) (Stop w) refl locked (sym k) t.list)))
-    by (Fail r) k f more = cc
+        by : (x : Next S V) → rule s (get_or piece i 0) ≡ x → after x (λ r. walk rule r (take n (drop (i + 1) piece))) (take n (drop (i + 1) piece)) ≡ Whole v →
+            ((r : S) → walk rule r (take n (drop (i + 1) piece)) ≡ Whole v → IsTaking reading (stands r) u at piece (i + 1) → Takes reading (stands start) u at piece (i + 1 + n) (Some (Item 0 v))) →
+            Takes reading (stands start) u at piece (i + suc n) (Some (Item 0 v))
+        by (Go r) k f more =
+            subst (λ (c : ℕ). Takes reading (stands start) u at piece c (Some (Item 0 v))) (let q : i + 1 + n ≡ i + suc n = omega arith in q)
+            (more r f
+            (taking_more reading u at piece (stands s) (stands r) i (omega arith) t Quiet
+            (reads-list p z (by_unit rule) start m true s (here i) (byte_at (at + i) (get_or piece i 0)) true r (Go r) refl locked (sym k) refl refl t.list)
+            (reads-step p z (by_unit rule) start m true s (here i) (get_or piece i 0) (at + i) (Go r) refl locked (sym k) t.list) refl refl))
+        by (Stop w) k f more =
+            let same = whole_is w v (λ r. walk rule r (take n (drop (i + 1) piece))) (take n (drop (i + 1) piece)) f in
+            subst (λ (c : ℕ). Takes reading (stands start) u at piece c (Some (Item 0 v))) (let q = none_left n i h same.1 in omega arith)
+            (subst (λ (y : V). Takes reading (stands start) u at piece (i + 1) (Some (Item 0 y))) same.0
+            (takes_ended reading u at piece (stands s) (stands start) i (omega arith) t (Item 0 w)
+            (reads-list p z (by_unit rule) start m true s (here i) (byte_at (at + i) (get_or piece i 0)) true start (Stop w) refl locked (sym k) refl refl t.list)
+            (reads-step p z (by_unit rule) start m true s (here i) (get_or piece i 0) (at + i) (Stop w) refl locked (sym k) t.list)))
+        by (Fail r) k f more = cc

@@ -29,8 +29,8 @@ pub returns-in-Some-clause-takes : goal.returns-in-Some-clause-takes
 returns-in-Some-clause-takes c = λ u s.
     let m = c.args.self.now.mode in
     let at_header : StandsIn pattern Sync (by_unit rule) Header m true Header u =
-        subst (λ (x : Bool). StandsIn pattern Sync (by_unit rule) Header m x Header u) c.requires.live
-        (subst (λ (x : Partial). StandsIn pattern Sync (by_unit rule) Header m c.args.self.now.live x u) c.in-Some.ensures.header.1 s) in
+    subst (λ (x : Bool). StandsIn pattern Sync (by_unit rule) Header m x Header u) c.requires.live
+    (subst (λ (x : Partial). StandsIn pattern Sync (by_unit rule) Header m c.args.self.now.live x u) c.in-Some.ensures.header.1 s) in
     let shown = laws.shows pattern Sync (by_unit rule) Header count_of refl counts_placed m true Header u at_header in
     subst (λ (n : ℕ). Takes (packets_in (is_hunter c.args.self.now)) (IsOf c.args.self.now) u c.args.at c.args.piece.now n (Some (Item 0 c.in-Some.packet)))
     (let k : 0 + c.in-Some.bytes ≡ c.in-Some.bytes = omega arith in k)
