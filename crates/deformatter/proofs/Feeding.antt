@@ -1,0 +1,140 @@
+-- One more byte, in what a deformatter stands for.
+use Rattle.std.proofs.Common.{◌≡◌, ◌≢◌, ℕ, suc, ◌+◌, ◌-◌, ◌*◌, ◌≤◌, List, [], ◌∷◌, ◌++◌, refl, sym, ◌∙◌, ap, inl, inr, arith, subst, append-nil, Bool, true, false, cond, Option, None, Some}
+use Rattle.std.specs.Prelude.{is_none, ◌==◌, ◌&&◌, nat_le}
+use Rattle.std.proofs.lemmas.Bool.Decides.{nat_tests}
+use Rattle.trace_values.specs.declared.cell.Cell.{Cell}
+use Rattle.trace_values.specs.declared.fault.Reason.{Reason}
+use Rattle.trace_values.specs.declared.next.Next.{Next}
+use Rattle.trace_values.specs.declared.next.Next.TheVariants.{Go, Stop, Fail}
+use Rattle.trace_values.specs.declared.mode.Mode.{Mode}
+use Rattle.trace_values.specs.declared.mode.Mode.TheVariants.{Hunting}
+use Rattle.trace_values.specs.Placed.{Place, Placed, byte_at}
+use Rattle.trace_values.specs.Reading.{Progress, with_unit, advance}
+use Rattle.trace_values.specs.Hunted.{Seeks}
+use Rattle.trace_values.specs.Moded.{StandsIn, hunts, is_locked}
+use Rattle.trace_values.specs.Standing.{live_after, state_after}
+use Rattle.frame_grammar.specs.Port as port
+use Rattle.frame_grammar.specs.Port.{Piece, Full, State, start, rule}
+use Rattle.port_sync.specs.Hunting.{pattern}
+use Rattle.deformatter.specs.Reading.{PortStream, read_behind, all_skipped, port_stream, cells_in, id_in}
+use Rattle.deformatter.specs.Growth.{place_at, PortGrows, goes_on}
+use Rattle.port_sync.specs.declared.aligner.Part.{Part}
+use Rattle.port_sync.specs.declared.aligner.Part.TheVariants.{Between, First, One, Two, Three}
+use Rattle.port_sync.specs.declared.hunter.Hunter.{Hunter}
+use Rattle.port_sync.specs.Aligned.{placed_part, is_fit, state}
+use Rattle.deformatter.specs.Phase.{mode_in}
+use Rattle.deformatter.specs.Rule.{count_of, step_by, cells_by, id_by}
+use Rattle.deformatter.specs.declared.deformatter.Phase.{Phase}
+use Rattle.deformatter.specs.declared.deformatter.Phase.TheVariants.{Aligned as PhaseAligned, Hunting as PhaseHunting, Locked as PhaseLocked}
+use Rattle.deformatter.specs.declared.step.PortStep.{PortStep}
+use Rattle.deformatter.specs.declared.step.PortStep.TheVariants.{Quiet, Locked, Half as HalfEnds}
+use Rattle.deformatter.proofs.Lawful.{Fits, Sound, Lawful, lawful}
+use Rattle.deformatter.proofs.Growing as growing
+use Rattle.deformatter.proofs.Readings.{port_hunt, IsRead, IsReadAt, is_read, seeks_old, seeks_new, locks_at, after}
+
+-- a byte of the reading: how the reading grew, its cells, and the ID in force
+pub record Fed (h : Bool) (u : List Placed) (at byte : ℕ) (s : State) (n : Next State Piece) : Type 0 where
+  pub grows : PortGrows (port_stream h u) (port_stream h (u ++ byte_at at byte ∷ [])) at (step_by at s n)
+  pub cells : cells_in (port_stream h (u ++ byte_at at byte ∷ [])) ≡ cells_in (port_stream h u) ++ cells_by (id_in (port_stream h u)) n
+  pub id : id_in (port_stream h (u ++ byte_at at byte ∷ [])) ≡ id_by (id_in (port_stream h u)) n
+
+fed_at : (h : Bool) (u : List Placed) (at byte : ℕ) (s : State) (r : IsReadAt h s u) → Fed h u at byte s (rule s (byte_at at byte))
+fed_at h u at byte s r =
+    let p = r.read.progress in
+    let k = r.read.skipped in
+    let new : port_stream h (u ++ byte_at at byte ∷ []) ≡ read_behind k (with_unit start p (byte_at at byte) (rule s (byte_at at byte)) None) =
+    r.read.new (byte_at at byte)
+    ∙ ap (λ (t : State). read_behind k (with_unit start p (byte_at at byte) (rule t (byte_at at byte)) p.fault)) r.state
+    ∙ ap (λ (f : Option (Place × Reason)). read_behind k (with_unit start p (byte_at at byte) (rule s (byte_at at byte)) f)) r.fault in
+    let law : Lawful p.state (rule s (byte_at at byte)) = subst (λ (t : State). Lawful p.state (rule t (byte_at at byte))) r.state (lawful p.state (byte_at at byte) r.read.sound) in
+    record {
+      grows = subst (λ (a : PortStream). PortGrows a (port_stream h (u ++ byte_at at byte ∷ [])) at (step_by at s (rule s (byte_at at byte)))) (sym r.read.old)
+          (subst (λ (a : PortStream). PortGrows (read_behind k p) a at (step_by at s (rule s (byte_at at byte)))) (sym new)
+          (subst (λ (t : State). PortGrows (read_behind k p) (read_behind k (with_unit start p (byte_at at byte) (rule s (byte_at at byte)) None)) at (step_by at t (rule s (byte_at at byte)))) r.state
+          (growing.grows k p at byte (rule s (byte_at at byte)) law)));
+      cells = ap cells_in new ∙ growing.cells_fed k p (byte_at at byte) (rule s (byte_at at byte))
+          ∙ ap (λ (a : PortStream). cells_in a ++ cells_by (id_in a) (rule s (byte_at at byte))) (sym r.read.old);
+      id = ap id_in new ∙ growing.id_fed k p (byte_at at byte) (rule s (byte_at at byte))
+          ∙ ap (λ (a : PortStream). id_by (id_in a) (rule s (byte_at at byte))) (sym r.read.old);
+    }
+
+pub fed : (m : Mode) (live : Bool) (s : State) (u : List Placed) (at byte : ℕ) → live ≡ true → is_locked m ≡ true → StandsIn pattern Full rule start m live s u →
+    Fed (hunts m) u at byte s (rule s (byte_at at byte))
+fed m live s u at byte l k r = fed_at (hunts m) u at byte s (is_read m live s u l k r)
+
+-- the run and its count of a hunt
+pub long_enough : (run skipped byte : ℕ) → (nat_le run 3 && nat_le run skipped) ≡ true → (byte == 127 && run == 3) ≡ true → 3 ≤ skipped
+long_enough run skipped byte e f = grind (arith, nat_tests)
+
+-- a byte in a hunt
+module _ (m : Mode) (run skipped : ℕ) (u : List Placed) (at byte : ℕ) (live : Bool) (s : State) (e : m ≡ Hunting run skipped) (r : StandsIn pattern Full rule start m live s u) where
+  seeks : Seeks pattern Full rule start run skipped u
+  seeks = let t : StandsIn pattern Full rule start (Hunting run skipped) live s u = subst (λ (x : Mode). StandsIn pattern Full rule start x live s u) e r in t.0
+
+  old : port_stream (hunts m) u ≡ all_skipped skipped
+  old = ap (λ (x : Mode). port_stream (hunts x) u) e ∙ seeks_old u seeks.none ∙ ap all_skipped seeks.units_is
+
+  new : (t : Bool) → (byte == 127 && run == 3) ≡ t → port_stream (hunts m) (u ++ byte_at at byte ∷ []) ≡ after (port_hunt u) at byte t
+  new t f = ap (λ (x : Mode). port_stream (hunts x) (u ++ byte_at at byte ∷ [])) e ∙ seeks_new u at byte seeks.none
+      ∙ ap (λ (x : Bool). after (port_hunt u) at byte x) (ap (λ (n : ℕ). byte == 127 && n == 3) seeks.run_is ∙ f)
+
+  grows_by : (a b c : PortStream) (step : PortStep) → a ≡ b → port_stream (hunts m) (u ++ byte_at at byte ∷ []) ≡ c → PortGrows b c at step → PortGrows a (port_stream (hunts m) (u ++ byte_at at byte ∷ [])) at step
+  grows_by a b c step i j g = subst (λ (x : PortStream). PortGrows x (port_stream (hunts m) (u ++ byte_at at byte ∷ [])) at step) (sym i) (subst (λ (x : PortStream). PortGrows b x at step) (sym j) g)
+
+  pub skips-step : (byte == 127 && run == 3) ≡ false → PortGrows (port_stream (hunts m) u) (port_stream (hunts m) (u ++ byte_at at byte ∷ [])) at Quiet
+  skips-step f = grows_by (port_stream (hunts m) u) (all_skipped skipped) (all_skipped (suc (port_hunt u).units)) Quiet old (new false f)
+      (record { pieces = refl; halves = refl; fulls = refl; frames = refl; fault = refl; hunt = (refl, (let k = seeks.units_is in omega (arith, k))) })
+
+  pub skips-cells : (byte == 127 && run == 3) ≡ false → (given : List Cell) → given ≡ [] → cells_in (port_stream (hunts m) (u ++ byte_at at byte ∷ [])) ≡ cells_in (port_stream (hunts m) u) ++ given
+  skips-cells f given g = ap cells_in (new false f) ∙ sym g ∙ ap (λ (a : PortStream). cells_in a ++ given) (sym old)
+
+  pub skips-id : (byte == 127 && run == 3) ≡ false → id_in (port_stream (hunts m) u) ≡ id_in (port_stream (hunts m) (u ++ byte_at at byte ∷ []))
+  skips-id f = ap id_in old ∙ sym (ap id_in (new false f))
+
+  pub locks-step : (byte == 127 && run == 3) ≡ true → 3 ≤ skipped → PortGrows (port_stream (hunts m) u) (port_stream (hunts m) (u ++ byte_at at byte ∷ [])) at (Locked (skipped - 3))
+  locks-step f l = grows_by (port_stream (hunts m) u) (all_skipped skipped) (after (port_hunt u) at byte true) (Locked (skipped - 3)) old (new true f)
+      (record { pieces = refl; halves = refl; fulls = refl; frames = refl; fault = refl; hunt = (refl, refl, ap (λ (n : ℕ). n - 3) seeks.units_is, omega (arith, l)) })
+
+  pub locks-cells : (byte == 127 && run == 3) ≡ true → (given : List Cell) → given ≡ [] → cells_in (port_stream (hunts m) (u ++ byte_at at byte ∷ [])) ≡ cells_in (port_stream (hunts m) u) ++ given
+  locks-cells f given g = ap cells_in (new true f) ∙ sym g ∙ ap (λ (a : PortStream). cells_in a ++ given) (sym old)
+
+  pub locks-id : (byte == 127 && run == 3) ≡ true → id_in (port_stream (hunts m) u) ≡ id_in (port_stream (hunts m) (u ++ byte_at at byte ∷ []))
+  locks-id f = ap id_in old ∙ sym (ap id_in (new true f))
+
+-- a deformatter that doesn't hunt reads
+pub reads_on : (phase : Phase) (hunter : Hunter) (skipped : ℕ) → (phase ≡ PhaseHunting → ⊥) → is_locked (mode_in phase hunter skipped) ≡ true
+reads_on PhaseAligned hunter skipped n = refl
+reads_on PhaseHunting hunter skipped n = absurd (n refl)
+reads_on PhaseLocked hunter skipped n = refl
+
+-- it stays live exactly with a step that is no fault
+pub stays_live : (at : ℕ) (s : State) (n : Next State Piece) → live_after n ≡ goes_on (step_by at s n)
+stays_live at s (Go t) = by (t.halves == s.halves) where
+  by : (b : Bool) → true ≡ goes_on (cond b Quiet HalfEnds)
+  by true = refl
+  by false = refl
+stays_live at s (Stop Full) = refl
+stays_live at s (Stop port.Half) = refl
+stays_live at s (Stop (port.Frame f h)) = refl
+stays_live at s (Fail e) = refl
+
+is_seven : (n : ℕ) → (n == 7) ≡ true → n ≡ 7
+is_seven n e = grind (arith, nat_tests)
+
+fits_by : (left : ℕ) (part : Part) (at : ℕ) → is_fit left part ≡ true → Fits (placed_part part at) left
+fits_by left Between at e = tt
+fits_by left (First a) at e = tt
+fits_by left One at e = tt
+fits_by left Two at e = is_seven left e
+fits_by left Three at e = is_seven left e
+
+few_after : (s : State) (n : Next State Piece) → Lawful s n → count_of (state_after start n s) ≤ count_of s + 1
+few_after s (Go t) l = (let e = l.2 in omega arith)
+few_after s (Stop v) l = omega arith
+few_after s (Fail e) l = omega arith
+
+-- at most one byte more is held
+pub few_more : (left : ℕ) (bytes : List Placed) (halves : ℕ) (part : Part) (at len : ℕ) (b : Placed) → len + 2 * left ≡ 14 → (len ≡ 0 → halves ≡ 0) → is_fit left part ≡ true →
+    count_of (state_after start (rule (state left bytes halves part at) b) (state left bytes halves part at)) ≤ count_of (state left bytes halves part at) + 1
+few_more left bytes halves part at len b w z f = few_after (state left bytes halves part at) (rule (state left bytes halves part at) b)
+    (lawful (state left bytes halves part at) b (record { within = omega arith; none = λ e. z (omega (arith, e)); fits = fits_by left part at f }))

@@ -1,0 +1,113 @@
+use Rattle.std.proofs.Common.{◌≡◌, ◌≤◌, ℕ, ◌+◌, ◌-◌, List, [], ◌∷◌, ◌++◌, refl, sym, ◌∙◌, ap, subst, arith, Bool, true, false, Option}
+use Rattle.std.specs.Prelude.{◌==◌, ◌&&◌}
+use Rattle.trace_values.specs.declared.cell.Cell.{Cell}
+use Rattle.trace_values.specs.declared.mode.Mode.{Mode}
+use Rattle.trace_values.specs.declared.mode.Mode.TheVariants.{Hunting}
+use Rattle.trace_values.specs.declared.next.Next.{Next}
+use Rattle.trace_values.specs.Placed.{Placed, byte_at}
+use Rattle.trace_values.specs.Moded.{StandsIn, hunts, skipped_of, is_counted}
+use Rattle.trace_values.specs.Standing.{state_after}
+use Rattle.trace_values.proofs.Modes as laws
+use Rattle.frame_grammar.specs.Port.{Full, Piece, State, start, rule}
+use Rattle.port_sync.specs.Hunting.{pattern, run_of}
+use Rattle.deformatter.specs.Phase.{mode_in}
+use Rattle.deformatter.specs.Reading.{port_stream, cells_in, id_in}
+use Rattle.deformatter.specs.Growth.{PortGrows, goes_on}
+use Rattle.deformatter.specs.Rule.{count_of, step_by, cells_by, id_by}
+use Rattle.deformatter.specs.Deformatter.{IsOf, mode_of, state_of, id_of, is_live, is_hunter, tail_of, skipped_by}
+use Rattle.deformatter.specs.declared.step.PortStep.{PortStep}
+use Rattle.deformatter.specs.declared.deformatter.Deformatter.{Deformatter}
+use Rattle.deformatter.specs.declared.deformatter.Phase.{Phase}
+use Rattle.deformatter.specs.declared.deformatter.Phase.TheVariants.{Hunting as PhaseHunting}
+use Rattle.deformatter.proofs.Feeding.{Fed, fed, long_enough, skips-step, skips-cells, skips-id, locks-step, locks-cells, locks-id, reads_on, stays_live, few_more}
+use Rattle.deformatter.proofs.deformatter.Deformatter.feed.Goals as goal
+
+-- the mode of a deformatter that hunts
+hunts_in : (d : Deformatter) → d.phase ≡ PhaseHunting → mode_of d ≡ Hunting (run_of d.hunter) d.skipped
+hunts_in d e = ap (λ (p : Phase). mode_in p d.hunter d.skipped) e
+
+pub returns-then-push-clause-list : goal.returns-then-push-clause-list
+returns-then-push-clause-list c = λ u s.
+    let d = c.args.self.now in
+    let e = hunts_in d c.in-Hunting.is in
+    let f : (c.args.byte == 127 && run_of d.hunter == 3) ≡ true = sym c.push.ensures.ends ∙ c.if-push.true in
+    record {
+      reads = laws.locks-list pattern Full rule start (mode_of d) (run_of d.hunter) d.skipped c.args.at c.args.byte (is_live d) (state_of d) u e f s.reads;
+      id = λ l. s.id l ∙ locks-id (mode_of d) (run_of d.hunter) d.skipped u c.args.at c.args.byte (is_live d) (state_of d) e s.reads f
+          ∙ ap (λ (m : Mode). id_in (port_stream (hunts m) (u ++ byte_at c.args.at c.args.byte ∷ []))) e;
+    }
+
+pub returns-then-push-clause-step : goal.returns-then-push-clause-step
+returns-then-push-clause-step c = λ u s.
+    let d = c.args.self.now in
+    let f : (c.args.byte == 127 && run_of d.hunter == 3) ≡ true = sym c.push.ensures.ends ∙ c.if-push.true in
+    locks-step (mode_of d) (run_of d.hunter) d.skipped u c.args.at c.args.byte (is_live d) (state_of d) (hunts_in d c.in-Hunting.is) s.reads f
+    (long_enough (run_of d.hunter) d.skipped c.args.byte (sym (ap (λ (p : Phase). is_counted pattern (mode_in p d.hunter d.skipped)) c.in-Hunting.is) ∙ d.counted) f)
+
+pub returns-then-push-clause-cells : goal.returns-then-push-clause-cells
+returns-then-push-clause-cells c = λ u s.
+    let d = c.args.self.now in
+    let f : (c.args.byte == 127 && run_of d.hunter == 3) ≡ true = sym c.push.ensures.ends ∙ c.if-push.true in
+    locks-cells (mode_of d) (run_of d.hunter) d.skipped u c.args.at c.args.byte (is_live d) (state_of d) (hunts_in d c.in-Hunting.is) s.reads f c.args.out.now.items c.requires.out
+
+pub returns-else-push-clause-list : goal.returns-else-push-clause-list
+returns-else-push-clause-list c = λ u s.
+    let d = c.args.self.now in
+    let e = hunts_in d c.in-Hunting.is in
+    let f : (c.args.byte == 127 && run_of d.hunter == 3) ≡ false = sym c.push.ensures.ends ∙ c.if-push.false in
+    let now : mode_in d.phase c.push.new.self (d.skipped + 1) ≡ Hunting (run_of c.push.new.self) (d.skipped + 1) = ap (λ (p : Phase). mode_in p c.push.new.self (d.skipped + 1)) c.in-Hunting.is in
+    record {
+      reads = subst (λ (m : Mode). StandsIn pattern Full rule start m (is_live d) (state_of d) (u ++ byte_at c.args.at c.args.byte ∷ [])) (sym now)
+          (subst (λ (n : ℕ). StandsIn pattern Full rule start (Hunting n (d.skipped + 1)) (is_live d) (state_of d) (u ++ byte_at c.args.at c.args.byte ∷ [])) (sym c.push.ensures.run)
+          (laws.skips-list pattern Full rule start (mode_of d) (run_of d.hunter) d.skipped c.args.at c.args.byte (is_live d) (state_of d) u e f s.reads));
+      id = λ l. s.id l ∙ skips-id (mode_of d) (run_of d.hunter) d.skipped u c.args.at c.args.byte (is_live d) (state_of d) e s.reads f
+          ∙ ap (λ (m : Mode). id_in (port_stream (hunts m) (u ++ byte_at c.args.at c.args.byte ∷ []))) e
+          ∙ sym (ap (λ (m : Mode). id_in (port_stream (hunts m) (u ++ byte_at c.args.at c.args.byte ∷ []))) now);
+    }
+
+pub returns-else-push-clause-step : goal.returns-else-push-clause-step
+returns-else-push-clause-step c = λ u s.
+    let d = c.args.self.now in
+    let f : (c.args.byte == 127 && run_of d.hunter == 3) ≡ false = sym c.push.ensures.ends ∙ c.if-push.false in
+    skips-step (mode_of d) (run_of d.hunter) d.skipped u c.args.at c.args.byte (is_live d) (state_of d) (hunts_in d c.in-Hunting.is) s.reads f
+
+pub returns-else-push-clause-cells : goal.returns-else-push-clause-cells
+returns-else-push-clause-cells c = λ u s.
+    let d = c.args.self.now in
+    let f : (c.args.byte == 127 && run_of d.hunter == 3) ≡ false = sym c.push.ensures.ends ∙ c.if-push.false in
+    skips-cells (mode_of d) (run_of d.hunter) d.skipped u c.args.at c.args.byte (is_live d) (state_of d) (hunts_in d c.in-Hunting.is) s.reads f c.args.out.now.items c.requires.out
+
+-- a byte of the reading
+reading : (c : goal.After-read) (u : List Placed) → IsOf c.args.self.now u →
+    Fed (is_hunter c.args.self.now) u c.args.at c.args.byte (state_of c.args.self.now) (rule (state_of c.args.self.now) (byte_at c.args.at c.args.byte))
+reading c u s =
+    let d = c.args.self.now in
+    fed (mode_of d) (is_live d) (state_of d) u c.args.at c.args.byte c.requires.live (reads_on d.phase d.hunter d.skipped c.in_default.not-Hunting) s.reads
+
+pub returns-in_default : goal.returns-in_default
+returns-in_default c =
+    let d = c.args.self.now in
+    let m = c.read.ensures.mode in
+    record {
+      same = ap hunts m;
+      list = λ u s. record {
+        reads = subst (λ (x : Mode). StandsIn pattern Full rule start x (is_live c.read.new.self) (state_of c.read.new.self) (u ++ byte_at c.args.at c.args.byte ∷ [])) (sym m)
+            (laws.reads-list pattern Full rule start (mode_of d) (is_live d) (state_of d) u (byte_at c.args.at c.args.byte) (is_live c.read.new.self) (state_of c.read.new.self) (rule (state_of d) (byte_at c.args.at c.args.byte))
+            c.requires.live (reads_on d.phase d.hunter d.skipped c.in_default.not-Hunting) refl c.read.ensures.live c.read.ensures.state s.reads);
+        id = λ _. c.read.ensures.id ∙ ap (λ (x : Option ℕ). id_by x (rule (state_of d) (byte_at c.args.at c.args.byte))) (s.id c.requires.live) ∙ sym (reading c u s).id
+            ∙ sym (ap (λ (x : Mode). id_in (port_stream (hunts x) (u ++ byte_at c.args.at c.args.byte ∷ []))) m);
+      };
+      step = λ u s. subst (λ (x : PortStep). PortGrows (port_stream (is_hunter d) u) (port_stream (is_hunter d) (u ++ byte_at c.args.at c.args.byte ∷ [])) c.args.at x) (sym c.read.ensures.step) (reading c u s).grows;
+      cells = λ u s. (reading c u s).cells
+          ∙ ap (λ (x : Option ℕ). cells_in (port_stream (is_hunter d) u) ++ cells_by x (rule (state_of d) (byte_at c.args.at c.args.byte))) (sym (s.id c.requires.live))
+          ∙ ap (λ (l : List Cell). cells_in (port_stream (is_hunter d) u) ++ l) (sym c.read.ensures.cells);
+      live = c.read.ensures.live ∙ stays_live c.args.at (state_of d) (rule (state_of d) (byte_at c.args.at c.args.byte)) ∙ ap goes_on (sym c.read.ensures.step);
+      few = (
+        let a : skipped_by c.read.new.self ≡ skipped_by d = ap skipped_of m in
+        let b : tail_of c.read.new.self ≡ count_of (state_after start (rule (state_of d) (byte_at c.args.at c.args.byte)) (state_of d)) = ap count_of c.read.ensures.state in
+        let e : count_of (state_after start (rule (state_of d) (byte_at c.args.at c.args.byte)) (state_of d)) ≤ tail_of d + 1 =
+        few_more d.aligner.left _ _ d.aligner.part d.first_at d.frame.len (byte_at c.args.at c.args.byte) d.whole d.between d.aligner.fit in
+        joined (tail_of c.read.new.self) (skipped_by c.read.new.self) (tail_of d) (skipped_by d) (count_of (state_after start (rule (state_of d) (byte_at c.args.at c.args.byte)) (state_of d))) a b e);
+    } where
+      joined : (x y z w v : ℕ) → y ≡ w → x ≡ v → v ≤ z + 1 → x + y ≤ z + w + 1
+      joined x y z w v a b e = omega arith

@@ -1,0 +1,101 @@
+-- How the reading of a port's bytes grows with one more byte, and what a step says of it.
+use Rattle.std.specs.Prelude.{◌≡◌, ◌⊎◌, ℕ, ◌+◌, ◌≤◌, List, [], ◌∷◌, ◌++◌, Bool, true, false, if◌then◌else◌, Option, None, Some, is_none}
+use Rattle.trace_values.specs.declared.cell.Cell.{Cell}
+use Rattle.trace_values.specs.declared.fault.Reason.{Reason}
+use Rattle.trace_values.specs.Placed.{Place, Placed}
+use Rattle.trace_values.specs.Stream.{FaultAt}
+use Rattle.frame_grammar.specs.Port.{Piece, Full, Half, Frame}
+use Rattle.deformatter.specs.Reading.{PortStream, cells_in, fulls_of, frames_of}
+use Rattle.deformatter.specs.declared.step.PortStep.{PortStep}
+use Rattle.deformatter.specs.declared.step.PortStep.TheVariants.{Quiet, Half as HalfEnds, Full as FullEnds, Frame as FrameEnds, Locked, Fault as Faulty}
+
+-- the byte at this offset
+abbrev pub place_at : ℕ → Place
+place_at at = record { at = at; half = 0 }
+
+-- the piece that a step ends; a half synchronisation inside a frame is part of the frame
+abbrev pub PiecesBy : List (Piece × Place) → List (Piece × Place) → ℕ → PortStep → Type 0
+PiecesBy old new at Quiet = new ≡ old
+PiecesBy old new at HalfEnds = (new ≡ old) ⊎ (new ≡ old ++ (Half, place_at at) ∷ [])
+PiecesBy old new at FullEnds = new ≡ old ++ (Full, place_at at) ∷ []
+PiecesBy old new at FrameEnds = (bytes : List Placed) × (halves : ℕ) × (new ≡ old ++ (Frame bytes halves, place_at at) ∷ [])
+PiecesBy old new at (Locked skipped) = new ≡ old ++ (Full, place_at at) ∷ []
+PiecesBy old new at (Faulty f) = new ≡ old
+
+-- how many full synchronisations, half synchronisations and frames a step ends
+abbrev pub fulls_by : PortStep → ℕ
+fulls_by FullEnds = 1
+fulls_by (Locked skipped) = 1
+fulls_by step = 0
+
+abbrev pub halves_by : PortStep → ℕ
+halves_by HalfEnds = 1
+halves_by step = 0
+
+abbrev pub frames_by : PortStep → ℕ
+frames_by FrameEnds = 1
+frames_by step = 0
+
+-- the fault behind a step
+abbrev pub fault_by : PortStep → Option (Place × Reason)
+fault_by (Faulty f) = Some (record { at = f.at; half = f.half }, f.reason)
+fault_by step = None
+
+-- a step with which a deformatter stays live
+abbrev pub goes_on : PortStep → Bool
+goes_on (Faulty f) = false
+goes_on step = true
+
+-- it reads, and has skipped as much as before
+pub record Reads (old new : PortStream) : Type 0 where
+  pub before : old.locked ≡ true
+  pub behind : new.locked ≡ true
+  pub skipped : new.skipped ≡ old.skipped
+
+-- What a step says of the hunt: before the lock each byte is skipped, and at the lock the pattern's own three are no longer.
+abbrev pub HuntBy : PortStream → PortStream → ℕ → PortStep → Type 0
+HuntBy old new at Quiet = (new.locked ≡ old.locked) × (new.skipped ≡ (if old.locked then old.skipped else (old.skipped + 1)))
+HuntBy old new at (Locked skipped) = (old.locked ≡ false) × (new.locked ≡ true) × (new.skipped ≡ skipped) × (old.skipped ≡ skipped + 3)
+HuntBy old new at (Faulty f) = (f.at ≡ at) × (f.half ≡ 0) × Reads old new
+HuntBy old new at step = Reads old new
+
+-- With one more byte, at this offset, the reading grew from old to new, and the step says by what.
+pub record PortGrows (old new : PortStream) (at : ℕ) (step : PortStep) : Type 0 where
+  pub pieces : PiecesBy old.pieces new.pieces at step
+  pub halves : new.halves ≡ old.halves + halves_by step
+  pub fulls : fulls_of new ≡ fulls_of old + fulls_by step
+  pub frames : frames_of new ≡ frames_of old + frames_by step
+  pub fault : new.fault ≡ fault_by step
+  pub hunt : HuntBy old new at step
+
+-- What a deformatter shows of the reading of a list: of the tail and the skipped bytes only while it is live.
+pub record PortShows (live locked : Bool) (tail skipped : ℕ) (s : PortStream) : Type 0 where
+  pub live_is : live ≡ is_none s.fault
+  pub locked_is : locked ≡ s.locked
+  pub tail_is : live ≡ true → tail ≡ s.tail
+  pub skipped_is : live ≡ true → skipped ≡ s.skipped
+
+-- behind a fault nothing is read
+pub record PortSettled (old new : PortStream) : Type 0 where
+  pub pieces : new.pieces ≡ old.pieces
+  pub halves : new.halves ≡ old.halves
+  pub fault : new.fault ≡ old.fault
+  pub skipped : new.skipped ≡ old.skipped
+  pub locked : new.locked ≡ old.locked
+
+-- all of these pieces ended at this offset
+abbrev pub AllEndAt : ℕ → List (Piece × Place) → Type 0
+AllEndAt at [] = Unit {0}
+AllEndAt at (x ∷ xs) = (x.1 ≡ place_at at) × AllEndAt at xs
+
+-- With one more byte at this offset a reading has more, what is more stands there, and nothing is taken back.
+pub record PortRises (old new : PortStream) (at : ℕ) : Type 0 where
+  pub more : List (Piece × Place)
+  pub pieces : new.pieces ≡ old.pieces ++ more
+  pub all : AllEndAt at more
+  pub more_cells : List Cell
+  pub cells : cells_in new ≡ cells_in old ++ more_cells
+  pub halves : old.halves ≤ new.halves
+  pub fulls : fulls_of old ≤ fulls_of new
+  pub frames : frames_of old ≤ frames_of new
+  pub fault : FaultAt at old.fault new.fault

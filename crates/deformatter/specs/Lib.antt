@@ -1,0 +1,6 @@
+pub mod Reading
+pub mod Growth
+pub mod Unfinished
+pub mod Rule
+pub mod Phase
+pub mod Deformatter

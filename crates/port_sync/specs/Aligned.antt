@@ -1,0 +1,93 @@
+-- The table of halfwords and synchronisations, and what the port's grammar says by it.
+use Rattle.std.specs.Prelude.{◌≡◌, ◌≢◌, ℕ, ◌+◌, ◌-◌, List, [], ◌∷◌, ◌++◌, Bool, true, false, not, ◌==◌, if◌then◌else◌}
+use Rattle.trace_values.specs.declared.fault.Reason.TheVariants.{BadSync, SyncInFrame}
+use Rattle.trace_values.specs.declared.next.Next.{Next}
+use Rattle.trace_values.specs.declared.next.Next.TheVariants.{Go, Stop, Fail}
+use Rattle.trace_values.specs.Placed.{Placed, byte_at}
+use Rattle.frame_grammar.specs.Port as port
+use Rattle.frame_grammar.specs.Port.{Piece, State, word_ended}
+use Rattle.port_sync.specs.declared.aligner.Half.{Half}
+use Rattle.port_sync.specs.declared.aligner.Half.TheVariants.{Pair, HalfSync, FullSync, Waiting, Bad}
+use Rattle.port_sync.specs.declared.aligner.Part.{Part}
+use Rattle.port_sync.specs.declared.aligner.Part.TheVariants.{Between, First, One, Two, Three}
+
+-- what a byte ends behind this part, where so many halfwords of the frame follow the next one (7 between frames)
+abbrev pub said : ℕ → Part → ℕ → Half
+said left Between b = Waiting
+said left (First a) b = Pair a b
+said left One b = if b == 127 then HalfSync else (if b == 255 then (if left == 7 then Waiting else Bad SyncInFrame) else Bad BadSync)
+said left Two b = if b == 255 then Waiting else Bad BadSync
+said left Three b = if b == 127 then FullSync else Bad BadSync
+
+-- the part that a byte begins or lengthens
+abbrev pub longer : Part → ℕ → Part
+longer Between b = if b == 255 then One else First b
+longer (First a) b = First a
+longer One b = Two
+longer Two b = Three
+longer Three b = Three
+
+-- the part and the halfwords left, behind this answer
+abbrev pub part_after : Half → Part → ℕ → Part
+part_after (Pair a b) part byte = Between
+part_after HalfSync part byte = Between
+part_after FullSync part byte = Between
+part_after Waiting part byte = longer part byte
+part_after (Bad e) part byte = part
+
+abbrev pub left_after : Half → ℕ → ℕ
+left_after (Pair a b) left = if left == 0 then 7 else left - 1
+left_after HalfSync left = left
+left_after FullSync left = left
+left_after Waiting left = left
+left_after (Bad e) left = left
+
+abbrev pub is_bad : Half → Bool
+is_bad (Pair a b) = false
+is_bad HalfSync = false
+is_bad FullSync = false
+is_bad Waiting = false
+is_bad (Bad e) = true
+
+-- a halfword does not begin with FF, and two or three FF stand between frames
+abbrev pub is_fit : ℕ → Part → Bool
+is_fit left Between = true
+is_fit left (First a) = not (a == 255)
+is_fit left One = true
+is_fit left Two = left == 7
+is_fit left Three = left == 7
+
+-- no halfword begins with FF, and full synchronisations stand between frames
+abbrev pub IsSoundAnswer : ℕ → Half → Type 0
+IsSoundAnswer left (Pair a b) = a ≢ 255
+IsSoundAnswer left FullSync = left ≡ 7
+IsSoundAnswer left half = Unit {0}
+
+-- how many bytes of a part are there
+abbrev pub size_of : Part → ℕ
+size_of Between = 0
+size_of (First a) = 1
+size_of One = 1
+size_of Two = 2
+size_of Three = 3
+
+-- the part in the port's grammar, where its first byte stands at this offset
+abbrev pub placed_part : Part → ℕ → port.Part
+placed_part Between at = port.Between
+placed_part (First a) at = port.First (byte_at at a)
+placed_part One at = port.One
+placed_part Two at = port.Two
+placed_part Three at = port.Three
+
+-- the grammar's state: the halfwords left, the frame's bytes, the half synchronisations between them, and the part
+abbrev pub state : ℕ → List Placed → ℕ → Part → ℕ → State
+state left bytes halves part at = record { left = left; bytes = bytes; halves = halves; part = placed_part part at }
+
+-- what the grammar's rule says of a byte at the offset here, by what the byte ends
+abbrev pub outcome : ℕ → List Placed → ℕ → Part → ℕ → ℕ → ℕ → Half → Next State Piece
+outcome left bytes halves part at here byte (Pair a b) = word_ended left (bytes ++ (byte_at at a ∷ (byte_at here b ∷ []))) halves
+outcome left bytes halves part at here byte HalfSync =
+    if left == 7 then Stop port.Half else Go (record { left = left; bytes = bytes; halves = halves + 1; part = port.Between })
+outcome left bytes halves part at here byte FullSync = Stop port.Full
+outcome left bytes halves part at here byte Waiting = Go (state left bytes halves (longer part byte) here)
+outcome left bytes halves part at here byte (Bad e) = Fail e

@@ -1,0 +1,241 @@
+//! Halfwords and synchronisations.
+
+ghost use Rattle.std.specs.Prelude.{◌≡◌, ◌≤◌, true, false, not, ℕ};
+ghost use Rattle.port_sync.specs.Aligned.{is_fit};
+
+use trace_values::Reason;
+
+/// What a byte ends.
+#[derive(Clone, Copy, Debug, PartialEq, Eq, Drop)]
+pub enum Half {
+    /// A halfword of a frame, with its first and its second byte.
+    Pair(u8, u8),
+    /// `FF 7F`, between frames or inside one.
+    HalfSync,
+    /// `FF FF FF 7F`, between frames.
+    FullSync,
+    /// Nothing yet.
+    Waiting,
+    /// No halfword and no synchronisation goes on so.
+    Bad(Reason),
+}
+
+/// What of a halfword or a synchronisation is there: nothing, a halfword's first byte, or so many FF.
+#[derive(Clone, Copy, Debug, PartialEq, Eq, Drop)]
+pub enum Part {
+    Between,
+    First(u8),
+    One,
+    Two,
+    Three,
+}
+
+/// Puts the bytes of a port together to halfwords and synchronisations, and counts the halfwords of the
+/// frame.
+#[derive(Debug, Drop)]
+pub struct Aligner {
+    /// How many halfwords of the frame follow the next one; 7 between frames.
+    left: u8,
+    part: Part,
+    live: bool,
+    ghost in_range: { left ≤ 7 },
+    ghost fit: { is_fit left part ≡ true },
+}
+
+impl Aligner {
+    ghost use Rattle.std.specs.Prelude.{◌+◌, ◌*◌};
+    ghost use Rattle.port_sync.specs.Aligned.{said, part_after, left_after, is_bad, IsSoundAnswer, size_of};
+    ghost use Rattle.port_sync.specs.Aligner.{left_of, part_of, is_live};
+    ghost use Rattle.port_sync.specs.declared.aligner.Half.TheVariants.{Waiting, Bad};
+    ghost use Rattle.port_sync.specs.declared.aligner.Part.TheVariants.{Between};
+
+    /// An aligner of bytes that begin between frames.
+    pub fn new() -> Aligner
+        ensures left { left_of result ≡ 7 }
+        ensures part { part_of result ≡ Between }
+        ensures live { is_live result ≡ true }
+    {
+        Aligner {
+            left: 7,
+            part: Part::Between,
+            live: true,
+        }
+    }
+
+    /// False exactly behind a byte that was `Bad`.
+    #[inline]
+    pub fn is_live(&self) -> bool
+        ensures { result ≡ is_live self.now }
+    {
+        self.live
+    }
+
+    /// How many bytes of an unfinished halfword or synchronisation there are, 0 to 3.
+    #[inline]
+    pub fn len(&self) -> u8
+        ensures size { result ≡ size_of (part_of self.now) }
+        ensures few { result ≤ 3 }
+    {
+        match self.part {
+            Part::Between => 0,
+            Part::First(_) | Part::One => 1,
+            Part::Two => 2,
+            Part::Three => 3,
+        }
+    }
+
+    /// Takes the next byte. No earlier byte may have been `Bad`.
+    #[inline]
+    pub fn push(&mut self, byte: u8) -> Half
+        requires { is_live self.old ≡ true }
+        ensures said { result ≡ said (left_of self.old) (part_of self.old) byte }
+        ensures sound { IsSoundAnswer (left_of self.old) result }
+        ensures left { left_of self.new ≡ left_after result (left_of self.old) }
+        ensures part { part_of self.new ≡ part_after result (part_of self.old) byte }
+        ensures live { is_live self.new ≡ not (is_bad result) }
+        ensures range { (left_of self.old ≤ 7) × (left_of self.new ≤ 7) }
+    {
+        match self.part {
+            Part::Between => self.wait(if byte == 0xFF {
+                Part::One
+            } else {
+                Part::First(byte)
+            }),
+            Part::First(first) => {
+                self.left = if self.left == 0 { 7 } else { self.left - 1 };
+                self.end(Half::Pair(first, byte))
+            }
+            Part::One => match byte {
+                0x7F => self.end(Half::HalfSync),
+                0xFF if self.left == 7 => self.wait(Part::Two),
+                0xFF => self.fail(Reason::SyncInFrame),
+                _ => self.fail(Reason::BadSync),
+            },
+            Part::Two if byte == 0xFF => self.wait(Part::Three),
+            Part::Three if byte == 0x7F => self.end(Half::FullSync),
+            Part::Two | Part::Three => self.fail(Reason::BadSync),
+        }
+    }
+
+    /// The byte ends nothing: this much is there.
+    #[inline]
+    fn wait(&mut self, part: Part) -> Half
+        requires { is_fit self.old.left part ≡ true }
+        ensures result { result ≡ Waiting }
+        ensures left { self.new.left ≡ self.old.left }
+        ensures part { self.new.part ≡ part }
+        ensures live { self.new.live ≡ self.old.live }
+    {
+        self.part = part;
+        Half::Waiting
+    }
+
+    /// The byte ends this.
+    #[inline]
+    fn end(&mut self, half: Half) -> Half
+        ensures result { result ≡ half }
+        ensures left { self.new.left ≡ self.old.left }
+        ensures part { self.new.part ≡ Between }
+        ensures live { self.new.live ≡ self.old.live }
+    {
+        self.part = Part::Between;
+        half
+    }
+
+    /// The byte is a fault.
+    #[inline]
+    fn fail(&mut self, reason: Reason) -> Half
+        ensures result { result ≡ Bad reason }
+        ensures left { self.new.left ≡ self.old.left }
+        ensures part { self.new.part ≡ self.old.part }
+        ensures live { self.new.live ≡ false }
+    {
+        self.live = false;
+        Half::Bad(reason)
+    }
+}
+
+#[cfg(test)]
+mod tests {
+    use super::*;
+    use std::process::Abort;
+
+    /// Takes these bytes, the last of which must give this answer and all others `Waiting`.
+    fn expect(rt: &impl Abort, aligner: &mut Aligner, bytes: &[u8], last: Half) {
+        for (index, byte) in bytes.iter().enumerate() {
+            assert!(rt; aligner.is_live());
+            let answer = aligner.push(*byte);
+            let wanted = if index + 1 == bytes.len() {
+                last
+            } else {
+                Half::Waiting
+            };
+            assert_eq!(rt; answer, wanted, "{bytes:?} at {index}");
+        }
+    }
+
+    /// An aligner inside a frame, behind so many halfwords of it.
+    fn inside(rt: &impl Abort, words: u8) -> Aligner {
+        let mut aligner = Aligner::new();
+        for _word in 0..words {
+            expect(rt, &mut aligner, b"\x02\xff", Half::Pair(2, 255));
+        }
+        aligner
+    }
+
+    #[test]
+    fn ends_by_the_table(rt: HostRuntime) {
+        let anywhere: [(&[u8], Half); 8] = [
+            (b"\0\0", Half::Pair(0, 0)),
+            (b"\xfe\xff", Half::Pair(0xfe, 0xff)),
+            (b"\x7f\x7f", Half::Pair(0x7f, 0x7f)),
+            (b"\x7f\xff", Half::Pair(0x7f, 0xff)),
+            (b"\xff\x7f", Half::HalfSync),
+            (b"\xff\0", Half::Bad(Reason::BadSync)),
+            (b"\xff\x7e", Half::Bad(Reason::BadSync)),
+            (b"\xff\xfe", Half::Bad(Reason::BadSync)),
+        ];
+        for words in 0..18 {
+            for (bytes, last) in anywhere {
+                expect(&rt, &mut inside(&rt, words), bytes, last);
+            }
+        }
+        let between: [(&[u8], Half); 5] = [
+            (b"\xff\xff\xff\x7f", Half::FullSync),
+            (b"\xff\xff\0", Half::Bad(Reason::BadSync)),
+            (b"\xff\xff\x7f", Half::Bad(Reason::BadSync)),
+            (b"\xff\xff\xff\0", Half::Bad(Reason::BadSync)),
+            (b"\xff\xff\xff\xff", Half::Bad(Reason::BadSync)),
+        ];
+        for words in [0, 8, 16] {
+            for (bytes, last) in between {
+                expect(&rt, &mut inside(&rt, words), bytes, last);
+            }
+        }
+        for words in [1, 2, 7, 9, 15] {
+            expect(
+                &rt,
+                &mut inside(&rt, words),
+                b"\xff\xff",
+                Half::Bad(Reason::SyncInFrame),
+            );
+        }
+    }
+
+    #[test]
+    fn counts_no_synchronisation_as_a_halfword(rt: HostRuntime) {
+        let mut aligner = inside(&rt, 3);
+        expect(&rt, &mut aligner, b"\xff\x7f", Half::HalfSync);
+        expect(&rt, &mut aligner, b"\xff\x7f", Half::HalfSync);
+        for _word in 0..5 {
+            expect(&rt, &mut aligner, b"\x02\x03", Half::Pair(2, 3));
+        }
+        expect(&rt, &mut aligner, b"\xff\x7f", Half::HalfSync);
+        expect(&rt, &mut aligner, b"\xff\xff\xff\x7f", Half::FullSync);
+        assert_eq!(rt; aligner.len(), 0);
+        expect(&rt, &mut aligner, b"\xff\xff\xff", Half::Waiting);
+        assert_eq!(rt; aligner.len(), 3);
+        expect(&rt, &mut aligner, b"\xff", Half::Bad(Reason::BadSync));
+        assert!(rt; !aligner.is_live());
+    }
+}
