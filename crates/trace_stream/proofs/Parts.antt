@@ -29,16 +29,17 @@ served_at_end stands faulty text ending limit left_old left_new start held new p
   ended = pumped.outcome.2;
 }
 
+-- at a stop, where the action stands
 pub served_stopped : (stands faulty : List ℕ → Type 0) (text ending : List ℕ → List ℕ) (limit : ℕ) (left_old left_new start held new : Option (List ℕ)) (pending recent : List ℕ)
     → ((xs ys : List ℕ) → faulty xs → faulty (xs ++ ys)) → ((xs ys : List ℕ) → faulty xs → text (xs ++ ys) ≡ text xs) → ((xs ys : List ℕ) → faulty xs → ending (xs ++ ys) ≡ ending xs)
     → (pumped : HasPumped stands faulty text limit left_old left_new start held pending recent FaultFound) → Appends start new (text pumped.seen ++ ending pumped.seen)
-    → HasServed faulty text ending limit left_old left_new start new recent outcome_of.Stopped
+    → HasStopped stands faulty text ending limit left_old left_new start new recent
 served_stopped stands faulty text ending limit left_old left_new start held new pending recent faulty_stays text_stays ending_stays pumped written =
     let more = take (limit - length pumped.seen) pumped.extra in
     let front = first_bytes limit pumped.seen pumped.extra pumped.within in
     let same_text : text (take limit (pumped.seen ++ pumped.extra)) ≡ text pumped.seen = ap text front ∙ text_stays pumped.seen more pumped.outcome.certain.broken in
     let same_ending : ending (take limit (pumped.seen ++ pumped.extra)) ≡ ending pumped.seen = ap ending front ∙ ending_stays pumped.seen more pumped.outcome.certain.broken in
-    record {
+    let served : HasServed faulty text ending limit left_old left_new start new recent outcome_of.Stopped = record {
       bytes = pumped.seen ++ pumped.extra;
       out = text pumped.seen ++ ending pumped.seen;
       lost = pumped.lost;
@@ -46,7 +47,8 @@ served_stopped stands faulty text ending limit left_old left_new start held new 
       at_most = omega (arith, pumped.at_most, length-append pumped.seen pumped.extra);
       outcome = (record { seen = pumped.seen; rest = more; parts = front; certain = pumped.outcome.certain; broken = subst faulty (sym front) (faulty_stays pumped.seen more pumped.outcome.certain.broken) }, cc, pumped.kept);
       ended = tt;
-    }
+    } in
+    record { served = served; holds = pumped.outcome.read }
 
 pub served_read_failed : (stands faulty : List ℕ → Type 0) (text ending : List ℕ → List ℕ) (limit : ℕ) (left_old left_new start held : Option (List ℕ)) (pending recent : List ℕ)
     → HasPumped stands faulty text limit left_old left_new start held pending recent ReadFailed
@@ -115,16 +117,3 @@ stopped_in_part faulty text ending limit seen extra text_stays ending_stays brok
     let same_text : text (take limit (seen ++ extra)) ≡ text seen = ap text front ∙ text_stays seen more broken in
     let same_ending : ending (take limit (seen ++ extra)) ≡ ending seen = ap ending front ∙ ending_stays seen more broken in
     ([], ap (λ l. l ++ ending (take limit (seen ++ extra))) same_text ∙ ap (λ l. text seen ++ l) same_ending ∙ sym (append-nil (text seen ++ ending seen)))
-
--- the action stands where the fault became certain
-pub stopped_there : (stands faulty : List ℕ → Type 0) (text : List ℕ → List ℕ) (limit : ℕ) (left_old left_new start held : Option (List ℕ)) (pending recent : List ℕ)
-    → HasPumped stands faulty text limit left_old left_new start held pending recent FaultFound → HasStopped stands faulty limit left_old left_new
-stopped_there stands faulty text limit left_old left_new start held pending recent pumped = record {
-  bytes = pumped.seen ++ pumped.extra;
-  seen = pumped.seen;
-  rest = take (limit - length pumped.seen) pumped.extra;
-  lost = pumped.lost;
-  parts = first_bytes limit pumped.seen pumped.extra pumped.within;
-  certain = pumped.outcome.certain;
-  holds = pumped.outcome.read;
-}

@@ -39,12 +39,7 @@ pub record HasServed (faulty : List ℕ → Type 0) (text ending : List ℕ → 
   pub outcome : ServedBy faulty text ending limit result bytes out recent
   pub ended : EndsAt left_new result
 
--- the input lost these bytes, and this holds of those up to the one at which the fault became certain
-pub record HasStopped (there faulty : List ℕ → Type 0) (limit : ℕ) (left_old left_new : Option (List ℕ)) : Type 0 where
-  pub bytes : List ℕ
-  pub seen : List ℕ
-  pub rest : List ℕ
-  pub lost : Consumes left_old left_new bytes
-  pub parts : take limit bytes ≡ seen ++ rest
-  pub certain : IsCertainAt faulty seen
-  pub holds : there seen
+-- a run that stopped was served so, and this holds of the bytes up to the one at which the fault became certain
+pub record HasStopped (there faulty : List ℕ → Type 0) (text ending : List ℕ → List ℕ) (limit : ℕ) (left_old left_new held_old held_new : Option (List ℕ)) (recent : List ℕ) : Type 0 where
+  pub served : HasServed faulty text ending limit left_old left_new held_old held_new recent Stopped
+  pub holds : there served.outcome.0.seen

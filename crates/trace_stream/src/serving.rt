@@ -63,7 +63,8 @@ fn pump_and_finish<A: Action, I: Source, O: Sink>(
     ensures served { HasServed (A.faulty (A.plan action.old)) (A.text (A.plan action.old)) (A.ending (A.plan action.old)) limit
         (I.left input.old) (I.left input.new) (O.held output.old) (O.held output.new) recent.new result }
     ensures same { A.plan action.new ≡ A.plan action.old }
-    ensures stopped { result ≡ Outcome.Stopped → HasStopped (A.stands action.new) (A.faulty (A.plan action.old)) limit (I.left input.old) (I.left input.new) }
+    ensures stopped { result ≡ Outcome.Stopped → HasStopped (A.stands action.new) (A.faulty (A.plan action.old)) (A.text (A.plan action.old)) (A.ending (A.plan action.old)) limit
+        (I.left input.old) (I.left input.new) (O.held output.old) (O.held output.new) recent.new }
     ensures written { result ≢ Outcome.WriteFailed → outlet.new ≡ [] }
     ensures read_later { I.faults input.old ≤ I.faults input.new }
     ensures write_later { O.faults output.old ≤ O.faults output.new }
@@ -106,7 +107,8 @@ pub fn serve<A: Action, I: Source, O: Sink>(
     ensures served { HasServed (A.faulty (A.plan action.old)) (A.text (A.plan action.old)) (A.ending (A.plan action.old)) limit
         (I.left input.old) (I.left input.new) (O.held output.old) (O.held output.new) buffers.new.recent result }
     ensures same { A.plan action.new ≡ A.plan action.old }
-    ensures stopped { result ≡ Outcome.Stopped → HasStopped (A.stands action.new) (A.faulty (A.plan action.old)) limit (I.left input.old) (I.left input.new) }
+    ensures stopped { result ≡ Outcome.Stopped → HasStopped (A.stands action.new) (A.faulty (A.plan action.old)) (A.text (A.plan action.old)) (A.ending (A.plan action.old)) limit
+        (I.left input.old) (I.left input.new) (O.held output.old) (O.held output.new) buffers.new.recent }
     ensures written { result ≢ Outcome.WriteFailed → buffers.new.pending ≡ [] }
     ensures read_later { I.faults input.old ≤ I.faults input.new }
     ensures write_later { O.faults output.old ≤ O.faults output.new }

@@ -1,4 +1,4 @@
-use Rattle.trace_stream.proofs.Parts.{served_at_end, served_stopped, served_read_failed, served_over_limit, served_in_part, text_in_part, all_in_part, stopped_in_part, stopped_there}
+use Rattle.trace_stream.proofs.Parts.{served_at_end, served_stopped, served_read_failed, served_over_limit, served_in_part, text_in_part, all_in_part, stopped_in_part}
 use Rattle.trace_stream.proofs.serving.pump_and_finish.Goals as goal
 
 pub returns-in-Ok-clause-served : goal.returns-in-Ok-clause-served
@@ -17,8 +17,8 @@ pub returns-in-Ok-finish-clause-served : goal.returns-in-Ok-finish-clause-served
 returns-in-Ok-finish-clause-served g c =
     let p = c.in-FaultFound.ensures.pumped in
     let plan = g.A.Action.plan c.args.action.now in
-    served_stopped _ _ _ _ _ _ _ _ _ _ _ _ (g.met.A.Action.faulty_stays plan) (g.met.A.Action.text_stays plan) (g.met.A.Action.ending_stays plan) p
-    (c.in-Ok-finish.ensures.ok _ p.seen _ c.in-FaultFound.ensures.same p.outcome.read p.outcome.written)
+    (served_stopped _ _ _ _ _ _ _ _ _ _ _ _ (g.met.A.Action.faulty_stays plan) (g.met.A.Action.text_stays plan) (g.met.A.Action.ending_stays plan) p
+    (c.in-Ok-finish.ensures.ok _ p.seen _ c.in-FaultFound.ensures.same p.outcome.read p.outcome.written)).served
 
 pub returns-in-Err-finish-clause-served : goal.returns-in-Err-finish-clause-served
 returns-in-Err-finish-clause-served g c =
@@ -40,4 +40,8 @@ pub returns-in-OverLimit-clause-served : goal.returns-in-OverLimit-clause-served
 returns-in-OverLimit-clause-served g c = served_over_limit _ _ _ _ _ _ _ _ _ _ _ c.in-OverLimit.ensures.pumped
 
 pub returns-in-Ok-finish-clause-stopped : goal.returns-in-Ok-finish-clause-stopped
-returns-in-Ok-finish-clause-stopped g c = λ e. stopped_there _ _ _ _ _ _ _ _ _ _ c.in-FaultFound.ensures.pumped
+returns-in-Ok-finish-clause-stopped g c = λ e.
+    let p = c.in-FaultFound.ensures.pumped in
+    let plan = g.A.Action.plan c.args.action.now in
+    served_stopped _ _ _ _ _ _ _ _ _ _ _ _ (g.met.A.Action.faulty_stays plan) (g.met.A.Action.text_stays plan) (g.met.A.Action.ending_stays plan) p
+    (c.in-Ok-finish.ensures.ok _ p.seen _ c.in-FaultFound.ensures.same p.outcome.read p.outcome.written)
