@@ -10,10 +10,13 @@ ghost use Rattle.capture_command.specs.Words.{AsksFor};
 ghost use Rattle.capture_command.specs.Notes.{Notes};
 ghost use Rattle.capture_command.specs.Run.{HasRun, Untouched, Loses, IsDoneOrNoMemory};
 
+pub mod frames;
 mod notes;
 mod packets;
 pub mod rows;
 mod show;
+pub mod split;
+pub mod split_plan;
 mod status;
 #[cfg(test)]
 mod tests;
