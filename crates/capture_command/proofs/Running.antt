@@ -5,11 +5,12 @@ use Rattle.std.specs.declared.option.Option.{Option}
 use Rattle.std.specs.Prelude.{codes}
 use Rattle.std.specs.Io.KnownBytes.{Consumes}
 use Rattle.std.proofs.KnownBytes.{Consumes-nil, Appends-nil}
-use Rattle.trace_stream.specs.Served.{HasServed}
+use Rattle.circular_buffer.specs.Buffer.{keep_last}
+use Rattle.trace_stream.specs.Served.{HasServed, HasStopped}
 use Rattle.trace_stream.specs.declared.serving.Outcome.{Outcome}
 use Rattle.trace_stream.specs.declared.serving.Outcome.TheVariants.{AtEnd, Stopped, ReadFailed, WriteFailed, OverLimit}
 use Rattle.capture_command.specs.declared.status.Status.TheVariants.{NoMemory}
-use Rattle.capture_command.specs.Notes.{Notes, note_of, last_line, limit_line}
+use Rattle.capture_command.specs.Notes.{Notes, note_of, limit_line}
 use Rattle.capture_command.specs.Run.{HasRun, Loses, IsDoneOrNoMemory}
 use Rattle.capture_command.specs.Statuses.{status_of}
 
@@ -34,22 +35,26 @@ complete_of OverLimit faulty text ending limit left_old left_new held_old held_n
     absurd (omega (arith, ap length same, served.outcome.1))
 
 -- the table of outcomes is that of statuses
-pub run_of : (outcome : Outcome) (faulty : List ℕ → Type 0) (text ending : List ℕ → List ℕ) (limit : ℕ) (left_old left_new held_old held_new notes_old notes_new : Option (List ℕ)) (faults_old faults_new : ℕ) (recent : List ℕ)
-    → HasServed faulty text ending limit left_old left_new held_old held_new recent outcome → Notes notes_old notes_new faults_old faults_new (note_of (status_of outcome) limit recent)
-    → HasRun faulty text ending limit left_old left_new held_old held_new notes_old notes_new faults_old faults_new (status_of outcome)
-run_of AtEnd faulty text ending limit left_old left_new held_old held_new notes_old notes_new faults_old faults_new recent s n =
+pub run_of : (outcome : Outcome) (faulty : List ℕ → Type 0) (text ending fault_note : List ℕ → List ℕ) (limit : ℕ) (left_old left_new held_old held_new notes_old notes_new : Option (List ℕ)) (faults_old faults_new : ℕ) (recent at_fault : List ℕ) (there : List ℕ → Type 0)
+    → HasServed faulty text ending limit left_old left_new held_old held_new recent outcome
+    → (outcome ≡ Stopped → HasStopped there faulty text ending limit left_old left_new held_old held_new recent)
+    → ((seen : List ℕ) → there seen → recent ≡ keep_last 16 seen → at_fault ≡ fault_note seen)
+    → Notes notes_old notes_new faults_old faults_new (note_of (status_of outcome) limit at_fault)
+    → HasRun faulty text ending fault_note limit left_old left_new held_old held_new notes_old notes_new faults_old faults_new (status_of outcome)
+run_of AtEnd faulty text ending fault_note limit left_old left_new held_old held_new notes_old notes_new faults_old faults_new recent at_fault there s stopped noted_as n =
     record { bytes = s.bytes; out = s.out; note = []; lost = s.lost; gained = s.gained; noted = n; at_most = s.at_most; writes = (s.outcome.0, s.outcome.1, s.outcome.2, refl); ended = s.ended }
-run_of Stopped faulty text ending limit left_old left_new held_old held_new notes_old notes_new faults_old faults_new recent s n =
-    record { bytes = s.bytes; out = s.out; note = last_line recent; lost = s.lost; gained = s.gained; noted = n; at_most = s.at_most; writes = (s.outcome.0, s.outcome.1, ap last_line s.outcome.2); ended = tt }
-run_of ReadFailed faulty text ending limit left_old left_new held_old held_new notes_old notes_new faults_old faults_new recent s n =
+run_of Stopped faulty text ending fault_note limit left_old left_new held_old held_new notes_old notes_new faults_old faults_new recent at_fault there s stopped noted_as n =
+    let k = stopped refl in
+    record { bytes = k.served.bytes; out = k.served.out; note = at_fault; lost = k.served.lost; gained = k.served.gained; noted = n; at_most = k.served.at_most; writes = (k.served.outcome.0, k.served.outcome.1, noted_as k.served.outcome.0.seen k.holds k.served.outcome.2); ended = tt }
+run_of ReadFailed faulty text ending fault_note limit left_old left_new held_old held_new notes_old notes_new faults_old faults_new recent at_fault there s stopped noted_as n =
     record { bytes = s.bytes; out = s.out; note = codes "read fault\n"; lost = s.lost; gained = s.gained; noted = n; at_most = s.at_most; writes = (s.outcome.0, s.outcome.1, s.outcome.2, refl); ended = tt }
-run_of WriteFailed faulty text ending limit left_old left_new held_old held_new notes_old notes_new faults_old faults_new recent s n =
+run_of WriteFailed faulty text ending fault_note limit left_old left_new held_old held_new notes_old notes_new faults_old faults_new recent at_fault there s stopped noted_as n =
     record { bytes = s.bytes; out = s.out; note = codes "write fault\n"; lost = s.lost; gained = s.gained; noted = n; at_most = s.at_most; writes = (s.outcome, refl); ended = tt }
-run_of OverLimit faulty text ending limit left_old left_new held_old held_new notes_old notes_new faults_old faults_new recent s n =
+run_of OverLimit faulty text ending fault_note limit left_old left_new held_old held_new notes_old notes_new faults_old faults_new recent at_fault there s stopped noted_as n =
     record { bytes = s.bytes; out = s.out; note = limit_line limit; lost = s.lost; gained = s.gained; noted = n; at_most = s.at_most; writes = (s.outcome.0, s.outcome.1, s.outcome.2, refl); ended = tt }
 
 -- with no memory to begin with nothing is read or written
-pub run_unopened : (faulty : List ℕ → Type 0) (text ending : List ℕ → List ℕ) (limit : ℕ) (left held notes_old notes_new : Option (List ℕ)) (faults_old faults_new : ℕ)
-    → Notes notes_old notes_new faults_old faults_new (codes "no memory\n") → HasRun faulty text ending limit left left held held notes_old notes_new faults_old faults_new NoMemory
-run_unopened faulty text ending limit left held notes_old notes_new faults_old faults_new n =
+pub run_unopened : (faulty : List ℕ → Type 0) (text ending fault_note : List ℕ → List ℕ) (limit : ℕ) (left held notes_old notes_new : Option (List ℕ)) (faults_old faults_new : ℕ)
+    → Notes notes_old notes_new faults_old faults_new (codes "no memory\n") → HasRun faulty text ending fault_note limit left left held held notes_old notes_new faults_old faults_new NoMemory
+run_unopened faulty text ending fault_note limit left held notes_old notes_new faults_old faults_new n =
     record { bytes = []; out = []; note = codes "no memory\n"; lost = Consumes-nil left; gained = Appends-nil held; noted = n; at_most = omega arith; writes = (refl, refl, refl); ended = tt }

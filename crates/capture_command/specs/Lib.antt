@@ -6,3 +6,6 @@ pub mod Words
 pub mod Show
 pub mod Notes
 pub mod Run
+pub mod Split
+pub mod SplitLaws
+pub mod Splitter

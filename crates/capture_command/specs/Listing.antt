@@ -6,7 +6,9 @@ use Rattle.trace_values.specs.Placed.{Place, Placed, placed}
 use Rattle.trace_values.specs.Stream.{Said, Notice, Kept, Stream}
 use Rattle.itm_grammar.specs.declared.packet.ItmPacket.{ItmPacket}
 use Rattle.itm_codec.specs.Reading.{packets_in}
+use Rattle.circular_buffer.specs.Buffer.{keep_last}
 use Rattle.capture_command.specs.ItemText.{item_text}
+use Rattle.capture_command.specs.Notes.{last_line}
 use Rattle.capture_command.specs.declared.packets.PacketsMode.{PacketsMode}
 use Rattle.capture_command.specs.declared.packets.PacketsMode.TheVariants.{Hunt, Aligned}
 
@@ -67,3 +69,7 @@ ending mode bytes = ending_by mode (length bytes) (packets_of mode bytes) (packe
 -- the whole listing
 abbrev pub listing : PacketsMode → List ℕ → List ℕ
 listing mode bytes = listed mode bytes ++ ending mode bytes
+
+-- the note at a fault, which is certain with the last of these bytes: these last bytes
+abbrev pub show_note : List ℕ → List ℕ
+show_note seen = last_line (keep_last 16 seen)

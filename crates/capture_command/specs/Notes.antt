@@ -15,15 +15,15 @@ last_line recent = codes "last " ++ (encode_lower recent ++ codes "\n")
 abbrev pub limit_line : ℕ → List ℕ
 limit_line limit = codes "limit " ++ (decimal limit ++ codes "\n")
 
--- the note of a status, where these are the last bytes up to a fault
+-- the note of a status, where this is what is noted at a fault of the capture
 abbrev pub note_of : Status → ℕ → List ℕ → List ℕ
-note_of Done limit recent = []
-note_of Usage limit recent = codes "usage: unbuilt\n"
-note_of CaptureFault limit recent = last_line recent
-note_of ReadFault limit recent = codes "read fault\n"
-note_of WriteFault limit recent = codes "write fault\n"
-note_of NoMemory limit recent = codes "no memory\n"
-note_of Limit limit recent = limit_line limit
+note_of Done limit at_fault = []
+note_of Usage limit at_fault = codes "usage: unbuilt\n"
+note_of CaptureFault limit at_fault = at_fault
+note_of ReadFault limit at_fault = codes "read fault\n"
+note_of WriteFault limit at_fault = codes "write fault\n"
+note_of NoMemory limit at_fault = codes "no memory\n"
+note_of Limit limit at_fault = limit_line limit
 
 -- the notes gained this text, unless they failed
 abbrev pub Notes : Option (List ℕ) → Option (List ℕ) → ℕ → ℕ → List ℕ → Type 0

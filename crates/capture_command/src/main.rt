@@ -1,34 +1,41 @@
-//! Lists the packets of a bare ITM stream that comes on standard input.
+//! Lists the packets of a bare ITM stream that comes on standard input, or takes the bytes of one source out of the
+//! frames of a trace port.
 #![tactic(auto)]
 
 ghost use Rattle.std.specs.Prelude.{◌≡◌, ℕ, ◌≤◌, List, length, map, codes};
 ghost use Rattle.std.specs.String.{string_bytes};
 ghost use Rattle.trace_io.specs.Causes.{Rose};
 ghost use Rattle.capture_command.specs.declared.packets.PacketsMode.{PacketsMode};
-ghost use Rattle.capture_command.specs.Listing.{IsFaulty, listed, ending};
-ghost use Rattle.capture_command.specs.Words.{AsksFor};
+ghost use Rattle.capture_command.specs.declared.split_plan.SplitPlan.{SplitPlan};
+ghost use Rattle.capture_command.specs.Listing.{IsFaulty, listed, ending, show_note};
+ghost use Rattle.capture_command.specs.Split.{split_faulty, split_text, split_ending, split_note};
+ghost use Rattle.capture_command.specs.Words.{AsksFor, AsksForSplit};
 ghost use Rattle.capture_command.specs.Notes.{Notes};
 ghost use Rattle.capture_command.specs.Run.{HasRun, Untouched, Loses, IsDoneOrNoMemory};
 
+mod actions;
+mod frames;
 mod notes;
 mod packets;
 pub mod rows;
 mod show;
+mod split;
+mod split_plan;
 mod status;
 #[cfg(test)]
 mod tests;
 mod text;
 mod words;
 
-use notes::{note, note_status};
-use show::Show;
+use notes::note;
+use actions::{run_show, run_split};
 use status::Status;
 use std::alloc::Global;
 use std::env;
 use std::process::ExitCode;
 use trace_io::{ReadAdapter, Sink, Source, WriteAdapter};
-use trace_stream::{Buffers, serve};
-use words::mode_of;
+use trace_stream::Buffers;
+use words::{Job, job_of};
 
 /// The most bytes of input.
 pub const LIMIT: u64 = 16777216;
@@ -48,14 +55,19 @@ pub fn run<I: Source, O: Sink, N: Sink>(
 ) -> Status
     // The words.
     ensures usage { (mode : PacketsMode) → result ≡ Status.Usage → AsksFor (map string_bytes words.now) mode → ⊥ }
-    ensures misuse { ((mode : PacketsMode) → AsksFor (map string_bytes words.now) mode → ⊥) → result ≡ Status.Usage }
+    ensures usage_split { (plan : SplitPlan) → result ≡ Status.Usage → AsksForSplit (map string_bytes words.now) plan → ⊥ }
+    ensures misuse { ((mode : PacketsMode) → AsksFor (map string_bytes words.now) mode → ⊥) →
+        ((plan : SplitPlan) → AsksForSplit (map string_bytes words.now) plan → ⊥) → result ≡ Status.Usage }
     ensures untouched { result ≡ Status.Usage → Untouched (I.left input.old) (I.left input.new) (O.held output.old) (O.held output.new) }
     ensures usage_note { result ≡ Status.Usage → Notes (N.held notes.old) (N.held notes.new) (N.faults notes.old) (N.faults notes.new) (codes "usage: unbuilt\n") }
 
     // What was read, written and noted, by the status.
     ensures show { (mode : PacketsMode) → AsksFor (map string_bytes words.now) mode →
-        HasRun (IsFaulty mode) (listed mode) (ending mode) LIMIT (I.left input.old) (I.left input.new) (O.held output.old) (O.held output.new)
-        (N.held notes.old) (N.held notes.new) (N.faults notes.old) (N.faults notes.new) result }
+        HasRun (IsFaulty mode) (listed mode) (ending mode) show_note LIMIT (I.left input.old) (I.left input.new) (O.held output.old) (O.held output.new)
+            (N.held notes.old) (N.held notes.new) (N.faults notes.old) (N.faults notes.new) result }
+    ensures split { (plan : SplitPlan) → AsksForSplit (map string_bytes words.now) plan →
+        HasRun (split_faulty plan) (split_text plan) (split_ending plan) (split_note plan) LIMIT (I.left input.old) (I.left input.new) (O.held output.old) (O.held output.new)
+            (N.held notes.old) (N.held notes.new) (N.faults notes.old) (N.faults notes.new) result }
 
     // The causes of what the outside does, and that without a cause all is done.
     ensures read_cause { result ≡ Status.ReadFault → Rose (I.faults input.old) (I.faults input.new) }
@@ -63,8 +75,11 @@ pub fn run<I: Source, O: Sink, N: Sink>(
     ensures complete { (mode : PacketsMode) (bytes : List ℕ) → AsksFor (map string_bytes words.now) mode → Loses (I.left input.old) (I.left input.new) bytes →
         (Rose (I.faults input.old) (I.faults input.new) → ⊥) → (Rose (O.faults output.old) (O.faults output.new) → ⊥) →
         length bytes ≤ LIMIT → (IsFaulty mode bytes → ⊥) → IsDoneOrNoMemory result }
+    ensures complete_split { (plan : SplitPlan) (bytes : List ℕ) → AsksForSplit (map string_bytes words.now) plan → Loses (I.left input.old) (I.left input.new) bytes →
+        (Rose (I.faults input.old) (I.faults input.new) → ⊥) → (Rose (O.faults output.old) (O.faults output.new) → ⊥) →
+        length bytes ≤ LIMIT → (split_faulty plan bytes → ⊥) → IsDoneOrNoMemory result }
 {
-    let Some(mode) = mode_of(words) else {
+    let Some(job) = job_of(words) else {
         note(notes, b"usage: unbuilt\n");
         return Status::Usage;
     };
@@ -72,10 +87,10 @@ pub fn run<I: Source, O: Sink, N: Sink>(
         note(notes, b"no memory\n");
         return Status::NoMemory;
     };
-    let outcome = serve(&mut buffers, &mut Show::new(mode), LIMIT, input, output);
-    let status = Status::from(outcome);
-    note_status(notes, status, LIMIT, &buffers);
-    status
+    match job {
+        Job::Show(mode) => run_show(&mut buffers, mode, input, output, notes),
+        Job::Split(plan) => run_split(&mut buffers, plan, input, output, notes),
+    }
 }
 
 fn main(rt: HostRuntime) -> ExitCode {
