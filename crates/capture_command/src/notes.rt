@@ -1,6 +1,6 @@
 //! The notes of a run, each one line.
 
-ghost use Rattle.std.specs.Prelude.{◌≤◌};
+ghost use Rattle.std.specs.Prelude.{◌≤◌, ◌++◌};
 ghost use Rattle.capture_command.specs.Notes.{Notes, note_of, last_line, limit_line};
 ghost use Rattle.capture_command.specs.Show.{told};
 ghost use Rattle.capture_command.specs.Split.{fault_text, port_fault_line};
