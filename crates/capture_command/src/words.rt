@@ -79,8 +79,16 @@ fn plan_of(words: &[String]) -> Option<SplitPlan>
             _ => None,
         },
         [action, frames, mode, option, id] => {
-            match (action.as_str(), frames.as_str(), mode.as_str(), option.as_str()) {
-                ("split", "--frames", "aligned", "--id") => plan_with(FramesMode::Aligned, id.as_str()),
+            match (
+                action.as_str(),
+                frames.as_str(),
+                mode.as_str(),
+                option.as_str(),
+            ) {
+                ("split", "--frames", "aligned", "--id") => plan_with(
+                    FramesMode::Aligned,
+                    id.as_str(),
+                ),
                 _ => None,
             }
         }
@@ -96,7 +104,13 @@ fn mode_of(words: &[String]) -> Option<PacketsMode>
 {
     match words {
         [action, frames, mode, itm, id] => {
-            match (action.as_str(), frames.as_str(), mode.as_str(), itm.as_str(), id.as_str()) {
+            match (
+                action.as_str(),
+                frames.as_str(),
+                mode.as_str(),
+                itm.as_str(),
+                id.as_str(),
+            ) {
                 ("show", "--frames", "bare", "--itm", "1") => Some(PacketsMode::Hunt),
                 _ => None,
             }
