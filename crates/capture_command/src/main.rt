@@ -24,11 +24,13 @@ mod split_plan;
 mod status;
 #[cfg(test)]
 mod tests;
+#[cfg(test)]
+mod tests_split;
 mod text;
 mod words;
 
-use notes::note;
 use actions::{run_show, run_split};
+use notes::note;
 use status::Status;
 use std::alloc::Global;
 use std::env;
@@ -64,10 +66,10 @@ pub fn run<I: Source, O: Sink, N: Sink>(
     // What was read, written and noted, by the status.
     ensures show { (mode : PacketsMode) → AsksFor (map string_bytes words.now) mode →
         HasRun (IsFaulty mode) (listed mode) (ending mode) show_note LIMIT (I.left input.old) (I.left input.new) (O.held output.old) (O.held output.new)
-            (N.held notes.old) (N.held notes.new) (N.faults notes.old) (N.faults notes.new) result }
+        (N.held notes.old) (N.held notes.new) (N.faults notes.old) (N.faults notes.new) result }
     ensures split { (plan : SplitPlan) → AsksForSplit (map string_bytes words.now) plan →
         HasRun (split_faulty plan) (split_text plan) (split_ending plan) (split_note plan) LIMIT (I.left input.old) (I.left input.new) (O.held output.old) (O.held output.new)
-            (N.held notes.old) (N.held notes.new) (N.faults notes.old) (N.faults notes.new) result }
+        (N.held notes.old) (N.held notes.new) (N.faults notes.old) (N.faults notes.new) result }
 
     // The causes of what the outside does, and that without a cause all is done.
     ensures read_cause { result ≡ Status.ReadFault → Rose (I.faults input.old) (I.faults input.new) }

@@ -79,8 +79,16 @@ fn plan_of(words: &[String]) -> Option<SplitPlan>
             _ => None,
         },
         [action, frames, mode, option, id] => {
-            match (action.as_str(), frames.as_str(), mode.as_str(), option.as_str()) {
-                ("split", "--frames", "aligned", "--id") => plan_with(FramesMode::Aligned, id.as_str()),
+            match (
+                action.as_str(),
+                frames.as_str(),
+                mode.as_str(),
+                option.as_str(),
+            ) {
+                ("split", "--frames", "aligned", "--id") => plan_with(
+                    FramesMode::Aligned,
+                    id.as_str(),
+                ),
                 _ => None,
             }
         }

@@ -1,0 +1,190 @@
+//! `split` over bytes in memory.
+
+ghost use Rattle.std.specs.Prelude.{◌<◌, length};
+
+use crate::run;
+use crate::status::Status;
+use std::alloc::{AllocError, Global};
+use std::test::Fail;
+use trace_io::{MemorySink, MemorySource, Sink, Source};
+
+/// Room for the longest text of these tests.
+const ROOM: usize = 64;
+
+/// A half synchronisation, a frame whose ID 16 is deferred by one byte, and a full synchronisation.
+const DEFERRED: &[u8] =
+    b"\xff\x7f\x21\xff\xfe\xff\xfe\xff\xfe\xff\xfe\xff\xfe\xff\xfe\xff\xfe\xff\xff\xff\xff\x7f";
+
+/// A frame of ID 1.
+const ONE: &[u8] = b"\x03abcdefghijklmn\0";
+
+/// A frame of the IDs 1, 2, 0 and 1 again.
+const MIXED: &[u8] = b"\x03abc\x05efg\x01ijk\x03mn\0";
+
+/// A frame before any ID.
+const NAMELESS: &[u8] = b"bababababababab\0";
+
+/// Lost bytes, a full synchronisation, and the frame of several IDs.
+const BEHIND_LOST: &[u8] = b"xyz\xff\xff\xff\x7f\x03abc\x05efg\x01ijk\x03mn\0";
+
+/// A frame of ID 1, and bytes that are no synchronisation.
+const BROKEN: &[u8] = b"\x03abcdefghijklmn\0\xff\0\x03abcdefghijklmn\0";
+
+/// What `run` answers to these words.
+fn answer<I: Source, O: Sink, N: Sink>(
+    alloc: Global,
+    words: &[&str],
+    input: &mut I,
+    output: &mut O,
+    notes: &mut N,
+) -> Result<Status, AllocError> {
+    let mut owned = Vec::new(alloc);
+    for word in words {
+        owned.push(String::from_str(alloc, word)?)?;
+    }
+    Ok(run(alloc, &owned, input, output, notes))
+}
+
+#[test]
+fn splits_worked_captures_in_pieces_of_any_length(rt: HostRuntime) -> Result<(), Fail> {
+    // Whether the first byte begins a frame, the ID, the bytes, and what is written and noted.
+    let table: [(bool, &str, &[u8], Status, &[u8], &str); 16] = [
+        (true, "16", DEFERRED, Status::Done, &[0xFF; 13], ""),
+        (true, "0", DEFERRED, Status::Done, b"", ""),
+        (false, "16", DEFERRED, Status::Done, b"", ""),
+        (true, "1", ONE, Status::Done, b"abcdefghijklmn", ""),
+        (true, "1", MIXED, Status::Done, b"abcmn", ""),
+        (true, "2", MIXED, Status::Done, b"efg", ""),
+        (true, "0", MIXED, Status::Done, b"ijk", ""),
+        (true, "126", MIXED, Status::Done, b"", ""),
+        (true, "0", NAMELESS, Status::Done, b"", ""),
+        (false, "1", BEHIND_LOST, Status::Done, b"abcmn", ""),
+        (false, "0", BEHIND_LOST, Status::Done, b"ijk", ""),
+        (true, "1", b"", Status::Done, b"", ""),
+        (true, "1", b"\x03abcdefghijklmn", Status::Done, b"", ""),
+        (
+            true,
+            "1",
+            b"\xff\0",
+            Status::CaptureFault,
+            b"",
+            "fault 1 port 1 BadSync\nlast ff00\n",
+        ),
+        (
+            true,
+            "1",
+            BROKEN,
+            Status::CaptureFault,
+            b"abcdefghijklmn",
+            "fault 17 port 1 BadSync\nlast 62636465666768696a6b6c6d6e00ff00\n",
+        ),
+        (
+            false,
+            "1",
+            b"\xff\xff\xff\xff\x7f\x03abc\xff\xff",
+            Status::CaptureFault,
+            b"",
+            "fault 10 port 2 SyncInFrame\nlast ffffffff7f03616263ffff\n",
+        ),
+    ];
+    for (aligned, id, bytes, status, text, line) in table {
+        for piece in [1, 3, 64] {
+            let pieces = [piece];
+            let mut room = [0; ROOM];
+            let mut line_room = [0; 2 * ROOM];
+            let mut input = MemorySource::new(bytes, &pieces, &[]);
+            let mut output = MemorySink::new(&mut room, &[], &[]);
+            let mut notes = MemorySink::new(&mut line_room, &[], &[]);
+            let hunting = ["split", "--id", id];
+            let from_first = ["split", "--frames", "aligned", "--id", id];
+            let words: &[&str] = if aligned { &from_first } else { &hunting };
+            let got = answer(rt.alloc(), words, &mut input, &mut output, &mut notes)?;
+            assert_eq!(rt; got, status, "pieces of {piece} of {bytes:?}");
+            assert_eq!(rt; output.held(), text, "pieces of {piece} of {bytes:?}");
+            assert_eq!(rt;
+                notes.held(),
+                line.as_bytes(),
+                "pieces of {piece} of {bytes:?}"
+            );
+        }
+    }
+    Ok(())
+}
+
+#[test]
+fn failed_reads_and_writes_leave_a_prefix(rt: HostRuntime) -> Result<(), Fail> {
+    // The read that fails, the output's room, and what is written and noted.
+    let table: [(u64, usize, Status, &[u8], &str); 5] = [
+        (0, 64, Status::ReadFault, b"", "read fault\n"),
+        (15, 64, Status::ReadFault, b"", "read fault\n"),
+        (16, 64, Status::ReadFault, b"abcdefghijklmn", "read fault\n"),
+        (64, 5, Status::WriteFault, b"abcde", "write fault\n"),
+        (16, 5, Status::WriteFault, b"abcde", "write fault\n"),
+    ];
+    for (failing, size, status, text, line) in table {
+        let fail = [failing];
+        let mut room = [0; ROOM];
+        let mut line_room = [0; ROOM];
+        let mut input = MemorySource::new(BROKEN, &[1], &fail);
+        let mut output = MemorySink::new(&mut room[..size.min(ROOM)], &[], &[]);
+        let mut notes = MemorySink::new(&mut line_room, &[], &[]);
+        let words = ["split", "--frames", "aligned", "--id", "1"];
+        let got = answer(rt.alloc(), &words, &mut input, &mut output, &mut notes)?;
+        assert_eq!(rt; got, status, "read {failing} fails, room for {size}");
+        assert_eq!(rt;
+            output.held(),
+            text,
+            "read {failing} fails, room for {size}"
+        );
+        assert_eq!(rt;
+            notes.held(),
+            line.as_bytes(),
+            "read {failing} fails, room for {size}"
+        );
+    }
+    Ok(())
+}
+
+#[test]
+fn refuses_words_that_are_nearly_right(rt: HostRuntime) -> Result<(), Fail> {
+    let table: [&[&str]; 9] = [
+        &["split"],
+        &["split", "--id"],
+        &["split", "1"],
+        &["show", "--id", "1"],
+        &["split", "--id", "1", "1"],
+        &["split", "--frames", "aligned"],
+        &["split", "--frames", "bare", "--id", "1"],
+        &["split", "--id", "1", "--frames", "aligned"],
+        &["split", "--frames", "aligned", "--id"],
+    ];
+    for words in table {
+        let got = answer_to(rt.alloc(), words)?;
+        assert_eq!(rt; got, (Status::Usage, 0, 16, true), "{words:?}");
+    }
+    for id in [
+        "", "127", "255", "256", "05", "00", "+5", "-0", "5 ", "0x5", "one",
+    ] {
+        let hunting = answer_to(rt.alloc(), &["split", "--id", id])?;
+        assert_eq!(rt; hunting, (Status::Usage, 0, 16, true), "{id:?}");
+        let from_first = answer_to(rt.alloc(), &["split", "--frames", "aligned", "--id", id])?;
+        assert_eq!(rt; from_first, (Status::Usage, 0, 16, true), "{id:?}");
+    }
+    let good = answer_to(rt.alloc(), &["split", "--frames", "aligned", "--id", "1"])?;
+    assert_eq!(rt; good, (Status::Done, 14, 0, false));
+    Ok(())
+}
+
+/// The answer to these words over a frame, how many bytes are written then, how many are left to read,
+/// and whether the one note is that of a misuse.
+fn answer_to(alloc: Global, words: &[&str]) -> Result<(Status, usize, usize, bool), AllocError> {
+    let mut room = [0; ROOM];
+    let mut line_room = [0; ROOM];
+    let mut input = MemorySource::new(ONE, &[], &[]);
+    let mut output = MemorySink::new(&mut room, &[], &[]);
+    let mut notes = MemorySink::new(&mut line_room, &[], &[]);
+    let status = answer(alloc, words, &mut input, &mut output, &mut notes)?;
+    let left = input.read(&mut [0; ROOM]).unwrap_or(0);
+    let noted = notes.held() == b"usage: unbuilt\n".as_slice();
+    Ok((status, output.held().len(), left, noted))
+}
