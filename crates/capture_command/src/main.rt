@@ -24,8 +24,6 @@ mod split_plan;
 mod status;
 #[cfg(test)]
 mod tests;
-#[cfg(test)]
-mod tests_split;
 mod text;
 mod words;
 

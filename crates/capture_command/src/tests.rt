@@ -4,6 +4,7 @@ mod failures;
 mod hunting;
 mod listing;
 mod notes;
+mod split;
 mod words;
 
 use crate::run;

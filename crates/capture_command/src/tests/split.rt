@@ -2,11 +2,10 @@
 
 ghost use Rattle.std.specs.Prelude.{◌<◌, length};
 
-use crate::run;
+use super::answer;
 use crate::status::Status;
-use std::alloc::{AllocError, Global};
 use std::test::Fail;
-use trace_io::{MemorySink, MemorySource, Sink, Source};
+use trace_io::{MemorySink, MemorySource};
 
 /// Room for the longest text of these tests.
 const ROOM: usize = 64;
@@ -29,21 +28,6 @@ const BEHIND_LOST: &[u8] = b"xyz\xff\xff\xff\x7f\x03abc\x05efg\x01ijk\x03mn\0";
 
 /// A frame of ID 1, and bytes that are no synchronisation.
 const BROKEN: &[u8] = b"\x03abcdefghijklmn\0\xff\0\x03abcdefghijklmn\0";
-
-/// What `run` answers to these words.
-fn answer<I: Source, O: Sink, N: Sink>(
-    alloc: Global,
-    words: &[&str],
-    input: &mut I,
-    output: &mut O,
-    notes: &mut N,
-) -> Result<Status, AllocError> {
-    let mut owned = Vec::new(alloc);
-    for word in words {
-        owned.push(String::from_str(alloc, word)?)?;
-    }
-    Ok(run(alloc, &owned, input, output, notes))
-}
 
 #[test]
 fn splits_worked_captures_in_pieces_of_any_length(rt: HostRuntime) -> Result<(), Fail> {
