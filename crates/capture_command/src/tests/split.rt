@@ -4,6 +4,7 @@ ghost use Rattle.std.specs.Prelude.{◌<◌, length};
 
 use super::answer;
 use crate::status::Status;
+use std::alloc::{AllocError, Global};
 use std::test::Fail;
 use trace_io::{MemorySink, MemorySource};
 
