@@ -6,7 +6,7 @@ use super::answer;
 use crate::status::Status;
 use std::alloc::{AllocError, Global};
 use std::test::Fail;
-use trace_io::{MemorySink, MemorySource};
+use trace_io::{MemorySink, MemorySource, Source};
 
 /// Room for the longest text of these tests.
 const ROOM: usize = 64;
