@@ -80,10 +80,13 @@ fn splits_worked_captures_in_pieces_of_any_length(rt: HostRuntime) -> Result<(),
             let mut input = MemorySource::new(bytes, &pieces, &[]);
             let mut output = MemorySink::new(&mut room, &[], &[]);
             let mut notes = MemorySink::new(&mut line_room, &[], &[]);
-            let hunting = ["split", "--id", id];
-            let from_first = ["split", "--frames", "aligned", "--id", id];
-            let words: &[&str] = if aligned { &from_first } else { &hunting };
-            let got = answer(rt.alloc(), words, &mut input, &mut output, &mut notes)?;
+            let got = if aligned {
+                let words = ["split", "--frames", "aligned", "--id", id];
+                answer(rt.alloc(), &words, &mut input, &mut output, &mut notes)?
+            } else {
+                let words = ["split", "--id", id];
+                answer(rt.alloc(), &words, &mut input, &mut output, &mut notes)?
+            };
             assert_eq!(rt; got, status, "pieces of {piece} of {bytes:?}");
             assert_eq!(rt; output.held(), text, "pieces of {piece} of {bytes:?}");
             assert_eq!(rt;
