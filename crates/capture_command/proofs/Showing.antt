@@ -1,5 +1,5 @@
 -- How the listing grows with one more byte.
-use Rattle.std.proofs.Common.{Bool, append_assoc, append-nil, length-append, ◌-◌, ◌≤◌, ◌<◌, ◌≡◌, ℕ, ◌+◌, List, ◌∷◌, [], ◌++◌, length, take, get_or, flat_map, refl, sym, ◌∙◌, ap, subst, arith, Option, None, Some, true, false}
+use Rattle.std.proofs.Common.{Bool, append_assoc, length-append, ◌-◌, ◌≤◌, ◌<◌, ◌≡◌, ℕ, ◌+◌, List, ◌∷◌, [], ◌++◌, length, take, get_or, flat_map, refl, sym, ◌∙◌, ap, subst, arith, Option, None, Some, true, false}
 use Rattle.std.specs.Prelude.{is_none}
 use Rattle.std.proofs.lemmas.Grind.{flat_map-append}
 use Rattle.std.proofs.lemmas.List.{take_more, length-take-le}
@@ -22,7 +22,7 @@ use Rattle.trace_stream.specs.Taken.{FlowAfter, HasTaken}
 use Rattle.capture_command.specs.declared.packets.PacketsMode.{PacketsMode}
 use Rattle.capture_command.specs.Show.{told}
 use Rattle.trace_values.specs.Placed.{Place, Placed, placed, placed_from}
-use Rattle.trace_values.specs.Stream.{Shows, Stream, Grows, given_by, fault_by, goes_on}
+use Rattle.trace_values.specs.Stream.{Shows, given_by, fault_by, goes_on}
 use Rattle.trace_values.proofs.Placing.{placed_append}
 use Rattle.itm_grammar.specs.declared.packet.ItmPacket.{ItmPacket}
 use Rattle.itm_grammar.specs.declared.packet.ItmPacket.TheVariants.{Sync}
