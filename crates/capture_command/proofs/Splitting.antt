@@ -1,7 +1,6 @@
 -- How the bytes of an ID grow with one more byte of the capture.
-use Rattle.std.proofs.Common.{◌≡◌, ℕ, suc, ◌+◌, ◌<◌, List, [], ◌∷◌, ◌++◌, length, take, get_or, refl, sym, ◌∙◌, ap, subst, arith, append_assoc, append-nil, length-append, Bool, true, false, Option, Some, None, map}
+use Rattle.std.proofs.Common.{◌≡◌, ℕ, ◌+◌, ◌<◌, List, [], ◌∷◌, ◌++◌, length, take, get_or, refl, sym, ◌∙◌, ap, subst, arith, length-append, Bool, true, Option, Some, None}
 use Rattle.std.specs.Prelude.{is_none}
-use Rattle.std.proofs.lemmas.List.{take_more}
 use Rattle.trace_stream.specs.Laws.{IsCertainAt}
 use Rattle.trace_stream.specs.declared.action.Flow.{Flow}
 use Rattle.trace_stream.specs.Taken.{FlowAfter, HasTaken}
@@ -10,22 +9,14 @@ use Rattle.trace_values.specs.declared.fault.Fault.{Fault}
 use Rattle.trace_values.specs.declared.fault.Reason.{Reason}
 use Rattle.trace_values.specs.Placed.{Place, Placed, byte_at, placed}
 use Rattle.trace_values.proofs.Placing.{placed_push}
-use Rattle.trace_values.proofs.Standings.{none_of}
-use Rattle.frame_grammar.specs.Reading.{is_source}
-use Rattle.deformatter.specs.declared.deformatter.Deformatter.{Deformatter}
 use Rattle.deformatter.specs.declared.step.PortStep.{PortStep}
 use Rattle.deformatter.specs.declared.step.PortStep.TheVariants.{Quiet, Half, Full, Frame, Locked, Fault as Faulty}
 use Rattle.deformatter.specs.Reading.{port_stream, cells_in}
 use Rattle.deformatter.specs.Growth.{fault_by, goes_on, PortGrows}
-use Rattle.deformatter.specs.Deformatter.{IsOf, is_hunter, is_live}
 use Rattle.capture_command.specs.declared.split_plan.SplitPlan.{SplitPlan}
 use Rattle.capture_command.specs.Show.{told}
 use Rattle.capture_command.specs.Split.{hunts, port_of, split_faulty, bytes_of_id, split_text}
 use Rattle.capture_command.specs.SplitLaws.{bytes_of_id-append}
-
--- one more cell
-pub one_cell : (id : ℕ) (cells : List Cell) (cell : Cell) (b : Bool) → is_source id cell.id ≡ b → bytes_of_id id (cells ++ cell ∷ []) ≡ bytes_of_id id cells ++ (bytes_of_id id (cell ∷ []))
-one_cell id cells cell b e = bytes_of_id-append id cells (cell ∷ [])
 
 -- a step that is no fault gives none
 pub no_fault : (step : PortStep) → ((f : Fault) → step ≡ Faulty f → ⊥) → fault_by step ≡ None

@@ -1,8 +1,8 @@
 -- What `show` writes for a bare stream of ITM packets of source 1.
-use Rattle.std.specs.Prelude.{◌≡◌, ℕ, List, [], ◌∷◌, ◌++◌, codes, decimal, flat_map, length, Option, Some, None, is_none, Bool, true, false}
+use Rattle.std.specs.Prelude.{◌≡◌, ℕ, List, ◌++◌, codes, decimal, flat_map, length, Option, Some, None, is_none, Bool, true, false}
 use Rattle.trace_values.specs.declared.fault.Reason.{Reason}
 use Rattle.trace_values.specs.Faults.{number_of, name_of}
-use Rattle.trace_values.specs.Placed.{Place, Placed, placed}
+use Rattle.trace_values.specs.Placed.{Place, placed}
 use Rattle.trace_values.specs.Stream.{Said, Notice, Kept, Stream}
 use Rattle.itm_grammar.specs.declared.packet.ItmPacket.{ItmPacket}
 use Rattle.itm_codec.specs.Reading.{packets_in}

@@ -1,5 +1,5 @@
 -- How the bytes of an ID grow with the bytes of the capture.
-use Rattle.std.specs.Prelude.{◌≡◌, ℕ, List, [], ◌++◌, map, length, refl, Option, Some, None, is_none, true, false}
+use Rattle.std.specs.Prelude.{◌≡◌, ℕ, List, [], ◌++◌, map, length, refl, Option, None, is_none, false}
 use Rattle.std.proofs.Common.{ap, subst, sym, ◌∙◌}
 use Rattle.std.proofs.lemmas.List.{map-append}
 use Rattle.std.proofs.lemmas.List.Elements.{filter-append}
@@ -10,7 +10,7 @@ use Rattle.trace_values.specs.Placed.{Place, Placed, placed, placed_from}
 use Rattle.trace_values.proofs.Placing.{placed_append}
 use Rattle.frame_grammar.specs.Port.{Piece}
 use Rattle.frame_grammar.specs.Reading.{cells_of_pieces, is_source, source_list}
-use Rattle.deformatter.specs.Reading.{PortStream, port_stream, pieces_of, cells_in}
+use Rattle.deformatter.specs.Reading.{port_stream, pieces_of, cells_in}
 use Rattle.deformatter.specs.Growth.{PortSettled}
 use Rattle.deformatter.proofs.ReadingLaws.{settles, cells_grow}
 use Rattle.capture_command.specs.declared.frames.FramesMode.{FramesMode}

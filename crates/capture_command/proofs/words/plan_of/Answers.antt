@@ -5,7 +5,6 @@ use Rattle.std.specs.Fmt.{decimal}
 use Rattle.std.specs.String.{string_bytes}
 use Rattle.capture_command.specs.declared.frames.FramesMode.{FramesMode}
 use Rattle.capture_command.specs.declared.frames.FramesMode.TheVariants.{Hunt, Aligned}
-use Rattle.capture_command.specs.declared.split_plan.SplitPlan.{SplitPlan}
 use Rattle.capture_command.specs.Words.{split_words}
 use Rattle.capture_command.proofs.words.plan_of.Goals as goal
 

@@ -1,4 +1,4 @@
-use Rattle.std.proofs.Common.{rules, ◌≡◌, ℕ, List, ◌++◌, refl, sym, ◌∙◌, ap, Some}
+use Rattle.std.proofs.Common.{rules, List, ◌++◌, refl, sym, ◌∙◌, ap}
 use Rattle.deformatter.specs.Deformatter.{IsOf, is_hunter}
 use Rattle.deformatter.specs.Growth.{fault_by}
 use Rattle.trace_values.specs.Placed.{placed}
