@@ -1,4 +1,4 @@
-use Rattle.std.proofs.Common.{◌≡◌, sym, subst, ap, Some}
+use Rattle.std.proofs.Common.{sym, subst, ap}
 use Rattle.capture_command.specs.declared.packets.PacketsMode.{PacketsMode}
 use Rattle.capture_command.specs.Listing.{IsFaulty, listed, ending, show_note}
 use Rattle.capture_command.specs.declared.status.Status.{Status}
