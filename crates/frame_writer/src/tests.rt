@@ -1,5 +1,5 @@
 ghost use Rattle.std.specs.Prelude.{IsTrue};
-ghost use Rattle.frame_grammar.specs.Frame.{HasNoFullByte};
+ghost use Rattle.frame_grammar.specs.Frame.{IsProperFrame};
 
 use crate::FrameWriter;
 use arrayvec::ArrayVec;
@@ -20,7 +20,7 @@ struct Case<'a> {
 }
 
 fn is_proper(frame: &[u8; 16]) -> bool
-    ensures { IsTrue result → HasNoFullByte frame.now }
+    ensures { IsTrue result → IsProperFrame frame.now }
 {
     for pair in 0..8 {
         if frame[2 * pair] == 255 {
