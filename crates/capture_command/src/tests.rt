@@ -6,6 +6,7 @@ mod listing;
 mod notes;
 mod split;
 mod words;
+mod written;
 
 use crate::run;
 use crate::status::Status;

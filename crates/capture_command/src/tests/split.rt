@@ -15,6 +15,10 @@ const ROOM: usize = 64;
 const DEFERRED: &[u8] =
     b"\xff\x7f\x21\xff\xfe\xff\xfe\xff\xfe\xff\xfe\xff\xfe\xff\xfe\xff\xfe\xff\xff\xff\xff\x7f";
 
+/// Thirteen bytes of ID 16 and one of ID 17.
+const TWO: &[u8] =
+    b"\x21\x01\x02\x03\x04\x05\x06\x07\x08\x09\x0a\x0b\x0c\x0d\x23\0\x01\xaa\0\0\0\0\0\0\0\0\0\0\0\0\0\x01";
+
 /// A frame of ID 1.
 const ONE: &[u8] = b"\x03abcdefghijklmn\0";
 
@@ -33,10 +37,19 @@ const BROKEN: &[u8] = b"\x03abcdefghijklmn\0\xff\0\x03abcdefghijklmn\0";
 #[test]
 fn splits_worked_captures_in_pieces_of_any_length(rt: HostRuntime) -> Result<(), Fail> {
     // Whether the first byte begins a frame, the ID, the bytes, and what is written and noted.
-    let table: [(bool, &str, &[u8], Status, &[u8], &str); 16] = [
+    let table: [(bool, &str, &[u8], Status, &[u8], &str); 18] = [
         (true, "16", DEFERRED, Status::Done, &[0xFF; 13], ""),
         (true, "0", DEFERRED, Status::Done, b"", ""),
         (false, "16", DEFERRED, Status::Done, b"", ""),
+        (
+            true,
+            "16",
+            TWO,
+            Status::Done,
+            &[1, 2, 3, 4, 5, 6, 7, 8, 9, 10, 11, 12, 13],
+            "",
+        ),
+        (true, "17", TWO, Status::Done, b"\xaa", ""),
         (true, "1", ONE, Status::Done, b"abcdefghijklmn", ""),
         (true, "1", MIXED, Status::Done, b"abcmn", ""),
         (true, "2", MIXED, Status::Done, b"efg", ""),
