@@ -3,6 +3,7 @@
 mod failures;
 mod headers;
 mod hunting;
+mod ids;
 mod listing;
 mod notes;
 mod split;

@@ -76,12 +76,12 @@ fn check_id(
 
 #[test]
 fn splits_what_was_written(rt: HostRuntime) -> Result<(), Fail> {
-    for seed in 0..4u32 {
+    for seed in 0..2u32 {
         let bytes = any_bytes(seed);
-        for (every, halves) in [(0, 0), (0, 3), (1, 8), (2, 1), (64, 0)] {
-            for len in [1, 13, 14, 15, 31, COUNT] {
+        for (every, halves) in [(0, 0), (1, 8), (2, 1)] {
+            for len in [13, 31, COUNT] {
                 let capture = written(&rt, every, halves, &bytes[..len]);
-                for id in [1, 2, 3, 84, 85, 86, 125, 126] {
+                for id in 1..127 {
                     check_id(rt.alloc(), &rt, capture.as_slice(), &bytes[..len], id)?;
                 }
             }
