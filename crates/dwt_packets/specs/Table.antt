@@ -1,5 +1,6 @@
 -- What a hardware packet means, by its discriminator, size and value (ARMv7-M Architecture Reference Manual, 'Debug ITM and DWT packet protocol').
-use Rattle.std.specs.Prelude.{◌≡◌, ℕ, ◌+◌, ◌-◌, ◌*◌, ◌/◌, ◌%◌, ◌^◌, Bool, true, false, ◌==◌, ◌&&◌, nat_lt, if◌then◌else◌, List, [], ◌∷◌, ◌++◌, All, find}
+use Rattle.std.specs.Prelude.{◌≡◌, ℕ, ◌+◌, ◌-◌, ◌*◌, ◌/◌, ◌%◌, ◌^◌, Bool, true, false, ◌==◌, ◌&&◌, nat_lt, if◌then◌else◌, List, [], ◌∷◌, ◌++◌, find}
+use Rattle.std.specs.List.{list_any}
 use Rattle.std.specs.Option.{option_map_or}
 use Rattle.itm_grammar.specs.declared.packet.Size.{Size}
 use Rattle.itm_grammar.specs.declared.packet.Size.TheVariants.{One, Two, Four}
@@ -12,11 +13,21 @@ use Rattle.dwt_packets.specs.declared.item.DwtItem.TheVariants.{Counters, Except
 abbrev pub bits : ℕ → ℕ → ℕ → ℕ
 bits high low value = value / 2 ^ low % 2 ^ (high + 1 - low)
 
--- bits 13 and 12 of an exception packet: 01, 10, 11
+-- bits 13 and 12 of an exception packet: 01, 10 and 11
 abbrev pub change_of : ℕ → Change
 change_of field = if field == 1 then Enter else (if field == 2 then Exit else Return)
 
--- the sizes that a row may have
+-- a row of the table: a discriminator, which sizes and which values it has, and the item of these
+pub record Row : Type 0 where
+  pub disc : ℕ
+  pub has_size : Size → Bool
+  pub has_value : ℕ → Bool
+  pub item : Size → ℕ → DwtItem
+
+abbrev pub row : ℕ → (Size → Bool) → (ℕ → Bool) → (Size → ℕ → DwtItem) → Row
+row disc has_size has_value item = record { disc = disc; has_size = has_size; has_value = has_value; item = item }
+
+-- one byte, two, four, or any of these
 abbrev pub one : Size → Bool
 one One = true
 one Two = false
@@ -35,61 +46,40 @@ four Four = true
 abbrev pub any_size : Size → Bool
 any_size size = true
 
--- the values
 abbrev pub any_value : ℕ → Bool
-any_value v = true
+any_value value = true
 
-abbrev pub six_bits : ℕ → Bool
-six_bits v = bits 7 6 v == 0
-
--- reserved bits are 0, and bits 13 and 12 are not 00
-abbrev pub exception : ℕ → Bool
-exception v = bits 15 14 v == 0 && (bits 11 9 v == 0 && nat_lt 0 (bits 13 12 v))
-
-abbrev pub none : ℕ → Bool
-none v = v == 0
-
--- a row of the table: a discriminator, its sizes, its values, and the item of such a size and value
-pub record Row : Type 0 where
-  pub disc : ℕ
-  pub has_size : Size → Bool
-  pub has_value : ℕ → Bool
-  pub item : Size → ℕ → DwtItem
-
-abbrev pub row : ℕ → (Size → Bool) → (ℕ → Bool) → (Size → ℕ → DwtItem) → Row
-row disc has_size has_value item = record { disc = disc; has_size = has_size; has_value = has_value; item = item }
-
--- the rows of a comparator
+-- the rows of comparator c
 abbrev pub comparator_rows : ℕ → List Row
 comparator_rows c =
-      row (8 + 2 * c)  four     any_value (λ s v. MatchPc c v)
-    ∷ row (9 + 2 * c)  two      any_value (λ s v. MatchAddress c v)
+    row (8 + 2 * c) four any_value (λ s v. MatchPc c v)
+    ∷ row (9 + 2 * c) two any_value (λ s v. MatchAddress c v)
     ∷ row (16 + 2 * c) any_size any_value (λ s v. Read c s v)
     ∷ row (17 + 2 * c) any_size any_value (λ s v. Written c s v)
     ∷ []
 
--- the table, with four comparators
+-- the table: where bits have to be 0, they are reserved
 abbrev pub table : List Row
 table =
-      row 0 one  six_bits  (λ s v. Counters v)
-    ∷ row 1 two  exception (λ s v. Exception (bits 8 0 v) (change_of (bits 13 12 v)))
+    row 0 one (λ v. bits 7 6 v == 0) (λ s v. Counters v)
+    ∷ row 1 two (λ v. bits 15 14 v == 0 && (bits 11 9 v == 0 && nat_lt 0 (bits 13 12 v))) (λ s v. Exception (bits 8 0 v) (change_of (bits 13 12 v)))
     ∷ row 2 four any_value (λ s v. Sample v)
-    ∷ row 2 one  none      (λ s v. Asleep)
+    ∷ row 2 one (λ v. v == 0) (λ s v. Asleep)
     ∷ (comparator_rows 0 ++ (comparator_rows 1 ++ (comparator_rows 2 ++ comparator_rows 3)))
 
--- whether a row fits a packet
+-- a row fits a packet
 abbrev pub fits : ℕ → Size → ℕ → Row → Bool
 fits disc size value row = disc == row.disc && (row.has_size size && row.has_value value)
 
 -- no row of the table does
 unfoldable pub NoRowFits : ℕ → Size → ℕ → Type 0
-NoRowFits disc size value = All (λ row. fits disc size value row ≡ false) table
+NoRowFits disc size value = list_any (fits disc size value) table ≡ false
 
--- what a packet means: the item of the first row that fits, and else another item
+-- what a packet means: the item of the first row that fits, and where none fits, another item
 unfoldable pub name : ℕ → Size → ℕ → DwtItem
 name disc size value = option_map_or (λ row. row.item size value) (find (fits disc size value) table) (Other disc size value)
 
--- an item that no row has
+-- that other item, which no row has
 abbrev pub is_other : DwtItem → Bool
 is_other (Other disc size value) = true
 is_other item = false

@@ -5,6 +5,14 @@
 mod item;
 pub mod laws;
 mod naming;
+mod packets;
+mod proper;
+pub mod rows;
 
 pub use item::{Change, DwtItem};
 pub use naming::meaning;
+pub use packets::packet_of;
+pub use proper::is_proper_item;
+
+#[cfg(test)]
+mod tests;

@@ -5,9 +5,8 @@ ghost use Rattle.itm_grammar.specs.declared.packet.Size.TheVariants.{Two};
 ghost use Rattle.itm_grammar.specs.Spelling.{byte_count};
 ghost use Rattle.dwt_packets.specs.Table.{name};
 
-use itm_grammar::packet::Size;
-
 use crate::item::{Change, DwtItem};
+use itm_grammar::packet::Size;
 
 /// The packet of discriminator 1 with these two bytes. Bits 15, 14 and 11 to 9 of an exception packet are 0,
 /// bits 13 and 12 say what the processor did, and bits 8 to 0 at which exception.
@@ -43,19 +42,31 @@ pub fn meaning(disc: u8, size: Size, value: u32) -> DwtItem
     requires value { value < 256 ^ byte_count size }
     ensures { result ≡ name disc size value }
 {
+    // Of the discriminators 8 to 23, which are of comparators, bits 2 and 1 say of which.
     let comparator = (disc / 2) % 4;
     match (disc, size) {
         (0, Size::One) if value < 0x40 => DwtItem::Counters(value as u8),
         (1, Size::Two) => exception(value),
         (2, Size::Four) => DwtItem::Sample { pc: value },
         (2, Size::One) if value == 0 => DwtItem::Asleep,
-        (8 | 10 | 12 | 14, Size::Four) => DwtItem::MatchPc { comparator, pc: value },
+        (8 | 10 | 12 | 14, Size::Four) => DwtItem::MatchPc {
+            comparator,
+            pc: value,
+        },
         (9 | 11 | 13 | 15, Size::Two) => DwtItem::MatchAddress {
             comparator,
             low: value as u16,
         },
-        (16 | 18 | 20 | 22, _) => DwtItem::Read { comparator, size, value },
-        (17 | 19 | 21 | 23, _) => DwtItem::Written { comparator, size, value },
+        (16 | 18 | 20 | 22, _) => DwtItem::Read {
+            comparator,
+            size,
+            value,
+        },
+        (17 | 19 | 21 | 23, _) => DwtItem::Written {
+            comparator,
+            size,
+            value,
+        },
         _ => DwtItem::Other { disc, size, value },
     }
 }
