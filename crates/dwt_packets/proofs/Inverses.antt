@@ -1,5 +1,5 @@
 -- A packet's item has that packet, and its numbers are in their ranges.
-use Rattle.std.proofs.Common.{◌≡◌, ℕ, zero, suc, ◌+◌, ◌*◌, ◌/◌, ◌%◌, ◌^◌, ◌<◌, Bool, true, false, refl, List, [], ◌∷◌, ◌++◌, cond, ap, sym, subst, ◌∙◌, arith}
+use Rattle.std.proofs.Common.{◌≡◌, ℕ, zero, suc, ◌+◌, ◌*◌, ◌^◌, ◌<◌, Bool, true, false, refl, subst, ◌∙◌, arith}
 use Rattle.std.specs.Prelude.{IsTrue, ◌↔◌, nat_lt, ◌==◌, ◌&&◌}
 use Rattle.std.proofs.lemmas.Bool.Decides.{nat_tests}
 use Rattle.itm_grammar.specs.declared.packet.Size.{Size}
@@ -9,7 +9,7 @@ use Rattle.dwt_packets.specs.declared.item.Change.{Change}
 use Rattle.dwt_packets.specs.declared.item.Change.TheVariants.{Enter, Exit, Return}
 use Rattle.dwt_packets.specs.declared.item.DwtItem.{DwtItem}
 use Rattle.dwt_packets.specs.declared.item.DwtItem.TheVariants.{Counters, Exception, Sample, Asleep, MatchPc, MatchAddress, Read, Written, Other}
-use Rattle.dwt_packets.specs.Table.{Row, table, comparator_rows, fits, NoRowFits, name, is_other, one, two, four, bits, change_of}
+use Rattle.dwt_packets.specs.Table.{Row, comparator_rows, fits, NoRowFits, name, is_other, one, two, four, bits, change_of}
 use Rattle.dwt_packets.specs.Packet.{packet, IsProperItem, IsInRange, change_bits}
 use Rattle.dwt_packets.proofs.FirstRow.{Each, each_comparator, by_table, no_row}
 

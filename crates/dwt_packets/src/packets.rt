@@ -28,11 +28,8 @@ fn packet_in_range(item: &DwtItem) -> (u8, Size, u32)
     match *item {
         DwtItem::Counters(counters) => (0, Size::One, u32::from(counters)),
         DwtItem::Exception { number, change } => {
-            (
-                1,
-                Size::Two,
-                0x1000 * change_bits(change) + u32::from(number),
-            )
+            let value = 0x1000 * change_bits(change) + u32::from(number);
+            (1, Size::Two, value)
         }
         DwtItem::Sample { pc } => (2, Size::Four, pc),
         DwtItem::Asleep => (2, Size::One, 0),

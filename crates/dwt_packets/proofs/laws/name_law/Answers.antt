@@ -1,4 +1,3 @@
-use Rattle.std.proofs.Common.{◌≡◌, ap, sym, subst, ◌∙◌}
 use Rattle.dwt_packets.specs.declared.item.DwtItem.TheVariants.{Other}
 use Rattle.dwt_packets.proofs.Inverses.{inverse, in_range, proper, proper_name, others as other_names}
 use Rattle.dwt_packets.proofs.laws.name_law.Goals as goal

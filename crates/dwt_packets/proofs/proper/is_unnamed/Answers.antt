@@ -1,4 +1,4 @@
-use Rattle.std.proofs.Common.{◌≡◌, ap, sym, refl, ◌∙◌}
+use Rattle.std.proofs.Common.{ap, sym, refl, ◌∙◌}
 use Rattle.dwt_packets.specs.Table.{is_other}
 use Rattle.dwt_packets.proofs.FirstRow.{no_row}
 use Rattle.dwt_packets.proofs.Inverses.{others}
