@@ -1,10 +1,9 @@
 -- Numbers as sums of their bits.
-use Rattle.std.proofs.Common.{◌≡◌, ◌≢◌, ℕ, zero, suc, ◌+◌, ◌-◌, ◌*◌, ◌/◌, ◌%◌, ◌^◌, ◌<◌, ◌≤◌, ◌⊎◌, inl, inr, refl, sym, ◌∙◌, ap, subst, arith}
+use Rattle.std.proofs.Common.{◌≡◌, ℕ, zero, suc, ◌+◌, ◌-◌, ◌*◌, ◌/◌, ◌%◌, ◌^◌, ◌<◌, ◌≤◌, inl, inr, sym, ◌∙◌, ap, subst, arith}
 use Rattle.std.specs.Int.{bit_at, sum_through}
 use Rattle.std.proofs.Math.Nat.{add-mul-div_right, pow-suc, mul_assoc, zero-mul, div-eq_of_lt, mod-eq_of_lt}
 use Rattle.std.proofs.lemmas.Bool.{cases_eq}
-use Rattle.std.proofs.lemmas.Nat.{pow_pos, pow-add, mod-pow-add}
-use Rattle.std.proofs.lemmas.Nat.Bits.{bit_at-lt}
+use Rattle.std.proofs.lemmas.Nat.{pow_pos, pow-add, mod-pow-add, mul-le}
 
 -- the number that has these bits from 0 to n
 abbrev pub number : (ℕ → ℕ) → ℕ → ℕ
@@ -27,19 +26,16 @@ number_same f g (suc n) same =
     let top : f (suc n) * 2 ^ suc n ≡ g (suc n) * 2 ^ suc n = ap (λ x. x * 2 ^ suc n) (same (suc n) (omega arith)) in
     omega (arith, rest, top)
 
+-- n + 1 bits make a number below 2 ^ (n + 1)
 pub number_lt : (f : ℕ → ℕ) (n : ℕ) → ((b : ℕ) → f b < 2) → number f n < 2 ^ suc n
 number_lt f zero bits = let b = bits 0 in omega arith
 number_lt f (suc n) bits =
     let rest : number f n < 2 ^ suc n = number_lt f n bits in
-    by (f (suc n)) (bits (suc n)) (number f n) rest where
-      by : (bit : ℕ) → bit < 2 → (m : ℕ) → m < 2 ^ suc n → m + bit * 2 ^ suc n < 2 ^ suc (suc n)
-      by bit h m r = split bit h r where
-        split : (bit : ℕ) → bit < 2 → m < 2 ^ suc n → m + bit * 2 ^ suc n < 2 ^ suc (suc n)
-        split zero h r = omega (arith, pow-suc 2 (suc n))
-        split (suc zero) h r = omega (arith, pow-suc 2 (suc n))
-        split (suc (suc k)) h r = absurd (omega arith)
+    let b : f (suc n) < 2 = bits (suc n) in
+    let top : f (suc n) * 2 ^ suc n ≤ 1 * 2 ^ suc n = mul-le (f (suc n)) (2 ^ suc n) 1 (2 ^ suc n) (omega arith) (omega arith) in
+    omega (arith, rest, top, pow-suc 2 (suc n))
 
--- a number is the sum of its bits
+-- the bits of a number make it
 number_mod : (v n : ℕ) → number (bit_at v) n ≡ v % 2 ^ suc n
 number_mod v zero = omega (arith, mod-pow-add v 1 0)
 number_mod v (suc n) =
@@ -52,6 +48,7 @@ number_mod v (suc n) =
 pub number_of_bits : (v n : ℕ) → v < 2 ^ suc n → number (bit_at v) n ≡ v
 number_of_bits v n h = number_mod v n ∙ mod-eq_of_lt h
 
+-- where only the bits from 0 to j are there, those of the other number are left
 unreplaced : (f g : ℕ → ℕ) (j : ℕ) → ((b : ℕ) → f b < 2) → number g j ≡ number f j / 2 ^ suc j * 2 ^ suc j + number g j
 unreplaced f g j bits =
     let z : number f j / 2 ^ suc j ≡ 0 = div-eq_of_lt (number_lt f j bits) in

@@ -1,5 +1,5 @@
 -- One element more at the end of a list.
-use Rattle.std.proofs.Common.{◌≡◌, ℕ, suc, ◌+◌, ◌-◌, ◌≤◌, List, [], ◌∷◌, ◌++◌, length, drop, reverse, refl, sym, ◌∙◌, ap, arith, length-append, Bool, true, false, not, cond}
+use Rattle.std.proofs.Common.{◌≡◌, ◌+◌, ◌-◌, List, [], ◌∷◌, ◌++◌, length, drop, refl, ◌∙◌, ap, arith, length-append, Bool, true, false, not, cond}
 use Rattle.std.specs.Prelude.{Option, None, Some}
 use Rattle.std.specs.List.{filter_map, cons_option, last_or, after_last, prefix_len, suffix_len}
 use Rattle.std.proofs.lemmas.List.{reverse-append, drop-append-le, append-nil}

@@ -1,5 +1,5 @@
 -- The global time, by the list of all global timestamps so far.
-use Rattle.std.specs.Prelude.{◌≡◌, ℕ, ◌+◌, ◌*◌, ◌^◌, ◌<◌, ◌≤◌, List, Bool, true, false, ◌==◌, nat_lt, if◌then◌else◌, Option, None, Some, option_map, unwrap_or}
+use Rattle.std.specs.Prelude.{◌≡◌, ℕ, ◌+◌, ◌*◌, ◌^◌, ◌<◌, ◌≤◌, List, Bool, false, ◌==◌, nat_lt, if◌then◌else◌, Option, None, Some, option_map, unwrap_or}
 use Rattle.std.specs.List.{list_any, filter_map, last_or, after_last}
 use Rattle.std.specs.Int.{bit_at, sum_through}
 
@@ -41,7 +41,7 @@ abbrev pub second_value : GlobalStamp → Option ℕ
 second_value (First len value wrap) = None
 second_value (Second value) = Some value
 
--- a bit of the time under 26: that of the last first timestamp that carries it
+-- a bit of the time under 26: that of the last first timestamp that carries it, or 0 where there is none
 abbrev pub low_bit : List GlobalStamp → ℕ → ℕ
 low_bit stamps bit = bit_at (unwrap_or (last_or None (filter_map (carried bit) stamps)) 0) bit
 

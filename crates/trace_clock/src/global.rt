@@ -1,7 +1,7 @@
-//! The global time, which global timestamp packets tell.
+//! The global time, which global timestamp packets tell (ARMv7-M Architecture Reference Manual, 'Debug ITM
+//! and DWT packet protocol', global timestamp packets).
 
-ghost use Rattle.std.specs.Prelude.{◌≡◌, ◌+◌, ◌*◌, ◌/◌, ◌<◌, ◌≤◌, ◌^◌};
-ghost use Rattle.std.specs.Prelude.{◌++◌, List, [], ◌∷◌, Bool};
+ghost use Rattle.std.specs.Prelude.{◌≡◌, ◌+◌, ◌*◌, ◌/◌, ◌^◌, ◌<◌, ◌≤◌, Bool, List, [], ◌∷◌, ◌++◌};
 ghost use Rattle.std.specs.Option.{ForSome};
 ghost use Rattle.trace_clock.specs.GlobalTime.{GlobalStamp, First, first_bits, known_low};
 
@@ -30,9 +30,11 @@ impl GlobalClock {
         }
     }
 
-    /// Takes a first timestamp: the low 7, 14, 21 or 26 bits of the time, by its number of payload bytes,
-    /// 1 to 4, and where it has four, whether the clock's ratio changed, which tells nothing of the time,
-    /// and whether the bits from 26 on did.
+    /// Takes a first timestamp: the low 7, 14, 21 or 26 bits of the time, in `len` payload bytes, 1 to 4.
+    ///
+    /// One of under four bytes replaces the bits that it carries where one of four has come, and else has
+    /// no effect. One of four bytes may also say that the clock's ratio changed, which has no effect, and
+    /// that the bits from 26 on did (`wrap`), which are unknown from then on.
     #[inline]
     pub fn first(&mut self, len: u8, value: u32, change: bool, wrap: bool)
         requires proper { IsProperFirst len value change wrap }
@@ -44,7 +46,8 @@ impl GlobalClock {
         }
     }
 
-    /// Takes a second timestamp: the bits of the time from 26 on, under 2^22, or under 2^38 where it is wide.
+    /// Takes a second timestamp: the bits of the time from 26 on, as a number under 2^22, or under 2^38
+    /// where it is wide.
     #[inline]
     pub fn second(&mut self, wide: bool, value: u64)
         requires proper { value < 2 ^ second_bits wide }
@@ -132,108 +135,68 @@ mod tests {
 
     #[test]
     fn tells_the_time(rt: HostRuntime) {
+        use Stamp::{Narrow, Short, Whole, Wide};
+
         let rows: [(&[Stamp], Option<u64>); 20] = [
             (&[], None),
-            (&[Stamp::Whole(1, false, true)], None),
-            (&[Stamp::Narrow(2)], None),
-            (&[Stamp::Short(3, 0x1F_FFFF), Stamp::Narrow(2)], None),
+            (&[Whole(1, false, true)], None),
+            (&[Narrow(2)], None),
+            (&[Short(3, 0x1F_FFFF), Narrow(2)], None),
+            (&[Short(1, 5), Wide(2), Short(2, 1)], None),
+            (&[Whole(1, false, true), Narrow(2)], Some(134217729)),
             (
-                &[Stamp::Short(1, 5), Stamp::Wide(2), Stamp::Short(2, 1)],
-                None,
-            ),
-            (
-                &[Stamp::Whole(1, false, true), Stamp::Narrow(2)],
-                Some(134217729),
-            ),
-            (
-                &[
-                    Stamp::Whole(1, false, true),
-                    Stamp::Narrow(2),
-                    Stamp::Short(1, 5),
-                ],
+                &[Whole(1, false, true), Narrow(2), Short(1, 5)],
                 Some(134217733),
             ),
             // The bits from 26 on are told before the others, and lost at a wrap.
-            (
-                &[Stamp::Narrow(2), Stamp::Whole(1, false, false)],
-                Some(134217729),
-            ),
-            (&[Stamp::Narrow(2), Stamp::Whole(1, false, true)], None),
-            (&[Stamp::Narrow(2), Stamp::Whole(1, true, true)], None),
+            (&[Narrow(2), Whole(1, false, false)], Some(134217729)),
+            (&[Narrow(2), Whole(1, false, true)], None),
+            (&[Narrow(2), Whole(1, true, true)], None),
+            (&[Narrow(2), Whole(1, false, true), Short(1, 5)], None),
             (
                 &[
-                    Stamp::Narrow(2),
-                    Stamp::Whole(1, false, true),
-                    Stamp::Short(1, 5),
-                ],
-                None,
-            ),
-            (
-                &[
-                    Stamp::Whole(9, false, false),
-                    Stamp::Narrow(2),
-                    Stamp::Whole(3, false, true),
-                    Stamp::Narrow(4),
+                    Whole(9, false, false),
+                    Narrow(2),
+                    Whole(3, false, true),
+                    Narrow(4),
                 ],
                 Some(0x1000_0003),
             ),
             // A clock change changes nothing.
-            (
-                &[Stamp::Narrow(2), Stamp::Whole(1, true, false)],
-                Some(134217729),
-            ),
-            (
-                &[Stamp::Whole(1, true, false), Stamp::Narrow(2)],
-                Some(134217729),
-            ),
+            (&[Narrow(2), Whole(1, true, false)], Some(134217729)),
+            (&[Whole(1, true, false), Narrow(2)], Some(134217729)),
             // A short timestamp replaces its bits, and tells nothing before a whole one.
             (
-                &[
-                    Stamp::Whole(0x3FF_FFFF, false, false),
-                    Stamp::Narrow(0),
-                    Stamp::Short(1, 0),
-                ],
+                &[Whole(0x3FF_FFFF, false, false), Narrow(0), Short(1, 0)],
                 Some(0x3FF_FF80),
             ),
             (
-                &[
-                    Stamp::Whole(0x3FF_FFFF, false, false),
-                    Stamp::Narrow(0),
-                    Stamp::Short(2, 0),
-                ],
+                &[Whole(0x3FF_FFFF, false, false), Narrow(0), Short(2, 0)],
                 Some(0x3FF_C000),
             ),
             (
-                &[
-                    Stamp::Whole(0x3FF_FFFF, false, false),
-                    Stamp::Narrow(0),
-                    Stamp::Short(3, 0),
-                ],
+                &[Whole(0x3FF_FFFF, false, false), Narrow(0), Short(3, 0)],
                 Some(0x3E0_0000),
             ),
             (
                 &[
-                    Stamp::Whole(0, false, false),
-                    Stamp::Narrow(0),
-                    Stamp::Short(3, 0x1F_FFFF),
-                    Stamp::Short(1, 1),
+                    Whole(0, false, false),
+                    Narrow(0),
+                    Short(3, 0x1F_FFFF),
+                    Short(1, 1),
                 ],
                 Some(0x1F_FF81),
             ),
             (
-                &[
-                    Stamp::Short(3, 0x1F_FFFF),
-                    Stamp::Whole(0, false, false),
-                    Stamp::Narrow(1),
-                ],
+                &[Short(3, 0x1F_FFFF), Whole(0, false, false), Narrow(1)],
                 Some(0x400_0000),
             ),
             // The last second timestamp, up to all bits of the time.
             (
                 &[
-                    Stamp::Narrow(0x3F_FFFF),
-                    Stamp::Whole(0x3FF_FFFF, false, false),
-                    Stamp::Wide(0x3F_FFFF_FFFF),
+                    Narrow(0x3F_FFFF),
+                    Whole(0x3FF_FFFF, false, false),
+                    Wide(0x3F_FFFF_FFFF),
                 ],
                 Some(u64::MAX),
             ),

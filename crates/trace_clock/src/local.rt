@@ -1,4 +1,5 @@
-//! The local time, which local timestamp packets tell.
+//! The local time, which local timestamp packets tell (ARMv7-M Architecture Reference Manual, 'Debug ITM
+//! and DWT packet protocol', local timestamp packets).
 
 ghost use Rattle.std.specs.Prelude.{ℕ};
 
