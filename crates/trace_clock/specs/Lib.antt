@@ -1,0 +1,3 @@
+pub mod GlobalClock
+pub mod GlobalTime
+pub mod LocalTime

@@ -1,0 +1,212 @@
+//! The global time, which global timestamp packets tell (ARMv7-M Architecture Reference Manual, 'Debug ITM
+//! and DWT packet protocol', global timestamp packets).
+
+ghost use Rattle.std.specs.Prelude.{◌≡◌, ◌+◌, ◌*◌, ◌/◌, ◌^◌, ◌<◌, ◌≤◌, Bool, List, [], ◌∷◌, ◌++◌};
+ghost use Rattle.std.specs.Option.{ForSome};
+ghost use Rattle.trace_clock.specs.GlobalTime.{GlobalStamp, First, first_bits, known_low};
+
+/// The global time, as far as the global timestamps so far tell it.
+#[derive(Clone, Copy, Debug, PartialEq, Eq, Drop)]
+pub struct GlobalClock {
+    /// Bits 25 to 0 of the time, once a first timestamp has told them all.
+    low: Option<u32>,
+    /// The bits from 26 on, where a second timestamp has told them since they last changed.
+    high: Option<u64>,
+    ghost low_fits: { ForSome low (λ bits. bits < 2 ^ 26) },
+    ghost high_fits: { ForSome high (λ bits. bits < 2 ^ 38) },
+}
+
+impl GlobalClock {
+    ghost use Rattle.trace_clock.specs.GlobalTime.{global_time, Second, IsProperFirst, second_bits};
+    ghost use Rattle.trace_clock.specs.GlobalClock.{IsGlobal};
+
+    /// A clock before the first timestamp, whose time is unknown.
+    pub fn new() -> GlobalClock
+        ensures { IsGlobal result [] }
+    {
+        GlobalClock {
+            low: None,
+            high: None,
+        }
+    }
+
+    /// Takes a first timestamp: the low 7, 14, 21 or 26 bits of the time, in `len` payload bytes, 1 to 4.
+    ///
+    /// One of under four bytes replaces the bits that it carries where one of four has come, and else has
+    /// no effect. One of four bytes may also say that the clock's ratio changed, which has no effect, and
+    /// that the bits from 26 on did (`wrap`), which are unknown from then on.
+    #[inline]
+    pub fn first(&mut self, len: u8, value: u32, change: bool, wrap: bool)
+        requires proper { IsProperFirst len value change wrap }
+        ensures { (stamps : List GlobalStamp) → IsGlobal self.old stamps → IsGlobal self.new (stamps ++ First len value wrap ∷ []) }
+    {
+        self.low = low_behind(self.low, len, value);
+        if wrap {
+            self.high = None;
+        }
+    }
+
+    /// Takes a second timestamp: the bits of the time from 26 on, as a number under 2^22, or under 2^38
+    /// where it is wide.
+    #[inline]
+    pub fn second(&mut self, wide: bool, value: u64)
+        requires proper { value < 2 ^ second_bits wide }
+        ensures { (stamps : List GlobalStamp) → IsGlobal self.old stamps → IsGlobal self.new (stamps ++ Second value ∷ []) }
+    {
+        self.high = Some(value);
+    }
+
+    /// The time, if it is known: a first timestamp of four bytes has come, and a second one since the bits
+    /// from 26 on last changed, or since the start.
+    #[inline]
+    pub fn now(&self) -> Option<u64>
+        ensures { (stamps : List GlobalStamp) → IsGlobal self.now stamps → result ≡ global_time stamps }
+    {
+        match (self.low, self.high) {
+            (Some(low), Some(high)) => Some((high << 26) | u64::from(low)),
+            _ => None,
+        }
+    }
+}
+
+/// Bits 25 to 0 of the time behind a first timestamp, as far as they are known, by those before it.
+#[inline]
+fn low_behind(low: Option<u32>, len: u8, value: u32) -> Option<u32>
+    requires len { (0 < len) × (len ≤ 4) }
+    requires value { value < 2 ^ first_bits len }
+    requires low { ForSome low (λ bits. bits < 2 ^ 26) }
+    ensures list { (stamps : List GlobalStamp) (wrap : Bool) → low ≡ known_low stamps → result ≡ known_low (stamps ++ First len value wrap ∷ []) }
+    ensures fits { ForSome result (λ bits. bits < 2 ^ 26) }
+{
+    if len == 4 {
+        Some(value)
+    } else {
+        low.map(|bits| with_low_bits(bits, 7 * len, value))
+    }
+}
+
+/// The number with its lowest bits, so many, replaced by these.
+#[inline]
+fn with_low_bits(number: u32, count: u8, bits: u32) -> u32
+    requires count { count ≤ 21 }
+    requires bits { bits < 2 ^ count }
+    requires number { number < 2 ^ 26 }
+    ensures value { result ≡ number / 2 ^ count * 2 ^ count + bits }
+    ensures fits { result < 2 ^ 26 }
+{
+    (number >> count << count) | bits
+}
+
+#[cfg(test)]
+mod tests {
+    use super::*;
+    use std::process::Abort;
+
+    #[derive(Clone, Copy, Debug)]
+    enum Stamp {
+        /// Of so many payload bytes under four.
+        Short(u8, u32),
+        /// Of four, with clock change and wrap.
+        Whole(u32, bool, bool),
+        Narrow(u64),
+        Wide(u64),
+    }
+
+    fn take(rt: &impl Abort, clock: &mut GlobalClock, stamp: Stamp) {
+        match stamp {
+            Stamp::Short(len, value) => {
+                assert!(rt; 0 < len && len < 4 && value < 1 << (7 * len));
+                clock.first(len, value, false, false);
+            }
+            Stamp::Whole(value, change, wrap) => {
+                assert!(rt; value < 1 << 26);
+                clock.first(4, value, change, wrap);
+            }
+            Stamp::Narrow(value) => {
+                assert!(rt; value < 1 << 22);
+                clock.second(false, value);
+            }
+            Stamp::Wide(value) => {
+                assert!(rt; value < 1 << 38);
+                clock.second(true, value);
+            }
+        }
+    }
+
+    #[test]
+    fn tells_the_time(rt: HostRuntime) {
+        use Stamp::{Narrow, Short, Whole, Wide};
+
+        let rows: [(&[Stamp], Option<u64>); 20] = [
+            (&[], None),
+            (&[Whole(1, false, true)], None),
+            (&[Narrow(2)], None),
+            (&[Short(3, 0x1F_FFFF), Narrow(2)], None),
+            (&[Short(1, 5), Wide(2), Short(2, 1)], None),
+            (&[Whole(1, false, true), Narrow(2)], Some(134217729)),
+            (
+                &[Whole(1, false, true), Narrow(2), Short(1, 5)],
+                Some(134217733),
+            ),
+            // The bits from 26 on are told before the others, and lost at a wrap.
+            (&[Narrow(2), Whole(1, false, false)], Some(134217729)),
+            (&[Narrow(2), Whole(1, false, true)], None),
+            (&[Narrow(2), Whole(1, true, true)], None),
+            (&[Narrow(2), Whole(1, false, true), Short(1, 5)], None),
+            (
+                &[
+                    Whole(9, false, false),
+                    Narrow(2),
+                    Whole(3, false, true),
+                    Narrow(4),
+                ],
+                Some(0x1000_0003),
+            ),
+            // A clock change changes nothing.
+            (&[Narrow(2), Whole(1, true, false)], Some(134217729)),
+            (&[Whole(1, true, false), Narrow(2)], Some(134217729)),
+            // A short timestamp replaces its bits, and tells nothing before a whole one.
+            (
+                &[Whole(0x3FF_FFFF, false, false), Narrow(0), Short(1, 0)],
+                Some(0x3FF_FF80),
+            ),
+            (
+                &[Whole(0x3FF_FFFF, false, false), Narrow(0), Short(2, 0)],
+                Some(0x3FF_C000),
+            ),
+            (
+                &[Whole(0x3FF_FFFF, false, false), Narrow(0), Short(3, 0)],
+                Some(0x3E0_0000),
+            ),
+            (
+                &[
+                    Whole(0, false, false),
+                    Narrow(0),
+                    Short(3, 0x1F_FFFF),
+                    Short(1, 1),
+                ],
+                Some(0x1F_FF81),
+            ),
+            (
+                &[Short(3, 0x1F_FFFF), Whole(0, false, false), Narrow(1)],
+                Some(0x400_0000),
+            ),
+            // The last second timestamp, up to all bits of the time.
+            (
+                &[
+                    Narrow(0x3F_FFFF),
+                    Whole(0x3FF_FFFF, false, false),
+                    Wide(0x3F_FFFF_FFFF),
+                ],
+                Some(u64::MAX),
+            ),
+        ];
+        for (stamps, time) in rows {
+            let mut clock = GlobalClock::new();
+            for stamp in stamps {
+                take(&rt, &mut clock, *stamp);
+            }
+            assert_eq!(rt; clock.now(), time, "{stamps:?}");
+        }
+    }
+}

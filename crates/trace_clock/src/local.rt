@@ -1,0 +1,59 @@
+//! The local time, which local timestamp packets tell (ARMv7-M Architecture Reference Manual, 'Debug ITM
+//! and DWT packet protocol', local timestamp packets).
+
+ghost use Rattle.std.specs.Prelude.{ℕ};
+
+use std::marker::Model;
+
+/// The local time: the ticks of all local timestamps so far. Contracts see it as that number.
+#[derive(Clone, Copy, Debug, PartialEq, Eq, Drop)]
+pub struct LocalClock {
+    ticks: u64,
+}
+
+impl Model for LocalClock {
+    ghost Value = { ℕ };
+
+    ghost view = { λ clock. clock.ticks };
+
+    ghost inverse = { λ ticks. record { ticks = ticks } };
+}
+
+impl LocalClock {
+    ghost use Rattle.std.specs.Prelude.{◌≡◌, ◌+◌, ◌^◌, ◌<◌, List, [], ◌∷◌, ◌++◌};
+    ghost use Rattle.trace_clock.specs.LocalTime.{local_time};
+
+    /// The time before the first timestamp, 0.
+    pub fn new() -> LocalClock
+        ensures { result ≡ local_time [] }
+    {
+        LocalClock { ticks: 0 }
+    }
+
+    /// Takes the next timestamp's time since the one before, in ticks, and answers the time. The sum of
+    /// all of them must be under 2^64.
+    #[inline]
+    pub fn add(&mut self, delta: u32) -> u64
+        requires room { self.old + delta < 2 ^ 64 }
+        ensures sum { self.new ≡ self.old + delta }
+        ensures list { (deltas : List ℕ) → self.old ≡ local_time deltas → self.new ≡ local_time (deltas ++ delta ∷ []) }
+        ensures time { (deltas : List ℕ) → self.old ≡ local_time deltas → result ≡ local_time (deltas ++ delta ∷ []) }
+    {
+        self.ticks += u64::from(delta);
+        self.ticks
+    }
+}
+
+#[cfg(test)]
+mod tests {
+    use super::*;
+
+    #[test]
+    fn adds_up(rt: HostRuntime) {
+        let mut clock = LocalClock::new();
+        assert_eq!(rt; clock.add(136), 136);
+        assert_eq!(rt; clock.add(2), 138);
+        assert_eq!(rt; clock.add(0), 138);
+        assert_eq!(rt; clock.add(0x0FFF_FFFF), 0x1000_0089);
+    }
+}
