@@ -24,9 +24,11 @@ pub struct ItmDecoder {
 impl ItmDecoder {
     ghost use Rattle.std.specs.Prelude.{[], false, ℕ, ◌+◌, ◌*◌, ◌^◌, ◌<◌, ◌≤◌, List, length, take, IfSome};
     ghost use Rattle.trace_values.specs.Placed.{Placed};
+    ghost use Rattle.trace_values.specs.Stream.{StepFits};
     ghost use Rattle.trace_values.specs.Block.{Takes, StopsFor, goes_on_after};
     ghost use Rattle.itm_grammar.specs.declared.partial.Partial.TheVariants.{Header};
     ghost use Rattle.itm_grammar.specs.Spelling.{Spells};
+    ghost use Rattle.itm_grammar.specs.Proper.{IsProper};
     ghost use Rattle.itm_codec.specs.Reading.{packets_in};
     ghost use Rattle.itm_codec.specs.Decoder.{IsOf, is_hunter, is_live, has_locked, held_of, skipped_by};
 
@@ -63,6 +65,7 @@ impl ItmDecoder {
     fn source_packet(&self, piece: &[u8]) -> Option<(usize, ItmPacket)>
         ensures header { IfSome result (λ x. (has_locked self.now ≡ true) × (self.now.partial ≡ Header)) }
         ensures whole { IfSome result (λ x. (0 < x.0) × (x.0 ≤ length piece.now) × Spells x.1 (take x.0 piece.now)) }
+        ensures proper { IfSome result (λ x. IsProper x.1) }
     {
         match (&self.mode, &self.partial) {
             (Mode::Aligned | Mode::Locked { .. }, Partial::Header) => source_packet(piece),
@@ -85,6 +88,7 @@ impl ItmDecoder {
         ensures takes { (u : List Placed) → IsOf self.old u →
             Takes (packets_in (is_hunter self.old)) (IsOf self.new) u at piece.now result.bytes result.step }
         ensures live { is_live self.new ≡ goes_on_after result.step }
+        ensures fits { IfSome result.step (StepFits IsProper) }
         ensures few { held_of self.new + skipped_by self.new ≤ held_of self.old + skipped_by self.old + 2 * result.bytes }
     {
         if let Some((bytes, packet)) = self.source_packet(piece) {
@@ -103,9 +107,10 @@ impl ItmDecoder {
 impl Machine for ItmDecoder {
     ghost use Rattle.std.specs.Prelude.{refl, ◌+◌, ◌^◌, ◌≤◌, ◌∷◌, ◌++◌, [], List};
     ghost use Rattle.trace_values.specs.Placed.{Placed, byte_at};
-    ghost use Rattle.trace_values.specs.Stream.{Grows, goes_on};
+    ghost use Rattle.trace_values.specs.Stream.{Grows, StepFits, goes_on};
     ghost use Rattle.itm_codec.specs.Answers.{AnswersBy};
     ghost use Rattle.itm_grammar.specs.Rule.{rule, count_of};
+    ghost use Rattle.itm_grammar.specs.Proper.{IsProper};
     ghost use Rattle.itm_grammar.specs.declared.packet.ItmPacket.TheVariants.{Sync};
     ghost use Rattle.itm_grammar.specs.declared.partial.Partial.TheVariants.{Header};
     ghost use Rattle.trace_values.specs.Walk.{by_unit};
@@ -128,6 +133,8 @@ impl Machine for ItmDecoder {
 
     ghost skipped_units = { skipped_by };
 
+    ghost fits = { IsProper };
+
     ghost shows = { λ m u s. laws.shows pattern Sync (by_unit rule) Header count_of refl counting.counts_placed m.mode m.live m.partial u s };
 
     ghost begins = { λ m. laws.begins pattern Sync (by_unit rule) Header (is_hunter m) };
@@ -148,6 +155,7 @@ impl Machine for ItmDecoder {
         ensures step { (u : List Placed) → IsOf self.old u →
             Grows (packets_in (is_hunter self.old) u) (packets_in (is_hunter self.old) (u ++ byte_at at byte ∷ [])) at result }
         ensures live { is_live self.new ≡ goes_on result }
+        ensures fits { StepFits IsProper result }
         ensures few { held_of self.new + skipped_by self.new ≤ held_of self.old + skipped_by self.old + 2 }
         ensures grammar { (u : List Placed) → IsOf self.old u → has_locked self.old ≡ true →
             AnswersBy result at (rest_in (is_hunter self.old) u ++ byte_at at byte ∷ []) }

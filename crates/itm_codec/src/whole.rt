@@ -1,14 +1,17 @@
 //! A source packet whose bytes are all there.
 
-ghost use Rattle.std.specs.Prelude.{◌≡◌, ◌%◌, ◌<◌, ◌≤◌, ◌∷◌, ℕ, List, length, take, IfSome};
+ghost use Rattle.std.specs.Prelude.{◌≡◌, ◌%◌, ◌^◌, ◌<◌, ◌≤◌, ◌∷◌, ℕ, List, length, take, IfSome};
 ghost use Rattle.itm_grammar.specs.Spelling.{Spells, byte_count, size_bits, number};
+ghost use Rattle.itm_grammar.specs.Proper.{IsProper};
 
 use itm_grammar::packet::{ItmPacket, Size};
 
-/// The source packet with this header and this value.
+/// The source packet with this header and this value, which fits its size.
 fn source(header: u8, size: Size, value: u32) -> ItmPacket
-    requires { header % 4 ≡ size_bits size }
-    ensures { (payload : List ℕ) → length payload ≡ byte_count size → number payload ≡ value → Spells result (header ∷ payload) }
+    requires size { header % 4 ≡ size_bits size }
+    requires fits { value < 256 ^ byte_count size }
+    ensures spells { (payload : List ℕ) → length payload ≡ byte_count size → number payload ≡ value → Spells result (header ∷ payload) }
+    ensures proper { IsProper result }
 {
     if (header / 4) % 2 == 0 {
         ItmPacket::Software {
@@ -28,7 +31,8 @@ fn source(header: u8, size: Size, value: u32) -> ItmPacket
 /// The source packet that these bytes begin with, and how many of them it takes. None where they begin
 /// with another packet or do not finish it.
 pub fn source_packet(bytes: &[u8]) -> Option<(usize, ItmPacket)>
-    ensures { IfSome result (λ x. (0 < x.0) × (x.0 ≤ length bytes.now) × Spells x.1 (take x.0 bytes.now)) }
+    ensures whole { IfSome result (λ x. (0 < x.0) × (x.0 ≤ length bytes.now) × Spells x.1 (take x.0 bytes.now)) }
+    ensures proper { IfSome result (λ x. IsProper x.1) }
 {
     match bytes {
         [header, a, ..] if header % 4 == 1 => Some((2, source(*header, Size::One, u32::from(*a)))),

@@ -12,14 +12,14 @@ use Rattle.itm_grammar.specs.Rule.{another_follows, digit, base_of, most_bytes, 
 use Rattle.itm_grammar.proofs.Deciding.{goes_under}
 
 -- what a sound payload is
-parts : (n m v p : ℕ) → (nat_lt n m && nat_lt v p) ≡ true → (n < m) × (v < p)
+pub parts : (n m v p : ℕ) → (nat_lt n m && nat_lt v p) ≡ true → (n < m) × (v < p)
 parts n m v p e = grind (arith, nat_tests)
 
 joined : (n m v p : ℕ) → n < m → v < p → (nat_lt n m && nat_lt v p) ≡ true
 joined n m v p h k = grind (arith, nat_tests)
 
 -- one more byte of 8 bits
-more_bytes : (n v b : ℕ) → n < 4 → v < 256 ^ n → b < 256 → (v + b * 256 ^ n < 256 ^ (n + 1)) × (v + b * 256 ^ n < 2 ^ 32)
+pub more_bytes : (n v b : ℕ) → n < 4 → v < 256 ^ n → b < 256 → (v + b * 256 ^ n < 256 ^ (n + 1)) × (v + b * 256 ^ n < 2 ^ 32)
 more_bytes zero v b h k l = (omega arith, omega arith)
 more_bytes (suc zero) v b h k l = (omega arith, omega arith)
 more_bytes (suc (suc zero)) v b h k l = (omega arith, omega arith)
@@ -27,7 +27,7 @@ more_bytes (suc (suc (suc zero))) v b h k l = (omega arith, omega arith)
 more_bytes (suc (suc (suc (suc n)))) v b h k l = absurd (omega arith)
 
 -- and of 7
-more_groups : (n v b : ℕ) → n < 6 → v < 128 ^ n → b < 128 → (v + b * 128 ^ n < 128 ^ (n + 1)) × (n < 4 → v + b * 128 ^ n < 2 ^ 28)
+pub more_groups : (n v b : ℕ) → n < 6 → v < 128 ^ n → b < 128 → (v + b * 128 ^ n < 128 ^ (n + 1)) × (n < 4 → v + b * 128 ^ n < 2 ^ 28)
 more_groups zero v b h k l = (omega arith, λ s. omega arith)
 more_groups (suc zero) v b h k l = (omega arith, λ s. omega arith)
 more_groups (suc (suc zero)) v b h k l = (omega arith, λ s. omega arith)

@@ -39,7 +39,7 @@ abbrev all_under : (ℕ → Bool) → ℕ → Bool
 all_under f zero = true
 all_under f (suc n) = f n && all_under f n
 
-both : (s t : Bool) → (s && t) ≡ true → (s ≡ true) × (t ≡ true)
+pub both : (s t : Bool) → (s && t) ≡ true → (s ≡ true) × (t ≡ true)
 both true t e = (refl, e)
 both false t e = cc
 

@@ -13,6 +13,7 @@ use Rattle.itm_grammar.specs.declared.partial.Partial.{Partial}
 use Rattle.itm_grammar.specs.declared.partial.Partial.TheVariants.{Header, Zeros, Payload}
 use Rattle.itm_grammar.specs.Header.{class_of, is_proper_class}
 use Rattle.itm_grammar.specs.Spelling.{byte_count}
+use Rattle.itm_grammar.specs.Proper.{IsProper}
 
 -- a header of this class
 abbrev pub begin : Class → Next Partial ItmPacket
@@ -119,6 +120,12 @@ abbrev pub IsSoundNext : Next Partial ItmPacket → Type 0
 IsSoundNext (Go partial) = is_sound partial ≡ true
 IsSoundNext (Stop packet) = Unit {0}
 IsSoundNext (Fail e) = Unit {0}
+
+-- where it ends, its numbers are in their ranges
+abbrev pub StopsProperly : Next Partial ItmPacket → Type 0
+StopsProperly (Go partial) = Unit {0}
+StopsProperly (Stop packet) = IsProper packet
+StopsProperly (Fail e) = Unit {0}
 
 -- the numbers of a whole payload of this class with its header's fit the packet's
 abbrev pub FitsLast : Class → ℕ → Type 0

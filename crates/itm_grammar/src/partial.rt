@@ -2,7 +2,7 @@
 
 ghost use Rattle.std.specs.Prelude.{◌≡◌, ◌+◌, ◌*◌, ◌^◌, ◌<◌, ◌≤◌, true};
 ghost use Rattle.itm_grammar.specs.Header.{is_proper_class};
-ghost use Rattle.itm_grammar.specs.Rule.{rule, begin as begun, zeros_with as zeros_and, payload_with as payload_and, last as lasting, another_follows as follows_by_table, source as sourced, first_stamp as first_stamped, second_stamp as second_stamped, digit, base_of, is_sound, is_sound_payload, IsSoundNext, FitsLast, count_of, held_after};
+ghost use Rattle.itm_grammar.specs.Rule.{rule, begin as begun, zeros_with as zeros_and, payload_with as payload_and, last as lasting, another_follows as follows_by_table, source as sourced, first_stamp as first_stamped, second_stamp as second_stamped, digit, base_of, is_sound, is_sound_payload, IsSoundNext, StopsProperly, FitsLast, count_of, held_after};
 
 use crate::header::{Class, classify};
 use crate::packet::{ItmPacket, Lateness, Size};
@@ -234,6 +234,7 @@ impl Partial {
         requires room { count_of self ≤ 2 ^ 60 }
         ensures next { result ≡ rule self byte }
         ensures sound { IsSoundNext result }
+        ensures proper { StopsProperly result }
         ensures held { held_after result ≤ count_of self + 1 }
     {
         match self {

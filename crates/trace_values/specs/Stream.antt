@@ -49,6 +49,14 @@ abbrev pub goes_on : {V : Type 0} → Step V → Bool
 goes_on (Faulty f) = false
 goes_on s = true
 
+-- the item that a step gives is such a one
+abbrev pub StepFits : {V : Type 0} → (V → Type 0) → Step V → Type 0
+StepFits fits Quiet = Unit {0}
+StepFits fits Skipping = Unit {0}
+StepFits fits (Item half v) = fits v
+StepFits fits (Locked skipped half v) = fits v
+StepFits fits (Faulty f) = Unit {0}
+
 -- what a step says of the hunt, and a fault of its offset
 abbrev pub HuntBy : {V : Type 0} → Stream V → Stream V → ℕ → Step V → Type 0
 HuntBy old new at Quiet = (old.locked ≡ true) × (new.locked ≡ true) × (new.skipped ≡ old.skipped)

@@ -1,7 +1,8 @@
 //! A machine over a piece of bytes at once.
 
-ghost use Rattle.std.specs.Prelude.{◌≡◌, ℕ, ◌+◌, ◌*◌, ◌^◌, ◌<◌, ◌≤◌, List, length, true};
+ghost use Rattle.std.specs.Prelude.{◌≡◌, ℕ, ◌+◌, ◌*◌, ◌^◌, ◌<◌, ◌≤◌, List, IfSome, length, true};
 ghost use Rattle.trace_values.specs.Placed.{Placed};
+ghost use Rattle.trace_values.specs.Stream.{StepFits};
 ghost use Rattle.trace_values.specs.Block.{StopsFor, Takes, goes_on_after};
 
 use crate::machine::Machine;
@@ -34,6 +35,7 @@ pub fn feed_block<M: Machine>(machine: &mut M, at: u64, piece: &[u8]) -> Block<M
     ensures takes { (u : List Placed) → M.stands machine.old u →
         Takes (M.reading machine.old) (M.stands machine.new) u at piece.now result.bytes result.step }
     ensures live { M.live machine.new ≡ goes_on_after result.step }
+    ensures fits { IfSome result.step (StepFits M.fits) }
     ensures few { M.held_units machine.new + M.skipped_units machine.new ≤ M.held_units machine.old + M.skipped_units machine.old + 2 * result.bytes }
 {
     for (index, byte) in piece.iter().enumerate() {
@@ -84,6 +86,8 @@ mod tests {
         ghost held_units = { λ m. 0 };
 
         ghost skipped_units = { λ m. 0 };
+
+        ghost fits = { λ item. Unit {0} };
 
         ghost shows = { λ m u s. absurd s };
 

@@ -2,7 +2,7 @@
 
 ghost use Rattle.std.specs.Prelude.{◌≡◌, ℕ, ◌+◌, ◌^◌, ◌≤◌, ◌++◌, ◌∷◌, [], List, Bool, true, false, None, is_none, length};
 ghost use Rattle.trace_values.specs.Placed.{Placed, byte_at};
-ghost use Rattle.trace_values.specs.Stream.{Stream, Grows, Shows, Settled, Rises, goes_on};
+ghost use Rattle.trace_values.specs.Stream.{Stream, Grows, Shows, Settled, Rises, StepFits, goes_on};
 
 use crate::step::Step;
 
@@ -33,6 +33,9 @@ pub trait Machine {
     /// How many units stand before its reading.
     ghost skipped_units: { Self → ℕ };
 
+    /// The item's numbers are in their ranges.
+    ghost fits: { Self.Item → Type 0 };
+
     /// Takes the next byte, which stands at this offset of the capture. It has met no fault, and holds and
     /// skipped at most 2^60 units.
     fn feed(&mut self, at: u64, byte: u8) -> Step<Self::Item>
@@ -44,6 +47,7 @@ pub trait Machine {
         ensures step { (u : List Placed) → stands self.old u →
             Grows (reading self.old u) (reading self.old (u ++ byte_at at byte ∷ [])) at result }
         ensures live { live self.new ≡ goes_on result }
+        ensures fits { StepFits fits result }
         ensures few { held_units self.new + skipped_units self.new ≤ held_units self.old + skipped_units self.old + 2 };
 
     /// False exactly behind a fault.

@@ -1,6 +1,5 @@
-use Rattle.std.proofs.Common.{◌≡◌, ℕ, ◌+◌, List, refl, sym, ◌∙◌, ap, subst, arith, true, None, Option, Bool, Some}
+use Rattle.std.proofs.Common.{◌≡◌, ℕ, ◌+◌, refl, sym, subst, arith, true, None, Option, Bool, Some}
 use Rattle.std.specs.Prelude.{is_none}
-use Rattle.trace_values.specs.Placed.{Placed}
 use Rattle.trace_values.specs.Walk.{by_unit}
 use Rattle.trace_values.specs.Moded.{StandsIn, stream_in, hunts}
 use Rattle.trace_values.specs.Block.{Takes}

@@ -38,6 +38,7 @@ returns-in-Go c = record {
   step = λ u s. laws.reads-step pattern Sync (by_unit rule) Header c.args.self.now.mode _ c.args.self.now.partial u c.args.byte c.args.at (Go c.in-Go.partial)
       c.requires.live (laws.reads_on _ c.in_default.not-Hunting) c.in-Go.ensures.next s;
   live = c.requires.live;
+  fits = tt;
   few = (let k = counts c.args.self.now.partial c.in-Go.partial c.args.byte (sym c.in-Go.ensures.next) in omega arith);
   grammar = λ u s locked. answers c.args.self.now.mode _ c.args.self.now.partial u c.args.at c.args.byte (Go c.in-Go.partial)
       c.requires.live locked c.in-Go.ensures.next s;
@@ -51,6 +52,7 @@ returns-in-Stop c = record {
   step = λ u s. laws.reads-step pattern Sync (by_unit rule) Header c.args.self.now.mode _ c.args.self.now.partial u c.args.byte c.args.at (Stop c.in-Stop.packet)
       c.requires.live (laws.reads_on _ c.in_default.not-Hunting) c.in-Stop.ensures.next s;
   live = c.requires.live;
+  fits = c.in-Stop.ensures.proper;
   few = omega arith;
   grammar = λ u s locked. answers c.args.self.now.mode _ c.args.self.now.partial u c.args.at c.args.byte (Stop c.in-Stop.packet)
       c.requires.live locked c.in-Stop.ensures.next s;
@@ -64,6 +66,7 @@ returns-in-Fail c = record {
   step = λ u s. laws.reads-step pattern Sync (by_unit rule) Header c.args.self.now.mode _ c.args.self.now.partial u c.args.byte c.args.at (Fail c.in-Fail.reason)
       c.requires.live (laws.reads_on _ c.in_default.not-Hunting) c.in-Fail.ensures.next s;
   live = refl;
+  fits = tt;
   few = omega arith;
   grammar = λ u s locked. answers c.args.self.now.mode _ c.args.self.now.partial u c.args.at c.args.byte (Fail c.in-Fail.reason)
       c.requires.live locked c.in-Fail.ensures.next s;
