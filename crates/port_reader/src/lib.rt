@@ -5,6 +5,8 @@
 pub mod laws;
 mod reader;
 pub mod rows;
+#[cfg(test)]
+mod tests;
 
 pub use deformatter::PortStep;
 pub use reader::PortReader;

@@ -80,8 +80,8 @@ impl PortReader {
         ensures list { (u : List Placed) → IsOf self.now u → result ≡ (port_reading (mode_of self.now) u).locked }
     {
         match self.mode {
-            FramesMode::Bare => true,
-            FramesMode::Hunt | FramesMode::Aligned => self.port.is_locked(),
+            FramesMode::Hunt => self.port.is_locked(),
+            FramesMode::Aligned | FramesMode::Bare => true,
         }
     }
 
@@ -93,8 +93,8 @@ impl PortReader {
         ensures list { (u : List Placed) → IsOf self.now u → result ≡ (port_reading (mode_of self.now) u).skipped }
     {
         match self.mode {
-            FramesMode::Bare => 0,
-            FramesMode::Hunt | FramesMode::Aligned => self.port.skipped(),
+            FramesMode::Hunt => self.port.skipped(),
+            FramesMode::Aligned | FramesMode::Bare => 0,
         }
     }
 
