@@ -1,12 +1,12 @@
 -- One more byte of a port with a formatter: its frames and cells.
-use Rattle.std.proofs.Common.{◌≡◌, ℕ, ◌+◌, ◌≤◌, List, [], ◌∷◌, ◌++◌, refl, sym, ◌∙◌, ap, subst, ◌⊎◌, inl, inr, append-nil, Bool, true, false, cond, Option, None}
+use Rattle.std.proofs.Common.{◌≡◌, ℕ, ◌+◌, ◌≤◌, List, [], ◌∷◌, ◌++◌, sym, ◌∙◌, ap, subst, ◌⊎◌, inl, inr, append-nil, Bool, true, false, cond, None}
 use Rattle.std.proofs.lemmas.List.{map-append, append_cancel_left}
 use Rattle.trace_values.specs.declared.cell.Cell.{Cell}
 use Rattle.trace_values.specs.Placed.{Place, Placed}
 use Rattle.capture_plan.specs.declared.frames.FramesMode.{FramesMode}
 use Rattle.capture_plan.specs.declared.frames.FramesMode.TheVariants.{Hunt, Aligned, Bare}
 use Rattle.frame_grammar.specs.Port.{Piece, Full, Half, Frame}
-use Rattle.frame_grammar.specs.Reading.{piece_cells, cells_of_pieces, id_of_pieces}
+use Rattle.frame_grammar.specs.Reading.{piece_cells, cells_of_pieces}
 use Rattle.frame_grammar.proofs.Pieces.{cells_of_pieces-append}
 use Rattle.deformatter.specs.Reading.{PortStream, port_stream, pieces_of, cells_in, id_in}
 use Rattle.deformatter.specs.Growth as port
