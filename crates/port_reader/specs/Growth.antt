@@ -1,0 +1,66 @@
+-- How the reading of a port's bytes grows with one more byte, and what a step says of it.
+use Rattle.std.specs.Prelude.{◌≡◌, ℕ, ◌+◌, ◌≤◌, List, [], ◌∷◌, ◌++◌, true, false, if◌then◌else◌, None}
+use Rattle.trace_values.specs.declared.cell.Cell.{Cell}
+use Rattle.trace_values.specs.Stream.{FaultAt}
+use Rattle.deformatter.specs.declared.step.PortStep.{PortStep}
+use Rattle.deformatter.specs.declared.step.PortStep.TheVariants.{Quiet, Frame, Locked, Fault as Faulty}
+use Rattle.deformatter.specs.Growth.{fulls_by, halves_by, fault_by}
+use Rattle.port_reader.specs.Reading.{PortReading}
+
+-- the frames that a step ends: one of these cells, or none
+abbrev pub frames_by : PortStep → List Cell → List (List Cell)
+frames_by Frame cells = cells ∷ []
+frames_by step cells = []
+
+-- only a frame has cells
+abbrev pub CellsFit : PortStep → List Cell → Type 0
+CellsFit Frame cells = Unit {0}
+CellsFit step cells = cells ≡ []
+
+-- it reads, and has skipped as much as before
+pub record Reads (old new : PortReading) : Type 0 where
+  pub before : old.locked ≡ true
+  pub behind : new.locked ≡ true
+  pub skipped : new.skipped ≡ old.skipped
+
+-- What a step says of the hunt: before the lock each byte is skipped, and at the lock the pattern's own three are no longer.
+abbrev pub HuntBy : PortReading → PortReading → ℕ → PortStep → Type 0
+HuntBy old new at Quiet = (new.locked ≡ old.locked) × (new.skipped ≡ (if old.locked then old.skipped else (old.skipped + 1)))
+HuntBy old new at (Locked skipped) = (old.locked ≡ false) × (new.locked ≡ true) × (new.skipped ≡ skipped) × (old.skipped ≡ skipped + 3)
+HuntBy old new at (Faulty f) = (f.at ≡ at) × (f.half ≡ 0) × Reads old new
+HuntBy old new at step = Reads old new
+
+-- With one more byte, at this offset, the reading grew from old to new, and the step says by what: by these cells where it ends a frame.
+pub record Grows (old new : PortReading) (at : ℕ) (step : PortStep) (cells : List Cell) : Type 0 where
+  pub frames : new.frames ≡ old.frames ++ frames_by step cells
+  pub fit : CellsFit step cells
+  pub fulls : new.fulls ≡ old.fulls + fulls_by step
+  pub halves : new.halves ≡ old.halves + halves_by step
+  pub fault : new.fault ≡ fault_by step
+  pub hunt : HuntBy old new at step
+
+-- behind a fault nothing is read
+pub record Settled (old new : PortReading) : Type 0 where
+  pub frames : new.frames ≡ old.frames
+  pub fulls : new.fulls ≡ old.fulls
+  pub halves : new.halves ≡ old.halves
+  pub fault : new.fault ≡ old.fault
+  pub skipped : new.skipped ≡ old.skipped
+  pub locked : new.locked ≡ old.locked
+
+-- With one more byte at this offset a reading has more, and nothing is taken back.
+pub record Rises (old new : PortReading) (at : ℕ) : Type 0 where
+  pub more : List (List Cell)
+  pub frames : new.frames ≡ old.frames ++ more
+  pub fulls : old.fulls ≤ new.fulls
+  pub halves : old.halves ≤ new.halves
+  pub fault : FaultAt at old.fault new.fault
+
+-- nothing is read
+pub record IsNothing (r : PortReading) : Type 0 where
+  pub frames : r.frames ≡ []
+  pub fulls : r.fulls ≡ 0
+  pub halves : r.halves ≡ 0
+  pub fault : r.fault ≡ None
+  pub tail : r.tail ≡ 0
+  pub skipped : r.skipped ≡ 0

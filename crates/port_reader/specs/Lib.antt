@@ -1,0 +1,6 @@
+pub mod Modes
+pub mod Reading
+pub mod Growth
+pub mod Reader
+pub mod ReadingLaws
+pub mod Rows

@@ -1,0 +1,16 @@
+-- The modes of a port: which has no formatter, and which hunts.
+use Rattle.std.specs.Prelude.{Bool, true, false}
+use Rattle.capture_plan.specs.declared.frames.FramesMode.{FramesMode}
+use Rattle.capture_plan.specs.declared.frames.FramesMode.TheVariants.{Hunt, Aligned, Bare}
+
+-- there is no formatter
+abbrev pub is_bare : FramesMode → Bool
+is_bare Bare = true
+is_bare Hunt = false
+is_bare Aligned = false
+
+-- the reading begins behind a hunt
+abbrev pub hunts : FramesMode → Bool
+hunts Hunt = true
+hunts Aligned = false
+hunts Bare = false

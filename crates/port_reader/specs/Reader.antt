@@ -1,0 +1,37 @@
+-- What a port reader stands for, and what it shows.
+use Rattle.std.specs.Prelude.{ℕ, List, Bool, true, if◌then◌else◌}
+use Rattle.trace_values.specs.Placed.{Placed}
+use Rattle.capture_plan.specs.declared.frames.FramesMode.{FramesMode}
+use Rattle.capture_plan.specs.declared.frames.FramesMode.TheVariants.{Hunt, Aligned, Bare}
+use Rattle.deformatter.specs.Deformatter as deformatter
+use Rattle.deformatter.specs.declared.deformatter.Deformatter.{Deformatter}
+use Rattle.port_reader.specs.Modes.{is_bare}
+use Rattle.port_reader.specs.declared.reader.PortReader.{PortReader}
+
+abbrev pub mode_of : PortReader → FramesMode
+mode_of r = r.mode
+
+-- it has met no fault
+abbrev pub is_live : PortReader → Bool
+is_live r = if is_bare r.mode then true else deformatter.is_live r.port
+
+-- its reading has begun
+abbrev pub has_locked : PortReader → Bool
+has_locked r = if is_bare r.mode then true else deformatter.has_locked r.port
+
+-- how many bytes stand behind the last whole frame or synchronisation
+abbrev pub tail_of : PortReader → ℕ
+tail_of r = if is_bare r.mode then 0 else deformatter.tail_of r.port
+
+-- how many bytes stand before its reading
+abbrev pub skipped_by : PortReader → ℕ
+skipped_by r = if is_bare r.mode then 0 else deformatter.skipped_by r.port
+
+-- of a port with a formatter its deformatter stands for the list; of a bare one nothing is kept
+abbrev pub IsOfIn : FramesMode → Deformatter → List Placed → Type 0
+IsOfIn Hunt port u = deformatter.IsOf port u
+IsOfIn Aligned port u = deformatter.IsOf port u
+IsOfIn Bare port u = Unit {0}
+
+abbrev pub IsOf : PortReader → List Placed → Type 0
+IsOf r u = IsOfIn r.mode r.port u

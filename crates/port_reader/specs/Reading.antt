@@ -1,0 +1,64 @@
+-- What the bytes of a port read as: in frames from the first byte on, in frames behind a hunt, or bare.
+use Rattle.std.specs.Prelude.{ℕ, List, [], ◌∷◌, ◌++◌, map, Bool, true, false, Option, None, Some}
+use Rattle.std.specs.List.{flat_map}
+use Rattle.trace_values.specs.declared.cell.Cell.{Cell}
+use Rattle.trace_values.specs.declared.fault.Reason.{Reason}
+use Rattle.trace_values.specs.Placed.{Place, Placed}
+use Rattle.capture_plan.specs.declared.frames.FramesMode.{FramesMode}
+use Rattle.capture_plan.specs.declared.frames.FramesMode.TheVariants.{Hunt, Aligned, Bare}
+use Rattle.frame_grammar.specs.Port.{Piece, Full, Half, Frame}
+use Rattle.frame_grammar.specs.Reading.{piece_cells, piece_id}
+use Rattle.deformatter.specs.Reading.{PortStream, port_stream, pieces_of, fulls_of}
+
+-- What a port's bytes read as: the cells of each frame, in order; how many full and half synchronisations, a half one inside
+-- an unfinished frame too; the fault; how many bytes are behind the last whole frame or synchronisation; how many were skipped;
+-- and whether it reads.
+pub record PortReading : Type 0 where
+  pub frames : List (List Cell)
+  pub fulls : ℕ
+  pub halves : ℕ
+  pub fault : Option (Place × Reason)
+  pub tail : ℕ
+  pub skipped : ℕ
+  pub locked : Bool
+
+-- the frames that a piece is, each by its cells behind this ID: none, or one
+abbrev pub piece_frames : Option ℕ → Piece → List (List Cell)
+piece_frames id Full = []
+piece_frames id Half = []
+piece_frames id (Frame f halves) = piece_cells id (Frame f halves) ∷ []
+
+-- the cells of each frame of some pieces, behind this ID: synchronisations leave the ID as it is
+abbrev pub frames_of_pieces : Option ℕ → List Piece → List (List Cell)
+frames_of_pieces id [] = []
+frames_of_pieces id (p ∷ pieces) = piece_frames id p ++ frames_of_pieces (piece_id id p) pieces
+
+-- the reading of bytes with a formatter; no ID is in force before the first frame
+abbrev pub framed : PortStream → PortReading
+framed s = record {
+  frames = frames_of_pieces None (pieces_of s.pieces);
+  fulls = fulls_of s;
+  halves = s.halves;
+  fault = s.fault;
+  tail = s.tail;
+  skipped = s.skipped;
+  locked = s.locked;
+}
+
+-- a byte with no formatter is a data byte of source 1
+abbrev pub bare_cell : Placed → Cell
+bare_cell b = record { at = b.place.at; id = Some 1; run = 0; byte = b.unit }
+
+-- the reading of bytes with no formatter: each byte is a frame of its own, and nothing is skipped, left over or wrong
+abbrev pub bare : List Placed → PortReading
+bare u = record { frames = map (λ b. bare_cell b ∷ []) u; fulls = 0; halves = 0; fault = None; tail = 0; skipped = 0; locked = true }
+
+-- the reading in a mode
+abbrev pub port_reading : FramesMode → List Placed → PortReading
+port_reading Aligned u = framed (port_stream false u)
+port_reading Hunt u = framed (port_stream true u)
+port_reading Bare u = bare u
+
+-- the cells of all frames, in order
+abbrev pub cells_of : PortReading → List Cell
+cells_of r = flat_map (λ frame. frame) r.frames

@@ -1,0 +1,12 @@
+//! Reads the bytes of a trace port in any of three modes: in frames from the first byte on, in frames behind
+//! the first full synchronisation, or bare, with no formatter (CoreSight Architecture Specification, formatter).
+#![tactic(auto)]
+
+pub mod laws;
+mod reader;
+pub mod rows;
+#[cfg(test)]
+mod tests;
+
+pub use deformatter::PortStep;
+pub use reader::PortReader;
