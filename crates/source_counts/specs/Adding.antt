@@ -1,13 +1,7 @@
 -- What one more cell of a frame adds.
-use Rattle.std.specs.Prelude.{ℕ, Bool, true, not, ◌==◌, ◌&&◌, if◌then◌else◌, Option, None, Some}
-use Rattle.trace_values.specs.declared.cell.Cell.{Cell}
+use Rattle.std.specs.Prelude.{ℕ, Bool, true, not, ◌==◌, ◌&&◌, if◌then◌else◌, Option}
 use Rattle.frame_grammar.specs.Reading.{is_source}
 use Rattle.source_counts.specs.Counts.{null_source, trigger_source}
-
--- a cell of this run begins a run behind a cell of that run, or behind none
-abbrev pub begins : Option ℕ → ℕ → Bool
-begins None run = true
-begins (Some before) run = not (before == run)
 
 -- a cell of this source begins an item
 abbrev pub begins_item : ℕ → Bool → Bool

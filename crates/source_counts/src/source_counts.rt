@@ -33,7 +33,7 @@ impl SourceCounts {
     ghost use Rattle.trace_values.specs.declared.cell.Cell.{Cell};
     ghost use Rattle.frame_grammar.specs.Runs.{HasRuns};
     ghost use Rattle.source_counts.specs.Counts.{counts_of, unattributed_of};
-    ghost use Rattle.source_counts.specs.Adding.{begins, byte_by, item_by};
+    ghost use Rattle.source_counts.specs.Adding.{byte_by, item_by};
     ghost use Rattle.source_counts.specs.Kept.{IsOf, total_of};
 
     /// The counts before the first frame.
