@@ -1,9 +1,9 @@
 -- How the counts of a frame grow by a cell.
 use Rattle.std.proofs.Common.{◌≡◌, ◌≢◌, ℕ, zero, suc, ◌+◌, ◌<◌, ◌≤◌, ◌⊎◌, inl, inr, List, [], ◌∷◌, ◌++◌, length, arith, Bool, true, false, cond, get_or, refl, sym, ◌∙◌, ap, subst, Option, None, Some}
 use Rattle.std.specs.Prelude.{◌==◌, ◌&&◌, ◌||◌, not, is_none}
-use Rattle.std.specs.List.{All, Contains, filter, count_by, list_any, range_with_len}
+use Rattle.std.specs.List.{All, Contains, count_by, range_with_len}
 use Rattle.std.proofs.lemmas.Bool.Decides.{nat_tests}
-use Rattle.std.proofs.lemmas.List.{length-append, get_or_append_left, get_or_at}
+use Rattle.std.proofs.lemmas.List.{length-append, get_or_at}
 use Rattle.std.proofs.lemmas.List.Elements.{All-nil, All-same, All-weaker, All-contains, Contains-push, Contains-append_left, filter-append}
 use Rattle.std.proofs.lemmas.List.Sums.{sum_by-cons, sum_by_push}
 use Rattle.std.proofs.lemmas.List.Folds.{list_any-append, list_any_none, list_any_at}
@@ -11,7 +11,7 @@ use Rattle.trace_values.specs.declared.cell.Cell.{Cell}
 use Rattle.frame_grammar.specs.Reading.{is_source, source_list}
 use Rattle.frame_grammar.specs.Runs.{HasRuns}
 use Rattle.source_counts.specs.Counts.{has_run, runs_of, frame_items, null_source, trigger_source}
-use Rattle.source_counts.specs.Adding.{begins_item, byte_by, item_by}
+use Rattle.source_counts.specs.Adding.{byte_by, item_by}
 
 count_step : (p : ℕ → Bool) (a n : ℕ) → count_by p (range_with_len a (suc n)) ≡ cond (p a) 1 0 + count_by p (range_with_len (a + 1) n)
 count_step p a n = sum_by-cons (λ (r : ℕ). cond (p r) 1 0) a (range_with_len (a + 1) n)

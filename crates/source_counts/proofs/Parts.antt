@@ -1,8 +1,8 @@
 -- The counts in a frame, and behind it.
-use Rattle.std.proofs.Common.{◌≡◌, ℕ, ◌+◌, ◌<◌, ◌≤◌, List, [], ◌∷◌, ◌++◌, length, arith, Bool, true, false, cond, get_or, refl, sym, ◌∙◌, ap, Option, None, Some, append-nil, take, subst, eqb}
+use Rattle.std.proofs.Common.{◌≡◌, ℕ, ◌+◌, ◌<◌, List, [], ◌∷◌, ◌++◌, length, arith, Bool, true, false, cond, get_or, refl, sym, ◌∙◌, ap, Option, None, Some, append-nil, take, subst, eqb}
 use Rattle.std.specs.Prelude.{◌==◌, not, is_none}
 use Rattle.std.specs.Option.{option_eq}
-use Rattle.std.specs.List.{filter, flat_map, count_by}
+use Rattle.std.specs.List.{count_by}
 use Rattle.std.proofs.lemmas.List.{length-append, take_more}
 use Rattle.std.proofs.lemmas.List.Elements.{filter-append}
 use Rattle.std.proofs.lemmas.List.Sums.{sum_by-append, sum_by_push}

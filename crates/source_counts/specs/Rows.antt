@@ -1,5 +1,5 @@
 -- Worked rows of frames, made of cells.
-use Rattle.std.specs.Prelude.{ℕ, List, map, replicate, Option}
+use Rattle.std.specs.Prelude.{ℕ, List, replicate, Option}
 use Rattle.trace_values.specs.declared.cell.Cell.{Cell}
 use Rattle.source_counts.specs.Counts.{bytes_of, items_of}
 

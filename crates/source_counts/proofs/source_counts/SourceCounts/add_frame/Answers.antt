@@ -1,6 +1,6 @@
-use Rattle.std.proofs.Common.{rules, arith, length, take, ◌≡◌, ◌+◌, refl}
+use Rattle.std.proofs.Common.{arith}
 use Rattle.std.proofs.lemmas.List.{length-take}
-use Rattle.source_counts.proofs.Parts.{part_none, part_more, frame_more}
+use Rattle.source_counts.proofs.Parts.{part_none, part_more}
 use Rattle.source_counts.proofs.source_counts.SourceCounts.add_frame.Goals as goal
 
 pub loop-cell-init : goal.loop-cell-init
