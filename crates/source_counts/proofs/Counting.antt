@@ -36,20 +36,20 @@ count_more : (p q : ℕ → Bool) (k a n : ℕ) → a ≤ k → k < a + n → ((
     count_by p (range_with_len a n) ≡ count_by q (range_with_len a n) + 1
 count_more p q k a zero l m h t f = absurd (omega arith)
 count_more p q k a (suc n) l m h t f = elim (here_or_on a k l) [
-    | inl e ↦ (
-        let s : count_by p (range_with_len (a + 1) n) ≡ count_by q (range_with_len (a + 1) n) = count_same p q (a + 1) n (λ r g. h r (λ x. (let y : r ≡ k = x in omega arith))) in
-        let x : count_by p (range_with_len a (suc n)) ≡ 1 + count_by p (range_with_len (a + 1) n) = count_step p a n ∙ ap (λ (b : Bool). cond b 1 0 + count_by p (range_with_len (a + 1) n)) (ap p (sym e) ∙ t) in
-        let y : count_by q (range_with_len a (suc n)) ≡ 0 + count_by q (range_with_len (a + 1) n) = count_step q a n ∙ ap (λ (b : Bool). cond b 1 0 + count_by q (range_with_len (a + 1) n)) (ap q (sym e) ∙ f) in
-        omega arith
-        )
-    | inr g ↦ (
-        let s : count_by p (range_with_len (a + 1) n) ≡ count_by q (range_with_len (a + 1) n) + 1 = count_more p q k (a + 1) n g (omega arith) h t f in
-        let x : count_by p (range_with_len a (suc n)) ≡ cond (p a) 1 0 + count_by p (range_with_len (a + 1) n) = count_step p a n in
-        let y : count_by q (range_with_len a (suc n)) ≡ cond (q a) 1 0 + count_by q (range_with_len (a + 1) n) = count_step q a n in
-        let z = one_choice (p a) (q a) 1 0 (h a (λ e. (let d : a ≡ k = e in omega arith))) in
-        omega arith
-        )
-  ]
+  | inl e ↦ (
+      let s : count_by p (range_with_len (a + 1) n) ≡ count_by q (range_with_len (a + 1) n) = count_same p q (a + 1) n (λ r g. h r (λ x. (let y : r ≡ k = x in omega arith))) in
+      let x : count_by p (range_with_len a (suc n)) ≡ 1 + count_by p (range_with_len (a + 1) n) = count_step p a n ∙ ap (λ (b : Bool). cond b 1 0 + count_by p (range_with_len (a + 1) n)) (ap p (sym e) ∙ t) in
+      let y : count_by q (range_with_len a (suc n)) ≡ 0 + count_by q (range_with_len (a + 1) n) = count_step q a n ∙ ap (λ (b : Bool). cond b 1 0 + count_by q (range_with_len (a + 1) n)) (ap q (sym e) ∙ f) in
+      omega arith
+      )
+  | inr g ↦ (
+      let s : count_by p (range_with_len (a + 1) n) ≡ count_by q (range_with_len (a + 1) n) + 1 = count_more p q k (a + 1) n g (omega arith) h t f in
+      let x : count_by p (range_with_len a (suc n)) ≡ cond (p a) 1 0 + count_by p (range_with_len (a + 1) n) = count_step p a n in
+      let y : count_by q (range_with_len a (suc n)) ≡ cond (q a) 1 0 + count_by q (range_with_len (a + 1) n) = count_step q a n in
+      let z = one_choice (p a) (q a) 1 0 (h a (λ e. (let d : a ≡ k = e in omega arith))) in
+      omega arith
+      )
+]
 
 or_false : (b : Bool) → (b || false) ≡ b
 or_false true = refl

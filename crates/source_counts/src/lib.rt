@@ -4,6 +4,8 @@
 mod counts;
 pub mod rows;
 mod source_counts;
+#[cfg(test)]
+mod tests;
 
 pub use counts::Counts;
 pub use source_counts::SourceCounts;
