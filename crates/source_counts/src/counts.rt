@@ -5,7 +5,7 @@
 pub struct Counts {
     /// Its data bytes.
     pub bytes: u64,
-    /// Its items: those of the trigger source its bytes, those of any other source but the null source the
-    /// runs of its bytes in one frame.
+    /// Its items: none of the null source; of the trigger source one for each byte; of any other source
+    /// one for each run of a frame in which it has a byte.
     pub items: u64,
 }
