@@ -1,20 +1,17 @@
--- The counts in a frame, and behind it.
-use Rattle.std.proofs.Common.{◌≡◌, ℕ, ◌+◌, ◌<◌, List, [], ◌∷◌, ◌++◌, length, arith, Bool, true, false, cond, get_or, refl, sym, ◌∙◌, ap, Option, None, Some, append-nil, take, subst, eqb}
+-- The counts within a frame, cell by cell.
+use Rattle.std.proofs.Common.{◌≡◌, ℕ, ◌+◌, ◌<◌, List, [], ◌∷◌, ◌++◌, length, arith, Bool, true, false, cond, get_or, refl, sym, ◌∙◌, ap, Option, None, Some, take, subst, eqb}
 use Rattle.std.specs.Prelude.{◌==◌, not, is_none}
 use Rattle.std.specs.Option.{option_eq}
 use Rattle.std.specs.List.{count_by}
 use Rattle.std.proofs.lemmas.List.{length-append, take_more}
-use Rattle.std.proofs.lemmas.List.Elements.{filter-append}
-use Rattle.std.proofs.lemmas.List.Sums.{sum_by-append, sum_by_push}
-use Rattle.std.proofs.lemmas.Grind.{flat_map-append}
 use Rattle.trace_values.specs.declared.cell.Cell.{Cell}
-use Rattle.frame_grammar.specs.Reading.{is_source, source_list}
+use Rattle.frame_grammar.specs.Reading.{source_list}
 use Rattle.frame_grammar.specs.Runs.{HasRuns}
 use Rattle.frame_grammar.proofs.Runs.{take_has_runs}
 use Rattle.source_counts.specs.declared.source_counts.SourceCounts.{SourceCounts}
-use Rattle.source_counts.specs.Counts.{all_cells, bytes_of, items_of, unattributed_of, frame_items, runs_of, null_source, trigger_source}
+use Rattle.source_counts.specs.Counts.{frame_items, runs_of, null_source, trigger_source}
 use Rattle.source_counts.specs.Adding.{byte_by, item_by}
-use Rattle.source_counts.specs.Kept.{IsOf, total_of}
+use Rattle.source_counts.specs.Kept.{total_of}
 use Rattle.source_counts.proofs.Counting.{begins, IsBehind, behind_cell, bytes_push, items_push, unattributed_push}
 
 -- from the old counts to the new ones stand these cells of a frame, of which the last one has this run
@@ -73,26 +70,3 @@ part_more old now new xs i c before w h l is p b m =
     let e : take (i + 1) xs ≡ take i xs ++ c ∷ [] = take_more xs i c l ∙ ap (λ (x : Cell). take i xs ++ x ∷ []) (sym is) in
     subst (λ (cs : List Cell). IsPart old new cs (Some c.run)) (sym e)
     (part_push old now new (take i xs) c before (subst HasRuns e (take_has_runs (i + 1) xs h)) p (subst (IsMore now new c) (b ∙ begins_is before c.run) m))
-
-module _ (frames : List (List Cell)) (cs : List Cell) where
-  cells_push : all_cells (frames ++ cs ∷ []) ≡ all_cells frames ++ cs
-  cells_push = flat_map-append (λ (l : List Cell). l) frames (cs ∷ []) ∙ ap (λ (l : List Cell). all_cells frames ++ l) (append-nil cs)
-
-  pub bytes_of_push : (id : ℕ) → bytes_of id (frames ++ cs ∷ []) ≡ bytes_of id frames + length (source_list id cs)
-  bytes_of_push id = ap (λ (l : List Cell). length (source_list id l)) cells_push ∙ ap length (filter-append (λ x. is_source id x.id) (all_cells frames) cs) ∙ length-append (source_list id (all_cells frames)) (source_list id cs)
-
-  pub items_of_push : (id : ℕ) → items_of id (frames ++ cs ∷ []) ≡ items_of id frames + frame_items id cs
-  items_of_push id = sum_by_push (frame_items id) frames cs
-
-  pub unattributed_of_push : unattributed_of (frames ++ cs ∷ []) ≡ unattributed_of frames + count_by (λ c. is_none c.id) cs
-  unattributed_of_push = ap (count_by (λ (c : Cell). is_none c.id)) cells_push ∙ sum_by-append (λ (c : Cell). cond (is_none c.id) 1 0) (all_cells frames) cs
-
--- with all of them, and the frame
-pub frame_more : (old now new : SourceCounts) (cs : List Cell) (before : Option ℕ) (frames : List (List Cell)) → IsPart old now cs before → new.bytes ≡ now.bytes → new.items ≡ now.items →
-    new.unattributed ≡ now.unattributed → new.frames ≡ now.frames + 1 → IsOf old frames → IsOf new (frames ++ cs ∷ [])
-frame_more old now new cs before frames p b i u f o = record {
-  bytes = λ id l. (let d = ap (λ (xs : List ℕ). get_or xs id 0) b in let e = p.bytes id in let g = o.bytes id l in let h = bytes_of_push frames cs id in omega arith);
-  items = λ id l. (let d = ap (λ (xs : List ℕ). get_or xs id 0) i in let e = p.items id in let g = o.items id l in let h = items_of_push frames cs id in omega arith);
-  unattributed = let e = p.unattributed in let g = o.unattributed in let h = unattributed_of_push frames cs in omega arith;
-  frames = let e = p.frames in let g = o.frames in omega (arith, length-append frames (cs ∷ []));
-}
