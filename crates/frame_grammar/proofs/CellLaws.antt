@@ -5,7 +5,7 @@ use Rattle.std.specs.List.{All, Contains, filter, count_by, range_with_len}
 use Rattle.std.specs.List.Sorted.{IsNonDecreasingBy}
 use Rattle.std.proofs.lemmas.Bool.Decides.{nat_tests}
 use Rattle.std.proofs.lemmas.List.{map-append, length-append}
-use Rattle.std.proofs.lemmas.List.Elements.{All-nil, All-cons, All-append, All-contains, All-get_or, filter-append}
+use Rattle.std.proofs.lemmas.List.Elements.{All-nil, All-cons, All-append, All-contains, All-get_or, All-weaker, filter-append}
 use Rattle.std.proofs.lemmas.List.Sums.{sum_by_push}
 use Rattle.std.proofs.lemmas.List.Sorted.{IsNonDecreasingBy-push, IsNonDecreasingBy-short}
 use Rattle.trace_values.specs.declared.cell.Cell.{Cell}
@@ -16,6 +16,10 @@ use Rattle.frame_grammar.specs.Frame.{names, aux_bit, in_effect, id_below, id_at
 lasts_by : (name : Bool) (j i k a : ℕ) → i ≤ k → (name && nat_lt j i && (a == 0 || nat_lt (j + 1) i)) ≡ true → (name && nat_lt j k && (a == 0 || nat_lt (j + 1) k)) ≡ true
 lasts_by true j i k a h e = grind (arith, nat_tests)
 lasts_by false j i k a h e = e
+
+one_more : (b : Bool) (x n : ℕ) → x ≤ n → cond b (x + 1) x ≤ suc n
+one_more true x n h = omega arith
+one_more false x n h = omega arith
 
 more_runs : (s t : Bool) (x y : ℕ) → (s ≡ true → t ≡ true) → x ≤ y → cond s (x + 1) x ≤ cond t (y + 1) y
 more_runs true true x y h l = omega arith
@@ -121,6 +125,10 @@ module _ (frame : List ℕ) where
   run_rises i j zero h = omega arith
   run_rises i j (suc n) h = more_runs (in_effect frame i n) (in_effect frame j n) (run_below frame i n) (run_below frame j n) (lasts i j n h) (run_rises i j n h)
 
+  run_few : (i n : ℕ) → run_below frame i n ≤ n
+  run_few i zero = omega arith
+  run_few i (suc n) = one_more (in_effect frame i n) (run_below frame i n) n (run_few i n)
+
   one_id_below : (id : Option ℕ) (i j n : ℕ) → i ≤ j → run_below frame i n ≡ run_below frame j n → id_below frame id i n ≡ id_below frame id j n
   one_id_below id i j zero h e = refl
   one_id_below id i j (suc n) h e =
@@ -165,6 +173,10 @@ module _ (frame : List ℕ) where
         let x = All-contains IsAt (cells frame offsets id) c all_at p in
         let y = All-contains IsAt (cells frame offsets id) d all_at q in
         x.id_is ∙ one_id_at x.index y.index (sym x.run_is ∙ e ∙ y.run_is) (in_order x.index y.index) ∙ sym y.id_is
+
+    -- of eight ID bytes at most eight are in effect
+    pub few_runs : All (λ c. c.run ≤ 8) (cells frame offsets id)
+    few_runs = All-weaker IsAt (λ c. c.run ≤ 8) (λ c x. let e = x.run_is in let h = run_few x.index 8 in omega arith) (cells frame offsets id) all_at
 
     pub id_before : (c : Cell) → Contains (cells frame offsets id) c → c.run ≡ 0 → c.id ≡ id
     id_before c p e =

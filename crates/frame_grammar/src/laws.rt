@@ -2,7 +2,6 @@
 
 ghost use Rattle.std.specs.Prelude.{◌≡◌, ◌↔◌, ◌<◌, ◌≤◌, ℕ, ◌+◌, ◌*◌, ◌/◌, true, false, List, ◌++◌, Option, None, map, length, slice_index};
 ghost use Rattle.std.specs.List.{Contains, count_by, range_with_len};
-ghost use Rattle.std.specs.List.Sorted.{IsNonDecreasingBy};
 ghost use Rattle.trace_values.specs.declared.cell.Cell.{Cell};
 ghost use Rattle.trace_values.specs.Cells.{source_id};
 ghost use Rattle.trace_values.specs.Placed.{Placed, units_of};
@@ -10,6 +9,7 @@ ghost use Rattle.trace_values.specs.Grammar.{PrefixLaw};
 ghost use Rattle.trace_values.specs.Walk.{Decides};
 ghost use Rattle.trace_values.specs.Reading.{Reading, IsReading};
 ghost use Rattle.frame_grammar.specs.Frame.{IsProperFrame, in_effect, id_at, run_at, cell, cells, data_indexes, data_at};
+ghost use Rattle.frame_grammar.specs.Runs.{HasRuns};
 ghost use Rattle.frame_grammar.specs.Port.{Piece, Frame, Spells, why, rule, start, half_words};
 ghost use Rattle.frame_grammar.specs.Reading.{port_reading, port_progress, cells_of_pieces, id_of_pieces};
 
@@ -74,9 +74,9 @@ pub fn length_law()
     ensures { (frame offsets : List ℕ) (id : Option ℕ) → length (cells frame offsets id) ≤ 15 }
 {}
 
-/// Along a frame's cells the run never falls.
+/// Along a frame's cells the run never falls and is at most 8, and cells of one run have one ID.
 pub fn runs_law()
-    ensures { (frame offsets : List ℕ) (id : Option ℕ) → IsNonDecreasingBy (λ c. c.run) (cells frame offsets id) }
+    ensures { (frame offsets : List ℕ) (id : Option ℕ) → HasRuns (cells frame offsets id) }
 {}
 
 /// Cells of one run have one ID, and those of run 0 the ID before the frame.

@@ -1,0 +1,6 @@
+use Rattle.std.proofs.Common.{◌≤◌, ◌*◌}
+use Rattle.source_counts.specs.Kept.{total_of}
+use Rattle.source_counts.proofs.tests.expect.Given as goal
+
+abbrev pub invariant-loop-frame : goal.invariant-loop-frame
+invariant-loop-frame g l = total_of l.counts ≤ 16 * l.frame-index

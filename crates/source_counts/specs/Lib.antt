@@ -1,0 +1,4 @@
+pub mod Counts
+pub mod Adding
+pub mod Kept
+pub mod Rows

@@ -1,0 +1,11 @@
+//! How much each source of a capture sent: its bytes, and its items where it carries no packets.
+#![tactic(auto)]
+
+mod counts;
+pub mod rows;
+mod source_counts;
+#[cfg(test)]
+mod tests;
+
+pub use counts::Counts;
+pub use source_counts::SourceCounts;
