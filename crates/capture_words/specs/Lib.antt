@@ -1,0 +1,5 @@
+pub mod Command
+pub mod Values
+pub mod Jobs
+pub mod Texts
+pub mod Calls
