@@ -3,3 +3,4 @@ pub mod Values
 pub mod Jobs
 pub mod Texts
 pub mod Calls
+pub mod Rows

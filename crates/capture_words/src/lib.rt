@@ -7,6 +7,7 @@ mod job;
 mod number;
 mod option;
 mod reading;
+mod rows;
 mod usage;
 mod values;
 
