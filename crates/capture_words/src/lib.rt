@@ -4,6 +4,7 @@
 mod command;
 mod entries;
 mod job;
+mod laws;
 mod number;
 mod option;
 mod reading;
