@@ -9,6 +9,8 @@ mod number;
 mod option;
 mod reading;
 mod rows;
+#[cfg(test)]
+mod tests;
 mod usage;
 mod values;
 

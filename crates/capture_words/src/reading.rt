@@ -11,7 +11,7 @@ use clap::error::ErrorKind;
 use std::alloc::{AllocError, Global};
 
 /// What the words of a call ask for.
-#[derive(Debug, Drop)]
+#[derive(Debug, PartialEq, Eq, Drop)]
 pub enum Asked {
     /// A job.
     Do(Job),

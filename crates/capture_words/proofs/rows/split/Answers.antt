@@ -7,7 +7,7 @@ use Rattle.capture_words.proofs.rows.split.Goals as goal
 pub returns : goal.returns
 unfolding trace_app clap_on_literals digits
 returns c = record {
-    hunt = record { call = refl; job_is = refl };
-    aligned = record { call = refl; job_is = refl };
-    unused = record { call = refl; job_is = refl };
+  hunt = record { call = refl; job_is = refl };
+  aligned = record { call = refl; job_is = refl };
+  unused = record { call = refl; job_is = refl };
 }
