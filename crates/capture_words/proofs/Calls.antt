@@ -1,5 +1,5 @@
 -- Words ask for one job, or are a misuse.
-use Rattle.std.proofs.Common.{◌≡◌, ◌≢◌, ◌⊎◌, inl, inr, List, [], ◌∷◌, Result, Ok, Err, ◌∙◌, sym, refl}
+use Rattle.std.proofs.Common.{◌≡◌, ◌⊎◌, inl, inr, List, [], ◌∷◌, Result, Ok, Err, ◌∙◌, sym, refl}
 use Rattle.clap.specs.Kinds.{Kinds}
 use Rattle.clap.specs.Words.{Text}
 use Rattle.capture_words.specs.Calls.{AsksFor, Misuses, IsMisuse}

@@ -19,7 +19,7 @@ pub enum CommandOption {
 }
 
 impl CommandOption {
-    /// The name of the option, behind the two dashes.
+    /// The name of the option, behind the two dashes, at the lifetime of the command that takes it.
     pub fn name<'a>(self) -> &'a str
         ensures { result.now ≡ option_name self }
     {
