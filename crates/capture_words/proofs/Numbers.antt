@@ -1,0 +1,49 @@
+-- A text names a number within bounds exactly where it is the decimal of one.
+use Rattle.std.proofs.Common.{◌≡◌, ℕ, ◌≤◌, ◌<◌, ◌^◌, List, Bool, true, false, arith, sym, ap, refl, ◌∙◌, Option, Some, None, nat_le, if◌then◌else◌}
+use Rattle.std.specs.Str.{bytes_eq}
+use Rattle.std.specs.Str.Parse.{digits_value}
+use Rattle.std.specs.Fmt.{decimal}
+use Rattle.std.proofs.lemmas.Fmt.{digits_value-decimal}
+use Rattle.std.proofs.lemmas.Str.Parse.{numerals_by_value, tells_digits}
+use Rattle.std.proofs.lemmas.Slice.Eq.{bytes_eq-Decides}
+use Rattle.std.proofs.lemmas.Bool.Decides.{nat_tests}
+use Rattle.capture_words.specs.Values.{number_named, is_number}
+
+-- what the digits of a decimal say is its number
+pub value_of_decimal : (n : ℕ) (text : List ℕ) → n < 2 ^ 64 → text ≡ decimal n → digits_value 10 text ≡ n
+value_of_decimal n text h e = ap (digits_value 10) e ∙ digits_value-decimal (numerals_by_value _ tells_digits) n h
+
+holds_of : (least greatest n : ℕ) (text : List ℕ) → least ≤ n → n ≤ greatest → text ≡ decimal n → is_number least greatest text n ≡ true
+holds_of least greatest n text low high e = (let same = (bytes_eq-Decides (decimal n) text).1 (sym e) in grind (arith, nat_tests))
+
+facts_of : (least greatest n : ℕ) (text : List ℕ) → is_number least greatest text n ≡ true → (least ≤ n) × (n ≤ greatest) × (text ≡ decimal n)
+facts_of least greatest n text h =
+    let low : nat_le least n ≡ true = grind arith in
+    let high : nat_le n greatest ≡ true = grind arith in
+    let same : bytes_eq (decimal n) text ≡ true = grind arith in
+    (grind (arith, nat_tests), grind (arith, nat_tests), sym ((bytes_eq-Decides (decimal n) text).0 same))
+
+chosen : (b : Bool) (n : ℕ) → b ≡ true → (if b then Some n else None) ≡ Some n
+chosen b n e = rw e refl
+
+pub names_number : (least greatest n : ℕ) (text : List ℕ) → greatest < 2 ^ 64 → least ≤ n → n ≤ greatest → text ≡ decimal n → number_named least greatest text ≡ Some n
+names_number least greatest n text small low high e =
+    let v : digits_value 10 text ≡ n = value_of_decimal n text (omega arith) e in
+    chosen (is_number least greatest text (digits_value 10 text)) (digits_value 10 text) (ap (is_number least greatest text) v ∙ holds_of least greatest n text low high e) ∙ ap Some v
+
+picked : (b : Bool) (n m : ℕ) → (if b then Some n else None) ≡ Some m → (b ≡ true) × (n ≡ m)
+picked true n m e = (refl, grind arith)
+picked false n m e = absurd (grind arith)
+
+pub number_is : (least greatest n : ℕ) (text : List ℕ) → number_named least greatest text ≡ Some n → (least ≤ n) × (n ≤ greatest) × (text ≡ decimal n)
+number_is least greatest n text e =
+    let p = picked _ _ _ e in
+    facts_of least greatest n text (sym (ap (is_number least greatest text) p.1) ∙ p.0)
+
+-- a text that is no decimal within the bounds names no number
+pub names_nothing : (least greatest : ℕ) (text : List ℕ) → ((n : ℕ) → least ≤ n → n ≤ greatest → text ≡ decimal n → ⊥) → None ≡ number_named least greatest text
+names_nothing least greatest text never = go (number_named least greatest text) refl
+  where
+    go : (found : Option ℕ) → found ≡ number_named least greatest text → None ≡ found
+    go None e = refl
+    go (Some n) e = (let facts = number_is least greatest n text (sym e) in absurd (never n facts.0 facts.1 facts.2))

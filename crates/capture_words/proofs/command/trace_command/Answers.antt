@@ -1,0 +1,20 @@
+use Rattle.std.proofs.Common.{ap, ◌≡◌, ◌∙◌}
+use Rattle.std.proofs.lemmas.Result.{IfOk-weaker}
+use Rattle.clap.specs.Words.{App, with_rule}
+use Rattle.capture_words.specs.Command.{trace_app, option_rule}
+use Rattle.capture_words.specs.declared.option.CommandOption.{CommandOption}
+use Rattle.capture_words.specs.declared.option.CommandOption.TheVariants.{Frames, Packets, Itm, Id, Limit}
+use Rattle.capture_words.proofs.command.trace_command.Goals as goal
+
+step : (a b : App) (option : CommandOption) → a ≡ b → with_rule a (option_rule option) ≡ with_rule b (option_rule option)
+step a b option e = ap (λ x. with_rule x (option_rule option)) e
+
+pub returns : goal.returns
+unfolding trace_app
+returns c =
+    let e1 = c.in_ok-command.ensures in
+    let e2 = c.in_ok-command-2.ensures ∙ step _ _ Frames e1 in
+    let e3 = c.in_ok-command-3.ensures ∙ step _ _ Packets e2 in
+    let e4 = c.in_ok-command-4.ensures ∙ step _ _ Itm e3 in
+    let e5 = c.in_ok-command-5.ensures ∙ step _ _ Id e4 in
+    IfOk-weaker c.with_option-5.result _ _ (λ m h. h ∙ step _ _ Limit e5) c.with_option-5.ensures

@@ -1,0 +1,22 @@
+use Rattle.std.proofs.Common.{refl}
+use Rattle.std.specs.Fmt.{digits}
+use Rattle.clap.proofs.OnLiterals.{clap_on_literals}
+use Rattle.capture_words.specs.Command.{trace_app}
+use Rattle.capture_words.proofs.rows.bad_values.Goals as goal
+
+pub returns : goal.returns
+unfolding trace_app clap_on_literals digits
+returns c = record {
+  frames = record { call = refl; fault_is = refl };
+  packets = record { call = refl; fault_is = refl };
+  itm_0 = record { call = refl; fault_is = refl };
+  itm_112 = record { call = refl; fault_is = refl };
+  id_127 = record { call = refl; fault_is = refl };
+  id_zeros = record { call = refl; fault_is = refl };
+  id_sign = record { call = refl; fault_is = refl };
+  id_wide = record { call = refl; fault_is = refl };
+  limit_0 = record { call = refl; fault_is = refl };
+  limit_over = record { call = refl; fault_is = refl };
+  limit_zeros = record { call = refl; fault_is = refl };
+  limit_empty = record { call = refl; fault_is = refl };
+}

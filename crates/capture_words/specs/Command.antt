@@ -1,0 +1,47 @@
+-- The command: its action and its options, and what clap states of the words that it is given.
+use Rattle.std.specs.Prelude.{◌≡◌, List, [], ◌∷◌, codes, true, Some}
+use Rattle.clap.specs.Words.{App, Row, Rule, Text, new_app, new_rule, with_rule, matches_of}
+use Rattle.clap.specs.Faults.{fault_of}
+use Rattle.clap.specs.Kinds.{Kinds}
+use Rattle.clap.specs.declared.builder.ArgAction.TheVariants.{Set}
+use Rattle.capture_words.specs.declared.option.CommandOption.{CommandOption}
+use Rattle.capture_words.specs.declared.option.CommandOption.TheVariants.{Frames, Packets, Itm, Id, Limit}
+
+-- the name of an option, behind the two dashes
+abbrev pub option_name : CommandOption → Text
+option_name Frames = codes "frames"
+option_name Packets = codes "packets"
+option_name Itm = codes "itm"
+option_name Id = codes "id"
+option_name Limit = codes "limit"
+
+-- an option has one value, and stands once at most
+abbrev pub option_rule : CommandOption → Rule
+option_rule option = record (new_rule (option_name option)) { long = Some (option_name option); action = Some Set }
+
+-- the action stands without dashes, and has to be there
+abbrev pub action_rule : Rule
+action_rule = record (new_rule (codes "action")) { required = true; action = Some Set }
+
+abbrev pub all_options : List CommandOption
+all_options = Frames ∷ Packets ∷ Itm ∷ Id ∷ Limit ∷ []
+
+abbrev pub with_options : List CommandOption → App → App
+with_options [] app = app
+with_options (option ∷ options) app = with_options options (with_rule app (option_rule option))
+
+-- the command, with its action and its options, and no defaults of clap's
+unfoldable pub trace_app : App
+trace_app = with_options all_options (with_rule (new_app (codes "trace")) action_rule)
+
+-- the entries of the words, by clap's function of a simple command's words; the program's name stands in front
+abbrev pub rows_of_words : List Text → List Row
+rows_of_words words = matches_of trace_app (codes "trace" ∷ words)
+
+-- why clap refuses the words
+abbrev pub refusals : List Text → Kinds
+refusals words = fault_of trace_app (codes "trace" ∷ words)
+
+-- the words are a call of the command
+abbrev pub IsCall : List Text → Type 0
+IsCall words = refusals words ≡ []

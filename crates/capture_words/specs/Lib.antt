@@ -1,0 +1,6 @@
+pub mod Command
+pub mod Values
+pub mod Jobs
+pub mod Texts
+pub mod Calls
+pub mod Rows

@@ -1,0 +1,22 @@
+//! Laws of the words, over their definitions alone.
+
+ghost use Rattle.std.specs.Prelude.{◌≡◌, ◌≤◌, ◌<◌, ◌^◌, ◌⊎◌, ◌↔◌, ℕ, List, Some, decimal};
+ghost use Rattle.clap.specs.Words.{Text};
+ghost use Rattle.capture_words.specs.Calls.{AsksFor, Misuses, IsMisuse};
+ghost use Rattle.capture_words.specs.Values.{number_named};
+ghost use Rattle.capture_words.specs.declared.job.Job.{Job};
+ghost use Rattle.capture_words.specs.declared.usage.UsageFault.{UsageFault};
+
+/// All words ask for a job or are a misuse, and never both. They ask for one job, and have one fault.
+pub fn calls_law()
+    ensures either { (words : List Text) → IsMisuse words ⊎ ((job : Job) × AsksFor words job) }
+    ensures not_both { (words : List Text) (job : Job) → AsksFor words job → IsMisuse words → ⊥ }
+    ensures one_job { (words : List Text) (a b : Job) → AsksFor words a → AsksFor words b → a ≡ b }
+    ensures one_fault { (words : List Text) (a b : UsageFault) → Misuses words a → Misuses words b → a ≡ b }
+{}
+
+/// A text names exactly the number within the bounds whose decimal it is.
+pub fn number_law()
+    ensures { (least greatest n : ℕ) (text : Text) → greatest < 2 ^ 64 →
+        ((number_named least greatest text ≡ Some n) ↔ ((least ≤ n) × (n ≤ greatest) × (text ≡ decimal n))) }
+{}

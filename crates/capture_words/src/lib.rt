@@ -1,0 +1,21 @@
+//! The words of the command, read by `clap`: an action and options, and the job that they ask for.
+#![tactic(auto)]
+
+mod command;
+mod entries;
+mod job;
+mod laws;
+mod number;
+mod option;
+mod reading;
+mod rows;
+#[cfg(test)]
+mod tests;
+mod usage;
+mod values;
+
+pub use job::{Action, Job};
+pub use option::CommandOption;
+pub use reading::{Asked, read_words};
+pub use usage::UsageFault;
+pub use values::GREATEST_LIMIT;

@@ -1,0 +1,123 @@
+//! What the texts of the action and of the options say.
+
+ghost use Rattle.std.specs.Prelude.{◌≡◌, option_map};
+ghost use Rattle.clap.specs.Words.{rows_of, found_of, first_of};
+ghost use Rattle.capture_words.specs.Command.{option_name};
+ghost use Rattle.capture_words.specs.Values.{action_named, action_in, frames_in, packets_in, itm_in, id_in, limit_in};
+
+use crate::number::{id_named, number_named};
+use crate::option::CommandOption;
+use crate::usage::UsageFault;
+use capture_plan::{FramesMode, PacketsMode};
+use clap::ArgMatches;
+use trace_values::SourceId;
+
+/// The greatest limit, and the limit where none is given: how many bytes of a capture are read at most.
+pub const GREATEST_LIMIT: u64 = 16777216;
+
+/// The action that a word names.
+#[derive(Clone, Copy, Debug, PartialEq, Eq, Drop)]
+pub enum ActionName {
+    /// `show`
+    Show,
+    /// `split`
+    Split,
+    /// `check`
+    Check,
+}
+
+impl ActionName {
+    /// The action of this name.
+    fn named(name: &str) -> Option<ActionName>
+        ensures { result ≡ action_named name.now }
+    {
+        match name {
+            "show" => Some(ActionName::Show),
+            "split" => Some(ActionName::Split),
+            "check" => Some(ActionName::Check),
+            _ => None,
+        }
+    }
+}
+
+/// The text of the entry of this name, if there is one.
+fn text_named<'a>(matches: &ArgMatches<'a>, name: &str) -> Option<&'a str>
+    ensures { option_map (λ s. s.now) result ≡ first_of name.now (rows_of (found_of matches.now)) }
+{
+    matches.get_str(name)
+}
+
+/// The text of an option, if it is given.
+fn text_of<'a>(matches: &ArgMatches<'a>, option: CommandOption) -> Option<&'a str>
+    ensures { option_map (λ s. s.now) result ≡ first_of (option_name option) (rows_of (found_of matches.now)) }
+{
+    text_named(matches, option.name())
+}
+
+/// The action: `show`, `split` or `check`.
+pub fn action_in(matches: &ArgMatches<'_>) -> Result<ActionName, UsageFault>
+    ensures { result ≡ action_in (rows_of (found_of matches.now)) }
+{
+    match text_named(matches, "action") {
+        None => Err(UsageFault::UnknownAction),
+        Some(text) => ActionName::named(text).ok_or(UsageFault::UnknownAction),
+    }
+}
+
+/// Where the reading of the port begins: `hunt`, `aligned` or `bare`, and `hunt` where it is absent.
+pub fn frames_in(matches: &ArgMatches<'_>) -> Result<FramesMode, UsageFault>
+    ensures { result ≡ frames_in (rows_of (found_of matches.now)) }
+{
+    match text_of(matches, CommandOption::Frames) {
+        None => Ok(FramesMode::Hunt),
+        Some(text) => FramesMode::named(text).ok_or(UsageFault::BadValue(CommandOption::Frames)),
+    }
+}
+
+/// Where the reading of a source begins: `hunt` or `aligned`, and `hunt` where it is absent.
+pub fn packets_in(matches: &ArgMatches<'_>) -> Result<PacketsMode, UsageFault>
+    ensures { result ≡ packets_in (rows_of (found_of matches.now)) }
+{
+    match text_of(matches, CommandOption::Packets) {
+        None => Ok(PacketsMode::Hunt),
+        Some(text) => PacketsMode::named(text).ok_or(UsageFault::BadValue(CommandOption::Packets)),
+    }
+}
+
+/// The source that is an ITM, 1 to 111, if one is given.
+pub fn itm_in(matches: &ArgMatches<'_>) -> Result<Option<SourceId>, UsageFault>
+    ensures { result ≡ itm_in (rows_of (found_of matches.now)) }
+{
+    match text_of(matches, CommandOption::Itm) {
+        None => Ok(None),
+        Some(text) => match id_named(1, 111, text) {
+            Some(id) => Ok(Some(id)),
+            None => Err(UsageFault::BadValue(CommandOption::Itm)),
+        },
+    }
+}
+
+/// The source whose bytes are taken, 0 to 126, if one is given.
+pub fn id_in(matches: &ArgMatches<'_>) -> Result<Option<SourceId>, UsageFault>
+    ensures { result ≡ id_in (rows_of (found_of matches.now)) }
+{
+    match text_of(matches, CommandOption::Id) {
+        None => Ok(None),
+        Some(text) => match id_named(0, 126, text) {
+            Some(id) => Ok(Some(id)),
+            None => Err(UsageFault::BadValue(CommandOption::Id)),
+        },
+    }
+}
+
+/// How many bytes are read at most: 1 to the greatest limit, which holds where it is absent.
+pub fn limit_in(matches: &ArgMatches<'_>) -> Result<u64, UsageFault>
+    ensures { result ≡ limit_in (rows_of (found_of matches.now)) }
+{
+    match text_of(matches, CommandOption::Limit) {
+        None => Ok(GREATEST_LIMIT),
+        Some(text) => number_named(1, GREATEST_LIMIT, text).ok_or(UsageFault::BadValue(
+            CommandOption::Limit,
+        )),
+    }
+}
