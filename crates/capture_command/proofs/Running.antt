@@ -39,7 +39,7 @@ pub run_of : (outcome : Outcome) (faulty : List ℕ → Type 0) (text ending fau
     → HasServed faulty text ending limit left_old left_new held_old held_new recent outcome
     → (outcome ≡ Stopped → HasStopped there faulty text ending limit left_old left_new held_old held_new recent)
     → ((seen : List ℕ) → there seen → recent ≡ keep_last 16 seen → at_fault ≡ fault_note seen)
-    → Notes notes_old notes_new faults_old faults_new (note_of (status_of outcome) limit at_fault)
+    → Notes notes_old notes_new faults_old faults_new (note_of outcome limit at_fault)
     → HasRun faulty text ending fault_note limit left_old left_new held_old held_new notes_old notes_new faults_old faults_new (status_of outcome)
 run_of AtEnd faulty text ending fault_note limit left_old left_new held_old held_new notes_old notes_new faults_old faults_new recent at_fault there s stopped noted_as n =
     record { bytes = s.bytes; out = s.out; note = []; lost = s.lost; gained = s.gained; noted = n; at_most = s.at_most; writes = (s.outcome.0, s.outcome.1, s.outcome.2, refl); ended = s.ended }

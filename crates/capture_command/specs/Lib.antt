@@ -1,11 +1,4 @@
-pub mod ItemText
-pub mod Listing
-pub mod ListingLaws
-pub mod Statuses
-pub mod Words
-pub mod Show
 pub mod Notes
+pub mod Statuses
+pub mod Actions
 pub mod Run
-pub mod Split
-pub mod SplitLaws
-pub mod Splitter

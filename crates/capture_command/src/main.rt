@@ -1,49 +1,38 @@
-//! Lists the packets of a bare ITM stream that comes on standard input, or takes the bytes of one source out of the
-//! frames of a trace port.
+//! Reads CoreSight software trace that comes on standard input: lists the packets of a bare ITM stream, takes the
+//! bytes of one source out of the frames of a trace port, or counts what each source sent.
 #![tactic(auto)]
 
-ghost use Rattle.std.specs.Prelude.{◌≡◌, ℕ, ◌≤◌, List, length, map, codes};
+ghost use Rattle.std.specs.Prelude.{◌≡◌, ◌⊎◌, ◌≤◌, ℕ, List, length, map};
 ghost use Rattle.std.specs.String.{string_bytes};
 ghost use Rattle.trace_io.specs.Causes.{Rose};
-ghost use Rattle.capture_command.specs.declared.packets.PacketsMode.{PacketsMode};
-ghost use Rattle.capture_command.specs.declared.split_plan.SplitPlan.{SplitPlan};
-ghost use Rattle.capture_command.specs.Listing.{IsFaulty, listed, ending, show_note};
-ghost use Rattle.capture_command.specs.Split.{split_faulty, split_text, split_ending, split_note};
-ghost use Rattle.capture_command.specs.Words.{AsksFor, AsksForSplit};
+ghost use Rattle.capture_words.specs.Calls.{AsksFor, Misuses, IsMisuse};
+ghost use Rattle.capture_words.specs.Texts.{usage_line};
+ghost use Rattle.capture_words.specs.declared.job.Job.{Job};
+ghost use Rattle.capture_words.specs.declared.usage.UsageFault.{UsageFault};
+ghost use Rattle.capture_command.specs.Actions.{faulty_of, text_of, ending_of, fault_note};
 ghost use Rattle.capture_command.specs.Notes.{Notes};
 ghost use Rattle.capture_command.specs.Run.{HasRun, Untouched, Loses, IsDoneOrNoMemory};
 
 mod actions;
-mod frames;
+mod jobs;
 mod notes;
-mod packets;
-pub mod rows;
-mod show;
-mod split;
-mod split_plan;
 mod status;
 #[cfg(test)]
 mod tests;
-mod text;
-mod words;
 
-use actions::{run_show, run_split};
+use capture_words::{Asked, read_words};
+use jobs::run_job;
 use notes::note;
 use status::Status;
 use std::alloc::Global;
 use std::env;
 use std::process::ExitCode;
 use trace_io::{ReadAdapter, Sink, Source, WriteAdapter};
-use trace_stream::Buffers;
-use words::{Job, job_of};
-
-/// The most bytes of input.
-pub const LIMIT: u64 = 16777216;
 
 /// All that the program does: it reads the words, does what they ask for on the input, and answers how
 /// that ended.
 ///
-/// A status is the first that holds of WriteFault, CaptureFault, ReadFault, Limit and Done. Want of
+/// A status is the first that holds of Usage, WriteFault, CaptureFault, ReadFault, Limit and Done. Want of
 /// memory is the one free answer, and comes only before anything is read or written. A failed write to
 /// the notes changes nothing.
 pub fn run<I: Source, O: Sink, N: Sink>(
@@ -54,42 +43,38 @@ pub fn run<I: Source, O: Sink, N: Sink>(
     notes: &mut N,
 ) -> Status
     // The words.
-    ensures usage { (mode : PacketsMode) → result ≡ Status.Usage → AsksFor (map string_bytes words.now) mode → ⊥ }
-    ensures usage_split { (plan : SplitPlan) → result ≡ Status.Usage → AsksForSplit (map string_bytes words.now) plan → ⊥ }
-    ensures misuse { ((mode : PacketsMode) → AsksFor (map string_bytes words.now) mode → ⊥) →
-        ((plan : SplitPlan) → AsksForSplit (map string_bytes words.now) plan → ⊥) → result ≡ Status.Usage }
-    ensures untouched { result ≡ Status.Usage → Untouched (I.left input.old) (I.left input.new) (O.held output.old) (O.held output.new) }
-    ensures usage_note { result ≡ Status.Usage → Notes (N.held notes.old) (N.held notes.new) (N.faults notes.old) (N.faults notes.new) (codes "usage: unbuilt\n") }
+    ensures usage { result ≡ Status.Usage → IsMisuse (map string_bytes words.now) }
+    ensures misuse { IsMisuse (map string_bytes words.now) → (result ≡ Status.Usage) ⊎ (result ≡ Status.NoMemory) }
+    ensures untouched { IsMisuse (map string_bytes words.now) → Untouched (I.left input.old) (I.left input.new) (O.held output.old) (O.held output.new) }
+    ensures usage_note { (fault : UsageFault) → Misuses (map string_bytes words.now) fault → result ≡ Status.Usage →
+        Notes (N.held notes.old) (N.held notes.new) (N.faults notes.old) (N.faults notes.new) (usage_line fault) }
 
     // What was read, written and noted, by the status.
-    ensures show { (mode : PacketsMode) → AsksFor (map string_bytes words.now) mode →
-        HasRun (IsFaulty mode) (listed mode) (ending mode) show_note LIMIT (I.left input.old) (I.left input.new) (O.held output.old) (O.held output.new)
-        (N.held notes.old) (N.held notes.new) (N.faults notes.old) (N.faults notes.new) result }
-    ensures split { (plan : SplitPlan) → AsksForSplit (map string_bytes words.now) plan →
-        HasRun (split_faulty plan) (split_text plan) (split_ending plan) (split_note plan) LIMIT (I.left input.old) (I.left input.new) (O.held output.old) (O.held output.new)
+    ensures ran { (job : Job) → AsksFor (map string_bytes words.now) job →
+        HasRun (faulty_of job.action) (text_of job.action) (ending_of job.action) (fault_note job.action) job.limit (I.left input.old) (I.left input.new) (O.held output.old) (O.held output.new)
         (N.held notes.old) (N.held notes.new) (N.faults notes.old) (N.faults notes.new) result }
 
     // The causes of what the outside does, and that without a cause all is done.
     ensures read_cause { result ≡ Status.ReadFault → Rose (I.faults input.old) (I.faults input.new) }
     ensures write_cause { result ≡ Status.WriteFault → Rose (O.faults output.old) (O.faults output.new) }
-    ensures complete { (mode : PacketsMode) (bytes : List ℕ) → AsksFor (map string_bytes words.now) mode → Loses (I.left input.old) (I.left input.new) bytes →
+    ensures complete { (job : Job) (bytes : List ℕ) → AsksFor (map string_bytes words.now) job → Loses (I.left input.old) (I.left input.new) bytes →
         (Rose (I.faults input.old) (I.faults input.new) → ⊥) → (Rose (O.faults output.old) (O.faults output.new) → ⊥) →
-        length bytes ≤ LIMIT → (IsFaulty mode bytes → ⊥) → IsDoneOrNoMemory result }
-    ensures complete_split { (plan : SplitPlan) (bytes : List ℕ) → AsksForSplit (map string_bytes words.now) plan → Loses (I.left input.old) (I.left input.new) bytes →
-        (Rose (I.faults input.old) (I.faults input.new) → ⊥) → (Rose (O.faults output.old) (O.faults output.new) → ⊥) →
-        length bytes ≤ LIMIT → (split_faulty plan bytes → ⊥) → IsDoneOrNoMemory result }
+        length bytes ≤ job.limit → (faulty_of job.action bytes → ⊥) → IsDoneOrNoMemory result }
 {
-    let Some(job) = job_of(words) else {
-        note(notes, b"usage: unbuilt\n");
-        return Status::Usage;
-    };
-    let Ok(mut buffers) = Buffers::open(alloc) else {
-        note(notes, b"no memory\n");
-        return Status::NoMemory;
-    };
-    match job {
-        Job::Show(mode) => run_show(&mut buffers, mode, input, output, notes),
-        Job::Split(plan) => run_split(&mut buffers, plan, input, output, notes),
+    match read_words(alloc, words) {
+        Asked::Do(job) => run_job(alloc, &job, input, output, notes),
+        Asked::Fault(fault) => {
+            note(notes, fault.line().as_bytes());
+            Status::Usage
+        }
+        Asked::Refused(text) => {
+            note(notes, text.as_bytes());
+            Status::Usage
+        }
+        Asked::NoMemory => {
+            note(notes, b"no memory\n");
+            Status::NoMemory
+        }
     }
 }
 

@@ -1,15 +1,13 @@
 //! The notes of a run, each one line.
 
-ghost use Rattle.std.specs.Prelude.{◌≤◌, ◌++◌};
-ghost use Rattle.capture_command.specs.Notes.{Notes, note_of, last_line, limit_line};
-ghost use Rattle.capture_command.specs.Show.{told};
-ghost use Rattle.capture_command.specs.Split.{fault_text, port_fault_line};
+ghost use Rattle.std.specs.Prelude.{◌≤◌, ◌++◌, option_map};
+ghost use Rattle.capture_command.specs.Notes.{Notes, note_of, fault_text, last_line, limit_line};
+ghost use Rattle.trace_text.specs.FaultText.{port_fault_line, told};
 
-use crate::status::Status;
 use arrayvec::ArrayVec;
 use itoa::Buffer;
 use trace_io::{Sink, write_whole};
-use trace_stream::{Buffers, RECENT_ROOM};
+use trace_stream::{Buffers, Outcome, RECENT_ROOM};
 use trace_values::Fault;
 
 /// Writes the line. Where that fails nothing changes.
@@ -53,7 +51,7 @@ fn note_limit<N: Sink>(notes: &mut N, limit: u64)
 /// The port's fault.
 fn note_fault<N: Sink>(notes: &mut N, fault: &Fault)
     ensures noted { Notes (N.held notes.old) (N.held notes.new) (N.faults notes.old) (N.faults notes.new)
-        (port_fault_line (record { at = fault.now.at; half = fault.now.half }, fault.now.reason)) }
+        (port_fault_line (told fault.now)) }
     ensures later { N.faults notes.old ≤ N.faults notes.new }
 {
     let mut at = Buffer::new();
@@ -72,7 +70,7 @@ fn note_fault<N: Sink>(notes: &mut N, fault: &Fault)
 /// The port's fault, where there is one, and the last bytes up to the fault of the run.
 fn note_stop<N: Sink>(notes: &mut N, fault: Option<Fault>, buffers: &Buffers)
     ensures noted { Notes (N.held notes.old) (N.held notes.new) (N.faults notes.old) (N.faults notes.new)
-        (fault_text (told fault) ++ last_line buffers.now.recent) }
+        (fault_text (option_map told fault) ++ last_line buffers.now.recent) }
 {
     if let Some(fault) = fault {
         note_fault(notes, &fault);
@@ -80,25 +78,23 @@ fn note_stop<N: Sink>(notes: &mut N, fault: Option<Fault>, buffers: &Buffers)
     note_last(notes, buffers);
 }
 
-/// The note of a run that ended with this status, over these buffers and with this limit, where the port
-/// has this fault.
-pub fn note_status<N: Sink>(
+/// The note of a run that ended so, over these buffers and with this limit, where this fault has no line in
+/// the output.
+pub fn note_outcome<N: Sink>(
     notes: &mut N,
-    status: Status,
+    outcome: Outcome,
     limit: u64,
     fault: Option<Fault>,
     buffers: &Buffers,
 )
     ensures noted { Notes (N.held notes.old) (N.held notes.new) (N.faults notes.old) (N.faults notes.new)
-        (note_of status limit (fault_text (told fault) ++ last_line buffers.now.recent)) }
+        (note_of outcome limit (fault_text (option_map told fault) ++ last_line buffers.now.recent)) }
 {
-    match status {
-        Status::Done => {}
-        Status::Usage => note(notes, b"usage: unbuilt\n"),
-        Status::CaptureFault => note_stop(notes, fault, buffers),
-        Status::ReadFault => note(notes, b"read fault\n"),
-        Status::WriteFault => note(notes, b"write fault\n"),
-        Status::NoMemory => note(notes, b"no memory\n"),
-        Status::Limit => note_limit(notes, limit),
+    match outcome {
+        Outcome::AtEnd => {}
+        Outcome::Stopped => note_stop(notes, fault, buffers),
+        Outcome::ReadFailed => note(notes, b"read fault\n"),
+        Outcome::WriteFailed => note(notes, b"write fault\n"),
+        Outcome::OverLimit => note_limit(notes, limit),
     }
 }

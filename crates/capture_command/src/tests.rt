@@ -1,5 +1,6 @@
 //! The program's one call over bytes in memory, whose reads and writes come in pieces and fail.
 
+mod counts;
 mod failures;
 mod headers;
 mod hunting;
@@ -7,6 +8,7 @@ mod ids;
 mod listing;
 mod notes;
 mod split;
+mod stamps;
 mod words;
 mod written;
 

@@ -1,6 +1,7 @@
 //! The job of the entries.
 
-ghost use Rattle.std.specs.Prelude.{◌≡◌};
+ghost use Rattle.std.specs.Prelude.{◌≡◌, ◌≤◌, IfOk};
+ghost use Rattle.capture_words.specs.declared.values.TheConstants.{GREATEST_LIMIT};
 ghost use Rattle.clap.specs.Words.{rows_of, found_of};
 ghost use Rattle.capture_words.specs.Jobs.{action_with, job_of, is_source_one};
 
@@ -73,7 +74,8 @@ fn action_with(
 
 /// The job of the entries, or the first fault.
 pub fn job_of(matches: &ArgMatches<'_>) -> Result<Job, UsageFault>
-    ensures { result ≡ job_of (rows_of (found_of matches.now)) }
+    ensures job { result ≡ job_of (rows_of (found_of matches.now)) }
+    ensures limit { IfOk result (λ job. (1 ≤ job.limit) × (job.limit ≤ GREATEST_LIMIT)) }
 {
     let name = action_in(matches)?;
     let frames = frames_in(matches)?;

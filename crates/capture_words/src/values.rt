@@ -1,6 +1,6 @@
 //! What the texts of the action and of the options say.
 
-ghost use Rattle.std.specs.Prelude.{◌≡◌, option_map};
+ghost use Rattle.std.specs.Prelude.{◌≡◌, ◌≤◌, option_map, IfOk};
 ghost use Rattle.clap.specs.Words.{rows_of, found_of, first_of};
 ghost use Rattle.capture_words.specs.Command.{option_name};
 ghost use Rattle.capture_words.specs.Values.{action_named, action_in, frames_in, packets_in, itm_in, id_in, limit_in};
@@ -112,7 +112,8 @@ pub fn id_in(matches: &ArgMatches<'_>) -> Result<Option<SourceId>, UsageFault>
 
 /// How many bytes are read at most: 1 to the greatest limit, which holds where it is absent.
 pub fn limit_in(matches: &ArgMatches<'_>) -> Result<u64, UsageFault>
-    ensures { result ≡ limit_in (rows_of (found_of matches.now)) }
+    ensures value { result ≡ limit_in (rows_of (found_of matches.now)) }
+    ensures in_range { IfOk result (λ n. (1 ≤ n) × (n ≤ GREATEST_LIMIT)) }
 {
     match text_of(matches, CommandOption::Limit) {
         None => Ok(GREATEST_LIMIT),

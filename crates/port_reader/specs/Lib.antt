@@ -2,5 +2,6 @@ pub mod Modes
 pub mod Reading
 pub mod Growth
 pub mod Reader
+pub mod Runs
 pub mod ReadingLaws
 pub mod Rows

@@ -5,16 +5,18 @@ use Rattle.std.proofs.Common.{ap, sym, ◌∙◌, arith, append_assoc, append-ni
 use Rattle.std.proofs.lemmas.List.{map-append}
 use Rattle.std.proofs.lemmas.List.Concat.{flat_map-append}
 use Rattle.trace_values.specs.declared.cell.Cell.{Cell}
-use Rattle.trace_values.specs.Placed.{Place, Placed, byte_at, placed_from}
+use Rattle.trace_values.specs.Placed.{Place, Placed, byte_at, placed_from, units_of}
 use Rattle.capture_plan.specs.declared.frames.FramesMode.{FramesMode}
 use Rattle.capture_plan.specs.declared.frames.FramesMode.TheVariants.{Hunt, Aligned, Bare}
 use Rattle.frame_grammar.specs.Port.{Piece, Full, Half, Frame}
-use Rattle.frame_grammar.specs.Reading.{cells_of_pieces, id_of_pieces, piece_cells, piece_id, fulls_in}
+use Rattle.frame_grammar.specs.Reading.{offsets_of, cells_of_pieces, id_of_pieces, piece_cells, piece_id, fulls_in}
 use Rattle.deformatter.specs.Reading.{PortStream, port_stream, pieces_of, cells_in}
 use Rattle.deformatter.specs.Growth.{PortSettled, PortRises}
 use Rattle.deformatter.proofs.ReadingLaws as port
+use Rattle.frame_grammar.proofs.Runs.{cells_have_runs, one_has_runs}
 use Rattle.port_reader.specs.Reading.{piece_frames, frames_of_pieces, framed, bare_cell, bare, port_reading, cells_of}
 use Rattle.port_reader.specs.Growth.{Settled, Rises, IsNothing}
+use Rattle.port_reader.specs.Runs.{HaveRuns}
 
 -- of no bytes nothing is read
 pub none_read : (mode : FramesMode) → IsNothing (port_reading mode [])
@@ -106,3 +108,19 @@ cells_grow mode u at bytes =
       flat_map (λ (frame : List Cell). frame) grown.0,
       ap (flat_map (λ (frame : List Cell). frame)) grown.1 ∙ flat_map-append (λ (frame : List Cell). frame) (port_reading mode u).frames grown.0,
     )
+
+-- the cells of a frame have runs that never fall, and one ID in a run
+pieces_have_runs : (id : Option ℕ) (pieces : List Piece) → HaveRuns (frames_of_pieces id pieces)
+pieces_have_runs id [] = tt
+pieces_have_runs id (Full ∷ pieces) = pieces_have_runs id pieces
+pieces_have_runs id (Half ∷ pieces) = pieces_have_runs id pieces
+pieces_have_runs id (Frame f halves ∷ pieces) = (cells_have_runs (units_of f) (offsets_of f) id, pieces_have_runs (piece_id id (Frame f halves)) pieces)
+
+bare_have_runs : (u : List Placed) → HaveRuns (bare u).frames
+bare_have_runs [] = tt
+bare_have_runs (b ∷ u) = (one_has_runs (bare_cell b) (omega arith), bare_have_runs u)
+
+pub frames_have_runs : (mode : FramesMode) (u : List Placed) → HaveRuns (port_reading mode u).frames
+frames_have_runs Hunt u = pieces_have_runs None (pieces_of (port_stream true u).pieces)
+frames_have_runs Aligned u = pieces_have_runs None (pieces_of (port_stream false u).pieces)
+frames_have_runs Bare u = bare_have_runs u

@@ -11,6 +11,7 @@ ghost use Rattle.frame_grammar.specs.Reading.{cells_of_pieces};
 ghost use Rattle.deformatter.specs.Reading.{port_stream, cells_in};
 ghost use Rattle.port_reader.specs.Reading.{frames_of_pieces, port_reading, cells_of};
 ghost use Rattle.port_reader.specs.Growth.{Settled, Rises, IsNothing};
+ghost use Rattle.port_reader.specs.Runs.{HaveRuns};
 
 /// The cells of the frames, in order, are those of the deformatter's reading; with no formatter they are
 /// all bytes in order, each at its offset and of source 1.
@@ -43,4 +44,9 @@ pub fn rising_law()
         Rises (port_reading mode u) (port_reading mode (u ++ byte_at at byte ∷ [])) at }
     ensures frames { (mode : FramesMode) (u : List Placed) (at : ℕ) (bytes : List ℕ) → (more : List (List Cell)) ×
         ((port_reading mode (u ++ placed_from at bytes)).frames ≡ (port_reading mode u).frames ++ more) }
+{}
+
+/// The cells of each frame have runs that never fall, and one ID in a run.
+pub fn runs_law()
+    ensures { (mode : FramesMode) (u : List Placed) → HaveRuns (port_reading mode u).frames }
 {}

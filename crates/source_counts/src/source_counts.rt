@@ -51,11 +51,11 @@ impl SourceCounts {
 
     /// Counts the cells of one more frame, which may be none.
     ///
-    /// With them at most 2^60 cells and frames have been counted.
+    /// With them at most 2^60 cells and frames have been counted. The items are counted by neighbours, which
+    /// is right for the cells of a frame, since their runs never fall.
     pub fn add_frame(&mut self, cells: &[Cell])
-        requires runs { HasRuns cells.now }
-        requires room { total_of self.old + length cells.now + 1 ≤ 2 ^ 60 }
-        ensures frames { (frames : List (List Cell)) → IsOf self.old frames → IsOf self.new (frames ++ cells.now ∷ []) }
+        requires { total_of self.old + length cells.now + 1 ≤ 2 ^ 60 }
+        ensures frames { (frames : List (List Cell)) → HasRuns cells.now → IsOf self.old frames → IsOf self.new (frames ++ cells.now ∷ []) }
         ensures total { total_of self.new ≡ total_of self.old + length cells.now + 1 }
     {
         let mut before = None;

@@ -55,7 +55,7 @@ pub trait Action {
         requires live { live self.old }
         requires some { 0 < length piece.now }
         requires room { length outlet.old + ACTION_ROOM ≤ OUTLET_ROOM }
-        requires count { taken self.old + length piece.now < 2 ^ 40 }
+        requires count { taken self.old + length piece.now ≤ 2 ^ 36 }
         ensures same { plan self.new ≡ plan self.old }
         ensures front { TakesSome piece.now result.bytes }
         ensures count { taken self.new ≡ taken self.old + result.bytes }
@@ -63,10 +63,10 @@ pub trait Action {
             HasTaken (stands self.new) (faulty (plan self.old)) (text (plan self.old)) seen (take result.bytes piece.now) outlet.old outlet.new result.flow }
         ensures live { result.flow ≡ Flow.On → live self.new };
 
-    /// Puts what is written behind the text into the outlet.
+    /// Puts what is written behind the text into the outlet, which is empty.
     fn finish(&self, outlet: &mut Outlet)
-        requires room { length outlet.old + ACTION_ROOM ≤ OUTLET_ROOM }
-        ensures ended { (seen : List ℕ) → stands self.now seen → outlet.new ≡ outlet.old ++ ending (plan self.now) seen };
+        requires empty { outlet.old ≡ [] }
+        ensures ended { (seen : List ℕ) → stands self.now seen → outlet.new ≡ ending (plan self.now) seen };
 
     // no bytes have no fault
     ghost never_at_first: { (p : Self.Plan) → faulty p [] → ⊥ };

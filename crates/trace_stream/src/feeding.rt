@@ -47,7 +47,7 @@ fn feed_piece<A: Action, O: Sink>(
     piece: &[u8],
 ) -> Fed
     requires live { A.live action.old }
-    requires count { A.taken action.old + length piece.now < 2 ^ 40 }
+    requires count { A.taken action.old + length piece.now ≤ 2 ^ 36 }
     ensures same { A.plan action.new ≡ A.plan action.old }
     ensures live { result.end ≡ FeedEnd.All → A.live action.new }
     ensures count { result.end ≡ FeedEnd.All → A.taken action.new ≡ A.taken action.old + length piece.now }
@@ -92,7 +92,7 @@ pub fn feed_and_write<A: Action, O: Sink>(
     piece: &[u8],
 ) -> Fed
     requires live { A.live action.old }
-    requires count { A.taken action.old + length piece.now < 2 ^ 40 }
+    requires count { A.taken action.old + length piece.now ≤ 2 ^ 36 }
     ensures same { A.plan action.new ≡ A.plan action.old }
     ensures live { result.end ≡ FeedEnd.All → A.live action.new }
     ensures count { result.end ≡ FeedEnd.All → A.taken action.new ≡ A.taken action.old + length piece.now }

@@ -49,7 +49,7 @@ pub fn pump<A: Action, I: Source, O: Sink>(
     requires pending { outlet.old ≡ [] }
     requires recent { recent.old ≡ [] }
     requires some { 0 < length buffer.old }
-    requires small { limit < 2 ^ 40 }
+    requires small { limit ≤ 2 ^ 36 }
     ensures same { A.plan action.new ≡ A.plan action.old }
     ensures pumped { HasPumped (A.stands action.new) (A.faulty (A.plan action.old)) (A.text (A.plan action.old)) limit
         (I.left input.old) (I.left input.new) (O.held output.old) (O.held output.new) outlet.new recent.new result }

@@ -7,7 +7,6 @@ ghost use Rattle.trace_stream.specs.Served.{HasServed, HasStopped};
 
 use crate::action::Action;
 use crate::buffers::Buffers;
-use crate::feeding::make_room;
 use crate::outlet::Outlet;
 use crate::pumping::{Ending, pump};
 use crate::recent::Recent;
@@ -28,7 +27,7 @@ pub enum Outcome {
     OverLimit,
 }
 
-// Writes what is pending and what stands behind the text.
+// Writes what is pending, and then what stands behind the text.
 fn finish<A: Action, O: Sink>(action: &A, outlet: &mut Outlet, output: &mut O) -> Result<(), Failed>
     ensures ok { (start : Option (List ℕ)) (seen : List ℕ) (p : A.Plan) → A.plan action.now ≡ p → A.stands action.now seen →
         TakesFront start (O.held output.old) (A.text p seen) outlet.old →
@@ -39,7 +38,7 @@ fn finish<A: Action, O: Sink>(action: &A, outlet: &mut Outlet, output: &mut O) -
         OnErr result (AppendsPrefix start (O.held output.new) (A.text p seen ++ A.ending p seen)) }
     ensures cause { HasCause (O.faults output.old) (O.faults output.new) result }
 {
-    make_room(outlet, output)?;
+    outlet.flush(output)?;
     action.finish(outlet);
     outlet.flush(output)
 }
@@ -59,7 +58,7 @@ fn pump_and_finish<A: Action, I: Source, O: Sink>(
     requires pending { outlet.old ≡ [] }
     requires recent { recent.old ≡ [] }
     requires some { 0 < length buffer.old }
-    requires small { limit < 2 ^ 40 }
+    requires small { limit ≤ 2 ^ 36 }
     ensures served { HasServed (A.faulty (A.plan action.old)) (A.text (A.plan action.old)) (A.ending (A.plan action.old)) limit
         (I.left input.old) (I.left input.new) (O.held output.old) (O.held output.new) recent.new result }
     ensures same { A.plan action.new ≡ A.plan action.old }
@@ -103,7 +102,7 @@ pub fn serve<A: Action, I: Source, O: Sink>(
     requires live { A.live action.old }
     requires fresh { A.stands action.old [] }
     requires count { A.taken action.old ≡ 0 }
-    requires small { limit < 2 ^ 40 }
+    requires small { limit ≤ 2 ^ 36 }
     ensures served { HasServed (A.faulty (A.plan action.old)) (A.text (A.plan action.old)) (A.ending (A.plan action.old)) limit
         (I.left input.old) (I.left input.new) (O.held output.old) (O.held output.new) buffers.new.recent result }
     ensures same { A.plan action.new ≡ A.plan action.old }

@@ -112,7 +112,7 @@ fn check(
     let mut room = [0; 64];
     let mut input = MemorySource::new(case.bytes, case.pieces, case.read_fails);
     let mut output = MemorySink::new(&mut room, case.write_pieces, case.write_fails);
-    assert!(rt; case.limit < 1 << 40);
+    assert!(rt; case.limit <= 1 << 36);
     let ended = serve(
         &mut buffers,
         &mut action,

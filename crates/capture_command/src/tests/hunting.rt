@@ -92,7 +92,7 @@ fn locks_at_the_first_synchronisation(rt: HostRuntime) -> Result<(), Fail> {
         ),
         (
             &[0x41, 0, 0, 0, 0, 0, 0x80, 0x70, 0xC0, 0x05, 0, 0],
-            "6 1 locked 1\n6 1 sync\n7 1 overflow\n9 1 local exact 5\n",
+            "6 1 locked 1\n6 1 sync\n7 1 overflow\n9 1 local exact 5 clock=5\n",
             "locked skipped 1 tail 2",
         ),
     ];

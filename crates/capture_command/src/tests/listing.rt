@@ -45,8 +45,8 @@ fn lists_synchronisations_and_values(rt: HostRuntime) -> Result<(), Fail> {
         (&[0x01, 0x41], "port 0 u8 41"),
         (&[0xFA, 0x34, 0x12], "port 31 u16 1234"),
         (&[0x13, 0x78, 0x56, 0x34, 0x02], "port 2 u32 02345678"),
-        (&[0x05, 0x07], "hw 0 u8 07"),
-        (&[0x0E, 0x0F, 0x10], "hw 1 u16 100f"),
+        (&[0x05, 0x07], "counters 07"),
+        (&[0x0E, 0x0F, 0x10], "exception 15 enter"),
         (&[0xFF, 0xFF, 0xFF, 0xFF, 0xFF], "hw 31 u32 ffffffff"),
         (&[0x03, 0, 0, 0, 0], "port 0 u32 00000000"),
     ];
@@ -59,35 +59,47 @@ fn lists_synchronisations_and_values(rt: HostRuntime) -> Result<(), Fail> {
 #[test]
 fn lists_timestamps(rt: HostRuntime) -> Result<(), Fail> {
     let table: [(&[u8], &str); 21] = [
-        (&[0x10], "local exact 1"),
-        (&[0x60], "local exact 6"),
-        (&[0xC0, 0x01], "local exact 1"),
-        (&[0xC0, 0x88, 0x01], "local exact 136"),
-        (&[0xD0, 0x05], "local stamp-late 5"),
-        (&[0xE0, 0x85, 0x80, 0x01], "local packet-late 16389"),
-        (&[0xF0, 0x85, 0x80, 0x80, 0x00], "local both-late 5"),
-        (&[0xF0, 0xFF, 0xFF, 0xFF, 0x7F], "local both-late 268435455"),
-        (&[0x94, 0x05], "global1 1 5 0 0"),
-        (&[0x94, 0x85, 0x01], "global1 2 133 0 0"),
-        (&[0x94, 0x80, 0x80, 0x01], "global1 3 16384 0 0"),
-        (&[0x94, 0x81, 0x80, 0x80, 0x00], "global1 4 1 0 0"),
-        (&[0x94, 0x81, 0x80, 0x80, 0x20], "global1 4 1 1 0"),
-        (&[0x94, 0x81, 0x80, 0x80, 0x40], "global1 4 1 0 1"),
-        (&[0x94, 0x80, 0x80, 0x80, 0x3F], "global1 4 65011712 1 0"),
-        (&[0x94, 0xFF, 0xFF, 0xFF, 0x7F], "global1 4 67108863 1 1"),
-        (&[0xB4, 0x82, 0x80, 0x80, 0x00], "global2 48 2"),
-        (&[0xB4, 0x81, 0x80, 0x80, 0x7F], "global2 48 2097153"),
+        (&[0x10], "local exact 1 clock=1"),
+        (&[0x60], "local exact 6 clock=6"),
+        (&[0xC0, 0x01], "local exact 1 clock=1"),
+        (&[0xC0, 0x88, 0x01], "local exact 136 clock=136"),
+        (&[0xD0, 0x05], "local stamp-late 5 clock=5"),
+        (
+            &[0xE0, 0x85, 0x80, 0x01],
+            "local packet-late 16389 clock=16389",
+        ),
+        (&[0xF0, 0x85, 0x80, 0x80, 0x00], "local both-late 5 clock=5"),
+        (
+            &[0xF0, 0xFF, 0xFF, 0xFF, 0x7F],
+            "local both-late 268435455 clock=268435455",
+        ),
+        (&[0x94, 0x05], "global1 1 5 0 0 time=?"),
+        (&[0x94, 0x85, 0x01], "global1 2 133 0 0 time=?"),
+        (&[0x94, 0x80, 0x80, 0x01], "global1 3 16384 0 0 time=?"),
+        (&[0x94, 0x81, 0x80, 0x80, 0x00], "global1 4 1 0 0 time=?"),
+        (&[0x94, 0x81, 0x80, 0x80, 0x20], "global1 4 1 1 0 time=?"),
+        (&[0x94, 0x81, 0x80, 0x80, 0x40], "global1 4 1 0 1 time=?"),
+        (
+            &[0x94, 0x80, 0x80, 0x80, 0x3F],
+            "global1 4 65011712 1 0 time=?",
+        ),
+        (
+            &[0x94, 0xFF, 0xFF, 0xFF, 0x7F],
+            "global1 4 67108863 1 1 time=?",
+        ),
+        (&[0xB4, 0x82, 0x80, 0x80, 0x00], "global2 48 2 time=?"),
+        (&[0xB4, 0x81, 0x80, 0x80, 0x7F], "global2 48 2097153 time=?"),
         (
             &[0xB4, 0x82, 0x80, 0x80, 0x80, 0x80, 0x04],
-            "global2 64 137438953474",
+            "global2 64 137438953474 time=?",
         ),
         (
             &[0xB4, 0x80, 0x80, 0x80, 0x80, 0x80, 0x7F],
-            "global2 64 240518168576",
+            "global2 64 240518168576 time=?",
         ),
         (
             &[0xB4, 0xFF, 0xFF, 0xFF, 0xFF, 0xFF, 0x7F],
-            "global2 64 274877906943",
+            "global2 64 274877906943 time=?",
         ),
     ];
     for (bytes, item) in table {
@@ -143,12 +155,12 @@ fn lists_worked_captures(rt: HostRuntime) -> Result<(), Fail> {
         (&[0x01, 0x41, 0, 0], "1 1 port 0 u8 41\n", 2),
         (
             &[0xC0, 0x01, 0x41, 0x20, 0x70],
-            "1 1 local exact 1\n3 1 port 8 u8 20\n4 1 overflow\n",
+            "1 1 local exact 1 clock=1\n3 1 port 8 u8 20\n4 1 overflow\n",
             0,
         ),
         (
             &[0x08, 0xB4, 0x82, 0x80, 0x80, 0x00, 0x94, 0x80],
-            "0 1 ext itm 00000000\n5 1 global2 48 2\n",
+            "0 1 ext itm 00000000\n5 1 global2 48 2 time=?\n",
             2,
         ),
     ];
@@ -206,7 +218,7 @@ fn a_fault_ends_the_listing(rt: HostRuntime) -> Result<(), Fail> {
         ),
         (
             &[0x10, 0xB4, 0x02, 0x70],
-            "0 1 local exact 1\nfault 2 1 6 ShortStamp\n",
+            "0 1 local exact 1 clock=1\nfault 2 1 6 ShortStamp\n",
         ),
     ];
     for (bytes, text) in table {

@@ -1,12 +1,9 @@
 //! `split` over bytes in memory.
 
-ghost use Rattle.std.specs.Prelude.{◌<◌, length};
-
 use super::answer;
 use crate::status::Status;
-use std::alloc::{AllocError, Global};
 use std::test::Fail;
-use trace_io::{MemorySink, MemorySource, Source};
+use trace_io::{MemorySink, MemorySource};
 
 /// Room for the longest text of these tests.
 const ROOM: usize = 64;
@@ -147,45 +144,17 @@ fn failed_reads_and_writes_leave_a_prefix(rt: HostRuntime) -> Result<(), Fail> {
 }
 
 #[test]
-fn refuses_words_that_are_nearly_right(rt: HostRuntime) -> Result<(), Fail> {
-    let table: [&[&str]; 9] = [
-        &["split"],
-        &["split", "--id"],
-        &["split", "1"],
-        &["show", "--id", "1"],
-        &["split", "--id", "1", "1"],
-        &["split", "--frames", "aligned"],
-        &["split", "--frames", "bare", "--id", "1"],
-        &["split", "--id", "1", "--frames", "aligned"],
-        &["split", "--frames", "aligned", "--id"],
-    ];
-    for words in table {
-        let got = answer_to(rt.alloc(), words)?;
-        assert_eq!(rt; got, (Status::Usage, 0, 16, true), "{words:?}");
+fn bare_bytes_are_those_of_source_1(rt: HostRuntime) -> Result<(), Fail> {
+    let table: [(&str, &[u8]); 3] = [("1", b"\xff\0\x41"), ("0", b""), ("2", b"")];
+    for (id, text) in table {
+        let mut room = [0; ROOM];
+        let mut input = MemorySource::new(b"\xff\0\x41", &[2], &[]);
+        let mut output = MemorySink::new(&mut room, &[], &[]);
+        let mut notes = MemorySink::new(&mut [], &[], &[]);
+        let words = ["split", "--frames", "bare", "--id", id];
+        let got = answer(rt.alloc(), &words, &mut input, &mut output, &mut notes)?;
+        assert_eq!(rt; got, Status::Done, "{id}");
+        assert_eq!(rt; output.held(), text, "{id}");
     }
-    for id in [
-        "", "127", "255", "256", "05", "00", "+5", "-0", "5 ", "0x5", "one",
-    ] {
-        let hunting = answer_to(rt.alloc(), &["split", "--id", id])?;
-        assert_eq!(rt; hunting, (Status::Usage, 0, 16, true), "{id:?}");
-        let from_first = answer_to(rt.alloc(), &["split", "--frames", "aligned", "--id", id])?;
-        assert_eq!(rt; from_first, (Status::Usage, 0, 16, true), "{id:?}");
-    }
-    let good = answer_to(rt.alloc(), &["split", "--frames", "aligned", "--id", "1"])?;
-    assert_eq!(rt; good, (Status::Done, 14, 0, false));
     Ok(())
-}
-
-/// The answer to these words over a frame, how many bytes are written then, how many are left to read,
-/// and whether the one note is that of a misuse.
-fn answer_to(alloc: Global, words: &[&str]) -> Result<(Status, usize, usize, bool), AllocError> {
-    let mut room = [0; ROOM];
-    let mut line_room = [0; ROOM];
-    let mut input = MemorySource::new(ONE, &[], &[]);
-    let mut output = MemorySink::new(&mut room, &[], &[]);
-    let mut notes = MemorySink::new(&mut line_room, &[], &[]);
-    let status = answer(alloc, words, &mut input, &mut output, &mut notes)?;
-    let left = input.read(&mut [0; ROOM]).unwrap_or(0);
-    let noted = notes.held() == b"usage: unbuilt\n".as_slice();
-    Ok((status, output.held().len(), left, noted))
 }

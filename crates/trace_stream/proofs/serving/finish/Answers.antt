@@ -1,16 +1,31 @@
-use Rattle.std.proofs.Common.{rules, ◌++◌, ap, ◌∙◌, refl}
-use Rattle.std.proofs.lemmas.Result.{on_err_weaker}
-use Rattle.trace_stream.proofs.Prefixes.{prefix_join, AppendsPrefix-append}
-use Rattle.trace_stream.proofs.Pieces.{written_more}
+use Rattle.std.proofs.Common.{rules, [], ◌++◌, ap, ◌∙◌, sym, subst, append-nil}
+use Rattle.std.proofs.lemmas.Result.{on_ok_weaker, on_err_weaker}
+use Rattle.std.specs.Io.KnownBytes.{Appends}
+use Rattle.std.proofs.KnownBytes.{Appends-trans}
+use Rattle.trace_io.specs.Bytes.{AppendsPrefix}
+use Rattle.trace_stream.proofs.Prefixes.{prefix_join, prefix_more, AppendsPrefix-append, front_written}
 use Rattle.trace_stream.proofs.serving.finish.Goals as goal
 
-pub returns-in_err-make_room-clause-err : goal.returns-in_err-make_room-clause-err
-returns-in_err-make_room-clause-err g c = λ start seen p e stands written.
-    let put = AppendsPrefix-append _ _ (g.A.Action.text p seen) (g.A.Action.ending p seen) (prefix_join _ _ _ _ _ written c.in_err-make_room.ensures.err) in
+pub returns-in_err-flush-clause-err : goal.returns-in_err-flush-clause-err
+returns-in_err-flush-clause-err g c = λ start seen p e stands written.
+    let put = AppendsPrefix-append _ _ (g.A.Action.text p seen) (g.A.Action.ending p seen) (prefix_join _ _ _ _ _ written c.in_err-flush.ensures.err) in
     search rules
+
+pub returns-clause-ok : goal.returns-clause-ok
+returns-clause-ok g c = λ start seen p e stands written.
+    let text = g.A.Action.text p seen in
+    let so_far = front_written start _ (g.O.Sink.held c.flush.new.sink) text _ written c.in_ok-flush.ensures.ok in
+    let gained = c.finish.ensures.ended seen stands ∙ ap (λ q. g.A.Action.ending q seen) e in
+    on_ok_weaker c.flush-2.result
+    (λ put. subst (λ l. Appends start (g.O.Sink.held c.flush-2.new.sink) (text ++ l)) gained (Appends-trans start (g.O.Sink.held c.flush.new.sink) (g.O.Sink.held c.flush-2.new.sink) text c.finish.new.outlet so_far put))
+    c.flush-2.ensures.ok
 
 pub returns-clause-err : goal.returns-clause-err
 returns-clause-err g c = λ start seen p e stands written.
-    let gained = c.finish.ensures.ended seen stands ∙ ap (λ q. c.make_room.new.outlet ++ g.A.Action.ending q seen) e in
-    let so_far = written_more _ _ _ (g.A.Action.text p seen) (g.A.Action.text p seen ++ g.A.Action.ending p seen) (g.A.Action.ending p seen) _ _ _ written c.in_ok-make_room.ensures.ok refl gained in
-    on_err_weaker c.flush.result (λ q. prefix_join _ _ _ _ _ so_far q) c.flush.ensures.err
+    let text = g.A.Action.text p seen in
+    let so_far = front_written start _ (g.O.Sink.held c.flush.new.sink) text _ written c.in_ok-flush.ensures.ok in
+    let gained = c.finish.ensures.ended seen stands ∙ ap (λ q. g.A.Action.ending q seen) e in
+    on_err_weaker c.flush-2.result
+    (λ put. subst (λ l. AppendsPrefix start (g.O.Sink.held c.flush-2.new.sink) (text ++ l)) gained
+    (prefix_more start (g.O.Sink.held c.flush.new.sink) (g.O.Sink.held c.flush-2.new.sink) text [] c.finish.new.outlet (record { front = text; took = so_far; all = sym (append-nil text) }) put))
+    c.flush-2.ensures.err

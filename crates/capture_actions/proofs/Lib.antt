@@ -1,0 +1,4 @@
+pub mod Showing
+pub mod Timing
+pub mod Ports
+pub mod Counting

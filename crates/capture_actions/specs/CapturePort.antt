@@ -1,0 +1,26 @@
+-- What the reading of a capture's port stands for.
+use Rattle.std.specs.Prelude.{◌≡◌, ℕ, List, length, true, option_map}
+use Rattle.trace_values.specs.Placed.{placed}
+use Rattle.capture_plan.specs.declared.frames.FramesMode.{FramesMode}
+use Rattle.port_reader.specs.Reader.{IsOf, is_live, mode_of}
+use Rattle.trace_text.specs.FaultText.{told}
+use Rattle.capture_actions.specs.Port.{port_of}
+use Rattle.capture_actions.specs.declared.port.CapturePort.{CapturePort}
+
+-- how it is read
+abbrev pub frames_mode : CapturePort → FramesMode
+frames_mode port = mode_of port.reader
+
+-- how many bytes it took
+abbrev pub count_of : CapturePort → ℕ
+count_of port = port.count
+
+-- it has met no fault
+abbrev pub IsLive : CapturePort → Type 0
+IsLive port = is_live port.reader ≡ true
+
+-- its reader stands for these bytes, it has counted them, and it keeps the fault of their reading
+pub record HasRead (port : CapturePort) (seen : List ℕ) : Type 0 where
+  pub reader : IsOf port.reader (placed seen)
+  pub count : port.count ≡ length seen
+  pub fault : option_map told port.fault ≡ (port_of (frames_mode port) seen).fault

@@ -1,0 +1,117 @@
+//! `split`: the bytes of one ID in the cells of a port.
+
+ghost use Rattle.std.specs.Prelude.{◌≡◌, ◌+◌, ◌≤◌, ◌++◌, length, option_map};
+ghost use Rattle.trace_stream.specs.declared.outlet.TheConstants.{OUTLET_ROOM};
+ghost use Rattle.frame_grammar.specs.Reading.{is_source};
+ghost use Rattle.trace_text.specs.FaultText.{told};
+ghost use Rattle.capture_actions.specs.CapturePort.{frames_mode};
+ghost use Rattle.capture_actions.specs.Split.{bytes_of_id};
+
+use crate::port::{CapturePort, flow_after};
+use crate::split_plan::SplitPlan;
+use arrayvec::ArrayVec;
+use trace_stream::{Action, Outlet, Taken};
+use trace_values::{Cell, Fault, SourceId};
+
+/// The reading of a port, and whose bytes of it are written.
+#[derive(Drop)]
+pub struct Split {
+    plan: SplitPlan,
+    port: CapturePort,
+    ghost moded: { frames_mode port ≡ plan.frames },
+}
+
+/// The cell is of this source.
+fn is_of(cell: &Cell, id: SourceId) -> bool
+    ensures { result ≡ is_source id cell.now.id }
+{
+    match cell.id {
+        Some(other) => other.number() == id.number(),
+        None => false,
+    }
+}
+
+/// Puts out the bytes of the cells of this source.
+fn put_cells(outlet: &mut Outlet, id: SourceId, cells: &[Cell])
+    requires room { length outlet.old + length cells.now ≤ OUTLET_ROOM }
+    ensures { outlet.new ≡ outlet.old ++ bytes_of_id id cells.now }
+{
+    for cell in cells {
+        if is_of(cell, id) {
+            outlet.push(cell.byte);
+        }
+    }
+}
+
+impl Split {
+    ghost use Rattle.std.specs.Prelude.{[], ℕ, List};
+    ghost use Rattle.capture_actions.specs.Port.{port_of};
+    ghost use Rattle.capture_actions.specs.Splitter.{Stands, plan_of, taken_by, IsLive};
+
+    /// Nothing is read yet.
+    pub fn new(plan: SplitPlan) -> Split
+        ensures plan { plan_of result ≡ plan }
+        ensures stands { Stands result [] }
+        ensures count { taken_by result ≡ 0 }
+        ensures live { IsLive result }
+    {
+        Split {
+            plan,
+            port: CapturePort::new(plan.frames),
+        }
+    }
+
+    /// The port's fault, if it has one.
+    pub fn fault(&self) -> Option<Fault>
+        ensures { (seen : List ℕ) → Stands self.now seen → option_map told result ≡ (port_of (plan_of self.now).frames seen).fault }
+    {
+        self.port.fault()
+    }
+}
+
+impl Action for Split {
+    ghost use Rattle.capture_actions.specs.Split.{split_faulty, split_text, split_ending};
+    ghost use Rattle.capture_actions.specs.Splitter.{Stands, plan_of, taken_by, IsLive};
+    ghost use Rattle.capture_actions.specs.SplitLaws.{none_at_first, nothing_at_first, faulty_stays, text_stays, ending_stays, text_grows};
+
+    type Plan = SplitPlan;
+
+    ghost plan = { plan_of };
+
+    ghost live = { IsLive };
+
+    ghost taken = { taken_by };
+
+    ghost stands = { Stands };
+
+    ghost faulty = { split_faulty };
+
+    ghost text = { split_text };
+
+    ghost ending = { split_ending };
+
+    ghost never_at_first = { none_at_first };
+
+    ghost nothing_at_first = { nothing_at_first };
+
+    ghost faulty_stays = { faulty_stays };
+
+    ghost text_stays = { text_stays };
+
+    ghost ending_stays = { ending_stays };
+
+    ghost text_grows = { text_grows };
+
+    /// Takes the piece's bytes up to the end of a frame or a synchronisation.
+    fn feed(&mut self, piece: &[u8], outlet: &mut Outlet) -> Taken {
+        let mut cells = ArrayVec::<Cell, 15>::new();
+        let taken = self.port.feed_piece(piece, &mut cells);
+        put_cells(outlet, self.plan.id, cells.as_slice());
+        Taken {
+            bytes: taken.bytes,
+            flow: flow_after(&taken.step),
+        }
+    }
+
+    fn finish(&self, _outlet: &mut Outlet) {}
+}

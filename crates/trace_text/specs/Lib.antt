@@ -1,0 +1,7 @@
+pub mod Values
+pub mod HardwareText
+pub mod ItemText
+pub mod LineText
+pub mod FaultText
+pub mod EndText
+pub mod CountText
