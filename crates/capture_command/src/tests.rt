@@ -60,7 +60,7 @@ fn check(
     status: Status,
     text: &str,
 ) -> Result<(), Fail> {
-    for piece in [1, 2, 3, 64] {
+    for piece in [1, 2, 3, 4096] {
         let pieces = [piece];
         let mut room = [0; ROOM];
         let mut noted = [0; ROOM];

@@ -17,7 +17,10 @@ fn with_option<'a>(
     ensures { IfOk result (λ c. app_of c ≡ with_rule (app_of command.entry) (option_rule option)) }
 {
     let name = option.name();
-    let arg = Arg::new(alloc, name).long(name).action(ArgAction::Set);
+    let arg = Arg::new(alloc, name)
+        .long(name)
+        .help(option.help())
+        .action(ArgAction::Set);
     command.arg(arg)
 }
 
@@ -26,6 +29,9 @@ fn with_action<'a>(alloc: Global) -> Result<Command<'a>, AllocError>
     ensures { IfOk result (λ c. app_of c ≡ with_rule (new_app (codes "trace")) action_rule) }
 {
     let action = Arg::new(alloc, "action")
+        .help(
+            "show lists packets, split writes the bytes of one source, check counts those of each",
+        )
         .required(true)
         .action(ArgAction::Set);
     Command::new(alloc, "trace").arg(action)

@@ -31,4 +31,21 @@ impl CommandOption {
             CommandOption::Limit => "limit",
         }
     }
+
+    /// What `--help` says of the option.
+    pub(crate) fn help<'a>(self) -> &'a str {
+        match self {
+            CommandOption::Frames => {
+                "Where frames begin: hunt (at the first full synchronisation, the default), aligned (at the first byte) or bare (there are none)"
+            }
+            CommandOption::Packets => {
+                "Where packets begin: hunt (at the first synchronisation packet, the default) or aligned (at the first byte)"
+            }
+            CommandOption::Itm => "The source that sends ITM packets: 1 to 111",
+            CommandOption::Id => "The source whose bytes split writes: 0 to 126",
+            CommandOption::Limit => {
+                "How many bytes are read at most: 1 to 16777216, which is the default"
+            }
+        }
+    }
 }

@@ -28,13 +28,20 @@ const NAMELESS: &[u8] = b"bababababababab\0";
 /// Lost bytes, a full synchronisation, and the frame of several IDs.
 const BEHIND_LOST: &[u8] = b"xyz\xff\xff\xff\x7f\x03abc\x05efg\x01ijk\x03mn\0";
 
+/// A full synchronisation and a frame: eight bytes of ID 1, and null bytes.
+const SYNCED: &[u8] = b"\xff\xff\xff\x7f\x03\0\0\0\0\0\x80\x01\x01\x41\0\0\0\0\0\x10";
+
+/// The same with a half synchronisation in each gap of the frame.
+const HALVES: &[u8] =
+    b"\xff\xff\xff\x7f\x03\0\xff\x7f\0\0\xff\x7f\0\0\xff\x7f\x80\x01\xff\x7f\x01\x41\xff\x7f\0\0\xff\x7f\0\0\xff\x7f\0\x10";
+
 /// A frame of ID 1, and bytes that are no synchronisation.
 const BROKEN: &[u8] = b"\x03abcdefghijklmn\0\xff\0\x03abcdefghijklmn\0";
 
 #[test]
 fn splits_worked_captures_in_pieces_of_any_length(rt: HostRuntime) -> Result<(), Fail> {
     // Whether the first byte begins a frame, the ID, the bytes, and what is written and noted.
-    let table: [(bool, &str, &[u8], Status, &[u8], &str); 18] = [
+    let table: [(bool, &str, &[u8], Status, &[u8], &str); 23] = [
         (true, "16", DEFERRED, Status::Done, &[0xFF; 13], ""),
         (true, "0", DEFERRED, Status::Done, b"", ""),
         (false, "16", DEFERRED, Status::Done, b"", ""),
@@ -55,6 +62,32 @@ fn splits_worked_captures_in_pieces_of_any_length(rt: HostRuntime) -> Result<(),
         (true, "0", NAMELESS, Status::Done, b"", ""),
         (false, "1", BEHIND_LOST, Status::Done, b"abcmn", ""),
         (false, "0", BEHIND_LOST, Status::Done, b"ijk", ""),
+        (
+            true,
+            "1",
+            SYNCED,
+            Status::Done,
+            b"\0\0\0\0\0\x80\x01\x41",
+            "",
+        ),
+        (
+            true,
+            "1",
+            HALVES,
+            Status::Done,
+            b"\0\0\0\0\0\x80\x01\x41",
+            "",
+        ),
+        (true, "1", &SYNCED[..18], Status::Done, b"", ""),
+        (false, "1", &SYNCED[3..], Status::Done, b"", ""),
+        (
+            true,
+            "1",
+            b"\x03\0\0\0\0\0\xff\xff\xff\x7f",
+            Status::CaptureFault,
+            b"",
+            "fault 7 port 2 SyncInFrame\nlast 030000000000ffff\n",
+        ),
         (true, "1", b"", Status::Done, b"", ""),
         (true, "1", b"\x03abcdefghijklmn", Status::Done, b"", ""),
         (
@@ -83,7 +116,7 @@ fn splits_worked_captures_in_pieces_of_any_length(rt: HostRuntime) -> Result<(),
         ),
     ];
     for (aligned, id, bytes, status, text, line) in table {
-        for piece in [1, 3, 64] {
+        for piece in [1, 3, 4096] {
             let pieces = [piece];
             let mut room = [0; ROOM];
             let mut line_room = [0; 2 * ROOM];
