@@ -1,48 +1,43 @@
 -- How the reading of a capture's port grows with one more byte.
-use Rattle.std.proofs.Common.{◌≡◌, ℕ, ◌+◌, List, [], ◌∷◌, ◌++◌, length, refl, sym, ◌∙◌, ap, subst, arith, append-nil, length-append, Option, Some, None, true}
+use Rattle.std.proofs.Common.{◌≡◌, ℕ, ◌+◌, ◌≤◌, take, List, [], ◌∷◌, ◌++◌, length, refl, sym, ◌∙◌, ap, subst, arith, append_assoc, append-nil, length-append, Option, Some, None, true}
 use Rattle.std.specs.Prelude.{is_none, option_map}
 use Rattle.std.specs.List.{flat_map}
 use Rattle.std.proofs.lemmas.List.Concat.{flat_map-append}
 use Rattle.trace_values.specs.declared.cell.Cell.{Cell}
 use Rattle.trace_values.specs.declared.fault.Fault.{Fault}
 use Rattle.trace_values.specs.declared.fault.Reason.{Reason}
-use Rattle.trace_values.specs.Placed.{Place, Placed, byte_at, placed}
-use Rattle.trace_values.proofs.Placing.{placed_push}
+use Rattle.trace_values.specs.Placed.{Place, Placed, byte_at, placed_from, placed}
+use Rattle.trace_values.proofs.Placing.{placed_from_push, placed_append}
 use Rattle.capture_plan.specs.declared.frames.FramesMode.{FramesMode}
+use Rattle.frame_grammar.specs.Frame.{IsProperFrame}
 use Rattle.frame_grammar.specs.Runs.{HasRuns}
+use Rattle.frame_grammar.specs.Whole.{IsWhole}
+use Rattle.frame_grammar.proofs.Wholes.{plain_is_whole}
+use Rattle.std.proofs.lemmas.List.{length-take-le}
 use Rattle.deformatter.specs.declared.step.PortStep.{PortStep}
 use Rattle.deformatter.specs.declared.step.PortStep.TheVariants.{Quiet, Half, Full, Frame, Locked, Fault as Faulty}
 use Rattle.port_reader.specs.Reading.{PortReading, port_reading, cells_of}
-use Rattle.port_reader.specs.Growth.{Grows, frames_by, CellsFit}
-use Rattle.port_reader.specs.ReadingLaws.{frames_have_runs}
-use Rattle.port_reader.specs.Runs.{HaveRuns, last_has_runs}
+use Rattle.port_reader.specs.Growth.{Grows, GrowsByFrame, Answers, frames_by, CellsFit}
+use Rattle.deformatter.specs.Block.{EachByte, FedAs}
+use Rattle.deformatter.specs.Growth.{fault_by}
+use Rattle.trace_stream.specs.Taken.{FlowAfter}
+use Rattle.capture_actions.specs.Flows.{flow_by}
+use Rattle.port_reader.proofs.ReadingLaws.{frames_have_runs}
+use Rattle.port_reader.specs.Runs.{HaveRuns}
+use Rattle.port_reader.proofs.RunLaws.{last_has_runs}
 use Rattle.frame_grammar.proofs.Runs.{none_has_runs}
 use Rattle.trace_text.specs.FaultText.{told}
 use Rattle.capture_actions.specs.Port.{port_of, IsPortFaulty}
 use Rattle.capture_actions.specs.PortGrowth.{Grew}
 
--- the byte behind those seen is the next of the capture
-pub next_byte : (seen : List ℕ) (at byte : ℕ) → at ≡ length seen → placed seen ++ byte_at at byte ∷ [] ≡ placed (seen ++ byte ∷ [])
-next_byte seen at byte e = ap (λ (n : ℕ). placed seen ++ byte_at n byte ∷ []) e ∙ sym (placed_push seen byte)
+-- the bytes after those seen are the next of the capture
+pub next_bytes : (seen bytes : List ℕ) (at : ℕ) → at ≡ length seen → placed seen ++ placed_from at bytes ≡ placed (seen ++ bytes)
+next_bytes seen bytes at e = ap (λ (n : ℕ). placed seen ++ placed_from n bytes) e ∙ sym (placed_append seen bytes)
 
--- the reading grew so, where the byte's offset is the number of those seen
-pub grows_next : (mode : FramesMode) (seen : List ℕ) (at byte : ℕ) (step : PortStep) (cells : List Cell) → at ≡ length seen →
-    Grows (port_of mode seen) (port_reading mode (placed seen ++ byte_at at byte ∷ [])) at step cells → Grows (port_of mode seen) (port_of mode (seen ++ byte ∷ [])) (length seen) step cells
-grows_next mode seen at byte step cells e g =
-    subst (λ (n : ℕ). Grows (port_of mode seen) (port_of mode (seen ++ byte ∷ [])) n step cells) e
-    (subst (λ (u : List Placed). Grows (port_of mode seen) (port_reading mode u) at step cells) (next_byte seen at byte e) g)
+pub counted_next : (seen bytes : List ℕ) (at count : ℕ) → at ≡ length seen → length bytes ≡ count → at + count ≡ length (seen ++ bytes)
+counted_next seen bytes at count e f = (let k = length-append seen bytes in omega arith)
 
-pub counted_next : (seen : List ℕ) (at byte : ℕ) → at ≡ length seen → at + 1 ≡ length (seen ++ byte ∷ [])
-counted_next seen at byte e = (let k = length-append seen (byte ∷ []) in omega arith)
-
--- a kept fault is there exactly where the reading's is
-pub none_told : (fault : Option Fault) → is_none (option_map told fault) ≡ is_none fault
-none_told None = refl
-none_told (Some fault) = refl
-
-pub told_none : (fault : Option Fault) (f : Option (Place × Reason)) → option_map told fault ≡ f → is_none fault ≡ is_none f
-told_none fault f e = sym (none_told fault) ∙ ap (λ (x : Option (Place × Reason)). is_none x) e
-
+-- no fault is kept exactly where the reading has none
 pub fault_none : (fault : Option Fault) (f : Option (Place × Reason)) → option_map told fault ≡ f → is_none fault ≡ true → f ≡ None
 fault_none None f e n = sym e
 fault_none (Some fault) f e n = cc
@@ -66,6 +61,12 @@ cells_more old new step cells g =
     ∙ flat_map-append (λ (frame : List Cell). frame) old.frames (frames_by step cells)
     ∙ ap (λ (l : List Cell). cells_of old ++ l) (cells_by_step step cells g.fit)
 
+pub frame_cells_more : (old new : PortReading) (inner : ℕ) (cells : List Cell) → GrowsByFrame old new inner cells → cells_of new ≡ cells_of old ++ cells
+frame_cells_more old new inner cells g =
+    ap (flat_map (λ (frame : List Cell). frame)) g.frames
+    ∙ flat_map-append (λ (frame : List Cell). frame) old.frames (cells ∷ [])
+    ∙ ap (λ (l : List Cell). cells_of old ++ l) (append-nil cells)
+
 -- and their runs are those of a frame
 runs_by_step : (old new : List (List Cell)) (step : PortStep) (cells : List Cell) → new ≡ old ++ frames_by step cells → CellsFit step cells → HaveRuns new → HasRuns cells
 runs_by_step old new Quiet cells e fit runs = subst HasRuns (sym fit) none_has_runs
@@ -84,3 +85,68 @@ pub record IsStill (old new : PortReading) : Type 0 where
   pub fulls : new.fulls ≡ old.fulls
   pub halves : new.halves ≡ old.halves
   pub sound : new.fault ≡ None
+
+pub still_none : (mode : FramesMode) (u : List Placed) → (port_reading mode u).fault ≡ None → IsStill (port_reading mode u) (port_reading mode (u ++ []))
+still_none mode u n = subst (λ (v : List Placed). IsStill (port_reading mode u) (port_reading mode v)) (sym (append-nil u)) (record { frames = refl; fulls = refl; halves = refl; sound = n })
+
+pub still : (mode : FramesMode) (u : List Placed) (at : ℕ) (bytes : List ℕ) → EachByte (Answers mode Quiet []) u at bytes → (port_reading mode u).fault ≡ None →
+    IsStill (port_reading mode u) (port_reading mode (u ++ placed_from at bytes))
+still mode u at [] e n = still_none mode u n
+still mode u at (b ∷ bytes) e n =
+    let g = e.0 in
+    let more = still mode (u ++ byte_at at b ∷ []) (at + 1) bytes e.1 g.fault in
+    subst (λ (v : List Placed). IsStill (port_reading mode u) (port_reading mode v)) (append_assoc u (byte_at at b ∷ []) (placed_from (at + 1) bytes))
+    (record {
+      frames = more.frames ∙ g.frames ∙ append-nil (port_reading mode u).frames;
+      fulls = (let f = more.fulls in let h = g.fulls in omega arith);
+      halves = (let f = more.halves in let h = g.halves in omega arith);
+      sound = more.sound;
+    })
+
+-- where the last byte says this, an action goes on so
+flow_after : (mode : FramesMode) (seen front : List ℕ) (last : ℕ) (step : PortStep) → seen ≡ front ++ last ∷ [] → (port_of mode front).fault ≡ None → (port_of mode seen).fault ≡ fault_by step →
+    FlowAfter (IsPortFaulty mode) seen (flow_by step)
+flow_after mode seen front last Quiet e n f = not_faulty mode seen f
+flow_after mode seen front last Half e n f = not_faulty mode seen f
+flow_after mode seen front last Full e n f = not_faulty mode seen f
+flow_after mode seen front last Frame e n f = not_faulty mode seen f
+flow_after mode seen front last (Locked skipped) e n f = not_faulty mode seen f
+flow_after mode seen front last (Faulty fault) e n f = record {
+  front = front;
+  last = last;
+  all = e;
+  sound = not_faulty mode front n;
+  broken = ap (λ (x : Option (Place × Reason)). is_none x) f;
+}
+
+-- how the reading grew with bytes of a piece
+pub record HasGrown (mode : FramesMode) (seen bytes : List ℕ) (step : PortStep) (cells : List Cell) : Type 0 where
+  pub grew : Grew (port_of mode seen) (port_of mode (seen ++ bytes)) step cells
+  pub flow : FlowAfter (IsPortFaulty mode) (seen ++ bytes) (flow_by step)
+
+pub has_grown : (mode : FramesMode) (seen bytes : List ℕ) (at : ℕ) (step : PortStep) (cells : List Cell) → at ≡ length seen → (port_of mode seen).fault ≡ None →
+    FedAs (Answers mode Quiet []) (Answers mode step cells) (placed seen) at bytes → HasGrown mode seen bytes step cells
+has_grown mode seen bytes at step cells e n r =
+    let w = placed seen ++ placed_from at r.front in
+    let quiet = still mode (placed seen) at r.front r.quiet n in
+    let next : w ++ byte_at (at + length r.front) r.last ∷ [] ≡ placed (seen ++ bytes) =
+    append_assoc (placed seen) (placed_from at r.front) (byte_at (at + length r.front) r.last ∷ [])
+    ∙ ap (λ (l : List Placed). placed seen ++ l) (sym (placed_from_push at r.front r.last) ∙ ap (placed_from at) (sym r.parts))
+    ∙ next_bytes seen bytes at e in
+    let last = subst (λ (v : List Placed). Grows (port_reading mode w) (port_reading mode v) (at + length r.front) step cells) next r.ends in
+    record {
+      grew = record {
+        frames = last.frames ∙ ap (λ (l : List (List Cell)). l ++ frames_by step cells) quiet.frames;
+        fit = last.fit;
+        fulls = (let f = last.fulls in let h = quiet.fulls in omega arith);
+        halves = (let f = last.halves in let h = quiet.halves in omega arith);
+        fault = last.fault;
+      };
+      flow = flow_after mode (seen ++ bytes) (seen ++ r.front) r.last step
+          (ap (λ (l : List ℕ). seen ++ l) r.parts ∙ sym (append_assoc seen r.front (r.last ∷ [])))
+          (ap (λ (v : List Placed). (port_reading mode v).fault) (sym (next_bytes seen r.front at e)) ∙ quiet.sound) last.fault;
+    }
+
+-- the first 16 bytes of a piece that are a plain frame are a whole one
+pub plain_whole : (piece frame : List ℕ) → frame ≡ take 16 piece → 16 ≤ length piece → IsProperFrame frame → IsWhole (take 16 piece) frame 0
+plain_whole piece frame e l p = subst (λ (w : List ℕ). IsWhole w frame 0) e (plain_is_whole frame (ap length e ∙ length-take-le 16 piece l) p)

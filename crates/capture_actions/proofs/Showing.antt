@@ -12,11 +12,11 @@ use Rattle.itm_grammar.specs.declared.partial.Partial.TheVariants.{Header}
 use Rattle.itm_grammar.specs.Rule.{rule, count_of}
 use Rattle.itm_grammar.proofs.Counting.{counts_placed}
 use Rattle.itm_codec.specs.declared.decoder.ItmDecoder.{ItmDecoder}
-use Rattle.itm_codec.specs.Decoder.{IsOf, is_hunter, is_live, has_locked, held_of, skipped_by}
+use Rattle.itm_codec.specs.Decoder.{Stands, is_hunter, is_live, has_locked, held_of, skipped_by}
 use Rattle.trace_values.specs.declared.step.Step.{Step}
 use Rattle.trace_values.specs.declared.step.Step.TheVariants.{Quiet, Skipping, Item, Locked, Fault as Faulty}
 use Rattle.trace_stream.specs.declared.action.Flow.{Flow}
-use Rattle.trace_stream.specs.Laws.{IsCertainAt}
+use Rattle.trace_stream.specs.Written.{IsCertainAt}
 use Rattle.trace_values.specs.Block.{Takes, given_after, fault_after}
 use Rattle.trace_stream.specs.Taken.{FlowAfter, HasTaken}
 use Rattle.capture_plan.specs.declared.packets.PacketsMode.{PacketsMode}
@@ -113,24 +113,24 @@ going (Locked skipped half v) n = refl
 going (Faulty f) n = absurd (n f refl)
 
 -- what a decoder shows is what its reading has
-shown_by : (m : PacketsMode) (decoder : ItmDecoder) (seen : List ℕ) → is_hunter decoder ≡ packets_hunt m → IsOf decoder (placed seen) →
+shown_by : (m : PacketsMode) (decoder : ItmDecoder) (seen : List ℕ) → is_hunter decoder ≡ packets_hunt m → Stands decoder (placed seen) →
     Shows (is_live decoder) (has_locked decoder) (held_of decoder) (skipped_by decoder) (length (placed seen)) (packets_of m seen)
 shown_by m decoder seen h s =
     subst (λ (b : Bool). Shows (is_live decoder) (has_locked decoder) (held_of decoder) (skipped_by decoder) (length (placed seen)) (packets_in b (placed seen))) h
     (laws.shows pattern Sync (by_unit rule) Header count_of refl counts_placed decoder.mode decoder.live decoder.partial (placed seen) s)
 
 -- a decoder that is live stands for bytes without a fault
-pub sound_of : (m : PacketsMode) (decoder : ItmDecoder) (seen : List ℕ) → is_hunter decoder ≡ packets_hunt m → IsOf decoder (placed seen) → is_live decoder ≡ true → (packets_of m seen).fault ≡ None
+pub sound_of : (m : PacketsMode) (decoder : ItmDecoder) (seen : List ℕ) → is_hunter decoder ≡ packets_hunt m → Stands decoder (placed seen) → is_live decoder ≡ true → (packets_of m seen).fault ≡ None
 sound_of m decoder seen h s l = none_of (packets_of m seen).fault (sym l ∙ (shown_by m decoder seen h s).live_is)
 
 -- the end lines are those of the bytes
-pub ended : (m : PacketsMode) (decoder : ItmDecoder) (seen : List ℕ) (count : ℕ) (fault : Option Fault) → is_hunter decoder ≡ packets_hunt m → IsOf decoder (placed seen) → count ≡ length seen →
+pub ended : (m : PacketsMode) (decoder : ItmDecoder) (seen : List ℕ) (count : ℕ) (fault : Option Fault) → is_hunter decoder ≡ packets_hunt m → Stands decoder (placed seen) → count ≡ length seen →
     option_map told fault ≡ (packets_of m seen).fault → fault ≡ None → is_live decoder ≡ true → end_lines m count (has_locked decoder) (skipped_by decoder) (held_of decoder) ≡ ending m seen
 ended m decoder seen count fault h s e f n l =
     let k = shown_by m decoder seen h s in
     ap (λ (x : ℕ). end_lines m x (has_locked decoder) (skipped_by decoder) (held_of decoder)) e
-    ∙ ap (λ (x : Bool). end_lines m (length seen) x (skipped_by decoder) (held_of decoder)) (k.locked_is l)
-    ∙ ap (λ (x : ℕ). end_lines m (length seen) (packets_of m seen).locked x (held_of decoder)) (k.skipped_is l)
+    ∙ ap (λ (x : Bool). end_lines m (length seen) x (skipped_by decoder) (held_of decoder)) k.locked_is
+    ∙ ap (λ (x : ℕ). end_lines m (length seen) (packets_of m seen).locked x (held_of decoder)) k.skipped_is
     ∙ ap (λ (x : ℕ). end_lines m (length seen) (packets_of m seen).locked (packets_of m seen).skipped x) (k.held_is l)
     ∙ ap (λ (x : Option (Place × Reason)). ending_by m (length seen) (packets_of m seen) x) (ap (option_map told) (sym n) ∙ f)
 

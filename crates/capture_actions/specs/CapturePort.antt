@@ -1,8 +1,9 @@
 -- What the reading of a capture's port stands for.
-use Rattle.std.specs.Prelude.{◌≡◌, ℕ, List, length, true, option_map}
+use Rattle.std.specs.Prelude.{◌≡◌, ℕ, List, length, true, option_map, Option}
 use Rattle.trace_values.specs.Placed.{placed}
 use Rattle.capture_plan.specs.declared.frames.FramesMode.{FramesMode}
-use Rattle.port_reader.specs.Reader.{IsOf, is_live, mode_of}
+use Rattle.port_reader.specs.Reader as reader
+use Rattle.port_reader.specs.Reader.{is_live, mode_of}
 use Rattle.trace_text.specs.FaultText.{told}
 use Rattle.capture_actions.specs.Port.{port_of}
 use Rattle.capture_actions.specs.declared.port.CapturePort.{CapturePort}
@@ -20,7 +21,15 @@ abbrev pub IsLive : CapturePort → Type 0
 IsLive port = is_live port.reader ≡ true
 
 -- its reader stands for these bytes, it has counted them, and it keeps the fault of their reading
-pub record HasRead (port : CapturePort) (seen : List ℕ) : Type 0 where
-  pub reader : IsOf port.reader (placed seen)
+pub record Stands (port : CapturePort) (seen : List ℕ) : Type 0 where
+  pub reader : reader.Stands port.reader (placed seen)
   pub count : port.count ≡ length seen
   pub fault : option_map told port.fault ≡ (port_of (frames_mode port) seen).fault
+
+-- it has a formatter, it reads, and nothing of a frame or a synchronisation is there
+abbrev pub IsBetween : CapturePort → Type 0
+IsBetween port = reader.IsBetween port.reader
+
+-- the ID in force
+abbrev pub id_of : CapturePort → Option ℕ
+id_of port = reader.id_of port.reader

@@ -1,7 +1,7 @@
 -- What the clocks of a source stand for.
 use Rattle.std.specs.Prelude.{◌≡◌, ℕ, List, flat_map}
 use Rattle.itm_grammar.specs.declared.packet.ItmPacket.{ItmPacket}
-use Rattle.trace_clock.specs.GlobalClock.{IsGlobal}
+use Rattle.trace_clock.specs.GlobalClock as clock
 use Rattle.capture_actions.specs.Remarks.{stamps_in, local_behind}
 use Rattle.capture_actions.specs.declared.clocks.Clocks.{Clocks}
 
@@ -10,6 +10,6 @@ abbrev pub ticks_of : Clocks → ℕ
 ticks_of clocks = clocks.local
 
 -- they have taken these packets
-pub record AreBehind (clocks : Clocks) (packets : List ItmPacket) : Type 0 where
+pub record Stands (clocks : Clocks) (packets : List ItmPacket) : Type 0 where
   pub local : clocks.local ≡ local_behind packets
-  pub global : IsGlobal clocks.global (flat_map stamps_in packets)
+  pub global : clock.Stands clocks.global (flat_map stamps_in packets)

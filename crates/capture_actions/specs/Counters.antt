@@ -1,12 +1,13 @@
 -- What the counts of a port stand for.
 use Rattle.std.specs.Prelude.{◌≡◌, ℕ, ◌+◌}
 use Rattle.port_reader.specs.Reading.{PortReading}
-use Rattle.source_counts.specs.Kept.{IsOf, total_of}
+use Rattle.source_counts.specs.Kept as kept
+use Rattle.source_counts.specs.Kept.{total_of}
 use Rattle.capture_actions.specs.declared.counters.Counters.{Counters}
 
 -- they are those of this reading
-pub record HasCounted (counters : Counters) (r : PortReading) : Type 0 where
-  pub sources : IsOf counters.sources r.frames
+pub record Stands (counters : Counters) (r : PortReading) : Type 0 where
+  pub sources : kept.Stands counters.sources r.frames
   pub fulls : counters.fulls ≡ r.fulls
   pub halves : counters.halves ≡ r.halves
 

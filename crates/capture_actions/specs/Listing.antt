@@ -33,7 +33,8 @@ lines_behind before (said ∷ given) = said_line before said ++ lines_behind (be
 
 -- the end lines of a bare stream of so many bytes: the port's, and the source's with its skipped bytes and its tail
 abbrev pub end_lines : PacketsMode → ℕ → Bool → ℕ → ℕ → List ℕ
-end_lines mode count locked skipped tail = end_line count ++ (port_line Bare 0 0 0 ++ source_line (packets_mode mode locked) skipped tail)
+end_lines mode count locked skipped tail = end_line count ++
+    (port_line Bare 0 0 0 ++ source_line (packets_mode mode locked) skipped tail)
 
 abbrev pub ending_by : PacketsMode → ℕ → Stream ItmPacket → Option (Place × Reason) → List ℕ
 ending_by mode count s None = end_lines mode count s.locked s.skipped s.held

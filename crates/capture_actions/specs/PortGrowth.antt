@@ -1,6 +1,10 @@
--- How the reading of a port grows with a piece of bytes.
-use Rattle.std.specs.Prelude.{◌≡◌, ◌+◌, ◌++◌, List}
+-- How the reading of a port grows with bytes of a piece.
+use Rattle.std.specs.Prelude.{◌≡◌, ℕ, ◌+◌, ◌++◌, List, Option}
 use Rattle.trace_values.specs.declared.cell.Cell.{Cell}
+use Rattle.trace_values.specs.Placed.{placed_from}
+use Rattle.frame_grammar.specs.Frame.{cells}
+use Rattle.frame_grammar.specs.Reading.{offsets_of}
+use Rattle.frame_grammar.specs.Whole.{without_halves}
 use Rattle.deformatter.specs.declared.step.PortStep.{PortStep}
 use Rattle.deformatter.specs.Growth.{fulls_by, halves_by, fault_by}
 use Rattle.port_reader.specs.Reading.{PortReading}
@@ -13,3 +17,7 @@ pub record Grew (old new : PortReading) (step : PortStep) (cells : List Cell) : 
   pub fulls : new.fulls ≡ old.fulls + fulls_by step
   pub halves : new.halves ≡ old.halves + halves_by step
   pub fault : new.fault ≡ fault_by step
+
+-- the cells of a frame after this ID, whose bytes are these from this offset on, with half synchronisations between them
+abbrev pub whole_cells : ℕ → List ℕ → List ℕ → Option ℕ → List Cell
+whole_cells at bytes frame id = cells frame (offsets_of (without_halves (placed_from at bytes))) id

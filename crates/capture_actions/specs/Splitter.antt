@@ -6,7 +6,7 @@ use Rattle.capture_actions.specs.declared.split.Split.{Split}
 
 -- its port has read these bytes
 abbrev pub Stands : Split → List ℕ → Type 0
-Stands split seen = port.HasRead split.port seen
+Stands split seen = port.Stands split.port seen
 
 -- what it was asked for
 abbrev pub plan_of : Split → SplitPlan

@@ -8,8 +8,10 @@ use crate::counters::Counters;
 use crate::port::{CapturePort, flow_after};
 use arrayvec::ArrayVec;
 use capture_plan::FramesMode;
-use trace_stream::{Action, Outlet, Taken};
-use trace_text::{PortMode, put_end, put_port_end, put_port_fault};
+use frame_grammar::gather::gather_frame;
+use frame_grammar::plain::plain_frame;
+use trace_stream::{Action, Flow, Outlet, Taken};
+use trace_text::{EndLine, PortEndLine, PortFaultLine, PortMode};
 use trace_values::Cell;
 
 /// The reading of a port, and the counts of what came.
@@ -21,8 +23,14 @@ pub struct Check {
 }
 
 impl Check {
-    ghost use Rattle.capture_actions.specs.Port.{port_of};
-    ghost use Rattle.capture_actions.specs.Summary.{counts_text};
+    ghost use Rattle.std.specs.Prelude.{◌^◌, ◌<◌, take};
+    ghost use Rattle.trace_io.specs.Bytes.{TakesSome};
+    ghost use Rattle.trace_stream.specs.Taken.{HasTaken};
+    ghost use Rattle.trace_stream.specs.declared.action.Flow.TheVariants.{On};
+    ghost use Rattle.frame_grammar.specs.Whole.{IsWhole};
+    ghost use Rattle.capture_actions.specs.CapturePort.{IsBetween};
+    ghost use Rattle.capture_actions.specs.Port.{port_of, IsPortFaulty};
+    ghost use Rattle.capture_actions.specs.Summary.{counts_text, check_text};
     ghost use Rattle.capture_actions.specs.Checker.{Stands, plan_of, taken_by, IsLive};
 
     /// Nothing is read yet.
@@ -38,6 +46,51 @@ impl Check {
         }
     }
 
+    /// Takes a whole frame with this many half synchronisations between its halfwords.
+    #[inline]
+    fn feed_frame(&mut self, frame: &[u8; 16], halves: usize) -> Taken
+        requires live { IsLive self.old }
+        requires between { IsBetween self.old.port }
+        requires count { taken_by self.old + (16 + 2 * halves) ≤ 2 ^ 36 }
+        ensures same { plan_of self.new ≡ plan_of self.old }
+        ensures taken { result ≡ record { bytes = 16 + 2 * halves; flow = On } }
+        ensures count { taken_by self.new ≡ taken_by self.old + (16 + 2 * halves) }
+        ensures fed { (seen w out : List ℕ) → Stands self.old seen → IsWhole w frame.now halves →
+            HasTaken (Stands self.new) (IsPortFaulty (plan_of self.old)) (check_text (plan_of self.old)) seen w out out On }
+        ensures live { IsLive self.new }
+    {
+        let after = self
+            .counters
+            .add_frame(frame, halves as u64, self.port.id());
+        let size = 16 + 2 * halves;
+        self.port.pass_frame(size, after);
+        Taken {
+            bytes: size,
+            flow: Flow::On,
+        }
+    }
+
+    /// Takes the piece's bytes up to the end of a frame or a synchronisation.
+    fn feed_bytes(&mut self, piece: &[u8]) -> Taken
+        requires live { IsLive self.old }
+        requires some { 0 < length piece.now }
+        requires count { taken_by self.old + length piece.now ≤ 2 ^ 36 }
+        ensures same { plan_of self.new ≡ plan_of self.old }
+        ensures front { TakesSome piece.now result.bytes }
+        ensures count { taken_by self.new ≡ taken_by self.old + result.bytes }
+        ensures fed { (seen out : List ℕ) → Stands self.old seen →
+            HasTaken (Stands self.new) (IsPortFaulty (plan_of self.old)) (check_text (plan_of self.old)) seen (take result.bytes piece.now) out out result.flow }
+        ensures live { result.flow ≡ Flow.On → IsLive self.new }
+    {
+        let mut cells = ArrayVec::<Cell, 15>::new();
+        let taken = self.port.feed_piece(piece, &mut cells);
+        self.counters.add(&taken.step, cells.as_slice());
+        Taken {
+            bytes: taken.bytes,
+            flow: flow_after(&taken.step),
+        }
+    }
+
     /// The counts of all, and the end lines.
     fn put_counts(&self, outlet: &mut Outlet)
         requires empty { outlet.old ≡ [] }
@@ -45,15 +98,15 @@ impl Check {
         ensures { (seen : List ℕ) → Stands self.now seen → outlet.new ≡ counts_text (plan_of self.now) (length seen) (port_of (plan_of self.now) seen) }
     {
         self.counters.put(outlet);
-        put_end(outlet, self.port.count());
-        let mode = PortMode::of_port(self.port.mode(), self.port.is_locked());
-        put_port_end(
-            outlet,
-            mode,
-            self.port.skipped(),
-            self.port.tail(),
-            self.counters.unattributed(),
-        );
+        outlet.put(&EndLine {
+            bytes: self.port.count(),
+        });
+        outlet.put(&PortEndLine {
+            mode: PortMode::of_port(self.port.mode(), self.port.is_locked()),
+            skipped: self.port.skipped(),
+            tail: self.port.tail(),
+            unattributed: self.counters.unattributed(),
+        });
     }
 }
 
@@ -91,21 +144,24 @@ impl Action for Check {
 
     ghost text_grows = { text_grows };
 
-    /// Takes the piece's bytes up to the end of a frame or a synchronisation.
+    /// Takes a whole frame at once where one is there, and else the piece's bytes up to the end of a frame or a
+    /// synchronisation.
     fn feed(&mut self, piece: &[u8], _outlet: &mut Outlet) -> Taken {
-        let mut cells = ArrayVec::<Cell, 15>::new();
-        let taken = self.port.feed_piece(piece, &mut cells);
-        self.counters.add(&taken.step, cells.as_slice());
-        Taken {
-            bytes: taken.bytes,
-            flow: flow_after(&taken.step),
+        if self.port.is_between() {
+            if let Some(frame) = plain_frame(piece) {
+                return self.feed_frame(frame, 0);
+            }
+            if let Some(gathered) = gather_frame(piece) {
+                return self.feed_frame(&gathered.bytes, gathered.halves);
+            }
         }
+        self.feed_bytes(piece)
     }
 
     fn finish(&self, outlet: &mut Outlet) {
         match self.port.fault() {
             None => self.put_counts(outlet),
-            Some(fault) => put_port_fault(outlet, &fault),
+            Some(fault) => outlet.put(&PortFaultLine { fault }),
         }
     }
 }

@@ -1,21 +1,24 @@
 //! The reading of a capture's port.
 
-ghost use Rattle.std.specs.Prelude.{◌≡◌, ◌+◌, ◌^◌, ◌<◌, ◌≤◌, ◌++◌, ◌∷◌, [], ℕ, List, length, take, true, is_none, option_map};
+ghost use Rattle.std.specs.Prelude.{◌≡◌, ◌+◌, ◌^◌, ◌<◌, ◌≤◌, ◌++◌, [], ℕ, List, length, take, true, is_none, option_map, Option, IsTrue};
+ghost use Rattle.frame_grammar.specs.Frame.{id_after};
+ghost use Rattle.frame_grammar.specs.Whole.{IsWhole};
 ghost use Rattle.deformatter.specs.Growth.{goes_on, fault_by};
-ghost use Rattle.port_reader.specs.Reader.{is_live, tail_of, skipped_by, mode_of};
-ghost use Rattle.port_reader.specs.Growth.{Grows};
+ghost use Rattle.deformatter.specs.declared.step.PortStep.TheVariants.{Quiet};
+ghost use Rattle.port_reader.specs.Reader.{is_live, tail_of, skipped_by};
+ghost use Rattle.port_reader.specs.Growth.{GrowsByFrame};
 ghost use Rattle.trace_text.specs.FaultText.{told};
 ghost use Rattle.trace_stream.specs.Taken.{FlowAfter};
 ghost use Rattle.capture_actions.specs.Port.{port_of, IsPortFaulty};
-ghost use Rattle.capture_actions.specs.PortGrowth.{Grew};
+ghost use Rattle.capture_actions.specs.PortGrowth.{Grew, whole_cells};
 ghost use Rattle.capture_actions.specs.Flows.{flow_by};
 
 use arrayvec::ArrayVec;
 use capture_plan::FramesMode;
 use deformatter::PortStep;
-use port_reader::PortReader;
+use port_reader::{PortReader, Taken};
 use trace_stream::Flow;
-use trace_values::{Cell, Fault};
+use trace_values::{Cell, Fault, SourceId};
 
 /// Reads the bytes of a capture's port, the first of which stands at offset 0, and keeps its fault.
 #[derive(Drop)]
@@ -25,15 +28,6 @@ pub struct CapturePort {
     fault: Option<Fault>,
     ghost few: { tail_of reader + skipped_by reader ≤ count },
     ghost alive: { is_live reader ≡ is_none fault },
-}
-
-/// What the port took of a piece.
-#[derive(Clone, Copy, Debug, PartialEq, Eq, Drop)]
-pub struct PortTaken {
-    /// How many of its first bytes, at least one.
-    pub bytes: usize,
-    /// What the last of them says; all before it are quiet.
-    pub step: PortStep,
 }
 
 /// The fault that a step tells, if it tells one.
@@ -68,12 +62,12 @@ pub fn flow_after(step: &PortStep) -> Flow
 }
 
 impl CapturePort {
-    ghost use Rattle.capture_actions.specs.CapturePort.{HasRead, IsLive, count_of, frames_mode};
+    ghost use Rattle.capture_actions.specs.CapturePort.{Stands, IsLive, IsBetween, count_of, frames_mode, id_of};
 
     /// Nothing is read yet.
     pub fn new(mode: FramesMode) -> CapturePort
         ensures mode { frames_mode result ≡ mode }
-        ensures read { HasRead result [] }
+        ensures read { Stands result [] }
         ensures count { count_of result ≡ 0 }
         ensures live { IsLive result }
     {
@@ -84,60 +78,64 @@ impl CapturePort {
         }
     }
 
-    /// Takes bytes of a piece up to the first with which a frame or a synchronisation ends or a fault is certain, or
-    /// to the piece's end. Where a frame ends, `cells` has its cells afterwards, and else nothing.
-    pub fn feed_piece(&mut self, piece: &[u8], cells: &mut ArrayVec<Cell, 15>) -> PortTaken
+    /// Only where nothing of a frame or a synchronisation is there, and the reading of frames has begun.
+    #[inline]
+    pub fn is_between(&self) -> bool
+        ensures { IsTrue result → IsBetween self.now }
+    {
+        self.reader.is_between()
+    }
+
+    /// The ID in force.
+    #[inline]
+    pub fn id(&self) -> Option<SourceId>
+        ensures { result ≡ id_of self.now }
+    {
+        self.reader.id()
+    }
+
+    /// Passes over the bytes of a whole frame, which the caller takes, with the half synchronisations between its halfwords:
+    /// so many are they in all, and `after` is the ID after them. Nothing of a frame or a synchronisation may be there.
+    #[inline]
+    pub fn pass_frame(&mut self, bytes: usize, after: Option<SourceId>)
+        requires live { IsLive self.old }
+        requires between { IsBetween self.old }
+        requires count { count_of self.old + bytes ≤ 2 ^ 36 }
+        ensures same { frames_mode self.new ≡ frames_mode self.old }
+        ensures count { count_of self.new ≡ count_of self.old + bytes }
+        ensures read { (seen w frame : List ℕ) (halves : ℕ) → Stands self.old seen → IsWhole w frame halves →
+            length w ≡ bytes → after ≡ id_after frame (id_of self.old) → Stands self.new (seen ++ w) }
+        ensures grew { (seen w frame : List ℕ) (halves : ℕ) → Stands self.old seen → IsWhole w frame halves →
+            GrowsByFrame (port_of (frames_mode self.old) seen) (port_of (frames_mode self.old) (seen ++ w)) halves
+            (whole_cells (length seen) w frame (id_of self.old)) }
+        ensures live { IsLive self.new }
+    {
+        self.reader.pass_frame(after);
+        self.count += bytes as u64;
+    }
+
+    /// Takes bytes from the front of a piece up to the first with which a frame or a synchronisation ends, or a fault is
+    /// certain, or to the piece's end. Where a frame ends, `cells` has its cells afterwards, and else nothing.
+    pub fn feed_piece(&mut self, piece: &[u8], cells: &mut ArrayVec<Cell, 15>) -> Taken
         requires live { IsLive self.old }
         requires empty { cells.old.items ≡ [] }
         requires some { 0 < length piece.now }
         requires count { count_of self.old + length piece.now ≤ 2 ^ 36 }
         ensures same { frames_mode self.new ≡ frames_mode self.old }
         ensures bytes { (0 < result.bytes) × (result.bytes ≤ length piece.now) }
+        ensures stops { result.step ≡ Quiet → result.bytes ≡ length piece.now }
         ensures count { count_of self.new ≡ count_of self.old + result.bytes }
-        ensures read { (seen : List ℕ) → HasRead self.old seen → HasRead self.new (seen ++ take result.bytes piece.now) }
-        ensures grew { (seen : List ℕ) → HasRead self.old seen →
+        ensures read { (seen : List ℕ) → Stands self.old seen → Stands self.new (seen ++ take result.bytes piece.now) }
+        ensures grew { (seen : List ℕ) → Stands self.old seen →
             Grew (port_of (frames_mode self.old) seen) (port_of (frames_mode self.old) (seen ++ take result.bytes piece.now)) result.step cells.new.items }
-        ensures flow { (seen : List ℕ) → HasRead self.old seen →
+        ensures flow { (seen : List ℕ) → Stands self.old seen →
             FlowAfter (IsPortFaulty (frames_mode self.old)) (seen ++ take result.bytes piece.now) (flow_by result.step) }
         ensures live { goes_on result.step ≡ true → IsLive self.new }
     {
-        for (index, byte) in piece.iter().enumerate() {
-            // each step has cells of its own
-            cells.clear();
-            match self.feed(*byte, cells) {
-                PortStep::Quiet => {}
-                step => {
-                    return PortTaken {
-                        bytes: index + 1,
-                        step,
-                    };
-                }
-            }
-        }
-        PortTaken {
-            bytes: piece.len(),
-            step: PortStep::Quiet,
-        }
-    }
-
-    /// Takes the next byte. Where it ends a frame, `cells` has the frame's cells afterwards, and else nothing.
-    #[inline]
-    fn feed(&mut self, byte: u8, cells: &mut ArrayVec<Cell, 15>) -> PortStep
-        requires live { IsLive self.old }
-        requires empty { cells.old.items ≡ [] }
-        requires count { count_of self.old < 2 ^ 36 }
-        ensures same { frames_mode self.new ≡ frames_mode self.old }
-        ensures count { count_of self.new ≡ count_of self.old + 1 }
-        ensures read { (seen : List ℕ) → HasRead self.old seen → HasRead self.new (seen ++ byte ∷ []) }
-        ensures step { (seen : List ℕ) → HasRead self.old seen →
-            Grows (port_of (frames_mode self.old) seen) (port_of (frames_mode self.old) (seen ++ byte ∷ [])) (length seen) result cells.new.items }
-        ensures sound { (seen : List ℕ) → HasRead self.old seen → (port_of (frames_mode self.old) seen).fault ≡ None }
-        ensures live { goes_on result ≡ true → IsLive self.new }
-    {
-        let step = self.reader.feed(self.count, byte, cells);
-        self.count += 1;
-        self.fault = fault_in(&step);
-        step
+        let taken = self.reader.feed_block(self.count, piece, cells);
+        self.count += taken.bytes as u64;
+        self.fault = fault_in(&taken.step);
+        taken
     }
 
     /// How it is read.
@@ -149,7 +147,7 @@ impl CapturePort {
 
     /// Its fault, if it has one.
     pub fn fault(&self) -> Option<Fault>
-        ensures list { (seen : List ℕ) → HasRead self.now seen → option_map told result ≡ (port_of (frames_mode self.now) seen).fault }
+        ensures list { (seen : List ℕ) → Stands self.now seen → option_map told result ≡ (port_of (frames_mode self.now) seen).fault }
         ensures live { result ≡ None → IsLive self.now }
     {
         self.fault
@@ -157,14 +155,14 @@ impl CapturePort {
 
     /// How many bytes were read.
     pub fn count(&self) -> u64
-        ensures { (seen : List ℕ) → HasRead self.now seen → result ≡ length seen }
+        ensures { (seen : List ℕ) → Stands self.now seen → result ≡ length seen }
     {
         self.count
     }
 
     /// Whether the reading has begun.
     pub fn is_locked(&self) -> bool
-        ensures { (seen : List ℕ) → HasRead self.now seen → result ≡ (port_of (frames_mode self.now) seen).locked }
+        ensures { (seen : List ℕ) → Stands self.now seen → result ≡ (port_of (frames_mode self.now) seen).locked }
     {
         self.reader.is_locked()
     }
@@ -172,7 +170,7 @@ impl CapturePort {
     /// How many bytes stand before the reading.
     pub fn skipped(&self) -> u64
         requires { IsLive self.now }
-        ensures { (seen : List ℕ) → HasRead self.now seen → result ≡ (port_of (frames_mode self.now) seen).skipped }
+        ensures { (seen : List ℕ) → Stands self.now seen → result ≡ (port_of (frames_mode self.now) seen).skipped }
     {
         self.reader.skipped()
     }
@@ -180,7 +178,7 @@ impl CapturePort {
     /// How many bytes stand behind the last whole frame or synchronisation.
     pub fn tail(&self) -> u64
         requires { IsLive self.now }
-        ensures { (seen : List ℕ) → HasRead self.now seen → result ≡ (port_of (frames_mode self.now) seen).tail }
+        ensures { (seen : List ℕ) → Stands self.now seen → result ≡ (port_of (frames_mode self.now) seen).tail }
     {
         self.reader.tail()
     }

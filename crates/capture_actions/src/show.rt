@@ -6,17 +6,17 @@ ghost use Rattle.itm_grammar.specs.Proper.{IsProper};
 ghost use Rattle.itm_grammar.specs.declared.packet.ItmPacket.{ItmPacket};
 ghost use Rattle.itm_codec.specs.Decoder.{held_of, skipped_by, is_live, is_hunter};
 ghost use Rattle.capture_plan.specs.Modes.{packets_hunt};
-ghost use Rattle.capture_actions.specs.Clocks.{AreBehind, ticks_of};
+ghost use Rattle.capture_actions.specs.Clocks as times;
+ghost use Rattle.capture_actions.specs.Clocks.{ticks_of};
 ghost use Rattle.capture_actions.specs.Listing.{packets_given, lines_behind, end_lines};
 
 use crate::clocks::Clocks;
 use capture_plan::PacketsMode;
 use itm_codec::ItmDecoder;
 use itm_grammar::packet::ItmPacket;
-use trace_stream::{Action, Flow, OUTLET_ROOM, Outlet, Taken};
+use trace_stream::{Action, Flow, OUTLET_ROOM, Outlet, TEXT_ROOM, Taken};
 use trace_text::{
-    LINE_ROOM, PortMode, put_end, put_line, put_lock, put_port_end, put_source_end,
-    put_source_fault,
+    Digits, EndLine, LockLine, PortEndLine, PortMode, SourceEndLine, SourceFaultLine, put_line,
 };
 use trace_values::{Fault, Machine, Step};
 
@@ -26,6 +26,7 @@ pub struct Show {
     mode: PacketsMode,
     decoder: ItmDecoder,
     clocks: Clocks,
+    digits: Digits,
     count: u64,
     fault: Option<Fault>,
     ghost few: { held_of decoder + skipped_by decoder ≤ 2 * count },
@@ -35,29 +36,38 @@ pub struct Show {
 }
 
 /// The lines of what a step at this offset gives, with what the clocks say beside its packet.
-fn put_step(outlet: &mut Outlet, at: u64, step: &Step<ItmPacket>, clocks: &mut Clocks)
+fn put_step(
+    outlet: &mut Outlet,
+    digits: &mut Digits,
+    at: u64,
+    step: &Step<ItmPacket>,
+    clocks: &mut Clocks,
+)
     requires fits { StepFits IsProper step.now }
-    requires room { length outlet.old + 2 * LINE_ROOM ≤ OUTLET_ROOM }
+    requires room { length outlet.old + 2 * TEXT_ROOM ≤ OUTLET_ROOM }
     requires ticks { ticks_of clocks.old + 2 ^ 28 ≤ 2 ^ 64 }
-    ensures text { (packets : List ItmPacket) → AreBehind clocks.old packets → outlet.new ≡ outlet.old ++ lines_behind packets (given_by at step.now) }
-    ensures behind { (packets : List ItmPacket) → AreBehind clocks.old packets → AreBehind clocks.new (packets ++ packets_given (given_by at step.now)) }
+    ensures text { (packets : List ItmPacket) → times.Stands clocks.old packets → outlet.new ≡ outlet.old ++ lines_behind packets (given_by at step.now) }
+    ensures behind { (packets : List ItmPacket) → times.Stands clocks.old packets → times.Stands clocks.new (packets ++ packets_given (given_by at step.now)) }
     ensures ticks { ticks_of clocks.new < ticks_of clocks.old + 2 ^ 28 }
 {
     match step {
         Step::Item { item, .. } => {
             let remark = clocks.remark(item);
-            put_line(outlet, at, item, remark);
+            put_line(outlet, digits, at, item, remark);
         }
         Step::Locked { skipped, item, .. } => {
-            put_lock(outlet, at, *skipped);
+            outlet.put(&LockLine {
+                at,
+                skipped: *skipped,
+            });
             let remark = clocks.remark(item);
-            put_line(outlet, at, item, remark);
+            put_line(outlet, digits, at, item, remark);
         }
         Step::Quiet | Step::Skipping | Step::Fault(_) => {}
     }
 }
 
-/// The end lines of a bare stream of so many bytes, of which the source skipped so many and has so many
+/// The end lines of a bare stream of `count` bytes, of which the source skipped `skipped` and has `tail`
 /// of an unfinished packet.
 fn put_ends(
     outlet: &mut Outlet,
@@ -67,12 +77,21 @@ fn put_ends(
     skipped: u64,
     tail: u64,
 )
-    requires room { length outlet.old + 200 ≤ OUTLET_ROOM }
+    requires room { length outlet.old + 3 * TEXT_ROOM ≤ OUTLET_ROOM }
     ensures { outlet.new ≡ outlet.old ++ end_lines mode count locked skipped tail }
 {
-    put_end(outlet, count);
-    put_port_end(outlet, PortMode::Bare, 0, 0, 0);
-    put_source_end(outlet, PortMode::of_packets(mode, locked), skipped, tail);
+    outlet.put(&EndLine { bytes: count });
+    outlet.put(&PortEndLine {
+        mode: PortMode::Bare,
+        skipped: 0,
+        tail: 0,
+        unattributed: 0,
+    });
+    outlet.put(&SourceEndLine {
+        mode: PortMode::of_packets(mode, locked),
+        skipped,
+        tail,
+    });
 }
 
 impl Show {
@@ -94,6 +113,7 @@ impl Show {
             mode,
             decoder,
             clocks: Clocks::new(),
+            digits: Digits::new(),
             count: 0,
             fault: None,
         }
@@ -138,7 +158,13 @@ impl Action for Show {
         self.count += block.bytes as u64;
         let mut flow = Flow::On;
         if let Some(step) = block.step {
-            put_step(outlet, self.count - 1, &step, &mut self.clocks);
+            put_step(
+                outlet,
+                &mut self.digits,
+                self.count - 1,
+                &step,
+                &mut self.clocks,
+            );
             if let Step::Fault(fault) = step {
                 self.fault = Some(fault);
                 flow = Flow::Stopped;
@@ -160,7 +186,7 @@ impl Action for Show {
                 self.decoder.skipped(),
                 self.decoder.held(),
             ),
-            Some(fault) => put_source_fault(outlet, &fault),
+            Some(fault) => outlet.put(&SourceFaultLine { fault }),
         }
     }
 }

@@ -10,7 +10,10 @@ ghost use Rattle.capture_actions.specs.Split.{bytes_of_id};
 use crate::port::{CapturePort, flow_after};
 use crate::split_plan::SplitPlan;
 use arrayvec::ArrayVec;
-use trace_stream::{Action, Outlet, Taken};
+use frame_grammar::gather::gather_frame;
+use frame_grammar::plain::plain_frame;
+use frame_grammar::source_bytes::copy_source_bytes;
+use trace_stream::{Action, Flow, Outlet, Taken};
 use trace_values::{Cell, Fault, SourceId};
 
 /// The reading of a port, and whose bytes of it are written.
@@ -44,8 +47,15 @@ fn put_cells(outlet: &mut Outlet, id: SourceId, cells: &[Cell])
 }
 
 impl Split {
-    ghost use Rattle.std.specs.Prelude.{[], ℕ, List};
+    ghost use Rattle.std.specs.Prelude.{[], ℕ, List, ◌*◌, ◌<◌, ◌^◌, take};
+    ghost use Rattle.trace_io.specs.Bytes.{TakesSome};
+    ghost use Rattle.trace_stream.specs.Taken.{HasTaken};
+    ghost use Rattle.trace_stream.specs.declared.action.TheConstants.{ACTION_ROOM};
+    ghost use Rattle.trace_stream.specs.declared.action.Flow.TheVariants.{On};
+    ghost use Rattle.frame_grammar.specs.Whole.{IsWhole};
+    ghost use Rattle.capture_actions.specs.CapturePort.{IsBetween};
     ghost use Rattle.capture_actions.specs.Port.{port_of};
+    ghost use Rattle.capture_actions.specs.Split.{split_faulty, split_text};
     ghost use Rattle.capture_actions.specs.Splitter.{Stands, plan_of, taken_by, IsLive};
 
     /// Nothing is read yet.
@@ -58,6 +68,53 @@ impl Split {
         Split {
             plan,
             port: CapturePort::new(plan.frames),
+        }
+    }
+
+    /// Takes a whole frame with this many half synchronisations between its halfwords.
+    #[inline]
+    fn feed_frame(&mut self, frame: &[u8; 16], halves: usize, outlet: &mut Outlet) -> Taken
+        requires live { IsLive self.old }
+        requires between { IsBetween self.old.port }
+        requires room { length outlet.old + ACTION_ROOM ≤ OUTLET_ROOM }
+        requires count { taken_by self.old + (16 + 2 * halves) ≤ 2 ^ 36 }
+        ensures same { plan_of self.new ≡ plan_of self.old }
+        ensures taken { result ≡ record { bytes = 16 + 2 * halves; flow = On } }
+        ensures count { taken_by self.new ≡ taken_by self.old + (16 + 2 * halves) }
+        ensures fed { (seen w : List ℕ) → Stands self.old seen → IsWhole w frame.now halves →
+            HasTaken (Stands self.new) (split_faulty (plan_of self.old)) (split_text (plan_of self.old)) seen w outlet.old outlet.new On }
+        ensures live { IsLive self.new }
+    {
+        let mut bytes = [0; 16];
+        let copied = copy_source_bytes(frame, self.port.id(), self.plan.id, &mut bytes);
+        outlet.append_front(&bytes, copied.len);
+        let size = 16 + 2 * halves;
+        self.port.pass_frame(size, copied.after);
+        Taken {
+            bytes: size,
+            flow: Flow::On,
+        }
+    }
+
+    /// Takes the piece's bytes up to the end of a frame or a synchronisation.
+    fn feed_bytes(&mut self, piece: &[u8], outlet: &mut Outlet) -> Taken
+        requires live { IsLive self.old }
+        requires some { 0 < length piece.now }
+        requires room { length outlet.old + ACTION_ROOM ≤ OUTLET_ROOM }
+        requires count { taken_by self.old + length piece.now ≤ 2 ^ 36 }
+        ensures same { plan_of self.new ≡ plan_of self.old }
+        ensures front { TakesSome piece.now result.bytes }
+        ensures count { taken_by self.new ≡ taken_by self.old + result.bytes }
+        ensures fed { (seen : List ℕ) → Stands self.old seen →
+            HasTaken (Stands self.new) (split_faulty (plan_of self.old)) (split_text (plan_of self.old)) seen (take result.bytes piece.now) outlet.old outlet.new result.flow }
+        ensures live { result.flow ≡ Flow.On → IsLive self.new }
+    {
+        let mut cells = ArrayVec::<Cell, 15>::new();
+        let taken = self.port.feed_piece(piece, &mut cells);
+        put_cells(outlet, self.plan.id, cells.as_slice());
+        Taken {
+            bytes: taken.bytes,
+            flow: flow_after(&taken.step),
         }
     }
 
@@ -102,15 +159,18 @@ impl Action for Split {
 
     ghost text_grows = { text_grows };
 
-    /// Takes the piece's bytes up to the end of a frame or a synchronisation.
+    /// Takes a whole frame at once where one is there, and else the piece's bytes up to the end of a frame or a
+    /// synchronisation.
     fn feed(&mut self, piece: &[u8], outlet: &mut Outlet) -> Taken {
-        let mut cells = ArrayVec::<Cell, 15>::new();
-        let taken = self.port.feed_piece(piece, &mut cells);
-        put_cells(outlet, self.plan.id, cells.as_slice());
-        Taken {
-            bytes: taken.bytes,
-            flow: flow_after(&taken.step),
+        if self.port.is_between() {
+            if let Some(frame) = plain_frame(piece) {
+                return self.feed_frame(frame, 0, outlet);
+            }
+            if let Some(gathered) = gather_frame(piece) {
+                return self.feed_frame(&gathered.bytes, gathered.halves, outlet);
+            }
         }
+        self.feed_bytes(piece, outlet)
     }
 
     fn finish(&self, _outlet: &mut Outlet) {}

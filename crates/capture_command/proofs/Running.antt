@@ -7,11 +7,12 @@ use Rattle.std.specs.Io.KnownBytes.{Consumes}
 use Rattle.std.proofs.KnownBytes.{Consumes-nil, Appends-nil}
 use Rattle.circular_buffer.specs.Buffer.{keep_last}
 use Rattle.trace_stream.specs.Served.{HasServed, HasStopped}
-use Rattle.trace_stream.specs.declared.serving.Outcome.{Outcome}
-use Rattle.trace_stream.specs.declared.serving.Outcome.TheVariants.{AtEnd, Stopped, ReadFailed, WriteFailed, OverLimit}
+use Rattle.trace_stream.specs.declared.outcome.Outcome.{Outcome}
+use Rattle.trace_stream.specs.declared.outcome.Outcome.TheVariants.{AtEnd, FaultFound, ReadFailed, WriteFailed, OverLimit}
 use Rattle.capture_command.specs.declared.status.Status.TheVariants.{NoMemory}
-use Rattle.capture_command.specs.Notes.{Notes, note_of, limit_line}
-use Rattle.capture_command.specs.Run.{HasRun, Loses, IsDoneOrNoMemory}
+use Rattle.trace_text.specs.NoteText.{limit_line}
+use Rattle.capture_command.specs.Notes.{Notes, note_of}
+use Rattle.capture_command.specs.Run.{HasRun, Meaning, Streams, Loses, IsDoneOrNoMemory}
 use Rattle.capture_command.specs.Statuses.{status_of}
 
 -- the bytes that were lost are told by what was left
@@ -27,7 +28,7 @@ pub complete_of : (outcome : Outcome) (faulty : List ℕ → Type 0) (text endin
 complete_of AtEnd faulty text ending limit left_old left_new held_old held_new recent read write bytes served r w lost no_read no_write within sound = inl refl
 complete_of ReadFailed faulty text ending limit left_old left_new held_old held_new recent read write bytes served r w lost no_read no_write within sound = absurd (no_read (r refl))
 complete_of WriteFailed faulty text ending limit left_old left_new held_old held_new recent read write bytes served r w lost no_read no_write within sound = absurd (no_write (w refl))
-complete_of Stopped faulty text ending limit left_old left_new held_old held_new recent read write bytes served r w lost no_read no_write within sound =
+complete_of FaultFound faulty text ending limit left_old left_new held_old held_new recent read write bytes served r w lost no_read no_write within sound =
     let same = same_lost left_old left_new served.bytes bytes served.lost lost in
     absurd (sound (subst faulty (ap (take limit) same ∙ take_all limit bytes within) served.outcome.0.broken))
 complete_of OverLimit faulty text ending limit left_old left_new held_old held_new recent read write bytes served r w lost no_read no_write within sound =
@@ -35,26 +36,36 @@ complete_of OverLimit faulty text ending limit left_old left_new held_old held_n
     absurd (omega (arith, ap length same, served.outcome.1))
 
 -- the table of outcomes is that of statuses
-pub run_of : (outcome : Outcome) (faulty : List ℕ → Type 0) (text ending fault_note : List ℕ → List ℕ) (limit : ℕ) (left_old left_new held_old held_new notes_old notes_new : Option (List ℕ)) (faults_old faults_new : ℕ) (recent at_fault : List ℕ) (there : List ℕ → Type 0)
-    → HasServed faulty text ending limit left_old left_new held_old held_new recent outcome
-    → (outcome ≡ Stopped → HasStopped there faulty text ending limit left_old left_new held_old held_new recent)
-    → ((seen : List ℕ) → there seen → recent ≡ keep_last 16 seen → at_fault ≡ fault_note seen)
-    → Notes notes_old notes_new faults_old faults_new (note_of outcome limit at_fault)
-    → HasRun faulty text ending fault_note limit left_old left_new held_old held_new notes_old notes_new faults_old faults_new (status_of outcome)
-run_of AtEnd faulty text ending fault_note limit left_old left_new held_old held_new notes_old notes_new faults_old faults_new recent at_fault there s stopped noted_as n =
-    record { bytes = s.bytes; out = s.out; note = []; lost = s.lost; gained = s.gained; noted = n; at_most = s.at_most; writes = (s.outcome.0, s.outcome.1, s.outcome.2, refl); ended = s.ended }
-run_of Stopped faulty text ending fault_note limit left_old left_new held_old held_new notes_old notes_new faults_old faults_new recent at_fault there s stopped noted_as n =
-    let k = stopped refl in
-    record { bytes = k.served.bytes; out = k.served.out; note = at_fault; lost = k.served.lost; gained = k.served.gained; noted = n; at_most = k.served.at_most; writes = (k.served.outcome.0, k.served.outcome.1, noted_as k.served.outcome.0.seen k.holds k.served.outcome.2); ended = tt }
-run_of ReadFailed faulty text ending fault_note limit left_old left_new held_old held_new notes_old notes_new faults_old faults_new recent at_fault there s stopped noted_as n =
-    record { bytes = s.bytes; out = s.out; note = codes "read fault\n"; lost = s.lost; gained = s.gained; noted = n; at_most = s.at_most; writes = (s.outcome.0, s.outcome.1, s.outcome.2, refl); ended = tt }
-run_of WriteFailed faulty text ending fault_note limit left_old left_new held_old held_new notes_old notes_new faults_old faults_new recent at_fault there s stopped noted_as n =
+pub run_of : (outcome : Outcome) (m : Meaning) (limit : ℕ) (old new : Streams) (recent at_fault : List ℕ) (there : List ℕ → Type 0)
+    → HasServed m.faulty m.text m.ending limit old.left new.left old.held new.held recent outcome
+    → (outcome ≡ FaultFound → HasStopped there m.faulty m.text m.ending limit old.left new.left old.held new.held recent)
+    → ((seen : List ℕ) → there seen → recent ≡ keep_last 16 seen → at_fault ≡ m.fault_note seen)
+    → Notes old.noted new.noted old.note_faults new.note_faults (note_of outcome limit at_fault)
+    → HasRun m limit old new (status_of outcome)
+run_of AtEnd m limit old new recent at_fault there s stopped noted_as n =
+    record { bytes = s.bytes; out = s.out; note = []; lost = s.lost; gained = s.gained; noted = n; at_most = s.at_most; writes = (s.outcome, refl); ended = s.ended }
+run_of FaultFound m limit old new recent at_fault there s stopped noted_as n =
+    let k = (stopped refl).served in
+    let note = noted_as k.outcome.0.seen (stopped refl).holds k.outcome.2 in
+    record { bytes = k.bytes; out = k.out; note = at_fault; lost = k.lost; gained = k.gained; noted = n; at_most = k.at_most; writes = (recent, k.outcome, note); ended = tt }
+run_of ReadFailed m limit old new recent at_fault there s stopped noted_as n =
+    record { bytes = s.bytes; out = s.out; note = codes "read fault\n"; lost = s.lost; gained = s.gained; noted = n; at_most = s.at_most; writes = (s.outcome, refl); ended = tt }
+run_of WriteFailed m limit old new recent at_fault there s stopped noted_as n =
     record { bytes = s.bytes; out = s.out; note = codes "write fault\n"; lost = s.lost; gained = s.gained; noted = n; at_most = s.at_most; writes = (s.outcome, refl); ended = tt }
-run_of OverLimit faulty text ending fault_note limit left_old left_new held_old held_new notes_old notes_new faults_old faults_new recent at_fault there s stopped noted_as n =
-    record { bytes = s.bytes; out = s.out; note = limit_line limit; lost = s.lost; gained = s.gained; noted = n; at_most = s.at_most; writes = (s.outcome.0, s.outcome.1, s.outcome.2, refl); ended = tt }
+run_of OverLimit m limit old new recent at_fault there s stopped noted_as n =
+    record { bytes = s.bytes; out = s.out; note = limit_line limit; lost = s.lost; gained = s.gained; noted = n; at_most = s.at_most; writes = (s.outcome, refl); ended = tt }
 
 -- with no memory to begin with nothing is read or written
-pub run_unopened : (faulty : List ℕ → Type 0) (text ending fault_note : List ℕ → List ℕ) (limit : ℕ) (left held notes_old notes_new : Option (List ℕ)) (faults_old faults_new : ℕ)
-    → Notes notes_old notes_new faults_old faults_new (codes "no memory\n") → HasRun faulty text ending fault_note limit left left held held notes_old notes_new faults_old faults_new NoMemory
-run_unopened faulty text ending fault_note limit left held notes_old notes_new faults_old faults_new n =
-    record { bytes = []; out = []; note = codes "no memory\n"; lost = Consumes-nil left; gained = Appends-nil held; noted = n; at_most = omega arith; writes = (refl, refl, refl); ended = tt }
+pub run_unopened : (m : Meaning) (limit : ℕ) (left held noted noted' : Option (List ℕ)) (faults faults' : ℕ)
+    → Notes noted noted' faults faults' (codes "no memory\n")
+    → HasRun m limit (record { left = left; held = held; noted = noted; note_faults = faults }) (record { left = left; held = held; noted = noted'; note_faults = faults' }) NoMemory
+run_unopened m limit left held noted noted' faults faults' n =
+    record { bytes = []; out = []; note = codes "no memory\n"; lost = Consumes-nil left; gained = Appends-nil held; noted = n; at_most = omega arith; writes = (refl, refl); ended = tt }
+
+-- a stream that was served had its memory
+pub never_unopened : (outcome : Outcome) → status_of outcome ≡ NoMemory → ⊥
+never_unopened AtEnd e = cc
+never_unopened FaultFound e = cc
+never_unopened ReadFailed e = cc
+never_unopened WriteFailed e = cc
+never_unopened OverLimit e = cc

@@ -1,27 +1,46 @@
 -- What a run did, by its status.
-use Rattle.std.specs.Prelude.{◌≡◌, ◌⊎◌, ℕ, ◌+◌, ◌<◌, ◌≤◌, List, [], ◌++◌, length, take, Some, codes}
+use Rattle.std.specs.Prelude.{◌≡◌, ◌⊎◌, ℕ, ◌+◌, ◌≤◌, List, [], ◌++◌, length, Some, codes}
 use Rattle.std.specs.declared.option.Option.{Option}
 use Rattle.std.specs.Io.KnownBytes.{Appends, Consumes, IsAtEnd, Keeps}
-use Rattle.trace_stream.specs.Laws.{GrowsOnly}
-use Rattle.trace_stream.specs.Served.{StopsWithin}
-use Rattle.capture_command.specs.Notes.{Notes, limit_line}
+use Rattle.trace_stream.specs.Served.{ServedBy}
+use Rattle.trace_stream.specs.declared.outcome.Outcome.{Outcome}
+use Rattle.trace_stream.specs.declared.outcome.Outcome.TheVariants.{AtEnd, FaultFound, ReadFailed, WriteFailed, OverLimit}
+use Rattle.trace_text.specs.NoteText.{limit_line}
+use Rattle.capture_command.specs.Notes.{Notes}
 use Rattle.capture_command.specs.declared.status.Status.{Status}
 use Rattle.capture_command.specs.declared.status.Status.TheVariants.{Done, Usage, CaptureFault, ReadFault, WriteFault, NoMemory, Limit}
 
--- The table of statuses: what the bytes that were read are, what was written for them, and the note. An
--- action says by `faulty`, `text` and `ending` which bytes have a fault, what is written for bytes so far,
--- and what stands behind it at the end or at a fault; and `fault_note` is what is noted where a fault is certain
--- with the last of some bytes. The cases exclude each other.
-abbrev pub WritesBy : (List ℕ → Type 0) → (List ℕ → List ℕ) → (List ℕ → List ℕ) → (List ℕ → List ℕ) → ℕ → Status → List ℕ → List ℕ → List ℕ → Type 0
-WritesBy faulty text ending fault_note limit Done bytes out note = (faulty bytes → ⊥) × (length bytes ≤ limit) × (out ≡ text bytes ++ ending bytes) × (note ≡ [])
-WritesBy faulty text ending fault_note limit CaptureFault bytes out note =
-    (stop : StopsWithin faulty (take limit bytes)) × (out ≡ text (take limit bytes) ++ ending (take limit bytes)) × (note ≡ fault_note stop.seen)
-WritesBy faulty text ending fault_note limit ReadFault bytes out note = (faulty bytes → ⊥) × (length bytes ≤ limit) × (out ≡ text bytes) × (note ≡ codes "read fault\n")
-WritesBy faulty text ending fault_note limit Limit bytes out note =
-    (faulty (take limit bytes) → ⊥) × (limit < length bytes) × (out ≡ text (take limit bytes)) × (note ≡ limit_line limit)
-WritesBy faulty text ending fault_note limit WriteFault bytes out note = GrowsOnly out (text (take limit bytes) ++ ending (take limit bytes)) × (note ≡ codes "write fault\n")
-WritesBy faulty text ending fault_note limit NoMemory bytes out note = (bytes ≡ []) × (out ≡ []) × (note ≡ codes "no memory\n")
-WritesBy faulty text ending fault_note limit Usage bytes out note = ⊥
+-- what an action makes of the bytes of a capture: which of them have a fault, what is written for those so far, what
+-- comes after it at the end or at a fault, and what is noted where a fault is certain with the last of them
+pub record Meaning : Type 1 where
+  pub faulty : List ℕ → Type 0
+  pub text : List ℕ → List ℕ
+  pub ending : List ℕ → List ℕ
+  pub fault_note : List ℕ → List ℕ
+
+-- what the streams of a run show at a moment: the bytes that are left in the input, those that the output and the
+-- notes took, and how often the notes failed
+pub record Streams : Type 0 where
+  pub left : Option (List ℕ)
+  pub held : Option (List ℕ)
+  pub noted : Option (List ℕ)
+  pub note_faults : ℕ
+
+-- a row of the table of outcomes
+abbrev pub Serves : Meaning → ℕ → Outcome → List ℕ → List ℕ → List ℕ → Type 0
+Serves m = ServedBy m.faulty m.text m.ending
+
+-- The table of statuses: that of outcomes, and the note. The cases exclude each other. The note at want of memory
+-- hangs on no job: `run` tells it for all words.
+abbrev pub WritesBy : Meaning → ℕ → Status → List ℕ → List ℕ → List ℕ → Type 0
+WritesBy m limit Done bytes out note = Serves m limit AtEnd bytes out [] × (note ≡ [])
+WritesBy m limit CaptureFault bytes out note =
+    (recent : List ℕ) × (served : Serves m limit FaultFound bytes out recent) × (note ≡ m.fault_note served.0.seen)
+WritesBy m limit ReadFault bytes out note = Serves m limit ReadFailed bytes out [] × (note ≡ codes "read fault\n")
+WritesBy m limit Limit bytes out note = Serves m limit OverLimit bytes out [] × (note ≡ limit_line limit)
+WritesBy m limit WriteFault bytes out note = Serves m limit WriteFailed bytes out [] × (note ≡ codes "write fault\n")
+WritesBy m limit NoMemory bytes out note = (bytes ≡ []) × (out ≡ [])
+WritesBy m limit Usage bytes out note = ⊥
 
 -- where all is done the input is at its end
 abbrev pub EndsAt : Option (List ℕ) → Status → Type 0
@@ -30,16 +49,16 @@ EndsAt left _ = Unit {0}
 
 -- The bytes are those that the input lost, at most one past the limit; out is what the output gained; and
 -- the note is what the notes gained, unless they failed.
-pub record HasRun (faulty : List ℕ → Type 0) (text ending fault_note : List ℕ → List ℕ) (limit : ℕ) (left_old left_new held_old held_new notes_old notes_new : Option (List ℕ)) (faults_old faults_new : ℕ) (status : Status) : Type 0 where
+pub record HasRun (meaning : Meaning) (limit : ℕ) (old new : Streams) (status : Status) : Type 0 where
   pub bytes : List ℕ
   pub out : List ℕ
   pub note : List ℕ
-  pub lost : Consumes left_old left_new bytes
-  pub gained : Appends held_old held_new out
-  pub noted : Notes notes_old notes_new faults_old faults_new note
+  pub lost : Consumes old.left new.left bytes
+  pub gained : Appends old.held new.held out
+  pub noted : Notes old.noted new.noted old.note_faults new.note_faults note
   pub at_most : length bytes ≤ limit + 1
-  pub writes : WritesBy faulty text ending fault_note limit status bytes out note
-  pub ended : EndsAt left_new status
+  pub writes : WritesBy meaning limit status bytes out note
+  pub ended : EndsAt new.left status
 
 -- nothing was read, and nothing was written
 abbrev pub Untouched : Option (List ℕ) → Option (List ℕ) → Option (List ℕ) → Option (List ℕ) → Type 0

@@ -1,7 +1,7 @@
 -- Statuses: their numbers, and how they come from what happened to the stream.
 use Rattle.std.specs.Prelude.{ℕ}
-use Rattle.trace_stream.specs.declared.serving.Outcome.{Outcome}
-use Rattle.trace_stream.specs.declared.serving.Outcome.TheVariants.{AtEnd, Stopped, ReadFailed, WriteFailed, OverLimit}
+use Rattle.trace_stream.specs.declared.outcome.Outcome.{Outcome}
+use Rattle.trace_stream.specs.declared.outcome.Outcome.TheVariants.{AtEnd, FaultFound, ReadFailed, WriteFailed, OverLimit}
 use Rattle.capture_command.specs.declared.status.Status.{Status}
 use Rattle.capture_command.specs.declared.status.Status.TheVariants.{Done, Usage, CaptureFault, ReadFault, WriteFault, NoMemory, Limit}
 
@@ -17,7 +17,7 @@ number_of Limit = 8
 -- the status of a run whose stream was served so
 abbrev pub status_of : Outcome → Status
 status_of AtEnd = Done
-status_of Stopped = CaptureFault
+status_of FaultFound = CaptureFault
 status_of ReadFailed = ReadFault
 status_of WriteFailed = WriteFault
 status_of OverLimit = Limit

@@ -3,7 +3,8 @@
 ghost use Rattle.std.specs.Prelude.{◌≡◌, ◌++◌, ℕ, List, option_map};
 ghost use Rattle.circular_buffer.specs.Buffer.{keep_last};
 ghost use Rattle.trace_text.specs.FaultText.{told};
-ghost use Rattle.capture_command.specs.Notes.{fault_text, last_line};
+ghost use Rattle.trace_text.specs.NoteText.{last_line};
+ghost use Rattle.capture_command.specs.Notes.{fault_text};
 
 use capture_actions::{Check, Show, Split};
 use trace_stream::Action;

@@ -1,15 +1,17 @@
 //! A job, done on the input.
 
-ghost use Rattle.std.specs.Prelude.{◌≡◌, ◌^◌, ◌≤◌, ℕ, List, [], length};
+ghost use Rattle.std.specs.Prelude.{◌≡◌, ◌≢◌, ◌+◌, ◌^◌, ◌≤◌, ℕ, List, [], length, codes};
 ghost use Rattle.trace_io.specs.Causes.{Rose};
-ghost use Rattle.capture_command.specs.Actions.{faulty_of, text_of, ending_of, fault_note};
-ghost use Rattle.capture_command.specs.Run.{HasRun, Loses, IsDoneOrNoMemory};
+ghost use Rattle.trace_stream.specs.Fresh.{IsFresh};
+ghost use Rattle.capture_command.specs.Actions.{meaning_of};
+ghost use Rattle.capture_command.specs.Notes.{Notes};
+ghost use Rattle.capture_command.specs.Run.{HasRun, Meaning, Streams, Loses, IsDoneOrNoMemory};
 
 use crate::actions::CommandAction;
 use crate::notes::{note, note_outcome};
 use crate::status::Status;
 use capture_actions::{Check, Show, Split, SplitPlan};
-use capture_words::{Action, Job};
+use capture_words::{Job, Task};
 use std::alloc::Global;
 use trace_io::{Sink, Source};
 use trace_stream::{Buffers, serve};
@@ -23,18 +25,35 @@ fn run_action<A: CommandAction, I: Source, O: Sink, N: Sink>(
     output: &mut O,
     notes: &mut N,
 ) -> Status
-    requires pending { buffers.old.pending ≡ [] }
-    requires recent { buffers.old.recent ≡ [] }
-    requires live { A.live action.old }
-    requires fresh { A.stands action.old [] }
-    requires count { A.taken action.old ≡ 0 }
+    requires fresh { IsFresh (A.live action.old) (A.stands action.old) (A.taken action.old) buffers.old }
     requires small { limit ≤ 2 ^ 36 }
-    ensures ran { HasRun (A.faulty (A.plan action.old)) (A.text (A.plan action.old)) (A.ending (A.plan action.old)) (A.noted (A.plan action.old)) limit
-        (I.left input.old) (I.left input.new) (O.held output.old) (O.held output.new) (N.held notes.old) (N.held notes.new) (N.faults notes.old) (N.faults notes.new) result }
+    ensures ran { let p = A.plan action.old in
+        let meaning : Meaning = record {
+          faulty = A.faulty p;
+          text = A.text p;
+          ending = A.ending p;
+          fault_note = A.noted p;
+        } in
+        let before : Streams = record {
+          left = I.left input.old;
+          held = O.held output.old;
+          noted = N.held notes.old;
+          note_faults = N.faults notes.old;
+        } in
+        let after : Streams = record {
+          left = I.left input.new;
+          held = O.held output.new;
+          noted = N.held notes.new;
+          note_faults = N.faults notes.new;
+        } in
+        HasRun meaning limit before after result }
+    ensures opened { result ≢ Status.NoMemory }
+    ensures one_empty_read { I.empty_reads input.new ≤ I.empty_reads input.old + 1 }
     ensures read_cause { result ≡ Status.ReadFault → Rose (I.faults input.old) (I.faults input.new) }
     ensures write_cause { result ≡ Status.WriteFault → Rose (O.faults output.old) (O.faults output.new) }
     ensures complete { (bytes : List ℕ) → Loses (I.left input.old) (I.left input.new) bytes →
-        (Rose (I.faults input.old) (I.faults input.new) → ⊥) → (Rose (O.faults output.old) (O.faults output.new) → ⊥) →
+        (Rose (I.faults input.old) (I.faults input.new) → ⊥) →
+        (Rose (O.faults output.old) (O.faults output.new) → ⊥) →
         length bytes ≤ limit → (A.faulty (A.plan action.old) bytes → ⊥) → IsDoneOrNoMemory result }
 {
     let outcome = serve(buffers, action, limit, input, output);
@@ -51,28 +70,43 @@ pub fn run_job<I: Source, O: Sink, N: Sink>(
     notes: &mut N,
 ) -> Status
     requires { job.now.limit ≤ 2 ^ 36 }
-    ensures ran { HasRun (faulty_of job.now.action) (text_of job.now.action) (ending_of job.now.action) (fault_note job.now.action) job.now.limit
-        (I.left input.old) (I.left input.new) (O.held output.old) (O.held output.new) (N.held notes.old) (N.held notes.new) (N.faults notes.old) (N.faults notes.new) result }
+    ensures ran { let before : Streams = record {
+      left = I.left input.old;
+      held = O.held output.old;
+      noted = N.held notes.old;
+      note_faults = N.faults notes.old;
+    } in
+        let after : Streams = record {
+          left = I.left input.new;
+          held = O.held output.new;
+          noted = N.held notes.new;
+          note_faults = N.faults notes.new;
+        } in
+        HasRun (meaning_of job.now.task) job.now.limit before after result }
+    ensures memory_note { result ≡ Status.NoMemory →
+        Notes (N.held notes.old) (N.held notes.new) (N.faults notes.old) (N.faults notes.new) (codes "no memory\n") }
+    ensures one_empty_read { I.empty_reads input.new ≤ I.empty_reads input.old + 1 }
     ensures read_cause { result ≡ Status.ReadFault → Rose (I.faults input.old) (I.faults input.new) }
     ensures write_cause { result ≡ Status.WriteFault → Rose (O.faults output.old) (O.faults output.new) }
     ensures complete { (bytes : List ℕ) → Loses (I.left input.old) (I.left input.new) bytes →
-        (Rose (I.faults input.old) (I.faults input.new) → ⊥) → (Rose (O.faults output.old) (O.faults output.new) → ⊥) →
-        length bytes ≤ job.now.limit → (faulty_of job.now.action bytes → ⊥) → IsDoneOrNoMemory result }
+        (Rose (I.faults input.old) (I.faults input.new) → ⊥) →
+        (Rose (O.faults output.old) (O.faults output.new) → ⊥) →
+        length bytes ≤ job.now.limit → ((meaning_of job.now.task).faulty bytes → ⊥) → IsDoneOrNoMemory result }
 {
     let Ok(mut buffers) = Buffers::open(alloc) else {
         note(notes, b"no memory\n");
         return Status::NoMemory;
     };
-    match job.action {
-        Action::Show(mode) => {
+    match job.task {
+        Task::Show(mode) => {
             let mut action = Show::new(mode);
             run_action(&mut buffers, &mut action, job.limit, input, output, notes)
         }
-        Action::Split { frames, id } => {
+        Task::Split { frames, id } => {
             let mut action = Split::new(SplitPlan { frames, id });
             run_action(&mut buffers, &mut action, job.limit, input, output, notes)
         }
-        Action::Check(mode) => {
+        Task::Check(mode) => {
             let mut action = Check::new(mode);
             run_action(&mut buffers, &mut action, job.limit, input, output, notes)
         }

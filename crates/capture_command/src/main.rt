@@ -2,16 +2,17 @@
 //! bytes of one source out of the frames of a trace port, or counts what each source sent.
 #![tactic(auto)]
 
-ghost use Rattle.std.specs.Prelude.{◌≡◌, ◌⊎◌, ◌≤◌, ℕ, List, length, map};
+ghost use Rattle.std.specs.Prelude.{◌≡◌, ◌⊎◌, ◌+◌, ◌≤◌, ℕ, List, length, map, codes};
 ghost use Rattle.std.specs.String.{string_bytes};
 ghost use Rattle.trace_io.specs.Causes.{Rose};
 ghost use Rattle.capture_words.specs.Calls.{AsksFor, Misuses, IsMisuse};
 ghost use Rattle.capture_words.specs.Texts.{usage_line};
 ghost use Rattle.capture_words.specs.declared.job.Job.{Job};
 ghost use Rattle.capture_words.specs.declared.usage.UsageFault.{UsageFault};
-ghost use Rattle.capture_command.specs.Actions.{faulty_of, text_of, ending_of, fault_note};
+ghost use Rattle.capture_command.specs.Actions.{meaning_of};
 ghost use Rattle.capture_command.specs.Notes.{Notes};
-ghost use Rattle.capture_command.specs.Run.{HasRun, Untouched, Loses, IsDoneOrNoMemory};
+ghost use Rattle.capture_command.specs.Run.{HasRun, Streams, Untouched, Loses, IsDoneOrNoMemory};
+ghost use Rattle.capture_command.specs.Statuses.{number_of};
 
 mod actions;
 mod jobs;
@@ -45,21 +46,42 @@ pub fn run<I: Source, O: Sink, N: Sink>(
     // The words.
     ensures usage { result ≡ Status.Usage → IsMisuse (map string_bytes words.now) }
     ensures misuse { IsMisuse (map string_bytes words.now) → (result ≡ Status.Usage) ⊎ (result ≡ Status.NoMemory) }
-    ensures untouched { IsMisuse (map string_bytes words.now) → Untouched (I.left input.old) (I.left input.new) (O.held output.old) (O.held output.new) }
+    ensures untouched { IsMisuse (map string_bytes words.now) →
+        Untouched (I.left input.old) (I.left input.new) (O.held output.old) (O.held output.new) }
     ensures usage_note { (fault : UsageFault) → Misuses (map string_bytes words.now) fault → result ≡ Status.Usage →
         Notes (N.held notes.old) (N.held notes.new) (N.faults notes.old) (N.faults notes.new) (usage_line fault) }
 
+    // Want of memory, whatever the words.
+    ensures memory_note { result ≡ Status.NoMemory →
+        Notes (N.held notes.old) (N.held notes.new) (N.faults notes.old) (N.faults notes.new) (codes "no memory\n") }
+
     // What was read, written and noted, by the status.
     ensures ran { (job : Job) → AsksFor (map string_bytes words.now) job →
-        HasRun (faulty_of job.action) (text_of job.action) (ending_of job.action) (fault_note job.action) job.limit (I.left input.old) (I.left input.new) (O.held output.old) (O.held output.new)
-        (N.held notes.old) (N.held notes.new) (N.faults notes.old) (N.faults notes.new) result }
+        let before : Streams = record {
+          left = I.left input.old;
+          held = O.held output.old;
+          noted = N.held notes.old;
+          note_faults = N.faults notes.old;
+        } in
+        let after : Streams = record {
+          left = I.left input.new;
+          held = O.held output.new;
+          noted = N.held notes.new;
+          note_faults = N.faults notes.new;
+        } in
+        HasRun (meaning_of job.task) job.limit before after result }
+
+    // Every read but the last gives at least one byte, whatever the words.
+    ensures one_empty_read { I.empty_reads input.new ≤ I.empty_reads input.old + 1 }
 
     // The causes of what the outside does, and that without a cause all is done.
     ensures read_cause { result ≡ Status.ReadFault → Rose (I.faults input.old) (I.faults input.new) }
     ensures write_cause { result ≡ Status.WriteFault → Rose (O.faults output.old) (O.faults output.new) }
-    ensures complete { (job : Job) (bytes : List ℕ) → AsksFor (map string_bytes words.now) job → Loses (I.left input.old) (I.left input.new) bytes →
-        (Rose (I.faults input.old) (I.faults input.new) → ⊥) → (Rose (O.faults output.old) (O.faults output.new) → ⊥) →
-        length bytes ≤ job.limit → (faulty_of job.action bytes → ⊥) → IsDoneOrNoMemory result }
+    ensures complete { (job : Job) (bytes : List ℕ) → AsksFor (map string_bytes words.now) job →
+        Loses (I.left input.old) (I.left input.new) bytes →
+        (Rose (I.faults input.old) (I.faults input.new) → ⊥) →
+        (Rose (O.faults output.old) (O.faults output.new) → ⊥) →
+        length bytes ≤ job.limit → ((meaning_of job.task).faulty bytes → ⊥) → IsDoneOrNoMemory result }
 {
     match read_words(alloc, words) {
         Asked::Do(job) => run_job(alloc, &job, input, output, notes),
@@ -78,6 +100,34 @@ pub fn run<I: Source, O: Sink, N: Sink>(
     }
 }
 
+/// Runs the words on these streams, and answers the status of the process.
+fn start<I: Source, O: Sink, N: Sink>(
+    alloc: Global,
+    words: &[String],
+    input: &mut I,
+    output: &mut O,
+    notes: &mut N,
+) -> u8
+    ensures misuse { IsMisuse (map string_bytes words.now) →
+        (result ≡ number_of Status.Usage) ⊎ (result ≡ number_of Status.NoMemory) }
+    ensures ran { (job : Job) → AsksFor (map string_bytes words.now) job →
+        let before : Streams = record {
+          left = I.left input.old;
+          held = O.held output.old;
+          noted = N.held notes.old;
+          note_faults = N.faults notes.old;
+        } in
+        let after : Streams = record {
+          left = I.left input.new;
+          held = O.held output.new;
+          noted = N.held notes.new;
+          note_faults = N.faults notes.new;
+        } in
+        (status : Status) × (result ≡ number_of status) × HasRun (meaning_of job.task) job.limit before after status }
+{
+    run(alloc, words, input, output, notes).number()
+}
+
 fn main(rt: HostRuntime) -> ExitCode {
     let Ok(arguments) = env::args(&rt) else {
         return ExitCode::from(11);
@@ -88,6 +138,6 @@ fn main(rt: HostRuntime) -> ExitCode {
     let mut input = ReadAdapter::new(rt.stdin());
     let mut output = WriteAdapter::new(rt.stdout());
     let mut notes = WriteAdapter::new(rt.stderr());
-    let status = run(rt.alloc(), &words, &mut input, &mut output, &mut notes);
-    ExitCode::from(status.number())
+    let status = start(rt.alloc(), &words, &mut input, &mut output, &mut notes);
+    ExitCode::from(status)
 }

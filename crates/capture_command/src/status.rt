@@ -48,7 +48,7 @@ impl From<Outcome> for Status {
     fn from(outcome: Outcome) -> Status {
         match outcome {
             Outcome::AtEnd => Status::Done,
-            Outcome::Stopped => Status::CaptureFault,
+            Outcome::FaultFound => Status::CaptureFault,
             Outcome::ReadFailed => Status::ReadFault,
             Outcome::WriteFailed => Status::WriteFault,
             Outcome::OverLimit => Status::Limit,

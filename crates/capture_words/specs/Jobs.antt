@@ -5,8 +5,8 @@ use Rattle.capture_plan.specs.declared.frames.FramesMode.{FramesMode}
 use Rattle.capture_plan.specs.declared.frames.FramesMode.TheVariants.{Bare}
 use Rattle.capture_plan.specs.declared.packets.PacketsMode.{PacketsMode}
 use Rattle.capture_words.specs.Values.{action_in, frames_in, packets_in, itm_in, id_in, limit_in}
-use Rattle.capture_words.specs.declared.job.Action.{Action}
-use Rattle.capture_words.specs.declared.job.Action.TheVariants.{Show, Split, Check}
+use Rattle.capture_words.specs.declared.job.Task.{Task}
+use Rattle.capture_words.specs.declared.job.Task.TheVariants.{Show, Split, Check}
 use Rattle.capture_words.specs.declared.job.Job.{Job}
 use Rattle.capture_words.specs.declared.usage.UsageFault.{UsageFault}
 use Rattle.capture_words.specs.declared.usage.UsageFault.TheVariants.{SplitNeedsId, Unbuilt}
@@ -18,21 +18,21 @@ is_source_one None = false
 is_source_one (Some n) = nat_eq n 1
 
 -- `show` is built for a bare stream of source 1 alone
-abbrev pub show_with : FramesMode → PacketsMode → Option ℕ → Result Action UsageFault
+abbrev pub show_with : FramesMode → PacketsMode → Option ℕ → Result Task UsageFault
 show_with Bare packets itm = if is_source_one itm then Ok (Show packets) else Err Unbuilt
 show_with frames packets itm = Err Unbuilt
 
--- the action with what it needs: `split` needs an ID, and `check` is built without an ITM alone
-abbrev pub action_with : ActionName → FramesMode → PacketsMode → Option ℕ → Option ℕ → Result Action UsageFault
-action_with ShowName frames packets itm id = show_with frames packets itm
-action_with SplitName frames packets itm None = Err SplitNeedsId
-action_with SplitName frames packets itm (Some id) = Ok (Split frames id)
-action_with CheckName frames packets (Some n) id = Err Unbuilt
-action_with CheckName frames packets None id = Ok (Check frames)
+-- the task of an action with what it needs: `split` needs an ID, and `check` is built without an ITM alone
+abbrev pub task_with : ActionName → FramesMode → PacketsMode → Option ℕ → Option ℕ → Result Task UsageFault
+task_with ShowName frames packets itm id = show_with frames packets itm
+task_with SplitName frames packets itm None = Err SplitNeedsId
+task_with SplitName frames packets itm (Some id) = Ok (Split frames id)
+task_with CheckName frames packets (Some n) id = Err Unbuilt
+task_with CheckName frames packets None id = Ok (Check frames)
 
-abbrev pub with_limit : Result Action UsageFault → ℕ → Result Job UsageFault
+abbrev pub with_limit : Result Task UsageFault → ℕ → Result Job UsageFault
 with_limit (Err fault) limit = Err fault
-with_limit (Ok action) limit = Ok (record { action = action; limit = limit })
+with_limit (Ok task) limit = Ok (record { task = task; limit = limit })
 
 -- The first fault of the action's name, of the options' values in the order of the command, and of what the
 -- action needs; and where there is none, the job. An option that the action doesn't use has no effect.
@@ -43,7 +43,7 @@ job_with (Ok name) (Ok frames) (Err fault) itm id limit = Err fault
 job_with (Ok name) (Ok frames) (Ok packets) (Err fault) id limit = Err fault
 job_with (Ok name) (Ok frames) (Ok packets) (Ok itm) (Err fault) limit = Err fault
 job_with (Ok name) (Ok frames) (Ok packets) (Ok itm) (Ok id) (Err fault) = Err fault
-job_with (Ok name) (Ok frames) (Ok packets) (Ok itm) (Ok id) (Ok limit) = with_limit (action_with name frames packets itm id) limit
+job_with (Ok name) (Ok frames) (Ok packets) (Ok itm) (Ok id) (Ok limit) = with_limit (task_with name frames packets itm id) limit
 
 abbrev pub job_of : List Row → Result Job UsageFault
 job_of rows = job_with (action_in rows) (frames_in rows) (packets_in rows) (itm_in rows) (id_in rows) (limit_in rows)

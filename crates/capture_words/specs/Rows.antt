@@ -4,7 +4,7 @@ use Rattle.clap.specs.Words.{Text}
 use Rattle.clap.specs.declared.error.kind.ErrorKind.{ErrorKind}
 use Rattle.capture_words.specs.Calls.{AsksFor, Misuses}
 use Rattle.capture_words.specs.Command.{refusals}
-use Rattle.capture_words.specs.declared.job.Action.{Action}
+use Rattle.capture_words.specs.declared.job.Task.{Task}
 use Rattle.capture_words.specs.declared.usage.UsageFault.{UsageFault}
 
 -- a character in front of the first word
@@ -17,9 +17,9 @@ abbrev pub words_of : Text → List Text
 words_of [] = []
 words_of (c ∷ text) = if nat_eq c 32 then [] ∷ words_of text else in_front c (words_of text)
 
--- the words of a text ask for this action, and this limit
-abbrev pub Does : Text → Action → ℕ → Type 0
-Does text action limit = AsksFor (words_of text) (record { action = action; limit = limit })
+-- the words of a text ask for this task, and this limit
+abbrev pub Does : Text → Task → ℕ → Type 0
+Does text task limit = AsksFor (words_of text) (record { task = task; limit = limit })
 
 -- they have this fault
 abbrev pub Faults : Text → UsageFault → Type 0

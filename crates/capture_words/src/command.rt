@@ -8,6 +8,11 @@ use crate::option::CommandOption;
 use clap::{Arg, ArgAction, Command};
 use std::alloc::{AllocError, Global};
 
+/// What `--help` says below the options: how a capture is given, and what `show` needs so far.
+const CAPTURE_HELP: &str =
+    "The capture is read from standard input, as in: ./lipparoy check < CAPTURE
+So far show lists a capture without frames: show --frames bare --itm 1";
+
 /// The command with this option besides. It takes one value, and stands once at most.
 fn with_option<'a>(
     alloc: Global,
@@ -34,7 +39,9 @@ fn with_action<'a>(alloc: Global) -> Result<Command<'a>, AllocError>
         )
         .required(true)
         .action(ArgAction::Set);
-    Command::new(alloc, "trace").arg(action)
+    Command::new(alloc, "trace")
+        .after_help(CAPTURE_HELP)
+        .arg(action)
 }
 
 /// The command, with its action and its options.

@@ -3,7 +3,7 @@
 ghost use Rattle.std.specs.Prelude.{◌≡◌, ◌≤◌, IfOk};
 ghost use Rattle.capture_words.specs.declared.values.TheConstants.{GREATEST_LIMIT};
 ghost use Rattle.clap.specs.Words.{rows_of, found_of};
-ghost use Rattle.capture_words.specs.Jobs.{action_with, job_of, is_source_one};
+ghost use Rattle.capture_words.specs.Jobs.{task_with, job_of, is_source_one};
 
 use crate::usage::UsageFault;
 use crate::values::{ActionName, action_in, frames_in, id_in, itm_in, limit_in, packets_in};
@@ -13,7 +13,7 @@ use trace_values::SourceId;
 
 /// What is done with a capture.
 #[derive(Clone, Copy, Debug, PartialEq, Eq, Drop)]
-pub enum Action {
+pub enum Task {
     /// A listing of a bare stream of ITM packets of source 1, which is read so.
     Show(PacketsMode),
     /// The bytes of one source, taken out of the frames of a port.
@@ -31,7 +31,7 @@ pub enum Action {
 #[derive(Clone, Copy, Debug, PartialEq, Eq, Drop)]
 pub struct Job {
     /// What is done.
-    pub action: Action,
+    pub task: Task,
     /// How many bytes of the capture are read at most, 1 to `GREATEST_LIMIT`.
     pub limit: u64,
 }
@@ -46,28 +46,28 @@ fn is_source_one(itm: Option<SourceId>) -> bool
     }
 }
 
-/// The action, with what it needs of the options.
-fn action_with(
+/// The task of an action, with what it needs of the options.
+fn task_with(
     name: ActionName,
     frames: FramesMode,
     packets: PacketsMode,
     itm: Option<SourceId>,
     id: Option<SourceId>,
-) -> Result<Action, UsageFault>
-    ensures { result ≡ action_with name frames packets itm id }
+) -> Result<Task, UsageFault>
+    ensures { result ≡ task_with name frames packets itm id }
 {
     match name {
         ActionName::Show if frames == FramesMode::Bare && is_source_one(itm) => {
-            Ok(Action::Show(packets))
+            Ok(Task::Show(packets))
         }
         ActionName::Show => Err(UsageFault::Unbuilt),
         ActionName::Split => match id {
-            Some(id) => Ok(Action::Split { frames, id }),
+            Some(id) => Ok(Task::Split { frames, id }),
             None => Err(UsageFault::SplitNeedsId),
         },
         ActionName::Check => match itm {
             Some(_) => Err(UsageFault::Unbuilt),
-            None => Ok(Action::Check(frames)),
+            None => Ok(Task::Check(frames)),
         },
     }
 }
@@ -83,6 +83,6 @@ pub fn job_of(matches: &ArgMatches<'_>) -> Result<Job, UsageFault>
     let itm = itm_in(matches)?;
     let id = id_in(matches)?;
     let limit = limit_in(matches)?;
-    let action = action_with(name, frames, packets, itm, id)?;
-    Ok(Job { action, limit })
+    let task = task_with(name, frames, packets, itm, id)?;
+    Ok(Job { task, limit })
 }

@@ -14,7 +14,7 @@ mod tests;
 mod usage;
 mod values;
 
-pub use job::{Action, Job};
+pub use job::{Job, Task};
 pub use option::CommandOption;
 pub use reading::{Asked, read_words};
 pub use usage::UsageFault;

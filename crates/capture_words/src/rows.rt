@@ -5,7 +5,7 @@ ghost use Rattle.clap.specs.declared.error.kind.ErrorKind.TheVariants.{ArgumentC
 ghost use Rattle.capture_plan.specs.declared.frames.FramesMode.TheVariants.{Hunt as FramesHunt, Aligned as FramesAligned, Bare};
 ghost use Rattle.capture_plan.specs.declared.packets.PacketsMode.TheVariants.{Hunt as PacketsHunt, Aligned as PacketsAligned};
 ghost use Rattle.capture_words.specs.Rows.{Does, Faults, Refuses};
-ghost use Rattle.capture_words.specs.declared.job.Action.TheVariants.{Show, Split, Check};
+ghost use Rattle.capture_words.specs.declared.job.Task.TheVariants.{Show, Split, Check};
 ghost use Rattle.capture_words.specs.declared.option.CommandOption.TheVariants.{Frames, Packets, Itm, Id, Limit};
 ghost use Rattle.capture_words.specs.declared.usage.UsageFault.TheVariants.{UnknownAction, BadValue, SplitNeedsId, Unbuilt};
 

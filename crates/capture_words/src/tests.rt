@@ -1,6 +1,6 @@
 //! Words, and what they ask for.
 
-use crate::{Action, Asked, CommandOption, GREATEST_LIMIT, Job, UsageFault, read_words};
+use crate::{Asked, CommandOption, GREATEST_LIMIT, Job, Task, UsageFault, read_words};
 use capture_plan::{FramesMode, PacketsMode};
 use std::alloc::{AllocError, Global};
 use std::process::Abort;
@@ -22,10 +22,10 @@ fn check_job(
     alloc: Global,
     rt: &impl Abort,
     text: &str,
-    action: Action,
+    task: Task,
     limit: u64,
 ) -> Result<(), Fail> {
-    let want = Asked::Do(Job { action, limit });
+    let want = Asked::Do(Job { task, limit });
     assert_eq!(rt; answer(alloc, text)?, want, "{text}");
     Ok(())
 }
@@ -71,7 +71,7 @@ fn calls_ask_for_a_listing(rt: HostRuntime) -> Result<(), Fail> {
         ),
     ];
     for (text, packets, limit) in table {
-        check_job(rt.alloc(), &rt, text, Action::Show(packets), limit)?;
+        check_job(rt.alloc(), &rt, text, Task::Show(packets), limit)?;
     }
     Ok(())
 }
@@ -103,7 +103,7 @@ fn calls_ask_for_the_bytes_of_an_id(rt: HostRuntime) -> Result<(), Fail> {
         let Some(id) = SourceId::new(number) else {
             continue;
         };
-        check_job(rt.alloc(), &rt, text, Action::Split { frames, id }, limit)?;
+        check_job(rt.alloc(), &rt, text, Task::Split { frames, id }, limit)?;
     }
     Ok(())
 }
@@ -124,7 +124,7 @@ fn calls_ask_for_a_check(rt: HostRuntime) -> Result<(), Fail> {
         ),
     ];
     for (text, frames, limit) in table {
-        check_job(rt.alloc(), &rt, text, Action::Check(frames), limit)?;
+        check_job(rt.alloc(), &rt, text, Task::Check(frames), limit)?;
     }
     Ok(())
 }
@@ -189,8 +189,6 @@ fn refusals_have_the_text_of_clap(rt: HostRuntime) -> Result<(), Fail> {
             "",
             "error: the following required arguments were not provided:\n  <action>\n",
         ),
-        ("--help", "Usage: trace [OPTIONS] <action>\n"),
-        ("show -h", "Usage: trace [OPTIONS] <action>\n"),
         (
             "show --colour x",
             "error: unexpected argument '--colour' found\n",
@@ -207,6 +205,37 @@ fn refusals_have_the_text_of_clap(rt: HostRuntime) -> Result<(), Fail> {
     ];
     for (text, front) in table {
         check_refused(rt.alloc(), &rt, text, front)?;
+    }
+    Ok(())
+}
+
+/// The whole text of `--help`.
+const HELP: &str = "Usage: trace [OPTIONS] <action>
+
+Arguments:
+  <action>  show lists packets, split writes the bytes of one source, check counts those of each
+
+Options:
+      --frames <frames>    Where frames begin: hunt (at the first full synchronisation, the default), \
+aligned (at the first byte) or bare (there are none)
+      --packets <packets>  Where packets begin: hunt (at the first synchronisation packet, the default) \
+or aligned (at the first byte)
+      --itm <itm>          The source that sends ITM packets: 1 to 111
+      --id <id>            The source whose bytes split writes: 0 to 126
+      --limit <limit>      How many bytes are read at most: 1 to 16777216, which is the default
+  -h, --help               Print help
+
+The capture is read from standard input, as in: ./lipparoy check < CAPTURE
+So far show lists a capture without frames: show --frames bare --itm 1
+";
+
+#[test]
+fn help_is_this_text(rt: HostRuntime) -> Result<(), Fail> {
+    for text in ["--help", "-h", "show -h", "--frames bare --help"] {
+        match answer(rt.alloc(), text)? {
+            Asked::Refused(message) => assert_eq!(rt; message.as_str(), HELP, "{text}"),
+            asked => assert!(rt; false, "{text}: {asked:?}"),
+        }
     }
     Ok(())
 }

@@ -5,7 +5,7 @@ use Rattle.std.proofs.lemmas.Bool.Decides.{nat_tests}
 use Rattle.trace_values.specs.declared.cell.Cell.{Cell}
 use Rattle.trace_values.specs.declared.fault.Reason.{Reason}
 use Rattle.trace_values.specs.declared.next.Next.{Next}
-use Rattle.trace_values.specs.declared.next.Next.TheVariants.{Go, Stop, Fail}
+use Rattle.trace_values.specs.declared.next.Next.TheVariants.{Go, End, Fail}
 use Rattle.trace_values.specs.declared.mode.Mode.{Mode}
 use Rattle.trace_values.specs.declared.mode.Mode.TheVariants.{Hunting}
 use Rattle.trace_values.specs.Placed.{Place, Placed, byte_at}
@@ -14,7 +14,7 @@ use Rattle.trace_values.specs.Hunted.{Seeks}
 use Rattle.trace_values.specs.Moded.{StandsIn, hunts, is_locked}
 use Rattle.trace_values.specs.Standing.{live_after, state_after}
 use Rattle.frame_grammar.specs.Port as port
-use Rattle.frame_grammar.specs.Port.{Piece, Full, State, start, rule}
+use Rattle.frame_grammar.specs.Port.{PortItem, Full, State, start, rule}
 use Rattle.port_sync.specs.Hunting.{pattern}
 use Rattle.deformatter.specs.Reading.{PortStream, read_behind, all_skipped, port_stream, cells_in, id_in}
 use Rattle.deformatter.specs.Growth.{PortGrows, goes_on}
@@ -33,7 +33,7 @@ use Rattle.deformatter.proofs.Growing as growing
 use Rattle.deformatter.proofs.Readings.{port_hunt, IsReadAt, is_read, seeks_old, seeks_new, after}
 
 -- a byte of the reading: how the reading grew, its cells, and the ID in force
-pub record Fed (h : Bool) (u : List Placed) (at byte : ℕ) (s : State) (n : Next State Piece) : Type 0 where
+pub record Fed (h : Bool) (u : List Placed) (at byte : ℕ) (s : State) (n : Next State PortItem) : Type 0 where
   pub grows : PortGrows (port_stream h u) (port_stream h (u ++ byte_at at byte ∷ [])) at (step_by at s n)
   pub cells : cells_in (port_stream h (u ++ byte_at at byte ∷ [])) ≡ cells_in (port_stream h u) ++ cells_by (id_in (port_stream h u)) n
   pub id : id_in (port_stream h (u ++ byte_at at byte ∷ [])) ≡ id_by (id_in (port_stream h u)) n
@@ -83,7 +83,7 @@ module _ (m : Mode) (run skipped : ℕ) (u : List Placed) (at byte : ℕ) (live 
 
   pub skips-step : (byte == 127 && run == 3) ≡ false → PortGrows (port_stream (hunts m) u) (port_stream (hunts m) (u ++ byte_at at byte ∷ [])) at Quiet
   skips-step f = grows_by (port_stream (hunts m) u) (all_skipped skipped) (all_skipped (suc (port_hunt u).units)) Quiet old (new false f)
-      (record { pieces = refl; halves = refl; fulls = refl; frames = refl; fault = refl; hunt = (refl, (let k = seeks.units_is in omega (arith, k))) })
+      (record { items = refl; halves = refl; fulls = refl; frames = refl; fault = refl; hunt = (refl, (let k = seeks.units_is in omega (arith, k))) })
 
   pub skips-cells : (byte == 127 && run == 3) ≡ false → (given : List Cell) → given ≡ [] → cells_in (port_stream (hunts m) (u ++ byte_at at byte ∷ [])) ≡ cells_in (port_stream (hunts m) u) ++ given
   skips-cells f given g = ap cells_in (new false f) ∙ sym g ∙ ap (λ (a : PortStream). cells_in a ++ given) (sym old)
@@ -93,7 +93,7 @@ module _ (m : Mode) (run skipped : ℕ) (u : List Placed) (at byte : ℕ) (live 
 
   pub locks-step : (byte == 127 && run == 3) ≡ true → 3 ≤ skipped → PortGrows (port_stream (hunts m) u) (port_stream (hunts m) (u ++ byte_at at byte ∷ [])) at (Locked (skipped - 3))
   locks-step f l = grows_by (port_stream (hunts m) u) (all_skipped skipped) (after (port_hunt u) at byte true) (Locked (skipped - 3)) old (new true f)
-      (record { pieces = refl; halves = refl; fulls = refl; frames = refl; fault = refl; hunt = (refl, refl, ap (λ (n : ℕ). n - 3) seeks.units_is, omega (arith, l)) })
+      (record { items = refl; halves = refl; fulls = refl; frames = refl; fault = refl; hunt = (refl, refl, ap (λ (n : ℕ). n - 3) seeks.units_is, omega (arith, l)) })
 
   pub locks-cells : (byte == 127 && run == 3) ≡ true → (given : List Cell) → given ≡ [] → cells_in (port_stream (hunts m) (u ++ byte_at at byte ∷ [])) ≡ cells_in (port_stream (hunts m) u) ++ given
   locks-cells f given g = ap cells_in (new true f) ∙ sym g ∙ ap (λ (a : PortStream). cells_in a ++ given) (sym old)
@@ -108,14 +108,14 @@ reads_on PhaseHunting hunter skipped n = absurd (n refl)
 reads_on PhaseLocked hunter skipped n = refl
 
 -- it stays live exactly with a step that is no fault
-pub stays_live : (at : ℕ) (s : State) (n : Next State Piece) → live_after n ≡ goes_on (step_by at s n)
+pub stays_live : (at : ℕ) (s : State) (n : Next State PortItem) → live_after n ≡ goes_on (step_by at s n)
 stays_live at s (Go t) = by (t.halves == s.halves) where
   by : (b : Bool) → true ≡ goes_on (cond b Quiet HalfEnds)
   by true = refl
   by false = refl
-stays_live at s (Stop Full) = refl
-stays_live at s (Stop port.Half) = refl
-stays_live at s (Stop (port.Frame f h)) = refl
+stays_live at s (End Full) = refl
+stays_live at s (End port.Half) = refl
+stays_live at s (End (port.Frame f h)) = refl
 stays_live at s (Fail e) = refl
 
 is_seven : (n : ℕ) → (n == 7) ≡ true → n ≡ 7
@@ -128,9 +128,9 @@ fits_by left One at e = tt
 fits_by left Two at e = is_seven left e
 fits_by left Three at e = is_seven left e
 
-few_after : (s : State) (n : Next State Piece) → Lawful s n → count_of (state_after start n s) ≤ count_of s + 1
+few_after : (s : State) (n : Next State PortItem) → Lawful s n → count_of (state_after start n s) ≤ count_of s + 1
 few_after s (Go t) l = (let e = l.2 in omega arith)
-few_after s (Stop v) l = omega arith
+few_after s (End v) l = omega arith
 few_after s (Fail e) l = omega arith
 
 -- at most one byte more is held

@@ -6,53 +6,53 @@ use Rattle.std.proofs.lemmas.List.Sums.{sum_by_push, sum_by-append}
 use Rattle.trace_values.specs.declared.cell.Cell.{Cell}
 use Rattle.trace_values.specs.declared.fault.Reason.{Reason}
 use Rattle.trace_values.specs.declared.next.Next.{Next}
-use Rattle.trace_values.specs.declared.next.Next.TheVariants.{Go, Stop, Fail}
+use Rattle.trace_values.specs.declared.next.Next.TheVariants.{Go, End, Fail}
 use Rattle.trace_values.specs.Placed.{Place, Placed, byte_at}
 use Rattle.trace_values.specs.Reading.{Progress, with_unit}
 use Rattle.trace_values.specs.Stream.{FaultAt}
-use Rattle.frame_grammar.specs.Port.{Piece, Full, Half, Frame, State, start}
-use Rattle.frame_grammar.specs.Reading.{piece_cells, piece_id, cells_of_pieces, id_of_pieces, fulls_in, halves_in, frames_in}
-use Rattle.deformatter.specs.Reading.{pieces_of, read_behind, cells_in, id_in}
+use Rattle.frame_grammar.specs.Port.{PortItem, Full, Half, Frame, State, start}
+use Rattle.frame_grammar.specs.Reading.{item_cells, item_id, cells_of_items, id_of_items, fulls_in, halves_in, frames_in}
+use Rattle.deformatter.specs.Reading.{items_of, read_behind, cells_in, id_in}
 use Rattle.deformatter.specs.Growth.{place_at, PortGrows, PortSettled, PortRises}
 use Rattle.deformatter.specs.Rule.{step_by, cells_by, id_by}
 use Rattle.deformatter.proofs.Lawful.{Lawful}
 use Rattle.deformatter.proofs.Parts.{quiet_step, half_step}
 
-pub id_push : (id : Option ℕ) (l : List Piece) (p : Piece) → id_of_pieces id (l ++ p ∷ []) ≡ piece_id (id_of_pieces id l) p
+pub id_push : (id : Option ℕ) (l : List PortItem) (p : PortItem) → id_of_items id (l ++ p ∷ []) ≡ item_id (id_of_items id l) p
 id_push id [] p = refl
-id_push id (q ∷ l) p = id_push (piece_id id q) l p
+id_push id (q ∷ l) p = id_push (item_id id q) l p
 
-pub cells_push : (id : Option ℕ) (l : List Piece) (p : Piece) → cells_of_pieces id (l ++ p ∷ []) ≡ cells_of_pieces id l ++ piece_cells (id_of_pieces id l) p
-cells_push id [] p = append-nil (piece_cells id p)
+pub cells_push : (id : Option ℕ) (l : List PortItem) (p : PortItem) → cells_of_items id (l ++ p ∷ []) ≡ cells_of_items id l ++ item_cells (id_of_items id l) p
+cells_push id [] p = append-nil (item_cells id p)
 cells_push id (q ∷ l) p =
-    ap (λ (c : List Cell). piece_cells id q ++ c) (cells_push (piece_id id q) l p)
-    ∙ sym (append_assoc (piece_cells id q) (cells_of_pieces (piece_id id q) l) (piece_cells (id_of_pieces (piece_id id q) l) p))
+    ap (λ (c : List Cell). item_cells id q ++ c) (cells_push (item_id id q) l p)
+    ∙ sym (append_assoc (item_cells id q) (cells_of_items (item_id id q) l) (item_cells (id_of_items (item_id id q) l) p))
 
-pieces_push : (l : List (Piece × Place)) (v : Piece) (place : Place) → pieces_of (l ++ (v, place) ∷ []) ≡ pieces_of l ++ v ∷ []
-pieces_push l v place = map-append (λ (x : Piece × Place). x.0) l ((v, place) ∷ [])
+items_push : (l : List (PortItem × Place)) (v : PortItem) (place : Place) → items_of (l ++ (v, place) ∷ []) ≡ items_of l ++ v ∷ []
+items_push l v place = map-append (λ (x : PortItem × Place). x.0) l ((v, place) ∷ [])
 
-pub sum_push : (f : Piece → ℕ) (l : List (Piece × Place)) (v : Piece) (place : Place) → sum_by f (pieces_of (l ++ (v, place) ∷ [])) ≡ sum_by f (pieces_of l) + f v
-sum_push f l v place = ap (sum_by f) (pieces_push l v place) ∙ sum_by_push f (pieces_of l) v
+pub sum_push : (f : PortItem → ℕ) (l : List (PortItem × Place)) (v : PortItem) (place : Place) → sum_by f (items_of (l ++ (v, place) ∷ [])) ≡ sum_by f (items_of l) + f v
+sum_push f l v place = ap (sum_by f) (items_push l v place) ∙ sum_by_push f (items_of l) v
 
 -- the cells, and the ID in force
-pub cells_fed : (skipped : ℕ) (p : Progress State Piece) (b : Placed) (n : Next State Piece) →
+pub cells_fed : (skipped : ℕ) (p : Progress State PortItem) (b : Placed) (n : Next State PortItem) →
     cells_in (read_behind skipped (with_unit start p b n None)) ≡ cells_in (read_behind skipped p) ++ cells_by (id_in (read_behind skipped p)) n
 cells_fed skipped p b (Go t) = sym (append-nil (cells_in (read_behind skipped p)))
-cells_fed skipped p b (Stop v) = ap (cells_of_pieces None) (pieces_push p.items v b.place) ∙ cells_push None (pieces_of p.items) v
+cells_fed skipped p b (End v) = ap (cells_of_items None) (items_push p.items v b.place) ∙ cells_push None (items_of p.items) v
 cells_fed skipped p b (Fail e) = sym (append-nil (cells_in (read_behind skipped p)))
 
-pub id_fed : (skipped : ℕ) (p : Progress State Piece) (b : Placed) (n : Next State Piece) →
+pub id_fed : (skipped : ℕ) (p : Progress State PortItem) (b : Placed) (n : Next State PortItem) →
     id_in (read_behind skipped (with_unit start p b n None)) ≡ id_by (id_in (read_behind skipped p)) n
 id_fed skipped p b (Go t) = refl
-id_fed skipped p b (Stop v) = ap (id_of_pieces None) (pieces_push p.items v b.place) ∙ id_push None (pieces_of p.items) v
+id_fed skipped p b (End v) = ap (id_of_items None) (items_push p.items v b.place) ∙ id_push None (items_of p.items) v
 id_fed skipped p b (Fail e) = refl
 
-module _ (skipped : ℕ) (p : Progress State Piece) (at byte : ℕ) where
+module _ (skipped : ℕ) (p : Progress State PortItem) (at byte : ℕ) where
   -- the step follows how the reading grew
-  pub grows : (n : Next State Piece) → Lawful p.state n → PortGrows (read_behind skipped p) (read_behind skipped (with_unit start p (byte_at at byte) n None)) at (step_by at p.state n)
+  pub grows : (n : Next State PortItem) → Lawful p.state n → PortGrows (read_behind skipped p) (read_behind skipped (with_unit start p (byte_at at byte) n None)) at (step_by at p.state n)
   grows (Go t) l = elim l.1 [
     | inl e ↦ subst (λ step. PortGrows (read_behind skipped p) (read_behind skipped (with_unit start p (byte_at at byte) (Go t) None)) at step) (quiet_step at p.state t e) (record {
-      pieces = refl;
+      items = refl;
       halves = omega (arith, e);
       fulls = omega arith;
       frames = omega arith;
@@ -60,7 +60,7 @@ module _ (skipped : ℕ) (p : Progress State Piece) (at byte : ℕ) where
       hunt = (refl, refl);
     })
     | inr e ↦ subst (λ step. PortGrows (read_behind skipped p) (read_behind skipped (with_unit start p (byte_at at byte) (Go t) None)) at step) (half_step at p.state t e) (record {
-      pieces = inl refl;
+      items = inl refl;
       halves = omega (arith, e);
       fulls = omega arith;
       frames = omega arith;
@@ -68,24 +68,24 @@ module _ (skipped : ℕ) (p : Progress State Piece) (at byte : ℕ) where
       hunt = record { before = refl; behind = refl; skipped = refl };
     })
   ]
-  grows (Stop Full) l = record {
-    pieces = refl;
+  grows (End Full) l = record {
+    items = refl;
     halves = (let e = sum_push halves_in p.items Full (place_at at) in omega (arith, e, l));
     fulls = sum_push fulls_in p.items Full (place_at at);
     frames = sum_push frames_in p.items Full (place_at at);
     fault = refl;
     hunt = record { before = refl; behind = refl; skipped = refl };
   }
-  grows (Stop Half) l = record {
-    pieces = inr refl;
+  grows (End Half) l = record {
+    items = inr refl;
     halves = (let e = sum_push halves_in p.items Half (place_at at) in omega (arith, e, l));
     fulls = sum_push fulls_in p.items Half (place_at at);
     frames = sum_push frames_in p.items Half (place_at at);
     fault = refl;
     hunt = record { before = refl; behind = refl; skipped = refl };
   }
-  grows (Stop (Frame f h)) l = record {
-    pieces = (f, h, refl);
+  grows (End (Frame f h)) l = record {
+    items = (f, h, refl);
     halves = (let e = sum_push halves_in p.items (Frame f h) (place_at at) in omega (arith, e, l));
     fulls = sum_push fulls_in p.items (Frame f h) (place_at at);
     frames = sum_push frames_in p.items (Frame f h) (place_at at);
@@ -93,7 +93,7 @@ module _ (skipped : ℕ) (p : Progress State Piece) (at byte : ℕ) where
     hunt = record { before = refl; behind = refl; skipped = refl };
   }
   grows (Fail e) l = record {
-    pieces = refl;
+    items = refl;
     halves = omega arith;
     fulls = omega arith;
     frames = omega arith;
@@ -102,25 +102,25 @@ module _ (skipped : ℕ) (p : Progress State Piece) (at byte : ℕ) where
   }
 
 -- behind a fault nothing grows
-pub stays : (skipped : ℕ) (p : Progress State Piece) (b : Placed) (n : Next State Piece) (f : Place × Reason) → p.fault ≡ Some f →
+pub stays : (skipped : ℕ) (p : Progress State PortItem) (b : Placed) (n : Next State PortItem) (f : Place × Reason) → p.fault ≡ Some f →
     PortSettled (read_behind skipped p) (read_behind skipped (with_unit start p b n (Some f)))
-stays skipped p b (Go t) f e = record { pieces = refl; halves = refl; fault = sym e; skipped = refl; locked = refl }
-stays skipped p b (Stop v) f e = record { pieces = refl; halves = refl; fault = sym e; skipped = refl; locked = refl }
-stays skipped p b (Fail r) f e = record { pieces = refl; halves = refl; fault = sym e; skipped = refl; locked = refl }
+stays skipped p b (Go t) f e = record { items = refl; halves = refl; fault = sym e; skipped = refl; locked = refl }
+stays skipped p b (End v) f e = record { items = refl; halves = refl; fault = sym e; skipped = refl; locked = refl }
+stays skipped p b (Fail r) f e = record { items = refl; halves = refl; fault = sym e; skipped = refl; locked = refl }
 
--- with more pieces no count is less
-pub no_less : (f : Piece → ℕ) (old new more : List (Piece × Place)) → new ≡ old ++ more → sum_by f (pieces_of old) ≤ sum_by f (pieces_of new)
+-- with more items no count is less
+pub no_less : (f : PortItem → ℕ) (old new more : List (PortItem × Place)) → new ≡ old ++ more → sum_by f (items_of old) ≤ sum_by f (items_of new)
 no_less f old new more e =
-    let k : sum_by f (pieces_of new) ≡ sum_by f (pieces_of old) + sum_by f (pieces_of more) =
-    ap (λ (l : List (Piece × Place)). sum_by f (pieces_of l)) e ∙ ap (sum_by f) (map-append (λ (x : Piece × Place). x.0) old more) ∙ sum_by-append f (pieces_of old) (pieces_of more) in
+    let k : sum_by f (items_of new) ≡ sum_by f (items_of old) + sum_by f (items_of more) =
+    ap (λ (l : List (PortItem × Place)). sum_by f (items_of l)) e ∙ ap (sum_by f) (map-append (λ (x : PortItem × Place). x.0) old more) ∙ sum_by-append f (items_of old) (items_of more) in
     omega arith
 
 -- what is more stands at the byte
-pub rises : (skipped : ℕ) (p : Progress State Piece) (at byte : ℕ) (n : Next State Piece) → p.fault ≡ None → Lawful p.state n →
+pub rises : (skipped : ℕ) (p : Progress State PortItem) (at byte : ℕ) (n : Next State PortItem) → p.fault ≡ None → Lawful p.state n →
     PortRises (read_behind skipped p) (read_behind skipped (with_unit start p (byte_at at byte) n None)) at
 rises skipped p at byte (Go t) f l = record {
   more = [];
-  pieces = sym (append-nil p.items);
+  items = sym (append-nil p.items);
   all = tt;
   more_cells = [];
   cells = cells_fed skipped p (byte_at at byte) (Go t);
@@ -129,24 +129,24 @@ rises skipped p at byte (Go t) f l = record {
   frames = omega arith;
   fault = subst (λ (g : Option (Place × Reason)). FaultAt at g None) (sym f) tt;
 }
-rises skipped p at byte (Stop v) f l = record {
+rises skipped p at byte (End v) f l = record {
   more = (v, place_at at) ∷ [];
-  pieces = refl;
+  items = refl;
   all = (refl, tt);
-  more_cells = piece_cells (id_in (read_behind skipped p)) v;
-  cells = cells_fed skipped p (byte_at at byte) (Stop v);
+  more_cells = item_cells (id_in (read_behind skipped p)) v;
+  cells = cells_fed skipped p (byte_at at byte) (End v);
   halves = more v l;
   fulls = no_less fulls_in p.items (p.items ++ (v, place_at at) ∷ []) ((v, place_at at) ∷ []) refl;
   frames = no_less frames_in p.items (p.items ++ (v, place_at at) ∷ []) ((v, place_at at) ∷ []) refl;
   fault = subst (λ (g : Option (Place × Reason)). FaultAt at g None) (sym f) tt;
 } where
-  more : (v : Piece) → Lawful p.state (Stop v) → sum_by halves_in (pieces_of p.items) + p.state.halves ≤ sum_by halves_in (pieces_of (p.items ++ (v, place_at at) ∷ [])) + 0
+  more : (v : PortItem) → Lawful p.state (End v) → sum_by halves_in (items_of p.items) + p.state.halves ≤ sum_by halves_in (items_of (p.items ++ (v, place_at at) ∷ [])) + 0
   more Full l = let e = sum_push halves_in p.items Full (place_at at) in omega (arith, e, l)
   more Half l = let e = sum_push halves_in p.items Half (place_at at) in omega (arith, e, l)
   more (Frame g h) l = let e = sum_push halves_in p.items (Frame g h) (place_at at) in omega (arith, e, l)
 rises skipped p at byte (Fail e) f l = record {
   more = [];
-  pieces = sym (append-nil p.items);
+  items = sym (append-nil p.items);
   all = tt;
   more_cells = [];
   cells = cells_fed skipped p (byte_at at byte) (Fail e);

@@ -5,3 +5,5 @@ pub mod Growing
 pub mod Readings
 pub mod ReadingLaws
 pub mod Feeding
+pub mod Frames
+pub mod Blocks

@@ -7,7 +7,7 @@ use Rattle.trace_values.specs.Placed.{Place, Placed, byte_at, placed_from}
 use Rattle.trace_values.specs.Reading.{with_unit, advance}
 use Rattle.trace_values.specs.Stream.{FaultAt}
 use Rattle.trace_values.proofs.Standings.{some_of}
-use Rattle.frame_grammar.specs.Port.{Piece, Full, start, rule}
+use Rattle.frame_grammar.specs.Port.{PortItem, Full, start, rule}
 use Rattle.frame_grammar.specs.Reading.{fulls_in, frames_in}
 use Rattle.deformatter.specs.Reading.{PortStream, read_behind, all_skipped, port_stream, cells_in}
 use Rattle.deformatter.specs.Growth.{place_at, PortSettled, PortRises}
@@ -16,11 +16,11 @@ use Rattle.deformatter.proofs.Growing as growing
 use Rattle.deformatter.proofs.Readings.{port_hunt, IsRead, by_mode, seeks_old, seeks_new, locks_at, after}
 
 settled_refl : (s : PortStream) → PortSettled s s
-settled_refl s = record { pieces = refl; halves = refl; fault = refl; skipped = refl; locked = refl }
+settled_refl s = record { items = refl; halves = refl; fault = refl; skipped = refl; locked = refl }
 
 settled_then : (a b c : PortStream) → PortSettled a b → PortSettled b c → PortSettled a c
 settled_then a b c x y = record {
-  pieces = y.pieces ∙ x.pieces;
+  items = y.items ∙ x.items;
   halves = y.halves ∙ x.halves;
   fault = y.fault ∙ x.fault;
   skipped = y.skipped ∙ x.skipped;
@@ -55,13 +55,13 @@ settles h u (b ∷ w) e =
 rises_settled : (a b : PortStream) (at : ℕ) (f : Place × Reason) → a.fault ≡ Some f → PortSettled a b → PortRises a b at
 rises_settled a b at f e s = record {
   more = [];
-  pieces = s.pieces ∙ sym (append-nil a.pieces);
+  items = s.items ∙ sym (append-nil a.items);
   all = tt;
   more_cells = [];
-  cells = ap (λ (l : List (Piece × Place)). cells_in (record a { pieces = l })) s.pieces ∙ sym (append-nil (cells_in a));
+  cells = ap (λ (l : List (PortItem × Place)). cells_in (record a { items = l })) s.items ∙ sym (append-nil (cells_in a));
   halves = (let k = s.halves in omega arith);
-  fulls = growing.no_less fulls_in a.pieces b.pieces [] (s.pieces ∙ sym (append-nil a.pieces));
-  frames = growing.no_less frames_in a.pieces b.pieces [] (s.pieces ∙ sym (append-nil a.pieces));
+  fulls = growing.no_less fulls_in a.items b.items [] (s.items ∙ sym (append-nil a.items));
+  frames = growing.no_less frames_in a.items b.items [] (s.items ∙ sym (append-nil a.items));
   fault = subst (λ (g : Option (Place × Reason)). FaultAt at g b.fault) (sym e) (s.fault ∙ e);
 }
 
@@ -80,8 +80,8 @@ rises_seeking u at byte e =
     subst (λ (s : PortStream). PortRises s (port_stream true (u ++ byte_at at byte ∷ [])) at) (sym (seeks_old u e))
     (subst (λ (s : PortStream). PortRises (all_skipped (port_hunt u).units) s at) (sym (seeks_new u at byte e)) (by (locks_at (port_hunt u) byte))) where
       by : (t : Bool) → PortRises (all_skipped (port_hunt u).units) (after (port_hunt u) at byte t) at
-      by true = record { more = (Full, place_at at) ∷ []; pieces = refl; all = (refl, tt); more_cells = []; cells = refl; halves = omega arith; fulls = omega arith; frames = omega arith; fault = tt }
-      by false = record { more = []; pieces = refl; all = tt; more_cells = []; cells = refl; halves = omega arith; fulls = omega arith; frames = omega arith; fault = tt }
+      by true = record { more = (Full, place_at at) ∷ []; items = refl; all = (refl, tt); more_cells = []; cells = refl; halves = omega arith; fulls = omega arith; frames = omega arith; fault = tt }
+      by false = record { more = []; items = refl; all = tt; more_cells = []; cells = refl; halves = omega arith; fulls = omega arith; frames = omega arith; fault = tt }
 
 -- with one more byte there is more, and nothing is taken back
 pub rises : (h : Bool) (u : List Placed) (at byte : ℕ) → PortRises (port_stream h u) (port_stream h (u ++ byte_at at byte ∷ [])) at

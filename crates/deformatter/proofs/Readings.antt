@@ -10,7 +10,7 @@ use Rattle.trace_values.specs.Hunted.{pattern_of, Found, Hunt, run_after, begun,
 use Rattle.trace_values.specs.Moded.{StandsIn, hunts, is_locked, skipped_of}
 use Rattle.trace_values.proofs.Standings.{progress_push, none_of}
 use Rattle.trace_values.proofs.HuntedLemmas as hunting
-use Rattle.frame_grammar.specs.Port.{Piece, Full, State, Spells, why, start, rule}
+use Rattle.frame_grammar.specs.Port.{PortItem, Full, State, Spells, why, start, rule}
 use Rattle.frame_grammar.specs.Reading.{port_progress}
 use Rattle.frame_grammar.proofs.Deciding.{port_decided}
 use Rattle.port_sync.specs.Hunting.{pattern}
@@ -26,24 +26,24 @@ apart e = omega (arith, e)
 spelled : (w : List Placed) → units_of w ≡ pattern_of pattern → Spells Full w
 spelled w e = e
 
-abbrev pub port_hunt : List Placed → Hunt State Piece
+abbrev pub port_hunt : List Placed → Hunt State PortItem
 port_hunt u = hunt pattern Full rule start u
 
-abbrev Knew : List Placed → ℕ → Option (Found State Piece) → Type 0
+abbrev Knew : List Placed → ℕ → Option (Found State PortItem) → Type 0
 Knew u run o = hunting.Knew Spells why rule start port_decided pattern Full apart spelled u run o
 
 knows : (u : List Placed) → hunting.Knows Spells why rule start port_decided pattern Full apart spelled u (port_hunt u)
 knows u = hunting.knows Spells why rule start port_decided pattern Full apart spelled u
 
-knew : (u : List Placed) (o : Option (Found State Piece)) → (port_hunt u).found ≡ o → Knew u (port_hunt u).run o
-knew u o e = subst (λ (x : Option (Found State Piece)). Knew u (port_hunt u).run x) e (knows u).found
+knew : (u : List Placed) (o : Option (Found State PortItem)) → (port_hunt u).found ≡ o → Knew u (port_hunt u).run o
+knew u o e = subst (λ (x : Option (Found State PortItem)). Knew u (port_hunt u).run x) e (knows u).found
 
 -- the stream of a hunt is one
 pub hunt_is : (u : List Placed) → IsHunt u (port_stream true u)
 hunt_is u = by_found (port_hunt u).found refl where
-  by_found : (o : Option (Found State Piece)) → (port_hunt u).found ≡ o → IsHunt u (port_stream true u)
+  by_found : (o : Option (Found State PortItem)) → (port_hunt u).found ≡ o → IsHunt u (port_stream true u)
   by_found None e =
-      inl ((knew u None e).0, ap (λ (o : Option (Found State Piece)). port_hunted (port_hunt u).units o) e ∙ ap all_skipped (knows u).units)
+      inl ((knew u None e).0, ap (λ (o : Option (Found State PortItem)). port_hunted (port_hunt u).units o) e ∙ ap all_skipped (knows u).units)
   by_found (Some f) e =
       let k = knew u (Some f) e in
       inr (
@@ -51,20 +51,20 @@ hunt_is u = by_found (port_hunt u).found refl where
         k.1,
         k.2,
         k.3,
-        ap (λ (o : Option (Found State Piece)). port_hunted (port_hunt u).units o) e
-            ∙ ap (λ (p : Progress State Piece). read_behind f.skipped p) k.5 ∙ ap (λ (n : ℕ). read_behind n (port_progress k.1)) (sym k.4),
+        ap (λ (o : Option (Found State PortItem)). port_hunted (port_hunt u).units o) e
+            ∙ ap (λ (p : Progress State PortItem). read_behind f.skipped p) k.5 ∙ ap (λ (n : ℕ). read_behind n (port_progress k.1)) (sym k.4),
       )
 
-from_append : (u w : List Placed) (h : Hunt State Piece) → hunt_from pattern Full rule start h (u ++ w) ≡ hunt_from pattern Full rule start (hunt_from pattern Full rule start h u) w
+pub from_append : (u w : List Placed) (h : Hunt State PortItem) → hunt_from pattern Full rule start h (u ++ w) ≡ hunt_from pattern Full rule start (hunt_from pattern Full rule start h u) w
 from_append [] w h = refl
 from_append (b ∷ u) w h = from_append u w (hunt_on pattern Full rule start h b h.found)
 
-pub hunt_push : (u : List Placed) (b : Placed) (f : Option (Found State Piece)) → (port_hunt u).found ≡ f → port_hunt (u ++ b ∷ []) ≡ hunt_on pattern Full rule start (port_hunt u) b f
-hunt_push u b f e = from_append u (b ∷ []) no_hunt ∙ ap (λ (x : Option (Found State Piece)). hunt_on pattern Full rule start (port_hunt u) b x) e
+pub hunt_push : (u : List Placed) (b : Placed) (f : Option (Found State PortItem)) → (port_hunt u).found ≡ f → port_hunt (u ++ b ∷ []) ≡ hunt_on pattern Full rule start (port_hunt u) b f
+hunt_push u b f e = from_append u (b ∷ []) no_hunt ∙ ap (λ (x : Option (Found State PortItem)). hunt_on pattern Full rule start (port_hunt u) b x) e
 
 -- the list is read, from some byte of it on
 pub record IsRead (hunts : Bool) (u : List Placed) : Type 0 where
-  pub progress : Progress State Piece
+  pub progress : Progress State PortItem
   pub skipped : ℕ
   pub sound : Sound progress.state
   pub counted : progress.fault ≡ None → length progress.rest ≡ count_of progress.state
@@ -78,50 +78,50 @@ aligned_reads u = record {
   sound = sound u;
   counted = counted u;
   old = refl;
-  new = λ b. ap (λ (p : Progress State Piece). read_behind 0 p) (progress_push rule start u b);
+  new = λ b. ap (λ (p : Progress State PortItem). read_behind 0 p) (progress_push rule start u b);
 }
 
-pub locked_sound : (u : List Placed) (f : Found State Piece) → (port_hunt u).found ≡ Some f → Sound f.reading.state
-locked_sound u f e = let k = knew u (Some f) e in subst (λ (p : Progress State Piece). Sound p.state) (sym k.5) (sound k.1)
+pub locked_sound : (u : List Placed) (f : Found State PortItem) → (port_hunt u).found ≡ Some f → Sound f.reading.state
+locked_sound u f e = let k = knew u (Some f) e in subst (λ (p : Progress State PortItem). Sound p.state) (sym k.5) (sound k.1)
 
-pub locked_counted : (u : List Placed) (f : Found State Piece) → (port_hunt u).found ≡ Some f → f.reading.fault ≡ None → length f.reading.rest ≡ count_of f.reading.state
+pub locked_counted : (u : List Placed) (f : Found State PortItem) → (port_hunt u).found ≡ Some f → f.reading.fault ≡ None → length f.reading.rest ≡ count_of f.reading.state
 locked_counted u f e =
     let k = knew u (Some f) e in
-    subst (λ (p : Progress State Piece). p.fault ≡ None → length p.rest ≡ count_of p.state) (sym k.5) (counted k.1)
+    subst (λ (p : Progress State PortItem). p.fault ≡ None → length p.rest ≡ count_of p.state) (sym k.5) (counted k.1)
 
-abbrev pub locked_reads : (u : List Placed) (f : Found State Piece) → (port_hunt u).found ≡ Some f → IsRead true u
+abbrev pub locked_reads : (u : List Placed) (f : Found State PortItem) → (port_hunt u).found ≡ Some f → IsRead true u
 locked_reads u f e = record {
   progress = f.reading;
   skipped = f.skipped;
   sound = locked_sound u f e;
   counted = locked_counted u f e;
-  old = ap (λ (o : Option (Found State Piece)). port_hunted (port_hunt u).units o) e;
-  new = λ b. ap (λ (h : Hunt State Piece). port_hunted h.units h.found) (hunt_push u b (Some f) e);
+  old = ap (λ (o : Option (Found State PortItem)). port_hunted (port_hunt u).units o) e;
+  new = λ b. ap (λ (h : Hunt State PortItem). port_hunted h.units h.found) (hunt_push u b (Some f) e);
 }
 
 -- or a hunt seeks in it
 pub seeks_old : (u : List Placed) → (port_hunt u).found ≡ None → port_stream true u ≡ all_skipped (port_hunt u).units
-seeks_old u e = ap (λ (o : Option (Found State Piece)). port_hunted (port_hunt u).units o) e
+seeks_old u e = ap (λ (o : Option (Found State PortItem)). port_hunted (port_hunt u).units o) e
 
 pub by_mode : (h : Bool) (u : List Placed) → IsRead h u ⊎ ((h ≡ true) × ((port_hunt u).found ≡ None))
 by_mode false u = inl (aligned_reads u)
 by_mode true u = by_found (port_hunt u).found refl where
-  by_found : (o : Option (Found State Piece)) → (port_hunt u).found ≡ o → IsRead true u ⊎ ((true ≡ true) × ((port_hunt u).found ≡ None))
+  by_found : (o : Option (Found State PortItem)) → (port_hunt u).found ≡ o → IsRead true u ⊎ ((true ≡ true) × ((port_hunt u).found ≡ None))
   by_found None e = inr (refl, e)
   by_found (Some f) e = inl (locked_reads u f e)
 
-abbrev pub locks_at : Hunt State Piece → ℕ → Bool
+abbrev pub locks_at : Hunt State PortItem → ℕ → Bool
 locks_at h byte = byte == 127 && h.run == 3
 
-abbrev pub after : Hunt State Piece → ℕ → ℕ → Bool → PortStream
+abbrev pub after : Hunt State PortItem → ℕ → ℕ → Bool → PortStream
 after h at byte t = cond t (read_behind (h.units - 3) (begun start Full (record { at = at; half = 0 }))) (all_skipped (suc h.units))
 
 -- one more byte of a hunt that seeks
 pub seeks_new : (u : List Placed) (at byte : ℕ) → (port_hunt u).found ≡ None → port_stream true (u ++ byte_at at byte ∷ []) ≡ after (port_hunt u) at byte (locks_at (port_hunt u) byte)
 seeks_new u at byte e =
-    ap (λ (h : Hunt State Piece). port_hunted h.units h.found) (hunt_push u (byte_at at byte) None e) ∙ by (locks_at (port_hunt u) byte) where
+    ap (λ (h : Hunt State PortItem). port_hunted h.units h.found) (hunt_push u (byte_at at byte) None e) ∙ by (locks_at (port_hunt u) byte) where
       by : (t : Bool) →
-          (let h : Hunt State Piece = cond t (record {
+          (let h : Hunt State PortItem = cond t (record {
             units = suc (port_hunt u).units;
             run = 0;
             found = Some (record { skipped = (port_hunt u).units - 3; place = record { at = at; half = 0 }; reading = begun start Full (record { at = at; half = 0 }) });
@@ -139,13 +139,13 @@ pub record IsReadAt (hunts : Bool) (s : State) (u : List Placed) : Type 0 where
 abbrev pub is_read : (m : Mode) (live : Bool) (s : State) (u : List Placed) → live ≡ true → is_locked m ≡ true → StandsIn pattern Full rule start m live s u → IsReadAt (hunts m) s u
 is_read Aligned live s u l k r = record {
   read = aligned_reads u;
-  state = r.state_is l;
+  state = r.state_is;
   fault = none_of (port_progress u).fault (sym l ∙ r.live_is);
 }
 is_read (Hunting run skipped) live s u l k r = cc
 is_read (Locked skipped) live s u l k r = record {
   read = locked_reads u r.found r.some;
-  state = r.stands.state_is l;
+  state = r.stands.state_is;
   fault = none_of r.found.reading.fault (sym l ∙ r.stands.live_is);
 }
 
@@ -184,7 +184,7 @@ shows (Hunting run skipped) live s u r =
     (record { live_is = r.1; locked_is = refl; tail_is = λ _. ap count_of r.2; skipped_is = λ _. refl })
 shows (Locked skipped) live s u r = by live refl where
   old : port_stream true u ≡ read_behind r.found.skipped r.found.reading
-  old = ap (λ (o : Option (Found State Piece)). port_hunted (port_hunt u).units o) r.some
+  old = ap (λ (o : Option (Found State PortItem)). port_hunted (port_hunt u).units o) r.some
 
   by : (t : Bool) → live ≡ t → PortShows live true (count_of s) skipped (port_stream true u)
   by true e = subst (λ (x : Bool). PortShows x true (count_of s) skipped (port_stream true u)) (sym e) (shows_read (Locked skipped) s u skipped (is_read (Locked skipped) live s u e refl r) refl r.skipped_is)

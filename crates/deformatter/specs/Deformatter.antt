@@ -17,7 +17,7 @@ use Rattle.deformatter.specs.declared.deformatter.Deformatter.{Deformatter}
 abbrev pub mode_of : Deformatter → Mode
 mode_of d = mode_in d.phase d.hunter d.skipped
 
--- the state of the unfinished piece
+-- the state of the unfinished item
 abbrev pub state_of : Deformatter → State
 state_of d = state (aligner.left_of d.aligner) (placed_of d.frame) (halves_of d.frame) (aligner.part_of d.aligner) d.first_at
 
@@ -37,7 +37,7 @@ is_live d = aligner.is_live d.aligner
 abbrev pub has_locked : Deformatter → Bool
 has_locked d = is_locked (mode_of d)
 
--- how many bytes stand behind the last whole piece
+-- how many bytes stand behind the last whole item
 abbrev pub tail_of : Deformatter → ℕ
 tail_of d = count_of (state_of d)
 
@@ -46,7 +46,7 @@ abbrev pub skipped_by : Deformatter → ℕ
 skipped_by d = skipped_of (mode_of d)
 
 -- Before its lock it keeps how far the hunt has come; else it is live exactly where the reading of the list has no fault,
--- and keeps the unfinished piece of that reading, and the ID in force.
-pub record IsOf (d : Deformatter) (u : List Placed) : Type 0 where
+-- and keeps the unfinished item of that reading, and the ID in force.
+pub record Stands (d : Deformatter) (u : List Placed) : Type 0 where
   pub reads : StandsIn pattern Full rule start (mode_of d) (is_live d) (state_of d) u
   pub id : is_live d ≡ true → id_of d ≡ id_in (port_stream (is_hunter d) u)

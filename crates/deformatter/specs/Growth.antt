@@ -4,7 +4,7 @@ use Rattle.trace_values.specs.declared.cell.Cell.{Cell}
 use Rattle.trace_values.specs.declared.fault.Reason.{Reason}
 use Rattle.trace_values.specs.Placed.{Place, Placed}
 use Rattle.trace_values.specs.Stream.{FaultAt}
-use Rattle.frame_grammar.specs.Port.{Piece, Full, Half, Frame}
+use Rattle.frame_grammar.specs.Port.{PortItem, Full, Half, Frame}
 use Rattle.deformatter.specs.Reading.{PortStream, cells_in, fulls_of, frames_of}
 use Rattle.deformatter.specs.declared.step.PortStep.{PortStep}
 use Rattle.deformatter.specs.declared.step.PortStep.TheVariants.{Quiet, Half as HalfEnds, Full as FullEnds, Frame as FrameEnds, Locked, Fault as Faulty}
@@ -13,14 +13,14 @@ use Rattle.deformatter.specs.declared.step.PortStep.TheVariants.{Quiet, Half as 
 abbrev pub place_at : ℕ → Place
 place_at at = record { at = at; half = 0 }
 
--- the piece that a step ends; a half synchronisation inside a frame is part of the frame
-abbrev pub PiecesBy : List (Piece × Place) → List (Piece × Place) → ℕ → PortStep → Type 0
-PiecesBy old new at Quiet = new ≡ old
-PiecesBy old new at HalfEnds = (new ≡ old) ⊎ (new ≡ old ++ (Half, place_at at) ∷ [])
-PiecesBy old new at FullEnds = new ≡ old ++ (Full, place_at at) ∷ []
-PiecesBy old new at FrameEnds = (bytes : List Placed) × (halves : ℕ) × (new ≡ old ++ (Frame bytes halves, place_at at) ∷ [])
-PiecesBy old new at (Locked skipped) = new ≡ old ++ (Full, place_at at) ∷ []
-PiecesBy old new at (Faulty f) = new ≡ old
+-- the item that a step ends; a half synchronisation inside a frame is part of the frame
+abbrev pub ItemsBy : List (PortItem × Place) → List (PortItem × Place) → ℕ → PortStep → Type 0
+ItemsBy old new at Quiet = new ≡ old
+ItemsBy old new at HalfEnds = (new ≡ old) ⊎ (new ≡ old ++ (Half, place_at at) ∷ [])
+ItemsBy old new at FullEnds = new ≡ old ++ (Full, place_at at) ∷ []
+ItemsBy old new at FrameEnds = (bytes : List Placed) × (halves : ℕ) × (new ≡ old ++ (Frame bytes halves, place_at at) ∷ [])
+ItemsBy old new at (Locked skipped) = new ≡ old ++ (Full, place_at at) ∷ []
+ItemsBy old new at (Faulty f) = new ≡ old
 
 -- how many full synchronisations, half synchronisations and frames a step ends
 abbrev pub fulls_by : PortStep → ℕ
@@ -61,7 +61,7 @@ HuntBy old new at step = Reads old new
 
 -- With one more byte, at this offset, the reading grew from old to new, and the step says by what.
 pub record PortGrows (old new : PortStream) (at : ℕ) (step : PortStep) : Type 0 where
-  pub pieces : PiecesBy old.pieces new.pieces at step
+  pub items : ItemsBy old.items new.items at step
   pub halves : new.halves ≡ old.halves + halves_by step
   pub fulls : fulls_of new ≡ fulls_of old + fulls_by step
   pub frames : frames_of new ≡ frames_of old + frames_by step
@@ -77,21 +77,21 @@ pub record PortShows (live locked : Bool) (tail skipped : ℕ) (s : PortStream) 
 
 -- behind a fault nothing is read
 pub record PortSettled (old new : PortStream) : Type 0 where
-  pub pieces : new.pieces ≡ old.pieces
+  pub items : new.items ≡ old.items
   pub halves : new.halves ≡ old.halves
   pub fault : new.fault ≡ old.fault
   pub skipped : new.skipped ≡ old.skipped
   pub locked : new.locked ≡ old.locked
 
--- all of these pieces ended at this offset
-abbrev pub AllEndAt : ℕ → List (Piece × Place) → Type 0
+-- all of these items ended at this offset
+abbrev pub AllEndAt : ℕ → List (PortItem × Place) → Type 0
 AllEndAt at [] = Unit {0}
 AllEndAt at (x ∷ xs) = (x.1 ≡ place_at at) × AllEndAt at xs
 
 -- With one more byte at this offset a reading has more, what is more stands there, and nothing is taken back.
 pub record PortRises (old new : PortStream) (at : ℕ) : Type 0 where
-  pub more : List (Piece × Place)
-  pub pieces : new.pieces ≡ old.pieces ++ more
+  pub more : List (PortItem × Place)
+  pub items : new.items ≡ old.items ++ more
   pub all : AllEndAt at more
   pub more_cells : List Cell
   pub cells : cells_in new ≡ cells_in old ++ more_cells

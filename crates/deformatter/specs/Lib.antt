@@ -4,3 +4,5 @@ pub mod Unfinished
 pub mod Rule
 pub mod Phase
 pub mod Deformatter
+pub mod Frames
+pub mod Block

@@ -7,28 +7,28 @@ use Rattle.trace_values.specs.Placed.{Place, Placed, units_of}
 use Rattle.trace_values.specs.Hunt.{IsNowhere, IsFirst}
 use Rattle.trace_values.specs.Hunted.{pattern_of, Found, hunt}
 use Rattle.trace_values.specs.Reading.{Progress}
-use Rattle.frame_grammar.specs.Port.{Piece, Full, State, start, rule}
-use Rattle.frame_grammar.specs.Reading.{port_progress, cells_of_pieces, id_of_pieces, fulls_in, halves_in, frames_in}
+use Rattle.frame_grammar.specs.Port.{PortItem, Full, State, start, rule}
+use Rattle.frame_grammar.specs.Reading.{port_progress, cells_of_items, id_of_items, fulls_in, halves_in, frames_in}
 use Rattle.port_sync.specs.Hunting.{pattern}
 
--- What a port's bytes read as: the pieces, each with the place of its last byte; how many half synchronisations, those in
--- an unfinished frame too; the fault; how many bytes are behind the last whole piece; how many were skipped; and whether it reads.
+-- What a port's bytes read as: the items, each with the place of its last byte; how many half synchronisations, those in
+-- an unfinished frame too; the fault; how many bytes are behind the last whole item; how many were skipped; and whether it reads.
 pub record PortStream : Type 0 where
-  pub pieces : List (Piece × Place)
+  pub items : List (PortItem × Place)
   pub halves : ℕ
   pub fault : Option (Place × Reason)
   pub tail : ℕ
   pub skipped : ℕ
   pub locked : Bool
 
-abbrev pub pieces_of : List (Piece × Place) → List Piece
-pieces_of pieces = map (λ x. x.0) pieces
+abbrev pub items_of : List (PortItem × Place) → List PortItem
+items_of items = map (λ x. x.0) items
 
 -- a reading behind so many skipped bytes
-abbrev pub read_behind : ℕ → Progress State Piece → PortStream
+abbrev pub read_behind : ℕ → Progress State PortItem → PortStream
 read_behind skipped p = record {
-  pieces = p.items;
-  halves = sum_by halves_in (pieces_of p.items) + p.state.halves;
+  items = p.items;
+  halves = sum_by halves_in (items_of p.items) + p.state.halves;
   fault = p.fault;
   tail = length p.rest;
   skipped = skipped;
@@ -37,9 +37,9 @@ read_behind skipped p = record {
 
 -- a hunt that has skipped so many bytes
 abbrev pub all_skipped : ℕ → PortStream
-all_skipped bytes = record { pieces = []; halves = 0; fault = None; tail = 0; skipped = bytes; locked = false }
+all_skipped bytes = record { items = []; halves = 0; fault = None; tail = 0; skipped = bytes; locked = false }
 
-abbrev pub port_hunted : ℕ → Option (Found State Piece) → PortStream
+abbrev pub port_hunted : ℕ → Option (Found State PortItem) → PortStream
 port_hunted bytes None = all_skipped bytes
 port_hunted bytes (Some found) = read_behind found.skipped found.reading
 
@@ -50,17 +50,17 @@ port_stream true u = port_hunted (hunt pattern Full rule start u).units (hunt pa
 
 -- the cells of its frames, with no ID before the first one, and the ID after the last
 abbrev pub cells_in : PortStream → List Cell
-cells_in s = cells_of_pieces None (pieces_of s.pieces)
+cells_in s = cells_of_items None (items_of s.items)
 
 abbrev pub id_in : PortStream → Option ℕ
-id_in s = id_of_pieces None (pieces_of s.pieces)
+id_in s = id_of_items None (items_of s.items)
 
 -- how many full synchronisations and frames there are
 abbrev pub fulls_of : PortStream → ℕ
-fulls_of s = sum_by fulls_in (pieces_of s.pieces)
+fulls_of s = sum_by fulls_in (items_of s.items)
 
 abbrev pub frames_of : PortStream → ℕ
-frames_of s = sum_by frames_in (pieces_of s.pieces)
+frames_of s = sum_by frames_in (items_of s.items)
 
 -- What a hunt is: the pattern stands nowhere, and all bytes are skipped; or the bytes before its least place are
 -- skipped, and the bytes from there on are read.

@@ -2,13 +2,13 @@
 use Rattle.std.specs.Prelude.{ℕ, ◌+◌, ◌*◌, List, [], length, ◌==◌, if◌then◌else◌, Option}
 use Rattle.trace_values.specs.declared.cell.Cell.{Cell}
 use Rattle.trace_values.specs.declared.next.Next.{Next}
-use Rattle.trace_values.specs.declared.next.Next.TheVariants.{Go, Stop, Fail}
-use Rattle.frame_grammar.specs.Port.{Piece, Full, Half, Frame, Part, Between, First, One, Two, Three, State}
-use Rattle.frame_grammar.specs.Reading.{piece_cells, piece_id}
+use Rattle.trace_values.specs.declared.next.Next.TheVariants.{Go, End, Fail}
+use Rattle.frame_grammar.specs.Port.{PortItem, Full, Half, Frame, Part, Between, First, One, Two, Three, State}
+use Rattle.frame_grammar.specs.Reading.{item_cells, item_id}
 use Rattle.deformatter.specs.declared.step.PortStep.{PortStep}
 use Rattle.deformatter.specs.declared.step.PortStep.TheVariants.{Quiet, Half as HalfEnds, Full as FullEnds, Frame as FrameEnds, Fault as Faulty}
 
--- the bytes of an unfinished piece: those of its frame, of the half synchronisations between them, and of the unfinished part
+-- the bytes of an unfinished item: those of its frame, of the half synchronisations between them, and of the unfinished part
 abbrev pub part_size : Part → ℕ
 part_size Between = 0
 part_size (First a) = 1
@@ -19,25 +19,25 @@ part_size Three = 3
 abbrev pub count_of : State → ℕ
 count_of s = length s.bytes + 2 * s.halves + part_size s.part
 
--- the step that ends a piece
-abbrev pub piece_step : Piece → PortStep
-piece_step Full = FullEnds
-piece_step Half = HalfEnds
-piece_step (Frame bytes halves) = FrameEnds
+-- the step that ends an item
+abbrev pub item_step : PortItem → PortStep
+item_step Full = FullEnds
+item_step Half = HalfEnds
+item_step (Frame bytes halves) = FrameEnds
 
 -- the step at this offset from a state: where a frame goes on, a half synchronisation has ended or nothing
-abbrev pub step_by : ℕ → State → Next State Piece → PortStep
+abbrev pub step_by : ℕ → State → Next State PortItem → PortStep
 step_by at s (Go t) = if t.halves == s.halves then Quiet else HalfEnds
-step_by at s (Stop piece) = piece_step piece
+step_by at s (End item) = item_step item
 step_by at s (Fail e) = Faulty (record { at = at; half = 0; reason = e })
 
 -- the cells given, and the ID in force behind the byte
-abbrev pub cells_by : Option ℕ → Next State Piece → List Cell
+abbrev pub cells_by : Option ℕ → Next State PortItem → List Cell
 cells_by id (Go t) = []
-cells_by id (Stop piece) = piece_cells id piece
+cells_by id (End item) = item_cells id item
 cells_by id (Fail e) = []
 
-abbrev pub id_by : Option ℕ → Next State Piece → Option ℕ
+abbrev pub id_by : Option ℕ → Next State PortItem → Option ℕ
 id_by id (Go t) = id
-id_by id (Stop piece) = piece_id id piece
+id_by id (End item) = item_id id item
 id_by id (Fail e) = id

@@ -39,19 +39,23 @@ pub struct Deformatter {
 }
 
 impl Deformatter {
-    ghost use Rattle.std.specs.Prelude.{◌^◌, ◌++◌, [], ◌∷◌, List, false, is_none};
+    ghost use Rattle.std.specs.Prelude.{◌^◌, ◌++◌, [], ◌∷◌, ℕ, List, false, is_none};
     ghost use Rattle.port_sync.specs.Hunting.{run_of};
-    ghost use Rattle.trace_values.specs.Placed.{Placed, byte_at};
+    ghost use Rattle.std.specs.Prelude.{IsTrue};
+    ghost use Rattle.trace_values.specs.Placed.{Placed, units_of, byte_at};
+    ghost use Rattle.frame_grammar.specs.Frame.{id_after};
+    ghost use Rattle.deformatter.specs.Frames.{IsBetween, GrowsByFrame};
+    ghost use Rattle.deformatter.specs.declared.step.PortStep.TheVariants.{Quiet};
     ghost use Rattle.trace_values.specs.Standing.{live_after, state_after};
-    ghost use Rattle.frame_grammar.specs.Port.{start, rule};
+    ghost use Rattle.frame_grammar.specs.Port.{Frame, Spells, start, rule};
     ghost use Rattle.deformatter.specs.Reading.{port_stream, cells_in};
     ghost use Rattle.deformatter.specs.Growth.{PortGrows, goes_on};
     ghost use Rattle.deformatter.specs.Rule.{step_by, cells_by, id_by};
-    ghost use Rattle.deformatter.specs.Deformatter.{IsOf, mode_of, state_of, id_of, is_hunter, is_live, has_locked, tail_of, skipped_by};
+    ghost use Rattle.deformatter.specs.Deformatter.{Stands, mode_of, state_of, id_of, is_hunter, is_live, has_locked, tail_of, skipped_by};
 
     /// A deformatter of bytes that begin with a frame or a synchronisation.
     pub fn aligned() -> Deformatter
-        ensures fresh { IsOf result [] }
+        ensures fresh { Stands result [] }
         ensures mode { is_hunter result ≡ false }
         ensures live { is_live result ≡ true }
         ensures empty { (tail_of result ≡ 0) × (skipped_by result ≡ 0) }
@@ -61,7 +65,7 @@ impl Deformatter {
 
     /// A deformatter of bytes that may begin anywhere: it skips them up to the first full synchronisation.
     pub fn hunting() -> Deformatter
-        ensures fresh { IsOf result [] }
+        ensures fresh { Stands result [] }
         ensures mode { is_hunter result ≡ true }
         ensures live { is_live result ≡ true }
         ensures empty { (tail_of result ≡ 0) × (skipped_by result ≡ 0) }
@@ -93,7 +97,7 @@ impl Deformatter {
     #[inline]
     pub fn is_live(&self) -> bool
         ensures value { result ≡ is_live self.now }
-        ensures list { (u : List Placed) → IsOf self.now u → result ≡ is_none (port_stream (is_hunter self.now) u).fault }
+        ensures list { (u : List Placed) → Stands self.now u → result ≡ is_none (port_stream (is_hunter self.now) u).fault }
     {
         self.aligner.is_live()
     }
@@ -101,7 +105,7 @@ impl Deformatter {
     /// True from the start where the reading begins with the first byte, and else from the lock on.
     pub fn is_locked(&self) -> bool
         ensures value { result ≡ has_locked self.now }
-        ensures list { (u : List Placed) → IsOf self.now u → result ≡ (port_stream (is_hunter self.now) u).locked }
+        ensures list { (u : List Placed) → Stands self.now u → result ≡ (port_stream (is_hunter self.now) u).locked }
     {
         match self.phase {
             Phase::Hunting => false,
@@ -113,7 +117,7 @@ impl Deformatter {
     pub fn skipped(&self) -> u64
         requires { is_live self.now ≡ true }
         ensures value { result ≡ skipped_by self.now }
-        ensures list { (u : List Placed) → IsOf self.now u → result ≡ (port_stream (is_hunter self.now) u).skipped }
+        ensures list { (u : List Placed) → Stands self.now u → result ≡ (port_stream (is_hunter self.now) u).skipped }
     {
         match self.phase {
             Phase::Aligned => 0,
@@ -126,9 +130,45 @@ impl Deformatter {
     pub fn tail(&self) -> u64
         requires { is_live self.now ≡ true }
         ensures value { result ≡ tail_of self.now }
-        ensures list { (u : List Placed) → IsOf self.now u → result ≡ (port_stream (is_hunter self.now) u).tail }
+        ensures list { (u : List Placed) → Stands self.now u → result ≡ (port_stream (is_hunter self.now) u).tail }
     {
         self.frame.len() as u64 + 2 * self.frame.halves() + u64::from(self.aligner.len())
+    }
+
+    /// Only where nothing of a frame or a synchronisation is there, and the reading has begun.
+    #[inline]
+    pub fn is_between(&self) -> bool
+        ensures { IsTrue result → IsBetween self.now }
+    {
+        match self.phase {
+            Phase::Hunting => false,
+            Phase::Aligned | Phase::Locked => self.frame.is_empty() && self.aligner.len() == 0,
+        }
+    }
+
+    /// The ID in force.
+    #[inline]
+    pub fn id(&self) -> Option<SourceId>
+        ensures { result ≡ id_of self.now }
+    {
+        self.id
+    }
+
+    /// Passes over a whole frame, whose bytes the caller takes: `after` is the ID after it. Nothing of a frame or a
+    /// synchronisation may be there.
+    #[inline]
+    pub fn pass_frame(&mut self, after: Option<SourceId>)
+        requires live { is_live self.old ≡ true }
+        requires between { IsBetween self.old }
+        ensures same { is_hunter self.new ≡ is_hunter self.old }
+        ensures list { (u w f : List Placed) (halves : ℕ) → Stands self.old u → Spells (Frame f halves) w →
+            after ≡ id_after (units_of f) (id_of self.old) → Stands self.new (u ++ w) }
+        ensures grows { (u w f : List Placed) (halves : ℕ) → Stands self.old u → Spells (Frame f halves) w →
+            GrowsByFrame (port_stream (is_hunter self.old) u) (port_stream (is_hunter self.old) (u ++ w)) w f halves (id_of self.old) }
+        ensures live { is_live self.new ≡ true }
+        ensures few { tail_of self.new + skipped_by self.new ≡ tail_of self.old + skipped_by self.old }
+    {
+        self.id = after;
     }
 
     /// Takes the next byte, which stands at this offset of the capture. Where the byte ends a frame, `out`
@@ -140,13 +180,15 @@ impl Deformatter {
         requires room { tail_of self.old ≤ 2 ^ 60 }
         requires count { skipped_by self.old ≤ 2 ^ 60 }
         ensures same { is_hunter self.new ≡ is_hunter self.old }
-        ensures list { (u : List Placed) → IsOf self.old u → IsOf self.new (u ++ byte_at at byte ∷ []) }
-        ensures step { (u : List Placed) → IsOf self.old u →
+        ensures list { (u : List Placed) → Stands self.old u → Stands self.new (u ++ byte_at at byte ∷ []) }
+        ensures step { (u : List Placed) → Stands self.old u →
             PortGrows (port_stream (is_hunter self.old) u) (port_stream (is_hunter self.old) (u ++ byte_at at byte ∷ [])) at result }
-        ensures cells { (u : List Placed) → IsOf self.old u →
+        ensures cells { (u : List Placed) → Stands self.old u →
             cells_in (port_stream (is_hunter self.old) (u ++ byte_at at byte ∷ [])) ≡ cells_in (port_stream (is_hunter self.old) u) ++ out.new.items }
         ensures live { is_live self.new ≡ goes_on result }
         ensures few { tail_of self.new + skipped_by self.new ≤ tail_of self.old + skipped_by self.old + 1 }
+        ensures each { (tail_of self.new ≤ tail_of self.old + 1) × (skipped_by self.new ≤ skipped_by self.old + 1) }
+        ensures quiet { result ≡ Quiet → out.new.items ≡ [] }
     {
         if let Phase::Hunting = self.phase {
             if self.hunter.push(byte) {

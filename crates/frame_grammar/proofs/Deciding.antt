@@ -5,16 +5,16 @@ use Rattle.std.proofs.lemmas.Bool.Decides.{nat_tests}
 use Rattle.trace_values.specs.declared.fault.Reason.{Reason}
 use Rattle.trace_values.specs.declared.fault.Reason.TheVariants.{BadSync, SyncInFrame}
 use Rattle.trace_values.specs.declared.next.Next.{Next}
-use Rattle.trace_values.specs.declared.next.Next.TheVariants.{Go, Stop, Fail}
+use Rattle.trace_values.specs.declared.next.Next.TheVariants.{Go, End, Fail}
 use Rattle.trace_values.specs.Placed.{Placed, byte_at, units_of}
 use Rattle.trace_values.specs.Walk.{Walked, Within, Whole, after, walk, Decides}
 use Rattle.trace_values.proofs.Walks as walks
-use Rattle.frame_grammar.specs.Port.{Piece, Full, Half, Frame, half_spelling, IsWord, IsWords, Spells, last_unit, why, Part, Between, First, One, Two, Three, State, start, word_ended, half_ended, full_begun, rule}
+use Rattle.frame_grammar.specs.Port.{PortItem, Full, Half, Frame, half_spelling, IsWord, IsWords, Spells, last_unit, why, Part, Between, First, One, Two, Three, State, start, word_ended, half_ended, full_begun, rule}
 
 abbrev pub at : ℕ → List Placed → ℕ → Part → State
 at n f h p = record { left = n; bytes = f; halves = h; part = p }
 
-abbrev pub on : State → List Placed → Walked State Piece
+abbrev pub on : State → List Placed → Walked State PortItem
 on s r = walk rule s r
 
 pub yes : (a b : ℕ) → a ≡ b → (a == b) ≡ true
@@ -30,19 +30,19 @@ pub is_no : (a b : ℕ) → (a == b) ≡ false → a ≢ b
 is_no a b e h = let k = yes a b h in cc
 
 -- the walk behind a unit of which the rule says this
-says : (s : State) (x : Placed) (r : List Placed) (y : Next State Piece) → rule s x ≡ y → on s (x ∷ r) ≡ after y (λ t. on t r) r
-says s x r y e = ap (λ (z : Next State Piece). after z (λ t. on t r) r) e
+says : (s : State) (x : Placed) (r : List Placed) (y : Next State PortItem) → rule s x ≡ y → on s (x ∷ r) ≡ after y (λ t. on t r) r
+says s x r y e = ap (λ (z : Next State PortItem). after z (λ t. on t r) r) e
 
 mark : (n : ℕ) (f : List Placed) (h : ℕ) (x : Placed) → x.unit ≡ 255 → rule (at n f h Between) x ≡ Go (at n f h One)
-mark n f h x e = ap (λ (b : Bool). cond {A = Next State Piece} b (Go (at n f h One)) (Go (at n f h (First x)))) (yes x.unit 255 e)
+mark n f h x e = ap (λ (b : Bool). cond {A = Next State PortItem} b (Go (at n f h One)) (Go (at n f h (First x)))) (yes x.unit 255 e)
 
 word : (n : ℕ) (f : List Placed) (h : ℕ) (x : Placed) → x.unit ≢ 255 → rule (at n f h Between) x ≡ Go (at n f h (First x))
-word n f h x e = ap (λ (b : Bool). cond {A = Next State Piece} b (Go (at n f h One)) (Go (at n f h (First x)))) (no x.unit 255 e)
+word n f h x e = ap (λ (b : Bool). cond {A = Next State PortItem} b (Go (at n f h One)) (Go (at n f h (First x)))) (no x.unit 255 e)
 
 inner : (n : ℕ) (f : List Placed) (h : ℕ) (x : Placed) → x.unit ≡ 127 → n ≢ 7 → rule (at n f h One) x ≡ Go (at n f (h + 1) Between)
 inner n f h x e l =
     ap (λ (b : Bool). cond b (half_ended (at n f h One)) (cond (x.unit == 255) (full_begun (at n f h One)) (Fail BadSync))) (yes x.unit 127 e)
-    ∙ ap (λ (b : Bool). cond {A = Next State Piece} b (Stop Half) (Go (at n f (h + 1) Between))) (no n 7 l)
+    ∙ ap (λ (b : Bool). cond {A = Next State PortItem} b (End Half) (Go (at n f (h + 1) Between))) (no n 7 l)
 
 -- complete
 halves_on : (k n : ℕ) (f : List Placed) (h : ℕ) (g r : List Placed) → n ≢ 7 → units_of g ≡ half_spelling k → on (at n f h Between) (g ++ r) ≡ on (at n f (h + k) Between) r
@@ -65,17 +65,17 @@ one_word : (n : ℕ) (f : List Placed) (h here : ℕ) (a b : Placed) (r w : List
 one_word n f h here a b r w l i =
     ap (on (at n f h Between)) i.parts ∙ halves_on here n f h i.before (a ∷ (b ∷ w)) l i.halves_are ∙ word_on n f (h + here) w a b i.proper
 
-whole : List Placed → ℕ → Walked State Piece
+whole : List Placed → ℕ → Walked State PortItem
 whole f h = Whole (Frame f h)
 
-same_whole : (f g : List Placed) (h k : ℕ) → f ≡ g → h ≡ k → (let x : Walked State Piece = Whole (Frame f h) in let y : Walked State Piece = Whole (Frame g k) in x ≡ y)
+same_whole : (f g : List Placed) (h k : ℕ) → f ≡ g → h ≡ k → (let x : Walked State PortItem = Whole (Frame f h) in let y : Walked State PortItem = Whole (Frame g k) in x ≡ y)
 unfolding whole
 same_whole f g h k e d = ap (λ (l : List Placed). whole l h) e ∙ ap (λ (m : ℕ). whole g m) d
 
 words_on : (n : ℕ) (f : List Placed) (h k : ℕ) (g r : List Placed) → n ≤ 6 → IsWords (suc n) k g r → on (at n f h Between) r ≡ Whole (Frame (f ++ g) (h + k))
 words_on zero f h k g r l (here, later, a, b, g', w, i, ek, eg, m) =
     one_word zero f h here a b r w (omega arith) i
-    ∙ ap (λ (u : List Placed). after (Stop (Frame (f ++ (a ∷ (b ∷ []))) (h + here))) (λ t. on t u) u) m.2
+    ∙ ap (λ (u : List Placed). after (End (Frame (f ++ (a ∷ (b ∷ []))) (h + here))) (λ t. on t u) u) m.2
     ∙ same_whole (f ++ (a ∷ (b ∷ []))) (f ++ g) (h + here) (h + k)
     (ap (λ (u : List Placed). f ++ u) (ap (λ (u : List Placed). a ∷ (b ∷ u)) (sym m.1) ∙ sym eg)) (let z = m.0 in omega arith)
 words_on (suc n) f h k g r l (here, later, a, b, g', w, i, ek, eg, m) =
@@ -93,9 +93,9 @@ complete_full (a ∷ (b ∷ (c ∷ (d ∷ (x ∷ r))))) e = cc
 complete_full (a ∷ (b ∷ (c ∷ (d ∷ [])))) e =
     let ea : a.unit ≡ 255 = cc in let eb : b.unit ≡ 255 = cc in let ec : c.unit ≡ 255 = cc in let ed : d.unit ≡ 127 = cc in
     says start a (b ∷ (c ∷ (d ∷ []))) _ (mark 7 [] 0 a ea)
-    ∙ ap (λ (n : ℕ). after (cond {A = Next State Piece} (n == 127) (Stop Half) (cond (n == 255) (Go (at 7 [] 0 Two)) (Fail BadSync))) (λ t. on t (c ∷ (d ∷ []))) (c ∷ (d ∷ []))) eb
-    ∙ ap (λ (n : ℕ). after (cond {A = Next State Piece} (n == 255) (Go (at 7 [] 0 Three)) (Fail BadSync)) (λ t. on t (d ∷ [])) (d ∷ [])) ec
-    ∙ ap (λ (n : ℕ). after {U = Placed} (cond {A = Next State Piece} (n == 127) (Stop Full) (Fail BadSync)) (λ t. on t []) []) ed
+    ∙ ap (λ (n : ℕ). after (cond {A = Next State PortItem} (n == 127) (End Half) (cond (n == 255) (Go (at 7 [] 0 Two)) (Fail BadSync))) (λ t. on t (c ∷ (d ∷ []))) (c ∷ (d ∷ []))) eb
+    ∙ ap (λ (n : ℕ). after (cond {A = Next State PortItem} (n == 255) (Go (at 7 [] 0 Three)) (Fail BadSync)) (λ t. on t (d ∷ [])) (d ∷ [])) ec
+    ∙ ap (λ (n : ℕ). after {U = Placed} (cond {A = Next State PortItem} (n == 127) (End Full) (Fail BadSync)) (λ t. on t []) []) ed
 
 complete_half : (r : List Placed) → units_of r ≡ 255 ∷ (127 ∷ []) → on start r ≡ Whole Half
 complete_half [] e = cc
@@ -104,13 +104,13 @@ complete_half (a ∷ (b ∷ (c ∷ r))) e = cc
 complete_half (a ∷ (b ∷ [])) e =
     let ea : a.unit ≡ 255 = cc in let eb : b.unit ≡ 127 = cc in
     says start a (b ∷ []) _ (mark 7 [] 0 a ea)
-    ∙ ap (λ (n : ℕ). after {U = Placed} (cond {A = Next State Piece} (n == 127) (Stop Half) (cond (n == 255) (Go (at 7 [] 0 Two)) (Fail BadSync))) (λ t. on t []) []) eb
+    ∙ ap (λ (n : ℕ). after {U = Placed} (cond {A = Next State PortItem} (n == 127) (End Half) (cond (n == 255) (Go (at 7 [] 0 Two)) (Fail BadSync))) (λ t. on t []) []) eb
 
 pub none_before : (l : List Placed) → units_of l ≡ [] → l ≡ []
 none_before [] e = refl
 none_before (x ∷ l) e = cc
 
-complete : (v : Piece) (r : List Placed) → Spells v r → on start r ≡ Whole v
+complete : (v : PortItem) (r : List Placed) → Spells v r → on start r ≡ Whole v
 complete Full r s = complete_full r s
 complete Half r s = complete_half r s
 complete (Frame f halves) r (a, b, g, w, i, ef, m) =
@@ -118,23 +118,23 @@ complete (Frame f halves) r (a, b, g, w, i, ef, m) =
     ∙ word_on 7 [] 0 w a b i.proper ∙ words_on 6 (a ∷ (b ∷ [])) 0 halves g w (omega arith) m ∙ same_whole (a ∷ (b ∷ g)) f (0 + halves) halves (sym ef) (omega arith)
 
 -- sound
-pick : (t : Bool) (x y : Next State Piece) (r : List Placed) (v : Piece) → after (cond t x y) (λ s. on s r) r ≡ Whole v →
+pick : (t : Bool) (x y : Next State PortItem) (r : List Placed) (v : PortItem) → after (cond t x y) (λ s. on s r) r ≡ Whole v →
     ((t ≡ true) × (after x (λ s. on s r) r ≡ Whole v)) ⊎ ((t ≡ false) × (after y (λ s. on s r) r ≡ Whole v))
 pick true x y r v e = inl (refl, e)
 pick false x y r v e = inr (refl, e)
 
-alone : (w v : Piece) (r : List Placed) → after (Stop w) (λ s. on s r) r ≡ Whole v → (r ≡ []) × (v ≡ w)
-alone w v [] e = (refl, (let p : Walked State Piece = Whole w in let q : Walked State Piece = Whole v in let k : p ≡ q = e in cc))
+alone : (w v : PortItem) (r : List Placed) → after (End w) (λ s. on s r) r ≡ Whole v → (r ≡ []) × (v ≡ w)
+alone w v [] e = (refl, (let p : Walked State PortItem = Whole w in let q : Walked State PortItem = Whole v in let k : p ≡ q = e in cc))
 alone w v (c ∷ r) e = cc
 
-abbrev EndsWords : ℕ → List Placed → ℕ → Piece → List Placed → Type 0
+abbrev EndsWords : ℕ → List Placed → ℕ → PortItem → List Placed → Type 0
 EndsWords n f h v r = (g : List Placed) × (k : ℕ) × (v ≡ Frame (f ++ g) (h + k)) × IsWords (suc n) k g r
 
 two_units : (x y : Placed) (l : List Placed) (n : ℕ) → x.unit ≡ 255 → y.unit ≡ 127 → units_of l ≡ half_spelling n → units_of (x ∷ (y ∷ l)) ≡ half_spelling (suc n)
 two_units x y l n e f g = let k : x.unit ∷ (y.unit ∷ units_of l) ≡ 255 ∷ (127 ∷ half_spelling n) = cc in k
 
 -- one more half synchronisation before halfwords
-more_halves : (n : ℕ) (f : List Placed) (h : ℕ) (v : Piece) (x y : Placed) (r : List Placed) → x.unit ≡ 255 → y.unit ≡ 127 → EndsWords n f (h + 1) v r → EndsWords n f h v (x ∷ (y ∷ r))
+more_halves : (n : ℕ) (f : List Placed) (h : ℕ) (v : PortItem) (x y : Placed) (r : List Placed) → x.unit ≡ 255 → y.unit ≡ 127 → EndsWords n f (h + 1) v r → EndsWords n f h v (x ∷ (y ∷ r))
 more_halves n f h v x y r ex ey (g, k, ev, (here, later, a, b, g', w, i, ek, eg, m)) = (
   g,
   suc k,
@@ -156,7 +156,7 @@ more_halves n f h v x y r ex ey (g, k, ev, (here, later, a, b, g', w, i, ek, eg,
 plain_word : (x y : Placed) (r : List Placed) → x.unit ≢ 255 → IsWord 0 x y (x ∷ (y ∷ r)) r
 plain_word x y r e = record { before = []; halves_are = refl; proper = e; parts = refl }
 
-words_sound : (n : ℕ) (f : List Placed) (h : ℕ) (v : Piece) (r : List Placed) → n ≤ 6 → on (at n f h Between) r ≡ Whole v → EndsWords n f h v r
+words_sound : (n : ℕ) (f : List Placed) (h : ℕ) (v : PortItem) (r : List Placed) → n ≤ 6 → on (at n f h Between) r ≡ Whole v → EndsWords n f h v r
 words_sound n f h v [] l e = cc
 words_sound n f h v (x ∷ []) l e = elim (pick (x.unit == 255) _ _ [] v e) [ inl m ↦ (let k = m.1 in cc) | inr m ↦ (let k = m.1 in cc) ]
 words_sound n f h v (x ∷ (y ∷ r)) l e = elim (pick (x.unit == 255) _ _ (y ∷ r) v e) [
@@ -181,8 +181,8 @@ words_sound n f h v (x ∷ (y ∷ r)) l e = elim (pick (x.unit == 255) _ _ (y �
       let z = rec m (omega arith) k in
       (x ∷ (y ∷ z.0), z.1, z.2 ∙ ap (λ (u : List Placed). Frame u (h + z.1)) (append_assoc f (x ∷ (y ∷ [])) z.0), (0, z.1, x, y, z.0, r, plain_word x y r ex, omega arith, refl, z.3))
 
-spelled : (v w : Piece) (r : List Placed) → v ≡ w → Spells w r → Spells v r
-spelled v w r e s = subst (λ (p : Piece). Spells p r) (sym e) s
+spelled : (v w : PortItem) (r : List Placed) → v ≡ w → Spells w r → Spells v r
+spelled v w r e s = subst (λ (p : PortItem). Spells p r) (sym e) s
 
 two_bytes : (x y : Placed) (r : List Placed) → x.unit ≡ 255 → y.unit ≡ 127 → r ≡ [] → units_of (x ∷ (y ∷ r)) ≡ 255 ∷ (127 ∷ [])
 two_bytes x y r e f g = ap (λ (u : List Placed). units_of (x ∷ (y ∷ u))) g ∙ (let k : x.unit ∷ (y.unit ∷ []) ≡ 255 ∷ (127 ∷ []) = cc in k)
@@ -191,7 +191,7 @@ four_bytes : (x y z w : Placed) (r : List Placed) → x.unit ≡ 255 → y.unit 
 four_bytes x y z w r e f g h k =
     ap (λ (u : List Placed). units_of (x ∷ (y ∷ (z ∷ (w ∷ u))))) k ∙ (let q : x.unit ∷ (y.unit ∷ (z.unit ∷ (w.unit ∷ []))) ≡ 255 ∷ (255 ∷ (255 ∷ (127 ∷ []))) = cc in q)
 
-full_sound : (x y : Placed) (v : Piece) (r : List Placed) → x.unit ≡ 255 → y.unit ≡ 255 → on (at 7 [] 0 Two) r ≡ Whole v → Spells v (x ∷ (y ∷ r))
+full_sound : (x y : Placed) (v : PortItem) (r : List Placed) → x.unit ≡ 255 → y.unit ≡ 255 → on (at 7 [] 0 Two) r ≡ Whole v → Spells v (x ∷ (y ∷ r))
 full_sound x y v [] e f k = cc
 full_sound x y v (z ∷ []) e f k = elim (pick (z.unit == 255) _ _ [] v k) [ inl m ↦ (let q = m.1 in cc) | inr m ↦ (let q = m.1 in cc) ]
 full_sound x y v (z ∷ (w ∷ r)) e f k = elim (pick (z.unit == 255) _ _ (w ∷ r) v k) [
@@ -202,7 +202,7 @@ full_sound x y v (z ∷ (w ∷ r)) e f k = elim (pick (z.unit == 255) _ _ (w ∷
   | inr m ↦ (let q = m.1 in cc)
 ]
 
-sound : (v : Piece) (r : List Placed) → on start r ≡ Whole v → Spells v r
+sound : (v : PortItem) (r : List Placed) → on start r ≡ Whole v → Spells v r
 sound v [] e = cc
 sound v (x ∷ []) e = elim (pick (x.unit == 255) _ _ [] v e) [ inl m ↦ (let k = m.1 in cc) | inr m ↦ (let k = m.1 in cc) ]
 sound v (x ∷ (y ∷ r)) e = elim (pick (x.unit == 255) _ _ (y ∷ r) v e) [
@@ -227,7 +227,7 @@ abbrev marked : ℕ → Placed
 marked b = byte_at 0 b
 
 abbrev Ended : State → Type 0
-Ended s = (v : Piece) × (w : List Placed) × (on s w ≡ Whole v)
+Ended s = (v : PortItem) × (w : List Placed) × (on s w ≡ Whole v)
 
 finish_between : (n : ℕ) (f : List Placed) (h : ℕ) → Ended (at n f h Between)
 unfolding blank
@@ -239,10 +239,10 @@ finish_first zero f h a = (Frame (f ++ (a ∷ (blank ∷ []))) h, blank ∷ [], 
 finish_first (suc n) f h a = let k = finish_between n (f ++ (a ∷ (blank ∷ []))) h in (k.0, blank ∷ k.1, k.2)
 
 finish_one : (n : ℕ) (f : List Placed) (h : ℕ) (b : Bool) → (n == 7) ≡ b → Ended (at n f h One)
-finish_one n f h true e = (Half, marked 127 ∷ [], ap (λ (t : Bool). after {U = Placed} (cond {A = Next State Piece} t (Stop Half) (Go (at n f (h + 1) Between))) (λ s. on s []) []) e)
+finish_one n f h true e = (Half, marked 127 ∷ [], ap (λ (t : Bool). after {U = Placed} (cond {A = Next State PortItem} t (End Half) (Go (at n f (h + 1) Between))) (λ s. on s []) []) e)
 finish_one n f h false e =
     let k = finish_between n f (h + 1) in
-    (k.0, marked 127 ∷ k.1, ap (λ (t : Bool). after (cond {A = Next State Piece} t (Stop Half) (Go (at n f (h + 1) Between))) (λ s. on s k.1) k.1) e ∙ k.2)
+    (k.0, marked 127 ∷ k.1, ap (λ (t : Bool). after (cond {A = Next State PortItem} t (End Half) (Go (at n f (h + 1) Between))) (λ s. on s k.1) k.1) e ∙ k.2)
 
 finish_at : (n : ℕ) (f : List Placed) (h : ℕ) (p : Part) → Ended (at n f h p)
 finish_at n f h Between = finish_between n f h
@@ -252,10 +252,10 @@ finish_at n f h Two = (Full, marked 255 ∷ (marked 127 ∷ []), refl)
 finish_at n f h Three = (Full, marked 127 ∷ [], refl)
 
 -- what a walk keeps
-went_on : (x : Next State Piece) (k : State → Walked State Piece) (p : List Placed) (t : State) → after x k p ≡ Within t → (u : State) × (x ≡ Go u) × (k u ≡ Within t)
+went_on : (x : Next State PortItem) (k : State → Walked State PortItem) (p : List Placed) (t : State) → after x k p ≡ Within t → (u : State) × (x ≡ Go u) × (k u ≡ Within t)
 went_on (Go u) k p t e = (u, refl, e)
-went_on (Stop v) k [] t e = cc
-went_on (Stop v) k (b ∷ p) t e = cc
+went_on (End v) k [] t e = cc
+went_on (End v) k (b ∷ p) t e = cc
 went_on (Fail f) k p t e = cc
 
 pub reached : (P : State → Type 0) → ((s t : State) (x : Placed) → P s → rule s x ≡ Go t → P t) → (s t : State) (r : List Placed) → P s → on s r ≡ Within t → P t
@@ -265,7 +265,7 @@ reached P keeps s t (b ∷ p) h e =
     reached P keeps m.0 t p (keeps s m.0 b h m.1) m.2
 
 -- which of the rule's two answers
-chosen : (t : Bool) (x y z : Next State Piece) → cond t x y ≡ z → ((t ≡ true) × (x ≡ z)) ⊎ ((t ≡ false) × (y ≡ z))
+chosen : (t : Bool) (x y z : Next State PortItem) → cond t x y ≡ z → ((t ≡ true) × (x ≡ z)) ⊎ ((t ≡ false) × (y ≡ z))
 chosen true x y z e = inl (refl, e)
 chosen false x y z e = inr (refl, e)
 
@@ -280,7 +280,7 @@ InFrame n Three = ⊥
 abbrev InFrameState : State → Type 0
 InFrameState s = InFrame s.left s.part
 
-gone : (P : State → Type 0) (s t : State) → (let x : Next State Piece = Go s in let y : Next State Piece = Go t in x ≡ y) → P s → P t
+gone : (P : State → Type 0) (s t : State) → (let x : Next State PortItem = Go s in let y : Next State PortItem = Go t in x ≡ y) → P s → P t
 gone P s t e p = subst P (let k : s ≡ t = cc in k) p
 
 ended_in : (n : ℕ) (f : List Placed) (h : ℕ) (t : State) → n ≤ 7 → word_ended n f h ≡ Go t → InFrameState t
@@ -294,7 +294,7 @@ stays_at n f h Between t x i e = elim (chosen (x.unit == 255) (Go (at n f h One)
 ]
 stays_at n f h (First a) t x i e = ended_in n (f ++ (a ∷ (x ∷ []))) h t i e
 stays_at n f h One t x i e = elim (chosen (x.unit == 127) (half_ended (at n f h One)) (cond (x.unit == 255) (full_begun (at n f h One)) (Fail BadSync)) (Go t) e) [
-  | inl m ↦ elim (chosen (n == 7) (Stop Half) (Go (at n f (h + 1) Between)) (Go t) m.1) [
+  | inl m ↦ elim (chosen (n == 7) (End Half) (Go (at n f (h + 1) Between)) (Go t) m.1) [
     | inl q ↦ (let k = q.1 in cc)
     | inr q ↦ gone InFrameState (at n f (h + 1) Between) t q.1 i
   ]
@@ -315,7 +315,7 @@ stays s t x i e = stays_at s.left s.bytes s.halves s.part t x i e
 abbrev inside : ℕ → Reason
 inside b = cond (b == 255) SyncInFrame BadSync
 
-failed : (d e g : Reason) → (let x : Next State Piece = Fail d in let y : Next State Piece = Fail e in x ≡ y) → d ≡ g → e ≡ g
+failed : (d e g : Reason) → (let x : Next State PortItem = Fail d in let y : Next State PortItem = Fail e in x ≡ y) → d ≡ g → e ≡ g
 failed d e g k h = let s : d ≡ e = cc in sym s ∙ h
 
 ended_never : (n : ℕ) (f : List Placed) (h : ℕ) (e : Reason) → word_ended n f h ≡ Fail e → ⊥
@@ -330,7 +330,7 @@ fails_at : (n : ℕ) (f : List Placed) (h : ℕ) (p : Part) (e : Reason) (x : Pl
 fails_at n f h Between e x i k = absurd (between_never n f h x e k)
 fails_at n f h (First a) e x i k = absurd (ended_never n (f ++ (a ∷ (x ∷ []))) h e k)
 fails_at n f h One e x i k = elim (chosen (x.unit == 127) (half_ended (at n f h One)) (cond (x.unit == 255) (full_begun (at n f h One)) (Fail BadSync)) (Fail e) k) [
-  | inl m ↦ elim (chosen (n == 7) (Stop Half) (Go (at n f (h + 1) Between)) (Fail e) m.1) [ inl q ↦ (let k = q.1 in cc) | inr q ↦ (let k = q.1 in cc) ]
+  | inl m ↦ elim (chosen (n == 7) (End Half) (Go (at n f (h + 1) Between)) (Fail e) m.1) [ inl q ↦ (let k = q.1 in cc) | inr q ↦ (let k = q.1 in cc) ]
   | inr m ↦ elim (chosen (x.unit == 255) (full_begun (at n f h One)) (Fail BadSync) (Fail e) m.1) [
     | inl q ↦ elim (chosen (n == 7) (Go (at n f h Two)) (Fail SyncInFrame) (Fail e) q.1) [
       | inl z ↦ (let k = z.1 in cc)
@@ -357,7 +357,7 @@ full_stays_at : (n : ℕ) (f : List Placed) (h : ℕ) (p : Part) (t : State) (x 
 full_stays_at n f h Between t x i e = absurd i
 full_stays_at n f h (First a) t x i e = absurd i
 full_stays_at n f h One t x i e = elim (chosen (x.unit == 127) (half_ended (at n f h One)) (cond (x.unit == 255) (full_begun (at n f h One)) (Fail BadSync)) (Go t) e) [
-  | inl m ↦ elim (chosen (n == 7) (Stop Half) (Go (at n f (h + 1) Between)) (Go t) m.1) [
+  | inl m ↦ elim (chosen (n == 7) (End Half) (Go (at n f (h + 1) Between)) (Go t) m.1) [
     | inl q ↦ (let k = q.1 in cc)
     | inr q ↦ absurd (is_no n 7 q.0 i)
   ]
@@ -373,7 +373,7 @@ full_stays_at n f h Two t x i e = elim (chosen (x.unit == 255) (Go (at n f h Thr
   | inl m ↦ gone InFullState (at n f h Three) t m.1 i
   | inr m ↦ (let k = m.1 in cc)
 ]
-full_stays_at n f h Three t x i e = elim (chosen (x.unit == 127) (Stop Full) (Fail BadSync) (Go t) e) [ inl m ↦ (let k = m.1 in cc) | inr m ↦ (let k = m.1 in cc) ]
+full_stays_at n f h Three t x i e = elim (chosen (x.unit == 127) (End Full) (Fail BadSync) (Go t) e) [ inl m ↦ (let k = m.1 in cc) | inr m ↦ (let k = m.1 in cc) ]
 
 full_stays : (s t : State) (x : Placed) → InFullState s → rule s x ≡ Go t → InFullState t
 full_stays s t x i e = full_stays_at s.left s.bytes s.halves s.part t x i e
@@ -382,7 +382,7 @@ full_fails_at : (n : ℕ) (f : List Placed) (h : ℕ) (p : Part) (e : Reason) (x
 full_fails_at n f h Between e x i k = absurd i
 full_fails_at n f h (First a) e x i k = absurd i
 full_fails_at n f h One e x i k = elim (chosen (x.unit == 127) (half_ended (at n f h One)) (cond (x.unit == 255) (full_begun (at n f h One)) (Fail BadSync)) (Fail e) k) [
-  | inl m ↦ elim (chosen (n == 7) (Stop Half) (Go (at n f (h + 1) Between)) (Fail e) m.1) [ inl q ↦ (let k = q.1 in cc) | inr q ↦ (let k = q.1 in cc) ]
+  | inl m ↦ elim (chosen (n == 7) (End Half) (Go (at n f (h + 1) Between)) (Fail e) m.1) [ inl q ↦ (let k = q.1 in cc) | inr q ↦ (let k = q.1 in cc) ]
   | inr m ↦ elim (chosen (x.unit == 255) (full_begun (at n f h One)) (Fail BadSync) (Fail e) m.1) [
     | inl q ↦ elim (chosen (n == 7) (Go (at n f h Two)) (Fail SyncInFrame) (Fail e) q.1) [
       | inl z ↦ (let k = z.1 in cc)
@@ -392,7 +392,7 @@ full_fails_at n f h One e x i k = elim (chosen (x.unit == 127) (half_ended (at n
   ]
 ]
 full_fails_at n f h Two e x i k = elim (chosen (x.unit == 255) (Go (at n f h Three)) (Fail BadSync) (Fail e) k) [ inl m ↦ (let q = m.1 in cc) | inr m ↦ failed BadSync e BadSync m.1 refl ]
-full_fails_at n f h Three e x i k = elim (chosen (x.unit == 127) (Stop Full) (Fail BadSync) (Fail e) k) [ inl m ↦ (let q = m.1 in cc) | inr m ↦ failed BadSync e BadSync m.1 refl ]
+full_fails_at n f h Three e x i k = elim (chosen (x.unit == 127) (End Full) (Fail BadSync) (Fail e) k) [ inl m ↦ (let q = m.1 in cc) | inr m ↦ failed BadSync e BadSync m.1 refl ]
 
 -- each fault has its reason
 last_unit-push : (r : List Placed) (b : Placed) → last_unit (r ++ b ∷ []) ≡ b.unit

@@ -3,4 +3,8 @@ pub mod Pairs
 pub mod CellLaws
 pub mod Runs
 pub mod Deciding
-pub mod Pieces
+pub mod Items
+pub mod Wholes
+pub mod Gathering
+pub mod SourceBytes
+pub mod Broken

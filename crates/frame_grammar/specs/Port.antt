@@ -3,14 +3,14 @@ use Rattle.std.specs.Prelude.{◌≡◌, ◌≢◌, ℕ, zero, suc, ◌+◌, Lis
 use Rattle.trace_values.specs.declared.fault.Reason.{Reason}
 use Rattle.trace_values.specs.declared.fault.Reason.TheVariants.{BadSync, SyncInFrame}
 use Rattle.trace_values.specs.declared.next.Next.{Next}
-use Rattle.trace_values.specs.declared.next.Next.TheVariants.{Go, Stop, Fail}
+use Rattle.trace_values.specs.declared.next.Next.TheVariants.{Go, End, Fail}
 use Rattle.trace_values.specs.Placed.{Placed, units_of}
 
 -- a full synchronisation, a half one between frames, or a frame: its 16 bytes, and how many half synchronisations stand between them
-pub data Piece : Type 0 where
-  Full : Piece
-  Half : Piece
-  Frame : List Placed → ℕ → Piece
+pub data PortItem : Type 0 where
+  Full : PortItem
+  Half : PortItem
+  Frame : List Placed → ℕ → PortItem
 
 -- FF 7F, so many times
 abbrev pub half_spelling : ℕ → List ℕ
@@ -36,8 +36,8 @@ abbrev pub IsFrame : ℕ → List Placed → List Placed → Type 0
 IsFrame halves f r =
     (a : Placed) × (b : Placed) × (g : List Placed) × (w : List Placed) × IsWord 0 a b r w × (f ≡ a ∷ (b ∷ g)) × IsWords 7 halves g w
 
--- which bytes spell a piece
-abbrev pub Spells : Piece → List Placed → Type 0
+-- which bytes spell an item
+abbrev pub Spells : PortItem → List Placed → Type 0
 Spells Full r = units_of r ≡ 255 ∷ (255 ∷ (255 ∷ (127 ∷ [])))
 Spells Half r = units_of r ≡ 255 ∷ (127 ∷ [])
 Spells (Frame f halves) r = IsFrame halves f r
@@ -54,7 +54,7 @@ last_unit [] = 0
 last_unit (x ∷ []) = x.unit
 last_unit (x ∷ (y ∷ r)) = last_unit (y ∷ r)
 
--- Why no piece goes on so, where these are the bytes up to the one that breaks it: a frame, which FF does
+-- Why no item goes on so, where these are the bytes up to the one that breaks it: a frame, which FF does
 -- not begin, is broken by the second FF of a full synchronisation, and else a synchronisation is broken.
 abbrev pub why : List Placed → Reason
 why [] = BadSync
@@ -68,7 +68,7 @@ pub data Part : Type 0 where
   Two : Part
   Three : Part
 
--- What is kept of an unfinished piece: how many halfwords of its frame follow the next one (7 between
+-- What is kept of an unfinished item: how many halfwords of its frame follow the next one (7 between
 -- frames), the frame's bytes so far and the half synchronisations between them, and the unfinished part.
 pub record State : Type 0 where
   pub left : ℕ
@@ -84,27 +84,27 @@ abbrev pub with_part : State → Part → State
 with_part s part = record { left = s.left; bytes = s.bytes; halves = s.halves; part = part }
 
 -- behind a whole halfword
-abbrev pub word_ended : ℕ → List Placed → ℕ → Next State Piece
-word_ended zero f halves = Stop (Frame f halves)
+abbrev pub word_ended : ℕ → List Placed → ℕ → Next State PortItem
+word_ended zero f halves = End (Frame f halves)
 word_ended (suc left) f halves = Go (record { left = left; bytes = f; halves = halves; part = Between })
 
 -- behind FF 7F
-abbrev pub half_ended : State → Next State Piece
+abbrev pub half_ended : State → Next State PortItem
 half_ended s =
-    if s.left == 7 then Stop Half else Go (record { left = s.left; bytes = s.bytes; halves = s.halves + 1; part = Between })
+    if s.left == 7 then End Half else Go (record { left = s.left; bytes = s.bytes; halves = s.halves + 1; part = Between })
 
 -- behind FF FF
-abbrev pub full_begun : State → Next State Piece
+abbrev pub full_begun : State → Next State PortItem
 full_begun s = if s.left == 7 then Go (with_part s Two) else Fail SyncInFrame
 
 -- one more byte behind this part
-abbrev pub part_rule : Part → State → Placed → Next State Piece
+abbrev pub part_rule : Part → State → Placed → Next State PortItem
 part_rule Between s x = if x.unit == 255 then Go (with_part s One) else Go (with_part s (First x))
 part_rule (First a) s x = word_ended s.left (s.bytes ++ (a ∷ (x ∷ []))) s.halves
 part_rule One s x = if x.unit == 127 then half_ended s else (if x.unit == 255 then full_begun s else Fail BadSync)
 part_rule Two s x = if x.unit == 255 then Go (with_part s Three) else Fail BadSync
-part_rule Three s x = if x.unit == 127 then Stop Full else Fail BadSync
+part_rule Three s x = if x.unit == 127 then End Full else Fail BadSync
 
 -- the grammar's rule
-abbrev pub rule : State → Placed → Next State Piece
+abbrev pub rule : State → Placed → Next State PortItem
 rule s x = part_rule s.part s x

@@ -26,6 +26,6 @@ source_row id text = map (λ c. (c.at, c.byte)) (source_list id (port_cells (pla
 abbrev pub count_row : List ℕ → ℕ × ℕ × ℕ
 count_row text = let u = placed (hex text) in (full_count u, half_count u, frame_count u)
 
--- how many bytes end no piece, and the fault with its offset
+-- how many bytes end no item, and the fault with its offset
 abbrev pub end_row : List ℕ → ℕ × Option (ℕ × Reason)
 end_row text = let r = port_reading (placed (hex text)) in (length r.rest, option_map (λ f. (f.0.at, f.1)) r.fault)

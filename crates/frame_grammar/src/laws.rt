@@ -1,32 +1,35 @@
 //! Laws of the grammar and of cells, over their definitions alone.
 
-ghost use Rattle.std.specs.Prelude.{◌≡◌, ◌↔◌, ◌<◌, ◌≤◌, ℕ, ◌+◌, ◌*◌, ◌/◌, true, false, List, ◌++◌, Option, None, map, length, slice_index};
+ghost use Rattle.std.specs.Prelude.{◌≡◌, ◌↔◌, ◌<◌, ◌≤◌, ℕ, ◌+◌, ◌*◌, ◌/◌, true, false, List, ◌++◌, Option, None, Some, map, length, slice_index};
 ghost use Rattle.std.specs.List.{Contains, count_by, range_with_len};
 ghost use Rattle.trace_values.specs.declared.cell.Cell.{Cell};
 ghost use Rattle.trace_values.specs.Cells.{source_id};
-ghost use Rattle.trace_values.specs.Placed.{Placed, units_of};
+ghost use Rattle.trace_values.specs.Placed.{Place, Placed, units_of};
 ghost use Rattle.trace_values.specs.Grammar.{PrefixLaw};
 ghost use Rattle.trace_values.specs.Walk.{Decides};
-ghost use Rattle.trace_values.specs.Reading.{Reading, IsReading};
+ghost use Rattle.trace_values.specs.Reading.{Reading, IsReading, IsFirstFault};
+ghost use Rattle.trace_values.specs.declared.fault.Reason.{Reason};
 ghost use Rattle.frame_grammar.specs.Frame.{IsProperFrame, in_effect, id_at, run_at, cell, cells, data_indexes, data_at};
 ghost use Rattle.frame_grammar.specs.Runs.{HasRuns};
-ghost use Rattle.frame_grammar.specs.Port.{Piece, Frame, Spells, why, rule, start, half_words};
-ghost use Rattle.frame_grammar.specs.Reading.{port_reading, port_progress, cells_of_pieces, id_of_pieces};
+ghost use Rattle.frame_grammar.specs.Port.{PortItem, Frame, Spells, why, rule, start, half_words};
+ghost use Rattle.frame_grammar.specs.Reading.{port_reading, port_progress, cells_of_items, id_of_items, offsets_of, source_list};
+ghost use Rattle.frame_grammar.specs.SourceBytes.{bytes_of_source, source_units};
+ghost use Rattle.frame_grammar.specs.Whole.{IsWhole};
 
-/// One list of bytes spells at most one piece, and no spelling begins another.
+/// One list of bytes spells at most one item, and no spelling begins another.
 pub fn prefix_law()
     ensures { PrefixLaw Spells }
 {}
 
-/// The rule, byte by byte, ends a piece exactly with the bytes that spell it, goes on exactly while a
-/// piece goes on so, and gives each fault its reason.
+/// The rule, byte by byte, ends an item exactly with the bytes that spell it, goes on exactly while a
+/// item goes on so, and gives each fault its reason.
 pub fn rule_law()
     ensures { Decides Spells why rule start }
 {}
 
 /// Each list of placed bytes has one reading, and reading them byte by byte computes it.
 pub fn reading_law()
-    ensures { (u : List Placed) (r : Reading Piece) → IsReading Spells why u r ↔ (r ≡ port_reading u) }
+    ensures { (u : List Placed) (r : Reading PortItem) → IsReading Spells why u r ↔ (r ≡ port_reading u) }
 {}
 
 /// A frame has 16 bytes, none of the mixed-use ones is FF, and its spelling has them and its half synchronisations.
@@ -36,18 +39,31 @@ pub fn frame_law()
     ensures spelling { (f r : List Placed) (halves : ℕ) → Spells (Frame f halves) r → length r ≡ 16 + 2 * halves }
 {}
 
-/// Half synchronisations are counted in a frame by its spelling, and in an unfinished one by the bytes it has.
+/// 16 bytes with no FF at an even index are a whole frame. One with half synchronisations between its halfwords has two
+/// bytes more for each, and the frame without them has 16 bytes, and no FF at an even index.
+pub fn whole_law()
+    ensures plain { (bytes : List ℕ) → length bytes ≡ 16 → IsProperFrame bytes → IsWhole bytes bytes 0 }
+    ensures size { (bytes frame : List ℕ) (halves : ℕ) → IsWhole bytes frame halves → length bytes ≡ 16 + 2 * halves }
+    ensures frame { (bytes frame : List ℕ) (halves : ℕ) → IsWhole bytes frame halves → length frame ≡ 16 }
+    ensures proper { (bytes frame : List ℕ) (halves : ℕ) → IsWhole bytes frame halves → IsProperFrame frame }
+{}
+
+/// Half synchronisations are counted in a frame by its spelling, in an unfinished one by the bytes it has, and in one
+/// that a fault breaks by the bytes before that of the fault.
 pub fn halves_law()
     ensures frame { (f r : List Placed) (halves : ℕ) → Spells (Frame f halves) r → halves ≡ half_words r }
     ensures unfinished { (u : List Placed) → (port_reading u).fault ≡ None →
         (port_progress u).state.halves ≡ half_words (port_reading u).rest }
+    ensures broken { (u : List Placed) (fault : Place × Reason) →
+        (broken : IsFirstFault Spells why (port_reading u).rest fault) →
+        (port_reading u).fault ≡ Some fault → (port_progress u).state.halves ≡ half_words broken.before }
 {}
 
-/// The ID carries over from pieces to those behind them.
-pub fn pieces_law()
-    ensures cells { (id : Option ℕ) (xs ys : List Piece) →
-        cells_of_pieces id (xs ++ ys) ≡ cells_of_pieces id xs ++ cells_of_pieces (id_of_pieces id xs) ys }
-    ensures id { (id : Option ℕ) (xs ys : List Piece) → id_of_pieces id (xs ++ ys) ≡ id_of_pieces (id_of_pieces id xs) ys }
+/// The ID carries over from items to those behind them.
+pub fn items_law()
+    ensures cells { (id : Option ℕ) (xs ys : List PortItem) →
+        cells_of_items id (xs ++ ys) ≡ cells_of_items id xs ++ cells_of_items (id_of_items id xs) ys }
+    ensures id { (id : Option ℕ) (xs ys : List PortItem) → id_of_items id (xs ++ ys) ≡ id_of_items (id_of_items id xs) ys }
 {}
 
 /// The ID in force at an index is named by the last ID byte that is in effect there, and is the ID before
@@ -85,4 +101,14 @@ pub fn ids_law()
         Contains (cells frame offsets id) c → Contains (cells frame offsets id) d → c.run ≡ d.run → c.id ≡ d.id }
     ensures before { (frame offsets : List ℕ) (id : Option ℕ) (c : Cell) →
         Contains (cells frame offsets id) c → c.run ≡ 0 → c.id ≡ id }
+{}
+
+/// The bytes of a source in cells that follow one another are those in the first and then those in the others, and each
+/// is at its cell's offset.
+pub fn source_law()
+    ensures cells { (id : ℕ) (a b : List Cell) → source_list id (a ++ b) ≡ source_list id a ++ source_list id b }
+    ensures units { (id : ℕ) (a b : List Cell) → source_units id (a ++ b) ≡ source_units id a ++ source_units id b }
+    ensures bytes { (id : ℕ) (cells : List Cell) → units_of (source_units id cells) ≡ bytes_of_source id cells }
+    ensures offsets { (id : ℕ) (cells : List Cell) →
+        offsets_of (source_units id cells) ≡ map (λ c. c.at) (source_list id cells) }
 {}

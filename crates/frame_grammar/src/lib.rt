@@ -3,5 +3,8 @@
 #![tactic(auto)]
 
 pub mod frame;
+pub mod gather;
 pub mod laws;
+pub mod plain;
 pub mod rows;
+pub mod source_bytes;

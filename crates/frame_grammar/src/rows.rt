@@ -51,7 +51,7 @@ pub fn halves_between()
         ∷ (17, Some 16, 1, 255) ∷ (18, Some 16, 1, 255) ∷ (19, Some 16, 1, 255) ∷ (20, Some 16, 1, 255) ∷ [] }
 {}
 
-/// How many bytes end no piece, and the fault with its offset.
+/// How many bytes end no item, and the fault with its offset.
 pub fn ends()
     ensures clean { end_row (codes "FF FF FF 7F FF 7F") ≡ (0, None) }
     ensures unfinished { end_row (codes "FF 7F 03 00 FF 7F 00") ≡ (5, None) }

@@ -38,7 +38,7 @@ closed_cond false x y n h k = k
 closed_fewer : (c : Option ℕ) (t : List Tagged) → length (closed c t).rest ≤ length t
 closed_fewer c t = closed_cond (is_id c (first t).id) _ _ (length t) (let a = behind_fewer t in omega arith) (omega arith)
 
-filled_fewer : (n : ℕ) (c : Option ℕ) (t : List Tagged) → length (filled n c t).end.rest ≤ length t
+pub filled_fewer : (n : ℕ) (c : Option ℕ) (t : List Tagged) → length (filled n c t).end.rest ≤ length t
 filled_fewer zero c t = subst (λ (f : Filled). length f.end.rest ≤ length t) (sym (filled_zero c t)) (closed_fewer c t)
 filled_fewer (suc n) c t =
     subst (λ (f : Filled). length f.end.rest ≤ length t) (sym (filled_suc n c t))

@@ -3,3 +3,4 @@ pub mod Bytes
 pub mod Law
 pub mod Standing
 pub mod ReadingBack
+pub mod Room

@@ -11,12 +11,14 @@ use Rattle.trace_values.specs.Reading.{Progress, progress_from, advance}
 use Rattle.trace_values.proofs.Placing.{placed_from_append}
 use Rattle.trace_values.proofs.Wholes.{spelled_reads}
 use Rattle.frame_grammar.specs.Frame.{cells, id_after}
-use Rattle.frame_grammar.specs.Port.{Piece, Full, Frame, half_spelling, IsWords, IsFrame, Spells, why, State, start, rule}
-use Rattle.frame_grammar.specs.Reading.{port_progress, port_cells, cells_of_pieces, id_of_pieces, piece_cells, piece_id, offsets_of, is_source}
+use Rattle.frame_grammar.specs.Port.{PortItem, Full, Frame, half_spelling, IsWords, IsFrame, Spells, why, State, start, rule}
+use Rattle.frame_grammar.specs.Reading.{port_progress, port_cells, cells_of_items, id_of_items, item_cells, item_id, offsets_of, is_source}
 use Rattle.frame_grammar.proofs.Deciding.{port_decided}
 use Rattle.frame_writer.specs.declared.pair.Pair.{Pair}
 use Rattle.frame_writer.specs.Written.{Tagged, first, behind, is_id, paired, Paired, Closed, Filled, filled, spread, aux_byte, sync, is_due, known, frame_bytes, frames_by, capture}
-use Rattle.frame_writer.specs.ReadBack.{IsOfSource, seen, as_seen, source_cells, ReadsBack}
+use Rattle.port_reader.specs.Reading.{cells_of}
+use Rattle.port_reader.proofs.Grammar.{aligned_cells}
+use Rattle.frame_writer.specs.ReadBack.{IsOfSource, seen, as_seen, source_cells, read_back, ReadsBack}
 use Rattle.frame_writer.proofs.Frames.{filled_zero, filled_suc, filled_less, by_some, by_nothing}
 use Rattle.frame_writer.proofs.Law.{flat, null, AllIds, Knows, frame_law, filled_length, first_id, behind_ids}
 
@@ -145,18 +147,18 @@ filled_marks (suc r) c t a =
     subst (λ (f : Filled). NoMarks f.pairs × (f.end.even ≢ 255)) (sym (filled_suc r c t))
     (let m = filled_marks r (paired c t).id (paired c t).rest (placed_ids c t a) in ((placed_mark c t a, m.0), m.1))
 
--- one more piece
-id_push : (id : Option ℕ) (l : List Piece) (p : Piece) → id_of_pieces id (l ++ p ∷ []) ≡ piece_id (id_of_pieces id l) p
+-- one more item
+id_push : (id : Option ℕ) (l : List PortItem) (p : PortItem) → id_of_items id (l ++ p ∷ []) ≡ item_id (id_of_items id l) p
 id_push id [] p = refl
-id_push id (q ∷ l) p = id_push (piece_id id q) l p
+id_push id (q ∷ l) p = id_push (item_id id q) l p
 
-cells_push : (id : Option ℕ) (l : List Piece) (p : Piece) → cells_of_pieces id (l ++ p ∷ []) ≡ cells_of_pieces id l ++ piece_cells (id_of_pieces id l) p
-cells_push id [] p = append-nil (piece_cells id p)
+cells_push : (id : Option ℕ) (l : List PortItem) (p : PortItem) → cells_of_items id (l ++ p ∷ []) ≡ cells_of_items id l ++ item_cells (id_of_items id l) p
+cells_push id [] p = append-nil (item_cells id p)
 cells_push id (q ∷ l) p =
-    ap (λ (c : List Cell). piece_cells id q ++ c) (cells_push (piece_id id q) l p)
-    ∙ sym (append_assoc (piece_cells id q) (cells_of_pieces (piece_id id q) l) (piece_cells (id_of_pieces (piece_id id q) l) p))
+    ap (λ (c : List Cell). item_cells id q ++ c) (cells_push (item_id id q) l p)
+    ∙ sym (append_assoc (item_cells id q) (cells_of_items (item_id id q) l) (item_cells (id_of_items (item_id id q) l) p))
 
-progress_append : (p : Progress State Piece) (u w : List Placed) → progress_from rule start p (u ++ w) ≡ progress_from rule start (progress_from rule start p u) w
+progress_append : (p : Progress State PortItem) (u w : List Placed) → progress_from rule start p (u ++ w) ≡ progress_from rule start (progress_from rule start p u) w
 progress_append p [] w = refl
 progress_append p (b ∷ u) w = progress_append (advance rule start p b) u w
 
@@ -164,50 +166,50 @@ split_last : (b : Placed) (w : List Placed) → (a : List Placed) × (l : Placed
 split_last b [] = ([], b, refl)
 split_last b (c ∷ w) = let s = split_last c w in (b ∷ s.0, s.1, ap (λ (l : List Placed). b ∷ l) s.2)
 
--- pieces, and nothing behind them
-abbrev whole_pieces : List (Piece × Place) → Progress State Piece
-whole_pieces items = record { items = items; rest = []; fault = None; state = start }
+-- items, and nothing behind them
+abbrev whole_items : List (PortItem × Place) → Progress State PortItem
+whole_items items = record { items = items; rest = []; fault = None; state = start }
 
-abbrev piece_of : Piece × Place → Piece
-piece_of x = x.0
+abbrev item_of : PortItem × Place → PortItem
+item_of x = x.0
 
--- the reading has pieces alone, with this ID in force behind them
+-- the reading has items alone, with this ID in force behind them
 record Clean (u : List Placed) (id : Option ℕ) : Type 0 where
-  items : List (Piece × Place)
-  reads : port_progress u ≡ whole_pieces items
-  id_is : id_of_pieces None (map piece_of items) ≡ id
+  items : List (PortItem × Place)
+  reads : port_progress u ≡ whole_items items
+  id_is : id_of_items None (map item_of items) ≡ id
 
-pieces_are : (u : List Placed) (items : List (Piece × Place)) → port_progress u ≡ whole_pieces items → port_cells u ≡ cells_of_pieces None (map piece_of items)
-pieces_are u items e = ap (λ (q : Progress State Piece). cells_of_pieces None (map piece_of q.items)) e
+items_are : (u : List Placed) (items : List (PortItem × Place)) → port_progress u ≡ whole_items items → port_cells u ≡ cells_of_items None (map item_of items)
+items_are u items e = ap (λ (q : Progress State PortItem). cells_of_items None (map item_of q.items)) e
 
-abbrev Adds : List Placed → List Placed → Option ℕ → Piece → Type 0
-Adds u v id p = Clean v (piece_id id p) × (port_cells v ≡ port_cells u ++ piece_cells id p)
+abbrev Adds : List Placed → List Placed → Option ℕ → PortItem → Type 0
+Adds u v id p = Clean v (item_id id p) × (port_cells v ≡ port_cells u ++ item_cells id p)
 
-adds_last : (u a : List Placed) (l : Placed) (id : Option ℕ) (p : Piece) → Clean u id → Spells p (a ++ l ∷ []) → Adds u (u ++ (a ++ l ∷ [])) id p
+adds_last : (u a : List Placed) (l : Placed) (id : Option ℕ) (p : PortItem) → Clean u id → Spells p (a ++ l ∷ []) → Adds u (u ++ (a ++ l ∷ [])) id p
 adds_last u a l id p c s =
-    let more : List (Piece × Place) = c.items ++ (p, l.place) ∷ [] in
-    let reads : port_progress (u ++ (a ++ l ∷ [])) ≡ whole_pieces more =
+    let more : List (PortItem × Place) = c.items ++ (p, l.place) ∷ [] in
+    let reads : port_progress (u ++ (a ++ l ∷ [])) ≡ whole_items more =
     progress_append (record { items = []; rest = []; fault = None; state = start }) u (a ++ l ∷ [])
-    ∙ ap (λ (q : Progress State Piece). progress_from rule start q (a ++ l ∷ [])) c.reads
+    ∙ ap (λ (q : Progress State PortItem). progress_from rule start q (a ++ l ∷ [])) c.reads
     ∙ spelled_reads rule start Spells why port_decided c.items p a l s in
-    let pieces : map piece_of more ≡ map piece_of c.items ++ p ∷ [] = map-append piece_of c.items ((p, l.place) ∷ []) in (
+    let items : map item_of more ≡ map item_of c.items ++ p ∷ [] = map-append item_of c.items ((p, l.place) ∷ []) in (
       record {
         items = more;
         reads = reads;
-        id_is = ap (id_of_pieces None) pieces ∙ id_push None (map piece_of c.items) p ∙ ap (λ (z : Option ℕ). piece_id z p) c.id_is;
+        id_is = ap (id_of_items None) items ∙ id_push None (map item_of c.items) p ∙ ap (λ (z : Option ℕ). item_id z p) c.id_is;
       },
-      pieces_are (u ++ (a ++ l ∷ [])) more reads ∙ ap (cells_of_pieces None) pieces ∙ cells_push None (map piece_of c.items) p
-          ∙ ap (λ (z : Option ℕ). cells_of_pieces None (map piece_of c.items) ++ piece_cells z p) c.id_is
-          ∙ ap (λ (x : List Cell). x ++ piece_cells id p) (sym (pieces_are u c.items c.reads)),
+      items_are (u ++ (a ++ l ∷ [])) more reads ∙ ap (cells_of_items None) items ∙ cells_push None (map item_of c.items) p
+          ∙ ap (λ (z : Option ℕ). cells_of_items None (map item_of c.items) ++ item_cells z p) c.id_is
+          ∙ ap (λ (x : List Cell). x ++ item_cells id p) (sym (items_are u c.items c.reads)),
     )
 
-adds : (u : List Placed) (b : Placed) (w : List Placed) (id : Option ℕ) (p : Piece) → Clean u id → Spells p (b ∷ w) → Adds u (u ++ (b ∷ w)) id p
+adds : (u : List Placed) (b : Placed) (w : List Placed) (id : Option ℕ) (p : PortItem) → Clean u id → Spells p (b ∷ w) → Adds u (u ++ (b ∷ w)) id p
 adds u b w id p c s =
     let e = split_last b w in
     subst (λ (v : List Placed). Adds u (u ++ v) id p) (sym e.2) (adds_last u e.0 e.1 id p c (subst (Spells p) e.2 s))
 
 -- the same, where the bytes of a frame are spelled as such
-adds_frame : (u : List Placed) (m : ℕ) (l : List ℕ) (id : Option ℕ) (p : Piece) → Clean u id → Spells p (placed_from m l) → l ≢ [] → Adds u (u ++ placed_from m l) id p
+adds_frame : (u : List Placed) (m : ℕ) (l : List ℕ) (id : Option ℕ) (p : PortItem) → Clean u id → Spells p (placed_from m l) → l ≢ [] → Adds u (u ++ placed_from m l) id p
 adds_frame u m [] id p c s n = absurd (n refl)
 adds_frame u m (b ∷ l) id p c s n = adds u (byte_at m b) (placed_from (m + 1) l) id p c s
 
@@ -304,14 +306,14 @@ module _ (every halves : ℕ) where
       let z = adds_frame mid (m + length s) tail id (Frame one.0 one.1) y.0 one.3 (never_empty (spread halves f.pairs) (aux_byte f.pairs f.end.aux ∷ []) f.end.even) in
       let law = frame_law (offsets_of one.0) id k t a (knows_start (is_due every n) c id kn) in
       let parts : mid ++ placed_from (m + length s) tail ≡ u ++ placed_from m (s ++ tail) = append_assoc u (placed_from m s) (placed_from (m + length s) tail) ∙ ap (λ (l : List Placed). u ++ l) (sym (placed_from_append m s tail)) in
-      let after = piece_id id (Frame one.0 one.1) in
+      let after = item_id id (Frame one.0 one.1) in
       record {
         taken = law.taken;
         nulls = law.nulls;
         id = after;
         clean = subst (λ (l : List Placed). Clean l after) parts z.0;
-        cells = ap (λ (l : List Placed). map seen (port_cells l)) (sym parts) ∙ ap (λ (l : List Cell). map seen l) (z.1 ∙ ap (λ (l : List Cell). l ++ piece_cells id (Frame one.0 one.1)) y.1)
-            ∙ map-append seen (port_cells u) (piece_cells id (Frame one.0 one.1))
+        cells = ap (λ (l : List Placed). map seen (port_cells l)) (sym parts) ∙ ap (λ (l : List Cell). map seen l) (z.1 ∙ ap (λ (l : List Cell). l ++ item_cells id (Frame one.0 one.1)) y.1)
+            ∙ map-append seen (port_cells u) (item_cells id (Frame one.0 one.1))
             ∙ ap (λ (l : List (Option ℕ × ℕ)). map seen (port_cells u) ++ l) (ap (λ (l : List ℕ). map seen (cells l (offsets_of one.0) id)) one.2 ∙ law.cells);
         bytes = law.bytes;
         knows = knows_named f.end.id after law.named.0 law.named.1 (ap (λ (l : List ℕ). id_after l id) one.2 ∙ law.id);
@@ -350,11 +352,15 @@ module _ (every halves : ℕ) where
   -- the cells are the tagged bytes and null bytes behind them
   written : (t : List Tagged) → All IsOfSource t → Grown [] (placed (capture every halves t)) t → ReadsBack every halves t
   written t a g = record {
-    no_fault = ap (λ (q : Progress State Piece). q.fault) g.clean.reads;
-    no_tail = ap (λ (q : Progress State Piece). q.rest) g.clean.reads;
-    attributed = attributed (port_cells (placed (capture every halves t))) (t ++ replicate g.nulls null) g.cells;
-    cells = filter_seen (port_cells (placed (capture every halves t))) ∙ ap (filter is_kept) g.cells ∙ kept t g.nulls a;
-  }
+    no_fault = ap (λ (q : Progress State PortItem). q.fault) g.clean.reads;
+    no_tail = ap (λ (q : Progress State PortItem). length q.rest) g.clean.reads;
+    attributed = subst (λ (l : List Cell). All (λ (c : Cell). c.id ≢ None) l) (sym read_cells) (attributed (port_cells (placed (capture every halves t))) (t ++ replicate g.nulls null) g.cells);
+    cells = ap (λ (l : List Cell). map seen (source_cells l)) read_cells
+        ∙ filter_seen (port_cells (placed (capture every halves t))) ∙ ap (filter is_kept) g.cells ∙ kept t g.nulls a;
+  } where
+    -- the cells of the frames are the grammar's
+    read_cells : cells_of (read_back every halves t) ≡ port_cells (placed (capture every halves t))
+    read_cells = aligned_cells (placed (capture every halves t))
 
   pub written_reads : (t : List Tagged) → All IsOfSource t → ReadsBack every halves t
   written_reads t a = written t a (grown t (all_ids t a))

@@ -1,9 +1,11 @@
 -- A written capture, read again.
-use Rattle.std.specs.Prelude.{◌≡◌, ◌≢◌, ◌≤◌, ℕ, List, [], map, not, Option, None, Some}
+use Rattle.std.specs.Prelude.{◌≡◌, ◌≢◌, ◌≤◌, ℕ, List, map, not, Option, None, Some}
 use Rattle.std.specs.List.{All, filter}
 use Rattle.trace_values.specs.Placed.{placed}
 use Rattle.trace_values.specs.declared.cell.Cell.{Cell}
-use Rattle.frame_grammar.specs.Reading.{port_reading, port_cells, is_source}
+use Rattle.capture_plan.specs.declared.frames.FramesMode.TheVariants.{Aligned}
+use Rattle.frame_grammar.specs.Reading.{is_source}
+use Rattle.port_reader.specs.Reading.{PortReading, port_reading, cells_of}
 use Rattle.frame_writer.specs.Written.{Tagged, capture}
 
 -- a byte of a source from 1 to 126
@@ -22,10 +24,14 @@ as_seen x = (Some x.id, x.byte)
 abbrev pub source_cells : List Cell → List Cell
 source_cells cs = filter (λ c. not (is_source 0 c.id)) cs
 
+-- the reading of a written capture, from its first byte on
+abbrev pub read_back : ℕ → ℕ → List Tagged → PortReading
+read_back every halves t = port_reading Aligned (placed (capture every halves t))
+
 -- The capture of t reads back as t, from its first byte on: there is no fault and no tail, each cell has
 -- an ID, and the cells of IDs other than 0 are t, in order.
 pub record ReadsBack (every halves : ℕ) (t : List Tagged) : Type 0 where
-  pub no_fault : (port_reading (placed (capture every halves t))).fault ≡ None
-  pub no_tail : (port_reading (placed (capture every halves t))).rest ≡ []
-  pub attributed : All (λ c. c.id ≢ None) (port_cells (placed (capture every halves t)))
-  pub cells : map seen (source_cells (port_cells (placed (capture every halves t)))) ≡ map as_seen t
+  pub no_fault : (read_back every halves t).fault ≡ None
+  pub no_tail : (read_back every halves t).tail ≡ 0
+  pub attributed : All (λ c. c.id ≢ None) (cells_of (read_back every halves t))
+  pub cells : map seen (source_cells (cells_of (read_back every halves t))) ≡ map as_seen t

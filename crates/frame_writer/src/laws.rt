@@ -4,7 +4,7 @@ ghost use Rattle.std.specs.Prelude.{◌≡◌, ◌≤◌, ◌++◌, ℕ, [], Lis
 ghost use Rattle.std.specs.List.{All, concat};
 ghost use Rattle.frame_writer.specs.declared.writer.FrameWriter.{FrameWriter};
 ghost use Rattle.frame_writer.specs.Written.{Tagged, capture, frames_by, frames_from};
-ghost use Rattle.frame_writer.specs.Writer.{Stands, to_come};
+ghost use Rattle.frame_writer.specs.Writer.{Stands, appended, to_come};
 ghost use Rattle.frame_writer.specs.ReadBack.{IsOfSource, ReadsBack};
 
 /// What is written reads back: the capture of bytes of the sources 1 to 126 has no fault, no tail and no
@@ -27,4 +27,16 @@ pub fn stands_law()
 pub fn bound_law()
     ensures { (every halves most n : ℕ) → (c : Option ℕ) → (t : List Tagged) → length t ≤ most →
         frames_by every halves most n c t ≡ frames_from every halves n c t }
+{}
+
+/// What a writer would still append, if it were finished, is no more than one frame: a full synchronisation, 16 bytes,
+/// and 8 half synchronisations in each of 7 gaps.
+pub fn room_law()
+    ensures { (w : FrameWriter) → length (concat (to_come w [])) ≤ 132 }
+{}
+
+/// A writer has appended at most as many frames as bytes were put.
+pub fn count_law()
+    ensures { (w : FrameWriter) → (every halves : ℕ) → (t : List Tagged) → (so_far : List ℕ) →
+        Stands w every halves t so_far → appended w ≤ length t }
 {}

@@ -1,18 +1,19 @@
 -- The decoder's answer is the grammar's, and its hunt is one for the pattern.
 use Rattle.std.proofs.Common.{◌≡◌, ◌≢◌, ℕ, List, [], ◌∷◌, ◌++◌, refl, sym, ◌∙◌, ap, subst, inl, inr, arith, Option, None, Some, Bool, true, false}
 use Rattle.trace_values.specs.declared.next.Next.{Next}
-use Rattle.trace_values.specs.declared.next.Next.TheVariants.{Go, Stop, Fail}
+use Rattle.trace_values.specs.declared.next.Next.TheVariants.{Go, End, Fail}
 use Rattle.trace_values.specs.declared.mode.Mode.{Mode}
 use Rattle.trace_values.specs.declared.mode.Mode.TheVariants.{Aligned, Hunting, Locked}
-use Rattle.trace_values.specs.Placed.{Placed, units_of, byte_at}
-use Rattle.trace_values.specs.Grammar.{InUnits, Says}
+use Rattle.trace_values.specs.Placed.{Place, Placed, units_of, byte_at}
+use Rattle.trace_values.specs.Grammar.{InUnits}
 use Rattle.trace_values.specs.Walk.{by_unit, Decides}
 use Rattle.trace_values.specs.Reading.{Progress, progress}
 use Rattle.trace_values.specs.Stream.{Notice, shown}
 use Rattle.trace_values.specs.Hunted.{pattern_of, Found, hunt, hunted_by}
 use Rattle.trace_values.specs.Moded.{StandsIn, hunts, is_locked}
-use Rattle.trace_values.specs.Standing.{Stands, step_after}
+use Rattle.trace_values.specs.Standing.{Keeps}
 use Rattle.trace_values.proofs.Placing.{on_units}
+use Rattle.trace_values.proofs.OneUnit.{Says, step_on}
 use Rattle.trace_values.proofs.Answering.{says}
 use Rattle.trace_values.proofs.HuntedLemmas as hunting
 use Rattle.itm_grammar.specs.declared.packet.ItmPacket.{ItmPacket}
@@ -38,27 +39,37 @@ spelled w e = (5, omega arith, e)
 knows : (u : List Placed) → hunting.Knows (InUnits Spells) (λ x. why (units_of x)) (by_unit rule) Header placed_decided pattern Sync zero_is_not_last spelled u (hunt pattern Sync (by_unit rule) Header u)
 knows u = hunting.knows (InUnits Spells) (λ x. why (units_of x)) (by_unit rule) Header placed_decided pattern Sync zero_is_not_last spelled u
 
-by_next : (n : Next Partial ItmPacket) (at : ℕ) (r : List Placed) → Says (InUnits Spells) (λ x. why (units_of x)) n r → AnswersBy (step_after at n) at r
+-- the place of a byte
+abbrev place_at : ℕ → Place
+place_at at = record { at = at; half = 0 }
+
+by_next : (n : Next Partial ItmPacket) (at : ℕ) (r : List Placed) → Says (InUnits Spells) (λ x. why (units_of x)) n r → AnswersBy (step_on (place_at at) n) at r
 by_next (Go s) at r h = h
-by_next (Stop v) at r h = (refl, h)
+by_next (End v) at r h = (refl, h)
 by_next (Fail e) at r h = (refl, refl, h.1, h.0)
 
 answers_on : (u : List Placed) (live : Bool) (partial : Partial) (at byte : ℕ) (n : Next Partial ItmPacket) → live ≡ true → n ≡ rule partial byte →
-    Stands live partial (progress (by_unit rule) Header u) → AnswersBy (step_after at n) at ((progress (by_unit rule) Header u).rest ++ byte_at at byte ∷ [])
+    Keeps live partial (progress (by_unit rule) Header u) → AnswersBy (step_on (place_at at) n) at ((progress (by_unit rule) Header u).rest ++ byte_at at byte ∷ [])
 answers_on u live partial at byte n l e s =
     by_next n at ((progress (by_unit rule) Header u).rest ++ byte_at at byte ∷ [])
     (says (InUnits Spells) (λ x. why (units_of x)) (by_unit rule) Header placed_decided u live partial (byte_at at byte) n l e s)
 
+-- after the lock the reading is that of a list's end
+pub locked_reading : (u : List Placed) (f : Found Partial ItmPacket) → (hunt pattern Sync (by_unit rule) Header u).found ≡ Some f → (w : List Placed) × (f.reading ≡ progress (by_unit rule) Header w)
+locked_reading u f e =
+    let known : hunting.Knew (InUnits Spells) (λ x. why (units_of x)) (by_unit rule) Header placed_decided pattern Sync zero_is_not_last spelled u (hunt pattern Sync (by_unit rule) Header u).run (Some f) =
+    subst (λ o. hunting.Knew (InUnits Spells) (λ x. why (units_of x)) (by_unit rule) Header placed_decided pattern Sync zero_is_not_last spelled u (hunt pattern Sync (by_unit rule) Header u).run o) e (knows u).found in
+    (known.1, known.5)
+
 pub answers : (m : Mode) (live : Bool) (partial : Partial) (u : List Placed) (at byte : ℕ) (n : Next Partial ItmPacket) → live ≡ true → is_locked m ≡ true → n ≡ rule partial byte →
-    StandsIn pattern Sync (by_unit rule) Header m live partial u → AnswersBy (step_after at n) at (rest_in (hunts m) u ++ byte_at at byte ∷ [])
+    StandsIn pattern Sync (by_unit rule) Header m live partial u → AnswersBy (step_on (place_at at) n) at (rest_in (hunts m) u ++ byte_at at byte ∷ [])
 answers Aligned live partial u at byte n l k e s = answers_on u live partial at byte n l e s
 answers (Hunting run skipped) live partial u at byte n l k e s = cc
 answers (Locked skipped) live partial u at byte n l k e s =
-    let known : hunting.Knew (InUnits Spells) (λ x. why (units_of x)) (by_unit rule) Header placed_decided pattern Sync zero_is_not_last spelled u (hunt pattern Sync (by_unit rule) Header u).run (Some s.found) =
-    subst (λ o. hunting.Knew (InUnits Spells) (λ x. why (units_of x)) (by_unit rule) Header placed_decided pattern Sync zero_is_not_last spelled u (hunt pattern Sync (by_unit rule) Header u).run o) s.some (knows u).found in
-    subst (λ (rest : List Placed). AnswersBy (step_after at n) at (rest ++ byte_at at byte ∷ []))
-    (sym (ap (λ o. rest_found o) s.some ∙ ap (λ (q : Progress Partial ItmPacket). q.rest) known.5))
-    (answers_on known.1 live partial at byte n l e (subst (λ (q : Progress Partial ItmPacket). Stands live partial q) known.5 s.stands))
+    let known = locked_reading u s.found s.some in
+    subst (λ (rest : List Placed). AnswersBy (step_on (place_at at) n) at (rest ++ byte_at at byte ∷ []))
+    (sym (ap (λ o. rest_found o) s.some ∙ ap (λ (q : Progress Partial ItmPacket). q.rest) known.1))
+    (answers_on known.0 live partial at byte n l e (subst (λ (q : Progress Partial ItmPacket). Keeps live partial q) known.1 s.stands))
 
 -- the stream of a hunt is one
 pub hunt_is : (u : List Placed) → IsHunt u (packets_in true u)

@@ -10,8 +10,8 @@ use Rattle.itm_codec.specs.Reading.{pattern}
 use Rattle.itm_codec.specs.declared.decoder.ItmDecoder.{ItmDecoder}
 
 -- before its lock it keeps how far the hunt has come; else it is live exactly where the reading of the list has no fault, and keeps the unfinished packet of that reading
-abbrev pub IsOf : ItmDecoder → List Placed → Type 0
-IsOf decoder u = StandsIn pattern Sync (by_unit rule) Header decoder.mode decoder.live decoder.partial u
+abbrev pub Stands : ItmDecoder → List Placed → Type 0
+Stands decoder u = StandsIn pattern Sync (by_unit rule) Header decoder.mode decoder.live decoder.partial u
 
 -- it was made to hunt
 abbrev pub is_hunter : ItmDecoder → Bool

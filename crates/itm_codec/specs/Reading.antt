@@ -3,7 +3,8 @@ use Rattle.std.specs.Prelude.{◌≡◌, ◌⊎◌, List, [], ◌∷◌, ◌++�
 use Rattle.trace_values.specs.Placed.{Place, Placed, units_of}
 use Rattle.trace_values.specs.Walk.{by_unit}
 use Rattle.trace_values.specs.Hunt.{IsNowhere, IsFirst}
-use Rattle.trace_values.specs.Hunted.{Pattern, pattern_of, Found, hunt}
+use Rattle.trace_values.specs.declared.pattern.Pattern.{Pattern}
+use Rattle.trace_values.specs.Hunted.{pattern_of, Found, hunt}
 use Rattle.trace_values.specs.Reading.{progress}
 use Rattle.trace_values.specs.Moded.{stream_in}
 use Rattle.trace_values.specs.Stream.{Stream, Notice, shown}

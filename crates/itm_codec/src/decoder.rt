@@ -5,11 +5,17 @@ ghost use Rattle.trace_values.specs.Moded.{is_counted};
 ghost use Rattle.itm_grammar.specs.Rule.{is_sound};
 ghost use Rattle.itm_codec.specs.Reading.{pattern};
 
-use crate::hunt::{ends_pattern, run_with};
-use crate::whole::source_packet;
+use crate::whole::whole_packet;
 use itm_grammar::packet::ItmPacket;
 use itm_grammar::partial::Partial;
-use trace_values::{Block, Fault, Machine, Mode, Next, Step, feed_block};
+use trace_values::{Block, Fault, Machine, Mode, Next, Pattern, Step, feed_block};
+
+/// A synchronisation packet, `00 00 00 00 00 80`.
+const SYNC: Pattern = Pattern {
+    unit: 0,
+    most: 5,
+    last: 0x80,
+};
 
 /// A decoder of ITM packets. It keeps what it needs of the one unfinished packet.
 #[derive(Drop)]
@@ -24,17 +30,17 @@ pub struct ItmDecoder {
 impl ItmDecoder {
     ghost use Rattle.std.specs.Prelude.{[], false, ℕ, ◌+◌, ◌*◌, ◌^◌, ◌<◌, ◌≤◌, List, length, take, IfSome};
     ghost use Rattle.trace_values.specs.Placed.{Placed};
-    ghost use Rattle.trace_values.specs.Stream.{StepFits};
+    ghost use Rattle.trace_values.specs.Stream.{StepFits, LocksAfter};
     ghost use Rattle.trace_values.specs.Block.{Takes, StopsFor, goes_on_after};
     ghost use Rattle.itm_grammar.specs.declared.partial.Partial.TheVariants.{Header};
     ghost use Rattle.itm_grammar.specs.Spelling.{Spells};
     ghost use Rattle.itm_grammar.specs.Proper.{IsProper};
     ghost use Rattle.itm_codec.specs.Reading.{packets_in};
-    ghost use Rattle.itm_codec.specs.Decoder.{IsOf, is_hunter, is_live, has_locked, held_of, skipped_by};
+    ghost use Rattle.itm_codec.specs.Decoder.{Stands, is_hunter, is_live, has_locked, held_of, skipped_by};
 
     /// A decoder of bytes that begin with a packet.
     pub fn aligned() -> ItmDecoder
-        ensures fresh { IsOf result [] }
+        ensures fresh { Stands result [] }
         ensures mode { is_hunter result ≡ false }
         ensures live { is_live result ≡ true }
         ensures empty { (held_of result ≡ 0) × (skipped_by result ≡ 0) }
@@ -48,7 +54,7 @@ impl ItmDecoder {
 
     /// A decoder of bytes that may begin anywhere: it skips them up to the first synchronisation packet.
     pub fn hunting() -> ItmDecoder
-        ensures fresh { IsOf result [] }
+        ensures fresh { Stands result [] }
         ensures mode { is_hunter result ≡ true }
         ensures live { is_live result ≡ true }
         ensures empty { (held_of result ≡ 0) × (skipped_by result ≡ 0) }
@@ -60,21 +66,21 @@ impl ItmDecoder {
         }
     }
 
-    /// The whole source packet that the bytes begin with, where the next byte is a header.
+    /// The whole packet that the bytes begin with, where the next byte is a header.
     #[inline]
-    fn source_packet(&self, piece: &[u8]) -> Option<(usize, ItmPacket)>
+    fn next_packet(&self, piece: &[u8]) -> Option<(usize, ItmPacket)>
         ensures header { IfSome result (λ x. (has_locked self.now ≡ true) × (self.now.partial ≡ Header)) }
         ensures whole { IfSome result (λ x. (0 < x.0) × (x.0 ≤ length piece.now) × Spells x.1 (take x.0 piece.now)) }
         ensures proper { IfSome result (λ x. IsProper x.1) }
     {
         match (&self.mode, &self.partial) {
-            (Mode::Aligned | Mode::Locked { .. }, Partial::Header) => source_packet(piece),
+            (Mode::Aligned | Mode::Locked { .. }, Partial::Header) => whole_packet(piece),
             _ => None,
         }
     }
 
-    /// Feeds a piece, whose first byte stands at this offset, up to the first byte to which the answer is
-    /// neither `Quiet` nor `Skipping`, or to the piece's end. It takes a source packet at once whose bytes
+    /// Feeds a piece, whose first byte is at this offset, up to the first byte to which the answer is
+    /// neither `Quiet` nor `Skipping`, or to the piece's end. It takes a packet at once whose bytes
     /// are all there.
     #[inline]
     pub fn feed_piece(&mut self, at: u64, piece: &[u8]) -> Block<ItmPacket>
@@ -85,13 +91,15 @@ impl ItmDecoder {
         ensures same { packets_in (is_hunter self.new) ≡ packets_in (is_hunter self.old) }
         ensures bytes { (0 < result.bytes) × (result.bytes ≤ length piece.now) }
         ensures stops { StopsFor result.bytes (length piece.now) result.step }
-        ensures takes { (u : List Placed) → IsOf self.old u →
-            Takes (packets_in (is_hunter self.old)) (IsOf self.new) u at piece.now result.bytes result.step }
+        ensures takes { (u : List Placed) → Stands self.old u →
+            Takes (packets_in (is_hunter self.old)) (Stands self.new) u at piece.now result.bytes result.step }
         ensures live { is_live self.new ≡ goes_on_after result.step }
+        ensures lock { IfSome result.step (LocksAfter (skipped_by self.new)) }
         ensures fits { IfSome result.step (StepFits IsProper) }
-        ensures few { held_of self.new + skipped_by self.new ≤ held_of self.old + skipped_by self.old + 2 * result.bytes }
+        ensures few { held_of self.new + skipped_by self.new ≤
+            held_of self.old + skipped_by self.old + 2 * result.bytes }
     {
-        if let Some((bytes, packet)) = self.source_packet(piece) {
+        if let Some((bytes, packet)) = self.next_packet(piece) {
             return Block {
                 bytes,
                 step: Some(Step::Item {
@@ -105,9 +113,9 @@ impl ItmDecoder {
 }
 
 impl Machine for ItmDecoder {
-    ghost use Rattle.std.specs.Prelude.{refl, ◌+◌, ◌^◌, ◌≤◌, ◌∷◌, ◌++◌, [], List};
-    ghost use Rattle.trace_values.specs.Placed.{Placed, byte_at};
-    ghost use Rattle.trace_values.specs.Stream.{Grows, StepFits, goes_on};
+    ghost use Rattle.std.specs.Prelude.{refl, ◌+◌, ◌^◌, ◌≤◌, ◌⊎◌, ◌∷◌, ◌++◌, [], List, All, take};
+    ghost use Rattle.trace_values.specs.Placed.{Placed, byte_at, units_of};
+    ghost use Rattle.trace_values.specs.Stream.{Grows, StepFits, LocksAfter, goes_on};
     ghost use Rattle.itm_codec.specs.Answers.{AnswersBy};
     ghost use Rattle.itm_grammar.specs.Rule.{rule, count_of};
     ghost use Rattle.itm_grammar.specs.Proper.{IsProper};
@@ -115,15 +123,16 @@ impl Machine for ItmDecoder {
     ghost use Rattle.itm_grammar.specs.declared.partial.Partial.TheVariants.{Header};
     ghost use Rattle.trace_values.specs.Walk.{by_unit};
     ghost use Rattle.itm_codec.specs.Reading.{pattern, packets_in, rest_in};
-    ghost use Rattle.itm_codec.specs.Decoder.{IsOf, is_hunter, is_live, has_locked, held_of, skipped_by};
+    ghost use Rattle.itm_codec.specs.Decoder.{Stands, is_hunter, is_live, has_locked, held_of, skipped_by};
     ghost use Rattle.trace_values.proofs.Modes as laws;
+    ghost use Rattle.trace_values.proofs.Falls as falling;
     ghost use Rattle.itm_grammar.proofs.Counting as counting;
 
     type Item = ItmPacket;
 
     ghost reading = { λ m. packets_in (is_hunter m) };
 
-    ghost stands = { IsOf };
+    ghost stands = { Stands };
 
     ghost live = { is_live };
 
@@ -133,15 +142,26 @@ impl Machine for ItmDecoder {
 
     ghost skipped_units = { skipped_by };
 
+    ghost units_per_byte = { 1 };
+
     ghost fits = { IsProper };
 
-    ghost shows = { λ m u s. laws.shows pattern Sync (by_unit rule) Header count_of refl counting.counts_placed m.mode m.live m.partial u s };
+    ghost shows = { λ m u s.
+        laws.shows pattern Sync (by_unit rule) Header count_of refl counting.counts_placed
+        m.mode m.live m.partial u s };
 
     ghost begins = { λ m. laws.begins pattern Sync (by_unit rule) Header (is_hunter m) };
 
     ghost settles = { λ m u w e. laws.settles pattern Sync (by_unit rule) Header (is_hunter m) u w e };
 
     ghost rises = { λ m u at byte. laws.rises pattern Sync (by_unit rule) Header (is_hunter m) u at byte };
+
+    ghost falls = { λ m u at byte f.
+        falling.holds pattern Sync (by_unit rule) Header (is_hunter m) u (byte_at at byte) f };
+
+    ghost keeps = { λ m u at byte s l f.
+        falling.keeps_one pattern Sync (by_unit rule) Header count_of refl counting.counts_placed
+        m.mode m.live m.partial u (byte_at at byte) s l f };
 
     /// Takes the next byte. Beside what every machine says, its answer in a reading is the grammar's: an
     /// item exactly where the unfinished packet with this byte is a packet, a fault exactly where no
@@ -151,18 +171,20 @@ impl Machine for ItmDecoder {
         requires room { held_of self.old ≤ 2 ^ 60 }
         requires count { skipped_by self.old ≤ 2 ^ 60 }
         ensures same { packets_in (is_hunter self.new) ≡ packets_in (is_hunter self.old) }
-        ensures list { (u : List Placed) → IsOf self.old u → IsOf self.new (u ++ byte_at at byte ∷ []) }
-        ensures step { (u : List Placed) → IsOf self.old u →
-            Grows (packets_in (is_hunter self.old) u) (packets_in (is_hunter self.old) (u ++ byte_at at byte ∷ [])) at result }
+        ensures list { (u : List Placed) → Stands self.old u → Stands self.new (u ++ byte_at at byte ∷ []) }
+        ensures step { (u : List Placed) → Stands self.old u →
+            Grows (packets_in (is_hunter self.old) u)
+            (packets_in (is_hunter self.old) (u ++ byte_at at byte ∷ [])) at result }
         ensures live { is_live self.new ≡ goes_on result }
+        ensures lock { LocksAfter (skipped_by self.new) result }
         ensures fits { StepFits IsProper result }
         ensures few { held_of self.new + skipped_by self.new ≤ held_of self.old + skipped_by self.old + 2 }
-        ensures grammar { (u : List Placed) → IsOf self.old u → has_locked self.old ≡ true →
+        ensures grammar { (u : List Placed) → Stands self.old u → has_locked self.old ≡ true →
             AnswersBy result at (rest_in (is_hunter self.old) u ++ byte_at at byte ∷ []) }
     {
         if let Mode::Hunting { run, skipped } = self.mode {
-            if ends_pattern(run, byte) {
-                let before = skipped - 5;
+            if SYNC.ends(run, byte) {
+                let before = skipped - SYNC.most as u64;
                 self.mode = Mode::Locked { skipped: before };
                 Step::Locked {
                     skipped: before,
@@ -171,7 +193,7 @@ impl Machine for ItmDecoder {
                 }
             } else {
                 self.mode = Mode::Hunting {
-                    run: run_with(run, byte),
+                    run: SYNC.run_after(run, byte),
                     skipped: skipped + 1,
                 };
                 Step::Skipping
@@ -182,7 +204,7 @@ impl Machine for ItmDecoder {
                     self.partial = partial;
                     Step::Quiet
                 }
-                Next::Stop(packet) => {
+                Next::End(packet) => {
                     self.partial = Partial::Header;
                     Step::Item {
                         half: 0,
@@ -206,20 +228,20 @@ impl Machine for ItmDecoder {
     }
 
     fn is_locked(&self) -> bool {
-        match self.mode {
-            Mode::Hunting { .. } => false,
-            Mode::Aligned | Mode::Locked { .. } => true,
-        }
+        self.mode.is_locked()
     }
 
-    fn held(&self) -> u64 {
+    /// How many bytes of an unfinished packet it holds: at most 6, or all of them are 00. After a fault they are those
+    /// before the fault's byte.
+    fn held(&self) -> u64
+        ensures count { result ≡ held_of self.now }
+        ensures few { (u : List Placed) → Stands self.now u →
+            (result ≤ 6) ⊎ All (λ b. b ≡ 0) (take result (units_of (rest_in (is_hunter self.now) u))) }
+    {
         self.partial.len()
     }
 
     fn skipped(&self) -> u64 {
-        match self.mode {
-            Mode::Aligned => 0,
-            Mode::Hunting { skipped, .. } | Mode::Locked { skipped } => skipped,
-        }
+        self.mode.skipped()
     }
 }

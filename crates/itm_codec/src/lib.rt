@@ -4,7 +4,6 @@
 
 mod decoder;
 mod encoder;
-mod hunt;
 pub mod laws;
 mod whole;
 

@@ -2,7 +2,7 @@
 use Rattle.std.proofs.Common.{◌≡◌, ℕ, ◌+◌, ◌==◌, ◌&&◌, nat_le, Bool, true, false, cond, refl}
 use Rattle.trace_values.specs.declared.fault.Reason.TheVariants.{BadItmSync}
 use Rattle.trace_values.specs.declared.next.Next.{Next}
-use Rattle.trace_values.specs.declared.next.Next.TheVariants.{Go, Stop, Fail}
+use Rattle.trace_values.specs.declared.next.Next.TheVariants.{Go, End, Fail}
 use Rattle.trace_values.specs.Placed.{Placed}
 use Rattle.itm_grammar.specs.declared.packet.ItmPacket.{ItmPacket}
 use Rattle.itm_grammar.specs.declared.packet.ItmPacket.TheVariants.{Sync}
@@ -17,7 +17,7 @@ use Rattle.itm_grammar.proofs.Payloads.{last_ends, added}
 -- a step that goes on counts one more
 abbrev CountsOn : ℕ → Next Partial ItmPacket → Type 0
 CountsOn n (Go t) = count_of t ≡ n + 1
-CountsOn n (Stop v) = Unit {0}
+CountsOn n (End v) = Unit {0}
 CountsOn n (Fail e) = Unit {0}
 
 either : (n : ℕ) (b : Bool) (x y : Next Partial ItmPacket) → CountsOn n x → CountsOn n y → CountsOn n (cond b x y)
@@ -38,7 +38,7 @@ begun Reserved = tt
 
 ends_none : (n : ℕ) (x : Next Partial ItmPacket) → ((t : Partial) → x ≡ Go t → ⊥) → CountsOn n x
 ends_none n (Go t) h = absurd (h t refl)
-ends_none n (Stop v) h = tt
+ends_none n (End v) h = tt
 ends_none n (Fail e) h = tt
 
 paid : (c : Class) (count value b : ℕ) → CountsOn (count + 1) (payload_with c count value b)
@@ -49,12 +49,12 @@ paid c count value b =
 all_count : (s : Partial) (b : ℕ) → CountsOn (count_of s) (rule s b)
 all_count Header b = begun (class_of b)
 all_count (Zeros count) b =
-    either count (b == 0) (Go (Zeros (count + 1))) (cond (b == 128 && nat_le 5 count) (Stop Sync) (Fail BadItmSync)) refl (either count (b == 128 && nat_le 5 count) (Stop Sync) (Fail BadItmSync) tt tt)
+    either count (b == 0) (Go (Zeros (count + 1))) (cond (b == 128 && nat_le 5 count) (End Sync) (Fail BadItmSync)) refl (either count (b == 128 && nat_le 5 count) (End Sync) (Fail BadItmSync) tt tt)
 all_count (Payload class count value) b = paid class count (value + added class count b) b
 
 of_step : (n : ℕ) (x : Next Partial ItmPacket) (t : Partial) → x ≡ Go t → CountsOn n x → count_of t ≡ n + 1
 of_step n (Go s) t e h = let k : s ≡ t = cc in cc
-of_step n (Stop v) t e h = cc
+of_step n (End v) t e h = cc
 of_step n (Fail f) t e h = cc
 
 pub counts : (s t : Partial) (b : ℕ) → rule s b ≡ Go t → count_of t ≡ count_of s + 1

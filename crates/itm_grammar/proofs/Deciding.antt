@@ -7,7 +7,7 @@ use Rattle.std.proofs.lemmas.Bool.Decides.{nat_tests}
 use Rattle.trace_values.specs.declared.fault.Reason.{Reason}
 use Rattle.trace_values.specs.declared.fault.Reason.TheVariants.{BadItmSync, LongStamp, ShortStamp}
 use Rattle.trace_values.specs.declared.next.Next.{Next}
-use Rattle.trace_values.specs.declared.next.Next.TheVariants.{Go, Stop, Fail}
+use Rattle.trace_values.specs.declared.next.Next.TheVariants.{Go, End, Fail}
 use Rattle.trace_values.specs.Walk.{Walked, Within, Whole, after, Decides}
 use Rattle.trace_values.proofs.Walks as walks
 use Rattle.itm_grammar.specs.declared.packet.Size.{Size}
@@ -27,16 +27,16 @@ use Rattle.itm_grammar.proofs.Counting.{counts}
 use Rattle.itm_grammar.proofs.Headers.{chosen, header_of, header_is, made}
 use Rattle.itm_grammar.proofs.Payloads.{from, says, value_from, last_of, added, payload_cases, payload_sound, payload_complete, last_ends, fills_count, count_fills, longer, fills_continued, continued_fills, value_number, value_groups, extension_filled, extension_fills, value_extended}
 
-stop_whole : (v w : ItmPacket) (k : Partial → Walked Partial ItmPacket) (p : List ℕ) → after (Stop v) k p ≡ Whole w → (w ≡ v) × (p ≡ [])
+stop_whole : (v w : ItmPacket) (k : Partial → Walked Partial ItmPacket) (p : List ℕ) → after (End v) k p ≡ Whole w → (w ≡ v) × (p ≡ [])
 stop_whole v w k [] e = (cc, refl)
 stop_whole v w k (b ∷ p) e = cc
 
 -- bytes 00 and what ends them
 pub zeros_cases : (n b : ℕ) →
-    ((b ≡ 0) × (zeros_with n b ≡ Go (Zeros (n + 1)))) ⊎ ((b ≡ 128) × (5 ≤ n) × (zeros_with n b ≡ Stop Sync)) ⊎ (zeros_with n b ≡ Fail BadItmSync)
+    ((b ≡ 0) × (zeros_with n b ≡ Go (Zeros (n + 1)))) ⊎ ((b ≡ 128) × (5 ≤ n) × (zeros_with n b ≡ End Sync)) ⊎ (zeros_with n b ≡ Fail BadItmSync)
 zeros_cases n b = grind (arith, nat_tests)
 
-zeros_stop : (n : ℕ) → 5 ≤ n → zeros_with n 128 ≡ Stop Sync
+zeros_stop : (n : ℕ) → 5 ≤ n → zeros_with n 128 ≡ End Sync
 zeros_stop n h = grind (arith, nat_tests)
 
 -- more bytes 00 are counted, and nothing else
@@ -45,7 +45,7 @@ walk_zeros zero n w = ap (λ (m : ℕ). from (Zeros m) w) (let e : n ≡ n + 0 =
 walk_zeros (suc k) n w = walk_zeros k (n + 1) w ∙ ap (λ (m : ℕ). from (Zeros m) w) (let e : n + 1 + k ≡ n + suc k = omega arith in e)
 
 zeros_end : (n : ℕ) → 5 ≤ n → from (Zeros n) (128 ∷ []) ≡ Whole Sync
-zeros_end n h = says (zeros_with n 128) (Stop Sync) [] (zeros_stop n h)
+zeros_end n h = says (zeros_with n 128) (End Sync) [] (zeros_stop n h)
 
 zeros_complete : (k n : ℕ) → 5 ≤ n + k → from (Zeros n) (replicate k 0 ++ 128 ∷ []) ≡ Whole Sync
 zeros_complete k n h = walk_zeros k n (128 ∷ []) ∙ zeros_end (n + k) h
@@ -58,7 +58,7 @@ zeros_sound n (b ∷ p) v e = elim (zeros_cases n b) [
       (s.0, suc s.1, (let h = s.2 in omega arith), (let a : b ≡ 0 = m.0 in let q : p ≡ replicate s.1 0 ++ 128 ∷ [] = s.3 in cc))
   | inr m ↦ elim m [
     | inl o ↦
-        let t = stop_whole Sync v (λ t. from t p) p (sym (says (zeros_with n b) (Stop Sync) p o.2) ∙ e) in
+        let t = stop_whole Sync v (λ t. from t p) p (sym (says (zeros_with n b) (End Sync) p o.2) ∙ e) in
         (t.0, 0, (let h = o.1 in omega arith), (let a : b ≡ 128 = o.0 in let q : p ≡ [] = t.1 in cc))
     | inr o ↦ (let k = sym (says (zeros_with n b) (Fail BadItmSync) p o) ∙ e in cc)
   ]
@@ -136,7 +136,7 @@ under_8 n e = grind (arith, nat_tests)
 between : (n : ℕ) → (nat_lt 0 n && nat_lt n 7) ≡ true → (0 < n) × (n < 7)
 between n e = grind (arith, nat_tests)
 
-stopped : (x v : ItmPacket) → (let s : Next Partial ItmPacket = Stop x in s ≡ Stop v) → v ≡ x
+stopped : (x v : ItmPacket) → (let s : Next Partial ItmPacket = End x in s ≡ End v) → v ≡ x
 stopped x v e = cc
 
 -- whole are only spellings, class by class
@@ -149,7 +149,7 @@ source_sound h hardware n size p v k e =
     let l : 0 + length p ≡ byte_count size = fills_count (byte_count size) 0 p (some_count size) f.fills in
     let w : value_from (λ i b. b * 256 ^ i) 0 0 p ≡ 0 + 256 ^ 0 * number p = value_number 0 0 p in
     let w' : value_from (λ i b. b * 256 ^ i) 0 0 p ≡ number p = omega arith in
-    let s : (let x : Next Partial ItmPacket = Stop (source hardware n size (value_from (λ i b. b * 256 ^ i) 0 0 p)) in x ≡ Stop v) = f.ends in
+    let s : (let x : Next Partial ItmPacket = End (source hardware n size (value_from (λ i b. b * 256 ^ i) 0 0 p)) in x ≡ End v) = f.ends in
     let q : source hardware n size (value_from (λ i b. b * 256 ^ i) 0 0 p) ≡ v = cc in
     ((p, under n a.1, ap (λ (i : ℕ). i ∷ p) a.0, omega arith, refl), sym q ∙ ap (source hardware n size) w')
   where
@@ -202,7 +202,7 @@ second_sound h p v k e =
           let t = fills_continued 6 0 p (omega arith) f.fills (under_128 (last_of p) m.0) in
           let w = groups_whole p in
           let z : 0 + length p ≡ length p = omega arith in
-          let s : second_stamp (length p) (groups p) ≡ Stop v =
+          let s : second_stamp (length p) (groups p) ≡ End v =
           ap (second_stamp (length p)) (sym w) ∙ ap (λ (n : ℕ). second_stamp n (value_from (λ i b. b % 128 * 128 ^ i) 0 0 p)) (sym z) ∙ m.1 in
           elim (chosen (length p == 4) s) [
             | inl o ↦
@@ -285,7 +285,7 @@ source_complete hardware n size value r s =
     rw s.2 (class_whole c p (source hardware n size value) (under n s.1) (λ e. cc)
     (payload_complete c 0 0 p (source hardware n size value) (record {
       fills = count_fills (byte_count size) 0 p (some_count size) (let l = s.3 in omega arith);
-      ends = ap (λ (i : ℕ). (let y : Next Partial ItmPacket = Stop (source hardware n size i) in y)) x;
+      ends = ap (λ (i : ℕ). (let y : Next Partial ItmPacket = End (source hardware n size i) in y)) x;
     })))
   where
     under : (n : ℕ) → n < 32 → nat_lt n 32 ≡ true
@@ -304,7 +304,7 @@ local_complete lateness p h l =
     let m = continued_fills 4 0 p h (omega arith) in
     payload_complete (LocalLong lateness) 0 0 p (Local lateness (groups p)) (record {
       fills = m.0;
-      ends = taken (nat_lt (last_of p) 128) _ _ (Stop (Local lateness (groups p))) (is_under_128 (last_of p) m.1) (ap (λ (i : ℕ). (let y : Next Partial ItmPacket = Stop (Local lateness i) in y)) (groups_whole p));
+      ends = taken (nat_lt (last_of p) 128) _ _ (End (Local lateness (groups p))) (is_under_128 (last_of p) m.1) (ap (λ (i : ℕ). (let y : Next Partial ItmPacket = End (Local lateness i) in y)) (groups_whole p));
     })
 
 first_complete : (p : List ℕ) → IsContinued p → length p ≤ 4 → from (Payload First 0 0) p ≡ Whole (first_stamp (length p) (groups p))
@@ -313,22 +313,22 @@ first_complete p h l =
     let z : 0 + length p ≡ length p = omega arith in
     payload_complete First 0 0 p (first_stamp (length p) (groups p)) (record {
       fills = m.0;
-      ends = taken (nat_lt (last_of p) 128) _ _ (Stop (first_stamp (length p) (groups p))) (is_under_128 (last_of p) m.1)
-          (ap (λ (i : ℕ). (let y : Next Partial ItmPacket = Stop (first_stamp (0 + length p) i) in y)) (groups_whole p)
-          ∙ ap (λ (i : ℕ). (let y : Next Partial ItmPacket = Stop (first_stamp i (groups p)) in y)) z);
+      ends = taken (nat_lt (last_of p) 128) _ _ (End (first_stamp (length p) (groups p))) (is_under_128 (last_of p) m.1)
+          (ap (λ (i : ℕ). (let y : Next Partial ItmPacket = End (first_stamp (0 + length p) i) in y)) (groups_whole p)
+          ∙ ap (λ (i : ℕ). (let y : Next Partial ItmPacket = End (first_stamp i (groups p)) in y)) z);
     })
 
-second_complete : (p : List ℕ) (x : ItmPacket) → IsContinued p → length p ≤ 6 → second_stamp (length p) (groups p) ≡ Stop x → from (Payload Second 0 0) p ≡ Whole x
+second_complete : (p : List ℕ) (x : ItmPacket) → IsContinued p → length p ≤ 6 → second_stamp (length p) (groups p) ≡ End x → from (Payload Second 0 0) p ≡ Whole x
 second_complete p x h l e =
     let m = continued_fills 6 0 p h (omega arith) in
     let z : 0 + length p ≡ length p = omega arith in
     payload_complete Second 0 0 p x (record {
       fills = m.0;
-      ends = taken (nat_lt (last_of p) 128) _ _ (Stop x) (is_under_128 (last_of p) m.1)
+      ends = taken (nat_lt (last_of p) 128) _ _ (End x) (is_under_128 (last_of p) m.1)
           (ap (second_stamp (0 + length p)) (groups_whole p) ∙ ap (λ (i : ℕ). second_stamp i (groups p)) z ∙ e);
     })
 
-second_of : (n g k : ℕ) (x : ItmPacket) → n ≡ k → second_stamp k g ≡ Stop x → second_stamp n g ≡ Stop x
+second_of : (n g k : ℕ) (x : ItmPacket) → n ≡ k → second_stamp k g ≡ End x → second_stamp n g ≡ End x
 second_of n g k x e h = rw e h
 
 extension_complete : (dwt : Bool) (low : ℕ) (p : List ℕ) → low < 8 → IsExtended p → from Header ((128 * more_bit p + 16 * low + 4 * bit_of dwt + 8) ∷ p) ≡ Whole (Extension dwt (low + 8 * extended p))
@@ -345,7 +345,7 @@ extension_complete dwt low (b ∷ p) h x =
     class_whole c (b ∷ p) (Extension dwt (low + 8 * extended (b ∷ p))) (under low h) (λ e. cc)
     (payload_complete c 0 0 (b ∷ p) (Extension dwt (low + 8 * extended (b ∷ p))) (record {
       fills = extension_fills b p x;
-      ends = ap (λ (i : ℕ). (let y : Next Partial ItmPacket = Stop (Extension dwt (low + 8 * i)) in y)) w;
+      ends = ap (λ (i : ℕ). (let y : Next Partial ItmPacket = End (Extension dwt (low + 8 * i)) in y)) w;
     }))
   where
     under : (n : ℕ) → n < 8 → nat_lt n 8 ≡ true
@@ -447,8 +447,8 @@ keeps c n (Payload d count value) t b h e = elim (payload_cases d count value b)
 went_on : (x : Next Partial ItmPacket) (k : Partial → Walked Partial ItmPacket) (p : List ℕ) (t : Partial) → after x k p ≡ Within t →
     (u : Partial) × (x ≡ Go u) × (k u ≡ Within t)
 went_on (Go u) k p t e = (u, refl, e)
-went_on (Stop v) k [] t e = cc
-went_on (Stop v) k (b ∷ p) t e = cc
+went_on (End v) k [] t e = cc
+went_on (End v) k (b ∷ p) t e = cc
 went_on (Fail f) k p t e = cc
 
 reached : (c : Class) (n : ℕ) (s t : Partial) (r : List ℕ) → Belongs c n s → from s r ≡ Within t → Belongs c (n + length r) t
@@ -495,7 +495,7 @@ second_ending count value h =
       w,
       payload_complete Second count value w x (record {
         fills = m.0;
-        ends = taken (nat_lt (last_of w) 128) (second_stamp (count + length w) g) (Fail LongStamp) (Stop x) (is_under_128 (last_of w) m.1) (second_of (count + length w) g 6 x l refl);
+        ends = taken (nat_lt (last_of w) 128) (second_stamp (count + length w) g) (Fail LongStamp) (End x) (is_under_128 (last_of w) m.1) (second_of (count + length w) g 6 x l refl);
       }),
     )
 
@@ -582,8 +582,8 @@ last_fails Zero n v b e l g h = absurd (omega arith)
 last_fails Overflowed n v b e l g h = absurd (omega arith)
 last_fails (Source hardware number size) n v b e l g h = cc
 last_fails (LocalShort delta) n v b e l g h = absurd (omega arith)
-last_fails (LocalLong lateness) n v b e l g h = stamp_fails n v b (Stop (Local lateness v)) e (λ f k. cc) h
-last_fails First n v b e l g h = stamp_fails n v b (Stop (first_stamp (n + 1) v)) e (λ f k. cc) h
+last_fails (LocalLong lateness) n v b e l g h = stamp_fails n v b (End (Local lateness v)) e (λ f k. cc) h
+last_fails First n v b e l g h = stamp_fails n v b (End (first_stamp (n + 1) v)) e (λ f k. cc) h
 last_fails Second n v b e l g h = second_fails n v b e l g h
 last_fails (Extended more dwt low) n v b e l g h = cc
 last_fails Reserved n v b e l g h = absurd (omega arith)

@@ -4,7 +4,7 @@ use Rattle.std.proofs.Math.Nat.{pow-suc, mul-add, mul_assoc, mul_comm}
 use Rattle.std.specs.Prelude.{nat_lt, nat_le, ◌==◌, ◌&&◌}
 use Rattle.std.proofs.lemmas.Bool.Decides.{nat_tests}
 use Rattle.trace_values.specs.declared.next.Next.{Next}
-use Rattle.trace_values.specs.declared.next.Next.TheVariants.{Go, Stop, Fail}
+use Rattle.trace_values.specs.declared.next.Next.TheVariants.{Go, End, Fail}
 use Rattle.trace_values.specs.Walk.{Walked, Whole, after, walk}
 use Rattle.itm_grammar.specs.declared.packet.ItmPacket.{ItmPacket}
 use Rattle.itm_grammar.specs.declared.header.Class.{Class}
@@ -62,10 +62,10 @@ last_ends (Extended more dwt low) n v b t e = cc
 last_ends Reserved n v b t e = cc
 
 ended_whole : (y : Next Partial ItmPacket) (k : Partial → Walked Partial ItmPacket) (p : List ℕ) (x : ItmPacket) → ((t : Partial) → y ≡ Go t → ⊥) → after y k p ≡ Whole x →
-    (y ≡ Stop x) × (p ≡ [])
+    (y ≡ End x) × (p ≡ [])
 ended_whole (Go t) k p x n e = absurd (n t refl)
-ended_whole (Stop z) k [] x n e = (let q : z ≡ x = cc in ap (λ (i : ItmPacket). (let y : Next Partial ItmPacket = Stop i in y)) q, refl)
-ended_whole (Stop z) k (b ∷ p) x n e = cc
+ended_whole (End z) k [] x n e = (let q : z ≡ x = cc in ap (λ (i : ItmPacket). (let y : Next Partial ItmPacket = End i in y)) q, refl)
+ended_whole (End z) k (b ∷ p) x n e = cc
 ended_whole (Fail f) k p x n e = cc
 
 -- what a payload byte says, by the test
@@ -82,7 +82,7 @@ payload_cases c n v b = decided (another_follows c n b) refl where
 
 pub record Filled (c : Class) (n v : ℕ) (p : List ℕ) (x : ItmPacket) : Type 0 where
   pub fills : Fills (λ i b. another_follows c i b) n p
-  pub ends : last c (n + length p) (value_from (λ i b. added c i b) n v p) (last_of p) ≡ Stop x
+  pub ends : last c (n + length p) (value_from (λ i b. added c i b) n v p) (last_of p) ≡ End x
 
 pub payload_sound : (c : Class) (n v : ℕ) (p : List ℕ) (x : ItmPacket) → from (Payload c n v) p ≡ Whole x → Filled c n v p x
 payload_sound c n v [] x e = cc
@@ -97,7 +97,7 @@ payload_sound c n v (b ∷ (d ∷ p)) x e = elim (payload_cases c n v b) [
       let w = v + added c n b in
       let k = payload_sound c (n + 1) w (d ∷ p) x (sym (says (with_of c n v b) (Go (Payload c (n + 1) w)) (d ∷ p) m.1) ∙ e) in
       let l : n + 1 + length (d ∷ p) ≡ n + length (b ∷ (d ∷ p)) = omega arith in
-      record { fills = (m.0, k.fills); ends = subst (λ (i : ℕ). last c i (value_from (λ i b. added c i b) (n + 1) w (d ∷ p)) (last_of (d ∷ p)) ≡ Stop x) l k.ends }
+      record { fills = (m.0, k.fills); ends = subst (λ (i : ℕ). last c i (value_from (λ i b. added c i b) (n + 1) w (d ∷ p)) (last_of (d ∷ p)) ≡ End x) l k.ends }
   | inr m ↦
       let k = ended_whole (last c (n + 1) (v + added c n b) b) (λ t. from t (d ∷ p)) (d ∷ p) x (last_ends c (n + 1) (v + added c n b) b) (sym (says (with_of c n v b) (last c (n + 1) (v + added c n b) b) (d ∷ p) m.1) ∙ e) in
       let q : d ∷ p ≡ [] = k.1 in cc
@@ -107,7 +107,7 @@ pub payload_complete : (c : Class) (n v : ℕ) (p : List ℕ) (x : ItmPacket) �
 payload_complete c n v [] x f = absurd f.fills
 payload_complete c n v (b ∷ []) x f = elim (payload_cases c n v b) [
   | inl m ↦ (let k = sym m.0 ∙ f.fills in cc)
-  | inr m ↦ says (with_of c n v b) (Stop x) [] (m.1 ∙ f.ends)
+  | inr m ↦ says (with_of c n v b) (End x) [] (m.1 ∙ f.ends)
 ]
 payload_complete c n v (b ∷ (d ∷ p)) x f = elim (payload_cases c n v b) [
   | inl m ↦
@@ -116,7 +116,7 @@ payload_complete c n v (b ∷ (d ∷ p)) x f = elim (payload_cases c n v b) [
       says (with_of c n v b) (Go (Payload c (n + 1) w)) (d ∷ p) m.1
       ∙ payload_complete c (n + 1) w (d ∷ p) x (record {
         fills = f.fills.1;
-        ends = subst (λ (i : ℕ). last c i (value_from (λ i b. added c i b) (n + 1) w (d ∷ p)) (last_of (d ∷ p)) ≡ Stop x) l f.ends;
+        ends = subst (λ (i : ℕ). last c i (value_from (λ i b. added c i b) (n + 1) w (d ∷ p)) (last_of (d ∷ p)) ≡ End x) l f.ends;
       })
   | inr m ↦ (let k = sym m.0 ∙ f.fills.0 in cc)
 ]

@@ -14,7 +14,7 @@ use Rattle.itm_grammar.specs.declared.packet.ItmPacket.{ItmPacket}
 use Rattle.itm_grammar.specs.declared.packet.ItmPacket.TheVariants.{Sync, Overflow, Software, Hardware, Local, GlobalFirst, GlobalSecond, Extension}
 use Rattle.itm_grammar.specs.Spelling.{Spells, SpellsSource, byte_count, size_bits, late_bits, bit_of, number, groups, more_bit, IsContinued, IsExtended, extended}
 use Rattle.itm_grammar.specs.Proper.{IsProper}
-use Rattle.itm_grammar.specs.Shortest.{bytes_of, groups_of, group_count, is_short, extension_bytes, short, shortest_len, HasShortest}
+use Rattle.itm_grammar.specs.Shortest.{bytes_of, groups_of, group_count, is_short, extension_bytes, short, shortest_len, IsClear, HasShortest}
 use Rattle.itm_grammar.proofs.Deciding.{fits_within}
 
 abbrev AllBytes : List ℕ → Type 0
@@ -370,12 +370,24 @@ least_all (GlobalFirst len value change wrap) h = first_least len value change w
 least_all (GlobalSecond wide value) h = second_least wide value h
 least_all (Extension dwt value) h = extension_by dwt value (nat_lt value 8) refl h
 
+is_clear : (p : ItmPacket) → IsProper p → IsClear p (short p)
+is_clear Sync h = tt
+is_clear Overflow h = tt
+is_clear (Software port size value) h = tt
+is_clear (Hardware disc size value) h = tt
+is_clear (Local lateness delta) h = tt
+is_clear (GlobalFirst len value change wrap) h = tt
+is_clear (GlobalSecond true value) h = (groups_of 6 value, refl, (groups_made 5 value (omega arith)).value_is)
+is_clear (GlobalSecond false value) h = (groups_of 4 value, refl, (groups_made 3 value (omega arith)).value_is)
+is_clear (Extension dwt value) h = tt
+
 pub shortest : (p : ItmPacket) → IsProper p → HasShortest p
 shortest p h =
     let m = least_all p h in
     record {
       spells = m.spells;
       bytes = All-from_recursion (λ b. b < 256) (short p) m.bytes;
+      clear = is_clear p h;
       len = m.len;
       least = m.least;
     }

@@ -1,8 +1,8 @@
 -- One more byte of an unfinished packet: the grammar's rule, which keeps a state.
-use Rattle.std.specs.Prelude.{◌≡◌, ◌<◌, ◌≤◌, ℕ, ◌+◌, ◌*◌, ◌^◌, ◌/◌, ◌%◌, Bool, true, false, ◌==◌, ◌&&◌, nat_lt, nat_le, if◌then◌else◌}
+use Rattle.std.specs.Prelude.{◌≡◌, ◌<◌, ℕ, ◌+◌, ◌*◌, ◌^◌, ◌/◌, ◌%◌, Bool, true, false, ◌==◌, ◌&&◌, nat_lt, nat_le, if◌then◌else◌}
 use Rattle.trace_values.specs.declared.fault.Reason.TheVariants.{ReservedHeader, BadItmSync, LongStamp, ShortStamp}
 use Rattle.trace_values.specs.declared.next.Next.{Next}
-use Rattle.trace_values.specs.declared.next.Next.TheVariants.{Go, Stop, Fail}
+use Rattle.trace_values.specs.declared.next.Next.TheVariants.{Go, End, Fail}
 use Rattle.itm_grammar.specs.declared.packet.Size.{Size}
 use Rattle.itm_grammar.specs.declared.packet.Lateness.TheVariants.{Exact}
 use Rattle.itm_grammar.specs.declared.packet.ItmPacket.{ItmPacket}
@@ -18,13 +18,13 @@ use Rattle.itm_grammar.specs.Proper.{IsProper}
 -- a header of this class
 abbrev pub begin : Class → Next Partial ItmPacket
 begin Zero = Go (Zeros 1)
-begin Overflowed = Stop Overflow
+begin Overflowed = End Overflow
 begin (Source hardware number size) = Go (Payload (Source hardware number size) 0 0)
-begin (LocalShort delta) = Stop (Local Exact delta)
+begin (LocalShort delta) = End (Local Exact delta)
 begin (LocalLong lateness) = Go (Payload (LocalLong lateness) 0 0)
 begin First = Go (Payload First 0 0)
 begin Second = Go (Payload Second 0 0)
-begin (Extended false dwt low) = Stop (Extension dwt low)
+begin (Extended false dwt low) = End (Extension dwt low)
 begin (Extended true dwt low) = Go (Payload (Extended true dwt low) 0 0)
 begin Reserved = Fail ReservedHeader
 
@@ -32,7 +32,7 @@ begin Reserved = Fail ReservedHeader
 abbrev pub zeros_with : ℕ → ℕ → Next Partial ItmPacket
 zeros_with count b =
     if b == 0 then Go (Zeros (count + 1))
-    else (if b == 128 && nat_le 5 count then Stop Sync else Fail BadItmSync)
+    else (if b == 128 && nat_le 5 count then End Sync else Fail BadItmSync)
 
 -- how many payload bytes a packet of this class may have
 abbrev pub most_bytes : Class → ℕ
@@ -71,16 +71,16 @@ first_stamp count value = GlobalFirst count (value % 2 ^ 26) ((value / 2 ^ 26) %
 -- a second one
 abbrev pub second_stamp : ℕ → ℕ → Next Partial ItmPacket
 second_stamp count value =
-    if count == 4 then Stop (GlobalSecond false (value % 2 ^ 22))
-    else (if count == 6 then Stop (GlobalSecond true (value % 2 ^ 38)) else Fail ShortStamp)
+    if count == 4 then End (GlobalSecond false (value % 2 ^ 22))
+    else (if count == 6 then End (GlobalSecond true (value % 2 ^ 38)) else Fail ShortStamp)
 
 -- the last payload byte, with which they are so many, and stand for this number
 abbrev pub last : Class → ℕ → ℕ → ℕ → Next Partial ItmPacket
-last (Source hardware number size) count value b = Stop (source hardware number size value)
-last (LocalLong lateness) count value b = if nat_lt b 128 then Stop (Local lateness value) else Fail LongStamp
-last First count value b = if nat_lt b 128 then Stop (first_stamp count value) else Fail LongStamp
+last (Source hardware number size) count value b = End (source hardware number size value)
+last (LocalLong lateness) count value b = if nat_lt b 128 then End (Local lateness value) else Fail LongStamp
+last First count value b = if nat_lt b 128 then End (first_stamp count value) else Fail LongStamp
 last Second count value b = if nat_lt b 128 then second_stamp count value else Fail LongStamp
-last (Extended more dwt low) count value b = Stop (Extension dwt (low + 8 * value))
+last (Extended more dwt low) count value b = End (Extension dwt (low + 8 * value))
 last class count value b = Fail ReservedHeader
 
 -- a payload byte behind so many, where with this byte they stand for this number
@@ -102,7 +102,7 @@ count_of (Payload class count value) = count + 1
 -- and how many after a step: none behind a whole packet or a fault
 abbrev pub held_after : Next Partial ItmPacket → ℕ
 held_after (Go partial) = count_of partial
-held_after (Stop packet) = 0
+held_after (End packet) = 0
 held_after (Fail e) = 0
 
 -- what bytes leave: fewer payload bytes than the class may have, which stand for a number that fits them
@@ -118,13 +118,13 @@ is_sound (Payload class count value) = is_proper_class class && is_sound_payload
 -- where a packet goes on, it does so in such a state
 abbrev pub IsSoundNext : Next Partial ItmPacket → Type 0
 IsSoundNext (Go partial) = is_sound partial ≡ true
-IsSoundNext (Stop packet) = Unit {0}
+IsSoundNext (End packet) = Unit {0}
 IsSoundNext (Fail e) = Unit {0}
 
 -- where it ends, its numbers are in their ranges
 abbrev pub StopsProperly : Next Partial ItmPacket → Type 0
 StopsProperly (Go partial) = Unit {0}
-StopsProperly (Stop packet) = IsProper packet
+StopsProperly (End packet) = IsProper packet
 StopsProperly (Fail e) = Unit {0}
 
 -- the numbers of a whole payload of this class with its header's fit the packet's
@@ -133,9 +133,3 @@ FitsLast (Source hardware number size) value = value < 2 ^ 32
 FitsLast (LocalLong lateness) value = value < 2 ^ 28
 FitsLast (Extended more dwt low) value = (low < 8) × (value < 2 ^ 29)
 FitsLast class value = Unit {0}
-
--- but for a run of bytes 00, no more than six bytes are kept
-abbrev pub HoldsFew : Partial → Type 0
-HoldsFew Header = Unit {0}
-HoldsFew (Zeros count) = Unit {0}
-HoldsFew (Payload class count value) = count_of (Payload class count value) ≤ 6

@@ -4,7 +4,7 @@ use Rattle.itm_grammar.specs.declared.packet.Lateness.{Lateness}
 use Rattle.itm_grammar.specs.declared.packet.Lateness.TheVariants.{Exact}
 use Rattle.itm_grammar.specs.declared.packet.ItmPacket.{ItmPacket}
 use Rattle.itm_grammar.specs.declared.packet.ItmPacket.TheVariants.{Sync, Overflow, Software, Hardware, Local, GlobalFirst, GlobalSecond, Extension}
-use Rattle.itm_grammar.specs.Spelling.{Spells, byte_count, size_bits, late_bits, bit_of, more_bit}
+use Rattle.itm_grammar.specs.Spelling.{Spells, byte_count, size_bits, late_bits, bit_of, groups, more_bit}
 
 -- so many bytes of a number, the least first
 abbrev pub bytes_of : ℕ → ℕ → List ℕ
@@ -59,9 +59,16 @@ shortest_len (GlobalFirst len value change wrap) = 1 + len
 shortest_len (GlobalSecond wide value) = if wide then 7 else 5
 shortest_len (Extension dwt value) = if nat_lt value 8 then 1 else 1 + group_count (value / 8)
 
--- It spells the packet in bytes, has this length, and no spelling is shorter.
+-- The ignored bits are 0: a second global timestamp alone has such, above its number in the last byte, so that all
+-- groups of the payload make up just the number.
+abbrev pub IsClear : ItmPacket → List ℕ → Type 0
+IsClear (GlobalSecond wide value) r = (payload : List ℕ) × (r ≡ 180 ∷ payload) × (groups payload ≡ value)
+IsClear packet r = Unit {0}
+
+-- It spells the packet in bytes whose ignored bits are 0, has this length, and no spelling is shorter.
 pub record HasShortest (packet : ItmPacket) : Type 0 where
   pub spells : Spells packet (short packet)
   pub bytes : All (λ b. b < 256) (short packet)
+  pub clear : IsClear packet (short packet)
   pub len : length (short packet) ≡ shortest_len packet
   pub least : (r : List ℕ) → Spells packet r → length (short packet) ≤ length r

@@ -1,6 +1,6 @@
 //! Laws of the grammar, over its definitions alone.
 
-ghost use Rattle.std.specs.Prelude.{◌≡◌, ◌↔◌, ℕ, ◌<◌, List, All};
+ghost use Rattle.std.specs.Prelude.{◌≡◌, ◌↔◌, ◌⊎◌, ℕ, ◌<◌, ◌≤◌, List, All, length};
 ghost use Rattle.trace_values.specs.Placed.{Placed, units_of};
 ghost use Rattle.trace_values.specs.Grammar.{PrefixLaw, InUnits};
 ghost use Rattle.trace_values.specs.Walk.{Decides, Within, walk, by_unit};
@@ -9,7 +9,7 @@ ghost use Rattle.itm_grammar.specs.declared.packet.ItmPacket.{ItmPacket};
 ghost use Rattle.itm_grammar.specs.declared.partial.Partial.{Partial};
 ghost use Rattle.itm_grammar.specs.declared.partial.Partial.TheVariants.{Header};
 ghost use Rattle.itm_grammar.specs.Spelling.{Spells, why};
-ghost use Rattle.itm_grammar.specs.Rule.{rule, HoldsFew};
+ghost use Rattle.itm_grammar.specs.Rule.{rule};
 ghost use Rattle.itm_grammar.specs.Proper.{IsProper};
 ghost use Rattle.itm_grammar.specs.Shortest.{HasShortest};
 
@@ -35,12 +35,12 @@ pub fn proper_law()
     ensures { (packet : ItmPacket) (r : List ℕ) → Spells packet r → All (λ b. b < 256) r → IsProper packet }
 {}
 
-/// Each packet with its numbers in their ranges has a spelling, and this is the shortest.
+/// Each packet with its numbers in their ranges has a spelling, and this is the shortest. Its ignored bits are 0.
 pub fn shortest_law()
     ensures { (packet : ItmPacket) → IsProper packet → HasShortest packet }
 {}
 
-/// But for a run of bytes 00, the bytes of an unfinished packet are at most six.
+/// The bytes of an unfinished packet are at most six, or all 00.
 pub fn holding_law()
-    ensures { (s : Partial) (r : List ℕ) → walk rule Header r ≡ Within s → HoldsFew s }
+    ensures { (s : Partial) (r : List ℕ) → walk rule Header r ≡ Within s → (length r ≤ 6) ⊎ All (λ b. b ≡ 0) r }
 {}

@@ -60,8 +60,8 @@ fn begin(class: Class) -> Next<Partial, ItmPacket>
 {
     match class {
         Class::Zero => Next::Go(Partial::Zeros(1)),
-        Class::Overflow => Next::Stop(ItmPacket::Overflow),
-        Class::LocalShort(delta) => Next::Stop(ItmPacket::Local {
+        Class::Overflow => Next::End(ItmPacket::Overflow),
+        Class::LocalShort(delta) => Next::End(ItmPacket::Local {
             lateness: Lateness::Exact,
             delta: u32::from(delta),
         }),
@@ -69,7 +69,7 @@ fn begin(class: Class) -> Next<Partial, ItmPacket>
             more: false,
             dwt,
             low,
-        } => Next::Stop(ItmPacket::Extension {
+        } => Next::End(ItmPacket::Extension {
             dwt,
             value: u32::from(low),
         }),
@@ -94,7 +94,7 @@ fn zeros_with(count: u64, byte: u8) -> Next<Partial, ItmPacket>
     if byte == 0 {
         Next::Go(Partial::Zeros(count + 1))
     } else if byte == 128 && count >= 5 {
-        Next::Stop(ItmPacket::Sync)
+        Next::End(ItmPacket::Sync)
     } else {
         Next::Fail(Reason::BadItmSync)
     }
@@ -164,11 +164,11 @@ fn second_stamp(count: u8, value: u64) -> Next<Partial, ItmPacket>
     ensures ends { held_after result ≡ 0 }
 {
     match count {
-        4 => Next::Stop(ItmPacket::GlobalSecond {
+        4 => Next::End(ItmPacket::GlobalSecond {
             wide: false,
             value: value % 0x40_0000,
         }),
-        6 => Next::Stop(ItmPacket::GlobalSecond {
+        6 => Next::End(ItmPacket::GlobalSecond {
             wide: true,
             value: value % 0x40_0000_0000,
         }),
@@ -188,19 +188,19 @@ fn last(class: Class, count: u8, value: u64, byte: u8) -> Next<Partial, ItmPacke
             hardware,
             number,
             size,
-        } => Next::Stop(source(hardware, number, size, value as u32)),
-        Class::Extension { dwt, low, .. } => Next::Stop(ItmPacket::Extension {
+        } => Next::End(source(hardware, number, size, value as u32)),
+        Class::Extension { dwt, low, .. } => Next::End(ItmPacket::Extension {
             dwt,
             value: (u64::from(low) + 8 * value) as u32,
         }),
         Class::LocalLong(_) | Class::GlobalFirst | Class::GlobalSecond if byte >= 128 => {
             Next::Fail(Reason::LongStamp)
         }
-        Class::LocalLong(lateness) => Next::Stop(ItmPacket::Local {
+        Class::LocalLong(lateness) => Next::End(ItmPacket::Local {
             lateness,
             delta: value as u32,
         }),
-        Class::GlobalFirst => Next::Stop(first_stamp(count, value)),
+        Class::GlobalFirst => Next::End(first_stamp(count, value)),
         Class::GlobalSecond => second_stamp(count, value),
         Class::Zero | Class::Overflow | Class::LocalShort(_) | Class::Reserved => {
             Next::Fail(Reason::ReservedHeader)

@@ -5,7 +5,8 @@ ghost use Rattle.trace_values.specs.declared.fault.Reason.TheVariants.{ReservedH
 ghost use Rattle.itm_grammar.specs.declared.packet.Size.TheVariants.{One, Two, Four};
 ghost use Rattle.itm_grammar.specs.declared.packet.Lateness.TheVariants.{Exact, BothLate};
 ghost use Rattle.itm_grammar.specs.declared.packet.ItmPacket.TheVariants.{Sync, Overflow, Software, Hardware, Local, GlobalFirst, GlobalSecond, Extension};
-ghost use Rattle.itm_grammar.specs.Rows.{row};
+ghost use Rattle.itm_grammar.specs.Rows.{row, hex};
+ghost use Rattle.itm_grammar.specs.Shortest.{short};
 
 /// Captures, and what they read as: the packets with the offsets of their last bytes, how many bytes end
 /// no packet, and the fault with its offset.
@@ -52,4 +53,15 @@ pub fn faults()
     ensures short_second { row (codes "B4 02") ≡ ([], 2, Some (1, ShortStamp)) }
     ensures five { row (codes "B4 82 80 80 80 00") ≡ ([], 6, Some (5, ShortStamp)) }
     ensures long_second { row (codes "B4 82 80 80 80 80 80") ≡ ([], 7, Some (6, LongStamp)) }
+{}
+
+/// The shortest spellings of packets: the least bytes, and ignored bits 0.
+pub fn shortest()
+    ensures write { short (Software 31 Two 4660) ≡ hex (codes "FA 34 12") }
+    ensures local { short (Local Exact 2) ≡ hex (codes "20") }
+    ensures late { short (Local BothLate 5) ≡ hex (codes "F0 05") }
+    ensures first { short (GlobalFirst 4 1 false true) ≡ hex (codes "94 81 80 80 40") }
+    ensures second { short (GlobalSecond false 2097153) ≡ hex (codes "B4 81 80 80 01") }
+    ensures wide { short (GlobalSecond true 137438953474) ≡ hex (codes "B4 82 80 80 80 80 04") }
+    ensures extension { short (Extension true 2147483648) ≡ hex (codes "8C 80 80 80 80") }
 {}

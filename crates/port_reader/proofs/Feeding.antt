@@ -1,60 +1,66 @@
 -- One more byte of a port with a formatter: its frames and cells.
-use Rattle.std.proofs.Common.{◌≡◌, ℕ, ◌+◌, ◌≤◌, List, [], ◌∷◌, ◌++◌, sym, ◌∙◌, ap, subst, ◌⊎◌, inl, inr, append-nil, Bool, true, false, cond, None}
+use Rattle.std.proofs.Common.{◌≡◌, ℕ, ◌+◌, ◌<◌, ◌≤◌, refl, arith, take, get_or, List, [], ◌∷◌, ◌++◌, length, sym, ◌∙◌, ap, subst, ◌⊎◌, inl, inr, append_assoc, append-nil, Bool, true, false, cond, Option, None}
 use Rattle.std.proofs.lemmas.List.{map-append, append_cancel_left}
 use Rattle.trace_values.specs.declared.cell.Cell.{Cell}
-use Rattle.trace_values.specs.Placed.{Place, Placed}
+use Rattle.trace_values.specs.Placed.{Place, Placed, units_of, byte_at, placed_from}
+use Rattle.trace_values.proofs.Placing.{placed_from_push}
 use Rattle.capture_plan.specs.declared.frames.FramesMode.{FramesMode}
 use Rattle.capture_plan.specs.declared.frames.FramesMode.TheVariants.{Hunt, Aligned, Bare}
-use Rattle.frame_grammar.specs.Port.{Piece, Full, Half, Frame}
-use Rattle.frame_grammar.specs.Reading.{piece_cells, cells_of_pieces}
-use Rattle.frame_grammar.proofs.Pieces.{cells_of_pieces-append}
-use Rattle.deformatter.specs.Reading.{PortStream, port_stream, pieces_of, cells_in, id_in}
+use Rattle.frame_grammar.specs.Port.{PortItem, Full, Half, Frame}
+use Rattle.frame_grammar.specs.Frame.{cells}
+use Rattle.frame_grammar.specs.Reading.{offsets_of, item_cells, cells_of_items}
+use Rattle.frame_grammar.proofs.Items.{cells_of_items-append}
+use Rattle.deformatter.specs.Reading.{PortStream, port_stream, items_of, cells_in, id_in}
 use Rattle.deformatter.specs.Growth as port
+use Rattle.deformatter.specs.Frames as port_frames
+use Rattle.deformatter.specs.Frames.{last_place}
+use Rattle.deformatter.specs.Block as stream
+use Rattle.deformatter.specs.Block.{EachByte, FedAs}
 use Rattle.deformatter.specs.Growth.{place_at, PortGrows}
 use Rattle.deformatter.specs.Deformatter as deformatter
 use Rattle.deformatter.specs.declared.deformatter.Deformatter.{Deformatter}
 use Rattle.deformatter.specs.declared.step.PortStep.{PortStep}
 use Rattle.deformatter.specs.declared.step.PortStep.TheVariants.{Quiet, Half as HalfEnds, Full as FullEnds, Frame as FrameEnds, Locked, Fault as Faulty}
 use Rattle.port_reader.specs.Modes.{is_bare, hunts}
-use Rattle.port_reader.specs.Reading.{piece_frames, frames_of_pieces, framed, port_reading}
-use Rattle.port_reader.specs.Growth.{frames_by, CellsFit, Reads, HuntBy, Grows}
-use Rattle.port_reader.specs.Reader.{IsOfIn}
-use Rattle.port_reader.specs.ReadingLaws.{frames_of_pieces-append}
+use Rattle.port_reader.specs.Reading.{item_frames, frames_of_items, framed, bare_cell, bare, port_reading}
+use Rattle.port_reader.specs.Growth.{frames_by, CellsFit, Reads, HuntBy, Grows, Answers, GrowsByFrame}
+use Rattle.port_reader.specs.Reader.{StandsByMode}
+use Rattle.port_reader.proofs.ReadingLaws.{frames_of_items-append}
 
 -- the frames that a step ends, and its cells
 record Gained (a b : PortStream) (step : PortStep) (cells : List Cell) : Type 0 where
   frames : (framed b).frames ≡ (framed a).frames ++ frames_by step cells
   fit : CellsFit step cells
 
--- the frames and cells of pieces with one more
-frames_push : (a b : PortStream) (p : Piece) (place : Place) → b.pieces ≡ a.pieces ++ (p, place) ∷ [] → (framed b).frames ≡ (framed a).frames ++ piece_frames (id_in a) p
+-- the frames and cells of items with one more
+frames_push : (a b : PortStream) (p : PortItem) (place : Place) → b.items ≡ a.items ++ (p, place) ∷ [] → (framed b).frames ≡ (framed a).frames ++ item_frames (id_in a) p
 frames_push a b p place e =
-    ap (λ (l : List (Piece × Place)). frames_of_pieces None (pieces_of l)) e
-    ∙ ap (frames_of_pieces None) (map-append (λ (x : Piece × Place). x.0) a.pieces ((p, place) ∷ []))
-    ∙ frames_of_pieces-append None (pieces_of a.pieces) (p ∷ [])
-    ∙ ap (λ (l : List (List Cell)). (framed a).frames ++ l) (append-nil (piece_frames (id_in a) p))
+    ap (λ (l : List (PortItem × Place)). frames_of_items None (items_of l)) e
+    ∙ ap (frames_of_items None) (map-append (λ (x : PortItem × Place). x.0) a.items ((p, place) ∷ []))
+    ∙ frames_of_items-append None (items_of a.items) (p ∷ [])
+    ∙ ap (λ (l : List (List Cell)). (framed a).frames ++ l) (append-nil (item_frames (id_in a) p))
 
-cells_push : (a b : PortStream) (p : Piece) (place : Place) → b.pieces ≡ a.pieces ++ (p, place) ∷ [] → cells_in b ≡ cells_in a ++ piece_cells (id_in a) p
+cells_push : (a b : PortStream) (p : PortItem) (place : Place) → b.items ≡ a.items ++ (p, place) ∷ [] → cells_in b ≡ cells_in a ++ item_cells (id_in a) p
 cells_push a b p place e =
-    ap (λ (l : List (Piece × Place)). cells_of_pieces None (pieces_of l)) e
-    ∙ ap (cells_of_pieces None) (map-append (λ (x : Piece × Place). x.0) a.pieces ((p, place) ∷ []))
-    ∙ cells_of_pieces-append None (pieces_of a.pieces) (p ∷ [])
-    ∙ ap (λ (l : List Cell). cells_in a ++ l) (append-nil (piece_cells (id_in a) p))
+    ap (λ (l : List (PortItem × Place)). cells_of_items None (items_of l)) e
+    ∙ ap (cells_of_items None) (map-append (λ (x : PortItem × Place). x.0) a.items ((p, place) ∷ []))
+    ∙ cells_of_items-append None (items_of a.items) (p ∷ [])
+    ∙ ap (λ (l : List Cell). cells_in a ++ l) (append-nil (item_cells (id_in a) p))
 
 module _ (a b : PortStream) (at : ℕ) (cells : List Cell) (given : cells_in b ≡ cells_in a ++ cells) where
   -- the cells are those of the piece that was ended
-  cells_are : (p : Piece) → b.pieces ≡ a.pieces ++ (p, place_at at) ∷ [] → cells ≡ piece_cells (id_in a) p
-  cells_are p e = append_cancel_left (cells_in a) cells (piece_cells (id_in a) p) (sym given ∙ cells_push a b p (place_at at) e)
+  cells_are : (p : PortItem) → b.items ≡ a.items ++ (p, place_at at) ∷ [] → cells ≡ item_cells (id_in a) p
+  cells_are p e = append_cancel_left (cells_in a) cells (item_cells (id_in a) p) (sym given ∙ cells_push a b p (place_at at) e)
 
   -- no piece was ended
-  same_frames : b.pieces ≡ a.pieces → (framed b).frames ≡ (framed a).frames ++ []
-  same_frames e = ap (λ (l : List (Piece × Place)). frames_of_pieces None (pieces_of l)) e ∙ sym (append-nil (framed a).frames)
+  same_frames : b.items ≡ a.items → (framed b).frames ≡ (framed a).frames ++ []
+  same_frames e = ap (λ (l : List (PortItem × Place)). frames_of_items None (items_of l)) e ∙ sym (append-nil (framed a).frames)
 
-  no_cells : b.pieces ≡ a.pieces → cells ≡ []
+  no_cells : b.items ≡ a.items → cells ≡ []
   no_cells e = append_cancel_left (cells_in a) cells []
-      (sym given ∙ ap (λ (l : List (Piece × Place)). cells_of_pieces None (pieces_of l)) e ∙ sym (append-nil (cells_in a)))
+      (sym given ∙ ap (λ (l : List (PortItem × Place)). cells_of_items None (items_of l)) e ∙ sym (append-nil (cells_in a)))
 
-  gained : (step : PortStep) → port.PiecesBy a.pieces b.pieces at step → Gained a b step cells
+  gained : (step : PortStep) → port.ItemsBy a.items b.items at step → Gained a b step cells
   gained Quiet e = record { frames = same_frames e; fit = no_cells e }
   gained HalfEnds e = elim e [
     | inl k ↦ record { frames = same_frames k; fit = no_cells k }
@@ -83,7 +89,7 @@ hunt_by a b at (Faulty f) h = (h.0, h.1, reads a b h.2)
 pub framed_grows : (a b : PortStream) (at : ℕ) (step : PortStep) (cells : List Cell) → PortGrows a b at step → cells_in b ≡ cells_in a ++ cells →
     Grows (framed a) (framed b) at step cells
 framed_grows a b at step cells g given =
-    let k = gained a b at cells given step g.pieces in
+    let k = gained a b at cells given step g.items in
     record {
       frames = k.frames;
       fit = k.fit;
@@ -97,12 +103,12 @@ framed_grows a b at step cells g given =
 pub has_formatter : (mode : FramesMode) → (mode ≡ Hunt) ⊎ (mode ≡ Aligned) → is_bare mode ≡ false
 has_formatter mode e = elim e [ inl h ↦ ap is_bare h | inr a ↦ ap is_bare a ]
 
-pub port_of : (mode : FramesMode) (port : Deformatter) (u : List Placed) → is_bare mode ≡ false → IsOfIn mode port u → deformatter.IsOf port u
+pub port_of : (mode : FramesMode) (port : Deformatter) (u : List Placed) → is_bare mode ≡ false → StandsByMode mode port u → deformatter.Stands port u
 port_of Hunt port u e s = s
 port_of Aligned port u e s = s
 port_of Bare port u e s = (let k : true ≡ false = e in cc)
 
-pub is_of_port : (mode : FramesMode) (port : Deformatter) (u : List Placed) → is_bare mode ≡ false → deformatter.IsOf port u → IsOfIn mode port u
+pub is_of_port : (mode : FramesMode) (port : Deformatter) (u : List Placed) → is_bare mode ≡ false → deformatter.Stands port u → StandsByMode mode port u
 is_of_port Hunt port u e s = s
 is_of_port Aligned port u e s = s
 is_of_port Bare port u e s = tt
@@ -121,3 +127,84 @@ reading_grows Bare e h m u v at step cells g k = absurd (let k : true ≡ false 
 pub few_more : (b : Bool) (x y z w : ℕ) → b ≡ false → x + y ≤ z + w + 1 → cond b 0 x + cond b 0 y ≤ cond b 0 z + cond b 0 w + 1
 few_more true x y z w e h = absurd (let k : true ≡ false = e in cc)
 few_more false x y z w e h = h
+
+-- as a deformatter's reading grows by a frame, so do the frames
+framed_frame : (a b : PortStream) (w f : List Placed) (inner : ℕ) (id : Option ℕ) → port_frames.GrowsByFrame a b w f inner id →
+    GrowsByFrame (framed a) (framed b) inner (cells (units_of f) (offsets_of f) id)
+framed_frame a b w f inner id g = record {
+  frames = frames_push a b (Frame f inner) (last_place w) g.items
+      ∙ ap (λ (l : List Cell). (framed a).frames ++ l ∷ []) (append_cancel_left (cells_in a) (item_cells (id_in a) (Frame f inner)) (cells (units_of f) (offsets_of f) id)
+      (sym (cells_push a b (Frame f inner) (last_place w) g.items) ∙ g.cells));
+  fulls = g.fulls;
+  halves = g.halves;
+  fault = g.fault;
+  hunt = reads a b g.hunt;
+}
+
+pub reading_frame : (mode : FramesMode) → is_bare mode ≡ false → (h : Bool) → h ≡ hunts mode → (u w f : List Placed) (inner : ℕ) (id : Option ℕ) →
+    port_frames.GrowsByFrame (port_stream h u) (port_stream h (u ++ w)) w f inner id →
+    GrowsByFrame (port_reading mode u) (port_reading mode (u ++ w)) inner (cells (units_of f) (offsets_of f) id)
+reading_frame Hunt e h m u w f inner id g = framed_frame (port_stream true u) (port_stream true (u ++ w)) w f inner id
+    (subst (λ (b : Bool). port_frames.GrowsByFrame (port_stream b u) (port_stream b (u ++ w)) w f inner id) m g)
+reading_frame Aligned e h m u w f inner id g = framed_frame (port_stream false u) (port_stream false (u ++ w)) w f inner id
+    (subst (λ (b : Bool). port_frames.GrowsByFrame (port_stream b u) (port_stream b (u ++ w)) w f inner id) m g)
+reading_frame Bare e h m u w f inner id g = absurd (let k : true ≡ false = e in cc)
+
+-- bytes of each of which one thing is so, and so the other
+each_map : (P Q : List Placed → ℕ → ℕ → Type 0) → ((u : List Placed) (at byte : ℕ) → P u at byte → Q u at byte) → (u : List Placed) (at : ℕ) (bytes : List ℕ) → EachByte P u at bytes → EachByte Q u at bytes
+each_map P Q h u at [] e = tt
+each_map P Q h u at (b ∷ bytes) e = (h u at b e.0, each_map P Q h (u ++ byte_at at b ∷ []) (at + 1) bytes e.1)
+
+-- quiet bytes leave the cells as they are
+quiet_cells : (h : Bool) (u : List Placed) (at byte : ℕ) → stream.Answers h Quiet u at byte → cells_in (port_stream h (u ++ byte_at at byte ∷ [])) ≡ cells_in (port_stream h u)
+quiet_cells h u at byte g = ap (λ (l : List (PortItem × Place)). cells_of_items None (items_of l)) g.items
+
+all_quiet_cells : (h : Bool) (u : List Placed) (at : ℕ) (bytes : List ℕ) → EachByte (stream.Answers h Quiet) u at bytes → cells_in (port_stream h (u ++ placed_from at bytes)) ≡ cells_in (port_stream h u)
+all_quiet_cells h u at [] e = ap (λ (l : List Placed). cells_in (port_stream h l)) (append-nil u)
+all_quiet_cells h u at (b ∷ bytes) e =
+    ap (λ (l : List Placed). cells_in (port_stream h l)) (sym (append_assoc u (byte_at at b ∷ []) (placed_from (at + 1) bytes)))
+    ∙ all_quiet_cells h (u ++ byte_at at b ∷ []) (at + 1) bytes e.1 ∙ quiet_cells h u at b e.0
+
+-- a block of a deformatter is one of its reader
+pub reading_fed : (mode : FramesMode) → is_bare mode ≡ false → (h : Bool) → h ≡ hunts mode → (u : List Placed) (at : ℕ) (bytes : List ℕ) (step : PortStep) (given : List Cell) →
+    FedAs (stream.Answers h Quiet) (stream.Answers h step) u at bytes → cells_in (port_stream h (u ++ placed_from at bytes)) ≡ cells_in (port_stream h u) ++ given →
+    FedAs (Answers mode Quiet []) (Answers mode step given) u at bytes
+reading_fed mode e h m u at bytes step given r k =
+    let w = u ++ placed_from at r.front in
+    let next : w ++ byte_at (at + length r.front) r.last ∷ [] ≡ u ++ placed_from at bytes =
+    append_assoc u (placed_from at r.front) (byte_at (at + length r.front) r.last ∷ [])
+    ∙ ap (λ (l : List Placed). u ++ l) (sym (placed_from_push at r.front r.last) ∙ ap (placed_from at) (sym r.parts)) in
+    record {
+      front = r.front;
+      last = r.last;
+      parts = r.parts;
+      quiet = each_map (stream.Answers h Quiet) (Answers mode Quiet [])
+          (λ v n b g. reading_grows mode e h m v (v ++ byte_at n b ∷ []) n Quiet [] g (quiet_cells h v n b g ∙ sym (append-nil (cells_in (port_stream h v))))) u at r.front r.quiet;
+      ends = reading_grows mode e h m w (w ++ byte_at (at + length r.front) r.last ∷ []) (at + length r.front) step given r.ends
+          (ap (λ (l : List Placed). cells_in (port_stream h l)) next ∙ k ∙ ap (λ (l : List Cell). l ++ given) (sym (all_quiet_cells h u at r.front r.quiet)));
+    }
+
+-- with no formatter each byte is a frame
+bare_fed : (u : List Placed) (at b : ℕ) (bytes : List ℕ) (given : List Cell) → given ≡ bare_cell (byte_at at b) ∷ [] → FedAs (Answers Bare Quiet []) (Answers Bare FrameEnds given) u at (b ∷ [])
+bare_fed u at b bytes given e = record {
+  front = [];
+  last = b;
+  parts = refl;
+  quiet = tt;
+  ends = record {
+    frames = map-append (λ (p : Placed). bare_cell p ∷ []) (u ++ []) (byte_at (at + 0) b ∷ [])
+        ∙ ap (λ (n : ℕ). (bare (u ++ [])).frames ++ (bare_cell (byte_at n b) ∷ []) ∷ []) (let k : at + 0 ≡ at = omega arith in k)
+        ∙ ap (λ (l : List Cell). (bare (u ++ [])).frames ++ l ∷ []) (sym e);
+    fit = tt;
+    fulls = refl;
+    halves = refl;
+    fault = refl;
+    hunt = record { before = refl; behind = refl; skipped = refl };
+  };
+}
+
+pub bare_taken : (mode : FramesMode) → mode ≡ Bare → (u : List Placed) (at : ℕ) (piece : List ℕ) (given : List Cell) → 0 < length piece → given ≡ bare_cell (byte_at at (get_or piece 0 0)) ∷ [] →
+    FedAs (Answers mode Quiet []) (Answers mode FrameEnds given) u at (take 1 piece)
+bare_taken mode m u at [] given l e = absurd (omega arith)
+bare_taken mode m u at (b ∷ bytes) given l e =
+    subst (λ (x : FramesMode). FedAs (Answers x Quiet []) (Answers x FrameEnds given) u at (b ∷ [])) (sym m) (bare_fed u at b bytes given e)

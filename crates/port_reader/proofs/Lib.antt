@@ -1,1 +1,5 @@
+pub mod ReadingLaws
+pub mod RisingLaws
+pub mod RunLaws
+pub mod Grammar
 pub mod Feeding

@@ -5,7 +5,9 @@ use Rattle.trace_values.specs.Stream.{FaultAt}
 use Rattle.deformatter.specs.declared.step.PortStep.{PortStep}
 use Rattle.deformatter.specs.declared.step.PortStep.TheVariants.{Quiet, Frame, Locked, Fault as Faulty}
 use Rattle.deformatter.specs.Growth.{fulls_by, halves_by, fault_by}
-use Rattle.port_reader.specs.Reading.{PortReading}
+use Rattle.capture_plan.specs.declared.frames.FramesMode.{FramesMode}
+use Rattle.trace_values.specs.Placed.{Placed, byte_at}
+use Rattle.port_reader.specs.Reading.{PortReading, port_reading}
 
 -- the frames that a step ends: one of these cells, or none
 abbrev pub frames_by : PortStep → List Cell → List (List Cell)
@@ -38,6 +40,18 @@ pub record Grows (old new : PortReading) (at : ℕ) (step : PortStep) (cells : L
   pub halves : new.halves ≡ old.halves + halves_by step
   pub fault : new.fault ≡ fault_by step
   pub hunt : HuntBy old new at step
+
+-- the answer to this byte, which follows u at this offset, is this step with these cells
+abbrev pub Answers : FramesMode → PortStep → List Cell → List Placed → ℕ → ℕ → Type 0
+Answers mode step cells u at byte = Grows (port_reading mode u) (port_reading mode (u ++ byte_at at byte ∷ [])) at step cells
+
+-- With the bytes of a frame of these cells, and of `inner` half synchronisations between them, the reading grew by that frame.
+pub record GrowsByFrame (old new : PortReading) (inner : ℕ) (cells : List Cell) : Type 0 where
+  pub frames : new.frames ≡ old.frames ++ cells ∷ []
+  pub fulls : new.fulls ≡ old.fulls
+  pub halves : new.halves ≡ old.halves + inner
+  pub fault : new.fault ≡ None
+  pub hunt : Reads old new
 
 -- behind a fault nothing is read
 pub record Settled (old new : PortReading) : Type 0 where

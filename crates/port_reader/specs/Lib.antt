@@ -3,5 +3,6 @@ pub mod Reading
 pub mod Growth
 pub mod Reader
 pub mod Runs
-pub mod ReadingLaws
+pub mod ByGrammar
 pub mod Rows
+pub mod Rising

@@ -1,9 +1,10 @@
 -- What a port reader stands for, and what it shows.
-use Rattle.std.specs.Prelude.{ℕ, List, Bool, true, if◌then◌else◌}
+use Rattle.std.specs.Prelude.{◌≡◌, ℕ, List, Bool, true, false, if◌then◌else◌, Option}
 use Rattle.trace_values.specs.Placed.{Placed}
 use Rattle.capture_plan.specs.declared.frames.FramesMode.{FramesMode}
 use Rattle.capture_plan.specs.declared.frames.FramesMode.TheVariants.{Hunt, Aligned, Bare}
 use Rattle.deformatter.specs.Deformatter as deformatter
+use Rattle.deformatter.specs.Frames as frames
 use Rattle.deformatter.specs.declared.deformatter.Deformatter.{Deformatter}
 use Rattle.port_reader.specs.Modes.{is_bare}
 use Rattle.port_reader.specs.declared.reader.PortReader.{PortReader}
@@ -28,10 +29,18 @@ abbrev pub skipped_by : PortReader → ℕ
 skipped_by r = if is_bare r.mode then 0 else deformatter.skipped_by r.port
 
 -- of a port with a formatter its deformatter stands for the list; of a bare one nothing is kept
-abbrev pub IsOfIn : FramesMode → Deformatter → List Placed → Type 0
-IsOfIn Hunt port u = deformatter.IsOf port u
-IsOfIn Aligned port u = deformatter.IsOf port u
-IsOfIn Bare port u = Unit {0}
+abbrev pub StandsByMode : FramesMode → Deformatter → List Placed → Type 0
+StandsByMode Hunt port u = deformatter.Stands port u
+StandsByMode Aligned port u = deformatter.Stands port u
+StandsByMode Bare port u = Unit {0}
 
-abbrev pub IsOf : PortReader → List Placed → Type 0
-IsOf r u = IsOfIn r.mode r.port u
+abbrev pub Stands : PortReader → List Placed → Type 0
+Stands r u = StandsByMode r.mode r.port u
+
+-- it has a formatter, it reads, and nothing of a frame or a synchronisation is there
+abbrev pub IsBetween : PortReader → Type 0
+IsBetween r = (is_bare r.mode ≡ false) × frames.IsBetween r.port
+
+-- the ID in force
+abbrev pub id_of : PortReader → Option ℕ
+id_of r = deformatter.id_of r.port

@@ -6,9 +6,9 @@ use Rattle.trace_values.specs.declared.fault.Reason.{Reason}
 use Rattle.trace_values.specs.Placed.{Place, Placed}
 use Rattle.capture_plan.specs.declared.frames.FramesMode.{FramesMode}
 use Rattle.capture_plan.specs.declared.frames.FramesMode.TheVariants.{Hunt, Aligned, Bare}
-use Rattle.frame_grammar.specs.Port.{Piece, Full, Half, Frame}
-use Rattle.frame_grammar.specs.Reading.{piece_cells, piece_id}
-use Rattle.deformatter.specs.Reading.{PortStream, port_stream, pieces_of, fulls_of}
+use Rattle.frame_grammar.specs.Port.{PortItem, Full, Half, Frame}
+use Rattle.frame_grammar.specs.Reading.{item_cells, item_id}
+use Rattle.deformatter.specs.Reading.{PortStream, port_stream, items_of, fulls_of}
 
 -- What a port's bytes read as: the cells of each frame, in order; how many full and half synchronisations, a half one inside
 -- an unfinished frame too; the fault; how many bytes are behind the last whole frame or synchronisation; how many were skipped;
@@ -22,21 +22,21 @@ pub record PortReading : Type 0 where
   pub skipped : ℕ
   pub locked : Bool
 
--- the frames that a piece is, each by its cells behind this ID: none, or one
-abbrev pub piece_frames : Option ℕ → Piece → List (List Cell)
-piece_frames id Full = []
-piece_frames id Half = []
-piece_frames id (Frame f halves) = piece_cells id (Frame f halves) ∷ []
+-- the frames that an item is, each by its cells behind this ID: none, or one
+abbrev pub item_frames : Option ℕ → PortItem → List (List Cell)
+item_frames id Full = []
+item_frames id Half = []
+item_frames id (Frame f halves) = item_cells id (Frame f halves) ∷ []
 
--- the cells of each frame of some pieces, behind this ID: synchronisations leave the ID as it is
-abbrev pub frames_of_pieces : Option ℕ → List Piece → List (List Cell)
-frames_of_pieces id [] = []
-frames_of_pieces id (p ∷ pieces) = piece_frames id p ++ frames_of_pieces (piece_id id p) pieces
+-- the cells of each frame of some items, behind this ID: synchronisations leave the ID as it is
+abbrev pub frames_of_items : Option ℕ → List PortItem → List (List Cell)
+frames_of_items id [] = []
+frames_of_items id (p ∷ items) = item_frames id p ++ frames_of_items (item_id id p) items
 
 -- the reading of bytes with a formatter; no ID is in force before the first frame
 abbrev pub framed : PortStream → PortReading
 framed s = record {
-  frames = frames_of_pieces None (pieces_of s.pieces);
+  frames = frames_of_items None (items_of s.items);
   fulls = fulls_of s;
   halves = s.halves;
   fault = s.fault;

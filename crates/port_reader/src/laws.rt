@@ -1,17 +1,37 @@
 //! Laws of the reading of a port's bytes, over its definitions alone.
 
-ghost use Rattle.std.specs.Prelude.{◌≡◌, ℕ, List, [], ◌∷◌, ◌++◌, map, true, false, is_none, Option};
+ghost use Rattle.std.specs.Prelude.{◌≡◌, ◌↔◌, ℕ, List, [], ◌∷◌, ◌++◌, length, map, true, false, is_none, Option};
 ghost use Rattle.std.specs.List.{flat_map};
 ghost use Rattle.trace_values.specs.declared.cell.Cell.{Cell};
-ghost use Rattle.trace_values.specs.Placed.{Placed, byte_at, placed_from};
+ghost use Rattle.trace_values.specs.Placed.{Placed, byte_at, placed_from, placed};
 ghost use Rattle.capture_plan.specs.declared.frames.FramesMode.{FramesMode};
 ghost use Rattle.capture_plan.specs.declared.frames.FramesMode.TheVariants.{Hunt, Aligned, Bare};
-ghost use Rattle.frame_grammar.specs.Port.{Piece};
-ghost use Rattle.frame_grammar.specs.Reading.{cells_of_pieces};
+ghost use Rattle.frame_grammar.specs.Port.{PortItem};
+ghost use Rattle.frame_grammar.specs.Reading.{cells_of_items, port_cells, full_count, half_count, frame_count, port_reading as grammar_reading};
 ghost use Rattle.deformatter.specs.Reading.{port_stream, cells_in};
-ghost use Rattle.port_reader.specs.Reading.{frames_of_pieces, port_reading, cells_of};
+ghost use Rattle.port_reader.specs.Reading.{PortReading, frames_of_items, port_reading, cells_of};
+ghost use Rattle.port_reader.specs.ByGrammar.{IsPortReading};
 ghost use Rattle.port_reader.specs.Growth.{Settled, Rises, IsNothing};
 ghost use Rattle.port_reader.specs.Runs.{HaveRuns};
+ghost use Rattle.port_reader.specs.Rising.{BytesRise, CellsRise};
+
+/// The bytes have one reading in each mode, which the grammar's spellings give: in frames from the first byte on, in
+/// frames from the least place of `FF FF FF 7F` on, or byte by byte.
+pub fn reading_law()
+    ensures { (mode : FramesMode) (u : List Placed) (r : PortReading) →
+        IsPortReading mode u r ↔ (r ≡ port_reading mode u) }
+{}
+
+/// In frames from the first byte on, the cells, the counts, the fault and the tail are those of the grammar's reading,
+/// of which its worked rows speak.
+pub fn grammar_law()
+    ensures cells { (u : List Placed) → cells_of (port_reading Aligned u) ≡ port_cells u }
+    ensures fulls { (u : List Placed) → (port_reading Aligned u).fulls ≡ full_count u }
+    ensures halves { (u : List Placed) → (port_reading Aligned u).halves ≡ half_count u }
+    ensures frames { (u : List Placed) → length (port_reading Aligned u).frames ≡ frame_count u }
+    ensures fault { (u : List Placed) → (port_reading Aligned u).fault ≡ (grammar_reading u).fault }
+    ensures tail { (u : List Placed) → (port_reading Aligned u).tail ≡ length (grammar_reading u).rest }
+{}
 
 /// The cells of the frames, in order, are those of the deformatter's reading; with no formatter they are
 /// all bytes in order, each at its offset and of source 1.
@@ -22,9 +42,9 @@ pub fn port_law()
         cells_of (port_reading Bare u) ≡ map (λ b. record { at = b.place.at; id = Some 1; run = 0; byte = b.unit }) u }
 {}
 
-/// The frames of pieces have the cells of these pieces, behind any ID.
-pub fn pieces_law()
-    ensures { (id : Option ℕ) (pieces : List Piece) → flat_map (λ frame. frame) (frames_of_pieces id pieces) ≡ cells_of_pieces id pieces }
+/// The frames of items have the cells of these items, behind any ID.
+pub fn items_law()
+    ensures { (id : Option ℕ) (items : List PortItem) → flat_map (λ frame. frame) (frames_of_items id items) ≡ cells_of_items id items }
 {}
 
 /// Of no bytes nothing is read.
@@ -49,4 +69,10 @@ pub fn rising_law()
 /// The cells of each frame have runs that never fall, and one ID in a run.
 pub fn runs_law()
     ensures { (mode : FramesMode) (u : List Placed) → HaveRuns (port_reading mode u).frames }
+{}
+
+/// The cells of all frames rise in offset as the bytes do; those of a whole capture stand below its length.
+pub fn placed_law()
+    ensures rises { (mode : FramesMode) (u : List Placed) (lo hi : ℕ) → BytesRise lo hi u → CellsRise lo hi (cells_of (port_reading mode u)) }
+    ensures capture { (mode : FramesMode) (bytes : List ℕ) → CellsRise 0 (length bytes) (cells_of (port_reading mode (placed bytes))) }
 {}

@@ -8,5 +8,5 @@ pub mod rows;
 #[cfg(test)]
 mod tests;
 
-pub use deformatter::PortStep;
+pub use deformatter::{PortStep, Taken};
 pub use reader::PortReader;

@@ -3,16 +3,16 @@ use Rattle.std.proofs.Common.{◌≡◌, ℕ, ◌+◌, List, refl, Bool, true, f
 use Rattle.std.specs.Prelude.{◌==◌}
 use Rattle.trace_values.specs.declared.fault.Reason.TheVariants.{BadSync, SyncInFrame}
 use Rattle.trace_values.specs.declared.next.Next.{Next}
-use Rattle.trace_values.specs.declared.next.Next.TheVariants.{Go, Stop, Fail}
+use Rattle.trace_values.specs.declared.next.Next.TheVariants.{Go, End, Fail}
 use Rattle.trace_values.specs.Placed.{Placed, byte_at}
 use Rattle.frame_grammar.specs.Port as port
-use Rattle.frame_grammar.specs.Port.{Piece, State, rule}
+use Rattle.frame_grammar.specs.Port.{PortItem, State, rule}
 use Rattle.port_sync.specs.Aligned.{said, state, outcome}
 use Rattle.port_sync.specs.declared.aligner.Half.TheVariants.{HalfSync, FullSync, Waiting, Bad}
 use Rattle.port_sync.specs.declared.aligner.Part.{Part}
 use Rattle.port_sync.specs.declared.aligner.Part.TheVariants.{Between, First, One, Two, Three}
 
-abbrev pick : Bool → Next State Piece → Next State Piece → Next State Piece
+abbrev pick : Bool → Next State PortItem → Next State PortItem → Next State PortItem
 pick t x y = cond t x y
 
 pub rule_by : (left : ℕ) (bytes : List Placed) (halves : ℕ) (part : Part) (at here byte : ℕ) →
@@ -25,7 +25,7 @@ rule_by left bytes halves Between at here byte = split (byte == 255) where
 rule_by left bytes halves (First a) at here byte = refl
 rule_by left bytes halves One at here byte = split (byte == 127) (byte == 255) (left == 7) refl where
   split : (t u w : Bool) → (left == 7) ≡ w →
-      pick t (pick (left == 7) (Stop port.Half) (Go (record { left = left; bytes = bytes; halves = halves + 1; part = port.Between })))
+      pick t (pick (left == 7) (End port.Half) (Go (record { left = left; bytes = bytes; halves = halves + 1; part = port.Between })))
       (pick u (pick w (Go (state left bytes halves Two here)) (Fail SyncInFrame)) (Fail BadSync))
       ≡ outcome left bytes halves One at here byte (cond t HalfSync (cond u (cond w Waiting (Bad SyncInFrame)) (Bad BadSync)))
   split true u w e = refl
@@ -37,6 +37,6 @@ rule_by left bytes halves Two at here byte = split (byte == 255) where
   split true = refl
   split false = refl
 rule_by left bytes halves Three at here byte = split (byte == 127) where
-  split : (t : Bool) → pick t (Stop port.Full) (Fail BadSync) ≡ outcome left bytes halves Three at here byte (cond t FullSync (Bad BadSync))
+  split : (t : Bool) → pick t (End port.Full) (Fail BadSync) ≡ outcome left bytes halves Three at here byte (cond t FullSync (Bad BadSync))
   split true = refl
   split false = refl

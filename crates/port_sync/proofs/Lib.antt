@@ -1,2 +1,1 @@
 pub mod Aligning
-pub mod Running

@@ -2,10 +2,10 @@
 use Rattle.std.specs.Prelude.{◌≡◌, ◌≢◌, ℕ, ◌+◌, ◌-◌, List, [], ◌∷◌, ◌++◌, Bool, true, false, not, ◌==◌, if◌then◌else◌}
 use Rattle.trace_values.specs.declared.fault.Reason.TheVariants.{BadSync, SyncInFrame}
 use Rattle.trace_values.specs.declared.next.Next.{Next}
-use Rattle.trace_values.specs.declared.next.Next.TheVariants.{Go, Stop, Fail}
+use Rattle.trace_values.specs.declared.next.Next.TheVariants.{Go, End, Fail}
 use Rattle.trace_values.specs.Placed.{Placed, byte_at}
 use Rattle.frame_grammar.specs.Port as port
-use Rattle.frame_grammar.specs.Port.{Piece, State, word_ended}
+use Rattle.frame_grammar.specs.Port.{PortItem, State, word_ended}
 use Rattle.port_sync.specs.declared.aligner.Half.{Half}
 use Rattle.port_sync.specs.declared.aligner.Half.TheVariants.{Pair, HalfSync, FullSync, Waiting, Bad}
 use Rattle.port_sync.specs.declared.aligner.Part.{Part}
@@ -84,10 +84,10 @@ abbrev pub state : ℕ → List Placed → ℕ → Part → ℕ → State
 state left bytes halves part at = record { left = left; bytes = bytes; halves = halves; part = placed_part part at }
 
 -- what the grammar's rule says of a byte at the offset here, by what the byte ends
-abbrev pub outcome : ℕ → List Placed → ℕ → Part → ℕ → ℕ → ℕ → Half → Next State Piece
+abbrev pub outcome : ℕ → List Placed → ℕ → Part → ℕ → ℕ → ℕ → Half → Next State PortItem
 outcome left bytes halves part at here byte (Pair a b) = word_ended left (bytes ++ (byte_at at a ∷ (byte_at here b ∷ []))) halves
 outcome left bytes halves part at here byte HalfSync =
-    if left == 7 then Stop port.Half else Go (record { left = left; bytes = bytes; halves = halves + 1; part = port.Between })
-outcome left bytes halves part at here byte FullSync = Stop port.Full
+    if left == 7 then End port.Half else Go (record { left = left; bytes = bytes; halves = halves + 1; part = port.Between })
+outcome left bytes halves part at here byte FullSync = End port.Full
 outcome left bytes halves part at here byte Waiting = Go (state left bytes halves (longer part byte) here)
 outcome left bytes halves part at here byte (Bad e) = Fail e

@@ -1,7 +1,15 @@
 //! The hunt for a full synchronisation at any offset.
 
-ghost use Rattle.std.specs.Prelude.{◌≡◌, ◌≤◌, ◌+◌, ◌==◌, ◌&&◌};
-ghost use Rattle.trace_values.specs.Hunted.{run_after};
+ghost use Rattle.std.specs.Prelude.{◌≡◌, ◌≤◌};
+
+use trace_values::Pattern;
+
+/// A full synchronisation, `FF FF FF 7F`.
+const FULL_SYNC: Pattern = Pattern {
+    unit: 0xFF,
+    most: 3,
+    last: 0x7F,
+};
 
 /// Looks for `FF FF FF 7F` in bytes that may begin anywhere.
 #[derive(Debug, Drop)]
@@ -13,13 +21,14 @@ pub struct Hunter {
 
 impl Hunter {
     ghost use Rattle.std.specs.Prelude.{◌+◌, ◌++◌, ◌∷◌, [], List, ℕ, ◌↔◌, IsTrue, ◌==◌, ◌&&◌};
+    ghost use Rattle.trace_values.specs.Hunt.{EndsWith};
     ghost use Rattle.trace_values.specs.Hunted.{pattern_of, run_after};
-    ghost use Rattle.port_sync.specs.Hunting.{pattern, EndsWith, run_of, IsBehind};
+    ghost use Rattle.port_sync.specs.Hunting.{pattern, run_of, Stands};
 
     /// A hunter before the first byte.
     pub fn new() -> Hunter
         ensures run { run_of result ≡ 0 }
-        ensures list { IsBehind result [] }
+        ensures list { Stands result [] }
     {
         Hunter { run: 0 }
     }
@@ -27,39 +36,17 @@ impl Hunter {
     /// Takes the next byte. True exactly where the last four bytes are `FF FF FF 7F`.
     #[inline]
     pub fn push(&mut self, byte: u8) -> bool
-        ensures list { (u : List ℕ) → IsBehind self.old u → IsBehind self.new (u ++ byte ∷ []) }
-        ensures found { (u : List ℕ) → IsBehind self.old u → IsTrue result ↔ EndsWith (pattern_of pattern) (u ++ byte ∷ []) }
+        ensures list { (u : List ℕ) → Stands self.old u → Stands self.new (u ++ byte ∷ []) }
+        ensures found { (u : List ℕ) → Stands self.old u →
+            IsTrue result ↔ EndsWith (pattern_of pattern) (u ++ byte ∷ []) }
         ensures run { run_of self.new ≡ run_after pattern (run_of self.old) byte }
-        ensures ends { result ≡ (byte == 127 && run_of self.old == 3) }
+        ensures ends { result ≡ (byte == pattern.last && run_of self.old == pattern.most) }
         ensures few { (run_of self.new ≤ 3) × (run_of self.new ≤ run_of self.old + 1) }
     {
-        let found = ends_pattern(self.run, byte);
-        self.run = run_with(self.run, byte);
+        let found = FULL_SYNC.ends(self.run, byte);
+        self.run = FULL_SYNC.run_after(self.run, byte);
         found
     }
-}
-
-/// The run of FF at the end of the bytes so far with this one.
-#[inline]
-fn run_with(run: u8, byte: u8) -> u8
-    requires { run ≤ 3 }
-    ensures run { result ≡ run_after (record { unit = 255; most = 3; last = 127 }) run byte }
-    ensures within { result ≤ 3 }
-    ensures grown { result ≤ run + 1 }
-{
-    if byte == 0xFF {
-        if run < 3 { run + 1 } else { 3 }
-    } else {
-        0
-    }
-}
-
-/// The byte ends the pattern behind a run of so many FF.
-#[inline]
-fn ends_pattern(run: u8, byte: u8) -> bool
-    ensures { result ≡ (byte == 127 && run == 3) }
-{
-    byte == 0x7F && run == 3
 }
 
 #[cfg(test)]

@@ -3,7 +3,7 @@ use Rattle.std.specs.Prelude.{ℕ, List, replicate, Option}
 use Rattle.trace_values.specs.declared.cell.Cell.{Cell}
 use Rattle.source_counts.specs.Counts.{bytes_of, items_of}
 
--- so many cells of this source and this run
+-- this many cells of this source and this run
 abbrev pub cells_of : Option ℕ → ℕ → ℕ → List Cell
 cells_of id run n = replicate n (record { at = 0; id = id; run = run; byte = 0 })
 

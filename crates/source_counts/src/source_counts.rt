@@ -1,9 +1,10 @@
 //! Counts of all sources.
 
 ghost use Rattle.std.specs.Prelude.{◌≡◌, ℕ, ◌≤◌, slice_index};
-ghost use Rattle.source_counts.specs.Adding.{begins_item};
+ghost use Rattle.source_counts.specs.Adding.{begins_item, items_by_run};
 
 use crate::counts::Counts;
+use frame_grammar::source_bytes::id_bits;
 use trace_values::{Cell, SourceId};
 
 /// How many IDs there are: 0 to 126.
@@ -18,7 +19,7 @@ const TRIGGER: u8 = 125;
 /// Counts the bytes and items of each source frame by frame.
 ///
 /// The null source has no items, and each byte of the trigger source is one. The bytes of any other source
-/// that stand in one run of one frame are one item.
+/// in one run of one frame are one item.
 #[derive(Debug, Drop)]
 pub struct SourceCounts {
     bytes: [u64; SOURCES],
@@ -32,13 +33,15 @@ impl SourceCounts {
     ghost use Rattle.std.specs.Prelude.{◌≡◌, ◌≤◌, ◌<◌, ◌+◌, ◌^◌, ℕ, List, [], ◌∷◌, ◌++◌, length, slice_index, Option, is_none, if◌then◌else◌};
     ghost use Rattle.trace_values.specs.declared.cell.Cell.{Cell};
     ghost use Rattle.frame_grammar.specs.Runs.{HasRuns};
-    ghost use Rattle.source_counts.specs.Counts.{counts_of, unattributed_of};
-    ghost use Rattle.source_counts.specs.Adding.{byte_by, item_by};
-    ghost use Rattle.source_counts.specs.Kept.{IsOf, total_of};
+    ghost use Rattle.source_counts.specs.Counts.{bytes_of, items_of, unattributed_of};
+    ghost use Rattle.trace_values.specs.Cells.{source_id};
+    ghost use Rattle.frame_grammar.specs.Frame.{cells, id_after};
+    ghost use Rattle.source_counts.specs.Adding.{byte_by, item_by, run_bytes, run_items};
+    ghost use Rattle.source_counts.specs.Kept.{Stands, HasBytes, HasItems, total_of};
 
     /// The counts before the first frame.
     pub fn new() -> SourceCounts
-        ensures fresh { IsOf result [] }
+        ensures fresh { Stands result [] }
         ensures total { total_of result ≡ 0 }
     {
         SourceCounts {
@@ -51,11 +54,14 @@ impl SourceCounts {
 
     /// Counts the cells of one more frame, which may be none.
     ///
-    /// With them at most 2^60 cells and frames have been counted. The items are counted by neighbours, which
-    /// is right for the cells of a frame, since their runs never fall.
+    /// With them at most 2^60 cells and frames have been counted. The items are counted by neighbours, which is right
+    /// where the runs never fall, as those of a frame's cells.
     pub fn add_frame(&mut self, cells: &[Cell])
         requires { total_of self.old + length cells.now + 1 ≤ 2 ^ 60 }
-        ensures frames { (frames : List (List Cell)) → HasRuns cells.now → IsOf self.old frames → IsOf self.new (frames ++ cells.now ∷ []) }
+        ensures bytes { (frames : List (List Cell)) → HasBytes self.old frames →
+            HasBytes self.new (frames ++ cells.now ∷ []) }
+        ensures items { (frames : List (List Cell)) → HasRuns cells.now → HasItems self.old frames →
+            HasItems self.new (frames ++ cells.now ∷ []) }
         ensures total { total_of self.new ≡ total_of self.old + length cells.now + 1 }
     {
         let mut before = None;
@@ -66,11 +72,80 @@ impl SourceCounts {
         self.frames += 1;
     }
 
+    /// Counts the cells of one more frame by its bytes, where `before` is the ID before it, and gives the ID after it.
+    ///
+    /// With them at most 2^60 cells and frames have been counted.
+    pub fn add_frame_bytes(
+        &mut self,
+        frame: &[u8; 16],
+        before: Option<SourceId>,
+    ) -> Option<SourceId>
+        requires { total_of self.old + 16 ≤ 2 ^ 60 }
+        ensures bytes { (frames : List (List Cell)) (at : List ℕ) → HasBytes self.old frames →
+            HasBytes self.new (frames ++ cells frame.now at before ∷ []) }
+        ensures items { (frames : List (List Cell)) (at : List ℕ) → HasItems self.old frames →
+            HasItems self.new (frames ++ cells frame.now at before ∷ []) }
+        ensures after { result ≡ id_after frame.now before }
+        ensures total { total_of self.new ≤ total_of self.old + 16 }
+    {
+        let auxiliary = frame[15];
+        let mut id = id_bits(before);
+        // How many cells of the run are not counted yet.
+        let mut pending = 0u64;
+        for pair in 0..7 {
+            let mixed = frame[2 * pair];
+            if mixed % 2 == 0 {
+                pending += 2;
+            } else {
+                // The byte after an ID that is deferred is of the run before.
+                let deferred = u64::from((auxiliary >> pair) % 2);
+                self.add_run(id, pending + deferred);
+                id = mixed / 2;
+                pending = 1 - deferred;
+            }
+        }
+        let last = frame[14];
+        if last % 2 == 0 {
+            self.add_run(id, pending + 1);
+            self.frames += 1;
+            SourceId::new(id)
+        } else {
+            self.add_run(id, pending);
+            self.frames += 1;
+            SourceId::new(last / 2)
+        }
+    }
+
+    /// Counts this many cells of one run, whose ID has these seven bits; 127 is no ID.
+    #[inline]
+    fn add_run(&mut self, id: u8, count: u64)
+        requires id { id ≤ 127 }
+        requires room { total_of self.old + count ≤ 2 ^ 60 }
+        ensures bytes { (k : ℕ) → slice_index self.new.bytes k ≡
+            slice_index self.old.bytes k + run_bytes k (source_id id) count }
+        ensures items { (k : ℕ) → slice_index self.new.items k ≡
+            slice_index self.old.items k + run_items k (source_id id) count }
+        ensures unattributed { self.new.unattributed ≡
+            self.old.unattributed + (if is_none (source_id id) then count else 0) }
+        ensures frames { self.new.frames ≡ self.old.frames }
+        ensures total { total_of self.new ≡ total_of self.old + count }
+    {
+        if id == 127 {
+            self.unattributed += count;
+        } else {
+            let source = usize::from(id);
+            self.bytes[source] += count;
+            self.items[source] += items_of_run(id, count);
+        }
+    }
+
     /// Counts a cell, which begins a run or not.
     fn add_cell(&mut self, cell: &Cell, new_run: bool)
         requires { total_of self.old < 2 ^ 60 }
-        ensures bytes { (id : ℕ) → slice_index self.new.bytes id ≡ slice_index self.old.bytes id + byte_by id cell.now.id }
-        ensures items { (id : ℕ) → slice_index self.new.items id ≡ slice_index self.old.items id + item_by id cell.now.id new_run }
+        ensures bytes { (id : ℕ) → slice_index self.new.bytes id ≡
+            slice_index self.old.bytes id + byte_by id cell.now.id }
+        ensures items { (id : ℕ) → slice_index self.new.items id ≡
+            slice_index self.old.items id + item_by id cell.now.id new_run }
         ensures unattributed { self.new.unattributed ≡ self.old.unattributed + (if is_none cell.now.id then 1 else 0) }
         ensures frames { self.new.frames ≡ self.old.frames }
         ensures total { total_of self.new ≡ total_of self.old + 1 }
@@ -86,7 +161,8 @@ impl SourceCounts {
         requires source { id ≤ 126 }
         requires room { total_of self.old < 2 ^ 60 }
         ensures bytes { (k : ℕ) → slice_index self.new.bytes k ≡ slice_index self.old.bytes k + byte_by k (Some id) }
-        ensures items { (k : ℕ) → slice_index self.new.items k ≡ slice_index self.old.items k + item_by k (Some id) new_run }
+        ensures items { (k : ℕ) → slice_index self.new.items k ≡
+            slice_index self.old.items k + item_by k (Some id) new_run }
         ensures unattributed { self.new.unattributed ≡ self.old.unattributed }
         ensures frames { self.new.frames ≡ self.old.frames }
         ensures total { total_of self.new ≡ total_of self.old + 1 }
@@ -100,7 +176,8 @@ impl SourceCounts {
 
     /// What a source has sent.
     pub fn of(&self, id: SourceId) -> Counts
-        ensures { (frames : List (List Cell)) → IsOf self.now frames → result ≡ counts_of id frames }
+        ensures bytes { (frames : List (List Cell)) → HasBytes self.now frames → result.bytes ≡ bytes_of id frames }
+        ensures items { (frames : List (List Cell)) → HasItems self.now frames → result.items ≡ items_of id frames }
     {
         let index = usize::from(id.number());
         Counts {
@@ -111,16 +188,32 @@ impl SourceCounts {
 
     /// How many bytes have no source.
     pub fn unattributed(&self) -> u64
-        ensures { (frames : List (List Cell)) → IsOf self.now frames → result ≡ unattributed_of frames }
+        ensures { (frames : List (List Cell)) → HasBytes self.now frames → result ≡ unattributed_of frames }
     {
         self.unattributed
     }
 
     /// How many frames were counted.
     pub fn frames(&self) -> u64
-        ensures { (frames : List (List Cell)) → IsOf self.now frames → result ≡ length frames }
+        ensures { (frames : List (List Cell)) → HasBytes self.now frames → result ≡ length frames }
     {
         self.frames
+    }
+}
+
+/// The items of this many cells of one run: each cell of the trigger source, none of the null source, and one of any
+/// other.
+#[inline]
+fn items_of_run(id: u8, count: u64) -> u64
+    ensures items { result ≡ items_by_run id count }
+    ensures few { result ≤ count }
+{
+    if id == NULL {
+        0
+    } else if id == TRIGGER {
+        count
+    } else {
+        count.min(1)
     }
 }
 

@@ -22,7 +22,7 @@ fn is_proper(frame: &[u8; 16]) -> bool
     true
 }
 
-/// Counts a frame that stands behind this ID, and gives the ID after it.
+/// Counts the cells of a frame after this ID, and gives the ID after it.
 fn add(
     rt: &impl Abort,
     counts: &mut SourceCounts,
@@ -39,17 +39,33 @@ fn add(
     after
 }
 
-/// Counts frames, which must give so many unattributed bytes, and so many bytes and items of these sources.
+/// Counts frames by their cells and by their bytes, which must give this many unattributed bytes, and this many bytes
+/// and items of these sources.
 fn expect(rt: &impl Abort, frames: &[[u8; 16]], unattributed: u64, sources: &[(u8, u64, u64)])
     requires { length frames.now ≤ 100 }
 {
-    let mut counts = SourceCounts::new();
+    let mut by_cells = SourceCounts::new();
+    let mut by_bytes = SourceCounts::new();
     let mut id = None;
     for frame in frames {
-        id = add(rt, &mut counts, frame, id);
+        let after = by_bytes.add_frame_bytes(frame, id);
+        id = add(rt, &mut by_cells, frame, id);
+        assert_eq!(rt; after, id, "{frame:?}");
     }
-    assert_eq!(rt; counts.frames(), frames.len() as u64);
-    assert_eq!(rt; counts.unattributed(), unattributed, "{frames:?}");
+    expect_counts(rt, &by_cells, frames.len() as u64, unattributed, sources);
+    expect_counts(rt, &by_bytes, frames.len() as u64, unattributed, sources);
+}
+
+/// These must be the counts.
+fn expect_counts(
+    rt: &impl Abort,
+    counts: &SourceCounts,
+    frames: u64,
+    unattributed: u64,
+    sources: &[(u8, u64, u64)],
+) {
+    assert_eq!(rt; counts.frames(), frames);
+    assert_eq!(rt; counts.unattributed(), unattributed, "{sources:?}");
     for number in 0..127u8 {
         let mut want = Counts { bytes: 0, items: 0 };
         for (source, bytes, items) in sources {
@@ -61,7 +77,7 @@ fn expect(rt: &impl Abort, frames: &[[u8; 16]], unattributed: u64, sources: &[(u
             }
         }
         let got = SourceId::new(number).map(|id| counts.of(id));
-        assert_eq!(rt; got, Some(want), "{number} of {frames:?}");
+        assert_eq!(rt; got, Some(want), "{number} of {sources:?}");
     }
 }
 
@@ -147,4 +163,22 @@ fn counts_a_frame_without_cells(rt: HostRuntime) {
     counts.add_frame(&[]);
     assert_eq!(rt; counts.frames(), 1);
     assert_eq!(rt; counts.unattributed(), 0);
+}
+
+#[test]
+fn counts_bytes_of_any_runs(rt: HostRuntime) {
+    let id = SourceId::new(7).unwrap();
+    let mut cells = [Cell {
+        at: 0,
+        id: Some(id),
+        run: 2,
+        byte: 0,
+    }; 3];
+    cells[1].run = 1;
+    cells[2].id = None;
+    let mut counts = SourceCounts::new();
+    counts.add_frame(&cells);
+    assert_eq!(rt; counts.of(id).bytes, 2);
+    assert_eq!(rt; counts.unattributed(), 1);
+    assert_eq!(rt; counts.frames(), 1);
 }

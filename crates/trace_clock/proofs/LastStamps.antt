@@ -25,7 +25,7 @@ not_given h xs x e =
 suffix_len-push : {X : Type 0} (p : X → Bool) (xs : List X) (x : X) → suffix_len p (xs ++ x ∷ []) ≡ cond (p x) (1 + suffix_len p xs) 0
 suffix_len-push p xs x = ap (prefix_len p) (reverse-append xs (x ∷ []))
 
--- nothing stands behind an element that passes the test, and one that does not is more behind the last that does
+-- nothing comes after an element that passes the test, and one that does not is one more after the last that does
 pub after_itself : {X : Type 0} (p : X → Bool) (xs : List X) (x : X) → p x ≡ true → after_last p (xs ++ x ∷ []) ≡ []
 after_itself {X} p xs x e =
     let q : X → Bool = λ y. not (p y) in

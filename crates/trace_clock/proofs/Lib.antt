@@ -1,3 +1,5 @@
-pub mod BitSums
+pub mod DigitSums
+pub mod GlobalStamps
+pub mod GrayCodes
 pub mod LastStamps
-pub mod Stamps
+pub mod LastWords

@@ -3,7 +3,7 @@ use Rattle.std.specs.Prelude.{◌≡◌, List}
 use Rattle.trace_clock.specs.GlobalTime.{GlobalStamp, known_low, high_part}
 use Rattle.trace_clock.specs.declared.global.GlobalClock.{GlobalClock}
 
--- a clock behind these timestamps
-pub record IsGlobal (clock : GlobalClock) (stamps : List GlobalStamp) : Type 0 where
+-- a clock after these timestamps
+pub record Stands (clock : GlobalClock) (stamps : List GlobalStamp) : Type 0 where
   pub low : clock.low ≡ known_low stamps
   pub high : clock.high ≡ high_part stamps

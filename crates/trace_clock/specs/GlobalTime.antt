@@ -3,13 +3,13 @@ use Rattle.std.specs.Prelude.{◌≡◌, ℕ, ◌+◌, ◌*◌, ◌^◌, ◌<◌
 use Rattle.std.specs.List.{list_any, filter_map, last_or, after_last}
 use Rattle.std.specs.Int.{bit_at, sum_through}
 
--- a global timestamp packet: a first one of so many payload bytes, whose wrap says that the bits from 26 on
+-- a global timestamp packet: a first one of len payload bytes, whose wrap says that the bits from 26 on
 -- changed, or a second one
 pub data GlobalStamp : Type 0 where
   First : (len value : ℕ) → (wrap : Bool) → GlobalStamp
   Second : (value : ℕ) → GlobalStamp
 
--- how many bits of the time, from bit 0 on, a first timestamp of so many payload bytes carries
+-- how many bits of the time, from bit 0 on, a first timestamp of len payload bytes carries
 abbrev pub first_bits : ℕ → ℕ
 first_bits len = if len == 4 then 26 else 7 * len
 
@@ -19,7 +19,8 @@ second_bits wide = if wide then 38 else 22
 
 -- a first timestamp has one to four payload bytes, and room for clock change and wrap in the fourth only
 abbrev pub IsProperFirst : ℕ → ℕ → Bool → Bool → Type 0
-IsProperFirst len value change wrap = (0 < len) × (len ≤ 4) × (value < 2 ^ first_bits len) × (len < 4 → (change ≡ false) × (wrap ≡ false))
+IsProperFirst len value change wrap = (0 < len) × (len ≤ 4) × (value < 2 ^ first_bits len) ×
+    (len < 4 → (change ≡ false) × (wrap ≡ false))
 
 -- a first timestamp that carries all of its bits
 abbrev pub is_whole : GlobalStamp → Bool
@@ -53,10 +54,12 @@ low_part stamps = sum_through (λ bit. low_bit stamps bit * 2 ^ bit) 25
 abbrev pub known_low : List GlobalStamp → Option ℕ
 known_low stamps = if list_any is_whole stamps then Some (low_part stamps) else None
 
--- the bits from 26 on, as a number: the value of the last second timestamp, if there is one behind the last wrap
+-- the bits from 26 on, as a number: the value of the last second timestamp, if there is one after the last wrap
 unfoldable pub high_part : List GlobalStamp → Option ℕ
 high_part stamps = last_or None (filter_map second_value (after_last is_wrap stamps))
 
--- the time, which is unknown before the first whole first timestamp, and from the start or a wrap to the next second one
+-- the time, which is unknown before the first whole first timestamp, and from the start or a wrap to the next
+-- second one
 abbrev pub global_time : List GlobalStamp → Option ℕ
-global_time stamps = if list_any is_whole stamps then option_map (λ high. low_part stamps + 2 ^ 26 * high) (high_part stamps) else None
+global_time stamps =
+    if list_any is_whole stamps then option_map (λ high. low_part stamps + 2 ^ 26 * high) (high_part stamps) else None

@@ -18,11 +18,11 @@ pub struct GlobalClock {
 
 impl GlobalClock {
     ghost use Rattle.trace_clock.specs.GlobalTime.{global_time, Second, IsProperFirst, second_bits};
-    ghost use Rattle.trace_clock.specs.GlobalClock.{IsGlobal};
+    ghost use Rattle.trace_clock.specs.GlobalClock.{Stands};
 
     /// A clock before the first timestamp, whose time is unknown.
     pub fn new() -> GlobalClock
-        ensures { IsGlobal result [] }
+        ensures { Stands result [] }
     {
         GlobalClock {
             low: None,
@@ -38,9 +38,10 @@ impl GlobalClock {
     #[inline]
     pub fn first(&mut self, len: u8, value: u32, change: bool, wrap: bool)
         requires proper { IsProperFirst len value change wrap }
-        ensures { (stamps : List GlobalStamp) → IsGlobal self.old stamps → IsGlobal self.new (stamps ++ First len value wrap ∷ []) }
+        ensures { (stamps : List GlobalStamp) → Stands self.old stamps →
+            Stands self.new (stamps ++ First len value wrap ∷ []) }
     {
-        self.low = low_behind(self.low, len, value);
+        self.low = low_after(self.low, len, value);
         if wrap {
             self.high = None;
         }
@@ -51,7 +52,8 @@ impl GlobalClock {
     #[inline]
     pub fn second(&mut self, wide: bool, value: u64)
         requires proper { value < 2 ^ second_bits wide }
-        ensures { (stamps : List GlobalStamp) → IsGlobal self.old stamps → IsGlobal self.new (stamps ++ Second value ∷ []) }
+        ensures { (stamps : List GlobalStamp) → Stands self.old stamps →
+            Stands self.new (stamps ++ Second value ∷ []) }
     {
         self.high = Some(value);
     }
@@ -60,7 +62,7 @@ impl GlobalClock {
     /// from 26 on last changed, or since the start.
     #[inline]
     pub fn now(&self) -> Option<u64>
-        ensures { (stamps : List GlobalStamp) → IsGlobal self.now stamps → result ≡ global_time stamps }
+        ensures { (stamps : List GlobalStamp) → Stands self.now stamps → result ≡ global_time stamps }
     {
         match (self.low, self.high) {
             (Some(low), Some(high)) => Some((high << 26) | u64::from(low)),
@@ -69,13 +71,14 @@ impl GlobalClock {
     }
 }
 
-/// Bits 25 to 0 of the time behind a first timestamp, as far as they are known, by those before it.
+/// Bits 25 to 0 of the time after a first timestamp, as far as they are known, by those before it.
 #[inline]
-fn low_behind(low: Option<u32>, len: u8, value: u32) -> Option<u32>
+fn low_after(low: Option<u32>, len: u8, value: u32) -> Option<u32>
     requires len { (0 < len) × (len ≤ 4) }
     requires value { value < 2 ^ first_bits len }
     requires low { ForSome low (λ bits. bits < 2 ^ 26) }
-    ensures list { (stamps : List GlobalStamp) (wrap : Bool) → low ≡ known_low stamps → result ≡ known_low (stamps ++ First len value wrap ∷ []) }
+    ensures list { (stamps : List GlobalStamp) (wrap : Bool) → low ≡ known_low stamps →
+        result ≡ known_low (stamps ++ First len value wrap ∷ []) }
     ensures fits { ForSome result (λ bits. bits < 2 ^ 26) }
 {
     if len == 4 {
@@ -85,7 +88,7 @@ fn low_behind(low: Option<u32>, len: u8, value: u32) -> Option<u32>
     }
 }
 
-/// The number with its lowest bits, so many, replaced by these.
+/// The number with its lowest `count` bits replaced by these.
 #[inline]
 fn with_low_bits(number: u32, count: u8, bits: u32) -> u32
     requires count { count ≤ 21 }
@@ -104,7 +107,7 @@ mod tests {
 
     #[derive(Clone, Copy, Debug)]
     enum Stamp {
-        /// Of so many payload bytes under four.
+        /// Of one to three payload bytes.
         Short(u8, u32),
         /// Of four, with clock change and wrap.
         Whole(u32, bool, bool),

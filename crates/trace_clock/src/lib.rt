@@ -1,10 +1,18 @@
-//! The times that the timestamp packets of an ITM stream tell (ARMv7-M Architecture Reference Manual,
-//! 'Debug ITM and DWT packet protocol', timestamp packets).
+//! The times that timestamps tell: those of ITM timestamp packets (ARMv7-M Architecture Reference Manual, 'Debug
+//! ITM and DWT packet protocol', timestamp packets), and those of STP packets, in this project's profile of the
+//! System Trace Protocol.
 #![tactic(auto)]
 
 mod global;
+mod gray;
+pub mod laws;
 mod local;
 pub mod rows;
+mod stamps;
+mod words;
 
 pub use global::GlobalClock;
+pub use gray::{from_gray, to_gray};
 pub use local::LocalClock;
+pub use stamps::Stamps;
+pub use words::{word_after, word_fits, word_nibbles};

@@ -36,8 +36,10 @@ impl LocalClock {
     pub fn add(&mut self, delta: u32) -> u64
         requires room { self.old + delta < 2 ^ 64 }
         ensures sum { self.new ≡ self.old + delta }
-        ensures list { (deltas : List ℕ) → self.old ≡ local_time deltas → self.new ≡ local_time (deltas ++ delta ∷ []) }
-        ensures time { (deltas : List ℕ) → self.old ≡ local_time deltas → result ≡ local_time (deltas ++ delta ∷ []) }
+        ensures list { (deltas : List ℕ) → self.old ≡ local_time deltas →
+            self.new ≡ local_time (deltas ++ delta ∷ []) }
+        ensures time { (deltas : List ℕ) → self.old ≡ local_time deltas →
+            result ≡ local_time (deltas ++ delta ∷ []) }
     {
         self.ticks += u64::from(delta);
         self.ticks

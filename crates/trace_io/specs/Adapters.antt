@@ -10,6 +10,10 @@ inner_reader a = a.inner
 abbrev pub reader_faults : {R : Type 0} → ReadAdapter R → ℕ
 reader_faults a = a.faults
 
+-- how many reads gave no byte, up to the last value
+abbrev pub reader_empty_reads : {R : Type 0} → ReadAdapter R → ℕ
+reader_empty_reads a = a.empty_reads
+
 -- the writer below a sink
 abbrev pub inner_writer : {W : Type 0} → WriteAdapter W → W
 inner_writer a = a.inner

@@ -1,4 +1,4 @@
-ghost use Rattle.std.specs.Prelude.{Some, ◌≡◌, ◌↔◌, ◌⊎◌, ◌<◌, ◌-◌, min, [], length, Contains, IsErr, IfOk};
+ghost use Rattle.std.specs.Prelude.{Some, ◌≡◌, ◌↔◌, ◌⊎◌, ◌<◌, ◌≤◌, ◌-◌, ◌^◌, min, [], length, Contains, IsErr, IfOk};
 ghost use Rattle.std.specs.Io.KnownBytes.{WriteAppends};
 ghost use Rattle.trace_io.specs.Bytes.{TakesSome};
 ghost use Rattle.trace_io.specs.Causes.{HasCause, raised, faults_after};
@@ -82,6 +82,8 @@ impl Sink for MemorySink<'_> {
         ensures bound { IfOk result (TakesSome piece.now) }
         ensures bytes { WriteAppends (Some self.old.taken) (Some self.new.taken) result piece.now }
         ensures cause { HasCause self.old.faults self.new.faults result }
+        ensures counted { self.new.faults ≡ faults_after result self.old.faults }
+        ensures bounded { self.new.faults ≤ 2 ^ 64 - 1 }
 
         // Which calls fail, and how many bytes the others take.
         ensures fails { IsErr result ↔
@@ -90,16 +92,16 @@ impl Sink for MemorySink<'_> {
             (min (self.old.room - length self.old.taken) (length piece.now))) }
 
         ensures calls { self.new.calls ≡ raised self.old.calls }
-        ensures faults { self.new.faults ≡ faults_after result self.old.faults }
         ensures room { self.new.room ≡ self.old.room }
         ensures pieces { self.new.pieces ≡ self.old.pieces }
         ensures fail { self.new.fail ≡ self.old.fail }
     {
         let call = self.calls;
+        let faults = self.faults;
         self.calls = call.saturating_add(1);
         let free = self.room.len() - self.filled;
         if free == 0 || self.fail.contains(&call) {
-            self.faults = self.faults.saturating_add(1);
+            self.faults = faults.saturating_add(1);
             return Err(Failed);
         }
         let count = piece_len(self.pieces, call, free.min(piece.len()));

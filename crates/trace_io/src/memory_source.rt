@@ -1,7 +1,7 @@
-ghost use Rattle.std.specs.Prelude.{Some, ◌≡◌, ◌↔◌, ◌<◌, min, [], length, Contains, IsErr, IfOk};
+ghost use Rattle.std.specs.Prelude.{Some, ◌≡◌, ◌↔◌, ◌-◌, ◌^◌, ◌<◌, ◌≤◌, min, [], length, Contains, IsErr, IfOk};
 ghost use Rattle.std.specs.Io.{ReadsAtMost};
 ghost use Rattle.std.specs.Io.KnownBytes.{ReadConsumes};
-ghost use Rattle.trace_io.specs.Causes.{HasCause, raised, faults_after};
+ghost use Rattle.trace_io.specs.Causes.{HasCause, CountsEmpty, raised, faults_after};
 ghost use Rattle.trace_io.specs.Memory.{piece_at};
 
 use crate::pieces::piece_len;
@@ -12,7 +12,8 @@ use std::marker::Model;
 ///
 /// Call k, from 0, fails exactly where k is in `fail`. Else it gives as many bytes as are left and
 /// fit, and at most `pieces[k % pieces.len()]`, where a 0 counts as 1; an empty `pieces` sets no such
-/// bound. The numbers of calls and of faults stay at 2^64 - 1 once they are there.
+/// bound. The numbers of calls, of faults and of calls that gave no byte stay at 2^64 - 1 once they are
+/// there.
 #[derive(Drop)]
 pub struct MemorySource<'a> {
     // What is still to come.
@@ -21,6 +22,7 @@ pub struct MemorySource<'a> {
     fail: &'a [u64],
     calls: u64,
     faults: u64,
+    empty_reads: u64,
 }
 
 impl<'a> Model for MemorySource<'a> {
@@ -34,6 +36,7 @@ impl<'a> Model for MemorySource<'a> {
       fail = s.fail.now;
       calls = s.calls;
       faults = s.faults;
+      empty_reads = s.empty_reads;
     } };
 }
 
@@ -45,6 +48,7 @@ impl<'a> MemorySource<'a> {
         ensures fail { result.fail ≡ fail.entry.now }
         ensures calls { result.calls ≡ 0 }
         ensures faults { result.faults ≡ 0 }
+        ensures empty_reads { result.empty_reads ≡ 0 }
     {
         MemorySource {
             bytes,
@@ -52,6 +56,7 @@ impl<'a> MemorySource<'a> {
             fail,
             calls: 0,
             faults: 0,
+            empty_reads: 0,
         }
     }
 }
@@ -61,11 +66,16 @@ impl Source for MemorySource<'_> {
 
     ghost faults = { λ s. s.faults };
 
+    ghost empty_reads = { λ s. s.empty_reads };
+
     fn read(&mut self, buf: &mut [u8]) -> Result<usize, Failed>
         requires { 0 < length buf.old }
         ensures bound { ReadsAtMost result buf.new }
         ensures bytes { ReadConsumes (Some self.old.left) (Some self.new.left) result buf.new }
         ensures cause { HasCause self.old.faults self.new.faults result }
+        ensures counted { self.new.faults ≡ faults_after result self.old.faults }
+        ensures bounded { self.new.faults ≤ 2 ^ 64 - 1 }
+        ensures empty { CountsEmpty result self.old.empty_reads self.new.empty_reads }
 
         // Which calls fail, and how many bytes the others give.
         ensures fails { IsErr result ↔ Contains self.old.fail self.old.calls }
@@ -73,17 +83,22 @@ impl Source for MemorySource<'_> {
             piece_at self.old.pieces self.old.calls (min (length self.old.left) (length buf.old))) }
 
         ensures calls { self.new.calls ≡ raised self.old.calls }
-        ensures faults { self.new.faults ≡ faults_after result self.old.faults }
         ensures pieces { self.new.pieces ≡ self.old.pieces }
         ensures fail { self.new.fail ≡ self.old.fail }
     {
         let call = self.calls;
+        let faults = self.faults;
+        let empty_reads = self.empty_reads;
         self.calls = call.saturating_add(1);
         if self.fail.contains(&call) {
-            self.faults = self.faults.saturating_add(1);
+            self.faults = faults.saturating_add(1);
+            self.empty_reads = empty_reads.saturating_add(1);
             return Err(Failed);
         }
         let count = piece_len(self.pieces, call, self.bytes.len().min(buf.len()));
+        if count == 0 {
+            self.empty_reads = empty_reads.saturating_add(1);
+        }
         let (front, rest) = self.bytes.split_at(count);
         buf[..count].copy_from_slice(front);
         self.bytes = rest;

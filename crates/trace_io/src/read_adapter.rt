@@ -1,29 +1,35 @@
-ghost use Rattle.std.specs.Prelude.{◌≡◌, ◌<◌, length};
+ghost use Rattle.std.specs.Prelude.{◌≡◌, ◌-◌, ◌^◌, ◌<◌, ◌≤◌, length};
 ghost use Rattle.std.specs.Io.{ReadsAtMost};
 ghost use Rattle.std.specs.Io.KnownBytes.{ReadConsumes};
-ghost use Rattle.trace_io.specs.Adapters.{inner_reader, reader_faults};
-ghost use Rattle.trace_io.specs.Causes.{HasCause, faults_after};
+ghost use Rattle.trace_io.specs.Adapters.{inner_reader, reader_faults, reader_empty_reads};
+ghost use Rattle.trace_io.specs.Causes.{HasCause, CountsEmpty, faults_after};
 
 use crate::source::{Failed, Source};
 use std::io::Read;
 
 /// A source over any reader of std.
 ///
-/// It counts the reader's errors, up to 2^64 - 1, and tells of the bytes what the reader tells: over
+/// It counts the reader's errors and the reads that gave no byte, each up to 2^64 - 1, and tells of the bytes what the reader tells: over
 /// a terminal, a pipe or a file that is nothing.
 #[derive(Drop)]
 pub struct ReadAdapter<R> {
     inner: R,
     faults: u64,
+    empty_reads: u64,
 }
 
 impl<R: Read> ReadAdapter<R> {
-    /// A source over this reader, with no fault so far.
+    /// A source over this reader, with no read so far.
     pub fn new(inner: R) -> Self
         ensures inner { inner_reader result ≡ inner }
         ensures faults { reader_faults result ≡ 0 }
+        ensures empty_reads { reader_empty_reads result ≡ 0 }
     {
-        ReadAdapter { inner, faults: 0 }
+        ReadAdapter {
+            inner,
+            faults: 0,
+            empty_reads: 0,
+        }
     }
 }
 
@@ -32,19 +38,30 @@ impl<R: Read> Source for ReadAdapter<R> {
 
     ghost faults = { reader_faults };
 
+    ghost empty_reads = { reader_empty_reads };
+
     fn read(&mut self, buf: &mut [u8]) -> Result<usize, Failed>
         requires { 0 < length buf.old }
         ensures bound { ReadsAtMost result buf.new }
         ensures bytes { ReadConsumes (R.remaining (inner_reader self.old))
             (R.remaining (inner_reader self.new)) result buf.new }
         ensures cause { HasCause (reader_faults self.old) (reader_faults self.new) result }
-
-        ensures faults { reader_faults self.new ≡ faults_after result (reader_faults self.old) }
+        ensures counted { reader_faults self.new ≡ faults_after result (reader_faults self.old) }
+        ensures bounded { reader_faults self.new ≤ 2 ^ 64 - 1 }
+        ensures empty { CountsEmpty result (reader_empty_reads self.old) (reader_empty_reads self.new) }
     {
+        let faults = self.faults;
+        let empty_reads = self.empty_reads;
         match self.inner.read(buf) {
-            Ok(count) => Ok(count),
+            Ok(count) => {
+                if count == 0 {
+                    self.empty_reads = empty_reads.saturating_add(1);
+                }
+                Ok(count)
+            }
             Err(_) => {
-                self.faults = self.faults.saturating_add(1);
+                self.faults = faults.saturating_add(1);
+                self.empty_reads = empty_reads.saturating_add(1);
                 Err(Failed)
             }
         }
@@ -67,6 +84,24 @@ mod tests {
         }
     }
 
+    /// A reader that fails at its first call alone.
+    #[derive(Drop)]
+    struct FailsOnce<'a> {
+        kind: ErrorKind,
+        has_failed: bool,
+        rest: &'a [u8],
+    }
+
+    impl Read for FailsOnce<'_> {
+        fn read(&mut self, buf: &mut [u8]) -> io::Result<usize> {
+            if !self.has_failed {
+                self.has_failed = true;
+                return Err(self.kind.into());
+            }
+            self.rest.read(buf)
+        }
+    }
+
     #[test]
     fn gives_the_bytes_of_its_reader(rt: HostRuntime) {
         let bytes: &[u8] = b"abc";
@@ -85,6 +120,32 @@ mod tests {
         for faults in [1, 2] {
             assert_eq!(rt; source.read(&mut [0; 2]), Err(Failed));
             assert_eq!(rt; source.faults, faults);
+        }
+    }
+
+    #[test]
+    fn answers_an_error_that_comes_once(rt: HostRuntime) {
+        for kind in [
+            ErrorKind::BrokenPipe,
+            ErrorKind::Interrupted,
+            ErrorKind::WouldBlock,
+        ] {
+            let mut source = ReadAdapter::new(FailsOnce {
+                kind,
+                has_failed: false,
+                rest: b"abc",
+            });
+            let mut buf = [0; 2];
+            for (want, held) in [
+                (Err(Failed), "\0\0"),
+                (Ok(2), "ab"),
+                (Ok(1), "cb"),
+                (Ok(0), "cb"),
+            ] {
+                assert_eq!(rt; source.read(&mut buf), want);
+                assert_eq!(rt; buf.as_slice(), held.as_bytes());
+                assert_eq!(rt; source.faults, 1);
+            }
         }
     }
 }

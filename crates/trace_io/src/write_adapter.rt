@@ -1,4 +1,4 @@
-ghost use Rattle.std.specs.Prelude.{◌≡◌, ◌<◌, length, IfOk};
+ghost use Rattle.std.specs.Prelude.{◌≡◌, ◌-◌, ◌^◌, ◌<◌, ◌≤◌, length, IfOk};
 ghost use Rattle.std.specs.Io.KnownBytes.{WriteAppends};
 ghost use Rattle.trace_io.specs.Adapters.{inner_writer, writer_faults};
 ghost use Rattle.trace_io.specs.Bytes.{TakesSome};
@@ -40,13 +40,14 @@ impl<W: Write> Sink for WriteAdapter<W> {
         ensures bytes { WriteAppends (W.contents (inner_writer self.old))
             (W.contents (inner_writer self.new)) result piece.now }
         ensures cause { HasCause (writer_faults self.old) (writer_faults self.new) result }
-
-        ensures faults { writer_faults self.new ≡ faults_after result (writer_faults self.old) }
+        ensures counted { writer_faults self.new ≡ faults_after result (writer_faults self.old) }
+        ensures bounded { writer_faults self.new ≤ 2 ^ 64 - 1 }
     {
+        let faults = self.faults;
         match self.inner.write(piece) {
             Ok(count) if count > 0 => Ok(count),
             _ => {
-                self.faults = self.faults.saturating_add(1);
+                self.faults = faults.saturating_add(1);
                 Err(Failed)
             }
         }
@@ -66,6 +67,32 @@ mod tests {
     impl Write for Broken {
         fn write(&mut self, _buf: &[u8]) -> io::Result<usize> {
             Err(ErrorKind::BrokenPipe.into())
+        }
+
+        fn flush(&mut self) -> io::Result<()> {
+            Ok(())
+        }
+    }
+
+    /// A writer that at its first call alone fails, or takes no byte.
+    #[derive(Drop)]
+    struct FailsOnce {
+        has_failed: bool,
+        // The error of the first call, where it isn't a call that takes no byte.
+        kind: Option<ErrorKind>,
+        inner: Vec<u8>,
+    }
+
+    impl Write for FailsOnce {
+        fn write(&mut self, buf: &[u8]) -> io::Result<usize> {
+            if self.has_failed {
+                return self.inner.write(buf);
+            }
+            self.has_failed = true;
+            match self.kind {
+                Some(kind) => Err(kind.into()),
+                None => Ok(0),
+            }
         }
 
         fn flush(&mut self) -> io::Result<()> {
@@ -94,5 +121,25 @@ mod tests {
         let mut broken = WriteAdapter::new(Broken);
         assert_eq!(rt; broken.write(b"a"), Err(Failed));
         assert_eq!(rt; broken.faults, 1);
+    }
+
+    #[test]
+    fn answers_a_failure_that_comes_once(rt: HostRuntime) {
+        for kind in [
+            Some(ErrorKind::BrokenPipe),
+            Some(ErrorKind::Interrupted),
+            None,
+        ] {
+            let mut sink = WriteAdapter::new(FailsOnce {
+                has_failed: false,
+                kind,
+                inner: Vec::new(rt.alloc()),
+            });
+            for (want, held) in [(Err(Failed), ""), (Ok(2), "ab"), (Ok(2), "abab")] {
+                assert_eq!(rt; sink.write(b"ab"), want);
+                assert_eq!(rt; sink.inner.inner.as_slice(), held.as_bytes());
+                assert_eq!(rt; sink.faults, 1);
+            }
+        }
     }
 }

@@ -1,7 +1,7 @@
 use Rattle.std.proofs.Common.{◌≡◌, ℕ, ◌<◌, ◌≤◌, List, [], ◌∷◌, ◌++◌, ap, ◌∙◌, sym, subst, append_assoc, length, length-append, take, drop, take-append-drop, arith}
 use Rattle.std.proofs.lemmas.List.{take-append-le}
 use Rattle.std.proofs.Math.Seq.{take-append_seam}
-use Rattle.trace_stream.specs.Laws.{IsCertainAt}
+use Rattle.trace_stream.specs.Written.{IsCertainAt}
 
 -- a shorter front at which a fault became certain leaves none to become certain later
 not_earlier : (faulty : List ℕ → Type 0) → ((xs ys : List ℕ) → faulty xs → faulty (xs ++ ys)) → (seen rest seen' rest' : List ℕ) → seen ++ rest ≡ seen' ++ rest'

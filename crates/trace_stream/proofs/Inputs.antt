@@ -9,7 +9,7 @@ use Rattle.trace_stream.proofs.Kept.{kept_more, kept_piece, kept_front}
 use Rattle.trace_stream.specs.Fed.{StandsAfter, HasFed}
 use Rattle.trace_stream.specs.Pumped.{HasPumped}
 use Rattle.trace_stream.specs.declared.feeding.FeedEnd.TheVariants.{All, FaultFound, WriteFailed}
-use Rattle.trace_stream.specs.declared.pumping.Ending.TheVariants as ending
+use Rattle.trace_stream.specs.declared.outcome.Outcome.TheVariants as outcome
 
 -- all bytes that were read so far, of this count, were fed, and the last sixteen are kept
 pub record IsPumping (stands faulty : List ℕ → Type 0) (text : List ℕ → List ℕ) (left_old left_new start held : Option (List ℕ)) (pending recent : List ℕ) (count : ℕ) : Type 0 where
@@ -28,7 +28,7 @@ parts_lost old mid new seen bytes piece beyond fed rest p q e f =
 pub pump_stopped : (was now faulty : List ℕ → Type 0) (text : List ℕ → List ℕ) (limit : ℕ) (left_old left left_new start held held' : Option (List ℕ)) (pending pending' recent recent' : List ℕ) (count : ℕ) (bytes piece beyond : List ℕ)
     (so_far : IsPumping was faulty text left_old left start held pending recent count) → Consumes left left_new bytes → bytes ≡ piece ++ beyond → count + length piece ≤ limit → count + length bytes ≤ limit + 1
     → (fed_count : ℕ) → HasFed now faulty text start held' pending' so_far.seen piece fed_count FaultFound → recent' ≡ keep_last 16 (recent ++ take fed_count piece)
-    → HasPumped now faulty text limit left_old left_new start held' pending' recent' ending.FaultFound
+    → HasPumped now faulty text limit left_old left_new start held' pending' recent' outcome.FaultFound
 pump_stopped was now faulty text limit left_old left left_new start held held' pending pending' recent recent' count bytes piece beyond so_far q e within at_most fed_count fed keeps = record {
   seen = so_far.seen ++ fed.fed;
   extra = fed.rest ++ beyond;
@@ -42,7 +42,7 @@ pump_stopped was now faulty text limit left_old left left_new start held held' p
 pub pump_write_failed : (was now faulty : List ℕ → Type 0) (text : List ℕ → List ℕ) (limit : ℕ) (left_old left left_new start held held' : Option (List ℕ)) (pending pending' recent recent' : List ℕ) (count : ℕ) (bytes piece beyond : List ℕ)
     (so_far : IsPumping was faulty text left_old left start held pending recent count) → Consumes left left_new bytes → bytes ≡ piece ++ beyond → count + length piece ≤ limit → count + length bytes ≤ limit + 1
     → (fed_count : ℕ) → HasFed now faulty text start held' pending' so_far.seen piece fed_count WriteFailed → recent' ≡ keep_last 16 (recent ++ take fed_count piece)
-    → HasPumped now faulty text limit left_old left_new start held' pending' recent' ending.WriteFailed
+    → HasPumped now faulty text limit left_old left_new start held' pending' recent' outcome.WriteFailed
 pump_write_failed was now faulty text limit left_old left left_new start held held' pending pending' recent recent' count bytes piece beyond so_far q e within at_most fed_count fed keeps = record {
   seen = so_far.seen ++ fed.fed;
   extra = fed.rest ++ beyond;
@@ -56,7 +56,7 @@ pump_write_failed was now faulty text limit left_old left left_new start held he
 pub pump_over : (was now faulty : List ℕ → Type 0) (text : List ℕ → List ℕ) (limit : ℕ) (left_old left left_new start held held' : Option (List ℕ)) (pending pending' recent recent' : List ℕ) (count : ℕ) (bytes piece beyond : List ℕ)
     (so_far : IsPumping was faulty text left_old left start held pending recent count) → Consumes left left_new bytes → bytes ≡ piece ++ beyond → count + length piece ≡ limit → count + length bytes ≡ limit + 1
     → (fed_count : ℕ) → HasFed now faulty text start held' pending' so_far.seen piece fed_count All → recent' ≡ keep_last 16 (recent ++ take fed_count piece) → pending' ≡ []
-    → HasPumped now faulty text limit left_old left_new start held' pending' recent' ending.OverLimit
+    → HasPumped now faulty text limit left_old left_new start held' pending' recent' outcome.OverLimit
 pump_over was now faulty text limit left_old left left_new start held held' pending pending' recent recent' count bytes piece beyond so_far q e within at_most fed_count fed keeps none = record {
   seen = so_far.seen ++ piece;
   extra = beyond;

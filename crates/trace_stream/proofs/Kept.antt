@@ -18,7 +18,7 @@ pub kept_more : (recent recent' seen front fed : List ℕ) → recent ≡ keep_l
 kept_more recent recent' seen front fed was now same =
     now ∙ ap (λ l. keep_last 16 (recent ++ l)) same ∙ ap (λ l. keep_last 16 (l ++ fed)) was ∙ keep_last_again 16 seen fed
 
--- so many bytes of the piece are those that were fed
+-- the first bytes of the piece, of this count, are those that were fed
 pub kept_front : (piece fed rest : List ℕ) (count : ℕ) → count ≡ length fed → piece ≡ fed ++ rest → take count piece ≡ fed
 kept_front piece fed rest count counted parts = ap (λ n. take n piece) counted ∙ ap (take (length fed)) parts ∙ take-append_seam fed rest
 

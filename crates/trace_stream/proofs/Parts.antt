@@ -5,10 +5,9 @@ use Rattle.std.specs.declared.option.Option.{Option}
 use Rattle.std.specs.Io.KnownBytes.{Appends, Consumes}
 use Rattle.trace_io.specs.Bytes.{AppendsPrefix}
 use Rattle.trace_io.proofs.Writes.{front_all}
-use Rattle.trace_stream.specs.Laws.{GrowsOnly}
-use Rattle.trace_stream.specs.declared.pumping.Ending.{Ending}
-use Rattle.trace_stream.specs.declared.pumping.Ending.TheVariants.{AtEnd, FaultFound, ReadFailed, OverLimit}
-use Rattle.trace_stream.specs.declared.serving.Outcome.TheVariants as outcome_of
+use Rattle.trace_stream.specs.Written.{GrowsOnly}
+use Rattle.trace_stream.specs.declared.outcome.Outcome.{Outcome}
+use Rattle.trace_stream.specs.declared.outcome.Outcome.TheVariants.{AtEnd, FaultFound, ReadFailed, WriteFailed, OverLimit}
 use Rattle.trace_stream.specs.Pumped.{HasPumped}
 use Rattle.trace_stream.specs.Served.{HasServed, HasStopped}
 
@@ -18,7 +17,7 @@ first_bytes limit seen extra h = ap (λ n. take n (seen ++ extra)) (let e : limi
 
 pub served_at_end : (stands faulty : List ℕ → Type 0) (text ending : List ℕ → List ℕ) (limit : ℕ) (left_old left_new start held new : Option (List ℕ)) (pending recent : List ℕ)
     (pumped : HasPumped stands faulty text limit left_old left_new start held pending recent AtEnd) → Appends start new (text pumped.seen ++ ending pumped.seen)
-    → HasServed faulty text ending limit left_old left_new start new recent outcome_of.AtEnd
+    → HasServed faulty text ending limit left_old left_new start new recent AtEnd
 served_at_end stands faulty text ending limit left_old left_new start held new pending recent pumped written = record {
   bytes = pumped.seen;
   out = text pumped.seen ++ ending pumped.seen;
@@ -39,7 +38,7 @@ served_stopped stands faulty text ending limit left_old left_new start held new 
     let front = first_bytes limit pumped.seen pumped.extra pumped.within in
     let same_text : text (take limit (pumped.seen ++ pumped.extra)) ≡ text pumped.seen = ap text front ∙ text_stays pumped.seen more pumped.outcome.certain.broken in
     let same_ending : ending (take limit (pumped.seen ++ pumped.extra)) ≡ ending pumped.seen = ap ending front ∙ ending_stays pumped.seen more pumped.outcome.certain.broken in
-    let served : HasServed faulty text ending limit left_old left_new start new recent outcome_of.Stopped = record {
+    let served : HasServed faulty text ending limit left_old left_new start new recent FaultFound = record {
       bytes = pumped.seen ++ pumped.extra;
       out = text pumped.seen ++ ending pumped.seen;
       lost = pumped.lost;
@@ -52,7 +51,7 @@ served_stopped stands faulty text ending limit left_old left_new start held new 
 
 pub served_read_failed : (stands faulty : List ℕ → Type 0) (text ending : List ℕ → List ℕ) (limit : ℕ) (left_old left_new start held : Option (List ℕ)) (pending recent : List ℕ)
     → HasPumped stands faulty text limit left_old left_new start held pending recent ReadFailed
-    → HasServed faulty text ending limit left_old left_new start held recent outcome_of.ReadFailed
+    → HasServed faulty text ending limit left_old left_new start held recent ReadFailed
 served_read_failed stands faulty text ending limit left_old left_new start held pending recent pumped = record {
   bytes = pumped.seen;
   out = text pumped.seen;
@@ -65,7 +64,7 @@ served_read_failed stands faulty text ending limit left_old left_new start held 
 
 pub served_over_limit : (stands faulty : List ℕ → Type 0) (text ending : List ℕ → List ℕ) (limit : ℕ) (left_old left_new start held : Option (List ℕ)) (pending recent : List ℕ)
     → HasPumped stands faulty text limit left_old left_new start held pending recent OverLimit
-    → HasServed faulty text ending limit left_old left_new start held recent outcome_of.OverLimit
+    → HasServed faulty text ending limit left_old left_new start held recent OverLimit
 served_over_limit stands faulty text ending limit left_old left_new start held pending recent pumped =
     let count : length pumped.seen ≡ limit = pumped.outcome.1 in
     let front : take limit (pumped.seen ++ pumped.extra) ≡ pumped.seen = sym (ap (λ n. take n (pumped.seen ++ pumped.extra)) count) ∙ take-append_seam pumped.seen pumped.extra in
@@ -80,10 +79,10 @@ served_over_limit stands faulty text ending limit left_old left_new start held p
     }
 
 -- a write that failed, where some prefix of the whole text was written
-pub served_in_part : (stands faulty : List ℕ → Type 0) (text ending : List ℕ → List ℕ) (limit : ℕ) (left_old left_new start held new : Option (List ℕ)) (pending recent : List ℕ) (how : Ending)
+pub served_in_part : (stands faulty : List ℕ → Type 0) (text ending : List ℕ → List ℕ) (limit : ℕ) (left_old left_new start held new : Option (List ℕ)) (pending recent : List ℕ) (how : Outcome)
     (pumped : HasPumped stands faulty text limit left_old left_new start held pending recent how) (part : List ℕ) → AppendsPrefix start new part
     → GrowsOnly part (text (take limit (pumped.seen ++ pumped.extra)) ++ ending (take limit (pumped.seen ++ pumped.extra)))
-    → HasServed faulty text ending limit left_old left_new start new recent outcome_of.WriteFailed
+    → HasServed faulty text ending limit left_old left_new start new recent WriteFailed
 served_in_part stands faulty text ending limit left_old left_new start held new pending recent how pumped part prefix grows = record {
   bytes = pumped.seen ++ pumped.extra;
   out = prefix.1.front;

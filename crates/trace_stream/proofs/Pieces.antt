@@ -54,7 +54,7 @@ feeding_write_failed was now faulty text start held held' pending pending' seen 
 parts_more : (piece fed rest : List ℕ) (n : ℕ) → piece ≡ fed ++ rest → piece ≡ (fed ++ take n rest) ++ drop n rest
 parts_more piece fed rest n e = e ∙ ap (λ l. fed ++ l) (sym (take-append-drop n rest)) ∙ sym (append_assoc fed (take n rest) (drop n rest))
 
--- the new text stands behind what is pending
+-- the new text comes after what is pending
 pub written_more : (start held held' : Option (List ℕ)) (text text' more pending mid pending' : List ℕ) → TakesFront start held text pending → TakesFront held held' pending mid
     → text' ≡ text ++ more → pending' ≡ mid ++ more → TakesFront start held' text' pending'
 written_more start held held' text text' more pending mid pending' p q grown gained =

@@ -1,6 +1,7 @@
+-- What the tests' action writes. The program has nothing of it.
 use Rattle.std.specs.Prelude.{◌≡◌, ◌==◌, ◌||◌, ℕ, Bool, true, false, if◌then◌else◌, List, [], ◌∷◌, codes}
 
--- what the tests' action does: whether an FF stands there
+-- what the tests' action does: whether there is an FF
 abbrev pub has_fault : List ℕ → Bool
 has_fault [] = false
 has_fault (b ∷ bs) = (b == 255) || has_fault bs
@@ -13,6 +14,6 @@ abbrev pub doubled : List ℕ → List ℕ
 doubled [] = []
 doubled (b ∷ bs) = if b == 255 then [] else b ∷ b ∷ doubled bs
 
--- the line behind them
+-- the line after them
 abbrev pub last_line : List ℕ → List ℕ
 last_line bytes = if has_fault bytes then codes "\nfault\n" else codes "\nend\n"

@@ -1,6 +1,7 @@
+-- Proofs about the tests' action.
 use Rattle.std.specs.Prelude.{◌≡◌, ◌==◌, ◌||◌, ℕ, true, false, if◌then◌else◌, List, [], ◌∷◌, ◌++◌, refl}
 use Rattle.std.proofs.Common.{ap, ◌∙◌}
-use Rattle.trace_stream.specs.Laws.{GrowsOnly}
+use Rattle.trace_stream.specs.Written.{GrowsOnly}
 use Rattle.trace_stream.specs.Doubling.{has_fault, HasFault, doubled, last_line}
 
 pub none_at_first : HasFault [] → ⊥

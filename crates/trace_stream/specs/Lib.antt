@@ -2,7 +2,8 @@ pub mod BuffersState
 pub mod Doubling
 pub mod DoublingLaws
 pub mod Fed
-pub mod Laws
+pub mod Fresh
 pub mod Pumped
 pub mod Served
 pub mod Taken
+pub mod Written

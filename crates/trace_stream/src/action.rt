@@ -1,12 +1,14 @@
+//! What is done to the bytes of a capture as they come.
+
 ghost use Rattle.std.specs.Prelude.{◌≡◌, ℕ, ◌+◌, ◌^◌, ◌<◌, ◌≤◌, List, [], ◌++◌, length, take};
 ghost use Rattle.trace_io.specs.Bytes.{TakesSome};
-ghost use Rattle.trace_stream.specs.Laws.{GrowsOnly};
+ghost use Rattle.trace_stream.specs.Written.{GrowsOnly};
 ghost use Rattle.trace_stream.specs.Taken.{HasTaken};
 
 use crate::outlet::{OUTLET_ROOM, Outlet};
 
 /// Bytes of room in the outlet before each call of an action.
-pub const ACTION_ROOM: usize = 2048;
+pub const ACTION_ROOM: usize = 4096;
 
 /// Whether an action goes on after the bytes that it took.
 #[derive(Clone, Copy, Debug, PartialEq, Eq)]
@@ -46,11 +48,12 @@ pub trait Action {
     ghost faulty: { Self.Plan → List ℕ → Type 0 };
     // what is written for these bytes so far
     ghost text: { Self.Plan → List ℕ → List ℕ };
-    // what is written behind it at the end or at a fault
+    // what is written after it at the end or at a fault
     ghost ending: { Self.Plan → List ℕ → List ℕ };
 
-    /// Takes a front of the piece and puts its text into the outlet. It stops exactly where a fault is
-    /// certain, at the byte that made it certain.
+    /// Takes a front of the piece and puts its text into the outlet. It goes no further than the byte that
+    /// makes a fault certain. Where it stops before that is its own affair, and only its speed depends on it:
+    /// the run calls it again with the rest, and what is written is the same.
     fn feed(&mut self, piece: &[u8], outlet: &mut Outlet) -> Taken
         requires live { live self.old }
         requires some { 0 < length piece.now }
@@ -60,10 +63,11 @@ pub trait Action {
         ensures front { TakesSome piece.now result.bytes }
         ensures count { taken self.new ≡ taken self.old + result.bytes }
         ensures fed { (seen : List ℕ) → stands self.old seen →
-            HasTaken (stands self.new) (faulty (plan self.old)) (text (plan self.old)) seen (take result.bytes piece.now) outlet.old outlet.new result.flow }
+            HasTaken (stands self.new) (faulty (plan self.old)) (text (plan self.old)) seen (take result.bytes piece.now)
+            outlet.old outlet.new result.flow }
         ensures live { result.flow ≡ Flow.On → live self.new };
 
-    /// Puts what is written behind the text into the outlet, which is empty.
+    /// Puts what is written after the text into the outlet, which is empty.
     fn finish(&self, outlet: &mut Outlet)
         requires empty { outlet.old ≡ [] }
         ensures ended { (seen : List ℕ) → stands self.now seen → outlet.new ≡ ending (plan self.now) seen };
@@ -72,11 +76,11 @@ pub trait Action {
     ghost never_at_first: { (p : Self.Plan) → faulty p [] → ⊥ };
     // and no text
     ghost nothing_at_first: { (p : Self.Plan) → text p [] ≡ [] };
-    // bytes behind a fault don't mend it
+    // bytes after a fault don't mend it
     ghost faulty_stays: { (p : Self.Plan) (xs ys : List ℕ) → faulty p xs → faulty p (xs ++ ys) };
     // and add neither to the text
     ghost text_stays: { (p : Self.Plan) (xs ys : List ℕ) → faulty p xs → text p (xs ++ ys) ≡ text p xs };
-    // nor to what stands behind it
+    // nor to what is written after it
     ghost ending_stays: { (p : Self.Plan) (xs ys : List ℕ) → faulty p xs → ending p (xs ++ ys) ≡ ending p xs };
     // further bytes take nothing of the text back
     ghost text_grows: { (p : Self.Plan) (xs ys : List ℕ) → GrowsOnly (text p xs) (text p (xs ++ ys)) };

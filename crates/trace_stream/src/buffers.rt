@@ -1,3 +1,5 @@
+//! The memory of a run.
+
 ghost use Rattle.std.specs.Prelude.{◌≡◌, ℕ, ◌≤◌, List, [], length, take, IfOk};
 
 use crate::outlet::Outlet;

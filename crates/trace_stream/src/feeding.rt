@@ -1,3 +1,5 @@
+//! The feeding of a piece to an action.
+
 ghost use Rattle.std.specs.Prelude.{◌≡◌, ℕ, ◌+◌, ◌^◌, ◌<◌, ◌≤◌, List, [], ◌++◌, length, OnOk, OnErr};
 ghost use Rattle.std.specs.declared.option.Option.{Option};
 ghost use Rattle.trace_io.specs.Bytes.{AppendsPrefix, TakesFront};
@@ -53,7 +55,8 @@ fn feed_piece<A: Action, O: Sink>(
     ensures count { result.end ≡ FeedEnd.All → A.taken action.new ≡ A.taken action.old + length piece.now }
     ensures fed { (start : Option (List ℕ)) (seen : List ℕ) (p : A.Plan) → A.plan action.old ≡ p →
         StandsAfter (A.stands action.old) (A.faulty p) (A.text p) start (O.held output.old) outlet.old seen →
-        HasFed (A.stands action.new) (A.faulty p) (A.text p) start (O.held output.new) outlet.new seen piece.now result.bytes result.end }
+        HasFed (A.stands action.new) (A.faulty p) (A.text p) start (O.held output.new) outlet.new seen piece.now
+        result.bytes result.end }
     ensures front { result.bytes ≤ length piece.now }
     ensures later { O.faults output.old ≤ O.faults output.new }
     ensures cause { result.end ≡ FeedEnd.WriteFailed → Rose (O.faults output.old) (O.faults output.new) }
@@ -84,7 +87,7 @@ fn feed_piece<A: Action, O: Sink>(
 }
 
 /// Feeds a piece to the action and writes all its text. At a fault the last of the text is left pending,
-/// since more is to come behind it.
+/// since more is to come after it.
 pub fn feed_and_write<A: Action, O: Sink>(
     action: &mut A,
     outlet: &mut Outlet,
@@ -98,7 +101,8 @@ pub fn feed_and_write<A: Action, O: Sink>(
     ensures count { result.end ≡ FeedEnd.All → A.taken action.new ≡ A.taken action.old + length piece.now }
     ensures fed { (start : Option (List ℕ)) (seen : List ℕ) (p : A.Plan) → A.plan action.old ≡ p →
         StandsAfter (A.stands action.old) (A.faulty p) (A.text p) start (O.held output.old) outlet.old seen →
-        HasFed (A.stands action.new) (A.faulty p) (A.text p) start (O.held output.new) outlet.new seen piece.now result.bytes result.end }
+        HasFed (A.stands action.new) (A.faulty p) (A.text p) start (O.held output.new) outlet.new seen piece.now
+        result.bytes result.end }
     ensures written { result.end ≡ FeedEnd.All → outlet.new ≡ [] }
     ensures front { result.bytes ≤ length piece.now }
     ensures later { O.faults output.old ≤ O.faults output.new }

@@ -8,6 +8,7 @@
 mod action;
 mod buffers;
 mod feeding;
+mod outcome;
 mod outlet;
 mod pumping;
 mod recent;
@@ -17,6 +18,7 @@ mod tests;
 
 pub use action::{ACTION_ROOM, Action, Flow, Taken};
 pub use buffers::Buffers;
-pub use outlet::{OUTLET_ROOM, Outlet};
+pub use outcome::Outcome;
+pub use outlet::{OUTLET_ROOM, Outlet, TEXT_ROOM, Text};
 pub use recent::RECENT_ROOM;
-pub use serving::{Outcome, serve};
+pub use serving::serve;

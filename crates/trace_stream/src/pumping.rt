@@ -1,24 +1,18 @@
+//! The reading of an input to its end, a fault or the limit.
+
 ghost use Rattle.std.specs.Prelude.{◌≡◌, ℕ, ◌+◌, ◌<◌, ◌≤◌, ◌^◌, List, [], length};
 ghost use Rattle.std.specs.Io.{ReadsAtMost};
 ghost use Rattle.std.specs.Io.KnownBytes.{ReadConsumes};
-ghost use Rattle.trace_io.specs.Causes.{HasCause, Rose};
+ghost use Rattle.trace_io.specs.Causes.{HasCause, CountsEmpty, Rose};
+ghost use Rattle.trace_stream.specs.Fresh.{IsFresh};
 ghost use Rattle.trace_stream.specs.Pumped.{HasPumped};
 
 use crate::action::Action;
 use crate::feeding::{FeedEnd, feed_and_write};
+use crate::outcome::Outcome;
 use crate::outlet::Outlet;
 use crate::recent::Recent;
 use trace_io::{Failed, Sink, Source};
-
-/// How the reading of a whole input ended.
-#[derive(Clone, Copy, Debug, PartialEq, Eq)]
-pub enum Ending {
-    AtEnd,
-    FaultFound,
-    ReadFailed,
-    WriteFailed,
-    OverLimit,
-}
 
 /// Reads the next bytes. This may wait for them, so nothing may be pending: the text of all bytes so
 /// far is out by then.
@@ -28,6 +22,7 @@ fn read_next<I: Source>(input: &mut I, buffer: &mut [u8], _outlet: &Outlet) -> R
     ensures bound { ReadsAtMost result buffer.new }
     ensures bytes { ReadConsumes (I.left input.old) (I.left input.new) result buffer.new }
     ensures cause { HasCause (I.faults input.old) (I.faults input.new) result }
+    ensures empty { CountsEmpty result (I.empty_reads input.old) (I.empty_reads input.new) }
 {
     input.read(buffer)
 }
@@ -42,21 +37,19 @@ pub fn pump<A: Action, I: Source, O: Sink>(
     limit: u64,
     input: &mut I,
     output: &mut O,
-) -> Ending
-    requires live { A.live action.old }
-    requires fresh { A.stands action.old [] }
-    requires count { A.taken action.old ≡ 0 }
-    requires pending { outlet.old ≡ [] }
-    requires recent { recent.old ≡ [] }
+) -> Outcome
+    requires fresh { IsFresh (A.live action.old) (A.stands action.old) (A.taken action.old)
+        (record { pending = outlet.old; recent = recent.old }) }
     requires some { 0 < length buffer.old }
     requires small { limit ≤ 2 ^ 36 }
     ensures same { A.plan action.new ≡ A.plan action.old }
     ensures pumped { HasPumped (A.stands action.new) (A.faulty (A.plan action.old)) (A.text (A.plan action.old)) limit
         (I.left input.old) (I.left input.new) (O.held output.old) (O.held output.new) outlet.new recent.new result }
+    ensures one_empty_read { I.empty_reads input.new ≤ I.empty_reads input.old + 1 }
     ensures read_later { I.faults input.old ≤ I.faults input.new }
     ensures write_later { O.faults output.old ≤ O.faults output.new }
-    ensures read_cause { result ≡ Ending.ReadFailed → Rose (I.faults input.old) (I.faults input.new) }
-    ensures write_cause { result ≡ Ending.WriteFailed → Rose (O.faults output.old) (O.faults output.new) }
+    ensures read_cause { result ≡ Outcome.ReadFailed → Rose (I.faults input.old) (I.faults input.new) }
+    ensures write_cause { result ≡ Outcome.WriteFailed → Rose (O.faults output.old) (O.faults output.new) }
 {
     let mut count = 0;
     loop {
@@ -65,21 +58,21 @@ pub fn pump<A: Action, I: Source, O: Sink>(
         let want = buffer.len().min(room as usize + 1);
         let got = match read_next(input, &mut buffer[..want], outlet) {
             Ok(got) => got,
-            Err(_) => return Ending::ReadFailed,
+            Err(_) => return Outcome::ReadFailed,
         };
         if got == 0 {
-            return Ending::AtEnd;
+            return Outcome::AtEnd;
         }
         let taken = got.min(room as usize);
         let fed = feed_and_write(action, outlet, output, &buffer[..taken]);
         recent.keep(&buffer[..fed.bytes]);
         match fed.end {
             FeedEnd::All => {}
-            FeedEnd::FaultFound => return Ending::FaultFound,
-            FeedEnd::WriteFailed => return Ending::WriteFailed,
+            FeedEnd::FaultFound => return Outcome::FaultFound,
+            FeedEnd::WriteFailed => return Outcome::WriteFailed,
         }
         if taken < got {
-            return Ending::OverLimit;
+            return Outcome::OverLimit;
         }
         count += got as u64;
     }

@@ -1,3 +1,5 @@
+//! The last bytes that were fed.
+
 ghost use Rattle.std.specs.Prelude.{◌≡◌, ℕ, ◌≤◌, List, [], ◌++◌, length, take, IfOk};
 ghost use Rattle.circular_buffer.specs.Buffer.{keep_last};
 ghost use Rattle.trace_stream.specs.declared.recent.TheConstants.{RECENT_ROOM};
@@ -24,7 +26,7 @@ impl Model for Recent {
 }
 
 impl Recent {
-    /// No bytes yet, with the memory for all: nothing after it allocates.
+    /// No bytes yet, with the memory for all: no later call allocates.
     pub fn open(alloc: Global) -> Result<Recent, AllocError>
         ensures { IfOk result (λ r. r ≡ []) }
     {
@@ -40,8 +42,8 @@ impl Recent {
         self.bytes.extend_from_slice(bytes);
     }
 
-    /// Copies the bytes to the front of `into`, from the oldest to the newest, and answers how many
-    /// they are.
+    /// Copies the bytes to the front of `into`, from the oldest to the newest, and answers their
+    /// number.
     pub fn copy_to(&self, into: &mut [u8; RECENT_ROOM]) -> usize
         ensures count { result ≡ length self.now }
         ensures bound { result ≤ RECENT_ROOM }

@@ -2,11 +2,14 @@ ghost use Rattle.std.specs.Prelude.{◌≡◌, true, not, refl};
 ghost use Rattle.trace_stream.specs.Doubling.{has_fault, HasFault, doubled, last_line};
 ghost use Rattle.trace_stream.specs.DoublingLaws.{none_at_first, fault_stays, doubled_stays, last_line_stays, doubled_grows};
 
+mod watched;
+
 use crate::action::{Action, Flow, Taken};
 use crate::buffers::Buffers;
+use crate::outcome::Outcome;
 use crate::outlet::Outlet;
 use crate::recent::RECENT_ROOM;
-use crate::serving::{Outcome, serve};
+use crate::serving::serve;
 use std::alloc::Global;
 use std::process::Abort;
 use std::test::Fail;
@@ -136,7 +139,7 @@ fn pieces_change_nothing(rt: HostRuntime) -> Result<(), Fail> {
                 ..PLAIN
             };
             check(rt.alloc(), &rt, &clean, Outcome::AtEnd, b"aabbcc\nend\n")?;
-            // the fault stands in the middle of a piece
+            // the fault is in the middle of a piece
             let faulty = Case {
                 bytes: b"abc\xffde",
                 pieces,
@@ -147,7 +150,7 @@ fn pieces_change_nothing(rt: HostRuntime) -> Result<(), Fail> {
                 rt.alloc(),
                 &rt,
                 &faulty,
-                Outcome::Stopped,
+                Outcome::FaultFound,
                 b"aabbcc\nfault\n",
             )?;
         }
@@ -234,9 +237,9 @@ fn the_limit_holds(rt: HostRuntime) -> Result<(), Fail> {
         (b"abc", 2, Outcome::OverLimit, b"aabb"),
         (b"abc", 0, Outcome::OverLimit, b""),
         (b"", 0, Outcome::AtEnd, b"\nend\n"),
-        (b"ab\xff", 3, Outcome::Stopped, b"aabb\nfault\n"),
+        (b"ab\xff", 3, Outcome::FaultFound, b"aabb\nfault\n"),
         (b"ab\xff", 2, Outcome::OverLimit, b"aabb"),
-        (b"a\xffbc", 2, Outcome::Stopped, b"aa\nfault\n"),
+        (b"a\xffbc", 2, Outcome::FaultFound, b"aa\nfault\n"),
     ];
     for (bytes, limit, outcome, text) in rows {
         let case = Case {
@@ -307,14 +310,14 @@ fn check_recent(
     let mut input = MemorySource::new(bytes, pieces, &[]);
     let mut output = MemorySink::new(&mut room, &[], &[]);
     let ended = serve(&mut buffers, &mut action, 1 << 24, &mut input, &mut output);
-    assert_eq!(rt; ended, Outcome::Stopped);
+    assert_eq!(rt; ended, Outcome::FaultFound);
     let mut last = [0; RECENT_ROOM];
     let count = buffers.recent(&mut last);
     assert_eq!(rt; &last[..count], recent);
     Ok(())
 }
 
-// The byte that made the fault certain is the last one, also where more was read behind it.
+// The byte that made the fault certain is the last one, also where more was read after it.
 #[test]
 fn recent_bytes_end_at_the_fault(rt: HostRuntime) -> Result<(), Fail> {
     let rows: [(&'static [u8], &'static [u8]); 5] = [

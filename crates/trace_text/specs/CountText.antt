@@ -4,8 +4,10 @@ use Rattle.std.specs.Prelude.{ℕ, List, ◌++◌, codes, decimal}
 -- `full N`, `half N` and `frames N`: full and half synchronisations, and frames
 abbrev pub port_counts_text : ℕ → ℕ → ℕ → List ℕ
 port_counts_text fulls halves frames =
-    codes "full " ++ (decimal fulls ++ (codes "\nhalf " ++ (decimal halves ++ (codes "\nframes " ++ (decimal frames ++ codes "\n")))))
+    codes "full " ++ (decimal fulls ++ (codes "\nhalf " ++ (decimal halves
+    ++ (codes "\nframes " ++ (decimal frames ++ codes "\n")))))
 
 -- `ID bytes B items I`
 abbrev pub source_counts_line : ℕ → ℕ → ℕ → List ℕ
-source_counts_line id bytes items = decimal id ++ (codes " bytes " ++ (decimal bytes ++ (codes " items " ++ (decimal items ++ codes "\n"))))
+source_counts_line id bytes items =
+    decimal id ++ (codes " bytes " ++ (decimal bytes ++ (codes " items " ++ (decimal items ++ codes "\n"))))

@@ -7,14 +7,14 @@ use Rattle.capture_plan.specs.declared.packets.PacketsMode.TheVariants.{Hunt as 
 use Rattle.trace_text.specs.declared.port_mode.PortMode.{PortMode}
 use Rattle.trace_text.specs.declared.port_mode.PortMode.TheVariants.{Bare, Aligned, Locked, Hunting}
 
--- how a port that is read so stands, which has locked or not
+-- the word of a port that is read so, which has locked or not
 abbrev pub port_mode : FramesMode → Bool → PortMode
 port_mode FramesBare locked = Bare
 port_mode FramesAligned locked = Aligned
 port_mode FramesHunt true = Locked
 port_mode FramesHunt false = Hunting
 
--- and a source whose packets are read so
+-- and that of a source whose packets are read so
 abbrev pub packets_mode : PacketsMode → Bool → PortMode
 packets_mode PacketsAligned locked = Aligned
 packets_mode PacketsHunt true = Locked
@@ -37,7 +37,8 @@ end_line bytes = codes "end " ++ (decimal bytes ++ codes "\n")
 -- `port MODE skipped S tail T unattributed U`
 abbrev pub port_line : PortMode → ℕ → ℕ → ℕ → List ℕ
 port_line mode skipped tail unattributed =
-    codes "port " ++ (mode_text mode ++ (rest_text skipped tail ++ (codes " unattributed " ++ (decimal unattributed ++ codes "\n"))))
+    codes "port " ++ (mode_text mode ++ (rest_text skipped tail
+    ++ (codes " unattributed " ++ (decimal unattributed ++ codes "\n"))))
 
 -- `1 itm MODE skipped S tail T`: of source 1
 abbrev pub source_line : PortMode → ℕ → ℕ → List ℕ

@@ -30,7 +30,8 @@ abbrev pub owner_text : Bool → List ℕ
 owner_text true = codes "dwt"
 owner_text false = codes "itm"
 
--- `sync`, `overflow`, `port P uS V`, the text of what a hardware packet means, `local L D`, `global1 LEN V C W`, `global2 BITS V`, `ext OWNER V`
+-- `sync`, `overflow`, `port P uS V`, the text of what a hardware packet means, `local L D`,
+-- `global1 LEN V C W`, `global2 BITS V`, `ext OWNER V`
 abbrev pub item_text : ItmPacket → List ℕ
 item_text Sync = codes "sync"
 item_text Overflow = codes "overflow"
@@ -38,6 +39,8 @@ item_text (Software port size value) = codes "port " ++ (decimal port ++ (codes 
 item_text (Hardware disc size value) = hardware_text (name disc size value)
 item_text (Local lateness delta) = codes "local " ++ (lateness_text lateness ++ (codes " " ++ decimal delta))
 item_text (GlobalFirst len value change wrap) =
-    codes "global1 " ++ (decimal len ++ (codes " " ++ (decimal value ++ (codes " " ++ (flag_text change ++ (codes " " ++ flag_text wrap))))))
+    codes "global1 " ++ (decimal len ++ (codes " " ++ (decimal value
+    ++ (codes " " ++ (flag_text change ++ (codes " " ++ flag_text wrap))))))
 item_text (GlobalSecond wide value) = codes "global2 " ++ (bits_text wide ++ (codes " " ++ decimal value))
-item_text (Extension dwt value) = codes "ext " ++ (owner_text dwt ++ (codes " " ++ encode_lower (to_be_bytes w32 value)))
+item_text (Extension dwt value) =
+    codes "ext " ++ (owner_text dwt ++ (codes " " ++ encode_lower (to_be_bytes w32 value)))

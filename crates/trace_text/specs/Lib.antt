@@ -5,3 +5,6 @@ pub mod LineText
 pub mod FaultText
 pub mod EndText
 pub mod CountText
+pub mod NoteText
+pub mod Digits
+pub mod Pairs

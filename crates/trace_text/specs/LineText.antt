@@ -16,6 +16,6 @@ remark_text (Time None) = codes " time=?"
 abbrev pub item_line : ℕ → ItmPacket → Remark → List ℕ
 item_line at packet remark = decimal at ++ (codes " 1 " ++ (item_text packet ++ (remark_text remark ++ codes "\n")))
 
--- `AT 1 locked N`, behind N skipped bytes
+-- `AT 1 locked N`, after N skipped bytes
 abbrev pub lock_line : ℕ → ℕ → List ℕ
 lock_line at skipped = decimal at ++ (codes " 1 locked " ++ (decimal skipped ++ codes "\n"))

@@ -3,35 +3,70 @@
 ghost use Rattle.std.specs.Prelude.{◌≡◌, ◌+◌, ◌≤◌, ◌++◌, length};
 ghost use Rattle.trace_text.specs.CountText.{port_counts_text, source_counts_line};
 
-use crate::numbers::{put_decimal, put_small};
-use trace_stream::{OUTLET_ROOM, Outlet};
+use crate::room::{put_bytes, put_number, put_short};
+use trace_stream::{OUTLET_ROOM, Outlet, TEXT_ROOM, Text};
 use trace_values::SourceId;
 
+/// The most bytes of the line of what a source sent.
+pub const SOURCE_COUNTS_ROOM: usize = 58;
+
 /// How many full and half synchronisations and frames a port has: `full N`, `half N`, `frames N`.
-pub fn put_port_counts(outlet: &mut Outlet, fulls: u64, halves: u64, frames: u64)
-    requires room { length outlet.old + 80 ≤ OUTLET_ROOM }
-    ensures text { outlet.new ≡ outlet.old ++ port_counts_text fulls halves frames }
-    ensures room { length outlet.new ≤ length outlet.old + 80 }
-{
-    outlet.append(b"full ");
-    put_decimal(outlet, fulls);
-    outlet.append(b"\nhalf ");
-    put_decimal(outlet, halves);
-    outlet.append(b"\nframes ");
-    put_decimal(outlet, frames);
-    outlet.append(b"\n");
+#[derive(Clone, Copy, Debug)]
+pub struct PortCountsLines {
+    pub fulls: u64,
+    pub halves: u64,
+    pub frames: u64,
+}
+
+impl Text for PortCountsLines {
+    ghost fits = { λ _. Unit {0} };
+
+    ghost text = { λ l. port_counts_text l.fulls l.halves l.frames };
+
+    fn put(&self, room: &mut [u8], from: usize) -> usize {
+        let from = put_bytes(room, from, b"full ");
+        let from = put_number(room, from, self.fulls);
+        let from = put_bytes(room, from, b"\nhalf ");
+        let from = put_number(room, from, self.halves);
+        let from = put_bytes(room, from, b"\nframes ");
+        let from = put_number(room, from, self.frames);
+        put_bytes(room, from, b"\n")
+    }
+}
+
+/// How many bytes and items a source sent.
+#[derive(Clone, Copy)]
+struct SourceCountsLine {
+    id: u8,
+    bytes: u64,
+    items: u64,
+}
+
+impl Text for SourceCountsLine {
+    ghost fits = { λ _. Unit {0} };
+
+    ghost text = { λ l. source_counts_line l.id l.bytes l.items };
+
+    fn put(&self, room: &mut [u8], from: usize) -> usize {
+        let from = put_short(room, from, self.id);
+        let from = put_bytes(room, from, b" bytes ");
+        let from = put_number(room, from, self.bytes);
+        let from = put_bytes(room, from, b" items ");
+        let from = put_number(room, from, self.items);
+        put_bytes(room, from, b"\n")
+    }
 }
 
 /// How many bytes and items a source sent: `ID bytes B items I`.
 pub fn put_source_counts(outlet: &mut Outlet, id: SourceId, bytes: u64, items: u64)
-    requires room { length outlet.old + 58 ≤ OUTLET_ROOM }
+    requires room { length outlet.old + TEXT_ROOM ≤ OUTLET_ROOM }
     ensures text { outlet.new ≡ outlet.old ++ source_counts_line id bytes items }
-    ensures room { length outlet.new ≤ length outlet.old + 58 }
+    ensures bound { length outlet.new ≤ length outlet.old + SOURCE_COUNTS_ROOM }
 {
-    put_small(outlet, id.number());
-    outlet.append(b" bytes ");
-    put_decimal(outlet, bytes);
-    outlet.append(b" items ");
-    put_decimal(outlet, items);
-    outlet.append(b"\n");
+    let line = SourceCountsLine {
+        id: id.number(),
+        bytes,
+        items,
+    };
+    outlet.put(&line);
 }

@@ -1,56 +1,89 @@
 //! The lines at the end.
 
-ghost use Rattle.std.specs.Prelude.{◌≡◌, ◌+◌, ◌≤◌, ◌++◌, length};
+ghost use Rattle.std.specs.Prelude.{◌≡◌, ◌+◌, ◌≤◌, ◌++◌, length, take};
 ghost use Rattle.trace_text.specs.EndText.{rest_text, end_line, port_line, source_line};
 
-use crate::numbers::put_decimal;
 use crate::port_mode::PortMode;
-use trace_stream::{OUTLET_ROOM, Outlet};
-
-fn put_rest(outlet: &mut Outlet, skipped: u64, tail: u64)
-    requires room { length outlet.old + 56 ≤ OUTLET_ROOM }
-    ensures text { outlet.new ≡ outlet.old ++ rest_text skipped tail }
-    ensures room { length outlet.new ≤ length outlet.old + 56 }
-{
-    outlet.append(b" skipped ");
-    put_decimal(outlet, skipped);
-    outlet.append(b" tail ");
-    put_decimal(outlet, tail);
-}
+use crate::room::{ITEM_ROOM, put_bytes, put_number};
+use trace_stream::Text;
 
 /// How many bytes were read: `end N`.
-pub fn put_end(outlet: &mut Outlet, bytes: u64)
-    requires room { length outlet.old + 25 ≤ OUTLET_ROOM }
-    ensures text { outlet.new ≡ outlet.old ++ end_line bytes }
-    ensures room { length outlet.new ≤ length outlet.old + 25 }
-{
-    outlet.append(b"end ");
-    put_decimal(outlet, bytes);
-    outlet.append(b"\n");
+#[derive(Clone, Copy, Debug)]
+pub struct EndLine {
+    pub bytes: u64,
 }
 
 /// How the port was read: `port MODE skipped S tail T unattributed U`.
-pub fn put_port_end(outlet: &mut Outlet, mode: PortMode, skipped: u64, tail: u64, unattributed: u64)
-    requires room { length outlet.old + 104 ≤ OUTLET_ROOM }
-    ensures text { outlet.new ≡ outlet.old ++ port_line mode skipped tail unattributed }
-    ensures room { length outlet.new ≤ length outlet.old + 104 }
-{
-    outlet.append(b"port ");
-    outlet.append(mode.word().as_bytes());
-    put_rest(outlet, skipped, tail);
-    outlet.append(b" unattributed ");
-    put_decimal(outlet, unattributed);
-    outlet.append(b"\n");
+#[derive(Clone, Copy, Debug)]
+pub struct PortEndLine {
+    pub mode: PortMode,
+    /// Bytes before the first full synchronisation.
+    pub skipped: u64,
+    /// Bytes of the unfinished frame.
+    pub tail: u64,
+    /// Bytes of no source.
+    pub unattributed: u64,
 }
 
 /// How source 1 was read: `1 itm MODE skipped S tail T`.
-pub fn put_source_end(outlet: &mut Outlet, mode: PortMode, skipped: u64, tail: u64)
-    requires room { length outlet.old + 70 ≤ OUTLET_ROOM }
-    ensures text { outlet.new ≡ outlet.old ++ source_line mode skipped tail }
-    ensures room { length outlet.new ≤ length outlet.old + 70 }
+#[derive(Clone, Copy, Debug)]
+pub struct SourceEndLine {
+    pub mode: PortMode,
+    /// Bytes before the first synchronisation packet.
+    pub skipped: u64,
+    /// Bytes of the unfinished packet.
+    pub tail: u64,
+}
+
+/// Puts the skipped bytes and the tail.
+fn put_rest(room: &mut [u8], from: usize, skipped: u64, tail: u64) -> usize
+    requires room { from + ITEM_ROOM ≤ length room.old }
+    ensures text { take result room.new ≡ take from room.old ++ rest_text skipped tail }
+    ensures same { length room.new ≡ length room.old }
+    ensures end { result ≤ from + ITEM_ROOM }
 {
-    outlet.append(b"1 itm ");
-    outlet.append(mode.word().as_bytes());
-    put_rest(outlet, skipped, tail);
-    outlet.append(b"\n");
+    let from = put_bytes(room, from, b" skipped ");
+    let from = put_number(room, from, skipped);
+    let from = put_bytes(room, from, b" tail ");
+    put_number(room, from, tail)
+}
+
+impl Text for EndLine {
+    ghost fits = { λ _. Unit {0} };
+
+    ghost text = { λ l. end_line l.bytes };
+
+    fn put(&self, room: &mut [u8], from: usize) -> usize {
+        let from = put_bytes(room, from, b"end ");
+        let from = put_number(room, from, self.bytes);
+        put_bytes(room, from, b"\n")
+    }
+}
+
+impl Text for PortEndLine {
+    ghost fits = { λ _. Unit {0} };
+
+    ghost text = { λ l. port_line l.mode l.skipped l.tail l.unattributed };
+
+    fn put(&self, room: &mut [u8], from: usize) -> usize {
+        let from = put_bytes(room, from, b"port ");
+        let from = put_bytes(room, from, self.mode.word().as_bytes());
+        let from = put_rest(room, from, self.skipped, self.tail);
+        let from = put_bytes(room, from, b" unattributed ");
+        let from = put_number(room, from, self.unattributed);
+        put_bytes(room, from, b"\n")
+    }
+}
+
+impl Text for SourceEndLine {
+    ghost fits = { λ _. Unit {0} };
+
+    ghost text = { λ l. source_line l.mode l.skipped l.tail };
+
+    fn put(&self, room: &mut [u8], from: usize) -> usize {
+        let from = put_bytes(room, from, b"1 itm ");
+        let from = put_bytes(room, from, self.mode.word().as_bytes());
+        let from = put_rest(room, from, self.skipped, self.tail);
+        put_bytes(room, from, b"\n")
+    }
 }

@@ -1,44 +1,59 @@
 //! The line of a fault.
 
-ghost use Rattle.std.specs.Prelude.{◌≡◌, ◌+◌, ◌≤◌, ◌++◌, length};
+ghost use Rattle.std.specs.Prelude.{◌≡◌, ◌+◌, ◌≤◌, ◌++◌, length, take};
 ghost use Rattle.trace_text.specs.FaultText.{reason_text, port_fault_line, source_fault_line, told};
 
-use crate::numbers::put_decimal;
-use trace_stream::{OUTLET_ROOM, Outlet};
-use trace_values::Fault;
+use crate::room::{PART_ROOM, put_bytes, put_number, put_short};
+use trace_stream::Text;
+use trace_values::{Fault, Reason};
 
-/// The most bytes of the line of a fault.
-pub const FAULT_ROOM: usize = 128;
-
-/// The reason's number and name: `R NAME`, and the line's end.
-fn put_reason(outlet: &mut Outlet, fault: &Fault)
-    requires room { length outlet.old + 60 ≤ OUTLET_ROOM }
-    ensures { outlet.new ≡ outlet.old ++ reason_text fault.now.reason }
-{
-    put_decimal(outlet, u64::from(fault.reason.number()));
-    outlet.append(b" ");
-    outlet.append(fault.reason.name().as_bytes());
-    outlet.append(b"\n");
+/// The line of a fault of the port: `fault AT port R NAME`.
+#[derive(Clone, Copy, Debug)]
+pub struct PortFaultLine {
+    pub fault: Fault,
 }
 
 /// The line of a fault of source 1: `fault AT 1 R NAME`.
-pub fn put_source_fault(outlet: &mut Outlet, fault: &Fault)
-    requires room { length outlet.old + FAULT_ROOM ≤ OUTLET_ROOM }
-    ensures { outlet.new ≡ outlet.old ++ source_fault_line (told fault.now) }
-{
-    outlet.append(b"fault ");
-    put_decimal(outlet, fault.at);
-    outlet.append(b" 1 ");
-    put_reason(outlet, fault);
+#[derive(Clone, Copy, Debug)]
+pub struct SourceFaultLine {
+    pub fault: Fault,
 }
 
-/// The line of a fault of the port: `fault AT port R NAME`.
-pub fn put_port_fault(outlet: &mut Outlet, fault: &Fault)
-    requires room { length outlet.old + FAULT_ROOM ≤ OUTLET_ROOM }
-    ensures { outlet.new ≡ outlet.old ++ port_fault_line (told fault.now) }
+/// Puts the reason's number and name, and the line's end: `R NAME`.
+fn put_reason(room: &mut [u8], from: usize, reason: Reason) -> usize
+    requires room { from + PART_ROOM ≤ length room.old }
+    ensures text { take result room.new ≡ take from room.old ++ reason_text reason }
+    ensures same { length room.new ≡ length room.old }
+    ensures end { result ≤ from + PART_ROOM }
 {
-    outlet.append(b"fault ");
-    put_decimal(outlet, fault.at);
-    outlet.append(b" port ");
-    put_reason(outlet, fault);
+    let from = put_short(room, from, reason.number());
+    let from = put_bytes(room, from, b" ");
+    let from = put_bytes(room, from, reason.name().as_bytes());
+    put_bytes(room, from, b"\n")
+}
+
+impl Text for PortFaultLine {
+    ghost fits = { λ _. Unit {0} };
+
+    ghost text = { λ l. port_fault_line (told l.fault) };
+
+    fn put(&self, room: &mut [u8], from: usize) -> usize {
+        let from = put_bytes(room, from, b"fault ");
+        let from = put_number(room, from, self.fault.at);
+        let from = put_bytes(room, from, b" port ");
+        put_reason(room, from, self.fault.reason)
+    }
+}
+
+impl Text for SourceFaultLine {
+    ghost fits = { λ _. Unit {0} };
+
+    ghost text = { λ l. source_fault_line (told l.fault) };
+
+    fn put(&self, room: &mut [u8], from: usize) -> usize {
+        let from = put_bytes(room, from, b"fault ");
+        let from = put_number(room, from, self.fault.at);
+        let from = put_bytes(room, from, b" 1 ");
+        put_reason(room, from, self.fault.reason)
+    }
 }

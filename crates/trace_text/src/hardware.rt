@@ -1,16 +1,17 @@
 //! The texts of hardware packets, by what they mean.
 
-ghost use Rattle.std.specs.Prelude.{◌≡◌, ◌+◌, ◌≤◌, ◌++◌, length, codes, decimal};
+ghost use Rattle.std.specs.Prelude.{◌≡◌, ◌+◌, ◌≤◌, ◌++◌, length, take, codes, decimal};
 ghost use Rattle.trace_text.specs.HardwareText.{change_text, comparator_text, hardware_text};
 
 use crate::items::put_source;
-use crate::numbers::{put_decimal, put_hexadecimal, put_value};
+use crate::room::{
+    ITEM_ROOM, PART_ROOM, WORD_ROOM, put_bytes, put_digits, put_number, put_short, put_value,
+};
 use dwt_packets::{Change, DwtItem};
-use trace_stream::{OUTLET_ROOM, Outlet};
 
 fn change_word(change: Change) -> &'static str
     ensures text { result.now ≡ change_text change }
-    ensures room { length result.now ≤ 7 }
+    ensures bound { length result.now ≤ WORD_ROOM }
 {
     match change {
         Change::Enter => " enter",
@@ -19,74 +20,81 @@ fn change_word(change: Change) -> &'static str
     }
 }
 
-/// The comparator, `cmp C`, and a word behind it.
-fn put_comparator(outlet: &mut Outlet, comparator: u8, word: &str)
-    requires few { length word.now ≤ 7 }
-    requires room { length outlet.old + 31 ≤ OUTLET_ROOM }
-    ensures text { outlet.new ≡ outlet.old ++ comparator_text comparator word.now }
-    ensures room { length outlet.new ≤ length outlet.old + 31 }
+/// Puts the comparator, `cmp C`, and a word after it.
+#[inline]
+fn put_comparator(room: &mut [u8], from: usize, comparator: u8, word: &str) -> usize
+    requires few { length word.now ≤ WORD_ROOM }
+    requires room { from + PART_ROOM ≤ length room.old }
+    ensures text { take result room.new ≡ take from room.old ++ comparator_text comparator word.now }
+    ensures same { length room.new ≡ length room.old }
+    ensures end { result ≤ from + PART_ROOM }
 {
-    outlet.append(b"cmp ");
-    put_decimal(outlet, u64::from(comparator));
-    outlet.append(word.as_bytes());
+    let from = put_bytes(room, from, b"cmp ");
+    let from = put_short(room, from, comparator);
+    put_bytes(room, from, word.as_bytes())
 }
 
-/// What the processor did at an exception, `exception N C`.
-fn put_exception(outlet: &mut Outlet, number: u16, change: Change)
-    requires room { length outlet.old + 37 ≤ OUTLET_ROOM }
-    ensures text { outlet.new ≡ outlet.old ++ (codes "exception " ++ (decimal number ++ change_text change)) }
-    ensures room { length outlet.new ≤ length outlet.old + 37 }
+/// Puts what the processor did at an exception, `exception N C`.
+#[inline]
+fn put_exception(room: &mut [u8], from: usize, number: u16, change: Change) -> usize
+    requires room { from + PART_ROOM ≤ length room.old }
+    ensures text { take result room.new ≡
+        take from room.old ++ (codes "exception " ++ (decimal number ++ change_text change)) }
+    ensures same { length room.new ≡ length room.old }
+    ensures end { result ≤ from + PART_ROOM }
 {
-    outlet.append(b"exception ");
-    put_decimal(outlet, u64::from(number));
-    outlet.append(change_word(change).as_bytes());
+    let from = put_bytes(room, from, b"exception ");
+    let from = put_number(room, from, u64::from(number));
+    put_bytes(room, from, change_word(change).as_bytes())
 }
 
-/// The text of what a hardware packet means.
-pub(crate) fn put_hardware(outlet: &mut Outlet, item: &DwtItem)
-    requires room { length outlet.old + 60 ≤ OUTLET_ROOM }
-    ensures text { outlet.new ≡ outlet.old ++ hardware_text item.now }
-    ensures room { length outlet.new ≤ length outlet.old + 60 }
+/// Puts the text of what a hardware packet means.
+#[inline]
+pub(crate) fn put_hardware(room: &mut [u8], from: usize, item: &DwtItem) -> usize
+    requires room { from + ITEM_ROOM ≤ length room.old }
+    ensures text { take result room.new ≡ take from room.old ++ hardware_text item.now }
+    ensures same { length room.new ≡ length room.old }
+    ensures end { result ≤ from + ITEM_ROOM }
 {
     match *item {
         DwtItem::Counters(counters) => {
-            outlet.append(b"counters ");
-            put_hexadecimal(outlet, &[counters]);
+            let from = put_bytes(room, from, b"counters ");
+            put_digits(room, from, &[counters])
         }
-        DwtItem::Exception { number, change } => put_exception(outlet, number, change),
+        DwtItem::Exception { number, change } => put_exception(room, from, number, change),
         DwtItem::Sample { pc } => {
-            outlet.append(b"pc ");
-            put_hexadecimal(outlet, &pc.to_be_bytes());
+            let from = put_bytes(room, from, b"pc ");
+            put_digits(room, from, &pc.to_be_bytes())
         }
-        DwtItem::Asleep => outlet.append(b"asleep"),
+        DwtItem::Asleep => put_bytes(room, from, b"asleep"),
         DwtItem::MatchPc { comparator, pc } => {
-            put_comparator(outlet, comparator, " pc ");
-            put_hexadecimal(outlet, &pc.to_be_bytes());
+            let from = put_comparator(room, from, comparator, " pc ");
+            put_digits(room, from, &pc.to_be_bytes())
         }
         DwtItem::MatchAddress { comparator, low } => {
             let bytes = u32::from(low).to_be_bytes();
-            put_comparator(outlet, comparator, " addr ");
-            put_hexadecimal(outlet, &bytes[2..]);
+            let from = put_comparator(room, from, comparator, " addr ");
+            put_digits(room, from, &bytes[2..])
         }
         DwtItem::Read {
             comparator,
             size,
             value,
         } => {
-            put_comparator(outlet, comparator, " read ");
-            put_value(outlet, size, value);
+            let from = put_comparator(room, from, comparator, " read ");
+            put_value(room, from, size, value)
         }
         DwtItem::Written {
             comparator,
             size,
             value,
         } => {
-            put_comparator(outlet, comparator, " write ");
-            put_value(outlet, size, value);
+            let from = put_comparator(room, from, comparator, " write ");
+            put_value(room, from, size, value)
         }
         DwtItem::Other { disc, size, value } => {
-            outlet.append(b"hw ");
-            put_source(outlet, disc, size, value);
+            let from = put_bytes(room, from, b"hw ");
+            put_source(room, from, disc, size, value)
         }
     }
 }

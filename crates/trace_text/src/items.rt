@@ -1,20 +1,21 @@
 //! The texts of ITM packets.
 
-ghost use Rattle.std.specs.Prelude.{◌≡◌, ◌+◌, ◌≤◌, ◌<◌, ◌^◌, ◌∷◌, [], ◌++◌, length, codes, decimal};
+ghost use Rattle.std.specs.Prelude.{◌≡◌, ◌+◌, ◌≤◌, ◌<◌, ◌^◌, ◌∷◌, [], ◌++◌, length, take, codes, decimal};
 ghost use Rattle.itm_grammar.specs.Proper.{IsProper};
 ghost use Rattle.itm_grammar.specs.declared.packet.ItmPacket.TheVariants.{Local, GlobalFirst, GlobalSecond, Extension};
 ghost use Rattle.trace_text.specs.Values.{value_text};
-ghost use Rattle.trace_text.specs.ItemText.{lateness_text, flag_text, item_text};
+ghost use Rattle.trace_text.specs.ItemText.{lateness_text, flag_text, bits_text, owner_text, item_text};
 
 use crate::hardware::put_hardware;
-use crate::numbers::{put_decimal, put_hexadecimal, put_value};
+use crate::room::{
+    ITEM_ROOM, PART_ROOM, WORD_ROOM, put_bytes, put_digits, put_number, put_short, put_value,
+};
 use dwt_packets::meaning;
 use itm_grammar::packet::{ItmPacket, Lateness, Size};
-use trace_stream::{OUTLET_ROOM, Outlet};
 
 fn lateness_word(lateness: Lateness) -> &'static str
     ensures text { result.now ≡ lateness_text lateness }
-    ensures room { length result.now ≤ 11 }
+    ensures bound { length result.now ≤ WORD_ROOM }
 {
     match lateness {
         Lateness::Exact => "exact",
@@ -24,108 +25,129 @@ fn lateness_word(lateness: Lateness) -> &'static str
     }
 }
 
-fn flag_digit(flag: bool) -> u8
-    ensures { result ∷ [] ≡ flag_text flag }
+#[inline]
+fn put_local(room: &mut [u8], from: usize, lateness: Lateness, delta: u32) -> usize
+    requires room { from + PART_ROOM ≤ length room.old }
+    ensures text { take result room.new ≡ take from room.old ++ item_text (Local lateness delta) }
+    ensures same { length room.new ≡ length room.old }
+    ensures end { result ≤ from + PART_ROOM }
 {
-    if flag { b'1' } else { b'0' }
+    let from = put_bytes(room, from, b"local ");
+    let from = put_bytes(room, from, lateness_word(lateness).as_bytes());
+    let from = put_bytes(room, from, b" ");
+    put_number(room, from, u64::from(delta))
 }
 
-fn put_local(outlet: &mut Outlet, lateness: Lateness, delta: u32)
-    requires room { length outlet.old + 40 ≤ OUTLET_ROOM }
-    ensures text { outlet.new ≡ outlet.old ++ item_text (Local lateness delta) }
-    ensures room { length outlet.new ≤ length outlet.old + 40 }
+fn flag_words(change: bool, wrap: bool) -> &'static str
+    ensures text { result.now ≡ codes " " ++ (flag_text change ++ (codes " " ++ flag_text wrap)) }
+    ensures bound { length result.now ≤ WORD_ROOM }
 {
-    outlet.append(b"local ");
-    outlet.append(lateness_word(lateness).as_bytes());
-    outlet.append(b" ");
-    put_decimal(outlet, u64::from(delta));
-}
-
-fn put_flags(outlet: &mut Outlet, change: bool, wrap: bool)
-    requires room { length outlet.old + 4 ≤ OUTLET_ROOM }
-    ensures text { outlet.new ≡ outlet.old ++ (codes " " ++ (flag_text change ++ (codes " " ++ flag_text wrap))) }
-    ensures room { length outlet.new ≤ length outlet.old + 4 }
-{
-    outlet.append(b" ");
-    outlet.push(flag_digit(change));
-    outlet.append(b" ");
-    outlet.push(flag_digit(wrap));
-}
-
-fn put_first_stamp(outlet: &mut Outlet, len: u8, value: u32, change: bool, wrap: bool)
-    requires room { length outlet.old + 60 ≤ OUTLET_ROOM }
-    ensures text { outlet.new ≡ outlet.old ++ item_text (GlobalFirst len value change wrap) }
-    ensures room { length outlet.new ≤ length outlet.old + 60 }
-{
-    outlet.append(b"global1 ");
-    put_decimal(outlet, u64::from(len));
-    outlet.append(b" ");
-    put_decimal(outlet, u64::from(value));
-    put_flags(outlet, change, wrap);
-}
-
-fn put_second_stamp(outlet: &mut Outlet, wide: bool, value: u64)
-    requires room { length outlet.old + 40 ≤ OUTLET_ROOM }
-    ensures text { outlet.new ≡ outlet.old ++ item_text (GlobalSecond wide value) }
-    ensures room { length outlet.new ≤ length outlet.old + 40 }
-{
-    if wide {
-        outlet.append(b"global2 64 ");
-    } else {
-        outlet.append(b"global2 48 ");
+    match (change, wrap) {
+        (false, false) => " 0 0",
+        (false, true) => " 0 1",
+        (true, false) => " 1 0",
+        (true, true) => " 1 1",
     }
-    put_decimal(outlet, value);
 }
 
-fn put_extension(outlet: &mut Outlet, dwt: bool, value: u32)
-    requires room { length outlet.old + 20 ≤ OUTLET_ROOM }
-    ensures text { outlet.new ≡ outlet.old ++ item_text (Extension dwt value) }
-    ensures room { length outlet.new ≤ length outlet.old + 20 }
+#[inline]
+fn put_first_stamp(
+    room: &mut [u8],
+    from: usize,
+    len: u8,
+    value: u32,
+    change: bool,
+    wrap: bool,
+) -> usize
+    requires room { from + ITEM_ROOM ≤ length room.old }
+    ensures text { take result room.new ≡ take from room.old ++ item_text (GlobalFirst len value change wrap) }
+    ensures same { length room.new ≡ length room.old }
+    ensures end { result ≤ from + ITEM_ROOM }
 {
-    if dwt {
-        outlet.append(b"ext dwt ");
-    } else {
-        outlet.append(b"ext itm ");
-    }
-    put_hexadecimal(outlet, &value.to_be_bytes());
+    let from = put_bytes(room, from, b"global1 ");
+    let from = put_short(room, from, len);
+    let from = put_bytes(room, from, b" ");
+    let from = put_number(room, from, u64::from(value));
+    put_bytes(room, from, flag_words(change, wrap).as_bytes())
 }
 
-/// The number and the value of a source packet.
-pub(crate) fn put_source(outlet: &mut Outlet, number: u8, size: Size, value: u32)
-    requires room { length outlet.old + 36 ≤ OUTLET_ROOM }
-    ensures text { outlet.new ≡ outlet.old ++ (decimal number ++ (codes " " ++ value_text size value)) }
-    ensures room { length outlet.new ≤ length outlet.old + 36 }
+fn second_words(wide: bool) -> &'static str
+    ensures text { result.now ≡ codes "global2 " ++ (bits_text wide ++ codes " ") }
+    ensures bound { length result.now ≤ WORD_ROOM }
 {
-    put_decimal(outlet, u64::from(number));
-    outlet.append(b" ");
-    put_value(outlet, size, value);
+    if wide { "global2 64 " } else { "global2 48 " }
 }
 
-/// The text of a packet; a hardware packet has that of its meaning.
-pub(crate) fn put_item(outlet: &mut Outlet, packet: &ItmPacket)
+#[inline]
+fn put_second_stamp(room: &mut [u8], from: usize, wide: bool, value: u64) -> usize
+    requires room { from + PART_ROOM ≤ length room.old }
+    ensures text { take result room.new ≡ take from room.old ++ item_text (GlobalSecond wide value) }
+    ensures same { length room.new ≡ length room.old }
+    ensures end { result ≤ from + PART_ROOM }
+{
+    let from = put_bytes(room, from, second_words(wide).as_bytes());
+    put_number(room, from, value)
+}
+
+fn extension_words(dwt: bool) -> &'static str
+    ensures text { result.now ≡ codes "ext " ++ (owner_text dwt ++ codes " ") }
+    ensures bound { length result.now ≤ WORD_ROOM }
+{
+    if dwt { "ext dwt " } else { "ext itm " }
+}
+
+#[inline]
+fn put_extension(room: &mut [u8], from: usize, dwt: bool, value: u32) -> usize
+    requires room { from + PART_ROOM ≤ length room.old }
+    ensures text { take result room.new ≡ take from room.old ++ item_text (Extension dwt value) }
+    ensures same { length room.new ≡ length room.old }
+    ensures end { result ≤ from + PART_ROOM }
+{
+    let from = put_bytes(room, from, extension_words(dwt).as_bytes());
+    put_digits(room, from, &value.to_be_bytes())
+}
+
+/// Puts the number and the value of a source packet.
+#[inline(always)]
+pub(crate) fn put_source(room: &mut [u8], from: usize, number: u8, size: Size, value: u32) -> usize
+    requires room { from + PART_ROOM ≤ length room.old }
+    ensures text { take result room.new ≡
+        take from room.old ++ (decimal number ++ (codes " " ++ value_text size value)) }
+    ensures same { length room.new ≡ length room.old }
+    ensures end { result ≤ from + PART_ROOM }
+{
+    let from = put_short(room, from, number);
+    let from = put_bytes(room, from, b" ");
+    put_value(room, from, size, value)
+}
+
+/// Puts the text of a packet; a hardware packet has that of its meaning.
+#[inline]
+pub(crate) fn put_item(room: &mut [u8], from: usize, packet: &ItmPacket) -> usize
     requires proper { IsProper packet.now }
-    requires room { length outlet.old + 60 ≤ OUTLET_ROOM }
-    ensures text { outlet.new ≡ outlet.old ++ item_text packet.now }
-    ensures room { length outlet.new ≤ length outlet.old + 60 }
+    requires room { from + ITEM_ROOM ≤ length room.old }
+    ensures text { take result room.new ≡ take from room.old ++ item_text packet.now }
+    ensures same { length room.new ≡ length room.old }
+    ensures end { result ≤ from + ITEM_ROOM }
 {
     match *packet {
-        ItmPacket::Sync => outlet.append(b"sync"),
-        ItmPacket::Overflow => outlet.append(b"overflow"),
+        ItmPacket::Sync => put_bytes(room, from, b"sync"),
+        ItmPacket::Overflow => put_bytes(room, from, b"overflow"),
         ItmPacket::Software { port, size, value } => {
-            outlet.append(b"port ");
-            put_source(outlet, port, size, value);
+            let from = put_bytes(room, from, b"port ");
+            put_source(room, from, port, size, value)
         }
         ItmPacket::Hardware { disc, size, value } => {
-            put_hardware(outlet, &meaning(disc, size, value));
+            put_hardware(room, from, &meaning(disc, size, value))
         }
-        ItmPacket::Local { lateness, delta } => put_local(outlet, lateness, delta),
+        ItmPacket::Local { lateness, delta } => put_local(room, from, lateness, delta),
         ItmPacket::GlobalFirst {
             len,
             value,
             change,
             wrap,
-        } => put_first_stamp(outlet, len, value, change, wrap),
-        ItmPacket::GlobalSecond { wide, value } => put_second_stamp(outlet, wide, value),
-        ItmPacket::Extension { dwt, value } => put_extension(outlet, dwt, value),
+        } => put_first_stamp(room, from, len, value, change, wrap),
+        ItmPacket::GlobalSecond { wide, value } => put_second_stamp(room, from, wide, value),
+        ItmPacket::Extension { dwt, value } => put_extension(room, from, dwt, value),
     }
 }

@@ -3,9 +3,10 @@
 ghost use Rattle.std.specs.Prelude.{◌≡◌, ◌≤◌, length};
 ghost use Rattle.trace_text.specs.EndText.{mode_text, port_mode, packets_mode};
 
+use crate::room::WORD_ROOM;
 use capture_plan::{FramesMode, PacketsMode};
 
-/// How the reading of a port or of a source stands at the end.
+/// How a port or a source was read, as the line at the end says it.
 #[derive(Clone, Copy, Debug, PartialEq, Eq, Drop)]
 pub enum PortMode {
     /// There is no formatter: each byte is one of source 1.
@@ -52,10 +53,10 @@ impl PortMode {
         }
     }
 
-    /// Its word in the end lines.
-    pub fn word(&self) -> &'static str
+    /// Its word in the lines at the end.
+    pub(crate) fn word(&self) -> &'static str
         ensures text { result.now ≡ mode_text self.now }
-        ensures room { length result.now ≤ 7 }
+        ensures bound { length result.now ≤ WORD_ROOM }
     {
         match self {
             PortMode::Bare => "bare",

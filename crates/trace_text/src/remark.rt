@@ -1,12 +1,12 @@
 //! What a line says beside its packet.
 
-/// What stands beside a packet in its line: the time that it makes known.
+/// What is beside a packet in its line: the time that it makes known.
 #[derive(Clone, Copy, Debug, PartialEq, Eq, Drop)]
 pub enum Remark {
     /// Nothing.
     None,
     /// Beside a local timestamp: the sum of the source's local timestamps, in their ticks.
     Clock(u64),
-    /// Beside a global timestamp: the global time behind it, where it is known.
+    /// Beside a global timestamp: the global time after it, where it is known.
     Time(Option<u64>),
 }

@@ -1,16 +1,18 @@
 -- One more unit, in a hunt.
-use Rattle.std.proofs.Common.{◌≡◌, ℕ, suc, ◌+◌, ◌-◌, ◌≤◌, List, [], ◌∷◌, ◌++◌, length, refl, sym, ◌∙◌, ap, arith, subst, Option, None, Some, Bool, true, false, cond}
+use Rattle.std.proofs.Common.{◌≡◌, ℕ, suc, ◌+◌, ◌-◌, ◌*◌, ◌≤◌, List, [], ◌∷◌, ◌++◌, length, refl, sym, ◌∙◌, ap, arith, subst, Option, None, Some, Bool, true, false, cond}
 use Rattle.std.specs.Prelude.{is_none, ◌==◌, ◌&&◌}
 use Rattle.trace_values.specs.declared.fault.Reason.{Reason}
 use Rattle.trace_values.specs.declared.next.Next.{Next}
 use Rattle.trace_values.specs.declared.next.Next.TheVariants.{Go}
 use Rattle.trace_values.specs.declared.step.Step.TheVariants.{Skipping, Locked}
-use Rattle.trace_values.specs.Placed.{Place, Placed, byte_at}
+use Rattle.trace_values.specs.Placed.{Place, Placed}
 use Rattle.trace_values.specs.Reading.{advance}
-use Rattle.trace_values.specs.Stream.{Notice, Kept, kept, shown, Grows, Shows, Settled, Rises}
-use Rattle.trace_values.specs.Standing.{live_after, state_after, step_after}
-use Rattle.trace_values.specs.Hunted.{Pattern, Found, Hunt, run_after, begun, hunt_on, hunt_from, no_hunt, hunt, hunted_by, hunted, Seeks as SeeksIn, Follows as FollowsIn}
-use Rattle.trace_values.proofs.Standings.{none_of, some_of, settled_on, rises_on, rest_on, counted_on, Stands-fed, Grows-fed}
+use Rattle.trace_values.specs.Stream.{Notice, Kept, kept, shown, Grows, Shows, Settled}
+use Rattle.trace_values.specs.Standing.{live_after, state_after}
+use Rattle.trace_values.specs.declared.pattern.Pattern.{Pattern}
+use Rattle.trace_values.specs.Hunted.{Found, Hunt, run_after, begun, hunt_on, hunt_from, no_hunt, hunt, hunted_by, hunted, Seeks as SeeksIn, Follows as FollowsIn}
+use Rattle.trace_values.proofs.OneUnit.{step_on, RisesOn}
+use Rattle.trace_values.proofs.Standings.{none_of, some_of, settled_on, state_stays, rises_on, rest_on, counted_on, Keeps-fed, Grows-fed}
 
 module _ {S V : Type 0} (p : Pattern) (v : V) (rule : S → Placed → Next S V) (start : S) where
   abbrev Seeks : ℕ → ℕ → List Placed → Type 0
@@ -19,11 +21,11 @@ module _ {S V : Type 0} (p : Pattern) (v : V) (rule : S → Placed → Next S V)
   abbrev Follows : ℕ → Bool → S → List Placed → Type 0
   Follows = FollowsIn p v rule start
 
-  from_append : (u w : List Placed) (h : Hunt S V) → hunt_from p v rule start h (u ++ w) ≡ hunt_from p v rule start (hunt_from p v rule start h u) w
+  pub from_append : (u w : List Placed) (h : Hunt S V) → hunt_from p v rule start h (u ++ w) ≡ hunt_from p v rule start (hunt_from p v rule start h u) w
   from_append [] w h = refl
   from_append (b ∷ u) w h = from_append u w (hunt_on p v rule start h b h.found)
 
-  hunt_push : (u : List Placed) (b : Placed) (f : Option (Found S V)) → (hunt p v rule start u).found ≡ f → hunt p v rule start (u ++ b ∷ []) ≡ hunt_on p v rule start (hunt p v rule start u) b f
+  pub hunt_push : (u : List Placed) (b : Placed) (f : Option (Found S V)) → (hunt p v rule start u).found ≡ f → hunt p v rule start (u ++ b ∷ []) ≡ hunt_on p v rule start (hunt p v rule start u) b f
   hunt_push u b f e = from_append u (b ∷ []) no_hunt ∙ ap (λ (x : Option (Found S V)). hunt_on p v rule start (hunt p v rule start u) b x) e
 
   pub Seeks-empty : Seeks 0 0 []
@@ -42,42 +44,42 @@ module _ {S V : Type 0} (p : Pattern) (v : V) (rule : S → Placed → Next S V)
       ap (λ (t : Bool). cond t (record { units = suc h.units; run = 0; found = Some (record { skipped = h.units - p.most; place = b.place; reading = begun start v b.place }) }) (record { units = suc h.units; run = run_after p h.run b.unit; found = None }))
       (ap (λ (n : ℕ). b.unit == p.last && n == p.most) e ∙ f)
 
-  module _ (run skipped : ℕ) (u : List Placed) (at byte : ℕ) (s : Seeks run skipped u) where
+  module _ (run skipped : ℕ) (u : List Placed) (b : Placed) (s : Seeks run skipped u) where
     abbrev h : Hunt S V
     h = hunt p v rule start u
 
-    still : (byte == p.last && run == p.most) ≡ false → hunt p v rule start (u ++ byte_at at byte ∷ []) ≡ record { units = suc h.units; run = run_after p h.run byte; found = None }
-    still f = hunt_push u (byte_at at byte) None s.none ∙ goes_on h (byte_at at byte) run s.run_is f
+    still : (b.unit == p.last && run == p.most) ≡ false → hunt p v rule start (u ++ b ∷ []) ≡ record { units = suc h.units; run = run_after p h.run b.unit; found = None }
+    still f = hunt_push u b None s.none ∙ goes_on h b run s.run_is f
 
-    pub Seeks-fed : (byte == p.last && run == p.most) ≡ false → Seeks (run_after p run byte) (skipped + 1) (u ++ byte_at at byte ∷ [])
+    pub Seeks-fed : (b.unit == p.last && run == p.most) ≡ false → Seeks (run_after p run b.unit) (skipped + 1) (u ++ b ∷ [])
     Seeks-fed f = record {
-      run_is = ap (λ (x : Hunt S V). x.run) (still f) ∙ ap (λ (n : ℕ). run_after p n byte) s.run_is;
+      run_is = ap (λ (x : Hunt S V). x.run) (still f) ∙ ap (λ (n : ℕ). run_after p n b.unit) s.run_is;
       units_is = ap (λ (x : Hunt S V). x.units) (still f) ∙ (let e = s.units_is in omega (arith, e));
       none = ap (λ (x : Hunt S V). x.found) (still f);
     }
 
-    pub Grows-skipping : (byte == p.last && run == p.most) ≡ false → Grows (hunted p v rule start u) (hunted p v rule start (u ++ byte_at at byte ∷ [])) at Skipping
+    pub Grows-skipping : (b.unit == p.last && run == p.most) ≡ false → Grows (hunted p v rule start u) (hunted p v rule start (u ++ b ∷ [])) b.place.at Skipping
     Grows-skipping f =
-        subst (λ (o : Option (Found S V)). Grows (hunted_by h.units o) (hunted p v rule start (u ++ byte_at at byte ∷ [])) at Skipping) (sym s.none)
-        (subst (λ (x : Hunt S V). Grows (hunted_by {S = S} h.units None) (hunted_by x.units x.found) at Skipping) (sym (still f)) (record { given = refl; fault = refl; hunt = (refl, refl) }))
+        subst (λ (o : Option (Found S V)). Grows (hunted_by h.units o) (hunted p v rule start (u ++ b ∷ [])) b.place.at Skipping) (sym s.none)
+        (subst (λ (x : Hunt S V). Grows (hunted_by {S = S} h.units None) (hunted_by x.units x.found) b.place.at Skipping) (sym (still f)) (record { given = refl; fault = refl; hunt = (refl, refl) }))
 
-    now : (byte == p.last && run == p.most) ≡ true → hunt p v rule start (u ++ byte_at at byte ∷ []) ≡
-        record { units = suc h.units; run = 0; found = Some (record { skipped = h.units - p.most; place = record { at = at; half = 0 }; reading = begun start v (record { at = at; half = 0 }) }) }
-    now f = hunt_push u (byte_at at byte) None s.none ∙ locks h (byte_at at byte) run s.run_is f
+    now : (b.unit == p.last && run == p.most) ≡ true → hunt p v rule start (u ++ b ∷ []) ≡
+        record { units = suc h.units; run = 0; found = Some (record { skipped = h.units - p.most; place = b.place; reading = begun start v (b.place) }) }
+    now f = hunt_push u b None s.none ∙ locks h b run s.run_is f
 
-    pub Follows-now : (byte == p.last && run == p.most) ≡ true → Follows (skipped - p.most) true start (u ++ byte_at at byte ∷ [])
+    pub Follows-now : (b.unit == p.last && run == p.most) ≡ true → Follows (skipped - p.most) true start (u ++ b ∷ [])
     Follows-now f = record {
-      found = record { skipped = h.units - p.most; place = record { at = at; half = 0 }; reading = begun start v (record { at = at; half = 0 }) };
+      found = record { skipped = h.units - p.most; place = b.place; reading = begun start v (b.place) };
       some = ap (λ (x : Hunt S V). x.found) (now f);
       skipped_is = ap (λ (n : ℕ). n - p.most) s.units_is;
-      stands = record { live_is = refl; state_is = λ _. refl };
+      stands = record { live_is = refl; state_is = refl };
     }
 
-    pub Grows-locked : (byte == p.last && run == p.most) ≡ true → Grows (hunted p v rule start u) (hunted p v rule start (u ++ byte_at at byte ∷ [])) at (Locked (skipped - p.most) 0 v)
+    pub Grows-locked : (b.unit == p.last && run == p.most) ≡ true → Grows (hunted p v rule start u) (hunted p v rule start (u ++ b ∷ [])) b.place.at (Locked (skipped - p.most) b.place.half v)
     Grows-locked f =
-        subst (λ (n : ℕ). Grows (hunted p v rule start u) (hunted p v rule start (u ++ byte_at at byte ∷ [])) at (Locked (n - p.most) 0 v)) s.units_is
-        (subst (λ (o : Option (Found S V)). Grows (hunted_by h.units o) (hunted p v rule start (u ++ byte_at at byte ∷ [])) at (Locked (h.units - p.most) 0 v)) (sym s.none)
-        (subst (λ (x : Hunt S V). Grows (hunted_by {S = S} h.units None) (hunted_by x.units x.found) at (Locked (h.units - p.most) 0 v)) (sym (now f))
+        subst (λ (n : ℕ). Grows (hunted p v rule start u) (hunted p v rule start (u ++ b ∷ [])) b.place.at (Locked (n - p.most) b.place.half v)) s.units_is
+        (subst (λ (o : Option (Found S V)). Grows (hunted_by h.units o) (hunted p v rule start (u ++ b ∷ [])) b.place.at (Locked (h.units - p.most) b.place.half v)) (sym s.none)
+        (subst (λ (x : Hunt S V). Grows (hunted_by {S = S} h.units None) (hunted_by x.units x.found) b.place.at (Locked (h.units - p.most) b.place.half v)) (sym (now f))
         (record { given = refl; fault = refl; hunt = (refl, refl, refl) })))
 
   -- behind the lock
@@ -92,50 +94,50 @@ module _ {S V : Type 0} (p : Pattern) (v : V) (rule : S → Placed → Next S V)
     found = record { skipped = s.found.skipped; place = s.found.place; reading = advance rule start s.found.reading b };
     some = found_push u b s.found s.some;
     skipped_is = s.skipped_is;
-    stands = Stands-fed rule start s.found.reading live state b live' state' n l e f g s.stands;
+    stands = Keeps-fed rule start s.found.reading live state b live' state' n l e f g s.stands;
   }
 
-  pub Grows-followed : (skipped : ℕ) (live : Bool) (state : S) (u : List Placed) (byte at : ℕ) (n : Next S V) → live ≡ true →
-      n ≡ rule state (byte_at at byte) → Follows skipped live state u →
-      Grows (hunted p v rule start u) (hunted p v rule start (u ++ byte_at at byte ∷ [])) at (step_after at n)
-  Grows-followed skipped live state u byte at n l e s =
+  pub Grows-followed : (skipped : ℕ) (live : Bool) (state : S) (u : List Placed) (b : Placed) (n : Next S V) → live ≡ true →
+      n ≡ rule state b → Follows skipped live state u →
+      Grows (hunted p v rule start u) (hunted p v rule start (u ++ b ∷ [])) b.place.at (step_on b.place n)
+  Grows-followed skipped live state u b n l e s =
       let f = s.found in
-      subst (λ (o : Option (Found S V)). Grows (hunted_by (hunt p v rule start u).units o) (hunted p v rule start (u ++ byte_at at byte ∷ [])) at (step_after at n)) (sym s.some)
-      (subst (λ (o : Option (Found S V)). Grows (shown ((Notice f.skipped, f.place) ∷ []) f.skipped f.reading) (hunted_by (hunt p v rule start (u ++ byte_at at byte ∷ [])).units o) at (step_after at n)) (sym (found_push u (byte_at at byte) f s.some))
-      (Grows-fed rule start ((Notice f.skipped, f.place) ∷ []) f.skipped f.reading live state byte at n l e s.stands))
+      subst (λ (o : Option (Found S V)). Grows (hunted_by (hunt p v rule start u).units o) (hunted p v rule start (u ++ b ∷ [])) b.place.at (step_on b.place n)) (sym s.some)
+      (subst (λ (o : Option (Found S V)). Grows (shown ((Notice f.skipped, f.place) ∷ []) f.skipped f.reading) (hunted_by (hunt p v rule start (u ++ b ∷ [])).units o) b.place.at (step_on b.place n)) (sym (found_push u b f s.some))
+      (Grows-fed rule start ((Notice f.skipped, f.place) ∷ []) f.skipped f.reading live state b n l e s.stands))
 
   -- one more unit, by whether it locks
   abbrev after : Hunt S V → Placed → Bool → Hunt S V
   after h b t = cond t (record { units = suc h.units; run = 0; found = Some (record { skipped = h.units - p.most; place = b.place; reading = begun start v b.place }) }) (record { units = suc h.units; run = run_after p h.run b.unit; found = None })
 
   -- one more unit in any hunt
-  rises_by : (h : Hunt S V) (at byte : ℕ) (f : Option (Found S V)) →
-      Rises (hunted_by h.units f) (hunted_by (hunt_on p v rule start h (byte_at at byte) f).units (hunt_on p v rule start h (byte_at at byte) f).found) at
-  rises_by h at byte (Some f) = rises_on rule start ((Notice f.skipped, f.place) ∷ []) f.skipped f.reading at byte
-  rises_by h at byte None = by_test (byte == p.last && h.run == p.most) where
-    by_test : (t : Bool) → Rises (hunted_by {S = S} h.units None) (hunted_by (after h (byte_at at byte) t).units (after h (byte_at at byte) t).found) at
+  rises_by : (h : Hunt S V) (b : Placed) (f : Option (Found S V)) →
+      RisesOn (hunted_by h.units f) (hunted_by (hunt_on p v rule start h b f).units (hunt_on p v rule start h b f).found) b.place
+  rises_by h b (Some f) = rises_on rule start ((Notice f.skipped, f.place) ∷ []) f.skipped f.reading b
+  rises_by h b None = by_test (b.unit == p.last && h.run == p.most) where
+    by_test : (t : Bool) → RisesOn (hunted_by {S = S} h.units None) (hunted_by (after h b t).units (after h b t).found) b.place
     by_test true = record {
-      more = (Notice (h.units - p.most), record { at = at; half = 0 }) ∷ ((Kept v, record { at = at; half = 0 }) ∷ []);
+      more = (Notice (h.units - p.most), b.place) ∷ ((Kept v, b.place) ∷ []);
       given = refl;
-      all = (refl, omega arith, (refl, omega arith, tt));
+      all = (refl, (refl, tt));
       fault = tt;
     }
     by_test false = record { more = []; given = refl; all = tt; fault = tt }
 
-  pub rises : (u : List Placed) (at byte : ℕ) → Rises (hunted p v rule start u) (hunted p v rule start (u ++ byte_at at byte ∷ [])) at
-  rises u at byte =
-      subst (λ (x : Hunt S V). Rises (hunted p v rule start u) (hunted_by x.units x.found) at) (sym (hunt_push u (byte_at at byte) (hunt p v rule start u).found refl))
-      (rises_by (hunt p v rule start u) at byte (hunt p v rule start u).found)
+  pub rises : (u : List Placed) (b : Placed) → RisesOn (hunted p v rule start u) (hunted p v rule start (u ++ b ∷ [])) b.place
+  rises u b =
+      subst (λ (x : Hunt S V). RisesOn (hunted p v rule start u) (hunted_by x.units x.found) b.place) (sym (hunt_push u b (hunt p v rule start u).found refl))
+      (rises_by (hunt p v rule start u) b (hunt p v rule start u).found)
 
   -- a fault settles it
   settled_from : (w : List Placed) (h : Hunt S V) (f : Found S V) (e : Place × Reason) → h.found ≡ Some f → f.reading.fault ≡ Some e →
-      (g : Found S V) × ((hunt_from p v rule start h w).found ≡ Some g) × (g.skipped ≡ f.skipped) × (g.place ≡ f.place) × (g.reading.items ≡ f.reading.items) × (g.reading.fault ≡ Some e)
-  settled_from [] h f e k l = (f, k, refl, refl, refl, l)
+      (g : Found S V) × ((hunt_from p v rule start h w).found ≡ Some g) × (g.skipped ≡ f.skipped) × (g.place ≡ f.place) × (g.reading.items ≡ f.reading.items) × (g.reading.fault ≡ Some e) × (g.reading.state ≡ f.reading.state)
+  settled_from [] h f e k l = (f, k, refl, refl, refl, l, refl)
   settled_from (b ∷ w) h f e k l =
       let on = settled_on rule start f.reading b e l in
       let k' : (hunt_on p v rule start h b h.found).found ≡ Some (record { skipped = f.skipped; place = f.place; reading = advance rule start f.reading b }) = ap (λ (o : Option (Found S V)). (hunt_on p v rule start h b o).found) k in
       let more = settled_from w (hunt_on p v rule start h b h.found) (record { skipped = f.skipped; place = f.place; reading = advance rule start f.reading b }) e k' on.1 in
-      (more.0, more.1, more.2, more.3, more.4 ∙ on.0, more.5)
+      (more.0, more.1, more.2, more.3, more.4 ∙ on.0, more.5, more.6 ∙ state_stays rule start f.reading (b ∷ []) e l)
 
   pub settles : (u w : List Placed) → is_none (hunted p v rule start u).fault ≡ false → Settled (hunted p v rule start u) (hunted p v rule start (u ++ w))
   settles u w e = by_found (hunt p v rule start u).found refl e where
@@ -154,6 +156,17 @@ module _ {S V : Type 0} (p : Pattern) (v : V) (rule : S → Placed → Next S V)
           fault = ap (λ (o : Option (Found S V)). (hunted_by (hunt p v rule start (u ++ w)).units o).fault) a ∙ g.5 ∙ sym x.1
               ∙ sym (ap (λ (o : Option (Found S V)). (hunted_by (hunt p v rule start u).units o).fault) k);
         }
+
+  pub Follows-dead : (skipped : ℕ) (live : Bool) (state : S) (u w : List Placed) → live ≡ false → Follows skipped live state u → Follows skipped live state (u ++ w)
+  Follows-dead skipped live state u w l s =
+      let f = some_of s.found.reading.fault (sym s.stands.live_is ∙ l) in
+      let g = settled_from w (hunt p v rule start u) s.found f.0 s.some f.1 in
+      record {
+        found = g.0;
+        some = ap (λ (x : Hunt S V). x.found) (from_append u w no_hunt) ∙ g.1;
+        skipped_is = g.2 ∙ s.skipped_is;
+        stands = record { live_is = l ∙ sym (ap is_none g.5); state_is = g.6 ∙ s.stands.state_is };
+      }
 
   -- where the state counts the units of the rest
   module _ (count : S → ℕ) (none : count start ≡ 0) (one : (s t : S) (b : Placed) → rule s b ≡ Go t → count t ≡ count s + 1) where
@@ -179,26 +192,26 @@ module _ {S V : Type 0} (p : Pattern) (v : V) (rule : S → Placed → Next S V)
     pub counts : (u : List Placed) → Counts (hunt p v rule start u).units (hunt p v rule start u).found (length u)
     counts u = subst (λ (n : ℕ). Counts (hunt p v rule start u).units (hunt p v rule start u).found n) (let e : 0 + length u ≡ length u = omega arith in e) (counts_from u no_hunt 0 (refl, tt))
 
-    pub Seeks-shows : (run skipped : ℕ) (u : List Placed) → Seeks run skipped u → Shows true false 0 skipped (length u) (hunted p v rule start u)
-    Seeks-shows run skipped u s =
+    pub Seeks-shows : (run skipped : ℕ) (u : List Placed) (bytes : ℕ) → length u ≤ 2 * bytes → Seeks run skipped u → Shows true false 0 skipped bytes (hunted p v rule start u)
+    Seeks-shows run skipped u bytes most s =
         let c = subst (λ (o : Option (Found S V)). Counts (hunt p v rule start u).units o (length u)) s.none (counts u) in
-        subst (λ (o : Option (Found S V)). Shows true false 0 skipped (length u) (hunted_by (hunt p v rule start u).units o)) (sym s.none) (record {
+        subst (λ (o : Option (Found S V)). Shows true false 0 skipped bytes (hunted_by (hunt p v rule start u).units o)) (sym s.none) (record {
           live_is = refl;
-          locked_is = λ _. refl;
+          locked_is = refl;
           held_is = λ _. refl;
-          skipped_is = λ _. sym s.units_is;
+          skipped_is = sym s.units_is;
           room = λ _. (let a = s.units_is in let b = c.0 in omega arith);
         })
 
-    pub Follows-shows : (skipped : ℕ) (live : Bool) (state : S) (u : List Placed) → Follows skipped live state u → Shows live true (count state) skipped (length u) (hunted p v rule start u)
-    Follows-shows skipped live state u s =
+    pub Follows-shows : (skipped : ℕ) (live : Bool) (state : S) (u : List Placed) (bytes : ℕ) → length u ≤ 2 * bytes → Follows skipped live state u → Shows live true (count state) skipped bytes (hunted p v rule start u)
+    Follows-shows skipped live state u bytes most s =
         let c = subst (λ (o : Option (Found S V)). Counts (hunt p v rule start u).units o (length u)) s.some (counts u) in
-        subst (λ (o : Option (Found S V)). Shows live true (count state) skipped (length u) (hunted_by (hunt p v rule start u).units o)) (sym s.some) (record {
+        subst (λ (o : Option (Found S V)). Shows live true (count state) skipped bytes (hunted_by (hunt p v rule start u).units o)) (sym s.some) (record {
           live_is = s.stands.live_is;
-          locked_is = λ _. refl;
+          locked_is = refl;
           held_is = λ l. held c.2 l;
-          skipped_is = λ _. sym s.skipped_is;
+          skipped_is = sym s.skipped_is;
           room = λ l. (let a = held c.2 l in let b = c.1 in let d = s.skipped_is in omega arith);
         }) where
           held : (s.found.reading.fault ≡ None → length s.found.reading.rest ≡ count s.found.reading.state) → live ≡ true → count state ≡ length s.found.reading.rest
-          held c l = ap count (sym (s.stands.state_is l)) ∙ sym (c (none_of s.found.reading.fault (sym l ∙ s.stands.live_is)))
+          held c l = ap count (sym s.stands.state_is) ∙ sym (c (none_of s.found.reading.fault (sym l ∙ s.stands.live_is)))

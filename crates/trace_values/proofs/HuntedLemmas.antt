@@ -1,18 +1,20 @@
 -- The hunt finds the least place of the pattern, and reads from there.
 use Rattle.std.proofs.Common.{◌≡◌, ◌≢◌, ℕ, suc, ◌+◌, ◌-◌, ◌<◌, ◌≤◌, List, [], ◌∷◌, ◌++◌, length, replicate, refl, sym, ◌∙◌, ap, ◌⊎◌, inl, inr, append_assoc, append-nil, arith, subst, length-append, Option, None, Some, Bool, true, false, cond}
-use Rattle.std.specs.Prelude.{◌==◌, ◌&&◌, nat_lt}
+use Rattle.std.specs.Prelude.{◌==◌, ◌&&◌}
 use Rattle.std.proofs.lemmas.Bool.Decides.{nat_tests}
 use Rattle.std.proofs.lemmas.List.{length_push, length-replicate, length-map, same_from_push}
 use Rattle.trace_values.specs.declared.fault.Reason.{Reason}
 use Rattle.trace_values.specs.declared.next.Next.{Next}
-use Rattle.trace_values.specs.declared.next.Next.TheVariants.{Go, Stop, Fail}
+use Rattle.trace_values.specs.declared.next.Next.TheVariants.{Go, End, Fail}
 use Rattle.trace_values.specs.Walk.{Decides}
 use Rattle.trace_values.specs.Placed.{Place, Placed, units_of}
 use Rattle.trace_values.specs.Reading.{Progress, with_unit, advance, progress}
 use Rattle.trace_values.specs.Hunt.{IsNowhere, IsFirst, EndsInRun}
-use Rattle.trace_values.specs.Hunted.{Pattern, pattern_of, Found, Hunt, run_after, begun, hunt_on, hunt_from, no_hunt, hunt}
+use Rattle.trace_values.specs.declared.pattern.Pattern.{Pattern}
+use Rattle.trace_values.specs.Hunted.{pattern_of, Found, Hunt, run_after, begun, hunt_on, hunt_from, no_hunt, hunt}
 use Rattle.trace_values.proofs.Placing.{units_push}
-use Rattle.trace_values.proofs.Hunts.{at_end_or_before, still_nowhere, now_first, ends_here, not_here, run_more, run_full, run_over}
+use Rattle.trace_values.proofs.Hunts.{at_end_or_before, still_nowhere, now_first, ends_here, not_here}
+use Rattle.trace_values.proofs.Runs.{no_run, run_on}
 use Rattle.trace_values.proofs.Standings.{progress_push}
 use Rattle.trace_values.proofs.Wholes.{spelled_reads}
 
@@ -37,7 +39,7 @@ module _ {S V : Type 0} (Spells : V → List Placed → Type 0) (why : List Plac
   BeginsAt items place = (more : List (V × Place)) × (items ≡ (v, place) ∷ more)
 
   items_by : (q : Progress S V) (b : Placed) (n : Next S V) (f : Option (Place × Reason)) → (more : List (V × Place)) × ((with_unit start q b n f).items ≡ q.items ++ more)
-  items_by q b (Stop w) None = ((w, b.place) ∷ [], refl)
+  items_by q b (End w) None = ((w, b.place) ∷ [], refl)
   items_by q b (Go t) None = ([], sym (append-nil q.items))
   items_by q b (Fail e) None = ([], sym (append-nil q.items))
   items_by q b n (Some f) = ([], sym (append-nil q.items))
@@ -59,23 +61,6 @@ module _ {S V : Type 0} (Spells : V → List Placed → Type 0) (why : List Plac
       progress rule start (w ++ l ∷ []) ≡ begun start v l.place
   pattern_reads w l e f = spelled_reads rule start Spells why d [] v w l (spelled (w ++ l ∷ [])
       (units_push w l ∙ ap (λ (y : List ℕ). y ++ l.unit ∷ []) e ∙ ap (λ (n : ℕ). replicate p.most p.unit ++ n ∷ []) f))
-
-  run_on : (run b : ℕ) (u : List ℕ) → EndsInRun p.unit p.most run u → EndsInRun p.unit p.most (run_after p run b) (u ++ b ∷ [])
-  run_on run b u r = elim (run_cases b p.unit run p.most) [
-    | inl m ↦ subst (λ (n : ℕ). EndsInRun p.unit p.most n (u ++ b ∷ [])) (sym m.2)
-        (subst (λ (x : ℕ). EndsInRun p.unit p.most (suc run) (u ++ x ∷ [])) (sym m.0) (run_more p.unit p.last p.most apart run u m.1 r))
-    | inr m ↦ elim m [
-      | inl n ↦ subst (λ (k : ℕ). EndsInRun p.unit p.most k (u ++ b ∷ [])) (sym n.2)
-          (subst (λ (x : ℕ). EndsInRun p.unit p.most p.most (u ++ x ∷ [])) (sym n.0)
-          (run_full p.unit p.last p.most apart u (subst (λ (k : ℕ). EndsInRun p.unit p.most k u) (let e : run ≡ p.most = (let w = r.within in let z = n.1 in omega arith) in e) r)))
-      | inr n ↦ subst (λ (k : ℕ). EndsInRun p.unit p.most k (u ++ b ∷ [])) (sym n.1) (run_over p.unit p.last p.most apart b run u n.0)
-    ]
-  ] where
-    run_cases : (b a run most : ℕ) →
-        ((b ≡ a) × (run < most) × (cond (b == a) (cond (nat_lt run most) (suc run) most) 0 ≡ suc run))
-        ⊎ ((b ≡ a) × (most ≤ run) × (cond (b == a) (cond (nat_lt run most) (suc run) most) 0 ≡ most))
-        ⊎ ((b ≢ a) × (cond (b == a) (cond (nat_lt run most) (suc run) most) 0 ≡ 0))
-    run_cases b a run most = grind (arith, nat_tests)
 
   IsFirst-more : (u a : List ℕ) (b : ℕ) → IsFirst (pattern_of p) u a → IsFirst (pattern_of p) (u ++ b ∷ []) a
   IsFirst-more u a b f = record {
@@ -134,7 +119,7 @@ module _ {S V : Type 0} (Spells : V → List Placed → Type 0) (why : List Plac
         units = units_on u h b k;
         found = (
           subst (λ (l : List ℕ). IsNowhere (pattern_of p) l) (sym (units_push u b)) (still_nowhere (pattern_of p) (units_of u) b.unit s.0 (not_here p.unit p.last p.most apart h.run b.unit (units_of u) s.1 y)),
-          subst (λ (l : List ℕ). EndsInRun p.unit p.most (run_after p h.run b.unit) l) (sym (units_push u b)) (run_on h.run b.unit (units_of u) s.1),
+          subst (λ (l : List ℕ). EndsInRun p.unit p.most (run_after p h.run b.unit) l) (sym (units_push u b)) (run_on p apart h.run b.unit (units_of u) s.1),
         );
       }
 
@@ -175,7 +160,5 @@ module _ {S V : Type 0} (Spells : V → List Placed → Type 0) (why : List Plac
   pub knows : (u : List Placed) → Knows u (hunt p v rule start u)
   knows u = knows_from u [] no_hunt (record {
     units = refl;
-    found = ((λ a s. nothing a s.0 s.1), record { within = omega arith; ends = ([], refl); no_more = λ h a e. no_end a e });
-  }) where
-    no_end : (a : List ℕ) → [] ≡ a ++ replicate 1 p.unit → ⊥
-    no_end a e = let k = ap length e in let l = length-append a (replicate 1 p.unit) in let n = length-replicate 1 p.unit in let i : length {A = ℕ} [] ≡ 0 = refl in omega arith
+    found = ((λ a s. nothing a s.0 s.1), no_run p.unit p.most);
+  })

@@ -2,13 +2,13 @@
 use Rattle.std.proofs.Common.{◌≡◌, ℕ, zero, suc, ◌+◌, ◌≤◌, List, [], ◌∷◌, ◌++◌, length, take, drop, get_or, refl, sym, ◌∙◌, ap, subst, arith, true, Some}
 use Rattle.std.proofs.lemmas.List.{drop_more}
 use Rattle.trace_values.specs.declared.next.Next.{Next}
-use Rattle.trace_values.specs.declared.next.Next.TheVariants.{Go, Stop, Fail}
+use Rattle.trace_values.specs.declared.next.Next.TheVariants.{Go, End, Fail}
 use Rattle.trace_values.specs.declared.step.Step.TheVariants.{Quiet, Item}
 use Rattle.trace_values.specs.declared.mode.Mode.{Mode}
 use Rattle.trace_values.specs.Placed.{Placed, byte_at, placed_from}
 use Rattle.trace_values.specs.Walk.{Walked, Whole, after, walk, by_unit}
 use Rattle.trace_values.specs.Stream.{Stream}
-use Rattle.trace_values.specs.Hunted.{Pattern}
+use Rattle.trace_values.specs.declared.pattern.Pattern.{Pattern}
 use Rattle.trace_values.specs.Moded.{stream_in, hunts, is_locked, StandsIn}
 use Rattle.trace_values.specs.Block.{Takes}
 use Rattle.trace_values.proofs.Blocks.{IsTaking, taking_more, takes_ended}
@@ -29,7 +29,7 @@ module _ {S V : Type 0} (p : Pattern) (z : V) (rule : S → ℕ → Next S V) (s
   next_bytes n i h = ap (take (suc n)) (drop_more piece i 0 (omega arith))
 
   -- a value with which no byte is left is the last
-  whole_is : (v w : V) (more : S → Walked S V) (bytes : List ℕ) → after (Stop v) more bytes ≡ Whole w → (v ≡ w) × (bytes ≡ [])
+  whole_is : (v w : V) (more : S → Walked S V) (bytes : List ℕ) → after (End v) more bytes ≡ Whole w → (v ≡ w) × (bytes ≡ [])
   whole_is v w more [] e = (cc, refl)
   whole_is v w more (b ∷ bytes) e = cc
 
@@ -51,12 +51,12 @@ module _ {S V : Type 0} (p : Pattern) (z : V) (rule : S → ℕ → Next S V) (s
             (more r f
             (taking_more reading u at piece (stands s) (stands r) i (omega arith) t Quiet
             (reads-list p z (by_unit rule) start m true s (here i) (byte_at (at + i) (get_or piece i 0)) true r (Go r) refl locked (sym k) refl refl t.list)
-            (reads-step p z (by_unit rule) start m true s (here i) (get_or piece i 0) (at + i) (Go r) refl locked (sym k) t.list) refl refl))
-        by (Stop w) k f more =
+            (reads-step p z (by_unit rule) start m true s (here i) (byte_at (at + i) (get_or piece i 0)) (Go r) refl locked (sym k) t.list) refl refl))
+        by (End w) k f more =
             let same = whole_is w v (λ r. walk rule r (take n (drop (i + 1) piece))) (take n (drop (i + 1) piece)) f in
             subst (λ (c : ℕ). Takes reading (stands start) u at piece c (Some (Item 0 v))) (let q = none_left n i h same.1 in omega arith)
             (subst (λ (y : V). Takes reading (stands start) u at piece (i + 1) (Some (Item 0 y))) same.0
             (takes_ended reading u at piece (stands s) (stands start) i (omega arith) t (Item 0 w)
-            (reads-list p z (by_unit rule) start m true s (here i) (byte_at (at + i) (get_or piece i 0)) true start (Stop w) refl locked (sym k) refl refl t.list)
-            (reads-step p z (by_unit rule) start m true s (here i) (get_or piece i 0) (at + i) (Stop w) refl locked (sym k) t.list)))
+            (reads-list p z (by_unit rule) start m true s (here i) (byte_at (at + i) (get_or piece i 0)) true start (End w) refl locked (sym k) refl refl t.list)
+            (reads-step p z (by_unit rule) start m true s (here i) (byte_at (at + i) (get_or piece i 0)) (End w) refl locked (sym k) t.list)))
         by (Fail r) k f more = cc

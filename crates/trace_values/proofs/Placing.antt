@@ -3,7 +3,7 @@ use Rattle.std.proofs.Common.{◌≡◌, ℕ, suc, ◌+◌, List, [], ◌∷◌,
 use Rattle.std.proofs.lemmas.List.{map-append}
 use Rattle.trace_values.specs.declared.fault.Reason.{Reason}
 use Rattle.trace_values.specs.declared.next.Next.{Next}
-use Rattle.trace_values.specs.declared.next.Next.TheVariants.{Go, Stop, Fail}
+use Rattle.trace_values.specs.declared.next.Next.TheVariants.{Go, End, Fail}
 use Rattle.trace_values.specs.Placed.{Placed, units_of, byte_at, placed_from, placed}
 use Rattle.trace_values.specs.Grammar.{IsFront, InUnits}
 use Rattle.trace_values.specs.Walk.{Walked, Within, after, walk, Decides, by_unit}
@@ -47,8 +47,8 @@ units_of-unplaced (n ∷ u) = ap (λ (l : List ℕ). n ∷ l) (units_of-unplaced
 module _ {S V : Type 0} (rule : S → ℕ → Next S V) where
   after_units : (x : Next S V) (k l : S → Walked S V) (r : List Placed) → ((t : S) → k t ≡ l t) → after x k r ≡ after x l (units_of r)
   after_units (Go t) k l r h = h t
-  after_units (Stop v) k l [] h = refl
-  after_units (Stop v) k l (b ∷ r) h = refl
+  after_units (End v) k l [] h = refl
+  after_units (End v) k l (b ∷ r) h = refl
   after_units (Fail e) k l r h = refl
 
   pub walk_units : (s : S) (r : List Placed) → walk (by_unit rule) s r ≡ walk rule s (units_of r)

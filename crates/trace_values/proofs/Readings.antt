@@ -4,7 +4,7 @@ use Rattle.std.proofs.lemmas.List.{append_cancel_left, length_push}
 use Rattle.trace_values.specs.Placed.{Place, Placed}
 use Rattle.trace_values.specs.declared.fault.Reason.{Reason}
 use Rattle.trace_values.specs.declared.next.Next.{Next}
-use Rattle.trace_values.specs.declared.next.Next.TheVariants.{Go, Stop, Fail}
+use Rattle.trace_values.specs.declared.next.Next.TheVariants.{Go, End, Fail}
 use Rattle.trace_values.specs.Grammar.{IsFront}
 use Rattle.trace_values.specs.Walk.{Within, Whole, Broken, walk, Decides}
 use Rattle.trace_values.specs.Reading.{Reading, Splits, IsFirstFault, Ends, IsReading, Progress, with_unit, advance, progress_from, unread, progress, reading}
@@ -72,7 +72,7 @@ module _ {S V : Type 0} (Spells : V → List Placed → Type 0) (why : List Plac
 
   step_at : (u : List Placed) (p : Progress S V) (b : Placed) (n : Next S V) (f : Option (Place × Reason)) →
       rule p.state b ≡ n → p.fault ≡ f → Keeps u p → Keeps (u ++ b ∷ []) (with_unit start p b n f)
-  step_at u p b (Stop v) None e g k = record {
+  step_at u p b (End v) None e g k = record {
     splits = splits_item p.items p.rest (u ++ b ∷ []) b v (splits_more p.items p.rest u (b ∷ []) k.splits)
         (d.sound v _ (walk_push rule start p.state p.rest b (subst (λ (f : Option (Place × Reason)). Kept p.rest p.state f) g k.kept) ∙ ap (λ (n : Next S V). walked rule n) e));
     kept = refl;

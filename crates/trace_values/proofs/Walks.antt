@@ -2,7 +2,7 @@
 use Rattle.std.proofs.Common.{◌≡◌, List, [], ◌∷◌, ◌++◌, refl, sym, ◌∙◌, ap, subst, inl, inr, append_assoc, append-nil}
 use Rattle.trace_values.specs.declared.fault.Reason.{Reason}
 use Rattle.trace_values.specs.declared.next.Next.{Next}
-use Rattle.trace_values.specs.declared.next.Next.TheVariants.{Go, Stop, Fail}
+use Rattle.trace_values.specs.declared.next.Next.TheVariants.{Go, End, Fail}
 use Rattle.trace_values.specs.Grammar.{PrefixLaw, IsFront}
 use Rattle.trace_values.proofs.Lists.{fronts_meet}
 use Rattle.trace_values.specs.Walk.{Walked, Within, Whole, Beyond, Broken, after, walk, Decides}
@@ -10,8 +10,8 @@ use Rattle.trace_values.specs.Walk.{Walked, Within, Whole, Beyond, Broken, after
 module _ {U S V : Type 0} (rule : S → U → Next S V) where
   after_within : (x : Next S V) (k l : S → Walked S V) (u w : List U) (s : S) → ((t : S) → k t ≡ Within s → l t ≡ walk rule s w) → after x k u ≡ Within s → after x l (u ++ w) ≡ walk rule s w
   after_within (Go t) k l u w s h e = h t e
-  after_within (Stop v) k l [] w s h e = cc
-  after_within (Stop v) k l (c ∷ u) w s h e = cc
+  after_within (End v) k l [] w s h e = cc
+  after_within (End v) k l (c ∷ u) w s h e = cc
   after_within (Fail f) k l u w s h e = cc
 
   -- behind units that go on, the walk goes on from their state
@@ -22,12 +22,12 @@ module _ {U S V : Type 0} (rule : S → U → Next S V) where
   -- what a rule says, as the walk of its unit
   abbrev pub walked : Next S V → Walked S V
   walked (Go s) = Within s
-  walked (Stop v) = Whole v
+  walked (End v) = Whole v
   walked (Fail e) = Broken e
 
   after_one : (x : Next S V) → after {U = U} x (λ t. Within t) [] ≡ walked x
   after_one (Go t) = refl
-  after_one (Stop v) = refl
+  after_one (End v) = refl
   after_one (Fail e) = refl
 
   pub walk_one : (s : S) (b : U) → walk rule s (b ∷ []) ≡ walked (rule s b)
@@ -38,8 +38,8 @@ module _ {U S V : Type 0} (rule : S → U → Next S V) where
 
   after_whole : (x : Next S V) (k l : S → Walked S V) (u : List U) (b : U) (w : List U) (v : V) → ((t : S) → k t ≡ Whole v → l t ≡ Beyond) → after x k u ≡ Whole v → after x l (u ++ (b ∷ w)) ≡ Beyond
   after_whole (Go t) k l u b w v h e = h t e
-  after_whole (Stop z) k l [] b w v h e = refl
-  after_whole (Stop z) k l (c ∷ u) b w v h e = refl
+  after_whole (End z) k l [] b w v h e = refl
+  after_whole (End z) k l (c ∷ u) b w v h e = refl
   after_whole (Fail f) k l u b w v h e = cc
 
   -- nothing stands behind a whole spelling
@@ -49,8 +49,8 @@ module _ {U S V : Type 0} (rule : S → U → Next S V) where
 
   after_broken : (x : Next S V) (k l : S → Walked S V) (u w : List U) (f : Reason) → ((t : S) → k t ≡ Broken f → l t ≡ Broken f) → after x k u ≡ Broken f → after x l (u ++ w) ≡ Broken f
   after_broken (Go t) k l u w f h e = h t e
-  after_broken (Stop z) k l [] w f h e = cc
-  after_broken (Stop z) k l (c ∷ u) w f h e = cc
+  after_broken (End z) k l [] w f h e = cc
+  after_broken (End z) k l (c ∷ u) w f h e = cc
   after_broken (Fail g) k l u w f h e = e
 
   -- and no front stands behind a fault

@@ -2,7 +2,7 @@
 use Rattle.std.proofs.Common.{◌≡◌, List, [], ◌∷◌, ◌++◌, refl, sym, ◌∙◌, ap, append_assoc, append-nil, None}
 use Rattle.trace_values.specs.declared.fault.Reason.{Reason}
 use Rattle.trace_values.specs.declared.next.Next.{Next}
-use Rattle.trace_values.specs.declared.next.Next.TheVariants.{Go, Stop, Fail}
+use Rattle.trace_values.specs.declared.next.Next.TheVariants.{Go, End, Fail}
 use Rattle.trace_values.specs.Placed.{Place, Placed}
 use Rattle.trace_values.specs.Walk.{Walked, Within, Whole, after, walk, Decides}
 use Rattle.trace_values.specs.Reading.{Progress, with_unit, progress_from}
@@ -17,11 +17,11 @@ module _ {S V : Type 0} (rule : S → Placed → Next S V) (start : S) where
   not_whole : (s : S) (v : V) → (let p : Walked S V = Within s in let q : Walked S V = Whole v in p ≡ q) → ⊥
   not_whole s v e = cc
 
-  never_within : (v : V) (w : List Placed) (t : S) (more : S → Walked S V) → after (Stop v) more w ≡ Within t → ⊥
+  never_within : (v : V) (w : List Placed) (t : S) (more : S → Walked S V) → after (End v) more w ≡ Within t → ⊥
   never_within v [] t more h = cc
   never_within v (c ∷ w) t more h = cc
 
-  never_whole : (z v : V) (w : List Placed) (l : Placed) (more : S → Walked S V) → after (Stop z) more (w ++ l ∷ []) ≡ Whole v → ⊥
+  never_whole : (z v : V) (w : List Placed) (l : Placed) (more : S → Walked S V) → after (End z) more (w ++ l ∷ []) ≡ Whole v → ⊥
   never_whole z v [] l more h = cc
   never_whole z v (c ∷ w) l more h = cc
 
@@ -38,7 +38,7 @@ module _ {S V : Type 0} (rule : S → Placed → Next S V) (start : S) where
     by (Go x) k h more =
         ap (λ (n : Next S V). progress_from rule start (with_unit start (at_state items r s) b n None) w) k
         ∙ more x h ∙ ap (λ (l : List Placed). at_state items l t) (append_assoc r (b ∷ []) w)
-    by (Stop v) k h more = absurd (never_within v w t (λ x. walk rule x w) h)
+    by (End v) k h more = absurd (never_within v w t (λ x. walk rule x w) h)
     by (Fail f) k h more = cc
 
   -- units that end a value do so with the last of them
@@ -47,14 +47,14 @@ module _ {S V : Type 0} (rule : S → Placed → Next S V) (start : S) where
   whole_reads [] l items r s v e = by (rule s l) refl e where
     by : (n : Next S V) → rule s l ≡ n → after {U = Placed} n (λ x. Within x) [] ≡ Whole v → with_unit start (at_state items r s) l (rule s l) None ≡ ended items v l.place
     by (Go x) k h = absurd (not_whole x v h)
-    by (Stop z) k h = let same : z ≡ v = cc in ap (λ (n : Next S V). with_unit start (at_state items r s) l n None) k ∙ ap (λ (y : V). ended items y l.place) same
+    by (End z) k h = let same : z ≡ v = cc in ap (λ (n : Next S V). with_unit start (at_state items r s) l n None) k ∙ ap (λ (y : V). ended items y l.place) same
     by (Fail f) k h = cc
   whole_reads (b ∷ w) l items r s v e = by (rule s b) refl e (λ x h. whole_reads w l items (r ++ b ∷ []) x v h) where
     by : (n : Next S V) → rule s b ≡ n → after n (λ x. walk rule x (w ++ l ∷ [])) (w ++ l ∷ []) ≡ Whole v →
         ((x : S) → walk rule x (w ++ l ∷ []) ≡ Whole v → progress_from rule start (at_state items (r ++ b ∷ []) x) (w ++ l ∷ []) ≡ ended items v l.place) →
         progress_from rule start (with_unit start (at_state items r s) b (rule s b) None) (w ++ l ∷ []) ≡ ended items v l.place
     by (Go x) k h more = ap (λ (n : Next S V). progress_from rule start (with_unit start (at_state items r s) b n None) (w ++ l ∷ [])) k ∙ more x h
-    by (Stop z) k h more = absurd (never_whole z v w l (λ x. walk rule x (w ++ l ∷ [])) h)
+    by (End z) k h more = absurd (never_whole z v w l (λ x. walk rule x (w ++ l ∷ [])) h)
     by (Fail f) k h more = cc
 
   -- behind values that leave nothing, a spelling is one value more

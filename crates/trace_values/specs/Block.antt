@@ -21,7 +21,7 @@ abbrev pub goes_on_after : {V : Type 0} → Option (Step V) → Bool
 goes_on_after None = true
 goes_on_after (Some step) = goes_on step
 
--- a fault stands at this offset
+-- a fault is at this offset
 abbrev pub StandsAt : {V : Type 0} → ℕ → Option (Step V) → Type 0
 StandsAt at (Some (Faulty f)) = f.at ≡ at
 StandsAt at step = Unit {0}
@@ -33,7 +33,7 @@ StopsFor bytes length (Some Quiet) = ⊥
 StopsFor bytes length (Some Skipping) = ⊥
 StopsFor bytes length (Some step) = Unit {0}
 
--- Behind u the machine took so many bytes of the piece, whose first stands at this offset. The reading
+-- After u the machine took this many bytes of the piece, whose first is at this offset. The reading
 -- grew by the answer to the last of them alone, and had no fault before it.
 pub record Takes {V : Type 0} (reading : List Placed → Stream V) (stands : List Placed → Type 0) (u : List Placed) (at : ℕ) (piece : List ℕ) (bytes : ℕ) (step : Option (Step V)) : Type 0 where
   pub list : stands (u ++ placed_from at (take bytes piece))

@@ -1,8 +1,5 @@
 -- Grammars: which lists of units spell which values.
 use Rattle.std.specs.Prelude.{◌≡◌, ℕ, List, ◌++◌}
-use Rattle.trace_values.specs.declared.fault.Reason.{Reason}
-use Rattle.trace_values.specs.declared.next.Next.{Next}
-use Rattle.trace_values.specs.declared.next.Next.TheVariants.{Go, Stop, Fail}
 use Rattle.trace_values.specs.Placed.{Placed, units_of}
 
 -- One list spells at most one value, and no spelling begins another.
@@ -17,10 +14,3 @@ IsFront {U} {V} Spells r = (v : V) × (w : List U) × Spells v (r ++ w)
 -- where spellings look at the units alone, and not at their places
 abbrev pub InUnits : {V : Type 0} → (V → List ℕ → Type 0) → V → List Placed → Type 0
 InUnits Spells v r = Spells v (units_of r)
-
--- What is said of units up to one more: they go on and spell nothing yet, they spell a value, or they are no front.
--- The cases exclude each other, so each comes exactly where the grammar has it.
-abbrev pub Says : {U S V : Type 0} → (V → List U → Type 0) → (List U → Reason) → Next S V → List U → Type 0
-Says {V = V} Spells why (Go s) r = IsFront Spells r × ((v : V) → Spells v r → ⊥)
-Says Spells why (Stop v) r = Spells v r
-Says Spells why (Fail e) r = (IsFront Spells r → ⊥) × (e ≡ why r)

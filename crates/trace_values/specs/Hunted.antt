@@ -1,28 +1,25 @@
 -- The reading of a list of units in a hunt for a pattern that is a run of a unit and then another unit.
+-- Here the hunt is computed unit by unit. It finds the least place of the pattern (Hunt.IsFirst), and from there on the
+-- list is read as any other: that is what itm_codec::laws::hunt_law and deformatter::laws::hunt_law say.
 use Rattle.std.specs.Prelude.{◌≡◌, ℕ, suc, ◌-◌, List, [], ◌∷◌, ◌++◌, replicate, Bool, false, ◌==◌, ◌&&◌, nat_lt, if◌then◌else◌, Option, None, Some}
 use Rattle.trace_values.specs.declared.next.Next.{Next}
+use Rattle.trace_values.specs.declared.pattern.Pattern.{Pattern}
 use Rattle.trace_values.specs.Placed.{Place, Placed}
 use Rattle.trace_values.specs.Reading.{Progress, advance}
-use Rattle.trace_values.specs.Standing.{Stands}
+use Rattle.trace_values.specs.Standing.{Keeps}
 use Rattle.trace_values.specs.Stream.{Stream, Notice, shown}
-
--- so many of a unit, and then the last
-pub record Pattern : Type 0 where
-  pub unit : ℕ
-  pub most : ℕ
-  pub last : ℕ
 
 -- the pattern's units
 abbrev pub pattern_of : Pattern → List ℕ
 pattern_of p = replicate p.most p.unit ++ p.last ∷ []
 
--- the lock: the units skipped, where it is, and the reading from the pattern on
+-- the lock: how many units were skipped, the place of the pattern's last unit, and the reading from the pattern on
 pub record Found (S V : Type 0) : Type 0 where
   pub skipped : ℕ
   pub place : Place
   pub reading : Progress S V
 
--- a hunt: how many units so far, the run at their end, and the lock
+-- a hunt: how many units there are so far, the run at their end, and the lock
 pub record Hunt (S V : Type 0) : Type 0 where
   pub units : ℕ
   pub run : ℕ
@@ -70,15 +67,15 @@ hunted_by units (Some f) = shown ((Notice f.skipped, f.place) ∷ []) f.skipped 
 abbrev pub hunted : {S V : Type 0} → Pattern → V → (S → Placed → Next S V) → S → List Placed → Stream V
 hunted p v rule start u = hunted_by (hunt p v rule start u).units (hunt p v rule start u).found
 
--- it has not locked, and has this run behind so many units
+-- it has not locked, and has this run after this many units
 pub record Seeks {S V : Type 0} (p : Pattern) (v : V) (rule : S → Placed → Next S V) (start : S) (run skipped : ℕ) (u : List Placed) : Type 0 where
   pub run_is : (hunt p v rule start u).run ≡ run
   pub units_is : (hunt p v rule start u).units ≡ skipped
   pub none : (hunt p v rule start u).found ≡ None
 
--- it has locked behind so many units, and stands for the reading from there
+-- it has locked after this many units, and what it keeps is that of the reading from there
 pub record Follows {S V : Type 0} (p : Pattern) (v : V) (rule : S → Placed → Next S V) (start : S) (skipped : ℕ) (live : Bool) (state : S) (u : List Placed) : Type 0 where
   pub found : Found S V
   pub some : (hunt p v rule start u).found ≡ Some found
   pub skipped_is : found.skipped ≡ skipped
-  pub stands : Stands live state found.reading
+  pub stands : Keeps live state found.reading

@@ -10,3 +10,6 @@ pub mod Block
 pub mod Hunt
 pub mod Hunted
 pub mod Moded
+pub mod Nibbles
+pub mod Decorated
+pub mod Rows

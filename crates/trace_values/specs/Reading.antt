@@ -2,7 +2,7 @@
 use Rattle.std.specs.Prelude.{◌≡◌, ◌≤◌, List, [], ◌∷◌, ◌++◌, Option, None, Some, length}
 use Rattle.trace_values.specs.declared.fault.Reason.{Reason}
 use Rattle.trace_values.specs.declared.next.Next.{Next}
-use Rattle.trace_values.specs.declared.next.Next.TheVariants.{Go, Stop, Fail}
+use Rattle.trace_values.specs.declared.next.Next.TheVariants.{Go, End, Fail}
 use Rattle.trace_values.specs.Placed.{Place, Placed}
 use Rattle.trace_values.specs.Grammar.{IsFront}
 
@@ -18,7 +18,7 @@ Splits Spells [] rest u = u ≡ rest
 Splits Spells (item ∷ items) rest u =
     (a : List Placed) × (l : Placed) × (w : List Placed) × Spells item.0 (a ++ l ∷ []) × (u ≡ a ++ (l ∷ w)) × (item.1 ≡ l.place) × Splits Spells items rest w
 
--- The fault stands at the first unit of the rest with which it is no front of a spelling.
+-- The fault is at the first unit of the rest with which it is no front of a spelling.
 pub record IsFirstFault {V : Type 0} (Spells : V → List Placed → Type 0) (why : List Placed → Reason) (rest : List Placed) (fault : Place × Reason) : Type 0 where
   pub before : List Placed
   pub unit : Placed
@@ -50,7 +50,7 @@ pub record Progress (S V : Type 0) : Type 0 where
 -- with one more unit, of which the rule says this
 abbrev pub with_unit : {S V : Type 0} → S → Progress S V → Placed → Next S V → Option (Place × Reason) → Progress S V
 with_unit start p b (Go s) None = record { items = p.items; rest = p.rest ++ b ∷ []; fault = None; state = s }
-with_unit start p b (Stop v) None = record { items = p.items ++ (v, b.place) ∷ []; rest = []; fault = None; state = start }
+with_unit start p b (End v) None = record { items = p.items ++ (v, b.place) ∷ []; rest = []; fault = None; state = start }
 with_unit start p b (Fail e) None = record { items = p.items; rest = p.rest ++ b ∷ []; fault = Some (b.place, e); state = p.state }
 with_unit start p b n (Some f) = record { items = p.items; rest = p.rest ++ b ∷ []; fault = Some f; state = p.state }
 

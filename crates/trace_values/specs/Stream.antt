@@ -1,4 +1,4 @@
--- What a source reads as, and how the answers of a machine follow the readings of the list of bytes that it stands for.
+-- What a source reads as, and how a machine's answers follow the readings of the list of bytes that it stands for.
 use Rattle.std.specs.Prelude.{◌≡◌, ℕ, ◌+◌, ◌*◌, ◌≤◌, List, [], ◌∷◌, ◌++◌, Bool, true, false, Option, None, Some, is_none, length, map}
 use Rattle.trace_values.specs.declared.fault.Reason.{Reason}
 use Rattle.trace_values.specs.declared.step.Step.{Step}
@@ -6,12 +6,13 @@ use Rattle.trace_values.specs.declared.step.Step.TheVariants.{Quiet, Skipping, I
 use Rattle.trace_values.specs.Placed.{Place}
 use Rattle.trace_values.specs.Reading.{Progress}
 
--- what a source gives at a place: the notice of its lock with the units skipped, or an item
+-- what a source gives at a place: the notice of its lock with the number of units skipped, or an item
 pub data Said (V : Type 0) : Type 0 where
   Notice : ℕ → Said V
   Kept : V → Said V
 
--- What a source's list of bytes reads as: its notice and items with their places, the fault, the units of the unfinished packet, and the hunt.
+-- What a source's list of bytes reads as: its notice and items with their places, the fault, the number of units of
+-- the unfinished packet, the number of units skipped, and whether the reading has begun.
 pub record Stream (V : Type 0) : Type 0 where
   pub given : List (Said V × Place)
   pub fault : Option (Place × Reason)
@@ -23,7 +24,7 @@ pub record Stream (V : Type 0) : Type 0 where
 abbrev pub kept : {V : Type 0} → List (V × Place) → List (Said V × Place)
 kept items = map (λ x. (Kept x.0, x.1)) items
 
--- a reading behind so many skipped units, with what was given before its items
+-- a reading after this many skipped units, with what was given before its items
 abbrev pub shown : {S V : Type 0} → List (Said V × Place) → ℕ → Progress S V → Stream V
 shown front skipped p = record { given = front ++ kept p.items; fault = p.fault; held = length p.rest; skipped = skipped; locked = true }
 
@@ -57,6 +58,11 @@ StepFits fits (Item half v) = fits v
 StepFits fits (Locked skipped half v) = fits v
 StepFits fits (Faulty f) = Unit {0}
 
+-- a lock tells this number of skipped units
+abbrev pub LocksAfter : {V : Type 0} → ℕ → Step V → Type 0
+LocksAfter count (Locked skipped half v) = skipped ≡ count
+LocksAfter count s = Unit {0}
+
 -- what a step says of the hunt, and a fault of its offset
 abbrev pub HuntBy : {V : Type 0} → Stream V → Stream V → ℕ → Step V → Type 0
 HuntBy old new at Quiet = (old.locked ≡ true) × (new.locked ≡ true) × (new.skipped ≡ old.skipped)
@@ -71,31 +77,38 @@ pub record Grows {V : Type 0} (old new : Stream V) (at : ℕ) (step : Step V) : 
   pub fault : new.fault ≡ fault_by at step
   pub hunt : HuntBy old new at step
 
--- What a machine shows of the reading of a list of this many bytes: of the hunt and the unfinished packet only while it is live.
+-- What a machine shows of the reading of a list of this many bytes: of the unfinished packet only while it is live.
 pub record Shows {V : Type 0} (live locked : Bool) (held skipped bytes : ℕ) (s : Stream V) : Type 0 where
   pub live_is : live ≡ is_none s.fault
-  pub locked_is : live ≡ true → locked ≡ s.locked
+  pub locked_is : locked ≡ s.locked
+  pub skipped_is : skipped ≡ s.skipped
   pub held_is : live ≡ true → held ≡ s.held
-  pub skipped_is : live ≡ true → skipped ≡ s.skipped
   pub room : live ≡ true → held + skipped ≤ 2 * bytes
 
--- behind a fault nothing is read
+-- after a fault nothing is read
 pub record Settled {V : Type 0} (old new : Stream V) : Type 0 where
   pub given : new.given ≡ old.given
   pub fault : new.fault ≡ old.fault
 
--- all of these stand at this offset, the first half before the second
+-- This many more units are held; nothing is given or skipped, and no reading begins.
+pub record Holds {V : Type 0} (units : ℕ) (old new : Stream V) : Type 0 where
+  pub given : new.given ≡ old.given
+  pub held : new.held ≡ old.held + units
+  pub skipped : new.skipped ≡ old.skipped
+  pub locked : new.locked ≡ old.locked
+
+-- all of these are at this offset, and none is at an earlier half than the one before it
 abbrev pub AllAt : {W : Type 0} → ℕ → ℕ → List (W × Place) → Type 0
 AllAt at half [] = Unit {0}
 AllAt at half (x ∷ xs) = (x.1.at ≡ at) × (half ≤ x.1.half) × AllAt at x.1.half xs
 
--- a new fault stands at this offset, and an old one stays
+-- a new fault is at this offset, and an old one stays
 abbrev pub FaultAt : ℕ → Option (Place × Reason) → Option (Place × Reason) → Type 0
 FaultAt at None (Some f) = f.0.at ≡ at
 FaultAt at None None = Unit {0}
 FaultAt at (Some f) new = new ≡ Some f
 
--- With one more byte at this offset a reading has more, and what is more stands there.
+-- With one more byte at this offset a reading has more, and what is more is there.
 pub record Rises {V : Type 0} (old new : Stream V) (at : ℕ) : Type 0 where
   pub more : List (Said V × Place)
   pub given : new.given ≡ old.given ++ more

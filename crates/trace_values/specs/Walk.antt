@@ -2,12 +2,12 @@
 use Rattle.std.specs.Prelude.{◌≡◌, ℕ, List, [], ◌∷◌, ◌++◌}
 use Rattle.trace_values.specs.declared.fault.Reason.{Reason}
 use Rattle.trace_values.specs.declared.next.Next.{Next}
-use Rattle.trace_values.specs.declared.next.Next.TheVariants.{Go, Stop, Fail}
+use Rattle.trace_values.specs.declared.next.Next.TheVariants.{Go, End, Fail}
 use Rattle.trace_values.specs.Placed.{Placed}
 use Rattle.trace_values.specs.Grammar.{IsFront}
 
 -- A list of units from a value's place on: the front of a spelling, which leaves the rule in a state;
--- a whole spelling; units behind a whole spelling; or, from the unit of the fault on, no front at all.
+-- a whole spelling; units after a whole spelling; or, from the unit of the fault on, no front at all.
 pub data Walked (S V : Type 0) : Type 0 where
   Within : S → Walked S V
   Whole : V → Walked S V
@@ -17,8 +17,8 @@ pub data Walked (S V : Type 0) : Type 0 where
 -- what the list is, by what the rule says of its first unit and how it walks on
 abbrev pub after : {U S V : Type 0} → Next S V → (S → Walked S V) → List U → Walked S V
 after (Go s) more u = more s
-after (Stop v) more [] = Whole v
-after (Stop v) more (b ∷ u) = Beyond
+after (End v) more [] = Whole v
+after (End v) more (b ∷ u) = Beyond
 after (Fail e) more u = Broken e
 
 -- the walk of a rule over a list of units, from a state on

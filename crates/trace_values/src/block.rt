@@ -2,7 +2,7 @@
 
 ghost use Rattle.std.specs.Prelude.{◌≡◌, ℕ, ◌+◌, ◌*◌, ◌^◌, ◌<◌, ◌≤◌, List, IfSome, length, true};
 ghost use Rattle.trace_values.specs.Placed.{Placed};
-ghost use Rattle.trace_values.specs.Stream.{StepFits};
+ghost use Rattle.trace_values.specs.Stream.{StepFits, LocksAfter};
 ghost use Rattle.trace_values.specs.Block.{StopsFor, Takes, goes_on_after};
 
 use crate::machine::Machine;
@@ -18,7 +18,7 @@ pub struct Block<T> {
     pub step: Option<Step<T>>,
 }
 
-/// Feeds a piece, whose first byte stands at this offset of the capture, up to the first byte to which the
+/// Feeds a piece, whose first byte is at this offset of the capture, up to the first byte to which the
 /// answer is neither `Quiet` nor `Skipping`, or to the piece's end.
 ///
 /// The piece has a byte, and ends below the offset 2^60. The machine has met no fault, and the units that
@@ -35,8 +35,10 @@ pub fn feed_block<M: Machine>(machine: &mut M, at: u64, piece: &[u8]) -> Block<M
     ensures takes { (u : List Placed) → M.stands machine.old u →
         Takes (M.reading machine.old) (M.stands machine.new) u at piece.now result.bytes result.step }
     ensures live { M.live machine.new ≡ goes_on_after result.step }
+    ensures lock { IfSome result.step (LocksAfter (M.skipped_units machine.new)) }
     ensures fits { IfSome result.step (StepFits M.fits) }
-    ensures few { M.held_units machine.new + M.skipped_units machine.new ≤ M.held_units machine.old + M.skipped_units machine.old + 2 * result.bytes }
+    ensures few { M.held_units machine.new + M.skipped_units machine.new ≤
+        M.held_units machine.old + M.skipped_units machine.old + 2 * result.bytes }
 {
     for (index, byte) in piece.iter().enumerate() {
         match machine.feed(at + index as u64, *byte) {
@@ -85,7 +87,9 @@ mod tests {
 
         ghost held_units = { λ m. 0 };
 
-        ghost skipped_units = { λ m. 0 };
+        ghost skipped_units = { λ m. 9 };
+
+        ghost units_per_byte = { 0 };
 
         ghost fits = { λ item. Unit {0} };
 
@@ -96,6 +100,10 @@ mod tests {
         ghost settles = { λ m u w e. record { given = refl; fault = refl } };
 
         ghost rises = { λ m u at byte. record { more = []; given = refl; all = tt; fault = tt } };
+
+        ghost falls = { λ m u at byte f. record { given = refl; held = refl; skipped = refl; locked = refl } };
+
+        ghost keeps = { λ m u at byte s l f. absurd s };
 
         fn feed(&mut self, at: u64, byte: u8) -> Step<(u64, u8)> {
             self.live = byte != 3;
@@ -126,7 +134,7 @@ mod tests {
         }
 
         fn skipped(&self) -> u64 {
-            0
+            9
         }
     }
 
@@ -138,7 +146,7 @@ mod tests {
         }
     }
 
-    /// Pieces whose first byte stands at 100, with how many of their bytes are taken and what the last says.
+    /// Pieces whose first byte is at 100, with how many of their bytes are taken and what the last says.
     #[test]
     fn takes_a_piece_up_to_the_first_byte_that_tells(rt: HostRuntime) {
         let item = |at, byte| Some(Step::Item {

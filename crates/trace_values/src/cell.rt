@@ -6,7 +6,9 @@ ghost use Rattle.trace_values.specs.Cells.{source_id};
 use std::marker::Model;
 
 /// The ID of a trace source, 0 to 126.
-#[derive(Clone, Copy, Debug, PartialEq, Eq, Drop)]
+///
+/// The default one is the null source, 0. It only fills the unused places of a buffer.
+#[derive(Clone, Copy, Debug, Default, PartialEq, Eq, Drop)]
 pub struct SourceId {
     number: u8,
 }
@@ -71,6 +73,11 @@ mod tests {
             };
             assert_eq!(rt; found, want, "{number}");
         }
+    }
+
+    #[test]
+    fn the_default_source_is_the_null_source(rt: HostRuntime) {
+        assert_eq!(rt; SourceId::default().number(), 0);
     }
 
     #[test]

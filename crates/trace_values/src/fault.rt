@@ -8,20 +8,26 @@ ghost use Rattle.trace_values.specs.Faults.{number_of, name_of};
 pub enum Reason {
     /// At the port, the bytes are not those of a synchronisation.
     BadSync,
-    /// At the port, a synchronisation stands inside a frame.
+    /// At the port, a synchronisation is inside a frame.
     SyncInFrame,
     /// No packet has this header.
     ReservedHeader,
     /// A run of zero bytes that is no ITM synchronisation packet: too short, or ended by another byte than 80.
     BadItmSync,
-    /// A timestamp goes on behind the last byte that it may have.
+    /// A timestamp goes on after the last byte that it may have.
     LongStamp,
     /// A timestamp ends before it has as many bytes as it must have.
     ShortStamp,
+    /// No STP packet has this opcode.
+    Unsupported,
+    /// No STP timestamp has this size.
+    StampSize,
+    /// A run of nibbles F that is no STP synchronisation packet: too short, or ended by another nibble than 0.
+    BadAsync,
 }
 
 impl Reason {
-    /// The reason's number, as a fault line has it, 1 to 6.
+    /// The reason's number, as a fault line has it, 1 to 9.
     pub fn number(&self) -> u8
         ensures { result ≡ number_of self.now }
     {
@@ -32,6 +38,9 @@ impl Reason {
             Reason::BadItmSync => 4,
             Reason::LongStamp => 5,
             Reason::ShortStamp => 6,
+            Reason::Unsupported => 7,
+            Reason::StampSize => 8,
+            Reason::BadAsync => 9,
         }
     }
 
@@ -46,6 +55,9 @@ impl Reason {
             Reason::BadItmSync => "BadItmSync",
             Reason::LongStamp => "LongStamp",
             Reason::ShortStamp => "ShortStamp",
+            Reason::Unsupported => "Unsupported",
+            Reason::StampSize => "StampSize",
+            Reason::BadAsync => "BadAsync",
         }
     }
 }
@@ -74,6 +86,9 @@ mod tests {
             (Reason::BadItmSync, 4, "BadItmSync"),
             (Reason::LongStamp, 5, "LongStamp"),
             (Reason::ShortStamp, 6, "ShortStamp"),
+            (Reason::Unsupported, 7, "Unsupported"),
+            (Reason::StampSize, 8, "StampSize"),
+            (Reason::BadAsync, 9, "BadAsync"),
         ];
         for (reason, number, name) in table {
             assert_eq!(rt; reason.number(), number, "{reason:?}");

@@ -8,6 +8,8 @@ mod fault;
 mod machine;
 mod mode;
 mod next;
+mod pattern;
+pub mod rows;
 mod step;
 
 pub use block::{Block, feed_block};
@@ -16,4 +18,5 @@ pub use fault::{Fault, Reason};
 pub use machine::Machine;
 pub use mode::Mode;
 pub use next::Next;
+pub use pattern::Pattern;
 pub use step::Step;

@@ -1,8 +1,8 @@
 //! What reads a source's bytes one by one.
 
-ghost use Rattle.std.specs.Prelude.{◌≡◌, ℕ, ◌+◌, ◌^◌, ◌≤◌, ◌++◌, ◌∷◌, [], List, Bool, true, false, None, is_none, length};
+ghost use Rattle.std.specs.Prelude.{◌≡◌, ℕ, ◌+◌, ◌^◌, ◌<◌, ◌≤◌, ◌++◌, ◌∷◌, [], List, Bool, true, false, None, is_none, length};
 ghost use Rattle.trace_values.specs.Placed.{Placed, byte_at};
-ghost use Rattle.trace_values.specs.Stream.{Stream, Grows, Shows, Settled, Rises, StepFits, goes_on};
+ghost use Rattle.trace_values.specs.Stream.{Stream, Grows, Shows, Settled, Holds, Rises, StepFits, LocksAfter, goes_on};
 
 use crate::step::Step;
 
@@ -10,7 +10,10 @@ use crate::step::Step;
 ///
 /// It **stands for** a list of placed bytes if its kept parts are those that the reading of that list
 /// has. Several lists may have the same kept parts, and no machine keeps its history, so each clause
-/// holds for every list that the machine stood for before the call. A unit is a byte or a nibble.
+/// holds for every list that the machine stood for before the call. The clauses say something only of a
+/// machine that stands for some list: each constructor promises that its machine stands for the empty one.
+///
+/// A unit is a byte or a nibble.
 pub trait Machine {
     /// What it reads: a packet.
     type Item;
@@ -30,13 +33,16 @@ pub trait Machine {
     /// How many units of an unfinished item it holds.
     ghost held_units: { Self → ℕ };
 
-    /// How many units stand before its reading.
+    /// How many units are before its reading.
     ghost skipped_units: { Self → ℕ };
+
+    /// How many units a byte has: 1 where they are bytes, 2 where they are nibbles.
+    ghost units_per_byte: { ℕ };
 
     /// The item's numbers are in their ranges.
     ghost fits: { Self.Item → Type 0 };
 
-    /// Takes the next byte, which stands at this offset of the capture. It has met no fault, and holds and
+    /// Takes the next byte, which is at this offset of the capture. It has met no fault, and holds and
     /// skipped at most 2^60 units.
     fn feed(&mut self, at: u64, byte: u8) -> Step<Self::Item>
         requires live { live self.old ≡ true }
@@ -47,25 +53,28 @@ pub trait Machine {
         ensures step { (u : List Placed) → stands self.old u →
             Grows (reading self.old u) (reading self.old (u ++ byte_at at byte ∷ [])) at result }
         ensures live { live self.new ≡ goes_on result }
+        ensures lock { LocksAfter (skipped_units self.new) result }
         ensures fits { StepFits fits result }
-        ensures few { held_units self.new + skipped_units self.new ≤ held_units self.old + skipped_units self.old + 2 };
+        ensures few { held_units self.new + skipped_units self.new ≤
+            held_units self.old + skipped_units self.old + 2 };
 
-    /// False exactly behind a fault.
+    /// False exactly after a fault.
     fn is_live(&self) -> bool
         ensures { result ≡ live self.now };
 
-    /// True from the start where the reading begins with the first unit, and else from the lock on.
+    /// True from the start where the reading begins with the first unit, and else from the lock on, also
+    /// after a fault.
     fn is_locked(&self) -> bool
         ensures { result ≡ locked self.now };
 
-    /// How many units of an unfinished item it holds; 0 before the lock.
+    /// How many units of an unfinished item it holds: 0 before the lock, and after a fault those before the
+    /// fault's unit.
     fn held(&self) -> u64
-        requires { live self.now ≡ true }
         ensures { result ≡ held_units self.now };
 
-    /// How many units stand before the pattern that it hunted; before the lock, all units so far.
+    /// How many units are before the pattern that it hunted, also after a fault; before the lock, all units
+    /// so far; 0 where the reading begins with the first unit.
     fn skipped(&self) -> u64
-        requires { live self.now ≡ true }
         ensures { result ≡ skipped_units self.now };
 
     /// What it shows is what the reading of its list has.
@@ -79,6 +88,18 @@ pub trait Machine {
     ghost settles: { (m : Self) (u w : List Placed) → is_none (reading m u).fault ≡ false →
         Settled (reading m u) (reading m (u ++ w)) };
 
-    /// With one more byte there is more, and what is more stands at that byte.
-    ghost rises: { (m : Self) (u : List Placed) (at byte : ℕ) → Rises (reading m u) (reading m (u ++ byte_at at byte ∷ [])) at };
+    /// With one more byte there is more, and what is more is at that byte.
+    ghost rises: { (m : Self) (u : List Placed) (at byte : ℕ) →
+        Rises (reading m u) (reading m (u ++ byte_at at byte ∷ [])) at };
+
+    /// The byte of a fault, and each byte after it, gives nothing: the reading holds its units.
+    ghost falls: { (m : Self) (u : List Placed) (at byte : ℕ) →
+        is_none (reading m (u ++ byte_at at byte ∷ [])).fault ≡ false →
+        Holds units_per_byte (reading m u) (reading m (u ++ byte_at at byte ∷ [])) };
+
+    /// After a fault it holds what the reading held before the fault's byte, and that byte's units before
+    /// the fault's.
+    ghost keeps: { (m : Self) (u : List Placed) (at byte : ℕ) → stands m (u ++ byte_at at byte ∷ []) →
+        live m ≡ false → (reading m u).fault ≡ None →
+        ((reading m u).held ≤ held_units m) × (held_units m < (reading m u).held + units_per_byte) };
 }

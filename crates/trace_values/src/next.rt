@@ -8,7 +8,7 @@ pub enum Next<S, V> {
     /// The value goes on, in this state.
     Go(S),
     /// The unit ends this value.
-    Stop(V),
+    End(V),
     /// No value goes on so.
     Fail(Reason),
 }

@@ -8,14 +8,14 @@ use crate::fault::Fault;
 /// and 0 where the units are bytes.
 #[derive(Clone, Copy, Debug, PartialEq, Eq, Drop)]
 pub enum Step<T> {
-    /// It is reading, and neither an item nor a fault stands in this byte.
+    /// It is reading, and neither an item nor a fault is in this byte.
     Quiet,
     /// It hunts, and its pattern has not ended yet.
     Skipping,
     /// An item ended in this byte.
     Item { half: u8, item: T },
-    /// The pattern that it hunted ended in this byte, and is its first item. So many units stand before it.
+    /// The pattern that it hunted ended in this byte, and is its first item. This many units are before it.
     Locked { skipped: u64, half: u8, item: T },
-    /// The first fault of the grammar stands in this byte.
+    /// The first fault of the grammar is in this byte.
     Fault(Fault),
 }

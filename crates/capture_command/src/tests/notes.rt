@@ -105,6 +105,8 @@ fn notes_the_last_bytes_up_to_a_fault(rt: HostRuntime) -> Result<(), Fail> {
 #[derive(Drop)]
 struct Zeros {
     left: u64,
+    // The reads that found the end, up to 2^64 - 1.
+    empty_reads: u64,
 }
 
 impl Source for Zeros {
@@ -114,10 +116,15 @@ impl Source for Zeros {
 
     ghost faults = { λ _. 0 };
 
+    ghost empty_reads = { λ z. z.empty_reads };
+
     fn read(&mut self, buf: &mut [u8]) -> Result<usize, Failed> {
         let count = buf.len().min(self.left as usize);
         buf[..count].fill(0);
         self.left -= count as u64;
+        if count == 0 {
+            self.empty_reads = self.empty_reads.saturating_add(1);
+        }
         Ok(count)
     }
 }
@@ -136,7 +143,10 @@ fn one_byte_over_the_limit_is_too_many(rt: HostRuntime) -> Result<(), Fail> {
     for (left, status, text, note) in table {
         let mut room = [0; ROOM];
         let mut noted = [0; ROOM];
-        let mut input = Zeros { left };
+        let mut input = Zeros {
+            left,
+            empty_reads: 0,
+        };
         let mut output = MemorySink::new(&mut room, &[], &[]);
         let mut notes = MemorySink::new(&mut noted, &[], &[]);
         let got = answer(rt.alloc(), &ALIGNED, &mut input, &mut output, &mut notes)?;

@@ -44,7 +44,7 @@ fn check(
     for at in 0..bytes.len() {
         match partial.with_byte(bytes[at]) {
             Next::Go(next) => partial = next,
-            Next::Stop(packet) => {
+            Next::End(packet) => {
                 assert_eq!(rt; packets.get(found), Some(&(at, packet)));
                 partial = Partial::Header;
                 found += 1;

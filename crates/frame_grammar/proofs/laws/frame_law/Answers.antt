@@ -1,4 +1,4 @@
-use Rattle.frame_grammar.proofs.Pieces.{frame_bytes, frame_proper, frame_spelling}
+use Rattle.frame_grammar.proofs.Items.{frame_bytes, frame_proper, frame_spelling}
 use Rattle.frame_grammar.proofs.laws.frame_law.Goals as goal
 
 pub returns : goal.returns

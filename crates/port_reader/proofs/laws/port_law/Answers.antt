@@ -1,6 +1,6 @@
 use Rattle.std.specs.Prelude.{true, false}
 use Rattle.deformatter.specs.Reading.{port_stream}
-use Rattle.port_reader.specs.ReadingLaws.{framed_cells, bare_cells}
+use Rattle.port_reader.proofs.ReadingLaws.{framed_cells, bare_cells}
 use Rattle.port_reader.proofs.laws.port_law.Goals as goal
 
 pub returns : goal.returns

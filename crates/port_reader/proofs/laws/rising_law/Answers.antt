@@ -1,4 +1,4 @@
-use Rattle.port_reader.specs.ReadingLaws.{rises, frames_grow}
+use Rattle.port_reader.proofs.ReadingLaws.{rises, frames_grow}
 use Rattle.port_reader.proofs.laws.rising_law.Goals as goal
 
 pub returns : goal.returns

@@ -1,4 +1,4 @@
-use Rattle.port_reader.specs.ReadingLaws.{frames_have_runs}
+use Rattle.port_reader.proofs.ReadingLaws.{frames_have_runs}
 use Rattle.port_reader.proofs.laws.runs_law.Goals as goal
 
 pub returns : goal.returns

@@ -1,4 +1,4 @@
-use Rattle.port_reader.specs.ReadingLaws.{settles}
+use Rattle.port_reader.proofs.ReadingLaws.{settles}
 use Rattle.port_reader.proofs.laws.settled_law.Goals as goal
 
 pub returns : goal.returns

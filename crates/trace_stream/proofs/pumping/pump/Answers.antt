@@ -62,6 +62,7 @@ loop-got-preserved g c =
       pumping = subst (λ n. IsPumping (g.A.Action.stands c.feed_and_write-fed.new.action) (g.A.Action.faulty (g.A.Action.plan c.args.action.now)) (g.A.Action.text (g.A.Action.plan c.args.action.now)) (g.I.Source.left c.args.input.now) (g.I.Source.left c.read_next.new.input) (g.O.Sink.held c.args.output.now) (g.O.Sink.held c.feed_and_write-fed.new.output) c.feed_and_write-fed.new.outlet c.keep.new.self (c.loop-got.count + n)) count
           (pump_more _ _ _ _ _ _ _ _ _ _ _ _ _ _ c.loop-got.count piece c.loop-got.invariant.pumping lost _ fed keeps);
       within = omega arith;
+      no_empty_read = c.in-Ok.ensures.empty.1 (omega arith) ∙ c.loop-got.invariant.no_empty_read;
       read_later = omega (arith, c.in-Ok.ensures.cause.later);
       write_later = omega (arith, c.feed_and_write-fed.ensures.later);
     }

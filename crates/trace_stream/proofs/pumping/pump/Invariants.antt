@@ -11,6 +11,7 @@ invariant-loop-got g l = record {
   pumping : IsPumping (g.A.Action.stands l.action) (g.A.Action.faulty (g.A.Action.plan l.initial.action)) (g.A.Action.text (g.A.Action.plan l.initial.action))
       (g.I.Source.left l.initial.input) (g.I.Source.left l.input) (g.O.Sink.held l.initial.output) (g.O.Sink.held l.output) l.outlet l.recent l.count;
   within : l.count ≤ l.limit;
+  no_empty_read : g.I.Source.empty_reads l.input ≡ g.I.Source.empty_reads l.initial.input;
   read_later : g.I.Source.faults l.initial.input ≤ g.I.Source.faults l.input;
   write_later : g.O.Sink.faults l.initial.output ≤ g.O.Sink.faults l.output;
 }

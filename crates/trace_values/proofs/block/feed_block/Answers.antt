@@ -14,6 +14,7 @@ returns-in_default g c = record {
       takes_ended (g.M.Machine.reading c.args.machine.now) u c.args.at c.args.piece.now _ _ c.loop-index.index c.loop-index-test.true t c.feed.result (c.feed.ensures.list _ t.list)
       (subst (λ f. Grows (f (u ++ placed_from c.args.at (take c.loop-index.index c.args.piece.now))) (f ((u ++ placed_from c.args.at (take c.loop-index.index c.args.piece.now)) ++ byte_at (c.args.at + c.loop-index.index) (get_or c.args.piece.now c.loop-index.index 0) ∷ [])) (c.args.at + c.loop-index.index) c.feed.result) c.loop-index.invariant.same (c.feed.ensures.step _ t.list));
   live = c.feed.ensures.live;
+  lock = c.feed.ensures.lock;
   fits = c.feed.ensures.fits;
   few = omega (arith, c.feed.ensures.few, c.loop-index.invariant.few);
 }

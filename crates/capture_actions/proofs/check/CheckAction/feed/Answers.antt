@@ -1,31 +1,26 @@
-use Rattle.std.proofs.Common.{List, [], ◌++◌, take, append-nil, refl, sym, subst}
-use Rattle.trace_stream.specs.declared.action.Flow.{Flow}
-use Rattle.trace_stream.specs.Taken.{FlowAfter}
-use Rattle.trace_values.specs.declared.cell.Cell.{Cell}
-use Rattle.capture_plan.specs.declared.frames.FramesMode.{FramesMode}
-use Rattle.capture_actions.specs.CapturePort.{frames_mode}
-use Rattle.capture_actions.specs.Counters.{HasCounted}
-use Rattle.capture_actions.specs.Port.{port_of, IsPortFaulty}
-use Rattle.capture_actions.specs.PortGrowth.{Grew}
-use Rattle.capture_actions.proofs.Ports.{cells_have_runs}
+use Rattle.std.proofs.Common.{take, sym, subst, ◌+◌, ◌*◌}
+use Rattle.trace_stream.specs.declared.action.Taken.{Taken}
+use Rattle.trace_stream.specs.Taken.{HasTaken}
+use Rattle.capture_actions.specs.Checker.{Stands, plan_of}
+use Rattle.capture_actions.specs.Port.{IsPortFaulty}
+use Rattle.capture_actions.specs.Summary.{check_text}
+use Rattle.capture_actions.proofs.Ports.{plain_whole}
 use Rattle.capture_actions.proofs.check.CheckAction.feed.Goals as goal
 
+pub returns-in-Some-clause-fed : goal.returns-in-Some-clause-fed
+returns-in-Some-clause-fed c = λ seen s.
+    let plan = plan_of c.args.self.now in
+    let piece = c.args.piece.now in
+    subst (λ (t : Taken). HasTaken (Stands c.feed_frame.new.self) (IsPortFaulty plan) (check_text plan) seen (take t.bytes piece) c.args._outlet.now c.args._outlet.now t.flow) (sym c.feed_frame.ensures.taken)
+    (c.feed_frame.ensures.fed seen (take 16 piece) c.args._outlet.now s (plain_whole piece c.in-Some.frame.now c.in-Some.ensures.bytes c.in-Some.ensures.room c.in-Some.ensures.proper))
+
+pub returns-in-Some-gather_frame-clause-fed : goal.returns-in-Some-gather_frame-clause-fed
+returns-in-Some-gather_frame-clause-fed c = λ seen s.
+    let plan = plan_of c.args.self.now in
+    let piece = c.args.piece.now in
+    let halves = c.in-Some-gather_frame.gathered.halves in
+    subst (λ (t : Taken). HasTaken (Stands c.feed_frame-in-Some-gather_frame.new.self) (IsPortFaulty plan) (check_text plan) seen (take t.bytes piece) c.args._outlet.now c.args._outlet.now t.flow) (sym c.feed_frame-in-Some-gather_frame.ensures.taken)
+    (c.feed_frame-in-Some-gather_frame.ensures.fed seen (take (16 + 2 * halves) piece) c.args._outlet.now s c.in-Some-gather_frame.ensures.whole)
+
 pub returns-clause-fed : goal.returns-clause-fed
-returns-clause-fed c = λ seen s.
-    let mode = frames_mode c.args.self.now.port in
-    let next = seen ++ take c.feed_piece-taken.result.bytes c.args.piece.now in
-    let step = c.feed_piece-taken.result.step in
-    let old = port_of mode seen in
-    let new = port_of mode next in
-    let grew = subst (λ (l : List Cell). Grew old new step l) (sym c.as_slice.ensures.value) (c.feed_piece-taken.ensures.grew seen s.port) in
-    record {
-      read = record {
-        port = c.feed_piece-taken.ensures.read seen s.port;
-        counters = subst (λ (m : FramesMode). HasCounted c.add.new.self (port_of m next)) (sym c.feed_piece-taken.ensures.same)
-            (c.add.ensures.counted old new grew (cells_have_runs mode seen next step c.as_slice.result.now grew) s.counters);
-      };
-      more = [];
-      grown = refl;
-      gained = sym (append-nil c.args._outlet.now);
-      goes_on = subst (λ (f : Flow). FlowAfter (IsPortFaulty mode) next f) (sym c.flow_after.ensures) (c.feed_piece-taken.ensures.flow seen s.port);
-    }
+returns-clause-fed c = λ seen s. c.feed_bytes.ensures.fed seen c.args._outlet.now s

@@ -7,8 +7,9 @@ use Rattle.trace_values.specs.declared.step.Step.TheVariants.{Fault as Faulty}
 use Rattle.trace_values.specs.Block.{StandsAt, fault_after, given_after, goes_on_after}
 use Rattle.itm_grammar.specs.Proper.{IsProper}
 use Rattle.itm_grammar.specs.declared.packet.ItmPacket.{ItmPacket}
-use Rattle.itm_codec.specs.Decoder.{IsOf, is_hunter}
-use Rattle.capture_actions.specs.Clocks.{AreBehind}
+use Rattle.itm_codec.specs.Decoder as decoder
+use Rattle.itm_codec.specs.Decoder.{is_hunter}
+use Rattle.capture_actions.specs.Clocks as clocks
 use Rattle.capture_actions.specs.Listing.{packets_of, packets_given, lines_behind}
 use Rattle.capture_actions.proofs.Showing.{same_mode, takes_in, counted, given_last, list_more, packets_more, fault_more, still_sound, now_certain, no_fault_after, taken, told_fault, going, sound_of}
 use Rattle.capture_actions.proofs.show.ShowAction.feed.Goals as goal
@@ -16,7 +17,7 @@ use Rattle.capture_actions.proofs.show.ShowAction.feed.Goals as goal
 pub returns-in-Fault-clause-fed : goal.returns-in-Fault-clause-fed
 returns-in-Fault-clause-fed c = λ seen s.
     let mode = c.args.self.now.mode in
-    let stands = IsOf c.feed_piece-block.new.self in
+    let stands = decoder.Stands c.feed_piece-block.new.self in
     let piece = c.args.piece.now in
     let at = c.args.self.now.count in
     let bytes = c.feed_piece-block.result.bytes in
@@ -30,7 +31,7 @@ returns-in-Fault-clause-fed c = λ seen s.
     (c.put_step.ensures.text before s.clocks ∙ ap (λ (l : List (Said ItmPacket × Place)). c.args.outlet.now ++ lines_behind before l) given)
     (record {
       decoder = list_more mode stands seen piece at bytes answer s.count takes;
-      clocks = subst (AreBehind c.put_step.new.clocks) (ap (λ (l : List (Said ItmPacket × Place)). before ++ packets_given l) given ∙ sym (packets_more mode stands seen piece at bytes answer s.count takes)) (c.put_step.ensures.behind before s.clocks);
+      clocks = subst (clocks.Stands c.put_step.new.clocks) (ap (λ (l : List (Said ItmPacket × Place)). before ++ packets_given l) given ∙ sym (packets_more mode stands seen piece at bytes answer s.count takes)) (c.put_step.ensures.behind before s.clocks);
       count = counted seen piece at bytes s.count c.feed_piece-block.ensures.bytes.1;
       fault = told_fault (at + (bytes - 1)) c.in-Fault.fault place ∙ ap (λ x. fault_after (at + (bytes - 1)) x) (sym step) ∙ sym (fault_more mode stands seen piece at bytes answer s.count takes);
     })
@@ -43,7 +44,7 @@ returns-in_default-step c = record {
   count = refl;
   fed = λ seen s.
       let mode = c.args.self.now.mode in
-      let stands = IsOf c.feed_piece-block.new.self in
+      let stands = decoder.Stands c.feed_piece-block.new.self in
       let piece = c.args.piece.now in
       let at = c.args.self.now.count in
       let bytes = c.feed_piece-block.result.bytes in
@@ -57,7 +58,7 @@ returns-in_default-step c = record {
       (c.put_step.ensures.text before s.clocks ∙ ap (λ (l : List (Said ItmPacket × Place)). c.args.outlet.now ++ lines_behind before l) given)
       (record {
         decoder = list_more mode stands seen piece at bytes answer s.count takes;
-        clocks = subst (AreBehind c.put_step.new.clocks) (ap (λ (l : List (Said ItmPacket × Place)). before ++ packets_given l) given ∙ sym (packets_more mode stands seen piece at bytes answer s.count takes)) (c.put_step.ensures.behind before s.clocks);
+        clocks = subst (clocks.Stands c.put_step.new.clocks) (ap (λ (l : List (Said ItmPacket × Place)). before ++ packets_given l) given ∙ sym (packets_more mode stands seen piece at bytes answer s.count takes)) (c.put_step.ensures.behind before s.clocks);
         count = counted seen piece at bytes s.count c.feed_piece-block.ensures.bytes.1;
         fault = s.fault ∙ sound_of mode c.args.self.now.decoder seen c.args.self.now.moded s.decoder c.requires.live
             ∙ sym (fault_more mode stands seen piece at bytes answer s.count takes ∙ none);
@@ -69,7 +70,7 @@ returns-in_default-step c = record {
 pub returns-in_default-clause-fed : goal.returns-in_default-clause-fed
 returns-in_default-clause-fed c = λ seen s.
     let mode = c.args.self.now.mode in
-    let stands = IsOf c.feed_piece-block.new.self in
+    let stands = decoder.Stands c.feed_piece-block.new.self in
     let piece = c.args.piece.now in
     let at = c.args.self.now.count in
     let bytes = c.feed_piece-block.result.bytes in
@@ -81,7 +82,7 @@ returns-in_default-clause-fed c = λ seen s.
     (sym (append-nil c.args.outlet.now) ∙ ap (λ (x : Option (Step ItmPacket)). c.args.outlet.now ++ lines_behind before (given_after (at + (bytes - 1)) x)) (sym c.in_default.is))
     (record {
       decoder = list_more mode stands seen piece at bytes answer s.count takes;
-      clocks = subst (AreBehind c.args.self.now.clocks)
+      clocks = subst (clocks.Stands c.args.self.now.clocks)
           (sym (append-nil before) ∙ ap (λ (x : Option (Step ItmPacket)). before ++ packets_given (given_after (at + (bytes - 1)) x)) (sym c.in_default.is) ∙ sym (packets_more mode stands seen piece at bytes answer s.count takes)) s.clocks;
       count = counted seen piece at bytes s.count c.feed_piece-block.ensures.bytes.1;
       fault = s.fault ∙ sound_of mode c.args.self.now.decoder seen c.args.self.now.moded s.decoder c.requires.live

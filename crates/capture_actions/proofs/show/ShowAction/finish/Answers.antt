@@ -18,7 +18,7 @@ returns-in-None c = record {
       ∙ ap (λ (l : List ℕ). l ++ end_lines mode count c.is_locked.result c.skipped.result c.held.result) c.requires.empty
       ∙ ap (λ (b : Bool). end_lines mode count b c.skipped.result c.held.result) c.is_locked.ensures
       ∙ ap (λ (n : ℕ). end_lines mode count (has_locked c.args.self.now.decoder) n c.held.result) c.skipped.ensures
-      ∙ ap (λ (n : ℕ). end_lines mode count (has_locked c.args.self.now.decoder) (skipped_by c.args.self.now.decoder) n) c.held.ensures
+      ∙ ap (λ (n : ℕ). end_lines mode count (has_locked c.args.self.now.decoder) (skipped_by c.args.self.now.decoder) n) c.held.ensures.count
       ∙ ended mode c.args.self.now.decoder seen count c.args.self.now.fault c.args.self.now.moded s.decoder s.count s.fault c.in-None.is alive;
 }
 
@@ -26,7 +26,7 @@ pub returns-in-Some : goal.returns-in-Some
 returns-in-Some c = record {
   ended = λ seen s.
       let mode = c.args.self.now.mode in
-      c.put_source_fault.ensures
+      c.put.ensures.text
       ∙ ap (λ (l : List ℕ). l ++ source_fault_line (told c.in-Some.fault)) c.requires.empty
       ∙ ap (λ (x : Option (Place × Reason)). ending_by mode c.args.self.now.count (packets_of mode seen) x) (ap (option_map told) (sym c.in-Some.is) ∙ s.fault)
       ∙ ap (λ (n : ℕ). ending_by mode n (packets_of mode seen) (packets_of mode seen).fault) s.count;

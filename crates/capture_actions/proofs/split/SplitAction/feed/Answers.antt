@@ -1,34 +1,22 @@
-use Rattle.std.proofs.Common.{List, ◌++◌, take, sym, ◌∙◌, ap, subst}
-use Rattle.trace_stream.specs.declared.action.Flow.{Flow}
-use Rattle.trace_stream.specs.Taken.{FlowAfter}
-use Rattle.trace_values.specs.declared.cell.Cell.{Cell}
-use Rattle.capture_plan.specs.declared.frames.FramesMode.{FramesMode}
-use Rattle.port_reader.specs.Reading.{cells_of}
-use Rattle.capture_actions.specs.CapturePort.{frames_mode}
-use Rattle.capture_actions.specs.Port.{port_of, IsPortFaulty}
-use Rattle.capture_actions.specs.Split.{bytes_of_id}
-use Rattle.capture_actions.specs.SplitLaws.{bytes_of_id-append}
-use Rattle.capture_actions.proofs.Ports.{cells_more}
+use Rattle.std.proofs.Common.{take, sym, subst, ◌+◌, ◌*◌}
+use Rattle.trace_stream.specs.declared.action.Taken.{Taken}
+use Rattle.trace_stream.specs.Taken.{HasTaken}
+use Rattle.capture_actions.specs.Split.{split_faulty, split_text}
+use Rattle.capture_actions.specs.Splitter.{Stands, plan_of}
+use Rattle.capture_actions.proofs.Ports.{plain_whole}
 use Rattle.capture_actions.proofs.split.SplitAction.feed.Goals as goal
 
-pub returns-clause-fed : goal.returns-clause-fed
-returns-clause-fed c = λ seen s.
-    let plan = c.args.self.now.plan in
-    let mode = frames_mode c.args.self.now.port in
-    let moded = c.args.self.now.moded in
-    let next = seen ++ take c.feed_piece-taken.result.bytes c.args.piece.now in
-    let step = c.feed_piece-taken.result.step in
-    let cells = c.feed_piece-taken.new.cells.items in
-    let old = port_of mode seen in
-    let new = port_of mode next in
-    record {
-      read = c.feed_piece-taken.ensures.read seen s;
-      more = bytes_of_id plan.id cells;
-      grown = ap (λ (m : FramesMode). bytes_of_id plan.id (cells_of (port_of m next))) (sym moded)
-          ∙ ap (bytes_of_id plan.id) (cells_more old new step cells (c.feed_piece-taken.ensures.grew seen s))
-          ∙ bytes_of_id-append plan.id (cells_of old) cells
-          ∙ ap (λ (m : FramesMode). bytes_of_id plan.id (cells_of (port_of m seen)) ++ bytes_of_id plan.id cells) moded;
-      gained = c.put_cells.ensures ∙ ap (λ (l : List Cell). c.args.outlet.now ++ bytes_of_id plan.id l) c.as_slice.ensures.value;
-      goes_on = subst (λ (m : FramesMode). FlowAfter (IsPortFaulty m) next c.flow_after.result) moded
-          (subst (λ (f : Flow). FlowAfter (IsPortFaulty mode) next f) (sym c.flow_after.ensures) (c.feed_piece-taken.ensures.flow seen s));
-    }
+pub returns-in-Some-clause-fed : goal.returns-in-Some-clause-fed
+returns-in-Some-clause-fed c = λ seen s.
+    let plan = plan_of c.args.self.now in
+    let piece = c.args.piece.now in
+    subst (λ (t : Taken). HasTaken (Stands c.feed_frame.new.self) (split_faulty plan) (split_text plan) seen (take t.bytes piece) c.args.outlet.now c.feed_frame.new.outlet t.flow) (sym c.feed_frame.ensures.taken)
+    (c.feed_frame.ensures.fed seen (take 16 piece) s (plain_whole piece c.in-Some.frame.now c.in-Some.ensures.bytes c.in-Some.ensures.room c.in-Some.ensures.proper))
+
+pub returns-in-Some-gather_frame-clause-fed : goal.returns-in-Some-gather_frame-clause-fed
+returns-in-Some-gather_frame-clause-fed c = λ seen s.
+    let plan = plan_of c.args.self.now in
+    let piece = c.args.piece.now in
+    let halves = c.in-Some-gather_frame.gathered.halves in
+    subst (λ (t : Taken). HasTaken (Stands c.feed_frame-in-Some-gather_frame.new.self) (split_faulty plan) (split_text plan) seen (take t.bytes piece) c.args.outlet.now c.feed_frame-in-Some-gather_frame.new.outlet t.flow) (sym c.feed_frame-in-Some-gather_frame.ensures.taken)
+    (c.feed_frame-in-Some-gather_frame.ensures.fed seen (take (16 + 2 * halves) piece) s c.in-Some-gather_frame.ensures.whole)

@@ -13,11 +13,12 @@ use Rattle.deformatter.specs.Phase.{mode_in}
 use Rattle.deformatter.specs.Reading.{port_stream, cells_in, id_in}
 use Rattle.deformatter.specs.Growth.{PortGrows, goes_on}
 use Rattle.deformatter.specs.Rule.{count_of, cells_by, id_by}
-use Rattle.deformatter.specs.Deformatter.{IsOf, mode_of, state_of, is_live, is_hunter, tail_of, skipped_by}
+use Rattle.deformatter.specs.Deformatter.{Stands, mode_of, state_of, id_of, is_live, is_hunter, tail_of, skipped_by}
 use Rattle.deformatter.specs.declared.step.PortStep.{PortStep}
 use Rattle.deformatter.specs.declared.deformatter.Deformatter.{Deformatter}
 use Rattle.deformatter.specs.declared.deformatter.Phase.{Phase}
 use Rattle.deformatter.specs.declared.deformatter.Phase.TheVariants.{Hunting as PhaseHunting}
+use Rattle.deformatter.proofs.Blocks.{silent_cells}
 use Rattle.deformatter.proofs.Feeding.{Fed, fed, long_enough, skips-step, skips-cells, skips-id, locks-step, locks-cells, locks-id, reads_on, stays_live, few_more}
 use Rattle.deformatter.proofs.deformatter.Deformatter.feed.Goals as goal
 
@@ -31,7 +32,7 @@ returns-then-push-clause-list c = λ u s.
     let e = hunts_in d c.in-Hunting.is in
     let f : (c.args.byte == 127 && run_of d.hunter == 3) ≡ true = sym c.push.ensures.ends ∙ c.if-push.true in
     record {
-      reads = laws.locks-list pattern Full rule start (mode_of d) (run_of d.hunter) d.skipped c.args.at c.args.byte (is_live d) (state_of d) u e f s.reads;
+      reads = laws.locks-list pattern Full rule start (mode_of d) (run_of d.hunter) d.skipped (byte_at c.args.at c.args.byte) (is_live d) (state_of d) u e f s.reads;
       id = λ l. s.id l ∙ locks-id (mode_of d) (run_of d.hunter) d.skipped u c.args.at c.args.byte (is_live d) (state_of d) e s.reads f
           ∙ ap (λ (m : Mode). id_in (port_stream (hunts m) (u ++ byte_at c.args.at c.args.byte ∷ []))) e;
     }
@@ -58,7 +59,7 @@ returns-else-push-clause-list c = λ u s.
     record {
       reads = subst (λ (m : Mode). StandsIn pattern Full rule start m (is_live d) (state_of d) (u ++ byte_at c.args.at c.args.byte ∷ [])) (sym now)
           (subst (λ (n : ℕ). StandsIn pattern Full rule start (Hunting n (d.skipped + 1)) (is_live d) (state_of d) (u ++ byte_at c.args.at c.args.byte ∷ [])) (sym c.push.ensures.run)
-          (laws.skips-list pattern Full rule start (mode_of d) (run_of d.hunter) d.skipped c.args.at c.args.byte (is_live d) (state_of d) u e f s.reads));
+          (laws.skips-list pattern Full rule start (mode_of d) (run_of d.hunter) d.skipped (byte_at c.args.at c.args.byte) (is_live d) (state_of d) u e f s.reads));
       id = λ l. s.id l ∙ skips-id (mode_of d) (run_of d.hunter) d.skipped u c.args.at c.args.byte (is_live d) (state_of d) e s.reads f
           ∙ ap (λ (m : Mode). id_in (port_stream (hunts m) (u ++ byte_at c.args.at c.args.byte ∷ []))) e
           ∙ sym (ap (λ (m : Mode). id_in (port_stream (hunts m) (u ++ byte_at c.args.at c.args.byte ∷ []))) now);
@@ -77,7 +78,7 @@ returns-else-push-clause-cells c = λ u s.
     skips-cells (mode_of d) (run_of d.hunter) d.skipped u c.args.at c.args.byte (is_live d) (state_of d) (hunts_in d c.in-Hunting.is) s.reads f c.args.out.now.items c.requires.out
 
 -- a byte of the reading
-reading : (c : goal.After-read) (u : List Placed) → IsOf c.args.self.now u →
+reading : (c : goal.After-read) (u : List Placed) → Stands c.args.self.now u →
     Fed (is_hunter c.args.self.now) u c.args.at c.args.byte (state_of c.args.self.now) (rule (state_of c.args.self.now) (byte_at c.args.at c.args.byte))
 reading c u s =
     let d = c.args.self.now in
@@ -101,12 +102,23 @@ returns-in_default c =
           ∙ ap (λ (x : Option ℕ). cells_in (port_stream (is_hunter d) u) ++ cells_by x (rule (state_of d) (byte_at c.args.at c.args.byte))) (sym (s.id c.requires.live))
           ∙ ap (λ (l : List Cell). cells_in (port_stream (is_hunter d) u) ++ l) (sym c.read.ensures.cells);
       live = c.read.ensures.live ∙ stays_live c.args.at (state_of d) (rule (state_of d) (byte_at c.args.at c.args.byte)) ∙ ap goes_on (sym c.read.ensures.step);
-      few = (
-          let a : skipped_by c.read.new.self ≡ skipped_by d = ap skipped_of m in
-          let b : tail_of c.read.new.self ≡ count_of (state_after start (rule (state_of d) (byte_at c.args.at c.args.byte)) (state_of d)) = ap count_of c.read.ensures.state in
-          let e : count_of (state_after start (rule (state_of d) (byte_at c.args.at c.args.byte)) (state_of d)) ≤ tail_of d + 1 =
-          few_more d.aligner.left _ _ d.aligner.part d.first_at d.frame.len (byte_at c.args.at c.args.byte) d.whole d.between d.aligner.fit in
-          joined (tail_of c.read.new.self) (skipped_by c.read.new.self) (tail_of d) (skipped_by d) (count_of (state_after start (rule (state_of d) (byte_at c.args.at c.args.byte)) (state_of d))) a b e);
+      few = joined (tail_of c.read.new.self) (skipped_by c.read.new.self) (tail_of d) (skipped_by d) _ (ap skipped_of m) (ap count_of c.read.ensures.state) (one_more c);
+      each = (
+        let a : tail_of c.read.new.self ≡ count_of (state_after start (rule (state_of d) (byte_at c.args.at c.args.byte)) (state_of d)) = ap count_of c.read.ensures.state in
+            let e = one_more c in
+            no_more (tail_of c.read.new.self) _ (tail_of d) a e,
+        (let a : skipped_by c.read.new.self ≡ skipped_by d = ap skipped_of m in omega (arith, a)),
+      );
+      quiet = λ q. c.read.ensures.cells
+          ∙ silent_cells c.args.at (state_of d) (id_of d) (rule (state_of d) (byte_at c.args.at c.args.byte)) (sym c.read.ensures.step ∙ q);
     } where
       joined : (x y z w v : ℕ) → y ≡ w → x ≡ v → v ≤ z + 1 → x + y ≤ z + w + 1
       joined x y z w v a b e = omega arith
+
+      no_more : (x v z : ℕ) → x ≡ v → v ≤ z + 1 → x ≤ z + 1
+      no_more x v z a e = omega arith
+
+      one_more : (c : goal.After-read) → count_of (state_after start (rule (state_of c.args.self.now) (byte_at c.args.at c.args.byte)) (state_of c.args.self.now)) ≤ tail_of c.args.self.now + 1
+      one_more c =
+          let d = c.args.self.now in
+          few_more d.aligner.left _ _ d.aligner.part d.first_at d.frame.len (byte_at c.args.at c.args.byte) d.whole d.between d.aligner.fit

@@ -1,0 +1,35 @@
+use Rattle.std.proofs.Common.{◌≡◌, ℕ, List, ◌++◌, sym, ◌∙◌, ap, subst, Bool, true, Option}
+use Rattle.trace_values.specs.Placed.{Placed, units_of}
+use Rattle.trace_values.specs.Moded.{StandsIn}
+use Rattle.frame_grammar.specs.Frame.{id_after}
+use Rattle.frame_grammar.specs.Port.{Full, Frame, State, Spells, start, rule}
+use Rattle.port_sync.specs.Hunting.{pattern}
+use Rattle.deformatter.specs.Reading.{port_stream, id_in}
+use Rattle.deformatter.specs.Frames.{IsBetween, GrowsByFrame}
+use Rattle.deformatter.specs.Deformatter.{Stands, mode_of, state_of, is_live, is_hunter}
+use Rattle.deformatter.specs.declared.deformatter.Deformatter.{Deformatter}
+use Rattle.deformatter.proofs.Frames as frames
+use Rattle.deformatter.proofs.Frames.{Passed, passed}
+use Rattle.deformatter.proofs.deformatter.Deformatter.pass_frame.Goals as goal
+
+passing : (d : Deformatter) (u w f : List Placed) (halves : ℕ) → is_live d ≡ true → IsBetween d → Stands d u → Spells (Frame f halves) w → Passed (mode_of d) u w f halves
+passing d u w f halves l b s q =
+    passed (mode_of d) u w f halves q b.0
+    (subst (λ (x : Bool). StandsIn pattern Full rule start (mode_of d) x start u) l
+    (subst (λ (x : State). StandsIn pattern Full rule start (mode_of d) (is_live d) x u) b.1 s.reads))
+
+pub returns-clause-list : goal.returns-clause-list
+returns-clause-list c = λ u w f halves s q after.
+    let d = c.args.self.now in
+    let t = passing d u w f halves c.requires.live c.requires.between s q in
+    record {
+      reads = subst (λ (x : Bool). StandsIn pattern Full rule start (mode_of d) x (state_of d) (u ++ w)) (sym c.requires.live)
+          (subst (λ (x : State). StandsIn pattern Full rule start (mode_of d) true x (u ++ w)) (sym c.requires.between.1) t.stands);
+      id = λ _. after ∙ ap (id_after (units_of f)) (s.id c.requires.live) ∙ sym (frames.id (mode_of d) u w f halves t);
+    }
+
+pub returns-clause-grows : goal.returns-clause-grows
+returns-clause-grows c = λ u w f halves s q.
+    let d = c.args.self.now in
+    subst (λ (i : Option ℕ). GrowsByFrame (port_stream (is_hunter d) u) (port_stream (is_hunter d) (u ++ w)) w f halves i) (sym (s.id c.requires.live))
+    (frames.grows (mode_of d) u w f halves (passing d u w f halves c.requires.live c.requires.between s q))

@@ -1,0 +1,148 @@
+//! Bytes of a piece at once.
+
+ghost use Rattle.std.specs.Prelude.{◌≡◌, ◌<◌, ◌≤◌, ◌+◌, ◌^◌, ◌++◌, [], ℕ, List, length, take, true, IfSome, slice_index};
+ghost use Rattle.std.specs.List.{range_with_len};
+ghost use Rattle.trace_values.specs.Placed.{Placed, placed_from};
+ghost use Rattle.frame_grammar.specs.Frame.{IsProperFrame};
+ghost use Rattle.deformatter.specs.declared.step.PortStep.TheVariants.{Quiet, Frame};
+ghost use Rattle.deformatter.specs.Growth.{goes_on};
+ghost use Rattle.deformatter.specs.Block.{TakesBlock};
+ghost use Rattle.deformatter.specs.Frames.{IsBetween};
+ghost use Rattle.deformatter.specs.Deformatter.{Stands, is_hunter, is_live, tail_of, skipped_by};
+
+use crate::deformatter::Deformatter;
+use crate::step::PortStep;
+use arrayvec::ArrayVec;
+use frame_grammar::frame::cells_of;
+use frame_grammar::plain::plain_frame;
+use trace_values::Cell;
+
+/// What a deformatter took of a piece.
+#[derive(Clone, Copy, Debug, PartialEq, Eq, Drop)]
+pub struct Taken {
+    /// How many bytes from its front, at least one.
+    pub bytes: usize,
+    /// The answer to the last of them. All before it were `Quiet`.
+    pub step: PortStep,
+}
+
+/// The offsets of 16 bytes, the first of which is at this one.
+#[inline]
+fn offsets_from(at: u64) -> [u64; 16]
+    requires { at ≤ 2 ^ 60 }
+    ensures { result ≡ range_with_len at 16 }
+{
+    let mut offsets = [0; 16];
+    for index in 0..16 {
+        offsets[index] = at + index as u64;
+    }
+    offsets
+}
+
+impl Deformatter {
+    /// Takes bytes from the front of a piece, the first of which is at this offset of the capture, up to the
+    /// first to which the answer is not `Quiet`, or to the piece's end. It answers and leaves what feeding
+    /// these bytes one by one does. Where the last of them ends a frame, `out` has the frame's cells
+    /// afterwards, and else nothing.
+    ///
+    /// The piece has a byte. The offset, the piece's length, and the bytes that were skipped and that are
+    /// left over are each at most 2^59.
+    pub fn feed_block(&mut self, at: u64, piece: &[u8], out: &mut ArrayVec<Cell, 15>) -> Taken
+        requires live { is_live self.old ≡ true }
+        requires out { out.old.items ≡ [] }
+        requires some { 0 < length piece.now }
+        requires offset { at ≤ 2 ^ 59 }
+        requires length { length piece.now ≤ 2 ^ 59 }
+        requires room { tail_of self.old ≤ 2 ^ 59 }
+        requires count { skipped_by self.old ≤ 2 ^ 59 }
+        ensures same { is_hunter self.new ≡ is_hunter self.old }
+        ensures bytes { (0 < result.bytes) × (result.bytes ≤ length piece.now) }
+        ensures stops { result.step ≡ Quiet → result.bytes ≡ length piece.now }
+        ensures takes { (u : List Placed) → Stands self.old u →
+            TakesBlock self.old self.new u at (take result.bytes piece.now) result.step out.new.items }
+        ensures live { is_live self.new ≡ goes_on result.step }
+        ensures few { tail_of self.new + skipped_by self.new ≤ tail_of self.old + skipped_by self.old + result.bytes }
+    {
+        match self.next_frame(piece) {
+            Some(frame) => {
+                self.take_frame(at, frame, out);
+                Taken {
+                    bytes: 16,
+                    step: PortStep::Frame,
+                }
+            }
+            None => self.feed_bytes(at, piece, out),
+        }
+    }
+
+    /// The frame that may be taken at once: the piece's first 16 bytes, where nothing of a frame or a
+    /// synchronisation is there, the reading has begun, and none of those at even indexes is FF.
+    #[inline]
+    fn next_frame<'a>(&self, piece: &'a [u8]) -> Option<&'a [u8; 16]>
+        ensures between { IfSome result (λ f. IsBetween self.now) }
+        ensures bytes { IfSome result (λ f. f.now ≡ take 16 piece.now) }
+        ensures room { IfSome result (λ f. 16 ≤ length piece.now) }
+        ensures proper { IfSome result (λ f. IsProperFrame f.now) }
+    {
+        if self.is_between() {
+            plain_frame(piece)
+        } else {
+            None
+        }
+    }
+
+    /// Takes a whole frame, whose first byte is at this offset.
+    #[inline]
+    fn take_frame(&mut self, at: u64, frame: &[u8; 16], out: &mut ArrayVec<Cell, 15>)
+        requires live { is_live self.old ≡ true }
+        requires between { IsBetween self.old }
+        requires proper { IsProperFrame frame.now }
+        requires out { out.old.items ≡ [] }
+        requires offset { at ≤ 2 ^ 59 }
+        ensures same { is_hunter self.new ≡ is_hunter self.old }
+        ensures takes { (u : List Placed) → Stands self.old u →
+            TakesBlock self.old self.new u at frame.now Frame out.new.items }
+        ensures live { is_live self.new ≡ true }
+        ensures few { tail_of self.new + skipped_by self.new ≡ tail_of self.old + skipped_by self.old }
+    {
+        let after = cells_of(frame, &offsets_from(at), self.id(), out);
+        self.pass_frame(after);
+    }
+
+    /// Takes bytes one by one, up to the first to which the answer is not `Quiet`.
+    fn feed_bytes(&mut self, at: u64, piece: &[u8], out: &mut ArrayVec<Cell, 15>) -> Taken
+        requires live { is_live self.old ≡ true }
+        requires out { out.old.items ≡ [] }
+        requires some { 0 < length piece.now }
+        requires offset { at ≤ 2 ^ 59 }
+        requires length { length piece.now ≤ 2 ^ 59 }
+        requires room { tail_of self.old ≤ 2 ^ 59 }
+        requires count { skipped_by self.old ≤ 2 ^ 59 }
+        ensures same { is_hunter self.new ≡ is_hunter self.old }
+        ensures bytes { (0 < result.bytes) × (result.bytes ≤ length piece.now) }
+        ensures stops { result.step ≡ Quiet → result.bytes ≡ length piece.now }
+        ensures takes { (u : List Placed) → Stands self.old u →
+            TakesBlock self.old self.new u at (take result.bytes piece.now) result.step out.new.items }
+        ensures live { is_live self.new ≡ goes_on result.step }
+        ensures few { tail_of self.new + skipped_by self.new ≤ tail_of self.old + skipped_by self.old + result.bytes }
+    {
+        for (index, byte) in piece.iter().enumerate() {
+            match self.feed(at + index as u64, *byte, out) {
+                PortStep::Quiet => {}
+                step => {
+                    return Taken {
+                        bytes: index + 1,
+                        step,
+                    };
+                }
+            }
+        }
+        Taken {
+            bytes: piece.len(),
+            step: PortStep::Quiet,
+        }
+    }
+}
+
+#[cfg(test)]
+mod tests;

@@ -1,0 +1,58 @@
+//! A frame whose 16 bytes are all in a piece, with no half synchronisation between its halfwords.
+
+ghost use Rattle.std.specs.Prelude.{◌≡◌, ℕ, ◌≤◌, ◌↔◌, length, take, IsTrue, IfSome, IsNone};
+ghost use Rattle.frame_grammar.specs.Frame.{IsProperFrame};
+
+/// None of the mixed-use bytes, those at even indexes, is FF.
+#[inline]
+fn is_proper(frame: &[u8; 16]) -> bool
+    ensures { IsTrue result ↔ IsProperFrame frame.now }
+{
+    for pair in 0..8 {
+        if frame[2 * pair] == 255 {
+            return false;
+        }
+    }
+    true
+}
+
+/// The piece's first 16 bytes, where they are there and are a frame: none of the mixed-use bytes, those at even
+/// indexes, is FF.
+#[inline]
+pub fn plain_frame(piece: &[u8]) -> Option<&[u8; 16]>
+    ensures bytes { IfSome result (λ f. f.now ≡ take 16 piece.now) }
+    ensures room { IfSome result (λ f. 16 ≤ length piece.now) }
+    ensures proper { IfSome result (λ f. IsProperFrame f.now) }
+    ensures none { IsNone result → 16 ≤ length piece.now → IsProperFrame (take 16 piece.now) → ⊥ }
+{
+    match piece.first_chunk::<16>() {
+        Some(frame) => { if is_proper(frame) { Some(frame) } else { None } }
+        None => None,
+    }
+}
+
+#[cfg(test)]
+mod tests {
+    use super::*;
+
+    #[test]
+    fn takes_a_plain_frame(rt: HostRuntime) {
+        let rows: [(&[u8], bool); 7] = [
+            (b"ABCDEFGHIJKLMNOP", true),
+            (b"A\xffC\xffE\xffG\xffI\xffK\xffM\xffO\xff\xff", true),
+            (b"", false),
+            (b"ABCDEFGHIJKLMNO", false),
+            (b"\xffBCDEFGHIJKLMNOP", false),
+            (b"ABCDEF\xff\x7fGHIJKLMNOP", false),
+            (b"ABCDEFGHIJKLMN\xffP", false),
+        ];
+        for (piece, plain) in rows {
+            let frame = plain_frame(piece).map(|frame| frame.as_slice());
+            assert_eq!(rt;
+                frame,
+                if plain { piece.get(..16) } else { None },
+                "{piece:?}"
+            );
+        }
+    }
+}

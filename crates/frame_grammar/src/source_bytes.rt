@@ -1,0 +1,161 @@
+//! The bytes of one source in a frame.
+//!
+//! An ID is here its seven bits. Those of 0x7F, which a frame never names, are no ID.
+
+ghost use Rattle.std.specs.Prelude.{◌≡◌, ℕ, ◌≤◌, ◌<◌, ◌+◌, ◌*◌, ◌++◌, ◌∷◌, [], ◌==◌, ◌%◌, ◌/◌, take, List, Option, if◌then◌else◌};
+ghost use Rattle.trace_values.specs.Cells.{source_id};
+ghost use Rattle.frame_grammar.specs.Frame.{cells, id_after};
+ghost use Rattle.frame_grammar.specs.SourceBytes.{bytes_of_source};
+
+use trace_values::SourceId;
+
+/// What was copied of one source's bytes in a frame.
+#[derive(Clone, Copy, Debug, PartialEq, Eq, Drop)]
+pub struct CopiedBytes {
+    /// How many bytes, 0 to 15.
+    pub len: usize,
+    /// The ID after the frame.
+    pub after: Option<SourceId>,
+}
+
+/// The seven bits of an ID, 0 to 126; of none, 127.
+#[inline]
+pub fn id_bits(id: Option<SourceId>) -> u8
+    ensures id { source_id result ≡ id }
+    ensures few { result ≤ 127 }
+{
+    match id {
+        Some(id) => id.number(),
+        None => 127,
+    }
+}
+
+/// The ID after a mixed-use byte and the byte that follows it, where `id` is the one before them.
+#[inline]
+fn id_after_pair(mixed: u8, id: u8) -> u8
+    ensures { result ≡ (if mixed % 2 == 1 then (mixed / 2) else id) }
+{
+    if mixed % 2 == 1 { mixed / 2 } else { id }
+}
+
+/// The ID of the byte that follows a mixed-use byte: where the auxiliary bit is set, a new ID holds only after that
+/// byte.
+#[inline]
+fn id_within_pair(auxiliary: u8, after: u8, id: u8) -> u8
+    ensures { result ≡ (if auxiliary == 0 then after else id) }
+{
+    if auxiliary == 0 { after } else { id }
+}
+
+/// Puts the byte after the first `len`, and gives their number with it where it is kept.
+#[inline]
+fn put_if(into: &mut [u8; 16], len: usize, byte: u8, keep: bool) -> usize
+    requires { len < 16 }
+    ensures bytes { take result into.new ≡ take len into.old ++ (if keep then (byte ∷ []) else []) }
+    ensures len { result ≤ len + 1 }
+{
+    into[len] = byte;
+    len + keep as usize
+}
+
+/// Copies the bytes of this source's cells in the frame to the front of `into`, in order, where `before` is the ID
+/// before the frame. What is in `into` after them is of no account.
+///
+/// No branch depends on the bytes, since a frame's IDs are hard to foresee.
+#[inline]
+pub fn copy_source_bytes(
+    frame: &[u8; 16],
+    before: Option<SourceId>,
+    source: SourceId,
+    into: &mut [u8; 16],
+) -> CopiedBytes
+    ensures len { result.len ≤ 15 }
+    ensures bytes { (at : List ℕ) → take result.len into.new ≡ bytes_of_source source (cells frame.now at before) }
+    ensures after { result.after ≡ id_after frame.now before }
+{
+    let wanted = source.number();
+    let mut id = id_bits(before);
+    let mut len = 0;
+    for pair in 0..7 {
+        let mixed = frame[2 * pair];
+        let auxiliary = (frame[15] >> pair) % 2;
+        let after = id_after_pair(mixed, id);
+        let within = id_within_pair(auxiliary, after, id);
+        let data = mixed - mixed % 2 + auxiliary;
+        let is_data = mixed % 2 == 0;
+        len = put_if(into, len, data, is_data & (id == wanted));
+        len = put_if(into, len, frame[2 * pair + 1], within == wanted);
+        id = after;
+    }
+    let last = frame[14];
+    let data = last - last % 2 + frame[15] / 128;
+    let is_data = last % 2 == 0;
+    len = put_if(into, len, data, is_data & (id == wanted));
+    CopiedBytes {
+        len,
+        after: SourceId::new(id_after_pair(last, id)),
+    }
+}
+
+#[cfg(test)]
+mod tests {
+    use super::*;
+    use std::process::Abort;
+
+    /// Copies the bytes of each of these sources, of which there must be these, and this ID after the frame.
+    fn expect(
+        rt: &impl Abort,
+        frame: &[u8; 16],
+        before: Option<u8>,
+        sources: &[(u8, &[u8])],
+        after: Option<u8>,
+    ) {
+        for (number, bytes) in sources {
+            assert!(rt; *number < 127);
+            let mut into = [0xee; 16];
+            let source = SourceId::new(*number).unwrap();
+            let copied = copy_source_bytes(
+                frame,
+                before.and_then(SourceId::new),
+                source,
+                &mut into,
+            );
+            assert_eq!(rt;
+                into.get(..copied.len),
+                Some(*bytes),
+                "{number} of {frame:?}"
+            );
+            assert_eq!(rt; copied.after, after.and_then(SourceId::new), "{frame:?}");
+        }
+    }
+
+    #[test]
+    fn copies_worked_frames(rt: HostRuntime) {
+        let frame = b"\x03\0\0\0\0\0\x80\x01\x01\x41\0\0\0\0\0\x10";
+        let one = b"\0\0\0\0\0\x80\x01\x41";
+        expect(
+            &rt,
+            frame,
+            None,
+            &[(1, one), (0, &[0; 5]), (2, b"")],
+            Some(0),
+        );
+
+        // The first byte is of the ID before the frame, since its ID is deferred.
+        let frame = b"\x21\xff\xfe\xff\xfe\xff\xfe\xff\xfe\xff\xfe\xff\xfe\xff\xfe\xff";
+        expect(&rt, frame, None, &[(16, &[0xff; 13])], Some(16));
+        expect(
+            &rt,
+            frame,
+            Some(5),
+            &[(5, b"\xff"), (16, &[0xff; 13])],
+            Some(16),
+        );
+
+        // No ID is named, and the auxiliary bits are data.
+        let frame = b"\x10\x11\x12\x13\x14\x15\x16\x17\x18\x19\x1a\x1b\x1c\x1d\x1e\x81";
+        let all = b"\x11\x11\x12\x13\x14\x15\x16\x17\x18\x19\x1a\x1b\x1c\x1d\x1f";
+        expect(&rt, frame, Some(126), &[(126, all), (0, b"")], Some(126));
+        expect(&rt, frame, None, &[(126, b""), (0, b"")], None);
+    }
+}
