@@ -1,4 +1,5 @@
--- What a hardware packet means, by its discriminator, size and value (ARMv7-M Architecture Reference Manual, 'Debug ITM and DWT packet protocol').
+-- What a hardware packet means, by its discriminator (the manual's discriminator ID), size and value (ARMv7-M Architecture
+-- Reference Manual, Arm DDI 0403, appendix 'Debug ITM and DWT packet protocol', 'DWT packets').
 use Rattle.std.specs.Prelude.{◌≡◌, ℕ, ◌+◌, ◌-◌, ◌*◌, ◌/◌, ◌%◌, ◌^◌, Bool, true, false, ◌==◌, ◌&&◌, nat_lt, if◌then◌else◌, List, [], ◌∷◌, ◌++◌, find}
 use Rattle.std.specs.List.{list_any}
 use Rattle.std.specs.Option.{option_map_or}
@@ -13,7 +14,7 @@ use Rattle.dwt_packets.specs.declared.item.DwtItem.TheVariants.{Counters, Except
 abbrev pub bits : ℕ → ℕ → ℕ → ℕ
 bits high low value = value / 2 ^ low % 2 ^ (high + 1 - low)
 
--- bits 13 and 12 of an exception packet: 01, 10 and 11
+-- FN, bits 13 and 12 of an exception trace packet: 01 entered, 10 exited, 11 returned to
 abbrev pub change_of : ℕ → Change
 change_of field = if field == 1 then Enter else (if field == 2 then Exit else Return)
 
@@ -49,7 +50,7 @@ any_size size = true
 abbrev pub any_value : ℕ → Bool
 any_value value = true
 
--- the rows of comparator c
+-- the rows of comparator c, the manual's 'Data trace packets': PC value, address offset, data value read and written
 abbrev pub comparator_rows : ℕ → List Row
 comparator_rows c =
     row (8 + 2 * c) four any_value (λ s v. MatchPc c v)
@@ -58,7 +59,9 @@ comparator_rows c =
     ∷ row (17 + 2 * c) any_size any_value (λ s v. Written c s v)
     ∷ []
 
--- the table: where bits have to be 0, they are reserved
+-- The table: 'Event counter packet', 'Exception trace packet', 'Periodic PC sample packets' of a PC and of a processor that
+-- sleeps, and the data trace packets. Where bits have to be 0, they are reserved; that a packet with others set is another
+-- item is this project's profile.
 abbrev pub table : List Row
 table =
     row 0 one (λ v. bits 7 6 v == 0) (λ s v. Counters v)

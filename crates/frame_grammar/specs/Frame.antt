@@ -1,4 +1,6 @@
--- A frame of 16 bytes and its cells (CoreSight Architecture Specification, formatter), looking back from each index.
+-- A frame of 16 bytes and its cells (CoreSight Architecture Specification, Arm IHI 0029, the chapter on the trace
+-- formatter), looking back from each index. Mixed-use bytes are those at 0, 2 .. 14, and byte 15 has the
+-- auxiliary bits. IDs are the specification's trace source IDs.
 use Rattle.std.specs.Prelude.{◌≡◌, ◌≢◌, ℕ, zero, suc, ◌+◌, ◌*◌, ◌/◌, ◌%◌, ◌^◌, ◌<◌, List, [], ◌∷◌, ◌++◌, slice_index, Bool, nat_lt, ◌==◌, ◌&&◌, ◌||◌, not, if◌then◌else◌, Option}
 use Rattle.std.specs.List.{filter, range_with_len}
 use Rattle.trace_values.specs.declared.cell.Cell.{Cell}
@@ -6,13 +8,13 @@ use Rattle.trace_values.specs.Cells.{source_id}
 
 -- none of the mixed-use bytes below 2n, those at even indexes, is FF: the ID 127 is never used
 abbrev pub IsProperBelow : ℕ → List ℕ → Type 0
-IsProperBelow n frame = (k : ℕ) → k < n → slice_index frame (2 * k) ≢ 255
+IsProperBelow n frame = (k : ℕ) → k < n → slice_index frame (2 * k) ≢ 0xFF
 
 -- nor any of the frame
 abbrev pub IsProperFrame : List ℕ → Type 0
 IsProperFrame frame = IsProperBelow 8 frame
 
--- the byte at 2k names a source, by its bit 0
+-- the mixed-use byte at 2k names a source, by its bit 0
 abbrev pub names : List ℕ → ℕ → Bool
 names frame k = slice_index frame (2 * k) % 2 == 1
 
@@ -20,7 +22,8 @@ names frame k = slice_index frame (2 * k) % 2 == 1
 abbrev pub aux_bit : List ℕ → ℕ → ℕ
 aux_bit frame k = (slice_index frame 15 / 2 ^ k) % 2
 
--- the byte at 2k names a source that is in effect at i: it stands before i, and is not deferred or the byte behind it stands before i too
+-- The byte at 2k names a source that is in effect at i: it is before i, and its auxiliary bit is 0, or the data byte after
+-- it is before i too. That the auxiliary bit of byte 14 says nothing is this project's profile.
 abbrev pub in_effect : List ℕ → ℕ → ℕ → Bool
 in_effect frame i k = names frame k && nat_lt (2 * k) i && (aux_bit frame k == 0 || nat_lt (2 * k + 1) i)
 
@@ -38,7 +41,7 @@ abbrev pub run_below : List ℕ → ℕ → ℕ → ℕ
 run_below frame i zero = 0
 run_below frame i (suc k) = if in_effect frame i k then run_below frame i k + 1 else run_below frame i k
 
--- the run at i: how many ID bytes are in effect there
+-- the run at i: how many ID bytes are in effect there (a run is this project's notion)
 abbrev pub run_at : List ℕ → ℕ → ℕ
 run_at frame i = run_below frame i 8
 

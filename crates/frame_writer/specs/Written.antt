@@ -91,7 +91,7 @@ abbrev pub is_due : ℕ → ℕ → Bool
 is_due every n = not (every == 0) && n % every == 0
 
 abbrev pub sync : ℕ → ℕ → List ℕ
-sync every n = if is_due every n then (255 ∷ (255 ∷ (255 ∷ (127 ∷ [])))) else []
+sync every n = if is_due every n then (0xFF ∷ (0xFF ∷ (0xFF ∷ (0x7F ∷ [])))) else []
 
 -- the ID that the writer knows at the start of frame n: none behind a full synchronisation
 abbrev pub known : ℕ → ℕ → Option ℕ → Option ℕ

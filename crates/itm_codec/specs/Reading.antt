@@ -16,7 +16,7 @@ use Rattle.itm_grammar.specs.Rule.{rule}
 
 -- what a decoder hunts for: 00 00 00 00 00 80, which spells a synchronisation packet
 abbrev pub pattern : Pattern
-pattern = record { unit = 0; most = 5; last = 128 }
+pattern = record { unit = 0x00; most = 5; last = 0x80 }
 
 -- the reading of the bytes from the first on, or in a hunt from the least place of the pattern on
 abbrev pub packets_in : Bool → List Placed → Stream ItmPacket

@@ -1,4 +1,5 @@
--- The table of headers.
+-- The table of headers (ARMv7-M Architecture Reference Manual, Arm DDI 0403, appendix 'Debug ITM and DWT packet
+-- protocol'), with the manual's names.
 use Rattle.std.specs.Prelude.{ℕ, ◌/◌, ◌%◌, Bool, true, ◌==◌, ◌&&◌, nat_lt, nat_le, if◌then◌else◌}
 use Rattle.itm_grammar.specs.declared.packet.Size.{Size}
 use Rattle.itm_grammar.specs.declared.packet.Size.TheVariants.{One, Two, Four}
@@ -7,15 +8,16 @@ use Rattle.itm_grammar.specs.declared.packet.Lateness.TheVariants.{Exact, StampL
 use Rattle.itm_grammar.specs.declared.header.Class.{Class}
 use Rattle.itm_grammar.specs.declared.header.Class.TheVariants.{Zero, Overflow, Source, LocalShort, LocalLong, GlobalFirst, GlobalSecond, Extension, Reserved}
 
--- by bits 1 and 0, which are not 00
+-- SS of a source packet, bits 1 and 0, which are not 00: 01, 10, 11
 abbrev pub size_of : ℕ → Size
 size_of low = if low == 1 then One else (if low == 2 then Two else Four)
 
--- by bits 5 and 4
+-- TC of a local timestamp packet, bits 5 and 4: 00, 01, 10, 11
 abbrev pub lateness_of : ℕ → Lateness
 lateness_of bits = if bits == 0 then Exact else (if bits == 1 then StampLate else (if bits == 2 then PacketLate else BothLate))
 
--- with low nibble 0, by the high nibble: 0, 1 to 6, 7, 8 to B, C to F
+-- With low nibble 0, by the high nibble: 00 Synchronization packet; 10 to 60 Local timestamp packet, format 2 (LTS2);
+-- 70 Overflow packet; 80 to B0 reserved; C0 to F0 Local timestamp packet, format 1 (LTS1)
 abbrev pub class_by_high : ℕ → Class
 class_by_high high =
     if high == 0 then Zero
@@ -23,11 +25,12 @@ class_by_high high =
     else (if high == 7 then Overflow
     else (if nat_lt high 12 then Reserved else LocalLong (lateness_of (high % 4)))))
 
--- with low nibble 4, by the high nibble
+-- with low nibble 4, by the high nibble: 94 Global timestamp packet, format 1 (GTS1); B4 format 2 (GTS2); else reserved
 abbrev pub class_of_stamp : ℕ → Class
 class_of_stamp high = if high == 9 then GlobalFirst else (if high == 11 then GlobalSecond else Reserved)
 
--- by bits 1 and 0, and then by the low nibble
+-- by bits 1 and 0, and then by the low nibble: a source packet, Instrumentation or Hardware source by bit 2, with the
+-- stimulus port or the discriminator ID in bits 7 to 3; the two above; else 8 or C, an Extension packet
 abbrev pub class_of_byte : ℕ → Class
 class_of_byte header =
     if nat_lt 0 (header % 4) then Source ((header / 4) % 2 == 1) (header / 8) (size_of (header % 4))
@@ -35,7 +38,7 @@ class_of_byte header =
     else (if header % 16 == 4 then class_of_stamp (header / 16)
     else Extension (nat_le 128 header) (header % 16 == 12) ((header / 16) % 8)))
 
--- what is no byte is no header
+-- what is no byte is no header (this project's profile)
 abbrev pub class_of : ℕ → Class
 class_of header = if nat_lt header 256 then class_of_byte header else Reserved
 

@@ -28,11 +28,11 @@ begin (Extended false dwt low) = End (Extension dwt low)
 begin (Extended true dwt low) = Go (Payload (Extended true dwt low) 0 0)
 begin Reserved = Fail ReservedHeader
 
--- a byte behind so many bytes 00
+-- a byte after so many bytes 00
 abbrev pub zeros_with : ℕ → ℕ → Next Partial ItmPacket
 zeros_with count b =
-    if b == 0 then Go (Zeros (count + 1))
-    else (if b == 128 && nat_le 5 count then End Sync else Fail BadItmSync)
+    if b == 0x00 then Go (Zeros (count + 1))
+    else (if b == 0x80 && nat_le 5 count then End Sync else Fail BadItmSync)
 
 -- how many payload bytes a packet of this class may have
 abbrev pub most_bytes : Class → ℕ

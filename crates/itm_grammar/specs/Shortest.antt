@@ -37,14 +37,15 @@ abbrev pub extension_payload : ℕ → List ℕ
 extension_payload value = if nat_lt value 8 then [] else extension_bytes (value / 8)
 
 abbrev pub short : ItmPacket → List ℕ
-short Sync = 0 ∷ (0 ∷ (0 ∷ (0 ∷ (0 ∷ (128 ∷ [])))))
-short Overflow = 112 ∷ []
+short Sync = 0x00 ∷ (0x00 ∷ (0x00 ∷ (0x00 ∷ (0x00 ∷ (0x80 ∷ [])))))
+short Overflow = 0x70 ∷ []
 short (Software port size value) = (8 * port + 4 * 0 + size_bits size) ∷ bytes_of (byte_count size) value
 short (Hardware disc size value) = (8 * disc + 4 * 1 + size_bits size) ∷ bytes_of (byte_count size) value
 short (Local lateness delta) =
-    if is_short lateness delta then (16 * delta) ∷ [] else (192 + 16 * late_bits lateness) ∷ groups_of (group_count delta) delta
-short (GlobalFirst len value change wrap) = 148 ∷ groups_of len (value + 2 ^ 26 * bit_of change + 2 ^ 27 * bit_of wrap)
-short (GlobalSecond wide value) = 180 ∷ groups_of (if wide then 6 else 4) value
+    if is_short lateness delta then (16 * delta) ∷ []
+    else (0xC0 + 16 * late_bits lateness) ∷ groups_of (group_count delta) delta
+short (GlobalFirst len value change wrap) = 0x94 ∷ groups_of len (value + 2 ^ 26 * bit_of change + 2 ^ 27 * bit_of wrap)
+short (GlobalSecond wide value) = 0xB4 ∷ groups_of (if wide then 6 else 4) value
 short (Extension dwt value) =
     (128 * more_bit (extension_payload value) + 16 * (value % 8) + 4 * bit_of dwt + 8) ∷ extension_payload value
 
@@ -62,7 +63,7 @@ shortest_len (Extension dwt value) = if nat_lt value 8 then 1 else 1 + group_cou
 -- The ignored bits are 0: a second global timestamp alone has such, above its number in the last byte, so that all
 -- groups of the payload make up just the number.
 abbrev pub IsClear : ItmPacket → List ℕ → Type 0
-IsClear (GlobalSecond wide value) r = (payload : List ℕ) × (r ≡ 180 ∷ payload) × (groups payload ≡ value)
+IsClear (GlobalSecond wide value) r = (payload : List ℕ) × (r ≡ 0xB4 ∷ payload) × (groups payload ≡ value)
 IsClear packet r = Unit {0}
 
 -- It spells the packet in bytes whose ignored bits are 0, has this length, and no spelling is shorter.

@@ -14,7 +14,7 @@ use Rattle.port_reader.specs.Reading.{PortReading, frames_of_items}
 
 -- the bytes of a full synchronisation
 abbrev pub full_sync : List ℕ
-full_sync = 255 ∷ (255 ∷ (255 ∷ (127 ∷ [])))
+full_sync = 0xFF ∷ (0xFF ∷ (0xFF ∷ (0x7F ∷ [])))
 
 -- how many half synchronisations an unfinished frame has: those of its bytes, and at a fault those of the bytes before
 -- the one that breaks it
@@ -35,7 +35,7 @@ pub record IsOfItems (skipped : ℕ) (read : Reading PortItem) (r : PortReading)
   pub skipped_is : r.skipped ≡ skipped
   pub locked : r.locked ≡ true
 
--- the bytes u, behind so many skipped ones, read by the grammar
+-- the bytes u, after so many skipped ones, read by the grammar
 abbrev pub IsByGrammar : ℕ → List Placed → PortReading → Type 0
 IsByGrammar skipped u r = (read : Reading PortItem) × IsReading Spells why u read × IsOfItems skipped read r
 

@@ -15,13 +15,13 @@ use Rattle.port_sync.specs.declared.aligner.Part.TheVariants.{Between, First, On
 abbrev pub said : ℕ → Part → ℕ → Half
 said left Between b = Waiting
 said left (First a) b = Pair a b
-said left One b = if b == 127 then HalfSync else (if b == 255 then (if left == 7 then Waiting else Bad SyncInFrame) else Bad BadSync)
-said left Two b = if b == 255 then Waiting else Bad BadSync
-said left Three b = if b == 127 then FullSync else Bad BadSync
+said left One b = if b == 0x7F then HalfSync else (if b == 0xFF then (if left == 7 then Waiting else Bad SyncInFrame) else Bad BadSync)
+said left Two b = if b == 0xFF then Waiting else Bad BadSync
+said left Three b = if b == 0x7F then FullSync else Bad BadSync
 
 -- the part that a byte begins or lengthens
 abbrev pub longer : Part → ℕ → Part
-longer Between b = if b == 255 then One else First b
+longer Between b = if b == 0xFF then One else First b
 longer (First a) b = First a
 longer One b = Two
 longer Two b = Three
@@ -52,14 +52,14 @@ is_bad (Bad e) = true
 -- a halfword does not begin with FF, and two or three FF stand between frames
 abbrev pub is_fit : ℕ → Part → Bool
 is_fit left Between = true
-is_fit left (First a) = not (a == 255)
+is_fit left (First a) = not (a == 0xFF)
 is_fit left One = true
 is_fit left Two = left == 7
 is_fit left Three = left == 7
 
 -- no halfword begins with FF, and full synchronisations stand between frames
 abbrev pub IsSoundAnswer : ℕ → Half → Type 0
-IsSoundAnswer left (Pair a b) = a ≢ 255
+IsSoundAnswer left (Pair a b) = a ≢ 0xFF
 IsSoundAnswer left FullSync = left ≡ 7
 IsSoundAnswer left half = Unit {0}
 

@@ -6,7 +6,7 @@ use Rattle.port_sync.specs.declared.hunter.Hunter.{Hunter}
 
 -- FF FF FF 7F
 abbrev pub pattern : Pattern
-pattern = record { unit = 255; most = 3; last = 127 }
+pattern = record { unit = 0xFF; most = 3; last = 0x7F }
 
 -- how many FF end the bytes so far; more than three count as three
 abbrev pub run_of : Hunter → ℕ
