@@ -1,4 +1,4 @@
-//! The packets.
+//! The packets (ARMv7-M Architecture Reference Manual, Arm DDI 0403, appendix 'Debug ITM and DWT packet protocol').
 
 /// How many bytes a source packet's value has.
 #[derive(Clone, Copy, Debug, PartialEq, Eq, Drop)]
@@ -54,12 +54,12 @@ pub enum ItmPacket {
         size: Size,
         value: u32,
     },
-    /// A local timestamp: the time since the one before, in ticks, under 2^28.
+    /// A local timestamp (LTS1 or LTS2): the time since the one before, in ticks, under 2^28.
     Local {
         lateness: Lateness,
         delta: u32,
     },
-    /// A first global timestamp: the time's low bits in so many payload bytes, 1 to 4, which hold 7, 14, 21
+    /// A first global timestamp (GTS1): the time's low bits in so many payload bytes, 1 to 4, which hold 7, 14, 21
     /// or 26 of them. With four bytes it says also whether the clock's ratio changed, and whether the high
     /// bits did.
     GlobalFirst {
@@ -68,7 +68,7 @@ pub enum ItmPacket {
         change: bool,
         wrap: bool,
     },
-    /// A second global timestamp: the time's bits from bit 26 on, under 2^22, or under 2^38 where it is wide.
+    /// A second global timestamp (GTS2): the time's bits from bit 26 on, under 2^22, or under 2^38 where it is wide.
     GlobalSecond {
         wide: bool,
         value: u64,

@@ -1,3 +1,5 @@
+//! A sink in memory, for tests.
+
 ghost use Rattle.std.specs.Prelude.{Some, ◌≡◌, ◌↔◌, ◌⊎◌, ◌<◌, ◌≤◌, ◌-◌, ◌^◌, min, [], length, Contains, IsErr, IfOk};
 ghost use Rattle.std.specs.Io.KnownBytes.{WriteAppends};
 ghost use Rattle.trace_io.specs.Bytes.{TakesSome};

@@ -1,3 +1,5 @@
+//! A source in memory, for tests.
+
 ghost use Rattle.std.specs.Prelude.{Some, ◌≡◌, ◌↔◌, ◌-◌, ◌^◌, ◌<◌, ◌≤◌, min, [], length, Contains, IsErr, IfOk};
 ghost use Rattle.std.specs.Io.{ReadsAtMost};
 ghost use Rattle.std.specs.Io.KnownBytes.{ReadConsumes};

@@ -1,3 +1,5 @@
+//! How many bytes go at a call, where pieces are stated.
+
 ghost use Rattle.std.specs.Prelude.{◌≡◌};
 ghost use Rattle.trace_io.specs.Memory.{piece_at};
 

@@ -1,3 +1,5 @@
+//! Sources over the readers of the standard library.
+
 ghost use Rattle.std.specs.Prelude.{◌≡◌, ◌-◌, ◌^◌, ◌<◌, ◌≤◌, length};
 ghost use Rattle.std.specs.Io.{ReadsAtMost};
 ghost use Rattle.std.specs.Io.KnownBytes.{ReadConsumes};
@@ -9,8 +11,8 @@ use std::io::Read;
 
 /// A source over any reader of std.
 ///
-/// It counts the reader's errors and the reads that gave no byte, each up to 2^64 - 1, and tells of the bytes what the reader tells: over
-/// a terminal, a pipe or a file that is nothing.
+/// It counts the reader's errors and the reads that gave no byte, each up to 2^64 - 1, and tells of the bytes what the
+/// reader tells: over a terminal, a pipe or a file that is nothing.
 #[derive(Drop)]
 pub struct ReadAdapter<R> {
     inner: R,
