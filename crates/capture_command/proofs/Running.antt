@@ -6,13 +6,13 @@ use Rattle.std.specs.Prelude.{codes}
 use Rattle.std.specs.Io.KnownBytes.{Consumes}
 use Rattle.std.proofs.KnownBytes.{Consumes-nil, Appends-nil}
 use Rattle.circular_buffer.specs.Buffer.{keep_last}
-use Rattle.trace_stream.specs.Served.{HasServed, HasStopped}
+use Rattle.trace_stream.specs.Served.{Meaning, Ends, HasServed, HasStopped}
 use Rattle.trace_stream.specs.declared.outcome.Outcome.{Outcome}
 use Rattle.trace_stream.specs.declared.outcome.Outcome.TheVariants.{AtEnd, FaultFound, ReadFailed, WriteFailed, OverLimit}
 use Rattle.capture_command.specs.declared.status.Status.TheVariants.{NoMemory}
 use Rattle.trace_text.specs.NoteText.{limit_line}
 use Rattle.capture_command.specs.Notes.{Notes, note_of}
-use Rattle.capture_command.specs.Run.{HasRun, Meaning, Streams, Loses, IsDoneOrNoMemory}
+use Rattle.capture_command.specs.Run.{HasRun, TaskMeaning, Streams, Loses, IsDoneOrNoMemory}
 use Rattle.capture_command.specs.Statuses.{status_of}
 
 -- the bytes that were lost are told by what was left
@@ -22,23 +22,27 @@ same_lost (Some a) None xs ys p q = absurd p
 same_lost (Some a) (Some b) xs ys p q = append_cancel_right xs ys b (sym p ∙ q)
 
 -- a stream that meets no cause is served to its end
-pub complete_of : (outcome : Outcome) (faulty : List ℕ → Type 0) (text ending : List ℕ → List ℕ) (limit : ℕ) (left_old left_new held_old held_new : Option (List ℕ)) (recent : List ℕ) (read write : Type 0) (bytes : List ℕ)
-    → HasServed faulty text ending limit left_old left_new held_old held_new recent outcome → (outcome ≡ ReadFailed → read) → (outcome ≡ WriteFailed → write)
-    → Loses left_old left_new bytes → (read → ⊥) → (write → ⊥) → length bytes ≤ limit → (faulty bytes → ⊥) → IsDoneOrNoMemory (status_of outcome)
-complete_of AtEnd faulty text ending limit left_old left_new held_old held_new recent read write bytes served r w lost no_read no_write within sound = inl refl
-complete_of ReadFailed faulty text ending limit left_old left_new held_old held_new recent read write bytes served r w lost no_read no_write within sound = absurd (no_read (r refl))
-complete_of WriteFailed faulty text ending limit left_old left_new held_old held_new recent read write bytes served r w lost no_read no_write within sound = absurd (no_write (w refl))
-complete_of FaultFound faulty text ending limit left_old left_new held_old held_new recent read write bytes served r w lost no_read no_write within sound =
-    let same = same_lost left_old left_new served.bytes bytes served.lost lost in
-    absurd (sound (subst faulty (ap (take limit) same ∙ take_all limit bytes within) served.outcome.0.broken))
-complete_of OverLimit faulty text ending limit left_old left_new held_old held_new recent read write bytes served r w lost no_read no_write within sound =
-    let same = same_lost left_old left_new served.bytes bytes served.lost lost in
+pub complete_of : (outcome : Outcome) (m : Meaning) (limit : ℕ) (old new : Ends) (recent : List ℕ) (read write : Type 0) (bytes : List ℕ)
+    → HasServed m limit old new recent outcome → (outcome ≡ ReadFailed → read) → (outcome ≡ WriteFailed → write)
+    → Loses old.left new.left bytes → (read → ⊥) → (write → ⊥) → length bytes ≤ limit → (m.faulty bytes → ⊥) → IsDoneOrNoMemory (status_of outcome)
+complete_of AtEnd m limit old new recent read write bytes served r w lost no_read no_write within sound = inl refl
+complete_of ReadFailed m limit old new recent read write bytes served r w lost no_read no_write within sound = absurd (no_read (r refl))
+complete_of WriteFailed m limit old new recent read write bytes served r w lost no_read no_write within sound = absurd (no_write (w refl))
+complete_of FaultFound m limit old new recent read write bytes served r w lost no_read no_write within sound =
+    let same = same_lost old.left new.left served.bytes bytes served.lost lost in
+    absurd (sound (subst m.faulty (ap (take limit) same ∙ take_all limit bytes within) served.outcome.0.broken))
+complete_of OverLimit m limit old new recent read write bytes served r w lost no_read no_write within sound =
+    let same = same_lost old.left new.left served.bytes bytes served.lost lost in
     absurd (omega (arith, ap length same, served.outcome.1))
 
+-- the input and the output of a run
+abbrev ends : Streams → Ends
+ends s = record { left = s.left; held = s.held }
+
 -- the table of outcomes is that of statuses
-pub run_of : (outcome : Outcome) (m : Meaning) (limit : ℕ) (old new : Streams) (recent at_fault : List ℕ) (there : List ℕ → Type 0)
-    → HasServed m.faulty m.text m.ending limit old.left new.left old.held new.held recent outcome
-    → (outcome ≡ FaultFound → HasStopped there m.faulty m.text m.ending limit old.left new.left old.held new.held recent)
+pub run_of : (outcome : Outcome) (m : TaskMeaning) (limit : ℕ) (old new : Streams) (recent at_fault : List ℕ) (there : List ℕ → Type 0)
+    → HasServed m.action limit (ends old) (ends new) recent outcome
+    → (outcome ≡ FaultFound → HasStopped there m.action limit (ends old) (ends new) recent)
     → ((seen : List ℕ) → there seen → recent ≡ keep_last 16 seen → at_fault ≡ m.fault_note seen)
     → Notes old.noted new.noted old.note_faults new.note_faults (note_of outcome limit at_fault)
     → HasRun m limit old new (status_of outcome)
@@ -56,7 +60,7 @@ run_of OverLimit m limit old new recent at_fault there s stopped noted_as n =
     record { bytes = s.bytes; out = s.out; note = limit_line limit; lost = s.lost; gained = s.gained; noted = n; at_most = s.at_most; writes = (s.outcome, refl); ended = tt }
 
 -- with no memory to begin with nothing is read or written
-pub run_unopened : (m : Meaning) (limit : ℕ) (left held noted noted' : Option (List ℕ)) (faults faults' : ℕ)
+pub run_unopened : (m : TaskMeaning) (limit : ℕ) (left held noted noted' : Option (List ℕ)) (faults faults' : ℕ)
     → Notes noted noted' faults faults' (codes "no memory\n")
     → HasRun m limit (record { left = left; held = held; noted = noted; note_faults = faults }) (record { left = left; held = held; noted = noted'; note_faults = faults' }) NoMemory
 run_unopened m limit left held noted noted' faults faults' n =

@@ -11,7 +11,7 @@ use Rattle.capture_actions.specs.Summary.{check_text, summary}
 use Rattle.capture_actions.specs.declared.split_plan.SplitPlan.{SplitPlan}
 use Rattle.trace_text.specs.NoteText.{last_line}
 use Rattle.capture_command.specs.Notes.{fault_text}
-use Rattle.capture_command.specs.Run.{Meaning}
+use Rattle.capture_command.specs.Run.{TaskMeaning}
 
 -- the note at a fault that is certain with the last of these bytes: the last sixteen of them
 abbrev pub last_note : List ℕ → List ℕ
@@ -22,22 +22,16 @@ abbrev pub split_note : SplitPlan → List ℕ → List ℕ
 split_note plan seen = fault_text (port_of plan.frames seen).fault ++ last_note seen
 
 -- what the task makes of the bytes of a capture
-abbrev pub meaning_of : Task → Meaning
+abbrev pub meaning_of : Task → TaskMeaning
 meaning_of (Show mode) = record {
-  faulty = IsFaulty mode;
-  text = listed mode;
-  ending = ending mode;
+  action = record { faulty = IsFaulty mode; text = listed mode; ending = ending mode };
   fault_note = last_note;
 }
 meaning_of (Split frames id) = let plan : SplitPlan = record { frames = frames; id = id } in record {
-  faulty = split_faulty plan;
-  text = split_text plan;
-  ending = split_ending plan;
+  action = record { faulty = split_faulty plan; text = split_text plan; ending = split_ending plan };
   fault_note = split_note plan;
 }
 meaning_of (Check mode) = record {
-  faulty = IsPortFaulty mode;
-  text = check_text mode;
-  ending = summary mode;
+  action = record { faulty = IsPortFaulty mode; text = check_text mode; ending = summary mode };
   fault_note = last_note;
 }

@@ -2,20 +2,17 @@
 use Rattle.std.specs.Prelude.{◌≡◌, ◌⊎◌, ℕ, ◌+◌, ◌≤◌, List, [], ◌++◌, length, Some, codes}
 use Rattle.std.specs.declared.option.Option.{Option}
 use Rattle.std.specs.Io.KnownBytes.{Appends, Consumes, IsAtEnd, Keeps}
-use Rattle.trace_stream.specs.Served.{ServedBy}
-use Rattle.trace_stream.specs.declared.outcome.Outcome.{Outcome}
+use Rattle.trace_stream.specs.Served.{Meaning, ServedBy}
 use Rattle.trace_stream.specs.declared.outcome.Outcome.TheVariants.{AtEnd, FaultFound, ReadFailed, WriteFailed, OverLimit}
 use Rattle.trace_text.specs.NoteText.{limit_line}
 use Rattle.capture_command.specs.Notes.{Notes}
 use Rattle.capture_command.specs.declared.status.Status.{Status}
 use Rattle.capture_command.specs.declared.status.Status.TheVariants.{Done, Usage, CaptureFault, ReadFault, WriteFault, NoMemory, Limit}
 
--- what an action makes of the bytes of a capture: which of them have a fault, what is written for those so far, what
--- comes after it at the end or at a fault, and what is noted where a fault is certain with the last of them
-pub record Meaning : Type 1 where
-  pub faulty : List ℕ → Type 0
-  pub text : List ℕ → List ℕ
-  pub ending : List ℕ → List ℕ
+-- what a task makes of the bytes of a capture: what its action does, and what is noted where a fault is certain with
+-- the last of them
+pub record TaskMeaning : Type 1 where
+  pub action : Meaning
   pub fault_note : List ℕ → List ℕ
 
 -- what the streams of a run show at a moment: the bytes that are left in the input, those that the output and the
@@ -26,19 +23,15 @@ pub record Streams : Type 0 where
   pub noted : Option (List ℕ)
   pub note_faults : ℕ
 
--- a row of the table of outcomes
-abbrev pub Serves : Meaning → ℕ → Outcome → List ℕ → List ℕ → List ℕ → Type 0
-Serves m = ServedBy m.faulty m.text m.ending
-
 -- The table of statuses: that of outcomes, and the note. The cases exclude each other. The note at want of memory
 -- hangs on no job: `run` tells it for all words.
-abbrev pub WritesBy : Meaning → ℕ → Status → List ℕ → List ℕ → List ℕ → Type 0
-WritesBy m limit Done bytes out note = Serves m limit AtEnd bytes out [] × (note ≡ [])
+abbrev pub WritesBy : TaskMeaning → ℕ → Status → List ℕ → List ℕ → List ℕ → Type 0
+WritesBy m limit Done bytes out note = ServedBy m.action limit AtEnd bytes out [] × (note ≡ [])
 WritesBy m limit CaptureFault bytes out note =
-    (recent : List ℕ) × (served : Serves m limit FaultFound bytes out recent) × (note ≡ m.fault_note served.0.seen)
-WritesBy m limit ReadFault bytes out note = Serves m limit ReadFailed bytes out [] × (note ≡ codes "read fault\n")
-WritesBy m limit Limit bytes out note = Serves m limit OverLimit bytes out [] × (note ≡ limit_line limit)
-WritesBy m limit WriteFault bytes out note = Serves m limit WriteFailed bytes out [] × (note ≡ codes "write fault\n")
+    (recent : List ℕ) × (served : ServedBy m.action limit FaultFound bytes out recent) × (note ≡ m.fault_note served.0.seen)
+WritesBy m limit ReadFault bytes out note = ServedBy m.action limit ReadFailed bytes out [] × (note ≡ codes "read fault\n")
+WritesBy m limit Limit bytes out note = ServedBy m.action limit OverLimit bytes out [] × (note ≡ limit_line limit)
+WritesBy m limit WriteFault bytes out note = ServedBy m.action limit WriteFailed bytes out [] × (note ≡ codes "write fault\n")
 WritesBy m limit NoMemory bytes out note = (bytes ≡ []) × (out ≡ [])
 WritesBy m limit Usage bytes out note = ⊥
 
@@ -49,7 +42,7 @@ EndsAt left _ = Unit {0}
 
 -- The bytes are those that the input lost, at most one past the limit; out is what the output gained; and
 -- the note is what the notes gained, unless they failed.
-pub record HasRun (meaning : Meaning) (limit : ℕ) (old new : Streams) (status : Status) : Type 0 where
+pub record HasRun (meaning : TaskMeaning) (limit : ℕ) (old new : Streams) (status : Status) : Type 0 where
   pub bytes : List ℕ
   pub out : List ℕ
   pub note : List ℕ

@@ -5,7 +5,7 @@ ghost use Rattle.trace_io.specs.Causes.{Rose};
 ghost use Rattle.trace_stream.specs.Fresh.{IsFresh};
 ghost use Rattle.capture_command.specs.Actions.{meaning_of};
 ghost use Rattle.capture_command.specs.Notes.{Notes};
-ghost use Rattle.capture_command.specs.Run.{HasRun, Meaning, Streams, Loses, IsDoneOrNoMemory};
+ghost use Rattle.capture_command.specs.Run.{HasRun, TaskMeaning, Streams, Loses, IsDoneOrNoMemory};
 
 use crate::actions::CommandAction;
 use crate::notes::{note, note_outcome};
@@ -28,10 +28,8 @@ fn run_action<A: CommandAction, I: Source, O: Sink, N: Sink>(
     requires fresh { IsFresh (A.live action.old) (A.stands action.old) (A.taken action.old) buffers.old }
     requires small { limit ≤ 2 ^ 36 }
     ensures ran { let p = A.plan action.old in
-        let meaning : Meaning = record {
-          faulty = A.faulty p;
-          text = A.text p;
-          ending = A.ending p;
+        let meaning : TaskMeaning = record {
+          action = record { faulty = A.faulty p; text = A.text p; ending = A.ending p };
           fault_note = A.noted p;
         } in
         let before : Streams = record {
@@ -91,7 +89,7 @@ pub fn run_job<I: Source, O: Sink, N: Sink>(
     ensures complete { (bytes : List ℕ) → Loses (I.left input.old) (I.left input.new) bytes →
         (Rose (I.faults input.old) (I.faults input.new) → ⊥) →
         (Rose (O.faults output.old) (O.faults output.new) → ⊥) →
-        length bytes ≤ job.now.limit → ((meaning_of job.now.task).faulty bytes → ⊥) → IsDoneOrNoMemory result }
+        length bytes ≤ job.now.limit → ((meaning_of job.now.task).action.faulty bytes → ⊥) → IsDoneOrNoMemory result }
 {
     let Ok(mut buffers) = Buffers::open(alloc) else {
         note(notes, b"no memory\n");

@@ -81,7 +81,7 @@ pub fn run<I: Source, O: Sink, N: Sink>(
         Loses (I.left input.old) (I.left input.new) bytes →
         (Rose (I.faults input.old) (I.faults input.new) → ⊥) →
         (Rose (O.faults output.old) (O.faults output.new) → ⊥) →
-        length bytes ≤ job.limit → ((meaning_of job.task).faulty bytes → ⊥) → IsDoneOrNoMemory result }
+        length bytes ≤ job.limit → ((meaning_of job.task).action.faulty bytes → ⊥) → IsDoneOrNoMemory result }
 {
     match read_words(alloc, words) {
         Asked::Do(job) => run_job(alloc, &job, input, output, notes),

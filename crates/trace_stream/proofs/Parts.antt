@@ -9,7 +9,14 @@ use Rattle.trace_stream.specs.Written.{GrowsOnly}
 use Rattle.trace_stream.specs.declared.outcome.Outcome.{Outcome}
 use Rattle.trace_stream.specs.declared.outcome.Outcome.TheVariants.{AtEnd, FaultFound, ReadFailed, WriteFailed, OverLimit}
 use Rattle.trace_stream.specs.Pumped.{HasPumped}
-use Rattle.trace_stream.specs.Served.{HasServed, HasStopped}
+use Rattle.trace_stream.specs.Served.{Meaning, Ends, HasServed, HasStopped}
+
+-- what an action makes of bytes, and what the ends of a run show
+abbrev means : (List ℕ → Type 0) → (List ℕ → List ℕ) → (List ℕ → List ℕ) → Meaning
+means faulty text ending = record { faulty = faulty; text = text; ending = ending }
+
+abbrev ends : Option (List ℕ) → Option (List ℕ) → Ends
+ends left held = record { left = left; held = held }
 
 -- the first bytes up to the limit are those seen, and maybe more
 first_bytes : (limit : ℕ) (seen extra : List ℕ) → length seen ≤ limit → take limit (seen ++ extra) ≡ seen ++ take (limit - length seen) extra
@@ -17,7 +24,7 @@ first_bytes limit seen extra h = ap (λ n. take n (seen ++ extra)) (let e : limi
 
 pub served_at_end : (stands faulty : List ℕ → Type 0) (text ending : List ℕ → List ℕ) (limit : ℕ) (left_old left_new start held new : Option (List ℕ)) (pending recent : List ℕ)
     (pumped : HasPumped stands faulty text limit left_old left_new start held pending recent AtEnd) → Appends start new (text pumped.seen ++ ending pumped.seen)
-    → HasServed faulty text ending limit left_old left_new start new recent AtEnd
+    → HasServed (means faulty text ending) limit (ends left_old start) (ends left_new new) recent AtEnd
 served_at_end stands faulty text ending limit left_old left_new start held new pending recent pumped written = record {
   bytes = pumped.seen;
   out = text pumped.seen ++ ending pumped.seen;
@@ -32,13 +39,13 @@ served_at_end stands faulty text ending limit left_old left_new start held new p
 pub served_stopped : (stands faulty : List ℕ → Type 0) (text ending : List ℕ → List ℕ) (limit : ℕ) (left_old left_new start held new : Option (List ℕ)) (pending recent : List ℕ)
     → ((xs ys : List ℕ) → faulty xs → faulty (xs ++ ys)) → ((xs ys : List ℕ) → faulty xs → text (xs ++ ys) ≡ text xs) → ((xs ys : List ℕ) → faulty xs → ending (xs ++ ys) ≡ ending xs)
     → (pumped : HasPumped stands faulty text limit left_old left_new start held pending recent FaultFound) → Appends start new (text pumped.seen ++ ending pumped.seen)
-    → HasStopped stands faulty text ending limit left_old left_new start new recent
+    → HasStopped stands (means faulty text ending) limit (ends left_old start) (ends left_new new) recent
 served_stopped stands faulty text ending limit left_old left_new start held new pending recent faulty_stays text_stays ending_stays pumped written =
     let more = take (limit - length pumped.seen) pumped.extra in
     let front = first_bytes limit pumped.seen pumped.extra pumped.within in
     let same_text : text (take limit (pumped.seen ++ pumped.extra)) ≡ text pumped.seen = ap text front ∙ text_stays pumped.seen more pumped.outcome.certain.broken in
     let same_ending : ending (take limit (pumped.seen ++ pumped.extra)) ≡ ending pumped.seen = ap ending front ∙ ending_stays pumped.seen more pumped.outcome.certain.broken in
-    let served : HasServed faulty text ending limit left_old left_new start new recent FaultFound = record {
+    let served : HasServed (means faulty text ending) limit (ends left_old start) (ends left_new new) recent FaultFound = record {
       bytes = pumped.seen ++ pumped.extra;
       out = text pumped.seen ++ ending pumped.seen;
       lost = pumped.lost;
@@ -51,7 +58,7 @@ served_stopped stands faulty text ending limit left_old left_new start held new 
 
 pub served_read_failed : (stands faulty : List ℕ → Type 0) (text ending : List ℕ → List ℕ) (limit : ℕ) (left_old left_new start held : Option (List ℕ)) (pending recent : List ℕ)
     → HasPumped stands faulty text limit left_old left_new start held pending recent ReadFailed
-    → HasServed faulty text ending limit left_old left_new start held recent ReadFailed
+    → HasServed (means faulty text ending) limit (ends left_old start) (ends left_new held) recent ReadFailed
 served_read_failed stands faulty text ending limit left_old left_new start held pending recent pumped = record {
   bytes = pumped.seen;
   out = text pumped.seen;
@@ -64,7 +71,7 @@ served_read_failed stands faulty text ending limit left_old left_new start held 
 
 pub served_over_limit : (stands faulty : List ℕ → Type 0) (text ending : List ℕ → List ℕ) (limit : ℕ) (left_old left_new start held : Option (List ℕ)) (pending recent : List ℕ)
     → HasPumped stands faulty text limit left_old left_new start held pending recent OverLimit
-    → HasServed faulty text ending limit left_old left_new start held recent OverLimit
+    → HasServed (means faulty text ending) limit (ends left_old start) (ends left_new held) recent OverLimit
 served_over_limit stands faulty text ending limit left_old left_new start held pending recent pumped =
     let count : length pumped.seen ≡ limit = pumped.outcome.1 in
     let front : take limit (pumped.seen ++ pumped.extra) ≡ pumped.seen = sym (ap (λ n. take n (pumped.seen ++ pumped.extra)) count) ∙ take-append_seam pumped.seen pumped.extra in
@@ -82,7 +89,7 @@ served_over_limit stands faulty text ending limit left_old left_new start held p
 pub served_in_part : (stands faulty : List ℕ → Type 0) (text ending : List ℕ → List ℕ) (limit : ℕ) (left_old left_new start held new : Option (List ℕ)) (pending recent : List ℕ) (how : Outcome)
     (pumped : HasPumped stands faulty text limit left_old left_new start held pending recent how) (part : List ℕ) → AppendsPrefix start new part
     → GrowsOnly part (text (take limit (pumped.seen ++ pumped.extra)) ++ ending (take limit (pumped.seen ++ pumped.extra)))
-    → HasServed faulty text ending limit left_old left_new start new recent WriteFailed
+    → HasServed (means faulty text ending) limit (ends left_old start) (ends left_new new) recent WriteFailed
 served_in_part stands faulty text ending limit left_old left_new start held new pending recent how pumped part prefix grows = record {
   bytes = pumped.seen ++ pumped.extra;
   out = prefix.1.front;

@@ -7,6 +7,18 @@ use Rattle.trace_stream.specs.Written.{GrowsOnly, IsCertainAt}
 use Rattle.trace_stream.specs.declared.outcome.Outcome.{Outcome}
 use Rattle.trace_stream.specs.declared.outcome.Outcome.TheVariants.{AtEnd, FaultFound, ReadFailed, WriteFailed, OverLimit}
 
+-- What an action makes of the bytes of a capture: which of them have a fault, what is written for those so far, and
+-- what comes after it at the end or at a fault.
+pub record Meaning : Type 1 where
+  pub faulty : List ℕ → Type 0
+  pub text : List ℕ → List ℕ
+  pub ending : List ℕ → List ℕ
+
+-- what the two ends of a run show at a moment: the bytes that are left in the input, and those that the output took
+pub record Ends : Type 0 where
+  pub left : Option (List ℕ)
+  pub held : Option (List ℕ)
+
 -- the reading of these bytes has a fault, which became certain at some byte
 pub record StopsWithin (faulty : List ℕ → Type 0) (bytes : List ℕ) : Type 0 where
   pub seen : List ℕ
@@ -17,19 +29,17 @@ pub record StopsWithin (faulty : List ℕ → Type 0) (bytes : List ℕ) : Type 
 
 -- what the bytes that were read are, and what went out for them, by the outcome; at a fault the recent
 -- bytes are the last sixteen up to the one at which the fault became certain
-abbrev pub ServedBy : (List ℕ → Type 0) → (List ℕ → List ℕ) → (List ℕ → List ℕ) → ℕ → Outcome
-    → List ℕ → List ℕ → List ℕ → Type 0
-ServedBy faulty text ending limit AtEnd bytes out recent =
-    (faulty bytes → ⊥) × (length bytes ≤ limit) × (out ≡ text bytes ++ ending bytes)
-ServedBy faulty text ending limit FaultFound bytes out recent =
-    (stop : StopsWithin faulty (take limit bytes)) × (out ≡ text (take limit bytes) ++ ending (take limit bytes))
-    × (recent ≡ keep_last 16 stop.seen)
-ServedBy faulty text ending limit ReadFailed bytes out recent =
-    (faulty bytes → ⊥) × (length bytes ≤ limit) × (out ≡ text bytes)
-ServedBy faulty text ending limit WriteFailed bytes out recent =
-    GrowsOnly out (text (take limit bytes) ++ ending (take limit bytes))
-ServedBy faulty text ending limit OverLimit bytes out recent =
-    (faulty (take limit bytes) → ⊥) × (limit < length bytes) × (out ≡ text (take limit bytes))
+abbrev pub ServedBy : Meaning → ℕ → Outcome → List ℕ → List ℕ → List ℕ → Type 0
+ServedBy m limit AtEnd bytes out recent =
+    (m.faulty bytes → ⊥) × (length bytes ≤ limit) × (out ≡ m.text bytes ++ m.ending bytes)
+ServedBy m limit FaultFound bytes out recent =
+    (stop : StopsWithin m.faulty (take limit bytes))
+    × (out ≡ m.text (take limit bytes) ++ m.ending (take limit bytes)) × (recent ≡ keep_last 16 stop.seen)
+ServedBy m limit ReadFailed bytes out recent =
+    (m.faulty bytes → ⊥) × (length bytes ≤ limit) × (out ≡ m.text bytes)
+ServedBy m limit WriteFailed bytes out recent = GrowsOnly out (m.text (take limit bytes) ++ m.ending (take limit bytes))
+ServedBy m limit OverLimit bytes out recent =
+    (m.faulty (take limit bytes) → ⊥) × (limit < length bytes) × (out ≡ m.text (take limit bytes))
 
 -- where all was read the input is at its end
 abbrev pub EndsAt : Option (List ℕ) → Outcome → Type 0
@@ -38,18 +48,17 @@ EndsAt left _ = Unit {0}
 
 -- the bytes are those that the input lost, at most one past the limit, out is what the output gained, and
 -- recent is what the ring keeps after the run
-pub record HasServed (faulty : List ℕ → Type 0) (text ending : List ℕ → List ℕ) (limit : ℕ)
-    (left_old left_new held_old held_new : Option (List ℕ)) (recent : List ℕ) (result : Outcome) : Type 0 where
+pub record HasServed (m : Meaning) (limit : ℕ) (old new : Ends) (recent : List ℕ) (result : Outcome) : Type 0 where
   pub bytes : List ℕ
   pub out : List ℕ
-  pub lost : Consumes left_old left_new bytes
-  pub gained : Appends held_old held_new out
+  pub lost : Consumes old.left new.left bytes
+  pub gained : Appends old.held new.held out
   pub at_most : length bytes ≤ limit + 1
-  pub outcome : ServedBy faulty text ending limit result bytes out recent
-  pub ended : EndsAt left_new result
+  pub outcome : ServedBy m limit result bytes out recent
+  pub ended : EndsAt new.left result
 
 -- a run that stopped was served so, and this holds of the bytes up to the one at which the fault became certain
-pub record HasStopped (there faulty : List ℕ → Type 0) (text ending : List ℕ → List ℕ) (limit : ℕ)
-    (left_old left_new held_old held_new : Option (List ℕ)) (recent : List ℕ) : Type 0 where
-  pub served : HasServed faulty text ending limit left_old left_new held_old held_new recent FaultFound
+pub record HasStopped (there : List ℕ → Type 0) (m : Meaning) (limit : ℕ) (old new : Ends) (recent : List ℕ)
+    : Type 0 where
+  pub served : HasServed m limit old new recent FaultFound
   pub holds : there served.outcome.0.seen

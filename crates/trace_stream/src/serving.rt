@@ -6,7 +6,7 @@ ghost use Rattle.std.specs.Io.KnownBytes.{Appends};
 ghost use Rattle.trace_io.specs.Bytes.{TakesFront, AppendsPrefix};
 ghost use Rattle.trace_io.specs.Causes.{HasCause, Rose};
 ghost use Rattle.trace_stream.specs.Fresh.{IsFresh};
-ghost use Rattle.trace_stream.specs.Served.{HasServed, HasStopped};
+ghost use Rattle.trace_stream.specs.Served.{Meaning, Ends, HasServed, HasStopped};
 
 use crate::action::Action;
 use crate::buffers::Buffers;
@@ -48,12 +48,17 @@ pub fn serve<A: Action, I: Source, O: Sink>(
 ) -> Outcome
     requires fresh { IsFresh (A.live action.old) (A.stands action.old) (A.taken action.old) buffers.old }
     requires small { limit ≤ 2 ^ 36 }
-    ensures served { let p = A.plan action.old in HasServed (A.faulty p) (A.text p) (A.ending p) limit
-        (I.left input.old) (I.left input.new) (O.held output.old) (O.held output.new) buffers.new.recent result }
+    ensures served { let p = A.plan action.old in
+        let meaning : Meaning = record { faulty = A.faulty p; text = A.text p; ending = A.ending p } in
+        let before : Ends = record { left = I.left input.old; held = O.held output.old } in
+        let after : Ends = record { left = I.left input.new; held = O.held output.new } in
+        HasServed meaning limit before after buffers.new.recent result }
     ensures same { A.plan action.new ≡ A.plan action.old }
     ensures stopped { result ≡ Outcome.FaultFound → let p = A.plan action.old in
-        HasStopped (A.stands action.new) (A.faulty p) (A.text p) (A.ending p) limit
-        (I.left input.old) (I.left input.new) (O.held output.old) (O.held output.new) buffers.new.recent }
+        let meaning : Meaning = record { faulty = A.faulty p; text = A.text p; ending = A.ending p } in
+        let before : Ends = record { left = I.left input.old; held = O.held output.old } in
+        let after : Ends = record { left = I.left input.new; held = O.held output.new } in
+        HasStopped (A.stands action.new) meaning limit before after buffers.new.recent }
     ensures written { result ≢ Outcome.WriteFailed → buffers.new.pending ≡ [] }
     ensures one_empty_read { I.empty_reads input.new ≤ I.empty_reads input.old + 1 }
     ensures read_later { I.faults input.old ≤ I.faults input.new }
