@@ -30,20 +30,21 @@ task_with SplitName frames packets itm (Some id) = Ok (Split frames id)
 task_with CheckName frames packets (Some n) id = Err Unbuilt
 task_with CheckName frames packets None id = Ok (Check frames)
 
-abbrev pub with_limit : Result Task UsageFault → ℕ → Result Job UsageFault
-with_limit (Err fault) limit = Err fault
-with_limit (Ok task) limit = Ok (record { task = task; limit = limit })
+infixr 10 ◌>>=◌
+-- a fault, or else what is made of the value
+abbrev ◌>>=◌ : {A B : Type 0} → Result A UsageFault → (A → Result B UsageFault) → Result B UsageFault
+Err fault >>= next = Err fault
+Ok value >>= next = next value
 
 -- The first fault of the action's name, of the options' values in the order of the command, and of what the
 -- action needs; and where there is none, the job. An option that the action doesn't use has no effect.
-abbrev pub job_with : Result ActionName UsageFault → Result FramesMode UsageFault → Result PacketsMode UsageFault → Result (Option ℕ) UsageFault → Result (Option ℕ) UsageFault → Result ℕ UsageFault → Result Job UsageFault
-job_with (Err fault) frames packets itm id limit = Err fault
-job_with (Ok name) (Err fault) packets itm id limit = Err fault
-job_with (Ok name) (Ok frames) (Err fault) itm id limit = Err fault
-job_with (Ok name) (Ok frames) (Ok packets) (Err fault) id limit = Err fault
-job_with (Ok name) (Ok frames) (Ok packets) (Ok itm) (Err fault) limit = Err fault
-job_with (Ok name) (Ok frames) (Ok packets) (Ok itm) (Ok id) (Err fault) = Err fault
-job_with (Ok name) (Ok frames) (Ok packets) (Ok itm) (Ok id) (Ok limit) = with_limit (task_with name frames packets itm id) limit
-
 abbrev pub job_of : List Row → Result Job UsageFault
-job_of rows = job_with (action_in rows) (frames_in rows) (packets_in rows) (itm_in rows) (id_in rows) (limit_in rows)
+job_of rows =
+    action_in rows >>= (λ name.
+    frames_in rows >>= (λ frames.
+    packets_in rows >>= (λ packets.
+    itm_in rows >>= (λ itm.
+    id_in rows >>= (λ id.
+    limit_in rows >>= (λ limit.
+    task_with name frames packets itm id >>= (λ task.
+    Ok (record { task = task; limit = limit }))))))))

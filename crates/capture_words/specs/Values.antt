@@ -18,15 +18,21 @@ use Rattle.capture_words.specs.declared.values.ActionName.TheVariants.{Show, Spl
 
 -- the action that a text names
 abbrev pub action_named : Text → Option ActionName
-action_named text = if bytes_eq text (codes "show") then Some Show else if bytes_eq text (codes "split") then Some Split else if bytes_eq text (codes "check") then Some Check else None
+action_named text =
+    if bytes_eq text (codes "show") then Some Show
+    else if bytes_eq text (codes "split") then Some Split
+    else if bytes_eq text (codes "check") then Some Check
+    else None
 
 -- the number from `least` to `greatest` whose decimal the text is. A decimal has no sign, and no leading zero
 -- unless it is 0. No other number than the value of its digits can be meant.
 abbrev pub is_number : ℕ → ℕ → Text → ℕ → Bool
 is_number least greatest text n = nat_le least n && nat_le n greatest && bytes_eq (decimal n) text
 
+-- and that number, if there is one
 abbrev pub number_named : ℕ → ℕ → Text → Option ℕ
-number_named least greatest text = if is_number least greatest text (digits_value 10 text) then Some (digits_value 10 text) else None
+number_named least greatest text =
+    if is_number least greatest text (digits_value 10 text) then Some (digits_value 10 text) else None
 
 -- what an option says: its default where it is absent, and else what its text names. Where that is nothing, its
 -- value is bad
@@ -35,7 +41,8 @@ value_of default named None = Some default
 value_of default named (Some text) = named text
 
 abbrev pub option_in : {T : Type 0} → CommandOption → T → (Text → Option T) → List Row → Result T UsageFault
-option_in option default named rows = ok_or (value_of default named (first_of (option_name option) rows)) (BadValue option)
+option_in option default named rows =
+    ok_or (value_of default named (first_of (option_name option) rows)) (BadValue option)
 
 abbrev pub action_in : List Row → Result ActionName UsageFault
 action_in rows = ok_or (option_and_then action_named (first_of (codes "action") rows)) UnknownAction
