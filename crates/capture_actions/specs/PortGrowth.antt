@@ -10,7 +10,8 @@ use Rattle.deformatter.specs.Growth.{fulls_by, halves_by, fault_by}
 use Rattle.port_reader.specs.Reading.{PortReading}
 use Rattle.port_reader.specs.Growth.{frames_by, CellsFit}
 
--- With some bytes the reading grew from old to new by what the step of the last one says, since all before it were quiet.
+-- With some bytes the reading grew from old to new by what the step of the last one says, since all before it were
+-- quiet.
 pub record Grew (old new : PortReading) (step : PortStep) (cells : List Cell) : Type 0 where
   pub frames : new.frames ≡ old.frames ++ frames_by step cells
   pub fit : CellsFit step cells
@@ -18,6 +19,7 @@ pub record Grew (old new : PortReading) (step : PortStep) (cells : List Cell) : 
   pub halves : new.halves ≡ old.halves + halves_by step
   pub fault : new.fault ≡ fault_by step
 
--- the cells of a frame after this ID, whose bytes are these from this offset on, with half synchronisations between them
+-- the cells of a frame after this ID, whose bytes are these from this offset on, with half synchronisations
+-- between them
 abbrev pub whole_cells : ℕ → List ℕ → List ℕ → Option ℕ → List Cell
 whole_cells at bytes frame id = cells frame (offsets_of (without_halves (placed_from at bytes))) id

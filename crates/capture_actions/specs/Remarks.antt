@@ -1,5 +1,5 @@
--- What stands beside the timestamps of a source: the times behind the packets up to each (ARMv7-M Architecture Reference Manual,
--- 'Debug ITM and DWT packet protocol', timestamp packets).
+-- What is beside the timestamps of a source: the times after the packets up to each (ARMv7-M Architecture Reference
+-- Manual, Arm DDI 0403, appendix 'Debug ITM and DWT packet protocol', timestamp packets).
 use Rattle.std.specs.Prelude.{ℕ, List, [], ◌∷◌, flat_map, Option}
 use Rattle.itm_grammar.specs.declared.packet.ItmPacket.{ItmPacket}
 use Rattle.itm_grammar.specs.declared.packet.ItmPacket.TheVariants.{Local, GlobalFirst, GlobalSecond}

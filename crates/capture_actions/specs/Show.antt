@@ -9,7 +9,8 @@ use Rattle.capture_actions.specs.Clocks as clocks
 use Rattle.capture_actions.specs.Listing.{packets_of, packets_given}
 use Rattle.capture_actions.specs.declared.show.Show.{Show}
 
--- its decoder stands for these bytes, its clocks have taken their packets, it has counted them, and it keeps the fault of their reading
+-- its decoder stands for these bytes, its clocks have taken their packets, it has counted them, and it keeps the
+-- fault of their reading
 pub record Stands (show : Show) (seen : List ℕ) : Type 0 where
   pub decoder : decoder.Stands show.decoder (placed seen)
   pub clocks : clocks.Stands show.clocks (packets_given (packets_of show.mode seen).given)

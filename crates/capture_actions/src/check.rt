@@ -56,7 +56,8 @@ impl Check {
         ensures taken { result ≡ record { bytes = 16 + 2 * halves; flow = On } }
         ensures count { taken_by self.new ≡ taken_by self.old + (16 + 2 * halves) }
         ensures fed { (seen w out : List ℕ) → Stands self.old seen → IsWhole w frame.now halves →
-            HasTaken (Stands self.new) (IsPortFaulty (plan_of self.old)) (check_text (plan_of self.old)) seen w out out On }
+            HasTaken (Stands self.new) (IsPortFaulty (plan_of self.old)) (check_text (plan_of self.old))
+            seen w out out On }
         ensures live { IsLive self.new }
     {
         let after = self
@@ -79,7 +80,8 @@ impl Check {
         ensures front { TakesSome piece.now result.bytes }
         ensures count { taken_by self.new ≡ taken_by self.old + result.bytes }
         ensures fed { (seen out : List ℕ) → Stands self.old seen →
-            HasTaken (Stands self.new) (IsPortFaulty (plan_of self.old)) (check_text (plan_of self.old)) seen (take result.bytes piece.now) out out result.flow }
+            HasTaken (Stands self.new) (IsPortFaulty (plan_of self.old)) (check_text (plan_of self.old))
+            seen (take result.bytes piece.now) out out result.flow }
         ensures live { result.flow ≡ Flow.On → IsLive self.new }
     {
         let mut cells = ArrayVec::<Cell, 15>::new();
@@ -95,7 +97,8 @@ impl Check {
     fn put_counts(&self, outlet: &mut Outlet)
         requires empty { outlet.old ≡ [] }
         requires live { IsLive self.now }
-        ensures { (seen : List ℕ) → Stands self.now seen → outlet.new ≡ counts_text (plan_of self.now) (length seen) (port_of (plan_of self.now) seen) }
+        ensures { (seen : List ℕ) → Stands self.now seen →
+            outlet.new ≡ counts_text (plan_of self.now) (length seen) (port_of (plan_of self.now) seen) }
     {
         self.counters.put(outlet);
         outlet.put(&EndLine {

@@ -34,8 +34,10 @@ impl Clocks {
     pub fn remark(&mut self, packet: &ItmPacket) -> Remark
         requires proper { IsProper packet.now }
         requires room { ticks_of self.old + 2 ^ 28 ≤ 2 ^ 64 }
-        ensures behind { (packets : List ItmPacket) → Stands self.old packets → Stands self.new (packets ++ packet.now ∷ []) }
-        ensures remark { (packets : List ItmPacket) → Stands self.old packets → result ≡ remark_by (packets ++ packet.now ∷ []) packet.now }
+        ensures behind { (packets : List ItmPacket) → Stands self.old packets →
+            Stands self.new (packets ++ packet.now ∷ []) }
+        ensures remark { (packets : List ItmPacket) → Stands self.old packets →
+            result ≡ remark_by (packets ++ packet.now ∷ []) packet.now }
         ensures ticks { ticks_of self.new < ticks_of self.old + 2 ^ 28 }
     {
         match *packet {

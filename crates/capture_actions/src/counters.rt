@@ -44,7 +44,8 @@ fn put_counts(outlet: &mut Outlet, id: SourceId, counts: Counts)
 fn put_source(outlet: &mut Outlet, number: u8, sources: &SourceCounts)
     requires source { number ≤ 126 }
     requires room { length outlet.old + TEXT_ROOM ≤ OUTLET_ROOM }
-    ensures text { (frames : List (List Cell)) → kept.Stands sources.now frames → outlet.new ≡ outlet.old ++ source_text number (counts_of number frames) }
+    ensures text { (frames : List (List Cell)) → kept.Stands sources.now frames →
+        outlet.new ≡ outlet.old ++ source_text number (counts_of number frames) }
     ensures bound { length outlet.new ≤ length outlet.old + SOURCE_COUNTS_ROOM }
 {
     match SourceId::new(number) {
@@ -56,7 +57,8 @@ fn put_source(outlet: &mut Outlet, number: u8, sources: &SourceCounts)
 /// The lines of all sources that sent a byte, in the order of their IDs.
 fn put_sources(outlet: &mut Outlet, sources: &SourceCounts)
     requires room { length outlet.old + SOURCES * SOURCE_COUNTS_ROOM + TEXT_ROOM ≤ OUTLET_ROOM }
-    ensures text { (frames : List (List Cell)) → kept.Stands sources.now frames → outlet.new ≡ outlet.old ++ sources_text frames SOURCES }
+    ensures text { (frames : List (List Cell)) → kept.Stands sources.now frames →
+        outlet.new ≡ outlet.old ++ sources_text frames SOURCES }
     ensures bound { length outlet.new ≤ length outlet.old + SOURCES * SOURCE_COUNTS_ROOM }
 {
     for number in 0..SOURCES {
@@ -95,8 +97,8 @@ impl Counters {
         }
     }
 
-    /// Counts a frame by its bytes, with this many half synchronisations between its halfwords. `before` is the ID before
-    /// it, and the answer the ID after it.
+    /// Counts a frame by its bytes, with this many half synchronisations between its halfwords. `before` is the ID
+    /// before it, and the answer the ID after it.
     #[inline]
     pub fn add_frame(
         &mut self,
@@ -105,8 +107,8 @@ impl Counters {
         before: Option<SourceId>,
     ) -> Option<SourceId>
         requires { size_of self.old + (16 + halves) ≤ 2 ^ 60 }
-        ensures counted { (old new : PortReading) (at : List ℕ) → GrowsByFrame old new halves (cells frame.now at before) →
-            Stands self.old old → Stands self.new new }
+        ensures counted { (old new : PortReading) (at : List ℕ) →
+            GrowsByFrame old new halves (cells frame.now at before) → Stands self.old old → Stands self.new new }
         ensures after { result ≡ id_after frame.now before }
         ensures size { size_of self.new ≤ size_of self.old + (16 + halves) }
     {

@@ -94,8 +94,9 @@ impl CapturePort {
         self.reader.id()
     }
 
-    /// Passes over the bytes of a whole frame, which the caller takes, with the half synchronisations between its halfwords:
-    /// so many are they in all, and `after` is the ID after them. Nothing of a frame or a synchronisation may be there.
+    /// Passes over the bytes of a whole frame, which the caller takes, with the half synchronisations between its
+    /// halfwords: `bytes` of them in all, and `after` is the ID after them. Nothing of a frame or a synchronisation
+    /// may be there.
     #[inline]
     pub fn pass_frame(&mut self, bytes: usize, after: Option<SourceId>)
         requires live { IsLive self.old }
@@ -114,8 +115,8 @@ impl CapturePort {
         self.count += bytes as u64;
     }
 
-    /// Takes bytes from the front of a piece up to the first with which a frame or a synchronisation ends, or a fault is
-    /// certain, or to the piece's end. Where a frame ends, `cells` has its cells afterwards, and else nothing.
+    /// Takes bytes from the front of a piece up to the first with which a frame or a synchronisation ends, or a
+    /// fault is certain, or to the piece's end. Where a frame ends, `cells` has its cells afterwards, and else nothing.
     pub fn feed_piece(&mut self, piece: &[u8], cells: &mut ArrayVec<Cell, 15>) -> Taken
         requires live { IsLive self.old }
         requires empty { cells.old.items ≡ [] }
@@ -127,9 +128,11 @@ impl CapturePort {
         ensures count { count_of self.new ≡ count_of self.old + result.bytes }
         ensures read { (seen : List ℕ) → Stands self.old seen → Stands self.new (seen ++ take result.bytes piece.now) }
         ensures grew { (seen : List ℕ) → Stands self.old seen →
-            Grew (port_of (frames_mode self.old) seen) (port_of (frames_mode self.old) (seen ++ take result.bytes piece.now)) result.step cells.new.items }
+            Grew (port_of (frames_mode self.old) seen)
+            (port_of (frames_mode self.old) (seen ++ take result.bytes piece.now)) result.step cells.new.items }
         ensures flow { (seen : List ℕ) → Stands self.old seen →
-            FlowAfter (IsPortFaulty (frames_mode self.old)) (seen ++ take result.bytes piece.now) (flow_by result.step) }
+            FlowAfter (IsPortFaulty (frames_mode self.old)) (seen ++ take result.bytes piece.now)
+            (flow_by result.step) }
         ensures live { goes_on result.step ≡ true → IsLive self.new }
     {
         let taken = self.reader.feed_block(self.count, piece, cells);
@@ -147,7 +150,8 @@ impl CapturePort {
 
     /// Its fault, if it has one.
     pub fn fault(&self) -> Option<Fault>
-        ensures list { (seen : List ℕ) → Stands self.now seen → option_map told result ≡ (port_of (frames_mode self.now) seen).fault }
+        ensures list { (seen : List ℕ) → Stands self.now seen →
+            option_map told result ≡ (port_of (frames_mode self.now) seen).fault }
         ensures live { result ≡ None → IsLive self.now }
     {
         self.fault

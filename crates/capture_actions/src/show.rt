@@ -46,8 +46,10 @@ fn put_step(
     requires fits { StepFits IsProper step.now }
     requires room { length outlet.old + 2 * TEXT_ROOM ≤ OUTLET_ROOM }
     requires ticks { ticks_of clocks.old + 2 ^ 28 ≤ 2 ^ 64 }
-    ensures text { (packets : List ItmPacket) → times.Stands clocks.old packets → outlet.new ≡ outlet.old ++ lines_behind packets (given_by at step.now) }
-    ensures behind { (packets : List ItmPacket) → times.Stands clocks.old packets → times.Stands clocks.new (packets ++ packets_given (given_by at step.now)) }
+    ensures text { (packets : List ItmPacket) → times.Stands clocks.old packets →
+        outlet.new ≡ outlet.old ++ lines_behind packets (given_by at step.now) }
+    ensures behind { (packets : List ItmPacket) → times.Stands clocks.old packets →
+        times.Stands clocks.new (packets ++ packets_given (given_by at step.now)) }
     ensures ticks { ticks_of clocks.new < ticks_of clocks.old + 2 ^ 28 }
 {
     match step {

@@ -82,7 +82,8 @@ impl Split {
         ensures taken { result ≡ record { bytes = 16 + 2 * halves; flow = On } }
         ensures count { taken_by self.new ≡ taken_by self.old + (16 + 2 * halves) }
         ensures fed { (seen w : List ℕ) → Stands self.old seen → IsWhole w frame.now halves →
-            HasTaken (Stands self.new) (split_faulty (plan_of self.old)) (split_text (plan_of self.old)) seen w outlet.old outlet.new On }
+            HasTaken (Stands self.new) (split_faulty (plan_of self.old)) (split_text (plan_of self.old))
+            seen w outlet.old outlet.new On }
         ensures live { IsLive self.new }
     {
         let mut bytes = [0; 16];
@@ -106,7 +107,8 @@ impl Split {
         ensures front { TakesSome piece.now result.bytes }
         ensures count { taken_by self.new ≡ taken_by self.old + result.bytes }
         ensures fed { (seen : List ℕ) → Stands self.old seen →
-            HasTaken (Stands self.new) (split_faulty (plan_of self.old)) (split_text (plan_of self.old)) seen (take result.bytes piece.now) outlet.old outlet.new result.flow }
+            HasTaken (Stands self.new) (split_faulty (plan_of self.old)) (split_text (plan_of self.old))
+            seen (take result.bytes piece.now) outlet.old outlet.new result.flow }
         ensures live { result.flow ≡ Flow.On → IsLive self.new }
     {
         let mut cells = ArrayVec::<Cell, 15>::new();
@@ -120,7 +122,8 @@ impl Split {
 
     /// The port's fault, if it has one.
     pub fn fault(&self) -> Option<Fault>
-        ensures { (seen : List ℕ) → Stands self.now seen → option_map told result ≡ (port_of (plan_of self.now).frames seen).fault }
+        ensures { (seen : List ℕ) → Stands self.now seen →
+            option_map told result ≡ (port_of (plan_of self.now).frames seen).fault }
     {
         self.port.fault()
     }
