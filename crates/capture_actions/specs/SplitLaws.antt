@@ -24,15 +24,18 @@ nothing_at_first p = ap (λ (frames : List (List Cell)). bytes_of_id p.id
 pub faulty_stays : (p : SplitPlan) (xs ys : List ℕ) → split_faulty p xs → split_faulty p (xs ++ ys)
 faulty_stays p xs ys h = port.faulty_stays p.frames xs ys h
 
-pub text_stays : (p : SplitPlan) (xs ys : List ℕ) → split_faulty p xs → split_text p (xs ++ ys) ≡ split_text p xs
+pub text_stays : (p : SplitPlan) (xs ys : List ℕ) → split_faulty p xs →
+    split_text p (xs ++ ys) ≡ split_text p xs
 text_stays p xs ys h = ap (λ (frames : List (List Cell)). bytes_of_id p.id
     (flat_map (λ (frame : List Cell). frame) frames)) (port.port_settled p.frames xs ys h).frames
 
-pub ending_stays : (p : SplitPlan) (xs ys : List ℕ) → split_faulty p xs → split_ending p (xs ++ ys) ≡ split_ending p xs
+pub ending_stays : (p : SplitPlan) (xs ys : List ℕ) → split_faulty p xs →
+    split_ending p (xs ++ ys) ≡ split_ending p xs
 ending_stays p xs ys h = refl
 
 -- the bytes of two lists of cells are those of the first and those of the second
-pub bytes_of_id-append : (id : ℕ) (a b : List Cell) → bytes_of_id id (a ++ b) ≡ bytes_of_id id a ++ bytes_of_id id b
+pub bytes_of_id-append : (id : ℕ) (a b : List Cell) →
+    bytes_of_id id (a ++ b) ≡ bytes_of_id id a ++ bytes_of_id id b
 bytes_of_id-append id a b =
     ap (map (λ (c : Cell). c.byte)) (filter-append (λ (c : Cell). is_source id c.id) a b)
     ∙ map-append (λ (c : Cell). c.byte) (source_list id a) (source_list id b)

@@ -71,7 +71,8 @@ impl Counters {
 
     /// Nothing came yet.
     pub fn new() -> Counters
-        ensures counted { (r : PortReading) → r.frames ≡ [] → r.fulls ≡ 0 → r.halves ≡ 0 → Stands result r }
+        ensures counted { (r : PortReading) → r.frames ≡ [] → r.fulls ≡ 0 → r.halves ≡ 0 →
+            Stands result r }
         ensures size { size_of result ≡ 0 }
     {
         Counters {

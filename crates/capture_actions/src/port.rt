@@ -126,7 +126,8 @@ impl CapturePort {
         ensures bytes { (0 < result.bytes) × (result.bytes ≤ length piece.now) }
         ensures stops { result.step ≡ Quiet → result.bytes ≡ length piece.now }
         ensures count { count_of self.new ≡ count_of self.old + result.bytes }
-        ensures read { (seen : List ℕ) → Stands self.old seen → Stands self.new (seen ++ take result.bytes piece.now) }
+        ensures read { (seen : List ℕ) → Stands self.old seen →
+            Stands self.new (seen ++ take result.bytes piece.now) }
         ensures grew { (seen : List ℕ) → Stands self.old seen →
             Grew (port_of (frames_mode self.old) seen)
             (port_of (frames_mode self.old) (seen ++ take result.bytes piece.now)) result.step cells.new.items }
@@ -166,7 +167,8 @@ impl CapturePort {
 
     /// Whether the reading has begun.
     pub fn is_locked(&self) -> bool
-        ensures { (seen : List ℕ) → Stands self.now seen → result ≡ (port_of (frames_mode self.now) seen).locked }
+        ensures { (seen : List ℕ) → Stands self.now seen →
+            result ≡ (port_of (frames_mode self.now) seen).locked }
     {
         self.reader.is_locked()
     }
@@ -174,7 +176,8 @@ impl CapturePort {
     /// How many bytes stand before the reading.
     pub fn skipped(&self) -> u64
         requires { IsLive self.now }
-        ensures { (seen : List ℕ) → Stands self.now seen → result ≡ (port_of (frames_mode self.now) seen).skipped }
+        ensures { (seen : List ℕ) → Stands self.now seen →
+            result ≡ (port_of (frames_mode self.now) seen).skipped }
     {
         self.reader.skipped()
     }
