@@ -112,7 +112,7 @@ item_rise Full id r lo hi s rise = rise_le (offsets_of r) lo hi rise
 item_rise Half id r lo hi s rise = rise_le (offsets_of r) lo hi rise
 item_rise (Frame f halves) id r lo hi s rise = cells_rise (units_of f) (offsets_of f) id lo hi (frame_rise halves f r lo hi s rise) (offsets_length f ∙ frame_bytes f r halves s)
 
-items_rise : (items : List (PortItem × Place)) (id : Option ℕ) (rest u : List Placed) (lo hi : ℕ) → Splits Spells items rest u → BytesRise lo hi u → CellsRise lo hi (cells_of_items id (items_of items))
+pub items_rise : (items : List (PortItem × Place)) (id : Option ℕ) (rest u : List Placed) (lo hi : ℕ) → Splits Spells items rest u → BytesRise lo hi u → CellsRise lo hi (cells_of_items id (items_of items))
 items_rise [] id rest u lo hi s rise = rise_le (offsets_of u) lo hi rise
 items_rise (x ∷ items) id rest u lo hi (a, l, w, spelled, parts, place, more) rise =
     let first = a ++ l ∷ [] in

@@ -1,0 +1,10 @@
+pub mod Merges
+pub mod Running
+pub mod Raws
+pub mod Family
+pub mod Placing
+pub mod Locking
+pub mod Least
+pub mod Settling
+pub mod Blocks
+pub mod LockSteps

@@ -1,0 +1,3 @@
+pub mod Runs
+pub mod Merge
+pub mod Report
