@@ -1,3 +1,5 @@
 pub mod Runs
 pub mod Merge
 pub mod Report
+pub mod Packets
+pub mod Plan

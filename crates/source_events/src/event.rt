@@ -1,16 +1,13 @@
 //! What the sources of a capture and its port give, and what ends its report.
 
+use crate::packet::Packet;
 use crate::run_bytes::RunBytes;
-use itm_grammar::packet::ItmPacket;
 use trace_values::{Fault, SourceId};
-
-/// A packet of a mapped source.
-pub type Packet = ItmPacket;
 
 /// What a source gives.
 #[derive(Debug, Drop)]
 pub enum What<T> {
-    /// Its reading begins here, after this many skipped units: bytes of the port and of an ITM source.
+    /// Its reading begins here, after this many skipped units: bytes, and for an STP source nibbles.
     Locked(u64),
     /// A packet of a mapped source.
     Packet(T),

@@ -4,9 +4,15 @@
 
 mod event;
 pub mod laws;
+mod packet;
+mod plan;
 mod run_bytes;
 mod runs;
+mod source_ids;
 
-pub use event::{Event, Packet, Stop, What};
+pub use event::{Event, Stop, What};
+pub use packet::Packet;
+pub use plan::{MAPPED_SOURCES, Plan, SourceKind};
 pub use run_bytes::RunBytes;
 pub use runs::run_length;
+pub use source_ids::{KIND_SOURCES, SourceIds};

@@ -1,5 +1,5 @@
 use Rattle.std.proofs.Common.{List, subst, sym}
-use Rattle.itm_grammar.specs.declared.packet.ItmPacket.{ItmPacket}
+use Rattle.source_events.specs.declared.packet.Packet.{Packet}
 use Rattle.port_reader.specs.Reading.{port_reading}
 use Rattle.source_events.specs.declared.event.Event.{Event}
 use Rattle.source_events.specs.Runs.{id_of, IsRunFrom, end_of}
@@ -14,12 +14,12 @@ use Rattle.source_events.proofs.laws.merged_law.Goals as goal
 
 pub returns : goal.returns
 returns c = λ ss law mode u lo hi rise es.
-    let first = port_first ItmPacket mode u lo hi rise in
+    let first = port_first Packet mode u lo hi rise in
     let runs = runs_in (port_reading mode u) in
-    let order = between_order runs first.start hi (runs_first ItmPacket mode u lo hi rise) in (
+    let order = between_order runs first.start hi (runs_first Packet mode u lo hi rise) in (
       (λ i. only_merged IsRunFrom end_of end_within id_of (events ss) (adds ss law) (none_first ss law)
           (port_events mode u) first.start first.first runs order es i),
-      (λ e. subst (λ (x : List (Event ItmPacket)). IsMerged (port_events mode u) (events ss) runs x) (sym e)
+      (λ e. subst (λ (x : List (Event Packet)). IsMerged (port_events mode u) (events ss) runs x) (sym e)
           (is_merged IsRunFrom end_of end_within id_of (events ss) (adds ss law) (none_first ss law)
           (port_events mode u) first.start first.first runs order)),
     )
