@@ -11,8 +11,9 @@ use Rattle.frame_grammar.specs.Port.{PortItem, Full, State, start, rule}
 use Rattle.frame_grammar.specs.Reading.{port_progress, cells_of_items, id_of_items, fulls_in, halves_in, frames_in}
 use Rattle.port_sync.specs.Hunting.{pattern}
 
--- What a port's bytes read as: the items, each with the place of its last byte; how many half synchronisations, those in
--- an unfinished frame too; the fault; how many bytes are behind the last whole item; how many were skipped; and whether it reads.
+-- What a port's bytes read as: the items, each with the place of its last byte; how many half synchronisations, those
+-- in an unfinished frame too; the fault; how many bytes are after the last whole item; how many were skipped; and
+-- whether it reads.
 pub record PortStream : Type 0 where
   pub items : List (PortItem × Place)
   pub halves : ℕ
@@ -24,7 +25,7 @@ pub record PortStream : Type 0 where
 abbrev pub items_of : List (PortItem × Place) → List PortItem
 items_of items = map (λ x. x.0) items
 
--- a reading behind so many skipped bytes
+-- a reading after this many skipped bytes
 abbrev pub read_behind : ℕ → Progress State PortItem → PortStream
 read_behind skipped p = record {
   items = p.items;
@@ -35,7 +36,7 @@ read_behind skipped p = record {
   locked = true;
 }
 
--- a hunt that has skipped so many bytes
+-- a hunt that has skipped this many bytes
 abbrev pub all_skipped : ℕ → PortStream
 all_skipped bytes = record { items = []; halves = 0; fault = None; tail = 0; skipped = bytes; locked = false }
 
@@ -62,10 +63,11 @@ fulls_of s = sum_by fulls_in (items_of s.items)
 abbrev pub frames_of : PortStream → ℕ
 frames_of s = sum_by frames_in (items_of s.items)
 
--- What a hunt is: the pattern stands nowhere, and all bytes are skipped; or the bytes before its least place are
+-- What a hunt is: the pattern is nowhere, and all bytes are skipped; or the bytes before its least place are
 -- skipped, and the bytes from there on are read.
 abbrev pub IsHunt : List Placed → PortStream → Type 0
 IsHunt u s =
     (IsNowhere (pattern_of pattern) (units_of u) × (s ≡ all_skipped (length u)))
-    ⊎ ((before : List Placed) × (behind : List Placed) × (u ≡ before ++ behind) × IsFirst (pattern_of pattern) (units_of u) (units_of before)
+    ⊎ ((before : List Placed) × (behind : List Placed) × (u ≡ before ++ behind)
+    × IsFirst (pattern_of pattern) (units_of u) (units_of before)
     × (s ≡ read_behind (length before) (port_progress behind)))

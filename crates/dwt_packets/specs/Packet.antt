@@ -6,7 +6,8 @@ use Rattle.itm_grammar.specs.declared.packet.Size.TheVariants.{One, Two, Four}
 use Rattle.dwt_packets.specs.declared.item.Change.{Change}
 use Rattle.dwt_packets.specs.declared.item.Change.TheVariants.{Enter, Exit, Return}
 use Rattle.dwt_packets.specs.declared.item.DwtItem.{DwtItem}
-use Rattle.dwt_packets.specs.declared.item.DwtItem.TheVariants.{Counters, Exception, Sample, Asleep, MatchPc, MatchAddress, Read, Written, Other}
+use Rattle.dwt_packets.specs.declared.item.DwtItem.TheVariants.{Counters, Exception, Sample, Asleep, MatchPc}
+use Rattle.dwt_packets.specs.declared.item.DwtItem.TheVariants.{MatchAddress, Read, Written, Other}
 use Rattle.dwt_packets.specs.Table.{name, NoRowFits}
 
 -- a hardware packet's discriminator and value fit their bits
@@ -15,7 +16,8 @@ IsPacket disc size value = (disc < 32) × (value < 256 ^ byte_count size)
 
 -- the item is the meaning of some packet
 abbrev pub IsProperItem : DwtItem → Type 0
-IsProperItem item = (disc : ℕ) × (size : Size) × (value : ℕ) × (disc < 32) × (value < 256 ^ byte_count size) × (name disc size value ≡ item)
+IsProperItem item = (disc : ℕ) × (size : Size) × (value : ℕ) × (disc < 32) × (value < 256 ^ byte_count size)
+    × (name disc size value ≡ item)
 
 -- bits 13 and 12 of an exception packet
 abbrev pub change_bits : Change → ℕ

@@ -19,5 +19,6 @@ pub fn name_law()
     ensures others { (disc : ℕ) (size : Size) (value : ℕ) →
         IsTrue (is_other (name disc size value)) ↔ NoRowFits disc size value }
     ensures proper_others { (disc : ℕ) (size : Size) (value : ℕ) →
-        IsProperItem (Other disc size value) ↔ ((disc < 32) × (value < 256 ^ byte_count size) × NoRowFits disc size value) }
+        IsProperItem (Other disc size value) ↔ ((disc < 32) × (value < 256 ^ byte_count size)
+        × NoRowFits disc size value) }
 {}

@@ -18,7 +18,8 @@ hex (high ∷ (low ∷ (between ∷ text))) = (16 * digit high + digit low) ∷ 
 hex (high ∷ (low ∷ [])) = (16 * digit high + digit low) ∷ []
 hex text = []
 
--- of a reading: its packets with the offsets of their last bytes, how many bytes end no packet, and the fault with its offset
+-- of a reading: its packets with the offsets of their last bytes, how many bytes end no packet, and the fault with its
+-- offset
 abbrev pub row_of : Reading ItmPacket → List (ItmPacket × ℕ) × ℕ × Option (ℕ × Reason)
 row_of r = (map (λ x. (x.0, x.1.at)) r.items, length r.rest, option_map (λ f. (f.0.at, f.1)) r.fault)
 

@@ -59,7 +59,7 @@ pub enum ItmPacket {
         lateness: Lateness,
         delta: u32,
     },
-    /// A first global timestamp (GTS1): the time's low bits in so many payload bytes, 1 to 4, which hold 7, 14, 21
+    /// A first global timestamp (GTS1): the time's low bits in this many payload bytes, 1 to 4, which hold 7, 14, 21
     /// or 26 of them. With four bytes it says also whether the clock's ratio changed, and whether the high
     /// bits did.
     GlobalFirst {

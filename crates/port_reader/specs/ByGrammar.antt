@@ -22,7 +22,7 @@ abbrev pub HasHalves : List Placed → Option (Place × Reason) → ℕ → Type
 HasHalves rest None halves = halves ≡ half_words rest
 HasHalves rest (Some fault) halves = (broken : IsFirstFault Spells why rest fault) × (halves ≡ half_words broken.before)
 
--- The reading of these items, after so many skipped bytes: no ID is in force before the first frame, half
+-- The reading of these items, after this many skipped bytes: no ID is in force before the first frame, half
 -- synchronisations are counted between frames, in frames and in an unfinished frame, and what ends no item is the tail.
 pub record IsOfItems (skipped : ℕ) (read : Reading PortItem) (r : PortReading) : Type 0 where
   pub unfinished : ℕ
@@ -35,11 +35,11 @@ pub record IsOfItems (skipped : ℕ) (read : Reading PortItem) (r : PortReading)
   pub skipped_is : r.skipped ≡ skipped
   pub locked : r.locked ≡ true
 
--- the bytes u, after so many skipped ones, read by the grammar
+-- the bytes u, after this many skipped ones, read by the grammar
 abbrev pub IsByGrammar : ℕ → List Placed → PortReading → Type 0
 IsByGrammar skipped u r = (read : Reading PortItem) × IsReading Spells why u read × IsOfItems skipped read r
 
--- nothing is read, and so many bytes are skipped
+-- nothing is read, and this many bytes are skipped
 abbrev pub only_skipped : ℕ → PortReading
 only_skipped bytes = record {
   frames = [];

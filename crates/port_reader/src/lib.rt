@@ -1,4 +1,4 @@
-//! Reads the bytes of a trace port in any of three modes: in frames from the first byte on, in frames behind
+//! Reads the bytes of a trace port in any of three modes: in frames from the first byte on, in frames after
 //! the first full synchronisation, or bare, with no formatter (CoreSight Architecture Specification, formatter).
 #![tactic(auto)]
 

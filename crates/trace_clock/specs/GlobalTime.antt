@@ -1,5 +1,6 @@
 -- The global time, by the list of all global timestamps so far.
-use Rattle.std.specs.Prelude.{◌≡◌, ℕ, ◌+◌, ◌*◌, ◌^◌, ◌<◌, ◌≤◌, List, Bool, false, ◌==◌, nat_lt, if◌then◌else◌, Option, None, Some, option_map, unwrap_or}
+use Rattle.std.specs.Prelude.{◌≡◌, ℕ, ◌+◌, ◌*◌, ◌^◌, ◌<◌, ◌≤◌, List, Bool, false, ◌==◌, nat_lt, if◌then◌else◌, Option}
+use Rattle.std.specs.Prelude.{None, Some, option_map, unwrap_or}
 use Rattle.std.specs.List.{list_any, filter_map, last_or, after_last}
 use Rattle.std.specs.Int.{bit_at, sum_through}
 

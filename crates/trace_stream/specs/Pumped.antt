@@ -8,7 +8,8 @@ use Rattle.trace_stream.specs.BuffersState.{BuffersState}
 use Rattle.trace_stream.specs.Fed.{Writing, StandsAfter, StopsAfter}
 use Rattle.trace_stream.specs.Served.{Meaning, Ends}
 use Rattle.trace_stream.specs.declared.outcome.Outcome.{Outcome}
-use Rattle.trace_stream.specs.declared.outcome.Outcome.TheVariants.{AtEnd, FaultFound, ReadFailed, WriteFailed, OverLimit}
+use Rattle.trace_stream.specs.declared.outcome.Outcome.TheVariants.{AtEnd, FaultFound, ReadFailed, WriteFailed}
+use Rattle.trace_stream.specs.declared.outcome.Outcome.TheVariants.{OverLimit}
 use Rattle.trace_stream.specs.declared.recent.TheConstants.{RECENT_ROOM}
 
 -- how far the reading of an input got: what the input has left, the way of the text, the bytes that were fed, and the

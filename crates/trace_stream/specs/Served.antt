@@ -5,7 +5,8 @@ use Rattle.std.specs.Io.KnownBytes.{Appends, Consumes, IsAtEnd}
 use Rattle.circular_buffer.specs.Buffer.{keep_last}
 use Rattle.trace_stream.specs.Written.{GrowsOnly, IsCertainAt}
 use Rattle.trace_stream.specs.declared.outcome.Outcome.{Outcome}
-use Rattle.trace_stream.specs.declared.outcome.Outcome.TheVariants.{AtEnd, FaultFound, ReadFailed, WriteFailed, OverLimit}
+use Rattle.trace_stream.specs.declared.outcome.Outcome.TheVariants.{AtEnd, FaultFound, ReadFailed, WriteFailed}
+use Rattle.trace_stream.specs.declared.outcome.Outcome.TheVariants.{OverLimit}
 use Rattle.trace_stream.specs.declared.recent.TheConstants.{RECENT_ROOM}
 
 -- What an action makes of the bytes of a capture: which of them have a fault, what is written for those so far, and

@@ -1,6 +1,7 @@
 ghost use Rattle.std.specs.Prelude.{◌≡◌, true, not, refl};
 ghost use Rattle.trace_stream.specs.Doubling.{has_fault, HasFault, doubled, last_line};
-ghost use Rattle.trace_stream.specs.DoublingLaws.{none_at_first, fault_stays, doubled_stays, last_line_stays, doubled_grows};
+ghost use Rattle.trace_stream.specs.DoublingLaws.{none_at_first, fault_stays, doubled_stays, last_line_stays};
+ghost use Rattle.trace_stream.specs.DoublingLaws.{doubled_grows};
 
 mod watched;
 
