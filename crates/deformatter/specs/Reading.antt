@@ -1,4 +1,5 @@
--- What the bytes of a port read as, from the first one on or in a hunt for a full synchronisation.
+-- What the bytes of a port read as (CoreSight Architecture Specification, Arm IHI 0029E (version 3.0), chapter 'Trace
+-- Formatter', its section on frames), from the first one on or in a hunt for a full synchronisation.
 use Rattle.std.specs.Prelude.{◌≡◌, ◌⊎◌, ℕ, ◌+◌, List, [], ◌++◌, length, map, Bool, true, false, Option, None, Some}
 use Rattle.std.specs.List.{sum_by}
 use Rattle.trace_values.specs.declared.cell.Cell.{Cell}

@@ -1,5 +1,6 @@
 -- What a hardware packet means, by its discriminator (the manual's discriminator ID), size and value (ARMv7-M
--- Architecture Reference Manual, Arm DDI 0403, appendix 'Debug ITM and DWT packet protocol', 'DWT packets').
+-- Architecture Reference Manual, Arm DDI 0403E, appendix D4 'Debug ITM and DWT Packet Protocol', section D4.3 'DWT use
+-- of Hardware source packets'). Titles in quotes are those of its parts.
 use Rattle.std.specs.Prelude.{◌≡◌, ℕ, ◌+◌, ◌-◌, ◌*◌, ◌/◌, ◌%◌, ◌^◌, Bool, true, false, ◌==◌, ◌&&◌, nat_lt}
 use Rattle.std.specs.Prelude.{if◌then◌else◌, List, [], ◌∷◌, ◌++◌, find}
 use Rattle.std.specs.List.{list_any}

@@ -1,6 +1,6 @@
--- A frame of 16 bytes and its cells (CoreSight Architecture Specification, Arm IHI 0029, the chapter on the trace
--- formatter), looking back from each index. Mixed-use bytes are those at 0, 2 .. 14, and byte 15 has the
--- auxiliary bits. IDs are the specification's trace source IDs.
+-- A frame of 16 bytes and its cells, looking back from each index (CoreSight Architecture Specification, Arm IHI 0029E
+-- (version 3.0), chapter 'Trace Formatter', its section on frames). The mixed-use bytes are those at 0, 2 .. 14, and
+-- byte 15 has the auxiliary bits. IDs are the specification's trace source IDs.
 use Rattle.std.specs.Prelude.{◌≡◌, ◌≢◌, ℕ, zero, suc, ◌+◌, ◌*◌, ◌/◌, ◌%◌, ◌^◌, ◌<◌, List, [], ◌∷◌, ◌++◌, slice_index}
 use Rattle.std.specs.Prelude.{Bool, nat_lt, ◌==◌, ◌&&◌, ◌||◌, not, if◌then◌else◌, Option}
 use Rattle.std.specs.List.{filter, range_with_len}

@@ -1,6 +1,6 @@
--- The port grammar (CoreSight Architecture Specification, Arm IHI 0029, the chapter on the trace formatter): full
--- synchronisations ('frame synchronization packet', FF FF FF 7F), half ones ('halfword synchronization packet', FF 7F),
--- and frames of eight halfwords.
+-- The port grammar (CoreSight Architecture Specification, Arm IHI 0029E (version 3.0), chapter 'Trace Formatter', its
+-- section on frames): full synchronisations ('frame synchronization packet', FF FF FF 7F), half ones ('halfword
+-- synchronization packet', FF 7F), and frames of eight halfwords.
 use Rattle.std.specs.Prelude.{◌≡◌, ◌≢◌, ℕ, zero, suc, ◌+◌, List, [], ◌∷◌, ◌++◌, ◌==◌, ◌&&◌, if◌then◌else◌}
 use Rattle.trace_values.specs.declared.fault.Reason.{Reason}
 use Rattle.trace_values.specs.declared.fault.Reason.TheVariants.{BadSync, SyncInFrame}

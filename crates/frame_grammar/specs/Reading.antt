@@ -1,4 +1,6 @@
--- What the bytes of a port read as: items, the cells of the frames, and counts.
+-- What the bytes of a port read as: items, the cells of the frames, and counts. That an ID stays in force over
+-- synchronisations and from frame to frame is as in CoreSight Architecture Specification, Arm IHI 0029E (version 3.0),
+-- chapter 'Trace Formatter', its section on frames.
 use Rattle.std.specs.Prelude.{ℕ, ◌+◌, List, [], ◌∷◌, ◌++◌, map, Bool, false, ◌==◌, Option, None, Some}
 use Rattle.std.specs.List.{filter, sum_by}
 use Rattle.trace_values.specs.declared.cell.Cell.{Cell}

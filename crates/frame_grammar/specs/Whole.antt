@@ -1,5 +1,5 @@
 -- The bytes of one whole frame, with half synchronisations between its halfwords or without (CoreSight Architecture
--- Specification, formatter).
+-- Specification, Arm IHI 0029E (version 3.0), chapter 'Trace Formatter', its section on frames).
 use Rattle.std.specs.Prelude.{◌≡◌, ℕ, List, [], ◌∷◌, ◌==◌, ◌&&◌, if◌then◌else◌}
 use Rattle.trace_values.specs.Placed.{Placed, units_of, placed_from}
 use Rattle.frame_grammar.specs.Port.{Frame, Spells}

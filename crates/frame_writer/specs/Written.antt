@@ -1,4 +1,5 @@
--- The frames that a list of tagged bytes is written as (CoreSight Architecture Specification, formatter).
+-- The frames that a list of tagged bytes is written as: this project's profile, in frames as CoreSight Architecture
+-- Specification, Arm IHI 0029E (version 3.0), chapter 'Trace Formatter', its section on frames has them.
 use Rattle.std.specs.Prelude.{ℕ, zero, suc, ◌+◌, ◌*◌, ◌/◌, ◌%◌, List, [], ◌∷◌, ◌++◌, length, Bool, true, false, not}
 use Rattle.std.specs.Prelude.{◌==◌, ◌&&◌, if◌then◌else◌, Option, None, Some}
 use Rattle.std.specs.List.{concat}

@@ -1,4 +1,6 @@
--- The packets that a source's list of bytes is.
+-- The packets that a source's list of bytes is. A hunt begins at a synchronisation packet (ARMv7-M Architecture
+-- Reference Manual, Arm DDI 0403E, appendix D4 'Debug ITM and DWT Packet Protocol', section D4.2 'Packet descriptions',
+-- 'Synchronization packet').
 use Rattle.std.specs.Prelude.{◌≡◌, ◌⊎◌, List, [], ◌∷◌, ◌++◌, length, Bool, true, false, Option, None, Some}
 use Rattle.trace_values.specs.Placed.{Place, Placed, units_of}
 use Rattle.trace_values.specs.Walk.{by_unit}

@@ -178,7 +178,8 @@ fn put(out: &mut ArrayVec<u8, 8>, packet: &ItmPacket, payload: usize)
 }
 
 /// Writes the shortest bytes of a packet, 1 to 7, into `out`, which is empty (ARMv7-M Architecture
-/// Reference Manual, 'Debug ITM and DWT packet protocol'). Bits that a reader ignores are clear.
+/// Reference Manual, Arm DDI 0403E, appendix D4 'Debug ITM and DWT Packet Protocol'). Bits that a reader ignores are
+/// clear.
 ///
 /// The packet must be proper, as `itm_grammar::proper::is_proper` tells: others have no bytes.
 pub fn encode(packet: &ItmPacket, out: &mut ArrayVec<u8, 8>)

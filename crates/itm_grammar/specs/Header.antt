@@ -1,5 +1,5 @@
--- The table of headers (ARMv7-M Architecture Reference Manual, Arm DDI 0403, appendix 'Debug ITM and DWT packet
--- protocol'), with the manual's names.
+-- The table of headers, with the manual's names (ARMv7-M Architecture Reference Manual, Arm DDI 0403E, appendix D4
+-- 'Debug ITM and DWT Packet Protocol', section D4.2 'Packet descriptions').
 use Rattle.std.specs.Prelude.{ℕ, ◌/◌, ◌%◌, Bool, true, ◌==◌, ◌&&◌, nat_lt, nat_le, if◌then◌else◌}
 use Rattle.itm_grammar.specs.declared.packet.Size.{Size}
 use Rattle.itm_grammar.specs.declared.packet.Size.TheVariants.{One, Two, Four}

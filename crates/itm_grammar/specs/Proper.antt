@@ -1,4 +1,6 @@
--- Packets whose numbers are in the ranges that bytes can spell.
+-- Packets whose numbers are in the ranges that bytes can spell: each range is that of the packet's fields (ARMv7-M
+-- Architecture Reference Manual, Arm DDI 0403E, appendix D4 'Debug ITM and DWT Packet Protocol', section D4.2 'Packet
+-- descriptions').
 use Rattle.std.specs.Prelude.{◌≡◌, ℕ, ◌*◌, ◌^◌, ◌<◌, ◌≤◌, Bool, false, ◌==◌, if◌then◌else◌}
 use Rattle.itm_grammar.specs.declared.packet.ItmPacket.{ItmPacket}
 use Rattle.itm_grammar.specs.declared.packet.ItmPacket.TheVariants.{Sync, Overflow, Software, Hardware, Local}

@@ -1,4 +1,6 @@
--- One more byte of an unfinished packet: the grammar's rule, which keeps a state.
+-- One more byte of an unfinished packet: the rule of the grammar in Spelling, which keeps a state. The headers and
+-- fields are those of ARMv7-M Architecture Reference Manual, Arm DDI 0403E, appendix D4 'Debug ITM and DWT Packet
+-- Protocol', section D4.2 'Packet descriptions'; which bytes are faults is this project's profile.
 use Rattle.std.specs.Prelude.{◌≡◌, ◌<◌, ℕ, ◌+◌, ◌*◌, ◌^◌, ◌/◌, ◌%◌, Bool, true, false, ◌==◌, ◌&&◌, nat_lt, nat_le}
 use Rattle.std.specs.Prelude.{if◌then◌else◌}
 use Rattle.trace_values.specs.declared.fault.Reason.TheVariants.{ReservedHeader, BadItmSync, LongStamp, ShortStamp}

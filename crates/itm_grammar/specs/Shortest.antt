@@ -1,4 +1,6 @@
--- The shortest spelling of a packet, with ignored bits clear.
+-- The shortest spelling of a packet, with ignored bits clear (ARMv7-M Architecture Reference Manual, Arm DDI 0403E,
+-- appendix D4 'Debug ITM and DWT Packet Protocol', section D4.2 'Packet descriptions'). That the encoder takes the
+-- shortest is this project's profile.
 use Rattle.std.specs.Prelude.{◌≡◌, ℕ, zero, suc, ◌+◌, ◌*◌, ◌^◌, ◌/◌, ◌%◌, ◌<◌, ◌≤◌, List, [], ◌∷◌, length, All, Bool}
 use Rattle.std.specs.Prelude.{false, ◌&&◌, nat_lt, if◌then◌else◌}
 use Rattle.itm_grammar.specs.declared.packet.Lateness.{Lateness}

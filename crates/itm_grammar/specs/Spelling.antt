@@ -1,5 +1,5 @@
--- Which lists of bytes spell a packet (ARMv7-M Architecture Reference Manual, Arm DDI 0403, appendix 'Debug ITM and DWT
--- packet protocol').
+-- Which lists of bytes spell a packet (ARMv7-M Architecture Reference Manual, Arm DDI 0403E, appendix D4 'Debug ITM and
+-- DWT Packet Protocol', section D4.2 'Packet descriptions'). Titles in quotes are those of its parts.
 use Rattle.std.specs.Prelude.{◌≡◌, ℕ, ◌+◌, ◌*◌, ◌^◌, ◌%◌, ◌<◌, ◌≤◌, List, [], ◌∷◌, ◌++◌, length, replicate, Bool, true}
 use Rattle.std.specs.Prelude.{false, ◌==◌, if◌then◌else◌, ◌⊎◌}
 use Rattle.trace_values.specs.declared.fault.Reason.{Reason}

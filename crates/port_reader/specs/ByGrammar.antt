@@ -1,5 +1,6 @@
--- What the bytes of a port read as, by the grammar's spellings and the least place of a full synchronisation
--- alone: with no rule, no state and no hunt byte by byte.
+-- What the bytes of a port read as (CoreSight Architecture Specification, Arm IHI 0029E (version 3.0), chapter 'Trace
+-- Formatter', its section on frames), by the grammar's spellings and the least place of a full synchronisation alone:
+-- with no rule, no state and no hunt byte by byte.
 use Rattle.std.specs.Prelude.{◌≡◌, ◌⊎◌, ℕ, ◌+◌, List, [], ◌∷◌, ◌++◌, length, map, true, false, Option, None, Some}
 use Rattle.std.specs.List.{sum_by}
 use Rattle.trace_values.specs.declared.fault.Reason.{Reason}

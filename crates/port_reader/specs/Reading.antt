@@ -1,4 +1,6 @@
--- What the bytes of a port read as: in frames from the first byte on, in frames after a hunt, or bare.
+-- What the bytes of a port read as: in frames from the first byte on, in frames after a hunt (CoreSight Architecture
+-- Specification, Arm IHI 0029E (version 3.0), chapter 'Trace Formatter', its section on frames), or bare, with no
+-- formatter (this project's profile).
 use Rattle.std.specs.Prelude.{ℕ, List, [], ◌∷◌, ◌++◌, map, Bool, true, false, Option, None, Some}
 use Rattle.std.specs.List.{flat_map}
 use Rattle.trace_values.specs.declared.cell.Cell.{Cell}

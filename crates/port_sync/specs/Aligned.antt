@@ -1,4 +1,6 @@
--- The table of halfwords and synchronisations, and what the port's grammar says by it.
+-- The table of halfwords and synchronisations (CoreSight Architecture Specification, Arm IHI 0029E (version 3.0),
+-- chapter 'Trace Formatter', its section on frames), and what the port's grammar says by it. Which bytes are faults is
+-- this project's profile.
 use Rattle.std.specs.Prelude.{◌≡◌, ◌≢◌, ℕ, ◌+◌, ◌-◌, List, [], ◌∷◌, ◌++◌, Bool, true, false, not, ◌==◌, if◌then◌else◌}
 use Rattle.trace_values.specs.declared.fault.Reason.TheVariants.{BadSync, SyncInFrame}
 use Rattle.trace_values.specs.declared.next.Next.{Next}
