@@ -3,3 +3,4 @@ pub mod Merge
 pub mod Report
 pub mod Packets
 pub mod Plan
+pub mod Tails
