@@ -1,14 +1,14 @@
 -- The tables hold the digits of their numbers.
-use Rattle.std.proofs.Common.{◌≡◌, ℕ, zero, suc, ◌+◌, ◌*◌, ◌<◌, List, [], ◌∷◌, take, drop, Bool, true, false, refl, sym, ◌∙◌, ap, arith}
-use Rattle.std.specs.Prelude.{◌==◌, ◌&&◌, decimal}
+use Rattle.std.proofs.Common.{◌≡◌, ℕ, zero, suc, ◌+◌, ◌*◌, ◌<◌, ◌≤◌, List, [], ◌∷◌, ◌++◌, take, drop, Bool, true, false, refl, sym, ◌∙◌, ap, arith}
+use Rattle.std.specs.Prelude.{◌==◌, ◌&&◌, ◌/◌, ◌%◌, decimal}
 use Rattle.std.proofs.lemmas.Bool.Decides.{nat_tests}
 use Rattle.std.proofs.lemmas.Fmt.{decimal_digit}
-use Rattle.itoa.proofs.Decimal.{decimal_two}
+use Rattle.itoa.proofs.Decimal.{decimal_two, decimal_pair}
 use Rattle.trace_text.specs.Pairs.{pair}
 use Rattle.std.proofs.lemmas.Bool.{false≢true}
 use lib.Dec.{leb}
 use mir.Val.{bool_byte}
-use Rattle.trace_text.specs.declared.tables.TheConstants.{PAIRS, SHORT}
+use Rattle.trace_text.specs.declared.tables.TheConstants.{NUMBERS, PAIRS}
 
 front : (a b : Bool) → (a && b) ≡ true → a ≡ true
 front true b e = refl
@@ -51,19 +51,34 @@ pub pairs : (n : ℕ) → n < 100 → take 2 (drop (2 * n) PAIRS.now) ≡ pair n
 unfolding under same
 pairs n l = is_same _ _ (below (λ k. same (take 2 (drop (2 * k) PAIRS.now)) (pair k)) 100 n l refl)
 
--- the digits, by whether there are two
-digits : Bool → ℕ → List ℕ
-digits true n = pair n
-digits false n = (48 + n) ∷ []
+-- how many digits a number below 256 has, by the tests that the code makes
+count : ℕ → ℕ
+count n = 1 + bool_byte (leb 10 n) + bool_byte (leb 100 n)
 
-are_digits : (n : ℕ) (two : Bool) → leb 10 n ≡ two → n < 100 → digits two n ≡ decimal n
+-- its digits, by the same tests
+digits : Bool → Bool → ℕ → List ℕ
+digits two true n = (48 + n / 100) ∷ pair (n % 100)
+digits true false n = pair n
+digits false false n = (48 + n) ∷ []
+
+are_digits : (n : ℕ) (two three : Bool) → leb 10 n ≡ two → leb 100 n ≡ three → n < 256 → digits two three n ≡ decimal n
 unfolding digits
-are_digits n true t l = sym (decimal_two n (grind (arith, nat_tests)) l)
-are_digits n false t l = sym (decimal_digit n (grind (arith, nat_tests)))
+are_digits n true true t u l =
+    let small : n / 100 < 10 = omega arith in
+    sym (decimal_pair n (grind (arith, nat_tests)) (omega arith) ∙ ap (λ (ds : List ℕ). ds ++ pair (n % 100)) (decimal_digit (n / 100) small))
+are_digits n false true t u l =
+    let big : 100 ≤ n = grind (arith, nat_tests) in
+    let few : n < 10 = grind (arith, nat_tests) in
+    absurd (omega arith)
+are_digits n true false t u l = sym (decimal_two n (grind (arith, nat_tests)) (grind (arith, nat_tests)))
+are_digits n false false t u l = sym (decimal_digit n (grind (arith, nat_tests)))
 
-tabled : (n : ℕ) → n < 100 → take (1 + bool_byte (leb 10 n)) (take 2 (drop (2 * n) SHORT.now)) ≡ digits (leb 10 n) n
-unfolding under same digits
-tabled n l = is_same _ _ (below (λ k. same (take (1 + bool_byte (leb 10 k)) (take 2 (drop (2 * k) SHORT.now))) (digits (leb 10 k) k)) 100 n l refl)
+tabled : (n : ℕ) → n < 256 → take (count n) (take 4 (drop (4 * n) NUMBERS.now)) ≡ digits (leb 10 n) (leb 100 n) n
+unfolding under same digits count
+tabled n l =
+    is_same _ _ (below (λ k. same (take (count k) (take 4 (drop (4 * k) NUMBERS.now))) (digits (leb 10 k) (leb 100 k) k)) 256 n l refl)
 
-pub short : (n : ℕ) → n < 100 → take (1 + bool_byte (leb 10 n)) (take 2 (drop (2 * n) SHORT.now)) ≡ decimal n
-short n l = tabled n l ∙ are_digits n (leb 10 n) refl l
+pub short : (n : ℕ) → n < 256 →
+    take (1 + bool_byte (leb 10 n) + bool_byte (leb 100 n)) (take 4 (drop (4 * n) NUMBERS.now)) ≡ decimal n
+unfolding count
+short n l = tabled n l ∙ are_digits n (leb 10 n) (leb 100 n) refl refl l

@@ -1,30 +1,22 @@
 -- The lines at the end.
-use Rattle.std.specs.Prelude.{ℕ, List, ◌++◌, codes, decimal, Bool, true, false}
-use Rattle.capture_plan.specs.declared.frames.FramesMode.{FramesMode}
-use Rattle.capture_plan.specs.declared.frames.FramesMode.TheVariants.{Hunt as FramesHunt, Aligned as FramesAligned, Bare as FramesBare}
-use Rattle.capture_plan.specs.declared.packets.PacketsMode.{PacketsMode}
-use Rattle.capture_plan.specs.declared.packets.PacketsMode.TheVariants.{Hunt as PacketsHunt, Aligned as PacketsAligned}
-use Rattle.trace_text.specs.declared.port_mode.PortMode.{PortMode}
-use Rattle.trace_text.specs.declared.port_mode.PortMode.TheVariants.{Bare, Aligned, Locked, Hunting}
-
--- the word of a port that is read so, which has locked or not
-abbrev pub port_mode : FramesMode → Bool → PortMode
-port_mode FramesBare locked = Bare
-port_mode FramesAligned locked = Aligned
-port_mode FramesHunt true = Locked
-port_mode FramesHunt false = Hunting
-
--- and that of a source whose packets are read so
-abbrev pub packets_mode : PacketsMode → Bool → PortMode
-packets_mode PacketsAligned locked = Aligned
-packets_mode PacketsHunt true = Locked
-packets_mode PacketsHunt false = Hunting
+use Rattle.std.specs.Prelude.{ℕ, List, [], ◌∷◌, ◌++◌, codes, decimal, flat_map}
+use Rattle.source_events.specs.declared.plan.SourceKind.{SourceKind}
+use Rattle.source_events.specs.declared.plan.SourceKind.TheVariants.{Itm, Stp}
+use Rattle.source_events.specs.declared.port_mode.PortMode.{PortMode}
+use Rattle.source_events.specs.declared.port_mode.PortMode.TheVariants.{Bare, Aligned, Locked, Hunting}
+use Rattle.source_events.specs.declared.tails.SourceTail.{SourceTail}
+use Rattle.source_events.specs.declared.tails.Tails.{Tails}
 
 abbrev pub mode_text : PortMode → List ℕ
 mode_text Bare = codes "bare"
 mode_text Aligned = codes "aligned"
 mode_text Locked = codes "locked"
 mode_text Hunting = codes "hunting"
+
+-- what a mapped source sends
+abbrev pub kind_text : SourceKind → List ℕ
+kind_text Itm = codes "itm"
+kind_text Stp = codes "stp"
 
 -- ` skipped S tail T`
 abbrev pub rest_text : ℕ → ℕ → List ℕ
@@ -40,6 +32,16 @@ port_line mode skipped tail unattributed =
     codes "port " ++ (mode_text mode ++ (rest_text skipped tail
     ++ (codes " unattributed " ++ (decimal unattributed ++ codes "\n"))))
 
--- `1 itm MODE skipped S tail T`: of source 1
-abbrev pub source_line : PortMode → ℕ → ℕ → List ℕ
-source_line mode skipped tail = codes "1 itm " ++ (mode_text mode ++ (rest_text skipped tail ++ codes "\n"))
+-- `ID KIND MODE skipped S tail T`: of a mapped source
+abbrev pub source_line : SourceTail → List ℕ
+source_line s =
+    decimal s.id ++ (codes " " ++ (kind_text s.kind ++ (codes " " ++ (mode_text s.mode
+    ++ (rest_text s.skipped s.tail ++ codes "\n")))))
+
+abbrev pub source_lines : List SourceTail → List ℕ
+source_lines tails = flat_map source_line tails
+
+-- all lines at the end of a capture
+abbrev pub tails_text : Tails → List ℕ
+tails_text t =
+    end_line t.bytes ++ (port_line t.mode t.skipped t.tail t.unattributed ++ source_lines t.sources)

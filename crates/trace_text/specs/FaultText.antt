@@ -1,9 +1,10 @@
 -- The lines of faults.
-use Rattle.std.specs.Prelude.{ℕ, List, ◌++◌, codes, decimal}
+use Rattle.std.specs.Prelude.{ℕ, List, ◌++◌, codes, decimal, Bool, false, Option, None}
 use Rattle.trace_values.specs.declared.fault.Fault.{Fault}
 use Rattle.trace_values.specs.declared.fault.Reason.{Reason}
 use Rattle.trace_values.specs.Faults.{number_of, name_of}
 use Rattle.trace_values.specs.Placed.{Place}
+use Rattle.trace_text.specs.LineText.{at_text, source_text}
 
 -- a fault, as a reading has it
 abbrev pub told : Fault → Place × Reason
@@ -13,10 +14,12 @@ told fault = (record { at = fault.at; half = fault.half }, fault.reason)
 abbrev pub reason_text : Reason → List ℕ
 reason_text reason = decimal (number_of reason) ++ (codes " " ++ (name_of reason ++ codes "\n"))
 
--- `fault AT 1 R NAME`: of source 1
-abbrev pub source_fault_line : Place × Reason → List ℕ
-source_fault_line fault = codes "fault " ++ (decimal fault.0.at ++ (codes " 1 " ++ reason_text fault.1))
+-- `fault AT SOURCE R NAME`, of a fault with its source; whether that is an STP source
+abbrev pub fault_line : Bool → Place × (Reason × Option ℕ) → List ℕ
+fault_line stp fault =
+    codes "fault " ++ (at_text stp fault.0 ++ (codes " " ++ (source_text fault.1.1
+    ++ (codes " " ++ reason_text fault.1.0))))
 
 -- `fault AT port R NAME`: of the port
 abbrev pub port_fault_line : Place × Reason → List ℕ
-port_fault_line fault = codes "fault " ++ (decimal fault.0.at ++ (codes " port " ++ reason_text fault.1))
+port_fault_line fault = fault_line false (fault.0, (fault.1, None))

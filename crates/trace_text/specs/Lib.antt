@@ -1,7 +1,10 @@
 pub mod Values
+pub mod HexDigits
 pub mod HardwareText
 pub mod ItemText
+pub mod StpText
 pub mod LineText
+pub mod Printable
 pub mod FaultText
 pub mod EndText
 pub mod CountText

@@ -1,9 +1,44 @@
--- The lines of what source 1 gave.
-use Rattle.std.specs.Prelude.{ℕ, List, [], ◌++◌, codes, decimal, Some, None}
+-- The lines of what the sources and the port gave.
+use Rattle.std.specs.Prelude.{ℕ, List, [], ◌∷◌, ◌++◌, codes, decimal, Bool, true, false, Option, Some, None}
+use Rattle.hex.specs.Hex.{encode_lower}
 use Rattle.itm_grammar.specs.declared.packet.ItmPacket.{ItmPacket}
+use Rattle.trace_values.specs.Placed.{Place}
+use Rattle.source_events.specs.declared.event.Event.{Event}
+use Rattle.source_events.specs.declared.event.What.{What}
+use Rattle.source_events.specs.declared.event.What.TheVariants.{Locked, Packet as Said, Raw, Trigger}
+use Rattle.source_events.specs.declared.packet.Packet.{Packet}
+use Rattle.source_events.specs.declared.packet.Packet.TheVariants.{Itm, Stp}
+use Rattle.source_events.specs.Merge.{place_of}
 use Rattle.trace_text.specs.ItemText.{item_text}
+use Rattle.trace_text.specs.StpText.{stp_text}
 use Rattle.trace_text.specs.declared.remark.Remark.{Remark}
 use Rattle.trace_text.specs.declared.remark.Remark.TheVariants.{None as NoRemark, Clock, Time}
+
+-- `.H`, the half of the byte, which only the units of an STP source have
+abbrev pub half_text : Bool → ℕ → List ℕ
+half_text true half = codes "." ++ decimal half
+half_text false half = []
+
+-- `AT`, or `AT.H` for an STP source
+abbrev pub at_text : Bool → Place → List ℕ
+at_text stp place = decimal place.at ++ half_text stp place.half
+
+-- `port`, or the source's number
+abbrev pub source_text : Option ℕ → List ℕ
+source_text None = codes "port"
+source_text (Some id) = decimal id
+
+-- a packet of either kind
+abbrev pub packet_text : Packet → List ℕ
+packet_text (Itm packet) = item_text packet
+packet_text (Stp item) = stp_text item
+
+-- `locked N`, after N skipped units; a packet; `raw` and the bytes; `trigger HH`
+abbrev pub what_text : What Packet → List ℕ
+what_text (Locked skipped) = codes "locked " ++ decimal skipped
+what_text (Said packet) = packet_text packet
+what_text (Raw bytes) = codes "raw " ++ encode_lower bytes
+what_text (Trigger byte) = codes "trigger " ++ encode_lower (byte ∷ [])
 
 -- ` clock=N`, ` time=N`, or ` time=?` where the time is not known
 abbrev pub remark_text : Remark → List ℕ
@@ -12,10 +47,12 @@ remark_text (Clock ticks) = codes " clock=" ++ decimal ticks
 remark_text (Time (Some time)) = codes " time=" ++ decimal time
 remark_text (Time None) = codes " time=?"
 
--- `AT 1 ITEM`, with its remark
-abbrev pub item_line : ℕ → ItmPacket → Remark → List ℕ
-item_line at packet remark = decimal at ++ (codes " 1 " ++ (item_text packet ++ (remark_text remark ++ codes "\n")))
+-- `AT SOURCE WHAT`, with its remark; whether its source is an STP source
+abbrev pub event_line : Bool → Event Packet → Remark → List ℕ
+event_line stp event remark =
+    at_text stp (place_of event) ++ (codes " " ++ (source_text event.source
+    ++ (codes " " ++ (what_text event.what ++ (remark_text remark ++ codes "\n")))))
 
--- `AT 1 locked N`, after N skipped bytes
-abbrev pub lock_line : ℕ → ℕ → List ℕ
-lock_line at skipped = decimal at ++ (codes " 1 locked " ++ (decimal skipped ++ codes "\n"))
+-- an ITM packet of this source, whose last byte is here
+abbrev pub itm_event : ℕ → ℕ → ItmPacket → Event Packet
+itm_event at id packet = record { at = at; half = 0; source = Some id; what = Said (Itm packet) }

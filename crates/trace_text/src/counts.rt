@@ -1,6 +1,6 @@
 //! The lines of counts.
 
-ghost use Rattle.std.specs.Prelude.{◌≡◌, ◌+◌, ◌≤◌, ◌++◌, length};
+ghost use Rattle.std.specs.Prelude.{◌≡◌, ◌+◌, ◌≤◌, ◌^◌, ◌++◌, length};
 ghost use Rattle.trace_text.specs.CountText.{port_counts_text, source_counts_line};
 
 use crate::room::{put_bytes, put_number, put_short};
@@ -62,6 +62,8 @@ pub fn put_source_counts(outlet: &mut Outlet, id: SourceId, bytes: u64, items: u
     requires room { length outlet.old + TEXT_ROOM ≤ OUTLET_ROOM }
     ensures text { outlet.new ≡ outlet.old ++ source_counts_line id bytes items }
     ensures bound { length outlet.new ≤ length outlet.old + SOURCE_COUNTS_ROOM }
+    // of a capture, which has at most 2^36 bytes
+    ensures capture { bytes ≤ 2 ^ 36 → items ≤ 2 ^ 40 → length outlet.new ≤ length outlet.old + 42 }
 {
     let line = SourceCountsLine {
         id: id.number(),

@@ -1,11 +1,11 @@
 //! The lines at the end.
 
 ghost use Rattle.std.specs.Prelude.{◌≡◌, ◌+◌, ◌≤◌, ◌++◌, length, take};
-ghost use Rattle.trace_text.specs.EndText.{rest_text, end_line, port_line, source_line};
+ghost use Rattle.trace_text.specs.EndText.{mode_text, kind_text, rest_text, end_line, port_line, source_line, tails_text};
 
-use crate::port_mode::PortMode;
-use crate::room::{ITEM_ROOM, put_bytes, put_number};
-use trace_stream::Text;
+use crate::room::{ITEM_ROOM, WORD_ROOM, put_byte, put_bytes, put_number, put_short};
+use source_events::{PortMode, SourceKind, SourceTail, Tails};
+use trace_stream::{OUTLET_ROOM, Outlet, TEXT_ROOM, Text};
 
 /// How many bytes were read: `end N`.
 #[derive(Clone, Copy, Debug)]
@@ -25,14 +25,34 @@ pub struct PortEndLine {
     pub unattributed: u64,
 }
 
-/// How source 1 was read: `1 itm MODE skipped S tail T`.
+/// How a mapped source was read: `ID itm MODE skipped S tail T`, or `ID stp MODE skipped S tail T`.
 #[derive(Clone, Copy, Debug)]
 pub struct SourceEndLine {
-    pub mode: PortMode,
-    /// Bytes before the first synchronisation packet.
-    pub skipped: u64,
-    /// Bytes of the unfinished packet.
-    pub tail: u64,
+    pub source: SourceTail,
+}
+
+/// The word of what a port or a source was read as.
+fn mode_word(mode: PortMode) -> &'static str
+    ensures text { result.now ≡ mode_text mode }
+    ensures bound { length result.now ≤ WORD_ROOM }
+{
+    match mode {
+        PortMode::Bare => "bare",
+        PortMode::Aligned => "aligned",
+        PortMode::Locked => "locked",
+        PortMode::Hunting => "hunting",
+    }
+}
+
+/// The word of what a source sends.
+fn kind_word(kind: SourceKind) -> &'static str
+    ensures text { result.now ≡ kind_text kind }
+    ensures bound { length result.now ≤ WORD_ROOM }
+{
+    match kind {
+        SourceKind::Itm => "itm",
+        SourceKind::Stp => "stp",
+    }
 }
 
 /// Puts the skipped bytes and the tail.
@@ -67,7 +87,7 @@ impl Text for PortEndLine {
 
     fn put(&self, room: &mut [u8], from: usize) -> usize {
         let from = put_bytes(room, from, b"port ");
-        let from = put_bytes(room, from, self.mode.word().as_bytes());
+        let from = put_bytes(room, from, mode_word(self.mode).as_bytes());
         let from = put_rest(room, from, self.skipped, self.tail);
         let from = put_bytes(room, from, b" unattributed ");
         let from = put_number(room, from, self.unattributed);
@@ -78,12 +98,38 @@ impl Text for PortEndLine {
 impl Text for SourceEndLine {
     ghost fits = { λ _. Unit {0} };
 
-    ghost text = { λ l. source_line l.mode l.skipped l.tail };
+    ghost text = { λ l. source_line l.source };
 
     fn put(&self, room: &mut [u8], from: usize) -> usize {
-        let from = put_bytes(room, from, b"1 itm ");
-        let from = put_bytes(room, from, self.mode.word().as_bytes());
-        let from = put_rest(room, from, self.skipped, self.tail);
-        put_bytes(room, from, b"\n")
+        let source = self.source;
+        let from = put_short(room, from, source.id.number());
+        let from = put_byte(room, from, b' ');
+        let from = put_bytes(room, from, kind_word(source.kind).as_bytes());
+        let from = put_byte(room, from, b' ');
+        let from = put_bytes(room, from, mode_word(source.mode).as_bytes());
+        let from = put_rest(room, from, source.skipped, source.tail);
+        put_byte(room, from, b'\n')
+    }
+}
+
+/// The most bytes of the lines at the end of a capture: 25 of the first, 102 of the port's, and 71 of each of 16 sources'.
+pub const TAILS_ROOM: usize = 1263;
+
+/// The lines at the end of a capture: `EndLine`, `PortEndLine`, and `SourceEndLine` for each mapped source in increasing
+/// order of ID.
+pub fn print_tails(outlet: &mut Outlet, tails: &Tails)
+    requires room { length outlet.old + TAILS_ROOM + TEXT_ROOM ≤ OUTLET_ROOM }
+    ensures lines { outlet.new ≡ outlet.old ++ tails_text tails.now }
+    ensures bound { length outlet.new ≤ length outlet.old + TAILS_ROOM }
+{
+    outlet.put(&EndLine { bytes: tails.bytes });
+    outlet.put(&PortEndLine {
+        mode: tails.mode,
+        skipped: tails.skipped,
+        tail: tails.tail,
+        unattributed: tails.unattributed,
+    });
+    for source in tails.sources.as_slice() {
+        outlet.put(&SourceEndLine { source: *source });
     }
 }

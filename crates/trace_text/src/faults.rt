@@ -1,22 +1,23 @@
 //! The line of a fault.
 
 ghost use Rattle.std.specs.Prelude.{◌≡◌, ◌+◌, ◌≤◌, ◌++◌, length, take};
-ghost use Rattle.trace_text.specs.FaultText.{reason_text, port_fault_line, source_fault_line, told};
+ghost use Rattle.source_events.specs.Report.{stop_of};
+ghost use Rattle.trace_text.specs.Printable.{IsPrintableStop};
+ghost use Rattle.trace_text.specs.FaultText.{reason_text, fault_line};
 
-use crate::room::{PART_ROOM, put_bytes, put_number, put_short};
-use trace_stream::Text;
-use trace_values::{Fault, Reason};
+use crate::lines::{put_half, put_source};
+use crate::room::{PART_ROOM, put_byte, put_bytes, put_number, put_short};
+use source_events::Stop;
+use trace_stream::{OUTLET_ROOM, Outlet, TEXT_ROOM, Text};
+use trace_values::Reason;
 
-/// The line of a fault of the port: `fault AT port R NAME`.
+/// The line of a fault of the port, `fault AT port R NAME`, or of a source, `fault AT ID R NAME`, with `AT.H` for an STP
+/// source.
 #[derive(Clone, Copy, Debug)]
-pub struct PortFaultLine {
-    pub fault: Fault,
-}
-
-/// The line of a fault of source 1: `fault AT 1 R NAME`.
-#[derive(Clone, Copy, Debug)]
-pub struct SourceFaultLine {
-    pub fault: Fault,
+pub struct FaultLine {
+    pub stop: Stop,
+    /// Its source is an STP source.
+    pub stp: bool,
 }
 
 /// Puts the reason's number and name, and the line's end: `R NAME`.
@@ -27,33 +28,31 @@ fn put_reason(room: &mut [u8], from: usize, reason: Reason) -> usize
     ensures end { result ≤ from + PART_ROOM }
 {
     let from = put_short(room, from, reason.number());
-    let from = put_bytes(room, from, b" ");
+    let from = put_byte(room, from, b' ');
     let from = put_bytes(room, from, reason.name().as_bytes());
-    put_bytes(room, from, b"\n")
+    put_byte(room, from, b'\n')
 }
 
-impl Text for PortFaultLine {
-    ghost fits = { λ _. Unit {0} };
+impl Text for FaultLine {
+    ghost fits = { λ l. IsPrintableStop l.stp l.stop };
 
-    ghost text = { λ l. port_fault_line (told l.fault) };
+    ghost text = { λ l. fault_line l.stp (stop_of l.stop) };
 
     fn put(&self, room: &mut [u8], from: usize) -> usize {
+        let fault = self.stop.fault;
         let from = put_bytes(room, from, b"fault ");
-        let from = put_number(room, from, self.fault.at);
-        let from = put_bytes(room, from, b" port ");
-        put_reason(room, from, self.fault.reason)
+        let from = put_number(room, from, fault.at);
+        let from = put_half(room, from, self.stp, fault.half);
+        let from = put_source(room, from, self.stop.source);
+        put_reason(room, from, fault.reason)
     }
 }
 
-impl Text for SourceFaultLine {
-    ghost fits = { λ _. Unit {0} };
-
-    ghost text = { λ l. source_fault_line (told l.fault) };
-
-    fn put(&self, room: &mut [u8], from: usize) -> usize {
-        let from = put_bytes(room, from, b"fault ");
-        let from = put_number(room, from, self.fault.at);
-        let from = put_bytes(room, from, b" 1 ");
-        put_reason(room, from, self.fault.reason)
-    }
+/// The line of the fault that ends a report, `FaultLine`.
+pub fn print_fault(outlet: &mut Outlet, stop: &Stop, stp: bool)
+    requires printable { IsPrintableStop stp stop.now }
+    requires room { length outlet.old + TEXT_ROOM ≤ OUTLET_ROOM }
+    ensures { outlet.new ≡ outlet.old ++ fault_line stp (stop_of stop.now) }
+{
+    outlet.put(&FaultLine { stop: *stop, stp });
 }

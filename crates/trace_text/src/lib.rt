@@ -1,5 +1,5 @@
-//! The texts of the command: the lines of what a source gave, of faults, of counts, those at the end, and notes.
-//! Each is a `Text`, which is put into an outlet at once.
+//! The texts of the command: the lines of what the sources of a capture and its port gave, of faults, of counts, those
+//! at the end, and notes. Each is a `Text`, which is put into an outlet at once.
 #![tactic(auto)]
 
 mod counts;
@@ -10,18 +10,18 @@ mod hardware;
 mod items;
 mod lines;
 mod notes;
-mod port_mode;
 mod remark;
 mod room;
+pub mod rows;
+mod stp;
 mod tables;
 #[cfg(test)]
 mod tests;
 
 pub use counts::{PortCountsLines, SOURCE_COUNTS_ROOM, put_source_counts};
 pub use digits::Digits;
-pub use ends::{EndLine, PortEndLine, SourceEndLine};
-pub use faults::{PortFaultLine, SourceFaultLine};
-pub use lines::{LockLine, put_line};
+pub use ends::{EndLine, PortEndLine, SourceEndLine, TAILS_ROOM, print_tails};
+pub use faults::{FaultLine, print_fault};
+pub use lines::{EVENT_ROOM, print, put_line};
 pub use notes::{LastLine, LimitLine};
-pub use port_mode::PortMode;
 pub use remark::Remark;

@@ -1,23 +1,124 @@
-//! The lines of what a source gave.
+//! The lines of what the sources and the port gave.
 
-ghost use Rattle.std.specs.Prelude.{◌≡◌, ◌+◌, ◌≤◌, ◌++◌, ◌/◌, length, take};
+ghost use Rattle.std.specs.Prelude.{◌≡◌, ◌+◌, ◌≤◌, ◌++◌, ◌/◌, false, length, take, codes, decimal};
 ghost use Rattle.itm_grammar.specs.Proper.{IsProper};
 ghost use Rattle.trace_text.specs.Digits.{hundreds_of};
-ghost use Rattle.trace_text.specs.LineText.{remark_text, item_line, lock_line};
+ghost use Rattle.trace_text.specs.Printable.{IsProperPacket, IsProperWhat, SuitsPacket, IsPrintable};
+ghost use Rattle.trace_text.specs.LineText.{half_text, source_text, packet_text, what_text, remark_text, event_line, itm_event};
 
 use crate::digits::Digits;
 use crate::items::put_item;
 use crate::remark::Remark;
-use crate::room::{PART_ROOM, put_bytes, put_number};
+use crate::room::{ITEM_ROOM, NUMBER_ROOM, put_byte, put_bytes, put_digits, put_number, put_short};
+use crate::stp::put_stp;
 use itm_grammar::packet::ItmPacket;
+use source_events::{Event, Packet, What};
 use trace_stream::{OUTLET_ROOM, Outlet, TEXT_ROOM, Text};
+use trace_values::SourceId;
+
+/// The most bytes of the line of an event: those of a datum's at an offset of 20 digits, of a source of three, with
+/// a master and a channel of five, 64 bits, and a time of 20 digits.
+pub const EVENT_ROOM: usize = 90;
+
+/// Bytes that a remark is given: more than any has.
+const REMARK_ROOM: usize = 7 + NUMBER_ROOM;
+
+/// The most bytes of the half of a byte.
+const HALF_ROOM: usize = 2;
+
+/// The most bytes of a source and the spaces beside it.
+const SOURCE_ROOM: usize = 6;
+
+fn half_word(half: u8) -> &'static str
+    requires half { half ≤ 1 }
+    ensures text { result.now ≡ codes "." ++ decimal half }
+    ensures bound { length result.now ≡ 2 }
+{
+    if half == 0 { ".0" } else { ".1" }
+}
+
+/// Puts the half of a byte, `.H`, for an STP source.
+#[inline]
+pub(crate) fn put_half(room: &mut [u8], from: usize, stp: bool, half: u8) -> usize
+    requires half { half ≤ 1 }
+    requires room { from + HALF_ROOM ≤ length room.old }
+    ensures text { take result room.new ≡ take from room.old ++ half_text stp half }
+    ensures same { length room.new ≡ length room.old }
+    ensures end { result ≤ from + HALF_ROOM }
+{
+    if stp {
+        put_bytes(room, from, half_word(half).as_bytes())
+    } else {
+        from
+    }
+}
+
+/// Puts a source's number, or `port`, between spaces.
+#[inline]
+pub(crate) fn put_source(room: &mut [u8], from: usize, source: Option<SourceId>) -> usize
+    requires room { from + SOURCE_ROOM ≤ length room.old }
+    ensures text { take result room.new ≡ take from room.old ++ (codes " " ++ (source_text source ++ codes " ")) }
+    ensures same { length room.new ≡ length room.old }
+    ensures end { result ≤ from + SOURCE_ROOM }
+{
+    match source {
+        None => put_bytes(room, from, b" port "),
+        Some(id) => {
+            let from = put_byte(room, from, b' ');
+            let from = put_short(room, from, id.number());
+            put_byte(room, from, b' ')
+        }
+    }
+}
+
+/// Puts a packet.
+#[inline]
+fn put_packet(room: &mut [u8], from: usize, packet: &Packet) -> usize
+    requires proper { IsProperPacket packet.now }
+    requires room { from + ITEM_ROOM ≤ length room.old }
+    ensures text { take result room.new ≡ take from room.old ++ packet_text packet.now }
+    ensures same { length room.new ≡ length room.old }
+    ensures end { result ≤ from + ITEM_ROOM }
+{
+    match packet {
+        Packet::Itm(packet) => put_item(room, from, packet),
+        Packet::Stp(item) => put_stp(room, from, item),
+    }
+}
+
+/// Puts what was given.
+#[inline]
+fn put_what(room: &mut [u8], from: usize, what: &What<Packet>) -> usize
+    requires proper { IsProperWhat what.now }
+    requires room { from + ITEM_ROOM ≤ length room.old }
+    ensures text { take result room.new ≡ take from room.old ++ what_text what.now }
+    ensures same { length room.new ≡ length room.old }
+    ensures end { result ≤ from + ITEM_ROOM }
+{
+    match what {
+        What::Packet(packet) => put_packet(room, from, packet),
+        What::Locked(skipped) => {
+            let from = put_bytes(room, from, b"locked ");
+            put_number(room, from, *skipped)
+        }
+        What::Raw(bytes) => {
+            let from = put_bytes(room, from, b"raw ");
+            put_digits(room, from, bytes.as_slice())
+        }
+        What::Trigger(byte) => {
+            let from = put_bytes(room, from, b"trigger ");
+            put_digits(room, from, &[*byte])
+        }
+    }
+}
 
 /// Puts what is beside a packet.
+#[inline]
 fn put_remark(room: &mut [u8], from: usize, remark: Remark) -> usize
-    requires room { from + PART_ROOM ≤ length room.old }
+    requires room { from + REMARK_ROOM ≤ length room.old }
     ensures text { take result room.new ≡ take from room.old ++ remark_text remark }
     ensures same { length room.new ≡ length room.old }
-    ensures end { result ≤ from + PART_ROOM }
+    ensures end { result ≤ from + REMARK_ROOM }
 {
     match remark {
         Remark::None => from,
@@ -33,69 +134,104 @@ fn put_remark(room: &mut [u8], from: usize, remark: Remark) -> usize
     }
 }
 
-/// The line of a packet, at an offset whose digits but for the last two are kept.
+/// The line of an event, at an offset whose digits but for the last two are kept.
 #[derive(Drop)]
-pub(crate) struct ItemLine<'a> {
+pub(crate) struct EventLine<'a> {
+    pub(crate) digits: &'a Digits,
+    pub(crate) event: &'a Event<Packet>,
+    /// Its source is an STP source.
+    pub(crate) stp: bool,
+    pub(crate) remark: Remark,
+}
+
+impl Text for EventLine<'_> {
+    ghost fits = { λ l. IsPrintable l.stp l.event.now l.remark × (hundreds_of l.digits.now ≡ l.event.now.at / 100) };
+
+    ghost text = { λ l. event_line l.stp l.event.now l.remark };
+
+    #[inline]
+    fn put(&self, room: &mut [u8], from: usize) -> usize {
+        let from = self.digits.put(room, from, self.event.at);
+        let from = put_half(room, from, self.stp, self.event.half);
+        let from = put_source(room, from, self.event.source);
+        let from = put_what(room, from, &self.event.what);
+        let from = put_remark(room, from, self.remark);
+        put_byte(room, from, b'\n')
+    }
+}
+
+/// The line of an ITM packet, at an offset whose digits but for the last two are kept.
+#[derive(Drop)]
+pub(crate) struct ItmLine<'a> {
     pub(crate) digits: &'a Digits,
     pub(crate) at: u64,
+    pub(crate) id: SourceId,
     pub(crate) packet: ItmPacket,
     pub(crate) remark: Remark,
 }
 
-impl Text for ItemLine<'_> {
+impl Text for ItmLine<'_> {
     ghost fits = { λ l. IsProper l.packet × (hundreds_of l.digits.now ≡ l.at / 100) };
 
-    ghost text = { λ l. item_line l.at l.packet l.remark };
+    ghost text = { λ l. event_line false (itm_event l.at l.id l.packet) l.remark };
 
     #[inline]
     fn put(&self, room: &mut [u8], from: usize) -> usize {
         let from = self.digits.put(room, from, self.at);
-        let from = put_bytes(room, from, b" 1 ");
+        let from = put_source(room, from, Some(self.id));
         let from = put_item(room, from, &self.packet);
         let from = put_remark(room, from, self.remark);
-        put_bytes(room, from, b"\n")
+        put_byte(room, from, b'\n')
     }
 }
 
-/// The line of a packet of source 1 at this offset, with its remark: `AT 1 ITEM`. The packet's numbers
-/// are in their ranges. The digits of the offset are kept for the next line.
-pub fn put_line(
+/// The line of an event, with its remark: `AT SOURCE WHAT`, or `AT.H SOURCE WHAT` where its source is an STP source. The
+/// digits of the offset are kept for the next line.
+pub fn print(
     outlet: &mut Outlet,
     digits: &mut Digits,
-    at: u64,
-    packet: &ItmPacket,
+    event: &Event<Packet>,
+    stp: bool,
     remark: Remark,
 )
-    requires proper { IsProper packet.now }
+    requires printable { IsPrintable stp event.now remark }
     requires room { length outlet.old + TEXT_ROOM ≤ OUTLET_ROOM }
-    ensures { outlet.new ≡ outlet.old ++ item_line at packet.now remark }
+    ensures line { outlet.new ≡ outlet.old ++ event_line stp event.now remark }
+    ensures bound { length outlet.new ≤ length outlet.old + EVENT_ROOM }
 {
-    digits.keep(at);
-    let line = ItemLine {
+    digits.keep(event.at);
+    let line = EventLine {
         digits,
-        at,
-        packet: *packet,
+        event,
+        stp,
         remark,
     };
     outlet.put(&line);
 }
 
-/// The line of a lock of source 1 at this offset, after the skipped bytes: `AT 1 locked N`.
-#[derive(Clone, Copy, Debug)]
-pub struct LockLine {
-    pub at: u64,
-    pub skipped: u64,
-}
-
-impl Text for LockLine {
-    ghost fits = { λ _. Unit {0} };
-
-    ghost text = { λ l. lock_line l.at l.skipped };
-
-    fn put(&self, room: &mut [u8], from: usize) -> usize {
-        let from = put_number(room, from, self.at);
-        let from = put_bytes(room, from, b" 1 locked ");
-        let from = put_number(room, from, self.skipped);
-        put_bytes(room, from, b"\n")
-    }
+/// The line of an ITM packet of this source, whose last byte is at this offset, with its remark: what `print` puts for it,
+/// without an event. The packet's numbers are in their ranges. The digits of the offset are kept for the next line.
+pub fn put_line(
+    outlet: &mut Outlet,
+    digits: &mut Digits,
+    at: u64,
+    id: SourceId,
+    packet: &ItmPacket,
+    remark: Remark,
+)
+    requires proper { IsProper packet.now }
+    requires suits { SuitsPacket packet.now remark }
+    requires room { length outlet.old + TEXT_ROOM ≤ OUTLET_ROOM }
+    ensures line { outlet.new ≡ outlet.old ++ event_line false (itm_event at id packet.now) remark }
+    ensures bound { length outlet.new ≤ length outlet.old + EVENT_ROOM }
+{
+    digits.keep(at);
+    let line = ItmLine {
+        digits,
+        at,
+        id,
+        packet: *packet,
+        remark,
+    };
+    outlet.put(&line);
 }

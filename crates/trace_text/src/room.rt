@@ -6,12 +6,15 @@ ghost use Rattle.hex.specs.Hex.{encode_lower};
 ghost use Rattle.trace_text.specs.Pairs.{pair};
 ghost use Rattle.trace_text.specs.Values.{value_text};
 
-use crate::tables::{PAIRS, SHORT};
+use crate::tables::{NUMBERS, PAIRS};
 use itm_grammar::packet::Size;
 use itoa::Buffer;
 
 /// Bytes that a number or a value is given: more than any has.
 pub(crate) const NUMBER_ROOM: usize = 24;
+
+/// Bytes that a number of at most three digits is given.
+pub(crate) const SHORT_ROOM: usize = 4;
 
 /// The most bytes of a word.
 pub(crate) const WORD_ROOM: usize = 12;
@@ -87,33 +90,32 @@ pub(crate) fn put_front(room: &mut [u8], from: usize, bytes: &[u8], len: usize) 
     from + len
 }
 
-/// Puts a number below 100 in decimal. No branch depends on how many digits it has.
-#[inline]
-fn put_below_hundred(room: &mut [u8], from: usize, number: u8) -> usize
-    requires room { from + NUMBER_ROOM ≤ length room.old }
-    requires two { number < 100 }
-    ensures text { take result room.new ≡ take from room.old ++ decimal number }
-    ensures same { length room.new ≡ length room.old }
-    ensures end { result ≤ from + NUMBER_ROOM }
-{
-    let digits = SHORT;
-    let start = 2 * number as usize;
-    let has_two = number >= 10;
-    put_front(room, from, &digits[start..start + 2], 1 + has_two as usize)
-}
-
-/// Puts a number of at most three digits in decimal.
+/// Puts a number of at most three digits in decimal. No branch depends on how many it has.
 #[inline]
 pub(crate) fn put_short(room: &mut [u8], from: usize, number: u8) -> usize
-    requires room { from + NUMBER_ROOM ≤ length room.old }
+    requires room { from + SHORT_ROOM ≤ length room.old }
     ensures text { take result room.new ≡ take from room.old ++ decimal number }
     ensures same { length room.new ≡ length room.old }
-    ensures end { result ≤ from + NUMBER_ROOM }
+    ensures end { result ≤ from + 3 }
 {
-    if number < 100 {
-        return put_below_hundred(room, from, number);
-    }
-    put_number(room, from, u64::from(number))
+    let digits = NUMBERS;
+    let start = 4 * number as usize;
+    let has_two = number >= 10;
+    let has_three = number >= 100;
+    let len = 1 + has_two as usize + has_three as usize;
+    put_front(room, from, &digits[start..start + 4], len)
+}
+
+/// Puts a number of at most five digits in decimal.
+#[inline]
+pub(crate) fn put_medium(room: &mut [u8], from: usize, number: u16) -> usize
+    requires room { from + 5 ≤ length room.old }
+    ensures text { take result room.new ≡ take from room.old ++ decimal number }
+    ensures same { length room.new ≡ length room.old }
+    ensures end { result ≤ from + 5 }
+{
+    let mut buffer = Buffer::new();
+    put_bytes(room, from, buffer.format(number).as_bytes())
 }
 
 /// Puts bytes in hexadecimal, two digits each.

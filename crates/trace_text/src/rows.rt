@@ -1,0 +1,1 @@
+//! Worked rows of the texts, which the checker computes.

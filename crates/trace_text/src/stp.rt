@@ -1,0 +1,221 @@
+//! The texts of the items of a system trace.
+
+ghost use Rattle.std.specs.Prelude.{◌≡◌, ◌+◌, ◌/◌, ◌^◌, ◌≤◌, ◌<◌, ◌++◌, ◌∷◌, [], length, take, codes, decimal};
+ghost use Rattle.hex.specs.Hex.{encode_lower};
+ghost use Rattle.stp_grammar.specs.Proper.{bits_of, IsProperItem, IsProperStamp};
+ghost use Rattle.trace_text.specs.HexDigits.{hex_digits};
+ghost use Rattle.trace_text.specs.StpText.{known_text, place_text, datum_text, mark_text, stamp_text, stp_text};
+
+use crate::room::{
+    ITEM_ROOM, NUMBER_ROOM, PART_ROOM, put_byte, put_bytes, put_digits, put_medium, put_number,
+    put_short,
+};
+use stp_grammar::item::{Place, Stamp, StpItem};
+use stp_grammar::packet::Width;
+use trace_clock::word_nibbles;
+
+/// The most bytes of a master and a channel.
+const PLACE_ROOM: usize = 11;
+
+/// The most bytes of a datum's width and value.
+const VALUE_ROOM: usize = 20;
+
+/// Bytes that a timestamp is given: more than any has.
+const STAMP_ROOM: usize = 2 + NUMBER_ROOM;
+
+/// Puts a number, or `-` where it is unknown.
+#[inline]
+fn put_known(room: &mut [u8], from: usize, number: Option<u16>) -> usize
+    requires room { from + 5 ≤ length room.old }
+    ensures text { take result room.new ≡ take from room.old ++ known_text number }
+    ensures same { length room.new ≡ length room.old }
+    ensures end { result ≤ from + 5 }
+{
+    match number {
+        None => put_byte(room, from, b'-'),
+        Some(number) => put_medium(room, from, number),
+    }
+}
+
+/// Puts the master and the channel: `M C`.
+#[inline]
+fn put_place(room: &mut [u8], from: usize, place: Place) -> usize
+    requires room { from + PLACE_ROOM ≤ length room.old }
+    ensures text { take result room.new ≡ take from room.old ++ place_text place }
+    ensures same { length room.new ≡ length room.old }
+    ensures end { result ≤ from + PLACE_ROOM }
+{
+    let from = put_known(room, from, place.master);
+    let from = put_byte(room, from, b' ');
+    put_known(room, from, place.channel)
+}
+
+/// Puts the last `count` nibbles of a number, which has no more, as hexadecimal digits. There is room for sixteen.
+#[inline]
+fn put_nibbles(room: &mut [u8], from: usize, count: u8, number: u64) -> usize
+    requires few { count ≤ 16 }
+    requires fits { number < 16 ^ count }
+    requires room { from + 16 ≤ length room.old }
+    ensures text { take result room.new ≡ take from room.old ++ hex_digits count number }
+    ensures same { length room.new ≡ length room.old }
+    ensures end { result ≡ from + count }
+{
+    if count == 0 {
+        return from;
+    }
+    let first = number << (64 - 4 * count);
+    let _all = put_digits(room, from, &first.to_be_bytes());
+    from + usize::from(count)
+}
+
+/// Puts how many bits a datum has, and its value: `uB V`.
+#[inline]
+fn put_datum(room: &mut [u8], from: usize, width: Width, value: u64) -> usize
+    requires fits { value < 2 ^ bits_of width }
+    requires room { from + VALUE_ROOM ≤ length room.old }
+    ensures text { take result room.new ≡ take from room.old ++ datum_text width value }
+    ensures same { length room.new ≡ length room.old }
+    ensures end { result ≤ from + VALUE_ROOM }
+{
+    let bytes = value.to_be_bytes();
+    match width {
+        Width::Four => {
+            let end = put_bytes(room, from, b"u4 ");
+            put_nibbles(room, end, 1, value)
+        }
+        Width::Eight => {
+            let end = put_bytes(room, from, b"u8 ");
+            put_digits(room, end, &bytes[7..])
+        }
+        Width::Sixteen => {
+            let end = put_bytes(room, from, b"u16 ");
+            put_digits(room, end, &bytes[6..])
+        }
+        Width::ThirtyTwo => {
+            let end = put_bytes(room, from, b"u32 ");
+            put_digits(room, end, &bytes[4..])
+        }
+        Width::SixtyFour => {
+            let end = put_bytes(room, from, b"u64 ");
+            put_digits(room, end, &bytes)
+        }
+    }
+}
+
+/// Puts a timestamp: `-`, `n=N`, `g=N`, or `r=` and its word's nibbles.
+#[inline]
+fn put_stamp(room: &mut [u8], from: usize, stamp: Stamp) -> usize
+    requires proper { IsProperStamp stamp }
+    requires room { from + STAMP_ROOM ≤ length room.old }
+    ensures text { take result room.new ≡ take from room.old ++ stamp_text stamp }
+    ensures same { length room.new ≡ length room.old }
+    ensures end { result ≤ from + STAMP_ROOM }
+{
+    match stamp {
+        Stamp::None => put_byte(room, from, b'-'),
+        Stamp::Natural(time) => {
+            let from = put_bytes(room, from, b"n=");
+            put_number(room, from, time)
+        }
+        Stamp::Gray(time) => {
+            let from = put_bytes(room, from, b"g=");
+            put_number(room, from, time)
+        }
+        Stamp::Raw { size, word } => {
+            let from = put_bytes(room, from, b"r=");
+            put_nibbles(room, from, word_nibbles(size), word)
+        }
+    }
+}
+
+fn mark_words(marked: bool) -> &'static str
+    ensures text { result.now ≡ codes " " ++ (mark_text marked ++ codes " ") }
+    ensures bound { length result.now ≡ 3 }
+{
+    if marked { " m " } else { " - " }
+}
+
+/// Puts what was written, with its place and its timestamp: `data M C uB V K T`.
+#[inline]
+fn put_data(
+    room: &mut [u8],
+    from: usize,
+    place: Place,
+    width: Width,
+    value: u64,
+    marked: bool,
+    stamp: Stamp,
+) -> usize
+    requires fits { value < 2 ^ bits_of width }
+    requires proper { IsProperStamp stamp }
+    requires room { from + ITEM_ROOM ≤ length room.old }
+    ensures text { take result room.new ≡
+        take from room.old ++ (codes "data " ++ (place_text place ++ (codes " " ++ (datum_text width value
+        ++ (codes " " ++ (mark_text marked ++ (codes " " ++ stamp_text stamp))))))) }
+    ensures same { length room.new ≡ length room.old }
+    ensures end { result ≤ from + ITEM_ROOM }
+{
+    let from = put_bytes(room, from, b"data ");
+    let from = put_place(room, from, place);
+    let from = put_byte(room, from, b' ');
+    let from = put_datum(room, from, width, value);
+    let from = put_bytes(room, from, mark_words(marked).as_bytes());
+    put_stamp(room, from, stamp)
+}
+
+/// Puts the text of an item.
+#[inline]
+pub(crate) fn put_stp(room: &mut [u8], from: usize, item: &StpItem) -> usize
+    requires proper { IsProperItem item.now }
+    requires room { from + ITEM_ROOM ≤ length room.old }
+    ensures text { take result room.new ≡ take from room.old ++ stp_text item.now }
+    ensures same { length room.new ≡ length room.old }
+    ensures end { result ≤ from + ITEM_ROOM }
+{
+    match *item {
+        StpItem::Async => put_bytes(room, from, b"async"),
+        StpItem::Version(version) => {
+            let from = put_bytes(room, from, b"version ");
+            put_short(room, from, version)
+        }
+        StpItem::MasterError { place, code } => {
+            let from = put_bytes(room, from, b"merr ");
+            let from = put_place(room, from, place);
+            let from = put_byte(room, from, b' ');
+            put_digits(room, from, &[code])
+        }
+        StpItem::GlobalError { code } => {
+            let from = put_bytes(room, from, b"gerr ");
+            put_digits(room, from, &[code])
+        }
+        StpItem::Datum {
+            place,
+            width,
+            value,
+            marked,
+            stamp,
+        } => put_data(room, from, place, width, value, marked, stamp),
+        StpItem::Flag { place, stamp } => {
+            let from = put_bytes(room, from, b"flag ");
+            let from = put_place(room, from, place);
+            let from = put_byte(room, from, b' ');
+            put_stamp(room, from, stamp)
+        }
+        StpItem::Trigger { code, stamp } => {
+            let from = put_bytes(room, from, b"trig ");
+            let from = put_digits(room, from, &[code]);
+            let from = put_byte(room, from, b' ');
+            put_stamp(room, from, stamp)
+        }
+        StpItem::Frequency { hertz, stamp } => {
+            let from = put_bytes(room, from, b"freq ");
+            let from = put_number(room, from, u64::from(hertz));
+            let from = put_byte(room, from, b' ');
+            put_stamp(room, from, stamp)
+        }
+        StpItem::NullStamp { stamp } => {
+            let from = put_bytes(room, from, b"nullts ");
+            put_stamp(room, from, stamp)
+        }
+    }
+}
