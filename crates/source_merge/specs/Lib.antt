@@ -1,0 +1,4 @@
+pub mod Fitting
+pub mod Feeding
+pub mod Routing
+pub mod Counting
