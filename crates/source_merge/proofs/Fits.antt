@@ -12,7 +12,7 @@ use Rattle.source_events.specs.Merge.{told}
 use Rattle.source_events.specs.Report.{lifted, triggers, raw_events}
 use Rattle.source_events.specs.Runs.{bytes_of, last_at}
 use Rattle.source_events.specs.declared.event.What.TheVariants.{Raw, Trigger, Packet, Locked as LockedAt}
-use Rattle.source_merge.specs.Fitting.{WhatFits, AllFit}
+use Rattle.source_events.specs.Fitting.{WhatFits, AllFit}
 
 module _ {V : Type 0} (fits : V → Type 0) where
   abbrev EventFits : Event V → Type 0

@@ -1,22 +1,18 @@
-//! What is counted of each source.
+//! What is counted of a capture.
 
-ghost use Rattle.std.specs.Prelude.{◌≡◌, ◌≤◌};
+ghost use Rattle.std.specs.Prelude.{◌≡◌, ◌≤◌, ◌<◌, ◌+◌, ◌^◌, ℕ, List};
+ghost use Rattle.trace_values.specs.declared.cell.Cell.{Cell};
+ghost use Rattle.port_reader.specs.Growth.{Grows};
+ghost use Rattle.port_reader.specs.Reading.{PortReading};
+ghost use Rattle.source_merge.specs.Counting.{HasPort, port_total};
 
-use source_events::{Event, Packet, What};
+use port_reader::PortStep;
+use source_counts::Counts;
+use source_events::{Event, Packet, PortCounts, What};
 use trace_values::{Cell, SourceId};
 
 /// How many IDs there are: 0 to 126.
 const SOURCES: usize = 127;
-
-/// How much one source sent.
-#[derive(Clone, Copy, Debug, PartialEq, Eq, Drop)]
-pub struct Counts {
-    /// Its data bytes.
-    pub bytes: u64,
-    /// Its events without the notice of a lock: the packets of a mapped source, and of one that is not mapped a byte of
-    /// the trigger source, or a run of bytes in a frame of another source.
-    pub items: u64,
-}
 
 /// A number for each source.
 #[derive(Debug, Drop)]
@@ -137,5 +133,72 @@ impl ByteCounts {
         ensures { (runs : List (List Cell)) → HasBytes self.now runs → result ≡ unattributed_in runs }
     {
         self.unattributed
+    }
+}
+
+/// What was counted of a capture so far.
+#[derive(Debug, Drop)]
+pub struct Counters {
+    /// The bytes of each source.
+    pub bytes: ByteCounts,
+    /// The events of each source, notices aside.
+    pub items: PerSource,
+    /// The synchronisations and frames of the port.
+    pub port: PortCounts,
+}
+
+impl Counters {
+    ghost use Rattle.std.specs.Prelude.{◌+◌, ◌^◌, ℕ, List, [], length};
+    ghost use Rattle.trace_values.specs.declared.cell.Cell.{Cell};
+    ghost use Rattle.port_reader.specs.Growth.{Grows};
+    ghost use Rattle.port_reader.specs.Reading.{PortReading};
+    ghost use Rattle.source_merge.specs.Counting.{HasBytes, HasItems, HasPort, bytes_in, port_total, size_of};
+    ghost use Rattle.source_events.specs.declared.event.Event.{Event};
+    ghost use Rattle.source_events.specs.declared.packet.Packet.{Packet};
+    ghost use Rattle.source_events.specs.Tails.{items_in};
+
+    /// Nothing came yet.
+    pub fn new() -> Counters
+        ensures bytes { HasBytes result.bytes [] }
+        ensures items { HasItems result.items [] }
+        ensures port { result.port ≡ record { fulls = 0; halves = 0; frames = 0 } }
+        ensures none { size_of result ≡ 0 }
+    {
+        Counters {
+            bytes: ByteCounts::new(),
+            items: PerSource::new(),
+            port: PortCounts {
+                fulls: 0,
+                halves: 0,
+                frames: 0,
+            },
+        }
+    }
+
+    /// How many bytes and items a source has.
+    pub fn of(&self, id: SourceId) -> Counts
+        ensures { (runs : List (List Cell)) (es : List (Event Packet)) → HasBytes self.now.bytes runs →
+            HasItems self.now.items es → result ≡ record { bytes = bytes_in id runs; items = items_in id es } }
+    {
+        Counts {
+            bytes: self.bytes.of(id),
+            items: self.items.of(id),
+        }
+    }
+}
+
+/// Counts what a step of the port says: a frame, or a synchronisation.
+#[inline]
+pub fn add_step(counts: &mut PortCounts, step: &PortStep)
+    requires { port_total counts.old < 2 ^ 60 }
+    ensures counted { (r new : PortReading) (at : ℕ) (cells : List Cell) → Grows r new at step.now cells →
+        HasPort counts.old r → HasPort counts.new new }
+    ensures total { port_total counts.new ≤ port_total counts.old + 1 }
+{
+    match step {
+        PortStep::Frame => counts.frames += 1,
+        PortStep::Full | PortStep::Locked { .. } => counts.fulls += 1,
+        PortStep::Half => counts.halves += 1,
+        PortStep::Quiet | PortStep::Fault(_) => {}
     }
 }

@@ -6,7 +6,7 @@ ghost use Rattle.trace_values.specs.declared.cell.Cell.{Cell};
 ghost use Rattle.source_events.specs.Runs.{RisesFrom, IsRunFrom, end_of, runs_of, id_of};
 ghost use Rattle.source_events.specs.Merge.{told};
 ghost use Rattle.source_events.specs.Report.{raw_events, triggers};
-ghost use Rattle.source_merge.specs.Fitting.{AllFit};
+ghost use Rattle.source_events.specs.Fitting.{AllFit};
 ghost use Rattle.source_merge.specs.Routing.{mapped_of, AllLive, AllStand, HaveRoom, AreDistinct, Took, Fed, RunsBetween, SlotFed};
 ghost use Rattle.source_merge.specs.Counting.{HasBytes, bytes_counted};
 ghost use Rattle.source_merge.specs.declared.slot.Slot.{Slot};

@@ -6,7 +6,7 @@ ghost use Rattle.trace_values.specs.Placed.{Placed};
 ghost use Rattle.trace_values.specs.Stream.{given_by};
 ghost use Rattle.source_events.specs.Merge.{told};
 ghost use Rattle.source_events.specs.Report.{lifted};
-ghost use Rattle.source_merge.specs.Fitting.{AllFit};
+ghost use Rattle.source_events.specs.Fitting.{AllFit};
 ghost use Rattle.source_merge.specs.Feeding.{Feeds, IsEarly, step_fault};
 
 use arrayvec::ArrayVec;

@@ -3,7 +3,7 @@ use Rattle.arrayvec.specs.ArrayVec.{array_vec_len}
 use Rattle.trace_values.specs.declared.cell.Cell.{Cell}
 use Rattle.source_events.specs.Runs.{RisesFrom, runs_of}
 use Rattle.source_merge.specs.Routing.{mapped_of, AllLive, AllStand, HaveRoom, AreDistinct, RunsBetween, Filled}
-use Rattle.source_merge.specs.Fitting.{AllFit}
+use Rattle.source_events.specs.Fitting.{AllFit}
 use Rattle.source_merge.specs.Counting.{HasBytes, bytes_counted}
 use Rattle.source_merge.proofs.router.take_frame.Given as goal
 

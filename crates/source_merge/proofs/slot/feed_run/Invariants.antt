@@ -1,7 +1,7 @@
 use Rattle.std.proofs.Common.{◌≡◌, ◌+◌, ◌*◌, ◌≤◌, List, take, true, None}
 use Rattle.arrayvec.specs.ArrayVec.{array_vec_len}
 use Rattle.trace_values.specs.Placed.{Placed}
-use Rattle.source_merge.specs.Fitting.{AllFit}
+use Rattle.source_events.specs.Fitting.{AllFit}
 use Rattle.source_merge.specs.Feeding.{Feeds}
 use Rattle.source_merge.proofs.slot.feed_run.Given as goal
 
