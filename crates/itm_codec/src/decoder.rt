@@ -142,7 +142,7 @@ impl Machine for ItmDecoder {
 
     ghost skipped_units = { skipped_by };
 
-    ghost units_per_byte = { 1 };
+    ghost units_per_byte = { λ m. 1 };
 
     ghost fits = { IsProper };
 

@@ -8,3 +8,4 @@ pub mod Least
 pub mod Settling
 pub mod Blocks
 pub mod LockSteps
+pub mod RunNumbers

@@ -1,12 +1,17 @@
 //! Laws of the report, over its definitions alone.
 
 ghost use Rattle.std.specs.Prelude.{◌≡◌, ◌↔◌, ℕ, List};
+ghost use Rattle.std.specs.List.{flat_map};
+ghost use Rattle.trace_values.specs.declared.cell.Cell.{Cell};
+ghost use Rattle.frame_grammar.specs.Runs.{HasRuns};
+ghost use Rattle.frame_grammar.specs.SourceBytes.{source_units};
 ghost use Rattle.trace_values.specs.Placed.{Placed};
 ghost use Rattle.capture_plan.specs.declared.frames.FramesMode.{FramesMode};
 ghost use Rattle.source_events.specs.declared.packet.Packet.{Packet};
-ghost use Rattle.port_reader.specs.Reading.{port_reading};
+ghost use Rattle.port_reader.specs.Reading.{port_reading, cells_of};
 ghost use Rattle.port_reader.specs.Rising.{BytesRise};
 ghost use Rattle.source_events.specs.declared.event.Event.{Event};
+ghost use Rattle.source_events.specs.Runs.{runs_of, list_of, AreWhole};
 ghost use Rattle.source_events.specs.Merge.{IsMerged};
 ghost use Rattle.source_events.specs.Report.{Mapped, AreLawful, events, port_events, runs_in, capture_events};
 
@@ -16,4 +21,17 @@ pub fn merged_law()
     ensures { (ss : List (Mapped Packet)) → AreLawful ss → (mode : FramesMode) (u : List Placed) (lo hi : ℕ) →
         BytesRise lo hi u → (es : List (Event Packet)) →
         IsMerged (port_events mode u) (events ss) (runs_in (port_reading mode u)) es ↔ (es ≡ capture_events ss mode u) }
+{}
+
+/// The runs of a frame, one after the other, are its cells. Each is all the frame's cells of one number, and the numbers
+/// rise.
+pub fn runs_law()
+    ensures cells { (cells : List Cell) → flat_map (λ run. run) (runs_of cells) ≡ cells }
+    ensures whole { (cells : List Cell) → HasRuns cells → AreWhole 0 cells (runs_of cells) }
+{}
+
+/// What a source's machine is fed by the runs of a port's frames is the bytes of its cells, each at its offset.
+pub fn list_law()
+    ensures { (mode : FramesMode) (u : List Placed) (x : ℕ) →
+        list_of x (runs_in (port_reading mode u)) ≡ source_units x (cells_of (port_reading mode u)) }
 {}

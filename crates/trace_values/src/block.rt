@@ -89,7 +89,7 @@ mod tests {
 
         ghost skipped_units = { λ m. 9 };
 
-        ghost units_per_byte = { 0 };
+        ghost units_per_byte = { λ m. 0 };
 
         ghost fits = { λ item. Unit {0} };
 

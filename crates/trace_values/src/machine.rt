@@ -37,7 +37,7 @@ pub trait Machine {
     ghost skipped_units: { Self → ℕ };
 
     /// How many units a byte has: 1 where they are bytes, 2 where they are nibbles.
-    ghost units_per_byte: { ℕ };
+    ghost units_per_byte: { Self → ℕ };
 
     /// The item's numbers are in their ranges.
     ghost fits: { Self.Item → Type 0 };
@@ -95,11 +95,11 @@ pub trait Machine {
     /// The byte of a fault, and each byte after it, gives nothing: the reading holds its units.
     ghost falls: { (m : Self) (u : List Placed) (at byte : ℕ) →
         is_none (reading m (u ++ byte_at at byte ∷ [])).fault ≡ false →
-        Holds units_per_byte (reading m u) (reading m (u ++ byte_at at byte ∷ [])) };
+        Holds (units_per_byte m) (reading m u) (reading m (u ++ byte_at at byte ∷ [])) };
 
     /// After a fault it holds what the reading held before the fault's byte, and that byte's units before
     /// the fault's.
     ghost keeps: { (m : Self) (u : List Placed) (at byte : ℕ) → stands m (u ++ byte_at at byte ∷ []) →
         live m ≡ false → (reading m u).fault ≡ None →
-        ((reading m u).held ≤ held_units m) × (held_units m < (reading m u).held + units_per_byte) };
+        ((reading m u).held ≤ held_units m) × (held_units m < (reading m u).held + units_per_byte m) };
 }
