@@ -10,3 +10,6 @@ pub mod Blocks
 pub mod LockSteps
 pub mod RunNumbers
 pub mod Growth
+pub mod Lawful
+pub mod Captures
+pub mod Merging
