@@ -6,17 +6,41 @@ use Rattle.trace_values.specs.declared.fault.Reason.{Reason}
 use Rattle.trace_values.specs.Placed.{Place, Placed, placed, placed_from}
 use Rattle.trace_values.proofs.Placing.{placed_append}
 use Rattle.capture_plan.specs.declared.frames.FramesMode.{FramesMode}
+use Rattle.capture_plan.specs.declared.frames.FramesMode.TheVariants.{Hunt, Aligned, Bare}
 use Rattle.port_reader.specs.Rising.{BytesRise}
 use Rattle.port_reader.specs.Reading.{port_reading}
+use Rattle.port_reader.proofs.ReadingLaws.{none_read}
 use Rattle.port_reader.proofs.RisingLaws.{placed_rise}
 use Rattle.source_events.specs.declared.event.Event.{Event}
-use Rattle.source_events.specs.Report.{Mapped, AreLawful, stop_in, report}
+use Rattle.source_events.specs.declared.event.What.{What}
+use Rattle.source_events.specs.Runs.{all_runs}
+use Rattle.source_events.specs.Merge.{told, cut}
+use Rattle.source_events.specs.Report.{Mapped, AreLawful, lesser, of_source, least_fault, all_events, port_events, runs_in, stop_in, capture_events, report}
 use Rattle.source_events.proofs.Growth as growth
 use Rattle.source_events.proofs.Least.{Full}
 
 capture_rises : (xs : List ℕ) → BytesRise 0 (length xs) (placed xs)
 capture_rises xs =
     subst (λ (n : ℕ). BytesRise 0 n (placed xs)) (let k : 0 + length xs ≡ length xs = omega arith in k) (placed_rise xs 0)
+
+-- of no bytes there is no fault, and no event
+nothing_given : {V : Type 0} → (mode : FramesMode) → port_events {V = V} mode [] ≡ []
+nothing_given Hunt = refl
+nothing_given Aligned = refl
+nothing_given Bare = refl
+
+module _ {V : Type 0} (ss : List (Mapped V)) (law : AreLawful ss) (mode : FramesMode) where
+  pub no_fault_first : stop_in ss (port_reading mode []) ≡ None
+  no_fault_first =
+      ap (λ (o : Option (Place × Reason)). lesser (of_source None o) (least_fault ss (runs_in (port_reading mode []))))
+      (none_read mode).fault
+      ∙ ap (λ (l : List (List Cell)). least_fault ss (all_runs l)) (none_read mode).frames ∙ growth.sound_first ss law
+
+  pub no_event_first : report ss mode [] ≡ []
+  no_event_first =
+      ap (λ (o : Option Full). cut o (capture_events ss mode [])) no_fault_first
+      ∙ ap (λ (g : List (What V × Place)). told None g ++ all_events ss (runs_in (port_reading mode []))) (nothing_given mode)
+      ∙ ap (λ (l : List (List Cell)). all_events ss (all_runs l)) (none_read mode).frames
 
 itself : (n : ℕ) → n ≤ n
 itself n = omega arith
