@@ -1,0 +1,52 @@
+-- How the listing grows with the bytes.
+use Rattle.std.specs.Prelude.{◌≡◌, ℕ, List, [], ◌∷◌, ◌++◌, refl, Option, Some, None, is_none, false}
+use Rattle.std.proofs.Common.{ap, sym, ◌∙◌}
+use Rattle.trace_stream.specs.Written.{GrowsOnly}
+use Rattle.trace_values.specs.declared.fault.Reason.{Reason}
+use Rattle.trace_values.specs.Placed.{Place, Placed, placed}
+use Rattle.source_events.specs.declared.event.Event.{Event}
+use Rattle.source_events.specs.declared.packet.Packet.{Packet}
+use Rattle.source_events.specs.declared.plan.Plan.{Plan}
+use Rattle.source_events.specs.Plan.{sources_by}
+use Rattle.source_events.proofs.Captures as captures
+use Rattle.source_events.proofs.Lawful.{plan_lawful}
+use Rattle.source_merge.specs.Answering.{report_of, fault_of}
+use Rattle.capture_report.specs.declared.list_plan.ListPlan.{ListPlan}
+use Rattle.capture_report.specs.Listing.{lines_after, IsFaulty, listed, ending_by, ending}
+use Rattle.capture_report.proofs.Lines.{lines_append}
+
+pub none_at_first : (p : ListPlan) → IsFaulty p [] → ⊥
+none_at_first p h =
+    (let k = ap (λ (o : Option (Place × (Reason × Option ℕ))). is_none o)
+    (captures.no_fault_first (sources_by p.plan) (plan_lawful p.plan) p.plan.frames) in let g = h in cc)
+
+pub nothing_at_first : (p : ListPlan) → listed p [] ≡ []
+nothing_at_first p =
+    ap (lines_after p []) (captures.no_event_first (sources_by p.plan) (plan_lawful p.plan) p.plan.frames)
+
+pub faulty_stays : (p : ListPlan) (xs ys : List ℕ) → IsFaulty p xs → IsFaulty p (xs ++ ys)
+faulty_stays p xs ys h =
+    ap (λ (o : Option (Place × (Reason × Option ℕ))). is_none o)
+    (captures.stays_same (sources_by p.plan) (plan_lawful p.plan) p.plan.frames xs ys h).0 ∙ h
+
+pub listed_stays : (p : ListPlan) (xs ys : List ℕ) → IsFaulty p xs → listed p (xs ++ ys) ≡ listed p xs
+listed_stays p xs ys h =
+    ap (lines_after p []) (captures.stays_same (sources_by p.plan) (plan_lawful p.plan) p.plan.frames xs ys h).1
+
+-- at a fault its line is written, whatever was read
+faulty_ending : (plan : Plan) (u w : List Placed) (f g : Option (Place × (Reason × Option ℕ))) → is_none f ≡ false →
+    g ≡ f → ending_by plan u g ≡ ending_by plan w f
+faulty_ending plan u w None g h e = cc
+faulty_ending plan u w (Some f) g h e = ap (λ (x : Option (Place × (Reason × Option ℕ))). ending_by plan u x) e
+
+pub ending_stays : (p : ListPlan) (xs ys : List ℕ) → IsFaulty p xs → ending p (xs ++ ys) ≡ ending p xs
+ending_stays p xs ys h =
+    faulty_ending p.plan (placed (xs ++ ys)) (placed xs) (fault_of p.plan (placed xs)) (fault_of p.plan (placed (xs ++ ys))) h
+    (captures.stays_same (sources_by p.plan) (plan_lawful p.plan) p.plan.frames xs ys h).0
+
+pub listed_grows : (p : ListPlan) (xs ys : List ℕ) → GrowsOnly (listed p xs) (listed p (xs ++ ys))
+listed_grows p xs ys =
+    let more = captures.grows (sources_by p.plan) (plan_lawful p.plan) p.plan.frames xs ys in (
+      lines_after p (report_of p.plan (placed xs)) more.0,
+      ap (lines_after p []) more.1 ∙ lines_append p [] (report_of p.plan (placed xs)) more.0,
+    )

@@ -1,0 +1,33 @@
+-- What is beside the timestamps of a source: the times after the packets up to each (ARMv7-M Architecture Reference
+-- Manual, Arm DDI 0403, appendix 'Debug ITM and DWT packet protocol', timestamp packets).
+use Rattle.std.specs.Prelude.{ℕ, List, [], ◌∷◌, flat_map, Option}
+use Rattle.itm_grammar.specs.declared.packet.ItmPacket.{ItmPacket}
+use Rattle.itm_grammar.specs.declared.packet.ItmPacket.TheVariants.{Local, GlobalFirst, GlobalSecond}
+use Rattle.trace_clock.specs.LocalTime.{local_time}
+use Rattle.trace_clock.specs.GlobalTime.{GlobalStamp, First, Second, global_time}
+use Rattle.trace_text.specs.declared.remark.Remark.{Remark}
+use Rattle.trace_text.specs.declared.remark.Remark.TheVariants.{None as NoRemark, Clock, Time}
+
+-- the ticks of a local timestamp, and a global one
+abbrev pub deltas_in : ItmPacket → List ℕ
+deltas_in (Local lateness delta) = delta ∷ []
+deltas_in packet = []
+
+abbrev pub stamps_in : ItmPacket → List GlobalStamp
+stamps_in (GlobalFirst len value change wrap) = First len value wrap ∷ []
+stamps_in (GlobalSecond wide value) = Second value ∷ []
+stamps_in packet = []
+
+-- the local time after some packets, and the global one
+abbrev pub local_after : List ItmPacket → ℕ
+local_after packets = local_time (flat_map deltas_in packets)
+
+abbrev pub global_after : List ItmPacket → Option ℕ
+global_after packets = global_time (flat_map stamps_in packets)
+
+-- what is beside this packet, the last of these
+abbrev pub remark_by : List ItmPacket → ItmPacket → Remark
+remark_by packets (Local lateness delta) = Clock (local_after packets)
+remark_by packets (GlobalFirst len value change wrap) = Time (global_after packets)
+remark_by packets (GlobalSecond wide value) = Time (global_after packets)
+remark_by packets packet = NoRemark

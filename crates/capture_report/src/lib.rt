@@ -1,0 +1,11 @@
+//! What the command writes of the report of a capture: the listing of its events, and the counts of what its sources
+//! sent. Each is an action that `trace_stream` serves.
+#![tactic(auto)]
+
+mod clocks;
+mod list_plan;
+mod show;
+mod source_clocks;
+
+pub use list_plan::ListPlan;
+pub use show::Show;

@@ -1,0 +1,48 @@
+//! The clocks of all sources.
+
+ghost use Rattle.std.specs.Prelude.{◌≡◌, ◌<◌, ◌++◌, ◌∷◌, [], ℕ, List, Some, get_or};
+ghost use Rattle.source_events.specs.declared.event.Event.{Event};
+ghost use Rattle.source_events.specs.declared.packet.Packet.{Packet};
+ghost use Rattle.source_events.specs.Fitting.{EventFits, PacketFits};
+ghost use Rattle.trace_text.specs.Printable.{Suits};
+ghost use Rattle.capture_report.specs.Listing.{itm_packets, remark_of};
+ghost use Rattle.capture_report.specs.SourceClocks.{AllStand};
+
+use crate::clocks::Clocks;
+use source_events::{Event, Packet, What};
+use trace_text::Remark;
+use trace_values::ID_COUNT;
+
+/// The clocks of each source, by its ID.
+#[derive(Debug, Drop)]
+pub struct SourceClocks {
+    clocks: [Clocks; ID_COUNT],
+}
+
+impl SourceClocks {
+    /// The clocks before the first event.
+    pub fn new() -> SourceClocks
+        ensures { AllStand result [] }
+    {
+        SourceClocks {
+            clocks: [Clocks::new(); ID_COUNT],
+        }
+    }
+
+    /// Takes the next event, and answers what is beside it in its line.
+    #[inline]
+    pub fn remark(&mut self, event: &Event<Packet>) -> Remark
+        requires fits { EventFits PacketFits event.now }
+        ensures suits { Suits event.now.what result }
+        ensures stand { (es : List (Event Packet)) → AllStand self.old es → AllStand self.new (es ++ event.now ∷ []) }
+        ensures remark { (es : List (Event Packet)) → AllStand self.old es →
+            result ≡ remark_of (itm_packets event.now.source es) event.now.what }
+    {
+        match (&event.what, event.source) {
+            (What::Packet(Packet::Itm(packet)), Some(id)) => {
+                self.clocks[id.number() as usize].remark(packet)
+            }
+            _ => Remark::None,
+        }
+    }
+}
