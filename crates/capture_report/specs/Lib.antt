@@ -1,6 +1,11 @@
 pub mod Remarks
 pub mod Clocks
+pub mod Faulty
+pub mod FaultyLaws
 pub mod Listing
 pub mod ListingLaws
 pub mod SourceClocks
 pub mod Show
+pub mod Summary
+pub mod CheckLaws
+pub mod Check

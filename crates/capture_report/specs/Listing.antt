@@ -1,7 +1,6 @@
 -- What `show` writes: the lines of the events of a capture's report, and the end lines or the line of its fault.
-use Rattle.std.specs.Prelude.{◌≡◌, ℕ, List, [], ◌∷◌, ◌++◌, flat_map, ◌==◌, Option, Some, None, is_none, Bool, true, false}
+use Rattle.std.specs.Prelude.{ℕ, List, [], ◌∷◌, ◌++◌, flat_map, Option, Some, None, Bool, true}
 use Rattle.std.specs.Prelude.{if◌then◌else◌}
-use Rattle.std.specs.List.{list_any}
 use Rattle.trace_values.specs.declared.fault.Reason.{Reason}
 use Rattle.trace_values.specs.Placed.{Place, Placed, placed}
 use Rattle.trace_stream.specs.Served.{Meaning}
@@ -24,6 +23,7 @@ use Rattle.trace_text.specs.LineText.{event_line}
 use Rattle.trace_text.specs.FaultText.{fault_line}
 use Rattle.trace_text.specs.EndText.{tails_text}
 use Rattle.capture_report.specs.declared.list_plan.ListPlan.{ListPlan}
+use Rattle.capture_report.specs.Faulty.{is_stp, IsFaulty}
 use Rattle.capture_report.specs.Remarks.{remark_by}
 
 -- the ITM packet that an event is
@@ -39,11 +39,6 @@ itm_packets source es = flat_map (λ e. if is_of source e.source then itm_packet
 abbrev pub remark_of : List ItmPacket → What Packet → Remark
 remark_of before (Said (Itm packet)) = remark_by (before ++ packet ∷ []) packet
 remark_of before what = NoRemark
-
--- the source sends STP packets
-abbrev pub is_stp : Plan → Option ℕ → Bool
-is_stp plan None = false
-is_stp plan (Some x) = list_any (λ y. y == x) plan.stp
 
 -- an event is listed where it meets the choice; the notice of a lock always is
 abbrev pub is_listed : Option Choice → Event Packet → Bool
@@ -61,10 +56,6 @@ line_after p before e =
 abbrev pub lines_after : ListPlan → List (Event Packet) → List (Event Packet) → List ℕ
 lines_after p before [] = []
 lines_after p before (e ∷ es) = line_after p before e ++ lines_after p (before ++ e ∷ []) es
-
--- the report of these bytes has a fault
-abbrev pub IsFaulty : ListPlan → List ℕ → Type 0
-IsFaulty p bytes = is_none (fault_of p.plan (placed bytes)) ≡ false
 
 -- the lines of the events of the report
 abbrev pub listed : ListPlan → List ℕ → List ℕ
@@ -84,4 +75,4 @@ listing p bytes = listed p bytes ++ ending p bytes
 
 -- all that `show` makes of the bytes of a capture
 abbrev pub show_meaning : ListPlan → Meaning
-show_meaning p = record { faulty = IsFaulty p; text = listed p; ending = ending p }
+show_meaning p = record { faulty = IsFaulty p.plan; text = listed p; ending = ending p }

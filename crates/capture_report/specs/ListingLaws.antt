@@ -12,26 +12,27 @@ use Rattle.source_events.proofs.Captures as captures
 use Rattle.source_events.proofs.Lawful.{plan_lawful}
 use Rattle.source_merge.specs.Answering.{report_of, fault_of}
 use Rattle.capture_report.specs.declared.list_plan.ListPlan.{ListPlan}
-use Rattle.capture_report.specs.Listing.{lines_after, IsFaulty, listed, ending_by, ending}
+use Rattle.capture_report.specs.Faulty.{IsFaulty}
+use Rattle.capture_report.specs.FaultyLaws as laws
+use Rattle.capture_report.specs.Listing.{lines_after, listed, ending_by, ending}
 use Rattle.capture_report.proofs.Lines.{lines_append}
 
-pub none_at_first : (p : ListPlan) → IsFaulty p [] → ⊥
-none_at_first p h =
-    (let k = ap (λ (o : Option (Place × (Reason × Option ℕ))). is_none o)
-    (captures.no_fault_first (sources_by p.plan) (plan_lawful p.plan) p.plan.frames) in let g = h in cc)
+-- the plan's report has a fault
+abbrev pub Faulty : ListPlan → List ℕ → Type 0
+Faulty p bytes = IsFaulty p.plan bytes
+
+pub none_at_first : (p : ListPlan) → Faulty p [] → ⊥
+none_at_first p h = laws.none_at_first p.plan h
 
 pub nothing_at_first : (p : ListPlan) → listed p [] ≡ []
 nothing_at_first p =
     ap (lines_after p []) (captures.no_event_first (sources_by p.plan) (plan_lawful p.plan) p.plan.frames)
 
-pub faulty_stays : (p : ListPlan) (xs ys : List ℕ) → IsFaulty p xs → IsFaulty p (xs ++ ys)
-faulty_stays p xs ys h =
-    ap (λ (o : Option (Place × (Reason × Option ℕ))). is_none o)
-    (captures.stays_same (sources_by p.plan) (plan_lawful p.plan) p.plan.frames xs ys h).0 ∙ h
+pub faulty_stays : (p : ListPlan) (xs ys : List ℕ) → Faulty p xs → Faulty p (xs ++ ys)
+faulty_stays p xs ys h = laws.faulty_stays p.plan xs ys h
 
-pub listed_stays : (p : ListPlan) (xs ys : List ℕ) → IsFaulty p xs → listed p (xs ++ ys) ≡ listed p xs
-listed_stays p xs ys h =
-    ap (lines_after p []) (captures.stays_same (sources_by p.plan) (plan_lawful p.plan) p.plan.frames xs ys h).1
+pub listed_stays : (p : ListPlan) (xs ys : List ℕ) → Faulty p xs → listed p (xs ++ ys) ≡ listed p xs
+listed_stays p xs ys h = ap (lines_after p []) (laws.same_report p.plan xs ys h)
 
 -- at a fault its line is written, whatever was read
 faulty_ending : (plan : Plan) (u w : List Placed) (f g : Option (Place × (Reason × Option ℕ))) → is_none f ≡ false →
@@ -39,10 +40,10 @@ faulty_ending : (plan : Plan) (u w : List Placed) (f g : Option (Place × (Reaso
 faulty_ending plan u w None g h e = cc
 faulty_ending plan u w (Some f) g h e = ap (λ (x : Option (Place × (Reason × Option ℕ))). ending_by plan u x) e
 
-pub ending_stays : (p : ListPlan) (xs ys : List ℕ) → IsFaulty p xs → ending p (xs ++ ys) ≡ ending p xs
+pub ending_stays : (p : ListPlan) (xs ys : List ℕ) → Faulty p xs → ending p (xs ++ ys) ≡ ending p xs
 ending_stays p xs ys h =
     faulty_ending p.plan (placed (xs ++ ys)) (placed xs) (fault_of p.plan (placed xs)) (fault_of p.plan (placed (xs ++ ys))) h
-    (captures.stays_same (sources_by p.plan) (plan_lawful p.plan) p.plan.frames xs ys h).0
+    (laws.same_fault p.plan xs ys h)
 
 pub listed_grows : (p : ListPlan) (xs ys : List ℕ) → GrowsOnly (listed p xs) (listed p (xs ++ ys))
 listed_grows p xs ys =

@@ -2,10 +2,12 @@
 //! sent. Each is an action that `trace_stream` serves.
 #![tactic(auto)]
 
+mod check;
 mod clocks;
 mod list_plan;
 mod show;
 mod source_clocks;
 
+pub use check::Check;
 pub use list_plan::ListPlan;
 pub use show::Show;

@@ -11,7 +11,8 @@ ghost use Rattle.source_merge.specs.Engine.{is_live};
 ghost use Rattle.trace_text.specs.LineText.{event_line};
 ghost use Rattle.trace_text.specs.Printable.{Suits};
 ghost use Rattle.trace_stream.specs.declared.outlet.TheConstants.{TEXT_ROOM, OUTLET_ROOM};
-ghost use Rattle.capture_report.specs.Listing.{is_stp, is_listed, line_after, lines_after};
+ghost use Rattle.capture_report.specs.Faulty.{is_stp};
+ghost use Rattle.capture_report.specs.Listing.{is_listed, lines_after};
 ghost use Rattle.capture_report.specs.Show.{plan_of};
 ghost use Rattle.capture_report.specs.SourceClocks.{AllStand};
 ghost use Rattle.capture_report.specs.declared.list_plan.ListPlan.{ListPlan};
@@ -41,7 +42,7 @@ pub struct Show {
 
 /// The source sends STP packets.
 #[inline]
-fn sends_stp(plan: &Plan, source: Option<SourceId>) -> bool
+pub(crate) fn sends_stp(plan: &Plan, source: Option<SourceId>) -> bool
     ensures { result ≡ is_stp plan.now source }
 {
     match source {
@@ -131,8 +132,8 @@ impl Show {
 }
 
 impl Action for Show {
-    ghost use Rattle.capture_report.specs.Listing.{IsFaulty, listed, ending};
-    ghost use Rattle.capture_report.specs.ListingLaws.{none_at_first, nothing_at_first, faulty_stays, listed_stays, ending_stays, listed_grows};
+    ghost use Rattle.capture_report.specs.Listing.{listed, ending};
+    ghost use Rattle.capture_report.specs.ListingLaws.{Faulty, none_at_first, nothing_at_first, faulty_stays, listed_stays, ending_stays, listed_grows};
     ghost use Rattle.capture_report.specs.Show.{Stands, taken_by, IsLive};
 
     type Plan = ListPlan;
@@ -145,7 +146,7 @@ impl Action for Show {
 
     ghost stands = { Stands };
 
-    ghost faulty = { IsFaulty };
+    ghost faulty = { Faulty };
 
     ghost text = { listed };
 

@@ -1,0 +1,15 @@
+-- Faults of the report of a capture, and the line that stands for one.
+use Rattle.std.specs.Prelude.{◌≡◌, ℕ, List, ◌==◌, Option, Some, None, is_none, Bool, false}
+use Rattle.std.specs.List.{list_any}
+use Rattle.trace_values.specs.Placed.{placed}
+use Rattle.source_events.specs.declared.plan.Plan.{Plan}
+use Rattle.source_merge.specs.Answering.{fault_of}
+
+-- the source sends STP packets
+abbrev pub is_stp : Plan → Option ℕ → Bool
+is_stp plan None = false
+is_stp plan (Some x) = list_any (λ y. y == x) plan.stp
+
+-- the report of these bytes has a fault
+abbrev pub IsFaulty : Plan → List ℕ → Type 0
+IsFaulty plan bytes = is_none (fault_of plan (placed bytes)) ≡ false

@@ -1,0 +1,169 @@
+//! `check`: how many synchronisations and frames a port has, how much each source sent, and how the capture ends.
+
+ghost use Rattle.std.specs.Prelude.{◌≡◌, ◌+◌, ◌*◌, ◌^◌, ◌≤◌, ◌++◌, [], ℕ, List, length, is_none, true};
+ghost use Rattle.trace_values.specs.Placed.{Placed};
+ghost use Rattle.trace_stream.specs.declared.outlet.TheConstants.{OUTLET_ROOM, TEXT_ROOM};
+ghost use Rattle.source_events.specs.Plan.{is_sound};
+ghost use Rattle.source_events.specs.Tails.{source_counts_of};
+ghost use Rattle.source_merge.specs.Engine as engine;
+ghost use Rattle.source_merge.specs.Engine.{is_live};
+ghost use Rattle.capture_report.specs.Summary.{source_text, sources_text};
+
+use crate::show::sends_stp;
+use source_counts::Counts;
+use source_events::{Plan, Stop};
+use source_merge::{Engine, Events, Flow as Reading};
+use trace_stream::{Action, Flow, Outlet, Taken};
+use trace_text::{PortCountsLines, print_fault, print_tails, put_source_counts};
+use trace_values::{ID_COUNT, SourceId};
+
+/// The most bytes of the line of what a source sent, in a capture.
+const SOURCE_ROOM: usize = 44;
+
+/// The reading of a capture.
+#[derive(Drop)]
+pub struct Check {
+    engine: Engine,
+    /// The events of the bytes that were taken last.
+    events: Events,
+    stop: Option<Stop>,
+    ghost alive: { is_live engine ≡ is_none stop },
+}
+
+/// The line of what a source sent, if it sent a byte.
+fn put_counts(outlet: &mut Outlet, id: SourceId, counts: Counts)
+    requires bytes { counts.bytes ≤ 2 ^ 42 }
+    requires items { counts.items ≤ 2 ^ 42 }
+    requires room { length outlet.old + TEXT_ROOM ≤ OUTLET_ROOM }
+    ensures text { outlet.new ≡ outlet.old ++ source_text id counts }
+    ensures bound { length outlet.new ≤ length outlet.old + SOURCE_ROOM }
+{
+    if counts.bytes != 0 {
+        put_source_counts(outlet, id, counts.bytes, counts.items);
+    }
+}
+
+/// The same of the source of this number.
+fn put_source(outlet: &mut Outlet, number: u8, reading: &Engine)
+    requires live { is_live reading.now ≡ true }
+    requires source { number ≤ 126 }
+    requires room { length outlet.old + TEXT_ROOM ≤ OUTLET_ROOM }
+    ensures text { (u : List Placed) → engine.Stands reading.now u →
+        outlet.new ≡ outlet.old ++ source_text number (source_counts_of (engine.plan_of reading.now) u number) }
+    ensures bound { length outlet.new ≤ length outlet.old + SOURCE_ROOM }
+{
+    match SourceId::new(number) {
+        Some(id) => put_counts(outlet, id, reading.counts(id)),
+        None => {}
+    }
+}
+
+/// The lines of all sources that sent a byte, in the order of their IDs.
+fn put_sources(outlet: &mut Outlet, reading: &Engine)
+    requires live { is_live reading.now ≡ true }
+    requires room { length outlet.old + ID_COUNT * SOURCE_ROOM + TEXT_ROOM ≤ OUTLET_ROOM }
+    ensures text { (u : List Placed) → engine.Stands reading.now u →
+        outlet.new ≡ outlet.old ++ sources_text (engine.plan_of reading.now) u ID_COUNT }
+    ensures bound { length outlet.new ≤ length outlet.old + ID_COUNT * SOURCE_ROOM }
+{
+    for number in 0..ID_COUNT as u8 {
+        put_source(outlet, number, reading);
+    }
+}
+
+impl Check {
+    ghost use Rattle.source_events.specs.declared.plan.Plan.{Plan};
+    ghost use Rattle.capture_report.specs.Summary.{counts_text};
+    ghost use Rattle.capture_report.specs.Check.{Stands, plan_of, taken_by, IsLive};
+
+    /// Nothing is read yet. The plan is sound.
+    pub fn new(plan: Plan) -> Check
+        requires sound { is_sound plan ≡ true }
+        ensures plan { plan_of result ≡ plan }
+        ensures stands { Stands result [] }
+        ensures count { taken_by result ≡ 0 }
+        ensures live { IsLive result }
+    {
+        Check {
+            engine: Engine::new(plan),
+            events: Events::new(),
+            stop: None,
+        }
+    }
+
+    /// The counts of all, and the end lines.
+    fn put_counts(&self, outlet: &mut Outlet)
+        requires empty { outlet.old ≡ [] }
+        requires live { IsLive self.now }
+        ensures { (u : List Placed) → engine.Stands self.now.engine u → outlet.new ≡ counts_text (plan_of self.now) u }
+    {
+        let counts = self.engine.port_counts();
+        outlet.put(&PortCountsLines {
+            fulls: counts.fulls,
+            halves: counts.halves,
+            frames: counts.frames,
+        });
+        put_sources(outlet, &self.engine);
+        print_tails(outlet, &self.engine.finish());
+    }
+}
+
+impl Action for Check {
+    ghost use Rattle.source_events.specs.declared.plan.Plan.{Plan};
+    ghost use Rattle.capture_report.specs.Faulty.{IsFaulty};
+    ghost use Rattle.capture_report.specs.Summary.{check_text, summary};
+    ghost use Rattle.capture_report.specs.CheckLaws.{none_at_first, nothing_at_first, faulty_stays, text_stays, summary_stays, text_grows};
+    ghost use Rattle.capture_report.specs.Check.{Stands, plan_of, taken_by, IsLive};
+
+    type Plan = Plan;
+
+    ghost plan = { plan_of };
+
+    ghost live = { IsLive };
+
+    ghost taken = { taken_by };
+
+    ghost stands = { Stands };
+
+    ghost faulty = { IsFaulty };
+
+    ghost text = { check_text };
+
+    ghost ending = { summary };
+
+    ghost never_at_first = { none_at_first };
+
+    ghost nothing_at_first = { nothing_at_first };
+
+    ghost faulty_stays = { faulty_stays };
+
+    ghost text_stays = { text_stays };
+
+    ghost ending_stays = { summary_stays };
+
+    ghost text_grows = { text_grows };
+
+    fn feed(&mut self, piece: &[u8], _outlet: &mut Outlet) -> Taken {
+        self.events.clear();
+        let at = self.engine.next();
+        let fed = self.engine.feed_block(at, piece, &mut self.events);
+        let flow = match fed.flow {
+            Reading::Going => Flow::On,
+            Reading::Stopped(stop) => {
+                self.stop = Some(stop);
+                Flow::Stopped
+            }
+        };
+        Taken {
+            bytes: fed.bytes,
+            flow,
+        }
+    }
+
+    fn finish(&self, outlet: &mut Outlet) {
+        match &self.stop {
+            None => self.put_counts(outlet),
+            Some(stop) => print_fault(outlet, stop, sends_stp(self.engine.plan(), stop.source)),
+        }
+    }
+}
