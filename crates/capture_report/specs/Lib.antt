@@ -9,3 +9,4 @@ pub mod Show
 pub mod Summary
 pub mod CheckLaws
 pub mod Check
+pub mod Rows

@@ -5,6 +5,7 @@
 mod check;
 mod clocks;
 mod list_plan;
+pub mod rows;
 mod show;
 mod source_clocks;
 

@@ -1,0 +1,38 @@
+-- Worked rows of listings and summaries, in text.
+use Rattle.std.specs.Prelude.{ℕ, List, [], ◌∷◌, Option, None, Some}
+use Rattle.capture_plan.specs.declared.frames.FramesMode.{FramesMode}
+use Rattle.capture_plan.specs.declared.packets.PacketsMode.{PacketsMode}
+use Rattle.stp_grammar.specs.declared.packet.Order.TheVariants.{Msn, Lsn}
+use Rattle.trace_values.specs.Hex.{hex}
+use Rattle.source_events.specs.declared.plan.Plan.{Plan}
+use Rattle.item_tap.specs.declared.choice.Choice.{Choice}
+use Rattle.capture_report.specs.declared.list_plan.ListPlan.{ListPlan}
+use Rattle.capture_report.specs.Listing.{listing}
+use Rattle.capture_report.specs.Summary.{summary}
+
+-- what is mapped: no source, an ITM source, an STP source, or both
+abbrev pub raw : FramesMode → Plan
+raw frames = record { frames = frames; packets = PacketsMode.Hunt; itm = []; stp = []; order = Msn }
+
+abbrev pub itm : FramesMode → PacketsMode → ℕ → Plan
+itm frames packets x = record { frames = frames; packets = packets; itm = x ∷ []; stp = []; order = Msn }
+
+abbrev pub stp : FramesMode → PacketsMode → ℕ → Plan
+stp frames packets x = record { frames = frames; packets = packets; itm = []; stp = x ∷ []; order = Msn }
+
+abbrev pub stp_lsn : FramesMode → PacketsMode → ℕ → Plan
+stp_lsn frames packets x = record { frames = frames; packets = packets; itm = []; stp = x ∷ []; order = Lsn }
+
+abbrev pub both : FramesMode → PacketsMode → ℕ → ℕ → Plan
+both frames packets x y = record { frames = frames; packets = packets; itm = x ∷ []; stp = y ∷ []; order = Msn }
+
+-- the listing of a text, and that of the events that meet a choice
+abbrev pub listing_row : Plan → List ℕ → List ℕ
+listing_row plan text = listing (record { plan = plan; only = None }) (hex text)
+
+abbrev pub only_row : Choice → Plan → List ℕ → List ℕ
+only_row choice plan text = listing (record { plan = plan; only = Some choice }) (hex text)
+
+-- and its summary
+abbrev pub summary_row : Plan → List ℕ → List ℕ
+summary_row plan text = summary plan (hex text)
