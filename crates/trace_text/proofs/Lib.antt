@@ -1,2 +1,4 @@
 pub mod Fronts
 pub mod DigitTables
+pub mod HexNibbles
+pub mod LongestLines

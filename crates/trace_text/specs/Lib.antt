@@ -5,6 +5,7 @@ pub mod ItemText
 pub mod StpText
 pub mod LineText
 pub mod Printable
+pub mod Lengths
 pub mod FaultText
 pub mod EndText
 pub mod CountText

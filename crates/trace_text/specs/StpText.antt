@@ -3,6 +3,7 @@ use Rattle.std.specs.Prelude.{ℕ, ◌/◌, List, [], ◌∷◌, ◌++◌, codes
 use Rattle.hex.specs.Hex.{encode_lower}
 use Rattle.trace_clock.specs.LastWord.{nibble_count}
 use Rattle.stp_grammar.specs.declared.packet.Width.{Width}
+use Rattle.stp_grammar.specs.declared.packet.Width.TheVariants.{Four, Eight, Sixteen, ThirtyTwo, SixtyFour}
 use Rattle.stp_grammar.specs.declared.item.Place.{Place}
 use Rattle.stp_grammar.specs.declared.item.Stamp.{Stamp}
 use Rattle.stp_grammar.specs.declared.item.Stamp.TheVariants.{None as NoStamp, Natural, Gray, Raw}
@@ -20,10 +21,17 @@ known_text (Some number) = decimal number
 abbrev pub place_text : Place → List ℕ
 place_text place = known_text place.master ++ (codes " " ++ known_text place.channel)
 
--- `uB V`: how many bits a datum has, and its value in as many hexadecimal digits as it has nibbles
+-- how many bits a datum has
+abbrev pub width_text : Width → List ℕ
+width_text Four = codes "u4"
+width_text Eight = codes "u8"
+width_text Sixteen = codes "u16"
+width_text ThirtyTwo = codes "u32"
+width_text SixtyFour = codes "u64"
+
+-- `uB V`: the value in as many hexadecimal digits as the datum has nibbles
 abbrev pub datum_text : Width → ℕ → List ℕ
-datum_text width value =
-    codes "u" ++ (decimal (bits_of width) ++ (codes " " ++ hex_digits (bits_of width / 4) value))
+datum_text width value = width_text width ++ (codes " " ++ hex_digits (bits_of width / 4) value)
 
 -- whether a datum is marked
 abbrev pub mark_text : Bool → List ℕ

@@ -1,8 +1,9 @@
 //! The lines at the end.
 
-ghost use Rattle.std.specs.Prelude.{◌≡◌, ◌+◌, ◌≤◌, ◌++◌, length, take};
+ghost use Rattle.std.specs.Prelude.{◌≡◌, ◌+◌, ◌*◌, ◌≤◌, ◌++◌, length, take};
 ghost use Rattle.trace_text.specs.EndText.{mode_text, kind_text, rest_text, end_line, port_line, source_line, tails_text};
 
+use crate::lengths::{few_digits, few_id_digits};
 use crate::room::{ITEM_ROOM, WORD_ROOM, put_byte, put_bytes, put_number, put_short};
 use source_events::{PortMode, SourceKind, SourceTail, Tails};
 use trace_stream::{OUTLET_ROOM, Outlet, TEXT_ROOM, Text};
@@ -115,13 +116,29 @@ impl Text for SourceEndLine {
 /// The most bytes of the lines at the end of a capture: 25 of the first, 102 of the port's, and 71 of each of 16 sources'.
 pub const TAILS_ROOM: usize = 1263;
 
-/// The lines at the end of a capture: `EndLine`, `PortEndLine`, and `SourceEndLine` for each mapped source in increasing
-/// order of ID.
-pub fn print_tails(outlet: &mut Outlet, tails: &Tails)
-    requires room { length outlet.old + TAILS_ROOM + TEXT_ROOM ≤ OUTLET_ROOM }
-    ensures lines { outlet.new ≡ outlet.old ++ tails_text tails.now }
-    ensures bound { length outlet.new ≤ length outlet.old + TAILS_ROOM }
+/// The line at the end of a mapped source.
+fn put_source_end(outlet: &mut Outlet, source: &SourceTail)
+    requires room { length outlet.old + TEXT_ROOM ≤ OUTLET_ROOM }
+    ensures line { outlet.new ≡ outlet.old ++ source_line source.now }
+    ensures bound { length outlet.new ≤ length outlet.old + 71 }
 {
+    few_id_digits(source.id);
+    few_digits(source.skipped);
+    few_digits(source.tail);
+    outlet.put(&SourceEndLine { source: *source });
+}
+
+/// The first lines at the end of a capture.
+fn put_port_ends(outlet: &mut Outlet, tails: &Tails)
+    requires room { length outlet.old + 2 * TEXT_ROOM ≤ OUTLET_ROOM }
+    ensures lines { outlet.new ≡ outlet.old ++ (end_line tails.now.bytes
+        ++ port_line tails.now.mode tails.now.skipped tails.now.tail tails.now.unattributed) }
+    ensures bound { length outlet.new ≤ length outlet.old + 127 }
+{
+    few_digits(tails.bytes);
+    few_digits(tails.skipped);
+    few_digits(tails.tail);
+    few_digits(tails.unattributed);
     outlet.put(&EndLine { bytes: tails.bytes });
     outlet.put(&PortEndLine {
         mode: tails.mode,
@@ -129,7 +146,17 @@ pub fn print_tails(outlet: &mut Outlet, tails: &Tails)
         tail: tails.tail,
         unattributed: tails.unattributed,
     });
+}
+
+/// The lines at the end of a capture: `EndLine`, `PortEndLine`, and `SourceEndLine` for each mapped source in increasing
+/// order of ID.
+pub fn print_tails(outlet: &mut Outlet, tails: &Tails)
+    requires room { length outlet.old + TAILS_ROOM + TEXT_ROOM ≤ OUTLET_ROOM }
+    ensures lines { outlet.new ≡ outlet.old ++ tails_text tails.now }
+    ensures bound { length outlet.new ≤ length outlet.old + TAILS_ROOM }
+{
+    put_port_ends(outlet, tails);
     for source in tails.sources.as_slice() {
-        outlet.put(&SourceEndLine { source: *source });
+        put_source_end(outlet, source);
     }
 }

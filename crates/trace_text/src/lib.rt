@@ -8,6 +8,7 @@ mod ends;
 mod faults;
 mod hardware;
 mod items;
+mod lengths;
 mod lines;
 mod notes;
 mod remark;

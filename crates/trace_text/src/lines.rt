@@ -8,6 +8,7 @@ ghost use Rattle.trace_text.specs.LineText.{half_text, source_text, packet_text,
 
 use crate::digits::Digits;
 use crate::items::put_item;
+use crate::lengths::{few_digits, few_id_digits, short_event, short_remark};
 use crate::remark::Remark;
 use crate::room::{ITEM_ROOM, NUMBER_ROOM, put_byte, put_bytes, put_digits, put_number, put_short};
 use crate::stp::put_stp;
@@ -199,6 +200,8 @@ pub fn print(
     ensures line { outlet.new ≡ outlet.old ++ event_line stp event.now remark }
     ensures bound { length outlet.new ≤ length outlet.old + EVENT_ROOM }
 {
+    short_event(event);
+    short_remark(remark);
     digits.keep(event.at);
     let line = EventLine {
         digits,
@@ -225,6 +228,9 @@ pub fn put_line(
     ensures line { outlet.new ≡ outlet.old ++ event_line false (itm_event at id packet.now) remark }
     ensures bound { length outlet.new ≤ length outlet.old + EVENT_ROOM }
 {
+    few_digits(at);
+    few_id_digits(id);
+    short_remark(remark);
     digits.keep(at);
     let line = ItmLine {
         digits,

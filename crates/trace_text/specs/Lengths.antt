@@ -1,0 +1,34 @@
+-- Which numbers and runs are as short as their types make them.
+use Rattle.std.specs.Prelude.{ℕ, ◌≤◌, length, decimal, Option, None, Some}
+use Rattle.source_events.specs.declared.event.Event.{Event}
+use Rattle.source_events.specs.declared.event.What.{What}
+use Rattle.source_events.specs.declared.event.What.TheVariants.{Locked, Packet as Said, Raw, Trigger}
+use Rattle.source_events.specs.declared.packet.Packet.{Packet}
+use Rattle.trace_text.specs.declared.remark.Remark.{Remark}
+use Rattle.trace_text.specs.declared.remark.Remark.TheVariants.{None as NoRemark, Clock, Time}
+
+-- a number has at most so many digits
+abbrev pub HasDigits : ℕ → ℕ → Type 0
+HasDigits most number = length (decimal number) ≤ most
+
+abbrev pub IsShortWhat : What Packet → Type 0
+IsShortWhat (Locked skipped) = HasDigits 20 skipped
+IsShortWhat (Said packet) = Unit {0}
+IsShortWhat (Raw bytes) = length bytes ≤ 15
+IsShortWhat (Trigger byte) = Unit {0}
+
+abbrev pub IsShortSource : Option ℕ → Type 0
+IsShortSource None = Unit {0}
+IsShortSource (Some id) = HasDigits 3 id
+
+abbrev pub IsShortRemark : Remark → Type 0
+IsShortRemark NoRemark = Unit {0}
+IsShortRemark (Clock ticks) = HasDigits 20 ticks
+IsShortRemark (Time (Some time)) = HasDigits 20 time
+IsShortRemark (Time None) = Unit {0}
+
+-- what the types say of an event
+pub record IsShort (event : Event Packet) : Type 0 where
+  pub at : HasDigits 20 event.at
+  pub source : IsShortSource event.source
+  pub what : IsShortWhat event.what
