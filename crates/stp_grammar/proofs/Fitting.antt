@@ -1,0 +1,1 @@
+-- What a packet with its numbers in their ranges says has them in theirs.

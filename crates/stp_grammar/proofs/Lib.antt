@@ -1,0 +1,9 @@
+pub mod Digits
+pub mod Openings
+pub mod Deciding
+pub mod Numbers
+pub mod Counting
+pub mod Holding
+pub mod Attributing
+pub mod Fitting
+pub mod Beginning

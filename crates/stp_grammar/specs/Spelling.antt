@@ -1,0 +1,54 @@
+-- Which lists of nibbles spell a packet (MIPI System Trace Protocol, version 2). Opcodes, lengths of payloads and sizes of
+-- timestamps are this project's profile.
+use Rattle.std.specs.Prelude.{◌≡◌, ℕ, ◌+◌, ◌*◌, ◌^◌, ◌<◌, ◌≤◌, List, [], ◌∷◌, ◌++◌, length, replicate, Bool, true, false, ◌==◌, ◌&&◌, if◌then◌else◌}
+use Rattle.trace_values.specs.declared.fault.Reason.{Reason}
+use Rattle.trace_values.specs.declared.fault.Reason.TheVariants.{Unsupported, StampSize, BadAsync}
+use Rattle.trace_clock.specs.LastWord.{nibble_count}
+use Rattle.stp_grammar.specs.declared.packet.Order.{Order}
+use Rattle.stp_grammar.specs.declared.packet.Order.TheVariants.{Msn, Lsn}
+use Rattle.stp_grammar.specs.declared.packet.StpPacket.{StpPacket}
+use Rattle.stp_grammar.specs.declared.packet.StpPacket.TheVariants.{Async, Plain, Stamped}
+use Rattle.stp_grammar.specs.Opcodes.{line_of, opening_of, Opening, Whole, More, Refused}
+
+-- the number that nibbles make, where the first is the least significant, and where it is the most significant one
+abbrev pub number : Order → List ℕ → ℕ
+number Lsn [] = 0
+number Lsn (b ∷ r) = b + 16 * number Lsn r
+number Msn [] = 0
+number Msn (b ∷ r) = b * 16 ^ length r + number Msn r
+
+-- these are this many nibbles, and make the number
+abbrev pub IsNumber : Order → ℕ → ℕ → List ℕ → Type 0
+IsNumber order count value r = (length r ≡ count) × (value ≡ number order r)
+
+-- ASYNC, the synchronisation packet: at least 21 nibbles F, then 0.
+-- Any other packet: its row's opcode, then the payload; where a timestamp follows, then a size nibble under 15, and the word
+-- in its size's nibbles.
+abbrev pub Spells : Order → StpPacket → List ℕ → Type 0
+Spells order Async r = (count : ℕ) × (21 ≤ count) × (r ≡ replicate count 15 ++ 0 ∷ [])
+Spells order (Plain row payload) r =
+    (p : List ℕ) × ((line_of row).stamped ≡ false) × IsNumber order (line_of row).payload payload p
+    × (r ≡ (line_of row).opcode ++ p)
+Spells order (Stamped row payload size word) r =
+    (p : List ℕ) × (w : List ℕ) × ((line_of row).stamped ≡ true) × IsNumber order (line_of row).payload payload p
+    × (size < 15) × IsNumber order (nibble_count size) word w × (r ≡ (line_of row).opcode ++ (p ++ (size ∷ w)))
+
+-- Why no packet goes on so. What faults there are is this project's profile.
+-- F F begins only an ASYNC.
+abbrev pub is_extended : List ℕ → Bool
+is_extended [] = false
+is_extended (a ∷ r) = a == 15
+
+abbrev pub begins_async : List ℕ → Bool
+begins_async [] = false
+begins_async (a ∷ r) = a == 15 && is_extended r
+
+-- after a whole opcode only a size nibble can be a fault
+abbrev pub opening_fault : Opening → Reason
+opening_fault (Whole row) = StampSize
+opening_fault More = Unsupported
+opening_fault Refused = Unsupported
+
+-- the reason, where these are the nibbles up to the one that breaks the packet
+abbrev pub why : List ℕ → Reason
+why r = if begins_async r then BadAsync else opening_fault (opening_of r)

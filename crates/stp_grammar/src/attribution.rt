@@ -1,0 +1,203 @@
+//! What the packets so far say of the next item: its place and its timestamp.
+
+ghost use Rattle.std.specs.Prelude.{◌≡◌, ◌<◌, ◌^◌};
+ghost use Rattle.trace_clock.specs.LastWord.{WordFits};
+ghost use Rattle.stp_grammar.specs.declared.packet.StpPacket.TheVariants.{Plain, Stamped};
+ghost use Rattle.stp_grammar.specs.Opcodes.{line_of};
+ghost use Rattle.std.specs.Option.{ForSome};
+ghost use Rattle.stp_grammar.specs.Proper.{IsProperStamp, IsProperItem};
+ghost use Rattle.stp_grammar.specs.Attribution.{item_with as item_by};
+
+use crate::item::{Place, Stamp, StpItem};
+use crate::packet::{Row, StpPacket};
+use trace_clock::{from_gray, word_after};
+
+/// What is kept of the packets so far: the version of the protocol, and the master and the channel in force, as far as
+/// they are known, and the last word of the timestamps, 0 where the version keeps none.
+#[derive(Clone, Copy, Debug, PartialEq, Eq, Drop)]
+pub struct Attribution {
+    version: Option<u8>,
+    master: Option<u16>,
+    channel: Option<u16>,
+    last: u64,
+}
+
+/// The item of a packet of this row with this payload.
+#[inline]
+fn item_with(place: Place, stamp: Stamp, row: Row, payload: u64) -> Option<StpItem>
+    requires payload { payload < 16 ^ (line_of row).payload }
+    requires stamp { IsProperStamp stamp }
+    ensures item { result ≡ item_by place stamp row payload }
+    ensures fits { ForSome result (λ item. IsProperItem item) }
+{
+    match row {
+        Row::Null | Row::Master8 | Row::Channel8 | Row::Master16 | Row::Channel16 => None,
+        Row::MasterError => Some(StpItem::MasterError {
+            place,
+            code: payload as u8,
+        }),
+        Row::Datum { width, marked, .. } => Some(StpItem::Datum {
+            place,
+            width,
+            value: payload,
+            marked,
+            stamp,
+        }),
+        Row::Flag { .. } => Some(StpItem::Flag { place, stamp }),
+        Row::GlobalError => Some(StpItem::GlobalError {
+            code: payload as u8,
+        }),
+        Row::Version => Some(StpItem::Version(payload as u8)),
+        Row::NullStamp => Some(StpItem::NullStamp { stamp }),
+        Row::Trigger { .. } => Some(StpItem::Trigger {
+            code: payload as u8,
+            stamp,
+        }),
+        Row::Frequency { .. } => Some(StpItem::Frequency {
+            hertz: payload as u32,
+            stamp,
+        }),
+    }
+}
+
+impl Attribution {
+    ghost use Rattle.std.specs.Prelude.{List, [], ◌∷◌, ◌++◌, None};
+    ghost use Rattle.stp_grammar.specs.declared.packet.StpPacket.{StpPacket};
+    ghost use Rattle.stp_grammar.specs.declared.packet.Row.TheVariants.{Null};
+    ghost use Rattle.stp_grammar.specs.Proper.{IsProper};
+    ghost use Rattle.stp_grammar.specs.Attribution.{item_of, stamp_by, version_of, place_of, last_word_of};
+    ghost use Rattle.stp_grammar.specs.NextState.{next_version, next_master, next_channel, next_last};
+    ghost use Rattle.stp_grammar.specs.Attributed.{Stands, kept_version, kept_place, kept_word};
+
+    /// What is kept before the first packet: version, master and channel are unknown, and the last word is 0.
+    pub fn new() -> Attribution
+        ensures { Stands result [] }
+    {
+        Attribution {
+            version: None,
+            master: None,
+            channel: None,
+            last: 0,
+        }
+    }
+
+    /// The version that the last VERSION named.
+    #[inline]
+    pub fn version(&self) -> Option<u8>
+        ensures kept { result ≡ kept_version self.now }
+        ensures list { (packets : List StpPacket) → Stands self.now packets → result ≡ version_of packets }
+    {
+        self.version
+    }
+
+    /// The master and the channel in force.
+    #[inline]
+    pub fn place(&self) -> Place
+        ensures kept { result ≡ kept_place self.now }
+        ensures list { (packets : List StpPacket) → Stands self.now packets → result ≡ place_of packets }
+    {
+        Place {
+            master: self.master,
+            channel: self.channel,
+        }
+    }
+
+    /// The last word of the timestamps.
+    #[inline]
+    pub fn last_word(&self) -> u64
+        ensures kept { result ≡ kept_word self.now }
+        ensures list { (packets : List StpPacket) → Stands self.now packets → result ≡ last_word_of packets }
+    {
+        self.last
+    }
+
+    /// Keeps what a packet without a timestamp tells.
+    #[inline]
+    fn note(&mut self, row: Row, payload: u64)
+        requires fits { payload < 16 ^ (line_of row).payload }
+        ensures version { self.new.version ≡ next_version self.old.version (Plain row payload) }
+        ensures master { self.new.master ≡ next_master self.old.master (Plain row payload) }
+        ensures channel { self.new.channel ≡ next_channel self.old.channel (Plain row payload) }
+        ensures last { self.new.last ≡ next_last self.old.version self.old.last (Plain row payload) }
+    {
+        match row {
+            Row::Version => {
+                self.version = Some(payload as u8);
+                self.master = Some(0);
+                self.channel = Some(0);
+                self.last = 0;
+            }
+            Row::Master8 => {
+                self.master = self
+                    .master
+                    .map(|master| master / 256 * 256 + payload as u16);
+                self.channel = Some(0);
+            }
+            Row::Master16 => {
+                self.master = Some(payload as u16);
+                self.channel = Some(0);
+            }
+            Row::Channel8 => {
+                self.channel = self
+                    .channel
+                    .map(|channel| channel / 256 * 256 + payload as u16);
+            }
+            Row::Channel16 => {
+                self.channel = Some(payload as u16);
+            }
+            _ => {}
+        }
+    }
+
+    /// Keeps a timestamp, and answers it as an item has it.
+    #[inline]
+    fn stamp(&mut self, row: Row, payload: u64, size: u8, word: u64) -> Stamp
+        requires fits { WordFits size word }
+        ensures version { self.new.version ≡ next_version self.old.version (Stamped row payload size word) }
+        ensures master { self.new.master ≡ next_master self.old.master (Stamped row payload size word) }
+        ensures channel { self.new.channel ≡ next_channel self.old.channel (Stamped row payload size word) }
+        ensures last { self.new.last ≡ next_last self.old.version self.old.last (Stamped row payload size word) }
+        ensures stamp { result ≡ stamp_by self.new.version self.new.last size word }
+        ensures fits { IsProperStamp result }
+    {
+        match self.version {
+            Some(3) => {
+                self.last = word_after(self.last, size, word);
+                Stamp::Natural(self.last)
+            }
+            Some(4) => {
+                self.last = word_after(self.last, size, word);
+                Stamp::Gray(from_gray(self.last))
+            }
+            _ => Stamp::Raw { size, word },
+        }
+    }
+
+    /// Takes the next packet, and answers its item, which masters, channels and NULL do not have.
+    #[inline]
+    pub fn take(&mut self, packet: StpPacket) -> Option<StpItem>
+        requires proper { IsProper packet }
+        ensures list { (packets : List StpPacket) → Stands self.old packets → Stands self.new (packets ++ packet ∷ []) }
+        ensures item { (packets : List StpPacket) → Stands self.old packets →
+            result ≡ item_of (packets ++ packet ∷ []) packet }
+        ensures silent { packet ≡ Plain Null 0 → result ≡ None }
+        ensures fits { ForSome result (λ item. IsProperItem item) }
+    {
+        match packet {
+            StpPacket::Async => Some(StpItem::Async),
+            StpPacket::Plain { row, payload } => {
+                self.note(row, payload);
+                item_with(self.place(), Stamp::None, row, payload)
+            }
+            StpPacket::Stamped {
+                row,
+                payload,
+                size,
+                word,
+            } => {
+                let stamp = self.stamp(row, payload, size, word);
+                item_with(self.place(), stamp, row, payload)
+            }
+        }
+    }
+}
