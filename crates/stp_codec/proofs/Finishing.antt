@@ -1,6 +1,6 @@
 -- Nibbles that end a packet, from each of its parts on.
-use Rattle.std.proofs.Common.{◌≡◌, ℕ, ◌+◌, ◌-◌, ◌<◌, ◌≤◌, List, [], ◌∷◌, ◌++◌, length, refl, sym, ◌∙◌, ap, arith, true, false}
-use Rattle.std.specs.Prelude.{nat_lt, ◌==◌}
+use Rattle.std.proofs.Common.{◌≡◌, ℕ, suc, ◌+◌, ◌-◌, ◌<◌, ◌≤◌, List, [], ◌∷◌, ◌++◌, length, get_or, refl, sym, ◌∙◌, ap, subst, arith, Bool, true, false, cond}
+use Rattle.std.specs.Prelude.{nat_lt, ◌==◌, ◌&&◌, ◌^◌, Option, None, Some, IfSome}
 use Rattle.std.proofs.lemmas.Bool.Decides.{nat_tests}
 use Rattle.std.proofs.lemmas.List.{append-nil}
 use Rattle.trace_values.specs.declared.next.Next.{Next}
@@ -14,9 +14,10 @@ use Rattle.stp_grammar.specs.declared.packet.StpPacket.TheVariants.{Plain, Stamp
 use Rattle.stp_grammar.specs.declared.partial.Partial.{Partial}
 use Rattle.stp_grammar.specs.declared.partial.Partial.TheVariants.{Start, Second, Third, Payload, Size, Word}
 use Rattle.stp_grammar.specs.Opcodes.{line_of, row_at, Opening, Whole as Opened, first_opening, second_opening}
-use Rattle.stp_grammar.specs.Rule.{rule, number_with, begin, after_payload, opened, size_with}
+use Rattle.stp_grammar.specs.Rule.{rule, number_with, begin, after_payload, opened, size_with, is_sound}
 use Rattle.stp_grammar.proofs.Digits.{value_from, stage_whole}
-use Rattle.stp_codec.specs.Wholes.{number_from, Ends}
+use Rattle.stp_codec.specs.Wholes.{between, number_from, Ends}
+use Rattle.stp_codec.proofs.Between.{between_first, between_parts, length-between}
 
 pub number_push : (order : Order) (n v : ℕ) (d : List ℕ) (b : ℕ) → number_from order n v (d ++ b ∷ []) ≡ number_with order (n + length d) (number_from order n v d) b
 number_push order n v [] b = ap (λ k. number_with order k v b) (let e : n ≡ n + 0 = omega arith in e)
@@ -87,5 +88,64 @@ module _ (order : Order) where
   ends_second b w packet h l k =
       ap (λ x. after x (λ t. walk (rule order) t w) w) (goes b h l) ∙ k
     where
+      choose : (t : Bool) (x : Next Partial StpPacket) {y z : Next Partial StpPacket} → t ≡ false → y ≡ z → cond t x y ≡ z
+      choose true x e f = cc
+      choose false x e f = f
+
       goes : (b : ℕ) → 0 < b → b < 15 → rule order Second b ≡ begin (row_at (14 + b))
-      goes b h l = rw (not_f b l) (ap (λ (z : Opening). opened z Third) (second_is b h l))
+      goes b h l = choose (b == 15) _ (not_f b l) (ap (λ (z : Opening). opened z Third) (second_is b h l))
+
+  -- among the nibbles of bytes
+  module _ (xs : List ℕ) (start end : ℕ) where
+    parts_of : (n last : ℕ) → end ≡ start + n → end ≤ last → end ≤ length xs → (length (between xs start end) ≡ n) × (between xs start last ≡ between xs start end ++ between xs end last)
+    parts_of n last e h l = (
+      ap (λ k. length (between xs start k)) e ∙ length-between xs n start (omega (arith, e, l)),
+      between_parts xs n start last (omega (arith, e, h)) (omega (arith, e, l)) ∙ ap (λ k. between xs start k ++ between xs k last) (sym e),
+    )
+
+    pub ends_word_at : (row : Row) (payload size n v word : ℕ) → n < nibble_count size → end ≡ start + (nibble_count size - n) → end ≤ length xs →
+        word ≡ number_from order n v (between xs start end) → Ends order (Go (Word row payload size n v)) (between xs start end) (Stamped row payload size word)
+    ends_word_at row payload size n v word h e l k =
+        let p = parts_of (nibble_count size - n) end e (omega arith) l in
+        ends_word row payload size n v (between xs start end) h (let q = p.0 in omega (arith, q, h)) ∙ ap (λ w. Whole (Stamped row payload size w)) (sym k)
+
+    pub ends_payload_at : (row : Row) (n v value last : ℕ) (packet : StpPacket) → n < (line_of row).payload → end ≡ start + ((line_of row).payload - n) → end ≤ last → end ≤ length xs →
+        value ≡ number_from order n v (between xs start end) → Ends order (after_payload row value) (between xs end last) packet → Ends order (Go (Payload row n v)) (between xs start last) packet
+    ends_payload_at row n v value last packet h e m l k r =
+        let p = parts_of ((line_of row).payload - n) last e m l in
+        ap (walk (rule order) (Payload row n v)) p.1
+        ∙ ends_payload row n v (between xs start end) (between xs end last) packet h (let q = p.0 in omega (arith, q, h)) (subst (λ z. Ends order (after_payload row z) (between xs end last) packet) k r)
+
+    pub ends_begin_at : (row : Row) (value last : ℕ) (packet : StpPacket) → end ≡ start + ((line_of row).payload - 0) → end ≤ last → end ≤ length xs →
+        value ≡ number_from order 0 0 (between xs start end) → Ends order (after_payload row value) (between xs end last) packet → Ends order (begin row) (between xs start last) packet
+    ends_begin_at row value last packet e m l k r =
+        let p = parts_of ((line_of row).payload - 0) last e m l in
+        ap (λ z. after (begin row) (λ t. walk (rule order) t z) z) p.1
+        ∙ ends_begin row (between xs start end) (between xs end last) packet (let q = p.0 in omega (arith, q)) (subst (λ z. Ends order (after_payload row z) (between xs end last) packet) k r)
+
+  -- a nibble before them
+  pub next_at : (s : Partial) (x : Next Partial StpPacket) (xs : List ℕ) (start end b : ℕ) (packet : StpPacket) → start < end → start < length xs → b ≡ get_or xs start 0 →
+      (Ends order x (between xs (start + 1) end) packet → Ends order (Go s) (b ∷ between xs (start + 1) end) packet) → Ends order x (between xs (start + 1) end) packet → Ends order (Go s) (between xs start end) packet
+  next_at s x xs start end b packet h l e step k =
+      ap (walk (rule order) s) (between_first xs start end h l ∙ ap (λ c. c ∷ between xs (start + 1) end) (sym e)) ∙ step k
+
+pub some_word : (size : ℕ) → 0 < size → 0 < nibble_count size
+some_word size h = grind (arith, nat_tests)
+
+-- two facts of the value, if there is one, give a third
+pub both_some : {X : Type 0} (r : Option X) {P Q R : X → Type 0} → IfSome r P → IfSome r Q → ((x : X) → P x → Q x → R x) → IfSome r R
+both_some None a b h = tt
+both_some (Some x) a b h = h x a b
+
+-- what a sound state says
+under : (n m : ℕ) (t : Bool) → (nat_lt n m && t) ≡ true → (n < m) × (t ≡ true)
+under n m t e = grind (arith, nat_tests)
+
+pub sound_payload : (s : Partial) (row : Row) (n v : ℕ) → s ≡ Payload row n v → is_sound s ≡ true → n < (line_of row).payload
+sound_payload s row n v e h = (under n (line_of row).payload (nat_lt v (16 ^ n)) (sym (ap is_sound e) ∙ h)).0
+
+pub sound_word : (s : Partial) (row : Row) (payload size n v : ℕ) → s ≡ Word row payload size n v → is_sound s ≡ true → n < nibble_count size
+sound_word s row payload size n v e h =
+    let a = under payload (16 ^ (line_of row).payload) _ (sym (ap is_sound e) ∙ h) in
+    let b = under size 15 _ a.1 in
+    (under n (nibble_count size) _ b.1).0

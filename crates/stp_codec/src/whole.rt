@@ -19,6 +19,7 @@ use trace_clock::word_nibbles;
 
 /// One of the nibbles of these bytes.
 #[inline]
+#[tactic(auto, using(crate::proofs::Between::even_nibble, crate::proofs::Between::odd_nibble))]
 fn nibble_of(bytes: &[u8], index: usize) -> u8
     requires { index < 2 * length bytes.now }
     ensures value { result ≡ get_or (nibbles_in bytes.now) index 0 }
@@ -55,12 +56,13 @@ fn number_from(order: Order, count: u8, value: u64, bytes: &[u8], start: usize, 
 fn number_at(order: Order, count: u8, value: u64, most: u8, bytes: &[u8], start: usize) -> Option<(usize, u64)>
     requires few { (count ≤ most) × (most ≤ 16) }
     requires fits { value < 16 ^ count }
+    requires there { start ≤ 2 * length bytes.now }
     ensures end { IfSome result (λ x. (x.0 ≡ start + (most - count)) × (x.0 ≤ 2 * length bytes.now)) }
     ensures value { IfSome result (λ x. x.1 ≡ number_by order count value (between (nibbles_in bytes.now) start x.0)) }
     ensures fits { IfSome result (λ x. x.1 < 16 ^ most) }
 {
     let more = most - count;
-    if bytes.len() < start / 2 || 2 * bytes.len() - start < usize::from(more) {
+    if 2 * bytes.len() - start < usize::from(more) {
         return None;
     }
     let number = number_from(order, count, value, bytes, start, more);
@@ -71,11 +73,12 @@ fn number_at(order: Order, count: u8, value: u64, most: u8, bytes: &[u8], start:
 #[inline]
 fn from_size(order: Order, row: Row, payload: u64, bytes: &[u8], start: usize) -> Option<(usize, StpPacket)>
     requires fits { payload < 16 ^ (line_of row).payload }
+    requires there { start ≤ 2 * length bytes.now }
     ensures end { IfSome result (λ x. (start < x.0) × (x.0 ≤ 2 * length bytes.now)) }
     ensures whole { IfSome result (λ x. Ends order (Go (Size row payload)) (between (nibbles_in bytes.now) start x.0) x.1) }
     ensures proper { IfSome result (λ x. IsProper x.1) }
 {
-    if start / 2 >= bytes.len() {
+    if start >= 2 * bytes.len() {
         return None;
     }
     match nibble_of(bytes, start) {
@@ -139,7 +142,7 @@ fn from_second(order: Order, bytes: &[u8], start: usize) -> Option<(usize, StpPa
     ensures whole { IfSome result (λ x. Ends order (Go Second) (between (nibbles_in bytes.now) start x.0) x.1) }
     ensures proper { IfSome result (λ x. IsProper x.1) }
 {
-    if start / 2 >= bytes.len() {
+    if start >= 2 * bytes.len() {
         return None;
     }
     match nibble_of(bytes, start) {
