@@ -39,17 +39,18 @@ between_push xs n a h =
 pub low_nibble : (bytes : List ℕ) (i : ℕ) → i < length bytes → get_or (nibbles_in bytes) (2 * i) 0 ≡ get_or bytes i 0 % 16
 low_nibble [] i h = absurd (omega arith)
 low_nibble (b ∷ bytes) zero h = refl
-low_nibble (b ∷ bytes) (suc i) h = ap (λ k. get_or (b % 16 ∷ (b / 16 ∷ nibbles_in bytes)) k 0) (let e : 2 * suc i ≡ suc (suc (2 * i)) = omega arith in e) ∙ low_nibble bytes i (omega arith)
+low_nibble (b ∷ bytes) (suc i) h = ap (λ k. get_or (b % 16 ∷ (b / 16 % 16 ∷ nibbles_in bytes)) k 0) (let e : 2 * suc i ≡ suc (suc (2 * i)) = omega arith in e) ∙ low_nibble bytes i (omega arith)
 
-pub high_nibble : (bytes : List ℕ) (i : ℕ) → i < length bytes → get_or (nibbles_in bytes) (2 * i + 1) 0 ≡ get_or bytes i 0 / 16
+pub high_nibble : (bytes : List ℕ) (i : ℕ) → i < length bytes → get_or (nibbles_in bytes) (2 * i + 1) 0 ≡ get_or bytes i 0 / 16 % 16
 high_nibble [] i h = absurd (omega arith)
 high_nibble (b ∷ bytes) zero h = refl
-high_nibble (b ∷ bytes) (suc i) h = ap (λ k. get_or (b % 16 ∷ (b / 16 ∷ nibbles_in bytes)) k 0) (let e : 2 * suc i + 1 ≡ suc (suc (2 * i + 1)) = omega arith in e) ∙ high_nibble bytes i (omega arith)
+high_nibble (b ∷ bytes) (suc i) h = ap (λ k. get_or (b % 16 ∷ (b / 16 % 16 ∷ nibbles_in bytes)) k 0) (let e : 2 * suc i + 1 ≡ suc (suc (2 * i + 1)) = omega arith in e) ∙ high_nibble bytes i (omega arith)
 
 pub even_nibble : (bytes : List ℕ) (i : ℕ) → i < 2 * length bytes → i % 2 ≡ 0 → get_or bytes (i / 2) 0 % 16 ≡ get_or (nibbles_in bytes) i 0
 even_nibble bytes i h e = sym (low_nibble bytes (i / 2) (omega arith)) ∙ ap (λ k. get_or (nibbles_in bytes) k 0) (let q : 2 * (i / 2) ≡ i = omega (arith, e) in q)
 
-pub odd_nibble : (bytes : List ℕ) (i : ℕ) → i < 2 * length bytes → (i % 2 ≡ 0 → ⊥) → get_or bytes (i / 2) 0 / 16 ≡ get_or (nibbles_in bytes) i 0
-odd_nibble bytes i h n =
+pub odd_nibble : (bytes : List ℕ) (i : ℕ) → i < 2 * length bytes → (i % 2 ≡ 0 → ⊥) → get_or bytes (i / 2) 0 < 256 → get_or bytes (i / 2) 0 / 16 ≡ get_or (nibbles_in bytes) i 0
+odd_nibble bytes i h n small =
     let o : i % 2 ≡ 1 = grind arith in
-    sym (high_nibble bytes (i / 2) (omega arith)) ∙ ap (λ k. get_or (nibbles_in bytes) k 0) (let q : 2 * (i / 2) + 1 ≡ i = omega (arith, o) in q)
+    let s : get_or bytes (i / 2) 0 / 16 ≡ get_or bytes (i / 2) 0 / 16 % 16 = omega arith in
+    s ∙ sym (high_nibble bytes (i / 2) (omega arith)) ∙ ap (λ k. get_or (nibbles_in bytes) k 0) (let q : 2 * (i / 2) + 1 ≡ i = omega (arith, o) in q)

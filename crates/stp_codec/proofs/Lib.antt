@@ -4,3 +4,6 @@ pub mod Answering
 pub mod Holding
 pub mod Between
 pub mod Finishing
+pub mod Passing
+pub mod PacketPieces
+pub mod Parts

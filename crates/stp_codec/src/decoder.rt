@@ -4,12 +4,14 @@ ghost use Rattle.std.specs.Prelude.{◌≡◌, true};
 ghost use Rattle.trace_values.specs.Moded.{is_counted};
 ghost use Rattle.stp_grammar.specs.Rule.{is_sound};
 ghost use Rattle.stp_codec.specs.Reading.{pattern};
+ghost use Rattle.stp_codec.specs.Wholes.{item_in as item_by};
 
+use crate::whole::whole_packet;
 use stp_grammar::attribution::Attribution;
 use stp_grammar::item::StpItem;
-use stp_grammar::packet::Order;
+use stp_grammar::packet::{Order, StpPacket};
 use stp_grammar::partial::Partial;
-use trace_values::{Fault, Machine, Mode, Next, Pattern, Step};
+use trace_values::{Block, Fault, Machine, Mode, Next, Pattern, Step, feed_block};
 
 /// The shortest ASYNC: 21 nibbles F, and then a nibble 0.
 const ASYNC: Pattern = Pattern {
@@ -32,13 +34,16 @@ pub struct StpDecoder {
 }
 
 impl StpDecoder {
-    ghost use Rattle.std.specs.Prelude.{[], ◌∷◌, ◌++◌, false, ℕ, ◌+◌, ◌*◌, ◌^◌, ◌<◌, ◌≤◌, List};
+    ghost use Rattle.std.specs.Prelude.{[], ◌∷◌, ◌++◌, false, ℕ, ◌+◌, ◌*◌, ◌^◌, ◌<◌, ◌≤◌, List, length, IfSome, None};
     ghost use Rattle.trace_values.specs.Placed.{Placed};
     ghost use Rattle.trace_values.specs.Stream.{Grows, StepFits, LocksAfter, goes_on};
+    ghost use Rattle.trace_values.specs.Block.{Takes, StopsFor, goes_on_after};
+    ghost use Rattle.trace_values.specs.declared.next.Next.TheVariants.{Go};
     ghost use Rattle.trace_values.specs.declared.step.Step.TheVariants.{Quiet};
-    ghost use Rattle.stp_grammar.specs.Proper.{IsProperItem};
+    ghost use Rattle.stp_grammar.specs.Proper.{IsProper, IsProperItem};
     ghost use Rattle.stp_grammar.specs.declared.partial.Partial.TheVariants.{Start};
-    ghost use Rattle.stp_codec.specs.Reading.{packets_of, rest_in, items_at};
+    ghost use Rattle.stp_codec.specs.Reading.{packets_of, rest_in, items_at, items_in};
+    ghost use Rattle.stp_codec.specs.Wholes.{nibbles_in, between, Ends, left_of, IsQuiet, IsItem};
     ghost use Rattle.stp_codec.specs.Answers.{AnswersNibble};
     ghost use Rattle.stp_codec.specs.Decoder.{Stands, StandsAt, order_of, is_hunter, is_live, has_locked, held_of, skipped_by, nibble_at, EndsItem};
 
@@ -141,6 +146,134 @@ impl StpDecoder {
                 }
             }
         }
+    }
+
+    /// The packet that the bytes finish, and how many of their nibbles it takes, where the reading has begun.
+    #[inline]
+    fn next_packet(&self, piece: &[u8]) -> Option<(usize, StpPacket)>
+        ensures locked { IfSome result (λ x. has_locked self.now ≡ true) }
+        ensures end { IfSome result (λ x. (0 < x.0) × (x.0 ≤ 2 * length piece.now)) }
+        ensures whole { IfSome result (λ x.
+            Ends (order_of self.now) (Go self.now.partial) (between (nibbles_in piece.now) 0 x.0) x.1) }
+        ensures proper { IfSome result (λ x. IsProper x.1) }
+    {
+        if self.mode.is_locked() {
+            whole_packet(self.order, self.partial, piece)
+        } else {
+            None
+        }
+    }
+
+    /// Takes what is left of a byte in whose half a packet ended: the high nibble, where it ended in the low one. A
+    /// packet begins there.
+    #[inline]
+    fn pass_left(&mut self, at: u64, half: u8, byte: u8)
+        requires live { is_live self.old ≡ true }
+        requires locked { has_locked self.old ≡ true }
+        requires start { self.old.partial ≡ Start }
+        requires count { skipped_by self.old ≤ 2 ^ 60 }
+        ensures same { (order_of self.new ≡ order_of self.old) × (is_hunter self.new ≡ is_hunter self.old) }
+        ensures list { (n : List Placed) → StandsAt self.old n → StandsAt self.new (n ++ left_of half at byte) }
+        ensures quiet { (n : List Placed) → StandsAt self.old n →
+            IsQuiet (items_at (order_of self.old) (is_hunter self.old) n)
+            (items_at (order_of self.old) (is_hunter self.old) (n ++ left_of half at byte)) }
+        ensures live { is_live self.new ≡ true }
+        ensures few { (held_of self.new ≤ 1) × (skipped_by self.new ≡ skipped_by self.old) }
+    {
+        if half == 0 {
+            self.take_nibble(at, 1, byte / 16);
+        }
+    }
+
+    /// Takes the packet that the bytes finish, whose first is at this offset, and what is left of the byte in which
+    /// it ends. None where there is none: then it is as before.
+    #[inline]
+    fn pass_packet(&mut self, at: u64, piece: &[u8]) -> Option<Block<StpItem>>
+        requires live { is_live self.old ≡ true }
+        requires room { held_of self.old + skipped_by self.old + 2 * length piece.now ≤ 2 ^ 60 }
+        requires offsets { at + length piece.now < 2 ^ 60 }
+        ensures same { (order_of self.new ≡ order_of self.old) × (is_hunter self.new ≡ is_hunter self.old) }
+        ensures bytes { IfSome result (λ block. (0 < block.bytes) × (block.bytes ≤ length piece.now)) }
+        ensures takes { (u : List Placed) → Stands self.old u → IfSome result (λ block.
+            Takes (items_in (order_of self.old) (is_hunter self.old)) (Stands self.new) u at piece.now
+            block.bytes block.step) }
+        ensures item { IfSome result (λ block. IsItem block.step) }
+        ensures live { is_live self.new ≡ true }
+        ensures fits { IfSome result (λ block. IfSome block.step (StepFits IsProperItem)) }
+        ensures few { IfSome result (λ block. held_of self.new + skipped_by self.new ≤
+            held_of self.old + skipped_by self.old + 2 * block.bytes) }
+        ensures none { result ≡ None → self.new ≡ self.old }
+    {
+        let (nibbles, packet) = self.next_packet(piece)?;
+        let last = (nibbles - 1) / 2;
+        let half = ((nibbles - 1) % 2) as u8;
+        self.partial = Partial::Start;
+        let item = self.attribution.take(packet);
+        self.pass_left(at + last as u64, half, piece[last]);
+        Some(Block {
+            bytes: last + 1,
+            step: item_in(half, item),
+        })
+    }
+
+    /// Feeds a piece, whose first byte is at this offset, up to the first byte to which the answer is
+    /// neither `Quiet` nor `Skipping`, or to the piece's end. It takes a packet at once whose nibbles are
+    /// all there.
+    #[inline]
+    pub fn feed_piece(&mut self, at: u64, piece: &[u8]) -> Block<StpItem>
+        requires live { is_live self.old ≡ true }
+        requires room { held_of self.old + skipped_by self.old + 2 * length piece.now ≤ 2 ^ 60 }
+        requires offsets { at + length piece.now < 2 ^ 60 }
+        requires some { 0 < length piece.now }
+        ensures same { items_in (order_of self.new) (is_hunter self.new) ≡
+            items_in (order_of self.old) (is_hunter self.old) }
+        ensures bytes { (0 < result.bytes) × (result.bytes ≤ length piece.now) }
+        ensures stops { StopsFor result.bytes (length piece.now) result.step }
+        ensures takes { (u : List Placed) → Stands self.old u →
+            Takes (items_in (order_of self.old) (is_hunter self.old)) (Stands self.new) u at piece.now
+            result.bytes result.step }
+        ensures live { is_live self.new ≡ goes_on_after result.step }
+        ensures lock { IfSome result.step (LocksAfter (skipped_by self.new)) }
+        ensures fits { IfSome result.step (StepFits IsProperItem) }
+        ensures few { held_of self.new + skipped_by self.new ≤
+            held_of self.old + skipped_by self.old + 2 * result.bytes }
+    {
+        let mut taken = 0;
+        while taken < piece.len() {
+            match self.pass_packet(at + taken as u64, &piece[taken..]) {
+                Some(block) => {
+                    taken += block.bytes;
+                    if block.step.is_some() {
+                        return Block {
+                            bytes: taken,
+                            step: block.step,
+                        };
+                    }
+                }
+                None => {
+                    let block = feed_block(self, at + taken as u64, &piece[taken..]);
+                    return Block {
+                        bytes: taken + block.bytes,
+                        step: block.step,
+                    };
+                }
+            }
+        }
+        Block {
+            bytes: taken,
+            step: None,
+        }
+    }
+}
+
+/// The item, if there is one, as a step with which it ends in this half.
+#[inline]
+fn item_in(half: u8, item: Option<StpItem>) -> Option<Step<StpItem>>
+    ensures { result ≡ item_by half item }
+{
+    match item {
+        Some(item) => Some(Step::Item { half, item }),
+        None => None,
     }
 }
 
