@@ -11,19 +11,19 @@ use Rattle.trace_values.specs.Walk.{Walked, Within, Whole, after, walk, Decides}
 use Rattle.trace_values.proofs.Walks as walks
 use Rattle.stp_grammar.specs.declared.packet.Order.{Order}
 use Rattle.stp_grammar.specs.declared.packet.Order.TheVariants.{Msn, Lsn}
-use Rattle.stp_grammar.specs.declared.packet.Width.TheVariants.{Four, Eight, Sixteen, ThirtyTwo, SixtyFour}
 use Rattle.stp_grammar.specs.declared.packet.Row.{Row}
-use Rattle.stp_grammar.specs.declared.packet.Row.TheVariants.{Null, Master8, MasterError, Channel8, Datum, Flag, Master16, GlobalError, Channel16, Version, NullStamp, Trigger, Frequency}
+use Rattle.stp_grammar.specs.declared.packet.Row.TheVariants.{Null, Flag, Version}
 use Rattle.stp_grammar.specs.declared.packet.StpPacket.{StpPacket}
 use Rattle.stp_grammar.specs.declared.packet.StpPacket.TheVariants.{Async, Plain, Stamped}
 use Rattle.stp_grammar.specs.declared.partial.Partial.{Partial}
 use Rattle.stp_grammar.specs.declared.partial.Partial.TheVariants.{Start, Second, Third, Run, Payload, Size, Word}
-use Rattle.stp_grammar.specs.Opcodes.{line_of, Opening, Whole as Opened, More, Refused, first_opening, second_opening, third_opening, opening_of, or_more, after_two}
+use Rattle.stp_grammar.specs.Opcodes.{rows, line_of, Opening, Whole as Opened, More, Refused, opening_of}
 use Rattle.trace_clock.specs.LastWord.{nibble_count}
 use Rattle.stp_grammar.specs.Spelling.{Spells, IsNumber, number, opening_fault, why}
-use Rattle.stp_grammar.specs.Rule.{rule, number_with, begin, opened, run_with, after_payload, size_with}
+use Rattle.stp_grammar.specs.Rule.{rule, first_opening, second_opening, third_opening, number_with, begin, opened, run_with, after_payload, size_with}
 use Rattle.stp_grammar.proofs.Digits.{value_from, value_whole, stage_whole, stage_sound}
-use Rattle.stp_grammar.proofs.Openings.{IsRow, first_cases, second_cases, third_cases, row_why}
+use Rattle.stp_grammar.proofs.EachRow.{AllOf, each}
+use Rattle.stp_grammar.proofs.Openings.{IsRow, first_cases, second_cases, third_cases, row_why, first_fault, second_fault, third_fault}
 
 -- a choice by a test is one of the two
 pub chosen : {A : Type 0} (t : Bool) {x y z : A} → cond t x y ≡ z → ((t ≡ true) × (x ≡ z)) ⊎ ((t ≡ false) × (y ≡ z))
@@ -34,7 +34,7 @@ tested : (t : Bool) → (t ≡ true) ⊎ (t ≡ false)
 tested true = inl refl
 tested false = inr refl
 
-is_zero : (n : ℕ) → (n == 0) ≡ true → n ≡ 0
+pub is_zero : (n : ℕ) → (n == 0) ≡ true → n ≡ 0
 is_zero n e = grind (arith, nat_tests)
 
 not_zero : (n : ℕ) → (n == 0) ≡ false → 0 < n
@@ -219,42 +219,13 @@ module _ (order : Order) where
       ∙ ap (λ (z : ℕ). Whole (Plain row z)) (value_whole order d)
 
   -- an opcode walks to its row
-  pub opened_walk : (row : Row) (w : List ℕ) → from Start ((line_of row).opcode ++ w) ≡ after (begin row) (λ t. from t w) w
-  opened_walk Null w = refl
-  opened_walk Master8 w = refl
-  opened_walk MasterError w = refl
-  opened_walk Channel8 w = refl
-  opened_walk (Datum Four true true) w = refl
-  opened_walk (Datum Four true false) w = refl
-  opened_walk (Datum Four false true) w = refl
-  opened_walk (Datum Four false false) w = refl
-  opened_walk (Datum Eight true true) w = refl
-  opened_walk (Datum Eight true false) w = refl
-  opened_walk (Datum Eight false true) w = refl
-  opened_walk (Datum Eight false false) w = refl
-  opened_walk (Datum Sixteen true true) w = refl
-  opened_walk (Datum Sixteen true false) w = refl
-  opened_walk (Datum Sixteen false true) w = refl
-  opened_walk (Datum Sixteen false false) w = refl
-  opened_walk (Datum ThirtyTwo true true) w = refl
-  opened_walk (Datum ThirtyTwo true false) w = refl
-  opened_walk (Datum ThirtyTwo false true) w = refl
-  opened_walk (Datum ThirtyTwo false false) w = refl
-  opened_walk (Datum SixtyFour true true) w = refl
-  opened_walk (Datum SixtyFour true false) w = refl
-  opened_walk (Datum SixtyFour false true) w = refl
-  opened_walk (Datum SixtyFour false false) w = refl
-  opened_walk (Flag true) w = refl
-  opened_walk (Flag false) w = refl
-  opened_walk Master16 w = refl
-  opened_walk GlobalError w = refl
-  opened_walk Channel16 w = refl
-  opened_walk Version w = refl
-  opened_walk NullStamp w = refl
-  opened_walk (Trigger true) w = refl
-  opened_walk (Trigger false) w = refl
-  opened_walk (Frequency true) w = refl
-  opened_walk (Frequency false) w = refl
+  abbrev Opens : List ℕ → Row → Type 0
+  Opens w row = from Start ((line_of row).opcode ++ w) ≡ after (begin row) (λ t. from t w) w
+
+  pub opened_walk : (row : Row) (w : List ℕ) → Opens w row
+  opened_walk row w = each (Opens w) all row where
+    all : AllOf (Opens w) rows
+    all = (refl, (refl, (refl, (refl, (refl, (refl, (refl, (refl, (refl, (refl, (refl, (refl, (refl, (refl, (refl, (refl, (refl, (refl, (refl, (refl, (refl, (refl, (refl, (refl, (refl, (refl, (refl, (refl, (refl, (refl, (refl, (refl, (refl, (refl, (refl, tt)))))))))))))))))))))))))))))))))))
 
   -- whole are all spellings
   complete : (x : StpPacket) (r : List ℕ) → Spells order x r → from Start r ≡ Whole x
@@ -290,7 +261,7 @@ module _ (order : Order) where
   zero_sound [] x w = cc
   zero_sound (c ∷ r) x w = elim (third_cases c) [
     | inl m ↦ row_sound (third_opening c) (15 ∷ (0 ∷ (c ∷ []))) Third r x m w
-    | inr m ↦ absurd (refused (third_opening c) Third r x m w)
+    | inr m ↦ absurd (refused (third_opening c) Third r x m.1 w)
   ]
 
   extended_go : (b : ℕ) → (b == 15) ≡ false → rule order Second b ≡ opened (second_opening b) Third
@@ -311,10 +282,7 @@ module _ (order : Order) where
           | inr m ↦ elim m [
             | inl n ↦ subst (λ (z : ℕ). Spells order x (15 ∷ (z ∷ r))) (sym n.0)
                 (zero_sound r x (sym (says (opened (second_opening b) Third) (Go Third) r (ap (λ (z : Opening). opened z Third) n.1)) ∙ w'))
-            | inr n ↦ elim n [
-              | inl o ↦ (let a : b ≡ 15 = o.0 in let f : (b == 15) ≡ true = grind (arith, nat_tests) in cc)
-              | inr o ↦ absurd (refused (second_opening b) Third r x o w')
-            ]
+            | inr n ↦ absurd (refused (second_opening b) Third r x n.1 w')
           ]
         ]
   ]
@@ -326,7 +294,7 @@ module _ (order : Order) where
     | inr m ↦ elim m [
       | inl n ↦ subst (λ (z : ℕ). Spells order x (z ∷ r)) (sym n.0)
           (extended_sound r x (sym (says (opened (first_opening a) Second) (Go Second) r (ap (λ (z : Opening). opened z Second) n.1)) ∙ w))
-      | inr n ↦ absurd (refused (first_opening a) Second r x n w)
+      | inr n ↦ absurd (refused (first_opening a) Second r x n.1 w)
     ]
   ]
 
@@ -381,7 +349,7 @@ module _ (order : Order) where
         | inl m ↦ leads_row (first_opening b) Second (b ∷ []) m
         | inr m ↦ elim m [
           | inl n ↦ leads_more (first_opening b) Second (b ∷ []) n.1 (ap (λ (z : ℕ). z ∷ []) n.0)
-          | inr n ↦ leads_none (first_opening b) Second (b ∷ []) n
+          | inr n ↦ leads_none (first_opening b) Second (b ∷ []) n.1
         ]
       ])
   keeps Second r b h =
@@ -391,17 +359,14 @@ module _ (order : Order) where
         | inl m ↦ leads_row (second_opening b) Third (15 ∷ (b ∷ [])) m
         | inr m ↦ elim m [
           | inl n ↦ leads_more (second_opening b) Third (15 ∷ (b ∷ [])) n.1 (ap (λ (z : ℕ). 15 ∷ (z ∷ [])) n.0)
-          | inr n ↦ elim n [
-            | inl o ↦ (let a : b ≡ 15 = o.0 in let f : (b == 15) ≡ true = grind (arith, nat_tests) in cc)
-            | inr o ↦ leads_none (second_opening b) Third (15 ∷ (b ∷ [])) o
-          ]
+          | inr n ↦ leads_none (second_opening b) Third (15 ∷ (b ∷ [])) n.1
         ]
       ]))
   keeps Third r b h =
       subst (λ (l : List ℕ). Leads (rule order Third b) (l ++ b ∷ [])) (sym h)
       (elim (third_cases b) [
         | inl m ↦ leads_row (third_opening b) Third (15 ∷ (0 ∷ (b ∷ []))) m
-        | inr m ↦ leads_none (third_opening b) Third (15 ∷ (0 ∷ (b ∷ []))) m
+        | inr m ↦ leads_none (third_opening b) Third (15 ∷ (0 ∷ (b ∷ []))) m.1
       ])
   keeps (Run n) r b h = elim (run_cases n b) [
     | inl m ↦ leads_by (run_with n b) (Go (Run (n + 1))) (r ++ b ∷ []) m.1
@@ -495,31 +460,26 @@ module _ (order : Order) where
   opened_fails More more e h = cc
   opened_fails Refused more e h = (refl, cc)
 
-  unsupported : (o : Opening) → o ≡ Refused → opening_fault o ≡ Unsupported
-  unsupported o e = ap opening_fault e
+  -- but where an ASYNC has begun, that of what the nibbles open
+  why_opened : (t : Bool) (o : Opening) (e : Reason) → t ≡ false → opening_fault o ≡ Unsupported → e ≡ Unsupported → e ≡ cond t BadAsync (opening_fault o)
+  why_opened t o e f g h = h ∙ sym g ∙ sym (ap (λ (z : Bool). cond z BadAsync (opening_fault o)) f)
 
   fails : (s : Partial) (r : List ℕ) (b : ℕ) (e : Reason) → Belongs s r → rule order s b ≡ Fail e → e ≡ why (r ++ b ∷ [])
   fails Start r b e h f =
       let k = opened_fails (first_opening b) Second e f in
-      subst (λ (l : List ℕ). e ≡ why (l ++ b ∷ [])) (sym h) (first_why b e k.0 k.1)
+      subst (λ (l : List ℕ). e ≡ why (l ++ b ∷ [])) (sym h) (why_opened (b == 15 && false) (opening_of (b ∷ [])) e (never (b == 15)) (first_fault b k.0) k.1)
     where
-      first_why : (b : ℕ) (e : Reason) → first_opening b ≡ Refused → e ≡ Unsupported → e ≡ why (b ∷ [])
-      first_why b e k l = l ∙ sym (alone (b == 15) ∙ rw k refl) where
-        alone : (t : Bool) → cond (t && false) BadAsync (opening_fault (opening_of (b ∷ []))) ≡ opening_fault (opening_of (b ∷ []))
-        alone true = refl
-        alone false = refl
+      never : (t : Bool) → (t && false) ≡ false
+      never true = refl
+      never false = refl
   fails Second r b e h f = subst (λ (l : List ℕ). e ≡ why (l ++ b ∷ [])) (sym h)
       (elim (chosen (b == 15) f) [
         | inl m ↦ (let k = m.1 in cc)
-        | inr m ↦ (let k = opened_fails (second_opening b) Third e m.1 in let t = m.0 in let o = k.0 in k.1 ∙ sym (second_why b t o))
-      ]) where
-        second_why : (b : ℕ) → (b == 15) ≡ false → second_opening b ≡ Refused → why (15 ∷ (b ∷ [])) ≡ Unsupported
-        second_why b t o =
-            ap (λ (z : Bool). cond z BadAsync (opening_fault (or_more (second_opening b) (after_two b [])))) t
-            ∙ ap (λ (z : Opening). opening_fault (or_more z (after_two b []))) o
+        | inr m ↦ (let k = opened_fails (second_opening b) Third e m.1 in why_opened (b == 15) (opening_of (15 ∷ (b ∷ []))) e m.0 (second_fault b k.0) k.1)
+      ])
   fails Third r b e h f =
       let k = opened_fails (third_opening b) Third e f in
-      subst (λ (l : List ℕ). e ≡ why (l ++ b ∷ [])) (sym h) (k.1 ∙ sym (unsupported (third_opening b) k.0))
+      subst (λ (l : List ℕ). e ≡ why (l ++ b ∷ [])) (sym h) (why_opened false (opening_of (15 ∷ (0 ∷ (b ∷ [])))) e refl (third_fault b k.0) k.1)
   fails (Run n) r b e h f = subst (λ (l : List ℕ). e ≡ why (l ++ b ∷ [])) (sym h.1) (elim (run_cases n b) [
     | inl m ↦ (let k = m.1 in cc)
     | inr m ↦ elim m [

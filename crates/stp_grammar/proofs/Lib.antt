@@ -1,4 +1,5 @@
 pub mod Digits
+pub mod EachRow
 pub mod Openings
 pub mod Deciding
 pub mod Numbers

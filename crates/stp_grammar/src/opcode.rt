@@ -1,10 +1,10 @@
 //! The table of opcodes.
 
-ghost use Rattle.std.specs.Prelude.{◌≡◌, ◌<◌, ◌≤◌, ◌+◌, length, true};
+ghost use Rattle.std.specs.Prelude.{◌≡◌, ◌<◌, ◌≤◌, ◌+◌, [], ◌∷◌, length, true};
 ghost use Rattle.stp_grammar.specs.declared.packet.Row.TheVariants.{Datum};
 ghost use Rattle.std.specs.Prelude.{None};
 ghost use Rattle.std.specs.Option.{ForSome};
-ghost use Rattle.stp_grammar.specs.Opcodes.{line_of, row_at as row_by_table, head_of, opening_of, given, listed, second_opening, third_opening, or_more, after_two};
+ghost use Rattle.stp_grammar.specs.Opcodes.{line_of, row_at as row_by_table, head_of, opening_of, given, listed};
 
 use crate::packet::{Row, Width};
 
@@ -76,10 +76,10 @@ pub enum Head {
 }
 
 /// By the nibble after F and 0.
-#[tactic(auto, using(crate::proofs::Openings::third_whole, crate::proofs::Openings::number_is))]
+#[tactic(auto, using(crate::proofs::Openings::third_head, crate::proofs::Openings::last_head, crate::proofs::Openings::third_refused))]
 fn third_head(nibble: u8) -> Head
     requires { nibble < 16 }
-    ensures { result ≡ head_of (third_opening nibble) }
+    ensures { result ≡ head_of (opening_of (15 ∷ (0 ∷ (nibble ∷ [])))) }
 {
     match nibble {
         0..=1 => Head::Whole(29 + nibble),
@@ -89,11 +89,11 @@ fn third_head(nibble: u8) -> Head
 }
 
 /// By the nibble after F, and the next where it is given.
-#[tactic(auto, using(crate::proofs::Openings::second_whole))]
+#[tactic(auto, using(crate::proofs::Openings::second_head, crate::proofs::Openings::heads_more, crate::proofs::Openings::run_refused))]
 fn second_head(nibble: u8, next: Option<u8>) -> Head
     requires nibble { nibble < 16 }
     requires next { ForSome next (λ c. c < 16) }
-    ensures { result ≡ head_of (or_more (second_opening nibble) (after_two nibble (listed next))) }
+    ensures { result ≡ head_of (opening_of (15 ∷ (nibble ∷ listed next))) }
 {
     if nibble == 0 {
         match next {
@@ -110,8 +110,9 @@ fn second_head(nibble: u8, next: Option<u8>) -> Head
     }
 }
 
-/// What these nibbles begin, by the table of opcodes.
-#[tactic(auto, using(crate::proofs::Openings::number_is))]
+/// What one to three nibbles begin, by the table of opcodes: the opcode of a row, whatever follows it; a front of an
+/// opcode or of ASYNC (F, F 0, F F and F F F); or neither.
+#[tactic(auto, using(crate::proofs::Openings::first_head, crate::proofs::Openings::heads_more))]
 pub fn opcode_of(first: u8, second: Option<u8>, third: Option<u8>) -> Head
     requires first { first < 16 }
     requires second { ForSome second (λ b. b < 16) }
