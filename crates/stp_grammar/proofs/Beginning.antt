@@ -12,7 +12,8 @@ use Rattle.stp_grammar.specs.Opcodes.{line_of, row_at, Opening}
 use Rattle.stp_grammar.specs.Rule.{rule, begin, opened}
 use Rattle.stp_grammar.proofs.EachRow.{numbered, each_test}
 use Rattle.stp_grammar.proofs.Openings.{first_cases}
-use Rattle.stp_grammar.proofs.Deciding.{chosen, is_zero, row_never_fails}
+use Rattle.stp_grammar.proofs.Choices.{chosen, is_zero}
+use Rattle.stp_grammar.proofs.Faults.{row_never_fails}
 
 -- of the rows whose opcode is one nibble, NULL alone has neither payload nor timestamp
 abbrev is_alone : Row → Bool

@@ -13,7 +13,7 @@ use Rattle.trace_clock.specs.LastWord.{nibble_count}
 use Rattle.stp_grammar.specs.Rule.{rule, count_of}
 use Rattle.stp_grammar.proofs.EachRow.{each_test}
 use Rattle.stp_grammar.proofs.Counting.{counted_nibbles}
-use Rattle.stp_grammar.proofs.Deciding.{Belongs, belongs}
+use Rattle.stp_grammar.proofs.Reached.{Belongs, belongs}
 
 line_few : (row : Row) → length (line_of row).opcode + (line_of row).payload ≤ 18
 line_few row = at_most (length (line_of row).opcode + (line_of row).payload) (each_test (λ row. nat_le (length (line_of row).opcode + (line_of row).payload) 18) refl row) where
