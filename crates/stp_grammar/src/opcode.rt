@@ -198,3 +198,108 @@ impl Row {
         }
     }
 }
+
+#[cfg(test)]
+mod tests {
+    use super::*;
+    use std::process::Abort;
+
+    /// The opcodes in the order of their rows, with how many nibbles the payload has and whether a timestamp follows.
+    const TABLE: [(u8, Option<u8>, Option<u8>, u8, bool); 35] = [
+        (0x0, None, None, 0, false),
+        (0x1, None, None, 2, false),
+        (0x2, None, None, 2, false),
+        (0x3, None, None, 2, false),
+        (0x4, None, None, 2, false),
+        (0x5, None, None, 4, false),
+        (0x6, None, None, 8, false),
+        (0x7, None, None, 16, false),
+        (0x8, None, None, 2, true),
+        (0x9, None, None, 4, true),
+        (0xA, None, None, 8, true),
+        (0xB, None, None, 16, true),
+        (0xC, None, None, 1, false),
+        (0xD, None, None, 1, true),
+        (0xE, None, None, 0, true),
+        (0xF, Some(0x1), None, 4, false),
+        (0xF, Some(0x2), None, 2, false),
+        (0xF, Some(0x3), None, 4, false),
+        (0xF, Some(0x4), None, 2, true),
+        (0xF, Some(0x5), None, 4, true),
+        (0xF, Some(0x6), None, 8, true),
+        (0xF, Some(0x7), None, 16, true),
+        (0xF, Some(0x8), None, 2, false),
+        (0xF, Some(0x9), None, 4, false),
+        (0xF, Some(0xA), None, 8, false),
+        (0xF, Some(0xB), None, 16, false),
+        (0xF, Some(0xC), None, 1, true),
+        (0xF, Some(0xD), None, 1, false),
+        (0xF, Some(0xE), None, 0, false),
+        (0xF, Some(0x0), Some(0x0), 1, false),
+        (0xF, Some(0x0), Some(0x1), 0, true),
+        (0xF, Some(0x0), Some(0x6), 2, false),
+        (0xF, Some(0x0), Some(0x7), 2, true),
+        (0xF, Some(0x0), Some(0x8), 8, false),
+        (0xF, Some(0x0), Some(0x9), 8, true),
+    ];
+
+    #[test]
+    fn has_the_table(rt: HostRuntime) {
+        for number in 0..35u8 {
+            let (first, second, third, payload, stamped) = TABLE[usize::from(number)];
+            let row = row_at(number);
+            let nibbles = 1 + u8::from(second.is_some()) + u8::from(third.is_some());
+            assert_eq!(rt; row.opcode_nibbles(), nibbles, "{row:?}");
+            assert_eq!(rt; row.payload_nibbles(), payload, "{row:?}");
+            assert_eq!(rt; row.is_stamped(), stamped, "{row:?}");
+            assert_eq!(rt;
+                opcode(&rt, first, second, third),
+                Head::Whole(number),
+                "{row:?}"
+            );
+        }
+    }
+
+    /// What the nibbles begin, which must be under 16, and a third after a second.
+    fn opcode(rt: &impl Abort, first: u8, second: Option<u8>, third: Option<u8>) -> Head {
+        assert!(rt; first < 16);
+        match (second, third) {
+            (Some(b), Some(c)) => assert!(rt; b < 16 && c < 16),
+            (Some(b), None) => assert!(rt; b < 16),
+            (None, Some(_)) => assert!(rt; false),
+            (None, None) => {}
+        }
+        opcode_of(first, second, third)
+    }
+
+    #[test]
+    fn answers_what_nibbles_begin(rt: HostRuntime) {
+        let rows: [(u8, Option<u8>, Option<u8>, Head); 18] = [
+            (0x0, Some(0x0), Some(0x2), Head::Whole(0)),
+            (0xE, Some(0xF), None, Head::Whole(14)),
+            (0xF, None, None, Head::More),
+            (0xF, Some(0x0), None, Head::More),
+            (0xF, Some(0x1), Some(0x2), Head::Whole(15)),
+            (0xF, Some(0xE), Some(0xF), Head::Whole(28)),
+            (0xF, Some(0xF), None, Head::More),
+            (0xF, Some(0xF), Some(0xF), Head::More),
+            (0xF, Some(0xF), Some(0xE), Head::Refused),
+            (0xF, Some(0xF), Some(0x0), Head::Refused),
+            (0xF, Some(0x0), Some(0x2), Head::Refused),
+            (0xF, Some(0x0), Some(0x3), Head::Refused),
+            (0xF, Some(0x0), Some(0x4), Head::Refused),
+            (0xF, Some(0x0), Some(0x5), Head::Refused),
+            (0xF, Some(0x0), Some(0xA), Head::Refused),
+            (0xF, Some(0x0), Some(0xC), Head::Refused),
+            (0xF, Some(0x0), Some(0xE), Head::Refused),
+            (0xF, Some(0x0), Some(0xF), Head::Refused),
+        ];
+        for (first, second, third, head) in rows {
+            assert_eq!(rt;
+                opcode(&rt, first, second, third),
+                head,
+                "{first} {second:?} {third:?}"
+            );
+        }
+    }
+}
