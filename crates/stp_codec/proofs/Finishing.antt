@@ -1,5 +1,5 @@
 -- Nibbles that end a packet, from each of its parts on.
-use Rattle.std.proofs.Common.{◌≡◌, ℕ, suc, ◌+◌, ◌-◌, ◌<◌, ◌≤◌, List, [], ◌∷◌, ◌++◌, length, get_or, refl, sym, ◌∙◌, ap, subst, arith, Bool, true, false, cond}
+use Rattle.std.proofs.Common.{◌≡◌, ℕ, suc, replicate, ◌+◌, ◌-◌, ◌<◌, ◌≤◌, List, [], ◌∷◌, ◌++◌, length, get_or, refl, sym, ◌∙◌, ap, subst, arith, Bool, true, false, cond}
 use Rattle.std.specs.Prelude.{nat_lt, ◌==◌, ◌&&◌, ◌^◌, Option, None, Some, IfSome}
 use Rattle.std.proofs.lemmas.Bool.Decides.{nat_tests}
 use Rattle.std.proofs.lemmas.List.{append-nil}
@@ -10,12 +10,13 @@ use Rattle.trace_clock.specs.LastWord.{nibble_count}
 use Rattle.stp_grammar.specs.declared.packet.Order.{Order}
 use Rattle.stp_grammar.specs.declared.packet.Row.{Row}
 use Rattle.stp_grammar.specs.declared.packet.StpPacket.{StpPacket}
-use Rattle.stp_grammar.specs.declared.packet.StpPacket.TheVariants.{Plain, Stamped}
+use Rattle.stp_grammar.specs.declared.packet.StpPacket.TheVariants.{Async, Plain, Stamped}
 use Rattle.stp_grammar.specs.declared.partial.Partial.{Partial}
-use Rattle.stp_grammar.specs.declared.partial.Partial.TheVariants.{Start, Second, Third, Payload, Size, Word}
-use Rattle.stp_grammar.specs.Opcodes.{line_of, row_at, Opening, Whole as Opened, first_opening, second_opening}
-use Rattle.stp_grammar.specs.Rule.{rule, number_with, begin, after_payload, opened, size_with, is_sound}
+use Rattle.stp_grammar.specs.declared.partial.Partial.TheVariants.{Start, Second, Third, Run, Payload, Size, Word}
+use Rattle.stp_grammar.specs.Opcodes.{line_of, row_at, Opening, Whole as Opened}
+use Rattle.stp_grammar.specs.Rule.{rule, number_with, begin, after_payload, opened, size_with, is_sound, first_opening, second_opening, third_opening}
 use Rattle.stp_grammar.proofs.Digits.{value_from, stage_whole}
+use Rattle.stp_grammar.proofs.Runs.{run_complete}
 use Rattle.stp_codec.specs.Wholes.{between, number_from, Ends}
 use Rattle.stp_codec.proofs.Between.{between_first, between_parts, length-between}
 
@@ -94,6 +95,31 @@ module _ (order : Order) where
 
       goes : (b : ℕ) → 0 < b → b < 15 → rule order Second b ≡ begin (row_at (14 + b))
       goes b h l = choose (b == 15) _ (not_f b l) (ap (λ (z : Opening). opened z Third) (second_is b h l))
+
+  third_is : (c : ℕ) → c < 2 → third_opening c ≡ Opened (row_at (29 + c))
+  third_is c h = grind (arith, nat_tests)
+
+  late_third_is : (c : ℕ) → 6 ≤ c → c < 10 → third_opening c ≡ Opened (row_at (25 + c))
+  late_third_is c h l = grind (arith, nat_tests)
+
+  pub ends_third : (c : ℕ) (w : List ℕ) (packet : StpPacket) → c < 2 → Ends order (begin (row_at (29 + c))) w packet → Ends order (Go Third) (c ∷ w) packet
+  ends_third c w packet h k = ap (λ (z : Opening). after (opened z Third) (λ t. walk (rule order) t w) w) (third_is c h) ∙ k
+
+  pub ends_late_third : (c : ℕ) (w : List ℕ) (packet : StpPacket) → 6 ≤ c → c < 10 → Ends order (begin (row_at (25 + c))) w packet → Ends order (Go Third) (c ∷ w) packet
+  ends_late_third c w packet h l k = ap (λ (z : Opening). after (opened z Third) (λ t. walk (rule order) t w) w) (late_third_is c h l) ∙ k
+
+  pub ends_run : (k n : ℕ) → 21 ≤ n + k → Ends order (Go (Run n)) (replicate k 15 ++ 0 ∷ []) Async
+  ends_run k n h = run_complete order k n h
+
+  -- a second nibble that goes on
+  pub ends_second_zero : (w : List ℕ) (packet : StpPacket) → Ends order (Go Third) w packet → Ends order (Go Second) (0 ∷ w) packet
+  ends_second_zero w packet k = k
+
+  pub ends_second_f : (w : List ℕ) (packet : StpPacket) → Ends order (Go (Run 2)) w packet → Ends order (Go Second) (15 ∷ w) packet
+  ends_second_f w packet k = k
+
+  pub ends_start_f : (w : List ℕ) (packet : StpPacket) → Ends order (Go Second) w packet → Ends order (Go Start) (15 ∷ w) packet
+  ends_start_f w packet k = k
 
   -- among the nibbles of bytes
   module _ (xs : List ℕ) (start end : ℕ) where

@@ -13,7 +13,7 @@ use Rattle.trace_values.proofs.Decorating.{item_step}
 use Rattle.trace_values.proofs.Modes as modes
 use Rattle.stp_grammar.specs.declared.packet.Order.{Order}
 use Rattle.stp_grammar.specs.declared.packet.StpPacket.{StpPacket}
-use Rattle.stp_grammar.specs.declared.packet.StpPacket.TheVariants.{Async}
+use Rattle.stp_grammar.specs.declared.packet.StpPacket.TheVariants.{Async, Plain}
 use Rattle.stp_grammar.specs.declared.item.StpItem.{StpItem}
 use Rattle.stp_grammar.specs.declared.attribution.Attribution.{Attribution}
 use Rattle.stp_grammar.specs.declared.partial.Partial.{Partial}
@@ -22,6 +22,11 @@ use Rattle.stp_grammar.specs.Rule.{rule, count_of}
 use Rattle.stp_grammar.specs.Attribution.{item_of}
 use Rattle.stp_grammar.specs.Attributed.{Stands as Attributes}
 use Rattle.stp_grammar.proofs.Counting.{counts_placed}
+use Rattle.stp_grammar.specs.declared.packet.Row.TheVariants.{Null}
+use Rattle.stp_grammar.proofs.Attributing.{stands_with}
+use Rattle.stp_grammar.proofs.Beginning.{start_ends, start_never_fails}
+use Rattle.stp_codec.specs.Wholes.{left_of, IsQuiet}
+use Rattle.trace_values.specs.Nibbles.{high_of}
 use Rattle.stp_codec.specs.Reading.{pattern, items_at}
 use Rattle.stp_codec.proofs.Taking.{At, goes_list, goes_step, stops_list, stops_step}
 
@@ -82,3 +87,52 @@ module _ (order : Order) (m : Mode) (a : Attribution) (locked : is_locked m ≡ 
         subst (λ z. IsPassed n z l) (append_assoc n (c ∷ []) w) r
     by (End x) k f more = absurd (never_whole x (units_of w) l.unit (λ t. walk (rule order) t (units_of w ++ l.unit ∷ [])) f)
     by (Fail r) k f more = cc
+
+-- the high nibble after a packet that ended in the low one
+module _ (order : Order) (m : Mode) (live : Bool) (s : Partial) (a : Attribution) (n : List Placed) (half at byte : ℕ) (low : half ≡ 0) (small : byte < 256) (l : live ≡ true) (locked : is_locked m ≡ true) (start : s ≡ Start)
+    (h : At order m live s a n) where
+  abbrev high : Placed
+  high = high_of at byte
+
+  abbrev after_high : List Placed
+  after_high = n ++ left_of half at byte
+
+  high_is : high ∷ [] ≡ left_of half at byte
+  high_is = sym (ap (λ k. left_of k at byte) low)
+
+  by_rule : (x : Next Partial StpPacket) → x ≡ rule order Start (byte / 16) → x ≡ rule order s high.unit
+  by_rule x e = e ∙ ap (rule order Start) (let q : byte / 16 ≡ byte / 16 % 16 = omega arith in q) ∙ ap (λ z. rule order z high.unit) (sym start)
+
+  pub left_goes_list : (t : Partial) → Go t ≡ rule order Start (byte / 16) → At order m live t a after_high
+  left_goes_list t e = subst (λ r. At order m live t a (n ++ r)) high_is (goes_list order m live s a n high l locked t (by_rule (Go t) e) h)
+
+  pub left_goes_quiet : (t : Partial) → Go t ≡ rule order Start (byte / 16) → IsQuiet (items_at order (hunts m) n) (items_at order (hunts m) after_high)
+  left_goes_quiet t e =
+      let g = goes_step order m live s a n high l locked t (by_rule (Go t) e) h in
+      subst (λ r. IsQuiet (items_at order (hunts m) n) (items_at order (hunts m) (n ++ r))) high_is (g.given ∙ append-nil (items_at order (hunts m) n).given, g.fault)
+
+  null_kept : (v : StpPacket) → v ≡ Plain Null 0 → (ps : List StpPacket) → Attributes a ps → Attributes a (ps ++ v ∷ [])
+  null_kept v e ps k = subst (λ p. Attributes a (ps ++ p ∷ [])) (sym e) (stands_with a a ps (Plain Null 0) (omega arith) k refl refl refl refl)
+
+  null_silent : (v : StpPacket) → v ≡ Plain Null 0 → (ps : List StpPacket) → Attributes a ps → None ≡ item_of (ps ++ v ∷ []) v
+  null_silent v e ps k = sym (ap (λ p. item_of (ps ++ p ∷ []) p) e)
+
+  ends_list : (v : StpPacket) → End v ≡ rule order Start (byte / 16) → At order m live s a after_high
+  ends_list v e =
+      subst (λ z. At order m live z a after_high) (sym start) (subst (λ r. At order m live Start a (n ++ r)) high_is
+      (stops_list order m live s a n high l locked v a (by_rule (End v) e) (null_kept v (start_ends order v (byte / 16) e)) h))
+
+  ends_quiet : (v : StpPacket) → End v ≡ rule order Start (byte / 16) → IsQuiet (items_at order (hunts m) n) (items_at order (hunts m) after_high)
+  ends_quiet v e =
+      let g = stops_step order m live s a n high l locked v None (by_rule (End v) e) (null_silent v (start_ends order v (byte / 16) e)) h in
+      subst (λ r. IsQuiet (items_at order (hunts m) n) (items_at order (hunts m) (n ++ r))) high_is (g.given ∙ append-nil (items_at order (hunts m) n).given, g.fault)
+
+  pub left_ends_list : (x : Next Partial StpPacket) → x ≡ rule order Start (byte / 16) → ((t : Partial) → x ≡ Go t → ⊥) → At order m live s a after_high
+  left_ends_list (Go t) e not_go = absurd (not_go t refl)
+  left_ends_list (End v) e not_go = ends_list v e
+  left_ends_list (Fail r) e not_go = absurd (start_never_fails order r (byte / 16) (omega arith) e)
+
+  pub left_ends_quiet : (x : Next Partial StpPacket) → x ≡ rule order Start (byte / 16) → ((t : Partial) → x ≡ Go t → ⊥) → IsQuiet (items_at order (hunts m) n) (items_at order (hunts m) after_high)
+  left_ends_quiet (Go t) e not_go = absurd (not_go t refl)
+  left_ends_quiet (End v) e not_go = ends_quiet v e
+  left_ends_quiet (Fail r) e not_go = absurd (start_never_fails order r (byte / 16) (omega arith) e)

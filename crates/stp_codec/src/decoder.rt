@@ -181,7 +181,9 @@ impl StpDecoder {
         ensures few { (held_of self.new ≤ 1) × (skipped_by self.new ≡ skipped_by self.old) }
     {
         if half == 0 {
-            self.take_nibble(at, 1, byte / 16);
+            if let Next::Go(partial) = Partial::Start.with_nibble(self.order, byte / 16) {
+                self.partial = partial;
+            }
         }
     }
 

@@ -5,7 +5,9 @@
 
 ghost use Rattle.std.specs.Prelude.{◌≡◌, ◌+◌, ◌-◌, ◌*◌, ◌^◌, ◌<◌, ◌≤◌, true, length, get_or, IfSome};
 ghost use Rattle.trace_values.specs.declared.next.Next.TheVariants.{Go};
-ghost use Rattle.stp_grammar.specs.declared.partial.Partial.TheVariants.{Start, Second, Size};
+ghost use Rattle.stp_grammar.specs.declared.packet.Order.{Order as OrderOf};
+ghost use Rattle.stp_grammar.specs.declared.packet.StpPacket.TheVariants.{Async};
+ghost use Rattle.stp_grammar.specs.declared.partial.Partial.TheVariants.{Start, Second, Third, Run, Size};
 ghost use Rattle.stp_grammar.specs.Opcodes.{line_of};
 ghost use Rattle.stp_grammar.specs.Proper.{IsProper};
 ghost use Rattle.stp_grammar.specs.Rule.{begin, after_payload, is_sound};
@@ -146,9 +148,51 @@ fn from_second(order: Order, bytes: &[u8], start: usize) -> Option<(usize, StpPa
         return None;
     }
     match nibble_of(bytes, start) {
-        0 | 15 => None,
+        0 => from_third(order, bytes, start + 1),
+        15 => Some((from_run(2, bytes, start + 1)?, StpPacket::Async)),
         nibble => from_opcode(order, row_at(14 + nibble), bytes, start + 1),
     }
+}
+
+/// The packet whose first nibbles are F and 0, from its third on, and the nibble after it. None where there is none.
+#[inline]
+fn from_third(order: Order, bytes: &[u8], start: usize) -> Option<(usize, StpPacket)>
+    requires there { start ≤ 2 * length bytes.now }
+    ensures end { IfSome result (λ x. (start < x.0) × (x.0 ≤ 2 * length bytes.now)) }
+    ensures whole { IfSome result (λ x. Ends order (Go Third) (between (nibbles_in bytes.now) start x.0) x.1) }
+    ensures proper { IfSome result (λ x. IsProper x.1) }
+{
+    if start >= 2 * bytes.len() {
+        return None;
+    }
+    match nibble_of(bytes, start) {
+        nibble @ 0..=1 => from_opcode(order, row_at(29 + nibble), bytes, start + 1),
+        nibble @ 6..=9 => from_opcode(order, row_at(25 + nibble), bytes, start + 1),
+        _ => None,
+    }
+}
+
+/// The nibble after the ASYNC of which this many nibbles F are before these, at least two. None where it does not end
+/// in them, or is none.
+#[inline]
+fn from_run(count: u64, bytes: &[u8], start: usize) -> Option<usize>
+    requires { start ≤ 2 * length bytes.now }
+    ensures end { IfSome result (λ end. (start < end) × (end ≤ 2 * length bytes.now)) }
+    ensures whole { (order : OrderOf) → IfSome result (λ end.
+        Ends order (Go (Run count)) (between (nibbles_in bytes.now) start end) Async) }
+{
+    for index in start..2 * bytes.len() {
+        let nibble = nibble_of(bytes, index);
+        if nibble != 15 {
+            let more = (index - start) as u64;
+            return if nibble == 0 && more >= 21u64.saturating_sub(count) {
+                Some(index + 1)
+            } else {
+                None
+            };
+        }
+    }
+    None
 }
 
 /// The packet that the bytes begin with, and the nibble after it.
@@ -168,10 +212,10 @@ fn from_start(order: Order, bytes: &[u8]) -> Option<(usize, StpPacket)>
 }
 
 /// The packet that these bytes finish, of which this is the unfinished part, and how many of their nibbles it takes.
-/// None where they do not finish it, and for some that are rare: an ASYNC, and a packet whose opcode has three nibbles.
+/// None where they do not finish it.
 #[inline]
 pub fn whole_packet(order: Order, partial: Partial, bytes: &[u8]) -> Option<(usize, StpPacket)>
-    requires sound { is_sound partial ≡ true }
+    requires { is_sound partial ≡ true }
     ensures end { IfSome result (λ x. (0 < x.0) × (x.0 ≤ 2 * length bytes.now)) }
     ensures whole { IfSome result (λ x. Ends order (Go partial) (between (nibbles_in bytes.now) 0 x.0) x.1) }
     ensures proper { IfSome result (λ x. IsProper x.1) }
@@ -179,7 +223,8 @@ pub fn whole_packet(order: Order, partial: Partial, bytes: &[u8]) -> Option<(usi
     match partial {
         Partial::Start => from_start(order, bytes),
         Partial::Second => from_second(order, bytes, 0),
-        Partial::Third | Partial::Run(_) => None,
+        Partial::Third => from_third(order, bytes, 0),
+        Partial::Run(count) => Some((from_run(count, bytes, 0)?, StpPacket::Async)),
         Partial::Payload { row, count, value } => {
             let (end, payload) = number_at(order, count, value, row.payload_nibbles(), bytes, 0)?;
             from_payload(order, row, payload, bytes, end)
