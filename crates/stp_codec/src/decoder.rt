@@ -311,7 +311,7 @@ impl Machine for StpDecoder {
 
     ghost skipped_units = { skipped_by };
 
-    ghost units_per_byte = { 2 };
+    ghost units_per_byte = { λ m. 2 };
 
     ghost fits = { IsProperItem };
 
