@@ -19,7 +19,7 @@ use Rattle.source_events.specs.Report.{Mapped, AreLawful, lesser, of_source, lea
 use Rattle.source_events.proofs.Growth as growth
 use Rattle.source_events.proofs.Least.{Full}
 
-capture_rises : (xs : List ℕ) → BytesRise 0 (length xs) (placed xs)
+pub capture_rises : (xs : List ℕ) → BytesRise 0 (length xs) (placed xs)
 capture_rises xs =
     subst (λ (n : ℕ). BytesRise 0 n (placed xs)) (let k : 0 + length xs ≡ length xs = omega arith in k) (placed_rise xs 0)
 

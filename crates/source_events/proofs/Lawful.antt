@@ -23,7 +23,8 @@ use Rattle.source_events.specs.declared.plan.Plan.{Plan}
 use Rattle.source_events.specs.declared.plan.SourceKind.{SourceKind}
 use Rattle.source_events.specs.declared.plan.SourceKind.TheVariants.{Itm, Stp}
 use Rattle.source_events.specs.Packets.{said_as, given_as, stream_as}
-use Rattle.source_events.specs.Plan.{items_in, mapped_ids, stream_of, sources_by}
+use Rattle.stp_codec.specs.Reading.{items_in}
+use Rattle.source_events.specs.Plan.{mapped_ids, stream_of, sources_by}
 use Rattle.source_events.specs.Report.{Mapped, IsLawful, AreLawful}
 
 -- a reading whose items are seen as packets

@@ -13,3 +13,5 @@ pub mod Growth
 pub mod Lawful
 pub mod Captures
 pub mod Merging
+pub mod ItemCounts
+pub mod ReportCounts

@@ -1,6 +1,6 @@
 //! Laws of the report, over its definitions alone.
 
-ghost use Rattle.std.specs.Prelude.{◌≡◌, ◌↔◌, ℕ, List, ◌++◌, is_none, false};
+ghost use Rattle.std.specs.Prelude.{◌≡◌, ◌↔◌, ℕ, List, [], ◌++◌, is_none, false, None};
 ghost use Rattle.std.specs.List.{flat_map};
 ghost use Rattle.trace_values.specs.declared.cell.Cell.{Cell};
 ghost use Rattle.frame_grammar.specs.Runs.{HasRuns};
@@ -14,6 +14,8 @@ ghost use Rattle.source_events.specs.declared.event.Event.{Event};
 ghost use Rattle.source_events.specs.Runs.{runs_of, list_of, AreWhole};
 ghost use Rattle.source_events.specs.Merge.{IsMerged};
 ghost use Rattle.source_events.specs.Report.{Mapped, AreLawful, events, port_events, runs_in, stop_in, capture_events, report};
+ghost use Rattle.source_counts.specs.Counts.{items_of};
+ghost use Rattle.source_events.specs.Tails.{items_in};
 ghost use Rattle.source_events.specs.declared.plan.Plan.{Plan};
 ghost use Rattle.source_events.specs.Plan.{sources_by};
 
@@ -43,6 +45,15 @@ pub fn growth_law()
     ensures grows { (plan : Plan) (xs ys : List ℕ) → (given : List (Event Packet)) ×
         (report (sources_by plan) plan.frames (placed (xs ++ ys)) ≡
         report (sources_by plan) plan.frames (placed xs) ++ given) }
+{}
+
+/// Where no source is mapped and the report has no fault, a source has as many events as its frames have items of it: one
+/// for each run, for each byte of the trigger source, and none of the null source.
+pub fn items_law()
+    ensures { (plan : Plan) (bytes : List ℕ) (x : ℕ) → sources_by plan ≡ [] →
+        stop_in (sources_by plan) (port_reading plan.frames (placed bytes)) ≡ None →
+        items_in x (report (sources_by plan) plan.frames (placed bytes)) ≡
+        items_of x (port_reading plan.frames (placed bytes)).frames }
 {}
 
 /// The runs of a frame, one after the other, are its cells. Each is all the frame's cells of one number, and the numbers
