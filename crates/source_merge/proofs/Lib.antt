@@ -5,3 +5,4 @@ pub mod Taking
 pub mod Framing
 pub mod Fits
 pub mod Counting
+pub mod Steps
