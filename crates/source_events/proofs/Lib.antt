@@ -9,3 +9,4 @@ pub mod Settling
 pub mod Blocks
 pub mod LockSteps
 pub mod RunNumbers
+pub mod Growth

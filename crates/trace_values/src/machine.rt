@@ -1,8 +1,10 @@
 //! What reads a source's bytes one by one.
 
-ghost use Rattle.std.specs.Prelude.{◌≡◌, ℕ, ◌+◌, ◌^◌, ◌<◌, ◌≤◌, ◌++◌, ◌∷◌, [], List, Bool, true, false, None, is_none, length};
+ghost use Rattle.std.specs.Prelude.{◌≡◌, ℕ, ◌+◌, ◌<◌, ◌≤◌, ◌++◌, ◌∷◌, [], List, Bool, true, false, None, is_none};
+ghost use Rattle.std.specs.Prelude.{length};
 ghost use Rattle.trace_values.specs.Placed.{Placed, byte_at};
 ghost use Rattle.trace_values.specs.Stream.{Stream, Grows, Shows, Settled, Holds, Rises, StepFits, LocksAfter, goes_on};
+ghost use Rattle.trace_values.specs.declared.limits.TheConstants.{COUNT_ROOM};
 
 use crate::step::Step;
 
@@ -43,11 +45,11 @@ pub trait Machine {
     ghost fits: { Self.Item → Type 0 };
 
     /// Takes the next byte, which is at this offset of the capture. It has met no fault, and holds and
-    /// skipped at most 2^60 units.
+    /// skipped at most `COUNT_ROOM` units.
     fn feed(&mut self, at: u64, byte: u8) -> Step<Self::Item>
         requires live { live self.old ≡ true }
-        requires room { held_units self.old ≤ 2 ^ 60 }
-        requires count { skipped_units self.old ≤ 2 ^ 60 }
+        requires room { held_units self.old ≤ COUNT_ROOM }
+        requires count { skipped_units self.old ≤ COUNT_ROOM }
         ensures same { reading self.new ≡ reading self.old }
         ensures list { (u : List Placed) → stands self.old u → stands self.new (u ++ byte_at at byte ∷ []) }
         ensures step { (u : List Placed) → stands self.old u →

@@ -9,17 +9,17 @@ use Rattle.source_events.proofs.Merges.{is_merged, only_merged}
 use Rattle.source_events.proofs.Family.{adds, none_first}
 use Rattle.source_events.proofs.Running.{end_within}
 use Rattle.source_events.proofs.Placing.{between_order}
-use Rattle.source_events.proofs.Locking.{port_first, runs_first}
+use Rattle.source_events.proofs.Locking.{first_end, port_first, runs_first}
 use Rattle.source_events.proofs.laws.merged_law.Goals as goal
 
 pub returns : goal.returns
 returns c = λ ss law mode u lo hi rise es.
     let first = port_first Packet mode u lo hi rise in
     let runs = runs_in (port_reading mode u) in
-    let order = between_order runs first.start hi (runs_first Packet mode u lo hi rise) in (
+    let order = between_order runs (first_end lo (port_events {V = Packet} mode u)) hi (runs_first Packet mode u lo hi rise) in (
       (λ i. only_merged IsRunFrom end_of end_within id_of (events ss) (adds ss law) (none_first ss law)
-          (port_events mode u) first.start first.first runs order es i),
+          (port_events mode u) (first_end lo (port_events {V = Packet} mode u)) first.first runs order es i),
       (λ e. subst (λ (x : List (Event Packet)). IsMerged (port_events mode u) (events ss) runs x) (sym e)
           (is_merged IsRunFrom end_of end_within id_of (events ss) (adds ss law) (none_first ss law)
-          (port_events mode u) first.start first.first runs order)),
+          (port_events mode u) (first_end lo (port_events {V = Packet} mode u)) first.first runs order)),
     )
