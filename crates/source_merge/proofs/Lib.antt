@@ -6,3 +6,6 @@ pub mod Framing
 pub mod Fits
 pub mod Counting
 pub mod Steps
+pub mod Standing
+pub mod Going
+pub mod Refilled

@@ -27,7 +27,7 @@ use Rattle.source_events.specs.Merge.{told, cut, Below, InOrder, Between, AllIn,
 use Rattle.source_events.specs.Report.{Mapped, AreLawful, events, all_events, reported, lesser, of_source, least_fault, report, runs_in, stop_in, stop_of, capture_events, port_events, notice_by}
 use Rattle.source_events.proofs.Family.{adds}
 use Rattle.source_events.proofs.Least.{AreSound, Later, least_none, others_later}
-use Rattle.source_events.proofs.Locking.{IsFirstOf, port_first}
+use Rattle.source_events.proofs.Locking.{first_end, port_first}
 use Rattle.source_events.proofs.LockSteps.{port_grows, unlocked}
 use Rattle.source_events.proofs.Merges.{told_append, below_told, below, below_append, below_weaker, cut_below, cut_append}
 use Rattle.source_events.proofs.Placing.{frames_between, rises_from}
@@ -40,12 +40,6 @@ use Rattle.source_merge.proofs.Framing.{rest_in_order}
 abbrev Found : Type 0
 Found = Option (Place × (Reason × Option ℕ))
 
--- where the events of a reading are: the port's notice, and then those of the runs
-record IsPlaced (V : Type 0) (notices : List (What V × Place)) (runs : List (List Cell)) (end : ℕ) : Type 0 where
-  start : ℕ
-  first : AllIn (start_of 0) start notices
-  between : RunsBetween start end runs
-
 between_le : (runs : List (List Cell)) (n k : ℕ) → RunsBetween n k runs → n ≤ k
 between_le [] n k b = b
 between_le (run ∷ runs) n k b = (let x = end_within n run b.0 in let y = between_le runs (end_of run) k b.1 in omega arith)
@@ -55,7 +49,7 @@ from_zero [] n k b = (let x : n ≤ k = b in let z : 0 ≤ k = omega arith in z)
 from_zero ([] ∷ runs) n k b = absurd b.0
 from_zero ((c ∷ run) ∷ runs) n k b = (((let z : 0 ≤ c.at = omega arith in z), b.0.1), b.1)
 
-rise_push : (u : List Placed) (at byte : ℕ) → BytesRise 0 at u → BytesRise 0 (at + 1) (u ++ byte_at at byte ∷ [])
+pub rise_push : (u : List Placed) (at byte : ℕ) → BytesRise 0 at u → BytesRise 0 (at + 1) (u ++ byte_at at byte ∷ [])
 rise_push u at byte r =
     subst (λ (l : List ℕ). Rise 0 (at + 1) l) (sym (map-append (λ (p : Placed). p.place.at) u (byte_at at byte ∷ [])))
     (rise_join (offsets_of u) (at ∷ []) 0 at (at + 1) r
@@ -117,20 +111,21 @@ module _ {M V : Type 0} (stands : M → List Placed → Type 0) (ss : List (Mapp
         port_events {V = V} mode next ≡ port_events mode u → IsAfter cells
     after cells e p =
         let f = port_first V mode next 0 (at + 1) (rise_push u at byte rise) in
-        let both : Rise f.start (at + 1) (offsets_in (cells_of old) ++ offsets_in cells) =
-        subst (λ (l : List ℕ). Rise f.start (at + 1) l)
+        let start = first_end 0 (port_events {V = V} mode next) in
+        let both : Rise start (at + 1) (offsets_in (cells_of old) ++ offsets_in cells) =
+        subst (λ (l : List ℕ). Rise start (at + 1) l)
         (ap offsets_in (frame_cells cells e) ∙ map-append (λ (c : Cell). c.at) (cells_of old) cells) f.rises in
-        let two = rise_split (offsets_in (cells_of old)) (offsets_in cells) f.start (at + 1) both in
-        let end = end_at f.start (offsets_in (cells_of old)) in
-        let between = frames_between old.frames f.start end two.0 in
+        let two = rise_split (offsets_in (cells_of old)) (offsets_in cells) start (at + 1) both in
+        let end = end_at start (offsets_in (cells_of old)) in
+        let between = frames_between old.frames start end two.0 in
         record {
           end = end;
-          between = from_zero (runs_in old) f.start end between;
+          between = from_zero (runs_in old) start end between;
           rises = rises_from cells end (at + 1) two.1;
           first =
-              notices_below (port_events mode u) f.start end
-              (subst (λ (l : List (What V × Place)). AllIn (start_of 0) f.start l) p f.first)
-              (between_le (runs_in old) f.start end between);
+              notices_below (port_events mode u) start end
+              (subst (λ (l : List (What V × Place)). AllIn (start_of 0) start l) p f.first)
+              (between_le (runs_in old) start end between);
         }
 
     pub taken_frame : (cells : List Cell) → (e : new.frames ≡ old.frames ++ cells ∷ []) → new.fault ≡ None →
@@ -221,10 +216,11 @@ module _ {M V : Type 0} (stands : M → List Placed → Type 0) (ss : List (Mapp
     all_below : Below at (capture_events ss mode u)
     all_below =
         let f = port_first V mode u 0 at rise in
-        let between = frames_between old.frames f.start at f.rises in
+        let start = first_end 0 (port_events {V = V} mode u) in
+        let between = frames_between old.frames start at f.rises in
         below_append at (told None (port_events mode u)) (all_events ss (runs_in old))
-        (notices_below (port_events mode u) f.start at f.first (between_le (runs_in old) f.start at between))
-        (below IsRunFrom end_of end_within id_of (events ss) (adds ss law) (runs_in old) [] f.start at between)
+        (notices_below (port_events mode u) start at f.first (between_le (runs_in old) start at between))
+        (below IsRunFrom end_of end_within id_of (events ss) (adds ss law) (runs_in old) [] start at between)
 
     pub taken_fault : (slots : List (Slot M)) (x : Fault) (given : List (Event V)) → given ≡ [] →
         x.at ≡ at → new.frames ≡ old.frames ++ [] → new.fault ≡ Some (record { at = x.at; half = x.half }, x.reason) →

@@ -1,6 +1,6 @@
 //! The reading of a capture with all its sources.
 
-ghost use Rattle.std.specs.Prelude.{◌≡◌, ◌+◌, ◌*◌, ◌^◌, ◌≤◌, true, IsTrue};
+ghost use Rattle.std.specs.Prelude.{◌≡◌, ◌+◌, ◌*◌, ◌^◌, ◌≤◌, true};
 ghost use Rattle.port_reader.specs.Reader.{is_live as is_port_live, skipped_by as skipped_by_port, tail_of};
 ghost use Rattle.source_events.specs.Plan.{is_sound};
 ghost use Rattle.source_machine.specs.Machine.{held_of, is_live as is_machine_live, skipped_by};
@@ -42,7 +42,7 @@ pub struct Engine {
     ghost size: { size_of counters ≤ 46 * count },
     ghost within: { count ≤ next },
     ghost limit: { next ≤ 2 ^ 36 + 1 },
-    ghost port_live: { IsTrue live → is_port_live port ≡ true },
+    ghost port_live: { live ≡ true → is_port_live port ≡ true },
     ghost lives: { LiveIf is_machine_live live slots.items } by { LiveIf-prop is_machine_live live slots.items },
 }
 
@@ -126,20 +126,7 @@ impl Engine {
         ensures fed { (u : List Placed) → Stands self.old u →
             Answers (plan_of self.old) out.new.items result u at byte }
     {
-        self.cells.clear();
-        let step = self.port.feed(at, byte, &mut self.cells);
-        let stop = take_step(
-            self.slots.as_mut_slice(),
-            &mut self.counters,
-            at,
-            step,
-            self.cells.as_slice(),
-            out,
-        );
-        self.count += 1;
-        self.next = at + 1;
-        self.live = stop.is_none();
-        flow_of(stop)
+        self.feed_step(at, &[byte], out).flow
     }
 
     /// Takes bytes from the front of a piece, the first of which is at this offset, up to the first byte at which `feed`

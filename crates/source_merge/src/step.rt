@@ -1,8 +1,9 @@
 //! A step of the port, and the sources in the frame that it ends.
 
-ghost use Rattle.std.specs.Prelude.{◌≡◌, ◌+◌, ◌*◌, ◌^◌, ◌<◌, ◌≤◌, ◌++◌, ◌∷◌, [], ℕ, List, length, None};
+ghost use Rattle.std.specs.Prelude.{◌≡◌, ◌+◌, ◌*◌, ◌^◌, ◌<◌, ◌≤◌, ◌++◌, ◌∷◌, [], ℕ, List, length, None, true};
 ghost use Rattle.arrayvec.specs.ArrayVec.{array_vec_len};
 ghost use Rattle.trace_values.specs.Placed.{Placed, byte_at};
+ghost use Rattle.deformatter.specs.Growth.{goes_on};
 ghost use Rattle.capture_plan.specs.declared.frames.FramesMode.{FramesMode};
 ghost use Rattle.port_reader.specs.Growth.{Answers};
 ghost use Rattle.port_reader.specs.Reading.{port_reading};
@@ -38,6 +39,7 @@ fn take_ended<M: Machine<Item = Packet>>(
     requires empty { out.old.items ≡ [] }
     ensures same { mapped_of M.reading slots.new ≡ mapped_of M.reading slots.old }
     ensures live { result ≡ None → AllLive M.live slots.new }
+    ensures going { result ≡ None → goes_on step ≡ true }
     ensures room { (n : ℕ) → HaveRoom M.held_units M.skipped_units n slots.old →
         HaveRoom M.held_units M.skipped_units (n + 30) slots.new }
     ensures count { bytes_counted counts.new ≤ bytes_counted counts.old + 15 }
@@ -87,6 +89,7 @@ pub fn take_step<M: Machine<Item = Packet>>(
     requires empty { out.old.items ≡ [] }
     ensures same { mapped_of M.reading slots.new ≡ mapped_of M.reading slots.old }
     ensures live { result ≡ None → AllLive M.live slots.new }
+    ensures going { result ≡ None → goes_on step ≡ true }
     ensures room { (n : ℕ) → HaveRoom M.held_units M.skipped_units n slots.old →
         HaveRoom M.held_units M.skipped_units (n + 30) slots.new }
     ensures size { size_of counters.new ≤ size_of counters.old + 46 }
