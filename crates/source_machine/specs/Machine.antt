@@ -4,12 +4,10 @@ use Rattle.trace_values.specs.Placed.{Placed}
 use Rattle.trace_values.specs.Stream.{Stream}
 use Rattle.capture_plan.specs.declared.packets.PacketsMode.{PacketsMode}
 use Rattle.capture_plan.specs.Modes.{packets_hunt}
-use Rattle.itm_grammar.specs.Proper.{IsProper}
 use Rattle.itm_codec.specs.Reading.{packets_in}
 use Rattle.itm_codec.specs.Decoder as itm
-use Rattle.stp_grammar.specs.Proper.{IsProperItem}
 use Rattle.source_events.specs.declared.packet.Packet.{Packet}
-use Rattle.source_events.specs.declared.packet.Packet.TheVariants.{Itm as ItmPacket, Stp as StpPacket}
+use Rattle.source_events.specs.declared.packet.Packet.TheVariants.{Itm as ItmPacket}
 use Rattle.source_events.specs.Packets.{stream_as}
 use Rattle.source_machine.specs.declared.machine.SourceMachine.{SourceMachine}
 
@@ -39,8 +37,3 @@ held_of m = itm.held_of m.decoder
 
 abbrev pub skipped_by : SourceMachine → ℕ
 skipped_by m = itm.skipped_by m.decoder
-
--- the numbers of a packet are in their ranges
-abbrev pub IsProperPacket : Packet → Type 0
-IsProperPacket (ItmPacket packet) = IsProper packet
-IsProperPacket (StpPacket item) = IsProperItem item

@@ -60,7 +60,8 @@ impl SourceMachine {
     ghost use Rattle.trace_values.specs.Placed.{Placed};
     ghost use Rattle.trace_values.specs.Stream.{StepFits, LocksAfter};
     ghost use Rattle.trace_values.specs.Block.{Takes, StopsFor, goes_on_after};
-    ghost use Rattle.source_machine.specs.Machine.{reading_of, itm_reading, Stands, is_live, held_of, skipped_by, IsProperPacket};
+    ghost use Rattle.source_events.specs.Fitting.{PacketFits};
+    ghost use Rattle.source_machine.specs.Machine.{reading_of, itm_reading, Stands, is_live, held_of, skipped_by};
 
     /// The machine of an ITM source before its first byte.
     pub fn itm(packets: PacketsMode) -> SourceMachine
@@ -90,7 +91,7 @@ impl SourceMachine {
         ensures takes { (u : List Placed) → Stands self.old u →
             Takes (reading_of self.old) (Stands self.new) u at piece.now result.bytes result.step }
         ensures live { is_live self.new ≡ goes_on_after result.step }
-        ensures fits { IfSome result.step (StepFits IsProperPacket) }
+        ensures fits { IfSome result.step (StepFits PacketFits) }
         ensures few { held_of self.new + skipped_by self.new ≤ held_of self.old + skipped_by self.old + 2 * result.bytes }
     {
         itm_block(self.decoder.feed_piece(at, piece))
@@ -98,7 +99,8 @@ impl SourceMachine {
 }
 
 impl Machine for SourceMachine {
-    ghost use Rattle.source_machine.specs.Machine.{reading_of, Stands, is_live, has_locked, held_of, skipped_by, IsProperPacket};
+    ghost use Rattle.source_events.specs.Fitting.{PacketFits};
+    ghost use Rattle.source_machine.specs.Machine.{reading_of, Stands, is_live, has_locked, held_of, skipped_by};
     ghost use Rattle.source_machine.specs.MachineLaws as laws;
 
     type Item = Packet;
@@ -115,9 +117,9 @@ impl Machine for SourceMachine {
 
     ghost skipped_units = { skipped_by };
 
-    ghost units_per_byte = { 1 };
+    ghost units_per_byte = { λ m. 1 };
 
-    ghost fits = { IsProperPacket };
+    ghost fits = { PacketFits };
 
     ghost shows = { laws.shows };
 

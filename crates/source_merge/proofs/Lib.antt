@@ -5,3 +5,7 @@ pub mod Taking
 pub mod Framing
 pub mod Fits
 pub mod Counting
+pub mod Steps
+pub mod Standing
+pub mod Going
+pub mod Refilled

@@ -7,11 +7,13 @@ use Rattle.port_reader.specs.Rising.{BytesRise, end_at}
 use Rattle.source_events.specs.declared.plan.Plan.{Plan}
 use Rattle.source_events.specs.Plan.{sources_by}
 use Rattle.source_events.specs.Report.{runs_in}
-use Rattle.source_events.specs.Tails.{port_counts_of}
 use Rattle.source_machine.specs.Machine as machine
+use Rattle.source_machine.specs.declared.machine.SourceMachine.{SourceMachine}
+use Rattle.source_merge.specs.declared.slot.Slot.{Slot}
+use Rattle.source_merge.specs.declared.counts.Counters.{Counters}
 use Rattle.source_merge.specs.declared.engine.Engine.{Engine}
 use Rattle.source_merge.specs.Routing.{mapped_of, AllStand}
-use Rattle.source_merge.specs.Counting.{HasBytes, HasItems}
+use Rattle.source_merge.specs.Counting.{HasCounted}
 use Rattle.source_merge.specs.Answering.{port_of, report_of, fault_of}
 
 -- what it reads by
@@ -26,12 +28,10 @@ is_live engine = engine.live
 abbrev pub next_of : Engine → ℕ
 next_of engine = engine.next
 
--- its machines stand for the lists of their sources, and it has counted what came
-pub record Keeps (engine : Engine) (u : List Placed) : Type 0 where
-  pub slots : AllStand machine.Stands engine.slots.items (runs_in (port_of engine.plan u))
-  pub bytes : HasBytes engine.counts.bytes (runs_in (port_of engine.plan u))
-  pub items : HasItems engine.counts.items (report_of engine.plan u)
-  pub port : engine.counts.port ≡ port_counts_of engine.plan u
+-- these machines stand for the lists of their sources, and these counters have counted what came
+pub record Keeps (plan : Plan) (slots : List (Slot SourceMachine)) (counters : Counters) (u : List Placed) : Type 0 where
+  pub stand : AllStand machine.Stands slots (runs_in (port_of plan u))
+  pub counted : HasCounted counters (port_of plan u) (report_of plan u)
 
 -- It has read these bytes, whose offsets rise: its port stands for them, it is live exactly where their report has no
 -- fault, and while it is live it keeps what the report goes on with.
@@ -43,4 +43,4 @@ pub record Stands (engine : Engine) (u : List Placed) : Type 0 where
   pub next : engine.next ≡ end_at 0 (offsets_of u)
   pub count : engine.count ≡ length u
   pub live : engine.live ≡ is_none (fault_of engine.plan u)
-  pub going : engine.live ≡ true → Keeps engine u
+  pub going : engine.live ≡ true → Keeps engine.plan engine.slots.items engine.counters u

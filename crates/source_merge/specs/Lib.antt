@@ -3,4 +3,5 @@ pub mod Routing
 pub mod Counting
 pub mod Answering
 pub mod Stepping
+pub mod Ending
 pub mod Engine

@@ -7,6 +7,7 @@ mod flow;
 mod router;
 mod slot;
 mod step;
+mod tails;
 
 pub use engine::Engine;
 pub use flow::{Fed, Flow};

@@ -63,7 +63,7 @@ fn put_raw(source: SourceId, run: &[Cell], out: &mut Events)
 }
 
 /// The index of the source of this ID among the mapped ones.
-fn find<M: Machine<Item = Packet>>(slots: &[Slot<M>], id: SourceId) -> Option<usize>
+pub fn find<M: Machine<Item = Packet>>(slots: &[Slot<M>], id: SourceId) -> Option<usize>
     ensures { result ≡ position (λ s. s.id == id) slots.now }
 {
     slots.iter().position(|slot| slot.id == id)

@@ -10,7 +10,9 @@ ghost use Rattle.source_events.specs.Fitting.{AllFit};
 ghost use Rattle.source_merge.specs.Feeding.{Feeds, IsEarly, step_fault};
 
 use arrayvec::ArrayVec;
+use capture_plan::PacketsMode;
 use source_events::{Event, Packet, What};
+use source_machine::SourceMachine;
 use trace_values::{Cell, Fault, Machine, SourceId, Step};
 
 /// How many events a list of them has room for. One byte of a capture ends at most one frame, of 15 cells, with at most
@@ -25,6 +27,16 @@ pub type Events = ArrayVec<Event<Packet>, EVENTS>;
 pub struct Slot<M> {
     pub id: SourceId,
     pub machine: M,
+}
+
+/// The default slot only fills the unused places of a buffer.
+impl Default for Slot<SourceMachine> {
+    fn default() -> Slot<SourceMachine> {
+        Slot {
+            id: SourceId::default(),
+            machine: SourceMachine::itm(PacketsMode::Aligned),
+        }
+    }
 }
 
 /// Notes what a step at this offset gives, and answers the fault that it tells.
