@@ -12,3 +12,4 @@ pub mod CountText
 pub mod NoteText
 pub mod Digits
 pub mod Pairs
+pub mod Rows

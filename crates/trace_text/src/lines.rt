@@ -1,6 +1,7 @@
 //! The lines of what the sources and the port gave.
 
 ghost use Rattle.std.specs.Prelude.{◌≡◌, ◌+◌, ◌≤◌, ◌++◌, ◌/◌, false, length, take, codes, decimal};
+ghost use Rattle.hex.specs.Hex.{encode_lower};
 ghost use Rattle.itm_grammar.specs.Proper.{IsProper};
 ghost use Rattle.trace_text.specs.Digits.{hundreds_of};
 ghost use Rattle.trace_text.specs.Printable.{IsProperPacket, IsProperWhat, SuitsPacket, IsPrintable};
@@ -87,6 +88,19 @@ fn put_packet(room: &mut [u8], from: usize, packet: &Packet) -> usize
     }
 }
 
+/// Puts the bytes of a run: `raw`, and two digits for each.
+#[inline]
+fn put_raw(room: &mut [u8], from: usize, bytes: &[u8]) -> usize
+    requires few { length bytes.now ≤ 15 }
+    requires room { from + ITEM_ROOM ≤ length room.old }
+    ensures text { take result room.new ≡ take from room.old ++ (codes "raw " ++ encode_lower bytes.now) }
+    ensures same { length room.new ≡ length room.old }
+    ensures end { result ≤ from + ITEM_ROOM }
+{
+    let from = put_bytes(room, from, b"raw ");
+    put_digits(room, from, bytes)
+}
+
 /// Puts what was given.
 #[inline]
 fn put_what(room: &mut [u8], from: usize, what: &What<Packet>) -> usize
@@ -102,10 +116,7 @@ fn put_what(room: &mut [u8], from: usize, what: &What<Packet>) -> usize
             let from = put_bytes(room, from, b"locked ");
             put_number(room, from, *skipped)
         }
-        What::Raw(bytes) => {
-            let from = put_bytes(room, from, b"raw ");
-            put_digits(room, from, bytes.as_slice())
-        }
+        What::Raw(bytes) => put_raw(room, from, bytes.as_slice()),
         What::Trigger(byte) => {
             let from = put_bytes(room, from, b"trigger ");
             put_digits(room, from, &[*byte])
