@@ -8,3 +8,8 @@ pub mod Least
 pub mod Settling
 pub mod Blocks
 pub mod LockSteps
+pub mod RunNumbers
+pub mod Growth
+pub mod Lawful
+pub mod Captures
+pub mod Merging

@@ -3,3 +3,5 @@ pub mod Merge
 pub mod Report
 pub mod Packets
 pub mod Plan
+pub mod Tails
+pub mod Fitting

@@ -6,13 +6,17 @@ mod event;
 pub mod laws;
 mod packet;
 mod plan;
+mod port_mode;
 mod run_bytes;
 mod runs;
 mod source_ids;
+mod tails;
 
 pub use event::{Event, Stop, What};
 pub use packet::Packet;
 pub use plan::{MAPPED_SOURCES, Plan, SourceKind};
+pub use port_mode::PortMode;
 pub use run_bytes::RunBytes;
 pub use runs::run_length;
 pub use source_ids::{KIND_SOURCES, SourceIds};
+pub use tails::{PortCounts, SourceTail, SourceTails, Tails};
