@@ -16,7 +16,7 @@ use stp_grammar::packet::Order;
 use trace_values::SourceId;
 
 /// The greatest limit, and the limit where none is given: how many bytes of a capture are read at most.
-pub const GREATEST_LIMIT: u64 = 68719476736;
+pub const GREATEST_LIMIT: u64 = 1 << 36;
 
 /// The action that a word names.
 #[derive(Clone, Copy, Debug, PartialEq, Eq, Drop)]
