@@ -5,14 +5,17 @@ use Rattle.clap.specs.Faults.{fault_of}
 use Rattle.clap.specs.Kinds.{Kinds}
 use Rattle.clap.specs.declared.builder.ArgAction.TheVariants.{Set}
 use Rattle.capture_words.specs.declared.option.CommandOption.{CommandOption}
-use Rattle.capture_words.specs.declared.option.CommandOption.TheVariants.{Frames, Packets, Itm, Id, Limit}
+use Rattle.capture_words.specs.declared.option.CommandOption.TheVariants.{Frames, Packets, Itm, Stp, StpOrder, Id, Only, Limit}
 
--- the name of an option, behind the two dashes
+-- the name of an option, after the two dashes
 abbrev pub option_name : CommandOption → Text
 option_name Frames = codes "frames"
 option_name Packets = codes "packets"
 option_name Itm = codes "itm"
+option_name Stp = codes "stp"
+option_name StpOrder = codes "stp-order"
 option_name Id = codes "id"
+option_name Only = codes "only"
 option_name Limit = codes "limit"
 
 -- an option has one value, and stands once at most
@@ -24,7 +27,7 @@ abbrev pub action_rule : Rule
 action_rule = record (new_rule (codes "action")) { required = true; action = Some Set }
 
 abbrev pub all_options : List CommandOption
-all_options = Frames ∷ Packets ∷ Itm ∷ Id ∷ Limit ∷ []
+all_options = Frames ∷ Packets ∷ Itm ∷ Stp ∷ StpOrder ∷ Id ∷ Only ∷ Limit ∷ []
 
 abbrev pub with_options : List CommandOption → App → App
 with_options [] app = app

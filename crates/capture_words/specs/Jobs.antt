@@ -1,34 +1,18 @@
 -- The job of the entries, or the first fault.
-use Rattle.std.specs.Prelude.{ℕ, List, Bool, false, Option, Some, None, Result, Ok, Err, nat_eq, if◌then◌else◌}
+use Rattle.std.specs.Prelude.{◌≡◌, ℕ, List, [], ◌∷◌, true, Option, Some, None, Result, Ok, Err, ◌==◌, if◌then◌else◌, option_map}
 use Rattle.clap.specs.Words.{Row}
 use Rattle.capture_plan.specs.declared.frames.FramesMode.{FramesMode}
-use Rattle.capture_plan.specs.declared.frames.FramesMode.TheVariants.{Bare}
-use Rattle.capture_plan.specs.declared.packets.PacketsMode.{PacketsMode}
-use Rattle.capture_words.specs.Values.{action_in, frames_in, packets_in, itm_in, id_in, limit_in}
+use Rattle.source_events.specs.Plan.{is_sound}
+use Rattle.source_events.specs.declared.plan.Plan.{Plan}
+use Rattle.capture_words.specs.Values.{action_in, frames_in, packets_in, itm_in, stp_in, order_in, id_in, only_in, limit_in}
 use Rattle.capture_words.specs.declared.job.Task.{Task}
 use Rattle.capture_words.specs.declared.job.Task.TheVariants.{Show, Split, Check}
 use Rattle.capture_words.specs.declared.job.Job.{Job}
+use Rattle.capture_words.specs.declared.settings.Settings.{Settings}
 use Rattle.capture_words.specs.declared.usage.UsageFault.{UsageFault}
-use Rattle.capture_words.specs.declared.usage.UsageFault.TheVariants.{SplitNeedsId, Unbuilt}
+use Rattle.capture_words.specs.declared.usage.UsageFault.TheVariants.{SplitNeedsId, MappedTwice}
 use Rattle.capture_words.specs.declared.values.ActionName.{ActionName}
 use Rattle.capture_words.specs.declared.values.ActionName.TheVariants.{Show as ShowName, Split as SplitName, Check as CheckName}
-
-abbrev pub is_source_one : Option ℕ → Bool
-is_source_one None = false
-is_source_one (Some n) = nat_eq n 1
-
--- `show` is built for a bare stream of source 1 alone
-abbrev pub show_with : FramesMode → PacketsMode → Option ℕ → Result Task UsageFault
-show_with Bare packets itm = if is_source_one itm then Ok (Show packets) else Err Unbuilt
-show_with frames packets itm = Err Unbuilt
-
--- the task of an action with what it needs: `split` needs an ID, and `check` is built without an ITM alone
-abbrev pub task_with : ActionName → FramesMode → PacketsMode → Option ℕ → Option ℕ → Result Task UsageFault
-task_with ShowName frames packets itm id = show_with frames packets itm
-task_with SplitName frames packets itm None = Err SplitNeedsId
-task_with SplitName frames packets itm (Some id) = Ok (Split frames id)
-task_with CheckName frames packets (Some n) id = Err Unbuilt
-task_with CheckName frames packets None id = Ok (Check frames)
 
 infixr 10 ◌>>=◌
 -- a fault, or else what is made of the value
@@ -36,15 +20,77 @@ abbrev ◌>>=◌ : {A B : Type 0} → Result A UsageFault → (A → Result B Us
 Err fault >>= next = Err fault
 Ok value >>= next = next value
 
+-- what all options say, or the first fault in the order of the command
+abbrev pub settings_in : List Row → Result Settings UsageFault
+settings_in rows =
+    frames_in rows >>= (λ frames.
+    packets_in rows >>= (λ packets.
+    itm_in rows >>= (λ itm.
+    stp_in rows >>= (λ stp.
+    order_in rows >>= (λ order.
+    id_in rows >>= (λ id.
+    only_in rows >>= (λ only.
+    limit_in rows >>= (λ limit.
+    Ok (record {
+      frames = frames;
+      packets = packets;
+      itm = itm;
+      stp = stp;
+      order = order;
+      id = id;
+      only = only;
+      limit = limit;
+    })))))))))
+
+-- no ID, or one
+abbrev pub ids_of : Option ℕ → List ℕ
+ids_of None = []
+ids_of (Some x) = x ∷ []
+
+-- how a capture is read
+abbrev pub plan_of : Settings → Plan
+plan_of s = record {
+  frames = s.frames;
+  packets = s.packets;
+  itm = ids_of s.itm;
+  stp = ids_of s.stp;
+  order = s.order;
+}
+
+-- the ID that is mapped twice: to an ITM and to an STP source
+abbrev pub mapped_twice : Option ℕ → Option ℕ → Option ℕ
+mapped_twice (Some x) (Some y) = if x == y then Some x else None
+mapped_twice itm stp = None
+
+abbrev pub fault_or : {A : Type 0} → Option UsageFault → A → Result A UsageFault
+fault_or (Some fault) value = Err fault
+fault_or None value = Ok value
+
+abbrev pub plan_with : Settings → Result Plan UsageFault
+plan_with s = fault_or (option_map MappedTwice (mapped_twice s.itm s.stp)) (plan_of s)
+
+-- `split` needs an ID, and maps none
+abbrev pub split_with : FramesMode → Option ℕ → Result Task UsageFault
+split_with frames None = Err SplitNeedsId
+split_with frames (Some id) = Ok (Split frames id)
+
+-- the task of an action with what it needs of the options
+abbrev pub task_with : ActionName → Settings → Result Task UsageFault
+task_with ShowName s = plan_with s >>= (λ plan. Ok (Show plan s.only))
+task_with SplitName s = split_with s.frames s.id
+task_with CheckName s = plan_with s >>= (λ plan. Ok (Check plan))
+
 -- The first fault of the action's name, of the options' values in the order of the command, and of what the
 -- action needs; and where there is none, the job. An option that the action doesn't use has no effect.
 abbrev pub job_of : List Row → Result Job UsageFault
 job_of rows =
     action_in rows >>= (λ name.
-    frames_in rows >>= (λ frames.
-    packets_in rows >>= (λ packets.
-    itm_in rows >>= (λ itm.
-    id_in rows >>= (λ id.
-    limit_in rows >>= (λ limit.
-    task_with name frames packets itm id >>= (λ task.
-    Ok (record { task = task; limit = limit }))))))))
+    settings_in rows >>= (λ settings.
+    task_with name settings >>= (λ task.
+    Ok (record { task = task; limit = settings.limit }))))
+
+-- the plan of a task is sound
+abbrev pub HasSoundPlan : Task → Type 0
+HasSoundPlan (Show plan only) = is_sound plan ≡ true
+HasSoundPlan (Split frames id) = Unit {0}
+HasSoundPlan (Check plan) = is_sound plan ≡ true

@@ -1,5 +1,6 @@
 -- What the texts of the action and of the options say.
-use Rattle.std.specs.Prelude.{ℕ, ◌^◌, List, codes, Option, Some, None, Result, nat_le, Bool, ◌&&◌, if◌then◌else◌, ok_or, option_and_then, option_map, decimal}
+use Rattle.std.specs.Prelude.{ℕ, ◌^◌, List, codes, Option, Some, None, Result, nat_le, Bool, ◌&&◌, if◌then◌else◌, ok_or, option_and_then, option_map, decimal, nat_eq, length, drop}
+use Rattle.std.specs.List.{starts_with}
 use Rattle.std.specs.Str.{bytes_eq}
 use Rattle.std.specs.Str.Parse.{digits_value}
 use Rattle.clap.specs.Words.{Text, Row, first_of}
@@ -8,9 +9,15 @@ use Rattle.capture_plan.specs.declared.frames.FramesMode.{FramesMode}
 use Rattle.capture_plan.specs.declared.frames.FramesMode.TheVariants.{Hunt as FramesHunt}
 use Rattle.capture_plan.specs.declared.packets.PacketsMode.{PacketsMode}
 use Rattle.capture_plan.specs.declared.packets.PacketsMode.TheVariants.{Hunt as PacketsHunt}
+use Rattle.stp_grammar.specs.declared.packet.Order.{Order}
+use Rattle.stp_grammar.specs.declared.packet.Order.TheVariants.{Msn, Lsn}
+use Rattle.item_tap.specs.declared.choice.Choice.{Choice}
+use Rattle.item_tap.specs.declared.choice.Choice.TheVariants.{OfKind, Source, Port}
+use Rattle.item_tap.specs.declared.choice.Kind.{Kind}
+use Rattle.item_tap.specs.declared.choice.Kind.TheVariants.{Itm as ItmKind, Dwt as DwtKind, Stp as StpKind, Raw as RawKind, Trigger as TriggerKind}
 use Rattle.capture_words.specs.Command.{option_name}
 use Rattle.capture_words.specs.declared.option.CommandOption.{CommandOption}
-use Rattle.capture_words.specs.declared.option.CommandOption.TheVariants.{Frames, Packets, Itm, Id, Limit}
+use Rattle.capture_words.specs.declared.option.CommandOption.TheVariants.{Frames, Packets, Itm, Stp, StpOrder, Id, Only, Limit}
 use Rattle.capture_words.specs.declared.usage.UsageFault.{UsageFault}
 use Rattle.capture_words.specs.declared.usage.UsageFault.TheVariants.{UnknownAction, BadValue}
 use Rattle.capture_words.specs.declared.values.ActionName.{ActionName}
@@ -34,6 +41,42 @@ abbrev pub number_named : ℕ → ℕ → Text → Option ℕ
 number_named least greatest text =
     if is_number least greatest text (digits_value 10 text) then Some (digits_value 10 text) else None
 
+-- the order of nibbles that a text names
+abbrev pub order_named : Text → Option Order
+order_named text =
+    if bytes_eq text (codes "msn") then Some Msn else if bytes_eq text (codes "lsn") then Some Lsn else None
+
+-- the kind of events that a text names
+abbrev pub kind_named : Text → Option Kind
+kind_named text =
+    if bytes_eq text (codes "itm") then Some ItmKind
+    else if bytes_eq text (codes "dwt") then Some DwtKind
+    else if bytes_eq text (codes "stp") then Some StpKind
+    else if bytes_eq text (codes "raw") then Some RawKind
+    else if bytes_eq text (codes "trigger") then Some TriggerKind
+    else None
+
+-- what comes after this front of a text, if the text begins with it
+abbrev pub text_after : Text → Text → Option Text
+text_after front text =
+    if starts_with nat_eq text front then Some (drop (length front) text) else None
+
+-- the number from `least` to `greatest` that comes after this front of a text
+abbrev pub number_after : Text → ℕ → ℕ → Text → Option ℕ
+number_after front least greatest text = option_and_then (number_named least greatest) (text_after front text)
+
+-- the first of two values that there is
+abbrev pub or_else : {T : Type 0} → Option T → Option T → Option T
+or_else (Some x) other = Some x
+or_else None other = other
+
+-- the choice of events that a text names: a kind, a source from 1 to 126, or a stimulus port from 0 to 31
+abbrev pub choice_named : Text → Option Choice
+choice_named text =
+    or_else (option_map OfKind (kind_named text))
+    (or_else (option_map Source (number_after (codes "id=") 1 126 text))
+    (option_map Port (number_after (codes "port=") 0 31 text)))
+
 -- what an option says: its default where it is absent, and else what its text names. Where that is nothing, its
 -- value is bad
 abbrev pub value_of : {T : Type 0} → T → (Text → Option T) → Option Text → Option T
@@ -53,16 +96,30 @@ frames_in = option_in Frames FramesHunt frames_named
 abbrev pub packets_in : List Row → Result PacketsMode UsageFault
 packets_in = option_in Packets PacketsHunt packets_named
 
--- the ID of an ITM is 1 to 111; there is none by default
-abbrev pub itm_in : List Row → Result (Option ℕ) UsageFault
-itm_in = option_in Itm None (λ text. option_map Some (number_named 1 111 text))
+-- an option whose value is an ID within these bounds; there is none by default
+abbrev pub id_given : CommandOption → ℕ → ℕ → List Row → Result (Option ℕ) UsageFault
+id_given option least greatest = option_in option None (λ text. option_map Some (number_named least greatest text))
 
--- the ID that is taken is 0 to 126; there is none by default
+-- the ID of an ITM source and that of an STP source are 1 to 111
+abbrev pub itm_in : List Row → Result (Option ℕ) UsageFault
+itm_in = id_given Itm 1 111
+
+abbrev pub stp_in : List Row → Result (Option ℕ) UsageFault
+stp_in = id_given Stp 1 111
+
+abbrev pub order_in : List Row → Result Order UsageFault
+order_in = option_in StpOrder Msn order_named
+
+-- the ID that is taken is 0 to 126
 abbrev pub id_in : List Row → Result (Option ℕ) UsageFault
-id_in = option_in Id None (λ text. option_map Some (number_named 0 126 text))
+id_in = id_given Id 0 126
+
+-- which events are listed; all are by default
+abbrev pub only_in : List Row → Result (Option Choice) UsageFault
+only_in = option_in Only None (λ text. option_map Some (choice_named text))
 
 abbrev pub greatest_limit : ℕ
-greatest_limit = 2 ^ 24
+greatest_limit = 2 ^ 36
 
 abbrev pub limit_in : List Row → Result ℕ UsageFault
 limit_in = option_in Limit greatest_limit (number_named 1 greatest_limit)

@@ -8,10 +8,9 @@ use crate::option::CommandOption;
 use clap::{Arg, ArgAction, Command};
 use std::alloc::{AllocError, Global};
 
-/// What `--help` says below the options: how a capture is given, and what `show` needs so far.
+/// What `--help` says below the options: how a capture is given.
 const CAPTURE_HELP: &str =
-    "The capture is read from standard input, as in: ./lipparoy check < CAPTURE
-So far show lists a capture without frames: show --frames bare --itm 1";
+    "The capture is read from standard input, as in: ./lipparoy check < CAPTURE";
 
 /// The command with this option besides. It takes one value, and stands once at most.
 fn with_option<'a>(
@@ -34,9 +33,7 @@ fn with_action<'a>(alloc: Global) -> Result<Command<'a>, AllocError>
     ensures { IfOk result (λ c. app_of c ≡ with_rule (new_app (codes "trace")) action_rule) }
 {
     let action = Arg::new(alloc, "action")
-        .help(
-            "show lists packets, split writes the bytes of one source, check counts those of each",
-        )
+        .help("show lists events, split writes the bytes of one source, check counts those of each")
         .required(true)
         .action(ArgAction::Set);
     Command::new(alloc, "trace")
@@ -52,6 +49,9 @@ pub fn trace_command<'a>(alloc: Global) -> Result<Command<'a>, AllocError>
     let command = with_option(alloc, command, CommandOption::Frames)?;
     let command = with_option(alloc, command, CommandOption::Packets)?;
     let command = with_option(alloc, command, CommandOption::Itm)?;
+    let command = with_option(alloc, command, CommandOption::Stp)?;
+    let command = with_option(alloc, command, CommandOption::StpOrder)?;
     let command = with_option(alloc, command, CommandOption::Id)?;
+    let command = with_option(alloc, command, CommandOption::Only)?;
     with_option(alloc, command, CommandOption::Limit)
 }

@@ -1,21 +1,30 @@
 //! The job of the entries.
 
-ghost use Rattle.std.specs.Prelude.{◌≡◌, ◌≤◌, IfOk};
+ghost use Rattle.std.specs.Prelude.{◌≡◌, ◌≤◌, true, IfOk, IfSome};
 ghost use Rattle.capture_words.specs.declared.values.TheConstants.{GREATEST_LIMIT};
 ghost use Rattle.clap.specs.Words.{rows_of, found_of};
-ghost use Rattle.capture_words.specs.Jobs.{task_with, job_of, is_source_one};
+ghost use Rattle.source_events.specs.Plan.{is_sound};
+ghost use Rattle.capture_words.specs.Jobs.{ids_of, mapped_twice, plan_with, task_with, job_of, HasSoundPlan};
 
+use crate::settings::{Settings, settings_in};
 use crate::usage::UsageFault;
-use crate::values::{ActionName, action_in, frames_in, id_in, itm_in, limit_in, packets_in};
-use capture_plan::{FramesMode, PacketsMode};
+use crate::values::{ActionName, action_in};
+use capture_plan::FramesMode;
 use clap::ArgMatches;
+use item_tap::Choice;
+use source_events::{Plan, SourceIds};
 use trace_values::SourceId;
 
 /// What is done with a capture.
-#[derive(Clone, Copy, Debug, PartialEq, Eq, Drop)]
+#[derive(Debug, Drop)]
 pub enum Task {
-    /// A listing of a bare stream of ITM packets of source 1, which is read so.
-    Show(PacketsMode),
+    /// A listing of what all sources give.
+    Show {
+        /// How the capture is read.
+        plan: Plan,
+        /// Which events are listed; all where it is absent.
+        only: Option<Choice>,
+    },
     /// The bytes of one source, taken out of the frames of a port.
     Split {
         /// Where the reading of the port begins.
@@ -23,12 +32,12 @@ pub enum Task {
         /// The source.
         id: SourceId,
     },
-    /// The port is read, and what stands in it is told.
-    Check(FramesMode),
+    /// The capture is read so, and what is in it is counted.
+    Check(Plan),
 }
 
 /// What the words ask for.
-#[derive(Clone, Copy, Debug, PartialEq, Eq, Drop)]
+#[derive(Debug, Drop)]
 pub struct Job {
     /// What is done.
     pub task: Task,
@@ -36,39 +45,72 @@ pub struct Job {
     pub limit: u64,
 }
 
-/// The one source that `show` reads yet.
-fn is_source_one(itm: Option<SourceId>) -> bool
-    ensures { result ≡ is_source_one itm }
+/// No ID, or one.
+fn ids_of(id: Option<SourceId>) -> SourceIds
+    ensures { result ≡ ids_of id }
 {
-    match itm {
-        Some(id) => id.number() == 1,
-        None => false,
+    let mut ids = SourceIds::new();
+    if let Some(id) = id {
+        ids.push(id);
+    }
+    ids
+}
+
+/// The ID that both options map.
+fn mapped_twice(itm: Option<SourceId>, stp: Option<SourceId>) -> Option<SourceId>
+    ensures { result ≡ mapped_twice itm stp }
+{
+    let (Some(itm), Some(stp)) = (itm, stp) else {
+        return None;
+    };
+    if itm == stp { Some(itm) } else { None }
+}
+
+/// How the capture is read, or that an ID is mapped twice.
+fn plan_with(settings: &Settings) -> Result<Plan, UsageFault>
+    requires itm { IfSome settings.now.itm (λ n. (1 ≤ n) × (n ≤ 111)) }
+    requires stp { IfSome settings.now.stp (λ n. (1 ≤ n) × (n ≤ 111)) }
+    ensures plan { result ≡ plan_with settings.now }
+    ensures sound { IfOk result (λ plan. is_sound plan ≡ true) }
+{
+    match mapped_twice(settings.itm, settings.stp) {
+        Some(id) => Err(UsageFault::MappedTwice(id)),
+        None => Ok(Plan {
+            frames: settings.frames,
+            packets: settings.packets,
+            itm: ids_of(settings.itm),
+            stp: ids_of(settings.stp),
+            order: settings.order,
+        }),
     }
 }
 
 /// The task of an action, with what it needs of the options.
-fn task_with(
-    name: ActionName,
-    frames: FramesMode,
-    packets: PacketsMode,
-    itm: Option<SourceId>,
-    id: Option<SourceId>,
-) -> Result<Task, UsageFault>
-    ensures { result ≡ task_with name frames packets itm id }
+fn task_with(name: ActionName, settings: &Settings) -> Result<Task, UsageFault>
+    requires itm { IfSome settings.now.itm (λ n. (1 ≤ n) × (n ≤ 111)) }
+    requires stp { IfSome settings.now.stp (λ n. (1 ≤ n) × (n ≤ 111)) }
+    ensures task { result ≡ task_with name settings.now }
+    ensures sound { IfOk result HasSoundPlan }
 {
     match name {
-        ActionName::Show if frames == FramesMode::Bare && is_source_one(itm) => {
-            Ok(Task::Show(packets))
+        ActionName::Show => {
+            let plan = plan_with(settings)?;
+            Ok(Task::Show {
+                plan,
+                only: settings.only,
+            })
         }
-        ActionName::Show => Err(UsageFault::Unbuilt),
-        ActionName::Split => match id {
-            Some(id) => Ok(Task::Split { frames, id }),
+        ActionName::Split => match settings.id {
+            Some(id) => Ok(Task::Split {
+                frames: settings.frames,
+                id,
+            }),
             None => Err(UsageFault::SplitNeedsId),
         },
-        ActionName::Check => match itm {
-            Some(_) => Err(UsageFault::Unbuilt),
-            None => Ok(Task::Check(frames)),
-        },
+        ActionName::Check => {
+            let plan = plan_with(settings)?;
+            Ok(Task::Check(plan))
+        }
     }
 }
 
@@ -76,13 +118,13 @@ fn task_with(
 pub fn job_of(matches: &ArgMatches<'_>) -> Result<Job, UsageFault>
     ensures job { result ≡ job_of (rows_of (found_of matches.now)) }
     ensures limit { IfOk result (λ job. (1 ≤ job.limit) × (job.limit ≤ GREATEST_LIMIT)) }
+    ensures plan { IfOk result (λ job. HasSoundPlan job.task) }
 {
     let name = action_in(matches)?;
-    let frames = frames_in(matches)?;
-    let packets = packets_in(matches)?;
-    let itm = itm_in(matches)?;
-    let id = id_in(matches)?;
-    let limit = limit_in(matches)?;
-    let task = task_with(name, frames, packets, itm, id)?;
-    Ok(Job { task, limit })
+    let settings = settings_in(matches)?;
+    let task = task_with(name, &settings)?;
+    Ok(Job {
+        task,
+        limit: settings.limit,
+    })
 }

@@ -1,6 +1,7 @@
 //! The words of the command, read by `clap`: an action and options, and the job that they ask for.
 #![tactic(auto)]
 
+mod choices;
 mod command;
 mod entries;
 mod job;
@@ -9,6 +10,7 @@ mod number;
 mod option;
 mod reading;
 mod rows;
+mod settings;
 #[cfg(test)]
 mod tests;
 mod usage;
@@ -17,5 +19,5 @@ mod values;
 pub use job::{Job, Task};
 pub use option::CommandOption;
 pub use reading::{Asked, read_words};
-pub use usage::UsageFault;
+pub use usage::{LINE_ROOM, UsageFault};
 pub use values::GREATEST_LIMIT;

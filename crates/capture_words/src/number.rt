@@ -30,7 +30,8 @@ pub fn number_named(least: u64, greatest: u64, text: &str) -> Option<u64>
 /// The source whose ID is such a number.
 pub fn id_named(least: u8, greatest: u8, text: &str) -> Option<SourceId>
     requires { greatest ≤ 126 }
-    ensures { result ≡ number_named least greatest text.now }
+    ensures value { result ≡ number_named least greatest text.now }
+    ensures in_range { IfSome result (λ n. (least ≤ n) × (n ≤ greatest)) }
 {
     match number_named(u64::from(least), u64::from(greatest), text) {
         Some(number) => SourceId::new(number as u8),

@@ -5,6 +5,7 @@ ghost use Rattle.capture_words.specs.declared.job.Job.{Job};
 ghost use Rattle.capture_words.specs.declared.values.TheConstants.{GREATEST_LIMIT};
 ghost use Rattle.std.specs.String.{string_bytes};
 ghost use Rattle.capture_words.specs.Calls.{AskedBy};
+ghost use Rattle.capture_words.specs.Jobs.{HasSoundPlan};
 
 use crate::entries::entries_of;
 use crate::job::{Job, job_of};
@@ -13,7 +14,7 @@ use clap::error::ErrorKind;
 use std::alloc::{AllocError, Global};
 
 /// What the words of a call ask for.
-#[derive(Debug, PartialEq, Eq, Drop)]
+#[derive(Debug, Drop)]
 pub enum Asked {
     /// A job.
     Do(Job),
@@ -37,10 +38,11 @@ fn with_name<'a>(alloc: Global, words: &'a [String]) -> Result<Vec<&'a str>, All
     Ok(all)
 }
 
-/// What the words behind the program's name ask for.
+/// What the words after the program's name ask for.
 pub fn read_words(alloc: Global, words: &[String]) -> Asked
     ensures asked { AskedBy (map string_bytes words.now) result }
     ensures limit { (job : Job) → result ≡ Asked.Do job → (1 ≤ job.limit) × (job.limit ≤ GREATEST_LIMIT) }
+    ensures plan { (job : Job) → result ≡ Asked.Do job → HasSoundPlan job.task }
 {
     let Ok(all) = with_name(alloc, words) else {
         return Asked::NoMemory;

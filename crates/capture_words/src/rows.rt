@@ -1,35 +1,56 @@
 //! Worked rows: words, and what they ask for, which the checker computes.
 
-ghost use Rattle.std.specs.Prelude.{codes};
+ghost use Rattle.std.specs.Prelude.{codes, [], ◌∷◌, None, Some};
 ghost use Rattle.clap.specs.declared.error.kind.ErrorKind.TheVariants.{ArgumentConflict, DisplayHelp, InvalidValue, MissingRequiredArgument, UnknownArgument};
 ghost use Rattle.capture_plan.specs.declared.frames.FramesMode.TheVariants.{Hunt as FramesHunt, Aligned as FramesAligned, Bare};
 ghost use Rattle.capture_plan.specs.declared.packets.PacketsMode.TheVariants.{Hunt as PacketsHunt, Aligned as PacketsAligned};
-ghost use Rattle.capture_words.specs.Rows.{Does, Faults, Refuses};
+ghost use Rattle.stp_grammar.specs.declared.packet.Order.TheVariants.{Msn, Lsn};
+ghost use Rattle.item_tap.specs.declared.choice.Choice.TheVariants.{OfKind, Source, Port};
+ghost use Rattle.item_tap.specs.declared.choice.Kind.TheVariants.{Itm as ItmKind, Dwt as DwtKind, Stp as StpKind, Raw as RawKind, Trigger as TriggerKind};
+ghost use Rattle.capture_words.specs.Rows.{Does, Lists, Faults, Refuses, planned};
 ghost use Rattle.capture_words.specs.declared.job.Task.TheVariants.{Show, Split, Check};
-ghost use Rattle.capture_words.specs.declared.option.CommandOption.TheVariants.{Frames, Packets, Itm, Id, Limit};
-ghost use Rattle.capture_words.specs.declared.usage.UsageFault.TheVariants.{UnknownAction, BadValue, SplitNeedsId, Unbuilt};
+ghost use Rattle.capture_words.specs.declared.option.CommandOption.TheVariants.{Frames, Packets, Itm, Stp, StpOrder, Id, Only, Limit};
+ghost use Rattle.capture_words.specs.declared.usage.UsageFault.TheVariants.{UnknownAction, BadValue, SplitNeedsId, MappedTwice};
 
 /// Words that ask for a listing, in several orders and spellings.
 pub fn show()
-    ensures hunt { Does (codes "show --frames bare --itm 1") (Show PacketsHunt) 16777216 }
-    ensures aligned { Does (codes "show --frames bare --packets aligned --itm 1") (Show PacketsAligned) 16777216 }
-    ensures order { Does (codes "--packets aligned --itm 1 show --frames bare") (Show PacketsAligned) 16777216 }
-    ensures equals { Does (codes "show --limit=1 --frames=bare --packets=hunt --itm=1") (Show PacketsHunt) 1 }
-    ensures unused { Does (codes "show --frames bare --itm 1 --id 126 --limit 16777216") (Show PacketsHunt) 16777216 }
+    ensures defaults { Does (codes "show") (Show (planned FramesHunt PacketsHunt [] [] Msn) None) 68719476736 }
+    ensures itm { Does (codes "show --itm 1") (Show (planned FramesHunt PacketsHunt (1 ∷ []) [] Msn) None) 68719476736 }
+    ensures bare { Does (codes "show --frames bare --itm 111 --packets aligned")
+        (Show (planned Bare PacketsAligned (111 ∷ []) [] Msn) None) 68719476736 }
+    ensures stp { Does (codes "show --stp 2 --stp-order lsn --limit 16777217")
+        (Show (planned FramesHunt PacketsHunt [] (2 ∷ []) Lsn) None) 16777217 }
+    ensures both { Does (codes "--stp=2 --packets=hunt --stp-order=msn --itm=1 show --frames=aligned --limit=1")
+        (Show (planned FramesAligned PacketsHunt (1 ∷ []) (2 ∷ []) Msn) None) 1 }
+    ensures unused { Does (codes "show --id 126 --limit 68719476736") (Show (planned FramesHunt PacketsHunt [] [] Msn) None) 68719476736 }
+{}
+
+/// Words that ask for a listing of some events.
+pub fn only()
+    ensures itm { Lists (codes "show --only itm") (OfKind ItmKind) }
+    ensures dwt { Lists (codes "show --only dwt") (OfKind DwtKind) }
+    ensures stp { Lists (codes "show --only=stp") (OfKind StpKind) }
+    ensures raw { Lists (codes "--only raw show") (OfKind RawKind) }
+    ensures trigger { Lists (codes "show --only trigger") (OfKind TriggerKind) }
+    ensures first_id { Lists (codes "show --only id=1") (Source 1) }
+    ensures last_id { Lists (codes "show --only=id=126") (Source 126) }
+    ensures first_port { Lists (codes "show --only port=0") (Port 0) }
+    ensures last_port { Lists (codes "show --only port=31") (Port 31) }
 {}
 
 /// Words that ask for the bytes of an ID.
 pub fn split()
-    ensures hunt { Does (codes "split --id 5") (Split FramesHunt 5) 16777216 }
-    ensures aligned { Does (codes "split --frames aligned --id 0") (Split FramesAligned 0) 16777216 }
-    ensures unused { Does (codes "--id 126 split --frames bare --packets aligned --itm 111 --limit 7") (Split Bare 126) 7 }
+    ensures hunt { Does (codes "split --id 5") (Split FramesHunt 5) 68719476736 }
+    ensures aligned { Does (codes "split --frames aligned --id 0") (Split FramesAligned 0) 68719476736 }
+    ensures unused { Does (codes "--id 126 split --frames bare --packets aligned --itm 111 --stp-order lsn --only raw --limit 7") (Split Bare 126) 7 }
+    ensures mapped { Does (codes "split --id 5 --itm 7 --stp 7") (Split FramesHunt 5) 68719476736 }
 {}
 
 /// Words that ask for a check of a port.
 pub fn check()
-    ensures hunt { Does (codes "check") (Check FramesHunt) 16777216 }
-    ensures aligned { Does (codes "check --frames aligned") (Check FramesAligned) 16777216 }
-    ensures unused { Does (codes "--frames=bare --limit=65536 check --id 0 --packets hunt") (Check Bare) 65536 }
+    ensures hunt { Does (codes "check") (Check (planned FramesHunt PacketsHunt [] [] Msn)) 68719476736 }
+    ensures aligned { Does (codes "check --frames aligned --itm 110 --stp 111") (Check (planned FramesAligned PacketsHunt (110 ∷ []) (111 ∷ []) Msn)) 68719476736 }
+    ensures unused { Does (codes "--frames=bare --limit=65536 check --id 0 --only port=7 --packets aligned --stp-order lsn") (Check (planned Bare PacketsAligned [] [] Lsn)) 65536 }
 {}
 
 /// Values that are none of their options'.
@@ -38,28 +59,49 @@ pub fn bad_values()
     ensures packets { Faults (codes "check --packets bare") (BadValue Packets) }
     ensures itm_0 { Faults (codes "split --itm 0") (BadValue Itm) }
     ensures itm_112 { Faults (codes "check --itm 112") (BadValue Itm) }
+    ensures stp_0 { Faults (codes "split --stp 0") (BadValue Stp) }
+    ensures stp_112 { Faults (codes "show --stp 112") (BadValue Stp) }
+    ensures stp_order { Faults (codes "show --stp-order MSN") (BadValue StpOrder) }
     ensures id_127 { Faults (codes "split --id 127") (BadValue Id) }
     ensures id_zeros { Faults (codes "split --id 05") (BadValue Id) }
     ensures id_sign { Faults (codes "split --id +5") (BadValue Id) }
     ensures id_wide { Faults (codes "split --id 18446744073709551621") (BadValue Id) }
     ensures limit_0 { Faults (codes "check --limit 0") (BadValue Limit) }
-    ensures limit_over { Faults (codes "check --limit 16777217") (BadValue Limit) }
+    ensures limit_over { Faults (codes "show --limit 68719476737") (BadValue Limit) }
     ensures limit_zeros { Faults (codes "check --limit 01") (BadValue Limit) }
     ensures limit_empty { Faults (codes "check --limit=") (BadValue Limit) }
+{}
+
+/// Values that are no choice of events.
+pub fn bad_choices()
+    ensures word { Faults (codes "show --only all") (BadValue Only) }
+    ensures capitals { Faults (codes "check --only ITM") (BadValue Only) }
+    ensures longer { Faults (codes "show --only itm,dwt") (BadValue Only) }
+    ensures empty { Faults (codes "show --only=") (BadValue Only) }
+    ensures id_0 { Faults (codes "show --only id=0") (BadValue Only) }
+    ensures id_127 { Faults (codes "show --only id=127") (BadValue Only) }
+    ensures id_empty { Faults (codes "show --only id=") (BadValue Only) }
+    ensures id_zeros { Faults (codes "show --only id=01") (BadValue Only) }
+    ensures port_32 { Faults (codes "show --only port=32") (BadValue Only) }
+    ensures port_256 { Faults (codes "show --only port=256") (BadValue Only) }
+    ensures port_sign { Faults (codes "show --only port=+1") (BadValue Only) }
+    ensures port_alone { Faults (codes "show --only port") (BadValue Only) }
 {}
 
 /// Which fault is the first, and what is needed.
 pub fn order()
     ensures action { Faults (codes "play --frames x") UnknownAction }
     ensures frames { Faults (codes "split --packets x --frames x") (BadValue Frames) }
-    ensures id { Faults (codes "check --limit 0 --id 127") (BadValue Id) }
-    ensures value { Faults (codes "show --frames bare --packets aligned --itm 1 --id 127") (BadValue Id) }
+    ensures itm { Faults (codes "show --stp x --itm x") (BadValue Itm) }
+    ensures stp { Faults (codes "show --stp-order x --stp x") (BadValue Stp) }
+    ensures stp_order { Faults (codes "show --id x --stp-order x") (BadValue StpOrder) }
+    ensures id { Faults (codes "check --only x --id 127") (BadValue Id) }
+    ensures only { Faults (codes "check --limit 0 --only x") (BadValue Only) }
     ensures needs { Faults (codes "split") SplitNeedsId }
     ensures needs_last { Faults (codes "split --limit x") (BadValue Limit) }
-    ensures other_source { Faults (codes "show --frames bare --itm 2") Unbuilt }
-    ensures in_frames { Faults (codes "show --itm 1") Unbuilt }
-    ensures no_source { Faults (codes "show --frames bare") Unbuilt }
-    ensures checked { Faults (codes "check --itm 1") Unbuilt }
+    ensures mapped { Faults (codes "show --itm 5 --stp 5") (MappedTwice 5) }
+    ensures checked { Faults (codes "check --stp 111 --frames bare --itm 111") (MappedTwice 111) }
+    ensures mapped_last { Faults (codes "show --itm 5 --stp 5 --limit 0") (BadValue Limit) }
 {}
 
 /// Words that `clap` refuses, and what for.

@@ -1,13 +1,19 @@
 //! Words, and what they ask for.
 
-use crate::{Asked, CommandOption, GREATEST_LIMIT, Job, Task, UsageFault, read_words};
+use crate::{Asked, CommandOption, Task, UsageFault, read_words};
 use capture_plan::{FramesMode, PacketsMode};
+use item_tap::{Choice, Kind};
+use source_events::Plan;
 use std::alloc::{AllocError, Global};
 use std::process::Abort;
 use std::test::Fail;
+use stp_grammar::packet::Order;
 use trace_values::SourceId;
 
-/// What the words of this text ask for, which stand with a blank between two.
+/// The greatest limit, which is the default.
+const MOST: u64 = 68719476736;
+
+/// What the words of this text ask for, with a blank between two.
 fn answer(alloc: Global, text: &str) -> Result<Asked, AllocError> {
     let mut words = Vec::new(alloc);
     if !text.is_empty() {
@@ -18,20 +24,277 @@ fn answer(alloc: Global, text: &str) -> Result<Asked, AllocError> {
     Ok(read_words(alloc, &words))
 }
 
-fn check_job(
-    alloc: Global,
-    rt: &impl Abort,
-    text: &str,
-    task: Task,
-    limit: u64,
-) -> Result<(), Fail> {
-    let want = Asked::Do(Job { task, limit });
-    assert_eq!(rt; answer(alloc, text)?, want, "{text}");
+/// A plan, with 0 for no source.
+#[derive(Clone, Copy)]
+struct Want {
+    frames: FramesMode,
+    packets: PacketsMode,
+    itm: u8,
+    stp: u8,
+    order: Order,
+}
+
+/// The plan of the defaults.
+const HUNT: Want = Want {
+    frames: FramesMode::Hunt,
+    packets: PacketsMode::Hunt,
+    itm: 0,
+    stp: 0,
+    order: Order::Msn,
+};
+
+/// These are the source of this number alone, or none for 0.
+fn check_ids(rt: &impl Abort, text: &str, ids: &[SourceId], number: u8) {
+    let count = if number == 0 { 0 } else { 1 };
+    assert_eq!(rt; ids.len(), count, "{text}");
+    for id in ids {
+        assert_eq!(rt; id.number(), number, "{text}");
+    }
+}
+
+fn check_plan(rt: &impl Abort, text: &str, plan: &Plan, want: &Want) {
+    assert!(rt; plan.is_sound(), "{text}");
+    assert_eq!(rt; plan.frames, want.frames, "{text}");
+    assert_eq!(rt; plan.packets, want.packets, "{text}");
+    assert_eq!(rt; plan.order, want.order, "{text}");
+    check_ids(rt, text, plan.itm.as_slice(), want.itm);
+    check_ids(rt, text, plan.stp.as_slice(), want.stp);
+}
+
+#[test]
+fn calls_ask_for_a_listing(rt: HostRuntime) -> Result<(), Fail> {
+    let table = [
+        ("show", HUNT, MOST),
+        ("show --itm 1", Want { itm: 1, ..HUNT }, MOST),
+        ("--limit 1 show --itm=111", Want { itm: 111, ..HUNT }, 1),
+        (
+            "show --stp 5 --limit 16777217",
+            Want { stp: 5, ..HUNT },
+            16777217,
+        ),
+        (
+            "--stp-order lsn --id 126 show --limit 68719476736",
+            Want {
+                order: Order::Lsn,
+                ..HUNT
+            },
+            MOST,
+        ),
+        (
+            "show --frames bare --packets aligned --itm 2 --stp 1 --stp-order msn",
+            Want {
+                frames: FramesMode::Bare,
+                packets: PacketsMode::Aligned,
+                itm: 2,
+                stp: 1,
+                ..HUNT
+            },
+            MOST,
+        ),
+    ];
+    for (text, want, limit) in &table {
+        match answer(rt.alloc(), text)? {
+            Asked::Do(job) => {
+                assert_eq!(rt; job.limit, *limit, "{text}");
+                match job.task {
+                    Task::Show { plan, only: None } => check_plan(&rt, text, &plan, want),
+                    task => assert!(rt; false, "{text}: {task:?}"),
+                }
+            }
+            asked => assert!(rt; false, "{text}: {asked:?}"),
+        }
+    }
     Ok(())
 }
 
-fn check_fault(alloc: Global, rt: &impl Abort, text: &str, fault: UsageFault) -> Result<(), Fail> {
-    assert_eq!(rt; answer(alloc, text)?, Asked::Fault(fault), "{text}");
+#[test]
+fn calls_ask_for_a_listing_of_some_events(rt: HostRuntime) -> Result<(), Fail> {
+    let table = [
+        ("show --only itm", Choice::OfKind(Kind::Itm)),
+        ("show --only dwt", Choice::OfKind(Kind::Dwt)),
+        ("show --only=stp", Choice::OfKind(Kind::Stp)),
+        ("--only raw show", Choice::OfKind(Kind::Raw)),
+        ("show --only trigger", Choice::OfKind(Kind::Trigger)),
+        ("show --only port=0", Choice::Port(0)),
+        ("show --only=port=31", Choice::Port(31)),
+    ];
+    for (text, choice) in &table {
+        check_choice(&rt, text, answer(rt.alloc(), text)?, choice);
+    }
+    for (text, number) in [("show --only id=1", 1), ("show --only=id=126", 126)] {
+        if let Some(id) = SourceId::new(number) {
+            check_choice(&rt, text, answer(rt.alloc(), text)?, &Choice::Source(id));
+        }
+    }
+    Ok(())
+}
+
+/// What is asked for is a listing of these events.
+fn check_choice(rt: &impl Abort, text: &str, asked: Asked, choice: &Choice) {
+    match asked {
+        Asked::Do(job) => match job.task {
+            Task::Show {
+                only: Some(only),
+                ..
+            } => assert_eq!(rt; &only, choice, "{text}"),
+            task => assert!(rt; false, "{text}: {task:?}"),
+        },
+        asked => assert!(rt; false, "{text}: {asked:?}"),
+    }
+}
+
+#[test]
+fn calls_ask_for_the_bytes_of_an_id(rt: HostRuntime) -> Result<(), Fail> {
+    let table = [
+        ("split --id 0", FramesMode::Hunt, 0, MOST),
+        (
+            "split --frames aligned --id 126",
+            FramesMode::Aligned,
+            126,
+            MOST,
+        ),
+        ("--id=16 split --frames=bare", FramesMode::Bare, 16, MOST),
+        (
+            "split --limit 16777216 --itm 111 --packets aligned --id 5",
+            FramesMode::Hunt,
+            5,
+            16777216,
+        ),
+        (
+            "split --itm 7 --stp 7 --id 5 --only raw",
+            FramesMode::Hunt,
+            5,
+            MOST,
+        ),
+    ];
+    for (text, frames, number, limit) in table {
+        match answer(rt.alloc(), text)? {
+            Asked::Do(job) => {
+                assert_eq!(rt; job.limit, limit, "{text}");
+                match &job.task {
+                    Task::Split { frames: found, id } => {
+                        assert_eq!(rt; *found, frames, "{text}");
+                        assert_eq!(rt; id.number(), number, "{text}");
+                    }
+                    task => assert!(rt; false, "{text}: {task:?}"),
+                }
+            }
+            asked => assert!(rt; false, "{text}: {asked:?}"),
+        }
+    }
+    Ok(())
+}
+
+#[test]
+fn calls_ask_for_a_check(rt: HostRuntime) -> Result<(), Fail> {
+    let table = [
+        ("check", HUNT, MOST),
+        (
+            "check --frames aligned --itm 110 --stp 111",
+            Want {
+                frames: FramesMode::Aligned,
+                itm: 110,
+                stp: 111,
+                ..HUNT
+            },
+            MOST,
+        ),
+        (
+            "--limit=65536 --frames bare check --packets aligned --id 0 --only port=7",
+            Want {
+                frames: FramesMode::Bare,
+                packets: PacketsMode::Aligned,
+                ..HUNT
+            },
+            65536,
+        ),
+    ];
+    for (text, want, limit) in &table {
+        match answer(rt.alloc(), text)? {
+            Asked::Do(job) => {
+                assert_eq!(rt; job.limit, *limit, "{text}");
+                match job.task {
+                    Task::Check(plan) => check_plan(&rt, text, &plan, want),
+                    task => assert!(rt; false, "{text}: {task:?}"),
+                }
+            }
+            asked => assert!(rt; false, "{text}: {asked:?}"),
+        }
+    }
+    Ok(())
+}
+
+fn check_fault(alloc: Global, rt: &impl Abort, text: &str, line: &str) -> Result<(), Fail> {
+    match answer(alloc, text)? {
+        Asked::Fault(fault) => assert_eq!(rt; fault.line().as_str(), line, "{text}"),
+        asked => assert!(rt; false, "{text}: {asked:?}"),
+    }
+    Ok(())
+}
+
+#[test]
+fn values_are_of_their_rows(rt: HostRuntime) -> Result<(), Fail> {
+    let table = [
+        ("check --frames Bare", "usage: bad value of --frames\n"),
+        ("check --frames=", "usage: bad value of --frames\n"),
+        ("check --packets bare", "usage: bad value of --packets\n"),
+        ("split --itm 0", "usage: bad value of --itm\n"),
+        ("check --itm 112", "usage: bad value of --itm\n"),
+        ("split --stp 0", "usage: bad value of --stp\n"),
+        ("check --stp 112", "usage: bad value of --stp\n"),
+        ("split --stp-order Msn", "usage: bad value of --stp-order\n"),
+        ("split --id 127", "usage: bad value of --id\n"),
+        ("split --id 05", "usage: bad value of --id\n"),
+        ("split --id +5", "usage: bad value of --id\n"),
+        ("split --id 261", "usage: bad value of --id\n"),
+        ("check --only all", "usage: bad value of --only\n"),
+        ("show --only id=0", "usage: bad value of --only\n"),
+        ("show --only id=127", "usage: bad value of --only\n"),
+        ("show --only port=32", "usage: bad value of --only\n"),
+        ("show --only port=", "usage: bad value of --only\n"),
+        ("check --limit 0", "usage: bad value of --limit\n"),
+        ("show --limit 68719476737", "usage: bad value of --limit\n"),
+        ("check --limit 01", "usage: bad value of --limit\n"),
+        ("check --limit=", "usage: bad value of --limit\n"),
+        (
+            "check --limit 18446744073709551617",
+            "usage: bad value of --limit\n",
+        ),
+    ];
+    for (text, line) in table {
+        check_fault(rt.alloc(), &rt, text, line)?;
+    }
+    Ok(())
+}
+
+#[test]
+fn the_first_fault_is_told(rt: HostRuntime) -> Result<(), Fail> {
+    let table = [
+        ("play --frames x", "usage: unknown action\n"),
+        (
+            "split --packets x --frames x",
+            "usage: bad value of --frames\n",
+        ),
+        ("show --stp 0 --itm 0", "usage: bad value of --itm\n"),
+        ("show --stp-order x --stp 0", "usage: bad value of --stp\n"),
+        (
+            "show --id x --stp-order x",
+            "usage: bad value of --stp-order\n",
+        ),
+        ("show --only x --id x", "usage: bad value of --id\n"),
+        ("show --limit 0 --only x", "usage: bad value of --only\n"),
+        ("split --limit 0", "usage: bad value of --limit\n"),
+        ("split --itm 7 --stp 7", "usage: split needs --id\n"),
+        ("show --itm 1 --stp 1", "usage: 1 is mapped twice\n"),
+        ("check --stp=111 --itm=111", "usage: 111 is mapped twice\n"),
+        (
+            "check --stp 111 --itm 111 --only x",
+            "usage: bad value of --only\n",
+        ),
+    ];
+    for (text, line) in table {
+        check_fault(rt.alloc(), &rt, text, line)?;
+    }
     Ok(())
 }
 
@@ -41,143 +304,6 @@ fn check_refused(alloc: Global, rt: &impl Abort, text: &str, front: &str) -> Res
             assert!(rt; message.as_str().starts_with(front), "{text}: {message}");
         }
         asked => assert!(rt; false, "{text}: {asked:?}"),
-    }
-    Ok(())
-}
-
-#[test]
-fn calls_ask_for_a_listing(rt: HostRuntime) -> Result<(), Fail> {
-    let table = [
-        (
-            "show --frames bare --itm 1",
-            PacketsMode::Hunt,
-            GREATEST_LIMIT,
-        ),
-        (
-            "show --frames bare --packets aligned --itm 1",
-            PacketsMode::Aligned,
-            GREATEST_LIMIT,
-        ),
-        (
-            "show --itm=1 --packets=aligned --frames=bare",
-            PacketsMode::Aligned,
-            GREATEST_LIMIT,
-        ),
-        ("--itm 1 --frames bare --limit 1 show", PacketsMode::Hunt, 1),
-        (
-            "--packets hunt show --id 126 --itm 1 --frames bare",
-            PacketsMode::Hunt,
-            GREATEST_LIMIT,
-        ),
-    ];
-    for (text, packets, limit) in table {
-        check_job(rt.alloc(), &rt, text, Task::Show(packets), limit)?;
-    }
-    Ok(())
-}
-
-#[test]
-fn calls_ask_for_the_bytes_of_an_id(rt: HostRuntime) -> Result<(), Fail> {
-    let table = [
-        ("split --id 0", FramesMode::Hunt, 0, GREATEST_LIMIT),
-        (
-            "split --frames aligned --id 126",
-            FramesMode::Aligned,
-            126,
-            GREATEST_LIMIT,
-        ),
-        (
-            "--id=16 split --frames=bare",
-            FramesMode::Bare,
-            16,
-            GREATEST_LIMIT,
-        ),
-        (
-            "split --limit 16777216 --itm 111 --packets aligned --id 5",
-            FramesMode::Hunt,
-            5,
-            16777216,
-        ),
-    ];
-    for (text, frames, number, limit) in table {
-        let Some(id) = SourceId::new(number) else {
-            continue;
-        };
-        check_job(rt.alloc(), &rt, text, Task::Split { frames, id }, limit)?;
-    }
-    Ok(())
-}
-
-#[test]
-fn calls_ask_for_a_check(rt: HostRuntime) -> Result<(), Fail> {
-    let table = [
-        ("check", FramesMode::Hunt, GREATEST_LIMIT),
-        (
-            "check --frames aligned",
-            FramesMode::Aligned,
-            GREATEST_LIMIT,
-        ),
-        (
-            "--limit=65536 --frames bare check --packets aligned --id 0",
-            FramesMode::Bare,
-            65536,
-        ),
-    ];
-    for (text, frames, limit) in table {
-        check_job(rt.alloc(), &rt, text, Task::Check(frames), limit)?;
-    }
-    Ok(())
-}
-
-#[test]
-fn values_are_of_their_rows(rt: HostRuntime) -> Result<(), Fail> {
-    let table = [
-        ("check --frames Bare", CommandOption::Frames),
-        ("check --frames=", CommandOption::Frames),
-        ("check --packets bare", CommandOption::Packets),
-        ("split --itm 0", CommandOption::Itm),
-        ("check --itm 112", CommandOption::Itm),
-        ("split --id 127", CommandOption::Id),
-        ("split --id 05", CommandOption::Id),
-        ("split --id +5", CommandOption::Id),
-        ("split --id 261", CommandOption::Id),
-        ("check --limit 0", CommandOption::Limit),
-        ("check --limit 16777217", CommandOption::Limit),
-        ("check --limit 01", CommandOption::Limit),
-        ("check --limit +1", CommandOption::Limit),
-        ("check --limit=", CommandOption::Limit),
-        ("check --limit 18446744073709551617", CommandOption::Limit),
-    ];
-    for (text, option) in table {
-        check_fault(rt.alloc(), &rt, text, UsageFault::BadValue(option))?;
-    }
-    Ok(())
-}
-
-#[test]
-fn the_first_fault_is_told(rt: HostRuntime) -> Result<(), Fail> {
-    let table = [
-        ("play --frames x", UsageFault::UnknownAction),
-        (
-            "split --limit 0 --id 127",
-            UsageFault::BadValue(CommandOption::Id),
-        ),
-        (
-            "split --packets x --frames x",
-            UsageFault::BadValue(CommandOption::Frames),
-        ),
-        (
-            "show --frames bare --packets aligned --itm 1 --id 127",
-            UsageFault::BadValue(CommandOption::Id),
-        ),
-        ("split", UsageFault::SplitNeedsId),
-        ("show", UsageFault::Unbuilt),
-        ("show --itm 1", UsageFault::Unbuilt),
-        ("show --frames bare --itm 2", UsageFault::Unbuilt),
-        ("check --itm 1", UsageFault::Unbuilt),
-    ];
-    for (text, fault) in table {
-        check_fault(rt.alloc(), &rt, text, fault)?;
     }
     Ok(())
 }
@@ -213,20 +339,24 @@ fn refusals_have_the_text_of_clap(rt: HostRuntime) -> Result<(), Fail> {
 const HELP: &str = "Usage: trace [OPTIONS] <action>
 
 Arguments:
-  <action>  show lists packets, split writes the bytes of one source, check counts those of each
+  <action>  show lists events, split writes the bytes of one source, check counts those of each
 
 Options:
-      --frames <frames>    Where frames begin: hunt (at the first full synchronisation, the default), \
+      --frames <frames>        Where frames begin: hunt (at the first full synchronisation, the default), \
 aligned (at the first byte) or bare (there are none)
-      --packets <packets>  Where packets begin: hunt (at the first synchronisation packet, the default) \
+      --packets <packets>      Where packets begin: hunt (at the first synchronisation packet, the default) \
 or aligned (at the first byte)
-      --itm <itm>          The source that sends ITM packets: 1 to 111
-      --id <id>            The source whose bytes split writes: 0 to 126
-      --limit <limit>      How many bytes are read at most: 1 to 16777216, which is the default
-  -h, --help               Print help
+      --itm <itm>              The source that sends ITM packets: 1 to 111
+      --stp <stp>              The source that sends STP packets: 1 to 111
+      --stp-order <stp-order>  Which nibble of an STP value comes first: msn (the most significant, the \
+default) or lsn (the least significant)
+      --id <id>                The source whose bytes split writes: 0 to 126
+      --only <only>            Which events show lists: itm, dwt, stp, raw, trigger, id=N (of source N, \
+1 to 126) or port=N (of stimulus port N, 0 to 31)
+      --limit <limit>          How many bytes are read at most: 1 to 68719476736, which is the default
+  -h, --help                   Print help
 
 The capture is read from standard input, as in: ./lipparoy check < CAPTURE
-So far show lists a capture without frames: show --frames bare --itm 1
 ";
 
 #[test]
@@ -242,16 +372,15 @@ fn help_is_this_text(rt: HostRuntime) -> Result<(), Fail> {
 
 #[test]
 fn faults_have_lines(rt: HostRuntime) {
-    let table = [
-        (UsageFault::UnknownAction, "usage: unknown action\n"),
-        (
-            UsageFault::BadValue(CommandOption::Packets),
-            "usage: bad value of --packets\n",
-        ),
-        (UsageFault::SplitNeedsId, "usage: split needs --id\n"),
-        (UsageFault::Unbuilt, "usage: unbuilt\n"),
-    ];
-    for (fault, line) in table {
-        assert_eq!(rt; fault.line(), line, "{fault:?}");
+    for (number, line) in [
+        (1, "usage: 1 is mapped twice\n"),
+        (99, "usage: 99 is mapped twice\n"),
+        (111, "usage: 111 is mapped twice\n"),
+    ] {
+        if let Some(id) = SourceId::new(number) {
+            assert_eq!(rt; UsageFault::MappedTwice(id).line().as_str(), line);
+        }
     }
+    let order = UsageFault::BadValue(CommandOption::StpOrder);
+    assert_eq!(rt; order.line().as_str(), "usage: bad value of --stp-order\n");
 }

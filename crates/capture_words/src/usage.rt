@@ -1,9 +1,15 @@
 //! Faults of the words that are the command's own, and their lines.
 
-ghost use Rattle.std.specs.Prelude.{◌≡◌};
+ghost use Rattle.std.specs.Prelude.{◌≡◌, ◌≤◌, ◌+◌, ◌++◌, length};
 ghost use Rattle.capture_words.specs.Texts.{usage_line};
 
 use crate::option::CommandOption;
+use arrayvec::ArrayString;
+use itoa::Buffer;
+use trace_values::SourceId;
+
+/// How many bytes the line of a fault has at most.
+pub const LINE_ROOM: usize = 40;
 
 /// Why words that `clap` takes are no job. The first that holds is the fault, in this order.
 #[derive(Clone, Copy, Debug, PartialEq, Eq, Drop)]
@@ -14,24 +20,35 @@ pub enum UsageFault {
     BadValue(CommandOption),
     /// The action is `split`, and `--id` is absent.
     SplitNeedsId,
-    /// The action can't do this yet.
-    Unbuilt,
+    /// The action reads mapped sources, and `--itm` and `--stp` both name this one.
+    MappedTwice(SourceId),
+}
+
+/// The text of these parts, one after another.
+fn joined(first: &str, second: &str, third: &str) -> ArrayString<LINE_ROOM>
+    requires { length first.now + length second.now + length third.now ≤ LINE_ROOM }
+    ensures { result.bytes ≡ first.now ++ second.now ++ third.now }
+{
+    let mut text = ArrayString::new();
+    let _ = text.try_push_str(first);
+    let _ = text.try_push_str(second);
+    let _ = text.try_push_str(third);
+    text
 }
 
 impl UsageFault {
     /// The line of the fault, with its line feed.
-    pub fn line(&self) -> &'static str
-        ensures { result.now ≡ usage_line self.now }
+    pub fn line(&self) -> ArrayString<LINE_ROOM>
+        ensures { result.bytes ≡ usage_line self.now }
     {
         match self {
-            UsageFault::UnknownAction => "usage: unknown action\n",
-            UsageFault::BadValue(CommandOption::Frames) => "usage: bad value of --frames\n",
-            UsageFault::BadValue(CommandOption::Packets) => "usage: bad value of --packets\n",
-            UsageFault::BadValue(CommandOption::Itm) => "usage: bad value of --itm\n",
-            UsageFault::BadValue(CommandOption::Id) => "usage: bad value of --id\n",
-            UsageFault::BadValue(CommandOption::Limit) => "usage: bad value of --limit\n",
-            UsageFault::SplitNeedsId => "usage: split needs --id\n",
-            UsageFault::Unbuilt => "usage: unbuilt\n",
+            UsageFault::UnknownAction => joined("usage: unknown action\n", "", ""),
+            UsageFault::BadValue(option) => joined("usage: bad value of --", option.name(), "\n"),
+            UsageFault::SplitNeedsId => joined("usage: split needs --id\n", "", ""),
+            UsageFault::MappedTwice(id) => {
+                let mut number = Buffer::new();
+                joined("usage: ", number.format(id.number()), " is mapped twice\n")
+            }
         }
     }
 }

@@ -1,19 +1,22 @@
 //! What the texts of the action and of the options say.
 
-ghost use Rattle.std.specs.Prelude.{◌≡◌, ◌≤◌, option_map, IfOk};
+ghost use Rattle.std.specs.Prelude.{◌≡◌, ◌≤◌, option_map, IfOk, IfSome};
 ghost use Rattle.clap.specs.Words.{rows_of, found_of, first_of};
 ghost use Rattle.capture_words.specs.Command.{option_name};
-ghost use Rattle.capture_words.specs.Values.{action_named, action_in, frames_in, packets_in, itm_in, id_in, limit_in};
+ghost use Rattle.capture_words.specs.Values.{action_named, order_named, action_in, frames_in, packets_in, id_given, itm_in, stp_in, order_in, id_in, only_in, limit_in};
 
+use crate::choices::choice_named;
 use crate::number::{id_named, number_named};
 use crate::option::CommandOption;
 use crate::usage::UsageFault;
 use capture_plan::{FramesMode, PacketsMode};
 use clap::ArgMatches;
+use item_tap::Choice;
+use stp_grammar::packet::Order;
 use trace_values::SourceId;
 
 /// The greatest limit, and the limit where none is given: how many bytes of a capture are read at most.
-pub const GREATEST_LIMIT: u64 = 16777216;
+pub const GREATEST_LIMIT: u64 = 1 << 36;
 
 /// The action that a word names.
 #[derive(Clone, Copy, Debug, PartialEq, Eq, Drop)]
@@ -37,6 +40,17 @@ impl ActionName {
             "check" => Some(ActionName::Check),
             _ => None,
         }
+    }
+}
+
+/// The order of nibbles of this name: `msn` or `lsn`.
+fn order_named(name: &str) -> Option<Order>
+    ensures { result ≡ order_named name.now }
+{
+    match name {
+        "msn" => Some(Order::Msn),
+        "lsn" => Some(Order::Lsn),
+        _ => None,
     }
 }
 
@@ -84,16 +98,49 @@ pub fn packets_in(matches: &ArgMatches<'_>) -> Result<PacketsMode, UsageFault>
     }
 }
 
-/// The source that is an ITM, 1 to 111, if one is given.
-pub fn itm_in(matches: &ArgMatches<'_>) -> Result<Option<SourceId>, UsageFault>
-    ensures { result ≡ itm_in (rows_of (found_of matches.now)) }
+/// The source that an option names, from `least` to `greatest`, if it is given.
+fn id_given(
+    matches: &ArgMatches<'_>,
+    option: CommandOption,
+    least: u8,
+    greatest: u8,
+) -> Result<Option<SourceId>, UsageFault>
+    requires { greatest ≤ 126 }
+    ensures value { result ≡ id_given option least greatest (rows_of (found_of matches.now)) }
+    ensures in_range { IfOk result (λ id. IfSome id (λ n. (least ≤ n) × (n ≤ greatest))) }
 {
-    match text_of(matches, CommandOption::Itm) {
+    match text_of(matches, option) {
         None => Ok(None),
-        Some(text) => match id_named(1, 111, text) {
+        Some(text) => match id_named(least, greatest, text) {
             Some(id) => Ok(Some(id)),
-            None => Err(UsageFault::BadValue(CommandOption::Itm)),
+            None => Err(UsageFault::BadValue(option)),
         },
+    }
+}
+
+/// The source that sends ITM packets, 1 to 111, if one is given.
+pub fn itm_in(matches: &ArgMatches<'_>) -> Result<Option<SourceId>, UsageFault>
+    ensures value { result ≡ itm_in (rows_of (found_of matches.now)) }
+    ensures in_range { IfOk result (λ id. IfSome id (λ n. (1 ≤ n) × (n ≤ 111))) }
+{
+    id_given(matches, CommandOption::Itm, 1, 111)
+}
+
+/// The source that sends STP packets, 1 to 111, if one is given.
+pub fn stp_in(matches: &ArgMatches<'_>) -> Result<Option<SourceId>, UsageFault>
+    ensures value { result ≡ stp_in (rows_of (found_of matches.now)) }
+    ensures in_range { IfOk result (λ id. IfSome id (λ n. (1 ≤ n) × (n ≤ 111))) }
+{
+    id_given(matches, CommandOption::Stp, 1, 111)
+}
+
+/// The order of the nibbles of an STP value: `msn` or `lsn`, and `msn` where it is absent.
+pub fn order_in(matches: &ArgMatches<'_>) -> Result<Order, UsageFault>
+    ensures { result ≡ order_in (rows_of (found_of matches.now)) }
+{
+    match text_of(matches, CommandOption::StpOrder) {
+        None => Ok(Order::Msn),
+        Some(text) => order_named(text).ok_or(UsageFault::BadValue(CommandOption::StpOrder)),
     }
 }
 
@@ -101,11 +148,18 @@ pub fn itm_in(matches: &ArgMatches<'_>) -> Result<Option<SourceId>, UsageFault>
 pub fn id_in(matches: &ArgMatches<'_>) -> Result<Option<SourceId>, UsageFault>
     ensures { result ≡ id_in (rows_of (found_of matches.now)) }
 {
-    match text_of(matches, CommandOption::Id) {
+    id_given(matches, CommandOption::Id, 0, 126)
+}
+
+/// Which events are listed, if a choice is given.
+pub fn only_in(matches: &ArgMatches<'_>) -> Result<Option<Choice>, UsageFault>
+    ensures { result ≡ only_in (rows_of (found_of matches.now)) }
+{
+    match text_of(matches, CommandOption::Only) {
         None => Ok(None),
-        Some(text) => match id_named(0, 126, text) {
-            Some(id) => Ok(Some(id)),
-            None => Err(UsageFault::BadValue(CommandOption::Id)),
+        Some(text) => match choice_named(text) {
+            Some(choice) => Ok(Some(choice)),
+            None => Err(UsageFault::BadValue(CommandOption::Only)),
         },
     }
 }

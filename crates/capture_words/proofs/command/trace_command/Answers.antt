@@ -3,7 +3,7 @@ use Rattle.std.proofs.lemmas.Result.{IfOk-weaker}
 use Rattle.clap.specs.Words.{App, with_rule}
 use Rattle.capture_words.specs.Command.{trace_app, option_rule}
 use Rattle.capture_words.specs.declared.option.CommandOption.{CommandOption}
-use Rattle.capture_words.specs.declared.option.CommandOption.TheVariants.{Frames, Packets, Itm, Id, Limit}
+use Rattle.capture_words.specs.declared.option.CommandOption.TheVariants.{Frames, Packets, Itm, Stp, StpOrder, Id, Only, Limit}
 use Rattle.capture_words.proofs.command.trace_command.Goals as goal
 
 step : (a b : App) (option : CommandOption) → a ≡ b → with_rule a (option_rule option) ≡ with_rule b (option_rule option)
@@ -16,5 +16,8 @@ returns c =
     let e2 = c.in_ok-command-2.ensures ∙ step _ _ Frames e1 in
     let e3 = c.in_ok-command-3.ensures ∙ step _ _ Packets e2 in
     let e4 = c.in_ok-command-4.ensures ∙ step _ _ Itm e3 in
-    let e5 = c.in_ok-command-5.ensures ∙ step _ _ Id e4 in
-    IfOk-weaker c.with_option-5.result _ _ (λ m h. h ∙ step _ _ Limit e5) c.with_option-5.ensures
+    let e5 = c.in_ok-command-5.ensures ∙ step _ _ Stp e4 in
+    let e6 = c.in_ok-command-6.ensures ∙ step _ _ StpOrder e5 in
+    let e7 = c.in_ok-command-7.ensures ∙ step _ _ Id e6 in
+    let e8 = c.in_ok-command-8.ensures ∙ step _ _ Only e7 in
+    IfOk-weaker c.with_option-8.result _ _ (λ m h. h ∙ step _ _ Limit e8) c.with_option-8.ensures

@@ -11,6 +11,9 @@ returns c = record {
   packets = record { call = refl; fault_is = refl };
   itm_0 = record { call = refl; fault_is = refl };
   itm_112 = record { call = refl; fault_is = refl };
+  stp_0 = record { call = refl; fault_is = refl };
+  stp_112 = record { call = refl; fault_is = refl };
+  stp_order = record { call = refl; fault_is = refl };
   id_127 = record { call = refl; fault_is = refl };
   id_zeros = record { call = refl; fault_is = refl };
   id_sign = record { call = refl; fault_is = refl };

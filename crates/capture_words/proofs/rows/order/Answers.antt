@@ -9,12 +9,14 @@ unfolding trace_app clap_on_literals digits
 returns c = record {
   action = record { call = refl; fault_is = refl };
   frames = record { call = refl; fault_is = refl };
+  itm = record { call = refl; fault_is = refl };
+  stp = record { call = refl; fault_is = refl };
+  stp_order = record { call = refl; fault_is = refl };
   id = record { call = refl; fault_is = refl };
-  value = record { call = refl; fault_is = refl };
+  only = record { call = refl; fault_is = refl };
   needs = record { call = refl; fault_is = refl };
   needs_last = record { call = refl; fault_is = refl };
-  other_source = record { call = refl; fault_is = refl };
-  in_frames = record { call = refl; fault_is = refl };
-  no_source = record { call = refl; fault_is = refl };
+  mapped = record { call = refl; fault_is = refl };
   checked = record { call = refl; fault_is = refl };
+  mapped_last = record { call = refl; fault_is = refl };
 }

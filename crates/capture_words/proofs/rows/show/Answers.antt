@@ -7,9 +7,10 @@ use Rattle.capture_words.proofs.rows.show.Goals as goal
 pub returns : goal.returns
 unfolding trace_app clap_on_literals digits
 returns c = record {
-  hunt = record { call = refl; job_is = refl };
-  aligned = record { call = refl; job_is = refl };
-  order = record { call = refl; job_is = refl };
-  equals = record { call = refl; job_is = refl };
+  defaults = record { call = refl; job_is = refl };
+  itm = record { call = refl; job_is = refl };
+  bare = record { call = refl; job_is = refl };
+  stp = record { call = refl; job_is = refl };
+  both = record { call = refl; job_is = refl };
   unused = record { call = refl; job_is = refl };
 }

@@ -1,0 +1,26 @@
+-- What comes after a front of a text, as `strip_prefix` gives it.
+use Rattle.std.proofs.Common.{◌≡◌, ℕ, List, Bool, true, false, Option, Some, None, Bor, sym, ap, refl, ◌∙◌, subst, arith, nat_eq, length, drop, option_map, if◌then◌else◌}
+use Rattle.std.specs.List.{starts_with}
+use Rattle.std.specs.Option.{MatchOption}
+use Rattle.std.specs.Str.{IsCharBoundary}
+use Rattle.std.specs.Str.Pattern.{FindsTextPrefix, StripsPrefix}
+use Rattle.std.proofs.lemmas.Str.Pattern.{starts_text}
+use Rattle.capture_words.specs.Values.{text_after}
+
+taken : {A : Type 0} (b : Bool) (x : A) → true ≡ b → Some x ≡ (if b then Some x else None)
+taken true x e = refl
+taken false x e = absurd (grind arith)
+
+left : {A : Type 0} (b : Bool) (x : A) → false ≡ b → None ≡ (if b then Some x else None)
+left true x e = absurd (grind arith)
+left false x e = refl
+
+pub strips : (front text : List ℕ) (r : Option (Bor (List ℕ))) →
+    MatchOption r (FindsTextPrefix front text None) (λ x. StripsPrefix (FindsTextPrefix front) text x.now) →
+    option_map (λ s. s.now) r ≡ text_after front text
+strips front text None none = left _ _ (starts_text false front text none)
+strips front text (Some x) found =
+    let n_is : found.0 ≡ length front = found.1.0 in
+    let starts : true ≡ starts_with nat_eq text front =
+    starts_text true front text (found.0, found.1, subst (IsCharBoundary text) (sym n_is) found.1.2) in
+    ap Some (found.2 ∙ ap (λ k. drop k text) n_is) ∙ taken _ (drop (length front) text) starts

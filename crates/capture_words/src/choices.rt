@@ -1,0 +1,68 @@
+//! Choices of events in words.
+
+ghost use Rattle.std.specs.Prelude.{◌≡◌, ◌≤◌, option_map};
+ghost use Rattle.capture_words.specs.Values.{kind_named, text_after, number_after, choice_named};
+
+use crate::number::{id_named, number_named};
+use item_tap::{Choice, Kind};
+use trace_values::SourceId;
+
+/// The kind of events of this name.
+fn kind_named(name: &str) -> Option<Kind>
+    ensures { result ≡ kind_named name.now }
+{
+    match name {
+        "itm" => Some(Kind::Itm),
+        "dwt" => Some(Kind::Dwt),
+        "stp" => Some(Kind::Stp),
+        "raw" => Some(Kind::Raw),
+        "trigger" => Some(Kind::Trigger),
+        _ => None,
+    }
+}
+
+/// What comes after this front of a text, if the text begins with it.
+fn text_after<'a>(front: &str, text: &'a str) -> Option<&'a str>
+    ensures { option_map (λ s. s.now) result ≡ text_after front.now text.now }
+{
+    text.strip_prefix(front)
+}
+
+/// The source, 1 to 126, whose number comes after this front of a text.
+fn source_after(front: &str, text: &str) -> Option<SourceId>
+    ensures { result ≡ number_after front.now 1 126 text.now }
+{
+    match text_after(front, text) {
+        Some(number) => id_named(1, 126, number),
+        None => None,
+    }
+}
+
+/// The stimulus port, 0 to 31, whose number comes after this front of a text.
+fn port_after(front: &str, text: &str) -> Option<u8>
+    ensures { result ≡ number_after front.now 0 31 text.now }
+{
+    match text_after(front, text) {
+        Some(number) => match number_named(0, 31, number) {
+            Some(port) => Some(port as u8),
+            None => None,
+        },
+        None => None,
+    }
+}
+
+/// The choice of this text: a kind of events, `id=N` with N from 1 to 126, or `port=N` with N from 0 to 31.
+pub fn choice_named(text: &str) -> Option<Choice>
+    ensures { result ≡ choice_named text.now }
+{
+    if let Some(kind) = kind_named(text) {
+        return Some(Choice::OfKind(kind));
+    }
+    if let Some(id) = source_after("id=", text) {
+        return Some(Choice::Source(id));
+    }
+    match port_after("port=", text) {
+        Some(port) => Some(Choice::Port(port)),
+        None => None,
+    }
+}

@@ -1,0 +1,62 @@
+//! What all options say.
+
+ghost use Rattle.std.specs.Prelude.{◌≡◌, ◌≤◌, ℕ, Option, IfOk, IfSome};
+ghost use Rattle.capture_words.specs.declared.values.TheConstants.{GREATEST_LIMIT};
+ghost use Rattle.clap.specs.Words.{rows_of, found_of};
+ghost use Rattle.capture_words.specs.Jobs.{settings_in};
+
+use crate::usage::UsageFault;
+use crate::values::{frames_in, id_in, itm_in, limit_in, only_in, order_in, packets_in, stp_in};
+use capture_plan::{FramesMode, PacketsMode};
+use clap::ArgMatches;
+use item_tap::Choice;
+use stp_grammar::packet::Order;
+use trace_values::SourceId;
+
+/// What the options say, each with its default where it is absent.
+#[derive(Debug, Drop)]
+pub struct Settings {
+    /// Where the reading of the port begins.
+    pub frames: FramesMode,
+    /// Where the reading of a source begins.
+    pub packets: PacketsMode,
+    /// The source that sends ITM packets.
+    pub itm: Option<SourceId>,
+    /// The source that sends STP packets.
+    pub stp: Option<SourceId>,
+    /// The order of the nibbles of an STP value.
+    pub order: Order,
+    /// The source whose bytes are taken.
+    pub id: Option<SourceId>,
+    /// Which events are listed.
+    pub only: Option<Choice>,
+    /// How many bytes are read at most.
+    pub limit: u64,
+}
+
+/// What the options say, or the first whose value is none of its own.
+pub fn settings_in(matches: &ArgMatches<'_>) -> Result<Settings, UsageFault>
+    ensures settings { result ≡ settings_in (rows_of (found_of matches.now)) }
+    ensures itm { IfOk result (λ s. IfSome s.itm (λ n. (1 ≤ n) × (n ≤ 111))) }
+    ensures stp { IfOk result (λ s. IfSome s.stp (λ n. (1 ≤ n) × (n ≤ 111))) }
+    ensures limit { IfOk result (λ s. (1 ≤ s.limit) × (s.limit ≤ GREATEST_LIMIT)) }
+{
+    let frames = frames_in(matches)?;
+    let packets = packets_in(matches)?;
+    let itm = itm_in(matches)?;
+    let stp = stp_in(matches)?;
+    let order = order_in(matches)?;
+    let id = id_in(matches)?;
+    let only = only_in(matches)?;
+    let limit = limit_in(matches)?;
+    Ok(Settings {
+        frames,
+        packets,
+        itm,
+        stp,
+        order,
+        id,
+        only,
+        limit,
+    })
+}
