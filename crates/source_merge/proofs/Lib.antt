@@ -9,3 +9,4 @@ pub mod Steps
 pub mod Standing
 pub mod Going
 pub mod Refilled
+pub mod Feds
