@@ -10,3 +10,4 @@ pub mod Standing
 pub mod Going
 pub mod Refilled
 pub mod Feds
+pub mod Attributed
