@@ -17,7 +17,7 @@ count_step : (p : ℕ → Bool) (a n : ℕ) → count_by p (range_with_len a (su
 count_step p a n = sum_by-cons (λ (r : ℕ). cond (p r) 1 0) a (range_with_len (a + 1) n)
 
 -- two tests that agree count the same
-count_same : (p q : ℕ → Bool) (a n : ℕ) → ((r : ℕ) → a ≤ r → p r ≡ q r) → count_by p (range_with_len a n) ≡ count_by q (range_with_len a n)
+pub count_same : (p q : ℕ → Bool) (a n : ℕ) → ((r : ℕ) → a ≤ r → p r ≡ q r) → count_by p (range_with_len a n) ≡ count_by q (range_with_len a n)
 count_same p q a zero h = refl
 count_same p q a (suc n) h =
     count_step p a n
@@ -32,7 +32,7 @@ here_or_on : (a k : ℕ) → a ≤ k → (k ≡ a) ⊎ (a + 1 ≤ k)
 here_or_on a k h = grind arith
 
 -- one that agrees but for one number more counts one more
-count_more : (p q : ℕ → Bool) (k a n : ℕ) → a ≤ k → k < a + n → ((r : ℕ) → r ≢ k → p r ≡ q r) → p k ≡ true → q k ≡ false →
+pub count_more : (p q : ℕ → Bool) (k a n : ℕ) → a ≤ k → k < a + n → ((r : ℕ) → r ≢ k → p r ≡ q r) → p k ≡ true → q k ≡ false →
     count_by p (range_with_len a n) ≡ count_by q (range_with_len a n) + 1
 count_more p q k a zero l m h t f = absurd (omega arith)
 count_more p q k a (suc n) l m h t f = elim (here_or_on a k l) [

@@ -231,7 +231,7 @@ cut_early : {V F : Type 0} (o : Option (Place × F)) (xs : List (Event V)) (n : 
 cut_early None xs n l b = refl
 cut_early (Some f) xs n l b = cut_below f xs (below_weaker n f.0.at xs l b)
 
-sound_first : {V : Type 0} (ss : List (Mapped V)) → AreLawful ss → least_fault ss [] ≡ None
+pub sound_first : {V : Type 0} (ss : List (Mapped V)) → AreLawful ss → least_fault ss [] ≡ None
 sound_first [] law = refl
 sound_first (s ∷ ss) law =
     ap (λ (o : Option (Place × Reason)). lesser (of_source (Some s.id) o) (least_fault ss [])) law.0.sound
