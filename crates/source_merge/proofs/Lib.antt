@@ -9,3 +9,5 @@ pub mod Steps
 pub mod Standing
 pub mod Going
 pub mod Refilled
+pub mod Feds
+pub mod Attributed
