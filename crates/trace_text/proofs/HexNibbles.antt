@@ -57,7 +57,7 @@ first (suc n) (suc m) a v e =
     let f : m ≡ n + a = omega arith in
     let p : 16 ^ m ≡ 16 ^ n * 16 ^ a = ap (λ j. 16 ^ j) f ∙ pow-add 16 n a in
     let q : nibble_at (v * 16 ^ a) m ≡ nibble_at v n =
-        ap (λ x. v * 16 ^ a / x % 16) p ∙ ap (λ x. x % 16) (mul-div-mul_right v (16 ^ n) (some a)) in
+    ap (λ x. v * 16 ^ a / x % 16) p ∙ ap (λ x. x % 16) (mul-div-mul_right v (16 ^ n) (some a)) in
     ap (λ d. slice_index lower_digits d ∷ take n (hex_digits m (v * 16 ^ a))) q
     ∙ ap (λ ds. slice_index lower_digits (nibble_at v n) ∷ ds) (first n m a v f)
 

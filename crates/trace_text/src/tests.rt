@@ -1,4 +1,4 @@
-ghost use Rattle.std.specs.Prelude.{◌≡◌, ◌≤◌};
+ghost use Rattle.std.specs.Prelude.{◌≡◌, ◌≤◌, IsSome};
 ghost use Rattle.trace_text.specs.Printable.{IsKindOf, IsPrintable};
 
 use crate::digits::Digits;
@@ -10,9 +10,7 @@ use crate::{
 };
 use itm_grammar::packet::{ItmPacket, Lateness, Size};
 use itm_grammar::proper::is_proper;
-use source_events::{
-    Event, Packet, PortMode, RunBytes, SourceKind, SourceTail, Stop, What,
-};
+use source_events::{Event, Packet, PortMode, RunBytes, SourceKind, SourceTail, Stop, What};
 use std::process::Abort;
 use stp_grammar::item::{Place, Stamp, StpItem};
 use stp_grammar::packet::Width;
@@ -45,9 +43,30 @@ fn lines_at_the_end(rt: HostRuntime) {
         b"port hunting skipped 18446744073709551615 tail 18446744073709551615 unattributed 18446744073709551615\n",
     );
     let rows: [(u8, SourceKind, PortMode, u64, u64, &[u8]); 4] = [
-        (1, SourceKind::Itm, PortMode::Locked, 4, 0, b"1 itm locked skipped 4 tail 0\n"),
-        (2, SourceKind::Stp, PortMode::Hunting, 15, 0, b"2 stp hunting skipped 15 tail 0\n"),
-        (99, SourceKind::Itm, PortMode::Aligned, 0, 7, b"99 itm aligned skipped 0 tail 7\n"),
+        (
+            1,
+            SourceKind::Itm,
+            PortMode::Locked,
+            4,
+            0,
+            b"1 itm locked skipped 4 tail 0\n",
+        ),
+        (
+            2,
+            SourceKind::Stp,
+            PortMode::Hunting,
+            15,
+            0,
+            b"2 stp hunting skipped 15 tail 0\n",
+        ),
+        (
+            99,
+            SourceKind::Itm,
+            PortMode::Aligned,
+            0,
+            7,
+            b"99 itm aligned skipped 0 tail 7\n",
+        ),
         (
             111,
             SourceKind::Stp,
@@ -87,6 +106,12 @@ fn lines_at_the_end(rt: HostRuntime) {
     );
 }
 
+fn source(number: u8) -> Option<SourceId>
+    ensures { IsSome result }
+{
+    Some(SourceId::new(number).unwrap_or_default())
+}
+
 fn check_fault(
     rt: &impl Abort,
     at: u64,
@@ -108,42 +133,90 @@ fn check_fault(
 
 #[test]
 fn lines_of_faults(rt: HostRuntime) {
-    let first = Some(SourceId::new(1).unwrap_or_default());
-    let last = Some(SourceId::new(111).unwrap_or_default());
-    check_fault(&rt, 0, 0, None, false, Reason::BadSync, b"fault 0 port 1 BadSync\n");
-    check_fault(&rt, 7, 0, None, false, Reason::SyncInFrame, b"fault 7 port 2 SyncInFrame\n");
+    check_fault(
+        &rt,
+        0,
+        0,
+        None,
+        false,
+        Reason::BadSync,
+        b"fault 0 port 1 BadSync\n",
+    );
+    check_fault(
+        &rt,
+        7,
+        0,
+        None,
+        false,
+        Reason::SyncInFrame,
+        b"fault 7 port 2 SyncInFrame\n",
+    );
     check_fault(
         &rt,
         MOST,
         0,
-        last,
+        source(111),
         false,
         Reason::ReservedHeader,
         b"fault 18446744073709551615 111 3 ReservedHeader\n",
     );
-    check_fault(&rt, 2, 0, first, false, Reason::BadItmSync, b"fault 2 1 4 BadItmSync\n");
-    check_fault(&rt, 4, 0, first, false, Reason::LongStamp, b"fault 4 1 5 LongStamp\n");
-    check_fault(&rt, 1, 0, first, false, Reason::ShortStamp, b"fault 1 1 6 ShortStamp\n");
-    check_fault(&rt, 1, 0, first, true, Reason::Unsupported, b"fault 1.0 1 7 Unsupported\n");
-    check_fault(&rt, 0, 1, first, true, Reason::StampSize, b"fault 0.1 1 8 StampSize\n");
+    check_fault(
+        &rt,
+        2,
+        0,
+        source(1),
+        false,
+        Reason::BadItmSync,
+        b"fault 2 1 4 BadItmSync\n",
+    );
+    check_fault(
+        &rt,
+        4,
+        0,
+        source(1),
+        false,
+        Reason::LongStamp,
+        b"fault 4 1 5 LongStamp\n",
+    );
+    check_fault(
+        &rt,
+        1,
+        0,
+        source(1),
+        false,
+        Reason::ShortStamp,
+        b"fault 1 1 6 ShortStamp\n",
+    );
+    check_fault(
+        &rt,
+        1,
+        0,
+        source(1),
+        true,
+        Reason::Unsupported,
+        b"fault 1.0 1 7 Unsupported\n",
+    );
+    check_fault(
+        &rt,
+        0,
+        1,
+        source(1),
+        true,
+        Reason::StampSize,
+        b"fault 0.1 1 8 StampSize\n",
+    );
     check_fault(
         &rt,
         MOST,
         1,
-        last,
+        source(111),
         true,
         Reason::BadAsync,
         b"fault 18446744073709551615.1 111 9 BadAsync\n",
     );
 }
 
-fn check_event(
-    rt: &impl Abort,
-    event: &Event<Packet>,
-    stp: bool,
-    remark: Remark,
-    expected: &[u8],
-)
+fn check_event(rt: &impl Abort, event: &Event<Packet>, stp: bool, remark: Remark, expected: &[u8])
     requires { IsPrintable stp event.now remark }
 {
     let mut digits = Digits::new();
@@ -180,14 +253,23 @@ fn event(at: u64, half: u8, source: Option<SourceId>, what: What<Packet>) -> Eve
 #[test]
 fn lines_of_events(rt: HostRuntime) {
     let none = Remark::None;
-    let first = Some(SourceId::new(1).unwrap_or_default());
-    let raw = Some(SourceId::new(99).unwrap_or_default());
-    let triggers = Some(SourceId::new(125).unwrap_or_default());
-    check_event(&rt, &event(21, 0, None, What::Locked(18)), false, none, b"21 port locked 18\n");
-    check_event(&rt, &event(99, 1, first, What::Locked(0)), false, none, b"99 1 locked 0\n");
     check_event(
         &rt,
-        &event(MOST, 1, triggers, What::Locked(MOST)),
+        &event(21, 0, None, What::Locked(18)),
+        false,
+        none,
+        b"21 port locked 18\n",
+    );
+    check_event(
+        &rt,
+        &event(99, 1, source(1), What::Locked(0)),
+        false,
+        none,
+        b"99 1 locked 0\n",
+    );
+    check_event(
+        &rt,
+        &event(MOST, 1, source(125), What::Locked(MOST)),
         true,
         none,
         b"18446744073709551615.1 125 locked 18446744073709551615\n",
@@ -195,19 +277,25 @@ fn lines_of_events(rt: HostRuntime) {
     let run = [cell(0), cell(0x9A), cell(0xFF)];
     check_event(
         &rt,
-        &event(100, 0, raw, What::Raw(RunBytes::of(&run))),
+        &event(100, 0, source(99), What::Raw(RunBytes::of(&run))),
         false,
         none,
         b"100 99 raw 009aff\n",
     );
-    check_event(&rt, &event(1, 0, triggers, What::Trigger(7)), false, none, b"1 125 trigger 07\n");
+    check_event(
+        &rt,
+        &event(1, 0, source(125), What::Trigger(7)),
+        false,
+        none,
+        b"1 125 trigger 07\n",
+    );
     let local = ItmPacket::Local {
         lateness: Lateness::Exact,
         delta: 2,
     };
     check_event(
         &rt,
-        &event(3, 0, first, What::Packet(Packet::Itm(local))),
+        &event(3, 0, source(1), What::Packet(Packet::Itm(local))),
         false,
         Remark::Clock(MOST),
         b"3 1 local exact 2 clock=18446744073709551615\n",
@@ -218,14 +306,14 @@ fn lines_of_events(rt: HostRuntime) {
     };
     check_event(
         &rt,
-        &event(9, 0, first, What::Packet(Packet::Itm(second))),
+        &event(9, 0, source(1), What::Packet(Packet::Itm(second))),
         false,
         Remark::Time(None),
         b"9 1 global2 48 2 time=?\n",
     );
     check_event(
         &rt,
-        &event(9, 0, first, What::Packet(Packet::Itm(second))),
+        &event(9, 0, source(1), What::Packet(Packet::Itm(second))),
         false,
         Remark::Time(Some(134_217_729)),
         b"9 1 global2 48 2 time=134217729\n",
@@ -245,16 +333,12 @@ fn the_longest_line(rt: HostRuntime) {
         marked: true,
         stamp: Stamp::Natural(MOST),
     };
-    let expected = b"18446744073709551615.1 126 data 65535 65535 u64 ffffffffffffffff m n=18446744073709551615\n";
+    let expected =
+        b"18446744073709551615.1 126 data 65535 65535 u64 ffffffffffffffff m n=18446744073709551615\n";
     assert_eq!(rt; expected.len(), 90);
     check_event(
         &rt,
-        &event(
-            MOST,
-            1,
-            Some(SourceId::new(126).unwrap_or_default()),
-            What::Packet(Packet::Stp(longest)),
-        ),
+        &event(MOST, 1, source(126), What::Packet(Packet::Stp(longest))),
         true,
         Remark::None,
         expected,
@@ -335,7 +419,10 @@ fn texts_of_itm_packets(rt: HostRuntime) {
         (software(31, Size::Four, u32::MAX), b"port 31 u32 ffffffff"),
         (local(Lateness::Exact, 0), b"local exact 0"),
         (local(Lateness::StampLate, 6), b"local stamp-late 6"),
-        (local(Lateness::PacketLate, 0xFFF_FFFF), b"local packet-late 268435455"),
+        (
+            local(Lateness::PacketLate, 0xFFF_FFFF),
+            b"local packet-late 268435455",
+        ),
         (local(Lateness::BothLate, 7), b"local both-late 7"),
         (first(1, 0, false, false), b"global1 1 0 0 0"),
         (first(3, 0x1F_FFFF, false, false), b"global1 3 2097151 0 0"),
@@ -382,7 +469,10 @@ fn texts_of_hardware_packets(rt: HostRuntime) {
         (hardware(9, Size::Two, 0), b"cmp 0 addr 0000"),
         (hardware(15, Size::Two, 0xFFFF), b"cmp 3 addr ffff"),
         (hardware(16, Size::One, 0), b"cmp 0 read u8 00"),
-        (hardware(22, Size::Four, u32::MAX), b"cmp 3 read u32 ffffffff"),
+        (
+            hardware(22, Size::Four, u32::MAX),
+            b"cmp 3 read u32 ffffffff",
+        ),
         (hardware(23, Size::Two, 0xFFFF), b"cmp 3 write u16 ffff"),
         (hardware(0, Size::One, 0x40), b"hw 0 u8 40"),
         (hardware(3, Size::Two, 7), b"hw 3 u16 0007"),
@@ -458,22 +548,46 @@ fn texts_of_stp_items(rt: HostRuntime) {
         ),
         (StpItem::GlobalError { code: 0 }, b"gerr 00"),
         (StpItem::GlobalError { code: 255 }, b"gerr ff"),
-        (datum(NOWHERE, Width::Four, 0, false, Stamp::None), b"data - - u4 0 - -"),
-        (datum(LEAST, Width::Four, 15, true, Stamp::None), b"data 0 0 u4 f m -"),
-        (datum(MASTER, Width::Eight, 0, false, Stamp::Natural(0)), b"data 1 - u8 00 - n=0"),
+        (
+            datum(NOWHERE, Width::Four, 0, false, Stamp::None),
+            b"data - - u4 0 - -",
+        ),
+        (
+            datum(LEAST, Width::Four, 15, true, Stamp::None),
+            b"data 0 0 u4 f m -",
+        ),
+        (
+            datum(MASTER, Width::Eight, 0, false, Stamp::Natural(0)),
+            b"data 1 - u8 00 - n=0",
+        ),
         (
             datum(GREATEST, Width::Eight, 255, true, Stamp::Gray(MOST)),
             b"data 65535 65535 u8 ff m g=18446744073709551615",
         ),
-        (datum(LEAST, Width::Sixteen, 0x1F, false, Stamp::None), b"data 0 0 u16 001f - -"),
-        (datum(LEAST, Width::Sixteen, 0xFFFF, true, Stamp::None), b"data 0 0 u16 ffff m -"),
-        (datum(LEAST, Width::ThirtyTwo, 0, false, Stamp::None), b"data 0 0 u32 00000000 - -"),
+        (
+            datum(LEAST, Width::Sixteen, 0x1F, false, Stamp::None),
+            b"data 0 0 u16 001f - -",
+        ),
+        (
+            datum(LEAST, Width::Sixteen, 0xFFFF, true, Stamp::None),
+            b"data 0 0 u16 ffff m -",
+        ),
+        (
+            datum(LEAST, Width::ThirtyTwo, 0, false, Stamp::None),
+            b"data 0 0 u32 00000000 - -",
+        ),
         (
             datum(LEAST, Width::ThirtyTwo, 0xFFFF_FFFF, true, Stamp::None),
             b"data 0 0 u32 ffffffff m -",
         ),
         (
-            datum(LEAST, Width::SixtyFour, 0x0123_4567_89AB_CDEF, false, Stamp::None),
+            datum(
+                LEAST,
+                Width::SixtyFour,
+                0x0123_4567_89AB_CDEF,
+                false,
+                Stamp::None,
+            ),
             b"data 0 0 u64 0123456789abcdef - -",
         ),
         (
@@ -542,25 +656,39 @@ fn texts_of_stp_items(rt: HostRuntime) {
     }
 }
 
+fn check_raw(rt: &impl Abort, size: u8, word: u64, digits: &[u8]) {
+    let item = stamped(Stamp::Raw { size, word });
+    assert!(rt; is_proper_stp(&item));
+    let mut room = [b'.'; TEXT_ROOM];
+    let end = put_stp(&mut room, 0, &item);
+    assert!(rt; 9 <= end);
+    assert_eq!(rt; &room[..9], b"nullts r=".as_slice());
+    assert_eq!(rt; &room[9..end], digits, "{size}");
+}
+
 // The word of a raw timestamp has all its nibbles: at each size the least number and the greatest one.
 #[test]
 fn raw_stamps_of_all_sizes(rt: HostRuntime) {
-    let zeros: &[u8] = b"0000000000000000";
-    let greatest: &[u8] = b"ffffffffffffffff";
-    for size in 0..15u8 {
-        let count = match size {
-            13 => 14,
-            14 => 16,
-            _ => usize::from(size),
-        };
-        let word = if count == 0 { 0 } else { MOST >> (64 - 4 * count) };
-        for (word, digits) in [(0, zeros), (word, greatest)] {
-            let item = stamped(Stamp::Raw { size, word });
-            assert!(rt; is_proper_stp(&item));
-            let mut room = [b'.'; TEXT_ROOM];
-            let end = put_stp(&mut room, 0, &item);
-            assert_eq!(rt; &room[..9], b"nullts r=".as_slice());
-            assert_eq!(rt; &room[9..end], &digits[..count]);
-        }
+    let rows: [(u8, u64, usize); 15] = [
+        (0, 0, 0),
+        (1, 0xF, 1),
+        (2, 0xFF, 2),
+        (3, 0xFFF, 3),
+        (4, 0xFFFF, 4),
+        (5, 0xF_FFFF, 5),
+        (6, 0xFF_FFFF, 6),
+        (7, 0xFFF_FFFF, 7),
+        (8, 0xFFFF_FFFF, 8),
+        (9, 0xF_FFFF_FFFF, 9),
+        (10, 0xFF_FFFF_FFFF, 10),
+        (11, 0xFFF_FFFF_FFFF, 11),
+        (12, 0xFFFF_FFFF_FFFF, 12),
+        (13, 0xFF_FFFF_FFFF_FFFF, 14),
+        (14, MOST, 16),
+    ];
+    for (size, greatest, count) in rows {
+        assert!(rt; count <= 16);
+        check_raw(&rt, size, 0, &b"0000000000000000"[..count]);
+        check_raw(&rt, size, greatest, &b"ffffffffffffffff"[..count]);
     }
 }
