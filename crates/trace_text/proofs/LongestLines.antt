@@ -133,7 +133,7 @@ item (Software port size v) h =
     let a = length-decimal-le 2 port (omega arith) (omega arith) (omega arith) in
     let b = value size v in
     simp length-append (omega arith)
-item (Hardware disc size v) h = hardware (name disc size v) (in_range (name disc size v) (disc, size, v, h.0, h.1, refl))
+item (Hardware disc size v) h = hardware (name disc size v) (in_range (name disc size v) (disc, size, v, (h.0, h.1), refl))
 item (Local l delta) h =
     let a = length-decimal-le 9 delta (omega arith) (omega arith) (omega arith) in
     let b = lateness l in
@@ -268,25 +268,25 @@ rest (Trigger byte) s r p u e a b c =
     let z = nothing r u in
     omega arith
 
-half : (s : Bool) (h : ℕ) → h ≤ 1 → length (half_text s h) ≤ 2
-half true h l = let a = length-decimal-le 1 h (omega arith) (omega arith) (omega arith) in omega arith
+half : (s : Bool) (h : ℕ) → HasDigits 3 h → length (half_text s h) ≤ 4
+half true h l = omega arith
 half false h l = omega arith
 
 -- the line of an event
-pub event : (s : Bool) (e : Event Packet) (r : Remark) → IsPrintable s e r → IsShort e → IsShortRemark r → length (event_line s e r) ≤ 90
+pub event : (s : Bool) (e : Event Packet) (r : Remark) → IsPrintable e r → IsShort e → IsShortRemark r → length (event_line s e r) ≤ 92
 event s e r p a b =
-    let x = half s e.half p.half in
+    let x = half s e.half a.half in
     let y = rest e.what e.source r p.proper p.suits p.source a.what a.source b in
     let z = a.at in
     simp length-append (omega arith)
 
 -- and that of an ITM packet
 pub packet : (at id : ℕ) (p : ItmPacket) (r : Remark) → IsProper p → SuitsPacket p r → HasDigits 20 at → HasDigits 3 id → IsShortRemark r →
-    length (event_line false (itm_event at id p) r) ≤ 90
+    length (event_line false (itm_event at id p) r) ≤ 92
 packet at id p r proper suits a b c =
     event false (itm_event at id p) r
-    (record { half = omega arith; proper = proper; suits = suits; source = refl; kind = refl })
-    (record { at = a; source = b; what = tt }) c
+    (record { proper = proper; suits = suits; source = refl })
+    (record { at = a; half = length-decimal-le 3 0 (omega arith) (omega arith) (omega arith); source = b; what = tt }) c
 
 mode : (m : PortMode) → length (mode_text m) ≤ 7
 mode Bare = omega arith

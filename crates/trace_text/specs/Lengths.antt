@@ -30,5 +30,6 @@ IsShortRemark (Time None) = Unit {0}
 -- what the types say of an event
 pub record IsShort (event : Event Packet) : Type 0 where
   pub at : HasDigits 20 event.at
+  pub half : HasDigits 3 event.half
   pub source : IsShortSource event.source
   pub what : IsShortWhat event.what

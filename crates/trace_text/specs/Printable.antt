@@ -1,11 +1,10 @@
 -- Which events have a line.
-use Rattle.std.specs.Prelude.{◌≡◌, ℕ, ◌≤◌, ◌<◌, List, length, Bool, true, false, Option, None, Some, IsSome}
+use Rattle.std.specs.Prelude.{ℕ, ◌<◌, List, length, Option, None, Some, IsSome}
 use Rattle.itm_grammar.specs.declared.packet.ItmPacket.{ItmPacket}
 use Rattle.itm_grammar.specs.declared.packet.ItmPacket.TheVariants.{Local, GlobalFirst, GlobalSecond}
 use Rattle.itm_grammar.specs.Proper.{IsProper}
 use Rattle.stp_grammar.specs.Proper.{IsProperItem}
 use Rattle.source_events.specs.declared.event.Event.{Event}
-use Rattle.source_events.specs.declared.event.Stop.{Stop}
 use Rattle.source_events.specs.declared.event.What.{What}
 use Rattle.source_events.specs.declared.event.What.TheVariants.{Locked, Packet as Said, Raw, Trigger}
 use Rattle.source_events.specs.declared.packet.Packet.{Packet}
@@ -53,26 +52,8 @@ abbrev pub HasSource : What Packet → Option ℕ → Type 0
 HasSource (Locked skipped) source = Unit {0}
 HasSource what source = IsSome source
 
--- items of a system trace are of STP sources, and a lock may be; nothing else is, and nothing of the port
-abbrev pub IsOfKind : Bool → What Packet → Option ℕ → Type 0
-IsOfKind stp (Said (Stp item)) source = stp ≡ true
-IsOfKind stp (Locked skipped) (Some id) = Unit {0}
-IsOfKind stp what source = stp ≡ false
-
--- an event that has a line with this remark; whether its source is an STP source
-pub record IsPrintable (stp : Bool) (event : Event Packet) (remark : Remark) : Type 0 where
-  pub half : event.half ≤ 1
+-- an event that has a line with this remark
+pub record IsPrintable (event : Event Packet) (remark : Remark) : Type 0 where
   pub proper : IsProperWhat event.what
   pub suits : Suits event.what remark
   pub source : HasSource event.what event.source
-  pub kind : IsOfKind stp event.what event.source
-
--- the port is no STP source
-abbrev pub IsKindOf : Bool → Option ℕ → Type 0
-IsKindOf stp None = stp ≡ false
-IsKindOf stp (Some id) = Unit {0}
-
--- a stop that has a line; whether its source is an STP source
-pub record IsPrintableStop (stp : Bool) (stop : Stop) : Type 0 where
-  pub half : stop.fault.half ≤ 1
-  pub kind : IsKindOf stp stop.source

@@ -2,7 +2,6 @@
 
 ghost use Rattle.std.specs.Prelude.{◌≡◌, ◌+◌, ◌≤◌, ◌++◌, length, take};
 ghost use Rattle.source_events.specs.Report.{stop_of};
-ghost use Rattle.trace_text.specs.Printable.{IsPrintableStop};
 ghost use Rattle.trace_text.specs.FaultText.{reason_text, fault_line};
 
 use crate::lines::{put_half, put_source};
@@ -34,7 +33,7 @@ fn put_reason(room: &mut [u8], from: usize, reason: Reason) -> usize
 }
 
 impl Text for FaultLine {
-    ghost fits = { λ l. IsPrintableStop l.stp l.stop };
+    ghost fits = { λ _. Unit {0} };
 
     ghost text = { λ l. fault_line l.stp (stop_of l.stop) };
 
@@ -50,7 +49,6 @@ impl Text for FaultLine {
 
 /// The line of the fault that ends a report, `FaultLine`.
 pub fn print_fault(outlet: &mut Outlet, stop: &Stop, stp: bool)
-    requires printable { IsPrintableStop stp stop.now }
     requires room { length outlet.old + TEXT_ROOM ≤ OUTLET_ROOM }
     ensures { outlet.new ≡ outlet.old ++ fault_line stp (stop_of stop.now) }
 {

@@ -14,6 +14,14 @@ pub(crate) fn few_digits(number: u64)
     let _number = number;
 }
 
+/// One of 8 bits at most 3.
+#[inline(always)]
+fn few_half_digits(half: u8)
+    ensures { HasDigits 3 half }
+{
+    let _half = half;
+}
+
 /// And that of a source at most 3.
 #[inline(always)]
 pub(crate) fn few_id_digits(id: SourceId)
@@ -62,6 +70,7 @@ pub(crate) fn short_event(event: &Event<Packet>)
     ensures { IsShort event.now }
 {
     few_digits(event.at);
+    few_half_digits(event.half);
     short_source(event.source);
     short_what(&event.what);
 }

@@ -20,36 +20,28 @@ use trace_values::SourceId;
 
 /// The most bytes of the line of an event: those of a datum's at an offset of 20 digits, of a source of three, with
 /// a master and a channel of five, 64 bits, and a time of 20 digits.
-pub const EVENT_ROOM: usize = 90;
+pub const EVENT_ROOM: usize = 92;
 
 /// Bytes that a remark is given: more than any has.
 const REMARK_ROOM: usize = 7 + NUMBER_ROOM;
 
 /// The most bytes of the half of a byte.
-const HALF_ROOM: usize = 2;
+const HALF_ROOM: usize = 5;
 
 /// The most bytes of a source and the spaces beside it.
 const SOURCE_ROOM: usize = 6;
 
-fn half_word(half: u8) -> &'static str
-    requires half { half ≤ 1 }
-    ensures text { result.now ≡ codes "." ++ decimal half }
-    ensures bound { length result.now ≡ 2 }
-{
-    if half == 0 { ".0" } else { ".1" }
-}
-
 /// Puts the half of a byte, `.H`, for an STP source.
 #[inline]
 pub(crate) fn put_half(room: &mut [u8], from: usize, stp: bool, half: u8) -> usize
-    requires half { half ≤ 1 }
     requires room { from + HALF_ROOM ≤ length room.old }
     ensures text { take result room.new ≡ take from room.old ++ half_text stp half }
     ensures same { length room.new ≡ length room.old }
     ensures end { result ≤ from + HALF_ROOM }
 {
     if stp {
-        put_bytes(room, from, half_word(half).as_bytes())
+        let from = put_byte(room, from, b'.');
+        put_short(room, from, half)
     } else {
         from
     }
@@ -157,7 +149,7 @@ pub(crate) struct EventLine<'a> {
 }
 
 impl Text for EventLine<'_> {
-    ghost fits = { λ l. IsPrintable l.stp l.event.now l.remark × (hundreds_of l.digits.now ≡ l.event.now.at / 100) };
+    ghost fits = { λ l. IsPrintable l.event.now l.remark × (hundreds_of l.digits.now ≡ l.event.now.at / 100) };
 
     ghost text = { λ l. event_line l.stp l.event.now l.remark };
 
@@ -206,7 +198,7 @@ pub fn print(
     stp: bool,
     remark: Remark,
 )
-    requires printable { IsPrintable stp event.now remark }
+    requires printable { IsPrintable event.now remark }
     requires room { length outlet.old + TEXT_ROOM ≤ OUTLET_ROOM }
     ensures line { outlet.new ≡ outlet.old ++ event_line stp event.now remark }
     ensures bound { length outlet.new ≤ length outlet.old + EVENT_ROOM }

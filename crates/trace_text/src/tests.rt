@@ -1,5 +1,5 @@
 ghost use Rattle.std.specs.Prelude.{◌≡◌, ◌≤◌, IsSome};
-ghost use Rattle.trace_text.specs.Printable.{IsKindOf, IsPrintable};
+ghost use Rattle.trace_text.specs.Printable.{IsPrintable};
 
 use crate::digits::Digits;
 use crate::items::put_item;
@@ -122,7 +122,6 @@ fn check_fault(
     expected: &[u8],
 )
     requires half { half ≤ 1 }
-    requires kind { IsKindOf stp source }
 {
     let stop = Stop {
         fault: Fault { at, half, reason },
@@ -217,7 +216,7 @@ fn lines_of_faults(rt: HostRuntime) {
 }
 
 fn check_event(rt: &impl Abort, event: &Event<Packet>, stp: bool, remark: Remark, expected: &[u8])
-    requires { IsPrintable stp event.now remark }
+    requires { IsPrintable event.now remark }
 {
     let mut digits = Digits::new();
     digits.keep(event.at);

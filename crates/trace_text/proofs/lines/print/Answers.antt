@@ -4,5 +4,5 @@ use Rattle.trace_text.proofs.lines.print.Goals as goal
 
 pub returns-clause-bound : goal.returns-clause-bound
 returns-clause-bound c =
-    longer 90 c.args.outlet.now c.put.new.self (event_line c.args.stp c.args.event.now c.args.remark) c.put.ensures.text
+    longer 92 c.args.outlet.now c.put.new.self (event_line c.args.stp c.args.event.now c.args.remark) c.put.ensures.text
     (event c.args.stp c.args.event.now c.args.remark c.requires.printable c.short_event.ensures c.short_remark.ensures)

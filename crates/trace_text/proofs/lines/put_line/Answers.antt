@@ -5,5 +5,5 @@ use Rattle.trace_text.proofs.lines.put_line.Goals as goal
 
 pub returns-clause-bound : goal.returns-clause-bound
 returns-clause-bound c =
-    longer 90 c.args.outlet.now c.put.new.self (event_line false (itm_event c.args.at c.args.id c.args.packet.now) c.args.remark) c.put.ensures.text
+    longer 92 c.args.outlet.now c.put.new.self (event_line false (itm_event c.args.at c.args.id c.args.packet.now) c.args.remark) c.put.ensures.text
     (packet c.args.at c.args.id c.args.packet.now c.args.remark c.requires.proper c.requires.suits c.few_digits.ensures c.few_id_digits.ensures c.short_remark.ensures)
