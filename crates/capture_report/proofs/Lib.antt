@@ -1,2 +1,4 @@
 pub mod Timing
 pub mod Lines
+pub mod Feeding
+pub mod Printing
