@@ -118,7 +118,8 @@ impl Action for Check {
     ghost use Rattle.capture_actions.specs.Port.{IsPortFaulty};
     ghost use Rattle.capture_actions.specs.Summary.{check_text, summary};
     ghost use Rattle.capture_actions.specs.Checker.{Stands, plan_of, taken_by, IsLive};
-    ghost use Rattle.capture_actions.specs.CheckLaws.{none_at_first, nothing_at_first, faulty_stays, text_stays, summary_stays, text_grows};
+    ghost use Rattle.capture_actions.specs.CheckLaws.{none_at_first, nothing_at_first, faulty_stays, text_stays};
+    ghost use Rattle.capture_actions.specs.CheckLaws.{summary_stays, text_grows};
 
     type Plan = FramesMode;
 
