@@ -20,7 +20,7 @@ pub enum CommandOption {
 
 impl CommandOption {
     /// The name of the option, after the two dashes, at the lifetime of the command that takes it.
-    pub fn name<'a>(self) -> &'a str
+    pub(crate) fn name<'a>(self) -> &'a str
         ensures { result.now ≡ option_name self }
     {
         match self {
