@@ -23,7 +23,7 @@ pub struct Check {
 }
 
 impl Check {
-    ghost use Rattle.std.specs.Prelude.{◌^◌, ◌<◌, take};
+    ghost use Rattle.std.specs.Prelude.{◌<◌, take};
     ghost use Rattle.trace_io.specs.Bytes.{TakesSome};
     ghost use Rattle.trace_stream.specs.Taken.{HasTaken, Turn};
     ghost use Rattle.trace_stream.specs.declared.limits.TheConstants.{GREATEST_CAPTURE};

@@ -1,6 +1,6 @@
 //! The reading of a capture's port.
 
-ghost use Rattle.std.specs.Prelude.{◌≡◌, ◌+◌, ◌^◌, ◌<◌, ◌≤◌, ◌++◌, [], ℕ, List, length, take, true, is_none};
+ghost use Rattle.std.specs.Prelude.{◌≡◌, ◌+◌, ◌<◌, ◌≤◌, ◌++◌, [], ℕ, List, length, take, true, is_none};
 ghost use Rattle.std.specs.Prelude.{option_map, Option, IsTrue};
 ghost use Rattle.frame_grammar.specs.Frame.{id_after};
 ghost use Rattle.frame_grammar.specs.Whole.{IsWhole};

@@ -47,7 +47,7 @@ fn put_cells(outlet: &mut Outlet, id: SourceId, cells: &[Cell])
 }
 
 impl Split {
-    ghost use Rattle.std.specs.Prelude.{[], ℕ, List, ◌*◌, ◌<◌, ◌^◌, take};
+    ghost use Rattle.std.specs.Prelude.{[], ℕ, List, ◌*◌, ◌<◌, take};
     ghost use Rattle.trace_io.specs.Bytes.{TakesSome};
     ghost use Rattle.trace_stream.specs.Taken.{HasTaken, Turn};
     ghost use Rattle.trace_stream.specs.declared.limits.TheConstants.{GREATEST_CAPTURE};
