@@ -12,7 +12,8 @@ use Rattle.capture_words.specs.declared.settings.Settings.{Settings}
 use Rattle.capture_words.specs.declared.usage.UsageFault.{UsageFault}
 use Rattle.capture_words.specs.declared.usage.UsageFault.TheVariants.{SplitNeedsId, MappedTwice}
 use Rattle.capture_words.specs.declared.values.ActionName.{ActionName}
-use Rattle.capture_words.specs.declared.values.ActionName.TheVariants.{Show as ShowName, Split as SplitName, Check as CheckName}
+use Rattle.capture_words.specs.declared.values.ActionName.TheVariants.{Show as ShowName, Split as SplitName}
+use Rattle.capture_words.specs.declared.values.ActionName.TheVariants.{Check as CheckName}
 
 infixr 10 ◌>>=◌
 -- a fault, or else what is made of the value

@@ -12,7 +12,7 @@ use std::alloc::{AllocError, Global};
 const CAPTURE_HELP: &str =
     "The capture is read from standard input, as in: ./lipparoy check < CAPTURE";
 
-/// The command with this option besides. It takes one value, and stands once at most.
+/// The command with this option besides. It takes one value, and is given once at most.
 fn with_option<'a>(
     alloc: Global,
     command: Command<'a>,
