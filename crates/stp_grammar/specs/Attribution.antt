@@ -1,6 +1,6 @@
 -- What a packet is as an item: its place and its timestamp, by looking back over all packets up to it, itself included
--- (MIPI System Trace Protocol, version 2, where masters and channels hold for the packets after them, and timestamps may
--- carry only low nibbles). Which packets tell what, and what versions 3 and 4 mean, is this project's profile.
+-- (MIPI System Trace Protocol, version 2, where masters and channels hold for the packets after them, and timestamps
+-- may carry only low nibbles). Which packets tell what, and what versions 3 and 4 mean, is this project's profile.
 use Rattle.std.specs.Prelude.{ℕ, ◌+◌, ◌*◌, ◌/◌, ◌%◌, List, [], ◌∷◌, ◌++◌, Bool, false, ◌==◌, ◌||◌, if◌then◌else◌, Option, None, Some, unwrap_or}
 use Rattle.std.specs.Option.{is_some, option_or}
 use Rattle.std.specs.List.{list_any, filter_map, last_or, after_last}

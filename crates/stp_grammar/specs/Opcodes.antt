@@ -1,5 +1,5 @@
--- The table of opcodes (MIPI System Trace Protocol, version 2). Which packets are read, how long their payloads are, and
--- that other opcodes are refused, is this project's profile.
+-- The table of opcodes (MIPI System Trace Protocol, version 2). Which packets are read, how long their payloads are,
+-- and that other opcodes are refused, is this project's profile.
 use Rattle.std.specs.Prelude.{ℕ, List, [], ◌∷◌, Bool, true, false, nat_eq, ◌==◌, ◌||◌, if◌then◌else◌, get_or, Option, None, Some}
 use Rattle.std.specs.List.{find, list_any, list_all, starts_with}
 use Rattle.stp_grammar.specs.declared.opcode.Head.{Head}
@@ -64,7 +64,8 @@ rows =
     ∷ Datum ThirtyTwo false false ∷ Datum SixtyFour false false ∷ Datum Eight true true ∷ Datum Sixteen true true
     ∷ Datum ThirtyTwo true true ∷ Datum SixtyFour true true ∷ Datum Four false false ∷ Datum Four true true ∷ Flag true
     ∷ Master16 ∷ GlobalError ∷ Channel16 ∷ Datum Eight false true ∷ Datum Sixteen false true
-    ∷ Datum ThirtyTwo false true ∷ Datum SixtyFour false true ∷ Datum Eight true false ∷ Datum Sixteen true false ∷ Datum ThirtyTwo true false
+    ∷ Datum ThirtyTwo false true ∷ Datum SixtyFour false true ∷ Datum Eight true false ∷ Datum Sixteen true false
+    ∷ Datum ThirtyTwo true false
     ∷ Datum SixtyFour true false ∷ Datum Four false true ∷ Datum Four true false ∷ Flag false ∷ Version ∷ NullStamp
     ∷ Trigger false ∷ Trigger true ∷ Frequency false ∷ Frequency true ∷ []
 

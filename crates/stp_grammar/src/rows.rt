@@ -190,7 +190,8 @@ pub fn places()
     ensures low_master { item_row Msn (codes "01 45 14") ≡
         (DatumItem (record { master = None; channel = Some 0 }) Eight 65 false NoStamp, 2, 1) ∷ [] }
     ensures low { item_row Msn (codes "0F 30 01 37 90 44 01") ≡
-        (VersionItem 3, 1, 1) ∷ (DatumItem (record { master = Some 7; channel = Some 9 }) Eight 65 false NoStamp, 6, 0) ∷ [] }
+        (VersionItem 3, 1, 1)
+        ∷ (DatumItem (record { master = Some 7; channel = Some 9 }) Eight 65 false NoStamp, 6, 0) ∷ [] }
     ensures whole { item_row Msn (codes "1F 21 43 3F 65 87 02 C9 07") ≡
         (MasterErrorItem (record { master = Some 4660; channel = Some 22136 }) 9, 7, 0)
         ∷ (DatumItem (record { master = Some 4660; channel = Some 22136 }) Four 7 false NoStamp, 8, 0) ∷ [] }
