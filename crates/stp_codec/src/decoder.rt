@@ -266,6 +266,14 @@ impl StpDecoder {
     }
 }
 
+/// The default one reads from the first nibble on, in the order most significant nibble first. It only fills the
+/// unused places of a buffer.
+impl Default for StpDecoder {
+    fn default() -> StpDecoder {
+        StpDecoder::aligned(Order::Msn)
+    }
+}
+
 /// The item, if there is one, as a step with which it ends in this half.
 #[inline(always)]
 fn item_in(half: u8, item: Option<StpItem>) -> Option<Step<StpItem>>

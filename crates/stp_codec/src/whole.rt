@@ -28,11 +28,7 @@ fn nibble_of(bytes: &[u8], index: usize) -> u8
     ensures small { result < 16 }
 {
     let byte = bytes[index / 2];
-    if index % 2 == 0 {
-        byte % 16
-    } else {
-        byte / 16
-    }
+    if index % 2 == 0 { byte % 16 } else { byte / 16 }
 }
 
 /// The number that `count` nibbles make with the next `more`, where they made `value` without them.
@@ -55,7 +51,14 @@ fn number_from(order: Order, count: u8, value: u64, bytes: &[u8], start: usize, 
 /// The number of `most` nibbles, of which `count` made `value` and the others begin at this nibble of the bytes, and
 /// the nibble after them. None where they are not all there.
 #[inline(always)]
-fn number_at(order: Order, count: u8, value: u64, most: u8, bytes: &[u8], start: usize) -> Option<(usize, u64)>
+fn number_at(
+    order: Order,
+    count: u8,
+    value: u64,
+    most: u8,
+    bytes: &[u8],
+    start: usize,
+) -> Option<(usize, u64)>
     requires few { (count ≤ most) × (most ≤ 16) }
     requires fits { value < 16 ^ count }
     requires there { start ≤ 2 * length bytes.now }
@@ -73,7 +76,13 @@ fn number_at(order: Order, count: u8, value: u64, most: u8, bytes: &[u8], start:
 
 /// The packet, from its timestamp's size nibble on, and the nibble after it.
 #[inline(always)]
-fn from_size(order: Order, row: Row, payload: u64, bytes: &[u8], start: usize) -> Option<(usize, StpPacket)>
+fn from_size(
+    order: Order,
+    row: Row,
+    payload: u64,
+    bytes: &[u8],
+    start: usize,
+) -> Option<(usize, StpPacket)>
     requires fits { payload < 16 ^ (line_of row).payload }
     requires there { start ≤ 2 * length bytes.now }
     ensures end { IfSome result (λ x. (start < x.0) × (x.0 ≤ 2 * length bytes.now)) }
@@ -111,7 +120,13 @@ fn from_size(order: Order, row: Row, payload: u64, bytes: &[u8], start: usize) -
 
 /// The packet, from the nibble after its payload on, and the nibble after it.
 #[inline(always)]
-fn from_payload(order: Order, row: Row, payload: u64, bytes: &[u8], start: usize) -> Option<(usize, StpPacket)>
+fn from_payload(
+    order: Order,
+    row: Row,
+    payload: u64,
+    bytes: &[u8],
+    start: usize,
+) -> Option<(usize, StpPacket)>
     requires fits { payload < 16 ^ (line_of row).payload }
     requires there { start ≤ 2 * length bytes.now }
     ensures end { IfSome result (λ x. (start ≤ x.0) × (x.0 ≤ 2 * length bytes.now)) }
