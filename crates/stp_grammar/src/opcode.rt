@@ -20,7 +20,7 @@ fn datum(width: Width, marked: bool, stamped: bool) -> Row
     }
 }
 
-/// The row of this number.
+/// The row of this number, 0 to 34.
 #[inline]
 pub fn row_at(number: u8) -> Row
     requires { number < 35 }

@@ -5,7 +5,7 @@ ghost use Rattle.trace_values.specs.declared.fault.Reason.TheVariants.{Unsupport
 ghost use Rattle.trace_values.specs.Walk.{Whole, Within};
 ghost use Rattle.stp_grammar.specs.declared.packet.Width.TheVariants.{Four, Eight, Sixteen, ThirtyTwo, SixtyFour};
 ghost use Rattle.stp_grammar.specs.declared.packet.Order.TheVariants.{Msn, Lsn};
-ghost use Rattle.stp_grammar.specs.declared.packet.Row.TheVariants.{Null, Datum, Flag};
+ghost use Rattle.stp_grammar.specs.declared.packet.Row.TheVariants.{Null, Datum, Flag, Master16};
 ghost use Rattle.stp_grammar.specs.declared.packet.StpPacket.TheVariants.{Async, Plain, Stamped};
 ghost use Rattle.stp_grammar.specs.declared.partial.Partial.TheVariants.{Word};
 ghost use Rattle.stp_grammar.specs.declared.item.Stamp.TheVariants.{None as NoStamp, Natural, Gray, Raw};
@@ -14,6 +14,7 @@ ghost use Rattle.stp_grammar.specs.declared.item.StpItem.TheVariants.{MasterErro
 ghost use Rattle.stp_grammar.specs.declared.item.StpItem.TheVariants.{Datum as DatumItem, Flag as FlagItem};
 ghost use Rattle.stp_grammar.specs.declared.opcode.Head.TheVariants.{More, Refused};
 ghost use Rattle.stp_grammar.specs.Opcodes.{head_of, opening_of};
+ghost use Rattle.stp_grammar.specs.Shortest.{short};
 ghost use Rattle.stp_grammar.specs.Rows.{nibbles, line_row, walk_row, packet_row, item_row, end_row};
 
 /// The opcodes of one nibble: the row's number, how many nibbles the payload has, and whether a timestamp follows.
@@ -224,6 +225,15 @@ pub fn gray_stamps()
         ∷ (FlagItem (record { master = Some 0; channel = Some 0 }) (Gray 18446744073709551615), 10, 1)
         ∷ (FlagItem (record { master = Some 0; channel = Some 0 }) (Gray 18446744073709551615), 11, 1)
         ∷ (FlagItem (record { master = Some 0; channel = Some 0 }) (Gray 18446744073709551614), 19, 1) ∷ [] }
+{}
+
+/// The shortest spellings of packets.
+pub fn shortest()
+    ensures sync { short Lsn Async ≡ nibbles (codes "FFFFFFFFFFFFFFFFFFFFF0") }
+    ensures master { short Msn (Plain Master16 4660) ≡ nibbles (codes "F11234") }
+    ensures other_master { short Lsn (Plain Master16 4660) ≡ nibbles (codes "F14321") }
+    ensures datum { short Msn (Stamped (Datum Eight false true) 66 1 5) ≡ nibbles (codes "F44215") }
+    ensures other_datum { short Lsn (Stamped (Datum Eight false true) 66 13 5) ≡ nibbles (codes "F424D50000000000000") }
 {}
 
 /// Captures with a fault: how many nibbles are not of a packet, and the fault's offset, half and reason.
