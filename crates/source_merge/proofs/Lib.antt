@@ -11,3 +11,4 @@ pub mod Going
 pub mod Refilled
 pub mod Feds
 pub mod Attributed
+pub mod Ending

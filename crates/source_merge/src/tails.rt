@@ -28,13 +28,23 @@ pub fn source_tails(plan: &Plan, slots: &[Slot<SourceMachine>]) -> SourceTails
 {
     let mut tails = SourceTails::new();
     for number in 0..SOURCES {
-        if let Some(id) = SourceId::new(number) {
-            if let Some(tail) = source_tail(plan, slots, id) {
-                tails.push(tail);
-            }
+        if let Some(tail) = numbered_tail(plan, slots, number) {
+            tails.push(tail);
         }
     }
     tails
+}
+
+/// How the source of this number was read, if it is mapped.
+fn numbered_tail(plan: &Plan, slots: &[Slot<SourceMachine>], number: u8) -> Option<SourceTail>
+    requires source { number ≤ 126 }
+    requires live { AllLive is_live slots.now }
+    ensures tail { (r : PortReading) → mapped_of reading_of slots.now ≡ sources_by plan.now →
+        AllStand Stands slots.now (runs_in r) → all_of result ≡ tail_by plan.now r number (kind_of plan.now number) }
+    ensures found { IfSome result (λ tail. list_any (λ s. s.id == number) slots.now ≡ true) }
+{
+    let id = SourceId::new(number)?;
+    source_tail(plan, slots, id)
 }
 
 /// How a source was read, if it is mapped.
