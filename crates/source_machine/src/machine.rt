@@ -1,19 +1,23 @@
 //! The machine of a source.
 
 ghost use Rattle.std.specs.Prelude.{◌≡◌};
-ghost use Rattle.source_events.specs.declared.packet.Packet.TheVariants.{Itm};
-ghost use Rattle.source_machine.specs.Seen.{step_as, option_step_as};
+ghost use Rattle.source_events.specs.declared.packet.Packet.TheVariants.{Itm, Stp};
+ghost use Rattle.source_machine.specs.Seen.{block_as, step_as};
 
 use capture_plan::PacketsMode;
 use itm_codec::ItmDecoder;
 use itm_grammar::packet::ItmPacket;
-use source_events::Packet;
+use source_events::{Packet, SourceKind};
+use stp_codec::StpDecoder;
+use stp_grammar::item::StpItem;
+use stp_grammar::packet::Order;
 use trace_values::{Block, Machine, Step};
 
 /// What reads the bytes of a mapped source.
 #[derive(Drop)]
-pub struct SourceMachine {
-    decoder: ItmDecoder,
+pub enum SourceMachine {
+    Itm(ItmDecoder),
+    Stp(StpDecoder),
 }
 
 /// What an ITM decoder answers, as a machine of sources does.
@@ -44,7 +48,7 @@ fn itm_step(step: Step<ItmPacket>) -> Step<Packet>
 /// The same of a piece.
 #[inline]
 fn itm_block(block: Block<ItmPacket>) -> Block<Packet>
-    ensures { result ≡ record { bytes = block.bytes; step = option_step_as Itm block.step } }
+    ensures { result ≡ block_as Itm block }
 {
     Block {
         bytes: block.bytes,
@@ -55,26 +59,66 @@ fn itm_block(block: Block<ItmPacket>) -> Block<Packet>
     }
 }
 
+/// What an STP decoder answers, as a machine of sources does.
+#[inline]
+fn stp_step(step: Step<StpItem>) -> Step<Packet>
+    ensures { result ≡ step_as Stp step }
+{
+    match step {
+        Step::Quiet => Step::Quiet,
+        Step::Skipping => Step::Skipping,
+        Step::Item { half, item } => Step::Item {
+            half,
+            item: Packet::Stp(item),
+        },
+        Step::Locked {
+            skipped,
+            half,
+            item,
+        } => Step::Locked {
+            skipped,
+            half,
+            item: Packet::Stp(item),
+        },
+        Step::Fault(fault) => Step::Fault(fault),
+    }
+}
+
+/// The same of a piece.
+#[inline]
+fn stp_block(block: Block<StpItem>) -> Block<Packet>
+    ensures { result ≡ block_as Stp block }
+{
+    Block {
+        bytes: block.bytes,
+        step: match block.step {
+            None => None,
+            Some(step) => Some(stp_step(step)),
+        },
+    }
+}
+
 impl SourceMachine {
     ghost use Rattle.std.specs.Prelude.{ℕ, ◌+◌, ◌*◌, ◌^◌, ◌<◌, ◌≤◌, List, [], length, IfSome, true};
     ghost use Rattle.trace_values.specs.Placed.{Placed};
-    ghost use Rattle.trace_values.specs.Stream.{StepFits, LocksAfter};
+    ghost use Rattle.trace_values.specs.Stream.{StepFits};
     ghost use Rattle.trace_values.specs.Block.{Takes, StopsFor, goes_on_after};
     ghost use Rattle.source_events.specs.Fitting.{PacketFits};
-    ghost use Rattle.source_machine.specs.Machine.{reading_of, itm_reading, Stands, is_live, held_of, skipped_by};
+    ghost use Rattle.source_machine.specs.Machine.{reading_of, reading_by, Stands, is_live, held_of, skipped_by};
 
-    /// The machine of an ITM source before its first byte.
-    pub fn itm(packets: PacketsMode) -> SourceMachine
+    /// The machine of a source of this kind before its first byte.
+    pub fn new(kind: SourceKind, packets: PacketsMode, order: Order) -> SourceMachine
         ensures fresh { Stands result [] }
-        ensures reading { reading_of result ≡ itm_reading packets }
+        ensures reading { reading_of result ≡ reading_by kind packets order }
         ensures live { is_live result ≡ true }
         ensures empty { (held_of result ≡ 0) × (skipped_by result ≡ 0) }
     {
-        let decoder = match packets {
-            PacketsMode::Hunt => ItmDecoder::hunting(),
-            PacketsMode::Aligned => ItmDecoder::aligned(),
-        };
-        SourceMachine { decoder }
+        match (kind, packets) {
+            (SourceKind::Itm, PacketsMode::Hunt) => SourceMachine::Itm(ItmDecoder::hunting()),
+            (SourceKind::Itm, PacketsMode::Aligned) => SourceMachine::Itm(ItmDecoder::aligned()),
+            (SourceKind::Stp, PacketsMode::Hunt) => SourceMachine::Stp(StpDecoder::hunting(order)),
+            (SourceKind::Stp, PacketsMode::Aligned) => SourceMachine::Stp(StpDecoder::aligned(order)),
+        }
     }
 
     /// Feeds a piece, whose first byte is at this offset, up to the first byte to which the answer is neither `Quiet` nor
@@ -94,13 +138,16 @@ impl SourceMachine {
         ensures fits { IfSome result.step (StepFits PacketFits) }
         ensures few { held_of self.new + skipped_by self.new ≤ held_of self.old + skipped_by self.old + 2 * result.bytes }
     {
-        itm_block(self.decoder.feed_piece(at, piece))
+        match self {
+            SourceMachine::Itm(decoder) => itm_block(decoder.feed_piece(at, piece)),
+            SourceMachine::Stp(decoder) => stp_block(decoder.feed_piece(at, piece)),
+        }
     }
 }
 
 impl Machine for SourceMachine {
     ghost use Rattle.source_events.specs.Fitting.{PacketFits};
-    ghost use Rattle.source_machine.specs.Machine.{reading_of, Stands, is_live, has_locked, held_of, skipped_by};
+    ghost use Rattle.source_machine.specs.Machine.{reading_of, Stands, is_live, has_locked, held_of, skipped_by, units_by};
     ghost use Rattle.source_machine.specs.MachineLaws as laws;
 
     type Item = Packet;
@@ -117,7 +164,7 @@ impl Machine for SourceMachine {
 
     ghost skipped_units = { skipped_by };
 
-    ghost units_per_byte = { λ m. 1 };
+    ghost units_per_byte = { units_by };
 
     ghost fits = { PacketFits };
 
@@ -134,22 +181,37 @@ impl Machine for SourceMachine {
     ghost keeps = { laws.keeps };
 
     fn feed(&mut self, at: u64, byte: u8) -> Step<Packet> {
-        itm_step(self.decoder.feed(at, byte))
+        match self {
+            SourceMachine::Itm(decoder) => itm_step(decoder.feed(at, byte)),
+            SourceMachine::Stp(decoder) => stp_step(decoder.feed(at, byte)),
+        }
     }
 
     fn is_live(&self) -> bool {
-        self.decoder.is_live()
+        match self {
+            SourceMachine::Itm(decoder) => decoder.is_live(),
+            SourceMachine::Stp(decoder) => decoder.is_live(),
+        }
     }
 
     fn is_locked(&self) -> bool {
-        self.decoder.is_locked()
+        match self {
+            SourceMachine::Itm(decoder) => decoder.is_locked(),
+            SourceMachine::Stp(decoder) => decoder.is_locked(),
+        }
     }
 
     fn held(&self) -> u64 {
-        self.decoder.held()
+        match self {
+            SourceMachine::Itm(decoder) => decoder.held(),
+            SourceMachine::Stp(decoder) => decoder.held(),
+        }
     }
 
     fn skipped(&self) -> u64 {
-        self.decoder.skipped()
+        match self {
+            SourceMachine::Itm(decoder) => decoder.skipped(),
+            SourceMachine::Stp(decoder) => decoder.skipped(),
+        }
     }
 }
