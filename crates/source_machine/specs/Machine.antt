@@ -6,26 +6,26 @@ use Rattle.capture_plan.specs.declared.packets.PacketsMode.{PacketsMode}
 use Rattle.capture_plan.specs.Modes.{packets_hunt}
 use Rattle.itm_codec.specs.Reading.{packets_in}
 use Rattle.itm_codec.specs.Decoder as itm
+use Rattle.stp_grammar.specs.declared.packet.Order.{Order}
 use Rattle.stp_codec.specs.Reading.{items_in}
 use Rattle.stp_codec.specs.Decoder as stp
-use Rattle.stp_grammar.specs.declared.packet.Order.{Order}
 use Rattle.source_events.specs.declared.packet.Packet.{Packet}
 use Rattle.source_events.specs.declared.packet.Packet.TheVariants.{Itm as ItmPacket, Stp as StpPacket}
+use Rattle.source_events.specs.declared.plan.SourceKind.{SourceKind}
+use Rattle.source_events.specs.declared.plan.SourceKind.TheVariants.{Itm as ItmKind, Stp as StpKind}
 use Rattle.source_events.specs.Packets.{stream_as}
 use Rattle.source_machine.specs.declared.machine.SourceMachine.{SourceMachine}
 use Rattle.source_machine.specs.declared.machine.SourceMachine.TheVariants.{Itm, Stp}
 
--- what a list of bytes reads as
+-- what its list of bytes reads as
 abbrev pub reading_of : SourceMachine → List Placed → Stream Packet
 reading_of (Itm decoder) u = stream_as ItmPacket (packets_in (itm.is_hunter decoder) u)
 reading_of (Stp decoder) u = stream_as StpPacket (items_in (stp.order_of decoder) (stp.is_hunter decoder) u)
 
--- what the bytes of an ITM source read as, and those of an STP source
-abbrev pub itm_reading : PacketsMode → List Placed → Stream Packet
-itm_reading packets u = stream_as ItmPacket (packets_in (packets_hunt packets) u)
-
-abbrev pub stp_reading : PacketsMode → Order → List Placed → Stream Packet
-stp_reading packets order u = stream_as StpPacket (items_in order (packets_hunt packets) u)
+-- what the bytes of a source of this kind read as
+abbrev pub reading_by : SourceKind → PacketsMode → Order → List Placed → Stream Packet
+reading_by ItmKind packets order u = stream_as ItmPacket (packets_in (packets_hunt packets) u)
+reading_by StpKind packets order u = stream_as StpPacket (items_in order (packets_hunt packets) u)
 
 -- its decoder stands for this list
 abbrev pub Stands : SourceMachine → List Placed → Type 0
@@ -52,6 +52,6 @@ skipped_by (Itm decoder) = itm.skipped_by decoder
 skipped_by (Stp decoder) = stp.skipped_by decoder
 
 -- its units are bytes, or nibbles
-abbrev pub units_per_byte : SourceMachine → ℕ
-units_per_byte (Itm decoder) = 1
-units_per_byte (Stp decoder) = 2
+abbrev pub units_by : SourceMachine → ℕ
+units_by (Itm decoder) = 1
+units_by (Stp decoder) = 2

@@ -8,7 +8,7 @@ use Rattle.trace_values.specs.Placed.{Place, Placed}
 use Rattle.trace_values.specs.Stream.{Said, Stream, Grows, HuntBy, Shows, Settled, Holds, Rises, AllAt, StepFits, LocksAfter, given_by, fault_by, goes_on}
 use Rattle.trace_values.specs.Block.{given_after, fault_after, goes_on_after, StandsAt, StopsFor, Takes}
 use Rattle.source_events.specs.Packets.{said_as, given_as, stream_as}
-use Rattle.source_machine.specs.Seen.{step_as, option_step_as}
+use Rattle.source_machine.specs.Seen.{step_as, last_as}
 
 module _ {V W : Type 0} (f : V → W) where
   pub given_append : (xs ys : List (Said V × Place)) → given_as f (xs ++ ys) ≡ given_as f xs ++ given_as f ys
@@ -97,19 +97,19 @@ module _ {V W : Type 0} (f : V → W) where
   }
 
   -- of a piece
-  given_block : (at : ℕ) (step : Option (Step V)) → given_as f (given_after at step) ≡ given_after at (option_step_as f step)
+  given_block : (at : ℕ) (step : Option (Step V)) → given_as f (given_after at step) ≡ given_after at (last_as f step)
   given_block at None = refl
   given_block at (Some step) = given_step at step
 
-  fault_block : (at : ℕ) (step : Option (Step V)) → fault_after at step ≡ fault_after at (option_step_as f step)
+  fault_block : (at : ℕ) (step : Option (Step V)) → fault_after at step ≡ fault_after at (last_as f step)
   fault_block at None = refl
   fault_block at (Some step) = fault_step at step
 
-  pub goes_after : (step : Option (Step V)) → goes_on_after step ≡ goes_on_after (option_step_as f step)
+  pub goes_after : (step : Option (Step V)) → goes_on_after step ≡ goes_on_after (last_as f step)
   goes_after None = refl
   goes_after (Some step) = goes_as step
 
-  place_block : (at : ℕ) (step : Option (Step V)) → StandsAt at step → StandsAt at (option_step_as f step)
+  place_block : (at : ℕ) (step : Option (Step V)) → StandsAt at step → StandsAt at (last_as f step)
   place_block at None h = h
   place_block at (Some Quiet) h = h
   place_block at (Some Skipping) h = h
@@ -118,7 +118,7 @@ module _ {V W : Type 0} (f : V → W) where
   place_block at (Some (Fault x)) h = h
 
   pub stops_as : (bytes length : ℕ) (step : Option (Step V)) → StopsFor bytes length step →
-      StopsFor bytes length (option_step_as f step)
+      StopsFor bytes length (last_as f step)
   stops_as bytes length None h = h
   stops_as bytes length (Some Quiet) h = h
   stops_as bytes length (Some Skipping) h = h
@@ -128,7 +128,7 @@ module _ {V W : Type 0} (f : V → W) where
 
   pub takes_as : (reading : List Placed → Stream V) (stands : List Placed → Type 0) (u : List Placed) (at : ℕ) (piece : List ℕ)
       (bytes : ℕ) (step : Option (Step V)) → Takes reading stands u at piece bytes step →
-      Takes (λ w. stream_as f (reading w)) stands u at piece bytes (option_step_as f step)
+      Takes (λ w. stream_as f (reading w)) stands u at piece bytes (last_as f step)
   takes_as reading stands u at piece bytes step t = record {
     list = t.list;
     given = ap (given_as f) t.given ∙ given_append _ _ ∙ ap (λ l. given_as f (reading u).given ++ l) (given_block _ step);

@@ -2,12 +2,12 @@
 
 ghost use Rattle.std.specs.Prelude.{◌≡◌};
 ghost use Rattle.source_events.specs.declared.packet.Packet.TheVariants.{Itm, Stp};
-ghost use Rattle.source_machine.specs.Seen.{step_as, option_step_as};
+ghost use Rattle.source_machine.specs.Seen.{block_as, step_as};
 
 use capture_plan::PacketsMode;
 use itm_codec::ItmDecoder;
 use itm_grammar::packet::ItmPacket;
-use source_events::Packet;
+use source_events::{Packet, SourceKind};
 use stp_codec::StpDecoder;
 use stp_grammar::item::StpItem;
 use stp_grammar::packet::Order;
@@ -16,9 +16,7 @@ use trace_values::{Block, Machine, Step};
 /// What reads the bytes of a mapped source.
 #[derive(Drop)]
 pub enum SourceMachine {
-    /// Those of an instrumentation trace macrocell.
     Itm(ItmDecoder),
-    /// Those of a system trace macrocell.
     Stp(StpDecoder),
 }
 
@@ -50,7 +48,7 @@ fn itm_step(step: Step<ItmPacket>) -> Step<Packet>
 /// The same of a piece.
 #[inline]
 fn itm_block(block: Block<ItmPacket>) -> Block<Packet>
-    ensures { result ≡ record { bytes = block.bytes; step = option_step_as Itm block.step } }
+    ensures { result ≡ block_as Itm block }
 {
     Block {
         bytes: block.bytes,
@@ -89,7 +87,7 @@ fn stp_step(step: Step<StpItem>) -> Step<Packet>
 /// The same of a piece.
 #[inline]
 fn stp_block(block: Block<StpItem>) -> Block<Packet>
-    ensures { result ≡ record { bytes = block.bytes; step = option_step_as Stp block.step } }
+    ensures { result ≡ block_as Stp block }
 {
     Block {
         bytes: block.bytes,
@@ -103,37 +101,24 @@ fn stp_block(block: Block<StpItem>) -> Block<Packet>
 impl SourceMachine {
     ghost use Rattle.std.specs.Prelude.{ℕ, ◌+◌, ◌*◌, ◌^◌, ◌<◌, ◌≤◌, List, [], length, IfSome, true};
     ghost use Rattle.trace_values.specs.Placed.{Placed};
-    ghost use Rattle.trace_values.specs.Stream.{StepFits, LocksAfter};
+    ghost use Rattle.trace_values.specs.Stream.{StepFits};
     ghost use Rattle.trace_values.specs.Block.{Takes, StopsFor, goes_on_after};
     ghost use Rattle.source_events.specs.Fitting.{PacketFits};
-    ghost use Rattle.source_machine.specs.Machine.{reading_of, itm_reading, stp_reading, Stands, is_live, held_of, skipped_by};
+    ghost use Rattle.source_machine.specs.Machine.{reading_of, reading_by, Stands, is_live, held_of, skipped_by};
 
-    /// The machine of an ITM source before its first byte.
-    pub fn itm(packets: PacketsMode) -> SourceMachine
+    /// The machine of a source of this kind before its first byte.
+    pub fn new(kind: SourceKind, packets: PacketsMode, order: Order) -> SourceMachine
         ensures fresh { Stands result [] }
-        ensures reading { reading_of result ≡ itm_reading packets }
+        ensures reading { reading_of result ≡ reading_by kind packets order }
         ensures live { is_live result ≡ true }
         ensures empty { (held_of result ≡ 0) × (skipped_by result ≡ 0) }
     {
-        let decoder = match packets {
-            PacketsMode::Hunt => ItmDecoder::hunting(),
-            PacketsMode::Aligned => ItmDecoder::aligned(),
-        };
-        SourceMachine::Itm(decoder)
-    }
-
-    /// The machine of an STP source before its first byte, whose numbers have their nibbles in this order.
-    pub fn stp(packets: PacketsMode, order: Order) -> SourceMachine
-        ensures fresh { Stands result [] }
-        ensures reading { reading_of result ≡ stp_reading packets order }
-        ensures live { is_live result ≡ true }
-        ensures empty { (held_of result ≡ 0) × (skipped_by result ≡ 0) }
-    {
-        let decoder = match packets {
-            PacketsMode::Hunt => StpDecoder::hunting(order),
-            PacketsMode::Aligned => StpDecoder::aligned(order),
-        };
-        SourceMachine::Stp(decoder)
+        match (kind, packets) {
+            (SourceKind::Itm, PacketsMode::Hunt) => SourceMachine::Itm(ItmDecoder::hunting()),
+            (SourceKind::Itm, PacketsMode::Aligned) => SourceMachine::Itm(ItmDecoder::aligned()),
+            (SourceKind::Stp, PacketsMode::Hunt) => SourceMachine::Stp(StpDecoder::hunting(order)),
+            (SourceKind::Stp, PacketsMode::Aligned) => SourceMachine::Stp(StpDecoder::aligned(order)),
+        }
     }
 
     /// Feeds a piece, whose first byte is at this offset, up to the first byte to which the answer is neither `Quiet` nor
@@ -162,7 +147,7 @@ impl SourceMachine {
 
 impl Machine for SourceMachine {
     ghost use Rattle.source_events.specs.Fitting.{PacketFits};
-    ghost use Rattle.source_machine.specs.Machine.{reading_of, Stands, is_live, has_locked, held_of, skipped_by, units_per_byte};
+    ghost use Rattle.source_machine.specs.Machine.{reading_of, Stands, is_live, has_locked, held_of, skipped_by, units_by};
     ghost use Rattle.source_machine.specs.MachineLaws as laws;
 
     type Item = Packet;
@@ -179,7 +164,7 @@ impl Machine for SourceMachine {
 
     ghost skipped_units = { skipped_by };
 
-    ghost units_per_byte = { units_per_byte };
+    ghost units_per_byte = { units_by };
 
     ghost fits = { PacketFits };
 

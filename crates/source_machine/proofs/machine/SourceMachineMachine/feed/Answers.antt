@@ -15,19 +15,18 @@ use Rattle.source_machine.proofs.machine.SourceMachineMachine.feed.Goals as goal
 pub returns-in-Itm-clause-same : goal.returns-in-Itm-clause-same
 returns-in-Itm-clause-same c =
     ap (λ (r : List Placed → Stream ItmPacket). λ (u : List Placed). stream_as Itm (r u)) c.feed.ensures.same
-    ∙ ap (λ (m : SourceMachine). reading_of m) (sym c.in-Itm.is)
+    ∙ ap reading_of (sym c.in-Itm.is)
 
 pub returns-in-Stp-clause-same : goal.returns-in-Stp-clause-same
 returns-in-Stp-clause-same c =
     ap (λ (r : List Placed → Stream StpItem). λ (u : List Placed). stream_as Stp (r u)) c.feed-in-Stp.ensures.same
-    ∙ ap (λ (m : SourceMachine). reading_of m) (sym c.in-Stp.is)
+    ∙ ap reading_of (sym c.in-Stp.is)
 
 pub returns-in-Itm-clause-step : goal.returns-in-Itm-clause-step
 returns-in-Itm-clause-step c = λ u s.
     let next = u ++ byte_at c.args.at c.args.byte ∷ [] in
     let hunts = is_hunter c.in-Itm.decoder in
-    let stands = subst (λ (m : SourceMachine). Stands m u) c.in-Itm.is s in
     subst (λ (m : SourceMachine). Grows (reading_of m u) (reading_of m next) c.args.at c.itm_step.result) (sym c.in-Itm.is)
-    (subst (λ step. Grows (stream_as Itm (packets_in hunts u)) (stream_as Itm (packets_in hunts next)) c.args.at step)
-    (sym c.itm_step.ensures)
-    (grows_as Itm (packets_in hunts u) (packets_in hunts next) c.args.at c.feed.result (c.feed.ensures.step u stands)))
+    (subst (λ step. Grows (stream_as Itm (packets_in hunts u)) (stream_as Itm (packets_in hunts next)) c.args.at step) (sym c.itm_step.ensures)
+    (grows_as Itm (packets_in hunts u) (packets_in hunts next) c.args.at c.feed.result
+    (c.feed.ensures.step u (subst (λ (m : SourceMachine). Stands m u) c.in-Itm.is s))))
