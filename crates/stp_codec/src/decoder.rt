@@ -271,7 +271,16 @@ impl StpDecoder {
 /// The default one reads from the first nibble on, in the order most significant nibble first. It only fills the
 /// unused places of a buffer.
 impl Default for StpDecoder {
-    fn default() -> StpDecoder {
+    ghost use Rattle.std.specs.Prelude.{[], false};
+    ghost use Rattle.stp_grammar.specs.declared.packet.Order.TheVariants.{Msn};
+    ghost use Rattle.stp_codec.specs.Decoder.{Stands, order_of, is_hunter, is_live};
+
+    fn default() -> StpDecoder
+        ensures fresh { Stands result [] }
+        ensures mode { is_hunter result ≡ false }
+        ensures order { order_of result ≡ Msn }
+        ensures live { is_live result ≡ true }
+    {
         StpDecoder::aligned(Order::Msn)
     }
 }
