@@ -28,7 +28,7 @@ use Rattle.trace_values.proofs.Placing.{placed_append}
 use Rattle.itm_grammar.specs.declared.packet.ItmPacket.{ItmPacket}
 use Rattle.itm_grammar.specs.declared.packet.ItmPacket.TheVariants.{Sync}
 use Rattle.itm_codec.specs.Reading.{pattern, packets_in}
-use Rattle.capture_actions.specs.Listing.{packet_in, packets_given, lines_behind, packets_of, IsFaulty, listed, ending, end_lines, ending_by}
+use Rattle.capture_actions.specs.Listing.{packet_in, packets_given, lines_behind, packets_of, IsFaulty, listed, ending, show_meaning, end_lines, ending_by}
 use Rattle.capture_actions.specs.ListingLaws.{lines_behind-append}
 
 -- the bytes that are fed are the next of the capture
@@ -81,7 +81,7 @@ module _ (m : PacketsMode) (stands : List Placed → Type 0) (seen piece : List 
   }
 
   pub taken : (now : List ℕ → Type 0) (old new : List ℕ) (flow : Flow) → new ≡ old ++ lines_behind (packets_given (packets_of m seen).given) (given_after (at + (bytes - 1)) step) →
-      now (seen ++ take bytes piece) → FlowAfter (IsFaulty m) (seen ++ take bytes piece) flow → HasTaken now (IsFaulty m) (listed m) seen (take bytes piece) old new flow
+      now (seen ++ take bytes piece) → FlowAfter (IsFaulty m) (seen ++ take bytes piece) flow → HasTaken now (show_meaning m) (record { seen = seen; front = take bytes piece; before = old; after = new }) flow
   taken now old new flow gained read flows = record {
     read = read;
     more = lines_behind (packets_given (packets_of m seen).given) (given_after (at + (bytes - 1)) step);

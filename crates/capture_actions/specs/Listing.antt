@@ -3,6 +3,7 @@ use Rattle.std.specs.Prelude.{◌≡◌, ℕ, List, [], ◌∷◌, ◌++◌, fla
 use Rattle.trace_values.specs.declared.fault.Reason.{Reason}
 use Rattle.trace_values.specs.Placed.{Place, placed}
 use Rattle.trace_values.specs.Stream.{Said, Notice, Kept, Stream}
+use Rattle.trace_stream.specs.Served.{Meaning}
 use Rattle.itm_grammar.specs.declared.packet.ItmPacket.{ItmPacket}
 use Rattle.itm_codec.specs.Reading.{packets_in}
 use Rattle.capture_plan.specs.Modes.{packets_hunt}
@@ -55,6 +56,10 @@ listed mode bytes = lines_behind [] (packets_of mode bytes).given
 -- what stands behind them: the end lines, or the fault line alone in their place
 abbrev pub ending : PacketsMode → List ℕ → List ℕ
 ending mode bytes = ending_by mode (length bytes) (packets_of mode bytes) (packets_of mode bytes).fault
+
+-- all that `show` makes of the bytes of a capture
+abbrev pub show_meaning : PacketsMode → Meaning
+show_meaning mode = record { faulty = IsFaulty mode; text = listed mode; ending = ending mode }
 
 -- the whole listing
 abbrev pub listing : PacketsMode → List ℕ → List ℕ

@@ -3,6 +3,7 @@ use Rattle.std.specs.Prelude.{ℕ, List, [], map}
 use Rattle.trace_values.specs.declared.cell.Cell.{Cell}
 use Rattle.frame_grammar.specs.Reading.{source_list}
 use Rattle.port_reader.specs.Reading.{cells_of}
+use Rattle.trace_stream.specs.Served.{Meaning}
 use Rattle.capture_actions.specs.Port.{port_of, IsPortFaulty}
 use Rattle.capture_actions.specs.declared.split_plan.SplitPlan.{SplitPlan}
 
@@ -18,6 +19,10 @@ bytes_of_id id cells = map (λ c. c.byte) (source_list id cells)
 abbrev pub split_text : SplitPlan → List ℕ → List ℕ
 split_text plan bytes = bytes_of_id plan.id (cells_of (port_of plan.frames bytes))
 
--- nothing stands behind it
+-- nothing comes after it
 abbrev pub split_ending : SplitPlan → List ℕ → List ℕ
 split_ending plan bytes = []
+
+-- all that `split` makes of the bytes of a capture
+abbrev pub split_meaning : SplitPlan → Meaning
+split_meaning plan = record { faulty = split_faulty plan; text = split_text plan; ending = split_ending plan }

@@ -25,12 +25,13 @@ pub struct Check {
 impl Check {
     ghost use Rattle.std.specs.Prelude.{◌^◌, ◌<◌, take};
     ghost use Rattle.trace_io.specs.Bytes.{TakesSome};
-    ghost use Rattle.trace_stream.specs.Taken.{HasTaken};
+    ghost use Rattle.trace_stream.specs.Taken.{HasTaken, Turn};
+    ghost use Rattle.trace_stream.specs.declared.limits.TheConstants.{GREATEST_CAPTURE};
     ghost use Rattle.trace_stream.specs.declared.action.Flow.TheVariants.{On};
     ghost use Rattle.frame_grammar.specs.Whole.{IsWhole};
     ghost use Rattle.capture_actions.specs.CapturePort.{IsBetween};
-    ghost use Rattle.capture_actions.specs.Port.{port_of, IsPortFaulty};
-    ghost use Rattle.capture_actions.specs.Summary.{counts_text, check_text};
+    ghost use Rattle.capture_actions.specs.Port.{port_of};
+    ghost use Rattle.capture_actions.specs.Summary.{counts_text, check_meaning};
     ghost use Rattle.capture_actions.specs.Checker.{Stands, plan_of, taken_by, IsLive};
 
     /// Nothing is read yet.
@@ -51,13 +52,13 @@ impl Check {
     fn feed_frame(&mut self, frame: &[u8; 16], halves: usize) -> Taken
         requires live { IsLive self.old }
         requires between { IsBetween self.old.port }
-        requires count { taken_by self.old + (16 + 2 * halves) ≤ 2 ^ 36 }
+        requires count { taken_by self.old + (16 + 2 * halves) ≤ GREATEST_CAPTURE }
         ensures same { plan_of self.new ≡ plan_of self.old }
         ensures taken { result ≡ record { bytes = 16 + 2 * halves; flow = On } }
         ensures count { taken_by self.new ≡ taken_by self.old + (16 + 2 * halves) }
         ensures fed { (seen w out : List ℕ) → Stands self.old seen → IsWhole w frame.now halves →
-            HasTaken (Stands self.new) (IsPortFaulty (plan_of self.old)) (check_text (plan_of self.old))
-            seen w out out On }
+            let turn : Turn = record { seen = seen; front = w; before = out; after = out } in
+            HasTaken (Stands self.new) (check_meaning (plan_of self.old)) turn On }
         ensures live { IsLive self.new }
     {
         let after = self
@@ -75,13 +76,13 @@ impl Check {
     fn feed_bytes(&mut self, piece: &[u8]) -> Taken
         requires live { IsLive self.old }
         requires some { 0 < length piece.now }
-        requires count { taken_by self.old + length piece.now ≤ 2 ^ 36 }
+        requires count { taken_by self.old + length piece.now ≤ GREATEST_CAPTURE }
         ensures same { plan_of self.new ≡ plan_of self.old }
         ensures front { TakesSome piece.now result.bytes }
         ensures count { taken_by self.new ≡ taken_by self.old + result.bytes }
         ensures fed { (seen out : List ℕ) → Stands self.old seen →
-            HasTaken (Stands self.new) (IsPortFaulty (plan_of self.old)) (check_text (plan_of self.old))
-            seen (take result.bytes piece.now) out out result.flow }
+            let turn : Turn = record { seen = seen; front = take result.bytes piece.now; before = out; after = out } in
+            HasTaken (Stands self.new) (check_meaning (plan_of self.old)) turn result.flow }
         ensures live { result.flow ≡ Flow.On → IsLive self.new }
     {
         let mut cells = ArrayVec::<Cell, 15>::new();

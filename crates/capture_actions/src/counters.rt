@@ -11,6 +11,7 @@ ghost use Rattle.source_counts.specs.Kept as kept;
 ghost use Rattle.trace_text.specs.CountText.{port_counts_text};
 ghost use Rattle.capture_actions.specs.PortGrowth.{Grew};
 ghost use Rattle.capture_actions.specs.Summary.{source_text, sources_text};
+ghost use Rattle.trace_values.specs.declared.limits.TheConstants.{COUNT_ROOM};
 
 use deformatter::PortStep;
 use source_counts::{Counts, SourceCounts};
@@ -85,7 +86,7 @@ impl Counters {
     /// Counts what a step of the port says: a frame with these cells, or a synchronisation.
     #[inline]
     pub fn add(&mut self, step: &PortStep, cells: &[Cell])
-        requires { size_of self.old + length cells.now + 1 ≤ 2 ^ 60 }
+        requires { size_of self.old + length cells.now + 1 ≤ COUNT_ROOM }
         ensures counted { (old new : PortReading) → Grew old new step.now cells.now → HasRuns cells.now →
             Stands self.old old → Stands self.new new }
         ensures size { size_of self.new ≤ size_of self.old + length cells.now + 1 }
@@ -107,7 +108,7 @@ impl Counters {
         halves: u64,
         before: Option<SourceId>,
     ) -> Option<SourceId>
-        requires { size_of self.old + (16 + halves) ≤ 2 ^ 60 }
+        requires { size_of self.old + (16 + halves) ≤ COUNT_ROOM }
         ensures counted { (old new : PortReading) (at : List ℕ) →
             GrowsByFrame old new halves (cells frame.now at before) → Stands self.old old → Stands self.new new }
         ensures after { result ≡ id_after frame.now before }

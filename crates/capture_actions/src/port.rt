@@ -12,6 +12,7 @@ ghost use Rattle.trace_stream.specs.Taken.{FlowAfter};
 ghost use Rattle.capture_actions.specs.Port.{port_of, IsPortFaulty};
 ghost use Rattle.capture_actions.specs.PortGrowth.{Grew, whole_cells};
 ghost use Rattle.capture_actions.specs.Flows.{flow_by};
+ghost use Rattle.trace_stream.specs.declared.limits.TheConstants.{GREATEST_CAPTURE};
 
 use arrayvec::ArrayVec;
 use capture_plan::FramesMode;
@@ -101,7 +102,7 @@ impl CapturePort {
     pub fn pass_frame(&mut self, bytes: usize, after: Option<SourceId>)
         requires live { IsLive self.old }
         requires between { IsBetween self.old }
-        requires count { count_of self.old + bytes ≤ 2 ^ 36 }
+        requires count { count_of self.old + bytes ≤ GREATEST_CAPTURE }
         ensures same { frames_mode self.new ≡ frames_mode self.old }
         ensures count { count_of self.new ≡ count_of self.old + bytes }
         ensures read { (seen w frame : List ℕ) (halves : ℕ) → Stands self.old seen → IsWhole w frame halves →
@@ -121,7 +122,7 @@ impl CapturePort {
         requires live { IsLive self.old }
         requires empty { cells.old.items ≡ [] }
         requires some { 0 < length piece.now }
-        requires count { count_of self.old + length piece.now ≤ 2 ^ 36 }
+        requires count { count_of self.old + length piece.now ≤ GREATEST_CAPTURE }
         ensures same { frames_mode self.new ≡ frames_mode self.old }
         ensures bytes { (0 < result.bytes) × (result.bytes ≤ length piece.now) }
         ensures stops { result.step ≡ Quiet → result.bytes ≡ length piece.now }

@@ -49,13 +49,14 @@ fn put_cells(outlet: &mut Outlet, id: SourceId, cells: &[Cell])
 impl Split {
     ghost use Rattle.std.specs.Prelude.{[], ℕ, List, ◌*◌, ◌<◌, ◌^◌, take};
     ghost use Rattle.trace_io.specs.Bytes.{TakesSome};
-    ghost use Rattle.trace_stream.specs.Taken.{HasTaken};
+    ghost use Rattle.trace_stream.specs.Taken.{HasTaken, Turn};
+    ghost use Rattle.trace_stream.specs.declared.limits.TheConstants.{GREATEST_CAPTURE};
     ghost use Rattle.trace_stream.specs.declared.action.TheConstants.{ACTION_ROOM};
     ghost use Rattle.trace_stream.specs.declared.action.Flow.TheVariants.{On};
     ghost use Rattle.frame_grammar.specs.Whole.{IsWhole};
     ghost use Rattle.capture_actions.specs.CapturePort.{IsBetween};
     ghost use Rattle.capture_actions.specs.Port.{port_of};
-    ghost use Rattle.capture_actions.specs.Split.{split_faulty, split_text};
+    ghost use Rattle.capture_actions.specs.Split.{split_meaning};
     ghost use Rattle.capture_actions.specs.Splitter.{Stands, plan_of, taken_by, IsLive};
 
     /// Nothing is read yet.
@@ -77,13 +78,13 @@ impl Split {
         requires live { IsLive self.old }
         requires between { IsBetween self.old.port }
         requires room { length outlet.old + ACTION_ROOM ≤ OUTLET_ROOM }
-        requires count { taken_by self.old + (16 + 2 * halves) ≤ 2 ^ 36 }
+        requires count { taken_by self.old + (16 + 2 * halves) ≤ GREATEST_CAPTURE }
         ensures same { plan_of self.new ≡ plan_of self.old }
         ensures taken { result ≡ record { bytes = 16 + 2 * halves; flow = On } }
         ensures count { taken_by self.new ≡ taken_by self.old + (16 + 2 * halves) }
         ensures fed { (seen w : List ℕ) → Stands self.old seen → IsWhole w frame.now halves →
-            HasTaken (Stands self.new) (split_faulty (plan_of self.old)) (split_text (plan_of self.old))
-            seen w outlet.old outlet.new On }
+            let turn : Turn = record { seen = seen; front = w; before = outlet.old; after = outlet.new } in
+            HasTaken (Stands self.new) (split_meaning (plan_of self.old)) turn On }
         ensures live { IsLive self.new }
     {
         let mut bytes = [0; 16];
@@ -102,13 +103,14 @@ impl Split {
         requires live { IsLive self.old }
         requires some { 0 < length piece.now }
         requires room { length outlet.old + ACTION_ROOM ≤ OUTLET_ROOM }
-        requires count { taken_by self.old + length piece.now ≤ 2 ^ 36 }
+        requires count { taken_by self.old + length piece.now ≤ GREATEST_CAPTURE }
         ensures same { plan_of self.new ≡ plan_of self.old }
         ensures front { TakesSome piece.now result.bytes }
         ensures count { taken_by self.new ≡ taken_by self.old + result.bytes }
         ensures fed { (seen : List ℕ) → Stands self.old seen →
-            HasTaken (Stands self.new) (split_faulty (plan_of self.old)) (split_text (plan_of self.old))
-            seen (take result.bytes piece.now) outlet.old outlet.new result.flow }
+            let front = take result.bytes piece.now in
+            let turn : Turn = record { seen = seen; front = front; before = outlet.old; after = outlet.new } in
+            HasTaken (Stands self.new) (split_meaning (plan_of self.old)) turn result.flow }
         ensures live { result.flow ≡ Flow.On → IsLive self.new }
     {
         let mut cells = ArrayVec::<Cell, 15>::new();

@@ -10,6 +10,7 @@ use Rattle.trace_stream.specs.Served.{Meaning, Ends, HasServed, HasStopped}
 use Rattle.trace_stream.specs.declared.outcome.Outcome.{Outcome}
 use Rattle.trace_stream.specs.declared.outcome.Outcome.TheVariants.{AtEnd, FaultFound, ReadFailed, WriteFailed, OverLimit}
 use Rattle.capture_command.specs.declared.status.Status.TheVariants.{NoMemory}
+use Rattle.trace_stream.specs.declared.recent.TheConstants.{RECENT_ROOM}
 use Rattle.trace_text.specs.NoteText.{limit_line}
 use Rattle.capture_command.specs.Notes.{Notes, note_of}
 use Rattle.capture_command.specs.Run.{HasRun, TaskMeaning, Streams, Loses, IsDoneOrNoMemory}
@@ -43,28 +44,28 @@ ends s = record { left = s.left; held = s.held }
 pub run_of : (outcome : Outcome) (m : TaskMeaning) (limit : ℕ) (old new : Streams) (recent at_fault : List ℕ) (there : List ℕ → Type 0)
     → HasServed m.action limit (ends old) (ends new) recent outcome
     → (outcome ≡ FaultFound → HasStopped there m.action limit (ends old) (ends new) recent)
-    → ((seen : List ℕ) → there seen → recent ≡ keep_last 16 seen → at_fault ≡ m.fault_note seen)
+    → ((seen : List ℕ) → there seen → recent ≡ keep_last RECENT_ROOM seen → at_fault ≡ m.fault_note seen)
     → Notes old.noted new.noted old.note_faults new.note_faults (note_of outcome limit at_fault)
     → HasRun m limit old new (status_of outcome)
 run_of AtEnd m limit old new recent at_fault there s stopped noted_as n =
-    record { bytes = s.bytes; out = s.out; note = []; lost = s.lost; gained = s.gained; noted = n; at_most = s.at_most; writes = (s.outcome, refl); ended = s.ended }
+    record { bytes = s.bytes; out = s.out; note = []; lost = s.lost; gained = s.gained; noted = n; at_most = s.at_most; writes = (s.outcome, refl); ended = λ e. s.ended refl }
 run_of FaultFound m limit old new recent at_fault there s stopped noted_as n =
     let k = (stopped refl).served in
     let note = noted_as k.outcome.0.seen (stopped refl).holds k.outcome.2 in
-    record { bytes = k.bytes; out = k.out; note = at_fault; lost = k.lost; gained = k.gained; noted = n; at_most = k.at_most; writes = (recent, k.outcome, note); ended = tt }
+    record { bytes = k.bytes; out = k.out; note = at_fault; lost = k.lost; gained = k.gained; noted = n; at_most = k.at_most; writes = (recent, k.outcome, note); ended = λ e. cc }
 run_of ReadFailed m limit old new recent at_fault there s stopped noted_as n =
-    record { bytes = s.bytes; out = s.out; note = codes "read fault\n"; lost = s.lost; gained = s.gained; noted = n; at_most = s.at_most; writes = (s.outcome, refl); ended = tt }
+    record { bytes = s.bytes; out = s.out; note = codes "read fault\n"; lost = s.lost; gained = s.gained; noted = n; at_most = s.at_most; writes = (s.outcome, refl); ended = λ e. cc }
 run_of WriteFailed m limit old new recent at_fault there s stopped noted_as n =
-    record { bytes = s.bytes; out = s.out; note = codes "write fault\n"; lost = s.lost; gained = s.gained; noted = n; at_most = s.at_most; writes = (s.outcome, refl); ended = tt }
+    record { bytes = s.bytes; out = s.out; note = codes "write fault\n"; lost = s.lost; gained = s.gained; noted = n; at_most = s.at_most; writes = (s.outcome, refl); ended = λ e. cc }
 run_of OverLimit m limit old new recent at_fault there s stopped noted_as n =
-    record { bytes = s.bytes; out = s.out; note = limit_line limit; lost = s.lost; gained = s.gained; noted = n; at_most = s.at_most; writes = (s.outcome, refl); ended = tt }
+    record { bytes = s.bytes; out = s.out; note = limit_line limit; lost = s.lost; gained = s.gained; noted = n; at_most = s.at_most; writes = (s.outcome, refl); ended = λ e. cc }
 
 -- with no memory to begin with nothing is read or written
 pub run_unopened : (m : TaskMeaning) (limit : ℕ) (left held noted noted' : Option (List ℕ)) (faults faults' : ℕ)
     → Notes noted noted' faults faults' (codes "no memory\n")
     → HasRun m limit (record { left = left; held = held; noted = noted; note_faults = faults }) (record { left = left; held = held; noted = noted'; note_faults = faults' }) NoMemory
 run_unopened m limit left held noted noted' faults faults' n =
-    record { bytes = []; out = []; note = codes "no memory\n"; lost = Consumes-nil left; gained = Appends-nil held; noted = n; at_most = omega arith; writes = (refl, refl); ended = tt }
+    record { bytes = []; out = []; note = codes "no memory\n"; lost = Consumes-nil left; gained = Appends-nil held; noted = n; at_most = omega arith; writes = (refl, refl); ended = λ e. cc }
 
 -- a stream that was served had its memory
 pub never_unopened : (outcome : Outcome) → status_of outcome ≡ NoMemory → ⊥

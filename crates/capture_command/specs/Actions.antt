@@ -4,18 +4,19 @@ use Rattle.std.specs.Prelude.{ℕ, List, ◌++◌}
 use Rattle.circular_buffer.specs.Buffer.{keep_last}
 use Rattle.capture_words.specs.declared.job.Task.{Task}
 use Rattle.capture_words.specs.declared.job.Task.TheVariants.{Show, Split, Check}
-use Rattle.capture_actions.specs.Listing.{IsFaulty, listed, ending}
-use Rattle.capture_actions.specs.Port.{port_of, IsPortFaulty}
-use Rattle.capture_actions.specs.Split.{split_faulty, split_text, split_ending}
-use Rattle.capture_actions.specs.Summary.{check_text, summary}
+use Rattle.capture_actions.specs.Listing.{show_meaning}
+use Rattle.capture_actions.specs.Port.{port_of}
+use Rattle.capture_actions.specs.Split.{split_meaning}
+use Rattle.capture_actions.specs.Summary.{check_meaning}
 use Rattle.capture_actions.specs.declared.split_plan.SplitPlan.{SplitPlan}
+use Rattle.trace_stream.specs.declared.recent.TheConstants.{RECENT_ROOM}
 use Rattle.trace_text.specs.NoteText.{last_line}
 use Rattle.capture_command.specs.Notes.{fault_text}
 use Rattle.capture_command.specs.Run.{TaskMeaning}
 
 -- the note at a fault that is certain with the last of these bytes: the last sixteen of them
 abbrev pub last_note : List ℕ → List ℕ
-last_note seen = last_line (keep_last 16 seen)
+last_note seen = last_line (keep_last RECENT_ROOM seen)
 
 -- with `split` the line of the port's fault comes before it, since the output has none
 abbrev pub split_note : SplitPlan → List ℕ → List ℕ
@@ -23,15 +24,8 @@ split_note plan seen = fault_text (port_of plan.frames seen).fault ++ last_note 
 
 -- what the task makes of the bytes of a capture
 abbrev pub meaning_of : Task → TaskMeaning
-meaning_of (Show mode) = record {
-  action = record { faulty = IsFaulty mode; text = listed mode; ending = ending mode };
-  fault_note = last_note;
-}
-meaning_of (Split frames id) = let plan : SplitPlan = record { frames = frames; id = id } in record {
-  action = record { faulty = split_faulty plan; text = split_text plan; ending = split_ending plan };
-  fault_note = split_note plan;
-}
-meaning_of (Check mode) = record {
-  action = record { faulty = IsPortFaulty mode; text = check_text mode; ending = summary mode };
-  fault_note = last_note;
-}
+meaning_of (Show mode) = record { action = show_meaning mode; fault_note = last_note }
+meaning_of (Split frames id) =
+    let plan : SplitPlan = record { frames = frames; id = id } in
+    record { action = split_meaning plan; fault_note = split_note plan }
+meaning_of (Check mode) = record { action = check_meaning mode; fault_note = last_note }

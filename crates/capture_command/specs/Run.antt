@@ -35,13 +35,8 @@ WritesBy m limit WriteFault bytes out note = ServedBy m.action limit WriteFailed
 WritesBy m limit NoMemory bytes out note = (bytes ≡ []) × (out ≡ [])
 WritesBy m limit Usage bytes out note = ⊥
 
--- where all is done the input is at its end
-abbrev pub EndsAt : Option (List ℕ) → Status → Type 0
-EndsAt left Done = IsAtEnd left
-EndsAt left _ = Unit {0}
-
--- The bytes are those that the input lost, at most one past the limit; out is what the output gained; and
--- the note is what the notes gained, unless they failed.
+-- The bytes are those that the input lost, at most one past the limit; out is what the output gained; and the note is
+-- what the notes gained, unless they failed. Where all is done nothing is left in the input.
 pub record HasRun (meaning : TaskMeaning) (limit : ℕ) (old new : Streams) (status : Status) : Type 0 where
   pub bytes : List ℕ
   pub out : List ℕ
@@ -51,7 +46,7 @@ pub record HasRun (meaning : TaskMeaning) (limit : ℕ) (old new : Streams) (sta
   pub noted : Notes old.noted new.noted old.note_faults new.note_faults note
   pub at_most : length bytes ≤ limit + 1
   pub writes : WritesBy meaning limit status bytes out note
-  pub ended : EndsAt new.left status
+  pub ended : status ≡ Done → IsAtEnd new.left
 
 -- nothing was read, and nothing was written
 abbrev pub Untouched : Option (List ℕ) → Option (List ℕ) → Option (List ℕ) → Option (List ℕ) → Type 0

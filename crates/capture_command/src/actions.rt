@@ -5,6 +5,7 @@ ghost use Rattle.circular_buffer.specs.Buffer.{keep_last};
 ghost use Rattle.trace_text.specs.FaultText.{told};
 ghost use Rattle.trace_text.specs.NoteText.{last_line};
 ghost use Rattle.capture_command.specs.Notes.{fault_text};
+ghost use Rattle.trace_stream.specs.declared.recent.TheConstants.{RECENT_ROOM};
 
 use capture_actions::{Check, Show, Split};
 use trace_stream::Action;
@@ -18,7 +19,7 @@ pub trait CommandAction: Action {
     /// The fault whose line is noted before the last bytes, if the output has no line of it.
     fn noted_fault(&self) -> Option<Fault>
         ensures { (seen : List ℕ) → Self.stands self.now seen →
-            fault_text (option_map told result) ++ last_line (keep_last 16 seen) ≡ noted (Self.plan self.now) seen };
+            fault_text (option_map told result) ++ last_line (keep_last RECENT_ROOM seen) ≡ noted (Self.plan self.now) seen };
 }
 
 impl CommandAction for Show {

@@ -3,6 +3,7 @@
 ghost use Rattle.std.specs.Prelude.{◌≡◌, ◌≢◌, ◌+◌, ◌^◌, ◌≤◌, ℕ, List, [], length, codes};
 ghost use Rattle.trace_io.specs.Causes.{Rose};
 ghost use Rattle.trace_stream.specs.Fresh.{IsFresh};
+ghost use Rattle.trace_stream.specs.declared.limits.TheConstants.{GREATEST_CAPTURE};
 ghost use Rattle.capture_command.specs.Actions.{meaning_of};
 ghost use Rattle.capture_command.specs.Notes.{Notes};
 ghost use Rattle.capture_command.specs.Run.{HasRun, TaskMeaning, Streams, Loses, IsDoneOrNoMemory};
@@ -26,7 +27,7 @@ fn run_action<A: CommandAction, I: Source, O: Sink, N: Sink>(
     notes: &mut N,
 ) -> Status
     requires fresh { IsFresh (A.live action.old) (A.stands action.old) (A.taken action.old) buffers.old }
-    requires small { limit ≤ 2 ^ 36 }
+    requires small { limit ≤ GREATEST_CAPTURE }
     ensures ran { let p = A.plan action.old in
         let meaning : TaskMeaning = record {
           action = record { faulty = A.faulty p; text = A.text p; ending = A.ending p };
@@ -67,7 +68,7 @@ pub fn run_job<I: Source, O: Sink, N: Sink>(
     output: &mut O,
     notes: &mut N,
 ) -> Status
-    requires { job.now.limit ≤ 2 ^ 36 }
+    requires { job.now.limit ≤ GREATEST_CAPTURE }
     ensures ran { let before : Streams = record {
       left = I.left input.old;
       held = O.held output.old;

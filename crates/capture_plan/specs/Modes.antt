@@ -2,17 +2,25 @@
 use Rattle.std.specs.Prelude.{ℕ, List, codes, Option, Some, None, Bool, true, false, if◌then◌else◌}
 use Rattle.std.specs.Str.{bytes_eq}
 use Rattle.capture_plan.specs.declared.frames.FramesMode.{FramesMode}
-use Rattle.capture_plan.specs.declared.frames.FramesMode.TheVariants.{Hunt as FramesHunt, Aligned as FramesAligned, Bare}
+use Rattle.capture_plan.specs.declared.frames.FramesMode.TheVariants.{Hunt as FramesHunt, Aligned as FramesAligned}
+use Rattle.capture_plan.specs.declared.frames.FramesMode.TheVariants.{Bare}
 use Rattle.capture_plan.specs.declared.packets.PacketsMode.{PacketsMode}
 use Rattle.capture_plan.specs.declared.packets.PacketsMode.TheVariants.{Hunt, Aligned}
 
 -- the mode of a port that a text names
 abbrev pub frames_named : List ℕ → Option FramesMode
-frames_named name = if bytes_eq name (codes "hunt") then Some FramesHunt else if bytes_eq name (codes "aligned") then Some FramesAligned else if bytes_eq name (codes "bare") then Some Bare else None
+frames_named name =
+    if bytes_eq name (codes "hunt") then Some FramesHunt
+    else if bytes_eq name (codes "aligned") then Some FramesAligned
+    else if bytes_eq name (codes "bare") then Some Bare
+    else None
 
 -- the mode of sources that a text names
 abbrev pub packets_named : List ℕ → Option PacketsMode
-packets_named name = if bytes_eq name (codes "hunt") then Some Hunt else if bytes_eq name (codes "aligned") then Some Aligned else None
+packets_named name =
+    if bytes_eq name (codes "hunt") then Some Hunt
+    else if bytes_eq name (codes "aligned") then Some Aligned
+    else None
 
 -- sources are hunted for their first synchronisation packet
 abbrev pub packets_hunt : PacketsMode → Bool

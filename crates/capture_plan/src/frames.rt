@@ -10,7 +10,7 @@ pub enum FramesMode {
     Hunt,
     /// At the first byte, which begins a frame or a synchronisation.
     Aligned,
-    /// No frames stand around the bytes: each byte is one of source 1.
+    /// No frames are around the bytes: each byte is one of source 1.
     Bare,
 }
 

@@ -1,4 +1,4 @@
-//! What a capture is read by: whether frames stand around its bytes, and where the reading of its port and
+//! What a capture is read by: whether frames are around its bytes, and where the reading of its port and
 //! of its sources begins.
 #![tactic(auto)]
 

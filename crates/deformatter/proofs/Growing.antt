@@ -101,7 +101,7 @@ module _ (skipped : ℕ) (p : Progress State PortItem) (at byte : ℕ) where
     hunt = (refl, refl, record { before = refl; behind = refl; skipped = refl });
   }
 
--- behind a fault nothing grows
+-- after a fault nothing grows
 pub stays : (skipped : ℕ) (p : Progress State PortItem) (b : Placed) (n : Next State PortItem) (f : Place × Reason) → p.fault ≡ Some f →
     PortSettled (read_behind skipped p) (read_behind skipped (with_unit start p b n (Some f)))
 stays skipped p b (Go t) f e = record { items = refl; halves = refl; fault = sym e; skipped = refl; locked = refl }
@@ -115,7 +115,7 @@ no_less f old new more e =
     ap (λ (l : List (PortItem × Place)). sum_by f (items_of l)) e ∙ ap (sum_by f) (map-append (λ (x : PortItem × Place). x.0) old more) ∙ sum_by-append f (items_of old) (items_of more) in
     omega arith
 
--- what is more stands at the byte
+-- what is more is at the byte
 pub rises : (skipped : ℕ) (p : Progress State PortItem) (at byte : ℕ) (n : Next State PortItem) → p.fault ≡ None → Lawful p.state n →
     PortRises (read_behind skipped p) (read_behind skipped (with_unit start p (byte_at at byte) n None)) at
 rises skipped p at byte (Go t) f l = record {

@@ -1,4 +1,4 @@
--- What the port's rule keeps: two and three FF stand between frames, and between frames no half synchronisation is counted.
+-- What the port's rule keeps: two and three FF are between frames, and between frames no half synchronisation is counted.
 use Rattle.std.proofs.Common.{◌≡◌, ◌≢◌, ℕ, zero, suc, ◌+◌, ◌≤◌, List, [], ◌∷◌, ◌++◌, length, refl, sym, ◌⊎◌, inl, inr, arith, subst, Bool, true, false, cond, length-append, Option, None, Some}
 use Rattle.std.specs.Prelude.{◌==◌}
 use Rattle.std.proofs.lemmas.Bool.Decides.{nat_tests}

@@ -19,17 +19,19 @@ EachByte IsSo u at [] = Unit {0}
 EachByte IsSo u at (byte ∷ bytes) = IsSo u at byte × EachByte IsSo (u ++ byte_at at byte ∷ []) (at + 1) bytes
 
 -- these bytes follow u from this offset on: this is so of all but the last of them, and that of the last
-pub record FedAs (IsQuiet IsLast : List Placed → ℕ → ℕ → Type 0) (u : List Placed) (at : ℕ) (bytes : List ℕ) : Type 0 where
+pub record FedAs (IsQuiet IsLast : List Placed → ℕ → ℕ → Type 0) (u : List Placed) (at : ℕ) (bytes : List ℕ)
+    : Type 0 where
   pub front : List ℕ
   pub last : ℕ
   pub parts : bytes ≡ front ++ last ∷ []
   pub quiet : EachByte IsQuiet u at front
   pub ends : IsLast (u ++ placed_from at front) (at + length front) last
 
--- A deformatter took these bytes, which follow u from this offset on. It stands for u and them, its answers were quiet but for
--- the last, and the reading of the port gained the cells that were given.
+-- A deformatter took these bytes, which follow u from this offset on. It stands for u and them, its answers were quiet
+-- but for the last, and the reading of the port gained the cells that were given.
 pub record TakesBlock
-    (old new : Deformatter) (u : List Placed) (at : ℕ) (bytes : List ℕ) (step : PortStep) (given : List Cell) : Type 0 where
+    (old new : Deformatter) (u : List Placed) (at : ℕ) (bytes : List ℕ) (step : PortStep) (given : List Cell)
+    : Type 0 where
   pub list : Stands new (u ++ placed_from at bytes)
   pub fed : FedAs (Answers (is_hunter old) Quiet) (Answers (is_hunter old) step) u at bytes
   pub cells : cells_in (port_stream (is_hunter old) (u ++ placed_from at bytes))

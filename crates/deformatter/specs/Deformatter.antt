@@ -13,13 +13,14 @@ use Rattle.deformatter.specs.Rule.{count_of}
 use Rattle.deformatter.specs.Unfinished.{placed_of, halves_of}
 use Rattle.deformatter.specs.declared.deformatter.Deformatter.{Deformatter}
 
--- where it stands in its hunt
+-- where it is in its hunt
 abbrev pub mode_of : Deformatter → Mode
 mode_of d = mode_in d.phase d.hunter d.skipped
 
 -- the state of the unfinished item
 abbrev pub state_of : Deformatter → State
-state_of d = state (aligner.left_of d.aligner) (placed_of d.frame) (halves_of d.frame) (aligner.part_of d.aligner) d.first_at
+state_of d = state (aligner.left_of d.aligner) (placed_of d.frame) (halves_of d.frame) (aligner.part_of d.aligner)
+    d.first_at
 
 -- the ID in force
 abbrev pub id_of : Deformatter → Option ℕ
@@ -37,16 +38,16 @@ is_live d = aligner.is_live d.aligner
 abbrev pub has_locked : Deformatter → Bool
 has_locked d = is_locked (mode_of d)
 
--- how many bytes stand behind the last whole item
+-- how many bytes are after the last whole item
 abbrev pub tail_of : Deformatter → ℕ
 tail_of d = count_of (state_of d)
 
--- how many bytes stand before its reading
+-- how many bytes are before its reading
 abbrev pub skipped_by : Deformatter → ℕ
 skipped_by d = skipped_of (mode_of d)
 
--- Before its lock it keeps how far the hunt has come; else it is live exactly where the reading of the list has no fault,
--- and keeps the unfinished item of that reading, and the ID in force.
+-- Before its lock it keeps how far the hunt has come; else it is live exactly where the reading of the list has no
+-- fault, and keeps the unfinished item of that reading, and the ID in force.
 pub record Stands (d : Deformatter) (u : List Placed) : Type 0 where
   pub reads : StandsIn pattern Full rule start (mode_of d) (is_live d) (state_of d) u
   pub id : is_live d ≡ true → id_of d ≡ id_in (port_stream (is_hunter d) u)

@@ -20,8 +20,8 @@ last_place [] = record { at = 0; half = 0 }
 last_place (x ∷ []) = x.place
 last_place (x ∷ (y ∷ w)) = last_place (y ∷ w)
 
--- With the bytes w of a frame, its own 16 (f) and those of `inner` half synchronisations between them, the reading grew by that frame.
--- Its cells follow this ID.
+-- With the bytes w of a frame, its own 16 (f) and those of `inner` half synchronisations between them, the reading grew
+-- by that frame. Its cells follow this ID.
 pub record GrowsByFrame (old new : PortStream) (w f : List Placed) (inner : ℕ) (id : Option ℕ) : Type 0 where
   pub items : new.items ≡ old.items ++ (Frame f inner, last_place w) ∷ []
   pub cells : cells_in new ≡ cells_in old ++ cells (units_of f) (offsets_of f) id

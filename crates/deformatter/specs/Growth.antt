@@ -1,5 +1,6 @@
 -- How the reading of a port's bytes grows with one more byte, and what a step says of it.
-use Rattle.std.specs.Prelude.{◌≡◌, ◌⊎◌, ℕ, ◌+◌, ◌≤◌, List, [], ◌∷◌, ◌++◌, Bool, true, false, if◌then◌else◌, Option, None, Some, is_none}
+use Rattle.std.specs.Prelude.{◌≡◌, ◌⊎◌, ℕ, ◌+◌, ◌≤◌, List, [], ◌∷◌, ◌++◌, Bool, true, false, if◌then◌else◌, Option}
+use Rattle.std.specs.Prelude.{None, Some, is_none}
 use Rattle.trace_values.specs.declared.cell.Cell.{Cell}
 use Rattle.trace_values.specs.declared.fault.Reason.{Reason}
 use Rattle.trace_values.specs.Placed.{Place, Placed}
@@ -7,7 +8,8 @@ use Rattle.trace_values.specs.Stream.{FaultAt}
 use Rattle.frame_grammar.specs.Port.{PortItem, Full, Half, Frame}
 use Rattle.deformatter.specs.Reading.{PortStream, cells_in, fulls_of, frames_of}
 use Rattle.deformatter.specs.declared.step.PortStep.{PortStep}
-use Rattle.deformatter.specs.declared.step.PortStep.TheVariants.{Quiet, Half as HalfEnds, Full as FullEnds, Frame as FrameEnds, Locked, Fault as Faulty}
+use Rattle.deformatter.specs.declared.step.PortStep.TheVariants.{Quiet, Half as HalfEnds, Full as FullEnds}
+use Rattle.deformatter.specs.declared.step.PortStep.TheVariants.{Frame as FrameEnds, Locked, Fault as Faulty}
 
 -- the byte at this offset
 abbrev pub place_at : ℕ → Place
@@ -18,7 +20,8 @@ abbrev pub ItemsBy : List (PortItem × Place) → List (PortItem × Place) → �
 ItemsBy old new at Quiet = new ≡ old
 ItemsBy old new at HalfEnds = (new ≡ old) ⊎ (new ≡ old ++ (Half, place_at at) ∷ [])
 ItemsBy old new at FullEnds = new ≡ old ++ (Full, place_at at) ∷ []
-ItemsBy old new at FrameEnds = (bytes : List Placed) × (halves : ℕ) × (new ≡ old ++ (Frame bytes halves, place_at at) ∷ [])
+ItemsBy old new at FrameEnds =
+    (bytes : List Placed) × (halves : ℕ) × (new ≡ old ++ (Frame bytes halves, place_at at) ∷ [])
 ItemsBy old new at (Locked skipped) = new ≡ old ++ (Full, place_at at) ∷ []
 ItemsBy old new at (Faulty f) = new ≡ old
 
@@ -36,7 +39,7 @@ abbrev pub frames_by : PortStep → ℕ
 frames_by FrameEnds = 1
 frames_by step = 0
 
--- the fault behind a step
+-- the fault after a step
 abbrev pub fault_by : PortStep → Option (Place × Reason)
 fault_by (Faulty f) = Some (record { at = f.at; half = f.half }, f.reason)
 fault_by step = None
@@ -52,10 +55,13 @@ pub record Reads (old new : PortStream) : Type 0 where
   pub behind : new.locked ≡ true
   pub skipped : new.skipped ≡ old.skipped
 
--- What a step says of the hunt: before the lock each byte is skipped, and at the lock the pattern's own three are no longer.
+-- What a step says of the hunt: before the lock each byte is skipped, and at the lock the pattern's own three are no
+-- longer.
 abbrev pub HuntBy : PortStream → PortStream → ℕ → PortStep → Type 0
-HuntBy old new at Quiet = (new.locked ≡ old.locked) × (new.skipped ≡ (if old.locked then old.skipped else (old.skipped + 1)))
-HuntBy old new at (Locked skipped) = (old.locked ≡ false) × (new.locked ≡ true) × (new.skipped ≡ skipped) × (old.skipped ≡ skipped + 3)
+HuntBy old new at Quiet =
+    (new.locked ≡ old.locked) × (new.skipped ≡ (if old.locked then old.skipped else (old.skipped + 1)))
+HuntBy old new at (Locked skipped) =
+    (old.locked ≡ false) × (new.locked ≡ true) × (new.skipped ≡ skipped) × (old.skipped ≡ skipped + 3)
 HuntBy old new at (Faulty f) = (f.at ≡ at) × (f.half ≡ 0) × Reads old new
 HuntBy old new at step = Reads old new
 
@@ -75,7 +81,7 @@ pub record PortShows (live locked : Bool) (tail skipped : ℕ) (s : PortStream) 
   pub tail_is : live ≡ true → tail ≡ s.tail
   pub skipped_is : live ≡ true → skipped ≡ s.skipped
 
--- behind a fault nothing is read
+-- after a fault nothing is read
 pub record PortSettled (old new : PortStream) : Type 0 where
   pub items : new.items ≡ old.items
   pub halves : new.halves ≡ old.halves
@@ -88,7 +94,7 @@ abbrev pub AllEndAt : ℕ → List (PortItem × Place) → Type 0
 AllEndAt at [] = Unit {0}
 AllEndAt at (x ∷ xs) = (x.1 ≡ place_at at) × AllEndAt at xs
 
--- With one more byte at this offset a reading has more, what is more stands there, and nothing is taken back.
+-- With one more byte at this offset a reading has more, what is more is there, and nothing is taken back.
 pub record PortRises (old new : PortStream) (at : ℕ) : Type 0 where
   pub more : List (PortItem × Place)
   pub items : new.items ≡ old.items ++ more

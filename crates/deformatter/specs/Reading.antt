@@ -1,4 +1,5 @@
--- What the bytes of a port read as, from the first one on or in a hunt for a full synchronisation.
+-- What the bytes of a port read as (CoreSight Architecture Specification, Arm IHI 0029E (version 3.0), chapter 'Trace
+-- Formatter', its section on frames), from the first one on or in a hunt for a full synchronisation.
 use Rattle.std.specs.Prelude.{◌≡◌, ◌⊎◌, ℕ, ◌+◌, List, [], ◌++◌, length, map, Bool, true, false, Option, None, Some}
 use Rattle.std.specs.List.{sum_by}
 use Rattle.trace_values.specs.declared.cell.Cell.{Cell}
@@ -11,8 +12,9 @@ use Rattle.frame_grammar.specs.Port.{PortItem, Full, State, start, rule}
 use Rattle.frame_grammar.specs.Reading.{port_progress, cells_of_items, id_of_items, fulls_in, halves_in, frames_in}
 use Rattle.port_sync.specs.Hunting.{pattern}
 
--- What a port's bytes read as: the items, each with the place of its last byte; how many half synchronisations, those in
--- an unfinished frame too; the fault; how many bytes are behind the last whole item; how many were skipped; and whether it reads.
+-- What a port's bytes read as: the items, each with the place of its last byte; how many half synchronisations, those
+-- in an unfinished frame too; the fault; how many bytes are after the last whole item; how many were skipped; and
+-- whether it reads.
 pub record PortStream : Type 0 where
   pub items : List (PortItem × Place)
   pub halves : ℕ
@@ -24,7 +26,7 @@ pub record PortStream : Type 0 where
 abbrev pub items_of : List (PortItem × Place) → List PortItem
 items_of items = map (λ x. x.0) items
 
--- a reading behind so many skipped bytes
+-- a reading after this many skipped bytes
 abbrev pub read_behind : ℕ → Progress State PortItem → PortStream
 read_behind skipped p = record {
   items = p.items;
@@ -35,7 +37,7 @@ read_behind skipped p = record {
   locked = true;
 }
 
--- a hunt that has skipped so many bytes
+-- a hunt that has skipped this many bytes
 abbrev pub all_skipped : ℕ → PortStream
 all_skipped bytes = record { items = []; halves = 0; fault = None; tail = 0; skipped = bytes; locked = false }
 
@@ -62,10 +64,11 @@ fulls_of s = sum_by fulls_in (items_of s.items)
 abbrev pub frames_of : PortStream → ℕ
 frames_of s = sum_by frames_in (items_of s.items)
 
--- What a hunt is: the pattern stands nowhere, and all bytes are skipped; or the bytes before its least place are
+-- What a hunt is: the pattern is nowhere, and all bytes are skipped; or the bytes before its least place are
 -- skipped, and the bytes from there on are read.
 abbrev pub IsHunt : List Placed → PortStream → Type 0
 IsHunt u s =
     (IsNowhere (pattern_of pattern) (units_of u) × (s ≡ all_skipped (length u)))
-    ⊎ ((before : List Placed) × (behind : List Placed) × (u ≡ before ++ behind) × IsFirst (pattern_of pattern) (units_of u) (units_of before)
+    ⊎ ((before : List Placed) × (behind : List Placed) × (u ≡ before ++ behind)
+    × IsFirst (pattern_of pattern) (units_of u) (units_of before)
     × (s ≡ read_behind (length before) (port_progress behind)))

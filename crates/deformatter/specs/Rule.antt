@@ -6,9 +6,11 @@ use Rattle.trace_values.specs.declared.next.Next.TheVariants.{Go, End, Fail}
 use Rattle.frame_grammar.specs.Port.{PortItem, Full, Half, Frame, Part, Between, First, One, Two, Three, State}
 use Rattle.frame_grammar.specs.Reading.{item_cells, item_id}
 use Rattle.deformatter.specs.declared.step.PortStep.{PortStep}
-use Rattle.deformatter.specs.declared.step.PortStep.TheVariants.{Quiet, Half as HalfEnds, Full as FullEnds, Frame as FrameEnds, Fault as Faulty}
+use Rattle.deformatter.specs.declared.step.PortStep.TheVariants.{Quiet, Half as HalfEnds, Full as FullEnds}
+use Rattle.deformatter.specs.declared.step.PortStep.TheVariants.{Frame as FrameEnds, Fault as Faulty}
 
--- the bytes of an unfinished item: those of its frame, of the half synchronisations between them, and of the unfinished part
+-- the bytes of an unfinished item: those of its frame, of the half synchronisations between them, and of the unfinished
+-- part
 abbrev pub part_size : Part → ℕ
 part_size Between = 0
 part_size (First a) = 1
@@ -31,7 +33,7 @@ step_by at s (Go t) = if t.halves == s.halves then Quiet else HalfEnds
 step_by at s (End item) = item_step item
 step_by at s (Fail e) = Faulty (record { at = at; half = 0; reason = e })
 
--- the cells given, and the ID in force behind the byte
+-- the cells given, and the ID in force after the byte
 abbrev pub cells_by : Option ℕ → Next State PortItem → List Cell
 cells_by id (Go t) = []
 cells_by id (End item) = item_cells id item

@@ -17,6 +17,6 @@ placed_of frame = zipped (take frame.len frame.offsets) (take frame.len frame.by
 abbrev pub len_of : Unfinished → ℕ
 len_of frame = frame.len
 
--- how many half synchronisations stand between its bytes
+-- how many half synchronisations are between its bytes
 abbrev pub halves_of : Unfinished → ℕ
 halves_of frame = frame.halves

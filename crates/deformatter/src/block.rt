@@ -1,6 +1,7 @@
 //! Bytes of a piece at once.
 
-ghost use Rattle.std.specs.Prelude.{◌≡◌, ◌<◌, ◌≤◌, ◌+◌, ◌^◌, ◌++◌, [], ℕ, List, length, take, true, IfSome, slice_index};
+ghost use Rattle.std.specs.Prelude.{◌≡◌, ◌<◌, ◌≤◌, ◌+◌, ◌^◌, ◌++◌, [], ℕ, List, length, take, true, IfSome};
+ghost use Rattle.std.specs.Prelude.{slice_index};
 ghost use Rattle.std.specs.List.{range_with_len};
 ghost use Rattle.trace_values.specs.Placed.{Placed, placed_from};
 ghost use Rattle.frame_grammar.specs.Frame.{IsProperFrame};
@@ -9,11 +10,13 @@ ghost use Rattle.deformatter.specs.Growth.{goes_on};
 ghost use Rattle.deformatter.specs.Block.{TakesBlock};
 ghost use Rattle.deformatter.specs.Frames.{IsBetween};
 ghost use Rattle.deformatter.specs.Deformatter.{Stands, is_hunter, is_live, tail_of, skipped_by};
+ghost use Rattle.trace_values.specs.declared.limits.TheConstants.{COUNT_ROOM};
+ghost use Rattle.frame_grammar.specs.declared.frame.TheConstants.{FRAME_BYTES};
 
 use crate::deformatter::Deformatter;
 use crate::step::PortStep;
 use arrayvec::ArrayVec;
-use frame_grammar::frame::cells_of;
+use frame_grammar::frame::{FRAME_BYTES, cells_of};
 use frame_grammar::plain::plain_frame;
 use trace_values::Cell;
 
@@ -26,14 +29,14 @@ pub struct Taken {
     pub step: PortStep,
 }
 
-/// The offsets of 16 bytes, the first of which is at this one.
+/// The offsets of the bytes of a frame, the first of which is at this one.
 #[inline]
-fn offsets_from(at: u64) -> [u64; 16]
-    requires { at ≤ 2 ^ 60 }
-    ensures { result ≡ range_with_len at 16 }
+fn offsets_from(at: u64) -> [u64; FRAME_BYTES]
+    requires { at ≤ COUNT_ROOM }
+    ensures { result ≡ range_with_len at FRAME_BYTES }
 {
-    let mut offsets = [0; 16];
-    for index in 0..16 {
+    let mut offsets = [0; FRAME_BYTES];
+    for index in 0..FRAME_BYTES {
         offsets[index] = at + index as u64;
     }
     offsets
@@ -67,7 +70,7 @@ impl Deformatter {
             Some(frame) => {
                 self.take_frame(at, frame, out);
                 Taken {
-                    bytes: 16,
+                    bytes: FRAME_BYTES,
                     step: PortStep::Frame,
                 }
             }
@@ -78,10 +81,10 @@ impl Deformatter {
     /// The frame that may be taken at once: the piece's first 16 bytes, where nothing of a frame or a
     /// synchronisation is there, the reading has begun, and none of those at even indexes is FF.
     #[inline]
-    fn next_frame<'a>(&self, piece: &'a [u8]) -> Option<&'a [u8; 16]>
+    fn next_frame<'a>(&self, piece: &'a [u8]) -> Option<&'a [u8; FRAME_BYTES]>
         ensures between { IfSome result (λ f. IsBetween self.now) }
-        ensures bytes { IfSome result (λ f. f.now ≡ take 16 piece.now) }
-        ensures room { IfSome result (λ f. 16 ≤ length piece.now) }
+        ensures bytes { IfSome result (λ f. f.now ≡ take FRAME_BYTES piece.now) }
+        ensures room { IfSome result (λ f. FRAME_BYTES ≤ length piece.now) }
         ensures proper { IfSome result (λ f. IsProperFrame f.now) }
     {
         if self.is_between() {
@@ -93,7 +96,7 @@ impl Deformatter {
 
     /// Takes a whole frame, whose first byte is at this offset.
     #[inline]
-    fn take_frame(&mut self, at: u64, frame: &[u8; 16], out: &mut ArrayVec<Cell, 15>)
+    fn take_frame(&mut self, at: u64, frame: &[u8; FRAME_BYTES], out: &mut ArrayVec<Cell, 15>)
         requires live { is_live self.old ≡ true }
         requires between { IsBetween self.old }
         requires proper { IsProperFrame frame.now }

@@ -6,6 +6,7 @@ ghost use Rattle.port_sync.specs.Aligner.{left_of};
 ghost use Rattle.port_sync.specs.Hunting.{pattern};
 ghost use Rattle.deformatter.specs.Phase.{mode_in};
 ghost use Rattle.deformatter.specs.Unfinished.{len_of, halves_of};
+ghost use Rattle.trace_values.specs.declared.limits.TheConstants.{COUNT_ROOM};
 
 use crate::step::PortStep;
 use crate::unfinished::Unfinished;
@@ -26,7 +27,7 @@ pub enum Phase {
 pub struct Deformatter {
     phase: Phase,
     hunter: Hunter,
-    /// How many bytes stand before the pattern that it hunted; before the lock, all bytes so far.
+    /// How many bytes are before the pattern that it hunted; before the lock, all bytes so far.
     skipped: u64,
     aligner: Aligner,
     /// The offset of the last byte that ended nothing: that of a halfword's first byte, where one is there.
@@ -39,7 +40,7 @@ pub struct Deformatter {
 }
 
 impl Deformatter {
-    ghost use Rattle.std.specs.Prelude.{◌^◌, ◌++◌, [], ◌∷◌, ℕ, List, false, is_none};
+    ghost use Rattle.std.specs.Prelude.{◌++◌, [], ◌∷◌, ℕ, List, false, is_none};
     ghost use Rattle.port_sync.specs.Hunting.{run_of};
     ghost use Rattle.std.specs.Prelude.{IsTrue};
     ghost use Rattle.trace_values.specs.Placed.{Placed, units_of, byte_at};
@@ -51,7 +52,8 @@ impl Deformatter {
     ghost use Rattle.deformatter.specs.Reading.{port_stream, cells_in};
     ghost use Rattle.deformatter.specs.Growth.{PortGrows, goes_on};
     ghost use Rattle.deformatter.specs.Rule.{step_by, cells_by, id_by};
-    ghost use Rattle.deformatter.specs.Deformatter.{Stands, mode_of, state_of, id_of, is_hunter, is_live, has_locked, tail_of, skipped_by};
+    ghost use Rattle.deformatter.specs.Deformatter.{Stands, mode_of, state_of, id_of, is_hunter, is_live, has_locked};
+    ghost use Rattle.deformatter.specs.Deformatter.{tail_of, skipped_by};
 
     /// A deformatter of bytes that begin with a frame or a synchronisation.
     pub fn aligned() -> Deformatter
@@ -93,11 +95,12 @@ impl Deformatter {
         }
     }
 
-    /// False exactly behind a fault.
+    /// False exactly after a fault.
     #[inline]
     pub fn is_live(&self) -> bool
         ensures value { result ≡ is_live self.now }
-        ensures list { (u : List Placed) → Stands self.now u → result ≡ is_none (port_stream (is_hunter self.now) u).fault }
+        ensures list { (u : List Placed) → Stands self.now u →
+            result ≡ is_none (port_stream (is_hunter self.now) u).fault }
     {
         self.aligner.is_live()
     }
@@ -113,7 +116,7 @@ impl Deformatter {
         }
     }
 
-    /// How many bytes stand before the pattern that it hunted; before the lock, all bytes so far.
+    /// How many bytes are before the pattern that it hunted; before the lock, all bytes so far.
     pub fn skipped(&self) -> u64
         requires { is_live self.now ≡ true }
         ensures value { result ≡ skipped_by self.now }
@@ -125,7 +128,7 @@ impl Deformatter {
         }
     }
 
-    /// How many bytes stand behind the last frame or synchronisation, those of half synchronisations
+    /// How many bytes are after the last frame or synchronisation, those of half synchronisations
     /// inside an unfinished frame too; 0 before the lock.
     pub fn tail(&self) -> u64
         requires { is_live self.now ≡ true }
@@ -164,27 +167,30 @@ impl Deformatter {
         ensures list { (u w f : List Placed) (halves : ℕ) → Stands self.old u → Spells (Frame f halves) w →
             after ≡ id_after (units_of f) (id_of self.old) → Stands self.new (u ++ w) }
         ensures grows { (u w f : List Placed) (halves : ℕ) → Stands self.old u → Spells (Frame f halves) w →
-            GrowsByFrame (port_stream (is_hunter self.old) u) (port_stream (is_hunter self.old) (u ++ w)) w f halves (id_of self.old) }
+            GrowsByFrame (port_stream (is_hunter self.old) u) (port_stream (is_hunter self.old) (u ++ w)) w f halves
+            (id_of self.old) }
         ensures live { is_live self.new ≡ true }
         ensures few { tail_of self.new + skipped_by self.new ≡ tail_of self.old + skipped_by self.old }
     {
         self.id = after;
     }
 
-    /// Takes the next byte, which stands at this offset of the capture. Where the byte ends a frame, `out`
+    /// Takes the next byte, which is at this offset of the capture. Where the byte ends a frame, `out`
     /// has the frame's cells afterwards, and else nothing.
     #[inline]
     pub fn feed(&mut self, at: u64, byte: u8, out: &mut ArrayVec<Cell, 15>) -> PortStep
         requires live { is_live self.old ≡ true }
         requires out { out.old.items ≡ [] }
-        requires room { tail_of self.old ≤ 2 ^ 60 }
-        requires count { skipped_by self.old ≤ 2 ^ 60 }
+        requires room { tail_of self.old ≤ COUNT_ROOM }
+        requires count { skipped_by self.old ≤ COUNT_ROOM }
         ensures same { is_hunter self.new ≡ is_hunter self.old }
         ensures list { (u : List Placed) → Stands self.old u → Stands self.new (u ++ byte_at at byte ∷ []) }
         ensures step { (u : List Placed) → Stands self.old u →
-            PortGrows (port_stream (is_hunter self.old) u) (port_stream (is_hunter self.old) (u ++ byte_at at byte ∷ [])) at result }
+            PortGrows (port_stream (is_hunter self.old) u)
+            (port_stream (is_hunter self.old) (u ++ byte_at at byte ∷ [])) at result }
         ensures cells { (u : List Placed) → Stands self.old u →
-            cells_in (port_stream (is_hunter self.old) (u ++ byte_at at byte ∷ [])) ≡ cells_in (port_stream (is_hunter self.old) u) ++ out.new.items }
+            cells_in (port_stream (is_hunter self.old) (u ++ byte_at at byte ∷ []))
+            ≡ cells_in (port_stream (is_hunter self.old) u) ++ out.new.items }
         ensures live { is_live self.new ≡ goes_on result }
         ensures few { tail_of self.new + skipped_by self.new ≤ tail_of self.old + skipped_by self.old + 1 }
         ensures each { (tail_of self.new ≤ tail_of self.old + 1) × (skipped_by self.new ≤ skipped_by self.old + 1) }
@@ -211,10 +217,11 @@ impl Deformatter {
     fn read(&mut self, at: u64, byte: u8, out: &mut ArrayVec<Cell, 15>) -> PortStep
         requires live { is_live self.old ≡ true }
         requires out { out.old.items ≡ [] }
-        requires room { tail_of self.old ≤ 2 ^ 60 }
+        requires room { tail_of self.old ≤ COUNT_ROOM }
         ensures mode { mode_of self.new ≡ mode_of self.old }
         ensures live { is_live self.new ≡ live_after (rule (state_of self.old) (byte_at at byte)) }
-        ensures state { state_of self.new ≡ state_after start (rule (state_of self.old) (byte_at at byte)) (state_of self.old) }
+        ensures state { state_of self.new ≡
+            state_after start (rule (state_of self.old) (byte_at at byte)) (state_of self.old) }
         ensures id { id_of self.new ≡ id_by (id_of self.old) (rule (state_of self.old) (byte_at at byte)) }
         ensures cells { out.new.items ≡ cells_by (id_of self.old) (rule (state_of self.old) (byte_at at byte)) }
         ensures step { result ≡ step_by at (state_of self.old) (rule (state_of self.old) (byte_at at byte)) }
@@ -277,7 +284,7 @@ mod tests {
     }
 
     /// Takes these bytes, which must give these steps at these offsets, and no step at any other, and
-    /// leave so long a tail behind so many skipped bytes.
+    /// leave a tail this long after this many skipped bytes.
     fn expect(
         rt: &impl Abort,
         mut port: Deformatter,
@@ -311,7 +318,7 @@ mod tests {
         }
     }
 
-    /// Takes these bytes, whose cells stand in runs of so many at neighbouring offsets, with one ID each.
+    /// Takes these bytes, whose cells are in runs of this many at neighbouring offsets, with one ID each.
     fn expect_ids(
         rt: &impl Abort,
         mut port: Deformatter,
@@ -333,7 +340,7 @@ mod tests {
         assert_eq!(rt; cells, all, "{bytes:?}");
     }
 
-    /// The offset and the ID of so manieth a cell.
+    /// The offset and the ID of the cell at this index.
     fn place_of(runs: &[(usize, usize, Option<u8>)], cell: usize) -> (usize, Option<u8>) {
         let mut before = cell;
         for (from, count, id) in runs {

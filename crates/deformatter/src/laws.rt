@@ -17,7 +17,7 @@ pub fn settled_law()
         PortSettled (port_stream hunts u) (port_stream hunts (u ++ w)) }
 {}
 
-/// With one more byte there is more, what is more stands at that byte, and nothing is taken back.
+/// With one more byte there is more, what is more is at that byte, and nothing is taken back.
 pub fn rising_law()
     ensures { (hunts : Bool) (u : List Placed) (at byte : ℕ) →
         PortRises (port_stream hunts u) (port_stream hunts (u ++ byte_at at byte ∷ [])) at }

@@ -1,4 +1,5 @@
-//! Reads the frames of a trace port (CoreSight Architecture Specification, formatter).
+//! Reads the frames of a trace port (CoreSight Architecture Specification, Arm IHI 0029E (version 3.0), chapter 'Trace
+//! Formatter', its section on frames).
 #![tactic(auto)]
 
 mod block;

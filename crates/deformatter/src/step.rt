@@ -13,7 +13,7 @@ pub enum PortStep {
     Full,
     /// A frame.
     Frame,
-    /// The full synchronisation that was hunted. So many bytes stand before it.
+    /// The full synchronisation that was hunted. This many bytes are before it.
     Locked { skipped: u64 },
     /// The first fault of the port.
     Fault(Fault),

@@ -94,7 +94,7 @@ comparator_inverse d s v h c k = (
 pub inverse : (d : ℕ) (s : Size) (v : ℕ) → d < 32 → v < 256 ^ byte_count s → Inverse d s v (name d s v)
 inverse d s v g h = by_table (Inverse d s v) d s v
     (counters, (exceptions, (samples, (sleeps, each_comparator (Inverts d s v) (comparator_inverse d s v h)))))
-    (λ none. (refl, (g, h, none)))
+    (λ none. (refl, ((g, h), none)))
   where
     counters : (d == 0 && (one s && (bits 7 6 v == 0))) ≡ true → Inverse d s v (Counters v)
     counters e =
@@ -185,14 +185,14 @@ name_of_packet (MatchPc c v) r = (omega arith, r.1, match_pc c v r.0)
 name_of_packet (MatchAddress c v) r = (omega arith, r.1, match_address c v r.0)
 name_of_packet (Read c s v) r = (omega arith, r.1, read c s v r.0)
 name_of_packet (Written c s v) r = (omega arith, r.1, written c s v r.0)
-name_of_packet (Other d s v) r = (r.0, r.1, no_row d s v r.2)
+name_of_packet (Other d s v) r = (r.0.0, r.0.1, no_row d s v r.1)
 
 -- the proper items are those in their ranges
 pub in_range : (item : DwtItem) → IsProperItem item → IsInRange item
-in_range item (d, s, v, g, h, e) = subst IsInRange e (inverse d s v g h).1
+in_range item (d, s, v, p, e) = subst IsInRange e (inverse d s v p.0 p.1).1
 
 pub proper : (item : DwtItem) → IsInRange item → IsProperItem item
-proper item r = let p = packet item in let n = name_of_packet item r in (p.0, p.1, p.2, n.0, n.1, n.2)
+proper item r = let p = packet item in let n = name_of_packet item r in (p.0, p.1, p.2, (n.0, n.1), n.2)
 
 -- and a proper item's packet has it
 pub proper_name : (item : DwtItem) → IsProperItem item → let p = packet item in (p.0 < 32) × (p.2 < 256 ^ byte_count p.1) × (name p.0 p.1 p.2 ≡ item)

@@ -1,4 +1,5 @@
--- The packet of an item.
+-- The packet of an item, by the same table (ARMv7-M Architecture Reference Manual, Arm DDI 0403E, appendix D4 'Debug
+-- ITM and DWT Packet Protocol', section D4.3 'DWT use of Hardware source packets').
 use Rattle.std.specs.Prelude.{◌≡◌, ℕ, ◌+◌, ◌*◌, ◌^◌, ◌<◌}
 use Rattle.itm_grammar.specs.Spelling.{byte_count}
 use Rattle.itm_grammar.specs.declared.packet.Size.{Size}
@@ -6,7 +7,8 @@ use Rattle.itm_grammar.specs.declared.packet.Size.TheVariants.{One, Two, Four}
 use Rattle.dwt_packets.specs.declared.item.Change.{Change}
 use Rattle.dwt_packets.specs.declared.item.Change.TheVariants.{Enter, Exit, Return}
 use Rattle.dwt_packets.specs.declared.item.DwtItem.{DwtItem}
-use Rattle.dwt_packets.specs.declared.item.DwtItem.TheVariants.{Counters, Exception, Sample, Asleep, MatchPc, MatchAddress, Read, Written, Other}
+use Rattle.dwt_packets.specs.declared.item.DwtItem.TheVariants.{Counters, Exception, Sample, Asleep, MatchPc}
+use Rattle.dwt_packets.specs.declared.item.DwtItem.TheVariants.{MatchAddress, Read, Written, Other}
 use Rattle.dwt_packets.specs.Table.{name, NoRowFits}
 
 -- a hardware packet's discriminator and value fit their bits
@@ -15,7 +17,7 @@ IsPacket disc size value = (disc < 32) × (value < 256 ^ byte_count size)
 
 -- the item is the meaning of some packet
 abbrev pub IsProperItem : DwtItem → Type 0
-IsProperItem item = (disc : ℕ) × (size : Size) × (value : ℕ) × (disc < 32) × (value < 256 ^ byte_count size) × (name disc size value ≡ item)
+IsProperItem item = (disc : ℕ) × (size : Size) × (value : ℕ) × IsPacket disc size value × (name disc size value ≡ item)
 
 -- bits 13 and 12 of an exception packet
 abbrev pub change_bits : Change → ℕ
@@ -45,4 +47,4 @@ IsInRange (MatchPc comparator pc) = (comparator < 4) × (pc < 2 ^ 32)
 IsInRange (MatchAddress comparator low) = (comparator < 4) × (low < 2 ^ 16)
 IsInRange (Read comparator size value) = (comparator < 4) × (value < 256 ^ byte_count size)
 IsInRange (Written comparator size value) = (comparator < 4) × (value < 256 ^ byte_count size)
-IsInRange (Other disc size value) = (disc < 32) × (value < 256 ^ byte_count size) × NoRowFits disc size value
+IsInRange (Other disc size value) = IsPacket disc size value × NoRowFits disc size value

@@ -1,6 +1,8 @@
--- What a hardware packet means, by its discriminator (the manual's discriminator ID), size and value (ARMv7-M Architecture
--- Reference Manual, Arm DDI 0403, appendix 'Debug ITM and DWT packet protocol', 'DWT packets').
-use Rattle.std.specs.Prelude.{◌≡◌, ℕ, ◌+◌, ◌-◌, ◌*◌, ◌/◌, ◌%◌, ◌^◌, Bool, true, false, ◌==◌, ◌&&◌, nat_lt, if◌then◌else◌, List, [], ◌∷◌, ◌++◌, find}
+-- What a hardware packet means, by its discriminator (the manual's discriminator ID), size and value (ARMv7-M
+-- Architecture Reference Manual, Arm DDI 0403E, appendix D4 'Debug ITM and DWT Packet Protocol', section D4.3 'DWT use
+-- of Hardware source packets'). Titles in quotes are those of its parts.
+use Rattle.std.specs.Prelude.{◌≡◌, ℕ, ◌+◌, ◌-◌, ◌*◌, ◌/◌, ◌%◌, ◌^◌, Bool, true, false, ◌==◌, ◌&&◌, nat_lt}
+use Rattle.std.specs.Prelude.{if◌then◌else◌, List, [], ◌∷◌, ◌++◌, find}
 use Rattle.std.specs.List.{list_any}
 use Rattle.std.specs.Option.{option_map_or}
 use Rattle.itm_grammar.specs.declared.packet.Size.{Size}
@@ -8,7 +10,8 @@ use Rattle.itm_grammar.specs.declared.packet.Size.TheVariants.{One, Two, Four}
 use Rattle.dwt_packets.specs.declared.item.Change.{Change}
 use Rattle.dwt_packets.specs.declared.item.Change.TheVariants.{Enter, Exit, Return}
 use Rattle.dwt_packets.specs.declared.item.DwtItem.{DwtItem}
-use Rattle.dwt_packets.specs.declared.item.DwtItem.TheVariants.{Counters, Exception, Sample, Asleep, MatchPc, MatchAddress, Read, Written, Other}
+use Rattle.dwt_packets.specs.declared.item.DwtItem.TheVariants.{Counters, Exception, Sample, Asleep, MatchPc}
+use Rattle.dwt_packets.specs.declared.item.DwtItem.TheVariants.{MatchAddress, Read, Written, Other}
 
 -- bits `high` to `low` of a number
 abbrev pub bits : ℕ → ℕ → ℕ → ℕ
@@ -59,13 +62,14 @@ comparator_rows c =
     ∷ row (17 + 2 * c) any_size any_value (λ s v. Written c s v)
     ∷ []
 
--- The table: 'Event counter packet', 'Exception trace packet', 'Periodic PC sample packets' of a PC and of a processor that
--- sleeps, and the data trace packets. Where bits have to be 0, they are reserved; that a packet with others set is another
--- item is this project's profile.
+-- The table: 'Event counter packet', 'Exception trace packet', 'Periodic PC sample packets' of a PC and of a processor
+-- that sleeps, and the data trace packets. Where bits have to be 0, they are reserved; that a packet with others set is
+-- another item is this project's profile.
 abbrev pub table : List Row
 table =
     row 0 one (λ v. bits 7 6 v == 0) (λ s v. Counters v)
-    ∷ row 1 two (λ v. bits 15 14 v == 0 && (bits 11 9 v == 0 && nat_lt 0 (bits 13 12 v))) (λ s v. Exception (bits 8 0 v) (change_of (bits 13 12 v)))
+    ∷ row 1 two (λ v. bits 15 14 v == 0 && (bits 11 9 v == 0 && nat_lt 0 (bits 13 12 v)))
+    (λ s v. Exception (bits 8 0 v) (change_of (bits 13 12 v)))
     ∷ row 2 four any_value (λ s v. Sample v)
     ∷ row 2 one (λ v. v == 0) (λ s v. Asleep)
     ∷ (comparator_rows 0 ++ (comparator_rows 1 ++ (comparator_rows 2 ++ comparator_rows 3)))
@@ -80,7 +84,8 @@ NoRowFits disc size value = list_any (fits disc size value) table ≡ false
 
 -- what a packet means: the item of the first row that fits, and where none fits, another item
 unfoldable pub name : ℕ → Size → ℕ → DwtItem
-name disc size value = option_map_or (λ row. row.item size value) (find (fits disc size value) table) (Other disc size value)
+name disc size value =
+    option_map_or (λ row. row.item size value) (find (fits disc size value) table) (Other disc size value)
 
 -- that other item, which no row has
 abbrev pub is_other : DwtItem → Bool

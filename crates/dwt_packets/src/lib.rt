@@ -1,5 +1,6 @@
-//! What the hardware packets of an ITM stream mean, and the packets of such meanings (ARMv7-M Architecture
-//! Reference Manual, 'Debug ITM and DWT packet protocol').
+//! What the hardware packets of an ITM stream mean, and the packets of such meanings (ARMv7-M Architecture Reference
+//! Manual, Arm DDI 0403E, appendix D4 'Debug ITM and DWT Packet Protocol', section D4.3 'DWT use of Hardware source
+//! packets').
 #![tactic(auto)]
 
 mod item;

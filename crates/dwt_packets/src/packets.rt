@@ -3,14 +3,14 @@
 ghost use Rattle.std.specs.Prelude.{◌≡◌, ◌<◌, ◌^◌};
 ghost use Rattle.itm_grammar.specs.Spelling.{byte_count};
 ghost use Rattle.dwt_packets.specs.Table.{name};
-ghost use Rattle.dwt_packets.specs.Packet.{packet, change_bits as bits_of, IsProperItem, IsInRange};
+ghost use Rattle.dwt_packets.specs.Packet.{packet, change_bits, IsProperItem, IsInRange};
 
 use crate::item::{Change, DwtItem};
 use itm_grammar::packet::Size;
 
 /// Bits 13 and 12 of an exception packet.
 fn change_bits(change: Change) -> u32
-    ensures bits { result ≡ bits_of change }
+    ensures bits { result ≡ change_bits change }
     ensures few { result < 4 }
 {
     match change {

@@ -3,7 +3,8 @@
 ghost use Rattle.std.specs.Prelude.{◌≡◌};
 ghost use Rattle.itm_grammar.specs.declared.packet.Size.TheVariants.{One, Two, Four};
 ghost use Rattle.dwt_packets.specs.declared.item.Change.TheVariants.{Enter, Exit, Return};
-ghost use Rattle.dwt_packets.specs.declared.item.DwtItem.TheVariants.{Counters, Exception, Sample, Asleep, MatchPc, MatchAddress, Read, Written, Other};
+ghost use Rattle.dwt_packets.specs.declared.item.DwtItem.TheVariants.{Counters, Exception, Sample, Asleep, MatchPc};
+ghost use Rattle.dwt_packets.specs.declared.item.DwtItem.TheVariants.{MatchAddress, Read, Written, Other};
 ghost use Rattle.dwt_packets.specs.Table.{name};
 
 /// Discriminator, size and value of packets without a comparator, and what they mean.

@@ -12,7 +12,7 @@ use Rattle.trace_values.specs.declared.cell.Cell.{Cell}
 use Rattle.trace_values.specs.Cells.{source_id}
 use Rattle.frame_grammar.specs.Frame.{names, aux_bit, in_effect, id_below, id_at, run_below, run_at, even_data, cell, even_cells, odd_cells, cells_below, cells, data_indexes, data_at}
 
--- what is in effect at an index is in effect behind it
+-- what is in effect at an index is in effect after it
 lasts_by : (name : Bool) (j i k a : ℕ) → i ≤ k → (name && nat_lt j i && (a == 0 || nat_lt (j + 1) i)) ≡ true → (name && nat_lt j k && (a == 0 || nat_lt (j + 1) k)) ≡ true
 lasts_by true j i k a h e = grind (arith, nat_tests)
 lasts_by false j i k a h e = e

@@ -29,7 +29,7 @@ is_yes a b e = grind (arith, nat_tests)
 pub is_no : (a b : ℕ) → (a == b) ≡ false → a ≢ b
 is_no a b e h = let k = yes a b h in cc
 
--- the walk behind a unit of which the rule says this
+-- the walk after a unit of which the rule says this
 says : (s : State) (x : Placed) (r : List Placed) (y : Next State PortItem) → rule s x ≡ y → on s (x ∷ r) ≡ after y (λ t. on t r) r
 says s x r y e = ap (λ (z : Next State PortItem). after z (λ t. on t r) r) e
 
@@ -59,7 +59,7 @@ word_on : (n : ℕ) (f : List Placed) (h : ℕ) (r : List Placed) (a b : Placed)
     on (at n f h Between) (a ∷ (b ∷ r)) ≡ after (word_ended n (f ++ (a ∷ (b ∷ []))) h) (λ t. on t r) r
 word_on n f h r a b e = says (at n f h Between) a (b ∷ r) _ (word n f h a e)
 
--- one halfword with what stands before it
+-- one halfword with what is before it
 one_word : (n : ℕ) (f : List Placed) (h here : ℕ) (a b : Placed) (r w : List Placed) → n ≢ 7 → IsWord here a b r w →
     on (at n f h Between) r ≡ after (word_ended n (f ++ (a ∷ (b ∷ []))) (h + here)) (λ t. on t w) w
 one_word n f h here a b r w l i =

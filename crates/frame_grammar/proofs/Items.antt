@@ -17,7 +17,7 @@ use Rattle.frame_grammar.specs.Reading.{item_cells, item_id, cells_of_items, id_
 use Rattle.frame_grammar.proofs.CellLaws.{at_end}
 use Rattle.frame_grammar.proofs.Deciding.{yes, no, is_yes, is_no, at, on}
 
--- items behind items
+-- items after items
 pub id_of_items-append : (id : Option ℕ) (xs ys : List PortItem) → id_of_items id (xs ++ ys) ≡ id_of_items (id_of_items id xs) ys
 id_of_items-append id [] ys = refl
 id_of_items-append id (x ∷ xs) ys = id_of_items-append (item_id id x) xs ys

@@ -1,7 +1,8 @@
--- A frame of 16 bytes and its cells (CoreSight Architecture Specification, Arm IHI 0029, the chapter on the trace
--- formatter), looking back from each index. Mixed-use bytes are those at 0, 2 .. 14, and byte 15 has the
--- auxiliary bits. IDs are the specification's trace source IDs.
-use Rattle.std.specs.Prelude.{◌≡◌, ◌≢◌, ℕ, zero, suc, ◌+◌, ◌*◌, ◌/◌, ◌%◌, ◌^◌, ◌<◌, List, [], ◌∷◌, ◌++◌, slice_index, Bool, nat_lt, ◌==◌, ◌&&◌, ◌||◌, not, if◌then◌else◌, Option}
+-- A frame of 16 bytes and its cells, looking back from each index (CoreSight Architecture Specification, Arm IHI 0029E
+-- (version 3.0), chapter 'Trace Formatter', its section on frames). The mixed-use bytes are those at 0, 2 .. 14, and
+-- byte 15 has the auxiliary bits. IDs are the specification's trace source IDs.
+use Rattle.std.specs.Prelude.{◌≡◌, ◌≢◌, ℕ, zero, suc, ◌+◌, ◌*◌, ◌/◌, ◌%◌, ◌^◌, ◌<◌, List, [], ◌∷◌, ◌++◌, slice_index}
+use Rattle.std.specs.Prelude.{Bool, nat_lt, ◌==◌, ◌&&◌, ◌||◌, not, if◌then◌else◌, Option}
 use Rattle.std.specs.List.{filter, range_with_len}
 use Rattle.trace_values.specs.declared.cell.Cell.{Cell}
 use Rattle.trace_values.specs.Cells.{source_id}
@@ -22,15 +23,16 @@ names frame k = slice_index frame (2 * k) % 2 == 1
 abbrev pub aux_bit : List ℕ → ℕ → ℕ
 aux_bit frame k = (slice_index frame 15 / 2 ^ k) % 2
 
--- The byte at 2k names a source that is in effect at i: it is before i, and its auxiliary bit is 0, or the data byte after
--- it is before i too. That the auxiliary bit of byte 14 says nothing is this project's profile.
+-- The byte at 2k names a source that is in effect at i: it is before i, and its auxiliary bit is 0, or the data byte
+-- after it is before i too. That the auxiliary bit of byte 14 says nothing is this project's profile.
 abbrev pub in_effect : List ℕ → ℕ → ℕ → Bool
 in_effect frame i k = names frame k && nat_lt (2 * k) i && (aux_bit frame k == 0 || nat_lt (2 * k + 1) i)
 
 -- the ID at i by the greatest even index below 2n that is in effect there, or else the ID before the frame
 abbrev pub id_below : List ℕ → Option ℕ → ℕ → ℕ → Option ℕ
 id_below frame id i zero = id
-id_below frame id i (suc k) = if in_effect frame i k then source_id (slice_index frame (2 * k) / 2) else id_below frame id i k
+id_below frame id i (suc k) =
+    if in_effect frame i k then source_id (slice_index frame (2 * k) / 2) else id_below frame id i k
 
 -- the ID in force at i
 abbrev pub id_at : List ℕ → Option ℕ → ℕ → Option ℕ
@@ -51,7 +53,8 @@ even_data frame k = 2 * (slice_index frame (2 * k) / 2) + aux_bit frame k
 
 -- the data byte at i, with what is in force there
 abbrev pub cell : List ℕ → List ℕ → Option ℕ → ℕ → ℕ → Cell
-cell frame offsets id i byte = record { at = slice_index offsets i; id = id_at frame id i; run = run_at frame i; byte = byte }
+cell frame offsets id i byte =
+    record { at = slice_index offsets i; id = id_at frame id i; run = run_at frame i; byte = byte }
 
 -- the cells at 2k and at 2k + 1
 abbrev pub even_cells : List ℕ → List ℕ → Option ℕ → ℕ → List Cell
@@ -63,7 +66,8 @@ odd_cells frame offsets id k = cell frame offsets id (2 * k + 1) (slice_index fr
 -- the cells below 2n
 abbrev pub cells_below : List ℕ → List ℕ → Option ℕ → ℕ → List Cell
 cells_below frame offsets id zero = []
-cells_below frame offsets id (suc k) = cells_below frame offsets id k ++ (even_cells frame offsets id k ++ odd_cells frame offsets id k)
+cells_below frame offsets id (suc k) =
+    cells_below frame offsets id k ++ (even_cells frame offsets id k ++ odd_cells frame offsets id k)
 
 -- the cells of the frame that follows this ID; byte 15 is none
 abbrev pub cells : List ℕ → List ℕ → Option ℕ → List Cell

@@ -1,6 +1,6 @@
--- The port grammar (CoreSight Architecture Specification, Arm IHI 0029, the chapter on the trace formatter): full synchronisations
--- ('frame synchronization packet', FF FF FF 7F), half ones ('halfword synchronization packet', FF 7F), and frames of eight
--- halfwords.
+-- The port grammar (CoreSight Architecture Specification, Arm IHI 0029E (version 3.0), chapter 'Trace Formatter', its
+-- section on frames): full synchronisations ('frame synchronization packet', FF FF FF 7F), half ones ('halfword
+-- synchronization packet', FF 7F), and frames of eight halfwords.
 use Rattle.std.specs.Prelude.{◌≡◌, ◌≢◌, ℕ, zero, suc, ◌+◌, List, [], ◌∷◌, ◌++◌, ◌==◌, ◌&&◌, if◌then◌else◌}
 use Rattle.trace_values.specs.declared.fault.Reason.{Reason}
 use Rattle.trace_values.specs.declared.fault.Reason.TheVariants.{BadSync, SyncInFrame}
@@ -15,19 +15,19 @@ pub data PortItem : Type 0 where
   Half : PortItem
   Frame : List Placed → ℕ → PortItem
 
--- FF 7F, so many times
+-- FF 7F, this many times
 abbrev pub half_spelling : ℕ → List ℕ
 half_spelling zero = []
 half_spelling (suc n) = 0xFF ∷ (0x7F ∷ half_spelling n)
 
--- r is so many half synchronisations, then the halfword a b, whose first byte is not FF, and then w
+-- r is this many half synchronisations, then the halfword a b, whose first byte is not FF, and then w
 pub record IsWord (halves : ℕ) (a b : Placed) (r w : List Placed) : Type 0 where
   pub before : List Placed
   pub halves_are : units_of before ≡ half_spelling halves
   pub proper : a.unit ≢ 0xFF
   pub parts : r ≡ before ++ (a ∷ (b ∷ w))
 
--- r is n halfwords with the bytes f, and before each any number of half synchronisations, so many in all
+-- r is n halfwords with the bytes f, and before each any number of half synchronisations, this many in all
 abbrev pub IsWords : ℕ → ℕ → List Placed → List Placed → Type 0
 IsWords zero halves f r = (halves ≡ 0) × (f ≡ []) × (r ≡ [])
 IsWords (suc n) halves f r =
@@ -37,7 +37,8 @@ IsWords (suc n) halves f r =
 -- a frame is a halfword and seven more, with half synchronisations between them only
 abbrev pub IsFrame : ℕ → List Placed → List Placed → Type 0
 IsFrame halves f r =
-    (a : Placed) × (b : Placed) × (g : List Placed) × (w : List Placed) × IsWord 0 a b r w × (f ≡ a ∷ (b ∷ g)) × IsWords 7 halves g w
+    (a : Placed) × (b : Placed) × (g : List Placed) × (w : List Placed) × IsWord 0 a b r w × (f ≡ a ∷ (b ∷ g))
+    × IsWords 7 halves g w
 
 -- which bytes spell an item
 abbrev pub Spells : PortItem → List Placed → Type 0
@@ -64,7 +65,7 @@ abbrev pub why : List Placed → Reason
 why [] = BadSync
 why (x ∷ r) = if x.unit == 0xFF then BadSync else (if last_unit r == 0xFF then SyncInFrame else BadSync)
 
--- what of a halfword or a synchronisation is there: nothing, a halfword's first byte, or so many FF
+-- what of a halfword or a synchronisation is there: nothing, a halfword's first byte, or this many FF
 pub data Part : Type 0 where
   Between : Part
   First : Placed → Part
@@ -95,7 +96,8 @@ word_ended (suc left) f halves = Go (record { left = left; bytes = f; halves = h
 -- after FF 7F
 abbrev pub half_ended : State → Next State PortItem
 half_ended s =
-    if s.left == 7 then End Half else Go (record { left = s.left; bytes = s.bytes; halves = s.halves + 1; part = Between })
+    if s.left == 7 then End Half
+    else Go (record { left = s.left; bytes = s.bytes; halves = s.halves + 1; part = Between })
 
 -- after FF FF
 abbrev pub full_begun : State → Next State PortItem

@@ -1,4 +1,6 @@
--- What the bytes of a port read as: items, the cells of the frames, and counts.
+-- What the bytes of a port read as: items, the cells of the frames, and counts. That an ID stays in force over
+-- synchronisations and from frame to frame is as in CoreSight Architecture Specification, Arm IHI 0029E (version 3.0),
+-- chapter 'Trace Formatter', its section on frames.
 use Rattle.std.specs.Prelude.{ℕ, ◌+◌, List, [], ◌∷◌, ◌++◌, map, Bool, false, ◌==◌, Option, None, Some}
 use Rattle.std.specs.List.{filter, sum_by}
 use Rattle.trace_values.specs.declared.cell.Cell.{Cell}
@@ -11,7 +13,7 @@ use Rattle.frame_grammar.specs.Port.{PortItem, Full, Half, Frame, State, start, 
 abbrev pub offsets_of : List Placed → List ℕ
 offsets_of u = map (λ p. p.place.at) u
 
--- the cells of an item behind this ID, and the ID after it: synchronisations leave it as it is
+-- the cells of an item after this ID, and the ID after it: synchronisations leave it as it is
 abbrev pub item_cells : Option ℕ → PortItem → List Cell
 item_cells id Full = []
 item_cells id Half = []
@@ -22,7 +24,7 @@ item_id id Full = id
 item_id id Half = id
 item_id id (Frame f halves) = id_after (units_of f) id
 
--- the same of items in order: each frame stands behind the ID after the frame before it
+-- the same of items in order: each frame begins with the ID in force after the frame before it
 abbrev pub cells_of_items : Option ℕ → List PortItem → List Cell
 cells_of_items id [] = []
 cells_of_items id (p ∷ items) = item_cells id p ++ cells_of_items (item_id id p) items

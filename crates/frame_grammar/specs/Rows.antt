@@ -1,18 +1,9 @@
 -- Worked rows of captures, in text.
-use Rattle.std.specs.Prelude.{ℕ, ◌+◌, ◌-◌, ◌*◌, List, [], ◌∷◌, length, map, Option, option_map, nat_lt, if◌then◌else◌}
+use Rattle.std.specs.Prelude.{ℕ, List, length, map, Option, option_map}
+pub use Rattle.trace_values.specs.Hex.{hex}
 use Rattle.trace_values.specs.declared.fault.Reason.{Reason}
 use Rattle.trace_values.specs.Placed.{placed}
 use Rattle.frame_grammar.specs.Reading.{port_reading, port_cells, full_count, half_count, frame_count, source_list}
-
--- a character 0 to 9 or A to F, as a digit
-abbrev pub digit : ℕ → ℕ
-digit code = if nat_lt code 58 then code - 48 else code - 55
-
--- the bytes of a text that has two digits a byte and one character between bytes
-abbrev pub hex : List ℕ → List ℕ
-hex (high ∷ (low ∷ (between ∷ text))) = (16 * digit high + digit low) ∷ hex text
-hex (high ∷ (low ∷ [])) = (16 * digit high + digit low) ∷ []
-hex text = []
 
 -- the cells of a capture: the offset, the ID, the run and the byte of each
 abbrev pub cell_row : List ℕ → List (ℕ × Option ℕ × ℕ × ℕ)

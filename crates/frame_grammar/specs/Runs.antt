@@ -1,4 +1,5 @@
--- The runs of the cells of one frame.
+-- The runs of the cells of one frame. A run is this project's notion: the bytes of a frame up to the next ID that takes
+-- effect.
 use Rattle.std.specs.Prelude.{◌≡◌, ◌≤◌, List}
 use Rattle.std.specs.List.{All, Contains}
 use Rattle.std.specs.List.Sorted.{IsNonDecreasingBy}

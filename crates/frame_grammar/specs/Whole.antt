@@ -1,5 +1,5 @@
 -- The bytes of one whole frame, with half synchronisations between its halfwords or without (CoreSight Architecture
--- Specification, formatter).
+-- Specification, Arm IHI 0029E (version 3.0), chapter 'Trace Formatter', its section on frames).
 use Rattle.std.specs.Prelude.{◌≡◌, ℕ, List, [], ◌∷◌, ◌==◌, ◌&&◌, if◌then◌else◌}
 use Rattle.trace_values.specs.Placed.{Placed, units_of, placed_from}
 use Rattle.frame_grammar.specs.Port.{Frame, Spells}
@@ -8,7 +8,8 @@ use Rattle.frame_grammar.specs.Port.{Frame, Spells}
 abbrev pub without_halves : List Placed → List Placed
 without_halves [] = []
 without_halves (x ∷ []) = x ∷ []
-without_halves (x ∷ (y ∷ r)) = if x.unit == 0xFF && y.unit == 0x7F then without_halves r else (x ∷ (y ∷ without_halves r))
+without_halves (x ∷ (y ∷ r)) =
+    if x.unit == 0xFF && y.unit == 0x7F then without_halves r else (x ∷ (y ∷ without_halves r))
 
 -- These bytes are one whole frame at any offset: without the half synchronisations between its halfwords, `halves` in
 -- all, they are the 16 bytes of `frame`.

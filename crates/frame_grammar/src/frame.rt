@@ -6,6 +6,9 @@ ghost use Rattle.frame_grammar.specs.Frame.{IsProperFrame, cells, id_after, even
 use arrayvec::ArrayVec;
 use trace_values::{Cell, SourceId};
 
+/// The bytes of a frame.
+pub const FRAME_BYTES: usize = 16;
+
 /// The ID in force at an index of a frame, and how many IDs the frame has named up to it.
 #[derive(Clone, Copy, Debug, PartialEq, Eq, Drop)]
 struct InForce {
@@ -29,8 +32,8 @@ impl InForce {
 
 /// Takes the frame's two bytes from index `2 * pair` on, where this is in force.
 fn take_pair(
-    frame: &[u8; 16],
-    at: &[u64; 16],
+    frame: &[u8; FRAME_BYTES],
+    at: &[u64; FRAME_BYTES],
     pair: usize,
     now: InForce,
     out: &mut ArrayVec<Cell, 15>,
@@ -65,11 +68,11 @@ fn take_pair(
 
 /// Puts the cells of a frame into `out`, which is empty, and gives the ID after the frame.
 ///
-/// The frame's bytes stand at these offsets of the capture, and `id` is the ID before the frame. None of
+/// The frame's bytes are at these offsets of the capture, and `id` is the ID before the frame. None of
 /// the bytes at even indexes may be FF.
 pub fn cells_of(
-    frame: &[u8; 16],
-    at: &[u64; 16],
+    frame: &[u8; FRAME_BYTES],
+    at: &[u64; FRAME_BYTES],
     id: Option<SourceId>,
     out: &mut ArrayVec<Cell, 15>,
 ) -> Option<SourceId>
@@ -97,11 +100,11 @@ mod tests {
     use super::*;
     use std::process::Abort;
 
-    const OFFSETS: [u64; 16] = [
+    const OFFSETS: [u64; FRAME_BYTES] = [
         40, 41, 44, 45, 46, 47, 52, 53, 54, 55, 56, 57, 58, 59, 60, 61,
     ];
 
-    fn is_proper(frame: &[u8; 16]) -> bool
+    fn is_proper(frame: &[u8; FRAME_BYTES]) -> bool
         ensures { IsTrue result → IsProperFrame frame.now }
     {
         for pair in 0..8 {
@@ -112,8 +115,8 @@ mod tests {
         true
     }
 
-    /// By the last ID byte before the index that is not deferred or stands two before it.
-    fn in_force(frame: &[u8; 16], before: Option<u8>, index: usize) -> InForce {
+    /// By the last ID byte before the index that is not deferred or is two before it.
+    fn in_force(frame: &[u8; FRAME_BYTES], before: Option<u8>, index: usize) -> InForce {
         let mut now = InForce {
             id: before.and_then(SourceId::new),
             run: 0,
@@ -132,7 +135,7 @@ mod tests {
     }
 
     /// Compares with each index on its own, looking back from it.
-    fn check(rt: &impl Abort, frame: &[u8; 16], before: Option<u8>) {
+    fn check(rt: &impl Abort, frame: &[u8; FRAME_BYTES], before: Option<u8>) {
         assert!(rt; is_proper(frame));
         let mut out = ArrayVec::new();
         let after = cells_of(frame, &OFFSETS, before.and_then(SourceId::new), &mut out);
@@ -163,7 +166,7 @@ mod tests {
     /// Takes a frame at these offsets, which must give these cells: the index, the ID, the run and the byte of each.
     fn expect(
         rt: &impl Abort,
-        frame: &[u8; 16],
+        frame: &[u8; FRAME_BYTES],
         before: Option<u8>,
         cells: &[(usize, Option<u8>, u8, u8)],
         after: Option<u8>,

@@ -1,6 +1,7 @@
 //! Laws of the grammar and of cells, over their definitions alone.
 
-ghost use Rattle.std.specs.Prelude.{◌≡◌, ◌↔◌, ◌<◌, ◌≤◌, ℕ, ◌+◌, ◌*◌, ◌/◌, true, false, List, ◌++◌, Option, None, Some, map, length, slice_index};
+ghost use Rattle.std.specs.Prelude.{◌≡◌, ◌↔◌, ◌<◌, ◌≤◌, ℕ, ◌+◌, ◌*◌, ◌/◌, true, false, List, ◌++◌, Option, None, Some};
+ghost use Rattle.std.specs.Prelude.{map, length, slice_index};
 ghost use Rattle.std.specs.List.{Contains, count_by, range_with_len};
 ghost use Rattle.trace_values.specs.declared.cell.Cell.{Cell};
 ghost use Rattle.trace_values.specs.Cells.{source_id};
@@ -9,12 +10,15 @@ ghost use Rattle.trace_values.specs.Grammar.{PrefixLaw};
 ghost use Rattle.trace_values.specs.Walk.{Decides};
 ghost use Rattle.trace_values.specs.Reading.{Reading, IsReading, IsFirstFault};
 ghost use Rattle.trace_values.specs.declared.fault.Reason.{Reason};
-ghost use Rattle.frame_grammar.specs.Frame.{IsProperFrame, in_effect, id_at, run_at, cell, cells, data_indexes, data_at};
+ghost use Rattle.frame_grammar.specs.Frame.{IsProperFrame, in_effect, id_at, run_at, cell, cells, data_indexes};
+ghost use Rattle.frame_grammar.specs.Frame.{data_at};
 ghost use Rattle.frame_grammar.specs.Runs.{HasRuns};
 ghost use Rattle.frame_grammar.specs.Port.{PortItem, Frame, Spells, why, rule, start, half_words};
-ghost use Rattle.frame_grammar.specs.Reading.{port_reading, port_progress, cells_of_items, id_of_items, offsets_of, source_list};
+ghost use Rattle.frame_grammar.specs.Reading.{port_reading, port_progress, cells_of_items, id_of_items, offsets_of};
+ghost use Rattle.frame_grammar.specs.Reading.{source_list};
 ghost use Rattle.frame_grammar.specs.SourceBytes.{bytes_of_source, source_units};
 ghost use Rattle.frame_grammar.specs.Whole.{IsWhole};
+ghost use Rattle.frame_grammar.specs.declared.frame.TheConstants.{FRAME_BYTES};
 
 /// One list of bytes spells at most one item, and no spelling begins another.
 pub fn prefix_law()
@@ -34,17 +38,19 @@ pub fn reading_law()
 
 /// A frame has 16 bytes, none of the mixed-use ones is FF, and its spelling has them and its half synchronisations.
 pub fn frame_law()
-    ensures bytes { (f r : List Placed) (halves : ℕ) → Spells (Frame f halves) r → length f ≡ 16 }
+    ensures bytes { (f r : List Placed) (halves : ℕ) → Spells (Frame f halves) r → length f ≡ FRAME_BYTES }
     ensures proper { (f r : List Placed) (halves : ℕ) → Spells (Frame f halves) r → IsProperFrame (units_of f) }
-    ensures spelling { (f r : List Placed) (halves : ℕ) → Spells (Frame f halves) r → length r ≡ 16 + 2 * halves }
+    ensures spelling { (f r : List Placed) (halves : ℕ) → Spells (Frame f halves) r →
+        length r ≡ FRAME_BYTES + 2 * halves }
 {}
 
 /// 16 bytes with no FF at an even index are a whole frame. One with half synchronisations between its halfwords has two
 /// bytes more for each, and the frame without them has 16 bytes, and no FF at an even index.
 pub fn whole_law()
-    ensures plain { (bytes : List ℕ) → length bytes ≡ 16 → IsProperFrame bytes → IsWhole bytes bytes 0 }
-    ensures size { (bytes frame : List ℕ) (halves : ℕ) → IsWhole bytes frame halves → length bytes ≡ 16 + 2 * halves }
-    ensures frame { (bytes frame : List ℕ) (halves : ℕ) → IsWhole bytes frame halves → length frame ≡ 16 }
+    ensures plain { (bytes : List ℕ) → length bytes ≡ FRAME_BYTES → IsProperFrame bytes → IsWhole bytes bytes 0 }
+    ensures size { (bytes frame : List ℕ) (halves : ℕ) → IsWhole bytes frame halves →
+        length bytes ≡ FRAME_BYTES + 2 * halves }
+    ensures frame { (bytes frame : List ℕ) (halves : ℕ) → IsWhole bytes frame halves → length frame ≡ FRAME_BYTES }
     ensures proper { (bytes frame : List ℕ) (halves : ℕ) → IsWhole bytes frame halves → IsProperFrame frame }
 {}
 
@@ -59,24 +65,26 @@ pub fn halves_law()
         (port_reading u).fault ≡ Some fault → (port_progress u).state.halves ≡ half_words broken.before }
 {}
 
-/// The ID carries over from items to those behind them.
+/// The ID carries over from items to those after them.
 pub fn items_law()
     ensures cells { (id : Option ℕ) (xs ys : List PortItem) →
         cells_of_items id (xs ++ ys) ≡ cells_of_items id xs ++ cells_of_items (id_of_items id xs) ys }
-    ensures id { (id : Option ℕ) (xs ys : List PortItem) → id_of_items id (xs ++ ys) ≡ id_of_items (id_of_items id xs) ys }
+    ensures id { (id : Option ℕ) (xs ys : List PortItem) →
+        id_of_items id (xs ++ ys) ≡ id_of_items (id_of_items id xs) ys }
 {}
 
 /// The ID in force at an index is named by the last ID byte that is in effect there, and is the ID before
 /// the frame where none is; the run is how many are.
 pub fn force_law()
     ensures named { (frame : List ℕ) (id : Option ℕ) (i k : ℕ) → k < 8 → in_effect frame i k ≡ true →
-        ((m : ℕ) → k < m → m < 8 → in_effect frame i m ≡ false) → id_at frame id i ≡ source_id (slice_index frame (2 * k) / 2) }
+        ((m : ℕ) → k < m → m < 8 → in_effect frame i m ≡ false) →
+        id_at frame id i ≡ source_id (slice_index frame (2 * k) / 2) }
     ensures before { (frame : List ℕ) (id : Option ℕ) (i : ℕ) →
         ((m : ℕ) → m < 8 → in_effect frame i m ≡ false) → id_at frame id i ≡ id }
     ensures run { (frame : List ℕ) (i : ℕ) → run_at frame i ≡ count_by (λ k. in_effect frame i k) (range_with_len 0 8) }
 {}
 
-/// The cells of a frame stand at the indexes 0 to 14 that are no ID bytes, in order; each has its index's
+/// The cells of a frame are at the indexes 0 to 14 that are no ID bytes, in order; each has its index's
 /// offset, the ID and the run in force there, and the data there.
 pub fn cells_law()
     ensures cells { (frame offsets : List ℕ) (id : Option ℕ) →

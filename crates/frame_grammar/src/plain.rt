@@ -2,14 +2,17 @@
 
 ghost use Rattle.std.specs.Prelude.{◌≡◌, ℕ, ◌≤◌, ◌↔◌, length, take, IsTrue, IfSome, IsNone};
 ghost use Rattle.frame_grammar.specs.Frame.{IsProperFrame};
+ghost use Rattle.frame_grammar.specs.declared.frame.TheConstants.{FRAME_BYTES};
+
+use crate::frame::FRAME_BYTES;
 
 /// None of the mixed-use bytes, those at even indexes, is FF.
 #[inline]
-fn is_proper(frame: &[u8; 16]) -> bool
+fn is_proper(frame: &[u8; FRAME_BYTES]) -> bool
     ensures { IsTrue result ↔ IsProperFrame frame.now }
 {
     for pair in 0..8 {
-        if frame[2 * pair] == 255 {
+        if frame[2 * pair] == 0xFF {
             return false;
         }
     }
@@ -19,13 +22,13 @@ fn is_proper(frame: &[u8; 16]) -> bool
 /// The piece's first 16 bytes, where they are there and are a frame: none of the mixed-use bytes, those at even
 /// indexes, is FF.
 #[inline]
-pub fn plain_frame(piece: &[u8]) -> Option<&[u8; 16]>
-    ensures bytes { IfSome result (λ f. f.now ≡ take 16 piece.now) }
-    ensures room { IfSome result (λ f. 16 ≤ length piece.now) }
+pub fn plain_frame(piece: &[u8]) -> Option<&[u8; FRAME_BYTES]>
+    ensures bytes { IfSome result (λ f. f.now ≡ take FRAME_BYTES piece.now) }
+    ensures room { IfSome result (λ f. FRAME_BYTES ≤ length piece.now) }
     ensures proper { IfSome result (λ f. IsProperFrame f.now) }
-    ensures none { IsNone result → 16 ≤ length piece.now → IsProperFrame (take 16 piece.now) → ⊥ }
+    ensures none { IsNone result → FRAME_BYTES ≤ length piece.now → IsProperFrame (take FRAME_BYTES piece.now) → ⊥ }
 {
-    match piece.first_chunk::<16>() {
+    match piece.first_chunk::<FRAME_BYTES>() {
         Some(frame) => { if is_proper(frame) { Some(frame) } else { None } }
         None => None,
     }
@@ -50,7 +53,7 @@ mod tests {
             let frame = plain_frame(piece).map(|frame| frame.as_slice());
             assert_eq!(rt;
                 frame,
-                if plain { piece.get(..16) } else { None },
+                if plain { piece.get(..FRAME_BYTES) } else { None },
                 "{piece:?}"
             );
         }

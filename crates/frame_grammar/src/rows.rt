@@ -11,7 +11,8 @@ ghost use Rattle.frame_grammar.specs.Rows.{cell_row, source_row, count_row, end_
 pub fn cells()
     ensures deferred { cell_row (codes "21 FF FE FF FE FF FE FF FE FF FE FF FE FF FE FF") ≡
         (1, None, 0, 255) ∷ (2, Some 16, 1, 255) ∷ (3, Some 16, 1, 255) ∷ (4, Some 16, 1, 255) ∷ (5, Some 16, 1, 255)
-        ∷ (6, Some 16, 1, 255) ∷ (7, Some 16, 1, 255) ∷ (8, Some 16, 1, 255) ∷ (9, Some 16, 1, 255) ∷ (10, Some 16, 1, 255)
+        ∷ (6, Some 16, 1, 255) ∷ (7, Some 16, 1, 255) ∷ (8, Some 16, 1, 255) ∷ (9, Some 16, 1, 255)
+        ∷ (10, Some 16, 1, 255)
         ∷ (11, Some 16, 1, 255) ∷ (12, Some 16, 1, 255) ∷ (13, Some 16, 1, 255) ∷ (14, Some 16, 1, 255) ∷ [] }
     ensures two_ids { cell_row (codes "03 00 00 00 00 00 80 01 01 41 00 00 00 00 00 10") ≡
         (1, Some 1, 1, 0) ∷ (2, Some 1, 1, 0) ∷ (3, Some 1, 1, 0) ∷ (4, Some 1, 1, 0) ∷ (5, Some 1, 1, 0)
@@ -47,7 +48,8 @@ pub fn counts()
 pub fn halves_between()
     ensures { cell_row (codes "21 FF FF 7F FE FF FE FF FF 7F FF 7F FE FF FE FF FE FF FE FF FE FF") ≡
         (1, None, 0, 255) ∷ (4, Some 16, 1, 255) ∷ (5, Some 16, 1, 255) ∷ (6, Some 16, 1, 255) ∷ (7, Some 16, 1, 255)
-        ∷ (12, Some 16, 1, 255) ∷ (13, Some 16, 1, 255) ∷ (14, Some 16, 1, 255) ∷ (15, Some 16, 1, 255) ∷ (16, Some 16, 1, 255)
+        ∷ (12, Some 16, 1, 255) ∷ (13, Some 16, 1, 255) ∷ (14, Some 16, 1, 255) ∷ (15, Some 16, 1, 255)
+        ∷ (16, Some 16, 1, 255)
         ∷ (17, Some 16, 1, 255) ∷ (18, Some 16, 1, 255) ∷ (19, Some 16, 1, 255) ∷ (20, Some 16, 1, 255) ∷ [] }
 {}
 

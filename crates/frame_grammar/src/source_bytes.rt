@@ -1,13 +1,20 @@
 //! The bytes of one source in a frame.
 //!
-//! An ID is here its seven bits. Those of 0x7F, which a frame never names, are no ID.
+//! An ID is here its seven bits. `NO_ID`, which a frame never names, is none.
 
-ghost use Rattle.std.specs.Prelude.{◌≡◌, ℕ, ◌≤◌, ◌<◌, ◌+◌, ◌*◌, ◌++◌, ◌∷◌, [], ◌==◌, ◌%◌, ◌/◌, take, List, Option, if◌then◌else◌};
+ghost use Rattle.std.specs.Prelude.{◌≡◌, ℕ, ◌≤◌, ◌<◌, ◌+◌, ◌*◌, ◌++◌, ◌∷◌, [], ◌==◌, ◌%◌, ◌/◌, take, List, Option};
+ghost use Rattle.std.specs.Prelude.{if◌then◌else◌};
 ghost use Rattle.trace_values.specs.Cells.{source_id};
 ghost use Rattle.frame_grammar.specs.Frame.{cells, id_after};
 ghost use Rattle.frame_grammar.specs.SourceBytes.{bytes_of_source};
+ghost use Rattle.frame_grammar.specs.declared.frame.TheConstants.{FRAME_BYTES};
+ghost use Rattle.frame_grammar.specs.declared.source_bytes.TheConstants.{NO_ID};
 
+use crate::frame::FRAME_BYTES;
 use trace_values::SourceId;
+
+/// The seven bits that no ID has.
+pub const NO_ID: u8 = 0x7F;
 
 /// What was copied of one source's bytes in a frame.
 #[derive(Clone, Copy, Debug, PartialEq, Eq, Drop)]
@@ -18,15 +25,15 @@ pub struct CopiedBytes {
     pub after: Option<SourceId>,
 }
 
-/// The seven bits of an ID, 0 to 126; of none, 127.
+/// The seven bits of an ID, 0 to 126; of none, `NO_ID`.
 #[inline]
 pub fn id_bits(id: Option<SourceId>) -> u8
     ensures id { source_id result ≡ id }
-    ensures few { result ≤ 127 }
+    ensures few { result ≤ NO_ID }
 {
     match id {
         Some(id) => id.number(),
-        None => 127,
+        None => NO_ID,
     }
 }
 
@@ -49,8 +56,8 @@ fn id_within_pair(auxiliary: u8, after: u8, id: u8) -> u8
 
 /// Puts the byte after the first `len`, and gives their number with it where it is kept.
 #[inline]
-fn put_if(into: &mut [u8; 16], len: usize, byte: u8, keep: bool) -> usize
-    requires { len < 16 }
+fn put_if(into: &mut [u8; FRAME_BYTES], len: usize, byte: u8, keep: bool) -> usize
+    requires { len < FRAME_BYTES }
     ensures bytes { take result into.new ≡ take len into.old ++ (if keep then (byte ∷ []) else []) }
     ensures len { result ≤ len + 1 }
 {
@@ -64,10 +71,10 @@ fn put_if(into: &mut [u8; 16], len: usize, byte: u8, keep: bool) -> usize
 /// No branch depends on the bytes, since a frame's IDs are hard to foresee.
 #[inline]
 pub fn copy_source_bytes(
-    frame: &[u8; 16],
+    frame: &[u8; FRAME_BYTES],
     before: Option<SourceId>,
     source: SourceId,
-    into: &mut [u8; 16],
+    into: &mut [u8; FRAME_BYTES],
 ) -> CopiedBytes
     ensures len { result.len ≤ 15 }
     ensures bytes { (at : List ℕ) → take result.len into.new ≡ bytes_of_source source (cells frame.now at before) }
@@ -105,14 +112,14 @@ mod tests {
     /// Copies the bytes of each of these sources, of which there must be these, and this ID after the frame.
     fn expect(
         rt: &impl Abort,
-        frame: &[u8; 16],
+        frame: &[u8; FRAME_BYTES],
         before: Option<u8>,
         sources: &[(u8, &[u8])],
         after: Option<u8>,
     ) {
         for (number, bytes) in sources {
-            assert!(rt; *number < 127);
-            let mut into = [0xee; 16];
+            assert!(rt; *number < NO_ID);
+            let mut into = [0xee; FRAME_BYTES];
             let source = SourceId::new(*number).unwrap();
             let copied = copy_source_bytes(
                 frame,

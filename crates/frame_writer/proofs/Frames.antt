@@ -289,7 +289,7 @@ null_not : (k : ℕ) → 0 < k → (0 == k) ≡ false
 null_not k h = grind (arith, nat_tests)
 
 module _ (every halves : ℕ) where
-  -- null bytes behind the last byte
+  -- null bytes after the last byte
   pub defers_null : (n : ℕ) (pairs pairs' : List Pair) (c held : Option ℕ) (h : ℕ) → is_sound every n pairs c held ≡ true → held ≡ Some h →
       pairs' ≡ pairs ++ record { even = 1; aux = true; odd = h } ∷ [] →
       continued every halves n pairs c held [] ≡ continued every halves n pairs' (Some 0) None []

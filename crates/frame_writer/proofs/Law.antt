@@ -368,7 +368,7 @@ has_all offsets before done (p ∷ pairs) e h =
       subst (λ (n : ℕ). HasPairs (frame_of (done ++ (p ∷ pairs)) e.even e.aux) offsets before n (record { pairs = pairs; end = e })) (let k : length (done ++ p ∷ []) ≡ suc (length done) = length_push done p ∙ (let q : length done + 1 ≡ suc (length done) = omega arith in q) in k) moved,
     )
 
--- the law of one frame: its cells are the next tagged bytes, with null bytes behind the last one
+-- the law of one frame: its cells are the next tagged bytes, with null bytes after the last one
 pub frame_law : (offsets : List ℕ) (before c : Option ℕ) (t : List Tagged) → AllIds t → Knows c before →
     (let f = filled 7 c t in
     let frame = frame_of f.pairs f.end.even f.end.aux in

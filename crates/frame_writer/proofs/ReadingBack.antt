@@ -26,7 +26,7 @@ units_placed : (m : ℕ) (l : List ℕ) → units_of (placed_from m l) ≡ l
 units_placed m [] = refl
 units_placed m (b ∷ l) = ap (λ (k : List ℕ). b ∷ k) (units_placed (m + 1) l)
 
--- how many half synchronisations stand behind pairs
+-- how many half synchronisations are after pairs
 abbrev halves_in : ℕ → List Pair → ℕ
 halves_in h [] = h + 0
 halves_in h (p ∷ pairs) = h + halves_in h pairs
@@ -35,7 +35,7 @@ abbrev NoMarks : List Pair → Type 0
 NoMarks [] = Unit {0}
 NoMarks (p ∷ pairs) = (p.even ≢ 255) × NoMarks pairs
 
--- the halfwords behind the first
+-- the halfwords after the first
 words : (h m : ℕ) (pairs : List Pair) (e a : ℕ) → NoMarks pairs → e ≢ 255 →
     (f : List Placed) × (units_of f ≡ flat pairs ++ (e ∷ (a ∷ []))) × IsWords (suc (length pairs)) (halves_in h pairs) f (placed_from m (half_spelling h ++ (spread h pairs ++ (e ∷ (a ∷ [])))))
 words h m [] e a n k =
@@ -166,14 +166,14 @@ split_last : (b : Placed) (w : List Placed) → (a : List Placed) × (l : Placed
 split_last b [] = ([], b, refl)
 split_last b (c ∷ w) = let s = split_last c w in (b ∷ s.0, s.1, ap (λ (l : List Placed). b ∷ l) s.2)
 
--- items, and nothing behind them
+-- items, and nothing after them
 abbrev whole_items : List (PortItem × Place) → Progress State PortItem
 whole_items items = record { items = items; rest = []; fault = None; state = start }
 
 abbrev item_of : PortItem × Place → PortItem
 item_of x = x.0
 
--- the reading has items alone, with this ID in force behind them
+-- the reading has items alone, with this ID in force after them
 record Clean (u : List Placed) (id : Option ℕ) : Type 0 where
   items : List (PortItem × Place)
   reads : port_progress u ≡ whole_items items
@@ -222,7 +222,7 @@ synced : (u : List Placed) (m : ℕ) (id : Option ℕ) (b : Bool) → Clean u id
 synced u m id true c = let a = adds u (byte_at m 255) (placed_from (m + 1) (255 ∷ (255 ∷ (127 ∷ [])))) id Full c refl in (a.0, a.1 ∙ append-nil (port_cells u))
 synced u m id false c = (subst (λ (l : List Placed). Clean l id) (sym (append-nil u)) c, ap port_cells (append-nil u))
 
--- what the reading grew by: the tagged bytes and null bytes behind them
+-- what the reading grew by: the tagged bytes and null bytes after them
 record Grown (u v : List Placed) (t : List Tagged) : Type 0 where
   nulls : ℕ
   id : Option ℕ
@@ -349,7 +349,7 @@ module _ (every halves : ℕ) where
   grown : (t : List Tagged) → AllIds t → Grown [] (placed (capture every halves t)) t
   grown t a = law_by (length t) 0 0 [] None None t (omega arith) (record { items = []; reads = refl; id_is = refl }) tt a
 
-  -- the cells are the tagged bytes and null bytes behind them
+  -- the cells are the tagged bytes and null bytes after them
   written : (t : List Tagged) → All IsOfSource t → Grown [] (placed (capture every halves t)) t → ReadsBack every halves t
   written t a g = record {
     no_fault = ap (λ (q : Progress State PortItem). q.fault) g.clean.reads;

@@ -18,8 +18,8 @@ abbrev pub as_frame : List ℕ → List (List ℕ)
 as_frame [] = []
 as_frame (b ∷ out) = (b ∷ out) ∷ []
 
--- It stands for the bytes t, of which so much is written: whole frames, as many as it counts, and
--- whatever is put behind t, what is still to come completes the frames of the whole list.
+-- It stands for the bytes t, of which this much is written: whole frames, as many as it counts, and
+-- whatever is put after t, what is still to come completes the frames of the whole list.
 pub record Stands (w : FrameWriter) (every halves : ℕ) (t : List Tagged) (so_far : List ℕ) : Type 0 where
   pub done : List (List ℕ)
   pub bytes : so_far ≡ concat done

@@ -1,5 +1,7 @@
--- The frames that a list of tagged bytes is written as (CoreSight Architecture Specification, formatter).
-use Rattle.std.specs.Prelude.{ℕ, zero, suc, ◌+◌, ◌*◌, ◌/◌, ◌%◌, List, [], ◌∷◌, ◌++◌, length, Bool, true, false, not, ◌==◌, ◌&&◌, if◌then◌else◌, Option, None, Some}
+-- The frames that a list of tagged bytes is written as: this project's profile, in frames as CoreSight Architecture
+-- Specification, Arm IHI 0029E (version 3.0), chapter 'Trace Formatter', its section on frames has them.
+use Rattle.std.specs.Prelude.{ℕ, zero, suc, ◌+◌, ◌*◌, ◌/◌, ◌%◌, List, [], ◌∷◌, ◌++◌, length, Bool, true, false, not}
+use Rattle.std.specs.Prelude.{◌==◌, ◌&&◌, if◌then◌else◌, Option, None, Some}
 use Rattle.std.specs.List.{concat}
 use Rattle.frame_grammar.specs.Port.{half_spelling}
 use Rattle.frame_writer.specs.declared.pair.Pair.{Pair}
@@ -9,7 +11,7 @@ pub record Tagged : Type 0 where
   pub id : ℕ
   pub byte : ℕ
 
--- the next byte, and those behind it: behind the last one stand null bytes, as many as are needed
+-- the next byte, and those after it: after the last one come null bytes, as many as are needed
 abbrev pub first : List Tagged → Tagged
 first [] = record { id = 0; byte = 0 }
 first (x ∷ t) = x
@@ -26,7 +28,7 @@ is_id (Some c) i = c == i
 abbrev pub is_odd : ℕ → Bool
 is_odd b = b % 2 == 1
 
--- a pair, the ID in force behind it, and the bytes that are left
+-- a pair, the ID in force after it, and the bytes that are left
 pub record Paired : Type 0 where
   pub pair : Pair
   pub id : Option ℕ
@@ -36,10 +38,15 @@ pub record Paired : Type 0 where
 abbrev pub naming : Tagged → List Tagged → Paired
 naming x t = record { pair = record { even = 2 * x.id + 1; aux = false; odd = x.byte }; id = Some x.id; rest = t }
 
--- x, whose ID is in force, and then y, which begins t: another ID is named behind x; or else both are data, and u is left
+-- x, whose ID is in force, and then y, which begins t: another ID is named after x; or else both are data, and u is
+-- left
 abbrev pub following : Option ℕ → Tagged → Tagged → List Tagged → List Tagged → Paired
 following c x y t u =
-    if y.id == x.id then record { pair = record { even = 2 * (x.byte / 2); aux = is_odd x.byte; odd = y.byte }; id = c; rest = u }
+    if y.id == x.id then record {
+      pair = record { even = 2 * (x.byte / 2); aux = is_odd x.byte; odd = y.byte };
+      id = c;
+      rest = u;
+    }
     else record { pair = record { even = 2 * y.id + 1; aux = true; odd = x.byte }; id = Some y.id; rest = t }
 
 -- the next pair, where c is in force
@@ -48,7 +55,7 @@ paired c t =
     if is_id c (first t).id then following c (first t) (first (behind t)) (behind t) (behind (behind t))
     else naming (first t) (behind t)
 
--- byte 14 with its auxiliary bit, the ID in force behind it, and the bytes that are left
+-- byte 14 with its auxiliary bit, the ID in force after it, and the bytes that are left
 pub record Closed : Type 0 where
   pub even : ℕ
   pub aux : Bool
@@ -58,10 +65,15 @@ pub record Closed : Type 0 where
 -- it is the next byte where c is its ID, or else it names the ID, and the byte stays
 abbrev pub closed : Option ℕ → List Tagged → Closed
 closed c t =
-    if is_id c (first t).id then record { even = 2 * ((first t).byte / 2); aux = is_odd (first t).byte; id = c; rest = behind t }
+    if is_id c (first t).id then record {
+      even = 2 * ((first t).byte / 2);
+      aux = is_odd (first t).byte;
+      id = c;
+      rest = behind t;
+    }
     else record { even = 2 * (first t).id + 1; aux = false; id = Some (first t).id; rest = t }
 
--- so many pairs, in order, and byte 14
+-- this many pairs, in order, and byte 14
 pub record Filled : Type 0 where
   pub pairs : List Pair
   pub end : Closed
@@ -73,7 +85,7 @@ unfoldable pub filled : ℕ → Option ℕ → List Tagged → Filled
 filled zero c t = record { pairs = []; end = closed c t }
 filled (suc n) c t = with_pair (paired c t).pair (filled n (paired c t).id (paired c t).rest)
 
--- pairs, with so many half synchronisations behind each
+-- pairs, with this many half synchronisations after each
 abbrev pub spread : ℕ → List Pair → List ℕ
 spread halves [] = []
 spread halves (p ∷ pairs) = p.even ∷ (p.odd ∷ (half_spelling halves ++ spread halves pairs))
@@ -86,22 +98,23 @@ abbrev pub aux_byte : List Pair → Bool → ℕ
 aux_byte [] last = bit last
 aux_byte (p ∷ pairs) last = bit p.aux + 2 * aux_byte pairs last
 
--- a full synchronisation stands before frame n
+-- a full synchronisation comes before frame n
 abbrev pub is_due : ℕ → ℕ → Bool
 is_due every n = not (every == 0) && n % every == 0
 
 abbrev pub sync : ℕ → ℕ → List ℕ
 sync every n = if is_due every n then (0xFF ∷ (0xFF ∷ (0xFF ∷ (0x7F ∷ [])))) else []
 
--- the ID that the writer knows at the start of frame n: none behind a full synchronisation
+-- the ID that the writer knows at the start of frame n: none after a full synchronisation
 abbrev pub known : ℕ → ℕ → Option ℕ → Option ℕ
 known every n c = if is_due every n then None else c
 
 -- the bytes of frame n, with its synchronisations, of these pairs and this byte 14
 unfoldable pub frame_bytes : ℕ → ℕ → ℕ → List Pair → ℕ → Bool → List ℕ
-frame_bytes every halves n pairs even last = sync every n ++ (spread halves pairs ++ (even ∷ (aux_byte pairs last ∷ [])))
+frame_bytes every halves n pairs even last =
+    sync every n ++ (spread halves pairs ++ (even ∷ (aux_byte pairs last ∷ [])))
 
--- frames from number n on, where the writer knows c, until all bytes are placed: at most so many
+-- frames from number n on, where the writer knows c, until all bytes are placed: at most this many
 unfoldable pub frames_by : ℕ → ℕ → ℕ → ℕ → Option ℕ → List Tagged → List (List ℕ)
 frames_by every halves zero n c t = []
 frames_by every halves (suc most) n c [] = []

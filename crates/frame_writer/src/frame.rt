@@ -7,7 +7,7 @@ ghost use Rattle.frame_writer.specs.Written.{aux_byte, is_due, spread, sync};
 use crate::pair::Pair;
 use arrayvec::ArrayVec;
 
-/// A full synchronisation stands before the frame of this number.
+/// A full synchronisation comes before the frame of this number.
 pub(crate) fn is_sync_due(every: u32, frame: u64) -> bool
     ensures { result ≡ is_due every frame }
 {
@@ -28,7 +28,7 @@ pub(crate) fn aux_of(pairs: &[Pair], last: bool) -> u8
     aux
 }
 
-/// Appends the full synchronisation that stands before the frame of this number, if there is one.
+/// Appends the full synchronisation that comes before the frame of this number, if there is one.
 pub(crate) fn append_sync(every: u32, frame: u64, out: &mut ArrayVec<u8, 264>)
     requires room { out.old.items ≡ [] }
     ensures { out.new.items ≡ sync every frame }
@@ -54,7 +54,7 @@ fn append_halves(halves: u8, out: &mut ArrayVec<u8, 264>)
     }
 }
 
-/// Appends these pairs, each with the half synchronisations behind it.
+/// Appends these pairs, each with the half synchronisations after it.
 pub(crate) fn append_pairs(pairs: &[Pair], halves: u8, out: &mut ArrayVec<u8, 264>)
     requires halves { halves ≤ 8 }
     requires pairs { length pairs.now ≤ 7 }

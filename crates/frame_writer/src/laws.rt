@@ -13,13 +13,15 @@ pub fn written_law()
     ensures { (every halves : ℕ) → (t : List Tagged) → All IsOfSource t → ReadsBack every halves t }
 {}
 
-/// Where a writer stands for bytes of which so much is written, that and what it would still append, if it
+/// Where a writer stands for bytes of which this much is written, that and what it would still append, if it
 /// were finished, is the written capture of those bytes; and it is a front of the written capture of each
 /// longer list.
 pub fn stands_law()
-    ensures finished { (w : FrameWriter) → (every halves : ℕ) → (t : List Tagged) → (so_far : List ℕ) → Stands w every halves t so_far →
+    ensures finished { (w : FrameWriter) → (every halves : ℕ) → (t : List Tagged) → (so_far : List ℕ) →
+        Stands w every halves t so_far →
         capture every halves t ≡ so_far ++ concat (to_come w []) }
-    ensures front { (w : FrameWriter) → (every halves : ℕ) → (t u : List Tagged) → (so_far : List ℕ) → Stands w every halves t so_far →
+    ensures front { (w : FrameWriter) → (every halves : ℕ) → (t u : List Tagged) → (so_far : List ℕ) →
+        Stands w every halves t so_far →
         (rest : List ℕ) × (capture every halves (t ++ u) ≡ so_far ++ rest) }
 {}
 

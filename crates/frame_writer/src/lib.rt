@@ -1,4 +1,5 @@
-//! Writes tagged bytes as frames (CoreSight Architecture Specification, formatter).
+//! Writes tagged bytes as frames (CoreSight Architecture Specification, Arm IHI 0029E (version 3.0), chapter 'Trace
+//! Formatter', its section on frames).
 #![tactic(auto)]
 
 mod frame;

@@ -1,6 +1,6 @@
 //! Two bytes of a frame.
 
-/// A mixed-use byte, its auxiliary bit, and the data byte behind it.
+/// A mixed-use byte, its auxiliary bit, and the data byte after it.
 ///
 /// The default one only fills the unused places of a buffer.
 #[derive(Clone, Copy, Debug, Default, PartialEq, Eq, Drop)]

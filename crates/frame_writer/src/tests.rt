@@ -5,7 +5,7 @@ use crate::FrameWriter;
 use arrayvec::ArrayVec;
 use frame_grammar::frame::cells_of;
 use std::process::Abort;
-use trace_values::SourceId;
+use trace_values::{COUNT_ROOM, SourceId};
 
 // A writer and what reads its frames again.
 #[derive(Drop)]
@@ -103,7 +103,7 @@ impl<'a> Case<'a> {
         assert!(rt; id.is_some());
         if let Some(id) = id {
             let before = writer.frames();
-            assert!(rt; id.number() > 0 && before < 1 << 60);
+            assert!(rt; id.number() > 0 && before < COUNT_ROOM);
             let mut out = ArrayVec::new();
             writer.put(id, byte, &mut out);
             self.read_call(rt, before, writer.frames(), out.as_slice());
@@ -140,7 +140,7 @@ fn expect(
     let mut written = ArrayVec::<u8, 264>::new();
     for &(number, byte) in bytes {
         if let Some(id) = SourceId::new(number) {
-            assert!(rt; id.number() > 0 && writer.frames() < 1 << 60);
+            assert!(rt; id.number() > 0 && writer.frames() < COUNT_ROOM);
             let mut out = ArrayVec::new();
             writer.put(id, byte, &mut out);
             assert!(rt; written.try_extend_from_slice(out.as_slice()).is_ok());
@@ -199,7 +199,7 @@ fn bytes_but(index: usize, tagged: (u8, u8)) -> [(u8, u8); 32] {
     bytes
 }
 
-// The last of so many bytes of source 1 has source 2 deferred behind it, in this pair of the last frame.
+// The last of this many bytes of source 1 has source 2 deferred after it, in this pair of the last frame.
 fn expect_deferral(rt: &impl Abort, lead: usize, pair: usize, frames: u64) {
     assert!(rt; lead < 32 && pair < 7);
     let bytes = bytes_but(lead, (2, 0x0E));

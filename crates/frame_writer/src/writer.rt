@@ -1,7 +1,8 @@
 //! The writer of frames.
 
-ghost use Rattle.std.specs.Prelude.{◌≡◌, ◌≤◌, ◌^◌, true, length};
+ghost use Rattle.std.specs.Prelude.{◌≡◌, ◌≤◌, true, length};
 ghost use Rattle.frame_writer.specs.Unfinished.{is_sound};
+ghost use Rattle.trace_values.specs.declared.limits.TheConstants.{COUNT_ROOM};
 
 use crate::frame::{append_pairs, append_sync, aux_of, is_sync_due};
 use crate::pair::Pair;
@@ -20,7 +21,7 @@ pub struct FrameWriter {
     held: Option<u8>,
     ghost few: { halves ≤ 8 },
     ghost fits: { length pairs.items ≤ 7 },
-    ghost counted: { frames ≤ 2 ^ 60 },
+    ghost counted: { frames ≤ COUNT_ROOM },
     ghost sound: { is_sound every frames pairs.items id held ≡ true },
 }
 
@@ -62,10 +63,12 @@ impl FrameWriter {
     pub fn put(&mut self, id: SourceId, byte: u8, out: &mut ArrayVec<u8, 264>)
         requires source { 0 < id }
         requires empty { out.old.items ≡ [] }
-        requires room { appended self.old < 2 ^ 60 }
-        ensures list { (every halves : ℕ) → (t : List Tagged) → (so_far : List ℕ) → Stands self.old every halves t so_far →
+        requires room { appended self.old < COUNT_ROOM }
+        ensures list { (every halves : ℕ) → (t : List Tagged) → (so_far : List ℕ) →
+            Stands self.old every halves t so_far →
             Stands self.new every halves (t ++ record { id = id; byte = byte } ∷ []) (so_far ++ out.new.items) }
-        ensures to_come { (t : List Tagged) → to_come self.old (record { id = id; byte = byte } ∷ t) ≡ as_frame out.new.items ++ to_come self.new t }
+        ensures to_come { (t : List Tagged) → to_come self.old (record { id = id; byte = byte } ∷ t)
+            ≡ as_frame out.new.items ++ to_come self.new t }
         ensures count { appended self.new ≡ appended self.old + length (as_frame out.new.items) }
     {
         match self.held {
@@ -96,8 +99,9 @@ impl FrameWriter {
         requires held { self.old.held ≡ None }
         requires source { 0 < id }
         requires empty { out.old.items ≡ [] }
-        requires room { self.old.frames < 2 ^ 60 }
-        ensures to_come { (t : List Tagged) → to_come self.old (record { id = id; byte = byte } ∷ t) ≡ as_frame out.new.items ++ to_come self.new t }
+        requires room { self.old.frames < COUNT_ROOM }
+        ensures to_come { (t : List Tagged) → to_come self.old (record { id = id; byte = byte } ∷ t)
+            ≡ as_frame out.new.items ++ to_come self.new t }
         ensures count { self.new.frames ≡ self.old.frames + length (as_frame out.new.items) }
     {
         if self.pairs.len() < 7 {
@@ -118,7 +122,8 @@ impl FrameWriter {
         requires held { self.old.held ≡ None }
         requires source { 0 < id }
         requires room { length self.old.pairs.items < 7 }
-        ensures to_come { (t : List Tagged) → to_come self.old (record { id = id; byte = byte } ∷ t) ≡ to_come self.new t }
+        ensures to_come { (t : List Tagged) → to_come self.old (record { id = id; byte = byte } ∷ t)
+            ≡ to_come self.new t }
         ensures same { self.new.frames ≡ self.old.frames }
     {
         if self.is_in_force(id) {
@@ -146,7 +151,8 @@ impl FrameWriter {
     /// Appends the frame of the pairs, with this byte 14 and its auxiliary bit.
     fn append_frame(&self, even: u8, aux: bool, out: &mut ArrayVec<u8, 264>)
         requires { out.old.items ≡ [] }
-        ensures { out.new.items ≡ frame_bytes self.now.every self.now.halves self.now.frames self.now.pairs.items even aux }
+        ensures { out.new.items ≡
+            frame_bytes self.now.every self.now.halves self.now.frames self.now.pairs.items even aux }
     {
         append_sync(self.every, self.frames, out);
         append_pairs(self.pairs.as_slice(), self.halves, out);
@@ -157,8 +163,9 @@ impl FrameWriter {
     /// Begins the next frame. A full synchronisation before it makes the ID unknown.
     fn begin_frame(&mut self)
         requires held { self.old.held ≡ None }
-        requires room { self.old.frames < 2 ^ 60 }
-        ensures to_come { (t : List Tagged) → frames_from self.old.every self.old.halves (self.old.frames + 1) self.old.id t ≡ to_come self.new t }
+        requires room { self.old.frames < COUNT_ROOM }
+        ensures to_come { (t : List Tagged) →
+            frames_from self.old.every self.old.halves (self.old.frames + 1) self.old.id t ≡ to_come self.new t }
         ensures begun { (self.new.frames ≡ self.old.frames + 1) × (self.new.pairs.items ≡ []) × (self.new.held ≡ None) }
     {
         self.frames += 1;
@@ -168,13 +175,15 @@ impl FrameWriter {
         }
     }
 
-    /// Appends the unfinished frame, if one is begun or a byte is held, with null bytes behind the last
+    /// Appends the unfinished frame, if one is begun or a byte is held, with null bytes after the last
     /// byte, and gives the number of frames in all.
     pub fn finish(mut self, out: &mut ArrayVec<u8, 264>) -> u64
         requires empty { out.old.items ≡ [] }
-        ensures capture { (every halves : ℕ) → (t : List Tagged) → (so_far : List ℕ) → Stands self every halves t so_far →
+        ensures capture { (every halves : ℕ) → (t : List Tagged) → (so_far : List ℕ) →
+            Stands self every halves t so_far →
             so_far ++ out.new.items ≡ capture every halves t }
-        ensures frames { (every halves : ℕ) → (t : List Tagged) → (so_far : List ℕ) → Stands self every halves t so_far →
+        ensures frames { (every halves : ℕ) → (t : List Tagged) → (so_far : List ℕ) →
+            Stands self every halves t so_far →
             result ≡ length (frames every halves t) }
         ensures to_come { as_frame out.new.items ≡ to_come self [] }
         ensures count { result ≡ appended self + length (as_frame out.new.items) }

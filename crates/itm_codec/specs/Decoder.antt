@@ -9,7 +9,8 @@ use Rattle.itm_grammar.specs.Rule.{rule, count_of}
 use Rattle.itm_codec.specs.Reading.{pattern}
 use Rattle.itm_codec.specs.declared.decoder.ItmDecoder.{ItmDecoder}
 
--- before its lock it keeps how far the hunt has come; else it is live exactly where the reading of the list has no fault, and keeps the unfinished packet of that reading
+-- before its lock it keeps how far the hunt has come; else it is live exactly where the reading of the list has no
+-- fault, and keeps the unfinished packet of that reading
 abbrev pub Stands : ItmDecoder → List Placed → Type 0
 Stands decoder u = StandsIn pattern Sync (by_unit rule) Header decoder.mode decoder.live decoder.partial u
 
@@ -29,6 +30,6 @@ has_locked decoder = is_locked decoder.mode
 abbrev pub held_of : ItmDecoder → ℕ
 held_of decoder = count_of decoder.partial
 
--- how many bytes stand before its reading
+-- how many bytes are before its reading
 abbrev pub skipped_by : ItmDecoder → ℕ
 skipped_by decoder = skipped_of decoder.mode

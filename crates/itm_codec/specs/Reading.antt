@@ -1,4 +1,6 @@
--- The packets that a source's list of bytes is.
+-- The packets that a source's list of bytes is. A hunt begins at a synchronisation packet (ARMv7-M Architecture
+-- Reference Manual, Arm DDI 0403E, appendix D4 'Debug ITM and DWT Packet Protocol', section D4.2 'Packet descriptions',
+-- 'Synchronization packet').
 use Rattle.std.specs.Prelude.{◌≡◌, ◌⊎◌, List, [], ◌∷◌, ◌++◌, length, Bool, true, false, Option, None, Some}
 use Rattle.trace_values.specs.Placed.{Place, Placed, units_of}
 use Rattle.trace_values.specs.Walk.{by_unit}
@@ -31,11 +33,13 @@ abbrev pub rest_in : Bool → List Placed → List Placed
 rest_in false u = (progress (by_unit rule) Header u).rest
 rest_in true u = rest_found (hunt pattern Sync (by_unit rule) Header u).found
 
--- What a hunt is: the pattern stands nowhere, and all bytes are skipped; or the bytes before its least place are
+-- What a hunt is: the pattern is nowhere, and all bytes are skipped; or the bytes before its least place are
 -- skipped, and the reading begins there, with the lock's notice at the place of the pattern's last byte.
 abbrev pub IsHunt : List Placed → Stream ItmPacket → Type 0
 IsHunt u s =
-    (IsNowhere (pattern_of pattern) (units_of u) × (s ≡ record { given = []; fault = None; held = 0; skipped = length u; locked = false }))
-    ⊎ ((before : List Placed) × (behind : List Placed) × (place : Place) × (u ≡ before ++ behind) × IsFirst (pattern_of pattern) (units_of u) (units_of before)
+    (IsNowhere (pattern_of pattern) (units_of u)
+    × (s ≡ record { given = []; fault = None; held = 0; skipped = length u; locked = false }))
+    ⊎ ((before : List Placed) × (behind : List Placed) × (place : Place) × (u ≡ before ++ behind)
+    × IsFirst (pattern_of pattern) (units_of u) (units_of before)
     × (s ≡ shown ((Notice (length before), place) ∷ []) (length before) (progress (by_unit rule) Header behind))
     × ((more : List (ItmPacket × Place)) × ((progress (by_unit rule) Header behind).items ≡ (Sync, place) ∷ more)))

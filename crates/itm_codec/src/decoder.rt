@@ -4,6 +4,7 @@ ghost use Rattle.std.specs.Prelude.{◌≡◌, true};
 ghost use Rattle.trace_values.specs.Moded.{is_counted};
 ghost use Rattle.itm_grammar.specs.Rule.{is_sound};
 ghost use Rattle.itm_codec.specs.Reading.{pattern};
+ghost use Rattle.trace_values.specs.declared.limits.TheConstants.{COUNT_ROOM};
 
 use crate::whole::whole_packet;
 use itm_grammar::packet::ItmPacket;
@@ -28,7 +29,7 @@ pub struct ItmDecoder {
 }
 
 impl ItmDecoder {
-    ghost use Rattle.std.specs.Prelude.{[], false, ℕ, ◌+◌, ◌*◌, ◌^◌, ◌<◌, ◌≤◌, List, length, take, IfSome};
+    ghost use Rattle.std.specs.Prelude.{[], false, ℕ, ◌+◌, ◌*◌, ◌<◌, ◌≤◌, List, length, take, IfSome};
     ghost use Rattle.trace_values.specs.Placed.{Placed};
     ghost use Rattle.trace_values.specs.Stream.{StepFits, LocksAfter};
     ghost use Rattle.trace_values.specs.Block.{Takes, StopsFor, goes_on_after};
@@ -85,8 +86,8 @@ impl ItmDecoder {
     #[inline]
     pub fn feed_piece(&mut self, at: u64, piece: &[u8]) -> Block<ItmPacket>
         requires live { is_live self.old ≡ true }
-        requires room { held_of self.old + skipped_by self.old + 2 * length piece.now ≤ 2 ^ 60 }
-        requires offsets { at + length piece.now < 2 ^ 60 }
+        requires room { held_of self.old + skipped_by self.old + 2 * length piece.now ≤ COUNT_ROOM }
+        requires offsets { at + length piece.now < COUNT_ROOM }
         requires some { 0 < length piece.now }
         ensures same { packets_in (is_hunter self.new) ≡ packets_in (is_hunter self.old) }
         ensures bytes { (0 < result.bytes) × (result.bytes ≤ length piece.now) }
@@ -113,7 +114,7 @@ impl ItmDecoder {
 }
 
 impl Machine for ItmDecoder {
-    ghost use Rattle.std.specs.Prelude.{refl, ◌+◌, ◌^◌, ◌≤◌, ◌⊎◌, ◌∷◌, ◌++◌, [], List, All, take};
+    ghost use Rattle.std.specs.Prelude.{refl, ◌+◌, ◌≤◌, ◌⊎◌, ◌∷◌, ◌++◌, [], List, All, take};
     ghost use Rattle.trace_values.specs.Placed.{Placed, byte_at, units_of};
     ghost use Rattle.trace_values.specs.Stream.{Grows, StepFits, LocksAfter, goes_on};
     ghost use Rattle.itm_codec.specs.Answers.{AnswersBy};
@@ -142,7 +143,7 @@ impl Machine for ItmDecoder {
 
     ghost skipped_units = { skipped_by };
 
-    ghost units_per_byte = { 1 };
+    ghost units_per_byte = { λ m. 1 };
 
     ghost fits = { IsProper };
 
@@ -168,8 +169,8 @@ impl Machine for ItmDecoder {
     /// packet begins so.
     fn feed(&mut self, at: u64, byte: u8) -> Step<ItmPacket>
         requires live { is_live self.old ≡ true }
-        requires room { held_of self.old ≤ 2 ^ 60 }
-        requires count { skipped_by self.old ≤ 2 ^ 60 }
+        requires room { held_of self.old ≤ COUNT_ROOM }
+        requires count { skipped_by self.old ≤ COUNT_ROOM }
         ensures same { packets_in (is_hunter self.new) ≡ packets_in (is_hunter self.old) }
         ensures list { (u : List Placed) → Stands self.old u → Stands self.new (u ++ byte_at at byte ∷ []) }
         ensures step { (u : List Placed) → Stands self.old u →

@@ -5,14 +5,14 @@ ghost use Rattle.trace_values.specs.Walk.{walk, Whole};
 ghost use Rattle.itm_grammar.specs.declared.partial.Partial.TheVariants.{Header};
 ghost use Rattle.itm_grammar.specs.Proper.{IsProper};
 ghost use Rattle.itm_grammar.specs.Rule.{rule};
-ghost use Rattle.itm_grammar.specs.Shortest.{bytes_of, groups_of, short, shortest_len as shortest_of};
-ghost use Rattle.itm_grammar.specs.Spelling.{Spells, bit_of, late_bits as late_bits_of, size_bits as size_bits_of, byte_count};
+ghost use Rattle.itm_grammar.specs.Shortest.{bytes_of, groups_of, short, shortest_len};
+ghost use Rattle.itm_grammar.specs.Spelling.{Spells, bit_of, late_bits, size_bits, byte_count};
 
 use arrayvec::ArrayVec;
 use itm_grammar::packet::{ItmPacket, Lateness, Size};
 use itm_grammar::shortest::shortest_len;
 
-/// Writes so many bytes of a number, the least first.
+/// Writes this many bytes of a number, the least first.
 fn put_bytes(out: &mut ArrayVec<u8, 8>, count: usize, value: u32)
     requires room { length out.old.items + count ≤ 8 }
     ensures bytes { out.new.items ≡ out.old.items ++ bytes_of count value }
@@ -26,7 +26,7 @@ fn put_bytes(out: &mut ArrayVec<u8, 8>, count: usize, value: u32)
     }
 }
 
-/// Writes so many bytes with seven bits each of a number, the lowest first. Bit 7 says that another follows.
+/// Writes this many bytes with seven bits each of a number, the lowest first. Bit 7 says that another follows.
 fn put_groups(out: &mut ArrayVec<u8, 8>, count: usize, value: u64)
     requires some { 0 < count }
     requires room { length out.old.items + count ≤ 8 }
@@ -43,7 +43,7 @@ fn put_groups(out: &mut ArrayVec<u8, 8>, count: usize, value: u64)
 }
 
 fn size_bits(size: Size) -> u8
-    ensures bits { result ≡ size_bits_of size }
+    ensures bits { result ≡ size_bits size }
     ensures few { result < 4 }
 {
     match size {
@@ -54,7 +54,7 @@ fn size_bits(size: Size) -> u8
 }
 
 fn late_bits(lateness: Lateness) -> u8
-    ensures bits { result ≡ late_bits_of lateness }
+    ensures bits { result ≡ late_bits lateness }
     ensures few { result < 4 }
 {
     match lateness {
@@ -84,16 +84,16 @@ fn put_sync(out: &mut ArrayVec<u8, 8>)
 fn put_source(out: &mut ArrayVec<u8, 8>, hardware: bool, number: u8, size: Size, value: u32)
     requires empty { out.old.items ≡ [] }
     requires number { number < 32 }
-    ensures { out.new.items ≡ (8 * number + 4 * bit_of hardware + size_bits_of size) ∷ bytes_of (byte_count size) value }
+    ensures { out.new.items ≡ (8 * number + 4 * bit_of hardware + size_bits size) ∷ bytes_of (byte_count size) value }
 {
     out.push(8 * number + 4 * bit(hardware) + size_bits(size));
     put_bytes(out, usize::from(size.byte_count()), value);
 }
 
-/// A local timestamp with so many payload bytes. It is short where it has none.
+/// A local timestamp with this many payload bytes. It is short where it has none.
 fn put_local(out: &mut ArrayVec<u8, 8>, lateness: Lateness, delta: u32, payload: usize)
     requires empty { out.old.items ≡ [] }
-    requires payload { 1 + payload ≡ shortest_of (ItmPacket.Local lateness delta) }
+    requires payload { 1 + payload ≡ shortest_len (ItmPacket.Local lateness delta) }
     ensures { out.new.items ≡ short (ItmPacket.Local lateness delta) }
 {
     if payload == 0 {
@@ -129,7 +129,8 @@ fn put_second(out: &mut ArrayVec<u8, 8>, wide: bool, value: u64)
 fn put_four(out: &mut ArrayVec<u8, 8>, high: u32)
     requires room { length out.old.items ≤ 4 }
     requires fits { high < 2 ^ 29 }
-    ensures { out.new.items ≡ out.old.items ++ (128 + high % 128) ∷ ((128 + high / 128 % 128) ∷ ((128 + high / 128 / 128 % 128) ∷ ((high / 128 / 128 / 128) ∷ []))) }
+    ensures { out.new.items ≡ out.old.items ++ (128 + high % 128)
+        ∷ ((128 + high / 128 % 128) ∷ ((128 + high / 128 / 128 % 128) ∷ ((high / 128 / 128 / 128) ∷ []))) }
 {
     out.push(128 + (high % 128) as u8);
     out.push(128 + (high / 128 % 128) as u8);
@@ -137,10 +138,10 @@ fn put_four(out: &mut ArrayVec<u8, 8>, high: u32)
     out.push((high / 128 / 128 / 128) as u8);
 }
 
-/// An extension packet with so many payload bytes.
+/// An extension packet with this many payload bytes.
 fn put_extension(out: &mut ArrayVec<u8, 8>, dwt: bool, value: u32, payload: usize)
     requires empty { out.old.items ≡ [] }
-    requires payload { 1 + payload ≡ shortest_of (ItmPacket.Extension dwt value) }
+    requires payload { 1 + payload ≡ shortest_len (ItmPacket.Extension dwt value) }
     ensures { out.new.items ≡ short (ItmPacket.Extension dwt value) }
 {
     let low = (value % 8) as u8;
@@ -152,11 +153,11 @@ fn put_extension(out: &mut ArrayVec<u8, 8>, dwt: bool, value: u32, payload: usiz
     }
 }
 
-/// Writes a packet with so many payload bytes.
+/// Writes a packet with this many payload bytes.
 fn put(out: &mut ArrayVec<u8, 8>, packet: &ItmPacket, payload: usize)
     requires proper { IsProper packet.now }
     requires empty { out.old.items ≡ [] }
-    requires payload { 1 + payload ≡ shortest_of packet.now }
+    requires payload { 1 + payload ≡ shortest_len packet.now }
     ensures { out.new.items ≡ short packet.now }
 {
     match *packet {
@@ -177,14 +178,15 @@ fn put(out: &mut ArrayVec<u8, 8>, packet: &ItmPacket, payload: usize)
 }
 
 /// Writes the shortest bytes of a packet, 1 to 7, into `out`, which is empty (ARMv7-M Architecture
-/// Reference Manual, 'Debug ITM and DWT packet protocol'). Bits that a reader ignores are clear.
+/// Reference Manual, Arm DDI 0403E, appendix D4 'Debug ITM and DWT Packet Protocol'). Bits that a reader ignores are
+/// clear.
 ///
 /// The packet must be proper, as `itm_grammar::proper::is_proper` tells: others have no bytes.
 pub fn encode(packet: &ItmPacket, out: &mut ArrayVec<u8, 8>)
     requires proper { IsProper packet.now }
     requires empty { out.old.items ≡ [] }
     ensures bytes { out.new.items ≡ short packet.now }
-    ensures len { length out.new.items ≡ shortest_of packet.now }
+    ensures len { length out.new.items ≡ shortest_len packet.now }
     ensures spells { Spells packet.now out.new.items }
     ensures least { (r : List ℕ) → Spells packet.now r → length out.new.items ≤ length r }
     ensures reads_back { walk rule Header out.new.items ≡ Whole packet.now }

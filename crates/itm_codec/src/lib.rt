@@ -1,5 +1,5 @@
-//! Reads the ITM packets of a source's bytes, and writes packets as bytes (ARMv7-M Architecture Reference
-//! Manual, 'Debug ITM and DWT packet protocol').
+//! Reads the ITM packets of a source's bytes, and writes packets as bytes (ARMv7-M Architecture Reference Manual, Arm
+//! DDI 0403E, appendix D4 'Debug ITM and DWT Packet Protocol').
 #![tactic(auto)]
 
 mod decoder;

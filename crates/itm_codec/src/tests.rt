@@ -66,7 +66,7 @@ fn read(rt: &impl Abort, decoder: &mut ItmDecoder, at: u64, bytes: &[u8], packet
     }
 }
 
-/// Each packet is written as these bytes, which read as that packet: alone, and behind those before.
+/// Each packet is written as these bytes, which read as that packet: alone, and after those before.
 fn check(rt: &impl Abort, rows: &[(ItmPacket, &[u8])]) {
     let mut stream = ItmDecoder::aligned();
     let mut hunter = ItmDecoder::hunting();

@@ -1,10 +1,11 @@
-//! Packets whose bytes are all there, read at once (ARMv7-M Architecture Reference Manual, 'Debug ITM and DWT
-//! packet protocol').
+//! Packets whose bytes are all there, read at once (ARMv7-M Architecture Reference Manual, Arm DDI 0403E, appendix D4
+//! 'Debug ITM and DWT Packet Protocol', section D4.2 'Packet descriptions').
 //!
 //! They are read so for speed alone: the decoder reads byte by byte what is not found here.
 
 ghost use Rattle.std.specs.Prelude.{◌≡◌, [], ◌+◌, ◌*◌, ◌/◌, ◌%◌, ◌^◌, ◌<◌, ◌≤◌, ◌∷◌, ℕ, List, length, take, IfSome};
-ghost use Rattle.itm_grammar.specs.Spelling.{Spells, IsExtended, extended, more_bit, IsContinued, groups, late_bits, byte_count, size_bits, number};
+ghost use Rattle.itm_grammar.specs.Spelling.{Spells, IsExtended, extended, more_bit, IsContinued, groups, late_bits};
+ghost use Rattle.itm_grammar.specs.Spelling.{byte_count, size_bits, number};
 ghost use Rattle.itm_grammar.specs.Proper.{IsProper};
 
 use itm_grammar::packet::{ItmPacket, Lateness, Size};
@@ -55,7 +56,8 @@ fn source_packet(bytes: &[u8]) -> Option<(usize, ItmPacket)>
 fn source_of(header: u8, size: Size, value: u32) -> ItmPacket
     requires size { header % 4 ≡ size_bits size }
     requires fits { value < 256 ^ byte_count size }
-    ensures spells { (payload : List ℕ) → length payload ≡ byte_count size → number payload ≡ value → Spells result (header ∷ payload) }
+    ensures spells { (payload : List ℕ) → length payload ≡ byte_count size → number payload ≡ value →
+        Spells result (header ∷ payload) }
     ensures proper { IsProper result }
 {
     let number = header / 8;

@@ -110,7 +110,7 @@ joined n g value change wrap h e =
     highest false true e = one ((g / 2 ^ 27) % 2) true (omega arith)
     highest false false e = one ((g / 2 ^ 27) % 2) false (omega arith)
 
--- groups of no more than so many bytes fit their bits
+-- groups of no more than this many bytes fit their bits
 positive : (n : ℕ) → 0 < 128 ^ n
 positive zero = omega arith
 positive (suc n) = let k = positive n in let e : 128 ^ suc n ≡ 128 ^ n * 128 = pow-suc 128 n in rw e (omega arith)
@@ -272,7 +272,7 @@ sound : (v : ItmPacket) (r : List ℕ) → from Header r ≡ Whole v → Spells 
 sound v [] e = cc
 sound v (h ∷ p) e = class_sound (class_of h) h p v refl e
 
--- and all of them are: a header of a class, and what is whole behind it
+-- and all of them are: a header of a class, and what is whole after it
 class_whole : (c : Class) (p : List ℕ) (v : ItmPacket) → is_proper_class c ≡ true → (c ≡ Reserved → ⊥) → after (begin c) (λ t. from t p) p ≡ Whole v → from Header (header_of c ∷ p) ≡ Whole v
 class_whole c p v a n e = says (begin (class_of (header_of c))) (begin c) p (ap begin (made c a n)) ∙ e
 
@@ -392,7 +392,7 @@ complete (Extension dwt value) r s =
     (extension_complete dwt s.0 s.1 s.2 s.4)
     (ap (Extension dwt) (sym s.5)))
 
--- what a state has of the header's class and of how many bytes stand behind the header
+-- what a state has of the header's class and of how many bytes are after the header
 abbrev pub Belongs : Class → ℕ → Partial → Type 0
 Belongs c n Header = ⊥
 Belongs c n (Zeros count) = c ≡ Zero

@@ -121,7 +121,7 @@ payload_complete c n v (b ∷ (d ∷ p)) x f = elim (payload_cases c n v b) [
   | inr m ↦ (let k = sym m.0 ∙ f.fills.0 in cc)
 ]
 
--- by the size: so many
+-- by the size: this many
 abbrev pub counted : ℕ → ℕ → ℕ → Bool
 counted most n b = nat_lt (n + 1) most
 
@@ -141,7 +141,7 @@ count_fills most n (b ∷ (d ∷ p)) h f = (goes (omega arith), count_fills most
   goes : n + 1 < most → counted most n b ≡ true
   goes k = grind (arith, nat_tests)
 
--- by bit 7: at most so many
+-- by bit 7: at most this many
 abbrev pub longer : ℕ → ℕ → ℕ → Bool
 longer most n b = nat_le 128 b && nat_lt (n + 1) most
 
@@ -164,7 +164,7 @@ continued_fills most n (b ∷ (d ∷ p)) h l =
     goes : 128 ≤ b → n + 1 < most → longer most n b ≡ true
     goes k j = grind (arith, nat_tests)
 
--- the weights of one more byte and of those behind it
+-- the weights of one more byte and of those after it
 weigh : (base value count b more : ℕ) → value + b * base ^ count + base ^ (count + 1) * more ≡ value + base ^ count * (b + base * more)
 weigh base value count b more =
     let p : base ^ (count + 1) ≡ base ^ count * base = ap (λ (n : ℕ). base ^ n) (let e : count + 1 ≡ suc count = omega arith in e) ∙ pow-suc base count in

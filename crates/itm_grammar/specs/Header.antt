@@ -1,12 +1,13 @@
--- The table of headers (ARMv7-M Architecture Reference Manual, Arm DDI 0403, appendix 'Debug ITM and DWT packet
--- protocol'), with the manual's names.
+-- The table of headers, with the manual's names (ARMv7-M Architecture Reference Manual, Arm DDI 0403E, appendix D4
+-- 'Debug ITM and DWT Packet Protocol', section D4.2 'Packet descriptions').
 use Rattle.std.specs.Prelude.{ℕ, ◌/◌, ◌%◌, Bool, true, ◌==◌, ◌&&◌, nat_lt, nat_le, if◌then◌else◌}
 use Rattle.itm_grammar.specs.declared.packet.Size.{Size}
 use Rattle.itm_grammar.specs.declared.packet.Size.TheVariants.{One, Two, Four}
 use Rattle.itm_grammar.specs.declared.packet.Lateness.{Lateness}
 use Rattle.itm_grammar.specs.declared.packet.Lateness.TheVariants.{Exact, StampLate, PacketLate, BothLate}
 use Rattle.itm_grammar.specs.declared.header.Class.{Class}
-use Rattle.itm_grammar.specs.declared.header.Class.TheVariants.{Zero, Overflow, Source, LocalShort, LocalLong, GlobalFirst, GlobalSecond, Extension, Reserved}
+use Rattle.itm_grammar.specs.declared.header.Class.TheVariants.{Zero, Overflow, Source, LocalShort, LocalLong}
+use Rattle.itm_grammar.specs.declared.header.Class.TheVariants.{GlobalFirst, GlobalSecond, Extension, Reserved}
 
 -- SS of a source packet, bits 1 and 0, which are not 00: 01, 10, 11
 abbrev pub size_of : ℕ → Size
@@ -14,7 +15,8 @@ size_of low = if low == 1 then One else (if low == 2 then Two else Four)
 
 -- TC of a local timestamp packet, bits 5 and 4: 00, 01, 10, 11
 abbrev pub lateness_of : ℕ → Lateness
-lateness_of bits = if bits == 0 then Exact else (if bits == 1 then StampLate else (if bits == 2 then PacketLate else BothLate))
+lateness_of bits =
+    if bits == 0 then Exact else (if bits == 1 then StampLate else (if bits == 2 then PacketLate else BothLate))
 
 -- With low nibble 0, by the high nibble: 00 Synchronization packet; 10 to 60 Local timestamp packet, format 2 (LTS2);
 -- 70 Overflow packet; 80 to B0 reserved; C0 to F0 Local timestamp packet, format 1 (LTS1)

@@ -1,5 +1,6 @@
 -- Worked rows of the grammar, in text.
-use Rattle.std.specs.Prelude.{ℕ, ◌+◌, ◌-◌, ◌*◌, List, [], ◌∷◌, length, map, Option, option_map, nat_lt, if◌then◌else◌}
+use Rattle.std.specs.Prelude.{ℕ, List, length, map, Option, option_map}
+pub use Rattle.trace_values.specs.Hex.{hex}
 use Rattle.trace_values.specs.declared.fault.Reason.{Reason}
 use Rattle.trace_values.specs.Placed.{placed}
 use Rattle.trace_values.specs.Walk.{by_unit}
@@ -8,17 +9,8 @@ use Rattle.itm_grammar.specs.declared.packet.ItmPacket.{ItmPacket}
 use Rattle.itm_grammar.specs.declared.partial.Partial.TheVariants.{Header}
 use Rattle.itm_grammar.specs.Rule.{rule}
 
--- a character 0 to 9 or A to F, as a digit
-abbrev pub digit : ℕ → ℕ
-digit code = if nat_lt code 58 then code - 48 else code - 55
-
--- the bytes of a text that has two digits a byte and one character between bytes
-abbrev pub hex : List ℕ → List ℕ
-hex (high ∷ (low ∷ (between ∷ text))) = (16 * digit high + digit low) ∷ hex text
-hex (high ∷ (low ∷ [])) = (16 * digit high + digit low) ∷ []
-hex text = []
-
--- of a reading: its packets with the offsets of their last bytes, how many bytes end no packet, and the fault with its offset
+-- of a reading: its packets with the offsets of their last bytes, how many bytes end no packet, and the fault with its
+-- offset
 abbrev pub row_of : Reading ItmPacket → List (ItmPacket × ℕ) × ℕ × Option (ℕ × Reason)
 row_of r = (map (λ x. (x.0, x.1.at)) r.items, length r.rest, option_map (λ f. (f.0.at, f.1)) r.fault)
 

@@ -1,14 +1,20 @@
--- One more byte of an unfinished packet: the grammar's rule, which keeps a state.
-use Rattle.std.specs.Prelude.{◌≡◌, ◌<◌, ℕ, ◌+◌, ◌*◌, ◌^◌, ◌/◌, ◌%◌, Bool, true, false, ◌==◌, ◌&&◌, nat_lt, nat_le, if◌then◌else◌}
+-- One more byte of an unfinished packet: the rule of the grammar in Spelling, which keeps a state. The headers and
+-- fields are those of ARMv7-M Architecture Reference Manual, Arm DDI 0403E, appendix D4 'Debug ITM and DWT Packet
+-- Protocol', section D4.2 'Packet descriptions'; which bytes are faults is this project's profile.
+use Rattle.std.specs.Prelude.{◌≡◌, ◌<◌, ℕ, ◌+◌, ◌*◌, ◌^◌, ◌/◌, ◌%◌, Bool, true, false, ◌==◌, ◌&&◌, nat_lt, nat_le}
+use Rattle.std.specs.Prelude.{if◌then◌else◌}
 use Rattle.trace_values.specs.declared.fault.Reason.TheVariants.{ReservedHeader, BadItmSync, LongStamp, ShortStamp}
 use Rattle.trace_values.specs.declared.next.Next.{Next}
 use Rattle.trace_values.specs.declared.next.Next.TheVariants.{Go, End, Fail}
 use Rattle.itm_grammar.specs.declared.packet.Size.{Size}
 use Rattle.itm_grammar.specs.declared.packet.Lateness.TheVariants.{Exact}
 use Rattle.itm_grammar.specs.declared.packet.ItmPacket.{ItmPacket}
-use Rattle.itm_grammar.specs.declared.packet.ItmPacket.TheVariants.{Sync, Overflow, Software, Hardware, Local, GlobalFirst, GlobalSecond, Extension}
+use Rattle.itm_grammar.specs.declared.packet.ItmPacket.TheVariants.{Sync, Overflow, Software, Hardware, Local}
+use Rattle.itm_grammar.specs.declared.packet.ItmPacket.TheVariants.{GlobalFirst, GlobalSecond, Extension}
 use Rattle.itm_grammar.specs.declared.header.Class.{Class}
-use Rattle.itm_grammar.specs.declared.header.Class.TheVariants.{Zero, Overflow as Overflowed, Source, LocalShort, LocalLong, GlobalFirst as First, GlobalSecond as Second, Extension as Extended, Reserved}
+use Rattle.itm_grammar.specs.declared.header.Class.TheVariants.{Zero, Overflow as Overflowed, Source, LocalShort}
+use Rattle.itm_grammar.specs.declared.header.Class.TheVariants.{LocalLong, GlobalFirst as First, GlobalSecond as Second}
+use Rattle.itm_grammar.specs.declared.header.Class.TheVariants.{Extension as Extended, Reserved}
 use Rattle.itm_grammar.specs.declared.partial.Partial.{Partial}
 use Rattle.itm_grammar.specs.declared.partial.Partial.TheVariants.{Header, Zeros, Payload}
 use Rattle.itm_grammar.specs.Header.{class_of, is_proper_class}
@@ -28,7 +34,7 @@ begin (Extended false dwt low) = End (Extension dwt low)
 begin (Extended true dwt low) = Go (Payload (Extended true dwt low) 0 0)
 begin Reserved = Fail ReservedHeader
 
--- a byte after so many bytes 00
+-- a byte after this many bytes 00
 abbrev pub zeros_with : ℕ → ℕ → Next Partial ItmPacket
 zeros_with count b =
     if b == 0x00 then Go (Zeros (count + 1))
@@ -48,13 +54,14 @@ abbrev pub base_of : Class → ℕ
 base_of (Source hardware number size) = 256
 base_of class = 128
 
--- what a payload byte behind so many says by itself: seven bits, but in a source packet and at the fourth byte of an extension all of it
+-- what a payload byte after this many says by itself: seven bits, but in a source packet and at the fourth byte of an
+-- extension all of it
 abbrev pub digit : Class → ℕ → ℕ → ℕ
 digit (Source hardware number size) count b = b
 digit (Extended more dwt low) count b = if count == 3 then b else b % 128
 digit class count b = b % 128
 
--- behind this payload byte, which stands behind so many, there is another: by the size, or by bit 7
+-- after this payload byte, which comes after this many, there is another: by the size, or by bit 7
 abbrev pub another_follows : Class → ℕ → ℕ → Bool
 another_follows (Source hardware number size) count b = nat_lt (count + 1) (byte_count size)
 another_follows class count b = nat_le 128 b && nat_lt (count + 1) (most_bytes class)
@@ -64,7 +71,7 @@ abbrev pub source : Bool → ℕ → Size → ℕ → ItmPacket
 source true number size value = Hardware number size value
 source false number size value = Software number size value
 
--- a first global timestamp of so many bytes, whose groups are this number
+-- a first global timestamp of this many bytes, whose groups are this number
 abbrev pub first_stamp : ℕ → ℕ → ItmPacket
 first_stamp count value = GlobalFirst count (value % 2 ^ 26) ((value / 2 ^ 26) % 2 == 1) ((value / 2 ^ 27) % 2 == 1)
 
@@ -74,7 +81,7 @@ second_stamp count value =
     if count == 4 then End (GlobalSecond false (value % 2 ^ 22))
     else (if count == 6 then End (GlobalSecond true (value % 2 ^ 38)) else Fail ShortStamp)
 
--- the last payload byte, with which they are so many, and stand for this number
+-- the last payload byte, with which they are this many, and stand for this number
 abbrev pub last : Class → ℕ → ℕ → ℕ → Next Partial ItmPacket
 last (Source hardware number size) count value b = End (source hardware number size value)
 last (LocalLong lateness) count value b = if nat_lt b 128 then End (Local lateness value) else Fail LongStamp
@@ -83,9 +90,10 @@ last Second count value b = if nat_lt b 128 then second_stamp count value else F
 last (Extended more dwt low) count value b = End (Extension dwt (low + 8 * value))
 last class count value b = Fail ReservedHeader
 
--- a payload byte behind so many, where with this byte they stand for this number
+-- a payload byte after this many, where with this byte they stand for this number
 abbrev pub payload_with : Class → ℕ → ℕ → ℕ → Next Partial ItmPacket
-payload_with class count value b = if another_follows class count b then Go (Payload class (count + 1) value) else last class (count + 1) value b
+payload_with class count value b =
+    if another_follows class count b then Go (Payload class (count + 1) value) else last class (count + 1) value b
 
 -- the rule: a header, a byte of a synchronisation, or a payload byte
 abbrev pub rule : Partial → ℕ → Next Partial ItmPacket
@@ -99,7 +107,7 @@ count_of Header = 0
 count_of (Zeros count) = count
 count_of (Payload class count value) = count + 1
 
--- and how many after a step: none behind a whole packet or a fault
+-- and how many after a step: none after a whole packet or a fault
 abbrev pub held_after : Next Partial ItmPacket → ℕ
 held_after (Go partial) = count_of partial
 held_after (End packet) = 0

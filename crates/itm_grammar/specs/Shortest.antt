@@ -1,17 +1,21 @@
--- The shortest spelling of a packet, with ignored bits clear.
-use Rattle.std.specs.Prelude.{◌≡◌, ℕ, zero, suc, ◌+◌, ◌*◌, ◌^◌, ◌/◌, ◌%◌, ◌<◌, ◌≤◌, List, [], ◌∷◌, length, All, Bool, false, ◌&&◌, nat_lt, if◌then◌else◌}
+-- The shortest spelling of a packet, with ignored bits clear (ARMv7-M Architecture Reference Manual, Arm DDI 0403E,
+-- appendix D4 'Debug ITM and DWT Packet Protocol', section D4.2 'Packet descriptions'). That the encoder takes the
+-- shortest is this project's profile.
+use Rattle.std.specs.Prelude.{◌≡◌, ℕ, zero, suc, ◌+◌, ◌*◌, ◌^◌, ◌/◌, ◌%◌, ◌<◌, ◌≤◌, List, [], ◌∷◌, length, All, Bool}
+use Rattle.std.specs.Prelude.{false, ◌&&◌, nat_lt, if◌then◌else◌}
 use Rattle.itm_grammar.specs.declared.packet.Lateness.{Lateness}
 use Rattle.itm_grammar.specs.declared.packet.Lateness.TheVariants.{Exact}
 use Rattle.itm_grammar.specs.declared.packet.ItmPacket.{ItmPacket}
-use Rattle.itm_grammar.specs.declared.packet.ItmPacket.TheVariants.{Sync, Overflow, Software, Hardware, Local, GlobalFirst, GlobalSecond, Extension}
+use Rattle.itm_grammar.specs.declared.packet.ItmPacket.TheVariants.{Sync, Overflow, Software, Hardware, Local}
+use Rattle.itm_grammar.specs.declared.packet.ItmPacket.TheVariants.{GlobalFirst, GlobalSecond, Extension}
 use Rattle.itm_grammar.specs.Spelling.{Spells, byte_count, size_bits, late_bits, bit_of, groups, more_bit}
 
--- so many bytes of a number, the least first
+-- this many bytes of a number, the least first
 abbrev pub bytes_of : ℕ → ℕ → List ℕ
 bytes_of zero value = []
 bytes_of (suc n) value = (value % 256) ∷ bytes_of n (value / 256)
 
--- so many bytes with seven bits each of a number, the lowest first, where bit 7 says that another follows
+-- this many bytes with seven bits each of a number, the lowest first, where bit 7 says that another follows
 abbrev pub groups_of : ℕ → ℕ → List ℕ
 groups_of zero value = []
 groups_of (suc zero) value = (value % 128) ∷ []
@@ -19,7 +23,8 @@ groups_of (suc (suc n)) value = (128 + value % 128) ∷ groups_of (suc n) (value
 
 -- how many such bytes a number needs
 abbrev pub group_count : ℕ → ℕ
-group_count value = if nat_lt value (2 ^ 7) then 1 else (if nat_lt value (2 ^ 14) then 2 else (if nat_lt value (2 ^ 21) then 3 else 4))
+group_count value =
+    if nat_lt value (2 ^ 7) then 1 else (if nat_lt value (2 ^ 14) then 2 else (if nat_lt value (2 ^ 21) then 3 else 4))
 
 -- a local timestamp that has a short form
 abbrev pub is_short : Lateness → ℕ → Bool
@@ -30,7 +35,8 @@ is_short lateness delta = false
 abbrev pub extension_bytes : ℕ → List ℕ
 extension_bytes high =
     if nat_lt high (2 ^ 21) then groups_of (group_count high) high
-    else (128 + high % 128) ∷ ((128 + high / 128 % 128) ∷ ((128 + high / 128 / 128 % 128) ∷ ((high / 128 / 128 / 128) ∷ [])))
+    else (128 + high % 128) ∷ ((128 + high / 128 % 128)
+    ∷ ((128 + high / 128 / 128 % 128) ∷ ((high / 128 / 128 / 128) ∷ [])))
 
 -- and where they are all 0 there is none
 abbrev pub extension_payload : ℕ → List ℕ

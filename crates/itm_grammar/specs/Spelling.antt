@@ -1,6 +1,7 @@
--- Which lists of bytes spell a packet (ARMv7-M Architecture Reference Manual, Arm DDI 0403, appendix 'Debug ITM and DWT
--- packet protocol').
-use Rattle.std.specs.Prelude.{◌≡◌, ℕ, ◌+◌, ◌*◌, ◌^◌, ◌%◌, ◌<◌, ◌≤◌, List, [], ◌∷◌, ◌++◌, length, replicate, Bool, true, false, ◌==◌, if◌then◌else◌, ◌⊎◌}
+-- Which lists of bytes spell a packet (ARMv7-M Architecture Reference Manual, Arm DDI 0403E, appendix D4 'Debug ITM and
+-- DWT Packet Protocol', section D4.2 'Packet descriptions'). Titles in quotes are those of its parts.
+use Rattle.std.specs.Prelude.{◌≡◌, ℕ, ◌+◌, ◌*◌, ◌^◌, ◌%◌, ◌<◌, ◌≤◌, List, [], ◌∷◌, ◌++◌, length, replicate, Bool, true}
+use Rattle.std.specs.Prelude.{false, ◌==◌, if◌then◌else◌, ◌⊎◌}
 use Rattle.trace_values.specs.declared.fault.Reason.{Reason}
 use Rattle.trace_values.specs.declared.fault.Reason.TheVariants.{ReservedHeader, BadItmSync, LongStamp, ShortStamp}
 use Rattle.itm_grammar.specs.declared.packet.Size.{Size}
@@ -8,9 +9,11 @@ use Rattle.itm_grammar.specs.declared.packet.Size.TheVariants.{One, Two, Four}
 use Rattle.itm_grammar.specs.declared.packet.Lateness.{Lateness}
 use Rattle.itm_grammar.specs.declared.packet.Lateness.TheVariants.{Exact, StampLate, PacketLate, BothLate}
 use Rattle.itm_grammar.specs.declared.packet.ItmPacket.{ItmPacket}
-use Rattle.itm_grammar.specs.declared.packet.ItmPacket.TheVariants.{Sync, Overflow, Software, Hardware, Local, GlobalFirst, GlobalSecond, Extension}
+use Rattle.itm_grammar.specs.declared.packet.ItmPacket.TheVariants.{Sync, Overflow, Software, Hardware, Local}
+use Rattle.itm_grammar.specs.declared.packet.ItmPacket.TheVariants.{GlobalFirst, GlobalSecond, Extension}
 use Rattle.itm_grammar.specs.declared.header.Class.{Class}
-use Rattle.itm_grammar.specs.declared.header.Class.TheVariants.{Zero, LocalLong, GlobalFirst as First, GlobalSecond as Second}
+use Rattle.itm_grammar.specs.declared.header.Class.TheVariants.{Zero, LocalLong, GlobalFirst as First}
+use Rattle.itm_grammar.specs.declared.header.Class.TheVariants.{GlobalSecond as Second}
 use Rattle.itm_grammar.specs.Header.{class_of}
 
 -- how many payload bytes a size has
@@ -60,8 +63,8 @@ SpellsSource bit_two number_of_source size value r =
     (payload : List ℕ) × (number_of_source < 32) × (r ≡ (8 * number_of_source + 4 * bit_two + size_bits size) ∷ payload)
     × (length payload ≡ byte_count size) × (value ≡ number payload)
 
--- the payload of an extension packet: at most three bytes as above, or three that say that another follows and a fourth,
--- which has no such bit
+-- the payload of an extension packet: at most three bytes as above, or three that say that another follows and a
+-- fourth, which has no such bit
 abbrev pub IsExtended : List ℕ → Type 0
 IsExtended [] = Unit {0}
 IsExtended (a ∷ []) = a < 128
@@ -87,12 +90,12 @@ more_bit (b ∷ bytes) = 1
 -- Overflow, 'Overflow packet': 70.
 -- Software, 'Instrumentation packet': a source packet with bit 2 of the header clear.
 -- Hardware, 'Hardware source packet': one with that bit set.
--- Local, 'Local timestamp packets': LTS2, 0TTT0000 with TTT 1 to 6, which is exact; or LTS1, 11LL0000 (C0, D0, E0, F0) and
--- at most four bytes with the time, seven bits a byte.
--- GlobalFirst, 'Global timestamp packets', GTS1: 94 and at most four bytes, seven bits a byte: 26 bits of the time, then
--- clock change (ClkCh), then Wrap.
--- GlobalSecond, GTS2: B4 and four bytes with 22 bits of the time, or six with 38; what is above these in the last byte is
--- ignored. That it has four bytes or six is this project's profile.
+-- Local, 'Local timestamp packets': LTS2, 0TTT0000 with TTT 1 to 6, which is exact; or LTS1, 11LL0000 (C0, D0, E0, F0)
+-- and at most four bytes with the time, seven bits a byte.
+-- GlobalFirst, 'Global timestamp packets', GTS1: 94 and at most four bytes, seven bits a byte: 26 bits of the time,
+-- then clock change (ClkCh), then Wrap.
+-- GlobalSecond, GTS2: B4 and four bytes with 22 bits of the time, or six with 38; what is above these in the last byte
+-- is ignored. That it has four bytes or six is this project's profile.
 -- Extension, 'Extension packet': CDDD1S00, with value bits 2 to 0 in DDD, S (SH) set for the DWT and C set where bytes
 -- follow, at most four, with the bits above these. That a fourth byte has eight bits is this project's profile.
 abbrev pub Spells : ItmPacket → List ℕ → Type 0
@@ -114,11 +117,12 @@ Spells (GlobalSecond true value) r =
     (payload : List ℕ) × (r ≡ 0xB4 ∷ payload) × IsContinued payload
     × (length payload ≡ 6) × (value ≡ groups payload % 2 ^ 38)
 Spells (Extension dwt value) r =
-    (low : ℕ) × (payload : List ℕ) × (low < 8) × (r ≡ (128 * more_bit payload + 16 * low + 4 * bit_of dwt + 8) ∷ payload)
+    (low : ℕ) × (payload : List ℕ) × (low < 8)
+    × (r ≡ (128 * more_bit payload + 16 * low + 4 * bit_of dwt + 8) ∷ payload)
     × IsExtended payload × (value ≡ low + 8 * extended payload)
 
--- Why no packet goes on so, by the header's class and how many bytes come after the header, up to the one that breaks it.
--- What faults there are is this project's profile.
+-- Why no packet goes on so, by the header's class and how many bytes come after the header, up to the one that breaks
+-- it. What faults there are is this project's profile.
 abbrev pub reason_of : Class → ℕ → Reason
 reason_of Zero count = BadItmSync
 reason_of (LocalLong lateness) count = LongStamp

@@ -1,7 +1,8 @@
 //! What a header begins.
 
 ghost use Rattle.std.specs.Prelude.{◌≡◌, true};
-ghost use Rattle.itm_grammar.specs.Header.{class_of, size_of as size_named, lateness_of as lateness_named, class_by_high as class_named_by_high, class_of_stamp as class_named_by_stamp, is_proper_class};
+ghost use Rattle.itm_grammar.specs.Header.{class_of, size_of, lateness_of, class_by_high, class_of_stamp};
+ghost use Rattle.itm_grammar.specs.Header.{is_proper_class};
 
 use crate::packet::{Lateness, Size};
 
@@ -38,7 +39,7 @@ pub enum Class {
 }
 
 fn size_of(low: u8) -> Size
-    ensures { result ≡ size_named low }
+    ensures { result ≡ size_of low }
 {
     match low {
         1 => Size::One,
@@ -48,7 +49,7 @@ fn size_of(low: u8) -> Size
 }
 
 fn lateness_of(bits: u8) -> Lateness
-    ensures { result ≡ lateness_named bits }
+    ensures { result ≡ lateness_of bits }
 {
     match bits {
         0 => Lateness::Exact,
@@ -60,7 +61,7 @@ fn lateness_of(bits: u8) -> Lateness
 
 /// A header with low nibble 0, by its high nibble.
 fn class_by_high(high: u8) -> Class
-    ensures class { result ≡ class_named_by_high high }
+    ensures class { result ≡ class_by_high high }
     ensures proper { is_proper_class result ≡ true }
 {
     match high {
@@ -74,7 +75,7 @@ fn class_by_high(high: u8) -> Class
 
 /// A header with low nibble 4, by its high nibble.
 fn class_of_stamp(high: u8) -> Class
-    ensures class { result ≡ class_named_by_stamp high }
+    ensures class { result ≡ class_of_stamp high }
     ensures proper { is_proper_class result ≡ true }
 {
     match high {

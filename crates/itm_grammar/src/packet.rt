@@ -1,6 +1,7 @@
-//! The packets (ARMv7-M Architecture Reference Manual, Arm DDI 0403, appendix 'Debug ITM and DWT packet protocol').
+//! The packets (ARMv7-M Architecture Reference Manual, Arm DDI 0403E, appendix D4 'Debug ITM and DWT Packet Protocol',
+//! section D4.2 'Packet descriptions').
 
-/// How many bytes a source packet's value has.
+/// How many bytes a source packet's value has (the manual's SS).
 #[derive(Clone, Copy, Debug, PartialEq, Eq, Drop)]
 pub enum Size {
     One,
@@ -25,8 +26,8 @@ impl Size {
     }
 }
 
-/// What a local timestamp was late by: it is exact, the timestamp itself was delayed, the packet that it
-/// belongs to was delayed, or both were.
+/// What a local timestamp was late by (the manual's TC): it is exact, the timestamp itself was delayed, the packet that
+/// it belongs to was delayed, or both were.
 #[derive(Clone, Copy, Debug, PartialEq, Eq, Drop)]
 pub enum Lateness {
     Exact,
@@ -48,7 +49,8 @@ pub enum ItmPacket {
         size: Size,
         value: u32,
     },
-    /// A hardware source packet of the DWT: its discriminator, 0 to 31, and its payload, which fits its size.
+    /// A hardware source packet of the DWT: its discriminator (the manual's discriminator ID), 0 to 31, and its
+    /// payload, which fits its size.
     Hardware {
         disc: u8,
         size: Size,
@@ -59,9 +61,9 @@ pub enum ItmPacket {
         lateness: Lateness,
         delta: u32,
     },
-    /// A first global timestamp (GTS1): the time's low bits in so many payload bytes, 1 to 4, which hold 7, 14, 21
-    /// or 26 of them. With four bytes it says also whether the clock's ratio changed, and whether the high
-    /// bits did.
+    /// A first global timestamp (GTS1): the time's low bits in this many payload bytes, 1 to 4, which hold 7, 14, 21
+    /// or 26 of them. With four bytes it says also whether the clock's ratio changed (ClkCh), and whether the high
+    /// bits did (Wrap).
     GlobalFirst {
         len: u8,
         value: u32,
@@ -73,7 +75,7 @@ pub enum ItmPacket {
         wide: bool,
         value: u64,
     },
-    /// An extension packet, of the ITM or of the DWT.
+    /// An extension packet, of the ITM or of the DWT (the manual's SH), with this value (EX).
     Extension {
         dwt: bool,
         value: u32,

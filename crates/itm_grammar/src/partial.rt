@@ -2,7 +2,10 @@
 
 ghost use Rattle.std.specs.Prelude.{◌≡◌, ◌+◌, ◌*◌, ◌^◌, ◌<◌, ◌≤◌, true};
 ghost use Rattle.itm_grammar.specs.Header.{is_proper_class};
-ghost use Rattle.itm_grammar.specs.Rule.{rule, begin as begun, zeros_with as zeros_and, payload_with as payload_and, last as lasting, another_follows as follows_by_table, source as sourced, first_stamp as first_stamped, second_stamp as second_stamped, digit, base_of, is_sound, is_sound_payload, IsSoundNext, StopsProperly, FitsLast, count_of, held_after};
+ghost use Rattle.itm_grammar.specs.Rule.{rule, begin, zeros_with, payload_with, last, another_follows, source};
+ghost use Rattle.itm_grammar.specs.Rule.{first_stamp, second_stamp, digit, base_of, is_sound, is_sound_payload};
+ghost use Rattle.itm_grammar.specs.Rule.{IsSoundNext, StopsProperly, FitsLast, count_of, held_after};
+ghost use Rattle.trace_values.specs.declared.limits.TheConstants.{COUNT_ROOM};
 
 use crate::header::{Class, classify};
 use crate::packet::{ItmPacket, Lateness, Size};
@@ -13,9 +16,9 @@ use trace_values::{Next, Reason};
 pub enum Partial {
     /// Nothing: the next byte is a header.
     Header,
-    /// So many bytes 00, at least one.
+    /// This many bytes 00, at least one.
     Zeros(u64),
-    /// A header of this class, and so many payload bytes, which stand for this number.
+    /// A header of this class, and this many payload bytes, which stand for this number.
     Payload { class: Class, count: u8, value: u64 },
 }
 
@@ -55,7 +58,7 @@ fn groups_with(value: u64, count: u8, bits: u8) -> u64
 /// What a header of this class begins.
 fn begin(class: Class) -> Next<Partial, ItmPacket>
     requires { is_proper_class class ≡ true }
-    ensures next { result ≡ begun class }
+    ensures next { result ≡ begin class }
     ensures sound { IsSoundNext result }
 {
     match class {
@@ -87,8 +90,8 @@ fn begin(class: Class) -> Next<Partial, ItmPacket>
 }
 
 fn zeros_with(count: u64, byte: u8) -> Next<Partial, ItmPacket>
-    requires { count ≤ 2 ^ 60 }
-    ensures next { result ≡ zeros_and count byte }
+    requires { count ≤ COUNT_ROOM }
+    ensures next { result ≡ zeros_with count byte }
     ensures sound { IsSoundNext result }
 {
     if byte == 0 {
@@ -115,7 +118,7 @@ fn value_with(class: Class, count: u8, value: u64, byte: u8) -> u64
 /// Whether another payload byte follows this one, by the size or by bit 7.
 fn another_follows(class: Class, count: u8, byte: u8) -> bool
     requires { count < 6 }
-    ensures { result ≡ follows_by_table class count byte }
+    ensures { result ≡ another_follows class count byte }
 {
     match class {
         Class::Source { size, .. } => count + 1 < size.byte_count(),
@@ -128,7 +131,7 @@ fn another_follows(class: Class, count: u8, byte: u8) -> bool
 }
 
 fn source(hardware: bool, number: u8, size: Size, value: u32) -> ItmPacket
-    ensures { result ≡ sourced hardware number size value }
+    ensures { result ≡ source hardware number size value }
 {
     if hardware {
         ItmPacket::Hardware {
@@ -145,9 +148,9 @@ fn source(hardware: bool, number: u8, size: Size, value: u32) -> ItmPacket
     }
 }
 
-/// A first global timestamp of so many payload bytes: 26 bits of the time, clock change and wrap.
+/// A first global timestamp of this many payload bytes: 26 bits of the time, clock change and wrap.
 fn first_stamp(count: u8, value: u64) -> ItmPacket
-    ensures { result ≡ first_stamped count value }
+    ensures { result ≡ first_stamp count value }
 {
     ItmPacket::GlobalFirst {
         len: count,
@@ -157,9 +160,9 @@ fn first_stamp(count: u8, value: u64) -> ItmPacket
     }
 }
 
-/// A second global timestamp of so many payload bytes; the bits above those of the time are ignored.
+/// A second global timestamp of this many payload bytes; the bits above those of the time are ignored.
 fn second_stamp(count: u8, value: u64) -> Next<Partial, ItmPacket>
-    ensures next { result ≡ second_stamped count value }
+    ensures next { result ≡ second_stamp count value }
     ensures sound { IsSoundNext result }
     ensures ends { held_after result ≡ 0 }
 {
@@ -176,10 +179,10 @@ fn second_stamp(count: u8, value: u64) -> Next<Partial, ItmPacket>
     }
 }
 
-/// The last payload byte, with which they are so many, and stand for this number.
+/// The last payload byte, with which they are this many, and stand for this number.
 fn last(class: Class, count: u8, value: u64, byte: u8) -> Next<Partial, ItmPacket>
     requires { FitsLast class value }
-    ensures next { result ≡ lasting class count value byte }
+    ensures next { result ≡ last class count value byte }
     ensures sound { IsSoundNext result }
     ensures ends { held_after result ≡ 0 }
 {
@@ -211,7 +214,7 @@ fn last(class: Class, count: u8, value: u64, byte: u8) -> Next<Partial, ItmPacke
 fn payload_with(class: Class, count: u8, value: u64, byte: u8) -> Next<Partial, ItmPacket>
     requires proper { is_proper_class class ≡ true }
     requires sound { is_sound_payload class count value ≡ true }
-    ensures next { result ≡ payload_and class count (value + digit class count byte * base_of class ^ count) byte }
+    ensures next { result ≡ payload_with class count (value + digit class count byte * base_of class ^ count) byte }
     ensures sound { IsSoundNext result }
     ensures held { held_after result ≤ count + 2 }
 {
@@ -231,7 +234,7 @@ impl Partial {
     /// The unfinished packet with one more byte.
     pub fn with_byte(self, byte: u8) -> Next<Partial, ItmPacket>
         requires sound { is_sound self ≡ true }
-        requires room { count_of self ≤ 2 ^ 60 }
+        requires room { count_of self ≤ COUNT_ROOM }
         ensures next { result ≡ rule self byte }
         ensures sound { IsSoundNext result }
         ensures proper { StopsProperly result }

@@ -1,14 +1,14 @@
 //! Which packets have numbers in their ranges.
 
 ghost use Rattle.std.specs.Prelude.{◌≡◌, ◌↔◌, IsTrue, ◌<◌, ◌≤◌, ◌^◌};
-ghost use Rattle.itm_grammar.specs.Spelling.{byte_count as spelled_count};
-ghost use Rattle.itm_grammar.specs.Proper.{IsProper, first_bits as spelled_bits, second_bits as second_spelled_bits};
+ghost use Rattle.itm_grammar.specs.Spelling.{byte_count};
+ghost use Rattle.itm_grammar.specs.Proper.{IsProper, first_bits, second_bits};
 
 use crate::packet::{ItmPacket, Size};
 
-/// Whether a value fits so many bytes.
+/// Whether a value fits this many bytes.
 fn fits(size: Size, value: u32) -> bool
-    ensures { IsTrue result ↔ (value < 256 ^ spelled_count size) }
+    ensures { IsTrue result ↔ (value < 256 ^ byte_count size) }
 {
     match size {
         Size::One => value < 0x100,
@@ -17,10 +17,10 @@ fn fits(size: Size, value: u32) -> bool
     }
 }
 
-/// Whether the low bits of the time fit so many payload bytes, 1 to 4.
+/// Whether the low bits of the time fit this many payload bytes, 1 to 4.
 fn first_fits(len: u8, value: u32) -> bool
     requires { len ≤ 4 }
-    ensures { IsTrue result ↔ (value < 2 ^ spelled_bits len) }
+    ensures { IsTrue result ↔ (value < 2 ^ first_bits len) }
 {
     match len {
         0 => value < 1,
@@ -33,7 +33,7 @@ fn first_fits(len: u8, value: u32) -> bool
 
 /// Whether the high bits of the time fit their payload bytes.
 fn second_fits(wide: bool, value: u64) -> bool
-    ensures { IsTrue result ↔ (value < 2 ^ second_spelled_bits wide) }
+    ensures { IsTrue result ↔ (value < 2 ^ second_bits wide) }
 {
     if wide {
         value < 0x40_0000_0000

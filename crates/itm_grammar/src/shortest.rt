@@ -3,13 +3,13 @@
 ghost use Rattle.std.specs.Prelude.{◌≡◌, ◌≤◌, ℕ, List, length, false};
 ghost use Rattle.itm_grammar.specs.Spelling.{Spells};
 ghost use Rattle.itm_grammar.specs.Proper.{IsProper};
-ghost use Rattle.itm_grammar.specs.Shortest.{short, shortest_len as shortest_of, group_count as count_of_groups, is_short as has_short};
+ghost use Rattle.itm_grammar.specs.Shortest.{short, shortest_len, group_count, is_short};
 
 use crate::packet::{ItmPacket, Lateness};
 
 /// How many payload bytes of seven bits each a number needs, at least one and at most four.
 fn group_count(value: u32) -> usize
-    ensures { result ≡ count_of_groups value }
+    ensures { result ≡ group_count value }
 {
     if value < 0x80 {
         1
@@ -24,7 +24,7 @@ fn group_count(value: u32) -> usize
 
 /// Whether a local timestamp has the short form.
 fn is_short(lateness: Lateness, delta: u32) -> bool
-    ensures { result ≡ has_short lateness delta }
+    ensures { result ≡ is_short lateness delta }
 {
     match lateness {
         Lateness::Exact => 0 < delta && delta < 7,
@@ -33,7 +33,7 @@ fn is_short(lateness: Lateness, delta: u32) -> bool
 }
 
 fn local_len(lateness: Lateness, delta: u32) -> usize
-    ensures { result ≡ shortest_of (ItmPacket.Local lateness delta) }
+    ensures { result ≡ shortest_len (ItmPacket.Local lateness delta) }
 {
     if is_short(lateness, delta) {
         1
@@ -43,7 +43,7 @@ fn local_len(lateness: Lateness, delta: u32) -> usize
 }
 
 fn len_of(packet: &ItmPacket) -> usize
-    ensures { result ≡ shortest_of packet.now }
+    ensures { result ≡ shortest_len packet.now }
 {
     match *packet {
         ItmPacket::Sync => 6,
@@ -58,7 +58,7 @@ fn len_of(packet: &ItmPacket) -> usize
 }
 
 fn extension_len(value: u32) -> usize
-    ensures { result ≡ shortest_of (ItmPacket.Extension false value) }
+    ensures { result ≡ shortest_len (ItmPacket.Extension false value) }
 {
     if value < 8 {
         1
@@ -71,7 +71,7 @@ fn extension_len(value: u32) -> usize
 /// be, and timestamps and extensions have no payload byte more than they need.
 pub fn shortest_len(packet: &ItmPacket) -> usize
     requires { IsProper packet.now }
-    ensures value { result ≡ shortest_of packet.now }
+    ensures value { result ≡ shortest_len packet.now }
     ensures spelling { Spells packet.now (short packet.now) × (length (short packet.now) ≡ result) }
     ensures least { (r : List ℕ) → Spells packet.now r → result ≤ length r }
 {

@@ -41,7 +41,7 @@ pub bare_cells : (u : List Placed) → cells_of (bare u) ≡ map bare_cell u
 bare_cells [] = refl
 bare_cells (b ∷ u) = ap (λ (l : List Cell). bare_cell b ∷ l) (bare_cells u)
 
--- the frames of items that follow one another: each stands behind the ID after those before it
+-- the frames of items that follow one another: each begins with the ID in force after those before it
 pub frames_of_items-append : (id : Option ℕ) (xs ys : List PortItem) → frames_of_items id (xs ++ ys) ≡ frames_of_items id xs ++ frames_of_items (id_of_items id xs) ys
 frames_of_items-append id [] ys = refl
 frames_of_items-append id (p ∷ xs) ys =

@@ -1,4 +1,4 @@
--- Of bytes at rising offsets the cells of all frames stand at rising offsets.
+-- Of bytes at rising offsets the cells of all frames are at rising offsets.
 use Rattle.std.proofs.Common.{◌≡◌, ℕ, zero, suc, ◌+◌, ◌*◌, ◌<◌, ◌≤◌, List, [], ◌∷◌, ◌++◌, length, map, refl, sym, ◌∙◌, ap, subst, append_assoc, inl, inr, arith, Bool, true, false, cond, Option, None}
 use Rattle.std.specs.Prelude.{slice_index}
 use Rattle.std.proofs.lemmas.List.{map-append}
@@ -149,6 +149,6 @@ pub placed_rise : (bytes : List ℕ) (at : ℕ) → BytesRise at (at + length by
 placed_rise [] at = (let k : at ≤ at + 0 = omega arith in k)
 placed_rise (b ∷ bytes) at = ((let k : at ≤ at = omega arith in k), subst (λ (n : ℕ). BytesRise (at + 1) n (placed_from (at + 1) bytes)) (let k : at + 1 + length bytes ≡ at + suc (length bytes) = omega arith in k) (placed_rise bytes (at + 1)))
 
--- and so the cells of a whole capture rise, and stand below its length
+-- and so the cells of a whole capture rise, and are below its length
 pub capture_rises : (mode : FramesMode) (bytes : List ℕ) → CellsRise 0 (length bytes) (cells_of (port_reading mode (placed bytes)))
 capture_rises mode bytes = reading_rises mode (placed bytes) 0 (length bytes) (subst (λ (n : ℕ). BytesRise 0 n (placed bytes)) (let k : 0 + length bytes ≡ length bytes = omega arith in k) (placed_rise bytes 0))

@@ -1,5 +1,6 @@
--- What the bytes of a port read as, by the grammar's spellings and the least place of a full synchronisation
--- alone: with no rule, no state and no hunt byte by byte.
+-- What the bytes of a port read as (CoreSight Architecture Specification, Arm IHI 0029E (version 3.0), chapter 'Trace
+-- Formatter', its section on frames), by the grammar's spellings and the least place of a full synchronisation alone:
+-- with no rule, no state and no hunt byte by byte.
 use Rattle.std.specs.Prelude.{◌≡◌, ◌⊎◌, ℕ, ◌+◌, List, [], ◌∷◌, ◌++◌, length, map, true, false, Option, None, Some}
 use Rattle.std.specs.List.{sum_by}
 use Rattle.trace_values.specs.declared.fault.Reason.{Reason}
@@ -22,7 +23,7 @@ abbrev pub HasHalves : List Placed → Option (Place × Reason) → ℕ → Type
 HasHalves rest None halves = halves ≡ half_words rest
 HasHalves rest (Some fault) halves = (broken : IsFirstFault Spells why rest fault) × (halves ≡ half_words broken.before)
 
--- The reading of these items, after so many skipped bytes: no ID is in force before the first frame, half
+-- The reading of these items, after this many skipped bytes: no ID is in force before the first frame, half
 -- synchronisations are counted between frames, in frames and in an unfinished frame, and what ends no item is the tail.
 pub record IsOfItems (skipped : ℕ) (read : Reading PortItem) (r : PortReading) : Type 0 where
   pub unfinished : ℕ
@@ -35,11 +36,11 @@ pub record IsOfItems (skipped : ℕ) (read : Reading PortItem) (r : PortReading)
   pub skipped_is : r.skipped ≡ skipped
   pub locked : r.locked ≡ true
 
--- the bytes u, after so many skipped ones, read by the grammar
+-- the bytes u, after this many skipped ones, read by the grammar
 abbrev pub IsByGrammar : ℕ → List Placed → PortReading → Type 0
 IsByGrammar skipped u r = (read : Reading PortItem) × IsReading Spells why u read × IsOfItems skipped read r
 
--- nothing is read, and so many bytes are skipped
+-- nothing is read, and this many bytes are skipped
 abbrev pub only_skipped : ℕ → PortReading
 only_skipped bytes = record {
   frames = [];

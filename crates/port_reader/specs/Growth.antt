@@ -25,14 +25,18 @@ pub record Reads (old new : PortReading) : Type 0 where
   pub behind : new.locked ≡ true
   pub skipped : new.skipped ≡ old.skipped
 
--- What a step says of the hunt: before the lock each byte is skipped, and at the lock the pattern's own three are no longer.
+-- What a step says of the hunt: before the lock each byte is skipped, and at the lock the pattern's own three are no
+-- longer.
 abbrev pub HuntBy : PortReading → PortReading → ℕ → PortStep → Type 0
-HuntBy old new at Quiet = (new.locked ≡ old.locked) × (new.skipped ≡ (if old.locked then old.skipped else (old.skipped + 1)))
-HuntBy old new at (Locked skipped) = (old.locked ≡ false) × (new.locked ≡ true) × (new.skipped ≡ skipped) × (old.skipped ≡ skipped + 3)
+HuntBy old new at Quiet =
+    (new.locked ≡ old.locked) × (new.skipped ≡ (if old.locked then old.skipped else (old.skipped + 1)))
+HuntBy old new at (Locked skipped) =
+    (old.locked ≡ false) × (new.locked ≡ true) × (new.skipped ≡ skipped) × (old.skipped ≡ skipped + 3)
 HuntBy old new at (Faulty f) = (f.at ≡ at) × (f.half ≡ 0) × Reads old new
 HuntBy old new at step = Reads old new
 
--- With one more byte, at this offset, the reading grew from old to new, and the step says by what: by these cells where it ends a frame.
+-- With one more byte, at this offset, the reading grew from old to new, and the step says by what: by these cells where
+-- it ends a frame.
 pub record Grows (old new : PortReading) (at : ℕ) (step : PortStep) (cells : List Cell) : Type 0 where
   pub frames : new.frames ≡ old.frames ++ frames_by step cells
   pub fit : CellsFit step cells
@@ -43,9 +47,11 @@ pub record Grows (old new : PortReading) (at : ℕ) (step : PortStep) (cells : L
 
 -- the answer to this byte, which follows u at this offset, is this step with these cells
 abbrev pub Answers : FramesMode → PortStep → List Cell → List Placed → ℕ → ℕ → Type 0
-Answers mode step cells u at byte = Grows (port_reading mode u) (port_reading mode (u ++ byte_at at byte ∷ [])) at step cells
+Answers mode step cells u at byte =
+    Grows (port_reading mode u) (port_reading mode (u ++ byte_at at byte ∷ [])) at step cells
 
--- With the bytes of a frame of these cells, and of `inner` half synchronisations between them, the reading grew by that frame.
+-- With the bytes of a frame of these cells, and of `inner` half synchronisations between them, the reading grew by that
+-- frame.
 pub record GrowsByFrame (old new : PortReading) (inner : ℕ) (cells : List Cell) : Type 0 where
   pub frames : new.frames ≡ old.frames ++ cells ∷ []
   pub fulls : new.fulls ≡ old.fulls
@@ -53,7 +59,7 @@ pub record GrowsByFrame (old new : PortReading) (inner : ℕ) (cells : List Cell
   pub fault : new.fault ≡ None
   pub hunt : Reads old new
 
--- behind a fault nothing is read
+-- after a fault nothing is read
 pub record Settled (old new : PortReading) : Type 0 where
   pub frames : new.frames ≡ old.frames
   pub fulls : new.fulls ≡ old.fulls

@@ -9,7 +9,7 @@ is_bare Bare = true
 is_bare Hunt = false
 is_bare Aligned = false
 
--- the reading begins behind a hunt
+-- the reading begins after a hunt
 abbrev pub hunts : FramesMode → Bool
 hunts Hunt = true
 hunts Aligned = false

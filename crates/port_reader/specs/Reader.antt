@@ -20,11 +20,11 @@ is_live r = if is_bare r.mode then true else deformatter.is_live r.port
 abbrev pub has_locked : PortReader → Bool
 has_locked r = if is_bare r.mode then true else deformatter.has_locked r.port
 
--- how many bytes stand behind the last whole frame or synchronisation
+-- how many bytes are after the last whole frame or synchronisation
 abbrev pub tail_of : PortReader → ℕ
 tail_of r = if is_bare r.mode then 0 else deformatter.tail_of r.port
 
--- how many bytes stand before its reading
+-- how many bytes are before its reading
 abbrev pub skipped_by : PortReader → ℕ
 skipped_by r = if is_bare r.mode then 0 else deformatter.skipped_by r.port
 

@@ -1,4 +1,6 @@
--- What the bytes of a port read as: in frames from the first byte on, in frames behind a hunt, or bare.
+-- What the bytes of a port read as: in frames from the first byte on, in frames after a hunt (CoreSight Architecture
+-- Specification, Arm IHI 0029E (version 3.0), chapter 'Trace Formatter', its section on frames), or bare, with no
+-- formatter (this project's profile).
 use Rattle.std.specs.Prelude.{ℕ, List, [], ◌∷◌, ◌++◌, map, Bool, true, false, Option, None, Some}
 use Rattle.std.specs.List.{flat_map}
 use Rattle.trace_values.specs.declared.cell.Cell.{Cell}
@@ -10,9 +12,9 @@ use Rattle.frame_grammar.specs.Port.{PortItem, Full, Half, Frame}
 use Rattle.frame_grammar.specs.Reading.{item_cells, item_id}
 use Rattle.deformatter.specs.Reading.{PortStream, port_stream, items_of, fulls_of}
 
--- What a port's bytes read as: the cells of each frame, in order; how many full and half synchronisations, a half one inside
--- an unfinished frame too; the fault; how many bytes are behind the last whole frame or synchronisation; how many were skipped;
--- and whether it reads.
+-- What a port's bytes read as: the cells of each frame, in order; how many full and half synchronisations, a half one
+-- inside an unfinished frame too; the fault; how many bytes are after the last whole frame or synchronisation; how many
+-- were skipped; and whether it reads.
 pub record PortReading : Type 0 where
   pub frames : List (List Cell)
   pub fulls : ℕ
@@ -22,13 +24,13 @@ pub record PortReading : Type 0 where
   pub skipped : ℕ
   pub locked : Bool
 
--- the frames that an item is, each by its cells behind this ID: none, or one
+-- the frames that an item is, each by its cells after this ID: none, or one
 abbrev pub item_frames : Option ℕ → PortItem → List (List Cell)
 item_frames id Full = []
 item_frames id Half = []
 item_frames id (Frame f halves) = item_cells id (Frame f halves) ∷ []
 
--- the cells of each frame of some items, behind this ID: synchronisations leave the ID as it is
+-- the cells of each frame of some items, after this ID: synchronisations leave the ID as it is
 abbrev pub frames_of_items : Option ℕ → List PortItem → List (List Cell)
 frames_of_items id [] = []
 frames_of_items id (p ∷ items) = item_frames id p ++ frames_of_items (item_id id p) items
@@ -51,7 +53,15 @@ bare_cell b = record { at = b.place.at; id = Some 1; run = 0; byte = b.unit }
 
 -- the reading of bytes with no formatter: each byte is a frame of its own, and nothing is skipped, left over or wrong
 abbrev pub bare : List Placed → PortReading
-bare u = record { frames = map (λ b. bare_cell b ∷ []) u; fulls = 0; halves = 0; fault = None; tail = 0; skipped = 0; locked = true }
+bare u = record {
+  frames = map (λ b. bare_cell b ∷ []) u;
+  fulls = 0;
+  halves = 0;
+  fault = None;
+  tail = 0;
+  skipped = 0;
+  locked = true;
+}
 
 -- the reading in a mode
 abbrev pub port_reading : FramesMode → List Placed → PortReading

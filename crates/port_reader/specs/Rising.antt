@@ -20,7 +20,7 @@ BytesRise lo hi u = Rise lo hi (offsets_of u)
 abbrev pub CellsRise : ℕ → ℕ → List Cell → Type 0
 CellsRise lo hi cells = Rise lo hi (offsets_in cells)
 
--- the number behind the last of these, or lo where there is none
+-- the number after the last of these, or lo where there is none
 abbrev pub end_at : ℕ → List ℕ → ℕ
 end_at lo [] = lo
 end_at lo (x ∷ xs) = end_at (x + 1) xs

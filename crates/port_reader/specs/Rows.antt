@@ -20,4 +20,5 @@ sync_row mode text = let r = reading_row mode text in (r.fulls, r.halves)
 
 -- whether it reads, how many bytes it skipped, how many are left over, and the fault with its offset
 abbrev pub end_row : FramesMode → List ℕ → Bool × ℕ × ℕ × Option (ℕ × Reason)
-end_row mode text = let r = reading_row mode text in (r.locked, r.skipped, r.tail, option_map (λ f. (f.0.at, f.1)) r.fault)
+end_row mode text =
+    let r = reading_row mode text in (r.locked, r.skipped, r.tail, option_map (λ f. (f.0.at, f.1)) r.fault)

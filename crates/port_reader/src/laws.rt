@@ -7,7 +7,8 @@ ghost use Rattle.trace_values.specs.Placed.{Placed, byte_at, placed_from, placed
 ghost use Rattle.capture_plan.specs.declared.frames.FramesMode.{FramesMode};
 ghost use Rattle.capture_plan.specs.declared.frames.FramesMode.TheVariants.{Hunt, Aligned, Bare};
 ghost use Rattle.frame_grammar.specs.Port.{PortItem};
-ghost use Rattle.frame_grammar.specs.Reading.{cells_of_items, port_cells, full_count, half_count, frame_count, port_reading as grammar_reading};
+ghost use Rattle.frame_grammar.specs.Reading.{cells_of_items, port_cells, full_count, half_count, frame_count};
+ghost use Rattle.frame_grammar.specs.Reading.{port_reading as grammar_reading};
 ghost use Rattle.deformatter.specs.Reading.{port_stream, cells_in};
 ghost use Rattle.port_reader.specs.Reading.{PortReading, frames_of_items, port_reading, cells_of};
 ghost use Rattle.port_reader.specs.ByGrammar.{IsPortReading};
@@ -42,9 +43,10 @@ pub fn port_law()
         cells_of (port_reading Bare u) ≡ map (λ b. record { at = b.place.at; id = Some 1; run = 0; byte = b.unit }) u }
 {}
 
-/// The frames of items have the cells of these items, behind any ID.
+/// The frames of items have the cells of these items, after any ID.
 pub fn items_law()
-    ensures { (id : Option ℕ) (items : List PortItem) → flat_map (λ frame. frame) (frames_of_items id items) ≡ cells_of_items id items }
+    ensures { (id : Option ℕ) (items : List PortItem) →
+        flat_map (λ frame. frame) (frames_of_items id items) ≡ cells_of_items id items }
 {}
 
 /// Of no bytes nothing is read.
@@ -71,8 +73,10 @@ pub fn runs_law()
     ensures { (mode : FramesMode) (u : List Placed) → HaveRuns (port_reading mode u).frames }
 {}
 
-/// The cells of all frames rise in offset as the bytes do; those of a whole capture stand below its length.
+/// The cells of all frames rise in offset as the bytes do; those of a whole capture are below its length.
 pub fn placed_law()
-    ensures rises { (mode : FramesMode) (u : List Placed) (lo hi : ℕ) → BytesRise lo hi u → CellsRise lo hi (cells_of (port_reading mode u)) }
-    ensures capture { (mode : FramesMode) (bytes : List ℕ) → CellsRise 0 (length bytes) (cells_of (port_reading mode (placed bytes))) }
+    ensures rises { (mode : FramesMode) (u : List Placed) (lo hi : ℕ) → BytesRise lo hi u →
+        CellsRise lo hi (cells_of (port_reading mode u)) }
+    ensures capture { (mode : FramesMode) (bytes : List ℕ) →
+        CellsRise 0 (length bytes) (cells_of (port_reading mode (placed bytes))) }
 {}

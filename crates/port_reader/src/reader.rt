@@ -5,6 +5,7 @@ ghost use Rattle.deformatter.specs.Deformatter.{is_hunter};
 ghost use Rattle.trace_values.specs.Placed.{byte_at};
 ghost use Rattle.port_reader.specs.Reading.{bare_cell};
 ghost use Rattle.port_reader.specs.Modes.{hunts};
+ghost use Rattle.trace_values.specs.declared.limits.TheConstants.{COUNT_ROOM};
 
 use arrayvec::ArrayVec;
 use capture_plan::FramesMode;
@@ -45,7 +46,8 @@ impl PortReader {
     ghost use Rattle.deformatter.specs.Growth.{goes_on};
     ghost use Rattle.port_reader.specs.Reading.{port_reading};
     ghost use Rattle.port_reader.specs.Growth.{Answers, Grows, GrowsByFrame};
-    ghost use Rattle.port_reader.specs.Reader.{Stands, IsBetween, mode_of, id_of, is_live, has_locked, tail_of, skipped_by};
+    ghost use Rattle.port_reader.specs.Reader.{Stands, IsBetween, mode_of, id_of, is_live, has_locked, tail_of};
+    ghost use Rattle.port_reader.specs.Reader.{skipped_by};
 
     /// A reader before the first byte.
     pub fn new(mode: FramesMode) -> PortReader
@@ -68,11 +70,12 @@ impl PortReader {
         self.mode
     }
 
-    /// False exactly behind a fault; with no formatter there is none.
+    /// False exactly after a fault; with no formatter there is none.
     #[inline]
     pub fn is_live(&self) -> bool
         ensures value { result ≡ is_live self.now }
-        ensures list { (u : List Placed) → Stands self.now u → result ≡ is_none (port_reading (mode_of self.now) u).fault }
+        ensures list { (u : List Placed) → Stands self.now u →
+            result ≡ is_none (port_reading (mode_of self.now) u).fault }
     {
         match self.mode {
             FramesMode::Bare => true,
@@ -91,7 +94,7 @@ impl PortReader {
         }
     }
 
-    /// How many bytes stand before the full synchronisation that is hunted; before the lock, all bytes so
+    /// How many bytes are before the full synchronisation that is hunted; before the lock, all bytes so
     /// far; in the other modes 0.
     pub fn skipped(&self) -> u64
         requires { is_live self.now ≡ true }
@@ -104,7 +107,7 @@ impl PortReader {
         }
     }
 
-    /// How many bytes stand behind the last whole frame or synchronisation, those of half synchronisations
+    /// How many bytes are after the last whole frame or synchronisation, those of half synchronisations
     /// inside an unfinished frame too; 0 before the lock, and with no formatter.
     pub fn tail(&self) -> u64
         requires { is_live self.now ≡ true }
@@ -146,7 +149,8 @@ impl PortReader {
         ensures list { (u w f : List Placed) (halves : ℕ) → Stands self.old u → Spells (Frame f halves) w →
             after ≡ id_after (units_of f) (id_of self.old) → Stands self.new (u ++ w) }
         ensures grows { (u w f : List Placed) (halves : ℕ) → Stands self.old u → Spells (Frame f halves) w →
-            GrowsByFrame (port_reading (mode_of self.old) u) (port_reading (mode_of self.old) (u ++ w)) halves (cells (units_of f) (offsets_of f) (id_of self.old)) }
+            GrowsByFrame (port_reading (mode_of self.old) u) (port_reading (mode_of self.old) (u ++ w)) halves
+            (cells (units_of f) (offsets_of f) (id_of self.old)) }
         ensures live { is_live self.new ≡ true }
         ensures few { tail_of self.new + skipped_by self.new ≡ tail_of self.old + skipped_by self.old }
     {
@@ -170,9 +174,11 @@ impl PortReader {
         ensures same { mode_of self.new ≡ mode_of self.old }
         ensures bytes { (0 < result.bytes) × (result.bytes ≤ length piece.now) }
         ensures stops { result.step ≡ Quiet → result.bytes ≡ length piece.now }
-        ensures list { (u : List Placed) → Stands self.old u → Stands self.new (u ++ placed_from at (take result.bytes piece.now)) }
+        ensures list { (u : List Placed) → Stands self.old u →
+            Stands self.new (u ++ placed_from at (take result.bytes piece.now)) }
         ensures fed { (u : List Placed) → Stands self.old u →
-            FedAs (Answers (mode_of self.old) Quiet []) (Answers (mode_of self.old) result.step out.new.items) u at (take result.bytes piece.now) }
+            FedAs (Answers (mode_of self.old) Quiet []) (Answers (mode_of self.old) result.step out.new.items) u at
+            (take result.bytes piece.now) }
         ensures live { is_live self.new ≡ goes_on result.step }
         ensures few { tail_of self.new + skipped_by self.new ≤ tail_of self.old + skipped_by self.old + result.bytes }
     {
@@ -188,18 +194,19 @@ impl PortReader {
         }
     }
 
-    /// Takes the next byte, which stands at this offset of the capture. Where the byte ends a frame, `out`
+    /// Takes the next byte, which is at this offset of the capture. Where the byte ends a frame, `out`
     /// has the frame's cells afterwards, and else nothing. With no formatter each byte ends a frame, of one cell.
     #[inline]
     pub fn feed(&mut self, at: u64, byte: u8, out: &mut ArrayVec<Cell, 15>) -> PortStep
         requires live { is_live self.old ≡ true }
         requires out { out.old.items ≡ [] }
-        requires room { tail_of self.old ≤ 2 ^ 60 }
-        requires count { skipped_by self.old ≤ 2 ^ 60 }
+        requires room { tail_of self.old ≤ COUNT_ROOM }
+        requires count { skipped_by self.old ≤ COUNT_ROOM }
         ensures same { mode_of self.new ≡ mode_of self.old }
         ensures list { (u : List Placed) → Stands self.old u → Stands self.new (u ++ byte_at at byte ∷ []) }
         ensures step { (u : List Placed) → Stands self.old u →
-            Grows (port_reading (mode_of self.old) u) (port_reading (mode_of self.old) (u ++ byte_at at byte ∷ [])) at result out.new.items }
+            Grows (port_reading (mode_of self.old) u) (port_reading (mode_of self.old) (u ++ byte_at at byte ∷ []))
+            at result out.new.items }
         ensures live { is_live self.new ≡ goes_on result }
         ensures few { tail_of self.new + skipped_by self.new ≤ tail_of self.old + skipped_by self.old + 1 }
     {

@@ -10,7 +10,8 @@ ghost use Rattle.port_reader.specs.Rows.{frame_row, sync_row, end_row};
 pub fn aligned()
     ensures frames { frame_row Aligned (codes "FF 7F 21 FF FE FF FE FF FE FF FE FF FE FF FE FF FE FF FF FF FF 7F") ≡
         ((3, None, 0, 255) ∷ (4, Some 16, 1, 255) ∷ (5, Some 16, 1, 255) ∷ (6, Some 16, 1, 255) ∷ (7, Some 16, 1, 255)
-        ∷ (8, Some 16, 1, 255) ∷ (9, Some 16, 1, 255) ∷ (10, Some 16, 1, 255) ∷ (11, Some 16, 1, 255) ∷ (12, Some 16, 1, 255)
+        ∷ (8, Some 16, 1, 255) ∷ (9, Some 16, 1, 255) ∷ (10, Some 16, 1, 255) ∷ (11, Some 16, 1, 255)
+        ∷ (12, Some 16, 1, 255)
         ∷ (13, Some 16, 1, 255) ∷ (14, Some 16, 1, 255) ∷ (15, Some 16, 1, 255) ∷ (16, Some 16, 1, 255) ∷ []) ∷ [] }
     ensures syncs { sync_row Aligned (codes "FF 7F 21 FF FE FF FE FF FE FF FE FF FE FF FE FF FE FF FF FF FF 7F") ≡ (1, 1) }
     ensures end { end_row Aligned (codes "FF 7F 21 FF FE FF FE FF FE FF FE FF FE FF FE FF FE FF FF FF FF 7F") ≡ (true, 0, 0, None) }

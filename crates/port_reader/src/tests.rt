@@ -21,7 +21,7 @@ const BROKEN: Fault = Fault {
     reason: Reason::BadSync,
 };
 
-/// What a reader shows behind some bytes: whether it is live and whether it reads, and how many bytes
+/// What a reader shows after some bytes: whether it is live and whether it reads, and how many bytes
 /// are left over and skipped.
 #[derive(Drop)]
 struct Shown {
@@ -54,7 +54,7 @@ fn feed(
     port.feed(at as u64, byte, out)
 }
 
-/// The reader shows this behind these bytes.
+/// The reader shows this after these bytes.
 fn expect_shown(rt: &impl Abort, port: &PortReader, want: &Shown, bytes: &[u8]) {
     let mode = port.mode();
     assert_eq!(rt; port.is_live(), want.live, "{mode:?} {bytes:?}");
@@ -66,7 +66,7 @@ fn expect_shown(rt: &impl Abort, port: &PortReader, want: &Shown, bytes: &[u8]) 
 }
 
 /// Takes these bytes, which must give these steps at these offsets and no step at any other, and what is
-/// shown behind them.
+/// shown after them.
 fn expect(
     rt: &impl Abort,
     mode: FramesMode,

@@ -1,4 +1,6 @@
--- The table of halfwords and synchronisations, and what the port's grammar says by it.
+-- The table of halfwords and synchronisations (CoreSight Architecture Specification, Arm IHI 0029E (version 3.0),
+-- chapter 'Trace Formatter', its section on frames), and what the port's grammar says by it. Which bytes are faults is
+-- this project's profile.
 use Rattle.std.specs.Prelude.{◌≡◌, ◌≢◌, ℕ, ◌+◌, ◌-◌, List, [], ◌∷◌, ◌++◌, Bool, true, false, not, ◌==◌, if◌then◌else◌}
 use Rattle.trace_values.specs.declared.fault.Reason.TheVariants.{BadSync, SyncInFrame}
 use Rattle.trace_values.specs.declared.next.Next.{Next}
@@ -11,11 +13,13 @@ use Rattle.port_sync.specs.declared.aligner.Half.TheVariants.{Pair, HalfSync, Fu
 use Rattle.port_sync.specs.declared.aligner.Part.{Part}
 use Rattle.port_sync.specs.declared.aligner.Part.TheVariants.{Between, First, One, Two, Three}
 
--- what a byte ends behind this part, where so many halfwords of the frame follow the next one (7 between frames)
+-- what a byte ends after this part, where this many halfwords of the frame follow the next one (7 between frames)
 abbrev pub said : ℕ → Part → ℕ → Half
 said left Between b = Waiting
 said left (First a) b = Pair a b
-said left One b = if b == 0x7F then HalfSync else (if b == 0xFF then (if left == 7 then Waiting else Bad SyncInFrame) else Bad BadSync)
+said left One b =
+    if b == 0x7F then HalfSync
+    else (if b == 0xFF then (if left == 7 then Waiting else Bad SyncInFrame) else Bad BadSync)
 said left Two b = if b == 0xFF then Waiting else Bad BadSync
 said left Three b = if b == 0x7F then FullSync else Bad BadSync
 
@@ -27,7 +31,7 @@ longer One b = Two
 longer Two b = Three
 longer Three b = Three
 
--- the part and the halfwords left, behind this answer
+-- the part and the halfwords left, after this answer
 abbrev pub part_after : Half → Part → ℕ → Part
 part_after (Pair a b) part byte = Between
 part_after HalfSync part byte = Between
@@ -49,7 +53,7 @@ is_bad FullSync = false
 is_bad Waiting = false
 is_bad (Bad e) = true
 
--- a halfword does not begin with FF, and two or three FF stand between frames
+-- a halfword does not begin with FF, and two or three FF are between frames
 abbrev pub is_fit : ℕ → Part → Bool
 is_fit left Between = true
 is_fit left (First a) = not (a == 0xFF)
@@ -57,7 +61,7 @@ is_fit left One = true
 is_fit left Two = left == 7
 is_fit left Three = left == 7
 
--- no halfword begins with FF, and full synchronisations stand between frames
+-- no halfword begins with FF, and full synchronisations are between frames
 abbrev pub IsSoundAnswer : ℕ → Half → Type 0
 IsSoundAnswer left (Pair a b) = a ≢ 0xFF
 IsSoundAnswer left FullSync = left ≡ 7
@@ -71,7 +75,7 @@ size_of One = 1
 size_of Two = 2
 size_of Three = 3
 
--- the part in the port's grammar, where its first byte stands at this offset
+-- the part in the port's grammar, where its first byte is at this offset
 abbrev pub placed_part : Part → ℕ → port.Part
 placed_part Between at = port.Between
 placed_part (First a) at = port.First (byte_at at a)
@@ -85,9 +89,11 @@ state left bytes halves part at = record { left = left; bytes = bytes; halves = 
 
 -- what the grammar's rule says of a byte at the offset here, by what the byte ends
 abbrev pub outcome : ℕ → List Placed → ℕ → Part → ℕ → ℕ → ℕ → Half → Next State PortItem
-outcome left bytes halves part at here byte (Pair a b) = word_ended left (bytes ++ (byte_at at a ∷ (byte_at here b ∷ []))) halves
+outcome left bytes halves part at here byte (Pair a b) =
+    word_ended left (bytes ++ (byte_at at a ∷ (byte_at here b ∷ []))) halves
 outcome left bytes halves part at here byte HalfSync =
-    if left == 7 then End port.Half else Go (record { left = left; bytes = bytes; halves = halves + 1; part = port.Between })
+    if left == 7 then End port.Half
+    else Go (record { left = left; bytes = bytes; halves = halves + 1; part = port.Between })
 outcome left bytes halves part at here byte FullSync = End port.Full
 outcome left bytes halves part at here byte Waiting = Go (state left bytes halves (longer part byte) here)
 outcome left bytes halves part at here byte (Bad e) = Fail e

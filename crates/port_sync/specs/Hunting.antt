@@ -1,4 +1,5 @@
--- The hunt for a full synchronisation.
+-- The hunt for a full synchronisation, the 'frame synchronization packet' (CoreSight Architecture Specification, Arm
+-- IHI 0029E (version 3.0), chapter 'Trace Formatter', its section on frames).
 use Rattle.std.specs.Prelude.{ℕ, List}
 use Rattle.trace_values.specs.declared.pattern.Pattern.{Pattern}
 use Rattle.trace_values.specs.Hunt.{EndsInRun}

@@ -20,7 +20,7 @@ pub enum Half {
     Bad(Reason),
 }
 
-/// What of a halfword or a synchronisation is there: nothing, a halfword's first byte, or so many FF.
+/// What of a halfword or a synchronisation is there: nothing, a halfword's first byte, or this many FF.
 #[derive(Clone, Copy, Debug, PartialEq, Eq, Drop)]
 pub enum Part {
     Between,
@@ -62,7 +62,7 @@ impl Aligner {
         }
     }
 
-    /// False exactly behind a byte that was `Bad`.
+    /// False exactly after a byte that was `Bad`.
     #[inline]
     pub fn is_live(&self) -> bool
         ensures { result ≡ is_live self.now }
@@ -174,7 +174,7 @@ mod tests {
         }
     }
 
-    /// An aligner inside a frame, behind so many halfwords of it.
+    /// An aligner inside a frame, after this many halfwords of it.
     fn inside(rt: &impl Abort, words: u8) -> Aligner {
         let mut aligner = Aligner::new();
         for _word in 0..words {

@@ -9,5 +9,6 @@ ghost use Rattle.port_sync.specs.declared.aligner.Part.{Part};
 /// With one more byte the grammar's rule says what the table of halfwords and synchronisations says.
 pub fn rule_law()
     ensures { (left : ℕ) (bytes : List Placed) (halves : ℕ) (part : Part) (at here byte : ℕ) →
-        rule (state left bytes halves part at) (byte_at here byte) ≡ outcome left bytes halves part at here byte (said left part byte) }
+        rule (state left bytes halves part at) (byte_at here byte)
+        ≡ outcome left bytes halves part at here byte (said left part byte) }
 {}

@@ -17,7 +17,7 @@ count_step : (p : ℕ → Bool) (a n : ℕ) → count_by p (range_with_len a (su
 count_step p a n = sum_by-cons (λ (r : ℕ). cond (p r) 1 0) a (range_with_len (a + 1) n)
 
 -- two tests that agree count the same
-count_same : (p q : ℕ → Bool) (a n : ℕ) → ((r : ℕ) → a ≤ r → p r ≡ q r) → count_by p (range_with_len a n) ≡ count_by q (range_with_len a n)
+pub count_same : (p q : ℕ → Bool) (a n : ℕ) → ((r : ℕ) → a ≤ r → p r ≡ q r) → count_by p (range_with_len a n) ≡ count_by q (range_with_len a n)
 count_same p q a zero h = refl
 count_same p q a (suc n) h =
     count_step p a n
@@ -32,7 +32,7 @@ here_or_on : (a k : ℕ) → a ≤ k → (k ≡ a) ⊎ (a + 1 ≤ k)
 here_or_on a k h = grind arith
 
 -- one that agrees but for one number more counts one more
-count_more : (p q : ℕ → Bool) (k a n : ℕ) → a ≤ k → k < a + n → ((r : ℕ) → r ≢ k → p r ≡ q r) → p k ≡ true → q k ≡ false →
+pub count_more : (p q : ℕ → Bool) (k a n : ℕ) → a ≤ k → k < a + n → ((r : ℕ) → r ≢ k → p r ≡ q r) → p k ≡ true → q k ≡ false →
     count_by p (range_with_len a n) ≡ count_by q (range_with_len a n) + 1
 count_more p q k a zero l m h t f = absurd (omega arith)
 count_more p q k a (suc n) l m h t f = elim (here_or_on a k l) [
@@ -111,7 +111,7 @@ module _ (id : ℕ) (cs : List Cell) (c : Cell) where
   unfolding is_run
   no_run h = same_runs (λ r e. (let f = and_false (is_source id c.id) (c.run == r) h in cc))
 
-  -- a cell behind one of its run
+  -- a cell after one of its run
   old_run : is_source id c.id ≡ true → (d : Cell) → Contains cs d → d.id ≡ c.id → d.run ≡ c.run → runs_of id (cs ++ c ∷ []) ≡ runs_of id cs
   unfolding is_run
   old_run s d w i e = same_runs (λ r h.
@@ -119,7 +119,7 @@ module _ (id : ℕ) (cs : List Cell) (c : Cell) where
       (subst (λ (x : Cell). is_run r x ≡ true) (sym w.2)
       (and_true (is_source id d.id) (d.run == r) (ap (is_source id) i ∙ s) (ap (λ (n : ℕ). n == r) e ∙ and_right (is_source id c.id) (c.run == r) h))))
 
-  -- a cell behind those of lower runs
+  -- a cell after those of lower runs
   new_run : is_source id c.id ≡ true → c.run ≤ 8 → All (λ x. x.run < c.run) cs → runs_of id (cs ++ c ∷ []) ≡ runs_of id cs + 1
   unfolding is_run
   new_run s l h =
@@ -129,7 +129,7 @@ module _ (id : ℕ) (cs : List Cell) (c : Cell) where
       (list_any_none (is_run c.run) cs (All-weaker (λ x. x.run < c.run) (λ x. is_run c.run x ≡ false)
       (λ x k. and_none (is_source id x.id) (x.run == c.run) (other_number x.run c.run (λ e. (let g : x.run ≡ c.run = e in omega arith)))) cs h))
 
--- a cell of this run begins a run behind a cell of that run, or behind none
+-- a cell of this run begins a run after a cell of that run, or after none
 abbrev pub begins : Option ℕ → ℕ → Bool
 begins None run = true
 begins (Some before) run = not (before == run)
@@ -151,7 +151,7 @@ runs_up cs c h = λ k d l.
     (let e : (get_or (cs ++ c ∷ []) k d).run ≤ (get_or (cs ++ c ∷ []) (length cs) d).run = h.in_order k (length cs) d (omega (arith, length-append cs (c ∷ []))) (omega (arith, length-append cs (c ∷ []))) in
     subst (λ (x : Cell). (get_or (cs ++ c ∷ []) k d).run ≤ x.run) (get_or_at cs c [] d (length cs) refl) e)
 
--- behind one more cell
+-- after one more cell
 pub behind_cell : (cs : List Cell) (c : Cell) → HasRuns (cs ++ c ∷ []) → IsBehind (Some c.run) (cs ++ c ∷ [])
 behind_cell cs c h = record { cell = c; within = Contains-push cs c; run_is = refl; most = runs_up cs c h }
 

@@ -1,5 +1,6 @@
--- How much each source sent, over the cells of each frame of a capture (CoreSight Architecture Specification, formatter, for
--- the IDs; this project's profile for the items).
+-- How much each source sent, over the cells of each frame of a capture. The IDs 0 (null) and 125 (trigger) are as in
+-- CoreSight Architecture Specification, Arm IHI 0029E (version 3.0), chapter 'Trace Formatter', its section on frames;
+-- what an item is is this project's profile.
 use Rattle.std.specs.Prelude.{ℕ, List, length, Bool, ◌==◌, ◌&&◌, if◌then◌else◌, is_none}
 use Rattle.std.specs.List.{flat_map, count_by, sum_by, list_any, range_with_len}
 use Rattle.trace_values.specs.declared.cell.Cell.{Cell}
@@ -31,7 +32,9 @@ runs_of id cells = count_by (has_run id cells) (range_with_len 0 9)
 
 -- its items in one frame: none of the null source, each byte of the trigger source, and each run of any other
 abbrev pub frame_items : ℕ → List Cell → ℕ
-frame_items id cells = if id == null_source then 0 else (if id == trigger_source then length (source_list id cells) else runs_of id cells)
+frame_items id cells =
+    if id == null_source then 0
+    else (if id == trigger_source then length (source_list id cells) else runs_of id cells)
 
 -- its items
 abbrev pub items_of : ℕ → List (List Cell) → ℕ

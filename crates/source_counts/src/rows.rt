@@ -7,9 +7,12 @@ ghost use Rattle.source_counts.specs.Rows.{cells_of, count_row};
 /// One frame whose cells go from a source to the null source and back: each run of the source is an item,
 /// and the null source has none.
 pub fn one_frame()
-    ensures source { count_row 1 ((cells_of (Some 1) 1 2 ++ cells_of (Some 0) 2 3 ++ cells_of (Some 1) 3 1) ∷ []) ≡ (3, 2) }
-    ensures null { count_row 0 ((cells_of (Some 1) 1 2 ++ cells_of (Some 0) 2 3 ++ cells_of (Some 1) 3 1) ∷ []) ≡ (3, 0) }
-    ensures absent { count_row 2 ((cells_of (Some 1) 1 2 ++ cells_of (Some 0) 2 3 ++ cells_of (Some 1) 3 1) ∷ []) ≡ (0, 0) }
+    ensures source { count_row 1 ((cells_of (Some 1) 1 2 ++ cells_of (Some 0) 2 3 ++ cells_of (Some 1) 3 1) ∷ [])
+        ≡ (3, 2) }
+    ensures null { count_row 0 ((cells_of (Some 1) 1 2 ++ cells_of (Some 0) 2 3 ++ cells_of (Some 1) 3 1) ∷ [])
+        ≡ (3, 0) }
+    ensures absent { count_row 2 ((cells_of (Some 1) 1 2 ++ cells_of (Some 0) 2 3 ++ cells_of (Some 1) 3 1) ∷ [])
+        ≡ (0, 0) }
 {}
 
 /// Frames of one source, one of them without a cell: items end with their frame.

@@ -2,13 +2,14 @@
 
 ghost use Rattle.std.specs.Prelude.{◌≡◌, ℕ, ◌≤◌, slice_index};
 ghost use Rattle.source_counts.specs.Adding.{begins_item, items_by_run};
+ghost use Rattle.trace_values.specs.declared.limits.TheConstants.{COUNT_ROOM};
+ghost use Rattle.frame_grammar.specs.declared.frame.TheConstants.{FRAME_BYTES};
+ghost use Rattle.frame_grammar.specs.declared.source_bytes.TheConstants.{NO_ID};
 
 use crate::counts::Counts;
-use frame_grammar::source_bytes::id_bits;
-use trace_values::{Cell, SourceId};
-
-/// How many IDs there are: 0 to 126.
-const SOURCES: usize = 127;
+use frame_grammar::frame::FRAME_BYTES;
+use frame_grammar::source_bytes::{NO_ID, id_bits};
+use trace_values::{Cell, ID_COUNT, SourceId};
 
 /// The null source, whose bytes make no items.
 const NULL: u8 = 0;
@@ -22,15 +23,16 @@ const TRIGGER: u8 = 125;
 /// in one run of one frame are one item.
 #[derive(Debug, Drop)]
 pub struct SourceCounts {
-    bytes: [u64; SOURCES],
-    items: [u64; SOURCES],
+    bytes: [u64; ID_COUNT],
+    items: [u64; ID_COUNT],
     unattributed: u64,
     frames: u64,
     ghost fewer: { (id : ℕ) → slice_index items id ≤ slice_index bytes id },
 }
 
 impl SourceCounts {
-    ghost use Rattle.std.specs.Prelude.{◌≡◌, ◌≤◌, ◌<◌, ◌+◌, ◌^◌, ℕ, List, [], ◌∷◌, ◌++◌, length, slice_index, Option, is_none, if◌then◌else◌};
+    ghost use Rattle.std.specs.Prelude.{◌≡◌, ◌≤◌, ◌<◌, ◌+◌, ℕ, List, [], ◌∷◌, ◌++◌, length, slice_index, Option};
+    ghost use Rattle.std.specs.Prelude.{is_none, if◌then◌else◌};
     ghost use Rattle.trace_values.specs.declared.cell.Cell.{Cell};
     ghost use Rattle.frame_grammar.specs.Runs.{HasRuns};
     ghost use Rattle.source_counts.specs.Counts.{bytes_of, items_of, unattributed_of};
@@ -45,8 +47,8 @@ impl SourceCounts {
         ensures total { total_of result ≡ 0 }
     {
         SourceCounts {
-            bytes: [0; SOURCES],
-            items: [0; SOURCES],
+            bytes: [0; ID_COUNT],
+            items: [0; ID_COUNT],
             unattributed: 0,
             frames: 0,
         }
@@ -54,10 +56,10 @@ impl SourceCounts {
 
     /// Counts the cells of one more frame, which may be none.
     ///
-    /// With them at most 2^60 cells and frames have been counted. The items are counted by neighbours, which is right
-    /// where the runs never fall, as those of a frame's cells.
+    /// With them at most `COUNT_ROOM` cells and frames have been counted. The items are counted by neighbours, which is
+    /// right where the runs never fall, as those of a frame's cells.
     pub fn add_frame(&mut self, cells: &[Cell])
-        requires { total_of self.old + length cells.now + 1 ≤ 2 ^ 60 }
+        requires { total_of self.old + length cells.now + 1 ≤ COUNT_ROOM }
         ensures bytes { (frames : List (List Cell)) → HasBytes self.old frames →
             HasBytes self.new (frames ++ cells.now ∷ []) }
         ensures items { (frames : List (List Cell)) → HasRuns cells.now → HasItems self.old frames →
@@ -74,19 +76,19 @@ impl SourceCounts {
 
     /// Counts the cells of one more frame by its bytes, where `before` is the ID before it, and gives the ID after it.
     ///
-    /// With them at most 2^60 cells and frames have been counted.
+    /// With them at most `COUNT_ROOM` cells and frames have been counted.
     pub fn add_frame_bytes(
         &mut self,
-        frame: &[u8; 16],
+        frame: &[u8; FRAME_BYTES],
         before: Option<SourceId>,
     ) -> Option<SourceId>
-        requires { total_of self.old + 16 ≤ 2 ^ 60 }
+        requires { total_of self.old + FRAME_BYTES ≤ COUNT_ROOM }
         ensures bytes { (frames : List (List Cell)) (at : List ℕ) → HasBytes self.old frames →
             HasBytes self.new (frames ++ cells frame.now at before ∷ []) }
         ensures items { (frames : List (List Cell)) (at : List ℕ) → HasItems self.old frames →
             HasItems self.new (frames ++ cells frame.now at before ∷ []) }
         ensures after { result ≡ id_after frame.now before }
-        ensures total { total_of self.new ≤ total_of self.old + 16 }
+        ensures total { total_of self.new ≤ total_of self.old + FRAME_BYTES }
     {
         let auxiliary = frame[15];
         let mut id = id_bits(before);
@@ -116,11 +118,11 @@ impl SourceCounts {
         }
     }
 
-    /// Counts this many cells of one run, whose ID has these seven bits; 127 is no ID.
+    /// Counts this many cells of one run, whose ID has these seven bits, or `NO_ID`.
     #[inline]
     fn add_run(&mut self, id: u8, count: u64)
-        requires id { id ≤ 127 }
-        requires room { total_of self.old + count ≤ 2 ^ 60 }
+        requires id { id ≤ NO_ID }
+        requires room { total_of self.old + count ≤ COUNT_ROOM }
         ensures bytes { (k : ℕ) → slice_index self.new.bytes k ≡
             slice_index self.old.bytes k + run_bytes k (source_id id) count }
         ensures items { (k : ℕ) → slice_index self.new.items k ≡
@@ -130,7 +132,7 @@ impl SourceCounts {
         ensures frames { self.new.frames ≡ self.old.frames }
         ensures total { total_of self.new ≡ total_of self.old + count }
     {
-        if id == 127 {
+        if id == NO_ID {
             self.unattributed += count;
         } else {
             let source = usize::from(id);
@@ -141,7 +143,7 @@ impl SourceCounts {
 
     /// Counts a cell, which begins a run or not.
     fn add_cell(&mut self, cell: &Cell, new_run: bool)
-        requires { total_of self.old < 2 ^ 60 }
+        requires { total_of self.old < COUNT_ROOM }
         ensures bytes { (id : ℕ) → slice_index self.new.bytes id ≡
             slice_index self.old.bytes id + byte_by id cell.now.id }
         ensures items { (id : ℕ) → slice_index self.new.items id ≡
@@ -159,7 +161,7 @@ impl SourceCounts {
     /// Counts a byte of the source of this number, which begins a run or not.
     fn add_byte(&mut self, id: u8, new_run: bool)
         requires source { id ≤ 126 }
-        requires room { total_of self.old < 2 ^ 60 }
+        requires room { total_of self.old < COUNT_ROOM }
         ensures bytes { (k : ℕ) → slice_index self.new.bytes k ≡ slice_index self.old.bytes k + byte_by k (Some id) }
         ensures items { (k : ℕ) → slice_index self.new.items k ≡
             slice_index self.old.items k + item_by k (Some id) new_run }

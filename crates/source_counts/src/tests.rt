@@ -1,8 +1,9 @@
 //! Frames, and what is counted of them.
 
-ghost use Rattle.std.specs.Prelude.{◌≡◌, IsTrue, ◌+◌, ◌*◌, ◌^◌, ◌≤◌, length};
+ghost use Rattle.std.specs.Prelude.{◌≡◌, IsTrue, ◌+◌, ◌*◌, ◌≤◌, length};
 ghost use Rattle.frame_grammar.specs.Frame.{IsProperFrame};
 ghost use Rattle.source_counts.specs.Kept.{total_of};
+ghost use Rattle.trace_values.specs.declared.limits.TheConstants.{COUNT_ROOM};
 
 use crate::counts::Counts;
 use crate::source_counts::SourceCounts;
@@ -29,7 +30,7 @@ fn add(
     frame: &[u8; 16],
     id: Option<SourceId>,
 ) -> Option<SourceId>
-    requires { total_of counts.old + 16 ≤ 2 ^ 60 }
+    requires { total_of counts.old + 16 ≤ COUNT_ROOM }
     ensures { total_of counts.new ≤ total_of counts.old + 16 }
 {
     assert!(rt; is_proper(frame));
@@ -129,7 +130,7 @@ fn counts_worked_frames(rt: HostRuntime) {
 
 /// Counts a cell of this source that is a frame alone.
 fn add_alone(counts: &mut SourceCounts, id: SourceId)
-    requires { total_of counts.old + 2 ≤ 2 ^ 60 }
+    requires { total_of counts.old + 2 ≤ COUNT_ROOM }
     ensures { total_of counts.new ≡ total_of counts.old + 2 }
 {
     let cells = [Cell {

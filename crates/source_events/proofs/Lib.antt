@@ -8,3 +8,10 @@ pub mod Least
 pub mod Settling
 pub mod Blocks
 pub mod LockSteps
+pub mod RunNumbers
+pub mod Growth
+pub mod Lawful
+pub mod Captures
+pub mod Merging
+pub mod ItemCounts
+pub mod ReportCounts

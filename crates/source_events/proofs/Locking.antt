@@ -52,22 +52,28 @@ at_least p = from_zero p.at p.half where
   from_zero zero half = inr (refl, (let k : 0 ≤ half = omega arith in k))
   from_zero (suc at) half = inl (let k : 0 < suc at = omega arith in k)
 
+-- the offset after the first of what is given, or lo where nothing is
+abbrev pub first_end : {V : Type 0} → ℕ → List (What V × Place) → ℕ
+first_end lo [] = lo
+first_end lo (x ∷ given) = x.1.at + 1
+
 -- What the port gives comes first, and the cells after it.
 pub record IsFirstOf {V : Type 0} (lo hi : ℕ) (given : List (What V × Place)) (cells : List Cell) : Type 0 where
-  pub start : ℕ
-  pub from : lo ≤ start
-  pub first : AllIn (start_of 0) start given
-  pub rises : CellsRise start hi cells
+  pub from : lo ≤ first_end lo given
+  pub first : AllIn (start_of 0) (first_end lo given) given
+  pub rises : CellsRise (first_end lo given) hi cells
 
-module _ (V : Type 0) (skipped lo hi : ℕ) (rest v full w : List Placed) (rise : BytesRise lo hi v)
+itself : (n : ℕ) → n ≤ n
+itself n = omega arith
+
+module _ (V : Type 0) (skipped low lo hi : ℕ) (from : low ≤ lo) (rest v full w : List Placed) (rise : BytesRise lo hi v)
     (sync : units_of full ≡ full_sync) (parts : v ≡ full ++ w) where
   pub items_first : (items : List (PortItem × Place)) → Splits Spells items rest v →
-      IsFirstOf {V = V} lo hi (lock_at skipped items) (cells_of_items None (items_of items))
+      IsFirstOf {V = V} low hi (lock_at skipped items) (cells_of_items None (items_of items))
   items_first [] s = record {
-    start = lo;
-    from = (let k : lo ≤ lo = omega arith in k);
+    from = itself low;
     first = tt;
-    rises = items_rise [] None rest v lo hi s rise;
+    rises = (let k = rise_le (offsets_of v) lo hi rise in let z : low ≤ hi = omega arith in z);
   }
   items_first (x ∷ items) (a, l, z, spelled, split, place, more) =
       let all : v ≡ (a ++ l ∷ []) ++ z = split ∙ sym (append_assoc a (l ∷ []) z) in
@@ -77,9 +83,9 @@ module _ (V : Type 0) (skipped lo hi : ℕ) (rest v full w : List Placed) (rise 
       (ap offsets_of all ∙ map-append (λ (p : Placed). p.place.at) (a ++ l ∷ []) z) rise) in
       let end : end_at lo (offsets_of (a ++ l ∷ [])) ≡ x.1.at + 1 =
       end_last a l lo ∙ ap (λ (p : Place). p.at + 1) (sym place) in
+      let front = rise_le (offsets_of (a ++ l ∷ [])) lo (end_at lo (offsets_of (a ++ l ∷ []))) two.0 in
       record {
-        start = x.1.at + 1;
-        from = subst (λ (n : ℕ). lo ≤ n) end (rise_le (offsets_of (a ++ l ∷ [])) lo (end_at lo (offsets_of (a ++ l ∷ []))) two.0);
+        from = (let k : lo ≤ x.1.at + 1 = subst (λ (n : ℕ). lo ≤ n) end front in omega arith);
         first = (at_least x.1, (let k : x.1.at < x.1.at + 1 = omega arith in k), tt);
         rises =
             subst (λ (p : PortItem). CellsRise (x.1.at + 1) hi (cells_of_items None (p ∷ items_of items))) (sym is_full)
@@ -90,14 +96,12 @@ module _ (V : Type 0) (skipped lo hi : ℕ) (rest v full w : List Placed) (rise 
 pub port_first : (V : Type 0) (mode : FramesMode) (u : List Placed) (lo hi : ℕ) → BytesRise lo hi u →
     IsFirstOf {V = V} lo hi (port_events mode u) (cells_of (port_reading mode u))
 port_first V Aligned u lo hi rise = record {
-  start = lo;
-  from = (let k : lo ≤ lo = omega arith in k);
+  from = itself lo;
   first = tt;
   rises = reading_rises Aligned u lo hi rise;
 }
 port_first V Bare u lo hi rise = record {
-  start = lo;
-  from = (let k : lo ≤ lo = omega arith in k);
+  from = itself lo;
   first = tt;
   rises = reading_rises Bare u lo hi rise;
 }
@@ -106,12 +110,7 @@ port_first V Hunt u lo hi rise =
     (elim (hunt_is u) [
       | inl m ↦
           subst (λ (s : PortStream). IsFirstOf {V = V} lo hi (lock_at s.skipped s.items) (cells_in s)) (sym m.1)
-          (record {
-            start = lo;
-            from = (let k : lo ≤ lo = omega arith in k);
-            first = tt;
-            rises = rise_le (offsets_of u) lo hi rise;
-          })
+          (record { from = itself lo; first = tt; rises = rise_le (offsets_of u) lo hi rise })
       | inr (before, behind, parts, first, is) ↦
           (let two = rise_split (offsets_of before) (offsets_of behind) lo hi
           (subst (λ (z : List ℕ). Rise lo hi z) (ap offsets_of parts ∙ map-append (λ (p : Placed). p.place.at) before behind) rise) in
@@ -121,14 +120,14 @@ port_first V Hunt u lo hi rise =
           append_cancel_left (units_of before) (units_of behind) (full_sync ++ first.stands.0)
           (sym (units_append before behind) ∙ ap units_of (sym parts) ∙ first.stands.1) in
           let f = front_of behind first.stands.0 units in
-          let k = items_first V (length before) middle hi (grammar_reading behind).rest behind f.0 f.1 two.1 f.2 f.3
-          (grammar_reading behind).items (readings.reading_is Spells why rule start port_decided behind).splits in
           subst (λ (s : PortStream). IsFirstOf {V = V} lo hi (lock_at s.skipped s.items) (cells_in s)) (sym is)
-          (record { start = k.start; from = (let z = k.from in omega arith); first = k.first; rises = k.rises }))
+          (items_first V (length before) lo middle hi low (grammar_reading behind).rest behind f.0 f.1 two.1 f.2 f.3
+          (grammar_reading behind).items (readings.reading_is Spells why rule start port_decided behind).splits))
     ])
 
 -- and the runs after it
-pub runs_first : (V : Type 0) (mode : FramesMode) (u : List Placed) (lo hi : ℕ) → (rise : BytesRise lo hi u) →
-    RunsBetween (port_first V mode u lo hi rise).start hi (runs_in (port_reading mode u))
+pub runs_first : (V : Type 0) (mode : FramesMode) (u : List Placed) (lo hi : ℕ) → BytesRise lo hi u →
+    RunsBetween (first_end lo (port_events {V = V} mode u)) hi (runs_in (port_reading mode u))
 runs_first V mode u lo hi rise =
-    frames_between (port_reading mode u).frames (port_first V mode u lo hi rise).start hi (port_first V mode u lo hi rise).rises
+    frames_between (port_reading mode u).frames (first_end lo (port_events {V = V} mode u)) hi
+    (port_first V mode u lo hi rise).rises

@@ -4,3 +4,4 @@ pub mod Report
 pub mod Packets
 pub mod Plan
 pub mod Tails
+pub mod Fitting

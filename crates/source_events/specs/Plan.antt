@@ -5,17 +5,8 @@ use Rattle.std.specs.Prelude.{Option, None, Some}
 use Rattle.trace_values.specs.Placed.{Placed}
 use Rattle.trace_values.specs.Stream.{Stream}
 use Rattle.capture_plan.specs.Modes.{packets_hunt}
-use Rattle.trace_values.specs.Walk.{by_unit}
-use Rattle.trace_values.specs.Nibbles.{nibbles_of}
-use Rattle.trace_values.specs.Moded.{stream_in}
-use Rattle.trace_values.specs.Decorated.{decorated}
-use Rattle.stp_grammar.specs.declared.packet.Order.{Order}
-use Rattle.stp_grammar.specs.declared.packet.StpPacket.TheVariants.{Async}
-use Rattle.stp_grammar.specs.declared.item.StpItem.{StpItem}
-use Rattle.stp_grammar.specs.declared.partial.Partial.TheVariants.{Start}
-use Rattle.stp_grammar.specs.Rule.{rule}
-use Rattle.stp_grammar.specs.Attribution.{attribute}
 use Rattle.itm_codec.specs.Reading.{packets_in}
+use Rattle.stp_codec.specs.Reading.{items_in}
 use Rattle.source_events.specs.declared.packet.Packet.{Packet}
 use Rattle.source_events.specs.declared.packet.Packet.TheVariants.{Itm as ItmPacket, Stp as StpPacket}
 use Rattle.source_events.specs.declared.plan.Plan.{Plan}
@@ -23,11 +14,6 @@ use Rattle.source_events.specs.declared.plan.SourceKind.{SourceKind}
 use Rattle.source_events.specs.declared.plan.SourceKind.TheVariants.{Itm, Stp}
 use Rattle.source_events.specs.Packets.{stream_as}
 use Rattle.source_events.specs.Report.{Mapped}
-
--- until stp_codec is here
-abbrev pub items_in : Order → Bool → List Placed → Stream StpItem
-items_in order hunts u = decorated attribute []
-    (stream_in (record { unit = 15; most = 21; last = 0 }) Async (by_unit (rule order)) Start hunts (nibbles_of u))
 
 -- the mapped sources, each with what it sends
 abbrev pub mapped_ids : Plan → List (ℕ × SourceKind)

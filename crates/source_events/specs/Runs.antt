@@ -1,6 +1,7 @@
 -- The runs of frames: the cells of a frame that follow one another and have one run, which is one source's (Arm CoreSight
 -- Architecture Specification, Arm IHI 0029, formatter: a source's bytes from one ID byte to the next).
-use Rattle.std.specs.Prelude.{ℕ, suc, ◌+◌, ◌≤◌, List, [], ◌∷◌, ◌==◌, if◌then◌else◌, map, flat_map, Option, None}
+use Rattle.std.specs.Prelude.{◌≡◌, ℕ, suc, ◌+◌, ◌≤◌, List, [], ◌∷◌, ◌==◌, if◌then◌else◌, map, filter, flat_map}
+use Rattle.std.specs.Prelude.{Option, None}
 use Rattle.trace_values.specs.declared.cell.Cell.{Cell}
 use Rattle.trace_values.specs.Placed.{Placed, byte_at}
 use Rattle.frame_grammar.specs.Reading.{is_source}
@@ -20,6 +21,13 @@ runs_of (c ∷ cells) = joined c (runs_of cells)
 -- the runs of all frames
 abbrev pub all_runs : List (List Cell) → List (List Cell)
 all_runs frames = flat_map (λ frame. runs_of frame) frames
+
+-- each of these runs is all the cells of one number, and the numbers rise, from this one on
+abbrev pub AreWhole : ℕ → List Cell → List (List Cell) → Type 0
+AreWhole n cells [] = Unit {0}
+AreWhole n cells ([] ∷ runs) = ⊥
+AreWhole n cells ((c ∷ run) ∷ runs) =
+    (n ≤ c.run) × ((c ∷ run) ≡ filter (λ d. d.run == c.run) cells) × AreWhole (c.run + 1) cells runs
 
 -- the ID of a run, which all its cells have
 abbrev pub id_of : List Cell → Option ℕ

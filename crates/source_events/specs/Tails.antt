@@ -1,6 +1,6 @@
 -- How a capture ends, and how much came.
-use Rattle.std.specs.Prelude.{ℕ, List, [], ◌∷◌, length, Bool, true, false, Option, None, Some}
-use Rattle.std.specs.List.{filter, flat_map, range_with_len}
+use Rattle.std.specs.Prelude.{ℕ, List, [], ◌∷◌, ◌&&◌, length, Bool, true, false, Option, None, Some}
+use Rattle.std.specs.List.{count_by, flat_map, range_with_len}
 use Rattle.trace_values.specs.Placed.{Placed}
 use Rattle.capture_plan.specs.declared.frames.FramesMode.{FramesMode}
 use Rattle.capture_plan.specs.declared.frames.FramesMode.TheVariants.{Hunt as FramesHunt, Aligned as FramesAligned, Bare as FramesBare}
@@ -17,7 +17,10 @@ use Rattle.source_events.specs.declared.tails.PortCounts.{PortCounts}
 use Rattle.source_events.specs.declared.tails.SourceTail.{SourceTail}
 use Rattle.source_events.specs.declared.tails.Tails.{Tails}
 use Rattle.source_events.specs.Runs.{list_of}
-use Rattle.source_events.specs.Report.{runs_in, events, is_item}
+use Rattle.source_events.specs.declared.event.Event.{Event}
+use Rattle.source_events.specs.declared.packet.Packet.{Packet}
+use Rattle.source_events.specs.Merge.{is_of}
+use Rattle.source_events.specs.Report.{runs_in, report, is_item}
 use Rattle.source_events.specs.Plan.{stream_of, kind_of, sources_by}
 
 -- how a port that is read so was read, which has locked or not
@@ -71,12 +74,13 @@ port_counts_of plan u = let r = port_reading plan.frames u in record {
   frames = length r.frames;
 }
 
--- how many bytes a source has, and how many events that are no notices
-abbrev pub item_count : Plan → PortReading → ℕ → ℕ
-item_count plan r x = length (filter (λ e. is_item e.0) (events (sources_by plan) x (runs_in r)))
+-- how many events of a source these are, notices aside
+abbrev pub items_in : ℕ → List (Event Packet) → ℕ
+items_in x es = count_by (λ e. is_of (Some x) e.source && is_item e.what) es
 
+-- how many bytes a source has, and how many events of it the report has
 abbrev pub source_counts_of : Plan → List Placed → ℕ → Counts
-source_counts_of plan u x = let r = port_reading plan.frames u in record {
-  bytes = bytes_of x r.frames;
-  items = item_count plan r x;
+source_counts_of plan u x = record {
+  bytes = bytes_of x (port_reading plan.frames u).frames;
+  items = items_in x (report (sources_by plan) plan.frames u);
 }

@@ -1,6 +1,7 @@
 -- One more packet since the others.
 use Rattle.std.proofs.Common.{◌≡◌, ℕ, ◌+◌, ◌*◌, ◌/◌, ◌%◌, ◌<◌, List, [], ◌∷◌, ◌++◌, refl, sym, ◌∙◌, ap, arith, Bool, true, false, cond}
 use Rattle.std.specs.Prelude.{◌||◌, Option, None, Some, unwrap_or, option_map}
+use Rattle.std.specs.Option.{is_some, option_or}
 use Rattle.std.specs.List.{list_any, after_last, filter_map, cons_option}
 use Rattle.std.proofs.lemmas.List.{append-nil}
 use Rattle.std.proofs.lemmas.List.Folds.{list_any-append}
@@ -14,7 +15,7 @@ use Rattle.stp_grammar.specs.declared.packet.StpPacket.TheVariants.{Async, Plain
 use Rattle.stp_grammar.specs.declared.attribution.Attribution.{Attribution}
 use Rattle.stp_grammar.specs.Attributed.{Stands, kept_place}
 use Rattle.stp_grammar.specs.Proper.{IsProper}
-use Rattle.stp_grammar.specs.Attribution.{version_in, master8_in, master16_in, channel8_in, channel16_in, or_else, is_some, last_given, begins_master, begins_channel, number_by, number_of, version_of, master_of, channel_of, stamp_in, keeps_word, last_word_of, place_of, stamp_by, stamp_of}
+use Rattle.stp_grammar.specs.Attribution.{version_in, master8_in, master16_in, channel8_in, channel16_in, last_given, begins_master, begins_channel, number_by, number_of, version_of, master_of, channel_of, stamp_in, keeps_word, last_word_of, place_of, stamp_by, stamp_of}
 use Rattle.stp_grammar.specs.NextState.{next_number, next_version, next_master, next_channel, word_with_stamp, next_last}
 
 any_found : (test : StpPacket → Bool) (ps : List StpPacket) (p : StpPacket) → test p ≡ true → list_any test (ps ++ p ∷ []) ≡ true
@@ -46,7 +47,7 @@ low_by known high low v h = by (known || is_some high) where
 
 module _ (anew : StpPacket → Bool) (whole low : StpPacket → Option ℕ) (ps : List StpPacket) (p : StpPacket) where
   abbrev either : StpPacket → Option ℕ
-  either q = or_else (whole q) (low q)
+  either q = option_or (whole q) (low q)
 
   abbrev since : List StpPacket
   since = after_last anew ps
@@ -65,15 +66,15 @@ module _ (anew : StpPacket → Bool) (whole low : StpPacket → Option ℕ) (ps 
       number_by (list_any anew ps) (last_given whole (since ++ p ∷ [])) (last_given either (since ++ p ∷ [])) ≡ next_number (number_of anew whole low ps) w l
   by_parts (Some v) l e f h =
       ap (λ o. number_by (list_any anew ps) o (last_given either (since ++ p ∷ []))) (given whole since p v e)
-      ∙ ap (λ o. number_by (list_any anew ps) (Some v) o) (given either since p v (ap (λ o. or_else o (low p)) e))
+      ∙ ap (λ o. number_by (list_any anew ps) (Some v) o) (given either since p v (ap (λ o. option_or o (low p)) e))
       ∙ whole_by (list_any anew ps) v
   by_parts None (Some v) e f h =
       ap (λ o. number_by (list_any anew ps) o (last_given either (since ++ p ∷ []))) (not_given whole since p e)
-      ∙ ap (λ o. number_by (list_any anew ps) (last_given whole since) o) (given either since p v (ap (λ o. or_else o (low p)) e ∙ f))
+      ∙ ap (λ o. number_by (list_any anew ps) (last_given whole since) o) (given either since p v (ap (λ o. option_or o (low p)) e ∙ f))
       ∙ low_by (list_any anew ps) (last_given whole since) (last_given either since) v h
   by_parts None None e f h =
       ap (λ o. number_by (list_any anew ps) o (last_given either (since ++ p ∷ []))) (not_given whole since p e)
-      ∙ ap (λ o. number_by (list_any anew ps) (last_given whole since) o) (not_given either since p (ap (λ o. or_else o (low p)) e ∙ f))
+      ∙ ap (λ o. number_by (list_any anew ps) (last_given whole since) o) (not_given either since p (ap (λ o. option_or o (low p)) e ∙ f))
 
   pub number_more : IsLow (low p) → number_of anew whole low (ps ++ p ∷ []) ≡ cond (anew p) (Some 0) (next_number (number_of anew whole low ps) (whole p) (low p))
   number_more h = by (anew p) refl where
@@ -84,7 +85,7 @@ module _ (anew : StpPacket → Bool) (whole low : StpPacket → Option ℕ) (ps 
 pub version_more : (ps : List StpPacket) (p : StpPacket) → version_of (ps ++ p ∷ []) ≡ next_version (version_of ps) p
 unfolding version_of
 version_more ps p = by (version_in p) refl where
-  by : (o : Option ℕ) → version_in p ≡ o → last_given version_in (ps ++ p ∷ []) ≡ or_else o (last_given version_in ps)
+  by : (o : Option ℕ) → version_in p ≡ o → last_given version_in (ps ++ p ∷ []) ≡ option_or o (last_given version_in ps)
   by (Some v) e = given version_in ps p v e
   by None e = not_given version_in ps p e
 
@@ -145,7 +146,7 @@ last_more ps p h = by (version_in p) refl where
       ap (λ l. cond (keeps_word (version_of (ps ++ p ∷ []))) (last_word (filter_map stamp_in l)) 0) (after_itself begins_master ps p (ap is_some e))
       ∙ none_kept (keeps_word (version_of (ps ++ p ∷ [])))
   by None e =
-      ap (λ o. cond (keeps_word o) (last_word (filter_map stamp_in (after_last begins_master (ps ++ p ∷ [])))) 0) (version_more ps p ∙ ap (λ o. or_else o (version_of ps)) e)
+      ap (λ o. cond (keeps_word o) (last_word (filter_map stamp_in (after_last begins_master (ps ++ p ∷ [])))) 0) (version_more ps p ∙ ap (λ o. option_or o (version_of ps)) e)
       ∙ ap (λ l. cond (keeps_word (version_of ps)) (last_word (filter_map stamp_in l)) 0) (after_same begins_master ps p (ap is_some e))
       ∙ stamps_of (stamp_in p) refl (fits p h) (keeps_word (version_of ps))
 

@@ -13,9 +13,9 @@ use Rattle.stp_grammar.specs.declared.packet.StpPacket.{StpPacket}
 use Rattle.stp_grammar.specs.declared.packet.StpPacket.TheVariants.{Async, Plain, Stamped}
 use Rattle.stp_grammar.specs.declared.partial.Partial.{Partial}
 use Rattle.stp_grammar.specs.declared.partial.Partial.TheVariants.{Start, Second, Third, Run, Payload, Size, Word}
-use Rattle.stp_grammar.specs.Opcodes.{line_of, Opening, More, Refused, first_opening, second_opening, third_opening}
+use Rattle.stp_grammar.specs.Opcodes.{line_of, Opening, More, Refused}
 use Rattle.trace_clock.specs.LastWord.{nibble_count}
-use Rattle.stp_grammar.specs.Rule.{rule, number_with, begin, opened, after_payload, count_of}
+use Rattle.stp_grammar.specs.Rule.{first_opening, second_opening, third_opening, rule, number_with, begin, opened, after_payload, count_of}
 use Rattle.stp_grammar.proofs.Openings.{IsRow, first_cases, second_cases, third_cases}
 
 -- a step that goes on counts one more
@@ -50,21 +50,18 @@ by_none o more n e = subst (λ (z : Opening). CountsOn n (opened z more)) (sym e
 all_count : (order : Order) (s : Partial) (b : ℕ) → CountsOn (count_of s) (rule order s b)
 all_count order Start b = elim (first_cases b) [
   | inl m ↦ by_row (first_opening b) Second (b ∷ []) 0 refl m
-  | inr m ↦ elim m [ inl n ↦ by_more (first_opening b) Second 0 n.1 refl | inr n ↦ by_none (first_opening b) Second 0 n ]
+  | inr m ↦ elim m [ inl n ↦ by_more (first_opening b) Second 0 n.1 refl | inr n ↦ by_none (first_opening b) Second 0 n.1 ]
 ]
 all_count order Second b = choose 1 (b == 15) (Go (Run 2)) (opened (second_opening b) Third) (λ t. refl) (λ t. elim (second_cases b) [
   | inl m ↦ by_row (second_opening b) Third (15 ∷ (b ∷ [])) 1 refl m
   | inr m ↦ elim m [
     | inl n ↦ by_more (second_opening b) Third 1 n.1 refl
-    | inr n ↦ elim n [
-      | inl o ↦ by_more (second_opening b) Third 1 o.1 refl
-      | inr o ↦ by_none (second_opening b) Third 1 o
-    ]
+    | inr n ↦ by_none (second_opening b) Third 1 n.1
   ]
 ])
 all_count order Third b = elim (third_cases b) [
   | inl m ↦ by_row (third_opening b) Third (15 ∷ (0 ∷ (b ∷ []))) 2 refl m
-  | inr m ↦ by_none (third_opening b) Third 2 m
+  | inr m ↦ by_none (third_opening b) Third 2 m.1
 ]
 all_count order (Run count) b =
     choose count (b == 15) (Go (Run (count + 1))) (cond (b == 0 && nat_le 21 count) (End Async) (Fail BadAsync)) (λ t. refl)

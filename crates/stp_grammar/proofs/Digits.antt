@@ -45,6 +45,10 @@ pub value_whole : (order : Order) (r : List ℕ) → value_from order 0 0 r ≡ 
 value_whole Msn r = (let k = value_msn 0 0 r in omega arith)
 value_whole Lsn r = (let k = value_lsn 0 0 r in omega arith)
 
+pub number_none : (order : Order) → 0 ≡ number order []
+number_none Msn = refl
+number_none Lsn = refl
+
 -- a list in two parts, the first of this length
 pub parts : (n : ℕ) (r : List ℕ) → (length r < n) ⊎ ((d : List ℕ) × (w : List ℕ) × (length d ≡ n) × (r ≡ d ++ w))
 parts zero r = inr ([], r, refl, refl)

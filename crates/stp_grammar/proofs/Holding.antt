@@ -1,56 +1,24 @@
 -- But for a run of nibbles F, a state holds few nibbles.
-use Rattle.std.proofs.Common.{◌≡◌, ℕ, zero, suc, ◌+◌, ◌<◌, ◌≤◌, ◌⊎◌, inl, inr, List, length, replicate, All, true, false, refl, sym, ◌∙◌, subst, arith}
+use Rattle.std.proofs.Common.{◌≡◌, ℕ, zero, suc, ◌+◌, ◌<◌, ◌≤◌, ◌⊎◌, inl, inr, List, length, replicate, All, true, refl, sym, ◌∙◌, subst, arith}
+use Rattle.std.specs.Prelude.{nat_le}
 use Rattle.std.proofs.lemmas.List.Elements.{All-nil, All-cons}
 use Rattle.std.proofs.lemmas.Bool.Decides.{nat_tests}
 use Rattle.trace_values.specs.Walk.{Within, walk}
 use Rattle.stp_grammar.specs.declared.packet.Order.{Order}
-use Rattle.stp_grammar.specs.declared.packet.Width.TheVariants.{Four, Eight, Sixteen, ThirtyTwo, SixtyFour}
 use Rattle.stp_grammar.specs.declared.packet.Row.{Row}
-use Rattle.stp_grammar.specs.declared.packet.Row.TheVariants.{Null, Master8, MasterError, Channel8, Datum, Flag, Master16, GlobalError, Channel16, Version, NullStamp, Trigger, Frequency}
 use Rattle.stp_grammar.specs.declared.partial.Partial.{Partial}
 use Rattle.stp_grammar.specs.declared.partial.Partial.TheVariants.{Start, Second, Third, Run, Payload, Size, Word}
 use Rattle.stp_grammar.specs.Opcodes.{line_of}
 use Rattle.trace_clock.specs.LastWord.{nibble_count}
 use Rattle.stp_grammar.specs.Rule.{rule, count_of}
+use Rattle.stp_grammar.proofs.EachRow.{each_test}
 use Rattle.stp_grammar.proofs.Counting.{counted_nibbles}
-use Rattle.stp_grammar.proofs.Deciding.{Belongs, belongs}
+use Rattle.stp_grammar.proofs.Reached.{Belongs, belongs}
 
 line_few : (row : Row) → length (line_of row).opcode + (line_of row).payload ≤ 18
-line_few Null = omega arith
-line_few Master8 = omega arith
-line_few MasterError = omega arith
-line_few Channel8 = omega arith
-line_few (Datum Four true true) = omega arith
-line_few (Datum Four true false) = omega arith
-line_few (Datum Four false true) = omega arith
-line_few (Datum Four false false) = omega arith
-line_few (Datum Eight true true) = omega arith
-line_few (Datum Eight true false) = omega arith
-line_few (Datum Eight false true) = omega arith
-line_few (Datum Eight false false) = omega arith
-line_few (Datum Sixteen true true) = omega arith
-line_few (Datum Sixteen true false) = omega arith
-line_few (Datum Sixteen false true) = omega arith
-line_few (Datum Sixteen false false) = omega arith
-line_few (Datum ThirtyTwo true true) = omega arith
-line_few (Datum ThirtyTwo true false) = omega arith
-line_few (Datum ThirtyTwo false true) = omega arith
-line_few (Datum ThirtyTwo false false) = omega arith
-line_few (Datum SixtyFour true true) = omega arith
-line_few (Datum SixtyFour true false) = omega arith
-line_few (Datum SixtyFour false true) = omega arith
-line_few (Datum SixtyFour false false) = omega arith
-line_few (Flag true) = omega arith
-line_few (Flag false) = omega arith
-line_few Master16 = omega arith
-line_few GlobalError = omega arith
-line_few Channel16 = omega arith
-line_few Version = omega arith
-line_few NullStamp = omega arith
-line_few (Trigger true) = omega arith
-line_few (Trigger false) = omega arith
-line_few (Frequency true) = omega arith
-line_few (Frequency false) = omega arith
+line_few row = at_most (length (line_of row).opcode + (line_of row).payload) (each_test (λ row. nat_le (length (line_of row).opcode + (line_of row).payload) 18) refl row) where
+  at_most : (n : ℕ) → nat_le n 18 ≡ true → n ≤ 18
+  at_most n e = grind (arith, nat_tests)
 
 word_few : (size : ℕ) → size < 15 → nibble_count size ≤ 16
 word_few size h = grind (arith, nat_tests)

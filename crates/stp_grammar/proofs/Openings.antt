@@ -1,14 +1,16 @@
--- Which nibbles the table gives which row.
-use Rattle.std.proofs.Common.{◌≡◌, ℕ, zero, suc, ◌+◌, ◌<◌, ◌≤◌, List, [], ◌∷◌, ◌++◌, true, false, refl, sym, ◌∙◌, ap, subst, ◌⊎◌, inl, inr, arith}
+-- Which rows opcodes begin.
+use Rattle.std.proofs.Common.{◌≡◌, ℕ, zero, suc, ◌+◌, ◌-◌, ◌<◌, ◌≤◌, List, [], ◌∷◌, ◌++◌, Bool, true, false, ◌&&◌, ◌==◌, refl, sym, ◌∙◌, ap, subst, ◌⊎◌, inl, inr, arith}
+use Rattle.std.specs.Prelude.{None}
 use Rattle.std.proofs.lemmas.Bool.Decides.{nat_tests}
-use Rattle.stp_grammar.specs.declared.packet.Width.TheVariants.{Four, Eight, Sixteen, ThirtyTwo, SixtyFour}
+use Rattle.trace_values.specs.declared.fault.Reason.TheVariants.{Unsupported, StampSize}
+use Rattle.stp_grammar.specs.declared.opcode.Head.TheVariants.{Whole as HeadWhole, More as HeadMore, Refused as HeadRefused}
 use Rattle.stp_grammar.specs.declared.packet.Row.{Row}
-use Rattle.stp_grammar.specs.declared.packet.Row.TheVariants.{Null, Master8, MasterError, Channel8, Datum, Flag, Master16, GlobalError, Channel16, Version, NullStamp, Trigger, Frequency}
-use Rattle.trace_values.specs.declared.fault.Reason.TheVariants.{StampSize}
-use Rattle.stp_grammar.specs.Spelling.{why}
-use Rattle.stp_grammar.specs.Opcodes.{line_of, row_at, Opening, Whole as Opened, More, Refused, first_opening, second_opening, third_opening, opening_of, or_more, head_of}
-use Rattle.stp_grammar.specs.declared.opcode.Head.TheVariants.{Whole as HeadWhole}
+use Rattle.stp_grammar.specs.Opcodes.{rows, row_at, line_of, row_of, is_front, Opening, Whole as Opened, More, Refused, opening_by, opening_of, head_of}
+use Rattle.stp_grammar.specs.Spelling.{opening_fault, why}
+use Rattle.stp_grammar.specs.Rule.{first_opening, second_opening, third_opening}
+use Rattle.stp_grammar.proofs.EachRow.{AllOf, each}
 
+-- a fact of each number below a bound
 abbrev AllUnder : (ℕ → Type 0) → ℕ → Type 0
 AllUnder P zero = Unit {0}
 AllUnder P (suc n) = P n × AllUnder P n
@@ -22,187 +24,178 @@ under_at P (suc n) k a h = elim (split k n (omega arith)) [
   split : (k n : ℕ) → k ≤ n → (k < n) ⊎ (k ≡ n)
   split k n h = grind arith
 
-ordered : (k n : ℕ) → (k < n) ⊎ (n ≤ k)
-ordered k n = grind arith
+-- the rows are in the order of their numbers
+numbers : AllUnder (λ n. (line_of (row_at n)).number ≡ n) 35
+numbers = (refl, (refl, (refl, (refl, (refl, (refl, (refl, (refl, (refl, (refl, (refl, (refl, (refl, (refl, (refl, (refl, (refl, (refl, (refl, (refl, (refl, (refl, (refl, (refl, (refl, (refl, (refl, (refl, (refl, (refl, (refl, (refl, (refl, (refl, (refl, tt)))))))))))))))))))))))))))))))))))
 
--- a row whose opcode these nibbles are, and what they open
-abbrev pub IsRow : Opening → List ℕ → Type 0
-IsRow o r = (row : Row) × (o ≡ Opened row) × ((line_of row).opcode ≡ r)
+pub number_is : (n : ℕ) → n < 35 → (line_of (row_at n)).number ≡ n
+number_is n h = under_at (λ n. (line_of (row_at n)).number ≡ n) 35 n numbers h
 
-first_under : AllUnder (λ a. IsRow (first_opening a) (a ∷ [])) 15
-first_under = (
-  (Flag true, refl, refl),
-  (
-    (Datum Four true true, refl, refl),
-    (
-      (Datum Four false false, refl, refl),
-      (
-        (Datum SixtyFour true true, refl, refl),
-        (
-          (Datum ThirtyTwo true true, refl, refl),
-          (
-            (Datum Sixteen true true, refl, refl),
-            (
-              (Datum Eight true true, refl, refl),
-              ((Datum SixtyFour false false, refl, refl), ((Datum ThirtyTwo false false, refl, refl), ((Datum Sixteen false false, refl, refl), ((Datum Eight false false, refl, refl), ((Channel8, refl, refl), ((MasterError, refl, refl), ((Master8, refl, refl), ((Null, refl, refl), tt)))))))),
-            ),
-          ),
-        ),
-      ),
-    ),
-  ),
-)
+-- the opcodes of rows 0 to 14, 15 to 28, 29 and 30, and 31 to 34
+abbrev FirstIs : ℕ → Type 0
+FirstIs a = (line_of (row_at a)).opcode ≡ a ∷ []
 
-pub first_cases : (a : ℕ) → IsRow (first_opening a) (a ∷ []) ⊎ ((a ≡ 15) × (first_opening a ≡ More)) ⊎ (first_opening a ≡ Refused)
-first_cases a = elim (ordered a 15) [
-  | inl m ↦ inl (under_at (λ a. IsRow (first_opening a) (a ∷ [])) 15 a first_under m)
-  | inr m ↦ elim (ordered a 16) [
-    | inl n ↦ inr (inl (omega arith, grind (arith, nat_tests)))
-    | inr n ↦ inr (inr (grind (arith, nat_tests)))
-  ]
-]
+firsts : AllUnder FirstIs 15
+firsts = (refl, (refl, (refl, (refl, (refl, (refl, (refl, (refl, (refl, (refl, (refl, (refl, (refl, (refl, (refl, tt)))))))))))))))
 
 abbrev SecondIs : ℕ → Type 0
-SecondIs b = IsRow (second_opening b) (15 ∷ (b ∷ [])) ⊎ ((b ≡ 0) × (second_opening b ≡ More))
+SecondIs k = (line_of (row_at (15 + k))).opcode ≡ 15 ∷ ((1 + k) ∷ [])
 
-second_under : AllUnder SecondIs 15
-second_under = (
-  inl (Flag false, refl, refl),
-  (
-    inl (Datum Four true false, refl, refl),
-    (
-      inl (Datum Four false true, refl, refl),
-      (
-        inl (Datum SixtyFour true false, refl, refl),
-        (
-          inl (Datum ThirtyTwo true false, refl, refl),
-          (
-            inl (Datum Sixteen true false, refl, refl),
-            (
-              inl (Datum Eight true false, refl, refl),
-              (inl (Datum SixtyFour false true, refl, refl), (inl (Datum ThirtyTwo false true, refl, refl), (inl (Datum Sixteen false true, refl, refl), (inl (Datum Eight false true, refl, refl), (inl (Channel16, refl, refl), (inl (GlobalError, refl, refl), (inl (Master16, refl, refl), (inr (refl, refl), tt)))))))),
-            ),
-          ),
-        ),
-      ),
-    ),
-  ),
-)
-
-pub second_cases : (b : ℕ) → IsRow (second_opening b) (15 ∷ (b ∷ [])) ⊎ ((b ≡ 0) × (second_opening b ≡ More)) ⊎ ((b ≡ 15) × (second_opening b ≡ More)) ⊎ (second_opening b ≡ Refused)
-second_cases b = elim (ordered b 15) [
-  | inl m ↦ elim (under_at SecondIs 15 b second_under m) [ inl n ↦ inl n | inr n ↦ inr (inl n) ]
-  | inr m ↦ elim (ordered b 16) [
-    | inl n ↦ inr (inr (inl (omega arith, grind (arith, nat_tests))))
-    | inr n ↦ inr (inr (inr (grind (arith, nat_tests))))
-  ]
-]
+seconds : AllUnder SecondIs 14
+seconds = (refl, (refl, (refl, (refl, (refl, (refl, (refl, (refl, (refl, (refl, (refl, (refl, (refl, (refl, tt))))))))))))))
 
 abbrev ThirdIs : ℕ → Type 0
-ThirdIs c = IsRow (third_opening c) (15 ∷ (0 ∷ (c ∷ []))) ⊎ (third_opening c ≡ Refused)
+ThirdIs c = (line_of (row_at (29 + c))).opcode ≡ 15 ∷ (0 ∷ (c ∷ []))
 
-third_under : AllUnder ThirdIs 10
-third_under =
-    (inl (Frequency true, refl, refl), (inl (Frequency false, refl, refl), (inl (Trigger true, refl, refl), (inl (Trigger false, refl, refl), (inr refl, (inr refl, (inr refl, (inr refl, (inl (NullStamp, refl, refl), (inl (Version, refl, refl), tt))))))))))
+thirds : AllUnder ThirdIs 2
+thirds = (refl, (refl, tt))
 
-pub third_cases : (c : ℕ) → IsRow (third_opening c) (15 ∷ (0 ∷ (c ∷ []))) ⊎ (third_opening c ≡ Refused)
-third_cases c = elim (ordered c 10) [
-  | inl m ↦ under_at ThirdIs 10 c third_under m
-  | inr m ↦ inr (grind (arith, nat_tests))
-]
+abbrev LastIs : ℕ → Type 0
+LastIs k = (line_of (row_at (31 + k))).opcode ≡ 15 ∷ (0 ∷ ((6 + k) ∷ []))
 
--- an opcode, whatever follows it, opens its row
+lasts : AllUnder LastIs 4
+lasts = (refl, (refl, (refl, (refl, tt))))
+
+first_opcode : (a : ℕ) → a < 15 → (line_of (row_at a)).opcode ≡ a ∷ []
+first_opcode a h = under_at FirstIs 15 a firsts h
+
+second_opcode : (b : ℕ) → 0 < b → b < 15 → (line_of (row_at (14 + b))).opcode ≡ 15 ∷ (b ∷ [])
+second_opcode b h l =
+    let e : 15 + (b - 1) ≡ 14 + b = omega arith in
+    let f : 1 + (b - 1) ≡ b = omega arith in
+    ap (λ n. (line_of (row_at n)).opcode) (sym e) ∙ under_at SecondIs 14 (b - 1) seconds (omega arith) ∙ ap (λ n. 15 ∷ (n ∷ [])) f
+
+third_opcode : (c : ℕ) → c < 2 → (line_of (row_at (29 + c))).opcode ≡ 15 ∷ (0 ∷ (c ∷ []))
+third_opcode c h = under_at ThirdIs 2 c thirds h
+
+last_opcode : (c : ℕ) → 6 ≤ c → c < 10 → (line_of (row_at (25 + c))).opcode ≡ 15 ∷ (0 ∷ (c ∷ []))
+last_opcode c h l =
+    let e : 31 + (c - 6) ≡ 25 + c = omega arith in
+    let f : 6 + (c - 6) ≡ c = omega arith in
+    ap (λ n. (line_of (row_at n)).opcode) (sym e) ∙ under_at LastIs 4 (c - 6) lasts (omega arith) ∙ ap (λ n. 15 ∷ (0 ∷ (n ∷ []))) f
+
+-- an opcode begins its row, whatever follows
 pub opens : (row : Row) (w : List ℕ) → opening_of ((line_of row).opcode ++ w) ≡ Opened row
-opens Null w = refl
-opens Master8 w = refl
-opens MasterError w = refl
-opens Channel8 w = refl
-opens (Datum Four true true) w = refl
-opens (Datum Four true false) w = refl
-opens (Datum Four false true) w = refl
-opens (Datum Four false false) w = refl
-opens (Datum Eight true true) w = refl
-opens (Datum Eight true false) w = refl
-opens (Datum Eight false true) w = refl
-opens (Datum Eight false false) w = refl
-opens (Datum Sixteen true true) w = refl
-opens (Datum Sixteen true false) w = refl
-opens (Datum Sixteen false true) w = refl
-opens (Datum Sixteen false false) w = refl
-opens (Datum ThirtyTwo true true) w = refl
-opens (Datum ThirtyTwo true false) w = refl
-opens (Datum ThirtyTwo false true) w = refl
-opens (Datum ThirtyTwo false false) w = refl
-opens (Datum SixtyFour true true) w = refl
-opens (Datum SixtyFour true false) w = refl
-opens (Datum SixtyFour false true) w = refl
-opens (Datum SixtyFour false false) w = refl
-opens (Flag true) w = refl
-opens (Flag false) w = refl
-opens Master16 w = refl
-opens GlobalError w = refl
-opens Channel16 w = refl
-opens Version w = refl
-opens NullStamp w = refl
-opens (Trigger true) w = refl
-opens (Trigger false) w = refl
-opens (Frequency true) w = refl
-opens (Frequency false) w = refl
+unfolding opening_of
+opens row w = each (λ row. opening_of ((line_of row).opcode ++ w) ≡ Opened row) all row where
+  all : AllOf (λ row. opening_of ((line_of row).opcode ++ w) ≡ Opened row) rows
+  all = (refl, (refl, (refl, (refl, (refl, (refl, (refl, (refl, (refl, (refl, (refl, (refl, (refl, (refl, (refl, (refl, (refl, (refl, (refl, (refl, (refl, (refl, (refl, (refl, (refl, (refl, (refl, (refl, (refl, (refl, (refl, (refl, (refl, (refl, (refl, tt)))))))))))))))))))))))))))))))))))
 
 -- and after it only a size nibble is a fault
 pub row_why : (row : Row) (w : List ℕ) → why ((line_of row).opcode ++ w) ≡ StampSize
-row_why Null w = refl
-row_why Master8 w = refl
-row_why MasterError w = refl
-row_why Channel8 w = refl
-row_why (Datum Four true true) w = refl
-row_why (Datum Four true false) w = refl
-row_why (Datum Four false true) w = refl
-row_why (Datum Four false false) w = refl
-row_why (Datum Eight true true) w = refl
-row_why (Datum Eight true false) w = refl
-row_why (Datum Eight false true) w = refl
-row_why (Datum Eight false false) w = refl
-row_why (Datum Sixteen true true) w = refl
-row_why (Datum Sixteen true false) w = refl
-row_why (Datum Sixteen false true) w = refl
-row_why (Datum Sixteen false false) w = refl
-row_why (Datum ThirtyTwo true true) w = refl
-row_why (Datum ThirtyTwo true false) w = refl
-row_why (Datum ThirtyTwo false true) w = refl
-row_why (Datum ThirtyTwo false false) w = refl
-row_why (Datum SixtyFour true true) w = refl
-row_why (Datum SixtyFour true false) w = refl
-row_why (Datum SixtyFour false true) w = refl
-row_why (Datum SixtyFour false false) w = refl
-row_why (Flag true) w = refl
-row_why (Flag false) w = refl
-row_why Master16 w = refl
-row_why GlobalError w = refl
-row_why Channel16 w = refl
-row_why Version w = refl
-row_why NullStamp w = refl
-row_why (Trigger true) w = refl
-row_why (Trigger false) w = refl
-row_why (Frequency true) w = refl
-row_why (Frequency false) w = refl
+unfolding opening_of
+row_why row w = each (λ row. why ((line_of row).opcode ++ w) ≡ StampSize) all row where
+  all : AllOf (λ row. why ((line_of row).opcode ++ w) ≡ StampSize) rows
+  all = (refl, (refl, (refl, (refl, (refl, (refl, (refl, (refl, (refl, (refl, (refl, (refl, (refl, (refl, (refl, (refl, (refl, (refl, (refl, (refl, (refl, (refl, (refl, (refl, (refl, (refl, (refl, (refl, (refl, (refl, (refl, (refl, (refl, (refl, (refl, tt)))))))))))))))))))))))))))))))))))
 
--- the rows stand in the order of their numbers
-numbered : AllUnder (λ n. (line_of (row_at n)).number ≡ n) 35
-numbered = (refl, (refl, (refl, (refl, (refl, (refl, (refl, (refl, (refl, (refl, (refl, (refl, (refl, (refl, (refl, (refl, (refl, (refl, (refl, (refl, (refl, (refl, (refl, (refl, (refl, (refl, (refl, (refl, (refl, (refl, (refl, (refl, (refl, (refl, (refl, tt)))))))))))))))))))))))))))))))))))
+-- what the rule takes nibbles for: a row whose opcode they are, an opcode that goes on, or none
+abbrev pub IsRow : Opening → List ℕ → Type 0
+IsRow o r = (row : Row) × (o ≡ Opened row) × ((line_of row).opcode ≡ r)
 
-pub number_is : (n : ℕ) → n < 35 → (line_of (row_at n)).number ≡ n
-number_is n h = under_at (λ n. (line_of (row_at n)).number ≡ n) 35 n numbered h
+pub first_cases : (a : ℕ) → IsRow (first_opening a) (a ∷ []) ⊎ ((a ≡ 15) × (first_opening a ≡ More)) ⊎ ((16 ≤ a) × (first_opening a ≡ Refused))
+first_cases a = elim (tests a) [
+  | inl m ↦ inl (row_at a, m.1, first_opcode a m.0)
+  | inr m ↦ inr m
+] where
+  tests : (a : ℕ) → ((a < 15) × (first_opening a ≡ Opened (row_at a))) ⊎ ((a ≡ 15) × (first_opening a ≡ More)) ⊎ ((16 ≤ a) × (first_opening a ≡ Refused))
+  tests a = grind (arith, nat_tests)
 
--- what an opcode of two or of three nibbles answers
-pub second_head : (b : ℕ) → 0 < b → b < 15 → second_opening b ≡ Opened (row_at (14 + b))
-second_head b h k = grind (arith, nat_tests)
+pub second_cases : (b : ℕ) → IsRow (second_opening b) (15 ∷ (b ∷ [])) ⊎ ((b ≡ 0) × (second_opening b ≡ More)) ⊎ ((15 ≤ b) × (second_opening b ≡ Refused))
+second_cases b = elim (tests b) [
+  | inl m ↦ inl (row_at (14 + b), m.2, second_opcode b m.0 m.1)
+  | inr m ↦ inr m
+] where
+  tests : (b : ℕ) → ((0 < b) × (b < 15) × (second_opening b ≡ Opened (row_at (14 + b)))) ⊎ ((b ≡ 0) × (second_opening b ≡ More)) ⊎ ((15 ≤ b) × (second_opening b ≡ Refused))
+  tests b = grind (arith, nat_tests)
 
-pub third_head : (c : ℕ) → 6 ≤ c → c < 10 → third_opening c ≡ Opened (row_at (25 + c))
-third_head c h k = grind (arith, nat_tests)
+abbrev IsNoThird : ℕ → Type 0
+IsNoThird c = ((2 ≤ c) × (c < 6)) ⊎ (10 ≤ c)
 
-pub second_whole : (b : ℕ) (next : Opening) → 0 < b → b < 15 → head_of (or_more (second_opening b) next) ≡ HeadWhole (14 + b)
-second_whole b next h k = ap (λ (z : Opening). head_of (or_more z next)) (second_head b h k) ∙ ap HeadWhole (number_is (14 + b) (omega arith))
+pub third_cases : (c : ℕ) → IsRow (third_opening c) (15 ∷ (0 ∷ (c ∷ []))) ⊎ (IsNoThird c × (third_opening c ≡ Refused))
+third_cases c = elim (tests c) [
+  | inl m ↦ inl (row_at (29 + c), m.1, third_opcode c m.0)
+  | inr m ↦ elim m [
+    | inl n ↦ inl (row_at (25 + c), n.2, last_opcode c n.0 n.1)
+    | inr n ↦ elim n [ inl o ↦ inr (inl (o.0, o.1), o.2) | inr o ↦ inr (inr o.0, o.1) ]
+  ]
+] where
+  tests : (c : ℕ) → ((c < 2) × (third_opening c ≡ Opened (row_at (29 + c)))) ⊎ ((6 ≤ c) × (c < 10) × (third_opening c ≡ Opened (row_at (25 + c))))
+      ⊎ ((2 ≤ c) × (c < 6) × (third_opening c ≡ Refused)) ⊎ ((10 ≤ c) × (third_opening c ≡ Refused))
+  tests c = grind (arith, nat_tests)
 
-pub third_whole : (c : ℕ) → 6 ≤ c → c < 10 → head_of (third_opening c) ≡ HeadWhole (25 + c)
-third_whole c h k = ap head_of (third_head c h k) ∙ ap HeadWhole (number_is (25 + c) (omega arith))
+-- what `opcode_of` answers to nibbles that begin with an opcode
+head_is : (n : ℕ) (opcode r : List ℕ) → n < 35 → (line_of (row_at n)).opcode ≡ opcode → head_of (opening_of (opcode ++ r)) ≡ HeadWhole n
+head_is n opcode r h e = ap (λ l. head_of (opening_of (l ++ r))) (sym e) ∙ ap head_of (opens (row_at n) r) ∙ ap HeadWhole (number_is n h)
+
+pub first_head : (a : ℕ) (r : List ℕ) → a < 15 → head_of (opening_of (a ∷ r)) ≡ HeadWhole a
+first_head a r h = head_is a (a ∷ []) r (omega arith) (first_opcode a h)
+
+pub second_head : (b : ℕ) (r : List ℕ) → 0 < b → b < 15 → head_of (opening_of (15 ∷ (b ∷ r))) ≡ HeadWhole (14 + b)
+second_head b r h l = head_is (14 + b) (15 ∷ (b ∷ [])) r (omega arith) (second_opcode b h l)
+
+pub third_head : (c : ℕ) → c < 2 → head_of (opening_of (15 ∷ (0 ∷ (c ∷ [])))) ≡ HeadWhole (29 + c)
+third_head c h = head_is (29 + c) (15 ∷ (0 ∷ (c ∷ []))) [] (omega arith) (third_opcode c h)
+
+pub last_head : (c : ℕ) → 6 ≤ c → c < 10 → head_of (opening_of (15 ∷ (0 ∷ (c ∷ [])))) ≡ HeadWhole (25 + c)
+last_head c h l = head_is (25 + c) (15 ∷ (0 ∷ (c ∷ []))) [] (omega arith) (last_opcode c h l)
+
+-- and to nibbles that begin only with F
+pub heads_more : (head_of (opening_of (15 ∷ [])) ≡ HeadMore) × (head_of (opening_of (15 ∷ (0 ∷ []))) ≡ HeadMore)
+    × (head_of (opening_of (15 ∷ (15 ∷ []))) ≡ HeadMore) × (head_of (opening_of (15 ∷ (15 ∷ (15 ∷ [])))) ≡ HeadMore)
+unfolding opening_of
+heads_more = (refl, refl, refl, refl)
+
+pub run_refused : (c : ℕ) → (c ≡ 15 → ⊥) → head_of (opening_of (15 ∷ (15 ∷ (c ∷ [])))) ≡ HeadRefused
+unfolding opening_of
+run_refused c h = ap (λ t. head_of (opening_by None (t && true))) (is_not c h) where
+  is_not : (c : ℕ) → (c ≡ 15 → ⊥) → (c == 15) ≡ false
+  is_not c h = grind (arith, nat_tests)
+
+-- nibbles that no opcode is, and no opcode goes on with
+no_row : (r : List ℕ) → row_of r ≡ None → opening_fault (opening_of r) ≡ Unsupported
+unfolding opening_of
+no_row r e = ap (λ o. opening_fault (opening_by o (is_front r))) e ∙ by (is_front r) where
+  by : (t : Bool) → opening_fault (opening_by None t) ≡ Unsupported
+  by true = refl
+  by false = refl
+
+first_none : (a : ℕ) → 16 ≤ a → row_of (a ∷ []) ≡ None
+first_none a h = grind (arith, nat_tests)
+
+second_none : (b : ℕ) → 15 ≤ b → row_of (15 ∷ (b ∷ [])) ≡ None
+second_none b h = grind (arith, nat_tests)
+
+third_none : (c : ℕ) → IsNoThird c → row_of (15 ∷ (0 ∷ (c ∷ []))) ≡ None
+third_none c h = grind (arith, nat_tests)
+
+third_front : (c : ℕ) → IsNoThird c → is_front (15 ∷ (0 ∷ (c ∷ []))) ≡ false
+third_front c h = grind (arith, nat_tests)
+
+pub third_refused : (c : ℕ) → IsNoThird c → head_of (opening_of (15 ∷ (0 ∷ (c ∷ [])))) ≡ HeadRefused
+unfolding opening_of
+third_refused c h =
+    ap (λ o. head_of (opening_by o (is_front (15 ∷ (0 ∷ (c ∷ [])))))) (third_none c h) ∙ ap (λ t. head_of (opening_by None t)) (third_front c h)
+
+pub first_fault : (a : ℕ) → first_opening a ≡ Refused → opening_fault (opening_of (a ∷ [])) ≡ Unsupported
+first_fault a e = elim (first_cases a) [
+  | inl m ↦ (let k = sym m.1 ∙ e in cc)
+  | inr m ↦ elim m [
+    | inl n ↦ (let k = sym n.1 ∙ e in cc)
+    | inr n ↦ no_row (a ∷ []) (first_none a n.0)
+  ]
+]
+
+pub second_fault : (b : ℕ) → second_opening b ≡ Refused → opening_fault (opening_of (15 ∷ (b ∷ []))) ≡ Unsupported
+second_fault b e = elim (second_cases b) [
+  | inl m ↦ (let k = sym m.1 ∙ e in cc)
+  | inr m ↦ elim m [
+    | inl n ↦ (let k = sym n.1 ∙ e in cc)
+    | inr n ↦ no_row (15 ∷ (b ∷ [])) (second_none b n.0)
+  ]
+]
+
+pub third_fault : (c : ℕ) → third_opening c ≡ Refused → opening_fault (opening_of (15 ∷ (0 ∷ (c ∷ [])))) ≡ Unsupported
+third_fault c e = elim (third_cases c) [
+  | inl m ↦ (let k = sym m.1 ∙ e in cc)
+  | inr m ↦ no_row (15 ∷ (0 ∷ (c ∷ []))) (third_none c m.0)
+]

@@ -1,7 +1,8 @@
 -- What a packet is as an item: its place and its timestamp, by looking back over all packets up to it, itself included
 -- (MIPI System Trace Protocol, version 2: master, channel and timestamp state; which packets change it, and how, is this
 -- project's profile).
-use Rattle.std.specs.Prelude.{ℕ, ◌+◌, ◌*◌, ◌/◌, ◌%◌, List, [], ◌∷◌, ◌++◌, Bool, false, ◌==◌, ◌||◌, if◌then◌else◌, Option, None, Some, is_none, not, unwrap_or}
+use Rattle.std.specs.Prelude.{ℕ, ◌+◌, ◌*◌, ◌/◌, ◌%◌, List, [], ◌∷◌, ◌++◌, Bool, false, ◌==◌, ◌||◌, if◌then◌else◌, Option, None, Some, unwrap_or}
+use Rattle.std.specs.Option.{is_some, option_or}
 use Rattle.std.specs.List.{list_any, filter_map, last_or, after_last}
 use Rattle.trace_clock.specs.GrayCode.{natural_of}
 use Rattle.trace_clock.specs.LastWord.{SizedWord, sized, last_word}
@@ -41,14 +42,6 @@ abbrev pub stamp_in : StpPacket → Option SizedWord
 stamp_in (Stamped row payload size word) = Some (sized size word)
 stamp_in p = None
 
--- the first of the two that is there
-abbrev pub or_else : Option ℕ → Option ℕ → Option ℕ
-or_else (Some v) other = Some v
-or_else None other = other
-
-abbrev pub is_some : Option ℕ → Bool
-is_some o = not (is_none o)
-
 -- the last value that h gives of the packets
 abbrev pub last_given : {V : Type 0} → (StpPacket → Option V) → List StpPacket → Option V
 last_given h packets = last_or None (filter_map h packets)
@@ -71,7 +64,7 @@ number_by begun whole low =
 abbrev pub number_of : (StpPacket → Bool) → (StpPacket → Option ℕ) → (StpPacket → Option ℕ) → List StpPacket → Option ℕ
 number_of begins whole low packets =
     let since = after_last begins packets in
-    number_by (list_any begins packets) (last_given whole since) (last_given (λ p. or_else (whole p) (low p)) since)
+    number_by (list_any begins packets) (last_given whole since) (last_given (λ p. option_or (whole p) (low p)) since)
 
 -- the version, the master and the channel in force after these packets; each may be unknown
 unfoldable pub version_of : List StpPacket → Option ℕ

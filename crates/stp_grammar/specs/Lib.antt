@@ -5,3 +5,4 @@ pub mod Rule
 pub mod Attribution
 pub mod NextState
 pub mod Attributed
+pub mod Rows

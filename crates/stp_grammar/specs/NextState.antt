@@ -1,12 +1,13 @@
 -- What version, master, channel and last word become with one more packet (this project's profile).
 use Rattle.std.specs.Prelude.{ℕ, ◌+◌, ◌*◌, ◌/◌, Bool, Option, None, Some, option_map, if◌then◌else◌}
+use Rattle.std.specs.Option.{option_or}
 use Rattle.trace_clock.specs.LastWord.{SizedWord, next_word}
 use Rattle.stp_grammar.specs.declared.packet.StpPacket.{StpPacket}
-use Rattle.stp_grammar.specs.Attribution.{version_in, master8_in, master16_in, channel8_in, channel16_in, stamp_in, or_else, begins_master, begins_channel, keeps_word}
+use Rattle.stp_grammar.specs.Attribution.{version_in, master8_in, master16_in, channel8_in, channel16_in, stamp_in, begins_master, begins_channel, keeps_word}
 
 -- VERSION tells the version
 abbrev pub next_version : Option ℕ → StpPacket → Option ℕ
-next_version old p = or_else (version_in p) old
+next_version old p = option_or (version_in p) old
 
 -- all 16 bits of a number, or the low 8 of a known one
 abbrev pub next_number : Option ℕ → Option ℕ → Option ℕ → Option ℕ

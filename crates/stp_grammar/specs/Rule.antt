@@ -11,8 +11,23 @@ use Rattle.stp_grammar.specs.declared.packet.StpPacket.{StpPacket}
 use Rattle.stp_grammar.specs.declared.packet.StpPacket.TheVariants.{Async, Plain, Stamped}
 use Rattle.stp_grammar.specs.declared.partial.Partial.{Partial}
 use Rattle.stp_grammar.specs.declared.partial.Partial.TheVariants.{Start, Second, Third, Run, Payload, Size, Word}
-use Rattle.stp_grammar.specs.Opcodes.{line_of, Opening, Whole, More, Refused, first_opening, second_opening, third_opening}
+use Rattle.stp_grammar.specs.Opcodes.{line_of, row_at, Opening, Whole, More, Refused}
 use Rattle.stp_grammar.specs.Proper.{IsProper}
+
+-- what the first nibble begins: the opcode of row 0 to 14, or F, with which opcodes and ASYNC go on
+abbrev pub first_opening : ℕ → Opening
+first_opening a = if nat_lt a 15 then Whole (row_at a) else (if a == 15 then More else Refused)
+
+-- and the nibble after F: the opcode of row 15 to 28, or 0, with which opcodes go on
+abbrev pub second_opening : ℕ → Opening
+second_opening b = if b == 0 then More else (if nat_lt b 15 then Whole (row_at (14 + b)) else Refused)
+
+-- and the nibble after F 0: the opcode of row 29 to 34
+abbrev pub third_opening : ℕ → Opening
+third_opening c =
+    if nat_lt c 2 then Whole (row_at (29 + c))
+    else (if nat_lt c 6 then Refused
+    else (if nat_lt c 10 then Whole (row_at (25 + c)) else Refused))
 
 -- the number that this many nibbles make with one more
 abbrev pub number_with : Order → ℕ → ℕ → ℕ → ℕ

@@ -1,6 +1,6 @@
 //! What the packets so far say of the next item: its place and its timestamp.
 
-ghost use Rattle.std.specs.Prelude.{◌≡◌, ◌<◌, ◌^◌};
+ghost use Rattle.std.specs.Prelude.{◌≡◌, ◌<◌, ◌+◌, ◌*◌, ◌/◌, ◌^◌, option_map};
 ghost use Rattle.trace_clock.specs.LastWord.{WordFits};
 ghost use Rattle.stp_grammar.specs.declared.packet.StpPacket.TheVariants.{Plain, Stamped};
 ghost use Rattle.stp_grammar.specs.Opcodes.{line_of};
@@ -60,6 +60,14 @@ fn item_with(place: Place, stamp: Stamp, row: Row, payload: u64) -> Option<StpIt
     }
 }
 
+/// A number with other low 8 bits. An unknown one stays unknown.
+#[inline]
+fn with_low_byte(number: Option<u16>, low: u8) -> Option<u16>
+    ensures { result ≡ option_map (λ n. n / 256 * 256 + low) number }
+{
+    number.map(|number| number / 256 * 256 + u16::from(low))
+}
+
 impl Attribution {
     ghost use Rattle.std.specs.Prelude.{List, [], ◌∷◌, ◌++◌, None};
     ghost use Rattle.stp_grammar.specs.declared.packet.StpPacket.{StpPacket};
@@ -111,7 +119,19 @@ impl Attribution {
         self.last
     }
 
-    /// Keeps what a packet without a timestamp tells.
+    /// Keeps a master that a packet tells, which makes the channel 0.
+    #[inline]
+    fn set_master(&mut self, master: Option<u16>)
+        ensures version { self.new.version ≡ self.old.version }
+        ensures master { self.new.master ≡ master }
+        ensures channel { self.new.channel ≡ Some 0 }
+        ensures last { self.new.last ≡ self.old.last }
+    {
+        self.master = master;
+        self.channel = Some(0);
+    }
+
+    /// Keeps what a packet without a timestamp tells. An error, of a master or of none, tells nothing of the next items.
     #[inline]
     fn note(&mut self, row: Row, payload: u64)
         requires fits { payload < 16 ^ (line_of row).payload }
@@ -122,29 +142,17 @@ impl Attribution {
     {
         match row {
             Row::Version => {
-                self.version = Some(payload as u8);
-                self.master = Some(0);
-                self.channel = Some(0);
-                self.last = 0;
+                *self = Attribution {
+                    version: Some(payload as u8),
+                    master: Some(0),
+                    channel: Some(0),
+                    last: 0,
+                }
             }
-            Row::Master8 => {
-                self.master = self
-                    .master
-                    .map(|master| master / 256 * 256 + payload as u16);
-                self.channel = Some(0);
-            }
-            Row::Master16 => {
-                self.master = Some(payload as u16);
-                self.channel = Some(0);
-            }
-            Row::Channel8 => {
-                self.channel = self
-                    .channel
-                    .map(|channel| channel / 256 * 256 + payload as u16);
-            }
-            Row::Channel16 => {
-                self.channel = Some(payload as u16);
-            }
+            Row::Master8 => self.set_master(with_low_byte(self.master, payload as u8)),
+            Row::Master16 => self.set_master(Some(payload as u16)),
+            Row::Channel8 => self.channel = with_low_byte(self.channel, payload as u8),
+            Row::Channel16 => self.channel = Some(payload as u16),
             _ => {}
         }
     }
@@ -201,3 +209,6 @@ impl Attribution {
         }
     }
 }
+
+#[cfg(test)]
+mod tests;

@@ -1,6 +1,7 @@
 //! Laws of the grammar and of attribution, over their definitions alone.
 
-ghost use Rattle.std.specs.Prelude.{◌≡◌, ◌↔◌, ◌⊎◌, ◌≤◌, ℕ, ◌+◌, All, length, List, [], ◌∷◌, ◌++◌, None};
+ghost use Rattle.std.specs.Prelude.{◌≡◌, ◌↔◌, ◌⊎◌, ◌≤◌, ℕ, ◌+◌, ◌<◌, All, length, List, [], ◌∷◌, ◌++◌, None};
+ghost use Rattle.std.specs.Option.{ForSome};
 ghost use Rattle.trace_values.specs.Placed.{Placed, units_of};
 ghost use Rattle.trace_values.specs.Grammar.{PrefixLaw, InUnits};
 ghost use Rattle.trace_values.specs.Walk.{Decides, Within, walk, by_unit};
@@ -10,10 +11,12 @@ ghost use Rattle.stp_grammar.specs.declared.packet.Order.{Order};
 ghost use Rattle.stp_grammar.specs.declared.packet.StpPacket.{StpPacket};
 ghost use Rattle.stp_grammar.specs.declared.partial.Partial.{Partial};
 ghost use Rattle.stp_grammar.specs.declared.partial.Partial.TheVariants.{Start};
+ghost use Rattle.stp_grammar.specs.declared.packet.Row.{Row};
+ghost use Rattle.stp_grammar.specs.Opcodes.{line_of, row_at, Whole, opening_of};
 ghost use Rattle.stp_grammar.specs.Spelling.{Spells, why};
 ghost use Rattle.stp_grammar.specs.Rule.{rule, count_of};
-ghost use Rattle.stp_grammar.specs.Proper.{IsProper};
-ghost use Rattle.stp_grammar.specs.Attribution.{version_of, master_of, channel_of, last_word_of};
+ghost use Rattle.stp_grammar.specs.Proper.{IsProper, IsProperItem};
+ghost use Rattle.stp_grammar.specs.Attribution.{version_of, master_of, channel_of, last_word_of, item_of};
 ghost use Rattle.stp_grammar.specs.NextState.{next_version, next_master, next_channel, next_last};
 
 /// In both orders one list of nibbles spells at most one packet, and no spelling begins another.
@@ -59,4 +62,20 @@ pub fn attribution_law()
         channel_of (packets ++ p ∷ []) ≡ next_channel (channel_of packets) p }
     ensures word { (packets : List StpPacket) (p : StpPacket) → IsProper p →
         last_word_of (packets ++ p ∷ []) ≡ next_last (version_of packets) (last_word_of packets) p }
+{}
+
+/// The rows of the table are at their numbers, and nibbles begin with at most one opcode: with that of a row they
+/// begin the row, whatever follows.
+pub fn opcode_law()
+    ensures number { (n : ℕ) → n < 35 → (line_of (row_at n)).number ≡ n }
+    ensures row { (row : Row) → ((line_of row).number < 35) × (row_at (line_of row).number ≡ row) }
+    ensures opcode { (row : Row) (r : List ℕ) → opening_of ((line_of row).opcode ++ r) ≡ Whole row }
+{}
+
+/// What nibbles spell has its numbers in their ranges, and so has the item of such a packet after such packets.
+pub fn proper_law()
+    ensures packet { (order : Order) (p : StpPacket) (r : List ℕ) → Spells order p r → All (λ b. b < 16) r →
+        IsProper p }
+    ensures item { (packets : List StpPacket) (p : StpPacket) → All IsProper packets → IsProper p →
+        ForSome (item_of packets p) IsProperItem }
 {}

@@ -1,10 +1,10 @@
 //! The table of opcodes.
 
-ghost use Rattle.std.specs.Prelude.{◌≡◌, ◌<◌, ◌≤◌, ◌+◌, length, true};
+ghost use Rattle.std.specs.Prelude.{◌≡◌, ◌<◌, ◌≤◌, ◌+◌, [], ◌∷◌, length, true};
 ghost use Rattle.stp_grammar.specs.declared.packet.Row.TheVariants.{Datum};
 ghost use Rattle.std.specs.Prelude.{None};
 ghost use Rattle.std.specs.Option.{ForSome};
-ghost use Rattle.stp_grammar.specs.Opcodes.{line_of, row_at as row_by_table, head_of, opening_of, given, listed, second_opening, third_opening, or_more, after_two};
+ghost use Rattle.stp_grammar.specs.Opcodes.{line_of, row_at as row_by_table, head_of, opening_of, given, listed};
 
 use crate::packet::{Row, Width};
 
@@ -76,10 +76,10 @@ pub enum Head {
 }
 
 /// By the nibble after F and 0.
-#[tactic(auto, using(crate::proofs::Openings::third_whole, crate::proofs::Openings::number_is))]
+#[tactic(auto, using(crate::proofs::Openings::third_head, crate::proofs::Openings::last_head, crate::proofs::Openings::third_refused))]
 fn third_head(nibble: u8) -> Head
     requires { nibble < 16 }
-    ensures { result ≡ head_of (third_opening nibble) }
+    ensures { result ≡ head_of (opening_of (15 ∷ (0 ∷ (nibble ∷ [])))) }
 {
     match nibble {
         0..=1 => Head::Whole(29 + nibble),
@@ -89,11 +89,11 @@ fn third_head(nibble: u8) -> Head
 }
 
 /// By the nibble after F, and the next where it is given.
-#[tactic(auto, using(crate::proofs::Openings::second_whole))]
+#[tactic(auto, using(crate::proofs::Openings::second_head, crate::proofs::Openings::heads_more, crate::proofs::Openings::run_refused))]
 fn second_head(nibble: u8, next: Option<u8>) -> Head
     requires nibble { nibble < 16 }
     requires next { ForSome next (λ c. c < 16) }
-    ensures { result ≡ head_of (or_more (second_opening nibble) (after_two nibble (listed next))) }
+    ensures { result ≡ head_of (opening_of (15 ∷ (nibble ∷ listed next))) }
 {
     if nibble == 0 {
         match next {
@@ -110,8 +110,9 @@ fn second_head(nibble: u8, next: Option<u8>) -> Head
     }
 }
 
-/// What these nibbles begin, by the table of opcodes.
-#[tactic(auto, using(crate::proofs::Openings::number_is))]
+/// What one to three nibbles begin, by the table of opcodes: the opcode of a row, whatever follows it; a front of an
+/// opcode or of ASYNC (F, F 0, F F and F F F); or neither.
+#[tactic(auto, using(crate::proofs::Openings::first_head, crate::proofs::Openings::heads_more))]
 pub fn opcode_of(first: u8, second: Option<u8>, third: Option<u8>) -> Head
     requires first { first < 16 }
     requires second { ForSome second (λ b. b < 16) }
@@ -194,6 +195,111 @@ impl Row {
             | Row::Flag { stamped }
             | Row::Trigger { stamped }
             | Row::Frequency { stamped } => stamped,
+        }
+    }
+}
+
+#[cfg(test)]
+mod tests {
+    use super::*;
+    use std::process::Abort;
+
+    /// The opcodes in the order of their rows, with how many nibbles the payload has and whether a timestamp follows.
+    const TABLE: [(u8, Option<u8>, Option<u8>, u8, bool); 35] = [
+        (0x0, None, None, 0, false),
+        (0x1, None, None, 2, false),
+        (0x2, None, None, 2, false),
+        (0x3, None, None, 2, false),
+        (0x4, None, None, 2, false),
+        (0x5, None, None, 4, false),
+        (0x6, None, None, 8, false),
+        (0x7, None, None, 16, false),
+        (0x8, None, None, 2, true),
+        (0x9, None, None, 4, true),
+        (0xA, None, None, 8, true),
+        (0xB, None, None, 16, true),
+        (0xC, None, None, 1, false),
+        (0xD, None, None, 1, true),
+        (0xE, None, None, 0, true),
+        (0xF, Some(0x1), None, 4, false),
+        (0xF, Some(0x2), None, 2, false),
+        (0xF, Some(0x3), None, 4, false),
+        (0xF, Some(0x4), None, 2, true),
+        (0xF, Some(0x5), None, 4, true),
+        (0xF, Some(0x6), None, 8, true),
+        (0xF, Some(0x7), None, 16, true),
+        (0xF, Some(0x8), None, 2, false),
+        (0xF, Some(0x9), None, 4, false),
+        (0xF, Some(0xA), None, 8, false),
+        (0xF, Some(0xB), None, 16, false),
+        (0xF, Some(0xC), None, 1, true),
+        (0xF, Some(0xD), None, 1, false),
+        (0xF, Some(0xE), None, 0, false),
+        (0xF, Some(0x0), Some(0x0), 1, false),
+        (0xF, Some(0x0), Some(0x1), 0, true),
+        (0xF, Some(0x0), Some(0x6), 2, false),
+        (0xF, Some(0x0), Some(0x7), 2, true),
+        (0xF, Some(0x0), Some(0x8), 8, false),
+        (0xF, Some(0x0), Some(0x9), 8, true),
+    ];
+
+    #[test]
+    fn has_the_table(rt: HostRuntime) {
+        for number in 0..35u8 {
+            let (first, second, third, payload, stamped) = TABLE[usize::from(number)];
+            let row = row_at(number);
+            let nibbles = 1 + u8::from(second.is_some()) + u8::from(third.is_some());
+            assert_eq!(rt; row.opcode_nibbles(), nibbles, "{row:?}");
+            assert_eq!(rt; row.payload_nibbles(), payload, "{row:?}");
+            assert_eq!(rt; row.is_stamped(), stamped, "{row:?}");
+            assert_eq!(rt;
+                opcode(&rt, first, second, third),
+                Head::Whole(number),
+                "{row:?}"
+            );
+        }
+    }
+
+    /// What the nibbles begin, which must be under 16, and a third after a second.
+    fn opcode(rt: &impl Abort, first: u8, second: Option<u8>, third: Option<u8>) -> Head {
+        assert!(rt; first < 16);
+        match (second, third) {
+            (Some(b), Some(c)) => assert!(rt; b < 16 && c < 16),
+            (Some(b), None) => assert!(rt; b < 16),
+            (None, Some(_)) => assert!(rt; false),
+            (None, None) => {}
+        }
+        opcode_of(first, second, third)
+    }
+
+    #[test]
+    fn answers_what_nibbles_begin(rt: HostRuntime) {
+        let rows: [(u8, Option<u8>, Option<u8>, Head); 18] = [
+            (0x0, Some(0x0), Some(0x2), Head::Whole(0)),
+            (0xE, Some(0xF), None, Head::Whole(14)),
+            (0xF, None, None, Head::More),
+            (0xF, Some(0x0), None, Head::More),
+            (0xF, Some(0x1), Some(0x2), Head::Whole(15)),
+            (0xF, Some(0xE), Some(0xF), Head::Whole(28)),
+            (0xF, Some(0xF), None, Head::More),
+            (0xF, Some(0xF), Some(0xF), Head::More),
+            (0xF, Some(0xF), Some(0xE), Head::Refused),
+            (0xF, Some(0xF), Some(0x0), Head::Refused),
+            (0xF, Some(0x0), Some(0x2), Head::Refused),
+            (0xF, Some(0x0), Some(0x3), Head::Refused),
+            (0xF, Some(0x0), Some(0x4), Head::Refused),
+            (0xF, Some(0x0), Some(0x5), Head::Refused),
+            (0xF, Some(0x0), Some(0xA), Head::Refused),
+            (0xF, Some(0x0), Some(0xC), Head::Refused),
+            (0xF, Some(0x0), Some(0xE), Head::Refused),
+            (0xF, Some(0x0), Some(0xF), Head::Refused),
+        ];
+        for (first, second, third, head) in rows {
+            assert_eq!(rt;
+                opcode(&rt, first, second, third),
+                head,
+                "{first} {second:?} {third:?}"
+            );
         }
     }
 }

@@ -273,3 +273,6 @@ impl Partial {
         }
     }
 }
+
+#[cfg(test)]
+mod tests;

@@ -1,5 +1,9 @@
--- The global time, by the list of all global timestamps so far.
-use Rattle.std.specs.Prelude.{◌≡◌, ℕ, ◌+◌, ◌*◌, ◌^◌, ◌<◌, ◌≤◌, List, Bool, false, ◌==◌, nat_lt, if◌then◌else◌, Option, None, Some, option_map, unwrap_or}
+-- The global time, by the list of all global timestamps so far (ARMv7-M Architecture Reference Manual, Arm DDI 0403E,
+-- appendix D4 'Debug ITM and DWT Packet Protocol', section D4.2 'Packet descriptions', 'Global timestamp packets':
+-- GTS1, whose Wrap says that the high bits changed, and GTS2, which has them). What the time is between them is this
+-- project's profile.
+use Rattle.std.specs.Prelude.{◌≡◌, ℕ, ◌+◌, ◌*◌, ◌^◌, ◌<◌, ◌≤◌, List, Bool, false, ◌==◌, nat_lt, if◌then◌else◌, Option}
+use Rattle.std.specs.Prelude.{None, Some, option_map, unwrap_or}
 use Rattle.std.specs.List.{list_any, filter_map, last_or, after_last}
 use Rattle.std.specs.Int.{bit_at, sum_through}
 

@@ -1,4 +1,5 @@
--- Gray code of 64 bits.
+-- Gray code of 64 bits, in which neighbouring numbers differ in one bit. Words of STP timestamps are Gray numbers under
+-- protocol version 4, in this project's profile.
 use Rattle.std.specs.Prelude.{ℕ, ◌+◌, ◌*◌, ◌%◌, ◌^◌}
 use Rattle.std.specs.Int.{bit_at, sum_through}
 

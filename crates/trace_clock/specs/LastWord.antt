@@ -1,5 +1,8 @@
--- The words of STP timestamps, and the last word by the list of all timestamps so far.
-use Rattle.std.specs.Prelude.{◌≡◌, ℕ, ◌+◌, ◌*◌, ◌/◌, ◌%◌, ◌^◌, ◌<◌, List, [], ◌∷◌, ◌++◌, Bool, Option, None, Some, nat_lt, ◌==◌, if◌then◌else◌, unwrap_or}
+-- The words of STP timestamps, and the last word by the list of all timestamps so far: this project's profile of the
+-- timestamps of the System Trace Protocol (MIPI Alliance Specification for System Trace Protocol, STPv2,
+-- timestamps).
+use Rattle.std.specs.Prelude.{◌≡◌, ℕ, ◌+◌, ◌*◌, ◌/◌, ◌%◌, ◌^◌, ◌<◌, List, [], ◌∷◌, ◌++◌, Bool, Option, None, Some}
+use Rattle.std.specs.Prelude.{nat_lt, ◌==◌, if◌then◌else◌, unwrap_or}
 use Rattle.std.specs.List.{filter_map, last_or}
 use Rattle.std.specs.Int.{sum_through}
 use Rattle.trace_clock.specs.GrayCode.{natural_of}

@@ -1,4 +1,5 @@
--- The local time.
+-- The local time (ARMv7-M Architecture Reference Manual, Arm DDI 0403E, appendix D4 'Debug ITM and DWT Packet
+-- Protocol', section D4.2 'Packet descriptions', 'Local timestamp packets': each counts from the one before).
 use Rattle.std.specs.Prelude.{ℕ, List, sum}
 
 -- the time since the start, in ticks, where each local timestamp told these since the one before

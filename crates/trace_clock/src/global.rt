@@ -1,5 +1,5 @@
-//! The global time, which global timestamp packets tell (ARMv7-M Architecture Reference Manual, 'Debug ITM
-//! and DWT packet protocol', global timestamp packets).
+//! The global time, which global timestamp packets tell (ARMv7-M Architecture Reference Manual, Arm DDI 0403E, appendix
+//! D4 'Debug ITM and DWT Packet Protocol', section D4.2 'Packet descriptions', 'Global timestamp packets').
 
 ghost use Rattle.std.specs.Prelude.{◌≡◌, ◌+◌, ◌*◌, ◌/◌, ◌^◌, ◌<◌, ◌≤◌, Bool, List, [], ◌∷◌, ◌++◌};
 ghost use Rattle.std.specs.Option.{ForSome};

@@ -1,5 +1,5 @@
-//! The local time, which local timestamp packets tell (ARMv7-M Architecture Reference Manual, 'Debug ITM
-//! and DWT packet protocol', local timestamp packets).
+//! The local time, which local timestamp packets tell (ARMv7-M Architecture Reference Manual, Arm DDI 0403E, appendix
+//! D4 'Debug ITM and DWT Packet Protocol', section D4.2 'Packet descriptions', 'Local timestamp packets').
 
 ghost use Rattle.std.specs.Prelude.{ℕ};
 

@@ -1,3 +1,4 @@
+-- What the adapters over readers and writers keep.
 use Rattle.std.specs.Prelude.{ℕ}
 use Rattle.trace_io.specs.declared.read_adapter.ReadAdapter.{ReadAdapter}
 use Rattle.trace_io.specs.declared.write_adapter.WriteAdapter.{WriteAdapter}

@@ -4,20 +4,28 @@ use Rattle.std.specs.declared.option.Option.{Option}
 use Rattle.std.specs.Io.KnownBytes.{Consumes}
 use Rattle.std.proofs.KnownBytes.{Consumes-trans}
 use Rattle.circular_buffer.specs.Buffer.{keep_last}
-use Rattle.trace_stream.proofs.Pieces.{all_fed}
+use Rattle.trace_stream.proofs.Pieces.{all_fed, whole}
 use Rattle.trace_stream.proofs.Kept.{kept_more, kept_piece, kept_front}
-use Rattle.trace_stream.specs.Fed.{StandsAfter, HasFed}
+use Rattle.trace_stream.specs.BuffersState.{BuffersState}
+use Rattle.trace_stream.specs.Fed.{Writing, StandsAfter, HasFed}
 use Rattle.trace_stream.specs.Pumped.{HasPumped}
+use Rattle.trace_stream.specs.Served.{Meaning, Ends}
+use Rattle.trace_stream.specs.declared.feeding.Fed.{Fed}
 use Rattle.trace_stream.specs.declared.feeding.FeedEnd.TheVariants.{All, FaultFound, WriteFailed}
 use Rattle.trace_stream.specs.declared.outcome.Outcome.TheVariants as outcome
+use Rattle.trace_stream.specs.declared.recent.TheConstants.{RECENT_ROOM}
 
--- all bytes that were read so far, of this count, were fed, and the last sixteen are kept
-pub record IsPumping (stands faulty : List ℕ → Type 0) (text : List ℕ → List ℕ) (left_old left_new start held : Option (List ℕ)) (pending recent : List ℕ) (count : ℕ) : Type 0 where
+-- the way of the text between two moments
+abbrev pub writing : Ends → Ends → BuffersState → Writing
+writing old new buffers = record { start = old.held; held = new.held; pending = buffers.pending }
+
+-- all bytes that were read so far, of this count, were fed, and the last are kept
+pub record IsPumping (stands : List ℕ → Type 0) (m : Meaning) (old new : Ends) (buffers : BuffersState) (count : ℕ) : Type 0 where
   pub seen : List ℕ
-  pub lost : Consumes left_old left_new seen
-  pub after : StandsAfter stands faulty text start held pending seen
+  pub lost : Consumes old.left new.left seen
+  pub after : StandsAfter stands m (writing old new buffers) seen
   pub counted : count ≡ length seen
-  pub kept : recent ≡ keep_last 16 seen
+  pub kept : buffers.recent ≡ keep_last RECENT_ROOM seen
 
 -- what was read after the bytes seen, of which a front was fed
 parts_lost : (old mid new : Option (List ℕ)) (seen bytes piece beyond fed rest : List ℕ) → Consumes old mid seen → Consumes mid new bytes → bytes ≡ piece ++ beyond → piece ≡ fed ++ rest → Consumes old new ((seen ++ fed) ++ (rest ++ beyond))
@@ -25,58 +33,57 @@ parts_lost old mid new seen bytes piece beyond fed rest p q e f =
     let same : seen ++ bytes ≡ (seen ++ fed) ++ (rest ++ beyond) = ap (λ l. seen ++ l) (e ∙ ap (λ l. l ++ beyond) f ∙ append_assoc fed rest beyond) ∙ sym (append_assoc seen fed (rest ++ beyond)) in
     subst (Consumes old new) same (Consumes-trans old mid new seen bytes p q)
 
-pub pump_stopped : (was now faulty : List ℕ → Type 0) (text : List ℕ → List ℕ) (limit : ℕ) (left_old left left_new start held held' : Option (List ℕ)) (pending pending' recent recent' : List ℕ) (count : ℕ) (bytes piece beyond : List ℕ)
-    (so_far : IsPumping was faulty text left_old left start held pending recent count) → Consumes left left_new bytes → bytes ≡ piece ++ beyond → count + length piece ≤ limit → count + length bytes ≤ limit + 1
-    → (fed_count : ℕ) → HasFed now faulty text start held' pending' so_far.seen piece fed_count FaultFound → recent' ≡ keep_last 16 (recent ++ take fed_count piece)
-    → HasPumped now faulty text limit left_old left_new start held' pending' recent' outcome.FaultFound
-pump_stopped was now faulty text limit left_old left left_new start held held' pending pending' recent recent' count bytes piece beyond so_far q e within at_most fed_count fed keeps = record {
-  seen = so_far.seen ++ fed.fed;
-  extra = fed.rest ++ beyond;
-  lost = parts_lost left_old left left_new so_far.seen bytes piece beyond fed.fed fed.rest so_far.lost q e fed.parts;
-  within = omega (arith, so_far.counted, length-append so_far.seen fed.fed, length-append fed.fed fed.rest, ap length fed.parts);
-  at_most = omega (arith, so_far.counted, length-append so_far.seen fed.fed, length-append fed.fed fed.rest, ap length fed.parts, length-append fed.rest beyond, length-append piece beyond, ap length e);
-  kept = kept_more recent recent' so_far.seen (take fed_count piece) fed.fed so_far.kept keeps (kept_front piece fed.fed fed.rest fed_count fed.counted fed.parts);
-  outcome = fed.outcome;
-}
+-- a piece is the front of the bytes that were read next, as far as the limit goes; a front of it is fed
+module _ (was now : List ℕ → Type 0) (m : Meaning) (limit : ℕ) (old mid new : Ends) (kept after : BuffersState) (count : ℕ) (bytes piece beyond : List ℕ)
+    (so_far : IsPumping was m old mid kept count) (read : Consumes mid.left new.left bytes) (parts : bytes ≡ piece ++ beyond) (fed_count : ℕ)
+    (keeps : after.recent ≡ keep_last RECENT_ROOM (kept.recent ++ take fed_count piece)) where
+  pub pump_stopped : count + length piece ≤ limit → count + length bytes ≤ limit + 1
+      → HasFed now m (writing old new after) so_far.seen piece (record { bytes = fed_count; end = FaultFound }) → HasPumped now m limit old new after outcome.FaultFound
+  pump_stopped within at_most fed = record {
+    seen = so_far.seen ++ fed.fed;
+    extra = fed.rest ++ beyond;
+    lost = parts_lost old.left mid.left new.left so_far.seen bytes piece beyond fed.fed fed.rest so_far.lost read parts fed.parts;
+    within = omega (arith, so_far.counted, length-append so_far.seen fed.fed, length-append fed.fed fed.rest, ap length fed.parts);
+    at_most = omega (arith, so_far.counted, length-append so_far.seen fed.fed, length-append fed.fed fed.rest, ap length fed.parts, length-append fed.rest beyond, length-append piece beyond, ap length parts);
+    kept = kept_more kept.recent after.recent so_far.seen (take fed_count piece) fed.fed so_far.kept keeps (kept_front piece fed.fed fed.rest fed_count fed.counted fed.parts);
+    outcome = fed.outcome;
+  }
 
-pub pump_write_failed : (was now faulty : List ℕ → Type 0) (text : List ℕ → List ℕ) (limit : ℕ) (left_old left left_new start held held' : Option (List ℕ)) (pending pending' recent recent' : List ℕ) (count : ℕ) (bytes piece beyond : List ℕ)
-    (so_far : IsPumping was faulty text left_old left start held pending recent count) → Consumes left left_new bytes → bytes ≡ piece ++ beyond → count + length piece ≤ limit → count + length bytes ≤ limit + 1
-    → (fed_count : ℕ) → HasFed now faulty text start held' pending' so_far.seen piece fed_count WriteFailed → recent' ≡ keep_last 16 (recent ++ take fed_count piece)
-    → HasPumped now faulty text limit left_old left_new start held' pending' recent' outcome.WriteFailed
-pump_write_failed was now faulty text limit left_old left left_new start held held' pending pending' recent recent' count bytes piece beyond so_far q e within at_most fed_count fed keeps = record {
-  seen = so_far.seen ++ fed.fed;
-  extra = fed.rest ++ beyond;
-  lost = parts_lost left_old left left_new so_far.seen bytes piece beyond fed.fed fed.rest so_far.lost q e fed.parts;
-  within = omega (arith, so_far.counted, length-append so_far.seen fed.fed, length-append fed.fed fed.rest, ap length fed.parts);
-  at_most = omega (arith, so_far.counted, length-append so_far.seen fed.fed, length-append fed.fed fed.rest, ap length fed.parts, length-append fed.rest beyond, length-append piece beyond, ap length e);
-  kept = kept_more recent recent' so_far.seen (take fed_count piece) fed.fed so_far.kept keeps (kept_front piece fed.fed fed.rest fed_count fed.counted fed.parts);
-  outcome = fed.outcome;
-}
+  pub pump_write_failed : count + length piece ≤ limit → count + length bytes ≤ limit + 1
+      → HasFed now m (writing old new after) so_far.seen piece (record { bytes = fed_count; end = WriteFailed }) → HasPumped now m limit old new after outcome.WriteFailed
+  pump_write_failed within at_most fed = record {
+    seen = so_far.seen ++ fed.fed;
+    extra = fed.rest ++ beyond;
+    lost = parts_lost old.left mid.left new.left so_far.seen bytes piece beyond fed.fed fed.rest so_far.lost read parts fed.parts;
+    within = omega (arith, so_far.counted, length-append so_far.seen fed.fed, length-append fed.fed fed.rest, ap length fed.parts);
+    at_most = omega (arith, so_far.counted, length-append so_far.seen fed.fed, length-append fed.fed fed.rest, ap length fed.parts, length-append fed.rest beyond, length-append piece beyond, ap length parts);
+    kept = kept_more kept.recent after.recent so_far.seen (take fed_count piece) fed.fed so_far.kept keeps (kept_front piece fed.fed fed.rest fed_count fed.counted fed.parts);
+    outcome = fed.outcome;
+  }
 
-pub pump_over : (was now faulty : List ℕ → Type 0) (text : List ℕ → List ℕ) (limit : ℕ) (left_old left left_new start held held' : Option (List ℕ)) (pending pending' recent recent' : List ℕ) (count : ℕ) (bytes piece beyond : List ℕ)
-    (so_far : IsPumping was faulty text left_old left start held pending recent count) → Consumes left left_new bytes → bytes ≡ piece ++ beyond → count + length piece ≡ limit → count + length bytes ≡ limit + 1
-    → (fed_count : ℕ) → HasFed now faulty text start held' pending' so_far.seen piece fed_count All → recent' ≡ keep_last 16 (recent ++ take fed_count piece) → pending' ≡ []
-    → HasPumped now faulty text limit left_old left_new start held' pending' recent' outcome.OverLimit
-pump_over was now faulty text limit left_old left left_new start held held' pending pending' recent recent' count bytes piece beyond so_far q e within at_most fed_count fed keeps none = record {
+  pub pump_over : count + length piece ≡ limit → count + length bytes ≡ limit + 1
+      → HasFed now m (writing old new after) so_far.seen piece (whole fed_count) → after.pending ≡ [] → HasPumped now m limit old new after outcome.OverLimit
+  pump_over within at_most fed none = record {
+    seen = so_far.seen ++ piece;
+    extra = beyond;
+    lost = parts_lost old.left mid.left new.left so_far.seen bytes piece beyond piece [] so_far.lost read parts (sym (append-nil piece));
+    within = omega (arith, so_far.counted, length-append so_far.seen piece);
+    at_most = omega (arith, so_far.counted, length-append so_far.seen piece, length-append piece beyond, ap length parts);
+    kept = kept_more kept.recent after.recent so_far.seen (take fed_count piece) piece so_far.kept keeps (kept_piece piece fed.fed fed.rest fed_count fed.counted fed.parts fed.outcome.1);
+    outcome = (all_fed now m (writing old new after) so_far.seen piece fed_count fed, omega (arith, so_far.counted, length-append so_far.seen piece), omega (arith, length-append piece beyond, ap length parts), none);
+  }
+
+-- all that was read is fed
+pub pump_more : (was now : List ℕ → Type 0) (m : Meaning) (old mid new : Ends) (kept after : BuffersState) (count : ℕ) (piece : List ℕ)
+    (so_far : IsPumping was m old mid kept count) → Consumes mid.left new.left piece
+    → (fed_count : ℕ) → HasFed now m (writing old new after) so_far.seen piece (whole fed_count) → after.recent ≡ keep_last RECENT_ROOM (kept.recent ++ take fed_count piece)
+    → IsPumping now m old new after (count + length piece)
+pump_more was now m old mid new kept after count piece so_far read fed_count fed keeps = record {
   seen = so_far.seen ++ piece;
-  extra = beyond;
-  lost = parts_lost left_old left left_new so_far.seen bytes piece beyond piece [] so_far.lost q e (sym (append-nil piece));
-  within = omega (arith, so_far.counted, length-append so_far.seen piece);
-  at_most = omega (arith, so_far.counted, length-append so_far.seen piece, length-append piece beyond, ap length e);
-  kept = kept_more recent recent' so_far.seen (take fed_count piece) piece so_far.kept keeps (kept_piece piece fed.fed fed.rest fed_count fed.counted fed.parts fed.outcome.1);
-  outcome = (all_fed now faulty text start held' pending' so_far.seen piece fed_count fed, omega (arith, so_far.counted, length-append so_far.seen piece), omega (arith, length-append piece beyond, ap length e), none);
-}
-
-pub pump_more : (was now faulty : List ℕ → Type 0) (text : List ℕ → List ℕ) (left_old left left_new start held held' : Option (List ℕ)) (pending pending' recent recent' : List ℕ) (count : ℕ) (piece : List ℕ)
-    (so_far : IsPumping was faulty text left_old left start held pending recent count) → Consumes left left_new piece
-    → (fed_count : ℕ) → HasFed now faulty text start held' pending' so_far.seen piece fed_count All → recent' ≡ keep_last 16 (recent ++ take fed_count piece)
-    → IsPumping now faulty text left_old left_new start held' pending' recent' (count + length piece)
-pump_more was now faulty text left_old left left_new start held held' pending pending' recent recent' count piece so_far q fed_count fed keeps = record {
-  seen = so_far.seen ++ piece;
-  lost = Consumes-trans left_old left left_new so_far.seen piece so_far.lost q;
-  after = all_fed now faulty text start held' pending' so_far.seen piece fed_count fed;
+  lost = Consumes-trans old.left mid.left new.left so_far.seen piece so_far.lost read;
+  after = all_fed now m (writing old new after) so_far.seen piece fed_count fed;
   counted = omega (arith, so_far.counted, length-append so_far.seen piece);
-  kept = kept_more recent recent' so_far.seen (take fed_count piece) piece so_far.kept keeps (kept_piece piece fed.fed fed.rest fed_count fed.counted fed.parts fed.outcome.1);
+  kept = kept_more kept.recent after.recent so_far.seen (take fed_count piece) piece so_far.kept keeps (kept_piece piece fed.fed fed.rest fed_count fed.counted fed.parts fed.outcome.1);
 }
 
 -- ---- the part of the buffer that is fed
@@ -91,5 +98,5 @@ pub length-cut_read : (buf rest : List ℕ) (taken : ℕ) → taken ≤ length b
 length-cut_read buf rest taken h = omega (arith, length-take taken (buf ++ rest), length-append buf rest)
 
 -- the front of the buffer that is kept is a front of the piece
-pub cut_kept : (all old new : List ℕ) (count taken : ℕ) → count ≤ taken → new ≡ keep_last 16 (old ++ take count all) → new ≡ keep_last 16 (old ++ take count (take taken all))
-cut_kept all old new count taken h e = e ∙ ap (λ l. keep_last 16 (old ++ l)) (sym (take-take count taken all h))
+pub cut_kept : (all old new : List ℕ) (count taken : ℕ) → count ≤ taken → new ≡ keep_last RECENT_ROOM (old ++ take count all) → new ≡ keep_last RECENT_ROOM (old ++ take count (take taken all))
+cut_kept all old new count taken h e = e ∙ ap (λ l. keep_last RECENT_ROOM (old ++ l)) (sym (take-take count taken all h))

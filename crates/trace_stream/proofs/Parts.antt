@@ -8,96 +8,97 @@ use Rattle.trace_io.proofs.Writes.{front_all}
 use Rattle.trace_stream.specs.Written.{GrowsOnly}
 use Rattle.trace_stream.specs.declared.outcome.Outcome.{Outcome}
 use Rattle.trace_stream.specs.declared.outcome.Outcome.TheVariants.{AtEnd, FaultFound, ReadFailed, WriteFailed, OverLimit}
+use Rattle.trace_stream.specs.BuffersState.{BuffersState}
 use Rattle.trace_stream.specs.Pumped.{HasPumped}
 use Rattle.trace_stream.specs.Served.{Meaning, Ends, HasServed, HasStopped}
 
--- what an action makes of bytes, and what the ends of a run show
-abbrev means : (List ℕ → Type 0) → (List ℕ → List ℕ) → (List ℕ → List ℕ) → Meaning
-means faulty text ending = record { faulty = faulty; text = text; ending = ending }
-
-abbrev ends : Option (List ℕ) → Option (List ℕ) → Ends
-ends left held = record { left = left; held = held }
+-- the output went on after the reading
+abbrev pub written : Ends → Option (List ℕ) → Ends
+written new held = record { left = new.left; held = held }
 
 -- the first bytes up to the limit are those seen, and maybe more
 first_bytes : (limit : ℕ) (seen extra : List ℕ) → length seen ≤ limit → take limit (seen ++ extra) ≡ seen ++ take (limit - length seen) extra
 first_bytes limit seen extra h = ap (λ n. take n (seen ++ extra)) (let e : limit ≡ length seen + (limit - length seen) = omega arith in e) ∙ take-append-add seen extra (limit - length seen)
 
-pub served_at_end : (stands faulty : List ℕ → Type 0) (text ending : List ℕ → List ℕ) (limit : ℕ) (left_old left_new start held new : Option (List ℕ)) (pending recent : List ℕ)
-    (pumped : HasPumped stands faulty text limit left_old left_new start held pending recent AtEnd) → Appends start new (text pumped.seen ++ ending pumped.seen)
-    → HasServed (means faulty text ending) limit (ends left_old start) (ends left_new new) recent AtEnd
-served_at_end stands faulty text ending limit left_old left_new start held new pending recent pumped written = record {
+pub served_at_end : (stands : List ℕ → Type 0) (m : Meaning) (limit : ℕ) (old new : Ends) (buffers : BuffersState) (held : Option (List ℕ))
+    (pumped : HasPumped stands m limit old new buffers AtEnd) → Appends old.held held (m.text pumped.seen ++ m.ending pumped.seen)
+    → HasServed m limit old (written new held) buffers.recent AtEnd
+served_at_end stands m limit old new buffers held pumped put = record {
   bytes = pumped.seen;
-  out = text pumped.seen ++ ending pumped.seen;
-  lost = subst (Consumes left_old left_new) (ap (λ l. pumped.seen ++ l) pumped.outcome.1 ∙ append-nil pumped.seen) pumped.lost;
-  gained = written;
+  out = m.text pumped.seen ++ m.ending pumped.seen;
+  lost = subst (Consumes old.left new.left) (ap (λ l. pumped.seen ++ l) pumped.outcome.1 ∙ append-nil pumped.seen) pumped.lost;
+  gained = put;
   at_most = omega (arith, pumped.within);
   outcome = (pumped.outcome.0.sound, pumped.within, refl);
-  ended = pumped.outcome.2;
+  ended = λ e. pumped.outcome.2;
 }
 
+-- what a fault adds to is the same, whatever comes after it
+pub record Stays (m : Meaning) : Type 0 where
+  pub faulty : (xs ys : List ℕ) → m.faulty xs → m.faulty (xs ++ ys)
+  pub text : (xs ys : List ℕ) → m.faulty xs → m.text (xs ++ ys) ≡ m.text xs
+  pub ending : (xs ys : List ℕ) → m.faulty xs → m.ending (xs ++ ys) ≡ m.ending xs
+
 -- at a stop, where the action stands
-pub served_stopped : (stands faulty : List ℕ → Type 0) (text ending : List ℕ → List ℕ) (limit : ℕ) (left_old left_new start held new : Option (List ℕ)) (pending recent : List ℕ)
-    → ((xs ys : List ℕ) → faulty xs → faulty (xs ++ ys)) → ((xs ys : List ℕ) → faulty xs → text (xs ++ ys) ≡ text xs) → ((xs ys : List ℕ) → faulty xs → ending (xs ++ ys) ≡ ending xs)
-    → (pumped : HasPumped stands faulty text limit left_old left_new start held pending recent FaultFound) → Appends start new (text pumped.seen ++ ending pumped.seen)
-    → HasStopped stands (means faulty text ending) limit (ends left_old start) (ends left_new new) recent
-served_stopped stands faulty text ending limit left_old left_new start held new pending recent faulty_stays text_stays ending_stays pumped written =
+pub served_stopped : (stands : List ℕ → Type 0) (m : Meaning) (limit : ℕ) (old new : Ends) (buffers : BuffersState) (held : Option (List ℕ)) → Stays m
+    → (pumped : HasPumped stands m limit old new buffers FaultFound) → Appends old.held held (m.text pumped.seen ++ m.ending pumped.seen)
+    → HasStopped stands m limit old (written new held) buffers.recent
+served_stopped stands m limit old new buffers held stays pumped put =
     let more = take (limit - length pumped.seen) pumped.extra in
     let front = first_bytes limit pumped.seen pumped.extra pumped.within in
-    let same_text : text (take limit (pumped.seen ++ pumped.extra)) ≡ text pumped.seen = ap text front ∙ text_stays pumped.seen more pumped.outcome.certain.broken in
-    let same_ending : ending (take limit (pumped.seen ++ pumped.extra)) ≡ ending pumped.seen = ap ending front ∙ ending_stays pumped.seen more pumped.outcome.certain.broken in
-    let served : HasServed (means faulty text ending) limit (ends left_old start) (ends left_new new) recent FaultFound = record {
+    let same_text : m.text (take limit (pumped.seen ++ pumped.extra)) ≡ m.text pumped.seen = ap m.text front ∙ stays.text pumped.seen more pumped.outcome.certain.broken in
+    let same_ending : m.ending (take limit (pumped.seen ++ pumped.extra)) ≡ m.ending pumped.seen = ap m.ending front ∙ stays.ending pumped.seen more pumped.outcome.certain.broken in
+    let served : HasServed m limit old (written new held) buffers.recent FaultFound = record {
       bytes = pumped.seen ++ pumped.extra;
-      out = text pumped.seen ++ ending pumped.seen;
+      out = m.text pumped.seen ++ m.ending pumped.seen;
       lost = pumped.lost;
-      gained = written;
+      gained = put;
       at_most = omega (arith, pumped.at_most, length-append pumped.seen pumped.extra);
-      outcome = (record { seen = pumped.seen; rest = more; parts = front; certain = pumped.outcome.certain; broken = subst faulty (sym front) (faulty_stays pumped.seen more pumped.outcome.certain.broken) }, cc, pumped.kept);
-      ended = tt;
+      outcome = (record { seen = pumped.seen; rest = more; parts = front; certain = pumped.outcome.certain; broken = subst m.faulty (sym front) (stays.faulty pumped.seen more pumped.outcome.certain.broken) }, cc, pumped.kept);
+      ended = λ e. cc;
     } in
     record { served = served; holds = pumped.outcome.read }
 
-pub served_read_failed : (stands faulty : List ℕ → Type 0) (text ending : List ℕ → List ℕ) (limit : ℕ) (left_old left_new start held : Option (List ℕ)) (pending recent : List ℕ)
-    → HasPumped stands faulty text limit left_old left_new start held pending recent ReadFailed
-    → HasServed (means faulty text ending) limit (ends left_old start) (ends left_new held) recent ReadFailed
-served_read_failed stands faulty text ending limit left_old left_new start held pending recent pumped = record {
+pub served_read_failed : (stands : List ℕ → Type 0) (m : Meaning) (limit : ℕ) (old new : Ends) (buffers : BuffersState)
+    → HasPumped stands m limit old new buffers ReadFailed → HasServed m limit old new buffers.recent ReadFailed
+served_read_failed stands m limit old new buffers pumped = record {
   bytes = pumped.seen;
-  out = text pumped.seen;
-  lost = subst (Consumes left_old left_new) (ap (λ l. pumped.seen ++ l) pumped.outcome.1 ∙ append-nil pumped.seen) pumped.lost;
-  gained = front_all start held (text pumped.seen) pending pumped.outcome.0.written pumped.outcome.2;
+  out = m.text pumped.seen;
+  lost = subst (Consumes old.left new.left) (ap (λ l. pumped.seen ++ l) pumped.outcome.1 ∙ append-nil pumped.seen) pumped.lost;
+  gained = front_all old.held new.held (m.text pumped.seen) buffers.pending pumped.outcome.0.written pumped.outcome.2;
   at_most = omega (arith, pumped.within);
   outcome = (pumped.outcome.0.sound, pumped.within, refl);
-  ended = tt;
+  ended = λ e. cc;
 }
 
-pub served_over_limit : (stands faulty : List ℕ → Type 0) (text ending : List ℕ → List ℕ) (limit : ℕ) (left_old left_new start held : Option (List ℕ)) (pending recent : List ℕ)
-    → HasPumped stands faulty text limit left_old left_new start held pending recent OverLimit
-    → HasServed (means faulty text ending) limit (ends left_old start) (ends left_new held) recent OverLimit
-served_over_limit stands faulty text ending limit left_old left_new start held pending recent pumped =
+pub served_over_limit : (stands : List ℕ → Type 0) (m : Meaning) (limit : ℕ) (old new : Ends) (buffers : BuffersState)
+    → HasPumped stands m limit old new buffers OverLimit → HasServed m limit old new buffers.recent OverLimit
+served_over_limit stands m limit old new buffers pumped =
     let count : length pumped.seen ≡ limit = pumped.outcome.1 in
     let front : take limit (pumped.seen ++ pumped.extra) ≡ pumped.seen = sym (ap (λ n. take n (pumped.seen ++ pumped.extra)) count) ∙ take-append_seam pumped.seen pumped.extra in
     record {
       bytes = pumped.seen ++ pumped.extra;
-      out = text pumped.seen;
+      out = m.text pumped.seen;
       lost = pumped.lost;
-      gained = front_all start held (text pumped.seen) pending pumped.outcome.0.written pumped.outcome.3;
+      gained = front_all old.held new.held (m.text pumped.seen) buffers.pending pumped.outcome.0.written pumped.outcome.3;
       at_most = omega (arith, pumped.at_most, length-append pumped.seen pumped.extra);
-      outcome = (subst (λ l. faulty l → ⊥) (sym front) pumped.outcome.0.sound, omega (arith, count, pumped.outcome.2, length-append pumped.seen pumped.extra), sym (ap text front));
-      ended = tt;
+      outcome = (subst (λ l. m.faulty l → ⊥) (sym front) pumped.outcome.0.sound, omega (arith, count, pumped.outcome.2, length-append pumped.seen pumped.extra), sym (ap m.text front));
+      ended = λ e. cc;
     }
 
 -- a write that failed, where some prefix of the whole text was written
-pub served_in_part : (stands faulty : List ℕ → Type 0) (text ending : List ℕ → List ℕ) (limit : ℕ) (left_old left_new start held new : Option (List ℕ)) (pending recent : List ℕ) (how : Outcome)
-    (pumped : HasPumped stands faulty text limit left_old left_new start held pending recent how) (part : List ℕ) → AppendsPrefix start new part
-    → GrowsOnly part (text (take limit (pumped.seen ++ pumped.extra)) ++ ending (take limit (pumped.seen ++ pumped.extra)))
-    → HasServed (means faulty text ending) limit (ends left_old start) (ends left_new new) recent WriteFailed
-served_in_part stands faulty text ending limit left_old left_new start held new pending recent how pumped part prefix grows = record {
+pub served_in_part : (stands : List ℕ → Type 0) (m : Meaning) (limit : ℕ) (old new : Ends) (buffers : BuffersState) (held : Option (List ℕ)) (how : Outcome)
+    (pumped : HasPumped stands m limit old new buffers how) (part : List ℕ) → AppendsPrefix old.held held part
+    → GrowsOnly part (m.text (take limit (pumped.seen ++ pumped.extra)) ++ m.ending (take limit (pumped.seen ++ pumped.extra)))
+    → HasServed m limit old (written new held) buffers.recent WriteFailed
+served_in_part stands m limit old new buffers held how pumped part prefix grows = record {
   bytes = pumped.seen ++ pumped.extra;
   out = prefix.1.front;
   lost = pumped.lost;
   gained = prefix.1.took;
   at_most = omega (arith, pumped.at_most, length-append pumped.seen pumped.extra);
   outcome = (prefix.0 ++ grows.0, grows.1 ∙ ap (λ l. l ++ grows.0) prefix.1.all ∙ append_assoc prefix.1.front prefix.0 grows.0);
-  ended = tt;
+  ended = λ e. cc;
 }
 
 -- the text of the bytes seen is a front of the whole
@@ -114,12 +115,11 @@ all_in_part text ending limit seen extra none within =
     let same : take limit (seen ++ extra) ≡ seen = ap (take limit) (ap (λ l. seen ++ l) none ∙ append-nil seen) ∙ take_all limit seen within in
     ([], ap (λ l. text l ++ ending l) same ∙ sym (append-nil (text seen ++ ending seen)))
 
-pub stopped_in_part : (faulty : List ℕ → Type 0) (text ending : List ℕ → List ℕ) (limit : ℕ) (seen extra : List ℕ)
-    → ((xs ys : List ℕ) → faulty xs → text (xs ++ ys) ≡ text xs) → ((xs ys : List ℕ) → faulty xs → ending (xs ++ ys) ≡ ending xs) → faulty seen → length seen ≤ limit
-    → GrowsOnly (text seen ++ ending seen) (text (take limit (seen ++ extra)) ++ ending (take limit (seen ++ extra)))
-stopped_in_part faulty text ending limit seen extra text_stays ending_stays broken within =
+pub stopped_in_part : (m : Meaning) (limit : ℕ) (seen extra : List ℕ) → Stays m → m.faulty seen → length seen ≤ limit
+    → GrowsOnly (m.text seen ++ m.ending seen) (m.text (take limit (seen ++ extra)) ++ m.ending (take limit (seen ++ extra)))
+stopped_in_part m limit seen extra stays broken within =
     let more = take (limit - length seen) extra in
     let front = first_bytes limit seen extra within in
-    let same_text : text (take limit (seen ++ extra)) ≡ text seen = ap text front ∙ text_stays seen more broken in
-    let same_ending : ending (take limit (seen ++ extra)) ≡ ending seen = ap ending front ∙ ending_stays seen more broken in
-    ([], ap (λ l. l ++ ending (take limit (seen ++ extra))) same_text ∙ ap (λ l. text seen ++ l) same_ending ∙ sym (append-nil (text seen ++ ending seen)))
+    let same_text : m.text (take limit (seen ++ extra)) ≡ m.text seen = ap m.text front ∙ stays.text seen more broken in
+    let same_ending : m.ending (take limit (seen ++ extra)) ≡ m.ending seen = ap m.ending front ∙ stays.ending seen more broken in
+    ([], ap (λ l. l ++ m.ending (take limit (seen ++ extra))) same_text ∙ ap (λ l. m.text seen ++ l) same_ending ∙ sym (append-nil (m.text seen ++ m.ending seen)))

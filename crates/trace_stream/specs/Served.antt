@@ -5,7 +5,9 @@ use Rattle.std.specs.Io.KnownBytes.{Appends, Consumes, IsAtEnd}
 use Rattle.circular_buffer.specs.Buffer.{keep_last}
 use Rattle.trace_stream.specs.Written.{GrowsOnly, IsCertainAt}
 use Rattle.trace_stream.specs.declared.outcome.Outcome.{Outcome}
-use Rattle.trace_stream.specs.declared.outcome.Outcome.TheVariants.{AtEnd, FaultFound, ReadFailed, WriteFailed, OverLimit}
+use Rattle.trace_stream.specs.declared.outcome.Outcome.TheVariants.{AtEnd, FaultFound, ReadFailed, WriteFailed}
+use Rattle.trace_stream.specs.declared.outcome.Outcome.TheVariants.{OverLimit}
+use Rattle.trace_stream.specs.declared.recent.TheConstants.{RECENT_ROOM}
 
 -- What an action makes of the bytes of a capture: which of them have a fault, what is written for those so far, and
 -- what comes after it at the end or at a fault.
@@ -34,20 +36,15 @@ ServedBy m limit AtEnd bytes out recent =
     (m.faulty bytes → ⊥) × (length bytes ≤ limit) × (out ≡ m.text bytes ++ m.ending bytes)
 ServedBy m limit FaultFound bytes out recent =
     (stop : StopsWithin m.faulty (take limit bytes))
-    × (out ≡ m.text (take limit bytes) ++ m.ending (take limit bytes)) × (recent ≡ keep_last 16 stop.seen)
+    × (out ≡ m.text (take limit bytes) ++ m.ending (take limit bytes)) × (recent ≡ keep_last RECENT_ROOM stop.seen)
 ServedBy m limit ReadFailed bytes out recent =
     (m.faulty bytes → ⊥) × (length bytes ≤ limit) × (out ≡ m.text bytes)
 ServedBy m limit WriteFailed bytes out recent = GrowsOnly out (m.text (take limit bytes) ++ m.ending (take limit bytes))
 ServedBy m limit OverLimit bytes out recent =
     (m.faulty (take limit bytes) → ⊥) × (limit < length bytes) × (out ≡ m.text (take limit bytes))
 
--- where all was read the input is at its end
-abbrev pub EndsAt : Option (List ℕ) → Outcome → Type 0
-EndsAt left AtEnd = IsAtEnd left
-EndsAt left _ = Unit {0}
-
 -- the bytes are those that the input lost, at most one past the limit, out is what the output gained, and
--- recent is what the ring keeps after the run
+-- recent is what the ring keeps after the run; at the end of a run to the input's end nothing is left in the input
 pub record HasServed (m : Meaning) (limit : ℕ) (old new : Ends) (recent : List ℕ) (result : Outcome) : Type 0 where
   pub bytes : List ℕ
   pub out : List ℕ
@@ -55,7 +52,7 @@ pub record HasServed (m : Meaning) (limit : ℕ) (old new : Ends) (recent : List
   pub gained : Appends old.held new.held out
   pub at_most : length bytes ≤ limit + 1
   pub outcome : ServedBy m limit result bytes out recent
-  pub ended : EndsAt new.left result
+  pub ended : result ≡ AtEnd → IsAtEnd new.left
 
 -- a run that stopped was served so, and this holds of the bytes up to the one at which the fault became certain
 pub record HasStopped (there : List ℕ → Type 0) (m : Meaning) (limit : ℕ) (old new : Ends) (recent : List ℕ)

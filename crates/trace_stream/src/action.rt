@@ -3,7 +3,9 @@
 ghost use Rattle.std.specs.Prelude.{◌≡◌, ℕ, ◌+◌, ◌^◌, ◌<◌, ◌≤◌, List, [], ◌++◌, length, take};
 ghost use Rattle.trace_io.specs.Bytes.{TakesSome};
 ghost use Rattle.trace_stream.specs.Written.{GrowsOnly};
-ghost use Rattle.trace_stream.specs.Taken.{HasTaken};
+ghost use Rattle.trace_stream.specs.Served.{Meaning};
+ghost use Rattle.trace_stream.specs.Taken.{HasTaken, Turn};
+ghost use Rattle.trace_stream.specs.declared.limits.TheConstants.{GREATEST_CAPTURE};
 
 use crate::outlet::{OUTLET_ROOM, Outlet};
 
@@ -58,13 +60,19 @@ pub trait Action {
         requires live { live self.old }
         requires some { 0 < length piece.now }
         requires room { length outlet.old + ACTION_ROOM ≤ OUTLET_ROOM }
-        requires count { taken self.old + length piece.now ≤ 2 ^ 36 }
+        requires count { taken self.old + length piece.now ≤ GREATEST_CAPTURE }
         ensures same { plan self.new ≡ plan self.old }
         ensures front { TakesSome piece.now result.bytes }
         ensures count { taken self.new ≡ taken self.old + result.bytes }
-        ensures fed { (seen : List ℕ) → stands self.old seen →
-            HasTaken (stands self.new) (faulty (plan self.old)) (text (plan self.old)) seen (take result.bytes piece.now)
-            outlet.old outlet.new result.flow }
+        ensures fed { (seen : List ℕ) → stands self.old seen → let p = plan self.old in
+            let meaning : Meaning = record { faulty = faulty p; text = text p; ending = ending p } in
+            let turn : Turn = record {
+              seen = seen;
+              front = take result.bytes piece.now;
+              before = outlet.old;
+              after = outlet.new;
+            } in
+            HasTaken (stands self.new) meaning turn result.flow }
         ensures live { result.flow ≡ Flow.On → live self.new };
 
     /// Puts what is written after the text into the outlet, which is empty.

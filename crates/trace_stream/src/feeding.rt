@@ -4,7 +4,9 @@ ghost use Rattle.std.specs.Prelude.{◌≡◌, ℕ, ◌+◌, ◌^◌, ◌<◌, �
 ghost use Rattle.std.specs.declared.option.Option.{Option};
 ghost use Rattle.trace_io.specs.Bytes.{AppendsPrefix, TakesFront};
 ghost use Rattle.trace_io.specs.Causes.{HasCause, Rose};
-ghost use Rattle.trace_stream.specs.Fed.{StandsAfter, HasFed};
+ghost use Rattle.trace_stream.specs.Fed.{Writing, StandsAfter, HasFed};
+ghost use Rattle.trace_stream.specs.Served.{Meaning};
+ghost use Rattle.trace_stream.specs.declared.limits.TheConstants.{GREATEST_CAPTURE};
 
 use crate::action::{ACTION_ROOM, Action, Flow};
 use crate::outlet::{OUTLET_ROOM, Outlet};
@@ -49,14 +51,16 @@ fn feed_piece<A: Action, O: Sink>(
     piece: &[u8],
 ) -> Fed
     requires live { A.live action.old }
-    requires count { A.taken action.old + length piece.now ≤ 2 ^ 36 }
+    requires count { A.taken action.old + length piece.now ≤ GREATEST_CAPTURE }
     ensures same { A.plan action.new ≡ A.plan action.old }
     ensures live { result.end ≡ FeedEnd.All → A.live action.new }
     ensures count { result.end ≡ FeedEnd.All → A.taken action.new ≡ A.taken action.old + length piece.now }
     ensures fed { (start : Option (List ℕ)) (seen : List ℕ) (p : A.Plan) → A.plan action.old ≡ p →
-        StandsAfter (A.stands action.old) (A.faulty p) (A.text p) start (O.held output.old) outlet.old seen →
-        HasFed (A.stands action.new) (A.faulty p) (A.text p) start (O.held output.new) outlet.new seen piece.now
-        result.bytes result.end }
+        let meaning : Meaning = record { faulty = A.faulty p; text = A.text p; ending = A.ending p } in
+        let before : Writing = record { start = start; held = O.held output.old; pending = outlet.old } in
+        let after : Writing = record { start = start; held = O.held output.new; pending = outlet.new } in
+        StandsAfter (A.stands action.old) meaning before seen →
+        HasFed (A.stands action.new) meaning after seen piece.now result }
     ensures front { result.bytes ≤ length piece.now }
     ensures later { O.faults output.old ≤ O.faults output.new }
     ensures cause { result.end ≡ FeedEnd.WriteFailed → Rose (O.faults output.old) (O.faults output.new) }
@@ -95,14 +99,16 @@ pub fn feed_and_write<A: Action, O: Sink>(
     piece: &[u8],
 ) -> Fed
     requires live { A.live action.old }
-    requires count { A.taken action.old + length piece.now ≤ 2 ^ 36 }
+    requires count { A.taken action.old + length piece.now ≤ GREATEST_CAPTURE }
     ensures same { A.plan action.new ≡ A.plan action.old }
     ensures live { result.end ≡ FeedEnd.All → A.live action.new }
     ensures count { result.end ≡ FeedEnd.All → A.taken action.new ≡ A.taken action.old + length piece.now }
     ensures fed { (start : Option (List ℕ)) (seen : List ℕ) (p : A.Plan) → A.plan action.old ≡ p →
-        StandsAfter (A.stands action.old) (A.faulty p) (A.text p) start (O.held output.old) outlet.old seen →
-        HasFed (A.stands action.new) (A.faulty p) (A.text p) start (O.held output.new) outlet.new seen piece.now
-        result.bytes result.end }
+        let meaning : Meaning = record { faulty = A.faulty p; text = A.text p; ending = A.ending p } in
+        let before : Writing = record { start = start; held = O.held output.old; pending = outlet.old } in
+        let after : Writing = record { start = start; held = O.held output.new; pending = outlet.new } in
+        StandsAfter (A.stands action.old) meaning before seen →
+        HasFed (A.stands action.new) meaning after seen piece.now result }
     ensures written { result.end ≡ FeedEnd.All → outlet.new ≡ [] }
     ensures front { result.bytes ≤ length piece.now }
     ensures later { O.faults output.old ≤ O.faults output.new }

@@ -8,6 +8,7 @@
 mod action;
 mod buffers;
 mod feeding;
+mod limits;
 mod outcome;
 mod outlet;
 mod pumping;
@@ -18,6 +19,7 @@ mod tests;
 
 pub use action::{ACTION_ROOM, Action, Flow, Taken};
 pub use buffers::Buffers;
+pub use limits::GREATEST_CAPTURE;
 pub use outcome::Outcome;
 pub use outlet::{OUTLET_ROOM, Outlet, TEXT_ROOM, Text};
 pub use recent::RECENT_ROOM;

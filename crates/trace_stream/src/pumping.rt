@@ -5,7 +5,10 @@ ghost use Rattle.std.specs.Io.{ReadsAtMost};
 ghost use Rattle.std.specs.Io.KnownBytes.{ReadConsumes};
 ghost use Rattle.trace_io.specs.Causes.{HasCause, CountsEmpty, Rose};
 ghost use Rattle.trace_stream.specs.Fresh.{IsFresh};
+ghost use Rattle.trace_stream.specs.BuffersState.{BuffersState};
 ghost use Rattle.trace_stream.specs.Pumped.{HasPumped};
+ghost use Rattle.trace_stream.specs.Served.{Meaning, Ends};
+ghost use Rattle.trace_stream.specs.declared.limits.TheConstants.{GREATEST_CAPTURE};
 
 use crate::action::Action;
 use crate::feeding::{FeedEnd, feed_and_write};
@@ -41,10 +44,14 @@ pub fn pump<A: Action, I: Source, O: Sink>(
     requires fresh { IsFresh (A.live action.old) (A.stands action.old) (A.taken action.old)
         (record { pending = outlet.old; recent = recent.old }) }
     requires some { 0 < length buffer.old }
-    requires small { limit ≤ 2 ^ 36 }
+    requires small { limit ≤ GREATEST_CAPTURE }
     ensures same { A.plan action.new ≡ A.plan action.old }
-    ensures pumped { HasPumped (A.stands action.new) (A.faulty (A.plan action.old)) (A.text (A.plan action.old)) limit
-        (I.left input.old) (I.left input.new) (O.held output.old) (O.held output.new) outlet.new recent.new result }
+    ensures pumped { let p = A.plan action.old in
+        let meaning : Meaning = record { faulty = A.faulty p; text = A.text p; ending = A.ending p } in
+        let before : Ends = record { left = I.left input.old; held = O.held output.old } in
+        let after : Ends = record { left = I.left input.new; held = O.held output.new } in
+        let buffers : BuffersState = record { pending = outlet.new; recent = recent.new } in
+        HasPumped (A.stands action.new) meaning limit before after buffers result }
     ensures one_empty_read { I.empty_reads input.new ≤ I.empty_reads input.old + 1 }
     ensures read_later { I.faults input.old ≤ I.faults input.new }
     ensures write_later { O.faults output.old ≤ O.faults output.new }

@@ -37,7 +37,7 @@ impl Recent {
     /// Keeps the last of the bytes so far and these. Of a long piece only the last `RECENT_ROOM` bytes
     /// are touched.
     pub fn keep(&mut self, bytes: &[u8])
-        ensures { self.new ≡ keep_last 16 (self.old ++ bytes.now) }
+        ensures { self.new ≡ keep_last RECENT_ROOM (self.old ++ bytes.now) }
     {
         self.bytes.extend_from_slice(bytes);
     }

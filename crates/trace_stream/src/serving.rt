@@ -7,6 +7,7 @@ ghost use Rattle.trace_io.specs.Bytes.{TakesFront, AppendsPrefix};
 ghost use Rattle.trace_io.specs.Causes.{HasCause, Rose};
 ghost use Rattle.trace_stream.specs.Fresh.{IsFresh};
 ghost use Rattle.trace_stream.specs.Served.{Meaning, Ends, HasServed, HasStopped};
+ghost use Rattle.trace_stream.specs.declared.limits.TheConstants.{GREATEST_CAPTURE};
 
 use crate::action::Action;
 use crate::buffers::Buffers;
@@ -47,7 +48,7 @@ pub fn serve<A: Action, I: Source, O: Sink>(
     output: &mut O,
 ) -> Outcome
     requires fresh { IsFresh (A.live action.old) (A.stands action.old) (A.taken action.old) buffers.old }
-    requires small { limit ≤ 2 ^ 36 }
+    requires small { limit ≤ GREATEST_CAPTURE }
     ensures served { let p = A.plan action.old in
         let meaning : Meaning = record { faulty = A.faulty p; text = A.text p; ending = A.ending p } in
         let before : Ends = record { left = I.left input.old; held = O.held output.old } in

@@ -1,11 +1,13 @@
 ghost use Rattle.std.specs.Prelude.{◌≡◌, true, not, refl};
 ghost use Rattle.trace_stream.specs.Doubling.{has_fault, HasFault, doubled, last_line};
-ghost use Rattle.trace_stream.specs.DoublingLaws.{none_at_first, fault_stays, doubled_stays, last_line_stays, doubled_grows};
+ghost use Rattle.trace_stream.specs.DoublingLaws.{none_at_first, fault_stays, doubled_stays, last_line_stays};
+ghost use Rattle.trace_stream.specs.DoublingLaws.{doubled_grows};
 
 mod watched;
 
 use crate::action::{Action, Flow, Taken};
 use crate::buffers::Buffers;
+use crate::limits::GREATEST_CAPTURE;
 use crate::outcome::Outcome;
 use crate::outlet::Outlet;
 use crate::recent::RECENT_ROOM;
@@ -115,7 +117,7 @@ fn check(
     let mut room = [0; 64];
     let mut input = MemorySource::new(case.bytes, case.pieces, case.read_fails);
     let mut output = MemorySink::new(&mut room, case.write_pieces, case.write_fails);
-    assert!(rt; case.limit <= 1 << 36);
+    assert!(rt; case.limit <= GREATEST_CAPTURE);
     let ended = serve(
         &mut buffers,
         &mut action,

@@ -8,7 +8,7 @@ use Rattle.trace_values.specs.Stream.{Stream, Grows, HuntBy, given_by, fault_by,
 use Rattle.trace_values.specs.Block.{StopsFor, Takes, StandsAt}
 use Rattle.trace_values.proofs.Placing.{placed_from_push}
 
--- behind so many quiet or skipped bytes
+-- after this many quiet or skipped bytes
 pub record IsTaking {V : Type 0} (reading : List Placed → Stream V) (stands : List Placed → Type 0) (u : List Placed) (at : ℕ) (piece : List ℕ) (bytes : ℕ) : Type 0 where
   pub list : stands (u ++ placed_from at (take bytes piece))
   pub given : (reading (u ++ placed_from at (take bytes piece))).given ≡ (reading u).given
@@ -23,7 +23,7 @@ next_placed u at piece i h =
     (ap (λ (n : ℕ). placed_from at (take i piece) ++ byte_at (at + n) (get_or piece i 0) ∷ []) (sym (length-take-le i piece (omega arith)))
     ∙ sym (placed_from_push at (take i piece) (get_or piece i 0)) ∙ ap (placed_from at) (sym (take_more piece i 0 h)))
 
--- a fault stands at its byte
+-- a fault is at its byte
 place_of : {V : Type 0} → (old new : Stream V) (at : ℕ) (step : Step V) → HuntBy old new at step → StandsAt at (Some step)
 place_of old new at Quiet h = tt
 place_of old new at Skipping h = tt

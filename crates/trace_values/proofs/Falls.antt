@@ -109,45 +109,45 @@ module _ {S V : Type 0} (p : Pattern) (v : V) (rule : S → Placed → Next S V)
       let q : hunt p v rule start (u ++ b ∷ []) ≡ hunt_on p v rule start h b h.found = steps.hunt_push p v rule start u b h.found refl in
       found_before skipped live state u b s.found h.found refl k (sym (ap (λ (x : Hunt S V). x.found) q) ∙ s.some) s.skipped_is s.stands
 
-  -- where no value fails at its first unit, a unit before that of a fault ends none, and is held
-  module _ (begins : (b : Placed) (e : Reason) → rule start b ≡ Fail e → ⊥) where
-    sound_start : (b : Placed) (items : List (V × Place)) (x : Next S V) → rule start b ≡ x → (let r : Progress S V = record { items = items; rest = []; fault = None; state = start } in is_none (with_unit start r b x None).fault ≡ true)
-    sound_start b items (Go t) e = refl
-    sound_start b items (End w) e = refl
-    sound_start b items (Fail q) e = absurd (begins b q e)
+  -- where no value fails at such a first unit, a unit before one that is a fault ends none, and is held
+  module _ (IsFirst : Placed → Type 0) (begins : (b : Placed) (e : Reason) → IsFirst b → rule start b ≡ Fail e → ⊥) where
+    sound_start : (b : Placed) (items : List (V × Place)) (x : Next S V) → IsFirst b → rule start b ≡ x → (let r : Progress S V = record { items = items; rest = []; fault = None; state = start } in is_none (with_unit start r b x None).fault ≡ true)
+    sound_start b items (Go t) i e = refl
+    sound_start b items (End w) i e = refl
+    sound_start b items (Fail q) i e = absurd (begins b q i e)
 
-    goes_by : (front : List (Said V × Place)) (n : ℕ) (r : Progress S V) (b c : Placed) (x : Next S V) (f : Option (Place × Reason)) → (with_unit start r b x f).fault ≡ None →
+    goes_by : (front : List (Said V × Place)) (n : ℕ) (r : Progress S V) (b c : Placed) (x : Next S V) (f : Option (Place × Reason)) → IsFirst c → (with_unit start r b x f).fault ≡ None →
         is_none (advance rule start (with_unit start r b x f) c).fault ≡ false → Holds 1 (shown front n r) (shown front n (with_unit start r b x f))
-    goes_by front n r b c (Go t) None e k = record { given = refl; held = length_push r.rest b; skipped = refl; locked = refl }
-    goes_by front n r b c (End w) None e k = (let z : true ≡ false = sym (sound_start c (r.items ++ (w, b.place) ∷ []) (rule start c) refl) ∙ k in cc)
-    goes_by front n r b c (Fail q) None e k = cc
-    goes_by front n r b c x (Some f) e k = cc
+    goes_by front n r b c (Go t) None i e k = record { given = refl; held = length_push r.rest b; skipped = refl; locked = refl }
+    goes_by front n r b c (End w) None i e k = (let z : true ≡ false = sym (sound_start c (r.items ++ (w, b.place) ∷ []) (rule start c) i refl) ∙ k in cc)
+    goes_by front n r b c (Fail q) None i e k = cc
+    goes_by front n r b c x (Some f) i e k = cc
 
-    goes_found : (h : Hunt S V) (b c : Placed) (o : Option (Found S V)) →
+    goes_found : (h : Hunt S V) (b c : Placed) (o : Option (Found S V)) → IsFirst c →
         (hunted_by (hunt_on p v rule start h b o).units (hunt_on p v rule start h b o).found).fault ≡ None →
         (let w = hunt_on p v rule start h b o in let y = hunt_on p v rule start w c w.found in is_none (hunted_by y.units y.found).fault ≡ false) →
         Holds 1 (hunted_by h.units o) (hunted_by (hunt_on p v rule start h b o).units (hunt_on p v rule start h b o).found)
-    goes_found h b c (Some f) e k = goes_by ((Notice f.skipped, f.place) ∷ []) f.skipped f.reading b c (rule f.reading.state b) f.reading.fault e k
-    goes_found h b c None e k = by (locks h b) k where
+    goes_found h b c (Some f) i e k = goes_by ((Notice f.skipped, f.place) ∷ []) f.skipped f.reading b c (rule f.reading.state b) f.reading.fault i e k
+    goes_found h b c None i e k = by (locks h b) k where
       by : (t : Bool) → (let y = hunt_on p v rule start (sought h b t) c (sought h b t).found in is_none (hunted_by y.units y.found).fault ≡ false) → Holds 1 (hunted_by {S = S} h.units None) (hunted_by (sought h b t).units (sought h b t).found)
-      by true k = (let z : true ≡ false = sym (sound_start c ((v, b.place) ∷ []) (rule start c) refl) ∙ k in cc)
+      by true k = (let z : true ≡ false = sym (sound_start c ((v, b.place) ∷ []) (rule start c) i refl) ∙ k in cc)
       by false k = (let z : true ≡ false = sym (sound_by (sought h b false) c (locks (sought h b false) c)) ∙ k in cc)
 
-    pub goes : (h : Bool) (u : List Placed) (b c : Placed) → (stream_in p v rule start h (u ++ b ∷ [])).fault ≡ None → is_none (stream_in p v rule start h ((u ++ b ∷ []) ++ c ∷ [])).fault ≡ false →
+    pub goes : (h : Bool) (u : List Placed) (b c : Placed) → IsFirst c → (stream_in p v rule start h (u ++ b ∷ [])).fault ≡ None → is_none (stream_in p v rule start h ((u ++ b ∷ []) ++ c ∷ [])).fault ≡ false →
         Holds 1 (stream_in p v rule start h u) (stream_in p v rule start h (u ++ b ∷ []))
-    goes false u b c e k =
+    goes false u b c i e k =
         let q = progress_push rule start u b in
         let w = progress_push rule start (u ++ b ∷ []) c in
         subst (λ (r : Progress S V). Holds 1 (shown [] 0 (progress rule start u)) (shown [] 0 r)) (sym q)
-        (goes_by [] 0 (progress rule start u) b c (rule (progress rule start u).state b) (progress rule start u).fault (ap (λ (r : Progress S V). r.fault) (sym q) ∙ e)
+        (goes_by [] 0 (progress rule start u) b c (rule (progress rule start u).state b) (progress rule start u).fault i (ap (λ (r : Progress S V). r.fault) (sym q) ∙ e)
         (ap (λ (r : Progress S V). is_none (advance rule start r c).fault) (sym q) ∙ ap (λ (r : Progress S V). is_none r.fault) (sym w) ∙ k))
-    goes true u b c e k =
+    goes true u b c i e k =
         let h = hunt p v rule start u in
         let q : hunt p v rule start (u ++ b ∷ []) ≡ hunt_on p v rule start h b h.found = steps.hunt_push p v rule start u b h.found refl in
         let g = hunt p v rule start (u ++ b ∷ []) in
         let w : hunt p v rule start ((u ++ b ∷ []) ++ c ∷ []) ≡ hunt_on p v rule start g c g.found = steps.hunt_push p v rule start (u ++ b ∷ []) c g.found refl in
         subst (λ (x : Hunt S V). Holds 1 (hunted p v rule start u) (hunted_by x.units x.found)) (sym q)
-        (goes_found h b c h.found (ap (λ (x : Hunt S V). (hunted_by x.units x.found).fault) (sym q) ∙ e)
+        (goes_found h b c h.found i (ap (λ (x : Hunt S V). (hunted_by x.units x.found).fault) (sym q) ∙ e)
         (ap (λ (x : Hunt S V). is_none (hunted_by (hunt_on p v rule start x c x.found).units (hunt_on p v rule start x c x.found).found).fault) (sym q)
         ∙ ap (λ (x : Hunt S V). is_none (hunted_by x.units x.found).fault) (sym w) ∙ k))
 

@@ -82,7 +82,7 @@ module _ {S V : Type 0} (p : Pattern) (v : V) (rule : S → Placed → Next S V)
         (subst (λ (x : Hunt S V). Grows (hunted_by {S = S} h.units None) (hunted_by x.units x.found) b.place.at (Locked (h.units - p.most) b.place.half v)) (sym (now f))
         (record { given = refl; fault = refl; hunt = (refl, refl, refl) })))
 
-  -- behind the lock
+  -- after the lock
   found_push : (u : List Placed) (b : Placed) (f : Found S V) → (hunt p v rule start u).found ≡ Some f →
       (hunt p v rule start (u ++ b ∷ [])).found ≡ Some (record { skipped = f.skipped; place = f.place; reading = advance rule start f.reading b })
   found_push u b f e = ap (λ (x : Hunt S V). x.found) (hunt_push u b (Some f) e)

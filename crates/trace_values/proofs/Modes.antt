@@ -96,7 +96,7 @@ module _ {S V : Type 0} (p : Pattern) (v : V) (rule : S → Placed → Next S V)
   reads-step (Hunting run skipped) live state u b n l k e s = cc
   reads-step (Locked skipped) live state u b n l k e s = seeks.Grows-followed p v rule start skipped live state u b n l e s
 
-  -- behind a fault
+  -- after a fault
   pub dead-list : (m : Mode) (live : Bool) (state : S) (u w : List Placed) → live ≡ false → StandsIn p v rule start m live state u → StandsIn p v rule start m live state (u ++ w)
   dead-list Aligned live state u w l s = lemmas.list_dead rule start u w live state l s
   dead-list (Hunting run skipped) live state u w l s = (let e = sym l ∙ s.1 in cc)

@@ -82,11 +82,14 @@ module _ {S V W T : Type 0} (p : Pattern) (v : V) (rule : S → Placed → Next 
   two_held a b c h k = record { given = k.given ∙ h.given; held = (let i = h.held in let j = k.held in omega arith); skipped = k.skipped ∙ h.skipped; locked = k.locked ∙ h.locked }
 
   -- where no value fails at its first nibble, the nibbles of a byte with a fault are held
-  module _ (begins : (b : Placed) (e : Reason) → rule start b ≡ Fail e → ⊥) where
-    low_held : (h : Bool) (n : List Placed) (b c : Placed) (o : Option (Place × Reason)) → (stream_in p v rule start h (n ++ b ∷ [])).fault ≡ o → is_none (stream_in p v rule start h ((n ++ b ∷ []) ++ c ∷ [])).fault ≡ false →
+  module _ (begins : (b : Placed) (e : Reason) → b.unit < 16 → rule start b ≡ Fail e → ⊥) where
+    abbrev IsNibble : Placed → Type 0
+    IsNibble b = b.unit < 16
+
+    low_held : (h : Bool) (n : List Placed) (b c : Placed) (o : Option (Place × Reason)) → IsNibble c → (stream_in p v rule start h (n ++ b ∷ [])).fault ≡ o → is_none (stream_in p v rule start h ((n ++ b ∷ []) ++ c ∷ [])).fault ≡ false →
         Holds 1 (stream_in p v rule start h n) (stream_in p v rule start h (n ++ b ∷ []))
-    low_held h n b c None e k = falling.goes p v rule start begins h n b c e k
-    low_held h n b c (Some f) e k = falling.holds p v rule start h n b (ap is_none e)
+    low_held h n b c None i e k = falling.goes p v rule start IsNibble begins h n b c i e k
+    low_held h n b c (Some f) i e k = falling.holds p v rule start h n b (ap is_none e)
 
     pub falls : (h : Bool) (u : List Placed) (at byte : ℕ) → is_none (items_of h (u ++ byte_at at byte ∷ [])).fault ≡ false → Holds 2 (items_of h u) (items_of h (u ++ byte_at at byte ∷ []))
     falls h u at byte k =
@@ -95,25 +98,25 @@ module _ {S V W T : Type 0} (p : Pattern) (v : V) (rule : S → Placed → Next 
         let f : is_none (stream_in p v rule start h (m ++ high_of at byte ∷ [])).fault ≡ false = ap (λ (x : List Placed). is_none (on_nibbles h x).fault) (sym (nibbles_push u at byte)) ∙ k in
         subst (λ (x : List Placed). Holds 2 (items_of h u) (on_nibbles h x)) (sym (nibbles_push u at byte))
         (two_held (on_nibbles h n) (on_nibbles h m) (on_nibbles h (m ++ high_of at byte ∷ []))
-        (decorating.holds make first 1 (stream_in p v rule start h n) (stream_in p v rule start h m) (low_held h n (low_of at byte) (high_of at byte) (stream_in p v rule start h m).fault refl f))
+        (decorating.holds make first 1 (stream_in p v rule start h n) (stream_in p v rule start h m) (low_held h n (low_of at byte) (high_of at byte) (stream_in p v rule start h m).fault (omega arith) refl f))
         (decorating.holds make first 1 (stream_in p v rule start h m) (stream_in p v rule start h (m ++ high_of at byte ∷ [])) (falling.holds p v rule start h m (high_of at byte) f)))
 
     -- and a machine holds those before the fault's
     module _ (count : S → ℕ) (none : count start ≡ 0) (one : (s t : S) (b : Placed) → rule s b ≡ Go t → count t ≡ count s + 1) where
-      keeps_by : (m : Mode) (live : Bool) (state : S) (n : List Placed) (b c : Placed) (o : Option (Place × Reason)) → (stream_in p v rule start (hunts m) (n ++ b ∷ [])).fault ≡ o →
+      keeps_by : (m : Mode) (live : Bool) (state : S) (n : List Placed) (b c : Placed) (o : Option (Place × Reason)) → IsNibble c → (stream_in p v rule start (hunts m) (n ++ b ∷ [])).fault ≡ o →
           StandsIn p v rule start m live state ((n ++ b ∷ []) ++ c ∷ []) → live ≡ false → (stream_in p v rule start (hunts m) n).fault ≡ None →
           ((stream_in p v rule start (hunts m) n).held ≤ count state) × (count state < (stream_in p v rule start (hunts m) n).held + 2)
-      keeps_by m live state n b c None e s l f =
+      keeps_by m live state n b c None i e s l f =
           let shown = laws.shows_in p v rule start count none one m live state ((n ++ b ∷ []) ++ c ∷ []) (length ((n ++ b ∷ []) ++ c ∷ [])) (omega arith) s in
-          let i = falling.keeps p v rule start count none one m live state (n ++ b ∷ []) c s l e in
-          let j = (falling.goes p v rule start begins (hunts m) n b c e (sym shown.live_is ∙ l)).held in
-          (omega (arith, i, j), omega (arith, i, j))
-      keeps_by m live state n b c (Some x) e s l f =
-          let i = falling.keeps p v rule start count none one m live state n b (falling.before p v rule start m live state (n ++ b ∷ []) c (ap is_none e) s) l f in
-          (omega (arith, i), omega (arith, i))
+          let x = falling.keeps p v rule start count none one m live state (n ++ b ∷ []) c s l e in
+          let j = (falling.goes p v rule start IsNibble begins (hunts m) n b c i e (sym shown.live_is ∙ l)).held in
+          (omega (arith, x, j), omega (arith, x, j))
+      keeps_by m live state n b c (Some x) i e s l f =
+          let y = falling.keeps p v rule start count none one m live state n b (falling.before p v rule start m live state (n ++ b ∷ []) c (ap is_none e) s) l f in
+          (omega (arith, y), omega (arith, y))
 
       pub keeps : (m : Mode) (live : Bool) (state : S) (u : List Placed) (at byte : ℕ) → StandsIn p v rule start m live state (nibbles_of (u ++ byte_at at byte ∷ [])) → live ≡ false →
           (items_of (hunts m) u).fault ≡ None → ((items_of (hunts m) u).held ≤ count state) × (count state < (items_of (hunts m) u).held + 2)
       keeps m live state u at byte s l f =
-          keeps_by m live state (nibbles_of u) (low_of at byte) (high_of at byte) (stream_in p v rule start (hunts m) (nibbles_of u ++ low_of at byte ∷ [])).fault refl
+          keeps_by m live state (nibbles_of u) (low_of at byte) (high_of at byte) (stream_in p v rule start (hunts m) (nibbles_of u ++ low_of at byte ∷ [])).fault (omega arith) refl
           (subst (λ (x : List Placed). StandsIn p v rule start m live state x) (nibbles_push u at byte) s) l f

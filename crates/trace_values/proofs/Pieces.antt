@@ -24,7 +24,7 @@ module _ {S V : Type 0} (p : Pattern) (z : V) (rule : S → ℕ → Next S V) (s
   abbrev here : (i : ℕ) → List Placed
   here i = u ++ placed_from at (take i piece)
 
-  -- the next byte, and so many behind it
+  -- the next byte, and this many after it
   next_bytes : (n i : ℕ) → i + suc n ≤ length piece → take (suc n) (drop i piece) ≡ get_or piece i 0 ∷ take n (drop (i + 1) piece)
   next_bytes n i h = ap (take (suc n)) (drop_more piece i 0 (omega arith))
 

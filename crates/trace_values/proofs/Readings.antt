@@ -11,7 +11,7 @@ use Rattle.trace_values.specs.Reading.{Reading, Splits, IsFirstFault, Ends, IsRe
 use Rattle.trace_values.proofs.Lists.{fronts_meet, same_fronts}
 use Rattle.trace_values.proofs.Walks.{walk_push, walked, none_beyond, no_front, prefix_law}
 
--- no spelling stands at the front of r
+-- no spelling is at the front of r
 abbrev pub NoneStands : {V : Type 0} → (V → List Placed → Type 0) → List Placed → Type 0
 NoneStands {V} Spells r = (v : V) (a w : List Placed) → Spells v a → r ≡ a ++ w → ⊥
 
@@ -29,7 +29,7 @@ module _ {S V : Type 0} (Spells : V → List Placed → Type 0) (why : List Plac
   not_whole : (v : V) (s : S) (r : List Placed) → walk rule start r ≡ Whole v → walk rule start r ≡ Within s → ⊥
   not_whole v s r p q = cc
 
-  -- nothing whole stands at the front of a front
+  -- nothing whole is at the front of a front
   front_alone : (s : S) (r : List Placed) → walk rule start r ≡ Within s → NoneStands Spells r
   front_alone s r f v a w t e =
       let more = d.goes_on s r f in
@@ -39,7 +39,7 @@ module _ {S V : Type 0} (Spells : V → List Placed → Type 0) (why : List Plac
         no_spelling a (h ∷ w) t k e =
             none_beyond Spells why rule start d v (d.goes_on s r f).0 a h (w ++ (d.goes_on s r f).1) t (subst (λ (l : List Placed). Spells (d.goes_on s r f).0 l) k (d.goes_on s r f).2)
 
-  -- what is kept of the list so far: a front and its state, or a front and the fault behind it
+  -- what is kept of the list so far: a front and its state, or a front and the fault after it
   record IsFaultAt (rest : List Placed) (f : Place × Reason) : Type 0 where
     before : List Placed
     unit : Placed
@@ -129,7 +129,7 @@ module _ {S V : Type 0} (Spells : V → List Placed → Type 0) (why : List Plac
   shorter_front : (a b : List Placed) → IsFront Spells (a ++ b) → IsFront Spells a
   shorter_front a b f = (f.0, b ++ f.1, subst (λ (l : List Placed). Spells f.0 l) (append_assoc a b f.1) f.2)
 
-  -- behind a front and the unit that breaks it, nothing stands at the front of the whole
+  -- after a front and the unit that breaks it, nothing is at the front of the whole
   broken_alone : (r : List Placed) (f : Place × Reason) → IsFaultAt r f → NoneStands Spells r
   broken_alone r f k v a w t e = elim (fronts_meet k.before a (k.unit ∷ k.after) w (sym k.parts ∙ e)) [
     | inl m ↦ longer m.0 m.1
@@ -144,7 +144,7 @@ module _ {S V : Type 0} (Spells : V → List Placed → Type 0) (why : List Plac
         no_front Spells why rule start d f.1 (k.before ++ k.unit ∷ []) (broken_of r f k)
         (v, c, subst (λ (l : List Placed). Spells v l) (m ∙ ap (λ (x : Placed). k.before ++ (x ∷ c)) here ∙ sym (append_assoc k.before (k.unit ∷ []) c)) t)
 
-  -- no spelling stands at the front of what is kept
+  -- no spelling is at the front of what is kept
   none_stands : (r : List Placed) (s : S) (f : Option (Place × Reason)) → Kept r s f → NoneStands Spells r
   none_stands r s None k = front_alone s r k
   none_stands r s (Some f) k = broken_alone r f k
@@ -205,7 +205,7 @@ module _ {S V : Type 0} (Spells : V → List Placed → Type 0) (why : List Plac
       let tail : xs ≡ ys = more.0 in
       (cc, more.1)
 
-  -- what stands before the one fault is no more than what stands before the other
+  -- what is before the one fault is no more than what is before the other
   not_later : (r : List Placed) (f g : Place × Reason) (s : IsFirstFault Spells why r f) (t : IsFirstFault Spells why r g) (h : Placed) (c : List Placed) → s.before ≡ t.before ++ (h ∷ c) → ⊥
   not_later r f g s t h c k =
       let all : t.before ++ (t.unit ∷ t.after) ≡ t.before ++ (h ∷ (c ++ (s.unit ∷ s.after))) =

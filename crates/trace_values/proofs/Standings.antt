@@ -153,7 +153,7 @@ module _ {S V : Type 0} (rule : S → Placed → Next S V) (start : S) where
         fault = ap (λ (p : Progress S V). p.fault) a ∙ s.1;
       }
 
-  -- what is more with one more unit stands at it
+  -- what is more with one more unit is at it
   rises_by : (front : List (Said V × Place)) (skipped : ℕ) (p : Progress S V) (b : Placed) (n : Next S V) (f : Option (Place × Reason)) → p.fault ≡ f →
       RisesOn (shown front skipped p) (shown front skipped (with_unit start p b n f)) b.place
   rises_by front skipped p b (End v) None e = record {
@@ -222,7 +222,7 @@ module _ {S V : Type 0} (rule : S → Placed → Next S V) (start : S) where
       subst (λ (p : Progress S V). Grows (stream_of (progress rule start u)) (stream_of p) b.place.at (step_on b.place n)) (sym (progress_push u b))
       (Grows-fed [] 0 (progress rule start u) live state b n l e s)
 
-  -- behind a fault a machine takes no more, and stands for all longer lists
+  -- after a fault a machine takes no more, and stands for all longer lists
   pub list_dead : (u w : List Placed) (live : Bool) (state : S) → live ≡ false → Keeps live state (progress rule start u) → Keeps live state (progress rule start (u ++ w))
   list_dead u w live state l s =
       let f = some_of (progress rule start u).fault (sym s.live_is ∙ l) in

@@ -24,7 +24,7 @@ module _ {V : Type 0} (reading : List Placed → Stream V) where
       let m = given_grows rises (placed xs) (length xs) ys in
       (m.0, ap (λ (l : List Placed). (reading l).given) (placed_append xs ys) ∙ m.1)
 
-  -- behind a fault nothing is read
+  -- after a fault nothing is read
   pub capture_settles : ((u w : List Placed) → is_none (reading u).fault ≡ false → Settled (reading u) (reading (u ++ w))) →
       (xs ys : List ℕ) → is_none (reading (placed xs)).fault ≡ false → Settled (reading (placed xs)) (reading (placed (xs ++ ys)))
   capture_settles settles xs ys f =

@@ -14,7 +14,7 @@ module _ {U S V : Type 0} (rule : S → U → Next S V) where
   after_within (End v) k l (c ∷ u) w s h e = cc
   after_within (Fail f) k l u w s h e = cc
 
-  -- behind units that go on, the walk goes on from their state
+  -- after units that go on, the walk goes on from their state
   pub walk_more : (s t : S) (u w : List U) → walk rule s u ≡ Within t → walk rule s (u ++ w) ≡ walk rule t w
   walk_more s t [] w e = let k : s ≡ t = cc in ap (λ (x : S). walk rule x w) k
   walk_more s t (b ∷ u) w e = after_within (rule s b) (λ x. walk rule x u) (λ x. walk rule x (u ++ w)) u w t (λ x h. walk_more x t u w h) e
@@ -42,7 +42,7 @@ module _ {U S V : Type 0} (rule : S → U → Next S V) where
   after_whole (End z) k l (c ∷ u) b w v h e = refl
   after_whole (Fail f) k l u b w v h e = cc
 
-  -- nothing stands behind a whole spelling
+  -- nothing comes after a whole spelling
   pub walk_beyond : (s : S) (v : V) (u : List U) (b : U) (w : List U) → walk rule s u ≡ Whole v → walk rule s (u ++ (b ∷ w)) ≡ Beyond
   walk_beyond s v [] b w e = cc
   walk_beyond s v (c ∷ u) b w e = after_whole (rule s c) (λ x. walk rule x u) (λ x. walk rule x (u ++ (b ∷ w))) u b w v (λ x h. walk_beyond x v u b w h) e
@@ -53,7 +53,7 @@ module _ {U S V : Type 0} (rule : S → U → Next S V) where
   after_broken (End z) k l (c ∷ u) w f h e = cc
   after_broken (Fail g) k l u w f h e = e
 
-  -- and no front stands behind a fault
+  -- and no front comes after a fault
   pub walk_broken : (s : S) (f : Reason) (u w : List U) → walk rule s u ≡ Broken f → walk rule s (u ++ w) ≡ Broken f
   walk_broken s f [] w e = cc
   walk_broken s f (c ∷ u) w e = after_broken (rule s c) (λ x. walk rule x u) (λ x. walk rule x (u ++ w)) u w f (λ x h. walk_broken x f u w h) e
@@ -89,15 +89,15 @@ module _ {U S V : Type 0} (Spells : V → List U → Type 0) (why : List U → R
   pub none_empty : (v : V) → Spells v [] → ⊥
   none_empty v s = not_within v start (sym (d.complete v [] s))
 
-  -- behind a spelling no spelling goes on
+  -- after a spelling no spelling goes on
   pub none_beyond : (v w : V) (r : List U) (b : U) (u : List U) → Spells v r → Spells w (r ++ (b ∷ u)) → ⊥
   none_beyond v w r b u s t = not_beyond w (sym (d.complete w (r ++ (b ∷ u)) t) ∙ walk_beyond rule start v r b u (d.complete v r s))
 
-  -- behind a fault there is no front
+  -- after a fault there is no front
   pub no_front : (f : Reason) (r : List U) → walk rule start r ≡ Broken f → IsFront Spells r → ⊥
   no_front f r e (v, w, s) = not_broken v f (sym (d.complete v (r ++ w) s) ∙ walk_broken rule start f r w e)
 
-  -- nor is there one behind a whole spelling with more units
+  -- nor is there one after a whole spelling with more units
   pub no_front_beyond : (v : V) (r : List U) (b : U) (u : List U) → walk rule start r ≡ Whole v → IsFront Spells (r ++ (b ∷ u)) → ⊥
   no_front_beyond v r b u e (w, x, s) = none_beyond v w r b (u ++ x) (d.sound v r e) (subst (λ (l : List U). Spells w l) (append_assoc r (b ∷ u) x) s)
 

@@ -57,7 +57,7 @@ module _ {S V : Type 0} (rule : S → Placed → Next S V) (start : S) where
     by (End z) k h more = absurd (never_whole z v w l (λ x. walk rule x (w ++ l ∷ [])) h)
     by (Fail f) k h more = cc
 
-  -- behind values that leave nothing, a spelling is one value more
+  -- after values that leave nothing, a spelling is one value more
   pub spelled_reads : (Spells : V → List Placed → Type 0) (why : List Placed → Reason) (d : Decides Spells why rule start) (items : List (V × Place)) (v : V) (w : List Placed) (l : Placed) →
       Spells v (w ++ l ∷ []) → progress_from rule start (at_state items [] start) (w ++ l ∷ []) ≡ ended items v l.place
   spelled_reads Spells why d items v w l s = whole_reads w l items [] start v (d.complete v (w ++ l ∷ []) s)

@@ -35,9 +35,11 @@ StopsFor bytes length (Some step) = Unit {0}
 
 -- After u the machine took this many bytes of the piece, whose first is at this offset. The reading
 -- grew by the answer to the last of them alone, and had no fault before it.
-pub record Takes {V : Type 0} (reading : List Placed → Stream V) (stands : List Placed → Type 0) (u : List Placed) (at : ℕ) (piece : List ℕ) (bytes : ℕ) (step : Option (Step V)) : Type 0 where
+pub record Takes {V : Type 0} (reading : List Placed → Stream V) (stands : List Placed → Type 0) (u : List Placed)
+    (at : ℕ) (piece : List ℕ) (bytes : ℕ) (step : Option (Step V)) : Type 0 where
   pub list : stands (u ++ placed_from at (take bytes piece))
-  pub given : (reading (u ++ placed_from at (take bytes piece))).given ≡ (reading u).given ++ given_after (at + (bytes - 1)) step
+  pub given : (reading (u ++ placed_from at (take bytes piece))).given
+      ≡ (reading u).given ++ given_after (at + (bytes - 1)) step
   pub fault : (reading (u ++ placed_from at (take bytes piece))).fault ≡ fault_after (at + (bytes - 1)) step
   pub place : StandsAt (at + (bytes - 1)) step
   pub sound : (reading (u ++ placed_from at (take (bytes - 1) piece))).fault ≡ None

@@ -1,7 +1,9 @@
 -- The reasons of faults, by number and name.
 use Rattle.std.specs.Prelude.{ℕ, List, codes}
 use Rattle.trace_values.specs.declared.fault.Reason.{Reason}
-use Rattle.trace_values.specs.declared.fault.Reason.TheVariants.{BadSync, SyncInFrame, ReservedHeader, BadItmSync, LongStamp, ShortStamp, Unsupported, StampSize, BadAsync}
+use Rattle.trace_values.specs.declared.fault.Reason.TheVariants.{BadSync, SyncInFrame, ReservedHeader, BadItmSync}
+use Rattle.trace_values.specs.declared.fault.Reason.TheVariants.{LongStamp, ShortStamp, Unsupported, StampSize}
+use Rattle.trace_values.specs.declared.fault.Reason.TheVariants.{BadAsync}
 
 -- the number of a reason
 abbrev pub number_of : Reason → ℕ

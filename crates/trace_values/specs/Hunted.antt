@@ -1,7 +1,8 @@
 -- The reading of a list of units in a hunt for a pattern that is a run of a unit and then another unit.
 -- Here the hunt is computed unit by unit. It finds the least place of the pattern (Hunt.IsFirst), and from there on the
 -- list is read as any other: that is what itm_codec::laws::hunt_law and deformatter::laws::hunt_law say.
-use Rattle.std.specs.Prelude.{◌≡◌, ℕ, suc, ◌-◌, List, [], ◌∷◌, ◌++◌, replicate, Bool, false, ◌==◌, ◌&&◌, nat_lt, if◌then◌else◌, Option, None, Some}
+use Rattle.std.specs.Prelude.{◌≡◌, ℕ, suc, ◌-◌, List, [], ◌∷◌, ◌++◌, replicate, Bool, false, ◌==◌, ◌&&◌, nat_lt}
+use Rattle.std.specs.Prelude.{if◌then◌else◌, Option, None, Some}
 use Rattle.trace_values.specs.declared.next.Next.{Next}
 use Rattle.trace_values.specs.declared.pattern.Pattern.{Pattern}
 use Rattle.trace_values.specs.Placed.{Place, Placed}
@@ -34,7 +35,8 @@ abbrev pub begun : {S V : Type 0} → S → V → Place → Progress S V
 begun start v place = record { items = (v, place) ∷ []; rest = []; fault = None; state = start }
 
 -- one more unit in a hunt that seeks, and in one that has locked
-abbrev pub hunt_on : {S V : Type 0} → Pattern → V → (S → Placed → Next S V) → S → Hunt S V → Placed → Option (Found S V) → Hunt S V
+abbrev pub hunt_on : {S V : Type 0} → Pattern → V → (S → Placed → Next S V) → S → Hunt S V → Placed →
+    Option (Found S V) → Hunt S V
 hunt_on p v rule start h b None =
     if b.unit == p.last && run_is then record {
       units = suc h.units;
@@ -43,7 +45,8 @@ hunt_on p v rule start h b None =
     } else record { units = suc h.units; run = run_after p h.run b.unit; found = None } where
       run_is : Bool
       run_is = h.run == p.most
-hunt_on p v rule start h b (Some f) = record { units = suc h.units; run = 0; found = Some (record f { reading = advance rule start f.reading b }) }
+hunt_on p v rule start h b (Some f) =
+    record { units = suc h.units; run = 0; found = Some (record f { reading = advance rule start f.reading b }) }
 
 -- a hunt over more units
 abbrev pub hunt_from : {S V : Type 0} → Pattern → V → (S → Placed → Next S V) → S → Hunt S V → List Placed → Hunt S V
@@ -68,13 +71,15 @@ abbrev pub hunted : {S V : Type 0} → Pattern → V → (S → Placed → Next 
 hunted p v rule start u = hunted_by (hunt p v rule start u).units (hunt p v rule start u).found
 
 -- it has not locked, and has this run after this many units
-pub record Seeks {S V : Type 0} (p : Pattern) (v : V) (rule : S → Placed → Next S V) (start : S) (run skipped : ℕ) (u : List Placed) : Type 0 where
+pub record Seeks {S V : Type 0} (p : Pattern) (v : V) (rule : S → Placed → Next S V) (start : S) (run skipped : ℕ)
+    (u : List Placed) : Type 0 where
   pub run_is : (hunt p v rule start u).run ≡ run
   pub units_is : (hunt p v rule start u).units ≡ skipped
   pub none : (hunt p v rule start u).found ≡ None
 
 -- it has locked after this many units, and what it keeps is that of the reading from there
-pub record Follows {S V : Type 0} (p : Pattern) (v : V) (rule : S → Placed → Next S V) (start : S) (skipped : ℕ) (live : Bool) (state : S) (u : List Placed) : Type 0 where
+pub record Follows {S V : Type 0} (p : Pattern) (v : V) (rule : S → Placed → Next S V) (start : S) (skipped : ℕ)
+    (live : Bool) (state : S) (u : List Placed) : Type 0 where
   pub found : Found S V
   pub some : (hunt p v rule start u).found ≡ Some found
   pub skipped_is : found.skipped ≡ skipped

@@ -13,3 +13,4 @@ pub mod Moded
 pub mod Nibbles
 pub mod Decorated
 pub mod Rows
+pub mod Hex

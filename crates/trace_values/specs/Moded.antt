@@ -39,7 +39,9 @@ is_counted p (Hunting run skipped) = nat_le run p.most && nat_le run skipped
 is_counted p m = true
 
 -- what a decoder keeps (its mode, whether it is live, and the rule's state) is that of this list
-abbrev pub StandsIn : {S V : Type 0} → Pattern → V → (S → Placed → Next S V) → S → Mode → Bool → S → List Placed → Type 0
+abbrev pub StandsIn : {S V : Type 0} → Pattern → V → (S → Placed → Next S V) → S → Mode → Bool → S → List Placed →
+    Type 0
 StandsIn p v rule start Aligned live state u = Keeps live state (progress rule start u)
-StandsIn p v rule start (Hunting run skipped) live state u = Seeks p v rule start run skipped u × (live ≡ true) × (state ≡ start)
+StandsIn p v rule start (Hunting run skipped) live state u =
+    Seeks p v rule start run skipped u × (live ≡ true) × (state ≡ start)
 StandsIn p v rule start (Locked skipped) live state u = Follows p v rule start skipped live state u

@@ -6,9 +6,9 @@ use Rattle.trace_values.specs.Placed.{Placed}
 abbrev pub low_of : ℕ → ℕ → Placed
 low_of at byte = record { unit = byte % 16; place = record { at = at; half = 0 } }
 
--- and the high one
+-- and the high one; of a number beyond a byte the next four bits, so that each unit is a nibble
 abbrev pub high_of : ℕ → ℕ → Placed
-high_of at byte = record { unit = byte / 16; place = record { at = at; half = 1 } }
+high_of at byte = record { unit = byte / 16 % 16; place = record { at = at; half = 1 } }
 
 -- the nibbles of placed bytes, in order
 abbrev pub nibbles_of : List Placed → List Placed

@@ -1,5 +1,6 @@
 -- What a source reads as, and how a machine's answers follow the readings of the list of bytes that it stands for.
-use Rattle.std.specs.Prelude.{◌≡◌, ℕ, ◌+◌, ◌*◌, ◌≤◌, List, [], ◌∷◌, ◌++◌, Bool, true, false, Option, None, Some, is_none, length, map}
+use Rattle.std.specs.Prelude.{◌≡◌, ℕ, ◌+◌, ◌*◌, ◌≤◌, List, [], ◌∷◌, ◌++◌, Bool, true, false, Option, None, Some}
+use Rattle.std.specs.Prelude.{is_none, length, map}
 use Rattle.trace_values.specs.declared.fault.Reason.{Reason}
 use Rattle.trace_values.specs.declared.step.Step.{Step}
 use Rattle.trace_values.specs.declared.step.Step.TheVariants.{Quiet, Skipping, Item, Locked, Fault as Faulty}
@@ -26,7 +27,8 @@ kept items = map (λ x. (Kept x.0, x.1)) items
 
 -- a reading after this many skipped units, with what was given before its items
 abbrev pub shown : {S V : Type 0} → List (Said V × Place) → ℕ → Progress S V → Stream V
-shown front skipped p = record { given = front ++ kept p.items; fault = p.fault; held = length p.rest; skipped = skipped; locked = true }
+shown front skipped p =
+    record { given = front ++ kept p.items; fault = p.fault; held = length p.rest; skipped = skipped; locked = true }
 
 -- a reading from the list's first unit on
 abbrev pub stream_of : {S V : Type 0} → Progress S V → Stream V
@@ -37,7 +39,8 @@ abbrev pub given_by : {V : Type 0} → ℕ → Step V → List (Said V × Place)
 given_by at Quiet = []
 given_by at Skipping = []
 given_by at (Item half v) = (Kept v, record { at = at; half = half }) ∷ []
-given_by at (Locked skipped half v) = (Notice skipped, record { at = at; half = half }) ∷ ((Kept v, record { at = at; half = half }) ∷ [])
+given_by at (Locked skipped half v) =
+    (Notice skipped, record { at = at; half = half }) ∷ ((Kept v, record { at = at; half = half }) ∷ [])
 given_by at (Faulty f) = []
 
 -- the fault that a step at this offset tells

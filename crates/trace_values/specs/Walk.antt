@@ -28,11 +28,13 @@ walk rule s (b ∷ u) = after (rule s b) (λ t. walk rule t u) u
 
 -- The rule decides the grammar: whole are exactly the spellings, each state that is reached can be
 -- finished, and the reason of a fault is the one that stands for these units.
-pub record Decides {U S V : Type 0} (Spells : V → List U → Type 0) (why : List U → Reason) (rule : S → U → Next S V) (start : S) : Type 0 where
+pub record Decides {U S V : Type 0} (Spells : V → List U → Type 0) (why : List U → Reason) (rule : S → U → Next S V)
+    (start : S) : Type 0 where
   pub sound : (v : V) (r : List U) → walk rule start r ≡ Whole v → Spells v r
   pub complete : (v : V) (r : List U) → Spells v r → walk rule start r ≡ Whole v
   pub goes_on : (s : S) (r : List U) → walk rule start r ≡ Within s → IsFront Spells r
-  pub reason : (s : S) (r : List U) (b : U) (e : Reason) → walk rule start r ≡ Within s → rule s b ≡ Fail e → e ≡ why (r ++ b ∷ [])
+  pub reason : (s : S) (r : List U) (b : U) (e : Reason) → walk rule start r ≡ Within s → rule s b ≡ Fail e →
+      e ≡ why (r ++ b ∷ [])
 
 -- a rule that looks at the units alone
 abbrev pub by_unit : {S V : Type 0} → (S → ℕ → Next S V) → S → Placed → Next S V

@@ -1,9 +1,10 @@
 //! A machine over a piece of bytes at once.
 
-ghost use Rattle.std.specs.Prelude.{◌≡◌, ℕ, ◌+◌, ◌*◌, ◌^◌, ◌<◌, ◌≤◌, List, IfSome, length, true};
+ghost use Rattle.std.specs.Prelude.{◌≡◌, ℕ, ◌+◌, ◌*◌, ◌<◌, ◌≤◌, List, IfSome, length, true};
 ghost use Rattle.trace_values.specs.Placed.{Placed};
 ghost use Rattle.trace_values.specs.Stream.{StepFits, LocksAfter};
 ghost use Rattle.trace_values.specs.Block.{StopsFor, Takes, goes_on_after};
+ghost use Rattle.trace_values.specs.declared.limits.TheConstants.{COUNT_ROOM};
 
 use crate::machine::Machine;
 use crate::step::Step;
@@ -26,8 +27,8 @@ pub struct Block<T> {
 #[inline]
 pub fn feed_block<M: Machine>(machine: &mut M, at: u64, piece: &[u8]) -> Block<M::Item>
     requires live { M.live machine.old ≡ true }
-    requires room { M.held_units machine.old + M.skipped_units machine.old + 2 * length piece.now ≤ 2 ^ 60 }
-    requires offsets { at + length piece.now < 2 ^ 60 }
+    requires room { M.held_units machine.old + M.skipped_units machine.old + 2 * length piece.now ≤ COUNT_ROOM }
+    requires offsets { at + length piece.now < COUNT_ROOM }
     requires some { 0 < length piece.now }
     ensures same { M.reading machine.new ≡ M.reading machine.old }
     ensures bytes { (0 < result.bytes) × (result.bytes ≤ length piece.now) }
@@ -89,7 +90,7 @@ mod tests {
 
         ghost skipped_units = { λ m. 9 };
 
-        ghost units_per_byte = { 0 };
+        ghost units_per_byte = { λ m. 0 };
 
         ghost fits = { λ item. Unit {0} };
 

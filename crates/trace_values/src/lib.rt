@@ -5,6 +5,7 @@
 mod block;
 mod cell;
 mod fault;
+mod limits;
 mod machine;
 mod mode;
 mod next;
@@ -15,6 +16,7 @@ mod step;
 pub use block::{Block, feed_block};
 pub use cell::{Cell, SourceId};
 pub use fault::{Fault, Reason};
+pub use limits::{COUNT_ROOM, ID_COUNT};
 pub use machine::Machine;
 pub use mode::Mode;
 pub use next::Next;

@@ -1,8 +1,10 @@
 //! What reads a source's bytes one by one.
 
-ghost use Rattle.std.specs.Prelude.{◌≡◌, ℕ, ◌+◌, ◌^◌, ◌<◌, ◌≤◌, ◌++◌, ◌∷◌, [], List, Bool, true, false, None, is_none, length};
+ghost use Rattle.std.specs.Prelude.{◌≡◌, ℕ, ◌+◌, ◌<◌, ◌≤◌, ◌++◌, ◌∷◌, [], List, Bool, true, false, None, is_none};
+ghost use Rattle.std.specs.Prelude.{length};
 ghost use Rattle.trace_values.specs.Placed.{Placed, byte_at};
 ghost use Rattle.trace_values.specs.Stream.{Stream, Grows, Shows, Settled, Holds, Rises, StepFits, LocksAfter, goes_on};
+ghost use Rattle.trace_values.specs.declared.limits.TheConstants.{COUNT_ROOM};
 
 use crate::step::Step;
 
@@ -37,17 +39,17 @@ pub trait Machine {
     ghost skipped_units: { Self → ℕ };
 
     /// How many units a byte has: 1 where they are bytes, 2 where they are nibbles.
-    ghost units_per_byte: { ℕ };
+    ghost units_per_byte: { Self → ℕ };
 
     /// The item's numbers are in their ranges.
     ghost fits: { Self.Item → Type 0 };
 
     /// Takes the next byte, which is at this offset of the capture. It has met no fault, and holds and
-    /// skipped at most 2^60 units.
+    /// skipped at most `COUNT_ROOM` units.
     fn feed(&mut self, at: u64, byte: u8) -> Step<Self::Item>
         requires live { live self.old ≡ true }
-        requires room { held_units self.old ≤ 2 ^ 60 }
-        requires count { skipped_units self.old ≤ 2 ^ 60 }
+        requires room { held_units self.old ≤ COUNT_ROOM }
+        requires count { skipped_units self.old ≤ COUNT_ROOM }
         ensures same { reading self.new ≡ reading self.old }
         ensures list { (u : List Placed) → stands self.old u → stands self.new (u ++ byte_at at byte ∷ []) }
         ensures step { (u : List Placed) → stands self.old u →
@@ -95,11 +97,11 @@ pub trait Machine {
     /// The byte of a fault, and each byte after it, gives nothing: the reading holds its units.
     ghost falls: { (m : Self) (u : List Placed) (at byte : ℕ) →
         is_none (reading m (u ++ byte_at at byte ∷ [])).fault ≡ false →
-        Holds units_per_byte (reading m u) (reading m (u ++ byte_at at byte ∷ [])) };
+        Holds (units_per_byte m) (reading m u) (reading m (u ++ byte_at at byte ∷ [])) };
 
     /// After a fault it holds what the reading held before the fault's byte, and that byte's units before
     /// the fault's.
     ghost keeps: { (m : Self) (u : List Placed) (at byte : ℕ) → stands m (u ++ byte_at at byte ∷ []) →
         live m ≡ false → (reading m u).fault ≡ None →
-        ((reading m u).held ≤ held_units m) × (held_units m < (reading m u).held + units_per_byte) };
+        ((reading m u).held ≤ held_units m) × (held_units m < (reading m u).held + units_per_byte m) };
 }

@@ -9,7 +9,7 @@ use std::alloc::Global;
 use std::process::Abort;
 use std::test::Fail;
 use trace_io::{MemorySink, MemorySource};
-use trace_values::SourceId;
+use trace_values::{COUNT_ROOM, SourceId};
 
 /// How many bytes of sources each capture has.
 const COUNT: usize = 96;
@@ -36,7 +36,7 @@ fn written(rt: &impl Abort, every: u32, halves: u8, bytes: &[(u8, u8)]) -> Array
     let mut capture = ArrayVec::<u8, 2048>::new();
     for &(number, byte) in bytes {
         if let Some(id) = SourceId::new(number) {
-            assert!(rt; id.number() > 0 && writer.frames() < 1 << 60);
+            assert!(rt; id.number() > 0 && writer.frames() < COUNT_ROOM);
             let mut out = ArrayVec::new();
             writer.put(id, byte, &mut out);
             assert!(rt; capture.try_extend_from_slice(out.as_slice()).is_ok());

@@ -30,7 +30,7 @@ fn extension(dwt: bool, value: u32) -> ItmPacket {
     ItmPacket::Extension { dwt, value }
 }
 
-/// Reads the bytes, which must end these packets at these offsets, and then leave so many bytes that
+/// Reads the bytes, which must end these packets at these offsets, and then leave this many bytes that
 /// end none, or break at the offset of the error for its reason.
 fn check(
     rt: &impl Abort,

@@ -3,7 +3,7 @@ use Rattle.dwt_packets.proofs.Inverses.{inverse, in_range, proper, proper_name, 
 use Rattle.dwt_packets.proofs.laws.name_law.Goals as goal
 
 pub returns-clause-of_packets : goal.returns-clause-of_packets
-returns-clause-of_packets c = λ d s v g h. (inverse d s v g h).0
+returns-clause-of_packets c = λ d s v p. (inverse d s v p.0 p.1).0
 
 pub returns-clause-of_items : goal.returns-clause-of_items
 returns-clause-of_items c = λ item r. (proper_name item r).2

@@ -11,14 +11,14 @@ loop-rest-init g c = record {
   live = c.requires.live;
   count = refl;
   within = omega arith;
-  feeding = λ start seen p e after. feeding_none _ _ _ _ _ _ _ _ after;
+  feeding = λ start seen p e after. feeding_none _ _ _ _ _ after;
   later = omega arith;
 }
 
 pub returns-then-is_err-clause-fed : goal.returns-then-is_err-clause-fed
 returns-then-is_err-clause-fed g c = λ start seen p e after.
     let put : AppendsPrefix (g.O.Sink.held c.loop-rest.output) (g.O.Sink.held c.make_room.new.output) c.loop-rest.outlet = search rules in
-    feeding_write_failed _ (g.A.Action.stands c.loop-rest.action) _ _ _ _ _ _ c.make_room.new.outlet _ _ _ (c.loop-rest.invariant.feeding start seen p e after) put
+    feeding_write_failed _ (g.A.Action.stands c.loop-rest.action) _ _ _ c.make_room.new.outlet _ _ _ (c.loop-rest.invariant.feeding start seen p e after) put
 
 pub loop-rest-preserved : goal.loop-rest-preserved
 loop-rest-preserved g c = record {
@@ -29,8 +29,8 @@ loop-rest-preserved g c = record {
   feeding = λ start seen p e after.
       let so_far = c.loop-rest.invariant.feeding start seen p e after in
       let room : TakesFront (g.O.Sink.held c.loop-rest.output) (g.O.Sink.held c.make_room.new.output) c.loop-rest.outlet c.make_room.new.outlet = search rules in
-      let taken = taken_at _ g.A.Action.faulty g.A.Action.text _ p _ _ _ _ _ _ (c.loop-rest.invariant.same ∙ e) c.in-On.is (c.feed-taken.ensures.fed _ so_far.after.read) in
-      rw take_rest (feeding_more _ _ _ _ _ _ _ _ _ _ _ _ _ _ so_far room taken);
+      let taken = taken_at _ (λ q. record { faulty = g.A.Action.faulty q; text = g.A.Action.text q; ending = g.A.Action.ending q }) _ p _ _ _ (c.loop-rest.invariant.same ∙ e) c.in-On.is (c.feed-taken.ensures.fed _ so_far.after.read) in
+      rw take_rest (feeding_more _ _ _ _ _ _ _ _ _ _ _ so_far room taken);
   later = omega arith;
 }
 
@@ -38,8 +38,8 @@ pub returns-in-Stopped-clause-fed : goal.returns-in-Stopped-clause-fed
 returns-in-Stopped-clause-fed g c = λ start seen p e after.
     let so_far = c.loop-rest.invariant.feeding start seen p e after in
     let room : TakesFront (g.O.Sink.held c.loop-rest.output) (g.O.Sink.held c.make_room.new.output) c.loop-rest.outlet c.make_room.new.outlet = search rules in
-    let taken = taken_at _ g.A.Action.faulty g.A.Action.text _ p _ _ _ _ _ _ (c.loop-rest.invariant.same ∙ e) c.in-Stopped.is (c.feed-taken.ensures.fed _ so_far.after.read) in
-    feeding_stopped _ _ _ _ _ _ _ _ _ _ _ _ _ _ so_far room taken c.feed-taken.ensures.front.at_most_all
+    let taken = taken_at _ (λ q. record { faulty = g.A.Action.faulty q; text = g.A.Action.text q; ending = g.A.Action.ending q }) _ p _ _ _ (c.loop-rest.invariant.same ∙ e) c.in-Stopped.is (c.feed-taken.ensures.fed _ so_far.after.read) in
+    feeding_stopped _ _ _ _ _ _ _ _ _ _ _ so_far room taken c.feed-taken.ensures.front.at_most_all
 
 empty_from_test : (n : ℕ) → (n == 0) ≡ true → n ≡ 0
 empty_from_test n h = grind (arith, nat_tests)
@@ -47,4 +47,4 @@ empty_from_test n h = grind (arith, nat_tests)
 pub returns-clause-fed : goal.returns-clause-fed
 returns-clause-fed g c = λ start seen p e after.
     let none : c.loop-rest.rest.now ≡ [] = nil_from_length c.loop-rest.rest.now (empty_from_test (length c.loop-rest.rest.now) (sym c.is_empty.ensures ∙ c.loop-rest-test.false)) in
-    feeding_all _ _ _ _ _ _ _ _ _ (c.loop-rest.invariant.feeding start seen p e after) none
+    feeding_all _ _ _ _ _ _ (c.loop-rest.invariant.feeding start seen p e after) none

@@ -1,6 +1,7 @@
 use Rattle.std.proofs.Common.{◌≡◌, ◌+◌, ◌≤◌, List, ℕ, length}
 use Rattle.std.specs.declared.option.Option.{Option}
-use Rattle.trace_stream.specs.Fed.{StandsAfter}
+use Rattle.trace_stream.specs.Fed.{Writing, StandsAfter}
+use Rattle.trace_stream.specs.Served.{Meaning}
 use Rattle.trace_stream.proofs.Pieces.{IsFeeding}
 use Rattle.trace_stream.proofs.feeding.feed_piece.Given as goal
 
@@ -11,8 +12,11 @@ invariant-loop-rest g l = record {
   count : g.A.Action.taken l.action + length l.rest ≡ g.A.Action.taken l.initial.action + length l.piece;
   within : length l.rest ≤ length l.piece;
   feeding : (start : Option (List ℕ)) (seen : List ℕ) (p : _) → g.A.Action.plan l.initial.action ≡ p →
-      StandsAfter (g.A.Action.stands l.initial.action) (g.A.Action.faulty p) (g.A.Action.text p) start (g.O.Sink.held l.initial.output) l.initial.outlet seen →
-      IsFeeding (g.A.Action.stands l.action) (g.A.Action.faulty p) (g.A.Action.text p) start (g.O.Sink.held l.output) l.outlet seen l.piece l.rest;
+      let meaning : Meaning = record { faulty = g.A.Action.faulty p; text = g.A.Action.text p; ending = g.A.Action.ending p } in
+      let before : Writing = record { start = start; held = g.O.Sink.held l.initial.output; pending = l.initial.outlet } in
+      let now : Writing = record { start = start; held = g.O.Sink.held l.output; pending = l.outlet } in
+      StandsAfter (g.A.Action.stands l.initial.action) meaning before seen →
+      IsFeeding (g.A.Action.stands l.action) meaning now seen l.piece l.rest;
   later : g.O.Sink.faults l.initial.output ≤ g.O.Sink.faults l.output;
 }
 

@@ -1,46 +1,49 @@
 use Rattle.std.proofs.Common.{sym, ◌∙◌}
-use Rattle.trace_stream.proofs.Parts.{served_at_end, served_stopped, served_read_failed, served_over_limit, served_in_part, text_in_part, all_in_part, stopped_in_part}
+use Rattle.trace_stream.proofs.Parts.{Stays, served_at_end, served_stopped, served_read_failed, served_over_limit, served_in_part, text_in_part, all_in_part, stopped_in_part}
+use Rattle.trace_stream.specs.Served.{Meaning}
 use Rattle.trace_stream.proofs.serving.serve.Goals as goal
 use Rattle.trace_stream.proofs.serving.serve.Goals.{in-AtEnd+in-Ok, in-AtEnd+in-Err, in-FaultFound+in-Ok-finish, in-FaultFound+in-Err-finish, in-ReadFailed, in-WriteFailed, in-OverLimit}
 
 pub returns-clause-served : goal.returns-clause-served
 returns-clause-served g c =
     let plan = g.A.Action.plan c.args.action.now in
-    let text = g.A.Action.text plan in
-    let ending = g.A.Action.ending plan in
+    let m : Meaning = record { faulty = g.A.Action.faulty plan; text = g.A.Action.text plan; ending = g.A.Action.ending plan } in
+    let stays : Stays m = record { faulty = g.met.A.Action.faulty_stays plan; text = g.met.A.Action.text_stays plan; ending = g.met.A.Action.ending_stays plan } in
     let limit = c.args.limit in
     elim c.match-pump.branch [
       | in-AtEnd+in-Ok w ↦
           let p = w.in-AtEnd.ensures.pumped in
-          rw (w.result-is, w.output-is, w.buffers-inside-is) (served_at_end _ _ _ _ _ _ _ _ _ _ _ _ p (w.in-Ok.ensures.ok _ p.seen _ w.in-AtEnd.ensures.same p.outcome.0.read p.outcome.0.written))
+          rw (w.result-is, w.output-is, w.buffers-inside-is) (served_at_end _ _ _ _ _ _ _ p (w.in-Ok.ensures.ok _ p.seen _ w.in-AtEnd.ensures.same p.outcome.0.read p.outcome.0.written))
       | in-AtEnd+in-Err w ↦
           let p = w.in-AtEnd.ensures.pumped in
           rw (w.result-is, w.output-is, w.buffers-inside-is)
-          (served_in_part _ _ _ _ _ _ _ _ _ _ _ _ _ p _ (w.in-Err.ensures.err _ p.seen _ w.in-AtEnd.ensures.same p.outcome.0.read p.outcome.0.written) (all_in_part text ending limit p.seen p.extra p.outcome.1 p.within))
+          (served_in_part _ _ _ _ _ _ _ _ p _ (w.in-Err.ensures.err _ p.seen _ w.in-AtEnd.ensures.same p.outcome.0.read p.outcome.0.written) (all_in_part m.text m.ending limit p.seen p.extra p.outcome.1 p.within))
       | in-FaultFound+in-Ok-finish w ↦
           let p = w.in-FaultFound.ensures.pumped in
           rw (w.result-is, w.output-is, w.buffers-inside-is)
-          (served_stopped _ _ _ _ _ _ _ _ _ _ _ _ (g.met.A.Action.faulty_stays plan) (g.met.A.Action.text_stays plan) (g.met.A.Action.ending_stays plan) p (w.in-Ok-finish.ensures.ok _ p.seen _ w.in-FaultFound.ensures.same p.outcome.read p.outcome.written)).served
+          (served_stopped _ _ _ _ _ _ _ stays p (w.in-Ok-finish.ensures.ok _ p.seen _ w.in-FaultFound.ensures.same p.outcome.read p.outcome.written)).served
       | in-FaultFound+in-Err-finish w ↦
           let p = w.in-FaultFound.ensures.pumped in
           rw (w.result-is, w.output-is, w.buffers-inside-is)
-          (served_in_part _ _ _ _ _ _ _ _ _ _ _ _ _ p _ (w.in-Err-finish.ensures.err _ p.seen _ w.in-FaultFound.ensures.same p.outcome.read p.outcome.written)
-          (stopped_in_part (g.A.Action.faulty plan) text ending limit p.seen p.extra (g.met.A.Action.text_stays plan) (g.met.A.Action.ending_stays plan) p.outcome.certain.broken p.within))
-      | in-ReadFailed w ↦ rw (w.result-is, w.output-is, w.buffers-inside-is) (served_read_failed _ _ _ _ _ _ _ _ _ _ _ w.in-ReadFailed.ensures.pumped)
+          (served_in_part _ _ _ _ _ _ _ _ p _ (w.in-Err-finish.ensures.err _ p.seen _ w.in-FaultFound.ensures.same p.outcome.read p.outcome.written)
+          (stopped_in_part m limit p.seen p.extra stays p.outcome.certain.broken p.within))
+      | in-ReadFailed w ↦ rw (w.result-is, w.output-is, w.buffers-inside-is) (served_read_failed _ _ _ _ _ _ w.in-ReadFailed.ensures.pumped)
       | in-WriteFailed w ↦
           let p = w.in-WriteFailed.ensures.pumped in
-          rw (w.result-is, w.output-is, w.buffers-inside-is) (served_in_part _ _ _ _ _ _ _ _ _ _ _ _ _ p _ p.outcome (text_in_part text ending limit p.seen p.extra (g.met.A.Action.text_grows plan) p.within))
-      | in-OverLimit w ↦ rw (w.result-is, w.output-is, w.buffers-inside-is) (served_over_limit _ _ _ _ _ _ _ _ _ _ _ w.in-OverLimit.ensures.pumped)
+          rw (w.result-is, w.output-is, w.buffers-inside-is) (served_in_part _ _ _ _ _ _ _ _ p _ p.outcome (text_in_part m.text m.ending limit p.seen p.extra (g.met.A.Action.text_grows plan) p.within))
+      | in-OverLimit w ↦ rw (w.result-is, w.output-is, w.buffers-inside-is) (served_over_limit _ _ _ _ _ _ w.in-OverLimit.ensures.pumped)
     ]
 
 pub returns-clause-stopped : goal.returns-clause-stopped
 returns-clause-stopped g c = λ e.
     let plan = g.A.Action.plan c.args.action.now in
+    let m : Meaning = record { faulty = g.A.Action.faulty plan; text = g.A.Action.text plan; ending = g.A.Action.ending plan } in
+    let stays : Stays m = record { faulty = g.met.A.Action.faulty_stays plan; text = g.met.A.Action.text_stays plan; ending = g.met.A.Action.ending_stays plan } in
     elim c.match-pump.branch [
       | in-FaultFound+in-Ok-finish w ↦
           let p = w.in-FaultFound.ensures.pumped in
           rw (w.output-is, w.buffers-inside-is)
-          (served_stopped _ _ _ _ _ _ _ _ _ _ _ _ (g.met.A.Action.faulty_stays plan) (g.met.A.Action.text_stays plan) (g.met.A.Action.ending_stays plan) p (w.in-Ok-finish.ensures.ok _ p.seen _ w.in-FaultFound.ensures.same p.outcome.read p.outcome.written))
+          (served_stopped _ _ _ _ _ _ _ stays p (w.in-Ok-finish.ensures.ok _ p.seen _ w.in-FaultFound.ensures.same p.outcome.read p.outcome.written))
       | in-AtEnd+in-Ok w ↦ let no = sym w.result-is ∙ e in cc
       | in-AtEnd+in-Err w ↦ let no = sym w.result-is ∙ e in cc
       | in-FaultFound+in-Err-finish w ↦ let no = sym w.result-is ∙ e in cc

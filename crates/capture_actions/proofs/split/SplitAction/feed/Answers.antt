@@ -1,7 +1,7 @@
 use Rattle.std.proofs.Common.{take, sym, subst, ◌+◌, ◌*◌}
 use Rattle.trace_stream.specs.declared.action.Taken.{Taken}
 use Rattle.trace_stream.specs.Taken.{HasTaken}
-use Rattle.capture_actions.specs.Split.{split_faulty, split_text}
+use Rattle.capture_actions.specs.Split.{split_meaning}
 use Rattle.capture_actions.specs.Splitter.{Stands, plan_of}
 use Rattle.capture_actions.proofs.Ports.{plain_whole}
 use Rattle.capture_actions.proofs.split.SplitAction.feed.Goals as goal
@@ -10,7 +10,7 @@ pub returns-in-Some-clause-fed : goal.returns-in-Some-clause-fed
 returns-in-Some-clause-fed c = λ seen s.
     let plan = plan_of c.args.self.now in
     let piece = c.args.piece.now in
-    subst (λ (t : Taken). HasTaken (Stands c.feed_frame.new.self) (split_faulty plan) (split_text plan) seen (take t.bytes piece) c.args.outlet.now c.feed_frame.new.outlet t.flow) (sym c.feed_frame.ensures.taken)
+    subst (λ (t : Taken). HasTaken (Stands c.feed_frame.new.self) (split_meaning plan) (record { seen = seen; front = take t.bytes piece; before = c.args.outlet.now; after = c.feed_frame.new.outlet }) t.flow) (sym c.feed_frame.ensures.taken)
     (c.feed_frame.ensures.fed seen (take 16 piece) s (plain_whole piece c.in-Some.frame.now c.in-Some.ensures.bytes c.in-Some.ensures.room c.in-Some.ensures.proper))
 
 pub returns-in-Some-gather_frame-clause-fed : goal.returns-in-Some-gather_frame-clause-fed
@@ -18,5 +18,5 @@ returns-in-Some-gather_frame-clause-fed c = λ seen s.
     let plan = plan_of c.args.self.now in
     let piece = c.args.piece.now in
     let halves = c.in-Some-gather_frame.gathered.halves in
-    subst (λ (t : Taken). HasTaken (Stands c.feed_frame-in-Some-gather_frame.new.self) (split_faulty plan) (split_text plan) seen (take t.bytes piece) c.args.outlet.now c.feed_frame-in-Some-gather_frame.new.outlet t.flow) (sym c.feed_frame-in-Some-gather_frame.ensures.taken)
+    subst (λ (t : Taken). HasTaken (Stands c.feed_frame-in-Some-gather_frame.new.self) (split_meaning plan) (record { seen = seen; front = take t.bytes piece; before = c.args.outlet.now; after = c.feed_frame-in-Some-gather_frame.new.outlet }) t.flow) (sym c.feed_frame-in-Some-gather_frame.ensures.taken)
     (c.feed_frame-in-Some-gather_frame.ensures.fed seen (take (16 + 2 * halves) piece) s c.in-Some-gather_frame.ensures.whole)

@@ -7,7 +7,7 @@ use Rattle.deformatter.specs.declared.step.PortStep.TheVariants.{Quiet}
 use Rattle.deformatter.specs.declared.deformatter.Deformatter.{Deformatter}
 use Rattle.deformatter.proofs.deformatter.Deformatter.feed_bytes.Given as goal
 
--- so many bytes were quiet
+-- this many bytes were quiet
 pub record IsQuiet (old new : Deformatter) (u : List Placed) (at : ℕ) (bytes : List ℕ) : Type 0 where
   pub list : Stands new (u ++ placed_from at bytes)
   pub quiet : EachByte (Answers (is_hunter old) Quiet) u at bytes

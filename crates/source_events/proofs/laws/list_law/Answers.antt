@@ -1,0 +1,7 @@
+use Rattle.port_reader.specs.Reading.{port_reading}
+use Rattle.port_reader.proofs.ReadingLaws.{frames_have_runs}
+use Rattle.source_events.proofs.RunNumbers.{lists_are}
+use Rattle.source_events.proofs.laws.list_law.Goals as goal
+
+pub returns : goal.returns
+returns c = λ mode u x. lists_are x (port_reading mode u).frames (frames_have_runs mode u)

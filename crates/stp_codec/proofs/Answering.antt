@@ -1,0 +1,171 @@
+-- A decoder's answer to a nibble is the grammar's, and its hunt is one for the pattern.
+use Rattle.std.proofs.Common.{◌≡◌, ◌≢◌, ℕ, List, [], ◌∷◌, ◌++◌, refl, sym, ◌∙◌, ap, subst, inl, inr, arith, Option, None, Some, Bool, true, false}
+use Rattle.trace_values.specs.declared.fault.Reason.{Reason}
+use Rattle.trace_values.specs.declared.next.Next.{Next}
+use Rattle.trace_values.specs.declared.next.Next.TheVariants.{Go, End, Fail}
+use Rattle.trace_values.specs.declared.step.Step.TheVariants.{Quiet, Item, Fault as Faulty}
+use Rattle.trace_values.specs.declared.mode.Mode.{Mode}
+use Rattle.trace_values.specs.declared.mode.Mode.TheVariants.{Aligned, Hunting, Locked}
+use Rattle.trace_values.specs.Placed.{Placed, units_of}
+use Rattle.trace_values.specs.Grammar.{InUnits}
+use Rattle.trace_values.specs.Walk.{by_unit, Decides}
+use Rattle.trace_values.specs.Reading.{Progress, with_unit, advance, progress}
+use Rattle.trace_values.specs.Stream.{Notice, shown}
+use Rattle.trace_values.specs.Hunted.{pattern_of, Found, Hunt, hunt_on, hunt, hunted_by}
+use Rattle.trace_values.specs.Moded.{StandsIn, hunts, is_locked}
+use Rattle.trace_values.specs.Standing.{Keeps}
+use Rattle.trace_values.proofs.Placing.{on_units}
+use Rattle.trace_values.proofs.OneUnit.{Says}
+use Rattle.trace_values.proofs.Answering.{says}
+use Rattle.trace_values.proofs.Standings as lemmas
+use Rattle.trace_values.proofs.HuntSteps as steps
+use Rattle.trace_values.proofs.HuntedLemmas as hunting
+use Rattle.stp_grammar.specs.declared.packet.Order.{Order}
+use Rattle.stp_grammar.specs.declared.packet.StpPacket.{StpPacket}
+use Rattle.stp_grammar.specs.declared.packet.StpPacket.TheVariants.{Async}
+use Rattle.stp_grammar.specs.declared.item.StpItem.{StpItem}
+use Rattle.stp_grammar.specs.declared.attribution.Attribution.{Attribution}
+use Rattle.stp_grammar.specs.declared.partial.Partial.{Partial}
+use Rattle.stp_grammar.specs.declared.partial.Partial.TheVariants.{Start}
+use Rattle.stp_grammar.specs.Attribution.{item_of}
+use Rattle.stp_grammar.specs.Attributed.{Stands as Attributes}
+use Rattle.stp_grammar.specs.Spelling.{Spells, why}
+use Rattle.stp_grammar.specs.Rule.{rule}
+use Rattle.stp_grammar.proofs.Deciding.{decided}
+use Rattle.stp_codec.specs.Reading.{pattern, packets_in, packets_of, rest_found, rest_in, IsHunt}
+use Rattle.stp_codec.specs.Answers.{AnswersNibble}
+use Rattle.stp_codec.proofs.Taking.{At, packets_with, packets_step}
+
+f_is_not_last : pattern.unit ≢ pattern.last
+f_is_not_last e = omega (arith, e)
+
+module _ (order : Order) where
+  placed_decided : Decides (InUnits (Spells order)) (λ x. why (units_of x)) (by_unit (rule order)) Start
+  placed_decided = on_units (rule order) (Spells order) why Start (decided order)
+
+  -- the pattern spells an ASYNC
+  spelled : (w : List Placed) → units_of w ≡ pattern_of pattern → InUnits (Spells order) Async w
+  spelled w e = (21, omega arith, e)
+
+  abbrev Knew : List Placed → ℕ → Option (Found Partial StpPacket) → Type 0
+  Knew n run found = hunting.Knew (InUnits (Spells order)) (λ x. why (units_of x)) (by_unit (rule order)) Start placed_decided pattern Async f_is_not_last spelled n run found
+
+  knows : (n : List Placed) → hunting.Knows (InUnits (Spells order)) (λ x. why (units_of x)) (by_unit (rule order)) Start placed_decided pattern Async f_is_not_last spelled n (hunt pattern Async (by_unit (rule order)) Start n)
+  knows n = hunting.knows (InUnits (Spells order)) (λ x. why (units_of x)) (by_unit (rule order)) Start placed_decided pattern Async f_is_not_last spelled n
+
+  -- after the lock the reading is that of a list's end
+  pub locked_reading : (n : List Placed) (f : Found Partial StpPacket) → (hunt pattern Async (by_unit (rule order)) Start n).found ≡ Some f →
+      (w : List Placed) × (f.reading ≡ progress (by_unit (rule order)) Start w)
+  locked_reading n f e =
+      let known : Knew n (hunt pattern Async (by_unit (rule order)) Start n).run (Some f) = subst (λ o. Knew n (hunt pattern Async (by_unit (rule order)) Start n).run o) e (knows n).found in
+      (known.1, known.5)
+
+  -- the stream of a hunt is one
+  pub hunt_is : (n : List Placed) → IsHunt order n (packets_in order true n)
+  hunt_is n = by_found (hunt pattern Async (by_unit (rule order)) Start n).found refl (knows n).found where
+    by_found : (o : Option (Found Partial StpPacket)) → (hunt pattern Async (by_unit (rule order)) Start n).found ≡ o →
+        Knew n (hunt pattern Async (by_unit (rule order)) Start n).run (hunt pattern Async (by_unit (rule order)) Start n).found →
+        IsHunt order n (packets_in order true n)
+    by_found None e k =
+        let none : Knew n (hunt pattern Async (by_unit (rule order)) Start n).run None = subst (λ o. Knew n (hunt pattern Async (by_unit (rule order)) Start n).run o) e k in
+        inl (
+          none.0,
+          ap (λ o. hunted_by (hunt pattern Async (by_unit (rule order)) Start n).units o) e
+              ∙ ap (λ (i : ℕ). record { given = []; fault = None; held = 0; skipped = i; locked = false }) (knows n).units,
+        )
+    by_found (Some f) e k =
+        let known : Knew n (hunt pattern Async (by_unit (rule order)) Start n).run (Some f) = subst (λ o. Knew n (hunt pattern Async (by_unit (rule order)) Start n).run o) e k in
+        inr (
+          known.0,
+          known.1,
+          f.place,
+          known.2,
+          known.3,
+          ap (λ o. hunted_by (hunt pattern Async (by_unit (rule order)) Start n).units o) e
+              ∙ ap (λ (q : Progress Partial StpPacket). shown ((Notice f.skipped, f.place) ∷ []) f.skipped q) known.5
+              ∙ ap (λ (i : ℕ). shown ((Notice i, f.place) ∷ []) i (progress (by_unit (rule order)) Start known.1)) (sym known.4),
+          (known.6.0, sym (ap (λ (q : Progress Partial StpPacket). q.items) known.5) ∙ known.6.1),
+        )
+
+  -- what is left of the rest with one more nibble of which the rule says this
+  abbrev rest_after : Next Partial StpPacket → List Placed → List Placed
+  rest_after (Go t) r = r
+  rest_after (End v) r = []
+  rest_after (Fail e) r = r
+
+  rest_on : (p : Progress Partial StpPacket) (state : Partial) (b : Placed) (x : Next Partial StpPacket) → x ≡ rule order state b.unit → Keeps true state p →
+      (advance (by_unit (rule order)) Start p b).rest ≡ rest_after x (p.rest ++ b ∷ [])
+  rest_on p state b x e s =
+      ap (λ (q : Progress Partial StpPacket). q.rest) (lemmas.grown (by_unit (rule order)) Start p state b s) ∙ by (rule order state b.unit) ∙ ap (λ z. rest_after z (p.rest ++ b ∷ [])) (sym e)
+    where
+      by : (z : Next Partial StpPacket) → (with_unit Start p b z None).rest ≡ rest_after z (p.rest ++ b ∷ [])
+      by (Go t) = refl
+      by (End v) = refl
+      by (Fail f) = refl
+
+  abbrev Told : Next Partial StpPacket → List Placed → List Placed → Type 0
+  Told x r left = Says (InUnits (Spells order)) (λ z. why (units_of z)) x r × (left ≡ rest_after x r)
+
+  told_on : (u : List Placed) (live : Bool) (partial : Partial) (b : Placed) (x : Next Partial StpPacket) → live ≡ true → x ≡ rule order partial b.unit →
+      Keeps live partial (progress (by_unit (rule order)) Start u) →
+      Told x ((progress (by_unit (rule order)) Start u).rest ++ b ∷ []) (advance (by_unit (rule order)) Start (progress (by_unit (rule order)) Start u) b).rest
+  told_on u live partial b x l e s = (
+    says (InUnits (Spells order)) (λ z. why (units_of z)) (by_unit (rule order)) Start placed_decided u live partial b x l e s,
+    rest_on (progress (by_unit (rule order)) Start u) partial b x e (subst (λ z. Keeps z partial (progress (by_unit (rule order)) Start u)) l s),
+  )
+
+  told : (m : Mode) (live : Bool) (partial : Partial) (n : List Placed) (b : Placed) (x : Next Partial StpPacket) → live ≡ true → is_locked m ≡ true → x ≡ rule order partial b.unit →
+      StandsIn pattern Async (by_unit (rule order)) Start m live partial n → Told x (rest_in order (hunts m) n ++ b ∷ []) (rest_in order (hunts m) (n ++ b ∷ []))
+  told Aligned live partial n b x l k e s =
+      subst (λ (q : Progress Partial StpPacket). Told x (rest_in order false n ++ b ∷ []) q.rest) (sym (lemmas.progress_push (by_unit (rule order)) Start n b)) (told_on n live partial b x l e s)
+  told (Hunting run skipped) live partial n b x l k e s = cc
+  told (Locked skipped) live partial n b x l k e s =
+      let known = locked_reading n s.found s.some in
+      let push : hunt pattern Async (by_unit (rule order)) Start (n ++ b ∷ []) ≡ hunt_on pattern Async (by_unit (rule order)) Start (hunt pattern Async (by_unit (rule order)) Start n) b (Some s.found) = steps.hunt_push pattern Async (by_unit (rule order)) Start n b (Some s.found) s.some in
+      let here : rest_in order true n ≡ s.found.reading.rest = ap (λ o. rest_found o) s.some in
+      let there : rest_in order true (n ++ b ∷ []) ≡ (advance (by_unit (rule order)) Start s.found.reading b).rest = ap (λ (h : Hunt Partial StpPacket). rest_found h.found) push in
+      let on : Told x (s.found.reading.rest ++ b ∷ []) (advance (by_unit (rule order)) Start s.found.reading b).rest =
+      subst (λ (q : Progress Partial StpPacket). Told x (q.rest ++ b ∷ []) (advance (by_unit (rule order)) Start q b).rest) (sym known.1)
+      (told_on known.0 live partial b x l e (subst (λ (q : Progress Partial StpPacket). Keeps live partial q) known.1 s.stands)) in
+      subst (λ r. Told x (r ++ b ∷ []) (rest_in order true (n ++ b ∷ []))) (sym here) (subst (λ r. Told x (s.found.reading.rest ++ b ∷ []) r) (sym there) on)
+
+  module _ (m : Mode) (live : Bool) (partial : Partial) (a : Attribution) (n : List Placed) (b : Placed) (l : live ≡ true) (k : is_locked m ≡ true) (s : At order m live partial a n) where
+    abbrev before : List StpPacket
+    before = packets_of order (hunts m) n
+
+    abbrev packets_after : List StpPacket
+    packets_after = packets_of order (hunts m) (n ++ b ∷ [])
+
+    abbrev rest : List Placed
+    rest = rest_in order (hunts m) n ++ b ∷ []
+
+    abbrev left : List Placed
+    left = rest_in order (hunts m) (n ++ b ∷ [])
+
+    pub goes_answer : (t : Partial) → Go t ≡ rule order partial b.unit → AnswersNibble order before rest b.place Quiet packets_after left
+    goes_answer t e =
+        let x = told m live partial n b (Go t) l k e s.0 in
+        inr (x.0.0, x.0.1, packets_with order (hunts m) n b Quiet (packets_step order m live partial a n b l k (Go t) e s), x.1)
+
+    -- the packets with the one that ends
+    ended : (v : StpPacket) → End v ≡ rule order partial b.unit → packets_after ≡ before ++ v ∷ []
+    ended v e = packets_with order (hunts m) n b (Item b.place.half v) (packets_step order m live partial a n b l k (End v) e s)
+
+    item_is : (v : StpPacket) (o : Option StpItem) → End v ≡ rule order partial b.unit → ((ps : List StpPacket) → Attributes a ps → o ≡ item_of (ps ++ v ∷ []) v) → item_of packets_after v ≡ o
+    item_is v o e c = ap (λ ps. item_of ps v) (ended v e) ∙ sym (c before s.1)
+
+    pub ends_answer : (v : StpPacket) (item : StpItem) → End v ≡ rule order partial b.unit → ((ps : List StpPacket) → Attributes a ps → Some item ≡ item_of (ps ++ v ∷ []) v) →
+        AnswersNibble order before rest b.place (Item b.place.half item) packets_after left
+    ends_answer v item e c =
+        let x = told m live partial n b (End v) l k e s.0 in
+        (v, refl, x.0, ended v e, x.1, item_is v (Some item) e c)
+
+    pub silent_answer : (v : StpPacket) → End v ≡ rule order partial b.unit → ((ps : List StpPacket) → Attributes a ps → None ≡ item_of (ps ++ v ∷ []) v) →
+        AnswersNibble order before rest b.place Quiet packets_after left
+    silent_answer v e c =
+        let x = told m live partial n b (End v) l k e s.0 in
+        inl (v, x.0, ended v e, x.1, item_is v None e c)
+
+    pub fails_answer : (r : Reason) → Fail r ≡ rule order partial b.unit →
+        AnswersNibble order before rest b.place (Faulty (record { at = b.place.at; half = b.place.half; reason = r })) packets_after left
+    fails_answer r e = let x = told m live partial n b (Fail r) l k e s.0 in (refl, refl, x.0.1, x.0.0)

@@ -1,0 +1,9 @@
+pub mod Taking
+pub mod Bytes
+pub mod Answering
+pub mod Holding
+pub mod Between
+pub mod Finishing
+pub mod Passing
+pub mod PacketPieces
+pub mod Parts

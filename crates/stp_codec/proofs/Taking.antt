@@ -1,0 +1,129 @@
+-- One more nibble, in what a decoder keeps and in what it answers.
+use Rattle.std.proofs.Common.{◌≡◌, ℕ, ◌+◌, ◌-◌, List, [], ◌∷◌, ◌++◌, refl, sym, ◌∙◌, ap, subst, Option, None, Some, Bool, true, false}
+use Rattle.std.specs.Prelude.{◌==◌, ◌&&◌}
+use Rattle.trace_values.specs.declared.fault.Reason.{Reason}
+use Rattle.trace_values.specs.declared.next.Next.{Next}
+use Rattle.trace_values.specs.declared.next.Next.TheVariants.{Go, End, Fail}
+use Rattle.trace_values.specs.declared.mode.Mode.{Mode}
+use Rattle.trace_values.specs.declared.mode.Mode.TheVariants.{Aligned, Hunting, Locked}
+use Rattle.trace_values.specs.declared.step.Step.{Step}
+use Rattle.trace_values.specs.declared.step.Step.TheVariants.{Quiet, Skipping, Item, Locked as StepLocked, Fault as Faulty}
+use Rattle.trace_values.specs.Placed.{Placed}
+use Rattle.trace_values.specs.Walk.{by_unit}
+use Rattle.trace_values.specs.Stream.{Grows}
+use Rattle.trace_values.specs.Hunted.{run_after}
+use Rattle.trace_values.specs.Moded.{StandsIn, hunts, is_locked}
+use Rattle.trace_values.specs.Standing.{live_after, state_after}
+use Rattle.trace_values.proofs.OneUnit.{step_on}
+use Rattle.trace_values.proofs.Decorating.{item_step, step_with, GivesAtLock}
+use Rattle.trace_values.proofs.Modes as laws
+use Rattle.trace_values.proofs.Decorating as decorating
+use Rattle.stp_grammar.specs.declared.packet.Order.{Order}
+use Rattle.stp_grammar.specs.declared.packet.StpPacket.{StpPacket}
+use Rattle.stp_grammar.specs.declared.packet.StpPacket.TheVariants.{Async}
+use Rattle.stp_grammar.specs.declared.item.StpItem.{StpItem}
+use Rattle.stp_grammar.specs.declared.item.StpItem.TheVariants.{Async as AsyncItem}
+use Rattle.stp_grammar.specs.declared.partial.Partial.{Partial}
+use Rattle.stp_grammar.specs.declared.partial.Partial.TheVariants.{Start}
+use Rattle.stp_grammar.specs.Rule.{rule}
+use Rattle.stp_grammar.specs.declared.attribution.Attribution.{Attribution}
+use Rattle.stp_grammar.specs.Attribution.{attribute, item_of}
+use Rattle.stp_grammar.specs.Attributed.{Stands as Attributes}
+use Rattle.stp_grammar.proofs.Attributing.{stands_with}
+use Rattle.stp_codec.specs.Reading.{pattern, packets_in, packets_of, items_at}
+
+pub async_kept : (a : Attribution) (ps : List StpPacket) → Attributes a ps → Attributes a (ps ++ Async ∷ [])
+async_kept a ps k = stands_with a a ps Async tt k refl refl refl refl
+
+module _ (order : Order) where
+  abbrev pub Reads : Mode → Bool → Partial → List Placed → Type 0
+  Reads m live partial u = StandsIn pattern Async (by_unit (rule order)) Start m live partial u
+
+  abbrev pub At : Mode → Bool → Partial → Attribution → List Placed → Type 0
+  At m live partial a u = Reads m live partial u × Attributes a (packets_of order (hunts m) u)
+
+  -- the packets so far, with what the packets' step gives
+  pub packets_with : (h : Bool) (u : List Placed) (b : Placed) (s : Step StpPacket) → Grows (packets_in order h u) (packets_in order h (u ++ b ∷ [])) b.place.at s →
+      packets_of order h (u ++ b ∷ []) ≡ decorating.carried_with attribute (packets_of order h u) b.place.at s
+  packets_with h u b s g = decorating.carried_is attribute [] (packets_in order h u) (packets_in order h (u ++ b ∷ [])) b.place.at s g
+
+  same_packets : (h : Bool) (u : List Placed) (b : Placed) (s : Step StpPacket) (a : Attribution) → Grows (packets_in order h u) (packets_in order h (u ++ b ∷ [])) b.place.at s →
+      decorating.carried_with attribute (packets_of order h u) b.place.at s ≡ packets_of order h u → Attributes a (packets_of order h u) → Attributes a (packets_of order h (u ++ b ∷ []))
+  same_packets h u b s a g e k = subst (Attributes a) (sym (packets_with h u b s g ∙ e)) k
+
+  module _ (m : Mode) (live : Bool) (partial : Partial) (a : Attribution) (u : List Placed) (b : Placed) where
+    abbrev was : Bool
+    was = hunts m
+
+    -- in a hunt
+    module _ (run skipped : ℕ) (e : m ≡ Hunting run skipped) where
+      pub locks_step : (b.unit == 0 && run == 21) ≡ true → At m live partial a u →
+          Grows (items_at order was u) (items_at order was (u ++ b ∷ [])) b.place.at (StepLocked (skipped - 21) b.place.half AsyncItem)
+      locks_step f s =
+          decorating.grows attribute [] (packets_in order was u) (packets_in order was (u ++ b ∷ [])) b.place.at (StepLocked (skipped - 21) b.place.half Async) (AsyncItem, refl)
+          (laws.locks-step pattern Async (by_unit (rule order)) Start m run skipped b live partial u e f s.0)
+
+      pub locks_list : (b.unit == 0 && run == 21) ≡ true → At m live partial a u → At (Locked (skipped - 21)) live Start a (u ++ b ∷ [])
+      locks_list f s =
+          let g = laws.locks-step pattern Async (by_unit (rule order)) Start m run skipped b live partial u e f s.0 in
+          let h : hunts m ≡ true = ap hunts e in
+          let t : Reads (Hunting run skipped) live partial u = subst (λ (x : Mode). Reads x live partial u) e s.0 in (
+            subst (λ (p : Partial). Reads (Locked (skipped - 21)) live p (u ++ b ∷ [])) t.2 (laws.locks-list pattern Async (by_unit (rule order)) Start m run skipped b live partial u e f s.0),
+            subst (λ (x : Bool). Attributes a (packets_of order x (u ++ b ∷ []))) h
+                (subst (Attributes a) (sym (packets_with was u b (StepLocked (skipped - 21) b.place.half Async) g)) (async_kept a (packets_of order was u) s.1)),
+          )
+
+      pub skips_step : (b.unit == 0 && run == 21) ≡ false → At m live partial a u → Grows (items_at order was u) (items_at order was (u ++ b ∷ [])) b.place.at Skipping
+      skips_step f s =
+          decorating.grows attribute [] (packets_in order was u) (packets_in order was (u ++ b ∷ [])) b.place.at Skipping tt
+          (laws.skips-step pattern Async (by_unit (rule order)) Start m run skipped b live partial u e f s.0)
+
+      pub skips_list : (run' : ℕ) → run' ≡ run_after pattern run b.unit → (b.unit == 0 && run == 21) ≡ false → At m live partial a u → At (Hunting run' (skipped + 1)) live partial a (u ++ b ∷ [])
+      skips_list run' r f s =
+          let g = laws.skips-step pattern Async (by_unit (rule order)) Start m run skipped b live partial u e f s.0 in
+          let h : hunts m ≡ true = ap hunts e in (
+            subst (λ (n : ℕ). Reads (Hunting n (skipped + 1)) live partial (u ++ b ∷ [])) (sym r) (laws.skips-list pattern Async (by_unit (rule order)) Start m run skipped b live partial u e f s.0),
+            subst (λ (x : Bool). Attributes a (packets_of order x (u ++ b ∷ []))) h (same_packets was u b Skipping a g refl s.1),
+          )
+
+    -- in a reading
+    module _ (l : live ≡ true) (k : is_locked m ≡ true) where
+      pub packets_step : (n : Next Partial StpPacket) → n ≡ rule order partial b.unit → At m live partial a u →
+          Grows (packets_in order was u) (packets_in order was (u ++ b ∷ [])) b.place.at (step_on b.place n)
+      packets_step n e s = laws.reads-step pattern Async (by_unit (rule order)) Start m live partial u b n l k e s.0
+
+      stands_on : (n : Next Partial StpPacket) (live' : Bool) (partial' : Partial) → n ≡ rule order partial b.unit → live' ≡ live_after n → partial' ≡ state_after Start n partial → At m live partial a u →
+          Reads m live' partial' (u ++ b ∷ [])
+      stands_on n live' partial' e f g s = laws.reads-list pattern Async (by_unit (rule order)) Start m live partial u b live' partial' n l k e f g s.0
+
+      items_step : (s : Step StpPacket) → GivesAtLock attribute (packets_of order was u) s → Grows (packets_in order was u) (packets_in order was (u ++ b ∷ [])) b.place.at s →
+          Grows (items_at order was u) (items_at order was (u ++ b ∷ [])) b.place.at (step_with attribute (packets_of order was u) s)
+      items_step s c g = decorating.grows attribute [] (packets_in order was u) (packets_in order was (u ++ b ∷ [])) b.place.at s c g
+
+      pub goes_list : (t : Partial) → Go t ≡ rule order partial b.unit → At m live partial a u → At m live t a (u ++ b ∷ [])
+      goes_list t e s = (stands_on (Go t) live t e l refl s, same_packets was u b Quiet a (packets_step (Go t) e s) refl s.1)
+
+      pub goes_step : (t : Partial) → Go t ≡ rule order partial b.unit → At m live partial a u → Grows (items_at order was u) (items_at order was (u ++ b ∷ [])) b.place.at Quiet
+      goes_step t e s = items_step Quiet tt (packets_step (Go t) e s)
+
+      pub stops_list : (v : StpPacket) (a' : Attribution) → End v ≡ rule order partial b.unit → ((ps : List StpPacket) → Attributes a ps → Attributes a' (ps ++ v ∷ [])) → At m live partial a u → At m live Start a' (u ++ b ∷ [])
+      stops_list v a' e c s = (
+        stands_on (End v) live Start e l refl s,
+        subst (Attributes a') (sym (packets_with was u b (Item b.place.half v) (packets_step (End v) e s))) (c (packets_of order was u) s.1),
+      )
+
+      pub stops_step : (v : StpPacket) (o : Option StpItem) → End v ≡ rule order partial b.unit → ((ps : List StpPacket) → Attributes a ps → o ≡ item_of (ps ++ v ∷ []) v) → At m live partial a u →
+          Grows (items_at order was u) (items_at order was (u ++ b ∷ [])) b.place.at (item_step b.place.half o)
+      stops_step v o e c s =
+          subst (λ (x : Option StpItem). Grows (items_at order was u) (items_at order was (u ++ b ∷ [])) b.place.at (item_step b.place.half x)) (sym (c (packets_of order was u) s.1))
+          (items_step (Item b.place.half v) tt (packets_step (End v) e s))
+
+      pub fails_list : (r : Reason) → Fail r ≡ rule order partial b.unit → At m live partial a u → At m false partial a (u ++ b ∷ [])
+      fails_list r e s = (
+        stands_on (Fail r) false partial e refl refl s,
+        same_packets was u b (Faulty (record { at = b.place.at; half = b.place.half; reason = r })) a (packets_step (Fail r) e s) refl s.1,
+      )
+
+      pub fails_step : (r : Reason) → Fail r ≡ rule order partial b.unit → At m live partial a u →
+          Grows (items_at order was u) (items_at order was (u ++ b ∷ [])) b.place.at (Faulty (record { at = b.place.at; half = b.place.half; reason = r }))
+      fails_step r e s = items_step (Faulty (record { at = b.place.at; half = b.place.half; reason = r })) tt (packets_step (Fail r) e s)

@@ -1,0 +1,56 @@
+use Rattle.std.proofs.Common.{◌≡◌, ℕ, ◌+◌, ◌-◌, ◌*◌, ◌<◌, ◌≤◌, List, ◌++◌, length, take, drop, refl, sym, ◌∙◌, ap, subst, append-nil, arith, Bool, true, None, Option}
+use Rattle.trace_values.specs.declared.step.Step.{Step}
+use Rattle.trace_values.specs.Placed.{Placed, placed_from}
+use Rattle.trace_values.specs.Block.{Takes}
+use Rattle.trace_values.proofs.Blocks.{IsTaking, taking_none}
+use Rattle.stp_grammar.specs.declared.packet.Order.{Order}
+use Rattle.stp_grammar.specs.declared.item.StpItem.{StpItem}
+use Rattle.stp_codec.specs.Reading.{items_in}
+use Rattle.stp_codec.specs.Decoder.{Stands, order_of, is_hunter}
+use Rattle.stp_codec.proofs.Parts.{takes_with, taking_with, taken_all, same_takes, none_step}
+use Rattle.stp_codec.proofs.PacketPieces.{sound_before}
+use Rattle.stp_codec.proofs.Passing.{sound_at}
+use Rattle.stp_codec.proofs.decoder.StpDecoder.feed_piece.Goals as goal
+
+pub returns-then-is_some-clause-takes : goal.returns-then-is_some-clause-takes
+returns-then-is_some-clause-takes c = λ u s.
+    let d = c.args.self.now in
+    let t = c.loop-taken.invariant.taking u s in
+    let b = c.in-Some.ensures.bytes in
+    takes_with (items_in (order_of d) (is_hunter d)) (Stands c.loop-taken.self) u c.args.at c.args.piece.now c.loop-taken.taken t (Stands c.pass_packet.new.self) c.in-Some.block.bytes c.in-Some.block.step
+    b.0 (omega (arith, b.1, c.loop-taken-test.true))
+    (same_takes c.loop-taken.invariant.same c.args.piece.now c.loop-taken.taken (c.in-Some.ensures.takes (u ++ placed_from c.args.at (take c.loop-taken.taken c.args.piece.now)) t.list))
+
+pub loop-taken-preserved : goal.loop-taken-preserved
+loop-taken-preserved c =
+    let d = c.args.self.now in
+    let b = c.in-Some.ensures.bytes in
+    let i = c.loop-taken.invariant in
+    record {
+      same = (c.pass_packet.ensures.same.0 ∙ i.same.0, c.pass_packet.ensures.same.1 ∙ i.same.1);
+      live = c.pass_packet.ensures.live;
+      most = omega (arith, b.1, c.loop-taken-test.true);
+      few = omega (arith, c.in-Some.ensures.few, i.few);
+      taking = λ u s.
+          let t = i.taking u s in
+          taking_with (items_in (order_of d) (is_hunter d)) (Stands c.loop-taken.self) u c.args.at c.args.piece.now c.loop-taken.taken t (Stands c.pass_packet.new.self) c.in-Some.block.bytes c.in-Some.block.step
+          b.0 (omega (arith, b.1, c.loop-taken-test.true))
+          (same_takes i.same c.args.piece.now c.loop-taken.taken (c.in-Some.ensures.takes (u ++ placed_from c.args.at (take c.loop-taken.taken c.args.piece.now)) t.list)) (none_step c.in-Some.block.step c.is_some.result c.is_some.ensures c.if-is_some.false);
+    }
+
+pub returns-in-None-clause-takes : goal.returns-in-None-clause-takes
+returns-in-None-clause-takes c = λ u s.
+    let d = c.args.self.now in
+    let t = c.loop-taken.invariant.taking u s in
+    let b = c.feed_block-block.ensures.bytes in
+    let e = c.in-None.ensures.none refl in
+    takes_with (items_in (order_of d) (is_hunter d)) (Stands c.loop-taken.self) u c.args.at c.args.piece.now c.loop-taken.taken t (Stands c.feed_block-block.new.machine) c.feed_block-block.result.bytes c.feed_block-block.result.step
+    b.0 (omega (arith, b.1, c.loop-taken-test.true))
+    (same_takes (ap order_of e ∙ c.loop-taken.invariant.same.0, ap is_hunter e ∙ c.loop-taken.invariant.same.1) c.args.piece.now c.loop-taken.taken
+    (c.feed_block-block.ensures.takes (u ++ placed_from c.args.at (take c.loop-taken.taken c.args.piece.now)) (subst (λ x. Stands x (u ++ placed_from c.args.at (take c.loop-taken.taken c.args.piece.now))) (sym e) t.list)))
+
+pub returns-clause-takes : goal.returns-clause-takes
+returns-clause-takes c = λ u s.
+    let d = c.args.self.now in
+    taken_all (order_of d) (is_hunter d) (Stands c.loop-taken.self) u c.args.at c.args.piece.now c.loop-taken.taken
+    (let m = c.loop-taken.invariant.most in omega (arith, m, c.loop-taken-test.false)) c.requires.some (c.loop-taken.invariant.taking u s)

@@ -1,0 +1,5 @@
+pub mod Reading
+pub mod Decoder
+pub mod Answers
+pub mod Wholes
+pub mod FallingLaws

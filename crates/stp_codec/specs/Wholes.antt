@@ -1,0 +1,50 @@
+-- Nibbles of a piece that end a packet.
+use Rattle.std.specs.Prelude.{◌≡◌, ℕ, ◌-◌, ◌/◌, ◌%◌, ◌+◌, List, [], ◌∷◌, take, drop, flat_map, ◌==◌, if◌then◌else◌, Option, None, Some}
+use Rattle.trace_values.specs.declared.next.Next.{Next}
+use Rattle.trace_values.specs.declared.step.Step.{Step}
+use Rattle.trace_values.specs.declared.step.Step.TheVariants.{Item}
+use Rattle.trace_values.specs.Placed.{Placed}
+use Rattle.trace_values.specs.Stream.{Stream}
+use Rattle.trace_values.specs.Nibbles.{high_of}
+use Rattle.trace_values.specs.Walk.{Whole, after, walk}
+use Rattle.stp_grammar.specs.declared.packet.Order.{Order}
+use Rattle.stp_grammar.specs.declared.packet.StpPacket.{StpPacket}
+use Rattle.stp_grammar.specs.declared.item.StpItem.{StpItem}
+use Rattle.stp_grammar.specs.declared.partial.Partial.{Partial}
+use Rattle.stp_grammar.specs.Rule.{rule, number_with}
+
+-- the nibbles of bytes, the low one of each first
+abbrev pub nibbles_in : List ℕ → List ℕ
+nibbles_in bytes = flat_map (λ b. b % 16 ∷ (b / 16 % 16 ∷ [])) bytes
+
+-- those from this one on, up to that one
+abbrev pub between : List ℕ → ℕ → ℕ → List ℕ
+between nibbles start end = take (end - start) (drop start nibbles)
+
+-- the number that this many nibbles make with more of them, where they made `value` without
+abbrev pub number_from : Order → ℕ → ℕ → List ℕ → ℕ
+number_from order count value [] = value
+number_from order count value (b ∷ r) = number_from order (count + 1) (number_with order count value b) r
+
+-- after what the rule says, these nibbles end this packet
+abbrev pub Ends : Order → Next Partial StpPacket → List ℕ → StpPacket → Type 0
+Ends order next r packet = after next (λ t. walk (rule order) t r) r ≡ Whole packet
+
+-- what is left of a byte after this half of it: its high nibble after the low one, and else nothing
+abbrev pub left_of : ℕ → ℕ → ℕ → List Placed
+left_of half at byte = if half == 0 then high_of at byte ∷ [] else []
+
+-- an item that ends in this half
+abbrev pub item_in : ℕ → Option StpItem → Option (Step StpItem)
+item_in half None = None
+item_in half (Some item) = Some (Item half item)
+
+-- nothing is given, and there is no fault
+abbrev pub IsQuiet : Stream StpItem → Stream StpItem → Type 0
+IsQuiet old new = (new.given ≡ old.given) × (new.fault ≡ None)
+
+-- an item or none, and no other answer
+abbrev pub IsItem : Option (Step StpItem) → Type 0
+IsItem None = Unit {0}
+IsItem (Some (Item half item)) = Unit {0}
+IsItem (Some step) = ⊥

@@ -1,0 +1,252 @@
+//! Packets whose nibbles are all there, read at once (MIPI System Trace Protocol, version 2, in this project's profile
+//! of it).
+//!
+//! They are read so for speed alone: the decoder reads nibble by nibble what is not found here.
+
+ghost use Rattle.std.specs.Prelude.{◌≡◌, ◌+◌, ◌-◌, ◌*◌, ◌^◌, ◌<◌, ◌≤◌, true, length, get_or, IfSome};
+ghost use Rattle.trace_values.specs.declared.next.Next.TheVariants.{Go};
+ghost use Rattle.stp_grammar.specs.declared.packet.Order.{Order as OrderOf};
+ghost use Rattle.stp_grammar.specs.declared.packet.StpPacket.TheVariants.{Async};
+ghost use Rattle.stp_grammar.specs.declared.partial.Partial.TheVariants.{Start, Second, Third, Run, Size};
+ghost use Rattle.stp_grammar.specs.Opcodes.{line_of};
+ghost use Rattle.stp_grammar.specs.Proper.{IsProper};
+ghost use Rattle.stp_grammar.specs.Rule.{begin, after_payload, is_sound};
+ghost use Rattle.stp_codec.specs.Wholes.{nibbles_in, between, number_from as number_by, Ends};
+
+use stp_grammar::nibble::number_with;
+use stp_grammar::opcode::row_at;
+use stp_grammar::packet::{Order, Row, StpPacket};
+use stp_grammar::partial::Partial;
+use trace_clock::word_nibbles;
+
+/// One of the nibbles of these bytes.
+#[inline]
+#[tactic(auto, using(crate::proofs::Between::even_nibble, crate::proofs::Between::odd_nibble))]
+fn nibble_of(bytes: &[u8], index: usize) -> u8
+    requires { index < 2 * length bytes.now }
+    ensures value { result ≡ get_or (nibbles_in bytes.now) index 0 }
+    ensures small { result < 16 }
+{
+    let byte = bytes[index / 2];
+    if index % 2 == 0 {
+        byte % 16
+    } else {
+        byte / 16
+    }
+}
+
+/// The number that `count` nibbles make with the next `more`, where they made `value` without them.
+#[inline]
+fn number_from(order: Order, count: u8, value: u64, bytes: &[u8], start: usize, more: u8) -> u64
+    requires few { count + more ≤ 16 }
+    requires fits { value < 16 ^ count }
+    requires there { start + more ≤ 2 * length bytes.now }
+    ensures value { result ≡ number_by order count value (between (nibbles_in bytes.now) start (start + more)) }
+    ensures fits { result < 16 ^ (count + more) }
+{
+    let mut number = value;
+    for index in 0..more {
+        let nibble = nibble_of(bytes, start + usize::from(index));
+        number = number_with(order, count + index, number, nibble);
+    }
+    number
+}
+
+/// The number of `most` nibbles, of which `count` made `value` and the others begin at this nibble of the bytes, and
+/// the nibble after them. None where they are not all there.
+#[inline]
+fn number_at(order: Order, count: u8, value: u64, most: u8, bytes: &[u8], start: usize) -> Option<(usize, u64)>
+    requires few { (count ≤ most) × (most ≤ 16) }
+    requires fits { value < 16 ^ count }
+    requires there { start ≤ 2 * length bytes.now }
+    ensures end { IfSome result (λ x. (x.0 ≡ start + (most - count)) × (x.0 ≤ 2 * length bytes.now)) }
+    ensures value { IfSome result (λ x. x.1 ≡ number_by order count value (between (nibbles_in bytes.now) start x.0)) }
+    ensures fits { IfSome result (λ x. x.1 < 16 ^ most) }
+{
+    let more = most - count;
+    if 2 * bytes.len() - start < usize::from(more) {
+        return None;
+    }
+    let number = number_from(order, count, value, bytes, start, more);
+    Some((start + usize::from(more), number))
+}
+
+/// The packet, from its timestamp's size nibble on, and the nibble after it.
+#[inline]
+fn from_size(order: Order, row: Row, payload: u64, bytes: &[u8], start: usize) -> Option<(usize, StpPacket)>
+    requires fits { payload < 16 ^ (line_of row).payload }
+    requires there { start ≤ 2 * length bytes.now }
+    ensures end { IfSome result (λ x. (start < x.0) × (x.0 ≤ 2 * length bytes.now)) }
+    ensures whole { IfSome result (λ x. Ends order (Go (Size row payload)) (between (nibbles_in bytes.now) start x.0) x.1) }
+    ensures proper { IfSome result (λ x. IsProper x.1) }
+{
+    if start >= 2 * bytes.len() {
+        return None;
+    }
+    match nibble_of(bytes, start) {
+        0 => Some((
+            start + 1,
+            StpPacket::Stamped {
+                row,
+                payload,
+                size: 0,
+                word: 0,
+            },
+        )),
+        15 => None,
+        size => {
+            let (end, word) = number_at(order, 0, 0, word_nibbles(size), bytes, start + 1)?;
+            Some((
+                end,
+                StpPacket::Stamped {
+                    row,
+                    payload,
+                    size,
+                    word,
+                },
+            ))
+        }
+    }
+}
+
+/// The packet, from the nibble after its payload on, and the nibble after it.
+#[inline]
+fn from_payload(order: Order, row: Row, payload: u64, bytes: &[u8], start: usize) -> Option<(usize, StpPacket)>
+    requires fits { payload < 16 ^ (line_of row).payload }
+    requires there { start ≤ 2 * length bytes.now }
+    ensures end { IfSome result (λ x. (start ≤ x.0) × (x.0 ≤ 2 * length bytes.now)) }
+    ensures whole { IfSome result (λ x. Ends order (after_payload row payload) (between (nibbles_in bytes.now) start x.0) x.1) }
+    ensures proper { IfSome result (λ x. IsProper x.1) }
+{
+    if row.is_stamped() {
+        from_size(order, row, payload, bytes, start)
+    } else {
+        Some((start, StpPacket::Plain { row, payload }))
+    }
+}
+
+/// The packet of this row, from the nibble after its opcode on, and the nibble after it.
+#[inline]
+fn from_opcode(order: Order, row: Row, bytes: &[u8], start: usize) -> Option<(usize, StpPacket)>
+    requires there { start ≤ 2 * length bytes.now }
+    ensures end { IfSome result (λ x. (start ≤ x.0) × (x.0 ≤ 2 * length bytes.now)) }
+    ensures whole { IfSome result (λ x. Ends order (begin row) (between (nibbles_in bytes.now) start x.0) x.1) }
+    ensures proper { IfSome result (λ x. IsProper x.1) }
+{
+    let (end, payload) = number_at(order, 0, 0, row.payload_nibbles(), bytes, start)?;
+    from_payload(order, row, payload, bytes, end)
+}
+
+/// The packet whose first nibble is F, from its second on, and the nibble after it.
+#[inline]
+fn from_second(order: Order, bytes: &[u8], start: usize) -> Option<(usize, StpPacket)>
+    ensures end { IfSome result (λ x. (start < x.0) × (x.0 ≤ 2 * length bytes.now)) }
+    ensures whole { IfSome result (λ x. Ends order (Go Second) (between (nibbles_in bytes.now) start x.0) x.1) }
+    ensures proper { IfSome result (λ x. IsProper x.1) }
+{
+    if start >= 2 * bytes.len() {
+        return None;
+    }
+    match nibble_of(bytes, start) {
+        0 => from_third(order, bytes, start + 1),
+        15 => Some((from_run(2, bytes, start + 1)?, StpPacket::Async)),
+        nibble => from_opcode(order, row_at(14 + nibble), bytes, start + 1),
+    }
+}
+
+/// The packet whose first nibbles are F and 0, from its third on, and the nibble after it. None where there is none.
+#[inline]
+fn from_third(order: Order, bytes: &[u8], start: usize) -> Option<(usize, StpPacket)>
+    requires there { start ≤ 2 * length bytes.now }
+    ensures end { IfSome result (λ x. (start < x.0) × (x.0 ≤ 2 * length bytes.now)) }
+    ensures whole { IfSome result (λ x. Ends order (Go Third) (between (nibbles_in bytes.now) start x.0) x.1) }
+    ensures proper { IfSome result (λ x. IsProper x.1) }
+{
+    if start >= 2 * bytes.len() {
+        return None;
+    }
+    match nibble_of(bytes, start) {
+        nibble @ 0..=1 => from_opcode(order, row_at(29 + nibble), bytes, start + 1),
+        nibble @ 6..=9 => from_opcode(order, row_at(25 + nibble), bytes, start + 1),
+        _ => None,
+    }
+}
+
+/// The nibble after the ASYNC of which this many nibbles F are before these, at least two. None where it does not end
+/// in them, or is none.
+#[inline]
+fn from_run(count: u64, bytes: &[u8], start: usize) -> Option<usize>
+    requires { start ≤ 2 * length bytes.now }
+    ensures end { IfSome result (λ end. (start < end) × (end ≤ 2 * length bytes.now)) }
+    ensures whole { (order : OrderOf) → IfSome result (λ end.
+        Ends order (Go (Run count)) (between (nibbles_in bytes.now) start end) Async) }
+{
+    for index in start..2 * bytes.len() {
+        let nibble = nibble_of(bytes, index);
+        if nibble != 15 {
+            let more = (index - start) as u64;
+            return if nibble == 0 && more >= 21u64.saturating_sub(count) {
+                Some(index + 1)
+            } else {
+                None
+            };
+        }
+    }
+    None
+}
+
+/// The packet that the bytes begin with, and the nibble after it.
+#[inline]
+fn from_start(order: Order, bytes: &[u8]) -> Option<(usize, StpPacket)>
+    ensures end { IfSome result (λ x. (0 < x.0) × (x.0 ≤ 2 * length bytes.now)) }
+    ensures whole { IfSome result (λ x. Ends order (Go Start) (between (nibbles_in bytes.now) 0 x.0) x.1) }
+    ensures proper { IfSome result (λ x. IsProper x.1) }
+{
+    if bytes.is_empty() {
+        return None;
+    }
+    match nibble_of(bytes, 0) {
+        15 => from_second(order, bytes, 1),
+        nibble => from_opcode(order, row_at(nibble), bytes, 1),
+    }
+}
+
+/// The packet that these bytes finish, of which this is the unfinished part, and how many of their nibbles it takes.
+/// None where they do not finish it.
+#[inline]
+pub fn whole_packet(order: Order, partial: Partial, bytes: &[u8]) -> Option<(usize, StpPacket)>
+    requires { is_sound partial ≡ true }
+    ensures end { IfSome result (λ x. (0 < x.0) × (x.0 ≤ 2 * length bytes.now)) }
+    ensures whole { IfSome result (λ x. Ends order (Go partial) (between (nibbles_in bytes.now) 0 x.0) x.1) }
+    ensures proper { IfSome result (λ x. IsProper x.1) }
+{
+    match partial {
+        Partial::Start => from_start(order, bytes),
+        Partial::Second => from_second(order, bytes, 0),
+        Partial::Third => from_third(order, bytes, 0),
+        Partial::Run(count) => Some((from_run(count, bytes, 0)?, StpPacket::Async)),
+        Partial::Payload { row, count, value } => {
+            let (end, payload) = number_at(order, count, value, row.payload_nibbles(), bytes, 0)?;
+            from_payload(order, row, payload, bytes, end)
+        }
+        Partial::Size { row, payload } => from_size(order, row, payload, bytes, 0),
+        Partial::Word {
+            row,
+            payload,
+            size,
+            count,
+            word,
+        } => {
+            let (end, word) = number_at(order, count, word, word_nibbles(size), bytes, 0)?;
+            Some((
+                end,
+                StpPacket::Stamped {
+                    row,
+                    payload,
+                    size,
+                    word,
+                },
+            ))
+        }
+    }
+}
