@@ -45,7 +45,8 @@ stamp_text (Natural time) = codes "n=" ++ decimal time
 stamp_text (Gray time) = codes "g=" ++ decimal time
 stamp_text (Raw size word) = codes "r=" ++ hex_digits (nibble_count size) word
 
--- `async`, `version N`, `merr M C HH`, `gerr HH`, `data M C uB V K T`, `flag M C T`, `trig HH T`, `freq N T`, `nullts T`
+-- `async`, `version N`, `merr M C HH`, `gerr HH`, `data M C uB V K T`, `flag M C T`, `trig HH T`, `freq N T`,
+-- `nullts T`
 abbrev pub stp_text : StpItem → List ℕ
 stp_text Async = codes "async"
 stp_text (Version version) = codes "version " ++ decimal version

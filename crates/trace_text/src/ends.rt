@@ -113,10 +113,11 @@ impl Text for SourceEndLine {
     }
 }
 
-/// The most bytes of the lines at the end of a capture: 25 of the first, 102 of the port's, and 71 of each of 16 sources'.
+/// The most bytes of the lines at the end of a capture: 25 of the first, 102 of the port's, and 71 of each of 16
+/// sources.
 pub const TAILS_ROOM: usize = 1263;
 
-/// The line at the end of a mapped source.
+/// Puts the line at the end of a mapped source.
 fn put_source_end(outlet: &mut Outlet, source: &SourceTail)
     requires room { length outlet.old + TEXT_ROOM ≤ OUTLET_ROOM }
     ensures line { outlet.new ≡ outlet.old ++ source_line source.now }
@@ -128,7 +129,7 @@ fn put_source_end(outlet: &mut Outlet, source: &SourceTail)
     outlet.put(&SourceEndLine { source: *source });
 }
 
-/// The first lines at the end of a capture.
+/// Puts the first lines at the end of a capture.
 fn put_port_ends(outlet: &mut Outlet, tails: &Tails)
     requires room { length outlet.old + 2 * TEXT_ROOM ≤ OUTLET_ROOM }
     ensures lines { outlet.new ≡ outlet.old ++ (end_line tails.now.bytes
@@ -148,8 +149,8 @@ fn put_port_ends(outlet: &mut Outlet, tails: &Tails)
     });
 }
 
-/// The lines at the end of a capture: `EndLine`, `PortEndLine`, and `SourceEndLine` for each mapped source in increasing
-/// order of ID.
+/// Puts the lines at the end of a capture: `EndLine`, `PortEndLine`, and `SourceEndLine` for each mapped source in
+/// increasing order of ID.
 pub fn print_tails(outlet: &mut Outlet, tails: &Tails)
     requires room { length outlet.old + TAILS_ROOM + TEXT_ROOM ≤ OUTLET_ROOM }
     ensures lines { outlet.new ≡ outlet.old ++ tails_text tails.now }

@@ -10,8 +10,8 @@ use source_events::Stop;
 use trace_stream::{OUTLET_ROOM, Outlet, TEXT_ROOM, Text};
 use trace_values::Reason;
 
-/// The line of a fault of the port, `fault AT port R NAME`, or of a source, `fault AT ID R NAME`, with `AT.H` for an STP
-/// source.
+/// The line of a fault of the port, `fault AT port R NAME`, or of a source, `fault AT ID R NAME`, with `AT.H` for an
+/// STP source.
 #[derive(Clone, Copy, Debug)]
 pub struct FaultLine {
     pub stop: Stop,
@@ -47,7 +47,7 @@ impl Text for FaultLine {
     }
 }
 
-/// The line of the fault that ends a report, `FaultLine`.
+/// Puts the line of the fault that ends a report; `stp` says that its source is an STP source.
 pub fn print_fault(outlet: &mut Outlet, stop: &Stop, stp: bool)
     requires room { length outlet.old + TEXT_ROOM ≤ OUTLET_ROOM }
     ensures { outlet.new ≡ outlet.old ++ fault_line stp (stop_of stop.now) }

@@ -189,8 +189,8 @@ impl Text for ItmLine<'_> {
     }
 }
 
-/// The line of an event, with its remark: `AT SOURCE WHAT`, or `AT.H SOURCE WHAT` where its source is an STP source. The
-/// digits of the offset are kept for the next line.
+/// Puts the line of an event, with its remark: `AT SOURCE WHAT`, or `AT.H SOURCE WHAT` where its source is an STP source
+/// (`stp`). The digits of the offset are kept for the next line.
 pub fn print(
     outlet: &mut Outlet,
     digits: &mut Digits,
@@ -215,8 +215,8 @@ pub fn print(
     outlet.put(&line);
 }
 
-/// The line of an ITM packet of this source, whose last byte is at this offset, with its remark: what `print` puts for it,
-/// without an event. The packet's numbers are in their ranges. The digits of the offset are kept for the next line.
+/// Puts the line of an ITM packet of this source, whose last byte is at this offset, with its remark. It is what `print`
+/// puts for that event, which is not made. The digits of the offset are kept for the next line.
 pub fn put_line(
     outlet: &mut Outlet,
     digits: &mut Digits,

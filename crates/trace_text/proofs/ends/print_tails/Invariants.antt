@@ -1,5 +1,5 @@
 use Rattle.std.proofs.Common.{◌≡◌, ◌+◌, ◌*◌, ◌≤◌, ◌++◌, length, take}
-use Rattle.trace_text.specs.EndText.{end_line, port_line, source_lines}
+use Rattle.trace_text.specs.EndText.{source_lines}
 use Rattle.trace_text.proofs.ends.print_tails.Given as goal
 
 abbrev pub invariant-loop-source : goal.invariant-loop-source
