@@ -133,7 +133,7 @@ item (Software port size v) h =
     let a = length-decimal-le 2 port (omega arith) (omega arith) (omega arith) in
     let b = value size v in
     simp length-append (omega arith)
-item (Hardware disc size v) h = hardware (name disc size v) (in_range (name disc size v) (disc, size, v, h.0, h.1, refl))
+item (Hardware disc size v) h = hardware (name disc size v) (in_range (name disc size v) (disc, size, v, (h.0, h.1), refl))
 item (Local l delta) h =
     let a = length-decimal-le 9 delta (omega arith) (omega arith) (omega arith) in
     let b = lateness l in
