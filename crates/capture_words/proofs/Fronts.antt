@@ -1,5 +1,6 @@
 -- What comes after a front of a text, as `strip_prefix` gives it.
-use Rattle.std.proofs.Common.{◌≡◌, ℕ, List, Bool, true, false, Option, Some, None, Bor, sym, ap, refl, ◌∙◌, subst, arith, nat_eq, length, drop, option_map, if◌then◌else◌}
+use Rattle.std.proofs.Common.{◌≡◌, ℕ, List, Bool, true, false, Option, Some, None, Bor, sym, ap, refl, ◌∙◌, subst}
+use Rattle.std.proofs.Common.{arith, nat_eq, length, drop, option_map, if◌then◌else◌}
 use Rattle.std.specs.List.{starts_with}
 use Rattle.std.specs.Option.{MatchOption}
 use Rattle.std.specs.Str.{IsCharBoundary}

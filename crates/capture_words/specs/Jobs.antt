@@ -1,10 +1,12 @@
 -- The job of the entries, or the first fault.
-use Rattle.std.specs.Prelude.{◌≡◌, ℕ, List, [], ◌∷◌, true, Option, Some, None, Result, Ok, Err, ◌==◌, if◌then◌else◌, option_map}
+use Rattle.std.specs.Prelude.{◌≡◌, ℕ, List, [], ◌∷◌, true, Option, Some, None, Result, Ok, Err, ◌==◌, if◌then◌else◌}
+use Rattle.std.specs.Prelude.{option_map}
 use Rattle.clap.specs.Words.{Row}
 use Rattle.capture_plan.specs.declared.frames.FramesMode.{FramesMode}
 use Rattle.source_events.specs.Plan.{is_sound}
 use Rattle.source_events.specs.declared.plan.Plan.{Plan}
-use Rattle.capture_words.specs.Values.{action_in, frames_in, packets_in, itm_in, stp_in, order_in, id_in, only_in, limit_in}
+use Rattle.capture_words.specs.Values.{action_in, frames_in, packets_in, itm_in, stp_in, order_in, id_in, only_in}
+use Rattle.capture_words.specs.Values.{limit_in}
 use Rattle.capture_words.specs.declared.job.Task.{Task}
 use Rattle.capture_words.specs.declared.job.Task.TheVariants.{Show, Split, Check}
 use Rattle.capture_words.specs.declared.job.Job.{Job}

@@ -2,5 +2,6 @@ pub mod Command
 pub mod Values
 pub mod Jobs
 pub mod Texts
+pub mod Choices
 pub mod Calls
 pub mod Rows

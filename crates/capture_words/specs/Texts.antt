@@ -2,7 +2,8 @@
 use Rattle.std.specs.Prelude.{ℕ, List, codes, decimal, ◌++◌}
 use Rattle.capture_words.specs.Command.{option_name}
 use Rattle.capture_words.specs.declared.usage.UsageFault.{UsageFault}
-use Rattle.capture_words.specs.declared.usage.UsageFault.TheVariants.{UnknownAction, BadValue, SplitNeedsId, MappedTwice}
+use Rattle.capture_words.specs.declared.usage.UsageFault.TheVariants.{UnknownAction, BadValue, SplitNeedsId}
+use Rattle.capture_words.specs.declared.usage.UsageFault.TheVariants.{MappedTwice}
 
 abbrev pub usage_line : UsageFault → List ℕ
 usage_line UnknownAction = codes "usage: unknown action\n"

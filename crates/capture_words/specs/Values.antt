@@ -1,5 +1,6 @@
 -- What the texts of the action and of the options say.
-use Rattle.std.specs.Prelude.{ℕ, ◌^◌, List, codes, Option, Some, None, Result, nat_le, Bool, ◌&&◌, if◌then◌else◌, ok_or, option_and_then, option_map, decimal, nat_eq, length, drop}
+use Rattle.std.specs.Prelude.{ℕ, ◌^◌, List, codes, Option, Some, None, Result, nat_le, Bool, ◌&&◌, if◌then◌else◌}
+use Rattle.std.specs.Prelude.{ok_or, option_and_then, option_map, decimal, nat_eq, length, drop}
 use Rattle.std.specs.List.{starts_with}
 use Rattle.std.specs.Str.{bytes_eq}
 use Rattle.std.specs.Str.Parse.{digits_value}
@@ -14,10 +15,12 @@ use Rattle.stp_grammar.specs.declared.packet.Order.TheVariants.{Msn, Lsn}
 use Rattle.item_tap.specs.declared.choice.Choice.{Choice}
 use Rattle.item_tap.specs.declared.choice.Choice.TheVariants.{OfKind, Source, Port}
 use Rattle.item_tap.specs.declared.choice.Kind.{Kind}
-use Rattle.item_tap.specs.declared.choice.Kind.TheVariants.{Itm as ItmKind, Dwt as DwtKind, Stp as StpKind, Raw as RawKind, Trigger as TriggerKind}
+use Rattle.item_tap.specs.declared.choice.Kind.TheVariants.{Itm as ItmKind, Dwt as DwtKind, Stp as StpKind}
+use Rattle.item_tap.specs.declared.choice.Kind.TheVariants.{Raw as RawKind, Trigger as TriggerKind}
 use Rattle.capture_words.specs.Command.{option_name}
 use Rattle.capture_words.specs.declared.option.CommandOption.{CommandOption}
-use Rattle.capture_words.specs.declared.option.CommandOption.TheVariants.{Frames, Packets, Itm, Stp, StpOrder, Id, Only, Limit}
+use Rattle.capture_words.specs.declared.option.CommandOption.TheVariants.{Frames, Packets, Itm, Stp, StpOrder, Id}
+use Rattle.capture_words.specs.declared.option.CommandOption.TheVariants.{Only, Limit}
 use Rattle.capture_words.specs.declared.usage.UsageFault.{UsageFault}
 use Rattle.capture_words.specs.declared.usage.UsageFault.TheVariants.{UnknownAction, BadValue}
 use Rattle.capture_words.specs.declared.values.ActionName.{ActionName}

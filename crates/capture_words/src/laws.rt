@@ -3,7 +3,9 @@
 ghost use Rattle.std.specs.Prelude.{◌≡◌, ◌≤◌, ◌<◌, ◌^◌, ◌⊎◌, ◌↔◌, ℕ, List, Some, decimal};
 ghost use Rattle.clap.specs.Words.{Text};
 ghost use Rattle.capture_words.specs.Calls.{AsksFor, Misuses, IsMisuse};
-ghost use Rattle.capture_words.specs.Values.{number_named};
+ghost use Rattle.item_tap.specs.declared.choice.Choice.{Choice};
+ghost use Rattle.capture_words.specs.Choices.{IsChoice, choice_text};
+ghost use Rattle.capture_words.specs.Values.{number_named, choice_named};
 ghost use Rattle.capture_words.specs.declared.job.Job.{Job};
 ghost use Rattle.capture_words.specs.declared.usage.UsageFault.{UsageFault};
 
@@ -19,4 +21,10 @@ pub fn calls_law()
 pub fn number_law()
     ensures { (least greatest n : ℕ) (text : Text) → greatest < 2 ^ 64 →
         ((number_named least greatest text ≡ Some n) ↔ ((least ≤ n) × (n ≤ greatest) × (text ≡ decimal n))) }
+{}
+
+/// A text names exactly the choice within the bounds whose text it is.
+pub fn choice_law()
+    ensures { (choice : Choice) (text : Text) →
+        (choice_named text ≡ Some choice) ↔ (IsChoice choice × (text ≡ choice_text choice)) }
 {}

@@ -46,19 +46,23 @@ impl CommandOption {
     pub(crate) fn help<'a>(self) -> &'a str {
         match self {
             CommandOption::Frames => {
-                "Where frames begin: hunt (at the first full synchronisation, the default), aligned (at the first byte) or bare (there are none)"
+                "Where frames begin: hunt (at the first full synchronisation, the default), aligned (at the \
+                first byte) or bare (there are none)"
             }
             CommandOption::Packets => {
-                "Where packets begin: hunt (at the first synchronisation packet, the default) or aligned (at the first byte)"
+                "Where packets begin: hunt (at the first synchronisation packet, the default) or aligned (at \
+                the first byte)"
             }
             CommandOption::Itm => "The source that sends ITM packets: 1 to 111",
             CommandOption::Stp => "The source that sends STP packets: 1 to 111",
             CommandOption::StpOrder => {
-                "Which nibble of an STP value comes first: msn (the most significant, the default) or lsn (the least significant)"
+                "Which nibble of an STP value comes first: msn (the most significant, the default) or lsn \
+                (the least significant)"
             }
             CommandOption::Id => "The source whose bytes split writes: 0 to 126",
             CommandOption::Only => {
-                "Which events show lists: itm, dwt, stp, raw, trigger, id=N (of source N, 1 to 126) or port=N (of stimulus port N, 0 to 31)"
+                "Which events show lists: itm, dwt, stp, raw, trigger, id=N (of source N, 1 to 126) or port=N \
+                (of stimulus port N, 0 to 31)"
             }
             CommandOption::Limit => {
                 "How many bytes are read at most: 1 to 68719476736, which is the default"

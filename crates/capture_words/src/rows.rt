@@ -1,16 +1,22 @@
 //! Worked rows: words, and what they ask for, which the checker computes.
 
 ghost use Rattle.std.specs.Prelude.{codes, [], ◌∷◌, None, Some};
-ghost use Rattle.clap.specs.declared.error.kind.ErrorKind.TheVariants.{ArgumentConflict, DisplayHelp, InvalidValue, MissingRequiredArgument, UnknownArgument};
-ghost use Rattle.capture_plan.specs.declared.frames.FramesMode.TheVariants.{Hunt as FramesHunt, Aligned as FramesAligned, Bare};
-ghost use Rattle.capture_plan.specs.declared.packets.PacketsMode.TheVariants.{Hunt as PacketsHunt, Aligned as PacketsAligned};
+ghost use Rattle.clap.specs.declared.error.kind.ErrorKind.TheVariants.{ArgumentConflict, DisplayHelp, InvalidValue};
+ghost use Rattle.clap.specs.declared.error.kind.ErrorKind.TheVariants.{MissingRequiredArgument, UnknownArgument};
+ghost use Rattle.capture_plan.specs.declared.frames.FramesMode.TheVariants.{Hunt as FramesHunt};
+ghost use Rattle.capture_plan.specs.declared.frames.FramesMode.TheVariants.{Aligned as FramesAligned, Bare};
+ghost use Rattle.capture_plan.specs.declared.packets.PacketsMode.TheVariants.{Hunt as PacketsHunt};
+ghost use Rattle.capture_plan.specs.declared.packets.PacketsMode.TheVariants.{Aligned as PacketsAligned};
 ghost use Rattle.stp_grammar.specs.declared.packet.Order.TheVariants.{Msn, Lsn};
 ghost use Rattle.item_tap.specs.declared.choice.Choice.TheVariants.{OfKind, Source, Port};
-ghost use Rattle.item_tap.specs.declared.choice.Kind.TheVariants.{Itm as ItmKind, Dwt as DwtKind, Stp as StpKind, Raw as RawKind, Trigger as TriggerKind};
+ghost use Rattle.item_tap.specs.declared.choice.Kind.TheVariants.{Itm as ItmKind, Dwt as DwtKind, Stp as StpKind};
+ghost use Rattle.item_tap.specs.declared.choice.Kind.TheVariants.{Raw as RawKind, Trigger as TriggerKind};
 ghost use Rattle.capture_words.specs.Rows.{Does, Lists, Faults, Refuses, planned};
 ghost use Rattle.capture_words.specs.declared.job.Task.TheVariants.{Show, Split, Check};
-ghost use Rattle.capture_words.specs.declared.option.CommandOption.TheVariants.{Frames, Packets, Itm, Stp, StpOrder, Id, Only, Limit};
-ghost use Rattle.capture_words.specs.declared.usage.UsageFault.TheVariants.{UnknownAction, BadValue, SplitNeedsId, MappedTwice};
+ghost use Rattle.capture_words.specs.declared.option.CommandOption.TheVariants.{Frames, Packets, Itm, Stp, StpOrder};
+ghost use Rattle.capture_words.specs.declared.option.CommandOption.TheVariants.{Id, Only, Limit};
+ghost use Rattle.capture_words.specs.declared.usage.UsageFault.TheVariants.{UnknownAction, BadValue, SplitNeedsId};
+ghost use Rattle.capture_words.specs.declared.usage.UsageFault.TheVariants.{MappedTwice};
 
 /// Words that ask for a listing, in several orders and spellings.
 pub fn show()
@@ -22,7 +28,8 @@ pub fn show()
         (Show (planned FramesHunt PacketsHunt [] (2 ∷ []) Lsn) None) 16777217 }
     ensures both { Does (codes "--stp=2 --packets=hunt --stp-order=msn --itm=1 show --frames=aligned --limit=1")
         (Show (planned FramesAligned PacketsHunt (1 ∷ []) (2 ∷ []) Msn) None) 1 }
-    ensures unused { Does (codes "show --id 126 --limit 68719476736") (Show (planned FramesHunt PacketsHunt [] [] Msn) None) 68719476736 }
+    ensures unused { Does (codes "show --id 126 --limit 68719476736")
+        (Show (planned FramesHunt PacketsHunt [] [] Msn) None) 68719476736 }
 {}
 
 /// Words that ask for a listing of some events.
@@ -42,15 +49,20 @@ pub fn only()
 pub fn split()
     ensures hunt { Does (codes "split --id 5") (Split FramesHunt 5) 68719476736 }
     ensures aligned { Does (codes "split --frames aligned --id 0") (Split FramesAligned 0) 68719476736 }
-    ensures unused { Does (codes "--id 126 split --frames bare --packets aligned --itm 111 --stp-order lsn --only raw --limit 7") (Split Bare 126) 7 }
+    ensures unused { Does (codes "--id 126 split --frames bare --itm 111 --stp-order lsn --only raw --limit 7")
+        (Split Bare 126) 7 }
     ensures mapped { Does (codes "split --id 5 --itm 7 --stp 7") (Split FramesHunt 5) 68719476736 }
 {}
 
 /// Words that ask for a check of a port.
 pub fn check()
     ensures hunt { Does (codes "check") (Check (planned FramesHunt PacketsHunt [] [] Msn)) 68719476736 }
-    ensures aligned { Does (codes "check --frames aligned --itm 110 --stp 111") (Check (planned FramesAligned PacketsHunt (110 ∷ []) (111 ∷ []) Msn)) 68719476736 }
-    ensures unused { Does (codes "--frames=bare --limit=65536 check --id 0 --only port=7 --packets aligned --stp-order lsn") (Check (planned Bare PacketsAligned [] [] Lsn)) 65536 }
+    ensures aligned { Does (codes "check --frames aligned --itm 110 --stp 111")
+        (Check (planned FramesAligned PacketsHunt (110 ∷ []) (111 ∷ []) Msn)) 68719476736 }
+    ensures unused { Does (codes "--frames=bare --limit=65536 check --id 0 --only port=7 --packets aligned")
+        (Check (planned Bare PacketsAligned [] [] Msn)) 65536 }
+    ensures order { Does (codes "check --stp 5 --stp-order lsn")
+        (Check (planned FramesHunt PacketsHunt [] (5 ∷ []) Lsn)) 68719476736 }
 {}
 
 /// Values that are none of their options'.

@@ -3,7 +3,8 @@
 ghost use Rattle.std.specs.Prelude.{◌≡◌, ◌≤◌, option_map, IfOk, IfSome};
 ghost use Rattle.clap.specs.Words.{rows_of, found_of, first_of};
 ghost use Rattle.capture_words.specs.Command.{option_name};
-ghost use Rattle.capture_words.specs.Values.{action_named, order_named, action_in, frames_in, packets_in, id_given, itm_in, stp_in, order_in, id_in, only_in, limit_in};
+ghost use Rattle.capture_words.specs.Values.{action_named, order_named, action_in, frames_in, packets_in, id_given};
+ghost use Rattle.capture_words.specs.Values.{itm_in, stp_in, order_in, id_in, only_in, limit_in};
 
 use crate::choices::choice_named;
 use crate::number::{id_named, number_named};

@@ -3,7 +3,8 @@ use Rattle.std.proofs.lemmas.Result.{IfOk-weaker}
 use Rattle.clap.specs.Words.{App, with_rule}
 use Rattle.capture_words.specs.Command.{trace_app, option_rule}
 use Rattle.capture_words.specs.declared.option.CommandOption.{CommandOption}
-use Rattle.capture_words.specs.declared.option.CommandOption.TheVariants.{Frames, Packets, Itm, Stp, StpOrder, Id, Only, Limit}
+use Rattle.capture_words.specs.declared.option.CommandOption.TheVariants.{Frames, Packets, Itm, Stp, StpOrder, Id}
+use Rattle.capture_words.specs.declared.option.CommandOption.TheVariants.{Only, Limit}
 use Rattle.capture_words.proofs.command.trace_command.Goals as goal
 
 step : (a b : App) (option : CommandOption) → a ≡ b → with_rule a (option_rule option) ≡ with_rule b (option_rule option)

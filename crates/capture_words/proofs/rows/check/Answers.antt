@@ -10,4 +10,5 @@ returns c = record {
   hunt = record { call = refl; job_is = refl };
   aligned = record { call = refl; job_is = refl };
   unused = record { call = refl; job_is = refl };
+  order = record { call = refl; job_is = refl };
 }

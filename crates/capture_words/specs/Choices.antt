@@ -1,0 +1,25 @@
+-- The text of each choice of events.
+use Rattle.std.specs.Prelude.{◌≤◌, codes, decimal, ◌++◌}
+use Rattle.clap.specs.Words.{Text}
+use Rattle.item_tap.specs.declared.choice.Choice.{Choice}
+use Rattle.item_tap.specs.declared.choice.Choice.TheVariants.{OfKind, Source, Port}
+use Rattle.item_tap.specs.declared.choice.Kind.{Kind}
+use Rattle.item_tap.specs.declared.choice.Kind.TheVariants.{Itm, Dwt, Stp, Raw, Trigger}
+
+abbrev pub kind_text : Kind → Text
+kind_text Itm = codes "itm"
+kind_text Dwt = codes "dwt"
+kind_text Stp = codes "stp"
+kind_text Raw = codes "raw"
+kind_text Trigger = codes "trigger"
+
+abbrev pub choice_text : Choice → Text
+choice_text (OfKind kind) = kind_text kind
+choice_text (Source x) = codes "id=" ++ decimal x
+choice_text (Port n) = codes "port=" ++ decimal n
+
+-- a source is from 1 to 126, since the null source, 0, gives no events, and a stimulus port from 0 to 31
+abbrev pub IsChoice : Choice → Type 0
+IsChoice (OfKind kind) = Unit {0}
+IsChoice (Source x) = (1 ≤ x) × (x ≤ 126)
+IsChoice (Port n) = n ≤ 31
