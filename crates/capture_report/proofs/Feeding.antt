@@ -1,6 +1,6 @@
 -- What a block of an engine is for the report of the capture.
-use Rattle.std.proofs.Common.{◌≡◌, ℕ, suc, ◌+◌, List, [], ◌∷◌, ◌++◌, length, refl, sym, ◌∙◌, ap, subst, append_assoc, append-nil, arith, Option, None, Some, Bool, true, false}
-use Rattle.std.specs.Prelude.{is_none}
+use Rattle.std.proofs.Common.{◌≡◌, ℕ, suc, ◌+◌, List, [], ◌∷◌, ◌++◌, length, refl, sym, ◌∙◌, ap, subst, append_assoc, append-nil, arith, Option, None, Some, true}
+use Rattle.std.specs.Prelude.{is_none, option_map}
 use Rattle.trace_values.specs.declared.fault.Reason.{Reason}
 use Rattle.trace_values.specs.Placed.{Place, Placed, byte_at, placed_from, placed}
 use Rattle.trace_values.proofs.Placing.{placed_from_push, placed_append}
@@ -17,7 +17,10 @@ use Rattle.source_events.specs.Report.{stop_of}
 use Rattle.source_merge.specs.Answering.{report_of, fault_of, fault_by, Answers}
 use Rattle.source_merge.specs.declared.flow.Flow.{Flow}
 use Rattle.source_merge.specs.declared.flow.Flow.TheVariants.{Going, Stopped}
+use Rattle.source_merge.specs.declared.engine.Engine.{Engine}
+use Rattle.source_merge.specs.Engine.{Stands, is_live, next_of, plan_of}
 use Rattle.capture_report.specs.Faulty.{IsFaulty}
+use Rattle.capture_report.specs.Stopping.{flow_by, stop_by}
 
 abbrev pub Fault : Type 0
 Fault = Option (Place × (Reason × Option ℕ))
@@ -93,3 +96,48 @@ module _ (plan : Plan) (seen bytes : List ℕ) (at : ℕ) (given : List (Event P
         let l = ap (λ (o : Fault). is_none o) k in let m = h in cc);
     broken = ap (λ (o : Fault). is_none o) (fault_after ∙ ap fault_by g);
   }
+
+flows : (plan : Plan) (seen bytes : List ℕ) (at : ℕ) (given : List (Event Packet)) (flow : Flow) (e : at ≡ length seen) →
+    FedAs (Answers plan [] Going) (Answers plan given flow) (placed seen) at bytes → fault_of plan (placed seen) ≡ None →
+    FlowAfter (IsFaulty plan) (seen ++ bytes) (flow_by flow)
+flows plan seen bytes at given Going e fed none = goes_on plan seen bytes at given Going e fed refl
+flows plan seen bytes at given (Stopped stop) e fed none = ends plan seen bytes at given (Stopped stop) e fed stop refl none
+
+kept : (flow : Flow) (stop : Option Stop) → is_none stop ≡ true → option_map stop_of (stop_by flow stop) ≡ fault_by flow
+kept Going None h = refl
+kept Going (Some stop) h = cc
+kept (Stopped fault) stop h = refl
+
+is_nothing : (fault : Fault) → true ≡ is_none fault → fault ≡ None
+is_nothing None h = refl
+is_nothing (Some fault) h = cc
+
+-- an engine after a block, and what an action keeps of it
+module _ (old new : Engine) (seen bytes : List ℕ) (at : ℕ) (given : List (Event Packet)) (flow : Flow)
+    (stands : Stands old (placed seen)) (live : is_live old ≡ true) (next : at ≡ next_of old)
+    (same : plan_of new ≡ plan_of old) (list : Stands new (placed seen ++ placed_from at bytes))
+    (fed : FedAs (Answers (plan_of old) [] Going) (Answers (plan_of old) given flow) (placed seen) at bytes) where
+  here : at ≡ length seen
+  here = next ∙ stands.next ∙ capture_end seen
+
+  none : fault_of (plan_of old) (placed seen) ≡ None
+  none = is_nothing (fault_of (plan_of old) (placed seen)) (sym live ∙ stands.live)
+
+  pub stands_after : Stands new (placed (seen ++ bytes))
+  stands_after = subst (λ (u : List Placed). Stands new u) (next_bytes seen bytes at here) list
+
+  pub report_here : report_of (plan_of old) (placed (seen ++ bytes)) ≡ report_of (plan_of old) (placed seen) ++ given
+  report_here = report_grew (plan_of old) seen bytes at given flow here fed
+
+  pub report_after : report_of (plan_of new) (placed (seen ++ bytes)) ≡ report_of (plan_of old) (placed seen) ++ given
+  report_after =
+      ap (λ (plan : Plan). report_of plan (placed (seen ++ bytes))) same ∙ report_here
+
+  pub stop_after : (stop : Option Stop) → is_none stop ≡ true →
+      option_map stop_of (stop_by flow stop) ≡ fault_of (plan_of new) (placed (seen ++ bytes))
+  stop_after stop h =
+      kept flow stop h ∙ sym (fault_after (plan_of old) seen bytes at given flow here fed)
+      ∙ sym (ap (λ (plan : Plan). fault_of plan (placed (seen ++ bytes))) same)
+
+  pub flow_after : FlowAfter (IsFaulty (plan_of old)) (seen ++ bytes) (flow_by flow)
+  flow_after = flows (plan_of old) seen bytes at given flow here fed none

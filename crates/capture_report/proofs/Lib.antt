@@ -1,4 +1,6 @@
 pub mod Timing
-pub mod Lines
 pub mod Feeding
 pub mod Printing
+pub mod Sources
+pub mod Counting
+pub mod Shown

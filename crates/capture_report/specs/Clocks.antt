@@ -1,5 +1,5 @@
 -- What the clocks of a source stand for.
-use Rattle.std.specs.Prelude.{◌≡◌, ℕ, List, flat_map}
+use Rattle.std.specs.Prelude.{◌≡◌, List, flat_map}
 use Rattle.itm_grammar.specs.declared.packet.ItmPacket.{ItmPacket}
 use Rattle.trace_clock.specs.GlobalClock as clock
 use Rattle.capture_report.specs.Remarks.{stamps_in, local_after}

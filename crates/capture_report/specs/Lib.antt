@@ -3,6 +3,7 @@ pub mod Clocks
 pub mod Faulty
 pub mod FaultyLaws
 pub mod Listing
+pub mod LineLaws
 pub mod ListingLaws
 pub mod SourceClocks
 pub mod Show
@@ -10,3 +11,4 @@ pub mod Summary
 pub mod CheckLaws
 pub mod Check
 pub mod Rows
+pub mod Stopping

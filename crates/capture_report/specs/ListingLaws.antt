@@ -1,11 +1,9 @@
 -- How the listing grows with the bytes.
-use Rattle.std.specs.Prelude.{◌≡◌, ℕ, List, [], ◌∷◌, ◌++◌, refl, Option, Some, None, is_none, false}
-use Rattle.std.proofs.Common.{ap, sym, ◌∙◌}
+use Rattle.std.specs.Prelude.{◌≡◌, ℕ, List, [], ◌++◌, Option, Some, None, is_none, false}
+use Rattle.std.proofs.Common.{ap, ◌∙◌}
 use Rattle.trace_stream.specs.Written.{GrowsOnly}
 use Rattle.trace_values.specs.declared.fault.Reason.{Reason}
 use Rattle.trace_values.specs.Placed.{Place, Placed, placed}
-use Rattle.source_events.specs.declared.event.Event.{Event}
-use Rattle.source_events.specs.declared.packet.Packet.{Packet}
 use Rattle.source_events.specs.declared.plan.Plan.{Plan}
 use Rattle.source_events.specs.Plan.{sources_by}
 use Rattle.source_events.proofs.Captures as captures
@@ -15,7 +13,7 @@ use Rattle.capture_report.specs.declared.list_plan.ListPlan.{ListPlan}
 use Rattle.capture_report.specs.Faulty.{IsFaulty}
 use Rattle.capture_report.specs.FaultyLaws as laws
 use Rattle.capture_report.specs.Listing.{lines_after, listed, ending_by, ending}
-use Rattle.capture_report.proofs.Lines.{lines_append}
+use Rattle.capture_report.specs.LineLaws.{lines_append}
 
 -- the plan's report has a fault
 abbrev pub Faulty : ListPlan → List ℕ → Type 0

@@ -1,12 +1,11 @@
 -- Worked rows of listings and summaries, in text.
-use Rattle.std.specs.Prelude.{ℕ, List, [], ◌∷◌, Option, None, Some}
+use Rattle.std.specs.Prelude.{ℕ, List, [], ◌∷◌, None, Some}
 use Rattle.capture_plan.specs.declared.frames.FramesMode.{FramesMode}
 use Rattle.capture_plan.specs.declared.packets.PacketsMode.{PacketsMode}
 use Rattle.stp_grammar.specs.declared.packet.Order.TheVariants.{Msn, Lsn}
 use Rattle.trace_values.specs.Hex.{hex}
 use Rattle.source_events.specs.declared.plan.Plan.{Plan}
 use Rattle.item_tap.specs.declared.choice.Choice.{Choice}
-use Rattle.capture_report.specs.declared.list_plan.ListPlan.{ListPlan}
 use Rattle.capture_report.specs.Listing.{listing}
 use Rattle.capture_report.specs.Summary.{summary}
 

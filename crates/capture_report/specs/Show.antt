@@ -3,24 +3,24 @@ use Rattle.std.specs.Prelude.{◌≡◌, ℕ, List, true, option_map}
 use Rattle.trace_values.specs.Placed.{placed}
 use Rattle.source_events.specs.Report.{stop_of}
 use Rattle.source_merge.specs.Answering.{report_of, fault_of}
-use Rattle.source_merge.specs.Engine as engine
+use Rattle.source_merge.specs.Engine as reading
 use Rattle.capture_report.specs.SourceClocks.{AllStand}
 use Rattle.capture_report.specs.declared.list_plan.ListPlan.{ListPlan}
 use Rattle.capture_report.specs.declared.show.Show.{Show}
 
 -- what it was asked for
 abbrev pub plan_of : Show → ListPlan
-plan_of show = record { plan = engine.plan_of show.engine; only = show.only }
+plan_of show = record { plan = reading.plan_of show.engine; only = show.only }
 
 -- its engine stands for these bytes, its clocks have taken their packets, and it keeps the fault of their report
 pub record Stands (show : Show) (seen : List ℕ) : Type 0 where
-  pub engine : engine.Stands show.engine (placed seen)
-  pub clocks : AllStand show.clocks (report_of (engine.plan_of show.engine) (placed seen))
-  pub stop : option_map stop_of show.stop ≡ fault_of (engine.plan_of show.engine) (placed seen)
+  pub engine : reading.Stands show.engine (placed seen)
+  pub clocks : AllStand show.clocks (report_of (reading.plan_of show.engine) (placed seen))
+  pub stop : option_map stop_of show.stop ≡ fault_of (reading.plan_of show.engine) (placed seen)
 
 -- how many bytes it took
 abbrev pub taken_by : Show → ℕ
-taken_by show = engine.next_of show.engine
+taken_by show = reading.next_of show.engine
 
 abbrev pub IsLive : Show → Type 0
-IsLive show = engine.is_live show.engine ≡ true
+IsLive show = reading.is_live show.engine ≡ true

@@ -10,10 +10,11 @@ ghost use Rattle.source_merge.specs.Engine.{is_live};
 ghost use Rattle.capture_report.specs.Summary.{source_text, sources_text};
 
 use crate::show::sends_stp;
+use crate::stopping::keep_stop;
 use source_counts::Counts;
 use source_events::{Plan, Stop};
-use source_merge::{Engine, Events, Flow as Reading};
-use trace_stream::{Action, Flow, Outlet, Taken};
+use source_merge::{Engine, Events};
+use trace_stream::{Action, Outlet, Taken};
 use trace_text::{PortCountsLines, print_fault, print_tails, put_source_counts};
 use trace_values::{ID_COUNT, SourceId};
 
@@ -147,13 +148,7 @@ impl Action for Check {
         self.events.clear();
         let at = self.engine.next();
         let fed = self.engine.feed_block(at, piece, &mut self.events);
-        let flow = match fed.flow {
-            Reading::Going => Flow::On,
-            Reading::Stopped(stop) => {
-                self.stop = Some(stop);
-                Flow::Stopped
-            }
-        };
+        let flow = keep_stop(&mut self.stop, fed.flow);
         Taken {
             bytes: fed.bytes,
             flow,

@@ -8,6 +8,7 @@ mod list_plan;
 pub mod rows;
 mod show;
 mod source_clocks;
+mod stopping;
 
 pub use check::Check;
 pub use list_plan::ListPlan;

@@ -13,16 +13,16 @@ ghost use Rattle.trace_text.specs.Printable.{Suits};
 ghost use Rattle.trace_stream.specs.declared.outlet.TheConstants.{TEXT_ROOM, OUTLET_ROOM};
 ghost use Rattle.capture_report.specs.Faulty.{is_stp};
 ghost use Rattle.capture_report.specs.Listing.{is_listed, lines_after};
-ghost use Rattle.capture_report.specs.Show.{plan_of};
 ghost use Rattle.capture_report.specs.SourceClocks.{AllStand};
 ghost use Rattle.capture_report.specs.declared.list_plan.ListPlan.{ListPlan};
 
 use crate::list_plan::ListPlan;
 use crate::source_clocks::SourceClocks;
+use crate::stopping::keep_stop;
 use item_tap::Choice;
 use source_events::{Event, Packet, Plan, Stop, What};
-use source_merge::{Engine, Events, Flow as Reading};
-use trace_stream::{Action, Flow, OUTLET_ROOM, Outlet, Taken};
+use source_merge::{Engine, Events};
+use trace_stream::{Action, OUTLET_ROOM, Outlet, Taken};
 use trace_text::{Digits, EVENT_ROOM, Remark, print, print_fault, print_tails};
 use trace_values::SourceId;
 
@@ -110,7 +110,7 @@ fn put_events(
 }
 
 impl Show {
-    ghost use Rattle.capture_report.specs.Show.{Stands, taken_by, IsLive};
+    ghost use Rattle.capture_report.specs.Show.{plan_of, Stands, taken_by, IsLive};
 
     /// Nothing is read yet. The plan is sound.
     pub fn new(plan: ListPlan) -> Show
@@ -134,7 +134,7 @@ impl Show {
 impl Action for Show {
     ghost use Rattle.capture_report.specs.Listing.{listed, ending};
     ghost use Rattle.capture_report.specs.ListingLaws.{Faulty, none_at_first, nothing_at_first, faulty_stays, listed_stays, ending_stays, listed_grows};
-    ghost use Rattle.capture_report.specs.Show.{Stands, taken_by, IsLive};
+    ghost use Rattle.capture_report.specs.Show.{plan_of, Stands, taken_by, IsLive};
 
     type Plan = ListPlan;
 
@@ -176,13 +176,7 @@ impl Action for Show {
             &self.only,
             self.events.as_slice(),
         );
-        let flow = match fed.flow {
-            Reading::Going => Flow::On,
-            Reading::Stopped(stop) => {
-                self.stop = Some(stop);
-                Flow::Stopped
-            }
-        };
+        let flow = keep_stop(&mut self.stop, fed.flow);
         Taken {
             bytes: fed.bytes,
             flow,

@@ -62,8 +62,8 @@ pub fn put_source_counts(outlet: &mut Outlet, id: SourceId, bytes: u64, items: u
     requires room { length outlet.old + TEXT_ROOM ≤ OUTLET_ROOM }
     ensures text { outlet.new ≡ outlet.old ++ source_counts_line id bytes items }
     ensures bound { length outlet.new ≤ length outlet.old + SOURCE_COUNTS_ROOM }
-    // of a capture, which has at most 2^36 bytes
-    ensures capture { bytes ≤ 2 ^ 36 → items ≤ 2 ^ 40 → length outlet.new ≤ length outlet.old + 42 }
+    // of a capture, which has less than 2^42 of either
+    ensures capture { bytes ≤ 2 ^ 42 → items ≤ 2 ^ 42 → length outlet.new ≤ length outlet.old + 44 }
 {
     let line = SourceCountsLine {
         id: id.number(),

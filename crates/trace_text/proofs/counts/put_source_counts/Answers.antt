@@ -28,7 +28,7 @@ returns-clause-bound c =
 pub returns-clause-capture : goal.returns-clause-capture
 returns-clause-capture c = λ h k.
     let small : c.number.result < 127 = let h = c.number.ensures.in_range in omega arith in
-    let bytes = length-decimal-le 11 c.args.bytes (omega arith) (omega arith) c.ranges.bytes.fits in
+    let bytes = length-decimal-le 13 c.args.bytes (omega arith) (omega arith) c.ranges.bytes.fits in
     let items = length-decimal-le 13 c.args.items (omega arith) (omega arith) c.ranges.items.fits in
-    longer 42 c.args.outlet.now c.put.new.self (source_counts_line c.number.result c.args.bytes c.args.items) c.put.ensures.text
-    (line_fits c.number.result c.args.bytes c.args.items 11 13 small bytes items)
+    longer 44 c.args.outlet.now c.put.new.self (source_counts_line c.number.result c.args.bytes c.args.items) c.put.ensures.text
+    (line_fits c.number.result c.args.bytes c.args.items 13 13 small bytes items)

@@ -1,5 +1,5 @@
 -- The lines of events that follow others.
-use Rattle.std.proofs.Common.{◌≡◌, ℕ, List, [], ◌∷◌, ◌++◌, refl, sym, ◌∙◌, ap, append_assoc, append-nil, flat_map, Option, Some, cond}
+use Rattle.std.proofs.Common.{◌≡◌, ℕ, List, [], ◌∷◌, ◌++◌, sym, ◌∙◌, ap, append_assoc, append-nil, Option, cond}
 use Rattle.std.proofs.lemmas.Grind.{flat_map-append}
 use Rattle.itm_grammar.specs.declared.packet.ItmPacket.{ItmPacket}
 use Rattle.source_events.specs.declared.event.Event.{Event}
