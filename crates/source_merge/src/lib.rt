@@ -1,6 +1,7 @@
 //! All sources of a capture in one report, as its bytes come.
 #![tactic(auto)]
 
+mod bare;
 mod counts;
 mod engine;
 mod flow;
