@@ -52,8 +52,7 @@ module _ {V : Type 0} (f : List Placed → Stream V) (law : IsLawful f) where
   more_by [] v at = ([], ap (λ (l : List Placed). (f l).given) (append-nil v) ∙ sym (append-nil (f v).given), tt)
   more_by (c ∷ bs) v at =
       let r = law.rises v at c in
-      let m = more_by bs (v ++ byte_at at c ∷ []) (at + 1) in
-      (
+      let m = more_by bs (v ++ byte_at at c ∷ []) (at + 1) in (
         r.more ++ m.0,
         ap (λ (l : List Placed). (f l).given) (sym (append_assoc v (byte_at at c ∷ []) (placed_from (at + 1) bs))) ∙ m.1
             ∙ ap (λ l. l ++ m.0) r.given ∙ append_assoc (f v).given r.more m.0,

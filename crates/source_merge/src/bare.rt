@@ -46,7 +46,12 @@ pub fn feed_slot_piece(
 }
 
 /// Notes what the last answer to a piece gives, which is to the byte at this offset, and answers the fault that it tells.
-pub fn note_last(out: &mut Events, source: SourceId, at: u64, step: Option<Step<Packet>>) -> Option<Stop>
+pub fn note_last(
+    out: &mut Events,
+    source: SourceId,
+    at: u64,
+    step: Option<Step<Packet>>,
+) -> Option<Stop>
     requires { array_vec_len out.old + 2 ≤ EVENTS }
     ensures given { out.new.items ≡ out.old.items ++ told (Some source) (lifted (given_after at step)) }
     ensures few { array_vec_len out.new ≤ array_vec_len out.old + 2 }

@@ -10,6 +10,8 @@ mod router;
 mod slot;
 mod step;
 mod tails;
+#[cfg(test)]
+mod tests;
 
 pub use engine::Engine;
 pub use flow::{Fed, Flow};
