@@ -33,7 +33,7 @@ no_id c = is_none c.id
 abbrev lone : List Cell → ℕ
 lone run = cond (is_none (id_of run)) (length run) 0
 
-sum_cons : (run : List Cell) (runs : List (List Cell)) → unattributed_in (run ∷ runs) ≡ lone run + unattributed_in runs
+pub sum_cons : (run : List Cell) (runs : List (List Cell)) → unattributed_in (run ∷ runs) ≡ lone run + unattributed_in runs
 sum_cons run runs =
     sum_by-append lone (run ∷ []) runs ∙ (let z : 0 + lone run + unattributed_in runs ≡ lone run + unattributed_in runs = omega arith in z)
 

@@ -1,12 +1,13 @@
 -- What the events of a run tell is in its range.
-use Rattle.std.proofs.Common.{◌≡◌, ℕ, ◌<◌, ◌≤◌, List, [], ◌∷◌, ◌++◌, length, refl, subst, sym, ap, ◌∙◌, arith, Some, Option, Bool, true, false, cond}
-use Rattle.std.specs.Prelude.{◌==◌}
+use Rattle.std.proofs.Common.{◌≡◌, ℕ, ◌<◌, ◌≤◌, List, [], ◌∷◌, ◌++◌, length, refl, subst, sym, ap, ◌∙◌, arith, Some, None, Option, Bool, true, false, cond}
+use Rattle.std.specs.Prelude.{◌==◌, IfSome}
 use Rattle.std.proofs.lemmas.List.{length-map}
 use Rattle.std.proofs.lemmas.List.Elements.{All-append, All-cons, All-nil, All-same}
 use Rattle.trace_values.specs.declared.cell.Cell.{Cell}
 use Rattle.trace_values.specs.declared.step.Step.{Step}
 use Rattle.trace_values.specs.declared.step.Step.TheVariants.{Quiet, Skipping, Item, Locked, Fault}
 use Rattle.trace_values.specs.Stream.{StepFits, given_by}
+use Rattle.trace_values.specs.Block.{given_after}
 use Rattle.source_events.specs.declared.event.Event.{Event}
 use Rattle.source_events.specs.Merge.{told}
 use Rattle.source_events.specs.Report.{lifted, triggers, raw_events}
@@ -63,3 +64,9 @@ module _ {V : Type 0} (fits : V → Type 0) where
   pub more_fits : (x at : ℕ) (step : Step V) (old new : List (Event V)) → new ≡ old ++ told (Some x) (lifted (given_by at step)) →
       StepFits fits step → AllFit fits old → AllFit fits new
   more_fits x at step old new e f a = fit_more old new (told (Some x) (lifted (given_by at step))) e a (step_fits x at step f)
+
+  -- what the last answer to a piece gives
+  pub last_fits : (x at : ℕ) (step : Option (Step V)) → IfSome step (StepFits fits) →
+      AllFit fits (told (Some x) (lifted (given_after at step)))
+  last_fits x at None f = fit_nil
+  last_fits x at (Some step) f = step_fits x at step f

@@ -13,3 +13,9 @@ pub mod Feds
 pub mod Attributed
 pub mod Ending
 pub mod Mapping
+pub mod BareBytes
+pub mod BareCounts
+pub mod BareBlocks
+pub mod BareSteps
+pub mod BareGoing
+pub mod BareSlots

@@ -5,4 +5,5 @@ pub mod Counting
 pub mod Answering
 pub mod Stepping
 pub mod Ending
+pub mod Bare
 pub mod Engine

@@ -6,6 +6,7 @@ ghost use Rattle.port_reader.specs.Growth.{Grows};
 ghost use Rattle.port_reader.specs.Reading.{PortReading};
 ghost use Rattle.source_merge.specs.Counting.{HasPort, port_total};
 
+use crate::bare::bare_source;
 use port_reader::PortStep;
 use source_counts::Counts;
 use source_events::{Event, Packet, PortCounts, What};
@@ -94,6 +95,10 @@ pub struct ByteCounts {
 impl ByteCounts {
     ghost use Rattle.std.specs.Prelude.{◌+◌, ◌^◌, ◌<◌, ◌++◌, ◌∷◌, [], ℕ, List, length, get_or};
     ghost use Rattle.trace_values.specs.declared.cell.Cell.{Cell};
+    ghost use Rattle.trace_values.specs.Placed.{Placed};
+    ghost use Rattle.capture_plan.specs.declared.frames.FramesMode.TheVariants.{Bare};
+    ghost use Rattle.port_reader.specs.Reading.{port_reading};
+    ghost use Rattle.source_events.specs.Report.{runs_in};
     ghost use Rattle.source_merge.specs.Counting.{HasBytes, bytes_counted, bytes_in, unattributed_in};
 
     /// Nothing came yet.
@@ -120,6 +125,16 @@ impl ByteCounts {
             Some(id) => self.sources.add(id, bytes),
             None => self.unattributed += bytes,
         }
+    }
+
+    /// Counts this many bytes of a capture with no formatter: those of source 1.
+    pub fn add_bare(&mut self, bytes: u64)
+        requires { bytes_counted self.old + bytes ≤ 2 ^ 60 }
+        ensures counted { (u w : List Placed) → length w ≡ bytes → HasBytes self.old (runs_in (port_reading Bare u)) →
+            HasBytes self.new (runs_in (port_reading Bare (u ++ w))) }
+        ensures more { bytes_counted self.new ≡ bytes_counted self.old + bytes }
+    {
+        self.sources.add(bare_source(), bytes);
     }
 
     /// How many bytes a source sent.
@@ -150,11 +165,12 @@ pub struct Counters {
 }
 
 impl Counters {
-    ghost use Rattle.std.specs.Prelude.{◌+◌, ◌^◌, ℕ, List, [], length};
+    ghost use Rattle.std.specs.Prelude.{◌+◌, ◌*◌, ◌^◌, ◌++◌, ℕ, List, [], length};
     ghost use Rattle.trace_values.specs.declared.cell.Cell.{Cell};
-    ghost use Rattle.port_reader.specs.Growth.{Grows};
-    ghost use Rattle.port_reader.specs.Reading.{PortReading};
-    ghost use Rattle.source_merge.specs.Counting.{HasBytes, HasItems, HasPort, bytes_in, port_total, size_of};
+    ghost use Rattle.trace_values.specs.Placed.{Placed};
+    ghost use Rattle.capture_plan.specs.declared.frames.FramesMode.TheVariants.{Bare};
+    ghost use Rattle.port_reader.specs.Reading.{port_reading};
+    ghost use Rattle.source_merge.specs.Counting.{HasBytes, HasCounted, HasItems, bytes_in, size_of};
     ghost use Rattle.source_events.specs.declared.event.Event.{Event};
     ghost use Rattle.source_events.specs.declared.packet.Packet.{Packet};
     ghost use Rattle.source_events.specs.Tails.{items_in};
@@ -175,6 +191,20 @@ impl Counters {
                 frames: 0,
             },
         }
+    }
+
+    /// Counts this many bytes of a capture with no formatter, each of which is a frame of one byte of source 1, and the
+    /// events that they gave.
+    pub fn add_bare(&mut self, bytes: usize, events: &[Event<Packet>])
+        requires { size_of self.old + 2 * bytes + length events.now ≤ 2 ^ 60 }
+        ensures counted { (u w : List Placed) (es : List (Event Packet)) → length w ≡ bytes →
+            HasCounted self.old (port_reading Bare u) es →
+            HasCounted self.new (port_reading Bare (u ++ w)) (es ++ events.now) }
+        ensures size { size_of self.new ≤ size_of self.old + 2 * bytes + length events.now }
+    {
+        self.bytes.add_bare(bytes as u64);
+        self.port.frames += bytes as u64;
+        self.items.add_items(events);
     }
 
     /// How many bytes and items a source has.

@@ -7,13 +7,16 @@ ghost use Rattle.source_machine.specs.Machine.{held_of, is_live as is_machine_li
 ghost use Rattle.source_merge.specs.Counting.{size_of};
 ghost use Rattle.source_merge.specs.Routing.{HaveRoom, HaveRoom-prop, LiveIf, LiveIf-prop};
 
+use crate::bare::{bare_source, feed_slot_piece, note_last};
 use crate::counts::Counters;
 use crate::flow::{Fed, Flow, flow_of};
 use crate::mapped::{Slots, slots_of};
+use crate::router::find;
 use crate::slot::Events;
 use crate::step::take_step;
 use crate::tails::source_tails;
 use arrayvec::ArrayVec;
+use capture_plan::FramesMode;
 use port_reader::PortReader;
 use source_counts::Counts;
 use source_events::{Plan, PortCounts, PortMode, Tails};
@@ -47,7 +50,8 @@ pub struct Engine {
 }
 
 impl Engine {
-    ghost use Rattle.std.specs.Prelude.{ℕ, ◌<◌, ◌++◌, ◌∷◌, [], List, length, take, is_none};
+    ghost use Rattle.std.specs.Prelude.{ℕ, ◌<◌, ◌++◌, ◌∷◌, [], List, length, take, is_none, position, ◌==◌, Some, IfSome};
+    ghost use Rattle.capture_plan.specs.declared.frames.FramesMode.TheVariants.{Bare};
     ghost use Rattle.arrayvec.specs.ArrayVec.{array_vec_len};
     ghost use Rattle.trace_values.specs.Placed.{Placed, byte_at, placed_from};
     ghost use Rattle.deformatter.specs.Block.{FedAs};
@@ -149,7 +153,7 @@ impl Engine {
     {
         let mut bytes = 0;
         while bytes < piece.len() {
-            let fed = self.feed_step(at + bytes as u64, &piece[bytes..], out);
+            let fed = self.feed_part(at + bytes as u64, &piece[bytes..], out);
             bytes += fed.bytes;
             if !out.is_empty() || !self.live {
                 return Fed {
@@ -161,6 +165,41 @@ impl Engine {
         Fed {
             bytes,
             flow: Flow::Going,
+        }
+    }
+
+    /// Takes bytes from the front of a piece, of which only the last one may give an event or stop the report.
+    fn feed_part(&mut self, at: u64, piece: &[u8], out: &mut Events) -> Fed
+        requires live { is_live self.old ≡ true }
+        requires empty { out.old.items ≡ [] }
+        requires some { 0 < length piece.now }
+        requires offsets { (next_of self.old ≤ at) × (at + length piece.now ≤ 2 ^ 36 + 1) }
+        ensures same { plan_of self.new ≡ plan_of self.old }
+        ensures bytes { (0 < result.bytes) × (result.bytes ≤ length piece.now) }
+        ensures next { next_of self.new ≡ at + result.bytes }
+        ensures live { is_live self.new ≡ goes_on result.flow }
+        ensures few { array_vec_len out.new ≤ 30 }
+        ensures fits { AllFit PacketFits out.new.items }
+        ensures list { (u : List Placed) → Stands self.old u →
+            Stands self.new (u ++ placed_from at (take result.bytes piece.now)) }
+        ensures fed { (u : List Placed) → Stands self.old u →
+            FedAs (Answers (plan_of self.old) [] Going) (Answers (plan_of self.old) out.new.items result.flow)
+            u at (take result.bytes piece.now) }
+    {
+        match self.bare_slot() {
+            Some(index) => self.feed_bare(index, at, piece, out),
+            None => self.feed_step(at, piece, out),
+        }
+    }
+
+    /// The slot of source 1, if it is mapped and there is no formatter.
+    fn bare_slot(&self) -> Option<usize>
+        ensures bare { IfSome result (λ index. (plan_of self.now).frames ≡ Bare) }
+        ensures found { IfSome result (λ index. position (λ s. s.id == 1) self.now.slots.items ≡ Some index) }
+    {
+        match self.plan.frames {
+            FramesMode::Bare => find(self.slots.as_slice(), bare_source()),
+            FramesMode::Hunt | FramesMode::Aligned => None,
         }
     }
 
@@ -198,6 +237,40 @@ impl Engine {
         self.live = stop.is_none();
         Fed {
             bytes: taken.bytes,
+            flow: flow_of(stop),
+        }
+    }
+
+    /// Takes bytes of source 1, which is mapped, from the front of a piece of a capture with no formatter, up to the first
+    /// one that ends a packet or is a fault, or to the piece's end.
+    fn feed_bare(&mut self, index: usize, at: u64, piece: &[u8], out: &mut Events) -> Fed
+        requires bare { (plan_of self.old).frames ≡ Bare }
+        requires found { position (λ s. s.id == 1) self.old.slots.items ≡ Some index }
+        requires live { is_live self.old ≡ true }
+        requires empty { out.old.items ≡ [] }
+        requires some { 0 < length piece.now }
+        requires offsets { (next_of self.old ≤ at) × (at + length piece.now ≤ 2 ^ 36 + 1) }
+        ensures same { plan_of self.new ≡ plan_of self.old }
+        ensures bytes { (0 < result.bytes) × (result.bytes ≤ length piece.now) }
+        ensures next { next_of self.new ≡ at + result.bytes }
+        ensures live { is_live self.new ≡ goes_on result.flow }
+        ensures few { array_vec_len out.new ≤ 30 }
+        ensures fits { AllFit PacketFits out.new.items }
+        ensures list { (u : List Placed) → Stands self.old u →
+            Stands self.new (u ++ placed_from at (take result.bytes piece.now)) }
+        ensures fed { (u : List Placed) → Stands self.old u →
+            FedAs (Answers (plan_of self.old) [] Going) (Answers (plan_of self.old) out.new.items result.flow)
+            u at (take result.bytes piece.now) }
+    {
+        let block = feed_slot_piece(self.slots.as_mut_slice(), index, at, piece);
+        let last = at + (block.bytes as u64 - 1);
+        let stop = note_last(out, bare_source(), last, block.step);
+        self.counters.add_bare(block.bytes, out.as_slice());
+        self.count += block.bytes as u64;
+        self.next = at + block.bytes as u64;
+        self.live = stop.is_none();
+        Fed {
+            bytes: block.bytes,
             flow: flow_of(stop),
         }
     }

@@ -1,6 +1,7 @@
 //! All sources of a capture in one report, as its bytes come.
 #![tactic(auto)]
 
+mod bare;
 mod counts;
 mod engine;
 mod flow;
@@ -9,6 +10,8 @@ mod router;
 mod slot;
 mod step;
 mod tails;
+#[cfg(test)]
+mod tests;
 
 pub use engine::Engine;
 pub use flow::{Fed, Flow};

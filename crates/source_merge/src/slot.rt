@@ -42,7 +42,7 @@ impl Default for Slot<SourceMachine> {
 
 /// Notes what a step at this offset gives, and answers the fault that it tells.
 #[inline]
-fn note(out: &mut Events, source: SourceId, at: u64, step: Step<Packet>) -> Option<Fault>
+pub fn note(out: &mut Events, source: SourceId, at: u64, step: Step<Packet>) -> Option<Fault>
     requires { array_vec_len out.old + 2 ≤ EVENTS }
     ensures given { out.new.items ≡ out.old.items ++ told (Some source) (lifted (given_by at step)) }
     ensures few { array_vec_len out.new ≤ array_vec_len out.old + 2 }

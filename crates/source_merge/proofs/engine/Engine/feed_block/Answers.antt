@@ -18,8 +18,8 @@ pub returns-then-not-is_empty-clause-list : goal.returns-then-not-is_empty-claus
 returns-then-not-is_empty-clause-list c = λ u h.
     let i = c.loop-bytes.invariant in
     let n = c.loop-bytes.bytes in
-    more_list c.args.piece.now n c.feed_step-fed.result.bytes c.args.at i.within u (λ (v : List Placed). Stands c.feed_step-fed.new.self v)
-    (c.feed_step-fed.ensures.list (u ++ placed_from c.args.at (take n c.args.piece.now)) (i.list u h))
+    more_list c.args.piece.now n c.feed_part-fed.result.bytes c.args.at i.within u (λ (v : List Placed). Stands c.feed_part-fed.new.self v)
+    (c.feed_part-fed.ensures.list (u ++ placed_from c.args.at (take n c.args.piece.now)) (i.list u h))
 
 pub returns-then-not-is_empty-clause-fed : goal.returns-then-not-is_empty-clause-fed
 returns-then-not-is_empty-clause-fed c = λ u h.
@@ -27,12 +27,12 @@ returns-then-not-is_empty-clause-fed c = λ u h.
     let n = c.loop-bytes.bytes in
     let plan = c.args.self.now.plan in
     let piece = c.args.piece.now in
-    let m = c.feed_step-fed.result.bytes in
-    let out = c.feed_step-fed.new.out.items in
-    let flow = c.feed_step-fed.result.flow in
+    let m = c.feed_part-fed.result.bytes in
+    let out = c.feed_part-fed.new.out.items in
+    let flow = c.feed_part-fed.result.flow in
     more_fed piece n m c.args.at i.within u (Answers plan [] Going) (Answers plan out flow) (i.quiet u h)
     (subst (λ (p : Plan). FedAs (Answers p [] Going) (Answers p out flow) (u ++ placed_from c.args.at (take n piece)) (c.args.at + n) (take m (take (length piece - n) (drop n piece)))) i.same
-    (c.feed_step-fed.ensures.fed (u ++ placed_from c.args.at (take n piece)) (i.list u h)))
+    (c.feed_part-fed.ensures.fed (u ++ placed_from c.args.at (take n piece)) (i.list u h)))
 
 pub loop-bytes-preserved : goal.loop-bytes-preserved
 loop-bytes-preserved c =
@@ -40,31 +40,31 @@ loop-bytes-preserved c =
     let n = c.loop-bytes.bytes in
     let plan = c.args.self.now.plan in
     let piece = c.args.piece.now in
-    let m = c.feed_step-fed.result.bytes in
-    let out = c.feed_step-fed.new.out.items in
-    let flow = c.feed_step-fed.result.flow in
-    let empty = none_in out (array_vec_len c.feed_step-fed.new.out) refl (sym c.is_empty.ensures ∙ c.if-not-is_empty.false) in
-    let going = going_on flow (sym c.feed_step-fed.ensures.live ∙ c.if-not-self.false) in
+    let m = c.feed_part-fed.result.bytes in
+    let out = c.feed_part-fed.new.out.items in
+    let flow = c.feed_part-fed.result.flow in
+    let empty = none_in out (array_vec_len c.feed_part-fed.new.out) refl (sym c.is_empty.ensures ∙ c.if-not-is_empty.false) in
+    let going = going_on flow (sym c.feed_part-fed.ensures.live ∙ c.if-not-self.false) in
     let rest = length-drop n piece in
     let tail = tail_of n piece in
     let left = ap length tail in
     record {
-      within = (let a = c.feed_step-fed.ensures.bytes.1 in let b = i.within in omega arith);
+      within = (let a = c.feed_part-fed.ensures.bytes.1 in let b = i.within in omega arith);
       live = c.if-not-self.false;
       empty = empty;
-      same = c.feed_step-fed.ensures.same ∙ i.same;
-      next = (let a = c.feed_step-fed.ensures.next in omega arith);
-      next_is = λ k. (let a = c.feed_step-fed.ensures.next in omega arith);
+      same = c.feed_part-fed.ensures.same ∙ i.same;
+      next = (let a = c.feed_part-fed.ensures.next in omega arith);
+      next_is = λ k. (let a = c.feed_part-fed.ensures.next in omega arith);
       list = λ u h.
-          more_list piece n m c.args.at i.within u (λ (v : List Placed). Stands c.feed_step-fed.new.self v)
-          (c.feed_step-fed.ensures.list (u ++ placed_from c.args.at (take n piece)) (i.list u h));
+          more_list piece n m c.args.at i.within u (λ (v : List Placed). Stands c.feed_part-fed.new.self v)
+          (c.feed_part-fed.ensures.list (u ++ placed_from c.args.at (take n piece)) (i.list u h));
       quiet = λ u h.
           fed_each (Answers plan [] Going) (take (n + m) piece) u c.args.at
           (more_fed piece n m c.args.at i.within u (Answers plan [] Going) (Answers plan [] Going) (i.quiet u h)
           (subst (λ (es : List (Event Packet)). FedAs (Answers plan [] Going) (Answers plan es Going) (u ++ placed_from c.args.at (take n piece)) (c.args.at + n) (take m (take (length piece - n) (drop n piece)))) empty
           (subst (λ (f : Flow). FedAs (Answers plan [] Going) (Answers plan out f) (u ++ placed_from c.args.at (take n piece)) (c.args.at + n) (take m (take (length piece - n) (drop n piece)))) going
           (subst (λ (p : Plan). FedAs (Answers p [] Going) (Answers p out flow) (u ++ placed_from c.args.at (take n piece)) (c.args.at + n) (take m (take (length piece - n) (drop n piece)))) i.same
-          (c.feed_step-fed.ensures.fed (u ++ placed_from c.args.at (take n piece)) (i.list u h))))));
+          (c.feed_part-fed.ensures.fed (u ++ placed_from c.args.at (take n piece)) (i.list u h))))));
     }
 
 pub returns-clause-fed : goal.returns-clause-fed

@@ -1,0 +1,171 @@
+use Rattle.std.proofs.Common.{◌≡◌, ℕ, ◌+◌, ◌-◌, ◌*◌, ◌^◌, ◌≤◌, List, [], ◌∷◌, ◌++◌, length, take, refl, sym, ◌∙◌, ap, subst, arith, true, Bool, Option, Some, None, length-append}
+use Rattle.std.specs.Prelude.{is_none}
+use Rattle.std.specs.Option.{option_map}
+use Rattle.std.proofs.lemmas.List.{length-take-le}
+use Rattle.trace_values.specs.declared.block.Block.{Block}
+use Rattle.trace_values.specs.Placed.{Placed, placed_from}
+use Rattle.trace_values.specs.Block.{given_after}
+use Rattle.trace_values.proofs.Placing.{length-placed_from}
+use Rattle.capture_plan.specs.declared.frames.FramesMode.TheVariants.{Bare}
+use Rattle.port_reader.specs.Reading.{port_reading}
+use Rattle.port_reader.specs.Rising.{BytesRise}
+use Rattle.source_events.specs.declared.event.Event.{Event}
+use Rattle.source_events.specs.declared.event.Stop.{Stop}
+use Rattle.source_events.specs.declared.packet.Packet.{Packet}
+use Rattle.source_events.specs.declared.plan.Plan.{Plan}
+use Rattle.source_events.specs.Fitting.{AllFit, PacketFits}
+use Rattle.source_events.specs.Merge.{told}
+use Rattle.source_events.specs.Plan.{sources_by}
+use Rattle.source_events.specs.Report.{Mapped, lifted}
+use Rattle.source_machine.specs.Machine.{reading_of, is_live, held_of, skipped_by}
+use Rattle.source_machine.specs.declared.machine.SourceMachine.{SourceMachine}
+use Rattle.source_merge.specs.declared.slot.Slot.{Slot}
+use Rattle.source_merge.specs.Engine.{Stands, Keeps}
+use Rattle.source_merge.specs.Answering.{fault_of}
+use Rattle.source_merge.specs.Bare.{PieceFed, last_fault, stop_by}
+use Rattle.source_merge.specs.Counting.{HasCounted}
+use Rattle.source_merge.specs.Routing.{mapped_of, AllLive, HaveRoom, LiveIf, AreDistinct}
+use Rattle.source_merge.proofs.BareGoing.{stepped_bare}
+use Rattle.source_merge.proofs.BareSlots.{goes_without, piece_live, piece_room, piece_same, bare_port}
+use Rattle.source_merge.proofs.Ending.{FirstAt, first_at}
+use Rattle.source_merge.proofs.Fits.{fit_more, last_fits, none_fit}
+use Rattle.source_merge.proofs.Going.{Stepped, rise_to, rise_block, end_block}
+use Rattle.source_merge.proofs.Refilled.{slots_are}
+use Rattle.source_merge.proofs.Slots.{room_more}
+use Rattle.source_merge.proofs.Standing.{distinct, none_there, live_now, live_if, tested, none_of}
+use Rattle.source_merge.proofs.engine.Engine.feed_bare.Goals as goal
+
+pub feed_slot_piece-block-requires-clause-room : goal.feed_slot_piece-block-requires-clause-room
+feed_slot_piece-block-requires-clause-room c =
+    room_more held_of skipped_by (30 * c.args.self.now.count) (2 ^ 59) c.as_mut_slice.result.now
+    (let a = c.args.self.now.within in let b = c.args.self.now.limit in omega arith)
+    (subst (λ (l : List (Slot SourceMachine)). HaveRoom held_of skipped_by (30 * c.args.self.now.count) l)
+    (sym c.as_mut_slice.ensures.value) c.args.self.now.room)
+
+pub returns-clause-fits : goal.returns-clause-fits
+returns-clause-fits c =
+    let step = c.feed_slot_piece-block.result.step in
+    let last = c.args.at + (c.feed_slot_piece-block.result.bytes - 1) in
+    let f = first_at reading_of 1 c.args.self.now.slots.items c.args.index c.requires.found in
+    let fed = c.feed_slot_piece-block.ensures.fed f.front f.slot f.back (c.as_mut_slice.ensures.value ∙ f.parts) f.count in
+    fit_more PacketFits c.args.out.now.items c.note_last-stop.new.out.items (told (Some c.bare_source.result) (lifted (given_after last step)))
+    c.note_last-stop.ensures.given (none_fit PacketFits c.args.out.now.items c.requires.empty)
+    (last_fits PacketFits c.bare_source.result last step fed.fits)
+
+pub invariant_of-self : goal.invariant_of-self
+invariant_of-self c =
+    let self = c.args.self.now in
+    let old = self.slots.items in
+    let block = c.feed_slot_piece-block.result in
+    let new = c.feed_slot_piece-block.new.slots in
+    let f = first_at reading_of 1 old c.args.index c.requires.found in
+    let fed = c.feed_slot_piece-block.ensures.fed f.front f.slot f.back (c.as_mut_slice.ensures.value ∙ f.parts) f.count in
+    let all = slots_are reading_of old new (piece_same old f.front f.slot f.back new f.parts c.args.at c.args.piece.now block fed) in
+    let n = self.count in
+    let some = c.feed_slot_piece-block.ensures.bytes.0 in
+    let within = c.feed_slot_piece-block.ensures.bytes.1 in
+    let stop = c.note_last-stop.result in
+    let gone = tested stop c.is_none-self.result c.is_none-self.ensures in
+    let stop_is : stop ≡ option_map (stop_by 1) (last_fault block.step) =
+    subst (λ (x : ℕ). stop ≡ option_map (stop_by x) (last_fault block.step)) c.bare_source.ensures c.note_last-stop.ensures.stop in
+    record {
+      sound = self.sound;
+      few = (let a = self.few in omega arith);
+      room =
+          subst (λ (l : List (Slot SourceMachine)). HaveRoom held_of skipped_by (30 * (n + block.bytes)) l) (sym all)
+          (room_more held_of skipped_by (30 * n + 2 * block.bytes) (30 * (n + block.bytes)) new (omega arith)
+          (piece_room old f.front f.slot f.back new f.parts c.args.at c.args.piece.now block fed (30 * n) self.room));
+      size =
+          (let a = self.size in let b = c.add_bare.ensures.size in let d = ap length c.as_slice.ensures.value in
+          let e = c.note_last-stop.ensures.few in let g = ap length c.requires.empty in omega arith);
+      within = (let a = self.within in let b = c.requires.offsets.0 in omega arith);
+      limit = (let a = c.requires.offsets.1 in omega arith);
+      port_live = λ k. self.port_live c.requires.live;
+      lives =
+          subst (λ (l : List (Slot SourceMachine)). LiveIf is_live c.is_none-self.result l) (sym all)
+          (live_if is_live c.is_none-self.result new
+          (λ k. piece_live old f.front f.slot f.back new f.parts c.args.at c.args.piece.now block fed
+          (goes_without block.step stop stop_is (none_there stop (sym gone ∙ k))) (live_now is_live self.live old c.requires.live self.lives)));
+    }
+
+-- what the piece's front makes of a list that the engine stood for
+module _ (c : goal.After-flow_of) (u : List Placed) (h : Stands c.args.self.now u) where
+  abbrev plan : Plan
+  plan = c.args.self.now.plan
+
+  abbrev slots : List (Slot SourceMachine)
+  slots = c.args.self.now.slots.items
+
+  abbrev block : Block Packet
+  block = c.feed_slot_piece-block.result
+
+  abbrev first : FirstAt reading_of 1 slots c.args.index
+  first = first_at reading_of 1 slots c.args.index c.requires.found
+
+  abbrev out : List (Event Packet)
+  out = c.note_last-stop.new.out.items
+
+  abbrev stop : Option Stop
+  stop = c.note_last-stop.result
+
+  fed : PieceFed first.front first.slot first.back c.feed_slot_piece-block.new.slots c.args.at c.args.piece.now block
+  fed = c.feed_slot_piece-block.ensures.fed first.front first.slot first.back (c.as_mut_slice.ensures.value ∙ first.parts) first.count
+
+  live : AllLive is_live slots
+  live = live_now is_live c.args.self.now.live slots c.requires.live c.args.self.now.lives
+
+  rise : BytesRise 0 c.args.at u
+  rise =
+      rise_to u c.args.self.now.next c.args.at (subst (λ (k : ℕ). BytesRise 0 k u) (sym h.next) h.rising) c.requires.offsets.0
+
+  given_is : out ≡ told (Some 1) (lifted (given_after (c.args.at + (block.bytes - 1)) block.step))
+  given_is =
+      c.note_last-stop.ensures.given
+      ∙ ap (λ (es : List (Event Packet)). es ++ told (Some c.bare_source.result) (lifted (given_after (c.args.at + (block.bytes - 1)) block.step))) c.requires.empty
+      ∙ ap (λ (x : ℕ). told (Some x) (lifted (given_after (c.args.at + (block.bytes - 1)) block.step))) c.bare_source.ensures
+
+  the_piece : Stepped plan slots h.sources live c.feed_slot_piece-block.new.slots c.add_bare.new.self u c.args.at
+      (take block.bytes c.args.piece.now) out stop c.flow_of.result
+  the_piece =
+      stepped_bare plan slots h.sources live c.requires.bare c.args.index first
+      (subst (λ (ss : List (Mapped Packet)). AreDistinct ss) (sym h.sources) (distinct plan c.args.self.now.sound))
+      c.feed_slot_piece-block.new.slots c.args.self.now.counters c.add_bare.new.self u c.args.at c.args.piece.now block fed
+      c.feed_slot_piece-block.ensures.bytes.0 c.feed_slot_piece-block.ensures.bytes.1 rise (h.going c.requires.live) out stop c.flow_of.result
+      given_is
+      (subst (λ (x : ℕ). stop ≡ option_map (stop_by x) (last_fault block.step)) c.bare_source.ensures c.note_last-stop.ensures.stop)
+      c.flow_of.ensures.fault
+      (subst (λ (l : List (Event Packet)). (v w : List Placed) (es : List (Event Packet)) → length w ≡ block.bytes →
+      HasCounted c.args.self.now.counters (port_reading Bare v) es → HasCounted c.add_bare.new.self (port_reading Bare (v ++ w)) (es ++ l))
+      c.as_slice.ensures.value c.add_bare.ensures.counted)
+
+pub returns-clause-fed : goal.returns-clause-fed
+returns-clause-fed c = λ u h. (the_piece c u h).fed
+
+pub returns-clause-list : goal.returns-clause-list
+returns-clause-list c = λ u h.
+    let self = c.args.self.now in
+    let new = c.feed_slot_piece-block.new.slots in
+    let bytes = take c.feed_slot_piece-block.result.bytes c.args.piece.now in
+    let f = first_at reading_of 1 self.slots.items c.args.index c.requires.found in
+    let same = piece_same self.slots.items f.front f.slot f.back new f.parts c.args.at c.args.piece.now c.feed_slot_piece-block.result (fed c u h) in
+    let all = slots_are reading_of self.slots.items new same in
+    let step = the_piece c u h in
+    let long : length bytes ≡ c.feed_slot_piece-block.result.bytes =
+    length-take-le c.feed_slot_piece-block.result.bytes c.args.piece.now c.feed_slot_piece-block.ensures.bytes.1 in
+    let end = end_block bytes u c.args.at (let a = c.feed_slot_piece-block.ensures.bytes.0 in omega arith) in
+    let gone = tested c.note_last-stop.result c.is_none-self.result c.is_none-self.ensures in
+    record {
+      port = bare_port self.port (self.plan.frames) c.requires.bare h.mode (u ++ placed_from c.args.at bytes);
+      mode = h.mode;
+      sources = ap (mapped_of reading_of) all ∙ same ∙ h.sources;
+      rising =
+          subst (λ (k : ℕ). BytesRise 0 k (u ++ placed_from c.args.at bytes)) (sym end) (rise_block u c.args.at bytes (rise c u h));
+      next = ap (λ (k : ℕ). c.args.at + k) (sym long) ∙ sym end;
+      count =
+          (let a = h.count in let b = length-append u (placed_from c.args.at bytes) in
+          let d = length-placed_from c.args.at bytes in omega arith);
+      live = gone ∙ none_of c.note_last-stop.result ∙ ap is_none (sym step.fault);
+      going = λ k.
+          subst (λ (l : List (Slot SourceMachine)). Keeps self.plan l c.add_bare.new.self (u ++ placed_from c.args.at bytes))
+          (sym all) (step.keeps (none_there c.note_last-stop.result (sym gone ∙ k)));
+    }
