@@ -1,4 +1,1 @@
-pub mod Showing
-pub mod Timing
 pub mod Ports
-pub mod Counting

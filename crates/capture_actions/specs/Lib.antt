@@ -1,8 +1,3 @@
-pub mod Remarks
-pub mod Clocks
-pub mod Listing
-pub mod ListingLaws
-pub mod Show
 pub mod Port
 pub mod PortGrowth
 pub mod Flows
@@ -11,7 +6,3 @@ pub mod PortLaws
 pub mod Split
 pub mod SplitLaws
 pub mod Splitter
-pub mod Summary
-pub mod Counters
-pub mod CheckLaws
-pub mod Checker

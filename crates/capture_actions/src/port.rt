@@ -144,13 +144,6 @@ impl CapturePort {
         taken
     }
 
-    /// How it is read.
-    pub fn mode(&self) -> FramesMode
-        ensures { result ≡ frames_mode self.now }
-    {
-        self.reader.mode()
-    }
-
     /// Its fault, if it has one.
     pub fn fault(&self) -> Option<Fault>
         ensures list { (seen : List ℕ) → Stands self.now seen →
@@ -158,37 +151,5 @@ impl CapturePort {
         ensures live { result ≡ None → IsLive self.now }
     {
         self.fault
-    }
-
-    /// How many bytes were read.
-    pub fn count(&self) -> u64
-        ensures { (seen : List ℕ) → Stands self.now seen → result ≡ length seen }
-    {
-        self.count
-    }
-
-    /// Whether the reading has begun.
-    pub fn is_locked(&self) -> bool
-        ensures { (seen : List ℕ) → Stands self.now seen →
-            result ≡ (port_of (frames_mode self.now) seen).locked }
-    {
-        self.reader.is_locked()
-    }
-
-    /// How many bytes are before the reading.
-    pub fn skipped(&self) -> u64
-        requires { IsLive self.now }
-        ensures { (seen : List ℕ) → Stands self.now seen →
-            result ≡ (port_of (frames_mode self.now) seen).skipped }
-    {
-        self.reader.skipped()
-    }
-
-    /// How many bytes are after the last whole frame or synchronisation.
-    pub fn tail(&self) -> u64
-        requires { IsLive self.now }
-        ensures { (seen : List ℕ) → Stands self.now seen → result ≡ (port_of (frames_mode self.now) seen).tail }
-    {
-        self.reader.tail()
     }
 }

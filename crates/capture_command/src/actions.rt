@@ -7,7 +7,8 @@ ghost use Rattle.trace_text.specs.NoteText.{last_line};
 ghost use Rattle.capture_command.specs.Notes.{fault_text};
 ghost use Rattle.trace_stream.specs.declared.recent.TheConstants.{RECENT_ROOM};
 
-use capture_actions::{Check, Show, Split};
+use capture_actions::Split;
+use capture_report::{Check, Show};
 use trace_stream::Action;
 use trace_values::Fault;
 

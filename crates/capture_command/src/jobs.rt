@@ -4,6 +4,7 @@ ghost use Rattle.std.specs.Prelude.{◌≡◌, ◌≢◌, ◌+◌, ◌≤◌, �
 ghost use Rattle.trace_io.specs.Causes.{Rose};
 ghost use Rattle.trace_stream.specs.Fresh.{IsFresh};
 ghost use Rattle.trace_stream.specs.declared.limits.TheConstants.{GREATEST_CAPTURE};
+ghost use Rattle.capture_words.specs.Jobs.{HasSoundPlan};
 ghost use Rattle.capture_command.specs.Actions.{meaning_of};
 ghost use Rattle.capture_command.specs.Notes.{Notes};
 ghost use Rattle.capture_command.specs.Run.{HasRun, TaskMeaning, Streams, Loses, IsDoneOrNoMemory};
@@ -11,7 +12,8 @@ ghost use Rattle.capture_command.specs.Run.{HasRun, TaskMeaning, Streams, Loses,
 use crate::actions::CommandAction;
 use crate::notes::{note, note_outcome};
 use crate::status::Status;
-use capture_actions::{Check, Show, Split, SplitPlan};
+use capture_actions::{Split, SplitPlan};
+use capture_report::{Check, ListPlan, Show};
 use capture_words::{Job, Task};
 use std::alloc::Global;
 use trace_io::{Sink, Source};
@@ -63,12 +65,13 @@ fn run_action<A: CommandAction, I: Source, O: Sink, N: Sink>(
 /// Does the job on the input. All memory is taken before anything is read.
 pub fn run_job<I: Source, O: Sink, N: Sink>(
     alloc: Global,
-    job: &Job,
+    job: Job,
     input: &mut I,
     output: &mut O,
     notes: &mut N,
 ) -> Status
-    requires { job.now.limit ≤ GREATEST_CAPTURE }
+    requires small { job.limit ≤ GREATEST_CAPTURE }
+    requires sound { HasSoundPlan job.task }
     ensures ran { let before : Streams = record {
       left = I.left input.old;
       held = O.held output.old;
@@ -81,7 +84,7 @@ pub fn run_job<I: Source, O: Sink, N: Sink>(
           noted = N.held notes.new;
           note_faults = N.faults notes.new;
         } in
-        HasRun (meaning_of job.now.task) job.now.limit before after result }
+        HasRun (meaning_of job.task) job.limit before after result }
     ensures memory_note { result ≡ Status.NoMemory →
         Notes (N.held notes.old) (N.held notes.new) (N.faults notes.old) (N.faults notes.new) (codes "no memory\n") }
     ensures one_empty_read { I.empty_reads input.new ≤ I.empty_reads input.old + 1 }
@@ -90,24 +93,25 @@ pub fn run_job<I: Source, O: Sink, N: Sink>(
     ensures complete { (bytes : List ℕ) → Loses (I.left input.old) (I.left input.new) bytes →
         (Rose (I.faults input.old) (I.faults input.new) → ⊥) →
         (Rose (O.faults output.old) (O.faults output.new) → ⊥) →
-        length bytes ≤ job.now.limit → ((meaning_of job.now.task).action.faulty bytes → ⊥) → IsDoneOrNoMemory result }
+        length bytes ≤ job.limit → ((meaning_of job.task).action.faulty bytes → ⊥) → IsDoneOrNoMemory result }
 {
     let Ok(mut buffers) = Buffers::open(alloc) else {
         note(notes, b"no memory\n");
         return Status::NoMemory;
     };
-    match job.task {
-        Task::Show(mode) => {
-            let mut action = Show::new(mode);
-            run_action(&mut buffers, &mut action, job.limit, input, output, notes)
+    let Job { task, limit } = job;
+    match task {
+        Task::Show { plan, only } => {
+            let mut action = Show::new(ListPlan { plan, only });
+            run_action(&mut buffers, &mut action, limit, input, output, notes)
         }
         Task::Split { frames, id } => {
             let mut action = Split::new(SplitPlan { frames, id });
-            run_action(&mut buffers, &mut action, job.limit, input, output, notes)
+            run_action(&mut buffers, &mut action, limit, input, output, notes)
         }
-        Task::Check(mode) => {
-            let mut action = Check::new(mode);
-            run_action(&mut buffers, &mut action, job.limit, input, output, notes)
+        Task::Check(plan) => {
+            let mut action = Check::new(plan);
+            run_action(&mut buffers, &mut action, limit, input, output, notes)
         }
     }
 }

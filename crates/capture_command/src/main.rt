@@ -1,5 +1,5 @@
-//! Reads CoreSight software trace that comes on standard input: lists the packets of a bare ITM stream, takes the
-//! bytes of one source out of the frames of a trace port, or counts what each source sent.
+//! Reads CoreSight software trace that comes on standard input: lists what all its sources gave, takes the bytes of one
+//! source out of the frames of a trace port, or counts what each source sent.
 #![tactic(auto)]
 
 ghost use Rattle.std.specs.Prelude.{◌≡◌, ◌⊎◌, ◌+◌, ◌≤◌, ℕ, List, length, map, codes};
@@ -84,9 +84,9 @@ pub fn run<I: Source, O: Sink, N: Sink>(
         length bytes ≤ job.limit → ((meaning_of job.task).action.faulty bytes → ⊥) → IsDoneOrNoMemory result }
 {
     match read_words(alloc, words) {
-        Asked::Do(job) => run_job(alloc, &job, input, output, notes),
+        Asked::Do(job) => run_job(alloc, job, input, output, notes),
         Asked::Fault(fault) => {
-            note(notes, fault.line().as_bytes());
+            note(notes, fault.line().as_str().as_bytes());
             Status::Usage
         }
         Asked::Refused(text) => {

@@ -5,9 +5,10 @@ ghost use Rattle.trace_text.specs.FaultText.{told};
 ghost use Rattle.trace_text.specs.NoteText.{last_line};
 ghost use Rattle.capture_command.specs.Notes.{Notes, note_of, fault_text};
 
+use source_events::Stop;
 use trace_io::{Sink, write_whole};
 use trace_stream::{Buffers, Outcome, RECENT_ROOM, TEXT_ROOM, Text};
-use trace_text::{LastLine, LimitLine, PortFaultLine};
+use trace_text::{FaultLine, LastLine, LimitLine};
 use trace_values::Fault;
 
 /// Writes the line. Where that fails nothing changes.
@@ -52,7 +53,11 @@ fn note_stop<N: Sink>(notes: &mut N, fault: Option<Fault>, buffers: &Buffers)
         (fault_text (option_map told fault) ++ last_line buffers.now.recent) }
 {
     if let Some(fault) = fault {
-        note_text(notes, &PortFaultLine { fault });
+        let stop = Stop {
+            fault,
+            source: None,
+        };
+        note_text(notes, &FaultLine { stop, stp: false });
     }
     note_last(notes, buffers);
 }

@@ -68,8 +68,8 @@ fn notes_what_failed(rt: HostRuntime) -> Result<(), Fail> {
             want,
         )?;
     }
-    let want = (Status::Usage, 0, "usage: unbuilt\n");
-    check_note(rt.alloc(), &rt, &["show"], &[0x80], (&[0], &[0]), want)
+    let want = (Status::Usage, 0, "usage: unknown action\n");
+    check_note(rt.alloc(), &rt, &["list"], &[0x80], (&[0], &[0]), want)
 }
 
 #[test]
@@ -131,14 +131,25 @@ impl Source for Zeros {
 
 #[test]
 fn one_byte_over_the_limit_is_too_many(rt: HostRuntime) -> Result<(), Fail> {
+    let words = [
+        "show",
+        "--frames",
+        "bare",
+        "--packets",
+        "aligned",
+        "--itm",
+        "1",
+        "--limit",
+        "5000",
+    ];
     let table: [(u64, Status, &str, &str); 2] = [
         (
-            16777216,
+            5000,
             Status::Done,
-            "end 16777216\nport bare skipped 0 tail 0 unattributed 0\n1 itm aligned skipped 0 tail 16777216\n",
+            "end 5000\nport bare skipped 0 tail 0 unattributed 0\n1 itm aligned skipped 0 tail 5000\n",
             "",
         ),
-        (16777217, Status::Limit, "", "limit 16777216\n"),
+        (5001, Status::Limit, "", "limit 5000\n"),
     ];
     for (left, status, text, note) in table {
         let mut room = [0; ROOM];
@@ -149,7 +160,7 @@ fn one_byte_over_the_limit_is_too_many(rt: HostRuntime) -> Result<(), Fail> {
         };
         let mut output = MemorySink::new(&mut room, &[], &[]);
         let mut notes = MemorySink::new(&mut noted, &[], &[]);
-        let got = answer(rt.alloc(), &ALIGNED, &mut input, &mut output, &mut notes)?;
+        let got = answer(rt.alloc(), &words, &mut input, &mut output, &mut notes)?;
         assert_eq!(rt; got, status, "{left} bytes");
         assert_eq!(rt; output.held(), text.as_bytes(), "{left} bytes");
         assert_eq!(rt; notes.held(), note.as_bytes(), "{left} bytes");

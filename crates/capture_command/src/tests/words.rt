@@ -121,16 +121,25 @@ fn notes_the_first_fault_of_the_words(rt: HostRuntime) -> Result<(), Fail> {
         ),
         (&["check", "--limit", "0"], "usage: bad value of --limit\n"),
         (
-            &["check", "--limit", "16777217"],
+            &["check", "--limit", "68719476737"],
             "usage: bad value of --limit\n",
         ),
-        (&["show"], "usage: unbuilt\n"),
-        (&["show", "--itm", "1"], "usage: unbuilt\n"),
         (
-            &["show", "--frames", "bare", "--itm", "2"],
-            "usage: unbuilt\n",
+            &["show", "--only", "port=32"],
+            "usage: bad value of --only\n",
         ),
-        (&["check", "--itm", "1"], "usage: unbuilt\n"),
+        (
+            &["show", "--stp-order", "lsb"],
+            "usage: bad value of --stp-order\n",
+        ),
+        (
+            &["show", "--itm", "3", "--stp", "3"],
+            "usage: 3 is mapped twice\n",
+        ),
+        (
+            &["check", "--stp", "111", "--itm", "111"],
+            "usage: 111 is mapped twice\n",
+        ),
     ];
     for (words, note) in table {
         check_words(rt.alloc(), &rt, words, (Status::Usage, 0, 2), note)?;
@@ -154,8 +163,8 @@ fn notes_what_clap_says_of_other_words(rt: HostRuntime) -> Result<(), Fail> {
             "error: the argument '--id <id>' cannot be used multiple times",
         ),
         (
-            &["check", "--stp", "1"],
-            "error: unexpected argument '--stp' found",
+            &["check", "--swo", "1"],
+            "error: unexpected argument '--swo' found",
         ),
         (
             &["split", "--id"],
