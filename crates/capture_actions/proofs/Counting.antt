@@ -10,7 +10,7 @@ range_more : (a n : ℕ) → range_with_len a (suc n) ≡ range_with_len a n ++ 
 range_more a zero = (let e : a ≡ a + 0 = omega arith in ap (λ (x : ℕ). x ∷ []) e)
 range_more a (suc n) = ap (λ (l : List ℕ). a ∷ l) (range_more (a + 1) n ∙ (let e : a + 1 + n ≡ a + suc n = omega arith in ap (λ (x : ℕ). range_with_len (a + 1) n ++ x ∷ []) e))
 
--- one more ID has its own line behind those before it
+-- one more ID has its own line after those before it
 pub sources_more : (frames : List (List Cell)) (n : ℕ) → sources_text frames (n + 1) ≡ sources_text frames n ++ source_text n (counts_of n frames)
 unfolding sources_text
 sources_more frames n =

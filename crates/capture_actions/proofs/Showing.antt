@@ -49,7 +49,7 @@ given_last count bytes last step some e =
     ap (λ (n : ℕ). given_by n last) (let k : count + bytes - 1 ≡ count + (bytes - 1) = omega arith in k)
     ∙ ap (λ (x : Option (Step ItmPacket)). given_after (count + (bytes - 1)) x) (sym e)
 
--- where a machine took these bytes of a piece behind those seen
+-- where a machine took these bytes of a piece after those seen
 module _ (m : PacketsMode) (stands : List Placed → Type 0) (seen piece : List ℕ) (at bytes : ℕ) (step : Option (Step ItmPacket)) (e : at ≡ length seen)
     (takes : Takes (packets_in (packets_hunt m)) stands (placed seen) at piece bytes step) where
   pub list_more : stands (placed (seen ++ take bytes piece))

@@ -15,7 +15,7 @@ deltas_push packets p = flat_map-append deltas_in packets (p ∷ []) ∙ ap (λ 
 pub stamps_push : (packets : List ItmPacket) (p : ItmPacket) → flat_map stamps_in (packets ++ p ∷ []) ≡ flat_map stamps_in packets ++ stamps_in p
 stamps_push packets p = flat_map-append stamps_in packets (p ∷ []) ∙ ap (λ (l : List GlobalStamp). flat_map stamps_in packets ++ l) (append-nil (stamps_in p))
 
--- the clocks behind one more packet, where each took what is its own
+-- the clocks after one more packet, where each took what is its own
 pub behind_push : (old new : Clocks) (packets : List ItmPacket) (p : ItmPacket) → Stands old packets → new.local ≡ local_time (flat_map deltas_in packets ++ deltas_in p) →
     clock.Stands new.global (flat_map stamps_in packets ++ stamps_in p) → Stands new (packets ++ p ∷ [])
 behind_push old new packets p b l g = record {

@@ -1,4 +1,4 @@
--- How the summary stays behind a fault.
+-- How the summary stays after a fault.
 use Rattle.std.specs.Prelude.{◌≡◌, ℕ, List, [], ◌++◌, length, refl, Option, Some, None, is_none, false}
 use Rattle.std.proofs.Common.{ap}
 use Rattle.trace_stream.specs.Written.{GrowsOnly}
@@ -23,7 +23,7 @@ pub text_stays : (mode : FramesMode) (xs ys : List ℕ) → IsPortFaulty mode xs
     check_text mode (xs ++ ys) ≡ check_text mode xs
 text_stays mode xs ys h = refl
 
--- behind a fault stands the fault line, whatever was counted
+-- after a fault comes the fault line, whatever was counted
 faulty_summary : (mode : FramesMode) (n k : ℕ) (r s : PortReading) (f g : Option (Place × Reason)) →
     is_none f ≡ false → g ≡ f → summary_by mode n r g ≡ summary_by mode k s f
 faulty_summary mode n k r s None g h e = cc

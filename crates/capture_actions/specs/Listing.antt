@@ -22,17 +22,17 @@ packet_in (Kept packet, place) = packet ∷ []
 abbrev pub packets_given : List (Said ItmPacket × Place) → List ItmPacket
 packets_given given = flat_map packet_in given
 
--- the line of what the source gave behind these packets
+-- the line of what the source gave after these packets
 abbrev pub said_line : List ItmPacket → Said ItmPacket × Place → List ℕ
 said_line before (Notice skipped, place) = lock_line place.at skipped
 said_line before (Kept packet, place) = item_line place.at packet (remark_by (before ++ packet ∷ []) packet)
 
--- the lines of what it gave behind these packets, in order
+-- the lines of what it gave after these packets, in order
 abbrev pub lines_behind : List ItmPacket → List (Said ItmPacket × Place) → List ℕ
 lines_behind before [] = []
 lines_behind before (said ∷ given) = said_line before said ++ lines_behind (before ++ packet_in said) given
 
--- the end lines of a bare stream of so many bytes: the port's, and the source's with its skipped bytes and its tail
+-- the end lines of a bare stream of this many bytes: the port's, and the source's with its skipped bytes and its tail
 abbrev pub end_lines : PacketsMode → ℕ → Bool → ℕ → ℕ → List ℕ
 end_lines mode count locked skipped tail = end_line count ++
     (port_line Bare 0 0 0 ++ source_line (packets_mode mode locked) skipped tail)
@@ -53,7 +53,7 @@ IsFaulty mode bytes = is_none (packets_of mode bytes).fault ≡ false
 abbrev pub listed : PacketsMode → List ℕ → List ℕ
 listed mode bytes = lines_behind [] (packets_of mode bytes).given
 
--- what stands behind them: the end lines, or the fault line alone in their place
+-- what comes after them: the end lines, or the fault line alone in their place
 abbrev pub ending : PacketsMode → List ℕ → List ℕ
 ending mode bytes = ending_by mode (length bytes) (packets_of mode bytes) (packets_of mode bytes).fault
 

@@ -16,7 +16,8 @@ use Rattle.itm_codec.specs.Reading.{pattern, packets_in}
 use Rattle.capture_plan.specs.Modes.{packets_hunt}
 use Rattle.capture_plan.specs.declared.packets.PacketsMode.{PacketsMode}
 use Rattle.capture_plan.specs.declared.packets.PacketsMode.TheVariants.{Hunt, Aligned}
-use Rattle.capture_actions.specs.Listing.{said_line, packet_in, packets_given, lines_behind, ending_by, packets_of, IsFaulty, listed, ending}
+use Rattle.capture_actions.specs.Listing.{said_line, packet_in, packets_given, lines_behind, ending_by, packets_of}
+use Rattle.capture_actions.specs.Listing.{IsFaulty, listed, ending}
 
 pub none_at_first : (m : PacketsMode) → IsFaulty m [] → ⊥
 none_at_first Hunt h = cc
@@ -36,7 +37,7 @@ faulty_stays m xs ys h = ap (λ (f : Option (Place × Reason)). is_none f) (sett
 pub listed_stays : (m : PacketsMode) (xs ys : List ℕ) → IsFaulty m xs → listed m (xs ++ ys) ≡ listed m xs
 listed_stays m xs ys h = ap (lines_behind []) (settled m xs ys h).given
 
--- behind a fault stands the fault line, whatever was counted
+-- after a fault comes the fault line, whatever was counted
 faulty_ending : (m : PacketsMode) (n k : ℕ) (s t : Stream ItmPacket) (f g : Option (Place × Reason)) →
     is_none f ≡ false → g ≡ f → ending_by m n s g ≡ ending_by m k t f
 faulty_ending m n k s t None g h e = cc
@@ -47,7 +48,7 @@ ending_stays m xs ys h =
     faulty_ending m (length (xs ++ ys)) (length xs) (packets_of m (xs ++ ys)) (packets_of m xs)
     (packets_of m xs).fault (packets_of m (xs ++ ys)).fault h (settled m xs ys h).fault
 
--- the lines of two lists are those of the first, and those of the second behind its packets
+-- the lines of two lists are those of the first, and those of the second after its packets
 pub lines_behind-append : (before : List ItmPacket) (xs ys : List (Said ItmPacket × Place)) →
     lines_behind before (xs ++ ys) ≡ lines_behind before xs ++ lines_behind (before ++ packets_given xs) ys
 lines_behind-append before [] ys = ap (λ (l : List ItmPacket). lines_behind l ys) (sym (append-nil before))

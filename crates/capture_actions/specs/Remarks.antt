@@ -18,14 +18,14 @@ stamps_in (GlobalFirst len value change wrap) = First len value wrap ∷ []
 stamps_in (GlobalSecond wide value) = Second value ∷ []
 stamps_in packet = []
 
--- the local time behind some packets, and the global one
+-- the local time after some packets, and the global one
 abbrev pub local_behind : List ItmPacket → ℕ
 local_behind packets = local_time (flat_map deltas_in packets)
 
 abbrev pub global_behind : List ItmPacket → Option ℕ
 global_behind packets = global_time (flat_map stamps_in packets)
 
--- what stands beside this packet, the last of these
+-- what is beside this packet, the last of these
 abbrev pub remark_by : List ItmPacket → ItmPacket → Remark
 remark_by packets (Local lateness delta) = Clock (local_behind packets)
 remark_by packets (GlobalFirst len value change wrap) = Time (global_behind packets)

@@ -23,7 +23,7 @@ pub struct Check {
 }
 
 impl Check {
-    ghost use Rattle.std.specs.Prelude.{◌^◌, ◌<◌, take};
+    ghost use Rattle.std.specs.Prelude.{◌<◌, take};
     ghost use Rattle.trace_io.specs.Bytes.{TakesSome};
     ghost use Rattle.trace_stream.specs.Taken.{HasTaken, Turn};
     ghost use Rattle.trace_stream.specs.declared.limits.TheConstants.{GREATEST_CAPTURE};
@@ -118,7 +118,8 @@ impl Action for Check {
     ghost use Rattle.capture_actions.specs.Port.{IsPortFaulty};
     ghost use Rattle.capture_actions.specs.Summary.{check_text, summary};
     ghost use Rattle.capture_actions.specs.Checker.{Stands, plan_of, taken_by, IsLive};
-    ghost use Rattle.capture_actions.specs.CheckLaws.{none_at_first, nothing_at_first, faulty_stays, text_stays, summary_stays, text_grows};
+    ghost use Rattle.capture_actions.specs.CheckLaws.{none_at_first, nothing_at_first, faulty_stays, text_stays};
+    ghost use Rattle.capture_actions.specs.CheckLaws.{summary_stays, text_grows};
 
     type Plan = FramesMode;
 

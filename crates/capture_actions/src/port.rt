@@ -1,6 +1,7 @@
 //! The reading of a capture's port.
 
-ghost use Rattle.std.specs.Prelude.{◌≡◌, ◌+◌, ◌^◌, ◌<◌, ◌≤◌, ◌++◌, [], ℕ, List, length, take, true, is_none, option_map, Option, IsTrue};
+ghost use Rattle.std.specs.Prelude.{◌≡◌, ◌+◌, ◌<◌, ◌≤◌, ◌++◌, [], ℕ, List, length, take, true, is_none};
+ghost use Rattle.std.specs.Prelude.{option_map, Option, IsTrue};
 ghost use Rattle.frame_grammar.specs.Frame.{id_after};
 ghost use Rattle.frame_grammar.specs.Whole.{IsWhole};
 ghost use Rattle.deformatter.specs.Growth.{goes_on, fault_by};
@@ -21,7 +22,7 @@ use port_reader::{PortReader, Taken};
 use trace_stream::Flow;
 use trace_values::{Cell, Fault, SourceId};
 
-/// Reads the bytes of a capture's port, the first of which stands at offset 0, and keeps its fault.
+/// Reads the bytes of a capture's port, the first of which is at offset 0, and keeps its fault.
 #[derive(Drop)]
 pub struct CapturePort {
     reader: PortReader,
@@ -174,7 +175,7 @@ impl CapturePort {
         self.reader.is_locked()
     }
 
-    /// How many bytes stand before the reading.
+    /// How many bytes are before the reading.
     pub fn skipped(&self) -> u64
         requires { IsLive self.now }
         ensures { (seen : List ℕ) → Stands self.now seen →
@@ -183,7 +184,7 @@ impl CapturePort {
         self.reader.skipped()
     }
 
-    /// How many bytes stand behind the last whole frame or synchronisation.
+    /// How many bytes are after the last whole frame or synchronisation.
     pub fn tail(&self) -> u64
         requires { IsLive self.now }
         ensures { (seen : List ℕ) → Stands self.now seen → result ≡ (port_of (frames_mode self.now) seen).tail }

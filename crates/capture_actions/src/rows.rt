@@ -3,7 +3,8 @@
 ghost use Rattle.std.specs.Prelude.{◌≡◌, codes};
 ghost use Rattle.itm_grammar.specs.Rows.{hex};
 ghost use Rattle.capture_plan.specs.declared.packets.PacketsMode.TheVariants.{Hunt, Aligned};
-ghost use Rattle.capture_plan.specs.declared.frames.FramesMode.TheVariants.{Hunt as FramesHunt, Aligned as FramesAligned, Bare};
+ghost use Rattle.capture_plan.specs.declared.frames.FramesMode.TheVariants.{Hunt as FramesHunt};
+ghost use Rattle.capture_plan.specs.declared.frames.FramesMode.TheVariants.{Aligned as FramesAligned, Bare};
 ghost use Rattle.capture_actions.specs.Listing.{listing};
 ghost use Rattle.capture_actions.specs.Summary.{summary};
 
@@ -45,7 +46,7 @@ pub fn summaries()
     ensures bare { summary Bare (hex (codes "FF 00")) ≡ codes "full 0\nhalf 0\nframes 2\n1 bytes 2 items 2\nend 2\nport bare skipped 0 tail 0 unattributed 0\n" }
 {}
 
-/// The same for captures with a fault: the bytes behind it are not listed.
+/// The same for captures with a fault: the bytes after it are not listed.
 pub fn faults()
     ensures reserved { listing Aligned (hex (codes "80 01 41")) ≡ codes "fault 0 1 3 ReservedHeader\n" }
     ensures later { listing Aligned (hex (codes "01 41 01 42 F4")) ≡ codes "1 1 port 0 u8 41\n3 1 port 0 u8 42\nfault 4 1 3 ReservedHeader\n" }

@@ -124,7 +124,8 @@ impl Show {
 
 impl Action for Show {
     ghost use Rattle.capture_actions.specs.Listing.{IsFaulty, listed, ending};
-    ghost use Rattle.capture_actions.specs.ListingLaws.{none_at_first, nothing_at_first, faulty_stays, listed_stays, ending_stays, listed_grows};
+    ghost use Rattle.capture_actions.specs.ListingLaws.{none_at_first, nothing_at_first, faulty_stays, listed_stays};
+    ghost use Rattle.capture_actions.specs.ListingLaws.{ending_stays, listed_grows};
     ghost use Rattle.capture_actions.specs.Show.{Stands, mode_of, count_of, IsLive};
 
     type Plan = PacketsMode;

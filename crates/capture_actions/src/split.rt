@@ -47,7 +47,7 @@ fn put_cells(outlet: &mut Outlet, id: SourceId, cells: &[Cell])
 }
 
 impl Split {
-    ghost use Rattle.std.specs.Prelude.{[], ℕ, List, ◌*◌, ◌<◌, ◌^◌, take};
+    ghost use Rattle.std.specs.Prelude.{[], ℕ, List, ◌*◌, ◌<◌, take};
     ghost use Rattle.trace_io.specs.Bytes.{TakesSome};
     ghost use Rattle.trace_stream.specs.Taken.{HasTaken, Turn};
     ghost use Rattle.trace_stream.specs.declared.limits.TheConstants.{GREATEST_CAPTURE};
@@ -134,7 +134,8 @@ impl Split {
 impl Action for Split {
     ghost use Rattle.capture_actions.specs.Split.{split_faulty, split_text, split_ending};
     ghost use Rattle.capture_actions.specs.Splitter.{Stands, plan_of, taken_by, IsLive};
-    ghost use Rattle.capture_actions.specs.SplitLaws.{none_at_first, nothing_at_first, faulty_stays, text_stays, ending_stays, text_grows};
+    ghost use Rattle.capture_actions.specs.SplitLaws.{none_at_first, nothing_at_first, faulty_stays, text_stays};
+    ghost use Rattle.capture_actions.specs.SplitLaws.{ending_stays, text_grows};
 
     type Plan = SplitPlan;
 

@@ -6,7 +6,8 @@ use Rattle.trace_io.specs.Causes.{Rose}
 use Rattle.trace_values.specs.declared.fault.Reason.{Reason}
 use Rattle.trace_values.specs.Placed.{Place}
 use Rattle.trace_stream.specs.declared.outcome.Outcome.{Outcome}
-use Rattle.trace_stream.specs.declared.outcome.Outcome.TheVariants.{AtEnd, FaultFound, ReadFailed, WriteFailed, OverLimit}
+use Rattle.trace_stream.specs.declared.outcome.Outcome.TheVariants.{AtEnd, FaultFound, ReadFailed, WriteFailed}
+use Rattle.trace_stream.specs.declared.outcome.Outcome.TheVariants.{OverLimit}
 use Rattle.trace_text.specs.FaultText.{port_fault_line}
 use Rattle.trace_text.specs.NoteText.{limit_line}
 

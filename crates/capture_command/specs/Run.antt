@@ -3,11 +3,13 @@ use Rattle.std.specs.Prelude.{◌≡◌, ◌⊎◌, ℕ, ◌+◌, ◌≤◌, Lis
 use Rattle.std.specs.declared.option.Option.{Option}
 use Rattle.std.specs.Io.KnownBytes.{Appends, Consumes, IsAtEnd, Keeps}
 use Rattle.trace_stream.specs.Served.{Meaning, ServedBy}
-use Rattle.trace_stream.specs.declared.outcome.Outcome.TheVariants.{AtEnd, FaultFound, ReadFailed, WriteFailed, OverLimit}
+use Rattle.trace_stream.specs.declared.outcome.Outcome.TheVariants.{AtEnd, FaultFound, ReadFailed, WriteFailed}
+use Rattle.trace_stream.specs.declared.outcome.Outcome.TheVariants.{OverLimit}
 use Rattle.trace_text.specs.NoteText.{limit_line}
 use Rattle.capture_command.specs.Notes.{Notes}
 use Rattle.capture_command.specs.declared.status.Status.{Status}
-use Rattle.capture_command.specs.declared.status.Status.TheVariants.{Done, Usage, CaptureFault, ReadFault, WriteFault, NoMemory, Limit}
+use Rattle.capture_command.specs.declared.status.Status.TheVariants.{Done, Usage, CaptureFault, ReadFault, WriteFault}
+use Rattle.capture_command.specs.declared.status.Status.TheVariants.{NoMemory, Limit}
 
 -- what a task makes of the bytes of a capture: what its action does, and what is noted where a fault is certain with
 -- the last of them
@@ -28,10 +30,13 @@ pub record Streams : Type 0 where
 abbrev pub WritesBy : TaskMeaning → ℕ → Status → List ℕ → List ℕ → List ℕ → Type 0
 WritesBy m limit Done bytes out note = ServedBy m.action limit AtEnd bytes out [] × (note ≡ [])
 WritesBy m limit CaptureFault bytes out note =
-    (recent : List ℕ) × (served : ServedBy m.action limit FaultFound bytes out recent) × (note ≡ m.fault_note served.0.seen)
-WritesBy m limit ReadFault bytes out note = ServedBy m.action limit ReadFailed bytes out [] × (note ≡ codes "read fault\n")
+    (recent : List ℕ) × (served : ServedBy m.action limit FaultFound bytes out recent)
+    × (note ≡ m.fault_note served.0.seen)
+WritesBy m limit ReadFault bytes out note =
+    ServedBy m.action limit ReadFailed bytes out [] × (note ≡ codes "read fault\n")
 WritesBy m limit Limit bytes out note = ServedBy m.action limit OverLimit bytes out [] × (note ≡ limit_line limit)
-WritesBy m limit WriteFault bytes out note = ServedBy m.action limit WriteFailed bytes out [] × (note ≡ codes "write fault\n")
+WritesBy m limit WriteFault bytes out note =
+    ServedBy m.action limit WriteFailed bytes out [] × (note ≡ codes "write fault\n")
 WritesBy m limit NoMemory bytes out note = (bytes ≡ []) × (out ≡ [])
 WritesBy m limit Usage bytes out note = ⊥
 

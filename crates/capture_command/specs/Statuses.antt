@@ -1,9 +1,11 @@
 -- Statuses: their numbers, and how they come from what happened to the stream.
 use Rattle.std.specs.Prelude.{ℕ}
 use Rattle.trace_stream.specs.declared.outcome.Outcome.{Outcome}
-use Rattle.trace_stream.specs.declared.outcome.Outcome.TheVariants.{AtEnd, FaultFound, ReadFailed, WriteFailed, OverLimit}
+use Rattle.trace_stream.specs.declared.outcome.Outcome.TheVariants.{AtEnd, FaultFound, ReadFailed, WriteFailed}
+use Rattle.trace_stream.specs.declared.outcome.Outcome.TheVariants.{OverLimit}
 use Rattle.capture_command.specs.declared.status.Status.{Status}
-use Rattle.capture_command.specs.declared.status.Status.TheVariants.{Done, Usage, CaptureFault, ReadFault, WriteFault, NoMemory, Limit}
+use Rattle.capture_command.specs.declared.status.Status.TheVariants.{Done, Usage, CaptureFault, ReadFault, WriteFault}
+use Rattle.capture_command.specs.declared.status.Status.TheVariants.{NoMemory, Limit}
 
 abbrev pub number_of : Status → ℕ
 number_of Done = 0

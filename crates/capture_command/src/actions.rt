@@ -19,7 +19,8 @@ pub trait CommandAction: Action {
     /// The fault whose line is noted before the last bytes, if the output has no line of it.
     fn noted_fault(&self) -> Option<Fault>
         ensures { (seen : List ℕ) → Self.stands self.now seen →
-            fault_text (option_map told result) ++ last_line (keep_last RECENT_ROOM seen) ≡ noted (Self.plan self.now) seen };
+            fault_text (option_map told result) ++ last_line (keep_last RECENT_ROOM seen)
+            ≡ noted (Self.plan self.now) seen };
 }
 
 impl CommandAction for Show {

@@ -21,7 +21,8 @@ pub fn note<N: Sink>(notes: &mut N, line: &[u8])
 /// Writes the text of a line. Where that fails nothing changes.
 fn note_text<N: Sink, T: Text>(notes: &mut N, text: &T)
     requires { T.fits text.now }
-    ensures noted { Notes (N.held notes.old) (N.held notes.new) (N.faults notes.old) (N.faults notes.new) (T.text text.now) }
+    ensures noted { Notes (N.held notes.old) (N.held notes.new) (N.faults notes.old) (N.faults notes.new)
+        (T.text text.now) }
     ensures later { N.faults notes.old ≤ N.faults notes.new }
 {
     let mut room = [0; TEXT_ROOM];
@@ -31,7 +32,8 @@ fn note_text<N: Sink, T: Text>(notes: &mut N, text: &T)
 
 /// The last bytes up to a fault.
 fn note_last<N: Sink>(notes: &mut N, buffers: &Buffers)
-    ensures noted { Notes (N.held notes.old) (N.held notes.new) (N.faults notes.old) (N.faults notes.new) (last_line buffers.now.recent) }
+    ensures noted { Notes (N.held notes.old) (N.held notes.new) (N.faults notes.old) (N.faults notes.new)
+        (last_line buffers.now.recent) }
     ensures later { N.faults notes.old ≤ N.faults notes.new }
 {
     let mut bytes = [0; RECENT_ROOM];

@@ -7,7 +7,7 @@ use Rattle.clap.specs.declared.builder.ArgAction.TheVariants.{Set}
 use Rattle.capture_words.specs.declared.option.CommandOption.{CommandOption}
 use Rattle.capture_words.specs.declared.option.CommandOption.TheVariants.{Frames, Packets, Itm, Id, Limit}
 
--- the name of an option, behind the two dashes
+-- the name of an option, after the two dashes
 abbrev pub option_name : CommandOption → Text
 option_name Frames = codes "frames"
 option_name Packets = codes "packets"
@@ -15,11 +15,11 @@ option_name Itm = codes "itm"
 option_name Id = codes "id"
 option_name Limit = codes "limit"
 
--- an option has one value, and stands once at most
+-- an option has one value, and is given once at most
 abbrev pub option_rule : CommandOption → Rule
 option_rule option = record (new_rule (option_name option)) { long = Some (option_name option); action = Some Set }
 
--- the action stands without dashes, and has to be there
+-- the action is a word without dashes, and has to be there
 abbrev pub action_rule : Rule
 action_rule = record (new_rule (codes "action")) { required = true; action = Some Set }
 
@@ -34,7 +34,7 @@ with_options (option ∷ options) app = with_options options (with_rule app (opt
 unfoldable pub trace_app : App
 trace_app = with_options all_options (with_rule (new_app (codes "trace")) action_rule)
 
--- the entries of the words, by clap's function of a simple command's words; the program's name stands in front
+-- the entries of the words, by clap's function of a simple command's words; the program's name is in front
 abbrev pub rows_of_words : List Text → List Row
 rows_of_words words = matches_of trace_app (codes "trace" ∷ words)
 

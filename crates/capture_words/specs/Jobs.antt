@@ -11,7 +11,8 @@ use Rattle.capture_words.specs.declared.job.Job.{Job}
 use Rattle.capture_words.specs.declared.usage.UsageFault.{UsageFault}
 use Rattle.capture_words.specs.declared.usage.UsageFault.TheVariants.{SplitNeedsId, Unbuilt}
 use Rattle.capture_words.specs.declared.values.ActionName.{ActionName}
-use Rattle.capture_words.specs.declared.values.ActionName.TheVariants.{Show as ShowName, Split as SplitName, Check as CheckName}
+use Rattle.capture_words.specs.declared.values.ActionName.TheVariants.{Show as ShowName, Split as SplitName}
+use Rattle.capture_words.specs.declared.values.ActionName.TheVariants.{Check as CheckName}
 
 abbrev pub is_source_one : Option ℕ → Bool
 is_source_one None = false

@@ -1,5 +1,6 @@
 -- What the texts of the action and of the options say.
-use Rattle.std.specs.Prelude.{ℕ, ◌^◌, List, codes, Option, Some, None, Result, nat_le, Bool, ◌&&◌, if◌then◌else◌, ok_or, option_and_then, option_map, decimal}
+use Rattle.std.specs.Prelude.{ℕ, ◌^◌, List, codes, Option, Some, None, Result, nat_le, Bool, ◌&&◌, if◌then◌else◌, ok_or}
+use Rattle.std.specs.Prelude.{option_and_then, option_map, decimal}
 use Rattle.std.specs.Str.{bytes_eq}
 use Rattle.std.specs.Str.Parse.{digits_value}
 use Rattle.clap.specs.Words.{Text, Row, first_of}

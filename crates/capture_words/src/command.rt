@@ -13,7 +13,7 @@ const CAPTURE_HELP: &str =
     "The capture is read from standard input, as in: ./lipparoy check < CAPTURE
 So far show lists a capture without frames: show --frames bare --itm 1";
 
-/// The command with this option besides. It takes one value, and stands once at most.
+/// The command with this option besides. It takes one value, and is given once at most.
 fn with_option<'a>(
     alloc: Global,
     command: Command<'a>,

@@ -23,7 +23,7 @@ pub enum Task {
         /// The source.
         id: SourceId,
     },
-    /// The port is read, and what stands in it is told.
+    /// The port is read, and what is in it is told.
     Check(FramesMode),
 }
 

@@ -4,11 +4,11 @@
 mod command;
 mod entries;
 mod job;
-mod laws;
+pub mod laws;
 mod number;
 mod option;
 mod reading;
-mod rows;
+pub mod rows;
 #[cfg(test)]
 mod tests;
 mod usage;

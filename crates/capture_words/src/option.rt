@@ -6,7 +6,7 @@ ghost use Rattle.capture_words.specs.Command.{option_name};
 /// An option of the command, in the order in which their values are looked at.
 #[derive(Clone, Copy, Debug, PartialEq, Eq, Drop)]
 pub enum CommandOption {
-    /// `--frames`: where the reading of a port begins, or that no frames stand around the bytes.
+    /// `--frames`: where the reading of a port begins, or that no frames are around the bytes.
     Frames,
     /// `--packets`: where the reading of a source begins.
     Packets,
@@ -19,8 +19,8 @@ pub enum CommandOption {
 }
 
 impl CommandOption {
-    /// The name of the option, behind the two dashes, at the lifetime of the command that takes it.
-    pub fn name<'a>(self) -> &'a str
+    /// The name of the option, after the two dashes, at the lifetime of the command that takes it.
+    pub(crate) fn name<'a>(self) -> &'a str
         ensures { result.now ≡ option_name self }
     {
         match self {

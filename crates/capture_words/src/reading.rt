@@ -37,7 +37,7 @@ fn with_name<'a>(alloc: Global, words: &'a [String]) -> Result<Vec<&'a str>, All
     Ok(all)
 }
 
-/// What the words behind the program's name ask for.
+/// What the words after the program's name ask for.
 pub fn read_words(alloc: Global, words: &[String]) -> Asked
     ensures asked { AskedBy (map string_bytes words.now) result }
     ensures limit { (job : Job) → result ≡ Asked.Do job → (1 ≤ job.limit) × (job.limit ≤ GREATEST_LIMIT) }

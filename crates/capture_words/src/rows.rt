@@ -1,13 +1,17 @@
 //! Worked rows: words, and what they ask for, which the checker computes.
 
 ghost use Rattle.std.specs.Prelude.{codes};
-ghost use Rattle.clap.specs.declared.error.kind.ErrorKind.TheVariants.{ArgumentConflict, DisplayHelp, InvalidValue, MissingRequiredArgument, UnknownArgument};
-ghost use Rattle.capture_plan.specs.declared.frames.FramesMode.TheVariants.{Hunt as FramesHunt, Aligned as FramesAligned, Bare};
-ghost use Rattle.capture_plan.specs.declared.packets.PacketsMode.TheVariants.{Hunt as PacketsHunt, Aligned as PacketsAligned};
+ghost use Rattle.clap.specs.declared.error.kind.ErrorKind.TheVariants.{ArgumentConflict, DisplayHelp, InvalidValue};
+ghost use Rattle.clap.specs.declared.error.kind.ErrorKind.TheVariants.{MissingRequiredArgument, UnknownArgument};
+ghost use Rattle.capture_plan.specs.declared.frames.FramesMode.TheVariants.{Hunt as FramesHunt};
+ghost use Rattle.capture_plan.specs.declared.frames.FramesMode.TheVariants.{Aligned as FramesAligned, Bare};
+ghost use Rattle.capture_plan.specs.declared.packets.PacketsMode.TheVariants.{Hunt as PacketsHunt};
+ghost use Rattle.capture_plan.specs.declared.packets.PacketsMode.TheVariants.{Aligned as PacketsAligned};
 ghost use Rattle.capture_words.specs.Rows.{Does, Faults, Refuses};
 ghost use Rattle.capture_words.specs.declared.job.Task.TheVariants.{Show, Split, Check};
 ghost use Rattle.capture_words.specs.declared.option.CommandOption.TheVariants.{Frames, Packets, Itm, Id, Limit};
-ghost use Rattle.capture_words.specs.declared.usage.UsageFault.TheVariants.{UnknownAction, BadValue, SplitNeedsId, Unbuilt};
+ghost use Rattle.capture_words.specs.declared.usage.UsageFault.TheVariants.{UnknownAction, BadValue, SplitNeedsId};
+ghost use Rattle.capture_words.specs.declared.usage.UsageFault.TheVariants.{Unbuilt};
 
 /// Words that ask for a listing, in several orders and spellings.
 pub fn show()

@@ -7,7 +7,7 @@ use std::process::Abort;
 use std::test::Fail;
 use trace_values::SourceId;
 
-/// What the words of this text ask for, which stand with a blank between two.
+/// What the words of this text ask for; one blank is between two of them.
 fn answer(alloc: Global, text: &str) -> Result<Asked, AllocError> {
     let mut words = Vec::new(alloc);
     if !text.is_empty() {

@@ -1,6 +1,5 @@
 -- The bytes of a piece, fed one by one.
-use Rattle.std.proofs.Common.{◌≡◌, ◌≢◌, ℕ, zero, suc, ◌+◌, ◌*◌, ◌<◌, List, [], ◌∷◌, ◌++◌, length, take, get_or, refl, sym, ◌∙◌, ap, subst, arith, append_assoc, append-nil, Bool, true, false, cond, Option, None}
-use Rattle.std.specs.Prelude.{◌==◌, slice_index}
+use Rattle.std.proofs.Common.{◌≡◌, ◌≢◌, ℕ, zero, suc, ◌+◌, ◌*◌, ◌<◌, List, [], ◌∷◌, ◌++◌, length, take, get_or, refl, sym, ◌∙◌, ap, subst, arith, append_assoc, append-nil, Bool, true, cond, Option}
 use Rattle.std.specs.List.{range_with_len}
 use Rattle.std.proofs.lemmas.List.{take_more, length-take-le}
 use Rattle.trace_values.specs.declared.mode.Mode.{Mode}
@@ -12,11 +11,11 @@ use Rattle.trace_values.specs.Moded.{StandsIn, hunts, is_locked}
 use Rattle.trace_values.proofs.Modes as laws
 use Rattle.trace_values.proofs.Blocks.{next_placed}
 use Rattle.frame_grammar.specs.Frame.{IsProperBelow}
-use Rattle.frame_grammar.specs.Port.{PortItem, Full, Half, Frame, Part, Between, First, One, State, start, rule}
+use Rattle.frame_grammar.specs.Port.{PortItem, Full, Half, Frame, Between, First, One, State, start, rule}
 use Rattle.frame_grammar.specs.Reading.{offsets_of}
 use Rattle.frame_grammar.proofs.Deciding.{at, no}
 use Rattle.port_sync.specs.Hunting.{pattern}
-use Rattle.deformatter.specs.Reading.{PortStream, port_stream, cells_in}
+use Rattle.deformatter.specs.Reading.{port_stream, cells_in}
 use Rattle.deformatter.specs.Growth.{PortGrows}
 use Rattle.deformatter.specs.Rule.{step_by, cells_by}
 use Rattle.deformatter.specs.Block.{Answers, EachByte, FedAs}

@@ -1,6 +1,5 @@
 -- A frame that is taken at once.
 use Rattle.std.specs.Prelude.{◌≡◌, ℕ, ◌+◌, List, [], ◌∷◌, ◌++◌, true, Option, None}
-use Rattle.trace_values.specs.declared.cell.Cell.{Cell}
 use Rattle.trace_values.specs.Placed.{Place, Placed, units_of}
 use Rattle.frame_grammar.specs.Frame.{cells}
 use Rattle.frame_grammar.specs.Port.{Frame, start}

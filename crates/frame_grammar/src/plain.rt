@@ -53,7 +53,11 @@ mod tests {
             let frame = plain_frame(piece).map(|frame| frame.as_slice());
             assert_eq!(rt;
                 frame,
-                if plain { piece.get(..FRAME_BYTES) } else { None },
+                if plain {
+                    piece.get(..FRAME_BYTES)
+                } else {
+                    None
+                },
                 "{piece:?}"
             );
         }

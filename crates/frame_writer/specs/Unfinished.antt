@@ -15,7 +15,7 @@ abbrev pub middle : ℕ → ℕ → ℕ → List Pair → Option ℕ → List Ta
 middle every halves n pairs c t =
     let f = filled (7 - length pairs) c t in
     frame_bytes every halves n (pairs ++ f.pairs) f.end.even f.end.aux
-        ∷ frames_from every halves (n + 1) f.end.id f.end.rest
+    ∷ frames_from every halves (n + 1) f.end.id f.end.rest
 
 -- the same, where without a pair no frame is begun
 abbrev pub continued : ℕ → ℕ → ℕ → List Pair → Option ℕ → Option ℕ → List Tagged → List (List ℕ)

@@ -10,8 +10,7 @@ use Rattle.trace_stream.specs.BuffersState.{BuffersState}
 use Rattle.trace_stream.specs.Fed.{Writing, StandsAfter, HasFed}
 use Rattle.trace_stream.specs.Pumped.{HasPumped}
 use Rattle.trace_stream.specs.Served.{Meaning, Ends}
-use Rattle.trace_stream.specs.declared.feeding.Fed.{Fed}
-use Rattle.trace_stream.specs.declared.feeding.FeedEnd.TheVariants.{All, FaultFound, WriteFailed}
+use Rattle.trace_stream.specs.declared.feeding.FeedEnd.TheVariants.{FaultFound, WriteFailed}
 use Rattle.trace_stream.specs.declared.outcome.Outcome.TheVariants as outcome
 use Rattle.trace_stream.specs.declared.recent.TheConstants.{RECENT_ROOM}
 

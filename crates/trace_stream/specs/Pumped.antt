@@ -14,14 +14,14 @@ use Rattle.trace_stream.specs.declared.recent.TheConstants.{RECENT_ROOM}
 
 -- how far the reading of an input got: what the input has left, the way of the text, the bytes that were fed, and the
 -- extra bytes, which were read and not fed
-pub record Progress : Type 0 where
+pub record Reach : Type 0 where
   pub left : Option (List ℕ)
   pub writing : Writing
   pub seen : List ℕ
   pub extra : List ℕ
 
 -- how things are after the bytes that were fed, by the way in which the reading ended
-abbrev pub PumpOutcome : (List ℕ → Type 0) → Meaning → ℕ → Progress → Outcome → Type 0
+abbrev pub PumpOutcome : (List ℕ → Type 0) → Meaning → ℕ → Reach → Outcome → Type 0
 PumpOutcome stands m limit p AtEnd = StandsAfter stands m p.writing p.seen × (p.extra ≡ []) × IsAtEnd p.left
 PumpOutcome stands m limit p FaultFound = StopsAfter stands m p.writing p.seen
 PumpOutcome stands m limit p ReadFailed =

@@ -1,6 +1,6 @@
 //! What is done to the bytes of a capture as they come.
 
-ghost use Rattle.std.specs.Prelude.{◌≡◌, ℕ, ◌+◌, ◌^◌, ◌<◌, ◌≤◌, List, [], ◌++◌, length, take};
+ghost use Rattle.std.specs.Prelude.{◌≡◌, ℕ, ◌+◌, ◌<◌, ◌≤◌, List, [], ◌++◌, length, take};
 ghost use Rattle.trace_io.specs.Bytes.{TakesSome};
 ghost use Rattle.trace_stream.specs.Written.{GrowsOnly};
 ghost use Rattle.trace_stream.specs.Served.{Meaning};

@@ -1,6 +1,6 @@
 //! The feeding of a piece to an action.
 
-ghost use Rattle.std.specs.Prelude.{◌≡◌, ℕ, ◌+◌, ◌^◌, ◌<◌, ◌≤◌, List, [], ◌++◌, length, OnOk, OnErr};
+ghost use Rattle.std.specs.Prelude.{◌≡◌, ℕ, ◌+◌, ◌<◌, ◌≤◌, List, [], ◌++◌, length, OnOk, OnErr};
 ghost use Rattle.std.specs.declared.option.Option.{Option};
 ghost use Rattle.trace_io.specs.Bytes.{AppendsPrefix, TakesFront};
 ghost use Rattle.trace_io.specs.Causes.{HasCause, Rose};

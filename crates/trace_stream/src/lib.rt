@@ -1,4 +1,4 @@
-//! The streaming engine: one loop from a source through an action to a sink, proved once for every
+//! The run: one loop from a source through an action to a sink, proved once for every
 //! action that reads its input byte after byte.
 //!
 //! An action's caller opens `Buffers` and calls `serve`. What was read, what was written, why the run

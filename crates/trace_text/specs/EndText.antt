@@ -1,7 +1,8 @@
 -- The lines at the end.
 use Rattle.std.specs.Prelude.{ℕ, List, ◌++◌, codes, decimal, Bool, true, false}
 use Rattle.capture_plan.specs.declared.frames.FramesMode.{FramesMode}
-use Rattle.capture_plan.specs.declared.frames.FramesMode.TheVariants.{Hunt as FramesHunt, Aligned as FramesAligned, Bare as FramesBare}
+use Rattle.capture_plan.specs.declared.frames.FramesMode.TheVariants.{Hunt as FramesHunt, Aligned as FramesAligned}
+use Rattle.capture_plan.specs.declared.frames.FramesMode.TheVariants.{Bare as FramesBare}
 use Rattle.capture_plan.specs.declared.packets.PacketsMode.{PacketsMode}
 use Rattle.capture_plan.specs.declared.packets.PacketsMode.TheVariants.{Hunt as PacketsHunt, Aligned as PacketsAligned}
 use Rattle.trace_text.specs.declared.port_mode.PortMode.{PortMode}

@@ -5,7 +5,8 @@ use Rattle.hex.specs.Hex.{encode_lower}
 use Rattle.dwt_packets.specs.declared.item.Change.{Change}
 use Rattle.dwt_packets.specs.declared.item.Change.TheVariants.{Enter, Exit, Return}
 use Rattle.dwt_packets.specs.declared.item.DwtItem.{DwtItem}
-use Rattle.dwt_packets.specs.declared.item.DwtItem.TheVariants.{Counters, Exception, Sample, Asleep, MatchPc, MatchAddress, Read, Written, Other}
+use Rattle.dwt_packets.specs.declared.item.DwtItem.TheVariants.{Counters, Exception, Sample, Asleep, MatchPc}
+use Rattle.dwt_packets.specs.declared.item.DwtItem.TheVariants.{MatchAddress, Read, Written, Other}
 use Rattle.trace_text.specs.Values.{value_text}
 
 abbrev pub change_text : Change → List ℕ

@@ -1,7 +1,8 @@
 //! Bytes and numbers in the room that a text is given. Each is put after the first `from` bytes,
 //! and its end is the answer.
 
-ghost use Rattle.std.specs.Prelude.{◌≡◌, ◌+◌, ◌*◌, ◌≤◌, ◌<◌, ◌++◌, ◌∷◌, [], length, take, decimal, nat_lt, if◌then◌else◌, ◌/◌};
+ghost use Rattle.std.specs.Prelude.{◌≡◌, ◌+◌, ◌*◌, ◌≤◌, ◌<◌, ◌++◌, ◌∷◌, [], length, take, decimal, nat_lt};
+ghost use Rattle.std.specs.Prelude.{if◌then◌else◌, ◌/◌};
 ghost use Rattle.hex.specs.Hex.{encode_lower};
 ghost use Rattle.trace_text.specs.Pairs.{pair};
 ghost use Rattle.trace_text.specs.Values.{value_text};

@@ -7,10 +7,10 @@ use std::process::Abort;
 use std::test::Fail;
 use trace_io::{MemorySink, MemorySource};
 
-/// The call that counts what stands in a port that is read from its first byte on.
+/// The call that counts what is in a port that is read from its first byte on.
 const ALIGNED: [&str; 3] = ["check", "--frames", "aligned"];
 
-/// The call that counts what stands behind the first full synchronisation.
+/// The call that counts what comes after the first full synchronisation.
 const HUNTING: [&str; 1] = ["check"];
 
 /// A half synchronisation, a frame whose ID 16 is deferred by one byte, and a full synchronisation.

@@ -35,7 +35,7 @@ fn a_failed_read_leaves_the_lines_of_the_bytes_before(rt: HostRuntime) -> Result
         (BEGINS, 1, 9, Status::Done, BEGINS_TEXT),
         (&[0x01, 0x41], 2, 1, Status::ReadFault, "1 1 port 0 u8 41\n"),
         (&[], 1, 0, Status::ReadFault, ""),
-        // Nothing is read behind a fault.
+        // Nothing is read after a fault.
         (
             &[0x80, 0x01],
             1,
@@ -59,7 +59,7 @@ fn a_failed_read_leaves_the_lines_of_the_bytes_before(rt: HostRuntime) -> Result
     Ok(())
 }
 
-/// How many bytes of `BEGINS_TEXT` go out in so many writes of up to `piece` bytes: first the lines of
+/// How many bytes of `BEGINS_TEXT` go out in this many writes of up to `piece` bytes: first the lines of
 /// the items, before the read that finds the end, and then the end lines.
 fn written(writes: usize, piece: usize) -> usize
     requires { 0 < piece }

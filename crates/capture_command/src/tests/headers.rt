@@ -18,7 +18,7 @@ const TAILS: [&[u8]; 6] = [
 ];
 
 /// How many payload bytes the header may have, and nothing for a reserved one, as the standard's table of
-/// headers has them. Behind a byte 00 they are four more and 80.
+/// headers has them. After a byte 00 they are four more and 80.
 fn payload_lengths(header: u8) -> &'static [usize] {
     match (header >> 4, header & 15) {
         (0, 0) => &[5],
@@ -36,7 +36,7 @@ fn payload_lengths(header: u8) -> &'static [usize] {
     }
 }
 
-/// The header and so many payload bytes, the last of which says that none follows.
+/// The header and this many payload bytes, the last of which says that none follows.
 fn spelling(header: u8, length: usize) -> [u8; 7] {
     let mut bytes = [0x81; 7];
     bytes[0] = header;

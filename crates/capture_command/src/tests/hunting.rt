@@ -1,4 +1,4 @@
-//! Captures that may begin in the middle of a packet: what is skipped, the lock, and what is behind it.
+//! Captures that may begin in the middle of a packet: what is skipped, the lock, and what is after it.
 
 use super::{HUNTING, check};
 use crate::status::Status;
@@ -84,7 +84,7 @@ fn locks_at_the_first_synchronisation(rt: HostRuntime) -> Result<(), Fail> {
             "6 1 locked 1\n6 1 sync\n",
             "locked skipped 1 tail 0",
         ),
-        // but not behind the lock, where a later synchronisation is an item alone
+        // but not after the lock, where a later synchronisation is an item alone
         (
             &[0, 0, 0, 0, 0, 0x80, 0x03, 0, 0, 0, 0, 0, 0, 0, 0, 0, 0x80],
             "5 1 locked 0\n5 1 sync\n10 1 port 0 u32 00000000\n16 1 sync\n",

@@ -12,7 +12,7 @@ use trace_io::{MemorySink, MemorySource};
 /// Room for the bytes of two frames.
 const ROOM: usize = 32;
 
-/// A frame of data whose byte here names the ID, and a frame of data behind it.
+/// A frame of data whose byte here names the ID, and a frame of data after it.
 fn frames_with(index: usize, id: u8, deferred: bool) -> [u8; 32] {
     let mut bytes = [0; 32];
     for i in 0..15 {
@@ -28,7 +28,7 @@ fn frames_with(index: usize, id: u8, deferred: bool) -> [u8; 32] {
     bytes
 }
 
-/// The ID has all data behind the byte that names it, but for the next byte where it is deferred.
+/// The ID has all data after the byte that names it, but for the next byte where it is deferred.
 fn check_id(
     alloc: Global,
     rt: &impl Abort,

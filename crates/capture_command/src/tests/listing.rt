@@ -13,7 +13,7 @@ const RESERVED: [u8; 18] = [
     0xE4, 0xF4,
 ];
 
-/// Checks that a capture has no fault, has these lines, and ends with so many bytes of an unfinished packet.
+/// Checks that a capture has no fault, has these lines, and ends with this many bytes of an unfinished packet.
 fn check_lines(
     alloc: Global,
     rt: &impl Abort,

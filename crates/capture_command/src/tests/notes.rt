@@ -101,7 +101,7 @@ fn notes_the_last_bytes_up_to_a_fault(rt: HostRuntime) -> Result<(), Fail> {
     check_note(rt.alloc(), &rt, &HUNTING, &hunted, (&[], &[]), want)
 }
 
-/// So many bytes 00: a run that no packet ends.
+/// This many bytes 00: a run that no packet ends.
 #[derive(Drop)]
 struct Zeros {
     left: u64,

@@ -177,6 +177,36 @@ fn failed_reads_and_writes_leave_a_prefix(rt: HostRuntime) -> Result<(), Fail> {
 }
 
 #[test]
+fn a_split_ends_at_the_limit(rt: HostRuntime) -> Result<(), Fail> {
+    // The limit, and what is written and noted: the byte of the fault is the 18th.
+    let table: [(&str, Status, &[u8], &str); 3] = [
+        ("15", Status::Limit, b"", "limit 15\n"),
+        ("17", Status::Limit, b"abcdefghijklmn", "limit 17\n"),
+        (
+            "18",
+            Status::CaptureFault,
+            b"abcdefghijklmn",
+            "fault 17 port 1 BadSync\nlast 62636465666768696a6b6c6d6e00ff00\n",
+        ),
+    ];
+    for (limit, status, text, line) in table {
+        let mut room = [0; ROOM];
+        let mut line_room = [0; 2 * ROOM];
+        let mut input = MemorySource::new(BROKEN, &[], &[]);
+        let mut output = MemorySink::new(&mut room, &[], &[]);
+        let mut notes = MemorySink::new(&mut line_room, &[], &[]);
+        let words = [
+            "split", "--frames", "aligned", "--id", "1", "--limit", limit,
+        ];
+        let got = answer(rt.alloc(), &words, &mut input, &mut output, &mut notes)?;
+        assert_eq!(rt; got, status, "limit {limit}");
+        assert_eq!(rt; output.held(), text, "limit {limit}");
+        assert_eq!(rt; notes.held(), line.as_bytes(), "limit {limit}");
+    }
+    Ok(())
+}
+
+#[test]
 fn bare_bytes_are_those_of_source_1(rt: HostRuntime) -> Result<(), Fail> {
     let table: [(&str, &[u8]); 3] = [("1", b"\xff\0\x41"), ("0", b""), ("2", b"")];
     for (id, text) in table {

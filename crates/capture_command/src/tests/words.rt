@@ -1,6 +1,6 @@
 //! Words that are no call, and words in any order.
 
-use super::{ALIGNED, HUNTING, ROOM, answer};
+use super::{ALIGNED, HUNTING, ROOM, answer, check};
 use crate::status::Status;
 use std::alloc::{AllocError, Global};
 use std::process::Abort;
@@ -19,7 +19,7 @@ fn answer_to(
 ) -> Result<(Status, usize, usize, bool), AllocError> {
     let mut room = [0; ROOM];
     let mut note_room = [0; NOTE_ROOM];
-    let mut input = MemorySource::new(&[0x01, 0x41], &[], &[]);
+    let mut input = MemorySource::new(VALUE, &[], &[]);
     let mut output = MemorySink::new(&mut room, &[], &[]);
     let mut notes = MemorySink::new(&mut note_room, &[], &[]);
     let status = answer(alloc, words, &mut input, &mut output, &mut notes)?;
@@ -28,7 +28,7 @@ fn answer_to(
     Ok((status, output.held().len(), left, noted))
 }
 
-/// The words are answered with this status, so many bytes written and so many left, and this front of a note.
+/// The words are answered with this status, n bytes written and m left, and this front of a note.
 fn check_words(
     alloc: Global,
     rt: &impl Abort,
@@ -41,12 +41,27 @@ fn check_words(
     Ok(())
 }
 
+/// Two bytes: the letter `A`, written to port 0.
+const VALUE: &[u8] = &[0x01, 0x41];
+
+const LISTED: &str =
+    "1 1 port 0 u8 41\nend 2\nport bare skipped 0 tail 0 unattributed 0\n1 itm aligned skipped 0 tail 0\n";
+
+const SKIPPED: &str =
+    "end 2\nport bare skipped 0 tail 0 unattributed 0\n1 itm hunting skipped 2 tail 0\n";
+
+const HUNTED: &str =
+    "full 0\nhalf 0\nframes 0\nend 2\nport hunting skipped 2 tail 0 unattributed 0\n";
+
+const UNFINISHED: &str =
+    "full 0\nhalf 0\nframes 0\nend 2\nport aligned skipped 0 tail 2 unattributed 0\n";
+
 #[test]
 fn takes_options_in_any_order(rt: HostRuntime) -> Result<(), Fail> {
-    let table: [(&[&str], usize); 9] = [
-        (&ALIGNED, 96),
-        // two bytes that are skipped
-        (&HUNTING, 79),
+    // What is written for the two bytes of a value: its line, or that it is skipped; and what a port has of them.
+    let table: [(&[&str], &str); 9] = [
+        (&ALIGNED, LISTED),
+        (&HUNTING, SKIPPED),
         (
             &[
                 "--itm",
@@ -57,11 +72,11 @@ fn takes_options_in_any_order(rt: HostRuntime) -> Result<(), Fail> {
                 "--frames",
                 "bare",
             ],
-            96,
+            LISTED,
         ),
         (
             &["show", "--itm=1", "--packets=aligned", "--frames=bare"],
-            96,
+            LISTED,
         ),
         (
             &[
@@ -73,19 +88,19 @@ fn takes_options_in_any_order(rt: HostRuntime) -> Result<(), Fail> {
                 "1",
                 "show",
             ],
-            79,
+            SKIPPED,
         ),
         // options that the action does not use
         (
             &["split", "--id", "1", "--packets", "aligned", "--itm", "9"],
-            0,
+            "",
         ),
-        (&["split", "--frames", "bare", "--id", "1"], 2),
-        (&["check", "--id", "3"], 74),
-        (&["check", "--frames", "aligned"], 74),
+        (&["split", "--frames", "bare", "--id", "1"], "\x01A"),
+        (&["check", "--id", "3"], HUNTED),
+        (&["check", "--frames", "aligned"], UNFINISHED),
     ];
-    for (words, count) in table {
-        check_words(rt.alloc(), &rt, words, (Status::Done, count, 0), "")?;
+    for (words, text) in table {
+        check(rt.alloc(), &rt, words, VALUE, Status::Done, text)?;
     }
     Ok(())
 }

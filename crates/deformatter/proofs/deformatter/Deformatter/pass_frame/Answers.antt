@@ -4,7 +4,7 @@ use Rattle.trace_values.specs.Moded.{StandsIn}
 use Rattle.frame_grammar.specs.Frame.{id_after}
 use Rattle.frame_grammar.specs.Port.{Full, Frame, State, Spells, start, rule}
 use Rattle.port_sync.specs.Hunting.{pattern}
-use Rattle.deformatter.specs.Reading.{port_stream, id_in}
+use Rattle.deformatter.specs.Reading.{port_stream}
 use Rattle.deformatter.specs.Frames.{IsBetween, GrowsByFrame}
 use Rattle.deformatter.specs.Deformatter.{Stands, mode_of, state_of, is_live, is_hunter}
 use Rattle.deformatter.specs.declared.deformatter.Deformatter.{Deformatter}
