@@ -1,5 +1,5 @@
 -- A state counts the nibbles of the unfinished packet.
-use Rattle.std.proofs.Common.{◌≡◌, ℕ, ◌+◌, List, [], ◌∷◌, length, Bool, true, false, cond, refl, sym, ◌∙◌, ap, subst, inl, inr, arith}
+use Rattle.std.proofs.Common.{◌≡◌, ℕ, ◌+◌, ◌≤◌, List, [], ◌∷◌, length, Bool, true, false, cond, refl, sym, ◌∙◌, ap, subst, inl, inr, arith}
 use Rattle.std.specs.Prelude.{nat_lt, nat_le, ◌==◌, ◌&&◌}
 use Rattle.std.proofs.lemmas.Bool.Decides.{nat_tests}
 use Rattle.trace_values.specs.declared.fault.Reason.TheVariants.{BadAsync, StampSize}
@@ -15,7 +15,7 @@ use Rattle.stp_grammar.specs.declared.partial.Partial.{Partial}
 use Rattle.stp_grammar.specs.declared.partial.Partial.TheVariants.{Start, Second, Third, Run, Payload, Size, Word}
 use Rattle.stp_grammar.specs.Opcodes.{line_of, Opening, More, Refused}
 use Rattle.trace_clock.specs.LastWord.{nibble_count}
-use Rattle.stp_grammar.specs.Rule.{first_opening, second_opening, third_opening, rule, number_with, begin, opened, after_payload, count_of}
+use Rattle.stp_grammar.specs.Rule.{first_opening, second_opening, third_opening, rule, number_with, begin, opened, after_payload, count_of, held_after}
 use Rattle.stp_grammar.proofs.Openings.{IsRow, first_cases, second_cases, third_cases}
 
 -- a step that goes on counts one more
@@ -86,6 +86,16 @@ of_step n (Fail f) t e h = cc
 
 pub counts : (order : Order) (s t : Partial) (b : ℕ) → rule order s b ≡ Go t → count_of t ≡ count_of s + 1
 counts order s t b e = of_step (count_of s) (rule order s b) t e (all_count order s b)
+
+pub held_most : (order : Order) (s : Partial) (b : ℕ) → held_after (rule order s b) ≤ count_of s + 1
+held_most order s b = of_next (count_of s) (rule order s b) (all_count order s b) where
+  of_next : (n : ℕ) (x : Next Partial StpPacket) → CountsOn n x → held_after x ≤ n + 1
+  of_next n (Go t) h = omega (arith, h)
+  of_next n (End v) h = omega arith
+  of_next n (Fail e) h = omega arith
+
+pub held_by : (order : Order) (s t : Partial) (b : ℕ) (x : Next Partial StpPacket) → s ≡ t → x ≡ rule order t b → held_after x ≤ count_of s + 1
+held_by order s t b x e f = subst (λ z. held_after x ≤ count_of z + 1) (sym e) (subst (λ z. held_after z ≤ count_of t + 1) (sym f) (held_most order t b))
 
 pub counts_placed : (order : Order) (s t : Partial) (b : Placed) → rule order s b.unit ≡ Go t → count_of t ≡ count_of s + 1
 counts_placed order s t b e = counts order s t b.unit e

@@ -63,7 +63,7 @@ pub each : (P : Row → Type 0) → AllOf P rows → (row : Row) → P row
 each P a row = let k = numbered row in subst P k.1 (nth P rows (line_of row).number a k.0)
 
 -- and so is a test that each row passes
-passed : (t : Bool) {more : Bool} → (t && more) ≡ true → (t ≡ true) × (more ≡ true)
+pub passed : (t : Bool) {more : Bool} → (t && more) ≡ true → (t ≡ true) × (more ≡ true)
 passed true e = (refl, e)
 passed false e = cc
 

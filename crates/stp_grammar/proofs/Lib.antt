@@ -16,4 +16,5 @@ pub mod Beginning
 pub mod Numbers
 pub mod Attributing
 pub mod Fitting
+pub mod ShortSpellings
 pub mod Items

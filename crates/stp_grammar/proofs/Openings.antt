@@ -1,6 +1,7 @@
 -- Which rows opcodes begin.
 use Rattle.std.proofs.Common.{◌≡◌, ℕ, zero, suc, ◌+◌, ◌-◌, ◌<◌, ◌≤◌, List, [], ◌∷◌, ◌++◌, Bool, true, false, ◌&&◌, ◌==◌, refl, sym, ◌∙◌, ap, subst, ◌⊎◌, inl, inr, arith}
 use Rattle.std.specs.Prelude.{None}
+use Rattle.std.proofs.lemmas.List.{append-nil}
 use Rattle.std.proofs.lemmas.Bool.Decides.{nat_tests}
 use Rattle.trace_values.specs.declared.fault.Reason.TheVariants.{Unsupported, StampSize}
 use Rattle.stp_grammar.specs.declared.opcode.Head.TheVariants.{Whole as HeadWhole, More as HeadMore, Refused as HeadRefused}
@@ -8,7 +9,7 @@ use Rattle.stp_grammar.specs.declared.packet.Row.{Row}
 use Rattle.stp_grammar.specs.Opcodes.{rows, row_at, line_of, row_of, is_front, Opening, Whole as Opened, More, Refused, opening_by, opening_of, head_of}
 use Rattle.stp_grammar.specs.Spelling.{opening_fault, why}
 use Rattle.stp_grammar.specs.Rule.{first_opening, second_opening, third_opening}
-use Rattle.stp_grammar.proofs.EachRow.{AllOf, each}
+use Rattle.stp_grammar.proofs.EachRow.{AllOf, each, numbered}
 
 -- a fact of each number below a bound
 abbrev AllUnder : (ℕ → Type 0) → ℕ → Type 0
@@ -171,10 +172,54 @@ third_none c h = grind (arith, nat_tests)
 third_front : (c : ℕ) → IsNoThird c → is_front (15 ∷ (0 ∷ (c ∷ []))) ≡ false
 third_front c h = grind (arith, nat_tests)
 
-pub third_refused : (c : ℕ) → IsNoThird c → head_of (opening_of (15 ∷ (0 ∷ (c ∷ [])))) ≡ HeadRefused
+no_third : (c : ℕ) → IsNoThird c → opening_of (15 ∷ (0 ∷ (c ∷ []))) ≡ Refused
 unfolding opening_of
-third_refused c h =
-    ap (λ o. head_of (opening_by o (is_front (15 ∷ (0 ∷ (c ∷ [])))))) (third_none c h) ∙ ap (λ t. head_of (opening_by None t)) (third_front c h)
+no_third c h = ap (λ o. opening_by o (is_front (15 ∷ (0 ∷ (c ∷ []))))) (third_none c h) ∙ ap (opening_by None) (third_front c h)
+
+pub third_refused : (c : ℕ) → IsNoThird c → head_of (opening_of (15 ∷ (0 ∷ (c ∷ [])))) ≡ HeadRefused
+third_refused c h = ap head_of (no_third c h)
+
+-- what the rule takes nibbles under 16 for is what they begin by the table
+row_opening : (o : Opening) (r : List ℕ) → IsRow o r → opening_of r ≡ o
+row_opening o r (row, e, f) = ap opening_of (sym (append-nil r) ∙ ap (λ l. l ++ []) (sym f)) ∙ opens row [] ∙ sym e
+
+one_f : opening_of (15 ∷ []) ≡ More
+unfolding opening_of
+one_f = refl
+
+f_and_0 : opening_of (15 ∷ (0 ∷ [])) ≡ More
+unfolding opening_of
+f_and_0 = refl
+
+pub first_is : (a : ℕ) → a < 16 → opening_of (a ∷ []) ≡ first_opening a
+first_is a h = elim (first_cases a) [
+  | inl m ↦ row_opening (first_opening a) (a ∷ []) m
+  | inr m ↦ elim m [
+    | inl n ↦ ap (λ z. opening_of (z ∷ [])) n.0 ∙ one_f ∙ sym n.1
+    | inr n ↦ absurd (omega (arith, n.0))
+  ]
+]
+
+pub second_is : (b : ℕ) → b < 15 → opening_of (15 ∷ (b ∷ [])) ≡ second_opening b
+second_is b h = elim (second_cases b) [
+  | inl m ↦ row_opening (second_opening b) (15 ∷ (b ∷ [])) m
+  | inr m ↦ elim m [
+    | inl n ↦ ap (λ z. opening_of (15 ∷ (z ∷ []))) n.0 ∙ f_and_0 ∙ sym n.1
+    | inr n ↦ absurd (omega (arith, n.0))
+  ]
+]
+
+pub third_is : (c : ℕ) → opening_of (15 ∷ (0 ∷ (c ∷ []))) ≡ third_opening c
+third_is c = elim (third_cases c) [
+  | inl m ↦ row_opening (third_opening c) (15 ∷ (0 ∷ (c ∷ []))) m
+  | inr m ↦ no_third c m.0 ∙ sym m.1
+]
+
+-- the row whose number `opcode_of` answers
+pub head_row : (n : ℕ) (o : Opening) → HeadWhole n ≡ head_of o → (n < 35) × (o ≡ Opened (row_at n))
+head_row n (Opened row) e = (let k : n ≡ (line_of row).number = cc in let w = numbered row in (omega (arith, k, w.0), ap Opened (sym w.1 ∙ ap row_at (sym k))))
+head_row n More e = cc
+head_row n Refused e = cc
 
 pub first_fault : (a : ℕ) → first_opening a ≡ Refused → opening_fault (opening_of (a ∷ [])) ≡ Unsupported
 first_fault a e = elim (first_cases a) [

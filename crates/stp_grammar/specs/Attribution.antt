@@ -1,6 +1,6 @@
 -- What a packet is as an item: its place and its timestamp, by looking back over all packets up to it, itself included
--- (MIPI System Trace Protocol, version 2: master, channel and timestamp state; which packets change it, and how, is this
--- project's profile).
+-- (MIPI System Trace Protocol, version 2, where masters and channels hold for the packets after them, and timestamps
+-- may carry only low nibbles). Which packets tell what, and what versions 3 and 4 mean, is this project's profile.
 use Rattle.std.specs.Prelude.{ℕ, ◌+◌, ◌*◌, ◌/◌, ◌%◌, List, [], ◌∷◌, ◌++◌, Bool, false, ◌==◌, ◌||◌, if◌then◌else◌, Option, None, Some, unwrap_or}
 use Rattle.std.specs.Option.{is_some, option_or}
 use Rattle.std.specs.List.{list_any, filter_map, last_or, after_last}
@@ -53,18 +53,18 @@ begins_master p = is_some (version_in p)
 abbrev pub begins_channel : StpPacket → Bool
 begins_channel p = begins_master p || (is_some (master8_in p) || is_some (master16_in p))
 
--- A number of 16 bits by two payloads: of the last packet that tells all 16, which has its high 8 bits, and of the last that
--- tells all or the low 8, which has the low ones. Where there is no such packet, the bits are 0; but where nothing began the
--- number, and no packet told all of it, it is unknown.
+-- A number of 16 bits, by the payloads of the last packet that tells all of them, and of the last that tells all or the
+-- low 8: the high 8 bits are those of the one, and the low 8 those of the other. Where there is no such packet they are
+-- 0; but where no packet began the number, and none told all of it, it is unknown.
 abbrev pub number_by : Bool → Option ℕ → Option ℕ → Option ℕ
 number_by begun whole low =
     if begun || is_some whole then Some (unwrap_or whole 0 / 256 * 256 + unwrap_or low 0 % 256) else None
 
--- the number that packets tell since the last one that begins it anew, or from the start if there is none
+-- the number that packets tell after the last one that begins it anew, or from the start if there is none
 abbrev pub number_of : (StpPacket → Bool) → (StpPacket → Option ℕ) → (StpPacket → Option ℕ) → List StpPacket → Option ℕ
 number_of begins whole low packets =
-    let since = after_last begins packets in
-    number_by (list_any begins packets) (last_given whole since) (last_given (λ p. option_or (whole p) (low p)) since)
+    let later = after_last begins packets in
+    number_by (list_any begins packets) (last_given whole later) (last_given (λ p. option_or (whole p) (low p)) later)
 
 -- the version, the master and the channel in force after these packets; each may be unknown
 unfoldable pub version_of : List StpPacket → Option ℕ

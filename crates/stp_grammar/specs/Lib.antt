@@ -1,6 +1,7 @@
 pub mod Opcodes
 pub mod Spelling
 pub mod Proper
+pub mod Shortest
 pub mod Rule
 pub mod Attribution
 pub mod NextState

@@ -1,5 +1,5 @@
--- The table of opcodes (MIPI System Trace Protocol, version 2). Which packets are read, the lengths of their payloads, and that
--- other opcodes are refused, are this project's profile.
+-- The table of opcodes (MIPI System Trace Protocol, version 2). Which packets are read, how long their payloads are,
+-- and that other opcodes are refused, is this project's profile.
 use Rattle.std.specs.Prelude.{ℕ, List, [], ◌∷◌, Bool, true, false, nat_eq, ◌==◌, ◌||◌, if◌then◌else◌, get_or, Option, None, Some}
 use Rattle.std.specs.List.{find, list_any, list_all, starts_with}
 use Rattle.stp_grammar.specs.declared.opcode.Head.{Head}
@@ -8,8 +8,8 @@ use Rattle.stp_grammar.specs.declared.packet.Width.TheVariants.{Four, Eight, Six
 use Rattle.stp_grammar.specs.declared.packet.Row.{Row}
 use Rattle.stp_grammar.specs.declared.packet.Row.TheVariants.{Null, Master8, MasterError, Channel8, Datum, Flag, Master16, GlobalError, Channel16, Version, NullStamp, Trigger, Frequency}
 
--- a line of the table: the row's number, the opcode's nibbles, how many nibbles the payload has, and whether a timestamp
--- follows it
+-- a line of the table: the row's number, the opcode's nibbles, how many nibbles the payload has, and whether a
+-- timestamp follows it
 pub record Line : Type 0 where
   pub number : ℕ
   pub opcode : List ℕ
@@ -63,8 +63,9 @@ rows =
     Null ∷ Master8 ∷ MasterError ∷ Channel8 ∷ Datum Eight false false ∷ Datum Sixteen false false
     ∷ Datum ThirtyTwo false false ∷ Datum SixtyFour false false ∷ Datum Eight true true ∷ Datum Sixteen true true
     ∷ Datum ThirtyTwo true true ∷ Datum SixtyFour true true ∷ Datum Four false false ∷ Datum Four true true ∷ Flag true
-    ∷ Master16 ∷ GlobalError ∷ Channel16 ∷ Datum Eight false true ∷ Datum Sixteen false true ∷ Datum ThirtyTwo false true
-    ∷ Datum SixtyFour false true ∷ Datum Eight true false ∷ Datum Sixteen true false ∷ Datum ThirtyTwo true false
+    ∷ Master16 ∷ GlobalError ∷ Channel16 ∷ Datum Eight false true ∷ Datum Sixteen false true
+    ∷ Datum ThirtyTwo false true ∷ Datum SixtyFour false true ∷ Datum Eight true false ∷ Datum Sixteen true false
+    ∷ Datum ThirtyTwo true false
     ∷ Datum SixtyFour true false ∷ Datum Four false true ∷ Datum Four true false ∷ Flag false ∷ Version ∷ NullStamp
     ∷ Trigger false ∷ Trigger true ∷ Frequency false ∷ Frequency true ∷ []
 

@@ -44,7 +44,8 @@ IsProperItem AsyncItem = Unit {0}
 IsProperItem (Version version) = version < 2 ^ 4
 IsProperItem (MasterError place code) = IsProperPlace place × (code < 2 ^ 8)
 IsProperItem (GlobalError code) = code < 2 ^ 8
-IsProperItem (Datum place width value marked stamp) = IsProperPlace place × (value < 2 ^ bits_of width) × IsProperStamp stamp
+IsProperItem (Datum place width value marked stamp) =
+    IsProperPlace place × (value < 2 ^ bits_of width) × IsProperStamp stamp
 IsProperItem (Flag place stamp) = IsProperPlace place × IsProperStamp stamp
 IsProperItem (Trigger code stamp) = (code < 2 ^ 8) × IsProperStamp stamp
 IsProperItem (Frequency hertz stamp) = (hertz < 2 ^ 32) × IsProperStamp stamp

@@ -1,5 +1,5 @@
--- Which lists of nibbles spell a packet (MIPI System Trace Protocol, version 2). Opcodes, lengths of payloads and sizes of
--- timestamps are this project's profile.
+-- Which lists of nibbles spell a packet (MIPI System Trace Protocol, version 2). Which opcodes there are, how long
+-- payloads are, and which sizes timestamps have, is this project's profile.
 use Rattle.std.specs.Prelude.{◌≡◌, ℕ, ◌+◌, ◌*◌, ◌^◌, ◌<◌, ◌≤◌, List, [], ◌∷◌, ◌++◌, length, replicate, Bool, true, false, ◌==◌, ◌&&◌, if◌then◌else◌}
 use Rattle.trace_values.specs.declared.fault.Reason.{Reason}
 use Rattle.trace_values.specs.declared.fault.Reason.TheVariants.{Unsupported, StampSize, BadAsync}
@@ -22,8 +22,8 @@ abbrev pub IsNumber : Order → ℕ → ℕ → List ℕ → Type 0
 IsNumber order count value r = (length r ≡ count) × (value ≡ number order r)
 
 -- ASYNC, the synchronisation packet: at least 21 nibbles F, then 0.
--- Any other packet: its row's opcode, then the payload; where a timestamp follows, then a size nibble under 15, and the word
--- in its size's nibbles.
+-- Any other packet: its row's opcode, then the payload; and where a timestamp follows, then a size nibble under 15, and
+-- the word in the nibbles of that size: 0 to 12 nibbles for these sizes, 14 for size 13, and 16 for size 14.
 abbrev pub Spells : Order → StpPacket → List ℕ → Type 0
 Spells order Async r = (count : ℕ) × (21 ≤ count) × (r ≡ replicate count 15 ++ 0 ∷ [])
 Spells order (Plain row payload) r =
@@ -33,8 +33,8 @@ Spells order (Stamped row payload size word) r =
     (p : List ℕ) × (w : List ℕ) × ((line_of row).stamped ≡ true) × IsNumber order (line_of row).payload payload p
     × (size < 15) × IsNumber order (nibble_count size) word w × (r ≡ (line_of row).opcode ++ (p ++ (size ∷ w)))
 
--- Why no packet goes on so. What faults there are is this project's profile.
--- F F begins only an ASYNC.
+-- Why no packet goes on so: F F begins only an ASYNC, an opcode may be none of the table, and after an opcode only the
+-- size of a timestamp can be a fault. What faults there are is this project's profile.
 abbrev pub is_extended : List ℕ → Bool
 is_extended [] = false
 is_extended (a ∷ r) = a == 15
@@ -43,7 +43,6 @@ abbrev pub begins_async : List ℕ → Bool
 begins_async [] = false
 begins_async (a ∷ r) = a == 15 && is_extended r
 
--- after a whole opcode only a size nibble can be a fault
 abbrev pub opening_fault : Opening → Reason
 opening_fault (Whole row) = StampSize
 opening_fault More = Unsupported

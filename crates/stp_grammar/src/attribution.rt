@@ -89,6 +89,21 @@ impl Attribution {
         }
     }
 
+    /// What is kept after a VERSION, whatever was before it: master, channel and last word are 0.
+    #[inline]
+    fn after_version(version: u8) -> Attribution
+        ensures version { result.version ≡ Some version }
+        ensures place { (result.master ≡ Some 0) × (result.channel ≡ Some 0) }
+        ensures last { result.last ≡ 0 }
+    {
+        Attribution {
+            version: Some(version),
+            master: Some(0),
+            channel: Some(0),
+            last: 0,
+        }
+    }
+
     /// The version that the last VERSION named.
     #[inline]
     pub fn version(&self) -> Option<u8>
@@ -131,7 +146,7 @@ impl Attribution {
         self.channel = Some(0);
     }
 
-    /// Keeps what a packet without a timestamp tells. An error, of a master or of none, tells nothing of the next items.
+    /// Keeps what a packet without a timestamp tells. An error, of a master or of none, tells nothing of other items.
     #[inline]
     fn note(&mut self, row: Row, payload: u64)
         requires fits { payload < 16 ^ (line_of row).payload }
@@ -141,14 +156,7 @@ impl Attribution {
         ensures last { self.new.last ≡ next_last self.old.version self.old.last (Plain row payload) }
     {
         match row {
-            Row::Version => {
-                *self = Attribution {
-                    version: Some(payload as u8),
-                    master: Some(0),
-                    channel: Some(0),
-                    last: 0,
-                }
-            }
+            Row::Version => *self = Attribution::after_version(payload as u8),
             Row::Master8 => self.set_master(with_low_byte(self.master, payload as u8)),
             Row::Master16 => self.set_master(Some(payload as u16)),
             Row::Channel8 => self.channel = with_low_byte(self.channel, payload as u8),

@@ -16,6 +16,7 @@ ghost use Rattle.stp_grammar.specs.Opcodes.{line_of, row_at, Whole, opening_of};
 ghost use Rattle.stp_grammar.specs.Spelling.{Spells, why};
 ghost use Rattle.stp_grammar.specs.Rule.{rule, count_of};
 ghost use Rattle.stp_grammar.specs.Proper.{IsProper, IsProperItem};
+ghost use Rattle.stp_grammar.specs.Shortest.{IsByRow, HasShortest};
 ghost use Rattle.stp_grammar.specs.Attribution.{version_of, master_of, channel_of, last_word_of, item_of};
 ghost use Rattle.stp_grammar.specs.NextState.{next_version, next_master, next_channel, next_last};
 
@@ -72,10 +73,18 @@ pub fn opcode_law()
     ensures opcode { (row : Row) (r : List ℕ) → opening_of ((line_of row).opcode ++ r) ≡ Whole row }
 {}
 
-/// What nibbles spell has its numbers in their ranges, and so has the item of such a packet after such packets.
+/// What nibbles spell has its numbers in their ranges and a timestamp exactly where its row has one, and the item of a
+/// packet with its numbers in their ranges, after such packets, has its numbers in theirs.
 pub fn proper_law()
     ensures packet { (order : Order) (p : StpPacket) (r : List ℕ) → Spells order p r → All (λ b. b < 16) r →
         IsProper p }
+    ensures row { (order : Order) (p : StpPacket) (r : List ℕ) → Spells order p r → IsByRow p }
     ensures item { (packets : List StpPacket) (p : StpPacket) → All IsProper packets → IsProper p →
         ForSome (item_of packets p) IsProperItem }
+{}
+
+/// In both orders each packet with its numbers in their ranges, and a timestamp exactly where its row has one, has a
+/// spelling, and this is the shortest.
+pub fn shortest_law()
+    ensures { (order : Order) (p : StpPacket) → IsProper p → IsByRow p → HasShortest order p }
 {}

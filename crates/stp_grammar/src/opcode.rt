@@ -1,4 +1,5 @@
-//! The table of opcodes.
+//! The table of opcodes (MIPI System Trace Protocol, version 2; which of them are read, with which payloads, is this
+//! project's profile).
 
 ghost use Rattle.std.specs.Prelude.{◌≡◌, ◌<◌, ◌≤◌, ◌+◌, [], ◌∷◌, length, true};
 ghost use Rattle.stp_grammar.specs.declared.packet.Row.TheVariants.{Datum};
@@ -19,7 +20,7 @@ fn datum(width: Width, marked: bool, stamped: bool) -> Row
     }
 }
 
-/// The row of this number.
+/// The row of this number, 0 to 34.
 #[inline]
 pub fn row_at(number: u8) -> Row
     requires { number < 35 }
@@ -64,19 +65,20 @@ pub fn row_at(number: u8) -> Row
     }
 }
 
-/// What nibbles begin.
+/// What the first nibbles of a packet begin.
 #[derive(Clone, Copy, Debug, PartialEq, Eq, Drop)]
 pub enum Head {
     /// The opcode of the row of this number.
     Whole(u8),
-    /// The front of an opcode, or of a synchronisation packet.
+    /// They are a front of an opcode, or of ASYNC.
     More,
-    /// Neither.
+    /// No packet begins so.
     Refused,
 }
 
-/// By the nibble after F and 0.
-#[tactic(auto, using(crate::proofs::Openings::third_head, crate::proofs::Openings::last_head, crate::proofs::Openings::third_refused))]
+/// What F, 0 and this nibble begin.
+#[tactic(auto, using(crate::proofs::Openings::third_head, crate::proofs::Openings::last_head, crate::proofs::Openings::third_refused,))]
+#[inline]
 fn third_head(nibble: u8) -> Head
     requires { nibble < 16 }
     ensures { result ≡ head_of (opening_of (15 ∷ (0 ∷ (nibble ∷ [])))) }
@@ -88,8 +90,9 @@ fn third_head(nibble: u8) -> Head
     }
 }
 
-/// By the nibble after F, and the next where it is given.
-#[tactic(auto, using(crate::proofs::Openings::second_head, crate::proofs::Openings::heads_more, crate::proofs::Openings::run_refused))]
+/// What F and this nibble begin, with the next where it is given.
+#[tactic(auto, using(crate::proofs::Openings::second_head, crate::proofs::Openings::heads_more, crate::proofs::Openings::run_refused,))]
+#[inline]
 fn second_head(nibble: u8, next: Option<u8>) -> Head
     requires nibble { nibble < 16 }
     requires next { ForSome next (λ c. c < 16) }
@@ -113,6 +116,7 @@ fn second_head(nibble: u8, next: Option<u8>) -> Head
 /// What one to three nibbles begin, by the table of opcodes: the opcode of a row, whatever follows it; a front of an
 /// opcode or of ASYNC (F, F 0, F F and F F F); or neither.
 #[tactic(auto, using(crate::proofs::Openings::first_head, crate::proofs::Openings::heads_more))]
+#[inline]
 pub fn opcode_of(first: u8, second: Option<u8>, third: Option<u8>) -> Head
     requires first { first < 16 }
     requires second { ForSome second (λ b. b < 16) }

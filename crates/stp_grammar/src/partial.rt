@@ -3,12 +3,14 @@
 ghost use Rattle.std.specs.Prelude.{◌≡◌, ◌<◌, ◌≤◌, ◌+◌, ◌*◌, ◌^◌, true};
 ghost use Rattle.stp_grammar.specs.declared.packet.Order.TheVariants.{Msn};
 ghost use Rattle.stp_grammar.specs.declared.partial.Partial.TheVariants.{Start, Second, Third};
-ghost use Rattle.stp_grammar.specs.Opcodes.{line_of};
+ghost use Rattle.stp_grammar.specs.Opcodes.{line_of, Opening, head_of};
 ghost use Rattle.trace_clock.specs.LastWord.{nibble_count};
-ghost use Rattle.stp_grammar.specs.Rule.{rule, begin as begun, after_payload as after_all, run_with as run_and, payload_with as payload_and, size_with as size_and, word_with as word_and, is_sound, IsSoundNext, StopsProperly, count_of, held_after};
+ghost use Rattle.stp_grammar.specs.Rule.{rule, begin as begun, after_payload as after_all, opened as opened_by};
+ghost use Rattle.stp_grammar.specs.Rule.{run_with as run_and, payload_with as payload_and, size_with as size_and};
+ghost use Rattle.stp_grammar.specs.Rule.{word_with as word_and, is_sound, IsSoundNext, StopsProperly, count_of, held_after};
 
 use crate::nibble::number_with;
-use crate::opcode::row_at;
+use crate::opcode::{Head, opcode_of, row_at};
 use crate::packet::{Order, Row, StpPacket};
 use trace_clock::word_nibbles;
 use trace_values::{Next, Reason};
@@ -78,47 +80,57 @@ fn begin(row: Row) -> Next<Partial, StpPacket>
     }
 }
 
+/// After nibbles of an opcode, which begin this, with the state where they are only a front.
+#[inline]
+fn opened(head: Head, front: Partial) -> Next<Partial, StpPacket>
+    requires known { (opening : Opening) × (head ≡ head_of opening) }
+    requires sound { is_sound front ≡ true }
+    ensures next { (opening : Opening) → head ≡ head_of opening → result ≡ opened_by opening front }
+    ensures sound { IsSoundNext result }
+    ensures proper { StopsProperly result }
+{
+    match head {
+        Head::Whole(number) => begin(row_at(number)),
+        Head::More => Next::Go(front),
+        Head::Refused => Next::Fail(Reason::Unsupported),
+    }
+}
+
 /// The first nibble of a packet.
 #[inline]
 fn first(nibble: u8) -> Next<Partial, StpPacket>
+    requires { nibble < 16 }
     ensures next { result ≡ rule Msn Start nibble }
     ensures sound { IsSoundNext result }
     ensures proper { StopsProperly result }
 {
-    match nibble {
-        0..=14 => begin(row_at(nibble)),
-        15 => Next::Go(Partial::Second),
-        _ => Next::Fail(Reason::Unsupported),
-    }
+    opened(opcode_of(nibble, None, None), Partial::Second)
 }
 
-/// The nibble after F.
+/// The nibble after F: with another F the packet can only be an ASYNC.
 #[inline]
 fn second(nibble: u8) -> Next<Partial, StpPacket>
+    requires { nibble < 16 }
     ensures next { result ≡ rule Msn Second nibble }
     ensures sound { IsSoundNext result }
     ensures proper { StopsProperly result }
 {
-    match nibble {
-        0 => Next::Go(Partial::Third),
-        1..=14 => begin(row_at(14 + nibble)),
-        15 => Next::Go(Partial::Run(2)),
-        _ => Next::Fail(Reason::Unsupported),
+    if nibble == 15 {
+        Next::Go(Partial::Run(2))
+    } else {
+        opened(opcode_of(15, Some(nibble), None), Partial::Third)
     }
 }
 
 /// The nibble after F and 0.
 #[inline]
 fn third(nibble: u8) -> Next<Partial, StpPacket>
+    requires { nibble < 16 }
     ensures next { result ≡ rule Msn Third nibble }
     ensures sound { IsSoundNext result }
     ensures proper { StopsProperly result }
 {
-    match nibble {
-        0..=1 => begin(row_at(29 + nibble)),
-        6..=9 => begin(row_at(25 + nibble)),
-        _ => Next::Fail(Reason::Unsupported),
-    }
+    opened(opcode_of(15, Some(0), Some(nibble)), Partial::Third)
 }
 
 /// A nibble after this many nibbles F.
@@ -224,6 +236,7 @@ impl Partial {
         ensures next { result ≡ rule order self nibble }
         ensures sound { IsSoundNext result }
         ensures proper { StopsProperly result }
+        ensures held { held_after result ≤ count_of self + 1 }
     {
         match self {
             Partial::Start => first(nibble),

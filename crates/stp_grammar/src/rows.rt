@@ -5,13 +5,16 @@ ghost use Rattle.trace_values.specs.declared.fault.Reason.TheVariants.{Unsupport
 ghost use Rattle.trace_values.specs.Walk.{Whole, Within};
 ghost use Rattle.stp_grammar.specs.declared.packet.Width.TheVariants.{Four, Eight, Sixteen, ThirtyTwo, SixtyFour};
 ghost use Rattle.stp_grammar.specs.declared.packet.Order.TheVariants.{Msn, Lsn};
-ghost use Rattle.stp_grammar.specs.declared.packet.Row.TheVariants.{Null, Datum, Flag};
+ghost use Rattle.stp_grammar.specs.declared.packet.Row.TheVariants.{Null, Datum, Flag, Master16};
 ghost use Rattle.stp_grammar.specs.declared.packet.StpPacket.TheVariants.{Async, Plain, Stamped};
 ghost use Rattle.stp_grammar.specs.declared.partial.Partial.TheVariants.{Word};
 ghost use Rattle.stp_grammar.specs.declared.item.Stamp.TheVariants.{None as NoStamp, Natural, Gray, Raw};
-ghost use Rattle.stp_grammar.specs.declared.item.StpItem.TheVariants.{Async as AsyncItem, Version as VersionItem, MasterError as MasterErrorItem, Datum as DatumItem, Flag as FlagItem};
+ghost use Rattle.stp_grammar.specs.declared.item.StpItem.TheVariants.{Async as AsyncItem, Version as VersionItem};
+ghost use Rattle.stp_grammar.specs.declared.item.StpItem.TheVariants.{MasterError as MasterErrorItem};
+ghost use Rattle.stp_grammar.specs.declared.item.StpItem.TheVariants.{Datum as DatumItem, Flag as FlagItem};
 ghost use Rattle.stp_grammar.specs.declared.opcode.Head.TheVariants.{More, Refused};
 ghost use Rattle.stp_grammar.specs.Opcodes.{head_of, opening_of};
+ghost use Rattle.stp_grammar.specs.Shortest.{short};
 ghost use Rattle.stp_grammar.specs.Rows.{nibbles, line_row, walk_row, packet_row, item_row, end_row};
 
 /// The opcodes of one nibble: the row's number, how many nibbles the payload has, and whether a timestamp follows.
@@ -73,7 +76,8 @@ pub fn no_opcodes()
         (codes "F02" ∷ codes "F03" ∷ codes "F04" ∷ codes "F05" ∷ codes "F0A" ∷ codes "F0B" ∷ codes "F0C" ∷ codes "F0D"
         ∷ codes "F0E" ∷ codes "F0F" ∷ []) ≡
         Refused ∷ Refused ∷ Refused ∷ Refused ∷ Refused ∷ Refused ∷ Refused ∷ Refused ∷ Refused ∷ Refused ∷ [] }
-    ensures no_async { map (λ text. head_of (opening_of (nibbles text))) (codes "FF0" ∷ codes "FF1" ∷ codes "FFE" ∷ []) ≡
+    ensures no_async { map (λ text. head_of (opening_of (nibbles text)))
+        (codes "FF0" ∷ codes "FF1" ∷ codes "FFE" ∷ []) ≡
         Refused ∷ Refused ∷ Refused ∷ [] }
 {}
 
@@ -81,7 +85,8 @@ pub fn no_opcodes()
 pub fn synchronisations()
     ensures twenty { end_row Msn (codes "FF FF FF FF FF FF FF FF FF FF F0") ≡ (22, Some (10, 0, BadAsync)) }
     ensures twenty_one { packet_row Msn (codes "FF FF FF FF FF FF FF FF FF FF 0F") ≡ (Async, 10, 1) ∷ [] }
-    ensures twenty_two { packet_row Lsn (codes "FF FF FF FF FF FF FF FF FF FF FF 00") ≡ (Async, 11, 0) ∷ (Plain Null 0, 11, 1) ∷ [] }
+    ensures twenty_two { packet_row Lsn (codes "FF FF FF FF FF FF FF FF FF FF FF 00") ≡
+        (Async, 11, 0) ∷ (Plain Null 0, 11, 1) ∷ [] }
     ensures unfinished { end_row Msn (codes "FF FF FF FF FF FF FF FF FF FF FF FF") ≡ (24, None) }
 {}
 
@@ -112,10 +117,14 @@ pub fn stamps_msn()
     ensures size_11_most { walk_row Msn (codes "EBFFFFFFFFFFF") ≡ Whole (Stamped (Flag true) 0 11 17592186044415) }
     ensures size_12_one { walk_row Msn (codes "EC000000000001") ≡ Whole (Stamped (Flag true) 0 12 1) }
     ensures size_12_most { walk_row Msn (codes "ECFFFFFFFFFFFF") ≡ Whole (Stamped (Flag true) 0 12 281474976710655) }
-    ensures size_13_one { walk_row Msn (codes "ED00000000000001") ≡ Whole (Stamped (Flag true) 0 13 1) }
-    ensures size_13_most { walk_row Msn (codes "EDFFFFFFFFFFFFFF") ≡ Whole (Stamped (Flag true) 0 13 72057594037927935) }
-    ensures size_14_one { walk_row Msn (codes "EE0000000000000001") ≡ Whole (Stamped (Flag true) 0 14 1) }
-    ensures size_14_most { walk_row Msn (codes "EEFFFFFFFFFFFFFFFF") ≡ Whole (Stamped (Flag true) 0 14 18446744073709551615) }
+    ensures size_13_one { walk_row Msn (codes "ED00000000000001") ≡
+        Whole (Stamped (Flag true) 0 13 1) }
+    ensures size_13_most { walk_row Msn (codes "EDFFFFFFFFFFFFFF") ≡
+        Whole (Stamped (Flag true) 0 13 72057594037927935) }
+    ensures size_14_one { walk_row Msn (codes "EE0000000000000001") ≡
+        Whole (Stamped (Flag true) 0 14 1) }
+    ensures size_14_most { walk_row Msn (codes "EEFFFFFFFFFFFFFFFF") ≡
+        Whole (Stamped (Flag true) 0 14 18446744073709551615) }
     ensures unfinished { walk_row Msn (codes "ED0000000000001") ≡ Within (Word (Flag true) 0 13 13 1) }
 {}
 
@@ -146,15 +155,19 @@ pub fn stamps_lsn()
     ensures size_11_most { walk_row Lsn (codes "EBFFFFFFFFFFF") ≡ Whole (Stamped (Flag true) 0 11 17592186044415) }
     ensures size_12_one { walk_row Lsn (codes "EC100000000000") ≡ Whole (Stamped (Flag true) 0 12 1) }
     ensures size_12_most { walk_row Lsn (codes "ECFFFFFFFFFFFF") ≡ Whole (Stamped (Flag true) 0 12 281474976710655) }
-    ensures size_13_one { walk_row Lsn (codes "ED10000000000000") ≡ Whole (Stamped (Flag true) 0 13 1) }
-    ensures size_13_most { walk_row Lsn (codes "EDFFFFFFFFFFFFFF") ≡ Whole (Stamped (Flag true) 0 13 72057594037927935) }
-    ensures size_14_one { walk_row Lsn (codes "EE1000000000000000") ≡ Whole (Stamped (Flag true) 0 14 1) }
-    ensures size_14_most { walk_row Lsn (codes "EEFFFFFFFFFFFFFFFF") ≡ Whole (Stamped (Flag true) 0 14 18446744073709551615) }
+    ensures size_13_one { walk_row Lsn (codes "ED10000000000000") ≡
+        Whole (Stamped (Flag true) 0 13 1) }
+    ensures size_13_most { walk_row Lsn (codes "EDFFFFFFFFFFFFFF") ≡
+        Whole (Stamped (Flag true) 0 13 72057594037927935) }
+    ensures size_14_one { walk_row Lsn (codes "EE1000000000000000") ≡
+        Whole (Stamped (Flag true) 0 14 1) }
+    ensures size_14_most { walk_row Lsn (codes "EEFFFFFFFFFFFFFFFF") ≡
+        Whole (Stamped (Flag true) 0 14 18446744073709551615) }
     ensures unfinished { walk_row Lsn (codes "EE100000000000000") ≡ Within (Word (Flag true) 0 14 15 1) }
 {}
 
 /// Captures, and their items with the offsets and halves of their last nibbles.
-#[tactic(auto, unfolding(crate::specs::Attribution::version_of, crate::specs::Attribution::master_of, crate::specs::Attribution::channel_of, crate::specs::Attribution::last_word_of))]
+#[tactic(auto, unfolding(crate::specs::Attribution::version_of, crate::specs::Attribution::master_of, crate::specs::Attribution::channel_of, crate::specs::Attribution::last_word_of,))]
 pub fn items()
     ensures datum { item_row Msn (codes "FF FF FF FF FF FF FF FF FF FF 0F 0F 30 44 01") ≡
         (AsyncItem, 10, 1) ∷ (VersionItem 3, 12, 1)
@@ -169,14 +182,58 @@ pub fn items()
         × (end_row Msn (codes "F7 FF FF FF FF FF FF FF FF FF FF FF FF FF FF FF FF FF FF F0 00 04") ≡ (0, None)) }
 {}
 
+/// Masters and channels: C8 tells nothing of an unknown channel, and M8 nothing of an unknown master, but begins the
+/// channel; the low 8 bits of known ones; all 16, which an error leaves as they are.
+#[tactic(auto, unfolding(crate::specs::Attribution::version_of, crate::specs::Attribution::master_of, crate::specs::Attribution::channel_of, crate::specs::Attribution::last_word_of,))]
+pub fn places()
+    ensures low_channel { item_row Msn (codes "03 45 14") ≡
+        (DatumItem (record { master = None; channel = None }) Eight 65 false NoStamp, 2, 1) ∷ [] }
+    ensures low_master { item_row Msn (codes "01 45 14") ≡
+        (DatumItem (record { master = None; channel = Some 0 }) Eight 65 false NoStamp, 2, 1) ∷ [] }
+    ensures low { item_row Msn (codes "0F 30 01 37 90 44 01") ≡
+        (VersionItem 3, 1, 1)
+        ∷ (DatumItem (record { master = Some 7; channel = Some 9 }) Eight 65 false NoStamp, 6, 0) ∷ [] }
+    ensures whole { item_row Msn (codes "1F 21 43 3F 65 87 02 C9 07") ≡
+        (MasterErrorItem (record { master = Some 4660; channel = Some 22136 }) 9, 7, 0)
+        ∷ (DatumItem (record { master = Some 4660; channel = Some 22136 }) Four 7 false NoStamp, 8, 0) ∷ [] }
+{}
+
+/// Natural timestamps, of which the second has only the low nibble; the same after another VERSION; and raw ones, under
+/// no version and under version 5.
+#[tactic(auto, unfolding(crate::specs::Attribution::version_of, crate::specs::Attribution::master_of, crate::specs::Attribution::channel_of, crate::specs::Attribution::last_word_of, trace_clock::specs::LastWord::last_word,))]
+pub fn natural_stamps()
+    ensures natural { item_row Msn (codes "0F 30 4E 21 43 1E 05") ≡
+        (VersionItem 3, 1, 1)
+        ∷ (FlagItem (record { master = Some 0; channel = Some 0 }) (Natural 4660), 4, 1)
+        ∷ (FlagItem (record { master = Some 0; channel = Some 0 }) (Natural 4661), 6, 0) ∷ [] }
+    ensures anew { item_row Msn (codes "0F 30 4E 21 43 0F 30 1E 05") ≡
+        (VersionItem 3, 1, 1)
+        ∷ (FlagItem (record { master = Some 0; channel = Some 0 }) (Natural 4660), 4, 1)
+        ∷ (VersionItem 3, 6, 1)
+        ∷ (FlagItem (record { master = Some 0; channel = Some 0 }) (Natural 5), 8, 0) ∷ [] }
+    ensures no_version { item_row Msn (codes "2E BA") ≡
+        (FlagItem (record { master = None; channel = None }) (Raw 2 171), 1, 1) ∷ [] }
+    ensures other_version { item_row Msn (codes "0F 50 2E BA") ≡
+        (VersionItem 5, 1, 1) ∷ (FlagItem (record { master = Some 0; channel = Some 0 }) (Raw 2 171), 3, 1) ∷ [] }
+{}
+
 /// Gray timestamps: the first has a whole word, the second none, and the third its low 14 nibbles.
-#[tactic(auto, unfolding(crate::specs::Attribution::version_of, crate::specs::Attribution::master_of, crate::specs::Attribution::channel_of, crate::specs::Attribution::last_word_of, trace_clock::specs::LastWord::last_word, trace_clock::specs::GrayCode::natural_of))]
+#[tactic(auto, unfolding(crate::specs::Attribution::version_of, crate::specs::Attribution::master_of, crate::specs::Attribution::channel_of, crate::specs::Attribution::last_word_of, trace_clock::specs::LastWord::last_word, trace_clock::specs::GrayCode::natural_of,))]
 pub fn gray_stamps()
     ensures { item_row Msn (codes "0F 40 EE 08 00 00 00 00 00 00 00 0E DE 00 00 00 00 00 00 10") ≡
         (VersionItem 4, 1, 1)
         ∷ (FlagItem (record { master = Some 0; channel = Some 0 }) (Gray 18446744073709551615), 10, 1)
         ∷ (FlagItem (record { master = Some 0; channel = Some 0 }) (Gray 18446744073709551615), 11, 1)
         ∷ (FlagItem (record { master = Some 0; channel = Some 0 }) (Gray 18446744073709551614), 19, 1) ∷ [] }
+{}
+
+/// The shortest spellings of packets.
+pub fn shortest()
+    ensures sync { short Lsn Async ≡ nibbles (codes "FFFFFFFFFFFFFFFFFFFFF0") }
+    ensures master { short Msn (Plain Master16 4660) ≡ nibbles (codes "F11234") }
+    ensures other_master { short Lsn (Plain Master16 4660) ≡ nibbles (codes "F14321") }
+    ensures datum { short Msn (Stamped (Datum Eight false true) 66 1 5) ≡ nibbles (codes "F44215") }
+    ensures other_datum { short Lsn (Stamped (Datum Eight false true) 66 13 5) ≡ nibbles (codes "F424D50000000000000") }
 {}
 
 /// Captures with a fault: how many nibbles are not of a packet, and the fault's offset, half and reason.
