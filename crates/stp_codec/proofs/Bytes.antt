@@ -85,9 +85,10 @@ grows_faulty order h u at byte s f e g =
 pub faulty_list : (d : StpDecoder) (u : List Placed) (at byte : ℕ) → d.live ≡ false → StandsAt d (nibbles_of u ++ low_of at byte ∷ []) → Stands d (u ++ byte_at at byte ∷ [])
 faulty_list d u at byte l s =
     let m = nibbles_of u ++ low_of at byte ∷ [] in
-    subst (StandsAt d) (sym (nibbles_push u at byte))
-    (modes.dead-list pattern Async (by_unit (rule d.order)) Start d.mode d.live d.partial m (high_of at byte ∷ []) l s.0,
-    subst (Attributes d.attribution) (sym (ap (λ g. carried attribute [] g) (modes.settles pattern Async (by_unit (rule d.order)) Start (hunts d.mode) m (high_of at byte ∷ []) (fault_is d m l s)).given)) s.1)
+    subst (StandsAt d) (sym (nibbles_push u at byte)) (
+      modes.dead-list pattern Async (by_unit (rule d.order)) Start d.mode d.live d.partial m (high_of at byte ∷ []) l s.0,
+      subst (Attributes d.attribution) (sym (ap (λ g. carried attribute [] g) (modes.settles pattern Async (by_unit (rule d.order)) Start (hunts d.mode) m (high_of at byte ∷ []) (fault_is d m l s)).given)) s.1,
+    )
   where
     fault_is : (d : StpDecoder) (m : List Placed) → d.live ≡ false → StandsAt d m → is_none (packets_in d.order (hunts d.mode) m).fault ≡ false
     fault_is d m l s = sym (modes.shows pattern Async (by_unit (rule d.order)) Start count_of refl (counts_placed d.order) d.mode d.live d.partial m s.0).live_is ∙ l
@@ -110,8 +111,7 @@ module _ (order : Order) (h : Bool) (n : List Placed) (at byte : ℕ) where
   high_answer s t order' h' small same (inr e) a b = absurd (subst Low e a)
   high_answer s t order' h' small same (inl e) a b =
       let m = n ++ low_of at byte ∷ [] in
-      let g : High order h t = subst (λ (o : Order). High o h t) same.0 (subst (λ (x : Bool). High order' x t) same.1 b) in
-      (
+      let g : High order h t = subst (λ (o : Order). High o h t) same.0 (subst (λ (x : Bool). High order' x t) same.1 b) in (
         Quiet,
         packets_of order h m,
         rest_in order h m,
@@ -127,8 +127,7 @@ module _ (order : Order) (h : Bool) (n : List Placed) (at byte : ℕ) where
   low_answer s t order' h' small same (inr g) q a b = absurd (subst Low g.3 a)
   low_answer s t order' h' small same (inl g) q a b =
       let m = n ++ low_of at byte ∷ [] in
-      let w : High order h Quiet = subst (λ (o : Order). High o h Quiet) same.0 (subst (λ (x : Bool). High order' x Quiet) same.1 (subst (λ (x : Step StpItem). High order' h' x) q b)) in
-      (
+      let w : High order h Quiet = subst (λ (o : Order). High o h Quiet) same.0 (subst (λ (x : Bool). High order' x Quiet) same.1 (subst (λ (x : Step StpItem). High order' h' x) q b)) in (
         Item g.0 g.1,
         packets_of order h m,
         rest_in order h m,

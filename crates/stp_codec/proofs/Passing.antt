@@ -21,11 +21,11 @@ use Rattle.stp_grammar.specs.declared.partial.Partial.TheVariants.{Start}
 use Rattle.stp_grammar.specs.Rule.{rule, count_of}
 use Rattle.stp_grammar.specs.Attribution.{item_of}
 use Rattle.stp_grammar.specs.Attributed.{Stands as Attributes}
-use Rattle.stp_grammar.proofs.Counting.{counts_placed}
+use Rattle.stp_grammar.proofs.Counting.{counts, counts_placed}
 use Rattle.stp_grammar.specs.declared.packet.Row.TheVariants.{Null}
 use Rattle.stp_grammar.proofs.Attributing.{stands_with}
-use Rattle.stp_grammar.proofs.Beginning.{start_ends, start_never_fails}
-use Rattle.stp_codec.specs.Wholes.{left_of, IsQuiet}
+use Rattle.stp_grammar.proofs.Beginning.{start_ends}
+use Rattle.stp_codec.specs.Wholes.{left_of, IsQuiet, Leaves}
 use Rattle.trace_values.specs.Nibbles.{high_of}
 use Rattle.stp_codec.specs.Reading.{pattern, items_at}
 use Rattle.stp_codec.proofs.Taking.{At, goes_list, goes_step, stops_list, stops_step}
@@ -103,10 +103,10 @@ module _ (order : Order) (m : Mode) (live : Bool) (s : Partial) (a : Attribution
   by_rule : (x : Next Partial StpPacket) → x ≡ rule order Start (byte / 16) → x ≡ rule order s high.unit
   by_rule x e = e ∙ ap (rule order Start) (let q : byte / 16 ≡ byte / 16 % 16 = omega arith in q) ∙ ap (λ z. rule order z high.unit) (sym start)
 
-  pub left_goes_list : (t : Partial) → Go t ≡ rule order Start (byte / 16) → At order m live t a after_high
+  left_goes_list : (t : Partial) → Go t ≡ rule order Start (byte / 16) → At order m live t a after_high
   left_goes_list t e = subst (λ r. At order m live t a (n ++ r)) high_is (goes_list order m live s a n high l locked t (by_rule (Go t) e) h)
 
-  pub left_goes_quiet : (t : Partial) → Go t ≡ rule order Start (byte / 16) → IsQuiet (items_at order (hunts m) n) (items_at order (hunts m) after_high)
+  left_goes_quiet : (t : Partial) → Go t ≡ rule order Start (byte / 16) → IsQuiet (items_at order (hunts m) n) (items_at order (hunts m) after_high)
   left_goes_quiet t e =
       let g = goes_step order m live s a n high l locked t (by_rule (Go t) e) h in
       subst (λ r. IsQuiet (items_at order (hunts m) n) (items_at order (hunts m) (n ++ r))) high_is (g.given ∙ append-nil (items_at order (hunts m) n).given, g.fault)
@@ -127,12 +127,24 @@ module _ (order : Order) (m : Mode) (live : Bool) (s : Partial) (a : Attribution
       let g = stops_step order m live s a n high l locked v None (by_rule (End v) e) (null_silent v (start_ends order v (byte / 16) e)) h in
       subst (λ r. IsQuiet (items_at order (hunts m) n) (items_at order (hunts m) (n ++ r))) high_is (g.given ∙ append-nil (items_at order (hunts m) n).given, g.fault)
 
-  pub left_ends_list : (x : Next Partial StpPacket) → x ≡ rule order Start (byte / 16) → ((t : Partial) → x ≡ Go t → ⊥) → At order m live s a after_high
-  left_ends_list (Go t) e not_go = absurd (not_go t refl)
-  left_ends_list (End v) e not_go = ends_list v e
-  left_ends_list (Fail r) e not_go = absurd (start_never_fails order r (byte / 16) (omega arith) e)
+  pub left_list : (t : Partial) → Leaves (rule order Start (byte / 16)) t → At order m live t a after_high
+  left_list t k = by (rule order Start (byte / 16)) refl k where
+    by : (x : Next Partial StpPacket) → rule order Start (byte / 16) ≡ x → Leaves x t → At order m live t a after_high
+    by (Go r) e k = left_goes_list t (ap Go (sym k) ∙ sym e)
+    by (End v) e k = subst (λ z. At order m live z a after_high) (start ∙ sym k) (ends_list v (sym e))
+    by (Fail r) e k = absurd k
 
-  pub left_ends_quiet : (x : Next Partial StpPacket) → x ≡ rule order Start (byte / 16) → ((t : Partial) → x ≡ Go t → ⊥) → IsQuiet (items_at order (hunts m) n) (items_at order (hunts m) after_high)
-  left_ends_quiet (Go t) e not_go = absurd (not_go t refl)
-  left_ends_quiet (End v) e not_go = ends_quiet v e
-  left_ends_quiet (Fail r) e not_go = absurd (start_never_fails order r (byte / 16) (omega arith) e)
+  pub left_quiet : (t : Partial) → Leaves (rule order Start (byte / 16)) t → IsQuiet (items_at order (hunts m) n) (items_at order (hunts m) after_high)
+  left_quiet t k = by (rule order Start (byte / 16)) refl k where
+    by : (x : Next Partial StpPacket) → rule order Start (byte / 16) ≡ x → Leaves x t → IsQuiet (items_at order (hunts m) n) (items_at order (hunts m) after_high)
+    by (Go r) e k = left_goes_quiet t (ap Go (sym k) ∙ sym e)
+    by (End v) e k = ends_quiet v (sym e)
+    by (Fail r) e k = absurd k
+
+-- and it is at most one nibble
+pub left_few : (order : Order) (b : ℕ) (t : Partial) → Leaves (rule order Start b) t → count_of t ≤ 1
+left_few order b t k = by (rule order Start b) refl k where
+  by : (x : Next Partial StpPacket) → rule order Start b ≡ x → Leaves x t → count_of t ≤ 1
+  by (Go r) e k = (let n = counts order Start t b (e ∙ ap Go k) in omega (arith, n))
+  by (End v) e k = (let n : count_of t ≡ 0 = ap count_of k in omega (arith, n))
+  by (Fail r) e k = absurd k

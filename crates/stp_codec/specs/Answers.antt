@@ -22,9 +22,9 @@ AnswersNibble order before r place (Faulty f) after rest =
     (f.at ≡ place.at) × (f.half ≡ place.half) × (f.reason ≡ why (units_of r)) × (IsFront (InUnits (Spells order)) r → ⊥)
 AnswersNibble order before r place Quiet after rest =
     ((packet : StpPacket) × InUnits (Spells order) packet r
-        × (after ≡ before ++ packet ∷ []) × (rest ≡ []) × (item_of after packet ≡ None))
+    × (after ≡ before ++ packet ∷ []) × (rest ≡ []) × (item_of after packet ≡ None))
     ⊎ (IsFront (InUnits (Spells order)) r × ((packet : StpPacket) → InUnits (Spells order) packet r → ⊥)
-        × (after ≡ before) × (rest ≡ r))
+    × (after ≡ before) × (rest ≡ r))
 AnswersNibble order before r place Skipping after rest = ⊥
 AnswersNibble order before r place (Locked skipped half item) after rest = ⊥
 

@@ -1,6 +1,7 @@
 -- Nibbles of a piece that end a packet.
 use Rattle.std.specs.Prelude.{◌≡◌, ℕ, ◌-◌, ◌/◌, ◌%◌, ◌+◌, List, [], ◌∷◌, take, drop, flat_map, ◌==◌, if◌then◌else◌, Option, None, Some}
 use Rattle.trace_values.specs.declared.next.Next.{Next}
+use Rattle.trace_values.specs.declared.next.Next.TheVariants.{Go, End, Fail}
 use Rattle.trace_values.specs.declared.step.Step.{Step}
 use Rattle.trace_values.specs.declared.step.Step.TheVariants.{Item}
 use Rattle.trace_values.specs.Placed.{Placed}
@@ -11,6 +12,7 @@ use Rattle.stp_grammar.specs.declared.packet.Order.{Order}
 use Rattle.stp_grammar.specs.declared.packet.StpPacket.{StpPacket}
 use Rattle.stp_grammar.specs.declared.item.StpItem.{StpItem}
 use Rattle.stp_grammar.specs.declared.partial.Partial.{Partial}
+use Rattle.stp_grammar.specs.declared.partial.Partial.TheVariants.{Start}
 use Rattle.stp_grammar.specs.Rule.{rule, number_with}
 
 -- the nibbles of bytes, the low one of each first
@@ -48,3 +50,9 @@ abbrev pub IsItem : Option (Step StpItem) → Type 0
 IsItem None = Unit {0}
 IsItem (Some (Item half item)) = Unit {0}
 IsItem (Some step) = ⊥
+
+-- a nibble of which the rule says this leaves this unfinished: where it ends a packet, nothing
+abbrev pub Leaves : Next Partial StpPacket → Partial → Type 0
+Leaves (Go t) partial = t ≡ partial
+Leaves (End packet) partial = partial ≡ Start
+Leaves (Fail reason) partial = ⊥

@@ -6,7 +6,7 @@ ghost use Rattle.stp_grammar.specs.Rule.{is_sound};
 ghost use Rattle.stp_codec.specs.Reading.{pattern};
 ghost use Rattle.stp_codec.specs.Wholes.{item_in as item_by};
 
-use crate::whole::whole_packet;
+use crate::whole::{after_first, whole_packet};
 use stp_grammar::attribution::Attribution;
 use stp_grammar::item::StpItem;
 use stp_grammar::packet::{Order, StpPacket};
@@ -149,7 +149,7 @@ impl StpDecoder {
     }
 
     /// The packet that the bytes finish, and how many of their nibbles it takes, where the reading has begun.
-    #[inline]
+    #[inline(always)]
     fn next_packet(&self, piece: &[u8]) -> Option<(usize, StpPacket)>
         ensures locked { IfSome result (λ x. has_locked self.now ≡ true) }
         ensures end { IfSome result (λ x. (0 < x.0) × (x.0 ≤ 2 * length piece.now)) }
@@ -166,7 +166,7 @@ impl StpDecoder {
 
     /// Takes what is left of a byte in whose half a packet ended: the high nibble, where it ended in the low one. A
     /// packet begins there.
-    #[inline]
+    #[inline(always)]
     fn pass_left(&mut self, at: u64, half: u8, byte: u8)
         requires live { is_live self.old ≡ true }
         requires locked { has_locked self.old ≡ true }
@@ -181,15 +181,13 @@ impl StpDecoder {
         ensures few { (held_of self.new ≤ 1) × (skipped_by self.new ≡ skipped_by self.old) }
     {
         if half == 0 {
-            if let Next::Go(partial) = Partial::Start.with_nibble(self.order, byte / 16) {
-                self.partial = partial;
-            }
+            self.partial = after_first(byte / 16);
         }
     }
 
     /// Takes the packet that the bytes finish, whose first is at this offset, and what is left of the byte in which
     /// it ends. None where there is none: then it is as before.
-    #[inline]
+    #[inline(always)]
     fn pass_packet(&mut self, at: u64, piece: &[u8]) -> Option<Block<StpItem>>
         requires live { is_live self.old ≡ true }
         requires room { held_of self.old + skipped_by self.old + 2 * length piece.now ≤ 2 ^ 60 }
@@ -221,7 +219,7 @@ impl StpDecoder {
     /// Feeds a piece, whose first byte is at this offset, up to the first byte to which the answer is
     /// neither `Quiet` nor `Skipping`, or to the piece's end. It takes a packet at once whose nibbles are
     /// all there.
-    #[inline]
+    #[inline(always)]
     pub fn feed_piece(&mut self, at: u64, piece: &[u8]) -> Block<StpItem>
         requires live { is_live self.old ≡ true }
         requires room { held_of self.old + skipped_by self.old + 2 * length piece.now ≤ 2 ^ 60 }
@@ -268,8 +266,16 @@ impl StpDecoder {
     }
 }
 
+/// The default one reads from the first nibble on, in the order most significant nibble first. It only fills the
+/// unused places of a buffer.
+impl Default for StpDecoder {
+    fn default() -> StpDecoder {
+        StpDecoder::aligned(Order::Msn)
+    }
+}
+
 /// The item, if there is one, as a step with which it ends in this half.
-#[inline]
+#[inline(always)]
 fn item_in(half: u8, item: Option<StpItem>) -> Option<Step<StpItem>>
     ensures { result ≡ item_by half item }
 {

@@ -7,3 +7,6 @@ pub mod laws;
 mod whole;
 
 pub use decoder::StpDecoder;
+
+#[cfg(test)]
+mod tests;

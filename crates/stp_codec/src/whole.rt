@@ -10,8 +10,8 @@ ghost use Rattle.stp_grammar.specs.declared.packet.StpPacket.TheVariants.{Async}
 ghost use Rattle.stp_grammar.specs.declared.partial.Partial.TheVariants.{Start, Second, Third, Run, Size};
 ghost use Rattle.stp_grammar.specs.Opcodes.{line_of};
 ghost use Rattle.stp_grammar.specs.Proper.{IsProper};
-ghost use Rattle.stp_grammar.specs.Rule.{begin, after_payload, is_sound};
-ghost use Rattle.stp_codec.specs.Wholes.{nibbles_in, between, number_from as number_by, Ends};
+ghost use Rattle.stp_grammar.specs.Rule.{rule, begin, after_payload, is_sound};
+ghost use Rattle.stp_codec.specs.Wholes.{nibbles_in, between, number_from as number_by, Ends, Leaves};
 
 use stp_grammar::nibble::number_with;
 use stp_grammar::opcode::row_at;
@@ -20,7 +20,7 @@ use stp_grammar::partial::Partial;
 use trace_clock::word_nibbles;
 
 /// One of the nibbles of these bytes.
-#[inline]
+#[inline(always)]
 #[tactic(auto, using(crate::proofs::Between::even_nibble, crate::proofs::Between::odd_nibble))]
 fn nibble_of(bytes: &[u8], index: usize) -> u8
     requires { index < 2 * length bytes.now }
@@ -28,15 +28,11 @@ fn nibble_of(bytes: &[u8], index: usize) -> u8
     ensures small { result < 16 }
 {
     let byte = bytes[index / 2];
-    if index % 2 == 0 {
-        byte % 16
-    } else {
-        byte / 16
-    }
+    if index % 2 == 0 { byte % 16 } else { byte / 16 }
 }
 
 /// The number that `count` nibbles make with the next `more`, where they made `value` without them.
-#[inline]
+#[inline(always)]
 fn number_from(order: Order, count: u8, value: u64, bytes: &[u8], start: usize, more: u8) -> u64
     requires few { count + more ≤ 16 }
     requires fits { value < 16 ^ count }
@@ -54,8 +50,15 @@ fn number_from(order: Order, count: u8, value: u64, bytes: &[u8], start: usize, 
 
 /// The number of `most` nibbles, of which `count` made `value` and the others begin at this nibble of the bytes, and
 /// the nibble after them. None where they are not all there.
-#[inline]
-fn number_at(order: Order, count: u8, value: u64, most: u8, bytes: &[u8], start: usize) -> Option<(usize, u64)>
+#[inline(always)]
+fn number_at(
+    order: Order,
+    count: u8,
+    value: u64,
+    most: u8,
+    bytes: &[u8],
+    start: usize,
+) -> Option<(usize, u64)>
     requires few { (count ≤ most) × (most ≤ 16) }
     requires fits { value < 16 ^ count }
     requires there { start ≤ 2 * length bytes.now }
@@ -72,8 +75,14 @@ fn number_at(order: Order, count: u8, value: u64, most: u8, bytes: &[u8], start:
 }
 
 /// The packet, from its timestamp's size nibble on, and the nibble after it.
-#[inline]
-fn from_size(order: Order, row: Row, payload: u64, bytes: &[u8], start: usize) -> Option<(usize, StpPacket)>
+#[inline(always)]
+fn from_size(
+    order: Order,
+    row: Row,
+    payload: u64,
+    bytes: &[u8],
+    start: usize,
+) -> Option<(usize, StpPacket)>
     requires fits { payload < 16 ^ (line_of row).payload }
     requires there { start ≤ 2 * length bytes.now }
     ensures end { IfSome result (λ x. (start < x.0) × (x.0 ≤ 2 * length bytes.now)) }
@@ -110,8 +119,14 @@ fn from_size(order: Order, row: Row, payload: u64, bytes: &[u8], start: usize) -
 }
 
 /// The packet, from the nibble after its payload on, and the nibble after it.
-#[inline]
-fn from_payload(order: Order, row: Row, payload: u64, bytes: &[u8], start: usize) -> Option<(usize, StpPacket)>
+#[inline(always)]
+fn from_payload(
+    order: Order,
+    row: Row,
+    payload: u64,
+    bytes: &[u8],
+    start: usize,
+) -> Option<(usize, StpPacket)>
     requires fits { payload < 16 ^ (line_of row).payload }
     requires there { start ≤ 2 * length bytes.now }
     ensures end { IfSome result (λ x. (start ≤ x.0) × (x.0 ≤ 2 * length bytes.now)) }
@@ -126,7 +141,7 @@ fn from_payload(order: Order, row: Row, payload: u64, bytes: &[u8], start: usize
 }
 
 /// The packet of this row, from the nibble after its opcode on, and the nibble after it.
-#[inline]
+#[inline(always)]
 fn from_opcode(order: Order, row: Row, bytes: &[u8], start: usize) -> Option<(usize, StpPacket)>
     requires there { start ≤ 2 * length bytes.now }
     ensures end { IfSome result (λ x. (start ≤ x.0) × (x.0 ≤ 2 * length bytes.now)) }
@@ -138,7 +153,7 @@ fn from_opcode(order: Order, row: Row, bytes: &[u8], start: usize) -> Option<(us
 }
 
 /// The packet whose first nibble is F, from its second on, and the nibble after it.
-#[inline]
+#[inline(always)]
 fn from_second(order: Order, bytes: &[u8], start: usize) -> Option<(usize, StpPacket)>
     ensures end { IfSome result (λ x. (start < x.0) × (x.0 ≤ 2 * length bytes.now)) }
     ensures whole { IfSome result (λ x. Ends order (Go Second) (between (nibbles_in bytes.now) start x.0) x.1) }
@@ -155,7 +170,7 @@ fn from_second(order: Order, bytes: &[u8], start: usize) -> Option<(usize, StpPa
 }
 
 /// The packet whose first nibbles are F and 0, from its third on, and the nibble after it. None where there is none.
-#[inline]
+#[inline(always)]
 fn from_third(order: Order, bytes: &[u8], start: usize) -> Option<(usize, StpPacket)>
     requires there { start ≤ 2 * length bytes.now }
     ensures end { IfSome result (λ x. (start < x.0) × (x.0 ≤ 2 * length bytes.now)) }
@@ -174,7 +189,7 @@ fn from_third(order: Order, bytes: &[u8], start: usize) -> Option<(usize, StpPac
 
 /// The nibble after the ASYNC of which this many nibbles F are before these, at least two. None where it does not end
 /// in them, or is none.
-#[inline]
+#[inline(always)]
 fn from_run(count: u64, bytes: &[u8], start: usize) -> Option<usize>
     requires { start ≤ 2 * length bytes.now }
     ensures end { IfSome result (λ end. (start < end) × (end ≤ 2 * length bytes.now)) }
@@ -196,7 +211,7 @@ fn from_run(count: u64, bytes: &[u8], start: usize) -> Option<usize>
 }
 
 /// The packet that the bytes begin with, and the nibble after it.
-#[inline]
+#[inline(always)]
 fn from_start(order: Order, bytes: &[u8]) -> Option<(usize, StpPacket)>
     ensures end { IfSome result (λ x. (0 < x.0) × (x.0 ≤ 2 * length bytes.now)) }
     ensures whole { IfSome result (λ x. Ends order (Go Start) (between (nibbles_in bytes.now) 0 x.0) x.1) }
@@ -211,9 +226,33 @@ fn from_start(order: Order, bytes: &[u8]) -> Option<(usize, StpPacket)>
     }
 }
 
+/// What a packet's first nibble leaves unfinished: nothing after a NULL.
+#[inline(always)]
+pub fn after_first(nibble: u8) -> Partial
+    requires { nibble < 16 }
+    ensures sound { is_sound result ≡ true }
+    ensures next { (order : OrderOf) → Leaves (rule order Start nibble) result }
+{
+    if nibble == 15 {
+        return Partial::Second;
+    }
+    let row = row_at(nibble);
+    if row.payload_nibbles() > 0 {
+        Partial::Payload {
+            row,
+            count: 0,
+            value: 0,
+        }
+    } else if row.is_stamped() {
+        Partial::Size { row, payload: 0 }
+    } else {
+        Partial::Start
+    }
+}
+
 /// The packet that these bytes finish, of which this is the unfinished part, and how many of their nibbles it takes.
 /// None where they do not finish it.
-#[inline]
+#[inline(always)]
 pub fn whole_packet(order: Order, partial: Partial, bytes: &[u8]) -> Option<(usize, StpPacket)>
     requires { is_sound partial ≡ true }
     ensures end { IfSome result (λ x. (0 < x.0) × (x.0 ≤ 2 * length bytes.now)) }

@@ -1,34 +1,18 @@
-use Rattle.std.proofs.Common.{◌≡◌, ℕ, ◌+◌, ◌/◌, ◌≤◌, refl, sym, ◌∙◌, ap, arith}
-use Rattle.stp_grammar.specs.Rule.{count_of}
-use Rattle.stp_grammar.specs.declared.partial.Partial.TheVariants.{Start}
-use Rattle.stp_grammar.proofs.Counting.{counts}
-use Rattle.stp_codec.proofs.Passing.{left_goes_list, left_goes_quiet, left_ends_list, left_ends_quiet}
+use Rattle.std.proofs.Common.{◌≡◌, ℕ, ◌/◌, ◌≤◌, refl, arith}
+use Rattle.stp_codec.proofs.Passing.{left_list, left_quiet, left_few}
 use Rattle.stp_codec.proofs.decoder.StpDecoder.pass_left.Goals as goal
 
-pub returns-in-Go-clause-list : goal.returns-in-Go-clause-list
-returns-in-Go-clause-list c = λ n s.
+pub returns-then-half-eq0-clause-list : goal.returns-then-half-eq0-clause-list
+returns-then-half-eq0-clause-list c = λ n s.
     let d = c.args.self.now in
-    left_goes_list d.order d.mode d.live d.partial d.attribution n c.args.half c.args.at c.args.byte c.if-half-eq0.true (omega (arith, c.ranges.byte)) c.requires.live c.requires.locked c.requires.start s
-    c.in-Go.partial c.in-Go.ensures.next
+    left_list d.order d.mode d.live d.partial d.attribution n c.args.half c.args.at c.args.byte c.if-half-eq0.true (omega (arith, c.ranges.byte)) c.requires.live c.requires.locked c.requires.start s
+    c.after_first-self.result (c.after_first-self.ensures.next d.order)
 
-pub returns-in-Go-clause-quiet : goal.returns-in-Go-clause-quiet
-returns-in-Go-clause-quiet c = λ n s.
+pub returns-then-half-eq0-clause-quiet : goal.returns-then-half-eq0-clause-quiet
+returns-then-half-eq0-clause-quiet c = λ n s.
     let d = c.args.self.now in
-    left_goes_quiet d.order d.mode d.live d.partial d.attribution n c.args.half c.args.at c.args.byte c.if-half-eq0.true (omega (arith, c.ranges.byte)) c.requires.live c.requires.locked c.requires.start s
-    c.in-Go.partial c.in-Go.ensures.next
+    left_quiet d.order d.mode d.live d.partial d.attribution n c.args.half c.args.at c.args.byte c.if-half-eq0.true (omega (arith, c.ranges.byte)) c.requires.live c.requires.locked c.requires.start s
+    c.after_first-self.result (c.after_first-self.ensures.next d.order)
 
-pub returns-in-Go-clause-few : goal.returns-in-Go-clause-few
-returns-in-Go-clause-few c =
-    let k = counts c.args.self.now.order Start c.in-Go.partial (c.args.byte / 16) (sym c.in-Go.ensures.next) in (omega (arith, k), refl)
-
-pub returns-in_default-clause-list : goal.returns-in_default-clause-list
-returns-in_default-clause-list c = λ n s.
-    let d = c.args.self.now in
-    left_ends_list d.order d.mode d.live d.partial d.attribution n c.args.half c.args.at c.args.byte c.if-half-eq0.true (omega (arith, c.ranges.byte)) c.requires.live c.requires.locked c.requires.start s
-    c.with_nibble.result c.with_nibble.ensures.next c.in_default.not-Go
-
-pub returns-in_default-clause-quiet : goal.returns-in_default-clause-quiet
-returns-in_default-clause-quiet c = λ n s.
-    let d = c.args.self.now in
-    left_ends_quiet d.order d.mode d.live d.partial d.attribution n c.args.half c.args.at c.args.byte c.if-half-eq0.true (omega (arith, c.ranges.byte)) c.requires.live c.requires.locked c.requires.start s
-    c.with_nibble.result c.with_nibble.ensures.next c.in_default.not-Go
+pub returns-then-half-eq0-clause-few : goal.returns-then-half-eq0-clause-few
+returns-then-half-eq0-clause-few c = (left_few c.args.self.now.order (c.args.byte / 16) c.after_first-self.result (c.after_first-self.ensures.next c.args.self.now.order), refl)
