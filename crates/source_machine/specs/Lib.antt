@@ -1,0 +1,4 @@
+pub mod Machine
+pub mod Seen
+pub mod SeenLaws
+pub mod MachineLaws

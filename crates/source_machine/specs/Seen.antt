@@ -1,0 +1,20 @@
+-- The answers of a decoder with its items seen as packets.
+use Rattle.std.specs.Prelude.{Option, None, Some}
+use Rattle.trace_values.specs.declared.step.Step.{Step}
+use Rattle.trace_values.specs.declared.step.Step.TheVariants.{Quiet, Skipping, Item, Locked, Fault}
+use Rattle.trace_values.specs.declared.block.Block.{Block}
+
+abbrev pub step_as : {V W : Type 0} → (V → W) → Step V → Step W
+step_as f Quiet = Quiet
+step_as f Skipping = Skipping
+step_as f (Item half v) = Item half (f v)
+step_as f (Locked skipped half v) = Locked skipped half (f v)
+step_as f (Fault fault) = Fault fault
+
+-- the last answer to a piece, where there is one
+abbrev pub last_as : {V W : Type 0} → (V → W) → Option (Step V) → Option (Step W)
+last_as f None = None
+last_as f (Some step) = Some (step_as f step)
+
+abbrev pub block_as : {V W : Type 0} → (V → W) → Block V → Block W
+block_as f block = record { bytes = block.bytes; step = last_as f block.step }

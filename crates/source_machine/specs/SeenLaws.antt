@@ -1,0 +1,138 @@
+-- A reading whose items are seen as packets grows, settles and shows as it did.
+use Rattle.std.specs.Prelude.{◌≡◌, ℕ, List, [], ◌∷◌, ◌++◌, Bool, Option, None, Some, refl}
+use Rattle.std.proofs.Common.{ap, sym, ◌∙◌}
+use Rattle.std.proofs.lemmas.List.{map-append}
+use Rattle.trace_values.specs.declared.step.Step.{Step}
+use Rattle.trace_values.specs.declared.step.Step.TheVariants.{Quiet, Skipping, Item, Locked, Fault}
+use Rattle.trace_values.specs.Placed.{Place, Placed}
+use Rattle.trace_values.specs.Stream.{Said, Stream, Grows, HuntBy, Shows, Settled, Holds, Rises, AllAt, StepFits, LocksAfter, given_by, fault_by, goes_on}
+use Rattle.trace_values.specs.Block.{given_after, fault_after, goes_on_after, StandsAt, StopsFor, Takes}
+use Rattle.source_events.specs.Packets.{said_as, given_as, stream_as}
+use Rattle.source_machine.specs.Seen.{step_as, last_as}
+
+module _ {V W : Type 0} (f : V → W) where
+  pub given_append : (xs ys : List (Said V × Place)) → given_as f (xs ++ ys) ≡ given_as f xs ++ given_as f ys
+  given_append xs ys = map-append (λ (e : Said V × Place). (said_as f e.0, e.1)) xs ys
+
+  given_step : (at : ℕ) (step : Step V) → given_as f (given_by at step) ≡ given_by at (step_as f step)
+  given_step at Quiet = refl
+  given_step at Skipping = refl
+  given_step at (Item half v) = refl
+  given_step at (Locked n half v) = refl
+  given_step at (Fault x) = refl
+
+  fault_step : (at : ℕ) (step : Step V) → fault_by at step ≡ fault_by at (step_as f step)
+  fault_step at Quiet = refl
+  fault_step at Skipping = refl
+  fault_step at (Item half v) = refl
+  fault_step at (Locked n half v) = refl
+  fault_step at (Fault x) = refl
+
+  hunt_step : (old new : Stream V) (at : ℕ) (step : Step V) → HuntBy old new at step →
+      HuntBy (stream_as f old) (stream_as f new) at (step_as f step)
+  hunt_step old new at Quiet h = h
+  hunt_step old new at Skipping h = h
+  hunt_step old new at (Item half v) h = h
+  hunt_step old new at (Locked n half v) h = h
+  hunt_step old new at (Fault x) h = h
+
+  pub grows_as : (old new : Stream V) (at : ℕ) (step : Step V) → Grows old new at step →
+      Grows (stream_as f old) (stream_as f new) at (step_as f step)
+  grows_as old new at step g = record {
+    given =
+        ap (given_as f) g.given ∙ given_append old.given (given_by at step)
+        ∙ ap (λ l. given_as f old.given ++ l) (given_step at step);
+    fault = g.fault ∙ fault_step at step;
+    hunt = hunt_step old new at step g.hunt;
+  }
+
+  pub goes_as : (step : Step V) → goes_on step ≡ goes_on (step_as f step)
+  goes_as Quiet = refl
+  goes_as Skipping = refl
+  goes_as (Item half v) = refl
+  goes_as (Locked n half v) = refl
+  goes_as (Fault x) = refl
+
+  pub locks_as : (n : ℕ) (step : Step V) → LocksAfter n step → LocksAfter n (step_as f step)
+  locks_as n Quiet h = h
+  locks_as n Skipping h = h
+  locks_as n (Item half v) h = h
+  locks_as n (Locked m half v) h = h
+  locks_as n (Fault x) h = h
+
+  pub fits_as : (P : V → Type 0) (Q : W → Type 0) → ((v : V) → P v → Q (f v)) → (step : Step V) → StepFits P step →
+      StepFits Q (step_as f step)
+  fits_as P Q each Quiet h = h
+  fits_as P Q each Skipping h = h
+  fits_as P Q each (Item half v) h = each v h
+  fits_as P Q each (Locked m half v) h = each v h
+  fits_as P Q each (Fault x) h = h
+
+  pub shows_as : (live locked : Bool) (held skipped bytes : ℕ) (s : Stream V) → Shows live locked held skipped bytes s →
+      Shows live locked held skipped bytes (stream_as f s)
+  shows_as live locked held skipped bytes s h = record {
+    live_is = h.live_is;
+    locked_is = h.locked_is;
+    held_is = h.held_is;
+    skipped_is = h.skipped_is;
+    room = h.room;
+  }
+
+  pub settled_as : (old new : Stream V) → Settled old new → Settled (stream_as f old) (stream_as f new)
+  settled_as old new s = record { given = ap (given_as f) s.given; fault = s.fault }
+
+  pub holds_as : (units : ℕ) (old new : Stream V) → Holds units old new → Holds units (stream_as f old) (stream_as f new)
+  holds_as units old new h = record { given = ap (given_as f) h.given; held = h.held; skipped = h.skipped; locked = h.locked }
+
+  all_as : (at half : ℕ) (xs : List (Said V × Place)) → AllAt at half xs → AllAt at half (given_as f xs)
+  all_as at half [] a = tt
+  all_as at half (x ∷ xs) a = (a.0, a.1, all_as at x.1.half xs a.2)
+
+  pub rises_as : (old new : Stream V) (at : ℕ) → Rises old new at → Rises (stream_as f old) (stream_as f new) at
+  rises_as old new at r = record {
+    more = given_as f r.more;
+    given = ap (given_as f) r.given ∙ given_append old.given r.more;
+    all = all_as at 0 r.more r.all;
+    fault = r.fault;
+  }
+
+  -- of a piece
+  given_block : (at : ℕ) (step : Option (Step V)) → given_as f (given_after at step) ≡ given_after at (last_as f step)
+  given_block at None = refl
+  given_block at (Some step) = given_step at step
+
+  fault_block : (at : ℕ) (step : Option (Step V)) → fault_after at step ≡ fault_after at (last_as f step)
+  fault_block at None = refl
+  fault_block at (Some step) = fault_step at step
+
+  pub goes_after : (step : Option (Step V)) → goes_on_after step ≡ goes_on_after (last_as f step)
+  goes_after None = refl
+  goes_after (Some step) = goes_as step
+
+  place_block : (at : ℕ) (step : Option (Step V)) → StandsAt at step → StandsAt at (last_as f step)
+  place_block at None h = h
+  place_block at (Some Quiet) h = h
+  place_block at (Some Skipping) h = h
+  place_block at (Some (Item half v)) h = h
+  place_block at (Some (Locked n half v)) h = h
+  place_block at (Some (Fault x)) h = h
+
+  pub stops_as : (bytes length : ℕ) (step : Option (Step V)) → StopsFor bytes length step →
+      StopsFor bytes length (last_as f step)
+  stops_as bytes length None h = h
+  stops_as bytes length (Some Quiet) h = h
+  stops_as bytes length (Some Skipping) h = h
+  stops_as bytes length (Some (Item half v)) h = h
+  stops_as bytes length (Some (Locked n half v)) h = h
+  stops_as bytes length (Some (Fault x)) h = h
+
+  pub takes_as : (reading : List Placed → Stream V) (stands : List Placed → Type 0) (u : List Placed) (at : ℕ) (piece : List ℕ)
+      (bytes : ℕ) (step : Option (Step V)) → Takes reading stands u at piece bytes step →
+      Takes (λ w. stream_as f (reading w)) stands u at piece bytes (last_as f step)
+  takes_as reading stands u at piece bytes step t = record {
+    list = t.list;
+    given = ap (given_as f) t.given ∙ given_append _ _ ∙ ap (λ l. given_as f (reading u).given ++ l) (given_block _ step);
+    fault = t.fault ∙ fault_block _ step;
+    place = place_block _ step t.place;
+    sound = t.sound;
+  }

@@ -1,0 +1,6 @@
+//! What reads the bytes of a mapped source, whichever protocol it has.
+#![tactic(auto)]
+
+mod machine;
+
+pub use machine::SourceMachine;

@@ -1,0 +1,14 @@
+pub mod RunSteps
+pub mod Early
+pub mod Slots
+pub mod Taking
+pub mod Framing
+pub mod Fits
+pub mod Counting
+pub mod Steps
+pub mod Standing
+pub mod Going
+pub mod Refilled
+pub mod Feds
+pub mod Attributed
+pub mod Ending

@@ -1,0 +1,100 @@
+-- How what an engine keeps goes on with more bytes.
+use Rattle.std.proofs.Common.{◌≡◌, ◌≢◌, ℕ, ◌+◌, ◌≤◌, List, [], ◌∷◌, ◌++◌, length, map, refl, sym, ◌∙◌, ap, subst, append_assoc, append-nil, arith, Option, None, Some, true, false, Bool, cond, length-append}
+use Rattle.std.specs.Prelude.{is_none, nat_le, not, ◌&&◌, ◌||◌, ◌==◌}
+use Rattle.std.specs.Option.{option_map, is_some}
+use Rattle.std.specs.List.{list_any}
+use Rattle.std.proofs.lemmas.List.{map-append}
+use Rattle.std.proofs.lemmas.Bool.Decides.{nat_tests}
+use Rattle.trace_values.specs.declared.fault.Reason.{Reason}
+use Rattle.trace_values.specs.Placed.{Place, Placed, byte_at, placed_from}
+use Rattle.frame_grammar.specs.Reading.{offsets_of}
+use Rattle.port_reader.specs.Rising.{Rise, BytesRise, end_at}
+use Rattle.port_reader.proofs.RisingLaws.{rise_join}
+use Rattle.source_events.specs.declared.event.Event.{Event}
+use Rattle.source_events.specs.declared.event.Stop.{Stop}
+use Rattle.source_events.specs.declared.packet.Packet.{Packet}
+use Rattle.source_events.specs.declared.plan.Plan.{Plan}
+use Rattle.source_events.specs.declared.plan.SourceKind.{SourceKind}
+use Rattle.source_events.specs.declared.plan.SourceKind.TheVariants.{Itm, Stp}
+use Rattle.source_events.specs.Plan.{mapped_ids, stream_of, sources_by, are_sound, is_sound}
+use Rattle.source_events.specs.Report.{Mapped, stop_of}
+use Rattle.source_merge.specs.declared.slot.Slot.{Slot}
+use Rattle.source_merge.specs.Routing.{HasNot, AreDistinct, AllLive, LiveIf}
+
+-- the IDs of the mapped sources
+ids_of : List (Mapped Packet) → List ℕ
+ids_of ss = map (λ (s : Mapped Packet). s.id) ss
+
+ids_by : (plan : Plan) (pairs : List (ℕ × SourceKind)) →
+    ids_of (map (λ (s : ℕ × SourceKind). record { id = s.0; stream = stream_of plan s.1 }) pairs) ≡ map (λ (s : ℕ × SourceKind). s.0) pairs
+unfolding ids_of
+ids_by plan [] = refl
+ids_by plan (s ∷ pairs) = ap (λ (l : List ℕ). s.0 ∷ l) (ids_by plan pairs)
+
+ids_with : (kind : SourceKind) (ids : List ℕ) → map (λ (s : ℕ × SourceKind). s.0) (map (λ (x : ℕ). (x, kind)) ids) ≡ ids
+ids_with kind [] = refl
+ids_with kind (x ∷ ids) = ap (λ (l : List ℕ). x ∷ l) (ids_with kind ids)
+
+ids_are : (plan : Plan) → ids_of (sources_by plan) ≡ plan.itm ++ plan.stp
+ids_are plan =
+    ids_by plan (mapped_ids plan)
+    ∙ map-append (λ (s : ℕ × SourceKind). s.0) (map (λ (x : ℕ). (x, Itm)) plan.itm) (map (λ (x : ℕ). (x, Stp)) plan.stp)
+    ∙ ap (λ (l : List ℕ). l ++ map (λ (s : ℕ × SourceKind). s.0) (map (λ (x : ℕ). (x, Stp)) plan.stp)) (ids_with Itm plan.itm)
+    ∙ ap (λ (l : List ℕ). plan.itm ++ l) (ids_with Stp plan.stp)
+
+both : (a b : Bool) → (a && b) ≡ true → (a ≡ true) × (b ≡ true)
+both true b e = (refl, e)
+both false b e = cc
+
+other : (x y : ℕ) → (x == y) ≡ false → x ≢ y
+other x y e = grind (arith, nat_tests)
+
+has_not : (x : ℕ) (ss : List (Mapped Packet)) → list_any (λ (y : ℕ). y == x) (ids_of ss) ≡ false → HasNot x ss
+unfolding ids_of
+has_not x [] e = tt
+has_not x (s ∷ ss) e = by (s.id == x) refl e (λ h. has_not x ss h) where
+  by : (t : Bool) → (s.id == x) ≡ t → (t || list_any (λ (y : ℕ). y == x) (ids_of ss)) ≡ false →
+      (list_any (λ (y : ℕ). y == x) (ids_of ss) ≡ false → HasNot x ss) → HasNot x (s ∷ ss)
+  by true k h more = cc
+  by false k h more = ((λ q. other s.id x k (sym q)), more h)
+
+un_not : (t : Bool) → not t ≡ true → t ≡ false
+un_not true k = cc
+un_not false k = refl
+
+distinct_are : (ss : List (Mapped Packet)) → are_sound (ids_of ss) ≡ true → AreDistinct ss
+unfolding ids_of
+distinct_are [] e = tt
+distinct_are (s ∷ ss) e =
+    let not_in = not (list_any (λ (y : ℕ). y == s.id) (ids_of ss)) in
+    let a = both (nat_le 1 s.id && nat_le s.id 111 && not_in) (are_sound (ids_of ss)) e in
+    let b = both (nat_le 1 s.id && nat_le s.id 111) not_in a.0 in
+    (has_not s.id ss (un_not _ b.1), distinct_are ss a.1)
+
+pub distinct : (plan : Plan) → is_sound plan ≡ true → AreDistinct (sources_by plan)
+distinct plan e = distinct_are (sources_by plan) (ap are_sound (ids_are plan) ∙ e)
+
+pub none_there : {X : Type 0} → (x : Option X) → is_none x ≡ true → x ≡ None
+none_there None e = refl
+none_there (Some y) e = cc
+
+pub live_now : {M : Type 0} → (live : M → Bool) (so : Bool) (slots : List (Slot M)) → so ≡ true → LiveIf live so slots →
+    AllLive live slots
+live_now live true slots e h = h
+live_now live false slots e h = cc
+
+pub live_if : {M : Type 0} → (live : M → Bool) (so : Bool) (slots : List (Slot M)) → (so ≡ true → AllLive live slots) →
+    LiveIf live so slots
+live_if live true slots h = h refl
+live_if live false slots h = tt
+
+-- what a test of an option says
+pub tested : {X : Type 0} → (x : Option X) (t : Bool) → is_some x ≡ not t → t ≡ is_none x
+tested None true e = refl
+tested None false e = cc
+tested (Some y) true e = cc
+tested (Some y) false e = refl
+
+pub none_of : (x : Option Stop) → is_none x ≡ is_none (option_map stop_of x)
+none_of None = refl
+none_of (Some s) = refl

@@ -1,0 +1,143 @@
+use Rattle.std.proofs.Common.{◌≡◌, ℕ, ◌+◌, ◌-◌, ◌*◌, ◌^◌, ◌≤◌, List, [], ◌∷◌, ◌++◌, length, take, refl, sym, ◌∙◌, ap, subst, arith, true, Bool, Option, Some, None, length-append}
+use Rattle.std.specs.Prelude.{is_none}
+use Rattle.std.proofs.lemmas.List.{length-take-le}
+use Rattle.trace_values.specs.declared.cell.Cell.{Cell}
+use Rattle.trace_values.specs.Placed.{Placed, byte_at, placed_from}
+use Rattle.trace_values.proofs.Placing.{length-placed_from}
+use Rattle.capture_plan.specs.declared.frames.FramesMode.{FramesMode}
+use Rattle.deformatter.specs.declared.step.PortStep.TheVariants.{Quiet}
+use Rattle.deformatter.specs.Block.{FedAs}
+use Rattle.frame_grammar.specs.Reading.{offsets_of}
+use Rattle.port_reader.specs.Growth.{Answers as PortAnswers}
+use Rattle.port_reader.specs.Reader.{mode_of}
+use Rattle.port_reader.specs.Reading.{port_reading}
+use Rattle.port_reader.specs.Rising.{BytesRise}
+use Rattle.source_events.specs.declared.event.Stop.{Stop}
+use Rattle.source_events.specs.Report.{Mapped, stop_of, runs_in}
+use Rattle.source_events.specs.declared.packet.Packet.{Packet}
+use Rattle.source_events.specs.declared.plan.Plan.{Plan}
+use Rattle.source_events.specs.Plan.{sources_by}
+use Rattle.source_machine.specs.Machine.{reading_of, Stands as MachineStands, is_live, held_of, skipped_by}
+use Rattle.source_machine.specs.declared.machine.SourceMachine.{SourceMachine}
+use Rattle.source_merge.specs.declared.engine.Engine.{Engine}
+use Rattle.source_merge.specs.declared.slot.Slot.{Slot}
+use Rattle.source_merge.specs.Engine.{Stands, Keeps}
+use Rattle.source_merge.specs.Answering.{fault_of}
+use Rattle.source_merge.specs.Stepping.{StepTaken}
+use Rattle.source_merge.specs.Routing.{mapped_of, AllLive, AllStand, HaveRoom, LiveIf, AreDistinct}
+use Rattle.source_merge.proofs.Slots.{room_more}
+use Rattle.source_merge.proofs.Standing.{distinct, none_there, live_now, live_if, tested, none_of}
+use Rattle.source_merge.proofs.Going.{Stepped, IsCounted, stepped, rise_to, rise_block, end_block}
+use Rattle.source_merge.proofs.Refilled.{slots_are}
+use Rattle.source_merge.proofs.engine.Engine.feed_step.Goals as goal
+
+pub take_step-stop-requires-clause-room : goal.take_step-stop-requires-clause-room
+take_step-stop-requires-clause-room c =
+    room_more held_of skipped_by (30 * c.args.self.now.count) (2 ^ 58) c.as_mut_slice.result.now
+    (let a = c.args.self.now.within in let b = c.args.self.now.limit in omega arith)
+    (subst (λ (l : List (Slot SourceMachine)). HaveRoom held_of skipped_by (30 * c.args.self.now.count) l)
+    (sym c.as_mut_slice.ensures.value) c.args.self.now.room)
+
+pub invariant_of-self : goal.invariant_of-self
+invariant_of-self c =
+    let self = c.args.self.now in
+    let old = self.slots.items in
+    let new = c.take_step-stop.new.slots in
+    let value = c.as_mut_slice.ensures.value in
+    let all = slots_are reading_of old new (c.take_step-stop.ensures.same ∙ ap (mapped_of reading_of) value) in
+    let n = self.count in
+    let some = c.feed_block-taken.ensures.bytes.0 in
+    let within = c.feed_block-taken.ensures.bytes.1 in
+    let room = subst (λ (l : List (Slot SourceMachine)). HaveRoom held_of skipped_by (30 * n) l) (sym value) self.room in
+    let gone = tested c.take_step-stop.result c.is_none-self.result c.is_none-self.ensures in
+    record {
+      sound = self.sound;
+      few = (let a = self.few in let b = c.feed_block-taken.ensures.few in omega arith);
+      room =
+          subst (λ (l : List (Slot SourceMachine)). HaveRoom held_of skipped_by (30 * (n + c.feed_block-taken.result.bytes)) l) (sym all)
+          (room_more held_of skipped_by (30 * n + 30) (30 * (n + c.feed_block-taken.result.bytes)) new (omega arith)
+          (c.take_step-stop.ensures.room (30 * n) room));
+      size = (let a = self.size in let b = c.take_step-stop.ensures.size in omega arith);
+      within = (let a = self.within in let b = c.requires.offsets.0 in omega arith);
+      limit = (let a = c.requires.offsets.1 in omega arith);
+      port_live = λ k. c.feed_block-taken.ensures.live ∙ c.take_step-stop.ensures.going (none_there c.take_step-stop.result (sym gone ∙ k));
+      lives =
+          subst (λ (l : List (Slot SourceMachine)). LiveIf is_live c.is_none-self.result l) (sym all)
+          (live_if is_live c.is_none-self.result new (λ k. c.take_step-stop.ensures.live (none_there c.take_step-stop.result (sym gone ∙ k))));
+    }
+
+-- what the step makes of a list that the engine stood for
+module _ (c : goal.After-flow_of) (u : List Placed) (h : Stands c.args.self.now u) where
+  abbrev plan : Plan
+  plan = c.args.self.now.plan
+
+  abbrev slots : List (Slot SourceMachine)
+  slots = c.args.self.now.slots.items
+
+  abbrev bytes : List ℕ
+  bytes = take c.feed_block-taken.result.bytes c.args.piece.now
+
+  size : length bytes ≡ c.feed_block-taken.result.bytes
+  size = length-take-le c.feed_block-taken.result.bytes c.args.piece.now c.feed_block-taken.ensures.bytes.1
+
+  live : AllLive is_live slots
+  live = live_now is_live c.args.self.now.live slots c.requires.live c.args.self.now.lives
+
+  abbrev Taken : List (Slot SourceMachine) → List Cell → Type 0
+  Taken before cells =
+      (mode : FramesMode) (v : List Placed) (byte : ℕ) → BytesRise 0 (c.args.at + (c.feed_block-taken.result.bytes - 1)) v →
+      PortAnswers mode c.feed_block-taken.result.step cells v (c.args.at + (c.feed_block-taken.result.bytes - 1)) byte →
+      (port_reading mode v).fault ≡ None → AreDistinct (mapped_of reading_of before) →
+      AllStand MachineStands before (runs_in (port_reading mode v)) →
+      StepTaken MachineStands (mapped_of reading_of before) c.take_step-stop.new.slots mode v
+      (v ++ byte_at (c.args.at + (c.feed_block-taken.result.bytes - 1)) byte ∷ []) c.take_step-stop.new.out.items c.take_step-stop.result
+
+  the_step : Stepped plan slots h.sources live c.take_step-stop.new.slots c.take_step-stop.new.counters u c.args.at bytes
+      c.take_step-stop.new.out.items c.take_step-stop.result c.flow_of.result
+  the_step =
+      stepped plan slots h.sources live c.take_step-stop.new.slots c.args.self.now.counters c.take_step-stop.new.counters
+      c.feed_block-taken.result.step c.feed_block-taken.new.out.items (c.args.at + (c.feed_block-taken.result.bytes - 1))
+      c.take_step-stop.new.out.items c.take_step-stop.result c.flow_of.result u c.args.at bytes
+      (rise_to u c.args.self.now.next c.args.at (subst (λ (k : ℕ). BytesRise 0 k u) (sym h.next) h.rising) c.requires.offsets.0)
+      (none_there (fault_of plan u) (sym h.live ∙ c.requires.live)) (h.going c.requires.live)
+      (subst (λ (ss : List (Mapped Packet)). AreDistinct ss) (sym h.sources) (distinct plan c.args.self.now.sound))
+      (subst (λ (mode : FramesMode). FedAs (PortAnswers mode Quiet []) (PortAnswers mode c.feed_block-taken.result.step c.feed_block-taken.new.out.items) u c.args.at bytes)
+      h.mode (c.feed_block-taken.ensures.fed u h.port))
+      (λ k e. (let a = size in omega arith))
+      (subst (λ (l : List (Slot SourceMachine)). Taken l c.feed_block-taken.new.out.items) c.as_mut_slice.ensures.value
+      (subst (λ (l : List Cell). Taken c.as_mut_slice.result.now l) c.as_slice.ensures.value c.take_step-stop.ensures.taken))
+      (subst (λ (l : List Cell). IsCounted plan slots h.sources live c.args.self.now.counters c.take_step-stop.new.counters c.feed_block-taken.result.step l (c.args.at + (c.feed_block-taken.result.bytes - 1)) c.take_step-stop.new.out.items c.take_step-stop.result)
+      c.as_slice.ensures.value c.take_step-stop.ensures.counted)
+      c.flow_of.ensures.fault
+
+pub returns-clause-fed : goal.returns-clause-fed
+returns-clause-fed c = λ u h. (the_step c u h).fed
+
+pub returns-clause-list : goal.returns-clause-list
+returns-clause-list c = λ u h.
+    let self = c.args.self.now in
+    let new = c.take_step-stop.new.slots in
+    let bytes = take c.feed_block-taken.result.bytes c.args.piece.now in
+    let all = slots_are reading_of self.slots.items new (c.take_step-stop.ensures.same ∙ ap (mapped_of reading_of) c.as_mut_slice.ensures.value) in
+    let step = the_step c u h in
+    let long = size c u h in
+    let rise = rise_to u self.next c.args.at (subst (λ (k : ℕ). BytesRise 0 k u) (sym h.next) h.rising) c.requires.offsets.0 in
+    let end = end_block bytes u c.args.at (let a = c.feed_block-taken.ensures.bytes.0 in omega arith) in
+    let gone = tested c.take_step-stop.result c.is_none-self.result c.is_none-self.ensures in
+    record {
+      port = c.feed_block-taken.ensures.list u h.port;
+      mode = c.feed_block-taken.ensures.same ∙ h.mode;
+      sources =
+          ap (mapped_of reading_of) all ∙ c.take_step-stop.ensures.same ∙ ap (mapped_of reading_of) c.as_mut_slice.ensures.value
+          ∙ h.sources;
+      rising =
+          subst (λ (k : ℕ). BytesRise 0 k (u ++ placed_from c.args.at bytes)) (sym end) (rise_block u c.args.at bytes rise);
+      next = ap (λ (k : ℕ). c.args.at + k) (sym long) ∙ sym end;
+      count =
+          (let a = h.count in let b = length-append u (placed_from c.args.at bytes) in
+          let d = length-placed_from c.args.at bytes in omega arith);
+      live = gone ∙ none_of c.take_step-stop.result ∙ ap is_none (sym step.fault);
+      going = λ k.
+          subst (λ (l : List (Slot SourceMachine)). Keeps self.plan l c.take_step-stop.new.counters (u ++ placed_from c.args.at bytes))
+          (sym all) (step.keeps (none_there c.take_step-stop.result (sym gone ∙ k)));
+    }

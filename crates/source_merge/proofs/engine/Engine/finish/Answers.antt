@@ -1,0 +1,45 @@
+use Rattle.std.proofs.Common.{◌≡◌, ℕ, List, sym, ◌∙◌, ap, subst}
+use Rattle.capture_plan.specs.declared.frames.FramesMode.{FramesMode}
+use Rattle.port_reader.specs.Reading.{port_reading}
+use Rattle.source_events.specs.declared.port_mode.PortMode.{PortMode}
+use Rattle.source_events.specs.declared.tails.SourceTail.{SourceTail}
+use Rattle.source_events.specs.declared.tails.Tails.{Tails}
+use Rattle.source_events.specs.Report.{runs_in}
+use Rattle.source_events.specs.Tails.{port_mode, tails_of}
+use Rattle.source_events.specs.Plan.{sources_by}
+use Rattle.source_machine.specs.Machine.{reading_of, Stands}
+use Rattle.source_machine.specs.declared.machine.SourceMachine.{SourceMachine}
+use Rattle.source_merge.specs.declared.slot.Slot.{Slot}
+use Rattle.source_merge.specs.Routing.{mapped_of, AllStand}
+use Rattle.source_merge.specs.Answering.{port_of}
+use Rattle.source_merge.proofs.Attributed.{unattributed_are}
+use Rattle.source_merge.proofs.engine.Engine.finish.Goals as goal
+
+same_tails : (n bytes : ℕ) (m mode : PortMode) (s skipped t tail a unattributed : ℕ) (l sources : List SourceTail) →
+    n ≡ bytes → m ≡ mode → s ≡ skipped → t ≡ tail → a ≡ unattributed → l ≡ sources →
+    (let x : Tails = record { bytes = n; mode = m; skipped = s; tail = t; unattributed = a; sources = l } in
+    let y : Tails = record {
+      bytes = bytes;
+      mode = mode;
+      skipped = skipped;
+      tail = tail;
+      unattributed = unattributed;
+      sources = sources;
+    } in x ≡ y)
+same_tails n bytes m mode s skipped t tail a unattributed l sources e f g h i j = cc
+
+pub returns : goal.returns
+returns c = λ u h.
+    let self = c.args.self.now in
+    let plan = self.plan in
+    let k = h.going c.requires in
+    let r = port_of plan u in
+    let t = tails_of plan u in
+    same_tails _ t.bytes _ t.mode _ t.skipped _ t.tail _ t.unattributed _ t.sources h.count
+    (c.of_port.ensures ∙ ap (port_mode plan.frames) (c.is_locked.ensures.list u h.port ∙ ap (λ (m : FramesMode). (port_reading m u).locked) h.mode))
+    (c.skipped.ensures.list u h.port ∙ ap (λ (m : FramesMode). (port_reading m u).skipped) h.mode)
+    (c.tail.ensures.list u h.port ∙ ap (λ (m : FramesMode). (port_reading m u).tail) h.mode)
+    (c.unattributed.ensures (runs_in r) k.counted.bytes ∙ unattributed_are plan.frames u)
+    (c.source_tails.ensures r
+    (subst (λ (l : List (Slot SourceMachine)). mapped_of reading_of l ≡ sources_by plan) (sym c.as_slice.ensures.value) h.sources)
+    (subst (λ (l : List (Slot SourceMachine)). AllStand Stands l (runs_in r)) (sym c.as_slice.ensures.value) k.stand))

@@ -1,0 +1,30 @@
+use Rattle.std.proofs.Common.{◌≡◌, ℕ, ◌+◌, ◌-◌, ◌*◌, ◌≤◌, List, ◌++◌, length}
+use Rattle.arrayvec.specs.ArrayVec.{array_vec_len}
+use Rattle.trace_values.specs.declared.cell.Cell.{Cell}
+use Rattle.source_events.specs.Runs.{RisesFrom, runs_of}
+use Rattle.source_merge.specs.Routing.{mapped_of, AllLive, AllStand, HaveRoom, AreDistinct, RunsBetween, Filled}
+use Rattle.source_events.specs.Fitting.{AllFit}
+use Rattle.source_merge.specs.Counting.{HasBytes, bytes_counted}
+use Rattle.source_merge.proofs.router.take_frame.Given as goal
+
+-- the runs so far are taken, and none had a fault
+abbrev pub invariant-loop-rest : goal.invariant-loop-rest
+invariant-loop-rest g l =
+    let machine = g.M.Machine in
+    record {
+      done : List (List Cell);
+      parts : runs_of l.fn.cells ≡ done ++ runs_of l.rest;
+      same : mapped_of machine.reading l.slots ≡ mapped_of machine.reading l.fn.slots;
+      live : AllLive machine.live l.slots;
+      size : length l.rest ≤ length l.fn.cells;
+      room : (n : ℕ) → HaveRoom machine.held_units machine.skipped_units n l.fn.slots → HaveRoom machine.held_units machine.skipped_units (n + 2 * (length l.fn.cells - length l.rest)) l.slots;
+      events : array_vec_len l.out ≤ 2 * (length l.fn.cells - length l.rest);
+      fits : AllFit machine.fits l.out.items;
+      counted : (runs : List (List Cell)) → HasBytes l.fn.counts runs → HasBytes l.counts (runs ++ done);
+      count : bytes_counted l.counts ≤ bytes_counted l.fn.counts + (length l.fn.cells - length l.rest);
+      fed : (runs : List (List Cell)) (n : ℕ) → AreDistinct (mapped_of machine.reading l.fn.slots) → AllStand machine.stands l.fn.slots runs → RunsBetween 0 n runs → RisesFrom n l.fn.cells →
+          Filled machine.stands (mapped_of machine.reading l.fn.slots) l.slots runs n done l.rest l.out.items;
+    }
+
+abbrev pub decreases-loop-rest : goal.decreases-loop-rest
+decreases-loop-rest g l = length l.rest

@@ -1,0 +1,18 @@
+use Rattle.std.proofs.Common.{List, [], ◌∷◌, ◌++◌, subst}
+use Rattle.trace_values.specs.Placed.{byte_at}
+use Rattle.port_reader.specs.Reading.{port_reading}
+use Rattle.source_events.specs.declared.event.Event.{Event}
+use Rattle.source_events.specs.declared.packet.Packet.{Packet}
+use Rattle.source_merge.specs.Counting.{HasItems}
+use Rattle.source_merge.proofs.step.take_step.Goals as goal
+
+pub returns-clause-counted : goal.returns-clause-counted
+returns-clause-counted g c = λ mode u byte es k step h. record {
+  bytes = c.take_ended-stop.ensures.counted mode u byte k step h.bytes;
+  items =
+      subst (λ (l : List (Event Packet)). HasItems c.add_items.new.self (es ++ l)) c.as_slice.ensures.value
+      (c.add_items.ensures.items es h.items);
+  port =
+      c.add_step.ensures.counted (port_reading mode u) (port_reading mode (u ++ byte_at c.args.at byte ∷ [])) c.args.at
+      c.args.cells.now step h.port;
+}

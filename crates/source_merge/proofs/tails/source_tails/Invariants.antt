@@ -1,0 +1,16 @@
+use Rattle.std.proofs.Common.{◌≡◌, ◌≤◌, length}
+use Rattle.port_reader.specs.Reading.{PortReading}
+use Rattle.source_events.specs.Plan.{sources_by}
+use Rattle.source_events.specs.Report.{runs_in}
+use Rattle.source_events.specs.Tails.{source_tails}
+use Rattle.source_machine.specs.Machine.{Stands, reading_of}
+use Rattle.source_merge.specs.Routing.{AllStand, mapped_of}
+use Rattle.source_merge.proofs.Ending.{below}
+use Rattle.source_merge.proofs.tails.source_tails.Given as goal
+
+abbrev pub invariant-loop-number : goal.invariant-loop-number
+invariant-loop-number l = record {
+  few : length l.tails ≤ below l.number l.slots;
+  tails : (r : PortReading) → mapped_of reading_of l.slots ≡ sources_by l.plan → AllStand Stands l.slots (runs_in r) →
+      l.tails ≡ source_tails l.plan r l.number;
+}

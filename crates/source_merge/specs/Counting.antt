@@ -1,0 +1,59 @@
+-- What is counted of a capture.
+use Rattle.std.specs.Prelude.{◌≡◌, ℕ, ◌+◌, ◌≤◌, List, length, slice_index, sum, if◌then◌else◌, is_none}
+use Rattle.std.specs.List.{sum_by}
+use Rattle.trace_values.specs.declared.cell.Cell.{Cell}
+use Rattle.port_reader.specs.Reading.{PortReading}
+use Rattle.source_events.specs.declared.event.Event.{Event}
+use Rattle.source_events.specs.declared.packet.Packet.{Packet}
+use Rattle.source_events.specs.declared.tails.PortCounts.{PortCounts}
+use Rattle.source_events.specs.Runs.{id_of, list_of}
+use Rattle.source_events.specs.Report.{runs_in}
+use Rattle.source_events.specs.Tails.{items_in}
+use Rattle.source_merge.specs.declared.counts.PerSource.{PerSource}
+use Rattle.source_merge.specs.declared.counts.ByteCounts.{ByteCounts}
+use Rattle.source_merge.specs.declared.counts.Counters.{Counters}
+
+-- the number of a source, and the sum of all
+abbrev pub number_of : PerSource → ℕ → ℕ
+number_of numbers id = slice_index numbers.numbers id
+
+abbrev pub total_of : PerSource → ℕ
+total_of numbers = sum numbers.numbers
+
+-- the bytes of a source in these runs, and those of no source
+abbrev pub bytes_in : ℕ → List (List Cell) → ℕ
+bytes_in id runs = length (list_of id runs)
+
+abbrev pub unattributed_in : List (List Cell) → ℕ
+unattributed_in runs = sum_by (λ run. if is_none (id_of run) then length run else 0) runs
+
+-- it has counted the bytes of these runs
+pub record HasBytes (counts : ByteCounts) (runs : List (List Cell)) : Type 0 where
+  pub sources : (id : ℕ) → id ≤ 126 → number_of counts.sources id ≡ bytes_in id runs
+  pub unattributed : counts.unattributed ≡ unattributed_in runs
+
+-- it has counted the items of these events
+abbrev pub HasItems : PerSource → List (Event Packet) → Type 0
+HasItems counts es = (id : ℕ) → id ≤ 126 → number_of counts id ≡ items_in id es
+
+-- these are the counts of the port's reading
+pub record HasPort (counts : PortCounts) (r : PortReading) : Type 0 where
+  pub fulls : counts.fulls ≡ r.fulls
+  pub halves : counts.halves ≡ r.halves
+  pub frames : counts.frames ≡ length r.frames
+
+-- it has counted all of this reading of the port, and of these events
+pub record HasCounted (counters : Counters) (r : PortReading) (es : List (Event Packet)) : Type 0 where
+  pub bytes : HasBytes counters.bytes (runs_in r)
+  pub items : HasItems counters.items es
+  pub port : HasPort counters.port r
+
+-- how many bytes it has counted, and how much in all
+abbrev pub bytes_counted : ByteCounts → ℕ
+bytes_counted counts = total_of counts.sources + counts.unattributed
+
+abbrev pub port_total : PortCounts → ℕ
+port_total counts = counts.fulls + counts.halves + counts.frames
+
+abbrev pub size_of : Counters → ℕ
+size_of counters = bytes_counted counters.bytes + total_of counters.items + port_total counters.port

@@ -1,0 +1,46 @@
+-- What an engine stands for, and what it shows.
+use Rattle.std.specs.Prelude.{◌≡◌, ℕ, List, length, Bool, true, is_none}
+use Rattle.trace_values.specs.Placed.{Placed}
+use Rattle.frame_grammar.specs.Reading.{offsets_of}
+use Rattle.port_reader.specs.Reader as reader
+use Rattle.port_reader.specs.Rising.{BytesRise, end_at}
+use Rattle.source_events.specs.declared.plan.Plan.{Plan}
+use Rattle.source_events.specs.Plan.{sources_by}
+use Rattle.source_events.specs.Report.{runs_in}
+use Rattle.source_machine.specs.Machine as machine
+use Rattle.source_machine.specs.declared.machine.SourceMachine.{SourceMachine}
+use Rattle.source_merge.specs.declared.slot.Slot.{Slot}
+use Rattle.source_merge.specs.declared.counts.Counters.{Counters}
+use Rattle.source_merge.specs.declared.engine.Engine.{Engine}
+use Rattle.source_merge.specs.Routing.{mapped_of, AllStand}
+use Rattle.source_merge.specs.Counting.{HasCounted}
+use Rattle.source_merge.specs.Answering.{port_of, report_of, fault_of}
+
+-- what it reads by
+abbrev pub plan_of : Engine → Plan
+plan_of engine = engine.plan
+
+-- its report has no fault so far
+abbrev pub is_live : Engine → Bool
+is_live engine = engine.live
+
+-- one more than the last offset that was fed, and 0 at first
+abbrev pub next_of : Engine → ℕ
+next_of engine = engine.next
+
+-- these machines stand for the lists of their sources, and these counters have counted what came
+pub record Keeps (plan : Plan) (slots : List (Slot SourceMachine)) (counters : Counters) (u : List Placed) : Type 0 where
+  pub stand : AllStand machine.Stands slots (runs_in (port_of plan u))
+  pub counted : HasCounted counters (port_of plan u) (report_of plan u)
+
+-- It has read these bytes, whose offsets rise: its port stands for them, it is live exactly where their report has no
+-- fault, and while it is live it keeps what the report goes on with.
+pub record Stands (engine : Engine) (u : List Placed) : Type 0 where
+  pub port : reader.Stands engine.port u
+  pub mode : reader.mode_of engine.port ≡ engine.plan.frames
+  pub sources : mapped_of machine.reading_of engine.slots.items ≡ sources_by engine.plan
+  pub rising : BytesRise 0 (end_at 0 (offsets_of u)) u
+  pub next : engine.next ≡ end_at 0 (offsets_of u)
+  pub count : engine.count ≡ length u
+  pub live : engine.live ≡ is_none (fault_of engine.plan u)
+  pub going : engine.live ≡ true → Keeps engine.plan engine.slots.items engine.counters u

@@ -1,0 +1,39 @@
+-- What a machine makes of a run.
+use Rattle.std.specs.Prelude.{◌≡◌, ℕ, List, ◌++◌, Option, None, Some}
+use Rattle.std.specs.Option.{option_map}
+use Rattle.trace_values.specs.declared.cell.Cell.{Cell}
+use Rattle.trace_values.specs.declared.fault.Fault.{Fault}
+use Rattle.trace_values.specs.declared.fault.Reason.{Reason}
+use Rattle.trace_values.specs.declared.step.Step.{Step}
+use Rattle.trace_values.specs.declared.step.Step.TheVariants.{Fault as Faulty}
+use Rattle.trace_values.specs.Placed.{Place, Placed}
+use Rattle.trace_values.specs.Stream.{Said, Stream}
+use Rattle.source_events.specs.declared.event.Event.{Event}
+use Rattle.source_events.specs.Runs.{placed_run, RisesFrom}
+use Rattle.source_events.specs.Merge.{told, start_of, AllIn}
+use Rattle.source_events.specs.Report.{lifted}
+
+-- the fault that a step tells
+abbrev pub step_fault : {V : Type 0} → Step V → Option Fault
+step_fault (Faulty f) = Some f
+step_fault s = None
+
+-- a fault, as a reading has it
+abbrev pub place_and_reason : Fault → Place × Reason
+place_and_reason f = (record { at = f.at; half = f.half }, f.reason)
+
+-- After u a machine took a run. Its reading grew by what was given as events of this source, and has this fault.
+pub record Feeds {V : Type 0} (reading : List Placed → Stream V) (stands : List Placed → Type 0) (u : List Placed)
+    (run : List Cell) (id : ℕ) (old new : List (Event V)) (fault : Option Fault) : Type 0 where
+  pub given : List (Said V × Place)
+  pub events : new ≡ old ++ told (Some id) (lifted given)
+  pub grew : (reading (u ++ placed_run run)).given ≡ (reading u).given ++ given
+  pub fault_is : (reading (u ++ placed_run run)).fault ≡ option_map place_and_reason fault
+  pub list : fault ≡ None → stands (u ++ placed_run run)
+
+-- what was given before a fault is before it
+abbrev pub IsEarly : {V : Type 0} → (List Placed → Stream V) → (List Placed → Type 0) → List Cell → Option Fault → Type 0
+IsEarly reading stands run None = Unit {0}
+IsEarly {V} reading stands run (Some f) =
+    (u : List Placed) → stands u → (n : ℕ) → RisesFrom n run → (given : List (Said V × Place)) →
+    (reading (u ++ placed_run run)).given ≡ (reading u).given ++ given → AllIn (start_of n) f.at given

@@ -1,0 +1,7 @@
+pub mod Feeding
+pub mod Routing
+pub mod Counting
+pub mod Answering
+pub mod Stepping
+pub mod Ending
+pub mod Engine

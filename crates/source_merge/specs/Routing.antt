@@ -1,0 +1,113 @@
+-- What the code makes of the runs of a frame.
+use Rattle.std.specs.Prelude.{◌≡◌, ◌≢◌, ℕ, ◌+◌, ◌*◌, ◌<◌, ◌≤◌, List, [], ◌∷◌, ◌++◌, Bool, true, false, Option, None, Some, is_none, map, length}
+use Rattle.std.specs.Option.{option_map}
+use Rattle.std.specs.Coded.{×_prop, Unit-prop, le_prop}
+use Rattle.std.proofs.Math.Bool.{Bool-set}
+use Rattle.trace_values.specs.declared.cell.Cell.{Cell}
+use Rattle.trace_values.specs.declared.fault.Fault.{Fault}
+use Rattle.trace_values.specs.Placed.{Placed}
+use Rattle.trace_values.specs.Stream.{Stream}
+use Rattle.source_events.specs.declared.event.Event.{Event}
+use Rattle.source_events.specs.declared.event.Stop.{Stop}
+use Rattle.source_events.specs.Runs.{RisesFrom, IsRunFrom, end_of, list_of, id_of}
+use Rattle.source_events.specs.Merge.{grown, merged_from, InOrder, Between, Below}
+use Rattle.source_events.specs.Report.{Mapped, events, reported, least_fault, stop_of}
+use Rattle.source_merge.specs.declared.slot.Slot.{Slot}
+use Rattle.source_merge.specs.Feeding.{Feeds, IsEarly}
+
+-- the mapped sources of these machines
+abbrev pub mapped_of : {M V : Type 0} → (M → List Placed → Stream V) → List (Slot M) → List (Mapped V)
+mapped_of reading slots = map (λ s. record { id = s.id; stream = reading s.machine }) slots
+
+-- All machines are live. They stand for their lists in these runs. They have this room. No two have one ID.
+abbrev pub AllLive : {M : Type 0} → (M → Bool) → List (Slot M) → Type 0
+AllLive live [] = Unit {0}
+AllLive live (s ∷ slots) = (live s.machine ≡ true) × AllLive live slots
+
+abbrev pub AllStand : {M : Type 0} → (M → List Placed → Type 0) → List (Slot M) → List (List Cell) → Type 0
+AllStand stands [] runs = Unit {0}
+AllStand stands (s ∷ slots) runs = stands s.machine (list_of s.id runs) × AllStand stands slots runs
+
+abbrev pub HaveRoom : {M : Type 0} → (M → ℕ) → (M → ℕ) → ℕ → List (Slot M) → Type 0
+HaveRoom held skipped n [] = Unit {0}
+HaveRoom held skipped n (s ∷ slots) = (held s.machine + skipped s.machine ≤ n) × HaveRoom held skipped n slots
+
+abbrev pub HasNot : {V : Type 0} → ℕ → List (Mapped V) → Type 0
+HasNot x [] = Unit {0}
+HasNot x (s ∷ ss) = (x ≢ s.id) × HasNot x ss
+
+abbrev pub AreDistinct : {V : Type 0} → List (Mapped V) → Type 0
+AreDistinct [] = Unit {0}
+AreDistinct (s ∷ ss) = HasNot s.id ss × AreDistinct ss
+
+-- runs from one offset on, up to another
+abbrev pub RunsBetween : ℕ → ℕ → List (List Cell) → Type 0
+RunsBetween n k runs = Between IsRunFrom end_of n k runs
+
+-- The machine of one slot took a run: the slots before and after it are as before.
+pub record SlotFed {M V : Type 0} (reading : M → List Placed → Stream V) (stands : M → List Placed → Type 0)
+    (live : M → Bool) (held skipped : M → ℕ) (front : List (Slot M)) (s : Slot M) (back : List (Slot M))
+    (slots : List (Slot M)) (run : List Cell) (id : ℕ) (old new : List (Event V)) (fault : Option Fault) : Type 0 where
+  pub slot : Slot M
+  pub parts : slots ≡ front ++ (slot ∷ back)
+  pub id_is : slot.id ≡ s.id
+  pub same : reading slot.machine ≡ reading s.machine
+  pub live_is : live slot.machine ≡ is_none fault
+  pub few : held slot.machine + skipped slot.machine ≤ held s.machine + skipped s.machine + 2 * length run
+  pub feeds : (u : List Placed) → stands s.machine u → Feeds (reading s.machine) (stands slot.machine) u run id old new fault
+  pub early : IsEarly (reading s.machine) (stands s.machine) run fault
+
+-- After these runs one more stops the report with its fault, whatever follows.
+pub record Stops {V : Type 0} (mapped : List (Mapped V)) (runs : List (List Cell)) (n : ℕ) (run : List Cell)
+    (stop : Stop) : Type 0 where
+  pub from : n ≤ stop.fault.at
+  pub within : stop.fault.at < end_of run
+  pub early : Below stop.fault.at (grown (events mapped) runs run (id_of run))
+  pub least : (rest : List (List Cell)) → InOrder IsRunFrom end_of (end_of run) rest →
+      least_fault mapped ((runs ++ run ∷ []) ++ rest) ≡ Some (stop_of stop)
+
+abbrev pub StopsBy : {V : Type 0} → List (Mapped V) → List (List Cell) → ℕ → List Cell → Option Stop → Type 0
+StopsBy mapped runs n run None = Unit {0}
+StopsBy mapped runs n run (Some stop) = Stops mapped runs n run stop
+
+-- After these runs, all below n, one more was taken.
+pub record Took {M V : Type 0} (stands : M → List Placed → Type 0) (mapped : List (Mapped V)) (slots : List (Slot M))
+    (runs : List (List Cell)) (n : ℕ) (run : List Cell) (old new : List (Event V)) (stop : Option Stop) : Type 0 where
+  pub given : new ≡ old ++ grown (events mapped) runs run (id_of run)
+  pub list : stop ≡ None → AllStand stands slots (runs ++ run ∷ [])
+  pub stops : StopsBy mapped runs n run stop
+
+-- After these runs, all below n, some more were taken, and none had a fault; the rest of the cells come after them.
+pub record Filled {M V : Type 0} (stands : M → List Placed → Type 0) (mapped : List (Mapped V)) (slots : List (Slot M))
+    (runs : List (List Cell)) (n : ℕ) (done : List (List Cell)) (rest : List Cell) (given : List (Event V)) : Type 0 where
+  pub at : ℕ
+  pub between : RunsBetween n at done
+  pub rises : RisesFrom at rest
+  pub given_is : given ≡ merged_from id_of (events mapped) runs done
+  pub list : AllStand stands slots (runs ++ done)
+
+-- After these runs some more were taken: what was given is what they add to the report, and the fault is its fault.
+pub record Fed {M V : Type 0} (stands : M → List Placed → Type 0) (mapped : List (Mapped V)) (slots : List (Slot M))
+    (runs more : List (List Cell)) (given : List (Event V)) (stop : Option Stop) : Type 0 where
+  pub grew : reported mapped (runs ++ more) ≡ reported mapped runs ++ given
+  pub fault_is : least_fault mapped (runs ++ more) ≡ option_map stop_of stop
+  pub list : stop ≡ None → AllStand stands slots (runs ++ more)
+
+-- where it is so, all machines are live
+abbrev pub LiveIf : {M : Type 0} → (M → Bool) → Bool → List (Slot M) → Type 0
+LiveIf live true slots = AllLive live slots
+LiveIf live false slots = Unit {0}
+
+-- each of these facts holds in one way only
+pub HaveRoom-prop : {M : Type 0} → (held skipped : M → ℕ) (n : ℕ) (slots : List (Slot M)) →
+    IsProp (HaveRoom held skipped n slots)
+HaveRoom-prop held skipped n [] = Unit-prop
+HaveRoom-prop held skipped n (s ∷ slots) = ×_prop le_prop (HaveRoom-prop held skipped n slots)
+
+pub AllLive-prop : {M : Type 0} → (live : M → Bool) (slots : List (Slot M)) → IsProp (AllLive live slots)
+AllLive-prop live [] = Unit-prop
+AllLive-prop live (s ∷ slots) = ×_prop (Bool-set (live s.machine) true) (AllLive-prop live slots)
+
+pub LiveIf-prop : {M : Type 0} → (live : M → Bool) (so : Bool) (slots : List (Slot M)) → IsProp (LiveIf live so slots)
+LiveIf-prop live true slots = AllLive-prop live slots
+LiveIf-prop live false slots = Unit-prop

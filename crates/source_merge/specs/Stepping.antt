@@ -1,0 +1,18 @@
+-- What the code makes of a step of the port.
+use Rattle.std.specs.Prelude.{◌≡◌, ◌++◌, List, Option, None}
+use Rattle.std.specs.Option.{option_map}
+use Rattle.trace_values.specs.Placed.{Placed}
+use Rattle.capture_plan.specs.declared.frames.FramesMode.{FramesMode}
+use Rattle.port_reader.specs.Reading.{port_reading}
+use Rattle.source_events.specs.declared.event.Event.{Event}
+use Rattle.source_events.specs.declared.event.Stop.{Stop}
+use Rattle.source_events.specs.Report.{Mapped, report, runs_in, stop_in, stop_of}
+use Rattle.source_merge.specs.declared.slot.Slot.{Slot}
+use Rattle.source_merge.specs.Routing.{AllStand}
+
+-- With one more byte, which makes `next` of u, the report grew by what was given, and this is its fault.
+pub record StepTaken {M V : Type 0} (stands : M → List Placed → Type 0) (ss : List (Mapped V)) (slots : List (Slot M))
+    (mode : FramesMode) (u next : List Placed) (given : List (Event V)) (stop : Option Stop) : Type 0 where
+  pub grew : report ss mode next ≡ report ss mode u ++ given
+  pub stop_is : stop_in ss (port_reading mode next) ≡ option_map stop_of stop
+  pub list : stop ≡ None → AllStand stands slots (runs_in (port_reading mode next))

@@ -1,0 +1,242 @@
+//! The reading of a capture with all its sources.
+
+ghost use Rattle.std.specs.Prelude.{◌≡◌, ◌+◌, ◌*◌, ◌^◌, ◌≤◌, true};
+ghost use Rattle.port_reader.specs.Reader.{is_live as is_port_live, skipped_by as skipped_by_port, tail_of};
+ghost use Rattle.source_events.specs.Plan.{is_sound};
+ghost use Rattle.source_machine.specs.Machine.{held_of, is_live as is_machine_live, skipped_by};
+ghost use Rattle.source_merge.specs.Counting.{size_of};
+ghost use Rattle.source_merge.specs.Routing.{HaveRoom, HaveRoom-prop, LiveIf, LiveIf-prop};
+
+use crate::counts::Counters;
+use crate::flow::{Fed, Flow, flow_of};
+use crate::slot::{Events, Slot};
+use crate::step::take_step;
+use crate::tails::source_tails;
+use arrayvec::ArrayVec;
+use port_reader::PortReader;
+use source_counts::Counts;
+use source_events::{MAPPED_SOURCES, Plan, PortCounts, PortMode, Tails};
+use source_machine::SourceMachine;
+use trace_values::{Cell, SourceId};
+
+/// Reads a capture byte by byte, its port and each mapped source, and gives the events of its report in order. It keeps
+/// what it needs of the unfinished frame and of one unfinished packet of each source.
+///
+/// It **stands for** a list of placed bytes, whose offsets rise, if what it keeps is that of the list's report. Its clauses
+/// hold for every list that it stood for before the call; a new engine stands for the empty one.
+#[derive(Drop)]
+pub struct Engine {
+    plan: Plan,
+    port: PortReader,
+    slots: ArrayVec<Slot<SourceMachine>, MAPPED_SOURCES>,
+    /// The cells of the frame that is taken.
+    cells: ArrayVec<Cell, 15>,
+    counters: Counters,
+    /// How many bytes were fed.
+    count: u64,
+    next: u64,
+    live: bool,
+    ghost sound: { is_sound plan ≡ true },
+    ghost few: { tail_of port + skipped_by_port port ≤ count },
+    ghost room: { HaveRoom held_of skipped_by (30 * count) slots.items } by { HaveRoom-prop held_of skipped_by (30 * count) slots.items },
+    ghost size: { size_of counters ≤ 46 * count },
+    ghost within: { count ≤ next },
+    ghost limit: { next ≤ 2 ^ 36 + 1 },
+    ghost port_live: { live ≡ true → is_port_live port ≡ true },
+    ghost lives: { LiveIf is_machine_live live slots.items } by { LiveIf-prop is_machine_live live slots.items },
+}
+
+impl Engine {
+    ghost use Rattle.std.specs.Prelude.{ℕ, ◌<◌, ◌++◌, ◌∷◌, [], List, length, take, is_none};
+    ghost use Rattle.arrayvec.specs.ArrayVec.{array_vec_len};
+    ghost use Rattle.trace_values.specs.Placed.{Placed, byte_at, placed_from};
+    ghost use Rattle.deformatter.specs.Block.{FedAs};
+    ghost use Rattle.source_events.specs.Fitting.{AllFit, PacketFits};
+    ghost use Rattle.source_events.specs.Tails.{port_counts_of, source_counts_of, tails_of};
+    ghost use Rattle.source_merge.specs.Answering.{Answers, fault_of, goes_on};
+    ghost use Rattle.source_merge.specs.declared.flow.Flow.TheVariants.{Going};
+    ghost use Rattle.source_merge.specs.Engine.{Stands, is_live, next_of, plan_of};
+
+    /// An engine before the first byte. Its plan is sound.
+    pub fn new(plan: Plan) -> Engine
+        requires sound { is_sound plan ≡ true }
+        ensures plan { plan_of result ≡ plan }
+        ensures fresh { Stands result [] }
+        ensures live { is_live result ≡ true }
+        ensures next { next_of result ≡ 0 }
+    {
+        let mut slots = ArrayVec::new();
+        for id in plan.itm.as_slice() {
+            slots.push(Slot {
+                id: *id,
+                machine: SourceMachine::itm(plan.packets),
+            });
+        }
+        let port = PortReader::new(plan.frames);
+        Engine {
+            plan,
+            port,
+            slots,
+            cells: ArrayVec::new(),
+            counters: Counters::new(),
+            count: 0,
+            next: 0,
+            live: true,
+        }
+    }
+
+    /// What it reads by.
+    pub fn plan(&self) -> &Plan
+        ensures { result.now ≡ plan_of self.now }
+    {
+        &self.plan
+    }
+
+    /// False exactly after an answer `Stopped`.
+    #[inline]
+    pub fn is_live(&self) -> bool
+        ensures value { result ≡ is_live self.now }
+        ensures list { (u : List Placed) → Stands self.now u → result ≡ is_none (fault_of (plan_of self.now) u) }
+    {
+        self.live
+    }
+
+    /// 0 at first, and then one more than the last offset that was fed.
+    #[inline]
+    pub fn next(&self) -> u64
+        ensures { result ≡ next_of self.now }
+    {
+        self.next
+    }
+
+    /// Takes the next byte, which is at this offset, and gives the events that are decided with it, in order. `Stopped` says
+    /// that the report's fault has become certain; `out` then has the events before it.
+    ///
+    /// The engine is live, `out` is empty, and the offset is at least `next()` and at most 2^36.
+    pub fn feed(&mut self, at: u64, byte: u8, out: &mut Events) -> Flow
+        requires live { is_live self.old ≡ true }
+        requires empty { out.old.items ≡ [] }
+        requires offset { (next_of self.old ≤ at) × (at ≤ 2 ^ 36) }
+        ensures same { plan_of self.new ≡ plan_of self.old }
+        ensures next { next_of self.new ≡ at + 1 }
+        ensures live { is_live self.new ≡ goes_on result }
+        ensures few { array_vec_len out.new ≤ 30 }
+        ensures fits { AllFit PacketFits out.new.items }
+        ensures list { (u : List Placed) → Stands self.old u → Stands self.new (u ++ byte_at at byte ∷ []) }
+        ensures fed { (u : List Placed) → Stands self.old u →
+            Answers (plan_of self.old) out.new.items result u at byte }
+    {
+        self.feed_step(at, &[byte], out).flow
+    }
+
+    /// Takes bytes from the front of a piece, the first of which is at this offset, up to the first byte at which `feed`
+    /// would give an event or `Stopped`, or to the piece's end. It answers and leaves what feeding these bytes one by one
+    /// by `feed` does.
+    ///
+    /// The engine is live, `out` is empty, and the piece has a byte. Its first offset is at least `next()`, and its last one
+    /// at most 2^36.
+    pub fn feed_block(&mut self, at: u64, piece: &[u8], out: &mut Events) -> Fed
+        requires live { is_live self.old ≡ true }
+        requires empty { out.old.items ≡ [] }
+        requires some { 0 < length piece.now }
+        requires offsets { (next_of self.old ≤ at) × (at + length piece.now ≤ 2 ^ 36 + 1) }
+        ensures same { plan_of self.new ≡ plan_of self.old }
+        ensures bytes { (0 < result.bytes) × (result.bytes ≤ length piece.now) }
+        ensures stops { out.new.items ≡ [] → result.flow ≡ Going → result.bytes ≡ length piece.now }
+        ensures next { next_of self.new ≡ at + result.bytes }
+        ensures live { is_live self.new ≡ goes_on result.flow }
+        ensures few { array_vec_len out.new ≤ 30 }
+        ensures fits { AllFit PacketFits out.new.items }
+        ensures list { (u : List Placed) → Stands self.old u →
+            Stands self.new (u ++ placed_from at (take result.bytes piece.now)) }
+        ensures fed { (u : List Placed) → Stands self.old u →
+            FedAs (Answers (plan_of self.old) [] Going) (Answers (plan_of self.old) out.new.items result.flow)
+            u at (take result.bytes piece.now) }
+    {
+        let mut bytes = 0;
+        while bytes < piece.len() {
+            let fed = self.feed_step(at + bytes as u64, &piece[bytes..], out);
+            bytes += fed.bytes;
+            if !out.is_empty() || !self.live {
+                return Fed {
+                    bytes,
+                    flow: fed.flow,
+                };
+            }
+        }
+        Fed {
+            bytes,
+            flow: Flow::Going,
+        }
+    }
+
+    /// Takes bytes from the front of a piece up to the first one that ends a frame or a synchronisation, or is a fault, or
+    /// to the piece's end. With no formatter it takes one byte.
+    fn feed_step(&mut self, at: u64, piece: &[u8], out: &mut Events) -> Fed
+        requires live { is_live self.old ≡ true }
+        requires empty { out.old.items ≡ [] }
+        requires some { 0 < length piece.now }
+        requires offsets { (next_of self.old ≤ at) × (at + length piece.now ≤ 2 ^ 36 + 1) }
+        ensures same { plan_of self.new ≡ plan_of self.old }
+        ensures bytes { (0 < result.bytes) × (result.bytes ≤ length piece.now) }
+        ensures next { next_of self.new ≡ at + result.bytes }
+        ensures live { is_live self.new ≡ goes_on result.flow }
+        ensures few { array_vec_len out.new ≤ 30 }
+        ensures fits { AllFit PacketFits out.new.items }
+        ensures list { (u : List Placed) → Stands self.old u →
+            Stands self.new (u ++ placed_from at (take result.bytes piece.now)) }
+        ensures fed { (u : List Placed) → Stands self.old u →
+            FedAs (Answers (plan_of self.old) [] Going) (Answers (plan_of self.old) out.new.items result.flow)
+            u at (take result.bytes piece.now) }
+    {
+        self.cells.clear();
+        let taken = self.port.feed_block(at, piece, &mut self.cells);
+        let stop = take_step(
+            self.slots.as_mut_slice(),
+            &mut self.counters,
+            at + (taken.bytes as u64 - 1),
+            taken.step,
+            self.cells.as_slice(),
+            out,
+        );
+        self.count += taken.bytes as u64;
+        self.next = at + taken.bytes as u64;
+        self.live = stop.is_none();
+        Fed {
+            bytes: taken.bytes,
+            flow: flow_of(stop),
+        }
+    }
+
+    /// How many bytes a source has, and how many events without notices. The engine is live.
+    pub fn counts(&self, id: SourceId) -> Counts
+        requires { is_live self.now ≡ true }
+        ensures { (u : List Placed) → Stands self.now u → result ≡ source_counts_of (plan_of self.now) u id }
+    {
+        self.counters.of(id)
+    }
+
+    /// How many synchronisations and frames the port has. The engine is live.
+    pub fn port_counts(&self) -> PortCounts
+        requires { is_live self.now ≡ true }
+        ensures { (u : List Placed) → Stands self.now u → result ≡ port_counts_of (plan_of self.now) u }
+    {
+        self.counters.port
+    }
+
+    /// How the capture ends here: how its port and each mapped source were read, what was skipped, and what is left over.
+    /// The engine is live.
+    pub fn finish(&self) -> Tails
+        requires { is_live self.now ≡ true }
+        ensures { (u : List Placed) → Stands self.now u → result ≡ tails_of (plan_of self.now) u }
+    {
+        Tails {
+            bytes: self.count,
+            mode: PortMode::of_port(self.plan.frames, self.port.is_locked()),
+            skipped: self.port.skipped(),
+            tail: self.port.tail(),
+            unattributed: self.counters.bytes.unattributed(),
+            sources: source_tails(&self.plan, self.slots.as_slice()),
+        }
+    }
+}

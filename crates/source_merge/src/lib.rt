@@ -1,0 +1,14 @@
+//! All sources of a capture in one report, as its bytes come.
+#![tactic(auto)]
+
+mod counts;
+mod engine;
+mod flow;
+mod router;
+mod slot;
+mod step;
+mod tails;
+
+pub use engine::Engine;
+pub use flow::{Fed, Flow};
+pub use slot::{EVENTS, Events};

@@ -1,0 +1,165 @@
+//! The runs of a frame, each to its source.
+
+ghost use Rattle.std.specs.Prelude.{◌≡◌, ◌+◌, ◌*◌, ◌^◌, ◌<◌, ◌≤◌, ◌++◌, ◌∷◌, [], ℕ, List, length, is_none, true, None, Some, position, ◌==◌};
+ghost use Rattle.arrayvec.specs.ArrayVec.{array_vec_len};
+ghost use Rattle.trace_values.specs.declared.cell.Cell.{Cell};
+ghost use Rattle.source_events.specs.Runs.{RisesFrom, IsRunFrom, end_of, runs_of, id_of};
+ghost use Rattle.source_events.specs.Merge.{told};
+ghost use Rattle.source_events.specs.Report.{raw_events, triggers};
+ghost use Rattle.source_events.specs.Fitting.{AllFit};
+ghost use Rattle.source_merge.specs.Routing.{mapped_of, AllLive, AllStand, HaveRoom, AreDistinct, Took, Fed, RunsBetween, SlotFed};
+ghost use Rattle.source_merge.specs.Counting.{HasBytes, bytes_counted};
+ghost use Rattle.source_merge.specs.declared.slot.Slot.{Slot};
+
+use crate::counts::ByteCounts;
+use crate::slot::{EVENTS, Events, Slot, feed_run};
+use source_events::{Event, Packet, RunBytes, Stop, What, run_length};
+use trace_values::{Cell, Fault, Machine, SourceId};
+
+/// The null source, whose bytes only fill frames.
+const NULL: u8 = 0;
+
+/// The trigger source, each of whose bytes is an event.
+const TRIGGER: u8 = 125;
+
+/// Notes each byte of a run of the trigger source.
+fn put_triggers(source: SourceId, run: &[Cell], out: &mut Events)
+    requires { array_vec_len out.old + 2 * length run.now ≤ EVENTS }
+    ensures given { out.new.items ≡ out.old.items ++ told (Some source) (triggers run.now) }
+    ensures few { array_vec_len out.new ≤ array_vec_len out.old + 2 * length run.now }
+{
+    for cell in run {
+        out.push(Event {
+            at: cell.at,
+            half: 0,
+            source: Some(source),
+            what: What::Trigger(cell.byte),
+        });
+    }
+}
+
+/// Notes a run of a source that is not mapped.
+fn put_raw(source: SourceId, run: &[Cell], out: &mut Events)
+    requires some { 0 < length run.now }
+    requires size { length run.now ≤ 15 }
+    requires room { array_vec_len out.old + 2 * length run.now ≤ EVENTS }
+    ensures given { out.new.items ≡ out.old.items ++ told (Some source) (raw_events source run.now) }
+    ensures few { array_vec_len out.new ≤ array_vec_len out.old + 2 * length run.now }
+{
+    let number = source.number();
+    if number == NULL {
+        return;
+    }
+    if number == TRIGGER {
+        put_triggers(source, run, out);
+        return;
+    }
+    out.push(Event {
+        at: run[run.len() - 1].at,
+        half: 0,
+        source: Some(source),
+        what: What::Raw(RunBytes::of(run)),
+    });
+}
+
+/// The index of the source of this ID among the mapped ones.
+pub fn find<M: Machine<Item = Packet>>(slots: &[Slot<M>], id: SourceId) -> Option<usize>
+    ensures { result ≡ position (λ s. s.id == id) slots.now }
+{
+    slots.iter().position(|slot| slot.id == id)
+}
+
+/// Feeds a run to the machine of one slot.
+fn feed_slot<M: Machine<Item = Packet>>(
+    slots: &mut [Slot<M>],
+    index: usize,
+    id: SourceId,
+    run: &[Cell],
+    out: &mut Events,
+) -> Option<Fault>
+    requires index { index < length slots.old }
+    requires live { AllLive M.live slots.old }
+    requires size { length run.now ≤ 15 }
+    requires room { HaveRoom M.held_units M.skipped_units (2 ^ 59) slots.old }
+    requires events { array_vec_len out.old + 2 * length run.now ≤ EVENTS }
+    ensures fed { (front : List (Slot M)) (s : Slot M) (back : List (Slot M)) → slots.old ≡ front ++ (s ∷ back) → length front ≡ index →
+        SlotFed M.reading M.stands M.live M.held_units M.skipped_units front s back slots.new run.now id out.old.items out.new.items result }
+    ensures events { array_vec_len out.new ≤ array_vec_len out.old + 2 * length run.now }
+    ensures fits { AllFit M.fits out.old.items → AllFit M.fits out.new.items }
+{
+    feed_run(&mut slots[index].machine, id, run, out)
+}
+
+/// Takes a run.
+fn take_run<M: Machine<Item = Packet>>(
+    slots: &mut [Slot<M>],
+    run: &[Cell],
+    out: &mut Events,
+) -> Option<Stop>
+    requires some { 0 < length run.now }
+    requires size { length run.now ≤ 15 }
+    requires live { AllLive M.live slots.old }
+    requires room { HaveRoom M.held_units M.skipped_units (2 ^ 59) slots.old }
+    requires events { array_vec_len out.old + 2 * length run.now ≤ EVENTS }
+    ensures same { mapped_of M.reading slots.new ≡ mapped_of M.reading slots.old }
+    ensures live { result ≡ None → AllLive M.live slots.new }
+    ensures room { (n : ℕ) → HaveRoom M.held_units M.skipped_units n slots.old → HaveRoom M.held_units M.skipped_units (n + 2 * length run.now) slots.new }
+    ensures events { array_vec_len out.new ≤ array_vec_len out.old + 2 * length run.now }
+    ensures fits { AllFit M.fits out.old.items → AllFit M.fits out.new.items }
+    ensures took { (runs : List (List Cell)) (n : ℕ) → AreDistinct (mapped_of M.reading slots.old) → AllStand M.stands slots.old runs → IsRunFrom n run.now →
+        Took M.stands (mapped_of M.reading slots.old) slots.new runs n run.now out.old.items out.new.items result }
+{
+    let first = run[0];
+    let Some(id) = first.id else {
+        return None;
+    };
+    let Some(index) = find(slots, id) else {
+        put_raw(id, run, out);
+        return None;
+    };
+    match feed_slot(slots, index, id, run, out) {
+        Some(fault) => Some(Stop {
+            fault,
+            source: Some(id),
+        }),
+        None => None,
+    }
+}
+
+/// Takes the cells of a frame, each run to its source, up to a fault, and gives their events.
+pub fn take_frame<M: Machine<Item = Packet>>(
+    slots: &mut [Slot<M>],
+    cells: &[Cell],
+    counts: &mut ByteCounts,
+    out: &mut Events,
+) -> Option<Stop>
+    requires size { length cells.now ≤ 15 }
+    requires live { AllLive M.live slots.old }
+    requires room { HaveRoom M.held_units M.skipped_units (2 ^ 58) slots.old }
+    requires count { bytes_counted counts.old ≤ 2 ^ 58 }
+    requires empty { out.old.items ≡ [] }
+    ensures same { mapped_of M.reading slots.new ≡ mapped_of M.reading slots.old }
+    ensures live { result ≡ None → AllLive M.live slots.new }
+    ensures room { (n : ℕ) → HaveRoom M.held_units M.skipped_units n slots.old →
+        HaveRoom M.held_units M.skipped_units (n + 2 * length cells.now) slots.new }
+    ensures events { array_vec_len out.new ≤ 2 * length cells.now }
+    ensures fits { AllFit M.fits out.new.items }
+    ensures fed { (runs : List (List Cell)) (n : ℕ) → AreDistinct (mapped_of M.reading slots.old) →
+        AllStand M.stands slots.old runs → RunsBetween 0 n runs → RisesFrom n cells.now →
+        Fed M.stands (mapped_of M.reading slots.old) slots.new runs (runs_of cells.now) out.new.items result }
+    ensures counted { (runs : List (List Cell)) → result ≡ None → HasBytes counts.old runs →
+        HasBytes counts.new (runs ++ runs_of cells.now) }
+    ensures count { bytes_counted counts.new ≤ bytes_counted counts.old + length cells.now }
+{
+    let mut rest = cells;
+    while !rest.is_empty() {
+        let n = run_length(rest);
+        let run = &rest[..n];
+        counts.add_run(run);
+        if let Some(stop) = take_run(slots, run, out) {
+            return Some(stop);
+        }
+        rest = &rest[n..];
+    }
+    None
+}

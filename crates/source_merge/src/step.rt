@@ -1,0 +1,110 @@
+//! A step of the port, and the sources in the frame that it ends.
+
+ghost use Rattle.std.specs.Prelude.{◌≡◌, ◌+◌, ◌*◌, ◌^◌, ◌<◌, ◌≤◌, ◌++◌, ◌∷◌, [], ℕ, List, length, None, true};
+ghost use Rattle.arrayvec.specs.ArrayVec.{array_vec_len};
+ghost use Rattle.trace_values.specs.Placed.{Placed, byte_at};
+ghost use Rattle.deformatter.specs.Growth.{goes_on};
+ghost use Rattle.capture_plan.specs.declared.frames.FramesMode.{FramesMode};
+ghost use Rattle.port_reader.specs.Growth.{Answers};
+ghost use Rattle.port_reader.specs.Reading.{port_reading};
+ghost use Rattle.port_reader.specs.Rising.{BytesRise};
+ghost use Rattle.source_events.specs.declared.event.Event.{Event};
+ghost use Rattle.source_events.specs.declared.packet.Packet.{Packet};
+ghost use Rattle.source_events.specs.Fitting.{AllFit};
+ghost use Rattle.source_events.specs.Report.{runs_in};
+ghost use Rattle.source_merge.specs.Routing.{mapped_of, AllLive, AllStand, HaveRoom, AreDistinct};
+ghost use Rattle.source_merge.specs.Counting.{HasBytes, HasCounted, bytes_counted, size_of};
+ghost use Rattle.source_merge.specs.Stepping.{StepTaken};
+
+use crate::counts::{ByteCounts, Counters, add_step};
+use crate::router::take_frame;
+use crate::slot::{Events, Slot};
+use port_reader::PortStep;
+use source_events::{Event, Packet, Stop, What};
+use trace_values::{Cell, Machine};
+
+/// Takes what a step of the port at this offset ends: a frame with these cells, or the bytes before a lock.
+fn take_ended<M: Machine<Item = Packet>>(
+    slots: &mut [Slot<M>],
+    counts: &mut ByteCounts,
+    at: u64,
+    step: PortStep,
+    cells: &[Cell],
+    out: &mut Events,
+) -> Option<Stop>
+    requires live { AllLive M.live slots.old }
+    requires room { HaveRoom M.held_units M.skipped_units (2 ^ 58) slots.old }
+    requires count { bytes_counted counts.old ≤ 2 ^ 58 }
+    requires cells { length cells.now ≤ 15 }
+    requires empty { out.old.items ≡ [] }
+    ensures same { mapped_of M.reading slots.new ≡ mapped_of M.reading slots.old }
+    ensures live { result ≡ None → AllLive M.live slots.new }
+    ensures going { result ≡ None → goes_on step ≡ true }
+    ensures room { (n : ℕ) → HaveRoom M.held_units M.skipped_units n slots.old →
+        HaveRoom M.held_units M.skipped_units (n + 30) slots.new }
+    ensures count { bytes_counted counts.new ≤ bytes_counted counts.old + 15 }
+    ensures few { array_vec_len out.new ≤ 30 }
+    ensures fits { AllFit M.fits out.new.items }
+    ensures taken { (mode : FramesMode) (u : List Placed) (byte : ℕ) → BytesRise 0 at u →
+        Answers mode step cells.now u at byte → (port_reading mode u).fault ≡ None →
+        AreDistinct (mapped_of M.reading slots.old) → AllStand M.stands slots.old (runs_in (port_reading mode u)) →
+        StepTaken M.stands (mapped_of M.reading slots.old) slots.new mode u (u ++ byte_at at byte ∷ []) out.new.items result }
+    ensures counted { (mode : FramesMode) (u : List Placed) (byte : ℕ) → result ≡ None →
+        Answers mode step cells.now u at byte → HasBytes counts.old (runs_in (port_reading mode u)) →
+        HasBytes counts.new (runs_in (port_reading mode (u ++ byte_at at byte ∷ []))) }
+{
+    match step {
+        PortStep::Frame => take_frame(slots, cells, counts, out),
+        PortStep::Locked { skipped } => {
+            out.push(Event {
+                at,
+                half: 0,
+                source: None,
+                what: What::Locked(skipped),
+            });
+            None
+        }
+        PortStep::Fault(fault) => Some(Stop {
+            fault,
+            source: None,
+        }),
+        PortStep::Quiet | PortStep::Half | PortStep::Full => None,
+    }
+}
+
+/// Takes a step of the port at this offset, where it ends a frame with these cells, and gives the events that are decided
+/// with it. Answers the report's fault where it is certain now.
+pub fn take_step<M: Machine<Item = Packet>>(
+    slots: &mut [Slot<M>],
+    counters: &mut Counters,
+    at: u64,
+    step: PortStep,
+    cells: &[Cell],
+    out: &mut Events,
+) -> Option<Stop>
+    requires live { AllLive M.live slots.old }
+    requires room { HaveRoom M.held_units M.skipped_units (2 ^ 58) slots.old }
+    requires size { size_of counters.old ≤ 2 ^ 58 }
+    requires cells { length cells.now ≤ 15 }
+    requires empty { out.old.items ≡ [] }
+    ensures same { mapped_of M.reading slots.new ≡ mapped_of M.reading slots.old }
+    ensures live { result ≡ None → AllLive M.live slots.new }
+    ensures going { result ≡ None → goes_on step ≡ true }
+    ensures room { (n : ℕ) → HaveRoom M.held_units M.skipped_units n slots.old →
+        HaveRoom M.held_units M.skipped_units (n + 30) slots.new }
+    ensures size { size_of counters.new ≤ size_of counters.old + 46 }
+    ensures few { array_vec_len out.new ≤ 30 }
+    ensures fits { AllFit M.fits out.new.items }
+    ensures taken { (mode : FramesMode) (u : List Placed) (byte : ℕ) → BytesRise 0 at u →
+        Answers mode step cells.now u at byte → (port_reading mode u).fault ≡ None →
+        AreDistinct (mapped_of M.reading slots.old) → AllStand M.stands slots.old (runs_in (port_reading mode u)) →
+        StepTaken M.stands (mapped_of M.reading slots.old) slots.new mode u (u ++ byte_at at byte ∷ []) out.new.items result }
+    ensures counted { (mode : FramesMode) (u : List Placed) (byte : ℕ) (es : List (Event Packet)) → result ≡ None →
+        Answers mode step cells.now u at byte → HasCounted counters.old (port_reading mode u) es →
+        HasCounted counters.new (port_reading mode (u ++ byte_at at byte ∷ [])) (es ++ out.new.items) }
+{
+    add_step(&mut counters.port, &step);
+    let stop = take_ended(slots, &mut counters.bytes, at, step, cells, out);
+    counters.items.add_items(out.as_slice());
+    stop
+}

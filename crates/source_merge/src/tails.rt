@@ -1,0 +1,67 @@
+//! How the mapped sources of a capture end.
+
+ghost use Rattle.std.specs.Prelude.{◌≡◌, ◌≤◌, ◌==◌, length, IfSome, true};
+ghost use Rattle.std.specs.List.{list_any};
+ghost use Rattle.port_reader.specs.Reading.{PortReading};
+ghost use Rattle.source_events.specs.Plan.{kind_of, sources_by};
+ghost use Rattle.source_events.specs.Report.{runs_in};
+ghost use Rattle.source_events.specs.Tails.{source_tails, tail_by};
+ghost use Rattle.source_machine.specs.Machine.{Stands, is_live, reading_of};
+ghost use Rattle.source_merge.specs.Ending.{all_of};
+ghost use Rattle.source_merge.specs.Routing.{AllLive, AllStand, mapped_of};
+
+use crate::router::find;
+use crate::slot::Slot;
+use source_events::{Plan, PortMode, SourceTail, SourceTails};
+use source_machine::SourceMachine;
+use trace_values::{Machine, SourceId};
+
+/// How many IDs there are: 0 to 126.
+const SOURCES: u8 = 127;
+
+/// How each mapped source was read, in increasing order of ID.
+pub fn source_tails(plan: &Plan, slots: &[Slot<SourceMachine>]) -> SourceTails
+    requires few { length slots.now ≤ 16 }
+    requires live { AllLive is_live slots.now }
+    ensures { (r : PortReading) → mapped_of reading_of slots.now ≡ sources_by plan.now →
+        AllStand Stands slots.now (runs_in r) → result ≡ source_tails plan.now r SOURCES }
+{
+    let mut tails = SourceTails::new();
+    for number in 0..SOURCES {
+        if let Some(tail) = numbered_tail(plan, slots, number) {
+            tails.push(tail);
+        }
+    }
+    tails
+}
+
+/// How the source of this number was read, if it is mapped.
+fn numbered_tail(plan: &Plan, slots: &[Slot<SourceMachine>], number: u8) -> Option<SourceTail>
+    requires source { number ≤ 126 }
+    requires live { AllLive is_live slots.now }
+    ensures tail { (r : PortReading) → mapped_of reading_of slots.now ≡ sources_by plan.now →
+        AllStand Stands slots.now (runs_in r) → all_of result ≡ tail_by plan.now r number (kind_of plan.now number) }
+    ensures found { IfSome result (λ tail. list_any (λ s. s.id == number) slots.now ≡ true) }
+{
+    let id = SourceId::new(number)?;
+    source_tail(plan, slots, id)
+}
+
+/// How a source was read, if it is mapped.
+fn source_tail(plan: &Plan, slots: &[Slot<SourceMachine>], id: SourceId) -> Option<SourceTail>
+    requires live { AllLive is_live slots.now }
+    ensures tail { (r : PortReading) → mapped_of reading_of slots.now ≡ sources_by plan.now →
+        AllStand Stands slots.now (runs_in r) → all_of result ≡ tail_by plan.now r id (kind_of plan.now id) }
+    ensures found { IfSome result (λ tail. list_any (λ s. s.id == id) slots.now ≡ true) }
+{
+    let kind = plan.kind_of(id)?;
+    let index = find(slots, id)?;
+    let machine = &slots[index].machine;
+    Some(SourceTail {
+        id,
+        kind,
+        mode: PortMode::of_packets(plan.packets, machine.is_locked()),
+        skipped: machine.skipped(),
+        tail: machine.held(),
+    })
+}
