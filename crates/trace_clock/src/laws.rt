@@ -1,9 +1,15 @@
-//! Laws of Gray code and of the last word, over their definitions alone.
+//! Laws of the local time, of Gray code and of the last word, over their definitions alone.
 
-ghost use Rattle.std.specs.Prelude.{◌≡◌, ℕ, ◌+◌, ◌%◌, ◌^◌, ◌<◌, List, [], ◌∷◌, ◌++◌};
+ghost use Rattle.std.specs.Prelude.{◌≡◌, ℕ, ◌+◌, ◌%◌, ◌^◌, ◌<◌, List, [], ◌∷◌, ◌++◌, sum};
 ghost use Rattle.std.specs.Int.{bit_at, sum_through};
 ghost use Rattle.trace_clock.specs.GrayCode.{natural_of, gray_of};
+ghost use Rattle.trace_clock.specs.LocalTime.{local_time};
 ghost use Rattle.trace_clock.specs.LastWord.{SizedWord, WordFits, nibble_at, last_nibble, last_word, next_word};
+
+/// The local time is the sum of what the timestamps told, where 64 bits hold that sum.
+pub fn local_law()
+    ensures { (deltas : List ℕ) → sum deltas < 2 ^ 64 → local_time deltas ≡ sum deltas }
+{}
 
 /// Of numbers under 2^64 there and back is the same number, both ways. Bit i of the natural number is the
 /// parity of the Gray number's bits from i up, which is their sum modulo 2, and bit i of the Gray number is 1

@@ -20,7 +20,7 @@ impl Model for LocalClock {
 }
 
 impl LocalClock {
-    ghost use Rattle.std.specs.Prelude.{◌≡◌, ◌+◌, ◌^◌, ◌<◌, List, [], ◌∷◌, ◌++◌};
+    ghost use Rattle.std.specs.Prelude.{◌≡◌, ◌+◌, ◌^◌, ◌%◌, List, [], ◌∷◌, ◌++◌};
     ghost use Rattle.trace_clock.specs.LocalTime.{local_time};
 
     /// The time before the first timestamp, 0.
@@ -30,18 +30,17 @@ impl LocalClock {
         LocalClock { ticks: 0 }
     }
 
-    /// Takes the next timestamp's time since the one before, in ticks, and answers the time. The sum of
-    /// all of them must be under 2^64.
+    /// Takes the next timestamp's time since the one before, in ticks, and answers the time. It counts in 64 bits, and
+    /// goes on from 0 after its greatest time.
     #[inline]
     pub fn add(&mut self, delta: u32) -> u64
-        requires room { self.old + delta < 2 ^ 64 }
-        ensures sum { self.new ≡ self.old + delta }
+        ensures sum { self.new ≡ (self.old + delta) % 2 ^ 64 }
         ensures list { (deltas : List ℕ) → self.old ≡ local_time deltas →
             self.new ≡ local_time (deltas ++ delta ∷ []) }
         ensures time { (deltas : List ℕ) → self.old ≡ local_time deltas →
             result ≡ local_time (deltas ++ delta ∷ []) }
     {
-        self.ticks += u64::from(delta);
+        self.ticks = self.ticks.wrapping_add(u64::from(delta));
         self.ticks
     }
 }
@@ -57,5 +56,10 @@ mod tests {
         assert_eq!(rt; clock.add(2), 138);
         assert_eq!(rt; clock.add(0), 138);
         assert_eq!(rt; clock.add(0x0FFF_FFFF), 0x1000_0089);
+        let mut late = LocalClock {
+            ticks: 0xFFFF_FFFF_FFFF_FFFE,
+        };
+        assert_eq!(rt; late.add(1), 0xFFFF_FFFF_FFFF_FFFF);
+        assert_eq!(rt; late.add(3), 2);
     }
 }
