@@ -28,10 +28,3 @@ pub behind_other : (clocks : Clocks) (packets : List ItmPacket) (p : ItmPacket) 
 behind_other clocks packets p d s b = behind_push clocks clocks packets p b
     (b.local ∙ ap local_time (sym (append-nil (flat_map deltas_in packets))) ∙ ap (λ (l : List ℕ). local_time (flat_map deltas_in packets ++ l)) (sym d))
     (subst (clock.Stands clocks.global) (sym (append-nil (flat_map stamps_in packets)) ∙ ap (λ (l : List GlobalStamp). flat_map stamps_in packets ++ l) (sym s)) b.global)
-
--- one number is the local time of some list
-pub alone : (ticks : ℕ) → ticks ≡ local_time (ticks ∷ [])
-alone ticks = omega arith
-
-pub alone_push : (ticks delta : ℕ) → local_time ((ticks ∷ []) ++ delta ∷ []) ≡ ticks + delta
-alone_push ticks delta = omega arith

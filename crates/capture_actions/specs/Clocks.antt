@@ -5,10 +5,6 @@ use Rattle.trace_clock.specs.GlobalClock as clock
 use Rattle.capture_actions.specs.Remarks.{stamps_in, local_behind}
 use Rattle.capture_actions.specs.declared.clocks.Clocks.{Clocks}
 
--- the local time so far, in ticks
-abbrev pub ticks_of : Clocks → ℕ
-ticks_of clocks = clocks.local
-
 -- they have taken these packets
 pub record Stands (clocks : Clocks) (packets : List ItmPacket) : Type 0 where
   pub local : clocks.local ≡ local_behind packets

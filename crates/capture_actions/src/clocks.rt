@@ -4,7 +4,7 @@ ghost use Rattle.std.specs.Prelude.{◌≡◌, ◌+◌, ◌^◌, ◌<◌, ◌≤
 ghost use Rattle.itm_grammar.specs.Proper.{IsProper};
 ghost use Rattle.itm_grammar.specs.declared.packet.ItmPacket.{ItmPacket};
 ghost use Rattle.capture_actions.specs.Remarks.{remark_by};
-ghost use Rattle.capture_actions.specs.Clocks.{Stands, ticks_of};
+ghost use Rattle.capture_actions.specs.Clocks.{Stands};
 
 use itm_grammar::packet::ItmPacket;
 use trace_clock::{GlobalClock, LocalClock};
@@ -21,7 +21,6 @@ impl Clocks {
     /// The clocks before the first packet.
     pub fn new() -> Clocks
         ensures fresh { Stands result [] }
-        ensures ticks { ticks_of result ≡ 0 }
     {
         Clocks {
             local: LocalClock::new(),
@@ -33,12 +32,10 @@ impl Clocks {
     #[inline]
     pub fn remark(&mut self, packet: &ItmPacket) -> Remark
         requires proper { IsProper packet.now }
-        requires room { ticks_of self.old + 2 ^ 28 ≤ 2 ^ 64 }
         ensures behind { (packets : List ItmPacket) → Stands self.old packets →
             Stands self.new (packets ++ packet.now ∷ []) }
         ensures remark { (packets : List ItmPacket) → Stands self.old packets →
             result ≡ remark_by (packets ++ packet.now ∷ []) packet.now }
-        ensures ticks { ticks_of self.new < ticks_of self.old + 2 ^ 28 }
     {
         match *packet {
             ItmPacket::Local { delta, .. } => Remark::Clock(self.local.add(delta)),

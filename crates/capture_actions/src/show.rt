@@ -7,7 +7,6 @@ ghost use Rattle.itm_grammar.specs.declared.packet.ItmPacket.{ItmPacket};
 ghost use Rattle.itm_codec.specs.Decoder.{held_of, skipped_by, is_live, is_hunter};
 ghost use Rattle.capture_plan.specs.Modes.{packets_hunt};
 ghost use Rattle.capture_actions.specs.Clocks as times;
-ghost use Rattle.capture_actions.specs.Clocks.{ticks_of};
 ghost use Rattle.capture_actions.specs.Listing.{packets_given, lines_behind, end_lines};
 
 use crate::clocks::Clocks;
@@ -32,7 +31,6 @@ pub struct Show {
     ghost few: { held_of decoder + skipped_by decoder ≤ 2 * count },
     ghost moded: { is_hunter decoder ≡ packets_hunt mode },
     ghost alive: { is_live decoder ≡ is_none fault },
-    ghost ticks: { ticks_of clocks ≤ 268435455 * count },
 }
 
 /// The lines of what a step at this offset gives, with what the clocks say beside its packet.
@@ -45,12 +43,10 @@ fn put_step(
 )
     requires fits { StepFits IsProper step.now }
     requires room { length outlet.old + 2 * TEXT_ROOM ≤ OUTLET_ROOM }
-    requires ticks { ticks_of clocks.old + 2 ^ 28 ≤ 2 ^ 64 }
     ensures text { (packets : List ItmPacket) → times.Stands clocks.old packets →
         outlet.new ≡ outlet.old ++ lines_behind packets (given_by at step.now) }
     ensures behind { (packets : List ItmPacket) → times.Stands clocks.old packets →
         times.Stands clocks.new (packets ++ packets_given (given_by at step.now)) }
-    ensures ticks { ticks_of clocks.new < ticks_of clocks.old + 2 ^ 28 }
 {
     match step {
         Step::Item { item, .. } => {
