@@ -12,3 +12,4 @@ pub mod Refilled
 pub mod Feds
 pub mod Attributed
 pub mod Ending
+pub mod Mapping

@@ -1,5 +1,6 @@
 pub mod Feeding
 pub mod Routing
+pub mod Mapping
 pub mod Counting
 pub mod Answering
 pub mod Stepping

@@ -9,14 +9,14 @@ ghost use Rattle.source_merge.specs.Routing.{HaveRoom, HaveRoom-prop, LiveIf, Li
 
 use crate::counts::Counters;
 use crate::flow::{Fed, Flow, flow_of};
-use crate::slot::{Events, Slot};
+use crate::mapped::{Slots, slots_of};
+use crate::slot::Events;
 use crate::step::take_step;
 use crate::tails::source_tails;
 use arrayvec::ArrayVec;
 use port_reader::PortReader;
 use source_counts::Counts;
-use source_events::{MAPPED_SOURCES, Plan, PortCounts, PortMode, Tails};
-use source_machine::SourceMachine;
+use source_events::{Plan, PortCounts, PortMode, Tails};
 use trace_values::{Cell, SourceId};
 
 /// Reads a capture byte by byte, its port and each mapped source, and gives the events of its report in order. It keeps
@@ -28,7 +28,7 @@ use trace_values::{Cell, SourceId};
 pub struct Engine {
     plan: Plan,
     port: PortReader,
-    slots: ArrayVec<Slot<SourceMachine>, MAPPED_SOURCES>,
+    slots: Slots,
     /// The cells of the frame that is taken.
     cells: ArrayVec<Cell, 15>,
     counters: Counters,
@@ -65,13 +65,7 @@ impl Engine {
         ensures live { is_live result ≡ true }
         ensures next { next_of result ≡ 0 }
     {
-        let mut slots = ArrayVec::new();
-        for id in plan.itm.as_slice() {
-            slots.push(Slot {
-                id: *id,
-                machine: SourceMachine::itm(plan.packets),
-            });
-        }
+        let slots = slots_of(&plan);
         let port = PortReader::new(plan.frames);
         Engine {
             plan,

@@ -4,6 +4,7 @@
 mod counts;
 mod engine;
 mod flow;
+mod mapped;
 mod router;
 mod slot;
 mod step;

@@ -11,8 +11,9 @@ ghost use Rattle.source_merge.specs.Feeding.{Feeds, IsEarly, step_fault};
 
 use arrayvec::ArrayVec;
 use capture_plan::PacketsMode;
-use source_events::{Event, Packet, What};
+use source_events::{Event, Packet, SourceKind, What};
 use source_machine::SourceMachine;
+use stp_grammar::packet::Order;
 use trace_values::{Cell, Fault, Machine, SourceId, Step};
 
 /// How many events a list of them has room for. One byte of a capture ends at most one frame, of 15 cells, with at most
@@ -34,7 +35,7 @@ impl Default for Slot<SourceMachine> {
     fn default() -> Slot<SourceMachine> {
         Slot {
             id: SourceId::default(),
-            machine: SourceMachine::itm(PacketsMode::Aligned),
+            machine: SourceMachine::new(SourceKind::Itm, PacketsMode::Aligned, Order::Msn),
         }
     }
 }
