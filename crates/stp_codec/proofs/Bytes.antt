@@ -4,18 +4,16 @@ use Rattle.std.specs.Prelude.{is_none}
 use Rattle.trace_values.specs.declared.fault.Fault.{Fault}
 use Rattle.trace_values.specs.declared.step.Step.{Step}
 use Rattle.trace_values.specs.declared.step.Step.TheVariants.{Quiet, Skipping, Item, Locked, Fault as Faulty}
-use Rattle.trace_values.specs.declared.mode.Mode.{Mode}
 use Rattle.trace_values.specs.Placed.{Placed, byte_at}
 use Rattle.trace_values.specs.Nibbles.{nibbles_of, low_of, high_of}
 use Rattle.trace_values.specs.Walk.{by_unit}
 use Rattle.trace_values.specs.Stream.{Grows}
-use Rattle.trace_values.specs.Moded.{StandsIn, hunts}
+use Rattle.trace_values.specs.Moded.{hunts}
 use Rattle.trace_values.specs.Decorated.{carried}
 use Rattle.trace_values.proofs.Modes as modes
 use Rattle.trace_values.proofs.NibbleModes as laws
 use Rattle.trace_values.proofs.Nibbling.{both, IsPair, nibbles_push}
 use Rattle.stp_grammar.specs.declared.packet.Order.{Order}
-use Rattle.stp_grammar.specs.declared.packet.StpPacket.{StpPacket}
 use Rattle.stp_grammar.specs.declared.packet.StpPacket.TheVariants.{Async}
 use Rattle.stp_grammar.specs.declared.item.StpItem.{StpItem}
 use Rattle.stp_grammar.specs.declared.partial.Partial.{Partial}
@@ -28,7 +26,7 @@ use Rattle.stp_grammar.specs.Attributed.{Stands as Attributes}
 use Rattle.stp_codec.specs.Reading.{pattern, packets_in, packets_of, items_at, items_in, rest_in}
 use Rattle.stp_codec.specs.Answers.{AnswersNibble, AnswersByte}
 use Rattle.stp_codec.specs.Wholes.{left_of}
-use Rattle.stp_codec.specs.Decoder.{StandsAt, Stands, is_hunter, nibble_at, EndsItem}
+use Rattle.stp_codec.specs.Decoder.{StandsAt, Stands, nibble_at, EndsItem}
 
 -- the high nibble of a byte
 pub high_is : (at byte : ℕ) → byte < 256 → nibble_at at 1 (byte / 16) ≡ high_of at byte
@@ -81,7 +79,7 @@ grows_faulty order h u at byte s f e g =
     subst (λ (x : Step StpItem). Grows (items_in order h u) (items_in order h (u ++ byte_at at byte ∷ [])) at x) (sym e)
     (laws.grows_fault_in pattern Async (by_unit (rule order)) Start attribute [] h u at byte f (ap is_none k.fault) k)
 
--- behind a fault in the low nibble
+-- after a fault in the low nibble
 pub faulty_list : (d : StpDecoder) (u : List Placed) (at byte : ℕ) → d.live ≡ false → StandsAt d (nibbles_of u ++ low_of at byte ∷ []) → Stands d (u ++ byte_at at byte ∷ [])
 faulty_list d u at byte l s =
     let m = nibbles_of u ++ low_of at byte ∷ [] in

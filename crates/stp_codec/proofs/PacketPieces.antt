@@ -1,15 +1,14 @@
 -- Bytes of a piece that end a packet are taken at once.
-use Rattle.std.proofs.Common.{◌≡◌, ℕ, zero, suc, ◌+◌, ◌-◌, ◌*◌, ◌/◌, ◌%◌, ◌<◌, ◌≤◌, List, [], ◌∷◌, ◌++◌, length, take, drop, get_or, refl, sym, ◌∙◌, ap, subst, append_assoc, append-nil, arith, Option, None, Some, Bool, true, false, ◌⊎◌, inl, inr}
+use Rattle.std.proofs.Common.{◌≡◌, ℕ, zero, suc, ◌+◌, ◌-◌, ◌*◌, ◌/◌, ◌%◌, ◌<◌, ◌≤◌, List, [], ◌∷◌, ◌++◌, length, take, get_or, refl, sym, ◌∙◌, ap, subst, append_assoc, append-nil, arith, Option, None, Some, Bool, true, ◌⊎◌, inl, inr}
 use Rattle.std.specs.Prelude.{is_none}
-use Rattle.std.proofs.lemmas.List.{take_more, map-append}
+use Rattle.std.proofs.lemmas.List.{take_more}
 use Rattle.trace_values.specs.declared.fault.Reason.{Reason}
-use Rattle.trace_values.specs.declared.step.Step.{Step}
 use Rattle.trace_values.specs.declared.mode.Mode.{Mode}
 use Rattle.trace_values.specs.Placed.{Place, Placed, units_of, byte_at, placed_from}
 use Rattle.trace_values.specs.Nibbles.{nibbles_of, low_of, high_of}
 use Rattle.trace_values.specs.Walk.{Whole, walk, by_unit}
 use Rattle.trace_values.specs.declared.next.Next.TheVariants.{Go}
-use Rattle.trace_values.specs.Stream.{Said, Stream, given_by}
+use Rattle.trace_values.specs.Stream.{Stream, given_by}
 use Rattle.trace_values.specs.Block.{Takes, StandsAt, given_after, fault_after}
 use Rattle.trace_values.specs.Moded.{hunts, is_locked}
 use Rattle.trace_values.proofs.Blocks.{next_placed}

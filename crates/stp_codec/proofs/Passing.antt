@@ -1,13 +1,12 @@
 -- Nibbles that end a packet, in what a decoder keeps and in what it reads.
-use Rattle.std.proofs.Common.{◌≡◌, ℕ, zero, suc, ◌+◌, ◌-◌, ◌*◌, ◌/◌, ◌%◌, ◌<◌, ◌≤◌, List, [], ◌∷◌, ◌++◌, length, take, drop, get_or, refl, sym, ◌∙◌, ap, subst, append_assoc, append-nil, arith, Option, None, Some, Bool, true, false}
+use Rattle.std.proofs.Common.{◌≡◌, ℕ, ◌/◌, ◌%◌, ◌<◌, ◌≤◌, List, [], ◌∷◌, ◌++◌, refl, sym, ◌∙◌, ap, subst, append_assoc, append-nil, arith, Option, None, Some, Bool, true}
 use Rattle.std.specs.Prelude.{is_none}
 use Rattle.trace_values.specs.declared.next.Next.{Next}
 use Rattle.trace_values.specs.declared.next.Next.TheVariants.{Go, End, Fail}
-use Rattle.trace_values.specs.declared.step.Step.TheVariants.{Quiet, Item}
 use Rattle.trace_values.specs.declared.mode.Mode.{Mode}
 use Rattle.trace_values.specs.Placed.{Placed, units_of}
 use Rattle.trace_values.specs.Walk.{Walked, Whole, Within, after, walk, by_unit}
-use Rattle.trace_values.specs.Stream.{Said, Stream, Grows, given_by}
+use Rattle.trace_values.specs.Stream.{Stream, Grows, given_by}
 use Rattle.trace_values.specs.Moded.{hunts, is_locked}
 use Rattle.trace_values.proofs.Decorating.{item_step}
 use Rattle.trace_values.proofs.Modes as modes

@@ -11,10 +11,12 @@ use Rattle.stp_grammar.specs.declared.item.StpItem.{StpItem}
 use Rattle.stp_grammar.specs.Spelling.{Spells, why}
 use Rattle.stp_grammar.specs.Attribution.{item_of}
 
--- The answer to a nibble at this place, where these packets are before it, and r is the rest with it: an item exactly where
--- the rest spells a packet that has one, a fault exactly where it is the front of no spelling, and quiet in every other case.
+-- The answer to a nibble at this place, where these packets are before it, and r is the rest with it: an item exactly
+-- where the rest spells a packet that has one, a fault exactly where it is the front of no spelling, and quiet in every
+-- other case.
 -- `after` and `rest` are the packets and the rest after the nibble, where it is no fault.
-abbrev pub AnswersNibble : Order → List StpPacket → List Placed → Place → Step StpItem → List StpPacket → List Placed → Type 0
+abbrev pub AnswersNibble : Order → List StpPacket → List Placed → Place → Step StpItem → List StpPacket → List Placed →
+    Type 0
 AnswersNibble order before r place (Item half item) after rest =
     (packet : StpPacket) × (half ≡ place.half) × InUnits (Spells order) packet r
     × (after ≡ before ++ packet ∷ []) × (rest ≡ []) × (item_of after packet ≡ Some item)
@@ -28,8 +30,9 @@ AnswersNibble order before r place Quiet after rest =
 AnswersNibble order before r place Skipping after rest = ⊥
 AnswersNibble order before r place (Locked skipped half item) after rest = ⊥
 
--- The answer to a byte, where this is the answer to its low nibble, after which there are these packets and this rest: a fault
--- there is the byte's; with an item there the high nibble is quiet; and else the byte's answer is that to the high nibble.
+-- The answer to a byte, where this is the answer to its low nibble, after which there are these packets and this rest:
+-- a fault there is the byte's; with an item there the high nibble is quiet; and else the byte's answer is that to the
+-- high nibble.
 -- So at most one item ends in a byte, and none in one with a fault.
 abbrev pub AnswersHigh : Order → List StpPacket → List Placed → ℕ → ℕ → Step StpItem → Step StpItem → Type 0
 AnswersHigh order before rest at byte (Faulty f) step = step ≡ Faulty f
@@ -42,7 +45,8 @@ AnswersHigh order before rest at byte (Item half item) step =
 AnswersHigh order before rest at byte Skipping step = ⊥
 AnswersHigh order before rest at byte (Locked skipped half item) step = ⊥
 
--- The answer to a byte at this offset, where these packets and this rest are before it: by those to its nibbles, low one first.
+-- The answer to a byte at this offset, where these packets and this rest are before it: by those to its nibbles, the low
+-- one first.
 abbrev pub AnswersByte : Order → List StpPacket → List Placed → ℕ → ℕ → Step StpItem → Type 0
 AnswersByte order before rest at byte step =
     (low : Step StpItem) × (between : List StpPacket) × (left : List Placed)

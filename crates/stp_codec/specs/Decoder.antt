@@ -1,7 +1,7 @@
 -- What a decoder stands for, and what it shows.
 use Rattle.std.specs.Prelude.{◌≡◌, ℕ, List, Bool, true}
 use Rattle.trace_values.specs.declared.step.Step.{Step}
-use Rattle.trace_values.specs.declared.step.Step.TheVariants.{Quiet, Skipping, Item, Locked, Fault as Faulty}
+use Rattle.trace_values.specs.declared.step.Step.TheVariants.{Item, Locked}
 use Rattle.trace_values.specs.Placed.{Placed}
 use Rattle.trace_values.specs.Nibbles.{nibbles_of}
 use Rattle.trace_values.specs.Walk.{by_unit}
@@ -16,8 +16,8 @@ use Rattle.stp_grammar.specs.Attributed as attributed
 use Rattle.stp_codec.specs.Reading.{pattern, packets_of}
 use Rattle.stp_codec.specs.declared.decoder.StpDecoder.{StpDecoder}
 
--- Its parts are those of this list of nibbles: before its lock how far the hunt has come; else whether the reading has no
--- fault, and the unfinished packet; and what the packets so far say of the next item.
+-- Its parts are those of this list of nibbles: before its lock how far the hunt has come; else whether the reading has
+-- no fault, and the unfinished packet; and what the packets so far say of the next item.
 abbrev pub StandsAt : StpDecoder → List Placed → Type 0
 StandsAt decoder n =
     StandsIn pattern Async (by_unit (rule decoder.order)) Start decoder.mode decoder.live decoder.partial n

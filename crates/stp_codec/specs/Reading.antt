@@ -52,7 +52,10 @@ rest_in order true n = rest_found (hunt pattern Async (by_unit (rule order)) Sta
 -- skipped, and the reading begins there, with the lock's notice at the place of the pattern's last nibble.
 abbrev pub IsHunt : Order → List Placed → Stream StpPacket → Type 0
 IsHunt order n s =
-    (IsNowhere (pattern_of pattern) (units_of n) × (s ≡ record { given = []; fault = None; held = 0; skipped = length n; locked = false }))
-    ⊎ ((before : List Placed) × (after : List Placed) × (place : Place) × (n ≡ before ++ after) × IsFirst (pattern_of pattern) (units_of n) (units_of before)
+    (IsNowhere (pattern_of pattern) (units_of n)
+    × (s ≡ record { given = []; fault = None; held = 0; skipped = length n; locked = false }))
+    ⊎ ((before : List Placed) × (after : List Placed) × (place : Place) × (n ≡ before ++ after)
+    × IsFirst (pattern_of pattern) (units_of n) (units_of before)
     × (s ≡ shown ((Notice (length before), place) ∷ []) (length before) (progress (by_unit (rule order)) Start after))
-    × ((more : List (StpPacket × Place)) × ((progress (by_unit (rule order)) Start after).items ≡ (Async, place) ∷ more)))
+    × ((more : List (StpPacket × Place))
+    × ((progress (by_unit (rule order)) Start after).items ≡ (Async, place) ∷ more)))

@@ -45,7 +45,8 @@ impl StpDecoder {
     ghost use Rattle.stp_codec.specs.Reading.{packets_of, rest_in, items_at, items_in};
     ghost use Rattle.stp_codec.specs.Wholes.{nibbles_in, between, Ends, left_of, IsQuiet, IsItem};
     ghost use Rattle.stp_codec.specs.Answers.{AnswersNibble};
-    ghost use Rattle.stp_codec.specs.Decoder.{Stands, StandsAt, order_of, is_hunter, is_live, has_locked, held_of, skipped_by, nibble_at, EndsItem};
+    ghost use Rattle.stp_codec.specs.Decoder.{Stands, StandsAt, order_of, is_hunter, is_live, has_locked};
+    ghost use Rattle.stp_codec.specs.Decoder.{held_of, skipped_by, nibble_at, EndsItem};
 
     /// A decoder of bytes that begin with a packet, whose numbers have their nibbles in this order.
     pub fn aligned(order: Order) -> StpDecoder
@@ -89,7 +90,8 @@ impl StpDecoder {
         requires count { skipped_by self.old ≤ 2 ^ 60 + 1 }
         requires nibble { nibble < 16 }
         ensures same { (order_of self.new ≡ order_of self.old) × (is_hunter self.new ≡ is_hunter self.old) }
-        ensures list { (n : List Placed) → StandsAt self.old n → StandsAt self.new (n ++ nibble_at at half nibble ∷ []) }
+        ensures list { (n : List Placed) → StandsAt self.old n →
+            StandsAt self.new (n ++ nibble_at at half nibble ∷ []) }
         ensures step { (n : List Placed) → StandsAt self.old n →
             Grows (items_at (order_of self.old) (is_hunter self.old) n)
             (items_at (order_of self.old) (is_hunter self.old) (n ++ nibble_at at half nibble ∷ [])) at result }
@@ -269,7 +271,16 @@ impl StpDecoder {
 /// The default one reads from the first nibble on, in the order most significant nibble first. It only fills the
 /// unused places of a buffer.
 impl Default for StpDecoder {
-    fn default() -> StpDecoder {
+    ghost use Rattle.std.specs.Prelude.{[], false};
+    ghost use Rattle.stp_grammar.specs.declared.packet.Order.TheVariants.{Msn};
+    ghost use Rattle.stp_codec.specs.Decoder.{Stands, order_of, is_hunter, is_live};
+
+    fn default() -> StpDecoder
+        ensures fresh { Stands result [] }
+        ensures mode { is_hunter result ≡ false }
+        ensures order { order_of result ≡ Msn }
+        ensures live { is_live result ≡ true }
+    {
         StpDecoder::aligned(Order::Msn)
     }
 }
@@ -336,7 +347,8 @@ impl Machine for StpDecoder {
         (falling.begins m.order) (is_hunter m) u at byte f };
 
     ghost keeps = { λ m u at byte s l f. laws.keeps pattern Async (by_unit (rule m.order)) Start attribute []
-        (falling.begins m.order) count_of refl (counting.counts_placed m.order) m.mode m.live m.partial u at byte s.0 l f };
+        (falling.begins m.order) count_of refl (counting.counts_placed m.order)
+        m.mode m.live m.partial u at byte s.0 l f };
 
     /// Takes the next byte: its low nibble, and then its high one. Beside what every machine says, its answer in a
     /// reading is the grammar's, by those to its nibbles: an item exactly where a nibble ends a packet that has one, a
@@ -378,12 +390,13 @@ impl Machine for StpDecoder {
         self.mode.is_locked()
     }
 
-    /// How many nibbles of an unfinished packet it holds: at most 34, or all of them are F. After a fault they are those
-    /// before the fault's nibble.
+    /// How many nibbles of an unfinished packet it holds: at most 34, or all of them are F. After a fault they are
+    /// those before the fault's nibble.
     fn held(&self) -> u64
         ensures count { result ≡ held_of self.now }
         ensures few { (u : List Placed) → Stands self.now u → (result ≤ 34) ⊎
-            All (λ b. b ≡ 15) (take result (units_of (rest_in (order_of self.now) (is_hunter self.now) (nibbles_of u)))) }
+            All (λ b. b ≡ 15)
+            (take result (units_of (rest_in (order_of self.now) (is_hunter self.now) (nibbles_of u)))) }
     {
         self.partial.len()
     }

@@ -599,6 +599,15 @@ fn reads_each_opcode(rt: HostRuntime) {
     }
 }
 
+/// A flag of the first place, whose last nibble is at this offset and half.
+fn flag(place: (u64, u8), stamp: Stamp) -> Told {
+    let flag = StpItem::Flag {
+        place: ORIGIN,
+        stamp,
+    };
+    (place.0, item(place.1, flag))
+}
+
 /// The greatest word of each size.
 const GREATEST: [u64; 15] = [
     0,
@@ -663,26 +672,11 @@ fn reads_each_stamp_size(rt: HostRuntime) {
                 nibbles.put_flag(&rt, 14, 15),
                 nibbles.put_flag(&rt, size, 0),
             ];
-            let flag = |index: usize, stamp: Stamp|
-                requires { index < 3 }
-            {
-                let (at, half) = places[index];
-                (
-                    at,
-                    item(
-                        half,
-                        StpItem::Flag {
-                            place: ORIGIN,
-                            stamp,
-                        },
-                    ),
-                )
-            };
             let told = [
                 (1, item(1, StpItem::Version(version))),
-                flag(0, first),
-                flag(1, all),
-                flag(2, second),
+                flag(places[0], first),
+                flag(places[1], all),
+                flag(places[2], second),
             ];
             assert!(rt; nibbles.count < 64);
             let bytes = &nibbles.bytes[..(nibbles.count + 1) / 2];

@@ -86,7 +86,8 @@ fn from_size(
     requires fits { payload < 16 ^ (line_of row).payload }
     requires there { start ≤ 2 * length bytes.now }
     ensures end { IfSome result (λ x. (start < x.0) × (x.0 ≤ 2 * length bytes.now)) }
-    ensures whole { IfSome result (λ x. Ends order (Go (Size row payload)) (between (nibbles_in bytes.now) start x.0) x.1) }
+    ensures whole { IfSome result (λ x.
+        Ends order (Go (Size row payload)) (between (nibbles_in bytes.now) start x.0) x.1) }
     ensures proper { IfSome result (λ x. IsProper x.1) }
 {
     if start >= 2 * bytes.len() {
@@ -130,7 +131,8 @@ fn from_payload(
     requires fits { payload < 16 ^ (line_of row).payload }
     requires there { start ≤ 2 * length bytes.now }
     ensures end { IfSome result (λ x. (start ≤ x.0) × (x.0 ≤ 2 * length bytes.now)) }
-    ensures whole { IfSome result (λ x. Ends order (after_payload row payload) (between (nibbles_in bytes.now) start x.0) x.1) }
+    ensures whole { IfSome result (λ x.
+        Ends order (after_payload row payload) (between (nibbles_in bytes.now) start x.0) x.1) }
     ensures proper { IfSome result (λ x. IsProper x.1) }
 {
     if row.is_stamped() {

@@ -1,4 +1,4 @@
-use Rattle.std.proofs.Common.{◌≡◌, ℕ, ◌+◌, ◌-◌, ◌*◌, ◌<◌, ◌≤◌, List, [], ◌∷◌, ◌++◌, length, get_or, replicate, refl, sym, ◌∙◌, ap, subst, arith}
+use Rattle.std.proofs.Common.{◌≡◌, ℕ, ◌+◌, ◌-◌, ◌<◌, ◌≤◌, List, [], ◌∷◌, ◌++◌, length, get_or, replicate, sym, ◌∙◌, ap, arith}
 use Rattle.std.proofs.lemmas.List.{replicate_more}
 use Rattle.trace_values.specs.Walk.{walk}
 use Rattle.stp_grammar.specs.declared.partial.Partial.TheVariants.{Run}

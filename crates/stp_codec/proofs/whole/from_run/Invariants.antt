@@ -1,4 +1,4 @@
-use Rattle.std.proofs.Common.{◌≡◌, ◌-◌, ◌≤◌, replicate}
+use Rattle.std.proofs.Common.{◌≡◌, ◌-◌, replicate}
 use Rattle.stp_codec.specs.Wholes.{nibbles_in, between}
 use Rattle.stp_codec.proofs.whole.from_run.Given as goal
 

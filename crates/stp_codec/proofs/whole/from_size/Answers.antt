@@ -1,12 +1,9 @@
-use Rattle.std.proofs.Common.{◌≡◌, ℕ, ◌+◌, ◌-◌, ◌*◌, ◌<◌, ◌≤◌, List, [], ◌∷◌, length, get_or, refl, sym, ◌∙◌, ap, subst, arith}
-use Rattle.trace_values.specs.declared.next.Next.TheVariants.{Go}
-use Rattle.trace_values.specs.Walk.{walk, Whole}
-use Rattle.trace_clock.specs.LastWord.{nibble_count}
-use Rattle.stp_grammar.specs.declared.packet.StpPacket.TheVariants.{Stamped}
-use Rattle.stp_grammar.specs.declared.partial.Partial.TheVariants.{Size, Word}
+use Rattle.std.proofs.Common.{◌≡◌, ◌+◌, ◌-◌, [], ◌∷◌, sym, ◌∙◌, ap, arith}
+use Rattle.trace_values.specs.Walk.{walk}
+use Rattle.stp_grammar.specs.declared.partial.Partial.TheVariants.{Size}
 use Rattle.stp_grammar.specs.Rule.{rule}
-use Rattle.stp_codec.specs.Wholes.{nibbles_in, between, Ends}
-use Rattle.stp_codec.proofs.Between.{length-nibbles, between_first, between_none, between_parts}
+use Rattle.stp_codec.specs.Wholes.{nibbles_in, between}
+use Rattle.stp_codec.proofs.Between.{length-nibbles, between_first, between_none}
 use Rattle.stp_codec.proofs.Finishing.{ends_size, ends_word_at, some_word}
 use Rattle.stp_codec.proofs.whole.from_size.Goals as goal
 

@@ -1,4 +1,4 @@
-use Rattle.std.proofs.Common.{◌≡◌, ℕ, ◌+◌, ◌*◌, ◌<◌, ◌≤◌, length, sym, ◌∙◌, ap, subst, arith}
+use Rattle.std.proofs.Common.{subst, arith}
 use Rattle.stp_grammar.specs.declared.partial.Partial.TheVariants.{Start}
 use Rattle.stp_grammar.specs.Rule.{begin}
 use Rattle.stp_codec.specs.Wholes.{nibbles_in, between, Ends}

@@ -1,4 +1,4 @@
-use Rattle.std.proofs.Common.{◌≡◌, ℕ, ◌+◌, ◌*◌, ◌^◌, ◌<◌, ◌≤◌, List, ◌∷◌, [], ◌++◌, length, get_or, sym, ◌∙◌, ap, subst, arith}
+use Rattle.std.proofs.Common.{◌≡◌, ◌+◌, ◌^◌, ◌<◌, length, get_or, sym, ◌∙◌, ap, subst, arith}
 use Rattle.stp_grammar.specs.Rule.{number_with}
 use Rattle.stp_codec.specs.Wholes.{nibbles_in, between, number_from}
 use Rattle.stp_codec.proofs.Between.{length-nibbles, length-between, between_push}

@@ -1,10 +1,7 @@
-use Rattle.std.proofs.Common.{◌≡◌, ℕ, ◌+◌, ◌-◌, ◌*◌, ◌<◌, ◌≤◌, length, sym, ◌∙◌, ap, subst, arith, true}
+use Rattle.std.proofs.Common.{◌+◌, ◌-◌, ◌∙◌, ap, arith}
 use Rattle.trace_values.specs.Walk.{walk}
-use Rattle.trace_values.specs.declared.next.Next.TheVariants.{Go}
-use Rattle.stp_grammar.specs.declared.packet.StpPacket.TheVariants.{Stamped}
-use Rattle.stp_grammar.specs.declared.partial.Partial.TheVariants.{Payload, Word}
 use Rattle.stp_grammar.specs.Rule.{rule}
-use Rattle.stp_codec.specs.Wholes.{nibbles_in, between, Ends}
+use Rattle.stp_codec.specs.Wholes.{nibbles_in, between}
 use Rattle.stp_codec.proofs.Between.{length-nibbles}
 use Rattle.stp_codec.proofs.Finishing.{ends_payload_at, ends_word_at, both_some, sound_payload, sound_word}
 use Rattle.stp_codec.proofs.whole.whole_packet.Goals as goal

@@ -1,15 +1,8 @@
-use Rattle.std.proofs.Common.{◌≡◌, ℕ, ◌+◌, ◌-◌, ◌*◌, ◌<◌, ◌≤◌, List, ◌++◌, length, take, drop, refl, sym, ◌∙◌, ap, subst, append-nil, arith, Bool, true, None, Option}
-use Rattle.trace_values.specs.declared.step.Step.{Step}
-use Rattle.trace_values.specs.Placed.{Placed, placed_from}
-use Rattle.trace_values.specs.Block.{Takes}
-use Rattle.trace_values.proofs.Blocks.{IsTaking, taking_none}
-use Rattle.stp_grammar.specs.declared.packet.Order.{Order}
-use Rattle.stp_grammar.specs.declared.item.StpItem.{StpItem}
+use Rattle.std.proofs.Common.{◌++◌, take, refl, sym, ◌∙◌, ap, subst, arith}
+use Rattle.trace_values.specs.Placed.{placed_from}
 use Rattle.stp_codec.specs.Reading.{items_in}
 use Rattle.stp_codec.specs.Decoder.{Stands, order_of, is_hunter}
 use Rattle.stp_codec.proofs.Parts.{takes_with, taking_with, taken_all, same_takes, none_step}
-use Rattle.stp_codec.proofs.PacketPieces.{sound_before}
-use Rattle.stp_codec.proofs.Passing.{sound_at}
 use Rattle.stp_codec.proofs.decoder.StpDecoder.feed_piece.Goals as goal
 
 pub returns-then-is_some-clause-takes : goal.returns-then-is_some-clause-takes

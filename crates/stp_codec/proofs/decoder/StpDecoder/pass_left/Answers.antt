@@ -1,4 +1,4 @@
-use Rattle.std.proofs.Common.{◌≡◌, ℕ, ◌/◌, ◌≤◌, refl, arith}
+use Rattle.std.proofs.Common.{◌/◌, refl, arith}
 use Rattle.stp_codec.proofs.Passing.{left_list, left_quiet, left_few}
 use Rattle.stp_codec.proofs.decoder.StpDecoder.pass_left.Goals as goal
 

@@ -1,4 +1,4 @@
-use Rattle.std.proofs.Common.{◌≡◌, ℕ, ◌+◌, ◌-◌, ◌*◌, ◌/◌, ◌%◌, ◌<◌, ◌≤◌, List, ◌++◌, Option, sym, ◌∙◌, ap, subst, arith, Bool, true}
+use Rattle.std.proofs.Common.{◌+◌, ◌-◌, ◌/◌, List, Option, sym, subst, true}
 use Rattle.trace_values.specs.Placed.{Placed}
 use Rattle.trace_values.specs.Nibbles.{nibbles_of}
 use Rattle.trace_values.specs.Block.{Takes}

@@ -1,4 +1,4 @@
-use Rattle.std.proofs.Common.{◌≡◌, ℕ, ◌+◌, ◌≤◌, refl, sym, ◌∙◌, ap, subst, arith}
+use Rattle.std.proofs.Common.{refl, sym, ◌∙◌, ap, arith}
 use Rattle.trace_values.proofs.Modes.{reads_on}
 use Rattle.stp_grammar.specs.Rule.{rule}
 use Rattle.stp_grammar.proofs.Beginning.{start_ends, start_never_fails}

@@ -1,4 +1,4 @@
-use Rattle.std.proofs.Common.{◌≡◌, ℕ, ◌+◌, ◌≤◌, List, [], ◌∷◌, ◌++◌, refl, sym, ◌∙◌, ap, subst, arith, inl, inr}
+use Rattle.std.proofs.Common.{[], ◌∷◌, ◌++◌, sym, subst, arith}
 use Rattle.trace_values.specs.Nibbles.{nibbles_of, low_of}
 use Rattle.trace_values.specs.Stream.{LocksAfter}
 use Rattle.stp_codec.specs.Decoder.{is_hunter}
