@@ -16,12 +16,14 @@ module _ (Q : List Placed → ℕ → ℕ → Type 0) where
   each_append [] ys u at e f =
       subst (λ (v : List Placed). EachByte Q v at ys) (append-nil u)
       (subst (λ (n : ℕ). EachByte Q (u ++ []) n ys) (let z : at + 0 ≡ at = omega arith in z) f)
-  each_append (x ∷ xs) ys u at e f =
-      (e.0, each_append xs ys (u ++ byte_at at x ∷ []) (at + 1) e.1
-      (subst (λ (v : List Placed). EachByte Q v (at + 1 + length xs) ys)
-      (sym (append_assoc u (byte_at at x ∷ []) (placed_from (at + 1) xs)))
-      (subst (λ (n : ℕ). EachByte Q (u ++ placed_from at (x ∷ xs)) n ys)
-      (let z : at + length (x ∷ xs) ≡ at + 1 + length xs = omega arith in z) f)))
+  each_append (x ∷ xs) ys u at e f = (
+    e.0,
+    each_append xs ys (u ++ byte_at at x ∷ []) (at + 1) e.1
+        (subst (λ (v : List Placed). EachByte Q v (at + 1 + length xs) ys)
+        (sym (append_assoc u (byte_at at x ∷ []) (placed_from (at + 1) xs)))
+        (subst (λ (n : ℕ). EachByte Q (u ++ placed_from at (x ∷ xs)) n ys)
+        (let z : at + length (x ∷ xs) ≡ at + 1 + length xs = omega arith in z) f)),
+  )
 
   -- the last byte of a part may be the last of all
   pub fed_after : (L : List Placed → ℕ → ℕ → Type 0) (xs ys : List ℕ) (u : List Placed) (at : ℕ) → EachByte Q u at xs →
