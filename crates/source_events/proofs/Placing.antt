@@ -41,10 +41,11 @@ frame_between : (size n k : ℕ) (cells : List Cell) → length cells ≤ size �
 frame_between size n k [] l r = r
 frame_between zero n k (c ∷ cells) l r = absurd (omega arith)
 frame_between (suc size) n k (c ∷ cells) l r =
-    subst (λ (x : List (List Cell)). Between IsRunFrom end_of n k x) (sym (runs_split c cells))
-    ((r.0, rises_take (more_of c cells) (c.at + 1) cells (rises_from cells (c.at + 1) k r.1)),
-    frame_between size (end_of (c ∷ take (more_of c cells) cells)) k (drop (more_of c cells) cells)
-    (omega (arith, shorter (more_of c cells) cells)) (after_run (more_of c cells) n k c cells r))
+    subst (λ (x : List (List Cell)). Between IsRunFrom end_of n k x) (sym (runs_split c cells)) (
+      (r.0, rises_take (more_of c cells) (c.at + 1) cells (rises_from cells (c.at + 1) k r.1)),
+      frame_between size (end_of (c ∷ take (more_of c cells) cells)) k (drop (more_of c cells) cells)
+          (omega (arith, shorter (more_of c cells) cells)) (after_run (more_of c cells) n k c cells r),
+    )
 
 pub between_join : (a b : List (List Cell)) (n m k : ℕ) → RunsBetween n m a → RunsBetween m k b →
     RunsBetween n k (a ++ b)

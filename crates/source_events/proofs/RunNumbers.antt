@@ -118,23 +118,27 @@ whole_joined c n cells ([] ∷ runs) l o e w = absurd w
 whole_joined c n cells ((d ∷ run) ∷ runs) l o e w = elim (same_or_not d.run c.run) [
   | inl s ↦
       subst (λ (t : Bool). AreWhole n (c ∷ cells) (cond t ((c ∷ (d ∷ run)) ∷ runs) ((c ∷ []) ∷ ((d ∷ run) ∷ runs))))
-      (sym (test_same d.run c.run s))
-      (l,
-      ap (λ (x : List Cell). c ∷ x) (w.1 ∙ ap (λ (k : ℕ). numbered k cells) s) ∙ sym (numbered_own c.run c cells refl),
-      whole_after c cells runs (c.run + 1) (let z : c.run < c.run + 1 = omega arith in z)
-      (subst (λ (k : ℕ). AreWhole (k + 1) cells runs) s w.2))
+      (sym (test_same d.run c.run s)) (
+        l,
+        ap (λ (x : List Cell). c ∷ x) (w.1 ∙ ap (λ (k : ℕ). numbered k cells) s) ∙ sym (numbered_own c.run c cells refl),
+        whole_after c cells runs (c.run + 1) (let z : c.run < c.run + 1 = omega arith in z)
+            (subst (λ (k : ℕ). AreWhole (k + 1) cells runs) s w.2),
+      )
   | inr m ↦
       (let a = w.0 in
       let above : c.run < d.run = (let q = m in omega arith) in
       subst (λ (t : Bool). AreWhole n (c ∷ cells) (cond t ((c ∷ (d ∷ run)) ∷ runs) ((c ∷ []) ∷ ((d ∷ run) ∷ runs))))
-      (sym (test_other d.run c.run m))
-      (l,
-      sym (numbered_own c.run c cells refl
-      ∙ ap (λ (x : List Cell). c ∷ x) (none_numbered c.run (c.run + 1) cells (let z : c.run < c.run + 1 = omega arith in z)
-      (ordered_above c d cells run (flat_map (λ (r : List Cell). r) runs) e above o))),
-      ((let z : c.run + 1 ≤ d.run = omega arith in z),
-      w.1 ∙ sym (numbered_other d.run c cells (λ q. m (sym q))),
-      whole_after c cells runs (d.run + 1) (let z : c.run < d.run + 1 = omega arith in z) w.2)))
+      (sym (test_other d.run c.run m)) (
+        l,
+        sym (numbered_own c.run c cells refl
+            ∙ ap (λ (x : List Cell). c ∷ x) (none_numbered c.run (c.run + 1) cells (let z : c.run < c.run + 1 = omega arith in z)
+            (ordered_above c d cells run (flat_map (λ (r : List Cell). r) runs) e above o))),
+        (
+          (let z : c.run + 1 ≤ d.run = omega arith in z),
+          w.1 ∙ sym (numbered_other d.run c cells (λ q. m (sym q))),
+          whole_after c cells runs (d.run + 1) (let z : c.run < d.run + 1 = omega arith in z) w.2,
+        ),
+      ))
 ]
 
 pub are_whole : (n : ℕ) (cells : List Cell) → Ordered n cells → AreWhole n cells (runs_of cells)

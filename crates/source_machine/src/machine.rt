@@ -117,7 +117,9 @@ impl SourceMachine {
             (SourceKind::Itm, PacketsMode::Hunt) => SourceMachine::Itm(ItmDecoder::hunting()),
             (SourceKind::Itm, PacketsMode::Aligned) => SourceMachine::Itm(ItmDecoder::aligned()),
             (SourceKind::Stp, PacketsMode::Hunt) => SourceMachine::Stp(StpDecoder::hunting(order)),
-            (SourceKind::Stp, PacketsMode::Aligned) => SourceMachine::Stp(StpDecoder::aligned(order)),
+            (SourceKind::Stp, PacketsMode::Aligned) => SourceMachine::Stp(StpDecoder::aligned(
+                order,
+            )),
         }
     }
 
