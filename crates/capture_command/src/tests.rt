@@ -8,6 +8,7 @@ mod hunting;
 mod ids;
 mod listing;
 mod notes;
+mod sources;
 mod split;
 mod stamps;
 mod words;

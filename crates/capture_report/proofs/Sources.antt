@@ -44,7 +44,7 @@ module _ (es : List (Event Packet)) (e : Event Packet) (packet : ItmPacket) (id 
     | inl h ↦ (
         let there : get_or (set old id new) x d ≡ new = ap (λ (n : ℕ). get_or (set old id new) n d) h ∙ get_or-set_same old id new d within in
         let before : Stands (get_or old id new) (itm_packets (Some x) es) =
-            subst (λ (n : ℕ). Stands (get_or old n new) (itm_packets (Some x) es)) h (stands new) in
+        subst (λ (n : ℕ). Stands (get_or old n new) (itm_packets (Some x) es)) h (stands new) in
         subst (λ (k : Clocks). Stands k (itm_packets (Some x) (es ++ e ∷ []))) (sym there)
         (subst (Stands new) (sym (own x h)) (after (itm_packets (Some x) es) before))
         )
