@@ -43,6 +43,21 @@ const RING_BIN: &[u8] = &[
     0x05, 0x49, 0x74, 0x20, 0x68, 0x73, 0x20, 0x6C, 0x68, 0x6E, 0x64, 0x20, 0x34, 0x2E, 0x0A, 0x34,
 ];
 
+/// An ITM, a system trace, a source that is not mapped, and a trigger, in frames.
+const BOARD_BIN: &[u8] = &[
+    0xFF, 0xFF, 0xFF, 0x7F, 0x03, 0x00, 0x00, 0x00, 0x00, 0x00, 0x05, 0x80, 0xFE, 0xFF, 0xFE, 0xFF,
+    0xFE, 0xFF, 0xFE, 0xF8, 0xFE, 0xFF, 0xFE, 0x0F, 0x0E, 0x30, 0x21, 0xA5, 0x03, 0x01, 0x05, 0x41,
+    0x00, 0xF1, 0x44, 0x67, 0x12, 0x05, 0x01, 0x00, 0x00, 0x00, 0x00, 0x00, 0x00, 0x00, 0x00, 0x00,
+    0x00, 0x00, 0x00, 0x00, 0xFB, 0x07, 0x01, 0x00, 0x00, 0x00, 0x00, 0x00, 0x00, 0x00, 0x00, 0x00,
+    0x00, 0x00, 0x00, 0x00,
+];
+
+/// A system trace.
+const SYSTEM_STP: &[u8] = &[
+    0xFF, 0xFF, 0xFF, 0xFF, 0xFF, 0xFF, 0xFF, 0xFF, 0xFF, 0xFF, 0x0F, 0x0F, 0x30, 0x01, 0x31, 0x50,
+    0x48, 0x38, 0x60, 0x44, 0x96, 0x6F, 0x02, 0x00, 0x01, 0x00, 0x62, 0xF9, 0xFE, 0x70, 0x40, 0xF1,
+];
+
 const HELLO_TEXT: &str = "5 1 sync
 7 1 port 0 u8 41
 end 8
@@ -103,10 +118,38 @@ It is line 3.
 It is line 4.
 ";
 
+const BOARD_TEXT: &str = "3 port locked 0
+11 1 locked 0
+11 1 sync
+23.1 2 locked 0
+23.1 2 async
+25.1 2 version 3
+27 16 raw a5
+31 1 port 0 u8 41
+37.0 2 data 1 0 u8 42 - n=5
+53 125 trigger 07
+end 68
+port locked skipped 0 tail 0 unattributed 0
+1 itm locked skipped 0 tail 0
+2 stp locked skipped 0 tail 0
+";
+
+const SYSTEM_TEXT: &str = "10.1 1 async
+12.1 1 version 3
+19.0 1 data 1 5 u8 48 m n=100
+20.1 1 data 1 5 u8 69 - -
+27.0 1 data 1 5 u32 20001000 - n=105
+28.0 1 flag 1 5 -
+31.1 1 trig 04 n=111
+end 32
+port bare skipped 0 tail 0 unattributed 0
+1 stp aligned skipped 0 tail 0
+";
+
 /// The bytes of each file, the words of a call, and what it writes.
 #[test]
 fn examples_are_as_the_documents_say(rt: HostRuntime) -> Result<(), Fail> {
-    let table: [(&[u8], &[&str], &[u8]); 7] = [
+    let table: [(&[u8], &[&str], &[u8]); 9] = [
         (HELLO_ITM, &ALIGNED, HELLO_TEXT.as_bytes()),
         (BOOT_ITM, &ALIGNED, BOOT_TEXT.as_bytes()),
         (EVENTS_ITM, &ALIGNED, EVENTS_TEXT.as_bytes()),
@@ -117,6 +160,24 @@ fn examples_are_as_the_documents_say(rt: HostRuntime) -> Result<(), Fail> {
             RING_BIN,
             &["split", "--frames", "aligned", "--id", "2"],
             RING_TEXT.as_bytes(),
+        ),
+        (
+            BOARD_BIN,
+            &["show", "--itm", "1", "--stp", "2"],
+            BOARD_TEXT.as_bytes(),
+        ),
+        (
+            SYSTEM_STP,
+            &[
+                "show",
+                "--frames",
+                "bare",
+                "--packets",
+                "aligned",
+                "--stp",
+                "1",
+            ],
+            SYSTEM_TEXT.as_bytes(),
         ),
     ];
     for (bytes, words, text) in table {
