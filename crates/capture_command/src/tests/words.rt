@@ -59,8 +59,9 @@ const UNFINISHED: &str =
 #[test]
 fn takes_options_in_any_order(rt: HostRuntime) -> Result<(), Fail> {
     // What is written for the two bytes of a value: its line, or that it is skipped; and what a port has of them.
-    let table: [(&[&str], &str); 9] = [
+    let table: [(&[&str], &str); 10] = [
         (&ALIGNED, LISTED),
+        (&["check", "--limit", "16777217"], HUNTED),
         (&HUNTING, SKIPPED),
         (
             &[
