@@ -39,7 +39,8 @@ impl PerSource {
 
     /// The number of a source.
     pub fn of(&self, id: SourceId) -> u64
-        ensures { result ≡ number_of self.now id }
+        ensures number { result ≡ number_of self.now id }
+        ensures few { result ≤ total_of self.now }
     {
         self.numbers[usize::from(id.number())]
     }
@@ -138,7 +139,8 @@ impl ByteCounts {
 
     /// How many bytes a source sent.
     pub fn of(&self, id: SourceId) -> u64
-        ensures { (runs : List (List Cell)) → HasBytes self.now runs → result ≡ bytes_in id runs }
+        ensures number { (runs : List (List Cell)) → HasBytes self.now runs → result ≡ bytes_in id runs }
+        ensures few { result ≤ bytes_counted self.now }
     {
         self.sources.of(id)
     }
@@ -207,8 +209,9 @@ impl Counters {
 
     /// How many bytes and items a source has.
     pub fn of(&self, id: SourceId) -> Counts
-        ensures { (runs : List (List Cell)) (es : List (Event Packet)) → HasBytes self.now.bytes runs →
+        ensures counts { (runs : List (List Cell)) (es : List (Event Packet)) → HasBytes self.now.bytes runs →
             HasItems self.now.items es → result ≡ record { bytes = bytes_in id runs; items = items_in id es } }
+        ensures few { result.bytes + result.items ≤ size_of self.now }
     {
         Counts {
             bytes: self.bytes.of(id),

@@ -278,7 +278,8 @@ impl Engine {
     /// How many bytes a source has, and how many events without notices. The engine is live.
     pub fn counts(&self, id: SourceId) -> Counts
         requires { is_live self.now ≡ true }
-        ensures { (u : List Placed) → Stands self.now u → result ≡ source_counts_of (plan_of self.now) u id }
+        ensures counts { (u : List Placed) → Stands self.now u → result ≡ source_counts_of (plan_of self.now) u id }
+        ensures few { (result.bytes ≤ 2 ^ 42) × (result.items ≤ 2 ^ 42) }
     {
         self.counters.of(id)
     }

@@ -6,10 +6,10 @@ use Rattle.source_merge.specs.Answering.{port_of, report_of}
 use Rattle.source_merge.proofs.Attributed.{bytes_are}
 use Rattle.source_merge.proofs.engine.Engine.counts.Goals as goal
 
-pub returns : goal.returns
-returns c = λ u h.
+pub returns-clause-counts : goal.returns-clause-counts
+returns-clause-counts c = λ u h.
     let plan = c.args.self.now.plan in
     let k = (h.going c.requires).counted in
-    c.of.ensures (runs_in (port_of plan u)) (report_of plan u) k.bytes k.items
+    c.of.ensures.counts (runs_in (port_of plan u)) (report_of plan u) k.bytes k.items
     ∙ ap (λ (n : ℕ). (let r : Counts = record { bytes = n; items = items_in c.args.id (report_of plan u) } in r))
     (bytes_are plan.frames u c.args.id)
