@@ -1,0 +1,10 @@
+use Rattle.std.proofs.Common.{◌≡◌, ℕ, ◌+◌, List, ◌++◌, replicate}
+use Rattle.stp_encoder.specs.Joined.{Joins, count_in}
+use Rattle.stp_encoder.proofs.joiner.Joiner.put_async.Given as goal
+
+abbrev pub invariant-loop-i : goal.invariant-loop-i
+invariant-loop-i l = record {
+  joins : (n : List ℕ) → Joins l.initial.self l.initial.out.items n →
+      Joins l.self l.out.items (n ++ replicate l._i 0xF);
+  count : count_in l.self l.out.items ≡ count_in l.initial.self l.initial.out.items + l._i;
+}

@@ -1,0 +1,59 @@
+-- The bytes for a list of items: the shortest nibbles of their packets, two a byte, the low one first (MIPI System Trace
+-- Protocol, version 2, in this project's profile).
+use Rattle.std.specs.Prelude.{ℕ, ◌+◌, ◌*◌, ◌%◌, List, [], ◌∷◌, ◌++◌, length, flat_map, ◌==◌, if◌then◌else◌, Option, None, Some, option_to_list}
+use Rattle.trace_clock.specs.LastWord.{nibble_count}
+use Rattle.stp_grammar.specs.declared.packet.Order.{Order}
+use Rattle.stp_grammar.specs.declared.packet.StpPacket.{StpPacket}
+use Rattle.stp_grammar.specs.declared.packet.StpPacket.TheVariants.{Async, Plain, Stamped}
+use Rattle.stp_grammar.specs.declared.item.StpItem.{StpItem}
+use Rattle.stp_grammar.specs.Opcodes.{line_of}
+use Rattle.stp_grammar.specs.Shortest.{short}
+use Rattle.stp_encoder.specs.Packets.{packets_with, packets_for}
+
+-- the whole bytes of nibbles
+abbrev pub joined : List ℕ → List ℕ
+joined [] = []
+joined (low ∷ []) = []
+joined (low ∷ (high ∷ nibbles)) = (low + 16 * high) ∷ joined nibbles
+
+-- the last nibble, where they are an odd number
+abbrev pub odd_nibble : List ℕ → Option ℕ
+odd_nibble [] = None
+odd_nibble (low ∷ []) = Some low
+odd_nibble (low ∷ (high ∷ nibbles)) = odd_nibble nibbles
+
+-- an odd number of nibbles is filled with a NULL, whose nibble is 0
+abbrev pub filled : List ℕ → List ℕ
+filled nibbles = if length nibbles % 2 == 0 then nibbles else nibbles ++ 0x0 ∷ []
+
+-- the nibbles of packets
+abbrev pub spelled : Order → List StpPacket → List ℕ
+spelled order packets = flat_map (short order) packets
+
+-- how many nibbles the shortest spelling of a packet has
+abbrev pub count_of : StpPacket → ℕ
+count_of Async = 22
+count_of (Plain row payload) = length (line_of row).opcode + (line_of row).payload
+count_of (Stamped row payload size word) = length (line_of row).opcode + (line_of row).payload + 1 + nibble_count size
+
+-- the nibbles for items
+unfoldable pub nibbles_for : Order → List StpItem → List ℕ
+nibbles_for order items = spelled order (packets_for items)
+
+-- the bytes that are written once these items are put, where an odd last nibble is kept, and those with the end
+abbrev pub written : Order → List StpItem → List ℕ
+written order items = joined (nibbles_for order items)
+
+abbrev pub encoded : Order → List StpItem → List ℕ
+encoded order items = joined (filled (nibbles_for order items))
+
+-- the nibble that is kept then
+abbrev pub kept_nibble : Order → List StpItem → List ℕ
+kept_nibble order items = option_to_list (odd_nibble (nibbles_for order items))
+
+-- what one more item adds to the bytes that are written, and what the end adds
+abbrev pub put_bytes : Order → List StpItem → StpItem → List ℕ
+put_bytes order items item = joined (kept_nibble order items ++ spelled order (packets_with (packets_for items) item))
+
+abbrev pub end_bytes : Order → List StpItem → List ℕ
+end_bytes order items = joined (filled (kept_nibble order items))

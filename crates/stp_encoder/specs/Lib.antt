@@ -1,0 +1,6 @@
+pub mod Fitting
+pub mod Packets
+pub mod Bytes
+pub mod Joined
+pub mod Encoder
+pub mod ReadBack

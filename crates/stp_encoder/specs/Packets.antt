@@ -1,0 +1,82 @@
+-- The packets for a list of items (MIPI System Trace Protocol, version 2; which packets are sent for an item is this
+-- project's profile). What is in force when an item comes is what all packets before it tell.
+use Rattle.std.specs.Prelude.{ℕ, ◌/◌, ◌%◌, ◌^◌, List, [], ◌∷◌, ◌++◌, Bool, true, false, ◌==◌, if◌then◌else◌, Option, None, Some, unwrap_or}
+use Rattle.std.specs.List.{find, range_with_len}
+use Rattle.trace_clock.specs.GrayCode.{gray_of}
+use Rattle.trace_clock.specs.LastWord.{SizedWord, sized, nibble_count, next_word}
+use Rattle.stp_grammar.specs.declared.packet.Row.{Row}
+use Rattle.stp_grammar.specs.declared.packet.Row.TheVariants.{Master8, MasterError, Channel8, Datum, Flag, Master16, GlobalError, Channel16, Version, NullStamp, Trigger, Frequency}
+use Rattle.stp_grammar.specs.declared.packet.StpPacket.{StpPacket}
+use Rattle.stp_grammar.specs.declared.packet.StpPacket.TheVariants.{Async, Plain, Stamped}
+use Rattle.stp_grammar.specs.declared.item.Place.{Place}
+use Rattle.stp_grammar.specs.declared.item.Stamp.{Stamp}
+use Rattle.stp_grammar.specs.declared.item.Stamp.TheVariants.{None as NoStamp, Natural, Gray, Raw}
+use Rattle.stp_grammar.specs.declared.item.StpItem.{StpItem}
+use Rattle.stp_grammar.specs.declared.item.StpItem.TheVariants.{Async as AsyncItem, Version as VersionItem, MasterError as MasterErrorItem, GlobalError as GlobalErrorItem, Datum as DatumItem, Flag as FlagItem, Trigger as TriggerItem, Frequency as FrequencyItem, NullStamp as NullStampItem}
+use Rattle.stp_grammar.specs.Attribution.{master_of, channel_of, last_word_of}
+use Rattle.stp_encoder.specs.Fitting.{place_in}
+
+-- The packet that tells a number of 16 bits, where this one is in force: none where it is the same, the low 8 bits where
+-- the high 8 are the same, and else all of it.
+abbrev pub telling : Row → Row → Option ℕ → Option ℕ → List StpPacket
+telling low whole known None = []
+telling low whole None (Some number) = Plain whole number ∷ []
+telling low whole (Some known) (Some number) =
+    if known == number then []
+    else (if known / 256 == number / 256 then Plain low (number % 256) ∷ [] else Plain whole number ∷ [])
+
+-- the packets before an item at this place: the master's, and then the channel's, which is 0 after a master's
+abbrev pub telling_place : List StpPacket → Option Place → List StpPacket
+telling_place before None = []
+telling_place before (Some place) =
+    let masters = telling Master8 Master16 (master_of before) place.master in
+    masters ++ telling Channel8 Channel16 (channel_of (before ++ masters)) place.channel
+
+-- the lowest nibbles of a word, as a timestamp of this size has them
+abbrev pub low_nibbles : ℕ → ℕ → SizedWord
+low_nibbles word size = sized size (word % 16 ^ nibble_count size)
+
+-- the timestamp of the least size, from 0 to 14, that makes this word of the last one
+unfoldable pub shortest_stamp : ℕ → ℕ → SizedWord
+shortest_stamp last word = low_nibbles word
+    (unwrap_or (find (λ size. next_word last (low_nibbles word size) == word) (range_with_len 0 15)) 14)
+
+-- an item's timestamp as a packet has it, after these packets: a time in the least size, a raw word in its own
+abbrev pub packed_stamp : List StpPacket → Stamp → Option SizedWord
+packed_stamp before NoStamp = None
+packed_stamp before (Natural time) = Some (shortest_stamp (last_word_of before) time)
+packed_stamp before (Gray time) = Some (shortest_stamp (last_word_of before) (gray_of time))
+packed_stamp before (Raw size word) = Some (sized size word)
+
+-- a packet with this payload: of the one row without a timestamp, and of the other with one
+abbrev pub with_stamp : Row → Row → ℕ → Option SizedWord → StpPacket
+with_stamp plain stamped payload None = Plain plain payload
+with_stamp plain stamped payload (Some stamp) = Stamped stamped payload stamp.size stamp.word
+
+-- an item's own packet, after these packets
+abbrev pub own_packet : List StpPacket → StpItem → StpPacket
+own_packet before AsyncItem = Async
+own_packet before (VersionItem version) = Plain Version version
+own_packet before (MasterErrorItem place code) = Plain MasterError code
+own_packet before (GlobalErrorItem code) = Plain GlobalError code
+own_packet before (DatumItem place width value marked stamp) =
+    with_stamp (Datum width marked false) (Datum width marked true) value (packed_stamp before stamp)
+own_packet before (FlagItem place stamp) = with_stamp (Flag false) (Flag true) 0 (packed_stamp before stamp)
+own_packet before (TriggerItem code stamp) = with_stamp (Trigger false) (Trigger true) code (packed_stamp before stamp)
+own_packet before (FrequencyItem hertz stamp) =
+    with_stamp (Frequency false) (Frequency true) hertz (packed_stamp before stamp)
+own_packet before (NullStampItem stamp) = with_stamp NullStamp NullStamp 0 (packed_stamp before stamp)
+
+-- the packets for one more item, after these packets
+abbrev pub packets_with : List StpPacket → StpItem → List StpPacket
+packets_with before item =
+    let told = telling_place before (place_in item) in
+    told ++ own_packet (before ++ told) item ∷ []
+
+-- these packets, and then those for the items
+abbrev pub packets_after : List StpPacket → List StpItem → List StpPacket
+packets_after before [] = before
+packets_after before (item ∷ items) = packets_after (before ++ packets_with before item) items
+
+unfoldable pub packets_for : List StpItem → List StpPacket
+packets_for items = packets_after [] items
