@@ -1,3 +1,6 @@
 pub mod Joining
 pub mod Digits
+pub mod Least
+pub mod Versions
+pub mod Standing
 pub mod Reading

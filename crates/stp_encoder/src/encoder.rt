@@ -29,7 +29,7 @@ pub struct StpEncoder {
 }
 
 impl StpEncoder {
-    ghost use Rattle.std.specs.Prelude.{◌≡◌, ◌<◌, ◌≤◌, ◌+◌, ℕ, List, [], ◌∷◌, ◌++◌, option_map, option_to_list, is_err, length, if◌then◌else◌, Some};
+    ghost use Rattle.std.specs.Prelude.{◌≡◌, ◌<◌, ◌≤◌, ◌+◌, ℕ, List, [], ◌∷◌, ◌++◌, option_map, option_to_list, is_err, length, if◌then◌else◌};
     ghost use Rattle.std.specs.Option.{ForSome};
     ghost use Rattle.std.specs.Result.{IfErr, OnErr, OnOk};
     ghost use Rattle.trace_clock.specs.GrayCode.{gray_of};
@@ -172,25 +172,24 @@ impl StpEncoder {
         }
     }
 
-    /// Writes the packets that make this place the one in force.
-    fn put_place(&mut self, place: Place, out: &mut ArrayVec<u8, 24>)
+    /// Writes the packets that make this place, if there is one, the one in force.
+    fn put_place(&mut self, place: Option<Place>, out: &mut ArrayVec<u8, 24>)
         requires room { count_with self.old out.old.items ≤ 1 }
         ensures order { order_of self.new ≡ order_of self.old }
         ensures at { (packets : List StpPacket) (n : List ℕ) → IsAt self.old out.old.items packets n →
-            let told = telling_place packets (Some place) in
+            let told = telling_place packets place in
             IsAt self.new out.new.items (packets ++ told) (n ++ spelled (order_of self.old) told) }
         ensures count { count_with self.new out.new.items ≤ 13 }
     {
+        let Some(place) = place else {
+            return;
+        };
         let known = self.attribution.place().master;
-        self.put_told(
-            telling(Row::Master8, Row::Master16, known, place.master),
-            out,
-        );
+        let master = telling(Row::Master8, Row::Master16, known, place.master);
+        self.put_told(master, out);
         let known = self.attribution.place().channel;
-        self.put_told(
-            telling(Row::Channel8, Row::Channel16, known, place.channel),
-            out,
-        );
+        let channel = telling(Row::Channel8, Row::Channel16, known, place.channel);
+        self.put_told(channel, out);
     }
 
     /// Writes the packets of an item that fits.
@@ -202,10 +201,9 @@ impl StpEncoder {
             let more = packets_with packets item.now in
             IsAt self.new out.new.items (packets ++ more) (n ++ spelled (order_of self.old) more) }
     {
-        if let Some(place) = place_of(item) {
-            self.put_place(place, out);
-        }
-        self.put_packet(self.own_packet(item), out);
+        self.put_place(place_of(item), out);
+        let packet = self.own_packet(item);
+        self.put_packet(packet, out);
     }
 
     /// Writes the packets of an item, at most 24 bytes, into `out`, which is empty: those that make its place the one in

@@ -14,7 +14,7 @@ fn nibble_at(number: u64, place: u8) -> u8
     requires { place < 16 }
     ensures { result ≡ nibble_by number place }
 {
-    (number >> (4 * place) & 0xF) as u8
+    ((number >> (4 * place)) % 16) as u8
 }
 
 /// Joins nibbles in bytes, the low nibble of each first.
@@ -93,7 +93,7 @@ impl Joiner {
             Joins self.new out.new.items (n ++ (replicate 21 0xF ++ 0x0 ∷ [])) }
         ensures count { count_in self.new out.new.items ≡ count_in self.old out.old.items + 22 }
     {
-        for _i in 0..21 {
+        for _i in 0..21u8 {
             self.put(0xF, out);
         }
         self.put(0x0, out);
