@@ -3,4 +3,5 @@ pub mod Digits
 pub mod Least
 pub mod Versions
 pub mod Standing
+pub mod Places
 pub mod Reading

@@ -5,6 +5,7 @@
 mod encoder;
 mod fit;
 mod joiner;
+pub mod laws;
 mod opcode;
 mod packet;
 mod telling;

@@ -1,0 +1,8 @@
+use Rattle.stp_encoder.proofs.Places.{master_kept}
+use Rattle.stp_encoder.proofs.laws.read_back_law.Goals as goal
+
+pub returns-clause-nibbles : goal.returns-clause-nibbles
+returns-clause-nibbles c = ?
+
+pub returns-clause-bytes : goal.returns-clause-bytes
+returns-clause-bytes c = ?
