@@ -4,4 +4,6 @@ pub mod Least
 pub mod Versions
 pub mod Standing
 pub mod Places
+pub mod Stamps
+pub mod Told
 pub mod Reading

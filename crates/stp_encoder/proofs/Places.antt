@@ -6,11 +6,11 @@ use Rattle.stp_grammar.specs.declared.packet.Row.TheVariants.{Master8, Channel8,
 use Rattle.stp_grammar.specs.declared.packet.StpPacket.{StpPacket}
 use Rattle.stp_grammar.specs.declared.packet.StpPacket.TheVariants.{Plain, Stamped}
 use Rattle.stp_grammar.specs.declared.item.Place.{Place}
+use Rattle.stp_grammar.specs.Proper.{IsProper}
 use Rattle.stp_grammar.specs.Attribution.{master_of, channel_of, place_of}
-use Rattle.stp_grammar.specs.NextState.{next_number}
+use Rattle.stp_grammar.specs.NextState.{next_number, next_master, next_channel}
 use Rattle.stp_grammar.proofs.Attributing.{master_more, channel_more}
 use Rattle.stp_encoder.specs.Packets.{telling, telling_place}
-use Rattle.stp_encoder.proofs.Versions.{telling_cases}
 
 are_same : (a b : ℕ) → (a == b) ≡ true → a ≡ b
 are_same a b e = grind (arith, nat_tests)
@@ -49,6 +49,46 @@ channel_told before n h = by (channel_of before) refl where
         ∙ ap Some (low_told k n (are_same (k / 256) (n / 256) g))
     choose false false f g = whole
 
+-- what holds of no packet, and of one of either row whose payload fits it, holds of the packet that tells a number
+within : (P : List StpPacket → Type 0) (low whole : Row) (known : Option ℕ) (n : ℕ) → n < 2 ^ 16 → P [] → ((v : ℕ) → v < 256 → P (Plain low v ∷ [])) → ((v : ℕ) → v < 2 ^ 16 → P (Plain whole v ∷ [])) →
+    P (telling low whole known (Some n))
+within P low whole None n h none l w = w n h
+within P low whole (Some k) n h none l w = by (k == n) (k / 256 == n / 256) where
+  by : (s t : Bool) → P (cond s [] (cond t (Plain low (n % 256) ∷ []) (Plain whole n ∷ [])))
+  by true t = none
+  by false true = l (n % 256) (omega arith)
+  by false false = w n h
+
 -- a channel's packet leaves the master
-pub master_kept : (before : List StpPacket) (n : ℕ) → n < 2 ^ 16 → master_of (before ++ telling Channel8 Channel16 (channel_of before) (Some n)) ≡ master_of before
-master_kept before n h = ?
+master_kept : (before : List StpPacket) (known : Option ℕ) (n : ℕ) → n < 2 ^ 16 → master_of (before ++ telling Channel8 Channel16 known (Some n)) ≡ master_of before
+master_kept before known n h =
+    within (λ l. master_of (before ++ l) ≡ master_of before) Channel8 Channel16 known n h (ap (λ (l : List StpPacket). master_of l) (append-nil before))
+    (λ v f. master_more before (Plain Channel8 v) (omega (arith, f))) (λ v f. master_more before (Plain Channel16 v) (omega (arith, f)))
+
+abbrev at : Option ℕ → Option ℕ → Place
+at m c = record { master = m; channel = c }
+
+same_place : (p q : Place) → p.master ≡ q.master → p.channel ≡ q.channel → p ≡ q
+same_place p q e f = ap (λ (m : Option ℕ). at m p.channel) e ∙ ap (λ (c : Option ℕ). at q.master c) f
+
+-- the place is in force after its packets
+pub place_told : (before : List StpPacket) (place : Place) (m n : ℕ) → place.master ≡ Some m → place.channel ≡ Some n → m < 2 ^ 16 → n < 2 ^ 16 →
+    place_of (before ++ telling_place before (Some place)) ≡ place
+place_told before place m n e f h k =
+    let masters = telling Master8 Master16 (master_of before) place.master in
+    let channels = telling Channel8 Channel16 (channel_of (before ++ masters)) place.channel in
+    let all : before ++ (masters ++ channels) ≡ (before ++ masters) ++ channels = sym (append_assoc before masters channels) in
+    let kept : master_of ((before ++ masters) ++ channels) ≡ master_of (before ++ masters) =
+    subst (λ (o : Option ℕ). master_of ((before ++ masters) ++ telling Channel8 Channel16 (channel_of (before ++ masters)) o) ≡ master_of (before ++ masters)) (sym f)
+    (master_kept (before ++ masters) (channel_of (before ++ masters)) n k) in
+    let master : master_of (before ++ masters) ≡ place.master =
+    subst (λ (o : Option ℕ). master_of (before ++ telling Master8 Master16 (master_of before) o) ≡ o) (sym e) (master_told before m h) in
+    let channel : channel_of ((before ++ masters) ++ channels) ≡ place.channel =
+    subst (λ (o : Option ℕ). channel_of ((before ++ masters) ++ telling Channel8 Channel16 (channel_of (before ++ masters)) o) ≡ o) (sym f) (channel_told (before ++ masters) n k) in
+    ap (λ (l : List StpPacket). place_of l) all ∙ same_place (place_of ((before ++ masters) ++ channels)) place (kept ∙ master) channel
+
+-- a packet that tells neither a master nor a channel nor a version leaves the place
+pub place_kept : (before : List StpPacket) (p : StpPacket) → IsProper p → ((o : Option ℕ) → (next_master o p ≡ o) × (next_channel o p ≡ o)) → place_of (before ++ p ∷ []) ≡ place_of before
+place_kept before p h t =
+    same_place (place_of (before ++ p ∷ [])) (place_of before)
+    (master_more before p h ∙ (t (master_of before)).0) (channel_more before p h ∙ (t (channel_of before)).1)

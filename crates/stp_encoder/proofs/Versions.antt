@@ -46,6 +46,9 @@ none_by_place before (Some place) =
     let n = telling_cases P Channel8 Channel16 (channel_of (before ++ masters)) place.channel refl (λ v. refl) (λ v. refl) in
     filter_map-append version_in masters channels ∙ ap (λ (l : List ℕ). l ++ filter_map version_in channels) m ∙ n
 
+pub version_kept : (before : List StpPacket) (place : Option Place) → version_of (before ++ telling_place before place) ≡ version_of before
+version_kept before place = version_told before (telling_place before place) ∙ ap (last_or (version_of before)) (none_by_place before place)
+
 -- an item's own packet tells the version that the item names
 named_by_own : (before : List StpPacket) (item : StpItem) → filter_map version_in (own_packet before item ∷ []) ≡ filter_map version_named (item ∷ [])
 named_by_own before AsyncItem = refl

@@ -1,4 +1,4 @@
-use Rattle.stp_encoder.proofs.Places.{master_kept}
+use Rattle.stp_encoder.proofs.Told.{told_append}
 use Rattle.stp_encoder.proofs.laws.read_back_law.Goals as goal
 
 pub returns-clause-nibbles : goal.returns-clause-nibbles
