@@ -1,5 +1,5 @@
 -- Nibbles joined in bytes, and one or more nibbles more.
-use Rattle.std.proofs.Common.{◌≡◌, ℕ, zero, suc, ◌+◌, ◌*◌, ◌%◌, ◌==◌, List, [], ◌∷◌, ◌++◌, length, refl, sym, ◌∙◌, ap, arith, cond, append-nil, Bool, true, false, Option, None, Some}
+use Rattle.std.proofs.Common.{◌≡◌, ℕ, zero, suc, ◌+◌, ◌*◌, ◌%◌, ◌==◌, List, [], ◌∷◌, ◌++◌, length, refl, sym, ◌∙◌, ap, arith, cond, append-nil, replicate, Bool, true, false, Option, None, Some}
 use Rattle.std.specs.Option.{option_to_list}
 use Rattle.stp_encoder.specs.Bytes.{joined, odd_nibble, filled}
 
@@ -50,3 +50,13 @@ filled_append n = by (length n % 2 == 0) (length kept % 2 == 0) (parity n) where
   by false false e = joined_append n (0 ∷ [])
   by true false e = absurd cc
   by false true e = absurd cc
+
+-- what is filled is an even number of nibbles, and has 0 after the others
+pub filled_is : (n : List ℕ) → (fill : ℕ) × (filled n ≡ n ++ replicate fill 0) × (None ≡ odd_nibble (filled n))
+filled_is n = by (odd_nibble n) (length n % 2 == 0) refl (parity n) where
+  by : (o : Option ℕ) (t : Bool) → odd_nibble n ≡ o → t ≡ (length (option_to_list (odd_nibble n)) % 2 == 0) →
+      (fill : ℕ) × (cond t n (n ++ 0 ∷ []) ≡ n ++ replicate fill 0) × (None ≡ odd_nibble (cond t n (n ++ 0 ∷ [])))
+  by None true e p = (0, sym (append-nil n), sym e)
+  by None false e p = (let q : false ≡ true = p ∙ ap (λ (o : Option ℕ). length (option_to_list o) % 2 == 0) e in absurd cc)
+  by (Some a) true e p = (let q : true ≡ false = p ∙ ap (λ (o : Option ℕ). length (option_to_list o) % 2 == 0) e in absurd cc)
+  by (Some a) false e p = (1, refl, (push_odd n a 0 (sym e)).1)

@@ -5,5 +5,8 @@ pub mod Versions
 pub mod Standing
 pub mod Places
 pub mod Stamps
+pub mod Rows
 pub mod Told
+pub mod Wholes
 pub mod Reading
+pub mod ReadingBack

@@ -1,5 +1,6 @@
 -- The packets before an item make its place the one in force, and are no items.
 use Rattle.std.proofs.Common.{◌≡◌, ℕ, ◌+◌, ◌*◌, ◌/◌, ◌%◌, ◌^◌, ◌<◌, ◌==◌, List, [], ◌∷◌, ◌++◌, refl, sym, ◌∙◌, ap, subst, append_assoc, append-nil, arith, Bool, true, false, cond, Option, None, Some}
+use Rattle.std.specs.Option.{ForSome}
 use Rattle.std.proofs.lemmas.Bool.Decides.{nat_tests}
 use Rattle.stp_grammar.specs.declared.packet.Row.{Row}
 use Rattle.stp_grammar.specs.declared.packet.Row.TheVariants.{Master8, Channel8, Master16, Channel16}
@@ -12,7 +13,7 @@ use Rattle.stp_grammar.specs.NextState.{next_number, next_master, next_channel}
 use Rattle.stp_grammar.proofs.Attributing.{master_more, channel_more}
 use Rattle.stp_encoder.specs.Packets.{telling, telling_place}
 
-are_same : (a b : ℕ) → (a == b) ≡ true → a ≡ b
+pub are_same : (a b : ℕ) → (a == b) ≡ true → a ≡ b
 are_same a b e = grind (arith, nat_tests)
 
 -- other low 8 bits under the same high ones
@@ -50,19 +51,20 @@ channel_told before n h = by (channel_of before) refl where
     choose false false f g = whole
 
 -- what holds of no packet, and of one of either row whose payload fits it, holds of the packet that tells a number
-within : (P : List StpPacket → Type 0) (low whole : Row) (known : Option ℕ) (n : ℕ) → n < 2 ^ 16 → P [] → ((v : ℕ) → v < 256 → P (Plain low v ∷ [])) → ((v : ℕ) → v < 2 ^ 16 → P (Plain whole v ∷ [])) →
-    P (telling low whole known (Some n))
-within P low whole None n h none l w = w n h
-within P low whole (Some k) n h none l w = by (k == n) (k / 256 == n / 256) where
+pub telling_within : (P : List StpPacket → Type 0) (low whole : Row) (known number : Option ℕ) → ForSome number (λ n. n < 2 ^ 16) →
+    P [] → ((v : ℕ) → v < 2 ^ 8 → P (Plain low v ∷ [])) → ((v : ℕ) → v < 2 ^ 16 → P (Plain whole v ∷ [])) → P (telling low whole known number)
+telling_within P low whole known None h none l w = none
+telling_within P low whole None (Some n) h none l w = w n (h n refl)
+telling_within P low whole (Some k) (Some n) h none l w = by (k == n) (k / 256 == n / 256) where
   by : (s t : Bool) → P (cond s [] (cond t (Plain low (n % 256) ∷ []) (Plain whole n ∷ [])))
   by true t = none
   by false true = l (n % 256) (omega arith)
-  by false false = w n h
+  by false false = w n (h n refl)
 
 -- a channel's packet leaves the master
 master_kept : (before : List StpPacket) (known : Option ℕ) (n : ℕ) → n < 2 ^ 16 → master_of (before ++ telling Channel8 Channel16 known (Some n)) ≡ master_of before
 master_kept before known n h =
-    within (λ l. master_of (before ++ l) ≡ master_of before) Channel8 Channel16 known n h (ap (λ (l : List StpPacket). master_of l) (append-nil before))
+    telling_within (λ l. master_of (before ++ l) ≡ master_of before) Channel8 Channel16 known (Some n) (λ x e. let q : n ≡ x = cc in subst (λ (z : ℕ). z < 2 ^ 16) q h) (ap (λ (l : List StpPacket). master_of l) (append-nil before))
     (λ v f. master_more before (Plain Channel8 v) (omega (arith, f))) (λ v f. master_more before (Plain Channel16 v) (omega (arith, f)))
 
 abbrev at : Option ℕ → Option ℕ → Place

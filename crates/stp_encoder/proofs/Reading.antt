@@ -9,12 +9,12 @@ use Rattle.stp_grammar.specs.declared.packet.Order.{Order}
 use Rattle.stp_grammar.specs.declared.packet.StpPacket.{StpPacket}
 use Rattle.stp_grammar.specs.declared.partial.Partial.{Partial}
 use Rattle.stp_grammar.specs.declared.partial.Partial.TheVariants.{Start}
-use Rattle.stp_grammar.specs.Proper.{IsProper}
 use Rattle.stp_grammar.specs.Rule.{rule}
-use Rattle.stp_grammar.specs.Shortest.{short, IsByRow}
+use Rattle.stp_grammar.specs.Shortest.{short}
 use Rattle.stp_grammar.proofs.Deciding.{decided}
 use Rattle.stp_grammar.proofs.ShortSpellings.{shortest}
 use Rattle.stp_encoder.specs.Bytes.{spelled}
+use Rattle.stp_encoder.proofs.Wholes.{IsWhole, AreWhole}
 
 -- placed units whose units are two lists, one after the other
 parts_of : (u : List Placed) (a b : List ℕ) → units_of u ≡ a ++ b → (v : List Placed) × (w : List Placed) × (u ≡ v ++ w) × (units_of v ≡ a) × (units_of w ≡ b)
@@ -30,16 +30,6 @@ parts_of (p ∷ u) (x ∷ a) b e =
 last_of : (p : Placed) (u : List Placed) → (w : List Placed) × (l : Placed) × (p ∷ u ≡ w ++ l ∷ [])
 last_of p [] = ([], p, refl)
 last_of p (q ∷ u) = let more = last_of q u in (p ∷ more.0, more.1, ap (λ (l : List Placed). p ∷ l) more.2)
-
--- a packet that has a spelling
-pub record IsWhole (packet : StpPacket) : Type 0 where
-  pub proper : IsProper packet
-  pub by_row : IsByRow packet
-
--- each of these has one
-abbrev pub AreWhole : List StpPacket → Type 0
-AreWhole [] = Unit {0}
-AreWhole (packet ∷ packets) = IsWhole packet × AreWhole packets
 
 module _ (order : Order) where
   -- a reading goes on after a front

@@ -1,9 +1,8 @@
 -- The packets for fitting items tell exactly the items, and each has a spelling.
-use Rattle.std.proofs.Common.{◌≡◌, ℕ, ◌+◌, ◌^◌, ◌<◌, List, [], ◌∷◌, ◌++◌, refl, sym, ◌∙◌, ap, subst, append_assoc, append-nil, arith, Bool, true, false, not, ◌&&◌, ◌||◌, Option, None, Some}
+use Rattle.std.proofs.Common.{◌≡◌, ℕ, ◌+◌, ◌^◌, ◌<◌, List, [], ◌∷◌, ◌++◌, refl, sym, ◌∙◌, ap, subst, append_assoc, append-nil, arith, ◌==◌, Bool, true, false, not, ◌&&◌, ◌||◌, Option, None, Some}
 use Rattle.std.specs.Option.{option_to_list, is_some, ForSome}
 use Rattle.trace_clock.specs.LastWord.{SizedWord}
 use Rattle.stp_grammar.specs.declared.packet.Width.{Width}
-use Rattle.stp_grammar.specs.declared.packet.Width.TheVariants.{Four, Eight, Sixteen, ThirtyTwo, SixtyFour}
 use Rattle.stp_grammar.specs.declared.packet.Row.{Row}
 use Rattle.stp_grammar.specs.declared.packet.Row.TheVariants.{MasterError, Datum, Flag, GlobalError, Version, NullStamp, Trigger, Frequency, Master8, Master16, Channel8, Channel16}
 use Rattle.stp_grammar.specs.declared.packet.StpPacket.{StpPacket}
@@ -14,14 +13,16 @@ use Rattle.stp_grammar.specs.declared.item.Stamp.TheVariants.{None as NoStamp, N
 use Rattle.stp_grammar.specs.declared.item.StpItem.{StpItem}
 use Rattle.stp_grammar.specs.declared.item.StpItem.TheVariants.{Async as AsyncItem, Version as VersionItem, MasterError as MasterErrorItem, GlobalError as GlobalErrorItem, Datum as DatumItem, Flag as FlagItem, Trigger as TriggerItem, Frequency as FrequencyItem, NullStamp as NullStampItem}
 use Rattle.stp_grammar.specs.Opcodes.{line_of}
-use Rattle.stp_grammar.specs.Proper.{IsProper, IsProperItem, bits_of}
+use Rattle.stp_grammar.specs.Proper.{IsProperPlace, IsProperItem, bits_of}
 use Rattle.stp_grammar.specs.Attribution.{version_of, master_of, channel_of, place_of, item_of}
+use Rattle.stp_grammar.proofs.EachRow.{each_test}
 use Rattle.stp_encoder.specs.Fitting.{place_in, stamp_in, is_of_version, is_named, is_there, is_unfit, version_after, AreFitting}
 use Rattle.stp_encoder.specs.Packets.{telling, telling_place, own_packet, packets_with, packets_after, packets_for}
 use Rattle.stp_encoder.proofs.Versions.{telling_cases, version_for, version_kept}
 use Rattle.stp_encoder.proofs.Standing.{packets_more}
-use Rattle.stp_encoder.proofs.Places.{place_told, place_kept}
-use Rattle.stp_encoder.proofs.Stamps.{made_back, MakesItem}
+use Rattle.stp_encoder.proofs.Places.{are_same, place_told, place_kept}
+use Rattle.stp_encoder.proofs.Stamps.{made_back}
+use Rattle.stp_encoder.proofs.Rows.{makes_datum, makes_flag, makes_trigger, makes_frequency, makes_null, fits_of}
 
 -- the items that packets are after these
 abbrev pub told : List StpPacket → List StpPacket → List StpItem
@@ -45,61 +46,6 @@ nothing_told before (Some place) =
     told_append before masters channels
     ∙ ap (λ (l : List StpItem). l ++ told (before ++ masters) channels) (telling_cases (λ l. told before l ≡ []) Master8 Master16 (master_of before) place.master refl (λ v. refl) (λ v. refl))
     ∙ telling_cases (λ l. told (before ++ masters) l ≡ []) Channel8 Channel16 (channel_of (before ++ masters)) place.channel refl (λ v. refl) (λ v. refl)
-
--- the rows of items with a timestamp or none
-datum_fits : (width : Width) (marked stamped : Bool) (value : ℕ) → value < 2 ^ bits_of width → value < 16 ^ (line_of (Datum width marked stamped)).payload
-datum_fits Four true true v h = omega (arith, h)
-datum_fits Four true false v h = omega (arith, h)
-datum_fits Four false true v h = omega (arith, h)
-datum_fits Four false false v h = omega (arith, h)
-datum_fits Eight true true v h = omega (arith, h)
-datum_fits Eight true false v h = omega (arith, h)
-datum_fits Eight false true v h = omega (arith, h)
-datum_fits Eight false false v h = omega (arith, h)
-datum_fits Sixteen true true v h = omega (arith, h)
-datum_fits Sixteen true false v h = omega (arith, h)
-datum_fits Sixteen false true v h = omega (arith, h)
-datum_fits Sixteen false false v h = omega (arith, h)
-datum_fits ThirtyTwo true true v h = omega (arith, h)
-datum_fits ThirtyTwo true false v h = omega (arith, h)
-datum_fits ThirtyTwo false true v h = omega (arith, h)
-datum_fits ThirtyTwo false false v h = omega (arith, h)
-datum_fits SixtyFour true true v h = omega (arith, h)
-datum_fits SixtyFour true false v h = omega (arith, h)
-datum_fits SixtyFour false true v h = omega (arith, h)
-datum_fits SixtyFour false false v h = omega (arith, h)
-
-makes_datum : (width : Width) (marked stamped : Bool) (value : ℕ) → value < 2 ^ bits_of width → MakesItem (Datum width marked stamped) value (λ place stamp. DatumItem place width value marked stamp)
-makes_datum width marked stamped value h = record { makes = λ p s. refl; fits = datum_fits width marked stamped value h; quiet = λ o. (refl, refl) }
-
-makes_flag : (stamped : Bool) → MakesItem (Flag stamped) 0 (λ place stamp. FlagItem place stamp)
-makes_flag true = record { makes = λ p s. refl; fits = omega arith; quiet = λ o. (refl, refl) }
-makes_flag false = record { makes = λ p s. refl; fits = omega arith; quiet = λ o. (refl, refl) }
-
-makes_trigger : (stamped : Bool) (code : ℕ) → code < 2 ^ 8 → MakesItem (Trigger stamped) code (λ place stamp. TriggerItem code stamp)
-makes_trigger true code h = record { makes = λ p s. refl; fits = omega (arith, h); quiet = λ o. (refl, refl) }
-makes_trigger false code h = record { makes = λ p s. refl; fits = omega (arith, h); quiet = λ o. (refl, refl) }
-
-makes_frequency : (stamped : Bool) (hertz : ℕ) → hertz < 2 ^ 32 → MakesItem (Frequency stamped) hertz (λ place stamp. FrequencyItem hertz stamp)
-makes_frequency true hertz h = record { makes = λ p s. refl; fits = omega (arith, h); quiet = λ o. (refl, refl) }
-makes_frequency false hertz h = record { makes = λ p s. refl; fits = omega (arith, h); quiet = λ o. (refl, refl) }
-
-makes_null : MakesItem NullStamp 0 (λ place stamp. NullStampItem stamp)
-makes_null = record { makes = λ p s. refl; fits = omega arith; quiet = λ o. (refl, refl) }
-
--- what an item has that fits: its timestamp is of the version's kind, its place is named, and it is there
-pub record Fits (version : Option ℕ) (item : StpItem) : Type 0 where
-  pub stamp : is_of_version version (stamp_in item) ≡ true
-  pub named : is_named (place_in item) ≡ true
-  pub there : is_there item ≡ true
-
-pub fits_of : (version : Option ℕ) (item : StpItem) → is_unfit version item ≡ false → Fits version item
-fits_of version item e = by (is_of_version version (stamp_in item)) (is_named (place_in item)) (is_there item) refl refl refl e where
-  by : (s t r : Bool) → is_of_version version (stamp_in item) ≡ s → is_named (place_in item) ≡ t → is_there item ≡ r → (not s || (not t || not r)) ≡ false → Fits version item
-  by true true true a b c f = record { stamp = a; named = b; there = c }
-  by false t r a b c f = absurd cc
-  by true false r a b c f = absurd cc
-  by true true false a b c f = absurd cc
 
 -- the place is the one in force, where there is one
 abbrev IsIn : List StpPacket → Option Place → Type 0
@@ -127,3 +73,55 @@ own_back before (FrequencyItem hertz stamp) h e i =
     made_back before (Frequency false) (Frequency true) hertz (λ z s. FrequencyItem hertz s) stamp (makes_frequency false hertz h.0) (makes_frequency true hertz h.0) h.1 e
 own_back before (NullStampItem stamp) h e i =
     made_back before NullStamp NullStamp 0 (λ z s. NullStampItem s) stamp makes_null makes_null h e
+
+-- the place of a proper item is proper
+named_in : (before : List StpPacket) (place : Place) (m n : Option ℕ) → place.master ≡ m → place.channel ≡ n → IsProperPlace place → is_named (Some place) ≡ true →
+    IsIn (before ++ telling_place before (Some place)) (Some place)
+named_in before place None n e f h k = let q = ap is_some e in absurd cc
+named_in before place (Some m) None e f h k = let p = ap is_some e in let q = ap is_some f in absurd (by place.master place.channel p q k) where
+  by : (a b : Option ℕ) → is_some a ≡ true → is_some b ≡ false → (is_some a && is_some b) ≡ true → ⊥
+  by None b p q k = cc
+  by (Some x) None p q k = cc
+  by (Some x) (Some y) p q k = cc
+named_in before place (Some m) (Some n) e f h k = place_told before place m n e f (h.0 m e) (h.1 n f)
+
+in_force : (before : List StpPacket) (item : StpItem) → IsProperItem item → is_named (place_in item) ≡ true → IsIn (before ++ telling_place before (place_in item)) (place_in item)
+in_force before AsyncItem h k = tt
+in_force before (VersionItem version) h k = tt
+in_force before (MasterErrorItem place code) h k = named_in before place place.master place.channel refl refl h.0 k
+in_force before (GlobalErrorItem code) h k = tt
+in_force before (DatumItem place width value marked stamp) h k = named_in before place place.master place.channel refl refl h.0 k
+in_force before (FlagItem place stamp) h k = named_in before place place.master place.channel refl refl h.0 k
+in_force before (TriggerItem code stamp) h k = tt
+in_force before (FrequencyItem hertz stamp) h k = tt
+in_force before (NullStampItem stamp) h k = tt
+
+-- the packets for an item are the item
+pub item_back : (before : List StpPacket) (item : StpItem) → IsProperItem item → is_unfit (version_of before) item ≡ false → told before (packets_with before item) ≡ item ∷ []
+item_back before item h e =
+    let place = telling_place before (place_in item) in
+    let own = own_packet (before ++ place) item in
+    let f = fits_of (version_of before) item e in
+    let kind : is_of_version (version_of (before ++ place)) (stamp_in item) ≡ true =
+    ap (λ (o : Option ℕ). is_of_version o (stamp_in item)) (version_kept before (place_in item)) ∙ f.stamp in
+    told_append before place (own ∷ [])
+    ∙ ap (λ (l : List StpItem). l ++ told (before ++ place) (own ∷ [])) (nothing_told before (place_in item))
+    ∙ ap (λ (o : Option StpItem). option_to_list o ++ []) (own_back (before ++ place) item h kind (in_force before item h f.named))
+
+-- and those for items the items
+told_from : (all done items : List StpItem) → AreFitting all → all ≡ done ++ items → told [] (packets_after (packets_for done) items) ≡ told [] (packets_for done) ++ items
+told_from all done [] h e = sym (append-nil (told [] (packets_for done)))
+told_from all done (item ∷ items) h e =
+    let packets = packets_for done in
+    let fit = h done items item e in
+    let own : told packets (packets_with packets item) ≡ item ∷ [] =
+    item_back packets item fit.0 (ap (λ (o : Option ℕ). is_unfit o item) (version_for done) ∙ fit.1) in
+    ap (λ (l : List StpPacket). told [] (packets_after l items)) (sym (packets_more done item))
+    ∙ told_from all (done ++ item ∷ []) items h (e ∙ sym (append_assoc done (item ∷ []) items))
+    ∙ ap (λ (l : List StpPacket). told [] l ++ items) (packets_more done item)
+    ∙ ap (λ (l : List StpItem). l ++ items) (told_append [] packets (packets_with packets item) ∙ ap (λ (l : List StpItem). told [] packets ++ l) own)
+    ∙ append_assoc (told [] packets) (item ∷ []) items
+
+pub told_back : (items : List StpItem) → AreFitting items → told [] (packets_for items) ≡ items
+unfolding packets_for
+told_back items h = told_from items [] items h refl
