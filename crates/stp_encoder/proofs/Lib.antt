@@ -10,3 +10,5 @@ pub mod Told
 pub mod Wholes
 pub mod Reading
 pub mod ReadingBack
+pub mod Leasts
+pub mod Fitted

@@ -107,11 +107,27 @@ zeros : (count : ℕ) → All (λ b. b < 16) (replicate count 0)
 zeros zero = All-nil (λ b. b < 16)
 zeros (suc count) = All-cons (λ b. b < 16) 0 (replicate count 0) (omega arith) (zeros count)
 
-pub bytes_back : (order : Order) (items : List StpItem) → AreFitting items → (u : List Placed) → units_of u ≡ encoded order items → ReadsBack order items (nibbles_of u)
+-- nibbles that are filled, and their bytes
+filled_small : (order : Order) (items : List StpItem) → AreFitting items → All (λ b. b < 16) (filled (nibbles_for order items))
 unfolding nibbles_for
+filled_small order items h =
+    let n = nibbles_for order items in
+    let f = filled_is n in
+    subst (λ (l : List ℕ). All (λ b. b < 16) l) (sym f.1) (All-append (λ b. b < 16) n (replicate f.0 0) (nibbles_whole order (packets_for items) (packets_whole items h)) (zeros f.0))
+
+joined_small : (n : List ℕ) → All (λ b. b < 16) n → All (λ b. b < 256) (joined n)
+joined_small [] h = All-nil (λ b. b < 256)
+joined_small (a ∷ []) h = All-nil (λ b. b < 256)
+joined_small (a ∷ (b ∷ n)) h =
+    let p : a < 16 = h 0 a (omega arith) in
+    let q : b < 16 = h 1 a (omega arith) in
+    All-cons (λ b. b < 256) (a + 16 * b) (joined n) (omega (arith, p, q)) (joined_small n (λ k d l. h (suc (suc k)) d (omega (arith, l))))
+
+pub bytes_small : (order : Order) (items : List StpItem) → AreFitting items → All (λ b. b < 256) (encoded order items)
+bytes_small order items h = joined_small (filled (nibbles_for order items)) (filled_small order items h)
+
+pub bytes_back : (order : Order) (items : List StpItem) → AreFitting items → (u : List Placed) → units_of u ≡ encoded order items → ReadsBack order items (nibbles_of u)
 bytes_back order items h u e =
     let n = nibbles_for order items in
     let f = filled_is n in
-    let small : All (λ b. b < 16) (filled n) =
-    subst (λ (l : List ℕ). All (λ b. b < 16) l) (sym f.1) (All-append (λ b. b < 16) n (replicate f.0 0) (nibbles_whole order (packets_for items) (packets_whole items h)) (zeros f.0)) in
-    nibbles_back order items h f.0 (nibbles_of u) (units_halves u ∙ ap halves e ∙ halves_joined (filled n) small f.2 ∙ f.1)
+    nibbles_back order items h f.0 (nibbles_of u) (units_halves u ∙ ap halves e ∙ halves_joined (filled n) (filled_small order items h) f.2 ∙ f.1)

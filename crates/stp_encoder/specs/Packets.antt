@@ -1,7 +1,7 @@
 -- The packets for a list of items (MIPI System Trace Protocol, version 2; which packets are sent for an item is this
 -- project's profile). What is in force when an item comes is what all packets before it tell.
 use Rattle.std.specs.Prelude.{ℕ, ◌/◌, ◌%◌, ◌^◌, List, [], ◌∷◌, ◌++◌, Bool, true, false, ◌==◌, if◌then◌else◌, Option, None, Some, unwrap_or}
-use Rattle.std.specs.List.{find, range_with_len}
+use Rattle.std.specs.List.{find, filter_map, after_last, range_with_len}
 use Rattle.trace_clock.specs.GrayCode.{gray_of}
 use Rattle.trace_clock.specs.LastWord.{SizedWord, sized, nibble_count, next_word}
 use Rattle.stp_grammar.specs.declared.packet.Row.{Row}
@@ -13,7 +13,7 @@ use Rattle.stp_grammar.specs.declared.item.Stamp.{Stamp}
 use Rattle.stp_grammar.specs.declared.item.Stamp.TheVariants.{None as NoStamp, Natural, Gray, Raw}
 use Rattle.stp_grammar.specs.declared.item.StpItem.{StpItem}
 use Rattle.stp_grammar.specs.declared.item.StpItem.TheVariants.{Async as AsyncItem, Version as VersionItem, MasterError as MasterErrorItem, GlobalError as GlobalErrorItem, Datum as DatumItem, Flag as FlagItem, Trigger as TriggerItem, Frequency as FrequencyItem, NullStamp as NullStampItem}
-use Rattle.stp_grammar.specs.Attribution.{master_of, channel_of, last_word_of}
+use Rattle.stp_grammar.specs.Attribution.{stamp_in, begins_master, master_of, channel_of, last_word_of}
 use Rattle.stp_encoder.specs.Fitting.{place_in}
 
 -- The packet that tells a number of 16 bits, where this one is in force: none where it is the same, the low 8 bits where
@@ -40,6 +40,10 @@ low_nibbles word size = sized size (word % 16 ^ nibble_count size)
 unfoldable pub shortest_stamp : ℕ → ℕ → SizedWord
 shortest_stamp last word = low_nibbles word
     (unwrap_or (find (λ size. next_word last (low_nibbles word size) == word) (range_with_len 0 15)) 14)
+
+-- the timestamps of packets since the last VERSION, which make the last word
+abbrev pub stamps_since : List StpPacket → List SizedWord
+stamps_since packets = filter_map stamp_in (after_last begins_master packets)
 
 -- an item's timestamp as a packet has it, after these packets: a time in the least size, a raw word in its own
 abbrev pub packed_stamp : List StpPacket → Stamp → Option SizedWord

@@ -14,14 +14,15 @@ use trace_clock::Stamps;
 /// An item can't be written after those before it: its timestamp is of another version's kind, a number of its place is
 /// absent, or it is a timestamp alone and has none.
 #[derive(Clone, Copy, Debug, PartialEq, Eq, Drop, Error)]
-#[error("the item does not fit the version in force")]
+#[error("the item does not fit what was written before it")]
 pub struct Unfit {
     /// The version that the last VERSION named.
     pub version: Option<u8>,
 }
 
-/// Writes items as bytes. It keeps what the packets so far tell, and the nibble whose byte isn't whole.
-#[derive(Debug, Drop)]
+/// Writes items as bytes. It keeps what the packets so far tell, and a nibble whose byte isn't whole. A copy goes on by
+/// itself.
+#[derive(Clone, Copy, Debug, Drop)]
 pub struct StpEncoder {
     order: Order,
     attribution: Attribution,
@@ -220,8 +221,10 @@ impl StpEncoder {
         requires proper { IsProperItem item.now }
         requires empty { out.old.items ≡ [] }
         ensures order { order_of self.new ≡ order_of self.old }
-        ensures fits { is_err result ≡ is_unfit_by (version_of self.old) item.now }
-        ensures unfit { IfErr result (λ e. e.version ≡ version_of self.old) }
+        ensures cause { is_err result ≡ is_unfit_by (version_of self.old) item.now }
+        ensures version { IfErr result (λ e. e.version ≡ version_of self.old) }
+        ensures fits { (items : List StpItem) → Stands self.old items →
+            is_err result ≡ is_unfit_by (version_after items) item.now }
         ensures same { OnErr result ((self.new ≡ self.old) × (out.new ≡ out.old)) }
         ensures list { (items : List StpItem) → Stands self.old items →
             OnOk result (Stands self.new (items ++ item.now ∷ [])) }
@@ -239,14 +242,13 @@ impl StpEncoder {
         Ok(())
     }
 
-    /// Writes what ends the bytes for the items so far into `out`, which is empty: a kept nibble with a NULL above it, and
-    /// else nothing.
-    pub fn finish(&self, out: &mut ArrayVec<u8, 24>)
+    /// Writes the end of the bytes into `out`, which is empty: a kept nibble with a NULL above it, and else nothing.
+    pub fn finish(self, out: &mut ArrayVec<u8, 24>)
         requires empty { out.old.items ≡ [] }
-        ensures bytes { (items : List StpItem) → Stands self.now items →
-            out.new.items ≡ end_bytes (order_of self.now) items }
-        ensures encoded { (items : List StpItem) → Stands self.now items →
-            encoded (order_of self.now) items ≡ written (order_of self.now) items ++ out.new.items }
+        ensures bytes { (items : List StpItem) → Stands self items →
+            out.new.items ≡ end_bytes (order_of self) items }
+        ensures encoded { (items : List StpItem) → Stands self items →
+            encoded (order_of self) items ≡ written (order_of self) items ++ out.new.items }
         ensures few { length out.new.items ≤ 1 }
     {
         self.joiner.finish(out);

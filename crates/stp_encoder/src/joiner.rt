@@ -18,7 +18,7 @@ fn nibble_at(number: u64, place: u8) -> u8
 }
 
 /// Joins nibbles in bytes, the low nibble of each first.
-#[derive(Debug, Drop)]
+#[derive(Clone, Copy, Debug, Drop)]
 pub(crate) struct Joiner {
     /// A low nibble, whose byte waits for the high one.
     low: Option<u8>,
@@ -137,9 +137,9 @@ impl Joiner {
     }
 
     /// Appends the byte of a kept nibble, with a NULL above it, where there is one.
-    pub(crate) fn finish(&self, out: &mut ArrayVec<u8, 24>)
+    pub(crate) fn finish(self, out: &mut ArrayVec<u8, 24>)
         requires empty { out.old.items ≡ [] }
-        ensures bytes { out.new.items ≡ joined (filled (option_to_list self.now.low)) }
+        ensures bytes { out.new.items ≡ joined (filled (option_to_list self.low)) }
     {
         if let Some(low) = self.low {
             out.push(low);
