@@ -5,7 +5,7 @@ pub mod Versions
 pub mod Standing
 pub mod Places
 pub mod Stamps
-pub mod Rows
+pub mod OwnRows
 pub mod Told
 pub mod Wholes
 pub mod Reading

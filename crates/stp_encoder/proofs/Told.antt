@@ -22,7 +22,7 @@ use Rattle.stp_encoder.proofs.Versions.{telling_cases, version_for, version_kept
 use Rattle.stp_encoder.proofs.Standing.{packets_more}
 use Rattle.stp_encoder.proofs.Places.{are_same, place_told, place_kept}
 use Rattle.stp_encoder.proofs.Stamps.{made_back}
-use Rattle.stp_encoder.proofs.Rows.{makes_datum, makes_flag, makes_trigger, makes_frequency, makes_null, fits_of}
+use Rattle.stp_encoder.proofs.OwnRows.{makes_datum, makes_flag, makes_trigger, makes_frequency, makes_null, fits_of}
 
 -- the items that packets are after these
 abbrev pub told : List StpPacket → List StpPacket → List StpItem

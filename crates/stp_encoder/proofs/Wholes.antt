@@ -28,7 +28,7 @@ use Rattle.stp_encoder.specs.Bytes.{spelled}
 use Rattle.stp_encoder.proofs.Standing.{packets_more}
 use Rattle.stp_encoder.proofs.Places.{telling_within}
 use Rattle.stp_encoder.proofs.Stamps.{packed_fits, MakesItem}
-use Rattle.stp_encoder.proofs.Rows.{makes_datum, makes_flag, makes_trigger, makes_frequency, makes_null, fits_of}
+use Rattle.stp_encoder.proofs.OwnRows.{makes_datum, makes_flag, makes_trigger, makes_frequency, makes_null, fits_of}
 
 -- a packet that has a spelling, and a list of such packets
 pub record IsWhole (packet : StpPacket) : Type 0 where

@@ -4,3 +4,4 @@ pub mod Bytes
 pub mod Joined
 pub mod Encoder
 pub mod ReadBack
+pub mod Rows

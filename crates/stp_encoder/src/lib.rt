@@ -8,6 +8,7 @@ mod joiner;
 pub mod laws;
 mod opcode;
 mod packet;
+pub mod rows;
 mod telling;
 
 pub use encoder::{StpEncoder, Unfit};

@@ -1,0 +1,19 @@
+-- Worked rows of what is written, in text.
+use Rattle.std.specs.Prelude.{ℕ, false, Some}
+use Rattle.stp_grammar.specs.declared.packet.Width.TheVariants.{Eight}
+use Rattle.stp_grammar.specs.declared.item.Place.{Place}
+use Rattle.stp_grammar.specs.declared.item.Stamp.{Stamp}
+use Rattle.stp_grammar.specs.declared.item.Stamp.TheVariants.{None as NoStamp}
+use Rattle.stp_grammar.specs.declared.item.StpItem.{StpItem}
+use Rattle.stp_grammar.specs.declared.item.StpItem.TheVariants.{Datum, Flag}
+
+-- a place
+abbrev pub at : ℕ → ℕ → Place
+at master channel = record { master = Some master; channel = Some channel }
+
+-- a datum of 8 bits, not marked, and a flag without a timestamp
+abbrev pub byte_at : Place → ℕ → Stamp → StpItem
+byte_at place value stamp = Datum place Eight value false stamp
+
+abbrev pub flag_at : ℕ → ℕ → StpItem
+flag_at master channel = Flag (at master channel) NoStamp
