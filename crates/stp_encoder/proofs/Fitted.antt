@@ -26,8 +26,8 @@ last_or_before (z ∷ items) (x ∷ before) after last item e =
 pub more_fit : (items : List StpItem) (item : StpItem) → AreFitting items → IsProperItem item → is_unfit (version_after items) item ≡ false → AreFitting (items ++ item ∷ [])
 more_fit items item h p f before after x e = elim (last_or_before items before after item x e) [
   | inl w ↦ (
-      subst IsProperItem w.1 p,
-      ap (λ (l : List StpItem). is_unfit (version_after l) x) (sym w.0) ∙ ap (λ (y : StpItem). is_unfit (version_after items) y) (sym w.1) ∙ f,
+    subst IsProperItem w.1 p,
+    ap (λ (l : List StpItem). is_unfit (version_after l) x) (sym w.0) ∙ ap (λ (y : StpItem). is_unfit (version_after items) y) (sym w.1) ∙ f,
   )
   | inr w ↦ h before w.0 x w.1
 ]

@@ -45,6 +45,7 @@ pub filled_append : (n : List ℕ) → joined (filled n) ≡ joined n ++ joined 
 filled_append n = by (length n % 2 == 0) (length kept % 2 == 0) (parity n) where
   kept : List ℕ
   kept = option_to_list (odd_nibble n)
+
   by : (s t : Bool) → s ≡ t → joined (cond s n (n ++ 0 ∷ [])) ≡ joined n ++ joined (cond t kept (kept ++ 0 ∷ []))
   by true true e = sym (append-nil (joined n)) ∙ ap (λ (l : List ℕ). joined n ++ l) (sym (joined_kept (odd_nibble n)))
   by false false e = joined_append n (0 ∷ [])

@@ -34,15 +34,15 @@ module _ (test : ℕ → Bool) where
   find_first zero k x l h before here = absurd (omega (arith, l, h))
   find_first (suc n) k x l h before here =
       by (test k) refl (λ g. find_first n (k + 1) x g (omega (arith, h)) (λ y a b. before y (omega (arith, a)) b) here) where
-    by : (t : Bool) → test k ≡ t → (k + 1 ≤ x → find test (range_with_len (k + 1) n) ≡ Some x) → cond t (Some k) (find test (range_with_len (k + 1) n)) ≡ Some x
-    by true e more = elim (cases_lt k x) [
-      | inl s ↦ (let f = before k (omega arith) s in absurd cc)
-      | inr s ↦ ap Some (let q : k ≡ x = omega (arith, l, s) in q)
-    ]
-    by false e more = elim (cases_lt k x) [
-      | inl s ↦ more (omega (arith, s))
-      | inr s ↦ (let q : k ≡ x = omega (arith, l, s) in let f = ap test q in absurd cc)
-    ]
+        by : (t : Bool) → test k ≡ t → (k + 1 ≤ x → find test (range_with_len (k + 1) n) ≡ Some x) → cond t (Some k) (find test (range_with_len (k + 1) n)) ≡ Some x
+        by true e more = elim (cases_lt k x) [
+          | inl s ↦ (let f = before k (omega arith) s in absurd cc)
+          | inr s ↦ ap Some (let q : k ≡ x = omega (arith, l, s) in q)
+        ]
+        by false e more = elim (cases_lt k x) [
+          | inl s ↦ more (omega (arith, s))
+          | inr s ↦ (let q : k ≡ x = omega (arith, l, s) in let f = ap test q in absurd cc)
+        ]
 
   -- what is found passes, is among them, and none before it passes
   find_passes : (n k x : ℕ) → find test (range_with_len k n) ≡ Some x → (test x ≡ true) × (x < k + n)
@@ -122,6 +122,7 @@ unfolding shortest_stamp makes
 none_smaller last word other w l h less f e = by (find (makes last word) (range_with_len 0 15)) refl less where
   passes : makes last word other ≡ true
   passes = same (next_word last (low_nibbles word other)) word (made_by_low last word other w f e)
+
   by : (o : Option ℕ) → find (makes last word) (range_with_len 0 15) ≡ o → other < unwrap_or o 14 → ⊥
   by None g less = let n = find_none (makes last word) 15 0 other g (omega arith) (omega (arith, less)) in let p = passes in cc
   by (Some x) g less = let n = find_before (makes last word) 15 0 x other g (omega arith) less in let p = passes in cc

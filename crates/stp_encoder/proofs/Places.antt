@@ -24,6 +24,7 @@ master_told : (before : List StpPacket) (n : ℕ) → n < 2 ^ 16 → master_of (
 master_told before n h = by (master_of before) refl where
   whole : master_of (before ++ Plain Master16 n ∷ []) ≡ Some n
   whole = master_more before (Plain Master16 n) (omega (arith, h))
+
   by : (o : Option ℕ) → master_of before ≡ o → master_of (before ++ telling Master8 Master16 o (Some n)) ≡ Some n
   by None e = whole
   by (Some k) e = choose (k == n) (k / 256 == n / 256) refl refl where
@@ -39,6 +40,7 @@ channel_told : (before : List StpPacket) (n : ℕ) → n < 2 ^ 16 → channel_of
 channel_told before n h = by (channel_of before) refl where
   whole : channel_of (before ++ Plain Channel16 n ∷ []) ≡ Some n
   whole = channel_more before (Plain Channel16 n) (omega (arith, h))
+
   by : (o : Option ℕ) → channel_of before ≡ o → channel_of (before ++ telling Channel8 Channel16 o (Some n)) ≡ Some n
   by None e = whole
   by (Some k) e = choose (k == n) (k / 256 == n / 256) refl refl where

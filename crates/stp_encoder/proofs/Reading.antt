@@ -63,11 +63,10 @@ module _ (order : Order) where
   reads_packets (packet ∷ packets) h u e items =
       let parts = parts_of u (short order packet) (spelled order packets) e in
       let one = one_reads packet h.0 parts.0 parts.3 items in
-      let rest = reads_packets packets h.1 parts.1 parts.4 (items ++ (packet, one.0) ∷ []) in
-      (
-          (packet, one.0) ∷ rest.0,
-          ap (λ (l : List StpPacket). packet ∷ l) rest.1,
-          ap (progress_from (by_unit (rule order)) Start (plain items)) parts.2 ∙ from_append (plain items) parts.0 parts.1
-              ∙ ap (λ (p : Progress Partial StpPacket). progress_from (by_unit (rule order)) Start p parts.1) one.1 ∙ rest.2
-              ∙ ap plain (append_assoc items ((packet, one.0) ∷ []) rest.0),
+      let rest = reads_packets packets h.1 parts.1 parts.4 (items ++ (packet, one.0) ∷ []) in (
+        (packet, one.0) ∷ rest.0,
+        ap (λ (l : List StpPacket). packet ∷ l) rest.1,
+        ap (progress_from (by_unit (rule order)) Start (plain items)) parts.2 ∙ from_append (plain items) parts.0 parts.1
+            ∙ ap (λ (p : Progress Partial StpPacket). progress_from (by_unit (rule order)) Start p parts.1) one.1 ∙ rest.2
+            ∙ ap plain (append_assoc items ((packet, one.0) ∷ []) rest.0),
       )

@@ -39,6 +39,7 @@ said_of [] before = refl
 said_of (x ∷ items) before = by (item_of (before ++ x.0 ∷ []) x.0) (said_of items (before ++ x.0 ∷ [])) where
   rest : List (Said StpItem × Place)
   rest = decorate attribute (before ++ x.0 ∷ []) (kept items)
+
   by : (o : Option StpItem) → map (λ (y : Said StpItem × Place). y.0) (decorate attribute (before ++ x.0 ∷ []) (kept items)) ≡ map Kept (told (before ++ x.0 ∷ []) (packets_in items)) →
       map (λ (y : Said StpItem × Place). y.0) (kept_if o x.1 (decorate attribute (before ++ x.0 ∷ []) (kept items))) ≡ map Kept (option_to_list o ++ told (before ++ x.0 ∷ []) (packets_in items))
   by None e = e

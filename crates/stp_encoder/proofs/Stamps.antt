@@ -105,6 +105,7 @@ made_back before plain stamped payload make stamp a b h e = by (packed_stamp bef
   none (Natural time) f = cc
   none (Gray time) f = cc
   none (Raw size word) f = cc
+
   by : (o : Option SizedWord) → packed_stamp before stamp ≡ o → (let p = with_stamp plain stamped payload o in item_of (before ++ p ∷ []) p ≡ Some (make (place_of before) stamp))
   by None f =
       let p = Plain plain payload in
