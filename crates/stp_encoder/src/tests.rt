@@ -1,5 +1,7 @@
 //! What is written, against bytes by hand and read again.
 
+ghost use Rattle.std.specs.Prelude.{◌<◌};
+
 use crate::{StpEncoder, Unfit};
 use arrayvec::ArrayVec;
 use std::process::Abort;
@@ -327,22 +329,22 @@ struct Dice(u64);
 
 impl Dice {
     /// A number under this one.
-    fn below(&mut self, count: u64) -> u64 {
-        self.0 = self
-            .0
-            .wrapping_mul(6364136223846793005)
-            .wrapping_add(1442695040888963407);
-        (self.0 >> 20).checked_rem(count).unwrap_or(0)
+    fn below(&mut self, count: u64) -> u64
+        requires { 0 < count }
+        ensures { result < count }
+    {
+        self.0 = self.0.wrapping_mul(6364136223846793005).wrapping_add(1442695040888963407);
+        (self.0 >> 20) % count
     }
 
-    /// A number with this many low bits, most of which are as before.
-    fn near(&mut self, number: u64, bits: u64) -> u64 {
-        let changed = self.below(u64::MAX) & 0xFF;
-        let shift = (self.below(bits) % 64) as u32;
+    /// A number that differs from this one in eight bits at most.
+    fn near(&mut self, number: u64) -> u64 {
+        let changed = self.below(256);
+        let shift = self.below(64) as u32;
         number ^ changed.wrapping_shl(shift)
     }
 
-    /// A number with few nodes, so that neighbours often are the same or differ in half of their bits.
+    /// One of nine masters or channels, so that one often is that before it, or has the same high 8 bits.
     fn number(&mut self) -> u16 {
         let high = self.below(3);
         let low = self.below(3);
@@ -356,7 +358,7 @@ impl Dice {
             (_, 4) => Stamp::Gray(time),
             _ => {
                 let size = self.below(13) as u8;
-                let word = self.below(1u64.checked_shl(u32::from(size) * 4).unwrap_or(1));
+                let word = self.below(1u64 << (4 * size));
                 Stamp::Raw { size, word }
             }
         }
@@ -390,7 +392,7 @@ fn reads_back_a_random_walk(rt: HostRuntime) {
                 version = (dice.below(4) + 2) as u8;
                 bench.put(&rt, StpItem::Version(version));
             } else {
-                time = dice.near(time, 64);
+                time = dice.near(time);
                 let item = dice.item(version, time);
                 bench.put(&rt, item);
             }
