@@ -8,7 +8,7 @@ use Rattle.stp_grammar.specs.declared.item.StpItem.TheVariants.{Datum as DatumIt
 use Rattle.stp_grammar.specs.Opcodes.{line_of}
 use Rattle.stp_grammar.specs.Proper.{bits_of}
 use Rattle.stp_grammar.proofs.EachRow.{each_test}
-use Rattle.stp_encoder.specs.Fitting.{place_in, stamp_in, is_of_version, is_named, is_there, is_unfit}
+use Rattle.stp_encoder.specs.Fitting.{item_place, item_stamp, is_of_version, is_named, has_content, is_unfit}
 use Rattle.stp_encoder.proofs.Places.{are_same}
 use Rattle.stp_encoder.proofs.Stamps.{MakesItem}
 
@@ -42,13 +42,13 @@ makes_null = record { makes = λ p s. refl; fits = omega arith; quiet = λ o. (r
 
 -- what an item has that fits: its timestamp is of the version's kind, its place is named, and it is there
 pub record Fits (version : Option ℕ) (item : StpItem) : Type 0 where
-  pub stamp : is_of_version version (stamp_in item) ≡ true
-  pub named : is_named (place_in item) ≡ true
-  pub there : is_there item ≡ true
+  pub stamp : is_of_version version (item_stamp item) ≡ true
+  pub named : is_named (item_place item) ≡ true
+  pub there : has_content item ≡ true
 
 pub fits_of : (version : Option ℕ) (item : StpItem) → is_unfit version item ≡ false → Fits version item
-fits_of version item e = by (is_of_version version (stamp_in item)) (is_named (place_in item)) (is_there item) refl refl refl e where
-  by : (s t r : Bool) → is_of_version version (stamp_in item) ≡ s → is_named (place_in item) ≡ t → is_there item ≡ r → (not s || (not t || not r)) ≡ false → Fits version item
+fits_of version item e = by (is_of_version version (item_stamp item)) (is_named (item_place item)) (has_content item) refl refl refl e where
+  by : (s t r : Bool) → is_of_version version (item_stamp item) ≡ s → is_named (item_place item) ≡ t → has_content item ≡ r → (not s || (not t || not r)) ≡ false → Fits version item
   by true true true a b c f = record { stamp = a; named = b; there = c }
   by false t r a b c f = absurd cc
   by true false r a b c f = absurd cc

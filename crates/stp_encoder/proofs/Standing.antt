@@ -1,5 +1,5 @@
 -- What an encoder stands for, with more packets and with one item more.
-use Rattle.std.proofs.Common.{◌≡◌, ℕ, List, [], ◌∷◌, ◌++◌, refl, sym, ◌∙◌, ap, subst, append_assoc, append-nil, Option, None, Some}
+use Rattle.std.proofs.Common.{◌≡◌, ℕ, List, [], ◌∷◌, ◌++◌, refl, sym, ◌∙◌, ap, subst, append_assoc, append-nil, replicate, Option, None, Some}
 use Rattle.std.specs.Option.{option_to_list}
 use Rattle.std.proofs.lemmas.List.Concat.{flat_map-append}
 use Rattle.stp_grammar.specs.declared.packet.Order.{Order}
@@ -9,9 +9,9 @@ use Rattle.stp_grammar.specs.Shortest.{short}
 use Rattle.stp_grammar.specs.Attributed as attributed
 use Rattle.stp_encoder.specs.declared.encoder.StpEncoder.{StpEncoder}
 use Rattle.stp_encoder.specs.Packets.{packets_with, packets_after, packets_for}
-use Rattle.stp_encoder.specs.Bytes.{joined, odd_nibble, spelled, nibbles_for, written, put_bytes, kept_nibble}
+use Rattle.stp_encoder.specs.Bytes.{joined, odd_nibble, spelled, nibbles_for, written, encoded, put_bytes, kept_nibble}
 use Rattle.stp_encoder.specs.Encoder.{IsAt, Stands, order_of}
-use Rattle.stp_encoder.proofs.Joining.{joined_append, odd_append, joined_kept}
+use Rattle.stp_encoder.proofs.Joining.{filled_is, joined_append, odd_append, joined_kept}
 
 pub spelled_append : (order : Order) (a b : List StpPacket) → spelled order (a ++ b) ≡ spelled order a ++ spelled order b
 spelled_append order a b = flat_map-append (short order) a b
@@ -36,6 +36,29 @@ module _ (encoder : StpEncoder) (bytes : List ℕ) (order : Order) (packets : Li
 packets_then : (before : List StpPacket) (items more : List StpItem) → packets_after before (items ++ more) ≡ packets_after (packets_after before items) more
 packets_then before [] more = refl
 packets_then before (item ∷ items) more = packets_then (before ++ packets_with before item) items more
+
+-- packets for more items are after the others
+packets_front : (before : List StpPacket) (items : List StpItem) → (rest : List StpPacket) × (packets_after before items ≡ before ++ rest)
+packets_front before [] = ([], sym (append-nil before))
+packets_front before (item ∷ items) =
+    let more = packets_front (before ++ packets_with before item) items in
+    (packets_with before item ++ more.0, more.1 ∙ append_assoc before (packets_with before item) more.0)
+
+pub nibbles_front : (order : Order) (items more : List StpItem) → (rest : List ℕ) × (nibbles_for order (items ++ more) ≡ nibbles_for order items ++ rest)
+unfolding nibbles_for packets_for
+nibbles_front order items more =
+    let rest = packets_front (packets_for items) more in
+    (spelled order rest.0, ap (spelled order) (packets_then [] items more ∙ rest.1) ∙ spelled_append order (packets_for items) rest.0)
+
+pub written_front : (order : Order) (items more : List StpItem) → (rest : List ℕ) × (encoded order (items ++ more) ≡ written order items ++ rest)
+written_front order items more =
+    let n = nibbles_for order items in
+    let rest = nibbles_front order items more in
+    let fill = filled_is (nibbles_for order (items ++ more)) in (
+      joined (kept_nibble order items ++ (rest.0 ++ replicate fill.0 0)),
+      ap joined (fill.1 ∙ ap (λ (l : List ℕ). l ++ replicate fill.0 0) rest.1 ∙ append_assoc n rest.0 (replicate fill.0 0))
+          ∙ joined_append n (rest.0 ++ replicate fill.0 0),
+    )
 
 -- the packets and the nibbles for one item more
 pub packets_more : (items : List StpItem) (item : StpItem) → packets_for (items ++ item ∷ []) ≡ packets_for items ++ packets_with (packets_for items) item

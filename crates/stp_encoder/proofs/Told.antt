@@ -16,7 +16,7 @@ use Rattle.stp_grammar.specs.Opcodes.{line_of}
 use Rattle.stp_grammar.specs.Proper.{IsProperPlace, IsProperItem, bits_of}
 use Rattle.stp_grammar.specs.Attribution.{version_of, master_of, channel_of, place_of, item_of}
 use Rattle.stp_grammar.proofs.EachRow.{each_test}
-use Rattle.stp_encoder.specs.Fitting.{place_in, stamp_in, is_of_version, is_named, is_there, is_unfit, version_after, AreFitting}
+use Rattle.stp_encoder.specs.Fitting.{item_place, item_stamp, is_of_version, is_named, has_content, is_unfit, version_after, AreFitting}
 use Rattle.stp_encoder.specs.Packets.{telling, telling_place, own_packet, packets_with, packets_after, packets_for}
 use Rattle.stp_encoder.proofs.Versions.{telling_cases, version_for, version_kept}
 use Rattle.stp_encoder.proofs.Standing.{packets_more}
@@ -53,7 +53,7 @@ IsIn before None = Unit {0}
 IsIn before (Some place) = place_of before ≡ place
 
 -- an item's own packet is the item
-own_back : (before : List StpPacket) (item : StpItem) → IsProperItem item → is_of_version (version_of before) (stamp_in item) ≡ true → IsIn before (place_in item) →
+own_back : (before : List StpPacket) (item : StpItem) → IsProperItem item → is_of_version (version_of before) (item_stamp item) ≡ true → IsIn before (item_place item) →
     item_of (before ++ own_packet before item ∷ []) (own_packet before item) ≡ Some item
 own_back before AsyncItem h e i = refl
 own_back before (VersionItem version) h e i = refl
@@ -85,7 +85,7 @@ named_in before place (Some m) None e f h k = let p = ap is_some e in let q = ap
   by (Some x) (Some y) p q k = cc
 named_in before place (Some m) (Some n) e f h k = place_told before place m n e f (h.0 m e) (h.1 n f)
 
-in_force : (before : List StpPacket) (item : StpItem) → IsProperItem item → is_named (place_in item) ≡ true → IsIn (before ++ telling_place before (place_in item)) (place_in item)
+in_force : (before : List StpPacket) (item : StpItem) → IsProperItem item → is_named (item_place item) ≡ true → IsIn (before ++ telling_place before (item_place item)) (item_place item)
 in_force before AsyncItem h k = tt
 in_force before (VersionItem version) h k = tt
 in_force before (MasterErrorItem place code) h k = named_in before place place.master place.channel refl refl h.0 k
@@ -99,13 +99,13 @@ in_force before (NullStampItem stamp) h k = tt
 -- the packets for an item are the item
 pub item_back : (before : List StpPacket) (item : StpItem) → IsProperItem item → is_unfit (version_of before) item ≡ false → told before (packets_with before item) ≡ item ∷ []
 item_back before item h e =
-    let place = telling_place before (place_in item) in
+    let place = telling_place before (item_place item) in
     let own = own_packet (before ++ place) item in
     let f = fits_of (version_of before) item e in
-    let kind : is_of_version (version_of (before ++ place)) (stamp_in item) ≡ true =
-    ap (λ (o : Option ℕ). is_of_version o (stamp_in item)) (version_kept before (place_in item)) ∙ f.stamp in
+    let kind : is_of_version (version_of (before ++ place)) (item_stamp item) ≡ true =
+    ap (λ (o : Option ℕ). is_of_version o (item_stamp item)) (version_kept before (item_place item)) ∙ f.stamp in
     told_append before place (own ∷ [])
-    ∙ ap (λ (l : List StpItem). l ++ told (before ++ place) (own ∷ [])) (nothing_told before (place_in item))
+    ∙ ap (λ (l : List StpItem). l ++ told (before ++ place) (own ∷ [])) (nothing_told before (item_place item))
     ∙ ap (λ (o : Option StpItem). option_to_list o ++ []) (own_back (before ++ place) item h kind (in_force before item h f.named))
 
 -- and those for items the items

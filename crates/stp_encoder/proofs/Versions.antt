@@ -12,7 +12,7 @@ use Rattle.stp_grammar.specs.declared.item.StpItem.{StpItem}
 use Rattle.stp_grammar.specs.declared.item.StpItem.TheVariants.{Async as AsyncItem, Version as VersionItem, MasterError as MasterErrorItem, GlobalError as GlobalErrorItem, Datum as DatumItem, Flag as FlagItem, Trigger as TriggerItem, Frequency as FrequencyItem, NullStamp as NullStampItem}
 use Rattle.stp_grammar.specs.Attribution.{version_in, version_of, master_of, channel_of}
 use Rattle.stp_grammar.proofs.Attributing.{none_known}
-use Rattle.stp_encoder.specs.Fitting.{version_named, version_after, place_in}
+use Rattle.stp_encoder.specs.Fitting.{version_named, version_after, item_place}
 use Rattle.stp_encoder.specs.Packets.{telling, telling_place, with_stamp, packed_stamp, own_packet, packets_with, packets_after, packets_for}
 
 -- what holds of no packet, and of one of either row, holds of the packet that tells a number
@@ -78,9 +78,9 @@ named_by_own before (NullStampItem stamp) = by (packed_stamp before stamp) where
 
 version_with : (before : List StpPacket) (item : StpItem) → version_of (before ++ packets_with before item) ≡ last_or (version_of before) (filter_map version_named (item ∷ []))
 version_with before item =
-    let told = telling_place before (place_in item) in
+    let told = telling_place before (item_place item) in
     version_told before (told ++ own_packet (before ++ told) item ∷ [])
-    ∙ ap (last_or (version_of before)) (filter_map-append version_in told (own_packet (before ++ told) item ∷ []) ∙ ap (λ (l : List ℕ). l ++ filter_map version_in (own_packet (before ++ told) item ∷ [])) (none_by_place before (place_in item)) ∙ named_by_own (before ++ told) item)
+    ∙ ap (last_or (version_of before)) (filter_map-append version_in told (own_packet (before ++ told) item ∷ []) ∙ ap (λ (l : List ℕ). l ++ filter_map version_in (own_packet (before ++ told) item ∷ [])) (none_by_place before (item_place item)) ∙ named_by_own (before ++ told) item)
 
 version_from : (before : List StpPacket) (items : List StpItem) → version_of (packets_after before items) ≡ last_or (version_of before) (filter_map version_named items)
 version_from before [] = refl

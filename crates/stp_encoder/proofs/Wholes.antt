@@ -22,7 +22,7 @@ use Rattle.stp_grammar.specs.Shortest.{short, IsByRow}
 use Rattle.stp_grammar.specs.Attribution.{master_of, channel_of}
 use Rattle.stp_grammar.proofs.EachRow.{each_test}
 use Rattle.stp_grammar.proofs.ShortSpellings.{shortest}
-use Rattle.stp_encoder.specs.Fitting.{place_in, is_there, version_after, AreFitting}
+use Rattle.stp_encoder.specs.Fitting.{item_place, has_content, version_after, AreFitting}
 use Rattle.stp_encoder.specs.Packets.{telling, telling_place, packed_stamp, with_stamp, own_packet, packets_with, packets_after, packets_for}
 use Rattle.stp_encoder.specs.Bytes.{spelled}
 use Rattle.stp_encoder.proofs.Standing.{packets_more}
@@ -88,7 +88,7 @@ datum_plain width marked = by (line_of (Datum width marked false)).stamped (each
   by true e = cc
   by false e = refl
 
-own_whole : (before : List StpPacket) (item : StpItem) → IsProperItem item → is_there item ≡ true → IsWhole (own_packet before item)
+own_whole : (before : List StpPacket) (item : StpItem) → IsProperItem item → has_content item ≡ true → IsWhole (own_packet before item)
 own_whole before AsyncItem h e = record { proper = tt; by_row = tt }
 own_whole before (VersionItem version) h e = record { proper = omega (arith, h); by_row = refl }
 own_whole before (MasterErrorItem place code) h e = record { proper = (let z = h.1 in omega (arith, z)); by_row = refl }
@@ -102,13 +102,13 @@ own_whole before (TriggerItem code stamp) h e =
 own_whole before (FrequencyItem hertz stamp) h e =
     made_whole before (Frequency false) (Frequency true) hertz (λ z s. FrequencyItem hertz s) stamp (makes_frequency false hertz h.0) (makes_frequency true hertz h.0) h.1 (λ n. refl) refl
 own_whole before (NullStampItem stamp) h e = made_whole before NullStamp NullStamp 0 (λ z s. NullStampItem s) stamp makes_null makes_null h (λ n. absurd (none stamp e n)) refl where
-  none : (stamp : Stamp) → is_there (NullStampItem stamp) ≡ true → packed_stamp before stamp ≡ None → ⊥
+  none : (stamp : Stamp) → has_content (NullStampItem stamp) ≡ true → packed_stamp before stamp ≡ None → ⊥
   none NoStamp e n = cc
   none (Natural time) e n = cc
   none (Gray time) e n = cc
   none (Raw size word) e n = cc
 
-place_in_whole : (before : List StpPacket) (item : StpItem) → IsProperItem item → AreWhole (telling_place before (place_in item))
+place_in_whole : (before : List StpPacket) (item : StpItem) → IsProperItem item → AreWhole (telling_place before (item_place item))
 place_in_whole before AsyncItem h = tt
 place_in_whole before (VersionItem version) h = tt
 place_in_whole before (MasterErrorItem place code) h = place_whole before place h.0
@@ -123,7 +123,7 @@ whole_from : (all done items : List StpItem) → AreFitting all → all ≡ done
 whole_from all done [] h e k = k
 whole_from all done (item ∷ items) h e k =
     let packets = packets_for done in
-    let place = telling_place packets (place_in item) in
+    let place = telling_place packets (item_place item) in
     let fit = h done items item e in
     let there = (fits_of (version_after done) item fit.1).there in
     let more : AreWhole (packets_with packets item) =

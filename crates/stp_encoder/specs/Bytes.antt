@@ -1,5 +1,5 @@
--- The bytes for a list of items: the shortest nibbles of their packets, two a byte, the low one first (MIPI System Trace
--- Protocol, version 2, in this project's profile).
+-- The bytes for a list of items: the shortest nibbles of their packets, two a byte, the low one first (MIPI System
+-- Trace Protocol, version 2, in this project's profile).
 use Rattle.std.specs.Prelude.{ℕ, ◌+◌, ◌*◌, ◌%◌, List, [], ◌∷◌, ◌++◌, length, flat_map, ◌==◌, if◌then◌else◌, Option, None, Some, option_to_list}
 use Rattle.trace_clock.specs.LastWord.{nibble_count}
 use Rattle.stp_grammar.specs.declared.packet.Order.{Order}
@@ -31,16 +31,16 @@ abbrev pub spelled : Order → List StpPacket → List ℕ
 spelled order packets = flat_map (short order) packets
 
 -- how many nibbles the shortest spelling of a packet has
-abbrev pub count_of : StpPacket → ℕ
-count_of Async = 22
-count_of (Plain row payload) = length (line_of row).opcode + (line_of row).payload
-count_of (Stamped row payload size word) = length (line_of row).opcode + (line_of row).payload + 1 + nibble_count size
+abbrev pub short_len : StpPacket → ℕ
+short_len Async = 22
+short_len (Plain row payload) = length (line_of row).opcode + (line_of row).payload
+short_len (Stamped row payload size word) = length (line_of row).opcode + (line_of row).payload + 1 + nibble_count size
 
 -- the nibbles for items
 unfoldable pub nibbles_for : Order → List StpItem → List ℕ
 nibbles_for order items = spelled order (packets_for items)
 
--- the bytes that are written once these items are put, where an odd last nibble is kept, and those with the end
+-- the bytes that the puts of these items have written, where an odd last nibble is kept, and all bytes with the end
 abbrev pub written : Order → List StpItem → List ℕ
 written order items = joined (nibbles_for order items)
 

@@ -14,8 +14,8 @@ pub record Stands (encoder : StpEncoder) (items : List StpItem) : Type 0 where
   pub attribution : attributed.Stands encoder.attribution (packets_for items)
   pub nibble : encoder.joiner.low ≡ odd_nibble (nibbles_for encoder.order items)
 
--- the same part by part: it keeps what these packets tell, and of these nibbles these are the whole bytes and the odd last
--- one
+-- the same part by part: it keeps what these packets tell, and of these nibbles these are the whole bytes, and it keeps
+-- the odd last one
 abbrev pub IsAt : StpEncoder → List ℕ → List StpPacket → List ℕ → Type 0
 IsAt encoder bytes packets nibbles =
     attributed.Stands encoder.attribution packets × Joins encoder.joiner bytes nibbles
@@ -28,5 +28,5 @@ count_with encoder bytes = count_in encoder.joiner bytes
 abbrev pub order_of : StpEncoder → Order
 order_of encoder = encoder.order
 
-abbrev pub version_of : StpEncoder → Option ℕ
-version_of encoder = attributed.kept_version encoder.attribution
+abbrev pub version_in_force : StpEncoder → Option ℕ
+version_in_force encoder = attributed.kept_version encoder.attribution

@@ -21,27 +21,27 @@ abbrev pub version_after : List StpItem → Option ℕ
 version_after items = last_or None (filter_map version_named items)
 
 -- the place of an item, where it has one
-abbrev pub place_in : StpItem → Option Place
-place_in (MasterError place code) = Some place
-place_in (Datum place width value marked stamp) = Some place
-place_in (Flag place stamp) = Some place
-place_in item = None
+abbrev pub item_place : StpItem → Option Place
+item_place (MasterError place code) = Some place
+item_place (Datum place width value marked stamp) = Some place
+item_place (Flag place stamp) = Some place
+item_place item = None
 
 -- and its timestamp
-abbrev pub stamp_in : StpItem → Stamp
-stamp_in (Datum place width value marked stamp) = stamp
-stamp_in (Flag place stamp) = stamp
-stamp_in (Trigger code stamp) = stamp
-stamp_in (Frequency hertz stamp) = stamp
-stamp_in (NullStamp stamp) = stamp
-stamp_in item = NoStamp
+abbrev pub item_stamp : StpItem → Stamp
+item_stamp (Datum place width value marked stamp) = stamp
+item_stamp (Flag place stamp) = stamp
+item_stamp (Trigger code stamp) = stamp
+item_stamp (Frequency hertz stamp) = stamp
+item_stamp (NullStamp stamp) = stamp
+item_stamp item = NoStamp
 
 -- this version is in force
 abbrev pub is_version : ℕ → Option ℕ → Bool
 is_version number None = false
 is_version number (Some version) = version == number
 
--- a time is told under version 3, a time as a Gray number under version 4, and a raw word under no version or any other
+-- a natural time is for version 3, one as a Gray number for version 4, and a raw word for any other version or none
 abbrev pub is_of_version : Option ℕ → Stamp → Bool
 is_of_version version NoStamp = true
 is_of_version version (Natural time) = is_version 3 version
@@ -53,16 +53,16 @@ abbrev pub is_named : Option Place → Bool
 is_named None = true
 is_named (Some place) = is_some place.master && is_some place.channel
 
--- a timestamp alone is there
-abbrev pub is_there : StpItem → Bool
-is_there (NullStamp NoStamp) = false
-is_there item = true
+-- an item that is a timestamp alone has one
+abbrev pub has_content : StpItem → Bool
+has_content (NullStamp NoStamp) = false
+has_content item = true
 
 -- the item can't be written under this version: its timestamp is of another version's kind, a number of its place is
 -- absent, or it is a timestamp alone and has none
 abbrev pub is_unfit : Option ℕ → StpItem → Bool
 is_unfit version item =
-    not (is_of_version version (stamp_in item)) || (not (is_named (place_in item)) || not (is_there item))
+    not (is_of_version version (item_stamp item)) || (not (is_named (item_place item)) || not (has_content item))
 
 -- Each item has its numbers in their ranges, and can be written after those before it.
 abbrev pub AreFitting : List StpItem → Type 0

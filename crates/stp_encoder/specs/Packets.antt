@@ -14,10 +14,10 @@ use Rattle.stp_grammar.specs.declared.item.Stamp.TheVariants.{None as NoStamp, N
 use Rattle.stp_grammar.specs.declared.item.StpItem.{StpItem}
 use Rattle.stp_grammar.specs.declared.item.StpItem.TheVariants.{Async as AsyncItem, Version as VersionItem, MasterError as MasterErrorItem, GlobalError as GlobalErrorItem, Datum as DatumItem, Flag as FlagItem, Trigger as TriggerItem, Frequency as FrequencyItem, NullStamp as NullStampItem}
 use Rattle.stp_grammar.specs.Attribution.{stamp_in, begins_master, master_of, channel_of, last_word_of}
-use Rattle.stp_encoder.specs.Fitting.{place_in}
+use Rattle.stp_encoder.specs.Fitting.{item_place}
 
--- The packet that tells a number of 16 bits, where this one is in force: none where it is the same, the low 8 bits where
--- the high 8 are the same, and else all of it.
+-- The packet that tells a number of 16 bits, where this one is in force: none where it is the same, the low 8 bits
+-- where the high 8 are the same, and else all of it.
 abbrev pub telling : Row → Row → Option ℕ → Option ℕ → List StpPacket
 telling low whole known None = []
 telling low whole None (Some number) = Plain whole number ∷ []
@@ -74,7 +74,7 @@ own_packet before (NullStampItem stamp) = with_stamp NullStamp NullStamp 0 (pack
 -- the packets for one more item, after these packets
 abbrev pub packets_with : List StpPacket → StpItem → List StpPacket
 packets_with before item =
-    let told = telling_place before (place_in item) in
+    let told = telling_place before (item_place item) in
     told ++ own_packet (before ++ told) item ∷ []
 
 -- these packets, and then those for the items

@@ -6,8 +6,8 @@ use Rattle.stp_grammar.specs.declared.packet.Order.{Order}
 use Rattle.stp_grammar.specs.declared.item.StpItem.{StpItem}
 use Rattle.stp_codec.specs.Reading.{items_at}
 
--- These nibbles, read from the first on, are exactly the items, each with its place and its timestamp: there is no fault,
--- and no nibble of an unfinished packet is left.
+-- These nibbles, read from the first on, are exactly the items, each with its place and its timestamp: there is no
+-- fault, and no nibble of an unfinished packet is left.
 pub record ReadsBack (order : Order) (items : List StpItem) (n : List Placed) : Type 0 where
   pub given : map (λ x. x.0) (items_at order false n).given ≡ map Kept items
   pub no_fault : (items_at order false n).fault ≡ None

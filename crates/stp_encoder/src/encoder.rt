@@ -30,7 +30,8 @@ pub struct StpEncoder {
 }
 
 impl StpEncoder {
-    ghost use Rattle.std.specs.Prelude.{◌≡◌, ◌<◌, ◌≤◌, ◌+◌, ℕ, List, [], ◌∷◌, ◌++◌, option_map, option_to_list, is_err, length, if◌then◌else◌};
+    ghost use Rattle.std.specs.Prelude.{◌≡◌, ◌≤◌, ◌+◌, ℕ, List, [], ◌∷◌, ◌++◌, length, if◌then◌else◌};
+    ghost use Rattle.std.specs.Prelude.{option_map, option_to_list, is_err};
     ghost use Rattle.std.specs.Option.{ForSome};
     ghost use Rattle.std.specs.Result.{IfErr, OnErr, OnOk};
     ghost use Rattle.trace_clock.specs.GrayCode.{gray_of};
@@ -42,9 +43,10 @@ impl StpEncoder {
     ghost use Rattle.stp_grammar.specs.Proper.{IsProper, IsProperItem, IsProperStamp};
     ghost use Rattle.stp_grammar.specs.Shortest.{short};
     ghost use Rattle.stp_encoder.specs.Fitting.{version_after, is_unfit as is_unfit_by};
-    ghost use Rattle.stp_encoder.specs.Packets.{telling_place, packets_with, shortest_stamp, packed_stamp as stamp_by, own_packet as packet_by};
-    ghost use Rattle.stp_encoder.specs.Bytes.{count_of, spelled, written, encoded, put_bytes, end_bytes};
-    ghost use Rattle.stp_encoder.specs.Encoder.{Stands, IsAt, count_with, order_of, version_of};
+    ghost use Rattle.stp_encoder.specs.Packets.{telling_place, packets_with, shortest_stamp};
+    ghost use Rattle.stp_encoder.specs.Packets.{packed_stamp as stamp_by, own_packet as packet_by};
+    ghost use Rattle.stp_encoder.specs.Bytes.{short_len, spelled, written, encoded, put_bytes, end_bytes};
+    ghost use Rattle.stp_encoder.specs.Encoder.{Stands, IsAt, count_with, order_of, version_in_force};
 
     /// An encoder of no item, which writes numbers in this order of their nibbles.
     pub fn new(order: Order) -> StpEncoder
@@ -60,7 +62,7 @@ impl StpEncoder {
 
     /// The version that the last VERSION named.
     pub fn version(&self) -> Option<u8>
-        ensures kept { result ≡ version_of self.now }
+        ensures kept { result ≡ version_in_force self.now }
         ensures list { (items : List StpItem) → Stands self.now items → result ≡ version_after items }
     {
         self.attribution.version()
@@ -151,7 +153,7 @@ impl StpEncoder {
         ensures order { order_of self.new ≡ order_of self.old }
         ensures at { (packets : List StpPacket) (n : List ℕ) → IsAt self.old out.old.items packets n →
             IsAt self.new out.new.items (packets ++ packet ∷ []) (n ++ short (order_of self.old) packet) }
-        ensures count { count_with self.new out.new.items ≡ count_with self.old out.old.items + count_of packet }
+        ensures count { count_with self.new out.new.items ≡ count_with self.old out.old.items + short_len packet }
     {
         self.joiner.put_packet(self.order, packet, out);
         self.attribution.take(packet);
@@ -160,7 +162,7 @@ impl StpEncoder {
     /// Writes a packet, if there is one.
     fn put_told(&mut self, told: Option<StpPacket>, out: &mut ArrayVec<u8, 24>)
         requires proper { ForSome told IsProper }
-        requires few { ForSome told (λ p. count_of p ≤ 6) }
+        requires few { ForSome told (λ p. short_len p ≤ 6) }
         requires room { count_with self.old out.old.items ≤ 7 }
         ensures order { order_of self.new ≡ order_of self.old }
         ensures at { (packets : List StpPacket) (n : List ℕ) → IsAt self.old out.old.items packets n →
@@ -207,22 +209,22 @@ impl StpEncoder {
         self.put_packet(packet, out);
     }
 
-    /// Writes the packets of an item, at most 24 bytes, into `out`, which is empty: those that make its place the one in
-    /// force, and its own. An odd last nibble is kept for the next call.
+    /// Writes the packets of an item, at most 24 bytes, into `out`, which is empty: those that make its place the one
+    /// in force, and its own. An odd last nibble is kept for the next call.
     ///
     /// The item must be proper, as `stp_grammar::proper::is_proper_stp` tells.
     ///
     /// # Errors
     ///
-    /// `Unfit` where the timestamp's kind isn't that of the version in force (`Natural` for version 3, `Gray` for 4, `Raw`
-    /// for any other or none), a place's master or channel is absent, or a `NullStamp` has no timestamp. Then the encoder
-    /// and `out` are as before.
+    /// `Unfit` exactly where the timestamp's kind isn't that of the version in force (`Natural` for version 3, `Gray`
+    /// for 4, `Raw` for any other or none), a place's master or channel is absent, or a `NullStamp` has no timestamp.
+    /// Then the encoder and `out` are as before.
     pub fn put(&mut self, item: &StpItem, out: &mut ArrayVec<u8, 24>) -> Result<(), Unfit>
         requires proper { IsProperItem item.now }
         requires empty { out.old.items ≡ [] }
         ensures order { order_of self.new ≡ order_of self.old }
-        ensures cause { is_err result ≡ is_unfit_by (version_of self.old) item.now }
-        ensures version { IfErr result (λ e. e.version ≡ version_of self.old) }
+        ensures cause { is_err result ≡ is_unfit_by (version_in_force self.old) item.now }
+        ensures version { IfErr result (λ e. e.version ≡ version_in_force self.old) }
         ensures fits { (items : List StpItem) → Stands self.old items →
             is_err result ≡ is_unfit_by (version_after items) item.now }
         ensures same { OnErr result ((self.new ≡ self.old) × (out.new ≡ out.old)) }

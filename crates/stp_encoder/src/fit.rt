@@ -1,13 +1,14 @@
 //! Which items can be written.
 
 ghost use Rattle.std.specs.Prelude.{◌≡◌};
-ghost use Rattle.stp_encoder.specs.Fitting.{place_in, stamp_in, is_of_version, is_named, is_there, is_unfit as is_unfit_by};
+ghost use Rattle.stp_encoder.specs.Fitting.{item_place, item_stamp, is_of_version, is_named, has_content};
+ghost use Rattle.stp_encoder.specs.Fitting.{is_unfit as is_unfit_by};
 
 use stp_grammar::item::{Place, Stamp, StpItem};
 
 /// The place of an item, where it has one.
 pub(crate) fn place_of(item: &StpItem) -> Option<Place>
-    ensures { result ≡ place_in item.now }
+    ensures { result ≡ item_place item.now }
 {
     match *item {
         StpItem::MasterError { place, .. }
@@ -24,7 +25,7 @@ pub(crate) fn place_of(item: &StpItem) -> Option<Place>
 
 /// The timestamp of an item.
 fn stamp_of(item: &StpItem) -> Stamp
-    ensures { result ≡ stamp_in item.now }
+    ensures { result ≡ item_stamp item.now }
 {
     match *item {
         StpItem::Datum { stamp, .. }
@@ -62,8 +63,8 @@ fn is_named(place: Option<Place>) -> bool
 }
 
 /// The item isn't a timestamp alone without one.
-fn is_there(item: &StpItem) -> bool
-    ensures { result ≡ is_there item.now }
+fn has_content(item: &StpItem) -> bool
+    ensures { result ≡ has_content item.now }
 {
     !matches!(item, StpItem::NullStamp { stamp: Stamp::None })
 }
@@ -72,5 +73,5 @@ fn is_there(item: &StpItem) -> bool
 pub(crate) fn is_unfit(version: Option<u8>, item: &StpItem) -> bool
     ensures { result ≡ is_unfit_by version item.now }
 {
-    !is_of_version(version, stamp_of(item)) || !is_named(place_of(item)) || !is_there(item)
+    !is_of_version(version, stamp_of(item)) || !is_named(place_of(item)) || !has_content(item)
 }

@@ -30,7 +30,7 @@ impl Joiner {
     ghost use Rattle.stp_grammar.specs.Opcodes.{line_of};
     ghost use Rattle.stp_grammar.specs.Proper.{IsProper};
     ghost use Rattle.stp_grammar.specs.Shortest.{nibbles_of_number, short};
-    ghost use Rattle.stp_encoder.specs.Bytes.{joined, filled, count_of};
+    ghost use Rattle.stp_encoder.specs.Bytes.{joined, filled, short_len};
     ghost use Rattle.stp_encoder.specs.Joined.{Joins, count_in};
 
     /// A joiner of no nibble.
@@ -44,7 +44,8 @@ impl Joiner {
     fn put(&mut self, nibble: u8, out: &mut ArrayVec<u8, 24>)
         requires nibble { nibble < 16 }
         requires room { count_in self.old out.old.items < 49 }
-        ensures joins { (n : List ℕ) → Joins self.old out.old.items n → Joins self.new out.new.items (n ++ nibble ∷ []) }
+        ensures joins { (n : List ℕ) → Joins self.old out.old.items n →
+            Joins self.new out.new.items (n ++ nibble ∷ []) }
         ensures count { count_in self.new out.new.items ≡ count_in self.old out.old.items + 1 }
     {
         match self.low {
@@ -60,7 +61,8 @@ impl Joiner {
     fn put_all(&mut self, nibbles: &[u8], out: &mut ArrayVec<u8, 24>)
         requires nibbles { All (λ b. b < 16) nibbles.now }
         requires room { count_in self.old out.old.items + length nibbles.now ≤ 49 }
-        ensures joins { (n : List ℕ) → Joins self.old out.old.items n → Joins self.new out.new.items (n ++ nibbles.now) }
+        ensures joins { (n : List ℕ) → Joins self.old out.old.items n →
+            Joins self.new out.new.items (n ++ nibbles.now) }
         ensures count { count_in self.new out.new.items ≡ count_in self.old out.old.items + length nibbles.now }
     {
         for nibble in nibbles {
@@ -118,7 +120,7 @@ impl Joiner {
         requires room { count_in self.old out.old.items ≤ 13 }
         ensures joins { (n : List ℕ) → Joins self.old out.old.items n →
             Joins self.new out.new.items (n ++ short order packet) }
-        ensures count { count_in self.new out.new.items ≡ count_in self.old out.old.items + count_of packet }
+        ensures count { count_in self.new out.new.items ≡ count_in self.old out.old.items + short_len packet }
     {
         match packet {
             StpPacket::Async => self.put_async(out),

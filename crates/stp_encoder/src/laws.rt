@@ -26,15 +26,16 @@ pub fn read_back_law(order: Order)
         units_of u ≡ encoded order items → ReadsBack order items (nibbles_of u) }
 {}
 
-/// Each list of items is that before its last item and that item: no list is unfit as a whole, and one more item fits
-/// after fitting ones where it is proper and not unfit under the version that they named last.
+/// No items are fitting ones, and so are fitting ones with one more, where it is proper and not unfit under the version
+/// that they named last.
 pub fn fitting_law()
     ensures none { AreFitting [] }
     ensures more { (items : List StpItem) (item : StpItem) → AreFitting items → IsProperItem item →
         is_unfit (version_after items) item ≡ false → AreFitting (items ++ item ∷ []) }
 {}
 
-/// One more item adds its packets, by the packets before it, and its bytes. With the end the bytes are whole.
+/// One more item adds its packets, by the packets before it, and its bytes. With the end the bytes are whole, and what
+/// is written is a front of the bytes for each longer list.
 pub fn growth_law()
     ensures no_packet { packets_for [] ≡ [] }
     ensures packets { (items : List StpItem) (item : StpItem) →
@@ -44,6 +45,8 @@ pub fn growth_law()
         written order (items ++ item ∷ []) ≡ written order items ++ put_bytes order items item }
     ensures encoded { (order : Order) (items : List StpItem) →
         encoded order items ≡ written order items ++ end_bytes order items }
+    ensures front { (order : Order) (items more : List StpItem) →
+        (rest : List ℕ) × (encoded order (items ++ more) ≡ written order items ++ rest) }
     ensures bytes { (order : Order) (items : List StpItem) → AreFitting items →
         All (λ b. b < 256) (encoded order items) }
 {}

@@ -1,5 +1,5 @@
-//! Writes the items of a system trace as bytes (MIPI System Trace Protocol, version 2, 'STPv2', in this project's profile
-//! of it).
+//! Writes the items of a system trace as bytes (MIPI System Trace Protocol, version 2, 'STPv2', in this project's
+//! profile of it).
 #![tactic(auto)]
 
 mod encoder;

@@ -27,8 +27,8 @@ pub(crate) fn plain(row: Row, payload: u64) -> StpPacket
     StpPacket::Plain { row, payload }
 }
 
-/// A packet with this payload: of the row `plain` where there is no timestamp, and else of the row `stamped` with its size
-/// and its word.
+/// A packet with this payload: of the row `plain` where there is no timestamp, and else of the row `stamped` with its
+/// size and its word.
 pub(crate) fn with_stamp(
     plain: Row,
     stamped: Row,

@@ -2,7 +2,8 @@
 
 ghost use Rattle.std.specs.Prelude.{◌≡◌, [], ◌∷◌, None, Some, codes, true, false};
 ghost use Rattle.stp_grammar.specs.declared.packet.Order.TheVariants.{Msn, Lsn};
-ghost use Rattle.stp_grammar.specs.declared.packet.Row.TheVariants.{Master8, Master16, Channel8, Channel16, Flag as FlagRow};
+ghost use Rattle.stp_grammar.specs.declared.packet.Row.TheVariants.{Master8, Master16, Channel8, Channel16};
+ghost use Rattle.stp_grammar.specs.declared.packet.Row.TheVariants.{Flag as FlagRow};
 ghost use Rattle.stp_grammar.specs.declared.packet.StpPacket.TheVariants.{Plain, Stamped};
 ghost use Rattle.stp_grammar.specs.declared.item.Stamp.TheVariants.{None as NoStamp, Natural, Gray, Raw};
 ghost use Rattle.stp_grammar.specs.declared.item.StpItem.TheVariants.{Async, Version, Trigger, Flag, NullStamp};
@@ -12,8 +13,8 @@ ghost use Rattle.stp_encoder.specs.Packets.{packets_for};
 ghost use Rattle.stp_encoder.specs.Bytes.{encoded, written};
 ghost use Rattle.stp_encoder.specs.Rows.{at, byte_at, flag_at};
 
-/// ASYNC, VERSION and data: with a place and a natural timestamp in both orders, and at the place that VERSION makes the
-/// one in force. An odd last nibble has a NULL above it.
+/// ASYNC, VERSION and data: with a place and a natural timestamp in both orders, and at the place that VERSION makes
+/// the one in force. An odd last nibble has a NULL above it.
 #[tactic(auto, unfolding(crate::specs::Packets::packets_for, crate::specs::Packets::shortest_stamp, crate::specs::Bytes::nibbles_for, stp_grammar::specs::Attribution::version_of, stp_grammar::specs::Attribution::master_of, stp_grammar::specs::Attribution::channel_of, stp_grammar::specs::Attribution::last_word_of, trace_clock::specs::LastWord::last_word,))]
 pub fn captures()
     ensures stamped { encoded Msn (Async ∷ (Version 3 ∷ (byte_at (at 1 0) 66 (Natural 5) ∷ []))) ≡
@@ -26,8 +27,8 @@ pub fn captures()
         hex (codes "FF FF FF FF FF FF FF FF FF FF 0F 0F 30 44") }
 {}
 
-/// A master or a channel is told whole where it is unknown or its high 8 bits differ, by its low 8 bits where they alone
-/// differ, and not at all where it is in force. After a master the channel in force is 0.
+/// A master or a channel is told whole where it is unknown or its high 8 bits differ, by its low 8 bits where they
+/// alone differ, and not at all where it is in force. After a master the channel in force is 0.
 #[tactic(auto, unfolding(crate::specs::Packets::packets_for, stp_grammar::specs::Attribution::version_of, stp_grammar::specs::Attribution::master_of, stp_grammar::specs::Attribution::channel_of,))]
 pub fn places()
     ensures unknown { packets_for (flag_at 1 2 ∷ []) ≡
@@ -46,8 +47,8 @@ pub fn places()
         ∷ (Plain Channel16 258 ∷ (Plain (FlagRow false) 0 ∷ [])))))) }
 {}
 
-/// Timestamps: a time again, near it and far from it; as a Gray number, of which neighbours differ in one bit; and a raw
-/// word in its own size.
+/// Timestamps: a time again, near it and far from it; as a Gray number, of which neighbours differ in one bit; and a
+/// raw word in its own size.
 #[tactic(auto, unfolding(crate::specs::Packets::packets_for, crate::specs::Packets::shortest_stamp, crate::specs::Bytes::nibbles_for, stp_grammar::specs::Attribution::version_of, stp_grammar::specs::Attribution::master_of, stp_grammar::specs::Attribution::channel_of, stp_grammar::specs::Attribution::last_word_of, trace_clock::specs::LastWord::last_word, trace_clock::specs::GrayCode::gray_of,))]
 pub fn stamps()
     ensures natural { encoded Msn (Version 3 ∷ (Flag (at 0 0) (Natural 4660) ∷ (Flag (at 0 0) (Natural 4660)

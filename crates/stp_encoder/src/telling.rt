@@ -4,7 +4,7 @@ ghost use Rattle.std.specs.Prelude.{◌≡◌, ◌<◌, ◌≤◌, ◌^◌, opti
 ghost use Rattle.std.specs.Option.{ForSome};
 ghost use Rattle.stp_grammar.specs.Opcodes.{line_of};
 ghost use Rattle.stp_grammar.specs.Proper.{IsProper};
-ghost use Rattle.stp_encoder.specs.Bytes.{count_of};
+ghost use Rattle.stp_encoder.specs.Bytes.{short_len};
 ghost use Rattle.stp_encoder.specs.Packets.{telling as telling_by};
 
 use stp_grammar::packet::{Row, StpPacket};
@@ -21,7 +21,7 @@ pub(crate) fn telling(
     requires whole { (length (line_of whole).opcode ≤ 2) × ((line_of whole).payload ≡ 4) }
     ensures packet { option_to_list result ≡ telling_by low whole known number }
     ensures proper { ForSome result IsProper }
-    ensures few { ForSome result (λ p. count_of p ≤ 6) }
+    ensures few { ForSome result (λ p. short_len p ≤ 6) }
 {
     let number = number?;
     match known {

@@ -333,7 +333,10 @@ impl Dice {
         requires { 0 < count }
         ensures { result < count }
     {
-        self.0 = self.0.wrapping_mul(6364136223846793005).wrapping_add(1442695040888963407);
+        self.0 = self
+            .0
+            .wrapping_mul(6364136223846793005)
+            .wrapping_add(1442695040888963407);
         (self.0 >> 20) % count
     }
 

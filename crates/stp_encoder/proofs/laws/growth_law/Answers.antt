@@ -2,7 +2,7 @@ use Rattle.std.proofs.Common.{refl}
 use Rattle.stp_encoder.specs.Packets.{packets_for}
 use Rattle.stp_encoder.specs.Bytes.{nibbles_for}
 use Rattle.stp_encoder.proofs.Joining.{filled_append}
-use Rattle.stp_encoder.proofs.Standing.{packets_more, written_more}
+use Rattle.stp_encoder.proofs.Standing.{packets_more, written_more, written_front}
 use Rattle.stp_encoder.proofs.ReadingBack.{bytes_small}
 use Rattle.stp_encoder.proofs.laws.growth_law.Goals as goal
 
@@ -25,3 +25,6 @@ returns-clause-encoded c = λ order items. filled_append (nibbles_for order item
 
 pub returns-clause-bytes : goal.returns-clause-bytes
 returns-clause-bytes c = bytes_small
+
+pub returns-clause-front : goal.returns-clause-front
+returns-clause-front c = written_front

@@ -3,7 +3,7 @@ use Rattle.stp_grammar.specs.declared.packet.Order.{Order}
 use Rattle.stp_grammar.specs.declared.packet.StpPacket.{StpPacket}
 use Rattle.stp_grammar.specs.declared.item.Place.{Place}
 use Rattle.stp_grammar.specs.Shortest.{short}
-use Rattle.stp_encoder.specs.Fitting.{place_in}
+use Rattle.stp_encoder.specs.Fitting.{item_place}
 use Rattle.stp_encoder.specs.Packets.{telling_place, own_packet}
 use Rattle.stp_encoder.specs.Bytes.{spelled}
 use Rattle.stp_encoder.specs.Encoder.{IsAt}
@@ -17,7 +17,7 @@ returns-clause-at c = λ packets n h.
     let bytes = c.put_place.new.out.items in
     let new = c.put_packet.new.self in
     let out = c.put_packet.new.out.items in
-    let told = telling_place packets (place_in c.args.item.now) in
+    let told = telling_place packets (item_place c.args.item.now) in
     let at_place : IsAt middle bytes (packets ++ told) (n ++ spelled order told) =
     subst (λ (o : Option Place). IsAt middle bytes (packets ++ telling_place packets o) (n ++ spelled order (telling_place packets o))) c.place_of.ensures
     (c.put_place.ensures.at packets n h) in
