@@ -1,5 +1,5 @@
 -- Nibbles joined in bytes, and one or more nibbles more.
-use Rattle.std.proofs.Common.{◌≡◌, ℕ, zero, suc, ◌+◌, ◌*◌, ◌%◌, ◌==◌, List, [], ◌∷◌, ◌++◌, length, refl, sym, ◌∙◌, ap, arith, cond, append-nil, replicate, Bool, true, false, Option, None, Some}
+use Rattle.std.proofs.Common.{◌≡◌, ℕ, ◌+◌, ◌*◌, ◌%◌, ◌==◌, List, [], ◌∷◌, ◌++◌, length, refl, sym, ◌∙◌, ap, arith, cond, append-nil, replicate, Bool, true, false, Option, None, Some}
 use Rattle.std.specs.Option.{option_to_list}
 use Rattle.stp_encoder.specs.Bytes.{joined, odd_nibble, filled}
 

@@ -1,5 +1,5 @@
 -- The rows of items' own packets, and what it says of an item that it fits.
-use Rattle.std.proofs.Common.{◌≡◌, ℕ, ◌+◌, ◌^◌, ◌<◌, refl, subst, arith, ◌==◌, Bool, true, false, not, ◌||◌, Option}
+use Rattle.std.proofs.Common.{◌≡◌, ℕ, ◌^◌, ◌<◌, refl, subst, arith, ◌==◌, Bool, true, false, not, ◌||◌, Option}
 use Rattle.stp_grammar.specs.declared.packet.Width.{Width}
 use Rattle.stp_grammar.specs.declared.packet.Row.{Row}
 use Rattle.stp_grammar.specs.declared.packet.Row.TheVariants.{Datum, Flag, NullStamp, Trigger, Frequency}

@@ -1,8 +1,8 @@
 -- The shortest nibbles of packets, one after the other, read as these packets.
-use Rattle.std.proofs.Common.{◌≡◌, ℕ, List, [], ◌∷◌, ◌++◌, length, refl, sym, ◌∙◌, ap, Option, None, map, append_assoc, append-nil}
+use Rattle.std.proofs.Common.{◌≡◌, ℕ, List, [], ◌∷◌, ◌++◌, refl, sym, ◌∙◌, ap, None, map, append_assoc, append-nil}
 use Rattle.trace_values.specs.Placed.{Place, Placed, units_of}
-use Rattle.trace_values.specs.Walk.{Walked, Whole, walk, by_unit}
-use Rattle.trace_values.specs.Reading.{Progress, progress, progress_from, advance}
+use Rattle.trace_values.specs.Walk.{Whole, walk, by_unit}
+use Rattle.trace_values.specs.Reading.{Progress, progress_from, advance}
 use Rattle.trace_values.proofs.Placing.{walk_units}
 use Rattle.trace_values.proofs.Wholes.{whole_reads}
 use Rattle.stp_grammar.specs.declared.packet.Order.{Order}

@@ -1,23 +1,20 @@
 -- What is written, read again, is the items.
-use Rattle.std.proofs.Common.{◌≡◌, ℕ, zero, suc, ◌+◌, ◌*◌, ◌/◌, ◌%◌, ◌<◌, List, [], ◌∷◌, ◌++◌, length, replicate, map, refl, sym, ◌∙◌, ap, subst, append_assoc, append-nil, arith, Bool, true, false, cond, ◌==◌, Option, None, Some}
+use Rattle.std.proofs.Common.{◌≡◌, ℕ, zero, suc, ◌+◌, ◌*◌, ◌/◌, ◌%◌, ◌<◌, List, [], ◌∷◌, ◌++◌, length, replicate, map, refl, sym, ◌∙◌, ap, subst, append-nil, arith, Option, None, Some}
 use Rattle.std.specs.Option.{option_to_list}
 use Rattle.std.specs.List.{All, flat_map}
 use Rattle.std.proofs.lemmas.List.Elements.{All-nil, All-cons, All-append}
 use Rattle.trace_values.specs.Placed.{Place, Placed, units_of}
 use Rattle.trace_values.specs.Nibbles.{nibbles_of}
-use Rattle.trace_values.specs.Walk.{by_unit}
-use Rattle.trace_values.specs.Reading.{Progress, progress}
-use Rattle.trace_values.specs.Stream.{Said, Kept, kept, stream_of}
-use Rattle.trace_values.specs.Decorated.{kept_if, decorate, decorated}
+use Rattle.trace_values.specs.Reading.{Progress}
+use Rattle.trace_values.specs.Stream.{Said, Kept, kept}
+use Rattle.trace_values.specs.Decorated.{kept_if, decorate}
 use Rattle.stp_grammar.specs.declared.packet.Order.{Order}
 use Rattle.stp_grammar.specs.declared.packet.Order.TheVariants.{Msn, Lsn}
 use Rattle.stp_grammar.specs.declared.packet.Row.TheVariants.{Null}
 use Rattle.stp_grammar.specs.declared.packet.StpPacket.{StpPacket}
 use Rattle.stp_grammar.specs.declared.packet.StpPacket.TheVariants.{Plain}
 use Rattle.stp_grammar.specs.declared.partial.Partial.{Partial}
-use Rattle.stp_grammar.specs.declared.partial.Partial.TheVariants.{Start}
 use Rattle.stp_grammar.specs.declared.item.StpItem.{StpItem}
-use Rattle.stp_grammar.specs.Rule.{rule}
 use Rattle.stp_grammar.specs.Attribution.{attribute, item_of}
 use Rattle.stp_encoder.specs.Fitting.{AreFitting}
 use Rattle.stp_encoder.specs.Packets.{packets_for}

@@ -1,5 +1,5 @@
 -- An item's own packet gives the item back, with its place and its timestamp.
-use Rattle.std.proofs.Common.{◌≡◌, ℕ, ◌+◌, ◌^◌, ◌<◌, ◌==◌, List, [], ◌∷◌, ◌++◌, refl, sym, ◌∙◌, ap, subst, arith, Bool, true, false, cond, not, ◌||◌, Option, None, Some}
+use Rattle.std.proofs.Common.{◌≡◌, ℕ, ◌^◌, ◌<◌, ◌==◌, List, [], ◌∷◌, ◌++◌, refl, sym, ◌∙◌, ap, subst, arith, Bool, true, false, cond, not, ◌||◌, Option, None, Some}
 use Rattle.std.specs.List.{filter_map, after_last}
 use Rattle.std.proofs.lemmas.Bool.Decides.{nat_tests}
 use Rattle.trace_clock.specs.GrayCode.{natural_of, gray_of}
@@ -7,9 +7,8 @@ use Rattle.trace_clock.specs.LastWord.{SizedWord, WordFits, sized, last_word, ne
 use Rattle.trace_clock.proofs.GrayCodes.{to_and_fro, gray_lt}
 use Rattle.trace_clock.proofs.LastWords.{word_lt}
 use Rattle.stp_grammar.specs.declared.packet.Row.{Row}
-use Rattle.stp_grammar.specs.declared.packet.Row.TheVariants.{MasterError, Datum, Flag, GlobalError, Version, NullStamp, Trigger, Frequency}
 use Rattle.stp_grammar.specs.declared.packet.StpPacket.{StpPacket}
-use Rattle.stp_grammar.specs.declared.packet.StpPacket.TheVariants.{Async, Plain, Stamped}
+use Rattle.stp_grammar.specs.declared.packet.StpPacket.TheVariants.{Plain, Stamped}
 use Rattle.stp_grammar.specs.declared.item.Place.{Place}
 use Rattle.stp_grammar.specs.declared.item.Stamp.{Stamp}
 use Rattle.stp_grammar.specs.declared.item.Stamp.TheVariants.{None as NoStamp, Natural, Gray, Raw}

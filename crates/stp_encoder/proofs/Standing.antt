@@ -10,7 +10,7 @@ use Rattle.stp_grammar.specs.Attributed as attributed
 use Rattle.stp_encoder.specs.declared.encoder.StpEncoder.{StpEncoder}
 use Rattle.stp_encoder.specs.Packets.{packets_with, packets_after, packets_for}
 use Rattle.stp_encoder.specs.Bytes.{joined, odd_nibble, spelled, nibbles_for, written, encoded, put_bytes, kept_nibble}
-use Rattle.stp_encoder.specs.Encoder.{IsAt, Stands, order_of}
+use Rattle.stp_encoder.specs.Encoder.{IsAt, Stands}
 use Rattle.stp_encoder.proofs.Joining.{filled_is, joined_append, odd_append, joined_kept}
 
 pub spelled_append : (order : Order) (a b : List StpPacket) → spelled order (a ++ b) ≡ spelled order a ++ spelled order b

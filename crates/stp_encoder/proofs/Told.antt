@@ -1,26 +1,19 @@
 -- The packets for fitting items tell exactly the items, and each has a spelling.
-use Rattle.std.proofs.Common.{◌≡◌, ℕ, ◌+◌, ◌^◌, ◌<◌, List, [], ◌∷◌, ◌++◌, refl, sym, ◌∙◌, ap, subst, append_assoc, append-nil, arith, ◌==◌, Bool, true, false, not, ◌&&◌, ◌||◌, Option, None, Some}
-use Rattle.std.specs.Option.{option_to_list, is_some, ForSome}
-use Rattle.trace_clock.specs.LastWord.{SizedWord}
-use Rattle.stp_grammar.specs.declared.packet.Width.{Width}
-use Rattle.stp_grammar.specs.declared.packet.Row.{Row}
-use Rattle.stp_grammar.specs.declared.packet.Row.TheVariants.{MasterError, Datum, Flag, GlobalError, Version, NullStamp, Trigger, Frequency, Master8, Master16, Channel8, Channel16}
+use Rattle.std.proofs.Common.{◌≡◌, ℕ, List, [], ◌∷◌, ◌++◌, refl, sym, ◌∙◌, ap, append_assoc, append-nil, arith, true, false, ◌&&◌, Option, None, Some}
+use Rattle.std.specs.Option.{option_to_list, is_some}
+use Rattle.stp_grammar.specs.declared.packet.Row.TheVariants.{MasterError, Datum, Flag, NullStamp, Trigger, Frequency, Master8, Master16, Channel8, Channel16}
 use Rattle.stp_grammar.specs.declared.packet.StpPacket.{StpPacket}
-use Rattle.stp_grammar.specs.declared.packet.StpPacket.TheVariants.{Async, Plain, Stamped}
+use Rattle.stp_grammar.specs.declared.packet.StpPacket.TheVariants.{Plain}
 use Rattle.stp_grammar.specs.declared.item.Place.{Place}
-use Rattle.stp_grammar.specs.declared.item.Stamp.{Stamp}
-use Rattle.stp_grammar.specs.declared.item.Stamp.TheVariants.{None as NoStamp, Natural, Gray, Raw}
 use Rattle.stp_grammar.specs.declared.item.StpItem.{StpItem}
 use Rattle.stp_grammar.specs.declared.item.StpItem.TheVariants.{Async as AsyncItem, Version as VersionItem, MasterError as MasterErrorItem, GlobalError as GlobalErrorItem, Datum as DatumItem, Flag as FlagItem, Trigger as TriggerItem, Frequency as FrequencyItem, NullStamp as NullStampItem}
-use Rattle.stp_grammar.specs.Opcodes.{line_of}
-use Rattle.stp_grammar.specs.Proper.{IsProperPlace, IsProperItem, bits_of}
+use Rattle.stp_grammar.specs.Proper.{IsProperPlace, IsProperItem}
 use Rattle.stp_grammar.specs.Attribution.{version_of, master_of, channel_of, place_of, item_of}
-use Rattle.stp_grammar.proofs.EachRow.{each_test}
-use Rattle.stp_encoder.specs.Fitting.{item_place, item_stamp, is_of_version, is_named, has_content, is_unfit, version_after, AreFitting}
+use Rattle.stp_encoder.specs.Fitting.{item_place, item_stamp, is_of_version, is_named, is_unfit, AreFitting}
 use Rattle.stp_encoder.specs.Packets.{telling, telling_place, own_packet, packets_with, packets_after, packets_for}
 use Rattle.stp_encoder.proofs.Versions.{telling_cases, version_for, version_kept}
 use Rattle.stp_encoder.proofs.Standing.{packets_more}
-use Rattle.stp_encoder.proofs.Places.{are_same, place_told, place_kept}
+use Rattle.stp_encoder.proofs.Places.{place_told, place_kept}
 use Rattle.stp_encoder.proofs.Stamps.{made_back}
 use Rattle.stp_encoder.proofs.OwnRows.{makes_datum, makes_flag, makes_trigger, makes_frequency, makes_null, fits_of}
 

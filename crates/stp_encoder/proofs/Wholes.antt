@@ -1,6 +1,5 @@
 -- Each packet for fitting items has a spelling.
-use Rattle.std.proofs.Common.{◌≡◌, ℕ, ◌+◌, ◌^◌, ◌<◌, List, [], ◌∷◌, ◌++◌, refl, sym, ◌∙◌, ap, subst, append_assoc, append-nil, arith, Bool, true, false, not, ◌==◌, Option, None, Some}
-use Rattle.std.specs.Prelude.{nat_lt}
+use Rattle.std.proofs.Common.{◌≡◌, ℕ, ◌^◌, ◌<◌, List, [], ◌∷◌, ◌++◌, refl, sym, ◌∙◌, subst, append_assoc, arith, Bool, true, false, not, Option, None, Some}
 use Rattle.std.proofs.lemmas.List.Elements.{All-nil, All-append}
 use Rattle.std.specs.Option.{ForSome}
 use Rattle.std.specs.List.{All}
@@ -10,7 +9,6 @@ use Rattle.stp_grammar.specs.declared.packet.Width.{Width}
 use Rattle.stp_grammar.specs.declared.packet.Row.{Row}
 use Rattle.stp_grammar.specs.declared.packet.Row.TheVariants.{Datum, Flag, NullStamp, Trigger, Frequency, Master8, Master16, Channel8, Channel16}
 use Rattle.stp_grammar.specs.declared.packet.StpPacket.{StpPacket}
-use Rattle.stp_grammar.specs.declared.packet.StpPacket.TheVariants.{Async, Plain, Stamped}
 use Rattle.stp_grammar.specs.declared.item.Place.{Place}
 use Rattle.stp_grammar.specs.declared.item.Stamp.{Stamp}
 use Rattle.stp_grammar.specs.declared.item.Stamp.TheVariants.{None as NoStamp, Natural, Gray, Raw}

@@ -1,6 +1,6 @@
 -- The packets for a list of items (MIPI System Trace Protocol, version 2; which packets are sent for an item is this
 -- project's profile). What is in force when an item comes is what all packets before it tell.
-use Rattle.std.specs.Prelude.{ℕ, ◌/◌, ◌%◌, ◌^◌, List, [], ◌∷◌, ◌++◌, Bool, true, false, ◌==◌, if◌then◌else◌, Option, None, Some, unwrap_or}
+use Rattle.std.specs.Prelude.{ℕ, ◌/◌, ◌%◌, ◌^◌, List, [], ◌∷◌, ◌++◌, true, false, ◌==◌, if◌then◌else◌, Option, None, Some, unwrap_or}
 use Rattle.std.specs.List.{find, filter_map, after_last, range_with_len}
 use Rattle.trace_clock.specs.GrayCode.{gray_of}
 use Rattle.trace_clock.specs.LastWord.{SizedWord, sized, nibble_count, next_word}

@@ -1,4 +1,4 @@
-use Rattle.std.proofs.Common.{List, [], ◌++◌, sym, ◌∙◌, ap, subst}
+use Rattle.std.proofs.Common.{List, ◌++◌, sym, ◌∙◌, ap, subst}
 use Rattle.stp_encoder.specs.Packets.{packets_with, packets_for}
 use Rattle.stp_encoder.specs.Bytes.{spelled, kept_nibble, written}
 use Rattle.stp_encoder.specs.Encoder.{Stands, IsAt}

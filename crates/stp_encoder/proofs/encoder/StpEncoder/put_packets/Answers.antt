@@ -1,4 +1,4 @@
-use Rattle.std.proofs.Common.{◌≡◌, List, [], ◌∷◌, ◌++◌, ◌∙◌, ap, subst, sym, Option}
+use Rattle.std.proofs.Common.{[], ◌∷◌, ◌++◌, subst, Option}
 use Rattle.stp_grammar.specs.declared.packet.Order.{Order}
 use Rattle.stp_grammar.specs.declared.packet.StpPacket.{StpPacket}
 use Rattle.stp_grammar.specs.declared.item.Place.{Place}

@@ -1,4 +1,4 @@
-use Rattle.std.proofs.Common.{List, [], ◌∷◌, ◌++◌, sym, subst, Option}
+use Rattle.std.proofs.Common.{◌++◌, sym, subst, Option}
 use Rattle.std.specs.Option.{option_to_list}
 use Rattle.stp_grammar.specs.declared.packet.StpPacket.{StpPacket}
 use Rattle.stp_encoder.specs.Bytes.{spelled}

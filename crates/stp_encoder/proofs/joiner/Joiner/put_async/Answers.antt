@@ -1,4 +1,4 @@
-use Rattle.std.proofs.Common.{◌≡◌, ℕ, List, [], ◌∷◌, ◌++◌, replicate, subst, append_assoc, arith}
+use Rattle.std.proofs.Common.{◌≡◌, ℕ, [], ◌∷◌, ◌++◌, replicate, subst, append_assoc, arith}
 use Rattle.stp_encoder.specs.Joined.{Joins}
 use Rattle.stp_encoder.proofs.joiner.Joiner.put_async.Goals as goal
 

@@ -1,4 +1,4 @@
-use Rattle.std.proofs.Common.{◌≡◌, ℕ, ◌+◌, List, [], ◌∷◌, ◌++◌, take, sym, ◌∙◌, ap, subst, append-nil, arith}
+use Rattle.std.proofs.Common.{◌≡◌, ℕ, [], ◌∷◌, ◌++◌, take, sym, ◌∙◌, ap, subst, arith}
 use Rattle.trace_clock.specs.LastWord.{nibble_at}
 use Rattle.stp_grammar.specs.Shortest.{nibbles_of_number}
 use Rattle.stp_encoder.specs.Joined.{Joins}
