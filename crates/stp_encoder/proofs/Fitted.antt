@@ -1,5 +1,5 @@
 -- One more item after fitting ones.
-use Rattle.std.proofs.Common.{◌≡◌, List, [], ◌∷◌, ◌++◌, refl, sym, ◌∙◌, ap, subst, false, ◌⊎◌, inl, inr}
+use Rattle.std.proofs.Common.{append_assoc, ◌≡◌, List, [], ◌∷◌, ◌++◌, refl, sym, ◌∙◌, ap, subst, false, ◌⊎◌, inl, inr}
 use Rattle.stp_grammar.specs.declared.item.StpItem.{StpItem}
 use Rattle.stp_grammar.specs.Proper.{IsProperItem}
 use Rattle.stp_encoder.specs.Fitting.{version_after, is_unfit, AreFitting}
@@ -31,3 +31,7 @@ more_fit items item h p f before after x e = elim (last_or_before items before a
   )
   | inr w ↦ h before w.0 x w.1
 ]
+
+pub front_fits : (items more : List StpItem) → AreFitting (items ++ more) → AreFitting items
+front_fits items more h before after item e =
+    h before (after ++ more) item (ap (λ (l : List StpItem). l ++ more) e ∙ append_assoc before (item ∷ after) more)

@@ -27,11 +27,12 @@ pub fn read_back_law(order: Order)
 {}
 
 /// No items are fitting ones, and so are fitting ones with one more, where it is proper and not unfit under the version
-/// that they named last.
+/// that they named last. A front of fitting ones is fitting.
 pub fn fitting_law()
     ensures none { AreFitting [] }
     ensures more { (items : List StpItem) (item : StpItem) → AreFitting items → IsProperItem item →
         is_unfit (version_after items) item ≡ false → AreFitting (items ++ item ∷ []) }
+    ensures front { (items more : List StpItem) → AreFitting (items ++ more) → AreFitting items }
 {}
 
 /// One more item adds its packets, by the packets before it, and its bytes. With the end the bytes are whole, and what

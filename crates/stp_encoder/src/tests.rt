@@ -99,6 +99,12 @@ fn writes_bytes(rt: HostRuntime) {
         ],
         b"\x0f\x40\xee\x08\0\0\0\0\0\0\0\x0e\x1e\x01",
     );
+    check_bytes(
+        &rt,
+        Order::Msn,
+        &[StpItem::Async, StpItem::Version(4)],
+        b"\xff\xff\xff\xff\xff\xff\xff\xff\xff\xff\x0f\x0f\x40",
+    );
     check_bytes(&rt, Order::Msn, &[], b"");
 }
 
