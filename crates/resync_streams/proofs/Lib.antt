@@ -1,0 +1,5 @@
+pub mod Continuing
+pub mod Syncing
+pub mod Locking
+pub mod Resting
+pub mod Running
