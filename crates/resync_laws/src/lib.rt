@@ -1,0 +1,6 @@
+//! Laws.
+#![tactic(auto)]
+
+pub fn nothing()
+    ensures { Rattle.std.specs.Prelude.Unit {0} }
+{}

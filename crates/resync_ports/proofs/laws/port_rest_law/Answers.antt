@@ -1,0 +1,9 @@
+use Rattle.resync_ports.proofs.Modes.{is_rest}
+use Rattle.resync_ports.proofs.NamedCells.{names}
+use Rattle.resync_ports.proofs.laws.port_rest_law.Goals as goal
+
+pub returns-clause-rest : goal.returns-clause-rest
+returns-clause-rest c = is_rest
+
+pub returns-clause-named : goal.returns-clause-named
+returns-clause-named c = names
