@@ -1,0 +1,4 @@
+pub mod ItmSyncing
+pub mod StpSyncing
+pub mod StpItems
+pub mod StpResting

@@ -32,7 +32,7 @@ use Rattle.resync_streams.specs.Syncing.{said_last, EndsOrFails, Syncs}
 use Rattle.resync_streams.proofs.Continuing as continuing
 use Rattle.resync_streams.proofs.Running as running
 use Rattle.resync_streams.proofs.Syncing.{parts_of}
-use Rattle.resync_laws.specs.Stp.{IsRun}
+use Rattle.resync_laws.specs.Stp.{IsRun, EndsInAsync, FewInARow}
 
 at_most : (n m : ℕ) → nat_le n m ≡ true → n ≤ m
 at_most n m e = grind (arith, nat_tests)
@@ -141,23 +141,39 @@ module _ (order : Order) where
   alive_run (End v) q h a f = absurd (omega (arith, h))
   alive_run (Fail e) q h a f = absurd (a f)
 
-  pub few_in_a_row : (u : List Placed) (r : Reading StpPacket) → IsReading (InUnits (Spells order)) (λ r. why (units_of r)) u r → r.fault ≡ None → EndsWith (replicate 18 15) (units_of u) → IsRun r.rest
-  few_in_a_row u r i f (c, e) =
+  pub few_in_a_row : FewInARow order
+  few_in_a_row u r i f front rest parts (c, e) =
       let d = on_units (rule order) (Spells order) why Start (decided order) in
       let same = readings.only_reading (InUnits (Spells order)) (λ r. why (units_of r)) (by_unit (rule order)) Start d u r i in
-      let p = parts_of u c (replicate 18 15) e in
-      let sound : (prog u).fault ≡ None = sym (ap (λ (x : Reading StpPacket). x.fault) same) ∙ f in
-      let split : prog u ≡ progress_from (by_unit (rule order)) Start (prog p.0) p.1 = ap prog p.2 ∙ from_append (by_unit (rule order)) Start p.0 p.1 (unread Start) in
-      let before : (prog p.0).fault ≡ None = continuing.no_fault (by_unit (rule order)) Start p.1 (prog p.0) (ap (λ (q : Progress Partial StpPacket). q.fault) (sym split) ∙ sound) in
-      let w = readings.rest_walks (InUnits (Spells order)) (λ r. why (units_of r)) (by_unit (rule order)) Start d p.0 before in
-      let s = (prog p.0).state in
-      let says : Says 0 (said_last (by_unit (rule order)) Start (Go s) p.1) =
-      subst (λ (n : Next Partial StpPacket). Says 0 n) (sym (running.said_units (rule order) Start (Go s) p.1 ∙ ap (λ (l : List ℕ). said_last (rule order) Start (Go s) l) p.4))
-      (running.run_says (rule order) Start pattern Async Leads less stays 18 18 (Go s) (reached s (units_of (prog p.0).rest) (sym (walk_units (rule order) Start (prog p.0).rest) ∙ w)) (omega arith)) in
-      let alive = continuing.alive_from (by_unit (rule order)) Start p.1 (Go s) (prog p.0) (before, refl) in
-      let k = alive_run (said_last (by_unit (rule order)) Start (Go s) p.1) (progress_from (by_unit (rule order)) Start (prog p.0) p.1) says alive (ap (λ (q : Progress Partial StpPacket). q.fault) (sym split) ∙ sound) in
-      let state : (prog u).state ≡ Run k.0 = ap (λ (q : Progress Partial StpPacket). q.state) split ∙ k.1 in
-      let here = readings.rest_walks (InUnits (Spells order)) (λ r. why (units_of r)) (by_unit (rule order)) Start d u sound in
-      let b = belongs order (Run k.0) (units_of (prog u).rest)
-          (sym (walk_units (rule order) Start (prog u).rest) ∙ here ∙ ap (λ (s : Partial). let w : Walked Partial StpPacket = Within s in w) state) in
-      subst (λ (x : Reading StpPacket). IsRun x.rest) (sym same) (k.0, b.0, b.1)
+      let all : (prog u).fault ≡ None = sym (ap (λ (x : Reading StpPacket). x.fault) same) ∙ f in
+      let on : prog u ≡ progress_from (by_unit (rule order)) Start (prog front) rest = ap prog parts ∙ from_append (by_unit (rule order)) Start front rest (unread Start) in
+      let sound : (prog front).fault ≡ None = continuing.no_fault (by_unit (rule order)) Start rest (prog front) (ap (λ (q : Progress Partial StpPacket). q.fault) (sym on) ∙ all) in
+      let more = continuing.items_from (by_unit (rule order)) Start rest (prog front) in
+      let k = rest_runs front c e sound in
+      record {
+        early = (prog front).items;
+        later = more.0;
+        parts = ap (λ (x : Reading StpPacket). x.items) same ∙ ap (λ (q : Progress Partial StpPacket). q.items) on ∙ more.1;
+        run = (prog front).rest;
+        spelled = (readings.reading_is (InUnits (Spells order)) (λ r. why (units_of r)) (by_unit (rule order)) Start d front).splits;
+        alone = k;
+      }
+    where
+      rest_runs : (u : List Placed) (c : List ℕ) → units_of u ≡ c ++ replicate 18 15 → (prog u).fault ≡ None → IsRun (prog u).rest
+      rest_runs u c e sound =
+          let d = on_units (rule order) (Spells order) why Start (decided order) in
+          let p = parts_of u c (replicate 18 15) e in
+          let split : prog u ≡ progress_from (by_unit (rule order)) Start (prog p.0) p.1 = ap prog p.2 ∙ from_append (by_unit (rule order)) Start p.0 p.1 (unread Start) in
+          let before : (prog p.0).fault ≡ None = continuing.no_fault (by_unit (rule order)) Start p.1 (prog p.0) (ap (λ (q : Progress Partial StpPacket). q.fault) (sym split) ∙ sound) in
+          let w = readings.rest_walks (InUnits (Spells order)) (λ r. why (units_of r)) (by_unit (rule order)) Start d p.0 before in
+          let s = (prog p.0).state in
+          let says : Says 0 (said_last (by_unit (rule order)) Start (Go s) p.1) =
+          subst (λ (n : Next Partial StpPacket). Says 0 n) (sym (running.said_units (rule order) Start (Go s) p.1 ∙ ap (λ (l : List ℕ). said_last (rule order) Start (Go s) l) p.4))
+          (running.run_says (rule order) Start pattern Async Leads less stays 18 18 (Go s) (reached s (units_of (prog p.0).rest) (sym (walk_units (rule order) Start (prog p.0).rest) ∙ w)) (omega arith)) in
+          let alive = continuing.alive_from (by_unit (rule order)) Start p.1 (Go s) (prog p.0) (before, refl) in
+          let k = alive_run (said_last (by_unit (rule order)) Start (Go s) p.1) (progress_from (by_unit (rule order)) Start (prog p.0) p.1) says alive (ap (λ (q : Progress Partial StpPacket). q.fault) (sym split) ∙ sound) in
+          let state : (prog u).state ≡ Run k.0 = ap (λ (q : Progress Partial StpPacket). q.state) split ∙ k.1 in
+          let here = readings.rest_walks (InUnits (Spells order)) (λ r. why (units_of r)) (by_unit (rule order)) Start d u sound in
+          let b = belongs order (Run k.0) (units_of (prog u).rest)
+              (sym (walk_units (rule order) Start (prog u).rest) ∙ here ∙ ap (λ (s : Partial). let w : Walked Partial StpPacket = Within s in w) state) in
+          (k.0, b.0, b.1)

@@ -1,0 +1,2 @@
+pub mod Itm
+pub mod Stp

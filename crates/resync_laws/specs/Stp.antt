@@ -3,6 +3,9 @@
 use Rattle.std.specs.Prelude.{◌≡◌, ◌⊎◌, ℕ, ◌-◌, ◌≤◌, List, [], ◌∷◌, ◌++◌, length, replicate, Bool, true, false, None}
 use Rattle.std.specs.List.{AllByRecursion}
 use Rattle.trace_values.specs.Placed.{Place, Placed, units_of}
+use Rattle.trace_values.specs.Grammar.{InUnits}
+use Rattle.trace_values.specs.Hunt.{EndsWith}
+use Rattle.trace_values.specs.Reading.{Reading, Splits, IsReading}
 use Rattle.trace_values.specs.Stream.{Said, Notice, Kept, kept}
 use Rattle.trace_values.specs.Decorated.{decorate, carried}
 use Rattle.stp_grammar.specs.declared.packet.Order.{Order}
@@ -11,6 +14,7 @@ use Rattle.stp_grammar.specs.declared.packet.StpPacket.{StpPacket}
 use Rattle.stp_grammar.specs.declared.packet.StpPacket.TheVariants.{Async, Plain}
 use Rattle.stp_grammar.specs.declared.item.StpItem.{StpItem}
 use Rattle.stp_grammar.specs.declared.item.StpItem.TheVariants.{Version as VersionItem}
+use Rattle.stp_grammar.specs.Spelling.{Spells, why}
 use Rattle.stp_grammar.specs.Attribution.{version_in, attribute}
 use Rattle.stp_codec.specs.Reading.{packets_in, items_at}
 use Rattle.resync_streams.specs.Fronts.{Hunting, IsSync, all_skipped, Locks}
@@ -24,6 +28,22 @@ hunting order hunts =
 -- these are nibbles F alone, at least two: with two the packet is an ASYNC
 abbrev pub IsRun : List Placed → Type 0
 IsRun r = (count : ℕ) × (2 ≤ count) × (units_of r ≡ replicate count 15)
+
+-- These nibbles are whole packets, the first ones of these, and then nibbles F that only an ASYNC begins with.
+pub record EndsInAsync (order : Order) (packets : List (StpPacket × Place)) (front : List Placed) : Type 0 where
+  pub early : List (StpPacket × Place)
+  pub later : List (StpPacket × Place)
+  pub parts : packets ≡ early ++ later
+  pub run : List Placed
+  pub spelled : Splits (InUnits (Spells order)) early run front
+  pub alone : IsRun run
+
+-- In each list of nibbles that is packets and then a tail, 18 nibbles F in succession end in an ASYNC.
+abbrev pub FewInARow : Order → Type 0
+FewInARow order =
+    (u : List Placed) (r : Reading StpPacket) → IsReading (InUnits (Spells order)) (λ r. why (units_of r)) u r →
+    r.fault ≡ None → (front rest : List Placed) → u ≡ front ++ rest → EndsWith (replicate 18 15) (units_of front) →
+    EndsInAsync order r.items front
 
 -- the items of packets at their places, where these packets come before them
 abbrev pub items_after : List StpPacket → List (StpPacket × Place) → List (Said StpItem × Place)
