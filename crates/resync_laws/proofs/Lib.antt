@@ -2,3 +2,4 @@ pub mod ItmSyncing
 pub mod StpSyncing
 pub mod StpItems
 pub mod StpResting
+pub mod Captures

@@ -1,2 +1,3 @@
 pub mod Itm
 pub mod Stp
+pub mod Capture

@@ -1,9 +1,12 @@
 //! Laws of captures whose front is lost, over the definitions alone.
 
-ghost use Rattle.std.specs.Prelude.{◌≡◌, List, ◌++◌, Bool, None};
+ghost use Rattle.std.specs.Prelude.{◌≡◌, ℕ, List, ◌++◌, Bool, None};
 ghost use Rattle.trace_values.specs.Placed.{Placed, units_of};
 ghost use Rattle.trace_values.specs.Grammar.{InUnits};
+ghost use Rattle.trace_values.specs.Nibbles.{nibbles_of};
 ghost use Rattle.trace_values.specs.Hunted.{pattern_of};
+ghost use Rattle.capture_plan.specs.declared.frames.FramesMode.{FramesMode};
+ghost use Rattle.port_reader.specs.Reading.{port_reading};
 ghost use Rattle.itm_grammar.specs.declared.packet.ItmPacket.TheVariants.{Sync};
 ghost use Rattle.itm_grammar.specs.Spelling as itm_spelling;
 ghost use Rattle.itm_codec.specs.Reading as itm_reading;
@@ -11,6 +14,8 @@ ghost use Rattle.stp_grammar.specs.declared.packet.StpPacket.TheVariants.{Async}
 ghost use Rattle.stp_grammar.specs.Spelling as stp_spelling;
 ghost use Rattle.stp_codec.specs.Reading as stp_reading;
 ghost use Rattle.resync_streams.specs.Fronts.{EndsOnly, IsRest};
+ghost use Rattle.resync_ports.specs.Port.{rest_mode};
+ghost use Rattle.resync_laws.specs.Capture.{source_bytes};
 ghost use Rattle.resync_laws.specs.Itm as itm;
 ghost use Rattle.resync_laws.specs.Stp as stp;
 
@@ -29,8 +34,14 @@ pub fn itm_pattern_law()
 /// rest of them reads what the whole reads, from the first synchronisation packet on that has its last six bytes in the
 /// rest.
 pub fn itm_rest_law()
-    ensures { (hunts : Bool) (lost rest : List Placed) →
+    ensures rest { (hunts : Bool) (lost rest : List Placed) →
         (itm_reading.packets_in hunts (lost ++ rest)).fault ≡ None → IsRest (itm.hunting hunts) lost rest }
+    ensures capture { (mode : FramesMode) (hunts : Bool) (id : ℕ) (lost rest : List Placed) →
+        (port_reading mode (lost ++ rest)).fault ≡ None →
+        (itm_reading.packets_in hunts (source_bytes mode id (lost ++ rest))).fault ≡ None →
+        (early : List Placed)
+        × (source_bytes mode id (lost ++ rest) ≡ early ++ source_bytes (rest_mode mode) id rest)
+        × IsRest (itm.hunting hunts) early (source_bytes (rest_mode mode) id rest) }
 {}
 
 /// In a list of STP packets followed by a tail, 21 nibbles F and a nibble 0 end at the last nibble of each ASYNC, and
@@ -50,4 +61,10 @@ pub fn stp_rest_law(order: Order)
         (stp_reading.packets_in order hunts (lost ++ rest)).fault ≡ None → IsRest (stp.hunting order hunts) lost rest }
     ensures items { (hunts : Bool) (lost rest : List Placed) →
         (stp_reading.items_at order hunts (lost ++ rest)).fault ≡ None → stp.IsItemsRest order hunts lost rest }
+    ensures capture { (mode : FramesMode) (hunts : Bool) (id : ℕ) (lost rest : List Placed) →
+        (port_reading mode (lost ++ rest)).fault ≡ None →
+        (stp_reading.items_in order hunts (source_bytes mode id (lost ++ rest))).fault ≡ None →
+        (early : List Placed)
+        × (source_bytes mode id (lost ++ rest) ≡ early ++ source_bytes (rest_mode mode) id rest)
+        × stp.IsItemsRest order hunts (nibbles_of early) (nibbles_of (source_bytes (rest_mode mode) id rest)) }
 {}

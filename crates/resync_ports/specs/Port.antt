@@ -8,6 +8,7 @@ use Rattle.capture_plan.specs.declared.frames.FramesMode.{FramesMode}
 use Rattle.capture_plan.specs.declared.frames.FramesMode.TheVariants.{Hunt, Aligned, Bare}
 use Rattle.frame_grammar.specs.Port.{PortItem, Full}
 use Rattle.frame_grammar.specs.Reading.{cells_of_items, fulls_in, halves_in}
+use Rattle.frame_grammar.specs.SourceBytes.{source_units}
 use Rattle.deformatter.specs.Reading.{PortStream, all_skipped, items_of, port_stream, cells_in, fulls_of}
 use Rattle.port_reader.specs.Reading.{bare_cell, port_reading, cells_of}
 
@@ -96,3 +97,15 @@ abbrev pub rest_mode : FramesMode → FramesMode
 rest_mode Hunt = Hunt
 rest_mode Aligned = Hunt
 rest_mode Bare = Bare
+
+-- What the cells of the rest are, against those of the whole. From a point on, the first cell of the rest that has an
+-- ID, they are the same; before it cells are gone, or have lost their IDs. So of each source the rest has the bytes that
+-- the whole has from that point on.
+pub record CellsRest (whole rest : List Cell) : Type 0 where
+  pub gone : List Cell
+  pub hidden : List Cell
+  pub named : List Cell
+  pub whole_is : whole ≡ gone ++ (hidden ++ named)
+  pub rest_is : rest ≡ map unnamed hidden ++ named
+  pub begins : BeginsNamed named
+  pub sources : (id : ℕ) → source_units id rest ≡ source_units id named

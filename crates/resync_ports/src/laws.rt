@@ -10,7 +10,7 @@ ghost use Rattle.frame_grammar.specs.Port.{Full, Spells, why};
 ghost use Rattle.port_sync.specs.Hunting.{pattern};
 ghost use Rattle.port_reader.specs.Reading.{port_reading, cells_of};
 ghost use Rattle.resync_streams.specs.Fronts.{BeginsOnly};
-ghost use Rattle.resync_ports.specs.Port.{BeginsNamed, HasId, IsPortRest};
+ghost use Rattle.resync_ports.specs.Port.{BeginsNamed, HasId, IsPortRest, rest_mode, CellsRest};
 
 /// In a list of frames and synchronisations followed by a tail, `FF FF FF 7F` is at the first byte of each full
 /// synchronisation, and nowhere else.
@@ -24,6 +24,8 @@ pub fn port_pattern_law()
 pub fn port_rest_law()
     ensures rest { (mode : FramesMode) (lost rest : List Placed) → (port_reading mode (lost ++ rest)).fault ≡ None →
         IsPortRest mode lost rest }
+    ensures cells { (mode : FramesMode) (lost rest : List Placed) → (port_reading mode (lost ++ rest)).fault ≡ None →
+        CellsRest (cells_of (port_reading mode (lost ++ rest))) (cells_of (port_reading (rest_mode mode) rest)) }
     ensures named { (mode : FramesMode) (u : List Placed) → AllByRecursion (λ b. b.unit < 256) u →
         (before later : List Cell) → cells_of (port_reading mode u) ≡ before ++ later → BeginsNamed later →
         AllByRecursion HasId later }

@@ -1,9 +1,12 @@
-use Rattle.resync_ports.proofs.Modes.{is_rest}
+use Rattle.resync_ports.proofs.Modes.{is_rest, cells_rest}
 use Rattle.resync_ports.proofs.NamedCells.{names}
 use Rattle.resync_ports.proofs.laws.port_rest_law.Goals as goal
 
 pub returns-clause-rest : goal.returns-clause-rest
 returns-clause-rest c = is_rest
+
+pub returns-clause-cells : goal.returns-clause-cells
+returns-clause-cells c = cells_rest
 
 pub returns-clause-named : goal.returns-clause-named
 returns-clause-named c = names
