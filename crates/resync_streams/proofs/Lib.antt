@@ -3,3 +3,4 @@ pub mod Syncing
 pub mod Locking
 pub mod Resting
 pub mod Running
+pub mod Neighbours
