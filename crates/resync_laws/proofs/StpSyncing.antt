@@ -32,7 +32,7 @@ use Rattle.resync_streams.specs.Syncing.{said_last, EndsOrFails, Syncs}
 use Rattle.resync_streams.proofs.Continuing as continuing
 use Rattle.resync_streams.proofs.Running as running
 use Rattle.resync_streams.proofs.Syncing.{parts_of}
-use Rattle.resync_laws.specs.Stp.{IsRun, EndsInAsync, FewInARow}
+use Rattle.resync_laws.specs.Stp.{IsRun, OnlyInAsync}
 
 at_most : (n m : ℕ) → nat_le n m ≡ true → n ≤ m
 at_most n m e = grind (arith, nat_tests)
@@ -141,7 +141,7 @@ module _ (order : Order) where
   alive_run (End v) q h a f = absurd (omega (arith, h))
   alive_run (Fail e) q h a f = absurd (a f)
 
-  pub few_in_a_row : FewInARow order
+  pub few_in_a_row : OnlyInAsync order 18
   few_in_a_row u r i f front rest parts (c, e) =
       let d = on_units (rule order) (Spells order) why Start (decided order) in
       let same = readings.only_reading (InUnits (Spells order)) (λ r. why (units_of r)) (by_unit (rule order)) Start d u r i in

@@ -1,13 +1,14 @@
 -- Worked rows of sources and their rests, in text.
-use Rattle.std.specs.Prelude.{ℕ, List, drop, map, Bool, true, false, Option, option_map}
+use Rattle.std.specs.Prelude.{ℕ, List, drop, map, Bool, true, false, Option, option_map, is_none}
 use Rattle.trace_values.specs.declared.fault.Reason.{Reason}
 use Rattle.trace_values.specs.Hex.{hex}
-use Rattle.trace_values.specs.Placed.{placed}
-use Rattle.trace_values.specs.Stream.{Stream, Said}
+use Rattle.trace_values.specs.Placed.{Place, placed}
+use Rattle.trace_values.specs.Stream.{Stream, Said, Kept}
 use Rattle.itm_grammar.specs.declared.packet.ItmPacket.{ItmPacket}
 use Rattle.itm_codec.specs.Reading.{packets_in}
 use Rattle.stp_grammar.specs.declared.packet.Order.{Order}
 use Rattle.stp_grammar.specs.declared.item.StpItem.{StpItem}
+use Rattle.stp_grammar.specs.declared.item.StpItem.TheVariants.{Datum}
 use Rattle.stp_codec.specs.Reading.{items_in}
 
 -- what a text reads as from its first byte on
@@ -27,6 +28,11 @@ stp_left order bytes text = items_in order true (drop bytes (placed (hex text)))
 -- the notice of the lock and the values, with the offsets and halves of their last units
 abbrev pub given_of : {V : Type 0} → Stream V → List (Said V × ℕ × ℕ)
 given_of s = map (λ x. (x.0, x.1.at, x.1.half)) s.given
+
+-- a data item of an unknown master
+abbrev pub has_no_master : Said StpItem × Place → Bool
+has_no_master (Kept (Datum place width value marked stamp), at) = is_none place.master
+has_no_master x = false
 
 -- whether it reads, how many units it skipped, how many are left over, and the fault with its offset and half
 abbrev pub end_of : {V : Type 0} → Stream V → Bool × ℕ × ℕ × Option (ℕ × ℕ × Reason)

@@ -38,11 +38,11 @@ pub record EndsInAsync (order : Order) (packets : List (StpPacket × Place)) (fr
   pub spelled : Splits (InUnits (Spells order)) early run front
   pub alone : IsRun run
 
--- In each list of nibbles that is packets and then a tail, 18 nibbles F in succession end in an ASYNC.
-abbrev pub FewInARow : Order → Type 0
-FewInARow order =
+-- In each list of nibbles that is packets and then a tail, this many nibbles F in succession end in an ASYNC.
+abbrev pub OnlyInAsync : Order → ℕ → Type 0
+OnlyInAsync order count =
     (u : List Placed) (r : Reading StpPacket) → IsReading (InUnits (Spells order)) (λ r. why (units_of r)) u r →
-    r.fault ≡ None → (front rest : List Placed) → u ≡ front ++ rest → EndsWith (replicate 18 15) (units_of front) →
+    r.fault ≡ None → (front rest : List Placed) → u ≡ front ++ rest → EndsWith (replicate count 15) (units_of front) →
     EndsInAsync order r.items front
 
 -- the items of packets at their places, where these packets come before them

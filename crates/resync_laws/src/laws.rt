@@ -49,7 +49,7 @@ pub fn itm_rest_law()
 pub fn stp_pattern_law(order: Order)
     ensures pattern { EndsOnly (InUnits (stp_spelling.Spells order)) (λ r. stp_spelling.why (units_of r))
         (pattern_of stp_reading.pattern) Async }
-    ensures few { stp.FewInARow order }
+    ensures few { stp.OnlyInAsync order 18 }
 {}
 
 /// Where all nibbles of a source read as STP packets without a fault, from the first one on or after a hunt, a hunt in any

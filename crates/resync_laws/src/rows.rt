@@ -1,6 +1,7 @@
 //! Worked rows of sources and their rests, which the checker computes.
 
 ghost use Rattle.std.specs.Prelude.{◌≡◌, ◌++◌, [], ◌∷◌, List, None, Some, Bool, codes, true, false, replicate};
+ghost use Rattle.std.specs.List.{list_any};
 ghost use Rattle.trace_values.specs.Placed.{Placed, units_of};
 ghost use Rattle.trace_values.specs.Grammar.{InUnits};
 ghost use Rattle.trace_values.specs.Stream.{Notice, Kept};
@@ -16,8 +17,9 @@ ghost use Rattle.stp_grammar.specs.declared.item.StpItem.TheVariants.{Async as A
 ghost use Rattle.stp_grammar.specs.declared.item.StpItem.TheVariants.{Datum as DatumItem};
 ghost use Rattle.stp_grammar.specs.Spelling as stp_spelling;
 ghost use Rattle.resync_streams.specs.Fronts.{EndsOnly, IsRest};
+ghost use Rattle.resync_laws.specs.Stp.{OnlyInAsync};
 ghost use Rattle.resync_laws.specs.Itm.{hunting};
-ghost use Rattle.resync_laws.specs.Rows.{itm_whole, itm_left, stp_whole, stp_left, given_of, end_of};
+ghost use Rattle.resync_laws.specs.Rows.{itm_whole, itm_left, stp_whole, stp_left, given_of, end_of, has_no_master};
 
 /// A packet with a payload of four bytes, a synchronisation packet and an overflow packet, whole and without the first
 /// three bytes: two bytes 00 of the payload are skipped.
@@ -97,4 +99,12 @@ pub fn shorter_stp_pattern()
         ∷ (Kept (VersionItem 4), 10, 0) ∷ [] }
     ensures law { EndsOnly (InUnits (stp_spelling.Spells Msn)) (λ r. stp_spelling.why (units_of r))
         (replicate 17 15 ++ 0 ∷ []) Async → ⊥ }
+    ensures few { OnlyInAsync Msn 17 → ⊥ }
+{}
+
+/// At the lock the rest does not know the master yet: its items are not those of the whole from there on.
+#[tactic(auto, unfolding(stp_grammar::specs::Attribution::version_of, stp_grammar::specs::Attribution::master_of, stp_grammar::specs::Attribution::channel_of, stp_grammar::specs::Attribution::last_word_of,))]
+pub fn places_are_not_known_at_once()
+    ensures whole { list_any has_no_master (stp_whole Msn (codes "0F 30 01 45 14 FF FF FF FF FF FF FF FF FF FF 0F 44 F2 00 43 34")).given ≡ false }
+    ensures rest { list_any has_no_master (stp_left Msn 4 (codes "0F 30 01 45 14 FF FF FF FF FF FF FF FF FF FF 0F 44 F2 00 43 34")).given ≡ true }
 {}
