@@ -1,5 +1,5 @@
 -- Sources inside a capture.
-use Rattle.std.proofs.Common.{◌≡◌, ℕ, List, [], ◌∷◌, ◌++◌, sym, ◌∙◌, ap, Bool, true, None}
+use Rattle.std.proofs.Common.{◌≡◌, ℕ, List, [], ◌∷◌, ◌++◌, sym, ◌∙◌, ap, Bool, None}
 use Rattle.std.proofs.lemmas.List.Concat.{flat_map-append}
 use Rattle.trace_values.specs.Grammar.{InUnits}
 use Rattle.trace_values.specs.Nibbles.{low_of, high_of, nibbles_of}

@@ -1,6 +1,5 @@
 -- 00 00 00 00 00 80 ends a synchronisation packet or is a fault, whatever comes before it.
 use Rattle.std.proofs.Common.{◌≡◌, ℕ, suc, ◌+◌, ◌<◌, ◌≤◌, List, refl, sym, subst, ◌⊎◌, inl, inr, arith, true}
-use Rattle.std.specs.Prelude.{nat_lt}
 use Rattle.std.proofs.lemmas.Bool.Decides.{nat_tests}
 use Rattle.trace_values.specs.declared.next.Next.{Next}
 use Rattle.trace_values.specs.declared.next.Next.TheVariants.{Go, End, Fail}

@@ -1,10 +1,10 @@
 -- The items of the rest of a source of STP packets.
-use Rattle.std.proofs.Common.{◌≡◌, ℕ, List, [], ◌∷◌, ◌++◌, length, refl, sym, ◌∙◌, ap, subst, inl, inr, Bool, true, false, None}
+use Rattle.std.proofs.Common.{◌≡◌, ℕ, List, [], ◌∷◌, ◌++◌, refl, ◌∙◌, ap, subst, inl, inr, Bool, true, false, None}
 use Rattle.std.specs.Prelude.{Option, Some}
 use Rattle.std.specs.List.{AllByRecursion}
 use Rattle.trace_values.specs.Grammar.{InUnits}
 use Rattle.trace_values.specs.Placed.{Place, Placed, units_of}
-use Rattle.trace_values.specs.Stream.{Stream, Said, Notice, Kept, kept}
+use Rattle.trace_values.specs.Stream.{Stream, Said, Kept, kept}
 use Rattle.trace_values.specs.Walk.{by_unit}
 use Rattle.trace_values.specs.Decorated.{kept_if, decorate, carried, decorated}
 use Rattle.trace_values.proofs.Decorating.{decorate_append}

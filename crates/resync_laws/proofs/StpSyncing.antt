@@ -8,7 +8,7 @@ use Rattle.trace_values.specs.declared.next.Next.TheVariants.{Go, End, Fail}
 use Rattle.trace_values.specs.Placed.{Placed, units_of}
 use Rattle.trace_values.specs.Grammar.{InUnits}
 use Rattle.trace_values.specs.Walk.{Walked, Within, walk, by_unit}
-use Rattle.trace_values.specs.Reading.{Reading, IsReading, Progress, progress_from, unread, progress}
+use Rattle.trace_values.specs.Reading.{Reading, Progress, progress_from, unread, progress}
 use Rattle.trace_values.specs.Hunt.{EndsWith}
 use Rattle.trace_values.specs.Hunted.{pattern_of}
 use Rattle.trace_values.proofs.Placing.{on_units, walk_units}
@@ -175,5 +175,5 @@ module _ (order : Order) where
           let state : (prog u).state ≡ Run k.0 = ap (λ (q : Progress Partial StpPacket). q.state) split ∙ k.1 in
           let here = readings.rest_walks (InUnits (Spells order)) (λ r. why (units_of r)) (by_unit (rule order)) Start d u sound in
           let b = belongs order (Run k.0) (units_of (prog u).rest)
-              (sym (walk_units (rule order) Start (prog u).rest) ∙ here ∙ ap (λ (s : Partial). let w : Walked Partial StpPacket = Within s in w) state) in
+          (sym (walk_units (rule order) Start (prog u).rest) ∙ here ∙ ap (λ (s : Partial). let w : Walked Partial StpPacket = Within s in w) state) in
           (k.0, b.0, b.1)

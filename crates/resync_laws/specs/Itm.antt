@@ -1,6 +1,6 @@
 -- Lost fronts of a source of ITM packets (ARMv7-M Architecture Reference Manual, Arm DDI 0403E, appendix D4 'Debug ITM
 -- and DWT Packet Protocol', section D4.2 'Packet descriptions', 'Synchronization packet').
-use Rattle.std.specs.Prelude.{◌≡◌, List, ◌++◌, Bool, true}
+use Rattle.std.specs.Prelude.{Bool, true}
 use Rattle.itm_grammar.specs.declared.packet.ItmPacket.{ItmPacket}
 use Rattle.itm_grammar.specs.declared.packet.ItmPacket.TheVariants.{Sync}
 use Rattle.itm_codec.specs.Reading.{packets_in}

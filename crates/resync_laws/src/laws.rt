@@ -19,9 +19,8 @@ ghost use Rattle.resync_laws.specs.Capture.{source_bytes};
 ghost use Rattle.resync_laws.specs.Itm as itm;
 ghost use Rattle.resync_laws.specs.Stp as stp;
 
-use stp_grammar::packet::Order;
-
 pub use resync_ports::laws::{port_pattern_law, port_rest_law};
+use stp_grammar::packet::Order;
 
 /// In a list of ITM packets followed by a tail, `00 00 00 00 00 80` ends at the last byte of each synchronisation packet,
 /// and nowhere else.

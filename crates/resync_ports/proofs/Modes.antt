@@ -8,7 +8,7 @@ use Rattle.capture_plan.specs.declared.frames.FramesMode.TheVariants.{Hunt, Alig
 use Rattle.frame_grammar.specs.Reading.{cells_of_items}
 use Rattle.frame_grammar.specs.SourceBytes.{source_units}
 use Rattle.frame_grammar.proofs.SourceBytes as sources
-use Rattle.deformatter.specs.Reading.{PortStream, items_of, port_stream, cells_in}
+use Rattle.deformatter.specs.Reading.{items_of, port_stream, cells_in}
 use Rattle.port_reader.specs.Reading.{bare_cell, port_reading, cells_of}
 use Rattle.port_reader.proofs.ReadingLaws.{framed_cells, bare_cells}
 use Rattle.resync_ports.specs.Port.{unnamed, BeginsNamed, IsPortRest, rest_mode, CellsRest}

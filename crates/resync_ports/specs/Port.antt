@@ -1,15 +1,15 @@
 -- Lost fronts of a port's bytes (CoreSight Architecture Specification, Arm IHI 0029E (version 3.0), chapter 'Trace
 -- Formatter', its section on frames): what a hunt in the rest reads, against the whole.
-use Rattle.std.specs.Prelude.{◌≡◌, ◌⊎◌, ℕ, ◌+◌, ◌<◌, ◌≤◌, List, [], ◌∷◌, ◌++◌, length, map, Bool, true, false, None, is_none}
-use Rattle.std.specs.List.{sum_by, AllByRecursion}
+use Rattle.std.specs.Prelude.{◌≡◌, ◌⊎◌, ℕ, ◌+◌, ◌≤◌, List, [], ◌∷◌, ◌++◌, length, map, Bool, true, false, None, is_none}
+use Rattle.std.specs.List.{sum_by}
 use Rattle.trace_values.specs.declared.cell.Cell.{Cell}
 use Rattle.trace_values.specs.Placed.{Place, Placed}
 use Rattle.capture_plan.specs.declared.frames.FramesMode.{FramesMode}
 use Rattle.capture_plan.specs.declared.frames.FramesMode.TheVariants.{Hunt, Aligned, Bare}
 use Rattle.frame_grammar.specs.Port.{PortItem, Full}
-use Rattle.frame_grammar.specs.Reading.{cells_of_items, fulls_in, halves_in}
+use Rattle.frame_grammar.specs.Reading.{cells_of_items, halves_in}
 use Rattle.frame_grammar.specs.SourceBytes.{source_units}
-use Rattle.deformatter.specs.Reading.{PortStream, all_skipped, items_of, port_stream, cells_in, fulls_of}
+use Rattle.deformatter.specs.Reading.{PortStream, all_skipped, items_of, port_stream, cells_in}
 use Rattle.port_reader.specs.Reading.{bare_cell, port_reading, cells_of}
 
 -- a full synchronisation has just ended: it is the last item, and no bytes follow it

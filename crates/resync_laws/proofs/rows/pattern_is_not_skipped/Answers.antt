@@ -1,4 +1,4 @@
-use Rattle.std.proofs.Common.{◌≡◌, ◌-◌, ℕ, List, [], ◌∷◌, ◌++◌, length, length-append, refl, ◌∙◌, ap, inl, inr, arith, true, false}
+use Rattle.std.proofs.Common.{◌≡◌, ◌-◌, List, [], ◌∷◌, length, length-append, refl, ◌∙◌, ap, inl, inr, arith, true, false}
 use Rattle.std.specs.Prelude.{codes}
 use Rattle.trace_values.specs.Hex.{hex}
 use Rattle.trace_values.specs.Placed.{Placed, placed}

@@ -1,4 +1,4 @@
-use Rattle.std.proofs.Common.{◌≡◌, List, [], ◌∷◌, ◌++◌, refl, None}
+use Rattle.std.proofs.Common.{◌≡◌, List, [], ◌∷◌, ◌++◌, refl}
 use Rattle.trace_values.specs.Placed.{Place, Placed, placed}
 use Rattle.trace_values.specs.Reading.{Splits, reading}
 use Rattle.trace_values.proofs.Readings as readings
