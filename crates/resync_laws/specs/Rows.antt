@@ -1,5 +1,5 @@
 -- Worked rows of sources and their rests, in text.
-use Rattle.std.specs.Prelude.{ℕ, List, drop, map, Bool, true, false, Option, option_map, is_none}
+use Rattle.std.specs.Prelude.{ℕ, List, codes, drop, map, Bool, true, false, Option, option_map, is_none}
 use Rattle.trace_values.specs.declared.fault.Reason.{Reason}
 use Rattle.trace_values.specs.Hex.{hex}
 use Rattle.trace_values.specs.Placed.{Place, placed}
@@ -10,6 +10,14 @@ use Rattle.stp_grammar.specs.declared.packet.Order.{Order}
 use Rattle.stp_grammar.specs.declared.item.StpItem.{StpItem}
 use Rattle.stp_grammar.specs.declared.item.StpItem.TheVariants.{Datum}
 use Rattle.stp_codec.specs.Reading.{items_in}
+
+-- a D64 of nibbles F, an ASYNC and VERSION 4
+abbrev pub ones : List ℕ
+ones = codes "F7 FF FF FF FF FF FF FF FF FF FF FF FF FF FF FF FF FF FF F0 00 04"
+
+-- VERSION 3, M8 5, a D8, an ASYNC, a D8, VERSION 3, a D8
+abbrev pub two_versions : List ℕ
+two_versions = codes "0F 30 01 45 14 FF FF FF FF FF FF FF FF FF FF 0F 44 F2 00 43 34"
 
 -- what a text reads as from its first byte on
 abbrev pub itm_whole : List ℕ → Stream ItmPacket

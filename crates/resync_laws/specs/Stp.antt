@@ -1,5 +1,5 @@
--- Lost fronts of a source of STP packets (MIPI System Trace Protocol, version 2; the table of packets and what they tell
--- of later ones is this project's profile), nibble by nibble.
+-- Lost fronts of a source of STP packets (MIPI System Trace Protocol, version 2; the table of packets and what they
+-- tell of later ones is this project's profile), nibble by nibble.
 use Rattle.std.specs.Prelude.{◌≡◌, ◌⊎◌, ℕ, ◌-◌, ◌≤◌, List, [], ◌∷◌, ◌++◌, length, replicate, Bool, true, false, None}
 use Rattle.std.specs.List.{AllByRecursion}
 use Rattle.trace_values.specs.Placed.{Place, Placed, units_of}
@@ -95,7 +95,8 @@ pub record ItemsLock (order : Order) (hunts : Bool) (lost rest front : List Plac
     locked = true;
   }
   pub agree : (more : List Placed) →
-      ItemsAgree (carried attribute [] packets.early) packets.last.place (packets.later more) (whole_later more) (rest_later more)
+      ItemsAgree (carried attribute [] packets.early) packets.last.place (packets.later more)
+      (whole_later more) (rest_later more)
 
 -- What a hunt in the rest reads as items, where these nibbles before it are lost: without an ASYNC in the rest it skips
 -- all nibbles; else it locks at the first.

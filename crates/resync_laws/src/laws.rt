@@ -22,16 +22,16 @@ ghost use Rattle.resync_laws.specs.Stp as stp;
 pub use resync_ports::laws::{port_pattern_law, port_rest_law};
 use stp_grammar::packet::Order;
 
-/// In a list of ITM packets followed by a tail, `00 00 00 00 00 80` ends at the last byte of each synchronisation packet,
-/// and nowhere else.
+/// In a list of ITM packets followed by a tail, `00 00 00 00 00 80` ends at the last byte of each synchronisation
+/// packet, and nowhere else.
 pub fn itm_pattern_law()
     ensures { EndsOnly (InUnits itm_spelling.Spells) (λ r. itm_spelling.why (units_of r))
         (pattern_of itm_reading.pattern) Sync }
 {}
 
-/// Where all bytes of a source read as ITM packets without a fault, from the first one on or after a hunt, a hunt in any
-/// rest of them reads what the whole reads, from the first synchronisation packet on that has its last six bytes in the
-/// rest.
+/// Where all bytes of a source read as ITM packets without a fault, from the first one on or after a hunt, a hunt in
+/// any rest of them reads what the whole reads, from the first synchronisation packet on that has its last six bytes
+/// in the rest.
 pub fn itm_rest_law()
     ensures rest { (hunts : Bool) (lost rest : List Placed) →
         (itm_reading.packets_in hunts (lost ++ rest)).fault ≡ None → IsRest (itm.hunting hunts) lost rest }
@@ -51,10 +51,10 @@ pub fn stp_pattern_law(order: Order)
     ensures few { stp.OnlyInAsync order 18 }
 {}
 
-/// Where all nibbles of a source read as STP packets without a fault, from the first one on or after a hunt, a hunt in any
-/// rest of them reads the packets that the whole reads, from the first ASYNC on that has its last 22 nibbles in the rest.
-/// The items are those of the whole from the first VERSION after that ASYNC on, and between the two those of the same
-/// packets with nothing known before them.
+/// Where all nibbles of a source read as STP packets without a fault, from the first one on or after a hunt, a hunt in
+/// any rest of them reads the packets that the whole reads, from the first ASYNC on that has its last 22 nibbles in
+/// the rest. The items are those of the whole from the first VERSION after that ASYNC on, and between the two those of
+/// the same packets with nothing known before them.
 pub fn stp_rest_law(order: Order)
     ensures packets { (hunts : Bool) (lost rest : List Placed) →
         (stp_reading.packets_in order hunts (lost ++ rest)).fault ≡ None → IsRest (stp.hunting order hunts) lost rest }

@@ -99,8 +99,8 @@ rest_mode Aligned = Hunt
 rest_mode Bare = Bare
 
 -- What the cells of the rest are, against those of the whole. From a point on, the first cell of the rest that has an
--- ID, they are the same; before it cells are gone, or have lost their IDs. So of each source the rest has the bytes that
--- the whole has from that point on.
+-- ID, they are the same; before it cells are gone, or have lost their IDs. So of each source the rest has the bytes
+-- that the whole has from that point on.
 pub record CellsRest (whole rest : List Cell) : Type 0 where
   pub gone : List Cell
   pub hidden : List Cell

@@ -19,8 +19,8 @@ pub fn port_pattern_law()
 {}
 
 /// Where a whole capture has no fault, any of its rests is read by a hunt as the whole is, from the first full
-/// synchronisation on that is in the rest: with the same cells, but that those before the first ID of the rest have none.
-/// After the first cell that has an ID, all have one.
+/// synchronisation on that is in the rest: with the same cells, but that those before the first ID of the rest have
+/// none. After the first cell that has an ID, all have one.
 pub fn port_rest_law()
     ensures rest { (mode : FramesMode) (lost rest : List Placed) → (port_reading mode (lost ++ rest)).fault ≡ None →
         IsPortRest mode lost rest }

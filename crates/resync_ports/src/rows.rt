@@ -1,46 +1,46 @@
 //! Worked rows of captures and their rests, which the checker computes.
 
-ghost use Rattle.std.specs.Prelude.{◌≡◌, [], ◌∷◌, None, Some, codes, true, false};
+ghost use Rattle.std.specs.Prelude.{◌≡◌, [], ◌∷◌, None, Some, true, false};
 ghost use Rattle.frame_grammar.specs.Port.{Full, Spells, why};
 ghost use Rattle.resync_streams.specs.Fronts.{BeginsOnly};
-ghost use Rattle.resync_ports.specs.Rows.{whole, left, frames_of, syncs_of, end_of};
+ghost use Rattle.resync_ports.specs.Rows.{whole, left, frames_of, syncs_of, end_of, two_frames, three_synchronisations, packets_in_frames};
 
 /// Two frames, each after a full synchronisation. The first names ID 1 at once, and the second ID 2 at its index 4.
 ///
-/// With the first ten bytes lost, in the middle of the first frame, the hunt skips the rest of it, and locks at the second
-/// full synchronisation. The bytes before the second frame's ID are then of no known source.
+/// With the first ten bytes lost, in the middle of the first frame, the hunt skips the rest of it, and locks at the
+/// second full synchronisation. The bytes before the second frame's ID are then of no known source.
 pub fn cut_in_a_frame()
-    ensures whole { frames_of (whole (codes "FF FF FF 7F 03 41 00 00 00 00 00 00 00 00 00 00 00 00 00 00 FF FF FF 7F 42 43 44 45 05 46 00 00 00 00 00 00 00 00 00 00")) ≡
+    ensures whole { frames_of (whole two_frames) ≡
         ((5, Some 1, 1, 65) ∷ (6, Some 1, 1, 0) ∷ (7, Some 1, 1, 0) ∷ (8, Some 1, 1, 0) ∷ (9, Some 1, 1, 0)
         ∷ (10, Some 1, 1, 0) ∷ (11, Some 1, 1, 0) ∷ (12, Some 1, 1, 0) ∷ (13, Some 1, 1, 0) ∷ (14, Some 1, 1, 0)
         ∷ (15, Some 1, 1, 0) ∷ (16, Some 1, 1, 0) ∷ (17, Some 1, 1, 0) ∷ (18, Some 1, 1, 0) ∷ [])
         ∷ ((24, Some 1, 0, 66) ∷ (25, Some 1, 0, 67) ∷ (26, Some 1, 0, 68) ∷ (27, Some 1, 0, 69) ∷ (29, Some 2, 1, 70)
         ∷ (30, Some 2, 1, 0) ∷ (31, Some 2, 1, 0) ∷ (32, Some 2, 1, 0) ∷ (33, Some 2, 1, 0) ∷ (34, Some 2, 1, 0)
         ∷ (35, Some 2, 1, 0) ∷ (36, Some 2, 1, 0) ∷ (37, Some 2, 1, 0) ∷ (38, Some 2, 1, 0) ∷ []) ∷ [] }
-    ensures rest { frames_of (left 10 (codes "FF FF FF 7F 03 41 00 00 00 00 00 00 00 00 00 00 00 00 00 00 FF FF FF 7F 42 43 44 45 05 46 00 00 00 00 00 00 00 00 00 00")) ≡
+    ensures rest { frames_of (left 10 two_frames) ≡
         ((24, None, 0, 66) ∷ (25, None, 0, 67) ∷ (26, None, 0, 68) ∷ (27, None, 0, 69) ∷ (29, Some 2, 1, 70)
         ∷ (30, Some 2, 1, 0) ∷ (31, Some 2, 1, 0) ∷ (32, Some 2, 1, 0) ∷ (33, Some 2, 1, 0) ∷ (34, Some 2, 1, 0)
         ∷ (35, Some 2, 1, 0) ∷ (36, Some 2, 1, 0) ∷ (37, Some 2, 1, 0) ∷ (38, Some 2, 1, 0) ∷ []) ∷ [] }
-    ensures end { end_of (left 10 (codes "FF FF FF 7F 03 41 00 00 00 00 00 00 00 00 00 00 00 00 00 00 FF FF FF 7F 42 43 44 45 05 46 00 00 00 00 00 00 00 00 00 00")) ≡ (true, 10, 0, None) }
+    ensures end { end_of (left 10 two_frames) ≡ (true, 10, 0, None) }
 {}
 
 /// A half synchronisation between two full ones, without the bytes before it, without its first byte too, and with only
 /// three bytes of the second full one left, which are none.
 pub fn cut_at_a_half_synchronisation()
-    ensures whole { (syncs_of (whole (codes "FF FF FF 7F FF 7F FF FF FF 7F")) ≡ (2, 1))
-        × (end_of (whole (codes "FF FF FF 7F FF 7F FF FF FF 7F")) ≡ (true, 0, 0, None)) }
-    ensures before { (syncs_of (left 4 (codes "FF FF FF 7F FF 7F FF FF FF 7F")) ≡ (1, 0))
-        × (end_of (left 4 (codes "FF FF FF 7F FF 7F FF FF FF 7F")) ≡ (true, 2, 0, None)) }
-    ensures inside { (syncs_of (left 5 (codes "FF FF FF 7F FF 7F FF FF FF 7F")) ≡ (1, 0))
-        × (end_of (left 5 (codes "FF FF FF 7F FF 7F FF FF FF 7F")) ≡ (true, 1, 0, None)) }
-    ensures none { (syncs_of (left 7 (codes "FF FF FF 7F FF 7F FF FF FF 7F")) ≡ (0, 0))
-        × (end_of (left 7 (codes "FF FF FF 7F FF 7F FF FF FF 7F")) ≡ (false, 3, 0, None)) }
+    ensures whole { (syncs_of (whole three_synchronisations) ≡ (2, 1))
+        × (end_of (whole three_synchronisations) ≡ (true, 0, 0, None)) }
+    ensures before { (syncs_of (left 4 three_synchronisations) ≡ (1, 0))
+        × (end_of (left 4 three_synchronisations) ≡ (true, 2, 0, None)) }
+    ensures inside { (syncs_of (left 5 three_synchronisations) ≡ (1, 0))
+        × (end_of (left 5 three_synchronisations) ≡ (true, 1, 0, None)) }
+    ensures none { (syncs_of (left 7 three_synchronisations) ≡ (0, 0))
+        × (end_of (left 7 three_synchronisations) ≡ (false, 3, 0, None)) }
 {}
 
 /// Two full synchronisations, each with a frame after it, without the first byte: the first one is not whole, and its
 /// frame is skipped.
 pub fn cut_in_a_full_synchronisation()
-    ensures { end_of (left 1 (codes "FF FF FF 7F 03 00 00 00 00 00 80 03 00 00 00 00 00 00 00 00 FF FF FF 7F 03 00 00 80 00 41 00 00 00 00 00 80 01 00 00 04")) ≡ (true, 19, 0, None) }
+    ensures { end_of (left 1 packets_in_frames) ≡ (true, 19, 0, None) }
 {}
 
 /// With one FF less the pattern would not tell: `FF FF 7F` is in the middle of a full synchronisation too.
