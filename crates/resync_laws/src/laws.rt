@@ -13,7 +13,7 @@ ghost use Rattle.itm_codec.specs.Reading as itm_reading;
 ghost use Rattle.stp_grammar.specs.declared.packet.StpPacket.TheVariants.{Async};
 ghost use Rattle.stp_grammar.specs.Spelling as stp_spelling;
 ghost use Rattle.stp_codec.specs.Reading as stp_reading;
-ghost use Rattle.resync_streams.specs.Fronts.{EndsOnly, IsRest};
+ghost use Rattle.resync_streams.specs.Fronts.{EndsOnly, IsRest, IsRestInWords};
 ghost use Rattle.resync_ports.specs.Port.{rest_mode};
 ghost use Rattle.resync_laws.specs.Capture.{source_bytes};
 ghost use Rattle.resync_laws.specs.Itm as itm;
@@ -33,6 +33,8 @@ pub fn itm_pattern_law()
 /// any rest of them reads what the whole reads, from the first synchronisation packet on that has its last six bytes
 /// in the rest.
 pub fn itm_rest_law()
+    ensures words { IsRestInWords (InUnits itm_spelling.Spells) (λ r. itm_spelling.why (units_of r))
+        (pattern_of itm_reading.pattern) Sync }
     ensures rest { (hunts : Bool) (lost rest : List Placed) →
         (itm_reading.packets_in hunts (lost ++ rest)).fault ≡ None → IsRest (itm.hunting hunts) lost rest }
     ensures capture { (mode : FramesMode) (hunts : Bool) (id : ℕ) (lost rest : List Placed) →
@@ -56,6 +58,8 @@ pub fn stp_pattern_law(order: Order)
 /// the rest. The items are those of the whole from the first VERSION after that ASYNC on, and between the two those of
 /// the same packets with nothing known before them.
 pub fn stp_rest_law(order: Order)
+    ensures words { IsRestInWords (InUnits (stp_spelling.Spells order)) (λ r. stp_spelling.why (units_of r))
+        (pattern_of stp_reading.pattern) Async }
     ensures packets { (hunts : Bool) (lost rest : List Placed) →
         (stp_reading.packets_in order hunts (lost ++ rest)).fault ≡ None → IsRest (stp.hunting order hunts) lost rest }
     ensures items { (hunts : Bool) (lost rest : List Placed) →

@@ -9,7 +9,7 @@ ghost use Rattle.capture_plan.specs.declared.frames.FramesMode.{FramesMode};
 ghost use Rattle.frame_grammar.specs.Port.{Full, Spells, why};
 ghost use Rattle.port_sync.specs.Hunting.{pattern};
 ghost use Rattle.port_reader.specs.Reading.{port_reading, cells_of};
-ghost use Rattle.resync_streams.specs.Fronts.{BeginsOnly};
+ghost use Rattle.resync_streams.specs.Fronts.{BeginsOnly, IsRestInWords};
 ghost use Rattle.resync_ports.specs.Port.{BeginsNamed, HasId, IsPortRest, rest_mode, CellsRest};
 
 /// In a list of frames and synchronisations followed by a tail, `FF FF FF 7F` is at the first byte of each full
@@ -22,6 +22,7 @@ pub fn port_pattern_law()
 /// synchronisation on that is in the rest: with the same cells, but that those before the first ID of the rest have
 /// none. After the first cell that has an ID, all have one.
 pub fn port_rest_law()
+    ensures words { IsRestInWords Spells why (pattern_of pattern) Full }
     ensures rest { (mode : FramesMode) (lost rest : List Placed) → (port_reading mode (lost ++ rest)).fault ≡ None →
         IsPortRest mode lost rest }
     ensures cells { (mode : FramesMode) (lost rest : List Placed) → (port_reading mode (lost ++ rest)).fault ≡ None →

@@ -4,3 +4,4 @@ pub mod Locking
 pub mod Resting
 pub mod Running
 pub mod Neighbours
+pub mod Words

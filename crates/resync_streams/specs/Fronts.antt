@@ -2,7 +2,7 @@
 use Rattle.std.specs.Prelude.{◌≡◌, ◌↔◌, ◌⊎◌, ℕ, ◌-◌, ◌≤◌, List, [], ◌∷◌, ◌++◌, length, true, false, None}
 use Rattle.trace_values.specs.declared.fault.Reason.{Reason}
 use Rattle.trace_values.specs.Placed.{Place, Placed, units_of}
-use Rattle.trace_values.specs.Hunt.{EndsWith}
+use Rattle.trace_values.specs.Hunt.{EndsWith, IsNowhere, IsFirst}
 use Rattle.trace_values.specs.Reading.{Reading, Splits, IsReading}
 use Rattle.trace_values.specs.Stream.{Stream, Said, Notice, Kept, kept}
 
@@ -103,3 +103,32 @@ abbrev pub IsRest : {V : Type 0} → Hunting V → List Placed → List Placed �
 IsRest h lost rest =
     (((front : List Placed) → IsSync h lost rest front → ⊥) × (h.rest rest ≡ all_skipped (length rest)))
     ⊎ ((front : List Placed) × Locks h lost rest front)
+
+-- The same in the words of the grammar alone, where `whole` is what all units read as. The pattern is in the rest. Its
+-- least place is after these units, and it ends a v of the whole. The units from there on read as that v, all that
+-- follows it in the whole, and the whole's tail.
+pub record ReadsOn {V : Type 0} (Spells : V → List Placed → Type 0) (why : List Placed → Reason) (pattern : List ℕ)
+    (v : V) (lost rest : List Placed) (whole : Reading V) : Type 0 where
+  pub before : List Placed
+  pub sync : List Placed
+  pub more : List Placed
+  pub parts : rest ≡ before ++ (sync ++ more)
+  pub sync_is : units_of sync ≡ pattern
+  pub first : IsFirst pattern (units_of rest) (units_of before)
+  pub early : List (V × Place)
+  pub place : Place
+  pub later : List (V × Place)
+  pub whole_items : whole.items ≡ early ++ ((v, place) ∷ later)
+  pub spelled : Splits Spells (early ++ (v, place) ∷ []) [] (lost ++ (before ++ sync))
+  pub rest_reads : IsReading Spells why (sync ++ more)
+      (record { items = (v, place) ∷ later; rest = whole.rest; fault = None })
+
+-- The pattern is nowhere in the rest, and no v of the whole has its last units, as many as the pattern has, in the rest;
+-- or the rest reads on.
+abbrev pub IsRestInWords : {V : Type 0} → (V → List Placed → Type 0) → (List Placed → Reason) → List ℕ → V → Type 0
+IsRestInWords {V} Spells why pattern v =
+    (lost rest : List Placed) (whole : Reading V) → IsReading Spells why (lost ++ rest) whole → whole.fault ≡ None →
+    (IsNowhere pattern (units_of rest)
+    × ((front more : List Placed) → rest ≡ front ++ more → length pattern ≤ length front →
+    EndsAt Spells v whole.items (lost ++ front) → ⊥))
+    ⊎ ReadsOn Spells why pattern v lost rest whole
