@@ -21,12 +21,12 @@ use Rattle.stp_grammar.proofs.Attributing.{version_more}
 use Rattle.resync_laws.specs.Stp.{items_after, HasNoVersion, BeginsWithVersion}
 
 -- what items see of the packets up to them
-record Alike (ps qs : List StpPacket) : Type 0 where
-  version : version_of ps ≡ version_of qs
-  masters : list_any begins_master ps ≡ list_any begins_master qs
-  since_master : after_last begins_master ps ≡ after_last begins_master qs
-  channels : list_any begins_channel ps ≡ list_any begins_channel qs
-  since_channel : after_last begins_channel ps ≡ after_last begins_channel qs
+pub record Alike (ps qs : List StpPacket) : Type 0 where
+  pub version : version_of ps ≡ version_of qs
+  pub masters : list_any begins_master ps ≡ list_any begins_master qs
+  pub since_master : after_last begins_master ps ≡ after_last begins_master qs
+  pub channels : list_any begins_channel ps ≡ list_any begins_channel qs
+  pub since_channel : after_last begins_channel ps ≡ after_last begins_channel qs
 
 -- the same of one more packet
 module _ (test : StpPacket → Bool) (ps qs : List StpPacket) (p : StpPacket) where
@@ -51,7 +51,7 @@ module _ (test : StpPacket → Bool) (ps qs : List StpPacket) (p : StpPacket) wh
     by true k = after_told k
     by false k = after_same test ps p k ∙ ap (λ (l : List StpPacket). l ++ p ∷ []) e ∙ sym (after_same test qs p k)
 
-alike_push : (ps qs : List StpPacket) (p : StpPacket) → Alike ps qs → Alike (ps ++ p ∷ []) (qs ++ p ∷ [])
+pub alike_push : (ps qs : List StpPacket) (p : StpPacket) → Alike ps qs → Alike (ps ++ p ∷ []) (qs ++ p ∷ [])
 alike_push ps qs p a = record {
   version = version_more ps p ∙ ap (λ o. next_version o p) a.version ∙ sym (version_more qs p);
   masters = any_push begins_master ps qs p a.masters;
@@ -61,7 +61,7 @@ alike_push ps qs p a = record {
 }
 
 -- a VERSION begins all of it anew
-alike_anew : (ps qs : List StpPacket) (v : ℕ) → Alike (ps ++ Plain Version v ∷ []) (qs ++ Plain Version v ∷ [])
+pub alike_anew : (ps qs : List StpPacket) (v : ℕ) → Alike (ps ++ Plain Version v ∷ []) (qs ++ Plain Version v ∷ [])
 alike_anew ps qs v = record {
   version = version_more ps (Plain Version v) ∙ sym (version_more qs (Plain Version v));
   masters = any_told begins_master ps qs (Plain Version v) refl;
@@ -95,7 +95,7 @@ place_alike : (ps qs : List StpPacket) → Alike ps qs → place_of ps ≡ place
 place_alike ps qs a =
     ap (λ m. record { master = m; channel = channel_of ps }) (master_alike ps qs a) ∙ ap (λ c. record { master = master_of qs; channel = c }) (channel_alike ps qs a)
 
-item_alike : (ps qs : List StpPacket) (p : StpPacket) → Alike ps qs → item_of ps p ≡ item_of qs p
+pub item_alike : (ps qs : List StpPacket) (p : StpPacket) → Alike ps qs → item_of ps p ≡ item_of qs p
 item_alike ps qs Async a = refl
 item_alike ps qs (Plain row v) a = ap (λ o. item_with o NoStamp row v) (place_alike ps qs a)
 item_alike ps qs (Stamped row v size word) a =
@@ -127,7 +127,7 @@ pub record Split (packets : List (StpPacket × Place)) : Type 0 where
   pub no_version : HasNoVersion until
   pub version : BeginsWithVersion from
 
-version_cases : (p : StpPacket) → (version_in p ≡ None) ⊎ ((v : ℕ) × (p ≡ Plain Version v))
+pub version_cases : (p : StpPacket) → (version_in p ≡ None) ⊎ ((v : ℕ) × (p ≡ Plain Version v))
 version_cases (Plain Version v) = inr (v, refl)
 version_cases Async = inl refl
 version_cases (Plain row v) = inl refl

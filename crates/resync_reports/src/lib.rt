@@ -1,0 +1,4 @@
+//! Lost fronts of whole captures: what the report of the rest of a capture has, against the whole's.
+#![tactic(auto)]
+
+pub mod laws;
