@@ -22,13 +22,15 @@ use Rattle.source_events.proofs.Running.{end_within}
 use Rattle.source_events.proofs.Settling.{all_sound}
 use Rattle.source_events.proofs.Growth.{no_stop}
 use Rattle.source_events.proofs.Placing.{RunsBetween, frames_between}
-use Rattle.resync_reports.specs.Following.{key, items_of, is_from, from_point, point_of}
+use Rattle.resync_reports.proofs.FollowTerms.{items_of, from_point, point_of}
+use Rattle.resync_reports.specs.Points.{key, is_from}
 use Rattle.source_events.specs.Report.{is_item}
-use Rattle.resync_reports.specs.Merged.{items_among, from_points, items, AllFrom}
+use Rattle.resync_reports.proofs.EventTerms.{items, AllFrom}
+use Rattle.resync_reports.specs.Points.{items_among, from_points}
 use Rattle.resync_reports.specs.Moved.{later_reading}
 use Rattle.resync_ports.specs.Port.{rest_mode}
 use Rattle.capture_plan.specs.declared.frames.FramesMode.{FramesMode}
-use Rattle.resync_reports.specs.Report.{Resumed, rests, CanAll, AllRead, IsQuiet, AreQuiet, IsQuietAt, PartLaw, first_named, points_in, port_of, ExactLaw}
+use Rattle.resync_reports.proofs.ReportTerms.{Resumed, rests, CanAll, AllRead, IsQuiet, AreQuiet, IsQuietAt, PartLaw, first_named, points_in, port_of, ExactLaw}
 use Rattle.resync_reports.proofs.Listing.{lifted_items, grow, list_rises, list_bytes}
 use Rattle.resync_reports.proofs.Merging.{all_behind, part_behind}
 use Rattle.resync_reports.proofs.Reporting.{rest_laws, report_items}

@@ -1,3 +1,11 @@
+pub mod FollowTerms
+pub mod EventTerms
+pub mod RunTerms
+pub mod ReportTerms
+pub mod LiftTerms
+pub mod ItemTerms
+pub mod PlanTerms
+pub mod MovedTerms
 pub mod Following
 pub mod Merging
 pub mod RunsLater
@@ -15,4 +23,5 @@ pub mod Lifting
 pub mod Nibbling
 pub mod Recipe
 pub mod Mapped
+pub mod Looking
 pub mod ReportRest

@@ -19,11 +19,12 @@ use Rattle.source_events.proofs.Least.{AreSound}
 use Rattle.source_events.proofs.Merges.{test_same, test_other, same_or_not}
 use Rattle.source_events.proofs.Family.{all_raw, of_cases, list_own, list_other}
 use Rattle.source_events.proofs.Running.{end_within}
-use Rattle.resync_reports.specs.Runs.{unnamed_run}
-use Rattle.resync_reports.specs.Following.{key, Between, items_of, is_from, from_point}
+use Rattle.resync_reports.proofs.RunTerms.{unnamed_run}
+use Rattle.resync_reports.proofs.FollowTerms.{Between, items_of, from_point}
+use Rattle.resync_reports.specs.Points.{key, is_from}
 use Rattle.source_events.specs.Report.{is_item}
-use Rattle.resync_reports.specs.Merged.{OnlyGrow, items, told_from, EachFollows}
-use Rattle.resync_reports.specs.Report.{Resumed, wholes, rests, AreBytes, CanAll, first_named, points_in}
+use Rattle.resync_reports.proofs.EventTerms.{OnlyGrow, items, told_from, EachFollows}
+use Rattle.resync_reports.proofs.ReportTerms.{Resumed, wholes, rests, AreBytes, CanAll, first_named, points_in}
 use Rattle.resync_reports.proofs.Sources.{one_follows}
 use Rattle.resync_reports.proofs.Following.{between_down}
 

@@ -2,7 +2,8 @@
 use Rattle.std.proofs.Common.{◌≡◌, ℕ, ◌≤◌, List, [], ◌∷◌, ◌++◌, map, refl, ◌∙◌, ap, arith, Bool, Option, None, Some}
 use Rattle.trace_values.specs.Placed.{Place, Placed}
 use Rattle.trace_values.specs.Stream.{Stream, Said, Notice, Kept, AllAt}
-use Rattle.resync_reports.specs.Moved.{later_place, later_stream}
+use Rattle.resync_reports.specs.Moved.{later_place}
+use Rattle.resync_reports.proofs.MovedTerms.{later_stream}
 use Rattle.trace_values.specs.Decorated.{kept_if, decorate, carried, decorated}
 
 module _ {V W T : Type 0} (step : T → V → Option W × T) where

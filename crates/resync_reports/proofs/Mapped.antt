@@ -47,11 +47,13 @@ use Rattle.resync_laws.proofs.StpSyncing.{stp_syncs}
 use Rattle.resync_laws.proofs.StpItems.{Alike, alike_push, alike_anew, item_alike, version_cases}
 use Rattle.resync_laws.proofs.Captures.{itm_rest}
 use Rattle.resync_laws.proofs.StpResting.{is_items_rest}
-use Rattle.resync_reports.specs.Following.{IsRising, items_of, point_of, point_in}
-use Rattle.resync_reports.specs.Merged.{AllFrom}
-use Rattle.resync_reports.specs.Decorated.{first_item, IsMarked, BeginsAnew}
-use Rattle.resync_reports.specs.Report.{Resumed, wholes, rests, CanResume, CanAll, AllRead, IsQuiet, IsQuietAt}
-use Rattle.resync_reports.specs.Plan.{is_version_item, is_version, resumed_by, sources_of, reads, rest_plan}
+use Rattle.resync_reports.proofs.FollowTerms.{IsRising, items_of, point_of}
+use Rattle.resync_reports.specs.Points.{point_in}
+use Rattle.resync_reports.proofs.EventTerms.{AllFrom}
+use Rattle.resync_reports.proofs.ItemTerms.{first_item, IsMarked, BeginsAnew}
+use Rattle.resync_reports.proofs.ReportTerms.{Resumed, wholes, rests, CanResume, CanAll, AllRead, IsQuiet, IsQuietAt}
+use Rattle.resync_reports.proofs.PlanTerms.{is_version_item, is_version, resumed_by, sources_of, unit_reads}
+use Rattle.resync_reports.specs.Report.{rest_plan}
 use Rattle.resync_reports.proofs.Lifting.{can_as}
 use Rattle.resync_reports.proofs.Nibbling.{nibbles_append, nibbles_rise, nibbles_shift}
 use Rattle.resync_reports.proofs.Recipe as recipe
@@ -65,7 +67,7 @@ nibbles_are : AreUnits nibbles_of
 nibbles_are = record { append = nibbles_append; rising = nibbles_rise; shifts = nibbles_shift }
 
 -- a point is where it was
-point_as : {V W : Type 0} (f : V → W) (g : List (Said V × Place)) → point_in (given_as f g) ≡ point_in g
+pub point_as : {V W : Type 0} (f : V → W) (g : List (Said V × Place)) → point_in (given_as f g) ≡ point_in g
 point_as f [] = refl
 point_as f ((Notice n, at) ∷ g) = refl
 point_as f ((Kept v, at) ∷ g) = point_as f g
@@ -162,15 +164,15 @@ module _ (plan : Plan) where
   pub can_all : CanAll (sources_of plan)
   can_all = can_each (mapped_ids plan)
 
-  read_one : (s : ℕ × SourceKind) (u w : List Placed) → ((resumed_by plan s).whole (u ++ w)).fault ≡ None → reads plan (resumed_by plan s).kind u w
+  read_one : (s : ℕ × SourceKind) (u w : List Placed) → ((resumed_by plan s).whole (u ++ w)).fault ≡ None → unit_reads plan (resumed_by plan s).kind u w
   read_one (id, Itm) u w e = itm_rest h u w e
   read_one (id, Stp) u w e = is_items_rest plan.order h u w e
 
-  read_each : (ids : List (ℕ × SourceKind)) → AllRead (reads plan) (map (λ s. resumed_by plan s) ids)
+  read_each : (ids : List (ℕ × SourceKind)) → AllRead (unit_reads plan) (map (λ s. resumed_by plan s) ids)
   read_each [] = tt
   read_each (s ∷ ids) = (read_one s, read_each ids)
 
-  pub all_read : AllRead (reads plan) (sources_of plan)
+  pub all_read : AllRead (unit_reads plan) (sources_of plan)
   all_read = read_each (mapped_ids plan)
 
   -- they are the plan's, and in the rest those of the plan that reads it

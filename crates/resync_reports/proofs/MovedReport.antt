@@ -25,8 +25,9 @@ use Rattle.source_events.specs.declared.event.What.TheVariants.{Raw, Trigger}
 use Rattle.source_events.specs.Runs.{joined, runs_of, all_runs, id_of, bytes_of, placed_run, last_at, list_of}
 use Rattle.source_events.specs.Merge.{told, grown, merged_from}
 use Rattle.source_events.specs.Report.{what_of, lifted, triggers, raw_events, raws, events, all_events}
-use Rattle.resync_reports.specs.Moved.{later_place, later, later_item, later_port, later_cell, later_run, later_reading, later_event}
-use Rattle.resync_reports.specs.Report.{Resumed, rests, CanAll}
+use Rattle.resync_reports.specs.Moved.{later_place, later_cell, later_run, later_reading, later_event}
+use Rattle.resync_reports.proofs.MovedTerms.{later, later_item, later_port}
+use Rattle.resync_reports.proofs.ReportTerms.{Resumed, rests, CanAll}
 use Rattle.resync_reports.proofs.Moving.{port_later}
 
 pub placed_later : (c at : ℕ) (bytes : List ℕ) → placed_from (at + c) bytes ≡ map (λ b. later c b) (placed_from at bytes)

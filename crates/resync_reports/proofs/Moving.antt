@@ -19,7 +19,8 @@ use Rattle.frame_grammar.specs.Port.{PortItem, Full, Half, Frame, Part, Between,
 use Rattle.frame_grammar.specs.Reading.{halves_in}
 use Rattle.port_sync.specs.Hunting.{pattern}
 use Rattle.deformatter.specs.Reading.{PortStream, items_of, read_behind, port_hunted, port_stream}
-use Rattle.resync_reports.specs.Moved.{later_place, later, later_fault, later_stream, later_item, later_port}
+use Rattle.resync_reports.specs.Moved.{later_place, later_fault}
+use Rattle.resync_reports.proofs.MovedTerms.{later, later_stream, later_item, later_port}
 
 module _ (c : ℕ) {S V : Type 0} (hs : S → S) (hv : V → V) where
   abbrev pub moved : Next S V → Next S V

@@ -2,9 +2,10 @@
 use Rattle.std.proofs.Common.{◌≡◌, ℕ, suc, ◌+◌, ◌*◌, ◌≤◌, List, [], ◌∷◌, ◌++◌, map, refl, ap, arith}
 use Rattle.std.specs.Prelude.{◌/◌, ◌%◌}
 use Rattle.trace_values.specs.Placed.{Placed}
-use Rattle.resync_reports.specs.Following.{key, Between, IsRising}
-use Rattle.resync_reports.specs.Moved.{later}
-use Rattle.resync_reports.specs.Report.{AreBytes}
+use Rattle.resync_reports.proofs.FollowTerms.{Between, IsRising}
+use Rattle.resync_reports.specs.Points.{key}
+use Rattle.resync_reports.proofs.MovedTerms.{later}
+use Rattle.resync_reports.proofs.ReportTerms.{AreBytes}
 use Rattle.trace_values.specs.Nibbles.{nibbles_of}
 
 abbrev low : Placed → Placed

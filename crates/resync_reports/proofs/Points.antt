@@ -9,7 +9,8 @@ use Rattle.port_reader.specs.Reading.{port_reading}
 use Rattle.port_reader.specs.Runs.{HaveRuns}
 use Rattle.port_reader.proofs.ReadingLaws.{frames_have_runs}
 use Rattle.source_events.specs.Runs.{joined, runs_of, all_runs}
-use Rattle.resync_reports.specs.Report.{first_named, first_in, PortPointLaw}
+use Rattle.resync_reports.proofs.ReportTerms.{first_named, PortPointLaw}
+use Rattle.resync_reports.specs.Points.{first_in}
 use Rattle.resync_reports.proofs.RunsLater.{begins}
 
 -- neighbours of one run have one ID

@@ -13,11 +13,11 @@ use Rattle.trace_values.proofs.Readings as readings
 use Rattle.source_events.specs.Report.{IsLawful}
 use Rattle.resync_streams.specs.Fronts.{Hunting, IsRest}
 use Rattle.resync_streams.specs.Syncing.{Syncs}
-use Rattle.resync_reports.specs.Following.{IsRising, items_of, point_of, from_point, Follows}
-use Rattle.resync_reports.specs.Merged.{AllFrom}
-use Rattle.resync_reports.specs.Moved.{later, later_stream}
-use Rattle.resync_reports.specs.Report.{Resumed, AreBytes, CanResume, IsQuiet}
-use Rattle.resync_reports.specs.Decorated.{AllFit, BeginsAnew, resumed_made}
+use Rattle.resync_reports.proofs.FollowTerms.{IsRising, items_of, point_of, from_point, Follows}
+use Rattle.resync_reports.proofs.EventTerms.{AllFrom}
+use Rattle.resync_reports.proofs.MovedTerms.{later, later_stream}
+use Rattle.resync_reports.proofs.ReportTerms.{Resumed, AreBytes, CanResume, IsQuiet}
+use Rattle.resync_reports.proofs.ItemTerms.{AllFit, BeginsAnew, resumed_made}
 use Rattle.resync_streams.proofs.Locking as locking
 use Rattle.resync_streams.proofs.Resting as resting
 use Rattle.resync_reports.proofs.Following as following

@@ -27,9 +27,9 @@ use Rattle.source_events.proofs.Settling.{all_sound}
 use Rattle.source_events.proofs.Growth.{no_stop}
 use Rattle.source_events.proofs.Placing.{frames_between}
 use Rattle.resync_ports.specs.Port.{IsPortRest, IsFramedRest, PortLocks, rest_mode}
-use Rattle.resync_reports.specs.Runs.{unnamed_run, RunsRest}
-use Rattle.resync_reports.specs.Merged.{items_among, from_points}
-use Rattle.resync_reports.specs.Report.{Resumed, wholes, rests, CanAll, points_in, AllRead, AllRest, FollowsReport}
+use Rattle.resync_reports.proofs.RunTerms.{unnamed_run, RunsRest}
+use Rattle.resync_reports.specs.Points.{items_among, from_points}
+use Rattle.resync_reports.proofs.ReportTerms.{Resumed, wholes, rests, CanAll, points_in, AllRead, AllRest, FollowsReport}
 use Rattle.resync_ports.proofs.Resting.{is_rest}
 use Rattle.resync_ports.proofs.Modes as ports
 use Rattle.resync_reports.proofs.RunsLater.{runs_parts, items_runs}

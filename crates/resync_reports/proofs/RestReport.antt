@@ -24,10 +24,11 @@ use Rattle.source_events.proofs.Settling.{lesser_none, source_none}
 use Rattle.source_events.proofs.Growth.{no_stop}
 use Rattle.resync_streams.specs.Fronts.{Hunting, IsRest}
 use Rattle.resync_ports.specs.Port.{rest_mode}
-use Rattle.resync_reports.specs.Following.{IsRising, items_of, point_of, from_point, Follows, FollowsFrom}
-use Rattle.resync_reports.specs.Merged.{items_among, from_points}
-use Rattle.resync_reports.specs.Moved.{later, later_place, later_item, later_fault, later_run, later_reading, later_event}
-use Rattle.resync_reports.specs.Report.{Resumed, wholes, rests, CanResume, CanAll, AllRead, points_in, port_of, RestLaw}
+use Rattle.resync_reports.proofs.FollowTerms.{IsRising, items_of, point_of, from_point, Follows, FollowsFrom}
+use Rattle.resync_reports.specs.Points.{items_among, from_points}
+use Rattle.resync_reports.specs.Moved.{later_place, later_fault, later_run, later_reading, later_event}
+use Rattle.resync_reports.proofs.MovedTerms.{later, later_item}
+use Rattle.resync_reports.proofs.ReportTerms.{Resumed, wholes, rests, CanResume, CanAll, AllRead, points_in, port_of, RestLaw}
 use Rattle.resync_reports.proofs.Following.{from_twice}
 use Rattle.resync_reports.proofs.Moving.{port_later}
 use Rattle.resync_reports.proofs.MovedReport.{placed_later, reading_later, all_later, list_later, report_later}

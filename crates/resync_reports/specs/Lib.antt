@@ -1,8 +1,3 @@
-pub mod Following
-pub mod Merged
+pub mod Points
 pub mod Moved
-pub mod Runs
 pub mod Report
-pub mod Lifting
-pub mod Decorated
-pub mod Plan

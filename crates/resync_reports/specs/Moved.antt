@@ -1,49 +1,20 @@
--- The same bytes at offsets that are greater by one number.
+-- What is read of the same bytes at offsets that are greater by one number.
 use Rattle.std.specs.Prelude.{ℕ, ◌+◌, List, map, Option, None, Some}
 use Rattle.trace_values.specs.declared.fault.Reason.{Reason}
-use Rattle.trace_values.specs.Placed.{Place, Placed}
-use Rattle.trace_values.specs.Stream.{Stream}
-use Rattle.frame_grammar.specs.Port.{PortItem, Full, Half, Frame}
-use Rattle.deformatter.specs.Reading.{PortStream}
+use Rattle.trace_values.specs.Placed.{Place}
 use Rattle.trace_values.specs.declared.cell.Cell.{Cell}
 use Rattle.port_reader.specs.Reading.{PortReading}
 use Rattle.source_events.specs.declared.event.Event.{Event}
 
+-- a place and a fault there
 abbrev pub later_place : ℕ → Place → Place
 later_place c p = record { at = p.at + c; half = p.half }
-
-abbrev pub later : ℕ → Placed → Placed
-later c b = record { unit = b.unit; place = later_place c b.place }
 
 abbrev pub later_fault : ℕ → Option (Place × Reason) → Option (Place × Reason)
 later_fault c None = None
 later_fault c (Some f) = Some (later_place c f.0, f.1)
 
--- what a source gives, and its fault, at the later places
-abbrev pub later_stream : {V : Type 0} → ℕ → Stream V → Stream V
-later_stream c s = record {
-  given = map (λ x. (x.0, later_place c x.1)) s.given;
-  fault = later_fault c s.fault;
-  held = s.held;
-  skipped = s.skipped;
-  locked = s.locked;
-}
-
-abbrev pub later_item : ℕ → PortItem → PortItem
-later_item c Full = Full
-later_item c Half = Half
-later_item c (Frame f halves) = Frame (map (λ b. later c b) f) halves
-
-abbrev pub later_port : ℕ → PortStream → PortStream
-later_port c s = record {
-  items = map (λ x. (later_item c x.0, later_place c x.1)) s.items;
-  halves = s.halves;
-  fault = later_fault c s.fault;
-  tail = s.tail;
-  skipped = s.skipped;
-  locked = s.locked;
-}
-
+-- the cells, the reading and the events there
 abbrev pub later_cell : ℕ → Cell → Cell
 later_cell c cell = record { at = cell.at + c; id = cell.id; run = cell.run; byte = cell.byte }
 

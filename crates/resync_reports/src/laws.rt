@@ -5,7 +5,7 @@ ghost use Rattle.trace_values.specs.Placed.{placed};
 ghost use Rattle.port_reader.specs.Reading.{port_reading};
 ghost use Rattle.source_events.specs.Plan.{sources_by};
 ghost use Rattle.source_events.specs.Report.{stop_in};
-ghost use Rattle.resync_reports.specs.Plan.{ReportFollows};
+ghost use Rattle.resync_reports.specs.Report.{ReportFollows};
 
 use source_events::Plan;
 

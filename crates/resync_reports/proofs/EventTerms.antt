@@ -6,25 +6,13 @@ use Rattle.source_events.specs.declared.event.Event.{Event}
 use Rattle.source_events.specs.declared.event.What.{What}
 use Rattle.source_events.specs.Merge.{place_of}
 use Rattle.source_events.specs.Report.{is_item}
-use Rattle.resync_reports.specs.Following.{is_from}
+use Rattle.resync_reports.specs.Points.{is_from}
 
 -- each source's events only grow
 abbrev pub OnlyGrow : {X V : Type 0} → (ℕ → List X → List (What V × Place)) → Type 0
 OnlyGrow {X} {V} events = (x : ℕ) (before : List X) (m : X) → (more : List (What V × Place)) × (events x (before ++ m ∷ []) ≡ events x before ++ more)
 
--- the events that are no notices, and of these the ones from their source's point on
-abbrev pub items_among : {V : Type 0} → List (Event V) → List (Event V)
-items_among es = filter (λ e. is_item e.what) es
-
--- the point of a source; the port has none
-abbrev pub point_at : (ℕ → Option Place) → Option ℕ → Option Place
-point_at points None = None
-point_at points (Some x) = points x
-
-abbrev pub from_points : {V : Type 0} → (ℕ → Option Place) → List (Event V) → List (Event V)
-from_points points es = filter (λ e. is_from (point_at points e.source) (place_of e)) es
-
--- the same of one source
+-- what one source gives that is no notice, and of it what is from a point on
 abbrev pub items : {V : Type 0} → List (What V × Place) → List (What V × Place)
 items es = filter (λ e. is_item e.0) es
 

@@ -3,7 +3,7 @@ use Rattle.std.specs.Prelude.{◌≡◌, List, [], ◌∷◌, Bool, true, false,
 use Rattle.trace_values.specs.Placed.{Place}
 use Rattle.trace_values.specs.Stream.{Said, Notice, Kept, Stream}
 use Rattle.trace_values.specs.Decorated.{decorated}
-use Rattle.resync_reports.specs.Report.{Resumed}
+use Rattle.resync_reports.proofs.ReportTerms.{Resumed}
 
 -- the place of the first item of some kind
 abbrev pub first_item : {W : Type 0} → (W → Bool) → List (Said W × Place) → Option Place
