@@ -1,3 +1,4 @@
 pub mod Points
 pub mod Moved
 pub mod Report
+pub mod Rows
