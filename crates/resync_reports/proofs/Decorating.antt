@@ -15,7 +15,7 @@ use Rattle.resync_reports.proofs.ItemTerms.{first_item, IsMarked, AllFit, Begins
 abbrev at_item : {V : Type 0} → Said V × Place → ℕ
 at_item x = key x.1
 
--- items that stand before a place, and at it or behind it
+-- items before a place, and from it on
 abbrev AllUnder : {V : Type 0} → Place → List (Said V × Place) → Type 0
 AllUnder p [] = Unit {0}
 AllUnder p (x ∷ xs) = (is_from (Some p) x.1 ≡ false) × AllUnder p xs
@@ -193,10 +193,10 @@ module _ {V W T : Type 0} (step : T → V → Option W × T) where
     front_anew ((Notice n, p) ∷ xs) ys h = h
     front_anew ((Kept v, p) ∷ xs) ys h = h
 
-    first_behind : (xs : List (Said V × Place)) (lo hi : ℕ) (p : Place) → Between at_item lo hi xs → first_item resets xs ≡ Some p → lo ≤ key p
-    first_behind [] lo hi p b e = cc
-    first_behind ((Notice n, q) ∷ xs) lo hi p b e = (let k = first_behind xs (suc (key q)) hi p b.1 e in let l = b.0 in omega arith)
-    first_behind ((Kept v, q) ∷ xs) lo hi p b e = by (resets v) e (λ k. first_behind xs (suc (key q)) hi p b.1 k) where
+    first_after : (xs : List (Said V × Place)) (lo hi : ℕ) (p : Place) → Between at_item lo hi xs → first_item resets xs ≡ Some p → lo ≤ key p
+    first_after [] lo hi p b e = cc
+    first_after ((Notice n, q) ∷ xs) lo hi p b e = (let k = first_after xs (suc (key q)) hi p b.1 e in let l = b.0 in omega arith)
+    first_after ((Kept v, q) ∷ xs) lo hi p b e = by (resets v) e (λ k. first_after xs (suc (key q)) hi p b.1 k) where
       by : (t : Bool) → cond t (Some q) (first_item resets xs) ≡ Some p → (first_item resets xs ≡ Some p → suc (key q) ≤ key p) → lo ≤ key p
       by true k more = (let s : q ≡ p = cc in let l : lo ≤ key q = b.0 in subst (λ (z : Place). lo ≤ key z) s l)
       by false k more = (let m = more k in let l = b.0 in omega arith)
@@ -205,14 +205,14 @@ module _ {V W T : Type 0} (step : T → V → Option W × T) where
     anew_from : (xs : List (Said V × Place)) (lo hi : ℕ) (p : Place) → Between at_item lo hi xs → AllKept xs → first_item resets xs ≡ Some p → IsAnew (from_point (Some p) xs)
     anew_from [] lo hi p b i e = tt
     anew_from ((Notice n, q) ∷ xs) lo hi p b i e = absurd i
-    anew_from ((Kept v, q) ∷ xs) lo hi p b i e = by (resets v) refl e (λ k. first_behind xs (suc (key q)) hi p b.1 k) (λ k. anew_from xs (suc (key q)) hi p b.1 i k) where
+    anew_from ((Kept v, q) ∷ xs) lo hi p b i e = by (resets v) refl e (λ k. first_after xs (suc (key q)) hi p b.1 k) (λ k. anew_from xs (suc (key q)) hi p b.1 i k) where
       by : (t : Bool) → resets v ≡ t → cond t (Some q) (first_item resets xs) ≡ Some p → (first_item resets xs ≡ Some p → suc (key q) ≤ key p) → (first_item resets xs ≡ Some p → IsAnew (from_point (Some p) xs)) →
           IsAnew (cond (is_from (Some p) q) ((Kept v, q) ∷ from_point (Some p) xs) (from_point (Some p) xs))
-      by true r k behind more =
+      by true r k after more =
           let s : q ≡ p = cc in
           subst (λ (b : Bool). IsAnew (cond b ((Kept v, q) ∷ from_point (Some p) xs) (from_point (Some p) xs))) (sym (le_true (key p) (key q) (subst (λ (z : Place). key z ≤ key q) s (let l : key q ≤ key q = omega arith in l)))) r
-      by false r k behind more =
-          subst (λ (b : Bool). IsAnew (cond b ((Kept v, q) ∷ from_point (Some p) xs) (from_point (Some p) xs))) (sym (le_false (key p) (key q) (let l = behind k in omega arith))) (more k)
+      by false r k after more =
+          subst (λ (b : Bool). IsAnew (cond b ((Kept v, q) ∷ from_point (Some p) xs) (from_point (Some p) xs))) (sym (le_false (key p) (key q) (let l = after k in omega arith))) (more k)
 
     -- the point is not before the lock
     first_from : (xs : List (Said V × Place)) (o : Option Place) (p : Place) → AllFrom o xs → first_item resets xs ≡ Some p → is_from o p ≡ true
@@ -243,8 +243,8 @@ module _ {V W T : Type 0} (step : T → V → Option W × T) where
           let whole_all : all ≡ from_point (point_of (rest (w ++ z))) (items_of (whole (u ++ (w ++ z))).given) =
           follow u (w ++ z) [] (subst (λ (l : List Placed). IsRising (u ++ l)) (sym nil) rising) (ap (λ (l : List Placed). (whole (u ++ l)).fault) nil ∙ sound)
           ∙ ap (λ (l : List Placed). from_point (point_of (rest l)) (items_of (whole (u ++ (w ++ z))).given)) nil in
-          let behind : is_from (point_of (rest (w ++ z))) p ≡ true = first_from all (point_of (rest (w ++ z))) p (subst (λ (l : List (Said V × Place)). AllFrom (point_of (rest (w ++ z))) l) (sym whole_all) (from_all (point_of (rest (w ++ z))) (items_of (whole (u ++ (w ++ z))).given))) e in
-          let same : from_point (Some p) a ≡ from_point (Some p) b = ap (from_point (Some p)) (follow u w z rising sound) ∙ later (point_of (rest (w ++ z))) p b behind in
+          let after : is_from (point_of (rest (w ++ z))) p ≡ true = first_from all (point_of (rest (w ++ z))) p (subst (λ (l : List (Said V × Place)). AllFrom (point_of (rest (w ++ z))) l) (sym whole_all) (from_all (point_of (rest (w ++ z))) (items_of (whole (u ++ (w ++ z))).given))) e in
+          let same : from_point (Some p) a ≡ from_point (Some p) b = ap (from_point (Some p)) (follow u w z rising sound) ∙ later (point_of (rest (w ++ z))) p b after in
           let grown = more w z in
           let parts : all ≡ a ++ items_of grown.0 = ap items_of grown.1 ∙ filter-append (λ (x : Said V × Place). is_kept x.0) (rest w).given grown.0 in
           let begun : IsAnew (from_point (Some p) a ++ from_point (Some p) (items_of grown.0)) =

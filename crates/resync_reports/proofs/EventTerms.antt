@@ -1,10 +1,8 @@
 -- Events of all sources, from each source's point on and without the notices.
-use Rattle.std.specs.Prelude.{◌≡◌, ℕ, List, [], ◌∷◌, ◌++◌, Bool, true, false, Option, None, Some}
+use Rattle.std.specs.Prelude.{◌≡◌, ℕ, List, [], ◌∷◌, ◌++◌, true, Option}
 use Rattle.std.specs.List.{filter}
 use Rattle.trace_values.specs.Placed.{Place}
-use Rattle.source_events.specs.declared.event.Event.{Event}
 use Rattle.source_events.specs.declared.event.What.{What}
-use Rattle.source_events.specs.Merge.{place_of}
 use Rattle.source_events.specs.Report.{is_item}
 use Rattle.resync_reports.specs.Points.{is_from}
 
@@ -21,10 +19,10 @@ told_from point es = filter (λ e. is_from point e.1) es
 
 -- with each front of the later parts, from its point on each source's items in the rest are those in the whole
 abbrev pub EachFollows : {X V : Type 0} → (ℕ → List X → List (What V × Place)) → (ℕ → List X → List (What V × Place)) → (ℕ → Option Place) → List X → List X → List X → Type 0
-EachFollows {X} whole_events rest_events points whole_before rest_before later = (x : ℕ) (front behind : List X) → later ≡ front ++ behind →
+EachFollows {X} whole_events rest_events points whole_before rest_before later = (x : ℕ) (front after : List X) → later ≡ front ++ after →
     told_from (points x) (items (rest_events x (rest_before ++ front))) ≡ told_from (points x) (items (whole_events x (whole_before ++ front)))
 
--- all of these stand at the point or behind it
+-- all of these are from the point on
 abbrev pub AllFrom : {W : Type 0} → Option Place → List (W × Place) → Type 0
 AllFrom point [] = Unit {0}
 AllFrom point (e ∷ es) = (is_from point e.1 ≡ true) × AllFrom point es

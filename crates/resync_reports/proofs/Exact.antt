@@ -11,18 +11,17 @@ use Rattle.port_reader.proofs.RisingLaws.{reading_rises}
 use Rattle.source_events.specs.declared.event.Event.{Event}
 use Rattle.source_events.specs.declared.event.What.{What}
 use Rattle.source_events.specs.Runs.{id_of, list_of, end_of}
-use Rattle.source_events.specs.Merge.{part, AllIn, IsAtMost, start_of, cut}
-use Rattle.source_events.specs.Report.{lifted, raw_events, raws, events, lesser, of_source, least_fault, all_events}
+use Rattle.source_events.specs.Merge.{part, AllIn, IsAtMost, start_of}
+use Rattle.source_events.specs.Report.{lifted, raw_events, raws, events, lesser, of_source, least_fault}
 use Rattle.source_events.proofs.Least.{AreSound}
 use Rattle.source_events.specs.Report.{runs_in, stop_in, report}
 use Rattle.source_events.proofs.Family.{all_raw}
-use Rattle.source_events.proofs.Least.{Full as Stop}
 use Rattle.source_events.proofs.Merges.{same_or_not, test_same, test_other}
 use Rattle.source_events.proofs.Running.{end_within}
 use Rattle.source_events.proofs.Settling.{all_sound}
 use Rattle.source_events.proofs.Growth.{no_stop}
 use Rattle.source_events.proofs.Placing.{RunsBetween, frames_between}
-use Rattle.resync_reports.proofs.FollowTerms.{items_of, from_point, point_of}
+use Rattle.resync_reports.proofs.FollowTerms.{items_of, from_point}
 use Rattle.resync_reports.specs.Points.{key, is_from}
 use Rattle.source_events.specs.Report.{is_item}
 use Rattle.resync_reports.proofs.EventTerms.{items, AllFrom}
@@ -30,13 +29,13 @@ use Rattle.resync_reports.specs.Points.{items_among, from_points}
 use Rattle.resync_reports.specs.Moved.{later_reading}
 use Rattle.resync_ports.specs.Port.{rest_mode}
 use Rattle.capture_plan.specs.declared.frames.FramesMode.{FramesMode}
-use Rattle.resync_reports.proofs.ReportTerms.{Resumed, rests, CanAll, AllRead, IsQuiet, AreQuiet, IsQuietAt, PartLaw, first_named, points_in, port_of, ExactLaw}
+use Rattle.resync_reports.proofs.ReportTerms.{Resumed, rests, CanAll, AllRead, AreQuiet, IsQuietAt, PartLaw, first_named, points_in, port_of, ExactLaw}
 use Rattle.resync_reports.proofs.Listing.{lifted_items, grow, list_rises, list_bytes}
-use Rattle.resync_reports.proofs.Merging.{all_behind, part_behind}
+use Rattle.resync_reports.proofs.Merging.{all_from_points, part_from_points}
 use Rattle.resync_reports.proofs.Reporting.{rest_laws, report_items}
 use Rattle.resync_reports.proofs.RestReport.{rest_law, from_start}
 
--- what is taken from a point on stands there
+-- what is taken from a point on is from there on
 from_all : {V : Type 0} (o : Option Place) (xs : List (Said V × Place)) → AllFrom o (from_point o xs)
 from_all o [] = tt
 from_all o (x ∷ xs) = by (is_from o x.1) refl (from_all o xs) where
@@ -48,7 +47,7 @@ lifted_all : {V : Type 0} (o : Option Place) (xs : List (Said V × Place)) → A
 lifted_all o [] h = tt
 lifted_all o (x ∷ xs) h = (h.0, lifted_all o xs h.1)
 
--- all of these stand from an offset on
+-- all of these are from an offset on
 abbrev FromAt : {W : Type 0} → ℕ → List (W × Place) → Type 0
 FromAt n [] = Unit {0}
 FromAt n (e ∷ es) = (n ≤ e.1.at) × FromAt n es
@@ -132,7 +131,7 @@ module _ {V : Type 0} where
       let r = port_reading mode u in
       let sound = sound_in ps r hi b e in
       ap (from_points (points_in ps (runs_in r))) (report_items (rests ps) mode u e)
-      ∙ all_behind (points_in ps (runs_in r)) id_of (events (rests ps)) (grow (rests ps) (rest_laws ps can)) (runs_in r) [] (λ x. sources_all ps can x (quiet_at ps quiet x) (runs_in r) hi b sound)
+      ∙ all_from_points (points_in ps (runs_in r)) id_of (events (rests ps)) (grow (rests ps) (rest_laws ps can)) (runs_in r) [] (λ x. sources_all ps can x (quiet_at ps quiet x) (runs_in r) hi b sound)
       ∙ sym (report_items (rests ps) mode u e)
 
   part_items : {K : Type 0} (ps : List (Resumed K V)) → CanAll ps → (x : ℕ) → IsQuietAt ps x → (mode : FramesMode) (u : List Placed) (hi : ℕ) → RunsBetween 0 hi (runs_in (port_reading mode u)) → stop_in (rests ps) (port_reading mode u) ≡ None →
@@ -141,7 +140,7 @@ module _ {V : Type 0} where
       let r = port_reading mode u in
       let sound = sound_in ps r hi b e in
       ap (λ (l : List (Event V)). part (Some x) (from_points (points_in ps (runs_in r)) l)) (report_items (rests ps) mode u e)
-      ∙ part_behind (points_in ps (runs_in r)) id_of (events (rests ps)) (grow (rests ps) (rest_laws ps can)) x (runs_in r) [] (sources_all ps can x quiet (runs_in r) hi b sound)
+      ∙ part_from_points (points_in ps (runs_in r)) id_of (events (rests ps)) (grow (rests ps) (rest_laws ps can)) x (runs_in r) [] (sources_all ps can x quiet (runs_in r) hi b sound)
       ∙ ap (part (Some x)) (sym (report_items (rests ps) mode u e))
 
   no_words : {K : Type 0} (ps : List (Resumed K V)) → AllRead (λ k u w. Unit {0}) ps

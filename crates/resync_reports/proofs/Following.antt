@@ -191,14 +191,14 @@ module _ {S V : Type 0} (Spells : V → List Placed → Type 0) (why : List Plac
       let whole = l.first.is_sync in
       let point : point_of (stream true (w ++ z)) ≡ Some l.last.place = ap (λ (x : List Placed). point_of (stream true x)) whole.parts ∙ ap (λ (s : Stream V). point_of s) (l.rest_on whole.more) in
       elim (fronts_meet front w whole.more z (sym whole.parts)) [
-        | inl m ↦ behind m.0 m.1 ∙ ap (λ (o : Option Place). from_point o (items_of (stream h (u ++ w)).given)) (sym point)
+        | inl m ↦ after m.0 m.1 ∙ ap (λ (o : Option Place). from_point o (items_of (stream h (u ++ w)).given)) (sym point)
         | inr m ↦ before m.0 m.1 m.2 ∙ ap (λ (o : Option Place). from_point o (items_of (stream h (u ++ w)).given)) (sym point)
       ] where
         parts : (mid : ℕ) × Between (λ b. key b.place) 0 mid (u ++ w) × Between (λ b. key b.place) mid rising.0 z
         parts = between_append (λ (c : Placed). key c.place) (u ++ w) z 0 rising.0 (subst (λ (x : List Placed). Between (λ b. key b.place) 0 rising.0 x) (sym (append_assoc u w z)) rising.1)
 
-        behind : (c : List Placed) → w ≡ front ++ c → items_of (stream true w).given ≡ from_point (Some l.last.place) (items_of (stream h (u ++ w)).given)
-        behind c e =
+        after : (c : List Placed) → w ≡ front ++ c → items_of (stream true w).given ≡ from_point (Some l.last.place) (items_of (stream h (u ++ w)).given)
+        after c e =
             let given : items_of (stream h (u ++ w)).given ≡ items_of l.early ++ ((Kept v, l.last.place) ∷ kept (l.later c)) =
             ap (λ (x : List Placed). items_of (stream h (u ++ x)).given) e ∙ ap items_of (l.whole_on c) ∙ items_append l.early ((Kept v, l.last.place) ∷ kept (l.later c))
             ∙ ap (λ (y : List (Said V × Place)). items_of l.early ++ y) (items_kept ((v, l.last.place) ∷ l.later c)) in
@@ -216,9 +216,9 @@ module _ {S V : Type 0} (Spells : V → List Placed → Type 0) (why : List Plac
             (let m = l.first.least other (whole_more h u w z other s) in let n = ap length e in let o = length-append w (g ∷ c) in let i = ap length s.parts in let j = length-append other s.more in let q : length (g ∷ c) ≡ length c + 1 = omega arith in omega (arith, m, n, o, i, j, q))) in
             let x = last_of c g in
             let same : l.last ≡ x.1 = (same_from_push l.start (w ++ x.0) l.last x.1 (sym l.ends ∙ e ∙ ap (λ (y : List Placed). w ++ y) x.2 ∙ sym (append_assoc w x.0 (x.1 ∷ [])))).1 in
-            let behind_w : z ≡ (x.0 ++ x.1 ∷ []) ++ l.first.is_sync.more =
+            let after_w : z ≡ (x.0 ++ x.1 ∷ []) ++ l.first.is_sync.more =
             append_cancel_left w z ((x.0 ++ x.1 ∷ []) ++ l.first.is_sync.more) (l.first.is_sync.parts ∙ ap (λ (y : List Placed). y ++ l.first.is_sync.more) (e ∙ ap (λ (y : List Placed). w ++ y) x.2) ∙ append_assoc w (x.0 ++ x.1 ∷ []) l.first.is_sync.more) in
-            let one = between_append (λ (y : Placed). key y.place) (x.0 ++ x.1 ∷ []) l.first.is_sync.more parts.0 rising.0 (subst (λ (y : List Placed). Between (λ b. key b.place) parts.0 rising.0 y) behind_w parts.2) in
+            let one = between_append (λ (y : Placed). key y.place) (x.0 ++ x.1 ∷ []) l.first.is_sync.more parts.0 rising.0 (subst (λ (y : List Placed). Between (λ b. key b.place) parts.0 rising.0 y) after_w parts.2) in
             let two = between_append (λ (y : Placed). key y.place) x.0 (x.1 ∷ []) parts.0 one.0 one.1 in
             let low = between_le (λ (y : Placed). key y.place) x.0 parts.0 two.0 two.1 in
             let high : two.0 ≤ key x.1.place = two.2.0 in

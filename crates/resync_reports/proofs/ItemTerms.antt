@@ -1,7 +1,7 @@
 -- A stream whose values are made into others in order, by a state that goes along; a value may give none.
 use Rattle.std.specs.Prelude.{◌≡◌, List, [], ◌∷◌, Bool, true, false, if◌then◌else◌, Option, None, Some}
 use Rattle.trace_values.specs.Placed.{Place}
-use Rattle.trace_values.specs.Stream.{Said, Notice, Kept, Stream}
+use Rattle.trace_values.specs.Stream.{Said, Notice, Kept}
 use Rattle.trace_values.specs.Decorated.{decorated}
 use Rattle.resync_reports.proofs.ReportTerms.{Resumed}
 
@@ -23,7 +23,8 @@ AllFit fits [] = Unit {0}
 AllFit fits ((Notice n, p) ∷ xs) = AllFit fits xs
 AllFit fits ((Kept v, p) ∷ xs) = fits v × AllFit fits xs
 
--- Values that begin the state anew: what they and all values behind them give doesn't depend on what stood before. They alone give items of this kind.
+-- Values that begin the state anew: what they and all values after them give does not depend on what came before. They
+-- alone give items of this kind.
 pub record BeginsAnew {V W T : Type 0} (step : T → V → Option W × T) (fits : V → Type 0) (resets : V → Bool) (marks : W → Bool) (Alike : T → T → Type 0) : Type 0 where
   pub marked : (t : T) (v : V) → fits v → IsMarked marks (resets v) (step t v).0
   pub anew : (s t : T) (v : V) → resets v ≡ true → ((step s v).0 ≡ (step t v).0) × Alike (step s v).1 (step t v).1

@@ -1,7 +1,7 @@
 -- A source whose packets are some of a greater type, as those of each kind of source are.
-use Rattle.std.specs.Prelude.{List, map, Option}
+use Rattle.std.specs.Prelude.{Option}
 use Rattle.trace_values.specs.Placed.{Place}
-use Rattle.trace_values.specs.Stream.{Stream, Said, Notice, Kept}
+use Rattle.trace_values.specs.Stream.{Stream}
 use Rattle.source_events.specs.Packets.{stream_as}
 use Rattle.resync_reports.proofs.ReportTerms.{Resumed}
 

@@ -106,7 +106,7 @@ list_bytes x (run ∷ runs) = by (is_source x (id_of run)) (list_bytes x runs) w
   by true h = run_bytes run (list_of x runs) h
   by false h = h
 
--- runs from an offset on, and what stands before it
+-- runs up to an offset, and from it on
 pub runs_cut_at : (a b : List (List Cell)) (n k : ℕ) → RunsBetween n k (a ++ b) → (m : ℕ) × RunsBetween n m a × RunsBetween m k b
 runs_cut_at [] b n k r = (n, (let q : n ≤ n = omega arith in q), r)
 runs_cut_at (run ∷ a) b n k r = let s = runs_cut_at a b (end_of run) k r.1 in (s.0, (r.0, s.1), s.2)
@@ -199,9 +199,9 @@ module _ (before hidden named : List (List Cell)) (hi : ℕ) (between : RunsBetw
   abbrev rest_runs : List (List Cell)
   rest_runs = map unnamed_run hidden ++ named
 
-  raw_follows : {V : Type 0} (x : ℕ) (front behind : List (List Cell)) → named ≡ front ++ behind →
+  raw_follows : {V : Type 0} (x : ℕ) (front after : List (List Cell)) → named ≡ front ++ after →
       told_from (first_named rest_runs) (items (raws {V = V} x (map unnamed_run hidden ++ front))) ≡ told_from (first_named rest_runs) (items (raws x (before ++ front)))
-  raw_follows {V} x front behind e =
+  raw_follows {V} x front after e =
       let s = runs_cut_at before named 0 hi between in
       let o = first_named rest_runs in
       let none = none_early {V = V} x s.0 before s.1 o (subst (λ (q : Option Place). FromOn s.0 q) (sym (hidden_first hidden named)) (named_from named s.0 hi s.2)) in
@@ -218,10 +218,10 @@ module _ (before hidden named : List (List Cell)) (hi : ℕ) (between : RunsBetw
 
   -- each source
   pub each_follows : {K V : Type 0} (ps : List (Resumed K V)) → CanAll ps → AreSound (wholes ps) (before ++ named) → EachFollows (events (wholes ps)) (events (rests ps)) (points_in ps rest_runs) before (map unnamed_run hidden) named
-  each_follows [] can sound x front behind e = raw_follows x front behind e
-  each_follows {V} (p ∷ ps) can sound x front behind e = elim (same_or_not x p.id) [
+  each_follows [] can sound x front after e = raw_follows x front after e
+  each_follows {V} (p ∷ ps) can sound x front after e = elim (same_or_not x p.id) [
     | inl i ↦ by true (test_same x p.id i) (own i)
-    | inr n ↦ by false (test_other x p.id n) (each_follows ps can.1 sound.1 x front behind e)
+    | inr n ↦ by false (test_other x p.id n) (each_follows ps can.1 sound.1 x front after e)
   ] where
     by : (b : Bool) → (x == p.id) ≡ b → Same p ps x front b → Same p ps x front (x == p.id)
     by b t k = subst (λ (z : Bool). Same p ps x front z) (sym t) k
@@ -230,5 +230,5 @@ module _ (before hidden named : List (List Cell)) (hi : ℕ) (between : RunsBetw
     own i =
         let point = p.point (p.rest (p.units (list_of x rest_runs))) in
         lifted_both point (p.rest (p.units (list_of x (map unnamed_run hidden ++ front)))).given
-        ∙ ap lifted (one_follows p.point p.units can.0.append p.whole p.rest can.0.follows x before hidden named (can.0.rising (list_of x (before ++ named)) (list_bytes x (before ++ named)) (2 * hi, list_rises x (before ++ named) 0 hi between)) (ap (λ (z : ℕ). (p.whole (p.units (list_of z (before ++ named)))).fault) i ∙ sound.0) front behind e)
+        ∙ ap lifted (one_follows p.point p.units can.0.append p.whole p.rest can.0.follows x before hidden named (can.0.rising (list_of x (before ++ named)) (list_bytes x (before ++ named)) (2 * hi, list_rises x (before ++ named) 0 hi between)) (ap (λ (z : ℕ). (p.whole (p.units (list_of z (before ++ named)))).fault) i ∙ sound.0) front after e)
         ∙ sym (lifted_both point (p.whole (p.units (list_of x (before ++ front)))).given)

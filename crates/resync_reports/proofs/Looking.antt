@@ -3,7 +3,6 @@ use Rattle.std.proofs.Common.{◌≡◌, ℕ, List, [], ◌∷◌, ◌++◌, map
 use Rattle.std.specs.Prelude.{Option, None, Some, ◌==◌, ◌||◌}
 use Rattle.std.specs.List.{list_any}
 use Rattle.std.proofs.lemmas.Bool.Decides.{nat_tests}
-use Rattle.std.proofs.lemmas.List.{map-append}
 use Rattle.trace_values.specs.declared.cell.Cell.{Cell}
 use Rattle.trace_values.specs.Placed.{Place, Placed}
 use Rattle.trace_values.specs.Stream.{Said, Notice, Kept}
@@ -23,14 +22,14 @@ use Rattle.source_events.specs.declared.plan.SourceKind.{SourceKind}
 use Rattle.source_events.specs.declared.plan.SourceKind.TheVariants.{Itm, Stp}
 use Rattle.source_events.specs.Merge.{place_of}
 use Rattle.source_events.specs.Packets.{given_as}
-use Rattle.source_events.specs.Plan.{mapped_ids, stream_of, kind_of, sources_by}
+use Rattle.source_events.specs.Plan.{stream_of, kind_of, sources_by}
 use Rattle.source_events.specs.Report.{Mapped, runs_in}
 use Rattle.source_events.specs.Runs.{list_of}
 use Rattle.source_events.proofs.Least.{AreSound}
 use Rattle.source_events.proofs.RunNumbers.{lists_are}
 use Rattle.resync_reports.specs.Points.{point_in, first_version, first_in, point_by, point_of, is_from, point_at, from_points}
 use Rattle.resync_reports.proofs.ItemTerms.{first_item}
-use Rattle.resync_reports.proofs.ReportTerms.{first_named, points_in}
+use Rattle.resync_reports.proofs.ReportTerms.{points_in}
 use Rattle.resync_reports.proofs.PlanTerms.{is_version, resumed_by, sources_of}
 use Rattle.resync_reports.proofs.Mapped.{point_as}
 use Rattle.resync_reports.proofs.Points.{port_point}

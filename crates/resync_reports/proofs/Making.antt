@@ -1,10 +1,9 @@
 -- Items that are made of packets at later offsets are at later offsets.
-use Rattle.std.proofs.Common.{◌≡◌, ℕ, ◌≤◌, List, [], ◌∷◌, ◌++◌, map, refl, ◌∙◌, ap, arith, Bool, Option, None, Some}
-use Rattle.trace_values.specs.Placed.{Place, Placed}
-use Rattle.trace_values.specs.Stream.{Stream, Said, Notice, Kept, AllAt}
+use Rattle.std.proofs.Common.{◌≡◌, ℕ, List, [], ◌∷◌, map, refl, ◌∙◌, ap, Option, None, Some}
+use Rattle.trace_values.specs.Placed.{Place}
+use Rattle.trace_values.specs.Stream.{Said, Notice, Kept}
 use Rattle.resync_reports.specs.Moved.{later_place}
-use Rattle.resync_reports.proofs.MovedTerms.{later_stream}
-use Rattle.trace_values.specs.Decorated.{kept_if, decorate, carried, decorated}
+use Rattle.trace_values.specs.Decorated.{kept_if, decorate}
 
 module _ {V W T : Type 0} (step : T → V → Option W × T) where
   kept_later : (c : ℕ) (o : Option W) (p : Place) (xs : List (Said W × Place)) → kept_if o (later_place c p) (map (λ x. (x.0, later_place c x.1)) xs) ≡ map (λ x. (x.0, later_place c x.1)) (kept_if o p xs)

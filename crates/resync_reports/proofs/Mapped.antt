@@ -3,19 +3,16 @@ use Rattle.std.proofs.Common.{◌≡◌, ℕ, List, [], ◌∷◌, ◌++◌, map
 use Rattle.std.specs.Prelude.{Option, None, Some, ◌==◌, ◌||◌}
 use Rattle.std.specs.Option.{is_some}
 use Rattle.std.specs.List.{list_any}
-use Rattle.std.proofs.lemmas.List.{map-append}
 use Rattle.trace_values.specs.Placed.{Place, Placed, units_of}
 use Rattle.trace_values.specs.Grammar.{InUnits}
 use Rattle.trace_values.specs.Nibbles.{nibbles_of}
-use Rattle.trace_values.specs.Stream.{Stream, Said, Notice, Kept}
-use Rattle.trace_values.specs.Walk.{by_unit}
+use Rattle.trace_values.specs.Stream.{Said, Notice, Kept}
 use Rattle.capture_plan.specs.Modes.{packets_hunt}
 use Rattle.itm_grammar.specs.declared.packet.ItmPacket.TheVariants.{Sync}
 use Rattle.itm_grammar.specs.declared.partial.Partial.TheVariants.{Header}
 use Rattle.itm_grammar.specs.Spelling as itm
 use Rattle.itm_grammar.specs.Rule as itm_rule
 use Rattle.itm_codec.specs.Reading as itm_reading
-use Rattle.stp_grammar.specs.declared.packet.Order.{Order}
 use Rattle.stp_grammar.specs.declared.packet.Row.{Row}
 use Rattle.stp_grammar.specs.declared.packet.Row.TheVariants.{Null, Master8, MasterError, Channel8, Datum, Flag, Master16, GlobalError, Channel16, Version, NullStamp, Trigger, Frequency}
 use Rattle.stp_grammar.specs.declared.packet.StpPacket.{StpPacket}
@@ -29,7 +26,7 @@ use Rattle.stp_grammar.specs.Opcodes.{line_of}
 use Rattle.stp_grammar.specs.Shortest.{IsByRow}
 use Rattle.stp_grammar.specs.Spelling as stp
 use Rattle.stp_grammar.specs.Rule as stp_rule
-use Rattle.stp_grammar.specs.Attribution.{version_in, begins_master, place_of, stamp_of, item_with, attribute}
+use Rattle.stp_grammar.specs.Attribution.{begins_master, place_of, stamp_of, item_with, attribute}
 use Rattle.stp_grammar.proofs.ShortSpellings.{by_row}
 use Rattle.stp_codec.specs.Reading as stp_reading
 use Rattle.source_events.specs.declared.packet.Packet.{Packet}
@@ -37,7 +34,7 @@ use Rattle.source_events.specs.declared.packet.Packet.TheVariants.{Itm as ItmPac
 use Rattle.source_events.specs.declared.plan.Plan.{Plan}
 use Rattle.source_events.specs.declared.plan.SourceKind.{SourceKind}
 use Rattle.source_events.specs.declared.plan.SourceKind.TheVariants.{Itm, Stp}
-use Rattle.source_events.specs.Packets.{said_as, given_as, stream_as}
+use Rattle.source_events.specs.Packets.{given_as}
 use Rattle.source_events.specs.Plan.{mapped_ids, stream_of, sources_by}
 use Rattle.source_events.specs.Report.{Mapped}
 use Rattle.source_events.proofs.Merges.{test_same}
@@ -47,11 +44,11 @@ use Rattle.resync_laws.proofs.StpSyncing.{stp_syncs}
 use Rattle.resync_laws.proofs.StpItems.{Alike, alike_push, alike_anew, item_alike, version_cases}
 use Rattle.resync_laws.proofs.Captures.{itm_rest}
 use Rattle.resync_laws.proofs.StpResting.{is_items_rest}
-use Rattle.resync_reports.proofs.FollowTerms.{IsRising, items_of, point_of}
+use Rattle.resync_reports.proofs.FollowTerms.{items_of, point_of}
 use Rattle.resync_reports.specs.Points.{point_in}
 use Rattle.resync_reports.proofs.EventTerms.{AllFrom}
 use Rattle.resync_reports.proofs.ItemTerms.{first_item, IsMarked, BeginsAnew}
-use Rattle.resync_reports.proofs.ReportTerms.{Resumed, wholes, rests, CanResume, CanAll, AllRead, IsQuiet, IsQuietAt}
+use Rattle.resync_reports.proofs.ReportTerms.{wholes, rests, CanResume, CanAll, AllRead, IsQuiet, IsQuietAt}
 use Rattle.resync_reports.proofs.PlanTerms.{is_version_item, is_version, resumed_by, sources_of, unit_reads}
 use Rattle.resync_reports.specs.Report.{rest_plan}
 use Rattle.resync_reports.proofs.Lifting.{can_as}

@@ -45,9 +45,9 @@ module _ {V : Type 0} (points : ℕ → Option Place) where
     by true k = ap (λ (l : List (Event V)). record { at = e.1.at; half = e.1.half; source = Some x; what = e.0 } ∷ l) k
     by false k = k
 
-  told_behind : (x : ℕ) (es : List (What V × Place)) → from_points points (told (Some x) es) ≡ told (Some x) (told_from (points x) es)
-  told_behind x [] = refl
-  told_behind x (e ∷ es) = by (is_from (points x) e.1) (told_behind x es) where
+  told_after : (x : ℕ) (es : List (What V × Place)) → from_points points (told (Some x) es) ≡ told (Some x) (told_from (points x) es)
+  told_after x [] = refl
+  told_after x (e ∷ es) = by (is_from (points x) e.1) (told_after x es) where
     by : (b : Bool) → from_points points (told (Some x) es) ≡ told (Some x) (told_from (points x) es) → cond b (record { at = e.1.at; half = e.1.half; source = Some x; what = e.0 } ∷ from_points points (told (Some x) es)) (from_points points (told (Some x) es)) ≡ told (Some x) (cond b (e ∷ told_from (points x) es) (told_from (points x) es))
     by true k = ap (λ (l : List (Event V)). record { at = e.1.at; half = e.1.half; source = Some x; what = e.0 } ∷ l) k
     by false k = k
@@ -55,8 +55,8 @@ module _ {V : Type 0} (points : ℕ → Option Place) where
   items_append : (xs ys : List (What V × Place)) → items (xs ++ ys) ≡ items xs ++ items ys
   items_append xs ys = filter-append (λ (e : What V × Place). is_item e.0) xs ys
 
-  behind_append : (point : Option Place) (xs ys : List (What V × Place)) → told_from point (xs ++ ys) ≡ told_from point xs ++ told_from point ys
-  behind_append point xs ys = filter-append (λ (e : What V × Place). is_from point e.1) xs ys
+  from_append_events : (point : Option Place) (xs ys : List (What V × Place)) → told_from point (xs ++ ys) ≡ told_from point xs ++ told_from point ys
+  from_append_events point xs ys = filter-append (λ (e : What V × Place). is_from point e.1) xs ys
 
   all_append : (xs ys : List (Event V)) → items_among (xs ++ ys) ≡ items_among xs ++ items_among ys
   all_append xs ys = filter-append (λ (e : Event V). is_item e.what) xs ys
@@ -76,16 +76,16 @@ module _ {V : Type 0} (points : ℕ → Option Place) where
     given_more x before m =
         ap (λ (l : List (What V × Place)). told_from (points x) (items l)) (grow x before m).1
         ∙ ap (told_from (points x)) (items_append (events x before) (grow x before m).0)
-        ∙ behind_append (points x) (items (events x before)) (items (grow x before m).0)
+        ∙ from_append_events (points x) (items (events x before)) (items (grow x before m).0)
 
     grown_is : (x : ℕ) (before : List M) (m : M) → from_points points (items_among (grown events before m (Some x))) ≡ told (Some x) (told_from (points x) (items (grow x before m).0))
     grown_is x before m =
         ap (λ (l : List (Event V)). from_points points (items_among l)) (added x before m) ∙ ap (from_points points) (told_items x (grow x before m).0)
-        ∙ told_behind x (items (grow x before m).0)
+        ∙ told_after x (items (grow x before m).0)
 
     -- cells in which no source has come to its point
     nothing_left : (xs ys : List (What V × Place)) (point : Option Place) → told_from point (xs ++ ys) ≡ [] → (told_from point xs ≡ []) × (told_from point ys ≡ [])
-    nothing_left xs ys point e = both (told_from point xs) (told_from point ys) (sym (behind_append point xs ys) ∙ e) where
+    nothing_left xs ys point e = both (told_from point xs) (told_from point ys) (sym (from_append_events point xs ys) ∙ e) where
       both : (a b : List (What V × Place)) → a ++ b ≡ [] → (a ≡ []) × (b ≡ [])
       both [] b k = (refl, k)
       both (c ∷ a) b k = cc
@@ -104,7 +104,7 @@ module _ {V : Type 0} (points : ℕ → Option Place) where
         let g = grow x before m in
         let k = nothing_left (items (events x before)) (items g.0) (points x)
         (ap (told_from (points x)) (sym (items_append (events x before) g.0) ∙ ap (items) (sym g.1)) ∙ h x) in
-        ap (λ (l : List (Event V)). from_points points (items_among l)) (added x before m) ∙ ap (from_points points) (told_items x g.0) ∙ told_behind x (items g.0) ∙ ap (told (Some x)) k.1
+        ap (λ (l : List (Event V)). from_points points (items_among l)) (added x before m) ∙ ap (from_points points) (told_items x g.0) ∙ told_after x (items g.0) ∙ ap (told (Some x)) k.1
 
     none_before : (cells before : List M) → ((x : ℕ) → told_from (points x) (items (events x (before ++ cells))) ≡ []) →
         from_points points (items_among (merged_from source events before cells)) ≡ []
@@ -133,14 +133,14 @@ module _ {V : Type 0} (points : ℕ → Option Place) where
         let there : map source hidden ≡ map (λ m. None) hidden = cc in
         ap (λ (o : Option ℕ). grown events before m o ++ merged_from source events (before ++ m ∷ []) hidden) here ∙ hidden_adds hidden (before ++ m ∷ []) there
 
-    -- where all items of each source stand behind its point, all that are merged do
-    pub all_behind : (cells before : List M) → ((x : ℕ) → AllFrom (points x) (items (events x (before ++ cells)))) →
+    -- where all items of each source are from its point on, all that are merged are
+    pub all_from_points : (cells before : List M) → ((x : ℕ) → AllFrom (points x) (items (events x (before ++ cells)))) →
         from_points points (items_among (merged_from source events before cells)) ≡ items_among (merged_from source events before cells)
-    all_behind [] before h = refl
-    all_behind (m ∷ cells) before h =
+    all_from_points [] before h = refl
+    all_from_points (m ∷ cells) before h =
         both_append (grown events before m (source m)) (merged_from source events (before ++ m ∷ []) cells)
         ∙ ap (λ (l : List (Event V)). l ++ from_points points (items_among (merged_from source events (before ++ m ∷ []) cells))) (one (source m))
-        ∙ ap (λ (l : List (Event V)). items_among (grown events before m (source m)) ++ l) (all_behind cells (before ++ m ∷ []) (λ x. subst (λ (l : List M). AllFrom (points x) (items (events x l))) (sym (append_assoc before (m ∷ []) cells)) (h x)))
+        ∙ ap (λ (l : List (Event V)). items_among (grown events before m (source m)) ++ l) (all_from_points cells (before ++ m ∷ []) (λ x. subst (λ (l : List M). AllFrom (points x) (items (events x l))) (sym (append_assoc before (m ∷ []) cells)) (h x)))
         ∙ sym (all_append (grown events before m (source m)) (merged_from source events (before ++ m ∷ []) cells)) where
           own : (x : ℕ) → AllFrom (points x) (items (grow x before m).0)
           own x =
@@ -157,14 +157,14 @@ module _ {V : Type 0} (points : ℕ → Option Place) where
               grown_is x before m ∙ ap (told (Some x)) (from_keeps (points x) (items (grow x before m).0) (own x)) ∙ sym (told_items x (grow x before m).0) ∙ ap items_among (sym (added x before m))
 
     -- and where those of one source do, its part does
-    pub part_behind : (x : ℕ) (cells before : List M) → AllFrom (points x) (items (events x (before ++ cells))) →
+    pub part_from_points : (x : ℕ) (cells before : List M) → AllFrom (points x) (items (events x (before ++ cells))) →
         part (Some x) (from_points points (items_among (merged_from source events before cells))) ≡ part (Some x) (items_among (merged_from source events before cells))
-    part_behind x [] before h = refl
-    part_behind x (m ∷ cells) before h =
+    part_from_points x [] before h = refl
+    part_from_points x (m ∷ cells) before h =
         ap (part (Some x)) (both_append (grown events before m (source m)) (merged_from source events (before ++ m ∷ []) cells))
         ∙ part_append x (from_points points (items_among (grown events before m (source m)))) (from_points points (items_among (merged_from source events (before ++ m ∷ []) cells)))
         ∙ ap (λ (l : List (Event V)). l ++ part (Some x) (from_points points (items_among (merged_from source events (before ++ m ∷ []) cells)))) (one (source m))
-        ∙ ap (λ (l : List (Event V)). part (Some x) (items_among (grown events before m (source m))) ++ l) (part_behind x cells (before ++ m ∷ []) (subst (λ (l : List M). AllFrom (points x) (items (events x l))) (sym (append_assoc before (m ∷ []) cells)) h))
+        ∙ ap (λ (l : List (Event V)). part (Some x) (items_among (grown events before m (source m))) ++ l) (part_from_points x cells (before ++ m ∷ []) (subst (λ (l : List M). AllFrom (points x) (items (events x l))) (sym (append_assoc before (m ∷ []) cells)) h))
         ∙ sym (ap (part (Some x)) (all_append (grown events before m (source m)) (merged_from source events (before ++ m ∷ []) cells))
         ∙ part_append x (items_among (grown events before m (source m))) (items_among (merged_from source events (before ++ m ∷ []) cells))) where
           more : AllFrom (points x) (items (grow x before m).0)
@@ -217,8 +217,8 @@ module _ {V : Type 0} (points : ℕ → Option Place) where
         (λ x. ap (rest_given x) (sym (append-nil rest)) ∙ f x [] (m ∷ later) refl ∙ ap (whole_given x) (append-nil whole))
         (λ x. f x (m ∷ []) later refl))
         ∙ ap (λ (l : List (Event V)). from_points points (items_among (grown whole_events whole m (source m))) ++ l)
-        (later_alike later (whole ++ m ∷ []) (rest ++ m ∷ []) (λ x front behind e.
-        ap (rest_given x) (append_assoc rest (m ∷ []) front) ∙ f x (m ∷ front) behind (ap (λ (l : List M). m ∷ l) e) ∙ ap (whole_given x) (sym (append_assoc whole (m ∷ []) front))))
+        (later_alike later (whole ++ m ∷ []) (rest ++ m ∷ []) (λ x front after e.
+        ap (rest_given x) (append_assoc rest (m ∷ []) front) ∙ f x (m ∷ front) after (ap (λ (l : List M). m ∷ l) e) ∙ ap (whole_given x) (sym (append_assoc whole (m ∷ []) front))))
         ∙ sym (both_append (grown whole_events whole m (source m)) (merged_from source whole_events (whole ++ m ∷ []) later))
 
     -- From each source's point on the rest has the whole's events: its hidden cells add nothing.

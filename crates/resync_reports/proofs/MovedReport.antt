@@ -55,7 +55,7 @@ pub sized : (h : Bool) (u : List Placed) → AllSized (items_of (port_stream h u
 sized false u = read_sized u
 sized true u = elim (hunt_is u) [
   | inl m ↦ subst (λ (s : PortStream). AllSized (items_of s.items)) (sym m.1) tt
-  | inr (before, behind, parts, first, is) ↦ subst (λ (s : PortStream). AllSized (items_of s.items)) (sym is) (read_sized behind)
+  | inr (before, after, parts, first, is) ↦ subst (λ (s : PortStream). AllSized (items_of s.items)) (sym is) (read_sized after)
 ]
 
 module _ (c : ℕ) where

@@ -1,5 +1,5 @@
 -- The same bytes at offsets that are greater by one number, and what streams read of them.
-use Rattle.std.specs.Prelude.{ℕ, List, map}
+use Rattle.std.specs.Prelude.{ℕ, map}
 use Rattle.trace_values.specs.Placed.{Placed}
 use Rattle.trace_values.specs.Stream.{Stream}
 use Rattle.frame_grammar.specs.Port.{PortItem, Full, Half, Frame}

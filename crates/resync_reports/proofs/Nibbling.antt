@@ -1,4 +1,4 @@
--- Nibbles of bytes: they append, rise, and stand at later offsets as the bytes do.
+-- Nibbles of bytes: they append, rise, and move to later offsets as the bytes do.
 use Rattle.std.proofs.Common.{◌≡◌, ℕ, suc, ◌+◌, ◌*◌, ◌≤◌, List, [], ◌∷◌, ◌++◌, map, refl, ap, arith}
 use Rattle.std.specs.Prelude.{◌/◌, ◌%◌}
 use Rattle.trace_values.specs.Placed.{Placed}

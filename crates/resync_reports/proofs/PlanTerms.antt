@@ -1,36 +1,25 @@
 -- What a plan maps, where the front of a capture is lost.
-use Rattle.std.specs.Prelude.{◌≡◌, ℕ, List, [], ◌∷◌, ◌++◌, length, map, Bool, true, false, ◌==◌, None, Some}
-use Rattle.std.specs.List.{list_any}
-use Rattle.trace_values.specs.Placed.{Place, Placed, placed, placed_from}
-use Rattle.trace_values.specs.Stream.{Stream}
+use Rattle.std.specs.Prelude.{ℕ, List, map, Bool, true, false}
+use Rattle.trace_values.specs.Placed.{Placed}
 use Rattle.trace_values.specs.Nibbles.{nibbles_of}
-use Rattle.capture_plan.specs.declared.packets.PacketsMode.TheVariants.{Hunt}
 use Rattle.capture_plan.specs.Modes.{packets_hunt}
 use Rattle.itm_codec.specs.Reading.{packets_in}
 use Rattle.stp_grammar.specs.declared.item.StpItem.{StpItem}
 use Rattle.stp_grammar.specs.declared.item.StpItem.TheVariants.{Version}
 use Rattle.stp_codec.specs.Reading.{items_at}
-use Rattle.port_reader.specs.Reading.{port_reading}
-use Rattle.source_events.specs.declared.event.Event.{Event}
 use Rattle.source_events.specs.declared.packet.Packet.{Packet}
 use Rattle.source_events.specs.declared.packet.Packet.TheVariants.{Itm as ItmPacket, Stp as StpPacket}
 use Rattle.source_events.specs.declared.plan.Plan.{Plan}
 use Rattle.source_events.specs.declared.plan.SourceKind.{SourceKind}
 use Rattle.source_events.specs.declared.plan.SourceKind.TheVariants.{Itm, Stp}
-use Rattle.source_events.specs.Merge.{part}
 use Rattle.source_events.specs.Packets.{stream_as}
-use Rattle.source_events.specs.Plan.{mapped_ids, sources_by}
-use Rattle.source_events.specs.Report.{runs_in, stop_in, report}
+use Rattle.source_events.specs.Plan.{mapped_ids}
 use Rattle.resync_streams.specs.Fronts.{IsRest}
-use Rattle.resync_ports.specs.Port.{IsPortRest, rest_mode}
 use Rattle.resync_laws.specs.Itm as itm
 use Rattle.resync_laws.specs.Stp.{IsItemsRest}
 use Rattle.resync_reports.proofs.FollowTerms.{point_of}
 use Rattle.resync_reports.proofs.ItemTerms.{first_item}
-use Rattle.resync_reports.specs.Points.{items_among, from_points}
-use Rattle.resync_reports.specs.Moved.{later_event, later_reading}
-use Rattle.resync_reports.proofs.RunTerms.{RunsRest}
-use Rattle.resync_reports.proofs.ReportTerms.{Resumed, AllRest, points_in}
+use Rattle.resync_reports.proofs.ReportTerms.{Resumed}
 
 -- the item of a VERSION
 abbrev pub is_version_item : StpItem → Bool

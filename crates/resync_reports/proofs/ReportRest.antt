@@ -1,8 +1,7 @@
 -- The report of a plan's rest follows that of its whole.
-use Rattle.std.proofs.Common.{◌≡◌, ℕ, ◌+◌, List, [], ◌++◌, length, map, sym, ◌∙◌, ap, subst, false, None}
+use Rattle.std.proofs.Common.{◌≡◌, ℕ, ◌+◌, List, [], ◌++◌, length, map, sym, ◌∙◌, ap, None}
 use Rattle.std.specs.Prelude.{Option, Some}
-use Rattle.trace_values.specs.Placed.{Place, Placed, placed, placed_from}
-use Rattle.trace_values.specs.Nibbles.{nibbles_of}
+use Rattle.trace_values.specs.Placed.{Place, Placed, placed}
 use Rattle.trace_values.proofs.Placing.{placed_append}
 use Rattle.capture_plan.specs.declared.frames.FramesMode.{FramesMode}
 use Rattle.capture_plan.specs.Modes.{packets_hunt}
@@ -26,9 +25,9 @@ use Rattle.resync_ports.specs.Port.{rest_mode}
 use Rattle.resync_laws.specs.Capture.{source_bytes}
 use Rattle.resync_laws.proofs.Captures.{itm_capture, stp_capture}
 use Rattle.resync_reports.specs.Moved.{later_event, later_reading}
-use Rattle.resync_reports.specs.Points.{point_of, items_among, from_points}
-use Rattle.resync_reports.specs.Report.{rest_plan, left_bytes, whole_reading, left_reading, whole_report, left_report, points, SourceFollows, ReportFollows}
-use Rattle.resync_reports.proofs.ReportTerms.{wholes, rests, points_in, port_of}
+use Rattle.resync_reports.specs.Points.{items_among, from_points}
+use Rattle.resync_reports.specs.Report.{left_bytes, whole_reading, left_reading, whole_report, left_report, points, SourceFollows, ReportFollows}
+use Rattle.resync_reports.proofs.ReportTerms.{wholes, points_in, port_of}
 use Rattle.resync_reports.proofs.PlanTerms.{sources_of, unit_reads}
 use Rattle.resync_reports.proofs.Mapped.{can_all, all_read, wholes_are, rests_are, quiet_at}
 use Rattle.resync_reports.proofs.Looking.{bytes_are, point_is, same_points, sound_at}

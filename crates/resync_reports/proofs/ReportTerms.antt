@@ -1,11 +1,9 @@
 -- The report of the rest of a capture, against the whole's.
-use Rattle.std.specs.Prelude.{◌≡◌, ℕ, List, [], ◌∷◌, ◌++◌, length, map, Bool, true, false, ◌==◌, if◌then◌else◌, Option, None, Some, is_none}
+use Rattle.std.specs.Prelude.{◌≡◌, ℕ, List, [], ◌∷◌, ◌++◌, length, map, true, ◌==◌, if◌then◌else◌, Option, None, Some, is_none}
 use Rattle.trace_values.specs.declared.cell.Cell.{Cell}
 use Rattle.trace_values.specs.Placed.{Place, Placed, placed, placed_from}
 use Rattle.trace_values.specs.Stream.{Stream}
 use Rattle.capture_plan.specs.declared.frames.FramesMode.{FramesMode}
-use Rattle.capture_plan.specs.declared.frames.FramesMode.TheVariants.{Hunt, Aligned, Bare}
-use Rattle.deformatter.specs.Reading.{port_stream}
 use Rattle.port_reader.specs.Reading.{PortReading, port_reading, cells_of}
 use Rattle.source_events.specs.declared.event.Event.{Event}
 use Rattle.source_events.specs.Merge.{part}
@@ -14,7 +12,7 @@ use Rattle.source_events.specs.Report.{Mapped, IsLawful, runs_in, stop_in, repor
 use Rattle.resync_ports.specs.Port.{IsPortRest, rest_mode}
 use Rattle.resync_reports.specs.Points.{first_in}
 use Rattle.resync_reports.proofs.RunTerms.{RunsRest}
-use Rattle.resync_reports.proofs.FollowTerms.{IsRising, FollowsFrom, items_of, point_of}
+use Rattle.resync_reports.proofs.FollowTerms.{IsRising, FollowsFrom, items_of}
 use Rattle.resync_reports.specs.Moved.{later_reading, later_event}
 use Rattle.resync_reports.proofs.MovedTerms.{later, later_stream}
 use Rattle.resync_reports.proofs.EventTerms.{AllFrom}

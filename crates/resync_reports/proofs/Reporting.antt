@@ -11,8 +11,8 @@ use Rattle.capture_plan.specs.declared.frames.FramesMode.TheVariants.{Hunt, Alig
 use Rattle.frame_grammar.specs.Port.{PortItem, Full}
 use Rattle.frame_grammar.specs.Reading.{id_of_items}
 use Rattle.deformatter.specs.Reading.{PortStream, items_of, port_stream}
-use Rattle.port_reader.specs.Reading.{PortReading, frames_of_items, framed, bare_cell, bare, port_reading}
-use Rattle.port_reader.proofs.ReadingLaws.{frames_of_items-append, bare_cells}
+use Rattle.port_reader.specs.Reading.{frames_of_items, framed, bare_cell, bare, port_reading}
+use Rattle.port_reader.proofs.ReadingLaws.{frames_of_items-append}
 use Rattle.port_reader.specs.Rising.{BytesRise}
 use Rattle.port_reader.proofs.RisingLaws.{reading_rises}
 use Rattle.source_events.specs.declared.event.Event.{Event}

@@ -1,8 +1,8 @@
 -- The report of what is left of a capture follows the whole's, with each offset taken greater by how many bytes were lost.
-use Rattle.std.proofs.Common.{◌≡◌, ℕ, ◌+◌, ◌≤◌, List, [], ◌∷◌, ◌++◌, length, map, refl, sym, ◌∙◌, ap, subst, append-nil, arith, inl, inr, Bool, true, false, Option, None, Some}
+use Rattle.std.proofs.Common.{◌≡◌, ℕ, ◌+◌, ◌≤◌, List, [], ◌∷◌, ◌++◌, length, map, refl, sym, ◌∙◌, ap, subst, arith, inl, inr, true, false, Option, None, Some}
 use Rattle.trace_values.specs.declared.cell.Cell.{Cell}
 use Rattle.trace_values.specs.declared.fault.Reason.{Reason}
-use Rattle.trace_values.specs.Placed.{Place, Placed, placed, placed_from, units_of, byte_at}
+use Rattle.trace_values.specs.Placed.{Place, Placed, placed, placed_from}
 use Rattle.trace_values.specs.Stream.{Stream}
 use Rattle.trace_values.proofs.Placing.{placed_append}
 use Rattle.std.proofs.lemmas.List.{map-append}
@@ -19,16 +19,15 @@ use Rattle.source_events.specs.declared.event.What.{What}
 use Rattle.source_events.specs.Merge.{told}
 use Rattle.source_events.specs.Report.{lesser, of_source, least_fault, all_events, port_events, lock_at}
 use Rattle.source_events.specs.Report.{runs_in, stop_in, report}
-use Rattle.source_events.proofs.Least.{Full as Stop}
 use Rattle.source_events.proofs.Settling.{lesser_none, source_none}
 use Rattle.source_events.proofs.Growth.{no_stop}
 use Rattle.resync_streams.specs.Fronts.{Hunting, IsRest}
 use Rattle.resync_ports.specs.Port.{rest_mode}
-use Rattle.resync_reports.proofs.FollowTerms.{IsRising, items_of, point_of, from_point, Follows, FollowsFrom}
+use Rattle.resync_reports.proofs.FollowTerms.{items_of, point_of, from_point, Follows, FollowsFrom}
 use Rattle.resync_reports.specs.Points.{items_among, from_points}
 use Rattle.resync_reports.specs.Moved.{later_place, later_fault, later_run, later_reading, later_event}
 use Rattle.resync_reports.proofs.MovedTerms.{later, later_item}
-use Rattle.resync_reports.proofs.ReportTerms.{Resumed, wholes, rests, CanResume, CanAll, AllRead, points_in, port_of, RestLaw}
+use Rattle.resync_reports.proofs.ReportTerms.{Resumed, wholes, rests, CanAll, AllRead, points_in, port_of, RestLaw}
 use Rattle.resync_reports.proofs.Following.{from_twice}
 use Rattle.resync_reports.proofs.Moving.{port_later}
 use Rattle.resync_reports.proofs.MovedReport.{placed_later, reading_later, all_later, list_later, report_later}

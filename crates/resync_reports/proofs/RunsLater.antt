@@ -42,7 +42,7 @@ begins c ((d ∷ run) ∷ runs) = by (d.run == c.run) where
 differs : (a b : ℕ) → a ≢ b → (a == b) ≡ false
 differs a b h = grind (arith, nat_tests)
 
--- behind a cell of another run, runs begin anew
+-- after a cell of another run, runs begin anew
 abbrev Apart : Cell → List Cell → Cell → Type 0
 Apart c [] y = y.run ≢ c.run
 Apart c (d ∷ xs) y = Apart d xs y
@@ -104,12 +104,12 @@ items_runs id [] = record { hidden = []; named = []; whole_is = refl; rest_is = 
 items_runs id (Full ∷ port_items) = items_runs id port_items
 items_runs id (Half ∷ port_items) = items_runs id port_items
 items_runs id (Frame f halves ∷ port_items) = elim (frame_names (units_of f) (offsets_of f) id) [
-  | inl m ↦ same_behind m.1 (frame_runs (units_of f) (offsets_of f) id (begin_named _ _ m.0.hidden m.0.named m.0.whole_is m.0.rest_is))
+  | inl m ↦ same_after m.1 (frame_runs (units_of f) (offsets_of f) id (begin_named _ _ m.0.hidden m.0.named m.0.whole_is m.0.rest_is))
   | inr m ↦ hidden_before m.0 m.1 m.2 (items_runs id port_items)
 ] where
-  same_behind : id_after (units_of f) None ≡ id_after (units_of f) id → RunsLater (runs_of (cells (units_of f) (offsets_of f) id)) (runs_of (cells (units_of f) (offsets_of f) None)) →
+  same_after : id_after (units_of f) None ≡ id_after (units_of f) id → RunsLater (runs_of (cells (units_of f) (offsets_of f) id)) (runs_of (cells (units_of f) (offsets_of f) None)) →
       RunsLater (all_runs (frames_of_items id (Frame f halves ∷ port_items))) (all_runs (frames_of_items None (Frame f halves ∷ port_items)))
-  same_behind e l = record {
+  same_after e l = record {
     hidden = l.hidden;
     named = l.named ++ all_runs (frames_of_items (id_after (units_of f) id) port_items);
     whole_is = ap (λ (r : List (List Cell)). r ++ all_runs (frames_of_items (id_after (units_of f) id) port_items)) l.whole_is ∙ append_assoc l.hidden l.named (all_runs (frames_of_items (id_after (units_of f) id) port_items));

@@ -1,5 +1,5 @@
 -- The report of the rest of a capture, whose front is lost, against that of the whole.
-use Rattle.std.specs.Prelude.{◌≡◌, ℕ, List, ◌++◌, length, map, Bool, true, false, ◌==◌, Option, None, Some}
+use Rattle.std.specs.Prelude.{◌≡◌, ℕ, List, ◌++◌, length, map, true, false, ◌==◌, Option, None, Some}
 use Rattle.std.specs.List.{list_any}
 use Rattle.trace_values.specs.Nibbles.{nibbles_of}
 use Rattle.trace_values.specs.Placed.{Place, Placed, placed, placed_from}

@@ -16,7 +16,7 @@ use Rattle.resync_streams.proofs.Continuing as continuing
 use Rattle.resync_streams.proofs.Syncing.{units_append, units_length, parts_of, push_of}
 use Rattle.resync_streams.proofs.Syncing as syncing
 
--- where the pattern stands it stands with more units
+-- where the pattern is it is with more units
 after_more : (pattern u y a : List ℕ) → IsAfter pattern u a → IsAfter pattern (u ++ y) a
 after_more pattern u y a s = (
   s.0 ++ y,
@@ -99,7 +99,7 @@ module _ {S V : Type 0} (Spells : V → List Placed → Type 0) (why : List Plac
   pub units_counted : (u : List Placed) → (hunt_of u).units ≡ length u
   units_counted u = (hunting.knows Spells why rule start k.decides p v k.apart k.spelled u).units
 
-  -- or the pattern stands nowhere in it
+  -- or the pattern is nowhere in it
   pub by_mode : (h : Bool) (x : List Placed) → Reads h x ⊎ ((h ≡ true) × IsNowhere (pattern_of p) (units_of x) × ((hunt_of x).found ≡ None))
   by_mode false x = inl (record {
     front = [];
@@ -274,7 +274,7 @@ module _ {S V : Type 0} (Spells : V → List Placed → Type 0) (why : List Plac
           }
     ]
 
-  -- the pattern stands nowhere in the rest, or the rest locks
+  -- the pattern is nowhere in the rest, or the rest locks
   pub locks : (h : Bool) (u w : List Placed) → Sound (found_in h (u ++ w)) → IsLock h u w ⊎ (IsNowhere (pattern_of p) (units_of w) × ((hunt_of w).found ≡ None))
   locks h u w sound = elim (by_mode true w) [
     | inr n ↦ inr (n.1, n.2)
