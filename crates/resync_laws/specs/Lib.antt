@@ -1,4 +1,4 @@
-pub mod Itm
-pub mod Stp
-pub mod Capture
+pub mod Points
+pub mod Moved
+pub mod Report
 pub mod Rows

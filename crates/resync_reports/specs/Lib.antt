@@ -1,4 +1,0 @@
-pub mod Points
-pub mod Moved
-pub mod Report
-pub mod Rows
