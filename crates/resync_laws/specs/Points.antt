@@ -1,5 +1,6 @@
 -- From where on the rest of a capture tells what the whole tells: the point of each source.
-use Rattle.std.specs.Prelude.{ℕ, ◌+◌, ◌*◌, List, [], ◌∷◌, Bool, true, false, nat_le, if◌then◌else◌, Option, None, Some, is_none}
+use Rattle.std.specs.Prelude.{ℕ, ◌+◌, ◌*◌, List, [], ◌∷◌, Bool, true, false, nat_le, if◌then◌else◌}
+use Rattle.std.specs.Prelude.{Option, None, Some, is_none}
 use Rattle.std.specs.List.{filter}
 use Rattle.trace_values.specs.declared.cell.Cell.{Cell}
 use Rattle.trace_values.specs.Placed.{Place}
@@ -37,8 +38,8 @@ first_in [] = None
 first_in (c ∷ cells) = if is_none c.id then first_in cells else Some (record { at = c.at; half = 0 })
 
 -- The point of a source of this kind, where these cells are read by a hunt at both layers. That of an ITM source is
--- where it locks; that of an STP source is the first VERSION after its lock; and that of a source which is not mapped is
--- the first cell that has an ID.
+-- where it locks; that of an STP source is the first VERSION after its lock; and that of a source which is not mapped
+-- is the first cell that has an ID.
 abbrev pub point_by : Plan → List Cell → ℕ → Option SourceKind → Option Place
 point_by plan cells x None = first_in cells
 point_by plan cells x (Some Itm) = point_in (packets_in true (source_units x cells)).given

@@ -11,8 +11,8 @@ ghost use Rattle.source_events.specs.declared.packet.Packet.TheVariants.{Itm, St
 ghost use Rattle.resync_ports.specs.Rows.{packets_in_frames};
 ghost use Rattle.resync_laws.specs.Rows.{itm_plan, stp_plan, whole, left, from, two_versions};
 
-/// Two frames with packets of one source, each after a full synchronisation. Without the first byte the port locks at the
-/// second full synchronisation, and the source at its last synchronisation packet.
+/// Two frames with packets of one source, each after a full synchronisation. Without the first byte the port locks at
+/// the second full synchronisation, and the source at its last synchronisation packet.
 pub fn packets_of_a_port()
     ensures whole { whole itm_plan 1 packets_in_frames ≡
         (10, 0, Some 1, Packet (Itm Sync)) ∷ (15, 0, Some 1, Packet (Itm (Software 0 Four 0)))
@@ -23,8 +23,8 @@ pub fn packets_of_a_port()
     ensures from { from itm_plan 1 packets_in_frames ≡ (35, 0, Some 1, Packet (Itm Sync)) ∷ [] }
 {}
 
-/// An STP source without a formatter, without the first four bytes: the items from the VERSION after its lock on are the
-/// whole's. The item between the two is not: its master is not known.
+/// An STP source without a formatter, without the first four bytes: the items from the VERSION after its lock on are
+/// the whole's. The item between the two is not: its master is not known.
 #[tactic(auto, unfolding(stp_grammar::specs::Attribution::version_of, stp_grammar::specs::Attribution::master_of, stp_grammar::specs::Attribution::channel_of, stp_grammar::specs::Attribution::last_word_of,))]
 pub fn items_of_a_source()
     ensures whole { whole stp_plan 4 two_versions ≡
@@ -33,13 +33,16 @@ pub fn items_of_a_source()
         ∷ (15, 1, Some 1, Packet (Stp Async))
         ∷ (17, 0, Some 1, Packet (Stp (Datum (record { master = Some 5; channel = Some 0 }) Eight 66 false NoStamp)))
         ∷ (19, 0, Some 1, Packet (Stp (Version 3)))
-        ∷ (20, 1, Some 1, Packet (Stp (Datum (record { master = Some 0; channel = Some 0 }) Eight 67 false NoStamp))) ∷ [] }
+        ∷ (20, 1, Some 1, Packet (Stp (Datum (record { master = Some 0; channel = Some 0 }) Eight 67 false NoStamp)))
+        ∷ [] }
     ensures rest { left stp_plan 4 two_versions ≡
         (15, 1, Some 1, Locked 2) ∷ (15, 1, Some 1, Packet (Stp Async))
         ∷ (17, 0, Some 1, Packet (Stp (Datum (record { master = None; channel = None }) Eight 66 false NoStamp)))
         ∷ (19, 0, Some 1, Packet (Stp (Version 3)))
-        ∷ (20, 1, Some 1, Packet (Stp (Datum (record { master = Some 0; channel = Some 0 }) Eight 67 false NoStamp))) ∷ [] }
+        ∷ (20, 1, Some 1, Packet (Stp (Datum (record { master = Some 0; channel = Some 0 }) Eight 67 false NoStamp)))
+        ∷ [] }
     ensures from { from stp_plan 4 two_versions ≡
         (19, 0, Some 1, Packet (Stp (Version 3)))
-        ∷ (20, 1, Some 1, Packet (Stp (Datum (record { master = Some 0; channel = Some 0 }) Eight 67 false NoStamp))) ∷ [] }
+        ∷ (20, 1, Some 1, Packet (Stp (Datum (record { master = Some 0; channel = Some 0 }) Eight 67 false NoStamp)))
+        ∷ [] }
 {}

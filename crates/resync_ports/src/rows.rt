@@ -3,7 +3,8 @@
 ghost use Rattle.std.specs.Prelude.{◌≡◌, [], ◌∷◌, None, Some, true, false};
 ghost use Rattle.frame_grammar.specs.Port.{Full, Spells, why};
 ghost use Rattle.resync_streams.specs.Fronts.{BeginsOnly};
-ghost use Rattle.resync_ports.specs.Rows.{whole, left, frames_of, syncs_of, end_of, two_frames, three_synchronisations, packets_in_frames};
+ghost use Rattle.resync_ports.specs.Rows.{whole, left, frames_of, syncs_of, end_of};
+ghost use Rattle.resync_ports.specs.Rows.{two_frames, three_synchronisations, packets_in_frames};
 
 /// Two frames, each after a full synchronisation. The first names ID 1 at once, and the second ID 2 at its index 4.
 ///

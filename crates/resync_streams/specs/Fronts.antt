@@ -123,8 +123,8 @@ pub record ReadsOn {V : Type 0} (Spells : V → List Placed → Type 0) (why : L
   pub rest_reads : IsReading Spells why (sync ++ more)
       (record { items = (v, place) ∷ later; rest = whole.rest; fault = None })
 
--- The pattern is nowhere in the rest, and no v of the whole has its last units, as many as the pattern has, in the rest;
--- or the rest reads on.
+-- The pattern is nowhere in the rest, and no v of the whole has its last units, as many as the pattern has, in the
+-- rest; or the rest reads on.
 abbrev pub IsRestInWords : {V : Type 0} → (V → List Placed → Type 0) → (List Placed → Reason) → List ℕ → V → Type 0
 IsRestInWords {V} Spells why pattern v =
     (lost rest : List Placed) (whole : Reading V) → IsReading Spells why (lost ++ rest) whole → whole.fault ≡ None →
