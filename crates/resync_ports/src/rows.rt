@@ -1,6 +1,11 @@
 //! Worked rows of captures and their rests, which the checker computes.
 
-ghost use Rattle.std.specs.Prelude.{◌≡◌, [], ◌∷◌, None, Some, true, false};
+ghost use Rattle.std.specs.Prelude.{◌≡◌, ◌++◌, List, [], ◌∷◌, None, Some, true, false, is_none};
+ghost use Rattle.std.specs.List.{list_any};
+ghost use Rattle.trace_values.specs.declared.cell.Cell.{Cell};
+ghost use Rattle.trace_values.specs.Placed.{Placed};
+ghost use Rattle.capture_plan.specs.declared.frames.FramesMode.TheVariants.{Hunt, Aligned};
+ghost use Rattle.port_reader.specs.Reading.{port_reading, cells_of};
 ghost use Rattle.frame_grammar.specs.Port.{Full, Spells, why};
 ghost use Rattle.resync_streams.specs.Fronts.{BeginsOnly};
 ghost use Rattle.resync_ports.specs.Rows.{whole, left, frames_of, syncs_of, end_of};
@@ -23,6 +28,14 @@ pub fn cut_in_a_frame()
         ∷ (30, Some 2, 1, 0) ∷ (31, Some 2, 1, 0) ∷ (32, Some 2, 1, 0) ∷ (33, Some 2, 1, 0) ∷ (34, Some 2, 1, 0)
         ∷ (35, Some 2, 1, 0) ∷ (36, Some 2, 1, 0) ∷ (37, Some 2, 1, 0) ∷ (38, Some 2, 1, 0) ∷ []) ∷ [] }
     ensures end { end_of (left 10 two_frames) ≡ (true, 10, 0, None) }
+{}
+
+/// At the lock the rest does not know the ID in force yet: its cells are not those of the whole from there on.
+pub fn ids_are_not_known_at_once()
+    ensures whole { list_any (λ c. is_none c.id) (cells_of (whole two_frames)) ≡ false }
+    ensures rest { list_any (λ c. is_none c.id) (cells_of (left 10 two_frames)) ≡ true }
+    ensures law { ((lost rest : List Placed) → (port_reading Aligned (lost ++ rest)).fault ≡ None →
+        (gone : List Cell) × (cells_of (port_reading Aligned (lost ++ rest)) ≡ gone ++ cells_of (port_reading Hunt rest))) → ⊥ }
 {}
 
 /// A half synchronisation between two full ones, without the bytes before it, without its first byte too, and with only

@@ -1,10 +1,10 @@
 //! Worked rows of sources and their rests, which the checker computes.
 
-ghost use Rattle.std.specs.Prelude.{◌≡◌, ◌++◌, [], ◌∷◌, List, None, Some, Bool, codes, true, false, replicate};
+ghost use Rattle.std.specs.Prelude.{◌≡◌, ◌++◌, [], ◌∷◌, List, None, Some, Bool, codes, drop, true, false, replicate};
 ghost use Rattle.std.specs.List.{list_any};
-ghost use Rattle.trace_values.specs.Placed.{Placed, units_of};
+ghost use Rattle.trace_values.specs.Placed.{Place, Placed, units_of};
 ghost use Rattle.trace_values.specs.Grammar.{InUnits};
-ghost use Rattle.trace_values.specs.Stream.{Notice, Kept};
+ghost use Rattle.trace_values.specs.Stream.{Said, Notice, Kept};
 ghost use Rattle.itm_grammar.specs.declared.packet.Size.TheVariants.{Four};
 ghost use Rattle.itm_grammar.specs.declared.packet.ItmPacket.TheVariants.{Sync, Overflow, Software};
 ghost use Rattle.itm_grammar.specs.Spelling as itm_spelling;
@@ -15,7 +15,9 @@ ghost use Rattle.stp_grammar.specs.declared.packet.StpPacket.TheVariants.{Async}
 ghost use Rattle.stp_grammar.specs.declared.item.Stamp.TheVariants.{None as NoStamp};
 ghost use Rattle.stp_grammar.specs.declared.item.StpItem.TheVariants.{Async as AsyncItem, Version as VersionItem};
 ghost use Rattle.stp_grammar.specs.declared.item.StpItem.TheVariants.{Datum as DatumItem};
+ghost use Rattle.stp_grammar.specs.declared.item.StpItem.{StpItem};
 ghost use Rattle.stp_grammar.specs.Spelling as stp_spelling;
+ghost use Rattle.stp_codec.specs.Reading.{items_in};
 ghost use Rattle.resync_streams.specs.Fronts.{EndsOnly, IsRest};
 ghost use Rattle.resync_sources.specs.Stp.{OnlyInAsync};
 ghost use Rattle.resync_sources.specs.Itm.{hunting};
@@ -109,4 +111,7 @@ pub fn shorter_stp_pattern()
 pub fn places_are_not_known_at_once()
     ensures whole { list_any has_no_master (stp_whole Msn two_versions).given ≡ false }
     ensures rest { list_any has_no_master (stp_left Msn 4 two_versions).given ≡ true }
+    ensures law { ((lost rest : List Placed) → (items_in Msn false (lost ++ rest)).fault ≡ None →
+        (gone : List (Said StpItem × Place)) × ((items_in Msn false (lost ++ rest)).given
+        ≡ gone ++ drop 1 (items_in Msn true rest).given)) → ⊥ }
 {}
