@@ -27,12 +27,14 @@ use Rattle.source_events.specs.Report.{Mapped, runs_in}
 use Rattle.source_events.specs.Runs.{list_of}
 use Rattle.source_events.proofs.Least.{AreSound}
 use Rattle.source_events.proofs.RunNumbers.{lists_are}
-use Rattle.resync_laws.specs.Points.{point_in, first_version, first_in, point_by, point_of, is_from, point_at, from_points}
-use Rattle.resync_laws.proofs.ItemTerms.{first_item}
-use Rattle.resync_laws.proofs.ReportTerms.{points_in}
+use Rattle.resync_points.specs.Points.{point_in, is_from}
+use Rattle.resync_laws.specs.Points.{first_version, point_by, point_of}
+use Rattle.resync_reports.specs.Points.{first_in, point_at, from_points}
+use Rattle.resync_points.proofs.ItemTerms.{first_item}
+use Rattle.resync_reports.specs.Resumed.{points_in}
 use Rattle.resync_laws.proofs.PlanTerms.{is_version, resumed_by, sources_of}
 use Rattle.resync_laws.proofs.Mapped.{point_as}
-use Rattle.resync_laws.proofs.Points.{port_point}
+use Rattle.resync_reports.proofs.Points.{port_point}
 
 other_way : (a b : ℕ) → (a == b) ≡ (b == a)
 other_way a b = grind (arith, nat_tests)

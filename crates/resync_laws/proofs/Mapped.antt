@@ -44,11 +44,12 @@ use Rattle.resync_sources.proofs.StpSyncing.{stp_syncs}
 use Rattle.resync_sources.proofs.StpItems.{Alike, alike_push, alike_anew, item_alike, version_cases}
 use Rattle.resync_sources.proofs.Captures.{itm_rest}
 use Rattle.resync_sources.proofs.StpResting.{is_items_rest}
-use Rattle.resync_laws.proofs.FollowTerms.{items_of, point_of}
-use Rattle.resync_laws.specs.Points.{point_in}
-use Rattle.resync_laws.proofs.EventTerms.{AllFrom}
-use Rattle.resync_laws.proofs.ItemTerms.{first_item, IsMarked, BeginsAnew}
-use Rattle.resync_laws.proofs.ReportTerms.{wholes, rests, CanResume, CanAll, AllRead, IsQuiet, IsQuietAt}
+use Rattle.resync_points.specs.Points.{items_of, point_of}
+use Rattle.resync_points.specs.Points.{point_in}
+use Rattle.resync_points.specs.Points.{AllFrom}
+use Rattle.resync_points.proofs.ItemTerms.{first_item, IsMarked, BeginsAnew}
+use Rattle.resync_reports.specs.Resumed.{wholes, rests, CanResume, CanAll, IsQuiet, IsQuietAt}
+use Rattle.resync_reports.proofs.ReportTerms.{AllRead}
 use Rattle.resync_laws.proofs.PlanTerms.{is_version_item, is_version, resumed_by, sources_of, unit_reads}
 use Rattle.resync_laws.specs.Report.{rest_plan}
 use Rattle.resync_laws.proofs.Lifting.{can_as}

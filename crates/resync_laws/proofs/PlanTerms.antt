@@ -17,9 +17,9 @@ use Rattle.source_events.specs.Plan.{mapped_ids}
 use Rattle.resync_streams.specs.Fronts.{IsRest}
 use Rattle.resync_sources.specs.Itm as itm
 use Rattle.resync_sources.specs.Stp.{IsItemsRest}
-use Rattle.resync_laws.proofs.FollowTerms.{point_of}
-use Rattle.resync_laws.proofs.ItemTerms.{first_item}
-use Rattle.resync_laws.proofs.ReportTerms.{Resumed}
+use Rattle.resync_points.specs.Points.{point_of}
+use Rattle.resync_points.proofs.ItemTerms.{first_item}
+use Rattle.resync_reports.specs.Resumed.{Resumed}
 
 -- the item of a VERSION
 abbrev pub is_version_item : StpItem → Bool

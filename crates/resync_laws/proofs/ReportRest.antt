@@ -24,15 +24,15 @@ use Rattle.source_events.proofs.Settling.{all_sound}
 use Rattle.resync_ports.specs.Port.{rest_mode}
 use Rattle.resync_sources.specs.Capture.{source_bytes}
 use Rattle.resync_sources.proofs.Captures.{itm_capture, stp_capture}
-use Rattle.resync_laws.specs.Moved.{later_event, later_reading}
-use Rattle.resync_laws.specs.Points.{items_among, from_points}
+use Rattle.resync_reports.specs.Moved.{later_event, later_reading}
+use Rattle.resync_reports.specs.Points.{items_among, from_points}
 use Rattle.resync_laws.specs.Report.{left_bytes, whole_reading, left_reading, whole_report, left_report, points, SourceFollows, ReportFollows}
-use Rattle.resync_laws.proofs.ReportTerms.{wholes, points_in, port_of}
+use Rattle.resync_reports.specs.Resumed.{wholes, points_in, port_of}
 use Rattle.resync_laws.proofs.PlanTerms.{sources_of, unit_reads}
 use Rattle.resync_laws.proofs.Mapped.{can_all, all_read, wholes_are, rests_are, quiet_at}
 use Rattle.resync_laws.proofs.Looking.{bytes_are, point_is, same_points, sound_at}
-use Rattle.resync_laws.proofs.RestReport.{rest_law}
-use Rattle.resync_laws.proofs.Exact.{part_law}
+use Rattle.resync_reports.proofs.RestReport.{rest_law}
+use Rattle.resync_reports.proofs.Exact.{part_law}
 
 module _ (plan : Plan) (lost left : List ℕ) (e : stop_in (sources_by plan) (whole_reading plan lost left) ≡ None) where
   abbrev mode : FramesMode

@@ -1,4 +1,3 @@
 pub mod Points
-pub mod Moved
 pub mod Report
 pub mod Rows

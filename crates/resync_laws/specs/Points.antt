@@ -17,13 +17,9 @@ use Rattle.source_events.specs.declared.plan.SourceKind.{SourceKind}
 use Rattle.source_events.specs.declared.plan.SourceKind.TheVariants.{Itm, Stp}
 use Rattle.source_events.specs.Merge.{place_of}
 use Rattle.source_events.specs.Plan.{kind_of}
+use Rattle.resync_points.specs.Points.{point_in}
+use Rattle.resync_reports.specs.Points.{first_in}
 use Rattle.source_events.specs.Report.{is_item}
-
--- where a source locks: the place of the first notice
-abbrev pub point_in : {V : Type 0} → List (Said V × Place) → Option Place
-point_in [] = None
-point_in ((Notice skipped, at) ∷ given) = Some at
-point_in ((Kept v, at) ∷ given) = point_in given
 
 -- the place of the first item of a VERSION
 abbrev pub first_version : List (Said StpItem × Place) → Option Place
@@ -31,11 +27,6 @@ first_version [] = None
 first_version ((Notice skipped, at) ∷ given) = first_version given
 first_version ((Kept (Version version), at) ∷ given) = Some at
 first_version ((Kept item, at) ∷ given) = first_version given
-
--- the place of the first cell that has an ID
-abbrev pub first_in : List Cell → Option Place
-first_in [] = None
-first_in (c ∷ cells) = if is_none c.id then first_in cells else Some (record { at = c.at; half = 0 })
 
 -- The point of a source of this kind, where these cells are read by a hunt at both layers. That of an ITM source is
 -- where it locks; that of an STP source is the first VERSION after its lock; and that of a source which is not mapped
@@ -47,24 +38,3 @@ point_by plan cells x (Some Stp) = first_version (items_in plan.order true (sour
 
 abbrev pub point_of : Plan → PortReading → ℕ → Option Place
 point_of plan r x = point_by plan (cells_of r) x (kind_of plan x)
-
--- places are in order by offset, and then by half
-abbrev pub key : Place → ℕ
-key p = 2 * p.at + p.half
-
--- at the point or after it, if there is one
-abbrev pub is_from : Option Place → Place → Bool
-is_from None at = false
-is_from (Some point) at = nat_le (key point) (key at)
-
--- the point of a source; the port has none
-abbrev pub point_at : (ℕ → Option Place) → Option ℕ → Option Place
-point_at points None = None
-point_at points (Some x) = points x
-
--- the events that are no notices, and the events from their sources' points on
-abbrev pub items_among : {V : Type 0} → List (Event V) → List (Event V)
-items_among es = filter (λ e. is_item e.what) es
-
-abbrev pub from_points : {V : Type 0} → (ℕ → Option Place) → List (Event V) → List (Event V)
-from_points points es = filter (λ e. is_from (point_at points e.source) (place_of e)) es

@@ -19,8 +19,9 @@ use Rattle.resync_ports.specs.Port.{IsPortRest, rest_mode}
 use Rattle.resync_sources.specs.Capture.{source_bytes}
 use Rattle.resync_sources.specs.Itm as itm
 use Rattle.resync_sources.specs.Stp.{IsItemsRest}
-use Rattle.resync_laws.specs.Moved.{later_reading, later_event}
-use Rattle.resync_laws.specs.Points.{point_of, items_among, from_points}
+use Rattle.resync_reports.specs.Moved.{later_reading, later_event}
+use Rattle.resync_laws.specs.Points.{point_of}
+use Rattle.resync_reports.specs.Points.{items_among, from_points}
 
 -- how the rest of a capture is read that this plan reads whole: by hunts
 abbrev pub rest_plan : Plan → Plan

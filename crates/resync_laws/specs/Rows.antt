@@ -9,7 +9,7 @@ use Rattle.source_events.specs.declared.event.What.{What}
 use Rattle.source_events.specs.declared.packet.Packet.{Packet}
 use Rattle.source_events.specs.declared.plan.Plan.{Plan}
 use Rattle.resync_sources.specs.Rows as rows
-use Rattle.resync_laws.specs.Points.{items_among, from_points}
+use Rattle.resync_reports.specs.Points.{items_among, from_points}
 use Rattle.resync_laws.specs.Report.{points, whole_report, left_report}
 
 -- source 1 sends ITM packets in frames; or STP packets in a capture without a formatter

@@ -35,7 +35,8 @@ pub fn ids_are_not_known_at_once()
     ensures whole { list_any (λ c. is_none c.id) (cells_of (whole two_frames)) ≡ false }
     ensures rest { list_any (λ c. is_none c.id) (cells_of (left 10 two_frames)) ≡ true }
     ensures law { ((lost rest : List Placed) → (port_reading Aligned (lost ++ rest)).fault ≡ None →
-        (gone : List Cell) × (cells_of (port_reading Aligned (lost ++ rest)) ≡ gone ++ cells_of (port_reading Hunt rest))) → ⊥ }
+        (gone : List Cell)
+        × (cells_of (port_reading Aligned (lost ++ rest)) ≡ gone ++ cells_of (port_reading Hunt rest))) → ⊥ }
 {}
 
 /// A half synchronisation between two full ones, without the bytes before it, without its first byte too, and with only

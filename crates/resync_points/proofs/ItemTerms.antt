@@ -3,7 +3,6 @@ use Rattle.std.specs.Prelude.{◌≡◌, List, [], ◌∷◌, Bool, true, false,
 use Rattle.trace_values.specs.Placed.{Place}
 use Rattle.trace_values.specs.Stream.{Said, Notice, Kept}
 use Rattle.trace_values.specs.Decorated.{decorated}
-use Rattle.resync_laws.proofs.ReportTerms.{Resumed}
 
 -- the place of the first item of some kind
 abbrev pub first_item : {W : Type 0} → (W → Bool) → List (Said W × Place) → Option Place
@@ -29,14 +28,3 @@ pub record BeginsAnew {V W T : Type 0} (step : T → V → Option W × T) (fits 
   pub marked : (t : T) (v : V) → fits v → IsMarked marks (resets v) (step t v).0
   pub anew : (s t : T) (v : V) → resets v ≡ true → ((step s v).0 ≡ (step t v).0) × Alike (step s v).1 (step t v).1
   pub on : (s t : T) (v : V) → Alike s t → ((step s v).0 ≡ (step t v).0) × Alike (step s v).1 (step t v).1
-
--- a source whose packets are made into items; its point in the rest is the first item of this kind
-abbrev pub resumed_made : {K V W T : Type 0} → (T → V → Option W × T) → T → (W → Bool) → Resumed K V → Resumed K W
-resumed_made step start marks p = record {
-  id = p.id;
-  kind = p.kind;
-  units = p.units;
-  whole = λ u. decorated step start (p.whole u);
-  rest = λ u. decorated step start (p.rest u);
-  point = λ s. first_item marks s.given;
-}

@@ -19,14 +19,14 @@ use Rattle.source_events.proofs.Least.{AreSound}
 use Rattle.source_events.proofs.Merges.{test_same, test_other, same_or_not}
 use Rattle.source_events.proofs.Family.{all_raw, of_cases, list_own, list_other}
 use Rattle.source_events.proofs.Running.{end_within}
-use Rattle.resync_laws.proofs.RunTerms.{unnamed_run}
-use Rattle.resync_laws.proofs.FollowTerms.{Between, items_of, from_point}
-use Rattle.resync_laws.specs.Points.{key, is_from}
+use Rattle.resync_reports.proofs.RunTerms.{unnamed_run}
+use Rattle.resync_points.specs.Points.{Between, items_of, from_point}
+use Rattle.resync_points.specs.Points.{key, is_from}
 use Rattle.source_events.specs.Report.{is_item}
-use Rattle.resync_laws.proofs.EventTerms.{OnlyGrow, items, told_from, EachFollows}
-use Rattle.resync_laws.proofs.ReportTerms.{Resumed, wholes, rests, AreBytes, CanAll, first_named, points_in}
-use Rattle.resync_laws.proofs.Sources.{one_follows}
-use Rattle.resync_laws.proofs.Following.{between_down}
+use Rattle.resync_reports.proofs.EventTerms.{OnlyGrow, items, told_from, EachFollows}
+use Rattle.resync_reports.specs.Resumed.{Resumed, wholes, rests, AreBytes, CanAll, first_named, points_in}
+use Rattle.resync_reports.proofs.Sources.{one_follows}
+use Rattle.resync_points.proofs.Following.{between_down}
 
 -- events as a source has them, and as the report does
 pub lifted_items : {V : Type 0} (g : List (Said V × Place)) → items (lifted g) ≡ lifted (items_of g)

@@ -9,9 +9,9 @@ use Rattle.port_reader.specs.Reading.{port_reading}
 use Rattle.port_reader.specs.Runs.{HaveRuns}
 use Rattle.port_reader.proofs.ReadingLaws.{frames_have_runs}
 use Rattle.source_events.specs.Runs.{joined, runs_of, all_runs}
-use Rattle.resync_laws.proofs.ReportTerms.{first_named, PortPointLaw}
-use Rattle.resync_laws.specs.Points.{first_in}
-use Rattle.resync_laws.proofs.RunsLater.{begins}
+use Rattle.resync_reports.specs.Resumed.{first_named, PortPointLaw}
+use Rattle.resync_reports.specs.Points.{first_in}
+use Rattle.resync_reports.proofs.RunsLater.{begins}
 
 -- neighbours of one run have one ID
 abbrev Alike : List Cell → Type 0

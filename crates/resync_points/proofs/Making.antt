@@ -2,7 +2,7 @@
 use Rattle.std.proofs.Common.{◌≡◌, ℕ, List, [], ◌∷◌, map, refl, ◌∙◌, ap, Option, None, Some}
 use Rattle.trace_values.specs.Placed.{Place}
 use Rattle.trace_values.specs.Stream.{Said, Notice, Kept}
-use Rattle.resync_laws.specs.Moved.{later_place}
+use Rattle.resync_points.specs.Moved.{later_place}
 use Rattle.trace_values.specs.Decorated.{kept_if, decorate}
 
 module _ {V W T : Type 0} (step : T → V → Option W × T) where

@@ -23,15 +23,18 @@ use Rattle.source_events.proofs.Settling.{lesser_none, source_none}
 use Rattle.source_events.proofs.Growth.{no_stop}
 use Rattle.resync_streams.specs.Fronts.{Hunting, IsRest}
 use Rattle.resync_ports.specs.Port.{rest_mode}
-use Rattle.resync_laws.proofs.FollowTerms.{items_of, point_of, from_point, Follows, FollowsFrom}
-use Rattle.resync_laws.specs.Points.{items_among, from_points}
-use Rattle.resync_laws.specs.Moved.{later_place, later_fault, later_run, later_reading, later_event}
-use Rattle.resync_laws.proofs.MovedTerms.{later, later_item}
-use Rattle.resync_laws.proofs.ReportTerms.{Resumed, wholes, rests, CanAll, AllRead, points_in, port_of, RestLaw}
-use Rattle.resync_laws.proofs.Following.{from_twice}
-use Rattle.resync_laws.proofs.Moving.{port_later}
-use Rattle.resync_laws.proofs.MovedReport.{placed_later, reading_later, all_later, list_later, report_later}
-use Rattle.resync_laws.proofs.Reporting.{sound_report, report_follows}
+use Rattle.resync_points.specs.Points.{items_of, point_of, from_point, Follows, FollowsFrom}
+use Rattle.resync_reports.specs.Points.{items_among, from_points}
+use Rattle.resync_points.specs.Moved.{later_place, later_fault}
+use Rattle.resync_reports.specs.Moved.{later_run, later_reading, later_event}
+use Rattle.resync_points.specs.Moved.{later}
+use Rattle.resync_reports.proofs.MovedTerms.{later_item}
+use Rattle.resync_reports.specs.Resumed.{Resumed, wholes, rests, CanAll, points_in, port_of}
+use Rattle.resync_reports.proofs.ReportTerms.{AllRead, RestLaw}
+use Rattle.resync_points.proofs.Following.{from_twice}
+use Rattle.resync_reports.proofs.MovedPort.{port_later}
+use Rattle.resync_reports.proofs.MovedReport.{placed_later, reading_later, all_later, list_later, report_later}
+use Rattle.resync_reports.proofs.Reporting.{sound_report, report_follows}
 
 -- what the rest of a source reads as has no fault, and its tail
 pub rest_fault : {P : Type 0} (h : Hunting P) (u w : List Placed) → (h.whole (u ++ w)).fault ≡ None → IsRest h u w → (h.rest w).fault ≡ None

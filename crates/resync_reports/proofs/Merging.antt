@@ -3,15 +3,16 @@ use Rattle.std.proofs.Common.{◌≡◌, ℕ, List, [], ◌∷◌, ◌++◌, len
 use Rattle.std.proofs.lemmas.List.{append_cancel_left}
 use Rattle.std.proofs.lemmas.List.Elements.{filter-append}
 use Rattle.trace_values.specs.Placed.{Place}
-use Rattle.resync_laws.specs.Points.{is_from}
+use Rattle.resync_points.specs.Points.{is_from}
 use Rattle.source_events.specs.declared.event.Event.{Event}
 use Rattle.source_events.specs.declared.event.What.{What}
 use Rattle.source_events.specs.Merge.{told, grown, merged_from, place_of, is_of, part}
 use Rattle.std.specs.Prelude.{◌==◌}
 use Rattle.source_events.proofs.Merges.{same_or_not, test_other}
 use Rattle.source_events.specs.Report.{is_item}
-use Rattle.resync_laws.proofs.EventTerms.{OnlyGrow, items, told_from, EachFollows, AllFrom}
-use Rattle.resync_laws.specs.Points.{point_at, items_among, from_points}
+use Rattle.resync_reports.proofs.EventTerms.{OnlyGrow, items, told_from, EachFollows}
+use Rattle.resync_points.specs.Points.{AllFrom}
+use Rattle.resync_reports.specs.Points.{point_at, items_among, from_points}
 
 from_left : {W : Type 0} (o : Option Place) (xs ys : List (W × Place)) → AllFrom o (xs ++ ys) → AllFrom o xs
 from_left o [] ys h = tt

@@ -27,15 +27,16 @@ use Rattle.source_events.proofs.Settling.{all_sound}
 use Rattle.source_events.proofs.Growth.{no_stop}
 use Rattle.source_events.proofs.Placing.{frames_between}
 use Rattle.resync_ports.specs.Port.{IsPortRest, IsFramedRest, PortLocks, rest_mode}
-use Rattle.resync_laws.proofs.RunTerms.{unnamed_run, RunsRest}
-use Rattle.resync_laws.specs.Points.{items_among, from_points}
-use Rattle.resync_laws.proofs.ReportTerms.{Resumed, wholes, rests, CanAll, points_in, AllRead, AllRest, FollowsReport}
+use Rattle.resync_reports.proofs.RunTerms.{unnamed_run, RunsRest}
+use Rattle.resync_reports.specs.Points.{items_among, from_points}
+use Rattle.resync_reports.specs.Resumed.{Resumed, wholes, rests, CanAll, points_in}
+use Rattle.resync_reports.proofs.ReportTerms.{AllRead, AllRest, FollowsReport}
 use Rattle.resync_ports.proofs.Resting.{is_rest}
 use Rattle.resync_ports.proofs.Modes as ports
-use Rattle.resync_laws.proofs.RunsLater.{runs_parts, items_runs}
-use Rattle.resync_laws.proofs.Sources.{none_hidden, rest_list}
-use Rattle.resync_laws.proofs.Listing.{grow, raws_hidden, each_follows}
-use Rattle.resync_laws.proofs.Merging.{merged_follows}
+use Rattle.resync_reports.proofs.RunsLater.{runs_parts, items_runs}
+use Rattle.resync_reports.proofs.Sources.{none_hidden, rest_list}
+use Rattle.resync_reports.proofs.Listing.{grow, raws_hidden, each_follows}
+use Rattle.resync_reports.proofs.Merging.{merged_follows}
 
 -- the runs of a port with a formatter
 nothing_runs : (whole rest : List (List Cell)) → rest ≡ [] → RunsRest whole rest

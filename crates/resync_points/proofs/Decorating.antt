@@ -5,12 +5,12 @@ use Rattle.std.proofs.lemmas.List.Elements.{filter-append}
 use Rattle.std.proofs.lemmas.Bool.Decides.{nat_tests}
 use Rattle.trace_values.specs.Placed.{Place, Placed}
 use Rattle.trace_values.specs.Stream.{Stream, Said, Notice, Kept}
-use Rattle.resync_laws.proofs.FollowTerms.{Between, IsRising, is_kept, items_of, point_of, from_point, Follows, FollowsFrom}
-use Rattle.resync_laws.specs.Points.{key, is_from}
-use Rattle.resync_laws.proofs.EventTerms.{AllFrom}
-use Rattle.resync_laws.proofs.Following.{between_append, between_down}
+use Rattle.resync_points.specs.Points.{Between, IsRising, is_kept, items_of, point_of, from_point, Follows, FollowsFrom}
+use Rattle.resync_points.specs.Points.{key, is_from}
+use Rattle.resync_points.specs.Points.{AllFrom}
+use Rattle.resync_points.proofs.Following.{between_append, between_down}
 use Rattle.trace_values.specs.Decorated.{kept_if, decorate, carried, decorated}
-use Rattle.resync_laws.proofs.ItemTerms.{first_item, IsMarked, AllFit, BeginsAnew}
+use Rattle.resync_points.proofs.ItemTerms.{first_item, IsMarked, AllFit, BeginsAnew}
 
 abbrev at_item : {V : Type 0} → Said V × Place → ℕ
 at_item x = key x.1

@@ -5,8 +5,8 @@ use Rattle.trace_values.specs.Placed.{Place, Placed}
 use Rattle.trace_values.specs.Stream.{Stream}
 use Rattle.source_events.specs.Runs.{list_of}
 use Rattle.source_events.proofs.Least.{list_append}
-use Rattle.resync_laws.proofs.RunTerms.{unnamed_run}
-use Rattle.resync_laws.proofs.FollowTerms.{IsRising, items_of, from_point, FollowsFrom}
+use Rattle.resync_reports.proofs.RunTerms.{unnamed_run}
+use Rattle.resync_points.specs.Points.{IsRising, items_of, from_point, FollowsFrom}
 
 -- runs without an ID are of no source
 pub none_hidden : (x : ℕ) (runs : List (List Cell)) → list_of x (map unnamed_run runs) ≡ []

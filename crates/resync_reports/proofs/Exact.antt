@@ -21,19 +21,21 @@ use Rattle.source_events.proofs.Running.{end_within}
 use Rattle.source_events.proofs.Settling.{all_sound}
 use Rattle.source_events.proofs.Growth.{no_stop}
 use Rattle.source_events.proofs.Placing.{RunsBetween, frames_between}
-use Rattle.resync_laws.proofs.FollowTerms.{items_of, from_point}
-use Rattle.resync_laws.specs.Points.{key, is_from}
+use Rattle.resync_points.specs.Points.{items_of, from_point}
+use Rattle.resync_points.specs.Points.{key, is_from}
 use Rattle.source_events.specs.Report.{is_item}
-use Rattle.resync_laws.proofs.EventTerms.{items, AllFrom}
-use Rattle.resync_laws.specs.Points.{items_among, from_points}
-use Rattle.resync_laws.specs.Moved.{later_reading}
+use Rattle.resync_reports.proofs.EventTerms.{items}
+use Rattle.resync_points.specs.Points.{AllFrom}
+use Rattle.resync_reports.specs.Points.{items_among, from_points}
+use Rattle.resync_reports.specs.Moved.{later_reading}
 use Rattle.resync_ports.specs.Port.{rest_mode}
 use Rattle.capture_plan.specs.declared.frames.FramesMode.{FramesMode}
-use Rattle.resync_laws.proofs.ReportTerms.{Resumed, rests, CanAll, AllRead, AreQuiet, IsQuietAt, PartLaw, first_named, points_in, port_of, ExactLaw}
-use Rattle.resync_laws.proofs.Listing.{lifted_items, grow, list_rises, list_bytes}
-use Rattle.resync_laws.proofs.Merging.{all_from_points, part_from_points}
-use Rattle.resync_laws.proofs.Reporting.{rest_laws, report_items}
-use Rattle.resync_laws.proofs.RestReport.{rest_law, from_start}
+use Rattle.resync_reports.specs.Resumed.{Resumed, rests, CanAll, IsQuietAt, PartLaw, first_named, points_in, port_of}
+use Rattle.resync_reports.proofs.ReportTerms.{AllRead, AreQuiet, ExactLaw}
+use Rattle.resync_reports.proofs.Listing.{lifted_items, grow, list_rises, list_bytes}
+use Rattle.resync_reports.proofs.Merging.{all_from_points, part_from_points}
+use Rattle.resync_reports.proofs.Reporting.{rest_laws, report_items}
+use Rattle.resync_reports.proofs.RestReport.{rest_law, from_start}
 
 -- what is taken from a point on is from there on
 from_all : {V : Type 0} (o : Option Place) (xs : List (Said V × Place)) → AllFrom o (from_point o xs)

@@ -14,7 +14,7 @@ use Rattle.frame_grammar.proofs.CellLaws.{one_id}
 use Rattle.port_reader.specs.Reading.{frames_of_items}
 use Rattle.resync_ports.specs.Port.{unnamed, BeginsNamed, AreNamedLater}
 use Rattle.source_events.specs.Runs.{joined, runs_of, all_runs}
-use Rattle.resync_laws.proofs.RunTerms.{unnamed_run, RunsLater}
+use Rattle.resync_reports.proofs.RunTerms.{unnamed_run, RunsLater}
 use Rattle.resync_ports.proofs.Naming.{frame_names, begin_named}
 
 hidden_joined : (c : Cell) (runs : List (List Cell)) → joined (unnamed c) (map unnamed_run runs) ≡ map unnamed_run (joined c runs)

@@ -2,17 +2,10 @@
 use Rattle.std.specs.Prelude.{ℕ, ◌+◌, List, map, Option, None, Some}
 use Rattle.trace_values.specs.declared.fault.Reason.{Reason}
 use Rattle.trace_values.specs.Placed.{Place}
+use Rattle.resync_points.specs.Moved.{later_fault}
 use Rattle.trace_values.specs.declared.cell.Cell.{Cell}
 use Rattle.port_reader.specs.Reading.{PortReading}
 use Rattle.source_events.specs.declared.event.Event.{Event}
-
--- a place and a fault there
-abbrev pub later_place : ℕ → Place → Place
-later_place c p = record { at = p.at + c; half = p.half }
-
-abbrev pub later_fault : ℕ → Option (Place × Reason) → Option (Place × Reason)
-later_fault c None = None
-later_fault c (Some f) = Some (later_place c f.0, f.1)
 
 -- the cells, the reading and the events there
 abbrev pub later_cell : ℕ → Cell → Cell

@@ -4,7 +4,7 @@ use Rattle.std.specs.List.{filter}
 use Rattle.trace_values.specs.Placed.{Place}
 use Rattle.source_events.specs.declared.event.What.{What}
 use Rattle.source_events.specs.Report.{is_item}
-use Rattle.resync_laws.specs.Points.{is_from}
+use Rattle.resync_points.specs.Points.{is_from}
 
 -- each source's events only grow
 abbrev pub OnlyGrow : {X V : Type 0} → (ℕ → List X → List (What V × Place)) → Type 0
@@ -21,8 +21,3 @@ told_from point es = filter (λ e. is_from point e.1) es
 abbrev pub EachFollows : {X V : Type 0} → (ℕ → List X → List (What V × Place)) → (ℕ → List X → List (What V × Place)) → (ℕ → Option Place) → List X → List X → List X → Type 0
 EachFollows {X} whole_events rest_events points whole_before rest_before later = (x : ℕ) (front after : List X) → later ≡ front ++ after →
     told_from (points x) (items (rest_events x (rest_before ++ front))) ≡ told_from (points x) (items (whole_events x (whole_before ++ front)))
-
--- all of these are from the point on
-abbrev pub AllFrom : {W : Type 0} → Option Place → List (W × Place) → Type 0
-AllFrom point [] = Unit {0}
-AllFrom point (e ∷ es) = (is_from point e.1 ≡ true) × AllFrom point es

@@ -18,8 +18,8 @@ use Rattle.trace_values.proofs.Lists.{fronts_meet}
 use Rattle.trace_values.proofs.Modes as modes
 use Rattle.resync_streams.specs.Fronts.{Hunting, IsSync, Locks}
 use Rattle.resync_streams.specs.Syncing.{Syncs}
-use Rattle.resync_laws.proofs.FollowTerms.{Between, IsRising, is_kept, items_of, point_of, from_point, Follows}
-use Rattle.resync_laws.specs.Points.{key, is_from}
+use Rattle.resync_points.specs.Points.{Between, IsRising, is_kept, items_of, point_of, from_point, Follows}
+use Rattle.resync_points.specs.Points.{key, is_from}
 use Rattle.resync_streams.proofs.Locking as locking
 use Rattle.resync_streams.proofs.Resting as resting
 

@@ -25,10 +25,12 @@ use Rattle.source_events.specs.declared.event.What.TheVariants.{Raw, Trigger}
 use Rattle.source_events.specs.Runs.{joined, runs_of, all_runs, id_of, bytes_of, placed_run, last_at, list_of}
 use Rattle.source_events.specs.Merge.{told, grown, merged_from}
 use Rattle.source_events.specs.Report.{what_of, lifted, triggers, raw_events, raws, events, all_events}
-use Rattle.resync_laws.specs.Moved.{later_place, later_cell, later_run, later_reading, later_event}
-use Rattle.resync_laws.proofs.MovedTerms.{later, later_item, later_port}
-use Rattle.resync_laws.proofs.ReportTerms.{Resumed, rests, CanAll}
-use Rattle.resync_laws.proofs.Moving.{port_later}
+use Rattle.resync_points.specs.Moved.{later_place}
+use Rattle.resync_reports.specs.Moved.{later_cell, later_run, later_reading, later_event}
+use Rattle.resync_points.specs.Moved.{later}
+use Rattle.resync_reports.proofs.MovedTerms.{later_item, later_port}
+use Rattle.resync_reports.specs.Resumed.{Resumed, rests, CanAll}
+use Rattle.resync_reports.proofs.MovedPort.{port_later}
 
 pub placed_later : (c at : ℕ) (bytes : List ℕ) → placed_from (at + c) bytes ≡ map (λ b. later c b) (placed_from at bytes)
 placed_later c at [] = refl
