@@ -1,7 +1,6 @@
 -- From where on the rest of a capture tells what the whole tells: the point of each source.
-use Rattle.std.specs.Prelude.{ℕ, ◌+◌, ◌*◌, List, [], ◌∷◌, Bool, true, false, nat_le, if◌then◌else◌}
-use Rattle.std.specs.Prelude.{Option, None, Some, is_none}
-use Rattle.std.specs.List.{filter}
+use Rattle.std.specs.Prelude.{ℕ, List, [], ◌∷◌, true}
+use Rattle.std.specs.Prelude.{Option, None, Some}
 use Rattle.trace_values.specs.declared.cell.Cell.{Cell}
 use Rattle.trace_values.specs.Placed.{Place}
 use Rattle.trace_values.specs.Stream.{Said, Notice, Kept}
@@ -11,15 +10,12 @@ use Rattle.itm_codec.specs.Reading.{packets_in}
 use Rattle.stp_grammar.specs.declared.item.StpItem.{StpItem}
 use Rattle.stp_grammar.specs.declared.item.StpItem.TheVariants.{Version}
 use Rattle.stp_codec.specs.Reading.{items_in}
-use Rattle.source_events.specs.declared.event.Event.{Event}
 use Rattle.source_events.specs.declared.plan.Plan.{Plan}
 use Rattle.source_events.specs.declared.plan.SourceKind.{SourceKind}
 use Rattle.source_events.specs.declared.plan.SourceKind.TheVariants.{Itm, Stp}
-use Rattle.source_events.specs.Merge.{place_of}
 use Rattle.source_events.specs.Plan.{kind_of}
 use Rattle.resync_points.specs.Points.{point_in}
 use Rattle.resync_reports.specs.Points.{first_in}
-use Rattle.source_events.specs.Report.{is_item}
 
 -- the place of the first item of a VERSION
 abbrev pub first_version : List (Said StpItem × Place) → Option Place

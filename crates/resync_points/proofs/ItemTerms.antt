@@ -2,7 +2,6 @@
 use Rattle.std.specs.Prelude.{◌≡◌, List, [], ◌∷◌, Bool, true, false, if◌then◌else◌, Option, None, Some}
 use Rattle.trace_values.specs.Placed.{Place}
 use Rattle.trace_values.specs.Stream.{Said, Notice, Kept}
-use Rattle.trace_values.specs.Decorated.{decorated}
 
 -- the place of the first item of some kind
 abbrev pub first_item : {W : Type 0} → (W → Bool) → List (Said W × Place) → Option Place

@@ -1,5 +1,5 @@
 -- What is read of the same units at offsets that are greater by one number.
-use Rattle.std.specs.Prelude.{ℕ, ◌+◌, List, map, Option, None, Some}
+use Rattle.std.specs.Prelude.{ℕ, ◌+◌, map, Option, None, Some}
 use Rattle.trace_values.specs.declared.fault.Reason.{Reason}
 use Rattle.trace_values.specs.Placed.{Place, Placed}
 use Rattle.trace_values.specs.Stream.{Stream}

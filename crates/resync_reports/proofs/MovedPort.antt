@@ -1,6 +1,6 @@
 -- What a port reads of the same bytes at later offsets.
-use Rattle.std.proofs.Common.{◌≡◌, ℕ, zero, suc, ◌+◌, ◌-◌, List, [], ◌∷◌, ◌++◌, length, map, refl, sym, ◌∙◌, ap, Bool, true, false, cond, Option, None, Some}
-use Rattle.std.specs.Prelude.{◌==◌, ◌&&◌}
+use Rattle.std.proofs.Common.{◌≡◌, ℕ, zero, suc, ◌+◌, List, [], ◌∷◌, ◌++◌, length, map, refl, sym, ◌∙◌, ap, Bool, true, false, cond, Option, None, Some}
+use Rattle.std.specs.Prelude.{◌==◌}
 use Rattle.std.specs.List.{sum_by}
 use Rattle.std.proofs.lemmas.List.{map-append, length-map}
 use Rattle.std.proofs.lemmas.List.Sums.{sum_by-append}
@@ -10,18 +10,14 @@ use Rattle.trace_values.specs.declared.next.Next.{Next}
 use Rattle.trace_values.specs.declared.next.Next.TheVariants.{Go, End, Fail}
 use Rattle.resync_points.proofs.Moving.{moved, move, move_found, progress_moved, hunt_moved}
 use Rattle.trace_values.specs.Placed.{Place, Placed}
-use Rattle.trace_values.specs.Walk.{by_unit}
-use Rattle.trace_values.specs.Reading.{Progress, with_unit, advance, progress_from, progress}
-use Rattle.trace_values.specs.declared.pattern.Pattern.{Pattern}
-use Rattle.trace_values.specs.Hunted.{Found, Hunt, run_after, begun, hunt_on, hunt_from, no_hunt, hunt, hunted_by}
-use Rattle.trace_values.specs.Moded.{stream_in}
-use Rattle.trace_values.specs.Stream.{Stream, Said, Notice, Kept, kept, shown}
+use Rattle.trace_values.specs.Reading.{Progress, progress}
+use Rattle.trace_values.specs.Hunted.{Found, Hunt, hunt}
 use Rattle.frame_grammar.specs.Port.{PortItem, Full, Half, Frame, Part, Between, First, One, Two, Three, State, start, word_ended, part_rule, rule}
 use Rattle.frame_grammar.specs.Reading.{halves_in}
 use Rattle.port_sync.specs.Hunting.{pattern}
 use Rattle.deformatter.specs.Reading.{PortStream, items_of, read_behind, port_hunted, port_stream}
 use Rattle.resync_points.specs.Moved.{later_place, later_fault}
-use Rattle.resync_points.specs.Moved.{later, later_stream}
+use Rattle.resync_points.specs.Moved.{later}
 use Rattle.resync_reports.proofs.MovedTerms.{later_item, later_port}
 
 -- the port

@@ -1,23 +1,16 @@
 -- The report of the rest of a capture, against the whole's, for any sources that can resume.
-use Rattle.std.specs.Prelude.{◌≡◌, ℕ, List, [], ◌∷◌, ◌++◌, length, map, true, ◌==◌, if◌then◌else◌, Option, None, Some, is_none}
+use Rattle.std.specs.Prelude.{◌≡◌, ℕ, List, [], ◌∷◌, ◌++◌, length, map, true, None}
 use Rattle.trace_values.specs.declared.cell.Cell.{Cell}
-use Rattle.trace_values.specs.Placed.{Place, Placed, placed, placed_from}
-use Rattle.trace_values.specs.Stream.{Stream}
+use Rattle.trace_values.specs.Placed.{Placed, placed, placed_from}
 use Rattle.capture_plan.specs.declared.frames.FramesMode.{FramesMode}
-use Rattle.port_reader.specs.Reading.{PortReading, port_reading, cells_of}
+use Rattle.port_reader.specs.Reading.{port_reading}
 use Rattle.source_events.specs.declared.event.Event.{Event}
-use Rattle.source_events.specs.Merge.{part}
 use Rattle.source_events.specs.Runs.{list_of}
-use Rattle.source_events.specs.Report.{Mapped, IsLawful, runs_in, stop_in, report}
+use Rattle.source_events.specs.Report.{runs_in, stop_in, report}
 use Rattle.resync_ports.specs.Port.{IsPortRest, rest_mode}
-use Rattle.resync_reports.specs.Points.{first_in}
 use Rattle.resync_reports.proofs.RunTerms.{RunsRest}
-use Rattle.resync_points.specs.Points.{IsRising, FollowsFrom, items_of}
 use Rattle.resync_reports.specs.Moved.{later_reading, later_event}
-use Rattle.resync_points.specs.Moved.{later, later_stream}
-use Rattle.resync_points.specs.Points.{AllFrom}
 use Rattle.resync_reports.specs.Points.{items_among, from_points}
-
 use Rattle.resync_reports.specs.Resumed.{Resumed, wholes, rests, IsQuiet, points_in, port_of}
 
 abbrev pub AreQuiet : {K V : Type 0} → List (Resumed K V) → Type 0

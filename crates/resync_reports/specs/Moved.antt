@@ -1,7 +1,5 @@
 -- What is read of the same bytes at offsets that are greater by one number.
-use Rattle.std.specs.Prelude.{ℕ, ◌+◌, List, map, Option, None, Some}
-use Rattle.trace_values.specs.declared.fault.Reason.{Reason}
-use Rattle.trace_values.specs.Placed.{Place}
+use Rattle.std.specs.Prelude.{ℕ, ◌+◌, List, map}
 use Rattle.resync_points.specs.Moved.{later_fault}
 use Rattle.trace_values.specs.declared.cell.Cell.{Cell}
 use Rattle.port_reader.specs.Reading.{PortReading}

@@ -2,15 +2,14 @@
 use Rattle.std.specs.Prelude.{◌≡◌, ℕ, List, [], ◌∷◌, ◌++◌, length, map, true, ◌==◌, if◌then◌else◌}
 use Rattle.std.specs.Prelude.{Option, None, Some, is_none}
 use Rattle.trace_values.specs.declared.cell.Cell.{Cell}
-use Rattle.trace_values.specs.Placed.{Place, Placed, placed, placed_from}
+use Rattle.trace_values.specs.Placed.{Place, Placed, placed}
 use Rattle.trace_values.specs.Stream.{Stream}
 use Rattle.capture_plan.specs.declared.frames.FramesMode.{FramesMode}
 use Rattle.port_reader.specs.Reading.{PortReading, port_reading, cells_of}
-use Rattle.source_events.specs.declared.event.Event.{Event}
 use Rattle.source_events.specs.Merge.{part}
 use Rattle.source_events.specs.Runs.{list_of}
 use Rattle.source_events.specs.Report.{Mapped, IsLawful, runs_in, stop_in, report}
-use Rattle.resync_ports.specs.Port.{IsPortRest, rest_mode}
+use Rattle.resync_ports.specs.Port.{rest_mode}
 use Rattle.resync_reports.specs.Points.{first_in}
 use Rattle.resync_points.specs.Points.{IsRising, FollowsFrom, AllFrom, items_of}
 use Rattle.resync_reports.specs.Moved.{later_reading, later_event}
