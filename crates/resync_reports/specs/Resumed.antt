@@ -16,8 +16,8 @@ use Rattle.resync_reports.specs.Moved.{later_reading, later_event}
 use Rattle.resync_points.specs.Moved.{later, later_stream}
 use Rattle.resync_reports.specs.Points.{items_among, from_points}
 
--- A mapped source whose front may be lost: which units its bytes are, how these read in the whole and in the rest, where
--- the point is in what the rest reads as, and of which kind the source is.
+-- A mapped source whose front may be lost: which units its bytes are, how these read in the whole and in the rest,
+-- where the point is in what the rest reads as, and of which kind the source is.
 pub record Resumed (K V : Type 0) : Type 0 where
   pub id : ℕ
   pub kind : K
@@ -86,8 +86,8 @@ points_in (p ∷ ps) runs x = if x == p.id then p.point (p.rest (p.units (list_o
 abbrev pub port_of : FramesMode → List ℕ → PortReading
 port_of mode bytes = port_reading mode (placed bytes)
 
--- Of a source that has no items before its point the rest's items are the whole's from the point on, and no others, with
--- each offset smaller by how many bytes were lost. So any fold over them is the same.
+-- Of a source that has no items before its point the rest's items are the whole's from the point on, and no others,
+-- with each offset smaller by how many bytes were lost. So any fold over them is the same.
 abbrev pub PartLaw : {K V : Type 0} → List (Resumed K V) → Type 0
 PartLaw ps =
     (x : ℕ) → IsQuietAt ps x → (mode : FramesMode) (lost bytes : List ℕ) →
