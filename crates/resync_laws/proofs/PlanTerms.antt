@@ -1,0 +1,58 @@
+-- What a plan maps, where the front of a capture is lost.
+use Rattle.std.specs.Prelude.{ℕ, List, map, Bool, true, false}
+use Rattle.trace_values.specs.Placed.{Placed}
+use Rattle.trace_values.specs.Nibbles.{nibbles_of}
+use Rattle.capture_plan.specs.Modes.{packets_hunt}
+use Rattle.itm_codec.specs.Reading.{packets_in}
+use Rattle.stp_grammar.specs.declared.item.StpItem.{StpItem}
+use Rattle.stp_grammar.specs.declared.item.StpItem.TheVariants.{Version}
+use Rattle.stp_codec.specs.Reading.{items_at}
+use Rattle.source_events.specs.declared.packet.Packet.{Packet}
+use Rattle.source_events.specs.declared.packet.Packet.TheVariants.{Itm as ItmPacket, Stp as StpPacket}
+use Rattle.source_events.specs.declared.plan.Plan.{Plan}
+use Rattle.source_events.specs.declared.plan.SourceKind.{SourceKind}
+use Rattle.source_events.specs.declared.plan.SourceKind.TheVariants.{Itm, Stp}
+use Rattle.source_events.specs.Packets.{stream_as}
+use Rattle.source_events.specs.Plan.{mapped_ids}
+use Rattle.resync_streams.specs.Fronts.{IsRest}
+use Rattle.resync_sources.specs.Itm as itm
+use Rattle.resync_sources.specs.Stp.{IsItemsRest}
+use Rattle.resync_points.specs.Points.{point_of}
+use Rattle.resync_points.proofs.ItemTerms.{first_item}
+use Rattle.resync_reports.specs.Resumed.{Resumed}
+
+-- the item of a VERSION
+abbrev pub is_version_item : StpItem → Bool
+is_version_item (Version version) = true
+is_version_item item = false
+
+abbrev pub is_version : Packet → Bool
+is_version (StpPacket (Version version)) = true
+is_version packet = false
+
+-- a mapped source in a whole capture and in its rest
+abbrev pub resumed_by : Plan → ℕ × SourceKind → Resumed SourceKind Packet
+resumed_by plan (id, Itm) = record {
+  id = id;
+  kind = Itm;
+  units = λ u. u;
+  whole = λ u. stream_as ItmPacket (packets_in (packets_hunt plan.packets) u);
+  rest = λ u. stream_as ItmPacket (packets_in true u);
+  point = λ s. point_of s;
+}
+resumed_by plan (id, Stp) = record {
+  id = id;
+  kind = Stp;
+  units = nibbles_of;
+  whole = λ n. stream_as StpPacket (items_at plan.order (packets_hunt plan.packets) n);
+  rest = λ n. stream_as StpPacket (items_at plan.order true n);
+  point = λ s. first_item is_version s.given;
+}
+
+abbrev pub sources_of : Plan → List (Resumed SourceKind Packet)
+sources_of plan = map (λ s. resumed_by plan s) (mapped_ids plan)
+
+-- what the units of a source of each kind read as in the rest
+abbrev pub unit_reads : Plan → SourceKind → List Placed → List Placed → Type 0
+unit_reads plan Itm early rest = IsRest (itm.hunting (packets_hunt plan.packets)) early rest
+unit_reads plan Stp early rest = IsItemsRest plan.order (packets_hunt plan.packets) early rest

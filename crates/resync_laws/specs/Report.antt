@@ -1,0 +1,89 @@
+-- The report of the rest of a capture, whose front is lost, against that of the whole.
+use Rattle.std.specs.Prelude.{◌≡◌, ℕ, List, ◌++◌, length, map, true, false, ◌==◌, Option, None, Some}
+use Rattle.std.specs.List.{list_any}
+use Rattle.trace_values.specs.Nibbles.{nibbles_of}
+use Rattle.trace_values.specs.Placed.{Place, Placed, placed, placed_from}
+use Rattle.capture_plan.specs.declared.packets.PacketsMode.TheVariants.{Hunt}
+use Rattle.capture_plan.specs.Modes.{packets_hunt}
+use Rattle.port_reader.specs.Reading.{PortReading, port_reading}
+use Rattle.source_events.specs.declared.event.Event.{Event}
+use Rattle.source_events.specs.declared.packet.Packet.{Packet}
+use Rattle.source_events.specs.declared.plan.Plan.{Plan}
+use Rattle.source_events.specs.declared.plan.SourceKind.{SourceKind}
+use Rattle.source_events.specs.declared.plan.SourceKind.TheVariants.{Itm, Stp}
+use Rattle.source_events.specs.Merge.{part}
+use Rattle.source_events.specs.Plan.{kind_of, sources_by}
+use Rattle.source_events.specs.Report.{stop_in, report}
+use Rattle.resync_streams.specs.Fronts.{IsRest}
+use Rattle.resync_ports.specs.Port.{IsPortRest, rest_mode}
+use Rattle.resync_sources.specs.Capture.{source_bytes}
+use Rattle.resync_sources.specs.Itm as itm
+use Rattle.resync_sources.specs.Stp.{IsItemsRest}
+use Rattle.resync_reports.specs.Moved.{later_reading, later_event}
+use Rattle.resync_laws.specs.Points.{point_of}
+use Rattle.resync_reports.specs.Points.{items_among, from_points}
+
+-- how the rest of a capture is read that this plan reads whole: by hunts
+abbrev pub rest_plan : Plan → Plan
+rest_plan plan = record plan { frames = rest_mode plan.frames; packets = Hunt }
+
+-- The whole capture, of which some bytes are lost and others are left; and what is left of it, at its offsets in the
+-- whole.
+abbrev pub whole_bytes : List ℕ → List ℕ → List Placed
+whole_bytes lost left = placed (lost ++ left)
+
+abbrev pub left_bytes : List ℕ → List ℕ → List Placed
+left_bytes lost left = placed_from (length lost) left
+
+-- what the port reads of both, and the reports
+abbrev pub whole_reading : Plan → List ℕ → List ℕ → PortReading
+whole_reading plan lost left = port_reading plan.frames (whole_bytes lost left)
+
+abbrev pub left_reading : Plan → List ℕ → List ℕ → PortReading
+left_reading plan lost left = port_reading (rest_mode plan.frames) (left_bytes lost left)
+
+abbrev pub whole_report : Plan → List ℕ → List ℕ → List (Event Packet)
+whole_report plan lost left = report (sources_by plan) plan.frames (whole_bytes lost left)
+
+abbrev pub left_report : Plan → List ℕ → List ℕ → List (Event Packet)
+left_report plan lost left = report (sources_by (rest_plan plan)) (rest_mode plan.frames) (left_bytes lost left)
+
+-- the point of each source
+abbrev pub points : Plan → List ℕ → List ℕ → ℕ → Option Place
+points plan lost left x = point_of plan (left_reading plan lost left) x
+
+-- what the bytes of a source of this kind read as in the rest, where these are before them in the whole
+abbrev pub reads : Plan → SourceKind → List Placed → List Placed → Type 0
+reads plan Itm early rest = IsRest (itm.hunting (packets_hunt plan.packets)) early rest
+reads plan Stp early rest =
+    IsItemsRest plan.order (packets_hunt plan.packets) (nibbles_of early) (nibbles_of rest)
+
+-- The bytes of a mapped source in the rest are the last of its bytes in the whole, and they read as its kind has it.
+pub record SourceFollows (plan : Plan) (kind : SourceKind) (whole rest : List Placed) : Type 0 where
+  pub early : List Placed
+  pub parts : whole ≡ early ++ rest
+  pub rest_reads : reads plan kind early rest
+
+-- The report of what is left of a capture follows that of the whole, which this plan reads.
+pub record ReportFollows (plan : Plan) (lost left : List ℕ) : Type 0 where
+  pub port : IsPortRest plan.frames (placed lost) (left_bytes lost left)
+  pub sources : (x : ℕ) (kind : SourceKind) → kind_of plan x ≡ Some kind →
+      SourceFollows plan kind (source_bytes plan.frames x (whole_bytes lost left))
+      (source_bytes (rest_mode plan.frames) x (left_bytes lost left))
+  -- but for notices, the events of both are the same from each source's point on, and in the same order
+  pub events : from_points (points plan lost left) (items_among (left_report plan lost left))
+      ≡ from_points (points plan lost left) (items_among (whole_report plan lost left))
+  -- and of a source that is no STP source the rest has no others
+  pub exact : (x : ℕ) → list_any (λ y. y == x) plan.stp ≡ false →
+      part (Some x) (items_among (left_report plan lost left))
+      ≡ part (Some x) (from_points (points plan lost left) (items_among (whole_report plan lost left)))
+  -- the rest has no fault, and once its port has locked it has the whole's tail
+  pub sound : stop_in (sources_by (rest_plan plan)) (left_reading plan lost left) ≡ None
+  pub tail : (left_reading plan lost left).locked ≡ true →
+      (left_reading plan lost left).tail ≡ (whole_reading plan lost left).tail
+  -- at offsets from 0 on, all of the rest is the same, with each offset smaller by how many bytes are lost
+  pub reading : left_reading plan lost left
+      ≡ later_reading (length lost) (port_reading (rest_mode plan.frames) (placed left))
+  pub report_is : left_report plan lost left ≡ map (λ e. later_event (length lost) e)
+      (report (sources_by (rest_plan plan)) (rest_mode plan.frames) (placed left))
+  pub sound_from_0 : stop_in (sources_by (rest_plan plan)) (port_reading (rest_mode plan.frames) (placed left)) ≡ None

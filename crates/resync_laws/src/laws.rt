@@ -1,0 +1,20 @@
+//! Laws of captures whose front is lost, over the definitions alone: of a port, of sources, and of reports.
+
+ghost use Rattle.std.specs.Prelude.{◌≡◌, ℕ, List, ◌++◌, None};
+ghost use Rattle.trace_values.specs.Placed.{placed};
+ghost use Rattle.port_reader.specs.Reading.{port_reading};
+ghost use Rattle.source_events.specs.Plan.{sources_by};
+ghost use Rattle.source_events.specs.Report.{stop_in};
+ghost use Rattle.resync_laws.specs.Report.{ReportFollows};
+
+pub use resync_ports::laws::{port_pattern_law, port_rest_law};
+pub use resync_sources::laws::{itm_pattern_law, itm_rest_law, stp_pattern_law, stp_rest_law};
+use source_events::Plan;
+
+/// Where this plan reads a whole capture without a fault, the report of any rest of it, read with hunts, follows the
+/// whole's.
+pub fn report_rest_law(plan: &Plan)
+    ensures { (lost left : List ℕ) →
+        stop_in (sources_by plan.now) (port_reading plan.now.frames (placed (lost ++ left))) ≡ None →
+        ReportFollows plan.now lost left }
+{}

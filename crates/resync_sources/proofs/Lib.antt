@@ -1,0 +1,5 @@
+pub mod ItmSyncing
+pub mod StpSyncing
+pub mod StpItems
+pub mod StpResting
+pub mod Captures

@@ -1,0 +1,4 @@
+pub mod Itm
+pub mod Stp
+pub mod Capture
+pub mod Rows
