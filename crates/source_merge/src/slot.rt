@@ -6,7 +6,8 @@ ghost use Rattle.trace_values.specs.Placed.{Placed};
 ghost use Rattle.trace_values.specs.Stream.{given_by};
 ghost use Rattle.source_events.specs.Merge.{told};
 ghost use Rattle.source_events.specs.Report.{lifted};
-ghost use Rattle.source_events.specs.Fitting.{AllFit};
+ghost use Rattle.source_events.specs.Fitting.{AllFit, PacketFits};
+ghost use Rattle.source_machine.specs.Machine.{Stands, held_of, is_live, reading_of, skipped_by};
 ghost use Rattle.source_merge.specs.Feeding.{Feeds, IsEarly, step_fault};
 
 use arrayvec::ArrayVec;
@@ -109,4 +110,27 @@ pub fn feed_run<M: Machine<Item = Packet>>(
         }
     }
     None
+}
+
+/// Feeds a run of this source to its machine, up to a fault, and notes what it gives.
+pub fn feed_machine(
+    machine: &mut SourceMachine,
+    source: SourceId,
+    run: &[Cell],
+    out: &mut Events,
+) -> Option<Fault>
+    requires live { is_live machine.old ≡ true }
+    requires room { held_of machine.old + skipped_by machine.old + 2 * length run.now ≤ 2 ^ 60 }
+    requires events { array_vec_len out.old + 2 * length run.now ≤ EVENTS }
+    ensures same { reading_of machine.new ≡ reading_of machine.old }
+    ensures feeds { (u : List Placed) → Stands machine.old u →
+        Feeds (reading_of machine.old) (Stands machine.new) u run.now source out.old.items out.new.items result }
+    ensures early { IsEarly (reading_of machine.old) (Stands machine.old) run.now result }
+    ensures live { is_live machine.new ≡ is_none result }
+    ensures few { held_of machine.new + skipped_by machine.new ≤
+        held_of machine.old + skipped_by machine.old + 2 * length run.now }
+    ensures events { array_vec_len out.new ≤ array_vec_len out.old + 2 * length run.now }
+    ensures fits { AllFit PacketFits out.old.items → AllFit PacketFits out.new.items }
+{
+    feed_run(machine, source, run, out)
 }
