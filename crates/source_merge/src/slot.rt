@@ -12,7 +12,7 @@ ghost use Rattle.source_merge.specs.Feeding.{Feeds, IsEarly, step_fault};
 
 use arrayvec::ArrayVec;
 use capture_plan::PacketsMode;
-use source_events::{Event, Packet, SourceKind, What};
+use source_events::{Event, Packet, RunBytes, SourceKind, What};
 use source_machine::SourceMachine;
 use stp_grammar::packet::Order;
 use trace_values::{Cell, Fault, Machine, SourceId, Step};
@@ -112,7 +112,8 @@ pub fn feed_run<M: Machine<Item = Packet>>(
     None
 }
 
-/// Feeds a run of this source to its machine, up to a fault, and notes what it gives.
+/// Feeds a run of this source to its machine, up to a fault, and notes what it gives. It takes a packet at once whose
+/// bytes are all in the run.
 pub fn feed_machine(
     machine: &mut SourceMachine,
     source: SourceId,
@@ -120,6 +121,7 @@ pub fn feed_machine(
     out: &mut Events,
 ) -> Option<Fault>
     requires live { is_live machine.old ≡ true }
+    requires size { length run.now ≤ 15 }
     requires room { held_of machine.old + skipped_by machine.old + 2 * length run.now ≤ 2 ^ 60 }
     requires events { array_vec_len out.old + 2 * length run.now ≤ EVENTS }
     ensures same { reading_of machine.new ≡ reading_of machine.old }
@@ -132,5 +134,25 @@ pub fn feed_machine(
     ensures events { array_vec_len out.new ≤ array_vec_len out.old + 2 * length run.now }
     ensures fits { AllFit PacketFits out.old.items → AllFit PacketFits out.new.items }
 {
-    feed_run(machine, source, run, out)
+    let bytes = RunBytes::of(run);
+    let mut done = 0;
+    while done < run.len() {
+        if let Some((count, packet)) = machine.next_packet(&bytes.as_slice()[done..]) {
+            done += count;
+            out.push(Event {
+                at: run[done - 1].at,
+                half: 0,
+                source: Some(source),
+                what: What::Packet(packet),
+            });
+        } else {
+            let cell = run[done];
+            done += 1;
+            let step = machine.feed(cell.at, cell.byte);
+            if let Some(fault) = note(out, source, cell.at, step) {
+                return Some(fault);
+            }
+        }
+    }
+    None
 }
