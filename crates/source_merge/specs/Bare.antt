@@ -1,22 +1,17 @@
 -- What the machine of source 1 makes of a piece of a capture with no formatter.
-use Rattle.std.specs.Prelude.{◌≡◌, ℕ, ◌+◌, ◌-◌, ◌*◌, ◌≤◌, List, ◌∷◌, ◌++◌, length, Option, None, Some}
-use Rattle.std.specs.Option.{option_map}
+use Rattle.std.specs.Prelude.{◌≡◌, ℕ, ◌+◌, ◌*◌, ◌≤◌, List, ◌∷◌, ◌++◌, length, Option, None, Some}
 use Rattle.trace_values.specs.declared.block.Block.{Block}
 use Rattle.trace_values.specs.declared.fault.Fault.{Fault}
 use Rattle.trace_values.specs.declared.step.Step.{Step}
 use Rattle.trace_values.specs.Placed.{Placed}
 use Rattle.trace_values.specs.Stream.{StepFits}
-use Rattle.trace_values.specs.Block.{Takes, StopsFor, given_after, goes_on_after}
+use Rattle.trace_values.specs.Block.{Takes, StopsFor, goes_on_after}
 use Rattle.std.specs.Prelude.{IfSome}
-use Rattle.source_events.specs.declared.event.Event.{Event}
 use Rattle.source_events.specs.declared.event.Stop.{Stop}
 use Rattle.source_events.specs.declared.packet.Packet.{Packet}
 use Rattle.source_events.specs.Fitting.{PacketFits}
-use Rattle.source_events.specs.Merge.{told}
-use Rattle.source_events.specs.Report.{lifted}
 use Rattle.source_machine.specs.declared.machine.SourceMachine.{SourceMachine}
 use Rattle.source_machine.specs.Machine.{reading_of, Stands, is_live, held_of, skipped_by}
-use Rattle.source_merge.specs.declared.bare.Taken.{Taken}
 use Rattle.source_merge.specs.declared.slot.Slot.{Slot}
 use Rattle.source_merge.specs.Feeding.{step_fault}
 
@@ -42,11 +37,3 @@ pub record PieceFed (front : List (Slot SourceMachine)) (s : Slot SourceMachine)
   pub live_is : is_live slot.machine ≡ goes_on_after block.step
   pub fits : IfSome block.step (StepFits PacketFits)
   pub few : held_of slot.machine + skipped_by slot.machine ≤ held_of s.machine + skipped_by s.machine + 2 * block.bytes
-
--- It did, and these events and this fault are what its last answer tells.
-pub record PieceTaken (front : List (Slot SourceMachine)) (s : Slot SourceMachine) (back slots : List (Slot SourceMachine))
-    (at : ℕ) (piece : List ℕ) (old new : List (Event Packet)) (taken : Taken) : Type 0 where
-  pub step : Option (Step Packet)
-  pub fed : PieceFed front s back slots at piece (record { bytes = taken.bytes; step = step })
-  pub given : new ≡ old ++ told (Some 1) (lifted (given_after (at + (taken.bytes - 1)) step))
-  pub stop_is : taken.stop ≡ option_map (stop_by 1) (last_fault step)

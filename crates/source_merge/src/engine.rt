@@ -7,7 +7,7 @@ ghost use Rattle.source_machine.specs.Machine.{held_of, is_live as is_machine_li
 ghost use Rattle.source_merge.specs.Counting.{size_of};
 ghost use Rattle.source_merge.specs.Routing.{HaveRoom, HaveRoom-prop, LiveIf, LiveIf-prop};
 
-use crate::bare::{bare_source, take_piece};
+use crate::bare::{bare_source, feed_slot_piece, note_last};
 use crate::counts::Counters;
 use crate::flow::{Fed, Flow, flow_of};
 use crate::mapped::{Slots, slots_of};
@@ -262,14 +262,16 @@ impl Engine {
             FedAs (Answers (plan_of self.old) [] Going) (Answers (plan_of self.old) out.new.items result.flow)
             u at (take result.bytes piece.now) }
     {
-        let taken = take_piece(self.slots.as_mut_slice(), index, at, piece, out);
-        self.counters.add_bare(taken.bytes, out.as_slice());
-        self.count += taken.bytes as u64;
-        self.next = at + taken.bytes as u64;
-        self.live = taken.stop.is_none();
+        let block = feed_slot_piece(self.slots.as_mut_slice(), index, at, piece);
+        let last = at + (block.bytes as u64 - 1);
+        let stop = note_last(out, bare_source(), last, block.step);
+        self.counters.add_bare(block.bytes, out.as_slice());
+        self.count += block.bytes as u64;
+        self.next = at + block.bytes as u64;
+        self.live = stop.is_none();
         Fed {
-            bytes: taken.bytes,
-            flow: flow_of(taken.stop),
+            bytes: block.bytes,
+            flow: flow_of(stop),
         }
     }
 

@@ -22,7 +22,7 @@ use Rattle.source_machine.specs.declared.machine.SourceMachine.{SourceMachine}
 use Rattle.source_merge.specs.declared.slot.Slot.{Slot}
 use Rattle.source_merge.specs.Engine.{Stands, Keeps}
 use Rattle.source_merge.specs.Answering.{fault_of}
-use Rattle.source_merge.specs.Bare.{PieceFed, PieceTaken, last_fault, stop_by}
+use Rattle.source_merge.specs.Bare.{PieceFed, last_fault, stop_by}
 use Rattle.source_merge.specs.Counting.{HasCounted}
 use Rattle.source_merge.specs.Routing.{mapped_of, AllLive, HaveRoom, LiveIf, AreDistinct}
 use Rattle.source_merge.proofs.BareGoing.{stepped_bare}
@@ -35,8 +35,8 @@ use Rattle.source_merge.proofs.Slots.{room_more}
 use Rattle.source_merge.proofs.Standing.{distinct, none_there, live_now, live_if, tested, none_of}
 use Rattle.source_merge.proofs.engine.Engine.feed_bare.Goals as goal
 
-pub take_piece-taken-requires-clause-room : goal.take_piece-taken-requires-clause-room
-take_piece-taken-requires-clause-room c =
+pub feed_slot_piece-block-requires-clause-room : goal.feed_slot_piece-block-requires-clause-room
+feed_slot_piece-block-requires-clause-room c =
     room_more held_of skipped_by (30 * c.args.self.now.count) (2 ^ 59) c.as_mut_slice.result.now
     (let a = c.args.self.now.within in let b = c.args.self.now.limit in omega arith)
     (subst (λ (l : List (Slot SourceMachine)). HaveRoom held_of skipped_by (30 * c.args.self.now.count) l)
@@ -44,28 +44,30 @@ take_piece-taken-requires-clause-room c =
 
 pub returns-clause-fits : goal.returns-clause-fits
 returns-clause-fits c =
+    let step = c.feed_slot_piece-block.result.step in
+    let last = c.args.at + (c.feed_slot_piece-block.result.bytes - 1) in
     let f = first_at reading_of 1 c.args.self.now.slots.items c.args.index c.requires.found in
-    let p = c.take_piece-taken.ensures.taken f.front f.slot f.back (c.as_mut_slice.ensures.value ∙ f.parts) f.count in
-    let last = c.args.at + (c.take_piece-taken.result.bytes - 1) in
-    fit_more PacketFits c.args.out.now.items c.take_piece-taken.new.out.items (told (Some 1) (lifted (given_after last p.step)))
-    p.given (none_fit PacketFits c.args.out.now.items c.requires.empty) (last_fits PacketFits 1 last p.step p.fed.fits)
+    let fed = c.feed_slot_piece-block.ensures.fed f.front f.slot f.back (c.as_mut_slice.ensures.value ∙ f.parts) f.count in
+    fit_more PacketFits c.args.out.now.items c.note_last-stop.new.out.items (told (Some c.bare_source.result) (lifted (given_after last step)))
+    c.note_last-stop.ensures.given (none_fit PacketFits c.args.out.now.items c.requires.empty)
+    (last_fits PacketFits c.bare_source.result last step fed.fits)
 
 pub invariant_of-self : goal.invariant_of-self
 invariant_of-self c =
     let self = c.args.self.now in
     let old = self.slots.items in
-    let new = c.take_piece-taken.new.slots in
+    let block = c.feed_slot_piece-block.result in
+    let new = c.feed_slot_piece-block.new.slots in
     let f = first_at reading_of 1 old c.args.index c.requires.found in
-    let p = c.take_piece-taken.ensures.taken f.front f.slot f.back (c.as_mut_slice.ensures.value ∙ f.parts) f.count in
-    let block : Block Packet = record { bytes = c.take_piece-taken.result.bytes; step = p.step } in
-    let fed = p.fed in
+    let fed = c.feed_slot_piece-block.ensures.fed f.front f.slot f.back (c.as_mut_slice.ensures.value ∙ f.parts) f.count in
     let all = slots_are reading_of old new (piece_same old f.front f.slot f.back new f.parts c.args.at c.args.piece.now block fed) in
     let n = self.count in
-    let some = c.take_piece-taken.ensures.bytes.0 in
-    let within = c.take_piece-taken.ensures.bytes.1 in
-    let stop = c.take_piece-taken.result.stop in
+    let some = c.feed_slot_piece-block.ensures.bytes.0 in
+    let within = c.feed_slot_piece-block.ensures.bytes.1 in
+    let stop = c.note_last-stop.result in
     let gone = tested stop c.is_none-self.result c.is_none-self.ensures in
-    let stop_is = p.stop_is in
+    let stop_is : stop ≡ option_map (stop_by 1) (last_fault block.step) =
+    subst (λ (x : ℕ). stop ≡ option_map (stop_by x) (last_fault block.step)) c.bare_source.ensures c.note_last-stop.ensures.stop in
     record {
       sound = self.sound;
       few = (let a = self.few in omega arith);
@@ -75,7 +77,7 @@ invariant_of-self c =
           (piece_room old f.front f.slot f.back new f.parts c.args.at c.args.piece.now block fed (30 * n) self.room));
       size =
           (let a = self.size in let b = c.add_bare.ensures.size in let d = ap length c.as_slice.ensures.value in
-          let e = c.take_piece-taken.ensures.few in let g = ap length c.requires.empty in omega arith);
+          let e = c.note_last-stop.ensures.few in let g = ap length c.requires.empty in omega arith);
       within = (let a = self.within in let b = c.requires.offsets.0 in omega arith);
       limit = (let a = c.requires.offsets.1 in omega arith);
       port_live = λ k. self.port_live c.requires.live;
@@ -94,18 +96,20 @@ module _ (c : goal.After-flow_of) (u : List Placed) (h : Stands c.args.self.now 
   abbrev slots : List (Slot SourceMachine)
   slots = c.args.self.now.slots.items
 
+  abbrev block : Block Packet
+  block = c.feed_slot_piece-block.result
+
   abbrev first : FirstAt reading_of 1 slots c.args.index
   first = first_at reading_of 1 slots c.args.index c.requires.found
 
-  abbrev taken : PieceTaken first.front first.slot first.back c.take_piece-taken.new.slots c.args.at c.args.piece.now
-      c.args.out.now.items c.take_piece-taken.new.out.items c.take_piece-taken.result
-  taken = c.take_piece-taken.ensures.taken first.front first.slot first.back (c.as_mut_slice.ensures.value ∙ first.parts) first.count
-
-  abbrev block : Block Packet
-  block = record { bytes = c.take_piece-taken.result.bytes; step = taken.step }
-
   abbrev out : List (Event Packet)
-  out = c.take_piece-taken.new.out.items
+  out = c.note_last-stop.new.out.items
+
+  abbrev stop : Option Stop
+  stop = c.note_last-stop.result
+
+  fed : PieceFed first.front first.slot first.back c.feed_slot_piece-block.new.slots c.args.at c.args.piece.now block
+  fed = c.feed_slot_piece-block.ensures.fed first.front first.slot first.back (c.as_mut_slice.ensures.value ∙ first.parts) first.count
 
   live : AllLive is_live slots
   live = live_now is_live c.args.self.now.live slots c.requires.live c.args.self.now.lives
@@ -116,17 +120,20 @@ module _ (c : goal.After-flow_of) (u : List Placed) (h : Stands c.args.self.now 
 
   given_is : out ≡ told (Some 1) (lifted (given_after (c.args.at + (block.bytes - 1)) block.step))
   given_is =
-      taken.given
-      ∙ ap (λ (es : List (Event Packet)). es ++ told (Some 1) (lifted (given_after (c.args.at + (block.bytes - 1)) block.step))) c.requires.empty
+      c.note_last-stop.ensures.given
+      ∙ ap (λ (es : List (Event Packet)). es ++ told (Some c.bare_source.result) (lifted (given_after (c.args.at + (block.bytes - 1)) block.step))) c.requires.empty
+      ∙ ap (λ (x : ℕ). told (Some x) (lifted (given_after (c.args.at + (block.bytes - 1)) block.step))) c.bare_source.ensures
 
-  the_piece : Stepped plan slots h.sources live c.take_piece-taken.new.slots c.add_bare.new.self u c.args.at
-      (take block.bytes c.args.piece.now) out c.take_piece-taken.result.stop c.flow_of.result
+  the_piece : Stepped plan slots h.sources live c.feed_slot_piece-block.new.slots c.add_bare.new.self u c.args.at
+      (take block.bytes c.args.piece.now) out stop c.flow_of.result
   the_piece =
       stepped_bare plan slots h.sources live c.requires.bare c.args.index first
       (subst (λ (ss : List (Mapped Packet)). AreDistinct ss) (sym h.sources) (distinct plan c.args.self.now.sound))
-      c.take_piece-taken.new.slots c.args.self.now.counters c.add_bare.new.self u c.args.at c.args.piece.now block taken.fed
-      c.take_piece-taken.ensures.bytes.0 c.take_piece-taken.ensures.bytes.1 rise (h.going c.requires.live) out c.take_piece-taken.result.stop c.flow_of.result
-      given_is taken.stop_is c.flow_of.ensures.fault
+      c.feed_slot_piece-block.new.slots c.args.self.now.counters c.add_bare.new.self u c.args.at c.args.piece.now block fed
+      c.feed_slot_piece-block.ensures.bytes.0 c.feed_slot_piece-block.ensures.bytes.1 rise (h.going c.requires.live) out stop c.flow_of.result
+      given_is
+      (subst (λ (x : ℕ). stop ≡ option_map (stop_by x) (last_fault block.step)) c.bare_source.ensures c.note_last-stop.ensures.stop)
+      c.flow_of.ensures.fault
       (subst (λ (l : List (Event Packet)). (v w : List Placed) (es : List (Event Packet)) → length w ≡ block.bytes →
       HasCounted c.args.self.now.counters (port_reading Bare v) es → HasCounted c.add_bare.new.self (port_reading Bare (v ++ w)) (es ++ l))
       c.as_slice.ensures.value c.add_bare.ensures.counted)
@@ -137,16 +144,16 @@ returns-clause-fed c = λ u h. (the_piece c u h).fed
 pub returns-clause-list : goal.returns-clause-list
 returns-clause-list c = λ u h.
     let self = c.args.self.now in
-    let new = c.take_piece-taken.new.slots in
-    let bytes = take c.take_piece-taken.result.bytes c.args.piece.now in
+    let new = c.feed_slot_piece-block.new.slots in
+    let bytes = take c.feed_slot_piece-block.result.bytes c.args.piece.now in
     let f = first_at reading_of 1 self.slots.items c.args.index c.requires.found in
-    let same = piece_same self.slots.items f.front f.slot f.back new f.parts c.args.at c.args.piece.now (block c u h) (taken c u h).fed in
+    let same = piece_same self.slots.items f.front f.slot f.back new f.parts c.args.at c.args.piece.now c.feed_slot_piece-block.result (fed c u h) in
     let all = slots_are reading_of self.slots.items new same in
     let step = the_piece c u h in
-    let long : length bytes ≡ c.take_piece-taken.result.bytes =
-    length-take-le c.take_piece-taken.result.bytes c.args.piece.now c.take_piece-taken.ensures.bytes.1 in
-    let end = end_block bytes u c.args.at (let a = c.take_piece-taken.ensures.bytes.0 in omega arith) in
-    let gone = tested c.take_piece-taken.result.stop c.is_none-self.result c.is_none-self.ensures in
+    let long : length bytes ≡ c.feed_slot_piece-block.result.bytes =
+    length-take-le c.feed_slot_piece-block.result.bytes c.args.piece.now c.feed_slot_piece-block.ensures.bytes.1 in
+    let end = end_block bytes u c.args.at (let a = c.feed_slot_piece-block.ensures.bytes.0 in omega arith) in
+    let gone = tested c.note_last-stop.result c.is_none-self.result c.is_none-self.ensures in
     record {
       port = bare_port self.port (self.plan.frames) c.requires.bare h.mode (u ++ placed_from c.args.at bytes);
       mode = h.mode;
@@ -157,8 +164,8 @@ returns-clause-list c = λ u h.
       count =
           (let a = h.count in let b = length-append u (placed_from c.args.at bytes) in
           let d = length-placed_from c.args.at bytes in omega arith);
-      live = gone ∙ none_of c.take_piece-taken.result.stop ∙ ap is_none (sym step.fault);
+      live = gone ∙ none_of c.note_last-stop.result ∙ ap is_none (sym step.fault);
       going = λ k.
           subst (λ (l : List (Slot SourceMachine)). Keeps self.plan l c.add_bare.new.self (u ++ placed_from c.args.at bytes))
-          (sym all) (step.keeps (none_there c.take_piece-taken.result.stop (sym gone ∙ k)));
+          (sym all) (step.keeps (none_there c.note_last-stop.result (sym gone ∙ k)));
     }
