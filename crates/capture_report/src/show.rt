@@ -25,7 +25,7 @@ use crate::stopping::keep_stop;
 use item_tap::Choice;
 use source_events::{Event, Packet, Plan, Stop, What};
 use source_merge::{Engine, Events, bare_source, flow_after, note_bare};
-use trace_stream::{Action, OUTLET_ROOM, Outlet, Taken};
+use trace_stream::{Action, Flow, OUTLET_ROOM, Outlet, Taken};
 use trace_text::{Digits, EVENT_ROOM, Remark, print, print_fault, print_tails};
 use trace_values::{SourceId, Step};
 
@@ -235,6 +235,22 @@ impl Action for Show {
     /// With no formatter the line of each packet is put as the packet is decoded, and no event is made.
     fn feed(&mut self, piece: &[u8], outlet: &mut Outlet) -> Taken {
         let at = self.engine.next();
+        if let Some((bytes, packet)) = self.engine.take_packet(at, piece) {
+            put_packet(
+                outlet,
+                &mut self.digits,
+                &mut self.clocks,
+                self.engine.plan(),
+                &self.only,
+                at + (bytes as u64 - 1),
+                0,
+                packet,
+            );
+            return Taken {
+                bytes,
+                flow: Flow::On,
+            };
+        }
         if let Some(block) = self.engine.feed_bare(at, piece) {
             put_answer(
                 outlet,

@@ -73,7 +73,7 @@ impl ItmDecoder {
     /// it was before them.
     ///
     /// None says nothing of the bytes: some packets are read byte by byte alone.
-    #[inline]
+    #[inline(always)]
     pub fn next_packet(&self, piece: &[u8]) -> Option<(usize, ItmPacket)>
         requires { is_live self.now ≡ true }
         ensures header { IfSome result (λ x. (has_locked self.now ≡ true) × (self.now.partial ≡ Header)) }

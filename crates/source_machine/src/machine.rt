@@ -129,7 +129,7 @@ impl SourceMachine {
     /// it was before them.
     ///
     /// None says nothing of the bytes: some packets are read byte by byte alone, and all of an STP source.
-    #[inline]
+    #[inline(always)]
     pub fn next_packet(&self, bytes: &[u8]) -> Option<(usize, Packet)>
         requires { is_live self.now ≡ true }
         ensures bytes { IfSome result (λ x. (0 < x.0) × (x.0 ≤ length bytes.now)) }

@@ -1,11 +1,16 @@
 -- A packet whose bytes are all in a run.
-use Rattle.std.proofs.Common.{◌≡◌, ℕ, suc, ◌+◌, ◌-◌, ◌<◌, ◌≤◌, List, [], ◌∷◌, ◌++◌, length, take, drop, get_or, map, refl, sym, ◌∙◌, ap, subst, append_assoc, arith, Some, None}
+use Rattle.std.proofs.Common.{◌≡◌, ℕ, suc, ◌+◌, ◌-◌, ◌<◌, ◌≤◌, List, [], ◌∷◌, ◌++◌, length, take, drop, get_or, map, refl, sym, ◌∙◌, ap, subst, append_assoc, arith, Option, Some, None, true, false}
+use Rattle.std.specs.Prelude.{is_none}
 use Rattle.std.proofs.lemmas.List.{take_more, take-append-drop, take-append-le, take-map, drop-map, get_or-drop, length-drop, length-take-le, map-append, take_all}
 use Rattle.std.proofs.Math.Seq.{take-append-add}
 use Rattle.trace_values.specs.declared.cell.Cell.{Cell}
-use Rattle.trace_values.specs.Placed.{Placed, byte_at, units_of}
-use Rattle.trace_values.specs.Stream.{Said, Stream, Kept}
-use Rattle.trace_values.specs.Placed.{Place}
+use Rattle.trace_values.specs.declared.fault.Reason.{Reason}
+use Rattle.trace_values.specs.declared.step.Step.TheVariants.{Item}
+use Rattle.trace_values.specs.Block.{Takes}
+use Rattle.trace_values.specs.Placed.{Place, Placed, byte_at, placed_from, units_of}
+use Rattle.trace_values.specs.Stream.{Said, Stream, Settled, Kept}
+use Rattle.trace_values.proofs.Blocks.{next_placed}
+use Rattle.trace_values.proofs.Placing.{units_push}
 use Rattle.itm_codec.specs.Wholes.{Gives}
 use Rattle.source_events.specs.declared.event.Event.{Event}
 use Rattle.source_events.specs.declared.event.What.TheVariants.{Packet}
@@ -67,3 +72,41 @@ module _ (run : List Cell) (done count : ℕ) (last : Cell) (some : 0 < count) (
     units_run : (l : List Cell) → units_of (placed_run l) ≡ bytes_of l
     units_run [] = refl
     units_run (c ∷ l) = ap (λ b. c.byte ∷ b) (units_run l)
+
+-- bytes of a piece that give a packet
+module _ {V : Type 0} (reading : List Placed → Stream V) (stands : List Placed → Type 0) (u : List Placed) (at : ℕ) (piece : List ℕ) (bytes : ℕ) (some : 0 < bytes) (within : bytes ≤ length piece) where
+  abbrev pub piece_front : List Placed
+  piece_front = placed_from at (take (bytes - 1) piece)
+
+  abbrev pub piece_last : Placed
+  piece_last = byte_at (at + (bytes - 1)) (get_or piece (bytes - 1) 0)
+
+  units_from : (n : ℕ) (bs : List ℕ) → units_of (placed_from n bs) ≡ bs
+  units_from n [] = refl
+  units_from n (b ∷ bs) = ap (λ l. b ∷ l) (units_from (n + 1) bs)
+
+  count_is : bytes - 1 + 1 ≡ bytes
+  count_is = omega arith
+
+  pub piece_units : units_of (piece_front ++ piece_last ∷ []) ≡ take bytes piece
+  piece_units =
+      units_push piece_front piece_last ∙ ap (λ l. l ++ get_or piece (bytes - 1) 0 ∷ []) (units_from at (take (bytes - 1) piece))
+      ∙ sym (take_more piece (bytes - 1) 0 (omega arith)) ∙ ap (λ n. take n piece) count_is
+
+  pub takes_packet : ((v w : List Placed) → is_none (reading v).fault ≡ false → Settled (reading v) (reading (v ++ w))) → (packet : V) →
+      Gives reading stands u piece_front piece_last packet → Takes reading stands u at piece bytes (Some (Item 0 packet))
+  takes_packet settle packet g =
+      let all : u ++ (piece_front ++ piece_last ∷ []) ≡ u ++ placed_from at (take bytes piece) =
+      sym (append_assoc u piece_front (piece_last ∷ [])) ∙ next_placed u at piece (bytes - 1) (omega arith) ∙ ap (λ n. u ++ placed_from at (take n piece)) count_is in
+      record {
+        list = subst stands all g.list;
+        given = ap (λ (l : List Placed). (reading l).given) (sym all) ∙ g.given;
+        fault = ap (λ (l : List Placed). (reading l).fault) (sym all) ∙ g.sound;
+        place = tt;
+        sound = by (reading (u ++ piece_front)).fault refl (ap (λ (l : List Placed). (reading l).fault) (append_assoc u piece_front (piece_last ∷ [])) ∙ g.sound);
+      } where
+    by : (o : Option (Place × Reason)) → (reading (u ++ piece_front)).fault ≡ o → (reading ((u ++ piece_front) ++ piece_last ∷ [])).fault ≡ None → (reading (u ++ piece_front)).fault ≡ None
+    by None k e = k
+    by (Some x) k e =
+        (let s = (settle (u ++ piece_front) (piece_last ∷ []) (ap (λ (o : Option (Place × Reason)). is_none o) k)).fault in
+        let q : None ≡ Some x = sym e ∙ s ∙ k in cc)

@@ -1,9 +1,10 @@
 //! A capture with no formatter, whose bytes are those of source 1.
 
-ghost use Rattle.std.specs.Prelude.{◌≡◌, ◌+◌, ◌*◌, ◌^◌, ◌<◌, ◌≤◌, ◌++◌, ◌∷◌, [], List, length, IfSome};
+ghost use Rattle.std.specs.Prelude.{◌≡◌, ◌+◌, ◌*◌, ◌^◌, ◌<◌, ◌≤◌, ◌++◌, ◌∷◌, [], ℕ, List, length, Some, IfSome};
 ghost use Rattle.arrayvec.specs.ArrayVec.{array_vec_len};
 ghost use Rattle.trace_values.specs.Block.{goes_on_after};
 ghost use Rattle.trace_values.specs.Stream.{StepFits};
+ghost use Rattle.trace_values.specs.declared.step.Step.TheVariants.{Item};
 ghost use Rattle.source_events.specs.Fitting.{AllFit, PacketFits};
 ghost use Rattle.source_machine.specs.Machine.{held_of, is_live, skipped_by};
 ghost use Rattle.source_merge.specs.declared.slot.Slot.{Slot};
@@ -43,6 +44,21 @@ pub fn feed_slot_piece(
         slots.old ≡ front ++ (s ∷ back) → length front ≡ index → PieceFed front s back slots.new at piece.now result }
 {
     slots[index].machine.feed_piece(at, piece)
+}
+
+/// The packet that a piece begins with, where the next byte of the source of this slot begins one, and how many bytes
+/// it takes.
+#[inline(always)]
+pub fn next_slot_packet(slots: &[Slot<SourceMachine>], index: usize, piece: &[u8]) -> Option<(usize, Packet)>
+    requires index { index < length slots.now }
+    requires live { AllLive is_live slots.now }
+    ensures bytes { IfSome result (λ x. (0 < x.0) × (x.0 ≤ length piece.now)) }
+    ensures fits { IfSome result (λ x. PacketFits x.1) }
+    ensures fed { (at : ℕ) (front : List (Slot SourceMachine)) (s : Slot SourceMachine) (back : List (Slot SourceMachine)) →
+        slots.now ≡ front ++ (s ∷ back) → length front ≡ index →
+        IfSome result (λ x. PieceFed front s back slots.now at piece.now (record { bytes = x.0; step = Some (Item 0 x.1) })) }
+{
+    slots[index].machine.next_packet(piece)
 }
 
 /// How the report of a capture with no formatter goes on after this answer to the last byte of a piece.

@@ -7,7 +7,9 @@ ghost use Rattle.source_machine.specs.Machine.{held_of, is_live as is_machine_li
 ghost use Rattle.source_merge.specs.Counting.{size_of};
 ghost use Rattle.source_merge.specs.Routing.{HaveRoom, HaveRoom-prop, LiveIf, LiveIf-prop};
 
-use crate::bare::{bare_source, feed_slot_piece, flow_after, is_sound_answer, note_bare};
+use crate::bare::{
+    bare_source, feed_slot_piece, flow_after, is_sound_answer, next_slot_packet, note_bare,
+};
 use crate::counts::Counters;
 use crate::flow::{Fed, Flow, flow_of};
 use crate::mapped::{Slots, slots_of};
@@ -56,6 +58,7 @@ impl Engine {
     ghost use Rattle.trace_values.specs.Placed.{Placed, byte_at, placed_from};
     ghost use Rattle.trace_values.specs.Block.{StopsFor, goes_on_after};
     ghost use Rattle.trace_values.specs.Stream.{StepFits};
+    ghost use Rattle.trace_values.specs.declared.step.Step.TheVariants.{Item};
     ghost use Rattle.deformatter.specs.Block.{FedAs};
     ghost use Rattle.source_events.specs.Fitting.{AllFit, PacketFits};
     ghost use Rattle.source_events.specs.Tails.{port_counts_of, source_counts_of, tails_of};
@@ -202,6 +205,7 @@ impl Engine {
     }
 
     /// The slot of source 1, if it is mapped and there is no formatter.
+    #[inline(always)]
     fn bare_slot(&self) -> Option<usize>
         ensures bare { IfSome result (λ index. (plan_of self.now).frames ≡ Bare) }
         ensures found { IfSome result (λ index. position (λ s. s.id == 1) self.now.slots.items ≡ Some index) }
@@ -250,13 +254,46 @@ impl Engine {
         }
     }
 
+    /// The packet of source 1 that a piece begins with, the first byte of which is at this offset, and how many bytes it
+    /// takes, where there is no formatter, the source is mapped, and the packet can be taken at once. It leaves what
+    /// `feed_block` does, which gives this packet as an event. None says nothing of the bytes, and takes none.
+    ///
+    /// The engine is live. The piece's first offset is at least `next()`, and its last one at most 2^36.
+    #[inline(always)]
+    pub fn take_packet(&mut self, at: u64, piece: &[u8]) -> Option<(usize, Packet)>
+        requires live { is_live self.old ≡ true }
+        requires offsets { (next_of self.old ≤ at) × (at + length piece.now ≤ 2 ^ 36 + 1) }
+        ensures none { result ≡ None → self.new ≡ self.old }
+        ensures same { plan_of self.new ≡ plan_of self.old }
+        ensures bytes { IfSome result (λ x. (0 < x.0) × (x.0 ≤ length piece.now)) }
+        ensures next { IfSome result (λ x. next_of self.new ≡ at + x.0) }
+        ensures live { is_live self.new ≡ true }
+        ensures fits { IfSome result (λ x. PacketFits x.1) }
+        ensures list { (u : List Placed) → Stands self.old u →
+            IfSome result (λ x. Stands self.new (u ++ placed_from at (take x.0 piece.now))) }
+        ensures fed { (u : List Placed) → Stands self.old u → IfSome result (λ x. let plan = plan_of self.old in
+            let given = bare_events (at + (x.0 - 1)) (Some (Item 0 x.1)) in
+            FedAs (Answers plan [] Going) (Answers plan given Going) u at (take x.0 piece.now)) }
+    {
+        let Some(index) = self.bare_slot() else {
+            return None;
+        };
+        let Some((bytes, packet)) = next_slot_packet(self.slots.as_slice(), index, piece) else {
+            return None;
+        };
+        self.counters.add_packet(bytes);
+        self.count += bytes as u64;
+        self.next = at + bytes as u64;
+        Some((bytes, packet))
+    }
+
     /// Where there is no formatter and source 1 is mapped: takes its bytes from the front of a piece, the first of which is
     /// at this offset, up to the first one that ends a packet or is a fault, or to the piece's end, and gives the answer of
     /// the source's machine to the last of them. It leaves what `feed_block` does, which gives the events of that answer
     /// (`note_bare`). None for every other plan: then it takes nothing.
     ///
     /// The engine is live, and the piece has a byte. Its first offset is at least `next()`, and its last one at most 2^36.
-    #[inline]
+    #[inline(never)]
     pub fn feed_bare(&mut self, at: u64, piece: &[u8]) -> Option<Block<Packet>>
         requires live { is_live self.old ≡ true }
         requires some { 0 < length piece.now }

@@ -83,35 +83,6 @@ pub fn note(out: &mut Events, source: SourceId, at: u64, step: Step<Packet>) -> 
     }
 }
 
-/// Feeds a run of this source to its machine, up to a fault, and notes what it gives.
-pub fn feed_run<M: Machine<Item = Packet>>(
-    machine: &mut M,
-    source: SourceId,
-    run: &[Cell],
-    out: &mut Events,
-) -> Option<Fault>
-    requires live { M.live machine.old ≡ true }
-    requires room { M.held_units machine.old + M.skipped_units machine.old + 2 * length run.now ≤ 2 ^ 60 }
-    requires events { array_vec_len out.old + 2 * length run.now ≤ EVENTS }
-    ensures same { M.reading machine.new ≡ M.reading machine.old }
-    ensures feeds { (u : List Placed) → M.stands machine.old u →
-        Feeds (M.reading machine.old) (M.stands machine.new) u run.now source out.old.items out.new.items result }
-    ensures early { IsEarly (M.reading machine.old) (M.stands machine.old) run.now result }
-    ensures live { M.live machine.new ≡ is_none result }
-    ensures few { M.held_units machine.new + M.skipped_units machine.new ≤
-        M.held_units machine.old + M.skipped_units machine.old + 2 * length run.now }
-    ensures events { array_vec_len out.new ≤ array_vec_len out.old + 2 * length run.now }
-    ensures fits { AllFit M.fits out.old.items → AllFit M.fits out.new.items }
-{
-    for cell in run {
-        let step = machine.feed(cell.at, cell.byte);
-        if let Some(fault) = note(out, source, cell.at, step) {
-            return Some(fault);
-        }
-    }
-    None
-}
-
 /// Feeds a run of this source to its machine, up to a fault, and notes what it gives. It takes a packet at once whose
 /// bytes are all in the run.
 pub fn feed_machine(

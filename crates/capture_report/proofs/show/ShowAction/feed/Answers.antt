@@ -1,6 +1,7 @@
-use Rattle.std.proofs.Common.{◌≡◌, ◌∙◌, ◌+◌, ◌-◌, ◌++◌, [], List, Option, sym, ap, subst, take}
+use Rattle.std.proofs.Common.{◌≡◌, ◌∙◌, ℕ, ◌+◌, ◌-◌, ◌++◌, [], List, Option, Some, sym, ap, subst, take}
 use Rattle.std.specs.Prelude.{option_map, IfSome}
 use Rattle.trace_values.specs.declared.block.Block.{Block}
+use Rattle.trace_values.specs.declared.step.Step.TheVariants.{Item}
 use Rattle.trace_values.specs.Placed.{Placed, placed, placed_from}
 use Rattle.deformatter.specs.Block.{FedAs}
 use Rattle.trace_stream.specs.Taken.{FlowAfter}
@@ -25,6 +26,41 @@ use Rattle.capture_report.specs.SourceClocks.{AllStand}
 use Rattle.capture_report.proofs.Feeding.{stands_after, report_after, report_here, stop_after, flow_after}
 use Rattle.capture_report.proofs.show.ShowAction.feed.Goals as goal
 
+pub returns-in-Some-clause-fed : goal.returns-in-Some-clause-fed
+returns-in-Some-clause-fed c = λ seen s.
+    let old = c.args.self.now in
+    let p = plan_of old in
+    let count = c.in-Some.bytes in
+    let piece = c.args.piece.now in
+    let at = c.next-at.result in
+    let new = c.take_packet.new.self in
+    let events = bare_events (at + (count - 1)) (Some (Item 0 c.in-Some.packet)) in
+    let bytes = take count piece in
+    let list = subst (λ (o : Option (ℕ × Packet)). IfSome o (λ x. engine.Stands new (placed seen ++ placed_from at (take x.0 piece))))
+        c.in-Some.is (c.take_packet.ensures.list (placed seen) s.engine) in
+    let fed = subst (λ (o : Option (ℕ × Packet)). IfSome o (λ x. FedAs (Answers p.plan [] Going)
+        (Answers p.plan (bare_events (at + (x.0 - 1)) (Some (Item 0 x.1))) Going) (placed seen) at (take x.0 piece)))
+        c.in-Some.is (c.take_packet.ensures.fed (placed seen) s.engine) in
+    let same = c.take_packet.ensures.same in
+    let report = report_of p.plan (placed seen) in
+    record {
+      read = record {
+        engine = stands_after old.engine new seen bytes at events Going s.engine c.requires.live c.next-at.ensures same list fed;
+        clocks = subst (λ (es : List (Event Packet)). AllStand c.put_packet.new.clocks es)
+            (sym (report_after old.engine new seen bytes at events Going s.engine c.requires.live c.next-at.ensures same list fed))
+            (c.put_packet.ensures.clocks report s.clocks);
+        stop = stop_after old.engine new seen bytes at events Going s.engine c.requires.live c.next-at.ensures same list fed
+            old.stop (sym old.alive ∙ c.requires.live);
+      };
+      more = lines_after p report events;
+      grown = ap (lines_after p []) (report_here old.engine new seen bytes at events Going s.engine c.requires.live c.next-at.ensures same list fed)
+          ∙ lines_append p [] report events;
+      gained = c.put_packet.ensures.text report s.clocks
+          ∙ ap (λ (plan : Plan). c.args.outlet.now ++ lines_after (record { plan = plan; only = old.only }) report events)
+          (c.plan.ensures ∙ same);
+      goes_on = flow_after old.engine new seen bytes at events Going s.engine c.requires.live c.next-at.ensures same list fed;
+    }
+
 pub returns-clause-fed : goal.returns-clause-fed
 returns-clause-fed c = λ seen s.
     let old = c.args.self.now in
@@ -33,7 +69,7 @@ returns-clause-fed c = λ seen s.
     let events = block.new.out.items in
     let bytes = take block.result.bytes c.args.piece.now in
     let at = c.next-at.result in
-    let is = c.feed_bare.ensures.none c.in_default.is in
+    let is = c.feed_bare.ensures.none c.in_default-feed_bare.is ∙ c.take_packet.ensures.none c.in_default.is in
     let same = subst (λ (k : Engine). engine.plan_of block.new.self ≡ engine.plan_of k) is block.ensures.same in
     let list = subst (λ (k : Engine). (u : List Placed) → engine.Stands k u → engine.Stands block.new.self (u ++ placed_from at bytes))
         is block.ensures.list (placed seen) s.engine in
@@ -67,11 +103,12 @@ returns-clause-fed c = λ seen s.
           c.requires.live c.next-at.ensures same list fed);
     }
 
-pub returns-in-Some-clause-fed : goal.returns-in-Some-clause-fed
-returns-in-Some-clause-fed c = λ seen s.
+pub returns-in-Some-feed_bare-clause-fed : goal.returns-in-Some-feed_bare-clause-fed
+returns-in-Some-feed_bare-clause-fed c = λ seen s.
     let old = c.args.self.now in
     let p = plan_of old in
-    let block = c.in-Some.block in
+    let block = c.in-Some-feed_bare.block in
+    let is = c.take_packet.ensures.none c.in_default.is in
     let piece = c.args.piece.now in
     let at = c.next-at.result in
     let new = c.feed_bare.new.self in
@@ -79,11 +116,15 @@ returns-in-Some-clause-fed c = λ seen s.
     let flow = bare_flow block.step in
     let bytes = take block.bytes piece in
     let list = subst (λ (o : Option (Block Packet)). IfSome o (λ b. engine.Stands new (placed seen ++ placed_from at (take b.bytes piece))))
-        c.in-Some.is (c.feed_bare.ensures.list (placed seen) s.engine) in
+        c.in-Some-feed_bare.is (c.feed_bare.ensures.list (placed seen)
+        (subst (λ (k : Engine). engine.Stands k (placed seen)) (sym is) s.engine)) in
     let fed = subst (λ (o : Option (Block Packet)). IfSome o (λ b. FedAs (Answers p.plan [] Going)
         (Answers p.plan (bare_events (at + (b.bytes - 1)) b.step) (bare_flow b.step)) (placed seen) at (take b.bytes piece)))
-        c.in-Some.is (c.feed_bare.ensures.fed (placed seen) s.engine) in
-    let same = c.feed_bare.ensures.same in
+        c.in-Some-feed_bare.is (subst (λ (k : Engine). (u : List Placed) → engine.Stands k u →
+        IfSome c.feed_bare.result (λ b. FedAs (Answers (engine.plan_of k) [] Going)
+        (Answers (engine.plan_of k) (bare_events (at + (b.bytes - 1)) b.step) (bare_flow b.step)) u at (take b.bytes piece)))
+        is c.feed_bare.ensures.fed (placed seen) s.engine) in
+    let same = subst (λ (k : Engine). engine.plan_of new ≡ engine.plan_of k) is c.feed_bare.ensures.same in
     let report = report_of p.plan (placed seen) in
     record {
       read = record {
@@ -101,7 +142,7 @@ returns-in-Some-clause-fed c = λ seen s.
           ∙ lines_append p [] report events;
       gained = c.put_answer.ensures.text report s.clocks
           ∙ ap (λ (plan : Plan). c.args.outlet.now ++ lines_after (record { plan = plan; only = old.only }) report events)
-          (c.plan.ensures ∙ same);
+          (c.plan-in-Some-feed_bare.ensures ∙ same);
       goes_on = subst (λ (f : Flow). FlowAfter (IsFaulty p.plan) (seen ++ bytes) f)
           (sym (c.keep_stop-flow.ensures.flow ∙ ap flow_by c.flow_after.ensures))
           (flow_after old.engine new seen bytes at events flow s.engine c.requires.live c.next-at.ensures same list fed);
