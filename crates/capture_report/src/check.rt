@@ -13,7 +13,7 @@ use crate::show::sends_stp;
 use crate::stopping::keep_stop;
 use source_counts::Counts;
 use source_events::{Plan, Stop};
-use source_merge::{Engine, Events};
+use source_merge::{Engine, Events, flow_after};
 use trace_stream::{Action, Outlet, Taken};
 use trace_text::{PortCountsLines, print_fault, print_tails, put_source_counts};
 use trace_values::{ID_COUNT, SourceId};
@@ -145,8 +145,15 @@ impl Action for Check {
     ghost text_grows = { text_grows };
 
     fn feed(&mut self, piece: &[u8], _outlet: &mut Outlet) -> Taken {
-        self.events.clear();
         let at = self.engine.next();
+        if let Some(block) = self.engine.feed_bare(at, piece) {
+            let flow = keep_stop(&mut self.stop, flow_after(&block.step));
+            return Taken {
+                bytes: block.bytes,
+                flow,
+            };
+        }
+        self.events.clear();
         let fed = self.engine.feed_block(at, piece, &mut self.events);
         let flow = keep_stop(&mut self.stop, fed.flow);
         Taken {

@@ -1,12 +1,15 @@
 //! `show`: the listing of the events of a capture.
 
-ghost use Rattle.std.specs.Prelude.{◌≡◌, ◌+◌, ◌≤◌, ◌++◌, [], List, length, is_none, true, if◌then◌else◌};
+ghost use Rattle.std.specs.Prelude.{◌≡◌, ◌+◌, ◌≤◌, ◌++◌, [], List, length, is_none, Some, IfSome, true, if◌then◌else◌};
 ghost use Rattle.arrayvec.specs.ArrayVec.{array_vec_len};
 ghost use Rattle.trace_stream.specs.declared.action.TheConstants.{ACTION_ROOM};
 ghost use Rattle.source_events.specs.declared.event.Event.{Event};
 ghost use Rattle.source_events.specs.declared.packet.Packet.{Packet};
 ghost use Rattle.source_events.specs.Fitting.{AllFit, EventFits, PacketFits};
 ghost use Rattle.source_events.specs.Plan.{is_sound};
+ghost use Rattle.trace_values.specs.declared.step.Step.TheVariants.{Item};
+ghost use Rattle.trace_values.specs.Stream.{StepFits};
+ghost use Rattle.source_merge.specs.Bare.{bare_events};
 ghost use Rattle.source_merge.specs.Engine.{is_live};
 ghost use Rattle.trace_text.specs.LineText.{event_line};
 ghost use Rattle.trace_text.specs.Printable.{Suits};
@@ -21,10 +24,10 @@ use crate::source_clocks::SourceClocks;
 use crate::stopping::keep_stop;
 use item_tap::Choice;
 use source_events::{Event, Packet, Plan, Stop, What};
-use source_merge::{Engine, Events};
-use trace_stream::{Action, OUTLET_ROOM, Outlet, Taken};
+use source_merge::{Engine, Events, bare_source, flow_after, note_bare};
+use trace_stream::{Action, Flow, OUTLET_ROOM, Outlet, Taken};
 use trace_text::{Digits, EVENT_ROOM, Remark, print, print_fault, print_tails};
-use trace_values::SourceId;
+use trace_values::{SourceId, Step};
 
 /// The reading of a capture, and what its listing needs of it.
 #[derive(Drop)]
@@ -66,6 +69,7 @@ fn lists(only: &Option<Choice>, event: &Event<Packet>) -> bool
 }
 
 /// Puts the line of an event with what the clocks say beside it, if it is listed.
+#[inline(always)]
 fn put_event(
     outlet: &mut Outlet,
     digits: &mut Digits,
@@ -106,6 +110,70 @@ fn put_events(
     for event in events {
         let remark = clocks.remark(event);
         put_event(outlet, digits, plan, only, event, remark);
+    }
+}
+
+/// Puts the line of a packet of a capture with no formatter, which ends in this half of the byte at this offset.
+#[inline(always)]
+fn put_packet(
+    outlet: &mut Outlet,
+    digits: &mut Digits,
+    clocks: &mut SourceClocks,
+    plan: &Plan,
+    only: &Option<Choice>,
+    at: u64,
+    half: u8,
+    packet: Packet,
+)
+    requires fits { PacketFits packet }
+    requires room { length outlet.old + TEXT_ROOM ≤ OUTLET_ROOM }
+    ensures text { (before : List (Event Packet)) → AllStand clocks.old before →
+        let p : ListPlan = record { plan = plan.now; only = only.now } in
+        outlet.new ≡ outlet.old ++ lines_after p before (bare_events at (Some (Item half packet))) }
+    ensures clocks { (before : List (Event Packet)) → AllStand clocks.old before →
+        AllStand clocks.new (before ++ bare_events at (Some (Item half packet))) }
+{
+    let event = Event {
+        at,
+        half,
+        source: Some(bare_source()),
+        what: What::Packet(packet),
+    };
+    let remark = clocks.remark(&event);
+    put_event(outlet, digits, plan, only, &event, remark);
+}
+
+/// Puts the lines of what the answer to the byte at this offset gives, in a capture with no formatter. The events are
+/// only of use for a lock's.
+#[inline]
+fn put_answer(
+    outlet: &mut Outlet,
+    digits: &mut Digits,
+    clocks: &mut SourceClocks,
+    plan: &Plan,
+    only: &Option<Choice>,
+    events: &mut Events,
+    at: u64,
+    step: Option<Step<Packet>>,
+)
+    requires fits { IfSome step (StepFits PacketFits) }
+    requires room { length outlet.old + ACTION_ROOM ≤ OUTLET_ROOM }
+    ensures text { (before : List (Event Packet)) → AllStand clocks.old before →
+        let p : ListPlan = record { plan = plan.now; only = only.now } in
+        outlet.new ≡ outlet.old ++ lines_after p before (bare_events at step) }
+    ensures clocks { (before : List (Event Packet)) → AllStand clocks.old before →
+        AllStand clocks.new (before ++ bare_events at step) }
+{
+    let Some(answer) = step else {
+        return;
+    };
+    match answer {
+        Step::Item { half, item } => put_packet(outlet, digits, clocks, plan, only, at, half, item),
+        _ => {
+            events.clear();
+            note_bare(events, at, Some(answer));
+            put_events(outlet, digits, clocks, plan, only, events.as_slice());
+        }
     }
 }
 
@@ -164,9 +232,43 @@ impl Action for Show {
 
     ghost text_grows = { listed_grows };
 
+    /// With no formatter the line of each packet is put as the packet is decoded, and no event is made.
     fn feed(&mut self, piece: &[u8], outlet: &mut Outlet) -> Taken {
-        self.events.clear();
         let at = self.engine.next();
+        if let Some((bytes, packet)) = self.engine.take_packet(at, piece) {
+            put_packet(
+                outlet,
+                &mut self.digits,
+                &mut self.clocks,
+                self.engine.plan(),
+                &self.only,
+                at + (bytes as u64 - 1),
+                0,
+                packet,
+            );
+            return Taken {
+                bytes,
+                flow: Flow::On,
+            };
+        }
+        if let Some(block) = self.engine.feed_bare(at, piece) {
+            put_answer(
+                outlet,
+                &mut self.digits,
+                &mut self.clocks,
+                self.engine.plan(),
+                &self.only,
+                &mut self.events,
+                at + (block.bytes as u64 - 1),
+                block.step,
+            );
+            let flow = keep_stop(&mut self.stop, flow_after(&block.step));
+            return Taken {
+                bytes: block.bytes,
+                flow,
+            };
+        }
+        self.events.clear();
         let fed = self.engine.feed_block(at, piece, &mut self.events);
         put_events(
             outlet,

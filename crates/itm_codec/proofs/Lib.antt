@@ -1,3 +1,4 @@
 pub mod Answering
 pub mod Encoding
 pub mod Holding
+pub mod Wholes

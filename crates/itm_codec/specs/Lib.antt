@@ -1,3 +1,4 @@
 pub mod Reading
 pub mod Decoder
 pub mod Answers
+pub mod Wholes

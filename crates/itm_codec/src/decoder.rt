@@ -29,8 +29,8 @@ pub struct ItmDecoder {
 }
 
 impl ItmDecoder {
-    ghost use Rattle.std.specs.Prelude.{[], false, ℕ, ◌+◌, ◌*◌, ◌<◌, ◌≤◌, List, length, take, IfSome};
-    ghost use Rattle.trace_values.specs.Placed.{Placed};
+    ghost use Rattle.std.specs.Prelude.{[], ◌∷◌, ◌++◌, false, ℕ, ◌+◌, ◌*◌, ◌<◌, ◌≤◌, List, length, take, IfSome};
+    ghost use Rattle.trace_values.specs.Placed.{Placed, units_of};
     ghost use Rattle.trace_values.specs.Stream.{StepFits, LocksAfter};
     ghost use Rattle.trace_values.specs.Block.{Takes, StopsFor, goes_on_after};
     ghost use Rattle.itm_grammar.specs.declared.partial.Partial.TheVariants.{Header};
@@ -38,6 +38,7 @@ impl ItmDecoder {
     ghost use Rattle.itm_grammar.specs.Proper.{IsProper};
     ghost use Rattle.itm_codec.specs.Reading.{packets_in};
     ghost use Rattle.itm_codec.specs.Decoder.{Stands, is_hunter, is_live, has_locked, held_of, skipped_by};
+    ghost use Rattle.itm_codec.specs.Wholes.{Gives};
 
     /// A decoder of bytes that begin with a packet.
     pub fn aligned() -> ItmDecoder
@@ -67,15 +68,23 @@ impl ItmDecoder {
         }
     }
 
-    /// The whole packet that the bytes begin with, where the next byte is a header.
-    #[inline]
-    fn next_packet(&self, piece: &[u8]) -> Option<(usize, ItmPacket)>
+    /// The whole packet that these bytes begin with, where the next byte is a header, and how many of them it takes.
+    /// Wherever they are, a decoder that takes them gives this packet at the last of them and nothing else, and is as
+    /// it was before them.
+    ///
+    /// None says nothing of the bytes: some packets are read byte by byte alone.
+    #[inline(always)]
+    pub fn next_packet(&self, piece: &[u8]) -> Option<(usize, ItmPacket)>
+        requires { is_live self.now ≡ true }
         ensures header { IfSome result (λ x. (has_locked self.now ≡ true) × (self.now.partial ≡ Header)) }
         ensures whole { IfSome result (λ x. (0 < x.0) × (x.0 ≤ length piece.now) × Spells x.1 (take x.0 piece.now)) }
         ensures proper { IfSome result (λ x. IsProper x.1) }
+        ensures gives { (u front : List Placed) (last : Placed) → Stands self.now u →
+            IfSome result (λ x. units_of (front ++ last ∷ []) ≡ take x.0 piece.now →
+                Gives (packets_in (is_hunter self.now)) (Stands self.now) u front last x.1) }
     {
-        match (&self.mode, &self.partial) {
-            (Mode::Aligned | Mode::Locked { .. }, Partial::Header) => whole_packet(piece),
+        match self.partial {
+            Partial::Header if Mode::is_locked(self.mode) => whole_packet(piece),
             _ => None,
         }
     }
@@ -167,6 +176,7 @@ impl Machine for ItmDecoder {
     /// Takes the next byte. Beside what every machine says, its answer in a reading is the grammar's: an
     /// item exactly where the unfinished packet with this byte is a packet, a fault exactly where no
     /// packet begins so.
+    #[inline]
     fn feed(&mut self, at: u64, byte: u8) -> Step<ItmPacket>
         requires live { is_live self.old ≡ true }
         requires room { held_of self.old ≤ COUNT_ROOM }

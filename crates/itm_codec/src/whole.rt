@@ -13,7 +13,7 @@ use itm_grammar::packet::{ItmPacket, Lateness, Size};
 /// The packet that these bytes begin with, and how many of them it takes. None where they begin with no packet,
 /// do not finish it, or begin with one that is rare: a longer synchronisation or a second global timestamp of
 /// seven bytes.
-#[inline]
+#[inline(always)]
 pub fn whole_packet(bytes: &[u8]) -> Option<(usize, ItmPacket)>
     ensures whole { IfSome result (λ x. (0 < x.0) × (x.0 ≤ length bytes.now) × Spells x.1 (take x.0 bytes.now)) }
     ensures proper { IfSome result (λ x. IsProper x.1) }
@@ -31,6 +31,7 @@ pub fn whole_packet(bytes: &[u8]) -> Option<(usize, ItmPacket)>
 
 /// The software or hardware packet that these bytes begin with, and how many of them it takes. None where they
 /// begin with another packet or do not finish it.
+#[inline(always)]
 fn source_packet(bytes: &[u8]) -> Option<(usize, ItmPacket)>
     ensures whole { IfSome result (λ x. (0 < x.0) × (x.0 ≤ length bytes.now) × Spells x.1 (take x.0 bytes.now)) }
     ensures proper { IfSome result (λ x. IsProper x.1) }
@@ -53,6 +54,7 @@ fn source_packet(bytes: &[u8]) -> Option<(usize, ItmPacket)>
 }
 
 /// The software or hardware packet with this header and this value, which fits its size.
+#[inline(always)]
 fn source_of(header: u8, size: Size, value: u32) -> ItmPacket
     requires size { header % 4 ≡ size_bits size }
     requires fits { value < 256 ^ byte_count size }

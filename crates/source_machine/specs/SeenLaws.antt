@@ -7,6 +7,7 @@ use Rattle.trace_values.specs.declared.step.Step.TheVariants.{Quiet, Skipping, I
 use Rattle.trace_values.specs.Placed.{Place, Placed}
 use Rattle.trace_values.specs.Stream.{Said, Stream, Grows, HuntBy, Shows, Settled, Holds, Rises, AllAt, StepFits, LocksAfter, given_by, fault_by, goes_on}
 use Rattle.trace_values.specs.Block.{given_after, fault_after, goes_on_after, StandsAt, StopsFor, Takes}
+use Rattle.itm_codec.specs.Wholes.{Gives}
 use Rattle.source_events.specs.Packets.{said_as, given_as, stream_as}
 use Rattle.source_machine.specs.Seen.{step_as, last_as}
 
@@ -135,4 +136,14 @@ module _ {V W : Type 0} (f : V → W) where
     fault = t.fault ∙ fault_block _ step;
     place = place_block _ step t.place;
     sound = t.sound;
+  }
+
+  -- of a whole packet
+  pub gives_as : (reading : List Placed → Stream V) (stands : List Placed → Type 0) (u front : List Placed) (last : Placed)
+      (packet : V) → Gives reading stands u front last packet →
+      Gives (λ w. stream_as f (reading w)) stands u front last (f packet)
+  gives_as reading stands u front last packet g = record {
+    list = g.list;
+    given = ap (given_as f) g.given ∙ given_append _ _;
+    sound = g.sound;
   }

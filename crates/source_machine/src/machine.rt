@@ -99,10 +99,11 @@ fn stp_block(block: Block<StpItem>) -> Block<Packet>
 }
 
 impl SourceMachine {
-    ghost use Rattle.std.specs.Prelude.{ℕ, ◌+◌, ◌*◌, ◌^◌, ◌<◌, ◌≤◌, List, [], length, IfSome, true};
-    ghost use Rattle.trace_values.specs.Placed.{Placed};
+    ghost use Rattle.std.specs.Prelude.{ℕ, ◌+◌, ◌*◌, ◌^◌, ◌<◌, ◌≤◌, ◌++◌, ◌∷◌, List, [], length, take, IfSome, true};
+    ghost use Rattle.trace_values.specs.Placed.{Placed, units_of};
     ghost use Rattle.trace_values.specs.Stream.{StepFits};
     ghost use Rattle.trace_values.specs.Block.{Takes, StopsFor, goes_on_after};
+    ghost use Rattle.itm_codec.specs.Wholes.{Gives};
     ghost use Rattle.source_events.specs.Fitting.{PacketFits};
     ghost use Rattle.source_machine.specs.Machine.{reading_of, reading_by, Stands, is_live, held_of, skipped_by};
 
@@ -120,6 +121,29 @@ impl SourceMachine {
             (SourceKind::Stp, PacketsMode::Aligned) => SourceMachine::Stp(StpDecoder::aligned(
                 order,
             )),
+        }
+    }
+
+    /// The whole packet that these bytes begin with, where the next byte begins one, and how many of them it takes.
+    /// Wherever they are, a machine that takes them gives this packet at the last of them and nothing else, and is as
+    /// it was before them.
+    ///
+    /// None says nothing of the bytes: some packets are read byte by byte alone, and all of an STP source.
+    #[inline(always)]
+    pub fn next_packet(&self, bytes: &[u8]) -> Option<(usize, Packet)>
+        requires { is_live self.now ≡ true }
+        ensures bytes { IfSome result (λ x. (0 < x.0) × (x.0 ≤ length bytes.now)) }
+        ensures fits { IfSome result (λ x. PacketFits x.1) }
+        ensures gives { (u front : List Placed) (last : Placed) → Stands self.now u →
+            IfSome result (λ x. units_of (front ++ last ∷ []) ≡ take x.0 bytes.now →
+                Gives (reading_of self.now) (Stands self.now) u front last x.1) }
+    {
+        match self {
+            SourceMachine::Itm(decoder) => {
+                let (count, packet) = decoder.next_packet(bytes)?;
+                Some((count, Packet::Itm(packet)))
+            }
+            SourceMachine::Stp(_) => None,
         }
     }
 

@@ -19,3 +19,4 @@ pub mod BareBlocks
 pub mod BareSteps
 pub mod BareGoing
 pub mod BareSlots
+pub mod Packets

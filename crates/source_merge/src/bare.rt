@@ -1,16 +1,17 @@
 //! A capture with no formatter, whose bytes are those of source 1.
 
-ghost use Rattle.std.specs.Prelude.{◌≡◌, ◌+◌, ◌*◌, ◌^◌, ◌<◌, ◌≤◌, ◌++◌, ◌∷◌, [], List, length, Some};
-ghost use Rattle.std.specs.Option.{option_map};
+ghost use Rattle.std.specs.Prelude.{◌≡◌, ◌+◌, ◌*◌, ◌^◌, ◌<◌, ◌≤◌, ◌++◌, ◌∷◌, [], ℕ, List, length, Some, IfSome};
 ghost use Rattle.arrayvec.specs.ArrayVec.{array_vec_len};
-ghost use Rattle.trace_values.specs.Block.{given_after};
-ghost use Rattle.source_events.specs.Merge.{told};
-ghost use Rattle.source_events.specs.Report.{lifted};
+ghost use Rattle.trace_values.specs.Block.{goes_on_after};
+ghost use Rattle.trace_values.specs.Stream.{StepFits};
+ghost use Rattle.trace_values.specs.declared.step.Step.TheVariants.{Item};
+ghost use Rattle.source_events.specs.Fitting.{AllFit, PacketFits};
 ghost use Rattle.source_machine.specs.Machine.{held_of, is_live, skipped_by};
 ghost use Rattle.source_merge.specs.declared.slot.Slot.{Slot};
-ghost use Rattle.source_merge.specs.Bare.{PieceFed, last_fault, stop_by};
+ghost use Rattle.source_merge.specs.Bare.{PieceFed, bare_events, bare_flow, gives_packet};
 ghost use Rattle.source_merge.specs.Routing.{AllLive, HaveRoom};
 
+use crate::flow::Flow;
 use crate::slot::{EVENTS, Events, Slot, note};
 use source_events::{Packet, Stop};
 use source_machine::SourceMachine;
@@ -45,21 +46,65 @@ pub fn feed_slot_piece(
     slots[index].machine.feed_piece(at, piece)
 }
 
-/// Notes what the last answer to a piece gives, which is to the byte at this offset, and answers the fault that it tells.
-pub fn note_last(
-    out: &mut Events,
-    source: SourceId,
-    at: u64,
-    step: Option<Step<Packet>>,
-) -> Option<Stop>
-    requires { array_vec_len out.old + 2 ≤ EVENTS }
-    ensures given { out.new.items ≡ out.old.items ++ told (Some source) (lifted (given_after at step)) }
-    ensures few { array_vec_len out.new ≤ array_vec_len out.old + 2 }
-    ensures stop { result ≡ option_map (stop_by source) (last_fault step) }
+/// The packet that a piece begins with, where the next byte of the source of this slot begins one, and how many bytes
+/// it takes.
+#[inline(always)]
+pub fn next_slot_packet(slots: &[Slot<SourceMachine>], index: usize, piece: &[u8]) -> Option<(usize, Packet)>
+    requires index { index < length slots.now }
+    requires live { AllLive is_live slots.now }
+    ensures bytes { IfSome result (λ x. (0 < x.0) × (x.0 ≤ length piece.now)) }
+    ensures fits { IfSome result (λ x. PacketFits x.1) }
+    ensures fed { (at : ℕ) (front : List (Slot SourceMachine)) (s : Slot SourceMachine) (back : List (Slot SourceMachine)) →
+        slots.now ≡ front ++ (s ∷ back) → length front ≡ index →
+        IfSome result (λ x. PieceFed front s back slots.now at piece.now (record { bytes = x.0; step = Some (Item 0 x.1) })) }
 {
-    let fault = note(out, source, at, step?)?;
-    Some(Stop {
-        fault,
-        source: Some(source),
-    })
+    slots[index].machine.next_packet(piece)
+}
+
+/// How the report of a capture with no formatter goes on after this answer to the last byte of a piece.
+#[inline]
+pub fn flow_after(step: &Option<Step<Packet>>) -> Flow
+    ensures { result ≡ bare_flow step.now }
+{
+    match step {
+        Some(Step::Fault(fault)) => Flow::Stopped(Stop {
+            fault: *fault,
+            source: Some(bare_source()),
+        }),
+        Some(Step::Quiet | Step::Skipping | Step::Item { .. } | Step::Locked { .. }) | None => Flow::Going,
+    }
+}
+
+/// Notes what the last answer to a piece of a capture with no formatter gives, which is to the byte at this offset.
+pub fn note_bare(out: &mut Events, at: u64, step: Option<Step<Packet>>)
+    requires { array_vec_len out.old + 2 ≤ EVENTS }
+    ensures given { out.new.items ≡ out.old.items ++ bare_events at step }
+    ensures few { array_vec_len out.new ≤ array_vec_len out.old + 2 }
+    ensures fits { IfSome step (StepFits PacketFits) → AllFit PacketFits out.old.items → AllFit PacketFits out.new.items }
+{
+    if let Some(step) = step {
+        let _fault = note(out, bare_source(), at, step);
+    }
+}
+
+/// The last answer to a piece ends a packet.
+#[inline]
+pub fn ends_packet(step: &Option<Step<Packet>>) -> bool
+    ensures { result ≡ gives_packet step.now }
+{
+    match step {
+        Some(Step::Item { .. } | Step::Locked { .. }) => true,
+        Some(Step::Quiet | Step::Skipping | Step::Fault(_)) | None => false,
+    }
+}
+
+/// The report goes on after this answer.
+#[inline]
+pub fn is_sound_answer(step: &Option<Step<Packet>>) -> bool
+    ensures { result ≡ goes_on_after step.now }
+{
+    match step {
+        Some(Step::Fault(_)) => false,
+        Some(Step::Quiet | Step::Skipping | Step::Item { .. } | Step::Locked { .. }) | None => true,
+    }
 }

@@ -6,11 +6,11 @@ ghost use Rattle.port_reader.specs.Growth.{Grows};
 ghost use Rattle.port_reader.specs.Reading.{PortReading};
 ghost use Rattle.source_merge.specs.Counting.{HasPort, port_total};
 
-use crate::bare::bare_source;
+use crate::bare::{bare_source, ends_packet};
 use port_reader::PortStep;
 use source_counts::Counts;
 use source_events::{Event, Packet, PortCounts, What};
-use trace_values::{Cell, SourceId};
+use trace_values::{Cell, SourceId, Step};
 
 /// How many IDs there are: 0 to 126.
 const SOURCES: usize = 127;
@@ -25,6 +25,9 @@ impl PerSource {
     ghost use Rattle.std.specs.Prelude.{◌+◌, ◌^◌, ◌≤◌, ◌++◌, ◌∷◌, [], ℕ, List, if◌then◌else◌, ◌==◌, length};
     ghost use Rattle.source_events.specs.declared.event.Event.{Event};
     ghost use Rattle.source_events.specs.declared.packet.Packet.{Packet};
+    ghost use Rattle.std.specs.Prelude.{Some};
+    ghost use Rattle.trace_values.specs.declared.step.Step.TheVariants.{Item};
+    ghost use Rattle.source_merge.specs.Bare.{bare_events};
     ghost use Rattle.source_merge.specs.Counting.{HasItems, number_of, total_of};
 
     /// 0 for each.
@@ -46,7 +49,7 @@ impl PerSource {
     }
 
     /// Adds to the number of a source. The sum of all is at most 2^60 with it.
-    #[inline]
+    #[inline(always)]
     pub fn add(&mut self, id: SourceId, more: u64)
         requires { total_of self.old + more ≤ 2 ^ 60 }
         ensures numbers { (k : ℕ) → number_of self.new k ≡ number_of self.old k + (if k == id then more else 0) }
@@ -65,6 +68,30 @@ impl PerSource {
         for event in events {
             self.add_item(event);
         }
+    }
+
+    /// Counts the packet of source 1, `source`, that the last answer to a piece gives, if it gives one.
+    #[inline]
+    fn add_answer(&mut self, source: SourceId, step: &Option<Step<Packet>>)
+        requires own { source ≡ 1 }
+        requires room { total_of self.old + 1 ≤ 2 ^ 60 }
+        ensures items { (es : List (Event Packet)) (at : ℕ) → HasItems self.old es →
+            HasItems self.new (es ++ bare_events at step.now) }
+        ensures total { total_of self.new ≤ total_of self.old + 1 }
+    {
+        self.add(source, u64::from(ends_packet(step)));
+    }
+
+    /// Counts a packet of source 1, `source`.
+    #[inline(always)]
+    fn add_one(&mut self, source: SourceId)
+        requires own { source ≡ 1 }
+        requires room { total_of self.old + 1 ≤ 2 ^ 60 }
+        ensures items { (es : List (Event Packet)) (at : ℕ) (packet : Packet) → HasItems self.old es →
+            HasItems self.new (es ++ bare_events at (Some (Item 0 packet))) }
+        ensures total { total_of self.new ≤ total_of self.old + 1 }
+    {
+        self.add(source, 1);
     }
 
     /// Counts an event of a source that is no notice.
@@ -128,6 +155,7 @@ impl ByteCounts {
     }
 
     /// Counts this many bytes of a capture with no formatter: those of source 1.
+    #[inline(always)]
     pub fn add_bare(&mut self, bytes: u64)
         requires { bytes_counted self.old + bytes ≤ 2 ^ 60 }
         ensures counted { (u w : List Placed) → length w ≡ bytes → HasBytes self.old (runs_in (port_reading Bare u)) →
@@ -165,11 +193,13 @@ pub struct Counters {
 }
 
 impl Counters {
-    ghost use Rattle.std.specs.Prelude.{◌+◌, ◌*◌, ◌^◌, ◌++◌, ℕ, List, [], length};
+    ghost use Rattle.std.specs.Prelude.{◌+◌, ◌*◌, ◌^◌, ◌++◌, ℕ, List, [], length, Some};
+    ghost use Rattle.trace_values.specs.declared.step.Step.TheVariants.{Item};
     ghost use Rattle.trace_values.specs.declared.cell.Cell.{Cell};
     ghost use Rattle.trace_values.specs.Placed.{Placed};
     ghost use Rattle.capture_plan.specs.declared.frames.FramesMode.TheVariants.{Bare};
     ghost use Rattle.port_reader.specs.Reading.{port_reading};
+    ghost use Rattle.source_merge.specs.Bare.{bare_events};
     ghost use Rattle.source_merge.specs.Counting.{HasBytes, HasCounted, HasItems, bytes_in, size_of};
     ghost use Rattle.source_events.specs.declared.event.Event.{Event};
     ghost use Rattle.source_events.specs.declared.packet.Packet.{Packet};
@@ -193,18 +223,33 @@ impl Counters {
         }
     }
 
-    /// Counts this many bytes of a capture with no formatter, each of which is a frame of one byte of source 1, and the
-    /// events that they gave.
-    pub fn add_bare(&mut self, bytes: usize, events: &[Event<Packet>])
-        requires { size_of self.old + 2 * bytes + length events.now ≤ 2 ^ 60 }
-        ensures counted { (u w : List Placed) (es : List (Event Packet)) → length w ≡ bytes →
+    /// Counts this many bytes of a capture with no formatter, each of which is a frame of one byte of source 1, and what
+    /// the answer to the last of them gave.
+    #[inline]
+    pub fn add_bare(&mut self, bytes: usize, step: &Option<Step<Packet>>)
+        requires { size_of self.old + 2 * bytes + 1 ≤ 2 ^ 60 }
+        ensures counted { (u w : List Placed) (es : List (Event Packet)) (at : ℕ) → length w ≡ bytes →
             HasCounted self.old (port_reading Bare u) es →
-            HasCounted self.new (port_reading Bare (u ++ w)) (es ++ events.now) }
-        ensures size { size_of self.new ≤ size_of self.old + 2 * bytes + length events.now }
+            HasCounted self.new (port_reading Bare (u ++ w)) (es ++ bare_events at step.now) }
+        ensures size { size_of self.new ≤ size_of self.old + 2 * bytes + 1 }
     {
         self.bytes.add_bare(bytes as u64);
         self.port.frames += bytes as u64;
-        self.items.add_items(events);
+        self.items.add_answer(bare_source(), step);
+    }
+
+    /// The same of the bytes of one packet.
+    #[inline(always)]
+    pub fn add_packet(&mut self, bytes: usize)
+        requires { size_of self.old + 2 * bytes + 1 ≤ 2 ^ 60 }
+        ensures counted { (u w : List Placed) (es : List (Event Packet)) (at : ℕ) (packet : Packet) → length w ≡ bytes →
+            HasCounted self.old (port_reading Bare u) es →
+            HasCounted self.new (port_reading Bare (u ++ w)) (es ++ bare_events at (Some (Item 0 packet))) }
+        ensures size { size_of self.new ≤ size_of self.old + 2 * bytes + 1 }
+    {
+        self.bytes.add_bare(bytes as u64);
+        self.port.frames += bytes as u64;
+        self.items.add_one(bare_source());
     }
 
     /// How many bytes and items a source has.

@@ -7,7 +7,9 @@ ghost use Rattle.source_machine.specs.Machine.{held_of, is_live as is_machine_li
 ghost use Rattle.source_merge.specs.Counting.{size_of};
 ghost use Rattle.source_merge.specs.Routing.{HaveRoom, HaveRoom-prop, LiveIf, LiveIf-prop};
 
-use crate::bare::{bare_source, feed_slot_piece, note_last};
+use crate::bare::{
+    bare_source, feed_slot_piece, flow_after, is_sound_answer, next_slot_packet, note_bare,
+};
 use crate::counts::Counters;
 use crate::flow::{Fed, Flow, flow_of};
 use crate::mapped::{Slots, slots_of};
@@ -19,8 +21,8 @@ use arrayvec::ArrayVec;
 use capture_plan::FramesMode;
 use port_reader::PortReader;
 use source_counts::Counts;
-use source_events::{Plan, PortCounts, PortMode, Tails};
-use trace_values::{Cell, SourceId};
+use source_events::{Packet, Plan, PortCounts, PortMode, Tails};
+use trace_values::{Block, Cell, SourceId};
 
 /// Reads a capture byte by byte, its port and each mapped source, and gives the events of its report in order. It keeps
 /// what it needs of the unfinished frame and of one unfinished packet of each source.
@@ -50,14 +52,18 @@ pub struct Engine {
 }
 
 impl Engine {
-    ghost use Rattle.std.specs.Prelude.{ℕ, ◌<◌, ◌++◌, ◌∷◌, [], List, length, take, is_none, position, ◌==◌, Some, IfSome};
+    ghost use Rattle.std.specs.Prelude.{ℕ, ◌<◌, ◌-◌, ◌++◌, ◌∷◌, [], List, length, take, is_none, position, ◌==◌, None, Some, IfSome};
     ghost use Rattle.capture_plan.specs.declared.frames.FramesMode.TheVariants.{Bare};
     ghost use Rattle.arrayvec.specs.ArrayVec.{array_vec_len};
     ghost use Rattle.trace_values.specs.Placed.{Placed, byte_at, placed_from};
+    ghost use Rattle.trace_values.specs.Block.{StopsFor, goes_on_after};
+    ghost use Rattle.trace_values.specs.Stream.{StepFits};
+    ghost use Rattle.trace_values.specs.declared.step.Step.TheVariants.{Item};
     ghost use Rattle.deformatter.specs.Block.{FedAs};
     ghost use Rattle.source_events.specs.Fitting.{AllFit, PacketFits};
     ghost use Rattle.source_events.specs.Tails.{port_counts_of, source_counts_of, tails_of};
     ghost use Rattle.source_merge.specs.Answering.{Answers, fault_of, goes_on};
+    ghost use Rattle.source_merge.specs.Bare.{bare_events, bare_flow};
     ghost use Rattle.source_merge.specs.declared.flow.Flow.TheVariants.{Going};
     ghost use Rattle.source_merge.specs.Engine.{Stands, is_live, next_of, plan_of};
 
@@ -186,13 +192,20 @@ impl Engine {
             FedAs (Answers (plan_of self.old) [] Going) (Answers (plan_of self.old) out.new.items result.flow)
             u at (take result.bytes piece.now) }
     {
-        match self.bare_slot() {
-            Some(index) => self.feed_bare(index, at, piece, out),
+        match self.feed_bare(at, piece) {
+            Some(block) => {
+                note_bare(out, at + (block.bytes as u64 - 1), block.step);
+                Fed {
+                    bytes: block.bytes,
+                    flow: flow_after(&block.step),
+                }
+            }
             None => self.feed_step(at, piece, out),
         }
     }
 
     /// The slot of source 1, if it is mapped and there is no formatter.
+    #[inline(always)]
     fn bare_slot(&self) -> Option<usize>
         ensures bare { IfSome result (λ index. (plan_of self.now).frames ≡ Bare) }
         ensures found { IfSome result (λ index. position (λ s. s.id == 1) self.now.slots.items ≡ Some index) }
@@ -241,38 +254,72 @@ impl Engine {
         }
     }
 
-    /// Takes bytes of source 1, which is mapped, from the front of a piece of a capture with no formatter, up to the first
-    /// one that ends a packet or is a fault, or to the piece's end.
-    fn feed_bare(&mut self, index: usize, at: u64, piece: &[u8], out: &mut Events) -> Fed
-        requires bare { (plan_of self.old).frames ≡ Bare }
-        requires found { position (λ s. s.id == 1) self.old.slots.items ≡ Some index }
+    /// The packet of source 1 that a piece begins with, the first byte of which is at this offset, and how many bytes it
+    /// takes, where there is no formatter, the source is mapped, and the packet can be taken at once. It leaves what
+    /// `feed_block` does, which gives this packet as an event. None says nothing of the bytes, and takes none.
+    ///
+    /// The engine is live. The piece's first offset is at least `next()`, and its last one at most 2^36.
+    #[inline(always)]
+    pub fn take_packet(&mut self, at: u64, piece: &[u8]) -> Option<(usize, Packet)>
         requires live { is_live self.old ≡ true }
-        requires empty { out.old.items ≡ [] }
+        requires offsets { (next_of self.old ≤ at) × (at + length piece.now ≤ 2 ^ 36 + 1) }
+        ensures none { result ≡ None → self.new ≡ self.old }
+        ensures same { plan_of self.new ≡ plan_of self.old }
+        ensures bytes { IfSome result (λ x. (0 < x.0) × (x.0 ≤ length piece.now)) }
+        ensures next { IfSome result (λ x. next_of self.new ≡ at + x.0) }
+        ensures live { is_live self.new ≡ true }
+        ensures fits { IfSome result (λ x. PacketFits x.1) }
+        ensures list { (u : List Placed) → Stands self.old u →
+            IfSome result (λ x. Stands self.new (u ++ placed_from at (take x.0 piece.now))) }
+        ensures fed { (u : List Placed) → Stands self.old u → IfSome result (λ x. let plan = plan_of self.old in
+            let given = bare_events (at + (x.0 - 1)) (Some (Item 0 x.1)) in
+            FedAs (Answers plan [] Going) (Answers plan given Going) u at (take x.0 piece.now)) }
+    {
+        let Some(index) = self.bare_slot() else {
+            return None;
+        };
+        let Some((bytes, packet)) = next_slot_packet(self.slots.as_slice(), index, piece) else {
+            return None;
+        };
+        self.counters.add_packet(bytes);
+        self.count += bytes as u64;
+        self.next = at + bytes as u64;
+        Some((bytes, packet))
+    }
+
+    /// Where there is no formatter and source 1 is mapped: takes its bytes from the front of a piece, the first of which is
+    /// at this offset, up to the first one that ends a packet or is a fault, or to the piece's end, and gives the answer of
+    /// the source's machine to the last of them. It leaves what `feed_block` does, which gives the events of that answer
+    /// (`note_bare`). None for every other plan: then it takes nothing.
+    ///
+    /// The engine is live, and the piece has a byte. Its first offset is at least `next()`, and its last one at most 2^36.
+    #[inline(never)]
+    pub fn feed_bare(&mut self, at: u64, piece: &[u8]) -> Option<Block<Packet>>
+        requires live { is_live self.old ≡ true }
         requires some { 0 < length piece.now }
         requires offsets { (next_of self.old ≤ at) × (at + length piece.now ≤ 2 ^ 36 + 1) }
+        ensures none { result ≡ None → self.new ≡ self.old }
         ensures same { plan_of self.new ≡ plan_of self.old }
-        ensures bytes { (0 < result.bytes) × (result.bytes ≤ length piece.now) }
-        ensures next { next_of self.new ≡ at + result.bytes }
-        ensures live { is_live self.new ≡ goes_on result.flow }
-        ensures few { array_vec_len out.new ≤ 30 }
-        ensures fits { AllFit PacketFits out.new.items }
+        ensures bytes { IfSome result (λ b. (0 < b.bytes) × (b.bytes ≤ length piece.now)) }
+        ensures stops { IfSome result (λ b. StopsFor b.bytes (length piece.now) b.step) }
+        ensures next { IfSome result (λ b. next_of self.new ≡ at + b.bytes) }
+        ensures live { IfSome result (λ b. is_live self.new ≡ goes_on_after b.step) }
+        ensures fits { IfSome result (λ b. IfSome b.step (StepFits PacketFits)) }
         ensures list { (u : List Placed) → Stands self.old u →
-            Stands self.new (u ++ placed_from at (take result.bytes piece.now)) }
-        ensures fed { (u : List Placed) → Stands self.old u →
-            FedAs (Answers (plan_of self.old) [] Going) (Answers (plan_of self.old) out.new.items result.flow)
-            u at (take result.bytes piece.now) }
+            IfSome result (λ b. Stands self.new (u ++ placed_from at (take b.bytes piece.now))) }
+        ensures fed { (u : List Placed) → Stands self.old u → IfSome result (λ b. let plan = plan_of self.old in
+            let given = bare_events (at + (b.bytes - 1)) b.step in
+            FedAs (Answers plan [] Going) (Answers plan given (bare_flow b.step)) u at (take b.bytes piece.now)) }
     {
+        let Some(index) = self.bare_slot() else {
+            return None;
+        };
         let block = feed_slot_piece(self.slots.as_mut_slice(), index, at, piece);
-        let last = at + (block.bytes as u64 - 1);
-        let stop = note_last(out, bare_source(), last, block.step);
-        self.counters.add_bare(block.bytes, out.as_slice());
+        self.counters.add_bare(block.bytes, &block.step);
         self.count += block.bytes as u64;
         self.next = at + block.bytes as u64;
-        self.live = stop.is_none();
-        Fed {
-            bytes: block.bytes,
-            flow: flow_of(stop),
-        }
+        self.live = is_sound_answer(&block.step);
+        Some(block)
     }
 
     /// How many bytes a source has, and how many events without notices. The engine is live.

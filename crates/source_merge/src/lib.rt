@@ -13,6 +13,7 @@ mod tails;
 #[cfg(test)]
 mod tests;
 
+pub use bare::{bare_source, flow_after, note_bare};
 pub use engine::Engine;
 pub use flow::{Fed, Flow};
 pub use slot::{EVENTS, Events};

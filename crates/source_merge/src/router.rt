@@ -6,15 +6,18 @@ ghost use Rattle.trace_values.specs.declared.cell.Cell.{Cell};
 ghost use Rattle.source_events.specs.Runs.{RisesFrom, IsRunFrom, end_of, runs_of, id_of};
 ghost use Rattle.source_events.specs.Merge.{told};
 ghost use Rattle.source_events.specs.Report.{raw_events, triggers};
-ghost use Rattle.source_events.specs.Fitting.{AllFit};
+ghost use Rattle.source_events.specs.Fitting.{AllFit, PacketFits};
+ghost use Rattle.source_machine.specs.declared.machine.SourceMachine.{SourceMachine};
+ghost use Rattle.source_machine.specs.Machine.{Stands, held_of, is_live, reading_of, skipped_by};
 ghost use Rattle.source_merge.specs.Routing.{mapped_of, AllLive, AllStand, HaveRoom, AreDistinct, Took, Fed, RunsBetween, SlotFed};
 ghost use Rattle.source_merge.specs.Counting.{HasBytes, bytes_counted};
 ghost use Rattle.source_merge.specs.declared.slot.Slot.{Slot};
 
 use crate::counts::ByteCounts;
-use crate::slot::{EVENTS, Events, Slot, feed_run};
+use crate::slot::{EVENTS, Events, Slot, feed_machine};
 use source_events::{Event, Packet, RunBytes, Stop, What, run_length};
-use trace_values::{Cell, Fault, Machine, SourceId};
+use source_machine::SourceMachine;
+use trace_values::{Cell, Fault, SourceId};
 
 /// The null source, whose bytes only fill frames.
 const NULL: u8 = 0;
@@ -63,51 +66,51 @@ fn put_raw(source: SourceId, run: &[Cell], out: &mut Events)
 }
 
 /// The index of the source of this ID among the mapped ones.
-pub fn find<M: Machine<Item = Packet>>(slots: &[Slot<M>], id: SourceId) -> Option<usize>
+pub fn find(slots: &[Slot<SourceMachine>], id: SourceId) -> Option<usize>
     ensures { result ≡ position (λ s. s.id == id) slots.now }
 {
     slots.iter().position(|slot| slot.id == id)
 }
 
 /// Feeds a run to the machine of one slot.
-fn feed_slot<M: Machine<Item = Packet>>(
-    slots: &mut [Slot<M>],
+fn feed_slot(
+    slots: &mut [Slot<SourceMachine>],
     index: usize,
     id: SourceId,
     run: &[Cell],
     out: &mut Events,
 ) -> Option<Fault>
     requires index { index < length slots.old }
-    requires live { AllLive M.live slots.old }
+    requires live { AllLive is_live slots.old }
     requires size { length run.now ≤ 15 }
-    requires room { HaveRoom M.held_units M.skipped_units (2 ^ 59) slots.old }
+    requires room { HaveRoom held_of skipped_by (2 ^ 59) slots.old }
     requires events { array_vec_len out.old + 2 * length run.now ≤ EVENTS }
-    ensures fed { (front : List (Slot M)) (s : Slot M) (back : List (Slot M)) → slots.old ≡ front ++ (s ∷ back) → length front ≡ index →
-        SlotFed M.reading M.stands M.live M.held_units M.skipped_units front s back slots.new run.now id out.old.items out.new.items result }
+    ensures fed { (front : List (Slot SourceMachine)) (s : Slot SourceMachine) (back : List (Slot SourceMachine)) → slots.old ≡ front ++ (s ∷ back) → length front ≡ index →
+        SlotFed reading_of Stands is_live held_of skipped_by front s back slots.new run.now id out.old.items out.new.items result }
     ensures events { array_vec_len out.new ≤ array_vec_len out.old + 2 * length run.now }
-    ensures fits { AllFit M.fits out.old.items → AllFit M.fits out.new.items }
+    ensures fits { AllFit PacketFits out.old.items → AllFit PacketFits out.new.items }
 {
-    feed_run(&mut slots[index].machine, id, run, out)
+    feed_machine(&mut slots[index].machine, id, run, out)
 }
 
 /// Takes a run.
-fn take_run<M: Machine<Item = Packet>>(
-    slots: &mut [Slot<M>],
+fn take_run(
+    slots: &mut [Slot<SourceMachine>],
     run: &[Cell],
     out: &mut Events,
 ) -> Option<Stop>
     requires some { 0 < length run.now }
     requires size { length run.now ≤ 15 }
-    requires live { AllLive M.live slots.old }
-    requires room { HaveRoom M.held_units M.skipped_units (2 ^ 59) slots.old }
+    requires live { AllLive is_live slots.old }
+    requires room { HaveRoom held_of skipped_by (2 ^ 59) slots.old }
     requires events { array_vec_len out.old + 2 * length run.now ≤ EVENTS }
-    ensures same { mapped_of M.reading slots.new ≡ mapped_of M.reading slots.old }
-    ensures live { result ≡ None → AllLive M.live slots.new }
-    ensures room { (n : ℕ) → HaveRoom M.held_units M.skipped_units n slots.old → HaveRoom M.held_units M.skipped_units (n + 2 * length run.now) slots.new }
+    ensures same { mapped_of reading_of slots.new ≡ mapped_of reading_of slots.old }
+    ensures live { result ≡ None → AllLive is_live slots.new }
+    ensures room { (n : ℕ) → HaveRoom held_of skipped_by n slots.old → HaveRoom held_of skipped_by (n + 2 * length run.now) slots.new }
     ensures events { array_vec_len out.new ≤ array_vec_len out.old + 2 * length run.now }
-    ensures fits { AllFit M.fits out.old.items → AllFit M.fits out.new.items }
-    ensures took { (runs : List (List Cell)) (n : ℕ) → AreDistinct (mapped_of M.reading slots.old) → AllStand M.stands slots.old runs → IsRunFrom n run.now →
-        Took M.stands (mapped_of M.reading slots.old) slots.new runs n run.now out.old.items out.new.items result }
+    ensures fits { AllFit PacketFits out.old.items → AllFit PacketFits out.new.items }
+    ensures took { (runs : List (List Cell)) (n : ℕ) → AreDistinct (mapped_of reading_of slots.old) → AllStand Stands slots.old runs → IsRunFrom n run.now →
+        Took Stands (mapped_of reading_of slots.old) slots.new runs n run.now out.old.items out.new.items result }
 {
     let first = run[0];
     let Some(id) = first.id else {
@@ -127,26 +130,26 @@ fn take_run<M: Machine<Item = Packet>>(
 }
 
 /// Takes the cells of a frame, each run to its source, up to a fault, and gives their events.
-pub fn take_frame<M: Machine<Item = Packet>>(
-    slots: &mut [Slot<M>],
+pub fn take_frame(
+    slots: &mut [Slot<SourceMachine>],
     cells: &[Cell],
     counts: &mut ByteCounts,
     out: &mut Events,
 ) -> Option<Stop>
     requires size { length cells.now ≤ 15 }
-    requires live { AllLive M.live slots.old }
-    requires room { HaveRoom M.held_units M.skipped_units (2 ^ 58) slots.old }
+    requires live { AllLive is_live slots.old }
+    requires room { HaveRoom held_of skipped_by (2 ^ 58) slots.old }
     requires count { bytes_counted counts.old ≤ 2 ^ 58 }
     requires empty { out.old.items ≡ [] }
-    ensures same { mapped_of M.reading slots.new ≡ mapped_of M.reading slots.old }
-    ensures live { result ≡ None → AllLive M.live slots.new }
-    ensures room { (n : ℕ) → HaveRoom M.held_units M.skipped_units n slots.old →
-        HaveRoom M.held_units M.skipped_units (n + 2 * length cells.now) slots.new }
+    ensures same { mapped_of reading_of slots.new ≡ mapped_of reading_of slots.old }
+    ensures live { result ≡ None → AllLive is_live slots.new }
+    ensures room { (n : ℕ) → HaveRoom held_of skipped_by n slots.old →
+        HaveRoom held_of skipped_by (n + 2 * length cells.now) slots.new }
     ensures events { array_vec_len out.new ≤ 2 * length cells.now }
-    ensures fits { AllFit M.fits out.new.items }
-    ensures fed { (runs : List (List Cell)) (n : ℕ) → AreDistinct (mapped_of M.reading slots.old) →
-        AllStand M.stands slots.old runs → RunsBetween 0 n runs → RisesFrom n cells.now →
-        Fed M.stands (mapped_of M.reading slots.old) slots.new runs (runs_of cells.now) out.new.items result }
+    ensures fits { AllFit PacketFits out.new.items }
+    ensures fed { (runs : List (List Cell)) (n : ℕ) → AreDistinct (mapped_of reading_of slots.old) →
+        AllStand Stands slots.old runs → RunsBetween 0 n runs → RisesFrom n cells.now →
+        Fed Stands (mapped_of reading_of slots.old) slots.new runs (runs_of cells.now) out.new.items result }
     ensures counted { (runs : List (List Cell)) → result ≡ None → HasBytes counts.old runs →
         HasBytes counts.new (runs ++ runs_of cells.now) }
     ensures count { bytes_counted counts.new ≤ bytes_counted counts.old + length cells.now }

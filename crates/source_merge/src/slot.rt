@@ -6,12 +6,13 @@ ghost use Rattle.trace_values.specs.Placed.{Placed};
 ghost use Rattle.trace_values.specs.Stream.{given_by};
 ghost use Rattle.source_events.specs.Merge.{told};
 ghost use Rattle.source_events.specs.Report.{lifted};
-ghost use Rattle.source_events.specs.Fitting.{AllFit};
+ghost use Rattle.source_events.specs.Fitting.{AllFit, PacketFits};
+ghost use Rattle.source_machine.specs.Machine.{Stands, held_of, is_live, reading_of, skipped_by};
 ghost use Rattle.source_merge.specs.Feeding.{Feeds, IsEarly, step_fault};
 
 use arrayvec::ArrayVec;
 use capture_plan::PacketsMode;
-use source_events::{Event, Packet, SourceKind, What};
+use source_events::{Event, Packet, RunBytes, SourceKind, What};
 use source_machine::SourceMachine;
 use stp_grammar::packet::Order;
 use trace_values::{Cell, Fault, Machine, SourceId, Step};
@@ -82,30 +83,46 @@ pub fn note(out: &mut Events, source: SourceId, at: u64, step: Step<Packet>) -> 
     }
 }
 
-/// Feeds a run of this source to its machine, up to a fault, and notes what it gives.
-pub fn feed_run<M: Machine<Item = Packet>>(
-    machine: &mut M,
+/// Feeds a run of this source to its machine, up to a fault, and notes what it gives. It takes a packet at once whose
+/// bytes are all in the run.
+pub fn feed_machine(
+    machine: &mut SourceMachine,
     source: SourceId,
     run: &[Cell],
     out: &mut Events,
 ) -> Option<Fault>
-    requires live { M.live machine.old ≡ true }
-    requires room { M.held_units machine.old + M.skipped_units machine.old + 2 * length run.now ≤ 2 ^ 60 }
+    requires live { is_live machine.old ≡ true }
+    requires size { length run.now ≤ 15 }
+    requires room { held_of machine.old + skipped_by machine.old + 2 * length run.now ≤ 2 ^ 60 }
     requires events { array_vec_len out.old + 2 * length run.now ≤ EVENTS }
-    ensures same { M.reading machine.new ≡ M.reading machine.old }
-    ensures feeds { (u : List Placed) → M.stands machine.old u →
-        Feeds (M.reading machine.old) (M.stands machine.new) u run.now source out.old.items out.new.items result }
-    ensures early { IsEarly (M.reading machine.old) (M.stands machine.old) run.now result }
-    ensures live { M.live machine.new ≡ is_none result }
-    ensures few { M.held_units machine.new + M.skipped_units machine.new ≤
-        M.held_units machine.old + M.skipped_units machine.old + 2 * length run.now }
+    ensures same { reading_of machine.new ≡ reading_of machine.old }
+    ensures feeds { (u : List Placed) → Stands machine.old u →
+        Feeds (reading_of machine.old) (Stands machine.new) u run.now source out.old.items out.new.items result }
+    ensures early { IsEarly (reading_of machine.old) (Stands machine.old) run.now result }
+    ensures live { is_live machine.new ≡ is_none result }
+    ensures few { held_of machine.new + skipped_by machine.new ≤
+        held_of machine.old + skipped_by machine.old + 2 * length run.now }
     ensures events { array_vec_len out.new ≤ array_vec_len out.old + 2 * length run.now }
-    ensures fits { AllFit M.fits out.old.items → AllFit M.fits out.new.items }
+    ensures fits { AllFit PacketFits out.old.items → AllFit PacketFits out.new.items }
 {
-    for cell in run {
-        let step = machine.feed(cell.at, cell.byte);
-        if let Some(fault) = note(out, source, cell.at, step) {
-            return Some(fault);
+    let bytes = RunBytes::of(run);
+    let mut done = 0;
+    while done < run.len() {
+        if let Some((count, packet)) = machine.next_packet(&bytes.as_slice()[done..]) {
+            done += count;
+            out.push(Event {
+                at: run[done - 1].at,
+                half: 0,
+                source: Some(source),
+                what: What::Packet(packet),
+            });
+        } else {
+            let cell = run[done];
+            done += 1;
+            let step = machine.feed(cell.at, cell.byte);
+            if let Some(fault) = note(out, source, cell.at, step) {
+                return Some(fault);
+            }
         }
     }
     None

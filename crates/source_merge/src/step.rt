@@ -10,7 +10,8 @@ ghost use Rattle.port_reader.specs.Reading.{port_reading};
 ghost use Rattle.port_reader.specs.Rising.{BytesRise};
 ghost use Rattle.source_events.specs.declared.event.Event.{Event};
 ghost use Rattle.source_events.specs.declared.packet.Packet.{Packet};
-ghost use Rattle.source_events.specs.Fitting.{AllFit};
+ghost use Rattle.source_events.specs.Fitting.{AllFit, PacketFits};
+ghost use Rattle.source_machine.specs.Machine.{Stands, held_of, is_live, reading_of, skipped_by};
 ghost use Rattle.source_events.specs.Report.{runs_in};
 ghost use Rattle.source_merge.specs.Routing.{mapped_of, AllLive, AllStand, HaveRoom, AreDistinct};
 ghost use Rattle.source_merge.specs.Counting.{HasBytes, HasCounted, bytes_counted, size_of};
@@ -21,34 +22,35 @@ use crate::router::take_frame;
 use crate::slot::{Events, Slot};
 use port_reader::PortStep;
 use source_events::{Event, Packet, Stop, What};
-use trace_values::{Cell, Machine};
+use source_machine::SourceMachine;
+use trace_values::Cell;
 
 /// Takes what a step of the port at this offset ends: a frame with these cells, or the bytes before a lock.
-fn take_ended<M: Machine<Item = Packet>>(
-    slots: &mut [Slot<M>],
+fn take_ended(
+    slots: &mut [Slot<SourceMachine>],
     counts: &mut ByteCounts,
     at: u64,
     step: PortStep,
     cells: &[Cell],
     out: &mut Events,
 ) -> Option<Stop>
-    requires live { AllLive M.live slots.old }
-    requires room { HaveRoom M.held_units M.skipped_units (2 ^ 58) slots.old }
+    requires live { AllLive is_live slots.old }
+    requires room { HaveRoom held_of skipped_by (2 ^ 58) slots.old }
     requires count { bytes_counted counts.old ≤ 2 ^ 58 }
     requires cells { length cells.now ≤ 15 }
     requires empty { out.old.items ≡ [] }
-    ensures same { mapped_of M.reading slots.new ≡ mapped_of M.reading slots.old }
-    ensures live { result ≡ None → AllLive M.live slots.new }
+    ensures same { mapped_of reading_of slots.new ≡ mapped_of reading_of slots.old }
+    ensures live { result ≡ None → AllLive is_live slots.new }
     ensures going { result ≡ None → goes_on step ≡ true }
-    ensures room { (n : ℕ) → HaveRoom M.held_units M.skipped_units n slots.old →
-        HaveRoom M.held_units M.skipped_units (n + 30) slots.new }
+    ensures room { (n : ℕ) → HaveRoom held_of skipped_by n slots.old →
+        HaveRoom held_of skipped_by (n + 30) slots.new }
     ensures count { bytes_counted counts.new ≤ bytes_counted counts.old + 15 }
     ensures few { array_vec_len out.new ≤ 30 }
-    ensures fits { AllFit M.fits out.new.items }
+    ensures fits { AllFit PacketFits out.new.items }
     ensures taken { (mode : FramesMode) (u : List Placed) (byte : ℕ) → BytesRise 0 at u →
         Answers mode step cells.now u at byte → (port_reading mode u).fault ≡ None →
-        AreDistinct (mapped_of M.reading slots.old) → AllStand M.stands slots.old (runs_in (port_reading mode u)) →
-        StepTaken M.stands (mapped_of M.reading slots.old) slots.new mode u (u ++ byte_at at byte ∷ []) out.new.items result }
+        AreDistinct (mapped_of reading_of slots.old) → AllStand Stands slots.old (runs_in (port_reading mode u)) →
+        StepTaken Stands (mapped_of reading_of slots.old) slots.new mode u (u ++ byte_at at byte ∷ []) out.new.items result }
     ensures counted { (mode : FramesMode) (u : List Placed) (byte : ℕ) → result ≡ None →
         Answers mode step cells.now u at byte → HasBytes counts.old (runs_in (port_reading mode u)) →
         HasBytes counts.new (runs_in (port_reading mode (u ++ byte_at at byte ∷ []))) }
@@ -74,31 +76,31 @@ fn take_ended<M: Machine<Item = Packet>>(
 
 /// Takes a step of the port at this offset, where it ends a frame with these cells, and gives the events that are decided
 /// with it. Answers the report's fault where it is certain now.
-pub fn take_step<M: Machine<Item = Packet>>(
-    slots: &mut [Slot<M>],
+pub fn take_step(
+    slots: &mut [Slot<SourceMachine>],
     counters: &mut Counters,
     at: u64,
     step: PortStep,
     cells: &[Cell],
     out: &mut Events,
 ) -> Option<Stop>
-    requires live { AllLive M.live slots.old }
-    requires room { HaveRoom M.held_units M.skipped_units (2 ^ 58) slots.old }
+    requires live { AllLive is_live slots.old }
+    requires room { HaveRoom held_of skipped_by (2 ^ 58) slots.old }
     requires size { size_of counters.old ≤ 2 ^ 58 }
     requires cells { length cells.now ≤ 15 }
     requires empty { out.old.items ≡ [] }
-    ensures same { mapped_of M.reading slots.new ≡ mapped_of M.reading slots.old }
-    ensures live { result ≡ None → AllLive M.live slots.new }
+    ensures same { mapped_of reading_of slots.new ≡ mapped_of reading_of slots.old }
+    ensures live { result ≡ None → AllLive is_live slots.new }
     ensures going { result ≡ None → goes_on step ≡ true }
-    ensures room { (n : ℕ) → HaveRoom M.held_units M.skipped_units n slots.old →
-        HaveRoom M.held_units M.skipped_units (n + 30) slots.new }
+    ensures room { (n : ℕ) → HaveRoom held_of skipped_by n slots.old →
+        HaveRoom held_of skipped_by (n + 30) slots.new }
     ensures size { size_of counters.new ≤ size_of counters.old + 46 }
     ensures few { array_vec_len out.new ≤ 30 }
-    ensures fits { AllFit M.fits out.new.items }
+    ensures fits { AllFit PacketFits out.new.items }
     ensures taken { (mode : FramesMode) (u : List Placed) (byte : ℕ) → BytesRise 0 at u →
         Answers mode step cells.now u at byte → (port_reading mode u).fault ≡ None →
-        AreDistinct (mapped_of M.reading slots.old) → AllStand M.stands slots.old (runs_in (port_reading mode u)) →
-        StepTaken M.stands (mapped_of M.reading slots.old) slots.new mode u (u ++ byte_at at byte ∷ []) out.new.items result }
+        AreDistinct (mapped_of reading_of slots.old) → AllStand Stands slots.old (runs_in (port_reading mode u)) →
+        StepTaken Stands (mapped_of reading_of slots.old) slots.new mode u (u ++ byte_at at byte ∷ []) out.new.items result }
     ensures counted { (mode : FramesMode) (u : List Placed) (byte : ℕ) (es : List (Event Packet)) → result ≡ None →
         Answers mode step cells.now u at byte → HasCounted counters.old (port_reading mode u) es →
         HasCounted counters.new (port_reading mode (u ++ byte_at at byte ∷ [])) (es ++ out.new.items) }

@@ -90,7 +90,7 @@ impl Outlet {
     }
 
     /// Adds the text. There is room for any text.
-    #[inline]
+    #[inline(always)]
     pub fn put<T: Text>(&mut self, text: &T)
         requires fits { T.fits text.now }
         requires room { length self.old + TEXT_ROOM ≤ OUTLET_ROOM }

@@ -191,6 +191,7 @@ impl Text for ItmLine<'_> {
 
 /// Puts the line of an event, with its remark: `AT SOURCE WHAT`, or `AT.H SOURCE WHAT` where its source is an STP source
 /// (`stp`). The digits of the offset are kept for the next line.
+#[inline(always)]
 pub fn print(
     outlet: &mut Outlet,
     digits: &mut Digits,

@@ -12,30 +12,32 @@ use Rattle.source_merge.proofs.Taking.{lawful, sound}
 use Rattle.source_merge.proofs.Framing.{cut_at, first_at, done_more, done_all, took_as, rest_in_order, filled_none, filled_more, fed_all, fed_stopped}
 use Rattle.source_merge.specs.Counting.{HasBytes}
 use Rattle.source_merge.proofs.Fits.{none_fit}
+use Rattle.source_machine.specs.Machine.{Stands, has_locked, held_of, is_live, reading_of, skipped_by}
+use Rattle.source_machine.specs.MachineLaws as laws
+use Rattle.source_events.specs.Fitting.{PacketFits}
 use Rattle.source_merge.proofs.router.take_frame.Goals as goal
 
 pub loop-rest-init : goal.loop-rest-init
-loop-rest-init g c = record {
+loop-rest-init c = record {
   done = [];
   parts = refl;
   same = refl;
   live = c.requires.live;
   size = omega arith;
-  room = λ n r. room_more g.M.Machine.held_units g.M.Machine.skipped_units n _ c.args.slots.now (omega arith) r;
+  room = λ n r. room_more held_of skipped_by n _ c.args.slots.now (omega arith) r;
   events = (let e = ap length c.requires.empty in omega arith);
-  fits = none_fit g.M.Machine.fits c.args.out.now.items c.requires.empty;
+  fits = none_fit PacketFits c.args.out.now.items c.requires.empty;
   counted = λ runs h. subst (λ (l : List (List Cell)). HasBytes c.args.counts.now l) (sym (append-nil runs)) h;
   count = omega arith;
-  fed = λ runs n d a b r. filled_none g.M.Machine.stands (mapped_of g.M.Machine.reading c.args.slots.now) runs n c.args.slots.now c.args.cells.now c.args.out.now.items c.requires.empty r a;
+  fed = λ runs n d a b r. filled_none Stands (mapped_of reading_of c.args.slots.now) runs n c.args.slots.now c.args.cells.now c.args.out.now.items c.requires.empty r a;
 }
 
 pub take_run-requires-clause-room : goal.take_run-requires-clause-room
-take_run-requires-clause-room g c =
-    room_more g.M.Machine.held_units g.M.Machine.skipped_units _ (2 ^ 59) c.loop-rest.slots (let s = c.requires.size in omega arith) (c.loop-rest.invariant.room (2 ^ 58) c.requires.room)
+take_run-requires-clause-room c =
+    room_more held_of skipped_by _ (2 ^ 59) c.loop-rest.slots (let s = c.requires.size in omega arith) (c.loop-rest.invariant.room (2 ^ 58) c.requires.room)
 
 pub loop-rest-preserved : goal.loop-rest-preserved
-loop-rest-preserved g c =
-    let machine = g.M.Machine in
+loop-rest-preserved c =
     let i = c.loop-rest.invariant in
     let rest = c.loop-rest.rest.now in
     let k = c.run_length-n.result in
@@ -51,7 +53,7 @@ loop-rest-preserved g c =
       same = c.take_run.ensures.same ∙ i.same;
       live = c.take_run.ensures.live c.in_default.is;
       size = (let s = i.size in omega arith);
-      room = λ n r. room_more machine.held_units machine.skipped_units _ _ c.take_run.new.slots (let s = i.size in let x = c.run_length-n.ensures.within in omega arith) (c.take_run.ensures.room _ (i.room n r));
+      room = λ n r. room_more held_of skipped_by _ _ c.take_run.new.slots (let s = i.size in let x = c.run_length-n.ensures.within in omega arith) (c.take_run.ensures.room _ (i.room n r));
       events = (let e = i.events in let f = c.take_run.ensures.events in let s = i.size in let x = c.run_length-n.ensures.within in omega arith);
       fits = c.take_run.ensures.fits i.fits;
       counted = λ runs h.
@@ -61,23 +63,22 @@ loop-rest-preserved g c =
       fed = λ runs n d a b r.
           let f = i.fed runs n d a b r in
           let one = first_at rest k f.at is some f.rises in
-          subst (λ (l : List Cell). Filled machine.stands (mapped_of machine.reading c.args.slots.now) c.take_run.new.slots runs n (i.done ++ take k rest ∷ []) l c.take_run.new.out.items) (sym tail)
-          (filled_more machine.stands (mapped_of machine.reading c.args.slots.now) runs n c.loop-rest.slots c.take_run.new.slots i.done rest (take k rest) (drop k rest) c.loop-rest.out.items c.take_run.new.out.items f one.0 one.1
-          (took_as machine.stands (mapped_of machine.reading c.loop-rest.slots) (mapped_of machine.reading c.args.slots.now) c.take_run.new.slots (runs ++ i.done) f.at (take k rest) c.loop-rest.out.items c.take_run.new.out.items _ None i.same c.in_default.is
+          subst (λ (l : List Cell). Filled Stands (mapped_of reading_of c.args.slots.now) c.take_run.new.slots runs n (i.done ++ take k rest ∷ []) l c.take_run.new.out.items) (sym tail)
+          (filled_more Stands (mapped_of reading_of c.args.slots.now) runs n c.loop-rest.slots c.take_run.new.slots i.done rest (take k rest) (drop k rest) c.loop-rest.out.items c.take_run.new.out.items f one.0 one.1
+          (took_as Stands (mapped_of reading_of c.loop-rest.slots) (mapped_of reading_of c.args.slots.now) c.take_run.new.slots (runs ++ i.done) f.at (take k rest) c.loop-rest.out.items c.take_run.new.out.items _ None i.same c.in_default.is
           (c.take_run.ensures.took (runs ++ i.done) f.at (subst (λ (z : List (Mapped Packet)). AreDistinct z) (sym i.same) d) f.list one.0)));
     }
 
 pub returns-in-Some-clause-room : goal.returns-in-Some-clause-room
-returns-in-Some-clause-room g c = λ n r.
+returns-in-Some-clause-room c = λ n r.
     let i = c.loop-rest.invariant in
     let rest = c.loop-rest.rest.now in
     let k = c.run_length-n.result in
     let taken = length-take-le k rest c.run_length-n.ensures.within in
-    room_more g.M.Machine.held_units g.M.Machine.skipped_units _ _ c.take_run.new.slots (let s = i.size in let x = c.run_length-n.ensures.within in omega arith) (c.take_run.ensures.room _ (i.room n r))
+    room_more held_of skipped_by _ _ c.take_run.new.slots (let s = i.size in let x = c.run_length-n.ensures.within in omega arith) (c.take_run.ensures.room _ (i.room n r))
 
 pub returns-in-Some-clause-fed : goal.returns-in-Some-clause-fed
-returns-in-Some-clause-fed g c = λ runs n d a b r.
-    let machine = g.M.Machine in
+returns-in-Some-clause-fed c = λ runs n d a b r.
     let i = c.loop-rest.invariant in
     let rest = c.loop-rest.rest.now in
     let k = c.run_length-n.result in
@@ -85,51 +86,50 @@ returns-in-Some-clause-fed g c = λ runs n d a b r.
     let some : 0 < length rest = (let x = c.run_length-n.ensures.some in let y = c.run_length-n.ensures.within in omega arith) in
     let f = i.fed runs n d a b r in
     let one = first_at rest k f.at is some f.rises in
-    let took = took_as machine.stands (mapped_of machine.reading c.loop-rest.slots) (mapped_of machine.reading c.args.slots.now) c.take_run.new.slots (runs ++ i.done) f.at (take k rest) c.loop-rest.out.items c.take_run.new.out.items _ (Some c.in-Some.stop) i.same c.in-Some.is
+    let took = took_as Stands (mapped_of reading_of c.loop-rest.slots) (mapped_of reading_of c.args.slots.now) c.take_run.new.slots (runs ++ i.done) f.at (take k rest) c.loop-rest.out.items c.take_run.new.out.items _ (Some c.in-Some.stop) i.same c.in-Some.is
     (c.take_run.ensures.took (runs ++ i.done) f.at (subst (λ (z : List (Mapped Packet)). AreDistinct z) (sym i.same) d) f.list one.0) in
-    subst (λ (l : List (List Cell)). Fed machine.stands (mapped_of machine.reading c.args.slots.now) c.take_run.new.slots runs l c.take_run.new.out.items (Some c.in-Some.stop))
+    subst (λ (l : List (List Cell)). Fed Stands (mapped_of reading_of c.args.slots.now) c.take_run.new.slots runs l c.take_run.new.out.items (Some c.in-Some.stop))
     (sym (i.parts ∙ ap (λ (l : List (List Cell)). i.done ++ l) (cut_at rest k is some)))
-    (fed_stopped machine.stands (mapped_of machine.reading c.args.slots.now) runs n (lawful g.M.Machine.reading g.M.Machine.stands g.M.Machine.live g.M.Machine.locked g.M.Machine.held_units g.M.Machine.skipped_units g.met.M.Machine.shows g.met.M.Machine.begins g.met.M.Machine.settles g.met.M.Machine.rises c.args.slots.now) c.loop-rest.slots c.take_run.new.slots i.done (runs_of (drop k rest)) rest (take k rest) c.loop-rest.out.items c.take_run.new.out.items c.in-Some.stop
-    (sound g.M.Machine.reading g.M.Machine.stands g.M.Machine.live g.M.Machine.locked g.M.Machine.held_units g.M.Machine.skipped_units g.met.M.Machine.shows g.met.M.Machine.begins g.met.M.Machine.settles g.met.M.Machine.rises c.args.slots.now runs c.requires.live a) b f one.0 (rest_in_order (drop k rest) _ one.1) took.given took.stops)
+    (fed_stopped Stands (mapped_of reading_of c.args.slots.now) runs n (lawful reading_of Stands is_live has_locked held_of skipped_by laws.shows laws.begins laws.settles laws.rises c.args.slots.now) c.loop-rest.slots c.take_run.new.slots i.done (runs_of (drop k rest)) rest (take k rest) c.loop-rest.out.items c.take_run.new.out.items c.in-Some.stop
+    (sound reading_of Stands is_live has_locked held_of skipped_by laws.shows laws.begins laws.settles laws.rises c.args.slots.now runs c.requires.live a) b f one.0 (rest_in_order (drop k rest) _ one.1) took.given took.stops)
 
 pub returns-clause-room : goal.returns-clause-room
-returns-clause-room g c = λ n r.
+returns-clause-room c = λ n r.
     let i = c.loop-rest.invariant in
-    room_more g.M.Machine.held_units g.M.Machine.skipped_units _ _ c.loop-rest.slots (let s = i.size in omega arith) (i.room n r)
+    room_more held_of skipped_by _ _ c.loop-rest.slots (let s = i.size in omega arith) (i.room n r)
 
 pub returns-clause-fed : goal.returns-clause-fed
-returns-clause-fed g c = λ runs n d a b r.
-    let machine = g.M.Machine in
+returns-clause-fed c = λ runs n d a b r.
     let i = c.loop-rest.invariant in
     let f = i.fed runs n d a b r in
-    subst (λ (l : List (List Cell)). Fed machine.stands (mapped_of machine.reading c.args.slots.now) c.loop-rest.slots runs l c.loop-rest.out.items None)
+    subst (λ (l : List (List Cell)). Fed Stands (mapped_of reading_of c.args.slots.now) c.loop-rest.slots runs l c.loop-rest.out.items None)
     (sym (done_all (runs_of c.args.cells.now) i.done c.loop-rest.rest.now i.parts (grind (arith, nat_tests))))
-    (fed_all machine.stands (mapped_of machine.reading c.args.slots.now) runs n c.loop-rest.slots i.done c.loop-rest.rest.now c.loop-rest.out.items (sound g.M.Machine.reading g.M.Machine.stands g.M.Machine.live g.M.Machine.locked g.M.Machine.held_units g.M.Machine.skipped_units g.met.M.Machine.shows g.met.M.Machine.begins g.met.M.Machine.settles g.met.M.Machine.rises c.args.slots.now runs c.requires.live a) f
-    (subst (λ (z : List (Mapped Packet)). AreSound z (runs ++ i.done)) i.same (sound g.M.Machine.reading g.M.Machine.stands g.M.Machine.live g.M.Machine.locked g.M.Machine.held_units g.M.Machine.skipped_units g.met.M.Machine.shows g.met.M.Machine.begins g.met.M.Machine.settles g.met.M.Machine.rises c.loop-rest.slots (runs ++ i.done) i.live f.list)))
+    (fed_all Stands (mapped_of reading_of c.args.slots.now) runs n c.loop-rest.slots i.done c.loop-rest.rest.now c.loop-rest.out.items (sound reading_of Stands is_live has_locked held_of skipped_by laws.shows laws.begins laws.settles laws.rises c.args.slots.now runs c.requires.live a) f
+    (subst (λ (z : List (Mapped Packet)). AreSound z (runs ++ i.done)) i.same (sound reading_of Stands is_live has_locked held_of skipped_by laws.shows laws.begins laws.settles laws.rises c.loop-rest.slots (runs ++ i.done) i.live f.list)))
 
 pub returns-in-Some-clause-fits : goal.returns-in-Some-clause-fits
-returns-in-Some-clause-fits g c = c.take_run.ensures.fits c.loop-rest.invariant.fits
+returns-in-Some-clause-fits c = c.take_run.ensures.fits c.loop-rest.invariant.fits
 
 pub returns-in-Some-clause-count : goal.returns-in-Some-clause-count
-returns-in-Some-clause-count g c =
+returns-in-Some-clause-count c =
     let taken = length-take-le c.run_length-n.result c.loop-rest.rest.now c.run_length-n.ensures.within in
     let a = c.loop-rest.invariant.count in let b = c.add_run.ensures.more in let s = c.loop-rest.invariant.size in
     let x = c.run_length-n.ensures.within in omega arith
 
 pub add_run-requires-clause-room : goal.add_run-requires-clause-room
-add_run-requires-clause-room g c =
+add_run-requires-clause-room c =
     let taken = length-take-le c.run_length-n.result c.loop-rest.rest.now c.run_length-n.ensures.within in
     let a = c.loop-rest.invariant.count in let s = c.loop-rest.invariant.size in let b = c.requires.count in let d = c.requires.size in
     let x = c.run_length-n.ensures.within in omega arith
 
 pub returns-clause-fits : goal.returns-clause-fits
-returns-clause-fits g c = c.loop-rest.invariant.fits
+returns-clause-fits c = c.loop-rest.invariant.fits
 
 pub returns-clause-counted : goal.returns-clause-counted
-returns-clause-counted g c = λ runs k h.
+returns-clause-counted c = λ runs k h.
     let i = c.loop-rest.invariant in
     subst (λ (l : List (List Cell)). HasBytes c.loop-rest.counts (runs ++ l))
     (sym (done_all (runs_of c.args.cells.now) i.done c.loop-rest.rest.now i.parts (grind (arith, nat_tests)))) (i.counted runs h)
 
 pub returns-clause-count : goal.returns-clause-count
-returns-clause-count g c = (let a = c.loop-rest.invariant.count in omega arith)
+returns-clause-count c = (let a = c.loop-rest.invariant.count in omega arith)

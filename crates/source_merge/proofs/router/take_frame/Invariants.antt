@@ -5,26 +5,27 @@ use Rattle.source_events.specs.Runs.{RisesFrom, runs_of}
 use Rattle.source_merge.specs.Routing.{mapped_of, AllLive, AllStand, HaveRoom, AreDistinct, RunsBetween, Filled}
 use Rattle.source_events.specs.Fitting.{AllFit}
 use Rattle.source_merge.specs.Counting.{HasBytes, bytes_counted}
+use Rattle.source_machine.specs.Machine.{Stands, held_of, is_live, reading_of, skipped_by}
+use Rattle.source_events.specs.Fitting.{PacketFits}
 use Rattle.source_merge.proofs.router.take_frame.Given as goal
 
 -- the runs so far are taken, and none had a fault
 abbrev pub invariant-loop-rest : goal.invariant-loop-rest
-invariant-loop-rest g l =
-    let machine = g.M.Machine in
+invariant-loop-rest l =
     record {
       done : List (List Cell);
       parts : runs_of l.fn.cells ≡ done ++ runs_of l.rest;
-      same : mapped_of machine.reading l.slots ≡ mapped_of machine.reading l.fn.slots;
-      live : AllLive machine.live l.slots;
+      same : mapped_of reading_of l.slots ≡ mapped_of reading_of l.fn.slots;
+      live : AllLive is_live l.slots;
       size : length l.rest ≤ length l.fn.cells;
-      room : (n : ℕ) → HaveRoom machine.held_units machine.skipped_units n l.fn.slots → HaveRoom machine.held_units machine.skipped_units (n + 2 * (length l.fn.cells - length l.rest)) l.slots;
+      room : (n : ℕ) → HaveRoom held_of skipped_by n l.fn.slots → HaveRoom held_of skipped_by (n + 2 * (length l.fn.cells - length l.rest)) l.slots;
       events : array_vec_len l.out ≤ 2 * (length l.fn.cells - length l.rest);
-      fits : AllFit machine.fits l.out.items;
+      fits : AllFit PacketFits l.out.items;
       counted : (runs : List (List Cell)) → HasBytes l.fn.counts runs → HasBytes l.counts (runs ++ done);
       count : bytes_counted l.counts ≤ bytes_counted l.fn.counts + (length l.fn.cells - length l.rest);
-      fed : (runs : List (List Cell)) (n : ℕ) → AreDistinct (mapped_of machine.reading l.fn.slots) → AllStand machine.stands l.fn.slots runs → RunsBetween 0 n runs → RisesFrom n l.fn.cells →
-          Filled machine.stands (mapped_of machine.reading l.fn.slots) l.slots runs n done l.rest l.out.items;
+      fed : (runs : List (List Cell)) (n : ℕ) → AreDistinct (mapped_of reading_of l.fn.slots) → AllStand Stands l.fn.slots runs → RunsBetween 0 n runs → RisesFrom n l.fn.cells →
+          Filled Stands (mapped_of reading_of l.fn.slots) l.slots runs n done l.rest l.out.items;
     }
 
 abbrev pub decreases-loop-rest : goal.decreases-loop-rest
-decreases-loop-rest g l = length l.rest
+decreases-loop-rest l = length l.rest

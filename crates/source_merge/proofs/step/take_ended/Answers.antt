@@ -16,95 +16,89 @@ use Rattle.source_merge.specs.Routing.{mapped_of}
 use Rattle.source_merge.proofs.Slots.{room_more}
 use Rattle.source_merge.proofs.Taking.{lawful, sound}
 use Rattle.source_merge.proofs.Steps.{after, taken_frame, taken_none, taken_lock, taken_fault, nothing_is}
+use Rattle.source_machine.specs.Machine.{Stands, has_locked, held_of, is_live, reading_of, skipped_by}
+use Rattle.source_machine.specs.MachineLaws as laws
 use Rattle.source_merge.proofs.step.take_ended.Goals as goal
 
 pub returns-in-Frame-clause-room : goal.returns-in-Frame-clause-room
-returns-in-Frame-clause-room g c = λ n r.
-    room_more g.M.Machine.held_units g.M.Machine.skipped_units _ (n + 30) c.take_frame.new.slots (let a = c.requires.cells in omega arith)
+returns-in-Frame-clause-room c = λ n r.
+    room_more held_of skipped_by _ (n + 30) c.take_frame.new.slots (let a = c.requires.cells in omega arith)
     (c.take_frame.ensures.room n r)
 
 pub returns-in-Frame-clause-taken : goal.returns-in-Frame-clause-taken
-returns-in-Frame-clause-taken g c = λ mode u byte rise step e d a.
-    let machine = g.M.Machine in
-    let laws = g.met.M.Machine in
+returns-in-Frame-clause-taken c = λ mode u byte rise step e d a.
     let slots = c.args.slots.now in
-    let ss = mapped_of machine.reading slots in
+    let ss = mapped_of reading_of slots in
     let r = port_reading mode u in
     let at = c.args.at in
     let cells = c.args.cells.now in
-    let law = lawful machine.reading machine.stands machine.live machine.locked machine.held_units machine.skipped_units laws.shows laws.begins laws.settles laws.rises slots in
-    let good = sound machine.reading machine.stands machine.live machine.locked machine.held_units machine.skipped_units laws.shows laws.begins laws.settles laws.rises slots (runs_in r) c.requires.live a in
+    let law = lawful reading_of Stands is_live has_locked held_of skipped_by laws.shows laws.begins laws.settles laws.rises slots in
+    let good = sound reading_of Stands is_live has_locked held_of skipped_by laws.shows laws.begins laws.settles laws.rises slots (runs_in r) c.requires.live a in
     let frames = step.frames ∙ ap (λ (x : PortStep). r.frames ++ frames_by x cells) c.in-Frame.is in
     let notice = port_grows {V = Packet} u at byte mode Frame
     (subst (λ (x : PortStep). HuntBy r (port_reading mode (u ++ byte_at at byte ∷ [])) at x) c.in-Frame.is step.hunt)
     ∙ append-nil (port_events mode u) in
-    let places = after machine.stands ss law mode u at byte rise e good cells frames notice in
-    taken_frame machine.stands ss law mode u at byte rise e good cells frames (step.fault ∙ ap fault_by c.in-Frame.is) notice places
+    let places = after Stands ss law mode u at byte rise e good cells frames notice in
+    taken_frame Stands ss law mode u at byte rise e good cells frames (step.fault ∙ ap fault_by c.in-Frame.is) notice places
     c.take_frame.new.slots c.take_frame.new.out.items c.take_frame.result
     (c.take_frame.ensures.fed (runs_in r) places.end d a places.between places.rises)
 
 pub returns-in-Locked-clause-room : goal.returns-in-Locked-clause-room
-returns-in-Locked-clause-room g c = λ n r.
-    room_more g.M.Machine.held_units g.M.Machine.skipped_units n (n + 30) c.args.slots.now (omega arith) r
+returns-in-Locked-clause-room c = λ n r.
+    room_more held_of skipped_by n (n + 30) c.args.slots.now (omega arith) r
 
 pub returns-in-Fault-clause-room : goal.returns-in-Fault-clause-room
-returns-in-Fault-clause-room g c = λ n r.
-    room_more g.M.Machine.held_units g.M.Machine.skipped_units n (n + 30) c.args.slots.now (omega arith) r
+returns-in-Fault-clause-room c = λ n r.
+    room_more held_of skipped_by n (n + 30) c.args.slots.now (omega arith) r
 
 pub returns-in-Quiet-clause-room : goal.returns-in-Quiet-clause-room
-returns-in-Quiet-clause-room g c = λ n r.
-    room_more g.M.Machine.held_units g.M.Machine.skipped_units n (n + 30) c.args.slots.now (omega arith) r
+returns-in-Quiet-clause-room c = λ n r.
+    room_more held_of skipped_by n (n + 30) c.args.slots.now (omega arith) r
 
 pub returns-in-Locked-clause-taken : goal.returns-in-Locked-clause-taken
-returns-in-Locked-clause-taken g c = λ mode u byte rise step e d a.
-    let machine = g.M.Machine in
-    let laws = g.met.M.Machine in
+returns-in-Locked-clause-taken c = λ mode u byte rise step e d a.
     let slots = c.args.slots.now in
-    let ss = mapped_of machine.reading slots in
+    let ss = mapped_of reading_of slots in
     let r = port_reading mode u in
     let at = c.args.at in
     let cells = c.args.cells.now in
-    let law = lawful machine.reading machine.stands machine.live machine.locked machine.held_units machine.skipped_units laws.shows laws.begins laws.settles laws.rises slots in
-    let good = sound machine.reading machine.stands machine.live machine.locked machine.held_units machine.skipped_units laws.shows laws.begins laws.settles laws.rises slots (runs_in r) c.requires.live a in
+    let law = lawful reading_of Stands is_live has_locked held_of skipped_by laws.shows laws.begins laws.settles laws.rises slots in
+    let good = sound reading_of Stands is_live has_locked held_of skipped_by laws.shows laws.begins laws.settles laws.rises slots (runs_in r) c.requires.live a in
     let next = port_reading mode (u ++ byte_at at byte ∷ []) in
     let hunt : HuntBy r next at (Locked c.in-Locked.skipped) =
     subst (λ (x : PortStep). HuntBy r next at x) c.in-Locked.is step.hunt in
-    taken_lock machine.stands ss law mode u at byte rise e good slots c.in-Locked.skipped c.push.new.self.items
+    taken_lock Stands ss law mode u at byte rise e good slots c.in-Locked.skipped c.push.new.self.items
     (c.push.ensures.items ∙ ap (λ l. l ++ told None (notice_by at (Locked c.in-Locked.skipped))) c.requires.empty)
     hunt.0 (step.frames ∙ ap (λ (x : PortStep). r.frames ++ frames_by x cells) c.in-Locked.is)
     (step.fault ∙ ap fault_by c.in-Locked.is) (port_grows {V = Packet} u at byte mode (Locked c.in-Locked.skipped) hunt) a
 
 pub returns-in-Fault-clause-taken : goal.returns-in-Fault-clause-taken
-returns-in-Fault-clause-taken g c = λ mode u byte rise step e d a.
-    let machine = g.M.Machine in
-    let laws = g.met.M.Machine in
+returns-in-Fault-clause-taken c = λ mode u byte rise step e d a.
     let slots = c.args.slots.now in
-    let ss = mapped_of machine.reading slots in
+    let ss = mapped_of reading_of slots in
     let r = port_reading mode u in
     let at = c.args.at in
     let cells = c.args.cells.now in
-    let law = lawful machine.reading machine.stands machine.live machine.locked machine.held_units machine.skipped_units laws.shows laws.begins laws.settles laws.rises slots in
-    let good = sound machine.reading machine.stands machine.live machine.locked machine.held_units machine.skipped_units laws.shows laws.begins laws.settles laws.rises slots (runs_in r) c.requires.live a in
+    let law = lawful reading_of Stands is_live has_locked held_of skipped_by laws.shows laws.begins laws.settles laws.rises slots in
+    let good = sound reading_of Stands is_live has_locked held_of skipped_by laws.shows laws.begins laws.settles laws.rises slots (runs_in r) c.requires.live a in
     let next = port_reading mode (u ++ byte_at at byte ∷ []) in
     let hunt : HuntBy r next at (Fault c.in-Fault.fault) = subst (λ (x : PortStep). HuntBy r next at x) c.in-Fault.is step.hunt in
-    taken_fault machine.stands ss law mode u at byte rise e good slots c.in-Fault.fault c.args.out.now.items c.requires.empty
+    taken_fault Stands ss law mode u at byte rise e good slots c.in-Fault.fault c.args.out.now.items c.requires.empty
     hunt.0 (step.frames ∙ ap (λ (x : PortStep). r.frames ++ frames_by x cells) c.in-Fault.is)
     (step.fault ∙ ap fault_by c.in-Fault.is) (port_grows {V = Packet} u at byte mode (Fault c.in-Fault.fault) hunt)
 
 pub returns-in-Quiet-clause-taken : goal.returns-in-Quiet-clause-taken
-returns-in-Quiet-clause-taken g c = λ mode u byte rise step e d a.
-    let machine = g.M.Machine in
-    let laws = g.met.M.Machine in
+returns-in-Quiet-clause-taken c = λ mode u byte rise step e d a.
     let slots = c.args.slots.now in
-    let ss = mapped_of machine.reading slots in
+    let ss = mapped_of reading_of slots in
     let r = port_reading mode u in
     let at = c.args.at in
     let cells = c.args.cells.now in
-    let law = lawful machine.reading machine.stands machine.live machine.locked machine.held_units machine.skipped_units laws.shows laws.begins laws.settles laws.rises slots in
-    let good = sound machine.reading machine.stands machine.live machine.locked machine.held_units machine.skipped_units laws.shows laws.begins laws.settles laws.rises slots (runs_in r) c.requires.live a in
+    let law = lawful reading_of Stands is_live has_locked held_of skipped_by laws.shows laws.begins laws.settles laws.rises slots in
+    let good = sound reading_of Stands is_live has_locked held_of skipped_by laws.shows laws.begins laws.settles laws.rises slots (runs_in r) c.requires.live a in
     let next = port_reading mode (u ++ byte_at at byte ∷ []) in
     let q = nothing_is Packet c.args.step cells at c.in-Quiet.is in
-    taken_none machine.stands ss law mode u at byte rise e good slots c.args.out.now.items c.requires.empty
+    taken_none Stands ss law mode u at byte rise e good slots c.args.out.now.items c.requires.empty
     (step.frames ∙ ap (λ (l : List (List Cell)). r.frames ++ l) q.0) (step.fault ∙ q.1)
     (port_grows {V = Packet} u at byte mode c.args.step step.hunt
     ∙ ap (λ (l : List (What Packet × Place)). port_events mode u ++ l) q.2) a

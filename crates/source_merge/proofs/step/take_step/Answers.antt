@@ -7,7 +7,7 @@ use Rattle.source_merge.specs.Counting.{HasItems}
 use Rattle.source_merge.proofs.step.take_step.Goals as goal
 
 pub returns-clause-counted : goal.returns-clause-counted
-returns-clause-counted g c = λ mode u byte es k step h. record {
+returns-clause-counted c = λ mode u byte es k step h. record {
   bytes = c.take_ended-stop.ensures.counted mode u byte k step h.bytes;
   items =
       subst (λ (l : List (Event Packet)). HasItems c.add_items.new.self (es ++ l)) c.as_slice.ensures.value

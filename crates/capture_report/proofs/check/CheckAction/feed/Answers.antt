@@ -1,6 +1,16 @@
-use Rattle.std.proofs.Common.{◌∙◌, ◌++◌, [], refl, sym, ap, subst, append-nil, take}
-use Rattle.std.specs.Prelude.{option_map}
-use Rattle.trace_values.specs.Placed.{placed}
+use Rattle.std.proofs.Common.{◌≡◌, ◌∙◌, ◌+◌, ◌-◌, ◌++◌, [], List, Option, refl, sym, ap, subst, append-nil, take}
+use Rattle.std.specs.Prelude.{option_map, IfSome}
+use Rattle.trace_values.specs.declared.block.Block.{Block}
+use Rattle.trace_values.specs.Placed.{Placed, placed, placed_from}
+use Rattle.deformatter.specs.Block.{FedAs}
+use Rattle.source_events.specs.declared.packet.Packet.{Packet}
+use Rattle.source_merge.specs.Answering.{Answers}
+use Rattle.source_merge.specs.Bare.{bare_events, bare_flow}
+use Rattle.source_merge.specs.declared.engine.Engine.{Engine}
+use Rattle.source_merge.specs.declared.flow.Flow.{Flow as Reading}
+use Rattle.source_merge.specs.declared.flow.Flow.TheVariants.{Going}
+use Rattle.source_merge.specs.Engine as engine
+use Rattle.capture_report.specs.Stopping.{flow_by, stop_by}
 use Rattle.trace_stream.specs.Taken.{FlowAfter}
 use Rattle.trace_stream.specs.declared.action.Flow.{Flow}
 use Rattle.source_events.specs.Report.{stop_of}
@@ -14,20 +24,59 @@ returns-clause-fed c = λ seen s.
     let old = c.args.self.now in
     let block = c.feed_block-fed in
     let bytes = take block.result.bytes c.args.piece.now in
-    let list = block.ensures.list (placed seen) s.engine in
-    let fed = block.ensures.fed (placed seen) s.engine in
+    let at = c.next-at.result in
+    let is = c.feed_bare.ensures.none c.in_default.is in
+    let same = subst (λ (k : Engine). engine.plan_of block.new.self ≡ engine.plan_of k) is block.ensures.same in
+    let list = subst (λ (k : Engine). (u : List Placed) → engine.Stands k u → engine.Stands block.new.self (u ++ placed_from at bytes))
+        is block.ensures.list (placed seen) s.engine in
+    let fed = subst (λ (k : Engine). (u : List Placed) → engine.Stands k u →
+        FedAs (Answers (engine.plan_of k) [] Going) (Answers (engine.plan_of k) block.new.out.items block.result.flow) u at bytes)
+        is block.ensures.fed (placed seen) s.engine in
     record {
       read = record {
         engine = stands_after old.engine block.new.self seen bytes c.next-at.result block.new.out.items block.result.flow s.engine
-            c.requires.live c.next-at.ensures block.ensures.same list fed;
-        stop = ap (option_map stop_of) c.keep_stop-flow.ensures.kept
+            c.requires.live c.next-at.ensures same list fed;
+        stop = ap (option_map stop_of) c.keep_stop-flow-2.ensures.kept
             ∙ stop_after old.engine block.new.self seen bytes c.next-at.result block.new.out.items block.result.flow s.engine
-            c.requires.live c.next-at.ensures block.ensures.same list fed old.stop (sym old.alive ∙ c.requires.live);
+            c.requires.live c.next-at.ensures same list fed old.stop (sym old.alive ∙ c.requires.live);
       };
       more = [];
       grown = refl;
       gained = sym (append-nil c.args._outlet.now);
-      goes_on = subst (λ (f : Flow). FlowAfter (IsFaulty (plan_of old)) (seen ++ bytes) f) (sym c.keep_stop-flow.ensures.flow)
+      goes_on = subst (λ (f : Flow). FlowAfter (IsFaulty (plan_of old)) (seen ++ bytes) f) (sym c.keep_stop-flow-2.ensures.flow)
           (flow_after old.engine block.new.self seen bytes c.next-at.result block.new.out.items block.result.flow s.engine
-          c.requires.live c.next-at.ensures block.ensures.same list fed);
+          c.requires.live c.next-at.ensures same list fed);
+    }
+
+pub returns-in-Some-clause-fed : goal.returns-in-Some-clause-fed
+returns-in-Some-clause-fed c = λ seen s.
+    let old = c.args.self.now in
+    let p = plan_of old in
+    let block = c.in-Some.block in
+    let piece = c.args.piece.now in
+    let at = c.next-at.result in
+    let new = c.feed_bare.new.self in
+    let events = bare_events (at + (block.bytes - 1)) block.step in
+    let flow = bare_flow block.step in
+    let bytes = take block.bytes piece in
+    let list = subst (λ (o : Option (Block Packet)). IfSome o (λ b. engine.Stands new (placed seen ++ placed_from at (take b.bytes piece))))
+        c.in-Some.is (c.feed_bare.ensures.list (placed seen) s.engine) in
+    let fed = subst (λ (o : Option (Block Packet)). IfSome o (λ b. FedAs (Answers p [] Going)
+        (Answers p (bare_events (at + (b.bytes - 1)) b.step) (bare_flow b.step)) (placed seen) at (take b.bytes piece)))
+        c.in-Some.is (c.feed_bare.ensures.fed (placed seen) s.engine) in
+    let same = c.feed_bare.ensures.same in
+    record {
+      read = record {
+        engine = stands_after old.engine new seen bytes at events flow s.engine c.requires.live c.next-at.ensures same list fed;
+        stop = ap (option_map stop_of) (c.keep_stop-flow.ensures.kept
+            ∙ ap (λ (r : Reading). stop_by r old.stop) c.flow_after.ensures)
+            ∙ stop_after old.engine new seen bytes at events flow s.engine c.requires.live c.next-at.ensures same list fed
+            old.stop (sym old.alive ∙ c.requires.live);
+      };
+      more = [];
+      grown = refl;
+      gained = sym (append-nil c.args._outlet.now);
+      goes_on = subst (λ (f : Flow). FlowAfter (IsFaulty p) (seen ++ bytes) f)
+          (sym (c.keep_stop-flow.ensures.flow ∙ ap flow_by c.flow_after.ensures))
+          (flow_after old.engine new seen bytes at events flow s.engine c.requires.live c.next-at.ensures same list fed);
     }

@@ -1,11 +1,14 @@
 use Rattle.std.proofs.Common.{◌≡◌, ℕ, ◌+◌, ◌-◌, ◌*◌, ◌^◌, ◌≤◌, List, [], ◌∷◌, ◌++◌, length, take, refl, sym, ◌∙◌, ap, subst, arith, true, Bool, Option, Some, None, length-append}
-use Rattle.std.specs.Prelude.{is_none}
+use Rattle.std.specs.Prelude.{is_none, IfSome, position, ◌==◌}
 use Rattle.std.specs.Option.{option_map}
 use Rattle.std.proofs.lemmas.List.{length-take-le}
 use Rattle.trace_values.specs.declared.block.Block.{Block}
 use Rattle.trace_values.specs.Placed.{Placed, placed_from}
-use Rattle.trace_values.specs.Block.{given_after}
+use Rattle.trace_values.specs.Block.{goes_on_after}
+use Rattle.trace_values.specs.declared.step.Step.{Step}
+use Rattle.trace_values.specs.declared.step.Step.TheVariants.{Quiet, Skipping, Item, Locked, Fault as Faulty}
 use Rattle.trace_values.proofs.Placing.{length-placed_from}
+use Rattle.capture_plan.specs.declared.frames.FramesMode.{FramesMode}
 use Rattle.capture_plan.specs.declared.frames.FramesMode.TheVariants.{Bare}
 use Rattle.port_reader.specs.Reading.{port_reading}
 use Rattle.port_reader.specs.Rising.{BytesRise}
@@ -16,13 +19,13 @@ use Rattle.source_events.specs.declared.plan.Plan.{Plan}
 use Rattle.source_events.specs.Fitting.{AllFit, PacketFits}
 use Rattle.source_events.specs.Merge.{told}
 use Rattle.source_events.specs.Plan.{sources_by}
-use Rattle.source_events.specs.Report.{Mapped, lifted}
+use Rattle.source_events.specs.Report.{Mapped, stop_of}
 use Rattle.source_machine.specs.Machine.{reading_of, is_live, held_of, skipped_by}
 use Rattle.source_machine.specs.declared.machine.SourceMachine.{SourceMachine}
 use Rattle.source_merge.specs.declared.slot.Slot.{Slot}
 use Rattle.source_merge.specs.Engine.{Stands, Keeps}
-use Rattle.source_merge.specs.Answering.{fault_of}
-use Rattle.source_merge.specs.Bare.{PieceFed, last_fault, stop_by}
+use Rattle.source_merge.specs.Answering.{fault_by}
+use Rattle.source_merge.specs.Bare.{PieceFed, bare_events, bare_flow, flow_from, last_fault, stop_by}
 use Rattle.source_merge.specs.Counting.{HasCounted}
 use Rattle.source_merge.specs.Routing.{mapped_of, AllLive, HaveRoom, LiveIf, AreDistinct}
 use Rattle.source_merge.proofs.BareGoing.{stepped_bare}
@@ -35,6 +38,39 @@ use Rattle.source_merge.proofs.Slots.{room_more}
 use Rattle.source_merge.proofs.Standing.{distinct, none_there, live_now, live_if, tested, none_of}
 use Rattle.source_merge.proofs.engine.Engine.feed_bare.Goals as goal
 
+-- the slot of source 1 is there, and there is no formatter
+is_found : (slots : List (Slot SourceMachine)) (answer : Option ℕ) (index : ℕ) → answer ≡ Some index →
+    IfSome answer (λ i. position (λ (s : Slot SourceMachine). s.id == 1) slots ≡ Some i) →
+    position (λ (s : Slot SourceMachine). s.id == 1) slots ≡ Some index
+is_found slots answer index is h =
+    subst (λ (o : Option ℕ). IfSome o (λ i. position (λ (s : Slot SourceMachine). s.id == 1) slots ≡ Some i)) is h
+
+is_bare : (mode : FramesMode) (answer : Option ℕ) (index : ℕ) → answer ≡ Some index → IfSome answer (λ i. mode ≡ Bare) → mode ≡ Bare
+is_bare mode answer index is h = subst (λ (o : Option ℕ). IfSome o (λ i. mode ≡ Bare)) is h
+
+-- how a report goes on after an answer
+flow_is : (step : Option (Step Packet)) → fault_by (bare_flow step) ≡ option_map stop_of (option_map (stop_by 1) (last_fault step))
+flow_is step = by (option_map (stop_by 1) (last_fault step)) where
+  by : (stop : Option Stop) → fault_by (flow_from stop) ≡ option_map stop_of stop
+  by None = refl
+  by (Some stop) = refl
+
+live_is : (step : Option (Step Packet)) → goes_on_after step ≡ is_none (option_map stop_of (option_map (stop_by 1) (last_fault step)))
+live_is None = refl
+live_is (Some Quiet) = refl
+live_is (Some Skipping) = refl
+live_is (Some (Item half v)) = refl
+live_is (Some (Locked k half v)) = refl
+live_is (Some (Faulty f)) = refl
+
+goes_none : (step : Option (Step Packet)) → goes_on_after step ≡ true → option_map (stop_by 1) (last_fault step) ≡ None
+goes_none None h = refl
+goes_none (Some Quiet) h = refl
+goes_none (Some Skipping) h = refl
+goes_none (Some (Item half v)) h = refl
+goes_none (Some (Locked k half v)) h = refl
+goes_none (Some (Faulty f)) h = cc
+
 pub feed_slot_piece-block-requires-clause-room : goal.feed_slot_piece-block-requires-clause-room
 feed_slot_piece-block-requires-clause-room c =
     room_more held_of skipped_by (30 * c.args.self.now.count) (2 ^ 59) c.as_mut_slice.result.now
@@ -42,32 +78,19 @@ feed_slot_piece-block-requires-clause-room c =
     (subst (λ (l : List (Slot SourceMachine)). HaveRoom held_of skipped_by (30 * c.args.self.now.count) l)
     (sym c.as_mut_slice.ensures.value) c.args.self.now.room)
 
-pub returns-clause-fits : goal.returns-clause-fits
-returns-clause-fits c =
-    let step = c.feed_slot_piece-block.result.step in
-    let last = c.args.at + (c.feed_slot_piece-block.result.bytes - 1) in
-    let f = first_at reading_of 1 c.args.self.now.slots.items c.args.index c.requires.found in
-    let fed = c.feed_slot_piece-block.ensures.fed f.front f.slot f.back (c.as_mut_slice.ensures.value ∙ f.parts) f.count in
-    fit_more PacketFits c.args.out.now.items c.note_last-stop.new.out.items (told (Some c.bare_source.result) (lifted (given_after last step)))
-    c.note_last-stop.ensures.given (none_fit PacketFits c.args.out.now.items c.requires.empty)
-    (last_fits PacketFits c.bare_source.result last step fed.fits)
-
 pub invariant_of-self : goal.invariant_of-self
 invariant_of-self c =
     let self = c.args.self.now in
     let old = self.slots.items in
     let block = c.feed_slot_piece-block.result in
     let new = c.feed_slot_piece-block.new.slots in
-    let f = first_at reading_of 1 old c.args.index c.requires.found in
+    let found = is_found old c.bare_slot.result c.in-Some.index c.in-Some.is c.bare_slot.ensures.found in
+    let f = first_at reading_of 1 old c.in-Some.index found in
     let fed = c.feed_slot_piece-block.ensures.fed f.front f.slot f.back (c.as_mut_slice.ensures.value ∙ f.parts) f.count in
     let all = slots_are reading_of old new (piece_same old f.front f.slot f.back new f.parts c.args.at c.args.piece.now block fed) in
     let n = self.count in
     let some = c.feed_slot_piece-block.ensures.bytes.0 in
     let within = c.feed_slot_piece-block.ensures.bytes.1 in
-    let stop = c.note_last-stop.result in
-    let gone = tested stop c.is_none-self.result c.is_none-self.ensures in
-    let stop_is : stop ≡ option_map (stop_by 1) (last_fault block.step) =
-    subst (λ (x : ℕ). stop ≡ option_map (stop_by x) (last_fault block.step)) c.bare_source.ensures c.note_last-stop.ensures.stop in
     record {
       sound = self.sound;
       few = (let a = self.few in omega arith);
@@ -75,21 +98,19 @@ invariant_of-self c =
           subst (λ (l : List (Slot SourceMachine)). HaveRoom held_of skipped_by (30 * (n + block.bytes)) l) (sym all)
           (room_more held_of skipped_by (30 * n + 2 * block.bytes) (30 * (n + block.bytes)) new (omega arith)
           (piece_room old f.front f.slot f.back new f.parts c.args.at c.args.piece.now block fed (30 * n) self.room));
-      size =
-          (let a = self.size in let b = c.add_bare.ensures.size in let d = ap length c.as_slice.ensures.value in
-          let e = c.note_last-stop.ensures.few in let g = ap length c.requires.empty in omega arith);
+      size = (let a = self.size in let b = c.add_bare.ensures.size in omega arith);
       within = (let a = self.within in let b = c.requires.offsets.0 in omega arith);
       limit = (let a = c.requires.offsets.1 in omega arith);
       port_live = λ k. self.port_live c.requires.live;
       lives =
-          subst (λ (l : List (Slot SourceMachine)). LiveIf is_live c.is_none-self.result l) (sym all)
-          (live_if is_live c.is_none-self.result new
+          subst (λ (l : List (Slot SourceMachine)). LiveIf is_live c.is_sound_answer-self.result l) (sym all)
+          (live_if is_live c.is_sound_answer-self.result new
           (λ k. piece_live old f.front f.slot f.back new f.parts c.args.at c.args.piece.now block fed
-          (goes_without block.step stop stop_is (none_there stop (sym gone ∙ k))) (live_now is_live self.live old c.requires.live self.lives)));
+          (sym c.is_sound_answer-self.ensures ∙ k) (live_now is_live self.live old c.requires.live self.lives)));
     }
 
 -- what the piece's front makes of a list that the engine stood for
-module _ (c : goal.After-flow_of) (u : List Placed) (h : Stands c.args.self.now u) where
+module _ (c : goal.After-self-2-1) (u : List Placed) (h : Stands c.args.self.now u) where
   abbrev plan : Plan
   plan = c.args.self.now.plan
 
@@ -99,14 +120,14 @@ module _ (c : goal.After-flow_of) (u : List Placed) (h : Stands c.args.self.now 
   abbrev block : Block Packet
   block = c.feed_slot_piece-block.result
 
-  abbrev first : FirstAt reading_of 1 slots c.args.index
-  first = first_at reading_of 1 slots c.args.index c.requires.found
+  found : position (λ (s : Slot SourceMachine). s.id == 1) slots ≡ Some c.in-Some.index
+  found = is_found slots c.bare_slot.result c.in-Some.index c.in-Some.is c.bare_slot.ensures.found
 
-  abbrev out : List (Event Packet)
-  out = c.note_last-stop.new.out.items
+  bare : plan.frames ≡ Bare
+  bare = is_bare plan.frames c.bare_slot.result c.in-Some.index c.in-Some.is c.bare_slot.ensures.bare
 
-  abbrev stop : Option Stop
-  stop = c.note_last-stop.result
+  abbrev first : FirstAt reading_of 1 slots c.in-Some.index
+  first = first_at reading_of 1 slots c.in-Some.index found
 
   fed : PieceFed first.front first.slot first.back c.feed_slot_piece-block.new.slots c.args.at c.args.piece.now block
   fed = c.feed_slot_piece-block.ensures.fed first.front first.slot first.back (c.as_mut_slice.ensures.value ∙ first.parts) first.count
@@ -118,44 +139,53 @@ module _ (c : goal.After-flow_of) (u : List Placed) (h : Stands c.args.self.now 
   rise =
       rise_to u c.args.self.now.next c.args.at (subst (λ (k : ℕ). BytesRise 0 k u) (sym h.next) h.rising) c.requires.offsets.0
 
-  given_is : out ≡ told (Some 1) (lifted (given_after (c.args.at + (block.bytes - 1)) block.step))
-  given_is =
-      c.note_last-stop.ensures.given
-      ∙ ap (λ (es : List (Event Packet)). es ++ told (Some c.bare_source.result) (lifted (given_after (c.args.at + (block.bytes - 1)) block.step))) c.requires.empty
-      ∙ ap (λ (x : ℕ). told (Some x) (lifted (given_after (c.args.at + (block.bytes - 1)) block.step))) c.bare_source.ensures
+  abbrev events : List (Event Packet)
+  events = bare_events (c.args.at + (block.bytes - 1)) block.step
+
+  abbrev stop : Option Stop
+  stop = option_map (stop_by 1) (last_fault block.step)
 
   the_piece : Stepped plan slots h.sources live c.feed_slot_piece-block.new.slots c.add_bare.new.self u c.args.at
-      (take block.bytes c.args.piece.now) out stop c.flow_of.result
+      (take block.bytes c.args.piece.now) events stop (bare_flow block.step)
   the_piece =
-      stepped_bare plan slots h.sources live c.requires.bare c.args.index first
+      stepped_bare plan slots h.sources live bare c.in-Some.index first
       (subst (λ (ss : List (Mapped Packet)). AreDistinct ss) (sym h.sources) (distinct plan c.args.self.now.sound))
       c.feed_slot_piece-block.new.slots c.args.self.now.counters c.add_bare.new.self u c.args.at c.args.piece.now block fed
-      c.feed_slot_piece-block.ensures.bytes.0 c.feed_slot_piece-block.ensures.bytes.1 rise (h.going c.requires.live) out stop c.flow_of.result
-      given_is
-      (subst (λ (x : ℕ). stop ≡ option_map (stop_by x) (last_fault block.step)) c.bare_source.ensures c.note_last-stop.ensures.stop)
-      c.flow_of.ensures.fault
-      (subst (λ (l : List (Event Packet)). (v w : List Placed) (es : List (Event Packet)) → length w ≡ block.bytes →
-      HasCounted c.args.self.now.counters (port_reading Bare v) es → HasCounted c.add_bare.new.self (port_reading Bare (v ++ w)) (es ++ l))
-      c.as_slice.ensures.value c.add_bare.ensures.counted)
+      c.feed_slot_piece-block.ensures.bytes.0 c.feed_slot_piece-block.ensures.bytes.1 rise (h.going c.requires.live) events stop
+      (bare_flow block.step) refl refl (flow_is block.step)
+      (λ v w es long counted. c.add_bare.ensures.counted v w es (c.args.at + (block.bytes - 1)) long counted)
 
 pub returns-clause-fed : goal.returns-clause-fed
 returns-clause-fed c = λ u h. (the_piece c u h).fed
+
+pub returns-clause-fits : goal.returns-clause-fits
+returns-clause-fits c =
+    let slots = c.args.self.now.slots.items in
+    let found = is_found slots c.bare_slot.result c.in-Some.index c.in-Some.is c.bare_slot.ensures.found in
+    let f = first_at reading_of 1 slots c.in-Some.index found in
+    (c.feed_slot_piece-block.ensures.fed f.front f.slot f.back (c.as_mut_slice.ensures.value ∙ f.parts) f.count).fits
+
+pub returns-clause-stops : goal.returns-clause-stops
+returns-clause-stops c =
+    let slots = c.args.self.now.slots.items in
+    let found = is_found slots c.bare_slot.result c.in-Some.index c.in-Some.is c.bare_slot.ensures.found in
+    let f = first_at reading_of 1 slots c.in-Some.index found in
+    (c.feed_slot_piece-block.ensures.fed f.front f.slot f.back (c.as_mut_slice.ensures.value ∙ f.parts) f.count).stops
 
 pub returns-clause-list : goal.returns-clause-list
 returns-clause-list c = λ u h.
     let self = c.args.self.now in
     let new = c.feed_slot_piece-block.new.slots in
     let bytes = take c.feed_slot_piece-block.result.bytes c.args.piece.now in
-    let f = first_at reading_of 1 self.slots.items c.args.index c.requires.found in
+    let f = first c u h in
     let same = piece_same self.slots.items f.front f.slot f.back new f.parts c.args.at c.args.piece.now c.feed_slot_piece-block.result (fed c u h) in
     let all = slots_are reading_of self.slots.items new same in
     let step = the_piece c u h in
     let long : length bytes ≡ c.feed_slot_piece-block.result.bytes =
     length-take-le c.feed_slot_piece-block.result.bytes c.args.piece.now c.feed_slot_piece-block.ensures.bytes.1 in
     let end = end_block bytes u c.args.at (let a = c.feed_slot_piece-block.ensures.bytes.0 in omega arith) in
-    let gone = tested c.note_last-stop.result c.is_none-self.result c.is_none-self.ensures in
     record {
-      port = bare_port self.port (self.plan.frames) c.requires.bare h.mode (u ++ placed_from c.args.at bytes);
+      port = bare_port self.port (self.plan.frames) (bare c u h) h.mode (u ++ placed_from c.args.at bytes);
       mode = h.mode;
       sources = ap (mapped_of reading_of) all ∙ same ∙ h.sources;
       rising =
@@ -164,8 +194,8 @@ returns-clause-list c = λ u h.
       count =
           (let a = h.count in let b = length-append u (placed_from c.args.at bytes) in
           let d = length-placed_from c.args.at bytes in omega arith);
-      live = gone ∙ none_of c.note_last-stop.result ∙ ap is_none (sym step.fault);
+      live = c.is_sound_answer-self.ensures ∙ live_is c.feed_slot_piece-block.result.step ∙ ap is_none (sym step.fault);
       going = λ k.
           subst (λ (l : List (Slot SourceMachine)). Keeps self.plan l c.add_bare.new.self (u ++ placed_from c.args.at bytes))
-          (sym all) (step.keeps (none_there c.note_last-stop.result (sym gone ∙ k)));
+          (sym all) (step.keeps (goes_none c.feed_slot_piece-block.result.step (sym c.is_sound_answer-self.ensures ∙ k)));
     }

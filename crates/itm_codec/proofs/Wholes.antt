@@ -1,0 +1,65 @@
+-- Bytes that spell a whole value give it at the last of them.
+use Rattle.std.proofs.Common.{◌≡◌, ℕ, List, [], ◌∷◌, ◌++◌, refl, sym, ◌∙◌, ap, subst, append_assoc, append-nil, true, None}
+use Rattle.trace_values.specs.declared.next.Next.{Next}
+use Rattle.trace_values.specs.declared.next.Next.TheVariants.{Go, End, Fail}
+use Rattle.trace_values.specs.declared.mode.Mode.{Mode}
+use Rattle.trace_values.specs.Placed.{Placed, units_of}
+use Rattle.trace_values.specs.Walk.{Walked, Whole, after, walk, by_unit}
+use Rattle.trace_values.specs.Stream.{Stream, Kept}
+use Rattle.trace_values.specs.declared.pattern.Pattern.{Pattern}
+use Rattle.trace_values.specs.Moded.{stream_in, hunts, is_locked, StandsIn}
+use Rattle.trace_values.proofs.Modes.{reads-list, reads-step}
+use Rattle.itm_codec.specs.Wholes.{Gives}
+
+-- a list that ends with a unit is not empty
+not_empty : (front : List Placed) (last : Placed) → units_of (front ++ last ∷ []) ≡ [] → ⊥
+not_empty [] last e = cc
+not_empty (b ∷ front) last e = cc
+
+-- units after a value's last one are beyond it
+whole_last : {S V : Type 0} → (v w : V) (more : S → Walked S V) (units : List ℕ) → after (End v) more units ≡ Whole w → units ≡ []
+whole_last v w more [] e = refl
+whole_last v w more (b ∷ units) e = cc
+
+module _ {S V : Type 0} (p : Pattern) (z : V) (rule : S → ℕ → Next S V) (start : S) (m : Mode) (locked : is_locked m ≡ true) where
+  abbrev reading : List Placed → Stream V
+  reading w = stream_in p z (by_unit rule) start (hunts m) w
+
+  abbrev stands : S → List Placed → Type 0
+  stands s w = StandsIn p z (by_unit rule) start m true s w
+
+  last_gives : (last : Placed) (u : List Placed) (s : S) (v : V) (x : Next S V) → rule s last.unit ≡ x →
+      after {U = ℕ} x (λ r. walk rule r []) [] ≡ Whole v → stands s u → Gives reading (stands start) u [] last v
+  last_gives last u s v (Go r) k e t = cc
+  last_gives last u s v (End w) k e t =
+      let same : w ≡ v = cc in
+      let step = reads-step p z (by_unit rule) start m true s u last (End w) refl locked (sym k) t in
+      record {
+        list = reads-list p z (by_unit rule) start m true s u last true start (End w) refl locked (sym k) refl refl t;
+        given = step.given ∙ ap (λ x. (reading u).given ++ (Kept x, last.place) ∷ []) same;
+        sound = step.fault;
+      }
+  last_gives last u s v (Fail r) k e t = cc
+
+  pub whole_gives : (front : List Placed) (last : Placed) (u : List Placed) (s : S) (v : V) →
+      walk rule s (units_of (front ++ last ∷ [])) ≡ Whole v → stands s u → Gives reading (stands start) u front last v
+  whole_gives [] last u s v e t = last_gives last u s v (rule s last.unit) refl e t
+  whole_gives (b ∷ front) last u s v e t = by (rule s b.unit) refl e (λ r f k. whole_gives front last (u ++ b ∷ []) r v f k) where
+    rest : List Placed
+    rest = front ++ last ∷ []
+
+    by : (x : Next S V) → rule s b.unit ≡ x → after x (λ r. walk rule r (units_of rest)) (units_of rest) ≡ Whole v →
+        ((r : S) → walk rule r (units_of rest) ≡ Whole v → stands r (u ++ b ∷ []) →
+            Gives reading (stands start) (u ++ b ∷ []) front last v) → Gives reading (stands start) u (b ∷ front) last v
+    by (Go r) k f next =
+        let step = reads-step p z (by_unit rule) start m true s u b (Go r) refl locked (sym k) t in
+        let more = next r f (reads-list p z (by_unit rule) start m true s u b true r (Go r) refl locked (sym k) refl refl t) in
+        let all : (u ++ b ∷ []) ++ rest ≡ u ++ (b ∷ rest) = append_assoc u (b ∷ []) rest in
+        record {
+          list = subst (stands start) all more.list;
+          given = ap (λ (l : List Placed). (reading l).given) (sym all) ∙ more.given
+              ∙ ap (λ l. l ++ (Kept v, last.place) ∷ []) (step.given ∙ append-nil (reading u).given);
+          sound = ap (λ (l : List Placed). (reading l).fault) (sym all) ∙ more.sound;
+        }
+    by (End w) k f next = absurd (not_empty front last (whole_last w v (λ r. walk rule r (units_of rest)) (units_of rest) f))
+    by (Fail r) k f next = cc

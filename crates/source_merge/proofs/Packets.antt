@@ -1,0 +1,112 @@
+-- A packet whose bytes are all in a run.
+use Rattle.std.proofs.Common.{◌≡◌, ℕ, suc, ◌+◌, ◌-◌, ◌<◌, ◌≤◌, List, [], ◌∷◌, ◌++◌, length, take, drop, get_or, map, refl, sym, ◌∙◌, ap, subst, append_assoc, arith, Option, Some, None, true, false}
+use Rattle.std.specs.Prelude.{is_none}
+use Rattle.std.proofs.lemmas.List.{take_more, take-append-drop, take-append-le, take-map, drop-map, get_or-drop, length-drop, length-take-le, map-append, take_all}
+use Rattle.std.proofs.Math.Seq.{take-append-add}
+use Rattle.trace_values.specs.declared.cell.Cell.{Cell}
+use Rattle.trace_values.specs.declared.fault.Reason.{Reason}
+use Rattle.trace_values.specs.declared.step.Step.TheVariants.{Item}
+use Rattle.trace_values.specs.Block.{Takes}
+use Rattle.trace_values.specs.Placed.{Place, Placed, byte_at, placed_from, units_of}
+use Rattle.trace_values.specs.Stream.{Said, Stream, Settled, Kept}
+use Rattle.trace_values.proofs.Blocks.{next_placed}
+use Rattle.trace_values.proofs.Placing.{units_push}
+use Rattle.itm_codec.specs.Wholes.{Gives}
+use Rattle.source_events.specs.declared.event.Event.{Event}
+use Rattle.source_events.specs.declared.event.What.TheVariants.{Packet}
+use Rattle.source_events.specs.Runs.{placed_run, bytes_of}
+use Rattle.source_events.specs.Merge.{told}
+use Rattle.source_events.specs.Report.{lifted}
+use Rattle.source_events.proofs.Merges.{told_append}
+use Rattle.source_merge.specs.Feeding.{Feeds}
+use Rattle.source_merge.proofs.RunSteps.{placed_more, lifted_append}
+
+-- the event of a packet of this source that ends with a cell
+abbrev pub packet_event : {V : Type 0} → ℕ → Cell → V → Event V
+packet_event id last packet = record { at = last.at; half = 0; source = Some id; what = Packet packet }
+
+pub feeds_packet : {V : Type 0} (reading : List Placed → Stream V) (u : List Placed) (id : ℕ) (stands : List Placed → Type 0) (done front : List Cell) (last : Cell)
+    (packet : V) (old mid new : List (Event V)) → Feeds reading stands u done id old mid None →
+    ((w : List Placed) → stands w → Gives reading stands w (placed_run front) (byte_at last.at last.byte) packet) →
+    new ≡ mid ++ packet_event id last packet ∷ [] → Feeds reading stands u (done ++ (front ++ last ∷ [])) id old new None
+feeds_packet {V} reading u id stands done front last packet old mid new f gives n =
+    let more : List (Said V × Place) = (Kept packet, record { at = last.at; half = 0 }) ∷ [] in
+    let g = gives (u ++ placed_run done) (f.list refl) in
+    let all : (u ++ placed_run done) ++ (placed_run front ++ byte_at last.at last.byte ∷ []) ≡ u ++ placed_run (done ++ (front ++ last ∷ [])) =
+    append_assoc u (placed_run done) (placed_run front ++ byte_at last.at last.byte ∷ [])
+    ∙ ap (λ (l : List Placed). u ++ l) (sym (placed_more done (front ++ last ∷ []) ∙ ap (λ (l : List Placed). placed_run done ++ l) (placed_more front (last ∷ [])))) in
+    record {
+      given = f.given ++ more;
+      events = n ∙ ap (λ l. l ++ told (Some id) (lifted more)) f.events ∙ append_assoc old (told (Some id) (lifted f.given)) (told (Some id) (lifted more))
+          ∙ ap (λ l. old ++ l) (sym (told_append (Some id) (lifted f.given) (lifted more)) ∙ ap (told (Some id)) (sym (lifted_append f.given more)));
+      grew = ap (λ (l : List Placed). (reading l).given) (sym all) ∙ g.given ∙ ap (λ l. l ++ more) f.grew ∙ append_assoc (reading u).given f.given more;
+      fault_is = ap (λ (l : List Placed). (reading l).fault) (sym all) ∙ g.sound;
+      list = λ k. subst stands all g.list;
+    }
+
+-- this many cells after those that are done
+module _ (run : List Cell) (done count : ℕ) (last : Cell) (some : 0 < count) (within : done + count ≤ length run) (is : last ≡ get_or run (done + count - 1) last) where
+  abbrev pub front : List Cell
+  front = take (count - 1) (drop done run)
+
+  last_parts : take count (drop done run) ≡ front ++ last ∷ []
+  last_parts =
+      ap (λ n. take n (drop done run)) (let e : count ≡ count - 1 + 1 = omega arith in e)
+      ∙ take_more (drop done run) (count - 1) last (let k = length-drop done run in omega arith)
+      ∙ ap (λ (c : Cell). front ++ c ∷ []) (get_or-drop done run (count - 1) last ∙ ap (λ n. get_or run n last) (let e : done + (count - 1) ≡ done + count - 1 = omega arith in e) ∙ sym is)
+
+  pub packet_parts : take (done + count) run ≡ take done run ++ (front ++ last ∷ [])
+  packet_parts =
+      let whole = sym (take-append-drop done run) in
+      ap (take (done + count)) whole
+      ∙ ap (λ n. take (n + count) (take done run ++ drop done run)) (sym (length-take-le done run (omega arith)))
+      ∙ take-append-add (take done run) (drop done run) count
+      ∙ ap (λ (l : List Cell). take done run ++ l) last_parts
+
+  -- the bytes that are looked at from there on
+  pub packet_units : (bytes : List ℕ) → bytes ≡ bytes_of run → units_of (placed_run front ++ byte_at last.at last.byte ∷ []) ≡ take count (take (length bytes - done) (drop done bytes))
+  packet_units bytes e =
+      ap units_of (sym (placed_more front (last ∷ []))) ∙ units_run (front ++ last ∷ []) ∙ ap bytes_of (sym last_parts)
+      ∙ sym (ap (take count) (ap (drop done) e ∙ drop-map (λ (c : Cell). c.byte) done run) ∙ take-map (λ (c : Cell). c.byte) count (drop done run))
+      ∙ ap (take count) (sym (take_all (length bytes - done) (drop done bytes) (let k = length-drop done bytes in omega arith))) where
+    units_run : (l : List Cell) → units_of (placed_run l) ≡ bytes_of l
+    units_run [] = refl
+    units_run (c ∷ l) = ap (λ b. c.byte ∷ b) (units_run l)
+
+-- bytes of a piece that give a packet
+module _ {V : Type 0} (reading : List Placed → Stream V) (stands : List Placed → Type 0) (u : List Placed) (at : ℕ) (piece : List ℕ) (bytes : ℕ) (some : 0 < bytes) (within : bytes ≤ length piece) where
+  abbrev pub piece_front : List Placed
+  piece_front = placed_from at (take (bytes - 1) piece)
+
+  abbrev pub piece_last : Placed
+  piece_last = byte_at (at + (bytes - 1)) (get_or piece (bytes - 1) 0)
+
+  units_from : (n : ℕ) (bs : List ℕ) → units_of (placed_from n bs) ≡ bs
+  units_from n [] = refl
+  units_from n (b ∷ bs) = ap (λ l. b ∷ l) (units_from (n + 1) bs)
+
+  count_is : bytes - 1 + 1 ≡ bytes
+  count_is = omega arith
+
+  pub piece_units : units_of (piece_front ++ piece_last ∷ []) ≡ take bytes piece
+  piece_units =
+      units_push piece_front piece_last ∙ ap (λ l. l ++ get_or piece (bytes - 1) 0 ∷ []) (units_from at (take (bytes - 1) piece))
+      ∙ sym (take_more piece (bytes - 1) 0 (omega arith)) ∙ ap (λ n. take n piece) count_is
+
+  pub takes_packet : ((v w : List Placed) → is_none (reading v).fault ≡ false → Settled (reading v) (reading (v ++ w))) → (packet : V) →
+      Gives reading stands u piece_front piece_last packet → Takes reading stands u at piece bytes (Some (Item 0 packet))
+  takes_packet settle packet g =
+      let all : u ++ (piece_front ++ piece_last ∷ []) ≡ u ++ placed_from at (take bytes piece) =
+      sym (append_assoc u piece_front (piece_last ∷ [])) ∙ next_placed u at piece (bytes - 1) (omega arith) ∙ ap (λ n. u ++ placed_from at (take n piece)) count_is in
+      record {
+        list = subst stands all g.list;
+        given = ap (λ (l : List Placed). (reading l).given) (sym all) ∙ g.given;
+        fault = ap (λ (l : List Placed). (reading l).fault) (sym all) ∙ g.sound;
+        place = tt;
+        sound = by (reading (u ++ piece_front)).fault refl (ap (λ (l : List Placed). (reading l).fault) (append_assoc u piece_front (piece_last ∷ [])) ∙ g.sound);
+      } where
+    by : (o : Option (Place × Reason)) → (reading (u ++ piece_front)).fault ≡ o → (reading ((u ++ piece_front) ++ piece_last ∷ [])).fault ≡ None → (reading (u ++ piece_front)).fault ≡ None
+    by None k e = k
+    by (Some x) k e =
+        (let s = (settle (u ++ piece_front) (piece_last ∷ []) (ap (λ (o : Option (Place × Reason)). is_none o) k)).fault in
+        let q : None ≡ Some x = sym e ∙ s ∙ k in cc)

@@ -1,0 +1,122 @@
+use Rattle.std.proofs.Common.{◌≡◌, ℕ, ◌+◌, ◌*◌, ◌-◌, ◌<◌, ◌≤◌, ◌++◌, [], ◌∷◌, List, length, take, drop, get_or, refl, sym, ◌∙◌, ap, subst, arith, Some, None}
+use Rattle.std.specs.Prelude.{is_none}
+use Rattle.std.proofs.lemmas.List.{drop_more, take_more, take-append-drop, take_all, length-drop, length-take-le, length-map, length-append}
+use Rattle.trace_values.specs.declared.cell.Cell.{Cell}
+use Rattle.trace_values.specs.declared.step.Step.TheVariants.{Item}
+use Rattle.trace_values.specs.Placed.{Placed, byte_at}
+use Rattle.trace_values.specs.Stream.{Stream}
+use Rattle.itm_codec.specs.Wholes.{Gives}
+use Rattle.source_events.specs.declared.packet.Packet.{Packet}
+use Rattle.source_events.specs.Runs.{placed_run, bytes_of, RisesFrom}
+use Rattle.source_events.specs.Fitting.{PacketFits}
+use Rattle.source_machine.specs.Machine.{Stands, held_of, is_live, reading_of, skipped_by}
+use Rattle.source_machine.specs.MachineLaws as laws
+use Rattle.source_merge.specs.Feeding.{Feeds}
+use Rattle.source_merge.proofs.RunSteps.{none_of, feeds_none, feeds_more, feeds_stopped, goes_as, grown_as}
+use Rattle.source_merge.proofs.Packets.{packet_event, feeds_packet, front, packet_parts, packet_units}
+use Rattle.source_merge.proofs.Early.{early}
+use Rattle.source_merge.proofs.Fits.{more_fits}
+use Rattle.source_merge.proofs.slot.feed_machine.Goals as goal
+
+next_cell : (run : List Cell) (i : ℕ) (d : Cell) → i < length run → d ≡ get_or run i d → take (i + 1) run ≡ take i run ++ d ∷ []
+next_cell run i d l e = take_more run i d l ∙ ap (λ (c : Cell). take i run ++ c ∷ []) (sym e)
+
+pub loop-done-init : goal.loop-done-init
+loop-done-init c = record {
+  within = omega arith;
+  same = refl;
+  live = c.requires.live;
+  few = omega arith;
+  events = omega arith;
+  fits = λ f. f;
+  feeds = λ u s.
+      feeds_none (reading_of c.args.machine.now) u c.args.source (Stands c.args.machine.now) c.args.out.now.items s
+      (none_of _ (sym c.requires.live ∙ (laws.shows c.args.machine.now u s).live_is));
+}
+
+pub loop-done-preserved-in-Some : goal.loop-done-preserved-in-Some
+loop-done-preserved-in-Some c =
+    let i = c.loop-done.invariant in
+    let run = c.args.run.now in
+    let done = c.loop-done.done in
+    let count = c.in-Some.count in
+    let packet = c.in-Some.packet in
+    let last = c.index-run-done.result in
+    let reading = reading_of c.args.machine.now in
+    let bytes = c.as_slice.result.now in
+    let same : bytes ≡ bytes_of run = c.as_slice.ensures.value ∙ c.of-bytes.ensures in
+    let most = length-take-le (length bytes - done) (drop done bytes) (let k = length-drop done bytes in omega arith) in
+    let long : length bytes ≡ length run = ap length same ∙ length-map run (λ (x : Cell). x.byte) in
+    let within : done + count ≤ length run = (let k = c.in-Some.ensures.bytes.1 in let h = c.loop-done-test.true in omega arith) in
+    let pushed : c.push.new.self.items ≡ c.loop-done.out.items ++ packet_event c.args.source last packet ∷ [] =
+    c.push.ensures.items ∙ ap (λ (x : Cell). c.loop-done.out.items ++ packet_event c.args.source x packet ∷ []) (sym c.index-run-done.is) in
+    record {
+      within = within;
+      same = i.same;
+      live = i.live;
+      few = (let a = i.few in omega arith);
+      events = (let a = i.events in let b = c.in-Some.ensures.bytes.0 in let d = ap length c.push.ensures.items in let e = length-append c.loop-done.out.items (packet_event c.args.source last packet ∷ []) in omega arith);
+      fits = λ f. more_fits PacketFits c.args.source last.at (Item 0 packet) c.loop-done.out.items c.push.new.self.items pushed c.in-Some.ensures.fits (i.fits f);
+      feeds = λ u s.
+          subst (λ (l : List Cell). Feeds reading (Stands c.loop-done.machine) u l c.args.source c.args.out.now.items c.push.new.self.items None)
+          (sym (packet_parts run done count last c.in-Some.ensures.bytes.0 within c.index-run-done.is))
+          (feeds_packet reading u c.args.source (Stands c.loop-done.machine) (take done run) (front run done count last c.in-Some.ensures.bytes.0 within c.index-run-done.is) last packet
+          c.args.out.now.items c.loop-done.out.items c.push.new.self.items (i.feeds u s)
+          (λ w k. subst (λ (r : List Placed → Stream Packet). Gives r (Stands c.loop-done.machine) w (placed_run (front run done count last c.in-Some.ensures.bytes.0 within c.index-run-done.is)) (byte_at last.at last.byte) packet) i.same
+              (c.in-Some.ensures.gives w (placed_run (front run done count last c.in-Some.ensures.bytes.0 within c.index-run-done.is)) (byte_at last.at last.byte) k
+              (packet_units run done count last c.in-Some.ensures.bytes.0 within c.index-run-done.is bytes same)))
+          pushed);
+    }
+
+pub loop-done-preserved : goal.loop-done-preserved
+loop-done-preserved c =
+    let reading = reading_of c.args.machine.now in
+    let i = c.loop-done.invariant in
+    let run = c.args.run.now in
+    let cell = c.index-run-done-in_default.result in
+    record {
+      within = (let h = c.loop-done-test.true in omega arith);
+      same = c.feed-step.ensures.same ∙ i.same;
+      live = c.feed-step.ensures.live ∙ goes_as c.feed-step.result ∙ ap is_none (sym c.note.ensures.fault ∙ c.in_default-note.is);
+      few = (let a = i.few in let b = c.feed-step.ensures.few in omega arith);
+      events = (let a = i.events in let b = c.note.ensures.few in omega arith);
+      fits = λ f. more_fits PacketFits c.args.source cell.at c.feed-step.result c.loop-done.out.items c.note.new.out.items c.note.ensures.given c.feed-step.ensures.fits (i.fits f);
+      feeds = λ u s.
+          subst (λ (l : List Cell). Feeds reading (Stands c.feed-step.new.self) u l c.args.source c.args.out.now.items c.note.new.out.items None)
+          (sym (next_cell run c.loop-done.done cell c.loop-done-test.true c.index-run-done-in_default.is))
+          (feeds_more reading u c.args.source (Stands c.loop-done.machine) (Stands c.feed-step.new.self) (take c.loop-done.done run) cell c.feed-step.result None
+          c.args.out.now.items c.loop-done.out.items c.note.new.out.items (i.feeds u s)
+          (λ w k. c.feed-step.ensures.list w k)
+          (λ w k. grown_as (reading_of c.loop-done.machine) reading i.same w cell c.feed-step.result (c.feed-step.ensures.step w k))
+          (sym c.in_default-note.is ∙ c.note.ensures.fault) c.note.ensures.given);
+    }
+
+pub returns-in-Some-note-clause-feeds : goal.returns-in-Some-note-clause-feeds
+returns-in-Some-note-clause-feeds c = λ u s.
+    let reading = reading_of c.args.machine.now in
+    let i = c.loop-done.invariant in
+    let run = c.args.run.now in
+    let at = c.loop-done.done in
+    let cell = c.index-run-done-in_default.result in
+    subst (λ (l : List Cell). Feeds reading (Stands c.feed-step.new.self) u l c.args.source c.args.out.now.items c.note.new.out.items (Some c.in-Some-note.fault)) (take-append-drop (at + 1) run)
+    (subst (λ (l : List Cell). Feeds reading (Stands c.feed-step.new.self) u (l ++ drop (at + 1) run) c.args.source c.args.out.now.items c.note.new.out.items (Some c.in-Some-note.fault))
+    (sym (next_cell run at cell c.loop-done-test.true c.index-run-done-in_default.is))
+    (feeds_stopped reading u c.args.source (laws.settles c.args.machine.now) (Stands c.feed-step.new.self) (take at run ++ cell ∷ []) (drop (at + 1) run) c.in-Some-note.fault c.args.out.now.items c.note.new.out.items
+    (feeds_more reading u c.args.source (Stands c.loop-done.machine) (Stands c.feed-step.new.self) (take at run) cell c.feed-step.result (Some c.in-Some-note.fault)
+    c.args.out.now.items c.loop-done.out.items c.note.new.out.items (i.feeds u s)
+    (λ w k. c.feed-step.ensures.list w k)
+    (λ w k. grown_as (reading_of c.loop-done.machine) reading i.same w cell c.feed-step.result (c.feed-step.ensures.step w k))
+    (sym c.in-Some-note.is ∙ c.note.ensures.fault) c.note.ensures.given)))
+
+pub returns-in-Some-note-clause-early : goal.returns-in-Some-note-clause-early
+returns-in-Some-note-clause-early c = λ u s n r given h.
+    let reading = reading_of c.args.machine.now in
+    let i = c.loop-done.invariant in
+    let run = c.args.run.now in
+    let at = c.loop-done.done in
+    let d = c.index-run-done-in_default.result in
+    let parts : run ≡ take at run ++ (d ∷ drop (at + 1) run) = sym (take-append-drop at run) ∙ ap (λ (l : List Cell). take at run ++ l) (drop_more run at d c.loop-done-test.true ∙ ap (λ (x : Cell). x ∷ drop (at + 1) run) (sym c.index-run-done-in_default.is)) in
+    early reading (laws.rises c.args.machine.now) (laws.settles c.args.machine.now) u (take at run) d (drop (at + 1) run) c.feed-step.result c.in-Some-note.fault
+    (sym c.note.ensures.fault ∙ c.in-Some-note.is)
+    (grown_as (reading_of c.loop-done.machine) reading i.same _ d c.feed-step.result (c.feed-step.ensures.step _ ((i.feeds u s).list refl)))
+    n (subst (λ (l : List Cell). RisesFrom n l) parts r) given (ap (λ (l : List Cell). (reading (u ++ placed_run l)).given) (sym parts) ∙ h)
