@@ -23,7 +23,7 @@ pub struct Attribution {
 }
 
 /// The item of a packet of this row with this payload.
-#[inline]
+#[inline(always)]
 fn item_with(place: Place, stamp: Stamp, row: Row, payload: u64) -> Option<StpItem>
     requires payload { payload < 16 ^ (line_of row).payload }
     requires stamp { IsProperStamp stamp }
@@ -147,7 +147,7 @@ impl Attribution {
     }
 
     /// Keeps what a packet without a timestamp tells. An error, of a master or of none, tells nothing of other items.
-    #[inline]
+    #[inline(always)]
     fn note(&mut self, row: Row, payload: u64)
         requires fits { payload < 16 ^ (line_of row).payload }
         ensures version { self.new.version ≡ next_version self.old.version (Plain row payload) }
@@ -166,7 +166,7 @@ impl Attribution {
     }
 
     /// Keeps a timestamp, and answers it as an item has it.
-    #[inline]
+    #[inline(always)]
     fn stamp(&mut self, row: Row, payload: u64, size: u8, word: u64) -> Stamp
         requires fits { WordFits size word }
         ensures version { self.new.version ≡ next_version self.old.version (Stamped row payload size word) }
@@ -190,7 +190,7 @@ impl Attribution {
     }
 
     /// Takes the next packet, and answers its item, which masters, channels and NULL do not have.
-    #[inline]
+    #[inline(always)]
     pub fn take(&mut self, packet: StpPacket) -> Option<StpItem>
         requires proper { IsProper packet }
         ensures list { (packets : List StpPacket) → Stands self.old packets → Stands self.new (packets ++ packet ∷ []) }

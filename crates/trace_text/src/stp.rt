@@ -24,7 +24,7 @@ const VALUE_ROOM: usize = 20;
 const STAMP_ROOM: usize = 2 + NUMBER_ROOM;
 
 /// Puts a number, or `-` where it is unknown.
-#[inline]
+#[inline(always)]
 fn put_known(room: &mut [u8], from: usize, number: Option<u16>) -> usize
     requires room { from + 5 ≤ length room.old }
     ensures text { take result room.new ≡ take from room.old ++ known_text number }
@@ -38,7 +38,7 @@ fn put_known(room: &mut [u8], from: usize, number: Option<u16>) -> usize
 }
 
 /// Puts the master and the channel: `M C`.
-#[inline]
+#[inline(always)]
 fn put_place(room: &mut [u8], from: usize, place: Place) -> usize
     requires room { from + PLACE_ROOM ≤ length room.old }
     ensures text { take result room.new ≡ take from room.old ++ place_text place }
@@ -103,7 +103,7 @@ fn put_datum(room: &mut [u8], from: usize, width: Width, value: u64) -> usize
 }
 
 /// Puts a timestamp: `-`, `n=N`, `g=N`, or `r=` and its word's nibbles.
-#[inline]
+#[inline(always)]
 fn put_stamp(room: &mut [u8], from: usize, stamp: Stamp) -> usize
     requires proper { IsProperStamp stamp }
     requires room { from + STAMP_ROOM ≤ length room.old }
