@@ -11,9 +11,10 @@ use Rattle.item_tap.specs.declared.choice.Choice.{Choice}
 use Rattle.item_tap.specs.declared.choice.Choice.TheVariants.{OfKind, Source, Port}
 use Rattle.item_tap.specs.declared.choice.Kind.{Kind}
 use Rattle.item_tap.specs.declared.choice.Kind.TheVariants.{Itm, Dwt, Stp, Raw, Trigger}
-use Rattle.capture_words.specs.Values.{kind_named, number_named, number_after, text_after, choice_named, or_else}
+use Rattle.decimal_words.specs.Numbers.{number_named, number_after, text_after}
+use Rattle.decimal_words.proofs.Numbers.{names_number, number_is}
+use Rattle.capture_words.specs.Values.{kind_named, choice_named, or_else}
 use Rattle.capture_words.specs.Choices.{kind_text, choice_text, IsChoice}
-use Rattle.capture_words.proofs.Numbers.{names_number, number_is}
 
 -- from the choice to its text
 kind_named_so : (kind : Kind) → choice_named (kind_text kind) ≡ Some (OfKind kind)

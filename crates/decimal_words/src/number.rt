@@ -1,7 +1,7 @@
 //! Numbers in words.
 
 ghost use Rattle.std.specs.Prelude.{◌≡◌, ◌≤◌, ◌<◌, ◌^◌, ℕ, IfSome, decimal};
-ghost use Rattle.capture_words.specs.Values.{number_named};
+ghost use Rattle.decimal_words.specs.Numbers.{number_named};
 
 use itoa::Buffer;
 use trace_values::SourceId;

@@ -3,11 +3,11 @@ use Rattle.std.specs.Str.{bytes_eq}
 use Rattle.std.specs.Fmt.{decimal}
 use Rattle.std.proofs.lemmas.Slice.Eq.{bytes_eq-Decides}
 use Rattle.std.proofs.lemmas.Fmt.{parse-decimal}
-use Rattle.capture_words.proofs.Numbers.{names_number, names_nothing}
-use Rattle.capture_words.proofs.number.number_named.Goals as goal
-use Rattle.capture_words.proofs.number.number_named.Goals.{else-least-number-via-then-least-number+then-number-greatest+else-eq}
-use Rattle.capture_words.proofs.number.number_named.Goals.{else-least-number-via-then-least-number+else-number-greatest}
-use Rattle.capture_words.proofs.number.number_named.Goals.{else-least-number-via-else-least-number}
+use Rattle.decimal_words.proofs.Numbers.{names_number, names_nothing}
+use Rattle.decimal_words.proofs.number.number_named.Goals as goal
+use Rattle.decimal_words.proofs.number.number_named.Goals.{else-least-number-via-then-least-number+then-number-greatest+else-eq}
+use Rattle.decimal_words.proofs.number.number_named.Goals.{else-least-number-via-then-least-number+else-number-greatest}
+use Rattle.decimal_words.proofs.number.number_named.Goals.{else-least-number-via-else-least-number}
 
 pub returns-then-eq-clause-value : goal.returns-then-eq-clause-value
 returns-then-eq-clause-value c =

@@ -6,7 +6,7 @@ use Rattle.std.specs.Option.{MatchOption}
 use Rattle.std.specs.Str.{IsCharBoundary}
 use Rattle.std.specs.Str.Pattern.{FindsTextPrefix, StripsPrefix}
 use Rattle.std.proofs.lemmas.Str.Pattern.{starts_text}
-use Rattle.capture_words.specs.Values.{text_after}
+use Rattle.decimal_words.specs.Numbers.{text_after}
 
 taken : {A : Type 0} (b : Bool) (x : A) → true ≡ b → Some x ≡ (if b then Some x else None)
 taken true x e = refl
