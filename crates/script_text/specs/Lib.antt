@@ -1,0 +1,7 @@
+pub mod Words
+pub mod Numbers
+pub mod Stamps
+pub mod Shapes
+pub mod Items
+pub mod Lines
+pub mod Said

@@ -1,0 +1,23 @@
+//! What is wrong with a line.
+
+/// Why a line is none of a script (this project's profile). Of several that hold, a line has the first.
+#[derive(Clone, Copy, Debug, PartialEq, Eq, Drop)]
+pub enum LineFault {
+    /// It has more than 256 bytes.
+    LongLine,
+    /// It is not the words of an item after an ID: it has a byte that is not printable, words are not between single
+    /// spaces, or a word that is no number is another than an item's text has there.
+    BadLine,
+    /// Its first word is not a number from 1 to 126.
+    BadId,
+    /// A number is not in its spelling or its range, `hw` is used for a hardware packet that has a name, or `raw` has
+    /// no whole bytes, or more than 100.
+    BadNumber,
+    /// The item is one of an ITM or STP source, and the source is not mapped.
+    Unmapped,
+    /// The item is of another kind than its source.
+    Mixed,
+    /// An STP item has a timestamp that the version of the protocol has not. No line has this fault alone: it depends on
+    /// the lines before it.
+    Unfit,
+}
