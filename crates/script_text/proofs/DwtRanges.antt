@@ -11,7 +11,8 @@ use Rattle.dwt_packets.proofs.Inverses.{proper}
 use Rattle.script_text.specs.declared.dwt_shapes.DwtShape.{DwtShape}
 use Rattle.script_text.specs.declared.dwt_shapes.DwtShape.TheVariants.{Counters, Exception, Sample, Asleep, MatchPc, MatchAddress, Read, Written, Other}
 use Rattle.script_text.specs.Numbers.{decimal_at, hexadecimal_at}
-use Rattle.script_text.specs.Items.{◌>>=◌, value_at, dwt_of, unnamed, counters_within}
+use Rattle.script_text.specs.Steps.{◌>>=◌}
+use Rattle.script_text.specs.Items.{value_at, dwt_of, unnamed, counters_within}
 use Rattle.script_text.proofs.Options.{bind_some, some_of, chosen_some, value_small, decimal_small}
 
 under : (n k : ℕ) → nat_le n k ≡ true → n < k + 1

@@ -9,7 +9,8 @@ use Rattle.itm_grammar.specs.declared.packet.ItmPacket.TheVariants as itm
 use Rattle.script_text.specs.declared.itm_shapes.ItmShape.{ItmShape}
 use Rattle.script_text.specs.declared.itm_shapes.ItmShape.TheVariants.{Sync, Overflow, Software, Local, GlobalFirst, GlobalSecond, Extension}
 use Rattle.script_text.specs.Numbers.{decimal_at}
-use Rattle.script_text.specs.Items.{◌>>=◌, value_at, itm_of, first_stamp, is_first}
+use Rattle.script_text.specs.Steps.{◌>>=◌}
+use Rattle.script_text.specs.Items.{value_at, itm_of, first_stamp, is_first}
 use Rattle.script_text.specs.Said.{IsSaidItm}
 use Rattle.script_text.proofs.Options.{bind_some, some_of, chosen_some, value_small, decimal_small}
 

@@ -7,7 +7,8 @@ use Rattle.itm_grammar.specs.declared.packet.Size.TheVariants.{One, Two, Four}
 use Rattle.decimal_words.proofs.Numbers.{number_is}
 use Rattle.script_text.specs.Words.{word_of}
 use Rattle.script_text.specs.Numbers.{decimal_at, hexadecimal_at}
-use Rattle.script_text.specs.Items.{◌>>=◌, value_at}
+use Rattle.script_text.specs.Steps.{◌>>=◌}
+use Rattle.script_text.specs.Items.{value_at}
 use Rattle.script_text.proofs.Hexadecimals.{hexadecimal_small}
 
 -- what is behind a value that is there

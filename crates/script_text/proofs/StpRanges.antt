@@ -19,17 +19,14 @@ use Rattle.script_text.specs.declared.stp_shapes.StpShape.{StpShape}
 use Rattle.script_text.specs.declared.stp_shapes.StpShape.TheVariants.{Async, Version, MasterError, GlobalError, Datum, Flag, Trigger, Frequency, NullStamp}
 use Rattle.script_text.specs.Words.{word_of}
 use Rattle.script_text.specs.Numbers.{hexadecimal_named, decimal_at, hexadecimal_at}
-use Rattle.script_text.specs.Stamps.{◌>>=◌ as ◌>>ₛ◌, size_with, raw_named, time_named, stamp_named, stamp_at}
+use Rattle.script_text.specs.Stamps.{size_with, raw_named, time_named, stamp_named, stamp_at}
+use Rattle.script_text.specs.Steps.{◌>>=◌}
 use Rattle.script_text.specs.Items.{place_of, datum_of, null_stamp, stp_of}
 use Rattle.script_text.specs.Said.{IsSaidStp, IsKnown}
 use Rattle.script_text.proofs.Hexadecimals.{hexadecimal_small}
 use Rattle.script_text.proofs.Options.{bind_some, some_of, map_some, decimal_small, byte_small}
 
 -- timestamps
-stamp_bound : {A B : Type 0} (o : Option A) (f : A → Option B) (y : B) → (o >>ₛ f) ≡ Some y → (x : A) × (o ≡ Some x) × (f x ≡ Some y)
-stamp_bound None f y e = cc
-stamp_bound (Some x) f y e = (x, refl, e)
-
 -- a size's word has that many nibbles
 small_count : (size : ℕ) → size < 13 → nibble_count size ≡ size
 small_count size h = let e : nat_lt size 13 ≡ true = grind (arith, nat_tests) in rw e refl
@@ -56,8 +53,8 @@ size_is count size e = by (nat_lt count 13) (count == 14) (count == 16) refl ref
 pub raw_said : (digits : List ℕ) (stamp : Stamp) → raw_named digits ≡ Some stamp → IsProperStamp stamp
 unfolding raw_named
 raw_said digits stamp e =
-    let a = stamp_bound (size_with (length digits)) (λ size. hexadecimal_named (length digits) digits >>ₛ λ word. Some (Raw size word)) stamp e in
-    let b = stamp_bound (hexadecimal_named (length digits) digits) (λ word. Some (Raw a.0 word)) stamp a.2 in
+    let a = bind_some (size_with (length digits)) (λ size. hexadecimal_named (length digits) digits >>= λ word. Some (Raw size word)) stamp e in
+    let b = bind_some (hexadecimal_named (length digits) digits) (λ word. Some (Raw a.0 word)) stamp a.2 in
     let size = size_is (length digits) a.0 a.1 in
     let small = hexadecimal_small (length digits) digits b.0 b.1 in
     let fits : b.0 < 16 ^ nibble_count a.0 = rw size.1 small in

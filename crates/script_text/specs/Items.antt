@@ -32,14 +32,10 @@ use Rattle.script_text.specs.declared.stp_shapes.StpShape.TheVariants.{Async, Ve
 use Rattle.script_text.specs.declared.stp_shapes.StpShape.TheVariants.{Datum, Flag, Trigger, Frequency, NullStamp}
 use Rattle.script_text.specs.declared.items.Item.{Item}
 use Rattle.script_text.specs.declared.items.Item.TheVariants as items
+use Rattle.script_text.specs.Steps.{◌>>=◌}
 use Rattle.script_text.specs.Words.{word_of}
 use Rattle.script_text.specs.Numbers.{decimal_at, hexadecimal_at}
 use Rattle.script_text.specs.Stamps.{stamp_at}
-
-infixl 10 ◌>>=◌
-abbrev pub ◌>>=◌ : {A B : Type 0} → Option A → (A → Option B) → Option B
-None >>= f = None
-(Some x) >>= f = f x
 
 -- the value of this size that the word of this number is: two digits for each byte
 abbrev pub value_at : Size → List (List ℕ) → ℕ → Option ℕ

@@ -1,4 +1,5 @@
 pub mod Words
+pub mod Steps
 pub mod Numbers
 pub mod Stamps
 pub mod Shapes

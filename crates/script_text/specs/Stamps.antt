@@ -5,13 +5,9 @@ use Rattle.std.specs.Str.{bytes_eq}
 use Rattle.stp_grammar.specs.declared.item.Stamp.{Stamp}
 use Rattle.stp_grammar.specs.declared.item.Stamp.TheVariants.{None as NoStamp, Natural, Gray, Raw}
 use Rattle.decimal_words.specs.Numbers.{number_named, text_after}
+use Rattle.script_text.specs.Steps.{◌>>=◌}
 use Rattle.script_text.specs.Words.{word_of}
 use Rattle.script_text.specs.Numbers.{hexadecimal_named}
-
-infixl 10 ◌>>=◌
-abbrev pub ◌>>=◌ : {A B : Type 0} → Option A → (A → Option B) → Option B
-None >>= f = None
-(Some x) >>= f = f x
 
 -- the size of a timestamp whose word has this many nibbles
 abbrev pub size_with : ℕ → Option ℕ

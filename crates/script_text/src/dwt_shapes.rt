@@ -37,12 +37,42 @@ impl DwtShape {
             DwtShape::Asleep => &[],
             DwtShape::MatchPc => &[Field::Number, Field::Word("pc"), Field::Number],
             DwtShape::MatchAddress => &[Field::Number, Field::Word("addr"), Field::Number],
-            DwtShape::Read(Size::One) => &[Field::Number, Field::Word("read"), Field::Word("u8"), Field::Number],
-            DwtShape::Read(Size::Two) => &[Field::Number, Field::Word("read"), Field::Word("u16"), Field::Number],
-            DwtShape::Read(Size::Four) => &[Field::Number, Field::Word("read"), Field::Word("u32"), Field::Number],
-            DwtShape::Written(Size::One) => &[Field::Number, Field::Word("write"), Field::Word("u8"), Field::Number],
-            DwtShape::Written(Size::Two) => &[Field::Number, Field::Word("write"), Field::Word("u16"), Field::Number],
-            DwtShape::Written(Size::Four) => &[Field::Number, Field::Word("write"), Field::Word("u32"), Field::Number],
+            DwtShape::Read(Size::One) => &[
+                Field::Number,
+                Field::Word("read"),
+                Field::Word("u8"),
+                Field::Number,
+            ],
+            DwtShape::Read(Size::Two) => &[
+                Field::Number,
+                Field::Word("read"),
+                Field::Word("u16"),
+                Field::Number,
+            ],
+            DwtShape::Read(Size::Four) => &[
+                Field::Number,
+                Field::Word("read"),
+                Field::Word("u32"),
+                Field::Number,
+            ],
+            DwtShape::Written(Size::One) => &[
+                Field::Number,
+                Field::Word("write"),
+                Field::Word("u8"),
+                Field::Number,
+            ],
+            DwtShape::Written(Size::Two) => &[
+                Field::Number,
+                Field::Word("write"),
+                Field::Word("u16"),
+                Field::Number,
+            ],
+            DwtShape::Written(Size::Four) => &[
+                Field::Number,
+                Field::Word("write"),
+                Field::Word("u32"),
+                Field::Number,
+            ],
             DwtShape::Other(Size::One) => &[Field::Number, Field::Word("u8"), Field::Number],
             DwtShape::Other(Size::Two) => &[Field::Number, Field::Word("u16"), Field::Number],
             DwtShape::Other(Size::Four) => &[Field::Number, Field::Word("u32"), Field::Number],
@@ -108,12 +138,20 @@ pub fn dwt_of(shape: DwtShape, words: &[&str]) -> Option<DwtItem>
         DwtShape::Read(size) => {
             let comparator = decimal_at(3, words, 1)? as u8;
             let value = value_at(size, words, 4)?;
-            Some(DwtItem::Read { comparator, size, value })
+            Some(DwtItem::Read {
+                comparator,
+                size,
+                value,
+            })
         }
         DwtShape::Written(size) => {
             let comparator = decimal_at(3, words, 1)? as u8;
             let value = value_at(size, words, 4)?;
-            Some(DwtItem::Written { comparator, size, value })
+            Some(DwtItem::Written {
+                comparator,
+                size,
+                value,
+            })
         }
         DwtShape::Other(size) => {
             let disc = decimal_at(31, words, 1)? as u8;

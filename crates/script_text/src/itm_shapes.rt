@@ -57,7 +57,11 @@ fn first_checked(len: u8, value: u32, change: bool, wrap: bool) -> Option<ItmPac
         change,
         wrap,
     };
-    if is_proper(&packet) { Some(packet) } else { None }
+    if is_proper(&packet) {
+        Some(packet)
+    } else {
+        None
+    }
 }
 
 /// A first global timestamp: its low bits fit its bytes, and only four bytes have clock change and wrap.

@@ -20,10 +20,7 @@ pub enum Line {
     /// An empty line, or a remark: it begins with `#`.
     Nothing,
     /// An item of this source, 1 to 126.
-    Of {
-        id: SourceId,
-        item: Item,
-    },
+    Of { id: SourceId, item: Item },
 }
 
 /// The most bytes of a line, without its line feed.

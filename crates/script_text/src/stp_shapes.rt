@@ -34,11 +34,46 @@ fn plain_fields(width: Width) -> &'static [Field]
     ensures { map seen result.now ≡ stp_fields (StpShape.Datum width false) }
 {
     match width {
-        Width::Four => &[Field::Number, Field::Number, Field::Word("u4"), Field::Number, Field::Word("-"), Field::Number],
-        Width::Eight => &[Field::Number, Field::Number, Field::Word("u8"), Field::Number, Field::Word("-"), Field::Number],
-        Width::Sixteen => &[Field::Number, Field::Number, Field::Word("u16"), Field::Number, Field::Word("-"), Field::Number],
-        Width::ThirtyTwo => &[Field::Number, Field::Number, Field::Word("u32"), Field::Number, Field::Word("-"), Field::Number],
-        Width::SixtyFour => &[Field::Number, Field::Number, Field::Word("u64"), Field::Number, Field::Word("-"), Field::Number],
+        Width::Four => &[
+            Field::Number,
+            Field::Number,
+            Field::Word("u4"),
+            Field::Number,
+            Field::Word("-"),
+            Field::Number,
+        ],
+        Width::Eight => &[
+            Field::Number,
+            Field::Number,
+            Field::Word("u8"),
+            Field::Number,
+            Field::Word("-"),
+            Field::Number,
+        ],
+        Width::Sixteen => &[
+            Field::Number,
+            Field::Number,
+            Field::Word("u16"),
+            Field::Number,
+            Field::Word("-"),
+            Field::Number,
+        ],
+        Width::ThirtyTwo => &[
+            Field::Number,
+            Field::Number,
+            Field::Word("u32"),
+            Field::Number,
+            Field::Word("-"),
+            Field::Number,
+        ],
+        Width::SixtyFour => &[
+            Field::Number,
+            Field::Number,
+            Field::Word("u64"),
+            Field::Number,
+            Field::Word("-"),
+            Field::Number,
+        ],
     }
 }
 
@@ -47,11 +82,46 @@ fn marked_fields(width: Width) -> &'static [Field]
     ensures { map seen result.now ≡ stp_fields (StpShape.Datum width true) }
 {
     match width {
-        Width::Four => &[Field::Number, Field::Number, Field::Word("u4"), Field::Number, Field::Word("m"), Field::Number],
-        Width::Eight => &[Field::Number, Field::Number, Field::Word("u8"), Field::Number, Field::Word("m"), Field::Number],
-        Width::Sixteen => &[Field::Number, Field::Number, Field::Word("u16"), Field::Number, Field::Word("m"), Field::Number],
-        Width::ThirtyTwo => &[Field::Number, Field::Number, Field::Word("u32"), Field::Number, Field::Word("m"), Field::Number],
-        Width::SixtyFour => &[Field::Number, Field::Number, Field::Word("u64"), Field::Number, Field::Word("m"), Field::Number],
+        Width::Four => &[
+            Field::Number,
+            Field::Number,
+            Field::Word("u4"),
+            Field::Number,
+            Field::Word("m"),
+            Field::Number,
+        ],
+        Width::Eight => &[
+            Field::Number,
+            Field::Number,
+            Field::Word("u8"),
+            Field::Number,
+            Field::Word("m"),
+            Field::Number,
+        ],
+        Width::Sixteen => &[
+            Field::Number,
+            Field::Number,
+            Field::Word("u16"),
+            Field::Number,
+            Field::Word("m"),
+            Field::Number,
+        ],
+        Width::ThirtyTwo => &[
+            Field::Number,
+            Field::Number,
+            Field::Word("u32"),
+            Field::Number,
+            Field::Word("m"),
+            Field::Number,
+        ],
+        Width::SixtyFour => &[
+            Field::Number,
+            Field::Number,
+            Field::Word("u64"),
+            Field::Number,
+            Field::Word("m"),
+            Field::Number,
+        ],
     }
 }
 
@@ -63,7 +133,11 @@ impl StpShape {
         match *self {
             StpShape::Async => &[],
             StpShape::Version | StpShape::GlobalError | StpShape::NullStamp => &[Field::Number],
-            StpShape::MasterError | StpShape::Flag => &[Field::Number, Field::Number, Field::Number],
+            StpShape::MasterError | StpShape::Flag => &[
+                Field::Number,
+                Field::Number,
+                Field::Number,
+            ],
             StpShape::Datum(width, false) => plain_fields(width),
             StpShape::Datum(width, true) => marked_fields(width),
             StpShape::Trigger | StpShape::Frequency => &[Field::Number, Field::Number],
@@ -108,7 +182,9 @@ fn null_stamp(stamp: Stamp) -> Option<StpItem>
 {
     match stamp {
         Stamp::None => None,
-        Stamp::Natural(_) | Stamp::Gray(_) | Stamp::Raw { .. } => Some(StpItem::NullStamp { stamp }),
+        Stamp::Natural(_) | Stamp::Gray(_) | Stamp::Raw { .. } => Some(StpItem::NullStamp {
+            stamp,
+        }),
     }
 }
 

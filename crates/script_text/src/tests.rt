@@ -111,17 +111,35 @@ fn packets_of_an_itm_source(rt: HostRuntime) {
         ("1 local exact 0", local(Lateness::Exact, 0)),
         ("1 local stamp-late 1", local(Lateness::StampLate, 1)),
         ("1 local packet-late 136", local(Lateness::PacketLate, 136)),
-        ("1 local both-late 268435455", local(Lateness::BothLate, 268_435_455)),
+        (
+            "1 local both-late 268435455",
+            local(Lateness::BothLate, 268_435_455),
+        ),
         ("1 global1 1 127 0 0", first(1, 127, false, false)),
         ("1 global1 2 16383 0 0", first(2, 16_383, false, false)),
         ("1 global1 3 2097151 0 0", first(3, 2_097_151, false, false)),
-        ("1 global1 4 67108863 1 0", first(4, 67_108_863, true, false)),
+        (
+            "1 global1 4 67108863 1 0",
+            first(4, 67_108_863, true, false),
+        ),
         ("1 global1 4 0 0 1", first(4, 0, false, true)),
         ("1 global2 48 4194303", second(false, 4_194_303)),
         ("1 global2 64 274877906943", second(true, 274_877_906_943)),
         ("1 global2 64 0", second(true, 0)),
-        ("1 ext itm 00000001", ItmPacket::Extension { dwt: false, value: 1 }),
-        ("1 ext dwt ffffffff", ItmPacket::Extension { dwt: true, value: u32::MAX }),
+        (
+            "1 ext itm 00000001",
+            ItmPacket::Extension {
+                dwt: false,
+                value: 1,
+            },
+        ),
+        (
+            "1 ext dwt ffffffff",
+            ItmPacket::Extension {
+                dwt: true,
+                value: u32::MAX,
+            },
+        ),
     ];
     for (text, packet) in rows {
         check_itm(&rt, text, packet);
@@ -131,8 +149,16 @@ fn packets_of_an_itm_source(rt: HostRuntime) {
 #[test]
 fn hardware_packets(rt: HostRuntime) {
     let exception = |number, change| DwtItem::Exception { number, change };
-    let read = |comparator, size, value| DwtItem::Read { comparator, size, value };
-    let written = |comparator, size, value| DwtItem::Written { comparator, size, value };
+    let read = |comparator, size, value| DwtItem::Read {
+        comparator,
+        size,
+        value,
+    };
+    let written = |comparator, size, value| DwtItem::Written {
+        comparator,
+        size,
+        value,
+    };
     let rows: [(&str, DwtItem); 19] = [
         ("1 counters 00", DwtItem::Counters(0)),
         ("1 counters 3f", DwtItem::Counters(0x3F)),
@@ -142,17 +168,52 @@ fn hardware_packets(rt: HostRuntime) {
         ("1 exception 511 exit", exception(511, Change::Exit)),
         ("1 pc 08001234", DwtItem::Sample { pc: 0x0800_1234 }),
         ("1 asleep", DwtItem::Asleep),
-        ("1 cmp 0 pc 00000000", DwtItem::MatchPc { comparator: 0, pc: 0 }),
-        ("1 cmp 3 pc ffffffff", DwtItem::MatchPc { comparator: 3, pc: u32::MAX }),
-        ("1 cmp 3 addr ffff", DwtItem::MatchAddress { comparator: 3, low: 0xFFFF }),
+        (
+            "1 cmp 0 pc 00000000",
+            DwtItem::MatchPc {
+                comparator: 0,
+                pc: 0,
+            },
+        ),
+        (
+            "1 cmp 3 pc ffffffff",
+            DwtItem::MatchPc {
+                comparator: 3,
+                pc: u32::MAX,
+            },
+        ),
+        (
+            "1 cmp 3 addr ffff",
+            DwtItem::MatchAddress {
+                comparator: 3,
+                low: 0xFFFF,
+            },
+        ),
         ("1 cmp 0 read u8 2a", read(0, Size::One, 0x2A)),
         ("1 cmp 1 read u16 ffff", read(1, Size::Two, 0xFFFF)),
         ("1 cmp 3 read u32 00000001", read(3, Size::Four, 1)),
         ("1 cmp 0 write u8 2a", written(0, Size::One, 0x2A)),
         ("1 cmp 2 write u16 0102", written(2, Size::Two, 0x102)),
-        ("1 cmp 3 write u32 89abcdef", written(3, Size::Four, 0x89AB_CDEF)),
-        ("1 hw 3 u8 07", DwtItem::Other { disc: 3, size: Size::One, value: 7 }),
-        ("1 hw 31 u32 ffffffff", DwtItem::Other { disc: 31, size: Size::Four, value: u32::MAX }),
+        (
+            "1 cmp 3 write u32 89abcdef",
+            written(3, Size::Four, 0x89AB_CDEF),
+        ),
+        (
+            "1 hw 3 u8 07",
+            DwtItem::Other {
+                disc: 3,
+                size: Size::One,
+                value: 7,
+            },
+        ),
+        (
+            "1 hw 31 u32 ffffffff",
+            DwtItem::Other {
+                disc: 31,
+                size: Size::Four,
+                value: u32::MAX,
+            },
+        ),
     ];
     for (text, item) in rows {
         check_dwt(&rt, text, item);
@@ -194,23 +255,75 @@ fn items_of_an_stp_source(rt: HostRuntime) {
         ("2 async", StpItem::Async),
         ("2 version 0", StpItem::Version(0)),
         ("2 version 15", StpItem::Version(15)),
-        ("2 merr 65535 65535 ff", StpItem::MasterError { place: far, code: 0xFF }),
+        (
+            "2 merr 65535 65535 ff",
+            StpItem::MasterError {
+                place: far,
+                code: 0xFF,
+            },
+        ),
         ("2 gerr 00", StpItem::GlobalError { code: 0 }),
         ("2 gerr fF", StpItem::GlobalError { code: 0xFF }),
-        ("2 data 0 0 u4 f m -", datum(place(0, 0), Width::Four, 15, true, Stamp::None)),
-        ("2 data 1 0 u8 42 - n=5", datum(place(1, 0), Width::Eight, 0x42, false, Stamp::Natural(5))),
-        ("2 data 1 2 u16 ffff m g=0", datum(place(1, 2), Width::Sixteen, 0xFFFF, true, Stamp::Gray(0))),
-        ("2 data 1 2 u32 89abcdef - r=", datum(place(1, 2), Width::ThirtyTwo, 0x89AB_CDEF, false, raw(0, 0))),
+        (
+            "2 data 0 0 u4 f m -",
+            datum(place(0, 0), Width::Four, 15, true, Stamp::None),
+        ),
+        (
+            "2 data 1 0 u8 42 - n=5",
+            datum(place(1, 0), Width::Eight, 0x42, false, Stamp::Natural(5)),
+        ),
+        (
+            "2 data 1 2 u16 ffff m g=0",
+            datum(place(1, 2), Width::Sixteen, 0xFFFF, true, Stamp::Gray(0)),
+        ),
+        (
+            "2 data 1 2 u32 89abcdef - r=",
+            datum(place(1, 2), Width::ThirtyTwo, 0x89AB_CDEF, false, raw(0, 0)),
+        ),
         (
             "2 data 65535 65535 u64 ffffffffffffffff m n=18446744073709551615",
-            datum(far, Width::SixtyFour, u64::MAX, true, Stamp::Natural(u64::MAX)),
+            datum(
+                far,
+                Width::SixtyFour,
+                u64::MAX,
+                true,
+                Stamp::Natural(u64::MAX),
+            ),
         ),
         ("2 flag 0 0 -", flag(Stamp::None)),
-        ("2 trig ff -", StpItem::Trigger { code: 0xFF, stamp: Stamp::None }),
-        ("2 freq 0 -", StpItem::Frequency { hertz: 0, stamp: Stamp::None }),
-        ("2 freq 4294967295 n=1", StpItem::Frequency { hertz: u32::MAX, stamp: Stamp::Natural(1) }),
-        ("2 nullts n=0", StpItem::NullStamp { stamp: Stamp::Natural(0) }),
-        ("2 nullts g=18446744073709551615", StpItem::NullStamp { stamp: Stamp::Gray(u64::MAX) }),
+        (
+            "2 trig ff -",
+            StpItem::Trigger {
+                code: 0xFF,
+                stamp: Stamp::None,
+            },
+        ),
+        (
+            "2 freq 0 -",
+            StpItem::Frequency {
+                hertz: 0,
+                stamp: Stamp::None,
+            },
+        ),
+        (
+            "2 freq 4294967295 n=1",
+            StpItem::Frequency {
+                hertz: u32::MAX,
+                stamp: Stamp::Natural(1),
+            },
+        ),
+        (
+            "2 nullts n=0",
+            StpItem::NullStamp {
+                stamp: Stamp::Natural(0),
+            },
+        ),
+        (
+            "2 nullts g=18446744073709551615",
+            StpItem::NullStamp {
+                stamp: Stamp::Gray(u64::MAX),
+            },
+        ),
     ];
     for (text, item) in rows {
         check_stp(&rt, text, item);
@@ -236,13 +349,21 @@ fn raw_timestamps(rt: HostRuntime) {
 #[test]
 fn bytes_of_other_sources(rt: HostRuntime) {
     check_raw(&rt, "16 raw a5", 16, &[0xA5]);
-    check_raw(&rt, "126 raw 0102030405060708090A0b0c0d", 126, &[1, 2, 3, 4, 5, 6, 7, 8, 9, 10, 11, 12, 13]);
-    let mut line = *b"3 raw ................................................................................................................................................................................................................................................................................";
-    for byte in &mut line[6..] {
-        *byte = b'7';
-    }
+    check_raw(
+        &rt,
+        "126 raw 0102030405060708090A0b0c0d",
+        126,
+        &[1, 2, 3, 4, 5, 6, 7, 8, 9, 10, 11, 12, 13],
+    );
+    let mut line = [b'7'; 257];
+    line[..6].copy_from_slice(b"3 raw ");
     match read_line(&line[..206], &plan()) {
-        Ok(Line::Of { item: Item::Raw(bytes), .. }) => assert_eq!(rt; bytes.as_slice(), &[0x77; 100]),
+        Ok(
+            Line::Of {
+                item: Item::Raw(bytes),
+                ..
+            },
+        ) => assert_eq!(rt; bytes.as_slice(), [0x77; 100].as_slice()),
         other => panic!(&rt; "{other:?}"),
     }
     check_fault(&rt, &line[..205], LineFault::BadNumber);

@@ -21,7 +21,7 @@ returns-then-put_word-clause-told t c =
     c.put_words.ensures.told
     ∙ ap (λ (n : ℕ). are_words n (words_in c.in-Some.rest.now)) (c.put_word-in-Some.ensures.count c.if-put_word.true)
     ∙ more_told (array_vec_len c.args.words.now) c.args.text.now c.in-Some.word.now c.in-Some.rest.now parts.0 parts.1 parts.2
-        (sym c.put_word-in-Some.ensures.told ∙ c.if-put_word.true)
+    (sym c.put_word-in-Some.ensures.told ∙ c.if-put_word.true)
 
 pub returns-then-put_word-clause-put : goal.returns-then-put_word-clause-put
 returns-then-put_word-clause-put t c = λ h.
@@ -36,4 +36,4 @@ returns-else-put_word-clause-told t c =
     let parts = c.in-Some.ensures.byte (omega arith) (λ w o f. f) in
     c.if-put_word.false
     ∙ less_told (array_vec_len c.args.words.now) c.args.text.now c.in-Some.word.now c.in-Some.rest.now parts.0 parts.1 parts.2
-        (sym c.put_word-in-Some.ensures.told ∙ c.if-put_word.false)
+    (sym c.put_word-in-Some.ensures.told ∙ c.if-put_word.false)
