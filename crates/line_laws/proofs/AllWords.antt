@@ -1,10 +1,9 @@
 -- The words of an item are words, and few.
-use Rattle.std.proofs.Common.{◌≡◌, ℕ, zero, suc, ◌+◌, ◌*◌, ◌/◌, ◌%◌, ◌<◌, ◌≤◌, ◌^◌, List, [], ◌∷◌, ◌++◌, length, refl, sym, ◌∙◌, ap, subst, arith, Bool, true, false, Option, Some, None}
-use Rattle.std.specs.Prelude.{decimal, codes, ◌&&◌, ◌==◌, slice_index, IsSome}
+use Rattle.std.proofs.Common.{◌≡◌, ℕ, zero, suc, ◌/◌, ◌%◌, ◌<◌, ◌≤◌, ◌^◌, List, [], ◌∷◌, length, refl, arith, Bool, true, false, Option, Some, None}
+use Rattle.std.specs.Prelude.{decimal, codes}
 use Rattle.std.specs.Option.{ForSome}
 use Rattle.std.specs.List.{list_all}
 use Rattle.std.specs.Char.{is_ascii_hexdigit}
-use Rattle.std.proofs.lemmas.Bool.Decides.{nat_tests}
 use Rattle.hex.specs.Hex.{encode_lower, encode_with, lower_digits, IsBytes}
 use Rattle.hex.proofs.HexLemmas.{length-encode_with}
 use Rattle.itm_grammar.specs.Proper.{IsProper, first_bits}
@@ -34,8 +33,8 @@ use Rattle.script_text.specs.declared.items.Item.{Item}
 use Rattle.script_text.specs.declared.items.Item.TheVariants.{Itm, Dwt, Stp, Raw}
 use Rattle.script_text.specs.Said.{IsSayable}
 use Rattle.line_laws.proofs.Digits.{both, digit_hexadecimal, digits_hexadecimal}
-use Rattle.line_laws.proofs.Joining.{is_word, graphic, are_all, decimal_word, hexadecimal_word, word_graphic, graphic_word, digits_graphic}
-use Rattle.line_laws.proofs.ItemWords.{value_words, itm_words, dwt_words, placed, stp_words, words_of}
+use Rattle.line_laws.proofs.Joining.{is_word, are_all, decimal_word, hexadecimal_word, word_graphic, graphic_word, digits_graphic}
+use Rattle.line_laws.proofs.ItemWords.{value_words, itm_words, dwt_words, stp_words, words_of}
 
 word_and : (word : List ℕ) (words : List (List ℕ)) → is_word word ≡ true → are_all words ≡ true → are_all (word ∷ words) ≡ true
 word_and word words p q = both (is_word word) (are_all words) p q

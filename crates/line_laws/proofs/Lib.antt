@@ -5,3 +5,7 @@ pub mod AllWords
 pub mod Naming
 pub mod Reading
 pub mod TextLaw
+pub mod Fitting
+pub mod Lowering
+pub mod Saying
+pub mod LineLaw

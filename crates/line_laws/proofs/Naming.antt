@@ -1,5 +1,5 @@
 -- The words of an item have its shape.
-use Rattle.std.proofs.Common.{◌≡◌, ℕ, List, ◌∷◌, refl, Some, true, false, Bool}
+use Rattle.std.proofs.Common.{◌≡◌, refl, Some, true, false}
 use Rattle.itm_grammar.specs.declared.packet.Size.TheVariants.{One, Two, Four}
 use Rattle.itm_grammar.specs.declared.packet.Lateness.TheVariants.{Exact, StampLate, PacketLate, BothLate}
 use Rattle.itm_grammar.specs.declared.packet.ItmPacket.{ItmPacket}
@@ -7,7 +7,6 @@ use Rattle.itm_grammar.specs.declared.packet.ItmPacket.TheVariants as itm
 use Rattle.dwt_packets.specs.declared.item.Change.TheVariants.{Enter, Exit, Return}
 use Rattle.dwt_packets.specs.declared.item.DwtItem.{DwtItem}
 use Rattle.dwt_packets.specs.declared.item.DwtItem.TheVariants as dwt
-use Rattle.stp_grammar.specs.declared.packet.Width.{Width}
 use Rattle.stp_grammar.specs.declared.packet.Width.TheVariants as widths
 use Rattle.stp_grammar.specs.declared.item.StpItem.{StpItem}
 use Rattle.stp_grammar.specs.declared.item.StpItem.TheVariants as stp

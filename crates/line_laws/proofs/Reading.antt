@@ -1,19 +1,18 @@
 -- The words of an item read as that item.
-use Rattle.std.proofs.Common.{◌≡◌, ℕ, zero, suc, ◌+◌, ◌-◌, ◌*◌, ◌/◌, ◌<◌, ◌≤◌, ◌^◌, List, [], ◌∷◌, ◌++◌, length, refl, sym, ◌∙◌, ap, subst, arith, Bool, true, false, Some, None, Option}
-use Rattle.std.specs.Prelude.{decimal, codes, nat_lt, nat_le, ◌&&◌, ◌||◌, ◌==◌, not, if◌then◌else◌, option_map, IsSome}
+use Rattle.std.proofs.Common.{◌≡◌, ℕ, zero, suc, ◌-◌, ◌*◌, ◌/◌, ◌<◌, ◌≤◌, ◌^◌, List, [], ◌∷◌, length, refl, sym, ◌∙◌, ap, arith, Bool, true, false, Some, None, Option}
+use Rattle.std.specs.Prelude.{decimal, codes, nat_lt, nat_le, ◌==◌, option_map, IsSome}
 use Rattle.std.specs.Option.{ForSome}
 use Rattle.std.proofs.lemmas.Bool.Decides.{nat_tests}
 use Rattle.std.proofs.lemmas.Fmt.{decimal_digit}
 use Rattle.hex.specs.Hex.{encode_lower, lower_digits, IsBytes}
 use Rattle.hex.proofs.HexLemmas.{decode_of-encode_lower, length-encode_with}
 use Rattle.itm_grammar.specs.Spelling.{byte_count}
-use Rattle.itm_grammar.specs.Proper.{IsProper, first_bits, second_bits}
+use Rattle.itm_grammar.specs.Proper.{IsProper, second_bits}
 use Rattle.itm_grammar.specs.declared.packet.Size.{Size}
 use Rattle.itm_grammar.specs.declared.packet.Size.TheVariants.{One, Two, Four}
 use Rattle.itm_grammar.specs.declared.packet.ItmPacket.{ItmPacket}
 use Rattle.itm_grammar.specs.declared.packet.ItmPacket.TheVariants as itm
 use Rattle.dwt_packets.specs.Packet.{IsInRange}
-use Rattle.dwt_packets.specs.Table.{name}
 use Rattle.dwt_packets.proofs.FirstRow.{no_row}
 use Rattle.dwt_packets.proofs.Inverses.{in_range}
 use Rattle.dwt_packets.specs.declared.item.DwtItem.{DwtItem}
@@ -29,14 +28,14 @@ use Rattle.stp_grammar.specs.declared.item.StpItem.{StpItem}
 use Rattle.stp_grammar.specs.declared.item.StpItem.TheVariants as stp
 use Rattle.trace_text.specs.HexDigits.{hex_digits}
 use Rattle.trace_text.specs.ItemText.{flag_text}
-use Rattle.trace_text.specs.StpText.{known_text, stamp_text}
+use Rattle.trace_text.specs.StpText.{known_text, width_text, mark_text, stamp_text}
 use Rattle.decimal_words.specs.Numbers.{number_named}
 use Rattle.decimal_words.proofs.Numbers.{names_number}
 use Rattle.script_text.specs.declared.items.Item.{Item}
 use Rattle.script_text.specs.declared.items.Item.TheVariants.{Itm, Dwt, Stp, Raw}
 use Rattle.script_text.specs.Numbers.{hexadecimal_named}
 use Rattle.script_text.specs.Stamps.{size_with, raw_named, time_named, stamp_named}
-use Rattle.script_text.specs.Items.{itm_of, dwt_of, first_stamp, first_checked, is_first, unnamed, counters_within, place_of, datum_of, null_stamp, stp_of, decoded, bytes_named, item_of}
+use Rattle.script_text.specs.Items.{itm_of, dwt_of, first_stamp, is_first, unnamed, counters_within, place_of, datum_of, stp_of, decoded, bytes_named, item_of}
 use Rattle.script_text.specs.Said.{IsSaidItm, IsSaidStp, IsKnown, IsSayable}
 use Rattle.script_text.proofs.Hexadecimals.{said_is}
 use Rattle.line_laws.proofs.Digits.{digits_length, digits_hexadecimal, digits_say}
@@ -245,7 +244,7 @@ datum_read : (place : Place) (width : Width) (value : ℕ) (marked : Bool) (stam
     datum_of width marked (stp_words (stp.Datum place width value marked stamp)) ≡ Some (stp.Datum place width value marked stamp)
 unfolding datum_of
 datum_read place width value marked stamp h k =
-    let p = place_read (codes "data") place _ h.0 k in
+    let p = place_read (codes "data") place (width_text width ∷ (hex_digits (bits_of width / 4) value ∷ (mark_text marked ∷ (stamp_text stamp ∷ [])))) h.0 k in
     let v = datum_value width value h.1 in
     let s = stamp_read stamp h.2 in
     rw (p, v, s) refl

@@ -1,9 +1,7 @@
 -- Words that say an item are those of its text, with their digits in lower case.
-use Rattle.std.proofs.Common.{◌≡◌, ℕ, zero, suc, ◌+◌, ◌-◌, ◌*◌, ◌/◌, ◌<◌, ◌≤◌, ◌^◌, List, [], ◌∷◌, map, refl, sym, ◌∙◌, ap, subst, arith, Bool, true, false, Some, None, Option}
-use Rattle.std.specs.Prelude.{codes, decimal, nat_le, ◌==◌, option_map}
+use Rattle.std.proofs.Common.{◌≡◌, ℕ, zero, suc, ◌-◌, ◌*◌, ◌/◌, ◌<◌, ◌^◌, List, [], ◌∷◌, map, refl, sym, ◌∙◌, ap, subst, arith, Bool, true, false, Some}
+use Rattle.std.specs.Prelude.{codes, decimal, nat_le, ◌==◌}
 use Rattle.std.proofs.lemmas.Fmt.{decimal_digit}
-use Rattle.std.proofs.lemmas.Bool.Decides.{nat_tests}
-use Rattle.hex.specs.Hex.{encode_lower}
 use Rattle.itm_grammar.specs.Spelling.{byte_count}
 use Rattle.itm_grammar.specs.Proper.{second_bits}
 use Rattle.itm_grammar.specs.declared.packet.Size.{Size}
@@ -29,7 +27,7 @@ use Rattle.stp_grammar.specs.declared.item.StpItem.{StpItem}
 use Rattle.stp_grammar.specs.declared.item.StpItem.TheVariants as stp
 use Rattle.trace_text.specs.HexDigits.{hex_digits}
 use Rattle.trace_text.specs.ItemText.{lateness_text, flag_text, bits_text, owner_text}
-use Rattle.trace_text.specs.StpText.{known_text, width_text, mark_text, stamp_text}
+use Rattle.trace_text.specs.StpText.{known_text, width_text, mark_text}
 use Rattle.decimal_words.specs.Numbers.{number_named}
 use Rattle.decimal_words.proofs.Numbers.{number_is}
 use Rattle.script_text.specs.declared.shapes.Shape.{Shape}
@@ -50,8 +48,8 @@ use Rattle.script_text.specs.Items.{itm_of, first_stamp, is_first, dwt_of, unnam
 use Rattle.script_text.proofs.Options.{bind_some, some_of, map_some, chosen_some, value_small}
 use Rattle.script_text.proofs.DwtRanges.{unnamed_is}
 use Rattle.line_laws.specs.Lowered.{lowered}
-use Rattle.line_laws.proofs.ItemWords.{value_words, itm_words, dwt_words, placed, stp_words, words_of}
-use Rattle.line_laws.proofs.Fitting.{Given, by_fields, itm_word, dwt_word, stp_word, word_of_shape}
+use Rattle.line_laws.proofs.ItemWords.{value_words, itm_words, dwt_words, stp_words, words_of}
+use Rattle.line_laws.proofs.Fitting.{by_fields, itm_word, dwt_word, stp_word, word_of_shape}
 use Rattle.line_laws.proofs.Lowering.{number_lowered, hexadecimal_lowered, stamp_lowered, bytes_lowered}
 
 abbrev pub low : List (List ℕ) → List (List ℕ)

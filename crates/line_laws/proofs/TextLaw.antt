@@ -1,12 +1,11 @@
 -- The text of an item reads back as that item.
-use Rattle.std.proofs.Common.{◌≡◌, ℕ, ◌+◌, ◌*◌, ◌<◌, ◌≤◌, ◌^◌, List, [], ◌∷◌, ◌++◌, length, length-append, refl, sym, ◌∙◌, ap, arith, Bool, true, false, Some, None, Ok, Err, Result, subst}
-use Rattle.std.specs.Prelude.{decimal, codes, ◌&&◌, ◌==◌, nat_lt, ok_or, slice_index, if◌then◌else◌}
+use Rattle.std.proofs.Common.{◌≡◌, ℕ, ◌<◌, ◌≤◌, ◌^◌, List, [], ◌∷◌, ◌++◌, length, length-append, refl, sym, ◌∙◌, ap, arith, Bool, true, false, Some, Ok, Err, Result, subst}
+use Rattle.std.specs.Prelude.{decimal, codes, nat_lt, slice_index, if◌then◌else◌}
 use Rattle.std.proofs.lemmas.Bool.Decides.{nat_tests}
 use Rattle.std.proofs.lemmas.Fmt.{first_decimal, length-decimal-le}
 use Rattle.hex.specs.Hex.{encode_lower, lower_digits}
 use Rattle.hex.proofs.HexLemmas.{length-encode_with}
 use Rattle.itm_grammar.specs.declared.packet.ItmPacket.TheVariants as itm
-use Rattle.dwt_packets.specs.Table.{name}
 use Rattle.dwt_packets.specs.Packet.{IsProperItem}
 use Rattle.dwt_packets.specs.declared.item.DwtItem.{DwtItem}
 use Rattle.stp_grammar.specs.Proper.{IsProperItem as IsProperStp}
@@ -19,7 +18,6 @@ use Rattle.source_events.specs.declared.packet.Packet.{Packet}
 use Rattle.source_events.specs.declared.packet.Packet.TheVariants as packets
 use Rattle.trace_text.specs.HardwareText.{hardware_text}
 use Rattle.trace_text.specs.StpText.{stp_text}
-use Rattle.trace_text.specs.LineText.{event_line}
 use Rattle.trace_text.specs.declared.remark.Remark.TheVariants.{None as NoRemark}
 use Rattle.trace_text.proofs.LongestLines.{item as item_short, event as event_short}
 use Rattle.decimal_words.specs.Numbers.{number_named}
@@ -28,10 +26,10 @@ use Rattle.script_text.specs.declared.shapes.Shape.{Shape}
 use Rattle.script_text.specs.declared.items.Item.{Item}
 use Rattle.script_text.specs.declared.items.Item.TheVariants.{Itm, Dwt, Stp, Raw}
 use Rattle.script_text.specs.declared.lines.Line.{Line}
-use Rattle.script_text.specs.declared.lines.Line.TheVariants.{Nothing, Of}
+use Rattle.script_text.specs.declared.lines.Line.TheVariants.{Nothing}
 use Rattle.script_text.specs.declared.line_fault.LineFault.{LineFault}
-use Rattle.script_text.specs.declared.line_fault.LineFault.TheVariants.{LongLine, BadLine, BadId, BadNumber}
-use Rattle.script_text.specs.Words.{words_in, are_words}
+use Rattle.script_text.specs.declared.line_fault.LineFault.TheVariants.{LongLine, BadLine}
+use Rattle.script_text.specs.Words.{are_words}
 use Rattle.script_text.specs.Shapes.{shape_named}
 use Rattle.script_text.specs.Items.{item_of}
 use Rattle.script_text.specs.Lines.{taken_by, line_of_words, line_of_printable, line_of, is_nothing, are_printable}
@@ -90,7 +88,8 @@ stp_short : (item : StpItem) → IsProperStp item → length (stp_text item) ≤
 stp_short item h =
     let line = event_short true (event_of item) NoRemark (record { proper = h; suits = tt; source = refl })
         (record { at = length-decimal-le 20 0 (omega arith) (omega arith) (omega arith); half = length-decimal-le 3 0 (omega arith) (omega arith) (omega arith); source = length-decimal-le 3 1 (omega arith) (omega arith) (omega arith); what = tt }) tt in
-    ?
+    let parts = simp length-append at line in
+    omega arith
 
 raw_short : (bytes : List ℕ) → length bytes ≤ 100 → length (text_of (Raw bytes)) ≤ 204
 raw_short bytes h = let len = length-encode_with lower_digits bytes in let app = length-append (codes "raw ") (encode_lower bytes) in omega arith
@@ -108,6 +107,11 @@ line_short id item h say =
     let app = length-append (decimal id) (32 ∷ text_of item) in
     omega arith
 
+-- the text after an ID is words, joined by spaces
+pub whole_text : (id : ℕ) (item : Item) → IsSayable item → decimal id ++ (32 ∷ text_of item) ≡ joined (decimal id ∷ words_of item)
+whole_text id item say =
+    ap (λ (l : List ℕ). decimal id ++ (32 ∷ l)) (text_joined item say) ∙ sym (joined_more (decimal id) (words_of item) (few_words item say).0)
+
 -- the line of an item, under a source's number, is that item, where the source is one for it
 pub text_reads : (plan : Plan) (id : ℕ) (item : Item) → 1 ≤ id → id ≤ 126 → IsSayable item →
     line_of plan (decimal id ++ (32 ∷ text_of item)) ≡ taken_by (kind_of plan id) id item
@@ -117,8 +121,7 @@ text_reads plan id item low high say =
     let few = few_words item say in
     let d = decimal_word id small in
     let all = both (is_word (decimal id)) (are_all words) d (words_all item say) in
-    let whole : decimal id ++ (32 ∷ text_of item) ≡ joined (decimal id ∷ words) =
-        ap (λ (l : List ℕ). decimal id ++ (32 ∷ l)) (text_joined item say) ∙ sym (joined_more (decimal id) words few.0) in
+    let whole : decimal id ++ (32 ∷ text_of item) ≡ joined (decimal id ∷ words) = whole_text id item say in
     let n = no_remark (decimal id) d (first_decimal id low small) in
     let some : is_nothing (joined (decimal id ∷ words)) ≡ false =
         ap is_nothing (joined_more (decimal id) words few.0) ∙ digit_first (decimal id) (32 ∷ joined words) d n in
