@@ -58,6 +58,13 @@ impl SureWriter {
         }
     }
 
+    /// How many frames are whole, also where the last of them is kept back.
+    pub fn frames(&self) -> u64
+        ensures { result ≡ count_of self.now }
+    {
+        self.writer.frames()
+    }
+
     /// Puts a byte of a source other than 0, and gives what has become sure: nothing, or one frame.
     pub fn put(&mut self, id: SourceId, byte: u8, out: &mut TwoFrames)
         requires source { 0 < id }

@@ -6,3 +6,4 @@ pub mod Shapes
 pub mod Items
 pub mod Lines
 pub mod Said
+pub mod Rows

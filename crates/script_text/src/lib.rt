@@ -9,6 +9,7 @@ mod lines;
 mod numbers;
 mod places;
 mod raw_bytes;
+pub mod rows;
 mod shapes;
 mod stamps;
 mod stp_shapes;
