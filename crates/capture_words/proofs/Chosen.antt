@@ -11,9 +11,11 @@ use Rattle.item_tap.specs.declared.choice.Choice.{Choice}
 use Rattle.item_tap.specs.declared.choice.Choice.TheVariants.{OfKind, Source, Port}
 use Rattle.item_tap.specs.declared.choice.Kind.{Kind}
 use Rattle.item_tap.specs.declared.choice.Kind.TheVariants.{Itm, Dwt, Stp, Raw, Trigger}
-use Rattle.capture_words.specs.Values.{kind_named, number_named, number_after, text_after, choice_named, or_else}
+use Rattle.decimal_words.specs.Numbers.{number_named, number_after, text_after}
+use Rattle.decimal_words.proofs.Fronts.{begins}
+use Rattle.decimal_words.proofs.Numbers.{names_number, number_is}
+use Rattle.capture_words.specs.Values.{kind_named, choice_named, or_else}
 use Rattle.capture_words.specs.Choices.{kind_text, choice_text, IsChoice}
-use Rattle.capture_words.proofs.Numbers.{names_number, number_is}
 
 -- from the choice to its text
 kind_named_so : (kind : Kind) → choice_named (kind_text kind) ≡ Some (OfKind kind)
@@ -68,12 +70,6 @@ kind_is text kind e = elim (by_name text (codes "itm") Itm kind _ e) [
       ]
     ]
   ]
-]
-
-begins : (front text rest : List ℕ) → text_after front text ≡ Some rest → text ≡ front ++ rest
-begins front text rest e = elim (picked (starts_with nat_eq text front) (drop (length front) text) rest None e) [
-  | inl h ↦ (starts_is Decides-eqb text front _ refl).0 h.0 ∙ ap (λ r. front ++ r) h.1
-  | inr e ↦ absurd (grind arith)
 ]
 
 number_after_is : (front text : List ℕ) (least greatest n : ℕ) → number_after front least greatest text ≡ Some n →

@@ -1,9 +1,7 @@
 -- What the texts of the action and of the options say.
-use Rattle.std.specs.Prelude.{ℕ, ◌^◌, List, codes, Option, Some, None, Result, nat_le, Bool, ◌&&◌, if◌then◌else◌}
-use Rattle.std.specs.Prelude.{ok_or, option_and_then, option_map, decimal, nat_eq, length, drop}
-use Rattle.std.specs.List.{starts_with}
+use Rattle.std.specs.Prelude.{ℕ, ◌^◌, List, codes, Option, Some, None, Result, if◌then◌else◌}
+use Rattle.std.specs.Prelude.{ok_or, option_and_then, option_map}
 use Rattle.std.specs.Str.{bytes_eq}
-use Rattle.std.specs.Str.Parse.{digits_value}
 use Rattle.clap.specs.Words.{Text, Row, first_of}
 use Rattle.capture_plan.specs.Modes.{frames_named, packets_named}
 use Rattle.capture_plan.specs.declared.frames.FramesMode.{FramesMode}
@@ -17,6 +15,7 @@ use Rattle.item_tap.specs.declared.choice.Choice.TheVariants.{OfKind, Source, Po
 use Rattle.item_tap.specs.declared.choice.Kind.{Kind}
 use Rattle.item_tap.specs.declared.choice.Kind.TheVariants.{Itm as ItmKind, Dwt as DwtKind, Stp as StpKind}
 use Rattle.item_tap.specs.declared.choice.Kind.TheVariants.{Raw as RawKind, Trigger as TriggerKind}
+use Rattle.decimal_words.specs.Numbers.{number_named, number_after}
 use Rattle.capture_words.specs.Command.{option_name}
 use Rattle.capture_words.specs.declared.option.CommandOption.{CommandOption}
 use Rattle.capture_words.specs.declared.option.CommandOption.TheVariants.{Frames, Packets, Itm, Stp, StpOrder, Id}
@@ -34,16 +33,6 @@ action_named text =
     else if bytes_eq text (codes "check") then Some Check
     else None
 
--- the number from `least` to `greatest` whose decimal the text is. A decimal has no sign, and no leading zero
--- unless it is 0. No other number than the value of its digits can be meant.
-abbrev pub is_number : ℕ → ℕ → Text → ℕ → Bool
-is_number least greatest text n = nat_le least n && nat_le n greatest && bytes_eq (decimal n) text
-
--- and that number, if there is one
-abbrev pub number_named : ℕ → ℕ → Text → Option ℕ
-number_named least greatest text =
-    if is_number least greatest text (digits_value 10 text) then Some (digits_value 10 text) else None
-
 -- the order of nibbles that a text names
 abbrev pub order_named : Text → Option Order
 order_named text =
@@ -58,15 +47,6 @@ kind_named text =
     else if bytes_eq text (codes "raw") then Some RawKind
     else if bytes_eq text (codes "trigger") then Some TriggerKind
     else None
-
--- what comes after this front of a text, if the text begins with it
-abbrev pub text_after : Text → Text → Option Text
-text_after front text =
-    if starts_with nat_eq text front then Some (drop (length front) text) else None
-
--- the number from `least` to `greatest` that comes after this front of a text
-abbrev pub number_after : Text → ℕ → ℕ → Text → Option ℕ
-number_after front least greatest text = option_and_then (number_named least greatest) (text_after front text)
 
 -- the first of two values that there is
 abbrev pub or_else : {T : Type 0} → Option T → Option T → Option T

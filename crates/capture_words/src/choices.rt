@@ -1,9 +1,10 @@
 //! Choices of events in words.
 
-ghost use Rattle.std.specs.Prelude.{◌≡◌, ◌≤◌, option_map};
-ghost use Rattle.capture_words.specs.Values.{kind_named, text_after, number_after, choice_named};
+ghost use Rattle.std.specs.Prelude.{◌≡◌};
+ghost use Rattle.decimal_words.specs.Numbers.{number_after};
+ghost use Rattle.capture_words.specs.Values.{kind_named, choice_named};
 
-use crate::number::{id_named, number_named};
+use decimal_words::{id_named, number_named, text_after};
 use item_tap::{Choice, Kind};
 use trace_values::SourceId;
 
@@ -19,13 +20,6 @@ fn kind_named(name: &str) -> Option<Kind>
         "trigger" => Some(Kind::Trigger),
         _ => None,
     }
-}
-
-/// What comes after this front of a text, if the text begins with it.
-fn text_after<'a>(front: &str, text: &'a str) -> Option<&'a str>
-    ensures { option_map (λ s. s.now) result ≡ text_after front.now text.now }
-{
-    text.strip_prefix(front)
 }
 
 /// The source, 1 to 126, whose number comes after this front of a text.

@@ -1,11 +1,11 @@
 //! Laws of the words, over their definitions alone.
 
-ghost use Rattle.std.specs.Prelude.{◌≡◌, ◌≤◌, ◌<◌, ◌^◌, ◌⊎◌, ◌↔◌, ℕ, List, Some, decimal};
+ghost use Rattle.std.specs.Prelude.{◌≡◌, ◌⊎◌, ◌↔◌, List, Some};
 ghost use Rattle.clap.specs.Words.{Text};
 ghost use Rattle.capture_words.specs.Calls.{AsksFor, Misuses, IsMisuse};
 ghost use Rattle.item_tap.specs.declared.choice.Choice.{Choice};
 ghost use Rattle.capture_words.specs.Choices.{IsChoice, choice_text};
-ghost use Rattle.capture_words.specs.Values.{number_named, choice_named};
+ghost use Rattle.capture_words.specs.Values.{choice_named};
 ghost use Rattle.capture_words.specs.declared.job.Job.{Job};
 ghost use Rattle.capture_words.specs.declared.usage.UsageFault.{UsageFault};
 
@@ -15,12 +15,6 @@ pub fn calls_law()
     ensures not_both { (words : List Text) (job : Job) → AsksFor words job → IsMisuse words → ⊥ }
     ensures one_job { (words : List Text) (a b : Job) → AsksFor words a → AsksFor words b → a ≡ b }
     ensures one_fault { (words : List Text) (a b : UsageFault) → Misuses words a → Misuses words b → a ≡ b }
-{}
-
-/// A text names exactly the number within the bounds whose decimal it is.
-pub fn number_law()
-    ensures { (least greatest n : ℕ) (text : Text) → greatest < 2 ^ 64 →
-        ((number_named least greatest text ≡ Some n) ↔ ((least ≤ n) × (n ≤ greatest) × (text ≡ decimal n))) }
 {}
 
 /// A text names exactly the choice within the bounds whose text it is.

@@ -6,7 +6,6 @@ mod command;
 mod entries;
 mod job;
 mod laws;
-mod number;
 mod option;
 mod reading;
 mod rows;

@@ -7,11 +7,11 @@ ghost use Rattle.capture_words.specs.Values.{action_named, order_named, action_i
 ghost use Rattle.capture_words.specs.Values.{itm_in, stp_in, order_in, id_in, only_in, limit_in};
 
 use crate::choices::choice_named;
-use crate::number::{id_named, number_named};
 use crate::option::CommandOption;
 use crate::usage::UsageFault;
 use capture_plan::{FramesMode, PacketsMode};
 use clap::ArgMatches;
+use decimal_words::{id_named, number_named};
 use item_tap::Choice;
 use stp_grammar::packet::Order;
 use trace_values::SourceId;

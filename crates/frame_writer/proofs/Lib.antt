@@ -4,3 +4,5 @@ pub mod Law
 pub mod Standing
 pub mod ReadingBack
 pub mod Room
+pub mod Fronts
+pub mod Sureness

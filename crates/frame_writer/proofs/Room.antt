@@ -12,6 +12,10 @@ use Rattle.frame_writer.specs.Writer.{to_come, appended, Stands}
 use Rattle.frame_writer.proofs.Frames.{filled_fewer, filled_less, by_nothing, by_some, opens, nothing}
 use Rattle.frame_writer.proofs.Law.{filled_length}
 
+pub no_frames : (every halves n : ℕ) (c : Option ℕ) (t : List Tagged) → frames_by every halves zero n c t ≡ []
+unfolding frames_by
+no_frames every halves n c t = refl
+
 none_within : (every halves n : ℕ) (c : Option ℕ) (t : List Tagged) → length (frames_by every halves zero n c t) ≤ zero
 unfolding frames_by
 none_within every halves n c t = omega arith
@@ -49,7 +53,7 @@ sync_bytes : (b : Bool) → length (cond {A = List ℕ} b (255 ∷ (255 ∷ (255
 sync_bytes true = omega arith
 sync_bytes false = omega arith
 
-frame_size : (every halves n : ℕ) (pairs : List Pair) (even : ℕ) (last : Bool) → halves ≤ 8 → length pairs ≤ 7 → length (frame_bytes every halves n pairs even last) ≤ 132
+pub frame_size : (every halves n : ℕ) (pairs : List Pair) (even : ℕ) (last : Bool) → halves ≤ 8 → length pairs ≤ 7 → length (frame_bytes every halves n pairs even last) ≤ 132
 unfolding frame_bytes
 frame_size every halves n pairs even last h k =
     let a = length-append (sync every n) (spread halves pairs ++ (even ∷ (aux_byte pairs last ∷ []))) in

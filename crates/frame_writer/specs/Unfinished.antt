@@ -1,5 +1,5 @@
 -- What follows an unfinished frame.
-use Rattle.std.specs.Prelude.{ℕ, ◌+◌, ◌-◌, List, [], ◌∷◌, ◌++◌, length, Bool, true, false, not, ◌&&◌, Option, None}
+use Rattle.std.specs.Prelude.{◌≡◌, ℕ, ◌+◌, ◌-◌, List, [], ◌∷◌, ◌++◌, length, Bool, true, false, not, ◌&&◌, Option, None}
 use Rattle.std.specs.Prelude.{Some, nat_lt}
 use Rattle.frame_writer.specs.declared.pair.Pair.{Pair}
 use Rattle.frame_writer.specs.Written.{Tagged, filled, frame_bytes, frames_from, is_due}
@@ -34,3 +34,7 @@ is_sound every n pairs None (Some b) = false
 is_sound every n pairs (Some i) None = not (is_empty pairs && is_due every n)
 is_sound every n pairs (Some i) (Some b) =
     (nat_lt 0 i && nat_lt (length pairs) 7) && not (is_empty pairs && is_due every n)
+
+-- one list
+abbrev pub HasOne : List (List ℕ) → Type 0
+HasOne l = (x : List ℕ) × (l ≡ x ∷ [])

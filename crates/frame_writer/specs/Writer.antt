@@ -1,5 +1,5 @@
 -- What a writer stands for.
-use Rattle.std.specs.Prelude.{◌≡◌, ℕ, List, [], ◌∷◌, ◌++◌, length}
+use Rattle.std.specs.Prelude.{◌≡◌, ℕ, ◌+◌, ◌*◌, List, [], ◌∷◌, ◌++◌, length}
 use Rattle.std.specs.List.{concat}
 use Rattle.frame_writer.specs.declared.writer.FrameWriter.{FrameWriter}
 use Rattle.frame_writer.specs.Written.{Tagged, frames}
@@ -12,6 +12,10 @@ to_come w t = continued w.every w.halves w.frames w.pairs.items w.id w.held t
 -- how many frames it has appended
 abbrev pub appended : FrameWriter → ℕ
 appended w = w.frames
+
+-- seven for each frame, and one for each pair of the unfinished one: two more at most with each byte put
+abbrev pub load_of : FrameWriter → ℕ
+load_of w = 7 * w.frames + length w.pairs.items
 
 -- what one call appended: no frame, or these bytes as one frame
 abbrev pub as_frame : List ℕ → List (List ℕ)

@@ -31,7 +31,8 @@ pub(crate) fn aux_of(pairs: &[Pair], last: bool) -> u8
 /// Appends the full synchronisation that comes before the frame of this number, if there is one.
 pub(crate) fn append_sync(every: u32, frame: u64, out: &mut ArrayVec<u8, 264>)
     requires room { out.old.items ≡ [] }
-    ensures { out.new.items ≡ sync every frame }
+    ensures items { out.new.items ≡ sync every frame }
+    ensures len { length out.new.items ≤ 4 }
 {
     if is_sync_due(every, frame) {
         out.push(0xFF);

@@ -5,6 +5,7 @@ ghost use Rattle.std.specs.List.{All, concat};
 ghost use Rattle.frame_writer.specs.declared.writer.FrameWriter.{FrameWriter};
 ghost use Rattle.frame_writer.specs.Written.{Tagged, capture, frames_by, frames_from};
 ghost use Rattle.frame_writer.specs.Writer.{Stands, appended, to_come};
+ghost use Rattle.frame_writer.specs.Fronts.{sure};
 ghost use Rattle.frame_writer.specs.ReadBack.{IsOfSource, ReadsBack};
 
 /// What is written reads back: the capture of bytes of the sources 1 to 126 has no fault, no tail and no
@@ -41,4 +42,13 @@ pub fn room_law()
 pub fn count_law()
     ensures { (w : FrameWriter) → (every halves : ℕ) → (t : List Tagged) → (so_far : List ℕ) →
         Stands w every halves t so_far → appended w ≤ length t }
+{}
+
+/// What is sure of some bytes is a front of what is sure of each longer list, and of their capture, which is at most
+/// one frame longer.
+pub fn sure_law()
+    ensures grows { (every halves : ℕ) → (t u : List Tagged) →
+        (rest : List ℕ) × (sure every halves (t ++ u) ≡ sure every halves t ++ rest) }
+    ensures front { (every halves : ℕ) → (t : List Tagged) → halves ≤ 8 →
+        (rest : List ℕ) × (capture every halves t ≡ sure every halves t ++ rest) × (length rest ≤ 132) }
 {}

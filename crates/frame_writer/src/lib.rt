@@ -6,8 +6,10 @@ mod frame;
 pub mod laws;
 mod pair;
 pub mod rows;
+mod sure;
 #[cfg(test)]
 mod tests;
 mod writer;
 
+pub use sure::{SureWriter, TwoFrames};
 pub use writer::FrameWriter;

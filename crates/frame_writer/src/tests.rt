@@ -1,7 +1,7 @@
 ghost use Rattle.std.specs.Prelude.{IsTrue};
 ghost use Rattle.frame_grammar.specs.Frame.{IsProperFrame};
 
-use crate::FrameWriter;
+use crate::{FrameWriter, SureWriter};
 use arrayvec::ArrayVec;
 use frame_grammar::frame::cells_of;
 use std::process::Abort;
@@ -255,4 +255,54 @@ fn reads_back_any_bytes(rt: HostRuntime) {
             }
         }
     }
+}
+
+// Puts bytes, each of its source, and checks what becomes sure with each of them, and the rest.
+fn check_sure(rt: &impl Abort, bytes: &[(u8, u8)], sizes: &[usize], expected: &[u8]) {
+    let mut writer = SureWriter::new(0, 0);
+    let mut written: ArrayVec<u8, 64> = ArrayVec::new();
+    for (k, (number, byte)) in bytes.iter().enumerate() {
+        let id = SourceId::new(*number).unwrap_or_default();
+        assert!(rt; id.number() > 0 && writer.frames() < COUNT_ROOM);
+        let mut out = ArrayVec::new();
+        writer.put(id, *byte, &mut out);
+        assert_eq!(rt; Some(&out.len()), sizes.get(k), "byte {k}");
+        assert!(rt; written.try_extend_from_slice(out.as_slice()).is_ok());
+    }
+    let mut out = ArrayVec::new();
+    writer.copied().rest(&mut out);
+    assert!(rt; written.try_extend_from_slice(out.as_slice()).is_ok());
+    assert_eq!(rt; written.as_slice(), expected);
+}
+
+// A frame is sure once a byte is put after it, and not before: the capture of fourteen bytes of source 1 is one whole
+// frame, which is kept back.
+#[test]
+fn frames_become_sure(rt: HostRuntime) {
+    check_sure(&rt, &[], &[], &[]);
+    let full = [0x03, 1, 2, 3, 4, 5, 6, 7, 8, 9, 10, 11, 12, 13, 14, 0x00];
+    let bytes: [(u8, u8); 15] = [
+        (1, 1),
+        (1, 2),
+        (1, 3),
+        (1, 4),
+        (1, 5),
+        (1, 6),
+        (1, 7),
+        (1, 8),
+        (1, 9),
+        (1, 10),
+        (1, 11),
+        (1, 12),
+        (1, 13),
+        (1, 14),
+        (1, 15),
+    ];
+    let mut sizes = [0; 15];
+    check_sure(&rt, &bytes[..14], &sizes, &full);
+    sizes[14] = 16;
+    let mut both = [0; 32];
+    both[..16].copy_from_slice(&full);
+    both[16..].copy_from_slice(&[0x01, 0x0F, 0, 0, 0, 0, 0, 0, 0, 0, 0, 0, 0, 0, 0, 0x01]);
+    check_sure(&rt, &bytes, &sizes, &both);
 }

@@ -26,8 +26,9 @@ pub struct FrameWriter {
 }
 
 impl FrameWriter {
-    ghost use Rattle.std.specs.Prelude.{ℕ, ◌<◌, ◌+◌, ◌++◌, ◌∷◌, [], List, None};
-    ghost use Rattle.frame_writer.specs.Writer.{appended, as_frame, to_come, Stands};
+    ghost use Rattle.std.specs.Prelude.{ℕ, ◌*◌, ◌<◌, ◌+◌, ◌++◌, ◌∷◌, [], List, None, false};
+    ghost use Rattle.frame_writer.specs.Unfinished.{HasOne};
+    ghost use Rattle.frame_writer.specs.Writer.{appended, as_frame, load_of, to_come, Stands};
     ghost use Rattle.frame_writer.specs.Written.{Tagged, capture, frames, frames_from, frame_bytes, is_id};
 
     /// A writer that has written nothing.
@@ -58,6 +59,31 @@ impl FrameWriter {
         self.frames
     }
 
+    /// Whether a frame is begun, or a byte is held for one.
+    pub fn is_begun(&self) -> bool
+        ensures begun { result ≡ true → HasOne (to_come self.now []) }
+        ensures none { result ≡ false → to_come self.now [] ≡ [] }
+    {
+        self.held.is_some() || !self.pairs.is_empty()
+    }
+
+    /// Another writer that has written and holds the same.
+    pub fn copied(&self) -> FrameWriter
+        ensures to_come { (t : List Tagged) → to_come result t ≡ to_come self.now t }
+        ensures count { appended result ≡ appended self.now }
+    {
+        let mut pairs = ArrayVec::new();
+        let _ = pairs.try_extend_from_slice(self.pairs.as_slice());
+        FrameWriter {
+            every: self.every,
+            halves: self.halves,
+            frames: self.frames,
+            id: self.id,
+            pairs,
+            held: self.held,
+        }
+    }
+
     /// Puts a byte of a source other than 0, and appends the frame that it completes, if it does, with the
     /// synchronisations of that frame.
     pub fn put(&mut self, id: SourceId, byte: u8, out: &mut ArrayVec<u8, 264>)
@@ -70,6 +96,9 @@ impl FrameWriter {
         ensures to_come { (t : List Tagged) → to_come self.old (record { id = id; byte = byte } ∷ t)
             ≡ as_frame out.new.items ++ to_come self.new t }
         ensures count { appended self.new ≡ appended self.old + length (as_frame out.new.items) }
+        ensures load { load_of self.new ≤ load_of self.old + 2 }
+        ensures len { length out.new.items + 132 * appended self.old ≤ 132 * appended self.new }
+        ensures one { length out.new.items ≤ 132 }
     {
         match self.held {
             None => self.place(id, byte, out),
@@ -103,6 +132,8 @@ impl FrameWriter {
         ensures to_come { (t : List Tagged) → to_come self.old (record { id = id; byte = byte } ∷ t)
             ≡ as_frame out.new.items ++ to_come self.new t }
         ensures count { self.new.frames ≡ self.old.frames + length (as_frame out.new.items) }
+        ensures load { load_of self.new ≤ load_of self.old + 1 }
+        ensures len { length out.new.items + 132 * self.old.frames ≤ 132 * self.new.frames }
     {
         if self.pairs.len() < 7 {
             self.place_in_pair(id, byte);
@@ -125,6 +156,7 @@ impl FrameWriter {
         ensures to_come { (t : List Tagged) → to_come self.old (record { id = id; byte = byte } ∷ t)
             ≡ to_come self.new t }
         ensures same { self.new.frames ≡ self.old.frames }
+        ensures load { load_of self.new ≤ load_of self.old + 1 }
     {
         if self.is_in_force(id) {
             self.held = Some(byte);
@@ -151,8 +183,9 @@ impl FrameWriter {
     /// Appends the frame of the pairs, with this byte 14 and its auxiliary bit.
     fn append_frame(&self, even: u8, aux: bool, out: &mut ArrayVec<u8, 264>)
         requires { out.old.items ≡ [] }
-        ensures { out.new.items ≡
+        ensures items { out.new.items ≡
             frame_bytes self.now.every self.now.halves self.now.frames self.now.pairs.items even aux }
+        ensures len { length out.new.items ≤ 132 }
     {
         append_sync(self.every, self.frames, out);
         append_pairs(self.pairs.as_slice(), self.halves, out);
@@ -187,6 +220,7 @@ impl FrameWriter {
             result ≡ length (frames every halves t) }
         ensures to_come { as_frame out.new.items ≡ to_come self [] }
         ensures count { result ≡ appended self + length (as_frame out.new.items) }
+        ensures few { length out.new.items ≤ 132 }
     {
         self.release();
         if self.pairs.is_empty() {

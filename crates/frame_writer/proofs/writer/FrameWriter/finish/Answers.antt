@@ -20,15 +20,15 @@ returns-clause-to_come c =
       | then-is_null_in_force v ↦ v.even-is ∙ ap (λ (b : Bool). cond b 0 1) v.if-is_null_in_force.ensures
       | else-is_null_in_force v ↦ v.even-is ∙ ap (λ (b : Bool). cond b 0 1) v.if-is_null_in_force.ensures
     ] in
-    frame_as w.every w.halves w.frames w.pairs.items _ false _ c.append_frame.ensures
-    ∙ last_null w.every w.halves w.frames c.if-is_null_in_force.even w.pairs.items w.id w.held _ c.fill_pairs.ensures.pairs c.fill_pairs.ensures.held even c.append_frame.ensures
+    frame_as w.every w.halves w.frames w.pairs.items _ false _ c.append_frame.ensures.items
+    ∙ last_null w.every w.halves w.frames c.if-is_null_in_force.even w.pairs.items w.id w.held _ c.fill_pairs.ensures.pairs c.fill_pairs.ensures.held even c.append_frame.ensures.items
     ∙ sym (c.release.ensures.to_come ∙ c.fill_pairs.ensures.to_come)
 
 pub returns-clause-count : goal.returns-clause-count
 returns-clause-count c =
     let w = c.fill_pairs.new.self in
     ap (λ (n : ℕ). n + 1) (c.fill_pairs.ensures.frames ∙ c.release.ensures.frames)
-    ∙ one_more w.every w.halves w.frames w.pairs.items false _ _ c.args.self.frames c.append_frame.ensures
+    ∙ one_more w.every w.halves w.frames w.pairs.items false _ _ c.args.self.frames c.append_frame.ensures.items
 
 pub returns-then-is_empty-clause-capture : goal.returns-then-is_empty-clause-capture
 returns-then-is_empty-clause-capture c = λ every halves t so_far s. finished c.args.self every halves t so_far c.args.out.now.items (returns-then-is_empty-clause-to_come c) s

@@ -1,5 +1,0 @@
-use Rattle.capture_words.proofs.Fronts.{strips}
-use Rattle.capture_words.proofs.choices.text_after.Goals as goal
-
-pub returns : goal.returns
-returns c = strips c.args.front.now c.args.text.now c.strip_prefix.result c.strip_prefix.ensures.cases

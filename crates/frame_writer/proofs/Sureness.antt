@@ -1,0 +1,126 @@
+-- A writer whose last whole frame is held back.
+use Rattle.std.proofs.Common.{◌≡◌, ℕ, zero, suc, ◌+◌, ◌-◌, ◌<◌, ◌≤◌, List, [], ◌∷◌, ◌++◌, refl, sym, ◌∙◌, ap, arith, true, false, Option, None, Some, append_assoc, append-nil, length}
+use Rattle.std.specs.Prelude.{is_some}
+use Rattle.std.specs.List.{concat}
+use Rattle.std.proofs.lemmas.List.Folds.{concat-append}
+use Rattle.frame_writer.specs.declared.pair.Pair.{Pair}
+use Rattle.frame_writer.specs.declared.writer.FrameWriter.{FrameWriter}
+use Rattle.frame_writer.specs.Written.{Tagged, filled, frame_bytes, frames_from, frames, known}
+use Rattle.frame_writer.specs.Unfinished.{middle, continued, is_sound, HasOne}
+use Rattle.frame_writer.specs.Writer.{to_come, appended, as_frame, Stands}
+use Rattle.frame_writer.specs.Fronts.{all_but_last, sure}
+use Rattle.frame_writer.proofs.Frames.{filled_fewer, filled_less, by_some, nothing, opens, held_room}
+use Rattle.frame_writer.proofs.Fronts.{last_off}
+
+no_more : (l : List Tagged) → length l ≤ 0 → l ≡ []
+no_more [] h = refl
+no_more (x ∷ l) h = absurd (omega arith)
+
+one_less : (k : ℕ) (c : Option ℕ) (x : Tagged) → 0 < k → length (filled k c (x ∷ [])).end.rest ≤ 0
+one_less zero c x h = absurd (omega arith)
+one_less (suc k) c x h = filled_less k c x []
+
+module _ (every halves : ℕ) where
+  frame_alone : (n : ℕ) (pairs : List Pair) (c : Option ℕ) (t : List Tagged) → length (filled (7 - length pairs) c t).end.rest ≤ 0 → HasOne (middle every halves n pairs c t)
+  frame_alone n pairs c t h =
+      let f = filled (7 - length pairs) c t in
+      let head = frame_bytes every halves n (pairs ++ f.pairs) f.end.even f.end.aux in
+      (head, ap (λ (l : List Tagged). head ∷ frames_from every halves (n + 1) f.end.id l) (no_more f.end.rest h) ∙ ap (λ (l : List (List ℕ)). head ∷ l) (nothing every halves (n + 1) f.end.id))
+
+  none_alone : (n : ℕ) (pairs : List Pair) (c : Option ℕ) → HasOne (middle every halves n pairs c [])
+  none_alone n pairs c = frame_alone n pairs c [] (filled_fewer (7 - length pairs) c [])
+
+  one_alone : (n : ℕ) (pairs : List Pair) (c : Option ℕ) (x : Tagged) → length pairs < 7 → HasOne (middle every halves n pairs c (x ∷ []))
+  one_alone n pairs c x h = frame_alone n pairs c (x ∷ []) (one_less (7 - length pairs) c x (omega arith))
+
+  pub held_begun : (n : ℕ) (pairs : List Pair) (c held : Option ℕ) (h : ℕ) → is_sound every n pairs c held ≡ true → held ≡ Some h → HasOne (continued every halves n pairs c held [])
+  held_begun n pairs c None h s e = cc
+  held_begun n pairs None (Some b) h s e = cc
+  held_begun n [] (Some i) (Some b) h s e =
+      let one = one_alone n [] (known every n (Some i)) (record { id = i; byte = b }) (omega arith) in
+      (one.0, opens every halves n (Some i) (record { id = i; byte = b }) [] ∙ one.1)
+  held_begun n (p ∷ pairs) (Some i) (Some b) h s e = one_alone n (p ∷ pairs) (Some i) (record { id = i; byte = b }) (held_room every n (p ∷ pairs) (Some i) (Some b) b s refl)
+
+  pub pairs_begun : (n : ℕ) (pairs : List Pair) (c : Option ℕ) → 0 < length pairs → HasOne (continued every halves n pairs c None [])
+  pairs_begun n [] c h = absurd (omega arith)
+  pairs_begun n (p ∷ pairs) c h = none_alone n (p ∷ pairs) c
+
+  pub none_begun : (n : ℕ) (c : Option ℕ) → continued every halves n [] c None [] ≡ []
+  none_begun n c = nothing every halves n c
+
+  -- a byte more is written in a frame
+  frames_come : (n : ℕ) (c : Option ℕ) (x : Tagged) (t : List Tagged) → frames_from every halves n c (x ∷ t) ≡ [] → ⊥
+  frames_come n c x t e = let k = sym (by_some every halves (length t) n c x t) ∙ e in cc
+
+  pub comes : (n : ℕ) (pairs : List Pair) (c held : Option ℕ) (x : Tagged) (t : List Tagged) → continued every halves n pairs c held (x ∷ t) ≡ [] → ⊥
+  comes n (p ∷ pairs) c held x t e = cc
+  comes n [] c None x t e = frames_come n c x t e
+  comes n [] None (Some b) x t e = frames_come n None x t e
+  comes n [] (Some i) (Some b) x t e = frames_come n (Some i) (record { id = i; byte = b }) (x ∷ t) e
+
+as_bytes : (out : List ℕ) → out ≡ concat (as_frame out)
+as_bytes [] = refl
+as_bytes (b ∷ out) = sym (append-nil (b ∷ out))
+
+module _ (w v : FrameWriter) (every halves : ℕ) (t : List Tagged) (x : Tagged) (out ready so_far : List ℕ)
+    (stands : Stands w every halves t so_far) (written : so_far ≡ sure every halves t ++ ready)
+    (came : to_come w (x ∷ []) ≡ as_frame out ++ to_come v []) where
+  all : frames every halves (t ++ x ∷ []) ≡ (stands.done ++ as_frame out) ++ to_come v []
+  all = stands.completes (x ∷ []) ∙ ap (λ (l : List (List ℕ)). stands.done ++ l) came ∙ sym (append_assoc stands.done (as_frame out) (to_come v []))
+
+  bytes : concat (stands.done ++ as_frame out) ≡ so_far ++ out
+  bytes = concat-append stands.done (as_frame out) ∙ ap (λ (l : List ℕ). l ++ concat (as_frame out)) (sym stands.bytes) ∙ ap (λ (l : List ℕ). so_far ++ l) (sym (as_bytes out))
+
+  -- a frame is begun after those that are whole
+  pub begun_so_far : HasOne (to_come v []) → so_far ++ out ≡ sure every halves (t ++ x ∷ []) ++ []
+  begun_so_far one =
+      sym (append-nil (sure every halves (t ++ x ∷ []))
+      ∙ ap (λ (l : List (List ℕ)). concat (all_but_last l)) (all ∙ ap (λ (l : List (List ℕ)). (stands.done ++ as_frame out) ++ l) one.1)
+      ∙ ap concat (last_off (stands.done ++ as_frame out) one.0 [] ∙ append-nil (stands.done ++ as_frame out)) ∙ bytes)
+
+  pub begun_grown : HasOne (to_come v []) → sure every halves (t ++ x ∷ []) ≡ sure every halves t ++ (ready ++ out)
+  begun_grown one =
+      sym (append-nil (sure every halves (t ++ x ∷ []))) ∙ sym (begun_so_far one) ∙ ap (λ (l : List ℕ). l ++ out) written ∙ append_assoc (sure every halves t) ready out
+
+  -- or the last is whole
+  whole : (out' : List ℕ) → out' ≡ out → to_come v [] ≡ [] → concat (all_but_last ((stands.done ++ as_frame out') ++ [])) ≡ so_far
+  whole [] e none = absurd (comes w.every w.halves w.frames w.pairs.items w.id w.held x []
+      (came ∙ ap (λ (l : List ℕ). as_frame l ++ to_come v []) (sym e) ∙ none))
+  whole (b ∷ bs) e none =
+      ap (λ (l : List (List ℕ)). concat (all_but_last l)) (append-nil (stands.done ++ ((b ∷ bs) ∷ [])))
+      ∙ ap concat (last_off stands.done (b ∷ bs) [] ∙ append-nil stands.done) ∙ sym stands.bytes
+
+  whole_sure : to_come v [] ≡ [] → sure every halves (t ++ x ∷ []) ≡ so_far
+  whole_sure none =
+      ap (λ (l : List (List ℕ)). concat (all_but_last l)) (all ∙ ap (λ (l : List (List ℕ)). (stands.done ++ as_frame out) ++ l) none) ∙ whole out refl none
+
+  pub whole_grown : to_come v [] ≡ [] → sure every halves (t ++ x ∷ []) ≡ sure every halves t ++ ready
+  whole_grown none = whole_sure none ∙ written
+
+  pub whole_so_far : to_come v [] ≡ [] → so_far ++ out ≡ sure every halves (t ++ x ∷ []) ++ out
+  whole_so_far none = ap (λ (l : List ℕ). l ++ out) (sym (whole_sure none))
+
+pub none_held : (held : Option ℕ) → is_some held ≡ false → held ≡ None
+none_held None h = refl
+none_held (Some b) h = cc
+
+pub some_begun : (every halves n : ℕ) (pairs : List Pair) (c held : Option ℕ) → is_sound every n pairs c held ≡ true → is_some held ≡ true → HasOne (continued every halves n pairs c held [])
+some_begun every halves n pairs c None s h = cc
+some_begun every halves n pairs c (Some b) s h = held_begun every halves n pairs c (Some b) b s refl
+
+pub no_pairs : (every halves n : ℕ) (pairs : List Pair) (c : Option ℕ) → length pairs ≡ 0 → continued every halves n pairs c None [] ≡ []
+no_pairs every halves n [] c h = none_begun every halves n c
+no_pairs every halves n (p ∷ pairs) c h = absurd (omega arith)
+
+pub nothing_sure : (every halves : ℕ) (ready : List ℕ) → ready ≡ [] → [] ≡ sure every halves [] ++ ready
+nothing_sure every halves ready e =
+    sym (ap (λ (l : List (List ℕ)). concat (all_but_last l) ++ ready) (nothing every halves 0 None) ∙ e)
+
+pub stands_copied : (w v : FrameWriter) (every halves : ℕ) (t : List Tagged) (so_far : List ℕ) → ((u : List Tagged) → to_come v u ≡ to_come w u) → appended v ≡ appended w →
+    Stands w every halves t so_far → Stands v every halves t so_far
+stands_copied w v every halves t so_far e n s = record {
+  done = s.done;
+  bytes = s.bytes;
+  count = n ∙ s.count;
+  completes = λ u. (s.completes u ∙ ap (λ (l : List (List ℕ)). s.done ++ l) (sym (e u)));
+}

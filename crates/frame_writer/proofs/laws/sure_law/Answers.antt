@@ -1,0 +1,8 @@
+use Rattle.frame_writer.proofs.Fronts.{sure_grows, sure_begins}
+use Rattle.frame_writer.proofs.laws.sure_law.Goals as goal
+
+pub returns-clause-grows : goal.returns-clause-grows
+returns-clause-grows c = λ every halves t u. sure_grows every halves t u
+
+pub returns-clause-front : goal.returns-clause-front
+returns-clause-front c = λ every halves t few. sure_begins every halves t few

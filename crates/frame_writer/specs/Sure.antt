@@ -1,0 +1,23 @@
+-- What a writer that keeps its last frame back stands for.
+use Rattle.std.specs.Prelude.{◌≡◌, ℕ, List, ◌++◌, length}
+use Rattle.frame_writer.specs.Written.{Tagged}
+use Rattle.frame_writer.specs.Writer.{Stands, appended}
+use Rattle.frame_writer.specs.Fronts.{sure}
+use Rattle.frame_writer.specs.declared.sure.SureWriter.{SureWriter}
+
+-- how many frames are whole
+abbrev pub count_of : SureWriter → ℕ
+count_of s = appended s.writer
+
+-- how many bytes it keeps back, and how many pairs its unfinished frame has
+abbrev pub held_by : SureWriter → ℕ
+held_by s = length s.ready.items
+
+abbrev pub pairs_of : SureWriter → ℕ
+pairs_of s = length s.writer.pairs.items
+
+-- Its writer stands for these bytes, and what that has appended is what is sure, and then what is kept back.
+pub record IsSure (s : SureWriter) (every halves : ℕ) (t : List Tagged) : Type 0 where
+  pub so_far : List ℕ
+  pub stands : Stands s.writer every halves t so_far
+  pub written : so_far ≡ sure every halves t ++ s.ready.items

@@ -1,0 +1,117 @@
+//! A writer of frames that keeps its last frame back.
+
+ghost use Rattle.std.specs.Prelude.{◌≡◌, ◌≤◌, ◌<◌, ◌+◌, ◌*◌, ◌++◌, ◌∷◌, [], ℕ, List, length};
+ghost use Rattle.arrayvec.specs.ArrayVec.{array_vec_len};
+ghost use Rattle.trace_values.specs.declared.limits.TheConstants.{COUNT_ROOM};
+ghost use Rattle.frame_writer.specs.Written.{Tagged, capture};
+ghost use Rattle.frame_writer.specs.Fronts.{sure};
+
+use crate::writer::FrameWriter;
+use arrayvec::ArrayVec;
+use trace_values::SourceId;
+
+/// Room for two frames, each with its synchronisations.
+pub type TwoFrames = ArrayVec<u8, 528>;
+
+/// Appends bytes for which there is room.
+fn append(out: &mut TwoFrames, bytes: &[u8])
+    requires room { array_vec_len out.old + length bytes.now ≤ 528 }
+    ensures items { out.new.items ≡ out.old.items ++ bytes.now }
+    ensures len { array_vec_len out.new ≡ array_vec_len out.old + length bytes.now }
+{
+    let _ = out.try_extend_from_slice(bytes);
+}
+
+/// These bytes.
+fn frame_of(bytes: &[u8]) -> ArrayVec<u8, 264>
+    requires { length bytes.now ≤ 264 }
+    ensures { result.items ≡ bytes.now }
+{
+    let mut frame = ArrayVec::new();
+    let _ = frame.try_extend_from_slice(bytes);
+    frame
+}
+
+/// Writes bytes of several sources as the frames of a `FrameWriter`, and gives those that stay as they are whatever
+/// comes after: all but the last, which it keeps back until a byte of the next one is put. So what it has given is a
+/// front of the capture, and the rest of the capture is one frame.
+#[derive(Drop)]
+pub struct SureWriter {
+    writer: FrameWriter,
+    /// A whole frame after which nothing is put yet.
+    ready: ArrayVec<u8, 264>,
+    ghost few: { length ready.items ≤ 132 },
+}
+
+impl SureWriter {
+    ghost use Rattle.frame_writer.specs.Sure.{IsSure, count_of, held_by, pairs_of};
+
+    /// A writer that was given nothing. It writes synchronisations as `FrameWriter::new` says.
+    pub fn new(every: u32, halves: u8) -> SureWriter
+        requires few { halves ≤ 8 }
+        ensures fresh { IsSure result every halves [] }
+        ensures count { count_of result ≡ 0 }
+    {
+        SureWriter {
+            writer: FrameWriter::new(every, halves),
+            ready: ArrayVec::new(),
+        }
+    }
+
+    /// How many frames are whole, also where the last of them is kept back.
+    pub fn frames(&self) -> u64
+        ensures { result ≡ count_of self.now }
+    {
+        self.writer.frames()
+    }
+
+    /// Puts a byte of a source other than 0, and gives what has become sure: nothing, or one frame.
+    pub fn put(&mut self, id: SourceId, byte: u8, out: &mut TwoFrames)
+        requires source { 0 < id }
+        requires empty { out.old.items ≡ [] }
+        requires room { count_of self.old < COUNT_ROOM }
+        ensures list { (every halves : ℕ) → (t : List Tagged) → IsSure self.old every halves t →
+            IsSure self.new every halves (t ++ record { id = id; byte = byte } ∷ []) }
+        ensures grown { (every halves : ℕ) → (t : List Tagged) → IsSure self.old every halves t →
+            sure every halves (t ++ record { id = id; byte = byte } ∷ []) ≡ sure every halves t ++ out.new.items }
+        ensures count { count_of self.new ≤ count_of self.old + 1 }
+        ensures load { 7 * count_of self.new + pairs_of self.new ≤ 7 * count_of self.old + pairs_of self.old + 2 }
+        ensures len { array_vec_len out.new + held_by self.new + 132 * count_of self.old
+            ≤ held_by self.old + 132 * count_of self.new }
+    {
+        append(out, self.ready.as_slice());
+        self.ready.clear();
+        self.writer.put(id, byte, &mut self.ready);
+        if self.writer.is_begun() {
+            append(out, self.ready.as_slice());
+            self.ready.clear();
+        }
+    }
+
+    /// Another writer that was given the same.
+    pub fn copied(&self) -> SureWriter
+        ensures list { (every halves : ℕ) → (t : List Tagged) → IsSure self.now every halves t →
+            IsSure result every halves t }
+        ensures count { count_of result ≡ count_of self.now }
+        ensures held { held_by result ≤ 132 }
+        ensures pairs { pairs_of result ≤ 7 }
+    {
+        SureWriter {
+            writer: self.writer.copied(),
+            ready: frame_of(self.ready.as_slice()),
+        }
+    }
+
+    /// The rest of the capture, which is what is not sure of it: at most one frame, by `sure_law`.
+    pub fn rest(&self, out: &mut TwoFrames)
+        requires empty { out.old.items ≡ [] }
+        ensures whole { (every halves : ℕ) → (t : List Tagged) → IsSure self.now every halves t →
+            capture every halves t ≡ sure every halves t ++ out.new.items }
+        ensures few { array_vec_len out.new ≤ 264 }
+    {
+        let mut last = ArrayVec::new();
+        let _ = self.writer.copied().finish(&mut last);
+        append(out, self.ready.as_slice());
+        append(out, last.as_slice());
+    }
+}

@@ -1,0 +1,11 @@
+pub mod Digits
+pub mod Joining
+pub mod ItemWords
+pub mod AllWords
+pub mod Naming
+pub mod Reading
+pub mod TextLaw
+pub mod Fitting
+pub mod Lowering
+pub mod Saying
+pub mod LineLaw

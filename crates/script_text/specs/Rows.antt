@@ -1,0 +1,15 @@
+-- A plan, for worked rows.
+use Rattle.std.specs.Prelude.{[], ◌∷◌, Some, ℕ}
+use Rattle.capture_plan.specs.declared.frames.FramesMode.TheVariants.{Hunt as FramesHunt}
+use Rattle.capture_plan.specs.declared.packets.PacketsMode.TheVariants.{Hunt as PacketsHunt}
+use Rattle.stp_grammar.specs.declared.packet.Order.TheVariants.{Msn}
+use Rattle.stp_grammar.specs.declared.item.Place.{Place}
+use Rattle.source_events.specs.declared.plan.Plan.{Plan}
+
+-- source 1 sends ITM packets, and source 2 STP packets
+abbrev pub both : Plan
+both = record { frames = FramesHunt; packets = PacketsHunt; itm = 1 ∷ []; stp = 2 ∷ []; order = Msn }
+
+-- where something was written to
+abbrev pub place : ℕ → ℕ → Place
+place master channel = record { master = Some master; channel = Some channel }

@@ -1,0 +1,162 @@
+//! The texts of hardware packets, by their words.
+
+ghost use Rattle.std.specs.Prelude.{◌≡◌, map};
+ghost use Rattle.script_text.specs.Words.{texts};
+ghost use Rattle.script_text.specs.Shapes.{seen, dwt_fields};
+ghost use Rattle.script_text.specs.Items.{dwt_of as dwt_in, counters_within, unnamed as unnamed_in};
+
+use crate::numbers::{byte_at, decimal_at, value_at};
+use crate::shapes::Field;
+use dwt_packets::{Change, DwtItem, meaning};
+use itm_grammar::packet::Size;
+
+/// What the fixed words of a hardware packet's text tell.
+#[derive(Clone, Copy, Debug, PartialEq, Eq, Drop)]
+pub enum DwtShape {
+    Counters,
+    Exception(Change),
+    Sample,
+    Asleep,
+    MatchPc,
+    MatchAddress,
+    Read(Size),
+    Written(Size),
+    Other(Size),
+}
+
+impl DwtShape {
+    /// The words after the first.
+    pub fn fields(&self) -> &'static [Field]
+        ensures { map seen result.now ≡ dwt_fields self.now }
+    {
+        match self {
+            DwtShape::Counters | DwtShape::Sample => &[Field::Number],
+            DwtShape::Exception(Change::Enter) => &[Field::Number, Field::Word("enter")],
+            DwtShape::Exception(Change::Exit) => &[Field::Number, Field::Word("exit")],
+            DwtShape::Exception(Change::Return) => &[Field::Number, Field::Word("return")],
+            DwtShape::Asleep => &[],
+            DwtShape::MatchPc => &[Field::Number, Field::Word("pc"), Field::Number],
+            DwtShape::MatchAddress => &[Field::Number, Field::Word("addr"), Field::Number],
+            DwtShape::Read(Size::One) => &[
+                Field::Number,
+                Field::Word("read"),
+                Field::Word("u8"),
+                Field::Number,
+            ],
+            DwtShape::Read(Size::Two) => &[
+                Field::Number,
+                Field::Word("read"),
+                Field::Word("u16"),
+                Field::Number,
+            ],
+            DwtShape::Read(Size::Four) => &[
+                Field::Number,
+                Field::Word("read"),
+                Field::Word("u32"),
+                Field::Number,
+            ],
+            DwtShape::Written(Size::One) => &[
+                Field::Number,
+                Field::Word("write"),
+                Field::Word("u8"),
+                Field::Number,
+            ],
+            DwtShape::Written(Size::Two) => &[
+                Field::Number,
+                Field::Word("write"),
+                Field::Word("u16"),
+                Field::Number,
+            ],
+            DwtShape::Written(Size::Four) => &[
+                Field::Number,
+                Field::Word("write"),
+                Field::Word("u32"),
+                Field::Number,
+            ],
+            DwtShape::Other(Size::One) => &[Field::Number, Field::Word("u8"), Field::Number],
+            DwtShape::Other(Size::Two) => &[Field::Number, Field::Word("u16"), Field::Number],
+            DwtShape::Other(Size::Four) => &[Field::Number, Field::Word("u32"), Field::Number],
+        }
+    }
+}
+
+/// The item, where it is a hardware packet without a name.
+fn unnamed(item: DwtItem) -> Option<DwtItem>
+    ensures { result ≡ unnamed_in item }
+{
+    match item {
+        DwtItem::Other { .. } => Some(item),
+        DwtItem::Counters(_)
+        | DwtItem::Exception { .. }
+        | DwtItem::Sample { .. }
+        | DwtItem::Asleep
+        | DwtItem::MatchPc { .. }
+        | DwtItem::MatchAddress { .. }
+        | DwtItem::Read { .. }
+        | DwtItem::Written { .. } => None,
+    }
+}
+
+/// Event counters, which are six bits.
+fn counters_within(bits: u8) -> Option<DwtItem>
+    ensures { result ≡ counters_within bits }
+{
+    if bits <= 0x3F {
+        Some(DwtItem::Counters(bits))
+    } else {
+        None
+    }
+}
+
+/// The hardware packet of a shape and of these words, where their numbers are in their ranges, and `hw` is used only
+/// for a packet that has no name.
+#[tactic(auto, unfolding(crate::specs::Items::dwt_of))]
+pub fn dwt_of(shape: DwtShape, words: &[&[u8]]) -> Option<DwtItem>
+    ensures { result ≡ dwt_in shape (texts words.now) }
+{
+    match shape {
+        DwtShape::Counters => counters_within(byte_at(words, 1)?),
+        DwtShape::Exception(change) => {
+            let number = decimal_at(511, words, 1)? as u16;
+            Some(DwtItem::Exception { number, change })
+        }
+        DwtShape::Sample => {
+            let pc = value_at(Size::Four, words, 1)?;
+            Some(DwtItem::Sample { pc })
+        }
+        DwtShape::Asleep => Some(DwtItem::Asleep),
+        DwtShape::MatchPc => {
+            let comparator = decimal_at(3, words, 1)? as u8;
+            let pc = value_at(Size::Four, words, 3)?;
+            Some(DwtItem::MatchPc { comparator, pc })
+        }
+        DwtShape::MatchAddress => {
+            let comparator = decimal_at(3, words, 1)? as u8;
+            let low = value_at(Size::Two, words, 3)? as u16;
+            Some(DwtItem::MatchAddress { comparator, low })
+        }
+        DwtShape::Read(size) => {
+            let comparator = decimal_at(3, words, 1)? as u8;
+            let value = value_at(size, words, 4)?;
+            Some(DwtItem::Read {
+                comparator,
+                size,
+                value,
+            })
+        }
+        DwtShape::Written(size) => {
+            let comparator = decimal_at(3, words, 1)? as u8;
+            let value = value_at(size, words, 4)?;
+            Some(DwtItem::Written {
+                comparator,
+                size,
+                value,
+            })
+        }
+        DwtShape::Other(size) => {
+            let disc = decimal_at(31, words, 1)? as u8;
+            let value = value_at(size, words, 3)?;
+            unnamed(meaning(disc, size, value))
+        }
+    }
+}

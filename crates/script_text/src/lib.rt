@@ -1,0 +1,23 @@
+//! The lines of scripts: each is empty, a remark, or an item of a source, in the words of the listing.
+#![tactic(auto)]
+
+mod dwt_shapes;
+mod items;
+mod itm_shapes;
+mod line_fault;
+mod lines;
+mod numbers;
+mod places;
+mod raw_bytes;
+pub mod rows;
+mod shapes;
+mod stamps;
+mod stp_shapes;
+#[cfg(test)]
+mod tests;
+mod words;
+
+pub use items::Item;
+pub use line_fault::LineFault;
+pub use lines::{Line, read_line};
+pub use raw_bytes::{RAW_BYTES, RawBytes};
