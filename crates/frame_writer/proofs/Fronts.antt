@@ -33,7 +33,7 @@ none = record { id = 0; byte = 0 }
 following_empty : (c : Option ℕ) (x y : Tagged) → length (following c x y [] []).rest ≡ 0
 following_empty c x y =
     empty_paired (y.id == x.id) (record { pair = record { even = 2 * (x.byte / 2); aux = is_odd x.byte; odd = y.byte }; id = c; rest = [] })
-        (record { pair = record { even = 2 * y.id + 1; aux = true; odd = x.byte }; id = Some y.id; rest = [] }) refl refl
+    (record { pair = record { even = 2 * y.id + 1; aux = true; odd = x.byte }; id = Some y.id; rest = [] }) refl refl
 
 paired_none : (c : Option ℕ) → length (paired c []).rest ≡ 0
 paired_none c = empty_paired (is_id c 0) (following c none none [] []) (naming none []) (following_empty c none none) refl
@@ -94,19 +94,19 @@ module _ (every halves : ℕ) where
     where
       F : Filled
       F = filled 7 (known every n c) (x ∷ t)
+
       by : (r : List Tagged) → F.end.rest ≡ r →
           ((y : Tagged) (r : List Tagged) → length (y ∷ r) ≤ k → length (y ∷ (r ++ u)) ≤ j →
-              (z : List ℕ) × (rest : List (List ℕ)) × (frames_by every halves j (n + 1) F.end.id (y ∷ (r ++ u)) ≡ all_but_last (frames_by every halves k (n + 1) F.end.id (y ∷ r)) ++ (z ∷ rest))) →
+          (z : List ℕ) × (rest : List (List ℕ)) × (frames_by every halves j (n + 1) F.end.id (y ∷ (r ++ u)) ≡ all_but_last (frames_by every halves k (n + 1) F.end.id (y ∷ r)) ++ (z ∷ rest))) →
           (z : List ℕ) × (rest : List (List ℕ)) × (frames_by every halves (suc j) n c (x ∷ (t ++ u)) ≡ all_but_last (frames_by every halves (suc k) n c (x ∷ t)) ++ (z ∷ rest))
       by [] e more =
           let G = filled 7 (known every n c) (x ∷ (t ++ u)) in
           let one = by_some every halves k n c x t ∙ ap (λ (r : List Tagged). frame_bytes every halves n F.pairs F.end.even F.end.aux ∷ frames_by every halves k (n + 1) F.end.id r) e
-              ∙ ap (λ (l : List (List ℕ)). frame_bytes every halves n F.pairs F.end.even F.end.aux ∷ l) (by_nothing every halves k (n + 1) F.end.id) in
-          (
-              frame_bytes every halves n G.pairs G.end.even G.end.aux,
-              frames_by every halves j (n + 1) G.end.id G.end.rest,
-              by_some every halves j n c x (t ++ u)
-                  ∙ ap (λ (l : List (List ℕ)). all_but_last l ++ (frame_bytes every halves n G.pairs G.end.even G.end.aux ∷ frames_by every halves j (n + 1) G.end.id G.end.rest)) (sym one),
+          ∙ ap (λ (l : List (List ℕ)). frame_bytes every halves n F.pairs F.end.even F.end.aux ∷ l) (by_nothing every halves k (n + 1) F.end.id) in (
+            frame_bytes every halves n G.pairs G.end.even G.end.aux,
+            frames_by every halves j (n + 1) G.end.id G.end.rest,
+            by_some every halves j n c x (t ++ u)
+                ∙ ap (λ (l : List (List ℕ)). all_but_last l ++ (frame_bytes every halves n G.pairs G.end.even G.end.aux ∷ frames_by every halves j (n + 1) G.end.id G.end.rest)) (sym one),
           )
       by (y ∷ r) e more =
           let some : 0 < length F.end.rest = subst (λ (q : List Tagged). 0 < length q) (sym e) (omega arith) in
@@ -116,17 +116,16 @@ module _ (every halves : ℕ) where
           let app = length-append t u in
           let app2 = length-append r u in
           let next = more y r (omega arith) (omega arith) in
-          let head = frame_bytes every halves n F.pairs F.end.even F.end.aux in
-          (
-              next.0,
-              next.1,
-              by_some every halves j n c x (t ++ u)
-                  ∙ ap (λ (f : Filled). frame_bytes every halves n f.pairs f.end.even f.end.aux ∷ frames_by every halves j (n + 1) f.end.id f.end.rest) longer
-                  ∙ ap (λ (q : List Tagged). head ∷ frames_by every halves j (n + 1) F.end.id (q ++ u)) e
-                  ∙ ap (λ (l : List (List ℕ)). head ∷ l) next.2
-                  ∙ ap (λ (l : List (List ℕ)). l ++ (next.0 ∷ next.1)) (not_last head k (n + 1) F.end.id y r (omega arith))
-                  ∙ ap (λ (q : List Tagged). all_but_last (head ∷ frames_by every halves k (n + 1) F.end.id q) ++ (next.0 ∷ next.1)) (sym e)
-                  ∙ ap (λ (l : List (List ℕ)). all_but_last l ++ (next.0 ∷ next.1)) (sym (by_some every halves k n c x t)),
+          let head = frame_bytes every halves n F.pairs F.end.even F.end.aux in (
+            next.0,
+            next.1,
+            by_some every halves j n c x (t ++ u)
+                ∙ ap (λ (f : Filled). frame_bytes every halves n f.pairs f.end.even f.end.aux ∷ frames_by every halves j (n + 1) f.end.id f.end.rest) longer
+                ∙ ap (λ (q : List Tagged). head ∷ frames_by every halves j (n + 1) F.end.id (q ++ u)) e
+                ∙ ap (λ (l : List (List ℕ)). head ∷ l) next.2
+                ∙ ap (λ (l : List (List ℕ)). l ++ (next.0 ∷ next.1)) (not_last head k (n + 1) F.end.id y r (omega arith))
+                ∙ ap (λ (q : List Tagged). all_but_last (head ∷ frames_by every halves k (n + 1) F.end.id q) ++ (next.0 ∷ next.1)) (sym e)
+                ∙ ap (λ (l : List (List ℕ)). all_but_last l ++ (next.0 ∷ next.1)) (sym (by_some every halves k n c x t)),
           )
 
 pub last_off : (a : List (List ℕ)) (y : List ℕ) (b : List (List ℕ)) → all_but_last (a ++ (y ∷ b)) ≡ a ++ all_but_last (y ∷ b)
@@ -140,10 +139,9 @@ sure_grows every halves [] u =
     (sure every halves u, ap (λ (l : List (List ℕ)). concat (all_but_last l) ++ sure every halves u) (sym (by_nothing every halves 0 0 None)))
 sure_grows every halves (x ∷ t) u =
     let n = frames_go_on every halves (length (x ∷ t)) (length (x ∷ (t ++ u))) 0 None x t u (omega arith) (omega arith) in
-    let front = all_but_last (frames every halves (x ∷ t)) in
-    (
-        concat (all_but_last (n.0 ∷ n.1)),
-        ap (λ (l : List (List ℕ)). concat (all_but_last l)) n.2 ∙ ap concat (last_off front n.0 n.1) ∙ concat-append front (all_but_last (n.0 ∷ n.1)),
+    let front = all_but_last (frames every halves (x ∷ t)) in (
+      concat (all_but_last (n.0 ∷ n.1)),
+      ap (λ (l : List (List ℕ)). concat (all_but_last l)) n.2 ∙ ap concat (last_off front n.0 n.1) ∙ concat-append front (all_but_last (n.0 ∷ n.1)),
     )
 
 -- frames are short
@@ -158,7 +156,7 @@ frames_short every halves (suc k) n c (x ∷ t) few =
     let f = filled 7 (known every n c) (x ∷ t) in
     let pairs = filled_length 7 (known every n c) (x ∷ t) in
     subst AreShort (sym (by_some every halves k n c x t))
-        (frame_size every halves n f.pairs f.end.even f.end.aux few (omega arith), frames_short every halves k (n + 1) f.end.id f.end.rest few)
+    (frame_size every halves n f.pairs f.end.even f.end.aux few (omega arith), frames_short every halves k (n + 1) f.end.id f.end.rest few)
 
 -- and what is sure begins the capture, which is at most one frame longer
 abbrev HasFront : List (List ℕ) → Type 0

@@ -50,7 +50,7 @@ module _ {S V : Type 0} (p : Pattern) (z : V) (rule : S → ℕ → Next S V) (s
 
     by : (x : Next S V) → rule s b.unit ≡ x → after x (λ r. walk rule r (units_of rest)) (units_of rest) ≡ Whole v →
         ((r : S) → walk rule r (units_of rest) ≡ Whole v → stands r (u ++ b ∷ []) →
-            Gives reading (stands start) (u ++ b ∷ []) front last v) → Gives reading (stands start) u (b ∷ front) last v
+        Gives reading (stands start) (u ++ b ∷ []) front last v) → Gives reading (stands start) u (b ∷ front) last v
     by (Go r) k f next =
         let step = reads-step p z (by_unit rule) start m true s u b (Go r) refl locked (sym k) t in
         let more = next r f (reads-list p z (by_unit rule) start m true s u b true r (Go r) refl locked (sym k) refl refl t) in

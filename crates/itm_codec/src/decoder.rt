@@ -81,7 +81,7 @@ impl ItmDecoder {
         ensures proper { IfSome result (λ x. IsProper x.1) }
         ensures gives { (u front : List Placed) (last : Placed) → Stands self.now u →
             IfSome result (λ x. units_of (front ++ last ∷ []) ≡ take x.0 piece.now →
-                Gives (packets_in (is_hunter self.now)) (Stands self.now) u front last x.1) }
+            Gives (packets_in (is_hunter self.now)) (Stands self.now) u front last x.1) }
     {
         match self.partial {
             Partial::Header if Mode::is_locked(self.mode) => whole_packet(piece),

@@ -136,7 +136,7 @@ impl SourceMachine {
         ensures fits { IfSome result (λ x. PacketFits x.1) }
         ensures gives { (u front : List Placed) (last : Placed) → Stands self.now u →
             IfSome result (λ x. units_of (front ++ last ∷ []) ≡ take x.0 bytes.now →
-                Gives (reading_of self.now) (Stands self.now) u front last x.1) }
+            Gives (reading_of self.now) (Stands self.now) u front last x.1) }
     {
         match self {
             SourceMachine::Itm(decoder) => {

@@ -69,9 +69,9 @@ module _ (run : List Cell) (done count : ℕ) (last : Cell) (some : 0 < count) (
       ap units_of (sym (placed_more front (last ∷ []))) ∙ units_run (front ++ last ∷ []) ∙ ap bytes_of (sym last_parts)
       ∙ sym (ap (take count) (ap (drop done) e ∙ drop-map (λ (c : Cell). c.byte) done run) ∙ take-map (λ (c : Cell). c.byte) count (drop done run))
       ∙ ap (take count) (sym (take_all (length bytes - done) (drop done bytes) (let k = length-drop done bytes in omega arith))) where
-    units_run : (l : List Cell) → units_of (placed_run l) ≡ bytes_of l
-    units_run [] = refl
-    units_run (c ∷ l) = ap (λ b. c.byte ∷ b) (units_run l)
+        units_run : (l : List Cell) → units_of (placed_run l) ≡ bytes_of l
+        units_run [] = refl
+        units_run (c ∷ l) = ap (λ b. c.byte ∷ b) (units_run l)
 
 -- bytes of a piece that give a packet
 module _ {V : Type 0} (reading : List Placed → Stream V) (stands : List Placed → Type 0) (u : List Placed) (at : ℕ) (piece : List ℕ) (bytes : ℕ) (some : 0 < bytes) (within : bytes ≤ length piece) where
@@ -105,8 +105,8 @@ module _ {V : Type 0} (reading : List Placed → Stream V) (stands : List Placed
         place = tt;
         sound = by (reading (u ++ piece_front)).fault refl (ap (λ (l : List Placed). (reading l).fault) (append_assoc u piece_front (piece_last ∷ [])) ∙ g.sound);
       } where
-    by : (o : Option (Place × Reason)) → (reading (u ++ piece_front)).fault ≡ o → (reading ((u ++ piece_front) ++ piece_last ∷ [])).fault ≡ None → (reading (u ++ piece_front)).fault ≡ None
-    by None k e = k
-    by (Some x) k e =
-        (let s = (settle (u ++ piece_front) (piece_last ∷ []) (ap (λ (o : Option (Place × Reason)). is_none o) k)).fault in
-        let q : None ≡ Some x = sym e ∙ s ∙ k in cc)
+        by : (o : Option (Place × Reason)) → (reading (u ++ piece_front)).fault ≡ o → (reading ((u ++ piece_front) ++ piece_last ∷ [])).fault ≡ None → (reading (u ++ piece_front)).fault ≡ None
+        by None k e = k
+        by (Some x) k e =
+            (let s = (settle (u ++ piece_front) (piece_last ∷ []) (ap (λ (o : Option (Place × Reason)). is_none o) k)).fault in
+            let q : None ≡ Some x = sym e ∙ s ∙ k in cc)

@@ -49,7 +49,11 @@ pub fn feed_slot_piece(
 /// The packet that a piece begins with, where the next byte of the source of this slot begins one, and how many bytes
 /// it takes.
 #[inline(always)]
-pub fn next_slot_packet(slots: &[Slot<SourceMachine>], index: usize, piece: &[u8]) -> Option<(usize, Packet)>
+pub fn next_slot_packet(
+    slots: &[Slot<SourceMachine>],
+    index: usize,
+    piece: &[u8],
+) -> Option<(usize, Packet)>
     requires index { index < length slots.now }
     requires live { AllLive is_live slots.now }
     ensures bytes { IfSome result (λ x. (0 < x.0) × (x.0 ≤ length piece.now)) }
@@ -71,7 +75,8 @@ pub fn flow_after(step: &Option<Step<Packet>>) -> Flow
             fault: *fault,
             source: Some(bare_source()),
         }),
-        Some(Step::Quiet | Step::Skipping | Step::Item { .. } | Step::Locked { .. }) | None => Flow::Going,
+        Some(Step::Quiet | Step::Skipping | Step::Item { .. } | Step::Locked { .. }) | None =>
+            Flow::Going,
     }
 }
 

@@ -94,11 +94,7 @@ fn feed_slot(
 }
 
 /// Takes a run.
-fn take_run(
-    slots: &mut [Slot<SourceMachine>],
-    run: &[Cell],
-    out: &mut Events,
-) -> Option<Stop>
+fn take_run(slots: &mut [Slot<SourceMachine>], run: &[Cell], out: &mut Events) -> Option<Stop>
     requires some { 0 < length run.now }
     requires size { length run.now ≤ 15 }
     requires live { AllLive is_live slots.old }

@@ -32,7 +32,7 @@ fed : (front : List (Slot SourceMachine)) (s : Slot SourceMachine) (back : List 
     is_live s.machine ≡ true → (o : Option (ℕ × Packet)) →
     IfSome o (λ x. (0 < x.0) × (x.0 ≤ length piece)) → IfSome o (λ x. PacketFits x.1) →
     ((u first : List Placed) (last : Placed) → Stands s.machine u →
-        IfSome o (λ x. units_of (first ++ last ∷ []) ≡ take x.0 piece → Gives (reading_of s.machine) (Stands s.machine) u first last x.1)) →
+    IfSome o (λ x. units_of (first ++ last ∷ []) ≡ take x.0 piece → Gives (reading_of s.machine) (Stands s.machine) u first last x.1)) →
     IfSome o (λ x. PieceFed front s back (front ++ (s ∷ back)) at piece (record { bytes = x.0; step = Some (Item 0 x.1) }))
 fed front s back at piece live None bytes fits gives = tt
 fed front s back at piece live (Some x) bytes fits gives = record {
@@ -64,4 +64,4 @@ returns-clause-fed c = λ at front s back parts count.
     (subst (λ (y : Slot SourceMachine). is_live y.machine ≡ true) here (live_slot slots k d c.requires.index c.requires.live))
     o c.next_packet.ensures.bytes c.next_packet.ensures.fits
     (subst (λ (y : Slot SourceMachine). (u first : List Placed) (last : Placed) → Stands y.machine u →
-        IfSome o (λ x. units_of (first ++ last ∷ []) ≡ take x.0 piece → Gives (reading_of y.machine) (Stands y.machine) u first last x.1)) here c.next_packet.ensures.gives))
+    IfSome o (λ x. units_of (first ++ last ∷ []) ≡ take x.0 piece → Gives (reading_of y.machine) (Stands y.machine) u first last x.1)) here c.next_packet.ensures.gives))

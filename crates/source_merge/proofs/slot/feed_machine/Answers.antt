@@ -63,8 +63,8 @@ loop-done-preserved-in-Some c =
           (feeds_packet reading u c.args.source (Stands c.loop-done.machine) (take done run) (front run done count last c.in-Some.ensures.bytes.0 within c.index-run-done.is) last packet
           c.args.out.now.items c.loop-done.out.items c.push.new.self.items (i.feeds u s)
           (λ w k. subst (λ (r : List Placed → Stream Packet). Gives r (Stands c.loop-done.machine) w (placed_run (front run done count last c.in-Some.ensures.bytes.0 within c.index-run-done.is)) (byte_at last.at last.byte) packet) i.same
-              (c.in-Some.ensures.gives w (placed_run (front run done count last c.in-Some.ensures.bytes.0 within c.index-run-done.is)) (byte_at last.at last.byte) k
-              (packet_units run done count last c.in-Some.ensures.bytes.0 within c.index-run-done.is bytes same)))
+          (c.in-Some.ensures.gives w (placed_run (front run done count last c.in-Some.ensures.bytes.0 within c.index-run-done.is)) (byte_at last.at last.byte) k
+          (packet_units run done count last c.in-Some.ensures.bytes.0 within c.index-run-done.is bytes same)))
           pushed);
     }
 

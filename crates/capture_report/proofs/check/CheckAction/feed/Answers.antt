@@ -28,10 +28,10 @@ returns-clause-fed c = λ seen s.
     let is = c.feed_bare.ensures.none c.in_default.is in
     let same = subst (λ (k : Engine). engine.plan_of block.new.self ≡ engine.plan_of k) is block.ensures.same in
     let list = subst (λ (k : Engine). (u : List Placed) → engine.Stands k u → engine.Stands block.new.self (u ++ placed_from at bytes))
-        is block.ensures.list (placed seen) s.engine in
+    is block.ensures.list (placed seen) s.engine in
     let fed = subst (λ (k : Engine). (u : List Placed) → engine.Stands k u →
-        FedAs (Answers (engine.plan_of k) [] Going) (Answers (engine.plan_of k) block.new.out.items block.result.flow) u at bytes)
-        is block.ensures.fed (placed seen) s.engine in
+    FedAs (Answers (engine.plan_of k) [] Going) (Answers (engine.plan_of k) block.new.out.items block.result.flow) u at bytes)
+    is block.ensures.fed (placed seen) s.engine in
     record {
       read = record {
         engine = stands_after old.engine block.new.self seen bytes c.next-at.result block.new.out.items block.result.flow s.engine
@@ -60,10 +60,10 @@ returns-in-Some-clause-fed c = λ seen s.
     let flow = bare_flow block.step in
     let bytes = take block.bytes piece in
     let list = subst (λ (o : Option (Block Packet)). IfSome o (λ b. engine.Stands new (placed seen ++ placed_from at (take b.bytes piece))))
-        c.in-Some.is (c.feed_bare.ensures.list (placed seen) s.engine) in
+    c.in-Some.is (c.feed_bare.ensures.list (placed seen) s.engine) in
     let fed = subst (λ (o : Option (Block Packet)). IfSome o (λ b. FedAs (Answers p [] Going)
-        (Answers p (bare_events (at + (b.bytes - 1)) b.step) (bare_flow b.step)) (placed seen) at (take b.bytes piece)))
-        c.in-Some.is (c.feed_bare.ensures.fed (placed seen) s.engine) in
+    (Answers p (bare_events (at + (b.bytes - 1)) b.step) (bare_flow b.step)) (placed seen) at (take b.bytes piece)))
+    c.in-Some.is (c.feed_bare.ensures.fed (placed seen) s.engine) in
     let same = c.feed_bare.ensures.same in
     record {
       read = record {

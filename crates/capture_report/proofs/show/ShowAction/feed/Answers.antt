@@ -37,10 +37,10 @@ returns-in-Some-clause-fed c = λ seen s.
     let events = bare_events (at + (count - 1)) (Some (Item 0 c.in-Some.packet)) in
     let bytes = take count piece in
     let list = subst (λ (o : Option (ℕ × Packet)). IfSome o (λ x. engine.Stands new (placed seen ++ placed_from at (take x.0 piece))))
-        c.in-Some.is (c.take_packet.ensures.list (placed seen) s.engine) in
+    c.in-Some.is (c.take_packet.ensures.list (placed seen) s.engine) in
     let fed = subst (λ (o : Option (ℕ × Packet)). IfSome o (λ x. FedAs (Answers p.plan [] Going)
-        (Answers p.plan (bare_events (at + (x.0 - 1)) (Some (Item 0 x.1))) Going) (placed seen) at (take x.0 piece)))
-        c.in-Some.is (c.take_packet.ensures.fed (placed seen) s.engine) in
+    (Answers p.plan (bare_events (at + (x.0 - 1)) (Some (Item 0 x.1))) Going) (placed seen) at (take x.0 piece)))
+    c.in-Some.is (c.take_packet.ensures.fed (placed seen) s.engine) in
     let same = c.take_packet.ensures.same in
     let report = report_of p.plan (placed seen) in
     record {
@@ -72,10 +72,10 @@ returns-clause-fed c = λ seen s.
     let is = c.feed_bare.ensures.none c.in_default-feed_bare.is ∙ c.take_packet.ensures.none c.in_default.is in
     let same = subst (λ (k : Engine). engine.plan_of block.new.self ≡ engine.plan_of k) is block.ensures.same in
     let list = subst (λ (k : Engine). (u : List Placed) → engine.Stands k u → engine.Stands block.new.self (u ++ placed_from at bytes))
-        is block.ensures.list (placed seen) s.engine in
+    is block.ensures.list (placed seen) s.engine in
     let fed = subst (λ (k : Engine). (u : List Placed) → engine.Stands k u →
-        FedAs (Answers (engine.plan_of k) [] Going) (Answers (engine.plan_of k) events block.result.flow) u at bytes)
-        is block.ensures.fed (placed seen) s.engine in
+    FedAs (Answers (engine.plan_of k) [] Going) (Answers (engine.plan_of k) events block.result.flow) u at bytes)
+    is block.ensures.fed (placed seen) s.engine in
     let report = report_of p.plan (placed seen) in
     record {
       read = record {
@@ -116,14 +116,14 @@ returns-in-Some-feed_bare-clause-fed c = λ seen s.
     let flow = bare_flow block.step in
     let bytes = take block.bytes piece in
     let list = subst (λ (o : Option (Block Packet)). IfSome o (λ b. engine.Stands new (placed seen ++ placed_from at (take b.bytes piece))))
-        c.in-Some-feed_bare.is (c.feed_bare.ensures.list (placed seen)
-        (subst (λ (k : Engine). engine.Stands k (placed seen)) (sym is) s.engine)) in
+    c.in-Some-feed_bare.is (c.feed_bare.ensures.list (placed seen)
+    (subst (λ (k : Engine). engine.Stands k (placed seen)) (sym is) s.engine)) in
     let fed = subst (λ (o : Option (Block Packet)). IfSome o (λ b. FedAs (Answers p.plan [] Going)
-        (Answers p.plan (bare_events (at + (b.bytes - 1)) b.step) (bare_flow b.step)) (placed seen) at (take b.bytes piece)))
-        c.in-Some-feed_bare.is (subst (λ (k : Engine). (u : List Placed) → engine.Stands k u →
-        IfSome c.feed_bare.result (λ b. FedAs (Answers (engine.plan_of k) [] Going)
-        (Answers (engine.plan_of k) (bare_events (at + (b.bytes - 1)) b.step) (bare_flow b.step)) u at (take b.bytes piece)))
-        is c.feed_bare.ensures.fed (placed seen) s.engine) in
+    (Answers p.plan (bare_events (at + (b.bytes - 1)) b.step) (bare_flow b.step)) (placed seen) at (take b.bytes piece)))
+    c.in-Some-feed_bare.is (subst (λ (k : Engine). (u : List Placed) → engine.Stands k u →
+    IfSome c.feed_bare.result (λ b. FedAs (Answers (engine.plan_of k) [] Going)
+    (Answers (engine.plan_of k) (bare_events (at + (b.bytes - 1)) b.step) (bare_flow b.step)) u at (take b.bytes piece)))
+    is c.feed_bare.ensures.fed (placed seen) s.engine) in
     let same = subst (λ (k : Engine). engine.plan_of new ≡ engine.plan_of k) is c.feed_bare.ensures.same in
     let report = report_of p.plan (placed seen) in
     record {

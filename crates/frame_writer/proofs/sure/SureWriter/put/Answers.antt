@@ -23,9 +23,9 @@ returns-then-is_begun-clause-grown c = λ every halves t s.
     let out = c.put.new.out.items in
     begun_grown w c.put.new.self every halves t x out c.args.self.now.ready.items s.so_far s.stands s.written (c.put.ensures.to_come []) (c.is_begun.ensures.begun c.if-is_begun.true)
     ∙ ap (λ (l : List ℕ). sure every halves t ++ l) (sym (
-        c.append-then-is_begun.ensures.items
-        ∙ ap (λ (l : List ℕ). l ++ c.as_slice-then-is_begun.result.now) (c.append.ensures.items ∙ ap (λ (l : List ℕ). l ++ c.as_slice.result.now) c.requires.empty ∙ c.as_slice.ensures.value)
-        ∙ ap (λ (l : List ℕ). c.args.self.now.ready.items ++ l) c.as_slice-then-is_begun.ensures.value))
+    c.append-then-is_begun.ensures.items
+    ∙ ap (λ (l : List ℕ). l ++ c.as_slice-then-is_begun.result.now) (c.append.ensures.items ∙ ap (λ (l : List ℕ). l ++ c.as_slice.result.now) c.requires.empty ∙ c.as_slice.ensures.value)
+    ∙ ap (λ (l : List ℕ). c.args.self.now.ready.items ++ l) c.as_slice-then-is_begun.ensures.value))
 
 pub returns-else-is_begun-clause-list : goal.returns-else-is_begun-clause-list
 returns-else-is_begun-clause-list c = λ every halves t s.

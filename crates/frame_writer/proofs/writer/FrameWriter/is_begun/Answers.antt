@@ -12,7 +12,7 @@ returns-else-is_some-clause-begun c = λ h.
     let w = c.args.self.now in
     let n : w.held ≡ None = none_held w.held (sym c.is_some.ensures ∙ c.if-is_some.false) in
     subst (λ (o : Option ℕ). HasOne (continued w.every w.halves w.frames w.pairs.items w.id o [])) (sym n)
-        (pairs_begun w.every w.halves w.frames w.pairs.items w.id (grind arith))
+    (pairs_begun w.every w.halves w.frames w.pairs.items w.id (grind arith))
 
 pub returns-else-is_some-clause-none : goal.returns-else-is_some-clause-none
 returns-else-is_some-clause-none c = λ h.
