@@ -1,14 +1,16 @@
 -- A text names a number within bounds exactly where it is the decimal of one.
-use Rattle.std.proofs.Common.{◌≡◌, ℕ, ◌≤◌, ◌<◌, ◌^◌, List, Bool, true, false, arith, sym, ap, refl, ◌∙◌, Option, Some}
+use Rattle.std.proofs.Common.{◌≡◌, ℕ, zero, suc, subst, ◌+◌, ◌*◌, ◌≤◌, ◌<◌, ◌^◌, List, [], ◌∷◌, length, Bool, true, false, arith, sym, ap, refl, ◌∙◌, Option, Some}
 use Rattle.std.proofs.Common.{None, nat_le, if◌then◌else◌}
 use Rattle.std.specs.Str.{bytes_eq}
-use Rattle.std.specs.Str.Parse.{digits_value}
+use Rattle.std.specs.Str.Parse.{digits_value, digits_value_after, AllDigits}
+use Rattle.std.specs.Char.{digit_value}
 use Rattle.std.specs.Fmt.{decimal}
-use Rattle.std.proofs.lemmas.Fmt.{digits_value-decimal}
+use Rattle.std.proofs.lemmas.Fmt.{digits_value-decimal, decimal-digits_value, decimal_is_IsNumeral, decimal_digit, first_decimal}
+use Rattle.std.specs.Prelude.{slice_index, IfSome}
 use Rattle.std.proofs.lemmas.Str.Parse.{numerals_by_value, tells_digits}
 use Rattle.std.proofs.lemmas.Slice.Eq.{bytes_eq-Decides}
 use Rattle.std.proofs.lemmas.Bool.Decides.{nat_tests}
-use Rattle.decimal_words.specs.Numbers.{number_named, is_number}
+use Rattle.decimal_words.specs.Numbers.{number_named, is_number, HasDigits}
 
 -- what the digits of a decimal say is its number
 pub value_of_decimal : (n : ℕ) (text : List ℕ) → n < 2 ^ 64 → text ≡ decimal n → digits_value 10 text ≡ n
@@ -48,3 +50,38 @@ names_nothing least greatest text never = go (number_named least greatest text) 
     go : (found : Option ℕ) → found ≡ number_named least greatest text → None ≡ found
     go None e = refl
     go (Some n) e = (let facts = number_is least greatest n text (sym e) in absurd (never n facts.0 facts.1 facts.2))
+
+-- digits after a number say no less
+pub value_grows : (n : ℕ) (digits : List ℕ) → n ≤ digits_value_after 10 n digits
+value_grows n [] = omega arith
+value_grows n (c ∷ digits) = let k = value_grows (n * 10 + digit_value c) digits in omega arith
+
+-- digits are the decimal of what they say
+pub is_decimal : (text : List ℕ) (n : ℕ) → HasDigits text → n < 2 ^ 64 → AllDigits 10 text × (n ≡ digits_value 10 text) → text ≡ decimal n
+is_decimal text n h small said =
+    let is : n ≡ digits_value 10 text = said.1 in
+    sym (ap decimal is ∙ decimal-digits_value (numerals_by_value _ tells_digits) text said.0 h.0 h.1 (omega arith))
+
+-- and a decimal has digits, which say its number
+pub decimal_digits : (n : ℕ) → n < 2 ^ 64 → AllDigits 10 (decimal n)
+decimal_digits n h = (decimal_is_IsNumeral n h).0.1
+
+first_digit : (n : ℕ) → n < 2 ^ 64 → slice_index (decimal n) 0 ≡ 48 → length (decimal n) ≡ 1
+first_digit zero h e = ap length (decimal_digit 0 (omega arith))
+first_digit (suc n) h e = absurd (let k = first_decimal (suc n) (omega arith) h in omega arith)
+
+pub decimal_has : (n : ℕ) (text : List ℕ) → n < 2 ^ 64 → text ≡ decimal n → HasDigits text
+decimal_has n text h e = subst HasDigits (sym e) ((decimal_is_IsNumeral n h).0.0, first_digit n h)
+
+-- what is read of digits
+pub decimal_if : (text : List ℕ) (o : Option ℕ) → HasDigits text → IfSome o (λ n. (n < 2 ^ 64) × AllDigits 10 text × (n ≡ digits_value 10 text)) → IfSome o (λ n. text ≡ decimal n)
+decimal_if text None h said = tt
+decimal_if text (Some n) h said = is_decimal text n h said.0 (said.1, said.2)
+
+pub read_if : (text : List ℕ) (o : Option ℕ) (n : ℕ) → n < 2 ^ 64 → text ≡ decimal n →
+    IfSome o (λ n. (n < 2 ^ 64) × AllDigits 10 text × (n ≡ digits_value 10 text)) →
+    (o ≡ None → AllDigits 10 text → digits_value 10 text < 2 ^ 64 → ⊥) → o ≡ Some n
+read_if text (Some m) n small e said none = ap Some (said.2 ∙ value_of_decimal n text small e)
+read_if text None n small e said none =
+    let v = value_of_decimal n text small e in
+    absurd (none refl (subst (AllDigits 10) (sym e) (decimal_digits n small)) (omega arith))

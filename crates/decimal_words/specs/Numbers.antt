@@ -1,6 +1,6 @@
 -- The numbers that words say in decimal.
 use Rattle.std.specs.Prelude.{ℕ, List, Option, Some, None, nat_le, nat_eq, Bool, ◌&&◌, if◌then◌else◌, decimal}
-use Rattle.std.specs.Prelude.{option_and_then, length, drop}
+use Rattle.std.specs.Prelude.{◌≡◌, ◌<◌, option_and_then, length, drop, slice_index}
 use Rattle.std.specs.List.{starts_with}
 use Rattle.std.specs.Str.{bytes_eq}
 use Rattle.std.specs.Str.Parse.{digits_value}
@@ -23,3 +23,7 @@ text_after front text =
 -- the number from `least` to `greatest` that comes after this front of a text
 abbrev pub number_after : List ℕ → ℕ → ℕ → List ℕ → Option ℕ
 number_after front least greatest text = option_and_then (number_named least greatest) (text_after front text)
+
+-- there is a digit, and no leading zero unless the text is that zero
+abbrev pub HasDigits : List ℕ → Type 0
+HasDigits text = (0 < length text) × (slice_index text 0 ≡ 48 → length text ≡ 1)

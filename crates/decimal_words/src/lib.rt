@@ -5,7 +5,7 @@ pub mod laws;
 mod number;
 mod prefix;
 
-pub use number::{id_named, number_named};
+pub use number::{id_in, id_named, number_in, number_named};
 pub use prefix::text_after;
 
 #[cfg(test)]
