@@ -6,7 +6,7 @@ mod number;
 mod prefix;
 
 pub use number::{id_in, id_named, number_in, number_named};
-pub use prefix::text_after;
+pub use prefix::{bytes_after, text_after};
 
 #[cfg(test)]
 mod tests;

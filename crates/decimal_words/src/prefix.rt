@@ -9,3 +9,14 @@ pub fn text_after<'a>(front: &str, text: &'a str) -> Option<&'a str>
 {
     text.strip_prefix(front)
 }
+
+/// The same of a text that is bytes.
+pub fn bytes_after<'a>(front: &[u8], text: &'a [u8]) -> Option<&'a [u8]>
+    ensures { option_map (λ s. s.now) result ≡ text_after front.now text.now }
+{
+    if text.starts_with(front) {
+        Some(&text[front.len()..])
+    } else {
+        None
+    }
+}

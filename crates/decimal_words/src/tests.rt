@@ -1,10 +1,12 @@
 //! Words, and the numbers that they say.
 
-use crate::{id_named, number_named, text_after};
+use crate::{bytes_after, id_in, id_named, number_in, number_named, text_after};
 
 #[test]
 fn tests_numbers(rt: HostRuntime) {
-    let rows: [(u64, u64, &str, Option<u64>); 14] = [
+    let rows: [(u64, u64, &str, Option<u64>); 16] = [
+        (0, u64::MAX, "99999999999999999999", None),
+        (0, u64::MAX, "18446744073709551620", None),
         (0, 126, "0", Some(0)),
         (1, 126, "1", Some(1)),
         (1, 126, "126", Some(126)),
@@ -22,6 +24,7 @@ fn tests_numbers(rt: HostRuntime) {
     ];
     for (least, greatest, text, number) in rows {
         assert_eq!(rt; number_named(least, greatest, text), number, "{text}");
+        assert_eq!(rt; number_in(least, greatest, text.as_bytes()), number, "{text}");
     }
 }
 
@@ -37,6 +40,8 @@ fn tests_ids(rt: HostRuntime) {
     for (least, greatest, text, number) in rows {
         let found = id_named(least, greatest, text).map(|id| id.number());
         assert_eq!(rt; found, number, "{text}");
+        let found = id_in(least, greatest, text.as_bytes()).map(|id| id.number());
+        assert_eq!(rt; found, number, "{text}");
     }
 }
 
@@ -51,5 +56,7 @@ fn tests_fronts(rt: HostRuntime) {
     ];
     for (front, text, rest) in rows {
         assert_eq!(rt; text_after(front, text), rest, "{text}");
+        let bytes = bytes_after(front.as_bytes(), text.as_bytes());
+        assert_eq!(rt; bytes, rest.map(|rest| rest.as_bytes()), "{text}");
     }
 }

@@ -6,14 +6,10 @@ use Rattle.std.specs.Char.{is_ascii_hexdigit}
 use Rattle.std.proofs.lemmas.Bool.Decides.{nat_tests}
 use Rattle.std.proofs.lemmas.Fmt.{decimal_by_steps}
 use Rattle.trace_text.specs.HexDigits.{hex_digits}
-use Rattle.script_text.specs.Words.{words_in, are_words}
-use Rattle.script_text.specs.Lines.{are_printable}
+use Rattle.script_text.specs.Words.{is_graphic, are_printable, words_in, are_words}
 use Rattle.line_laws.proofs.Digits.{and_left, and_right, digits_length, digits_hexadecimal}
 
--- a printable byte other than a space
-abbrev pub is_graphic : ℕ → Bool
-is_graphic b = nat_lt 32 b && nat_le b 126
-
+-- printable bytes other than spaces
 abbrev pub graphic : List ℕ → Bool
 graphic [] = true
 graphic (b ∷ word) = is_graphic b && graphic word

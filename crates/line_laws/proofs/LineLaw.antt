@@ -7,10 +7,10 @@ use Rattle.script_text.specs.declared.shapes.Shape.{Shape}
 use Rattle.script_text.specs.declared.items.Item.{Item}
 use Rattle.script_text.specs.declared.lines.Line.TheVariants.{Nothing, Of}
 use Rattle.script_text.specs.declared.line_fault.LineFault.TheVariants.{LongLine, BadLine}
-use Rattle.script_text.specs.Words.{words_in, are_words}
+use Rattle.script_text.specs.Words.{are_printable, words_in, are_words}
 use Rattle.script_text.specs.Shapes.{shape_named}
 use Rattle.script_text.specs.Items.{item_of}
-use Rattle.script_text.specs.Lines.{line_of_words, line_of, is_nothing, are_printable}
+use Rattle.script_text.specs.Lines.{line_of_words, line_of, is_nothing}
 use Rattle.script_text.specs.Said.{text_of, IsSayable}
 use Rattle.script_text.proofs.LineRanges.{words_are, item_said}
 use Rattle.line_laws.specs.Lowered.{lowered}

@@ -29,10 +29,10 @@ use Rattle.script_text.specs.declared.lines.Line.{Line}
 use Rattle.script_text.specs.declared.lines.Line.TheVariants.{Nothing}
 use Rattle.script_text.specs.declared.line_fault.LineFault.{LineFault}
 use Rattle.script_text.specs.declared.line_fault.LineFault.TheVariants.{LongLine, BadLine}
-use Rattle.script_text.specs.Words.{are_words}
+use Rattle.script_text.specs.Words.{are_printable, are_words}
 use Rattle.script_text.specs.Shapes.{shape_named}
 use Rattle.script_text.specs.Items.{item_of}
-use Rattle.script_text.specs.Lines.{taken_by, line_of_words, line_of_printable, line_of, is_nothing, are_printable}
+use Rattle.script_text.specs.Lines.{taken_by, line_of_words, line_of_printable, line_of, is_nothing}
 use Rattle.script_text.specs.Said.{text_of, IsSayable}
 use Rattle.line_laws.proofs.Digits.{both}
 use Rattle.line_laws.proofs.Joining.{joined, is_word, are_all, decimal_word, words_joined, enough_room, printable_joined}

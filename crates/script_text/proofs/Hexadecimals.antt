@@ -1,10 +1,10 @@
 -- Hexadecimal digits, and the numbers that they say.
-use Rattle.std.proofs.Common.{◌≡◌, ℕ, ◌<◌, ◌≤◌, ◌^◌, List, [], ◌∷◌, length, refl, sym, ◌∙◌, ap, subst, arith, Bool, true, false, Some, None, Option, Ok, Err, Result}
+use Rattle.std.proofs.Common.{◌≡◌, ℕ, ◌+◌, ◌*◌, ◌<◌, ◌≤◌, ◌^◌, List, [], ◌∷◌, length, refl, sym, ◌∙◌, ap, subst, arith, Bool, true, false, Some, None, Option}
 use Rattle.std.proofs.Math.Nat.{pow-le-pow_right}
 use Rattle.std.specs.Prelude.{◌==◌, ◌&&◌, if◌then◌else◌, IfSome}
 use Rattle.std.specs.List.{list_all}
 use Rattle.std.specs.Char.{is_ascii_hexdigit, digit_value}
-use Rattle.std.specs.Str.Parse.{digits_value, AllDigits, ParsesUnsigned, without_leading_plus}
+use Rattle.std.specs.Str.Parse.{digits_value, digits_value_after, AllDigits}
 use Rattle.std.proofs.lemmas.Bool.Decides.{nat_tests}
 use Rattle.std.proofs.lemmas.Int.Digits.{digits_value-lt}
 use Rattle.script_text.specs.Numbers.{hexadecimal_named}
@@ -45,28 +45,16 @@ hexadecimal_small count text v e =
     let so : v < 16 ^ length text = subst (λ (n : ℕ). n < 16 ^ length text) is.2 less in
     subst (λ (n : ℕ). v < 16 ^ n) is.0 so
 
--- digits are no sign
-no_plus : (text : List ℕ) → list_all is_ascii_hexdigit text ≡ true → without_leading_plus text ≡ text
-no_plus [] h = refl
-no_plus (c ∷ text) h =
-    let digit = and_left (is_ascii_hexdigit c) (list_all is_ascii_hexdigit text) h in
-    let e : (c == 43) ≡ false = grind (arith, nat_tests) in
-    rw e refl
+-- digits after a number say no less
+pub value_grows : (n : ℕ) (digits : List ℕ) → n ≤ digits_value_after 16 n digits
+value_grows n [] = omega arith
+value_grows n (c ∷ digits) = let k = value_grows (n * 16 + digit_value c) digits in omega arith
 
 few : (text : List ℕ) → list_all is_ascii_hexdigit text ≡ true → length text ≤ 16 → digits_value 16 text < 2 ^ 64
 few text h n =
     let less : digits_value 16 text < 16 ^ length text = digits_value-lt 16 text (all_digits text h) in
     let most : 16 ^ length text ≤ 16 ^ 16 = pow-le-pow_right (omega arith) {i = length text} {j = 16} n in
     omega arith
-
--- what the digits of a number parse as
-pub parsed_is : {E : Type 0} (text : List ℕ) (r : Result ℕ E) → list_all is_ascii_hexdigit text ≡ true → 0 < length text → length text ≤ 16 →
-    ParsesUnsigned 64 16 text r → r ≡ Ok (digits_value 16 text)
-parsed_is text (Ok v) h some n parses =
-    ap Ok (parses.1 ∙ ap (digits_value 16) (no_plus text h))
-parsed_is text (Err e) h some n parses =
-    let plain = no_plus text h in
-    absurd (parses (rw plain ((some, all_digits text h), few text h n)))
 
 -- and what is read of a word of that many digits
 pub said_is : (count : ℕ) (text : List ℕ) → length text ≡ count → list_all is_ascii_hexdigit text ≡ true →
@@ -79,3 +67,14 @@ said_is count text len h =
 pub small_if : (count : ℕ) (text : List ℕ) (o : Option ℕ) → o ≡ hexadecimal_named count text → IfSome o (λ n. n < 16 ^ count)
 small_if count text None e = tt
 small_if count text (Some v) e = hexadecimal_small count text v (sym e)
+
+-- the digits of a word that has that many
+pub read_is : (count : ℕ) (text : List ℕ) (o : Option ℕ) → length text ≡ count → count ≤ 16 → IfSome o (λ n. (list_all is_ascii_hexdigit text ≡ true) × (n ≡ digits_value 16 text)) →
+    (o ≡ None → list_all is_ascii_hexdigit text ≡ true → digits_value 16 text < 2 ^ 64 → ⊥) → o ≡ hexadecimal_named count text
+unfolding hexadecimal_named
+read_is count text (Some n) len most said none = ap Some said.1 ∙ said_is count text len said.0
+read_is count text None len most said none = by (list_all is_ascii_hexdigit text) refl
+  where
+    by : (v : Bool) → list_all is_ascii_hexdigit text ≡ v → None ≡ hexadecimal_named count text
+    by true all = absurd (none refl all (few text all (omega arith)))
+    by false all = (let same : (length text == count) ≡ true = grind (arith, nat_tests) in rw (same, all) refl)

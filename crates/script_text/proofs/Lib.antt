@@ -1,5 +1,5 @@
 pub mod Splitting
-pub mod Printable
+pub mod Unnamed
 pub mod Hexadecimals
 pub mod Options
 pub mod ItmRanges

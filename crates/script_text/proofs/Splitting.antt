@@ -1,54 +1,131 @@
--- The words of a text, one by one.
-use Rattle.std.proofs.Common.{◌≡◌, ℕ, ◌+◌, ◌<◌, List, [], ◌∷◌, length, refl, sym, ◌∙◌, ap, arith, Bool, true, false, nat_lt}
-use Rattle.std.specs.Prelude.{◌==◌, ◌&&◌}
-use Rattle.std.specs.List.{position_or_len, before_first, after_first}
-use Rattle.std.proofs.lemmas.List.Splits.{slice_split_first}
-use Rattle.script_text.specs.Words.{words_in, are_words}
+-- The words of a line, one by one.
+use Rattle.std.proofs.Math.Seq.{take-length}
+use Rattle.std.proofs.Common.{length-drop, ◌-◌, ◌≡◌, ℕ, zero, suc, ◌+◌, ◌<◌, List, [], ◌∷◌, length, take, drop, refl, sym, ◌∙◌, ap, arith, Bool, true, false, nat_lt}
+use Rattle.std.specs.Prelude.{◌==◌, ◌&&◌, nat_le, slice_index}
+use Rattle.std.specs.List.{prefix_len}
+use Rattle.std.proofs.lemmas.Bool.Decides.{nat_tests}
+use Rattle.script_text.specs.Words.{is_graphic, are_printable, words_in, are_words}
 
-abbrev is_space : ℕ → Bool
-is_space b = b == 32
+no_space : (b : ℕ) → is_graphic b ≡ true → (b == 32) ≡ false
+no_space b h = grind (arith, nat_tests)
 
--- a text without a space is one word
-pub one_word : (xs : List ℕ) → position_or_len is_space xs ≡ length xs → words_in xs ≡ xs ∷ []
-one_word [] h = refl
-one_word (x ∷ xs) h = by (x == 32) refl (λ g. one_word xs g)
+printable : (b : ℕ) → is_graphic b ≡ true → (nat_le 32 b && nat_le b 126) ≡ true
+printable b h = grind (arith, nat_tests)
+
+unprintable : (b : ℕ) → is_graphic b ≡ false → (b == 32) ≡ false → (nat_le 32 b && nat_le b 126) ≡ false
+unprintable b h k = grind (arith, nat_tests)
+
+-- a line of such bytes alone is one word
+pub record IsWord (line : List ℕ) : Type 0 where
+  pub printable : are_printable line ≡ true
+  pub one : words_in line ≡ line ∷ []
+
+more_word : (b : ℕ) (line : List ℕ) → is_graphic b ≡ true → IsWord line → IsWord (b ∷ line)
+more_word b line g w =
+    let p = printable b g in
+    let s = no_space b g in
+    let more = w.printable in
+    let one = w.one in
+    record { printable = rw (p, more) refl; one = rw (s, one) refl }
+
+pub whole : (line : List ℕ) → prefix_len is_graphic line ≡ length line → IsWord line
+whole [] h = record { printable = refl; one = refl }
+whole (b ∷ line) h = by (is_graphic b) refl (whole line)
   where
-    by : (v : Bool) → (x == 32) ≡ v → (position_or_len is_space xs ≡ length xs → words_in xs ≡ xs ∷ []) → words_in (x ∷ xs) ≡ (x ∷ xs) ∷ []
-    by true e more = (let g : position_or_len is_space (x ∷ xs) ≡ 0 = rw e refl in let n = h in absurd (omega arith))
-    by false e more =
-        let g : position_or_len is_space (x ∷ xs) ≡ 1 + position_or_len is_space xs = rw e refl in
-        let tail = more (let n = h in omega arith) in
-        rw (e, tail) refl
+    by : (v : Bool) → is_graphic b ≡ v → (prefix_len is_graphic line ≡ length line → IsWord line) → IsWord (b ∷ line)
+    by true e more =
+        let g : prefix_len is_graphic (b ∷ line) ≡ 1 + prefix_len is_graphic line = rw e refl in
+        let k = h in more_word b line e (more (omega arith))
+    by false e more = (let g : prefix_len is_graphic (b ∷ line) ≡ 0 = rw e refl in let k = h in absurd (omega arith))
 
--- and one with a space is the word before the first, and the words behind it
-pub first_word : (xs : List ℕ) → position_or_len is_space xs < length xs → words_in xs ≡ before_first is_space xs ∷ words_in (after_first is_space xs)
-first_word xs h = slice_split_first is_space xs 0 h
+-- with another byte, its words are the one before it, and those after, where that byte is a space; and else it is not
+-- printable
+pub record IsCut (line : List ℕ) (n : ℕ) : Type 0 where
+  pub printable : are_printable line ≡ are_printable (drop (suc n) line)
+  pub words : words_in line ≡ take n line ∷ words_in (drop (suc n) line)
+
+more_cut : (b : ℕ) (line : List ℕ) (n : ℕ) → is_graphic b ≡ true → IsCut line n → IsCut (b ∷ line) (suc n)
+more_cut b line n g c =
+    let p = printable b g in
+    let s = no_space b g in
+    let more = c.printable in
+    let words = c.words in
+    record { printable = rw (p, more) refl; words = rw (s, words) refl }
+
+pub cut : (line : List ℕ) (n : ℕ) → n ≡ prefix_len is_graphic line → n < length line → slice_index line n ≡ 32 → IsCut line n
+cut [] n h l e = absurd (omega arith)
+cut (b ∷ line) n h l e = by (is_graphic b) refl n h l e (cut line)
+  where
+    by : (v : Bool) → is_graphic b ≡ v → (n : ℕ) → n ≡ prefix_len is_graphic (b ∷ line) → n < length (b ∷ line) → slice_index (b ∷ line) n ≡ 32 →
+        ((n : ℕ) → n ≡ prefix_len is_graphic line → n < length line → slice_index line n ≡ 32 → IsCut line n) → IsCut (b ∷ line) n
+    by true g zero h l e more = (let k : prefix_len is_graphic (b ∷ line) ≡ 1 + prefix_len is_graphic line = rw g refl in let j = h in absurd (omega arith))
+    by true g (suc n) h l e more =
+        let k : prefix_len is_graphic (b ∷ line) ≡ 1 + prefix_len is_graphic line = rw g refl in
+        let j = h in more_cut b line n g (more n (omega arith) (omega arith) e)
+    by false g zero h l e more = (let s : b ≡ 32 = e in rw s (record { printable = refl; words = refl }))
+    by false g (suc n) h l e more = (let k : prefix_len is_graphic (b ∷ line) ≡ 0 = rw g refl in let j = h in absurd (omega arith))
+
+pub bad : (line : List ℕ) (n : ℕ) → n ≡ prefix_len is_graphic line → n < length line → (slice_index line n == 32) ≡ false → are_printable line ≡ false
+bad [] n h l e = absurd (omega arith)
+bad (b ∷ line) n h l e = by (is_graphic b) refl n h l e (bad line)
+  where
+    by : (v : Bool) → is_graphic b ≡ v → (n : ℕ) → n ≡ prefix_len is_graphic (b ∷ line) → n < length (b ∷ line) → (slice_index (b ∷ line) n == 32) ≡ false →
+        ((n : ℕ) → n ≡ prefix_len is_graphic line → n < length line → (slice_index line n == 32) ≡ false → are_printable line ≡ false) → are_printable (b ∷ line) ≡ false
+    by true g zero h l e more = (let k : prefix_len is_graphic (b ∷ line) ≡ 1 + prefix_len is_graphic line = rw g refl in let j = h in absurd (omega arith))
+    by true g (suc n) h l e more =
+        let k : prefix_len is_graphic (b ∷ line) ≡ 1 + prefix_len is_graphic line = rw g refl in
+        let j = h in
+        let p = printable b g in
+        let rest = more n (omega arith) (omega arith) e in rw (p, rest) refl
+    by false g zero h l e more = (let u = unprintable b g e in rw u refl)
+    by false g (suc n) h l e more = (let k : prefix_len is_graphic (b ∷ line) ≡ 0 = rw g refl in let j = h in absurd (omega arith))
 
 pub and_true : (a b : Bool) → a ≡ true → (a && b) ≡ b
 and_true true b e = refl
 and_true false b e = cc
 
--- a text that was cut at its first space
-pub split_parts : (xs word rest : List ℕ) → word ≡ before_first is_space xs → rest ≡ after_first is_space xs → position_or_len is_space xs < length xs → word ∷ words_in rest ≡ words_in xs
-split_parts xs word rest a b h = sym (first_word xs h ∙ ap (λ (l : List ℕ). l ∷ words_in (after_first is_space xs)) (sym a) ∙ ap (λ (l : List ℕ). word ∷ words_in l) (sym b))
+and_false : (a b : Bool) → a ≡ false → (a && b) ≡ false
+and_false true b e = cc
+and_false false b e = refl
 
 and_last : (a : Bool) → a ≡ (a && true)
 and_last true = refl
 and_last false = refl
 
-and_false : (a b : Bool) → a ≡ false → false ≡ (a && b)
-and_false true b e = cc
-and_false false b e = refl
+and_first_false : (a b c : Bool) → b ≡ false → false ≡ (a && (b && c))
+and_first_false true b c e = sym (and_false b c e)
+and_first_false false b c e = refl
 
-pub last_told : (n : ℕ) (xs : List ℕ) {v : Bool} → v ≡ (nat_lt 0 (length xs) && nat_lt n 8) → words_in xs ≡ xs ∷ [] → v ≡ are_words n (words_in xs)
-last_told n xs told one = told ∙ and_last (nat_lt 0 (length xs) && nat_lt n 8) ∙ ap (are_words n) (sym one)
+and_swap : (p a r : Bool) → a ≡ true → (p && r) ≡ (p && (a && r))
+and_swap p true r e = refl
+and_swap p false r e = cc
 
-pub more_told : (n : ℕ) (xs word rest : List ℕ) → word ≡ before_first is_space xs → rest ≡ after_first is_space xs → position_or_len is_space xs < length xs →
-    (nat_lt 0 (length word) && nat_lt n 8) ≡ true → are_words (n + 1) (words_in rest) ≡ are_words n (words_in xs)
-more_told n xs word rest a b h told =
-    sym (and_true (nat_lt 0 (length word) && nat_lt n 8) (are_words (n + 1) (words_in rest)) told) ∙ ap (are_words n) (split_parts xs word rest a b h)
+-- what is told of a line that is one word
+pub whole_told : (n : ℕ) (line : List ℕ) (v : Bool) → IsWord line → v ≡ (nat_lt 0 (length line) && nat_lt n 8) → v ≡ (are_printable line && are_words n (words_in line))
+whole_told n line v w told =
+    told ∙ and_last (nat_lt 0 (length line) && nat_lt n 8) ∙ ap (are_words n) (sym w.one) ∙ sym (and_true (are_printable line) (are_words n (words_in line)) w.printable)
 
-pub less_told : (n : ℕ) (xs word rest : List ℕ) → word ≡ before_first is_space xs → rest ≡ after_first is_space xs → position_or_len is_space xs < length xs →
-    (nat_lt 0 (length word) && nat_lt n 8) ≡ false → false ≡ are_words n (words_in xs)
-less_told n xs word rest a b h told =
-    and_false (nat_lt 0 (length word) && nat_lt n 8) (are_words (n + 1) (words_in rest)) told ∙ ap (are_words n) (split_parts xs word rest a b h)
+-- and of others
+pub cut_told : (n m : ℕ) (line rest word : List ℕ) (v : Bool) → are_printable line ≡ are_printable rest → words_in line ≡ word ∷ words_in rest →
+    (nat_lt 0 (length word) && nat_lt n 8) ≡ true → m ≡ n + 1 → v ≡ (are_printable rest && are_words m (words_in rest)) → v ≡ (are_printable line && are_words n (words_in line))
+cut_told n m line rest word v p w told count e =
+    e ∙ ap (λ (m : ℕ). are_printable rest && are_words m (words_in rest)) count
+    ∙ and_swap (are_printable rest) (nat_lt 0 (length word) && nat_lt n 8) (are_words (n + 1) (words_in rest)) told
+    ∙ ap (λ (p : Bool). p && are_words n (word ∷ words_in rest)) (sym p)
+    ∙ ap (λ (l : List (List ℕ)). are_printable line && are_words n l) (sym w)
+
+pub cut_untold : (n : ℕ) (line rest word : List ℕ) → words_in line ≡ word ∷ words_in rest →
+    (nat_lt 0 (length word) && nat_lt n 8) ≡ false → false ≡ (are_printable line && are_words n (words_in line))
+cut_untold n line rest word w told =
+    and_first_false (are_printable line) (nat_lt 0 (length word) && nat_lt n 8) (are_words (n + 1) (words_in rest)) told
+    ∙ ap (λ (l : List (List ℕ)). are_printable line && are_words n l) (sym w)
+
+pub bad_told : (n : ℕ) (line : List ℕ) → are_printable line ≡ false → false ≡ (are_printable line && are_words n (words_in line))
+bad_told n line p = sym (and_false (are_printable line) (are_words n (words_in line)) p)
+
+-- the end of a line
+pub end_of : (line : List ℕ) (n : ℕ) → take (length line - (n + 1)) (drop (n + 1) line) ≡ drop (suc n) line
+end_of line n =
+    let k : n + 1 ≡ suc n = omega arith in
+    ap (λ (k : ℕ). take (length line - k) (drop k line)) k
+    ∙ ap (λ (j : ℕ). take j (drop (suc n) line)) (sym (length-drop (suc n) line)) ∙ take-length (drop (suc n) line)

@@ -1,5 +1,5 @@
 -- The lines of scripts (this project's profile).
-use Rattle.std.specs.Prelude.{ℕ, List, [], ◌∷◌, length, Bool, true, ◌&&◌, ◌==◌, nat_lt, nat_le, if◌then◌else◌}
+use Rattle.std.specs.Prelude.{ℕ, List, [], ◌∷◌, length, Bool, true, ◌==◌, nat_lt, if◌then◌else◌}
 use Rattle.std.specs.Prelude.{Option, Some, None, Result, Ok, Err, ok_or}
 use Rattle.decimal_words.specs.Numbers.{number_named}
 use Rattle.source_events.specs.declared.plan.Plan.{Plan}
@@ -13,7 +13,7 @@ use Rattle.script_text.specs.declared.lines.Line.TheVariants.{Nothing, Of}
 use Rattle.script_text.specs.declared.line_fault.LineFault.{LineFault}
 use Rattle.script_text.specs.declared.line_fault.LineFault.TheVariants.{LongLine, BadLine, BadId, BadNumber}
 use Rattle.script_text.specs.declared.line_fault.LineFault.TheVariants.{Unmapped, Mixed}
-use Rattle.script_text.specs.Words.{words_in, are_words}
+use Rattle.script_text.specs.Words.{are_printable, words_in, are_words}
 use Rattle.script_text.specs.Shapes.{shape_named}
 use Rattle.script_text.specs.Items.{item_of}
 
@@ -54,11 +54,6 @@ line_of_words plan (id ∷ words) = do
   number ← ok_or (number_named 1 126 id) BadId
   item ← ok_or (item_of shape words) BadNumber
   taken_by (kind_of plan number) number item
-
--- the bytes 20 to 7E
-abbrev pub are_printable : List ℕ → Bool
-are_printable [] = true
-are_printable (b ∷ line) = (nat_le 32 b && nat_le b 126) && are_printable line
 
 -- an empty line, or a remark, which begins with `#`
 abbrev pub is_nothing : List ℕ → Bool

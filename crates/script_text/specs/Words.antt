@@ -1,7 +1,16 @@
 -- The words of a line.
-use Rattle.std.specs.Prelude.{slice_index_or, map, ℕ, ◌+◌, List, [], ◌∷◌, Bool, true, ◌&&◌, ◌==◌, nat_lt, length}
+use Rattle.std.specs.Prelude.{slice_index_or, map, ℕ, ◌+◌, List, [], ◌∷◌, Bool, true, ◌&&◌, ◌==◌, nat_lt, nat_le, length}
 use Rattle.std.specs.Borrow.{Bor}
 use Rattle.std.specs.List.{slice_split}
+
+-- a printable byte other than a space: 21 to 7E
+abbrev pub is_graphic : ℕ → Bool
+is_graphic b = nat_lt 32 b && nat_le b 126
+
+-- the bytes 20 to 7E
+abbrev pub are_printable : List ℕ → Bool
+are_printable [] = true
+are_printable (b ∷ line) = (nat_le 32 b && nat_le b 126) && are_printable line
 
 -- the texts of words
 abbrev pub texts : List (Bor (List ℕ)) → List (List ℕ)

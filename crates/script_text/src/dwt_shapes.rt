@@ -111,7 +111,7 @@ fn counters_within(bits: u8) -> Option<DwtItem>
 /// The hardware packet of a shape and of these words, where their numbers are in their ranges, and `hw` is used only
 /// for a packet that has no name.
 #[tactic(auto, unfolding(crate::specs::Items::dwt_of))]
-pub fn dwt_of(shape: DwtShape, words: &[&str]) -> Option<DwtItem>
+pub fn dwt_of(shape: DwtShape, words: &[&[u8]]) -> Option<DwtItem>
     ensures { result ≡ dwt_in shape (texts words.now) }
 {
     match shape {

@@ -27,7 +27,7 @@ pub enum Item {
 }
 
 /// The item of a shape and of these words, where their numbers are in their ranges.
-pub fn item_of(shape: Shape, words: &[&str]) -> Option<Item>
+pub fn item_of(shape: Shape, words: &[&[u8]]) -> Option<Item>
     ensures { result ≡ item_in shape (texts words.now) }
 {
     match shape {

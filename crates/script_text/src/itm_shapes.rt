@@ -66,7 +66,7 @@ fn first_checked(len: u8, value: u32, change: bool, wrap: bool) -> Option<ItmPac
 
 /// A first global timestamp: its low bits fit its bytes, and only four bytes have clock change and wrap.
 #[tactic(auto, unfolding(crate::specs::Items::first_stamp))]
-fn first_stamp(words: &[&str]) -> Option<ItmPacket>
+fn first_stamp(words: &[&[u8]]) -> Option<ItmPacket>
     ensures { result ≡ first_in (texts words.now) }
 {
     let len = decimal_at(4, words, 1)? as u8;
@@ -78,7 +78,7 @@ fn first_stamp(words: &[&str]) -> Option<ItmPacket>
 
 /// The ITM packet of a shape and of these words, where their numbers are in their ranges.
 #[tactic(auto, unfolding(crate::specs::Items::itm_of))]
-pub fn itm_of(shape: ItmShape, words: &[&str]) -> Option<ItmPacket>
+pub fn itm_of(shape: ItmShape, words: &[&[u8]]) -> Option<ItmPacket>
     ensures { result ≡ itm_in shape (texts words.now) }
 {
     match shape {

@@ -3,14 +3,14 @@
 ghost use Rattle.std.specs.Prelude.{◌≡◌, IfOk};
 ghost use Rattle.source_events.specs.Plan.{kind_of};
 ghost use Rattle.script_text.specs.Words.{texts};
-ghost use Rattle.script_text.specs.Lines.{taken_by as taken_in, line_of_words as line_in, line_of, are_printable};
+ghost use Rattle.script_text.specs.Lines.{taken_by as taken_in, line_of_words as line_in, line_of};
 ghost use Rattle.script_text.specs.Said.{IsSaid};
 
 use crate::items::{Item, item_of};
 use crate::line_fault::LineFault;
 use crate::shapes::shape_of;
 use crate::words::{Words, put_words};
-use decimal_words::id_named;
+use decimal_words::id_in;
 use source_events::{Plan, SourceKind};
 use trace_values::SourceId;
 
@@ -57,26 +57,17 @@ fn taken_by(kind: Option<SourceKind>, id: SourceId, item: Item) -> Result<Line, 
 
 /// What the words of a line say.
 #[tactic(auto, unfolding(crate::specs::Lines::line_of_words))]
-fn line_of_words(plan: &Plan, words: &[&str]) -> Result<Line, LineFault>
+fn line_of_words(plan: &Plan, words: &[&[u8]]) -> Result<Line, LineFault>
     ensures { result ≡ line_in plan.now (texts words.now) }
 {
     match words {
         [] => Err(LineFault::BadLine),
         [id, words @ ..] => {
             let shape = shape_of(words).ok_or(LineFault::BadLine)?;
-            let id = id_named(1, 126, id).ok_or(LineFault::BadId)?;
+            let id = id_in(1, 126, id).ok_or(LineFault::BadId)?;
             let item = item_of(shape, words).ok_or(LineFault::BadNumber)?;
             taken_by(plan.kind_of(id), id, item)
         }
-    }
-}
-
-fn is_printable(line: &[u8]) -> bool
-    ensures { result ≡ are_printable line.now }
-{
-    match line {
-        [] => true,
-        [byte, line @ ..] => 0x20 <= *byte && *byte <= 0x7E && is_printable(line),
     }
 }
 
@@ -94,14 +85,8 @@ pub fn read_line(line: &[u8], plan: &Plan) -> Result<Line, LineFault>
         [] | [b'#', ..] => return Ok(Line::Nothing),
         _ => {}
     }
-    if !is_printable(line) {
-        return Err(LineFault::BadLine);
-    }
-    let Ok(text) = str::from_utf8(line) else {
-        return Err(LineFault::BadLine);
-    };
     let mut words = Words::new();
-    if !put_words(text, &mut words) {
+    if !put_words(line, &mut words) {
         return Err(LineFault::BadLine);
     }
     line_of_words(plan, words.as_slice())

@@ -9,7 +9,7 @@ use stp_grammar::item::Place;
 
 /// The master and the channel, 0 to 65535 each, that the words 1 and 2 are.
 #[tactic(auto, unfolding(crate::specs::Items::place_of))]
-pub fn place_of(words: &[&str]) -> Option<Place>
+pub fn place_of(words: &[&[u8]]) -> Option<Place>
     ensures { result ≡ place_in (texts words.now) }
 {
     let master = decimal_at(0xFFFF, words, 1)? as u16;

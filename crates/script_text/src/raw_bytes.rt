@@ -38,7 +38,7 @@ impl RawBytes {
 }
 
 /// The bytes that a text is in hexadecimal, two digits each: 1 to 100.
-fn bytes_named(text: &str) -> Option<RawBytes>
+fn bytes_named(text: &[u8]) -> Option<RawBytes>
     ensures { result ≡ named text.now }
 {
     if text.len() < 2 || text.len() > 2 * RAW_BYTES {
@@ -57,7 +57,7 @@ fn bytes_named(text: &str) -> Option<RawBytes>
 }
 
 /// The bytes that the word after the first is.
-pub fn raw_of(words: &[&str]) -> Option<RawBytes>
+pub fn raw_of(words: &[&[u8]]) -> Option<RawBytes>
     ensures { result ≡ raw_in (texts words.now) }
 {
     bytes_named(word_of(words, 1))

@@ -47,18 +47,18 @@ impl Shape {
 
 impl Field {
     /// Whether it may be this word: where a word is fixed, it is that one.
-    fn allows(&self, word: &str) -> bool
+    fn allows(&self, word: &[u8]) -> bool
         ensures { result ≡ allows (seen self.now) word.now }
     {
         match self {
-            Field::Word(fixed) => *fixed == word,
+            Field::Word(fixed) => fixed.as_bytes() == word,
             Field::Number => true,
         }
     }
 }
 
 /// Whether these are as many words, each of which may be there.
-fn fits(fields: &[Field], words: &[&str]) -> bool
+fn fits(fields: &[Field], words: &[&[u8]]) -> bool
     ensures { result ≡ fitting (map seen fields.now) (texts words.now) }
 {
     match fields {
@@ -71,7 +71,7 @@ fn fits(fields: &[Field], words: &[&str]) -> bool
 }
 
 /// The first of these shapes that such words have, after the first word.
-fn first_fitting(shapes: &[Shape], words: &[&str]) -> Option<Shape>
+fn first_fitting(shapes: &[Shape], words: &[&[u8]]) -> Option<Shape>
     ensures { result ≡ first_fitting shapes.now (texts words.now) }
 {
     match shapes {
@@ -177,13 +177,23 @@ fn shapes_named(word: &str) -> &'static [Shape]
     }
 }
 
+/// A word as text. Only a word that is text begins an item.
+fn text_of(word: &[u8]) -> &str
+    ensures { shapes_named result.now ≡ shapes_named word.now }
+{
+    match str::from_utf8(word) {
+        Ok(text) => text,
+        Err(_) => "",
+    }
+}
+
 /// The shape of the item of these words.
 #[tactic(auto, unfolding(crate::specs::Shapes::shape_named))]
-pub fn shape_of(words: &[&str]) -> Option<Shape>
+pub fn shape_of(words: &[&[u8]]) -> Option<Shape>
     ensures { result ≡ shape_named (texts words.now) }
 {
     match words {
         [] => None,
-        [word, words @ ..] => first_fitting(shapes_named(word), words),
+        [word, words @ ..] => first_fitting(shapes_named(text_of(word)), words),
     }
 }

@@ -6,7 +6,7 @@ ghost use Rattle.script_text.specs.Stamps.{size_with, raw_named, time_named, sta
 
 use crate::numbers::hexadecimal_named;
 use crate::words::word_of;
-use decimal_words::{number_named, text_after};
+use decimal_words::{bytes_after, number_in};
 use stp_grammar::item::Stamp;
 
 /// The size of a timestamp whose word has this many nibbles: 0 to 12, 14 or 16.
@@ -23,7 +23,7 @@ fn size_with(count: usize) -> Option<u8>
 
 /// The raw timestamp of a word's nibbles, as hexadecimal digits.
 #[tactic(auto, unfolding(crate::specs::Stamps::raw_named))]
-fn raw_named(digits: &str) -> Option<Stamp>
+fn raw_named(digits: &[u8]) -> Option<Stamp>
     ensures { result ≡ raw_named digits.now }
 {
     let size = size_with(digits.len())?;
@@ -32,33 +32,33 @@ fn raw_named(digits: &str) -> Option<Stamp>
 }
 
 /// The time that a text is in decimal.
-fn time_named(text: &str) -> Option<u64>
+fn time_named(text: &[u8]) -> Option<u64>
     ensures { result ≡ time_named text.now }
 {
-    number_named(0, u64::MAX, text)
+    number_in(0, u64::MAX, text)
 }
 
 /// The timestamp of a text: `-` for none, `n=N` natural, `g=N` Gray, or `r=` and the word's nibbles.
-pub fn stamp_named(text: &str) -> Option<Stamp>
+pub fn stamp_named(text: &[u8]) -> Option<Stamp>
     ensures { result ≡ stamp_named text.now }
 {
-    if text == "-" {
+    if text == b"-".as_slice() {
         return Some(Stamp::None);
     }
-    if let Some(time) = text_after("n=", text) {
+    if let Some(time) = bytes_after(b"n=", text) {
         return Some(Stamp::Natural(time_named(time)?));
     }
-    if let Some(time) = text_after("g=", text) {
+    if let Some(time) = bytes_after(b"g=", text) {
         return Some(Stamp::Gray(time_named(time)?));
     }
-    match text_after("r=", text) {
+    match bytes_after(b"r=", text) {
         Some(digits) => raw_named(digits),
         None => None,
     }
 }
 
 /// The timestamp that the word of this number is.
-pub fn stamp_at(words: &[&str], k: usize) -> Option<Stamp>
+pub fn stamp_at(words: &[&[u8]], k: usize) -> Option<Stamp>
     ensures { result ≡ stamp_in (texts words.now) k }
 {
     stamp_named(word_of(words, k))

@@ -146,7 +146,7 @@ impl StpShape {
 }
 
 /// The value that the word of this number is: as many digits as a datum of this width has nibbles.
-fn datum_at(width: Width, words: &[&str], k: usize) -> Option<u64>
+fn datum_at(width: Width, words: &[&[u8]], k: usize) -> Option<u64>
     ensures { result ≡ hexadecimal_in (bits_of width / 4) (texts words.now) k }
 {
     let count = match width {
@@ -161,7 +161,7 @@ fn datum_at(width: Width, words: &[&str], k: usize) -> Option<u64>
 
 /// What was written, with its place and its timestamp.
 #[tactic(auto, unfolding(crate::specs::Items::datum_of))]
-fn datum_of(width: Width, marked: bool, words: &[&str]) -> Option<StpItem>
+fn datum_of(width: Width, marked: bool, words: &[&[u8]]) -> Option<StpItem>
     ensures { result ≡ datum_in width marked (texts words.now) }
 {
     let place = place_of(words)?;
@@ -191,7 +191,7 @@ fn null_stamp(stamp: Stamp) -> Option<StpItem>
 /// The STP item of a shape and of these words, where their numbers are in their ranges, and its place and a timestamp
 /// alone are known.
 #[tactic(auto, unfolding(crate::specs::Items::stp_of))]
-pub fn stp_of(shape: StpShape, words: &[&str]) -> Option<StpItem>
+pub fn stp_of(shape: StpShape, words: &[&[u8]]) -> Option<StpItem>
     ensures { result ≡ stp_in shape (texts words.now) }
 {
     match shape {

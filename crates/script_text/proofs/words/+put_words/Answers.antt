@@ -1,39 +1,51 @@
-use Rattle.std.proofs.Common.{ℕ, List, [], ◌∷◌, ◌++◌, sym, ◌∙◌, ap, arith, append_assoc}
+use Rattle.std.proofs.Common.{◌≡◌, ℕ, ◌+◌, ◌-◌, ◌<◌, List, [], ◌∷◌, ◌++◌, length, take, drop, suc, sym, ◌∙◌, ap, arith, false, append_assoc}
+use Rattle.std.specs.Prelude.{◌==◌, slice_index}
+use Rattle.std.proofs.lemmas.Bool.Decides.{nat_tests}
 use Rattle.arrayvec.specs.ArrayVec.{array_vec_len}
-use Rattle.script_text.specs.Words.{texts}
-use Rattle.script_text.specs.Words.{words_in, are_words}
-use Rattle.script_text.proofs.Splitting.{one_word, split_parts, last_told, more_told, less_told}
+use Rattle.script_text.specs.Words.{texts, words_in, are_printable}
+use Rattle.script_text.proofs.Splitting.{whole, whole_told, cut, cut_told, bad, bad_told, end_of}
 use Rattle.script_text.proofs.words.+put_words.Goals as goal
 
-pub returns-in-None-clause-told : goal.returns-in-None-clause-told
-returns-in-None-clause-told t c =
-    let one = one_word c.args.text.now (c.in-None.ensures.byte (omega arith) (λ w o f. f)) in
-    last_told (array_vec_len c.args.words.now) c.args.text.now c.put_word.ensures.told one
+pub returns-then-end-line-clause-told : goal.returns-then-end-line-clause-told
+returns-then-end-line-clause-told t c =
+    let w = whole c.args.line.now (sym c.word_len-end.ensures.value ∙ c.if-end-line.true) in
+    whole_told (array_vec_len c.args.words.now) c.args.line.now c.put_word.result w c.put_word.ensures.told
 
-pub returns-in-None-clause-put : goal.returns-in-None-clause-put
-returns-in-None-clause-put t c = λ h.
-    let one = one_word c.args.text.now (c.in-None.ensures.byte (omega arith) (λ w o f. f)) in
-    c.put_word.ensures.put h ∙ ap (λ (l : List (List ℕ)). texts c.args.words.now.items ++ l) (sym one)
+pub returns-then-end-line-clause-put : goal.returns-then-end-line-clause-put
+returns-then-end-line-clause-put t c = λ h.
+    let w = whole c.args.line.now (sym c.word_len-end.ensures.value ∙ c.if-end-line.true) in
+    c.put_word.ensures.put h ∙ ap (λ (l : List (List ℕ)). texts c.args.words.now.items ++ l) (sym w.one)
 
-pub returns-then-put_word-clause-told : goal.returns-then-put_word-clause-told
-returns-then-put_word-clause-told t c =
-    let parts = c.in-Some.ensures.byte (omega arith) (λ w o f. f) in
-    c.put_words.ensures.told
-    ∙ ap (λ (n : ℕ). are_words n (words_in c.in-Some.rest.now)) (c.put_word-in-Some.ensures.count c.if-put_word.true)
-    ∙ more_told (array_vec_len c.args.words.now) c.args.text.now c.in-Some.word.now c.in-Some.rest.now parts.0 parts.1 parts.2
-    (sym c.put_word-in-Some.ensures.told ∙ c.if-put_word.true)
+pub returns-then-line-end-ne32-clause-told : goal.returns-then-line-end-ne32-clause-told
+returns-then-line-end-ne32-clause-told t c =
+    let line = c.args.line.now in
+    let n = c.word_len-end.result in
+    let differ = c.if-line-end-ne32.true in
+    let other : (slice_index line n == 32) ≡ false = grind (arith, nat_tests) in
+    bad_told (array_vec_len c.args.words.now) line (bad line n c.word_len-end.ensures.value (let b = c.word_len-end.ensures.bound in let e = c.if-end-line.false in omega arith) other)
 
-pub returns-then-put_word-clause-put : goal.returns-then-put_word-clause-put
-returns-then-put_word-clause-put t c = λ h.
-    let parts = c.in-Some.ensures.byte (omega arith) (λ w o f. f) in
+pub returns-clause-told : goal.returns-clause-told
+returns-clause-told t c =
+    let line = c.args.line.now in
+    let n = c.word_len-end.result in
+    let less : n < length line = (let b = c.word_len-end.ensures.bound in let e = c.if-end-line.false in omega arith) in
+    let k = cut line n c.word_len-end.ensures.value less c.if-line-end-ne32.false in
+    let rest = take (length line - (n + 1)) (drop (n + 1) line) in
+    let end : rest ≡ drop (suc n) line = end_of line n in
+    cut_told (array_vec_len c.args.words.now) (array_vec_len c.put_word-2.new.words) line rest (take n line) c.put_words.result
+        (k.printable ∙ ap are_printable (sym end)) (k.words ∙ ap (λ (r : List ℕ). take n line ∷ words_in r) (sym end))
+        (sym c.put_word-2.ensures.told ∙ c.if-not-put_word.false) (c.put_word-2.ensures.count c.if-not-put_word.false) c.put_words.ensures.told
+
+pub returns-clause-put : goal.returns-clause-put
+returns-clause-put t c = λ h.
+    let line = c.args.line.now in
+    let n = c.word_len-end.result in
+    let less : n < length line = (let b = c.word_len-end.ensures.bound in let e = c.if-end-line.false in omega arith) in
+    let k = cut line n c.word_len-end.ensures.value less c.if-line-end-ne32.false in
+    let rest = take (length line - (n + 1)) (drop (n + 1) line) in
+    let end : rest ≡ drop (suc n) line = end_of line n in
+    let w : words_in line ≡ take n line ∷ words_in rest = k.words ∙ ap (λ (r : List ℕ). take n line ∷ words_in r) (sym end) in
     c.put_words.ensures.put h
-    ∙ ap (λ (l : List (List ℕ)). l ++ words_in c.in-Some.rest.now) (c.put_word-in-Some.ensures.put c.if-put_word.true)
-    ∙ append_assoc (texts c.args.words.now.items) (c.in-Some.word.now ∷ []) (words_in c.in-Some.rest.now)
-    ∙ ap (λ (l : List (List ℕ)). texts c.args.words.now.items ++ l) (split_parts c.args.text.now c.in-Some.word.now c.in-Some.rest.now parts.0 parts.1 parts.2)
-
-pub returns-else-put_word-clause-told : goal.returns-else-put_word-clause-told
-returns-else-put_word-clause-told t c =
-    let parts = c.in-Some.ensures.byte (omega arith) (λ w o f. f) in
-    c.if-put_word.false
-    ∙ less_told (array_vec_len c.args.words.now) c.args.text.now c.in-Some.word.now c.in-Some.rest.now parts.0 parts.1 parts.2
-    (sym c.put_word-in-Some.ensures.told ∙ c.if-put_word.false)
+    ∙ ap (λ (l : List (List ℕ)). l ++ words_in rest) (c.put_word-2.ensures.put c.if-not-put_word.false)
+    ∙ append_assoc (texts c.args.words.now.items) (take n line ∷ []) (words_in rest)
+    ∙ ap (λ (l : List (List ℕ)). texts c.args.words.now.items ++ l) (sym w)
