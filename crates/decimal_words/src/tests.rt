@@ -24,7 +24,11 @@ fn tests_numbers(rt: HostRuntime) {
     ];
     for (least, greatest, text, number) in rows {
         assert_eq!(rt; number_named(least, greatest, text), number, "{text}");
-        assert_eq!(rt; number_in(least, greatest, text.as_bytes()), number, "{text}");
+        assert_eq!(rt;
+            number_in(least, greatest, text.as_bytes()),
+            number,
+            "{text}"
+        );
     }
 }
 

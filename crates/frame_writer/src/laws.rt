@@ -44,8 +44,8 @@ pub fn count_law()
         Stands w every halves t so_far → appended w ≤ length t }
 {}
 
-/// What is sure of some bytes is a front of what is sure of each longer list, and of their capture, which is at most one
-/// frame longer.
+/// What is sure of some bytes is a front of what is sure of each longer list, and of their capture, which is at most
+/// one frame longer.
 pub fn sure_law()
     ensures grows { (every halves : ℕ) → (t u : List Tagged) →
         (rest : List ℕ) × (sure every halves (t ++ u) ≡ sure every halves t ++ rest) }

@@ -102,7 +102,7 @@ impl SureWriter {
         }
     }
 
-    /// The rest of the capture: what is not sure of it. (That it is at most one frame is `sure_law`.)
+    /// The rest of the capture, which is what is not sure of it: at most one frame, by `sure_law`.
     pub fn rest(&self, out: &mut TwoFrames)
         requires empty { out.old.items ≡ [] }
         ensures whole { (every halves : ℕ) → (t : List Tagged) → IsSure self.now every halves t →

@@ -75,7 +75,7 @@ itm_all (itm.Local PacketLate delta) h = number_and delta (let k : delta < 2 ^ 2
 itm_all (itm.Local BothLate delta) h = number_and delta (let k : delta < 2 ^ 28 = h in omega arith) [] refl
 itm_all (itm.GlobalFirst len value change wrap) h =
     number_and len (let k = h.1 in omega arith) (decimal value ∷ (flag_text change ∷ (flag_text wrap ∷ [])))
-        (number_and value (let k = value_small len value h.1 h.2 in omega arith) (flag_text change ∷ (flag_text wrap ∷ [])) (flags_all change wrap))
+    (number_and value (let k = value_small len value h.1 h.2 in omega arith) (flag_text change ∷ (flag_text wrap ∷ [])) (flags_all change wrap))
 itm_all (itm.GlobalSecond true value) h = number_and value (let k : value < 2 ^ 38 = h in omega arith) [] refl
 itm_all (itm.GlobalSecond false value) h = number_and value (let k : value < 2 ^ 22 = h in omega arith) [] refl
 itm_all (itm.Extension true value) h = digits_and 8 value (omega arith) [] refl
@@ -130,7 +130,7 @@ stp_all (stp.MasterError place code) h = place_and place (hex_digits 2 code ∷ 
 stp_all (stp.GlobalError code) h = digits_and 2 code (omega arith) [] refl
 stp_all (stp.Datum place width value marked stamp) h =
     place_and place (width_text width ∷ (hex_digits (bits_of width / 4) value ∷ (mark_text marked ∷ (stamp_text stamp ∷ [])))) h.0
-        (datum_all width value (mark_text marked ∷ (stamp_text stamp ∷ [])) (marked_all marked stamp h.2))
+    (datum_all width value (mark_text marked ∷ (stamp_text stamp ∷ [])) (marked_all marked stamp h.2))
 stp_all (stp.Flag place stamp) h = place_and place (stamp_text stamp ∷ []) h.0 (stamp_all stamp h.1)
 stp_all (stp.Trigger code stamp) h = digits_and 2 code (omega arith) (stamp_text stamp ∷ []) (stamp_all stamp h.1)
 stp_all (stp.Frequency hertz stamp) h = number_and hertz (let k = h.0 in omega arith) (stamp_text stamp ∷ []) (stamp_all stamp h.1)

@@ -88,7 +88,7 @@ pub printable_joined : (word : List ℕ) (words : List (List ℕ)) → are_all (
 printable_joined word [] h = printable_end word (word_graphic word (and_left (is_word word) true h))
 printable_joined word (next ∷ words) h =
     printable_word word (32 ∷ joined (next ∷ words)) (word_graphic word (and_left (is_word word) (are_all (next ∷ words)) h))
-        (printable_joined next words (and_right (is_word word) (are_all (next ∷ words)) h))
+    (printable_joined next words (and_right (is_word word) (are_all (next ∷ words)) h))
 
 -- decimals are words
 graphic_push : (word : List ℕ) (b : ℕ) → graphic word ≡ true → is_graphic b ≡ true → graphic (word ++ (b ∷ [])) ≡ true

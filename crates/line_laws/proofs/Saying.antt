@@ -200,7 +200,7 @@ itm_says Sync words h = by_fields (itm_fields Sync) (ItmSays Sync) sync words h
 itm_says Overflow words h = by_fields (itm_fields Overflow) (ItmSays Overflow) overflow words h
 itm_says (Software size) words h =
     by_fields (Number ∷ (Word (size_word size) ∷ (Number ∷ []))) (ItmSays (Software size)) (software size) words
-        (subst (λ (f : List Field). fits (Number ∷ f) words ≡ true) (fields_are size) h)
+    (subst (λ (f : List Field). fits (Number ∷ f) words ≡ true) (fields_are size) h)
 itm_says (Local lateness) words h = by_fields (itm_fields (Local lateness)) (ItmSays (Local lateness)) (local lateness) words h
 itm_says GlobalFirst words h = by_fields (itm_fields GlobalFirst) (ItmSays GlobalFirst) global_first words h
 itm_says (GlobalSecond wide) words h = by_fields (itm_fields (GlobalSecond wide)) (ItmSays (GlobalSecond wide)) (second wide) words h
@@ -307,13 +307,13 @@ dwt_says MatchPc words h = by_fields (dwt_fields MatchPc) (DwtSays MatchPc) matc
 dwt_says MatchAddress words h = by_fields (dwt_fields MatchAddress) (DwtSays MatchAddress) match_address words h
 dwt_says (Read size) words h =
     by_fields (Number ∷ (Word (codes "read") ∷ (Word (size_word size) ∷ (Number ∷ [])))) (DwtSays (Read size)) (read size) words
-        (subst (λ (f : List Field). fits (Number ∷ (Word (codes "read") ∷ f)) words ≡ true) (fields_are size) h)
+    (subst (λ (f : List Field). fits (Number ∷ (Word (codes "read") ∷ f)) words ≡ true) (fields_are size) h)
 dwt_says (Written size) words h =
     by_fields (Number ∷ (Word (codes "write") ∷ (Word (size_word size) ∷ (Number ∷ [])))) (DwtSays (Written size)) (written size) words
-        (subst (λ (f : List Field). fits (Number ∷ (Word (codes "write") ∷ f)) words ≡ true) (fields_are size) h)
+    (subst (λ (f : List Field). fits (Number ∷ (Word (codes "write") ∷ f)) words ≡ true) (fields_are size) h)
 dwt_says (Other size) words h =
     by_fields (Number ∷ (Word (size_word size) ∷ (Number ∷ []))) (DwtSays (Other size)) (other size) words
-        (subst (λ (f : List Field). fits (Number ∷ f) words ≡ true) (fields_are size) h)
+    (subst (λ (f : List Field). fits (Number ∷ f) words ≡ true) (fields_are size) h)
 
 -- STP items
 abbrev StpSays : StpShape → List (List ℕ) → Type 0
@@ -328,7 +328,7 @@ place_low word master channel more place e =
     let a = bind_some (number_named 0 65535 master) _ place e in
     let b = bind_some (number_named 0 65535 channel) _ place a.2 in
     subst (HasPlace master channel) (some_of _ place b.2)
-        (number_lowered 0 65535 a.0 master (omega arith) a.1, number_lowered 0 65535 b.0 channel (omega arith) b.1)
+    (number_lowered 0 65535 a.0 master (omega arith) a.1, number_lowered 0 65535 b.0 channel (omega arith) b.1)
 
 async : StpSays Async []
 unfolding stp_of

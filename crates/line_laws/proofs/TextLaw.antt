@@ -87,7 +87,7 @@ event_of item = record { at = 0; half = 0; source = Some 1; what = Said (packets
 stp_short : (item : StpItem) → IsProperStp item → length (stp_text item) ≤ 92
 stp_short item h =
     let line = event_short true (event_of item) NoRemark (record { proper = h; suits = tt; source = refl })
-        (record { at = length-decimal-le 20 0 (omega arith) (omega arith) (omega arith); half = length-decimal-le 3 0 (omega arith) (omega arith) (omega arith); source = length-decimal-le 3 1 (omega arith) (omega arith) (omega arith); what = tt }) tt in
+    (record { at = length-decimal-le 20 0 (omega arith) (omega arith) (omega arith); half = length-decimal-le 3 0 (omega arith) (omega arith) (omega arith); source = length-decimal-le 3 1 (omega arith) (omega arith) (omega arith); what = tt }) tt in
     let parts = simp length-append at line in
     omega arith
 
@@ -124,10 +124,10 @@ text_reads plan id item low high say =
     let whole : decimal id ++ (32 ∷ text_of item) ≡ joined (decimal id ∷ words) = whole_text id item say in
     let n = no_remark (decimal id) d (first_decimal id low small) in
     let some : is_nothing (joined (decimal id ∷ words)) ≡ false =
-        ap is_nothing (joined_more (decimal id) words few.0) ∙ digit_first (decimal id) (32 ∷ joined words) d n in
+    ap is_nothing (joined_more (decimal id) words few.0) ∙ digit_first (decimal id) (32 ∷ joined words) d n in
     let short = line_short id item high say in
     let len : length (joined (decimal id ∷ words)) ≤ 256 = subst (λ (l : List ℕ). length l ≤ 256) whole (omega arith) in
     ap (line_of plan) whole
     ∙ printable_line plan (decimal id) words all few.1 len some
     ∙ words_line plan id (decimal id) words (shape_of item) item (named item say)
-        (names_number 1 126 id (decimal id) (omega arith) low high refl) (item_reads item say)
+    (names_number 1 126 id (decimal id) (omega arith) low high refl) (item_reads item say)

@@ -17,7 +17,7 @@ pub enum LineFault {
     Unmapped,
     /// The item is of another kind than its source.
     Mixed,
-    /// An STP item has a timestamp that the version of the protocol has not. No line has this fault alone: it depends on
-    /// the lines before it.
+    /// An STP item has a timestamp that the version of the protocol has not. `read_line` never answers this fault, since
+    /// it depends on the lines before.
     Unfit,
 }

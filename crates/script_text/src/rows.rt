@@ -39,7 +39,8 @@ pub fn items()
     ensures remark { line_of both (codes "# 1 prt") ≡ Ok Nothing }
     ensures sync { line_of both (codes "1 sync") ≡ Ok (Of 1 (Itm Sync)) }
     ensures port { line_of both (codes "1 port 0 u8 41") ≡ Ok (Of 1 (Itm (Software 0 One 0x41))) }
-    ensures upper_case { line_of both (codes "1 port 2 u32 FFFFffff") ≡ Ok (Of 1 (Itm (Software 2 FourBytes 0xFFFF_FFFF))) }
+    ensures upper_case { line_of both (codes "1 port 2 u32 FFFFffff") ≡
+        Ok (Of 1 (Itm (Software 2 FourBytes 0xFFFF_FFFF))) }
     ensures first { line_of both (codes "1 global1 4 1 0 1") ≡ Ok (Of 1 (Itm (GlobalFirst 4 1 false true))) }
     ensures exception { line_of both (codes "1 exception 15 enter") ≡ Ok (Of 1 (Dwt (Exception 15 Enter))) }
     ensures other { line_of both (codes "1 hw 3 u8 07") ≡ Ok (Of 1 (Dwt (Other 3 One 7))) }

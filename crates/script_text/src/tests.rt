@@ -30,42 +30,49 @@ fn plan() -> Plan {
     }
 }
 
+/// The line of this text.
+fn line(rt: &impl Abort, text: &[u8]) -> Line {
+    match read_line(text, &plan()) {
+        Ok(line) => line,
+        Err(fault) => panic!(rt; "{text:?} is {fault:?}"),
+    }
+}
+
 /// The number of the source of a line that is an item, and the item.
-fn said(rt: &impl Abort, text: &str) -> (u8, Item) {
-    match read_line(text.as_bytes(), &plan()) {
-        Ok(Line::Of { id, item }) => (id.number(), item),
-        Ok(Line::Nothing) => panic!(rt; "{text} says nothing"),
-        Err(fault) => panic!(rt; "{text} is {fault:?}"),
+fn said(rt: &impl Abort, text: &[u8]) -> (u8, Item) {
+    match line(rt, text) {
+        Line::Of { id, item } => (id.number(), item),
+        Line::Nothing => panic!(rt; "{text:?} says nothing"),
     }
 }
 
 fn check_itm(rt: &impl Abort, text: &str, expected: ItmPacket) {
-    match said(rt, text) {
+    match said(rt, text.as_bytes()) {
         (1, Item::Itm(packet)) => assert_eq!(rt; packet, expected, "{text}"),
         (id, item) => panic!(rt; "{text} is {item:?} of {id}"),
     }
 }
 
 fn check_dwt(rt: &impl Abort, text: &str, expected: DwtItem) {
-    match said(rt, text) {
+    match said(rt, text.as_bytes()) {
         (1, Item::Dwt(item)) => assert_eq!(rt; item, expected, "{text}"),
         (id, item) => panic!(rt; "{text} is {item:?} of {id}"),
     }
 }
 
 fn check_stp(rt: &impl Abort, text: &str, expected: StpItem) {
-    match said(rt, text) {
+    match said(rt, text.as_bytes()) {
         (2, Item::Stp(item)) => assert_eq!(rt; item, expected, "{text}"),
         (id, item) => panic!(rt; "{text} is {item:?} of {id}"),
     }
 }
 
-fn check_raw(rt: &impl Abort, text: &str, number: u8, expected: &[u8]) {
+fn check_raw(rt: &impl Abort, text: &[u8], number: u8, expected: &[u8]) {
     let (id, item) = said(rt, text);
-    assert_eq!(rt; id, number, "{text}");
+    assert_eq!(rt; id, number, "{text:?}");
     match item {
-        Item::Raw(bytes) => assert_eq!(rt; bytes.as_slice(), expected, "{text}"),
-        item => panic!(rt; "{text} is {item:?}"),
+        Item::Raw(bytes) => assert_eq!(rt; bytes.as_slice(), expected, "{text:?}"),
+        item => panic!(rt; "{text:?} is {item:?}"),
     }
 }
 
@@ -348,24 +355,16 @@ fn raw_timestamps(rt: HostRuntime) {
 
 #[test]
 fn bytes_of_other_sources(rt: HostRuntime) {
-    check_raw(&rt, "16 raw a5", 16, &[0xA5]);
+    check_raw(&rt, b"16 raw a5", 16, &[0xA5]);
     check_raw(
         &rt,
-        "126 raw 0102030405060708090A0b0c0d",
+        b"126 raw 0102030405060708090A0b0c0d",
         126,
         &[1, 2, 3, 4, 5, 6, 7, 8, 9, 10, 11, 12, 13],
     );
     let mut line = [b'7'; 257];
     line[..6].copy_from_slice(b"3 raw ");
-    match read_line(&line[..206], &plan()) {
-        Ok(
-            Line::Of {
-                item: Item::Raw(bytes),
-                ..
-            },
-        ) => assert_eq!(rt; bytes.as_slice(), [0x77; 100].as_slice()),
-        other => panic!(&rt; "{other:?}"),
-    }
+    check_raw(&rt, &line[..206], 3, &[0x77; 100]);
     check_fault(&rt, &line[..205], LineFault::BadNumber);
     check_fault(&rt, &line[..207], LineFault::BadNumber);
     check_fault(&rt, &line[..208], LineFault::BadNumber);
@@ -377,10 +376,8 @@ fn bytes_of_other_sources(rt: HostRuntime) {
 fn lines_that_say_nothing(rt: HostRuntime) {
     let rows: [&[u8]; 4] = [b"", b"#", b"# 1 sync", b"#\xFF\x00"];
     for line in rows {
-        match read_line(line, &plan()) {
-            Ok(Line::Nothing) => {}
-            other => panic!(&rt; "{other:?} for {line:?}"),
-        }
+        let said = matches!(read_line(line, &plan()), Ok(Line::Nothing));
+        assert!(rt; said, "{line:?}");
     }
     check_fault(&rt, &[b'#'; 257], LineFault::LongLine);
 }

@@ -33,8 +33,8 @@ returns-clause-told t c =
     let rest = take (length line - (n + 1)) (drop (n + 1) line) in
     let end : rest ≡ drop (suc n) line = end_of line n in
     cut_told (array_vec_len c.args.words.now) (array_vec_len c.put_word-2.new.words) line rest (take n line) c.put_words.result
-        (k.printable ∙ ap are_printable (sym end)) (k.words ∙ ap (λ (r : List ℕ). take n line ∷ words_in r) (sym end))
-        (sym c.put_word-2.ensures.told ∙ c.if-not-put_word.false) (c.put_word-2.ensures.count c.if-not-put_word.false) c.put_words.ensures.told
+    (k.printable ∙ ap are_printable (sym end)) (k.words ∙ ap (λ (r : List ℕ). take n line ∷ words_in r) (sym end))
+    (sym c.put_word-2.ensures.told ∙ c.if-not-put_word.false) (c.put_word-2.ensures.count c.if-not-put_word.false) c.put_words.ensures.told
 
 pub returns-clause-put : goal.returns-clause-put
 returns-clause-put t c = λ h.
