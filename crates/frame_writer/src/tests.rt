@@ -281,12 +281,23 @@ fn check_sure(rt: &impl Abort, bytes: &[(u8, u8)], sizes: &[usize], expected: &[
 fn frames_become_sure(rt: HostRuntime) {
     check_sure(&rt, &[], &[], &[]);
     let full = [0x03, 1, 2, 3, 4, 5, 6, 7, 8, 9, 10, 11, 12, 13, 14, 0x00];
-    let mut bytes = [(1, 0); 15];
-    let mut byte = 0;
-    for tagged in &mut bytes {
-        byte += 1;
-        tagged.1 = byte;
-    }
+    let bytes: [(u8, u8); 15] = [
+        (1, 1),
+        (1, 2),
+        (1, 3),
+        (1, 4),
+        (1, 5),
+        (1, 6),
+        (1, 7),
+        (1, 8),
+        (1, 9),
+        (1, 10),
+        (1, 11),
+        (1, 12),
+        (1, 13),
+        (1, 14),
+        (1, 15),
+    ];
     let mut sizes = [0; 15];
     check_sure(&rt, &bytes[..14], &sizes, &full);
     sizes[14] = 16;

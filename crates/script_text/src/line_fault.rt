@@ -1,5 +1,8 @@
 //! What is wrong with a line.
 
+ghost use Rattle.std.specs.Prelude.{◌≡◌};
+ghost use Rattle.script_text.specs.Faults.{number_of, name_of};
+
 /// Why a line is none of a script (this project's profile). Of several that hold, a line has the first.
 #[derive(Clone, Copy, Debug, PartialEq, Eq, Drop)]
 pub enum LineFault {
@@ -20,4 +23,36 @@ pub enum LineFault {
     /// An STP item has a timestamp that the version of the protocol has not. `read_line` never answers this fault, since
     /// it depends on the lines before.
     Unfit,
+}
+
+impl LineFault {
+    /// The fault's number, as its note has it, 1 to 7: of several that hold, a line has the one of the least number.
+    pub fn number(&self) -> u8
+        ensures { result ≡ number_of self.now }
+    {
+        match self {
+            LineFault::LongLine => 1,
+            LineFault::BadLine => 2,
+            LineFault::BadId => 3,
+            LineFault::BadNumber => 4,
+            LineFault::Unmapped => 5,
+            LineFault::Mixed => 6,
+            LineFault::Unfit => 7,
+        }
+    }
+
+    /// The fault's name, as its note has it.
+    pub fn name(&self) -> &'static str
+        ensures { result.now ≡ name_of self.now }
+    {
+        match self {
+            LineFault::LongLine => "LongLine",
+            LineFault::BadLine => "BadLine",
+            LineFault::BadId => "BadId",
+            LineFault::BadNumber => "BadNumber",
+            LineFault::Unmapped => "Unmapped",
+            LineFault::Mixed => "Mixed",
+            LineFault::Unfit => "Unfit",
+        }
+    }
 }

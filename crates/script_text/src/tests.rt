@@ -457,3 +457,20 @@ fn faults(rt: HostRuntime) {
     check_fault(&rt, &[b'a'; 257], LineFault::LongLine);
     check_fault(&rt, &[b'a'; 256], LineFault::BadLine);
 }
+
+#[test]
+fn numbers_and_names_of_faults(rt: HostRuntime) {
+    let rows: [(LineFault, u8, &str); 7] = [
+        (LineFault::LongLine, 1, "LongLine"),
+        (LineFault::BadLine, 2, "BadLine"),
+        (LineFault::BadId, 3, "BadId"),
+        (LineFault::BadNumber, 4, "BadNumber"),
+        (LineFault::Unmapped, 5, "Unmapped"),
+        (LineFault::Mixed, 6, "Mixed"),
+        (LineFault::Unfit, 7, "Unfit"),
+    ];
+    for (fault, number, name) in rows {
+        assert_eq!(rt; fault.number(), number);
+        assert_eq!(rt; fault.name(), name);
+    }
+}
