@@ -69,7 +69,7 @@ enough_room n (word ∷ words) h room =
 printable_graphic : (b : ℕ) → is_graphic b ≡ true → (nat_le 32 b && nat_le b 126) ≡ true
 printable_graphic b h = grind (arith, nat_tests)
 
--- printable texts, one behind the other
+-- printable texts, one after the other
 pub printable_word : (word rest : List ℕ) → graphic word ≡ true → are_printable rest ≡ true → are_printable (word ++ rest) ≡ true
 printable_word [] rest h r = r
 printable_word (b ∷ word) rest h r =

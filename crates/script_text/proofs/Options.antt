@@ -11,7 +11,7 @@ use Rattle.script_text.specs.Steps.{◌>>=◌}
 use Rattle.script_text.specs.Items.{value_at}
 use Rattle.script_text.proofs.Hexadecimals.{hexadecimal_small}
 
--- what is behind a value that is there
+-- what is made of a value that is there
 pub bind_some : {A B : Type 0} (o : Option A) (f : A → Option B) (y : B) → (o >>= f) ≡ Some y → (x : A) × (o ≡ Some x) × (f x ≡ Some y)
 bind_some None f y e = cc
 bind_some (Some x) f y e = (x, refl, e)
