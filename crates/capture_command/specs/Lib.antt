@@ -2,3 +2,4 @@ pub mod Notes
 pub mod Statuses
 pub mod Actions
 pub mod Run
+pub mod Fronts

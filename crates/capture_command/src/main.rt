@@ -9,7 +9,9 @@ ghost use Rattle.capture_words.specs.Calls.{AsksFor, Misuses, IsMisuse};
 ghost use Rattle.capture_words.specs.Texts.{usage_line};
 ghost use Rattle.capture_words.specs.declared.job.Job.{Job};
 ghost use Rattle.capture_words.specs.declared.usage.UsageFault.{UsageFault};
+ghost use Rattle.source_events.specs.declared.plan.Plan.{Plan};
 ghost use Rattle.capture_command.specs.Actions.{meaning_of};
+ghost use Rattle.capture_command.specs.Fronts.{ListsRest, IsSoundWhole, FollowsWhole};
 ghost use Rattle.capture_command.specs.Notes.{Notes};
 ghost use Rattle.capture_command.specs.Run.{HasRun, Streams, Untouched, Loses, IsDoneOrNoMemory};
 ghost use Rattle.capture_command.specs.Statuses.{number_of};
@@ -36,6 +38,11 @@ use trace_io::{ReadAdapter, Sink, Source, WriteAdapter};
 /// A status is the first that holds of Usage, WriteFault, CaptureFault, ReadFault, Limit and Done. Want of
 /// memory is the one free answer, and comes only before anything is read or written. A failed write to
 /// the notes changes nothing.
+///
+/// A capture may begin in the middle of a stream. Take any bytes that may have come before those read, so that
+/// the whole reads without a fault, whether by hunts or not. Where `show` hunts at the port, if it has frames, and
+/// at each source, has no filter and is done, what it wrote follows that whole: from each source's point on it
+/// lists the whole's events, in the whole's order, at offsets that count from the first byte read (`fronts`).
 pub fn run<I: Source, O: Sink, N: Sink>(
     alloc: Global,
     words: &[String],
@@ -82,6 +89,12 @@ pub fn run<I: Source, O: Sink, N: Sink>(
         (Rose (I.faults input.old) (I.faults input.new) → ⊥) →
         (Rose (O.faults output.old) (O.faults output.new) → ⊥) →
         length bytes ≤ job.limit → ((meaning_of job.task).action.faulty bytes → ⊥) → IsDoneOrNoMemory result }
+
+    // Where a front of the capture may be lost: what was written follows the whole.
+    ensures fronts { (job : Job) (whole : Plan) (lost bytes : List ℕ) → AsksFor (map string_bytes words.now) job →
+        ListsRest whole job.task → Loses (I.left input.old) (I.left input.new) bytes →
+        IsSoundWhole whole lost bytes → result ≡ Status.Done →
+        FollowsWhole whole lost bytes (O.held output.old) (O.held output.new) }
 {
     match read_words(alloc, words) {
         Asked::Do(job) => run_job(alloc, job, input, output, notes),
