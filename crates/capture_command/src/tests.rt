@@ -3,6 +3,7 @@
 mod counts;
 mod examples;
 mod failures;
+mod fronts;
 mod headers;
 mod hunting;
 mod ids;
