@@ -12,6 +12,7 @@ mod notes;
 mod sources;
 mod split;
 mod stamps;
+mod stp;
 mod words;
 mod written;
 
@@ -38,6 +39,9 @@ const HUNTING: [&str; 5] = ["show", "--frames", "bare", "--itm", "1"];
 
 /// Room for the longest text of these tests.
 const ROOM: usize = 256;
+
+/// Room for the listing of a capture of all kinds of packets.
+const LONG_ROOM: usize = 2048;
 
 /// What `run` answers to these words.
 fn answer<I: Source, O: Sink, N: Sink>(
@@ -79,4 +83,22 @@ fn check(
         );
     }
     Ok(())
+}
+
+/// What the words write over these bytes, which are read to their end.
+fn output_of(
+    alloc: Global,
+    rt: &impl Abort,
+    words: &[&str],
+    bytes: &[u8],
+) -> Result<Vec<u8>, Fail> {
+    let mut room = [0; LONG_ROOM];
+    let mut input = MemorySource::new(bytes, &[7], &[]);
+    let mut output = MemorySink::new(&mut room, &[], &[]);
+    let mut notes = MemorySink::new(&mut [], &[], &[]);
+    let got = answer(alloc, words, &mut input, &mut output, &mut notes)?;
+    assert_eq!(rt; got, Status::Done, "{words:?} of {bytes:?}");
+    let mut text = Vec::new(alloc);
+    text.extend_from_slice(output.held())?;
+    Ok(text)
 }

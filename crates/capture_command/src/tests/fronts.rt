@@ -1,15 +1,11 @@
 //! Captures whose front is lost: what is read behind it is what the whole has there.
 
 use super::written::written;
-use super::{answer, check};
+use super::{check, output_of};
 use crate::status::Status;
 use std::alloc::{AllocError, Global};
 use std::process::Abort;
 use std::test::Fail;
-use trace_io::{MemorySink, MemorySource};
-
-/// Room for the longest listing.
-const ROOM: usize = 2048;
 
 /// What an ITM wrote: values, stamps and events, and four synchronisations, some after bytes of zeros.
 const ITM: &[u8] = &[
@@ -151,24 +147,6 @@ fn items<'a>(alloc: Global, listing: &'a [u8], source: usize) -> Result<Vec<Line
         }
     }
     Ok(lines)
-}
-
-/// What the words write over these bytes.
-fn output_of(
-    alloc: Global,
-    rt: &impl Abort,
-    words: &[&str],
-    bytes: &[u8],
-) -> Result<Vec<u8>, Fail> {
-    let mut room = [0; ROOM];
-    let mut input = MemorySource::new(bytes, &[7], &[]);
-    let mut output = MemorySink::new(&mut room, &[], &[]);
-    let mut notes = MemorySink::new(&mut [], &[], &[]);
-    let got = answer(alloc, words, &mut input, &mut output, &mut notes)?;
-    assert_eq!(rt; got, Status::Done, "{words:?} of {bytes:?}");
-    let mut text = Vec::new(alloc);
-    text.extend_from_slice(output.held())?;
-    Ok(text)
 }
 
 /// How many synchronisation packets these bytes of an ITM have: five bytes 00 and 80.
