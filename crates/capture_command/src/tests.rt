@@ -1,6 +1,7 @@
 //! The program's one call over bytes in memory, whose reads and writes come in pieces and fail.
 
 mod counts;
+mod engine;
 mod examples;
 mod failures;
 mod fronts;

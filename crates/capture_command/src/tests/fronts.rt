@@ -1,5 +1,6 @@
 //! Captures whose front is lost: what is read behind it is what the whole has there.
 
+use super::sources::TWICE;
 use super::written::written;
 use super::{check, output_of};
 use crate::status::Status;
@@ -84,10 +85,10 @@ enum Kind {
 
 /// An item's line: its place in half bytes, its source, and its text without the time that follows from other items.
 #[derive(Clone, Copy)]
-struct Line<'a> {
-    place: usize,
+pub(super) struct Line<'a> {
+    pub(super) place: usize,
     id: usize,
-    text: &'a [u8],
+    pub(super) text: &'a [u8],
 }
 
 /// What is before the first such byte, and what is after it.
@@ -133,7 +134,11 @@ fn item(line: &[u8]) -> Option<Line<'_>> {
 }
 
 /// The items of a source.
-fn items<'a>(alloc: Global, listing: &'a [u8], source: usize) -> Result<Vec<Line<'a>>, AllocError> {
+pub(super) fn items<'a>(
+    alloc: Global,
+    listing: &'a [u8],
+    source: usize,
+) -> Result<Vec<Line<'a>>, AllocError> {
     let mut lines = Vec::new(alloc);
     let mut rest = listing;
     for _ in 0..listing.len() {
@@ -277,7 +282,7 @@ fn a_system_trace_behind_each_front_is_as_in_the_whole(rt: HostRuntime) -> Resul
 }
 
 /// The bytes of all runs, each with its source.
-fn tagged(alloc: Global) -> Result<Vec<(u8, u8)>, AllocError> {
+pub(super) fn tagged(alloc: Global) -> Result<Vec<(u8, u8)>, AllocError> {
     let mut bytes = Vec::new(alloc);
     for (id, run) in RUNS {
         for &byte in run {
@@ -386,19 +391,26 @@ fn a_front_lost_in_data_of_nibbles_f_skips_the_rest_of_them(rt: HostRuntime) -> 
         "--stp",
         "1",
     ];
-    let whole =
-        "8.0 1 data - - u64 ffffffffffffffff - -\n19.0 1 async\n21.0 1 version 4\nend 22\nport bare skipped 0 tail 0 unattributed 0\n1 stp aligned skipped 0 tail 0\n";
+    let whole = "8.0 1 data - - u64 ffffffffffffffff - -
+19.0 1 async
+21.0 1 version 4
+end 22
+port bare skipped 0 tail 0 unattributed 0
+1 stp aligned skipped 0 tail 0
+";
     check(rt.alloc(), &rt, &aligned, &capture, Status::Done, whole)?;
     let hunting = ["show", "--frames", "bare", "--stp", "1"];
-    let rest =
-        "18.0 1 locked 15\n18.0 1 async\n20.0 1 version 4\nend 21\nport bare skipped 0 tail 0 unattributed 0\n1 stp locked skipped 15 tail 0\n";
+    let rest = "18.0 1 locked 15
+18.0 1 async
+20.0 1 version 4
+end 21
+port bare skipped 0 tail 0 unattributed 0
+1 stp locked skipped 15 tail 0
+";
     check(rt.alloc(), &rt, &hunting, &capture[1..], Status::Done, rest)
 }
 
-/// Two synchronisations with a frame of source 1 after each, and the bytes of the source.
-const TWICE: &[u8] =
-    b"\xff\xff\xff\x7f\x03\0\0\0\0\0\x80\x03\0\0\0\0\0\0\0\0\xff\xff\xff\x7f\x03\0\0\x80\0\x41\0\0\0\0\0\x80\x01\0\0\x04";
-
+/// The bytes of source 1 in the capture of two synchronisations with a frame after each.
 const SPLIT: &[u8] = b"\0\0\0\0\0\x80\x03\0\0\0\0\0\0\0\0\0\x80\x01\x41\0\0\0\0\0\x80";
 
 #[test]
