@@ -1,8 +1,10 @@
 //! The program's one call over bytes in memory, whose reads and writes come in pieces and fail.
 
 mod counts;
+mod engine;
 mod examples;
 mod failures;
+mod fronts;
 mod headers;
 mod hunting;
 mod ids;
@@ -11,6 +13,7 @@ mod notes;
 mod sources;
 mod split;
 mod stamps;
+mod stp;
 mod words;
 mod written;
 
@@ -37,6 +40,9 @@ const HUNTING: [&str; 5] = ["show", "--frames", "bare", "--itm", "1"];
 
 /// Room for the longest text of these tests.
 const ROOM: usize = 256;
+
+/// Room for the listing of a capture of all kinds of packets.
+const LONG_ROOM: usize = 2048;
 
 /// What `run` answers to these words.
 fn answer<I: Source, O: Sink, N: Sink>(
@@ -78,4 +84,22 @@ fn check(
         );
     }
     Ok(())
+}
+
+/// What the words write over these bytes, which are read to their end.
+fn output_of(
+    alloc: Global,
+    rt: &impl Abort,
+    words: &[&str],
+    bytes: &[u8],
+) -> Result<Vec<u8>, Fail> {
+    let mut room = [0; LONG_ROOM];
+    let mut input = MemorySource::new(bytes, &[7], &[]);
+    let mut output = MemorySink::new(&mut room, &[], &[]);
+    let mut notes = MemorySink::new(&mut [], &[], &[]);
+    let got = answer(alloc, words, &mut input, &mut output, &mut notes)?;
+    assert_eq!(rt; got, Status::Done, "{words:?} of {bytes:?}");
+    let mut text = Vec::new(alloc);
+    text.extend_from_slice(output.held())?;
+    Ok(text)
 }

@@ -30,7 +30,12 @@ fn any_bytes(seed: u32) -> [(u8, u8); COUNT] {
 }
 
 /// The capture of these bytes.
-fn written(rt: &impl Abort, every: u32, halves: u8, bytes: &[(u8, u8)]) -> ArrayVec<u8, 2048> {
+pub(super) fn written(
+    rt: &impl Abort,
+    every: u32,
+    halves: u8,
+    bytes: &[(u8, u8)],
+) -> ArrayVec<u8, 2048> {
     assert!(rt; halves <= 8);
     let mut writer = FrameWriter::new(every, halves);
     let mut capture = ArrayVec::<u8, 2048>::new();
