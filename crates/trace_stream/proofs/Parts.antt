@@ -1,8 +1,8 @@
-use Rattle.std.proofs.Common.{◌≡◌, ℕ, ◌+◌, ◌-◌, ◌≤◌, List, [], ◌++◌, ap, ◌∙◌, sym, subst, refl, append_assoc, append-nil, length, length-append, take, arith}
+use Rattle.std.proofs.Common.{◌≡◌, inl, inr, ℕ, ◌+◌, ◌-◌, ◌≤◌, List, [], ◌++◌, ap, ◌∙◌, sym, subst, refl, append_assoc, append-nil, length, length-append, take, arith}
 use Rattle.std.proofs.lemmas.List.{take_all}
 use Rattle.std.proofs.Math.Seq.{take-append-add, take-append_seam}
 use Rattle.std.specs.declared.option.Option.{Option}
-use Rattle.std.specs.Io.KnownBytes.{Appends, Consumes}
+use Rattle.std.specs.Io.KnownBytes.{Appends, Consumes, IsAtEnd}
 use Rattle.trace_io.specs.Bytes.{AppendsPrefix}
 use Rattle.trace_io.proofs.Writes.{front_all}
 use Rattle.trace_stream.specs.Written.{GrowsOnly}
@@ -10,7 +10,7 @@ use Rattle.trace_stream.specs.declared.outcome.Outcome.{Outcome}
 use Rattle.trace_stream.specs.declared.outcome.Outcome.TheVariants.{AtEnd, FaultFound, ReadFailed, WriteFailed, OverLimit}
 use Rattle.trace_stream.specs.BuffersState.{BuffersState}
 use Rattle.trace_stream.specs.Pumped.{HasPumped}
-use Rattle.trace_stream.specs.Served.{Meaning, Ends, HasServed, HasStopped}
+use Rattle.trace_stream.specs.Served.{Meaning, Ends, IsAllRead, HasServed, HasStopped, HasEnded}
 
 -- the output went on after the reading
 abbrev pub written : Ends → Option (List ℕ) → Ends
@@ -20,18 +20,25 @@ written new held = record { left = new.left; held = held }
 first_bytes : (limit : ℕ) (seen extra : List ℕ) → length seen ≤ limit → take limit (seen ++ extra) ≡ seen ++ take (limit - length seen) extra
 first_bytes limit seen extra h = ap (λ n. take n (seen ++ extra)) (let e : limit ≡ length seen + (limit - length seen) = omega arith in e) ∙ take-append-add seen extra (limit - length seen)
 
+-- at the input's end, where the action stands
 pub served_at_end : (stands : List ℕ → Type 0) (m : Meaning) (limit : ℕ) (old new : Ends) (buffers : BuffersState) (held : Option (List ℕ))
     (pumped : HasPumped stands m limit old new buffers AtEnd) → Appends old.held held (m.text pumped.seen ++ m.ending pumped.seen)
-    → HasServed m limit old (written new held) buffers.recent AtEnd
-served_at_end stands m limit old new buffers held pumped put = record {
-  bytes = pumped.seen;
-  out = m.text pumped.seen ++ m.ending pumped.seen;
-  lost = subst (Consumes old.left new.left) (ap (λ l. pumped.seen ++ l) pumped.outcome.1 ∙ append-nil pumped.seen) pumped.lost;
-  gained = put;
-  at_most = omega (arith, pumped.within);
-  outcome = (pumped.outcome.0.sound, pumped.within, refl);
-  ended = λ e. pumped.outcome.2;
-}
+    → HasEnded stands m limit old (written new held) buffers.recent
+served_at_end stands m limit old new buffers held pumped put =
+    let served : HasServed m limit old (written new held) buffers.recent AtEnd = record {
+      bytes = pumped.seen;
+      out = m.text pumped.seen ++ m.ending pumped.seen;
+      lost = subst (Consumes old.left new.left) (ap (λ l. pumped.seen ++ l) pumped.outcome.1 ∙ append-nil pumped.seen) pumped.lost;
+      gained = put;
+      at_most = omega (arith, pumped.within);
+      outcome = (pumped.outcome.0.sound, pumped.within, refl);
+      ended = λ e. pumped.outcome.2;
+    } in
+    record { served = served; holds = pumped.outcome.0.read }
+
+-- a front of a front is one of the whole
+longer : {old held : Option (List ℕ)} {part whole : List ℕ} (prefix : AppendsPrefix old held part) → GrowsOnly part whole → GrowsOnly prefix.1.front whole
+longer prefix grows = (prefix.0 ++ grows.0, grows.1 ∙ ap (λ l. l ++ grows.0) prefix.1.all ∙ append_assoc prefix.1.front prefix.0 grows.0)
 
 -- what a fault adds to is the same, whatever comes after it
 pub record Stays (m : Meaning) : Type 0 where
@@ -86,10 +93,10 @@ served_over_limit stands m limit old new buffers pumped =
       ended = λ e. cc;
     }
 
--- a write that failed, where some prefix of the whole text was written
+-- a write that failed, where some prefix of the text was written
 pub served_in_part : (stands : List ℕ → Type 0) (m : Meaning) (limit : ℕ) (old new : Ends) (buffers : BuffersState) (held : Option (List ℕ)) (how : Outcome)
     (pumped : HasPumped stands m limit old new buffers how) (part : List ℕ) → AppendsPrefix old.held held part
-    → GrowsOnly part (m.text (take limit (pumped.seen ++ pumped.extra)) ++ m.ending (take limit (pumped.seen ++ pumped.extra)))
+    → GrowsOnly part (m.text (take limit (pumped.seen ++ pumped.extra)))
     → HasServed m limit old (written new held) buffers.recent WriteFailed
 served_in_part stands m limit old new buffers held how pumped part prefix grows = record {
   bytes = pumped.seen ++ pumped.extra;
@@ -97,17 +104,43 @@ served_in_part stands m limit old new buffers held how pumped part prefix grows 
   lost = pumped.lost;
   gained = prefix.1.took;
   at_most = omega (arith, pumped.at_most, length-append pumped.seen pumped.extra);
-  outcome = (prefix.0 ++ grows.0, grows.1 ∙ ap (λ l. l ++ grows.0) prefix.1.all ∙ append_assoc prefix.1.front prefix.0 grows.0);
+  outcome = inl (longer prefix grows);
   ended = λ e. cc;
 }
 
--- the text of the bytes seen is a front of the whole
-pub text_in_part : (text ending : List ℕ → List ℕ) (limit : ℕ) (seen extra : List ℕ) → ((xs ys : List ℕ) → GrowsOnly (text xs) (text (xs ++ ys))) → length seen ≤ limit
-    → GrowsOnly (text seen) (text (take limit (seen ++ extra)) ++ ending (take limit (seen ++ extra)))
-text_in_part text ending limit seen extra grows within =
-    let bytes = take limit (seen ++ extra) in
+-- a write that failed once no more was to be read, where some prefix of the whole text was written
+pub served_to_end : (stands : List ℕ → Type 0) (m : Meaning) (limit : ℕ) (old new : Ends) (buffers : BuffersState) (held : Option (List ℕ)) (how : Outcome)
+    (pumped : HasPumped stands m limit old new buffers how) (part : List ℕ) → AppendsPrefix old.held held part
+    → IsAllRead m.faulty limit new.left (pumped.seen ++ pumped.extra)
+    → GrowsOnly part (m.text (take limit (pumped.seen ++ pumped.extra)) ++ m.ending (take limit (pumped.seen ++ pumped.extra)))
+    → HasServed m limit old (written new held) buffers.recent WriteFailed
+served_to_end stands m limit old new buffers held how pumped part prefix all grows = record {
+  bytes = pumped.seen ++ pumped.extra;
+  out = prefix.1.front;
+  lost = pumped.lost;
+  gained = prefix.1.took;
+  at_most = omega (arith, pumped.at_most, length-append pumped.seen pumped.extra);
+  outcome = inr (all, longer prefix grows);
+  ended = λ e. cc;
+}
+
+-- the text of the bytes seen is a front of that of all
+pub text_in_part : (text : List ℕ → List ℕ) (limit : ℕ) (seen extra : List ℕ) → ((xs ys : List ℕ) → GrowsOnly (text xs) (text (xs ++ ys))) → length seen ≤ limit
+    → GrowsOnly (text seen) (text (take limit (seen ++ extra)))
+text_in_part text limit seen extra grows within =
     let more = grows seen (take (limit - length seen) extra) in
-    (more.0 ++ ending bytes, ap (λ l. l ++ ending bytes) (ap text (first_bytes limit seen extra within) ∙ more.1) ∙ append_assoc (text seen) more.0 (ending bytes))
+    (more.0, ap text (first_bytes limit seen extra within) ∙ more.1)
+
+-- nothing more is to be read at the input's end, and at a fault
+pub all_read : (faulty : List ℕ → Type 0) (limit : ℕ) (left : Option (List ℕ)) (seen extra : List ℕ) → extra ≡ [] → length seen ≤ limit → IsAtEnd left
+    → IsAllRead faulty limit left (seen ++ extra)
+all_read faulty limit left seen extra none within ended =
+    inr (subst (λ l. length l ≤ limit) (sym (ap (λ l. seen ++ l) none ∙ append-nil seen)) within, ended)
+
+pub all_stopped : (m : Meaning) (limit : ℕ) (left : Option (List ℕ)) (seen extra : List ℕ) → Stays m → m.faulty seen → length seen ≤ limit
+    → IsAllRead m.faulty limit left (seen ++ extra)
+all_stopped m limit left seen extra stays broken within =
+    inl (subst m.faulty (sym (first_bytes limit seen extra within)) (stays.faulty seen (take (limit - length seen) extra) broken))
 
 pub all_in_part : (text ending : List ℕ → List ℕ) (limit : ℕ) (seen extra : List ℕ) → extra ≡ [] → length seen ≤ limit
     → GrowsOnly (text seen ++ ending seen) (text (take limit (seen ++ extra)) ++ ending (take limit (seen ++ extra)))

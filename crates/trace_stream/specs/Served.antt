@@ -1,5 +1,5 @@
 -- What a run read and wrote, by its outcome.
-use Rattle.std.specs.Prelude.{◌≡◌, ℕ, ◌+◌, ◌<◌, ◌≤◌, List, ◌++◌, length, take}
+use Rattle.std.specs.Prelude.{◌≡◌, ◌⊎◌, ℕ, ◌+◌, ◌<◌, ◌≤◌, List, ◌++◌, length, take}
 use Rattle.std.specs.declared.option.Option.{Option}
 use Rattle.std.specs.Io.KnownBytes.{Appends, Consumes, IsAtEnd}
 use Rattle.circular_buffer.specs.Buffer.{keep_last}
@@ -29,18 +29,26 @@ pub record StopsWithin (faulty : List ℕ → Type 0) (bytes : List ℕ) : Type 
   pub certain : IsCertainAt faulty seen
   pub broken : faulty bytes
 
--- what the bytes that were read are, and what went out for them, by the outcome; at a fault the recent
--- bytes are the last sixteen up to the one at which the fault became certain
-abbrev pub ServedBy : Meaning → ℕ → Outcome → List ℕ → List ℕ → List ℕ → Type 0
-ServedBy m limit AtEnd bytes out recent =
+-- no more is to be read: the bytes within the limit have a fault, or they are all and nothing is left in the input
+abbrev pub IsAllRead : (List ℕ → Type 0) → ℕ → Option (List ℕ) → List ℕ → Type 0
+IsAllRead faulty limit left bytes = faulty (take limit bytes) ⊎ ((length bytes ≤ limit) × IsAtEnd left)
+
+-- What the bytes that were read are, what the input has left after them, and what went out for them, by the outcome.
+-- At a fault the recent bytes are the last sixteen up to the one at which the fault became certain. Where a write
+-- failed, a front of the text went out; and of what comes after it only where no more was to be read.
+abbrev pub ServedBy : Meaning → ℕ → Option (List ℕ) → Outcome → List ℕ → List ℕ → List ℕ → Type 0
+ServedBy m limit left AtEnd bytes out recent =
     (m.faulty bytes → ⊥) × (length bytes ≤ limit) × (out ≡ m.text bytes ++ m.ending bytes)
-ServedBy m limit FaultFound bytes out recent =
+ServedBy m limit left FaultFound bytes out recent =
     (stop : StopsWithin m.faulty (take limit bytes))
     × (out ≡ m.text (take limit bytes) ++ m.ending (take limit bytes)) × (recent ≡ keep_last RECENT_ROOM stop.seen)
-ServedBy m limit ReadFailed bytes out recent =
+ServedBy m limit left ReadFailed bytes out recent =
     (m.faulty bytes → ⊥) × (length bytes ≤ limit) × (out ≡ m.text bytes)
-ServedBy m limit WriteFailed bytes out recent = GrowsOnly out (m.text (take limit bytes) ++ m.ending (take limit bytes))
-ServedBy m limit OverLimit bytes out recent =
+ServedBy m limit left WriteFailed bytes out recent =
+    GrowsOnly out (m.text (take limit bytes))
+    ⊎ (IsAllRead m.faulty limit left bytes
+    × GrowsOnly out (m.text (take limit bytes) ++ m.ending (take limit bytes)))
+ServedBy m limit left OverLimit bytes out recent =
     (m.faulty (take limit bytes) → ⊥) × (limit < length bytes) × (out ≡ m.text (take limit bytes))
 
 -- the bytes are those that the input lost, at most one past the limit, out is what the output gained, and
@@ -51,7 +59,7 @@ pub record HasServed (m : Meaning) (limit : ℕ) (old new : Ends) (recent : List
   pub lost : Consumes old.left new.left bytes
   pub gained : Appends old.held new.held out
   pub at_most : length bytes ≤ limit + 1
-  pub outcome : ServedBy m limit result bytes out recent
+  pub outcome : ServedBy m limit new.left result bytes out recent
   pub ended : result ≡ AtEnd → IsAtEnd new.left
 
 -- a run that stopped was served so, and this holds of the bytes up to the one at which the fault became certain
@@ -59,3 +67,9 @@ pub record HasStopped (there : List ℕ → Type 0) (m : Meaning) (limit : ℕ) 
     : Type 0 where
   pub served : HasServed m limit old new recent FaultFound
   pub holds : there served.outcome.0.seen
+
+-- a run to the input's end was served so, and this holds of all its bytes
+pub record HasEnded (there : List ℕ → Type 0) (m : Meaning) (limit : ℕ) (old new : Ends) (recent : List ℕ)
+    : Type 0 where
+  pub served : HasServed m limit old new recent AtEnd
+  pub holds : there served.bytes

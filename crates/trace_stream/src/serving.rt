@@ -6,7 +6,7 @@ ghost use Rattle.std.specs.Io.KnownBytes.{Appends};
 ghost use Rattle.trace_io.specs.Bytes.{TakesFront, AppendsPrefix};
 ghost use Rattle.trace_io.specs.Causes.{HasCause, Rose};
 ghost use Rattle.trace_stream.specs.Fresh.{IsFresh};
-ghost use Rattle.trace_stream.specs.Served.{Meaning, Ends, HasServed, HasStopped};
+ghost use Rattle.trace_stream.specs.Served.{Meaning, Ends, HasServed, HasStopped, HasEnded};
 ghost use Rattle.trace_stream.specs.declared.limits.TheConstants.{GREATEST_CAPTURE};
 
 use crate::action::Action;
@@ -60,6 +60,11 @@ pub fn serve<A: Action, I: Source, O: Sink>(
         let before : Ends = record { left = I.left input.old; held = O.held output.old } in
         let after : Ends = record { left = I.left input.new; held = O.held output.new } in
         HasStopped (A.stands action.new) meaning limit before after buffers.new.recent }
+    ensures ended { result ≡ Outcome.AtEnd → let p = A.plan action.old in
+        let meaning : Meaning = record { faulty = A.faulty p; text = A.text p; ending = A.ending p } in
+        let before : Ends = record { left = I.left input.old; held = O.held output.old } in
+        let after : Ends = record { left = I.left input.new; held = O.held output.new } in
+        HasEnded (A.stands action.new) meaning limit before after buffers.new.recent }
     ensures written { result ≢ Outcome.WriteFailed → buffers.new.pending ≡ [] }
     ensures one_empty_read { I.empty_reads input.new ≤ I.empty_reads input.old + 1 }
     ensures read_later { I.faults input.old ≤ I.faults input.new }

@@ -1,5 +1,5 @@
 use Rattle.std.proofs.Common.{sym, ◌∙◌}
-use Rattle.trace_stream.proofs.Parts.{Stays, served_at_end, served_stopped, served_read_failed, served_over_limit, served_in_part, text_in_part, all_in_part, stopped_in_part}
+use Rattle.trace_stream.proofs.Parts.{Stays, served_at_end, served_stopped, served_read_failed, served_over_limit, served_in_part, served_to_end, text_in_part, all_in_part, all_read, all_stopped, stopped_in_part}
 use Rattle.trace_stream.specs.Served.{Meaning}
 use Rattle.trace_stream.proofs.serving.serve.Goals as goal
 use Rattle.trace_stream.proofs.serving.serve.Goals.{in-AtEnd+in-Ok, in-AtEnd+in-Err, in-FaultFound+in-Ok-finish, in-FaultFound+in-Err-finish, in-ReadFailed, in-WriteFailed, in-OverLimit}
@@ -13,11 +13,12 @@ returns-clause-served g c =
     elim c.match-pump.branch [
       | in-AtEnd+in-Ok w ↦
           let p = w.in-AtEnd.ensures.pumped in
-          rw (w.result-is, w.output-is, w.buffers-inside-is) (served_at_end _ _ _ _ _ _ _ p (w.in-Ok.ensures.ok _ p.seen _ w.in-AtEnd.ensures.same p.outcome.0.read p.outcome.0.written))
+          rw (w.result-is, w.output-is, w.buffers-inside-is) (served_at_end _ _ _ _ _ _ _ p (w.in-Ok.ensures.ok _ p.seen _ w.in-AtEnd.ensures.same p.outcome.0.read p.outcome.0.written)).served
       | in-AtEnd+in-Err w ↦
           let p = w.in-AtEnd.ensures.pumped in
           rw (w.result-is, w.output-is, w.buffers-inside-is)
-          (served_in_part _ _ _ _ _ _ _ _ p _ (w.in-Err.ensures.err _ p.seen _ w.in-AtEnd.ensures.same p.outcome.0.read p.outcome.0.written) (all_in_part m.text m.ending limit p.seen p.extra p.outcome.1 p.within))
+          (served_to_end _ _ _ _ _ _ _ _ p _ (w.in-Err.ensures.err _ p.seen _ w.in-AtEnd.ensures.same p.outcome.0.read p.outcome.0.written)
+          (all_read m.faulty limit _ p.seen p.extra p.outcome.1 p.within p.outcome.2) (all_in_part m.text m.ending limit p.seen p.extra p.outcome.1 p.within))
       | in-FaultFound+in-Ok-finish w ↦
           let p = w.in-FaultFound.ensures.pumped in
           rw (w.result-is, w.output-is, w.buffers-inside-is)
@@ -25,12 +26,13 @@ returns-clause-served g c =
       | in-FaultFound+in-Err-finish w ↦
           let p = w.in-FaultFound.ensures.pumped in
           rw (w.result-is, w.output-is, w.buffers-inside-is)
-          (served_in_part _ _ _ _ _ _ _ _ p _ (w.in-Err-finish.ensures.err _ p.seen _ w.in-FaultFound.ensures.same p.outcome.read p.outcome.written)
+          (served_to_end _ _ _ _ _ _ _ _ p _ (w.in-Err-finish.ensures.err _ p.seen _ w.in-FaultFound.ensures.same p.outcome.read p.outcome.written)
+          (all_stopped m limit _ p.seen p.extra stays p.outcome.certain.broken p.within)
           (stopped_in_part m limit p.seen p.extra stays p.outcome.certain.broken p.within))
       | in-ReadFailed w ↦ rw (w.result-is, w.output-is, w.buffers-inside-is) (served_read_failed _ _ _ _ _ _ w.in-ReadFailed.ensures.pumped)
       | in-WriteFailed w ↦
           let p = w.in-WriteFailed.ensures.pumped in
-          rw (w.result-is, w.output-is, w.buffers-inside-is) (served_in_part _ _ _ _ _ _ _ _ p _ p.outcome (text_in_part m.text m.ending limit p.seen p.extra (g.met.A.Action.text_grows plan) p.within))
+          rw (w.result-is, w.output-is, w.buffers-inside-is) (served_in_part _ _ _ _ _ _ _ _ p _ p.outcome (text_in_part m.text limit p.seen p.extra (g.met.A.Action.text_grows plan) p.within))
       | in-OverLimit w ↦ rw (w.result-is, w.output-is, w.buffers-inside-is) (served_over_limit _ _ _ _ _ _ w.in-OverLimit.ensures.pumped)
     ]
 
@@ -46,6 +48,20 @@ returns-clause-stopped g c = λ e.
           (served_stopped _ _ _ _ _ _ _ stays p (w.in-Ok-finish.ensures.ok _ p.seen _ w.in-FaultFound.ensures.same p.outcome.read p.outcome.written))
       | in-AtEnd+in-Ok w ↦ let no = sym w.result-is ∙ e in cc
       | in-AtEnd+in-Err w ↦ let no = sym w.result-is ∙ e in cc
+      | in-FaultFound+in-Err-finish w ↦ let no = sym w.result-is ∙ e in cc
+      | in-ReadFailed w ↦ let no = sym w.result-is ∙ e in cc
+      | in-WriteFailed w ↦ let no = sym w.result-is ∙ e in cc
+      | in-OverLimit w ↦ let no = sym w.result-is ∙ e in cc
+    ]
+
+pub returns-clause-ended : goal.returns-clause-ended
+returns-clause-ended g c = λ e.
+    elim c.match-pump.branch [
+      | in-AtEnd+in-Ok w ↦
+          let p = w.in-AtEnd.ensures.pumped in
+          rw (w.output-is, w.buffers-inside-is) (served_at_end _ _ _ _ _ _ _ p (w.in-Ok.ensures.ok _ p.seen _ w.in-AtEnd.ensures.same p.outcome.0.read p.outcome.0.written))
+      | in-AtEnd+in-Err w ↦ let no = sym w.result-is ∙ e in cc
+      | in-FaultFound+in-Ok-finish w ↦ let no = sym w.result-is ∙ e in cc
       | in-FaultFound+in-Err-finish w ↦ let no = sym w.result-is ∙ e in cc
       | in-ReadFailed w ↦ let no = sym w.result-is ∙ e in cc
       | in-WriteFailed w ↦ let no = sym w.result-is ∙ e in cc
