@@ -21,7 +21,7 @@ pub enum SourceMachine {
 }
 
 /// What an ITM decoder answers, as a machine of sources does.
-#[inline]
+#[inline(always)]
 fn itm_step(step: Step<ItmPacket>) -> Step<Packet>
     ensures { result ≡ step_as Itm step }
 {
@@ -46,7 +46,7 @@ fn itm_step(step: Step<ItmPacket>) -> Step<Packet>
 }
 
 /// The same of a piece.
-#[inline]
+#[inline(always)]
 fn itm_block(block: Block<ItmPacket>) -> Block<Packet>
     ensures { result ≡ block_as Itm block }
 {
@@ -60,7 +60,7 @@ fn itm_block(block: Block<ItmPacket>) -> Block<Packet>
 }
 
 /// What an STP decoder answers, as a machine of sources does.
-#[inline]
+#[inline(always)]
 fn stp_step(step: Step<StpItem>) -> Step<Packet>
     ensures { result ≡ step_as Stp step }
 {
@@ -85,7 +85,7 @@ fn stp_step(step: Step<StpItem>) -> Step<Packet>
 }
 
 /// The same of a piece.
-#[inline]
+#[inline(always)]
 fn stp_block(block: Block<StpItem>) -> Block<Packet>
     ensures { result ≡ block_as Stp block }
 {
@@ -149,7 +149,7 @@ impl SourceMachine {
 
     /// Feeds a piece, whose first byte is at this offset, up to the first byte to which the answer is neither `Quiet` nor
     /// `Skipping`, or to the piece's end. It takes a packet at once whose bytes are all there.
-    #[inline]
+    #[inline(always)]
     pub fn feed_piece(&mut self, at: u64, piece: &[u8]) -> Block<Packet>
         requires live { is_live self.old ≡ true }
         requires room { held_of self.old + skipped_by self.old + 2 * length piece.now ≤ 2 ^ 60 }

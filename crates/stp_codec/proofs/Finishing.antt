@@ -27,7 +27,7 @@ number_push order n v (c ∷ d) b =
     ∙ ap (λ k. number_with order k (number_from order (n + 1) (number_with order n v c) d) b) (let e : n + 1 + length d ≡ n + length (c ∷ d) = omega arith in e)
 
 module _ (order : Order) where
-  value_is : (n v : ℕ) (d : List ℕ) → value_from order n v d ≡ number_from order n v d
+  pub value_is : (n v : ℕ) (d : List ℕ) → value_from order n v d ≡ number_from order n v d
   value_is n v [] = refl
   value_is n v (b ∷ d) = value_is (n + 1) (number_with order n v b) d
 

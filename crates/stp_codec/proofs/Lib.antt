@@ -3,6 +3,9 @@ pub mod Bytes
 pub mod Answering
 pub mod Holding
 pub mod Between
+pub mod AtOnce
+pub mod Insides
+pub mod RowTables
 pub mod Finishing
 pub mod Passing
 pub mod PacketPieces

@@ -6,6 +6,7 @@ ghost use Rattle.stp_grammar.specs.Rule.{is_sound};
 ghost use Rattle.stp_codec.specs.Reading.{pattern};
 ghost use Rattle.stp_codec.specs.Wholes.{item_in as item_by};
 
+use crate::inside::inside;
 use crate::whole::{after_first, whole_packet};
 use stp_grammar::attribution::Attribution;
 use stp_grammar::item::StpItem;
@@ -43,7 +44,8 @@ impl StpDecoder {
     ghost use Rattle.stp_grammar.specs.Proper.{IsProper, IsProperItem};
     ghost use Rattle.stp_grammar.specs.declared.partial.Partial.TheVariants.{Start};
     ghost use Rattle.stp_codec.specs.Reading.{packets_of, rest_in, items_at, items_in};
-    ghost use Rattle.stp_codec.specs.Wholes.{nibbles_in, between, Ends, left_of, IsQuiet, IsItem};
+    ghost use Rattle.stp_codec.specs.Wholes.{nibbles_in, between, Ends, left_of, IsQuiet, IsItem, GoesTwice};
+    ghost use Rattle.stp_grammar.specs.Rule.{count_of};
     ghost use Rattle.stp_codec.specs.Answers.{AnswersNibble};
     ghost use Rattle.stp_codec.specs.Decoder.{Stands, StandsAt, order_of, is_hunter, is_live, has_locked};
     ghost use Rattle.stp_codec.specs.Decoder.{held_of, skipped_by, nibble_at, EndsItem};
@@ -164,6 +166,21 @@ impl StpDecoder {
         } else {
             None
         }
+    }
+
+    /// The unfinished packet with this byte, where the reading has begun and both nibbles are inside a payload or a
+    /// timestamp's word.
+    #[inline(always)]
+    fn next_inside(&self, byte: u8) -> Option<Partial>
+        ensures locked { IfSome result (λ t. has_locked self.now ≡ true) }
+        ensures goes { IfSome result (λ t. GoesTwice (order_of self.now) self.now.partial byte t) }
+        ensures sound { IfSome result (λ t. is_sound t ≡ true) }
+        ensures held { IfSome result (λ t. count_of t ≡ held_of self.now + 2) }
+    {
+        if !self.mode.is_locked() {
+            return None;
+        }
+        inside(self.order, self.partial, byte)
     }
 
     /// Takes what is left of a byte in whose half a packet ended: the high nibble, where it ended in the low one. A
@@ -371,6 +388,10 @@ impl Machine for StpDecoder {
             AnswersByte (order_of self.old) (packets_of (order_of self.old) (is_hunter self.old) (nibbles_of u))
             (rest_in (order_of self.old) (is_hunter self.old) (nibbles_of u)) at byte result }
     {
+        if let Some(partial) = self.next_inside(byte) {
+            self.partial = partial;
+            return Step::Quiet;
+        }
         let low = self.take_nibble(at, 0, byte % 16);
         match low {
             Step::Quiet | Step::Skipping => self.take_nibble(at, 1, byte / 16),

@@ -3,6 +3,7 @@
 #![tactic(auto)]
 
 mod decoder;
+mod inside;
 pub mod laws;
 mod whole;
 

@@ -3,14 +3,16 @@
 //!
 //! They are read so for speed alone: the decoder reads nibble by nibble what is not found here.
 
-ghost use Rattle.std.specs.Prelude.{◌≡◌, ◌+◌, ◌-◌, ◌*◌, ◌^◌, ◌<◌, ◌≤◌, true, length, get_or, IfSome};
+ghost use Rattle.std.specs.Prelude.{◌≡◌, ◌+◌, ◌-◌, ◌*◌, ◌/◌, ◌%◌, ◌^◌, ◌<◌, ◌≤◌, true, length, get_or, IfSome};
 ghost use Rattle.trace_values.specs.declared.next.Next.TheVariants.{Go};
 ghost use Rattle.stp_grammar.specs.declared.packet.Order.{Order as OrderOf};
 ghost use Rattle.stp_grammar.specs.declared.packet.StpPacket.TheVariants.{Async};
 ghost use Rattle.stp_grammar.specs.declared.partial.Partial.TheVariants.{Start, Second, Third, Run, Size};
-ghost use Rattle.stp_grammar.specs.Opcodes.{line_of};
+ghost use Rattle.stp_grammar.specs.Opcodes.{line_of, row_at as row_by_table};
 ghost use Rattle.stp_grammar.specs.Proper.{IsProper};
 ghost use Rattle.stp_grammar.specs.Rule.{rule, begin, after_payload, is_sound};
+ghost use Rattle.stp_grammar.specs.Spelling.{number};
+ghost use Rattle.stp_grammar.specs.declared.packet.Order.TheVariants.{Msn};
 ghost use Rattle.stp_codec.specs.Wholes.{nibbles_in, between, number_from as number_by, Ends, Leaves};
 
 use stp_grammar::nibble::number_with;
@@ -18,6 +20,41 @@ use stp_grammar::opcode::row_at;
 use stp_grammar::packet::{Order, Row, StpPacket};
 use stp_grammar::partial::Partial;
 use trace_clock::word_nibbles;
+
+/// How many nibbles the payload of each row of the table of opcodes has, by the row's number.
+const PAYLOADS: &[u8] = &[
+    0, 2, 2, 2, 2, 4, 8, 16, 2, 4, 8, 16, 1, 1, 0, 4, 2, 4, 2, 4, 8, 16, 2, 4, 8, 16, 1, 1, 0, 1,
+    0, 2, 2, 8, 8,
+];
+
+/// 1 for each row whose payload a timestamp follows, and 0 for each other one.
+const STAMPS: &[u8] = &[
+    0, 0, 0, 0, 0, 0, 0, 0, 1, 1, 1, 1, 0, 1, 1, 0, 0, 0, 1, 1, 1, 1, 0, 0, 0, 0, 1, 0, 0, 0, 1, 0,
+    1, 0, 1,
+];
+
+/// How many nibbles the payload of this row has, which has this number.
+#[inline(always)]
+fn payload_of(number: u8, _row: Row) -> u8
+    requires number { number < 35 }
+    requires row { _row ≡ row_by_table number }
+    ensures count { result ≡ (line_of _row).payload }
+    ensures few { result ≤ 16 }
+{
+    let payloads = PAYLOADS;
+    payloads[number as usize]
+}
+
+/// Whether a timestamp follows the payload of this row, which has this number.
+#[inline(always)]
+fn is_stamped(number: u8, _row: Row) -> bool
+    requires number { number < 35 }
+    requires row { _row ≡ row_by_table number }
+    ensures { result ≡ (line_of _row).stamped }
+{
+    let stamps = STAMPS;
+    stamps[number as usize] == 1
+}
 
 /// One of the nibbles of these bytes.
 #[inline(always)]
@@ -31,9 +68,17 @@ fn nibble_of(bytes: &[u8], index: usize) -> u8
     if index % 2 == 0 { byte % 16 } else { byte / 16 }
 }
 
-/// The number that `count` nibbles make with the next `more`, where they made `value` without them.
+/// The number that `count` nibbles make with the next `more`, where they made `value` without them. It goes nibble by
+/// nibble.
 #[inline(always)]
-fn number_from(order: Order, count: u8, value: u64, bytes: &[u8], start: usize, more: u8) -> u64
+fn number_by_nibbles(
+    order: Order,
+    count: u8,
+    value: u64,
+    bytes: &[u8],
+    start: usize,
+    more: u8,
+) -> u64
     requires few { count + more ≤ 16 }
     requires fits { value < 16 ^ count }
     requires there { start + more ≤ 2 * length bytes.now }
@@ -46,6 +91,59 @@ fn number_from(order: Order, count: u8, value: u64, bytes: &[u8], start: usize, 
         number = number_with(order, count + index, number, nibble);
     }
     number
+}
+
+/// A byte with its nibbles exchanged.
+#[inline(always)]
+fn turned(byte: u8) -> u8
+    ensures { result ≡ byte % 16 * 16 + byte / 16 }
+{
+    byte % 16 * 16 + byte / 16
+}
+
+/// The number that the nibbles of nine bytes make, the first of them the most significant.
+#[inline(always)]
+fn number_of_nine(bytes: &[u8], first: usize) -> u128
+    requires { first + 9 ≤ length bytes.now }
+    ensures { result ≡ number Msn (between (nibbles_in bytes.now) (2 * first) (2 * first + 18)) }
+{
+    let mut number = 0u64;
+    for index in 0..8usize {
+        number = 256 * number + u64::from(turned(bytes[first + index]));
+    }
+    256 * u128::from(number) + u128::from(turned(bytes[first + 8]))
+}
+
+/// The number that the next `more` nibbles make, the first of them the most significant. No branch depends on how
+/// many they are.
+#[inline(always)]
+fn number_at_once(bytes: &[u8], start: usize, more: u8) -> u64
+    requires few { more ≤ 16 }
+    requires there { start / 2 + 9 ≤ length bytes.now }
+    ensures value { result ≡ number_by Msn 0 0 (between (nibbles_in bytes.now) start (start + more)) }
+    ensures fits { result < 16 ^ more }
+{
+    let half = (start % 2) as u32;
+    let after = 18 - half - u32::from(more);
+    let number = number_of_nine(bytes, start / 2) >> (4 * after);
+    (number & ((1 << (4 * u32::from(more))) - 1)) as u64
+}
+
+/// The number that `count` nibbles make with the next `more`, where they made `value` without them.
+#[inline(always)]
+fn number_from(order: Order, count: u8, value: u64, bytes: &[u8], start: usize, more: u8) -> u64
+    requires few { count + more ≤ 16 }
+    requires fits { value < 16 ^ count }
+    requires there { start + more ≤ 2 * length bytes.now }
+    ensures value { result ≡ number_by order count value (between (nibbles_in bytes.now) start (start + more)) }
+    ensures fits { result < 16 ^ (count + more) }
+{
+    match order {
+        Order::Msn if count == 0 && start / 2 + 9 <= bytes.len() => {
+            number_at_once(bytes, start, more)
+        }
+        _ => number_by_nibbles(order, count, value, bytes, start, more),
+    }
 }
 
 /// The number of `most` nibbles, of which `count` made `value` and the others begin at this nibble of the bytes, and
@@ -124,10 +222,12 @@ fn from_size(
 fn from_payload(
     order: Order,
     row: Row,
+    stamped: bool,
     payload: u64,
     bytes: &[u8],
     start: usize,
 ) -> Option<(usize, StpPacket)>
+    requires stamped { stamped ≡ (line_of row).stamped }
     requires fits { payload < 16 ^ (line_of row).payload }
     requires there { start ≤ 2 * length bytes.now }
     ensures end { IfSome result (λ x. (start ≤ x.0) × (x.0 ≤ 2 * length bytes.now)) }
@@ -135,23 +235,31 @@ fn from_payload(
         Ends order (after_payload row payload) (between (nibbles_in bytes.now) start x.0) x.1) }
     ensures proper { IfSome result (λ x. IsProper x.1) }
 {
-    if row.is_stamped() {
+    if stamped {
         from_size(order, row, payload, bytes, start)
     } else {
         Some((start, StpPacket::Plain { row, payload }))
     }
 }
 
-/// The packet of this row, from the nibble after its opcode on, and the nibble after it.
+/// The packet of this row, which has this number, from the nibble after its opcode on, and the nibble after it.
 #[inline(always)]
-fn from_opcode(order: Order, row: Row, bytes: &[u8], start: usize) -> Option<(usize, StpPacket)>
+fn from_opcode(
+    order: Order,
+    number: u8,
+    row: Row,
+    bytes: &[u8],
+    start: usize,
+) -> Option<(usize, StpPacket)>
+    requires number { number < 35 }
+    requires row { row ≡ row_by_table number }
     requires there { start ≤ 2 * length bytes.now }
     ensures end { IfSome result (λ x. (start ≤ x.0) × (x.0 ≤ 2 * length bytes.now)) }
     ensures whole { IfSome result (λ x. Ends order (begin row) (between (nibbles_in bytes.now) start x.0) x.1) }
     ensures proper { IfSome result (λ x. IsProper x.1) }
 {
-    let (end, payload) = number_at(order, 0, 0, row.payload_nibbles(), bytes, start)?;
-    from_payload(order, row, payload, bytes, end)
+    let (end, payload) = number_at(order, 0, 0, payload_of(number, row), bytes, start)?;
+    from_payload(order, row, is_stamped(number, row), payload, bytes, end)
 }
 
 /// The packet whose first nibble is F, from its second on, and the nibble after it.
@@ -167,7 +275,7 @@ fn from_second(order: Order, bytes: &[u8], start: usize) -> Option<(usize, StpPa
     match nibble_of(bytes, start) {
         0 => from_third(order, bytes, start + 1),
         15 => Some((from_run(2, bytes, start + 1)?, StpPacket::Async)),
-        nibble => from_opcode(order, row_at(14 + nibble), bytes, start + 1),
+        nibble => from_opcode(order, 14 + nibble, row_at(14 + nibble), bytes, start + 1),
     }
 }
 
@@ -183,8 +291,8 @@ fn from_third(order: Order, bytes: &[u8], start: usize) -> Option<(usize, StpPac
         return None;
     }
     match nibble_of(bytes, start) {
-        nibble @ 0..=1 => from_opcode(order, row_at(29 + nibble), bytes, start + 1),
-        nibble @ 6..=9 => from_opcode(order, row_at(25 + nibble), bytes, start + 1),
+        nibble @ 0..=1 => from_opcode(order, 29 + nibble, row_at(29 + nibble), bytes, start + 1),
+        nibble @ 6..=9 => from_opcode(order, 25 + nibble, row_at(25 + nibble), bytes, start + 1),
         _ => None,
     }
 }
@@ -224,7 +332,7 @@ fn from_start(order: Order, bytes: &[u8]) -> Option<(usize, StpPacket)>
     }
     match nibble_of(bytes, 0) {
         15 => from_second(order, bytes, 1),
-        nibble => from_opcode(order, row_at(nibble), bytes, 1),
+        nibble => from_opcode(order, nibble, row_at(nibble), bytes, 1),
     }
 }
 
@@ -268,7 +376,7 @@ pub fn whole_packet(order: Order, partial: Partial, bytes: &[u8]) -> Option<(usi
         Partial::Run(count) => Some((from_run(count, bytes, 0)?, StpPacket::Async)),
         Partial::Payload { row, count, value } => {
             let (end, payload) = number_at(order, count, value, row.payload_nibbles(), bytes, 0)?;
-            from_payload(order, row, payload, bytes, end)
+            from_payload(order, row, row.is_stamped(), payload, bytes, end)
         }
         Partial::Size { row, payload } => from_size(order, row, payload, bytes, 0),
         Partial::Word {

@@ -10,4 +10,4 @@ returns-clause-whole c =
     let e = c.in_ok-end.ensures.end in
     both_some c.from_payload.result c.from_payload.ensures.end c.from_payload.ensures.whole
     (λ x m k. ends_begin_at c.args.order (nibbles_in c.args.bytes.now) c.args.start c.in_ok-end.end c.args.row c.in_ok-end.payload x.0 x.1
-    (e.0 ∙ ap (λ n. c.args.start + (n - 0)) c.payload_nibbles.ensures.count) m.0 (omega (arith, l, e.1)) c.in_ok-end.ensures.value k)
+    (e.0 ∙ ap (λ n. c.args.start + (n - 0)) c.payload_of.ensures.count) m.0 (omega (arith, l, e.1)) c.in_ok-end.ensures.value k)

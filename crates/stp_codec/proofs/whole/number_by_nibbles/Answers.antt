@@ -3,7 +3,7 @@ use Rattle.stp_grammar.specs.Rule.{number_with}
 use Rattle.stp_codec.specs.Wholes.{nibbles_in, between, number_from}
 use Rattle.stp_codec.proofs.Between.{length-nibbles, length-between, between_push}
 use Rattle.stp_codec.proofs.Finishing.{number_push}
-use Rattle.stp_codec.proofs.whole.number_from.Goals as goal
+use Rattle.stp_codec.proofs.whole.number_by_nibbles.Goals as goal
 
 pub loop-index-preserved : goal.loop-index-preserved
 loop-index-preserved c =
