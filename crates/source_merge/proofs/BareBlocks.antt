@@ -1,33 +1,14 @@
 -- Pieces of a capture with no formatter, of which the machine of source 1 takes the front.
-use Rattle.std.proofs.Common.{◌≡◌, ◌≢◌, ℕ, suc, ◌+◌, ◌-◌, ◌<◌, ◌≤◌, List, [], ◌∷◌, ◌++◌, length, map, take, refl, sym, ◌∙◌, ap, subst, append_assoc, append-nil, arith, Option, None, Some, true, false, Bool}
+use Rattle.std.proofs.Common.{◌≡◌, ℕ, ◌+◌, ◌<◌, ◌≤◌, List, [], ◌∷◌, ◌++◌, length, refl, sym, ◌∙◌, ap, append_assoc, append-nil, arith, Option, None, Some}
 use Rattle.std.specs.Prelude.{is_none}
-use Rattle.std.specs.Option.{option_map}
 use Rattle.std.proofs.lemmas.List.{append_cancel_left}
-use Rattle.trace_values.specs.declared.cell.Cell.{Cell}
-use Rattle.trace_values.specs.declared.fault.Fault.{Fault}
 use Rattle.trace_values.specs.declared.fault.Reason.{Reason}
 use Rattle.trace_values.specs.declared.step.Step.{Step}
 use Rattle.trace_values.specs.declared.step.Step.TheVariants.{Quiet, Skipping, Item, Locked, Fault as Faulty}
 use Rattle.trace_values.specs.Placed.{Place, Placed, byte_at, placed_from}
-use Rattle.trace_values.specs.Stream.{Said, Stream, AllAt, given_by}
-use Rattle.trace_values.specs.Block.{given_after, fault_after, StandsAt}
-use Rattle.capture_plan.specs.declared.frames.FramesMode.TheVariants.{Bare}
-use Rattle.deformatter.specs.Block.{EachByte}
-use Rattle.port_reader.specs.Reading.{bare_cell, port_reading}
-use Rattle.port_reader.specs.Rising.{BytesRise}
-use Rattle.source_events.specs.declared.event.Event.{Event}
-use Rattle.source_events.specs.declared.event.Stop.{Stop}
-use Rattle.source_events.specs.Runs.{list_of}
-use Rattle.source_events.specs.Merge.{told}
-use Rattle.source_events.specs.Report.{Mapped, IsLawful, AreLawful, lifted, runs_in}
-use Rattle.source_events.proofs.Least.{AreSound}
-use Rattle.source_merge.specs.Bare.{last_fault, stop_by}
-use Rattle.source_merge.specs.Feeding.{place_and_reason, step_fault}
-use Rattle.source_merge.specs.Routing.{HasNot}
-use Rattle.source_merge.specs.Stepping.{StepTaken}
-use Rattle.source_merge.proofs.BareBytes.{Nothing, lists_push, bare_more, bare_fault, sound_after}
-use Rattle.source_merge.proofs.Slots.{lawful_at}
-use Rattle.source_merge.proofs.Steps.{rise_push}
+use Rattle.trace_values.specs.Stream.{Said, Stream, AllAt}
+use Rattle.trace_values.specs.Block.{given_after}
+use Rattle.source_events.specs.Report.{IsLawful}
 
 -- a stream that gives nothing more at the end gave nothing on the way
 module _ {V : Type 0} (f : List Placed → Stream V) (law : IsLawful f) where

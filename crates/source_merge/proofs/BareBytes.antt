@@ -1,29 +1,25 @@
 -- What a byte of a capture with no formatter adds to the report, where source 1 is mapped.
-use Rattle.std.proofs.Common.{◌≡◌, ◌≢◌, ℕ, ◌+◌, ◌<◌, ◌≤◌, List, [], ◌∷◌, ◌++◌, map, refl, sym, ◌∙◌, ap, subst, append_assoc, append-nil, arith, Option, None, Some, true}
-use Rattle.std.specs.Option.{option_map}
+use Rattle.std.proofs.Common.{◌≡◌, ◌≢◌, ℕ, ◌+◌, ◌≤◌, List, [], ◌∷◌, ◌++◌, refl, sym, ◌∙◌, ap, subst, append-nil, arith, None, Some, true}
 use Rattle.std.proofs.lemmas.List.{map-append}
 use Rattle.trace_values.specs.declared.cell.Cell.{Cell}
 use Rattle.trace_values.specs.declared.fault.Fault.{Fault}
-use Rattle.trace_values.specs.declared.fault.Reason.{Reason}
 use Rattle.trace_values.specs.Placed.{Place, Placed, byte_at}
-use Rattle.trace_values.specs.Stream.{Said, Stream}
+use Rattle.trace_values.specs.Stream.{Said}
 use Rattle.capture_plan.specs.declared.frames.FramesMode.TheVariants.{Bare}
 use Rattle.frame_grammar.specs.Reading.{is_source}
-use Rattle.port_reader.specs.Reading.{PortReading, bare_cell, port_reading}
+use Rattle.port_reader.specs.Reading.{bare_cell, port_reading}
 use Rattle.port_reader.specs.Rising.{BytesRise}
 use Rattle.source_events.specs.declared.event.Event.{Event}
-use Rattle.source_events.specs.declared.event.Stop.{Stop}
 use Rattle.std.proofs.lemmas.Grind.{flat_map-append}
-use Rattle.source_events.specs.Runs.{all_runs, runs_of, id_of, IsRunFrom, end_of, list_of, RisesFrom}
-use Rattle.source_events.specs.Merge.{told, grown, merged_from, InOrder, Below}
-use Rattle.source_events.specs.Report.{Mapped, IsLawful, AreLawful, lifted, events, least_fault, runs_in, stop_of}
+use Rattle.source_events.specs.Runs.{all_runs, runs_of, id_of, IsRunFrom, list_of}
+use Rattle.source_events.specs.Merge.{told, grown, merged_from, Below}
+use Rattle.source_events.specs.Report.{Mapped, IsLawful, AreLawful, lifted, events, runs_in}
 use Rattle.source_events.proofs.Family.{list_own, list_other}
 use Rattle.source_events.proofs.Least.{AreSound, least_at}
 use Rattle.source_events.proofs.Merges.{test_same, test_other}
 use Rattle.source_events.proofs.Placing.{runs_between}
-use Rattle.source_merge.specs.declared.slot.Slot.{Slot}
 use Rattle.source_merge.specs.Feeding.{place_and_reason}
-use Rattle.source_merge.specs.Routing.{HasNot, RunsBetween, Stops, Filled, Fed}
+use Rattle.source_merge.specs.Routing.{HasNot, RunsBetween, Stops, Filled}
 use Rattle.source_merge.specs.Stepping.{StepTaken}
 use Rattle.source_merge.proofs.Framing.{fed_all, fed_stopped}
 use Rattle.source_merge.proofs.Slots.{grown_own, sound_other, sound_front, sound_back, lawful_at}

@@ -2,7 +2,6 @@
 use Rattle.std.proofs.Common.{◌≡◌, ℕ, ◌+◌, ◌*◌, List, ◌∷◌, ◌++◌, refl, sym, ◌∙◌, ap, subst, Option, None, Some, true}
 use Rattle.std.specs.Option.{option_map}
 use Rattle.trace_values.specs.declared.block.Block.{Block}
-use Rattle.trace_values.specs.declared.fault.Fault.{Fault}
 use Rattle.trace_values.specs.declared.step.Step.{Step}
 use Rattle.trace_values.specs.declared.step.Step.TheVariants.{Quiet, Skipping, Item, Locked, Fault as Faulty}
 use Rattle.trace_values.specs.Block.{goes_on_after}
@@ -17,7 +16,8 @@ use Rattle.source_events.specs.Report.{Mapped}
 use Rattle.source_machine.specs.declared.machine.SourceMachine.{SourceMachine}
 use Rattle.source_machine.specs.Machine.{reading_of, Stands, is_live, held_of, skipped_by}
 use Rattle.source_merge.specs.declared.slot.Slot.{Slot}
-use Rattle.source_merge.specs.Bare.{PieceFed, last_fault, stop_by}
+use Rattle.source_merge.specs.Bare.{PieceFed, stop_by}
+use Rattle.source_merge.specs.Feeding.{last_fault}
 use Rattle.source_merge.specs.Routing.{mapped_of, AllLive, HaveRoom}
 use Rattle.source_merge.proofs.Slots.{mapped_parts, live_join, room_join}
 

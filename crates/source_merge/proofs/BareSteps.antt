@@ -1,12 +1,9 @@
 -- What the front of a piece adds to the report of a capture with no formatter, where source 1 is mapped.
-use Rattle.std.proofs.Common.{◌≡◌, ℕ, ◌+◌, ◌-◌, ◌<◌, ◌≤◌, List, [], ◌∷◌, ◌++◌, length, refl, sym, ◌∙◌, ap, subst, append_assoc, append-nil, arith, Option, None, Some}
+use Rattle.std.proofs.Common.{◌≡◌, ℕ, ◌+◌, List, [], ◌∷◌, ◌++◌, sym, ◌∙◌, ap, subst, append_assoc, append-nil, Option, None, Some}
 use Rattle.std.specs.Option.{option_map}
-use Rattle.trace_values.specs.declared.cell.Cell.{Cell}
-use Rattle.trace_values.specs.declared.fault.Reason.{Reason}
 use Rattle.trace_values.specs.declared.step.Step.{Step}
 use Rattle.trace_values.specs.declared.step.Step.TheVariants.{Quiet, Skipping, Item, Locked, Fault as Faulty}
-use Rattle.trace_values.specs.Placed.{Place, Placed, byte_at, placed_from}
-use Rattle.trace_values.specs.Stream.{Said, Stream}
+use Rattle.trace_values.specs.Placed.{Placed, byte_at, placed_from}
 use Rattle.trace_values.specs.Block.{given_after, fault_after, StandsAt}
 use Rattle.capture_plan.specs.declared.frames.FramesMode.TheVariants.{Bare}
 use Rattle.deformatter.specs.Block.{EachByte}
@@ -18,7 +15,8 @@ use Rattle.source_events.specs.Runs.{list_of}
 use Rattle.source_events.specs.Merge.{told}
 use Rattle.source_events.specs.Report.{Mapped, IsLawful, AreLawful, lifted, runs_in}
 use Rattle.source_events.proofs.Least.{AreSound}
-use Rattle.source_merge.specs.Bare.{last_fault, stop_by}
+use Rattle.source_merge.specs.Bare.{stop_by}
+use Rattle.source_merge.specs.Feeding.{last_fault}
 use Rattle.source_merge.specs.Routing.{HasNot}
 use Rattle.source_merge.specs.Stepping.{StepTaken}
 use Rattle.source_merge.proofs.BareBytes.{Nothing, lists_push, bare_more, bare_fault, sound_after}

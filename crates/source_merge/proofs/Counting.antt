@@ -1,13 +1,11 @@
 -- What is counted of each source.
-use Rattle.std.proofs.Common.{◌≡◌, ℕ, ◌+◌, ◌≤◌, ◌<◌, List, [], ◌∷◌, ◌++◌, length, map, refl, sym, ◌∙◌, ap, subst, arith, Bool, true, false, cond, Option, Some, None, length-append}
-use Rattle.std.specs.Prelude.{is_none, ◌==◌, ◌&&◌}
-use Rattle.std.specs.List.{count_by, sum_by}
-use Rattle.std.proofs.lemmas.List.{length-map, map-append}
+use Rattle.std.proofs.Common.{◌≡◌, ℕ, ◌+◌, List, [], ◌∷◌, ◌++◌, length, refl, ◌∙◌, ap, arith, Bool, true, false, cond, length-append}
+use Rattle.std.proofs.lemmas.List.{length-map}
 use Rattle.trace_values.specs.declared.cell.Cell.{Cell}
-use Rattle.trace_values.specs.Placed.{Placed, byte_at}
+use Rattle.trace_values.specs.Placed.{byte_at}
 use Rattle.frame_grammar.specs.Reading.{is_source}
 use Rattle.source_events.specs.Runs.{id_of, placed_run, list_of}
-use Rattle.source_merge.specs.Counting.{bytes_in, unattributed_in}
+use Rattle.source_merge.specs.Counting.{bytes_in}
 use Rattle.source_events.proofs.Family.{list_own, list_other}
 
 -- the bytes of a source with one more run

@@ -1,5 +1,5 @@
 -- The tails of the mapped sources.
-use Rattle.std.proofs.Common.{◌≡◌, ◌≢◌, ℕ, zero, suc, ◌+◌, ◌<◌, ◌≤◌, List, [], ◌∷◌, ◌++◌, length, map, flat_map, get_or, refl, sym, ◌∙◌, ap, subst, arith, Option, None, Some, Bool, true, false, cond, append-nil}
+use Rattle.std.proofs.Common.{◌≡◌, ℕ, zero, suc, ◌+◌, ◌≤◌, List, [], ◌∷◌, ◌++◌, length, map, flat_map, get_or, refl, sym, ◌∙◌, ap, subst, arith, Option, None, Some, Bool, true, false, cond, append-nil}
 use Rattle.std.specs.Prelude.{◌==◌, ◌||◌, position, nat_lt, not}
 use Rattle.std.specs.Option.{option_map}
 use Rattle.std.specs.List.{position_or_len, list_any, count_by, range_with_len}
@@ -15,7 +15,7 @@ use Rattle.source_events.specs.declared.packet.Packet.{Packet}
 use Rattle.source_events.specs.declared.plan.Plan.{Plan}
 use Rattle.source_events.specs.declared.plan.SourceKind.{SourceKind}
 use Rattle.source_events.specs.declared.plan.SourceKind.TheVariants.{Itm, Stp}
-use Rattle.source_events.specs.Plan.{mapped_ids, stream_of, sources_by, kind_of}
+use Rattle.source_events.specs.Plan.{stream_of, sources_by, kind_of}
 use Rattle.port_reader.specs.Reading.{PortReading}
 use Rattle.source_events.specs.declared.tails.SourceTail.{SourceTail}
 use Rattle.source_events.specs.Report.{Mapped}
@@ -23,7 +23,7 @@ use Rattle.source_events.specs.Tails.{source_tails, tail_by}
 use Rattle.source_events.specs.Runs.{list_of}
 use Rattle.source_events.proofs.Merges.{test_same, test_other}
 use Rattle.source_merge.specs.declared.slot.Slot.{Slot}
-use Rattle.source_merge.specs.Routing.{mapped_of, AllLive, AllStand, HasNot}
+use Rattle.source_merge.specs.Routing.{mapped_of, AllStand, HasNot}
 
 or_right : (t u : Bool) → u ≡ true → (t || u) ≡ true
 or_right true u e = refl

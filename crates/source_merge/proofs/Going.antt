@@ -1,17 +1,16 @@
 -- What an engine keeps, as it goes on with bytes that end nothing and with one that does.
-use Rattle.std.proofs.Common.{◌≡◌, ℕ, suc, ◌+◌, ◌<◌, ◌≤◌, List, [], ◌∷◌, ◌++◌, length, refl, sym, ◌∙◌, ap, subst, append_assoc, append-nil, arith, Option, None, Some, true, length-append}
+use Rattle.std.proofs.Common.{◌≡◌, ℕ, ◌+◌, ◌<◌, ◌≤◌, List, [], ◌∷◌, ◌++◌, length, refl, sym, ◌∙◌, ap, subst, append_assoc, append-nil, arith, Option, None, length-append}
 use Rattle.std.specs.Option.{option_map}
 use Rattle.std.proofs.lemmas.List.{map-append}
 use Rattle.trace_values.specs.declared.cell.Cell.{Cell}
-use Rattle.trace_values.specs.declared.fault.Reason.{Reason}
-use Rattle.trace_values.specs.Placed.{Place, Placed, byte_at, placed_from}
+use Rattle.trace_values.specs.Placed.{Placed, byte_at, placed_from}
 use Rattle.trace_values.proofs.Placing.{placed_from_push}
 use Rattle.frame_grammar.specs.Reading.{offsets_of}
 use Rattle.deformatter.specs.Block.{EachByte, FedAs}
 use Rattle.capture_plan.specs.declared.frames.FramesMode.{FramesMode}
 use Rattle.deformatter.specs.declared.step.PortStep.{PortStep}
 use Rattle.deformatter.specs.declared.step.PortStep.TheVariants.{Quiet}
-use Rattle.port_reader.specs.Growth.{Grows, Answers as PortAnswers}
+use Rattle.port_reader.specs.Growth.{Answers as PortAnswers}
 use Rattle.port_reader.specs.Reading.{PortReading, port_reading}
 use Rattle.port_reader.specs.Rising.{Rise, BytesRise, end_at}
 use Rattle.port_reader.proofs.RisingLaws.{rise_join, placed_rise}
@@ -33,7 +32,7 @@ use Rattle.source_merge.specs.declared.flow.Flow.{Flow}
 use Rattle.source_merge.specs.declared.flow.Flow.TheVariants.{Going}
 use Rattle.source_merge.specs.declared.slot.Slot.{Slot}
 use Rattle.source_merge.specs.Answering.{Answers, port_of, report_of, fault_of, fault_by}
-use Rattle.source_merge.specs.Counting.{HasBytes, HasItems, HasPort, HasCounted}
+use Rattle.source_merge.specs.Counting.{HasBytes, HasItems, HasCounted}
 use Rattle.source_merge.specs.Engine.{Keeps}
 use Rattle.source_merge.specs.Routing.{mapped_of, AllLive, AllStand, AreDistinct}
 use Rattle.source_merge.specs.Stepping.{StepTaken}
@@ -103,8 +102,10 @@ module _ (plan : Plan) (slots : List (Slot SourceMachine)) (sources : mapped_of 
     keeps = record {
       stand = taken.list refl;
       counted = record {
-        bytes = subst (λ l. HasBytes counters.bytes l) (sym runs) k.counted.bytes;
-        items = subst (λ (es : List (Event Packet)). HasItems counters.items es) (sym same) k.counted.items;
+        whole = k.counted.whole;
+        frames = k.counted.frames;
+        bytes = subst (λ l. HasBytes counters.bytes k.counted.whole l) (sym runs) k.counted.bytes;
+        items = subst (λ (es : List (Event Packet)). HasItems counters.items k.counted.whole es) (sym same) k.counted.items;
         port = record {
           fulls = (let a = q.fulls in let b = k.counted.port.fulls in omega arith);
           halves = (let a = q.halves in let b = k.counted.port.halves in omega arith);

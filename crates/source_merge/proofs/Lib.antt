@@ -11,6 +11,7 @@ pub mod Going
 pub mod Refilled
 pub mod Feds
 pub mod Attributed
+pub mod FrameCounts
 pub mod Ending
 pub mod Mapping
 pub mod BareBytes
@@ -20,3 +21,4 @@ pub mod BareSteps
 pub mod BareGoing
 pub mod BareSlots
 pub mod Packets
+pub mod CellPieces

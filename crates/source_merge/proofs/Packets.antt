@@ -1,7 +1,7 @@
 -- A packet whose bytes are all in a run.
-use Rattle.std.proofs.Common.{◌≡◌, ℕ, suc, ◌+◌, ◌-◌, ◌<◌, ◌≤◌, List, [], ◌∷◌, ◌++◌, length, take, drop, get_or, map, refl, sym, ◌∙◌, ap, subst, append_assoc, arith, Option, Some, None, true, false}
+use Rattle.std.proofs.Common.{◌≡◌, ℕ, ◌+◌, ◌-◌, ◌<◌, ◌≤◌, List, [], ◌∷◌, ◌++◌, length, take, drop, get_or, refl, sym, ◌∙◌, ap, subst, append_assoc, arith, Option, Some, None, false}
 use Rattle.std.specs.Prelude.{is_none}
-use Rattle.std.proofs.lemmas.List.{take_more, take-append-drop, take-append-le, take-map, drop-map, get_or-drop, length-drop, length-take-le, map-append, take_all}
+use Rattle.std.proofs.lemmas.List.{take_more, take-append-drop, take-map, drop-map, get_or-drop, length-drop, length-take-le, take_all}
 use Rattle.std.proofs.Math.Seq.{take-append-add}
 use Rattle.trace_values.specs.declared.cell.Cell.{Cell}
 use Rattle.trace_values.specs.declared.fault.Reason.{Reason}
@@ -49,7 +49,7 @@ module _ (run : List Cell) (done count : ℕ) (last : Cell) (some : 0 < count) (
   abbrev pub front : List Cell
   front = take (count - 1) (drop done run)
 
-  last_parts : take count (drop done run) ≡ front ++ last ∷ []
+  pub last_parts : take count (drop done run) ≡ front ++ last ∷ []
   last_parts =
       ap (λ n. take n (drop done run)) (let e : count ≡ count - 1 + 1 = omega arith in e)
       ∙ take_more (drop done run) (count - 1) last (let k = length-drop done run in omega arith)

@@ -1,6 +1,5 @@
 -- What a step of the port adds to the report.
-use Rattle.std.proofs.Common.{◌≡◌, ℕ, ◌+◌, ◌≤◌, List, [], ◌∷◌, ◌++◌, refl, sym, ◌∙◌, ap, subst, append_assoc, append-nil, arith, Option, None, Some, inl, inr, ◌⊎◌, true, false, Bool, cond, flat_map}
-use Rattle.std.specs.Option.{option_map}
+use Rattle.std.proofs.Common.{◌≡◌, ℕ, ◌+◌, ◌≤◌, List, [], ◌∷◌, ◌++◌, refl, sym, ◌∙◌, ap, subst, append_assoc, append-nil, arith, Option, None, Some, inl, inr, ◌⊎◌, false, flat_map}
 use Rattle.std.proofs.lemmas.List.{map-append}
 use Rattle.std.proofs.lemmas.Grind.{flat_map-append}
 use Rattle.trace_values.specs.declared.cell.Cell.{Cell}
@@ -11,24 +10,24 @@ use Rattle.capture_plan.specs.declared.frames.FramesMode.{FramesMode}
 use Rattle.capture_plan.specs.declared.frames.FramesMode.TheVariants.{Hunt, Aligned, Bare}
 use Rattle.frame_grammar.specs.Port.{PortItem}
 use Rattle.frame_grammar.specs.Reading.{offsets_of}
-use Rattle.deformatter.specs.Reading.{port_stream, items_of}
+use Rattle.deformatter.specs.Reading.{items_of}
 use Rattle.deformatter.specs.declared.step.PortStep.{PortStep}
-use Rattle.deformatter.specs.declared.step.PortStep.TheVariants.{Quiet, Half, Full as FullEnds, Frame, Locked, Fault as Faulty}
+use Rattle.deformatter.specs.declared.step.PortStep.TheVariants.{Quiet, Half, Full as FullEnds, Locked}
 use Rattle.deformatter.specs.Growth.{fault_by}
-use Rattle.port_reader.specs.Growth.{Grows, HuntBy, Answers, frames_by}
+use Rattle.port_reader.specs.Growth.{frames_by}
 use Rattle.port_reader.specs.Reading.{PortReading, port_reading, frames_of_items, cells_of}
-use Rattle.port_reader.specs.Rising.{Rise, offsets_in, BytesRise, CellsRise, end_at}
-use Rattle.port_reader.proofs.RisingLaws.{rise_le, rise_split, rise_join}
+use Rattle.port_reader.specs.Rising.{Rise, offsets_in, BytesRise, end_at}
+use Rattle.port_reader.proofs.RisingLaws.{rise_split, rise_join}
 use Rattle.source_events.specs.declared.event.Event.{Event}
 use Rattle.source_events.specs.declared.event.Stop.{Stop}
 use Rattle.source_events.specs.declared.event.What.{What}
 use Rattle.source_events.specs.Runs.{runs_of, all_runs, id_of, IsRunFrom, end_of, RisesFrom}
-use Rattle.source_events.specs.Merge.{told, cut, Below, InOrder, Between, AllIn, start_of}
+use Rattle.source_events.specs.Merge.{told, cut, Below, AllIn, start_of}
 use Rattle.source_events.specs.Report.{Mapped, AreLawful, events, all_events, reported, lesser, of_source, least_fault, report, runs_in, stop_in, stop_of, capture_events, port_events, notice_by}
 use Rattle.source_events.proofs.Family.{adds}
 use Rattle.source_events.proofs.Least.{AreSound, Later, least_none, others_later}
 use Rattle.source_events.proofs.Locking.{first_end, port_first}
-use Rattle.source_events.proofs.LockSteps.{port_grows, unlocked}
+use Rattle.source_events.proofs.LockSteps.{unlocked}
 use Rattle.source_events.proofs.Merges.{told_append, below_told, below, below_append, below_weaker, cut_below, cut_append}
 use Rattle.source_events.proofs.Placing.{frames_between, rises_from}
 use Rattle.source_events.proofs.Running.{end_within}

@@ -20,12 +20,7 @@ use Rattle.source_machine.specs.Machine.{reading_of, Stands, is_live, held_of, s
 use Rattle.source_merge.specs.declared.flow.Flow.{Flow}
 use Rattle.source_merge.specs.declared.flow.Flow.TheVariants.{Going, Stopped}
 use Rattle.source_merge.specs.declared.slot.Slot.{Slot}
-use Rattle.source_merge.specs.Feeding.{step_fault}
-
--- the fault that the last answer tells, where there is one
-abbrev pub last_fault : {V : Type 0} → Option (Step V) → Option Fault
-last_fault None = None
-last_fault (Some step) = step_fault step
+use Rattle.source_merge.specs.Feeding.{last_fault}
 
 -- how a report goes on that has this fault, or none
 abbrev pub flow_from : Option Stop → Flow

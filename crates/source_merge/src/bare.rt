@@ -28,6 +28,7 @@ pub fn bare_source() -> SourceId
 }
 
 /// Feeds the front of a piece to the machine of one slot.
+#[inline(always)]
 pub fn feed_slot_piece(
     slots: &mut [Slot<SourceMachine>],
     index: usize,

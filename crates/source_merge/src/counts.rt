@@ -7,13 +7,17 @@ ghost use Rattle.port_reader.specs.Reading.{PortReading};
 ghost use Rattle.source_merge.specs.Counting.{HasPort, port_total};
 
 use crate::bare::{bare_source, ends_packet};
+use frame_grammar::frame::FRAME_BYTES;
 use port_reader::PortStep;
-use source_counts::Counts;
+use source_counts::{Counts, SourceCounts};
 use source_events::{Event, Packet, PortCounts, What};
 use trace_values::{Cell, SourceId, Step};
 
 /// How many IDs there are: 0 to 126.
 const SOURCES: usize = 127;
+
+/// The most that is counted of frames that are counted whole: more than a capture has bytes.
+const MOST_WHOLE: u64 = 1 << 37;
 
 /// A number for each source.
 #[derive(Debug, Drop)]
@@ -29,6 +33,7 @@ impl PerSource {
     ghost use Rattle.trace_values.specs.declared.step.Step.TheVariants.{Item};
     ghost use Rattle.source_merge.specs.Bare.{bare_events};
     ghost use Rattle.source_merge.specs.Counting.{HasItems, number_of, total_of};
+    ghost use Rattle.trace_values.specs.declared.cell.Cell.{Cell};
 
     /// 0 for each.
     pub fn new() -> PerSource
@@ -62,7 +67,8 @@ impl PerSource {
     /// Counts the events of sources that are no notices.
     pub fn add_items(&mut self, events: &[Event<Packet>])
         requires { total_of self.old + length events.now ≤ 2 ^ 60 }
-        ensures items { (es : List (Event Packet)) → HasItems self.old es → HasItems self.new (es ++ events.now) }
+        ensures items { (whole : List (List Cell)) (es : List (Event Packet)) → HasItems self.old whole es →
+            HasItems self.new whole (es ++ events.now) }
         ensures total { total_of self.new ≤ total_of self.old + length events.now }
     {
         for event in events {
@@ -75,8 +81,8 @@ impl PerSource {
     fn add_answer(&mut self, source: SourceId, step: &Option<Step<Packet>>)
         requires own { source ≡ 1 }
         requires room { total_of self.old + 1 ≤ 2 ^ 60 }
-        ensures items { (es : List (Event Packet)) (at : ℕ) → HasItems self.old es →
-            HasItems self.new (es ++ bare_events at step.now) }
+        ensures items { (whole : List (List Cell)) (es : List (Event Packet)) (at : ℕ) → HasItems self.old whole es →
+            HasItems self.new whole (es ++ bare_events at step.now) }
         ensures total { total_of self.new ≤ total_of self.old + 1 }
     {
         self.add(source, u64::from(ends_packet(step)));
@@ -87,8 +93,8 @@ impl PerSource {
     fn add_one(&mut self, source: SourceId)
         requires own { source ≡ 1 }
         requires room { total_of self.old + 1 ≤ 2 ^ 60 }
-        ensures items { (es : List (Event Packet)) (at : ℕ) (packet : Packet) → HasItems self.old es →
-            HasItems self.new (es ++ bare_events at (Some (Item 0 packet))) }
+        ensures items { (whole : List (List Cell)) (es : List (Event Packet)) (at : ℕ) (packet : Packet) →
+            HasItems self.old whole es → HasItems self.new whole (es ++ bare_events at (Some (Item 0 packet))) }
         ensures total { total_of self.new ≤ total_of self.old + 1 }
     {
         self.add(source, 1);
@@ -98,7 +104,8 @@ impl PerSource {
     #[inline]
     fn add_item(&mut self, event: &Event<Packet>)
         requires { total_of self.old + 1 ≤ 2 ^ 60 }
-        ensures items { (es : List (Event Packet)) → HasItems self.old es → HasItems self.new (es ++ event.now ∷ []) }
+        ensures items { (whole : List (List Cell)) (es : List (Event Packet)) → HasItems self.old whole es →
+            HasItems self.new whole (es ++ event.now ∷ []) }
         ensures total { total_of self.new ≤ total_of self.old + 1 }
     {
         match event.what {
@@ -126,11 +133,12 @@ impl ByteCounts {
     ghost use Rattle.capture_plan.specs.declared.frames.FramesMode.TheVariants.{Bare};
     ghost use Rattle.port_reader.specs.Reading.{port_reading};
     ghost use Rattle.source_events.specs.Report.{runs_in};
+    ghost use Rattle.source_counts.specs.Counts.{bytes_of, unattributed_of};
     ghost use Rattle.source_merge.specs.Counting.{HasBytes, bytes_counted, bytes_in, unattributed_in};
 
     /// Nothing came yet.
     pub fn new() -> ByteCounts
-        ensures counted { HasBytes result [] }
+        ensures counted { HasBytes result [] [] }
         ensures none { bytes_counted result ≡ 0 }
     {
         ByteCounts {
@@ -144,7 +152,8 @@ impl ByteCounts {
     pub fn add_run(&mut self, run: &[Cell])
         requires some { 0 < length run.now }
         requires room { bytes_counted self.old + length run.now ≤ 2 ^ 60 }
-        ensures counted { (runs : List (List Cell)) → HasBytes self.old runs → HasBytes self.new (runs ++ run.now ∷ []) }
+        ensures counted { (whole runs : List (List Cell)) → HasBytes self.old whole runs →
+            HasBytes self.new whole (runs ++ run.now ∷ []) }
         ensures more { bytes_counted self.new ≡ bytes_counted self.old + length run.now }
     {
         let bytes = run.len() as u64;
@@ -158,24 +167,28 @@ impl ByteCounts {
     #[inline(always)]
     pub fn add_bare(&mut self, bytes: u64)
         requires { bytes_counted self.old + bytes ≤ 2 ^ 60 }
-        ensures counted { (u w : List Placed) → length w ≡ bytes → HasBytes self.old (runs_in (port_reading Bare u)) →
-            HasBytes self.new (runs_in (port_reading Bare (u ++ w))) }
+        ensures counted { (whole : List (List Cell)) (u w : List Placed) → length w ≡ bytes →
+            HasBytes self.old whole (runs_in (port_reading Bare u)) →
+            HasBytes self.new whole (runs_in (port_reading Bare (u ++ w))) }
         ensures more { bytes_counted self.new ≡ bytes_counted self.old + bytes }
     {
         self.sources.add(bare_source(), bytes);
     }
 
-    /// How many bytes a source sent.
+    /// How many bytes a source sent, but for those of the frames that are counted whole.
     pub fn of(&self, id: SourceId) -> u64
-        ensures value { (runs : List (List Cell)) → HasBytes self.now runs → result ≡ bytes_in id runs }
+        ensures value { (whole runs : List (List Cell)) → HasBytes self.now whole runs →
+            result + bytes_of id whole ≡ bytes_in id runs }
         ensures few { result ≤ bytes_counted self.now }
     {
         self.sources.of(id)
     }
 
-    /// How many bytes have no source.
+    /// How many bytes have no source, but for those of the frames that are counted whole.
     pub fn unattributed(&self) -> u64
-        ensures { (runs : List (List Cell)) → HasBytes self.now runs → result ≡ unattributed_in runs }
+        ensures value { (whole runs : List (List Cell)) → HasBytes self.now whole runs →
+            result + unattributed_of whole ≡ unattributed_in runs }
+        ensures few { result ≤ bytes_counted self.now }
     {
         self.unattributed
     }
@@ -188,33 +201,44 @@ pub struct Counters {
     pub bytes: ByteCounts,
     /// The events of each source, notices aside.
     pub items: PerSource,
+    /// The frames that were counted whole.
+    pub frames: SourceCounts,
     /// The synchronisations and frames of the port.
     pub port: PortCounts,
 }
 
 impl Counters {
     ghost use Rattle.std.specs.Prelude.{◌+◌, ◌*◌, ◌^◌, ◌++◌, ℕ, List, [], length, Some};
+    ghost use Rattle.frame_grammar.specs.Frame.{cells, id_after};
+    ghost use Rattle.port_reader.specs.Growth.{GrowsByFrame};
+    ghost use Rattle.port_reader.specs.Reading.{PortReading};
+    ghost use Rattle.capture_plan.specs.declared.frames.FramesMode.{FramesMode};
+    ghost use Rattle.source_counts.specs.Kept as kept;
     ghost use Rattle.trace_values.specs.declared.step.Step.TheVariants.{Item};
     ghost use Rattle.trace_values.specs.declared.cell.Cell.{Cell};
     ghost use Rattle.trace_values.specs.Placed.{Placed};
     ghost use Rattle.capture_plan.specs.declared.frames.FramesMode.TheVariants.{Bare};
     ghost use Rattle.port_reader.specs.Reading.{port_reading};
     ghost use Rattle.source_merge.specs.Bare.{bare_events};
-    ghost use Rattle.source_merge.specs.Counting.{HasBytes, HasCounted, HasItems, bytes_in, size_of};
+    ghost use Rattle.source_merge.specs.Counting.{AreItems, HasBytes, HasCounted, HasItems, bytes_in, size_of};
+    ghost use Rattle.source_merge.specs.Counting.{unattributed_in, whole_of};
+    ghost use Rattle.source_events.specs.Report.{runs_in};
     ghost use Rattle.source_events.specs.declared.event.Event.{Event};
     ghost use Rattle.source_events.specs.declared.packet.Packet.{Packet};
     ghost use Rattle.source_events.specs.Tails.{items_in};
 
     /// Nothing came yet.
     pub fn new() -> Counters
-        ensures bytes { HasBytes result.bytes [] }
-        ensures items { HasItems result.items [] }
+        ensures bytes { HasBytes result.bytes [] [] }
+        ensures items { HasItems result.items [] [] }
+        ensures frames { kept.Stands result.frames [] }
         ensures port { result.port ≡ record { fulls = 0; halves = 0; frames = 0 } }
-        ensures none { size_of result ≡ 0 }
+        ensures none { (size_of result ≡ 0) × (whole_of result ≡ 0) }
     {
         Counters {
             bytes: ByteCounts::new(),
             items: PerSource::new(),
+            frames: SourceCounts::new(),
             port: PortCounts {
                 fulls: 0,
                 halves: 0,
@@ -232,6 +256,7 @@ impl Counters {
             HasCounted self.old (port_reading Bare u) es →
             HasCounted self.new (port_reading Bare (u ++ w)) (es ++ bare_events at step.now) }
         ensures size { size_of self.new ≤ size_of self.old + 2 * bytes + 1 }
+        ensures same { whole_of self.new ≡ whole_of self.old }
     {
         self.bytes.add_bare(bytes as u64);
         self.port.frames += bytes as u64;
@@ -246,22 +271,59 @@ impl Counters {
             HasCounted self.old (port_reading Bare u) es →
             HasCounted self.new (port_reading Bare (u ++ w)) (es ++ bare_events at (Some (Item 0 packet))) }
         ensures size { size_of self.new ≤ size_of self.old + 2 * bytes + 1 }
+        ensures same { whole_of self.new ≡ whole_of self.old }
     {
         self.bytes.add_bare(bytes as u64);
         self.port.frames += bytes as u64;
         self.items.add_one(bare_source());
     }
 
+    /// Counts a frame by its bytes, with this many half synchronisations between its halfwords, where no source is
+    /// mapped. `before` is the ID before it, and the answer the ID after it.
+    #[inline]
+    pub fn add_frame(
+        &mut self,
+        frame: &[u8; FRAME_BYTES],
+        halves: usize,
+        before: Option<SourceId>,
+    ) -> Option<SourceId>
+        requires room { size_of self.old + halves + 1 ≤ 2 ^ 60 }
+        requires whole { whole_of self.old + FRAME_BYTES ≤ 2 ^ 60 }
+        ensures counted { (mode : FramesMode) (u v : List Placed) (at : List ℕ) (es more : List (Event Packet)) →
+            let r = port_reading mode u in let new = port_reading mode v in
+            GrowsByFrame r new halves (cells frame.now at before) → AreItems r es → AreItems new more →
+            HasCounted self.old r es → HasCounted self.new new more }
+        ensures after { result ≡ id_after frame.now before }
+        ensures size { size_of self.new ≡ size_of self.old + halves + 1 }
+        ensures whole { whole_of self.new ≤ whole_of self.old + FRAME_BYTES }
+    {
+        self.port.halves += halves as u64;
+        self.port.frames += 1;
+        self.frames.add_frame_bytes(frame, before)
+    }
+
     /// How many bytes and items a source has.
     pub fn of(&self, id: SourceId) -> Counts
-        ensures value { (runs : List (List Cell)) (es : List (Event Packet)) → HasBytes self.now.bytes runs →
-            HasItems self.now.items es → result ≡ record { bytes = bytes_in id runs; items = items_in id es } }
-        ensures few { (result.bytes ≤ size_of self.now) × (result.items ≤ size_of self.now) }
+        requires size { size_of self.now ≤ 2 ^ 60 }
+        requires whole { whole_of self.now ≤ MOST_WHOLE }
+        ensures value { (r : PortReading) (es : List (Event Packet)) → HasCounted self.now r es →
+            result ≡ record { bytes = bytes_in id (runs_in r); items = items_in id es } }
+        ensures few { (result.bytes ≤ size_of self.now + MOST_WHOLE) × (result.items ≤ size_of self.now + MOST_WHOLE) }
     {
+        let whole = self.frames.of(id);
         Counts {
-            bytes: self.bytes.of(id),
-            items: self.items.of(id),
+            bytes: self.bytes.of(id) + whole.bytes.min(MOST_WHOLE),
+            items: self.items.of(id) + whole.items.min(MOST_WHOLE),
         }
+    }
+
+    /// How many bytes have no source.
+    pub fn unattributed(&self) -> u64
+        requires size { size_of self.now ≤ 2 ^ 60 }
+        requires whole { whole_of self.now ≤ MOST_WHOLE }
+        ensures { (r : PortReading) (es : List (Event Packet)) → HasCounted self.now r es → result ≡ unattributed_in (runs_in r) }
+    {
+        self.bytes.unattributed() + self.frames.unattributed().min(MOST_WHOLE)
     }
 }
 

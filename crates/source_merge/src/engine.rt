@@ -4,7 +4,7 @@ ghost use Rattle.std.specs.Prelude.{◌≡◌, ◌+◌, ◌*◌, ◌^◌, ◌≤
 ghost use Rattle.port_reader.specs.Reader.{is_live as is_port_live, skipped_by as skipped_by_port, tail_of};
 ghost use Rattle.source_events.specs.Plan.{is_sound};
 ghost use Rattle.source_machine.specs.Machine.{held_of, is_live as is_machine_live, skipped_by};
-ghost use Rattle.source_merge.specs.Counting.{size_of};
+ghost use Rattle.source_merge.specs.Counting.{size_of, whole_of};
 ghost use Rattle.source_merge.specs.Routing.{HaveRoom, HaveRoom-prop, LiveIf, LiveIf-prop};
 
 use crate::bare::{
@@ -19,6 +19,9 @@ use crate::step::take_step;
 use crate::tails::source_tails;
 use arrayvec::ArrayVec;
 use capture_plan::FramesMode;
+use frame_grammar::frame::FRAME_BYTES;
+use frame_grammar::gather::gather_frame;
+use frame_grammar::plain::plain_frame;
 use port_reader::PortReader;
 use source_counts::Counts;
 use source_events::{Packet, Plan, PortCounts, PortMode, Tails};
@@ -45,6 +48,7 @@ pub struct Engine {
     ghost few: { tail_of port + skipped_by_port port ≤ count },
     ghost room: { HaveRoom held_of skipped_by (30 * count) slots.items } by { HaveRoom-prop held_of skipped_by (30 * count) slots.items },
     ghost size: { size_of counters ≤ 46 * count },
+    ghost whole: { whole_of counters ≤ count },
     ghost within: { count ≤ next },
     ghost limit: { next ≤ 2 ^ 36 + 1 },
     ghost port_live: { live ≡ true → is_port_live port ≡ true },
@@ -60,6 +64,10 @@ impl Engine {
     ghost use Rattle.trace_values.specs.Stream.{StepFits};
     ghost use Rattle.trace_values.specs.declared.step.Step.TheVariants.{Item};
     ghost use Rattle.deformatter.specs.Block.{FedAs};
+    ghost use Rattle.frame_grammar.specs.Whole.{IsWhole};
+    ghost use Rattle.frame_grammar.specs.declared.frame.TheConstants.{FRAME_BYTES};
+    ghost use Rattle.port_reader.specs.Modes.{is_bare};
+    ghost use Rattle.port_reader.specs.Reader.{IsBetween};
     ghost use Rattle.source_events.specs.Fitting.{AllFit, PacketFits};
     ghost use Rattle.source_events.specs.Tails.{port_counts_of, source_counts_of, tails_of};
     ghost use Rattle.source_merge.specs.Answering.{Answers, fault_of, goes_on};
@@ -192,6 +200,9 @@ impl Engine {
             FedAs (Answers (plan_of self.old) [] Going) (Answers (plan_of self.old) out.new.items result.flow)
             u at (take result.bytes piece.now) }
     {
+        if !self.is_bare() {
+            return self.feed_step(at, piece, out);
+        }
         match self.feed_bare(at, piece) {
             Some(block) => {
                 note_bare(out, at + (block.bytes as u64 - 1), block.step);
@@ -201,6 +212,17 @@ impl Engine {
                 }
             }
             None => self.feed_step(at, piece, out),
+        }
+    }
+
+    /// There is no formatter.
+    #[inline(always)]
+    pub fn is_bare(&self) -> bool
+        ensures { result ≡ is_bare (plan_of self.now).frames }
+    {
+        match self.plan.frames {
+            FramesMode::Bare => true,
+            FramesMode::Hunt | FramesMode::Aligned => false,
         }
     }
 
@@ -322,6 +344,59 @@ impl Engine {
         Some(block)
     }
 
+    /// Where no source is mapped: takes the whole frame that a piece begins with, whose first byte is at this offset, and
+    /// answers how many bytes that is. It leaves what `feed_block` does, whose events are not made here. None where no
+    /// whole frame is there, and for every other plan: then it takes nothing.
+    ///
+    /// The engine is live. The piece's first offset is at least `next()`, and its last one at most 2^36.
+    #[inline]
+    pub fn count_frame(&mut self, at: u64, piece: &[u8]) -> Option<usize>
+        requires live { is_live self.old ≡ true }
+        requires offsets { (next_of self.old ≤ at) × (at + length piece.now ≤ 2 ^ 36 + 1) }
+        ensures none { result ≡ None → self.new ≡ self.old }
+        ensures same { plan_of self.new ≡ plan_of self.old }
+        ensures bytes { IfSome result (λ n. (0 < n) × (n ≤ length piece.now)) }
+        ensures next { IfSome result (λ n. next_of self.new ≡ at + n) }
+        ensures live { is_live self.new ≡ true }
+        ensures list { (u : List Placed) → Stands self.old u →
+            IfSome result (λ n. Stands self.new (u ++ placed_from at (take n piece.now))) }
+    {
+        if !self.slots.is_empty() || !self.port.is_between() {
+            return None;
+        }
+        if let Some(frame) = plain_frame(piece) {
+            self.count_whole(at, frame, 0);
+            return Some(FRAME_BYTES);
+        }
+        match gather_frame(piece) {
+            Some(gathered) => {
+                self.count_whole(at, &gathered.bytes, gathered.halves);
+                Some(gathered.size())
+            }
+            None => None,
+        }
+    }
+
+    /// Takes a whole frame with this many half synchronisations between its halfwords.
+    #[inline]
+    fn count_whole(&mut self, at: u64, frame: &[u8; FRAME_BYTES], halves: usize)
+        requires live { is_live self.old ≡ true }
+        requires none { self.old.slots.items ≡ [] }
+        requires between { IsBetween self.old.port }
+        requires offsets { (next_of self.old ≤ at) × (at + (FRAME_BYTES + 2 * halves) ≤ 2 ^ 36 + 1) }
+        ensures same { plan_of self.new ≡ plan_of self.old }
+        ensures next { next_of self.new ≡ at + (FRAME_BYTES + 2 * halves) }
+        ensures live { is_live self.new ≡ true }
+        ensures list { (u : List Placed) (w : List ℕ) → Stands self.old u → IsWhole w frame.now halves →
+            Stands self.new (u ++ placed_from at w) }
+    {
+        let after = self.counters.add_frame(frame, halves, self.port.id());
+        self.port.pass_frame(after);
+        let bytes = FRAME_BYTES as u64 + 2 * halves as u64;
+        self.count += bytes;
+        self.next = at + bytes;
+    }
+
     /// How many bytes a source has, and how many events without notices. The engine is live.
     pub fn counts(&self, id: SourceId) -> Counts
         requires { is_live self.now ≡ true }
@@ -350,7 +425,7 @@ impl Engine {
             mode: PortMode::of_port(self.plan.frames, self.port.is_locked()),
             skipped: self.port.skipped(),
             tail: self.port.tail(),
-            unattributed: self.counters.bytes.unattributed(),
+            unattributed: self.counters.unattributed(),
             sources: source_tails(&self.plan, self.slots.as_slice()),
         }
     }

@@ -146,8 +146,8 @@ pub fn take_frame(
     ensures fed { (runs : List (List Cell)) (n : ℕ) → AreDistinct (mapped_of reading_of slots.old) →
         AllStand Stands slots.old runs → RunsBetween 0 n runs → RisesFrom n cells.now →
         Fed Stands (mapped_of reading_of slots.old) slots.new runs (runs_of cells.now) out.new.items result }
-    ensures counted { (runs : List (List Cell)) → result ≡ None → HasBytes counts.old runs →
-        HasBytes counts.new (runs ++ runs_of cells.now) }
+    ensures counted { (whole runs : List (List Cell)) → result ≡ None → HasBytes counts.old whole runs →
+        HasBytes counts.new whole (runs ++ runs_of cells.now) }
     ensures count { bytes_counted counts.new ≤ bytes_counted counts.old + length cells.now }
 {
     let mut rest = cells;

@@ -1,25 +1,33 @@
 //! A mapped source, and a run of its bytes.
 
-ghost use Rattle.std.specs.Prelude.{◌≡◌, ◌+◌, ◌*◌, ◌^◌, ◌≤◌, ◌++◌, List, length, is_none, true, Some};
+ghost use Rattle.std.specs.Prelude.{◌≡◌, ◌+◌, ◌*◌, ◌^◌, ◌<◌, ◌≤◌, ◌++◌, List, length, take, is_none, true, Some, IfSome};
 ghost use Rattle.arrayvec.specs.ArrayVec.{array_vec_len};
 ghost use Rattle.trace_values.specs.Placed.{Placed};
-ghost use Rattle.trace_values.specs.Stream.{given_by};
+ghost use Rattle.trace_values.specs.Block.{given_after, goes_on_after};
+ghost use Rattle.trace_values.specs.Stream.{StepFits, given_by};
+ghost use Rattle.source_events.specs.Runs.{bytes_of};
 ghost use Rattle.source_events.specs.Merge.{told};
 ghost use Rattle.source_events.specs.Report.{lifted};
 ghost use Rattle.source_events.specs.Fitting.{AllFit, PacketFits};
 ghost use Rattle.source_machine.specs.Machine.{Stands, held_of, is_live, reading_of, skipped_by};
-ghost use Rattle.source_merge.specs.Feeding.{Feeds, IsEarly, step_fault};
+ghost use Rattle.source_merge.specs.Feeding.{Feeds, IsEarly, IsFrom, TakesCells, last_fault, step_fault};
 
 use arrayvec::ArrayVec;
 use capture_plan::PacketsMode;
 use source_events::{Event, Packet, RunBytes, SourceKind, What};
 use source_machine::SourceMachine;
 use stp_grammar::packet::Order;
-use trace_values::{Cell, Fault, Machine, SourceId, Step};
+use trace_values::{Block, Cell, Fault, Machine, SourceId, Step};
 
 /// How many events a list of them has room for. One byte of a capture ends at most one frame, of 15 cells, with at most
 /// two events for each.
 pub const EVENTS: usize = 32;
+
+/// The greatest offset at which cells are fed as a piece: more than any of a capture.
+const FAR: u64 = 1 << 58;
+
+/// The fewest cells that are fed as a piece: fewer seldom hold a packet.
+const LEAST_PIECE: usize = 3;
 
 /// The events that one call gives, in order.
 pub type Events = ArrayVec<Event<Packet>, EVENTS>;
@@ -83,6 +91,98 @@ pub fn note(out: &mut Events, source: SourceId, at: u64, step: Step<Packet>) -> 
     }
 }
 
+/// The same of the last answer to some cells, where there is one.
+#[inline]
+fn note_last(
+    out: &mut Events,
+    source: SourceId,
+    at: u64,
+    step: Option<Step<Packet>>,
+) -> Option<Fault>
+    requires { array_vec_len out.old + 2 ≤ EVENTS }
+    ensures given { out.new.items ≡ out.old.items ++ told (Some source) (lifted (given_after at step)) }
+    ensures few { array_vec_len out.new ≤ array_vec_len out.old + 2 }
+    ensures fault { result ≡ last_fault step }
+{
+    match step {
+        Some(step) => note(out, source, at, step),
+        None => None,
+    }
+}
+
+/// How many of these cells, from the first on, are at one offset after the other, the first of them at this one; none
+/// from `FAR` on.
+#[inline]
+fn adjacent(at: u64, cells: &[Cell]) -> usize
+    requires { length cells.now ≤ 15 }
+    ensures within { result ≤ length cells.now }
+    ensures from { IsFrom at (take result cells.now) }
+    ensures near { 0 < result → at ≤ FAR }
+{
+    if at > FAR {
+        return 0;
+    }
+    let mut n = 0;
+    while n < cells.len() {
+        if cells[n].at != at + n as u64 {
+            return n;
+        }
+        n += 1;
+    }
+    n
+}
+
+/// How many of these cells a machine may take as a piece, from the first on, which is at this offset: of an STP source
+/// those at one offset after the other. An ITM source goes byte by byte where no whole packet is there.
+#[inline(always)]
+fn piece_length(machine: &SourceMachine, at: u64, cells: &[Cell]) -> usize
+    requires { length cells.now ≤ 15 }
+    ensures within { result ≤ length cells.now }
+    ensures from { IsFrom at (take result cells.now) }
+    ensures near { 0 < result → at ≤ FAR }
+{
+    match machine {
+        SourceMachine::Itm(_) => 0,
+        SourceMachine::Stp(_) => {
+            if cells.len() < LEAST_PIECE || cells[LEAST_PIECE - 1].at.wrapping_sub(at) != 2 {
+                0
+            } else {
+                adjacent(at, cells)
+            }
+        }
+    }
+}
+
+/// Feeds cells from the front of these, whose bytes are `bytes`: of the first `count`, which are at one offset after the
+/// other from this one on, up to the first to which the answer is neither `Quiet` nor `Skipping`.
+#[inline(always)]
+fn feed_cells(
+    machine: &mut SourceMachine,
+    at: u64,
+    count: usize,
+    cells: &[Cell],
+    bytes: &[u8],
+) -> Block<Packet>
+    requires live { is_live machine.old ≡ true }
+    requires some { 0 < count }
+    requires within { count ≤ length cells.now }
+    requires size { length cells.now ≤ 15 }
+    requires from { IsFrom at (take count cells.now) }
+    requires near { at ≤ FAR }
+    requires bytes { bytes.now ≡ bytes_of cells.now }
+    requires room { held_of machine.old + skipped_by machine.old + 2 * length cells.now ≤ 2 ^ 60 }
+    ensures same { reading_of machine.new ≡ reading_of machine.old }
+    ensures bytes { (0 < result.bytes) × (result.bytes ≤ length cells.now) }
+    ensures takes { (u : List Placed) → Stands machine.old u →
+        TakesCells (reading_of machine.old) (Stands machine.new) u (take result.bytes cells.now) result.step }
+    ensures live { is_live machine.new ≡ goes_on_after result.step }
+    ensures fits { IfSome result.step (StepFits PacketFits) }
+    ensures few { held_of machine.new + skipped_by machine.new ≤
+        held_of machine.old + skipped_by machine.old + 2 * result.bytes }
+{
+    machine.feed_piece(at, &bytes[..count])
+}
+
 /// Feeds a run of this source to its machine, up to a fault, and notes what it gives. It takes a packet at once whose
 /// bytes are all in the run.
 pub fn feed_machine(
@@ -118,10 +218,20 @@ pub fn feed_machine(
             });
         } else {
             let cell = run[done];
-            done += 1;
-            let step = machine.feed(cell.at, cell.byte);
-            if let Some(fault) = note(out, source, cell.at, step) {
-                return Some(fault);
+            let count = piece_length(machine, cell.at, &run[done..]);
+            if count < LEAST_PIECE {
+                done += 1;
+                let step = machine.feed(cell.at, cell.byte);
+                if let Some(fault) = note(out, source, cell.at, step) {
+                    return Some(fault);
+                }
+            } else {
+                let rest = &bytes.as_slice()[done..];
+                let block = feed_cells(machine, cell.at, count, &run[done..], rest);
+                done += block.bytes;
+                if let Some(fault) = note_last(out, source, run[done - 1].at, block.step) {
+                    return Some(fault);
+                }
             }
         }
     }

@@ -14,7 +14,8 @@ ghost use Rattle.source_events.specs.Fitting.{AllFit, PacketFits};
 ghost use Rattle.source_machine.specs.Machine.{Stands, held_of, is_live, reading_of, skipped_by};
 ghost use Rattle.source_events.specs.Report.{runs_in};
 ghost use Rattle.source_merge.specs.Routing.{mapped_of, AllLive, AllStand, HaveRoom, AreDistinct};
-ghost use Rattle.source_merge.specs.Counting.{HasBytes, HasCounted, bytes_counted, size_of};
+ghost use Rattle.source_merge.specs.Counting.{HasBytes, HasCounted, bytes_counted, size_of, whole_of};
+ghost use Rattle.trace_values.specs.declared.cell.Cell.{Cell};
 ghost use Rattle.source_merge.specs.Stepping.{StepTaken};
 
 use crate::counts::{ByteCounts, Counters, add_step};
@@ -51,9 +52,9 @@ fn take_ended(
         Answers mode step cells.now u at byte → (port_reading mode u).fault ≡ None →
         AreDistinct (mapped_of reading_of slots.old) → AllStand Stands slots.old (runs_in (port_reading mode u)) →
         StepTaken Stands (mapped_of reading_of slots.old) slots.new mode u (u ++ byte_at at byte ∷ []) out.new.items result }
-    ensures counted { (mode : FramesMode) (u : List Placed) (byte : ℕ) → result ≡ None →
-        Answers mode step cells.now u at byte → HasBytes counts.old (runs_in (port_reading mode u)) →
-        HasBytes counts.new (runs_in (port_reading mode (u ++ byte_at at byte ∷ []))) }
+    ensures counted { (whole : List (List Cell)) (mode : FramesMode) (u : List Placed) (byte : ℕ) → result ≡ None →
+        Answers mode step cells.now u at byte → HasBytes counts.old whole (runs_in (port_reading mode u)) →
+        HasBytes counts.new whole (runs_in (port_reading mode (u ++ byte_at at byte ∷ []))) }
 {
     match step {
         PortStep::Frame => take_frame(slots, cells, counts, out),
@@ -95,6 +96,7 @@ pub fn take_step(
     ensures room { (n : ℕ) → HaveRoom held_of skipped_by n slots.old →
         HaveRoom held_of skipped_by (n + 30) slots.new }
     ensures size { size_of counters.new ≤ size_of counters.old + 46 }
+    ensures whole { whole_of counters.new ≡ whole_of counters.old }
     ensures few { array_vec_len out.new ≤ 30 }
     ensures fits { AllFit PacketFits out.new.items }
     ensures taken { (mode : FramesMode) (u : List Placed) (byte : ℕ) → BytesRise 0 at u →

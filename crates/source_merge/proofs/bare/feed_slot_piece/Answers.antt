@@ -1,4 +1,4 @@
-use Rattle.std.proofs.Common.{◌≡◌, ℕ, ◌+◌, ◌^◌, ◌≤◌, ◌<◌, List, ◌∷◌, ◌++◌, get_or, take, drop, length, refl, sym, ◌∙◌, ap, subst, arith}
+use Rattle.std.proofs.Common.{◌≡◌, ℕ, ◌+◌, ◌^◌, ◌<◌, List, ◌∷◌, ◌++◌, get_or, take, drop, length, refl, sym, ◌∙◌, ap, subst, arith}
 use Rattle.std.proofs.lemmas.List.{take-append-drop, drop_more}
 use Rattle.std.proofs.Math.Seq.{set-append_seam}
 use Rattle.std.proofs.Math.ListN.{set}
@@ -8,7 +8,6 @@ use Rattle.source_merge.specs.declared.slot.Slot.{Slot}
 use Rattle.source_merge.specs.Bare.{PieceFed}
 use Rattle.source_merge.specs.Routing.{AllLive, HaveRoom}
 use Rattle.source_merge.proofs.Slots.{live_at, room_at, get_seam}
-use Rattle.source_merge.proofs.BareGoing.{stepped_bare}
 use Rattle.source_merge.proofs.bare.feed_slot_piece.Goals as goal
 
 split_at : (slots : List (Slot SourceMachine)) (k : ℕ) (d : Slot SourceMachine) → k < length slots →

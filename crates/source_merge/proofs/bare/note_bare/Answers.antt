@@ -1,8 +1,8 @@
-use Rattle.std.proofs.Common.{◌≡◌, List, ap, subst, sym, ◌∙◌, Option, Some, None}
+use Rattle.std.proofs.Common.{◌≡◌, subst, Option, Some}
 use Rattle.std.specs.Prelude.{IfSome}
 use Rattle.trace_values.specs.declared.step.Step.{Step}
 use Rattle.trace_values.specs.Stream.{StepFits}
-use Rattle.source_events.specs.Fitting.{AllFit, PacketFits}
+use Rattle.source_events.specs.Fitting.{PacketFits}
 use Rattle.source_events.specs.declared.packet.Packet.{Packet}
 use Rattle.source_merge.proofs.Fits.{more_fits}
 use Rattle.source_merge.proofs.bare.note_bare.Goals as goal

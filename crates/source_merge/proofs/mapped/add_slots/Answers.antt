@@ -1,4 +1,4 @@
-use Rattle.std.proofs.Common.{◌∷◌, [], subst, sym, ◌+◌, arith}
+use Rattle.std.proofs.Common.{subst, sym, arith}
 use Rattle.source_merge.specs.Mapping.{AreFresh}
 use Rattle.source_merge.proofs.Mapping.{mapped_push, fresh_push}
 use Rattle.source_merge.proofs.mapped.add_slots.Goals as goal

@@ -1,4 +1,4 @@
-use Rattle.std.proofs.Common.{ℕ, List, [], ◌++◌, map, ◌∙◌, ap}
+use Rattle.std.proofs.Common.{ℕ, List, ◌++◌, map, ◌∙◌, ap}
 use Rattle.source_events.specs.declared.packet.Packet.{Packet}
 use Rattle.source_events.specs.declared.plan.SourceKind.TheVariants.{Itm, Stp}
 use Rattle.source_events.specs.Report.{Mapped}

@@ -27,7 +27,7 @@ loop-rest-init c = record {
   room = λ n r. room_more held_of skipped_by n _ c.args.slots.now (omega arith) r;
   events = (let e = ap length c.requires.empty in omega arith);
   fits = none_fit PacketFits c.args.out.now.items c.requires.empty;
-  counted = λ runs h. subst (λ (l : List (List Cell)). HasBytes c.args.counts.now l) (sym (append-nil runs)) h;
+  counted = λ whole runs h. subst (λ (l : List (List Cell)). HasBytes c.args.counts.now whole l) (sym (append-nil runs)) h;
   count = omega arith;
   fed = λ runs n d a b r. filled_none Stands (mapped_of reading_of c.args.slots.now) runs n c.args.slots.now c.args.cells.now c.args.out.now.items c.requires.empty r a;
 }
@@ -56,9 +56,9 @@ loop-rest-preserved c =
       room = λ n r. room_more held_of skipped_by _ _ c.take_run.new.slots (let s = i.size in let x = c.run_length-n.ensures.within in omega arith) (c.take_run.ensures.room _ (i.room n r));
       events = (let e = i.events in let f = c.take_run.ensures.events in let s = i.size in let x = c.run_length-n.ensures.within in omega arith);
       fits = c.take_run.ensures.fits i.fits;
-      counted = λ runs h.
-          subst (λ (l : List (List Cell)). HasBytes c.add_run.new.self l) (append_assoc runs i.done (take k rest ∷ []))
-          (c.add_run.ensures.counted (runs ++ i.done) (i.counted runs h));
+      counted = λ whole runs h.
+          subst (λ (l : List (List Cell)). HasBytes c.add_run.new.self whole l) (append_assoc runs i.done (take k rest ∷ []))
+          (c.add_run.ensures.counted whole (runs ++ i.done) (i.counted whole runs h));
       count = (let a = i.count in let b = c.add_run.ensures.more in let s = i.size in let x = c.run_length-n.ensures.within in omega arith);
       fed = λ runs n d a b r.
           let f = i.fed runs n d a b r in
@@ -126,10 +126,10 @@ pub returns-clause-fits : goal.returns-clause-fits
 returns-clause-fits c = c.loop-rest.invariant.fits
 
 pub returns-clause-counted : goal.returns-clause-counted
-returns-clause-counted c = λ runs k h.
+returns-clause-counted c = λ whole runs k h.
     let i = c.loop-rest.invariant in
-    subst (λ (l : List (List Cell)). HasBytes c.loop-rest.counts (runs ++ l))
-    (sym (done_all (runs_of c.args.cells.now) i.done c.loop-rest.rest.now i.parts (grind (arith, nat_tests)))) (i.counted runs h)
+    subst (λ (l : List (List Cell)). HasBytes c.loop-rest.counts whole (runs ++ l))
+    (sym (done_all (runs_of c.args.cells.now) i.done c.loop-rest.rest.now i.parts (grind (arith, nat_tests)))) (i.counted whole runs h)
 
 pub returns-clause-count : goal.returns-clause-count
 returns-clause-count c = (let a = c.loop-rest.invariant.count in omega arith)

@@ -21,7 +21,7 @@ invariant-loop-rest l =
       room : (n : ℕ) → HaveRoom held_of skipped_by n l.fn.slots → HaveRoom held_of skipped_by (n + 2 * (length l.fn.cells - length l.rest)) l.slots;
       events : array_vec_len l.out ≤ 2 * (length l.fn.cells - length l.rest);
       fits : AllFit PacketFits l.out.items;
-      counted : (runs : List (List Cell)) → HasBytes l.fn.counts runs → HasBytes l.counts (runs ++ done);
+      counted : (whole runs : List (List Cell)) → HasBytes l.fn.counts whole runs → HasBytes l.counts whole (runs ++ done);
       count : bytes_counted l.counts ≤ bytes_counted l.fn.counts + (length l.fn.cells - length l.rest);
       fed : (runs : List (List Cell)) (n : ℕ) → AreDistinct (mapped_of reading_of l.fn.slots) → AllStand Stands l.fn.slots runs → RunsBetween 0 n runs → RisesFrom n l.fn.cells →
           Filled Stands (mapped_of reading_of l.fn.slots) l.slots runs n done l.rest l.out.items;

@@ -1,25 +1,43 @@
-use Rattle.std.proofs.Common.{◌≡◌, ℕ, ◌+◌, ◌*◌, ◌-◌, ◌<◌, ◌≤◌, ◌++◌, [], ◌∷◌, List, length, take, drop, get_or, refl, sym, ◌∙◌, ap, subst, arith, Some, None}
+use Rattle.std.proofs.Common.{append_assoc, ◌≡◌, ℕ, ◌+◌, ◌-◌, ◌<◌, ◌≤◌, ◌++◌, [], ◌∷◌, List, length, take, drop, get_or, refl, sym, ◌∙◌, ap, subst, arith, Some, None}
 use Rattle.std.specs.Prelude.{is_none}
-use Rattle.std.proofs.lemmas.List.{drop_more, take_more, take-append-drop, take_all, length-drop, length-take-le, length-map, length-append}
+use Rattle.std.proofs.lemmas.List.{drop_more, take_more, take-append-drop, take_all, length-drop, length-take-le, length-map, length-append, drop-map}
 use Rattle.trace_values.specs.declared.cell.Cell.{Cell}
 use Rattle.trace_values.specs.declared.step.Step.TheVariants.{Item}
 use Rattle.trace_values.specs.Placed.{Placed, byte_at}
 use Rattle.trace_values.specs.Stream.{Stream}
 use Rattle.itm_codec.specs.Wholes.{Gives}
 use Rattle.source_events.specs.declared.packet.Packet.{Packet}
-use Rattle.source_events.specs.Runs.{placed_run, bytes_of, RisesFrom}
+use Rattle.trace_values.specs.Block.{given_after}
+use Rattle.source_events.specs.Merge.{told}
+use Rattle.source_events.specs.Report.{lifted}
+use Rattle.source_events.specs.Runs.{placed_run, bytes_of, last_at, RisesFrom}
 use Rattle.source_events.specs.Fitting.{PacketFits}
-use Rattle.source_machine.specs.Machine.{Stands, held_of, is_live, reading_of, skipped_by}
+use Rattle.source_machine.specs.Machine.{Stands, reading_of}
 use Rattle.source_machine.specs.MachineLaws as laws
-use Rattle.source_merge.specs.Feeding.{Feeds}
+use Rattle.source_merge.specs.Feeding.{Feeds, TakesCells}
 use Rattle.source_merge.proofs.RunSteps.{none_of, feeds_none, feeds_more, feeds_stopped, goes_as, grown_as}
 use Rattle.source_merge.proofs.Packets.{packet_event, feeds_packet, front, packet_parts, packet_units}
 use Rattle.source_merge.proofs.Early.{early}
-use Rattle.source_merge.proofs.Fits.{more_fits}
+use Rattle.source_merge.proofs.CellPieces.{next_cells, more_parts, last_next, some_next, all_parts, goes_last, feeds_cells, early_cells}
+use Rattle.source_merge.proofs.Fits.{more_fits, last_fits, fit_more}
 use Rattle.source_merge.proofs.slot.feed_machine.Goals as goal
 
 next_cell : (run : List Cell) (i : ℕ) (d : Cell) → i < length run → d ≡ get_or run i d → take (i + 1) run ≡ take i run ++ d ∷ []
 next_cell run i d l e = take_more run i d l ∙ ap (λ (c : Cell). take i run ++ c ∷ []) (sym e)
+
+-- what is left of a run
+rest_is : {X : Type 0} → (xs : List X) (n : ℕ) → take (length xs - n) (drop n xs) ≡ drop n xs
+rest_is xs n = take_all (length xs - n) (drop n xs) (let k = length-drop n xs in omega arith)
+
+rest_bytes : (run : List Cell) (bytes : List ℕ) (done : ℕ) → bytes ≡ bytes_of run →
+    take (length bytes - done) (drop done bytes) ≡ bytes_of (take (length run - done) (drop done run))
+rest_bytes run bytes done e =
+    rest_is bytes done ∙ ap (drop done) e ∙ drop-map (λ (c : Cell). c.byte) done run ∙ sym (ap bytes_of (rest_is run done))
+
+all_within : (run : List Cell) (done count : ℕ) → done ≤ length run → count ≤ length (take (length run - done) (drop done run)) →
+    done + count ≤ length run
+all_within run done count l h =
+    (let a = ap length (rest_is run done) in let b = length-drop done run in omega arith)
 
 pub loop-done-init : goal.loop-done-init
 loop-done-init c = record {
@@ -68,8 +86,96 @@ loop-done-preserved-in-Some c =
           pushed);
     }
 
+pub feed_cells-block-requires-clause-bytes : goal.feed_cells-block-requires-clause-bytes
+feed_cells-block-requires-clause-bytes c =
+    rest_bytes c.args.run.now c.as_slice-else-count-lt-LEAST_PIECE.result.now c.loop-done.done (c.as_slice-else-count-lt-LEAST_PIECE.ensures.value ∙ c.of-bytes.ensures)
+
 pub loop-done-preserved : goal.loop-done-preserved
 loop-done-preserved c =
+    let reading = reading_of c.args.machine.now in
+    let i = c.loop-done.invariant in
+    let run = c.args.run.now in
+    let done = c.loop-done.done in
+    let block = c.feed_cells-block.result in
+    let was = Stands c.loop-done.machine in
+    let now = Stands c.feed_cells-block.new.machine in
+    let old = c.loop-done.out.items in
+    let new = c.note_last.new.out.items in
+    let last = c.index-run-done-else-count-lt-LEAST_PIECE.result in
+    let some = c.feed_cells-block.ensures.bytes.0 in
+    let within = all_within run done block.bytes (let h = c.loop-done-test.true in omega arith) c.feed_cells-block.ensures.bytes.1 in
+    let is = c.index-run-done-else-count-lt-LEAST_PIECE.is in
+    let cells = next_cells run done block.bytes last some within is in
+    let given : new ≡ old ++ told (Some c.args.source) (lifted (given_after (last_at cells) block.step)) =
+    c.note_last.ensures.given ∙ ap (λ (n : ℕ). old ++ told (Some c.args.source) (lifted (given_after n block.step)))
+    (ap (λ (x : Cell). x.at) (sym is) ∙ sym (last_next run done block.bytes last some within is)) in
+    record {
+      within = within;
+      same = c.feed_cells-block.ensures.same ∙ i.same;
+      live = c.feed_cells-block.ensures.live ∙ goes_last block.step ∙ ap is_none (sym c.note_last.ensures.fault ∙ c.in_default-note_last.is);
+      few = (let a = i.few in let b = c.feed_cells-block.ensures.few in omega arith);
+      events = (let a = i.events in let b = c.note_last.ensures.few in omega arith);
+      fits = λ f.
+          fit_more PacketFits old new (told (Some c.args.source) (lifted (given_after (last_at cells) block.step))) given (i.fits f)
+          (last_fits PacketFits c.args.source (last_at cells) block.step c.feed_cells-block.ensures.fits);
+      feeds = λ u s.
+          subst (λ (l : List Cell). Feeds reading now u l c.args.source c.args.out.now.items new None)
+          (sym (more_parts run done block.bytes last some within is))
+          (feeds_cells reading u c.args.source was now (take done run) cells block.step None c.args.out.now.items old new (i.feeds u s)
+          (λ w k. subst (λ (r : List Placed → Stream Packet). TakesCells r now w cells block.step) i.same (c.feed_cells-block.ensures.takes w k))
+          (sym c.in_default-note_last.is ∙ c.note_last.ensures.fault) given);
+    }
+
+pub returns-in-Some-note_last-clause-feeds : goal.returns-in-Some-note_last-clause-feeds
+returns-in-Some-note_last-clause-feeds c = λ u s.
+    let reading = reading_of c.args.machine.now in
+    let i = c.loop-done.invariant in
+    let run = c.args.run.now in
+    let done = c.loop-done.done in
+    let block = c.feed_cells-block.result in
+    let was = Stands c.loop-done.machine in
+    let now = Stands c.feed_cells-block.new.machine in
+    let old = c.loop-done.out.items in
+    let new = c.note_last.new.out.items in
+    let last = c.index-run-done-else-count-lt-LEAST_PIECE.result in
+    let some = c.feed_cells-block.ensures.bytes.0 in
+    let within = all_within run done block.bytes (let h = c.loop-done-test.true in omega arith) c.feed_cells-block.ensures.bytes.1 in
+    let is = c.index-run-done-else-count-lt-LEAST_PIECE.is in
+    let cells = next_cells run done block.bytes last some within is in
+    let fault = c.in-Some-note_last.fault in
+    let given : new ≡ old ++ told (Some c.args.source) (lifted (given_after (last_at cells) block.step)) =
+    c.note_last.ensures.given ∙ ap (λ (n : ℕ). old ++ told (Some c.args.source) (lifted (given_after n block.step)))
+    (ap (λ (x : Cell). x.at) (sym is) ∙ sym (last_next run done block.bytes last some within is)) in
+    subst (λ (l : List Cell). Feeds reading now u l c.args.source c.args.out.now.items new (Some fault))
+    (append_assoc (take done run) cells (drop (done + block.bytes) run) ∙ sym (all_parts run done block.bytes last some within is))
+    (feeds_stopped reading u c.args.source (laws.settles c.args.machine.now) now (take done run ++ cells) (drop (done + block.bytes) run) fault c.args.out.now.items new
+    (feeds_cells reading u c.args.source was now (take done run) cells block.step (Some fault) c.args.out.now.items old new (i.feeds u s)
+    (λ w k. subst (λ (r : List Placed → Stream Packet). TakesCells r now w cells block.step) i.same (c.feed_cells-block.ensures.takes w k))
+    (sym c.in-Some-note_last.is ∙ c.note_last.ensures.fault) given))
+
+pub returns-in-Some-note_last-clause-early : goal.returns-in-Some-note_last-clause-early
+returns-in-Some-note_last-clause-early c = λ u s n r given h.
+    let reading = reading_of c.args.machine.now in
+    let i = c.loop-done.invariant in
+    let run = c.args.run.now in
+    let done = c.loop-done.done in
+    let block = c.feed_cells-block.result in
+    let now = Stands c.feed_cells-block.new.machine in
+    let last = c.index-run-done-else-count-lt-LEAST_PIECE.result in
+    let some = c.feed_cells-block.ensures.bytes.0 in
+    let within = all_within run done block.bytes (let k = c.loop-done-test.true in omega arith) c.feed_cells-block.ensures.bytes.1 in
+    let is = c.index-run-done-else-count-lt-LEAST_PIECE.is in
+    let cells = next_cells run done block.bytes last some within is in
+    let parts = all_parts run done block.bytes last some within is in
+    early_cells reading (laws.rises c.args.machine.now) (laws.settles c.args.machine.now) now u (take done run) cells
+    (drop (done + block.bytes) run) block.step c.in-Some-note_last.fault (sym c.note_last.ensures.fault ∙ c.in-Some-note_last.is)
+    (some_next run done block.bytes last some within is)
+    (subst (λ (f : List Placed → Stream Packet). TakesCells f now (u ++ placed_run (take done run)) cells block.step) i.same
+    (c.feed_cells-block.ensures.takes (u ++ placed_run (take done run)) ((i.feeds u s).list refl)))
+    n (subst (λ (l : List Cell). RisesFrom n l) parts r) given (ap (λ (l : List Cell). (reading (u ++ placed_run l)).given) (sym parts) ∙ h)
+
+pub loop-done-preserved-in_default-note : goal.loop-done-preserved-in_default-note
+loop-done-preserved-in_default-note c =
     let reading = reading_of c.args.machine.now in
     let i = c.loop-done.invariant in
     let run = c.args.run.now in

@@ -1,4 +1,4 @@
-use Rattle.std.proofs.Common.{◌≡◌, ◌+◌, List, [], ◌∷◌, ◌++◌, refl, sym, ◌∙◌, ap, subst, append-nil, arith, Some, None}
+use Rattle.std.proofs.Common.{◌+◌, List, [], ◌∷◌, ◌++◌, sym, ◌∙◌, ap, subst, append-nil, arith, None}
 use Rattle.trace_values.specs.declared.cell.Cell.{Cell}
 use Rattle.trace_values.specs.Placed.{byte_at}
 use Rattle.deformatter.specs.declared.step.PortStep.{PortStep}
@@ -12,7 +12,9 @@ use Rattle.trace_values.specs.Placed.{Place}
 use Rattle.source_events.specs.Report.{runs_in, port_events, notice_by}
 use Rattle.source_events.specs.Merge.{told}
 use Rattle.source_events.proofs.LockSteps.{port_grows}
+use Rattle.source_merge.specs.Counting.{HasBytes}
 use Rattle.source_merge.specs.Routing.{mapped_of}
+use Rattle.source_merge.proofs.FrameCounts.{runs_with}
 use Rattle.source_merge.proofs.Slots.{room_more}
 use Rattle.source_merge.proofs.Taking.{lawful, sound}
 use Rattle.source_merge.proofs.Steps.{after, taken_frame, taken_none, taken_lock, taken_fault, nothing_is}
@@ -102,3 +104,12 @@ returns-in-Quiet-clause-taken c = λ mode u byte rise step e d a.
     (step.frames ∙ ap (λ (l : List (List Cell)). r.frames ++ l) q.0) (step.fault ∙ q.1)
     (port_grows {V = Packet} u at byte mode c.args.step step.hunt
     ∙ ap (λ (l : List (What Packet × Place)). port_events mode u ++ l) q.2) a
+
+pub returns-in-Frame-clause-counted : goal.returns-in-Frame-clause-counted
+returns-in-Frame-clause-counted c = λ whole mode u byte k step h.
+    let r = port_reading mode u in
+    let cells = c.args.cells.now in
+    subst (λ (l : List (List Cell)). HasBytes c.take_frame.new.counts whole l)
+    (sym (runs_with r.frames (port_reading mode (u ++ byte_at c.args.at byte ∷ [])).frames cells
+    (step.frames ∙ ap (λ (x : PortStep). r.frames ++ frames_by x cells) c.in-Frame.is)))
+    (c.take_frame.ensures.counted whole (runs_in r) k h)

@@ -8,10 +8,12 @@ use Rattle.source_merge.proofs.step.take_step.Goals as goal
 
 pub returns-clause-counted : goal.returns-clause-counted
 returns-clause-counted c = λ mode u byte es k step h. record {
-  bytes = c.take_ended-stop.ensures.counted mode u byte k step h.bytes;
+  whole = h.whole;
+  frames = h.frames;
+  bytes = c.take_ended-stop.ensures.counted h.whole mode u byte k step h.bytes;
   items =
-      subst (λ (l : List (Event Packet)). HasItems c.add_items.new.self (es ++ l)) c.as_slice.ensures.value
-      (c.add_items.ensures.items es h.items);
+      subst (λ (l : List (Event Packet)). HasItems c.add_items.new.self h.whole (es ++ l)) c.as_slice.ensures.value
+      (c.add_items.ensures.items h.whole es h.items);
   port =
       c.add_step.ensures.counted (port_reading mode u) (port_reading mode (u ++ byte_at c.args.at byte ∷ [])) c.args.at
       c.args.cells.now step h.port;

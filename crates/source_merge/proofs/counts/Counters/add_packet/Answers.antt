@@ -1,11 +1,13 @@
-use Rattle.std.proofs.Common.{◌+◌, arith}
+use Rattle.std.proofs.Common.{arith}
 use Rattle.source_merge.proofs.BareCounts.{frames_more}
 use Rattle.source_merge.proofs.counts.Counters.add_packet.Goals as goal
 
 pub returns-clause-counted : goal.returns-clause-counted
 returns-clause-counted c = λ u w es at packet l h. record {
-  bytes = c.add_bare.ensures.counted u w l h.bytes;
-  items = c.add_one.ensures.items es at packet h.items;
+  whole = h.whole;
+  frames = h.frames;
+  bytes = c.add_bare.ensures.counted h.whole u w l h.bytes;
+  items = c.add_one.ensures.items h.whole es at packet h.items;
   port = record {
     fulls = h.port.fulls;
     halves = h.port.halves;

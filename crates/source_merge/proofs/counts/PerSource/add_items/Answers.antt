@@ -13,15 +13,15 @@ next_event es before i d l e =
 
 pub loop-event-preserved : goal.loop-event-preserved
 loop-event-preserved c = record {
-  items = λ es h.
-      subst (λ (l : List (Event Packet)). HasItems c.add_item.new.self l)
+  items = λ whole es h.
+      subst (λ (l : List (Event Packet)). HasItems c.add_item.new.self whole l)
       (next_event c.args.events.now es c.loop-event.event-index c.event-item.result c.loop-event-test.true c.event-item.is)
-      (c.add_item.ensures.items (es ++ take c.loop-event.event-index c.args.events.now) (c.loop-event.invariant.items es h));
+      (c.add_item.ensures.items whole (es ++ take c.loop-event.event-index c.args.events.now) (c.loop-event.invariant.items whole es h));
   total = (let a = c.loop-event.invariant.total in let b = c.add_item.ensures.total in omega arith);
 }
 
 pub returns-clause-items : goal.returns-clause-items
-returns-clause-items c = λ es h.
-    subst (λ (l : List (Event Packet)). HasItems c.loop-event.self (es ++ l))
+returns-clause-items c = λ whole es h.
+    subst (λ (l : List (Event Packet)). HasItems c.loop-event.self whole (es ++ l))
     (take_all c.loop-event.event-index c.args.events.now (let k = c.loop-event-test.false in omega arith))
-    (c.loop-event.invariant.items es h)
+    (c.loop-event.invariant.items whole es h)

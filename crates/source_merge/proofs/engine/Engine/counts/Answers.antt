@@ -1,6 +1,5 @@
 use Rattle.std.proofs.Common.{ap, ◌∙◌, ℕ}
 use Rattle.source_counts.specs.declared.counts.Counts.{Counts}
-use Rattle.source_events.specs.Report.{runs_in}
 use Rattle.source_events.specs.Tails.{items_in}
 use Rattle.source_merge.specs.Answering.{port_of, report_of}
 use Rattle.source_merge.proofs.Attributed.{bytes_are}
@@ -10,6 +9,6 @@ pub returns-clause-value : goal.returns-clause-value
 returns-clause-value c = λ u h.
     let plan = c.args.self.now.plan in
     let k = (h.going c.requires).counted in
-    c.of.ensures.value (runs_in (port_of plan u)) (report_of plan u) k.bytes k.items
+    c.of.ensures.value (port_of plan u) (report_of plan u) k
     ∙ ap (λ (n : ℕ). (let r : Counts = record { bytes = n; items = items_in c.args.id (report_of plan u) } in r))
     (bytes_are plan.frames u c.args.id)

@@ -1,4 +1,4 @@
-use Rattle.std.proofs.Common.{ℕ, ◌≤◌, List, [], ◌∷◌, take, subst, arith}
+use Rattle.std.proofs.Common.{ℕ, List, [], ◌∷◌, subst, arith}
 use Rattle.std.proofs.lemmas.List.{take_all}
 use Rattle.deformatter.specs.Block.{FedAs}
 use Rattle.source_merge.specs.Answering.{Answers}

@@ -1,4 +1,4 @@
-use Rattle.std.proofs.Common.{◌≡◌, ℕ, ◌+◌, ◌-◌, ◌*◌, ◌^◌, ◌≤◌, List, [], ◌∷◌, ◌++◌, length, take, refl, sym, ◌∙◌, ap, subst, arith, true, Bool, Option, Some, None, length-append}
+use Rattle.std.proofs.Common.{◌≡◌, ℕ, ◌+◌, ◌-◌, ◌*◌, ◌^◌, List, ◌++◌, length, take, refl, sym, ◌∙◌, ap, subst, arith, true, Option, Some, None, length-append}
 use Rattle.std.specs.Prelude.{is_none, IfSome, position, ◌==◌}
 use Rattle.std.specs.Option.{option_map}
 use Rattle.std.proofs.lemmas.List.{length-take-le}
@@ -10,32 +10,27 @@ use Rattle.trace_values.specs.declared.step.Step.TheVariants.{Quiet, Skipping, I
 use Rattle.trace_values.proofs.Placing.{length-placed_from}
 use Rattle.capture_plan.specs.declared.frames.FramesMode.{FramesMode}
 use Rattle.capture_plan.specs.declared.frames.FramesMode.TheVariants.{Bare}
-use Rattle.port_reader.specs.Reading.{port_reading}
 use Rattle.port_reader.specs.Rising.{BytesRise}
 use Rattle.source_events.specs.declared.event.Event.{Event}
 use Rattle.source_events.specs.declared.event.Stop.{Stop}
 use Rattle.source_events.specs.declared.packet.Packet.{Packet}
 use Rattle.source_events.specs.declared.plan.Plan.{Plan}
-use Rattle.source_events.specs.Fitting.{AllFit, PacketFits}
-use Rattle.source_events.specs.Merge.{told}
-use Rattle.source_events.specs.Plan.{sources_by}
 use Rattle.source_events.specs.Report.{Mapped, stop_of}
 use Rattle.source_machine.specs.Machine.{reading_of, is_live, held_of, skipped_by}
 use Rattle.source_machine.specs.declared.machine.SourceMachine.{SourceMachine}
 use Rattle.source_merge.specs.declared.slot.Slot.{Slot}
 use Rattle.source_merge.specs.Engine.{Stands, Keeps}
 use Rattle.source_merge.specs.Answering.{fault_by}
-use Rattle.source_merge.specs.Bare.{PieceFed, bare_events, bare_flow, flow_from, last_fault, stop_by}
-use Rattle.source_merge.specs.Counting.{HasCounted}
+use Rattle.source_merge.specs.Bare.{PieceFed, bare_events, bare_flow, flow_from, stop_by}
+use Rattle.source_merge.specs.Feeding.{last_fault}
 use Rattle.source_merge.specs.Routing.{mapped_of, AllLive, HaveRoom, LiveIf, AreDistinct}
 use Rattle.source_merge.proofs.BareGoing.{stepped_bare}
-use Rattle.source_merge.proofs.BareSlots.{goes_without, piece_live, piece_room, piece_same, bare_port}
+use Rattle.source_merge.proofs.BareSlots.{piece_live, piece_room, piece_same, bare_port}
 use Rattle.source_merge.proofs.Ending.{FirstAt, first_at}
-use Rattle.source_merge.proofs.Fits.{fit_more, last_fits, none_fit}
 use Rattle.source_merge.proofs.Going.{Stepped, rise_to, rise_block, end_block}
 use Rattle.source_merge.proofs.Refilled.{slots_are}
 use Rattle.source_merge.proofs.Slots.{room_more}
-use Rattle.source_merge.proofs.Standing.{distinct, none_there, live_now, live_if, tested, none_of}
+use Rattle.source_merge.proofs.Standing.{distinct, live_now, live_if}
 use Rattle.source_merge.proofs.engine.Engine.feed_bare.Goals as goal
 
 -- the slot of source 1 is there, and there is no formatter
@@ -99,6 +94,7 @@ invariant_of-self c =
           (room_more held_of skipped_by (30 * n + 2 * block.bytes) (30 * (n + block.bytes)) new (omega arith)
           (piece_room old f.front f.slot f.back new f.parts c.args.at c.args.piece.now block fed (30 * n) self.room));
       size = (let a = self.size in let b = c.add_bare.ensures.size in omega arith);
+      whole = (let a = self.whole in let b = c.add_bare.ensures.same in omega arith);
       within = (let a = self.within in let b = c.requires.offsets.0 in omega arith);
       limit = (let a = c.requires.offsets.1 in omega arith);
       port_live = λ k. self.port_live c.requires.live;

@@ -1,5 +1,5 @@
-use Rattle.std.proofs.Common.{◌≡◌, ℕ, ◌+◌, ◌-◌, ◌<◌, ◌≤◌, List, [], ◌∷◌, ◌++◌, length, take, drop, refl, sym, ◌∙◌, ap, subst, append_assoc, arith, true}
-use Rattle.std.proofs.lemmas.List.{length-take-le, take_all, length-drop}
+use Rattle.std.proofs.Common.{◌+◌, ◌-◌, List, [], ◌++◌, length, take, drop, refl, sym, ◌∙◌, ap, subst, arith}
+use Rattle.std.proofs.lemmas.List.{length-take-le, length-drop}
 use Rattle.trace_values.specs.Placed.{Placed, placed_from}
 use Rattle.deformatter.specs.Block.{FedAs}
 use Rattle.deformatter.proofs.Blocks.{whole_fed}

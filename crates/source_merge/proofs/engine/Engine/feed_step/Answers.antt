@@ -1,4 +1,4 @@
-use Rattle.std.proofs.Common.{◌≡◌, ℕ, ◌+◌, ◌-◌, ◌*◌, ◌^◌, ◌≤◌, List, [], ◌∷◌, ◌++◌, length, take, refl, sym, ◌∙◌, ap, subst, arith, true, Bool, Option, Some, None, length-append}
+use Rattle.std.proofs.Common.{◌≡◌, ℕ, ◌+◌, ◌-◌, ◌*◌, ◌^◌, List, [], ◌∷◌, ◌++◌, length, take, sym, ◌∙◌, ap, subst, arith, None, length-append}
 use Rattle.std.specs.Prelude.{is_none}
 use Rattle.std.proofs.lemmas.List.{length-take-le}
 use Rattle.trace_values.specs.declared.cell.Cell.{Cell}
@@ -7,19 +7,14 @@ use Rattle.trace_values.proofs.Placing.{length-placed_from}
 use Rattle.capture_plan.specs.declared.frames.FramesMode.{FramesMode}
 use Rattle.deformatter.specs.declared.step.PortStep.TheVariants.{Quiet}
 use Rattle.deformatter.specs.Block.{FedAs}
-use Rattle.frame_grammar.specs.Reading.{offsets_of}
 use Rattle.port_reader.specs.Growth.{Answers as PortAnswers}
-use Rattle.port_reader.specs.Reader.{mode_of}
 use Rattle.port_reader.specs.Reading.{port_reading}
 use Rattle.port_reader.specs.Rising.{BytesRise}
-use Rattle.source_events.specs.declared.event.Stop.{Stop}
-use Rattle.source_events.specs.Report.{Mapped, stop_of, runs_in}
+use Rattle.source_events.specs.Report.{Mapped, runs_in}
 use Rattle.source_events.specs.declared.packet.Packet.{Packet}
 use Rattle.source_events.specs.declared.plan.Plan.{Plan}
-use Rattle.source_events.specs.Plan.{sources_by}
 use Rattle.source_machine.specs.Machine.{reading_of, Stands as MachineStands, is_live, held_of, skipped_by}
 use Rattle.source_machine.specs.declared.machine.SourceMachine.{SourceMachine}
-use Rattle.source_merge.specs.declared.engine.Engine.{Engine}
 use Rattle.source_merge.specs.declared.slot.Slot.{Slot}
 use Rattle.source_merge.specs.Engine.{Stands, Keeps}
 use Rattle.source_merge.specs.Answering.{fault_of}
@@ -58,6 +53,7 @@ invariant_of-self c =
           (room_more held_of skipped_by (30 * n + 30) (30 * (n + c.feed_block-taken.result.bytes)) new (omega arith)
           (c.take_step-stop.ensures.room (30 * n) room));
       size = (let a = self.size in let b = c.take_step-stop.ensures.size in omega arith);
+      whole = (let a = self.whole in let b = c.take_step-stop.ensures.whole in omega arith);
       within = (let a = self.within in let b = c.requires.offsets.0 in omega arith);
       limit = (let a = c.requires.offsets.1 in omega arith);
       port_live = λ k. c.feed_block-taken.ensures.live ∙ c.take_step-stop.ensures.going (none_there c.take_step-stop.result (sym gone ∙ k));

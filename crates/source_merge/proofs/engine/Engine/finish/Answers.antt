@@ -11,7 +11,7 @@ use Rattle.source_machine.specs.Machine.{reading_of, Stands}
 use Rattle.source_machine.specs.declared.machine.SourceMachine.{SourceMachine}
 use Rattle.source_merge.specs.declared.slot.Slot.{Slot}
 use Rattle.source_merge.specs.Routing.{mapped_of, AllStand}
-use Rattle.source_merge.specs.Answering.{port_of}
+use Rattle.source_merge.specs.Answering.{port_of, report_of}
 use Rattle.source_merge.proofs.Attributed.{unattributed_are}
 use Rattle.source_merge.proofs.engine.Engine.finish.Goals as goal
 
@@ -39,7 +39,7 @@ returns c = λ u h.
     (c.of_port.ensures ∙ ap (port_mode plan.frames) (c.is_locked.ensures.list u h.port ∙ ap (λ (m : FramesMode). (port_reading m u).locked) h.mode))
     (c.skipped.ensures.list u h.port ∙ ap (λ (m : FramesMode). (port_reading m u).skipped) h.mode)
     (c.tail.ensures.list u h.port ∙ ap (λ (m : FramesMode). (port_reading m u).tail) h.mode)
-    (c.unattributed.ensures (runs_in r) k.counted.bytes ∙ unattributed_are plan.frames u)
+    (c.unattributed.ensures r (report_of plan u) k.counted ∙ unattributed_are plan.frames u)
     (c.source_tails.ensures r
     (subst (λ (l : List (Slot SourceMachine)). mapped_of reading_of l ≡ sources_by plan) (sym c.as_slice.ensures.value) h.sources)
     (subst (λ (l : List (Slot SourceMachine)). AllStand Stands l (runs_in r)) (sym c.as_slice.ensures.value) k.stand))

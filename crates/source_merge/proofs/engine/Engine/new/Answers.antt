@@ -1,13 +1,12 @@
-use Rattle.std.proofs.Common.{◌≡◌, ◌+◌, ◌*◌, ◌^◌, ◌≤◌, List, [], length, refl, sym, ◌∙◌, ap, subst, arith, true, Option, None}
+use Rattle.std.proofs.Common.{List, [], length, refl, sym, ◌∙◌, ap, subst, arith}
 use Rattle.std.specs.Prelude.{is_none}
 use Rattle.trace_values.specs.declared.cell.Cell.{Cell}
-use Rattle.trace_values.specs.declared.fault.Reason.{Reason}
 use Rattle.port_reader.proofs.ReadingLaws.{none_read}
 use Rattle.source_events.specs.declared.tails.PortCounts.{PortCounts}
 use Rattle.source_events.specs.Plan.{sources_by}
 use Rattle.source_events.specs.Runs.{all_runs}
 use Rattle.source_events.proofs.Captures.{no_fault_first, no_event_first}
-use Rattle.source_machine.specs.Machine.{reading_of, Stands as MachineStands, is_live, held_of, skipped_by}
+use Rattle.source_machine.specs.Machine.{Stands as MachineStands}
 use Rattle.source_merge.specs.Counting.{HasBytes, HasItems}
 use Rattle.source_merge.specs.Routing.{AllStand}
 use Rattle.source_merge.proofs.Mapping.{fresh_stand, fresh_live, fresh_room, sources_lawful}
@@ -18,7 +17,8 @@ invariant_of-result c = record {
   sound = c.requires.sound;
   few = (let a = c.new-port.ensures.empty.0 in let b = c.new-port.ensures.empty.1 in omega arith);
   room = fresh_room 0 c.slots_of-slots.result.items c.slots_of-slots.ensures.fresh;
-  size = (let a = c.new-2.ensures.none in omega arith);
+  size = (let a = c.new-2.ensures.none.0 in omega arith);
+  whole = (let a = c.new-2.ensures.none.1 in omega arith);
   within = omega arith;
   limit = omega arith;
   port_live = λ k. c.new-port.ensures.live;
@@ -43,8 +43,10 @@ returns-clause-fresh c =
       going = λ k. record {
         stand = subst (λ (l : List (List Cell)). AllStand MachineStands slots l) (sym runs) (fresh_stand slots c.slots_of-slots.ensures.fresh);
         counted = record {
-          bytes = subst (λ (l : List (List Cell)). HasBytes c.new-2.result.bytes l) (sym runs) c.new-2.ensures.bytes;
-          items = subst (λ es. HasItems c.new-2.result.items es) (sym (no_event_first (sources_by plan) law plan.frames)) c.new-2.ensures.items;
+          whole = [];
+          frames = c.new-2.ensures.frames;
+          bytes = subst (λ (l : List (List Cell)). HasBytes c.new-2.result.bytes [] l) (sym runs) c.new-2.ensures.bytes;
+          items = subst (λ es. HasItems c.new-2.result.items [] es) (sym (no_event_first (sources_by plan) law plan.frames)) c.new-2.ensures.items;
           port = record {
             fulls = ap (λ (p : PortCounts). p.fulls) c.new-2.ensures.port ∙ sym nothing.fulls;
             halves = ap (λ (p : PortCounts). p.halves) c.new-2.ensures.port ∙ sym nothing.halves;

@@ -1,42 +1,30 @@
-use Rattle.std.proofs.Common.{◌≡◌, ◌<◌, ℕ, ◌+◌, ◌-◌, ◌*◌, ◌^◌, ◌≤◌, List, [], ◌∷◌, ◌++◌, length, take, refl, sym, ◌∙◌, ap, subst, arith, true, Bool, Option, Some, None, length-append}
+use Rattle.std.proofs.Common.{◌≡◌, ◌<◌, ℕ, ◌+◌, ◌-◌, ◌*◌, ◌≤◌, List, ◌++◌, length, take, refl, sym, ◌∙◌, ap, subst, arith, Option, Some, None, length-append}
 use Rattle.std.specs.Prelude.{is_none, IfSome, position, ◌==◌}
-use Rattle.std.specs.Option.{option_map}
 use Rattle.std.proofs.lemmas.List.{length-take-le}
 use Rattle.trace_values.specs.declared.block.Block.{Block}
 use Rattle.trace_values.specs.Placed.{Placed, placed_from}
-use Rattle.trace_values.specs.Block.{goes_on_after}
 use Rattle.trace_values.specs.declared.step.Step.{Step}
-use Rattle.trace_values.specs.declared.step.Step.TheVariants.{Quiet, Skipping, Item, Locked, Fault as Faulty}
+use Rattle.trace_values.specs.declared.step.Step.TheVariants.{Item}
 use Rattle.trace_values.proofs.Placing.{length-placed_from}
 use Rattle.capture_plan.specs.declared.frames.FramesMode.{FramesMode}
 use Rattle.capture_plan.specs.declared.frames.FramesMode.TheVariants.{Bare}
-use Rattle.port_reader.specs.Reading.{port_reading}
 use Rattle.port_reader.specs.Rising.{BytesRise}
-use Rattle.source_events.specs.declared.event.Event.{Event}
-use Rattle.source_events.specs.declared.event.Stop.{Stop}
 use Rattle.source_events.specs.declared.packet.Packet.{Packet}
 use Rattle.source_events.specs.declared.plan.Plan.{Plan}
-use Rattle.source_events.specs.Fitting.{AllFit, PacketFits}
-use Rattle.source_events.specs.Merge.{told}
-use Rattle.source_events.specs.Plan.{sources_by}
-use Rattle.source_events.specs.Report.{Mapped, stop_of}
+use Rattle.source_events.specs.Report.{Mapped}
 use Rattle.source_machine.specs.Machine.{reading_of, is_live, held_of, skipped_by}
 use Rattle.source_machine.specs.declared.machine.SourceMachine.{SourceMachine}
 use Rattle.source_merge.specs.declared.slot.Slot.{Slot}
-use Rattle.source_merge.specs.Engine.{Stands, Keeps}
-use Rattle.source_merge.specs.Answering.{fault_by}
+use Rattle.source_merge.specs.Engine.{Stands}
 use Rattle.source_merge.specs.Bare.{PieceFed, bare_events}
 use Rattle.source_merge.specs.declared.flow.Flow.TheVariants.{Going}
-use Rattle.source_merge.specs.Counting.{HasCounted}
-use Rattle.source_merge.specs.Routing.{mapped_of, AllLive, HaveRoom, LiveIf, AreDistinct}
+use Rattle.source_merge.specs.Routing.{AllLive, AreDistinct}
 use Rattle.source_merge.proofs.BareGoing.{stepped_bare}
-use Rattle.source_merge.proofs.BareSlots.{goes_without, piece_live, piece_room, piece_same, bare_port}
+use Rattle.source_merge.proofs.BareSlots.{bare_port}
 use Rattle.source_merge.proofs.Ending.{FirstAt, first_at}
-use Rattle.source_merge.proofs.Fits.{fit_more, last_fits, none_fit}
 use Rattle.source_merge.proofs.Going.{Stepped, rise_to, rise_block, end_block}
-use Rattle.source_merge.proofs.Refilled.{slots_are}
 use Rattle.source_merge.proofs.Slots.{room_more}
-use Rattle.source_merge.proofs.Standing.{distinct, none_there, live_now, live_if, tested, none_of}
+use Rattle.source_merge.proofs.Standing.{distinct, live_now}
 use Rattle.source_merge.proofs.engine.Engine.take_packet.Goals as goal
 
 -- the slot of source 1 is there, and there is no formatter
@@ -145,6 +133,7 @@ invariant_of-self c =
       few = (let a = self.few in omega arith);
       room = room_more held_of skipped_by (30 * n) (30 * (n + bytes)) self.slots.items (omega arith) self.room;
       size = (let a = self.size in let b = c.add_packet.ensures.size in let d = taken.0 in omega arith);
+      whole = (let a = self.whole in let b = c.add_packet.ensures.same in omega arith);
       within = (let a = self.within in let b = c.requires.offsets.0 in omega arith);
       limit = (let a = c.requires.offsets.1 in let d = taken.1 in omega arith);
       port_live = self.port_live;

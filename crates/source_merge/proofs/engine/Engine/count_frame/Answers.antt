@@ -1,0 +1,15 @@
+use Rattle.std.proofs.Common.{◌≡◌, ◌≤◌, List, ℕ, length, take, ◌∙◌, ap, subst}
+use Rattle.std.proofs.lemmas.List.{length-take-le}
+use Rattle.frame_grammar.specs.Frame.{IsProperFrame}
+use Rattle.frame_grammar.specs.Whole.{IsWhole}
+use Rattle.frame_grammar.proofs.Wholes.{plain_is_whole}
+use Rattle.source_merge.proofs.engine.Engine.count_frame.Goals as goal
+
+plain_whole : (piece frame : List ℕ) → frame ≡ take 16 piece → 16 ≤ length piece → IsProperFrame frame → IsWhole (take 16 piece) frame 0
+plain_whole piece frame e l p =
+    subst (λ (w : List ℕ). IsWhole w frame 0) e (plain_is_whole frame (ap length e ∙ length-take-le 16 piece l) p)
+
+pub returns-in-Some-clause-list : goal.returns-in-Some-clause-list
+returns-in-Some-clause-list c = λ u h.
+    c.count_whole.ensures.list u (take 16 c.args.piece.now) h
+    (plain_whole c.args.piece.now c.in-Some.frame.now c.in-Some.ensures.bytes c.in-Some.ensures.room c.in-Some.ensures.proper)

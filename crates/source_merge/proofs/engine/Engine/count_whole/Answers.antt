@@ -1,0 +1,86 @@
+use Rattle.std.proofs.Common.{◌≡◌, ℕ, ◌+◌, ◌*◌, List, [], ◌++◌, length, sym, ◌∙◌, ap, subst, arith, Option, length-append}
+use Rattle.std.specs.Prelude.{is_none}
+use Rattle.trace_values.specs.Placed.{placed_from, units_of}
+use Rattle.trace_values.proofs.Placing.{length-placed_from}
+use Rattle.capture_plan.specs.declared.frames.FramesMode.{FramesMode}
+use Rattle.frame_grammar.specs.Frame.{cells, id_after}
+use Rattle.frame_grammar.specs.Reading.{offsets_of}
+use Rattle.frame_grammar.specs.Whole.{without_halves}
+use Rattle.frame_grammar.proofs.Wholes.{whole_size}
+use Rattle.port_reader.specs.Growth.{GrowsByFrame}
+use Rattle.port_reader.specs.Reading.{port_reading}
+use Rattle.port_reader.specs.Rising.{BytesRise}
+use Rattle.source_events.specs.Plan.{sources_by}
+use Rattle.source_events.specs.Report.{runs_in}
+use Rattle.source_machine.specs.declared.machine.SourceMachine.{SourceMachine}
+use Rattle.source_machine.specs.Machine.{reading_of, Stands as MachineStands, held_of, skipped_by}
+use Rattle.source_merge.specs.declared.slot.Slot.{Slot}
+use Rattle.source_merge.specs.Answering.{port_of, report_of, fault_of}
+use Rattle.source_merge.specs.Routing.{mapped_of, AllStand}
+use Rattle.source_merge.proofs.FrameCounts.{no_fault, are_items}
+use Rattle.source_merge.proofs.Going.{rise_to, rise_block, end_block}
+use Rattle.source_merge.proofs.Slots.{room_more}
+use Rattle.source_merge.proofs.Standing.{none_there}
+use Rattle.source_merge.proofs.engine.Engine.count_whole.Goals as goal
+
+pub invariant_of-self : goal.invariant_of-self
+invariant_of-self c =
+    let self = c.args.self.now in
+    let n = self.count in
+    let bytes = 16 + 2 * c.args.halves in
+    record {
+      sound = self.sound;
+      few = (let a = self.few in let b = c.pass_frame.ensures.few in omega arith);
+      room = room_more held_of skipped_by (30 * n) (30 * (n + bytes)) self.slots.items (omega arith) self.room;
+      size = (let a = self.size in let b = c.add_frame-after.ensures.size in omega arith);
+      whole = (let a = self.whole in let b = c.add_frame-after.ensures.whole in omega arith);
+      within = (let a = self.within in let b = c.requires.offsets.0 in omega arith);
+      limit = (let a = c.requires.offsets.1 in omega arith);
+      port_live = λ k. c.pass_frame.ensures.live;
+      lives = self.lives;
+    }
+
+pub returns-clause-list : goal.returns-clause-list
+returns-clause-list c = λ u w h whole.
+    let self = c.args.self.now in
+    let plan = self.plan in
+    let frame = c.args.frame.now in
+    let halves = c.args.halves in
+    let at = c.args.at in
+    let id = c.id.result in
+    let f = without_halves (placed_from at w) in
+    let next = u ++ placed_from at w in
+    let spelled = whole.spelled at in
+    let long : length w ≡ 16 + 2 * halves = whole_size w frame halves whole in
+    let rise = rise_to u self.next at (subst (λ (k : ℕ). BytesRise 0 k u) (sym h.next) h.rising) c.requires.offsets.0 in
+    let rises = rise_block u at w rise in
+    let end = end_block w u at (let a = long in omega arith) in
+    let none : sources_by plan ≡ [] = sym h.sources ∙ ap (λ (l : List (Slot SourceMachine)). mapped_of reading_of l) c.requires.none in
+    let grows : GrowsByFrame (port_of plan u) (port_of plan next) halves (cells frame (offsets_of f) id) =
+    subst (λ (m : FramesMode). GrowsByFrame (port_reading m u) (port_reading m next) halves (cells frame (offsets_of f) id)) h.mode
+    (subst (λ (l : List ℕ). GrowsByFrame (port_reading self.port.mode u) (port_reading self.port.mode next) halves (cells l (offsets_of f) id))
+    (whole.frame_is at)
+    (subst (λ (i : Option ℕ). GrowsByFrame (port_reading self.port.mode u) (port_reading self.port.mode next) halves (cells (units_of f) (offsets_of f) i))
+    (sym c.id.ensures) (c.pass_frame.ensures.grows u (placed_from at w) f halves h.port spelled))) in
+    let before = none_there (fault_of plan u) (sym h.live ∙ c.requires.live) in
+    let sound = no_fault plan none next grows.fault in
+    record {
+      port =
+          c.pass_frame.ensures.list u (placed_from at w) f halves h.port spelled
+          (c.add_frame-after.ensures.after ∙ ap (id_after frame) c.id.ensures
+          ∙ ap (λ (l : List ℕ). id_after l self.port.port.id) (sym (whole.frame_is at)));
+      mode = c.pass_frame.ensures.same ∙ h.mode;
+      sources = h.sources;
+      rising = subst (λ (k : ℕ). BytesRise 0 k next) (sym end) rises;
+      next = ap (λ (k : ℕ). at + k) (sym long) ∙ sym end;
+      count =
+          (let a = h.count in let b = length-append u (placed_from at w) in let d = length-placed_from at w in omega arith);
+      live = c.requires.live ∙ ap is_none (sym sound);
+      going = λ k. record {
+        stand = subst (λ (l : List (Slot SourceMachine)). AllStand MachineStands l (runs_in (port_of plan next))) (sym c.requires.none) tt;
+        counted =
+            c.add_frame-after.ensures.counted plan.frames u next (offsets_of f) (report_of plan u) (report_of plan next) grows
+            (are_items plan none u at rise before) (are_items plan none next (at + length w) rises sound)
+            (h.going c.requires.live).counted;
+      };
+    }
