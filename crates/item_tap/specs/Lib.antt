@@ -1,2 +1,4 @@
 pub mod Choices
+pub mod Windows
+pub mod Seen
 pub mod Rows

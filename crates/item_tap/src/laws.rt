@@ -1,6 +1,6 @@
-//! Laws of choices, over their definitions alone.
+//! Laws of choices and of windows, over their definitions alone.
 
-ghost use Rattle.std.specs.Prelude.{◌≡◌, true, false};
+ghost use Rattle.std.specs.Prelude.{◌≡◌, ◌↔◌, ◌&&◌, ◌++◌, ◌∷◌, [], List, Bool, true, false, not};
 ghost use Rattle.source_events.specs.declared.event.Event.{Event};
 ghost use Rattle.source_events.specs.declared.event.What.{What};
 ghost use Rattle.source_events.specs.declared.packet.Packet.{Packet};
@@ -8,6 +8,7 @@ ghost use Rattle.source_events.specs.Report.{is_item};
 ghost use Rattle.item_tap.specs.declared.choice.Choice.{Choice};
 ghost use Rattle.item_tap.specs.declared.choice.Kind.{Kind};
 ghost use Rattle.item_tap.specs.Choices.{is_of_kind, holds};
+ghost use Rattle.item_tap.specs.Windows.{IsOpenAfter, Passes, is_open_after, passes};
 
 /// No choice holds for a notice of a lock.
 pub fn notice_law()
@@ -18,4 +19,20 @@ pub fn notice_law()
 pub fn kinds_law()
     ensures some { (what : What Packet) → is_item what ≡ true → (kind : Kind) × (is_of_kind kind what ≡ true) }
     ensures one { (what : What Packet) (a b : Kind) → is_of_kind a what ≡ true → is_of_kind b what ≡ true → a ≡ b }
+{}
+
+/// What is computed of a window is what its definitions say: when it is open, and which events pass.
+pub fn window_law()
+    ensures open { (first last : Event Packet → Bool) (es : List (Event Packet)) →
+        (is_open_after first last es ≡ true) ↔ IsOpenAfter first last es }
+    ensures passes { (first last : Event Packet → Bool) (before : List (Event Packet)) (e : Event Packet) →
+        (passes first last before e ≡ true) ↔ Passes first last before e }
+{}
+
+/// A window is closed before the first event, and open after an event that passes and for which the last rule does not
+/// hold.
+pub fn window_step_law()
+    ensures first { (first last : Event Packet → Bool) → is_open_after first last [] ≡ false }
+    ensures next { (first last : Event Packet → Bool) (es : List (Event Packet)) (e : Event Packet) →
+        is_open_after first last (es ++ e ∷ []) ≡ (passes first last es e && not (last e)) }
 {}

@@ -1,4 +1,4 @@
-//! Worked rows of choices, which the checker computes.
+//! Worked rows of choices and windows, which the checker computes.
 
 ghost use Rattle.std.specs.Prelude.{◌≡◌, [], ◌∷◌, None, Some, false, true};
 ghost use Rattle.itm_grammar.specs.declared.packet.Size.TheVariants.{One, Two, Four};
@@ -10,7 +10,7 @@ ghost use Rattle.source_events.specs.declared.event.What.TheVariants.{Locked, Pa
 ghost use Rattle.source_events.specs.declared.packet.Packet.TheVariants.{Itm as ItmKind, Stp as StpKind};
 ghost use Rattle.item_tap.specs.declared.choice.Choice.TheVariants.{OfKind, Source, Port};
 ghost use Rattle.item_tap.specs.declared.choice.Kind.TheVariants.{Itm, Dwt, Stp, Raw, Trigger};
-ghost use Rattle.item_tap.specs.Rows.{chosen_by};
+ghost use Rattle.item_tap.specs.Rows.{chosen_by, within};
 
 /// What packets of an ITM source are chosen by.
 pub fn itm()
@@ -31,4 +31,22 @@ pub fn others()
     ensures trigger { chosen_by (Some 125) (TriggerByte 0) ≡ OfKind Trigger ∷ Source 125 ∷ [] }
     ensures source_lock { chosen_by (Some 1) (Locked 0) ≡ [] }
     ensures port_lock { chosen_by None (Locked 31) ≡ [] }
+{}
+
+/// Which of nine events pass a window: ITM packets of source 1 (a synchronisation, port 0, a hardware packet, and as the
+/// seventh port 31), STP items of source 2 (the fourth and the last), raw bytes (the fifth and the eighth) and a trigger.
+pub fn windows()
+    ensures port_to_raw { within (Port 0) (OfKind Raw) ≡ 2 ∷ 3 ∷ 4 ∷ 5 ∷ [] }
+    ensures opens_again { within (OfKind Itm) (OfKind Dwt) ≡ 1 ∷ 2 ∷ 3 ∷ 7 ∷ 8 ∷ 9 ∷ [] }
+    ensures opens_twice { within (OfKind Stp) (Source 16) ≡ 4 ∷ 5 ∷ 9 ∷ [] }
+    ensures closes_at_once { within (OfKind Raw) (OfKind Raw) ≡ 5 ∷ 8 ∷ [] }
+    ensures one_source { within (Source 1) (Source 1) ≡ 1 ∷ 2 ∷ 3 ∷ 7 ∷ [] }
+    ensures port_closes_itself { within (Port 0) (OfKind Itm) ≡ 2 ∷ [] }
+    ensures dwt_to_trigger { within (OfKind Dwt) (OfKind Trigger) ≡ 3 ∷ 4 ∷ 5 ∷ 6 ∷ [] }
+    ensures trigger_to_source { within (OfKind Trigger) (Source 1) ≡ 6 ∷ 7 ∷ [] }
+    ensures source_to_trigger { within (Source 2) (Source 125) ≡ 4 ∷ 5 ∷ 6 ∷ 9 ∷ [] }
+    ensures never_closes { within (Source 125) (Port 0) ≡ 6 ∷ 7 ∷ 8 ∷ 9 ∷ [] }
+    ensures last_port { within (Port 31) (OfKind Dwt) ≡ 7 ∷ 8 ∷ 9 ∷ [] }
+    ensures never_opens { within (Port 1) (OfKind Itm) ≡ [] }
+    ensures source_to_stp { within (Source 1) (OfKind Stp) ≡ 1 ∷ 2 ∷ 3 ∷ 4 ∷ 7 ∷ 8 ∷ 9 ∷ [] }
 {}

@@ -1,10 +1,12 @@
 //! Tests of events that are kept beside the rules that they answer.
 
-ghost use Rattle.std.specs.Prelude.{◌≡◌, Bool};
+ghost use Rattle.std.specs.Prelude.{◌≡◌, Bool, ⊤};
 ghost use Rattle.std.specs.Fn.{FnReturnsAt};
 ghost use Rattle.source_events.specs.declared.event.Event.{Event};
 ghost use Rattle.source_events.specs.declared.packet.Packet.{Packet};
+ghost use Rattle.item_tap.specs.Choices.{holds};
 
+use crate::choice::Choice;
 use crate::rule::Rule;
 use source_events::{Event, Packet};
 use std::marker::Model;
@@ -34,6 +36,17 @@ impl<F: Fn(&Event<Packet>) -> bool> Test for TestFn<F> {
 
     fn test(&self, event: &Event<Packet>) -> bool {
         (self.test)(event)
+    }
+}
+
+/// A choice is its own test.
+impl Test for Choice {
+    ghost may_test = { λ c. ⊤ };
+
+    ghost may_answer = { λ c e b. b ≡ holds c e };
+
+    fn test(&self, event: &Event<Packet>) -> bool {
+        self.holds_for(event)
     }
 }
 
