@@ -7,6 +7,11 @@ port_counts_text fulls halves frames =
     codes "full " ++ (decimal fulls ++ (codes "\nhalf " ++ (decimal halves
     ++ (codes "\nframes " ++ (decimal frames ++ codes "\n")))))
 
+-- `items N` and `capture N`: the items of an exercise, and the bytes of its capture
+abbrev pub exercise_lines : ℕ → ℕ → List ℕ
+exercise_lines items capture =
+    codes "items " ++ (decimal items ++ (codes "\ncapture " ++ (decimal capture ++ codes "\n")))
+
 -- `ID bytes B items I`
 abbrev pub source_counts_line : ℕ → ℕ → ℕ → List ℕ
 source_counts_line id bytes items =

@@ -1,5 +1,5 @@
 -- Which events have a line.
-use Rattle.std.specs.Prelude.{ℕ, ◌<◌, List, length, Option, None, Some, IsSome}
+use Rattle.std.specs.Prelude.{ℕ, ◌<◌, length, Option, IsSome}
 use Rattle.itm_grammar.specs.declared.packet.ItmPacket.{ItmPacket}
 use Rattle.itm_grammar.specs.declared.packet.ItmPacket.TheVariants.{Local, GlobalFirst, GlobalSecond}
 use Rattle.itm_grammar.specs.Proper.{IsProper}

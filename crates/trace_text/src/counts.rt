@@ -1,7 +1,7 @@
 //! The lines of counts.
 
 ghost use Rattle.std.specs.Prelude.{◌≡◌, ◌+◌, ◌≤◌, ◌^◌, ◌++◌, length};
-ghost use Rattle.trace_text.specs.CountText.{port_counts_text, source_counts_line};
+ghost use Rattle.trace_text.specs.CountText.{port_counts_text, exercise_lines, source_counts_line};
 
 use crate::room::{put_bytes, put_number, put_short};
 use trace_stream::{OUTLET_ROOM, Outlet, TEXT_ROOM, Text};
@@ -30,6 +30,27 @@ impl Text for PortCountsLines {
         let from = put_number(room, from, self.halves);
         let from = put_bytes(room, from, b"\nframes ");
         let from = put_number(room, from, self.frames);
+        put_bytes(room, from, b"\n")
+    }
+}
+
+/// How many items an exercise has, and how many bytes its capture: `items N`, `capture N`.
+#[derive(Clone, Copy, Debug)]
+pub struct ExerciseLines {
+    pub items: u32,
+    pub capture: u64,
+}
+
+impl Text for ExerciseLines {
+    ghost fits = { λ _. Unit {0} };
+
+    ghost text = { λ l. exercise_lines l.items l.capture };
+
+    fn put(&self, room: &mut [u8], from: usize) -> usize {
+        let from = put_bytes(room, from, b"items ");
+        let from = put_number(room, from, u64::from(self.items));
+        let from = put_bytes(room, from, b"\ncapture ");
+        let from = put_number(room, from, self.capture);
         put_bytes(room, from, b"\n")
     }
 }

@@ -1,16 +1,21 @@
-//! The digits of a number that are kept from one line to the next.
+//! What is kept of one line for the next: the digits of its offset, and the text of its place.
 
 ghost use Rattle.std.specs.Prelude.{◌≡◌, ◌+◌, ◌≤◌, ◌<◌, ◌^◌, ◌/◌, ◌%◌, ◌++◌, length, take, decimal};
 
+use crate::place_text::PlaceText;
 use crate::room::{NUMBER_ROOM, put_front, put_number, put_two};
 use itoa::Buffer;
+use source_events::{Event, Packet, What};
+use stp_grammar::item::{Place, StpItem};
 
-/// The digits of a number but for its last two, which are the same in most lines that follow one another.
+/// The digits of a number but for its last two, and the text of a place, which are the same in most lines that follow
+/// one another.
 #[derive(Debug, Drop)]
 pub struct Digits {
     hundreds: u64,
     digits: [u8; 20],
     len: usize,
+    pub(crate) place: PlaceText,
     ghost few: { len ≤ 20 },
     ghost sized: { length digits ≡ 20 },
     ghost kept: { take len digits ≡ decimal hundreds },
@@ -20,6 +25,7 @@ pub struct Digits {
 fn digits_of(number: u64, into: &mut [u8; 20]) -> usize
     ensures few { result ≤ 20 }
     ensures digits { take result into.new ≡ decimal number }
+    ensures size { length into.new ≡ 20 }
 {
     let mut buffer = Buffer::new();
     let text = buffer.format(number).as_bytes();
@@ -28,36 +34,74 @@ fn digits_of(number: u64, into: &mut [u8; 20]) -> usize
 }
 
 impl Digits {
-    ghost use Rattle.trace_text.specs.Digits.{hundreds_of};
+    ghost use Rattle.trace_text.specs.Digits.{hundreds_of, KeepsPlace, KeepsPlaceOf};
 
-    /// The digits of 0.
+    /// The digits of 0, and the text of an unknown place.
     pub fn new() -> Digits
         ensures { hundreds_of result ≡ 0 }
     {
-        Digits::of(0)
-    }
-
-    /// Those of a number with these hundreds.
-    fn of(hundreds: u64) -> Digits
-        ensures { hundreds_of result ≡ hundreds }
-    {
         let mut digits = [0; 20];
-        let len = digits_of(hundreds, &mut digits);
+        let len = digits_of(0, &mut digits);
         Digits {
-            hundreds,
+            hundreds: 0,
             digits,
             len,
+            place: PlaceText::of(Place {
+                master: None,
+                channel: None,
+            }),
         }
     }
 
     /// Keeps the digits of this number but for its last two.
     #[inline]
     pub(crate) fn keep(&mut self, number: u64)
-        ensures { hundreds_of self.new ≡ number / 100 }
+        ensures hundreds { hundreds_of self.new ≡ number / 100 }
+        ensures place { self.new.place ≡ self.old.place }
     {
         let hundreds = number / 100;
         if hundreds != self.hundreds {
-            *self = Digits::of(hundreds);
+            self.keep_hundreds(hundreds);
+        }
+    }
+
+    /// Keeps the digits of numbers with these hundreds.
+    fn keep_hundreds(&mut self, hundreds: u64)
+        ensures hundreds { hundreds_of self.new ≡ hundreds }
+        ensures place { self.new.place ≡ self.old.place }
+    {
+        self.hundreds = hundreds;
+        self.len = digits_of(hundreds, &mut self.digits);
+    }
+
+    /// Keeps the text of the place of an item, if it has one.
+    #[inline(always)]
+    pub(crate) fn keep_item(&mut self, item: &StpItem)
+        ensures hundreds { hundreds_of self.new ≡ hundreds_of self.old }
+        ensures place { KeepsPlace self.new item.now }
+    {
+        match *item {
+            StpItem::MasterError { place, .. }
+            | StpItem::Datum { place, .. }
+            | StpItem::Flag { place, .. } => self.place.keep(place),
+            StpItem::Async
+            | StpItem::Version(_)
+            | StpItem::GlobalError { .. }
+            | StpItem::Trigger { .. }
+            | StpItem::Frequency { .. }
+            | StpItem::NullStamp { .. } => {}
+        }
+    }
+
+    /// Keeps what the line of this event needs: the digits of its offset, and the text of its place.
+    #[inline(always)]
+    pub(crate) fn keep_event(&mut self, event: &Event<Packet>)
+        ensures hundreds { hundreds_of self.new ≡ event.now.at / 100 }
+        ensures place { KeepsPlaceOf self.new event.now.what }
+    {
+        self.keep(event.at);
+        if let What::Packet(Packet::Stp(item)) = &event.what {
+            self.keep_item(item);
         }
     }
 

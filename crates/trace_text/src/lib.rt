@@ -11,6 +11,7 @@ mod items;
 mod lengths;
 mod lines;
 mod notes;
+mod place_text;
 mod remark;
 mod room;
 pub mod rows;
@@ -19,10 +20,10 @@ mod tables;
 #[cfg(test)]
 mod tests;
 
-pub use counts::{PortCountsLines, SOURCE_COUNTS_ROOM, put_source_counts};
+pub use counts::{ExerciseLines, PortCountsLines, SOURCE_COUNTS_ROOM, put_source_counts};
 pub use digits::Digits;
 pub use ends::{EndLine, PortEndLine, SourceEndLine, TAILS_ROOM, print_tails};
 pub use faults::{FaultLine, print_fault};
 pub use lines::{EVENT_ROOM, print, put_line};
-pub use notes::{LastLine, LimitLine};
+pub use notes::{LastLine, LimitLine, ScriptFaultLine};
 pub use remark::Remark;

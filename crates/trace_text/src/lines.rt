@@ -2,8 +2,9 @@
 
 ghost use Rattle.std.specs.Prelude.{◌≡◌, ◌+◌, ◌≤◌, ◌++◌, ◌/◌, false, length, take, codes, decimal};
 ghost use Rattle.hex.specs.Hex.{encode_lower};
+ghost use Rattle.source_events.specs.declared.event.What.TheVariants.{Packet as GivenPacket};
 ghost use Rattle.itm_grammar.specs.Proper.{IsProper};
-ghost use Rattle.trace_text.specs.Digits.{hundreds_of};
+ghost use Rattle.trace_text.specs.Digits.{hundreds_of, KeepsPlaceOf};
 ghost use Rattle.trace_text.specs.Printable.{IsProperPacket, IsProperWhat, SuitsPacket, IsPrintable};
 ghost use Rattle.trace_text.specs.LineText.{half_text, source_text, packet_text, what_text, remark_text, event_line, itm_event};
 
@@ -65,9 +66,10 @@ pub(crate) fn put_source(room: &mut [u8], from: usize, source: Option<SourceId>)
     }
 }
 
-/// Puts a packet.
-#[inline]
-fn put_packet(room: &mut [u8], from: usize, packet: &Packet) -> usize
+/// Puts a packet, whose place, if it has one, is kept.
+#[inline(always)]
+fn put_packet(room: &mut [u8], from: usize, digits: &Digits, packet: &Packet) -> usize
+    requires kept { KeepsPlaceOf digits.now (GivenPacket packet.now) }
     requires proper { IsProperPacket packet.now }
     requires room { from + ITEM_ROOM ≤ length room.old }
     ensures text { take result room.new ≡ take from room.old ++ packet_text packet.now }
@@ -76,7 +78,7 @@ fn put_packet(room: &mut [u8], from: usize, packet: &Packet) -> usize
 {
     match packet {
         Packet::Itm(packet) => put_item(room, from, packet),
-        Packet::Stp(item) => put_stp(room, from, item),
+        Packet::Stp(item) => put_stp(room, from, digits, item),
     }
 }
 
@@ -93,9 +95,10 @@ fn put_raw(room: &mut [u8], from: usize, bytes: &[u8]) -> usize
     put_digits(room, from, bytes)
 }
 
-/// Puts what was given.
-#[inline]
-fn put_what(room: &mut [u8], from: usize, what: &What<Packet>) -> usize
+/// Puts what was given, of which the place, if it has one, is kept.
+#[inline(always)]
+fn put_what(room: &mut [u8], from: usize, digits: &Digits, what: &What<Packet>) -> usize
+    requires kept { KeepsPlaceOf digits.now what.now }
     requires proper { IsProperWhat what.now }
     requires room { from + ITEM_ROOM ≤ length room.old }
     ensures text { take result room.new ≡ take from room.old ++ what_text what.now }
@@ -103,7 +106,7 @@ fn put_what(room: &mut [u8], from: usize, what: &What<Packet>) -> usize
     ensures end { result ≤ from + ITEM_ROOM }
 {
     match what {
-        What::Packet(packet) => put_packet(room, from, packet),
+        What::Packet(packet) => put_packet(room, from, digits, packet),
         What::Locked(skipped) => {
             let from = put_bytes(room, from, b"locked ");
             put_number(room, from, *skipped)
@@ -138,7 +141,7 @@ fn put_remark(room: &mut [u8], from: usize, remark: Remark) -> usize
     }
 }
 
-/// The line of an event, at an offset whose digits but for the last two are kept.
+/// The line of an event, at an offset whose digits but for the last two are kept, as is its place, if it has one.
 #[derive(Drop)]
 pub(crate) struct EventLine<'a> {
     pub(crate) digits: &'a Digits,
@@ -149,16 +152,17 @@ pub(crate) struct EventLine<'a> {
 }
 
 impl Text for EventLine<'_> {
-    ghost fits = { λ l. IsPrintable l.event.now l.remark × (hundreds_of l.digits.now ≡ l.event.now.at / 100) };
+    ghost fits = { λ l. IsPrintable l.event.now l.remark × (hundreds_of l.digits.now ≡ l.event.now.at / 100)
+        × KeepsPlaceOf l.digits.now l.event.now.what };
 
     ghost text = { λ l. event_line l.stp l.event.now l.remark };
 
-    #[inline]
+    #[inline(always)]
     fn put(&self, room: &mut [u8], from: usize) -> usize {
         let from = self.digits.put(room, from, self.event.at);
         let from = put_half(room, from, self.stp, self.event.half);
         let from = put_source(room, from, self.event.source);
-        let from = put_what(room, from, &self.event.what);
+        let from = put_what(room, from, self.digits, &self.event.what);
         let from = put_remark(room, from, self.remark);
         put_byte(room, from, b'\n')
     }
@@ -190,7 +194,7 @@ impl Text for ItmLine<'_> {
 }
 
 /// Puts the line of an event, with its remark: `AT SOURCE WHAT`, or `AT.H SOURCE WHAT` where its source is an STP source
-/// (`stp`). The digits of the offset are kept for the next line.
+/// (`stp`). The digits of the offset and the text of a place are kept for the next line.
 #[inline(always)]
 pub fn print(
     outlet: &mut Outlet,
@@ -206,7 +210,7 @@ pub fn print(
 {
     short_event(event);
     short_remark(remark);
-    digits.keep(event.at);
+    digits.keep_event(event);
     let line = EventLine {
         digits,
         event,

@@ -2,15 +2,25 @@
 
 ghost use Rattle.std.specs.Prelude.{◌≡◌, ◌+◌, ◌≤◌, ◌++◌, length, take};
 ghost use Rattle.trace_stream.specs.declared.recent.TheConstants.{RECENT_ROOM};
-ghost use Rattle.trace_text.specs.NoteText.{last_line, limit_line};
+ghost use Rattle.trace_text.specs.NoteText.{last_line, limit_line, script_fault_line};
 
-use crate::room::{put_bytes, put_digits, put_number};
+use crate::room::{put_byte, put_bytes, put_digits, put_number, put_short};
 use trace_stream::Text;
 
 /// The last bytes up to a fault, at most `RECENT_ROOM`, in hexadecimal: `last H`.
 #[derive(Clone, Copy, Debug)]
 pub struct LastLine<'a> {
     pub bytes: &'a [u8],
+}
+
+/// The first fault of a script: `line N R NAME`, with the line's number, and the fault's number and name.
+#[derive(Clone, Copy, Debug)]
+pub struct ScriptFaultLine<'a> {
+    /// From 1 on.
+    pub line: u64,
+    pub number: u8,
+    /// At most 12 bytes.
+    pub name: &'a str,
 }
 
 /// The most bytes of input, of which the capture has more: `limit N`.
@@ -28,6 +38,22 @@ impl Text for LastLine<'_> {
         let from = put_bytes(room, from, b"last ");
         let from = put_digits(room, from, self.bytes);
         put_bytes(room, from, b"\n")
+    }
+}
+
+impl Text for ScriptFaultLine<'_> {
+    ghost fits = { λ l. length l.name.now ≤ 12 };
+
+    ghost text = { λ l. script_fault_line l.line l.number l.name.now };
+
+    fn put(&self, room: &mut [u8], from: usize) -> usize {
+        let from = put_bytes(room, from, b"line ");
+        let from = put_number(room, from, self.line);
+        let from = put_byte(room, from, b' ');
+        let from = put_short(room, from, self.number);
+        let from = put_byte(room, from, b' ');
+        let from = put_bytes(room, from, self.name.as_bytes());
+        put_byte(room, from, b'\n')
     }
 }
 

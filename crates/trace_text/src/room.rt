@@ -4,7 +4,7 @@
 ghost use Rattle.std.specs.Prelude.{◌≡◌, ◌+◌, ◌*◌, ◌≤◌, ◌<◌, ◌++◌, ◌∷◌, [], length, take, decimal, nat_lt};
 ghost use Rattle.std.specs.Prelude.{if◌then◌else◌, ◌/◌};
 ghost use Rattle.hex.specs.Hex.{encode_lower};
-ghost use Rattle.trace_text.specs.Pairs.{pair};
+ghost use Rattle.trace_text.specs.Pairs.{pair, four, eight};
 ghost use Rattle.trace_text.specs.Values.{value_text};
 
 use crate::tables::{NUMBERS, PAIRS};
@@ -51,18 +51,6 @@ pub(crate) fn put_byte(room: &mut [u8], from: usize, byte: u8) -> usize
     from + 1
 }
 
-/// Puts a number in decimal, without leading zeros.
-#[inline]
-pub(crate) fn put_number(room: &mut [u8], from: usize, number: u64) -> usize
-    requires room { from + NUMBER_ROOM ≤ length room.old }
-    ensures text { take result room.new ≡ take from room.old ++ decimal number }
-    ensures same { length room.new ≡ length room.old }
-    ensures end { result ≤ from + NUMBER_ROOM }
-{
-    let mut buffer = Buffer::new();
-    put_bytes(room, from, buffer.format(number).as_bytes())
-}
-
 /// Puts the tens and the ones of a number below 100.
 #[inline]
 pub(crate) fn put_two(room: &mut [u8], from: usize, number: u8) -> usize
@@ -105,6 +93,95 @@ pub(crate) fn put_short(room: &mut [u8], from: usize, number: u8) -> usize
     let has_three = number >= 100;
     let len = 1 + has_two as usize + has_three as usize;
     put_front(room, from, &digits[start..start + 4], len)
+}
+
+/// Puts the four digits of a number below 10,000, also those that are leading zeros.
+#[inline(always)]
+fn put_four(room: &mut [u8], from: usize, number: u16) -> usize
+    requires room { from + 4 ≤ length room.old }
+    requires four { number < 10000 }
+    ensures text { take result room.new ≡ take from room.old ++ four number }
+    ensures same { length room.new ≡ length room.old }
+    ensures end { result ≡ from + 4 }
+{
+    let from = put_two(room, from, (number / 100) as u8);
+    put_two(room, from, (number % 100) as u8)
+}
+
+/// Puts the eight digits of a number below 100,000,000, also those that are leading zeros.
+#[inline(always)]
+fn put_eight(room: &mut [u8], from: usize, number: u32) -> usize
+    requires room { from + 8 ≤ length room.old }
+    requires eight { number < 100000000 }
+    ensures text { take result room.new ≡ take from room.old ++ eight number }
+    ensures same { length room.new ≡ length room.old }
+    ensures end { result ≡ from + 8 }
+{
+    let from = put_four(room, from, (number / 10_000) as u16);
+    put_four(room, from, (number % 10_000) as u16)
+}
+
+/// Puts a number below 10,000 in decimal.
+#[inline(always)]
+fn put_up_to_four(room: &mut [u8], from: usize, number: u16) -> usize
+    requires room { from + 5 ≤ length room.old }
+    requires few { number < 10000 }
+    ensures text { take result room.new ≡ take from room.old ++ decimal number }
+    ensures same { length room.new ≡ length room.old }
+    ensures end { result ≤ from + 5 }
+{
+    if number < 100 {
+        return put_short(room, from, number as u8);
+    }
+    let from = put_short(room, from, (number / 100) as u8);
+    put_two(room, from, (number % 100) as u8)
+}
+
+/// Puts a number below 100,000,000 in decimal.
+#[inline(always)]
+fn put_up_to_eight(room: &mut [u8], from: usize, number: u32) -> usize
+    requires room { from + 9 ≤ length room.old }
+    requires few { number < 100000000 }
+    ensures text { take result room.new ≡ take from room.old ++ decimal number }
+    ensures same { length room.new ≡ length room.old }
+    ensures end { result ≤ from + 9 }
+{
+    if number < 10_000 {
+        return put_up_to_four(room, from, number as u16);
+    }
+    let from = put_up_to_four(room, from, (number / 10_000) as u16);
+    put_four(room, from, (number % 10_000) as u16)
+}
+
+/// Puts a number below 10^12 in decimal.
+#[inline(always)]
+fn put_up_to_twelve(room: &mut [u8], from: usize, number: u64) -> usize
+    requires room { from + 13 ≤ length room.old }
+    requires few { number < 1000000000000 }
+    ensures text { take result room.new ≡ take from room.old ++ decimal number }
+    ensures same { length room.new ≡ length room.old }
+    ensures end { result ≤ from + 13 }
+{
+    if number < 100_000_000 {
+        return put_up_to_eight(room, from, number as u32);
+    }
+    let from = put_up_to_four(room, from, (number / 100_000_000) as u16);
+    put_eight(room, from, (number % 100_000_000) as u32)
+}
+
+/// Puts a number in decimal, without leading zeros.
+#[inline]
+pub(crate) fn put_number(room: &mut [u8], from: usize, number: u64) -> usize
+    requires room { from + NUMBER_ROOM ≤ length room.old }
+    ensures text { take result room.new ≡ take from room.old ++ decimal number }
+    ensures same { length room.new ≡ length room.old }
+    ensures end { result ≤ from + NUMBER_ROOM }
+{
+    if number < 100_000_000 {
+        return put_up_to_eight(room, from, number as u32);
+    }
+    let from = put_up_to_twelve(room, from, number / 100_000_000);
+    put_eight(room, from, (number % 100_000_000) as u32)
 }
 
 /// Puts a number of at most five digits in decimal.

@@ -4,8 +4,10 @@ ghost use Rattle.std.specs.Prelude.{◌≡◌, ◌+◌, ◌/◌, ◌^◌, ◌≤
 ghost use Rattle.hex.specs.Hex.{encode_lower};
 ghost use Rattle.stp_grammar.specs.Proper.{bits_of, IsProperItem, IsProperStamp};
 ghost use Rattle.trace_text.specs.HexDigits.{hex_digits};
+ghost use Rattle.trace_text.specs.Digits.{KeepsPlace, place_of};
 ghost use Rattle.trace_text.specs.StpText.{known_text, place_text, datum_text, mark_text, stamp_text, stp_text};
 
+use crate::digits::Digits;
 use crate::room::{
     ITEM_ROOM, NUMBER_ROOM, PART_ROOM, put_byte, put_bytes, put_digits, put_medium, put_number,
     put_short,
@@ -15,7 +17,7 @@ use stp_grammar::packet::Width;
 use trace_clock::word_nibbles;
 
 /// The most bytes of a master and a channel.
-const PLACE_ROOM: usize = 11;
+pub(crate) const PLACE_ROOM: usize = 11;
 
 /// The most bytes of a datum's width and value.
 const VALUE_ROOM: usize = 20;
@@ -38,8 +40,8 @@ fn put_known(room: &mut [u8], from: usize, number: Option<u16>) -> usize
 }
 
 /// Puts the master and the channel: `M C`.
-#[inline(always)]
-fn put_place(room: &mut [u8], from: usize, place: Place) -> usize
+#[inline]
+pub(crate) fn put_place(room: &mut [u8], from: usize, place: Place) -> usize
     requires room { from + PLACE_ROOM ≤ length room.old }
     ensures text { take result room.new ≡ take from room.old ++ place_text place }
     ensures same { length room.new ≡ length room.old }
@@ -51,7 +53,7 @@ fn put_place(room: &mut [u8], from: usize, place: Place) -> usize
 }
 
 /// Puts the last `count` nibbles of a number, which has no more, as hexadecimal digits. There is room for sixteen.
-#[inline]
+#[inline(always)]
 fn put_nibbles(room: &mut [u8], from: usize, count: u8, number: u64) -> usize
     requires few { count ≤ 16 }
     requires fits { number < 16 ^ count }
@@ -69,7 +71,7 @@ fn put_nibbles(room: &mut [u8], from: usize, count: u8, number: u64) -> usize
 }
 
 /// Puts how many bits a datum has, and its value: `uB V`.
-#[inline]
+#[inline(always)]
 fn put_datum(room: &mut [u8], from: usize, width: Width, value: u64) -> usize
     requires fits { value < 2 ^ bits_of width }
     requires room { from + VALUE_ROOM ≤ length room.old }
@@ -128,6 +130,7 @@ fn put_stamp(room: &mut [u8], from: usize, stamp: Stamp) -> usize
     }
 }
 
+#[inline]
 fn mark_words(marked: bool) -> &'static str
     ensures text { result.now ≡ codes " " ++ (mark_text marked ++ codes " ") }
     ensures bound { length result.now ≡ 3 }
@@ -136,10 +139,11 @@ fn mark_words(marked: bool) -> &'static str
 }
 
 /// Puts what was written, with its place and its timestamp: `data M C uB V K T`.
-#[inline]
+#[inline(always)]
 fn put_data(
     room: &mut [u8],
     from: usize,
+    digits: &Digits,
     place: Place,
     width: Width,
     value: u64,
@@ -147,6 +151,7 @@ fn put_data(
     stamp: Stamp,
 ) -> usize
     requires fits { value < 2 ^ bits_of width }
+    requires kept { place_of digits.now.place ≡ place }
     requires proper { IsProperStamp stamp }
     requires room { from + ITEM_ROOM ≤ length room.old }
     ensures text { take result room.new ≡
@@ -156,17 +161,18 @@ fn put_data(
     ensures end { result ≤ from + ITEM_ROOM }
 {
     let from = put_bytes(room, from, b"data ");
-    let from = put_place(room, from, place);
+    let from = digits.place.put(room, from, place);
     let from = put_byte(room, from, b' ');
     let from = put_datum(room, from, width, value);
     let from = put_bytes(room, from, mark_words(marked).as_bytes());
     put_stamp(room, from, stamp)
 }
 
-/// Puts the text of an item.
-#[inline]
-pub(crate) fn put_stp(room: &mut [u8], from: usize, item: &StpItem) -> usize
+/// Puts the text of an item, whose place, if it has one, is kept.
+#[inline(always)]
+pub(crate) fn put_stp(room: &mut [u8], from: usize, digits: &Digits, item: &StpItem) -> usize
     requires proper { IsProperItem item.now }
+    requires kept { KeepsPlace digits.now item.now }
     requires room { from + ITEM_ROOM ≤ length room.old }
     ensures text { take result room.new ≡ take from room.old ++ stp_text item.now }
     ensures same { length room.new ≡ length room.old }
@@ -180,7 +186,7 @@ pub(crate) fn put_stp(room: &mut [u8], from: usize, item: &StpItem) -> usize
         }
         StpItem::MasterError { place, code } => {
             let from = put_bytes(room, from, b"merr ");
-            let from = put_place(room, from, place);
+            let from = digits.place.put(room, from, place);
             let from = put_byte(room, from, b' ');
             put_digits(room, from, &[code])
         }
@@ -194,10 +200,10 @@ pub(crate) fn put_stp(room: &mut [u8], from: usize, item: &StpItem) -> usize
             value,
             marked,
             stamp,
-        } => put_data(room, from, place, width, value, marked, stamp),
+        } => put_data(room, from, digits, place, width, value, marked, stamp),
         StpItem::Flag { place, stamp } => {
             let from = put_bytes(room, from, b"flag ");
-            let from = put_place(room, from, place);
+            let from = digits.place.put(room, from, place);
             let from = put_byte(room, from, b' ');
             put_stamp(room, from, stamp)
         }

@@ -6,7 +6,8 @@ use crate::items::put_item;
 use crate::lines::{EventLine, ItmLine};
 use crate::stp::put_stp;
 use crate::{
-    EndLine, FaultLine, LastLine, LimitLine, PortCountsLines, PortEndLine, Remark, SourceEndLine,
+    EndLine, FaultLine, LastLine, LimitLine, PortCountsLines, PortEndLine, Remark, ScriptFaultLine,
+    SourceEndLine,
 };
 use itm_grammar::packet::{ItmPacket, Lateness, Size};
 use itm_grammar::proper::is_proper;
@@ -97,6 +98,12 @@ fn lines_at_the_end(rt: HostRuntime) {
         b"full 18446744073709551615\nhalf 0\nframes 18446744073709551615\n",
     );
     check(&rt, &LimitLine { limit: 5 }, b"limit 5\n");
+    let fault = ScriptFaultLine {
+        line: 10,
+        number: 4,
+        name: "BadNumber",
+    };
+    check(&rt, &fault, b"line 10 4 BadNumber\n");
     check(
         &rt,
         &LastLine {
@@ -219,7 +226,7 @@ fn check_event(rt: &impl Abort, event: &Event<Packet>, stp: bool, remark: Remark
     requires { IsPrintable event.now remark }
 {
     let mut digits = Digits::new();
-    digits.keep(event.at);
+    digits.keep_event(event);
     let line = EventLine {
         digits: &digits,
         event,
@@ -484,8 +491,10 @@ fn texts_of_hardware_packets(rt: HostRuntime) {
 
 fn check_item(rt: &impl Abort, item: StpItem, expected: &[u8]) {
     assert!(rt; is_proper_stp(&item));
+    let mut kept = Digits::new();
+    kept.keep_item(&item);
     let mut room = [b'.'; TEXT_ROOM];
-    let end = put_stp(&mut room, 0, &item);
+    let end = put_stp(&mut room, 0, &kept, &item);
     assert_eq!(rt; &room[..end], expected);
 }
 
@@ -658,8 +667,10 @@ fn texts_of_stp_items(rt: HostRuntime) {
 fn check_raw(rt: &impl Abort, size: u8, word: u64, digits: &[u8]) {
     let item = stamped(Stamp::Raw { size, word });
     assert!(rt; is_proper_stp(&item));
+    let mut kept = Digits::new();
+    kept.keep_item(&item);
     let mut room = [b'.'; TEXT_ROOM];
-    let end = put_stp(&mut room, 0, &item);
+    let end = put_stp(&mut room, 0, &kept, &item);
     assert!(rt; 9 <= end);
     assert_eq!(rt; &room[..9], b"nullts r=".as_slice());
     assert_eq!(rt; &room[9..end], digits, "{size}");

@@ -1,0 +1,6 @@
+use Rattle.trace_text.proofs.Fours.{joined}
+use Rattle.trace_text.proofs.room.put_eight.Goals as goal
+
+pub returns-clause-text : goal.returns-clause-text
+returns-clause-text c =
+    joined _ _ _ _ _ c.put_four.ensures.text c.put_four-from.ensures.text

@@ -1,0 +1,57 @@
+//! The text of a place that is kept from one line to the next.
+
+ghost use Rattle.std.specs.Prelude.{◌≡◌, ◌+◌, ◌≤◌, ◌++◌, length, take};
+ghost use Rattle.trace_text.specs.StpText.{place_text};
+
+use crate::room::put_front;
+use crate::stp::{PLACE_ROOM, put_place};
+use stp_grammar::item::Place;
+
+/// Bytes of room that the text of a place is copied into.
+pub(crate) const PLACE_COPY: usize = 16;
+
+/// The text of the last place, which is that of most items that follow.
+#[derive(Debug, Drop)]
+pub(crate) struct PlaceText {
+    place: Place,
+    text: [u8; PLACE_COPY],
+    len: usize,
+    ghost few: { len ≤ 11 },
+    ghost sized: { length text ≡ 16 },
+    ghost kept: { take len text ≡ place_text place },
+}
+
+impl PlaceText {
+    ghost use Rattle.trace_text.specs.Digits.{place_of};
+
+    /// The text of this place.
+    pub(crate) fn of(place: Place) -> PlaceText
+        ensures { place_of result ≡ place }
+    {
+        let mut text = [0; PLACE_COPY];
+        let len = put_place(&mut text, 0, place);
+        PlaceText { place, text, len }
+    }
+
+    /// Keeps the text of this place.
+    #[inline(always)]
+    pub(crate) fn keep(&mut self, place: Place)
+        ensures { place_of self.new ≡ place }
+    {
+        if place != self.place {
+            *self = PlaceText::of(place);
+        }
+    }
+
+    /// Puts the place whose text is kept: `M C`.
+    #[inline(always)]
+    pub(crate) fn put(&self, room: &mut [u8], from: usize, place: Place) -> usize
+        requires kept { place_of self.now ≡ place }
+        requires room { from + PLACE_COPY ≤ length room.old }
+        ensures text { take result room.new ≡ take from room.old ++ place_text place }
+        ensures same { length room.new ≡ length room.old }
+        ensures end { result ≤ from + PLACE_ROOM }
+    {
+        put_front(room, from, &self.text, self.len)
+    }
+}
