@@ -45,14 +45,16 @@ lines_more plan u n before old new e f =
 
 -- the counts of all, put one after the other
 pub all_counts : (plan : Plan) (u : List Placed) (start first second last : List ℕ) (counts : PortCounts) (tails : Tails) →
-    start ≡ [] → counts ≡ port_counts_of plan u →
+    counts ≡ port_counts_of plan u →
     first ≡ start ++ port_counts_text counts.fulls counts.halves counts.frames →
     second ≡ first ++ sources_text plan u ID_COUNT → tails ≡ tails_of plan u → last ≡ second ++ tails_text tails →
-    last ≡ counts_text plan u
-all_counts plan u start first second last counts tails empty c f s t l =
+    last ≡ start ++ counts_text plan u
+all_counts plan u start first second last counts tails c f s t l =
     let port : PortCounts → List ℕ = λ k. port_counts_text k.fulls k.halves k.frames in
+    let sources = sources_text plan u ID_COUNT in
+    let ends = tails_text (tails_of plan u) in
     l ∙ ap (λ (k : Tails). second ++ tails_text k) t
-    ∙ ap (λ (x : List ℕ). x ++ tails_text (tails_of plan u)) s
-    ∙ ap (λ (x : List ℕ). (x ++ sources_text plan u ID_COUNT) ++ tails_text (tails_of plan u))
-    (f ∙ ap (λ (x : List ℕ). x ++ port counts) empty ∙ ap port c)
-    ∙ append_assoc (port (port_counts_of plan u)) (sources_text plan u ID_COUNT) (tails_text (tails_of plan u))
+    ∙ ap (λ (x : List ℕ). x ++ ends) s
+    ∙ ap (λ (x : List ℕ). (x ++ sources) ++ ends) (f ∙ ap (λ (k : PortCounts). start ++ port k) c)
+    ∙ append_assoc (start ++ port (port_counts_of plan u)) sources ends
+    ∙ append_assoc start (port (port_counts_of plan u)) (sources ++ ends)

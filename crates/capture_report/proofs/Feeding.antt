@@ -141,3 +141,24 @@ module _ (old new : Engine) (seen bytes : List ℕ) (at : ℕ) (given : List (Ev
 
   pub flow_after : FlowAfter (IsFaulty (plan_of old)) (seen ++ bytes) (flow_by flow)
   flow_after = flows (plan_of old) seen bytes at given flow here fed none
+
+-- an engine after a whole frame that it counted, and what an action keeps of it
+module _ (old new : Engine) (seen bytes : List ℕ) (at : ℕ) (stands : Stands old (placed seen)) (next : at ≡ next_of old)
+    (same : plan_of new ≡ plan_of old) (live : is_live new ≡ true) (list : Stands new (placed seen ++ placed_from at bytes)) where
+  pub counted_stands : Stands new (placed (seen ++ bytes))
+  counted_stands =
+      subst (λ (u : List Placed). Stands new u) (next_bytes seen bytes at (next ∙ stands.next ∙ capture_end seen)) list
+
+  counted_none : fault_of (plan_of new) (placed (seen ++ bytes)) ≡ None
+  counted_none = is_nothing (fault_of (plan_of new) (placed (seen ++ bytes))) (sym live ∙ counted_stands.live)
+
+  pub counted_stop : (stop : Option Stop) → is_none stop ≡ true →
+      option_map stop_of stop ≡ fault_of (plan_of new) (placed (seen ++ bytes))
+  counted_stop None h = sym counted_none
+  counted_stop (Some stop) h = cc
+
+  pub counted_on : FlowAfter (IsFaulty (plan_of old)) (seen ++ bytes) On
+  counted_on h =
+      (let k : fault_of (plan_of old) (placed (seen ++ bytes)) ≡ None =
+      sym (ap (λ (plan : Plan). fault_of plan (placed (seen ++ bytes))) same) ∙ counted_none in
+      let l = ap (λ (o : Fault). is_none o) k in let m = h in cc)

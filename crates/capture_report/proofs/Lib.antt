@@ -4,3 +4,5 @@ pub mod Printing
 pub mod Sources
 pub mod Counting
 pub mod Shown
+pub mod Filtering
+pub mod Choosing

@@ -5,7 +5,9 @@ pub mod FaultyLaws
 pub mod Listing
 pub mod LineLaws
 pub mod ListingLaws
+pub mod Filtered
 pub mod SourceClocks
+pub mod Filter
 pub mod Show
 pub mod Summary
 pub mod CheckLaws

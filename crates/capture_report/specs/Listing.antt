@@ -1,5 +1,5 @@
 -- What `show` writes: the lines of the events of a capture's report, and the end lines or the line of its fault.
-use Rattle.std.specs.Prelude.{ℕ, List, [], ◌∷◌, ◌++◌, flat_map, Option, Some, None, Bool, true}
+use Rattle.std.specs.Prelude.{ℕ, List, [], ◌∷◌, ◌++◌, flat_map, filter, Option, Some, None, Bool, true, not, ◌&&◌, ◌||◌}
 use Rattle.std.specs.Prelude.{if◌then◌else◌}
 use Rattle.trace_values.specs.declared.fault.Reason.{Reason}
 use Rattle.trace_values.specs.Placed.{Place, Placed, placed}
@@ -15,8 +15,10 @@ use Rattle.source_events.specs.Merge.{is_of}
 use Rattle.source_events.specs.Report.{is_item}
 use Rattle.source_events.specs.Tails.{tails_of}
 use Rattle.source_merge.specs.Answering.{report_of, fault_of}
+use Rattle.item_tap.specs.declared.bounds.Bounds.{Bounds}
 use Rattle.item_tap.specs.declared.choice.Choice.{Choice}
 use Rattle.item_tap.specs.Choices.{holds}
+use Rattle.item_tap.specs.Windows.{passes}
 use Rattle.trace_text.specs.declared.remark.Remark.{Remark}
 use Rattle.trace_text.specs.declared.remark.Remark.TheVariants.{None as NoRemark}
 use Rattle.trace_text.specs.LineText.{event_line}
@@ -40,15 +42,28 @@ abbrev pub remark_of : List ItmPacket → What Packet → Remark
 remark_of before (Said (Itm packet)) = remark_by (before ++ packet ∷ []) packet
 remark_of before what = NoRemark
 
--- an event is listed where it meets the choice; the notice of a lock always is
-abbrev pub is_listed : Option Choice → Event Packet → Bool
-is_listed None e = true
-is_listed (Some choice) e = if is_item e.what then holds choice e else true
+-- the events that are no notices of locks
+abbrev pub items_in : List (Event Packet) → List (Event Packet)
+items_in es = filter (λ e. is_item e.what) es
+
+-- an event meets the choice, if there is one
+abbrev pub meets : Option Choice → Event Packet → Bool
+meets None e = true
+meets (Some choice) e = holds choice e
+
+-- an event after these is within the window, if there is one; a window does not see notices
+abbrev pub is_within : Option Bounds → List (Event Packet) → Event Packet → Bool
+is_within None before e = true
+is_within (Some bounds) before e = passes (holds bounds.first) (holds bounds.last) (items_in before) e
+
+-- an event is listed where it is within the window and meets the choice; the notice of a lock always is
+abbrev pub is_listed : Option Choice → Option Bounds → List (Event Packet) → Event Packet → Bool
+is_listed only window before e = is_within window before e && meets only e || not (is_item e.what)
 
 -- the line of an event after those before it; none where it is not listed
 abbrev pub line_after : ListPlan → List (Event Packet) → Event Packet → List ℕ
 line_after p before e =
-    if is_listed p.only e
+    if is_listed p.only p.window before e
     then event_line (is_stp p.plan e.source) e (remark_of (itm_packets e.source before) e.what)
     else []
 

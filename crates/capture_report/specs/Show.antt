@@ -4,18 +4,21 @@ use Rattle.trace_values.specs.Placed.{placed}
 use Rattle.source_events.specs.Report.{stop_of}
 use Rattle.source_merge.specs.Answering.{report_of, fault_of}
 use Rattle.source_merge.specs.Engine as reading
+use Rattle.capture_report.specs.Filter.{plan_by, HasSeen}
 use Rattle.capture_report.specs.SourceClocks.{AllStand}
 use Rattle.capture_report.specs.declared.list_plan.ListPlan.{ListPlan}
 use Rattle.capture_report.specs.declared.show.Show.{Show}
 
 -- what it was asked for
 abbrev pub plan_of : Show → ListPlan
-plan_of show = record { plan = reading.plan_of show.engine; only = show.only }
+plan_of show = plan_by (reading.plan_of show.engine) show.filter
 
--- its engine stands for these bytes, its clocks have taken their packets, and it keeps the fault of their report
+-- its engine stands for these bytes, its clocks have taken their packets, its window has seen their events, and it keeps
+-- the fault of their report
 pub record Stands (show : Show) (seen : List ℕ) : Type 0 where
   pub engine : reading.Stands show.engine (placed seen)
   pub clocks : AllStand show.clocks (report_of (reading.plan_of show.engine) (placed seen))
+  pub filter : HasSeen show.filter (report_of (reading.plan_of show.engine) (placed seen))
   pub stop : option_map stop_of show.stop ≡ fault_of (reading.plan_of show.engine) (placed seen)
 
 -- how many bytes it took

@@ -1,8 +1,7 @@
 //! `check`: how many synchronisations and frames a port has, how much each source sent, and how the capture ends.
 
-ghost use Rattle.std.specs.Prelude.{◌≡◌, ◌+◌, ◌*◌, ◌^◌, ◌≤◌, ◌++◌, [], ℕ, List, length, is_none, true};
+ghost use Rattle.std.specs.Prelude.{◌≡◌, ◌+◌, ◌*◌, ◌^◌, ◌<◌, ◌≤◌, ◌++◌, [], ℕ, List, length, is_none, true};
 ghost use Rattle.trace_values.specs.Placed.{Placed};
-ghost use Rattle.trace_stream.specs.declared.outlet.TheConstants.{OUTLET_ROOM, TEXT_ROOM};
 ghost use Rattle.source_events.specs.Plan.{is_sound};
 ghost use Rattle.source_events.specs.Tails.{source_counts_of};
 ghost use Rattle.source_merge.specs.Engine as engine;
@@ -14,12 +13,15 @@ use crate::stopping::keep_stop;
 use source_counts::Counts;
 use source_events::{Plan, Stop};
 use source_merge::{Engine, Events, flow_after};
-use trace_stream::{Action, Outlet, Taken};
-use trace_text::{PortCountsLines, print_fault, print_tails, put_source_counts};
+use trace_stream::{Action, Flow, OUTLET_ROOM, Outlet, TEXT_ROOM, Taken};
+use trace_text::{PortCountsLines, TAILS_ROOM, print_fault, print_tails, put_source_counts};
 use trace_values::{ID_COUNT, SourceId};
 
 /// The most bytes of the line of what a source sent, in a capture.
 const SOURCE_ROOM: usize = 44;
+
+/// Bytes of room that a summary is given: more than any has.
+pub const SUMMARY_ROOM: usize = ID_COUNT * SOURCE_ROOM + TAILS_ROOM + 2 * TEXT_ROOM;
 
 /// The reading of a capture.
 #[derive(Drop)]
@@ -72,9 +74,23 @@ fn put_sources(outlet: &mut Outlet, reading: &Engine)
     }
 }
 
+/// How many bytes of a piece are fed at once: a halfword that FF begins alone, since a frame that may be counted whole can
+/// come after a synchronisation.
+#[inline]
+fn front_length(piece: &[u8]) -> usize
+    requires { 0 < length piece.now }
+    ensures { (0 < result) × (result ≤ length piece.now) }
+{
+    if piece[0] == 0xFF && piece.len() > 2 {
+        2
+    } else {
+        piece.len()
+    }
+}
+
 impl Check {
     ghost use Rattle.source_events.specs.declared.plan.Plan.{Plan};
-    ghost use Rattle.capture_report.specs.Summary.{counts_text};
+    ghost use Rattle.capture_report.specs.Summary.{counts_text, summary};
     ghost use Rattle.capture_report.specs.Check.{Stands, plan_of, taken_by, IsLive};
 
     /// Nothing is read yet. The plan is sound.
@@ -94,9 +110,10 @@ impl Check {
 
     /// The counts of all, and the end lines.
     fn put_counts(&self, outlet: &mut Outlet)
-        requires empty { outlet.old ≡ [] }
+        requires room { length outlet.old + SUMMARY_ROOM ≤ OUTLET_ROOM }
         requires live { IsLive self.now }
-        ensures { (u : List Placed) → engine.Stands self.now.engine u → outlet.new ≡ counts_text (plan_of self.now) u }
+        ensures { (u : List Placed) → engine.Stands self.now.engine u →
+            outlet.new ≡ outlet.old ++ counts_text (plan_of self.now) u }
     {
         let counts = self.engine.port_counts();
         outlet.put(&PortCountsLines {
@@ -106,6 +123,17 @@ impl Check {
         });
         put_sources(outlet, &self.engine);
         print_tails(outlet, &self.engine.finish());
+    }
+
+    /// Puts the summary of the bytes that were taken: the counts and the end lines, or the line of the fault alone.
+    pub fn put_summary(&self, outlet: &mut Outlet)
+        requires room { length outlet.old + SUMMARY_ROOM ≤ OUTLET_ROOM }
+        ensures { (seen : List ℕ) → Stands self.now seen → outlet.new ≡ outlet.old ++ summary (plan_of self.now) seen }
+    {
+        match &self.stop {
+            None => self.put_counts(outlet),
+            Some(stop) => print_fault(outlet, stop, sends_stp(self.engine.plan(), stop.source)),
+        }
     }
 }
 
@@ -144,8 +172,15 @@ impl Action for Check {
 
     ghost text_grows = { text_grows };
 
+    /// A whole frame is counted at once where no source is mapped.
     fn feed(&mut self, piece: &[u8], _outlet: &mut Outlet) -> Taken {
         let at = self.engine.next();
+        if let Some(bytes) = self.engine.count_frame(at, piece) {
+            return Taken {
+                bytes,
+                flow: Flow::On,
+            };
+        }
         if let Some(block) = self.engine.feed_bare(at, piece) {
             let flow = keep_stop(&mut self.stop, flow_after(&block.step));
             return Taken {
@@ -154,7 +189,10 @@ impl Action for Check {
             };
         }
         self.events.clear();
-        let fed = self.engine.feed_block(at, piece, &mut self.events);
+        let front = front_length(piece);
+        let fed = self
+            .engine
+            .feed_block(at, &piece[..front], &mut self.events);
         let flow = keep_stop(&mut self.stop, fed.flow);
         Taken {
             bytes: fed.bytes,
@@ -163,9 +201,6 @@ impl Action for Check {
     }
 
     fn finish(&self, outlet: &mut Outlet) {
-        match &self.stop {
-            None => self.put_counts(outlet),
-            Some(stop) => print_fault(outlet, stop, sends_stp(self.engine.plan(), stop.source)),
-        }
+        self.put_summary(outlet);
     }
 }

@@ -4,12 +4,16 @@
 
 mod check;
 mod clocks;
+mod filter;
+pub mod laws;
 mod list_plan;
 pub mod rows;
 mod show;
 mod source_clocks;
 mod stopping;
+#[cfg(test)]
+mod tests;
 
-pub use check::Check;
+pub use check::{Check, SUMMARY_ROOM};
 pub use list_plan::ListPlan;
 pub use show::Show;

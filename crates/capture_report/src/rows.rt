@@ -3,7 +3,9 @@
 ghost use Rattle.std.specs.Prelude.{◌≡◌, codes};
 ghost use Rattle.capture_plan.specs.declared.frames.FramesMode.TheVariants.{Hunt as FramesHunt, Aligned as FramesAligned, Bare};
 ghost use Rattle.capture_plan.specs.declared.packets.PacketsMode.TheVariants.{Hunt, Aligned};
-ghost use Rattle.capture_report.specs.Rows.{raw, itm, stp, stp_lsn, both, listing_row, summary_row};
+ghost use Rattle.item_tap.specs.declared.choice.Choice.TheVariants.{OfKind, Source, Port};
+ghost use Rattle.item_tap.specs.declared.choice.Kind.TheVariants.{Itm, Dwt, Stp, Raw};
+ghost use Rattle.capture_report.specs.Rows.{raw, itm, stp, stp_lsn, both, mixed, listing_row, window_row, both_row, summary_row};
 
 /// Sources that are not mapped: raw bytes by run, bytes of the trigger source, and the port's lock.
 pub fn raw_sources()
@@ -51,6 +53,29 @@ pub fn bare_packets()
         codes "9 1 locked 4\n9 1 sync\nend 10\nport bare skipped 0 tail 0 unattributed 0\n1 itm locked skipped 4 tail 0\n" }
     ensures another { listing_row (itm Bare Hunt 2) (codes "41") ≡
         codes "0 1 raw 41\nend 1\nport bare skipped 0 tail 0 unattributed 0\n2 itm hunting skipped 0 tail 0\n" }
+{}
+
+/// A capture in frames with an ITM source 1, an STP source 2 and a raw source, with several windows: notices and end lines
+/// are always there.
+pub fn windows()
+    ensures raw_to_port { window_row (OfKind Raw) (Port 0) (both FramesHunt Hunt 1 2) mixed ≡
+        codes "3 port locked 0\n11 1 locked 0\n23.1 2 locked 0\n27 16 raw a5\n31 1 port 0 u8 41\nend 52\nport locked skipped 0 tail 0 unattributed 0\n1 itm locked skipped 0 tail 0\n2 stp locked skipped 0 tail 0\n" }
+    ensures opens_again { window_row (OfKind Itm) (OfKind Stp) (both FramesHunt Hunt 1 2) mixed ≡
+        codes "3 port locked 0\n11 1 locked 0\n11 1 sync\n23.1 2 locked 0\n23.1 2 async\n31 1 port 0 u8 41\n37.0 2 data 1 0 u8 42 - n=5\nend 52\nport locked skipped 0 tail 0 unattributed 0\n1 itm locked skipped 0 tail 0\n2 stp locked skipped 0 tail 0\n" }
+    ensures closes_at_once { window_row (Source 1) (Source 1) (both FramesHunt Hunt 1 2) mixed ≡
+        codes "3 port locked 0\n11 1 locked 0\n11 1 sync\n23.1 2 locked 0\n31 1 port 0 u8 41\nend 52\nport locked skipped 0 tail 0 unattributed 0\n1 itm locked skipped 0 tail 0\n2 stp locked skipped 0 tail 0\n" }
+    ensures never_opens { window_row (OfKind Dwt) (OfKind Itm) (both FramesHunt Hunt 1 2) mixed ≡
+        codes "3 port locked 0\n11 1 locked 0\n23.1 2 locked 0\nend 52\nport locked skipped 0 tail 0 unattributed 0\n1 itm locked skipped 0 tail 0\n2 stp locked skipped 0 tail 0\n" }
+    ensures beside_a_choice { both_row (OfKind Itm) (OfKind Raw) (OfKind Stp) (both FramesHunt Hunt 1 2) mixed ≡
+        codes "3 port locked 0\n11 1 locked 0\n23.1 2 locked 0\n31 1 port 0 u8 41\nend 52\nport locked skipped 0 tail 0 unattributed 0\n1 itm locked skipped 0 tail 0\n2 stp locked skipped 0 tail 0\n" }
+{}
+
+/// A bare capture with a window: a time counts what is not listed, and the line of a fault is always there.
+pub fn bare_windows()
+    ensures never_closes { window_row (Port 0) (OfKind Dwt) (itm Bare Aligned 1) (codes "C0 88 01 01 41 20") ≡
+        codes "4 1 port 0 u8 41\n5 1 local exact 2 clock=138\nend 6\nport bare skipped 0 tail 0 unattributed 0\n1 itm aligned skipped 0 tail 0\n" }
+    ensures fault { window_row (OfKind Raw) (OfKind Raw) (itm Bare Aligned 1) (codes "03 00 00 00 00 80") ≡
+        codes "fault 5 1 3 ReservedHeader\n" }
 {}
 
 /// What is counted in captures in frames, in one that has lost its front, in a bare one, and of a mapped source.

@@ -1,6 +1,6 @@
 //! `show`: the listing of the events of a capture.
 
-ghost use Rattle.std.specs.Prelude.{◌≡◌, ◌+◌, ◌≤◌, ◌++◌, [], List, length, is_none, Some, IfSome, true, if◌then◌else◌};
+ghost use Rattle.std.specs.Prelude.{◌≡◌, ◌+◌, ◌≤◌, ◌++◌, ◌∷◌, [], List, length, is_none, Some, IfSome, true, if◌then◌else◌};
 ghost use Rattle.arrayvec.specs.ArrayVec.{array_vec_len};
 ghost use Rattle.trace_stream.specs.declared.action.TheConstants.{ACTION_ROOM};
 ghost use Rattle.source_events.specs.declared.event.Event.{Event};
@@ -15,14 +15,14 @@ ghost use Rattle.trace_text.specs.LineText.{event_line};
 ghost use Rattle.trace_text.specs.Printable.{Suits};
 ghost use Rattle.trace_stream.specs.declared.outlet.TheConstants.{TEXT_ROOM, OUTLET_ROOM};
 ghost use Rattle.capture_report.specs.Faulty.{is_stp};
+ghost use Rattle.capture_report.specs.Filter.{plan_by, HasSeen};
 ghost use Rattle.capture_report.specs.Listing.{is_listed, lines_after};
 ghost use Rattle.capture_report.specs.SourceClocks.{AllStand};
-ghost use Rattle.capture_report.specs.declared.list_plan.ListPlan.{ListPlan};
 
+use crate::filter::Filter;
 use crate::list_plan::ListPlan;
 use crate::source_clocks::SourceClocks;
 use crate::stopping::keep_stop;
-use item_tap::Choice;
 use source_events::{Event, Packet, Plan, Stop, What};
 use source_merge::{Engine, Events, bare_source, flow_after, note_bare};
 use trace_stream::{Action, Flow, OUTLET_ROOM, Outlet, Taken};
@@ -33,10 +33,10 @@ use trace_values::{SourceId, Step};
 #[derive(Drop)]
 pub struct Show {
     engine: Engine,
-    /// Which events are listed: those that meet this choice, or all.
-    only: Option<Choice>,
     /// The events of the bytes that were taken last.
     events: Events,
+    /// Which events are listed.
+    filter: Filter,
     clocks: SourceClocks,
     digits: Digits,
     stop: Option<Stop>,
@@ -54,38 +54,29 @@ pub(crate) fn sends_stp(plan: &Plan, source: Option<SourceId>) -> bool
     }
 }
 
-/// The event is listed.
-#[inline]
-fn lists(only: &Option<Choice>, event: &Event<Packet>) -> bool
-    ensures { result ≡ is_listed only.now event.now }
-{
-    match only {
-        None => true,
-        Some(choice) => match event.what {
-            What::Locked(_) => true,
-            What::Packet(_) | What::Raw(_) | What::Trigger(_) => choice.holds_for(event),
-        },
-    }
-}
-
-/// Puts the line of an event with what the clocks say beside it, if it is listed.
+/// Puts the line of the next event with what the clocks say beside it, if it is listed.
 #[inline(always)]
 fn put_event(
     outlet: &mut Outlet,
     digits: &mut Digits,
+    filter: &mut Filter,
     plan: &Plan,
-    only: &Option<Choice>,
     event: &Event<Packet>,
     remark: Remark,
 )
     requires fits { EventFits PacketFits event.now }
     requires suits { Suits event.now.what remark }
     requires room { length outlet.old + TEXT_ROOM ≤ OUTLET_ROOM }
-    ensures text { outlet.new ≡ outlet.old ++
-        (if is_listed only.now event.now then event_line (is_stp plan.now event.now.source) event.now remark else []) }
+    ensures text { (before : List (Event Packet)) → HasSeen filter.old before →
+        let p = plan_by plan.now filter.old in
+        let line = event_line (is_stp p.plan event.now.source) event.now remark in
+        outlet.new ≡ outlet.old ++ (if is_listed p.only p.window before event.now then line else []) }
+    ensures seen { (before : List (Event Packet)) → HasSeen filter.old before →
+        HasSeen filter.new (before ++ event.now ∷ []) }
+    ensures same { plan_by plan.now filter.new ≡ plan_by plan.now filter.old }
     ensures bound { length outlet.new ≤ length outlet.old + EVENT_ROOM }
 {
-    if lists(only, event) {
+    if filter.lists(event) {
         print(outlet, digits, event, sends_stp(plan, event.source), remark);
     }
 }
@@ -95,21 +86,24 @@ fn put_events(
     outlet: &mut Outlet,
     digits: &mut Digits,
     clocks: &mut SourceClocks,
+    filter: &mut Filter,
     plan: &Plan,
-    only: &Option<Choice>,
     events: &[Event<Packet>],
 )
     requires fits { AllFit PacketFits events.now }
     requires few { length events.now ≤ 30 }
     requires room { length outlet.old + ACTION_ROOM ≤ OUTLET_ROOM }
-    ensures text { (before : List (Event Packet)) → AllStand clocks.old before →
-        outlet.new ≡ outlet.old ++ lines_after (record { plan = plan.now; only = only.now }) before events.now }
+    ensures text { (before : List (Event Packet)) → AllStand clocks.old before → HasSeen filter.old before →
+        outlet.new ≡ outlet.old ++ lines_after (plan_by plan.now filter.old) before events.now }
     ensures clocks { (before : List (Event Packet)) → AllStand clocks.old before →
         AllStand clocks.new (before ++ events.now) }
+    ensures seen { (before : List (Event Packet)) → HasSeen filter.old before →
+        HasSeen filter.new (before ++ events.now) }
+    ensures same { plan_by plan.now filter.new ≡ plan_by plan.now filter.old }
 {
     for event in events {
         let remark = clocks.remark(event);
-        put_event(outlet, digits, plan, only, event, remark);
+        put_event(outlet, digits, filter, plan, event, remark);
     }
 }
 
@@ -119,19 +113,21 @@ fn put_packet(
     outlet: &mut Outlet,
     digits: &mut Digits,
     clocks: &mut SourceClocks,
+    filter: &mut Filter,
     plan: &Plan,
-    only: &Option<Choice>,
     at: u64,
     half: u8,
     packet: Packet,
 )
     requires fits { PacketFits packet }
     requires room { length outlet.old + TEXT_ROOM ≤ OUTLET_ROOM }
-    ensures text { (before : List (Event Packet)) → AllStand clocks.old before →
-        let p : ListPlan = record { plan = plan.now; only = only.now } in
-        outlet.new ≡ outlet.old ++ lines_after p before (bare_events at (Some (Item half packet))) }
+    ensures text { (before : List (Event Packet)) → AllStand clocks.old before → HasSeen filter.old before →
+        outlet.new ≡ outlet.old ++ lines_after (plan_by plan.now filter.old) before (bare_events at (Some (Item half packet))) }
     ensures clocks { (before : List (Event Packet)) → AllStand clocks.old before →
         AllStand clocks.new (before ++ bare_events at (Some (Item half packet))) }
+    ensures seen { (before : List (Event Packet)) → HasSeen filter.old before →
+        HasSeen filter.new (before ++ bare_events at (Some (Item half packet))) }
+    ensures same { plan_by plan.now filter.new ≡ plan_by plan.now filter.old }
 {
     let event = Event {
         at,
@@ -140,7 +136,7 @@ fn put_packet(
         what: What::Packet(packet),
     };
     let remark = clocks.remark(&event);
-    put_event(outlet, digits, plan, only, &event, remark);
+    put_event(outlet, digits, filter, plan, &event, remark);
 }
 
 /// Puts the lines of what the answer to the byte at this offset gives, in a capture with no formatter. The events are
@@ -150,29 +146,33 @@ fn put_answer(
     outlet: &mut Outlet,
     digits: &mut Digits,
     clocks: &mut SourceClocks,
+    filter: &mut Filter,
     plan: &Plan,
-    only: &Option<Choice>,
     events: &mut Events,
     at: u64,
     step: Option<Step<Packet>>,
 )
     requires fits { IfSome step (StepFits PacketFits) }
     requires room { length outlet.old + ACTION_ROOM ≤ OUTLET_ROOM }
-    ensures text { (before : List (Event Packet)) → AllStand clocks.old before →
-        let p : ListPlan = record { plan = plan.now; only = only.now } in
-        outlet.new ≡ outlet.old ++ lines_after p before (bare_events at step) }
+    ensures text { (before : List (Event Packet)) → AllStand clocks.old before → HasSeen filter.old before →
+        outlet.new ≡ outlet.old ++ lines_after (plan_by plan.now filter.old) before (bare_events at step) }
     ensures clocks { (before : List (Event Packet)) → AllStand clocks.old before →
         AllStand clocks.new (before ++ bare_events at step) }
+    ensures seen { (before : List (Event Packet)) → HasSeen filter.old before →
+        HasSeen filter.new (before ++ bare_events at step) }
+    ensures same { plan_by plan.now filter.new ≡ plan_by plan.now filter.old }
 {
     let Some(answer) = step else {
         return;
     };
     match answer {
-        Step::Item { half, item } => put_packet(outlet, digits, clocks, plan, only, at, half, item),
+        Step::Item { half, item } => put_packet(
+            outlet, digits, clocks, filter, plan, at, half, item,
+        ),
         _ => {
             events.clear();
             note_bare(events, at, Some(answer));
-            put_events(outlet, digits, clocks, plan, only, events.as_slice());
+            put_events(outlet, digits, clocks, filter, plan, events.as_slice());
         }
     }
 }
@@ -190,8 +190,8 @@ impl Show {
     {
         Show {
             engine: Engine::new(plan.plan),
-            only: plan.only,
             events: Events::new(),
+            filter: Filter::new(plan.only, plan.window),
             clocks: SourceClocks::new(),
             digits: Digits::new(),
             stop: None,
@@ -240,8 +240,8 @@ impl Action for Show {
                 outlet,
                 &mut self.digits,
                 &mut self.clocks,
+                &mut self.filter,
                 self.engine.plan(),
-                &self.only,
                 at + (bytes as u64 - 1),
                 0,
                 packet,
@@ -256,8 +256,8 @@ impl Action for Show {
                 outlet,
                 &mut self.digits,
                 &mut self.clocks,
+                &mut self.filter,
                 self.engine.plan(),
-                &self.only,
                 &mut self.events,
                 at + (block.bytes as u64 - 1),
                 block.step,
@@ -274,8 +274,8 @@ impl Action for Show {
             outlet,
             &mut self.digits,
             &mut self.clocks,
+            &mut self.filter,
             self.engine.plan(),
-            &self.only,
             self.events.as_slice(),
         );
         let flow = keep_stop(&mut self.stop, fed.flow);

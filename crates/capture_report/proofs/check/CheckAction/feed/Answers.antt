@@ -1,4 +1,5 @@
-use Rattle.std.proofs.Common.{◌≡◌, ◌∙◌, ◌+◌, ◌-◌, ◌++◌, [], List, Option, refl, sym, ap, subst, append-nil, take}
+use Rattle.std.proofs.Common.{ℕ, ◌≡◌, ◌∙◌, ◌+◌, ◌-◌, ◌++◌, [], List, Option, refl, sym, ap, subst, append-nil, take, ◌≤◌, arith}
+use Rattle.std.proofs.lemmas.List.{take-take, length-take-le}
 use Rattle.std.specs.Prelude.{option_map, IfSome}
 use Rattle.trace_values.specs.declared.block.Block.{Block}
 use Rattle.trace_values.specs.Placed.{Placed, placed, placed_from}
@@ -16,22 +17,54 @@ use Rattle.trace_stream.specs.declared.action.Flow.{Flow}
 use Rattle.source_events.specs.Report.{stop_of}
 use Rattle.capture_report.specs.Check.{plan_of}
 use Rattle.capture_report.specs.Faulty.{IsFaulty}
-use Rattle.capture_report.proofs.Feeding.{stands_after, stop_after, flow_after}
+use Rattle.capture_report.proofs.Feeding.{stands_after, stop_after, flow_after, counted_stands, counted_stop, counted_on}
 use Rattle.capture_report.proofs.check.CheckAction.feed.Goals as goal
+
+pub returns-in-Some-clause-fed : goal.returns-in-Some-clause-fed
+returns-in-Some-clause-fed c = λ seen s.
+    let old = c.args.self.now in
+    let new = c.count_frame.new.self in
+    let at = c.next-at.result in
+    let piece = c.args.piece.now in
+    let bytes = take c.in-Some.bytes piece in
+    let list = subst (λ (o : Option ℕ). IfSome o (λ n. engine.Stands new (placed seen ++ placed_from at (take n piece))))
+    c.in-Some.is (c.count_frame.ensures.list (placed seen) s.engine) in
+    let same = c.count_frame.ensures.same in
+    let live = c.count_frame.ensures.live in
+    record {
+      read = record {
+        engine = counted_stands old.engine new seen bytes at s.engine c.next-at.ensures same live list;
+        stop = counted_stop old.engine new seen bytes at s.engine c.next-at.ensures same live list old.stop
+            (sym old.alive ∙ c.requires.live);
+      };
+      more = [];
+      grown = refl;
+      gained = sym (append-nil c.args._outlet.now);
+      goes_on = counted_on old.engine new seen bytes at s.engine c.next-at.ensures same live list;
+    }
 
 pub returns-clause-fed : goal.returns-clause-fed
 returns-clause-fed c = λ seen s.
     let old = c.args.self.now in
     let block = c.feed_block-fed in
     let bytes = take block.result.bytes c.args.piece.now in
+    let front = c.front_length-front in
+    let few : block.result.bytes ≤ front.result =
+    (let a = block.ensures.bytes.1 in let b = length-take-le front.result c.args.piece.now front.ensures.1 in omega arith) in
+    let cut : take block.result.bytes (take front.result c.args.piece.now) ≡ bytes =
+    take-take block.result.bytes front.result c.args.piece.now few in
     let at = c.next-at.result in
-    let is = c.feed_bare.ensures.none c.in_default.is in
+    let is = c.feed_bare.ensures.none c.in_default-feed_bare.is ∙ c.count_frame.ensures.none c.in_default.is in
     let same = subst (λ (k : Engine). engine.plan_of block.new.self ≡ engine.plan_of k) is block.ensures.same in
-    let list = subst (λ (k : Engine). (u : List Placed) → engine.Stands k u → engine.Stands block.new.self (u ++ placed_from at bytes))
-    is block.ensures.list (placed seen) s.engine in
-    let fed = subst (λ (k : Engine). (u : List Placed) → engine.Stands k u →
-    FedAs (Answers (engine.plan_of k) [] Going) (Answers (engine.plan_of k) block.new.out.items block.result.flow) u at bytes)
-    is block.ensures.fed (placed seen) s.engine in
+    let list = subst (λ (l : List ℕ). engine.Stands block.new.self (placed seen ++ placed_from at l)) cut
+    (subst (λ (k : Engine). (u : List Placed) → engine.Stands k u →
+    engine.Stands block.new.self (u ++ placed_from at (take block.result.bytes (take front.result c.args.piece.now))))
+    is block.ensures.list (placed seen) s.engine) in
+    let fed = subst (λ (l : List ℕ). FedAs (Answers (plan_of old) [] Going) (Answers (plan_of old) block.new.out.items block.result.flow) (placed seen) at l) cut
+    (subst (λ (k : Engine). (u : List Placed) → engine.Stands k u →
+    FedAs (Answers (engine.plan_of k) [] Going) (Answers (engine.plan_of k) block.new.out.items block.result.flow) u at
+    (take block.result.bytes (take front.result c.args.piece.now)))
+    is block.ensures.fed (placed seen) s.engine) in
     record {
       read = record {
         engine = stands_after old.engine block.new.self seen bytes c.next-at.result block.new.out.items block.result.flow s.engine
@@ -48,23 +81,27 @@ returns-clause-fed c = λ seen s.
           c.requires.live c.next-at.ensures same list fed);
     }
 
-pub returns-in-Some-clause-fed : goal.returns-in-Some-clause-fed
-returns-in-Some-clause-fed c = λ seen s.
+pub returns-in-Some-feed_bare-clause-fed : goal.returns-in-Some-feed_bare-clause-fed
+returns-in-Some-feed_bare-clause-fed c = λ seen s.
     let old = c.args.self.now in
     let p = plan_of old in
-    let block = c.in-Some.block in
+    let block = c.in-Some-feed_bare.block in
     let piece = c.args.piece.now in
     let at = c.next-at.result in
     let new = c.feed_bare.new.self in
     let events = bare_events (at + (block.bytes - 1)) block.step in
     let flow = bare_flow block.step in
     let bytes = take block.bytes piece in
+    let is = c.count_frame.ensures.none c.in_default.is in
+    let s1 = subst (λ (k : Engine). engine.Stands k (placed seen)) (sym is) s.engine in
     let list = subst (λ (o : Option (Block Packet)). IfSome o (λ b. engine.Stands new (placed seen ++ placed_from at (take b.bytes piece))))
-    c.in-Some.is (c.feed_bare.ensures.list (placed seen) s.engine) in
-    let fed = subst (λ (o : Option (Block Packet)). IfSome o (λ b. FedAs (Answers p [] Going)
-    (Answers p (bare_events (at + (b.bytes - 1)) b.step) (bare_flow b.step)) (placed seen) at (take b.bytes piece)))
-    c.in-Some.is (c.feed_bare.ensures.fed (placed seen) s.engine) in
-    let same = c.feed_bare.ensures.same in
+    c.in-Some-feed_bare.is (c.feed_bare.ensures.list (placed seen) s1) in
+    let fed1 = subst (λ (o : Option (Block Packet)). IfSome o (λ b. FedAs (Answers (engine.plan_of c.count_frame.new.self) [] Going)
+    (Answers (engine.plan_of c.count_frame.new.self) (bare_events (at + (b.bytes - 1)) b.step) (bare_flow b.step)) (placed seen) at (take b.bytes piece)))
+    c.in-Some-feed_bare.is (c.feed_bare.ensures.fed (placed seen) s1) in
+    let fed = subst (λ (k : Engine). FedAs (Answers (engine.plan_of k) [] Going) (Answers (engine.plan_of k) events flow) (placed seen) at bytes)
+    is fed1 in
+    let same = c.feed_bare.ensures.same ∙ ap (λ (k : Engine). engine.plan_of k) is in
     record {
       read = record {
         engine = stands_after old.engine new seen bytes at events flow s.engine c.requires.live c.next-at.ensures same list fed;

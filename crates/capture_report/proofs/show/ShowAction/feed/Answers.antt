@@ -17,13 +17,14 @@ use Rattle.source_merge.specs.declared.flow.Flow.{Flow as Reading}
 use Rattle.source_merge.specs.declared.flow.Flow.TheVariants.{Going}
 use Rattle.source_merge.specs.Engine as engine
 use Rattle.capture_report.specs.Stopping.{flow_by, stop_by}
-use Rattle.source_events.specs.declared.event.Stop.{Stop}
 use Rattle.capture_report.specs.Faulty.{IsFaulty}
+use Rattle.capture_report.specs.Filter.{plan_by, HasSeen}
 use Rattle.capture_report.specs.LineLaws.{lines_append}
 use Rattle.capture_report.specs.Listing.{lines_after}
 use Rattle.capture_report.specs.Show.{plan_of}
 use Rattle.capture_report.specs.SourceClocks.{AllStand}
 use Rattle.capture_report.proofs.Feeding.{stands_after, report_after, report_here, stop_after, flow_after}
+use Rattle.capture_report.proofs.Filtering.{same_asked}
 use Rattle.capture_report.proofs.show.ShowAction.feed.Goals as goal
 
 pub returns-in-Some-clause-fed : goal.returns-in-Some-clause-fed
@@ -49,14 +50,17 @@ returns-in-Some-clause-fed c = λ seen s.
         clocks = subst (λ (es : List (Event Packet)). AllStand c.put_packet.new.clocks es)
             (sym (report_after old.engine new seen bytes at events Going s.engine c.requires.live c.next-at.ensures same list fed))
             (c.put_packet.ensures.clocks report s.clocks);
+        filter = subst (λ (es : List (Event Packet)). HasSeen c.put_packet.new.filter es)
+            (sym (report_after old.engine new seen bytes at events Going s.engine c.requires.live c.next-at.ensures same list fed))
+            (c.put_packet.ensures.seen report s.filter);
         stop = stop_after old.engine new seen bytes at events Going s.engine c.requires.live c.next-at.ensures same list fed
             old.stop (sym old.alive ∙ c.requires.live);
       };
       more = lines_after p report events;
       grown = ap (lines_after p []) (report_here old.engine new seen bytes at events Going s.engine c.requires.live c.next-at.ensures same list fed)
           ∙ lines_append p [] report events;
-      gained = c.put_packet.ensures.text report s.clocks
-          ∙ ap (λ (plan : Plan). c.args.outlet.now ++ lines_after (record { plan = plan; only = old.only }) report events)
+      gained = c.put_packet.ensures.text report s.clocks s.filter
+          ∙ ap (λ (plan : Plan). c.args.outlet.now ++ lines_after (plan_by plan old.filter) report events)
           (c.plan.ensures ∙ same);
       goes_on = flow_after old.engine new seen bytes at events Going s.engine c.requires.live c.next-at.ensures same list fed;
     }
@@ -86,6 +90,11 @@ returns-clause-fed c = λ seen s.
             c.requires.live c.next-at.ensures same list fed))
             (subst (λ (es : List (Event Packet)). AllStand c.put_events.new.clocks (report ++ es)) c.as_slice.ensures.value
             (c.put_events.ensures.clocks report s.clocks));
+        filter = subst (λ (es : List (Event Packet)). HasSeen c.put_events.new.filter es)
+            (sym (report_after old.engine block.new.self seen bytes c.next-at.result events block.result.flow s.engine
+            c.requires.live c.next-at.ensures same list fed))
+            (subst (λ (es : List (Event Packet)). HasSeen c.put_events.new.filter (report ++ es)) c.as_slice.ensures.value
+            (c.put_events.ensures.seen report s.filter));
         stop = ap (option_map stop_of) c.keep_stop-flow-2.ensures.kept
             ∙ stop_after old.engine block.new.self seen bytes c.next-at.result events block.result.flow s.engine
             c.requires.live c.next-at.ensures same list fed old.stop (sym old.alive ∙ c.requires.live);
@@ -94,8 +103,8 @@ returns-clause-fed c = λ seen s.
       grown = ap (lines_after p []) (report_here old.engine block.new.self seen bytes c.next-at.result events block.result.flow s.engine
           c.requires.live c.next-at.ensures same list fed)
           ∙ lines_append p [] report events;
-      gained = c.put_events.ensures.text report s.clocks
-          ∙ ap (λ (plan : Plan). c.args.outlet.now ++ lines_after (record { plan = plan; only = old.only }) report c.as_slice.result.now)
+      gained = c.put_events.ensures.text report s.clocks s.filter
+          ∙ ap (λ (plan : Plan). c.args.outlet.now ++ lines_after (plan_by plan old.filter) report c.as_slice.result.now)
           (c.plan-2.ensures ∙ same)
           ∙ ap (λ (es : List (Event Packet)). c.args.outlet.now ++ lines_after p report es) c.as_slice.ensures.value;
       goes_on = subst (λ (f : Flow). FlowAfter (IsFaulty p.plan) (seen ++ bytes) f) (sym c.keep_stop-flow-2.ensures.flow)
@@ -132,6 +141,9 @@ returns-in-Some-feed_bare-clause-fed c = λ seen s.
         clocks = subst (λ (es : List (Event Packet)). AllStand c.put_answer.new.clocks es)
             (sym (report_after old.engine new seen bytes at events flow s.engine c.requires.live c.next-at.ensures same list fed))
             (c.put_answer.ensures.clocks report s.clocks);
+        filter = subst (λ (es : List (Event Packet)). HasSeen c.put_answer.new.filter es)
+            (sym (report_after old.engine new seen bytes at events flow s.engine c.requires.live c.next-at.ensures same list fed))
+            (c.put_answer.ensures.seen report s.filter);
         stop = ap (option_map stop_of) (c.keep_stop-flow.ensures.kept
             ∙ ap (λ (r : Reading). stop_by r old.stop) c.flow_after.ensures)
             ∙ stop_after old.engine new seen bytes at events flow s.engine c.requires.live c.next-at.ensures same list fed
@@ -140,10 +152,33 @@ returns-in-Some-feed_bare-clause-fed c = λ seen s.
       more = lines_after p report events;
       grown = ap (lines_after p []) (report_here old.engine new seen bytes at events flow s.engine c.requires.live c.next-at.ensures same list fed)
           ∙ lines_append p [] report events;
-      gained = c.put_answer.ensures.text report s.clocks
-          ∙ ap (λ (plan : Plan). c.args.outlet.now ++ lines_after (record { plan = plan; only = old.only }) report events)
+      gained = c.put_answer.ensures.text report s.clocks s.filter
+          ∙ ap (λ (plan : Plan). c.args.outlet.now ++ lines_after (plan_by plan old.filter) report events)
           (c.plan-in-Some-feed_bare.ensures ∙ same);
       goes_on = subst (λ (f : Flow). FlowAfter (IsFaulty p.plan) (seen ++ bytes) f)
           (sym (c.keep_stop-flow.ensures.flow ∙ ap flow_by c.flow_after.ensures))
           (flow_after old.engine new seen bytes at events flow s.engine c.requires.live c.next-at.ensures same list fed);
     }
+
+pub returns-in-Some-clause-same : goal.returns-in-Some-clause-same
+returns-in-Some-clause-same c =
+    let old = c.args.self.now in
+    same_asked (engine.plan_of old.engine) c.plan.result.now (engine.plan_of c.take_packet.new.self) old.filter
+    c.put_packet.new.filter c.plan.ensures c.take_packet.ensures.same c.put_packet.ensures.same
+
+pub returns-clause-same : goal.returns-clause-same
+returns-clause-same c =
+    let old = c.args.self.now in
+    let block = c.feed_block-fed in
+    let is = c.feed_bare.ensures.none c.in_default-feed_bare.is ∙ c.take_packet.ensures.none c.in_default.is in
+    same_asked (engine.plan_of old.engine) c.plan-2.result.now (engine.plan_of block.new.self) old.filter
+    c.put_events.new.filter c.plan-2.ensures (block.ensures.same ∙ ap (λ (k : Engine). engine.plan_of k) is)
+    c.put_events.ensures.same
+
+pub returns-in-Some-feed_bare-clause-same : goal.returns-in-Some-feed_bare-clause-same
+returns-in-Some-feed_bare-clause-same c =
+    let old = c.args.self.now in
+    let is = c.take_packet.ensures.none c.in_default.is in
+    same_asked (engine.plan_of old.engine) c.plan-in-Some-feed_bare.result.now (engine.plan_of c.feed_bare.new.self)
+    old.filter c.put_answer.new.filter c.plan-in-Some-feed_bare.ensures
+    (c.feed_bare.ensures.same ∙ ap (λ (k : Engine). engine.plan_of k) is) c.put_answer.ensures.same
