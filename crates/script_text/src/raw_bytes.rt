@@ -1,6 +1,6 @@
 //! Bytes of sources that are not mapped.
 
-ghost use Rattle.std.specs.Prelude.{◌≡◌, ◌≤◌, length};
+ghost use Rattle.std.specs.Prelude.{◌≡◌, ◌≤◌, ◌∷◌, [], length};
 ghost use Rattle.script_text.specs.Words.{texts};
 ghost use Rattle.script_text.specs.Items.{raw_of as raw_in, bytes_named as named};
 
@@ -28,6 +28,15 @@ impl Model for RawBytes {
 }
 
 impl RawBytes {
+    /// One byte.
+    pub fn of_byte(byte: u8) -> RawBytes
+        ensures { result ≡ byte ∷ [] }
+    {
+        let mut bytes = ArrayVec::new();
+        bytes.push(byte);
+        RawBytes { bytes }
+    }
+
     /// The bytes, in order.
     pub fn as_slice(&self) -> &[u8]
         ensures value { result.now ≡ self.now }

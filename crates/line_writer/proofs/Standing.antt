@@ -1,0 +1,71 @@
+-- A writer of lines, after one more line.
+use Rattle.std.proofs.Common.{◌≡◌, ℕ, List, [], ◌∷◌, ◌++◌, sym, ◌∙◌, ap, subst, append-nil}
+use Rattle.stp_grammar.specs.declared.item.StpItem.{StpItem}
+use Rattle.stp_encoder.specs.Encoder as encoders
+use Rattle.frame_writer.specs.Fronts.{sure}
+use Rattle.frame_writer.specs.Sure.{IsSure}
+use Rattle.frame_writer.specs.declared.sure.SureWriter.{SureWriter}
+use Rattle.script_text.specs.declared.items.Item.{Item}
+use Rattle.script_text.specs.declared.items.Item.TheVariants.{Itm, Dwt, Stp, Raw}
+use Rattle.script_text.specs.declared.lines.Line.{Line}
+use Rattle.script_text.specs.declared.lines.Line.TheVariants.{Nothing, Of}
+use Rattle.line_writer.specs.declared.writer.LineWriter.{LineWriter}
+use Rattle.line_writer.specs.Script.{items_of, given_items, item_bytes, tagged, put_of}
+use Rattle.line_writer.specs.Putting.{Puts}
+use Rattle.line_writer.specs.Encoding.{StandsFor}
+use Rattle.line_writer.specs.Writer.{order_of, IsOfSource, Stands}
+use Rattle.line_writer.proofs.Lines.{put_more, given_more, items_of_source}
+
+pub stands_for : (w : LineWriter) (every halves : ℕ) (lines : List Line) (id : ℕ) (item : Item) → IsOfSource w.stp id item → Stands w every halves lines →
+    StandsFor w.encoder (given_items id lines) item
+stands_for w every halves lines id (Itm p) h s = tt
+stands_for w every halves lines id (Dwt d) h s = tt
+stands_for w every halves lines id (Stp item) h s = s.items id h
+stands_for w every halves lines id (Raw bytes) h s = tt
+
+-- a line that says nothing
+nothing_put : (w : LineWriter) (lines : List Line) → put_of (order_of w) (lines ++ Nothing ∷ []) ≡ put_of (order_of w) lines
+nothing_put w lines = put_more (order_of w) lines Nothing ∙ append-nil (put_of (order_of w) lines)
+
+pub stands_nothing : (w : LineWriter) (every halves : ℕ) (lines : List Line) (line : Line) → line ≡ Nothing → Stands w every halves lines →
+    Stands w every halves (lines ++ line ∷ [])
+stands_nothing w every halves lines line e s =
+    subst (λ l. Stands w every halves (lines ++ l ∷ [])) (sym e) (record {
+      items = λ id of. subst (encoders.Stands w.encoder) (sym (given_more id lines Nothing ∙ append-nil (given_items id lines))) (s.items id of);
+      frames = subst (IsSure w.frames every halves) (sym (nothing_put w lines)) s.frames;
+    })
+
+pub grown_nothing : (w : LineWriter) (every halves : ℕ) (lines : List Line) (line : Line) (out : List ℕ) → line ≡ Nothing → out ≡ [] →
+    sure every halves (put_of (order_of w) (lines ++ line ∷ [])) ≡ sure every halves (put_of (order_of w) lines) ++ out
+grown_nothing w every halves lines line out e none =
+    ap (λ l. sure every halves (put_of (order_of w) (lines ++ l ∷ []))) e
+    ∙ ap (sure every halves) (nothing_put w lines)
+    ∙ sym (append-nil (sure every halves (put_of (order_of w) lines)))
+    ∙ ap (λ l. sure every halves (put_of (order_of w) lines) ++ l) (sym none)
+
+-- an item, whose bytes were put
+pub stands_item : (w new : LineWriter) (every halves : ℕ) (lines : List Line) (line : Line) (id : ℕ) (item : Item) (bytes more : List ℕ) → line ≡ Of id item → new.stp ≡ w.stp →
+    order_of new ≡ order_of w → IsOfSource w.stp id item →
+    ((before : List StpItem) → encoders.Stands w.encoder before → encoders.Stands new.encoder (before ++ items_of item)) → Puts w.frames new.frames (tagged id bytes) more →
+    bytes ≡ item_bytes (order_of w) (given_items id lines) item → Stands w every halves lines → Stands new every halves (lines ++ line ∷ [])
+stands_item w new every halves lines line id item bytes more e stp order source encoded puts are s =
+    let put : put_of (order_of new) (lines ++ Of id item ∷ []) ≡ put_of (order_of w) lines ++ tagged id bytes =
+    ap (λ o. put_of o (lines ++ Of id item ∷ [])) order
+    ∙ put_more (order_of w) lines (Of id item)
+    ∙ ap (λ l. put_of (order_of w) lines ++ tagged id l) (sym are) in
+    subst (λ l. Stands new every halves (lines ++ l ∷ [])) (sym e) (record {
+      items = λ x of.
+          let of_old = sym stp ∙ of in
+          subst (encoders.Stands new.encoder)
+          (sym (given_more x lines (Of id item) ∙ ap (λ l. given_items x lines ++ l) (items_of_source w.stp x id item source of_old)))
+          (encoded (given_items x lines) (s.items x of_old));
+      frames = subst (IsSure new.frames every halves) (sym put) (puts.list every halves (put_of (order_of w) lines) s.frames);
+    })
+
+pub grown_put : (w : LineWriter) (new : SureWriter) (every halves : ℕ) (lines : List Line) (line : Line) (id : ℕ) (item : Item) (bytes more : List ℕ) → line ≡ Of id item →
+    Puts w.frames new (tagged id bytes) more → bytes ≡ item_bytes (order_of w) (given_items id lines) item → Stands w every halves lines →
+    sure every halves (put_of (order_of w) (lines ++ line ∷ [])) ≡ sure every halves (put_of (order_of w) lines) ++ more
+grown_put w new every halves lines line id item bytes more e puts are s =
+    ap (λ l. sure every halves (put_of (order_of w) (lines ++ l ∷ []))) e
+    ∙ ap (sure every halves) (put_more (order_of w) lines (Of id item) ∙ ap (λ l. put_of (order_of w) lines ++ tagged id l) (sym are))
+    ∙ puts.grown every halves (put_of (order_of w) lines) s.frames

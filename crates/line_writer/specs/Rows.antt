@@ -1,0 +1,24 @@
+-- Lines, for worked rows.
+use Rattle.std.specs.Prelude.{List, [], ◌∷◌, codes}
+use Rattle.frame_grammar.specs.Rows.{hex}
+use Rattle.stp_grammar.specs.declared.item.Stamp.TheVariants.{None as NoStamp, Natural}
+use Rattle.stp_grammar.specs.declared.item.StpItem.TheVariants.{Async, Version}
+use Rattle.stp_encoder.specs.Rows.{at, byte_at}
+use Rattle.itm_grammar.specs.declared.packet.Size.TheVariants.{One}
+use Rattle.itm_grammar.specs.declared.packet.ItmPacket.TheVariants.{Sync, Software}
+use Rattle.dwt_packets.specs.declared.item.DwtItem.TheVariants.{Counters}
+use Rattle.script_text.specs.declared.items.Item.TheVariants.{Itm, Dwt, Stp, Raw}
+use Rattle.script_text.specs.declared.lines.Line.{Line}
+use Rattle.script_text.specs.declared.lines.Line.TheVariants.{Nothing, Of}
+
+-- `1 sync`, `2 async`, `2 version 3`, `16 raw a5`, `1 port 0 u8 41` and `2 data 1 0 u8 42 - n=5`
+abbrev pub three_sources : List Line
+three_sources =
+    Of 1 (Itm Sync) ∷ (Of 2 (Stp Async) ∷ (Of 2 (Stp (Version 3)) ∷ (Of 16 (Raw (hex (codes "A5")))
+    ∷ (Of 1 (Itm (Software 0 One 0x41)) ∷ (Of 2 (Stp (byte_at (at 1 0) 0x42 (Natural 5))) ∷ [])))))
+
+-- `2 async`, `2 version 3`, `2 data 0 0 u8 41 -`, `1 counters 01`, an empty line and `2 data 0 0 u8 41 -`
+abbrev pub kept_over_a_line : List Line
+kept_over_a_line =
+    Of 2 (Stp Async) ∷ (Of 2 (Stp (Version 3)) ∷ (Of 2 (Stp (byte_at (at 0 0) 0x41 NoStamp))
+    ∷ (Of 1 (Dwt (Counters 1)) ∷ (Nothing ∷ (Of 2 (Stp (byte_at (at 0 0) 0x41 NoStamp)) ∷ [])))))

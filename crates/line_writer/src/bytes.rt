@@ -1,0 +1,133 @@
+//! The bytes of items, and the putting of them.
+
+ghost use Rattle.std.specs.Prelude.{◌≡◌, ◌≤◌, ◌<◌, ◌+◌, ◌*◌, ◌++◌, ◌∷◌, [], ℕ, List, length};
+ghost use Rattle.std.specs.Result.{IfErr, OnErr, OnOk};
+ghost use Rattle.std.specs.Prelude.{Ok, Err, is_err};
+ghost use Rattle.arrayvec.specs.ArrayVec.{array_vec_len};
+ghost use Rattle.trace_values.specs.declared.limits.TheConstants.{COUNT_ROOM};
+ghost use Rattle.itm_grammar.specs.Proper.{IsProper};
+ghost use Rattle.itm_grammar.specs.Shortest.{short};
+ghost use Rattle.stp_grammar.specs.declared.item.StpItem.{StpItem};
+ghost use Rattle.stp_grammar.specs.Proper.{IsProperItem};
+ghost use Rattle.stp_encoder.specs.Fitting.{version_after, is_unfit};
+ghost use Rattle.stp_encoder.specs.Bytes.{put_bytes as put_bytes_by};
+ghost use Rattle.stp_encoder.specs.Encoder.{Stands, order_of};
+ghost use Rattle.frame_writer.specs.Sure.{count_of};
+ghost use Rattle.script_text.specs.declared.lines.Line.{Line};
+ghost use Rattle.script_text.specs.Said.{IsSayable};
+ghost use Rattle.script_text.specs.declared.raw_bytes.TheConstants.{RAW_BYTES};
+ghost use Rattle.line_writer.specs.Script.{items_of, item_bytes as bytes_by, fitting_item, tagged};
+ghost use Rattle.line_writer.specs.Putting.{Puts};
+ghost use Rattle.line_writer.specs.Encoding.{StandsFor};
+
+use arrayvec::ArrayVec;
+use dwt_packets::packet_of;
+use frame_writer::{SureWriter, TwoFrames};
+use itm_codec::encode;
+use itm_grammar::packet::ItmPacket;
+use script_text::{Item, LineFault, RAW_BYTES};
+use stp_encoder::StpEncoder;
+use stp_grammar::item::StpItem;
+use trace_values::SourceId;
+
+/// The most bytes that become sure with one line: 30 frames, each with its synchronisations.
+pub const LINE_ROOM: usize = 3960;
+
+/// What becomes sure with a line, or the rest of a capture.
+pub type LineBytes = ArrayVec<u8, LINE_ROOM>;
+
+/// The bytes of an item.
+pub(crate) type ItemBytes = ArrayVec<u8, RAW_BYTES>;
+
+/// Appends bytes for which there is room.
+pub(crate) fn append<const N: usize>(out: &mut ArrayVec<u8, N>, bytes: &[u8])
+    requires room { array_vec_len out.old + length bytes.now ≤ N }
+    ensures items { out.new.items ≡ out.old.items ++ bytes.now }
+    ensures len { array_vec_len out.new ≡ array_vec_len out.old + length bytes.now }
+{
+    let _ = out.try_extend_from_slice(bytes);
+}
+
+/// The shortest bytes of a packet.
+fn put_packet(packet: &ItmPacket, bytes: &mut ItemBytes)
+    requires proper { IsProper packet.now }
+    requires empty { bytes.old.items ≡ [] }
+    ensures bytes { bytes.new.items ≡ short packet.now }
+{
+    let mut packed = ArrayVec::new();
+    encode(packet, &mut packed);
+    append(bytes, packed.as_slice());
+}
+
+/// The bytes that the encoder adds for an item.
+fn put_stp(encoder: &mut StpEncoder, item: &StpItem, bytes: &mut ItemBytes) -> Result<(), LineFault>
+    requires proper { IsProperItem item.now }
+    requires empty { bytes.old.items ≡ [] }
+    ensures order { order_of encoder.new ≡ order_of encoder.old }
+    ensures unfit { (before : List StpItem) → Stands encoder.old before →
+        is_err result ≡ is_unfit (version_after before) item.now }
+    ensures fault { IfErr result (λ f. f ≡ LineFault.Unfit) }
+    ensures same { OnErr result ((encoder.new ≡ encoder.old) × (bytes.new ≡ bytes.old)) }
+    ensures list { (before : List StpItem) → Stands encoder.old before →
+        OnOk result (Stands encoder.new (before ++ item.now ∷ [])) }
+    ensures bytes { (before : List StpItem) → Stands encoder.old before →
+        OnOk result (bytes.new.items ≡ put_bytes_by (order_of encoder.old) before item.now) }
+{
+    let mut written = ArrayVec::new();
+    match encoder.put(item, &mut written) {
+        Ok(()) => {
+            append(bytes, written.as_slice());
+            Ok(())
+        }
+        Err(_) => Err(LineFault::Unfit),
+    }
+}
+
+/// The bytes of an item, which the encoder adds where it is one of a system trace. Where that can't be written, all is
+/// as before.
+pub(crate) fn put_item(
+    encoder: &mut StpEncoder,
+    item: &Item,
+    bytes: &mut ItemBytes,
+) -> Result<(), LineFault>
+    requires sayable { IsSayable item.now }
+    requires empty { bytes.old.items ≡ [] }
+    ensures order { order_of encoder.new ≡ order_of encoder.old }
+    ensures fits { (before : List StpItem) (line : Line) → StandsFor encoder.old before item.now →
+        OnOk result (fitting_item line before item.now ≡ Ok line) }
+    ensures unfit { (before : List StpItem) (line : Line) → StandsFor encoder.old before item.now →
+        IfErr result (λ fault. fitting_item line before item.now ≡ Err fault) }
+    ensures same { OnErr result ((encoder.new ≡ encoder.old) × (bytes.new ≡ bytes.old)) }
+    ensures list { (before : List StpItem) → Stands encoder.old before →
+        OnOk result (Stands encoder.new (before ++ items_of item.now)) }
+    ensures bytes { (before : List StpItem) → StandsFor encoder.old before item.now →
+        OnOk result (bytes.new.items ≡ bytes_by (order_of encoder.old) before item.now) }
+{
+    match item {
+        Item::Itm(packet) => put_packet(packet, bytes),
+        Item::Dwt(item) => {
+            let (disc, size, value) = packet_of(item);
+            put_packet(&ItmPacket::Hardware { disc, size, value }, bytes);
+        }
+        Item::Stp(item) => return put_stp(encoder, item, bytes),
+        Item::Raw(raw) => append(bytes, raw.as_slice()),
+    }
+    Ok(())
+}
+
+/// Puts bytes of a source, and gives what becomes sure with them.
+pub(crate) fn put_bytes(frames: &mut SureWriter, id: SourceId, bytes: &[u8], out: &mut LineBytes)
+    requires source { 0 < id }
+    requires few { length bytes.now ≤ RAW_BYTES }
+    requires empty { out.old.items ≡ [] }
+    requires room { count_of frames.old + length bytes.now ≤ COUNT_ROOM }
+    ensures put { Puts frames.old frames.new (tagged id bytes.now) out.new.items }
+    ensures count { count_of frames.new ≤ count_of frames.old + length bytes.now }
+    ensures len { 7 * array_vec_len out.new ≤ 132 * (14 + 2 * length bytes.now) }
+{
+    for byte in bytes {
+        let mut sure = TwoFrames::new();
+        frames.put(id, *byte, &mut sure);
+        append(out, sure.as_slice());
+    }
+}
