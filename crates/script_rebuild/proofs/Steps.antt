@@ -1,0 +1,79 @@
+-- One more byte of a script.
+use Rattle.std.proofs.Common.{◌≡◌, ◌≢◌, ℕ, ◌≤◌, List, [], ◌∷◌, ◌++◌, sym, ◌∙◌, ap, true, false, None, Result, Err, append-nil, length, length-append, arith, All}
+use Rattle.std.specs.Prelude.{nat_lt, ◌==◌, if◌then◌else◌}
+use Rattle.std.proofs.lemmas.Bool.Decides.{nat_tests}
+use Rattle.source_events.specs.declared.plan.Plan.{Plan}
+use Rattle.frame_writer.specs.Fronts.{all_but_last}
+use Rattle.script_text.specs.declared.lines.Line.{Line}
+use Rattle.script_text.specs.declared.line_fault.LineFault.{LineFault}
+use Rattle.script_text.specs.declared.line_fault.LineFault.TheVariants.{LongLine}
+use Rattle.script_text.specs.Lines.{◌>>=◌}
+use Rattle.line_writer.specs.Script.{lines_in, read_after, line_after, fitting, script_of}
+use Rattle.script_rebuild.specs.Rebuilt.{open_line, too_long, certain_lines, read_so_far}
+use Rattle.script_rebuild.specs.SplitLaws.{plain_ended, plain_open, fed_ended, fed_open, lines_open}
+use Rattle.script_rebuild.specs.ReadingLaws.{with_answer, read_first, go_on, read_append, long_line}
+
+not_long : (line : List ℕ) → length line ≤ 256 → nat_lt 256 (length line) ≡ false
+not_long line h = grind (arith, nat_tests)
+
+short : (line : List ℕ) → length line ≤ 256 → too_long line ≡ []
+short line h = ap (λ v. if v then line ∷ [] else []) (not_long line h)
+
+short_certain : (seen : List ℕ) → length (open_line seen) ≤ 256 → certain_lines seen ≡ all_but_last (lines_in seen)
+short_certain seen h = ap (λ l. all_but_last (lines_in seen) ++ l) (short (open_line seen) h) ∙ append-nil (all_but_last (lines_in seen))
+
+-- bytes without a line feed change nothing while the line is not too long
+pub front_read : (plan : Plan) (seen front : List ℕ) → All (λ b. (b == 10) ≡ false) front → length (open_line seen ++ front) ≤ 256 →
+    read_so_far plan (seen ++ front) ≡ read_so_far plan seen
+front_read plan seen front plain h =
+    let here : length (open_line seen) ≤ 256 = omega (arith, length-append (open_line seen) front) in
+    let there : length (open_line (seen ++ front)) ≤ 256 = omega (arith, ap length (plain_open seen front plain)) in
+    ap (read_after plan []) (short_certain (seen ++ front) there ∙ plain_ended seen front plain ∙ sym (short_certain seen here))
+
+-- one line after those that ended
+text_read : (plan : Plan) (seen text : List ℕ) (answer : Result Line LineFault) → (read_so_far plan seen).fault ≡ None → length (open_line seen) ≤ 256 →
+    line_after plan (read_so_far plan seen).lines text ≡ answer →
+    read_after plan [] (all_but_last (lines_in seen) ++ text ∷ []) ≡ with_answer plan (read_so_far plan seen).lines [] answer
+text_read plan seen text answer none h e =
+    read_append plan [] (all_but_last (lines_in seen)) (text ∷ [])
+    ∙ ap (λ l. go_on plan (read_after plan [] l) (text ∷ []) (read_after plan [] l).fault) (sym (short_certain seen h))
+    ∙ ap (go_on plan (read_so_far plan seen) (text ∷ [])) none
+    ∙ read_first plan (read_so_far plan seen).lines text [] answer e
+
+-- the open line is at its end with a line feed
+fed_certain : (seen : List ℕ) → certain_lines (seen ++ 10 ∷ []) ≡ all_but_last (lines_in seen) ++ open_line seen ∷ []
+fed_certain seen =
+    ap (λ l. l ++ too_long (open_line (seen ++ 10 ∷ []))) (fed_ended seen)
+    ∙ ap (λ l. (all_but_last (lines_in seen) ++ open_line seen ∷ []) ++ too_long l) (fed_open seen)
+    ∙ append-nil (all_but_last (lines_in seen) ++ open_line seen ∷ [])
+
+pub fed_read : (plan : Plan) (seen : List ℕ) (answer : Result Line LineFault) → (read_so_far plan seen).fault ≡ None → length (open_line seen) ≤ 256 →
+    line_after plan (read_so_far plan seen).lines (open_line seen) ≡ answer → read_so_far plan (seen ++ 10 ∷ []) ≡ with_answer plan (read_so_far plan seen).lines [] answer
+fed_read plan seen answer none h e = ap (read_after plan []) (fed_certain seen) ∙ text_read plan seen (open_line seen) answer none h e
+
+-- and at the end of the script
+pub end_read : (plan : Plan) (seen : List ℕ) (answer : Result Line LineFault) → (read_so_far plan seen).fault ≡ None → length (open_line seen) ≤ 256 →
+    line_after plan (read_so_far plan seen).lines (open_line seen) ≡ answer → script_of plan seen ≡ with_answer plan (read_so_far plan seen).lines [] answer
+end_read plan seen answer none h e = ap (read_after plan []) (lines_open seen) ∙ text_read plan seen (open_line seen) answer none h e
+
+no_feed : (b : ℕ) → b ≢ 10 → (b == 10) ≡ false
+no_feed b h = grind (arith, nat_tests)
+
+pub one_plain : (b : ℕ) → b ≢ 10 → All (λ x. (x == 10) ≡ false) (b ∷ [])
+one_plain b h = let no = no_feed b h in grind (arith, no)
+
+-- with its 257th byte the open line is too long
+pub long_read : (plan : Plan) (seen : List ℕ) (b : ℕ) → (read_so_far plan seen).fault ≡ None → length (open_line seen) ≡ 256 → b ≢ 10 →
+    read_so_far plan (seen ++ b ∷ []) ≡ with_answer plan (read_so_far plan seen).lines [] (Err LongLine)
+long_read plan seen b none full other =
+    let plain = one_plain b other in
+    let init = all_but_last (lines_in seen) in
+    let line = open_line seen ++ b ∷ [] in
+    let count : length line ≡ 257 = omega (arith, length-append (open_line seen) (b ∷ [])) in
+    let over : nat_lt 256 (length line) ≡ true = ap (λ n. nat_lt 256 n) count in
+    let certain : certain_lines (seen ++ b ∷ []) ≡ init ++ line ∷ [] =
+    ap (λ l. l ++ too_long (open_line (seen ++ b ∷ []))) (plain_ended seen (b ∷ []) plain)
+    ∙ ap (λ l. init ++ too_long l) (plain_open seen (b ∷ []) plain)
+    ∙ ap (λ v. init ++ (if v then line ∷ [] else [])) over in
+    ap (read_after plan []) certain
+    ∙ text_read plan seen line (Err LongLine) none (omega arith) (ap (λ r. r >>= fitting (read_so_far plan seen).lines) (long_line plan line over))

@@ -1,0 +1,222 @@
+-- What the action takes.
+use Rattle.std.proofs.Common.{◌≡◌, ℕ, ◌+◌, ◌≤◌, List, [], ◌∷◌, ◌++◌, refl, sym, ◌∙◌, ap, subst, true, false, Option, Some, None, Result, Ok, Err, append-nil, append_assoc, length, length-append, arith, All, drop}
+use Rattle.std.specs.Prelude.{◌==◌, is_some, is_none, option_map, option_to_list}
+use Rattle.stp_grammar.specs.declared.packet.Order.{Order}
+use Rattle.trace_stream.specs.Taken.{HasTaken}
+use Rattle.trace_stream.specs.declared.action.Flow.TheVariants.{On, Stopped}
+use Rattle.frame_writer.specs.Written.{capture}
+use Rattle.frame_writer.specs.Fronts.{sure}
+use Rattle.script_text.specs.declared.lines.Line.{Line}
+use Rattle.script_text.specs.declared.line_fault.LineFault.{LineFault}
+use Rattle.line_writer.specs.Script.{Reading, line_after, put_of, ends_of, script_of, script_bytes}
+use Rattle.line_writer.specs.Writer as writers
+use Rattle.line_writer.specs.declared.writer.LineWriter.{LineWriter}
+use Rattle.script_rebuild.specs.declared.plan.RebuildPlan.{RebuildPlan}
+use Rattle.script_rebuild.specs.declared.plan.ScriptFault.{ScriptFault}
+use Rattle.script_rebuild.specs.declared.rebuild.Rebuild.{Rebuild}
+use Rattle.script_rebuild.specs.Rebuilt.{open_line, read_so_far, text, ending, left_of, script_capture, rebuild_meaning}
+use Rattle.script_rebuild.specs.PutLine.{PutsLine}
+use Rattle.script_rebuild.specs.Rebuilder.{told, Stands, TakesByte}
+use Rattle.script_rebuild.specs.SplitLaws.{plain_open, fed_open}
+use Rattle.script_rebuild.specs.ReadingLaws.{with_answer}
+use Rattle.script_rebuild.specs.GrowthLaws.{whole_settled}
+use Rattle.script_rebuild.specs.RebuiltLaws.{nothing_left}
+use Rattle.script_rebuild.proofs.Steps.{front_read, fed_read, end_read}
+
+pub sound_of : (r : Rebuild) (seen : List ℕ) → Stands r seen → r.fault ≡ None → (read_so_far r.plan.plan seen).fault ≡ None
+sound_of r seen s live = sym s.fault ∙ ap (option_map told) live
+
+pub open_few : (r : Rebuild) (seen : List ℕ) (n : ℕ) → Stands r seen → r.fault ≡ None → length r.line.items ≤ n → length (open_line seen) ≤ n
+open_few r seen n s live h = omega (arith, ap length (s.open_bytes live))
+
+stands_as : (r : Rebuild) (seen : List ℕ) (reading : Reading) → read_so_far r.plan.plan seen ≡ reading → r.count ≡ length seen → option_map told r.fault ≡ reading.fault →
+    (r.fault ≡ None → r.line.items ≡ open_line seen) → (r.fault ≡ None → r.lines ≡ length reading.lines) → writers.Stands r.writer r.plan.every r.plan.halves reading.lines → Stands r seen
+stands_as r seen reading e count fault open_bytes lines writer = record {
+  count = count;
+  fault = fault ∙ ap (λ (x : Reading). x.fault) (sym e);
+  open_bytes = open_bytes;
+  lines = λ n. lines n ∙ ap (λ (x : Reading). length x.lines) (sym e);
+  writer = subst (λ (x : Reading). writers.Stands r.writer r.plan.every r.plan.halves x.lines) (sym e) writer;
+}
+
+count_more : (old new n : ℕ) (seen more : List ℕ) → new ≡ old + n → n ≡ length more → old ≡ length seen → new ≡ length (seen ++ more)
+count_more old new n seen more e len s = omega (arith, length-append seen more)
+
+-- a front without a line feed
+pub front_is : (r : Rebuild) (seen front : List ℕ) → Stands r seen → r.fault ≡ None → length (r.line.items ++ front) ≤ 256 → All (λ b. (b == 10) ≡ false) front →
+    read_so_far r.plan.plan (seen ++ front) ≡ read_so_far r.plan.plan seen
+front_is r seen front s live few plain =
+    front_read r.plan.plan seen front plain (omega (arith, ap (λ l. length (l ++ front)) (s.open_bytes live)))
+
+pub front_stands : (old new : Rebuild) (seen front : List ℕ) (n : ℕ) → new.plan ≡ old.plan → new.fault ≡ old.fault → new.lines ≡ old.lines → new.writer ≡ old.writer →
+    new.count ≡ old.count + n → n ≡ length front → new.line.items ≡ old.line.items ++ front → old.fault ≡ None → length (old.line.items ++ front) ≤ 256 →
+    All (λ b. (b == 10) ≡ false) front → Stands old seen → Stands new (seen ++ front)
+front_stands old new seen front n plan fault lines writer count len items live few plain s =
+    stands_as new (seen ++ front) (read_so_far old.plan.plan seen) (ap (λ (p : RebuildPlan). read_so_far p.plan (seen ++ front)) plan ∙ front_is old seen front s live few plain)
+    (count_more old.count new.count n seen front count len s.count) (ap (option_map told) fault ∙ s.fault)
+    (λ k. items ∙ ap (λ l. l ++ front) (s.open_bytes live) ∙ sym (plain_open seen front plain))
+    (λ k. lines ∙ s.lines live)
+    (subst (λ (w : LineWriter). writers.Stands w new.plan.every new.plan.halves (read_so_far old.plan.plan seen).lines) (sym writer)
+    (subst (λ (p : RebuildPlan). writers.Stands old.writer p.every p.halves (read_so_far old.plan.plan seen).lines) (sym plan) s.writer))
+
+-- a line that is refused
+pub refused : (old new : Rebuild) (seen : List ℕ) (b : ℕ) (fault : LineFault) (outlet : List ℕ) → new.plan ≡ old.plan → old.fault ≡ None →
+    new.fault ≡ Some (record { line = old.lines + 1; fault = fault }) → new.count ≡ old.count + 1 → new.writer ≡ old.writer →
+    read_so_far old.plan.plan (seen ++ b ∷ []) ≡ with_answer old.plan.plan (read_so_far old.plan.plan seen).lines [] (Err fault) → Stands old seen →
+    TakesByte old new seen b outlet outlet
+refused old new seen b fault outlet plan live found count writer read s =
+    let lines = (read_so_far old.plan.plan seen).lines in
+    record {
+      stands = stands_as new (seen ++ b ∷ []) (with_answer old.plan.plan lines [] (Err fault)) (ap (λ (p : RebuildPlan). read_so_far p.plan (seen ++ b ∷ [])) plan ∙ read)
+          (count_more old.count new.count 1 seen (b ∷ []) count refl s.count)
+          (ap (option_map told) found ∙ ap (λ (n : ℕ). Some (n + 1, fault)) (s.lines live))
+          (λ k. let no = sym found ∙ k in cc)
+          (λ k. let no = sym found ∙ k in cc)
+          (subst (λ (w : LineWriter). writers.Stands w new.plan.every new.plan.halves lines) (sym writer)
+          (subst (λ (p : RebuildPlan). writers.Stands old.writer p.every p.halves lines) (sym plan) s.writer));
+      more = [];
+      gained = sym (append-nil outlet);
+      grown = ap (λ (r : Reading). sure old.plan.every old.plan.halves (put_of old.plan.plan.order r.lines)) read ∙ sym (append-nil (text old.plan seen));
+    }
+
+-- a line that is put
+pub line_ended : (old new : Rebuild) (seen words before after out : List ℕ) → new.plan ≡ old.plan → old.fault ≡ None → new.fault ≡ None → new.count ≡ old.count + 1 →
+    new.lines ≡ old.lines + 1 → new.line.items ≡ [] → length old.line.items ≤ 256 → words ≡ old.line.items →
+    PutsLine old.plan.plan words new.writer old.plan.every old.plan.halves (read_so_far old.plan.plan seen).lines out → after ≡ before ++ out → Stands old seen →
+    TakesByte old new seen 10 before after
+line_ended old new seen words before after out plan live sound count lines empty few same puts gained s =
+    let so_far = (read_so_far old.plan.plan seen).lines in
+    let says : line_after old.plan.plan so_far (open_line seen) ≡ Ok puts.line = ap (line_after old.plan.plan so_far) (sym (same ∙ s.open_bytes live)) ∙ puts.says in
+    let read = fed_read old.plan.plan seen (Ok puts.line) (sound_of old seen s live) (open_few old seen 256 s live few) says in
+    record {
+      stands = stands_as new (seen ++ 10 ∷ []) (with_answer old.plan.plan so_far [] (Ok puts.line)) (ap (λ (p : RebuildPlan). read_so_far p.plan (seen ++ 10 ∷ [])) plan ∙ read)
+          (count_more old.count new.count 1 seen (10 ∷ []) count refl s.count)
+          (ap (option_map told) sound)
+          (λ k. empty ∙ sym (fed_open seen))
+          (λ k. lines ∙ ap (λ (n : ℕ). n + 1) (s.lines live) ∙ sym (length-append so_far (puts.line ∷ [])))
+          (subst (λ (p : RebuildPlan). writers.Stands new.writer p.every p.halves (so_far ++ puts.line ∷ [])) (sym plan) puts.stands);
+      more = out;
+      gained = gained;
+      grown = ap (λ (r : Reading). sure old.plan.every old.plan.halves (put_of old.plan.plan.order r.lines)) read ∙ puts.grown;
+    }
+
+some_of : (f : Option ScriptFault) (o : Option (ℕ × LineFault)) → option_map told f ≡ o → is_some o ≡ is_some f
+some_of None o e = ap (λ (x : Option (ℕ × LineFault)). is_some x) (sym e)
+some_of (Some f) o e = ap (λ (x : Option (ℕ × LineFault)). is_some x) (sym e)
+
+pub is_faulty : (r : Rebuild) (seen : List ℕ) → Stands r seen → is_some (read_so_far r.plan.plan seen).fault ≡ is_some r.fault
+is_faulty r seen s = some_of r.fault (read_so_far r.plan.plan seen).fault s.fault
+
+never : (f : Option ScriptFault) (o : Option (ℕ × LineFault)) → f ≡ None → is_some o ≡ is_some f → is_some o ≡ true → ⊥
+never None o n e h = let k : false ≡ true = sym e ∙ h in cc
+never (Some f) o n e h = cc
+
+pub fault_none : (f : Option ScriptFault) → is_some f ≡ false → f ≡ None
+fault_none None h = refl
+fault_none (Some f) h = cc
+
+pub none_is : (f : Option ScriptFault) → is_none f ≡ true → f ≡ None
+none_is None h = refl
+none_is (Some f) h = cc
+
+pub some_is : (f : Option ScriptFault) → is_none f ≡ false → is_some f ≡ true
+some_is None h = cc
+some_is (Some f) h = refl
+
+-- a front that is the whole piece
+pub all_taken : (new : Rebuild) (p : RebuildPlan) (seen front outlet : List ℕ) → new.plan ≡ p → new.fault ≡ None → Stands new (seen ++ front) →
+    read_so_far p.plan (seen ++ front) ≡ read_so_far p.plan seen →
+    HasTaken (Stands new) (rebuild_meaning p) (record { seen = seen; front = front; before = outlet; after = outlet }) On
+all_taken new p seen front outlet plan live stands read = record {
+  read = stands;
+  more = [];
+  grown = ap (λ (r : Reading). sure p.every p.halves (put_of p.plan.order r.lines)) read ∙ sym (append-nil (text p seen));
+  gained = sym (append-nil outlet);
+  goes_on = λ h. never new.fault (read_so_far new.plan.plan (seen ++ front)).fault live (is_faulty new (seen ++ front) stands)
+      (subst (λ (q : RebuildPlan). is_some (read_so_far q.plan (seen ++ front)).fault ≡ true) (sym plan) h);
+}
+
+module _ (mid new : Rebuild) (p : RebuildPlan) (seen front piece : List ℕ) (b : ℕ) (before after : List ℕ) (was : mid.plan ≡ p) (plan : new.plan ≡ mid.plan) (live : mid.fault ≡ None)
+    (parts : piece ≡ front ++ b ∷ []) (stands : Stands mid (seen ++ front)) (read : read_so_far p.plan (seen ++ front) ≡ read_so_far p.plan seen)
+    (takes : TakesByte mid new (seen ++ front) b before after) where
+  join : seen ++ piece ≡ (seen ++ front) ++ b ∷ []
+  join = ap (λ l. seen ++ l) parts ∙ sym (append_assoc seen front (b ∷ []))
+
+  there : Stands new (seen ++ piece)
+  there = subst (Stands new) (sym join) takes.stands
+
+  grown : text p (seen ++ piece) ≡ text p seen ++ takes.more
+  grown =
+      ap (text p) join
+      ∙ subst (λ (q : RebuildPlan). text q ((seen ++ front) ++ b ∷ []) ≡ text q (seen ++ front) ++ takes.more) was takes.grown
+      ∙ ap (λ (r : Reading). sure p.every p.halves (put_of p.plan.order r.lines) ++ takes.more) read
+
+  pub goes_on : new.fault ≡ None → HasTaken (Stands new) (rebuild_meaning p) (record { seen = seen; front = piece; before = before; after = after }) On
+  goes_on none = record {
+    read = there;
+    more = takes.more;
+    grown = grown;
+    gained = takes.gained;
+    goes_on = λ h. never new.fault (read_so_far new.plan.plan (seen ++ piece)).fault none (is_faulty new (seen ++ piece) there)
+        (subst (λ (q : RebuildPlan). is_some (read_so_far q.plan (seen ++ piece)).fault ≡ true) (sym (plan ∙ was)) h);
+  }
+
+  pub stops : is_some new.fault ≡ true → HasTaken (Stands new) (rebuild_meaning p) (record { seen = seen; front = piece; before = before; after = after }) Stopped
+  stops some = record {
+    read = there;
+    more = takes.more;
+    grown = grown;
+    gained = takes.gained;
+    goes_on = record {
+      front = seen ++ front;
+      last = b;
+      all = join;
+      sound = λ h. never mid.fault (read_so_far mid.plan.plan (seen ++ front)).fault live (is_faulty mid (seen ++ front) stands)
+          (subst (λ (q : RebuildPlan). is_some (read_so_far q.plan (seen ++ front)).fault ≡ true) (sym was) h);
+      broken = subst (λ (q : RebuildPlan). is_some (read_so_far q.plan (seen ++ piece)).fault ≡ true) (plan ∙ was) (is_faulty new (seen ++ piece) there ∙ some);
+    };
+  }
+
+-- what is left of a list after its front
+pub behind_front : (front rest whole : List ℕ) → whole ≡ front ++ rest → drop (length front) whole ≡ rest
+behind_front [] rest whole e = e
+behind_front (x ∷ front) rest [] e = cc
+behind_front (x ∷ front) rest (y ∷ whole) e = let tail : whole ≡ front ++ rest = cc in behind_front front rest whole tail
+
+-- the last line, where it says something
+pub last_says : (r : Rebuild) (seen words : List ℕ) (answer : Result Line LineFault) → Stands r seen → r.fault ≡ None → length r.line.items ≤ 256 → words ≡ r.line.items →
+    line_after r.plan.plan (read_so_far r.plan.plan seen).lines words ≡ answer →
+    script_of r.plan.plan seen ≡ with_answer r.plan.plan (read_so_far r.plan.plan seen).lines [] answer
+last_says r seen words answer s live few same says =
+    end_read r.plan.plan seen answer (sound_of r seen s live) (open_few r seen 256 s live few)
+    (ap (line_after r.plan.plan (read_so_far r.plan.plan seen).lines) (sym (same ∙ s.open_bytes live)) ∙ says)
+
+pub ends_whole : (r : Rebuild) (w : LineWriter) (seen words out rest : List ℕ) → Stands r seen → r.fault ≡ None → length r.line.items ≤ 256 → words ≡ r.line.items →
+    (puts : PutsLine r.plan.plan words w r.plan.every r.plan.halves (read_so_far r.plan.plan seen).lines out) → writers.order_of w ≡ r.plan.plan.order →
+    option_to_list (writers.stp_of w) ≡ r.plan.plan.stp →
+    (let lines = (read_so_far r.plan.plan seen).lines ++ puts.line ∷ [] in
+    capture r.plan.every r.plan.halves (put_of (writers.order_of w) lines ++ ends_of (writers.order_of w) lines (option_to_list (writers.stp_of w)))
+    ≡ sure r.plan.every r.plan.halves (put_of (writers.order_of w) lines) ++ rest) →
+    ending r.plan seen ≡ out ++ rest
+ends_whole r w seen words out rest s live few same puts order stp whole =
+    let p = r.plan in
+    let lines = (read_so_far p.plan seen).lines ++ puts.line ∷ [] in
+    let with_stp = subst (λ (ids : List ℕ). capture p.every p.halves (put_of (writers.order_of w) lines ++ ends_of (writers.order_of w) lines ids) ≡ sure p.every p.halves (put_of (writers.order_of w) lines) ++ rest) stp whole in
+    let all = subst (λ (o : Order). capture p.every p.halves (put_of o lines ++ ends_of o lines p.plan.stp) ≡ sure p.every p.halves (put_of o lines) ++ rest) order with_stp in
+    ap (λ (x : Reading). left_of (capture p.every p.halves (script_bytes p.plan x.lines)) (text p seen) x.fault) (last_says r seen words (Ok puts.line) s live few same puts.says)
+    ∙ behind_front (text p seen) (out ++ rest) (capture p.every p.halves (script_bytes p.plan lines)) (all ∙ ap (λ l. l ++ rest) puts.grown ∙ append_assoc (text p seen) out rest)
+
+-- nothing comes after the text of a script with a fault
+pub ends_at_fault : (r : Rebuild) (seen : List ℕ) → Stands r seen → is_some r.fault ≡ true → ending r.plan seen ≡ []
+ends_at_fault r seen s h =
+    let here = is_faulty r seen s ∙ h in
+    nothing_left (script_capture r.plan seen) (text r.plan seen) (script_of r.plan.plan seen).fault (ap (λ (x : Reading). is_some x.fault) (whole_settled r.plan.plan seen here) ∙ here)
+
+pub ends_at_last : (r : Rebuild) (seen words : List ℕ) (fault : LineFault) → Stands r seen → r.fault ≡ None → length r.line.items ≤ 256 → words ≡ r.line.items →
+    line_after r.plan.plan (read_so_far r.plan.plan seen).lines words ≡ Err fault → ending r.plan seen ≡ []
+ends_at_last r seen words fault s live few same says =
+    nothing_left (script_capture r.plan seen) (text r.plan seen) (script_of r.plan.plan seen).fault
+    (ap (λ (x : Reading). is_some x.fault) (last_says r seen words (Err fault) s live few same says))
+
+pub settled_fault : (r : Rebuild) (seen : List ℕ) → Stands r seen → is_some r.fault ≡ true → option_map told r.fault ≡ (script_of r.plan.plan seen).fault
+settled_fault r seen s h = s.fault ∙ ap (λ (x : Reading). x.fault) (sym (whole_settled r.plan.plan seen (is_faulty r seen s ∙ h)))

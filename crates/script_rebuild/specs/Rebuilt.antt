@@ -1,0 +1,65 @@
+-- What a script becomes (this project's profile): its capture, of which the bytes so far make a front sure.
+use Rattle.std.specs.Prelude.{◌≡◌, ℕ, ◌+◌, List, [], ◌∷◌, ◌++◌, length, drop, true, nat_lt}
+use Rattle.std.specs.Prelude.{if◌then◌else◌, Option, None, Some, is_some, Err}
+use Rattle.trace_stream.specs.Served.{Meaning}
+use Rattle.source_events.specs.declared.plan.Plan.{Plan}
+use Rattle.frame_writer.specs.Written.{capture}
+use Rattle.frame_writer.specs.Fronts.{all_but_last, sure}
+use Rattle.script_text.specs.declared.line_fault.LineFault.{LineFault}
+use Rattle.line_writer.specs.Script.{lines_in, Reading, read_after, line_after, script_of, put_of, script_bytes}
+use Rattle.script_rebuild.specs.declared.plan.RebuildPlan.{RebuildPlan}
+
+abbrev pub last_of : List (List ℕ) → List ℕ
+last_of [] = []
+last_of (line ∷ []) = line
+last_of (line ∷ (next ∷ lines)) = last_of (next ∷ lines)
+
+-- the line that is still open: what comes after the last line feed
+abbrev pub open_line : List ℕ → List ℕ
+open_line bytes = last_of (lines_in bytes)
+
+-- a line that is too long already
+abbrev pub too_long : List ℕ → List (List ℕ)
+too_long line = if nat_lt 256 (length line) then line ∷ [] else []
+
+-- the lines about which no further byte can change anything: those that ended, and the open one once it is too long
+abbrev pub certain_lines : List ℕ → List (List ℕ)
+certain_lines bytes = all_but_last (lines_in bytes) ++ too_long (open_line bytes)
+
+-- what they say, up to the first fault
+abbrev pub read_so_far : Plan → List ℕ → Reading
+read_so_far plan bytes = read_after plan [] (certain_lines bytes)
+
+-- one of them has a fault
+abbrev pub IsFaulty : RebuildPlan → List ℕ → Type 0
+IsFaulty p bytes = is_some (read_so_far p.plan bytes).fault ≡ true
+
+-- what is written for them: what is sure of the capture of all that the lines before the first fault put
+abbrev pub text : RebuildPlan → List ℕ → List ℕ
+text p bytes = sure p.every p.halves (put_of p.plan.order (read_so_far p.plan bytes).lines)
+
+-- the capture of a script, to its end
+abbrev pub script_capture : RebuildPlan → List ℕ → List ℕ
+script_capture p bytes = capture p.every p.halves (script_bytes p.plan (script_of p.plan bytes).lines)
+
+-- what comes after the text where the script is at its end: what is left of the capture, and nothing where a line has a
+-- fault, with or without a line feed
+abbrev pub left_of : List ℕ → List ℕ → Option (ℕ × LineFault) → List ℕ
+left_of whole front None = drop (length front) whole
+left_of whole front (Some fault) = []
+
+abbrev pub ending : RebuildPlan → List ℕ → List ℕ
+ending p bytes = left_of (script_capture p bytes) (text p bytes) (script_of p.plan bytes).fault
+
+abbrev pub rebuild_meaning : RebuildPlan → Meaning
+rebuild_meaning p = record { faulty = IsFaulty p; text = text p; ending = ending p }
+
+-- The fault is that of one of these texts, whose number, from 1 on, is this; and those before it have none.
+pub record IsFirstFault (plan : Plan) (texts : List (List ℕ)) (number : ℕ) (fault : LineFault) : Type 0 where
+  pub before : List (List ℕ)
+  pub line : List ℕ
+  pub after : List (List ℕ)
+  pub parts : texts ≡ before ++ line ∷ after
+  pub place : number ≡ length before + 1
+  pub sound : (read_after plan [] before).fault ≡ None
+  pub says : line_after plan (read_after plan [] before).lines line ≡ Err fault

@@ -1,0 +1,25 @@
+//! What a script is read by.
+
+use script_text::LineFault;
+use source_events::Plan;
+
+/// What the sources of a script send, and which synchronisations are written.
+#[derive(Debug, Drop)]
+pub struct RebuildPlan {
+    /// What is mapped: of system traces at most one source. Its modes make no difference.
+    pub plan: Plan,
+    /// A full synchronisation is written before each frame whose number, from 0 on, is a multiple of this; none where
+    /// it is 0.
+    pub every: u32,
+    /// How many half synchronisations, at most 8, are written in each gap of a frame.
+    pub halves: u8,
+}
+
+/// The first fault of a script.
+#[derive(Clone, Copy, Debug, PartialEq, Eq, Drop)]
+pub struct ScriptFault {
+    /// The number of its line, from 1 on.
+    pub line: u64,
+    /// What is wrong with it.
+    pub fault: LineFault,
+}

@@ -1,0 +1,329 @@
+//! The action `rebuild`.
+
+ghost use Rattle.std.specs.Prelude.{◌≡◌, ◌≢◌, ◌≤◌, ◌<◌, ◌+◌, ◌*◌, ◌++◌, ◌==◌, [], ℕ, List, All, length, take, slice_index};
+ghost use Rattle.std.specs.Prelude.{true, false, None, Err, option_map, option_to_list, is_none};
+ghost use Rattle.std.specs.Option.{ForSome};
+ghost use Rattle.std.specs.Result.{IfErr, OnErr, OnOk};
+ghost use Rattle.trace_values.specs.declared.limits.TheConstants.{COUNT_ROOM};
+ghost use Rattle.trace_stream.specs.declared.limits.TheConstants.{GREATEST_CAPTURE};
+ghost use Rattle.trace_stream.specs.declared.outlet.TheConstants.{OUTLET_ROOM};
+ghost use Rattle.trace_stream.specs.declared.action.TheConstants.{ACTION_ROOM};
+ghost use Rattle.source_events.specs.Plan.{is_sound};
+ghost use Rattle.script_text.specs.declared.lines.Line.{Line};
+ghost use Rattle.line_writer.specs.Script.{line_after};
+ghost use Rattle.line_writer.specs.Writer.{stp_of, order_of, count_of};
+ghost use Rattle.line_writer.specs.Writer.{Stands as StandsForLines};
+ghost use Rattle.script_rebuild.specs.PutLine.{PutsLine};
+
+use crate::plan::{RebuildPlan, ScriptFault};
+use arrayvec::ArrayVec;
+use line_writer::{LineBytes, LineWriter};
+use script_text::{LineFault, read_line};
+use source_events::Plan;
+use trace_stream::{Action, Flow, Outlet, Taken};
+use trace_values::SourceId;
+
+/// The most bytes of a line, without its line feed.
+const LINE_BYTES: usize = 256;
+
+/// A script as it is read: its open line, and the writer of what the lines before it put. It allocates nothing.
+#[derive(Drop)]
+pub struct Rebuild {
+    plan: RebuildPlan,
+    /// The bytes of the open line.
+    line: ArrayVec<u8, LINE_BYTES>,
+    /// How many lines ended.
+    lines: u64,
+    writer: LineWriter,
+    /// How many bytes were taken.
+    count: u64,
+    fault: Option<ScriptFault>,
+    ghost few: { lines ≤ count },
+    ghost frames: { count_of writer ≤ 100 * count },
+    ghost small: { count ≤ GREATEST_CAPTURE },
+    ghost order: { order_of writer ≡ plan.plan.order },
+    ghost stp: { option_to_list (stp_of writer) ≡ plan.plan.stp },
+}
+
+/// How many of the first bytes are no line feed, at most this many.
+fn plain_len(piece: &[u8], most: usize) -> usize
+    ensures bound { result ≤ length piece.now }
+    ensures few { result ≤ most }
+    ensures plain { All (λ b. (b == 10) ≡ false) (take result piece.now) }
+    ensures rest { result < length piece.now → slice_index piece.now result ≢ 10 → result ≡ most }
+{
+    let end = piece.len().min(most);
+    for at in 0..end {
+        if piece[at] == b'\n' {
+            return at;
+        }
+    }
+    end
+}
+
+/// Appends bytes to the open line, for which there is room.
+fn append(line: &mut ArrayVec<u8, LINE_BYTES>, bytes: &[u8])
+    requires room { length line.old.items + length bytes.now ≤ 256 }
+    ensures { line.new.items ≡ line.old.items ++ bytes.now }
+{
+    let _ = line.try_extend_from_slice(bytes);
+}
+
+/// The source of system traces, if one is mapped.
+fn stp_source(plan: &Plan) -> Option<SourceId>
+    requires sound { is_sound plan.now ≡ true }
+    requires one { length plan.now.stp ≤ 1 }
+    ensures list { option_to_list result ≡ plan.now.stp }
+    ensures named { ForSome result (λ id. 0 < id) }
+{
+    match plan.stp.as_slice() {
+        [] => None,
+        [id, ..] => Some(*id),
+    }
+}
+
+/// Puts what a line says, and gives what has become sure with it. At a fault the writer is as before.
+fn put_line(
+    writer: &mut LineWriter,
+    plan: &Plan,
+    text: &[u8],
+    out: &mut LineBytes,
+) -> Result<(), LineFault>
+    requires order { order_of writer.old ≡ plan.now.order }
+    requires stp { option_to_list (stp_of writer.old) ≡ plan.now.stp }
+    requires empty { out.old.items ≡ [] }
+    requires room { count_of writer.old + 100 ≤ COUNT_ROOM }
+    ensures stp { stp_of writer.new ≡ stp_of writer.old }
+    ensures order { order_of writer.new ≡ order_of writer.old }
+    ensures count { count_of writer.new ≤ count_of writer.old + 100 }
+    ensures same { OnErr result (writer.new ≡ writer.old) }
+    ensures ok { (every halves : ℕ) (lines : List Line) → StandsForLines writer.old every halves lines →
+        OnOk result (PutsLine plan.now text.now writer.new every halves lines out.new.items) }
+    ensures err { (every halves : ℕ) (lines : List Line) → StandsForLines writer.old every halves lines →
+        IfErr result (λ fault. line_after plan.now lines text.now ≡ Err fault) }
+{
+    match read_line(text, plan) {
+        Ok(line) => writer.put(&line, out),
+        Err(fault) => Err(fault),
+    }
+}
+
+impl Rebuild {
+    ghost use Rattle.std.specs.Prelude.{◌∷◌};
+    ghost use Rattle.line_writer.specs.Script.{script_of};
+    ghost use Rattle.script_rebuild.specs.Rebuilt.{read_so_far};
+    ghost use Rattle.script_rebuild.specs.Rebuilder.{told, plan_of, taken_by, open_len, IsLive, Stands, TakesByte};
+
+    /// Nothing is read yet. The plan is sound, as `Plan::is_sound` tells, and maps at most one source of system traces.
+    pub fn new(plan: RebuildPlan) -> Rebuild
+        requires few { plan.halves ≤ 8 }
+        requires sound { is_sound plan.plan ≡ true }
+        requires one { length plan.plan.stp ≤ 1 }
+        ensures plan { plan_of result ≡ plan }
+        ensures stands { Stands result [] }
+        ensures count { taken_by result ≡ 0 }
+        ensures live { IsLive result }
+    {
+        let stp = stp_source(&plan.plan);
+        let writer = LineWriter::new(stp, plan.plan.order, plan.every, plan.halves);
+        Rebuild {
+            plan,
+            line: ArrayVec::new(),
+            lines: 0,
+            writer,
+            count: 0,
+            fault: None,
+        }
+    }
+
+    /// The first fault of the lines that ended, or of the open one if it is too long.
+    pub fn fault(&self) -> Option<ScriptFault>
+        ensures { (seen : List ℕ) → Stands self.now seen →
+            option_map told result ≡ (read_so_far (plan_of self.now).plan seen).fault }
+    {
+        self.fault
+    }
+
+    /// The first fault where the script is at its end: the open line is its last then.
+    pub fn last_fault(&self) -> Option<ScriptFault>
+        ensures { (seen : List ℕ) → Stands self.now seen →
+            option_map told result ≡ (script_of (plan_of self.now).plan seen).fault }
+    {
+        if self.fault.is_some() {
+            return self.fault;
+        }
+        let mut writer = self.writer.copied();
+        let mut out = LineBytes::new();
+        match put_line(&mut writer, &self.plan.plan, self.line.as_slice(), &mut out) {
+            Ok(()) => None,
+            Err(fault) => Some(ScriptFault {
+                line: self.lines + 1,
+                fault,
+            }),
+        }
+    }
+
+    /// Takes the first bytes up to a line feed, as many as the line may have.
+    fn add_front(&mut self, piece: &[u8]) -> usize
+        requires live { IsLive self.old }
+        requires count { taken_by self.old + length piece.now ≤ GREATEST_CAPTURE }
+        ensures same { plan_of self.new ≡ plan_of self.old }
+        ensures live { IsLive self.new }
+        ensures count { taken_by self.new ≡ taken_by self.old + result }
+        ensures bound { result ≤ length piece.now }
+        ensures stands { (seen : List ℕ) → Stands self.old seen → Stands self.new (seen ++ take result piece.now) }
+        ensures read { (seen : List ℕ) → Stands self.old seen →
+            read_so_far (plan_of self.old).plan (seen ++ take result piece.now) ≡
+            read_so_far (plan_of self.old).plan seen }
+        ensures rest { result < length piece.now → slice_index piece.now result ≢ 10 → open_len self.new ≡ 256 }
+    {
+        let len = plain_len(piece, LINE_BYTES - self.line.len());
+        append(&mut self.line, &piece[..len]);
+        self.count += len as u64;
+        len
+    }
+
+    /// Takes a byte after a front: a line feed, or one with which the line is too long.
+    fn take_byte(&mut self, byte: u8, outlet: &mut Outlet) -> bool
+        requires live { IsLive self.old }
+        requires last { byte ≢ 10 → open_len self.old ≡ 256 }
+        requires room { length outlet.old + ACTION_ROOM ≤ OUTLET_ROOM }
+        requires count { taken_by self.old < GREATEST_CAPTURE }
+        ensures same { plan_of self.new ≡ plan_of self.old }
+        ensures count { taken_by self.new ≡ taken_by self.old + 1 }
+        ensures taken { (seen : List ℕ) → Stands self.old seen →
+            TakesByte self.old self.new seen byte outlet.old outlet.new }
+        ensures flow { result ≡ is_none self.new.fault }
+    {
+        if byte == b'\n' {
+            self.end_line(outlet)
+        } else {
+            self.refuse_line(byte)
+        }
+    }
+
+    /// The line is too long with this byte.
+    fn refuse_line(&mut self, byte: u8) -> bool
+        requires live { IsLive self.old }
+        requires full { open_len self.old ≡ 256 }
+        requires other { byte ≢ 10 }
+        requires count { taken_by self.old < GREATEST_CAPTURE }
+        ensures same { plan_of self.new ≡ plan_of self.old }
+        ensures count { taken_by self.new ≡ taken_by self.old + 1 }
+        ensures taken { (seen : List ℕ) (outlet : List ℕ) → Stands self.old seen →
+            TakesByte self.old self.new seen byte outlet outlet }
+        ensures flow { result ≡ is_none self.new.fault }
+    {
+        self.count += 1;
+        self.fault = Some(ScriptFault {
+            line: self.lines + 1,
+            fault: LineFault::LongLine,
+        });
+        let _last = byte;
+        false
+    }
+
+    /// The line is at its end: what it says is put, or its fault is kept.
+    fn end_line(&mut self, outlet: &mut Outlet) -> bool
+        requires live { IsLive self.old }
+        requires room { length outlet.old + ACTION_ROOM ≤ OUTLET_ROOM }
+        requires count { taken_by self.old < GREATEST_CAPTURE }
+        ensures same { plan_of self.new ≡ plan_of self.old }
+        ensures count { taken_by self.new ≡ taken_by self.old + 1 }
+        ensures taken { (seen : List ℕ) → Stands self.old seen →
+            TakesByte self.old self.new seen 10 outlet.old outlet.new }
+        ensures flow { result ≡ is_none self.new.fault }
+    {
+        self.count += 1;
+        let mut out = LineBytes::new();
+        match put_line(
+            &mut self.writer,
+            &self.plan.plan,
+            self.line.as_slice(),
+            &mut out,
+        ) {
+            Ok(()) => {
+                outlet.append(out.as_slice());
+                self.line.clear();
+                self.lines += 1;
+                true
+            }
+            Err(fault) => {
+                self.fault = Some(ScriptFault {
+                    line: self.lines + 1,
+                    fault,
+                });
+                false
+            }
+        }
+    }
+}
+
+impl Action for Rebuild {
+    ghost use Rattle.script_rebuild.specs.Rebuilder.{plan_of, taken_by, IsLive, Stands};
+    ghost use Rattle.script_rebuild.specs.Rebuilt.{IsFaulty, text, ending};
+    ghost use Rattle.script_rebuild.specs.RebuiltLaws.{none_at_first, nothing_at_first, faulty_stays, text_stays};
+    ghost use Rattle.script_rebuild.specs.RebuiltLaws.{ending_stays, text_grows};
+
+    type Plan = RebuildPlan;
+
+    ghost plan = { plan_of };
+
+    ghost live = { IsLive };
+
+    ghost taken = { taken_by };
+
+    ghost stands = { Stands };
+
+    ghost faulty = { IsFaulty };
+
+    ghost text = { text };
+
+    ghost ending = { ending };
+
+    ghost never_at_first = { none_at_first };
+
+    ghost nothing_at_first = { nothing_at_first };
+
+    ghost faulty_stays = { faulty_stays };
+
+    ghost text_stays = { text_stays };
+
+    ghost ending_stays = { ending_stays };
+
+    ghost text_grows = { text_grows };
+
+    /// Takes the bytes up to a line feed, and that.
+    fn feed(&mut self, piece: &[u8], outlet: &mut Outlet) -> Taken {
+        let len = self.add_front(piece);
+        if len == piece.len() {
+            return Taken {
+                bytes: len,
+                flow: Flow::On,
+            };
+        }
+        let goes_on = self.take_byte(piece[len], outlet);
+        Taken {
+            bytes: len + 1,
+            flow: if goes_on { Flow::On } else { Flow::Stopped },
+        }
+    }
+
+    /// Puts what the last line says, and the rest of the capture.
+    fn finish(&self, outlet: &mut Outlet) {
+        if self.fault.is_some() {
+            return;
+        }
+        let mut writer = self.writer.copied();
+        let mut out = LineBytes::new();
+        match put_line(&mut writer, &self.plan.plan, self.line.as_slice(), &mut out) {
+            Ok(()) => {
+                let mut rest = LineBytes::new();
+                writer.rest(&mut rest);
+                outlet.append(out.as_slice());
+                outlet.append(rest.as_slice());
+            }
+            Err(_) => {}
+        }
+    }
+}
