@@ -1,0 +1,5 @@
+pub mod Making
+pub mod Saying
+pub mod Fitting
+pub mod Steps
+pub mod Giving

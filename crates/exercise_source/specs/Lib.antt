@@ -1,0 +1,4 @@
+pub mod Exercise
+pub mod Making
+pub mod Maker
+pub mod Source
