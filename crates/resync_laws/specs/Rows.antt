@@ -1,6 +1,9 @@
 -- Worked rows of captures and their rests.
-use Rattle.std.specs.Prelude.{ℕ, List, [], ◌∷◌, take, drop, map, Option}
+use Rattle.std.specs.Prelude.{ℕ, List, [], ◌∷◌, take, drop, map, Option, option_map}
 use Rattle.trace_values.specs.Hex.{hex}
+use Rattle.trace_values.specs.Placed.{placed}
+use Rattle.trace_values.specs.declared.fault.Reason.{Reason}
+use Rattle.port_reader.specs.Reading.{port_reading}
 use Rattle.capture_plan.specs.declared.frames.FramesMode.TheVariants.{Aligned as InFrames, Bare}
 use Rattle.capture_plan.specs.declared.packets.PacketsMode.TheVariants.{Aligned}
 use Rattle.stp_grammar.specs.declared.packet.Order.TheVariants.{Msn}
@@ -8,6 +11,8 @@ use Rattle.source_events.specs.declared.event.Event.{Event}
 use Rattle.source_events.specs.declared.event.What.{What}
 use Rattle.source_events.specs.declared.packet.Packet.{Packet}
 use Rattle.source_events.specs.declared.plan.Plan.{Plan}
+use Rattle.source_events.specs.Plan.{sources_by}
+use Rattle.source_events.specs.Report.{stop_in}
 use Rattle.resync_sources.specs.Rows as rows
 use Rattle.resync_reports.specs.Points.{items_among, from_points}
 use Rattle.resync_laws.specs.Report.{points, whole_report, left_report}
@@ -39,3 +44,14 @@ abbrev pub from : Plan → ℕ → List ℕ → List (ℕ × ℕ × Option ℕ �
 from plan bytes capture =
     let lost = take bytes capture in let rest = drop bytes capture in
     shown (from_points (points plan lost rest) (items_among (whole_report plan lost rest)))
+
+-- those of the whole from the port's own point on, which is that of each source that is not mapped
+abbrev pub from_port : Plan → ℕ → List ℕ → List (ℕ × ℕ × Option ℕ × What Packet)
+from_port plan bytes capture =
+    let lost = take bytes capture in let rest = drop bytes capture in
+    shown (from_points (λ x. points plan lost rest 0) (items_among (whole_report plan lost rest)))
+
+-- the offset and the reason of the fault of what is left where it is read as the whole is, at offsets from 0 on
+abbrev pub stop_of : Plan → ℕ → List ℕ → Option (ℕ × Reason)
+stop_of plan bytes capture =
+    option_map (λ f. (f.0.at, f.1.0)) (stop_in (sources_by plan) (port_reading plan.frames (placed (drop bytes capture))))

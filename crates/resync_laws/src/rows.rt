@@ -6,10 +6,11 @@ ghost use Rattle.itm_grammar.specs.declared.packet.ItmPacket.TheVariants.{Sync, 
 ghost use Rattle.stp_grammar.specs.declared.packet.Width.TheVariants.{Eight};
 ghost use Rattle.stp_grammar.specs.declared.item.Stamp.TheVariants.{None as NoStamp};
 ghost use Rattle.stp_grammar.specs.declared.item.StpItem.TheVariants.{Async, Version, Datum};
+ghost use Rattle.trace_values.specs.declared.fault.Reason.TheVariants.{BadSync};
 ghost use Rattle.source_events.specs.declared.event.What.TheVariants.{Locked, Packet};
 ghost use Rattle.source_events.specs.declared.packet.Packet.TheVariants.{Itm, Stp};
 ghost use Rattle.resync_ports.specs.Rows.{packets_in_frames};
-ghost use Rattle.resync_laws.specs.Rows.{itm_plan, stp_plan, whole, left, from, two_versions};
+ghost use Rattle.resync_laws.specs.Rows.{itm_plan, stp_plan, whole, left, from, from_port, stop_of, two_versions};
 
 /// Two frames with packets of one source, each after a full synchronisation. Without the first byte the port locks at
 /// the second full synchronisation, and the source at its last synchronisation packet.
@@ -21,6 +22,24 @@ pub fn packets_of_a_port()
     ensures rest { left itm_plan 1 packets_in_frames ≡
         (23, 0, None, Locked 19) ∷ (35, 0, Some 1, Locked 5) ∷ (35, 0, Some 1, Packet (Itm Sync)) ∷ [] }
     ensures from { from itm_plan 1 packets_in_frames ≡ (35, 0, Some 1, Packet (Itm Sync)) ∷ [] }
+{}
+
+/// The same without the first 21 bytes, so that no full synchronisation is whole: nothing is read, and no source has a
+/// point.
+pub fn nothing_of_a_port()
+    ensures rest { left itm_plan 21 packets_in_frames ≡ [] }
+    ensures from { from itm_plan 21 packets_in_frames ≡ [] }
+    ensures port { from_port itm_plan 21 packets_in_frames ≡ [] }
+{}
+
+/// What the laws do not say, since it is not so. Of the first row's rest, read from its first byte on and not hunted, the
+/// reading has a fault. And from the port's own point on the whole has packets that the rest has not, which are before the
+/// source's point. (That an STP item before the first VERSION may have another place is in the row of an STP source.)
+pub fn neighbours()
+    ensures not_hunted { stop_of itm_plan 1 packets_in_frames ≡ Some (2, BadSync) }
+    ensures from_the_port { from_port itm_plan 1 packets_in_frames ≡
+        (27, 0, Some 1, Packet (Itm Sync)) ∷ (29, 0, Some 1, Packet (Itm (Software 0 One 65)))
+        ∷ (35, 0, Some 1, Packet (Itm Sync)) ∷ [] }
 {}
 
 /// An STP source without a formatter, without the first four bytes: the items from the VERSION after its lock on are
