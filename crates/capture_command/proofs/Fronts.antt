@@ -13,7 +13,7 @@ use Rattle.resync_laws.proofs.ReportRest.{report_follows}
 use Rattle.source_events.specs.declared.plan.Plan.{Plan}
 use Rattle.std.specs.Io.KnownBytes.{Appends}
 use Rattle.trace_values.specs.Placed.{placed}
-use Rattle.capture_command.specs.Actions.{meaning_of}
+use Rattle.capture_command.specs.Actions.{meaning_of, HasDone}
 use Rattle.capture_command.specs.Fronts.{ListsRest, IsSoundWhole, FollowsWhole}
 use Rattle.capture_command.specs.Run.{HasRun, Streams, Loses}
 use Rattle.capture_command.specs.declared.status.Status.{Status}
@@ -30,11 +30,11 @@ same_job words a b p q = ap (job_or a) (sym p.job_is ∙ q.job_is)
 
 -- of the task that lists the rest, where all is done
 show_follows : (limit : ℕ) (old new : Streams) (whole : Plan) (lost left : List ℕ)
-    → HasRun (meaning_of (Show (rest_plan whole) None)) limit old new Done → Loses old.left new.left left
+    → HasRun (meaning_of (Show (rest_plan whole) None None)) limit old new Done → Loses old.left new.left left
     → IsSoundWhole whole lost left → FollowsWhole whole lost left old.held new.held
 show_follows limit old new whole lost left run loses sound =
     let law = report_follows whole lost left sound in
-    let rest : ListPlan = record { plan = rest_plan whole; only = None } in
+    let rest : ListPlan = record { plan = rest_plan whole; only = None; window = None } in
     let same = same_lost old.left new.left run.bytes left run.lost loses in
     let ends = ap (λ o. listed rest left ++ ending_by rest.plan (placed left) o) law.sound_from_0 in
     record {
@@ -44,8 +44,8 @@ show_follows limit old new whole lost left run loses sound =
     }
 
 pub follows_whole : (task : Task) (limit : ℕ) (old new : Streams) (status : Status) (whole : Plan) (lost left : List ℕ)
-    → HasRun (meaning_of task) limit old new status → ListsRest whole task → status ≡ Done → Loses old.left new.left left
+    → HasDone task limit old new status → ListsRest whole task → status ≡ Done → Loses old.left new.left left
     → IsSoundWhole whole lost left → FollowsWhole whole lost left old.held new.held
 follows_whole task limit old new status whole lost left run lists done loses sound =
-    let shown = subst (λ (t : Task). HasRun (meaning_of t) limit old new status) lists run in
-    show_follows limit old new whole lost left (subst (HasRun (meaning_of (Show (rest_plan whole) None)) limit old new) done shown) loses sound
+    let shown = subst (λ (t : Task). HasDone t limit old new status) lists run in
+    show_follows limit old new whole lost left (subst (HasRun (meaning_of (Show (rest_plan whole) None None)) limit old new) done shown) loses sound

@@ -17,7 +17,7 @@ use Rattle.trace_values.specs.Placed.{placed}
 -- sources and order of values, and hunting at the port, if it has frames, and at each source. The plan itself may hunt
 -- or not.
 abbrev pub ListsRest : Plan → Task → Type 0
-ListsRest whole task = task ≡ Show (rest_plan whole) None
+ListsRest whole task = task ≡ Show (rest_plan whole) None None
 
 -- this plan reads without a fault the whole capture, of which some bytes are lost and others are left
 abbrev pub IsSoundWhole : Plan → List ℕ → List ℕ → Type 0
@@ -29,7 +29,7 @@ pub record FollowsWhole (whole : Plan) (lost left : List ℕ) (held_old held_new
   -- The output gained the line of each event of the report of what is left, and then the end lines: no line of a fault.
   -- A remark on a time is made from the packets of its source in that same report.
   pub written :
-      let rest : ListPlan = record { plan = rest_plan whole; only = None } in
+      let rest : ListPlan = record { plan = rest_plan whole; only = None; window = None } in
       Appends held_old held_new (listed rest left ++ tails_text (tails_of rest.plan (placed left)))
   -- The offsets in these lines count from the first byte that is left. In the whole each is greater by how many bytes
   -- are lost, and the report is this one.

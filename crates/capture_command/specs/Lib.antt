@@ -3,3 +3,4 @@ pub mod Statuses
 pub mod Actions
 pub mod Run
 pub mod Fronts
+pub mod Rebuilds

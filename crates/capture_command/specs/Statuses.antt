@@ -1,11 +1,8 @@
--- Statuses: their numbers, and how they come from what happened to the stream.
+-- The numbers of statuses.
 use Rattle.std.specs.Prelude.{ℕ}
-use Rattle.trace_stream.specs.declared.outcome.Outcome.{Outcome}
-use Rattle.trace_stream.specs.declared.outcome.Outcome.TheVariants.{AtEnd, FaultFound, ReadFailed, WriteFailed}
-use Rattle.trace_stream.specs.declared.outcome.Outcome.TheVariants.{OverLimit}
 use Rattle.capture_command.specs.declared.status.Status.{Status}
 use Rattle.capture_command.specs.declared.status.Status.TheVariants.{Done, Usage, CaptureFault, ReadFault, WriteFault}
-use Rattle.capture_command.specs.declared.status.Status.TheVariants.{NoMemory, Limit}
+use Rattle.capture_command.specs.declared.status.Status.TheVariants.{NoMemory, ScriptFault, Limit}
 
 abbrev pub number_of : Status → ℕ
 number_of Done = 0
@@ -14,12 +11,5 @@ number_of CaptureFault = 3
 number_of ReadFault = 4
 number_of WriteFault = 5
 number_of NoMemory = 6
+number_of ScriptFault = 7
 number_of Limit = 8
-
--- the status of a run whose stream was served so
-abbrev pub status_of : Outcome → Status
-status_of AtEnd = Done
-status_of FaultFound = CaptureFault
-status_of ReadFailed = ReadFault
-status_of WriteFailed = WriteFault
-status_of OverLimit = Limit

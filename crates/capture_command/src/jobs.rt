@@ -1,23 +1,26 @@
-//! A job, done on the input.
+//! A job, done.
 
-ghost use Rattle.std.specs.Prelude.{◌≡◌, ◌≢◌, ◌+◌, ◌≤◌, ℕ, List, [], length, codes};
+ghost use Rattle.std.specs.Prelude.{◌≡◌, ◌≢◌, ◌+◌, ◌≤◌, ℕ, List, [], length, codes, false};
 ghost use Rattle.trace_io.specs.Causes.{Rose};
 ghost use Rattle.trace_stream.specs.Fresh.{IsFresh};
 ghost use Rattle.trace_stream.specs.declared.limits.TheConstants.{GREATEST_CAPTURE};
-ghost use Rattle.capture_words.specs.Jobs.{HasSoundPlan};
-ghost use Rattle.capture_command.specs.Actions.{meaning_of};
+ghost use Rattle.capture_words.specs.Jobs.{IsSoundTask};
+ghost use Rattle.capture_command.specs.Actions.{HasDone, IsSoundInput};
 ghost use Rattle.capture_command.specs.Notes.{Notes};
 ghost use Rattle.capture_command.specs.Run.{HasRun, TaskMeaning, Streams, Loses, IsDoneOrNoMemory};
 
 use crate::actions::CommandAction;
-use crate::notes::{note, note_outcome};
+use crate::exercise::run_exercise;
+use crate::notes::{note, note_fault, note_text};
 use crate::status::Status;
 use capture_actions::{Split, SplitPlan};
 use capture_report::{Check, ListPlan, Show};
 use capture_words::{Job, Task};
+use script_rebuild::{Rebuild, RebuildPlan};
 use std::alloc::Global;
 use trace_io::{Sink, Source};
-use trace_stream::{Buffers, serve};
+use trace_stream::{Buffers, Outcome, serve};
+use trace_text::LimitLine;
 
 /// Serves the input by an action that has read nothing, and notes how that ended.
 fn run_action<A: CommandAction, I: Source, O: Sink, N: Sink>(
@@ -33,7 +36,9 @@ fn run_action<A: CommandAction, I: Source, O: Sink, N: Sink>(
     ensures ran { let p = A.plan action.old in
         let meaning : TaskMeaning = record {
           action = record { faulty = A.faulty p; text = A.text p; ending = A.ending p };
+          late = A.late p;
           fault_note = A.noted p;
+          fault_status = A.faulted p;
         } in
         let before : Streams = record {
           left = I.left input.old;
@@ -55,14 +60,35 @@ fn run_action<A: CommandAction, I: Source, O: Sink, N: Sink>(
     ensures complete { (bytes : List ℕ) → Loses (I.left input.old) (I.left input.new) bytes →
         (Rose (I.faults input.old) (I.faults input.new) → ⊥) →
         (Rose (O.faults output.old) (O.faults output.new) → ⊥) →
-        length bytes ≤ limit → (A.faulty (A.plan action.old) bytes → ⊥) → IsDoneOrNoMemory result }
+        length bytes ≤ limit → (A.faulty (A.plan action.old) bytes → ⊥) →
+        A.late (A.plan action.old) bytes ≡ false → IsDoneOrNoMemory result }
 {
     let outcome = serve(buffers, action, limit, input, output);
-    note_outcome(notes, outcome, limit, action.noted_fault(), buffers);
-    Status::from(outcome)
+    match outcome {
+        Outcome::AtEnd => {
+            if action.is_late() {
+                note_fault(notes, action.fault_note(), buffers)
+            } else {
+                Status::Done
+            }
+        }
+        Outcome::FaultFound => note_fault(notes, action.fault_note(), buffers),
+        Outcome::ReadFailed => {
+            note(notes, b"read fault\n");
+            Status::ReadFault
+        }
+        Outcome::WriteFailed => {
+            note(notes, b"write fault\n");
+            Status::WriteFault
+        }
+        Outcome::OverLimit => {
+            note_text(notes, &LimitLine { limit });
+            Status::Limit
+        }
+    }
 }
 
-/// Does the job on the input. All memory is taken before anything is read.
+/// Does the job. All memory is taken before anything is read.
 pub fn run_job<I: Source, O: Sink, N: Sink>(
     alloc: Global,
     job: Job,
@@ -71,7 +97,7 @@ pub fn run_job<I: Source, O: Sink, N: Sink>(
     notes: &mut N,
 ) -> Status
     requires small { job.limit ≤ GREATEST_CAPTURE }
-    requires sound { HasSoundPlan job.task }
+    requires sound { IsSoundTask job.task }
     ensures ran { let before : Streams = record {
       left = I.left input.old;
       held = O.held output.old;
@@ -84,7 +110,7 @@ pub fn run_job<I: Source, O: Sink, N: Sink>(
           noted = N.held notes.new;
           note_faults = N.faults notes.new;
         } in
-        HasRun (meaning_of job.task) job.limit before after result }
+        HasDone job.task job.limit before after result }
     ensures memory_note { result ≡ Status.NoMemory →
         Notes (N.held notes.old) (N.held notes.new) (N.faults notes.old) (N.faults notes.new) (codes "no memory\n") }
     ensures one_empty_read { I.empty_reads input.new ≤ I.empty_reads input.old + 1 }
@@ -93,7 +119,7 @@ pub fn run_job<I: Source, O: Sink, N: Sink>(
     ensures complete { (bytes : List ℕ) → Loses (I.left input.old) (I.left input.new) bytes →
         (Rose (I.faults input.old) (I.faults input.new) → ⊥) →
         (Rose (O.faults output.old) (O.faults output.new) → ⊥) →
-        length bytes ≤ job.limit → ((meaning_of job.task).action.faulty bytes → ⊥) → IsDoneOrNoMemory result }
+        length bytes ≤ job.limit → IsSoundInput job.task bytes → IsDoneOrNoMemory result }
 {
     let Ok(mut buffers) = Buffers::open(alloc) else {
         note(notes, b"no memory\n");
@@ -101,8 +127,8 @@ pub fn run_job<I: Source, O: Sink, N: Sink>(
     };
     let Job { task, limit } = job;
     match task {
-        Task::Show { plan, only } => {
-            let mut action = Show::new(ListPlan { plan, only });
+        Task::Show { plan, only, window } => {
+            let mut action = Show::new(ListPlan { plan, only, window });
             run_action(&mut buffers, &mut action, limit, input, output, notes)
         }
         Task::Split { frames, id } => {
@@ -113,5 +139,14 @@ pub fn run_job<I: Source, O: Sink, N: Sink>(
             let mut action = Check::new(plan);
             run_action(&mut buffers, &mut action, limit, input, output, notes)
         }
+        Task::Rebuild { plan, sync, half } => {
+            let mut action = Rebuild::new(RebuildPlan {
+                plan,
+                every: sync,
+                halves: half,
+            });
+            run_action(&mut buffers, &mut action, limit, input, output, notes)
+        }
+        Task::Exercise { items, lose } => run_exercise(&mut buffers, items, lose, output, notes),
     }
 }

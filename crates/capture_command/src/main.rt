@@ -1,5 +1,6 @@
 //! Reads CoreSight software trace that comes on standard input: lists what all its sources gave, takes the bytes of one
-//! source out of the frames of a trace port, or counts what each source sent.
+//! source out of the frames of a trace port, or counts what each source sent. Or it writes the capture of a script, or
+//! tries itself on a capture of its own.
 #![tactic(auto)]
 
 ghost use Rattle.std.specs.Prelude.{◌≡◌, ◌⊎◌, ◌+◌, ◌≤◌, ℕ, List, length, map, codes};
@@ -8,17 +9,21 @@ ghost use Rattle.trace_io.specs.Causes.{Rose};
 ghost use Rattle.capture_words.specs.Calls.{AsksFor, Misuses, IsMisuse};
 ghost use Rattle.capture_words.specs.Texts.{usage_line};
 ghost use Rattle.capture_words.specs.declared.job.Job.{Job};
+ghost use Rattle.capture_words.specs.declared.job.Task.TheVariants.{Rebuild};
 ghost use Rattle.capture_words.specs.declared.usage.UsageFault.{UsageFault};
 ghost use Rattle.source_events.specs.declared.plan.Plan.{Plan};
-ghost use Rattle.capture_command.specs.Actions.{meaning_of};
+ghost use Rattle.capture_command.specs.Actions.{HasDone, IsSoundInput};
 ghost use Rattle.capture_command.specs.Fronts.{ListsRest, IsSoundWhole, FollowsWhole};
 ghost use Rattle.capture_command.specs.Notes.{Notes};
-ghost use Rattle.capture_command.specs.Run.{HasRun, Streams, Untouched, Loses, IsDoneOrNoMemory};
+ghost use Rattle.capture_command.specs.Rebuilds.{Rebuilds};
+ghost use Rattle.capture_command.specs.Run.{Streams, Untouched, Loses, IsDoneOrNoMemory};
 ghost use Rattle.capture_command.specs.Statuses.{number_of};
 
 mod actions;
+mod exercise;
 mod jobs;
 mod notes;
+mod rows;
 mod status;
 #[cfg(test)]
 mod tests;
@@ -35,14 +40,17 @@ use trace_io::{ReadAdapter, Sink, Source, WriteAdapter};
 /// All that the program does: it reads the words, does what they ask for on the input, and answers how
 /// that ended.
 ///
-/// A status is the first that holds of Usage, WriteFault, CaptureFault, ReadFault, Limit and Done. Want of
-/// memory is the one free answer, and comes only before anything is read or written. A failed write to
+/// A status is the first that holds of Usage, WriteFault, CaptureFault or ScriptFault, ReadFault, Limit and Done.
+/// Want of memory is the one free answer, and comes only before anything is read or written. A failed write to
 /// the notes changes nothing.
 ///
 /// A capture may begin in the middle of a stream. Take any bytes that may have come before those read, so that
 /// the whole reads without a fault, whether by hunts or not. Where `show` hunts at the port, if it has frames, and
 /// at each source, has no filter and is done, what it wrote follows that whole: from each source's point on it
 /// lists the whole's events, in the whole's order, at offsets that count from the first byte read (`fronts`).
+///
+/// Where `rebuild` is done, the output gained the capture of the script, and that capture reads back, source by source,
+/// as exactly what the script's lines give (`reads_back`).
 pub fn run<I: Source, O: Sink, N: Sink>(
     alloc: Global,
     words: &[String],
@@ -76,7 +84,7 @@ pub fn run<I: Source, O: Sink, N: Sink>(
           noted = N.held notes.new;
           note_faults = N.faults notes.new;
         } in
-        HasRun (meaning_of job.task) job.limit before after result }
+        HasDone job.task job.limit before after result }
 
     // Every read but the last gives at least one byte, whatever the words.
     ensures one_empty_read { I.empty_reads input.new ≤ I.empty_reads input.old + 1 }
@@ -88,13 +96,19 @@ pub fn run<I: Source, O: Sink, N: Sink>(
         Loses (I.left input.old) (I.left input.new) bytes →
         (Rose (I.faults input.old) (I.faults input.new) → ⊥) →
         (Rose (O.faults output.old) (O.faults output.new) → ⊥) →
-        length bytes ≤ job.limit → ((meaning_of job.task).action.faulty bytes → ⊥) → IsDoneOrNoMemory result }
+        length bytes ≤ job.limit → IsSoundInput job.task bytes → IsDoneOrNoMemory result }
 
     // Where a front of the capture may be lost: what was written follows the whole.
     ensures fronts { (job : Job) (whole : Plan) (lost bytes : List ℕ) → AsksFor (map string_bytes words.now) job →
         ListsRest whole job.task → Loses (I.left input.old) (I.left input.new) bytes →
         IsSoundWhole whole lost bytes → result ≡ Status.Done →
         FollowsWhole whole lost bytes (O.held output.old) (O.held output.new) }
+
+    // What is rebuilt reads back as exactly what the lines of the script give each source.
+    ensures reads_back { (job : Job) (plan : Plan) (sync half : ℕ) (script : List ℕ) →
+        AsksFor (map string_bytes words.now) job → job.task ≡ Rebuild plan sync half →
+        Loses (I.left input.old) (I.left input.new) script → result ≡ Status.Done →
+        Rebuilds plan sync half script (O.held output.old) (O.held output.new) }
 {
     match read_words(alloc, words) {
         Asked::Do(job) => run_job(alloc, job, input, output, notes),
@@ -136,7 +150,7 @@ fn start<I: Source, O: Sink, N: Sink>(
           noted = N.held notes.new;
           note_faults = N.faults notes.new;
         } in
-        (status : Status) × (result ≡ number_of status) × HasRun (meaning_of job.task) job.limit before after status }
+        (status : Status) × (result ≡ number_of status) × HasDone job.task job.limit before after status }
 {
     run(alloc, words, input, output, notes).number()
 }

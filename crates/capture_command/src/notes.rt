@@ -1,14 +1,18 @@
 //! The notes of a run, each one line.
 
-ghost use Rattle.std.specs.Prelude.{◌≤◌, ◌++◌, option_map};
+ghost use Rattle.std.specs.Prelude.{◌≡◌, ◌≤◌, ◌++◌, option_map};
 ghost use Rattle.trace_text.specs.FaultText.{told};
 ghost use Rattle.trace_text.specs.NoteText.{last_line};
-ghost use Rattle.capture_command.specs.Notes.{Notes, note_of, fault_text};
+ghost use Rattle.script_rebuild.specs.Rebuilder.{told as told_of_script};
+ghost use Rattle.capture_command.specs.Notes.{Notes, fault_text, script_note, text_of, status_of};
 
+use crate::actions::FaultNote;
+use crate::status::Status;
+use script_rebuild::ScriptFault;
 use source_events::Stop;
 use trace_io::{Sink, write_whole};
-use trace_stream::{Buffers, Outcome, RECENT_ROOM, TEXT_ROOM, Text};
-use trace_text::{FaultLine, LastLine, LimitLine};
+use trace_stream::{Buffers, RECENT_ROOM, TEXT_ROOM, Text};
+use trace_text::{FaultLine, LastLine, ScriptFaultLine};
 use trace_values::Fault;
 
 /// Writes the line. Where that fails nothing changes.
@@ -20,7 +24,7 @@ pub fn note<N: Sink>(notes: &mut N, line: &[u8])
 }
 
 /// Writes the text of a line. Where that fails nothing changes.
-fn note_text<N: Sink, T: Text>(notes: &mut N, text: &T)
+pub fn note_text<N: Sink, T: Text>(notes: &mut N, text: &T)
     requires { T.fits text.now }
     ensures noted { Notes (N.held notes.old) (N.held notes.new) (N.faults notes.old) (N.faults notes.new)
         (T.text text.now) }
@@ -62,23 +66,30 @@ fn note_stop<N: Sink>(notes: &mut N, fault: Option<Fault>, buffers: &Buffers)
     note_last(notes, buffers);
 }
 
-/// The note of a run that ended so, over these buffers and with this limit, where this fault has no line in
-/// the output.
-pub fn note_outcome<N: Sink>(
-    notes: &mut N,
-    outcome: Outcome,
-    limit: u64,
-    fault: Option<Fault>,
-    buffers: &Buffers,
-)
+/// The fault of a script, where there is one.
+fn note_script<N: Sink>(notes: &mut N, fault: Option<ScriptFault>)
     ensures noted { Notes (N.held notes.old) (N.held notes.new) (N.faults notes.old) (N.faults notes.new)
-        (note_of outcome limit (fault_text (option_map told fault) ++ last_line buffers.now.recent)) }
+        (script_note (option_map told_of_script fault)) }
 {
-    match outcome {
-        Outcome::AtEnd => {}
-        Outcome::FaultFound => note_stop(notes, fault, buffers),
-        Outcome::ReadFailed => note(notes, b"read fault\n"),
-        Outcome::WriteFailed => note(notes, b"write fault\n"),
-        Outcome::OverLimit => note_text(notes, &LimitLine { limit }),
+    if let Some(ScriptFault { line, fault }) = fault {
+        let line = ScriptFaultLine {
+            line,
+            number: fault.number(),
+            name: fault.name(),
+        };
+        note_text(notes, &line);
     }
+}
+
+/// Notes a fault, over these buffers, and answers how the run ends.
+pub fn note_fault<N: Sink>(notes: &mut N, fault: FaultNote, buffers: &Buffers) -> Status
+    ensures noted { Notes (N.held notes.old) (N.held notes.new) (N.faults notes.old) (N.faults notes.new)
+        (text_of fault buffers.now.recent) }
+    ensures status { result ≡ status_of fault }
+{
+    match fault {
+        FaultNote::Capture(fault) => note_stop(notes, fault, buffers),
+        FaultNote::Script(fault) => note_script(notes, fault),
+    }
+    fault.status()
 }

@@ -1,15 +1,13 @@
 //! How a run ends.
 
 ghost use Rattle.std.specs.Prelude.{◌≡◌};
-ghost use Rattle.capture_command.specs.Statuses.{number_of, status_of};
-
-use trace_stream::Outcome;
+ghost use Rattle.capture_command.specs.Statuses.{number_of};
 
 /// How a run ended. A failed write comes before a fault, a fault before a failed read, and that before
 /// the limit.
-#[derive(Clone, Copy, Debug, PartialEq, Eq)]
+#[derive(Clone, Copy, Debug, PartialEq, Eq, Drop)]
 pub enum Status {
-    /// All of the input was read, and its whole text was written.
+    /// All of the input was read, and its whole text was written; or the task reads nothing, and its text was written.
     Done,
     /// The words are no call. Nothing was read.
     Usage,
@@ -21,6 +19,8 @@ pub enum Status {
     WriteFault,
     /// There was no memory to begin with. Nothing was read or written.
     NoMemory,
+    /// A line of the script has a fault.
+    ScriptFault,
     /// The input has more bytes than the limit.
     Limit,
 }
@@ -37,21 +37,8 @@ impl Status {
             Status::ReadFault => 4,
             Status::WriteFault => 5,
             Status::NoMemory => 6,
+            Status::ScriptFault => 7,
             Status::Limit => 8,
-        }
-    }
-}
-
-impl From<Outcome> for Status {
-    ghost from_gives = { λ outcome status. status ≡ status_of outcome };
-
-    fn from(outcome: Outcome) -> Status {
-        match outcome {
-            Outcome::AtEnd => Status::Done,
-            Outcome::FaultFound => Status::CaptureFault,
-            Outcome::ReadFailed => Status::ReadFault,
-            Outcome::WriteFailed => Status::WriteFault,
-            Outcome::OverLimit => Status::Limit,
         }
     }
 }

@@ -1,6 +1,7 @@
 -- The text of each choice of events.
-use Rattle.std.specs.Prelude.{◌≤◌, codes, decimal, ◌++◌}
+use Rattle.std.specs.Prelude.{◌≤◌, codes, decimal, ◌++◌, ◌∷◌}
 use Rattle.clap.specs.Words.{Text}
+use Rattle.item_tap.specs.declared.bounds.Bounds.{Bounds}
 use Rattle.item_tap.specs.declared.choice.Choice.{Choice}
 use Rattle.item_tap.specs.declared.choice.Choice.TheVariants.{OfKind, Source, Port}
 use Rattle.item_tap.specs.declared.choice.Kind.{Kind}
@@ -23,3 +24,10 @@ abbrev pub IsChoice : Choice → Type 0
 IsChoice (OfKind kind) = Unit {0}
 IsChoice (Source x) = (1 ≤ x) × (x ≤ 126)
 IsChoice (Port n) = n ≤ 31
+
+-- the text of a window: its two choices with a comma, 2C, between them
+abbrev pub window_text : Bounds → Text
+window_text window = choice_text window.first ++ 44 ∷ choice_text window.last
+
+abbrev pub IsWindow : Bounds → Type 0
+IsWindow window = IsChoice window.first × IsChoice window.last

@@ -6,7 +6,8 @@ use Rattle.clap.specs.Kinds.{Kinds}
 use Rattle.clap.specs.declared.builder.ArgAction.TheVariants.{Set}
 use Rattle.capture_words.specs.declared.option.CommandOption.{CommandOption}
 use Rattle.capture_words.specs.declared.option.CommandOption.TheVariants.{Frames, Packets, Itm, Stp, StpOrder, Id}
-use Rattle.capture_words.specs.declared.option.CommandOption.TheVariants.{Only, Limit}
+use Rattle.capture_words.specs.declared.option.CommandOption.TheVariants.{Only, Window, Sync, Half, Limit, Items}
+use Rattle.capture_words.specs.declared.option.CommandOption.TheVariants.{Lose}
 
 -- the name of an option, after the two dashes
 abbrev pub option_name : CommandOption → Text
@@ -17,7 +18,12 @@ option_name Stp = codes "stp"
 option_name StpOrder = codes "stp-order"
 option_name Id = codes "id"
 option_name Only = codes "only"
+option_name Window = codes "window"
+option_name Sync = codes "sync"
+option_name Half = codes "half"
 option_name Limit = codes "limit"
+option_name Items = codes "items"
+option_name Lose = codes "lose"
 
 -- an option has one value, and is given once at most
 abbrev pub option_rule : CommandOption → Rule
@@ -28,7 +34,8 @@ abbrev pub action_rule : Rule
 action_rule = record (new_rule (codes "action")) { required = true; action = Some Set }
 
 abbrev pub all_options : List CommandOption
-all_options = Frames ∷ Packets ∷ Itm ∷ Stp ∷ StpOrder ∷ Id ∷ Only ∷ Limit ∷ []
+all_options =
+    Frames ∷ Packets ∷ Itm ∷ Stp ∷ StpOrder ∷ Id ∷ Only ∷ Window ∷ Sync ∷ Half ∷ Limit ∷ Items ∷ Lose ∷ []
 
 abbrev pub with_options : List CommandOption → App → App
 with_options [] app = app

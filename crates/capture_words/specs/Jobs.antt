@@ -1,21 +1,22 @@
 -- The job of the entries, or the first fault.
-use Rattle.std.specs.Prelude.{◌≡◌, ℕ, List, [], ◌∷◌, true, Option, Some, None, Result, Ok, Err, ◌==◌, if◌then◌else◌}
+use Rattle.std.specs.Prelude.{◌≡◌, ◌≤◌, ℕ, length, List, [], ◌∷◌, true, Option, Some, None, Result, Ok, Err, ◌==◌, if◌then◌else◌}
 use Rattle.std.specs.Prelude.{option_map}
 use Rattle.clap.specs.Words.{Row}
 use Rattle.capture_plan.specs.declared.frames.FramesMode.{FramesMode}
 use Rattle.source_events.specs.Plan.{is_sound}
 use Rattle.source_events.specs.declared.plan.Plan.{Plan}
 use Rattle.capture_words.specs.Values.{action_in, frames_in, packets_in, itm_in, stp_in, order_in, id_in, only_in}
-use Rattle.capture_words.specs.Values.{limit_in}
+use Rattle.capture_words.specs.Values.{window_in, sync_in, half_in, limit_in, items_in, lose_in}
 use Rattle.capture_words.specs.declared.job.Task.{Task}
-use Rattle.capture_words.specs.declared.job.Task.TheVariants.{Show, Split, Check}
+use Rattle.capture_words.specs.declared.job.Task.TheVariants.{Show, Split, Check, Rebuild, Exercise}
 use Rattle.capture_words.specs.declared.job.Job.{Job}
 use Rattle.capture_words.specs.declared.settings.Settings.{Settings}
 use Rattle.capture_words.specs.declared.usage.UsageFault.{UsageFault}
 use Rattle.capture_words.specs.declared.usage.UsageFault.TheVariants.{SplitNeedsId, MappedTwice}
 use Rattle.capture_words.specs.declared.values.ActionName.{ActionName}
 use Rattle.capture_words.specs.declared.values.ActionName.TheVariants.{Show as ShowName, Split as SplitName}
-use Rattle.capture_words.specs.declared.values.ActionName.TheVariants.{Check as CheckName}
+use Rattle.capture_words.specs.declared.values.ActionName.TheVariants.{Check as CheckName, Rebuild as RebuildName}
+use Rattle.capture_words.specs.declared.values.ActionName.TheVariants.{Exercise as ExerciseName}
 
 infixr 10 ◌>>=◌
 -- a fault, or else what is made of the value
@@ -33,7 +34,12 @@ settings_in rows =
     order_in rows >>= (λ order.
     id_in rows >>= (λ id.
     only_in rows >>= (λ only.
+    window_in rows >>= (λ window.
+    sync_in rows >>= (λ sync.
+    half_in rows >>= (λ half.
     limit_in rows >>= (λ limit.
+    items_in rows >>= (λ items.
+    lose_in rows >>= (λ lose.
     Ok (record {
       frames = frames;
       packets = packets;
@@ -42,8 +48,13 @@ settings_in rows =
       order = order;
       id = id;
       only = only;
+      window = window;
+      sync = sync;
+      half = half;
       limit = limit;
-    })))))))))
+      items = items;
+      lose = lose;
+    }))))))))))))))
 
 -- no ID, or one
 abbrev pub ids_of : Option ℕ → List ℕ
@@ -79,9 +90,11 @@ split_with frames (Some id) = Ok (Split frames id)
 
 -- the task of an action with what it needs of the options
 abbrev pub task_with : ActionName → Settings → Result Task UsageFault
-task_with ShowName s = plan_with s >>= (λ plan. Ok (Show plan s.only))
+task_with ShowName s = plan_with s >>= (λ plan. Ok (Show plan s.only s.window))
 task_with SplitName s = split_with s.frames s.id
 task_with CheckName s = plan_with s >>= (λ plan. Ok (Check plan))
+task_with RebuildName s = plan_with s >>= (λ plan. Ok (Rebuild plan s.sync s.half))
+task_with ExerciseName s = Ok (Exercise s.items s.lose)
 
 -- The first fault of the action's name, of the options' values in the order of the command, and of what the
 -- action needs; and where there is none, the job. An option that the action doesn't use has no effect.
@@ -92,8 +105,11 @@ job_of rows =
     task_with name settings >>= (λ task.
     Ok (record { task = task; limit = settings.limit }))))
 
--- the plan of a task is sound
-abbrev pub HasSoundPlan : Task → Type 0
-HasSoundPlan (Show plan only) = is_sound plan ≡ true
-HasSoundPlan (Split frames id) = Unit {0}
-HasSoundPlan (Check plan) = is_sound plan ≡ true
+-- What is sure of a task: its plan is sound. For a script it has at most one STP source, and there are at most eight half
+-- synchronisations in a gap. From 1 to 1,000,000 items are made, of which at most 1,000,000 bytes are lost.
+abbrev pub IsSoundTask : Task → Type 0
+IsSoundTask (Show plan only window) = is_sound plan ≡ true
+IsSoundTask (Split frames id) = Unit {0}
+IsSoundTask (Check plan) = is_sound plan ≡ true
+IsSoundTask (Rebuild plan sync half) = (is_sound plan ≡ true) × (length plan.stp ≤ 1) × (half ≤ 8)
+IsSoundTask (Exercise items lose) = (1 ≤ items) × (items ≤ 1000000) × (lose ≤ 1000000)

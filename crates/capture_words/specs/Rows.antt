@@ -1,5 +1,5 @@
 -- Worked rows of the words, in text.
-use Rattle.std.specs.Prelude.{◌≡◌, ℕ, List, [], ◌∷◌, Some, nat_eq, if◌then◌else◌}
+use Rattle.std.specs.Prelude.{◌≡◌, ℕ, List, [], ◌∷◌, None, Some, nat_eq, if◌then◌else◌}
 use Rattle.clap.specs.Words.{Text}
 use Rattle.clap.specs.declared.error.kind.ErrorKind.{ErrorKind}
 use Rattle.capture_plan.specs.declared.frames.FramesMode.{FramesMode}
@@ -37,7 +37,7 @@ Does text task limit = AsksFor (words_of text) (record { task = task; limit = li
 
 -- they ask for a listing of these events, by defaults alone
 abbrev pub Lists : Text → Choice → Type 0
-Lists text only = Does text (Show (planned FramesHunt PacketsHunt [] [] Msn) (Some only)) 68719476736
+Lists text only = Does text (Show (planned FramesHunt PacketsHunt [] [] Msn) (Some only) None) 68719476736
 
 -- they have this fault
 abbrev pub Faults : Text → UsageFault → Type 0

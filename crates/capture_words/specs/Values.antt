@@ -1,7 +1,8 @@
 -- What the texts of the action and of the options say.
-use Rattle.std.specs.Prelude.{ℕ, ◌^◌, List, codes, Option, Some, None, Result, if◌then◌else◌}
+use Rattle.std.specs.Prelude.{ℕ, ◌^◌, List, codes, Option, Some, None, Result, if◌then◌else◌, ◌==◌}
 use Rattle.std.specs.Prelude.{ok_or, option_and_then, option_map}
 use Rattle.std.specs.Str.{bytes_eq}
+use Rattle.std.specs.List.{before_first, after_first}
 use Rattle.clap.specs.Words.{Text, Row, first_of}
 use Rattle.capture_plan.specs.Modes.{frames_named, packets_named}
 use Rattle.capture_plan.specs.declared.frames.FramesMode.{FramesMode}
@@ -10,6 +11,7 @@ use Rattle.capture_plan.specs.declared.packets.PacketsMode.{PacketsMode}
 use Rattle.capture_plan.specs.declared.packets.PacketsMode.TheVariants.{Hunt as PacketsHunt}
 use Rattle.stp_grammar.specs.declared.packet.Order.{Order}
 use Rattle.stp_grammar.specs.declared.packet.Order.TheVariants.{Msn, Lsn}
+use Rattle.item_tap.specs.declared.bounds.Bounds.{Bounds}
 use Rattle.item_tap.specs.declared.choice.Choice.{Choice}
 use Rattle.item_tap.specs.declared.choice.Choice.TheVariants.{OfKind, Source, Port}
 use Rattle.item_tap.specs.declared.choice.Kind.{Kind}
@@ -19,11 +21,12 @@ use Rattle.decimal_words.specs.Numbers.{number_named, number_after}
 use Rattle.capture_words.specs.Command.{option_name}
 use Rattle.capture_words.specs.declared.option.CommandOption.{CommandOption}
 use Rattle.capture_words.specs.declared.option.CommandOption.TheVariants.{Frames, Packets, Itm, Stp, StpOrder, Id}
-use Rattle.capture_words.specs.declared.option.CommandOption.TheVariants.{Only, Limit}
+use Rattle.capture_words.specs.declared.option.CommandOption.TheVariants.{Only, Window, Sync, Half, Limit, Items}
+use Rattle.capture_words.specs.declared.option.CommandOption.TheVariants.{Lose}
 use Rattle.capture_words.specs.declared.usage.UsageFault.{UsageFault}
 use Rattle.capture_words.specs.declared.usage.UsageFault.TheVariants.{UnknownAction, BadValue}
 use Rattle.capture_words.specs.declared.values.ActionName.{ActionName}
-use Rattle.capture_words.specs.declared.values.ActionName.TheVariants.{Show, Split, Check}
+use Rattle.capture_words.specs.declared.values.ActionName.TheVariants.{Show, Split, Check, Rebuild, Exercise}
 
 -- the action that a text names
 abbrev pub action_named : Text → Option ActionName
@@ -31,6 +34,8 @@ action_named text =
     if bytes_eq text (codes "show") then Some Show
     else if bytes_eq text (codes "split") then Some Split
     else if bytes_eq text (codes "check") then Some Check
+    else if bytes_eq text (codes "rebuild") then Some Rebuild
+    else if bytes_eq text (codes "exercise") then Some Exercise
     else None
 
 -- the order of nibbles that a text names
@@ -59,6 +64,16 @@ choice_named text =
     or_else (option_map OfKind (kind_named text))
     (or_else (option_map Source (number_after (codes "id=") 1 126 text))
     (option_map Port (number_after (codes "port=") 0 31 text)))
+
+-- a window from one choice to another, if there are both
+abbrev pub bounds_of : Option Choice → Option Choice → Option Bounds
+bounds_of (Some first) (Some last) = Some (record { first = first; last = last })
+bounds_of first last = None
+
+-- the window that a text names: the choice before its first comma, and that after it
+abbrev pub window_named : Text → Option Bounds
+window_named text =
+    bounds_of (choice_named (before_first (λ c. c == 44) text)) (choice_named (after_first (λ c. c == 44) text))
 
 -- what an option says: its default where it is absent, and else what its text names. Where that is nothing, its
 -- value is bad
@@ -101,8 +116,30 @@ id_in = id_given Id 0 126
 abbrev pub only_in : List Row → Result (Option Choice) UsageFault
 only_in = option_in Only None (λ text. option_map Some (choice_named text))
 
+-- from which event to which the listing goes; over all by default
+abbrev pub window_in : List Row → Result (Option Bounds) UsageFault
+window_in = option_in Window None (λ text. option_map Some (window_named text))
+
+-- an option whose value is a number within these bounds
+abbrev pub number_given : CommandOption → ℕ → ℕ → ℕ → List Row → Result ℕ UsageFault
+number_given option default least greatest = option_in option default (number_named least greatest)
+
+-- a full synchronisation before each 64 frames, if nothing else is said, and none for 0; no half synchronisations
+abbrev pub sync_in : List Row → Result ℕ UsageFault
+sync_in = number_given Sync 64 0 1000000
+
+abbrev pub half_in : List Row → Result ℕ UsageFault
+half_in = number_given Half 0 0 8
+
+-- 12,000 items, and no byte lost, if nothing else is said
+abbrev pub items_in : List Row → Result ℕ UsageFault
+items_in = number_given Items 12000 1 1000000
+
+abbrev pub lose_in : List Row → Result ℕ UsageFault
+lose_in = number_given Lose 0 0 1000000
+
 abbrev pub greatest_limit : ℕ
 greatest_limit = 2 ^ 36
 
 abbrev pub limit_in : List Row → Result ℕ UsageFault
-limit_in = option_in Limit greatest_limit (number_named 1 greatest_limit)
+limit_in = number_given Limit greatest_limit 1 greatest_limit

@@ -2,10 +2,10 @@
 
 ghost use Rattle.std.specs.Prelude.{◌≡◌};
 ghost use Rattle.decimal_words.specs.Numbers.{number_after};
-ghost use Rattle.capture_words.specs.Values.{kind_named, choice_named};
+ghost use Rattle.capture_words.specs.Values.{kind_named, choice_named, window_named};
 
 use decimal_words::{id_named, number_named, text_after};
-use item_tap::{Choice, Kind};
+use item_tap::{Bounds, Choice, Kind};
 use trace_values::SourceId;
 
 /// The kind of events of this name.
@@ -57,6 +57,21 @@ pub fn choice_named(text: &str) -> Option<Choice>
     }
     match port_after("port=", text) {
         Some(port) => Some(Choice::Port(port)),
+        None => None,
+    }
+}
+
+/// The window of this text: two choices with a comma between them.
+#[tactic(auto, using(crate::proofs::Windows::no_window))]
+pub fn window_named(text: &str) -> Option<Bounds>
+    ensures { result ≡ window_named text.now }
+{
+    match text.split_once(',') {
+        Some((first, last)) => {
+            let first = choice_named(first)?;
+            let last = choice_named(last)?;
+            Some(Bounds { first, last })
+        }
         None => None,
     }
 }

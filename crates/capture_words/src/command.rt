@@ -10,7 +10,12 @@ use std::alloc::{AllocError, Global};
 
 /// What `--help` says below the options: how a capture is given.
 const CAPTURE_HELP: &str =
-    "The capture is read from standard input, as in: ./lipparoy check < CAPTURE";
+    "The capture, or for rebuild the script, is read from standard input, as in: ./lipparoy check < CAPTURE";
+
+/// What `--help` says of the action.
+const ACTION_HELP: &str =
+    "show lists events, split writes the bytes of one source, check counts those of each, rebuild \
+    writes the capture of a script, exercise tries the tool on a capture of its own";
 
 /// The command with this option besides. It takes one value, and is given once at most.
 fn with_option<'a>(
@@ -33,7 +38,7 @@ fn with_action<'a>(alloc: Global) -> Result<Command<'a>, AllocError>
     ensures { IfOk result (λ c. app_of c ≡ with_rule (new_app (codes "trace")) action_rule) }
 {
     let action = Arg::new(alloc, "action")
-        .help("show lists events, split writes the bytes of one source, check counts those of each")
+        .help(ACTION_HELP)
         .required(true)
         .action(ArgAction::Set);
     Command::new(alloc, "trace")
@@ -53,5 +58,10 @@ pub fn trace_command<'a>(alloc: Global) -> Result<Command<'a>, AllocError>
     let command = with_option(alloc, command, CommandOption::StpOrder)?;
     let command = with_option(alloc, command, CommandOption::Id)?;
     let command = with_option(alloc, command, CommandOption::Only)?;
-    with_option(alloc, command, CommandOption::Limit)
+    let command = with_option(alloc, command, CommandOption::Window)?;
+    let command = with_option(alloc, command, CommandOption::Sync)?;
+    let command = with_option(alloc, command, CommandOption::Half)?;
+    let command = with_option(alloc, command, CommandOption::Limit)?;
+    let command = with_option(alloc, command, CommandOption::Items)?;
+    with_option(alloc, command, CommandOption::Lose)
 }

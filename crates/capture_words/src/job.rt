@@ -1,17 +1,18 @@
 //! The job of the entries.
 
-ghost use Rattle.std.specs.Prelude.{◌≡◌, ◌≤◌, true, IfOk, IfSome};
-ghost use Rattle.capture_words.specs.declared.values.TheConstants.{GREATEST_LIMIT};
+ghost use Rattle.std.specs.Prelude.{◌≡◌, ◌≤◌, true, length, IfOk, IfSome};
+ghost use Rattle.capture_words.specs.declared.values.TheConstants.{GREATEST_LIMIT, GREATEST_HALF, GREATEST_ITEMS};
+ghost use Rattle.capture_words.specs.declared.values.TheConstants.{GREATEST_LOSS};
 ghost use Rattle.clap.specs.Words.{rows_of, found_of};
 ghost use Rattle.source_events.specs.Plan.{is_sound};
-ghost use Rattle.capture_words.specs.Jobs.{ids_of, mapped_twice, plan_with, task_with, job_of, HasSoundPlan};
+ghost use Rattle.capture_words.specs.Jobs.{ids_of, mapped_twice, plan_with, task_with, job_of, IsSoundTask};
 
 use crate::settings::{Settings, settings_in};
 use crate::usage::UsageFault;
 use crate::values::{ActionName, action_in};
 use capture_plan::FramesMode;
 use clap::ArgMatches;
-use item_tap::Choice;
+use item_tap::{Bounds, Choice};
 use source_events::{Plan, SourceIds};
 use trace_values::SourceId;
 
@@ -24,6 +25,8 @@ pub enum Task {
         plan: Plan,
         /// Which events are listed; all where it is absent.
         only: Option<Choice>,
+        /// From which event to which the listing goes; over all where it is absent.
+        window: Option<Bounds>,
     },
     /// The bytes of one source, taken out of the frames of a port.
     Split {
@@ -34,6 +37,22 @@ pub enum Task {
     },
     /// The capture is read so, and what is in it is counted.
     Check(Plan),
+    /// The capture of a script.
+    Rebuild {
+        /// What the script's sources send. Its modes make no difference.
+        plan: Plan,
+        /// How many frames are written for each full synchronisation, or 0 for none.
+        sync: u32,
+        /// How many half synchronisations are written in each gap of a frame, at most 8.
+        half: u8,
+    },
+    /// A capture is made, some bytes of its front are lost, and what is in the rest is counted. No input is read.
+    Exercise {
+        /// How many items are made, 1 to 1,000,000.
+        items: u32,
+        /// How many bytes are lost, at most 1,000,000.
+        lose: u32,
+    },
 }
 
 /// What the words ask for.
@@ -41,7 +60,7 @@ pub enum Task {
 pub struct Job {
     /// What is done.
     pub task: Task,
-    /// How many bytes of the capture are read at most, 1 to `GREATEST_LIMIT`.
+    /// How many bytes of the input are read at most, 1 to `GREATEST_LIMIT`.
     pub limit: u64,
 }
 
@@ -72,6 +91,7 @@ fn plan_with(settings: &Settings) -> Result<Plan, UsageFault>
     requires stp { IfSome settings.now.stp (λ n. (1 ≤ n) × (n ≤ 111)) }
     ensures plan { result ≡ plan_with settings.now }
     ensures sound { IfOk result (λ plan. is_sound plan ≡ true) }
+    ensures few { IfOk result (λ plan. length plan.stp ≤ 1) }
 {
     match mapped_twice(settings.itm, settings.stp) {
         Some(id) => Err(UsageFault::MappedTwice(id)),
@@ -89,8 +109,11 @@ fn plan_with(settings: &Settings) -> Result<Plan, UsageFault>
 fn task_with(name: ActionName, settings: &Settings) -> Result<Task, UsageFault>
     requires itm { IfSome settings.now.itm (λ n. (1 ≤ n) × (n ≤ 111)) }
     requires stp { IfSome settings.now.stp (λ n. (1 ≤ n) × (n ≤ 111)) }
+    requires half { settings.now.half ≤ GREATEST_HALF }
+    requires items { (1 ≤ settings.now.items) × (settings.now.items ≤ GREATEST_ITEMS) }
+    requires lose { settings.now.lose ≤ GREATEST_LOSS }
     ensures task { result ≡ task_with name settings.now }
-    ensures sound { IfOk result HasSoundPlan }
+    ensures sound { IfOk result IsSoundTask }
 {
     match name {
         ActionName::Show => {
@@ -98,6 +121,7 @@ fn task_with(name: ActionName, settings: &Settings) -> Result<Task, UsageFault>
             Ok(Task::Show {
                 plan,
                 only: settings.only,
+                window: settings.window,
             })
         }
         ActionName::Split => match settings.id {
@@ -111,6 +135,18 @@ fn task_with(name: ActionName, settings: &Settings) -> Result<Task, UsageFault>
             let plan = plan_with(settings)?;
             Ok(Task::Check(plan))
         }
+        ActionName::Rebuild => {
+            let plan = plan_with(settings)?;
+            Ok(Task::Rebuild {
+                plan,
+                sync: settings.sync,
+                half: settings.half,
+            })
+        }
+        ActionName::Exercise => Ok(Task::Exercise {
+            items: settings.items,
+            lose: settings.lose,
+        }),
     }
 }
 
@@ -118,7 +154,7 @@ fn task_with(name: ActionName, settings: &Settings) -> Result<Task, UsageFault>
 pub fn job_of(matches: &ArgMatches<'_>) -> Result<Job, UsageFault>
     ensures job { result ≡ job_of (rows_of (found_of matches.now)) }
     ensures limit { IfOk result (λ job. (1 ≤ job.limit) × (job.limit ≤ GREATEST_LIMIT)) }
-    ensures plan { IfOk result (λ job. HasSoundPlan job.task) }
+    ensures sound { IfOk result (λ job. IsSoundTask job.task) }
 {
     let name = action_in(matches)?;
     let settings = settings_in(matches)?;

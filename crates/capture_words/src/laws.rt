@@ -3,9 +3,10 @@
 ghost use Rattle.std.specs.Prelude.{◌≡◌, ◌⊎◌, ◌↔◌, List, Some};
 ghost use Rattle.clap.specs.Words.{Text};
 ghost use Rattle.capture_words.specs.Calls.{AsksFor, Misuses, IsMisuse};
+ghost use Rattle.item_tap.specs.declared.bounds.Bounds.{Bounds};
 ghost use Rattle.item_tap.specs.declared.choice.Choice.{Choice};
-ghost use Rattle.capture_words.specs.Choices.{IsChoice, choice_text};
-ghost use Rattle.capture_words.specs.Values.{choice_named};
+ghost use Rattle.capture_words.specs.Choices.{IsChoice, choice_text, IsWindow, window_text};
+ghost use Rattle.capture_words.specs.Values.{choice_named, window_named};
 ghost use Rattle.capture_words.specs.declared.job.Job.{Job};
 ghost use Rattle.capture_words.specs.declared.usage.UsageFault.{UsageFault};
 
@@ -21,4 +22,10 @@ pub fn calls_law()
 pub fn choice_law()
     ensures { (choice : Choice) (text : Text) →
         (choice_named text ≡ Some choice) ↔ (IsChoice choice × (text ≡ choice_text choice)) }
+{}
+
+/// The same of windows: a text names exactly the window whose text it is, two choices with a comma between them.
+pub fn window_law()
+    ensures { (window : Bounds) (text : Text) →
+        (window_named text ≡ Some window) ↔ (IsWindow window × (text ≡ window_text window)) }
 {}

@@ -20,8 +20,18 @@ pub enum CommandOption {
     Id,
     /// `--only`: which events are listed.
     Only,
-    /// `--limit`: how many bytes of the capture are read at most.
+    /// `--window`: from which event to which the listing goes.
+    Window,
+    /// `--sync`: before how many frames a full synchronisation is written.
+    Sync,
+    /// `--half`: how many half synchronisations are written in each gap of a frame.
+    Half,
+    /// `--limit`: how many bytes of the input are read at most.
     Limit,
+    /// `--items`: how many items are made.
+    Items,
+    /// `--lose`: how many bytes are lost of the front of what is made.
+    Lose,
 }
 
 impl CommandOption {
@@ -38,7 +48,12 @@ impl CommandOption {
             CommandOption::StpOrder => "stp-order",
             CommandOption::Id => "id",
             CommandOption::Only => "only",
+            CommandOption::Window => "window",
+            CommandOption::Sync => "sync",
+            CommandOption::Half => "half",
             CommandOption::Limit => "limit",
+            CommandOption::Items => "items",
+            CommandOption::Lose => "lose",
         }
     }
 
@@ -64,8 +79,24 @@ impl CommandOption {
                 "Which events show lists: itm, dwt, stp, raw, trigger, id=N (of source N, 1 to 126) or port=N \
                 (of stimulus port N, 0 to 31)"
             }
+            CommandOption::Window => {
+                "From which event to which show lists: two of the choices of --only with a comma between, as in \
+                port=1,port=2"
+            }
+            CommandOption::Sync => {
+                "How many frames rebuild writes for each full synchronisation, which comes before them: 0 (there \
+                are none) to 1000000, 64 where it is not given"
+            }
+            CommandOption::Half => {
+                "How many half synchronisations rebuild writes in each gap of a frame: 0 (the default) to 8"
+            }
             CommandOption::Limit => {
                 "How many bytes are read at most: 1 to 68719476736, which is the default"
+            }
+            CommandOption::Items =>
+                "How many items exercise makes: 1 to 1000000, 12000 where it is not given",
+            CommandOption::Lose => {
+                "How many bytes exercise loses at the front: 0 (the default) to 1000000"
             }
         }
     }

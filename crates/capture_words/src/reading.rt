@@ -5,7 +5,7 @@ ghost use Rattle.capture_words.specs.declared.job.Job.{Job};
 ghost use Rattle.capture_words.specs.declared.values.TheConstants.{GREATEST_LIMIT};
 ghost use Rattle.std.specs.String.{string_bytes};
 ghost use Rattle.capture_words.specs.Calls.{AskedBy};
-ghost use Rattle.capture_words.specs.Jobs.{HasSoundPlan};
+ghost use Rattle.capture_words.specs.Jobs.{IsSoundTask};
 
 use crate::entries::entries_of;
 use crate::job::{Job, job_of};
@@ -42,7 +42,7 @@ fn with_name<'a>(alloc: Global, words: &'a [String]) -> Result<Vec<&'a str>, All
 pub fn read_words(alloc: Global, words: &[String]) -> Asked
     ensures asked { AskedBy (map string_bytes words.now) result }
     ensures limit { (job : Job) → result ≡ Asked.Do job → (1 ≤ job.limit) × (job.limit ≤ GREATEST_LIMIT) }
-    ensures plan { (job : Job) → result ≡ Asked.Do job → HasSoundPlan job.task }
+    ensures sound { (job : Job) → result ≡ Asked.Do job → IsSoundTask job.task }
 {
     let Ok(all) = with_name(alloc, words) else {
         return Asked::NoMemory;

@@ -12,24 +12,25 @@ ghost use Rattle.item_tap.specs.declared.choice.Choice.TheVariants.{OfKind, Sour
 ghost use Rattle.item_tap.specs.declared.choice.Kind.TheVariants.{Itm as ItmKind, Dwt as DwtKind, Stp as StpKind};
 ghost use Rattle.item_tap.specs.declared.choice.Kind.TheVariants.{Raw as RawKind, Trigger as TriggerKind};
 ghost use Rattle.capture_words.specs.Rows.{Does, Lists, Faults, Refuses, planned};
-ghost use Rattle.capture_words.specs.declared.job.Task.TheVariants.{Show, Split, Check};
+ghost use Rattle.capture_words.specs.declared.job.Task.TheVariants.{Show, Split, Check, Rebuild, Exercise};
 ghost use Rattle.capture_words.specs.declared.option.CommandOption.TheVariants.{Frames, Packets, Itm, Stp, StpOrder};
-ghost use Rattle.capture_words.specs.declared.option.CommandOption.TheVariants.{Id, Only, Limit};
+ghost use Rattle.capture_words.specs.declared.option.CommandOption.TheVariants.{Id, Only, Window, Sync};
+ghost use Rattle.capture_words.specs.declared.option.CommandOption.TheVariants.{Half, Limit, Items, Lose};
 ghost use Rattle.capture_words.specs.declared.usage.UsageFault.TheVariants.{UnknownAction, BadValue, SplitNeedsId};
 ghost use Rattle.capture_words.specs.declared.usage.UsageFault.TheVariants.{MappedTwice};
 
 /// Words that ask for a listing, in several orders and spellings.
 pub fn show()
-    ensures defaults { Does (codes "show") (Show (planned FramesHunt PacketsHunt [] [] Msn) None) 68719476736 }
-    ensures itm { Does (codes "show --itm 1") (Show (planned FramesHunt PacketsHunt (1 ∷ []) [] Msn) None) 68719476736 }
+    ensures defaults { Does (codes "show") (Show (planned FramesHunt PacketsHunt [] [] Msn) None None) 68719476736 }
+    ensures itm { Does (codes "show --itm 1") (Show (planned FramesHunt PacketsHunt (1 ∷ []) [] Msn) None None) 68719476736 }
     ensures bare { Does (codes "show --frames bare --itm 111 --packets aligned")
-        (Show (planned Bare PacketsAligned (111 ∷ []) [] Msn) None) 68719476736 }
+        (Show (planned Bare PacketsAligned (111 ∷ []) [] Msn) None None) 68719476736 }
     ensures stp { Does (codes "show --stp 2 --stp-order lsn --limit 16777217")
-        (Show (planned FramesHunt PacketsHunt [] (2 ∷ []) Lsn) None) 16777217 }
+        (Show (planned FramesHunt PacketsHunt [] (2 ∷ []) Lsn) None None) 16777217 }
     ensures both { Does (codes "--stp=2 --packets=hunt --stp-order=msn --itm=1 show --frames=aligned --limit=1")
-        (Show (planned FramesAligned PacketsHunt (1 ∷ []) (2 ∷ []) Msn) None) 1 }
+        (Show (planned FramesAligned PacketsHunt (1 ∷ []) (2 ∷ []) Msn) None None) 1 }
     ensures unused { Does (codes "show --id 126 --limit 68719476736")
-        (Show (planned FramesHunt PacketsHunt [] [] Msn) None) 68719476736 }
+        (Show (planned FramesHunt PacketsHunt [] [] Msn) None None) 68719476736 }
 {}
 
 /// Words that ask for a listing of some events.
@@ -43,6 +44,40 @@ pub fn only()
     ensures last_id { Lists (codes "show --only=id=126") (Source 126) }
     ensures first_port { Lists (codes "show --only port=0") (Port 0) }
     ensures last_port { Lists (codes "show --only port=31") (Port 31) }
+{}
+
+/// Words that ask for a listing from one event to another.
+pub fn window()
+    ensures kinds { Does (codes "show --window raw,trigger")
+        (Show (planned FramesHunt PacketsHunt [] [] Msn) None (Some (record { first = OfKind RawKind; last = OfKind TriggerKind })))
+        68719476736 }
+    ensures numbers { Does (codes "show --window=id=126,port=0")
+        (Show (planned FramesHunt PacketsHunt [] [] Msn) None (Some (record { first = Source 126; last = Port 0 })))
+        68719476736 }
+    ensures same { Does (codes "--window port=31,port=31 show")
+        (Show (planned FramesHunt PacketsHunt [] [] Msn) None (Some (record { first = Port 31; last = Port 31 })))
+        68719476736 }
+    ensures both { Does (codes "show --window itm,dwt --only stp")
+        (Show (planned FramesHunt PacketsHunt [] [] Msn) (Some (OfKind StpKind))
+        (Some (record { first = OfKind ItmKind; last = OfKind DwtKind })))
+        68719476736 }
+{}
+
+/// Words that ask for the capture of a script.
+pub fn rebuild()
+    ensures defaults { Does (codes "rebuild") (Rebuild (planned FramesHunt PacketsHunt [] [] Msn) 64 0) 68719476736 }
+    ensures all { Does (codes "rebuild --itm 1 --stp 2 --stp-order lsn --sync 0 --half 8 --limit 5")
+        (Rebuild (planned FramesHunt PacketsHunt (1 ∷ []) (2 ∷ []) Lsn) 0 8) 5 }
+    ensures most { Does (codes "--sync=1000000 rebuild --window itm,itm --items 1")
+        (Rebuild (planned FramesHunt PacketsHunt [] [] Msn) 1000000 0) 68719476736 }
+{}
+
+/// Words that ask for an exercise.
+pub fn exercise()
+    ensures defaults { Does (codes "exercise") (Exercise 12000 0) 68719476736 }
+    ensures least { Does (codes "exercise --items 1 --lose 0") (Exercise 1 0) 68719476736 }
+    ensures most { Does (codes "--lose=1000000 exercise --items=1000000 --limit 9") (Exercise 1000000 1000000) 9 }
+    ensures unused { Does (codes "exercise --itm 5 --stp 5 --sync 1 --half 1") (Exercise 12000 0) 68719476736 }
 {}
 
 /// Words that ask for the bytes of an ID.
@@ -78,6 +113,14 @@ pub fn bad_values()
     ensures id_zeros { Faults (codes "split --id 05") (BadValue Id) }
     ensures id_sign { Faults (codes "split --id +5") (BadValue Id) }
     ensures id_wide { Faults (codes "split --id 18446744073709551621") (BadValue Id) }
+    ensures sync_over { Faults (codes "rebuild --sync 1000001") (BadValue Sync) }
+    ensures sync_word { Faults (codes "show --sync off") (BadValue Sync) }
+    ensures half_9 { Faults (codes "show --half 9") (BadValue Half) }
+    ensures half_256 { Faults (codes "rebuild --half 256") (BadValue Half) }
+    ensures items_0 { Faults (codes "exercise --items 0") (BadValue Items) }
+    ensures items_over { Faults (codes "check --items 1000001") (BadValue Items) }
+    ensures lose_over { Faults (codes "exercise --lose 1000001") (BadValue Lose) }
+    ensures lose_wide { Faults (codes "exercise --lose 4294967296") (BadValue Lose) }
     ensures limit_0 { Faults (codes "check --limit 0") (BadValue Limit) }
     ensures limit_over { Faults (codes "show --limit 68719476737") (BadValue Limit) }
     ensures limit_zeros { Faults (codes "check --limit 01") (BadValue Limit) }
@@ -98,6 +141,11 @@ pub fn bad_choices()
     ensures port_256 { Faults (codes "show --only port=256") (BadValue Only) }
     ensures port_sign { Faults (codes "show --only port=+1") (BadValue Only) }
     ensures port_alone { Faults (codes "show --only port") (BadValue Only) }
+    ensures window_one { Faults (codes "show --window itm") (BadValue Window) }
+    ensures window_three { Faults (codes "show --window itm,dwt,stp") (BadValue Window) }
+    ensures window_first { Faults (codes "show --window ,itm") (BadValue Window) }
+    ensures window_last { Faults (codes "show --window itm,") (BadValue Window) }
+    ensures window_blank { Faults (codes "check --window port=32,itm") (BadValue Window) }
 {}
 
 /// Which fault is the first, and what is needed.
@@ -108,10 +156,16 @@ pub fn order()
     ensures stp { Faults (codes "show --stp-order x --stp x") (BadValue Stp) }
     ensures stp_order { Faults (codes "show --id x --stp-order x") (BadValue StpOrder) }
     ensures id { Faults (codes "check --only x --id 127") (BadValue Id) }
-    ensures only { Faults (codes "check --limit 0 --only x") (BadValue Only) }
+    ensures only { Faults (codes "check --window x --only x") (BadValue Only) }
+    ensures window { Faults (codes "check --sync x --window x") (BadValue Window) }
+    ensures sync { Faults (codes "check --half x --sync x") (BadValue Sync) }
+    ensures half { Faults (codes "check --limit 0 --half x") (BadValue Half) }
+    ensures limit { Faults (codes "check --items x --limit 0") (BadValue Limit) }
+    ensures items { Faults (codes "check --lose x --items x") (BadValue Items) }
     ensures needs { Faults (codes "split") SplitNeedsId }
     ensures needs_last { Faults (codes "split --limit x") (BadValue Limit) }
     ensures mapped { Faults (codes "show --itm 5 --stp 5") (MappedTwice 5) }
+    ensures rebuilt { Faults (codes "rebuild --itm 5 --stp 5") (MappedTwice 5) }
     ensures checked { Faults (codes "check --stp 111 --frames bare --itm 111") (MappedTwice 111) }
     ensures mapped_last { Faults (codes "show --itm 5 --stp 5 --limit 0") (BadValue Limit) }
 {}

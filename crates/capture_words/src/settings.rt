@@ -1,15 +1,19 @@
 //! What all options say.
 
 ghost use Rattle.std.specs.Prelude.{◌≡◌, ◌≤◌, ℕ, Option, IfOk, IfSome};
-ghost use Rattle.capture_words.specs.declared.values.TheConstants.{GREATEST_LIMIT};
+ghost use Rattle.capture_words.specs.declared.values.TheConstants.{GREATEST_LIMIT, GREATEST_SYNC, GREATEST_HALF, GREATEST_ITEMS};
+ghost use Rattle.capture_words.specs.declared.values.TheConstants.{GREATEST_LOSS};
 ghost use Rattle.clap.specs.Words.{rows_of, found_of};
 ghost use Rattle.capture_words.specs.Jobs.{settings_in};
 
 use crate::usage::UsageFault;
-use crate::values::{frames_in, id_in, itm_in, limit_in, only_in, order_in, packets_in, stp_in};
+use crate::values::{
+    frames_in, half_in, id_in, items_in, itm_in, limit_in, lose_in, only_in, order_in, packets_in,
+    stp_in, sync_in, window_in,
+};
 use capture_plan::{FramesMode, PacketsMode};
 use clap::ArgMatches;
-use item_tap::Choice;
+use item_tap::{Bounds, Choice};
 use stp_grammar::packet::Order;
 use trace_values::SourceId;
 
@@ -30,8 +34,18 @@ pub struct Settings {
     pub id: Option<SourceId>,
     /// Which events are listed.
     pub only: Option<Choice>,
+    /// From which event to which the listing goes.
+    pub window: Option<Bounds>,
+    /// How many frames are written for each full synchronisation, or 0 for none.
+    pub sync: u32,
+    /// How many half synchronisations are written in each gap of a frame.
+    pub half: u8,
     /// How many bytes are read at most.
     pub limit: u64,
+    /// How many items are made.
+    pub items: u32,
+    /// How many bytes are lost of the front of what is made.
+    pub lose: u32,
 }
 
 /// What the options say, or the first whose value is none of its own.
@@ -39,7 +53,11 @@ pub fn settings_in(matches: &ArgMatches<'_>) -> Result<Settings, UsageFault>
     ensures settings { result ≡ settings_in (rows_of (found_of matches.now)) }
     ensures itm { IfOk result (λ s. IfSome s.itm (λ n. (1 ≤ n) × (n ≤ 111))) }
     ensures stp { IfOk result (λ s. IfSome s.stp (λ n. (1 ≤ n) × (n ≤ 111))) }
+    ensures sync { IfOk result (λ s. s.sync ≤ GREATEST_SYNC) }
+    ensures half { IfOk result (λ s. s.half ≤ GREATEST_HALF) }
     ensures limit { IfOk result (λ s. (1 ≤ s.limit) × (s.limit ≤ GREATEST_LIMIT)) }
+    ensures items { IfOk result (λ s. (1 ≤ s.items) × (s.items ≤ GREATEST_ITEMS)) }
+    ensures lose { IfOk result (λ s. s.lose ≤ GREATEST_LOSS) }
 {
     let frames = frames_in(matches)?;
     let packets = packets_in(matches)?;
@@ -48,7 +66,12 @@ pub fn settings_in(matches: &ArgMatches<'_>) -> Result<Settings, UsageFault>
     let order = order_in(matches)?;
     let id = id_in(matches)?;
     let only = only_in(matches)?;
+    let window = window_in(matches)?;
+    let sync = sync_in(matches)?;
+    let half = half_in(matches)?;
     let limit = limit_in(matches)?;
+    let items = items_in(matches)?;
+    let lose = lose_in(matches)?;
     Ok(Settings {
         frames,
         packets,
@@ -57,6 +80,11 @@ pub fn settings_in(matches: &ArgMatches<'_>) -> Result<Settings, UsageFault>
         order,
         id,
         only,
+        window,
+        sync,
+        half,
         limit,
+        items,
+        lose,
     })
 }

@@ -97,7 +97,11 @@ fn calls_ask_for_a_listing(rt: HostRuntime) -> Result<(), Fail> {
             Asked::Do(job) => {
                 assert_eq!(rt; job.limit, *limit, "{text}");
                 match job.task {
-                    Task::Show { plan, only: None } => check_plan(&rt, text, &plan, want),
+                    Task::Show {
+                        plan,
+                        only: None,
+                        window: None,
+                    } => check_plan(&rt, text, &plan, want),
                     task => assert!(rt; false, "{text}: {task:?}"),
                 }
             }
@@ -224,6 +228,107 @@ fn calls_ask_for_a_check(rt: HostRuntime) -> Result<(), Fail> {
     Ok(())
 }
 
+#[test]
+fn calls_ask_for_a_listing_between_events(rt: HostRuntime) -> Result<(), Fail> {
+    let table = [
+        (
+            "show --window raw,port=0",
+            Choice::OfKind(Kind::Raw),
+            Choice::Port(0),
+        ),
+        (
+            "show --window=raw,raw",
+            Choice::OfKind(Kind::Raw),
+            Choice::OfKind(Kind::Raw),
+        ),
+        (
+            "show --window port=31,trigger",
+            Choice::Port(31),
+            Choice::OfKind(Kind::Trigger),
+        ),
+    ];
+    for (text, first, last) in &table {
+        match answer(rt.alloc(), text)? {
+            Asked::Do(job) => match job.task {
+                Task::Show {
+                    only: None,
+                    window: Some(window),
+                    ..
+                } => {
+                    assert_eq!(rt; &window.first, first, "{text}");
+                    assert_eq!(rt; &window.last, last, "{text}");
+                }
+                task => assert!(rt; false, "{text}: {task:?}"),
+            },
+            asked => assert!(rt; false, "{text}: {asked:?}"),
+        }
+    }
+    Ok(())
+}
+
+#[test]
+fn calls_ask_for_a_capture_of_a_script(rt: HostRuntime) -> Result<(), Fail> {
+    let table = [
+        ("rebuild", HUNT, 64, 0, MOST),
+        (
+            "--sync 0 rebuild --half=8 --stp 7 --limit 9",
+            Want { stp: 7, ..HUNT },
+            0,
+            8,
+            9,
+        ),
+        (
+            "rebuild --sync 1000000 --itm 1 --only raw",
+            Want { itm: 1, ..HUNT },
+            1_000_000,
+            0,
+            MOST,
+        ),
+    ];
+    for (text, want, every, halves, limit) in &table {
+        match answer(rt.alloc(), text)? {
+            Asked::Do(job) => {
+                assert_eq!(rt; job.limit, *limit, "{text}");
+                match job.task {
+                    Task::Rebuild { plan, sync, half } => {
+                        check_plan(&rt, text, &plan, want);
+                        assert_eq!(rt; sync, *every, "{text}");
+                        assert_eq!(rt; half, *halves, "{text}");
+                    }
+                    task => assert!(rt; false, "{text}: {task:?}"),
+                }
+            }
+            asked => assert!(rt; false, "{text}: {asked:?}"),
+        }
+    }
+    Ok(())
+}
+
+#[test]
+fn calls_ask_for_an_exercise(rt: HostRuntime) -> Result<(), Fail> {
+    for (text, count, lost) in [
+        ("exercise", 12_000, 0),
+        ("exercise --items 3 --lose 1", 3, 1),
+        (
+            "--lose=1000000 exercise --items 1000000",
+            1_000_000,
+            1_000_000,
+        ),
+    ] {
+        match answer(rt.alloc(), text)? {
+            Asked::Do(job) => match &job.task {
+                Task::Exercise { items, lose } => {
+                    assert_eq!(rt; *items, count, "{text}");
+                    assert_eq!(rt; *lose, lost, "{text}");
+                }
+                task => assert!(rt; false, "{text}: {task:?}"),
+            },
+            asked => assert!(rt; false, "{text}: {asked:?}"),
+        }
+    }
+    Ok(())
+}
+
 fn check_fault(alloc: Global, rt: &impl Abort, text: &str, line: &str) -> Result<(), Fail> {
     match answer(alloc, text)? {
         Asked::Fault(fault) => assert_eq!(rt; fault.line().as_str(), line, "{text}"),
@@ -252,6 +357,17 @@ fn values_are_of_their_rows(rt: HostRuntime) -> Result<(), Fail> {
         ("show --only id=127", "usage: bad value of --only\n"),
         ("show --only port=32", "usage: bad value of --only\n"),
         ("show --only port=", "usage: bad value of --only\n"),
+        ("show --window raw", "usage: bad value of --window\n"),
+        ("show --window raw,", "usage: bad value of --window\n"),
+        (
+            "show --window raw,itm,dwt",
+            "usage: bad value of --window\n",
+        ),
+        ("rebuild --sync 1000001", "usage: bad value of --sync\n"),
+        ("show --half 9", "usage: bad value of --half\n"),
+        ("exercise --items 0", "usage: bad value of --items\n"),
+        ("exercise --items 1000001", "usage: bad value of --items\n"),
+        ("exercise --lose 1000001", "usage: bad value of --lose\n"),
         ("check --limit 0", "usage: bad value of --limit\n"),
         ("show --limit 68719476737", "usage: bad value of --limit\n"),
         ("check --limit 01", "usage: bad value of --limit\n"),
@@ -339,7 +455,8 @@ fn refusals_have_the_text_of_clap(rt: HostRuntime) -> Result<(), Fail> {
 const HELP: &str = "Usage: trace [OPTIONS] <action>
 
 Arguments:
-  <action>  show lists events, split writes the bytes of one source, check counts those of each
+  <action>  show lists events, split writes the bytes of one source, check counts those of each, rebuild \
+writes the capture of a script, exercise tries the tool on a capture of its own
 
 Options:
       --frames <frames>        Where frames begin: hunt (at the first full synchronisation, the default), \
@@ -353,10 +470,18 @@ default) or lsn (the least significant)
       --id <id>                The source whose bytes split writes: 0 to 126
       --only <only>            Which events show lists: itm, dwt, stp, raw, trigger, id=N (of source N, \
 1 to 126) or port=N (of stimulus port N, 0 to 31)
+      --window <window>        From which event to which show lists: two of the choices of --only with a comma \
+between, as in port=1,port=2
+      --sync <sync>            How many frames rebuild writes for each full synchronisation, which comes \
+before them: 0 (there are none) to 1000000, 64 where it is not given
+      --half <half>            How many half synchronisations rebuild writes in each gap of a frame: 0 (the \
+default) to 8
       --limit <limit>          How many bytes are read at most: 1 to 68719476736, which is the default
+      --items <items>          How many items exercise makes: 1 to 1000000, 12000 where it is not given
+      --lose <lose>            How many bytes exercise loses at the front: 0 (the default) to 1000000
   -h, --help                   Print help
 
-The capture is read from standard input, as in: ./lipparoy check < CAPTURE
+The capture, or for rebuild the script, is read from standard input, as in: ./lipparoy check < CAPTURE
 ";
 
 #[test]

@@ -4,20 +4,34 @@ ghost use Rattle.std.specs.Prelude.{◌≡◌, ◌≤◌, option_map, IfOk, IfSo
 ghost use Rattle.clap.specs.Words.{rows_of, found_of, first_of};
 ghost use Rattle.capture_words.specs.Command.{option_name};
 ghost use Rattle.capture_words.specs.Values.{action_named, order_named, action_in, frames_in, packets_in, id_given};
-ghost use Rattle.capture_words.specs.Values.{itm_in, stp_in, order_in, id_in, only_in, limit_in};
+ghost use Rattle.capture_words.specs.Values.{itm_in, stp_in, order_in, id_in, only_in, window_in, number_given};
+ghost use Rattle.capture_words.specs.Values.{sync_in, half_in, limit_in, items_in, lose_in};
 
-use crate::choices::choice_named;
+use crate::choices::{choice_named, window_named};
 use crate::option::CommandOption;
 use crate::usage::UsageFault;
 use capture_plan::{FramesMode, PacketsMode};
 use clap::ArgMatches;
 use decimal_words::{id_named, number_named};
-use item_tap::Choice;
+use item_tap::{Bounds, Choice};
 use stp_grammar::packet::Order;
 use trace_values::SourceId;
 
 /// The greatest limit, and the limit where none is given: how many bytes of a capture are read at most.
 pub const GREATEST_LIMIT: u64 = 1 << 36;
+
+/// The most frames for each full synchronisation that a capture is written with, and how many where none are given.
+pub const GREATEST_SYNC: u32 = 1_000_000;
+/// The same where none are given.
+pub const DEFAULT_SYNC: u32 = 64;
+/// The most half synchronisations in a gap of a frame; there are none where none are given.
+pub const GREATEST_HALF: u8 = 8;
+/// The most items that are made.
+pub const GREATEST_ITEMS: u32 = 1_000_000;
+/// How many are made where no number is given.
+pub const DEFAULT_ITEMS: u32 = 12_000;
+/// The most bytes that are lost of what is made; none are where no number is given.
+pub const GREATEST_LOSS: u32 = 1_000_000;
 
 /// The action that a word names.
 #[derive(Clone, Copy, Debug, PartialEq, Eq, Drop)]
@@ -28,6 +42,10 @@ pub enum ActionName {
     Split,
     /// `check`
     Check,
+    /// `rebuild`
+    Rebuild,
+    /// `exercise`
+    Exercise,
 }
 
 impl ActionName {
@@ -39,6 +57,8 @@ impl ActionName {
             "show" => Some(ActionName::Show),
             "split" => Some(ActionName::Split),
             "check" => Some(ActionName::Check),
+            "rebuild" => Some(ActionName::Rebuild),
+            "exercise" => Some(ActionName::Exercise),
             _ => None,
         }
     }
@@ -69,7 +89,7 @@ fn text_of<'a>(matches: &ArgMatches<'a>, option: CommandOption) -> Option<&'a st
     text_named(matches, option.name())
 }
 
-/// The action: `show`, `split` or `check`.
+/// The action: `show`, `split`, `check`, `rebuild` or `exercise`.
 pub fn action_in(matches: &ArgMatches<'_>) -> Result<ActionName, UsageFault>
     ensures { result ≡ action_in (rows_of (found_of matches.now)) }
 {
@@ -163,6 +183,80 @@ pub fn only_in(matches: &ArgMatches<'_>) -> Result<Option<Choice>, UsageFault>
             None => Err(UsageFault::BadValue(CommandOption::Only)),
         },
     }
+}
+
+/// From which event to which the listing goes, if two choices are given.
+pub fn window_in(matches: &ArgMatches<'_>) -> Result<Option<Bounds>, UsageFault>
+    ensures { result ≡ window_in (rows_of (found_of matches.now)) }
+{
+    match text_of(matches, CommandOption::Window) {
+        None => Ok(None),
+        Some(text) => match window_named(text) {
+            Some(window) => Ok(Some(window)),
+            None => Err(UsageFault::BadValue(CommandOption::Window)),
+        },
+    }
+}
+
+/// The number that an option says, from `least` to `greatest`; `default` where it is absent.
+fn number_given(
+    matches: &ArgMatches<'_>,
+    option: CommandOption,
+    default: u32,
+    least: u32,
+    greatest: u32,
+) -> Result<u32, UsageFault>
+    requires { (least ≤ default) × (default ≤ greatest) }
+    ensures value { result ≡ number_given option default least greatest (rows_of (found_of matches.now)) }
+    ensures in_range { IfOk result (λ n. (least ≤ n) × (n ≤ greatest)) }
+{
+    match text_of(matches, option) {
+        None => Ok(default),
+        Some(text) => match number_named(u64::from(least), u64::from(greatest), text) {
+            Some(number) => Ok(number as u32),
+            None => Err(UsageFault::BadValue(option)),
+        },
+    }
+}
+
+/// How many frames are written for each full synchronisation: 0, which is none, to 1,000,000, and 64 where it is
+/// absent.
+pub fn sync_in(matches: &ArgMatches<'_>) -> Result<u32, UsageFault>
+    ensures value { result ≡ sync_in (rows_of (found_of matches.now)) }
+    ensures in_range { IfOk result (λ n. n ≤ GREATEST_SYNC) }
+{
+    number_given(matches, CommandOption::Sync, DEFAULT_SYNC, 0, GREATEST_SYNC)
+}
+
+/// How many half synchronisations are written in each gap of a frame: 0 to 8, and 0 where it is absent.
+pub fn half_in(matches: &ArgMatches<'_>) -> Result<u8, UsageFault>
+    ensures value { result ≡ half_in (rows_of (found_of matches.now)) }
+    ensures in_range { IfOk result (λ n. n ≤ GREATEST_HALF) }
+{
+    let halves = number_given(matches, CommandOption::Half, 0, 0, u32::from(GREATEST_HALF))?;
+    Ok(halves as u8)
+}
+
+/// How many items are made: 1 to 1,000,000, and 12,000 where it is absent.
+pub fn items_in(matches: &ArgMatches<'_>) -> Result<u32, UsageFault>
+    ensures value { result ≡ items_in (rows_of (found_of matches.now)) }
+    ensures in_range { IfOk result (λ n. (1 ≤ n) × (n ≤ GREATEST_ITEMS)) }
+{
+    number_given(
+        matches,
+        CommandOption::Items,
+        DEFAULT_ITEMS,
+        1,
+        GREATEST_ITEMS,
+    )
+}
+
+/// How many bytes are lost of the front of what is made: 0 to 1,000,000, and 0 where it is absent.
+pub fn lose_in(matches: &ArgMatches<'_>) -> Result<u32, UsageFault>
+    ensures value { result ≡ lose_in (rows_of (found_of matches.now)) }
+    ensures in_range { IfOk result (λ n. n ≤ GREATEST_LOSS) }
+{
+    number_given(matches, CommandOption::Lose, 0, 0, GREATEST_LOSS)
 }
 
 /// How many bytes are read at most: 1 to the greatest limit, which holds where it is absent.

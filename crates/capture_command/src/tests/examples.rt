@@ -44,7 +44,7 @@ const RING_BIN: &[u8] = &[
 ];
 
 /// An ITM, a system trace, a source that is not mapped, and a trigger, in frames.
-const BOARD_BIN: &[u8] = &[
+pub(super) const BOARD_BIN: &[u8] = &[
     0xFF, 0xFF, 0xFF, 0x7F, 0x03, 0x00, 0x00, 0x00, 0x00, 0x00, 0x05, 0x80, 0xFE, 0xFF, 0xFE, 0xFF,
     0xFE, 0xFF, 0xFE, 0xF8, 0xFE, 0xFF, 0xFE, 0x0F, 0x0E, 0x30, 0x21, 0xA5, 0x03, 0x01, 0x05, 0x41,
     0x00, 0xF1, 0x44, 0x67, 0x12, 0x05, 0x01, 0x00, 0x00, 0x00, 0x00, 0x00, 0x00, 0x00, 0x00, 0x00,
@@ -56,6 +56,24 @@ const BOARD_BIN: &[u8] = &[
 const SYSTEM_STP: &[u8] = &[
     0xFF, 0xFF, 0xFF, 0xFF, 0xFF, 0xFF, 0xFF, 0xFF, 0xFF, 0xFF, 0x0F, 0x0F, 0x30, 0x01, 0x31, 0x50,
     0x48, 0x38, 0x60, 0x44, 0x96, 0x6F, 0x02, 0x00, 0x01, 0x00, 0x62, 0xF9, 0xFE, 0x70, 0x40, 0xF1,
+];
+
+/// Items of three sources, each on a line.
+const BENCH_SCRIPT: &str = "# An ITM, 1, a system trace, 2, and a source that is not mapped, 16.
+1 sync
+2 async
+2 version 3
+16 raw a5
+1 port 0 u8 41
+2 data 1 0 u8 42 - n=5
+";
+
+/// Their capture: a full synchronisation and three frames.
+const BENCH_BIN: &[u8] = &[
+    0xFF, 0xFF, 0xFF, 0x7F, 0x03, 0x00, 0x00, 0x00, 0x00, 0x00, 0x05, 0x80, 0xFE, 0xFF, 0xFE, 0xFF,
+    0xFE, 0xFF, 0xFE, 0xF8, 0xFE, 0xFF, 0xFE, 0x0F, 0x0E, 0x30, 0x21, 0xA5, 0x03, 0x01, 0x05, 0x41,
+    0x00, 0xF1, 0x44, 0x67, 0x12, 0x05, 0x01, 0x00, 0x00, 0x00, 0x00, 0x00, 0x00, 0x00, 0x00, 0x00,
+    0x00, 0x00, 0x00, 0x00,
 ];
 
 const HELLO_TEXT: &str = "5 1 sync
@@ -118,7 +136,7 @@ It is line 3.
 It is line 4.
 ";
 
-const BOARD_TEXT: &str = "3 port locked 0
+pub(super) const BOARD_TEXT: &str = "3 port locked 0
 11 1 locked 0
 11 1 sync
 23.1 2 locked 0
@@ -129,6 +147,21 @@ const BOARD_TEXT: &str = "3 port locked 0
 37.0 2 data 1 0 u8 42 - n=5
 53 125 trigger 07
 end 68
+port locked skipped 0 tail 0 unattributed 0
+1 itm locked skipped 0 tail 0
+2 stp locked skipped 0 tail 0
+";
+
+const BENCH_TEXT: &str = "3 port locked 0
+11 1 locked 0
+11 1 sync
+23.1 2 locked 0
+23.1 2 async
+25.1 2 version 3
+27 16 raw a5
+31 1 port 0 u8 41
+37.0 2 data 1 0 u8 42 - n=5
+end 52
 port locked skipped 0 tail 0 unattributed 0
 1 itm locked skipped 0 tail 0
 2 stp locked skipped 0 tail 0
@@ -149,7 +182,7 @@ port bare skipped 0 tail 0 unattributed 0
 /// The bytes of each file, the words of a call, and what it writes.
 #[test]
 fn examples_are_as_the_documents_say(rt: HostRuntime) -> Result<(), Fail> {
-    let table: [(&[u8], &[&str], &[u8]); 9] = [
+    let table: [(&[u8], &[&str], &[u8]); 11] = [
         (HELLO_ITM, &ALIGNED, HELLO_TEXT.as_bytes()),
         (BOOT_ITM, &ALIGNED, BOOT_TEXT.as_bytes()),
         (EVENTS_ITM, &ALIGNED, EVENTS_TEXT.as_bytes()),
@@ -165,6 +198,16 @@ fn examples_are_as_the_documents_say(rt: HostRuntime) -> Result<(), Fail> {
             BOARD_BIN,
             &["show", "--itm", "1", "--stp", "2"],
             BOARD_TEXT.as_bytes(),
+        ),
+        (
+            BENCH_SCRIPT.as_bytes(),
+            &["rebuild", "--itm", "1", "--stp", "2"],
+            BENCH_BIN,
+        ),
+        (
+            BENCH_BIN,
+            &["show", "--itm", "1", "--stp", "2"],
+            BENCH_TEXT.as_bytes(),
         ),
         (
             SYSTEM_STP,

@@ -74,7 +74,7 @@ const RUNS: [(u8, &[u8]); 24] = [
 
 /// What is lost of a source whose front is lost.
 #[derive(Clone, Copy, PartialEq, Eq)]
-enum Kind {
+pub(super) enum Kind {
     /// All up to the first synchronisation, and nothing behind it.
     Itm,
     /// The same; a place and a stamp are known from the first version on.
@@ -87,12 +87,12 @@ enum Kind {
 #[derive(Clone, Copy)]
 pub(super) struct Line<'a> {
     pub(super) place: usize,
-    id: usize,
+    pub(super) id: usize,
     pub(super) text: &'a [u8],
 }
 
 /// What is before the first such byte, and what is after it.
-fn cut(bytes: &[u8], separator: u8) -> Option<(&[u8], &[u8])> {
+pub(super) fn cut(bytes: &[u8], separator: u8) -> Option<(&[u8], &[u8])> {
     for i in 0..bytes.len() {
         if bytes[i] == separator {
             return Some((&bytes[..i], &bytes[i + 1..]));
@@ -114,7 +114,7 @@ fn number(digits: &[u8]) -> Option<usize> {
 }
 
 /// The item of this line, which may be an end line or that of a lock.
-fn item(line: &[u8]) -> Option<Line<'_>> {
+pub(super) fn item(line: &[u8]) -> Option<Line<'_>> {
     let (place, rest) = cut(line, b' ')?;
     let (id, text) = cut(rest, b' ')?;
     let id = number(id)?;
@@ -181,7 +181,7 @@ fn asynchronous(bytes: &[u8]) -> usize {
 }
 
 /// The least place where a full synchronisation begins, or the length.
-fn full_synchronisation(capture: &[u8], from: usize) -> usize {
+pub(super) fn full_synchronisation(capture: &[u8], from: usize) -> usize {
     for i in from..capture.len() {
         if capture[i..].starts_with(b"\xff\xff\xff\x7f") {
             return i;
@@ -191,16 +191,12 @@ fn full_synchronisation(capture: &[u8], from: usize) -> usize {
 }
 
 /// The lines of a source in the rest are the last ones of the whole, with their places `lost` bytes earlier.
-/// Answers how many they are.
-fn check_last(
-    alloc: Global,
+pub(super) fn check_lines(
     rt: &impl Abort,
-    (whole, rest): (&[u8], &[u8]),
+    (all, left): (&[Line<'_>], &[Line<'_>]),
     lost: usize,
     (source, kind): (usize, Kind),
-) -> Result<usize, Fail> {
-    let all = items(alloc, whole, source)?;
-    let left = items(alloc, rest, source)?;
+) {
     assert!(rt; left.len() <= all.len(), "{source} without {lost} bytes");
     let first = all.len() - left.len();
     let mut known = kind != Kind::Stp;
@@ -213,32 +209,41 @@ fn check_last(
             assert_eq!(rt; got.text, want.text, "{source} without {lost} bytes");
         }
     }
+}
+
+/// The same of the lines in these listings. Answers how many they are.
+fn check_last(
+    alloc: Global,
+    rt: &impl Abort,
+    (whole, rest): (&[u8], &[u8]),
+    lost: usize,
+    (source, kind): (usize, Kind),
+) -> Result<usize, Fail> {
+    let all = items(alloc, whole, source)?;
+    let left = items(alloc, rest, source)?;
+    check_lines(rt, (&all, &left), lost, (source, kind));
     Ok(left.len())
 }
 
-/// The items of a mapped source in the rest begin with a synchronisation, and each that the source's bytes in the
-/// rest have is there.
-fn check_synchronised(
-    alloc: Global,
+/// The items of a mapped source begin with a synchronisation, and each that these bytes of the source have is there.
+pub(super) fn check_synchronised(
     rt: &impl Abort,
-    rest: &[u8],
+    left: &[Line<'_>],
     bytes: &[u8],
     (source, kind): (usize, Kind),
-) -> Result<(), Fail> {
+) {
     let (word, count): (&[u8], usize) = match kind {
         Kind::Itm => (b"sync", synchronisations(bytes)),
         _ => (b"async", asynchronous(bytes)),
     };
     let mut found = 0usize;
-    let left = items(alloc, rest, source)?;
     for i in 0..left.len() {
         if left[i].text == word {
             found = found.wrapping_add(1);
         }
-        assert!(rt; 0 < found, "{source} in {rest:?}");
+        assert!(rt; 0 < found, "{source} in {bytes:?}");
     }
-    assert_eq!(rt; found, count, "{source} in {rest:?}");
-    Ok(())
+    assert_eq!(rt; found, count, "{source} in {bytes:?}");
 }
 
 /// Each front of a capture of one source without frames.
@@ -264,7 +269,7 @@ fn check_bare(
         let left = &capture[lost..];
         let rest = output_of(alloc, rt, &hunting, left)?;
         check_last(alloc, rt, (&whole, &rest), lost, (1, kind))?;
-        check_synchronised(alloc, rt, &rest, left, (1, kind))?;
+        check_synchronised(rt, &items(alloc, &rest, 1)?, left, (1, kind));
     }
     Ok(())
 }
@@ -337,7 +342,8 @@ fn check_mapped(
     let all = bytes_of(alloc, id)?;
     assert!(rt; all.ends_with(&bytes), "{id} without {lost} bytes");
     check_last(alloc, rt, (whole, rest), lost, (source, kind))?;
-    check_synchronised(alloc, rt, rest, &bytes, (source, kind))
+    check_synchronised(rt, &items(alloc, rest, source)?, &bytes, (source, kind));
+    Ok(())
 }
 
 /// Each front of what the frame writer writes of all runs.

@@ -29,7 +29,7 @@ fn answer_to(
 }
 
 /// The words are answered with this status, n bytes written and m left, and this front of a note.
-fn check_words(
+pub(super) fn check_words(
     alloc: Global,
     rt: &impl Abort,
     words: &[&str],

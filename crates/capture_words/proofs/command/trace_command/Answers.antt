@@ -4,7 +4,8 @@ use Rattle.clap.specs.Words.{App, with_rule}
 use Rattle.capture_words.specs.Command.{trace_app, option_rule}
 use Rattle.capture_words.specs.declared.option.CommandOption.{CommandOption}
 use Rattle.capture_words.specs.declared.option.CommandOption.TheVariants.{Frames, Packets, Itm, Stp, StpOrder, Id}
-use Rattle.capture_words.specs.declared.option.CommandOption.TheVariants.{Only, Limit}
+use Rattle.capture_words.specs.declared.option.CommandOption.TheVariants.{Only, Window, Sync, Half, Limit, Items}
+use Rattle.capture_words.specs.declared.option.CommandOption.TheVariants.{Lose}
 use Rattle.capture_words.proofs.command.trace_command.Goals as goal
 
 step : (a b : App) (option : CommandOption) → a ≡ b → with_rule a (option_rule option) ≡ with_rule b (option_rule option)
@@ -21,4 +22,9 @@ returns c =
     let e6 = c.in_ok-command-6.ensures ∙ step _ _ StpOrder e5 in
     let e7 = c.in_ok-command-7.ensures ∙ step _ _ Id e6 in
     let e8 = c.in_ok-command-8.ensures ∙ step _ _ Only e7 in
-    IfOk-weaker c.with_option-8.result _ _ (λ m h. h ∙ step _ _ Limit e8) c.with_option-8.ensures
+    let e9 = c.in_ok-command-9.ensures ∙ step _ _ Window e8 in
+    let e10 = c.in_ok-command-10.ensures ∙ step _ _ Sync e9 in
+    let e11 = c.in_ok-command-11.ensures ∙ step _ _ Half e10 in
+    let e12 = c.in_ok-command-12.ensures ∙ step _ _ Limit e11 in
+    let e13 = c.in_ok-command-13.ensures ∙ step _ _ Items e12 in
+    IfOk-weaker c.with_option-13.result _ _ (λ m h. h ∙ step _ _ Lose e13) c.with_option-13.ensures

@@ -19,4 +19,9 @@ returns c = record {
   port_256 = record { call = refl; fault_is = refl };
   port_sign = record { call = refl; fault_is = refl };
   port_alone = record { call = refl; fault_is = refl };
+  window_one = record { call = refl; fault_is = refl };
+  window_three = record { call = refl; fault_is = refl };
+  window_first = record { call = refl; fault_is = refl };
+  window_last = record { call = refl; fault_is = refl };
+  window_blank = record { call = refl; fault_is = refl };
 }

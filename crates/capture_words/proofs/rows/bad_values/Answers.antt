@@ -18,6 +18,14 @@ returns c = record {
   id_zeros = record { call = refl; fault_is = refl };
   id_sign = record { call = refl; fault_is = refl };
   id_wide = record { call = refl; fault_is = refl };
+  sync_over = record { call = refl; fault_is = refl };
+  sync_word = record { call = refl; fault_is = refl };
+  half_9 = record { call = refl; fault_is = refl };
+  half_256 = record { call = refl; fault_is = refl };
+  items_0 = record { call = refl; fault_is = refl };
+  items_over = record { call = refl; fault_is = refl };
+  lose_over = record { call = refl; fault_is = refl };
+  lose_wide = record { call = refl; fault_is = refl };
   limit_0 = record { call = refl; fault_is = refl };
   limit_over = record { call = refl; fault_is = refl };
   limit_zeros = record { call = refl; fault_is = refl };

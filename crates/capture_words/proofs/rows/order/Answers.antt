@@ -14,9 +14,15 @@ returns c = record {
   stp_order = record { call = refl; fault_is = refl };
   id = record { call = refl; fault_is = refl };
   only = record { call = refl; fault_is = refl };
+  window = record { call = refl; fault_is = refl };
+  sync = record { call = refl; fault_is = refl };
+  half = record { call = refl; fault_is = refl };
+  limit = record { call = refl; fault_is = refl };
+  items = record { call = refl; fault_is = refl };
   needs = record { call = refl; fault_is = refl };
   needs_last = record { call = refl; fault_is = refl };
   mapped = record { call = refl; fault_is = refl };
+  rebuilt = record { call = refl; fault_is = refl };
   checked = record { call = refl; fault_is = refl };
   mapped_last = record { call = refl; fault_is = refl };
 }
