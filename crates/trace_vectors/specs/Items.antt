@@ -1,5 +1,5 @@
--- The items of the exercise (this project's own): item k, from 0 on, by k mod 3 and n = k div 3. All of them are tables by
--- n alone.
+-- The items of the exercise (this project's own): item k, from 0 on, by k mod 3 and n = k div 3. All of them are tables
+-- by n alone.
 use Rattle.std.specs.Prelude.{ℕ, ◌+◌, ◌/◌, ◌%◌, ◌<◌, ◌==◌, if◌then◌else◌, Some, false}
 use Rattle.itm_grammar.specs.Proper.{IsProper}
 use Rattle.itm_grammar.specs.declared.packet.Size.TheVariants.{Four}
@@ -26,8 +26,8 @@ itm_packet n =
 abbrev pub place : ℕ → Place
 place n = record { master = Some (n % 4); channel = Some (n % 8) }
 
--- where it is 1, an item of the STP source: the first is Async and the second Version 3, so that each datum has a natural
--- timestamp
+-- where it is 1, an item of the STP source: the first is Async and the second Version 3, so that each datum has a
+-- natural timestamp
 abbrev pub stp_item : ℕ → StpItem
 stp_item n =
     if n % 16 == 0 then Async

@@ -1,3 +1,5 @@
+//! The items of the exercise, by their number.
+
 use crate::{Made, item_at};
 use itm_grammar::packet::{ItmPacket, Lateness, Size};
 use stp_grammar::item::{Place, Stamp, StpItem};
