@@ -1,5 +1,6 @@
 -- The bytes of a piece, fed one by one.
-use Rattle.std.proofs.Common.{◌≡◌, ◌≢◌, ℕ, zero, suc, ◌+◌, ◌*◌, ◌<◌, List, [], ◌∷◌, ◌++◌, length, take, get_or, refl, sym, ◌∙◌, ap, subst, arith, append_assoc, append-nil, Bool, true, cond, Option}
+use Rattle.std.proofs.Common.{◌≡◌, ◌≢◌, ℕ, zero, suc, ◌+◌, ◌*◌, ◌<◌, List, [], ◌∷◌, ◌++◌, length, take, get_or, refl, sym, ◌∙◌, ap, subst, arith, append_assoc, append-nil, Bool, true, false, cond, Option, inl, inr}
+use Rattle.std.specs.Prelude.{◌==◌}
 use Rattle.std.specs.List.{range_with_len}
 use Rattle.std.proofs.lemmas.List.{take_more, length-take-le}
 use Rattle.trace_values.specs.declared.mode.Mode.{Mode}
@@ -7,6 +8,7 @@ use Rattle.trace_values.specs.declared.next.Next.{Next}
 use Rattle.trace_values.specs.declared.cell.Cell.{Cell}
 use Rattle.trace_values.specs.declared.next.Next.TheVariants.{Go, End, Fail}
 use Rattle.trace_values.specs.Placed.{Placed, byte_at, placed_from}
+use Rattle.trace_values.specs.Walk.{Walked, Whole, after, walk}
 use Rattle.trace_values.specs.Moded.{StandsIn, hunts, is_locked}
 use Rattle.trace_values.proofs.Modes as laws
 use Rattle.trace_values.proofs.Blocks.{next_placed}
@@ -17,10 +19,10 @@ use Rattle.frame_grammar.proofs.Deciding.{at, no}
 use Rattle.port_sync.specs.Hunting.{pattern}
 use Rattle.deformatter.specs.Reading.{port_stream, cells_in}
 use Rattle.deformatter.specs.Growth.{PortGrows}
-use Rattle.deformatter.specs.Rule.{step_by, cells_by}
-use Rattle.deformatter.specs.Block.{Answers, EachByte, FedAs}
+use Rattle.deformatter.specs.Rule.{step_by, item_step, cells_by}
+use Rattle.deformatter.specs.Block.{Answers, EachByte, FedAs, IsInside, FedFrame}
 use Rattle.deformatter.specs.declared.step.PortStep.{PortStep}
-use Rattle.deformatter.specs.declared.step.PortStep.TheVariants.{Quiet, Frame as FrameEnds}
+use Rattle.deformatter.specs.declared.step.PortStep.TheVariants.{Quiet, Half as HalfEnds, Frame as FrameEnds}
 use Rattle.deformatter.proofs.Feeding.{fed}
 use Rattle.frame_grammar.proofs.Wholes.{proper_first, proper_rest}
 use Rattle.deformatter.proofs.Parts.{quiet_step}
@@ -57,25 +59,34 @@ each_push P u from (c ∷ bytes) b e p = (
       (subst (λ (n : ℕ). P (u ++ placed_from from (c ∷ bytes)) n b) (let k : from + suc (length bytes) ≡ from + 1 + length bytes = omega arith in k) p)),
 )
 
--- the last of some bytes, of each of which this is so
-pub all_fed : (P : List Placed → ℕ → ℕ → Type 0) (u : List Placed) (from b : ℕ) (bytes : List ℕ) → EachByte P u from (b ∷ bytes) → FedAs P P u from (b ∷ bytes)
-all_fed P u from b [] e = record {
+-- the last of some bytes, and one before them
+pub fed_last : (P L : List Placed → ℕ → ℕ → Type 0) (u : List Placed) (from b : ℕ) → L u from b → FedAs P L u from (b ∷ [])
+fed_last P L u from b l = record {
   front = [];
   last = b;
   parts = refl;
   quiet = tt;
-  ends = subst (λ (v : List Placed). P v (from + 0) b) (sym (append-nil u)) (subst (λ (n : ℕ). P u n b) (let k : from ≡ from + 0 = omega arith in k) e.0);
+  ends = subst (λ (v : List Placed). L v (from + 0) b) (sym (append-nil u)) (subst (λ (n : ℕ). L u n b) (let k : from ≡ from + 0 = omega arith in k) l);
 }
-all_fed P u from b (c ∷ bytes) e =
-    let r = all_fed P (u ++ byte_at from b ∷ []) (from + 1) c bytes e.1 in
-    record {
-      front = b ∷ r.front;
-      last = r.last;
-      parts = ap (λ (l : List ℕ). b ∷ l) r.parts;
-      quiet = (e.0, r.quiet);
-      ends = subst (λ (v : List Placed). P v (from + suc (length r.front)) r.last) (append_assoc u (byte_at from b ∷ []) (placed_from (from + 1) r.front))
-          (subst (λ (n : ℕ). P ((u ++ byte_at from b ∷ []) ++ placed_from (from + 1) r.front) n r.last) (let k : from + 1 + length r.front ≡ from + suc (length r.front) = omega arith in k) r.ends);
-    }
+
+pub fed_first : (P L : List Placed → ℕ → ℕ → Type 0) (u : List Placed) (from b : ℕ) (bytes : List ℕ) → P u from b →
+    FedAs P L (u ++ byte_at from b ∷ []) (from + 1) bytes → FedAs P L u from (b ∷ bytes)
+fed_first P L u from b bytes p r = record {
+  front = b ∷ r.front;
+  last = r.last;
+  parts = ap (λ (l : List ℕ). b ∷ l) r.parts;
+  quiet = (p, r.quiet);
+  ends = subst (λ (v : List Placed). L v (from + suc (length r.front)) r.last) (append_assoc u (byte_at from b ∷ []) (placed_from (from + 1) r.front))
+      (subst (λ (n : ℕ). L ((u ++ byte_at from b ∷ []) ++ placed_from (from + 1) r.front) n r.last) (let k : from + 1 + length r.front ≡ from + suc (length r.front) = omega arith in k) r.ends);
+}
+
+-- the last of some bytes, of each of which this is so
+pub all_fed : (P : List Placed → ℕ → ℕ → Type 0) (u : List Placed) (from b : ℕ) (bytes : List ℕ) → EachByte P u from (b ∷ bytes) → FedAs P P u from (b ∷ bytes)
+all_fed P u from b [] e = fed_last P P u from b e.0
+all_fed P u from b (c ∷ bytes) e = fed_first P P u from b (c ∷ bytes) e.0 (all_fed P (u ++ byte_at from b ∷ []) (from + 1) c bytes e.1)
+
+the_item : (v w : PortItem) → (let x : Walked State PortItem = Whole v in let y : Walked State PortItem = Whole w in x ≡ y) → v ≡ w
+the_item v w e = cc
 
 -- a halfword's first byte
 first_byte : (n : ℕ) (f : List Placed) (h : ℕ) (x : Placed) → x.unit ≢ 255 → rule (at n f h Between) x ≡ Go (at n f h (First x))
@@ -128,6 +139,41 @@ module _ (m : Mode) (locked : is_locked m ≡ true) where
             (subst (λ (k : ℕ). Answers (hunts m) FrameEnds (((u ++ x ∷ []) ++ y ∷ []) ++ placed_from (from + 1 + 1) r.front) k r.last)
             (let k : from + 1 + 1 + length r.front ≡ from + suc (suc (length r.front)) = omega arith in k) r.ends);
       }
+
+  -- where a frame goes on, nothing has ended or a half synchronisation
+  inside : (u : List Placed) (from byte : ℕ) (b : Bool) → PortGrows (port_stream (hunts m) u) (port_stream (hunts m) (u ++ byte_at from byte ∷ [])) from (cond b Quiet HalfEnds) →
+      IsInside (hunts m) u from byte
+  inside u from byte true g = inl g
+  inside u from byte false g = inr g
+
+  -- the bytes of a frame from a state on are inside it, but for the last
+  pub frame_fed : (f : List Placed) (halves : ℕ) (s : State) (u : List Placed) (from : ℕ) (bytes : List ℕ) →
+      walk rule s (placed_from from bytes) ≡ Whole (Frame f halves) → Stands s u → FedFrame (hunts m) u from bytes
+  frame_fed f halves s u from [] e r = cc
+  frame_fed f halves s u from (b ∷ bytes) e r =
+      by (rule s (byte_at from b)) refl e (λ t h q. frame_fed f halves t (u ++ byte_at from b ∷ []) (from + 1) bytes h q) where
+        grown : (n : Next State PortItem) → rule s (byte_at from b) ≡ n → PortGrows (port_stream (hunts m) u) (port_stream (hunts m) (u ++ byte_at from b ∷ [])) from (step_by from s n)
+        grown n k =
+            subst (λ (x : PortStep). PortGrows (port_stream (hunts m) u) (port_stream (hunts m) (u ++ byte_at from b ∷ [])) from x)
+            (ap (step_by from s) k) (fed m true s u from b refl locked r).grows
+
+        ended : (v : PortItem) (rest : List ℕ) → rule s (byte_at from b) ≡ End v →
+            after (End v) (λ t. walk rule t (placed_from (from + 1) rest)) (placed_from (from + 1) rest) ≡ Whole (Frame f halves) → FedFrame (hunts m) u from (b ∷ rest)
+        ended v (c ∷ rest) k w = cc
+        ended v [] k w =
+            let same : v ≡ Frame f halves = the_item v (Frame f halves) w in
+            fed_last (IsInside (hunts m)) (Answers (hunts m) FrameEnds) u from b
+            (subst (λ (x : PortStep). PortGrows (port_stream (hunts m) u) (port_stream (hunts m) (u ++ byte_at from b ∷ [])) from x) (ap item_step same) (grown (End v) k))
+
+        by : (n : Next State PortItem) → rule s (byte_at from b) ≡ n →
+            after n (λ t. walk rule t (placed_from (from + 1) bytes)) (placed_from (from + 1) bytes) ≡ Whole (Frame f halves) →
+            ((t : State) → walk rule t (placed_from (from + 1) bytes) ≡ Whole (Frame f halves) → Stands t (u ++ byte_at from b ∷ []) → FedFrame (hunts m) (u ++ byte_at from b ∷ []) (from + 1) bytes) →
+            FedFrame (hunts m) u from (b ∷ bytes)
+        by (Go t) k w rest =
+            fed_first (IsInside (hunts m)) (Answers (hunts m) FrameEnds) u from b bytes (inside u from b (t.halves == s.halves) (grown (Go t) k))
+            (rest t w (goes s t u (byte_at from b) k r))
+        by (End v) k w rest = ended v bytes k w
+        by (Fail g) k w rest = cc
 
 pub whole_fed : (P : List Placed → ℕ → ℕ → Type 0) (u : List Placed) (from : ℕ) (bytes : List ℕ) → 0 < length bytes → EachByte P u from bytes → FedAs P P u from bytes
 whole_fed P u from [] l e = absurd (omega arith)

@@ -43,8 +43,9 @@ impl Deformatter {
     ghost use Rattle.std.specs.Prelude.{◌++◌, [], ◌∷◌, ℕ, List, false, is_none};
     ghost use Rattle.port_sync.specs.Hunting.{run_of};
     ghost use Rattle.std.specs.Prelude.{IsTrue};
-    ghost use Rattle.trace_values.specs.Placed.{Placed, units_of, byte_at};
+    ghost use Rattle.trace_values.specs.Placed.{Placed, units_of, byte_at, placed_from};
     ghost use Rattle.frame_grammar.specs.Frame.{id_after};
+    ghost use Rattle.deformatter.specs.Block.{FedFrame};
     ghost use Rattle.deformatter.specs.Frames.{IsBetween, GrowsByFrame};
     ghost use Rattle.deformatter.specs.declared.step.PortStep.TheVariants.{Quiet};
     ghost use Rattle.trace_values.specs.Standing.{live_after, state_after};
@@ -169,6 +170,8 @@ impl Deformatter {
         ensures grows { (u w f : List Placed) (halves : ℕ) → Stands self.old u → Spells (Frame f halves) w →
             GrowsByFrame (port_stream (is_hunter self.old) u) (port_stream (is_hunter self.old) (u ++ w)) w f halves
             (id_of self.old) }
+        ensures fed { (u f : List Placed) (halves at : ℕ) (bytes : List ℕ) → Stands self.old u →
+            Spells (Frame f halves) (placed_from at bytes) → FedFrame (is_hunter self.old) u at bytes }
         ensures live { is_live self.new ≡ true }
         ensures few { tail_of self.new + skipped_by self.new ≡ tail_of self.old + skipped_by self.old }
     {

@@ -1,13 +1,15 @@
 -- The frame at the front of a list of bytes, gathered halfword by halfword.
-use Rattle.std.proofs.Common.{◌≡◌, ◌≢◌, ℕ, zero, suc, ◌+◌, ◌*◌, ◌≤◌, List, [], ◌∷◌, ◌++◌, length, take, drop, refl, sym, ◌∙◌, ap, subst, arith, Bool, true, false, cond, Option, Some, None, append_assoc, append-nil, get_or, set, ◌<◌, ◌-◌}
+use Rattle.std.proofs.Common.{◌≡◌, ◌≢◌, ℕ, zero, suc, ◌+◌, ◌*◌, ◌≤◌, List, [], ◌∷◌, ◌++◌, length, take, drop, refl, sym, ◌∙◌, ap, subst, arith, Bool, true, false, cond, Option, Some, None, append_assoc, append-nil, get_or, set, ◌<◌, ◌-◌, ◌%◌, ◌/◌}
 use Rattle.std.specs.Prelude.{◌==◌, ◌&&◌}
 use Rattle.std.specs.Option.{option_map}
 use Rattle.std.specs.Array.{IsFirstChunk}
-use Rattle.std.proofs.lemmas.List.{map-append, take-append-drop, length-append, length-drop, length-set, take_rest, take_more_set}
+use Rattle.std.proofs.lemmas.List.{map-append, take-append-drop, length-append, length-drop, length-set, length-take-le, take_rest, take_more_set}
 use Rattle.std.proofs.lemmas.Grind.{take-set_at}
 use Rattle.std.proofs.Math.Seq.{take-append_seam, drop-cons}
 use Rattle.trace_values.specs.Placed.{Placed, units_of, byte_at, placed_from}
+use Rattle.trace_values.proofs.Placing.{placed_from_append, length-placed_from}
 use Rattle.frame_grammar.specs.Port.{half_spelling, IsWord, IsWords, IsFrame}
+use Rattle.frame_grammar.specs.Reading.{offsets_of}
 use Rattle.frame_grammar.specs.Whole.{without_halves, IsWhole}
 use Rattle.frame_grammar.proofs.Deciding.{yes, no, is_yes, is_no, none_before}
 use Rattle.frame_grammar.proofs.Items.{spelled_length}
@@ -298,3 +300,46 @@ begins_well zero from a p q z s e h x r d = λ k.
     let f : p ≡ a ∷ q = ap (λ (n : ℕ). drop n p) (sym (z refl)) ∙ e in
     h (let g : x ≡ a = ap (λ (l : List ℕ). get_or l 0 0) (sym d ∙ f) in sym g ∙ k)
 begins_well (suc n) from a p q z s e h x r d = s x r (λ k. absurd (omega arith)) d
+
+-- half synchronisations among whole halfwords, and among those after them
+without_append : (n : ℕ) (u w : List Placed) → length u ≡ 2 * n → without_halves (u ++ w) ≡ without_halves u ++ without_halves w
+without_append zero [] w e = refl
+without_append zero (x ∷ u) w e = absurd (omega arith)
+without_append (suc n) [] w e = absurd (omega arith)
+without_append (suc n) (x ∷ []) w e = absurd (omega arith)
+without_append (suc n) (x ∷ (y ∷ u)) w e = by (x.unit == 255 && y.unit == 127) (without_append n u w (omega arith)) where
+  by : (t : Bool) → without_halves (u ++ w) ≡ without_halves u ++ without_halves w →
+      cond t (without_halves (u ++ w)) (x ∷ (y ∷ without_halves (u ++ w))) ≡ cond t (without_halves u) (x ∷ (y ∷ without_halves u)) ++ without_halves w
+  by true r = r
+  by false r = ap (λ (l : List Placed). x ∷ (y ∷ l)) r
+
+-- the offsets of the halfwords so far and of two more bytes
+module _ (at from x y : ℕ) (p r : List ℕ) (parts : drop from p ≡ x ∷ (y ∷ r)) (room : from + 2 ≤ length p) (even : from % 2 ≡ 0) where
+  abbrev pair : List Placed
+  pair = byte_at (at + from) x ∷ (byte_at (at + from + 1) y ∷ [])
+
+  longer : take (from + 2) p ≡ take from p ++ (x ∷ (y ∷ []))
+  longer =
+      let long : length (take from p ++ (x ∷ (y ∷ []))) ≡ from + 2 = length-append (take from p) (x ∷ (y ∷ [])) ∙ (let d = length-take-le from p (omega arith) in omega arith) in
+      let all : p ≡ (take from p ++ (x ∷ (y ∷ []))) ++ r =
+      sym (take-append-drop from p) ∙ ap (λ (l : List ℕ). take from p ++ l) parts ∙ sym (append_assoc (take from p) (x ∷ (y ∷ [])) r) in
+      ap (take (from + 2)) all ∙ ap (λ (n : ℕ). take n ((take from p ++ (x ∷ (y ∷ []))) ++ r)) (sym long) ∙ take-append_seam (take from p ++ (x ∷ (y ∷ []))) r
+
+  more_placed : offsets_of (without_halves (placed_from at (take (from + 2) p))) ≡ offsets_of (without_halves (placed_from at (take from p))) ++ offsets_of (without_halves pair)
+  more_placed =
+      let long : length (take from p) ≡ from = length-take-le from p (omega arith) in
+      ap (λ (l : List ℕ). offsets_of (without_halves (placed_from at l))) longer
+      ∙ ap (λ (l : List Placed). offsets_of (without_halves l)) (placed_from_append at (take from p) (x ∷ (y ∷ [])) ∙ ap (λ (n : ℕ). placed_from at (take from p) ++ placed_from (at + n) (x ∷ (y ∷ []))) long)
+      ∙ ap offsets_of (without_append (from / 2) (placed_from at (take from p)) pair (length-placed_from at (take from p) ∙ long ∙ omega arith))
+      ∙ map-append (λ (b : Placed). b.place.at) (without_halves (placed_from at (take from p))) (without_halves pair)
+
+  pub word_placed : x ≢ 255 → offsets_of (without_halves (placed_from at (take (from + 2) p))) ≡ offsets_of (without_halves (placed_from at (take from p))) ++ ((at + from) ∷ ((at + from + 1) ∷ []))
+  word_placed e =
+      more_placed ∙ ap (λ (l : List Placed). offsets_of (without_halves (placed_from at (take from p))) ++ offsets_of l)
+      (word_stays (byte_at (at + from) x) (byte_at (at + from + 1) y) [] e)
+
+  pub half_placed : x ≡ 255 → y ≡ 127 → offsets_of (without_halves (placed_from at (take (from + 2) p))) ≡ offsets_of (without_halves (placed_from at (take from p)))
+  half_placed e f =
+      more_placed ∙ ap (λ (l : List Placed). offsets_of (without_halves (placed_from at (take from p))) ++ offsets_of l)
+      (half_goes (byte_at (at + from) x) (byte_at (at + from + 1) y) [] e f)
+      ∙ append-nil (offsets_of (without_halves (placed_from at (take from p))))

@@ -23,7 +23,7 @@ use Rattle.deformatter.specs.declared.step.PortStep.{PortStep}
 use Rattle.deformatter.specs.declared.step.PortStep.TheVariants.{Quiet, Half as HalfEnds, Full as FullEnds, Frame as FrameEnds, Locked, Fault as Faulty}
 use Rattle.port_reader.specs.Modes.{is_bare, hunts}
 use Rattle.port_reader.specs.Reading.{item_frames, frames_of_items, framed, bare_cell, bare, port_reading}
-use Rattle.port_reader.specs.Growth.{frames_by, CellsFit, Reads, HuntBy, Grows, Answers, GrowsByFrame}
+use Rattle.port_reader.specs.Growth.{frames_by, CellsFit, Reads, HuntBy, Grows, Answers, IsInside, FedFrame, GrowsByFrame}
 use Rattle.port_reader.specs.Reader.{StandsByMode}
 use Rattle.port_reader.proofs.ReadingLaws.{frames_of_items-append}
 
@@ -155,34 +155,65 @@ each_map : (P Q : List Placed → ℕ → ℕ → Type 0) → ((u : List Placed)
 each_map P Q h u at [] e = tt
 each_map P Q h u at (b ∷ bytes) e = (h u at b e.0, each_map P Q h (u ++ byte_at at b ∷ []) (at + 1) bytes e.1)
 
--- quiet bytes leave the cells as they are
-quiet_cells : (h : Bool) (u : List Placed) (at byte : ℕ) → stream.Answers h Quiet u at byte → cells_in (port_stream h (u ++ byte_at at byte ∷ [])) ≡ cells_in (port_stream h u)
-quiet_cells h u at byte g = ap (λ (l : List (PortItem × Place)). cells_of_items None (items_of l)) g.items
+-- bytes that end no frame leave the cells as they are
+inside_cells : (h : Bool) (u : List Placed) (at byte : ℕ) → stream.IsInside h u at byte → cells_in (port_stream h (u ++ byte_at at byte ∷ [])) ≡ cells_in (port_stream h u)
+inside_cells h u at byte s = elim s [
+  | inl g ↦ same g.items
+  | inr g ↦ elim g.items [ inl e ↦ same e | inr e ↦ cells_push (port_stream h u) (port_stream h (u ++ byte_at at byte ∷ [])) Half (place_at at) e ∙ append-nil (cells_in (port_stream h u)) ]
+] where
+  same : (port_stream h (u ++ byte_at at byte ∷ [])).items ≡ (port_stream h u).items → cells_in (port_stream h (u ++ byte_at at byte ∷ [])) ≡ cells_in (port_stream h u)
+  same e = ap (λ (l : List (PortItem × Place)). cells_of_items None (items_of l)) e
 
-all_quiet_cells : (h : Bool) (u : List Placed) (at : ℕ) (bytes : List ℕ) → EachByte (stream.Answers h Quiet) u at bytes → cells_in (port_stream h (u ++ placed_from at bytes)) ≡ cells_in (port_stream h u)
-all_quiet_cells h u at [] e = ap (λ (l : List Placed). cells_in (port_stream h l)) (append-nil u)
-all_quiet_cells h u at (b ∷ bytes) e =
-    ap (λ (l : List Placed). cells_in (port_stream h l)) (sym (append_assoc u (byte_at at b ∷ []) (placed_from (at + 1) bytes)))
-    ∙ all_quiet_cells h (u ++ byte_at at b ∷ []) (at + 1) bytes e.1 ∙ quiet_cells h u at b e.0
+module _ (mode : FramesMode) (e : is_bare mode ≡ false) (h : Bool) (m : h ≡ hunts mode) where
+  -- a byte inside a frame
+  no_cells_given : (u : List Placed) (at byte : ℕ) → stream.IsInside h u at byte → cells_in (port_stream h (u ++ byte_at at byte ∷ [])) ≡ cells_in (port_stream h u) ++ []
+  no_cells_given u at byte s = inside_cells h u at byte s ∙ sym (append-nil (cells_in (port_stream h u)))
 
--- a block of a deformatter is one of its reader
-pub reading_fed : (mode : FramesMode) → is_bare mode ≡ false → (h : Bool) → h ≡ hunts mode → (u : List Placed) (at : ℕ) (bytes : List ℕ) (step : PortStep) (given : List Cell) →
-    FedAs (stream.Answers h Quiet) (stream.Answers h step) u at bytes → cells_in (port_stream h (u ++ placed_from at bytes)) ≡ cells_in (port_stream h u) ++ given →
-    FedAs (Answers mode Quiet []) (Answers mode step given) u at bytes
-reading_fed mode e h m u at bytes step given r k =
-    let w = u ++ placed_from at r.front in
-    let next : w ++ byte_at (at + length r.front) r.last ∷ [] ≡ u ++ placed_from at bytes =
-    append_assoc u (placed_from at r.front) (byte_at (at + length r.front) r.last ∷ [])
-    ∙ ap (λ (l : List Placed). u ++ l) (sym (placed_from_push at r.front r.last) ∙ ap (placed_from at) (sym r.parts)) in
-    record {
-      front = r.front;
-      last = r.last;
-      parts = r.parts;
-      quiet = each_map (stream.Answers h Quiet) (Answers mode Quiet [])
-          (λ v n b g. reading_grows mode e h m v (v ++ byte_at n b ∷ []) n Quiet [] g (quiet_cells h v n b g ∙ sym (append-nil (cells_in (port_stream h v))))) u at r.front r.quiet;
-      ends = reading_grows mode e h m w (w ++ byte_at (at + length r.front) r.last ∷ []) (at + length r.front) step given r.ends
-          (ap (λ (l : List Placed). cells_in (port_stream h l)) next ∙ k ∙ ap (λ (l : List Cell). l ++ given) (sym (all_quiet_cells h u at r.front r.quiet)));
-    }
+  quiet_answer : (u : List Placed) (at byte : ℕ) → stream.Answers h Quiet u at byte → Answers mode Quiet [] u at byte
+  quiet_answer u at byte g = reading_grows mode e h m u (u ++ byte_at at byte ∷ []) at Quiet [] g (no_cells_given u at byte (inl g))
+
+  inside_answer : (u : List Placed) (at byte : ℕ) → stream.IsInside h u at byte → IsInside mode u at byte
+  inside_answer u at byte s = elim s [
+    | inl g ↦ inl (quiet_answer u at byte g)
+    | inr g ↦ inr (reading_grows mode e h m u (u ++ byte_at at byte ∷ []) at HalfEnds [] g (no_cells_given u at byte (inr g)))
+  ]
+
+  -- bytes of which the last may end a frame
+  module _ (P Q : List Placed → ℕ → ℕ → Type 0) (inside : (u : List Placed) (at byte : ℕ) → P u at byte → stream.IsInside h u at byte)
+      (answer : (u : List Placed) (at byte : ℕ) → P u at byte → Q u at byte) where
+    all_inside : (u : List Placed) (at : ℕ) (bytes : List ℕ) → EachByte P u at bytes → cells_in (port_stream h (u ++ placed_from at bytes)) ≡ cells_in (port_stream h u)
+    all_inside u at [] q = ap (λ (l : List Placed). cells_in (port_stream h l)) (append-nil u)
+    all_inside u at (b ∷ bytes) q =
+        ap (λ (l : List Placed). cells_in (port_stream h l)) (sym (append_assoc u (byte_at at b ∷ []) (placed_from (at + 1) bytes)))
+        ∙ all_inside (u ++ byte_at at b ∷ []) (at + 1) bytes q.1 ∙ inside_cells h u at b (inside u at b q.0)
+
+    fed_by : (u : List Placed) (at : ℕ) (bytes : List ℕ) (step : PortStep) (given : List Cell) →
+        FedAs P (stream.Answers h step) u at bytes → cells_in (port_stream h (u ++ placed_from at bytes)) ≡ cells_in (port_stream h u) ++ given →
+        FedAs Q (Answers mode step given) u at bytes
+    fed_by u at bytes step given r k =
+        let w = u ++ placed_from at r.front in
+        let next : w ++ byte_at (at + length r.front) r.last ∷ [] ≡ u ++ placed_from at bytes =
+        append_assoc u (placed_from at r.front) (byte_at (at + length r.front) r.last ∷ [])
+        ∙ ap (λ (l : List Placed). u ++ l) (sym (placed_from_push at r.front r.last) ∙ ap (placed_from at) (sym r.parts)) in
+        record {
+          front = r.front;
+          last = r.last;
+          parts = r.parts;
+          quiet = each_map P Q answer u at r.front r.quiet;
+          ends = reading_grows mode e h m w (w ++ byte_at (at + length r.front) r.last ∷ []) (at + length r.front) step given r.ends
+              (ap (λ (l : List Placed). cells_in (port_stream h l)) next ∙ k ∙ ap (λ (l : List Cell). l ++ given) (sym (all_inside u at r.front r.quiet)));
+        }
+
+  -- a block of a deformatter is one of its reader
+  pub reading_fed : (u : List Placed) (at : ℕ) (bytes : List ℕ) (step : PortStep) (given : List Cell) →
+      FedAs (stream.Answers h Quiet) (stream.Answers h step) u at bytes → cells_in (port_stream h (u ++ placed_from at bytes)) ≡ cells_in (port_stream h u) ++ given →
+      FedAs (Answers mode Quiet []) (Answers mode step given) u at bytes
+  reading_fed = fed_by (stream.Answers h Quiet) (Answers mode Quiet []) (λ u at byte g. inl g) quiet_answer
+
+  -- and so is a frame
+  pub reading_fed_frame : (u : List Placed) (at : ℕ) (bytes : List ℕ) (given : List Cell) →
+      stream.FedFrame h u at bytes → cells_in (port_stream h (u ++ placed_from at bytes)) ≡ cells_in (port_stream h u) ++ given → FedFrame mode given u at bytes
+  reading_fed_frame u at bytes given = fed_by (stream.IsInside h) (IsInside mode) (λ v n b s. s) inside_answer u at bytes FrameEnds given
 
 -- with no formatter each byte is a frame
 bare_fed : (u : List Placed) (at b : ℕ) (bytes : List ℕ) (given : List Cell) → given ≡ bare_cell (byte_at at b) ∷ [] → FedAs (Answers Bare Quiet []) (Answers Bare FrameEnds given) u at (b ∷ [])

@@ -1,9 +1,10 @@
 -- How the reading of a port's bytes grows with one more byte, and what a step says of it.
-use Rattle.std.specs.Prelude.{◌≡◌, ℕ, ◌+◌, ◌≤◌, List, [], ◌∷◌, ◌++◌, true, false, if◌then◌else◌, None}
+use Rattle.std.specs.Prelude.{◌≡◌, ◌⊎◌, ℕ, ◌+◌, ◌≤◌, List, [], ◌∷◌, ◌++◌, true, false, if◌then◌else◌, None}
 use Rattle.trace_values.specs.declared.cell.Cell.{Cell}
 use Rattle.trace_values.specs.Stream.{FaultAt}
 use Rattle.deformatter.specs.declared.step.PortStep.{PortStep}
-use Rattle.deformatter.specs.declared.step.PortStep.TheVariants.{Quiet, Frame, Locked, Fault as Faulty}
+use Rattle.deformatter.specs.declared.step.PortStep.TheVariants.{Quiet, Half, Frame, Locked, Fault as Faulty}
+use Rattle.deformatter.specs.Block.{FedAs}
 use Rattle.deformatter.specs.Growth.{fulls_by, halves_by, fault_by}
 use Rattle.capture_plan.specs.declared.frames.FramesMode.{FramesMode}
 use Rattle.trace_values.specs.Placed.{Placed, byte_at}
@@ -49,6 +50,14 @@ pub record Grows (old new : PortReading) (at : ℕ) (step : PortStep) (cells : L
 abbrev pub Answers : FramesMode → PortStep → List Cell → List Placed → ℕ → ℕ → Type 0
 Answers mode step cells u at byte =
     Grows (port_reading mode u) (port_reading mode (u ++ byte_at at byte ∷ [])) at step cells
+
+-- the answer to this byte is quiet, or that of a half synchronisation
+abbrev pub IsInside : FramesMode → List Placed → ℕ → ℕ → Type 0
+IsInside mode u at byte = Answers mode Quiet [] u at byte ⊎ Answers mode Half [] u at byte
+
+-- these bytes follow u from this offset on: the last of them ends a frame of these cells, and those before it are inside
+abbrev pub FedFrame : FramesMode → List Cell → List Placed → ℕ → List ℕ → Type 0
+FedFrame mode cells u at bytes = FedAs (IsInside mode) (Answers mode Frame cells) u at bytes
 
 -- With the bytes of a frame of these cells, and of `inner` half synchronisations between them, the reading grew by that
 -- frame.

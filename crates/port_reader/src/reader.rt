@@ -45,7 +45,7 @@ impl PortReader {
     ghost use Rattle.deformatter.specs.declared.step.PortStep.TheVariants.{Quiet};
     ghost use Rattle.deformatter.specs.Growth.{goes_on};
     ghost use Rattle.port_reader.specs.Reading.{port_reading};
-    ghost use Rattle.port_reader.specs.Growth.{Answers, Grows, GrowsByFrame};
+    ghost use Rattle.port_reader.specs.Growth.{Answers, FedFrame, Grows, GrowsByFrame};
     ghost use Rattle.port_reader.specs.Reader.{Stands, IsBetween, mode_of, id_of, is_live, has_locked, tail_of};
     ghost use Rattle.port_reader.specs.Reader.{skipped_by};
 
@@ -151,6 +151,9 @@ impl PortReader {
         ensures grows { (u w f : List Placed) (halves : ℕ) → Stands self.old u → Spells (Frame f halves) w →
             GrowsByFrame (port_reading (mode_of self.old) u) (port_reading (mode_of self.old) (u ++ w)) halves
             (cells (units_of f) (offsets_of f) (id_of self.old)) }
+        ensures fed { (u f : List Placed) (halves at : ℕ) (bytes : List ℕ) → Stands self.old u →
+            Spells (Frame f halves) (placed_from at bytes) →
+            FedFrame (mode_of self.old) (cells (units_of f) (offsets_of f) (id_of self.old)) u at bytes }
         ensures live { is_live self.new ≡ true }
         ensures few { tail_of self.new + skipped_by self.new ≡ tail_of self.old + skipped_by self.old }
     {

@@ -1,0 +1,90 @@
+//! A frame whose bytes are all in a piece, with half synchronisations between its halfwords, and where its bytes are.
+
+ghost use Rattle.std.specs.Prelude.{◌≡◌, ◌≤◌, ◌<◌, ◌+◌, ◌*◌, ◌^◌, ℕ, List, length, take, IfSome, IsNone};
+ghost use Rattle.trace_values.specs.Placed.{placed_from};
+ghost use Rattle.frame_grammar.specs.Reading.{offsets_of};
+ghost use Rattle.frame_grammar.specs.Whole.{IsWhole, without_halves};
+ghost use Rattle.frame_grammar.specs.declared.frame.TheConstants.{FRAME_BYTES};
+
+use crate::frame::FRAME_BYTES;
+
+/// A frame gathered from a piece that has half synchronisations between its halfwords.
+#[derive(Clone, Copy, Debug, PartialEq, Eq, Drop)]
+pub struct PlacedFrame {
+    /// The bytes of the frame.
+    pub bytes: [u8; FRAME_BYTES],
+    /// The offset of each of them.
+    pub offsets: [u64; FRAME_BYTES],
+    /// How many half synchronisations are between its halfwords.
+    pub halves: usize,
+    ghost fits: { FRAME_BYTES + 2 * halves < 2 ^ 64 },
+}
+
+impl PlacedFrame {
+    /// How many bytes of the piece it takes: those of the frame, and two for each half synchronisation.
+    #[inline]
+    pub fn size(&self) -> usize
+        ensures { result ≡ FRAME_BYTES + 2 * self.now.halves }
+    {
+        FRAME_BYTES + 2 * self.halves
+    }
+}
+
+/// The frame that the piece begins with, the first byte of which is at this offset, where all its bytes are there. It is
+/// that of `gather_frame`, which keeps no offsets and is faster.
+#[inline]
+pub fn gather_frame_at(at: u64, piece: &[u8]) -> Option<PlacedFrame>
+    requires { at + length piece.now ≤ 2 ^ 64 }
+    ensures room { IfSome result (λ g. FRAME_BYTES + 2 * g.halves ≤ length piece.now) }
+    ensures whole { IfSome result (λ g. IsWhole (take (FRAME_BYTES + 2 * g.halves) piece.now) g.bytes g.halves) }
+    ensures offsets { IfSome result (λ g. let w = placed_from at (take (FRAME_BYTES + 2 * g.halves) piece.now) in
+        g.offsets ≡ offsets_of (without_halves w)) }
+    ensures only { IsNone result → (n halves : ℕ) (frame : List ℕ) → n ≤ length piece.now →
+        IsWhole (take n piece.now) frame halves → ⊥ }
+{
+    let mut bytes = [0; FRAME_BYTES];
+    let mut offsets = [0; FRAME_BYTES];
+    let mut words = 0;
+    let mut from = 0;
+    while words < 8 {
+        let [first, second] = *piece[from..].first_chunk::<2>()?;
+        if first != 0xFF {
+            bytes[2 * words] = first;
+            bytes[2 * words + 1] = second;
+            offsets[2 * words] = at + from as u64;
+            offsets[2 * words + 1] = at + from as u64 + 1;
+            words += 1;
+        } else if words == 0 || second != 0x7F {
+            return None;
+        }
+        from += 2;
+    }
+    Some(PlacedFrame {
+        bytes,
+        offsets,
+        halves: from / 2 - 8,
+    })
+}
+
+#[cfg(test)]
+mod tests {
+    use super::*;
+    use crate::gather::gather_frame;
+
+    #[test]
+    fn places_a_frame(rt: HostRuntime) {
+        // The half synchronisations are at 44 and 52.
+        let piece =
+            b"\x01\xff\xfe\x7f\xff\x7f\x7f\xff\0\xff\x02\xff\xff\x7f\x03\x7f\x04\xff\xfd\xff";
+        let offsets = [
+            40, 41, 42, 43, 46, 47, 48, 49, 50, 51, 54, 55, 56, 57, 58, 59,
+        ];
+        let gathered = gather_frame(piece);
+        let placed = gather_frame_at(40, piece);
+        assert_eq!(rt; placed.map(|p| p.bytes), gathered.map(|g| g.bytes));
+        assert_eq!(rt; placed.map(|p| p.halves), gathered.map(|g| g.halves));
+        assert_eq!(rt; placed.map(|p| p.size()), Some(piece.len()));
+        assert_eq!(rt; placed.map(|p| p.offsets), Some(offsets));
+        assert_eq!(rt; gather_frame_at(40, b"AB\xff\x7fCDEFGHIJKLMNO"), None);
+    }
+}
