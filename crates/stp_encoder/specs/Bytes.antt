@@ -1,6 +1,7 @@
 -- The bytes for a list of items: the shortest nibbles of their packets, two a byte, the low one first (MIPI System
 -- Trace Protocol, version 2, in this project's profile).
-use Rattle.std.specs.Prelude.{ℕ, ◌+◌, ◌*◌, ◌%◌, List, [], ◌∷◌, ◌++◌, length, flat_map, ◌==◌, if◌then◌else◌, Option, None, Some, option_to_list}
+use Rattle.std.specs.Prelude.{ℕ, ◌+◌, ◌*◌, ◌%◌, List, [], ◌∷◌, ◌++◌, length, flat_map, ◌==◌, if◌then◌else◌, Option}
+use Rattle.std.specs.Prelude.{None, Some, option_to_list}
 use Rattle.trace_clock.specs.LastWord.{nibble_count}
 use Rattle.stp_grammar.specs.declared.packet.Order.{Order}
 use Rattle.stp_grammar.specs.declared.packet.StpPacket.{StpPacket}

@@ -7,7 +7,8 @@ use Rattle.stp_grammar.specs.declared.item.Place.{Place}
 use Rattle.stp_grammar.specs.declared.item.Stamp.{Stamp}
 use Rattle.stp_grammar.specs.declared.item.Stamp.TheVariants.{None as NoStamp, Natural, Gray, Raw}
 use Rattle.stp_grammar.specs.declared.item.StpItem.{StpItem}
-use Rattle.stp_grammar.specs.declared.item.StpItem.TheVariants.{Version, MasterError, Datum, Flag, Trigger, Frequency, NullStamp}
+use Rattle.stp_grammar.specs.declared.item.StpItem.TheVariants.{Version, MasterError, Datum, Flag, Trigger, Frequency}
+use Rattle.stp_grammar.specs.declared.item.StpItem.TheVariants.{NullStamp}
 use Rattle.stp_grammar.specs.Attribution.{keeps_word}
 use Rattle.stp_grammar.specs.Proper.{IsProperItem}
 

@@ -1,18 +1,25 @@
 -- The packets for a list of items (MIPI System Trace Protocol, version 2; which packets are sent for an item is this
 -- project's profile). What is in force when an item comes is what all packets before it tell.
-use Rattle.std.specs.Prelude.{ℕ, ◌/◌, ◌%◌, ◌^◌, List, [], ◌∷◌, ◌++◌, true, false, ◌==◌, if◌then◌else◌, Option, None, Some, unwrap_or}
+use Rattle.std.specs.Prelude.{ℕ, ◌/◌, ◌%◌, ◌^◌, List, [], ◌∷◌, ◌++◌, true, false, ◌==◌, if◌then◌else◌, Option, None}
+use Rattle.std.specs.Prelude.{Some, unwrap_or}
 use Rattle.std.specs.List.{find, filter_map, after_last, range_with_len}
 use Rattle.trace_clock.specs.GrayCode.{gray_of}
 use Rattle.trace_clock.specs.LastWord.{SizedWord, sized, nibble_count, next_word}
 use Rattle.stp_grammar.specs.declared.packet.Row.{Row}
-use Rattle.stp_grammar.specs.declared.packet.Row.TheVariants.{Master8, MasterError, Channel8, Datum, Flag, Master16, GlobalError, Channel16, Version, NullStamp, Trigger, Frequency}
+use Rattle.stp_grammar.specs.declared.packet.Row.TheVariants.{Master8, MasterError, Channel8, Datum, Flag, Master16}
+use Rattle.stp_grammar.specs.declared.packet.Row.TheVariants.{GlobalError, Channel16, Version, NullStamp, Trigger}
+use Rattle.stp_grammar.specs.declared.packet.Row.TheVariants.{Frequency}
 use Rattle.stp_grammar.specs.declared.packet.StpPacket.{StpPacket}
 use Rattle.stp_grammar.specs.declared.packet.StpPacket.TheVariants.{Async, Plain, Stamped}
 use Rattle.stp_grammar.specs.declared.item.Place.{Place}
 use Rattle.stp_grammar.specs.declared.item.Stamp.{Stamp}
 use Rattle.stp_grammar.specs.declared.item.Stamp.TheVariants.{None as NoStamp, Natural, Gray, Raw}
 use Rattle.stp_grammar.specs.declared.item.StpItem.{StpItem}
-use Rattle.stp_grammar.specs.declared.item.StpItem.TheVariants.{Async as AsyncItem, Version as VersionItem, MasterError as MasterErrorItem, GlobalError as GlobalErrorItem, Datum as DatumItem, Flag as FlagItem, Trigger as TriggerItem, Frequency as FrequencyItem, NullStamp as NullStampItem}
+use Rattle.stp_grammar.specs.declared.item.StpItem.TheVariants.{Async as AsyncItem, Version as VersionItem}
+use Rattle.stp_grammar.specs.declared.item.StpItem.TheVariants.{MasterError as MasterErrorItem}
+use Rattle.stp_grammar.specs.declared.item.StpItem.TheVariants.{GlobalError as GlobalErrorItem, Datum as DatumItem}
+use Rattle.stp_grammar.specs.declared.item.StpItem.TheVariants.{Flag as FlagItem, Trigger as TriggerItem}
+use Rattle.stp_grammar.specs.declared.item.StpItem.TheVariants.{Frequency as FrequencyItem, NullStamp as NullStampItem}
 use Rattle.stp_grammar.specs.Attribution.{stamp_in, begins_master, master_of, channel_of, last_word_of}
 use Rattle.stp_encoder.specs.Fitting.{item_place}
 

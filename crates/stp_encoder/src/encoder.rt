@@ -42,9 +42,9 @@ impl StpEncoder {
     ghost use Rattle.stp_grammar.specs.Attributed as attributed;
     ghost use Rattle.stp_grammar.specs.Proper.{IsProper, IsProperItem, IsProperStamp};
     ghost use Rattle.stp_grammar.specs.Shortest.{short};
-    ghost use Rattle.stp_encoder.specs.Fitting.{version_after, is_unfit as is_unfit_by};
+    ghost use Rattle.stp_encoder.specs.Fitting.{version_after, is_unfit};
     ghost use Rattle.stp_encoder.specs.Packets.{telling_place, packets_with, shortest_stamp};
-    ghost use Rattle.stp_encoder.specs.Packets.{packed_stamp as stamp_by, own_packet as packet_by};
+    ghost use Rattle.stp_encoder.specs.Packets.{packed_stamp, own_packet};
     ghost use Rattle.stp_encoder.specs.Bytes.{short_len, spelled, written, encoded, put_bytes, end_bytes};
     ghost use Rattle.stp_encoder.specs.Encoder.{Stands, IsAt, count_with, order_of, version_in_force};
 
@@ -84,7 +84,7 @@ impl StpEncoder {
     fn packed_stamp(&self, stamp: Stamp) -> Option<(u8, u64)>
         requires proper { IsProperStamp stamp }
         ensures stamp { (packets : List StpPacket) → attributed.Stands self.now.attribution packets →
-            option_map (λ x. sized x.0 x.1) result ≡ stamp_by packets stamp }
+            option_map (λ x. sized x.0 x.1) result ≡ packed_stamp packets stamp }
         ensures fits { ForSome result (λ x. WordFits x.0 x.1) }
     {
         match stamp {
@@ -99,7 +99,7 @@ impl StpEncoder {
     fn own_packet(&self, item: &StpItem) -> StpPacket
         requires proper { IsProperItem item.now }
         ensures packet { (packets : List StpPacket) → attributed.Stands self.now.attribution packets →
-            result ≡ packet_by packets item.now }
+            result ≡ own_packet packets item.now }
         ensures proper { IsProper result }
     {
         match *item {
@@ -223,10 +223,10 @@ impl StpEncoder {
         requires proper { IsProperItem item.now }
         requires empty { out.old.items ≡ [] }
         ensures order { order_of self.new ≡ order_of self.old }
-        ensures cause { is_err result ≡ is_unfit_by (version_in_force self.old) item.now }
+        ensures cause { is_err result ≡ is_unfit (version_in_force self.old) item.now }
         ensures version { IfErr result (λ e. e.version ≡ version_in_force self.old) }
         ensures fits { (items : List StpItem) → Stands self.old items →
-            is_err result ≡ is_unfit_by (version_after items) item.now }
+            is_err result ≡ is_unfit (version_after items) item.now }
         ensures same { OnErr result ((self.new ≡ self.old) × (out.new ≡ out.old)) }
         ensures list { (items : List StpItem) → Stands self.old items →
             OnOk result (Stands self.new (items ++ item.now ∷ [])) }

@@ -2,7 +2,7 @@
 
 ghost use Rattle.std.specs.Prelude.{◌≡◌};
 ghost use Rattle.stp_encoder.specs.Fitting.{item_place, item_stamp, is_of_version, is_named, has_content};
-ghost use Rattle.stp_encoder.specs.Fitting.{is_unfit as is_unfit_by};
+ghost use Rattle.stp_encoder.specs.Fitting.{is_unfit};
 
 use stp_grammar::item::{Place, Stamp, StpItem};
 
@@ -71,7 +71,7 @@ fn has_content(item: &StpItem) -> bool
 
 /// The item can't be written under this version.
 pub(crate) fn is_unfit(version: Option<u8>, item: &StpItem) -> bool
-    ensures { result ≡ is_unfit_by version item.now }
+    ensures { result ≡ is_unfit version item.now }
 {
     !is_of_version(version, stamp_of(item)) || !is_named(place_of(item)) || !has_content(item)
 }

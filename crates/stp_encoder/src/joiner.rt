@@ -2,7 +2,7 @@
 
 ghost use Rattle.std.specs.Prelude.{◌≡◌, ◌<◌, ◌≤◌, ◌+◌, ◌*◌, ◌/◌, ◌%◌, ◌^◌, length};
 ghost use Rattle.std.specs.Option.{ForSome};
-ghost use Rattle.trace_clock.specs.LastWord.{nibble_at as nibble_by};
+ghost use Rattle.trace_clock.specs.LastWord.{nibble_at};
 
 use crate::opcode::opcode;
 use arrayvec::ArrayVec;
@@ -12,7 +12,7 @@ use trace_clock::word_nibbles;
 /// This nibble of a number, counted from the low end.
 fn nibble_at(number: u64, place: u8) -> u8
     requires { place < 16 }
-    ensures { result ≡ nibble_by number place }
+    ensures { result ≡ nibble_at number place }
 {
     ((number >> (4 * place)) % 16) as u8
 }

@@ -7,7 +7,7 @@ ghost use Rattle.stp_grammar.specs.declared.packet.Row.TheVariants.{Datum};
 ghost use Rattle.stp_grammar.specs.declared.packet.StpPacket.TheVariants.{Plain};
 ghost use Rattle.stp_grammar.specs.Opcodes.{line_of};
 ghost use Rattle.stp_grammar.specs.Proper.{IsProper};
-ghost use Rattle.stp_encoder.specs.Packets.{with_stamp as packet_by};
+ghost use Rattle.stp_encoder.specs.Packets.{with_stamp};
 
 use stp_grammar::packet::{Row, StpPacket, Width};
 
@@ -38,7 +38,7 @@ pub(crate) fn with_stamp(
     requires plain { payload < 16 ^ (line_of plain).payload }
     requires stamped { payload < 16 ^ (line_of stamped).payload }
     requires fits { ForSome stamp (λ x. WordFits x.0 x.1) }
-    ensures packet { result ≡ packet_by plain stamped payload (option_map (λ x. sized x.0 x.1) stamp) }
+    ensures packet { result ≡ with_stamp plain stamped payload (option_map (λ x. sized x.0 x.1) stamp) }
     ensures proper { IsProper result }
 {
     match stamp {

@@ -5,7 +5,7 @@ ghost use Rattle.std.specs.Option.{ForSome};
 ghost use Rattle.stp_grammar.specs.Opcodes.{line_of};
 ghost use Rattle.stp_grammar.specs.Proper.{IsProper};
 ghost use Rattle.stp_encoder.specs.Bytes.{short_len};
-ghost use Rattle.stp_encoder.specs.Packets.{telling as telling_by};
+ghost use Rattle.stp_encoder.specs.Packets.{telling};
 
 use stp_grammar::packet::{Row, StpPacket};
 
@@ -19,7 +19,7 @@ pub(crate) fn telling(
 ) -> Option<StpPacket>
     requires low { (length (line_of low).opcode ≤ 2) × ((line_of low).payload ≡ 2) }
     requires whole { (length (line_of whole).opcode ≤ 2) × ((line_of whole).payload ≡ 4) }
-    ensures packet { option_to_list result ≡ telling_by low whole known number }
+    ensures packet { option_to_list result ≡ telling low whole known number }
     ensures proper { ForSome result IsProper }
     ensures few { ForSome result (λ p. short_len p ≤ 6) }
 {

@@ -1,20 +1,27 @@
 -- What a packet is as an item: its place and its timestamp, by looking back over all packets up to it, itself included
 -- (MIPI System Trace Protocol, version 2, where masters and channels hold for the packets after them, and timestamps
 -- may carry only low nibbles). Which packets tell what, and what versions 3 and 4 mean, is this project's profile.
-use Rattle.std.specs.Prelude.{ℕ, ◌+◌, ◌*◌, ◌/◌, ◌%◌, List, [], ◌∷◌, ◌++◌, Bool, false, ◌==◌, ◌||◌, if◌then◌else◌, Option, None, Some, unwrap_or}
+use Rattle.std.specs.Prelude.{ℕ, ◌+◌, ◌*◌, ◌/◌, ◌%◌, List, [], ◌∷◌, ◌++◌, Bool, false, ◌==◌, ◌||◌, if◌then◌else◌}
+use Rattle.std.specs.Prelude.{Option, None, Some, unwrap_or}
 use Rattle.std.specs.Option.{is_some, option_or}
 use Rattle.std.specs.List.{list_any, filter_map, last_or, after_last}
 use Rattle.trace_clock.specs.GrayCode.{natural_of}
 use Rattle.trace_clock.specs.LastWord.{SizedWord, sized, last_word}
 use Rattle.stp_grammar.specs.declared.packet.Row.{Row}
-use Rattle.stp_grammar.specs.declared.packet.Row.TheVariants.{Null, Master8, MasterError, Channel8, Datum, Flag, Master16, GlobalError, Channel16, Version, NullStamp, Trigger, Frequency}
+use Rattle.stp_grammar.specs.declared.packet.Row.TheVariants.{Null, Master8, MasterError, Channel8, Datum, Flag}
+use Rattle.stp_grammar.specs.declared.packet.Row.TheVariants.{Master16, GlobalError, Channel16, Version, NullStamp}
+use Rattle.stp_grammar.specs.declared.packet.Row.TheVariants.{Trigger, Frequency}
 use Rattle.stp_grammar.specs.declared.packet.StpPacket.{StpPacket}
 use Rattle.stp_grammar.specs.declared.packet.StpPacket.TheVariants.{Async, Plain, Stamped}
 use Rattle.stp_grammar.specs.declared.item.Place.{Place}
 use Rattle.stp_grammar.specs.declared.item.Stamp.{Stamp}
 use Rattle.stp_grammar.specs.declared.item.Stamp.TheVariants.{None as NoStamp, Natural, Gray, Raw}
 use Rattle.stp_grammar.specs.declared.item.StpItem.{StpItem}
-use Rattle.stp_grammar.specs.declared.item.StpItem.TheVariants.{Async as AsyncItem, Version as VersionItem, MasterError as MasterErrorItem, GlobalError as GlobalErrorItem, Datum as DatumItem, Flag as FlagItem, Trigger as TriggerItem, Frequency as FrequencyItem, NullStamp as NullStampItem}
+use Rattle.stp_grammar.specs.declared.item.StpItem.TheVariants.{Async as AsyncItem, Version as VersionItem}
+use Rattle.stp_grammar.specs.declared.item.StpItem.TheVariants.{MasterError as MasterErrorItem}
+use Rattle.stp_grammar.specs.declared.item.StpItem.TheVariants.{GlobalError as GlobalErrorItem, Datum as DatumItem}
+use Rattle.stp_grammar.specs.declared.item.StpItem.TheVariants.{Flag as FlagItem, Trigger as TriggerItem}
+use Rattle.stp_grammar.specs.declared.item.StpItem.TheVariants.{Frequency as FrequencyItem, NullStamp as NullStampItem}
 
 -- the payload of a VERSION, an M8, an M16, a C8 and a C16
 abbrev pub version_in : StpPacket → Option ℕ

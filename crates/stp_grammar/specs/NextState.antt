@@ -3,7 +3,8 @@ use Rattle.std.specs.Prelude.{ℕ, ◌+◌, ◌*◌, ◌/◌, Bool, Option, None
 use Rattle.std.specs.Option.{option_or}
 use Rattle.trace_clock.specs.LastWord.{SizedWord, next_word}
 use Rattle.stp_grammar.specs.declared.packet.StpPacket.{StpPacket}
-use Rattle.stp_grammar.specs.Attribution.{version_in, master8_in, master16_in, channel8_in, channel16_in, stamp_in, begins_master, begins_channel, keeps_word}
+use Rattle.stp_grammar.specs.Attribution.{version_in, master8_in, master16_in, channel8_in, channel16_in, stamp_in}
+use Rattle.stp_grammar.specs.Attribution.{begins_master, begins_channel, keeps_word}
 
 -- VERSION tells the version
 abbrev pub next_version : Option ℕ → StpPacket → Option ℕ

@@ -1,12 +1,16 @@
 -- The table of opcodes (MIPI System Trace Protocol, version 2). Which packets are read, how long their payloads are,
 -- and that other opcodes are refused, is this project's profile.
-use Rattle.std.specs.Prelude.{ℕ, List, [], ◌∷◌, Bool, true, false, nat_eq, ◌==◌, ◌||◌, if◌then◌else◌, get_or, Option, None, Some}
+use Rattle.std.specs.Prelude.{ℕ, List, [], ◌∷◌, Bool, true, false, nat_eq, ◌==◌, ◌||◌, if◌then◌else◌, get_or, Option}
+use Rattle.std.specs.Prelude.{None, Some}
 use Rattle.std.specs.List.{find, list_any, list_all, starts_with}
 use Rattle.stp_grammar.specs.declared.opcode.Head.{Head}
-use Rattle.stp_grammar.specs.declared.opcode.Head.TheVariants.{Whole as HeadWhole, More as HeadMore, Refused as HeadRefused}
+use Rattle.stp_grammar.specs.declared.opcode.Head.TheVariants.{Whole as HeadWhole, More as HeadMore}
+use Rattle.stp_grammar.specs.declared.opcode.Head.TheVariants.{Refused as HeadRefused}
 use Rattle.stp_grammar.specs.declared.packet.Width.TheVariants.{Four, Eight, Sixteen, ThirtyTwo, SixtyFour}
 use Rattle.stp_grammar.specs.declared.packet.Row.{Row}
-use Rattle.stp_grammar.specs.declared.packet.Row.TheVariants.{Null, Master8, MasterError, Channel8, Datum, Flag, Master16, GlobalError, Channel16, Version, NullStamp, Trigger, Frequency}
+use Rattle.stp_grammar.specs.declared.packet.Row.TheVariants.{Null, Master8, MasterError, Channel8, Datum, Flag}
+use Rattle.stp_grammar.specs.declared.packet.Row.TheVariants.{Master16, GlobalError, Channel16, Version, NullStamp}
+use Rattle.stp_grammar.specs.declared.packet.Row.TheVariants.{Trigger, Frequency}
 
 -- a line of the table: the row's number, the opcode's nibbles, how many nibbles the payload has, and whether a
 -- timestamp follows it

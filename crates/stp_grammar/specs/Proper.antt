@@ -1,4 +1,5 @@
--- Packets and items whose numbers are in their ranges.
+-- Packets and items whose numbers are in their ranges (MIPI System Trace Protocol, version 2; the ranges are this
+-- project's profile).
 use Rattle.std.specs.Prelude.{ℕ, ◌^◌, ◌<◌}
 use Rattle.std.specs.Option.{ForSome}
 use Rattle.trace_clock.specs.LastWord.{WordFits}
@@ -10,7 +11,8 @@ use Rattle.stp_grammar.specs.declared.item.Place.{Place}
 use Rattle.stp_grammar.specs.declared.item.Stamp.{Stamp}
 use Rattle.stp_grammar.specs.declared.item.Stamp.TheVariants.{None as NoStamp, Natural, Gray, Raw}
 use Rattle.stp_grammar.specs.declared.item.StpItem.{StpItem}
-use Rattle.stp_grammar.specs.declared.item.StpItem.TheVariants.{Async as AsyncItem, Version, MasterError, GlobalError, Datum, Flag, Trigger, Frequency, NullStamp}
+use Rattle.stp_grammar.specs.declared.item.StpItem.TheVariants.{Async as AsyncItem, Version, MasterError, GlobalError}
+use Rattle.stp_grammar.specs.declared.item.StpItem.TheVariants.{Datum, Flag, Trigger, Frequency, NullStamp}
 use Rattle.stp_grammar.specs.Opcodes.{line_of}
 
 -- the payload and the word have at most the nibbles that they are spelled in, and the size is one

@@ -1,4 +1,5 @@
--- One more nibble of an unfinished packet: the grammar's rule, which keeps a state.
+-- One more nibble of an unfinished packet (MIPI System Trace Protocol, version 2, in this project's profile): the
+-- grammar's rule, which keeps a state.
 use Rattle.std.specs.Prelude.{◌≡◌, ℕ, ◌+◌, ◌*◌, ◌^◌, length, Bool, true, ◌==◌, ◌&&◌, nat_lt, nat_le, if◌then◌else◌}
 use Rattle.trace_values.specs.declared.fault.Reason.TheVariants.{Unsupported, StampSize, BadAsync}
 use Rattle.trace_values.specs.declared.next.Next.{Next}

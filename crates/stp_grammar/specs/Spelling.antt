@@ -1,6 +1,7 @@
 -- Which lists of nibbles spell a packet (MIPI System Trace Protocol, version 2). Which opcodes there are, how long
 -- payloads are, and which sizes timestamps have, is this project's profile.
-use Rattle.std.specs.Prelude.{◌≡◌, ℕ, ◌+◌, ◌*◌, ◌^◌, ◌<◌, ◌≤◌, List, [], ◌∷◌, ◌++◌, length, replicate, Bool, true, false, ◌==◌, ◌&&◌, if◌then◌else◌}
+use Rattle.std.specs.Prelude.{◌≡◌, ℕ, ◌+◌, ◌*◌, ◌^◌, ◌<◌, ◌≤◌, List, [], ◌∷◌, ◌++◌, length, replicate, Bool, true}
+use Rattle.std.specs.Prelude.{false, ◌==◌, ◌&&◌, if◌then◌else◌}
 use Rattle.trace_values.specs.declared.fault.Reason.{Reason}
 use Rattle.trace_values.specs.declared.fault.Reason.TheVariants.{Unsupported, StampSize, BadAsync}
 use Rattle.trace_clock.specs.LastWord.{nibble_count}

@@ -6,7 +6,7 @@ ghost use Rattle.stp_grammar.specs.declared.packet.StpPacket.TheVariants.{Plain,
 ghost use Rattle.stp_grammar.specs.Opcodes.{line_of};
 ghost use Rattle.std.specs.Option.{ForSome};
 ghost use Rattle.stp_grammar.specs.Proper.{IsProperStamp, IsProperItem};
-ghost use Rattle.stp_grammar.specs.Attribution.{item_with as item_by};
+ghost use Rattle.stp_grammar.specs.Attribution.{item_with};
 
 use crate::item::{Place, Stamp, StpItem};
 use crate::packet::{Row, StpPacket};
@@ -27,7 +27,7 @@ pub struct Attribution {
 fn item_with(place: Place, stamp: Stamp, row: Row, payload: u64) -> Option<StpItem>
     requires payload { payload < 16 ^ (line_of row).payload }
     requires stamp { IsProperStamp stamp }
-    ensures item { result ≡ item_by place stamp row payload }
+    ensures item { result ≡ item_with place stamp row payload }
     ensures fits { ForSome result (λ item. IsProperItem item) }
 {
     match row {

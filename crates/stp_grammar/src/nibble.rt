@@ -1,7 +1,7 @@
 //! Nibbles, and the numbers that they make.
 
 ghost use Rattle.std.specs.Prelude.{◌≡◌, ◌<◌, ◌+◌, ◌/◌, ◌%◌, ◌^◌};
-ghost use Rattle.stp_grammar.specs.Rule.{number_with as number_and};
+ghost use Rattle.stp_grammar.specs.Rule.{number_with};
 
 use crate::packet::Order;
 
@@ -20,7 +20,7 @@ pub fn number_with(order: Order, count: u8, value: u64, nibble: u8) -> u64
     requires few { count < 16 }
     requires fits { value < 16 ^ count }
     requires nibble { nibble < 16 }
-    ensures value { result ≡ number_and order count value nibble }
+    ensures value { result ≡ number_with order count value nibble }
     ensures fits { result < 16 ^ (count + 1) }
 {
     match order {

@@ -5,7 +5,7 @@ ghost use Rattle.std.specs.Prelude.{◌≡◌, ◌<◌, ◌≤◌, ◌+◌, [], 
 ghost use Rattle.stp_grammar.specs.declared.packet.Row.TheVariants.{Datum};
 ghost use Rattle.std.specs.Prelude.{None};
 ghost use Rattle.std.specs.Option.{ForSome};
-ghost use Rattle.stp_grammar.specs.Opcodes.{line_of, row_at as row_by_table, head_of, opening_of, given, listed};
+ghost use Rattle.stp_grammar.specs.Opcodes.{line_of, row_at, head_of, opening_of, given, listed};
 
 use crate::packet::{Row, Width};
 
@@ -24,7 +24,7 @@ fn datum(width: Width, marked: bool, stamped: bool) -> Row
 #[inline]
 pub fn row_at(number: u8) -> Row
     requires { number < 35 }
-    ensures { result ≡ row_by_table number }
+    ensures { result ≡ row_at number }
 {
     match number {
         0 => Row::Null,

@@ -5,9 +5,10 @@ ghost use Rattle.stp_grammar.specs.declared.packet.Order.TheVariants.{Msn};
 ghost use Rattle.stp_grammar.specs.declared.partial.Partial.TheVariants.{Start, Second, Third};
 ghost use Rattle.stp_grammar.specs.Opcodes.{line_of, Opening, head_of};
 ghost use Rattle.trace_clock.specs.LastWord.{nibble_count};
-ghost use Rattle.stp_grammar.specs.Rule.{rule, begin as begun, after_payload as after_all, opened as opened_by};
-ghost use Rattle.stp_grammar.specs.Rule.{run_with as run_and, payload_with as payload_and, size_with as size_and};
-ghost use Rattle.stp_grammar.specs.Rule.{word_with as word_and, is_sound, IsSoundNext, StopsProperly, count_of, held_after};
+ghost use Rattle.stp_grammar.specs.Rule.{rule, begin, after_payload, opened};
+ghost use Rattle.stp_grammar.specs.Rule.{run_with, payload_with, size_with};
+ghost use Rattle.stp_grammar.specs.Rule.{word_with, is_sound, IsSoundNext, StopsProperly, count_of};
+ghost use Rattle.stp_grammar.specs.Rule.{held_after};
 
 use crate::nibble::number_with;
 use crate::opcode::{Head, opcode_of, row_at};
@@ -51,7 +52,7 @@ pub enum Partial {
 #[inline]
 fn after_payload(row: Row, payload: u64) -> Next<Partial, StpPacket>
     requires fits { payload < 16 ^ (line_of row).payload }
-    ensures next { result ≡ after_all row payload }
+    ensures next { result ≡ after_payload row payload }
     ensures sound { IsSoundNext result }
     ensures proper { StopsProperly result }
 {
@@ -65,7 +66,7 @@ fn after_payload(row: Row, payload: u64) -> Next<Partial, StpPacket>
 /// After the opcode of this row.
 #[inline]
 fn begin(row: Row) -> Next<Partial, StpPacket>
-    ensures next { result ≡ begun row }
+    ensures next { result ≡ begin row }
     ensures sound { IsSoundNext result }
     ensures proper { StopsProperly result }
 {
@@ -85,7 +86,7 @@ fn begin(row: Row) -> Next<Partial, StpPacket>
 fn opened(head: Head, front: Partial) -> Next<Partial, StpPacket>
     requires known { (opening : Opening) × (head ≡ head_of opening) }
     requires sound { is_sound front ≡ true }
-    ensures next { (opening : Opening) → head ≡ head_of opening → result ≡ opened_by opening front }
+    ensures next { (opening : Opening) → head ≡ head_of opening → result ≡ opened opening front }
     ensures sound { IsSoundNext result }
     ensures proper { StopsProperly result }
 {
@@ -138,7 +139,7 @@ fn third(nibble: u8) -> Next<Partial, StpPacket>
 fn run_with(count: u64, nibble: u8) -> Next<Partial, StpPacket>
     requires some { 2 ≤ count }
     requires room { count ≤ 2 ^ 61 }
-    ensures next { result ≡ run_and count nibble }
+    ensures next { result ≡ run_with count nibble }
     ensures sound { IsSoundNext result }
     ensures proper { StopsProperly result }
 {
@@ -156,7 +157,7 @@ fn run_with(count: u64, nibble: u8) -> Next<Partial, StpPacket>
 fn payload_with(row: Row, count: u8, value: u64) -> Next<Partial, StpPacket>
     requires few { count < (line_of row).payload }
     requires fits { value < 16 ^ (count + 1) }
-    ensures next { result ≡ payload_and row count value }
+    ensures next { result ≡ payload_with row count value }
     ensures sound { IsSoundNext result }
     ensures proper { StopsProperly result }
 {
@@ -175,7 +176,7 @@ fn payload_with(row: Row, count: u8, value: u64) -> Next<Partial, StpPacket>
 #[inline]
 fn size_with(row: Row, payload: u64, size: u8) -> Next<Partial, StpPacket>
     requires fits { payload < 16 ^ (line_of row).payload }
-    ensures next { result ≡ size_and row payload size }
+    ensures next { result ≡ size_with row payload size }
     ensures sound { IsSoundNext result }
     ensures proper { StopsProperly result }
 {
@@ -204,7 +205,7 @@ fn word_with(row: Row, payload: u64, size: u8, count: u8, word: u64) -> Next<Par
     requires size { size < 15 }
     requires few { count < nibble_count size }
     requires word { word < 16 ^ (count + 1) }
-    ensures next { result ≡ word_and row payload size count word }
+    ensures next { result ≡ word_with row payload size count word }
     ensures sound { IsSoundNext result }
     ensures proper { StopsProperly result }
 {

@@ -1,6 +1,5 @@
 -- The words of STP timestamps, and the last word by the list of all timestamps so far: this project's profile of the
--- timestamps of the System Trace Protocol (MIPI Alliance Specification for System Trace Protocol, STPv2,
--- timestamps).
+-- timestamps of the MIPI System Trace Protocol, version 2.
 use Rattle.std.specs.Prelude.{◌≡◌, ℕ, ◌+◌, ◌*◌, ◌/◌, ◌%◌, ◌^◌, ◌<◌, List, [], ◌∷◌, ◌++◌, Bool, Option, None, Some}
 use Rattle.std.specs.Prelude.{nat_lt, ◌==◌, if◌then◌else◌, unwrap_or}
 use Rattle.std.specs.List.{filter_map, last_or}

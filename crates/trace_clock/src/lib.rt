@@ -1,7 +1,6 @@
 //! The times that timestamps tell: those of ITM timestamp packets (ARMv7-M Architecture Reference Manual, Arm DDI
 //! 0403E, appendix D4 'Debug ITM and DWT Packet Protocol', section D4.2 'Packet descriptions'), and those of STP
-//! packets, in this project's profile of the System Trace Protocol (MIPI Alliance Specification for System Trace
-//! Protocol, STPv2, timestamps).
+//! packets (MIPI System Trace Protocol, version 2, in this project's profile of its timestamps).
 #![tactic(auto)]
 
 mod global;

@@ -1,3 +1,5 @@
+//! What packets tell with those before them.
+
 use super::*;
 use crate::packet::Width;
 use crate::proper::is_proper;

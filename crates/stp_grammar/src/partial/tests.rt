@@ -1,3 +1,5 @@
+//! Packets nibble by nibble, and the nibbles that begin none.
+
 ghost use Rattle.std.specs.Prelude.{◌<◌};
 
 use super::*;
