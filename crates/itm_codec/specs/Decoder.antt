@@ -4,6 +4,7 @@ use Rattle.trace_values.specs.Placed.{Placed}
 use Rattle.trace_values.specs.Walk.{by_unit}
 use Rattle.trace_values.specs.Moded.{StandsIn, hunts, is_locked, skipped_of}
 use Rattle.itm_grammar.specs.declared.packet.ItmPacket.TheVariants.{Sync}
+use Rattle.itm_grammar.specs.declared.partial.Partial.{Partial}
 use Rattle.itm_grammar.specs.declared.partial.Partial.TheVariants.{Header}
 use Rattle.itm_grammar.specs.Rule.{rule, count_of}
 use Rattle.itm_codec.specs.Reading.{pattern}
@@ -13,6 +14,10 @@ use Rattle.itm_codec.specs.declared.decoder.ItmDecoder.{ItmDecoder}
 -- fault, and keeps the unfinished packet of that reading
 abbrev pub Stands : ItmDecoder → List Placed → Type 0
 Stands decoder u = StandsIn pattern Sync (by_unit rule) Header decoder.mode decoder.live decoder.partial u
+
+-- the same, but that this is the unfinished packet
+abbrev pub StandsAs : ItmDecoder → Partial → List Placed → Type 0
+StandsAs decoder partial u = StandsIn pattern Sync (by_unit rule) Header decoder.mode decoder.live partial u
 
 -- it was made to hunt
 abbrev pub is_hunter : ItmDecoder → Bool

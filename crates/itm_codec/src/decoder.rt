@@ -6,6 +6,7 @@ ghost use Rattle.itm_grammar.specs.Rule.{is_sound};
 ghost use Rattle.itm_codec.specs.Reading.{pattern};
 ghost use Rattle.trace_values.specs.declared.limits.TheConstants.{COUNT_ROOM};
 
+use crate::cut::{Cut, cut_packet};
 use crate::whole::whole_packet;
 use itm_grammar::packet::ItmPacket;
 use itm_grammar::partial::Partial;
@@ -37,8 +38,9 @@ impl ItmDecoder {
     ghost use Rattle.itm_grammar.specs.Spelling.{Spells};
     ghost use Rattle.itm_grammar.specs.Proper.{IsProper};
     ghost use Rattle.itm_codec.specs.Reading.{packets_in};
-    ghost use Rattle.itm_codec.specs.Decoder.{Stands, is_hunter, is_live, has_locked, held_of, skipped_by};
-    ghost use Rattle.itm_codec.specs.Wholes.{Gives};
+    ghost use Rattle.itm_codec.specs.Decoder.{Stands, StandsAs, is_hunter, is_live, has_locked, held_of, skipped_by};
+    ghost use Rattle.itm_codec.specs.Wholes.{Cuts, Gives};
+    ghost use Rattle.itm_grammar.specs.Rule.{count_of};
 
     /// A decoder of bytes that begin with a packet.
     pub fn aligned() -> ItmDecoder
@@ -87,6 +89,43 @@ impl ItmDecoder {
             Partial::Header if Mode::is_locked(self.mode) => whole_packet(piece),
             _ => None,
         }
+    }
+
+    /// What these bytes make of the unfinished packet: they are taken up to the one that ends it. Wherever they are, a
+    /// decoder that takes them gives this packet at the last of them, or nothing where none is ended, and keeps what is
+    /// unfinished after them (`keep_partial`).
+    ///
+    /// None says nothing of the bytes: in a hunt, and where the first of them is a fault.
+    #[inline]
+    pub fn next_cut(&self, piece: &[u8]) -> Option<Cut<ItmPacket>>
+        requires live { is_live self.now ≡ true }
+        requires room { held_of self.now + length piece.now ≤ COUNT_ROOM }
+        ensures bytes { IfSome result (λ x. (0 < x.bytes) × (x.bytes ≤ length piece.now)) }
+        ensures fits { IfSome result (λ x. IfSome x.packet IsProper) }
+        ensures sound { IfSome result (λ x. is_sound x.partial ≡ true) }
+        ensures few { IfSome result (λ x. count_of x.partial ≤ held_of self.now + x.bytes) }
+        ensures cuts { (u front : List Placed) (last : Placed) → Stands self.now u →
+            IfSome result (λ x. units_of (front ++ last ∷ []) ≡ take x.bytes piece.now →
+            Cuts (packets_in (is_hunter self.now)) (StandsAs self.now x.partial) u front last x.packet) }
+    {
+        if !Mode::is_locked(self.mode) {
+            return None;
+        }
+        let cut = cut_packet(self.partial, piece);
+        if cut.bytes == 0 { None } else { Some(cut) }
+    }
+
+    /// Keeps this unfinished packet, as it is after bytes that were taken by `next_cut`.
+    #[inline]
+    pub fn keep_partial(&mut self, partial: Partial)
+        requires { is_sound partial ≡ true }
+        ensures stands { (u : List Placed) → StandsAs self.old partial u → Stands self.new u }
+        ensures same { packets_in (is_hunter self.new) ≡ packets_in (is_hunter self.old) }
+        ensures live { is_live self.new ≡ is_live self.old }
+        ensures held { held_of self.new ≡ count_of partial }
+        ensures skipped { skipped_by self.new ≡ skipped_by self.old }
+    {
+        self.partial = partial;
     }
 
     /// Feeds a piece, whose first byte is at this offset, up to the first byte to which the answer is

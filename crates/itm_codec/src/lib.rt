@@ -2,11 +2,13 @@
 //! DDI 0403E, appendix D4 'Debug ITM and DWT Packet Protocol').
 #![tactic(auto)]
 
+mod cut;
 mod decoder;
 mod encoder;
 pub mod laws;
 mod whole;
 
+pub use cut::Cut;
 pub use decoder::ItmDecoder;
 pub use encoder::encode;
 

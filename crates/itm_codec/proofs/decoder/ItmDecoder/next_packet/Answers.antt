@@ -3,14 +3,12 @@ use Rattle.std.specs.Prelude.{is_none}
 use Rattle.trace_values.specs.Placed.{Placed, units_of}
 use Rattle.trace_values.specs.Walk.{by_unit, walk}
 use Rattle.trace_values.specs.Moded.{StandsIn, is_locked}
-use Rattle.trace_values.proofs.Modes as laws
 use Rattle.itm_grammar.specs.declared.packet.ItmPacket.{ItmPacket}
 use Rattle.itm_grammar.specs.declared.packet.ItmPacket.TheVariants.{Sync}
 use Rattle.itm_grammar.specs.declared.partial.Partial.{Partial}
 use Rattle.itm_grammar.specs.declared.partial.Partial.TheVariants.{Header}
-use Rattle.itm_grammar.specs.Rule.{rule, count_of}
+use Rattle.itm_grammar.specs.Rule.{rule}
 use Rattle.itm_grammar.specs.Spelling.{Spells}
-use Rattle.itm_grammar.proofs.Counting.{counts_placed}
 use Rattle.itm_grammar.proofs.Deciding.{decided}
 use Rattle.itm_codec.specs.declared.decoder.ItmDecoder.{ItmDecoder}
 use Rattle.itm_codec.specs.Reading.{pattern, packets_in}

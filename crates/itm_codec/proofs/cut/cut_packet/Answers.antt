@@ -1,0 +1,31 @@
+use Rattle.std.proofs.Common.{◌≡◌, ℕ, ◌+◌, ◌<◌, List, [], ◌∷◌, length, take, get_or, refl, sym, ◌∙◌, ap, arith}
+use Rattle.std.proofs.lemmas.List.{take_more}
+use Rattle.trace_values.specs.declared.next.Next.{Next}
+use Rattle.trace_values.specs.declared.next.Next.TheVariants.{Go, End}
+use Rattle.trace_values.specs.Walk.{after, walk, Within}
+use Rattle.trace_values.proofs.Walks.{walk_more}
+use Rattle.itm_grammar.specs.declared.packet.ItmPacket.{ItmPacket}
+use Rattle.itm_grammar.specs.declared.partial.Partial.{Partial}
+use Rattle.itm_grammar.specs.Rule.{rule}
+use Rattle.itm_codec.proofs.cut.cut_packet.Goals as goal
+
+-- one more byte
+next_byte : (s t : Partial) (bytes : List ℕ) (i : ℕ) (next : Next Partial ItmPacket) → i < length bytes →
+    walk rule s (take i bytes) ≡ Within t → next ≡ rule t (get_or bytes i 0) →
+    walk rule s (take (i + 1) bytes) ≡ after {U = ℕ} next (λ r. walk rule r []) []
+next_byte s t bytes i next l e n =
+    ap (walk rule s) (take_more bytes i 0 l) ∙ walk_more rule s t (take i bytes) (get_or bytes i 0 ∷ []) e
+    ∙ ap (λ (x : Next Partial ItmPacket). after {U = ℕ} x (λ r. walk rule r []) []) (sym n)
+
+pub returns-in-End-clause-whole : goal.returns-in-End-clause-whole
+returns-in-End-clause-whole c = (
+  next_byte c.args.unfinished c.loop-index.partial c.args.bytes.now c.loop-index.index (End c.in-End.packet) c.loop-index-test.true c.loop-index.invariant.part c.in-End.ensures.next,
+  refl,
+)
+
+pub loop-index-preserved : goal.loop-index-preserved
+loop-index-preserved c = record {
+  part = next_byte c.args.unfinished c.loop-index.partial c.args.bytes.now c.loop-index.index (Go c.in-Go.more) c.loop-index-test.true c.loop-index.invariant.part c.in-Go.ensures.next;
+  sound = c.in-Go.ensures.sound;
+  few = (let a = c.loop-index.invariant.few in let b = c.in-Go.ensures.held in omega arith);
+}
