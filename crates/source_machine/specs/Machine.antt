@@ -5,9 +5,11 @@ use Rattle.trace_values.specs.Stream.{Stream}
 use Rattle.capture_plan.specs.declared.packets.PacketsMode.{PacketsMode}
 use Rattle.capture_plan.specs.Modes.{packets_hunt}
 use Rattle.itm_codec.specs.Reading.{packets_in}
+use Rattle.itm_grammar.specs.declared.partial.Partial.{Partial}
 use Rattle.itm_codec.specs.Decoder as itm
 use Rattle.stp_grammar.specs.declared.packet.Order.{Order}
 use Rattle.stp_codec.specs.Reading.{items_in}
+use Rattle.stp_codec.specs.declared.flat.PacketParts.{PacketParts}
 use Rattle.stp_codec.specs.Decoder as stp
 use Rattle.source_events.specs.declared.packet.Packet.{Packet}
 use Rattle.source_events.specs.declared.packet.Packet.TheVariants.{Itm as ItmPacket, Stp as StpPacket}
@@ -32,6 +34,11 @@ abbrev pub Stands : SourceMachine → List Placed → Type 0
 Stands (Itm decoder) u = itm.Stands decoder u
 Stands (Stp decoder) u = stp.Stands decoder u
 
+-- the same, but that this is the unfinished packet of an ITM source
+abbrev pub StandsAs : SourceMachine → Partial → List Placed → Type 0
+StandsAs (Itm decoder) partial u = itm.StandsAs decoder partial u
+StandsAs (Stp decoder) partial u = ⊥
+
 -- it has met no fault
 abbrev pub is_live : SourceMachine → Bool
 is_live (Itm decoder) = itm.is_live decoder
@@ -55,3 +62,8 @@ skipped_by (Stp decoder) = stp.skipped_by decoder
 abbrev pub units_by : SourceMachine → ℕ
 units_by (Itm decoder) = 1
 units_by (Stp decoder) = 2
+
+-- it is an STP source, and the front of these bytes finishes the packet of these parts
+abbrev pub FinishesStp : SourceMachine → List ℕ → PacketParts → Type 0
+FinishesStp (Itm decoder) bytes parts = ⊥
+FinishesStp (Stp decoder) bytes parts = stp.FinishesParts decoder bytes parts

@@ -10,7 +10,7 @@ use Rattle.itm_grammar.specs.declared.packet.ItmPacket.TheVariants.{Sync}
 use Rattle.itm_grammar.specs.declared.partial.Partial.TheVariants.{Header}
 use Rattle.itm_grammar.specs.Rule.{rule, count_of}
 use Rattle.itm_grammar.proofs.Counting as counting
-use Rattle.itm_codec.specs.Reading.{pattern, packets_in}
+use Rattle.itm_codec.specs.Reading.{pattern}
 use Rattle.itm_codec.specs.Decoder as itm
 use Rattle.trace_values.proofs.NibbleModes as nibbles
 use Rattle.stp_grammar.specs.declared.packet.StpPacket.TheVariants.{Async}
@@ -18,7 +18,7 @@ use Rattle.stp_grammar.specs.declared.partial.Partial.TheVariants.{Start}
 use Rattle.stp_grammar.specs.Attribution.{attribute}
 use Rattle.stp_grammar.specs.Rule.{rule as stp_rule, count_of as stp_count}
 use Rattle.stp_grammar.proofs.Counting as stp_counting
-use Rattle.stp_codec.specs.Reading.{pattern as stp_pattern, items_in}
+use Rattle.stp_codec.specs.Reading.{pattern as stp_pattern}
 use Rattle.stp_codec.specs.Decoder as stp
 use Rattle.stp_codec.specs.FallingLaws as stp_falling
 use Rattle.source_events.specs.declared.packet.Packet.TheVariants.{Itm as ItmPacket, Stp as StpPacket}

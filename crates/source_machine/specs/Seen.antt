@@ -1,8 +1,13 @@
 -- The answers of a decoder with its items seen as packets.
-use Rattle.std.specs.Prelude.{Option, None, Some}
+use Rattle.std.specs.Prelude.{ℕ, Option, None, Some}
 use Rattle.trace_values.specs.declared.step.Step.{Step}
 use Rattle.trace_values.specs.declared.step.Step.TheVariants.{Quiet, Skipping, Item, Locked, Fault}
 use Rattle.trace_values.specs.declared.block.Block.{Block}
+use Rattle.stp_grammar.specs.declared.item.StpItem.{StpItem}
+use Rattle.source_events.specs.declared.packet.Packet.{Packet}
+use Rattle.source_events.specs.declared.packet.Packet.TheVariants.{Stp}
+use Rattle.itm_codec.specs.declared.cut.Cut.{Cut}
+use Rattle.std.specs.Option.{option_map}
 
 abbrev pub step_as : {V W : Type 0} → (V → W) → Step V → Step W
 step_as f Quiet = Quiet
@@ -18,3 +23,12 @@ last_as f (Some step) = Some (step_as f step)
 
 abbrev pub block_as : {V W : Type 0} → (V → W) → Block V → Block W
 block_as f block = record { bytes = block.bytes; step = last_as f block.step }
+
+-- the answer to the byte in this half of which an STP packet ends: its item, if it has one
+abbrev pub packet_in : ℕ → Option StpItem → Option (Step Packet)
+packet_in half None = None
+packet_in half (Some item) = Some (Item half (Stp item))
+
+-- of a part of a packet
+abbrev pub cut_as : {V W : Type 0} → (V → W) → Cut V → Cut W
+cut_as f cut = record { bytes = cut.bytes; partial = cut.partial; packet = option_map f cut.packet }

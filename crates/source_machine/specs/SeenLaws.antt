@@ -1,13 +1,14 @@
 -- A reading whose items are seen as packets grows, settles and shows as it did.
 use Rattle.std.specs.Prelude.{◌≡◌, ℕ, List, [], ◌∷◌, ◌++◌, Bool, Option, None, Some, refl}
-use Rattle.std.proofs.Common.{ap, sym, ◌∙◌}
+use Rattle.std.proofs.Common.{ap, ◌∙◌}
 use Rattle.std.proofs.lemmas.List.{map-append}
 use Rattle.trace_values.specs.declared.step.Step.{Step}
 use Rattle.trace_values.specs.declared.step.Step.TheVariants.{Quiet, Skipping, Item, Locked, Fault}
 use Rattle.trace_values.specs.Placed.{Place, Placed}
 use Rattle.trace_values.specs.Stream.{Said, Stream, Grows, HuntBy, Shows, Settled, Holds, Rises, AllAt, StepFits, LocksAfter, given_by, fault_by, goes_on}
 use Rattle.trace_values.specs.Block.{given_after, fault_after, goes_on_after, StandsAt, StopsFor, Takes}
-use Rattle.itm_codec.specs.Wholes.{Gives}
+use Rattle.itm_codec.specs.Wholes.{Cuts, Gives, kept_at}
+use Rattle.std.specs.Option.{option_map}
 use Rattle.source_events.specs.Packets.{said_as, given_as, stream_as}
 use Rattle.source_machine.specs.Seen.{step_as, last_as}
 
@@ -146,4 +147,18 @@ module _ {V W : Type 0} (f : V → W) where
     list = g.list;
     given = ap (given_as f) g.given ∙ given_append _ _;
     sound = g.sound;
+  }
+
+  -- of a part of a packet
+  kept_as : (place : Place) (packet : Option V) → given_as f (kept_at place packet) ≡ kept_at place (option_map f packet)
+  kept_as place None = refl
+  kept_as place (Some packet) = refl
+
+  pub cuts_as : (reading : List Placed → Stream V) (stands : List Placed → Type 0) (u front : List Placed) (last : Placed)
+      (packet : Option V) → Cuts reading stands u front last packet →
+      Cuts (λ w. stream_as f (reading w)) stands u front last (option_map f packet)
+  cuts_as reading stands u front last packet c = record {
+    list = c.list;
+    given = ap (given_as f) c.given ∙ given_append _ _ ∙ ap (λ l. given_as f (reading u).given ++ l) (kept_as last.place packet);
+    sound = c.sound;
   }

@@ -2,13 +2,16 @@
 
 ghost use Rattle.std.specs.Prelude.{◌≡◌};
 ghost use Rattle.source_events.specs.declared.packet.Packet.TheVariants.{Itm, Stp};
-ghost use Rattle.source_machine.specs.Seen.{block_as, step_as};
+ghost use Rattle.std.specs.Option.{option_map};
+ghost use Rattle.source_machine.specs.Seen.{block_as, cut_as, step_as, packet_in};
+ghost use Rattle.trace_values.specs.declared.limits.TheConstants.{COUNT_ROOM};
 
 use capture_plan::PacketsMode;
-use itm_codec::ItmDecoder;
+use itm_codec::{Cut, ItmDecoder};
 use itm_grammar::packet::ItmPacket;
+use itm_grammar::partial::Partial;
 use source_events::{Packet, SourceKind};
-use stp_codec::StpDecoder;
+use stp_codec::{PacketParts, PacketTaken, StpDecoder};
 use stp_grammar::item::StpItem;
 use stp_grammar::packet::Order;
 use trace_values::{Block, Machine, Step};
@@ -59,6 +62,24 @@ fn itm_block(block: Block<ItmPacket>) -> Block<Packet>
     }
 }
 
+/// The same of a part of a packet.
+#[inline(always)]
+fn itm_cut(cut: Option<Cut<ItmPacket>>) -> Option<Cut<Packet>>
+    ensures { result ≡ option_map (cut_as Itm) cut }
+{
+    match cut {
+        None => None,
+        Some(cut) => Some(Cut {
+            bytes: cut.bytes,
+            partial: cut.partial,
+            packet: match cut.packet {
+                None => None,
+                Some(packet) => Some(Packet::Itm(packet)),
+            },
+        }),
+    }
+}
+
 /// What an STP decoder answers, as a machine of sources does.
 #[inline(always)]
 fn stp_step(step: Step<StpItem>) -> Step<Packet>
@@ -99,13 +120,17 @@ fn stp_block(block: Block<StpItem>) -> Block<Packet>
 }
 
 impl SourceMachine {
-    ghost use Rattle.std.specs.Prelude.{ℕ, ◌+◌, ◌*◌, ◌^◌, ◌<◌, ◌≤◌, ◌++◌, ◌∷◌, List, [], length, take, IfSome, true};
+    ghost use Rattle.std.specs.Prelude.{ℕ, ◌+◌, ◌*◌, ◌^◌, ◌<◌, ◌≤◌, ◌++◌, ◌∷◌, List, [], length, take, max, IfSome};
+    ghost use Rattle.std.specs.Prelude.{true};
     ghost use Rattle.trace_values.specs.Placed.{Placed, units_of};
     ghost use Rattle.trace_values.specs.Stream.{StepFits};
     ghost use Rattle.trace_values.specs.Block.{Takes, StopsFor, goes_on_after};
-    ghost use Rattle.itm_codec.specs.Wholes.{Gives};
+    ghost use Rattle.itm_codec.specs.Wholes.{Cuts, Gives};
+    ghost use Rattle.itm_grammar.specs.Rule.{is_sound, count_of};
     ghost use Rattle.source_events.specs.Fitting.{PacketFits};
-    ghost use Rattle.source_machine.specs.Machine.{reading_of, reading_by, Stands, is_live, held_of, skipped_by};
+    ghost use Rattle.source_machine.specs.Machine.{reading_of, reading_by, Stands, StandsAs, is_live, held_of};
+    ghost use Rattle.source_machine.specs.Machine.{skipped_by};
+    ghost use Rattle.source_machine.specs.Machine.{FinishesStp};
 
     /// The machine of a source of this kind before its first byte.
     pub fn new(kind: SourceKind, packets: PacketsMode, order: Order) -> SourceMachine
@@ -147,13 +172,89 @@ impl SourceMachine {
         }
     }
 
-    /// Feeds a piece, whose first byte is at this offset, up to the first byte to which the answer is neither `Quiet` nor
+    /// The packet of an STP source that these bytes finish, where its reading has begun and the packet can be taken at
+    /// once. None says nothing of the bytes, and is the answer for an ITM source.
+    #[inline(always)]
+    pub fn next_stp(&self, piece: &[u8]) -> Option<PacketParts>
+        ensures { IfSome result (λ parts. FinishesStp self.now piece.now parts) }
+    {
+        match self {
+            SourceMachine::Itm(_) => None,
+            SourceMachine::Stp(decoder) => decoder.next_parts(piece),
+        }
+    }
+
+    /// Takes the packet that `next_stp` finds in these bytes, whose first is at this offset, with all of the byte in
+    /// which it ends. It is live, and has room for all their nibbles.
+    #[inline(always)]
+    pub fn finish_stp(&mut self, at: u64, piece: &[u8], parts: PacketParts) -> PacketTaken
+        requires live { is_live self.old ≡ true }
+        requires room { held_of self.old + skipped_by self.old + 2 * length piece.now ≤ COUNT_ROOM }
+        requires offsets { at + length piece.now < COUNT_ROOM }
+        requires next { FinishesStp self.old piece.now parts }
+        ensures same { reading_of self.new ≡ reading_of self.old }
+        ensures bytes { (0 < result.bytes) × (result.bytes ≤ length piece.now) }
+        ensures takes { (u : List Placed) → Stands self.old u →
+            Takes (reading_of self.old) (Stands self.new) u at piece.now result.bytes
+            (packet_in result.half result.item) }
+        ensures live { is_live self.new ≡ true }
+        ensures fits { IfSome (packet_in result.half result.item) (StepFits PacketFits) }
+        ensures few { held_of self.new + skipped_by self.new ≤
+            held_of self.old + skipped_by self.old + 2 * result.bytes }
+    {
+        match self {
+            SourceMachine::Itm(_) => unreachable!(),
+            SourceMachine::Stp(decoder) => decoder.finish_parts(at, piece, parts),
+        }
+    }
+
+    /// What these bytes make of the unfinished packet of an ITM source: they are taken up to the one that ends it.
+    /// Wherever they are, a machine that takes them gives this packet at the last of them, or nothing where none is
+    /// ended, and keeps what is unfinished after them (`keep_partial`).
+    ///
+    /// None says nothing of the bytes: in a hunt, where the first of them is a fault, and for an STP source.
+    #[inline(always)]
+    pub fn next_cut(&self, bytes: &[u8]) -> Option<Cut<Packet>>
+        requires live { is_live self.now ≡ true }
+        requires room { held_of self.now + length bytes.now ≤ COUNT_ROOM }
+        ensures bytes { IfSome result (λ x. (0 < x.bytes) × (x.bytes ≤ length bytes.now)) }
+        ensures fits { IfSome result (λ x. IfSome x.packet PacketFits) }
+        ensures sound { IfSome result (λ x. is_sound x.partial ≡ true) }
+        ensures few { IfSome result (λ x. count_of x.partial ≤ held_of self.now + x.bytes) }
+        ensures cuts { (u front : List Placed) (last : Placed) → Stands self.now u →
+            IfSome result (λ x. units_of (front ++ last ∷ []) ≡ take x.bytes bytes.now →
+            Cuts (reading_of self.now) (StandsAs self.now x.partial) u front last x.packet) }
+    {
+        match self {
+            SourceMachine::Itm(decoder) => itm_cut(decoder.next_cut(bytes)),
+            SourceMachine::Stp(_) => None,
+        }
+    }
+
+    /// Keeps this unfinished packet of an ITM source, as it is after bytes that were taken by `next_cut`.
+    #[inline(always)]
+    pub fn keep_partial(&mut self, partial: Partial)
+        requires { is_sound partial ≡ true }
+        ensures stands { (u : List Placed) → StandsAs self.old partial u → Stands self.new u }
+        ensures same { reading_of self.new ≡ reading_of self.old }
+        ensures live { is_live self.new ≡ is_live self.old }
+        ensures held { held_of self.new ≤ max (held_of self.old) (count_of partial) }
+        ensures skipped { skipped_by self.new ≡ skipped_by self.old }
+    {
+        match self {
+            SourceMachine::Itm(decoder) => decoder.keep_partial(partial),
+            SourceMachine::Stp(_) => {}
+        }
+    }
+
+    /// Feeds a piece, whose first byte is at this offset, up to the first byte to which the answer is neither `Quiet`
+    /// nor
     /// `Skipping`, or to the piece's end. It takes a packet at once whose bytes are all there.
     #[inline(always)]
     pub fn feed_piece(&mut self, at: u64, piece: &[u8]) -> Block<Packet>
         requires live { is_live self.old ≡ true }
-        requires room { held_of self.old + skipped_by self.old + 2 * length piece.now ≤ 2 ^ 60 }
-        requires offsets { at + length piece.now < 2 ^ 60 }
+        requires room { held_of self.old + skipped_by self.old + 2 * length piece.now ≤ COUNT_ROOM }
+        requires offsets { at + length piece.now < COUNT_ROOM }
         requires some { 0 < length piece.now }
         ensures same { reading_of self.new ≡ reading_of self.old }
         ensures bytes { (0 < result.bytes) × (result.bytes ≤ length piece.now) }
@@ -162,7 +263,8 @@ impl SourceMachine {
             Takes (reading_of self.old) (Stands self.new) u at piece.now result.bytes result.step }
         ensures live { is_live self.new ≡ goes_on_after result.step }
         ensures fits { IfSome result.step (StepFits PacketFits) }
-        ensures few { held_of self.new + skipped_by self.new ≤ held_of self.old + skipped_by self.old + 2 * result.bytes }
+        ensures few { held_of self.new + skipped_by self.new ≤
+            held_of self.old + skipped_by self.old + 2 * result.bytes }
     {
         match self {
             SourceMachine::Itm(decoder) => itm_block(decoder.feed_piece(at, piece)),
@@ -173,7 +275,8 @@ impl SourceMachine {
 
 impl Machine for SourceMachine {
     ghost use Rattle.source_events.specs.Fitting.{PacketFits};
-    ghost use Rattle.source_machine.specs.Machine.{reading_of, Stands, is_live, has_locked, held_of, skipped_by, units_by};
+    ghost use Rattle.source_machine.specs.Machine.{reading_of, Stands, is_live, has_locked, held_of, skipped_by};
+    ghost use Rattle.source_machine.specs.Machine.{units_by};
     ghost use Rattle.source_machine.specs.MachineLaws as laws;
 
     type Item = Packet;

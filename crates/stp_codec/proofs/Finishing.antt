@@ -73,7 +73,7 @@ module _ (order : Order) where
     goes row payload size h l = rw (is_lt size l) (rw (not_zero size h) refl)
 
   -- by the first nibbles
-  first_is : (b : ℕ) → b < 15 → first_opening b ≡ Opened (row_at b)
+  pub first_is : (b : ℕ) → b < 15 → first_opening b ≡ Opened (row_at b)
   first_is b h = grind (arith, nat_tests)
 
   second_is : (b : ℕ) → 0 < b → b < 15 → second_opening b ≡ Opened (row_at (14 + b))

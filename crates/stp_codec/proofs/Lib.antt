@@ -10,3 +10,4 @@ pub mod Finishing
 pub mod Passing
 pub mod PacketPieces
 pub mod Parts
+pub mod PartsPieces

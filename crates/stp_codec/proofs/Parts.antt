@@ -1,6 +1,5 @@
 -- A piece in two parts, of which the first was quiet.
-use Rattle.std.proofs.Common.{◌≡◌, ℕ, ◌+◌, ◌-◌, ◌<◌, ◌≤◌, List, ◌++◌, length, take, drop, sym, ◌∙◌, ap, subst, append_assoc, append-nil, arith, None, Some, Option, Bool, false, refl}
-use Rattle.std.specs.Option.{is_some}
+use Rattle.std.proofs.Common.{◌≡◌, ℕ, ◌+◌, ◌-◌, ◌<◌, ◌≤◌, List, ◌++◌, length, take, drop, sym, ◌∙◌, ap, subst, append_assoc, append-nil, arith, None, Option, Bool}
 use Rattle.std.proofs.lemmas.List.{length-take-le, take_all, length-drop}
 use Rattle.std.proofs.Math.Seq.{take-add}
 use Rattle.trace_values.specs.declared.step.Step.{Step}
@@ -66,7 +65,3 @@ taken_all order h stands u at piece i e some t = record {
       ∙ ap (λ l. u ++ l) (sym (placed_from_append at (take (i - 1) piece) (take 1 (drop (i - 1) piece)))
       ∙ ap (placed_from at) (sym (take-add (i - 1) 1 piece) ∙ ap (λ k. take k piece) (let q : i - 1 + 1 ≡ i = omega arith in q)))) ∙ t.sound);
 }
-
-pub none_step : {A : Type 0} (o : Option A) (b : Bool) → b ≡ is_some o → b ≡ false → o ≡ None
-none_step None b e f = refl
-none_step (Some x) b e f = (let k = sym f ∙ e in cc)

@@ -45,8 +45,8 @@ AnswersHigh order before rest at byte (Item half item) step =
 AnswersHigh order before rest at byte Skipping step = ⊥
 AnswersHigh order before rest at byte (Locked skipped half item) step = ⊥
 
--- The answer to a byte at this offset, where these packets and this rest are before it: by those to its nibbles, the low
--- one first.
+-- The answer to a byte at this offset, where these packets and this rest are before it: by those to its nibbles, the
+-- low one first.
 abbrev pub AnswersByte : Order → List StpPacket → List Placed → ℕ → ℕ → Step StpItem → Type 0
 AnswersByte order before rest at byte step =
     (low : Step StpItem) × (between : List StpPacket) × (left : List Placed)

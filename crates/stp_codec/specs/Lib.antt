@@ -2,4 +2,5 @@ pub mod Reading
 pub mod Decoder
 pub mod Answers
 pub mod Wholes
+pub mod Parts
 pub mod FallingLaws

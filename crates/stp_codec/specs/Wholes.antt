@@ -1,5 +1,6 @@
 -- Nibbles of a piece that end a packet.
-use Rattle.std.specs.Prelude.{◌≡◌, ℕ, ◌-◌, ◌/◌, ◌%◌, ◌+◌, List, [], ◌∷◌, take, drop, flat_map, ◌==◌, if◌then◌else◌, Option, None, Some}
+use Rattle.std.specs.Prelude.{◌≡◌, ℕ, ◌-◌, ◌/◌, ◌%◌, ◌+◌, List, [], ◌∷◌, take, drop, flat_map, ◌==◌, if◌then◌else◌}
+use Rattle.std.specs.Prelude.{Option, None, Some}
 use Rattle.trace_values.specs.declared.next.Next.{Next}
 use Rattle.trace_values.specs.declared.next.Next.TheVariants.{Go, End, Fail}
 use Rattle.trace_values.specs.declared.step.Step.{Step}
@@ -45,12 +46,6 @@ item_in half (Some item) = Some (Item half item)
 abbrev pub IsQuiet : Stream StpItem → Stream StpItem → Type 0
 IsQuiet old new = (new.given ≡ old.given) × (new.fault ≡ None)
 
--- an item or none, and no other answer
-abbrev pub IsItem : Option (Step StpItem) → Type 0
-IsItem None = Unit {0}
-IsItem (Some (Item half item)) = Unit {0}
-IsItem (Some step) = ⊥
-
 -- a nibble of which the rule says this leaves this unfinished: where it ends a packet, nothing
 abbrev pub Leaves : Next Partial StpPacket → Partial → Type 0
 Leaves (Go t) partial = t ≡ partial
@@ -61,3 +56,12 @@ Leaves (Fail reason) partial = ⊥
 abbrev pub GoesTwice : Order → Partial → ℕ → Partial → Type 0
 GoesTwice order s byte t =
     (first : Partial) × (rule order s (byte % 16) ≡ Go first) × (rule order first (byte / 16) ≡ Go t)
+
+-- what such a nibble leaves of a packet that it begins, and what stands where none came: nothing
+abbrev pub left_after : Next Partial StpPacket → Partial
+left_after (Go t) = t
+left_after (End packet) = Start
+left_after (Fail reason) = Start
+
+abbrev pub left_by : Order → ℕ → Partial
+left_by order first = left_after (rule order Start first)

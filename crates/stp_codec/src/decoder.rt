@@ -1,11 +1,13 @@
 //! The decoder of STP packets.
 
-ghost use Rattle.std.specs.Prelude.{◌≡◌, true};
+ghost use Rattle.std.specs.Prelude.{◌≡◌, ◌<◌, true};
 ghost use Rattle.trace_values.specs.Moded.{is_counted};
 ghost use Rattle.stp_grammar.specs.Rule.{is_sound};
 ghost use Rattle.stp_codec.specs.Reading.{pattern};
-ghost use Rattle.stp_codec.specs.Wholes.{item_in as item_by};
+ghost use Rattle.stp_codec.specs.Wholes.{item_in as item_by, left_by};
+ghost use Rattle.trace_values.specs.declared.limits.TheConstants.{COUNT_ROOM};
 
+use crate::flat::{PacketParts, WINDOW, parts_from_first};
 use crate::inside::inside;
 use crate::whole::{after_first, whole_packet};
 use stp_grammar::attribution::Attribution;
@@ -21,6 +23,9 @@ const ASYNC: Pattern = Pattern {
     last: 0,
 };
 
+/// In the place of a packet's first nibble where more came of it.
+const MANY: u8 = 16;
+
 /// A decoder of STP packets. It keeps what it needs of the one unfinished packet, and what the packets so far say of
 /// the next item.
 #[derive(Debug, Drop)]
@@ -28,10 +33,24 @@ pub struct StpDecoder {
     order: Order,
     mode: Mode,
     partial: Partial,
+    /// The first nibble of the unfinished packet where that has no more, 0 where there is none, and else `MANY`.
+    first: u8,
     live: bool,
     attribution: Attribution,
+    ghost pending: { first < 16 → left_by order first ≡ partial },
     ghost sound: { is_sound partial ≡ true },
     ghost counted: { is_counted pattern mode ≡ true },
+}
+
+/// What was taken of a packet at once.
+#[derive(Clone, Copy, Debug, PartialEq, Eq, Drop)]
+pub struct PacketTaken {
+    /// How many bytes, at least one. The packet ends in the last of them.
+    pub bytes: usize,
+    /// The half of that byte in which it ends: 0 for the low nibble, 1 for the high one.
+    pub half: u8,
+    /// Its item, which masters, channels and NULL do not have.
+    pub item: Option<StpItem>,
 }
 
 impl StpDecoder {
@@ -39,16 +58,15 @@ impl StpDecoder {
     ghost use Rattle.trace_values.specs.Placed.{Placed};
     ghost use Rattle.trace_values.specs.Stream.{Grows, StepFits, LocksAfter, goes_on};
     ghost use Rattle.trace_values.specs.Block.{Takes, StopsFor, goes_on_after};
-    ghost use Rattle.trace_values.specs.declared.next.Next.TheVariants.{Go};
     ghost use Rattle.trace_values.specs.declared.step.Step.TheVariants.{Quiet};
-    ghost use Rattle.stp_grammar.specs.Proper.{IsProper, IsProperItem};
+    ghost use Rattle.stp_grammar.specs.Proper.{IsProperItem};
     ghost use Rattle.stp_grammar.specs.declared.partial.Partial.TheVariants.{Start};
     ghost use Rattle.stp_codec.specs.Reading.{packets_of, rest_in, items_at, items_in};
-    ghost use Rattle.stp_codec.specs.Wholes.{nibbles_in, between, Ends, left_of, IsQuiet, IsItem, GoesTwice};
+    ghost use Rattle.stp_codec.specs.Wholes.{left_of, IsQuiet, GoesTwice};
     ghost use Rattle.stp_grammar.specs.Rule.{count_of};
     ghost use Rattle.stp_codec.specs.Answers.{AnswersNibble};
     ghost use Rattle.stp_codec.specs.Decoder.{Stands, StandsAt, order_of, is_hunter, is_live, has_locked};
-    ghost use Rattle.stp_codec.specs.Decoder.{held_of, skipped_by, nibble_at, EndsItem};
+    ghost use Rattle.stp_codec.specs.Decoder.{held_of, skipped_by, nibble_at, EndsItem, Finishes, FinishesParts};
 
     /// A decoder of bytes that begin with a packet, whose numbers have their nibbles in this order.
     pub fn aligned(order: Order) -> StpDecoder
@@ -62,6 +80,7 @@ impl StpDecoder {
             order,
             mode: Mode::Aligned,
             partial: Partial::Start,
+            first: 0,
             live: true,
             attribution: Attribution::new(),
         }
@@ -79,6 +98,7 @@ impl StpDecoder {
             order,
             mode: Mode::Hunting { run: 0, skipped: 0 },
             partial: Partial::Start,
+            first: 0,
             live: true,
             attribution: Attribution::new(),
         }
@@ -88,8 +108,8 @@ impl StpDecoder {
     #[inline]
     fn take_nibble(&mut self, at: u64, half: u8, nibble: u8) -> Step<StpItem>
         requires live { is_live self.old ≡ true }
-        requires room { held_of self.old ≤ 2 ^ 60 + 1 }
-        requires count { skipped_by self.old ≤ 2 ^ 60 + 1 }
+        requires room { held_of self.old ≤ COUNT_ROOM + 1 }
+        requires count { skipped_by self.old ≤ COUNT_ROOM + 1 }
         requires nibble { nibble < 16 }
         ensures same { (order_of self.new ≡ order_of self.old) × (is_hunter self.new ≡ is_hunter self.old) }
         ensures list { (n : List Placed) → StandsAt self.old n →
@@ -119,6 +139,7 @@ impl StpDecoder {
                 let before = skipped - ASYNC.most as u64;
                 self.mode = Mode::Locked { skipped: before };
                 self.partial = Partial::Start;
+                self.first = 0;
                 Step::Locked {
                     skipped: before,
                     half,
@@ -135,10 +156,12 @@ impl StpDecoder {
             match self.partial.with_nibble(self.order, nibble) {
                 Next::Go(partial) => {
                     self.partial = partial;
+                    self.first = MANY;
                     Step::Quiet
                 }
                 Next::End(packet) => {
                     self.partial = Partial::Start;
+                    self.first = 0;
                     match self.attribution.take(packet) {
                         Some(item) => Step::Item { half, item },
                         None => Step::Quiet,
@@ -152,14 +175,46 @@ impl StpDecoder {
         }
     }
 
-    /// The packet that the bytes finish, and how many of their nibbles it takes, where the reading has begun.
+    /// The packet that these bytes finish, where the reading has begun and the packet can be taken at once: most
+    /// significant nibbles come first, at most one nibble of it came before, and there are more bytes than the longest
+    /// has. None says nothing of the bytes.
+    #[inline(always)]
+    pub fn next_parts(&self, piece: &[u8]) -> Option<PacketParts>
+        ensures { IfSome result (λ parts. FinishesParts self.now piece.now parts) }
+    {
+        match self.order {
+            Order::Msn if self.first < MANY && self.mode.is_locked() && piece.len() >= WINDOW => {
+                parts_from_first(self.first, piece)
+            }
+            _ => None,
+        }
+    }
+
+    /// Takes the packet that `next_parts` finds in these bytes, whose first is at this offset, and what is left of the
+    /// byte in which it ends. It is live, and has room for all their nibbles.
+    #[inline(always)]
+    pub fn finish_parts(&mut self, at: u64, piece: &[u8], parts: PacketParts) -> PacketTaken
+        requires live { is_live self.old ≡ true }
+        requires room { held_of self.old + skipped_by self.old + 2 * length piece.now ≤ COUNT_ROOM }
+        requires offsets { at + length piece.now < COUNT_ROOM }
+        requires next { FinishesParts self.old piece.now parts }
+        ensures same { (order_of self.new ≡ order_of self.old) × (is_hunter self.new ≡ is_hunter self.old) }
+        ensures bytes { (0 < result.bytes) × (result.bytes ≤ length piece.now) }
+        ensures takes { (u : List Placed) → Stands self.old u →
+            Takes (items_in (order_of self.old) (is_hunter self.old)) (Stands self.new) u at piece.now
+            result.bytes (item_by result.half result.item) }
+        ensures live { is_live self.new ≡ true }
+        ensures fits { IfSome result.item IsProperItem }
+        ensures few { held_of self.new + skipped_by self.new ≤
+            held_of self.old + skipped_by self.old + 2 * result.bytes }
+    {
+        self.finish_packet(at, piece, parts.nibbles, parts.packet())
+    }
+
+    /// The packet that these bytes finish, and how many of their nibbles it takes, where the reading has begun.
     #[inline(always)]
     fn next_packet(&self, piece: &[u8]) -> Option<(usize, StpPacket)>
-        ensures locked { IfSome result (λ x. has_locked self.now ≡ true) }
-        ensures end { IfSome result (λ x. (0 < x.0) × (x.0 ≤ 2 * length piece.now)) }
-        ensures whole { IfSome result (λ x.
-            Ends (order_of self.now) (Go self.now.partial) (between (nibbles_in piece.now) 0 x.0) x.1) }
-        ensures proper { IfSome result (λ x. IsProper x.1) }
+        ensures { IfSome result (λ x. Finishes self.now piece.now x.0 x.1) }
     {
         if self.mode.is_locked() {
             whole_packet(self.order, self.partial, piece)
@@ -190,7 +245,7 @@ impl StpDecoder {
         requires live { is_live self.old ≡ true }
         requires locked { has_locked self.old ≡ true }
         requires start { self.old.partial ≡ Start }
-        requires count { skipped_by self.old ≤ 2 ^ 60 }
+        requires count { skipped_by self.old ≤ COUNT_ROOM }
         ensures same { (order_of self.new ≡ order_of self.old) × (is_hunter self.new ≡ is_hunter self.old) }
         ensures list { (n : List Placed) → StandsAt self.old n → StandsAt self.new (n ++ left_of half at byte) }
         ensures quiet { (n : List Placed) → StandsAt self.old n →
@@ -201,38 +256,67 @@ impl StpDecoder {
     {
         if half == 0 {
             self.partial = after_first(byte / 16);
+            self.first = byte / 16;
+        }
+    }
+
+    /// Takes the packet that `next_packet` finds in these bytes, whose first is at this offset, and what is left of the
+    /// byte in which it ends. It is live, and has room for all their nibbles.
+    #[inline(always)]
+    fn finish_packet(
+        &mut self,
+        at: u64,
+        piece: &[u8],
+        nibbles: usize,
+        packet: StpPacket,
+    ) -> PacketTaken
+        requires live { is_live self.old ≡ true }
+        requires room { held_of self.old + skipped_by self.old + 2 * length piece.now ≤ COUNT_ROOM }
+        requires offsets { at + length piece.now < COUNT_ROOM }
+        requires next { Finishes self.old piece.now nibbles packet }
+        ensures same { (order_of self.new ≡ order_of self.old) × (is_hunter self.new ≡ is_hunter self.old) }
+        ensures bytes { (0 < result.bytes) × (result.bytes ≤ length piece.now) }
+        ensures takes { (u : List Placed) → Stands self.old u →
+            Takes (items_in (order_of self.old) (is_hunter self.old)) (Stands self.new) u at piece.now
+            result.bytes (item_by result.half result.item) }
+        ensures live { is_live self.new ≡ true }
+        ensures fits { IfSome result.item IsProperItem }
+        ensures few { held_of self.new + skipped_by self.new ≤
+            held_of self.old + skipped_by self.old + 2 * result.bytes }
+    {
+        let last = (nibbles - 1) / 2;
+        let half = ((nibbles - 1) % 2) as u8;
+        self.partial = Partial::Start;
+        self.first = 0;
+        let item = self.attribution.take(packet);
+        self.pass_left(at + last as u64, half, piece[last]);
+        PacketTaken {
+            bytes: last + 1,
+            half,
+            item,
         }
     }
 
     /// Takes the packet that the bytes finish, whose first is at this offset, and what is left of the byte in which
     /// it ends. None where there is none: then it is as before.
     #[inline(always)]
-    fn pass_packet(&mut self, at: u64, piece: &[u8]) -> Option<Block<StpItem>>
+    fn take_packet(&mut self, at: u64, piece: &[u8]) -> Option<PacketTaken>
         requires live { is_live self.old ≡ true }
-        requires room { held_of self.old + skipped_by self.old + 2 * length piece.now ≤ 2 ^ 60 }
-        requires offsets { at + length piece.now < 2 ^ 60 }
+        requires room { held_of self.old + skipped_by self.old + 2 * length piece.now ≤ COUNT_ROOM }
+        requires offsets { at + length piece.now < COUNT_ROOM }
         ensures same { (order_of self.new ≡ order_of self.old) × (is_hunter self.new ≡ is_hunter self.old) }
-        ensures bytes { IfSome result (λ block. (0 < block.bytes) × (block.bytes ≤ length piece.now)) }
-        ensures takes { (u : List Placed) → Stands self.old u → IfSome result (λ block.
+        ensures bytes { IfSome result (λ taken. (0 < taken.bytes) × (taken.bytes ≤ length piece.now)) }
+        ensures takes { (u : List Placed) → Stands self.old u → IfSome result (λ taken.
             Takes (items_in (order_of self.old) (is_hunter self.old)) (Stands self.new) u at piece.now
-            block.bytes block.step) }
-        ensures item { IfSome result (λ block. IsItem block.step) }
+            taken.bytes (item_by taken.half taken.item)) }
         ensures live { is_live self.new ≡ true }
-        ensures fits { IfSome result (λ block. IfSome block.step (StepFits IsProperItem)) }
-        ensures few { IfSome result (λ block. held_of self.new + skipped_by self.new ≤
-            held_of self.old + skipped_by self.old + 2 * block.bytes) }
+        ensures fits { IfSome result (λ taken. IfSome taken.item IsProperItem) }
+        ensures few { IfSome result (λ taken. held_of self.new + skipped_by self.new ≤
+            held_of self.old + skipped_by self.old + 2 * taken.bytes) }
         ensures none { result ≡ None → self.new ≡ self.old }
     {
         let (nibbles, packet) = self.next_packet(piece)?;
-        let last = (nibbles - 1) / 2;
-        let half = ((nibbles - 1) % 2) as u8;
-        self.partial = Partial::Start;
-        let item = self.attribution.take(packet);
-        self.pass_left(at + last as u64, half, piece[last]);
-        Some(Block {
-            bytes: last + 1,
-            step: item_in(half, item),
-        })
+        Some(self.finish_packet(at, piece, nibbles, packet))
     }
 
     /// Feeds a piece, whose first byte is at this offset, up to the first byte to which the answer is
@@ -241,8 +325,8 @@ impl StpDecoder {
     #[inline(always)]
     pub fn feed_piece(&mut self, at: u64, piece: &[u8]) -> Block<StpItem>
         requires live { is_live self.old ≡ true }
-        requires room { held_of self.old + skipped_by self.old + 2 * length piece.now ≤ 2 ^ 60 }
-        requires offsets { at + length piece.now < 2 ^ 60 }
+        requires room { held_of self.old + skipped_by self.old + 2 * length piece.now ≤ COUNT_ROOM }
+        requires offsets { at + length piece.now < COUNT_ROOM }
         requires some { 0 < length piece.now }
         ensures same { items_in (order_of self.new) (is_hunter self.new) ≡
             items_in (order_of self.old) (is_hunter self.old) }
@@ -259,13 +343,16 @@ impl StpDecoder {
     {
         let mut taken = 0;
         while taken < piece.len() {
-            match self.pass_packet(at + taken as u64, &piece[taken..]) {
-                Some(block) => {
-                    taken += block.bytes;
-                    if block.step.is_some() {
+            match self.take_packet(at + taken as u64, &piece[taken..]) {
+                Some(packet) => {
+                    taken += packet.bytes;
+                    if let Some(item) = packet.item {
                         return Block {
                             bytes: taken,
-                            step: block.step,
+                            step: Some(Step::Item {
+                                half: packet.half,
+                                item,
+                            }),
                         };
                     }
                 }
@@ -299,17 +386,6 @@ impl Default for StpDecoder {
         ensures live { is_live result ≡ true }
     {
         StpDecoder::aligned(Order::Msn)
-    }
-}
-
-/// The item, if there is one, as a step with which it ends in this half.
-#[inline(always)]
-fn item_in(half: u8, item: Option<StpItem>) -> Option<Step<StpItem>>
-    ensures { result ≡ item_by half item }
-{
-    match item {
-        Some(item) => Some(Step::Item { half, item }),
-        None => None,
     }
 }
 
@@ -372,8 +448,8 @@ impl Machine for StpDecoder {
     /// fault exactly where no packet begins with the rest up to a nibble.
     fn feed(&mut self, at: u64, byte: u8) -> Step<StpItem>
         requires live { is_live self.old ≡ true }
-        requires room { held_of self.old ≤ 2 ^ 60 }
-        requires count { skipped_by self.old ≤ 2 ^ 60 }
+        requires room { held_of self.old ≤ COUNT_ROOM }
+        requires count { skipped_by self.old ≤ COUNT_ROOM }
         ensures same { items_in (order_of self.new) (is_hunter self.new) ≡
             items_in (order_of self.old) (is_hunter self.old) }
         ensures list { (u : List Placed) → Stands self.old u → Stands self.new (u ++ byte_at at byte ∷ []) }
@@ -390,6 +466,7 @@ impl Machine for StpDecoder {
     {
         if let Some(partial) = self.next_inside(byte) {
             self.partial = partial;
+            self.first = MANY;
             return Step::Quiet;
         }
         let low = self.take_nibble(at, 0, byte % 16);

@@ -3,11 +3,13 @@
 #![tactic(auto)]
 
 mod decoder;
+mod flat;
 mod inside;
 pub mod laws;
 mod whole;
 
-pub use decoder::StpDecoder;
+pub use decoder::{PacketTaken, StpDecoder};
+pub use flat::PacketParts;
 
 #[cfg(test)]
 mod tests;

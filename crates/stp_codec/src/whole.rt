@@ -17,7 +17,7 @@ ghost use Rattle.stp_codec.specs.Wholes.{nibbles_in, between, number_from as num
 
 use stp_grammar::nibble::number_with;
 use stp_grammar::opcode::row_at;
-use stp_grammar::packet::{Order, Row, StpPacket};
+use stp_grammar::packet::{Order, Row, StpPacket, Width};
 use stp_grammar::partial::Partial;
 use trace_clock::word_nibbles;
 
@@ -33,6 +33,156 @@ const STAMPS: &[u8] = &[
     1, 0, 1,
 ];
 
+/// The rows of the table of opcodes, by their numbers.
+const ROWS: &[Row] = &[
+    Row::Null,
+    Row::Master8,
+    Row::MasterError,
+    Row::Channel8,
+    Row::Datum {
+        width: Width::Eight,
+        marked: false,
+        stamped: false,
+    },
+    Row::Datum {
+        width: Width::Sixteen,
+        marked: false,
+        stamped: false,
+    },
+    Row::Datum {
+        width: Width::ThirtyTwo,
+        marked: false,
+        stamped: false,
+    },
+    Row::Datum {
+        width: Width::SixtyFour,
+        marked: false,
+        stamped: false,
+    },
+    Row::Datum {
+        width: Width::Eight,
+        marked: true,
+        stamped: true,
+    },
+    Row::Datum {
+        width: Width::Sixteen,
+        marked: true,
+        stamped: true,
+    },
+    Row::Datum {
+        width: Width::ThirtyTwo,
+        marked: true,
+        stamped: true,
+    },
+    Row::Datum {
+        width: Width::SixtyFour,
+        marked: true,
+        stamped: true,
+    },
+    Row::Datum {
+        width: Width::Four,
+        marked: false,
+        stamped: false,
+    },
+    Row::Datum {
+        width: Width::Four,
+        marked: true,
+        stamped: true,
+    },
+    Row::Flag { stamped: true },
+    Row::Master16,
+    Row::GlobalError,
+    Row::Channel16,
+    Row::Datum {
+        width: Width::Eight,
+        marked: false,
+        stamped: true,
+    },
+    Row::Datum {
+        width: Width::Sixteen,
+        marked: false,
+        stamped: true,
+    },
+    Row::Datum {
+        width: Width::ThirtyTwo,
+        marked: false,
+        stamped: true,
+    },
+    Row::Datum {
+        width: Width::SixtyFour,
+        marked: false,
+        stamped: true,
+    },
+    Row::Datum {
+        width: Width::Eight,
+        marked: true,
+        stamped: false,
+    },
+    Row::Datum {
+        width: Width::Sixteen,
+        marked: true,
+        stamped: false,
+    },
+    Row::Datum {
+        width: Width::ThirtyTwo,
+        marked: true,
+        stamped: false,
+    },
+    Row::Datum {
+        width: Width::SixtyFour,
+        marked: true,
+        stamped: false,
+    },
+    Row::Datum {
+        width: Width::Four,
+        marked: false,
+        stamped: true,
+    },
+    Row::Datum {
+        width: Width::Four,
+        marked: true,
+        stamped: false,
+    },
+    Row::Flag { stamped: false },
+    Row::Version,
+    Row::NullStamp,
+    Row::Trigger { stamped: false },
+    Row::Trigger { stamped: true },
+    Row::Frequency { stamped: false },
+    Row::Frequency { stamped: true },
+];
+
+/// The row with this number.
+#[inline(always)]
+pub fn row_of(number: u8) -> Row
+    requires { number < 35 }
+    ensures { result ≡ row_by_table number }
+{
+    let rows = ROWS;
+    rows[number as usize]
+}
+
+/// How many nibbles the payload of the row with this number has.
+#[inline(always)]
+pub fn payload_at(number: u8) -> u8
+    requires { number < 35 }
+    ensures count { result ≡ (line_of (row_by_table number)).payload }
+    ensures few { result ≤ 16 }
+{
+    let payloads = PAYLOADS;
+    payloads[number as usize]
+}
+
+/// Whether a timestamp follows the payload of the row with this number.
+#[inline(always)]
+pub fn stamped_at(number: u8) -> bool
+    requires { number < 35 }
+    ensures { result ≡ (line_of (row_by_table number)).stamped }
+{
+    let stamps = STAMPS;
+    stamps[number as usize] == 1
+}
+
 /// How many nibbles the payload of this row has, which has this number.
 #[inline(always)]
 fn payload_of(number: u8, _row: Row) -> u8
@@ -41,8 +191,7 @@ fn payload_of(number: u8, _row: Row) -> u8
     ensures count { result ≡ (line_of _row).payload }
     ensures few { result ≤ 16 }
 {
-    let payloads = PAYLOADS;
-    payloads[number as usize]
+    payload_at(number)
 }
 
 /// Whether a timestamp follows the payload of this row, which has this number.
@@ -52,14 +201,13 @@ fn is_stamped(number: u8, _row: Row) -> bool
     requires row { _row ≡ row_by_table number }
     ensures { result ≡ (line_of _row).stamped }
 {
-    let stamps = STAMPS;
-    stamps[number as usize] == 1
+    stamped_at(number)
 }
 
 /// One of the nibbles of these bytes.
 #[inline(always)]
 #[tactic(auto, using(crate::proofs::Between::even_nibble, crate::proofs::Between::odd_nibble))]
-fn nibble_of(bytes: &[u8], index: usize) -> u8
+pub fn nibble_of(bytes: &[u8], index: usize) -> u8
     requires { index < 2 * length bytes.now }
     ensures value { result ≡ get_or (nibbles_in bytes.now) index 0 }
     ensures small { result < 16 }
@@ -117,7 +265,7 @@ fn number_of_nine(bytes: &[u8], first: usize) -> u128
 /// The number that the next `more` nibbles make, the first of them the most significant. No branch depends on how
 /// many they are.
 #[inline(always)]
-fn number_at_once(bytes: &[u8], start: usize, more: u8) -> u64
+pub fn number_at_once(bytes: &[u8], start: usize, more: u8) -> u64
     requires few { more ≤ 16 }
     requires there { start / 2 + 9 ≤ length bytes.now }
     ensures value { result ≡ number_by Msn 0 0 (between (nibbles_in bytes.now) start (start + more)) }
@@ -346,14 +494,14 @@ pub fn after_first(nibble: u8) -> Partial
     if nibble == 15 {
         return Partial::Second;
     }
-    let row = row_at(nibble);
-    if row.payload_nibbles() > 0 {
+    let row = row_of(nibble);
+    if payload_at(nibble) > 0 {
         Partial::Payload {
             row,
             count: 0,
             value: 0,
         }
-    } else if row.is_stamped() {
+    } else if stamped_at(nibble) {
         Partial::Size { row, payload: 0 }
     } else {
         Partial::Start

@@ -1,18 +1,24 @@
-use Rattle.std.proofs.Common.{◌++◌, take, refl, sym, ◌∙◌, ap, subst, arith}
+use Rattle.std.proofs.Common.{◌+◌, ◌++◌, take, drop, Some, refl, sym, ◌∙◌, ap, subst, arith}
 use Rattle.trace_values.specs.Placed.{placed_from}
+use Rattle.trace_values.specs.Block.{Takes}
+use Rattle.trace_values.specs.declared.step.Step.TheVariants.{Item}
 use Rattle.stp_codec.specs.Reading.{items_in}
+use Rattle.stp_codec.specs.Wholes.{item_in}
 use Rattle.stp_codec.specs.Decoder.{Stands, order_of, is_hunter}
-use Rattle.stp_codec.proofs.Parts.{takes_with, taking_with, taken_all, same_takes, none_step}
+use Rattle.stp_codec.proofs.Parts.{takes_with, taking_with, taken_all, same_takes}
 use Rattle.stp_codec.proofs.decoder.StpDecoder.feed_piece.Goals as goal
 
-pub returns-then-is_some-clause-takes : goal.returns-then-is_some-clause-takes
-returns-then-is_some-clause-takes c = λ u s.
+pub returns-in-Some-item-clause-takes : goal.returns-in-Some-item-clause-takes
+returns-in-Some-item-clause-takes c = λ u s.
     let d = c.args.self.now in
     let t = c.loop-taken.invariant.taking u s in
     let b = c.in-Some.ensures.bytes in
-    takes_with (items_in (order_of d) (is_hunter d)) (Stands c.loop-taken.self) u c.args.at c.args.piece.now c.loop-taken.taken t (Stands c.pass_packet.new.self) c.in-Some.block.bytes c.in-Some.block.step
+    let packet = c.in-Some.packet in
+    takes_with (items_in (order_of d) (is_hunter d)) (Stands c.loop-taken.self) u c.args.at c.args.piece.now c.loop-taken.taken t (Stands c.take_packet.new.self) packet.bytes (Some (Item packet.half c.in-Some-item.item))
     b.0 (omega (arith, b.1, c.loop-taken-test.true))
-    (same_takes c.loop-taken.invariant.same c.args.piece.now c.loop-taken.taken (c.in-Some.ensures.takes (u ++ placed_from c.args.at (take c.loop-taken.taken c.args.piece.now)) t.list))
+    (subst (λ o. Takes (items_in (order_of d) (is_hunter d)) (Stands c.take_packet.new.self) (u ++ placed_from c.args.at (take c.loop-taken.taken c.args.piece.now)) (c.args.at + c.loop-taken.taken) (drop c.loop-taken.taken c.args.piece.now) packet.bytes (item_in packet.half o))
+    c.in-Some-item.is
+    (same_takes c.loop-taken.invariant.same c.args.piece.now c.loop-taken.taken (c.in-Some.ensures.takes (u ++ placed_from c.args.at (take c.loop-taken.taken c.args.piece.now)) t.list)))
 
 pub loop-taken-preserved : goal.loop-taken-preserved
 loop-taken-preserved c =
@@ -20,15 +26,15 @@ loop-taken-preserved c =
     let b = c.in-Some.ensures.bytes in
     let i = c.loop-taken.invariant in
     record {
-      same = (c.pass_packet.ensures.same.0 ∙ i.same.0, c.pass_packet.ensures.same.1 ∙ i.same.1);
-      live = c.pass_packet.ensures.live;
+      same = (c.take_packet.ensures.same.0 ∙ i.same.0, c.take_packet.ensures.same.1 ∙ i.same.1);
+      live = c.take_packet.ensures.live;
       most = omega (arith, b.1, c.loop-taken-test.true);
       few = omega (arith, c.in-Some.ensures.few, i.few);
       taking = λ u s.
           let t = i.taking u s in
-          taking_with (items_in (order_of d) (is_hunter d)) (Stands c.loop-taken.self) u c.args.at c.args.piece.now c.loop-taken.taken t (Stands c.pass_packet.new.self) c.in-Some.block.bytes c.in-Some.block.step
+          taking_with (items_in (order_of d) (is_hunter d)) (Stands c.loop-taken.self) u c.args.at c.args.piece.now c.loop-taken.taken t (Stands c.take_packet.new.self) c.in-Some.packet.bytes (item_in c.in-Some.packet.half c.in-Some.packet.item)
           b.0 (omega (arith, b.1, c.loop-taken-test.true))
-          (same_takes i.same c.args.piece.now c.loop-taken.taken (c.in-Some.ensures.takes (u ++ placed_from c.args.at (take c.loop-taken.taken c.args.piece.now)) t.list)) (none_step c.in-Some.block.step c.is_some.result c.is_some.ensures c.if-is_some.false);
+          (same_takes i.same c.args.piece.now c.loop-taken.taken (c.in-Some.ensures.takes (u ++ placed_from c.args.at (take c.loop-taken.taken c.args.piece.now)) t.list)) (ap (item_in c.in-Some.packet.half) c.in_default.is);
     }
 
 pub returns-in-None-clause-takes : goal.returns-in-None-clause-takes
