@@ -1,5 +1,6 @@
 -- Events of many sources in one list, by what each part of the capture adds to the events of its source.
-use Rattle.std.specs.Prelude.{◌≡◌, ℕ, ◌<◌, ◌≤◌, List, [], ◌∷◌, ◌++◌, Bool, true, false, Option, None, Some, length, map, drop}
+use Rattle.std.specs.Prelude.{◌≡◌, ℕ, ◌<◌, ◌≤◌, List, [], ◌∷◌, ◌++◌, Bool, true, false, Option, None, Some, length, map}
+use Rattle.std.specs.Prelude.{drop}
 use Rattle.std.specs.Prelude.{filter, ◌==◌, ◌&&◌, ◌||◌, nat_lt, ◌⊎◌}
 use Rattle.trace_values.specs.Placed.{Place}
 use Rattle.frame_grammar.specs.Reading.{is_source}

@@ -1,5 +1,6 @@
 -- What each source gives in the runs of frames, the least fault, and the report of a whole capture.
-use Rattle.std.specs.Prelude.{◌≡◌, ℕ, List, [], ◌∷◌, ◌++◌, Bool, true, false, ◌==◌, ◌&&◌, ◌||◌, nat_lt, Option, None, Some}
+use Rattle.std.specs.Prelude.{◌≡◌, ℕ, List, [], ◌∷◌, ◌++◌, Bool, true, false, ◌==◌, ◌&&◌, ◌||◌, nat_lt, Option, None}
+use Rattle.std.specs.Prelude.{Some}
 use Rattle.std.specs.Prelude.{is_none, if◌then◌else◌, flat_map, map}
 use Rattle.std.specs.Option.{option_map}
 use Rattle.trace_values.specs.declared.cell.Cell.{Cell}
@@ -34,8 +35,8 @@ what_of (Kept v) = Packet v
 abbrev pub lifted : {V : Type 0} → List (Said V × Place) → List (What V × Place)
 lifted given = map (λ e. (what_of e.0, e.1)) given
 
--- of the trigger source, each byte is an event (IHI 0029, formatter, trigger packets of ID 0x7D; that each byte is one
--- event is this project's profile)
+-- of the trigger source, each byte is an event (CoreSight Architecture Specification, Arm IHI 0029E (version 3.0),
+-- chapter 'Trace Formatter', triggers by ID 0x7D; that each byte is one event is this project's profile)
 abbrev pub triggers : {V : Type 0} → List Cell → List (What V × Place)
 triggers run = map (λ c. (Trigger c.byte, record { at = c.at; half = 0 })) run
 
@@ -81,8 +82,8 @@ all_events ss runs = merged id_of (events ss) runs
 abbrev pub reported : {V : Type 0} → List (Mapped V) → List (List Cell) → List (Event V)
 reported ss runs = cut (least_fault ss runs) (all_events ss runs)
 
--- what the port gives: where its reading is hunted, the notice of its lock, at the last byte of the full synchronisation
--- with which the reading begins
+-- what the port gives: where its reading is hunted, the notice of its lock, at the last byte of the full
+-- synchronisation with which the reading begins
 abbrev pub lock_at : {V : Type 0} → ℕ → List (PortItem × Place) → List (What V × Place)
 lock_at skipped [] = []
 lock_at skipped (first ∷ items) = (Locked skipped, first.1) ∷ []

@@ -1,5 +1,6 @@
--- The runs of frames: the cells of a frame that follow one another and have one run, which is one source's (Arm CoreSight
--- Architecture Specification, Arm IHI 0029, formatter: a source's bytes from one ID byte to the next).
+-- The runs of frames: the cells of a frame that follow one another and have one run, which is one source's (CoreSight
+-- Architecture Specification, Arm IHI 0029E (version 3.0), chapter 'Trace Formatter', its section on frames: a source's
+-- bytes from one ID byte to the next).
 use Rattle.std.specs.Prelude.{◌≡◌, ℕ, suc, ◌+◌, ◌≤◌, List, [], ◌∷◌, ◌==◌, if◌then◌else◌, map, filter, flat_map}
 use Rattle.std.specs.Prelude.{Option, None}
 use Rattle.trace_values.specs.declared.cell.Cell.{Cell}

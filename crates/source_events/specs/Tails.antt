@@ -1,9 +1,11 @@
 -- How a capture ends, and how much came.
 use Rattle.std.specs.Prelude.{ℕ, List, [], ◌∷◌, ◌&&◌, length, Bool, true, false, Option, None, Some}
 use Rattle.std.specs.List.{count_by, flat_map, range_with_len}
+use Rattle.trace_values.specs.declared.limits.TheConstants.{ID_COUNT}
 use Rattle.trace_values.specs.Placed.{Placed}
 use Rattle.capture_plan.specs.declared.frames.FramesMode.{FramesMode}
-use Rattle.capture_plan.specs.declared.frames.FramesMode.TheVariants.{Hunt as FramesHunt, Aligned as FramesAligned, Bare as FramesBare}
+use Rattle.capture_plan.specs.declared.frames.FramesMode.TheVariants.{Hunt as FramesHunt, Aligned as FramesAligned}
+use Rattle.capture_plan.specs.declared.frames.FramesMode.TheVariants.{Bare as FramesBare}
 use Rattle.capture_plan.specs.declared.packets.PacketsMode.{PacketsMode}
 use Rattle.capture_plan.specs.declared.packets.PacketsMode.TheVariants.{Hunt as PacketsHunt, Aligned as PacketsAligned}
 use Rattle.port_reader.specs.Reading.{PortReading, port_reading}
@@ -63,7 +65,7 @@ tails_of plan u = let r = port_reading plan.frames u in record {
   skipped = r.skipped;
   tail = r.tail;
   unattributed = unattributed_of r.frames;
-  sources = source_tails plan r 127;
+  sources = source_tails plan r ID_COUNT;
 }
 
 -- how many synchronisations and frames it has

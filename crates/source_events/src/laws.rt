@@ -13,14 +13,16 @@ ghost use Rattle.port_reader.specs.Rising.{BytesRise};
 ghost use Rattle.source_events.specs.declared.event.Event.{Event};
 ghost use Rattle.source_events.specs.Runs.{runs_of, list_of, AreWhole};
 ghost use Rattle.source_events.specs.Merge.{IsMerged};
-ghost use Rattle.source_events.specs.Report.{Mapped, AreLawful, events, port_events, runs_in, stop_in, capture_events, report};
+ghost use Rattle.source_events.specs.Report.{Mapped, AreLawful, events, port_events, runs_in, stop_in, capture_events};
+ghost use Rattle.source_events.specs.Report.{report};
 ghost use Rattle.source_counts.specs.Counts.{items_of};
 ghost use Rattle.source_events.specs.Tails.{items_in};
 ghost use Rattle.source_events.specs.declared.plan.Plan.{Plan};
 ghost use Rattle.source_events.specs.Plan.{sources_by};
 
-/// Of bytes at rising offsets, the events of the port and of all sources are one list that is sorted by place, whose part
-/// of the port is what the port gives, and whose part of each source is what that source gives; and no other list is so.
+/// Of bytes at rising offsets, the events of the port and of all sources are one list that is sorted by place, whose
+/// part of the port is what the port gives, and whose part of each source is what that source gives; and no other list
+/// is so.
 pub fn merged_law()
     ensures { (ss : List (Mapped Packet)) → AreLawful ss → (mode : FramesMode) (u : List Placed) (lo hi : ℕ) →
         BytesRise lo hi u → (es : List (Event Packet)) →
@@ -47,8 +49,8 @@ pub fn growth_law()
         report (sources_by plan) plan.frames (placed xs) ++ given) }
 {}
 
-/// Where no source is mapped and the report has no fault, a source has as many events as its frames have items of it: one
-/// for each run, for each byte of the trigger source, and none of the null source.
+/// Where no source is mapped and the report has no fault, a source has as many events as its frames have items of it:
+/// one for each run, for each byte of the trigger source, and none of the null source.
 pub fn items_law()
     ensures { (plan : Plan) (bytes : List ℕ) (x : ℕ) → sources_by plan ≡ [] →
         stop_in (sources_by plan) (port_reading plan.frames (placed bytes)) ≡ None →
@@ -56,8 +58,8 @@ pub fn items_law()
         items_of x (port_reading plan.frames (placed bytes)).frames }
 {}
 
-/// The runs of a frame, one after the other, are its cells. Each is all the frame's cells of one number, and the numbers
-/// rise.
+/// The runs of a frame, one after the other, are its cells. Each is all the frame's cells of one number, and the
+/// numbers rise.
 pub fn runs_law()
     ensures cells { (cells : List Cell) → flat_map (λ run. run) (runs_of cells) ≡ cells }
     ensures whole { (cells : List Cell) → HasRuns cells → AreWhole 0 cells (runs_of cells) }

@@ -37,8 +37,8 @@ pub struct Plan {
 /// How many sources a plan maps at most.
 pub const MAPPED_SOURCES: usize = 16;
 
-/// A source of this ID may be mapped: 112 to 126 are not for it, and the null source is not either (Arm IHI 0029,
-/// trace source IDs).
+/// A source of this ID may be mapped: 112 to 126 are not for it, and the null source is not either (CoreSight
+/// Architecture Specification, Arm IHI 0029E (version 3.0), chapter 'Trace Formatter', trace source IDs).
 fn may_be_mapped(id: SourceId) -> bool
     ensures { result ≡ (nat_le 1 id && nat_le id 111) }
 {

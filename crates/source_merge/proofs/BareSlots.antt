@@ -1,5 +1,6 @@
 -- The slots after the machine of one of them took the front of a piece.
-use Rattle.std.proofs.Common.{◌≡◌, ℕ, ◌+◌, ◌*◌, List, ◌∷◌, ◌++◌, refl, sym, ◌∙◌, ap, subst, Option, None, Some, true}
+use Rattle.std.proofs.Common.{◌≡◌, ℕ, ◌+◌, ◌*◌, ◌<◌, List, ◌∷◌, ◌++◌, get_or, take, drop, length, refl, sym, ◌∙◌, ap, subst, Option, None, Some, true}
+use Rattle.std.proofs.lemmas.List.{take-append-drop, drop_more}
 use Rattle.std.specs.Option.{option_map}
 use Rattle.trace_values.specs.declared.block.Block.{Block}
 use Rattle.trace_values.specs.declared.step.Step.{Step}
@@ -20,6 +21,11 @@ use Rattle.source_merge.specs.Bare.{PieceFed, stop_by}
 use Rattle.source_merge.specs.Feeding.{last_fault}
 use Rattle.source_merge.specs.Routing.{mapped_of, AllLive, HaveRoom}
 use Rattle.source_merge.proofs.Slots.{mapped_parts, live_join, room_join}
+
+-- the slot at this index, between those before and those behind it
+pub split_at : (slots : List (Slot SourceMachine)) (k : ℕ) (d : Slot SourceMachine) → k < length slots →
+    slots ≡ take k slots ++ (get_or slots k d ∷ drop (k + 1) slots)
+split_at slots k d l = sym (take-append-drop k slots) ∙ ap (λ r. take k slots ++ r) (drop_more slots k d l)
 
 pub goes_without : {V : Type 0} → (step : Option (Step V)) (stop : Option Stop) → stop ≡ option_map (stop_by 1) (last_fault step) →
     stop ≡ None → goes_on_after step ≡ true

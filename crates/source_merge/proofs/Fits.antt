@@ -8,6 +8,7 @@ use Rattle.trace_values.specs.declared.step.Step.{Step}
 use Rattle.trace_values.specs.declared.step.Step.TheVariants.{Quiet, Skipping, Item, Locked, Fault}
 use Rattle.trace_values.specs.Stream.{StepFits, given_by}
 use Rattle.trace_values.specs.Block.{given_after}
+use Rattle.itm_codec.specs.Wholes.{kept_at}
 use Rattle.source_events.specs.declared.event.Event.{Event}
 use Rattle.source_events.specs.Merge.{told}
 use Rattle.source_events.specs.Report.{lifted, triggers, raw_events}
@@ -70,3 +71,9 @@ module _ {V : Type 0} (fits : V → Type 0) where
       AllFit fits (told (Some x) (lifted (given_after at step)))
   last_fits x at None f = fit_nil
   last_fits x at (Some step) f = step_fits x at step f
+
+  -- what a part of a packet gives
+  pub cut_fits : (x at : ℕ) (packet : Option V) → IfSome packet fits →
+      AllFit fits (told (Some x) (lifted (kept_at (record { at = at; half = 0 }) packet)))
+  cut_fits x at None f = fit_nil
+  cut_fits x at (Some v) f = step_fits x at (Item 0 v) f

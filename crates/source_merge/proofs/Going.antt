@@ -1,26 +1,28 @@
 -- What an engine keeps, as it goes on with bytes that end nothing and with one that does.
-use Rattle.std.proofs.Common.{◌≡◌, ℕ, ◌+◌, ◌<◌, ◌≤◌, List, [], ◌∷◌, ◌++◌, length, refl, sym, ◌∙◌, ap, subst, append_assoc, append-nil, arith, Option, None, length-append}
+use Rattle.std.proofs.Common.{◌≡◌, ℕ, ◌+◌, ◌<◌, ◌≤◌, List, [], ◌∷◌, ◌++◌, length, refl, sym, ◌∙◌, ap, subst, append_assoc, append-nil, arith, Option, None, inl, inr, length-append}
 use Rattle.std.specs.Option.{option_map}
 use Rattle.std.proofs.lemmas.List.{map-append}
 use Rattle.trace_values.specs.declared.cell.Cell.{Cell}
-use Rattle.trace_values.specs.Placed.{Placed, byte_at, placed_from}
+use Rattle.trace_values.specs.Placed.{Place, Placed, byte_at, placed_from}
 use Rattle.trace_values.proofs.Placing.{placed_from_push}
 use Rattle.frame_grammar.specs.Reading.{offsets_of}
 use Rattle.deformatter.specs.Block.{EachByte, FedAs}
 use Rattle.capture_plan.specs.declared.frames.FramesMode.{FramesMode}
 use Rattle.deformatter.specs.declared.step.PortStep.{PortStep}
-use Rattle.deformatter.specs.declared.step.PortStep.TheVariants.{Quiet}
-use Rattle.port_reader.specs.Growth.{Answers as PortAnswers}
-use Rattle.port_reader.specs.Reading.{PortReading, port_reading}
+use Rattle.deformatter.specs.declared.step.PortStep.TheVariants.{Quiet, Half}
+use Rattle.deformatter.specs.Growth.{fulls_by}
+use Rattle.port_reader.specs.Growth.{Answers as PortAnswers, IsInside, FedFrame, GrowsByFrame}
+use Rattle.port_reader.specs.Reading.{port_reading}
 use Rattle.port_reader.specs.Rising.{Rise, BytesRise, end_at}
 use Rattle.port_reader.proofs.RisingLaws.{rise_join, placed_rise}
 use Rattle.source_events.specs.declared.event.Event.{Event}
 use Rattle.source_events.specs.declared.packet.Packet.{Packet}
 use Rattle.source_events.specs.declared.event.Stop.{Stop}
+use Rattle.source_events.specs.declared.event.What.{What}
 use Rattle.source_events.specs.declared.plan.Plan.{Plan}
 use Rattle.source_events.specs.Runs.{all_runs}
 use Rattle.source_events.specs.Plan.{sources_by}
-use Rattle.source_events.specs.Report.{Mapped, AreLawful, report, runs_in, stop_in, stop_of}
+use Rattle.source_events.specs.Report.{Mapped, AreLawful, report, runs_in, stop_in, stop_of, port_events}
 use Rattle.source_events.proofs.Growth.{no_stop}
 use Rattle.source_events.proofs.Least.{AreSound}
 use Rattle.source_events.proofs.LockSteps.{port_grows}
@@ -36,7 +38,7 @@ use Rattle.source_merge.specs.Counting.{HasBytes, HasItems, HasCounted}
 use Rattle.source_merge.specs.Engine.{Keeps}
 use Rattle.source_merge.specs.Routing.{mapped_of, AllLive, AllStand, AreDistinct}
 use Rattle.source_merge.specs.Stepping.{StepTaken}
-use Rattle.source_merge.proofs.Steps.{taken_none, rise_push}
+use Rattle.source_merge.proofs.Steps.{IsNothing, taken_none, rise_push}
 use Rattle.source_merge.proofs.Taking.{lawful, sound}
 
 -- offsets of bytes that follow
@@ -90,78 +92,102 @@ module _ (plan : Plan) (slots : List (Slot SourceMachine)) (sources : mapped_of 
   pub port_sound : (u : List Placed) → fault_of plan u ≡ None → (port_of plan u).fault ≡ None
   port_sound u e = no_stop (sources_by plan) (port_of plan u) e
 
-  -- one more byte that ends nothing
-  pub record Quieter (counters : Counters) (u : List Placed) (at byte : ℕ) : Type 0 where
-    pub keeps : Keeps plan slots counters (u ++ byte_at at byte ∷ [])
-    pub none : fault_of plan (u ++ byte_at at byte ∷ []) ≡ None
-    pub answer : Answers plan [] Going u at byte
+  -- with more bytes the report is as it was, and so are the frames and the full synchronisations
+  pub record Unchanged (u w : List Placed) : Type 0 where
+    pub stand : AllStand Stands slots (runs_in (port_of plan w))
+    pub frames : (port_of plan w).frames ≡ (port_of plan u).frames
+    pub fulls : (port_of plan w).fulls ≡ (port_of plan u).fulls
+    pub report : report_of plan w ≡ report_of plan u
+    pub none : fault_of plan w ≡ None
 
-  quiet_one : (counters : Counters) (u : List Placed) (at byte : ℕ) → BytesRise 0 at u → fault_of plan u ≡ None →
-      Keeps plan slots counters u → PortAnswers plan.frames Quiet [] u at byte → Quieter counters u at byte
-  quiet_one counters u at byte rise e k q = record {
-    keeps = record {
-      stand = taken.list refl;
-      counted = record {
-        whole = k.counted.whole;
-        frames = k.counted.frames;
-        bytes = subst (λ l. HasBytes counters.bytes k.counted.whole l) (sym runs) k.counted.bytes;
-        items = subst (λ (es : List (Event Packet)). HasItems counters.items k.counted.whole es) (sym same) k.counted.items;
-        port = record {
-          fulls = (let a = q.fulls in let b = k.counted.port.fulls in omega arith);
-          halves = (let a = q.halves in let b = k.counted.port.halves in omega arith);
-          frames = k.counted.port.frames ∙ ap length (sym (q.frames ∙ append-nil old.frames));
-        };
+  -- one more byte that ends no frame
+  record Quieter (u : List Placed) (at byte : ℕ) : Type 0 where
+    unchanged : Unchanged u (u ++ byte_at at byte ∷ [])
+    answer : Answers plan [] Going u at byte
+
+  module _ (u : List Placed) (at byte : ℕ) (rise : BytesRise 0 at u) (e : fault_of plan u ≡ None)
+      (stand : AllStand Stands slots (runs_in (port_of plan u))) where
+    still : (step : PortStep) → IsNothing Packet step [] at → fulls_by step ≡ 0 → PortAnswers plan.frames step [] u at byte → Quieter u at byte
+    still step n z q = record {
+      unchanged = record {
+        stand = taken.list refl;
+        frames = frames ∙ append-nil (port_of plan u).frames;
+        fulls = (let a = q.fulls in omega arith);
+        report = same;
+        none = none_new;
       };
-    };
-    none = none_new;
-    answer = record { events = same ∙ sym (append-nil (report_of plan u)); fault = none_new };
-  } where
-    next : List Placed
-    next = u ++ byte_at at byte ∷ []
+      answer = record { events = same ∙ sym (append-nil (report_of plan u)); fault = none_new };
+    } where
+      frames : (port_of plan (u ++ byte_at at byte ∷ [])).frames ≡ (port_of plan u).frames ++ []
+      frames = q.frames ∙ ap (λ (l : List (List Cell)). (port_of plan u).frames ++ l) n.0
 
-    old : PortReading
-    old = port_of plan u
+      taken : StepTaken Stands mapped slots plan.frames u (u ++ byte_at at byte ∷ []) [] None
+      taken =
+          taken_none Stands mapped law plan.frames u at byte rise (port_sound u e) (good u stand) slots [] refl frames (q.fault ∙ n.1)
+          (port_grows {V = Packet} u at byte plan.frames step q.hunt
+          ∙ ap (λ (l : List (What Packet × Place)). port_events plan.frames u ++ l) n.2) stand
 
-    taken : StepTaken Stands mapped slots plan.frames u (u ++ byte_at at byte ∷ []) [] None
-    taken =
-        taken_none Stands mapped law plan.frames u at byte rise (port_sound u e) (good u k.stand) slots [] refl q.frames q.fault
-        (port_grows {V = Packet} u at byte plan.frames Quiet q.hunt) k.stand
+      same : report_of plan (u ++ byte_at at byte ∷ []) ≡ report_of plan u
+      same =
+          subst (λ (ss : List (Mapped Packet)). report ss plan.frames (u ++ byte_at at byte ∷ []) ≡ report ss plan.frames u) sources
+          (taken.grew ∙ append-nil (report mapped plan.frames u))
 
-    runs : runs_in (port_of plan (u ++ byte_at at byte ∷ [])) ≡ runs_in (port_of plan u)
-    runs = ap all_runs (q.frames ∙ append-nil (port_of plan u).frames)
+      none_new : fault_of plan (u ++ byte_at at byte ∷ []) ≡ None
+      none_new =
+          subst (λ (ss : List (Mapped Packet)). stop_in ss (port_of plan (u ++ byte_at at byte ∷ [])) ≡ None) sources taken.stop_is
 
-    same : report_of plan (u ++ byte_at at byte ∷ []) ≡ report_of plan u
-    same =
-        subst (λ (ss : List (Mapped Packet)). report ss plan.frames (u ++ byte_at at byte ∷ []) ≡ report ss plan.frames u) sources
-        (taken.grew ∙ append-nil (report mapped plan.frames u))
-
-    none_new : fault_of plan (u ++ byte_at at byte ∷ []) ≡ None
-    none_new =
-        subst (λ (ss : List (Mapped Packet)). stop_in ss (port_of plan (u ++ byte_at at byte ∷ [])) ≡ None) sources taken.stop_is
+    one_inside : IsInside plan.frames u at byte → Quieter u at byte
+    one_inside q = elim q [
+      | inl g ↦ still Quiet (refl, refl, refl) refl g
+      | inr g ↦ still Half (refl, refl, refl) refl g
+    ]
 
   -- more of them
-  pub record Quiets (counters : Counters) (u : List Placed) (at : ℕ) (bytes : List ℕ) : Type 0 where
-    pub keeps : Keeps plan slots counters (u ++ placed_from at bytes)
-    pub none : fault_of plan (u ++ placed_from at bytes) ≡ None
-    pub answers : EachByte (Answers plan [] Going) u at bytes
+  record Quiets (u : List Placed) (at : ℕ) (bytes : List ℕ) : Type 0 where
+    unchanged : Unchanged u (u ++ placed_from at bytes)
+    answers : EachByte (Answers plan [] Going) u at bytes
 
-  pub quiet : (counters : Counters) (bytes : List ℕ) (u : List Placed) (at : ℕ) → BytesRise 0 at u → fault_of plan u ≡ None →
-      Keeps plan slots counters u → EachByte (PortAnswers plan.frames Quiet []) u at bytes → Quiets counters u at bytes
-  quiet counters [] u at rise e k q = record {
-    keeps = subst (λ (l : List Placed). Keeps plan slots counters l) (sym (append-nil u)) k;
-    none = ap (fault_of plan) (append-nil u) ∙ e;
+  all_inside : (bytes : List ℕ) (u : List Placed) (at : ℕ) → BytesRise 0 at u → fault_of plan u ≡ None →
+      AllStand Stands slots (runs_in (port_of plan u)) → EachByte (IsInside plan.frames) u at bytes → Quiets u at bytes
+  all_inside [] u at rise e k q = record {
+    unchanged = subst (λ (l : List Placed). Unchanged u l) (sym (append-nil u))
+        (record { stand = k; frames = refl; fulls = refl; report = refl; none = e });
     answers = tt;
   }
-  quiet counters (byte ∷ bytes) u at rise e k q =
-      let one = quiet_one counters u at byte rise e k q.0 in
-      let rest = quiet counters bytes (u ++ byte_at at byte ∷ []) (at + 1) (rise_push u at byte rise) one.none one.keeps q.1 in
-      let all : (u ++ byte_at at byte ∷ []) ++ placed_from (at + 1) bytes ≡ u ++ placed_from at (byte ∷ bytes) =
-      append_assoc u (byte_at at byte ∷ []) (placed_from (at + 1) bytes) in
+  all_inside (byte ∷ bytes) u at rise e k q =
+      let next = u ++ byte_at at byte ∷ [] in
+      let one = one_inside u at byte rise e k q.0 in
+      let rest = all_inside bytes next (at + 1) (rise_push u at byte rise) one.unchanged.none one.unchanged.stand q.1 in
       record {
-        keeps = subst (λ (l : List Placed). Keeps plan slots counters l) all rest.keeps;
-        none = ap (fault_of plan) (sym all) ∙ rest.none;
+        unchanged = subst (λ (l : List Placed). Unchanged u l) (append_assoc u (byte_at at byte ∷ []) (placed_from (at + 1) bytes)) (record {
+          stand = rest.unchanged.stand;
+          frames = rest.unchanged.frames ∙ one.unchanged.frames;
+          fulls = rest.unchanged.fulls ∙ one.unchanged.fulls;
+          report = rest.unchanged.report ∙ one.unchanged.report;
+          none = rest.unchanged.none;
+        });
         answers = (one.answer, rest.answers);
       }
+
+  -- these counters with another number of half synchronisations
+  abbrev pub with_halves : Counters → ℕ → Counters
+  with_halves counters halves = record {
+    bytes = counters.bytes;
+    items = counters.items;
+    frames = counters.frames;
+    port = record { fulls = counters.port.fulls; halves = halves; frames = counters.port.frames };
+  }
+
+  -- what they have counted then
+  counted_on : (counters : Counters) (halves : ℕ) (u w : List Placed) → HasCounted counters (port_of plan u) (report_of plan u) →
+      Unchanged u w → halves ≡ (port_of plan w).halves → HasCounted (with_halves counters halves) (port_of plan w) (report_of plan w)
+  counted_on counters halves u w h k e = record {
+    whole = h.whole;
+    frames = h.frames;
+    bytes = subst (λ (runs : List (List Cell)). HasBytes counters.bytes h.whole runs) (sym (ap all_runs k.frames)) h.bytes;
+    items = subst (λ (es : List (Event Packet)). HasItems counters.items h.whole es) (sym k.report) h.items;
+    port = record { fulls = h.port.fulls ∙ sym k.fulls; halves = e; frames = h.port.frames ∙ sym (ap length k.frames) };
+  }
 
   -- and then one that may end something, with other machines and counters after it
   pub record Stepped (now : List (Slot SourceMachine)) (counters : Counters) (u : List Placed) (at : ℕ) (bytes : List ℕ)
@@ -182,14 +208,15 @@ module _ (plan : Plan) (slots : List (Slot SourceMachine)) (sources : mapped_of 
       PortAnswers mode step cells u at byte → HasCounted counters (port_reading mode u) es →
       HasCounted new (port_reading mode (u ++ byte_at at byte ∷ [])) (es ++ given)
 
-  pub stepped : (now : List (Slot SourceMachine)) (counters new : Counters) (step : PortStep) (cells : List Cell) (last : ℕ)
+  pub stepped : (now : List (Slot SourceMachine)) (counters new : Counters) (halves : ℕ) (step : PortStep) (cells : List Cell) (last : ℕ)
       (given : List (Event Packet)) (stop : Option Stop) (flow : Flow) (u : List Placed) (at : ℕ) (bytes : List ℕ) →
       BytesRise 0 at u → fault_of plan u ≡ None → Keeps plan slots counters u → AreDistinct mapped →
-      FedAs (PortAnswers plan.frames Quiet []) (PortAnswers plan.frames step cells) u at bytes →
+      (f : FedAs (IsInside plan.frames) (PortAnswers plan.frames step cells) u at bytes) →
+      halves ≡ (port_of plan (u ++ placed_from at f.front)).halves →
       ((k : ℕ) → length bytes ≡ k + 1 → last ≡ at + k) → IsTaken now step cells last given stop →
-      IsCounted counters new step cells last given stop → fault_by flow ≡ option_map stop_of stop →
+      IsCounted (with_halves counters halves) new step cells last given stop → fault_by flow ≡ option_map stop_of stop →
       Stepped now new u at bytes given stop flow
-  stepped now counters new step cells last given stop flow u at bytes rise e k d f place taken counted flow_is = record {
+  stepped now counters new halves step cells last given stop flow u at bytes rise e k d f more place taken counted flow_is = record {
     fed = record {
       front = f.front;
       last = f.last;
@@ -204,7 +231,8 @@ module _ (plan : Plan) (slots : List (Slot SourceMachine)) (sources : mapped_of 
           stand = t.list n;
           counted =
               subst (λ (es : List (Event Packet)). HasCounted new (port_of plan next) es) (sym grew)
-              (subst (λ (i : ℕ). IsCounted counters new step cells i given stop) here counted plan.frames w f.last (report_of plan w) n f.ends q.keeps.counted);
+              (subst (λ (i : ℕ). IsCounted (with_halves counters halves) new step cells i given stop) here counted plan.frames w f.last (report_of plan w) n f.ends
+              (counted_on counters halves u w k.counted q.unchanged more));
         });
   } where
     w : List Placed
@@ -221,13 +249,13 @@ module _ (plan : Plan) (slots : List (Slot SourceMachine)) (sources : mapped_of 
     here : last ≡ at + length f.front
     here = place (length f.front) (ap length f.parts ∙ length-append f.front (f.last ∷ []))
 
-    q : Quiets counters u at f.front
-    q = quiet counters f.front u at rise e k f.quiet
+    q : Quiets u at f.front
+    q = all_inside f.front u at rise e k.stand f.quiet
 
     t : StepTaken Stands mapped now plan.frames (u ++ placed_from at f.front) ((u ++ placed_from at f.front) ++ byte_at (at + length f.front) f.last ∷ []) given stop
     t =
         subst (λ (i : ℕ). IsTaken now step cells i given stop) here taken plan.frames (u ++ placed_from at f.front) f.last
-        (rise_block u at f.front rise) f.ends (port_sound (u ++ placed_from at f.front) q.none) d q.keeps.stand
+        (rise_block u at f.front rise) f.ends (port_sound (u ++ placed_from at f.front) q.unchanged.none) d q.unchanged.stand
 
     grew : report_of plan ((u ++ placed_from at f.front) ++ byte_at (at + length f.front) f.last ∷ []) ≡ report_of plan (u ++ placed_from at f.front) ++ given
     grew =
@@ -238,3 +266,37 @@ module _ (plan : Plan) (slots : List (Slot SourceMachine)) (sources : mapped_of 
     fault_is =
         subst (λ (ss : List (Mapped Packet)). stop_in ss (port_of plan ((u ++ placed_from at f.front) ++ byte_at (at + length f.front) f.last ∷ [])) ≡ option_map stop_of stop)
         sources t.stop_is
+
+-- bytes that end nothing are inside
+module _ (mode : FramesMode) where
+  each_quiet : (u : List Placed) (at : ℕ) (bytes : List ℕ) → EachByte (PortAnswers mode Quiet []) u at bytes → EachByte (IsInside mode) u at bytes
+  each_quiet u at [] q = tt
+  each_quiet u at (byte ∷ bytes) q = (inl q.0, each_quiet (u ++ byte_at at byte ∷ []) (at + 1) bytes q.1)
+
+  -- and leave the half synchronisations as they are
+  same_halves : (u : List Placed) (at : ℕ) (bytes : List ℕ) → EachByte (PortAnswers mode Quiet []) u at bytes →
+      (port_reading mode (u ++ placed_from at bytes)).halves ≡ (port_reading mode u).halves
+  same_halves u at [] q = ap (λ (l : List Placed). (port_reading mode l).halves) (append-nil u)
+  same_halves u at (byte ∷ bytes) q =
+      ap (λ (l : List Placed). (port_reading mode l).halves) (sym (append_assoc u (byte_at at byte ∷ []) (placed_from (at + 1) bytes)))
+      ∙ same_halves (u ++ byte_at at byte ∷ []) (at + 1) bytes q.1 ∙ q.0.halves ∙ omega arith
+
+  pub quiet_inside : (L : List Placed → ℕ → ℕ → Type 0) (u : List Placed) (at : ℕ) (bytes : List ℕ) → FedAs (PortAnswers mode Quiet []) L u at bytes →
+      (f : FedAs (IsInside mode) L u at bytes) × ((port_reading mode (u ++ placed_from at f.front)).halves ≡ (port_reading mode u).halves)
+  quiet_inside L u at bytes f = (
+    record { front = f.front; last = f.last; parts = f.parts; quiet = each_quiet u at f.front f.quiet; ends = f.ends },
+    same_halves u at f.front f.quiet,
+  )
+
+  -- the half synchronisations inside a frame are there before its last byte
+  pub halves_inside : (cells : List Cell) (u : List Placed) (at : ℕ) (bytes : List ℕ) (inner : ℕ) (f : FedFrame mode cells u at bytes) →
+      GrowsByFrame (port_reading mode u) (port_reading mode (u ++ placed_from at bytes)) inner cells →
+      (port_reading mode (u ++ placed_from at f.front)).halves ≡ (port_reading mode u).halves + inner
+  halves_inside cells u at bytes inner f g =
+      let next : (u ++ placed_from at f.front) ++ byte_at (at + length f.front) f.last ∷ [] ≡ u ++ placed_from at bytes =
+      append_assoc u (placed_from at f.front) (byte_at (at + length f.front) f.last ∷ [])
+      ∙ ap (λ (l : List Placed). u ++ l) (sym (placed_from_push at f.front f.last) ∙ ap (placed_from at) (sym f.parts)) in
+      let ends = f.ends.halves in
+      let all = ap (λ (l : List Placed). (port_reading mode l).halves) next in
+      let grew = g.halves in
+      omega arith

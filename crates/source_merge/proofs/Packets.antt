@@ -11,7 +11,7 @@ use Rattle.trace_values.specs.Placed.{Place, Placed, byte_at, placed_from, units
 use Rattle.trace_values.specs.Stream.{Said, Stream, Settled, Kept}
 use Rattle.trace_values.proofs.Blocks.{next_placed}
 use Rattle.trace_values.proofs.Placing.{units_push}
-use Rattle.itm_codec.specs.Wholes.{Gives}
+use Rattle.itm_codec.specs.Wholes.{Cuts, Gives, kept_at}
 use Rattle.source_events.specs.declared.event.Event.{Event}
 use Rattle.source_events.specs.declared.event.What.TheVariants.{Packet}
 use Rattle.source_events.specs.Runs.{placed_run, bytes_of}
@@ -43,6 +43,31 @@ feeds_packet {V} reading u id stands done front last packet old mid new f gives 
       fault_is = ap (λ (l : List Placed). (reading l).fault) (sym all) ∙ g.sound;
       list = λ k. subst stands all g.list;
     }
+
+-- cells of which the last one ends a packet, if it ends one
+pub feeds_cut : {V : Type 0} (reading : List Placed → Stream V) (u : List Placed) (id : ℕ) (was now : List Placed → Type 0) (done front : List Cell) (last : Cell)
+    (packet : Option V) (old mid new : List (Event V)) → Feeds reading was u done id old mid None →
+    ((w : List Placed) → was w → Cuts reading now w (placed_run front) (byte_at last.at last.byte) packet) →
+    new ≡ mid ++ told (Some id) (lifted (kept_at (record { at = last.at; half = 0 }) packet)) → Feeds reading now u (done ++ (front ++ last ∷ [])) id old new None
+feeds_cut {V} reading u id was now done front last packet old mid new f cuts n =
+    let more : List (Said V × Place) = kept_at (record { at = last.at; half = 0 }) packet in
+    let g = cuts (u ++ placed_run done) (f.list refl) in
+    let all : (u ++ placed_run done) ++ (placed_run front ++ byte_at last.at last.byte ∷ []) ≡ u ++ placed_run (done ++ (front ++ last ∷ [])) =
+    append_assoc u (placed_run done) (placed_run front ++ byte_at last.at last.byte ∷ [])
+    ∙ ap (λ (l : List Placed). u ++ l) (sym (placed_more done (front ++ last ∷ []) ∙ ap (λ (l : List Placed). placed_run done ++ l) (placed_more front (last ∷ [])))) in
+    record {
+      given = f.given ++ more;
+      events = n ∙ ap (λ l. l ++ told (Some id) (lifted more)) f.events ∙ append_assoc old (told (Some id) (lifted f.given)) (told (Some id) (lifted more))
+          ∙ ap (λ l. old ++ l) (sym (told_append (Some id) (lifted f.given) (lifted more)) ∙ ap (told (Some id)) (sym (lifted_append f.given more)));
+      grew = ap (λ (l : List Placed). (reading l).given) (sym all) ∙ g.given ∙ ap (λ l. l ++ more) f.grew ∙ append_assoc (reading u).given f.given more;
+      fault_is = ap (λ (l : List Placed). (reading l).fault) (sym all) ∙ g.sound;
+      list = λ k. subst now all g.list;
+    }
+
+-- what stands for more lists
+pub cut_stands : {V : Type 0} (reading : List Placed → Stream V) (was now : List Placed → Type 0) (u front : List Placed) (last : Placed) (packet : Option V) →
+    ((w : List Placed) → was w → now w) → Cuts reading was u front last packet → Cuts reading now u front last packet
+cut_stands reading was now u front last packet f c = record { list = f (u ++ (front ++ last ∷ [])) c.list; given = c.given; sound = c.sound }
 
 -- this many cells after those that are done
 module _ (run : List Cell) (done count : ℕ) (last : Cell) (some : 0 < count) (within : done + count ≤ length run) (is : last ≡ get_or run (done + count - 1) last) where

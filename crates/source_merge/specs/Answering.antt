@@ -32,7 +32,9 @@ abbrev pub goes_on : Flow → Bool
 goes_on Going = true
 goes_on (Stopped stop) = false
 
--- The answer to this byte, which follows u at this offset: the report grows by these events, and has the fault of this flow.
-pub record Answers (plan : Plan) (given : List (Event Packet)) (flow : Flow) (u : List Placed) (at byte : ℕ) : Type 0 where
+-- The answer to this byte, which follows u at this offset: the report grows by these events, and has the fault of this
+-- flow.
+pub record Answers (plan : Plan) (given : List (Event Packet)) (flow : Flow) (u : List Placed) (at byte : ℕ)
+    : Type 0 where
   pub events : report_of plan (u ++ byte_at at byte ∷ []) ≡ report_of plan u ++ given
   pub fault : fault_of plan (u ++ byte_at at byte ∷ []) ≡ fault_by flow

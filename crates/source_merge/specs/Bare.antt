@@ -1,5 +1,5 @@
 -- What the machine of source 1 makes of a piece of a capture with no formatter.
-use Rattle.std.specs.Prelude.{◌≡◌, ℕ, ◌+◌, ◌*◌, ◌≤◌, List, ◌∷◌, ◌++◌, length, Option, None, Some, Bool, true, false}
+use Rattle.std.specs.Prelude.{◌≡◌, ℕ, ◌+◌, ◌*◌, ◌≤◌, List, ◌∷◌, ◌++◌, Option, None, Some, Bool, true, false}
 use Rattle.std.specs.Option.{option_map}
 use Rattle.trace_values.specs.declared.block.Block.{Block}
 use Rattle.trace_values.specs.declared.fault.Fault.{Fault}
@@ -7,7 +7,7 @@ use Rattle.trace_values.specs.declared.step.Step.{Step}
 use Rattle.trace_values.specs.declared.step.Step.TheVariants.{Quiet, Skipping, Item, Locked, Fault as Faulty}
 use Rattle.trace_values.specs.Placed.{Placed}
 use Rattle.trace_values.specs.Stream.{StepFits}
-use Rattle.trace_values.specs.Block.{Takes, StopsFor, given_after, goes_on_after}
+use Rattle.trace_values.specs.Block.{Takes, given_after, goes_on_after}
 use Rattle.std.specs.Prelude.{IfSome}
 use Rattle.source_events.specs.declared.event.Event.{Event}
 use Rattle.source_events.specs.declared.event.Stop.{Stop}
@@ -49,13 +49,13 @@ abbrev pub bare_flow : Option (Step Packet) → Flow
 bare_flow step = flow_from (option_map (stop_by 1) (last_fault step))
 
 -- The machine of one slot took the front of a piece: the slots before and after it are as before.
-pub record PieceFed (front : List (Slot SourceMachine)) (s : Slot SourceMachine) (back slots : List (Slot SourceMachine))
+pub record PieceFed (front : List (Slot SourceMachine)) (s : Slot SourceMachine)
+    (back slots : List (Slot SourceMachine))
     (at : ℕ) (piece : List ℕ) (block : Block Packet) : Type 0 where
   pub slot : Slot SourceMachine
   pub parts : slots ≡ front ++ (slot ∷ back)
   pub id_is : slot.id ≡ s.id
   pub same : reading_of slot.machine ≡ reading_of s.machine
-  pub stops : StopsFor block.bytes (length piece) block.step
   pub takes : (u : List Placed) → Stands s.machine u →
       Takes (reading_of s.machine) (Stands slot.machine) u at piece block.bytes block.step
   pub live_is : is_live slot.machine ≡ goes_on_after block.step

@@ -48,8 +48,8 @@ pub record HasPort (counts : PortCounts) (r : PortReading) : Type 0 where
   pub halves : counts.halves ≡ r.halves
   pub frames : counts.frames ≡ length r.frames
 
--- It has counted all of this reading of the port, and of these events: some frames whole, and the bytes and items of all
--- others one by one.
+-- It has counted all of this reading of the port, and of these events: some frames whole, and the bytes and items of
+-- all others one by one.
 pub record HasCounted (counters : Counters) (r : PortReading) (es : List (Event Packet)) : Type 0 where
   pub whole : List (List Cell)
   pub frames : kept.Stands counters.frames whole

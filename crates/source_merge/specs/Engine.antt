@@ -29,7 +29,8 @@ abbrev pub next_of : Engine → ℕ
 next_of engine = engine.next
 
 -- these machines stand for the lists of their sources, and these counters have counted what came
-pub record Keeps (plan : Plan) (slots : List (Slot SourceMachine)) (counters : Counters) (u : List Placed) : Type 0 where
+pub record Keeps (plan : Plan) (slots : List (Slot SourceMachine)) (counters : Counters) (u : List Placed)
+    : Type 0 where
   pub stand : AllStand machine.Stands slots (runs_in (port_of plan u))
   pub counted : HasCounted counters (port_of plan u) (report_of plan u)
 

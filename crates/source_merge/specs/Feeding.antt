@@ -38,7 +38,8 @@ pub record Feeds {V : Type 0} (reading : List Placed → Stream V) (stands : Lis
   pub list : fault ≡ None → stands (u ++ placed_run run)
 
 -- what was given before a fault is before it
-abbrev pub IsEarly : {V : Type 0} → (List Placed → Stream V) → (List Placed → Type 0) → List Cell → Option Fault → Type 0
+abbrev pub IsEarly : {V : Type 0} → (List Placed → Stream V) → (List Placed → Type 0) → List Cell →
+    Option Fault → Type 0
 IsEarly reading stands run None = Unit {0}
 IsEarly {V} reading stands run (Some f) =
     (u : List Placed) → stands u → (n : ℕ) → RisesFrom n run → (given : List (Said V × Place)) →

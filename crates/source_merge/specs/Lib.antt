@@ -1,5 +1,6 @@
 pub mod Feeding
 pub mod Routing
+pub mod RoutingLaws
 pub mod Mapping
 pub mod Counting
 pub mod Answering
@@ -7,3 +8,4 @@ pub mod Stepping
 pub mod Ending
 pub mod Bare
 pub mod Engine
+pub mod Gathered

@@ -8,4 +8,5 @@ use Rattle.source_merge.specs.declared.slot.Slot.{Slot}
 abbrev pub AreFresh : List (Slot SourceMachine) → Type 0
 AreFresh [] = Unit {0}
 AreFresh (s ∷ slots) =
-    Stands s.machine [] × (is_live s.machine ≡ true) × (held_of s.machine ≡ 0) × (skipped_by s.machine ≡ 0) × AreFresh slots
+    Stands s.machine [] × (is_live s.machine ≡ true) × (held_of s.machine ≡ 0) × (skipped_by s.machine ≡ 0)
+    × AreFresh slots

@@ -1,8 +1,7 @@
 -- What the code makes of the runs of a frame.
-use Rattle.std.specs.Prelude.{◌≡◌, ◌≢◌, ℕ, ◌+◌, ◌*◌, ◌<◌, ◌≤◌, List, [], ◌∷◌, ◌++◌, Bool, true, false, Option, None, Some, is_none, map, length}
+use Rattle.std.specs.Prelude.{◌≡◌, ◌≢◌, ℕ, ◌+◌, ◌*◌, ◌<◌, ◌≤◌, List, [], ◌∷◌, ◌++◌, map, length}
+use Rattle.std.specs.Prelude.{Bool, true, false, Option, None, Some, is_none}
 use Rattle.std.specs.Option.{option_map}
-use Rattle.std.specs.Coded.{×_prop, Unit-prop, le_prop}
-use Rattle.std.proofs.Math.Bool.{Bool-set}
 use Rattle.trace_values.specs.declared.cell.Cell.{Cell}
 use Rattle.trace_values.specs.declared.fault.Fault.{Fault}
 use Rattle.trace_values.specs.Placed.{Placed}
@@ -54,7 +53,8 @@ pub record SlotFed {M V : Type 0} (reading : M → List Placed → Stream V) (st
   pub same : reading slot.machine ≡ reading s.machine
   pub live_is : live slot.machine ≡ is_none fault
   pub few : held slot.machine + skipped slot.machine ≤ held s.machine + skipped s.machine + 2 * length run
-  pub feeds : (u : List Placed) → stands s.machine u → Feeds (reading s.machine) (stands slot.machine) u run id old new fault
+  pub feeds : (u : List Placed) → stands s.machine u →
+      Feeds (reading s.machine) (stands slot.machine) u run id old new fault
   pub early : IsEarly (reading s.machine) (stands s.machine) run fault
 
 -- After these runs one more stops the report with its fault, whatever follows.
@@ -97,17 +97,3 @@ pub record Fed {M V : Type 0} (stands : M → List Placed → Type 0) (mapped : 
 abbrev pub LiveIf : {M : Type 0} → (M → Bool) → Bool → List (Slot M) → Type 0
 LiveIf live true slots = AllLive live slots
 LiveIf live false slots = Unit {0}
-
--- each of these facts holds in one way only
-pub HaveRoom-prop : {M : Type 0} → (held skipped : M → ℕ) (n : ℕ) (slots : List (Slot M)) →
-    IsProp (HaveRoom held skipped n slots)
-HaveRoom-prop held skipped n [] = Unit-prop
-HaveRoom-prop held skipped n (s ∷ slots) = ×_prop le_prop (HaveRoom-prop held skipped n slots)
-
-pub AllLive-prop : {M : Type 0} → (live : M → Bool) (slots : List (Slot M)) → IsProp (AllLive live slots)
-AllLive-prop live [] = Unit-prop
-AllLive-prop live (s ∷ slots) = ×_prop (Bool-set (live s.machine) true) (AllLive-prop live slots)
-
-pub LiveIf-prop : {M : Type 0} → (live : M → Bool) (so : Bool) (slots : List (Slot M)) → IsProp (LiveIf live so slots)
-LiveIf-prop live true slots = AllLive-prop live slots
-LiveIf-prop live false slots = Unit-prop

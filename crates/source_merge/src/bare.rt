@@ -2,11 +2,12 @@
 
 ghost use Rattle.std.specs.Prelude.{◌≡◌, ◌+◌, ◌*◌, ◌^◌, ◌<◌, ◌≤◌, ◌++◌, ◌∷◌, [], ℕ, List, length, Some, IfSome};
 ghost use Rattle.arrayvec.specs.ArrayVec.{array_vec_len};
-ghost use Rattle.trace_values.specs.Block.{goes_on_after};
+ghost use Rattle.trace_values.specs.Block.{StopsFor, goes_on_after};
 ghost use Rattle.trace_values.specs.Stream.{StepFits};
 ghost use Rattle.trace_values.specs.declared.step.Step.TheVariants.{Item};
 ghost use Rattle.source_events.specs.Fitting.{AllFit, PacketFits};
-ghost use Rattle.source_machine.specs.Machine.{held_of, is_live, skipped_by};
+ghost use Rattle.source_machine.specs.Machine.{FinishesStp, held_of, is_live, skipped_by};
+ghost use Rattle.source_machine.specs.Seen.{packet_in};
 ghost use Rattle.source_merge.specs.declared.slot.Slot.{Slot};
 ghost use Rattle.source_merge.specs.Bare.{PieceFed, bare_events, bare_flow, gives_packet};
 ghost use Rattle.source_merge.specs.Routing.{AllLive, HaveRoom};
@@ -15,6 +16,7 @@ use crate::flow::Flow;
 use crate::slot::{EVENTS, Events, Slot, note};
 use source_events::{Packet, Stop};
 use source_machine::SourceMachine;
+use stp_codec::{PacketParts, PacketTaken};
 use trace_values::{Block, SourceId, Step};
 
 /// The source of all bytes where there is no formatter.
@@ -41,6 +43,7 @@ pub fn feed_slot_piece(
     requires some { 0 < length piece.now }
     requires offsets { at + length piece.now ≤ 2 ^ 58 }
     ensures bytes { (0 < result.bytes) × (result.bytes ≤ length piece.now) }
+    ensures stops { StopsFor result.bytes (length piece.now) result.step }
     ensures fed { (front : List (Slot SourceMachine)) (s : Slot SourceMachine) (back : List (Slot SourceMachine)) →
         slots.old ≡ front ++ (s ∷ back) → length front ≡ index → PieceFed front s back slots.new at piece.now result }
 {
@@ -59,11 +62,52 @@ pub fn next_slot_packet(
     requires live { AllLive is_live slots.now }
     ensures bytes { IfSome result (λ x. (0 < x.0) × (x.0 ≤ length piece.now)) }
     ensures fits { IfSome result (λ x. PacketFits x.1) }
-    ensures fed { (at : ℕ) (front : List (Slot SourceMachine)) (s : Slot SourceMachine) (back : List (Slot SourceMachine)) →
+    ensures fed { (at : ℕ) (front : List (Slot SourceMachine)) (s : Slot SourceMachine)
+        (back : List (Slot SourceMachine)) →
         slots.now ≡ front ++ (s ∷ back) → length front ≡ index →
-        IfSome result (λ x. PieceFed front s back slots.now at piece.now (record { bytes = x.0; step = Some (Item 0 x.1) })) }
+        IfSome result (λ x. PieceFed front s back slots.now at piece.now
+        (record { bytes = x.0; step = Some (Item 0 x.1) })) }
 {
     slots[index].machine.next_packet(piece)
+}
+
+/// The STP packet that these bytes finish, where the source of this slot is an STP source and the packet can be taken
+/// at once.
+#[inline(always)]
+pub fn next_slot_stp(
+    slots: &[Slot<SourceMachine>],
+    index: usize,
+    piece: &[u8],
+) -> Option<PacketParts>
+    requires { index < length slots.now }
+    ensures { (front : List (Slot SourceMachine)) (s : Slot SourceMachine) (back : List (Slot SourceMachine)) →
+        slots.now ≡ front ++ (s ∷ back) → length front ≡ index →
+        IfSome result (λ parts. FinishesStp s.machine piece.now parts) }
+{
+    slots[index].machine.next_stp(piece)
+}
+
+/// Takes the packet that `next_slot_stp` finds in these bytes, whose first is at this offset.
+#[inline(always)]
+pub fn finish_slot_stp(
+    slots: &mut [Slot<SourceMachine>],
+    index: usize,
+    at: u64,
+    piece: &[u8],
+    parts: PacketParts,
+) -> PacketTaken
+    requires index { index < length slots.old }
+    requires live { AllLive is_live slots.old }
+    requires room { HaveRoom held_of skipped_by (2 ^ 59) slots.old }
+    requires offsets { at + length piece.now ≤ 2 ^ 58 }
+    requires next { (front : List (Slot SourceMachine)) (s : Slot SourceMachine) (back : List (Slot SourceMachine)) →
+        slots.old ≡ front ++ (s ∷ back) → length front ≡ index → FinishesStp s.machine piece.now parts }
+    ensures bytes { (0 < result.bytes) × (result.bytes ≤ length piece.now) }
+    ensures fed { (front : List (Slot SourceMachine)) (s : Slot SourceMachine) (back : List (Slot SourceMachine)) →
+        slots.old ≡ front ++ (s ∷ back) → length front ≡ index → PieceFed front s back slots.new at piece.now
+        (record { bytes = result.bytes; step = packet_in result.half result.item }) }
+{
+    slots[index].machine.finish_stp(at, piece, parts)
 }
 
 /// How the report of a capture with no formatter goes on after this answer to the last byte of a piece.
@@ -86,7 +130,8 @@ pub fn note_bare(out: &mut Events, at: u64, step: Option<Step<Packet>>)
     requires { array_vec_len out.old + 2 ≤ EVENTS }
     ensures given { out.new.items ≡ out.old.items ++ bare_events at step }
     ensures few { array_vec_len out.new ≤ array_vec_len out.old + 2 }
-    ensures fits { IfSome step (StepFits PacketFits) → AllFit PacketFits out.old.items → AllFit PacketFits out.new.items }
+    ensures fits { IfSome step (StepFits PacketFits) → AllFit PacketFits out.old.items →
+        AllFit PacketFits out.new.items }
 {
     if let Some(step) = step {
         let _fault = note(out, bare_source(), at, step);

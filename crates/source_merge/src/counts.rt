@@ -5,16 +5,14 @@ ghost use Rattle.trace_values.specs.declared.cell.Cell.{Cell};
 ghost use Rattle.port_reader.specs.Growth.{Grows};
 ghost use Rattle.port_reader.specs.Reading.{PortReading};
 ghost use Rattle.source_merge.specs.Counting.{HasPort, port_total};
+ghost use Rattle.trace_values.specs.declared.limits.TheConstants.{COUNT_ROOM};
 
 use crate::bare::{bare_source, ends_packet};
 use frame_grammar::frame::FRAME_BYTES;
 use port_reader::PortStep;
 use source_counts::{Counts, SourceCounts};
 use source_events::{Event, Packet, PortCounts, What};
-use trace_values::{Cell, SourceId, Step};
-
-/// How many IDs there are: 0 to 126.
-const SOURCES: usize = 127;
+use trace_values::{Cell, ID_COUNT, SourceId, Step};
 
 /// The most that is counted of frames that are counted whole: more than a capture has bytes.
 const MOST_WHOLE: u64 = 1 << 37;
@@ -22,10 +20,14 @@ const MOST_WHOLE: u64 = 1 << 37;
 /// A number for each source.
 #[derive(Debug, Drop)]
 pub struct PerSource {
-    numbers: [u64; SOURCES],
+    numbers: [u64; ID_COUNT],
 }
 
 impl PerSource {
+    ghost use Rattle.std.specs.Prelude.{Option};
+    ghost use Rattle.std.specs.Option.{is_some};
+    ghost use Rattle.stp_grammar.specs.declared.item.StpItem.{StpItem};
+    ghost use Rattle.source_machine.specs.Seen.{packet_in};
     ghost use Rattle.std.specs.Prelude.{◌+◌, ◌^◌, ◌≤◌, ◌++◌, ◌∷◌, [], ℕ, List, if◌then◌else◌, ◌==◌, length};
     ghost use Rattle.source_events.specs.declared.event.Event.{Event};
     ghost use Rattle.source_events.specs.declared.packet.Packet.{Packet};
@@ -41,7 +43,7 @@ impl PerSource {
         ensures total { total_of result ≡ 0 }
     {
         PerSource {
-            numbers: [0; SOURCES],
+            numbers: [0; ID_COUNT],
         }
     }
 
@@ -56,7 +58,7 @@ impl PerSource {
     /// Adds to the number of a source. The sum of all is at most 2^60 with it.
     #[inline(always)]
     pub fn add(&mut self, id: SourceId, more: u64)
-        requires { total_of self.old + more ≤ 2 ^ 60 }
+        requires { total_of self.old + more ≤ COUNT_ROOM }
         ensures numbers { (k : ℕ) → number_of self.new k ≡ number_of self.old k + (if k == id then more else 0) }
         ensures total { total_of self.new ≡ total_of self.old + more }
     {
@@ -66,7 +68,7 @@ impl PerSource {
 
     /// Counts the events of sources that are no notices.
     pub fn add_items(&mut self, events: &[Event<Packet>])
-        requires { total_of self.old + length events.now ≤ 2 ^ 60 }
+        requires { total_of self.old + length events.now ≤ COUNT_ROOM }
         ensures items { (whole : List (List Cell)) (es : List (Event Packet)) → HasItems self.old whole es →
             HasItems self.new whole (es ++ events.now) }
         ensures total { total_of self.new ≤ total_of self.old + length events.now }
@@ -80,7 +82,7 @@ impl PerSource {
     #[inline]
     fn add_answer(&mut self, source: SourceId, step: &Option<Step<Packet>>)
         requires own { source ≡ 1 }
-        requires room { total_of self.old + 1 ≤ 2 ^ 60 }
+        requires room { total_of self.old + 1 ≤ COUNT_ROOM }
         ensures items { (whole : List (List Cell)) (es : List (Event Packet)) (at : ℕ) → HasItems self.old whole es →
             HasItems self.new whole (es ++ bare_events at step.now) }
         ensures total { total_of self.new ≤ total_of self.old + 1 }
@@ -92,7 +94,7 @@ impl PerSource {
     #[inline(always)]
     fn add_one(&mut self, source: SourceId)
         requires own { source ≡ 1 }
-        requires room { total_of self.old + 1 ≤ 2 ^ 60 }
+        requires room { total_of self.old + 1 ≤ COUNT_ROOM }
         ensures items { (whole : List (List Cell)) (es : List (Event Packet)) (at : ℕ) (packet : Packet) →
             HasItems self.old whole es → HasItems self.new whole (es ++ bare_events at (Some (Item 0 packet))) }
         ensures total { total_of self.new ≤ total_of self.old + 1 }
@@ -100,10 +102,23 @@ impl PerSource {
         self.add(source, 1);
     }
 
+    /// Counts the item of an STP packet of source 1, `source`, if it has one.
+    #[inline(always)]
+    fn add_stp(&mut self, source: SourceId, has_item: bool)
+        requires own { source ≡ 1 }
+        requires room { total_of self.old + 1 ≤ COUNT_ROOM }
+        ensures items { (whole : List (List Cell)) (es : List (Event Packet)) (at half : ℕ) (item : Option StpItem) →
+            has_item ≡ is_some item → HasItems self.old whole es →
+            HasItems self.new whole (es ++ bare_events at (packet_in half item)) }
+        ensures total { total_of self.new ≤ total_of self.old + 1 }
+    {
+        self.add(source, u64::from(has_item));
+    }
+
     /// Counts an event of a source that is no notice.
     #[inline]
     fn add_item(&mut self, event: &Event<Packet>)
-        requires { total_of self.old + 1 ≤ 2 ^ 60 }
+        requires { total_of self.old + 1 ≤ COUNT_ROOM }
         ensures items { (whole : List (List Cell)) (es : List (Event Packet)) → HasItems self.old whole es →
             HasItems self.new whole (es ++ event.now ∷ []) }
         ensures total { total_of self.new ≤ total_of self.old + 1 }
@@ -151,7 +166,7 @@ impl ByteCounts {
     #[inline]
     pub fn add_run(&mut self, run: &[Cell])
         requires some { 0 < length run.now }
-        requires room { bytes_counted self.old + length run.now ≤ 2 ^ 60 }
+        requires room { bytes_counted self.old + length run.now ≤ COUNT_ROOM }
         ensures counted { (whole runs : List (List Cell)) → HasBytes self.old whole runs →
             HasBytes self.new whole (runs ++ run.now ∷ []) }
         ensures more { bytes_counted self.new ≡ bytes_counted self.old + length run.now }
@@ -166,7 +181,7 @@ impl ByteCounts {
     /// Counts this many bytes of a capture with no formatter: those of source 1.
     #[inline(always)]
     pub fn add_bare(&mut self, bytes: u64)
-        requires { bytes_counted self.old + bytes ≤ 2 ^ 60 }
+        requires { bytes_counted self.old + bytes ≤ COUNT_ROOM }
         ensures counted { (whole : List (List Cell)) (u w : List Placed) → length w ≡ bytes →
             HasBytes self.old whole (runs_in (port_reading Bare u)) →
             HasBytes self.new whole (runs_in (port_reading Bare (u ++ w))) }
@@ -208,6 +223,10 @@ pub struct Counters {
 }
 
 impl Counters {
+    ghost use Rattle.std.specs.Prelude.{Option};
+    ghost use Rattle.std.specs.Option.{is_some};
+    ghost use Rattle.stp_grammar.specs.declared.item.StpItem.{StpItem};
+    ghost use Rattle.source_machine.specs.Seen.{packet_in};
     ghost use Rattle.std.specs.Prelude.{◌+◌, ◌*◌, ◌^◌, ◌++◌, ℕ, List, [], length, Some};
     ghost use Rattle.frame_grammar.specs.Frame.{cells, id_after};
     ghost use Rattle.port_reader.specs.Growth.{GrowsByFrame};
@@ -247,11 +266,11 @@ impl Counters {
         }
     }
 
-    /// Counts this many bytes of a capture with no formatter, each of which is a frame of one byte of source 1, and what
-    /// the answer to the last of them gave.
+    /// Counts this many bytes of a capture with no formatter, each of which is a frame of one byte of source 1, and
+    /// what the answer to the last of them gave.
     #[inline]
     pub fn add_bare(&mut self, bytes: usize, step: &Option<Step<Packet>>)
-        requires { size_of self.old + 2 * bytes + 1 ≤ 2 ^ 60 }
+        requires { size_of self.old + 2 * bytes + 1 ≤ COUNT_ROOM }
         ensures counted { (u w : List Placed) (es : List (Event Packet)) (at : ℕ) → length w ≡ bytes →
             HasCounted self.old (port_reading Bare u) es →
             HasCounted self.new (port_reading Bare (u ++ w)) (es ++ bare_events at step.now) }
@@ -266,7 +285,7 @@ impl Counters {
     /// The same of the bytes of one packet.
     #[inline(always)]
     pub fn add_packet(&mut self, bytes: usize)
-        requires { size_of self.old + 2 * bytes + 1 ≤ 2 ^ 60 }
+        requires { size_of self.old + 2 * bytes + 1 ≤ COUNT_ROOM }
         ensures counted { (u w : List Placed) (es : List (Event Packet)) (at : ℕ) (packet : Packet) → length w ≡ bytes →
             HasCounted self.old (port_reading Bare u) es →
             HasCounted self.new (port_reading Bare (u ++ w)) (es ++ bare_events at (Some (Item 0 packet))) }
@@ -278,6 +297,21 @@ impl Counters {
         self.items.add_one(bare_source());
     }
 
+    /// The same of the bytes of one STP packet, which may have an item.
+    #[inline(always)]
+    pub fn add_stp(&mut self, bytes: usize, has_item: bool)
+        requires { size_of self.old + 2 * bytes + 1 ≤ COUNT_ROOM }
+        ensures counted { (u w : List Placed) (es : List (Event Packet)) (at half : ℕ) (item : Option StpItem) →
+            has_item ≡ is_some item → length w ≡ bytes → HasCounted self.old (port_reading Bare u) es →
+            HasCounted self.new (port_reading Bare (u ++ w)) (es ++ bare_events at (packet_in half item)) }
+        ensures size { size_of self.new ≤ size_of self.old + 2 * bytes + 1 }
+        ensures same { whole_of self.new ≡ whole_of self.old }
+    {
+        self.bytes.add_bare(bytes as u64);
+        self.port.frames += bytes as u64;
+        self.items.add_stp(bare_source(), has_item);
+    }
+
     /// Counts a frame by its bytes, with this many half synchronisations between its halfwords, where no source is
     /// mapped. `before` is the ID before it, and the answer the ID after it.
     #[inline]
@@ -287,8 +321,8 @@ impl Counters {
         halves: usize,
         before: Option<SourceId>,
     ) -> Option<SourceId>
-        requires room { size_of self.old + halves + 1 ≤ 2 ^ 60 }
-        requires whole { whole_of self.old + FRAME_BYTES ≤ 2 ^ 60 }
+        requires room { size_of self.old + halves + 1 ≤ COUNT_ROOM }
+        requires whole { whole_of self.old + FRAME_BYTES ≤ COUNT_ROOM }
         ensures counted { (mode : FramesMode) (u v : List Placed) (at : List ℕ) (es more : List (Event Packet)) →
             let r = port_reading mode u in let new = port_reading mode v in
             GrowsByFrame r new halves (cells frame.now at before) → AreItems r es → AreItems new more →
@@ -304,7 +338,7 @@ impl Counters {
 
     /// How many bytes and items a source has.
     pub fn of(&self, id: SourceId) -> Counts
-        requires size { size_of self.now ≤ 2 ^ 60 }
+        requires size { size_of self.now ≤ COUNT_ROOM }
         requires whole { whole_of self.now ≤ MOST_WHOLE }
         ensures value { (r : PortReading) (es : List (Event Packet)) → HasCounted self.now r es →
             result ≡ record { bytes = bytes_in id (runs_in r); items = items_in id es } }
@@ -319,9 +353,10 @@ impl Counters {
 
     /// How many bytes have no source.
     pub fn unattributed(&self) -> u64
-        requires size { size_of self.now ≤ 2 ^ 60 }
+        requires size { size_of self.now ≤ COUNT_ROOM }
         requires whole { whole_of self.now ≤ MOST_WHOLE }
-        ensures { (r : PortReading) (es : List (Event Packet)) → HasCounted self.now r es → result ≡ unattributed_in (runs_in r) }
+        ensures { (r : PortReading) (es : List (Event Packet)) → HasCounted self.now r es →
+            result ≡ unattributed_in (runs_in r) }
     {
         self.bytes.unattributed() + self.frames.unattributed().min(MOST_WHOLE)
     }
@@ -330,7 +365,7 @@ impl Counters {
 /// Counts what a step of the port says: a frame, or a synchronisation.
 #[inline]
 pub fn add_step(counts: &mut PortCounts, step: &PortStep)
-    requires { port_total counts.old < 2 ^ 60 }
+    requires { port_total counts.old < COUNT_ROOM }
     ensures counted { (r new : PortReading) (at : ℕ) (cells : List Cell) → Grows r new at step.now cells →
         HasPort counts.old r → HasPort counts.new new }
     ensures total { port_total counts.new ≤ port_total counts.old + 1 }

@@ -4,11 +4,14 @@ ghost use Rattle.std.specs.Prelude.{◌≡◌, ◌+◌, ◌*◌, ◌^◌, ◌≤
 ghost use Rattle.port_reader.specs.Reader.{is_live as is_port_live, skipped_by as skipped_by_port, tail_of};
 ghost use Rattle.source_events.specs.Plan.{is_sound};
 ghost use Rattle.source_machine.specs.Machine.{held_of, is_live as is_machine_live, skipped_by};
+ghost use Rattle.source_merge.specs.declared.engine.TheConstants.{GREATEST_OFFSET};
 ghost use Rattle.source_merge.specs.Counting.{size_of, whole_of};
-ghost use Rattle.source_merge.specs.Routing.{HaveRoom, HaveRoom-prop, LiveIf, LiveIf-prop};
+ghost use Rattle.source_merge.specs.Routing.{HaveRoom, LiveIf};
+ghost use Rattle.source_merge.specs.RoutingLaws.{HaveRoom-prop, LiveIf-prop};
 
 use crate::bare::{
-    bare_source, feed_slot_piece, flow_after, is_sound_answer, next_slot_packet, note_bare,
+    bare_source, feed_slot_piece, finish_slot_stp, flow_after, is_sound_answer, next_slot_packet,
+    next_slot_stp, note_bare,
 };
 use crate::counts::Counters;
 use crate::flow::{Fed, Flow, flow_of};
@@ -19,19 +22,24 @@ use crate::step::take_step;
 use crate::tails::source_tails;
 use arrayvec::ArrayVec;
 use capture_plan::FramesMode;
-use frame_grammar::frame::FRAME_BYTES;
+use frame_grammar::frame::{FRAME_BYTES, cells_of};
 use frame_grammar::gather::gather_frame;
+use frame_grammar::placed::{PlacedFrame, gather_frame_at};
 use frame_grammar::plain::plain_frame;
-use port_reader::PortReader;
+use port_reader::{PortReader, PortStep};
 use source_counts::Counts;
 use source_events::{Packet, Plan, PortCounts, PortMode, Tails};
+use stp_codec::PacketTaken;
 use trace_values::{Block, Cell, SourceId};
+
+/// The greatest offset of a byte of a capture.
+pub const GREATEST_OFFSET: u64 = 1 << 36;
 
 /// Reads a capture byte by byte, its port and each mapped source, and gives the events of its report in order. It keeps
 /// what it needs of the unfinished frame and of one unfinished packet of each source.
 ///
-/// It **stands for** a list of placed bytes, whose offsets rise, if what it keeps is that of the list's report. Its clauses
-/// hold for every list that it stood for before the call; a new engine stands for the empty one.
+/// It **stands for** a list of placed bytes, whose offsets rise, if what it keeps is that of the list's report. Its
+/// clauses hold for every list that it stood for before the call; a new engine stands for the empty one.
 #[derive(Drop)]
 pub struct Engine {
     plan: Plan,
@@ -50,13 +58,14 @@ pub struct Engine {
     ghost size: { size_of counters ≤ 46 * count },
     ghost whole: { whole_of counters ≤ count },
     ghost within: { count ≤ next },
-    ghost limit: { next ≤ 2 ^ 36 + 1 },
+    ghost limit: { next ≤ GREATEST_OFFSET + 1 },
     ghost port_live: { live ≡ true → is_port_live port ≡ true },
     ghost lives: { LiveIf is_machine_live live slots.items } by { LiveIf-prop is_machine_live live slots.items },
 }
 
 impl Engine {
-    ghost use Rattle.std.specs.Prelude.{ℕ, ◌<◌, ◌-◌, ◌++◌, ◌∷◌, [], List, length, take, is_none, position, ◌==◌, None, Some, IfSome};
+    ghost use Rattle.std.specs.Prelude.{ℕ, ◌<◌, ◌-◌, ◌++◌, ◌∷◌, [], List, length, take, is_none, position, ◌==◌, None};
+    ghost use Rattle.std.specs.Prelude.{Some, IfSome};
     ghost use Rattle.capture_plan.specs.declared.frames.FramesMode.TheVariants.{Bare};
     ghost use Rattle.arrayvec.specs.ArrayVec.{array_vec_len};
     ghost use Rattle.trace_values.specs.Placed.{Placed, byte_at, placed_from};
@@ -64,14 +73,17 @@ impl Engine {
     ghost use Rattle.trace_values.specs.Stream.{StepFits};
     ghost use Rattle.trace_values.specs.declared.step.Step.TheVariants.{Item};
     ghost use Rattle.deformatter.specs.Block.{FedAs};
+    ghost use Rattle.frame_grammar.specs.Frame.{IsProperFrame};
     ghost use Rattle.frame_grammar.specs.Whole.{IsWhole};
     ghost use Rattle.frame_grammar.specs.declared.frame.TheConstants.{FRAME_BYTES};
     ghost use Rattle.port_reader.specs.Modes.{is_bare};
     ghost use Rattle.port_reader.specs.Reader.{IsBetween};
     ghost use Rattle.source_events.specs.Fitting.{AllFit, PacketFits};
     ghost use Rattle.source_events.specs.Tails.{port_counts_of, source_counts_of, tails_of};
+    ghost use Rattle.source_machine.specs.Seen.{packet_in};
     ghost use Rattle.source_merge.specs.Answering.{Answers, fault_of, goes_on};
     ghost use Rattle.source_merge.specs.Bare.{bare_events, bare_flow};
+    ghost use Rattle.source_merge.specs.Gathered.{IsGathered};
     ghost use Rattle.source_merge.specs.declared.flow.Flow.TheVariants.{Going};
     ghost use Rattle.source_merge.specs.Engine.{Stands, is_live, next_of, plan_of};
 
@@ -121,14 +133,14 @@ impl Engine {
         self.next
     }
 
-    /// Takes the next byte, which is at this offset, and gives the events that are decided with it, in order. `Stopped` says
-    /// that the report's fault has become certain; `out` then has the events before it.
+    /// Takes the next byte, which is at this offset, and gives the events that are decided with it, in order. `Stopped`
+    /// says that the report's fault has become certain; `out` then has the events before it.
     ///
-    /// The engine is live, `out` is empty, and the offset is at least `next()` and at most 2^36.
+    /// The engine is live, `out` is empty, and the offset is at least `next()` and at most `GREATEST_OFFSET`.
     pub fn feed(&mut self, at: u64, byte: u8, out: &mut Events) -> Flow
         requires live { is_live self.old ≡ true }
         requires empty { out.old.items ≡ [] }
-        requires offset { (next_of self.old ≤ at) × (at ≤ 2 ^ 36) }
+        requires offset { (next_of self.old ≤ at) × (at ≤ GREATEST_OFFSET) }
         ensures same { plan_of self.new ≡ plan_of self.old }
         ensures next { next_of self.new ≡ at + 1 }
         ensures live { is_live self.new ≡ goes_on result }
@@ -141,17 +153,17 @@ impl Engine {
         self.feed_step(at, &[byte], out).flow
     }
 
-    /// Takes bytes from the front of a piece, the first of which is at this offset, up to the first byte at which `feed`
-    /// would give an event or `Stopped`, or to the piece's end. It answers and leaves what feeding these bytes one by one
-    /// by `feed` does.
+    /// Takes bytes from the front of a piece, the first of which is at this offset, up to the first byte at which
+    /// `feed` would give an event or `Stopped`, or to the piece's end. It answers and leaves what feeding these bytes
+    /// one by one by `feed` does.
     ///
-    /// The engine is live, `out` is empty, and the piece has a byte. Its first offset is at least `next()`, and its last one
-    /// at most 2^36.
+    /// The engine is live, `out` is empty, and the piece has a byte. Its first offset is at least `next()`, and its
+    /// last one at most `GREATEST_OFFSET`.
     pub fn feed_block(&mut self, at: u64, piece: &[u8], out: &mut Events) -> Fed
         requires live { is_live self.old ≡ true }
         requires empty { out.old.items ≡ [] }
         requires some { 0 < length piece.now }
-        requires offsets { (next_of self.old ≤ at) × (at + length piece.now ≤ 2 ^ 36 + 1) }
+        requires offsets { (next_of self.old ≤ at) × (at + length piece.now ≤ GREATEST_OFFSET + 1) }
         ensures same { plan_of self.new ≡ plan_of self.old }
         ensures bytes { (0 < result.bytes) × (result.bytes ≤ length piece.now) }
         ensures stops { out.new.items ≡ [] → result.flow ≡ Going → result.bytes ≡ length piece.now }
@@ -187,7 +199,7 @@ impl Engine {
         requires live { is_live self.old ≡ true }
         requires empty { out.old.items ≡ [] }
         requires some { 0 < length piece.now }
-        requires offsets { (next_of self.old ≤ at) × (at + length piece.now ≤ 2 ^ 36 + 1) }
+        requires offsets { (next_of self.old ≤ at) × (at + length piece.now ≤ GREATEST_OFFSET + 1) }
         ensures same { plan_of self.new ≡ plan_of self.old }
         ensures bytes { (0 < result.bytes) × (result.bytes ≤ length piece.now) }
         ensures next { next_of self.new ≡ at + result.bytes }
@@ -201,7 +213,7 @@ impl Engine {
             u at (take result.bytes piece.now) }
     {
         if !self.is_bare() {
-            return self.feed_step(at, piece, out);
+            return self.feed_framed(at, piece, out);
         }
         match self.feed_bare(at, piece) {
             Some(block) => {
@@ -238,13 +250,13 @@ impl Engine {
         }
     }
 
-    /// Takes bytes from the front of a piece up to the first one that ends a frame or a synchronisation, or is a fault, or
-    /// to the piece's end. With no formatter it takes one byte.
+    /// Takes bytes from the front of a piece up to the first one that ends a frame or a synchronisation, or is a fault,
+    /// or to the piece's end. With no formatter it takes one byte.
     fn feed_step(&mut self, at: u64, piece: &[u8], out: &mut Events) -> Fed
         requires live { is_live self.old ≡ true }
         requires empty { out.old.items ≡ [] }
         requires some { 0 < length piece.now }
-        requires offsets { (next_of self.old ≤ at) × (at + length piece.now ≤ 2 ^ 36 + 1) }
+        requires offsets { (next_of self.old ≤ at) × (at + length piece.now ≤ GREATEST_OFFSET + 1) }
         ensures same { plan_of self.new ≡ plan_of self.old }
         ensures bytes { (0 < result.bytes) × (result.bytes ≤ length piece.now) }
         ensures next { next_of self.new ≡ at + result.bytes }
@@ -276,15 +288,88 @@ impl Engine {
         }
     }
 
-    /// The packet of source 1 that a piece begins with, the first byte of which is at this offset, and how many bytes it
-    /// takes, where there is no formatter, the source is mapped, and the packet can be taken at once. It leaves what
+    /// Takes bytes from the front of a piece as `feed_step` does, and a whole frame with half synchronisations between
+    /// its halfwords at once.
+    fn feed_framed(&mut self, at: u64, piece: &[u8], out: &mut Events) -> Fed
+        requires live { is_live self.old ≡ true }
+        requires empty { out.old.items ≡ [] }
+        requires some { 0 < length piece.now }
+        requires offsets { (next_of self.old ≤ at) × (at + length piece.now ≤ GREATEST_OFFSET + 1) }
+        ensures same { plan_of self.new ≡ plan_of self.old }
+        ensures bytes { (0 < result.bytes) × (result.bytes ≤ length piece.now) }
+        ensures next { next_of self.new ≡ at + result.bytes }
+        ensures live { is_live self.new ≡ goes_on result.flow }
+        ensures few { array_vec_len out.new ≤ 30 }
+        ensures fits { AllFit PacketFits out.new.items }
+        ensures list { (u : List Placed) → Stands self.old u →
+            Stands self.new (u ++ placed_from at (take result.bytes piece.now)) }
+        ensures fed { (u : List Placed) → Stands self.old u →
+            FedAs (Answers (plan_of self.old) [] Going) (Answers (plan_of self.old) out.new.items result.flow)
+            u at (take result.bytes piece.now) }
+    {
+        // The port itself takes a frame with no half synchronisation at once.
+        if self.port.is_between() && plain_frame(piece).is_none() {
+            if let Some(frame) = gather_frame_at(at, piece) {
+                let flow = self.feed_gathered(at, &frame, out);
+                return Fed {
+                    bytes: frame.size(),
+                    flow,
+                };
+            }
+        }
+        self.feed_step(at, piece, out)
+    }
+
+    /// Takes a whole frame, the first byte of which is at this offset.
+    fn feed_gathered(&mut self, at: u64, frame: &PlacedFrame, out: &mut Events) -> Flow
+        requires live { is_live self.old ≡ true }
+        requires empty { out.old.items ≡ [] }
+        requires between { IsBetween self.old.port }
+        requires proper { IsProperFrame frame.now.bytes }
+        requires offsets { (next_of self.old ≤ at) × (at + (FRAME_BYTES + 2 * frame.now.halves) ≤ GREATEST_OFFSET + 1) }
+        ensures same { plan_of self.new ≡ plan_of self.old }
+        ensures next { next_of self.new ≡ at + (FRAME_BYTES + 2 * frame.now.halves) }
+        ensures live { is_live self.new ≡ goes_on result }
+        ensures few { array_vec_len out.new ≤ 30 }
+        ensures fits { AllFit PacketFits out.new.items }
+        ensures list { (u : List Placed) (w : List ℕ) → Stands self.old u → IsGathered at w frame.now →
+            Stands self.new (u ++ placed_from at w) }
+        ensures fed { (u : List Placed) (w : List ℕ) → Stands self.old u → IsGathered at w frame.now →
+            FedAs (Answers (plan_of self.old) [] Going) (Answers (plan_of self.old) out.new.items result) u at w }
+    {
+        self.cells.clear();
+        let after = cells_of(
+            &frame.bytes,
+            &frame.offsets,
+            self.port.id(),
+            &mut self.cells,
+        );
+        self.port.pass_frame(after);
+        self.counters.port.halves += frame.halves as u64;
+        let bytes = frame.size() as u64;
+        let stop = take_step(
+            self.slots.as_mut_slice(),
+            &mut self.counters,
+            at + (bytes - 1),
+            PortStep::Frame,
+            self.cells.as_slice(),
+            out,
+        );
+        self.count += bytes;
+        self.next = at + bytes;
+        self.live = stop.is_none();
+        flow_of(stop)
+    }
+
+    /// The packet of source 1 that a piece begins with, the first byte of which is at this offset, and how many bytes
+    /// it takes, where there is no formatter, the source is mapped, and the packet can be taken at once. It leaves what
     /// `feed_block` does, which gives this packet as an event. None says nothing of the bytes, and takes none.
     ///
-    /// The engine is live. The piece's first offset is at least `next()`, and its last one at most 2^36.
+    /// The engine is live. The piece's first offset is at least `next()`, and its last one at most `GREATEST_OFFSET`.
     #[inline(always)]
     pub fn take_packet(&mut self, at: u64, piece: &[u8]) -> Option<(usize, Packet)>
         requires live { is_live self.old ≡ true }
-        requires offsets { (next_of self.old ≤ at) × (at + length piece.now ≤ 2 ^ 36 + 1) }
+        requires offsets { (next_of self.old ≤ at) × (at + length piece.now ≤ GREATEST_OFFSET + 1) }
         ensures none { result ≡ None → self.new ≡ self.old }
         ensures same { plan_of self.new ≡ plan_of self.old }
         ensures bytes { IfSome result (λ x. (0 < x.0) × (x.0 ≤ length piece.now)) }
@@ -309,17 +394,53 @@ impl Engine {
         Some((bytes, packet))
     }
 
-    /// Where there is no formatter and source 1 is mapped: takes its bytes from the front of a piece, the first of which is
-    /// at this offset, up to the first one that ends a packet or is a fault, or to the piece's end, and gives the answer of
-    /// the source's machine to the last of them. It leaves what `feed_block` does, which gives the events of that answer
-    /// (`note_bare`). None for every other plan: then it takes nothing.
+    /// Where there is no formatter and source 1 is an STP source: takes the packet that the bytes of a piece finish,
+    /// the first of which is at this offset, with all of the byte in which it ends, where it can be taken at once. It
+    /// leaves what `feed_block` does, which gives the packet's item as an event, if it has one. None says nothing of
+    /// the bytes, and takes none.
     ///
-    /// The engine is live, and the piece has a byte. Its first offset is at least `next()`, and its last one at most 2^36.
+    /// The engine is live. The piece's first offset is at least `next()`, and its last one at most `GREATEST_OFFSET`.
+    #[inline(always)]
+    pub fn take_stp(&mut self, at: u64, piece: &[u8]) -> Option<PacketTaken>
+        requires live { is_live self.old ≡ true }
+        requires offsets { (next_of self.old ≤ at) × (at + length piece.now ≤ GREATEST_OFFSET + 1) }
+        ensures none { result ≡ None → self.new ≡ self.old }
+        ensures same { plan_of self.new ≡ plan_of self.old }
+        ensures bytes { IfSome result (λ x. (0 < x.bytes) × (x.bytes ≤ length piece.now)) }
+        ensures next { IfSome result (λ x. next_of self.new ≡ at + x.bytes) }
+        ensures live { is_live self.new ≡ true }
+        ensures fits { IfSome result (λ x. IfSome (packet_in x.half x.item) (StepFits PacketFits)) }
+        ensures list { (u : List Placed) → Stands self.old u →
+            IfSome result (λ x. Stands self.new (u ++ placed_from at (take x.bytes piece.now))) }
+        ensures fed { (u : List Placed) → Stands self.old u → IfSome result (λ x. let plan = plan_of self.old in
+            let given = bare_events (at + (x.bytes - 1)) (packet_in x.half x.item) in
+            FedAs (Answers plan [] Going) (Answers plan given Going) u at (take x.bytes piece.now)) }
+    {
+        let Some(index) = self.bare_slot() else {
+            return None;
+        };
+        let Some(parts) = next_slot_stp(self.slots.as_slice(), index, piece) else {
+            return None;
+        };
+        let taken = finish_slot_stp(self.slots.as_mut_slice(), index, at, piece, parts);
+        self.counters.add_stp(taken.bytes, taken.item.is_some());
+        self.count += taken.bytes as u64;
+        self.next = at + taken.bytes as u64;
+        Some(taken)
+    }
+
+    /// Where there is no formatter and source 1 is mapped: takes its bytes from the front of a piece, the first of
+    /// which is at this offset, up to the first one that ends a packet or is a fault, or to the piece's end, and gives
+    /// the answer of the source's machine to the last of them. It leaves what `feed_block` does, which gives the events
+    /// of that answer (`note_bare`). None for every other plan: then it takes nothing.
+    ///
+    /// The engine is live, and the piece has a byte. Its first offset is at least `next()`, and its last one at most
+    /// `GREATEST_OFFSET`.
     #[inline(never)]
     pub fn feed_bare(&mut self, at: u64, piece: &[u8]) -> Option<Block<Packet>>
         requires live { is_live self.old ≡ true }
         requires some { 0 < length piece.now }
-        requires offsets { (next_of self.old ≤ at) × (at + length piece.now ≤ 2 ^ 36 + 1) }
+        requires offsets { (next_of self.old ≤ at) × (at + length piece.now ≤ GREATEST_OFFSET + 1) }
         ensures none { result ≡ None → self.new ≡ self.old }
         ensures same { plan_of self.new ≡ plan_of self.old }
         ensures bytes { IfSome result (λ b. (0 < b.bytes) × (b.bytes ≤ length piece.now)) }
@@ -344,15 +465,15 @@ impl Engine {
         Some(block)
     }
 
-    /// Where no source is mapped: takes the whole frame that a piece begins with, whose first byte is at this offset, and
-    /// answers how many bytes that is. It leaves what `feed_block` does, whose events are not made here. None where no
-    /// whole frame is there, and for every other plan: then it takes nothing.
+    /// Where no source is mapped: takes the whole frame that a piece begins with, whose first byte is at this offset,
+    /// and answers how many bytes that is. It leaves what `feed_block` does, whose events are not made here. None where
+    /// no whole frame is there, and for every other plan: then it takes nothing.
     ///
-    /// The engine is live. The piece's first offset is at least `next()`, and its last one at most 2^36.
+    /// The engine is live. The piece's first offset is at least `next()`, and its last one at most `GREATEST_OFFSET`.
     #[inline]
     pub fn count_frame(&mut self, at: u64, piece: &[u8]) -> Option<usize>
         requires live { is_live self.old ≡ true }
-        requires offsets { (next_of self.old ≤ at) × (at + length piece.now ≤ 2 ^ 36 + 1) }
+        requires offsets { (next_of self.old ≤ at) × (at + length piece.now ≤ GREATEST_OFFSET + 1) }
         ensures none { result ≡ None → self.new ≡ self.old }
         ensures same { plan_of self.new ≡ plan_of self.old }
         ensures bytes { IfSome result (λ n. (0 < n) × (n ≤ length piece.now)) }
@@ -383,7 +504,7 @@ impl Engine {
         requires live { is_live self.old ≡ true }
         requires none { self.old.slots.items ≡ [] }
         requires between { IsBetween self.old.port }
-        requires offsets { (next_of self.old ≤ at) × (at + (FRAME_BYTES + 2 * halves) ≤ 2 ^ 36 + 1) }
+        requires offsets { (next_of self.old ≤ at) × (at + (FRAME_BYTES + 2 * halves) ≤ GREATEST_OFFSET + 1) }
         ensures same { plan_of self.new ≡ plan_of self.old }
         ensures next { next_of self.new ≡ at + (FRAME_BYTES + 2 * halves) }
         ensures live { is_live self.new ≡ true }
@@ -414,8 +535,8 @@ impl Engine {
         self.counters.port
     }
 
-    /// How the capture ends here: how its port and each mapped source were read, what was skipped, and what is left over.
-    /// The engine is live.
+    /// How the capture ends here: how its port and each mapped source were read, what was skipped, and what is left
+    /// over. The engine is live.
     pub fn finish(&self) -> Tails
         requires { is_live self.now ≡ true }
         ensures { (u : List Placed) → Stands self.now u → result ≡ tails_of (plan_of self.now) u }

@@ -14,6 +14,6 @@ mod tails;
 mod tests;
 
 pub use bare::{bare_source, flow_after, note_bare};
-pub use engine::Engine;
+pub use engine::{Engine, GREATEST_OFFSET};
 pub use flow::{Fed, Flow};
 pub use slot::{EVENTS, Events};

@@ -1,6 +1,7 @@
 //! The runs of a frame, each to its source.
 
-ghost use Rattle.std.specs.Prelude.{◌≡◌, ◌+◌, ◌*◌, ◌^◌, ◌<◌, ◌≤◌, ◌++◌, ◌∷◌, [], ℕ, List, length, is_none, true, None, Some, position, ◌==◌};
+ghost use Rattle.std.specs.Prelude.{◌≡◌, ◌+◌, ◌*◌, ◌^◌, ◌<◌, ◌≤◌, ◌++◌, ◌∷◌, [], ℕ, List, length, is_none, true, None};
+ghost use Rattle.std.specs.Prelude.{Some, position, ◌==◌};
 ghost use Rattle.arrayvec.specs.ArrayVec.{array_vec_len};
 ghost use Rattle.trace_values.specs.declared.cell.Cell.{Cell};
 ghost use Rattle.source_events.specs.Runs.{RisesFrom, IsRunFrom, end_of, runs_of, id_of};
@@ -9,7 +10,8 @@ ghost use Rattle.source_events.specs.Report.{raw_events, triggers};
 ghost use Rattle.source_events.specs.Fitting.{AllFit, PacketFits};
 ghost use Rattle.source_machine.specs.declared.machine.SourceMachine.{SourceMachine};
 ghost use Rattle.source_machine.specs.Machine.{Stands, held_of, is_live, reading_of, skipped_by};
-ghost use Rattle.source_merge.specs.Routing.{mapped_of, AllLive, AllStand, HaveRoom, AreDistinct, Took, Fed, RunsBetween, SlotFed};
+ghost use Rattle.source_merge.specs.Routing.{mapped_of, AllLive, AllStand, HaveRoom, AreDistinct, Took, Fed};
+ghost use Rattle.source_merge.specs.Routing.{RunsBetween, SlotFed};
 ghost use Rattle.source_merge.specs.Counting.{HasBytes, bytes_counted};
 ghost use Rattle.source_merge.specs.declared.slot.Slot.{Slot};
 
@@ -85,8 +87,10 @@ fn feed_slot(
     requires size { length run.now ≤ 15 }
     requires room { HaveRoom held_of skipped_by (2 ^ 59) slots.old }
     requires events { array_vec_len out.old + 2 * length run.now ≤ EVENTS }
-    ensures fed { (front : List (Slot SourceMachine)) (s : Slot SourceMachine) (back : List (Slot SourceMachine)) → slots.old ≡ front ++ (s ∷ back) → length front ≡ index →
-        SlotFed reading_of Stands is_live held_of skipped_by front s back slots.new run.now id out.old.items out.new.items result }
+    ensures fed { (front : List (Slot SourceMachine)) (s : Slot SourceMachine) (back : List (Slot SourceMachine)) →
+        slots.old ≡ front ++ (s ∷ back) → length front ≡ index →
+        SlotFed reading_of Stands is_live held_of skipped_by front s back slots.new run.now id
+        out.old.items out.new.items result }
     ensures events { array_vec_len out.new ≤ array_vec_len out.old + 2 * length run.now }
     ensures fits { AllFit PacketFits out.old.items → AllFit PacketFits out.new.items }
 {
@@ -102,10 +106,12 @@ fn take_run(slots: &mut [Slot<SourceMachine>], run: &[Cell], out: &mut Events) -
     requires events { array_vec_len out.old + 2 * length run.now ≤ EVENTS }
     ensures same { mapped_of reading_of slots.new ≡ mapped_of reading_of slots.old }
     ensures live { result ≡ None → AllLive is_live slots.new }
-    ensures room { (n : ℕ) → HaveRoom held_of skipped_by n slots.old → HaveRoom held_of skipped_by (n + 2 * length run.now) slots.new }
+    ensures room { (n : ℕ) → HaveRoom held_of skipped_by n slots.old →
+        HaveRoom held_of skipped_by (n + 2 * length run.now) slots.new }
     ensures events { array_vec_len out.new ≤ array_vec_len out.old + 2 * length run.now }
     ensures fits { AllFit PacketFits out.old.items → AllFit PacketFits out.new.items }
-    ensures took { (runs : List (List Cell)) (n : ℕ) → AreDistinct (mapped_of reading_of slots.old) → AllStand Stands slots.old runs → IsRunFrom n run.now →
+    ensures took { (runs : List (List Cell)) (n : ℕ) → AreDistinct (mapped_of reading_of slots.old) →
+        AllStand Stands slots.old runs → IsRunFrom n run.now →
         Took Stands (mapped_of reading_of slots.old) slots.new runs n run.now out.old.items out.new.items result }
 {
     let first = run[0];

@@ -1,16 +1,19 @@
 //! A mapped source, and a run of its bytes.
 
-ghost use Rattle.std.specs.Prelude.{◌≡◌, ◌+◌, ◌*◌, ◌^◌, ◌<◌, ◌≤◌, ◌++◌, List, length, take, is_none, true, Some, IfSome};
+ghost use Rattle.std.specs.Prelude.{◌≡◌, ◌+◌, ◌*◌, ◌^◌, ◌<◌, ◌≤◌, ◌++◌, List, length, take, is_none, true, Some};
+ghost use Rattle.std.specs.Prelude.{IfSome};
 ghost use Rattle.arrayvec.specs.ArrayVec.{array_vec_len};
 ghost use Rattle.trace_values.specs.Placed.{Placed};
 ghost use Rattle.trace_values.specs.Block.{given_after, goes_on_after};
 ghost use Rattle.trace_values.specs.Stream.{StepFits, given_by};
+ghost use Rattle.itm_codec.specs.Wholes.{kept_at};
 ghost use Rattle.source_events.specs.Runs.{bytes_of};
 ghost use Rattle.source_events.specs.Merge.{told};
 ghost use Rattle.source_events.specs.Report.{lifted};
 ghost use Rattle.source_events.specs.Fitting.{AllFit, PacketFits};
 ghost use Rattle.source_machine.specs.Machine.{Stands, held_of, is_live, reading_of, skipped_by};
 ghost use Rattle.source_merge.specs.Feeding.{Feeds, IsEarly, IsFrom, TakesCells, last_fault, step_fault};
+ghost use Rattle.trace_values.specs.declared.limits.TheConstants.{COUNT_ROOM};
 
 use arrayvec::ArrayVec;
 use capture_plan::PacketsMode;
@@ -110,6 +113,24 @@ fn note_last(
     }
 }
 
+/// Notes a packet whose last byte is at this offset, where there is one.
+#[inline(always)]
+fn note_packet(out: &mut Events, source: SourceId, at: u64, packet: Option<Packet>)
+    requires { array_vec_len out.old + 1 ≤ EVENTS }
+    ensures given { out.new.items ≡
+        out.old.items ++ told (Some source) (lifted (kept_at (record { at = at; half = 0 }) packet)) }
+    ensures few { array_vec_len out.new ≤ array_vec_len out.old + 1 }
+{
+    if let Some(packet) = packet {
+        out.push(Event {
+            at,
+            half: 0,
+            source: Some(source),
+            what: What::Packet(packet),
+        });
+    }
+}
+
 /// How many of these cells, from the first on, are at one offset after the other, the first of them at this one; none
 /// from `FAR` on.
 #[inline]
@@ -153,8 +174,8 @@ fn piece_length(machine: &SourceMachine, at: u64, cells: &[Cell]) -> usize
     }
 }
 
-/// Feeds cells from the front of these, whose bytes are `bytes`: of the first `count`, which are at one offset after the
-/// other from this one on, up to the first to which the answer is neither `Quiet` nor `Skipping`.
+/// Feeds cells from the front of these, whose bytes are `bytes`: of the first `count`, which are at one offset after
+/// the other from this one on, up to the first to which the answer is neither `Quiet` nor `Skipping`.
 #[inline(always)]
 fn feed_cells(
     machine: &mut SourceMachine,
@@ -170,7 +191,7 @@ fn feed_cells(
     requires from { IsFrom at (take count cells.now) }
     requires near { at ≤ FAR }
     requires bytes { bytes.now ≡ bytes_of cells.now }
-    requires room { held_of machine.old + skipped_by machine.old + 2 * length cells.now ≤ 2 ^ 60 }
+    requires room { held_of machine.old + skipped_by machine.old + 2 * length cells.now ≤ COUNT_ROOM }
     ensures same { reading_of machine.new ≡ reading_of machine.old }
     ensures bytes { (0 < result.bytes) × (result.bytes ≤ length cells.now) }
     ensures takes { (u : List Placed) → Stands machine.old u →
@@ -184,7 +205,7 @@ fn feed_cells(
 }
 
 /// Feeds a run of this source to its machine, up to a fault, and notes what it gives. It takes a packet at once whose
-/// bytes are all in the run.
+/// bytes are all in the run, and so it does the part of one that the run before it began, or the next one ends.
 pub fn feed_machine(
     machine: &mut SourceMachine,
     source: SourceId,
@@ -193,7 +214,7 @@ pub fn feed_machine(
 ) -> Option<Fault>
     requires live { is_live machine.old ≡ true }
     requires size { length run.now ≤ 15 }
-    requires room { held_of machine.old + skipped_by machine.old + 2 * length run.now ≤ 2 ^ 60 }
+    requires room { held_of machine.old + skipped_by machine.old + 2 * length run.now ≤ COUNT_ROOM }
     requires events { array_vec_len out.old + 2 * length run.now ≤ EVENTS }
     ensures same { reading_of machine.new ≡ reading_of machine.old }
     ensures feeds { (u : List Placed) → Stands machine.old u →
@@ -210,12 +231,11 @@ pub fn feed_machine(
     while done < run.len() {
         if let Some((count, packet)) = machine.next_packet(&bytes.as_slice()[done..]) {
             done += count;
-            out.push(Event {
-                at: run[done - 1].at,
-                half: 0,
-                source: Some(source),
-                what: What::Packet(packet),
-            });
+            note_packet(out, source, run[done - 1].at, Some(packet));
+        } else if let Some(cut) = machine.next_cut(&bytes.as_slice()[done..]) {
+            machine.keep_partial(cut.partial);
+            done += cut.bytes;
+            note_packet(out, source, run[done - 1].at, cut.packet);
         } else {
             let cell = run[done];
             let count = piece_length(machine, cell.at, &run[done..]);

@@ -51,7 +51,8 @@ fn take_ended(
     ensures taken { (mode : FramesMode) (u : List Placed) (byte : ℕ) → BytesRise 0 at u →
         Answers mode step cells.now u at byte → (port_reading mode u).fault ≡ None →
         AreDistinct (mapped_of reading_of slots.old) → AllStand Stands slots.old (runs_in (port_reading mode u)) →
-        StepTaken Stands (mapped_of reading_of slots.old) slots.new mode u (u ++ byte_at at byte ∷ []) out.new.items result }
+        StepTaken Stands (mapped_of reading_of slots.old) slots.new mode u (u ++ byte_at at byte ∷ [])
+        out.new.items result }
     ensures counted { (whole : List (List Cell)) (mode : FramesMode) (u : List Placed) (byte : ℕ) → result ≡ None →
         Answers mode step cells.now u at byte → HasBytes counts.old whole (runs_in (port_reading mode u)) →
         HasBytes counts.new whole (runs_in (port_reading mode (u ++ byte_at at byte ∷ []))) }
@@ -75,8 +76,8 @@ fn take_ended(
     }
 }
 
-/// Takes a step of the port at this offset, where it ends a frame with these cells, and gives the events that are decided
-/// with it. Answers the report's fault where it is certain now.
+/// Takes a step of the port at this offset, where it ends a frame with these cells, and gives the events that are
+/// decided with it. Answers the report's fault where it is certain now.
 pub fn take_step(
     slots: &mut [Slot<SourceMachine>],
     counters: &mut Counters,
@@ -102,7 +103,8 @@ pub fn take_step(
     ensures taken { (mode : FramesMode) (u : List Placed) (byte : ℕ) → BytesRise 0 at u →
         Answers mode step cells.now u at byte → (port_reading mode u).fault ≡ None →
         AreDistinct (mapped_of reading_of slots.old) → AllStand Stands slots.old (runs_in (port_reading mode u)) →
-        StepTaken Stands (mapped_of reading_of slots.old) slots.new mode u (u ++ byte_at at byte ∷ []) out.new.items result }
+        StepTaken Stands (mapped_of reading_of slots.old) slots.new mode u (u ++ byte_at at byte ∷ [])
+        out.new.items result }
     ensures counted { (mode : FramesMode) (u : List Placed) (byte : ℕ) (es : List (Event Packet)) → result ≡ None →
         Answers mode step cells.now u at byte → HasCounted counters.old (port_reading mode u) es →
         HasCounted counters.new (port_reading mode (u ++ byte_at at byte ∷ [])) (es ++ out.new.items) }

@@ -2,7 +2,9 @@
 
 ghost use Rattle.std.specs.Prelude.{◌≡◌, ◌≤◌, ◌==◌, length, IfSome, true};
 ghost use Rattle.std.specs.List.{list_any};
+ghost use Rattle.trace_values.specs.declared.limits.TheConstants.{ID_COUNT};
 ghost use Rattle.port_reader.specs.Reading.{PortReading};
+ghost use Rattle.source_events.specs.declared.plan.TheConstants.{MAPPED_SOURCES};
 ghost use Rattle.source_events.specs.Plan.{kind_of, sources_by};
 ghost use Rattle.source_events.specs.Report.{runs_in};
 ghost use Rattle.source_events.specs.Tails.{source_tails, tail_by};
@@ -14,20 +16,17 @@ use crate::router::find;
 use crate::slot::Slot;
 use source_events::{Plan, PortMode, SourceTail, SourceTails};
 use source_machine::SourceMachine;
-use trace_values::{Machine, SourceId};
-
-/// How many IDs there are: 0 to 126.
-const SOURCES: u8 = 127;
+use trace_values::{ID_COUNT, Machine, SourceId};
 
 /// How each mapped source was read, in increasing order of ID.
 pub fn source_tails(plan: &Plan, slots: &[Slot<SourceMachine>]) -> SourceTails
-    requires few { length slots.now ≤ 16 }
+    requires few { length slots.now ≤ MAPPED_SOURCES }
     requires live { AllLive is_live slots.now }
     ensures { (r : PortReading) → mapped_of reading_of slots.now ≡ sources_by plan.now →
-        AllStand Stands slots.now (runs_in r) → result ≡ source_tails plan.now r SOURCES }
+        AllStand Stands slots.now (runs_in r) → result ≡ source_tails plan.now r ID_COUNT }
 {
     let mut tails = SourceTails::new();
-    for number in 0..SOURCES {
+    for number in 0..ID_COUNT as u8 {
         if let Some(tail) = numbered_tail(plan, slots, number) {
             tails.push(tail);
         }

@@ -276,16 +276,15 @@ fn reads_frames(rt: HostRuntime) {
         ],
         &WHOLE,
     );
-    expect(
-        &rt,
-        &ALIGNED,
-        HALVES,
-        &[
-            (16, 0, Some(1), Wanted::Itm(SYNC)),
-            (21, 0, Some(1), software(0x41)),
-        ],
-        &WHOLE,
-    );
+    let in_halves = [
+        (16, 0, Some(1), Wanted::Itm(SYNC)),
+        (21, 0, Some(1), software(0x41)),
+    ];
+    expect(&rt, &ALIGNED, HALVES, &in_halves, &WHOLE);
+    // Its bytes may come in pieces that end anywhere.
+    for size in 1..HALVES.len() {
+        expect_by(&rt, &ALIGNED, HALVES, size, &in_halves, &WHOLE);
+    }
     let raw = Wanted::Raw(&[255; 13]);
     expect(
         &rt,

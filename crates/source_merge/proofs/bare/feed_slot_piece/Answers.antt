@@ -1,5 +1,4 @@
-use Rattle.std.proofs.Common.{◌≡◌, ℕ, ◌+◌, ◌^◌, ◌<◌, List, ◌∷◌, ◌++◌, get_or, take, drop, length, refl, sym, ◌∙◌, ap, subst, arith}
-use Rattle.std.proofs.lemmas.List.{take-append-drop, drop_more}
+use Rattle.std.proofs.Common.{◌≡◌, ◌+◌, ◌^◌, List, ◌∷◌, ◌++◌, get_or, take, drop, refl, sym, ◌∙◌, ap, subst, arith}
 use Rattle.std.proofs.Math.Seq.{set-append_seam}
 use Rattle.std.proofs.Math.ListN.{set}
 use Rattle.source_machine.specs.declared.machine.SourceMachine.{SourceMachine}
@@ -7,12 +6,9 @@ use Rattle.source_machine.specs.Machine.{held_of, is_live, skipped_by}
 use Rattle.source_merge.specs.declared.slot.Slot.{Slot}
 use Rattle.source_merge.specs.Bare.{PieceFed}
 use Rattle.source_merge.specs.Routing.{AllLive, HaveRoom}
+use Rattle.source_merge.proofs.BareSlots.{split_at}
 use Rattle.source_merge.proofs.Slots.{live_at, room_at, get_seam}
 use Rattle.source_merge.proofs.bare.feed_slot_piece.Goals as goal
-
-split_at : (slots : List (Slot SourceMachine)) (k : ℕ) (d : Slot SourceMachine) → k < length slots →
-    slots ≡ take k slots ++ (get_or slots k d ∷ drop (k + 1) slots)
-split_at slots k d l = sym (take-append-drop k slots) ∙ ap (λ r. take k slots ++ r) (drop_more slots k d l)
 
 pub feed_piece-requires-clause-live : goal.feed_piece-requires-clause-live
 feed_piece-requires-clause-live c =
@@ -46,7 +42,6 @@ returns-clause-fed c = λ front s back parts count.
       parts = ap (λ l. set l k t) parts ∙ ap (λ n. set (front ++ (s ∷ back)) n t) (sym count) ∙ set-append_seam front s back t;
       id_is = refl;
       same = c.feed_piece.ensures.same;
-      stops = c.feed_piece.ensures.stops;
       takes = c.feed_piece.ensures.takes;
       live_is = c.feed_piece.ensures.live;
       fits = c.feed_piece.ensures.fits;

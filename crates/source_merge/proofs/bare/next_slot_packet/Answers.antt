@@ -1,5 +1,4 @@
 use Rattle.std.proofs.Common.{◌≡◌, ℕ, ◌+◌, ◌<◌, ◌≤◌, List, [], ◌∷◌, ◌++◌, get_or, take, drop, length, refl, sym, ◌∙◌, ap, subst, arith, Option, Some, None, IfSome, true}
-use Rattle.std.proofs.lemmas.List.{take-append-drop, drop_more}
 use Rattle.trace_values.specs.declared.step.Step.TheVariants.{Item}
 use Rattle.trace_values.specs.Placed.{Placed, units_of}
 use Rattle.itm_codec.specs.Wholes.{Gives}
@@ -12,12 +11,9 @@ use Rattle.source_merge.specs.declared.slot.Slot.{Slot}
 use Rattle.source_merge.specs.Bare.{PieceFed}
 use Rattle.source_merge.specs.Routing.{AllLive}
 use Rattle.source_merge.proofs.Packets.{piece_front, piece_last, piece_units, takes_packet}
+use Rattle.source_merge.proofs.BareSlots.{split_at}
 use Rattle.source_merge.proofs.Slots.{live_at, get_seam}
 use Rattle.source_merge.proofs.bare.next_slot_packet.Goals as goal
-
-split_at : (slots : List (Slot SourceMachine)) (k : ℕ) (d : Slot SourceMachine) → k < length slots →
-    slots ≡ take k slots ++ (get_or slots k d ∷ drop (k + 1) slots)
-split_at slots k d l = sym (take-append-drop k slots) ∙ ap (λ r. take k slots ++ r) (drop_more slots k d l)
 
 live_slot : (slots : List (Slot SourceMachine)) (k : ℕ) (d : Slot SourceMachine) → k < length slots → AllLive is_live slots →
     is_live (get_or slots k d).machine ≡ true
@@ -40,7 +36,6 @@ fed front s back at piece live (Some x) bytes fits gives = record {
   parts = refl;
   id_is = refl;
   same = refl;
-  stops = tt;
   takes = λ u t.
       takes_packet (reading_of s.machine) (Stands s.machine) u at piece x.0 bytes.0 bytes.1 (laws.settles s.machine) x.1
       (gives u (piece_front (reading_of s.machine) (Stands s.machine) u at piece x.0 bytes.0 bytes.1) (piece_last (reading_of s.machine) (Stands s.machine) u at piece x.0 bytes.0 bytes.1) t

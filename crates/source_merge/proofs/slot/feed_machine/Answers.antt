@@ -5,21 +5,21 @@ use Rattle.trace_values.specs.declared.cell.Cell.{Cell}
 use Rattle.trace_values.specs.declared.step.Step.TheVariants.{Item}
 use Rattle.trace_values.specs.Placed.{Placed, byte_at}
 use Rattle.trace_values.specs.Stream.{Stream}
-use Rattle.itm_codec.specs.Wholes.{Gives}
+use Rattle.itm_codec.specs.Wholes.{Cuts, Gives, kept_at}
 use Rattle.source_events.specs.declared.packet.Packet.{Packet}
 use Rattle.trace_values.specs.Block.{given_after}
 use Rattle.source_events.specs.Merge.{told}
 use Rattle.source_events.specs.Report.{lifted}
 use Rattle.source_events.specs.Runs.{placed_run, bytes_of, last_at, RisesFrom}
 use Rattle.source_events.specs.Fitting.{PacketFits}
-use Rattle.source_machine.specs.Machine.{Stands, reading_of}
+use Rattle.source_machine.specs.Machine.{Stands, StandsAs, reading_of}
 use Rattle.source_machine.specs.MachineLaws as laws
 use Rattle.source_merge.specs.Feeding.{Feeds, TakesCells}
 use Rattle.source_merge.proofs.RunSteps.{none_of, feeds_none, feeds_more, feeds_stopped, goes_as, grown_as}
-use Rattle.source_merge.proofs.Packets.{packet_event, feeds_packet, front, packet_parts, packet_units}
+use Rattle.source_merge.proofs.Packets.{packet_event, feeds_packet, feeds_cut, cut_stands, front, packet_parts, packet_units}
 use Rattle.source_merge.proofs.Early.{early}
 use Rattle.source_merge.proofs.CellPieces.{next_cells, more_parts, last_next, some_next, all_parts, goes_last, feeds_cells, early_cells}
-use Rattle.source_merge.proofs.Fits.{more_fits, last_fits, fit_more}
+use Rattle.source_merge.proofs.Fits.{more_fits, last_fits, cut_fits, fit_more}
 use Rattle.source_merge.proofs.slot.feed_machine.Goals as goal
 
 next_cell : (run : List Cell) (i : ℕ) (d : Cell) → i < length run → d ≡ get_or run i d → take (i + 1) run ≡ take i run ++ d ∷ []
@@ -66,24 +66,69 @@ loop-done-preserved-in-Some c =
     let most = length-take-le (length bytes - done) (drop done bytes) (let k = length-drop done bytes in omega arith) in
     let long : length bytes ≡ length run = ap length same ∙ length-map run (λ (x : Cell). x.byte) in
     let within : done + count ≤ length run = (let k = c.in-Some.ensures.bytes.1 in let h = c.loop-done-test.true in omega arith) in
-    let pushed : c.push.new.self.items ≡ c.loop-done.out.items ++ packet_event c.args.source last packet ∷ [] =
-    c.push.ensures.items ∙ ap (λ (x : Cell). c.loop-done.out.items ++ packet_event c.args.source x packet ∷ []) (sym c.index-run-done.is) in
+    let pushed : c.note_packet.new.out.items ≡ c.loop-done.out.items ++ packet_event c.args.source last packet ∷ [] =
+    c.note_packet.ensures.given ∙ ap (λ (x : Cell). c.loop-done.out.items ++ packet_event c.args.source x packet ∷ []) (sym c.index-run-done.is) in
     record {
       within = within;
       same = i.same;
       live = i.live;
       few = (let a = i.few in omega arith);
-      events = (let a = i.events in let b = c.in-Some.ensures.bytes.0 in let d = ap length c.push.ensures.items in let e = length-append c.loop-done.out.items (packet_event c.args.source last packet ∷ []) in omega arith);
-      fits = λ f. more_fits PacketFits c.args.source last.at (Item 0 packet) c.loop-done.out.items c.push.new.self.items pushed c.in-Some.ensures.fits (i.fits f);
+      events = (let a = i.events in let b = c.in-Some.ensures.bytes.0 in let d = ap length c.note_packet.ensures.given in let e = length-append c.loop-done.out.items (packet_event c.args.source last packet ∷ []) in omega arith);
+      fits = λ f. more_fits PacketFits c.args.source last.at (Item 0 packet) c.loop-done.out.items c.note_packet.new.out.items pushed c.in-Some.ensures.fits (i.fits f);
       feeds = λ u s.
-          subst (λ (l : List Cell). Feeds reading (Stands c.loop-done.machine) u l c.args.source c.args.out.now.items c.push.new.self.items None)
+          subst (λ (l : List Cell). Feeds reading (Stands c.loop-done.machine) u l c.args.source c.args.out.now.items c.note_packet.new.out.items None)
           (sym (packet_parts run done count last c.in-Some.ensures.bytes.0 within c.index-run-done.is))
           (feeds_packet reading u c.args.source (Stands c.loop-done.machine) (take done run) (front run done count last c.in-Some.ensures.bytes.0 within c.index-run-done.is) last packet
-          c.args.out.now.items c.loop-done.out.items c.push.new.self.items (i.feeds u s)
+          c.args.out.now.items c.loop-done.out.items c.note_packet.new.out.items (i.feeds u s)
           (λ w k. subst (λ (r : List Placed → Stream Packet). Gives r (Stands c.loop-done.machine) w (placed_run (front run done count last c.in-Some.ensures.bytes.0 within c.index-run-done.is)) (byte_at last.at last.byte) packet) i.same
           (c.in-Some.ensures.gives w (placed_run (front run done count last c.in-Some.ensures.bytes.0 within c.index-run-done.is)) (byte_at last.at last.byte) k
           (packet_units run done count last c.in-Some.ensures.bytes.0 within c.index-run-done.is bytes same)))
           pushed);
+    }
+
+pub loop-done-preserved-in-Some-next_cut : goal.loop-done-preserved-in-Some-next_cut
+loop-done-preserved-in-Some-next_cut c =
+    let i = c.loop-done.invariant in
+    let run = c.args.run.now in
+    let done = c.loop-done.done in
+    let cut = c.in-Some-next_cut.cut in
+    let found = c.in-Some-next_cut.ensures in
+    let last = c.index-run-done-in-Some-next_cut.result in
+    let is = c.index-run-done-in-Some-next_cut.is in
+    let reading = reading_of c.args.machine.now in
+    let now = Stands c.keep_partial.new.self in
+    let old = c.loop-done.out.items in
+    let new = c.note_packet-in-Some-next_cut.new.out.items in
+    let bytes = c.as_slice-in_default.result.now in
+    let same : bytes ≡ bytes_of run = c.as_slice-in_default.ensures.value ∙ c.of-bytes.ensures in
+    let most = length-take-le (length bytes - done) (drop done bytes) (let k = length-drop done bytes in omega arith) in
+    let long : length bytes ≡ length run = ap length same ∙ length-map run (λ (x : Cell). x.byte) in
+    let some : 0 < cut.bytes = found.bytes.0 in
+    let within : done + cut.bytes ≤ length run = (let k = found.bytes.1 in let h = c.loop-done-test.true in omega arith) in
+    let before : List Cell = front run done cut.bytes last some within is in
+    let given : new ≡ old ++ told (Some c.args.source) (lifted (kept_at (record { at = last.at; half = 0 }) cut.packet)) =
+    c.note_packet-in-Some-next_cut.ensures.given
+    ∙ ap (λ (x : Cell). old ++ told (Some c.args.source) (lifted (kept_at (record { at = x.at; half = 0 }) cut.packet))) (sym is) in
+    record {
+      within = within;
+      same = c.keep_partial.ensures.same ∙ i.same;
+      live = c.keep_partial.ensures.live ∙ i.live;
+      few = (let a = i.few in let b = c.keep_partial.ensures.held in let d = c.keep_partial.ensures.skipped in let e = found.few in omega arith);
+      events = (let a = i.events in let b = c.note_packet-in-Some-next_cut.ensures.few in omega arith);
+      fits = λ f.
+          fit_more PacketFits old new (told (Some c.args.source) (lifted (kept_at (record { at = last.at; half = 0 }) cut.packet))) given (i.fits f)
+          (cut_fits PacketFits c.args.source last.at cut.packet found.fits);
+      feeds = λ u s.
+          subst (λ (l : List Cell). Feeds reading now u l c.args.source c.args.out.now.items new None)
+          (sym (packet_parts run done cut.bytes last some within is))
+          (feeds_cut reading u c.args.source (Stands c.loop-done.machine) now (take done run) before last cut.packet
+          c.args.out.now.items old new (i.feeds u s)
+          (λ w k. subst (λ (r : List Placed → Stream Packet). Cuts r now w (placed_run before) (byte_at last.at last.byte) cut.packet) i.same
+          (cut_stands (reading_of c.loop-done.machine) (StandsAs c.loop-done.machine cut.partial) now w (placed_run before) (byte_at last.at last.byte) cut.packet
+          c.keep_partial.ensures.stands
+          (found.cuts w (placed_run before) (byte_at last.at last.byte) k
+          (packet_units run done cut.bytes last some within is bytes same))))
+          given);
     }
 
 pub feed_cells-block-requires-clause-bytes : goal.feed_cells-block-requires-clause-bytes
@@ -179,7 +224,7 @@ loop-done-preserved-in_default-note c =
     let reading = reading_of c.args.machine.now in
     let i = c.loop-done.invariant in
     let run = c.args.run.now in
-    let cell = c.index-run-done-in_default.result in
+    let cell = c.index-run-done-in_default-next_cut.result in
     record {
       within = (let h = c.loop-done-test.true in omega arith);
       same = c.feed-step.ensures.same ∙ i.same;
@@ -189,7 +234,7 @@ loop-done-preserved-in_default-note c =
       fits = λ f. more_fits PacketFits c.args.source cell.at c.feed-step.result c.loop-done.out.items c.note.new.out.items c.note.ensures.given c.feed-step.ensures.fits (i.fits f);
       feeds = λ u s.
           subst (λ (l : List Cell). Feeds reading (Stands c.feed-step.new.self) u l c.args.source c.args.out.now.items c.note.new.out.items None)
-          (sym (next_cell run c.loop-done.done cell c.loop-done-test.true c.index-run-done-in_default.is))
+          (sym (next_cell run c.loop-done.done cell c.loop-done-test.true c.index-run-done-in_default-next_cut.is))
           (feeds_more reading u c.args.source (Stands c.loop-done.machine) (Stands c.feed-step.new.self) (take c.loop-done.done run) cell c.feed-step.result None
           c.args.out.now.items c.loop-done.out.items c.note.new.out.items (i.feeds u s)
           (λ w k. c.feed-step.ensures.list w k)
@@ -203,10 +248,10 @@ returns-in-Some-note-clause-feeds c = λ u s.
     let i = c.loop-done.invariant in
     let run = c.args.run.now in
     let at = c.loop-done.done in
-    let cell = c.index-run-done-in_default.result in
+    let cell = c.index-run-done-in_default-next_cut.result in
     subst (λ (l : List Cell). Feeds reading (Stands c.feed-step.new.self) u l c.args.source c.args.out.now.items c.note.new.out.items (Some c.in-Some-note.fault)) (take-append-drop (at + 1) run)
     (subst (λ (l : List Cell). Feeds reading (Stands c.feed-step.new.self) u (l ++ drop (at + 1) run) c.args.source c.args.out.now.items c.note.new.out.items (Some c.in-Some-note.fault))
-    (sym (next_cell run at cell c.loop-done-test.true c.index-run-done-in_default.is))
+    (sym (next_cell run at cell c.loop-done-test.true c.index-run-done-in_default-next_cut.is))
     (feeds_stopped reading u c.args.source (laws.settles c.args.machine.now) (Stands c.feed-step.new.self) (take at run ++ cell ∷ []) (drop (at + 1) run) c.in-Some-note.fault c.args.out.now.items c.note.new.out.items
     (feeds_more reading u c.args.source (Stands c.loop-done.machine) (Stands c.feed-step.new.self) (take at run) cell c.feed-step.result (Some c.in-Some-note.fault)
     c.args.out.now.items c.loop-done.out.items c.note.new.out.items (i.feeds u s)
@@ -220,8 +265,8 @@ returns-in-Some-note-clause-early c = λ u s n r given h.
     let i = c.loop-done.invariant in
     let run = c.args.run.now in
     let at = c.loop-done.done in
-    let d = c.index-run-done-in_default.result in
-    let parts : run ≡ take at run ++ (d ∷ drop (at + 1) run) = sym (take-append-drop at run) ∙ ap (λ (l : List Cell). take at run ++ l) (drop_more run at d c.loop-done-test.true ∙ ap (λ (x : Cell). x ∷ drop (at + 1) run) (sym c.index-run-done-in_default.is)) in
+    let d = c.index-run-done-in_default-next_cut.result in
+    let parts : run ≡ take at run ++ (d ∷ drop (at + 1) run) = sym (take-append-drop at run) ∙ ap (λ (l : List Cell). take at run ++ l) (drop_more run at d c.loop-done-test.true ∙ ap (λ (x : Cell). x ∷ drop (at + 1) run) (sym c.index-run-done-in_default-next_cut.is)) in
     early reading (laws.rises c.args.machine.now) (laws.settles c.args.machine.now) u (take at run) d (drop (at + 1) run) c.feed-step.result c.in-Some-note.fault
     (sym c.note.ensures.fault ∙ c.in-Some-note.is)
     (grown_as (reading_of c.loop-done.machine) reading i.same _ d c.feed-step.result (c.feed-step.ensures.step _ ((i.feeds u s).list refl)))

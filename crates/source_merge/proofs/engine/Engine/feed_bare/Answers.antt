@@ -161,13 +161,6 @@ returns-clause-fits c =
     let f = first_at reading_of 1 slots c.in-Some.index found in
     (c.feed_slot_piece-block.ensures.fed f.front f.slot f.back (c.as_mut_slice.ensures.value ∙ f.parts) f.count).fits
 
-pub returns-clause-stops : goal.returns-clause-stops
-returns-clause-stops c =
-    let slots = c.args.self.now.slots.items in
-    let found = is_found slots c.bare_slot.result c.in-Some.index c.in-Some.is c.bare_slot.ensures.found in
-    let f = first_at reading_of 1 slots c.in-Some.index found in
-    (c.feed_slot_piece-block.ensures.fed f.front f.slot f.back (c.as_mut_slice.ensures.value ∙ f.parts) f.count).stops
-
 pub returns-clause-list : goal.returns-clause-list
 returns-clause-list c = λ u h.
     let self = c.args.self.now in

@@ -22,7 +22,7 @@ use Rattle.source_merge.specs.Stepping.{StepTaken}
 use Rattle.source_merge.specs.Routing.{mapped_of, AllLive, AllStand, HaveRoom, LiveIf, AreDistinct}
 use Rattle.source_merge.proofs.Slots.{room_more}
 use Rattle.source_merge.proofs.Standing.{distinct, none_there, live_now, live_if, tested, none_of}
-use Rattle.source_merge.proofs.Going.{Stepped, IsCounted, stepped, rise_to, rise_block, end_block}
+use Rattle.source_merge.proofs.Going.{Stepped, IsCounted, stepped, quiet_inside, rise_to, rise_block, end_block}
 use Rattle.source_merge.proofs.Refilled.{slots_are}
 use Rattle.source_merge.proofs.engine.Engine.feed_step.Goals as goal
 
@@ -91,14 +91,17 @@ module _ (c : goal.After-flow_of) (u : List Placed) (h : Stands c.args.self.now 
   the_step : Stepped plan slots h.sources live c.take_step-stop.new.slots c.take_step-stop.new.counters u c.args.at bytes
       c.take_step-stop.new.out.items c.take_step-stop.result c.flow_of.result
   the_step =
+      let keeps = h.going c.requires.live in
+      let inside = quiet_inside plan.frames (PortAnswers plan.frames c.feed_block-taken.result.step c.feed_block-taken.new.out.items) u c.args.at bytes
+      (subst (λ (mode : FramesMode). FedAs (PortAnswers mode Quiet []) (PortAnswers mode c.feed_block-taken.result.step c.feed_block-taken.new.out.items) u c.args.at bytes)
+      h.mode (c.feed_block-taken.ensures.fed u h.port)) in
       stepped plan slots h.sources live c.take_step-stop.new.slots c.args.self.now.counters c.take_step-stop.new.counters
-      c.feed_block-taken.result.step c.feed_block-taken.new.out.items (c.args.at + (c.feed_block-taken.result.bytes - 1))
+      c.args.self.now.counters.port.halves c.feed_block-taken.result.step c.feed_block-taken.new.out.items (c.args.at + (c.feed_block-taken.result.bytes - 1))
       c.take_step-stop.new.out.items c.take_step-stop.result c.flow_of.result u c.args.at bytes
       (rise_to u c.args.self.now.next c.args.at (subst (λ (k : ℕ). BytesRise 0 k u) (sym h.next) h.rising) c.requires.offsets.0)
-      (none_there (fault_of plan u) (sym h.live ∙ c.requires.live)) (h.going c.requires.live)
+      (none_there (fault_of plan u) (sym h.live ∙ c.requires.live)) keeps
       (subst (λ (ss : List (Mapped Packet)). AreDistinct ss) (sym h.sources) (distinct plan c.args.self.now.sound))
-      (subst (λ (mode : FramesMode). FedAs (PortAnswers mode Quiet []) (PortAnswers mode c.feed_block-taken.result.step c.feed_block-taken.new.out.items) u c.args.at bytes)
-      h.mode (c.feed_block-taken.ensures.fed u h.port))
+      inside.0 (keeps.counted.port.halves ∙ sym inside.1)
       (λ k e. (let a = size in omega arith))
       (subst (λ (l : List (Slot SourceMachine)). Taken l c.feed_block-taken.new.out.items) c.as_mut_slice.ensures.value
       (subst (λ (l : List Cell). Taken c.as_mut_slice.result.now l) c.as_slice.ensures.value c.take_step-stop.ensures.taken))

@@ -1,0 +1,67 @@
+use Rattle.std.proofs.Common.{◌≡◌, ℕ, ◌+◌, ◌^◌, List, ◌∷◌, ◌++◌, get_or, take, drop, refl, sym, ◌∙◌, ap, subst, arith, Option, None, Some, true}
+use Rattle.std.proofs.lemmas.List.{length-take-le}
+use Rattle.std.proofs.Math.Seq.{set-append_seam}
+use Rattle.std.proofs.Math.ListN.{set}
+use Rattle.trace_values.specs.Block.{goes_on_after}
+use Rattle.stp_grammar.specs.declared.item.StpItem.{StpItem}
+use Rattle.source_machine.specs.declared.machine.SourceMachine.{SourceMachine}
+use Rattle.source_machine.specs.Machine.{held_of, is_live, skipped_by}
+use Rattle.source_machine.specs.Seen.{packet_in}
+use Rattle.source_merge.specs.declared.slot.Slot.{Slot}
+use Rattle.source_merge.specs.Bare.{PieceFed}
+use Rattle.source_merge.specs.Routing.{AllLive, HaveRoom}
+use Rattle.source_merge.proofs.BareSlots.{split_at}
+use Rattle.source_merge.proofs.Slots.{live_at, room_at, get_seam}
+use Rattle.source_merge.proofs.bare.finish_slot_stp.Goals as goal
+
+goes_on : (half : ℕ) (o : Option StpItem) → true ≡ goes_on_after (packet_in half o)
+goes_on half None = refl
+goes_on half (Some item) = refl
+
+pub finish_stp-requires-clause-live : goal.finish_stp-requires-clause-live
+finish_stp-requires-clause-live c =
+    let slots = c.args.slots.now in
+    let k = c.args.index in
+    let d = c.index-slots-index.result in
+    live_at is_live (take k slots) (get_or slots k d) (drop (k + 1) slots)
+    (subst (λ (l : List (Slot SourceMachine)). AllLive is_live l) (split_at slots k d c.requires.index) c.requires.live)
+
+pub finish_stp-requires-clause-room : goal.finish_stp-requires-clause-room
+finish_stp-requires-clause-room c =
+    let slots = c.args.slots.now in
+    let k = c.args.index in
+    let d = c.index-slots-index.result in
+    let r = room_at held_of skipped_by (2 ^ 59) (take k slots) (get_or slots k d) (drop (k + 1) slots)
+    (subst (λ (l : List (Slot SourceMachine)). HaveRoom held_of skipped_by (2 ^ 59) l) (split_at slots k d c.requires.index) c.requires.room) in
+    let s = c.requires.offsets in omega arith
+
+pub finish_stp-requires-clause-next : goal.finish_stp-requires-clause-next
+finish_stp-requires-clause-next c =
+    let slots = c.args.slots.now in
+    let k = c.args.index in
+    let d = c.index-slots-index.result in
+    c.requires.next (take k slots) (get_or slots k d) (drop (k + 1) slots) (split_at slots k d c.requires.index)
+    (length-take-le k slots (let i = c.requires.index in omega arith))
+
+pub returns-clause-fed : goal.returns-clause-fed
+returns-clause-fed c = λ front s back parts count.
+    let slots = c.args.slots.now in
+    let k = c.args.index in
+    let x = get_or slots k c.index-slots-index.result in
+    let block = c.finish_stp.result in
+    let t : Slot SourceMachine = record { id = x.id; machine = c.finish_stp.new.self } in
+    let at : x ≡ s =
+    ap (λ l. get_or l k c.index-slots-index.result) parts
+    ∙ ap (λ n. get_or (front ++ (s ∷ back)) n c.index-slots-index.result) (sym count) ∙ get_seam front s back c.index-slots-index.result in
+    subst (λ (y : Slot SourceMachine). PieceFed front y back (set slots k t) c.args.at c.args.piece.now
+    (record { bytes = block.bytes; step = packet_in block.half block.item })) at
+    (record {
+      slot = t;
+      parts = ap (λ l. set l k t) parts ∙ ap (λ n. set (front ++ (s ∷ back)) n t) (sym count) ∙ set-append_seam front s back t;
+      id_is = refl;
+      same = c.finish_stp.ensures.same;
+      takes = c.finish_stp.ensures.takes;
+      live_is = c.finish_stp.ensures.live ∙ goes_on block.half block.item;
+      fits = c.finish_stp.ensures.fits;
+      few = c.finish_stp.ensures.few;
+    })
