@@ -1,3 +1,5 @@
+//! What hardware packets mean, and back.
+
 use super::*;
 use itm_grammar::packet::{ItmPacket, Size};
 use itm_grammar::proper::is_proper;

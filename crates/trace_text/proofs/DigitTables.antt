@@ -1,6 +1,7 @@
 -- The tables hold the digits of their numbers.
 use Rattle.std.proofs.Common.{◌≡◌, ℕ, zero, suc, ◌+◌, ◌*◌, ◌<◌, ◌≤◌, List, [], ◌∷◌, ◌++◌, take, drop, Bool, true, false, refl, sym, ◌∙◌, ap, arith}
-use Rattle.std.specs.Prelude.{◌==◌, ◌&&◌, ◌/◌, ◌%◌, decimal}
+use Rattle.std.specs.Prelude.{◌==◌, ◌&&◌, ◌/◌, ◌%◌, codes, decimal}
+use Rattle.hex.specs.Hex.{encode_with, encode_lower}
 use Rattle.std.proofs.lemmas.Bool.Decides.{nat_tests}
 use Rattle.std.proofs.lemmas.Fmt.{decimal_digit}
 use Rattle.itoa.proofs.Decimal.{decimal_two, decimal_pair}
@@ -8,7 +9,7 @@ use Rattle.trace_text.specs.Pairs.{pair}
 use Rattle.std.proofs.lemmas.Bool.{false≢true}
 use lib.Dec.{leb}
 use mir.Val.{bool_byte}
-use Rattle.trace_text.specs.declared.tables.TheConstants.{NUMBERS, PAIRS}
+use Rattle.trace_text.specs.declared.tables.TheConstants.{HEX_PAIRS, NUMBERS, PAIRS, PORTS}
 
 front : (a b : Bool) → (a && b) ≡ true → a ≡ true
 front true b e = refl
@@ -82,3 +83,28 @@ pub short : (n : ℕ) → n < 256 →
     take (1 + bool_byte (leb 10 n) + bool_byte (leb 100 n)) (take 4 (drop (4 * n) NUMBERS.now)) ≡ decimal n
 unfolding count
 short n l = tabled n l ∙ are_digits n (leb 10 n) (leb 100 n) refl refl l
+
+pub most : (a b : Bool) → 1 + bool_byte a + bool_byte b ≤ 4
+most a b = elim a as (λ t. 1 + bool_byte t + bool_byte b ≤ 4) [
+  | true ↦ elim b as (λ t. 1 + bool_byte true + bool_byte t ≤ 4) [ true ↦ omega arith | false ↦ omega arith ]
+  | false ↦ elim b as (λ t. 1 + bool_byte false + bool_byte t ≤ 4) [ true ↦ omega arith | false ↦ omega arith ]
+]
+
+pub most_of_port : (a : Bool) → 7 + bool_byte a ≤ 8
+most_of_port a = elim a as (λ t. 7 + bool_byte t ≤ 8) [ true ↦ omega arith | false ↦ omega arith ]
+
+tabled_port : (n : ℕ) → n < 32 →
+    take (7 + bool_byte (leb 10 n)) (take 8 (drop (8 * n) PORTS.now)) ≡ codes "port " ++ (digits (leb 10 n) false n ++ codes " ")
+unfolding under same digits
+tabled_port n l =
+    is_same _ _ (below (λ k. same (take (7 + bool_byte (leb 10 k)) (take 8 (drop (8 * k) PORTS.now))) (codes "port " ++ (digits (leb 10 k) false k ++ codes " "))) 32 n l refl)
+
+pub port : (n : ℕ) → n < 32 →
+    take (7 + bool_byte (leb 10 n)) (take 8 (drop (8 * n) PORTS.now)) ≡ codes "port " ++ (decimal n ++ codes " ")
+port n l =
+    let small : leb 100 n ≡ false = grind (arith, nat_tests) in
+    tabled_port n l ∙ ap (λ (ds : List ℕ). codes "port " ++ (ds ++ codes " ")) (are_digits n (leb 10 n) false refl small (omega arith))
+
+pub hex_pairs : (n : ℕ) → n < 256 → take 2 (drop (2 * n) HEX_PAIRS.now) ≡ encode_lower (n ∷ [])
+unfolding under same encode_with
+hex_pairs n l = is_same _ _ (below (λ k. same (take 2 (drop (2 * k) HEX_PAIRS.now)) (encode_lower (k ∷ []))) 256 n l refl)

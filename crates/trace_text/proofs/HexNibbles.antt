@@ -1,5 +1,5 @@
 -- The hexadecimal digits of bytes are those of their nibbles.
-use Rattle.std.proofs.Common.{◌≡◌, ℕ, zero, suc, ◌+◌, ◌-◌, ◌*◌, ◌/◌, ◌%◌, ◌^◌, ◌<◌, ◌≤◌, ◌∷◌, take, refl, sym, ◌∙◌, ap, arith}
+use Rattle.std.proofs.Common.{◌≡◌, ℕ, zero, suc, ◌+◌, ◌-◌, ◌*◌, ◌/◌, ◌%◌, ◌^◌, ◌<◌, ◌≤◌, List, [], ◌∷◌, ◌++◌, length, get_or, take, refl, sym, ◌∙◌, ap, arith}
 use Rattle.std.specs.Prelude.{slice_index}
 use Rattle.std.specs.Int.{bytes_high_first, byte_at}
 use Rattle.std.proofs.Math.Nat.{div-div-eq-div-mul, mul-div-mul_right, mod-eq_of_lt, pow-zero, pow-suc}
@@ -87,3 +87,24 @@ moved_digits count number few fits =
     ap (take count) (encoded 8 (number * 2 ^ (64 - 4 * count) % 2 ^ 64))
     ∙ ap (λ x. take count (hex_digits 16 x)) (moved count number few fits)
     ∙ first count 16 (16 - count) number (omega arith)
+
+-- the digits of the first bytes
+pub front_digits : (n : ℕ) (bytes : List ℕ) → take (2 * n) (encode_lower bytes) ≡ encode_lower (take n bytes)
+unfolding encode_with
+front_digits zero bytes = refl
+front_digits (suc n) [] = ap (λ k. take k (encode_lower [])) (let e : 2 * suc n ≡ suc (suc (2 * n)) = omega arith in e)
+front_digits (suc n) (b ∷ bytes) =
+    ap (λ k. take k (encode_lower (b ∷ bytes))) (let e : 2 * suc n ≡ suc (suc (2 * n)) = omega arith in e)
+    ∙ ap (λ ds. slice_index lower_digits (b / 16) ∷ slice_index lower_digits (b % 16) ∷ ds) (front_digits n bytes)
+
+-- the digits of four bytes, one after the other
+pub digits_of_four : (bytes : List ℕ) → length bytes ≡ 4 →
+    ((encode_lower (get_or bytes 0 0 ∷ []) ++ encode_lower (get_or bytes 1 0 ∷ [])) ++ encode_lower (get_or bytes 2 0 ∷ []))
+    ++ encode_lower (get_or bytes 3 0 ∷ []) ≡ encode_lower bytes
+unfolding encode_with
+digits_of_four [] e = absurd (omega arith)
+digits_of_four (a ∷ []) e = absurd (omega arith)
+digits_of_four (a ∷ (b ∷ [])) e = absurd (omega arith)
+digits_of_four (a ∷ (b ∷ (c ∷ []))) e = absurd (omega arith)
+digits_of_four (a ∷ (b ∷ (c ∷ (d ∷ [])))) e = refl
+digits_of_four (a ∷ (b ∷ (c ∷ (d ∷ (f ∷ bytes))))) e = absurd (omega arith)

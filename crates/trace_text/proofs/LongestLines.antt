@@ -48,7 +48,7 @@ use Rattle.trace_text.specs.HexDigits.{hex_digits}
 use Rattle.trace_text.specs.StpText.{known_text, width_text, mark_text, stamp_text, stp_text}
 use Rattle.trace_text.specs.declared.remark.Remark.{Remark}
 use Rattle.trace_text.specs.declared.remark.Remark.TheVariants.{None as NoRemark, Clock, Time}
-use Rattle.trace_text.specs.LineText.{half_text, source_text, what_text, remark_text, event_line, itm_event}
+use Rattle.trace_text.specs.LineText.{half_text, source_text, what_text, remark_text, event_line, itm_event, stp_event}
 use Rattle.trace_text.specs.Printable.{IsProperWhat, IsNone, SuitsPacket, Suits, HasSource, IsPrintable}
 use Rattle.trace_text.specs.Lengths.{HasDigits, IsShortWhat, IsShortSource, IsShortRemark, IsShort}
 use Rattle.trace_text.specs.EndText.{mode_text, kind_text, source_line}
@@ -287,6 +287,14 @@ packet at id p r proper suits a b c =
     event false (itm_event at id p) r
     (record { proper = proper; suits = suits; source = refl })
     (record { at = a; half = length-decimal-le 3 0 (omega arith) (omega arith) (omega arith); source = b; what = tt }) c
+
+-- and that of an item of an STP source
+pub stp_item : (at half id : ℕ) (i : StpItem) → IsProperItem i → HasDigits 20 at → HasDigits 3 half → HasDigits 3 id →
+    length (event_line true (stp_event at half id i) NoRemark) ≤ 92
+stp_item at half id i proper a b c =
+    event true (stp_event at half id i) NoRemark
+    (record { proper = proper; suits = tt; source = refl })
+    (record { at = a; half = b; source = c; what = tt }) tt
 
 mode : (m : PortMode) → length (mode_text m) ≤ 7
 mode Bare = omega arith

@@ -7,7 +7,7 @@ use Rattle.source_events.specs.declared.packet.Packet.{Packet}
 use Rattle.trace_text.specs.declared.remark.Remark.{Remark}
 use Rattle.trace_text.specs.declared.remark.Remark.TheVariants.{None as NoRemark, Clock, Time}
 
--- a number has at most so many digits
+-- a number has at most this many digits
 abbrev pub HasDigits : ℕ → ℕ → Type 0
 HasDigits most number = length (decimal number) ≤ most
 

@@ -2,6 +2,7 @@
 use Rattle.std.specs.Prelude.{ℕ, List, [], ◌∷◌, ◌++◌, codes, decimal, Bool, true, false, Option, Some, None}
 use Rattle.hex.specs.Hex.{encode_lower}
 use Rattle.itm_grammar.specs.declared.packet.ItmPacket.{ItmPacket}
+use Rattle.stp_grammar.specs.declared.item.StpItem.{StpItem}
 use Rattle.trace_values.specs.Placed.{Place}
 use Rattle.source_events.specs.declared.event.Event.{Event}
 use Rattle.source_events.specs.declared.event.What.{What}
@@ -56,3 +57,7 @@ event_line stp event remark =
 -- an ITM packet of this source, whose last byte is here
 abbrev pub itm_event : ℕ → ℕ → ItmPacket → Event Packet
 itm_event at id packet = record { at = at; half = 0; source = Some id; what = Said (Itm packet) }
+
+-- an item of this STP source, which ends in this half of the byte here
+abbrev pub stp_event : ℕ → ℕ → ℕ → StpItem → Event Packet
+stp_event at half id item = record { at = at; half = half; source = Some id; what = Said (Stp item) }

@@ -8,7 +8,8 @@ use Rattle.stp_grammar.specs.declared.item.Place.{Place}
 use Rattle.stp_grammar.specs.declared.item.Stamp.{Stamp}
 use Rattle.stp_grammar.specs.declared.item.Stamp.TheVariants.{None as NoStamp, Natural, Gray, Raw}
 use Rattle.stp_grammar.specs.declared.item.StpItem.{StpItem}
-use Rattle.stp_grammar.specs.declared.item.StpItem.TheVariants.{Async, Version, MasterError, GlobalError, Datum, Flag, Trigger, Frequency, NullStamp}
+use Rattle.stp_grammar.specs.declared.item.StpItem.TheVariants.{Async, Version, MasterError, GlobalError, Datum, Flag}
+use Rattle.stp_grammar.specs.declared.item.StpItem.TheVariants.{Trigger, Frequency, NullStamp}
 use Rattle.stp_grammar.specs.Proper.{bits_of}
 use Rattle.trace_text.specs.HexDigits.{hex_digits}
 

@@ -1,7 +1,8 @@
 //! The lines at the end.
 
 ghost use Rattle.std.specs.Prelude.{◌≡◌, ◌+◌, ◌*◌, ◌≤◌, ◌++◌, length, take};
-ghost use Rattle.trace_text.specs.EndText.{mode_text, kind_text, rest_text, end_line, port_line, source_line, tails_text};
+ghost use Rattle.trace_text.specs.EndText.{mode_text, kind_text, rest_text, end_line, port_line, source_line};
+ghost use Rattle.trace_text.specs.EndText.{tails_text};
 
 use crate::lengths::{few_digits, few_id_digits};
 use crate::room::{ITEM_ROOM, WORD_ROOM, put_byte, put_bytes, put_number, put_short};

@@ -8,7 +8,8 @@ ghost use Rattle.trace_text.specs.ItemText.{lateness_text, flag_text, bits_text,
 
 use crate::hardware::put_hardware;
 use crate::room::{
-    ITEM_ROOM, PART_ROOM, WORD_ROOM, put_bytes, put_digits, put_number, put_short, put_value,
+    ITEM_ROOM, PART_ROOM, WORD_ROOM, put_bytes, put_digits, put_number, put_port, put_short,
+    put_value,
 };
 use dwt_packets::meaning;
 use itm_grammar::packet::{ItmPacket, Lateness, Size};
@@ -122,7 +123,7 @@ pub(crate) fn put_source(room: &mut [u8], from: usize, number: u8, size: Size, v
 }
 
 /// Puts the text of a packet; a hardware packet has that of its meaning.
-#[inline]
+#[inline(always)]
 pub(crate) fn put_item(room: &mut [u8], from: usize, packet: &ItmPacket) -> usize
     requires proper { IsProper packet.now }
     requires room { from + ITEM_ROOM ≤ length room.old }
@@ -134,8 +135,8 @@ pub(crate) fn put_item(room: &mut [u8], from: usize, packet: &ItmPacket) -> usiz
         ItmPacket::Sync => put_bytes(room, from, b"sync"),
         ItmPacket::Overflow => put_bytes(room, from, b"overflow"),
         ItmPacket::Software { port, size, value } => {
-            let from = put_bytes(room, from, b"port ");
-            put_source(room, from, port, size, value)
+            let from = put_port(room, from, port);
+            put_value(room, from, size, value)
         }
         ItmPacket::Hardware { disc, size, value } => {
             put_hardware(room, from, &meaning(disc, size, value))

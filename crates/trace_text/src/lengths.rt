@@ -16,7 +16,7 @@ pub(crate) fn few_digits(number: u64)
 
 /// One of 8 bits at most 3.
 #[inline(always)]
-fn few_half_digits(half: u8)
+pub(crate) fn few_half_digits(half: u8)
     ensures { HasDigits 3 half }
 {
     let _half = half;

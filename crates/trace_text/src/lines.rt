@@ -1,21 +1,25 @@
 //! The lines of what the sources and the port gave.
 
-ghost use Rattle.std.specs.Prelude.{◌≡◌, ◌+◌, ◌≤◌, ◌++◌, ◌/◌, false, length, take, codes, decimal};
+ghost use Rattle.std.specs.Prelude.{◌≡◌, ◌+◌, ◌≤◌, ◌++◌, ◌/◌, false, true, length, take, codes, decimal};
 ghost use Rattle.hex.specs.Hex.{encode_lower};
 ghost use Rattle.source_events.specs.declared.event.What.TheVariants.{Packet as GivenPacket};
 ghost use Rattle.itm_grammar.specs.Proper.{IsProper};
-ghost use Rattle.trace_text.specs.Digits.{hundreds_of, KeepsPlaceOf};
+ghost use Rattle.stp_grammar.specs.Proper.{IsProperItem};
+ghost use Rattle.trace_text.specs.Digits.{hundreds_of, KeepsPlace, KeepsPlaceOf};
 ghost use Rattle.trace_text.specs.Printable.{IsProperPacket, IsProperWhat, SuitsPacket, IsPrintable};
-ghost use Rattle.trace_text.specs.LineText.{half_text, source_text, packet_text, what_text, remark_text, event_line, itm_event};
+ghost use Rattle.trace_text.specs.LineText.{half_text, source_text, packet_text, what_text, remark_text, event_line};
+ghost use Rattle.trace_text.specs.LineText.{itm_event, stp_event};
+ghost use Rattle.trace_text.specs.declared.remark.Remark.TheVariants.{None as NoRemark};
 
 use crate::digits::Digits;
 use crate::items::put_item;
-use crate::lengths::{few_digits, few_id_digits, short_event, short_remark};
+use crate::lengths::{few_digits, few_half_digits, few_id_digits, short_event, short_remark};
 use crate::remark::Remark;
 use crate::room::{ITEM_ROOM, NUMBER_ROOM, put_byte, put_bytes, put_digits, put_number, put_short};
 use crate::stp::put_stp;
 use itm_grammar::packet::ItmPacket;
 use source_events::{Event, Packet, What};
+use stp_grammar::item::StpItem;
 use trace_stream::{OUTLET_ROOM, Outlet, TEXT_ROOM, Text};
 use trace_values::SourceId;
 
@@ -183,7 +187,7 @@ impl Text for ItmLine<'_> {
 
     ghost text = { λ l. event_line false (itm_event l.at l.id l.packet) l.remark };
 
-    #[inline]
+    #[inline(always)]
     fn put(&self, room: &mut [u8], from: usize) -> usize {
         let from = self.digits.put(room, from, self.at);
         let from = put_source(room, from, Some(self.id));
@@ -193,8 +197,35 @@ impl Text for ItmLine<'_> {
     }
 }
 
-/// Puts the line of an event, with its remark: `AT SOURCE WHAT`, or `AT.H SOURCE WHAT` where its source is an STP source
-/// (`stp`). The digits of the offset and the text of a place are kept for the next line.
+/// The line of an item of an STP source, at an offset whose digits but for the last two are kept, as is its place, if
+/// it has one.
+#[derive(Drop)]
+pub(crate) struct StpLine<'a> {
+    pub(crate) digits: &'a Digits,
+    pub(crate) at: u64,
+    pub(crate) half: u8,
+    pub(crate) id: SourceId,
+    pub(crate) item: StpItem,
+}
+
+impl Text for StpLine<'_> {
+    ghost fits = { λ l. IsProperItem l.item × (hundreds_of l.digits.now ≡ l.at / 100)
+        × KeepsPlace l.digits.now l.item };
+
+    ghost text = { λ l. event_line true (stp_event l.at l.half l.id l.item) NoRemark };
+
+    #[inline(always)]
+    fn put(&self, room: &mut [u8], from: usize) -> usize {
+        let from = self.digits.put(room, from, self.at);
+        let from = put_half(room, from, true, self.half);
+        let from = put_source(room, from, Some(self.id));
+        let from = put_stp(room, from, self.digits, &self.item);
+        put_byte(room, from, b'\n')
+    }
+}
+
+/// Puts the line of an event, with its remark: `AT SOURCE WHAT`, or `AT.H SOURCE WHAT` where its source is an STP
+/// source (`stp`). The digits of the offset and the text of a place are kept for the next line.
 #[inline(always)]
 pub fn print(
     outlet: &mut Outlet,
@@ -208,6 +239,12 @@ pub fn print(
     ensures line { outlet.new ≡ outlet.old ++ event_line stp event.now remark }
     ensures bound { length outlet.new ≤ length outlet.old + EVENT_ROOM }
 {
+    if let (What::Packet(Packet::Itm(packet)), Some(id)) = (&event.what, event.source) {
+        if !stp {
+            put_line(outlet, digits, event.at, id, packet, remark);
+            return;
+        }
+    }
     short_event(event);
     short_remark(remark);
     digits.keep_event(event);
@@ -220,8 +257,9 @@ pub fn print(
     outlet.put(&line);
 }
 
-/// Puts the line of an ITM packet of this source, whose last byte is at this offset, with its remark. It is what `print`
-/// puts for that event, which is not made. The digits of the offset are kept for the next line.
+/// Puts the line of an ITM packet of this source, whose last byte is at this offset, with its remark. It is what
+/// `print` puts for that event, which is not made. The digits of the offset are kept for the next line.
+#[inline(always)]
 pub fn put_line(
     outlet: &mut Outlet,
     digits: &mut Digits,
@@ -246,6 +284,37 @@ pub fn put_line(
         id,
         packet: *packet,
         remark,
+    };
+    outlet.put(&line);
+}
+
+/// Puts the line of an item of this STP source, which ends in this half of the byte at this offset. It is what `print`
+/// puts for that event, which is not made. The digits of the offset and the text of a place are kept for the next line.
+#[inline(always)]
+pub fn put_stp_line(
+    outlet: &mut Outlet,
+    digits: &mut Digits,
+    at: u64,
+    half: u8,
+    id: SourceId,
+    item: StpItem,
+)
+    requires proper { IsProperItem item }
+    requires room { length outlet.old + TEXT_ROOM ≤ OUTLET_ROOM }
+    ensures line { outlet.new ≡ outlet.old ++ event_line true (stp_event at half id item) NoRemark }
+    ensures bound { length outlet.new ≤ length outlet.old + EVENT_ROOM }
+{
+    few_digits(at);
+    few_half_digits(half);
+    few_id_digits(id);
+    digits.keep(at);
+    digits.keep_item(&item);
+    let line = StpLine {
+        digits,
+        at,
+        half,
+        id,
+        item,
     };
     outlet.put(&line);
 }

@@ -1,13 +1,14 @@
 //! Bytes and numbers in the room that a text is given. Each is put after the first `from` bytes,
 //! and its end is the answer.
 
-ghost use Rattle.std.specs.Prelude.{◌≡◌, ◌+◌, ◌*◌, ◌≤◌, ◌<◌, ◌++◌, ◌∷◌, [], length, take, decimal, nat_lt};
+ghost use Rattle.std.specs.Prelude.{◌≡◌, ◌+◌, ◌*◌, ◌≤◌, ◌<◌, ◌++◌, ◌∷◌, [], length, take, drop, codes, decimal, nat_lt};
 ghost use Rattle.std.specs.Prelude.{if◌then◌else◌, ◌/◌};
 ghost use Rattle.hex.specs.Hex.{encode_lower};
 ghost use Rattle.trace_text.specs.Pairs.{pair, four, eight};
-ghost use Rattle.trace_text.specs.Values.{value_text};
+ghost use Rattle.itm_grammar.specs.Spelling.{byte_count};
+ghost use Rattle.trace_text.specs.Values.{bytes_of_value, value_text, width_text};
 
-use crate::tables::{NUMBERS, PAIRS};
+use crate::tables::{HEX_PAIRS, NUMBERS, PAIRS, PORTS, WIDTHS};
 use itm_grammar::packet::Size;
 use itoa::Buffer;
 
@@ -51,6 +52,45 @@ pub(crate) fn put_byte(room: &mut [u8], from: usize, byte: u8) -> usize
     from + 1
 }
 
+/// Puts two bytes of a table. They are put one by one, since a copy of a slice asks first whether the two overlap.
+#[inline(always)]
+fn put_two_of(room: &mut [u8], from: usize, table: &[u8], start: usize) -> usize
+    requires table { start + 2 ≤ length table.now }
+    requires room { from + 2 ≤ length room.old }
+    ensures text { take result room.new ≡ take from room.old ++ take 2 (drop start table.now) }
+    ensures same { length room.new ≡ length room.old }
+    ensures end { result ≡ from + 2 }
+{
+    let from = put_byte(room, from, table[start]);
+    put_byte(room, from, table[start + 1])
+}
+
+/// Puts four bytes of a table.
+#[inline(always)]
+fn put_four_of(room: &mut [u8], from: usize, table: &[u8], start: usize) -> usize
+    requires table { start + 4 ≤ length table.now }
+    requires room { from + 4 ≤ length room.old }
+    ensures text { take result room.new ≡ take from room.old ++ take 4 (drop start table.now) }
+    ensures same { length room.new ≡ length room.old }
+    ensures end { result ≡ from + 4 }
+{
+    let from = put_two_of(room, from, table, start);
+    put_two_of(room, from, table, start + 2)
+}
+
+/// Puts eight bytes of a table.
+#[inline(always)]
+fn put_eight_of(room: &mut [u8], from: usize, table: &[u8], start: usize) -> usize
+    requires table { start + 8 ≤ length table.now }
+    requires room { from + 8 ≤ length room.old }
+    ensures text { take result room.new ≡ take from room.old ++ take 8 (drop start table.now) }
+    ensures same { length room.new ≡ length room.old }
+    ensures end { result ≡ from + 8 }
+{
+    let from = put_four_of(room, from, table, start);
+    put_four_of(room, from, table, start + 4)
+}
+
 /// Puts the tens and the ones of a number below 100.
 #[inline]
 pub(crate) fn put_two(room: &mut [u8], from: usize, number: u8) -> usize
@@ -60,9 +100,7 @@ pub(crate) fn put_two(room: &mut [u8], from: usize, number: u8) -> usize
     ensures same { length room.new ≡ length room.old }
     ensures end { result ≡ from + 2 }
 {
-    let digits = PAIRS;
-    let start = 2 * number as usize;
-    put_bytes(room, from, &digits[start..start + 2])
+    put_two_of(room, from, PAIRS, 2 * number as usize)
 }
 
 /// Puts the first `len` of the bytes. There is room for all of them, so that where their number is a constant no branch
@@ -87,12 +125,26 @@ pub(crate) fn put_short(room: &mut [u8], from: usize, number: u8) -> usize
     ensures same { length room.new ≡ length room.old }
     ensures end { result ≤ from + 3 }
 {
-    let digits = NUMBERS;
-    let start = 4 * number as usize;
     let has_two = number >= 10;
     let has_three = number >= 100;
     let len = 1 + has_two as usize + has_three as usize;
-    put_front(room, from, &digits[start..start + 4], len)
+    let _all = put_four_of(room, from, NUMBERS, 4 * number as usize);
+    from + len
+}
+
+/// Puts `port`, the number of a stimulus port, and a space after it.
+#[inline(always)]
+pub(crate) fn put_port(room: &mut [u8], from: usize, port: u8) -> usize
+    requires port { port < 32 }
+    requires room { from + 8 ≤ length room.old }
+    ensures text { take result room.new ≡ take from room.old ++ (codes "port " ++ (decimal port ++ codes " ")) }
+    ensures same { length room.new ≡ length room.old }
+    ensures end { result ≤ from + 8 }
+{
+    let has_two = port >= 10;
+    let len = 7 + has_two as usize;
+    let _all = put_eight_of(room, from, PORTS, 8 * port as usize);
+    from + len
 }
 
 /// Puts the four digits of a number below 10,000, also those that are leading zeros.
@@ -209,6 +261,63 @@ pub(crate) fn put_digits(room: &mut [u8], from: usize, bytes: &[u8]) -> usize
     end
 }
 
+/// Puts the two hexadecimal digits of a byte.
+#[inline(always)]
+fn put_hex_pair(room: &mut [u8], from: usize, byte: u8) -> usize
+    requires room { from + 2 ≤ length room.old }
+    ensures text { take result room.new ≡ take from room.old ++ encode_lower (byte ∷ []) }
+    ensures same { length room.new ≡ length room.old }
+    ensures end { result ≡ from + 2 }
+{
+    put_two_of(room, from, HEX_PAIRS, 2 * byte as usize)
+}
+
+/// Puts the hexadecimal digits of the first `count` of four bytes. No branch depends on how many they are.
+#[inline(always)]
+fn put_hex_front(room: &mut [u8], from: usize, bytes: &[u8; 4], count: usize) -> usize
+    requires few { count ≤ 4 }
+    requires room { from + 8 ≤ length room.old }
+    ensures text { take result room.new ≡ take from room.old ++ encode_lower (take count bytes.now) }
+    ensures same { length room.new ≡ length room.old }
+    ensures end { result ≡ from + 2 * count }
+{
+    let end = put_hex_pair(room, from, bytes[0]);
+    let end = put_hex_pair(room, end, bytes[1]);
+    let end = put_hex_pair(room, end, bytes[2]);
+    let _all = put_hex_pair(room, end, bytes[3]);
+    from + 2 * count
+}
+
+/// Puts the word of a width and a space after it. No branch depends on which it is.
+#[inline(always)]
+fn put_width(room: &mut [u8], from: usize, size: Size) -> usize
+    requires room { from + 4 ≤ length room.old }
+    ensures text { take result room.new ≡ take from room.old ++ width_text size }
+    ensures same { length room.new ≡ length room.old }
+    ensures end { result ≤ from + 4 }
+{
+    let (start, len) = match size {
+        Size::One => (0, 3),
+        Size::Two => (4, 4),
+        Size::Four => (8, 4),
+    };
+    let _all = put_four_of(room, from, WIDTHS, start);
+    from + len
+}
+
+/// The bytes of a value of this size, the most significant first, and then others.
+#[inline(always)]
+fn value_bytes(size: Size, value: u32) -> [u8; 4]
+    ensures { take (byte_count size) result ≡ bytes_of_value size value }
+{
+    let [a, b, c, d] = value.to_be_bytes();
+    match size {
+        Size::One => [d, 0, 0, 0],
+        Size::Two => [c, d, 0, 0],
+        Size::Four => [a, b, c, d],
+    }
+}
+
 /// Puts the word of a width, and the value in hexadecimal with as many digits as its bytes have.
 #[inline(always)]
 pub(crate) fn put_value(room: &mut [u8], from: usize, size: Size, value: u32) -> usize
@@ -217,19 +326,11 @@ pub(crate) fn put_value(room: &mut [u8], from: usize, size: Size, value: u32) ->
     ensures same { length room.new ≡ length room.old }
     ensures end { result ≤ from + NUMBER_ROOM }
 {
-    let bytes = value.to_be_bytes();
-    match size {
-        Size::One => {
-            let end = put_bytes(room, from, b"u8 ");
-            put_digits(room, end, &bytes[3..])
-        }
-        Size::Two => {
-            let end = put_bytes(room, from, b"u16 ");
-            put_digits(room, end, &bytes[2..])
-        }
-        Size::Four => {
-            let end = put_bytes(room, from, b"u32 ");
-            put_digits(room, end, &bytes)
-        }
-    }
+    let from = put_width(room, from, size);
+    put_hex_front(
+        room,
+        from,
+        &value_bytes(size, value),
+        size.byte_count() as usize,
+    )
 }

@@ -3,6 +3,7 @@
 ghost use Rattle.std.specs.Prelude.{◌≡◌, ◌+◌, ◌/◌, ◌^◌, ◌≤◌, ◌<◌, ◌++◌, ◌∷◌, [], length, take, codes, decimal};
 ghost use Rattle.hex.specs.Hex.{encode_lower};
 ghost use Rattle.stp_grammar.specs.Proper.{bits_of, IsProperItem, IsProperStamp};
+ghost use Rattle.stp_grammar.specs.declared.item.StpItem.TheVariants.{MasterError, Flag, Trigger, Frequency};
 ghost use Rattle.trace_text.specs.HexDigits.{hex_digits};
 ghost use Rattle.trace_text.specs.Digits.{KeepsPlace, place_of};
 ghost use Rattle.trace_text.specs.StpText.{known_text, place_text, datum_text, mark_text, stamp_text, stp_text};
@@ -168,6 +169,67 @@ fn put_data(
     put_stamp(room, from, stamp)
 }
 
+/// Puts an error of a master, whose place is kept: `merr M C HH`.
+#[inline(always)]
+fn put_master_error(room: &mut [u8], from: usize, digits: &Digits, place: Place, code: u8) -> usize
+    requires kept { place_of digits.now.place ≡ place }
+    requires room { from + ITEM_ROOM ≤ length room.old }
+    ensures text { take result room.new ≡ take from room.old ++ stp_text (MasterError place code) }
+    ensures same { length room.new ≡ length room.old }
+    ensures end { result ≤ from + ITEM_ROOM }
+{
+    let from = put_bytes(room, from, b"merr ");
+    let from = digits.place.put(room, from, place);
+    let from = put_byte(room, from, b' ');
+    put_digits(room, from, &[code])
+}
+
+/// Puts a flag, whose place is kept: `flag M C T`.
+#[inline(always)]
+fn put_flag(room: &mut [u8], from: usize, digits: &Digits, place: Place, stamp: Stamp) -> usize
+    requires kept { place_of digits.now.place ≡ place }
+    requires proper { IsProperStamp stamp }
+    requires room { from + ITEM_ROOM ≤ length room.old }
+    ensures text { take result room.new ≡ take from room.old ++ stp_text (Flag place stamp) }
+    ensures same { length room.new ≡ length room.old }
+    ensures end { result ≤ from + ITEM_ROOM }
+{
+    let from = put_bytes(room, from, b"flag ");
+    let from = digits.place.put(room, from, place);
+    let from = put_byte(room, from, b' ');
+    put_stamp(room, from, stamp)
+}
+
+/// Puts a trigger: `trig HH T`.
+#[inline(always)]
+fn put_trigger(room: &mut [u8], from: usize, code: u8, stamp: Stamp) -> usize
+    requires proper { IsProperStamp stamp }
+    requires room { from + ITEM_ROOM ≤ length room.old }
+    ensures text { take result room.new ≡ take from room.old ++ stp_text (Trigger code stamp) }
+    ensures same { length room.new ≡ length room.old }
+    ensures end { result ≤ from + ITEM_ROOM }
+{
+    let from = put_bytes(room, from, b"trig ");
+    let from = put_digits(room, from, &[code]);
+    let from = put_byte(room, from, b' ');
+    put_stamp(room, from, stamp)
+}
+
+/// Puts a frequency: `freq N T`.
+#[inline(always)]
+fn put_frequency(room: &mut [u8], from: usize, hertz: u32, stamp: Stamp) -> usize
+    requires proper { IsProperStamp stamp }
+    requires room { from + ITEM_ROOM ≤ length room.old }
+    ensures text { take result room.new ≡ take from room.old ++ stp_text (Frequency hertz stamp) }
+    ensures same { length room.new ≡ length room.old }
+    ensures end { result ≤ from + ITEM_ROOM }
+{
+    let from = put_bytes(room, from, b"freq ");
+    let from = put_number(room, from, u64::from(hertz));
+    let from = put_byte(room, from, b' ');
+    put_stamp(room, from, stamp)
+}
+
 /// Puts the text of an item, whose place, if it has one, is kept.
 #[inline(always)]
 pub(crate) fn put_stp(room: &mut [u8], from: usize, digits: &Digits, item: &StpItem) -> usize
@@ -184,12 +246,7 @@ pub(crate) fn put_stp(room: &mut [u8], from: usize, digits: &Digits, item: &StpI
             let from = put_bytes(room, from, b"version ");
             put_short(room, from, version)
         }
-        StpItem::MasterError { place, code } => {
-            let from = put_bytes(room, from, b"merr ");
-            let from = digits.place.put(room, from, place);
-            let from = put_byte(room, from, b' ');
-            put_digits(room, from, &[code])
-        }
+        StpItem::MasterError { place, code } => put_master_error(room, from, digits, place, code),
         StpItem::GlobalError { code } => {
             let from = put_bytes(room, from, b"gerr ");
             put_digits(room, from, &[code])
@@ -201,24 +258,9 @@ pub(crate) fn put_stp(room: &mut [u8], from: usize, digits: &Digits, item: &StpI
             marked,
             stamp,
         } => put_data(room, from, digits, place, width, value, marked, stamp),
-        StpItem::Flag { place, stamp } => {
-            let from = put_bytes(room, from, b"flag ");
-            let from = digits.place.put(room, from, place);
-            let from = put_byte(room, from, b' ');
-            put_stamp(room, from, stamp)
-        }
-        StpItem::Trigger { code, stamp } => {
-            let from = put_bytes(room, from, b"trig ");
-            let from = put_digits(room, from, &[code]);
-            let from = put_byte(room, from, b' ');
-            put_stamp(room, from, stamp)
-        }
-        StpItem::Frequency { hertz, stamp } => {
-            let from = put_bytes(room, from, b"freq ");
-            let from = put_number(room, from, u64::from(hertz));
-            let from = put_byte(room, from, b' ');
-            put_stamp(room, from, stamp)
-        }
+        StpItem::Flag { place, stamp } => put_flag(room, from, digits, place, stamp),
+        StpItem::Trigger { code, stamp } => put_trigger(room, from, code, stamp),
+        StpItem::Frequency { hertz, stamp } => put_frequency(room, from, hertz, stamp),
         StpItem::NullStamp { stamp } => {
             let from = put_bytes(room, from, b"nullts ");
             put_stamp(room, from, stamp)

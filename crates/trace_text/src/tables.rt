@@ -21,3 +21,24 @@ pub(crate) const NUMBERS: &[u8] = b"\
     200 201 202 203 204 205 206 207 208 209 210 211 212 213 214 215 216 217 218 219 \
     220 221 222 223 224 225 226 227 228 229 230 231 232 233 234 235 236 237 238 239 \
     240 241 242 243 244 245 246 247 248 249 250 251 252 253 254 255 ";
+
+/// The text of each stimulus port, 0 to 31, with a space after it: that of port n at 8n. The bytes after it are of no
+/// account.
+pub(crate) const PORTS: &[u8] = b"\
+    port 0  port 1  port 2  port 3  port 4  port 5  port 6  port 7  port 8  port 9  \
+    port 10 port 11 port 12 port 13 port 14 port 15 port 16 port 17 port 18 port 19 \
+    port 20 port 21 port 22 port 23 port 24 port 25 port 26 port 27 port 28 port 29 \
+    port 30 port 31 ";
+
+/// The two hexadecimal digits of each byte: those of n at 2n.
+pub(crate) const HEX_PAIRS: &[u8] = b"\
+    000102030405060708090a0b0c0d0e0f101112131415161718191a1b1c1d1e1f2021222324252627\
+    28292a2b2c2d2e2f303132333435363738393a3b3c3d3e3f404142434445464748494a4b4c4d4e4f\
+    505152535455565758595a5b5c5d5e5f606162636465666768696a6b6c6d6e6f7071727374757677\
+    78797a7b7c7d7e7f808182838485868788898a8b8c8d8e8f909192939495969798999a9b9c9d9e9f\
+    a0a1a2a3a4a5a6a7a8a9aaabacadaeafb0b1b2b3b4b5b6b7b8b9babbbcbdbebfc0c1c2c3c4c5c6c7\
+    c8c9cacbcccdcecfd0d1d2d3d4d5d6d7d8d9dadbdcdddedfe0e1e2e3e4e5e6e7e8e9eaebecedeeef\
+    f0f1f2f3f4f5f6f7f8f9fafbfcfdfeff";
+
+/// The word of each width with a space after it: of one byte, of two, and of four. The bytes after it are of no account.
+pub(crate) const WIDTHS: &[u8] = b"u8  u16 u32 ";

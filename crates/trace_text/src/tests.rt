@@ -1,3 +1,5 @@
+//! The texts of lines, with the least and the greatest numbers.
+
 ghost use Rattle.std.specs.Prelude.{◌≡◌, ◌≤◌, IsSome};
 ghost use Rattle.trace_text.specs.Printable.{IsPrintable};
 
@@ -18,6 +20,8 @@ use stp_grammar::packet::Width;
 use stp_grammar::proper::is_proper_stp;
 use trace_stream::{TEXT_ROOM, Text};
 use trace_values::{Cell, Fault, Reason, SourceId};
+use trace_vectors::itm::{EXTENSIONS, HARDWARE_PACKETS, SOURCE_PACKETS, TIMESTAMPS};
+use trace_vectors::stp::STP_ITEMS;
 
 const MOST: u64 = u64::MAX;
 
@@ -389,103 +393,17 @@ fn check_packet(rt: &impl Abort, packet: ItmPacket, expected: &[u8]) {
     assert_eq!(rt; &room[..end], expected);
 }
 
-fn hardware(disc: u8, size: Size, value: u32) -> ItmPacket {
-    ItmPacket::Hardware { disc, size, value }
-}
-
-fn software(port: u8, size: Size, value: u32) -> ItmPacket {
-    ItmPacket::Software { port, size, value }
-}
-
-fn local(lateness: Lateness, delta: u32) -> ItmPacket {
-    ItmPacket::Local { lateness, delta }
-}
-
-fn first(len: u8, value: u32, change: bool, wrap: bool) -> ItmPacket {
-    ItmPacket::GlobalFirst {
-        len,
-        value,
-        change,
-        wrap,
-    }
-}
-
-fn second(wide: bool, value: u64) -> ItmPacket {
-    ItmPacket::GlobalSecond { wide, value }
-}
-
-// Each word of an ITM packet, with the least and the greatest numbers.
 #[test]
 fn texts_of_itm_packets(rt: HostRuntime) {
-    let rows: [(ItmPacket, &[u8]); 19] = [
-        (ItmPacket::Sync, b"sync"),
-        (ItmPacket::Overflow, b"overflow"),
-        (software(0, Size::One, 0), b"port 0 u8 00"),
-        (software(9, Size::Two, 0xFE), b"port 9 u16 00fe"),
-        (software(31, Size::Four, u32::MAX), b"port 31 u32 ffffffff"),
-        (local(Lateness::Exact, 0), b"local exact 0"),
-        (local(Lateness::StampLate, 6), b"local stamp-late 6"),
-        (
-            local(Lateness::PacketLate, 0xFFF_FFFF),
-            b"local packet-late 268435455",
-        ),
-        (local(Lateness::BothLate, 7), b"local both-late 7"),
-        (first(1, 0, false, false), b"global1 1 0 0 0"),
-        (first(3, 0x1F_FFFF, false, false), b"global1 3 2097151 0 0"),
-        (first(4, 0x3FF_FFFF, true, false), b"global1 4 67108863 1 0"),
-        (first(4, 0, false, true), b"global1 4 0 0 1"),
-        (second(false, 0), b"global2 48 0"),
-        (second(false, 0x3F_FFFF), b"global2 48 4194303"),
-        (second(true, 0x3F_FFFF_FFFF), b"global2 64 274877906943"),
-        (
-            ItmPacket::Extension {
-                dwt: false,
-                value: 0,
-            },
-            b"ext itm 00000000",
-        ),
-        (
-            ItmPacket::Extension {
-                dwt: true,
-                value: u32::MAX,
-            },
-            b"ext dwt ffffffff",
-        ),
-        (hardware(17, Size::Two, 0xAB), b"cmp 0 write u16 00ab"),
-    ];
-    for (packet, expected) in rows {
-        check_packet(&rt, packet, expected);
-    }
-}
-
-// The same of a hardware packet.
-#[test]
-fn texts_of_hardware_packets(rt: HostRuntime) {
-    let rows: [(ItmPacket, &[u8]); 18] = [
-        (hardware(0, Size::One, 0), b"counters 00"),
-        (hardware(0, Size::One, 0x3F), b"counters 3f"),
-        (hardware(1, Size::Two, 0x1000), b"exception 0 enter"),
-        (hardware(1, Size::Two, 0x200F), b"exception 15 exit"),
-        (hardware(1, Size::Two, 0x31FF), b"exception 511 return"),
-        (hardware(2, Size::Four, 0), b"pc 00000000"),
-        (hardware(2, Size::Four, u32::MAX), b"pc ffffffff"),
-        (hardware(2, Size::One, 0), b"asleep"),
-        (hardware(8, Size::Four, 0x0800_1234), b"cmp 0 pc 08001234"),
-        (hardware(14, Size::Four, u32::MAX), b"cmp 3 pc ffffffff"),
-        (hardware(9, Size::Two, 0), b"cmp 0 addr 0000"),
-        (hardware(15, Size::Two, 0xFFFF), b"cmp 3 addr ffff"),
-        (hardware(16, Size::One, 0), b"cmp 0 read u8 00"),
-        (
-            hardware(22, Size::Four, u32::MAX),
-            b"cmp 3 read u32 ffffffff",
-        ),
-        (hardware(23, Size::Two, 0xFFFF), b"cmp 3 write u16 ffff"),
-        (hardware(0, Size::One, 0x40), b"hw 0 u8 40"),
-        (hardware(3, Size::Two, 7), b"hw 3 u16 0007"),
-        (hardware(31, Size::Four, u32::MAX), b"hw 31 u32 ffffffff"),
-    ];
-    for (packet, expected) in rows {
-        check_packet(&rt, packet, expected);
+    for rows in [
+        SOURCE_PACKETS.as_slice(),
+        HARDWARE_PACKETS.as_slice(),
+        TIMESTAMPS.as_slice(),
+        EXTENSIONS.as_slice(),
+    ] {
+        for row in rows {
+            check_packet(&rt, row.packet, row.text.as_bytes());
+        }
     }
 }
 
@@ -498,169 +416,14 @@ fn check_item(rt: &impl Abort, item: StpItem, expected: &[u8]) {
     assert_eq!(rt; &room[..end], expected);
 }
 
-const NOWHERE: Place = Place {
-    master: None,
-    channel: None,
-};
-
-const LEAST: Place = Place {
-    master: Some(0),
-    channel: Some(0),
-};
-
-const GREATEST: Place = Place {
-    master: Some(65535),
-    channel: Some(65535),
-};
-
-/// Master 1, of which no channel is known.
-const MASTER: Place = Place {
-    master: Some(1),
-    channel: None,
-};
-
-fn datum(place: Place, width: Width, value: u64, marked: bool, stamp: Stamp) -> StpItem {
-    StpItem::Datum {
-        place,
-        width,
-        value,
-        marked,
-        stamp,
-    }
-}
-
 fn stamped(stamp: Stamp) -> StpItem {
     StpItem::NullStamp { stamp }
 }
 
-// Each word of an item of a system trace, with the least and the greatest numbers.
 #[test]
 fn texts_of_stp_items(rt: HostRuntime) {
-    let rows: [(StpItem, &[u8]); 28] = [
-        (StpItem::Async, b"async"),
-        (StpItem::Version(0), b"version 0"),
-        (StpItem::Version(15), b"version 15"),
-        (
-            StpItem::MasterError {
-                place: NOWHERE,
-                code: 0,
-            },
-            b"merr - - 00",
-        ),
-        (
-            StpItem::MasterError {
-                place: GREATEST,
-                code: 255,
-            },
-            b"merr 65535 65535 ff",
-        ),
-        (StpItem::GlobalError { code: 0 }, b"gerr 00"),
-        (StpItem::GlobalError { code: 255 }, b"gerr ff"),
-        (
-            datum(NOWHERE, Width::Four, 0, false, Stamp::None),
-            b"data - - u4 0 - -",
-        ),
-        (
-            datum(LEAST, Width::Four, 15, true, Stamp::None),
-            b"data 0 0 u4 f m -",
-        ),
-        (
-            datum(MASTER, Width::Eight, 0, false, Stamp::Natural(0)),
-            b"data 1 - u8 00 - n=0",
-        ),
-        (
-            datum(GREATEST, Width::Eight, 255, true, Stamp::Gray(MOST)),
-            b"data 65535 65535 u8 ff m g=18446744073709551615",
-        ),
-        (
-            datum(LEAST, Width::Sixteen, 0x1F, false, Stamp::None),
-            b"data 0 0 u16 001f - -",
-        ),
-        (
-            datum(LEAST, Width::Sixteen, 0xFFFF, true, Stamp::None),
-            b"data 0 0 u16 ffff m -",
-        ),
-        (
-            datum(LEAST, Width::ThirtyTwo, 0, false, Stamp::None),
-            b"data 0 0 u32 00000000 - -",
-        ),
-        (
-            datum(LEAST, Width::ThirtyTwo, 0xFFFF_FFFF, true, Stamp::None),
-            b"data 0 0 u32 ffffffff m -",
-        ),
-        (
-            datum(
-                LEAST,
-                Width::SixtyFour,
-                0x0123_4567_89AB_CDEF,
-                false,
-                Stamp::None,
-            ),
-            b"data 0 0 u64 0123456789abcdef - -",
-        ),
-        (
-            StpItem::Flag {
-                place: LEAST,
-                stamp: Stamp::None,
-            },
-            b"flag 0 0 -",
-        ),
-        (
-            StpItem::Flag {
-                place: GREATEST,
-                stamp: Stamp::Natural(MOST),
-            },
-            b"flag 65535 65535 n=18446744073709551615",
-        ),
-        (
-            StpItem::Trigger {
-                code: 0,
-                stamp: Stamp::None,
-            },
-            b"trig 00 -",
-        ),
-        (
-            StpItem::Trigger {
-                code: 255,
-                stamp: Stamp::Gray(0),
-            },
-            b"trig ff g=0",
-        ),
-        (
-            StpItem::Frequency {
-                hertz: 0,
-                stamp: Stamp::None,
-            },
-            b"freq 0 -",
-        ),
-        (
-            StpItem::Frequency {
-                hertz: u32::MAX,
-                stamp: Stamp::Natural(5),
-            },
-            b"freq 4294967295 n=5",
-        ),
-        (stamped(Stamp::Natural(0)), b"nullts n=0"),
-        (stamped(Stamp::Gray(MOST)), b"nullts g=18446744073709551615"),
-        (stamped(Stamp::Raw { size: 0, word: 0 }), b"nullts r="),
-        (stamped(Stamp::Raw { size: 3, word: 0xA }), b"nullts r=00a"),
-        (
-            stamped(Stamp::Raw {
-                size: 13,
-                word: 0xAB_CDEF,
-            }),
-            b"nullts r=00000000abcdef",
-        ),
-        (
-            stamped(Stamp::Raw {
-                size: 14,
-                word: 0x0123_4567_89AB_CDEF,
-            }),
-            b"nullts r=0123456789abcdef",
-        ),
-    ];
-    for (item, expected) in rows {
-        check_item(&rt, item, expected);
+    for row in STP_ITEMS {
+        check_item(&rt, row.item, row.text.as_bytes());
     }
 }
 
