@@ -1,5 +1,5 @@
-//! What the command does with a port's bytes as they come: it takes the bytes of one source out of them. It is an action
-//! that `trace_stream` serves.
+//! What the command does with a port's bytes as they come: it takes the bytes of one source out of them. It is an
+//! action that `trace_stream` serves.
 #![tactic(auto)]
 
 mod port;

@@ -1,13 +1,15 @@
 -- The clocks of all sources after one more packet of one of them.
-use Rattle.std.proofs.Common.{◌≡◌, ◌≢◌, ℕ, ◌<◌, inl, inr, List, [], ◌∷◌, ◌++◌, length, get_or, set, sym, ◌∙◌, ap, subst, append-nil, arith, Option, Some, Bool, true, false, cond}
+use Rattle.std.proofs.Common.{◌≡◌, ◌≢◌, ℕ, ◌<◌, inl, inr, List, [], ◌∷◌, ◌++◌, length, get_or, set, sym, ◌∙◌, ap, subst, append-nil, refl, arith, Option, Some, Bool, true, false, cond}
 use Rattle.std.specs.Prelude.{◌==◌}
 use Rattle.std.proofs.lemmas.Bool.{cases_eq}
 use Rattle.std.proofs.lemmas.Bool.Decides.{nat_tests}
 use Rattle.std.proofs.lemmas.List.{get_or-set_same, get_or-set_other}
 use Rattle.itm_grammar.specs.declared.packet.ItmPacket.{ItmPacket}
+use Rattle.stp_grammar.specs.declared.item.StpItem.{StpItem}
 use Rattle.source_events.specs.declared.event.Event.{Event}
 use Rattle.source_events.specs.declared.packet.Packet.{Packet}
 use Rattle.source_events.specs.Merge.{is_of}
+use Rattle.trace_text.specs.LineText.{stp_event}
 use Rattle.capture_report.specs.declared.clocks.Clocks.{Clocks}
 use Rattle.capture_report.specs.Clocks.{Stands}
 use Rattle.capture_report.specs.Listing.{itm_packet, itm_packets}
@@ -53,3 +55,13 @@ module _ (es : List (Event Packet)) (e : Event Packet) (packet : ItmPacket) (id 
         (subst (Stands (get_or old x d)) (sym (another x h)) (stands d))
         )
   ]
+
+-- an STP item is no packet of the clocks
+pub stp_stays : (source : Option ℕ) (es : List (Event Packet)) (at half id : ℕ) (item : StpItem) →
+    itm_packets source (es ++ stp_event at half id item ∷ []) ≡ itm_packets source es
+stp_stays source es at half id item =
+    packets_push source es (stp_event at half id item)
+    ∙ ap (λ (l : List ItmPacket). itm_packets source es ++ l) (none (is_of source (Some id))) ∙ append-nil (itm_packets source es) where
+      none : (b : Bool) → ◌≡◌ {A = List ItmPacket} (cond b [] []) []
+      none true = refl
+      none false = refl

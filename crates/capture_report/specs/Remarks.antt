@@ -1,5 +1,5 @@
 -- What is beside the timestamps of a source: the times after the packets up to each (ARMv7-M Architecture Reference
--- Manual, Arm DDI 0403, appendix 'Debug ITM and DWT packet protocol', timestamp packets).
+-- Manual, Arm DDI 0403E, appendix D4 'Debug ITM and DWT Packet Protocol', section D4.2 'Packet descriptions').
 use Rattle.std.specs.Prelude.{ℕ, List, [], ◌∷◌, flat_map, Option}
 use Rattle.itm_grammar.specs.declared.packet.ItmPacket.{ItmPacket}
 use Rattle.itm_grammar.specs.declared.packet.ItmPacket.TheVariants.{Local, GlobalFirst, GlobalSecond}

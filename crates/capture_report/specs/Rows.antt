@@ -33,16 +33,14 @@ mixed = codes "FF FF FF 7F 03 00 00 00 00 00 05 80 FE FF FE FF FE FF FE F8 FE FF
 abbrev pub listing_row : Plan → List ℕ → List ℕ
 listing_row plan text = listing (record { plan = plan; only = None; window = None }) (hex text)
 
-abbrev pub only_row : Choice → Plan → List ℕ → List ℕ
-only_row choice plan text = listing (record { plan = plan; only = Some choice; window = None }) (hex text)
-
 abbrev pub window_row : Choice → Choice → Plan → List ℕ → List ℕ
 window_row first last plan text =
     listing (record { plan = plan; only = None; window = Some (record { first = first; last = last }) }) (hex text)
 
 abbrev pub both_row : Choice → Choice → Choice → Plan → List ℕ → List ℕ
 both_row choice first last plan text =
-    listing (record { plan = plan; only = Some choice; window = Some (record { first = first; last = last }) }) (hex text)
+    listing (record { plan = plan; only = Some choice; window = Some (record { first = first; last = last }) })
+    (hex text)
 
 -- and its summary
 abbrev pub summary_row : Plan → List ℕ → List ℕ

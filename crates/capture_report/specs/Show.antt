@@ -13,8 +13,8 @@ use Rattle.capture_report.specs.declared.show.Show.{Show}
 abbrev pub plan_of : Show → ListPlan
 plan_of show = plan_by (reading.plan_of show.engine) show.filter
 
--- its engine stands for these bytes, its clocks have taken their packets, its window has seen their events, and it keeps
--- the fault of their report
+-- its engine stands for these bytes, its clocks have taken their packets, its window has seen their events, and it
+-- keeps the fault of their report
 pub record Stands (show : Show) (seen : List ℕ) : Type 0 where
   pub engine : reading.Stands show.engine (placed seen)
   pub clocks : AllStand show.clocks (report_of (reading.plan_of show.engine) (placed seen))

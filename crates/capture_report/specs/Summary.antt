@@ -26,7 +26,8 @@ sources_text plan u ids = flat_map (λ id. source_text id (source_counts_of plan
 abbrev pub counts_text : Plan → List Placed → List ℕ
 counts_text plan u =
     let port = port_counts_of plan u in
-    port_counts_text port.fulls port.halves port.frames ++ (sources_text plan u ID_COUNT ++ tails_text (tails_of plan u))
+    port_counts_text port.fulls port.halves port.frames
+    ++ (sources_text plan u ID_COUNT ++ tails_text (tails_of plan u))
 
 abbrev pub summary_by : Plan → List Placed → Option (Place × (Reason × Option ℕ)) → List ℕ
 summary_by plan u None = counts_text plan u

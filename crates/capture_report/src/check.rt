@@ -74,8 +74,8 @@ fn put_sources(outlet: &mut Outlet, reading: &Engine)
     }
 }
 
-/// How many bytes of a piece are fed at once: a halfword that FF begins alone, since a frame that may be counted whole can
-/// come after a synchronisation.
+/// How many bytes of a piece are fed at once: a halfword that FF begins alone, since a frame that may be counted whole
+/// can come after a synchronisation.
 #[inline]
 fn front_length(piece: &[u8]) -> usize
     requires { 0 < length piece.now }
@@ -141,7 +141,8 @@ impl Action for Check {
     ghost use Rattle.source_events.specs.declared.plan.Plan.{Plan};
     ghost use Rattle.capture_report.specs.Faulty.{IsFaulty};
     ghost use Rattle.capture_report.specs.Summary.{check_text, summary};
-    ghost use Rattle.capture_report.specs.CheckLaws.{none_at_first, nothing_at_first, faulty_stays, text_stays, summary_stays, text_grows};
+    ghost use Rattle.capture_report.specs.CheckLaws.{none_at_first, nothing_at_first, faulty_stays, text_stays};
+    ghost use Rattle.capture_report.specs.CheckLaws.{summary_stays, text_grows};
     ghost use Rattle.capture_report.specs.Check.{Stands, plan_of, taken_by, IsLive};
 
     type Plan = Plan;

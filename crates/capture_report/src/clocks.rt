@@ -29,7 +29,7 @@ impl Clocks {
         }
     }
 
-    /// Takes the next packet, whose numbers are in their ranges, and answers what stands beside it.
+    /// Takes the next packet, whose numbers are in their ranges, and answers what is beside it.
     #[inline]
     pub fn remark(&mut self, packet: &ItmPacket) -> Remark
         requires proper { IsProper packet.now }

@@ -1,6 +1,6 @@
 //! Which events of a capture are listed.
 
-ghost use Rattle.std.specs.Prelude.{◌≡◌, ◌++◌, ◌∷◌, [], List, not, ◌||◌};
+ghost use Rattle.std.specs.Prelude.{◌≡◌, ◌↔◌, ◌++◌, ◌∷◌, [], List, IsTrue, not, ◌||◌};
 ghost use Rattle.source_events.specs.declared.event.Event.{Event};
 ghost use Rattle.source_events.specs.declared.packet.Packet.{Packet};
 ghost use Rattle.source_events.specs.Report.{is_item};
@@ -63,9 +63,17 @@ impl Filter {
         Filter { only, window }
     }
 
+    /// All events are listed: there is no choice and no window.
+    #[inline]
+    pub fn lists_all(&self) -> bool
+        ensures { IsTrue result ↔ ((self.now.only ≡ None) × (self.now.window ≡ None)) }
+    {
+        self.only.is_none() && self.window.is_none()
+    }
+
     /// Takes the next event, and answers whether it is listed. Notices of locks are, and the window does not see them;
     /// it sees all other events, also those that do not meet the choice.
-    #[inline]
+    #[inline(always)]
     pub fn lists(&mut self, event: &Event<Packet>) -> bool
         ensures only { self.new.only ≡ self.old.only }
         ensures bounds { bounds_in self.new.window ≡ bounds_in self.old.window }

@@ -1,6 +1,7 @@
 //! `show`: the listing of the events of a capture.
 
-ghost use Rattle.std.specs.Prelude.{◌≡◌, ◌+◌, ◌≤◌, ◌++◌, ◌∷◌, [], List, length, is_none, Some, IfSome, true, if◌then◌else◌};
+ghost use Rattle.std.specs.Prelude.{◌≡◌, ◌+◌, ◌≤◌, ◌++◌, ◌∷◌, [], List, length, is_none, Some, IfSome, true};
+ghost use Rattle.std.specs.Prelude.{if◌then◌else◌};
 ghost use Rattle.arrayvec.specs.ArrayVec.{array_vec_len};
 ghost use Rattle.trace_stream.specs.declared.action.TheConstants.{ACTION_ROOM};
 ghost use Rattle.source_events.specs.declared.event.Event.{Event};
@@ -9,6 +10,7 @@ ghost use Rattle.source_events.specs.Fitting.{AllFit, EventFits, PacketFits};
 ghost use Rattle.source_events.specs.Plan.{is_sound};
 ghost use Rattle.trace_values.specs.declared.step.Step.TheVariants.{Item};
 ghost use Rattle.trace_values.specs.Stream.{StepFits};
+ghost use Rattle.source_machine.specs.Seen.{packet_in};
 ghost use Rattle.source_merge.specs.Bare.{bare_events};
 ghost use Rattle.source_merge.specs.Engine.{is_live};
 ghost use Rattle.trace_text.specs.LineText.{event_line};
@@ -16,17 +18,19 @@ ghost use Rattle.trace_text.specs.Printable.{Suits};
 ghost use Rattle.trace_stream.specs.declared.outlet.TheConstants.{TEXT_ROOM, OUTLET_ROOM};
 ghost use Rattle.capture_report.specs.Faulty.{is_stp};
 ghost use Rattle.capture_report.specs.Filter.{plan_by, HasSeen};
-ghost use Rattle.capture_report.specs.Listing.{is_listed, lines_after};
+ghost use Rattle.capture_report.specs.Listing.{is_listed, line_after, lines_after};
 ghost use Rattle.capture_report.specs.SourceClocks.{AllStand};
 
 use crate::filter::Filter;
 use crate::list_plan::ListPlan;
 use crate::source_clocks::SourceClocks;
 use crate::stopping::keep_stop;
+use itm_grammar::packet::ItmPacket;
 use source_events::{Event, Packet, Plan, Stop, What};
 use source_merge::{Engine, Events, bare_source, flow_after, note_bare};
+use stp_grammar::item::StpItem;
 use trace_stream::{Action, Flow, OUTLET_ROOM, Outlet, Taken};
-use trace_text::{Digits, EVENT_ROOM, Remark, print, print_fault, print_tails};
+use trace_text::{Digits, EVENT_ROOM, Remark, print, print_fault, print_tails, put_stp_line};
 use trace_values::{SourceId, Step};
 
 /// The reading of a capture, and what its listing needs of it.
@@ -81,6 +85,92 @@ fn put_event(
     }
 }
 
+/// Takes the next event, and puts its line if it is listed.
+#[inline(always)]
+fn put_next(
+    outlet: &mut Outlet,
+    digits: &mut Digits,
+    clocks: &mut SourceClocks,
+    filter: &mut Filter,
+    plan: &Plan,
+    event: &Event<Packet>,
+)
+    requires fits { EventFits PacketFits event.now }
+    requires room { length outlet.old + TEXT_ROOM ≤ OUTLET_ROOM }
+    ensures text { (before : List (Event Packet)) → AllStand clocks.old before → HasSeen filter.old before →
+        outlet.new ≡ outlet.old ++ line_after (plan_by plan.now filter.old) before event.now }
+    ensures clocks { (before : List (Event Packet)) → AllStand clocks.old before →
+        AllStand clocks.new (before ++ event.now ∷ []) }
+    ensures seen { (before : List (Event Packet)) → HasSeen filter.old before →
+        HasSeen filter.new (before ++ event.now ∷ []) }
+    ensures same { plan_by plan.now filter.new ≡ plan_by plan.now filter.old }
+    ensures bound { length outlet.new ≤ length outlet.old + EVENT_ROOM }
+{
+    let remark = clocks.remark(event);
+    put_event(outlet, digits, filter, plan, event, remark);
+}
+
+/// The same, for an event that is no software packet.
+#[inline(never)]
+fn put_other(
+    outlet: &mut Outlet,
+    digits: &mut Digits,
+    clocks: &mut SourceClocks,
+    filter: &mut Filter,
+    plan: &Plan,
+    event: &Event<Packet>,
+)
+    requires fits { EventFits PacketFits event.now }
+    requires room { length outlet.old + TEXT_ROOM ≤ OUTLET_ROOM }
+    ensures text { (before : List (Event Packet)) → AllStand clocks.old before → HasSeen filter.old before →
+        outlet.new ≡ outlet.old ++ line_after (plan_by plan.now filter.old) before event.now }
+    ensures clocks { (before : List (Event Packet)) → AllStand clocks.old before →
+        AllStand clocks.new (before ++ event.now ∷ []) }
+    ensures seen { (before : List (Event Packet)) → HasSeen filter.old before →
+        HasSeen filter.new (before ++ event.now ∷ []) }
+    ensures same { plan_by plan.now filter.new ≡ plan_by plan.now filter.old }
+    ensures bound { length outlet.new ≤ length outlet.old + EVENT_ROOM }
+{
+    put_next(outlet, digits, clocks, filter, plan, event);
+}
+
+/// The event is a software packet: most are.
+#[inline(always)]
+fn is_software(event: &Event<Packet>) -> bool {
+    matches!(
+        event.what,
+        What::Packet(Packet::Itm(ItmPacket::Software { .. }))
+    )
+}
+
+/// The same for any event. A software packet has code of its own, in which nothing more depends on the packet's kind.
+#[inline(always)]
+fn put_by_kind(
+    outlet: &mut Outlet,
+    digits: &mut Digits,
+    clocks: &mut SourceClocks,
+    filter: &mut Filter,
+    plan: &Plan,
+    event: &Event<Packet>,
+)
+    requires fits { EventFits PacketFits event.now }
+    requires room { length outlet.old + TEXT_ROOM ≤ OUTLET_ROOM }
+    ensures text { (before : List (Event Packet)) → AllStand clocks.old before → HasSeen filter.old before →
+        outlet.new ≡ outlet.old ++ line_after (plan_by plan.now filter.old) before event.now }
+    ensures clocks { (before : List (Event Packet)) → AllStand clocks.old before →
+        AllStand clocks.new (before ++ event.now ∷ []) }
+    ensures seen { (before : List (Event Packet)) → HasSeen filter.old before →
+        HasSeen filter.new (before ++ event.now ∷ []) }
+    ensures same { plan_by plan.now filter.new ≡ plan_by plan.now filter.old }
+    ensures bound { length outlet.new ≤ length outlet.old + EVENT_ROOM }
+{
+    if is_software(event) {
+        put_next(outlet, digits, clocks, filter, plan, event);
+    } else {
+        put_other(outlet, digits, clocks, filter, plan, event);
+    }
+}
+
 /// Puts the lines of these events, which follow others.
 fn put_events(
     outlet: &mut Outlet,
@@ -102,8 +192,7 @@ fn put_events(
     ensures same { plan_by plan.now filter.new ≡ plan_by plan.now filter.old }
 {
     for event in events {
-        let remark = clocks.remark(event);
-        put_event(outlet, digits, filter, plan, event, remark);
+        put_by_kind(outlet, digits, clocks, filter, plan, event);
     }
 }
 
@@ -122,7 +211,8 @@ fn put_packet(
     requires fits { PacketFits packet }
     requires room { length outlet.old + TEXT_ROOM ≤ OUTLET_ROOM }
     ensures text { (before : List (Event Packet)) → AllStand clocks.old before → HasSeen filter.old before →
-        outlet.new ≡ outlet.old ++ lines_after (plan_by plan.now filter.old) before (bare_events at (Some (Item half packet))) }
+        outlet.new ≡ outlet.old ++ lines_after (plan_by plan.now filter.old) before
+        (bare_events at (Some (Item half packet))) }
     ensures clocks { (before : List (Event Packet)) → AllStand clocks.old before →
         AllStand clocks.new (before ++ bare_events at (Some (Item half packet))) }
     ensures seen { (before : List (Event Packet)) → HasSeen filter.old before →
@@ -137,6 +227,43 @@ fn put_packet(
     };
     let remark = clocks.remark(&event);
     put_event(outlet, digits, filter, plan, &event, remark);
+}
+
+/// Puts the line of the item of an STP packet, if it has one, in a capture with no formatter: the packet ends in this
+/// half of the byte at this offset. Where all events are listed no event is made.
+#[inline(always)]
+fn put_stp(
+    outlet: &mut Outlet,
+    digits: &mut Digits,
+    clocks: &mut SourceClocks,
+    filter: &mut Filter,
+    plan: &Plan,
+    at: u64,
+    half: u8,
+    item: Option<StpItem>,
+)
+    requires fits { IfSome (packet_in half item) (StepFits PacketFits) }
+    requires room { length outlet.old + TEXT_ROOM ≤ OUTLET_ROOM }
+    ensures text { (before : List (Event Packet)) → AllStand clocks.old before → HasSeen filter.old before →
+        outlet.new ≡ outlet.old ++ lines_after (plan_by plan.now filter.old) before
+        (bare_events at (packet_in half item)) }
+    ensures clocks { (before : List (Event Packet)) → AllStand clocks.old before →
+        AllStand clocks.new (before ++ bare_events at (packet_in half item)) }
+    ensures seen { (before : List (Event Packet)) → HasSeen filter.old before →
+        HasSeen filter.new (before ++ bare_events at (packet_in half item)) }
+    ensures same { plan_by plan.now filter.new ≡ plan_by plan.now filter.old }
+{
+    let Some(item) = item else {
+        return;
+    };
+    let source = bare_source();
+    if filter.lists_all() && sends_stp(plan, Some(source)) {
+        clocks.pass_stp();
+        put_stp_line(outlet, digits, at, half, source, item);
+    } else {
+        let packet = Packet::Stp(item);
+        put_packet(outlet, digits, clocks, filter, plan, at, half, packet);
+    }
 }
 
 /// Puts the lines of what the answer to the byte at this offset gives, in a capture with no formatter. The events are
@@ -201,7 +328,8 @@ impl Show {
 
 impl Action for Show {
     ghost use Rattle.capture_report.specs.Listing.{listed, ending};
-    ghost use Rattle.capture_report.specs.ListingLaws.{Faulty, none_at_first, nothing_at_first, faulty_stays, listed_stays, ending_stays, listed_grows};
+    ghost use Rattle.capture_report.specs.ListingLaws.{Faulty, none_at_first, nothing_at_first, faulty_stays};
+    ghost use Rattle.capture_report.specs.ListingLaws.{listed_stays, ending_stays, listed_grows};
     ghost use Rattle.capture_report.specs.Show.{plan_of, Stands, taken_by, IsLive};
 
     type Plan = ListPlan;
@@ -248,6 +376,22 @@ impl Action for Show {
             );
             return Taken {
                 bytes,
+                flow: Flow::On,
+            };
+        }
+        if let Some(taken) = self.engine.take_stp(at, piece) {
+            put_stp(
+                outlet,
+                &mut self.digits,
+                &mut self.clocks,
+                &mut self.filter,
+                self.engine.plan(),
+                at + (taken.bytes as u64 - 1),
+                taken.half,
+                taken.item,
+            );
+            return Taken {
+                bytes: taken.bytes,
                 flow: Flow::On,
             };
         }

@@ -1,9 +1,11 @@
 //! The clocks of all sources.
 
 ghost use Rattle.std.specs.Prelude.{◌≡◌, ◌<◌, ◌++◌, ◌∷◌, [], ℕ, List, Some, get_or};
+ghost use Rattle.stp_grammar.specs.declared.item.StpItem.{StpItem};
 ghost use Rattle.source_events.specs.declared.event.Event.{Event};
 ghost use Rattle.source_events.specs.declared.packet.Packet.{Packet};
 ghost use Rattle.source_events.specs.Fitting.{EventFits, PacketFits};
+ghost use Rattle.trace_text.specs.LineText.{stp_event};
 ghost use Rattle.trace_text.specs.Printable.{Suits};
 ghost use Rattle.capture_report.specs.Listing.{itm_packets, remark_of};
 ghost use Rattle.capture_report.specs.SourceClocks.{AllStand};
@@ -45,4 +47,11 @@ impl SourceClocks {
             _ => Remark::None,
         }
     }
+
+    /// An STP item leaves the clocks as they are.
+    #[inline(always)]
+    pub fn pass_stp(&self)
+        ensures { (es : List (Event Packet)) (at half id : ℕ) (item : StpItem) → AllStand self.now es →
+            AllStand self.now (es ++ stp_event at half id item ∷ []) }
+    {}
 }

@@ -1,5 +1,6 @@
 -- The job of the entries, or the first fault.
-use Rattle.std.specs.Prelude.{◌≡◌, ◌≤◌, ℕ, length, List, [], ◌∷◌, true, Option, Some, None, Result, Ok, Err, ◌==◌, if◌then◌else◌}
+use Rattle.std.specs.Prelude.{◌≡◌, ◌≤◌, ℕ, length, List, [], ◌∷◌, true, Option, Some, None, Result, Ok, Err, ◌==◌}
+use Rattle.std.specs.Prelude.{if◌then◌else◌}
 use Rattle.std.specs.Prelude.{option_map}
 use Rattle.clap.specs.Words.{Row}
 use Rattle.capture_plan.specs.declared.frames.FramesMode.{FramesMode}
@@ -105,8 +106,8 @@ job_of rows =
     task_with name settings >>= (λ task.
     Ok (record { task = task; limit = settings.limit }))))
 
--- What is sure of a task: its plan is sound. For a script it has at most one STP source, and there are at most eight half
--- synchronisations in a gap. From 1 to 1,000,000 items are made, of which at most 1,000,000 bytes are lost.
+-- What is sure of a task: its plan is sound. For a script it has at most one STP source, and there are at most eight
+-- half synchronisations in a gap. From 1 to 1,000,000 items are made, of which at most 1,000,000 bytes are lost.
 abbrev pub IsSoundTask : Task → Type 0
 IsSoundTask (Show plan only window) = is_sound plan ≡ true
 IsSoundTask (Split frames id) = Unit {0}

@@ -5,10 +5,10 @@ mod choices;
 mod command;
 mod entries;
 mod job;
-mod laws;
+pub mod laws;
 mod option;
 mod reading;
-mod rows;
+pub mod rows;
 mod settings;
 #[cfg(test)]
 mod tests;

@@ -6,7 +6,7 @@ ghost use Rattle.capture_words.specs.Command.{option_name};
 /// An option of the command, in the order in which their values are looked at.
 #[derive(Clone, Copy, Debug, PartialEq, Eq, Drop)]
 pub enum CommandOption {
-    /// `--frames`: where the reading of a port begins, or that no frames stand around the bytes.
+    /// `--frames`: where the reading of a port begins, or that no frames are around the bytes.
     Frames,
     /// `--packets`: where the reading of a source begins.
     Packets,

@@ -1,7 +1,8 @@
 //! What all options say.
 
 ghost use Rattle.std.specs.Prelude.{◌≡◌, ◌≤◌, ℕ, Option, IfOk, IfSome};
-ghost use Rattle.capture_words.specs.declared.values.TheConstants.{GREATEST_LIMIT, GREATEST_SYNC, GREATEST_HALF, GREATEST_ITEMS};
+ghost use Rattle.capture_words.specs.declared.values.TheConstants.{GREATEST_LIMIT, GREATEST_SYNC, GREATEST_HALF};
+ghost use Rattle.capture_words.specs.declared.values.TheConstants.{GREATEST_ITEMS};
 ghost use Rattle.capture_words.specs.declared.values.TheConstants.{GREATEST_LOSS};
 ghost use Rattle.clap.specs.Words.{rows_of, found_of};
 ghost use Rattle.capture_words.specs.Jobs.{settings_in};

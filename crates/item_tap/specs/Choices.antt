@@ -14,8 +14,8 @@ use Rattle.item_tap.specs.declared.choice.Choice.TheVariants.{OfKind, Source, Po
 use Rattle.item_tap.specs.declared.choice.Kind.{Kind}
 use Rattle.item_tap.specs.declared.choice.Kind.TheVariants.{Itm, Dwt, Stp, Raw, Trigger}
 
--- a hardware source packet, which an ITM sends for a DWT unit (ARMv7-M Architecture Reference Manual, Arm DDI 0403,
--- 'Debug ITM and DWT packet protocol')
+-- a hardware source packet, which an ITM sends for a DWT unit (ARMv7-M Architecture Reference Manual, Arm DDI 0403E,
+-- appendix D4 'Debug ITM and DWT Packet Protocol', section D4.2 'Packet descriptions')
 abbrev pub is_hardware : ItmPacket → Bool
 is_hardware (Hardware disc size value) = true
 is_hardware packet = false

@@ -30,9 +30,9 @@ given_by source what = record { at = 7; half = 0; source = Some source; what = w
 abbrev pub some_events : List (Event Packet)
 some_events =
     given_by 1 (Given (ItmKind Sync)) ∷ given_by 1 (Given (ItmKind (Software 0 One 65)))
-    ∷ given_by 1 (Given (ItmKind (Hardware 0 One 0))) ∷ given_by 2 (Given (StpKind Async)) ∷ given_by 16 (Bytes (0 ∷ []))
-    ∷ given_by 125 (TriggerByte 0) ∷ given_by 1 (Given (ItmKind (Software 31 One 0))) ∷ given_by 16 (Bytes (1 ∷ []))
-    ∷ given_by 2 (Given (StpKind Async)) ∷ []
+    ∷ given_by 1 (Given (ItmKind (Hardware 0 One 0))) ∷ given_by 2 (Given (StpKind Async))
+    ∷ given_by 16 (Bytes (0 ∷ [])) ∷ given_by 125 (TriggerByte 0) ∷ given_by 1 (Given (ItmKind (Software 31 One 0)))
+    ∷ given_by 16 (Bytes (1 ∷ [])) ∷ given_by 2 (Given (StpKind Async)) ∷ []
 
 -- those of these events that pass a window after those before them, by their numbers from n on
 abbrev pub passing : Choice → Choice → ℕ → List (Event Packet) → List (Event Packet) → List ℕ

@@ -2,6 +2,8 @@ use Rattle.std.proofs.Common.{◌≡◌, ◌∙◌, ℕ, ◌+◌, ◌-◌, ◌++
 use Rattle.std.specs.Prelude.{option_map, IfSome}
 use Rattle.trace_values.specs.declared.block.Block.{Block}
 use Rattle.trace_values.specs.declared.step.Step.TheVariants.{Item}
+use Rattle.stp_codec.specs.declared.decoder.PacketTaken.{PacketTaken}
+use Rattle.source_machine.specs.Seen.{packet_in}
 use Rattle.trace_values.specs.Placed.{Placed, placed, placed_from}
 use Rattle.deformatter.specs.Block.{FedAs}
 use Rattle.trace_stream.specs.Taken.{FlowAfter}
@@ -73,7 +75,7 @@ returns-clause-fed c = λ seen s.
     let events = block.new.out.items in
     let bytes = take block.result.bytes c.args.piece.now in
     let at = c.next-at.result in
-    let is = c.feed_bare.ensures.none c.in_default-feed_bare.is ∙ c.take_packet.ensures.none c.in_default.is in
+    let is = c.feed_bare.ensures.none c.in_default-feed_bare.is ∙ c.take_stp.ensures.none c.in_default-take_stp.is ∙ c.take_packet.ensures.none c.in_default.is in
     let same = subst (λ (k : Engine). engine.plan_of block.new.self ≡ engine.plan_of k) is block.ensures.same in
     let list = subst (λ (k : Engine). (u : List Placed) → engine.Stands k u → engine.Stands block.new.self (u ++ placed_from at bytes))
     is block.ensures.list (placed seen) s.engine in
@@ -112,12 +114,55 @@ returns-clause-fed c = λ seen s.
           c.requires.live c.next-at.ensures same list fed);
     }
 
+pub returns-in-Some-take_stp-clause-fed : goal.returns-in-Some-take_stp-clause-fed
+returns-in-Some-take_stp-clause-fed c = λ seen s.
+    let old = c.args.self.now in
+    let p = plan_of old in
+    let taken = c.in-Some-take_stp.taken in
+    let is = c.take_packet.ensures.none c.in_default.is in
+    let piece = c.args.piece.now in
+    let at = c.next-at.result in
+    let new = c.take_stp.new.self in
+    let events = bare_events (at + (taken.bytes - 1)) (packet_in taken.half taken.item) in
+    let bytes = take taken.bytes piece in
+    let list = subst (λ (o : Option PacketTaken). IfSome o (λ x. engine.Stands new (placed seen ++ placed_from at (take x.bytes piece))))
+    c.in-Some-take_stp.is (c.take_stp.ensures.list (placed seen)
+    (subst (λ (k : Engine). engine.Stands k (placed seen)) (sym is) s.engine)) in
+    let fed = subst (λ (o : Option PacketTaken). IfSome o (λ x. FedAs (Answers p.plan [] Going)
+    (Answers p.plan (bare_events (at + (x.bytes - 1)) (packet_in x.half x.item)) Going) (placed seen) at (take x.bytes piece)))
+    c.in-Some-take_stp.is (subst (λ (k : Engine). (u : List Placed) → engine.Stands k u →
+    IfSome c.take_stp.result (λ x. FedAs (Answers (engine.plan_of k) [] Going)
+    (Answers (engine.plan_of k) (bare_events (at + (x.bytes - 1)) (packet_in x.half x.item)) Going) u at (take x.bytes piece)))
+    is c.take_stp.ensures.fed (placed seen) s.engine) in
+    let same = subst (λ (k : Engine). engine.plan_of new ≡ engine.plan_of k) is c.take_stp.ensures.same in
+    let report = report_of p.plan (placed seen) in
+    record {
+      read = record {
+        engine = stands_after old.engine new seen bytes at events Going s.engine c.requires.live c.next-at.ensures same list fed;
+        clocks = subst (λ (es : List (Event Packet)). AllStand c.put_stp.new.clocks es)
+            (sym (report_after old.engine new seen bytes at events Going s.engine c.requires.live c.next-at.ensures same list fed))
+            (c.put_stp.ensures.clocks report s.clocks);
+        filter = subst (λ (es : List (Event Packet)). HasSeen c.put_stp.new.filter es)
+            (sym (report_after old.engine new seen bytes at events Going s.engine c.requires.live c.next-at.ensures same list fed))
+            (c.put_stp.ensures.seen report s.filter);
+        stop = stop_after old.engine new seen bytes at events Going s.engine c.requires.live c.next-at.ensures same list fed
+            old.stop (sym old.alive ∙ c.requires.live);
+      };
+      more = lines_after p report events;
+      grown = ap (lines_after p []) (report_here old.engine new seen bytes at events Going s.engine c.requires.live c.next-at.ensures same list fed)
+          ∙ lines_append p [] report events;
+      gained = c.put_stp.ensures.text report s.clocks s.filter
+          ∙ ap (λ (plan : Plan). c.args.outlet.now ++ lines_after (plan_by plan old.filter) report events)
+          (c.plan-in-Some-take_stp.ensures ∙ same);
+      goes_on = flow_after old.engine new seen bytes at events Going s.engine c.requires.live c.next-at.ensures same list fed;
+    }
+
 pub returns-in-Some-feed_bare-clause-fed : goal.returns-in-Some-feed_bare-clause-fed
 returns-in-Some-feed_bare-clause-fed c = λ seen s.
     let old = c.args.self.now in
     let p = plan_of old in
     let block = c.in-Some-feed_bare.block in
-    let is = c.take_packet.ensures.none c.in_default.is in
+    let is = c.take_stp.ensures.none c.in_default-take_stp.is ∙ c.take_packet.ensures.none c.in_default.is in
     let piece = c.args.piece.now in
     let at = c.next-at.result in
     let new = c.feed_bare.new.self in
@@ -170,15 +215,23 @@ pub returns-clause-same : goal.returns-clause-same
 returns-clause-same c =
     let old = c.args.self.now in
     let block = c.feed_block-fed in
-    let is = c.feed_bare.ensures.none c.in_default-feed_bare.is ∙ c.take_packet.ensures.none c.in_default.is in
+    let is = c.feed_bare.ensures.none c.in_default-feed_bare.is ∙ c.take_stp.ensures.none c.in_default-take_stp.is ∙ c.take_packet.ensures.none c.in_default.is in
     same_asked (engine.plan_of old.engine) c.plan-2.result.now (engine.plan_of block.new.self) old.filter
     c.put_events.new.filter c.plan-2.ensures (block.ensures.same ∙ ap (λ (k : Engine). engine.plan_of k) is)
     c.put_events.ensures.same
 
+pub returns-in-Some-take_stp-clause-same : goal.returns-in-Some-take_stp-clause-same
+returns-in-Some-take_stp-clause-same c =
+    let old = c.args.self.now in
+    let is = c.take_packet.ensures.none c.in_default.is in
+    same_asked (engine.plan_of old.engine) c.plan-in-Some-take_stp.result.now (engine.plan_of c.take_stp.new.self)
+    old.filter c.put_stp.new.filter c.plan-in-Some-take_stp.ensures
+    (c.take_stp.ensures.same ∙ ap (λ (k : Engine). engine.plan_of k) is) c.put_stp.ensures.same
+
 pub returns-in-Some-feed_bare-clause-same : goal.returns-in-Some-feed_bare-clause-same
 returns-in-Some-feed_bare-clause-same c =
     let old = c.args.self.now in
-    let is = c.take_packet.ensures.none c.in_default.is in
+    let is = c.take_stp.ensures.none c.in_default-take_stp.is ∙ c.take_packet.ensures.none c.in_default.is in
     same_asked (engine.plan_of old.engine) c.plan-in-Some-feed_bare.result.now (engine.plan_of c.feed_bare.new.self)
     old.filter c.put_answer.new.filter c.plan-in-Some-feed_bare.ensures
     (c.feed_bare.ensures.same ∙ ap (λ (k : Engine). engine.plan_of k) is) c.put_answer.ensures.same
