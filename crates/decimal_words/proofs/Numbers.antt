@@ -1,5 +1,5 @@
 -- A text names a number within bounds exactly where it is the decimal of one.
-use Rattle.std.proofs.Common.{◌≡◌, ℕ, zero, suc, subst, ◌+◌, ◌*◌, ◌≤◌, ◌<◌, ◌^◌, List, [], ◌∷◌, length, Bool, true, false, arith, sym, ap, refl, ◌∙◌, Option, Some}
+use Rattle.std.proofs.Common.{drop, get_or, drop-cons, ◌≡◌, ℕ, zero, suc, subst, ◌+◌, ◌*◌, ◌≤◌, ◌<◌, ◌^◌, List, [], ◌∷◌, length, Bool, true, false, arith, sym, ap, refl, ◌∙◌, Option, Some}
 use Rattle.std.proofs.Common.{None, nat_le, if◌then◌else◌}
 use Rattle.std.specs.Str.{bytes_eq}
 use Rattle.std.specs.Str.Parse.{digits_value, digits_value_after, AllDigits}
@@ -55,6 +55,15 @@ names_nothing least greatest text never = go (number_named least greatest text) 
 pub value_grows : (n : ℕ) (digits : List ℕ) → n ≤ digits_value_after 10 n digits
 value_grows n [] = omega arith
 value_grows n (c ∷ digits) = let k = value_grows (n * 10 + digit_value c) digits in omega arith
+
+-- after some digits, of which this is the value, the next one says no more than all
+pub next_grows : (v i : ℕ) (digits : List ℕ) → i < length digits → digits_value_after 10 v (drop i digits) ≡ digits_value 10 digits →
+    v * 10 + digit_value (get_or digits i 0) ≤ digits_value 10 digits
+next_grows v i digits h e =
+    let rest = drop (suc i) digits in
+    let grows = value_grows (v * 10 + digit_value (get_or digits i 0)) rest in
+    let all : digits_value_after 10 v (get_or digits i 0 ∷ rest) ≡ digits_value 10 digits = ap (digits_value_after 10 v) (sym (drop-cons digits i 0 h)) ∙ e in
+    subst (λ (m : ℕ). v * 10 + digit_value (get_or digits i 0) ≤ m) all grows
 
 -- digits are the decimal of what they say
 pub is_decimal : (text : List ℕ) (n : ℕ) → HasDigits text → n < 2 ^ 64 → AllDigits 10 text × (n ≡ digits_value 10 text) → text ≡ decimal n

@@ -1,29 +1,27 @@
 //! Numbers in words.
 
 ghost use Rattle.std.specs.Prelude.{◌≡◌, ◌↔◌, ◌≤◌, ◌<◌, ◌^◌, ℕ, IfSome, IsTrue, None, decimal};
-ghost use Rattle.std.specs.Str.Parse.{AllDigits, digits_value_after};
+ghost use Rattle.std.specs.Str.Parse.{AllDigits, digits_value};
 ghost use Rattle.decimal_words.specs.Numbers.{number_named, HasDigits};
 
 use trace_values::SourceId;
 
-/// The number that digits say after those of a value, if they are decimal digits alone and it has at most 64 bits.
+/// The number that digits say, if they are decimal digits alone and it has at most 64 bits.
 #[tactic(auto, using(crate::proofs::Numbers::value_grows))]
-fn value_after(value: u64, digits: &[u8]) -> Option<u64>
+fn digits_value(digits: &[u8]) -> Option<u64>
     ensures some { IfSome result (λ n. (n < 2 ^ 64) × AllDigits 10 digits.now
-        × (n ≡ digits_value_after 10 value digits.now)) }
-    ensures none { result ≡ None → AllDigits 10 digits.now → digits_value_after 10 value digits.now < 2 ^ 64 → ⊥ }
+        × (n ≡ digits_value 10 digits.now)) }
+    ensures none { result ≡ None → AllDigits 10 digits.now → digits_value 10 digits.now < 2 ^ 64 → ⊥ }
 {
-    match digits {
-        [] => Some(value),
-        [digit, digits @ ..] => {
-            if !digit.is_ascii_digit() {
-                return None;
-            }
-            let tens = value.checked_mul(10)?;
-            let value = tens.checked_add(u64::from(*digit - b'0'))?;
-            value_after(value, digits)
+    let mut value: u64 = 0;
+    for digit in digits {
+        if !digit.is_ascii_digit() {
+            return None;
         }
+        let tens = value.checked_mul(10)?;
+        value = tens.checked_add(u64::from(*digit - b'0'))?;
     }
+    Some(value)
 }
 
 /// Whether a text has digits, and no leading zero unless it is 0.
@@ -39,7 +37,7 @@ fn whole_number(text: &[u8]) -> Option<u64>
     ensures none { (n : ℕ) → n < 2 ^ 64 → text.now ≡ decimal n → result ≡ Some n }
 {
     if has_digits(text) {
-        value_after(0, text)
+        digits_value(text)
     } else {
         None
     }

@@ -6,3 +6,4 @@ pub mod ReadingBack
 pub mod Room
 pub mod Fronts
 pub mod Sureness
+pub mod Appending

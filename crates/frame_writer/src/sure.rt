@@ -14,12 +14,25 @@ use trace_values::SourceId;
 pub type TwoFrames = ArrayVec<u8, 528>;
 
 /// Appends bytes for which there is room.
-fn append(out: &mut TwoFrames, bytes: &[u8])
-    requires room { array_vec_len out.old + length bytes.now ≤ 528 }
+fn append<const N: usize>(out: &mut ArrayVec<u8, N>, bytes: &[u8])
+    requires room { array_vec_len out.old + length bytes.now ≤ N }
     ensures items { out.new.items ≡ out.old.items ++ bytes.now }
     ensures len { array_vec_len out.new ≡ array_vec_len out.old + length bytes.now }
 {
     let _ = out.try_extend_from_slice(bytes);
+}
+
+/// Moves a frame, if there is one, to the end of bytes that have room for it.
+fn give<const N: usize>(frame: &mut ArrayVec<u8, 264>, out: &mut ArrayVec<u8, N>)
+    requires room { array_vec_len out.old + array_vec_len frame.old ≤ N }
+    ensures items { out.new.items ≡ out.old.items ++ frame.old.items }
+    ensures len { array_vec_len out.new ≡ array_vec_len out.old + array_vec_len frame.old }
+    ensures given { frame.new.items ≡ [] }
+{
+    if !frame.is_empty() {
+        append(out, frame.as_slice());
+        frame.clear();
+    }
 }
 
 /// These bytes.
@@ -44,7 +57,7 @@ pub struct SureWriter {
 }
 
 impl SureWriter {
-    ghost use Rattle.frame_writer.specs.Sure.{IsSure, count_of, held_by, pairs_of};
+    ghost use Rattle.frame_writer.specs.Sure.{IsSure, Appends, count_of, held_by, pairs_of, most_with, of_one};
 
     /// A writer that was given nothing. It writes synchronisations as `FrameWriter::new` says.
     pub fn new(every: u32, halves: u8) -> SureWriter
@@ -79,12 +92,44 @@ impl SureWriter {
         ensures len { array_vec_len out.new + held_by self.new + 132 * count_of self.old
             ≤ held_by self.old + 132 * count_of self.new }
     {
-        append(out, self.ready.as_slice());
-        self.ready.clear();
+        self.append_sure(id, byte, out);
+    }
+
+    /// Puts bytes of a source other than 0, and appends what becomes sure with them, for which there is room: what is
+    /// kept back, and the frames that so many bytes can make whole.
+    pub fn put_all<const N: usize>(&mut self, id: SourceId, bytes: &[u8], out: &mut ArrayVec<u8, N>)
+        requires source { 0 < id }
+        requires count { count_of self.old + length bytes.now ≤ COUNT_ROOM }
+        requires room { array_vec_len out.old + held_by self.old + 132 * most_with self.old (length bytes.now)
+            ≤ N + 132 * count_of self.old }
+        ensures put { Appends self.old self.new (of_one id bytes.now) out.old.items out.new.items }
+        ensures count { count_of self.new ≤ count_of self.old + length bytes.now }
+        ensures load { 7 * count_of self.new + pairs_of self.new ≤
+            7 * count_of self.old + pairs_of self.old + 2 * length bytes.now }
+        ensures len { array_vec_len out.new + held_by self.new + 132 * count_of self.old
+            ≤ array_vec_len out.old + held_by self.old + 132 * count_of self.new }
+    {
+        for byte in bytes {
+            self.append_sure(id, *byte, out);
+        }
+    }
+
+    /// Puts a byte of a source other than 0, and appends what has become sure: nothing, or one frame.
+    fn append_sure<const N: usize>(&mut self, id: SourceId, byte: u8, out: &mut ArrayVec<u8, N>)
+        requires source { 0 < id }
+        requires count { count_of self.old < COUNT_ROOM }
+        requires room { array_vec_len out.old + held_by self.old + 132 * most_with self.old 1
+            ≤ N + 132 * count_of self.old }
+        ensures put { Appends self.old self.new (record { id = id; byte = byte } ∷ []) out.old.items out.new.items }
+        ensures count { count_of self.new ≤ count_of self.old + 1 }
+        ensures load { 7 * count_of self.new + pairs_of self.new ≤ 7 * count_of self.old + pairs_of self.old + 2 }
+        ensures len { array_vec_len out.new + held_by self.new + 132 * count_of self.old
+            ≤ array_vec_len out.old + held_by self.old + 132 * count_of self.new }
+    {
+        give(&mut self.ready, out);
         self.writer.put(id, byte, &mut self.ready);
         if self.writer.is_begun() {
-            append(out, self.ready.as_slice());
-            self.ready.clear();
+            give(&mut self.ready, out);
         }
     }
 

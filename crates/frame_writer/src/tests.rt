@@ -1,3 +1,5 @@
+//! Captures of frames, written and read back.
+
 ghost use Rattle.std.specs.Prelude.{IsTrue};
 ghost use Rattle.frame_grammar.specs.Frame.{IsProperFrame};
 

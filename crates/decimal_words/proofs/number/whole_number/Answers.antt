@@ -2,10 +2,10 @@ use Rattle.decimal_words.proofs.Numbers.{decimal_if, read_if, decimal_has}
 use Rattle.decimal_words.proofs.number.whole_number.Goals as goal
 
 pub returns-then-has_digits-clause-some : goal.returns-then-has_digits-clause-some
-returns-then-has_digits-clause-some c = decimal_if c.args.text.now c.value_after.result (c.has_digits.ensures.0 c.if-has_digits.true) c.value_after.ensures.some
+returns-then-has_digits-clause-some c = decimal_if c.args.text.now c.digits_value.result (c.has_digits.ensures.0 c.if-has_digits.true) c.digits_value.ensures.some
 
 pub returns-then-has_digits-clause-none : goal.returns-then-has_digits-clause-none
-returns-then-has_digits-clause-none c = λ n small e. read_if c.args.text.now c.value_after.result n small e c.value_after.ensures.some c.value_after.ensures.none
+returns-then-has_digits-clause-none c = λ n small e. read_if c.args.text.now c.digits_value.result n small e c.digits_value.ensures.some c.digits_value.ensures.none
 
 pub returns-else-has_digits-clause-none : goal.returns-else-has_digits-clause-none
 returns-else-has_digits-clause-none c = λ n small e.

@@ -1,0 +1,36 @@
+-- The putting of one byte after others.
+use Rattle.std.proofs.Common.{ℕ, ◌+◌, ◌<◌, List, [], ◌∷◌, ◌++◌, sym, ◌∙◌, ap, subst, append_assoc, append-nil, length, take, get_or}
+use Rattle.std.proofs.lemmas.List.{take_more, map-append}
+use Rattle.frame_writer.specs.Written.{Tagged}
+use Rattle.frame_writer.specs.Fronts.{sure}
+use Rattle.frame_writer.specs.Sure.{IsSure, Appends, of_one}
+use Rattle.frame_writer.specs.declared.sure.SureWriter.{SureWriter}
+
+pub appends_none : (w : SureWriter) (out : List ℕ) → Appends w w [] out out
+appends_none w out = record {
+  more = [];
+  appended = sym (append-nil out);
+  list = λ every halves t s. subst (IsSure w every halves) (sym (append-nil t)) s;
+  grown = λ every halves t s. ap (sure every halves) (append-nil t) ∙ sym (append-nil (sure every halves t));
+}
+
+appends_join : (a b c : SureWriter) (t u : List Tagged) (first mid last : List ℕ) → Appends a b t first mid → Appends b c u mid last → Appends a c (t ++ u) first last
+appends_join a b c t u first mid last one two = record {
+  more = one.more ++ two.more;
+  appended = two.appended ∙ ap (λ (l : List ℕ). l ++ two.more) one.appended ∙ append_assoc first one.more two.more;
+  list = λ every halves s k. subst (IsSure c every halves) (append_assoc s t u) (two.list every halves (s ++ t) (one.list every halves s k));
+  grown = λ every halves s k.
+      ap (sure every halves) (sym (append_assoc s t u))
+      ∙ two.grown every halves (s ++ t) (one.list every halves s k)
+      ∙ ap (λ (l : List ℕ). l ++ two.more) (one.grown every halves s k)
+      ∙ append_assoc (sure every halves s) one.more two.more;
+}
+
+-- one more of some bytes
+pub appends_more : (a b c : SureWriter) (id : ℕ) (bytes : List ℕ) (i : ℕ) (first mid last : List ℕ) → i < length bytes → Appends a b (of_one id (take i bytes)) first mid →
+    Appends b c (record { id = id; byte = get_or bytes i 0 } ∷ []) mid last → Appends a c (of_one id (take (i + 1) bytes)) first last
+appends_more a b c id bytes i first mid last h one two =
+    let tag : ℕ → Tagged = λ byte. record { id = id; byte = byte } in
+    subst (λ l. Appends a c l first last)
+    (sym (ap (of_one id) (take_more bytes i 0 h) ∙ map-append tag (take i bytes) (get_or bytes i 0 ∷ [])))
+    (appends_join a b c (of_one id (take i bytes)) (record { id = id; byte = get_or bytes i 0 } ∷ []) first mid last one two)
