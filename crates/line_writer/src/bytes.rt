@@ -22,7 +22,7 @@ ghost use Rattle.line_writer.specs.Encoding.{StandsFor};
 
 use arrayvec::ArrayVec;
 use dwt_packets::packet_of;
-use frame_writer::{SureWriter, TwoFrames};
+use frame_writer::SureWriter;
 use itm_codec::encode;
 use itm_grammar::packet::ItmPacket;
 use script_text::{Item, LineFault, RAW_BYTES};
@@ -125,9 +125,5 @@ pub(crate) fn put_bytes(frames: &mut SureWriter, id: SourceId, bytes: &[u8], out
     ensures count { count_of frames.new ≤ count_of frames.old + length bytes.now }
     ensures len { 7 * array_vec_len out.new ≤ 132 * (14 + 2 * length bytes.now) }
 {
-    for byte in bytes {
-        let mut sure = TwoFrames::new();
-        frames.put(id, *byte, &mut sure);
-        append(out, sure.as_slice());
-    }
+    frames.put_all(id, bytes, out);
 }

@@ -3,6 +3,7 @@ use Rattle.std.proofs.Common.{◌≡◌, ℕ, ◌+◌, ◌≤◌, List, [], ◌�
 use Rattle.std.specs.Prelude.{◌==◌, is_some, is_none, option_map, option_to_list}
 use Rattle.stp_grammar.specs.declared.packet.Order.{Order}
 use Rattle.trace_stream.specs.Taken.{HasTaken}
+use Rattle.trace_stream.specs.declared.limits.TheConstants.{GREATEST_CAPTURE}
 use Rattle.trace_stream.specs.declared.action.Flow.TheVariants.{On, Stopped}
 use Rattle.frame_writer.specs.Written.{capture}
 use Rattle.frame_writer.specs.Fronts.{sure}
@@ -16,7 +17,7 @@ use Rattle.script_rebuild.specs.declared.plan.ScriptFault.{ScriptFault}
 use Rattle.script_rebuild.specs.declared.rebuild.Rebuild.{Rebuild}
 use Rattle.script_rebuild.specs.Rebuilt.{open_line, read_so_far, text, ending, left_of, script_capture, rebuild_meaning}
 use Rattle.script_rebuild.specs.PutLine.{PutsLine}
-use Rattle.script_rebuild.specs.Rebuilder.{told, Stands, TakesByte}
+use Rattle.script_rebuild.specs.Rebuilder.{told, IsLive, Stands, TakesByte, Feeds}
 use Rattle.script_rebuild.specs.SplitLaws.{plain_open, fed_open}
 use Rattle.script_rebuild.specs.ReadingLaws.{with_answer}
 use Rattle.script_rebuild.specs.GrowthLaws.{whole_settled}
@@ -220,3 +221,61 @@ ends_at_last r seen words fault s live few same says =
 
 pub settled_fault : (r : Rebuild) (seen : List ℕ) → Stands r seen → is_some r.fault ≡ true → option_map told r.fault ≡ (script_of r.plan.plan seen).fault
 settled_fault r seen s h = s.fault ∙ ap (λ (x : Reading). x.fault) (sym (whole_settled r.plan.plan seen (is_faulty r seen s ∙ h)))
+
+-- with a text as its open line
+unfoldable pub opened : (r : Rebuild) (line : List ℕ) (n : ℕ) → r.count + n ≤ GREATEST_CAPTURE → Rebuild
+opened r line n small = record {
+  plan = r.plan;
+  line = record { items = line };
+  lines = r.lines;
+  writer = r.writer;
+  sure = r.sure;
+  count = r.count + n;
+  fault = r.fault;
+  few = omega (arith, r.few);
+  given = r.given;
+  frames = omega (arith, r.frames);
+  small = small;
+  order = r.order;
+  stp = r.stp;
+}
+
+no_items : (l : List ℕ) → length l ≡ 0 → l ≡ []
+no_items [] h = refl
+no_items (x ∷ l) h = absurd (omega arith)
+
+-- it took a whole line and its line feed: as one with that line open takes a line feed
+pub record TakesLine (old new : Rebuild) (seen line before after : List ℕ) : Type 0 where
+  pub mid : Rebuild
+  pub same : mid.plan ≡ old.plan
+  pub live : IsLive mid
+  pub stands : Stands mid (seen ++ line)
+  pub read : read_so_far old.plan.plan (seen ++ line) ≡ read_so_far old.plan.plan seen
+  pub takes : TakesByte mid new (seen ++ line) 10 before after
+
+-- a whole line
+pub whole_line : (old new : Rebuild) (seen line before after : List ℕ) (small : old.count + length line ≤ GREATEST_CAPTURE) → old.fault ≡ None → length old.line.items ≡ 0 → length line ≤ 256 →
+    All (λ b. (b == 10) ≡ false) line → Stands old seen →
+    (Stands (opened old line (length line) small) (seen ++ line) → TakesByte (opened old line (length line) small) new (seen ++ line) 10 before after) →
+    TakesLine old new seen line before after
+unfolding opened
+whole_line old new seen line before after small live closed few plain s takes =
+    let none = no_items old.line.items closed in
+    let items : line ≡ old.line.items ++ line = ap (λ (l : List ℕ). l ++ line) (sym none) in
+    let all : length (old.line.items ++ line) ≤ 256 = subst (λ (l : List ℕ). length l ≤ 256) items few in
+    let stands = front_stands old (opened old line (length line) small) seen line (length line) refl refl refl refl refl refl items live all plain s in
+    record {
+      mid = opened old line (length line) small;
+      same = refl;
+      live = live;
+      stands = stands;
+      read = front_is old seen line s live all plain;
+      takes = takes stands;
+    }
+
+module _ (old new : Rebuild) (seen line before after : List ℕ) (same : new.plan ≡ old.plan) (t : TakesLine old new seen line before after) where
+  pub line_goes_on : new.fault ≡ None → Feeds old new seen (line ++ 10 ∷ []) before after On
+  line_goes_on none = goes_on t.mid new old.plan seen line (line ++ 10 ∷ []) 10 before after t.same (same ∙ sym t.same) t.live refl t.stands t.read t.takes none
+
+  pub line_stops : is_some new.fault ≡ true → Feeds old new seen (line ++ 10 ∷ []) before after Stopped
+  line_stops some = stops t.mid new old.plan seen line (line ++ 10 ∷ []) 10 before after t.same (same ∙ sym t.same) t.live refl t.stands t.read t.takes some

@@ -5,7 +5,9 @@ use Rattle.script_text.specs.declared.line_fault.LineFault.{LineFault}
 use Rattle.script_rebuild.specs.declared.plan.RebuildPlan.{RebuildPlan}
 use Rattle.script_rebuild.specs.declared.plan.ScriptFault.{ScriptFault}
 use Rattle.script_rebuild.specs.declared.rebuild.Rebuild.{Rebuild}
-use Rattle.script_rebuild.specs.Rebuilt.{open_line, read_so_far, text}
+use Rattle.script_rebuild.specs.Rebuilt.{open_line, read_so_far, text, rebuild_meaning}
+use Rattle.trace_stream.specs.Taken.{HasTaken}
+use Rattle.trace_stream.specs.declared.action.Flow.{Flow}
 
 -- a fault as its line's number and its cause
 abbrev pub told : ScriptFault → ℕ × LineFault
@@ -40,3 +42,17 @@ pub record TakesByte (old new : Rebuild) (seen : List ℕ) (byte : ℕ) (before 
   pub more : List ℕ
   pub gained : after ≡ before ++ more
   pub grown : text old.plan (seen ++ byte ∷ []) ≡ text old.plan seen ++ more
+
+-- the first is the second with this text as its open line
+pub record IsOpen (mid r : Rebuild) (line : List ℕ) : Type 0 where
+  pub plan : mid.plan ≡ r.plan
+  pub fault : mid.fault ≡ r.fault
+  pub lines : mid.lines ≡ r.lines
+  pub count : mid.count ≡ r.count
+  pub writer : mid.writer ≡ r.writer
+  pub line_is : mid.line.items ≡ line
+
+-- it took a front of a piece, and goes on or stops after it
+abbrev pub Feeds : Rebuild → Rebuild → List ℕ → List ℕ → List ℕ → List ℕ → Flow → Type 0
+Feeds old new seen front before after flow =
+    HasTaken (Stands new) (rebuild_meaning old.plan) (record { seen = seen; front = front; before = before; after = after }) flow

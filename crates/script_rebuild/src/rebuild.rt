@@ -18,7 +18,8 @@ ghost use Rattle.script_rebuild.specs.PutLine.{PutsLine};
 use crate::plan::{RebuildPlan, ScriptFault};
 use arrayvec::ArrayVec;
 use line_writer::{LineBytes, LineWriter};
-use script_text::{LineFault, read_line};
+use memchr::memchr;
+use script_text::{Line, LineFault, read_into};
 use source_events::Plan;
 use trace_stream::{Action, Flow, Outlet, Taken};
 use trace_values::SourceId;
@@ -35,10 +36,14 @@ pub struct Rebuild {
     /// How many lines ended.
     lines: u64,
     writer: LineWriter,
+    /// What becomes sure with a line, which is nothing between lines: made once, since it has room for much more than
+    /// most lines fill.
+    sure: LineBytes,
     /// How many bytes were taken.
     count: u64,
     fault: Option<ScriptFault>,
     ghost few: { lines ≤ count },
+    ghost given: { sure.items ≡ [] },
     ghost frames: { count_of writer ≤ 100 * count },
     ghost small: { count ≤ GREATEST_CAPTURE },
     ghost order: { order_of writer ≡ plan.plan.order },
@@ -53,12 +58,10 @@ fn plain_len(piece: &[u8], most: usize) -> usize
     ensures rest { result < length piece.now → slice_index piece.now result ≢ 10 → result ≡ most }
 {
     let end = piece.len().min(most);
-    for at in 0..end {
-        if piece[at] == b'\n' {
-            return at;
-        }
+    match memchr(b'\n', &piece[..end]) {
+        Some(at) => at,
+        None => end,
     }
-    end
 }
 
 /// Appends bytes to the open line, for which there is room.
@@ -96,14 +99,15 @@ fn put_line(
     ensures stp { stp_of writer.new ≡ stp_of writer.old }
     ensures order { order_of writer.new ≡ order_of writer.old }
     ensures count { count_of writer.new ≤ count_of writer.old + 100 }
-    ensures same { OnErr result (writer.new ≡ writer.old) }
+    ensures same { OnErr result ((writer.new ≡ writer.old) × (out.new ≡ out.old)) }
     ensures ok { (every halves : ℕ) (lines : List Line) → StandsForLines writer.old every halves lines →
         OnOk result (PutsLine plan.now text.now writer.new every halves lines out.new.items) }
     ensures err { (every halves : ℕ) (lines : List Line) → StandsForLines writer.old every halves lines →
         IfErr result (λ fault. line_after plan.now lines text.now ≡ Err fault) }
 {
-    match read_line(text, plan) {
-        Ok(line) => writer.put(&line, out),
+    let mut said = Line::Nothing;
+    match read_into(text, plan, &mut said) {
+        Ok(()) => writer.put(&said, out),
         Err(fault) => Err(fault),
     }
 }
@@ -112,7 +116,9 @@ impl Rebuild {
     ghost use Rattle.std.specs.Prelude.{◌∷◌};
     ghost use Rattle.line_writer.specs.Script.{script_of};
     ghost use Rattle.script_rebuild.specs.Rebuilt.{read_so_far};
+    ghost use Rattle.trace_io.specs.Bytes.{TakesSome};
     ghost use Rattle.script_rebuild.specs.Rebuilder.{told, plan_of, taken_by, open_len, IsLive, Stands, TakesByte};
+    ghost use Rattle.script_rebuild.specs.Rebuilder.{IsOpen, Feeds};
 
     /// Nothing is read yet. The plan is sound, as `Plan::is_sound` tells, and maps at most one source of system traces.
     pub fn new(plan: RebuildPlan) -> Rebuild
@@ -131,6 +137,7 @@ impl Rebuild {
             line: ArrayVec::new(),
             lines: 0,
             writer,
+            sure: LineBytes::new(),
             count: 0,
             fault: None,
         }
@@ -196,7 +203,9 @@ impl Rebuild {
         ensures flow { result ≡ is_none self.new.fault }
     {
         if byte == b'\n' {
-            self.end_line(outlet)
+            let mut text = ArrayVec::new();
+            append(&mut text, self.line.as_slice());
+            self.end_line(text.as_slice(), outlet)
         } else {
             self.refuse_line(byte)
         }
@@ -223,28 +232,24 @@ impl Rebuild {
         false
     }
 
-    /// The line is at its end: what it says is put, or its fault is kept.
-    fn end_line(&mut self, outlet: &mut Outlet) -> bool
+    /// A line of this text is at its end: what it says is put, or its fault is kept.
+    fn end_line(&mut self, text: &[u8], outlet: &mut Outlet) -> bool
         requires live { IsLive self.old }
+        requires few { length text.now ≤ 256 }
         requires room { length outlet.old + ACTION_ROOM ≤ OUTLET_ROOM }
         requires count { taken_by self.old < GREATEST_CAPTURE }
         ensures same { plan_of self.new ≡ plan_of self.old }
         ensures count { taken_by self.new ≡ taken_by self.old + 1 }
-        ensures taken { (seen : List ℕ) → Stands self.old seen →
-            TakesByte self.old self.new seen 10 outlet.old outlet.new }
+        ensures taken { (mid : Rebuild) (seen : List ℕ) → IsOpen mid self.old text.now → Stands mid seen →
+            TakesByte mid self.new seen 10 outlet.old outlet.new }
         ensures flow { result ≡ is_none self.new.fault }
     {
         self.count += 1;
-        let mut out = LineBytes::new();
-        match put_line(
-            &mut self.writer,
-            &self.plan.plan,
-            self.line.as_slice(),
-            &mut out,
-        ) {
+        match put_line(&mut self.writer, &self.plan.plan, text, &mut self.sure) {
             Ok(()) => {
-                outlet.append(out.as_slice());
+                outlet.append(self.sure.as_slice());
                 self.line.clear();
+                self.sure.clear();
                 self.lines += 1;
                 true
             }
@@ -255,6 +260,56 @@ impl Rebuild {
                 });
                 false
             }
+        }
+    }
+
+    /// Takes a whole line and its line feed, where no line is open. It is read where it lies.
+    fn take_line(&mut self, text: &[u8], outlet: &mut Outlet) -> Taken
+        requires live { IsLive self.old }
+        requires closed { open_len self.old ≡ 0 }
+        requires few { length text.now ≤ 256 }
+        requires plain { All (λ b. (b == 10) ≡ false) text.now }
+        requires room { length outlet.old + ACTION_ROOM ≤ OUTLET_ROOM }
+        requires count { taken_by self.old + length text.now < GREATEST_CAPTURE }
+        ensures same { plan_of self.new ≡ plan_of self.old }
+        ensures bytes { result.bytes ≡ length text.now + 1 }
+        ensures count { taken_by self.new ≡ taken_by self.old + result.bytes }
+        ensures fed { (seen : List ℕ) → Stands self.old seen →
+            Feeds self.old self.new seen (text.now ++ 10 ∷ []) outlet.old outlet.new result.flow }
+        ensures live { result.flow ≡ Flow.On → IsLive self.new }
+    {
+        self.count += text.len() as u64;
+        let goes_on = self.end_line(text, outlet);
+        Taken {
+            bytes: text.len() + 1,
+            flow: if goes_on { Flow::On } else { Flow::Stopped },
+        }
+    }
+
+    /// Takes more of the open line: the bytes up to a line feed, and that.
+    fn feed_open(&mut self, piece: &[u8], outlet: &mut Outlet) -> Taken
+        requires live { IsLive self.old }
+        requires some { 0 < length piece.now }
+        requires room { length outlet.old + ACTION_ROOM ≤ OUTLET_ROOM }
+        requires count { taken_by self.old + length piece.now ≤ GREATEST_CAPTURE }
+        ensures same { plan_of self.new ≡ plan_of self.old }
+        ensures front { TakesSome piece.now result.bytes }
+        ensures count { taken_by self.new ≡ taken_by self.old + result.bytes }
+        ensures fed { (seen : List ℕ) → Stands self.old seen →
+            Feeds self.old self.new seen (take result.bytes piece.now) outlet.old outlet.new result.flow }
+        ensures live { result.flow ≡ Flow.On → IsLive self.new }
+    {
+        let len = self.add_front(piece);
+        if len == piece.len() {
+            return Taken {
+                bytes: len,
+                flow: Flow::On,
+            };
+        }
+        let goes_on = self.take_byte(piece[len], outlet);
+        Taken {
+            bytes: len + 1,
+            flow: if goes_on { Flow::On } else { Flow::Stopped },
         }
     }
 }
@@ -295,18 +350,13 @@ impl Action for Rebuild {
 
     /// Takes the bytes up to a line feed, and that.
     fn feed(&mut self, piece: &[u8], outlet: &mut Outlet) -> Taken {
-        let len = self.add_front(piece);
-        if len == piece.len() {
-            return Taken {
-                bytes: len,
-                flow: Flow::On,
-            };
+        if self.line.is_empty() {
+            let len = plain_len(piece, LINE_BYTES);
+            if len < piece.len() && piece[len] == b'\n' {
+                return self.take_line(&piece[..len], outlet);
+            }
         }
-        let goes_on = self.take_byte(piece[len], outlet);
-        Taken {
-            bytes: len + 1,
-            flow: if goes_on { Flow::On } else { Flow::Stopped },
-        }
+        self.feed_open(piece, outlet)
     }
 
     /// Puts what the last line says, and the rest of the capture.

@@ -1,6 +1,6 @@
 -- What lines say can be said.
 use Rattle.std.proofs.Common.{◌≡◌, ℕ, ◌*◌, ◌≤◌, List, [], ◌∷◌, length, refl, sym, ◌∙◌, ap, arith, subst, Bool, true, false, Some, None, Option, Ok, Err, Result}
-use Rattle.std.specs.Prelude.{◌==◌, ◌||◌, nat_lt, ok_or, IfOk, if◌then◌else◌}
+use Rattle.std.specs.Prelude.{◌==◌, ◌||◌, nat_lt, ok_or, IfOk, OnOk, if◌then◌else◌}
 use Rattle.std.proofs.lemmas.Bool.Decides.{nat_tests}
 use Rattle.hex.specs.Hex.{decode_of, IsBytes}
 use Rattle.hex.specs.declared.error.FromHexError.{FromHexError}
@@ -22,7 +22,7 @@ use Rattle.script_text.specs.declared.line_fault.LineFault.TheVariants.{BadLine,
 use Rattle.script_text.specs.Words.{word_of}
 use Rattle.script_text.specs.Shapes.{shape_named}
 use Rattle.script_text.specs.Items.{itm_of, dwt_of, stp_of, decoded, bytes_named, raw_of, item_of}
-use Rattle.script_text.specs.Lines.{by_itm, by_stp, by_raw, taken_by, line_of_words, ◌>>=◌ as ◌>>ₗ◌}
+use Rattle.script_text.specs.Lines.{by_itm, by_stp, by_raw, taken_by, line_of_words, answer, ◌>>=◌ as ◌>>ₗ◌}
 use Rattle.script_text.specs.Said.{IsSayable, IsSaid}
 use Rattle.script_text.proofs.Options.{map_some}
 use Rattle.script_text.proofs.ItmRanges.{itm_said}
@@ -116,3 +116,8 @@ words_said plan (id ∷ words) line e =
 pub words_said_if : (plan : Plan) (words : List (List ℕ)) (r : Result Line LineFault) → r ≡ line_of_words plan words → IfOk r (IsSaid plan)
 words_said_if plan words (Ok line) e = words_said plan words line (sym e)
 words_said_if plan words (Err f) e = tt
+
+-- the same of what is put in a place
+pub words_said_on : (plan : Plan) (words : List (List ℕ)) (r : Result (Unit {0}) LineFault) (line : Line) → line_of_words plan words ≡ answer r line → OnOk r (IsSaid plan line)
+words_said_on plan words (Ok done) line e = words_said plan words line e
+words_said_on plan words (Err f) line e = tt

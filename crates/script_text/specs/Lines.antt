@@ -6,6 +6,7 @@ use Rattle.source_events.specs.declared.plan.Plan.{Plan}
 use Rattle.source_events.specs.declared.plan.SourceKind.{SourceKind}
 use Rattle.source_events.specs.declared.plan.SourceKind.TheVariants as kinds
 use Rattle.source_events.specs.Plan.{kind_of}
+use Rattle.script_text.specs.declared.shapes.Shape.{Shape}
 use Rattle.script_text.specs.declared.items.Item.{Item}
 use Rattle.script_text.specs.declared.items.Item.TheVariants as items
 use Rattle.script_text.specs.declared.lines.Line.{Line}
@@ -45,6 +46,15 @@ taken_by kind id (items.Itm packet) = by_itm kind (Of id (items.Itm packet))
 taken_by kind id (items.Dwt item) = by_itm kind (Of id (items.Dwt item))
 taken_by kind id (items.Stp item) = by_stp kind (Of id (items.Stp item))
 taken_by kind id (items.Raw bytes) = by_raw kind id (Of id (items.Raw bytes))
+
+-- the answer of a reading that puts what a line says in a place
+abbrev pub answer : Result (Unit {0}) LineFault → Line → Result Line LineFault
+answer (Ok done) line = Ok line
+answer (Err fault) line = Err fault
+
+-- the line of an item of a shape and of these words
+abbrev pub line_of_shape : Option SourceKind → ℕ → Shape → List (List ℕ) → Result Line LineFault
+line_of_shape kind id shape words = ok_or (item_of shape words) BadNumber >>= taken_by kind id
 
 -- what words say, or the first fault: no item has such words, the ID, the numbers, the source
 unfoldable pub line_of_words : Plan → List (List ℕ) → Result Line LineFault

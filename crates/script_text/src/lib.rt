@@ -19,5 +19,5 @@ mod words;
 
 pub use items::Item;
 pub use line_fault::LineFault;
-pub use lines::{Line, read_line};
+pub use lines::{Line, read_into, read_line};
 pub use raw_bytes::{RAW_BYTES, RawBytes};

@@ -1,14 +1,19 @@
 //! The lines of scripts (this project's profile).
 
-ghost use Rattle.std.specs.Prelude.{◌≡◌, IfOk};
+ghost use Rattle.std.specs.Prelude.{◌≡◌, IfOk, OnErr, OnOk};
 ghost use Rattle.source_events.specs.Plan.{kind_of};
 ghost use Rattle.script_text.specs.Words.{texts};
-ghost use Rattle.script_text.specs.Lines.{taken_by as taken_in, line_of_words as line_in, line_of};
+ghost use Rattle.script_text.specs.Lines.{by_itm, by_stp, by_raw, line_of_shape, line_of_words as line_in};
+ghost use Rattle.script_text.specs.Lines.{line_of, answer};
 ghost use Rattle.script_text.specs.Said.{IsSaid};
 
-use crate::items::{Item, item_of};
+use crate::dwt_shapes::dwt_of;
+use crate::items::Item;
+use crate::itm_shapes::itm_of;
 use crate::line_fault::LineFault;
-use crate::shapes::shape_of;
+use crate::raw_bytes::raw_of;
+use crate::shapes::{Shape, shape_of};
+use crate::stp_shapes::stp_of;
 use crate::words::{Words, put_words};
 use decimal_words::id_in;
 use source_events::{Plan, SourceKind};
@@ -29,65 +34,130 @@ const LINE_BYTES: usize = 256;
 /// The source that is never raw: its bytes are triggers.
 const TRIGGER_SOURCE: u8 = 125;
 
-/// The line of an item, where its source is one for it: ITM and DWT items are an ITM source's, STP items an STP
-/// source's, and bytes those of a source that is not mapped.
-fn taken_by(kind: Option<SourceKind>, id: SourceId, item: Item) -> Result<Line, LineFault>
-    ensures { result ≡ taken_in kind id item }
+/// Whether packets of an ITM source are its.
+fn takes_itm(kind: Option<SourceKind>) -> Result<(), LineFault>
+    ensures { (line : Line) → by_itm kind line ≡ answer result line }
 {
-    match item {
-        Item::Itm(_) | Item::Dwt(_) => match kind {
-            Some(SourceKind::Itm) => Ok(Line::Of { id, item }),
-            Some(SourceKind::Stp) => Err(LineFault::Mixed),
-            None => Err(LineFault::Unmapped),
-        },
-        Item::Stp(_) => match kind {
-            Some(SourceKind::Stp) => Ok(Line::Of { id, item }),
-            Some(SourceKind::Itm) => Err(LineFault::Mixed),
-            None => Err(LineFault::Unmapped),
-        },
-        Item::Raw(_) => {
-            if kind.is_some() || id.number() == TRIGGER_SOURCE {
-                Err(LineFault::Mixed)
-            } else {
-                Ok(Line::Of { id, item })
-            }
+    match kind {
+        Some(SourceKind::Itm) => Ok(()),
+        Some(SourceKind::Stp) => Err(LineFault::Mixed),
+        None => Err(LineFault::Unmapped),
+    }
+}
+
+/// Whether STP items are a source's.
+fn takes_stp(kind: Option<SourceKind>) -> Result<(), LineFault>
+    ensures { (line : Line) → by_stp kind line ≡ answer result line }
+{
+    match kind {
+        Some(SourceKind::Stp) => Ok(()),
+        Some(SourceKind::Itm) => Err(LineFault::Mixed),
+        None => Err(LineFault::Unmapped),
+    }
+}
+
+/// Whether bytes are a source's: one that is not mapped.
+fn takes_raw(kind: Option<SourceKind>, id: SourceId) -> Result<(), LineFault>
+    ensures { (line : Line) → by_raw kind id line ≡ answer result line }
+{
+    if kind.is_some() || id.number() == TRIGGER_SOURCE {
+        Err(LineFault::Mixed)
+    } else {
+        Ok(())
+    }
+}
+
+/// The item of this shape and of these words, where its source is one for it. At a fault `said` is as before.
+fn read_shape(
+    shape: Shape,
+    kind: Option<SourceKind>,
+    id: SourceId,
+    words: &[&[u8]],
+    said: &mut Line,
+) -> Result<(), LineFault>
+    ensures value { line_of_shape kind id shape (texts words.now) ≡ answer result said.new }
+    ensures same { OnErr result (said.new ≡ said.old) }
+{
+    match shape {
+        Shape::Itm(shape) => {
+            let packet = itm_of(shape, words).ok_or(LineFault::BadNumber)?;
+            takes_itm(kind)?;
+            let item = Item::Itm(packet);
+            *said = Line::Of { id, item };
+        }
+        Shape::Dwt(shape) => {
+            let packet = dwt_of(shape, words).ok_or(LineFault::BadNumber)?;
+            takes_itm(kind)?;
+            let item = Item::Dwt(packet);
+            *said = Line::Of { id, item };
+        }
+        Shape::Stp(shape) => {
+            let stp_item = stp_of(shape, words).ok_or(LineFault::BadNumber)?;
+            takes_stp(kind)?;
+            let item = Item::Stp(stp_item);
+            *said = Line::Of { id, item };
+        }
+        Shape::Raw => {
+            let bytes = raw_of(words).ok_or(LineFault::BadNumber)?;
+            takes_raw(kind, id)?;
+            let item = Item::Raw(bytes);
+            *said = Line::Of { id, item };
         }
     }
+    Ok(())
 }
 
 /// What the words of a line say.
 #[tactic(auto, unfolding(crate::specs::Lines::line_of_words))]
-fn line_of_words(plan: &Plan, words: &[&[u8]]) -> Result<Line, LineFault>
-    ensures { result ≡ line_in plan.now (texts words.now) }
+fn read_words(plan: &Plan, words: &[&[u8]], said: &mut Line) -> Result<(), LineFault>
+    ensures value { line_in plan.now (texts words.now) ≡ answer result said.new }
+    ensures same { OnErr result (said.new ≡ said.old) }
 {
     match words {
         [] => Err(LineFault::BadLine),
         [id, words @ ..] => {
             let shape = shape_of(words).ok_or(LineFault::BadLine)?;
             let id = id_in(1, 126, id).ok_or(LineFault::BadId)?;
-            let item = item_of(shape, words).ok_or(LineFault::BadNumber)?;
-            taken_by(plan.kind_of(id), id, item)
+            read_shape(shape, plan.kind_of(id), id, words, said)
         }
     }
 }
 
 /// What a line, without its line feed, says, or its first fault. What is mapped is by the plan alone, whose modes make
 /// no difference.
-#[tactic(auto, unfolding(crate::specs::Lines::line_of))]
 pub fn read_line(line: &[u8], plan: &Plan) -> Result<Line, LineFault>
     ensures value { result ≡ line_of plan.now line.now }
     ensures said { IfOk result (IsSaid plan.now) }
+{
+    let mut said = Line::Nothing;
+    match read_into(line, plan, &mut said) {
+        Ok(()) => Ok(said),
+        Err(fault) => Err(fault),
+    }
+}
+
+/// The same, where what the line says is put in the place of another line, which stays at a fault. A line has room for
+/// many bytes, and so is not handed on from call to call.
+#[inline(never)]
+#[tactic(auto, unfolding(crate::specs::Lines::line_of))]
+pub fn read_into(line: &[u8], plan: &Plan, said: &mut Line) -> Result<(), LineFault>
+    ensures value { line_of plan.now line.now ≡ answer result said.new }
+    ensures said { OnOk result (IsSaid plan.now said.new) }
+    ensures same { OnErr result (said.new ≡ said.old) }
 {
     if line.len() > LINE_BYTES {
         return Err(LineFault::LongLine);
     }
     match line {
-        [] | [b'#', ..] => return Ok(Line::Nothing),
+        [] | [b'#', ..] => {
+            *said = Line::Nothing;
+            return Ok(());
+        }
         _ => {}
     }
     let mut words = Words::new();
     if !put_words(line, &mut words) {
         return Err(LineFault::BadLine);
     }
-    line_of_words(plan, words.as_slice())
+    read_words(plan, words.as_slice(), said)
 }

@@ -1,9 +1,9 @@
 //! Numbers of words.
 
-ghost use Rattle.std.specs.Prelude.{◌≡◌, ◌≤◌, ◌<◌, ◌^◌, ◌*◌, ◌+◌, length, true, None, Some, IfSome, if◌then◌else◌};
+ghost use Rattle.std.specs.Prelude.{◌≡◌, ◌⊎◌, ◌≤◌, ◌<◌, ◌^◌, ◌*◌, ◌+◌, length, true, None, Some, IfSome, if◌then◌else◌};
 ghost use Rattle.std.specs.List.{list_all};
 ghost use Rattle.std.specs.Char.{is_ascii_hexdigit, digit_value};
-ghost use Rattle.std.specs.Str.Parse.{digits_value_after};
+ghost use Rattle.std.specs.Str.Parse.{digits_value};
 ghost use Rattle.itm_grammar.specs.Spelling.{byte_count};
 ghost use Rattle.script_text.specs.Words.{texts};
 ghost use Rattle.script_text.specs.Numbers.{hexadecimal_named as named, decimal_at as decimal_in};
@@ -13,36 +13,46 @@ use crate::words::word_of;
 use decimal_words::number_in;
 use itm_grammar::packet::Size;
 
-/// What a hexadecimal digit says, in either case.
-fn digit_value(digit: u8) -> Option<u8>
-    ensures value { result ≡ (if is_ascii_hexdigit digit then Some (digit_value digit) else None) }
-    ensures fits { IfSome result (λ n. n < 16) }
+/// What a letter says as a hexadecimal digit, in either case; 16 for a byte that is none.
+fn letter_value(letter: u8) -> u8
+    ensures lower { 97 ≤ letter → letter ≤ 102 → result + 87 ≡ letter }
+    ensures upper { 65 ≤ letter → letter ≤ 70 → result + 55 ≡ letter }
+    ensures other { (letter < 65) ⊎ ((70 < letter) × (letter < 97)) ⊎ (102 < letter) → result ≡ 16 }
 {
-    match digit {
-        b'0'..=b'9' => Some(digit - b'0'),
-        b'a'..=b'f' => Some(digit - b'a' + 10),
-        b'A'..=b'F' => Some(digit - b'A' + 10),
-        _ => None,
+    let lower = letter.wrapping_sub(b'a');
+    let upper = letter.wrapping_sub(b'A');
+    if lower < 6 {
+        lower + 10
+    } else if upper < 6 {
+        upper + 10
+    } else {
+        16
     }
 }
 
-/// The number that hexadecimal digits say after those of a value, if it has at most 64 bits.
-#[tactic(auto, using(crate::proofs::Hexadecimals::value_grows))]
-fn value_after(value: u64, digits: &[u8]) -> Option<u64>
-    ensures some { IfSome result (λ n. (list_all is_ascii_hexdigit digits.now ≡ true)
-        × (n ≡ digits_value_after 16 value digits.now)) }
-    ensures none { result ≡ None → list_all is_ascii_hexdigit digits.now ≡ true →
-        digits_value_after 16 value digits.now < 2 ^ 64 → ⊥ }
+/// What a hexadecimal digit says, in either case; 16 for a byte that is none. Both values are at hand before one is
+/// chosen, since it has no pattern which digits are letters.
+fn digit_value(digit: u8) -> u8
+    ensures { result ≡ (if is_ascii_hexdigit digit then digit_value digit else 16) }
 {
-    match digits {
-        [] => Some(value),
-        [digit, digits @ ..] => {
-            let digit = digit_value(*digit)?;
-            let sixteens = value.checked_mul(16)?;
-            let value = sixteens.checked_add(u64::from(digit))?;
-            value_after(value, digits)
-        }
+    let letter = letter_value(digit);
+    let decimal = digit.wrapping_sub(b'0');
+    if decimal < 10 { decimal } else { letter }
+}
+
+/// The number that at most 16 bytes say, if they are hexadecimal digits.
+fn digits_value(digits: &[u8]) -> Option<u64>
+    requires { length digits.now ≤ 16 }
+    ensures { result ≡ (if list_all is_ascii_hexdigit digits.now then Some (digits_value 16 digits.now) else None) }
+{
+    let mut value: u64 = 0;
+    let mut all = true;
+    for digit in digits {
+        let digit = digit_value(*digit);
+        all = all && digit < 16;
+        value = value.wrapping_mul(16).wrapping_add(u64::from(digit));
     }
+    if all { Some(value) } else { None }
 }
 
 /// The number of this many hexadecimal digits, at most 16, in either case, most significant first.
@@ -53,7 +63,7 @@ pub fn hexadecimal_named(count: usize, text: &[u8]) -> Option<u64>
     ensures fits { IfSome result (λ n. n < 16 ^ count) }
 {
     if text.len() == count {
-        value_after(0, text)
+        digits_value(text)
     } else {
         None
     }

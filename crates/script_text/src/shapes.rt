@@ -74,16 +74,12 @@ fn fits(fields: &[Field], words: &[&[u8]]) -> bool
 fn first_fitting(shapes: &[Shape], words: &[&[u8]]) -> Option<Shape>
     ensures { result ≡ first_fitting shapes.now (texts words.now) }
 {
-    match shapes {
-        [] => None,
-        [shape, shapes @ ..] => {
-            if fits(shape.fields(), words) {
-                Some(*shape)
-            } else {
-                first_fitting(shapes, words)
-            }
+    for shape in shapes {
+        if fits(shape.fields(), words) {
+            return Some(*shape);
         }
     }
+    None
 }
 
 const PORTS: [Shape; 3] = [

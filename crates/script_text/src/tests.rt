@@ -2,13 +2,18 @@
 
 use crate::{Item, Line, LineFault, read_line};
 use capture_plan::{FramesMode, PacketsMode};
-use dwt_packets::{Change, DwtItem};
-use itm_grammar::packet::{ItmPacket, Lateness, Size};
+use dwt_packets::{DwtItem, meaning};
+use itm_grammar::packet::{ItmPacket, Size};
+use itm_grammar::proper::is_proper;
 use source_events::{Plan, SourceIds};
+use std::alloc::{AllocError, Global};
 use std::process::Abort;
+use std::test::Fail;
 use stp_grammar::item::{Place, Stamp, StpItem};
 use stp_grammar::packet::{Order, Width};
 use trace_values::SourceId;
+use trace_vectors::itm::{EXTENSIONS, HARDWARE_PACKETS, SOURCE_PACKETS, TIMESTAMPS};
+use trace_vectors::stp::STP_ITEMS;
 
 /// This source alone.
 fn only(number: u8) -> SourceIds {
@@ -83,164 +88,57 @@ fn check_fault(rt: &impl Abort, line: &[u8], expected: LineFault) {
     }
 }
 
-fn software(port: u8, size: Size, value: u32) -> ItmPacket {
-    ItmPacket::Software { port, size, value }
-}
-
-fn local(lateness: Lateness, delta: u32) -> ItmPacket {
-    ItmPacket::Local { lateness, delta }
-}
-
-fn first(len: u8, value: u32, change: bool, wrap: bool) -> ItmPacket {
-    ItmPacket::GlobalFirst {
-        len,
-        value,
-        change,
-        wrap,
-    }
-}
-
-fn second(wide: bool, value: u64) -> ItmPacket {
-    ItmPacket::GlobalSecond { wide, value }
+/// The line of source 1 with this text.
+fn itm_line(alloc: Global, text: &str) -> Result<String, AllocError> {
+    format!(in alloc; "1 {text}")
 }
 
 #[test]
-fn packets_of_an_itm_source(rt: HostRuntime) {
-    let rows: [(&str, ItmPacket); 22] = [
-        ("1 sync", ItmPacket::Sync),
-        ("1 overflow", ItmPacket::Overflow),
-        ("1 port 0 u8 00", software(0, Size::One, 0)),
-        ("1 port 0 u8 41", software(0, Size::One, 0x41)),
-        ("1 port 31 u8 ff", software(31, Size::One, 0xFF)),
-        ("1 port 31 u16 1234", software(31, Size::Two, 0x1234)),
-        ("1 port 2 u32 ffffffff", software(2, Size::Four, u32::MAX)),
-        ("1 port 2 u32 FfFFffff", software(2, Size::Four, u32::MAX)),
-        ("1 local exact 0", local(Lateness::Exact, 0)),
-        ("1 local stamp-late 1", local(Lateness::StampLate, 1)),
-        ("1 local packet-late 136", local(Lateness::PacketLate, 136)),
-        (
-            "1 local both-late 268435455",
-            local(Lateness::BothLate, 268_435_455),
-        ),
-        ("1 global1 1 127 0 0", first(1, 127, false, false)),
-        ("1 global1 2 16383 0 0", first(2, 16_383, false, false)),
-        ("1 global1 3 2097151 0 0", first(3, 2_097_151, false, false)),
-        (
-            "1 global1 4 67108863 1 0",
-            first(4, 67_108_863, true, false),
-        ),
-        ("1 global1 4 0 0 1", first(4, 0, false, true)),
-        ("1 global2 48 4194303", second(false, 4_194_303)),
-        ("1 global2 64 274877906943", second(true, 274_877_906_943)),
-        ("1 global2 64 0", second(true, 0)),
-        (
-            "1 ext itm 00000001",
-            ItmPacket::Extension {
-                dwt: false,
-                value: 1,
-            },
-        ),
-        (
-            "1 ext dwt ffffffff",
-            ItmPacket::Extension {
-                dwt: true,
-                value: u32::MAX,
-            },
-        ),
-    ];
-    for (text, packet) in rows {
-        check_itm(&rt, text, packet);
+fn packets_of_an_itm_source(rt: HostRuntime) -> Result<(), Fail> {
+    for rows in [
+        SOURCE_PACKETS.as_slice(),
+        TIMESTAMPS.as_slice(),
+        EXTENSIONS.as_slice(),
+    ] {
+        for row in rows {
+            check_itm(&rt, &itm_line(rt.alloc(), row.text)?, row.packet);
+        }
+    }
+    let upper = "1 port 2 u32 1234AbCd";
+    let packet = ItmPacket::Software {
+        port: 2,
+        size: Size::Four,
+        value: 0x1234_ABCD,
+    };
+    check_itm(&rt, upper, packet);
+    Ok(())
+}
+
+/// What this packet, which is a hardware packet, means.
+fn dwt_item(rt: &impl Abort, packet: ItmPacket) -> DwtItem {
+    match packet {
+        ItmPacket::Hardware { disc, size, value } => {
+            assert!(rt; is_proper(&ItmPacket::Hardware { disc, size, value }));
+            meaning(disc, size, value)
+        }
+        _ => panic!(rt; "{packet:?} is no hardware packet"),
     }
 }
 
 #[test]
-fn hardware_packets(rt: HostRuntime) {
-    let exception = |number, change| DwtItem::Exception { number, change };
-    let read = |comparator, size, value| DwtItem::Read {
-        comparator,
-        size,
-        value,
-    };
-    let written = |comparator, size, value| DwtItem::Written {
-        comparator,
-        size,
-        value,
-    };
-    let rows: [(&str, DwtItem); 19] = [
-        ("1 counters 00", DwtItem::Counters(0)),
-        ("1 counters 3f", DwtItem::Counters(0x3F)),
-        ("1 counters 3F", DwtItem::Counters(0x3F)),
-        ("1 exception 0 return", exception(0, Change::Return)),
-        ("1 exception 15 enter", exception(15, Change::Enter)),
-        ("1 exception 511 exit", exception(511, Change::Exit)),
-        ("1 pc 08001234", DwtItem::Sample { pc: 0x0800_1234 }),
-        ("1 asleep", DwtItem::Asleep),
-        (
-            "1 cmp 0 pc 00000000",
-            DwtItem::MatchPc {
-                comparator: 0,
-                pc: 0,
-            },
-        ),
-        (
-            "1 cmp 3 pc ffffffff",
-            DwtItem::MatchPc {
-                comparator: 3,
-                pc: u32::MAX,
-            },
-        ),
-        (
-            "1 cmp 3 addr ffff",
-            DwtItem::MatchAddress {
-                comparator: 3,
-                low: 0xFFFF,
-            },
-        ),
-        ("1 cmp 0 read u8 2a", read(0, Size::One, 0x2A)),
-        ("1 cmp 1 read u16 ffff", read(1, Size::Two, 0xFFFF)),
-        ("1 cmp 3 read u32 00000001", read(3, Size::Four, 1)),
-        ("1 cmp 0 write u8 2a", written(0, Size::One, 0x2A)),
-        ("1 cmp 2 write u16 0102", written(2, Size::Two, 0x102)),
-        (
-            "1 cmp 3 write u32 89abcdef",
-            written(3, Size::Four, 0x89AB_CDEF),
-        ),
-        (
-            "1 hw 3 u8 07",
-            DwtItem::Other {
-                disc: 3,
-                size: Size::One,
-                value: 7,
-            },
-        ),
-        (
-            "1 hw 31 u32 ffffffff",
-            DwtItem::Other {
-                disc: 31,
-                size: Size::Four,
-                value: u32::MAX,
-            },
-        ),
-    ];
-    for (text, item) in rows {
-        check_dwt(&rt, text, item);
+fn hardware_packets(rt: HostRuntime) -> Result<(), Fail> {
+    for row in HARDWARE_PACKETS {
+        let item = dwt_item(&rt, row.packet);
+        check_dwt(&rt, &itm_line(rt.alloc(), row.text)?, item);
     }
+    check_dwt(&rt, "1 counters 3F", DwtItem::Counters(0x3F));
+    Ok(())
 }
 
 fn place(master: u16, channel: u16) -> Place {
     Place {
         master: Some(master),
         channel: Some(channel),
-    }
-}
-
-fn datum(place: Place, width: Width, value: u64, marked: bool, stamp: Stamp) -> StpItem {
-    StpItem::Datum {
-        place,
-        width,
-        value,
-        marked,
-        stamp,
     }
 }
 
@@ -255,86 +153,36 @@ fn raw(size: u8, word: u64) -> Stamp {
     Stamp::Raw { size, word }
 }
 
-#[test]
-fn items_of_an_stp_source(rt: HostRuntime) {
-    let far = place(u16::MAX, u16::MAX);
-    let rows: [(&str, StpItem); 17] = [
-        ("2 async", StpItem::Async),
-        ("2 version 0", StpItem::Version(0)),
-        ("2 version 15", StpItem::Version(15)),
-        (
-            "2 merr 65535 65535 ff",
-            StpItem::MasterError {
-                place: far,
-                code: 0xFF,
-            },
-        ),
-        ("2 gerr 00", StpItem::GlobalError { code: 0 }),
-        ("2 gerr fF", StpItem::GlobalError { code: 0xFF }),
-        (
-            "2 data 0 0 u4 f m -",
-            datum(place(0, 0), Width::Four, 15, true, Stamp::None),
-        ),
-        (
-            "2 data 1 0 u8 42 - n=5",
-            datum(place(1, 0), Width::Eight, 0x42, false, Stamp::Natural(5)),
-        ),
-        (
-            "2 data 1 2 u16 ffff m g=0",
-            datum(place(1, 2), Width::Sixteen, 0xFFFF, true, Stamp::Gray(0)),
-        ),
-        (
-            "2 data 1 2 u32 89abcdef - r=",
-            datum(place(1, 2), Width::ThirtyTwo, 0x89AB_CDEF, false, raw(0, 0)),
-        ),
-        (
-            "2 data 65535 65535 u64 ffffffffffffffff m n=18446744073709551615",
-            datum(
-                far,
-                Width::SixtyFour,
-                u64::MAX,
-                true,
-                Stamp::Natural(u64::MAX),
-            ),
-        ),
-        ("2 flag 0 0 -", flag(Stamp::None)),
-        (
-            "2 trig ff -",
-            StpItem::Trigger {
-                code: 0xFF,
-                stamp: Stamp::None,
-            },
-        ),
-        (
-            "2 freq 0 -",
-            StpItem::Frequency {
-                hertz: 0,
-                stamp: Stamp::None,
-            },
-        ),
-        (
-            "2 freq 4294967295 n=1",
-            StpItem::Frequency {
-                hertz: u32::MAX,
-                stamp: Stamp::Natural(1),
-            },
-        ),
-        (
-            "2 nullts n=0",
-            StpItem::NullStamp {
-                stamp: Stamp::Natural(0),
-            },
-        ),
-        (
-            "2 nullts g=18446744073709551615",
-            StpItem::NullStamp {
-                stamp: Stamp::Gray(u64::MAX),
-            },
-        ),
-    ];
-    for (text, item) in rows {
-        check_stp(&rt, text, item);
+/// A script can say the item: where it has a place, it is known.
+fn is_said(item: &StpItem) -> bool {
+    match item {
+        StpItem::MasterError { place, .. }
+        | StpItem::Datum { place, .. }
+        | StpItem::Flag { place, .. } => place.master.is_some() && place.channel.is_some(),
+        _ => true,
     }
+}
+
+#[test]
+fn items_of_an_stp_source(rt: HostRuntime) -> Result<(), Fail> {
+    for row in STP_ITEMS {
+        let text = format!(in rt.alloc(); "2 {text}", text = row.text)?;
+        if is_said(&row.item) {
+            check_stp(&rt, &text, row.item);
+        } else {
+            check_fault(&rt, text.as_bytes(), LineFault::BadNumber);
+        }
+    }
+    check_stp(&rt, "2 gerr fF", StpItem::GlobalError { code: 0xFF });
+    let value = StpItem::Datum {
+        place: place(1, 2),
+        width: Width::ThirtyTwo,
+        value: 0x89AB_CDEF,
+        marked: false,
+        stamp: raw(0, 0),
+    };
+    check_stp(&rt, "2 data 1 2 u32 89abcdef - r=", value);
+    Ok(())
 }
 
 #[test]

@@ -1,15 +1,16 @@
-use Rattle.std.proofs.Common.{◌≡◌, [], ◌∷◌, ◌++◌, ◌∙◌, sym, subst, Ok, Err}
+use Rattle.std.proofs.Common.{◌≡◌, [], ◌∷◌, ◌++◌, ◌∙◌, ap, subst, Ok, Err, Result}
 use Rattle.stp_grammar.specs.declared.packet.Order.{Order}
 use Rattle.frame_writer.specs.Fronts.{sure}
 use Rattle.script_text.specs.declared.line_fault.LineFault.{LineFault}
+use Rattle.script_text.specs.Lines.{answer}
 use Rattle.line_writer.specs.Script.{line_after, fitting, put_of}
 use Rattle.script_rebuild.proofs.Sources.{says_line, all_ok, err_weaker}
 use Rattle.script_rebuild.proofs.rebuild.put_line.Goals as goal
 
 pub returns-in-Ok-clause-ok : goal.returns-in-Ok-clause-ok
 returns-in-Ok-clause-ok c = λ every halves lines s.
-    let line = c.in-Ok.line in
-    let read = sym c.read_line.ensures.value ∙ c.in-Ok.is in
+    let line = c.read_into.new.said in
+    let read = c.read_into.ensures.value ∙ ap (λ (r : Result (Unit {0}) LineFault). answer r line) c.in-Ok.is in
     let out = c.put.new.out.items in
     all_ok c.put.result
     (λ fits stands grown. record {
@@ -22,8 +23,8 @@ returns-in-Ok-clause-ok c = λ every halves lines s.
 
 pub returns-in-Ok-clause-err : goal.returns-in-Ok-clause-err
 returns-in-Ok-clause-err c = λ every halves lines s.
-    let line = c.in-Ok.line in
-    let read = sym c.read_line.ensures.value ∙ c.in-Ok.is in
+    let line = c.read_into.new.said in
+    let read = c.read_into.ensures.value ∙ ap (λ (r : Result (Unit {0}) LineFault). answer r line) c.in-Ok.is in
     err_weaker c.put.result (λ (fault : LineFault). fitting lines line ≡ Err fault) (λ (fault : LineFault). line_after c.args.plan.now lines c.args.text.now ≡ Err fault)
     (λ fault h. says_line c.args.plan.now lines c.args.text.now line (Err fault) read h)
     (c.put.ensures.unfit every halves lines s)

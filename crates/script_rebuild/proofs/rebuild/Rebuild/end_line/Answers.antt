@@ -1,22 +1,37 @@
-use Rattle.std.proofs.Common.{◌≤◌, ◌∙◌, ◌++◌, sym, ap, refl, length, arith, Err}
+use Rattle.std.proofs.Common.{◌≡◌, ◌≤◌, ◌∙◌, ◌++◌, ◌+◌, ℕ, sym, ap, subst, length, arith, Some, Err}
 use Rattle.line_writer.specs.Script.{line_after}
+use Rattle.line_writer.specs.Writer as writers
+use Rattle.line_writer.specs.declared.writer.LineWriter.{LineWriter}
+use Rattle.script_rebuild.specs.declared.plan.RebuildPlan.{RebuildPlan}
+use Rattle.script_rebuild.specs.PutLine.{PutsLine}
 use Rattle.script_rebuild.specs.Rebuilt.{read_so_far}
 use Rattle.script_rebuild.proofs.Steps.{fed_read}
 use Rattle.script_rebuild.proofs.Taking.{sound_of, open_few, refused, line_ended}
 use Rattle.script_rebuild.proofs.rebuild.Rebuild.end_line.Goals as goal
 
 pub returns-in-Ok-clause-taken : goal.returns-in-Ok-clause-taken
-returns-in-Ok-clause-taken c = λ seen s.
-    let r = c.args.self.now in
-    let few : length r.line.items ≤ 256 = omega (arith, c.as_slice.ensures.fits, ap length c.as_slice.ensures.value) in
-    line_ended r _ seen c.as_slice.result.now c.args.outlet.now c.append.new.self c.put_line.new.out.items refl c.requires.live c.requires.live refl refl c.clear.ensures few c.as_slice.ensures.value
-    (c.in-Ok.ensures.ok r.plan.every r.plan.halves (read_so_far r.plan.plan seen).lines s.writer) (c.append.ensures ∙ ap (λ l. c.args.outlet.now ++ l) c.as_slice-in-Ok.ensures.value) s
+returns-in-Ok-clause-taken c = λ mid seen is s.
+    let text = c.args.text.now in
+    let out = c.put_line.new.out.items in
+    let lines = (read_so_far mid.plan.plan seen).lines in
+    let live = is.fault ∙ c.requires.live in
+    let few : length mid.line.items ≤ 256 = omega (arith, ap length is.line_is, c.requires.few) in
+    let at = subst (λ (w : LineWriter). writers.Stands w mid.plan.every mid.plan.halves lines) is.writer s.writer in
+    let puts = subst (λ (p : RebuildPlan). PutsLine p.plan text c.put_line.new.writer mid.plan.every mid.plan.halves lines out) (sym is.plan)
+    (c.in-Ok.ensures.ok mid.plan.every mid.plan.halves lines at) in
+    line_ended mid _ seen text c.args.outlet.now c.append.new.self out (sym is.plan) live c.requires.live (ap (λ (n : ℕ). n + 1) (sym is.count)) (ap (λ (n : ℕ). n + 1) (sym is.lines))
+    c.clear.ensures few (sym is.line_is) puts (c.append.ensures ∙ ap (λ l. c.args.outlet.now ++ l) c.as_slice.ensures.value) s
 
 pub returns-in-Err-clause-taken : goal.returns-in-Err-clause-taken
-returns-in-Err-clause-taken c = λ seen s.
-    let r = c.args.self.now in
-    let lines = (read_so_far r.plan.plan seen).lines in
-    let few : length r.line.items ≤ 256 = omega (arith, c.as_slice.ensures.fits, ap length c.as_slice.ensures.value) in
-    refused r _ seen 10 c.in-Err.fault c.args.outlet.now refl c.requires.live refl refl c.in-Err.ensures.same
-    (fed_read r.plan.plan seen (Err c.in-Err.fault) (sound_of r seen s c.requires.live) (open_few r seen 256 s c.requires.live few)
-    (ap (line_after r.plan.plan lines) (sym (c.as_slice.ensures.value ∙ s.open_bytes c.requires.live)) ∙ c.in-Err.ensures.err r.plan.every r.plan.halves lines s.writer)) s
+returns-in-Err-clause-taken c = λ mid seen is s.
+    let text = c.args.text.now in
+    let fault = c.in-Err.fault in
+    let lines = (read_so_far mid.plan.plan seen).lines in
+    let live = is.fault ∙ c.requires.live in
+    let few : length mid.line.items ≤ 256 = omega (arith, ap length is.line_is, c.requires.few) in
+    let at = subst (λ (w : LineWriter). writers.Stands w mid.plan.every mid.plan.halves lines) is.writer s.writer in
+    let says = subst (λ (p : RebuildPlan). line_after p.plan lines text ≡ Err fault) (sym is.plan) (c.in-Err.ensures.err mid.plan.every mid.plan.halves lines at) in
+    refused mid _ seen 10 fault c.args.outlet.now (sym is.plan) live (ap (λ (n : ℕ). Some (record { line = n + 1; fault = fault })) (sym is.lines)) (ap (λ (n : ℕ). n + 1) (sym is.count))
+    (c.in-Err.ensures.same.0 ∙ sym is.writer)
+    (fed_read mid.plan.plan seen (Err fault) (sound_of mid seen s live) (open_few mid seen 256 s live few)
+    (ap (line_after mid.plan.plan lines) (sym (sym is.line_is ∙ s.open_bytes live)) ∙ says)) s

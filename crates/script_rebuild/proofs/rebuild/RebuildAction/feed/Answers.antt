@@ -1,31 +1,13 @@
-use Rattle.std.proofs.Common.{◌<◌, ◌+◌, ◌∙◌, ◌++◌, sym, take, get_or, length, arith}
-use Rattle.std.proofs.lemmas.List.{take_more}
-use Rattle.script_rebuild.proofs.Taking.{none_is, some_is, all_taken, goes_on, stops}
+use Rattle.std.proofs.Common.{◌≡◌, ◌∷◌, [], ◌++◌, ◌+◌, ◌∙◌, ℕ, ap, sym, subst, take}
+use Rattle.std.proofs.lemmas.List.{take_more, length-take-le}
+use Rattle.script_rebuild.specs.Rebuilder.{Feeds}
 use Rattle.script_rebuild.proofs.rebuild.RebuildAction.feed.Goals as goal
 
-pub returns-then-len-piece-clause-fed : goal.returns-then-len-piece-clause-fed
-returns-then-len-piece-clause-fed c = λ seen s.
-    let f = c.add_front-len.ensures in
-    all_taken c.add_front-len.new.self c.args.self.now.plan seen (take c.add_front-len.result c.args.piece.now) c.args.outlet.now f.same f.live (f.stands seen s) (f.read seen s)
-
-pub returns-then-goes_on-clause-fed : goal.returns-then-goes_on-clause-fed
-returns-then-goes_on-clause-fed c = λ seen s.
-    let f = c.add_front-len.ensures in
-    let t = c.take_byte-goes_on.ensures in
-    let n = c.add_front-len.result in
+pub returns-then-piece-len-eq10-clause-fed : goal.returns-then-piece-len-eq10-clause-fed
+returns-then-piece-len-eq10-clause-fed c = λ seen s.
     let piece = c.args.piece.now in
-    let less : n < length piece = omega arith in
-    let new = c.take_byte-goes_on.new.self in
-    goes_on c.add_front-len.new.self new c.args.self.now.plan seen (take n piece) (take (n + 1) piece) (get_or piece n 0) c.args.outlet.now c.take_byte-goes_on.new.outlet f.same t.same f.live
-    (take_more piece n 0 less) (f.stands seen s) (f.read seen s) (t.taken (seen ++ take n piece) (f.stands seen s)) (none_is new.fault (sym t.flow ∙ c.if-goes_on.true))
-
-pub returns-else-goes_on-clause-fed : goal.returns-else-goes_on-clause-fed
-returns-else-goes_on-clause-fed c = λ seen s.
-    let f = c.add_front-len.ensures in
-    let t = c.take_byte-goes_on.ensures in
-    let n = c.add_front-len.result in
-    let piece = c.args.piece.now in
-    let less : n < length piece = omega arith in
-    let new = c.take_byte-goes_on.new.self in
-    stops c.add_front-len.new.self new c.args.self.now.plan seen (take n piece) (take (n + 1) piece) (get_or piece n 0) c.args.outlet.now c.take_byte-goes_on.new.outlet f.same t.same f.live
-    (take_more piece n 0 less) (f.stands seen s) (f.read seen s) (t.taken (seen ++ take n piece) (f.stands seen s)) (some_is new.fault (sym t.flow ∙ c.if-goes_on.false))
+    let n = c.plain_len-len.result in
+    let bytes : c.take_line.result.bytes ≡ n + 1 = c.take_line.ensures.bytes ∙ ap (λ (k : ℕ). k + 1) (length-take-le n piece c.plain_len-len.ensures.bound) in
+    let front : take n piece ++ 10 ∷ [] ≡ take c.take_line.result.bytes piece =
+    ap (λ (b : ℕ). take n piece ++ b ∷ []) (sym c.if-piece-len-eq10.true) ∙ sym (take_more piece n 0 c.if-len-piece.true) ∙ ap (λ (k : ℕ). take k piece) (sym bytes) in
+    subst (λ l. Feeds c.args.self.now c.take_line.new.self seen l c.args.outlet.now c.take_line.new.outlet c.take_line.result.flow) front (c.take_line.ensures.fed seen s)

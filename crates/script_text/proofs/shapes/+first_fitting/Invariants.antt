@@ -1,5 +1,0 @@
-use Rattle.std.proofs.Common.{length}
-use Rattle.script_text.proofs.shapes.+first_fitting.Given as goal
-
-abbrev pub decreases-first_fitting : goal.decreases-first_fitting
-decreases-first_fitting l = length l.shapes.now
