@@ -1,5 +1,5 @@
--- What `exercise` writes: how many items the exercise has and how many bytes its capture, and the summary of what is left
--- of that.
+-- What `exercise` writes: how many items the exercise has and how many bytes its capture, and the summary of what is
+-- left of that.
 use Rattle.std.specs.Prelude.{ℕ, List, ◌++◌, length}
 use Rattle.trace_stream.specs.Served.{Meaning}
 use Rattle.trace_text.specs.CountText.{exercise_lines}
@@ -23,7 +23,7 @@ exercise_ending p bytes = exercise_lines p.items p.capture ++ summary p.plan byt
 abbrev pub exercise_meaning : ExercisePlan → Meaning
 exercise_meaning p = record { faulty = IsFaulty p; text = exercise_text p; ending = exercise_ending p }
 
--- what it writes for so many items where so many bytes of the capture's front are lost
+-- what it writes for this many items where this many bytes of the capture's front are lost
 abbrev pub exercise_summary : ℕ → ℕ → List ℕ
 exercise_summary items lost =
     exercise_lines items (length (exercise_capture items)) ++ summary exercise_plan (exercise_rest items lost)

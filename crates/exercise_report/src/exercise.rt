@@ -40,7 +40,8 @@ impl Exercise {
 impl Action for Exercise {
     ghost use Rattle.exercise_report.specs.declared.plans.ExercisePlan.{ExercisePlan};
     ghost use Rattle.exercise_report.specs.Summary.{IsFaulty, exercise_text, exercise_ending};
-    ghost use Rattle.exercise_report.specs.SummaryLaws.{none_at_first, nothing_at_first, faulty_stays, text_stays, ending_stays, text_grows};
+    ghost use Rattle.exercise_report.specs.SummaryLaws.{none_at_first, nothing_at_first, faulty_stays, text_stays};
+    ghost use Rattle.exercise_report.specs.SummaryLaws.{ending_stays, text_grows};
     ghost use Rattle.exercise_report.specs.Exercise.{Stands, plan_of, taken_by, IsLive};
 
     type Plan = ExercisePlan;

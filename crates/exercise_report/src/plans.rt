@@ -2,7 +2,7 @@
 
 ghost use Rattle.std.specs.Prelude.{◌≡◌, ◌≤◌, ◌∷◌, [], true};
 ghost use Rattle.source_events.specs.Plan.{is_sound};
-ghost use Rattle.exercise_source.specs.Exercise.{exercise_plan as plan_of_exercise};
+ghost use Rattle.exercise_source.specs.Exercise.{exercise_plan};
 
 use capture_plan::{FramesMode, PacketsMode};
 use source_events::{Plan, SourceIds};
@@ -32,7 +32,7 @@ fn source_ids(number: u8) -> SourceIds
 /// How the exercise's capture is read: with a hunt at both layers, since its front may be lost. Source 1 sends ITM
 /// packets and source 2 STP packets, with the most significant nibble of a number first.
 pub fn exercise_plan() -> Plan
-    ensures value { result ≡ plan_of_exercise }
+    ensures value { result ≡ exercise_plan }
     ensures sound { is_sound result ≡ true }
 {
     Plan {

@@ -1,5 +1,5 @@
--- The exercise (this project's own): a script of stated items, the capture that it makes, and what is left of that capture
--- where its front is lost.
+-- The exercise (this project's own): a script of stated items, the capture that it makes, and what is left of that
+-- capture where its front is lost.
 use Rattle.std.specs.Prelude.{ℕ, List, [], ◌∷◌, map, drop}
 use Rattle.std.specs.List.{range_with_len}
 use Rattle.capture_plan.specs.declared.frames.FramesMode.TheVariants.{Hunt as FramesHunt}
@@ -29,7 +29,7 @@ line_of_made (Trigger byte) = Of 125 (items.Raw (byte ∷ []))
 abbrev pub line_at : ℕ → Line
 line_at k = line_of_made (item_of k)
 
--- the lines of so many items, from item 0 on
+-- the lines of this many items, from item 0 on
 abbrev pub exercise_lines : ℕ → List Line
 exercise_lines count = map line_at (range_with_len 0 count)
 

@@ -9,6 +9,6 @@ use Rattle.exercise_source.specs.Exercise.{exercise_lines, exercise_capture}
 abbrev pub so_far : ℕ → List ℕ
 so_far n = sure 64 0 (put_of Msn (exercise_lines n))
 
--- and what comes after that in the capture of so many
+-- and what comes after that in the capture of this many
 abbrev pub later : ℕ → ℕ → List ℕ
 later items n = drop (length (so_far n)) (exercise_capture items)

@@ -4,7 +4,7 @@ ghost use Rattle.std.specs.Prelude.{◌≡◌, ◌≤◌, Some};
 ghost use Rattle.script_text.specs.declared.lines.Line.TheVariants.{Of};
 ghost use Rattle.line_writer.specs.Writer.{CanBePut};
 ghost use Rattle.trace_vectors.specs.Items.{IsProperMade};
-ghost use Rattle.exercise_source.specs.Exercise.{line_of_made, line_at as line_by};
+ghost use Rattle.exercise_source.specs.Exercise.{line_of_made, line_at};
 
 use script_text::{Item, Line, RawBytes};
 use trace_values::SourceId;
@@ -36,7 +36,7 @@ fn line_of(made: Made) -> Line
 
 /// The line of the item of this number.
 pub(crate) fn line_at(k: u32) -> Line
-    ensures value { result ≡ line_by k }
+    ensures value { result ≡ line_at k }
     ensures said { CanBePut (Some 2) result }
 {
     line_of(item_at(k))

@@ -44,7 +44,8 @@ fn put(buf: &mut [u8], from: usize, piece: &[u8]) -> usize
 }
 
 impl ExerciseSource {
-    ghost use Rattle.exercise_source.specs.Source.{items_of, pending, left_of, made_by, pieces_left, empty_reads_of, IsSame};
+    ghost use Rattle.exercise_source.specs.Source.{items_of, pending, left_of, made_by, pieces_left, empty_reads_of};
+    ghost use Rattle.exercise_source.specs.Source.{IsSame};
 
     /// The capture of this many items, at most `MOST_ITEMS`, without its first `lose` bytes.
     pub fn new(items: u32, lose: u32) -> ExerciseSource

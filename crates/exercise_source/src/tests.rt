@@ -1,3 +1,5 @@
+//! The capture of the exercise, as a source and written to a sink.
+
 ghost use Rattle.std.specs.Prelude.{◌<◌, length};
 
 use crate::{ExerciseSource, write_exercise};
