@@ -54,4 +54,5 @@ from_port plan bytes capture =
 -- the offset and the reason of the fault of what is left where it is read as the whole is, at offsets from 0 on
 abbrev pub stop_of : Plan → ℕ → List ℕ → Option (ℕ × Reason)
 stop_of plan bytes capture =
-    option_map (λ f. (f.0.at, f.1.0)) (stop_in (sources_by plan) (port_reading plan.frames (placed (drop bytes capture))))
+    let reading = port_reading plan.frames (placed (drop bytes capture)) in
+    option_map (λ f. (f.0.at, f.1.0)) (stop_in (sources_by plan) reading)

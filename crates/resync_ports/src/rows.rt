@@ -60,5 +60,5 @@ pub fn cut_in_a_full_synchronisation()
 
 /// With one FF less the pattern would not tell: `FF FF 7F` is in the middle of a full synchronisation too.
 pub fn shorter_pattern()
-    ensures { BeginsOnly Spells why (255 ∷ (255 ∷ (127 ∷ []))) Full → ⊥ }
+    ensures { BeginsOnly Spells why (0xFF ∷ (0xFF ∷ (0x7F ∷ []))) Full → ⊥ }
 {}

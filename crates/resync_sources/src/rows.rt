@@ -53,7 +53,7 @@ pub fn cut_in_zeros()
 pub fn shorter_itm_pattern()
     ensures row { given_of (itm_whole (codes "03 00 00 00 80")) ≡ (Kept (Software 0 Four 2147483648), 4, 0) ∷ [] }
     ensures law { EndsOnly (InUnits itm_spelling.Spells) (λ r. itm_spelling.why (units_of r))
-        (0 ∷ (0 ∷ (0 ∷ (128 ∷ [])))) Sync → ⊥ }
+        (0 ∷ (0 ∷ (0 ∷ (0x80 ∷ [])))) Sync → ⊥ }
 {}
 
 /// The pattern's own six bytes are not skipped.
