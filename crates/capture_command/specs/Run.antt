@@ -29,6 +29,11 @@ pub record Streams : Type 0 where
   pub noted : Option (List ℕ)
   pub note_faults : ℕ
 
+-- those of an input with these bytes left, an output that took these, and notes that took these and failed so often
+abbrev pub streams : Option (List ℕ) → Option (List ℕ) → Option (List ℕ) → ℕ → Streams
+streams left held noted note_faults =
+    record { left = left; held = held; noted = noted; note_faults = note_faults }
+
 -- a fault became certain at some byte, and is noted
 abbrev pub Stops : TaskMeaning → ℕ → Option (List ℕ) → List ℕ → List ℕ → List ℕ → Type 0
 Stops m limit left bytes out note =

@@ -6,7 +6,7 @@ ghost use Rattle.trace_io.specs.Causes.{Rose};
 ghost use Rattle.exercise_source.specs.Exercise.{exercise_capture};
 ghost use Rattle.exercise_source.specs.declared.maker.TheConstants.{MOST_ITEMS};
 ghost use Rattle.exercise_report.specs.Summary.{exercise_summary};
-ghost use Rattle.capture_command.specs.Run.{HasMade, Streams, IsDoneOrNoMemory};
+ghost use Rattle.capture_command.specs.Run.{HasMade, streams, IsDoneOrNoMemory};
 
 use crate::notes::note;
 use crate::status::Status;
@@ -40,18 +40,8 @@ pub fn run_exercise<O: Sink, N: Sink>(
     requires recent { buffers.old.recent ≡ [] }
     requires few { items ≤ MOST_ITEMS }
     ensures made { (left : Option (List ℕ)) →
-        let before : Streams = record {
-          left = left;
-          held = O.held output.old;
-          noted = N.held notes.old;
-          note_faults = N.faults notes.old;
-        } in
-        let after : Streams = record {
-          left = left;
-          held = O.held output.new;
-          noted = N.held notes.new;
-          note_faults = N.faults notes.new;
-        } in
+        let before = streams left (O.held output.old) (N.held notes.old) (N.faults notes.old) in
+        let after = streams left (O.held output.new) (N.held notes.new) (N.faults notes.new) in
         HasMade (exercise_summary items lose) before after result }
     ensures opened { result ≢ Status.NoMemory }
     ensures no_read { result ≢ Status.ReadFault }

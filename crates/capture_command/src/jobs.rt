@@ -7,7 +7,7 @@ ghost use Rattle.trace_stream.specs.declared.limits.TheConstants.{GREATEST_CAPTU
 ghost use Rattle.capture_words.specs.Jobs.{IsSoundTask};
 ghost use Rattle.capture_command.specs.Actions.{HasDone, IsSoundInput};
 ghost use Rattle.capture_command.specs.Notes.{Notes};
-ghost use Rattle.capture_command.specs.Run.{HasRun, TaskMeaning, Streams, Loses, IsDoneOrNoMemory};
+ghost use Rattle.capture_command.specs.Run.{HasRun, TaskMeaning, streams, Loses, IsDoneOrNoMemory};
 
 use crate::actions::CommandAction;
 use crate::exercise::run_exercise;
@@ -40,18 +40,8 @@ fn run_action<A: CommandAction, I: Source, O: Sink, N: Sink>(
           fault_note = A.noted p;
           fault_status = A.faulted p;
         } in
-        let before : Streams = record {
-          left = I.left input.old;
-          held = O.held output.old;
-          noted = N.held notes.old;
-          note_faults = N.faults notes.old;
-        } in
-        let after : Streams = record {
-          left = I.left input.new;
-          held = O.held output.new;
-          noted = N.held notes.new;
-          note_faults = N.faults notes.new;
-        } in
+        let before = streams (I.left input.old) (O.held output.old) (N.held notes.old) (N.faults notes.old) in
+        let after = streams (I.left input.new) (O.held output.new) (N.held notes.new) (N.faults notes.new) in
         HasRun meaning limit before after result }
     ensures opened { result ≢ Status.NoMemory }
     ensures one_empty_read { I.empty_reads input.new ≤ I.empty_reads input.old + 1 }
@@ -98,18 +88,8 @@ pub fn run_job<I: Source, O: Sink, N: Sink>(
 ) -> Status
     requires small { job.limit ≤ GREATEST_CAPTURE }
     requires sound { IsSoundTask job.task }
-    ensures ran { let before : Streams = record {
-      left = I.left input.old;
-      held = O.held output.old;
-      noted = N.held notes.old;
-      note_faults = N.faults notes.old;
-    } in
-        let after : Streams = record {
-          left = I.left input.new;
-          held = O.held output.new;
-          noted = N.held notes.new;
-          note_faults = N.faults notes.new;
-        } in
+    ensures ran { let before = streams (I.left input.old) (O.held output.old) (N.held notes.old) (N.faults notes.old) in
+        let after = streams (I.left input.new) (O.held output.new) (N.held notes.new) (N.faults notes.new) in
         HasDone job.task job.limit before after result }
     ensures memory_note { result ≡ Status.NoMemory →
         Notes (N.held notes.old) (N.held notes.new) (N.faults notes.old) (N.faults notes.new) (codes "no memory\n") }

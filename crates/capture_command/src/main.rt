@@ -16,7 +16,7 @@ ghost use Rattle.capture_command.specs.Actions.{HasDone, IsSoundInput};
 ghost use Rattle.capture_command.specs.Fronts.{ListsRest, IsSoundWhole, FollowsWhole};
 ghost use Rattle.capture_command.specs.Notes.{Notes};
 ghost use Rattle.capture_command.specs.Rebuilds.{Rebuilds};
-ghost use Rattle.capture_command.specs.Run.{Streams, Untouched, Loses, IsDoneOrNoMemory};
+ghost use Rattle.capture_command.specs.Run.{streams, Untouched, Loses, IsDoneOrNoMemory};
 ghost use Rattle.capture_command.specs.Statuses.{number_of};
 
 mod actions;
@@ -72,18 +72,8 @@ pub fn run<I: Source, O: Sink, N: Sink>(
 
     // What was read, written and noted, by the status.
     ensures ran { (job : Job) → AsksFor (map string_bytes words.now) job →
-        let before : Streams = record {
-          left = I.left input.old;
-          held = O.held output.old;
-          noted = N.held notes.old;
-          note_faults = N.faults notes.old;
-        } in
-        let after : Streams = record {
-          left = I.left input.new;
-          held = O.held output.new;
-          noted = N.held notes.new;
-          note_faults = N.faults notes.new;
-        } in
+        let before = streams (I.left input.old) (O.held output.old) (N.held notes.old) (N.faults notes.old) in
+        let after = streams (I.left input.new) (O.held output.new) (N.held notes.new) (N.faults notes.new) in
         HasDone job.task job.limit before after result }
 
     // Every read but the last gives at least one byte, whatever the words.
@@ -138,18 +128,8 @@ fn start<I: Source, O: Sink, N: Sink>(
     ensures misuse { IsMisuse (map string_bytes words.now) →
         (result ≡ number_of Status.Usage) ⊎ (result ≡ number_of Status.NoMemory) }
     ensures ran { (job : Job) → AsksFor (map string_bytes words.now) job →
-        let before : Streams = record {
-          left = I.left input.old;
-          held = O.held output.old;
-          noted = N.held notes.old;
-          note_faults = N.faults notes.old;
-        } in
-        let after : Streams = record {
-          left = I.left input.new;
-          held = O.held output.new;
-          noted = N.held notes.new;
-          note_faults = N.faults notes.new;
-        } in
+        let before = streams (I.left input.old) (O.held output.old) (N.held notes.old) (N.faults notes.old) in
+        let after = streams (I.left input.new) (O.held output.new) (N.held notes.new) (N.faults notes.new) in
         (status : Status) × (result ≡ number_of status) × HasDone job.task job.limit before after status }
 {
     run(alloc, words, input, output, notes).number()

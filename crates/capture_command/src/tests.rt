@@ -20,6 +20,7 @@ mod stp;
 mod surroundings;
 mod windows;
 mod words;
+mod worked;
 mod written;
 
 use crate::run;

@@ -6,30 +6,13 @@ use std::alloc::Global;
 use std::process::Abort;
 use std::test::Fail;
 use trace_io::{MemorySink, MemorySource};
+use trace_vectors::worked::{ENCLOSED, LETTER, LETTER_WITH_HALVES, RAW, TRIGGER};
 
 /// The call that counts what is in a port that is read from its first byte on.
 const ALIGNED: [&str; 3] = ["check", "--frames", "aligned"];
 
 /// The call that counts what comes after the first full synchronisation.
 const HUNTING: [&str; 1] = ["check"];
-
-/// A half synchronisation, a frame whose ID 16 is deferred by one byte, and a full synchronisation.
-const DEFERRED: &[u8] =
-    b"\xff\x7f\x21\xff\xfe\xff\xfe\xff\xfe\xff\xfe\xff\xfe\xff\xfe\xff\xfe\xff\xff\xff\xff\x7f";
-
-/// A full synchronisation and a frame: eight bytes of ID 1, and null bytes.
-const FRAME: &[u8] = b"\xff\xff\xff\x7f\x03\0\0\0\0\0\x80\x01\x01\x41\0\0\0\0\0\x10";
-
-/// The same with a half synchronisation in each gap of the frame.
-const HALVES: &[u8] =
-    b"\xff\xff\xff\x7f\x03\0\xff\x7f\0\0\xff\x7f\0\0\xff\x7f\x80\x01\xff\x7f\x01\x41\xff\x7f\0\0\xff\x7f\0\0\xff\x7f\0\x10";
-
-/// Thirteen bytes of ID 16 and one of ID 17.
-const TWO: &[u8] =
-    b"\x21\x01\x02\x03\x04\x05\x06\x07\x08\x09\x0a\x0b\x0c\x0d\x23\0\x01\xaa\0\0\0\0\0\0\0\0\0\0\0\0\0\x01";
-
-/// A trigger, and null bytes.
-const TRIGGER: &[u8] = b"\xfb\x07\x01\0\0\0\0\0\0\0\0\0\0\0\0\0";
 
 /// A full synchronisation inside a frame.
 const BROKEN: &[u8] = b"\x03\0\0\0\0\0\xff\xff\xff\x7f";
@@ -49,42 +32,42 @@ fn counts_worked_captures(rt: HostRuntime) -> Result<(), Fail> {
         ),
         (
             &ALIGNED,
-            DEFERRED,
+            ENCLOSED,
             "full 1\nhalf 1\nframes 1\n16 bytes 13 items 1\nend 22\nport aligned skipped 0 tail 0 unattributed 1\n",
         ),
         (
             &HUNTING,
-            DEFERRED,
+            ENCLOSED,
             "full 1\nhalf 0\nframes 0\nend 22\nport locked skipped 18 tail 0 unattributed 0\n",
         ),
         (
             &ALIGNED,
-            FRAME,
+            LETTER,
             "full 1\nhalf 0\nframes 1\n0 bytes 5 items 0\n1 bytes 8 items 1\nend 20\nport aligned skipped 0 tail 0 unattributed 0\n",
         ),
         (
             &HUNTING,
-            FRAME,
+            LETTER,
             "full 1\nhalf 0\nframes 1\n0 bytes 5 items 0\n1 bytes 8 items 1\nend 20\nport locked skipped 0 tail 0 unattributed 0\n",
         ),
         (
             &ALIGNED,
-            &FRAME[..18],
+            &LETTER[..18],
             "full 1\nhalf 0\nframes 0\nend 18\nport aligned skipped 0 tail 14 unattributed 0\n",
         ),
         (
             &HUNTING,
-            &FRAME[3..],
+            &LETTER[3..],
             "full 0\nhalf 0\nframes 0\nend 17\nport hunting skipped 17 tail 0 unattributed 0\n",
         ),
         (
             &ALIGNED,
-            HALVES,
+            LETTER_WITH_HALVES,
             "full 1\nhalf 7\nframes 1\n0 bytes 5 items 0\n1 bytes 8 items 1\nend 34\nport aligned skipped 0 tail 0 unattributed 0\n",
         ),
         (
             &ALIGNED,
-            TWO,
+            RAW,
             "full 0\nhalf 0\nframes 2\n0 bytes 13 items 0\n16 bytes 13 items 1\n17 bytes 1 items 1\nend 32\nport aligned skipped 0 tail 0 unattributed 0\n",
         ),
         (
@@ -162,7 +145,7 @@ fn counts_each_prefix(rt: HostRuntime) -> Result<(), Fail> {
             rt.alloc(),
             &rt,
             &ALIGNED,
-            &DEFERRED[..count],
+            &ENCLOSED[..count],
             Status::Done,
             &text,
         )?;
@@ -171,7 +154,7 @@ fn counts_each_prefix(rt: HostRuntime) -> Result<(), Fail> {
 }
 
 #[test]
-fn counts_behind_each_lost_front(rt: HostRuntime) -> Result<(), Fail> {
+fn counts_after_each_lost_front(rt: HostRuntime) -> Result<(), Fail> {
     for lost in 0..=22usize {
         let count = 22 - lost;
         let text = if lost <= 18 {
@@ -188,7 +171,7 @@ fn counts_behind_each_lost_front(rt: HostRuntime) -> Result<(), Fail> {
             rt.alloc(),
             &rt,
             &HUNTING,
-            &DEFERRED[lost..],
+            &ENCLOSED[lost..],
             Status::Done,
             &text,
         )?;
@@ -208,7 +191,7 @@ fn check_failing(
     let fail = [failing];
     let mut room = [0; ROOM];
     let mut noted = [0; ROOM];
-    let mut input = MemorySource::new(FRAME, &[1], &fail);
+    let mut input = MemorySource::new(LETTER, &[1], &fail);
     let mut output = MemorySink::new(&mut room[..size.min(ROOM)], &[], &[]);
     let mut notes = MemorySink::new(&mut noted, &[], &[]);
     let got = answer(alloc, words, &mut input, &mut output, &mut notes)?;

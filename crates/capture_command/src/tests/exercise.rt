@@ -12,9 +12,10 @@ use trace_io::{Failed, MemorySink, MemorySource, Source};
 /// How many items the longest capture of these tests has.
 pub(super) const ITEMS: u32 = 12000;
 
-/// Room for the capture of so many items, and for its listing.
+/// Room for the capture of so many items.
 const CAPTURE_ROOM: usize = 70_000;
 
+/// Room for its listing.
 pub(super) const LISTING_ROOM: usize = 600_000;
 
 const THREE: &str = "items 3

@@ -1,12 +1,12 @@
-//! Captures whose front is lost: what is read behind it is what the whole has there.
+//! Captures whose front is lost: what is read after it is what the whole has there.
 
-use super::sources::TWICE;
 use super::written::written;
 use super::{check, output_of};
 use crate::status::Status;
 use std::alloc::{AllocError, Global};
 use std::process::Abort;
 use std::test::Fail;
+use trace_vectors::worked::TWICE;
 
 /// What an ITM wrote: values, stamps and events, and four synchronisations, some after bytes of zeros.
 const ITM: &[u8] = &[
@@ -75,7 +75,7 @@ const RUNS: [(u8, &[u8]); 24] = [
 /// What is lost of a source whose front is lost.
 #[derive(Clone, Copy, PartialEq, Eq)]
 pub(super) enum Kind {
-    /// All up to the first synchronisation, and nothing behind it.
+    /// All up to the first synchronisation, and nothing after it.
     Itm,
     /// The same; a place and a stamp are known from the first version on.
     Stp,
@@ -275,13 +275,13 @@ fn check_bare(
 }
 
 #[test]
-fn an_itm_behind_each_front_is_as_in_the_whole(rt: HostRuntime) -> Result<(), Fail> {
+fn an_itm_after_each_front_is_as_in_the_whole(rt: HostRuntime) -> Result<(), Fail> {
     assert_eq!(rt; synchronisations(ITM), 4);
     check_bare(rt.alloc(), &rt, ITM, "--itm", Kind::Itm)
 }
 
 #[test]
-fn a_system_trace_behind_each_front_is_as_in_the_whole(rt: HostRuntime) -> Result<(), Fail> {
+fn a_system_trace_after_each_front_is_as_in_the_whole(rt: HostRuntime) -> Result<(), Fail> {
     assert_eq!(rt; asynchronous(STP), 4);
     check_bare(rt.alloc(), &rt, STP, "--stp", Kind::Stp)
 }
@@ -308,7 +308,7 @@ fn bytes_of(alloc: Global, id: u8) -> Result<Vec<u8>, AllocError> {
     Ok(bytes)
 }
 
-/// The sources that are not mapped have the lines of the whole behind the port's synchronisation.
+/// The sources that are not mapped have the lines of the whole after the port's synchronisation.
 fn check_port(
     alloc: Global,
     rt: &impl Abort,
@@ -317,13 +317,13 @@ fn check_port(
 ) -> Result<(), Fail> {
     for source in [16, 85, 125] {
         let count = check_last(alloc, rt, (whole, rest), lost, (source, Kind::Port))?;
-        let mut behind = 0usize;
+        let mut after = 0usize;
         for line in items(alloc, whole, source)? {
             if lock.wrapping_mul(2) < line.place {
-                behind = behind.wrapping_add(1);
+                after = after.wrapping_add(1);
             }
         }
-        assert_eq!(rt; count, behind, "{source} without {lost} bytes");
+        assert_eq!(rt; count, after, "{source} without {lost} bytes");
     }
     Ok(())
 }
@@ -376,7 +376,7 @@ fn check_frames(alloc: Global, rt: &impl Abort, every: u32, halves: u8) -> Resul
 }
 
 #[test]
-fn frames_behind_each_front_are_as_in_the_whole(rt: HostRuntime) -> Result<(), Fail> {
+fn frames_after_each_front_are_as_in_the_whole(rt: HostRuntime) -> Result<(), Fail> {
     check_frames(rt.alloc(), &rt, 1, 0)?;
     check_frames(rt.alloc(), &rt, 3, 1)
 }
@@ -420,7 +420,7 @@ port bare skipped 0 tail 0 unattributed 0
 const SPLIT: &[u8] = b"\0\0\0\0\0\x80\x03\0\0\0\0\0\0\0\0\0\x80\x01\x41\0\0\0\0\0\x80";
 
 #[test]
-fn splits_behind_each_front_what_the_port_has_there(rt: HostRuntime) -> Result<(), Fail> {
+fn splits_after_each_front_what_the_port_has_there(rt: HostRuntime) -> Result<(), Fail> {
     for lost in 0..=TWICE.len() {
         let first = match lost {
             0 => 0,

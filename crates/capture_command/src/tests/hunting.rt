@@ -103,7 +103,7 @@ fn locks_at_the_first_synchronisation(rt: HostRuntime) -> Result<(), Fail> {
 }
 
 #[test]
-fn a_fault_behind_the_lock_ends_the_listing(rt: HostRuntime) -> Result<(), Fail> {
+fn a_fault_after_the_lock_ends_the_listing(rt: HostRuntime) -> Result<(), Fail> {
     let table: [(&[u8], &str); 4] = [
         (
             &[0x80, 0, 0, 0, 0, 0, 0x80, 0xB0],

@@ -58,7 +58,7 @@ fn check_id(
 }
 
 #[test]
-fn each_id_has_what_stands_behind_it(rt: HostRuntime) -> Result<(), Fail> {
+fn each_id_has_what_is_after_it(rt: HostRuntime) -> Result<(), Fail> {
     for id in 0..127u8 {
         for pair in 0..8 {
             check_id(rt.alloc(), &rt, 2 * pair, id, false)?;

@@ -6,6 +6,9 @@ use std::alloc::Global;
 use std::process::Abort;
 use std::test::Fail;
 use trace_io::{MemorySink, MemorySource};
+use trace_vectors::itm::{
+    EXTENSIONS, HARDWARE_PACKETS, OTHER_SPELLINGS, SOURCE_PACKETS, TIMESTAMPS,
+};
 
 /// The headers that no packet has.
 const RESERVED: [u8; 18] = [
@@ -36,92 +39,45 @@ fn check_item(alloc: Global, rt: &impl Abort, bytes: &[u8], item: &str) -> Resul
     check_lines(alloc, rt, &bytes[..last], "", last)
 }
 
-#[test]
-fn lists_synchronisations_and_values(rt: HostRuntime) -> Result<(), Fail> {
-    let table: [(&[u8], &str); 10] = [
-        (&[0, 0, 0, 0, 0, 0x80], "sync"),
-        (&[0, 0, 0, 0, 0, 0, 0, 0, 0, 0x80], "sync"),
-        (&[0x70], "overflow"),
-        (&[0x01, 0x41], "port 0 u8 41"),
-        (&[0xFA, 0x34, 0x12], "port 31 u16 1234"),
-        (&[0x13, 0x78, 0x56, 0x34, 0x02], "port 2 u32 02345678"),
-        (&[0x05, 0x07], "counters 07"),
-        (&[0x0E, 0x0F, 0x10], "exception 15 enter"),
-        (&[0xFF, 0xFF, 0xFF, 0xFF, 0xFF], "hw 31 u32 ffffffff"),
-        (&[0x03, 0, 0, 0, 0], "port 0 u32 00000000"),
-    ];
-    for (bytes, item) in table {
-        check_item(rt.alloc(), &rt, bytes, item)?;
+/// What the line of this item, the first of its source, says beside it.
+fn remark(item: &str) -> &str {
+    if let Some(lateness_and_time) = item.strip_prefix("local ") {
+        match lateness_and_time.split_once(' ') {
+            Some((_, time)) => time,
+            None => "",
+        }
+    } else if item.starts_with("global") {
+        "?"
+    } else {
+        ""
     }
-    Ok(())
+}
+
+/// Checks the listing of these bytes, which are one packet.
+fn check_packet(alloc: Global, rt: &impl Abort, bytes: &[u8], item: &str) -> Result<(), Fail> {
+    let said = remark(item);
+    let line = match said {
+        "" => format!(in alloc; "{item}")?,
+        "?" => format!(in alloc; "{item} time=?")?,
+        time => format!(in alloc; "{item} clock={time}")?,
+    };
+    check_item(alloc, rt, bytes, &line)
 }
 
 #[test]
-fn lists_timestamps(rt: HostRuntime) -> Result<(), Fail> {
-    let table: [(&[u8], &str); 21] = [
-        (&[0x10], "local exact 1 clock=1"),
-        (&[0x60], "local exact 6 clock=6"),
-        (&[0xC0, 0x01], "local exact 1 clock=1"),
-        (&[0xC0, 0x88, 0x01], "local exact 136 clock=136"),
-        (&[0xD0, 0x05], "local stamp-late 5 clock=5"),
-        (
-            &[0xE0, 0x85, 0x80, 0x01],
-            "local packet-late 16389 clock=16389",
-        ),
-        (&[0xF0, 0x85, 0x80, 0x80, 0x00], "local both-late 5 clock=5"),
-        (
-            &[0xF0, 0xFF, 0xFF, 0xFF, 0x7F],
-            "local both-late 268435455 clock=268435455",
-        ),
-        (&[0x94, 0x05], "global1 1 5 0 0 time=?"),
-        (&[0x94, 0x85, 0x01], "global1 2 133 0 0 time=?"),
-        (&[0x94, 0x80, 0x80, 0x01], "global1 3 16384 0 0 time=?"),
-        (&[0x94, 0x81, 0x80, 0x80, 0x00], "global1 4 1 0 0 time=?"),
-        (&[0x94, 0x81, 0x80, 0x80, 0x20], "global1 4 1 1 0 time=?"),
-        (&[0x94, 0x81, 0x80, 0x80, 0x40], "global1 4 1 0 1 time=?"),
-        (
-            &[0x94, 0x80, 0x80, 0x80, 0x3F],
-            "global1 4 65011712 1 0 time=?",
-        ),
-        (
-            &[0x94, 0xFF, 0xFF, 0xFF, 0x7F],
-            "global1 4 67108863 1 1 time=?",
-        ),
-        (&[0xB4, 0x82, 0x80, 0x80, 0x00], "global2 48 2 time=?"),
-        (&[0xB4, 0x81, 0x80, 0x80, 0x7F], "global2 48 2097153 time=?"),
-        (
-            &[0xB4, 0x82, 0x80, 0x80, 0x80, 0x80, 0x04],
-            "global2 64 137438953474 time=?",
-        ),
-        (
-            &[0xB4, 0x80, 0x80, 0x80, 0x80, 0x80, 0x7F],
-            "global2 64 240518168576 time=?",
-        ),
-        (
-            &[0xB4, 0xFF, 0xFF, 0xFF, 0xFF, 0xFF, 0x7F],
-            "global2 64 274877906943 time=?",
-        ),
-    ];
-    for (bytes, item) in table {
-        check_item(rt.alloc(), &rt, bytes, item)?;
+fn lists_each_packet(rt: HostRuntime) -> Result<(), Fail> {
+    for rows in [
+        SOURCE_PACKETS.as_slice(),
+        HARDWARE_PACKETS.as_slice(),
+        TIMESTAMPS.as_slice(),
+        EXTENSIONS.as_slice(),
+    ] {
+        for row in rows {
+            check_packet(rt.alloc(), &rt, row.bytes, row.text)?;
+        }
     }
-    Ok(())
-}
-
-#[test]
-fn lists_extensions(rt: HostRuntime) -> Result<(), Fail> {
-    let table: [(&[u8], &str); 8] = [
-        (&[0x08], "ext itm 00000000"),
-        (&[0x58], "ext itm 00000005"),
-        (&[0x7C], "ext dwt 00000007"),
-        (&[0xBC, 0x01], "ext dwt 0000000b"),
-        (&[0x98, 0x80, 0x01], "ext itm 00000401"),
-        (&[0x88, 0x82, 0x80, 0x80, 0x81], "ext itm 81000010"),
-        (&[0x8C, 0x80, 0x80, 0x80, 0x80], "ext dwt 80000000"),
-        (&[0xF8, 0xFF, 0xFF, 0xFF, 0xFF], "ext itm ffffffff"),
-    ];
-    for (bytes, item) in table {
-        check_item(rt.alloc(), &rt, bytes, item)?;
+    for (bytes, text) in OTHER_SPELLINGS {
+        check_packet(rt.alloc(), &rt, bytes, text)?;
     }
     Ok(())
 }

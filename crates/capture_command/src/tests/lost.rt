@@ -6,6 +6,9 @@ use std::alloc::{AllocError, Global};
 use std::process::Abort;
 use std::test::Fail;
 
+/// How many bytes a frame has.
+const FRAME: usize = 16;
+
 /// The lines of a listing, by their sources.
 #[derive(Drop)]
 struct Lines<'a> {
@@ -99,9 +102,35 @@ fn check_front(
     Ok(())
 }
 
-#[test]
-fn an_exercise_behind_each_front_is_as_in_the_whole(rt: HostRuntime) -> Result<(), Fail> {
-    let capture = exercise_capture(rt.alloc(), &rt)?;
+/// The capture with a half synchronisation in each frame: before its first halfword, in the next frame before its second
+/// one, and so on.
+fn with_halves(alloc: Global, rt: &impl Abort, capture: &[u8]) -> Result<Vec<u8>, AllocError> {
+    let mut halved = Vec::new(alloc);
+    let mut rest = capture;
+    let mut place = 0;
+    for _ in 0..capture.len() {
+        if rest.starts_with(b"\xff\xff\xff\x7f") {
+            halved.extend_from_slice(b"\xff\xff\xff\x7f")?;
+            rest = &rest[4..];
+        } else if !rest.is_empty() {
+            assert!(rt; place <= FRAME && FRAME <= rest.len());
+            halved.extend_from_slice(&rest[..place])?;
+            halved.extend_from_slice(b"\xff\x7f")?;
+            halved.extend_from_slice(&rest[place..FRAME])?;
+            rest = &rest[FRAME..];
+            place = (place + 2) % FRAME;
+        }
+    }
+    Ok(halved)
+}
+
+/// The capture without each of these fronts: from one length up to below another.
+fn check_fronts(
+    alloc: Global,
+    rt: &impl Abort,
+    capture: &[u8],
+    (from, end): (usize, usize),
+) -> Result<(), Fail> {
     let aligned = [
         "show",
         "--frames=aligned",
@@ -109,15 +138,66 @@ fn an_exercise_behind_each_front_is_as_in_the_whole(rt: HostRuntime) -> Result<(
         "--itm=1",
         "--stp=2",
     ];
-    let listing = long_text(rt.alloc(), &rt, &aligned, &capture, 4096)?;
-    let whole = lines_of(rt.alloc(), &listing)?;
-    // the first bytes, those about a synchronisation of the port, and each seventh of the first two thousand
-    for lost in 0..20 {
-        check_front(rt.alloc(), &rt, &capture, &whole, lost)?;
-        check_front(rt.alloc(), &rt, &capture, &whole, 1020 + lost)?;
-    }
-    for count in 0..286 {
-        check_front(rt.alloc(), &rt, &capture, &whole, 7 * count)?;
+    let listing = long_text(alloc, rt, &aligned, capture, 4096)?;
+    let whole = lines_of(alloc, &listing)?;
+    for lost in from..end {
+        check_front(alloc, rt, capture, &whole, lost)?;
     }
     Ok(())
+}
+
+/// The capture of the exercise without each of these fronts.
+fn check_exercise(alloc: Global, rt: &impl Abort, fronts: (usize, usize)) -> Result<(), Fail> {
+    let capture = exercise_capture(alloc, rt)?;
+    check_fronts(alloc, rt, &capture, fronts)
+}
+
+/// The same of its capture with half synchronisations.
+fn check_halved(alloc: Global, rt: &impl Abort, fronts: (usize, usize)) -> Result<(), Fail> {
+    let capture = exercise_capture(alloc, rt)?;
+    let halved = with_halves(alloc, rt, &capture)?;
+    assert_eq!(rt; halved.len(), 64460 + 2 * 4013);
+    check_fronts(alloc, rt, &halved, fronts)
+}
+
+// Each of the first two thousand fronts, in parts that take a few seconds each.
+
+#[test]
+fn an_exercise_without_up_to_500_bytes_is_as_in_the_whole(rt: HostRuntime) -> Result<(), Fail> {
+    check_exercise(rt.alloc(), &rt, (0, 501))
+}
+
+#[test]
+fn an_exercise_without_up_to_1000_bytes_is_as_in_the_whole(rt: HostRuntime) -> Result<(), Fail> {
+    check_exercise(rt.alloc(), &rt, (501, 1001))
+}
+
+#[test]
+fn an_exercise_without_up_to_1500_bytes_is_as_in_the_whole(rt: HostRuntime) -> Result<(), Fail> {
+    check_exercise(rt.alloc(), &rt, (1001, 1501))
+}
+
+#[test]
+fn an_exercise_without_up_to_2000_bytes_is_as_in_the_whole(rt: HostRuntime) -> Result<(), Fail> {
+    check_exercise(rt.alloc(), &rt, (1501, 2001))
+}
+
+#[test]
+fn so_is_one_with_half_synchronisations_without_up_to_500(rt: HostRuntime) -> Result<(), Fail> {
+    check_halved(rt.alloc(), &rt, (0, 501))
+}
+
+#[test]
+fn so_is_one_with_half_synchronisations_without_up_to_1000(rt: HostRuntime) -> Result<(), Fail> {
+    check_halved(rt.alloc(), &rt, (501, 1001))
+}
+
+#[test]
+fn so_is_one_with_half_synchronisations_without_up_to_1500(rt: HostRuntime) -> Result<(), Fail> {
+    check_halved(rt.alloc(), &rt, (1001, 1501))
+}
+
+#[test]
+fn so_is_one_with_half_synchronisations_without_up_to_2000(rt: HostRuntime) -> Result<(), Fail> {
+    check_halved(rt.alloc(), &rt, (1501, 2001))
 }

@@ -1,7 +1,6 @@
 //! Scripts that become captures, their faults, and listings that become scripts again.
 
 use super::fronts::{cut, item};
-use super::sources::{FRAMES, HALVES, LETTER, TWICE};
 use super::words::check_words;
 use super::written::written;
 use super::{Calls, LONG_ROOM, check_run, check_writes, pieces_of, run_over, text_before};
@@ -9,38 +8,14 @@ use crate::status::Status;
 use std::alloc::{AllocError, Global};
 use std::process::Abort;
 use std::test::Fail;
-
-/// A synchronisation packet and a letter.
-const LETTER_SCRIPT: &[u8] = b"1 sync\n1 port 0 u8 41\n";
-
-/// An ITM source, 1, a system trace, 2, whose last nibble is kept at times, and a source that is not mapped, 16.
-const FRAMES_SCRIPT: &[u8] = b"1 sync
-2 async
-2 version 3
-16 raw a5
-1 port 0 u8 41
-2 data 1 0 u8 42 - n=5
-";
-
-/// Three synchronisation packets and two values, in two frames.
-const TWICE_SCRIPT: &[u8] = b"1 sync
-1 port 0 u32 00000000
-1 sync
-1 port 0 u8 41
-1 sync
-";
+use trace_vectors::worked::{
+    LETTER, LETTER_SCRIPT, LETTER_WITH_HALVES, RAW, RAW_SCRIPT, SOURCES, SOURCES_SCRIPT, TWICE,
+    TWICE_SCRIPT,
+};
 
 const TWICE_WORDS: [&str; 5] = ["rebuild", "--itm", "1", "--sync", "1"];
 
 const ITM_AND_STP: [&str; 5] = ["rebuild", "--itm", "1", "--stp", "2"];
-
-/// Thirteen bytes of source 16 and one of source 17, which is named in byte 14 of the first frame.
-const RAW_SCRIPT: &[u8] = b"16 raw 0102030405060708090a0b0c0d\n17 raw aa\n";
-
-const RAW: &[u8] = &[
-    0x21, 0x01, 0x02, 0x03, 0x04, 0x05, 0x06, 0x07, 0x08, 0x09, 0x0A, 0x0B, 0x0C, 0x0D, 0x23, 0x00,
-    0x01, 0xAA, 0x00, 0x00, 0x00, 0x00, 0x00, 0x00, 0x00, 0x00, 0x00, 0x00, 0x00, 0x00, 0x00, 0x01,
-];
 
 /// A script that says nothing.
 const SILENT: &[u8] = b"# a script\n\n#\n\n# of comments\n";
@@ -53,9 +28,9 @@ fn writes_the_captures_of_scripts(rt: HostRuntime) -> Result<(), Fail> {
         (
             &["rebuild", "--itm", "1", "--half", "1"],
             LETTER_SCRIPT,
-            HALVES,
+            LETTER_WITH_HALVES,
         ),
-        (&ITM_AND_STP, FRAMES_SCRIPT, FRAMES),
+        (&ITM_AND_STP, SOURCES_SCRIPT, SOURCES),
         (&TWICE_WORDS, TWICE_SCRIPT, TWICE),
         (
             &["rebuild", "--itm", "1"],
@@ -73,14 +48,6 @@ fn writes_the_captures_of_scripts(rt: HostRuntime) -> Result<(), Fail> {
         check_run(rt.alloc(), &rt, words, short, want)?;
     }
     Ok(())
-}
-
-#[test]
-fn lists_an_id_that_byte_14_of_a_frame_names(rt: HostRuntime) -> Result<(), Fail> {
-    let text =
-        "13 16 raw 0102030405060708090a0b0c0d\n17 17 raw aa\nend 32\nport aligned skipped 0 tail 0 unattributed 0\n";
-    let want = (Status::Done, text.as_bytes(), "");
-    check_run(rt.alloc(), &rt, &["show", "--frames", "aligned"], RAW, want)
 }
 
 #[test]
@@ -251,7 +218,7 @@ fn a_prefix_of_the_capture_where_the_script_is_cut(rt: HostRuntime) -> Result<()
 fn each_read_and_each_write_of_a_script_fails(rt: HostRuntime) -> Result<(), Fail> {
     let table: [(&[&str], &[u8], &[u8]); 2] = [
         (&TWICE_WORDS, TWICE_SCRIPT, TWICE),
-        (&ITM_AND_STP, FRAMES_SCRIPT, FRAMES),
+        (&ITM_AND_STP, SOURCES_SCRIPT, SOURCES),
     ];
     for (words, script, capture) in table {
         for read in 0..=script.len() {
@@ -271,11 +238,11 @@ fn each_read_and_each_write_of_a_script_fails(rt: HostRuntime) -> Result<(), Fai
 fn each_prefix_of_a_script_ends(rt: HostRuntime) -> Result<(), Fail> {
     // Of the lines of this script none has a shorter one as its front, but for the empty one.
     let (mut line, mut begins) = (1usize, 0usize);
-    for count in 0..=FRAMES_SCRIPT.len() {
+    for count in 0..=SOURCES_SCRIPT.len() {
         let calls = (pieces_of(7), pieces_of(4096));
-        let script = &FRAMES_SCRIPT[..count];
+        let script = &SOURCES_SCRIPT[..count];
         let got = run_over(rt.alloc(), &ITM_AND_STP, script, calls, LONG_ROOM)?;
-        let at_end = count == FRAMES_SCRIPT.len() || FRAMES_SCRIPT[count] == b'\n';
+        let at_end = count == SOURCES_SCRIPT.len() || SOURCES_SCRIPT[count] == b'\n';
         if at_end || count == begins {
             assert_eq!(rt; got.status, Status::Done, "{count} bytes");
             assert!(rt; got.note.is_empty(), "{count} bytes");
@@ -283,7 +250,7 @@ fn each_prefix_of_a_script_ends(rt: HostRuntime) -> Result<(), Fail> {
             let note = format!(in rt.alloc(); "line {line} ")?;
             assert_eq!(rt; got.status, Status::ScriptFault, "{count} bytes");
             assert!(rt; got.note.starts_with(note.as_bytes()), "{count} bytes");
-            assert!(rt; FRAMES.starts_with(&got.text), "{count} bytes");
+            assert!(rt; SOURCES.starts_with(&got.text), "{count} bytes");
         }
         if at_end {
             line = line.wrapping_add(1);

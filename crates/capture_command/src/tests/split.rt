@@ -4,17 +4,10 @@ use super::answer;
 use crate::status::Status;
 use std::test::Fail;
 use trace_io::{MemorySink, MemorySource};
+use trace_vectors::worked::{ENCLOSED, LETTER, LETTER_WITH_HALVES, RAW};
 
 /// Room for the longest text of these tests.
 const ROOM: usize = 64;
-
-/// A half synchronisation, a frame whose ID 16 is deferred by one byte, and a full synchronisation.
-const DEFERRED: &[u8] =
-    b"\xff\x7f\x21\xff\xfe\xff\xfe\xff\xfe\xff\xfe\xff\xfe\xff\xfe\xff\xfe\xff\xff\xff\xff\x7f";
-
-/// Thirteen bytes of ID 16 and one of ID 17.
-const TWO: &[u8] =
-    b"\x21\x01\x02\x03\x04\x05\x06\x07\x08\x09\x0a\x0b\x0c\x0d\x23\0\x01\xaa\0\0\0\0\0\0\0\0\0\0\0\0\0\x01";
 
 /// A frame of ID 1.
 const ONE: &[u8] = b"\x03abcdefghijklmn\0";
@@ -26,14 +19,7 @@ const MIXED: &[u8] = b"\x03abc\x05efg\x01ijk\x03mn\0";
 const NAMELESS: &[u8] = b"bababababababab\0";
 
 /// Lost bytes, a full synchronisation, and the frame of several IDs.
-const BEHIND_LOST: &[u8] = b"xyz\xff\xff\xff\x7f\x03abc\x05efg\x01ijk\x03mn\0";
-
-/// A full synchronisation and a frame: eight bytes of ID 1, and null bytes.
-const SYNCED: &[u8] = b"\xff\xff\xff\x7f\x03\0\0\0\0\0\x80\x01\x01\x41\0\0\0\0\0\x10";
-
-/// The same with a half synchronisation in each gap of the frame.
-const HALVES: &[u8] =
-    b"\xff\xff\xff\x7f\x03\0\xff\x7f\0\0\xff\x7f\0\0\xff\x7f\x80\x01\xff\x7f\x01\x41\xff\x7f\0\0\xff\x7f\0\0\xff\x7f\0\x10";
+const AFTER_LOST: &[u8] = b"xyz\xff\xff\xff\x7f\x03abc\x05efg\x01ijk\x03mn\0";
 
 /// A frame of ID 1, and bytes that are no synchronisation.
 const BROKEN: &[u8] = b"\x03abcdefghijklmn\0\xff\0\x03abcdefghijklmn\0";
@@ -42,30 +28,30 @@ const BROKEN: &[u8] = b"\x03abcdefghijklmn\0\xff\0\x03abcdefghijklmn\0";
 fn splits_worked_captures_in_pieces_of_any_length(rt: HostRuntime) -> Result<(), Fail> {
     // Whether the first byte begins a frame, the ID, the bytes, and what is written and noted.
     let table: [(bool, &str, &[u8], Status, &[u8], &str); 23] = [
-        (true, "16", DEFERRED, Status::Done, &[0xFF; 13], ""),
-        (true, "0", DEFERRED, Status::Done, b"", ""),
-        (false, "16", DEFERRED, Status::Done, b"", ""),
+        (true, "16", ENCLOSED, Status::Done, &[0xFF; 13], ""),
+        (true, "0", ENCLOSED, Status::Done, b"", ""),
+        (false, "16", ENCLOSED, Status::Done, b"", ""),
         (
             true,
             "16",
-            TWO,
+            RAW,
             Status::Done,
             &[1, 2, 3, 4, 5, 6, 7, 8, 9, 10, 11, 12, 13],
             "",
         ),
-        (true, "17", TWO, Status::Done, b"\xaa", ""),
+        (true, "17", RAW, Status::Done, b"\xaa", ""),
         (true, "1", ONE, Status::Done, b"abcdefghijklmn", ""),
         (true, "1", MIXED, Status::Done, b"abcmn", ""),
         (true, "2", MIXED, Status::Done, b"efg", ""),
         (true, "0", MIXED, Status::Done, b"ijk", ""),
         (true, "126", MIXED, Status::Done, b"", ""),
         (true, "0", NAMELESS, Status::Done, b"", ""),
-        (false, "1", BEHIND_LOST, Status::Done, b"abcmn", ""),
-        (false, "0", BEHIND_LOST, Status::Done, b"ijk", ""),
+        (false, "1", AFTER_LOST, Status::Done, b"abcmn", ""),
+        (false, "0", AFTER_LOST, Status::Done, b"ijk", ""),
         (
             true,
             "1",
-            SYNCED,
+            LETTER,
             Status::Done,
             b"\0\0\0\0\0\x80\x01\x41",
             "",
@@ -73,13 +59,13 @@ fn splits_worked_captures_in_pieces_of_any_length(rt: HostRuntime) -> Result<(),
         (
             true,
             "1",
-            HALVES,
+            LETTER_WITH_HALVES,
             Status::Done,
             b"\0\0\0\0\0\x80\x01\x41",
             "",
         ),
-        (true, "1", &SYNCED[..18], Status::Done, b"", ""),
-        (false, "1", &SYNCED[3..], Status::Done, b"", ""),
+        (true, "1", &LETTER[..18], Status::Done, b"", ""),
+        (false, "1", &LETTER[3..], Status::Done, b"", ""),
         (
             true,
             "1",

@@ -6,6 +6,7 @@ use arrayvec::ArrayVec;
 use std::alloc::Global;
 use std::process::Abort;
 use std::test::Fail;
+use trace_vectors::stp::STP_PACKETS;
 
 /// The call that lists a system trace from its first nibble on, the most significant nibble of a value first.
 const MOST_FIRST: [&str; 7] = [
@@ -33,111 +34,6 @@ const LEAST_FIRST: [&str; 9] = [
 
 /// The call that lists a system trace from its first synchronisation on.
 const HUNTING: [&str; 5] = ["show", "--frames", "bare", "--stp", "1"];
-
-/// The nibbles of each packet, and its item in the one order and in the other.
-const ROWS: [(&str, &str, &str); 37] = [
-    ("0", "", ""),
-    ("15A", "", ""),
-    ("25A", "merr - - 5a", "merr - - a5"),
-    ("35A", "", ""),
-    ("441", "data - - u8 41 - -", "data - - u8 14 - -"),
-    ("51234", "data - - u16 1234 - -", "data - - u16 4321 - -"),
-    (
-        "612345678",
-        "data - - u32 12345678 - -",
-        "data - - u32 87654321 - -",
-    ),
-    (
-        "70123456789ABCDEF",
-        "data - - u64 0123456789abcdef - -",
-        "data - - u64 fedcba9876543210 - -",
-    ),
-    ("84121B", "data - - u8 41 m r=1b", "data - - u8 14 m r=b1"),
-    (
-        "912343ABC",
-        "data - - u16 1234 m r=abc",
-        "data - - u16 4321 m r=cba",
-    ),
-    (
-        "A123456780",
-        "data - - u32 12345678 m r=",
-        "data - - u32 87654321 m r=",
-    ),
-    (
-        "B0123456789ABCDEFD0123456789ABCD",
-        "data - - u64 0123456789abcdef m r=0123456789abcd",
-        "data - - u64 fedcba9876543210 m r=dcba9876543210",
-    ),
-    ("C5", "data - - u4 5 - -", "data - - u4 5 - -"),
-    (
-        "D5E0123456789ABCDEF",
-        "data - - u4 5 m r=0123456789abcdef",
-        "data - - u4 5 m r=fedcba9876543210",
-    ),
-    ("E17", "flag - - r=7", "flag - - r=7"),
-    (
-        "EB0123456789A",
-        "flag - - r=0123456789a",
-        "flag - - r=a9876543210",
-    ),
-    ("F11234", "", ""),
-    ("F25A", "gerr 5a", "gerr a5"),
-    ("F31234", "", ""),
-    (
-        "F441C0123456789AB",
-        "data - - u8 41 - r=0123456789ab",
-        "data - - u8 14 - r=ba9876543210",
-    ),
-    (
-        "F51234489AB",
-        "data - - u16 1234 - r=89ab",
-        "data - - u16 4321 - r=ba98",
-    ),
-    (
-        "F61234567856789A",
-        "data - - u32 12345678 - r=6789a",
-        "data - - u32 87654321 - r=a9876",
-    ),
-    (
-        "F70123456789ABCDEF6123456",
-        "data - - u64 0123456789abcdef - r=123456",
-        "data - - u64 fedcba9876543210 - r=654321",
-    ),
-    ("F841", "data - - u8 41 m -", "data - - u8 14 m -"),
-    ("F91234", "data - - u16 1234 m -", "data - - u16 4321 m -"),
-    (
-        "FA12345678",
-        "data - - u32 12345678 m -",
-        "data - - u32 87654321 m -",
-    ),
-    (
-        "FB0123456789ABCDEF",
-        "data - - u64 0123456789abcdef m -",
-        "data - - u64 fedcba9876543210 m -",
-    ),
-    (
-        "FC577654321",
-        "data - - u4 5 - r=7654321",
-        "data - - u4 5 - r=1234567",
-    ),
-    ("FD5", "data - - u4 5 m -", "data - - u4 5 m -"),
-    ("FE", "flag - - -", "flag - - -"),
-    ("F003", "version 3", "version 3"),
-    ("F01812345678", "nullts r=12345678", "nullts r=87654321"),
-    ("F0604", "trig 04 -", "trig 40 -"),
-    (
-        "F07049123456789",
-        "trig 04 r=123456789",
-        "trig 40 r=987654321",
-    ),
-    ("F0800BC614E", "freq 12345678 -", "freq 3826699008 -"),
-    (
-        "F090000000AA0123456789",
-        "freq 10 r=0123456789",
-        "freq 2684354560 r=9876543210",
-    ),
-    ("FFFFFFFFFFFFFFFFFFFFF0", "async", "async"),
-];
 
 /// Nibbles that are read one after the other, the low one of a byte first.
 #[derive(Drop)]
@@ -244,12 +140,14 @@ fn check_short(
 
 #[test]
 fn lists_each_packet_in_both_orders_and_halves(rt: HostRuntime) -> Result<(), Fail> {
-    for (digits, most, least) in ROWS {
+    for row in STP_PACKETS {
+        let most = [(row.nibbles, row.most_first)];
+        let least = [(row.nibbles, row.least_first)];
         for shifted in [false, true] {
-            check_packets(rt.alloc(), &rt, &MOST_FIRST, &[(digits, most)], shifted)?;
-            check_packets(rt.alloc(), &rt, &LEAST_FIRST, &[(digits, least)], shifted)?;
-            check_short(rt.alloc(), &rt, &MOST_FIRST, digits, shifted)?;
-            check_short(rt.alloc(), &rt, &LEAST_FIRST, digits, shifted)?;
+            check_packets(rt.alloc(), &rt, &MOST_FIRST, &most, shifted)?;
+            check_packets(rt.alloc(), &rt, &LEAST_FIRST, &least, shifted)?;
+            check_short(rt.alloc(), &rt, &MOST_FIRST, row.nibbles, shifted)?;
+            check_short(rt.alloc(), &rt, &LEAST_FIRST, row.nibbles, shifted)?;
         }
     }
     Ok(())

@@ -1,7 +1,6 @@
 //! Reads and writes that fail, captures that are cut, noise, and a source without end.
 
 use super::examples::{BOARD_BIN, BOARD_TEXT};
-use super::sources::TWICE;
 use super::{
     ALIGNED, Calls, LONG_ROOM, ROOM, answer, check_writes, pieces_of, run_over, text_before,
 };
@@ -10,6 +9,7 @@ use std::alloc::Global;
 use std::process::Abort;
 use std::test::Fail;
 use trace_io::{Failed, MemorySink, Source};
+use trace_vectors::worked::TWICE;
 
 const HUNTING: [&str; 3] = ["show", "--itm", "1"];
 

@@ -1,13 +1,13 @@
 //! Windows over the events of a listing.
 
 use super::check_run;
-use super::sources::FRAMES;
 use super::words::check_words;
 use super::written::written;
 use crate::status::Status;
 use std::alloc::{AllocError, Global};
 use std::process::Abort;
 use std::test::Fail;
+use trace_vectors::worked::SOURCES;
 
 #[test]
 fn lists_from_raw_bytes_to_a_letter(rt: HostRuntime) -> Result<(), Fail> {
@@ -23,7 +23,7 @@ port locked skipped 0 tail 0 unattributed 0
 2 stp locked skipped 0 tail 0
 ";
     let want = (Status::Done, text.as_bytes(), "");
-    check_run(rt.alloc(), &rt, &words, FRAMES, want)
+    check_run(rt.alloc(), &rt, &words, SOURCES, want)
 }
 
 /// What four sources wrote in turn: two values and an exception of an ITM, 1, three items of a system trace, 2, a byte
