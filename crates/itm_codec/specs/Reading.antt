@@ -39,7 +39,7 @@ abbrev pub IsHunt : List Placed → Stream ItmPacket → Type 0
 IsHunt u s =
     (IsNowhere (pattern_of pattern) (units_of u)
     × (s ≡ record { given = []; fault = None; held = 0; skipped = length u; locked = false }))
-    ⊎ ((before : List Placed) × (behind : List Placed) × (place : Place) × (u ≡ before ++ behind)
+    ⊎ ((before : List Placed) × (after : List Placed) × (place : Place) × (u ≡ before ++ after)
     × IsFirst (pattern_of pattern) (units_of u) (units_of before)
-    × (s ≡ shown ((Notice (length before), place) ∷ []) (length before) (progress (by_unit rule) Header behind))
-    × ((more : List (ItmPacket × Place)) × ((progress (by_unit rule) Header behind).items ≡ (Sync, place) ∷ more)))
+    × (s ≡ shown ((Notice (length before), place) ∷ []) (length before) (progress (by_unit rule) Header after))
+    × ((more : List (ItmPacket × Place)) × ((progress (by_unit rule) Header after).items ≡ (Sync, place) ∷ more)))

@@ -7,7 +7,7 @@ ghost use Rattle.stp_grammar.specs.declared.packet.Row.TheVariants.{Flag as Flag
 ghost use Rattle.stp_grammar.specs.declared.packet.StpPacket.TheVariants.{Plain, Stamped};
 ghost use Rattle.stp_grammar.specs.declared.item.Stamp.TheVariants.{None as NoStamp, Natural, Gray, Raw};
 ghost use Rattle.stp_grammar.specs.declared.item.StpItem.TheVariants.{Async, Version, Trigger, Flag, NullStamp};
-ghost use Rattle.stp_grammar.specs.Rows.{hex};
+ghost use Rattle.trace_values.specs.Hex.{hex};
 ghost use Rattle.stp_encoder.specs.Fitting.{is_unfit};
 ghost use Rattle.stp_encoder.specs.Packets.{packets_for};
 ghost use Rattle.stp_encoder.specs.Bytes.{encoded, written};

@@ -1,6 +1,6 @@
 -- Worked rows of the grammar and of attribution, in text.
-use Rattle.std.specs.Prelude.{ℕ, ◌+◌, ◌-◌, ◌*◌, List, [], ◌∷◌, length, map, Bool, Option, None, Some, option_map}
-use Rattle.std.specs.Prelude.{nat_lt, if◌then◌else◌}
+use Rattle.std.specs.Prelude.{ℕ, ◌+◌, List, [], ◌∷◌, length, map, Bool, Option, None, Some, option_map}
+use Rattle.trace_values.specs.Hex.{digit, hex}
 use Rattle.trace_values.specs.declared.fault.Reason.{Reason}
 use Rattle.trace_values.specs.Placed.{Place, placed}
 use Rattle.trace_values.specs.Nibbles.{nibbles_of}
@@ -15,19 +15,9 @@ use Rattle.stp_grammar.specs.Opcodes.{line_of, Opening, Whole, More, Refused, op
 use Rattle.stp_grammar.specs.Rule.{rule}
 use Rattle.stp_grammar.specs.Attribution.{attribute}
 
--- a character 0 to 9 or A to F, as a digit
-abbrev pub digit : ℕ → ℕ
-digit code = if nat_lt code 58 then code - 48 else code - 55
-
 -- the nibbles of a text that has a digit a nibble, in the order in which they come
 abbrev pub nibbles : List ℕ → List ℕ
 nibbles text = map digit text
-
--- the bytes of a text that has two digits a byte and one character between bytes
-abbrev pub hex : List ℕ → List ℕ
-hex (high ∷ (low ∷ (between ∷ text))) = (16 * digit high + digit low) ∷ hex text
-hex (high ∷ (low ∷ [])) = (16 * digit high + digit low) ∷ []
-hex text = []
 
 -- of an opcode: the number of its row, how many nibbles the payload has, and whether a timestamp follows
 abbrev pub line_found : Opening → Option (ℕ × ℕ × Bool)

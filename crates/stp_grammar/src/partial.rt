@@ -5,6 +5,7 @@ ghost use Rattle.stp_grammar.specs.declared.packet.Order.TheVariants.{Msn};
 ghost use Rattle.stp_grammar.specs.declared.partial.Partial.TheVariants.{Start, Second, Third};
 ghost use Rattle.stp_grammar.specs.Opcodes.{line_of, Opening, head_of};
 ghost use Rattle.trace_clock.specs.LastWord.{nibble_count};
+ghost use Rattle.trace_values.specs.declared.limits.TheConstants.{NIBBLE_ROOM};
 ghost use Rattle.stp_grammar.specs.Rule.{rule, begin, after_payload, opened};
 ghost use Rattle.stp_grammar.specs.Rule.{run_with, payload_with, size_with};
 ghost use Rattle.stp_grammar.specs.Rule.{word_with, is_sound, IsSoundNext, StopsProperly, count_of};
@@ -138,7 +139,7 @@ fn third(nibble: u8) -> Next<Partial, StpPacket>
 #[inline]
 fn run_with(count: u64, nibble: u8) -> Next<Partial, StpPacket>
     requires some { 2 ≤ count }
-    requires room { count ≤ 2 ^ 61 }
+    requires room { count ≤ NIBBLE_ROOM }
     ensures next { result ≡ run_with count nibble }
     ensures sound { IsSoundNext result }
     ensures proper { StopsProperly result }
@@ -233,7 +234,7 @@ impl Partial {
     pub fn with_nibble(self, order: Order, nibble: u8) -> Next<Partial, StpPacket>
         requires sound { is_sound self ≡ true }
         requires nibble { nibble < 16 }
-        requires room { count_of self ≤ 2 ^ 61 }
+        requires room { count_of self ≤ NIBBLE_ROOM }
         ensures next { result ≡ rule order self nibble }
         ensures sound { IsSoundNext result }
         ensures proper { StopsProperly result }

@@ -1,4 +1,5 @@
--- Bytes as two nibbles each, the low one first.
+-- Bytes as two nibbles each, the low one first: the order in which the nibbles of an STP stream are packed into bytes
+-- (MIPI System Trace Protocol, version 2).
 use Rattle.std.specs.Prelude.{ℕ, ◌/◌, ◌%◌, List, [], ◌∷◌, flat_map}
 use Rattle.trace_values.specs.Placed.{Placed}
 

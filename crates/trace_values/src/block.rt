@@ -22,8 +22,8 @@ pub struct Block<T> {
 /// Feeds a piece, whose first byte is at this offset of the capture, up to the first byte to which the
 /// answer is neither `Quiet` nor `Skipping`, or to the piece's end.
 ///
-/// The piece has a byte, and ends below the offset 2^60. The machine has met no fault, and the units that
-/// it holds and skipped are, with two for each byte of the piece, at most 2^60.
+/// The piece has a byte, and ends below the offset `COUNT_ROOM`. The machine has met no fault, and the units that
+/// it holds and skipped are, with two for each byte of the piece, at most `COUNT_ROOM`.
 #[inline]
 pub fn feed_block<M: Machine>(machine: &mut M, at: u64, piece: &[u8]) -> Block<M::Item>
     requires live { M.live machine.old ≡ true }

@@ -16,7 +16,7 @@ mod step;
 pub use block::{Block, feed_block};
 pub use cell::{Cell, SourceId};
 pub use fault::{Fault, Reason};
-pub use limits::{COUNT_ROOM, ID_COUNT};
+pub use limits::{COUNT_ROOM, ID_COUNT, NIBBLE_ROOM, PART_ROOM};
 pub use machine::Machine;
 pub use mode::Mode;
 pub use next::Next;

@@ -5,5 +5,11 @@
 /// there.
 pub const COUNT_ROOM: u64 = 1 << 60;
 
+/// What an offset, a length or a count may be at most where two of them are added: the sum is at most `COUNT_ROOM`.
+pub const PART_ROOM: u64 = COUNT_ROOM / 2;
+
+/// How many nibbles the bytes of `COUNT_ROOM` have.
+pub const NIBBLE_ROOM: u64 = 2 * COUNT_ROOM;
+
 /// How many IDs of sources there are, 0 to 126.
 pub const ID_COUNT: usize = 127;

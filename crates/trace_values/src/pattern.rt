@@ -68,38 +68,38 @@ mod tests {
         let itm = Pattern {
             unit: 0,
             most: 5,
-            last: 128,
+            last: 0x80,
         };
         let port = Pattern {
-            unit: 255,
+            unit: 0xFF,
             most: 3,
-            last: 127,
+            last: 0x7F,
         };
         let stp = Pattern {
-            unit: 15,
+            unit: 0xF,
             most: 21,
             last: 0,
         };
         let table: [(Pattern, &[u8], bool); 8] = [
-            (itm, &[0, 0, 0, 0, 0, 128], true),
-            (itm, &[7, 0, 0, 0, 0, 0, 0, 0, 128], true),
-            (itm, &[0, 0, 1, 0, 0, 0, 0, 128], false),
-            (port, &[255, 255, 255, 127], true),
-            (port, &[255, 255, 127], false),
-            (stp, &[15; 22], false),
+            (itm, &[0, 0, 0, 0, 0, 0x80], true),
+            (itm, &[7, 0, 0, 0, 0, 0, 0, 0, 0x80], true),
+            (itm, &[0, 0, 1, 0, 0, 0, 0, 0x80], false),
+            (port, &[0xFF, 0xFF, 0xFF, 0x7F], true),
+            (port, &[0xFF, 0xFF, 0x7F], false),
+            (stp, &[0xF; 22], false),
             (
                 stp,
                 &[
-                    15, 15, 15, 15, 15, 15, 15, 15, 15, 15, 15, 15, 15, 15, 15, 15, 15, 15, 15, 15,
-                    15, 0,
+                    0xF, 0xF, 0xF, 0xF, 0xF, 0xF, 0xF, 0xF, 0xF, 0xF, 0xF, 0xF, 0xF, 0xF, 0xF, 0xF,
+                    0xF, 0xF, 0xF, 0xF, 0xF, 0,
                 ],
                 true,
             ),
             (
                 stp,
                 &[
-                    15, 15, 15, 15, 15, 15, 15, 15, 15, 15, 15, 15, 15, 15, 15, 15, 15, 15, 15, 15,
-                    0,
+                    0xF, 0xF, 0xF, 0xF, 0xF, 0xF, 0xF, 0xF, 0xF, 0xF, 0xF, 0xF, 0xF, 0xF, 0xF, 0xF,
+                    0xF, 0xF, 0xF, 0xF, 0,
                 ],
                 false,
             ),

@@ -1,3 +1,5 @@
+//! Packets read byte by byte: worked ones, their fronts, and faults.
+
 use super::*;
 use std::process::Abort;
 
