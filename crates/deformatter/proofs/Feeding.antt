@@ -16,7 +16,7 @@ use Rattle.trace_values.specs.Standing.{live_after, state_after}
 use Rattle.frame_grammar.specs.Port as port
 use Rattle.frame_grammar.specs.Port.{PortItem, Full, State, start, rule}
 use Rattle.port_sync.specs.Hunting.{pattern}
-use Rattle.deformatter.specs.Reading.{PortStream, read_behind, all_skipped, port_stream, cells_in, id_in}
+use Rattle.deformatter.specs.Reading.{PortStream, read_after, all_skipped, port_stream, cells_in, id_in}
 use Rattle.deformatter.specs.Growth.{PortGrows, goes_on}
 use Rattle.port_sync.specs.declared.aligner.Part.{Part}
 use Rattle.port_sync.specs.declared.aligner.Part.TheVariants.{Between, First, One, Two, Three}
@@ -42,15 +42,15 @@ fed_at : (h : Bool) (u : List Placed) (at byte : ℕ) (s : State) (r : IsReadAt 
 fed_at h u at byte s r =
     let p = r.read.progress in
     let k = r.read.skipped in
-    let new : port_stream h (u ++ byte_at at byte ∷ []) ≡ read_behind k (with_unit start p (byte_at at byte) (rule s (byte_at at byte)) None) =
+    let new : port_stream h (u ++ byte_at at byte ∷ []) ≡ read_after k (with_unit start p (byte_at at byte) (rule s (byte_at at byte)) None) =
     r.read.new (byte_at at byte)
-    ∙ ap (λ (t : State). read_behind k (with_unit start p (byte_at at byte) (rule t (byte_at at byte)) p.fault)) r.state
-    ∙ ap (λ (f : Option (Place × Reason)). read_behind k (with_unit start p (byte_at at byte) (rule s (byte_at at byte)) f)) r.fault in
+    ∙ ap (λ (t : State). read_after k (with_unit start p (byte_at at byte) (rule t (byte_at at byte)) p.fault)) r.state
+    ∙ ap (λ (f : Option (Place × Reason)). read_after k (with_unit start p (byte_at at byte) (rule s (byte_at at byte)) f)) r.fault in
     let law : Lawful p.state (rule s (byte_at at byte)) = subst (λ (t : State). Lawful p.state (rule t (byte_at at byte))) r.state (lawful p.state (byte_at at byte) r.read.sound) in
     record {
       grows = subst (λ (a : PortStream). PortGrows a (port_stream h (u ++ byte_at at byte ∷ [])) at (step_by at s (rule s (byte_at at byte)))) (sym r.read.old)
-          (subst (λ (a : PortStream). PortGrows (read_behind k p) a at (step_by at s (rule s (byte_at at byte)))) (sym new)
-          (subst (λ (t : State). PortGrows (read_behind k p) (read_behind k (with_unit start p (byte_at at byte) (rule s (byte_at at byte)) None)) at (step_by at t (rule s (byte_at at byte)))) r.state
+          (subst (λ (a : PortStream). PortGrows (read_after k p) a at (step_by at s (rule s (byte_at at byte)))) (sym new)
+          (subst (λ (t : State). PortGrows (read_after k p) (read_after k (with_unit start p (byte_at at byte) (rule s (byte_at at byte)) None)) at (step_by at t (rule s (byte_at at byte)))) r.state
           (growing.grows k p at byte (rule s (byte_at at byte)) law)));
       cells = ap cells_in new ∙ growing.cells_fed k p (byte_at at byte) (rule s (byte_at at byte))
           ∙ ap (λ (a : PortStream). cells_in a ++ cells_by (id_in a) (rule s (byte_at at byte))) (sym r.read.old);

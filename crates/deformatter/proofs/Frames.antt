@@ -17,7 +17,7 @@ use Rattle.frame_grammar.specs.Port.{PortItem, Full, Frame, State, Spells, start
 use Rattle.frame_grammar.specs.Reading.{port_progress, fulls_in, halves_in, frames_in}
 use Rattle.frame_grammar.proofs.Deciding.{port_decided}
 use Rattle.port_sync.specs.Hunting.{pattern}
-use Rattle.deformatter.specs.Reading.{PortStream, read_behind, port_hunted, port_stream, id_in}
+use Rattle.deformatter.specs.Reading.{PortStream, read_after, port_hunted, port_stream, id_in}
 use Rattle.deformatter.specs.Frames.{last_place, GrowsByFrame}
 use Rattle.deformatter.specs.Rule.{id_by}
 use Rattle.deformatter.proofs.Growing as growing
@@ -81,8 +81,8 @@ pub record Passed (m : Mode) (u w f : List Placed) (halves : ℕ) : Type 0 where
   pub progress : Progress State PortItem
   pub skipped : ℕ
   pub state : progress.state ≡ start
-  pub old : port_stream (hunts m) u ≡ read_behind skipped progress
-  pub new : port_stream (hunts m) (u ++ w) ≡ read_behind skipped (taken_to progress f halves (last_place w))
+  pub old : port_stream (hunts m) u ≡ read_after skipped progress
+  pub new : port_stream (hunts m) (u ++ w) ≡ read_after skipped (taken_to progress f halves (last_place w))
   pub stands : StandsIn pattern Full rule start m true start (u ++ w)
 
 pub passed : (m : Mode) (u w f : List Placed) (halves : ℕ) → Spells (Frame f halves) w → is_locked m ≡ true →
@@ -96,7 +96,7 @@ passed Aligned u w f halves q l s =
       skipped = 0;
       state = s.state_is;
       old = refl;
-      new = ap (λ (p : Progress State PortItem). read_behind 0 p) e;
+      new = ap (λ (p : Progress State PortItem). read_after 0 p) e;
       stands = record { live_is = ap (λ (p : Progress State PortItem). is_none p.fault) (sym e); state_is = ap (λ (p : Progress State PortItem). p.state) e };
     }
 passed (Hunting run skipped) u w f halves q l s = cc
@@ -132,7 +132,7 @@ module _ (m : Mode) (u w f : List Placed) (halves : ℕ) (t : Passed m u w f hal
       ap id_in t.new ∙ growing.id_fed t.skipped t.progress frame_end (End (Frame f halves))
       ∙ ap (λ (x : PortStream). id_by (id_in x) (End (Frame f halves))) (sym t.old)
 
-  read_on : GrowsByFrame (read_behind t.skipped t.progress) (read_behind t.skipped (taken_to t.progress f halves (last_place w))) w f halves (id_in (read_behind t.skipped t.progress))
+  read_on : GrowsByFrame (read_after t.skipped t.progress) (read_after t.skipped (taken_to t.progress f halves (last_place w))) w f halves (id_in (read_after t.skipped t.progress))
   unfolding frame_end
   read_on = record {
     items = refl;
@@ -141,10 +141,10 @@ module _ (m : Mode) (u w f : List Placed) (halves : ℕ) (t : Passed m u w f hal
     fulls = (let e = growing.sum_push fulls_in t.progress.items (Frame f halves) (last_place w) in omega (arith, e));
     frames = growing.sum_push frames_in t.progress.items (Frame f halves) (last_place w);
     fault = refl;
-    hunt = record { before = refl; behind = refl; skipped = refl };
+    hunt = record { before = refl; after = refl; skipped = refl };
   }
 
   pub grows : GrowsByFrame (port_stream (hunts m) u) (port_stream (hunts m) (u ++ w)) w f halves (id_in (port_stream (hunts m) u))
   grows =
       subst (λ (x : PortStream). GrowsByFrame x (port_stream (hunts m) (u ++ w)) w f halves (id_in x)) (sym t.old)
-      (subst (λ (x : PortStream). GrowsByFrame (read_behind t.skipped t.progress) x w f halves (id_in (read_behind t.skipped t.progress))) (sym t.new) read_on)
+      (subst (λ (x : PortStream). GrowsByFrame (read_after t.skipped t.progress) x w f halves (id_in (read_after t.skipped t.progress))) (sym t.new) read_on)

@@ -12,7 +12,7 @@ use Rattle.trace_values.specs.Reading.{Progress, with_unit}
 use Rattle.trace_values.specs.Stream.{FaultAt}
 use Rattle.frame_grammar.specs.Port.{PortItem, Full, Half, Frame, State, start}
 use Rattle.frame_grammar.specs.Reading.{item_cells, item_id, cells_of_items, id_of_items, fulls_in, halves_in, frames_in}
-use Rattle.deformatter.specs.Reading.{items_of, read_behind, cells_in, id_in}
+use Rattle.deformatter.specs.Reading.{items_of, read_after, cells_in, id_in}
 use Rattle.deformatter.specs.Growth.{place_at, PortGrows, PortSettled, PortRises}
 use Rattle.deformatter.specs.Rule.{step_by, cells_by, id_by}
 use Rattle.deformatter.proofs.Lawful.{Lawful}
@@ -36,22 +36,22 @@ sum_push f l v place = ap (sum_by f) (items_push l v place) ∙ sum_by_push f (i
 
 -- the cells, and the ID in force
 pub cells_fed : (skipped : ℕ) (p : Progress State PortItem) (b : Placed) (n : Next State PortItem) →
-    cells_in (read_behind skipped (with_unit start p b n None)) ≡ cells_in (read_behind skipped p) ++ cells_by (id_in (read_behind skipped p)) n
-cells_fed skipped p b (Go t) = sym (append-nil (cells_in (read_behind skipped p)))
+    cells_in (read_after skipped (with_unit start p b n None)) ≡ cells_in (read_after skipped p) ++ cells_by (id_in (read_after skipped p)) n
+cells_fed skipped p b (Go t) = sym (append-nil (cells_in (read_after skipped p)))
 cells_fed skipped p b (End v) = ap (cells_of_items None) (items_push p.items v b.place) ∙ cells_push None (items_of p.items) v
-cells_fed skipped p b (Fail e) = sym (append-nil (cells_in (read_behind skipped p)))
+cells_fed skipped p b (Fail e) = sym (append-nil (cells_in (read_after skipped p)))
 
 pub id_fed : (skipped : ℕ) (p : Progress State PortItem) (b : Placed) (n : Next State PortItem) →
-    id_in (read_behind skipped (with_unit start p b n None)) ≡ id_by (id_in (read_behind skipped p)) n
+    id_in (read_after skipped (with_unit start p b n None)) ≡ id_by (id_in (read_after skipped p)) n
 id_fed skipped p b (Go t) = refl
 id_fed skipped p b (End v) = ap (id_of_items None) (items_push p.items v b.place) ∙ id_push None (items_of p.items) v
 id_fed skipped p b (Fail e) = refl
 
 module _ (skipped : ℕ) (p : Progress State PortItem) (at byte : ℕ) where
   -- the step follows how the reading grew
-  pub grows : (n : Next State PortItem) → Lawful p.state n → PortGrows (read_behind skipped p) (read_behind skipped (with_unit start p (byte_at at byte) n None)) at (step_by at p.state n)
+  pub grows : (n : Next State PortItem) → Lawful p.state n → PortGrows (read_after skipped p) (read_after skipped (with_unit start p (byte_at at byte) n None)) at (step_by at p.state n)
   grows (Go t) l = elim l.1 [
-    | inl e ↦ subst (λ step. PortGrows (read_behind skipped p) (read_behind skipped (with_unit start p (byte_at at byte) (Go t) None)) at step) (quiet_step at p.state t e) (record {
+    | inl e ↦ subst (λ step. PortGrows (read_after skipped p) (read_after skipped (with_unit start p (byte_at at byte) (Go t) None)) at step) (quiet_step at p.state t e) (record {
       items = refl;
       halves = omega (arith, e);
       fulls = omega arith;
@@ -59,13 +59,13 @@ module _ (skipped : ℕ) (p : Progress State PortItem) (at byte : ℕ) where
       fault = refl;
       hunt = (refl, refl);
     })
-    | inr e ↦ subst (λ step. PortGrows (read_behind skipped p) (read_behind skipped (with_unit start p (byte_at at byte) (Go t) None)) at step) (half_step at p.state t e) (record {
+    | inr e ↦ subst (λ step. PortGrows (read_after skipped p) (read_after skipped (with_unit start p (byte_at at byte) (Go t) None)) at step) (half_step at p.state t e) (record {
       items = inl refl;
       halves = omega (arith, e);
       fulls = omega arith;
       frames = omega arith;
       fault = refl;
-      hunt = record { before = refl; behind = refl; skipped = refl };
+      hunt = record { before = refl; after = refl; skipped = refl };
     })
   ]
   grows (End Full) l = record {
@@ -74,7 +74,7 @@ module _ (skipped : ℕ) (p : Progress State PortItem) (at byte : ℕ) where
     fulls = sum_push fulls_in p.items Full (place_at at);
     frames = sum_push frames_in p.items Full (place_at at);
     fault = refl;
-    hunt = record { before = refl; behind = refl; skipped = refl };
+    hunt = record { before = refl; after = refl; skipped = refl };
   }
   grows (End Half) l = record {
     items = inr refl;
@@ -82,7 +82,7 @@ module _ (skipped : ℕ) (p : Progress State PortItem) (at byte : ℕ) where
     fulls = sum_push fulls_in p.items Half (place_at at);
     frames = sum_push frames_in p.items Half (place_at at);
     fault = refl;
-    hunt = record { before = refl; behind = refl; skipped = refl };
+    hunt = record { before = refl; after = refl; skipped = refl };
   }
   grows (End (Frame f h)) l = record {
     items = (f, h, refl);
@@ -90,7 +90,7 @@ module _ (skipped : ℕ) (p : Progress State PortItem) (at byte : ℕ) where
     fulls = sum_push fulls_in p.items (Frame f h) (place_at at);
     frames = sum_push frames_in p.items (Frame f h) (place_at at);
     fault = refl;
-    hunt = record { before = refl; behind = refl; skipped = refl };
+    hunt = record { before = refl; after = refl; skipped = refl };
   }
   grows (Fail e) l = record {
     items = refl;
@@ -98,12 +98,12 @@ module _ (skipped : ℕ) (p : Progress State PortItem) (at byte : ℕ) where
     fulls = omega arith;
     frames = omega arith;
     fault = refl;
-    hunt = (refl, refl, record { before = refl; behind = refl; skipped = refl });
+    hunt = (refl, refl, record { before = refl; after = refl; skipped = refl });
   }
 
 -- after a fault nothing grows
 pub stays : (skipped : ℕ) (p : Progress State PortItem) (b : Placed) (n : Next State PortItem) (f : Place × Reason) → p.fault ≡ Some f →
-    PortSettled (read_behind skipped p) (read_behind skipped (with_unit start p b n (Some f)))
+    PortSettled (read_after skipped p) (read_after skipped (with_unit start p b n (Some f)))
 stays skipped p b (Go t) f e = record { items = refl; halves = refl; fault = sym e; skipped = refl; locked = refl }
 stays skipped p b (End v) f e = record { items = refl; halves = refl; fault = sym e; skipped = refl; locked = refl }
 stays skipped p b (Fail r) f e = record { items = refl; halves = refl; fault = sym e; skipped = refl; locked = refl }
@@ -117,7 +117,7 @@ no_less f old new more e =
 
 -- what is more is at the byte
 pub rises : (skipped : ℕ) (p : Progress State PortItem) (at byte : ℕ) (n : Next State PortItem) → p.fault ≡ None → Lawful p.state n →
-    PortRises (read_behind skipped p) (read_behind skipped (with_unit start p (byte_at at byte) n None)) at
+    PortRises (read_after skipped p) (read_after skipped (with_unit start p (byte_at at byte) n None)) at
 rises skipped p at byte (Go t) f l = record {
   more = [];
   items = sym (append-nil p.items);
@@ -133,7 +133,7 @@ rises skipped p at byte (End v) f l = record {
   more = (v, place_at at) ∷ [];
   items = refl;
   all = (refl, tt);
-  more_cells = item_cells (id_in (read_behind skipped p)) v;
+  more_cells = item_cells (id_in (read_after skipped p)) v;
   cells = cells_fed skipped p (byte_at at byte) (End v);
   halves = more v l;
   fulls = no_less fulls_in p.items (p.items ++ (v, place_at at) ∷ []) ((v, place_at at) ∷ []) refl;

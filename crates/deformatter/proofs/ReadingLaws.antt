@@ -9,7 +9,7 @@ use Rattle.trace_values.specs.Stream.{FaultAt}
 use Rattle.trace_values.proofs.Standings.{some_of}
 use Rattle.frame_grammar.specs.Port.{PortItem, Full, start, rule}
 use Rattle.frame_grammar.specs.Reading.{fulls_in, frames_in}
-use Rattle.deformatter.specs.Reading.{PortStream, read_behind, all_skipped, port_stream, cells_in}
+use Rattle.deformatter.specs.Reading.{PortStream, read_after, all_skipped, port_stream, cells_in}
 use Rattle.deformatter.specs.Growth.{place_at, PortSettled, PortRises}
 use Rattle.deformatter.proofs.Lawful.{lawful}
 use Rattle.deformatter.proofs.Growing as growing
@@ -29,11 +29,11 @@ settled_then a b c x y = record {
 
 stays : (h : Bool) (u : List Placed) (b : Placed) (r : IsRead h u) (f : Place × Reason) → r.progress.fault ≡ Some f → PortSettled (port_stream h u) (port_stream h (u ++ b ∷ []))
 stays h u b r f e =
-    let k : PortSettled (read_behind r.skipped r.progress) (read_behind r.skipped (advance rule start r.progress b)) =
-    subst (λ (x : Option (Place × Reason)). PortSettled (read_behind r.skipped r.progress) (read_behind r.skipped (with_unit start r.progress b (rule r.progress.state b) x))) (sym e)
+    let k : PortSettled (read_after r.skipped r.progress) (read_after r.skipped (advance rule start r.progress b)) =
+    subst (λ (x : Option (Place × Reason)). PortSettled (read_after r.skipped r.progress) (read_after r.skipped (with_unit start r.progress b (rule r.progress.state b) x))) (sym e)
     (growing.stays r.skipped r.progress b (rule r.progress.state b) f e) in
     subst (λ (s : PortStream). PortSettled s (port_stream h (u ++ b ∷ []))) (sym r.old)
-    (subst (λ (s : PortStream). PortSettled (read_behind r.skipped r.progress) s) (sym (r.new b)) k)
+    (subst (λ (s : PortStream). PortSettled (read_after r.skipped r.progress) s) (sym (r.new b)) k)
 
 settles_one : (h : Bool) (u : List Placed) (b : Placed) → is_none (port_stream h u).fault ≡ false → PortSettled (port_stream h u) (port_stream h (u ++ b ∷ []))
 settles_one h u b e = elim (by_mode h u) [
@@ -69,11 +69,11 @@ rises_read : (h : Bool) (u : List Placed) (at byte : ℕ) (r : IsRead h u) (f : 
 rises_read h u at byte r (Some f) e =
     rises_settled (port_stream h u) (port_stream h (u ++ byte_at at byte ∷ [])) at f (ap (λ (s : PortStream). s.fault) r.old ∙ e) (stays h u (byte_at at byte) r f e)
 rises_read h u at byte r None e =
-    let k : PortRises (read_behind r.skipped r.progress) (read_behind r.skipped (advance rule start r.progress (byte_at at byte))) at =
-    subst (λ (x : Option (Place × Reason)). PortRises (read_behind r.skipped r.progress) (read_behind r.skipped (with_unit start r.progress (byte_at at byte) (rule r.progress.state (byte_at at byte)) x)) at) (sym e)
+    let k : PortRises (read_after r.skipped r.progress) (read_after r.skipped (advance rule start r.progress (byte_at at byte))) at =
+    subst (λ (x : Option (Place × Reason)). PortRises (read_after r.skipped r.progress) (read_after r.skipped (with_unit start r.progress (byte_at at byte) (rule r.progress.state (byte_at at byte)) x)) at) (sym e)
     (growing.rises r.skipped r.progress at byte (rule r.progress.state (byte_at at byte)) e (lawful r.progress.state (byte_at at byte) r.sound)) in
     subst (λ (s : PortStream). PortRises s (port_stream h (u ++ byte_at at byte ∷ [])) at) (sym r.old)
-    (subst (λ (s : PortStream). PortRises (read_behind r.skipped r.progress) s at) (sym (r.new (byte_at at byte))) k)
+    (subst (λ (s : PortStream). PortRises (read_after r.skipped r.progress) s at) (sym (r.new (byte_at at byte))) k)
 
 rises_seeking : (u : List Placed) (at byte : ℕ) → (port_hunt u).found ≡ None → PortRises (port_stream true u) (port_stream true (u ++ byte_at at byte ∷ [])) at
 rises_seeking u at byte e =

@@ -15,8 +15,7 @@ use Rattle.frame_grammar.specs.Reading.{port_progress}
 use Rattle.frame_grammar.proofs.Deciding.{port_decided}
 use Rattle.port_sync.specs.Hunting.{pattern}
 use Rattle.deformatter.specs.Rule.{count_of}
-use Rattle.deformatter.specs.Growth.{PortShows}
-use Rattle.deformatter.specs.Reading.{PortStream, read_behind, all_skipped, port_hunted, port_stream, IsHunt}
+use Rattle.deformatter.specs.Reading.{PortStream, read_after, all_skipped, port_hunted, port_stream, IsHunt}
 use Rattle.deformatter.proofs.Lawful.{Sound, sound, counted}
 
 apart : pattern.unit ≢ pattern.last
@@ -52,7 +51,7 @@ hunt_is u = by_found (port_hunt u).found refl where
         k.2,
         k.3,
         ap (λ (o : Option (Found State PortItem)). port_hunted (port_hunt u).units o) e
-            ∙ ap (λ (p : Progress State PortItem). read_behind f.skipped p) k.5 ∙ ap (λ (n : ℕ). read_behind n (port_progress k.1)) (sym k.4),
+            ∙ ap (λ (p : Progress State PortItem). read_after f.skipped p) k.5 ∙ ap (λ (n : ℕ). read_after n (port_progress k.1)) (sym k.4),
       )
 
 pub from_append : (u w : List Placed) (h : Hunt State PortItem) → hunt_from pattern Full rule start h (u ++ w) ≡ hunt_from pattern Full rule start (hunt_from pattern Full rule start h u) w
@@ -68,8 +67,8 @@ pub record IsRead (hunts : Bool) (u : List Placed) : Type 0 where
   pub skipped : ℕ
   pub sound : Sound progress.state
   pub counted : progress.fault ≡ None → length progress.rest ≡ count_of progress.state
-  pub old : port_stream hunts u ≡ read_behind skipped progress
-  pub new : (b : Placed) → port_stream hunts (u ++ b ∷ []) ≡ read_behind skipped (advance rule start progress b)
+  pub old : port_stream hunts u ≡ read_after skipped progress
+  pub new : (b : Placed) → port_stream hunts (u ++ b ∷ []) ≡ read_after skipped (advance rule start progress b)
 
 abbrev pub aligned_reads : (u : List Placed) → IsRead false u
 aligned_reads u = record {
@@ -78,7 +77,7 @@ aligned_reads u = record {
   sound = sound u;
   counted = counted u;
   old = refl;
-  new = λ b. ap (λ (p : Progress State PortItem). read_behind 0 p) (progress_push rule start u b);
+  new = λ b. ap (λ (p : Progress State PortItem). read_after 0 p) (progress_push rule start u b);
 }
 
 pub locked_sound : (u : List Placed) (f : Found State PortItem) → (port_hunt u).found ≡ Some f → Sound f.reading.state
@@ -114,7 +113,7 @@ abbrev pub locks_at : Hunt State PortItem → ℕ → Bool
 locks_at h byte = byte == 127 && h.run == 3
 
 abbrev pub after : Hunt State PortItem → ℕ → ℕ → Bool → PortStream
-after h at byte t = cond t (read_behind (h.units - 3) (begun start Full (record { at = at; half = 0 }))) (all_skipped (suc h.units))
+after h at byte t = cond t (read_after (h.units - 3) (begun start Full (record { at = at; half = 0 }))) (all_skipped (suc h.units))
 
 -- one more byte of a hunt that seeks
 pub seeks_new : (u : List Placed) (at byte : ℕ) → (port_hunt u).found ≡ None → port_stream true (u ++ byte_at at byte ∷ []) ≡ after (port_hunt u) at byte (locks_at (port_hunt u) byte)
@@ -148,6 +147,13 @@ is_read (Locked skipped) live s u l k r = record {
   state = r.stands.state_is;
   fault = none_of r.found.reading.fault (sym l ∙ r.stands.live_is);
 }
+
+-- What a deformatter shows of the reading of a list: of the tail and the skipped bytes only while it is live.
+pub record PortShows (live locked : Bool) (tail skipped : ℕ) (s : PortStream) : Type 0 where
+  pub live_is : live ≡ is_none s.fault
+  pub locked_is : locked ≡ s.locked
+  pub tail_is : live ≡ true → tail ≡ s.tail
+  pub skipped_is : live ≡ true → skipped ≡ s.skipped
 
 -- what a machine shows that has locked, or that hunts
 shows_read : (m : Mode) (s : State) (u : List Placed) (skipped : ℕ) (r : IsReadAt (hunts m) s u) → is_locked m ≡ true → r.read.skipped ≡ skipped →
@@ -183,7 +189,7 @@ shows (Hunting run skipped) live s u r =
     subst (λ (x : PortStream). PortShows live false (count_of s) skipped x) (sym (seeks_old u r.0.none ∙ ap all_skipped r.0.units_is))
     (record { live_is = r.1; locked_is = refl; tail_is = λ _. ap count_of r.2; skipped_is = λ _. refl })
 shows (Locked skipped) live s u r = by live refl where
-  old : port_stream true u ≡ read_behind r.found.skipped r.found.reading
+  old : port_stream true u ≡ read_after r.found.skipped r.found.reading
   old = ap (λ (o : Option (Found State PortItem)). port_hunted (port_hunt u).units o) r.some
 
   by : (t : Bool) → live ≡ t → PortShows live true (count_of s) skipped (port_stream true u)

@@ -1,6 +1,6 @@
 -- How the reading of a port's bytes grows with one more byte, and what a step says of it.
 use Rattle.std.specs.Prelude.{◌≡◌, ◌⊎◌, ℕ, ◌+◌, ◌≤◌, List, [], ◌∷◌, ◌++◌, Bool, true, false, if◌then◌else◌, Option}
-use Rattle.std.specs.Prelude.{None, Some, is_none}
+use Rattle.std.specs.Prelude.{None, Some}
 use Rattle.trace_values.specs.declared.cell.Cell.{Cell}
 use Rattle.trace_values.specs.declared.fault.Reason.{Reason}
 use Rattle.trace_values.specs.Placed.{Place, Placed}
@@ -52,7 +52,7 @@ goes_on step = true
 -- it reads, and has skipped as much as before
 pub record Reads (old new : PortStream) : Type 0 where
   pub before : old.locked ≡ true
-  pub behind : new.locked ≡ true
+  pub after : new.locked ≡ true
   pub skipped : new.skipped ≡ old.skipped
 
 -- What a step says of the hunt: before the lock each byte is skipped, and at the lock the pattern's own three are no
@@ -73,13 +73,6 @@ pub record PortGrows (old new : PortStream) (at : ℕ) (step : PortStep) : Type 
   pub frames : frames_of new ≡ frames_of old + frames_by step
   pub fault : new.fault ≡ fault_by step
   pub hunt : HuntBy old new at step
-
--- What a deformatter shows of the reading of a list: of the tail and the skipped bytes only while it is live.
-pub record PortShows (live locked : Bool) (tail skipped : ℕ) (s : PortStream) : Type 0 where
-  pub live_is : live ≡ is_none s.fault
-  pub locked_is : locked ≡ s.locked
-  pub tail_is : live ≡ true → tail ≡ s.tail
-  pub skipped_is : live ≡ true → skipped ≡ s.skipped
 
 -- after a fault nothing is read
 pub record PortSettled (old new : PortStream) : Type 0 where

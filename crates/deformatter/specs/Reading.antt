@@ -27,8 +27,8 @@ abbrev pub items_of : List (PortItem × Place) → List PortItem
 items_of items = map (λ x. x.0) items
 
 -- a reading after this many skipped bytes
-abbrev pub read_behind : ℕ → Progress State PortItem → PortStream
-read_behind skipped p = record {
+abbrev pub read_after : ℕ → Progress State PortItem → PortStream
+read_after skipped p = record {
   items = p.items;
   halves = sum_by halves_in (items_of p.items) + p.state.halves;
   fault = p.fault;
@@ -43,11 +43,11 @@ all_skipped bytes = record { items = []; halves = 0; fault = None; tail = 0; ski
 
 abbrev pub port_hunted : ℕ → Option (Found State PortItem) → PortStream
 port_hunted bytes None = all_skipped bytes
-port_hunted bytes (Some found) = read_behind found.skipped found.reading
+port_hunted bytes (Some found) = read_after found.skipped found.reading
 
 -- the reading of the bytes from the first on, or in a hunt from the least place of FF FF FF 7F on
 abbrev pub port_stream : Bool → List Placed → PortStream
-port_stream false u = read_behind 0 (port_progress u)
+port_stream false u = read_after 0 (port_progress u)
 port_stream true u = port_hunted (hunt pattern Full rule start u).units (hunt pattern Full rule start u).found
 
 -- the cells of its frames, with no ID before the first one, and the ID after the last
@@ -69,6 +69,6 @@ frames_of s = sum_by frames_in (items_of s.items)
 abbrev pub IsHunt : List Placed → PortStream → Type 0
 IsHunt u s =
     (IsNowhere (pattern_of pattern) (units_of u) × (s ≡ all_skipped (length u)))
-    ⊎ ((before : List Placed) × (behind : List Placed) × (u ≡ before ++ behind)
+    ⊎ ((before : List Placed) × (after : List Placed) × (u ≡ before ++ after)
     × IsFirst (pattern_of pattern) (units_of u) (units_of before)
-    × (s ≡ read_behind (length before) (port_progress behind)))
+    × (s ≡ read_after (length before) (port_progress after)))

@@ -1,6 +1,6 @@
 //! Bytes of a piece at once.
 
-ghost use Rattle.std.specs.Prelude.{◌≡◌, ◌<◌, ◌≤◌, ◌+◌, ◌^◌, ◌++◌, [], ℕ, List, length, take, true, IfSome};
+ghost use Rattle.std.specs.Prelude.{◌≡◌, ◌<◌, ◌≤◌, ◌+◌, ◌++◌, [], ℕ, List, length, take, true, IfSome};
 ghost use Rattle.std.specs.Prelude.{slice_index};
 ghost use Rattle.std.specs.List.{range_with_len};
 ghost use Rattle.trace_values.specs.Placed.{Placed, placed_from};
@@ -10,7 +10,7 @@ ghost use Rattle.deformatter.specs.Growth.{goes_on};
 ghost use Rattle.deformatter.specs.Block.{TakesBlock};
 ghost use Rattle.deformatter.specs.Frames.{IsBetween};
 ghost use Rattle.deformatter.specs.Deformatter.{Stands, is_hunter, is_live, tail_of, skipped_by};
-ghost use Rattle.trace_values.specs.declared.limits.TheConstants.{COUNT_ROOM};
+ghost use Rattle.trace_values.specs.declared.limits.TheConstants.{COUNT_ROOM, PART_ROOM};
 ghost use Rattle.frame_grammar.specs.declared.frame.TheConstants.{FRAME_BYTES};
 
 use crate::deformatter::Deformatter;
@@ -49,15 +49,15 @@ impl Deformatter {
     /// afterwards, and else nothing.
     ///
     /// The piece has a byte. The offset, the piece's length, and the bytes that were skipped and that are
-    /// left over are each at most 2^59.
+    /// left over are each at most `PART_ROOM`.
     pub fn feed_block(&mut self, at: u64, piece: &[u8], out: &mut ArrayVec<Cell, 15>) -> Taken
         requires live { is_live self.old ≡ true }
         requires out { out.old.items ≡ [] }
         requires some { 0 < length piece.now }
-        requires offset { at ≤ 2 ^ 59 }
-        requires length { length piece.now ≤ 2 ^ 59 }
-        requires room { tail_of self.old ≤ 2 ^ 59 }
-        requires count { skipped_by self.old ≤ 2 ^ 59 }
+        requires offset { at ≤ PART_ROOM }
+        requires length { length piece.now ≤ PART_ROOM }
+        requires room { tail_of self.old ≤ PART_ROOM }
+        requires count { skipped_by self.old ≤ PART_ROOM }
         ensures same { is_hunter self.new ≡ is_hunter self.old }
         ensures bytes { (0 < result.bytes) × (result.bytes ≤ length piece.now) }
         ensures stops { result.step ≡ Quiet → result.bytes ≡ length piece.now }
@@ -101,7 +101,7 @@ impl Deformatter {
         requires between { IsBetween self.old }
         requires proper { IsProperFrame frame.now }
         requires out { out.old.items ≡ [] }
-        requires offset { at ≤ 2 ^ 59 }
+        requires offset { at ≤ PART_ROOM }
         ensures same { is_hunter self.new ≡ is_hunter self.old }
         ensures takes { (u : List Placed) → Stands self.old u →
             TakesBlock self.old self.new u at frame.now Frame out.new.items }
@@ -117,10 +117,10 @@ impl Deformatter {
         requires live { is_live self.old ≡ true }
         requires out { out.old.items ≡ [] }
         requires some { 0 < length piece.now }
-        requires offset { at ≤ 2 ^ 59 }
-        requires length { length piece.now ≤ 2 ^ 59 }
-        requires room { tail_of self.old ≤ 2 ^ 59 }
-        requires count { skipped_by self.old ≤ 2 ^ 59 }
+        requires offset { at ≤ PART_ROOM }
+        requires length { length piece.now ≤ PART_ROOM }
+        requires room { tail_of self.old ≤ PART_ROOM }
+        requires count { skipped_by self.old ≤ PART_ROOM }
         ensures same { is_hunter self.new ≡ is_hunter self.old }
         ensures bytes { (0 < result.bytes) × (result.bytes ≤ length piece.now) }
         ensures stops { result.step ≡ Quiet → result.bytes ≡ length piece.now }

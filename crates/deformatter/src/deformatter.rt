@@ -14,7 +14,7 @@ use arrayvec::ArrayVec;
 use port_sync::{Aligner, Half, Hunter};
 use trace_values::{Cell, Fault, SourceId};
 
-/// Where a deformatter stands: it reads from the first byte on; it hunts; or it has locked.
+/// How far a deformatter has come: it reads from the first byte on; it hunts; or it has locked.
 #[derive(Clone, Copy, Debug, PartialEq, Eq, Drop)]
 pub enum Phase {
     Aligned,
@@ -443,7 +443,7 @@ mod tests {
         *b"\xff\xff\xff\x7f\x03\0\0\0\0\0\0\0\0\0\0\0\0\0\0\0\xff\xff\xff\x7f\0\0\0\0\0\0\0\0\0\0\0\0\0\0\0\0";
 
     #[test]
-    fn hunts_behind_each_cut(rt: HostRuntime) {
+    fn hunts_after_each_cut(rt: HostRuntime) {
         let whole = [
             (3, PortStep::Locked { skipped: 0 }),
             (19, PortStep::Frame),

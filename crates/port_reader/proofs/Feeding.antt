@@ -75,7 +75,7 @@ module _ (a b : PortStream) (at : ℕ) (cells : List Cell) (given : cells_in b �
   gained (Faulty f) e = record { frames = same_frames e; fit = no_cells e }
 
 reads : (a b : PortStream) → port.Reads a b → Reads (framed a) (framed b)
-reads a b r = record { before = r.before; behind = r.behind; skipped = r.skipped }
+reads a b r = record { before = r.before; after = r.after; skipped = r.skipped }
 
 hunt_by : (a b : PortStream) (at : ℕ) (step : PortStep) → port.HuntBy a b at step → HuntBy (framed a) (framed b) at step
 hunt_by a b at Quiet h = h
@@ -230,7 +230,7 @@ bare_fed u at b bytes given e = record {
     fulls = refl;
     halves = refl;
     fault = refl;
-    hunt = record { before = refl; behind = refl; skipped = refl };
+    hunt = record { before = refl; after = refl; skipped = refl };
   };
 }
 

@@ -16,7 +16,7 @@ use Rattle.frame_grammar.specs.Reading.{port_progress, port_cells, item_id, halv
 use Rattle.frame_grammar.proofs.Deciding.{port_decided}
 use Rattle.frame_grammar.proofs.Items.{unfinished_halves}
 use Rattle.frame_grammar.proofs.Broken.{broken_halves, same_before}
-use Rattle.deformatter.specs.Reading.{PortStream, port_stream, read_behind, items_of, IsHunt}
+use Rattle.deformatter.specs.Reading.{PortStream, port_stream, read_after, items_of, IsHunt}
 use Rattle.deformatter.proofs.Readings.{hunt_is}
 use Rattle.port_reader.specs.Reading.{PortReading, frames_of_items, framed, port_reading, cells_of}
 use Rattle.port_reader.proofs.ReadingLaws.{framed_cells}
@@ -41,7 +41,7 @@ same_halves rest None m n s t = s ∙ sym t
 same_halves rest (Some f) m n s t = s.1 ∙ ap half_words (same_before rest f f s.0 t.0) ∙ sym t.1
 
 -- in frames from some byte on
-is_by_grammar : (skipped : ℕ) (u : List Placed) → IsByGrammar skipped u (framed (read_behind skipped (port_progress u)))
+is_by_grammar : (skipped : ℕ) (u : List Placed) → IsByGrammar skipped u (framed (read_after skipped (port_progress u)))
 is_by_grammar skipped u = (
   reading rule start u,
   readings.reading_is Spells why rule start port_decided u,
@@ -58,13 +58,13 @@ is_by_grammar skipped u = (
   },
 )
 
-one_of_items : (skipped : ℕ) (u : List Placed) (r : PortReading) → IsOfItems skipped (reading rule start u) r → r ≡ framed (read_behind skipped (port_progress u))
+one_of_items : (skipped : ℕ) (u : List Placed) (r : PortReading) → IsOfItems skipped (reading rule start u) r → r ≡ framed (read_after skipped (port_progress u))
 one_of_items skipped u r i =
-    same_record r (framed (read_behind skipped (port_progress u))) i.frames i.fulls
+    same_record r (framed (read_after skipped (port_progress u))) i.frames i.fulls
     (i.halves ∙ ap (λ (n : ℕ). sum_by halves_in (items_of (port_progress u).items) + n) (same_halves (port_progress u).rest (port_progress u).fault i.unfinished (port_progress u).state.halves i.has (kept_halves u)))
     i.fault i.tail i.skipped_is i.locked
 
-only_by_grammar : (skipped : ℕ) (u : List Placed) (r : PortReading) → IsByGrammar skipped u r → r ≡ framed (read_behind skipped (port_progress u))
+only_by_grammar : (skipped : ℕ) (u : List Placed) (r : PortReading) → IsByGrammar skipped u r → r ≡ framed (read_after skipped (port_progress u))
 only_by_grammar skipped u r (read, is, i) =
     one_of_items skipped u r (subst (λ (x : Reading PortItem). IsOfItems skipped x r) (readings.only_reading Spells why rule start port_decided u read is) i)
 
@@ -84,17 +84,17 @@ one_place u a b v w e f s t =
 -- in a hunt
 hunt_reads : (u : List Placed) (s : PortStream) → IsHunt u s → IsPortReading Hunt u (framed s)
 hunt_reads u s (inl m) = inl (m.0, ap framed m.1)
-hunt_reads u s (inr (before, behind, parts, first, is)) =
-    inr (before, behind, parts, first, subst (λ (x : PortStream). IsByGrammar (length before) behind (framed x)) (sym is) (is_by_grammar (length before) behind))
+hunt_reads u s (inr (before, after, parts, first, is)) =
+    inr (before, after, parts, first, subst (λ (x : PortStream). IsByGrammar (length before) after (framed x)) (sym is) (is_by_grammar (length before) after))
 
 hunt_only : (u : List Placed) (s : PortStream) (r : PortReading) → IsHunt u s → IsPortReading Hunt u r → r ≡ framed s
 hunt_only u s r (inl m) (inl n) = n.1 ∙ ap framed (sym m.1)
-hunt_only u s r (inl m) (inr (before, behind, parts, first, is)) = absurd (m.0 (units_of before) first.stands)
-hunt_only u s r (inr (before, behind, parts, first, is)) (inl n) = absurd (n.0 (units_of before) first.stands)
+hunt_only u s r (inl m) (inr (before, after, parts, first, is)) = absurd (m.0 (units_of before) first.stands)
+hunt_only u s r (inr (before, after, parts, first, is)) (inl n) = absurd (n.0 (units_of before) first.stands)
 hunt_only u s r (inr (a, v, e, first, is)) (inr (b, w, f, other, read)) =
     let k = one_place u b a w v f e other first in
-    only_by_grammar (length b) w r read ∙ ap (λ (l : List Placed). framed (read_behind (length l) (port_progress w))) k.0
-    ∙ ap (λ (l : List Placed). framed (read_behind (length a) (port_progress l))) k.1 ∙ ap framed (sym is)
+    only_by_grammar (length b) w r read ∙ ap (λ (l : List Placed). framed (read_after (length l) (port_progress w))) k.0
+    ∙ ap (λ (l : List Placed). framed (read_after (length a) (port_progress l))) k.1 ∙ ap framed (sym is)
 
 reads : (mode : FramesMode) (u : List Placed) → IsPortReading mode u (port_reading mode u)
 reads Aligned u = is_by_grammar 0 u

@@ -129,10 +129,10 @@ read_rise u lo hi rise = items_rise (grammar_reading u).items None (grammar_read
 hunted_rise : (u : List Placed) (lo hi : ℕ) → BytesRise lo hi u → CellsRise lo hi (cells_in (port_stream true u))
 hunted_rise u lo hi rise = elim (hunt_is u) [
   | inl m ↦ subst (λ (s : PortStream). CellsRise lo hi (cells_in s)) (sym m.1) (rise_le (offsets_of u) lo hi rise)
-  | inr (before, behind, parts, first, is) ↦
-      let s = rise_split (offsets_of before) (offsets_of behind) lo hi (subst (λ (z : List ℕ). Rise lo hi z) (ap offsets_of parts ∙ offsets_append before behind) rise) in
+  | inr (before, after, parts, first, is) ↦
+      let s = rise_split (offsets_of before) (offsets_of after) lo hi (subst (λ (z : List ℕ). Rise lo hi z) (ap offsets_of parts ∙ offsets_append before after) rise) in
       subst (λ (s : PortStream). CellsRise lo hi (cells_in s)) (sym is)
-      (rise_join [] (offsets_in (cells_of_items None (items_of (grammar_reading behind).items))) lo (end_at lo (offsets_of before)) hi (rise_le (offsets_of before) lo (end_at lo (offsets_of before)) s.0) (read_rise behind (end_at lo (offsets_of before)) hi s.1))
+      (rise_join [] (offsets_in (cells_of_items None (items_of (grammar_reading after).items))) lo (end_at lo (offsets_of before)) hi (rise_le (offsets_of before) lo (end_at lo (offsets_of before)) s.0) (read_rise after (end_at lo (offsets_of before)) hi s.1))
 ]
 
 bare_rise : (u : List Placed) (lo hi : ℕ) → BytesRise lo hi u → CellsRise lo hi (map bare_cell u)

@@ -60,9 +60,9 @@ abbrev pub IsPortReading : FramesMode → List Placed → PortReading → Type 0
 IsPortReading Aligned u r = IsByGrammar 0 u r
 IsPortReading Hunt u r =
     (IsNowhere full_sync (units_of u) × (r ≡ only_skipped (length u)))
-    ⊎ ((before : List Placed) × (behind : List Placed) × (u ≡ before ++ behind)
+    ⊎ ((before : List Placed) × (after : List Placed) × (u ≡ before ++ after)
     × IsFirst full_sync (units_of u) (units_of before)
-    × IsByGrammar (length before) behind r)
+    × IsByGrammar (length before) after r)
 IsPortReading Bare u r = r ≡ record {
   frames = map (λ b. record { at = b.place.at; id = Some 1; run = 0; byte = b.unit } ∷ []) u;
   fulls = 0;

@@ -23,7 +23,7 @@ CellsFit step cells = cells ≡ []
 -- it reads, and has skipped as much as before
 pub record Reads (old new : PortReading) : Type 0 where
   pub before : old.locked ≡ true
-  pub behind : new.locked ≡ true
+  pub after : new.locked ≡ true
   pub skipped : new.skipped ≡ old.skipped
 
 -- What a step says of the hunt: before the lock each byte is skipped, and at the lock the pattern's own three are no

@@ -5,7 +5,7 @@ ghost use Rattle.deformatter.specs.Deformatter.{is_hunter};
 ghost use Rattle.trace_values.specs.Placed.{byte_at};
 ghost use Rattle.port_reader.specs.Reading.{bare_cell};
 ghost use Rattle.port_reader.specs.Modes.{hunts};
-ghost use Rattle.trace_values.specs.declared.limits.TheConstants.{COUNT_ROOM};
+ghost use Rattle.trace_values.specs.declared.limits.TheConstants.{COUNT_ROOM, PART_ROOM};
 
 use arrayvec::ArrayVec;
 use capture_plan::FramesMode;
@@ -35,7 +35,7 @@ fn bare_cell_of(at: u64, byte: u8) -> Cell
 }
 
 impl PortReader {
-    ghost use Rattle.std.specs.Prelude.{◌^◌, ◌++◌, [], ◌∷◌, List, true, is_none};
+    ghost use Rattle.std.specs.Prelude.{◌++◌, [], ◌∷◌, List, true, is_none};
     ghost use Rattle.std.specs.Prelude.{IsTrue, ℕ, ◌<◌, length, take};
     ghost use Rattle.trace_values.specs.Placed.{Placed, units_of, placed_from};
     ghost use Rattle.frame_grammar.specs.Frame.{cells, id_after};
@@ -165,15 +165,15 @@ impl PortReader {
     /// these bytes one by one does.
     ///
     /// The piece has a byte. The offset, the piece's length, and the bytes that were skipped and that are
-    /// left over are each at most 2^59.
+    /// left over are each at most `PART_ROOM`.
     pub fn feed_block(&mut self, at: u64, piece: &[u8], out: &mut ArrayVec<Cell, 15>) -> Taken
         requires live { is_live self.old ≡ true }
         requires out { out.old.items ≡ [] }
         requires some { 0 < length piece.now }
-        requires offset { at ≤ 2 ^ 59 }
-        requires length { length piece.now ≤ 2 ^ 59 }
-        requires room { tail_of self.old ≤ 2 ^ 59 }
-        requires count { skipped_by self.old ≤ 2 ^ 59 }
+        requires offset { at ≤ PART_ROOM }
+        requires length { length piece.now ≤ PART_ROOM }
+        requires room { tail_of self.old ≤ PART_ROOM }
+        requires count { skipped_by self.old ≤ PART_ROOM }
         ensures same { mode_of self.new ≡ mode_of self.old }
         ensures bytes { (0 < result.bytes) × (result.bytes ≤ length piece.now) }
         ensures stops { result.step ≡ Quiet → result.bytes ≡ length piece.now }

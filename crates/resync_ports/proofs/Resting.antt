@@ -15,7 +15,7 @@ use Rattle.frame_grammar.specs.Reading.{halves_in, cells_of_items, id_of_items}
 use Rattle.frame_grammar.proofs.Deciding.{port_decided}
 use Rattle.frame_grammar.proofs.Items.{cells_of_items-append}
 use Rattle.port_sync.specs.Hunting.{pattern}
-use Rattle.deformatter.specs.Reading.{PortStream, items_of, read_behind, all_skipped, port_hunted, port_stream, cells_in}
+use Rattle.deformatter.specs.Reading.{PortStream, items_of, read_after, all_skipped, port_hunted, port_stream, cells_in}
 use Rattle.resync_ports.specs.Port.{FullEnded, IsFull, PortLocks, IsFramedRest, AreNamedLater}
 use Rattle.resync_streams.proofs.Continuing as continuing
 use Rattle.resync_streams.proofs.Syncing.{units_append, units_length, splits_last, ends_within}
@@ -36,10 +36,10 @@ abbrev with_before : List (PortItem × Place) → Progress State PortItem → Pr
 with_before = locking.with_before Spells why rule start pattern Full port_syncs
 
 -- a stream is what is read after the bytes skipped
-pub reads : (h : Bool) (x : List Placed) (n : ℕ) (place : Place) (q : Progress State PortItem) → found_in h x ≡ at_found n place q → port_stream h x ≡ read_behind n q
+pub reads : (h : Bool) (x : List Placed) (n : ℕ) (place : Place) (q : Progress State PortItem) → found_in h x ≡ at_found n place q → port_stream h x ≡ read_after n q
 reads false x n place q e =
     let f : (let a : Found State PortItem = record { skipped = 0; place = record { at = 0; half = 0 }; reading = prog x } in a ≡ record { skipped = n; place = place; reading = q }) = cc in
-    ap (λ (g : Found State PortItem). read_behind g.skipped g.reading) f
+    ap (λ (g : Found State PortItem). read_after g.skipped g.reading) f
 reads true x n place q e = ap (λ (o : Option (Found State PortItem)). port_hunted (hunt pattern Full rule start x).units o) e
 
 pub skips : (x : List Placed) → (hunt pattern Full rule start x).found ≡ None → port_stream true x ≡ all_skipped (length x)
@@ -99,16 +99,16 @@ module _ (h : Bool) (u w : List Placed) (l : locking.IsLock Spells why rule star
   front_length : length l.before + 4 ≡ length front
   front_length = let i = length-append l.before l.sync in let j = ap length l.pattern in let n = units_length l.sync in omega arith
 
-  then : port_stream h (u ++ front) ≡ read_behind l.skipped (with_before l.early (prog l.sync))
+  then : port_stream h (u ++ front) ≡ read_after l.skipped (with_before l.early (prog l.sync))
   then =
       reads h (u ++ front) l.skipped l.whole_place (with_before l.early (prog l.sync))
       (ap (λ (z : List Placed). found_in h (u ++ z)) (sym (append-nil front)) ∙ l.whole []
       ∙ ap (λ (z : List Placed). at_found l.skipped l.whole_place (with_before l.early (prog z))) (append-nil l.sync))
 
-  now : port_stream h (u ++ w) ≡ read_behind l.skipped (with_before l.early last)
+  now : port_stream h (u ++ w) ≡ read_after l.skipped (with_before l.early last)
   now = reads h (u ++ w) l.skipped l.whole_place (with_before l.early last) (ap (λ (z : List Placed). found_in h (u ++ z)) l.parts ∙ l.whole l.after)
 
-  rest_is : port_stream true w ≡ read_behind (length l.before) last
+  rest_is : port_stream true w ≡ read_after (length l.before) last
   rest_is = reads true w (length l.before) l.place last (ap (found_in true) l.parts ∙ l.rest l.after)
 
   then_items : (port_stream h (u ++ front)).items ≡ l.early ++ (Full, l.place) ∷ []

@@ -15,7 +15,7 @@ use Rattle.trace_values.specs.Hunted.{Found, Hunt, hunt}
 use Rattle.frame_grammar.specs.Port.{PortItem, Full, Half, Frame, Part, Between, First, One, Two, Three, State, start, word_ended, part_rule, rule}
 use Rattle.frame_grammar.specs.Reading.{halves_in}
 use Rattle.port_sync.specs.Hunting.{pattern}
-use Rattle.deformatter.specs.Reading.{PortStream, items_of, read_behind, port_hunted, port_stream}
+use Rattle.deformatter.specs.Reading.{PortStream, items_of, read_after, port_hunted, port_stream}
 use Rattle.resync_points.specs.Moved.{later_place, later_fault}
 use Rattle.resync_points.specs.Moved.{later}
 use Rattle.resync_reports.proofs.MovedTerms.{later_item, later_port}
@@ -76,7 +76,7 @@ module _ (c : ℕ) where
   abbrev ported : List (PortItem × Place) → ℕ → Option (Place × Reason) → ℕ → ℕ → PortStream
   ported port_items halves fault tail skipped = record { items = port_items; halves = halves; fault = fault; tail = tail; skipped = skipped; locked = true }
 
-  read_later : (skipped : ℕ) (q : Progress State PortItem) → read_behind skipped (move c later_state (λ x. later_item c x) q) ≡ later_port c (read_behind skipped q)
+  read_later : (skipped : ℕ) (q : Progress State PortItem) → read_after skipped (move c later_state (λ x. later_item c x) q) ≡ later_port c (read_after skipped q)
   read_later skipped q =
       ap (λ (n : ℕ). ported (map (λ x. (later_item c x.0, later_place c x.1)) q.items) (n + q.state.halves) (later_fault c q.fault) (length (map (λ b. later c b) q.rest)) skipped) (halves_later q.items)
       ∙ ap (λ (n : ℕ). ported (map (λ x. (later_item c x.0, later_place c x.1)) q.items) (sum_by halves_in (items_of q.items) + q.state.halves) (later_fault c q.fault) n skipped) (length-map q.rest (λ (b : Placed). later c b))
@@ -86,7 +86,7 @@ module _ (c : ℕ) where
   found_later units (Some f) = read_later f.skipped f.reading
 
   pub port_later : (h : Bool) (u : List Placed) → port_stream h (map (λ b. later c b) u) ≡ later_port c (port_stream h u)
-  port_later false u = ap (read_behind 0) (progress_moved c later_state (λ x. later_item c x) rule start refl natural_port u) ∙ read_later 0 (progress rule start u)
+  port_later false u = ap (read_after 0) (progress_moved c later_state (λ x. later_item c x) rule start refl natural_port u) ∙ read_later 0 (progress rule start u)
   port_later true u =
       ap (λ (h : Hunt State PortItem). port_hunted h.units h.found) (hunt_moved c later_state (λ x. later_item c x) rule start refl natural_port pattern Full refl u)
       ∙ found_later (hunt pattern Full rule start u).units (hunt pattern Full rule start u).found
