@@ -87,15 +87,31 @@ pump_more was now m old mid new kept after count piece so_far read fed_count fed
 
 -- ---- the part of the buffer that is fed
 
-pub cut_read : (buf rest : List ℕ) (got taken : ℕ) → got ≤ length buf → taken ≤ got → take got buf ≡ take taken (buf ++ rest) ++ drop taken (take got buf)
+cut_read : (buf rest : List ℕ) (got taken : ℕ) → got ≤ length buf → taken ≤ got → take got buf ≡ take taken (buf ++ rest) ++ drop taken (take got buf)
 cut_read buf rest got taken h k =
     let within : taken ≤ length buf = omega arith in
     let same : take taken (take got buf) ≡ take taken (buf ++ rest) = take-take taken got buf k ∙ sym (take-append-le taken buf rest within) in
     sym (take-append-drop taken (take got buf)) ∙ ap (λ l. l ++ drop taken (take got buf)) same
 
-pub length-cut_read : (buf rest : List ℕ) (taken : ℕ) → taken ≤ length buf → length (take taken (buf ++ rest)) ≡ taken
-length-cut_read buf rest taken h = omega (arith, length-take taken (buf ++ rest), length-append buf rest)
-
 -- the front of the buffer that is kept is a front of the piece
-pub cut_kept : (all old new : List ℕ) (count taken : ℕ) → count ≤ taken → new ≡ keep_last RECENT_ROOM (old ++ take count all) → new ≡ keep_last RECENT_ROOM (old ++ take count (take taken all))
+cut_kept : (all old new : List ℕ) (count taken : ℕ) → count ≤ taken → new ≡ keep_last RECENT_ROOM (old ++ take count all) → new ≡ keep_last RECENT_ROOM (old ++ take count (take taken all))
 cut_kept all old new count taken h e = e ∙ ap (λ l. keep_last RECENT_ROOM (old ++ l)) (sym (take-take count taken all h))
+
+-- Of a read that gave `got` bytes, at the front of a buffer that has `rest` after them, the first `taken` are the piece, and
+-- a front of that was fed and kept.
+pub record IsCut (buf rest old new : List ℕ) (got taken fed : ℕ) : Type 0 where
+  pub parts : take got buf ≡ take taken (buf ++ rest) ++ drop taken (take got buf)
+  pub piece : length (take taken (buf ++ rest)) ≡ taken
+  pub read : length (take got buf) ≡ got
+  pub kept : new ≡ keep_last RECENT_ROOM (old ++ take fed (take taken (buf ++ rest)))
+
+pub cut_of : (buf rest old new : List ℕ) (got taken fed : ℕ) → got ≤ length buf → taken ≤ got → fed ≤ length (take taken (buf ++ rest))
+    → new ≡ keep_last RECENT_ROOM (old ++ take fed (buf ++ rest)) → IsCut buf rest old new got taken fed
+cut_of buf rest old new got taken fed h k front e =
+    let piece : length (take taken (buf ++ rest)) ≡ taken = omega (arith, length-take taken (buf ++ rest), length-append buf rest) in
+    record {
+      parts = cut_read buf rest got taken h k;
+      piece = piece;
+      read = omega (arith, length-take got buf);
+      kept = cut_kept (buf ++ rest) old new fed taken (omega arith) e;
+    }

@@ -1,3 +1,5 @@
+//! Runs of an action over inputs and outputs in memory, which fail at each of their calls in turn.
+
 ghost use Rattle.std.specs.Prelude.{◌≡◌, true, not, refl};
 ghost use Rattle.trace_stream.specs.Doubling.{has_fault, HasFault, doubled, last_line};
 ghost use Rattle.trace_stream.specs.DoublingLaws.{none_at_first, fault_stays, doubled_stays, last_line_stays};
