@@ -5,7 +5,6 @@ use Rattle.std.specs.Prelude.{ℕ, List, length, Bool, ◌==◌, ◌&&◌, if◌
 use Rattle.std.specs.List.{flat_map, count_by, sum_by, list_any, range_with_len}
 use Rattle.trace_values.specs.declared.cell.Cell.{Cell}
 use Rattle.frame_grammar.specs.Reading.{is_source, source_list}
-use Rattle.source_counts.specs.declared.counts.Counts.{Counts}
 
 -- the cells of all frames
 abbrev pub all_cells : List (List Cell) → List Cell
@@ -39,10 +38,6 @@ frame_items id cells =
 -- its items
 abbrev pub items_of : ℕ → List (List Cell) → ℕ
 items_of id frames = sum_by (frame_items id) frames
-
--- both
-abbrev pub counts_of : ℕ → List (List Cell) → Counts
-counts_of id frames = record { bytes = bytes_of id frames; items = items_of id frames }
 
 -- the unattributed bytes: the cells without a source
 abbrev pub unattributed_of : List (List Cell) → ℕ

@@ -6,7 +6,8 @@ use Rattle.trace_values.specs.Placed.{Place, Placed}
 use Rattle.port_reader.specs.Reading.{bare_cell}
 use Rattle.source_events.specs.declared.event.What.{What}
 use Rattle.source_events.specs.Runs.{all_runs}
-use Rattle.source_events.specs.Merge.{told, grown, merged_from, InOrder, AddsAlways}
+use Rattle.source_events.specs.Merge.{told, grown, merged_from, InOrder}
+use Rattle.source_events.proofs.Adding.{AddsAlways}
 use Rattle.source_events.proofs.Merges.{grown_by, told_append}
 
 module _ {X V : Type 0} (Lies : ℕ → X → Type 0) (end : X → ℕ) (source : X → Option ℕ) (events : ℕ → List X → List (What V × Place)) (adds : AddsAlways Lies end source events) (x : ℕ) where

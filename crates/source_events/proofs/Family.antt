@@ -11,7 +11,8 @@ use Rattle.frame_grammar.specs.Reading.{is_source}
 use Rattle.source_events.specs.declared.event.What.{What}
 use Rattle.source_events.specs.declared.event.What.TheVariants.{Raw, Trigger}
 use Rattle.source_events.specs.Runs.{id_of, bytes_of, placed_run, last_at, RisesFrom, IsRunFrom, end_of, list_of}
-use Rattle.source_events.specs.Merge.{IsAtMost, start_of, AllIn, AddsAlways}
+use Rattle.source_events.specs.Merge.{IsAtMost, start_of, AllIn}
+use Rattle.source_events.proofs.Adding.{AddsAlways}
 use Rattle.source_events.specs.Report.{Mapped, AreLawful, what_of, lifted, raw_events, raws, events}
 use Rattle.source_events.proofs.Merges.{test_same, test_other, same_or_not, at_most_trans}
 

@@ -11,7 +11,7 @@ use Rattle.capture_plan.specs.declared.frames.FramesMode.{FramesMode}
 use Rattle.capture_plan.specs.declared.frames.FramesMode.TheVariants.{Hunt, Aligned, Bare}
 use Rattle.frame_grammar.specs.Port.{PortItem}
 use Rattle.frame_grammar.specs.Reading.{offsets_of}
-use Rattle.deformatter.specs.Reading.{PortStream, port_stream, read_behind}
+use Rattle.deformatter.specs.Reading.{PortStream, port_stream, read_after}
 use Rattle.deformatter.proofs.Readings.{hunt_is, by_mode, IsRead, seeks_old, port_hunt}
 use Rattle.deformatter.proofs.ReadingLaws.{settles as port_settles, rises as port_rises}
 use Rattle.port_reader.specs.Reading.{PortReading, framed, port_reading}

@@ -1,3 +1,4 @@
+pub mod Adding
 pub mod Merges
 pub mod Running
 pub mod Raws

@@ -12,7 +12,7 @@ use Rattle.capture_plan.specs.declared.frames.FramesMode.TheVariants.{Hunt, Alig
 use Rattle.frame_grammar.specs.Port.{PortItem, Full, Half, Frame, Spells, why, start, rule}
 use Rattle.frame_grammar.specs.Reading.{offsets_of, port_progress, cells_of_items, port_reading as grammar_reading}
 use Rattle.frame_grammar.proofs.Deciding.{port_decided}
-use Rattle.deformatter.specs.Reading.{PortStream, port_stream, read_behind, items_of, cells_in}
+use Rattle.deformatter.specs.Reading.{PortStream, port_stream, read_after, items_of, cells_in}
 use Rattle.deformatter.proofs.Readings.{hunt_is}
 use Rattle.port_reader.specs.Reading.{PortReading, framed, port_reading, cells_of}
 use Rattle.port_reader.specs.ByGrammar.{full_sync}

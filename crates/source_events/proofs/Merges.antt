@@ -9,7 +9,8 @@ use Rattle.trace_values.specs.Placed.{Place}
 use Rattle.frame_grammar.specs.Reading.{is_source}
 use Rattle.source_events.specs.declared.event.Event.{Event}
 use Rattle.source_events.specs.declared.event.What.{What}
-use Rattle.source_events.specs.Merge.{told, place_of, grown, merged_from, merged, is_of, part, IsAtMost, start_of, SortedFrom, InOrder, Between, AllIn, AddsAlways, IsMerged, is_before, cut, From, Below}
+use Rattle.source_events.specs.Merge.{told, place_of, grown, merged_from, merged, is_of, part, IsAtMost, start_of, SortedFrom, InOrder, Between, AllIn, IsMerged, is_before, cut, From, Below}
+use Rattle.source_events.proofs.Adding.{AddsAlways}
 
 pub test_same : (a b : ℕ) → a ≡ b → (a == b) ≡ true
 test_same a b e = grind (arith, nat_tests)

@@ -68,19 +68,6 @@ abbrev pub AllIn : {W : Type 0} → Place → ℕ → List (W × Place) → Type
 AllIn p n [] = Unit {0}
 AllIn p n (x ∷ xs) = IsAtMost p x.1 × (x.1.at < n) × AllIn x.1 n xs
 
--- one more part adds to the events of its own source alone, and what it adds is in it
-pub record Adds {X V : Type 0} (end : X → ℕ) (source : X → Option ℕ) (events : ℕ → List X → List (What V × Place))
-    (x n : ℕ) (before : List X) (m : X) : Type 0 where
-  pub more : List (What V × Place)
-  pub given : events x (before ++ m ∷ []) ≡ events x before ++ more
-  pub all : AllIn (start_of n) (end m) more
-  pub own : (source m ≡ Some x → ⊥) → more ≡ []
-
-abbrev pub AddsAlways : {X V : Type 0} → (ℕ → X → Type 0) → (X → ℕ) → (X → Option ℕ) →
-    (ℕ → List X → List (What V × Place)) → Type 0
-AddsAlways {X} Lies end source events =
-    (x n : ℕ) (before : List X) (m : X) → Lies n m → Adds end source events x n before m
-
 -- The list is sorted by place; its part of the port is what the port gives, and its part of each source is what that
 -- source gives.
 pub record IsMerged {X V : Type 0} (port : List (What V × Place)) (events : ℕ → List X → List (What V × Place))

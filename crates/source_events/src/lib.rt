@@ -19,4 +19,4 @@ pub use port_mode::PortMode;
 pub use run_bytes::RunBytes;
 pub use runs::run_length;
 pub use source_ids::{KIND_SOURCES, SourceIds};
-pub use tails::{PortCounts, SourceTail, SourceTails, Tails};
+pub use tails::{GREATEST_COUNT, PortCounts, SourceTail, SourceTails, Tails};

@@ -9,6 +9,9 @@ use arrayvec::ArrayVec;
 use std::marker::Model;
 use trace_values::SourceId;
 
+/// The most bytes or items that a source of a capture has: more than come of any.
+pub const GREATEST_COUNT: u64 = 1 << 42;
+
 /// How a mapped source was read up to the end: its units are bytes, or for an STP source nibbles.
 #[derive(Clone, Copy, Debug, PartialEq, Eq, Drop)]
 pub struct SourceTail {

@@ -4,7 +4,7 @@ ghost use Rattle.std.specs.Prelude.{◌≡◌, ◌<◌, true};
 ghost use Rattle.trace_values.specs.Moded.{is_counted};
 ghost use Rattle.stp_grammar.specs.Rule.{is_sound};
 ghost use Rattle.stp_codec.specs.Reading.{pattern};
-ghost use Rattle.stp_codec.specs.Wholes.{item_in as item_by, left_by};
+ghost use Rattle.stp_codec.specs.Wholes.{item_in, left_by};
 ghost use Rattle.trace_values.specs.declared.limits.TheConstants.{COUNT_ROOM};
 
 use crate::flat::{PacketParts, WINDOW, parts_from_first};
@@ -202,7 +202,7 @@ impl StpDecoder {
         ensures bytes { (0 < result.bytes) × (result.bytes ≤ length piece.now) }
         ensures takes { (u : List Placed) → Stands self.old u →
             Takes (items_in (order_of self.old) (is_hunter self.old)) (Stands self.new) u at piece.now
-            result.bytes (item_by result.half result.item) }
+            result.bytes (item_in result.half result.item) }
         ensures live { is_live self.new ≡ true }
         ensures fits { IfSome result.item IsProperItem }
         ensures few { held_of self.new + skipped_by self.new ≤
@@ -278,7 +278,7 @@ impl StpDecoder {
         ensures bytes { (0 < result.bytes) × (result.bytes ≤ length piece.now) }
         ensures takes { (u : List Placed) → Stands self.old u →
             Takes (items_in (order_of self.old) (is_hunter self.old)) (Stands self.new) u at piece.now
-            result.bytes (item_by result.half result.item) }
+            result.bytes (item_in result.half result.item) }
         ensures live { is_live self.new ≡ true }
         ensures fits { IfSome result.item IsProperItem }
         ensures few { held_of self.new + skipped_by self.new ≤
@@ -308,7 +308,7 @@ impl StpDecoder {
         ensures bytes { IfSome result (λ taken. (0 < taken.bytes) × (taken.bytes ≤ length piece.now)) }
         ensures takes { (u : List Placed) → Stands self.old u → IfSome result (λ taken.
             Takes (items_in (order_of self.old) (is_hunter self.old)) (Stands self.new) u at piece.now
-            taken.bytes (item_by taken.half taken.item)) }
+            taken.bytes (item_in taken.half taken.item)) }
         ensures live { is_live self.new ≡ true }
         ensures fits { IfSome result (λ taken. IfSome taken.item IsProperItem) }
         ensures few { IfSome result (λ taken. held_of self.new + skipped_by self.new ≤

@@ -8,7 +8,7 @@ ghost use Rattle.std.specs.Prelude.{if◌then◌else◌};
 ghost use Rattle.trace_values.specs.declared.next.Next.TheVariants.{Go};
 ghost use Rattle.stp_grammar.specs.declared.packet.Order.TheVariants.{Msn};
 ghost use Rattle.stp_grammar.specs.declared.partial.Partial.TheVariants.{Second, Third, Size};
-ghost use Rattle.stp_grammar.specs.Opcodes.{line_of, row_at as row_by_table};
+ghost use Rattle.stp_grammar.specs.Opcodes.{line_of, row_at};
 ghost use Rattle.stp_grammar.specs.Proper.{IsProper};
 ghost use Rattle.stp_grammar.specs.Rule.{begin};
 ghost use Rattle.stp_codec.specs.Wholes.{nibbles_in, between, Ends, left_by};
@@ -65,12 +65,12 @@ impl PacketParts {
 #[inline(always)]
 fn parts_from_size(number: u8, payload: u64, bytes: &[u8], start: usize) -> Option<PacketParts>
     requires number { number < 35 }
-    requires stamped { (line_of (row_by_table number)).stamped ≡ true }
-    requires fits { payload < 16 ^ (line_of (row_by_table number)).payload }
+    requires stamped { (line_of (row_at number)).stamped ≡ true }
+    requires fits { payload < 16 ^ (line_of (row_at number)).payload }
     requires there { start + 20 ≤ 2 * length bytes.now }
     ensures end { IfSome result (λ x. (start < x.nibbles) × (x.nibbles ≤ 2 * length bytes.now)) }
     ensures number { IfSome result (λ x. x.number < 35) }
-    ensures whole { IfSome result (λ x. Ends Msn (Go (Size (row_by_table number) payload))
+    ensures whole { IfSome result (λ x. Ends Msn (Go (Size (row_at number) payload))
         (between (nibbles_in bytes.now) start x.nibbles) (packet_of x)) }
     ensures proper { IfSome result (λ x. IsProper (packet_of x)) }
 {
@@ -97,7 +97,7 @@ fn parts_from_opcode(number: u8, bytes: &[u8], start: usize) -> Option<PacketPar
     requires there { WINDOW ≤ length bytes.now }
     ensures end { IfSome result (λ x. (start ≤ x.nibbles) × (x.nibbles ≤ 2 * length bytes.now)) }
     ensures number { IfSome result (λ x. x.number < 35) }
-    ensures whole { IfSome result (λ x. Ends Msn (begin (row_by_table number))
+    ensures whole { IfSome result (λ x. Ends Msn (begin (row_at number))
         (between (nibbles_in bytes.now) start x.nibbles) (packet_of x)) }
     ensures proper { IfSome result (λ x. IsProper (packet_of x)) }
 {

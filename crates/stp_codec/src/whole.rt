@@ -5,15 +5,14 @@
 
 ghost use Rattle.std.specs.Prelude.{◌≡◌, ◌+◌, ◌-◌, ◌*◌, ◌/◌, ◌%◌, ◌^◌, ◌<◌, ◌≤◌, true, length, get_or, IfSome};
 ghost use Rattle.trace_values.specs.declared.next.Next.TheVariants.{Go};
-ghost use Rattle.stp_grammar.specs.declared.packet.Order.{Order as OrderOf};
 ghost use Rattle.stp_grammar.specs.declared.packet.StpPacket.TheVariants.{Async};
 ghost use Rattle.stp_grammar.specs.declared.partial.Partial.TheVariants.{Start, Second, Third, Run, Size};
-ghost use Rattle.stp_grammar.specs.Opcodes.{line_of, row_at as row_by_table};
+ghost use Rattle.stp_grammar.specs.Opcodes.{line_of, row_at};
 ghost use Rattle.stp_grammar.specs.Proper.{IsProper};
 ghost use Rattle.stp_grammar.specs.Rule.{rule, begin, after_payload, is_sound};
 ghost use Rattle.stp_grammar.specs.Spelling.{number};
 ghost use Rattle.stp_grammar.specs.declared.packet.Order.TheVariants.{Msn};
-ghost use Rattle.stp_codec.specs.Wholes.{nibbles_in, between, number_from as number_by, Ends, Leaves};
+ghost use Rattle.stp_codec.specs.Wholes.{nibbles_in, between, number_from, Ends, Leaves};
 
 use stp_grammar::nibble::number_with;
 use stp_grammar::opcode::row_at;
@@ -156,7 +155,7 @@ const ROWS: &[Row] = &[
 #[inline(always)]
 pub fn row_of(number: u8) -> Row
     requires { number < 35 }
-    ensures { result ≡ row_by_table number }
+    ensures { result ≡ row_at number }
 {
     let rows = ROWS;
     rows[number as usize]
@@ -166,7 +165,7 @@ pub fn row_of(number: u8) -> Row
 #[inline(always)]
 pub fn payload_at(number: u8) -> u8
     requires { number < 35 }
-    ensures count { result ≡ (line_of (row_by_table number)).payload }
+    ensures count { result ≡ (line_of (row_at number)).payload }
     ensures few { result ≤ 16 }
 {
     let payloads = PAYLOADS;
@@ -177,7 +176,7 @@ pub fn payload_at(number: u8) -> u8
 #[inline(always)]
 pub fn stamped_at(number: u8) -> bool
     requires { number < 35 }
-    ensures { result ≡ (line_of (row_by_table number)).stamped }
+    ensures { result ≡ (line_of (row_at number)).stamped }
 {
     let stamps = STAMPS;
     stamps[number as usize] == 1
@@ -187,7 +186,7 @@ pub fn stamped_at(number: u8) -> bool
 #[inline(always)]
 fn payload_of(number: u8, _row: Row) -> u8
     requires number { number < 35 }
-    requires row { _row ≡ row_by_table number }
+    requires row { _row ≡ row_at number }
     ensures count { result ≡ (line_of _row).payload }
     ensures few { result ≤ 16 }
 {
@@ -198,7 +197,7 @@ fn payload_of(number: u8, _row: Row) -> u8
 #[inline(always)]
 fn is_stamped(number: u8, _row: Row) -> bool
     requires number { number < 35 }
-    requires row { _row ≡ row_by_table number }
+    requires row { _row ≡ row_at number }
     ensures { result ≡ (line_of _row).stamped }
 {
     stamped_at(number)
@@ -230,7 +229,7 @@ fn number_by_nibbles(
     requires few { count + more ≤ 16 }
     requires fits { value < 16 ^ count }
     requires there { start + more ≤ 2 * length bytes.now }
-    ensures value { result ≡ number_by order count value (between (nibbles_in bytes.now) start (start + more)) }
+    ensures value { result ≡ number_from order count value (between (nibbles_in bytes.now) start (start + more)) }
     ensures fits { result < 16 ^ (count + more) }
 {
     let mut number = value;
@@ -268,7 +267,7 @@ fn number_of_nine(bytes: &[u8], first: usize) -> u128
 pub fn number_at_once(bytes: &[u8], start: usize, more: u8) -> u64
     requires few { more ≤ 16 }
     requires there { start / 2 + 9 ≤ length bytes.now }
-    ensures value { result ≡ number_by Msn 0 0 (between (nibbles_in bytes.now) start (start + more)) }
+    ensures value { result ≡ number_from Msn 0 0 (between (nibbles_in bytes.now) start (start + more)) }
     ensures fits { result < 16 ^ more }
 {
     let half = (start % 2) as u32;
@@ -283,7 +282,7 @@ fn number_from(order: Order, count: u8, value: u64, bytes: &[u8], start: usize, 
     requires few { count + more ≤ 16 }
     requires fits { value < 16 ^ count }
     requires there { start + more ≤ 2 * length bytes.now }
-    ensures value { result ≡ number_by order count value (between (nibbles_in bytes.now) start (start + more)) }
+    ensures value { result ≡ number_from order count value (between (nibbles_in bytes.now) start (start + more)) }
     ensures fits { result < 16 ^ (count + more) }
 {
     match order {
@@ -309,7 +308,7 @@ fn number_at(
     requires fits { value < 16 ^ count }
     requires there { start ≤ 2 * length bytes.now }
     ensures end { IfSome result (λ x. (x.0 ≡ start + (most - count)) × (x.0 ≤ 2 * length bytes.now)) }
-    ensures value { IfSome result (λ x. x.1 ≡ number_by order count value (between (nibbles_in bytes.now) start x.0)) }
+    ensures value { IfSome result (λ x. x.1 ≡ number_from order count value (between (nibbles_in bytes.now) start x.0)) }
     ensures fits { IfSome result (λ x. x.1 < 16 ^ most) }
 {
     let more = most - count;
@@ -400,7 +399,7 @@ fn from_opcode(
     start: usize,
 ) -> Option<(usize, StpPacket)>
     requires number { number < 35 }
-    requires row { row ≡ row_by_table number }
+    requires row { row ≡ row_at number }
     requires there { start ≤ 2 * length bytes.now }
     ensures end { IfSome result (λ x. (start ≤ x.0) × (x.0 ≤ 2 * length bytes.now)) }
     ensures whole { IfSome result (λ x. Ends order (begin row) (between (nibbles_in bytes.now) start x.0) x.1) }
@@ -451,7 +450,7 @@ fn from_third(order: Order, bytes: &[u8], start: usize) -> Option<(usize, StpPac
 fn from_run(count: u64, bytes: &[u8], start: usize) -> Option<usize>
     requires { start ≤ 2 * length bytes.now }
     ensures end { IfSome result (λ end. (start < end) × (end ≤ 2 * length bytes.now)) }
-    ensures whole { (order : OrderOf) → IfSome result (λ end.
+    ensures whole { (order : Order) → IfSome result (λ end.
         Ends order (Go (Run count)) (between (nibbles_in bytes.now) start end) Async) }
 {
     for index in start..2 * bytes.len() {
@@ -489,7 +488,7 @@ fn from_start(order: Order, bytes: &[u8]) -> Option<(usize, StpPacket)>
 pub fn after_first(nibble: u8) -> Partial
     requires { nibble < 16 }
     ensures sound { is_sound result ≡ true }
-    ensures next { (order : OrderOf) → Leaves (rule order Start nibble) result }
+    ensures next { (order : Order) → Leaves (rule order Start nibble) result }
 {
     if nibble == 15 {
         return Partial::Second;
