@@ -123,7 +123,7 @@ impl SourceMachine {
     ghost use Rattle.std.specs.Prelude.{ℕ, ◌+◌, ◌*◌, ◌^◌, ◌<◌, ◌≤◌, ◌++◌, ◌∷◌, List, [], length, take, max, IfSome};
     ghost use Rattle.std.specs.Prelude.{true};
     ghost use Rattle.trace_values.specs.Placed.{Placed, units_of};
-    ghost use Rattle.trace_values.specs.Stream.{StepFits};
+    ghost use Rattle.trace_values.specs.Stream.{StepFits, LocksAfter};
     ghost use Rattle.trace_values.specs.Block.{Takes, StopsFor, goes_on_after};
     ghost use Rattle.itm_codec.specs.Wholes.{Cuts, Gives};
     ghost use Rattle.itm_grammar.specs.Rule.{is_sound, count_of};
@@ -248,8 +248,7 @@ impl SourceMachine {
     }
 
     /// Feeds a piece, whose first byte is at this offset, up to the first byte to which the answer is neither `Quiet`
-    /// nor
-    /// `Skipping`, or to the piece's end. It takes a packet at once whose bytes are all there.
+    /// nor `Skipping`, or to the piece's end. It takes a packet at once whose bytes are all there.
     #[inline(always)]
     pub fn feed_piece(&mut self, at: u64, piece: &[u8]) -> Block<Packet>
         requires live { is_live self.old ≡ true }
@@ -262,6 +261,7 @@ impl SourceMachine {
         ensures takes { (u : List Placed) → Stands self.old u →
             Takes (reading_of self.old) (Stands self.new) u at piece.now result.bytes result.step }
         ensures live { is_live self.new ≡ goes_on_after result.step }
+        ensures lock { IfSome result.step (LocksAfter (skipped_by self.new)) }
         ensures fits { IfSome result.step (StepFits PacketFits) }
         ensures few { held_of self.new + skipped_by self.new ≤
             held_of self.old + skipped_by self.old + 2 * result.bytes }
