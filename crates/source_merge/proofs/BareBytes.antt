@@ -19,10 +19,11 @@ use Rattle.source_events.proofs.Least.{AreSound, least_at}
 use Rattle.source_events.proofs.Merges.{test_same, test_other}
 use Rattle.source_events.proofs.Placing.{runs_between}
 use Rattle.source_merge.specs.Feeding.{place_and_reason}
-use Rattle.source_merge.specs.Routing.{HasNot, RunsBetween, Stops, Filled}
-use Rattle.source_merge.specs.Stepping.{StepTaken}
+use Rattle.source_merge.specs.Routing.{HasNot, RunsBetween, Stops}
 use Rattle.source_merge.proofs.Framing.{fed_all, fed_stopped}
 use Rattle.source_merge.proofs.Slots.{grown_own, sound_other, sound_front, sound_back, lawful_at}
+use Rattle.source_merge.proofs.ByParts.{StepTakenBy}
+use Rattle.source_merge.proofs.Filling.{Filled}
 use Rattle.source_merge.proofs.Steps.{taken_frame, IsAfter, after}
 
 -- of the machines nothing is said
@@ -122,7 +123,7 @@ module _ {V : Type 0} (a : List (Mapped V)) (one : Mapped V) (b : List (Mapped V
       list = tt;
     }
 
-    pub bare_more : StepTaken {M = Unit {0}} Nothing ss [] Bare u next (told (Some 1) (lifted more)) None
+    pub bare_more : StepTakenBy {M = Unit {0}} Nothing ss [] Bare u next (told (Some 1) (lifted more)) None
     bare_more =
         taken_frame {M = Unit {0}} Nothing ss law Bare u at byte rise refl sound run (frames_push u at byte) refl refl places []
         (told (Some 1) (lifted more)) None
@@ -131,7 +132,7 @@ module _ {V : Type 0} (a : List (Mapped V)) (one : Mapped V) (b : List (Mapped V
   pub bare_fault : (f : Fault) → f.at ≡ at →
       (one.stream (list_of one.id runs ++ byte_at at byte ∷ [])).given ≡ (one.stream (list_of one.id runs)).given ++ [] →
       (one.stream (list_of one.id runs ++ byte_at at byte ∷ [])).fault ≡ Some (place_and_reason f) →
-      StepTaken {M = Unit {0}} Nothing ss [] Bare u next [] (Some (record { fault = f; source = Some 1 }))
+      StepTakenBy {M = Unit {0}} Nothing ss [] Bare u next [] (Some (record { fault = f; source = Some 1 }))
   bare_fault f place grew fault =
       taken_frame {M = Unit {0}} Nothing ss law Bare u at byte rise refl sound run (frames_push u at byte) refl refl places [] []
       (Some (record { fault = f; source = Some 1 }))

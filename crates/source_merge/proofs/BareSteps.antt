@@ -18,10 +18,10 @@ use Rattle.source_events.proofs.Least.{AreSound}
 use Rattle.source_merge.specs.Bare.{stop_by}
 use Rattle.source_merge.specs.Feeding.{last_fault}
 use Rattle.source_merge.specs.Routing.{HasNot}
-use Rattle.source_merge.specs.Stepping.{StepTaken}
 use Rattle.source_merge.proofs.BareBytes.{Nothing, lists_push, bare_more, bare_fault, sound_after}
 use Rattle.source_merge.proofs.BareBlocks.{sound_front, same_first}
 use Rattle.source_merge.proofs.Slots.{lawful_at}
+use Rattle.source_merge.proofs.ByParts.{StepTakenBy}
 use Rattle.source_merge.proofs.Steps.{rise_push}
 
 module _ {V : Type 0} (a : List (Mapped V)) (one : Mapped V) (b : List (Mapped V)) (own : one.id ≡ 1)
@@ -38,7 +38,7 @@ module _ {V : Type 0} (a : List (Mapped V)) (one : Mapped V) (b : List (Mapped V
 
   -- the report grows by these events, and has this fault
   abbrev pub Adds : List (Event V) → Option Stop → List Placed → ℕ → ℕ → Type 0
-  Adds given stop v at byte = StepTaken {M = Unit {0}} Nothing all_sources [] Bare v (v ++ byte_at at byte ∷ []) given stop
+  Adds given stop v at byte = StepTakenBy {M = Unit {0}} Nothing all_sources [] Bare v (v ++ byte_at at byte ∷ []) given stop
 
   lawful_one : IsLawful one.stream
   lawful_one = (lawful_at a one b law).1

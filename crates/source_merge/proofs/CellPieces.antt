@@ -2,7 +2,7 @@
 use Rattle.std.proofs.Common.{◌≡◌, ℕ, zero, suc, ◌+◌, ◌-◌, ◌<◌, ◌≤◌, List, [], ◌∷◌, ◌++◌, length, take, drop, get_or, refl, sym, ◌∙◌, ap, subst, append_assoc, append-nil, arith, Option, None, Some, false}
 use Rattle.std.specs.Prelude.{is_none}
 use Rattle.std.specs.Option.{option_map}
-use Rattle.std.proofs.lemmas.List.{take-take, take-map, take_more, take_all, take-append-drop, length-take-le, length-drop, length-append, append_cancel_left}
+use Rattle.std.proofs.lemmas.List.{take-take, take-map, take_more, take-append-drop, length-take-le, length-append, append_cancel_left}
 use Rattle.trace_values.specs.declared.cell.Cell.{Cell}
 use Rattle.trace_values.specs.declared.fault.Fault.{Fault}
 use Rattle.trace_values.specs.declared.fault.Reason.{Reason}
@@ -17,8 +17,9 @@ use Rattle.source_events.specs.Report.{lifted}
 use Rattle.source_events.specs.Runs.{placed_run, bytes_of, last_at, RisesFrom}
 use Rattle.source_events.proofs.Family.{Within, run_more}
 use Rattle.source_events.proofs.Merges.{told_append, at_most_self}
-use Rattle.source_merge.specs.Feeding.{Feeds, IsFrom, TakesCells, last_fault, place_and_reason}
+use Rattle.source_merge.specs.Feeding.{IsFrom, TakesCells, last_fault, place_and_reason}
 use Rattle.source_merge.proofs.Packets.{front, last_parts, packet_parts}
+use Rattle.source_merge.proofs.ByParts.{FeedsBy}
 use Rattle.source_merge.proofs.RunSteps.{placed_more, lifted_append}
 
 -- cells at one offset after the other
@@ -60,12 +61,10 @@ last_push (x ∷ (y ∷ xs)) c = last_push (y ∷ xs) c
 module _ (run : List Cell) (done count : ℕ) (last : Cell) (some : 0 < count) (within : done + count ≤ length run)
     (is : last ≡ get_or run (done + count - 1) last) where
   abbrev pub next_cells : List Cell
-  next_cells = take count (take (length run - done) (drop done run))
+  next_cells = take count (drop done run)
 
   next_parts : next_cells ≡ front run done count last some within is ++ last ∷ []
-  next_parts =
-      ap (take count) (take_all (length run - done) (drop done run) (let k = length-drop done run in omega arith))
-      ∙ last_parts run done count last some within is
+  next_parts = last_parts run done count last some within is
 
   pub more_parts : take (done + count) run ≡ take done run ++ next_cells
   more_parts =
@@ -140,9 +139,9 @@ module _ {V : Type 0} (reading : List Placed → Stream V) (stands : List Placed
 -- more cells
 module _ {V : Type 0} (reading : List Placed → Stream V) (u : List Placed) (id : ℕ) where
   pub feeds_cells : (was now : List Placed → Type 0) (done cells : List Cell) (step : Option (Step V)) (fault : Option Fault)
-      (old mid new : List (Event V)) → Feeds reading was u done id old mid None →
+      (old mid new : List (Event V)) → FeedsBy reading was u done id old mid None →
       ((w : List Placed) → was w → TakesCells reading now w cells step) → fault ≡ last_fault step →
-      new ≡ mid ++ told (Some id) (lifted (given_after (last_at cells) step)) → Feeds reading now u (done ++ cells) id old new fault
+      new ≡ mid ++ told (Some id) (lifted (given_after (last_at cells) step)) → FeedsBy reading now u (done ++ cells) id old new fault
   feeds_cells was now done cells step fault old mid new f takes e n =
       let t = takes (u ++ placed_run done) (f.list refl) in
       let more = given_after (last_at cells) step in

@@ -9,12 +9,14 @@ use Rattle.source_merge.specs.declared.slot.Slot.{Slot}
 use Rattle.source_events.specs.Runs.{id_of, runs_of, run_length, RisesFrom, IsRunFrom, end_of, more_of}
 use Rattle.source_events.specs.Merge.{grown, merged_from, InOrder, cut, Below, From}
 use Rattle.source_events.specs.Report.{Mapped, AreLawful, events, least_fault, all_events, reported}
-use Rattle.source_merge.specs.Routing.{AllStand, RunsBetween, Stops, Took, Filled, Fed}
+use Rattle.source_merge.specs.Routing.{AllStand, RunsBetween, Stops, Fed}
 use Rattle.source_events.proofs.Least.{AreSound}
 use Rattle.source_events.specs.Report.{stop_of}
 use Rattle.source_events.proofs.Merges.{merged_append, cut_below, cut_behind, cut_append, below, below_append, below_weaker, from, from_weaker, between_end}
 use Rattle.source_events.proofs.Family.{adds}
 use Rattle.source_events.proofs.Running.{runs_cut, runs_in_order, end_within, rises_take, rises_behind}
+use Rattle.source_merge.proofs.ByParts.{TookBy}
+use Rattle.source_merge.proofs.Filling.{Filled}
 use Rattle.source_events.proofs.Least.{least_none}
 
 -- the first run, and what is behind it
@@ -45,9 +47,9 @@ between_push n k (d ∷ done) run b r = (b.0, between_push (end_of d) k done run
 
 -- the report is over the same sources
 pub took_as : {M V : Type 0} (stands : M → List Placed → Type 0) (old ss : List (Mapped V)) (slots : List (Slot M)) (runs : List (List Cell)) (n : ℕ) (run : List Cell) (mid new : List (Event V)) (o o' : Option Stop) → old ≡ ss → o ≡ o' →
-    Took stands old slots runs n run mid new o → Took stands ss slots runs n run mid new o'
+    TookBy stands old slots runs n run mid new o → TookBy stands ss slots runs n run mid new o'
 took_as {V = V} stands old ss slots runs n run mid new o o' e h t =
-    subst (λ (z : List (Mapped V)). Took stands z slots runs n run mid new o') e (subst (λ (z : Option Stop). Took stands old slots runs n run mid new z) h t)
+    subst (λ (z : List (Mapped V)). TookBy stands z slots runs n run mid new o') e (subst (λ (z : Option Stop). TookBy stands old slots runs n run mid new z) h t)
 
 pub rest_in_order : (cells : List Cell) (n : ℕ) → RisesFrom n cells → InOrder IsRunFrom end_of n (runs_of cells)
 rest_in_order cells n r = runs_in_order (length cells) n cells (let z : length cells ≤ length cells = omega arith in z) r
@@ -58,7 +60,7 @@ module _ {M V : Type 0} (stands : M → List Placed → Type 0) (ss : List (Mapp
 
   -- one more run
   pub filled_more : (was now : List (Slot M)) (done : List (List Cell)) (rest run more : List Cell) (mid new : List (Event V)) (f : Filled stands ss was runs n done rest mid) →
-      IsRunFrom f.at run → RisesFrom (end_of run) more → Took stands ss now (runs ++ done) f.at run mid new None → Filled stands ss now runs n (done ++ run ∷ []) more new
+      IsRunFrom f.at run → RisesFrom (end_of run) more → TookBy stands ss now (runs ++ done) f.at run mid new None → Filled stands ss now runs n (done ++ run ∷ []) more new
   filled_more was now done rest run more mid new f r s t = record {
     at = end_of run;
     between = between_push n f.at done run f.between r;
@@ -125,3 +127,18 @@ module _ {M V : Type 0} (stands : M → List Placed → Type 0) (ss : List (Mapp
 
     late : From (stop.fault.at + 1) (merged_from id_of (events ss) ((runs ++ done) ++ run ∷ []) more)
     late = from_weaker (end_of run) (stop.fault.at + 1) _ (let x = s.within in omega arith) (from IsRunFrom end_of end_within id_of (events ss) (adds ss law) more ((runs ++ done) ++ run ∷ []) (end_of run) i)
+
+-- a frame of one run
+module _ {M V : Type 0} (stands : M → List Placed → Type 0) (ss : List (Mapped V)) (runs : List (List Cell)) (n : ℕ) where
+  pub fed_one : (law : AreLawful ss) (was now : List (Slot M)) (run : List Cell) (old new : List (Event V)) (stop : Option Stop) →
+      old ≡ [] → AreSound ss runs → RunsBetween 0 n runs → RisesFrom n run → IsRunFrom n run → AllStand stands was runs →
+      TookBy stands ss now (runs ++ []) n run old new stop → (stop ≡ None → AreSound ss (runs ++ run ∷ [])) →
+      Fed stands ss now runs (run ∷ []) new stop
+  unfolding filled_none
+  fed_one law was now run old new None e good b r i a took sound =
+      let none : Filled stands ss was runs n [] run old = filled_none stands ss runs n was run old e r a in
+      fed_all stands ss runs n now (run ∷ []) [] new good
+      (filled_more stands ss runs n was now [] run run [] old new none i tt took) (sound refl)
+  fed_one law was now run old new (Some stop) e good b r i a took sound =
+      fed_stopped stands ss runs n law was now [] [] run run old new stop good b (filled_none stands ss runs n was run old e r a)
+      i tt took.given took.stops

@@ -37,8 +37,8 @@ use Rattle.source_merge.specs.Answering.{Answers, port_of, report_of, fault_of, 
 use Rattle.source_merge.specs.Counting.{HasBytes, HasItems, HasCounted}
 use Rattle.source_merge.specs.Engine.{Keeps}
 use Rattle.source_merge.specs.Routing.{mapped_of, AllLive, AllStand, AreDistinct}
-use Rattle.source_merge.specs.Stepping.{StepTaken}
 use Rattle.source_merge.proofs.Steps.{IsNothing, taken_none, rise_push}
+use Rattle.source_merge.proofs.ByParts.{StepTakenBy}
 use Rattle.source_merge.proofs.Taking.{lawful, sound}
 
 -- offsets of bytes that follow
@@ -121,7 +121,7 @@ module _ (plan : Plan) (slots : List (Slot SourceMachine)) (sources : mapped_of 
       frames : (port_of plan (u ++ byte_at at byte ∷ [])).frames ≡ (port_of plan u).frames ++ []
       frames = q.frames ∙ ap (λ (l : List (List Cell)). (port_of plan u).frames ++ l) n.0
 
-      taken : StepTaken Stands mapped slots plan.frames u (u ++ byte_at at byte ∷ []) [] None
+      taken : StepTakenBy Stands mapped slots plan.frames u (u ++ byte_at at byte ∷ []) [] None
       taken =
           taken_none Stands mapped law plan.frames u at byte rise (port_sound u e) (good u stand) slots [] refl frames (q.fault ∙ n.1)
           (port_grows {V = Packet} u at byte plan.frames step q.hunt
@@ -200,7 +200,7 @@ module _ (plan : Plan) (slots : List (Slot SourceMachine)) (sources : mapped_of 
   IsTaken now step cells at given stop =
       (mode : FramesMode) (u : List Placed) (byte : ℕ) → BytesRise 0 at u → PortAnswers mode step cells u at byte →
       (port_reading mode u).fault ≡ None → AreDistinct mapped → AllStand Stands slots (runs_in (port_reading mode u)) →
-      StepTaken Stands mapped now mode u (u ++ byte_at at byte ∷ []) given stop
+      StepTakenBy Stands mapped now mode u (u ++ byte_at at byte ∷ []) given stop
 
   abbrev pub IsCounted : Counters → Counters → PortStep → List Cell → ℕ → List (Event Packet) → Option Stop → Type 0
   IsCounted counters new step cells at given stop =
@@ -252,7 +252,7 @@ module _ (plan : Plan) (slots : List (Slot SourceMachine)) (sources : mapped_of 
     q : Quiets u at f.front
     q = all_inside f.front u at rise e k.stand f.quiet
 
-    t : StepTaken Stands mapped now plan.frames (u ++ placed_from at f.front) ((u ++ placed_from at f.front) ++ byte_at (at + length f.front) f.last ∷ []) given stop
+    t : StepTakenBy Stands mapped now plan.frames (u ++ placed_from at f.front) ((u ++ placed_from at f.front) ++ byte_at (at + length f.front) f.last ∷ []) given stop
     t =
         subst (λ (i : ℕ). IsTaken now step cells i given stop) here taken plan.frames (u ++ placed_from at f.front) f.last
         (rise_block u at f.front rise) f.ends (port_sound (u ++ placed_from at f.front) q.unchanged.none) d q.unchanged.stand

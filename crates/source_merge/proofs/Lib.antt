@@ -1,3 +1,7 @@
+pub mod Plainly
+pub mod DataCells
+pub mod Filling
+pub mod ByParts
 pub mod RunSteps
 pub mod Early
 pub mod Slots
@@ -22,3 +26,5 @@ pub mod BareGoing
 pub mod BareSlots
 pub mod Packets
 pub mod CellPieces
+pub mod Plain
+pub mod Halfwords

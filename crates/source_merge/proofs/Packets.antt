@@ -18,7 +18,7 @@ use Rattle.source_events.specs.Runs.{placed_run, bytes_of}
 use Rattle.source_events.specs.Merge.{told}
 use Rattle.source_events.specs.Report.{lifted}
 use Rattle.source_events.proofs.Merges.{told_append}
-use Rattle.source_merge.specs.Feeding.{Feeds}
+use Rattle.source_merge.proofs.ByParts.{FeedsBy}
 use Rattle.source_merge.proofs.RunSteps.{placed_more, lifted_append}
 
 -- the event of a packet of this source that ends with a cell
@@ -26,9 +26,9 @@ abbrev pub packet_event : {V : Type 0} → ℕ → Cell → V → Event V
 packet_event id last packet = record { at = last.at; half = 0; source = Some id; what = Packet packet }
 
 pub feeds_packet : {V : Type 0} (reading : List Placed → Stream V) (u : List Placed) (id : ℕ) (stands : List Placed → Type 0) (done front : List Cell) (last : Cell)
-    (packet : V) (old mid new : List (Event V)) → Feeds reading stands u done id old mid None →
+    (packet : V) (old mid new : List (Event V)) → FeedsBy reading stands u done id old mid None →
     ((w : List Placed) → stands w → Gives reading stands w (placed_run front) (byte_at last.at last.byte) packet) →
-    new ≡ mid ++ packet_event id last packet ∷ [] → Feeds reading stands u (done ++ (front ++ last ∷ [])) id old new None
+    new ≡ mid ++ packet_event id last packet ∷ [] → FeedsBy reading stands u (done ++ (front ++ last ∷ [])) id old new None
 feeds_packet {V} reading u id stands done front last packet old mid new f gives n =
     let more : List (Said V × Place) = (Kept packet, record { at = last.at; half = 0 }) ∷ [] in
     let g = gives (u ++ placed_run done) (f.list refl) in
@@ -46,9 +46,9 @@ feeds_packet {V} reading u id stands done front last packet old mid new f gives 
 
 -- cells of which the last one ends a packet, if it ends one
 pub feeds_cut : {V : Type 0} (reading : List Placed → Stream V) (u : List Placed) (id : ℕ) (was now : List Placed → Type 0) (done front : List Cell) (last : Cell)
-    (packet : Option V) (old mid new : List (Event V)) → Feeds reading was u done id old mid None →
+    (packet : Option V) (old mid new : List (Event V)) → FeedsBy reading was u done id old mid None →
     ((w : List Placed) → was w → Cuts reading now w (placed_run front) (byte_at last.at last.byte) packet) →
-    new ≡ mid ++ told (Some id) (lifted (kept_at (record { at = last.at; half = 0 }) packet)) → Feeds reading now u (done ++ (front ++ last ∷ [])) id old new None
+    new ≡ mid ++ told (Some id) (lifted (kept_at (record { at = last.at; half = 0 }) packet)) → FeedsBy reading now u (done ++ (front ++ last ∷ [])) id old new None
 feeds_cut {V} reading u id was now done front last packet old mid new f cuts n =
     let more : List (Said V × Place) = kept_at (record { at = last.at; half = 0 }) packet in
     let g = cuts (u ++ placed_run done) (f.list refl) in

@@ -14,7 +14,8 @@ use Rattle.source_events.specs.declared.event.Event.{Event}
 use Rattle.source_events.specs.Runs.{placed_run}
 use Rattle.source_events.specs.Merge.{told}
 use Rattle.source_events.specs.Report.{what_of, lifted}
-use Rattle.source_merge.specs.Feeding.{step_fault, place_and_reason, Feeds}
+use Rattle.source_merge.specs.Feeding.{step_fault, place_and_reason}
+use Rattle.source_merge.proofs.ByParts.{FeedsBy}
 use Rattle.source_events.proofs.Merges.{told_append}
 
 pub none_of : {A : Type 0} → (x : Option A) → true ≡ is_none x → x ≡ None
@@ -48,7 +49,7 @@ pub grown_as : {V : Type 0} → (now reading : List Placed → Stream V) → now
 grown_as now reading e w c step h = subst (λ f. Grows (f w) (f (w ++ byte_at c.at c.byte ∷ [])) c.at step) e h
 
 module _ {V : Type 0} (reading : List Placed → Stream V) (u : List Placed) (id : ℕ) where
-  pub feeds_none : (stands : List Placed → Type 0) (old : List (Event V)) → stands u → (reading u).fault ≡ None → Feeds reading stands u [] id old old None
+  pub feeds_none : (stands : List Placed → Type 0) (old : List (Event V)) → stands u → (reading u).fault ≡ None → FeedsBy reading stands u [] id old old None
   feeds_none stands old s f = record {
     given = [];
     events = sym (append-nil old);
@@ -58,10 +59,10 @@ module _ {V : Type 0} (reading : List Placed → Stream V) (u : List Placed) (id
   }
 
   -- one more cell
-  pub feeds_more : (was now : List Placed → Type 0) (done : List Cell) (c : Cell) (step : Step V) (fault : Option Fault) (old mid new : List (Event V)) → Feeds reading was u done id old mid None →
+  pub feeds_more : (was now : List Placed → Type 0) (done : List Cell) (c : Cell) (step : Step V) (fault : Option Fault) (old mid new : List (Event V)) → FeedsBy reading was u done id old mid None →
       ((w : List Placed) → was w → now (w ++ byte_at c.at c.byte ∷ [])) →
       ((w : List Placed) → was w → Grows (reading w) (reading (w ++ byte_at c.at c.byte ∷ [])) c.at step) →
-      fault ≡ step_fault step → new ≡ mid ++ told (Some id) (lifted (given_by c.at step)) → Feeds reading now u (done ++ c ∷ []) id old new fault
+      fault ≡ step_fault step → new ≡ mid ++ told (Some id) (lifted (given_by c.at step)) → FeedsBy reading now u (done ++ c ∷ []) id old new fault
   feeds_more was now done c step fault old mid new f list grows e n =
       let here = f.list refl in
       let g = grows (u ++ placed_run done) here in
@@ -79,8 +80,8 @@ module _ {V : Type 0} (reading : List Placed → Stream V) (u : List Placed) (id
 
   -- behind a fault the rest of the run gives nothing
   pub feeds_stopped : (settle : (v w : List Placed) → is_none (reading v).fault ≡ false → Settled (reading v) (reading (v ++ w))) →
-      (stands : List Placed → Type 0) (done rest : List Cell) (fault : Fault) (old new : List (Event V)) → Feeds reading stands u done id old new (Some fault) →
-      Feeds reading stands u (done ++ rest) id old new (Some fault)
+      (stands : List Placed → Type 0) (done rest : List Cell) (fault : Fault) (old new : List (Event V)) → FeedsBy reading stands u done id old new (Some fault) →
+      FeedsBy reading stands u (done ++ rest) id old new (Some fault)
   feeds_stopped settle stands done rest fault old new f =
       let all : (u ++ placed_run done) ++ placed_run rest ≡ u ++ placed_run (done ++ rest) =
       append_assoc u (placed_run done) (placed_run rest) ∙ ap (λ (l : List Placed). u ++ l) (sym (placed_more done rest)) in

@@ -33,7 +33,7 @@ use Rattle.source_events.proofs.Placing.{frames_between, rises_from}
 use Rattle.source_events.proofs.Running.{end_within}
 use Rattle.source_merge.specs.declared.slot.Slot.{Slot}
 use Rattle.source_merge.specs.Routing.{AllStand, RunsBetween, Fed}
-use Rattle.source_merge.specs.Stepping.{StepTaken}
+use Rattle.source_merge.proofs.ByParts.{StepTakenBy}
 use Rattle.source_merge.proofs.Framing.{rest_in_order}
 
 abbrev Found : Type 0
@@ -130,7 +130,7 @@ module _ {M V : Type 0} (stands : M → List Placed → Type 0) (ss : List (Mapp
     pub taken_frame : (cells : List Cell) → (e : new.frames ≡ old.frames ++ cells ∷ []) → new.fault ≡ None →
         port_events {V = V} mode next ≡ port_events mode u → (a : IsAfter cells) → (slots : List (Slot M))
         (given : List (Event V)) (stop : Option Stop) → Fed stands ss slots (runs_in old) (runs_of cells) given stop →
-        StepTaken stands ss slots mode u next given stop
+        StepTakenBy stands ss slots mode u next given stop
     taken_frame cells e f p a slots given stop fed = record {
       grew =
           ap (λ (o : Found). cut o (capture_events ss mode next)) stop_new
@@ -170,7 +170,7 @@ module _ {M V : Type 0} (stands : M → List Placed → Type 0) (ss : List (Mapp
 
     pub taken_none : (slots : List (Slot M)) (given : List (Event V)) → given ≡ [] → new.frames ≡ old.frames ++ [] →
         new.fault ≡ None → port_events {V = V} mode next ≡ port_events mode u ++ [] → AllStand stands slots (runs_in old) →
-        StepTaken stands ss slots mode u next given None
+        StepTakenBy stands ss slots mode u next given None
     taken_none slots given g e f p s = record {
       grew =
           report_whole mode next f (sound_new e)
@@ -191,7 +191,7 @@ module _ {M V : Type 0} (stands : M → List Placed → Type 0) (ss : List (Mapp
     pub taken_lock : (slots : List (Slot M)) (n : ℕ) (given : List (Event V)) → given ≡ told None (notice_by at (Locked n)) →
         old.locked ≡ false → new.frames ≡ old.frames ++ [] → new.fault ≡ None →
         port_events {V = V} mode next ≡ port_events mode u ++ notice_by at (Locked n) → AllStand stands slots (runs_in old) →
-        StepTaken stands ss slots mode u next given None
+        StepTakenBy stands ss slots mode u next given None
     taken_lock slots n given g l e f p s = record {
       grew =
           report_whole mode next f (sound_new e)
@@ -224,7 +224,7 @@ module _ {M V : Type 0} (stands : M → List Placed → Type 0) (ss : List (Mapp
     pub taken_fault : (slots : List (Slot M)) (x : Fault) (given : List (Event V)) → given ≡ [] →
         x.at ≡ at → new.frames ≡ old.frames ++ [] → new.fault ≡ Some (record { at = x.at; half = x.half }, x.reason) →
         port_events {V = V} mode next ≡ port_events mode u ++ [] →
-        StepTaken stands ss slots mode u next given (Some (record { fault = x; source = None }))
+        StepTakenBy stands ss slots mode u next given (Some (record { fault = x; source = None }))
     taken_fault slots x given g i e f p = record {
       grew =
           ap (λ (o : Found). cut o (capture_events ss mode next)) is

@@ -13,13 +13,14 @@ use Rattle.source_merge.specs.declared.slot.Slot.{Slot}
 use Rattle.source_events.specs.Runs.{id_of, placed_run, RisesFrom, IsRunFrom, end_of, list_of}
 use Rattle.source_events.specs.Merge.{told, grown, start_of, Below}
 use Rattle.source_events.specs.Report.{Mapped, IsLawful, AreLawful, lifted, raw_events, events, least_fault}
-use Rattle.source_merge.specs.Feeding.{place_and_reason, Feeds, IsEarly}
-use Rattle.source_merge.specs.Routing.{mapped_of, AllLive, AllStand, HaveRoom, HasNot, AreDistinct, SlotFed, Stops, StopsBy, Took}
+use Rattle.source_merge.specs.Feeding.{place_and_reason, IsEarly}
+use Rattle.source_merge.specs.Routing.{mapped_of, AllLive, AllStand, HaveRoom, HasNot, AreDistinct, Stops, StopsBy}
 use Rattle.source_events.proofs.Least.{AreSound}
 use Rattle.source_events.proofs.Merges.{test_same, below_told}
 use Rattle.source_events.proofs.Family.{all_lifted, list_own, within_run, run_fault}
 use Rattle.source_events.proofs.Least.{least_at}
 use Rattle.source_merge.proofs.RunSteps.{none_of}
+use Rattle.source_merge.proofs.ByParts.{FeedsBy, SlotFedBy, TookBy}
 use Rattle.source_merge.proofs.Slots.{grown_own, grown_raw, grown_none, not_before, not_behind, sound_other, sound_front, sound_back, lawful_at, stand_other, stand_none, stand_split, stand_join, mapped_parts, live_join, room_join}
 
 pub id_is : (run : List Cell) (d : Cell) → 0 < length run → (get_or run 0 d).id ≡ id_of run
@@ -50,7 +51,7 @@ module _ {M V : Type 0} (reading : M → List Placed → Stream V) (stands : M �
   sound (s ∷ slots) runs l a = (none_of (reading s.machine (list_of s.id runs)).fault (sym l.0 ∙ (shows s.machine (list_of s.id runs) a.0).live_is), sound slots runs l.1 a.1)
 
   pub took_none : (slots : List (Slot M)) (runs : List (List Cell)) (n : ℕ) (run : List Cell) (old : List (Event V)) → id_of run ≡ None → AllStand stands slots runs →
-      Took stands (mapped_of reading slots) slots runs n run old old None
+      TookBy stands (mapped_of reading slots) slots runs n run old old None
   took_none slots runs n run old e a = record {
     given = sym (append-nil old) ∙ ap (λ l. old ++ l) (sym (grown_none (mapped_of reading slots) runs run e));
     list = λ k. stand_none reading stands slots runs run e a;
@@ -58,7 +59,7 @@ module _ {M V : Type 0} (reading : M → List Placed → Stream V) (stands : M �
   }
 
   pub took_raw : (slots : List (Slot M)) (runs : List (List Cell)) (n : ℕ) (run : List Cell) (x : ℕ) (old new : List (Event V)) → HasNot x (mapped_of reading slots) → id_of run ≡ Some x →
-      new ≡ old ++ told (Some x) (raw_events x run) → AllStand stands slots runs → Took stands (mapped_of reading slots) slots runs n run old new None
+      new ≡ old ++ told (Some x) (raw_events x run) → AllStand stands slots runs → TookBy stands (mapped_of reading slots) slots runs n run old new None
   took_raw slots runs n run x old new h e g a = record {
     given = g ∙ ap (λ l. old ++ l) (sym (grown_raw (mapped_of reading slots) runs run x h e));
     list = λ k. stand_other reading stands slots runs run x h e a;
@@ -67,7 +68,7 @@ module _ {M V : Type 0} (reading : M → List Placed → Stream V) (stands : M �
 
   -- the slots after a run of one of them
   module _ (front : List (Slot M)) (s : Slot M) (back slots now : List (Slot M)) (parts : slots ≡ front ++ (s ∷ back)) (run : List Cell) (x : ℕ) (old new : List (Event V)) (fault : Option Fault)
-      (fed : SlotFed reading stands live held skipped front s back now run x old new fault) where
+      (fed : SlotFedBy reading stands live held skipped front s back now run x old new fault) where
     same_one : (let a : Mapped V = record { id = fed.slot.id; stream = reading fed.slot.machine } in let b : Mapped V = record { id = s.id; stream = reading s.machine } in a ≡ b)
     same_one = (let i : fed.slot.id ≡ s.id = fed.id_is in let r : reading fed.slot.machine ≡ reading s.machine = fed.same in cc)
 
@@ -87,7 +88,7 @@ module _ {M V : Type 0} (reading : M → List Placed → Stream V) (stands : M �
         (room_join held skipped n (2 * length run) front s fed.slot back (subst (λ (z : List (Slot M)). HaveRoom held skipped n z) parts r) fed.few)
 
     pub took_own : (runs : List (List Cell)) (n : ℕ) (o : Option Stop) → o ≡ option_map (λ f. record { fault = f; source = Some x }) fault → id_of run ≡ Some x → x ≡ s.id → AllLive live slots → AreDistinct (mapped_of reading slots) →
-        AllStand stands slots runs → IsRunFrom n run → Took stands (mapped_of reading slots) now runs n run old new o
+        AllStand stands slots runs → IsRunFrom n run → TookBy stands (mapped_of reading slots) now runs n run old new o
     took_own runs n o oe e same l d a r = by fault refl where
       one : Mapped V
       one = record { id = s.id; stream = reading s.machine }
@@ -113,7 +114,7 @@ module _ {M V : Type 0} (reading : M → List Placed → Stream V) (stands : M �
       st : AllStand stands front runs × stands s.machine (list_of s.id runs) × AllStand stands back runs
       st = stand_split reading stands front s back runs (subst (λ (z : List (Slot M)). AllStand stands z runs) parts a)
 
-      feeds : Feeds (reading s.machine) (stands fed.slot.machine) (list_of s.id runs) run x old new fault
+      feeds : FeedsBy (reading s.machine) (stands fed.slot.machine) (list_of s.id runs) run x old new fault
       feeds = fed.feeds (list_of s.id runs) st.1
 
       grows : grown (events (mapped_of reading slots)) runs run (id_of run) ≡ told (Some s.id) (lifted feeds.given)
@@ -153,7 +154,7 @@ module _ {M V : Type 0} (reading : M → List Placed → Stream V) (stands : M �
                 ∙ ap (λ (i' : ℕ). Some ((place_and_reason f).0, (f.reason, Some i'))) (sym same);
           }
 
-      by : (f : Option Fault) → fault ≡ f → Took stands (mapped_of reading slots) now runs n run old new o
+      by : (f : Option Fault) → fault ≡ f → TookBy stands (mapped_of reading slots) now runs n run old new o
       by None fe = record {
         given = feeds.events ∙ ap (λ (i : ℕ). old ++ told (Some i) (lifted feeds.given)) same ∙ ap (λ z. old ++ z) (sym grows);
         list = λ k. stand_on fe;

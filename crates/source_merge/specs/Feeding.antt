@@ -28,14 +28,22 @@ last_fault (Some step) = step_fault step
 abbrev pub place_and_reason : Fault → Place × Reason
 place_and_reason f = (record { at = f.at; half = f.half }, f.reason)
 
+-- A run that was fed to the machine of this source: the events before and after it, and the fault that was told.
+pub record RunFed (V : Type 0) : Type 0 where
+  pub run : List Cell
+  pub source : ℕ
+  pub before : List (Event V)
+  pub after : List (Event V)
+  pub fault : Option Fault
+
 -- After u a machine took a run. Its reading grew by what was given as events of this source, and has this fault.
 pub record Feeds {V : Type 0} (reading : List Placed → Stream V) (stands : List Placed → Type 0) (u : List Placed)
-    (run : List Cell) (id : ℕ) (old new : List (Event V)) (fault : Option Fault) : Type 0 where
+    (fed : RunFed V) : Type 0 where
   pub given : List (Said V × Place)
-  pub events : new ≡ old ++ told (Some id) (lifted given)
-  pub grew : (reading (u ++ placed_run run)).given ≡ (reading u).given ++ given
-  pub fault_is : (reading (u ++ placed_run run)).fault ≡ option_map place_and_reason fault
-  pub list : fault ≡ None → stands (u ++ placed_run run)
+  pub events : fed.after ≡ fed.before ++ told (Some fed.source) (lifted given)
+  pub grew : (reading (u ++ placed_run fed.run)).given ≡ (reading u).given ++ given
+  pub fault_is : (reading (u ++ placed_run fed.run)).fault ≡ option_map place_and_reason fed.fault
+  pub list : fed.fault ≡ None → stands (u ++ placed_run fed.run)
 
 -- what was given before a fault is before it
 abbrev pub IsEarly : {V : Type 0} → (List Placed → Stream V) → (List Placed → Type 0) → List Cell →

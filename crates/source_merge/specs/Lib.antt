@@ -1,5 +1,9 @@
 pub mod Feeding
+pub mod Data
+pub mod Run
+pub mod Frame
 pub mod Routing
+pub mod Machines
 pub mod RoutingLaws
 pub mod Mapping
 pub mod Counting

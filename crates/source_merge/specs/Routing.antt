@@ -3,16 +3,15 @@ use Rattle.std.specs.Prelude.{◌≡◌, ◌≢◌, ℕ, ◌+◌, ◌*◌, ◌<�
 use Rattle.std.specs.Prelude.{Bool, true, false, Option, None, Some, is_none}
 use Rattle.std.specs.Option.{option_map}
 use Rattle.trace_values.specs.declared.cell.Cell.{Cell}
-use Rattle.trace_values.specs.declared.fault.Fault.{Fault}
 use Rattle.trace_values.specs.Placed.{Placed}
 use Rattle.trace_values.specs.Stream.{Stream}
 use Rattle.source_events.specs.declared.event.Event.{Event}
 use Rattle.source_events.specs.declared.event.Stop.{Stop}
-use Rattle.source_events.specs.Runs.{RisesFrom, IsRunFrom, end_of, list_of, id_of}
-use Rattle.source_events.specs.Merge.{grown, merged_from, InOrder, Between, Below}
+use Rattle.source_events.specs.Runs.{IsRunFrom, end_of, list_of, id_of}
+use Rattle.source_events.specs.Merge.{grown, InOrder, Between, Below}
 use Rattle.source_events.specs.Report.{Mapped, events, reported, least_fault, stop_of}
 use Rattle.source_merge.specs.declared.slot.Slot.{Slot}
-use Rattle.source_merge.specs.Feeding.{Feeds, IsEarly}
+use Rattle.source_merge.specs.Feeding.{Feeds, RunFed, IsEarly}
 
 -- the mapped sources of these machines
 abbrev pub mapped_of : {M V : Type 0} → (M → List Placed → Stream V) → List (Slot M) → List (Mapped V)
@@ -43,19 +42,34 @@ AreDistinct (s ∷ ss) = HasNot s.id ss × AreDistinct ss
 abbrev pub RunsBetween : ℕ → ℕ → List (List Cell) → Type 0
 RunsBetween n k runs = Between IsRunFrom end_of n k runs
 
--- The machine of one slot took a run: the slots before and after it are as before.
-pub record SlotFed {M V : Type 0} (reading : M → List Placed → Stream V) (stands : M → List Placed → Type 0)
-    (live : M → Bool) (held skipped : M → ℕ) (front : List (Slot M)) (s : Slot M) (back : List (Slot M))
-    (slots : List (Slot M)) (run : List Cell) (id : ℕ) (old new : List (Event V)) (fault : Option Fault) : Type 0 where
+-- What a kind of machine reads a list as, and which lists it stands for; whether it is live, and how many units it
+-- holds and has skipped.
+pub record MachineKind (M V : Type 0) : Type 1 where
+  pub reading : M → List Placed → Stream V
+  pub stands : M → List Placed → Type 0
+  pub live : M → Bool
+  pub held : M → ℕ
+  pub skipped : M → ℕ
+
+-- one of the slots, and those before and after it
+pub record SlotPlace (M : Type 0) : Type 0 where
+  pub front : List (Slot M)
   pub slot : Slot M
-  pub parts : slots ≡ front ++ (slot ∷ back)
-  pub id_is : slot.id ≡ s.id
-  pub same : reading slot.machine ≡ reading s.machine
-  pub live_is : live slot.machine ≡ is_none fault
-  pub few : held slot.machine + skipped slot.machine ≤ held s.machine + skipped s.machine + 2 * length run
-  pub feeds : (u : List Placed) → stands s.machine u →
-      Feeds (reading s.machine) (stands slot.machine) u run id old new fault
-  pub early : IsEarly (reading s.machine) (stands s.machine) run fault
+  pub back : List (Slot M)
+
+-- The machine of one slot took a run: the slots before and after it are as before.
+pub record SlotFed {M V : Type 0} (kind : MachineKind M V) (old : SlotPlace M) (slots : List (Slot M))
+    (fed : RunFed V) : Type 0 where
+  pub slot : Slot M
+  pub parts : slots ≡ old.front ++ (slot ∷ old.back)
+  pub id_is : slot.id ≡ old.slot.id
+  pub same : kind.reading slot.machine ≡ kind.reading old.slot.machine
+  pub live_is : kind.live slot.machine ≡ is_none fed.fault
+  pub few : kind.held slot.machine + kind.skipped slot.machine ≤
+      kind.held old.slot.machine + kind.skipped old.slot.machine + 2 * length fed.run
+  pub feeds : (u : List Placed) → kind.stands old.slot.machine u →
+      Feeds (kind.reading old.slot.machine) (kind.stands slot.machine) u fed
+  pub early : IsEarly (kind.reading old.slot.machine) (kind.stands old.slot.machine) fed.run fed.fault
 
 -- After these runs one more stops the report with its fault, whatever follows.
 pub record Stops {V : Type 0} (mapped : List (Mapped V)) (runs : List (List Cell)) (n : ℕ) (run : List Cell)
@@ -70,21 +84,19 @@ abbrev pub StopsBy : {V : Type 0} → List (Mapped V) → List (List Cell) → �
 StopsBy mapped runs n run None = Unit {0}
 StopsBy mapped runs n run (Some stop) = Stops mapped runs n run stop
 
+-- A run that was taken: the events before and after it, and the fault with which it stops the report.
+pub record RunTaken (V : Type 0) : Type 0 where
+  pub run : List Cell
+  pub before : List (Event V)
+  pub after : List (Event V)
+  pub stop : Option Stop
+
 -- After these runs, all below n, one more was taken.
 pub record Took {M V : Type 0} (stands : M → List Placed → Type 0) (mapped : List (Mapped V)) (slots : List (Slot M))
-    (runs : List (List Cell)) (n : ℕ) (run : List Cell) (old new : List (Event V)) (stop : Option Stop) : Type 0 where
-  pub given : new ≡ old ++ grown (events mapped) runs run (id_of run)
-  pub list : stop ≡ None → AllStand stands slots (runs ++ run ∷ [])
-  pub stops : StopsBy mapped runs n run stop
-
--- After these runs, all below n, some more were taken, and none had a fault; the rest of the cells come after them.
-pub record Filled {M V : Type 0} (stands : M → List Placed → Type 0) (mapped : List (Mapped V)) (slots : List (Slot M))
-    (runs : List (List Cell)) (n : ℕ) (done : List (List Cell)) (rest : List Cell) (given : List (Event V)) : Type 0 where
-  pub at : ℕ
-  pub between : RunsBetween n at done
-  pub rises : RisesFrom at rest
-  pub given_is : given ≡ merged_from id_of (events mapped) runs done
-  pub list : AllStand stands slots (runs ++ done)
+    (runs : List (List Cell)) (n : ℕ) (taken : RunTaken V) : Type 0 where
+  pub given : taken.after ≡ taken.before ++ grown (events mapped) runs taken.run (id_of taken.run)
+  pub list : taken.stop ≡ None → AllStand stands slots (runs ++ taken.run ∷ [])
+  pub stops : StopsBy mapped runs n taken.run taken.stop
 
 -- After these runs some more were taken: what was given is what they add to the report, and the fault is its fault.
 pub record Fed {M V : Type 0} (stands : M → List Placed → Type 0) (mapped : List (Mapped V)) (slots : List (Slot M))

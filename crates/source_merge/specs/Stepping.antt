@@ -10,9 +10,17 @@ use Rattle.source_events.specs.Report.{Mapped, report, runs_in, stop_in, stop_of
 use Rattle.source_merge.specs.declared.slot.Slot.{Slot}
 use Rattle.source_merge.specs.Routing.{AllStand}
 
--- With one more byte, which makes `next` of u, the report grew by what was given, and this is its fault.
+-- A step of the port: the bytes before it and those with it, the events that were given, and the fault with which the
+-- report stops.
+pub record StepGiven (V : Type 0) : Type 0 where
+  pub before : List Placed
+  pub after : List Placed
+  pub given : List (Event V)
+  pub stop : Option Stop
+
+-- With the step's byte the report grew by what was given, and this is its fault.
 pub record StepTaken {M V : Type 0} (stands : M → List Placed → Type 0) (ss : List (Mapped V)) (slots : List (Slot M))
-    (mode : FramesMode) (u next : List Placed) (given : List (Event V)) (stop : Option Stop) : Type 0 where
-  pub grew : report ss mode next ≡ report ss mode u ++ given
-  pub stop_is : stop_in ss (port_reading mode next) ≡ option_map stop_of stop
-  pub list : stop ≡ None → AllStand stands slots (runs_in (port_reading mode next))
+    (mode : FramesMode) (step : StepGiven V) : Type 0 where
+  pub grew : report ss mode step.after ≡ report ss mode step.before ++ step.given
+  pub stop_is : stop_in ss (port_reading mode step.after) ≡ option_map stop_of step.stop
+  pub list : step.stop ≡ None → AllStand stands slots (runs_in (port_reading mode step.after))

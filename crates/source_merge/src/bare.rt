@@ -1,5 +1,7 @@
 //! A capture with no formatter, whose bytes are those of source 1.
 
+ghost use Rattle.trace_values.specs.declared.limits.TheConstants.{PART_ROOM};
+ghost use Rattle.source_merge.specs.declared.run.TheConstants.{FAR};
 ghost use Rattle.std.specs.Prelude.{◌≡◌, ◌+◌, ◌*◌, ◌^◌, ◌<◌, ◌≤◌, ◌++◌, ◌∷◌, [], ℕ, List, length, Some, IfSome};
 ghost use Rattle.arrayvec.specs.ArrayVec.{array_vec_len};
 ghost use Rattle.trace_values.specs.Block.{StopsFor, goes_on_after};
@@ -39,9 +41,9 @@ pub fn feed_slot_piece(
 ) -> Block<Packet>
     requires index { index < length slots.old }
     requires live { AllLive is_live slots.old }
-    requires room { HaveRoom held_of skipped_by (2 ^ 59) slots.old }
+    requires room { HaveRoom held_of skipped_by PART_ROOM slots.old }
     requires some { 0 < length piece.now }
-    requires offsets { at + length piece.now ≤ 2 ^ 58 }
+    requires offsets { at + length piece.now ≤ FAR }
     ensures bytes { (0 < result.bytes) × (result.bytes ≤ length piece.now) }
     ensures stops { StopsFor result.bytes (length piece.now) result.step }
     ensures fed { (front : List (Slot SourceMachine)) (s : Slot SourceMachine) (back : List (Slot SourceMachine)) →
@@ -98,8 +100,8 @@ pub fn finish_slot_stp(
 ) -> PacketTaken
     requires index { index < length slots.old }
     requires live { AllLive is_live slots.old }
-    requires room { HaveRoom held_of skipped_by (2 ^ 59) slots.old }
-    requires offsets { at + length piece.now ≤ 2 ^ 58 }
+    requires room { HaveRoom held_of skipped_by PART_ROOM slots.old }
+    requires offsets { at + length piece.now ≤ FAR }
     requires next { (front : List (Slot SourceMachine)) (s : Slot SourceMachine) (back : List (Slot SourceMachine)) →
         slots.old ≡ front ++ (s ∷ back) → length front ≡ index → FinishesStp s.machine piece.now parts }
     ensures bytes { (0 < result.bytes) × (result.bytes ≤ length piece.now) }

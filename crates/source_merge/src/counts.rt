@@ -147,6 +147,8 @@ impl ByteCounts {
     ghost use Rattle.trace_values.specs.Placed.{Placed};
     ghost use Rattle.capture_plan.specs.declared.frames.FramesMode.TheVariants.{Bare};
     ghost use Rattle.port_reader.specs.Reading.{port_reading};
+    ghost use Rattle.std.specs.Prelude.{Some};
+    ghost use Rattle.source_events.specs.Runs.{id_of};
     ghost use Rattle.source_events.specs.Report.{runs_in};
     ghost use Rattle.source_counts.specs.Counts.{bytes_of, unattributed_of};
     ghost use Rattle.source_merge.specs.Counting.{HasBytes, bytes_counted, bytes_in, unattributed_in};
@@ -176,6 +178,18 @@ impl ByteCounts {
             Some(id) => self.sources.add(id, bytes),
             None => self.unattributed += bytes,
         }
+    }
+
+    /// Counts this many bytes of a source: those of one run.
+    #[inline(always)]
+    pub fn add_source(&mut self, id: SourceId, bytes: u64)
+        requires some { 0 < bytes }
+        requires room { bytes_counted self.old + bytes ≤ COUNT_ROOM }
+        ensures counted { (whole runs : List (List Cell)) (run : List Cell) → id_of run ≡ Some id → length run ≡ bytes →
+            HasBytes self.old whole runs → HasBytes self.new whole (runs ++ run ∷ []) }
+        ensures more { bytes_counted self.new ≡ bytes_counted self.old + bytes }
+    {
+        self.sources.add(id, bytes);
     }
 
     /// Counts this many bytes of a capture with no formatter: those of source 1.

@@ -3,6 +3,7 @@
 ghost use Rattle.std.specs.Prelude.{◌≡◌, ◌+◌, ◌*◌, ◌^◌, ◌≤◌, true};
 ghost use Rattle.port_reader.specs.Reader.{is_live as is_port_live, skipped_by as skipped_by_port, tail_of};
 ghost use Rattle.source_events.specs.Plan.{is_sound};
+ghost use Rattle.source_events.specs.declared.tails.TheConstants.{GREATEST_COUNT};
 ghost use Rattle.source_machine.specs.Machine.{held_of, is_live as is_machine_live, skipped_by};
 ghost use Rattle.source_merge.specs.declared.engine.TheConstants.{GREATEST_OFFSET};
 ghost use Rattle.source_merge.specs.Counting.{size_of, whole_of};
@@ -15,16 +16,18 @@ use crate::bare::{
 };
 use crate::counts::Counters;
 use crate::flow::{Fed, Flow, flow_of};
+use crate::frame::AnyFrame;
 use crate::mapped::{Slots, slots_of};
+use crate::placed::place_frame;
 use crate::router::find;
 use crate::slot::Events;
-use crate::step::take_step;
+use crate::step::{take_step, take_whole};
 use crate::tails::source_tails;
 use arrayvec::ArrayVec;
 use capture_plan::FramesMode;
-use frame_grammar::frame::{FRAME_BYTES, cells_of};
+use frame_grammar::frame::FRAME_BYTES;
 use frame_grammar::gather::gather_frame;
-use frame_grammar::placed::{PlacedFrame, gather_frame_at};
+use frame_grammar::placed::PlacedFrame;
 use frame_grammar::plain::plain_frame;
 use port_reader::{PortReader, PortStep};
 use source_counts::Counts;
@@ -276,7 +279,9 @@ impl Engine {
             &mut self.counters,
             at + (taken.bytes as u64 - 1),
             taken.step,
-            self.cells.as_slice(),
+            &AnyFrame {
+                cells: self.cells.as_slice(),
+            },
             out,
         );
         self.count += taken.bytes as u64;
@@ -288,8 +293,8 @@ impl Engine {
         }
     }
 
-    /// Takes bytes from the front of a piece as `feed_step` does, and a whole frame with half synchronisations between
-    /// its halfwords at once.
+    /// Takes bytes from the front of a piece as `feed_step` does, and a whole frame at once, with half synchronisations
+    /// between its halfwords or without.
     fn feed_framed(&mut self, at: u64, piece: &[u8], out: &mut Events) -> Fed
         requires live { is_live self.old ≡ true }
         requires empty { out.old.items ≡ [] }
@@ -307,9 +312,8 @@ impl Engine {
             FedAs (Answers (plan_of self.old) [] Going) (Answers (plan_of self.old) out.new.items result.flow)
             u at (take result.bytes piece.now) }
     {
-        // The port itself takes a frame with no half synchronisation at once.
-        if self.port.is_between() && plain_frame(piece).is_none() {
-            if let Some(frame) = gather_frame_at(at, piece) {
+        if self.port.is_between() {
+            if let Some(frame) = place_frame(at, piece) {
                 let flow = self.feed_gathered(at, &frame, out);
                 return Fed {
                     bytes: frame.size(),
@@ -337,28 +341,22 @@ impl Engine {
         ensures fed { (u : List Placed) (w : List ℕ) → Stands self.old u → IsGathered at w frame.now →
             FedAs (Answers (plan_of self.old) [] Going) (Answers (plan_of self.old) out.new.items result) u at w }
     {
-        self.cells.clear();
-        let after = cells_of(
-            &frame.bytes,
-            &frame.offsets,
-            self.port.id(),
-            &mut self.cells,
-        );
-        self.port.pass_frame(after);
         self.counters.port.halves += frame.halves as u64;
         let bytes = frame.size() as u64;
-        let stop = take_step(
+        let taken = take_whole(
             self.slots.as_mut_slice(),
             &mut self.counters,
             at + (bytes - 1),
-            PortStep::Frame,
-            self.cells.as_slice(),
+            self.port.id(),
+            frame,
+            &mut self.cells,
             out,
         );
+        self.port.pass_frame(taken.after);
         self.count += bytes;
         self.next = at + bytes;
-        self.live = stop.is_none();
-        flow_of(stop)
+        self.live = taken.stop.is_none();
+        flow_of(taken.stop)
     }
 
     /// The packet of source 1 that a piece begins with, the first byte of which is at this offset, and how many bytes
@@ -522,7 +520,7 @@ impl Engine {
     pub fn counts(&self, id: SourceId) -> Counts
         requires { is_live self.now ≡ true }
         ensures value { (u : List Placed) → Stands self.now u → result ≡ source_counts_of (plan_of self.now) u id }
-        ensures few { (result.bytes ≤ 2 ^ 42) × (result.items ≤ 2 ^ 42) }
+        ensures few { (result.bytes ≤ GREATEST_COUNT) × (result.items ≤ GREATEST_COUNT) }
     {
         self.counters.of(id)
     }

@@ -3,10 +3,14 @@
 
 mod bare;
 mod counts;
+mod data;
 mod engine;
 mod flow;
+mod frame;
 mod mapped;
+mod placed;
 mod router;
+mod run;
 mod slot;
 mod step;
 mod tails;

@@ -1,5 +1,7 @@
 //! The runs of a frame, each to its source.
 
+ghost use Rattle.trace_values.specs.declared.limits.TheConstants.{PART_ROOM};
+ghost use Rattle.source_merge.specs.declared.slot.TheConstants.{FRAME_ROOM};
 ghost use Rattle.std.specs.Prelude.{◌≡◌, ◌+◌, ◌*◌, ◌^◌, ◌<◌, ◌≤◌, ◌++◌, ◌∷◌, [], ℕ, List, length, is_none, true, None};
 ghost use Rattle.std.specs.Prelude.{Some, position, ◌==◌};
 ghost use Rattle.arrayvec.specs.ArrayVec.{array_vec_len};
@@ -12,10 +14,12 @@ ghost use Rattle.source_machine.specs.declared.machine.SourceMachine.{SourceMach
 ghost use Rattle.source_machine.specs.Machine.{Stands, held_of, is_live, reading_of, skipped_by};
 ghost use Rattle.source_merge.specs.Routing.{mapped_of, AllLive, AllStand, HaveRoom, AreDistinct, Took, Fed};
 ghost use Rattle.source_merge.specs.Routing.{RunsBetween, SlotFed};
+ghost use Rattle.source_merge.specs.Machines.{source_machines};
 ghost use Rattle.source_merge.specs.Counting.{HasBytes, bytes_counted};
 ghost use Rattle.source_merge.specs.declared.slot.Slot.{Slot};
 
 use crate::counts::ByteCounts;
+use crate::run::{CellRun, Run};
 use crate::slot::{EVENTS, Events, Slot, feed_machine};
 use source_events::{Event, Packet, RunBytes, Stop, What, run_length};
 use source_machine::SourceMachine;
@@ -75,26 +79,71 @@ pub fn find(slots: &[Slot<SourceMachine>], id: SourceId) -> Option<usize>
 }
 
 /// Feeds a run to the machine of one slot.
-fn feed_slot(
+#[inline(always)]
+fn feed_slot<R: Run>(
     slots: &mut [Slot<SourceMachine>],
     index: usize,
     id: SourceId,
-    run: &[Cell],
+    run: &R,
     out: &mut Events,
 ) -> Option<Fault>
     requires index { index < length slots.old }
     requires live { AllLive is_live slots.old }
-    requires size { length run.now ≤ 15 }
-    requires room { HaveRoom held_of skipped_by (2 ^ 59) slots.old }
-    requires events { array_vec_len out.old + 2 * length run.now ≤ EVENTS }
+    requires size { length (R.cells run.now) ≤ 15 }
+    requires room { HaveRoom held_of skipped_by PART_ROOM slots.old }
+    requires events { array_vec_len out.old + 2 * length (R.cells run.now) ≤ EVENTS }
     ensures fed { (front : List (Slot SourceMachine)) (s : Slot SourceMachine) (back : List (Slot SourceMachine)) →
         slots.old ≡ front ++ (s ∷ back) → length front ≡ index →
-        SlotFed reading_of Stands is_live held_of skipped_by front s back slots.new run.now id
-        out.old.items out.new.items result }
-    ensures events { array_vec_len out.new ≤ array_vec_len out.old + 2 * length run.now }
+        SlotFed source_machines (record { front = front; slot = s; back = back }) slots.new (record {
+          run = R.cells run.now;
+          source = id;
+          before = out.old.items;
+          after = out.new.items;
+          fault = result;
+        }) }
+    ensures events { array_vec_len out.new ≤ array_vec_len out.old + 2 * length (R.cells run.now) }
     ensures fits { AllFit PacketFits out.old.items → AllFit PacketFits out.new.items }
 {
     feed_machine(&mut slots[index].machine, id, run, out)
+}
+
+/// Takes a run of the mapped source whose slot has this index.
+#[inline(always)]
+pub fn take_own<R: Run>(
+    slots: &mut [Slot<SourceMachine>],
+    index: usize,
+    id: SourceId,
+    run: &R,
+    out: &mut Events,
+) -> Option<Stop>
+    requires found { position (λ s. s.id == id) slots.old ≡ Some index }
+    requires own { id_of (R.cells run.now) ≡ Some id }
+    requires size { length (R.cells run.now) ≤ 15 }
+    requires live { AllLive is_live slots.old }
+    requires room { HaveRoom held_of skipped_by PART_ROOM slots.old }
+    requires events { array_vec_len out.old + 2 * length (R.cells run.now) ≤ EVENTS }
+    ensures same { mapped_of reading_of slots.new ≡ mapped_of reading_of slots.old }
+    ensures live { result ≡ None → AllLive is_live slots.new }
+    ensures room { (n : ℕ) → HaveRoom held_of skipped_by n slots.old →
+        HaveRoom held_of skipped_by (n + 2 * length (R.cells run.now)) slots.new }
+    ensures events { array_vec_len out.new ≤ array_vec_len out.old + 2 * length (R.cells run.now) }
+    ensures fits { AllFit PacketFits out.old.items → AllFit PacketFits out.new.items }
+    ensures took { (runs : List (List Cell)) (n : ℕ) → AreDistinct (mapped_of reading_of slots.old) →
+        AllStand Stands slots.old runs → IsRunFrom n (R.cells run.now) →
+        Took Stands (mapped_of reading_of slots.old) slots.new runs n (record {
+          run = R.cells run.now;
+          before = out.old.items;
+          after = out.new.items;
+          stop = result;
+        }) }
+{
+    match feed_slot(slots, index, id, run, out) {
+        Some(fault) => Some(Stop {
+            fault,
+            source: Some(id),
+        }),
+        None => None,
+    }
 }
 
 /// Takes a run.
@@ -102,7 +151,7 @@ fn take_run(slots: &mut [Slot<SourceMachine>], run: &[Cell], out: &mut Events) -
     requires some { 0 < length run.now }
     requires size { length run.now ≤ 15 }
     requires live { AllLive is_live slots.old }
-    requires room { HaveRoom held_of skipped_by (2 ^ 59) slots.old }
+    requires room { HaveRoom held_of skipped_by PART_ROOM slots.old }
     requires events { array_vec_len out.old + 2 * length run.now ≤ EVENTS }
     ensures same { mapped_of reading_of slots.new ≡ mapped_of reading_of slots.old }
     ensures live { result ≡ None → AllLive is_live slots.new }
@@ -112,7 +161,8 @@ fn take_run(slots: &mut [Slot<SourceMachine>], run: &[Cell], out: &mut Events) -
     ensures fits { AllFit PacketFits out.old.items → AllFit PacketFits out.new.items }
     ensures took { (runs : List (List Cell)) (n : ℕ) → AreDistinct (mapped_of reading_of slots.old) →
         AllStand Stands slots.old runs → IsRunFrom n run.now →
-        Took Stands (mapped_of reading_of slots.old) slots.new runs n run.now out.old.items out.new.items result }
+        Took Stands (mapped_of reading_of slots.old) slots.new runs n
+        (record { run = run.now; before = out.old.items; after = out.new.items; stop = result }) }
 {
     let first = run[0];
     let Some(id) = first.id else {
@@ -122,13 +172,7 @@ fn take_run(slots: &mut [Slot<SourceMachine>], run: &[Cell], out: &mut Events) -
         put_raw(id, run, out);
         return None;
     };
-    match feed_slot(slots, index, id, run, out) {
-        Some(fault) => Some(Stop {
-            fault,
-            source: Some(id),
-        }),
-        None => None,
-    }
+    take_own(slots, index, id, &CellRun::of(run), out)
 }
 
 /// Takes the cells of a frame, each run to its source, up to a fault, and gives their events.
@@ -140,8 +184,8 @@ pub fn take_frame(
 ) -> Option<Stop>
     requires size { length cells.now ≤ 15 }
     requires live { AllLive is_live slots.old }
-    requires room { HaveRoom held_of skipped_by (2 ^ 58) slots.old }
-    requires count { bytes_counted counts.old ≤ 2 ^ 58 }
+    requires room { HaveRoom held_of skipped_by FRAME_ROOM slots.old }
+    requires count { bytes_counted counts.old ≤ FRAME_ROOM }
     requires empty { out.old.items ≡ [] }
     ensures same { mapped_of reading_of slots.new ≡ mapped_of reading_of slots.old }
     ensures live { result ≡ None → AllLive is_live slots.new }

@@ -1,7 +1,8 @@
 //! A mapped source, and a run of its bytes.
 
 ghost use Rattle.std.specs.Prelude.{◌≡◌, ◌+◌, ◌*◌, ◌^◌, ◌<◌, ◌≤◌, ◌++◌, List, length, take, is_none, true, Some};
-ghost use Rattle.std.specs.Prelude.{IfSome};
+ghost use Rattle.std.specs.Prelude.{IfSome, drop};
+ghost use Rattle.source_merge.specs.declared.run.TheConstants.{FAR};
 ghost use Rattle.arrayvec.specs.ArrayVec.{array_vec_len};
 ghost use Rattle.trace_values.specs.Placed.{Placed};
 ghost use Rattle.trace_values.specs.Block.{given_after, goes_on_after};
@@ -15,19 +16,21 @@ ghost use Rattle.source_machine.specs.Machine.{Stands, held_of, is_live, reading
 ghost use Rattle.source_merge.specs.Feeding.{Feeds, IsEarly, IsFrom, TakesCells, last_fault, step_fault};
 ghost use Rattle.trace_values.specs.declared.limits.TheConstants.{COUNT_ROOM};
 
+use crate::run::Run;
 use arrayvec::ArrayVec;
 use capture_plan::PacketsMode;
-use source_events::{Event, Packet, RunBytes, SourceKind, What};
+use source_events::{Event, Packet, SourceKind, What};
 use source_machine::SourceMachine;
 use stp_grammar::packet::Order;
-use trace_values::{Block, Cell, Fault, Machine, SourceId, Step};
+use trace_values::{Block, Fault, Machine, PART_ROOM, SourceId, Step};
 
 /// How many events a list of them has room for. One byte of a capture ends at most one frame, of 15 cells, with at most
 /// two events for each.
 pub const EVENTS: usize = 32;
 
-/// The greatest offset at which cells are fed as a piece: more than any of a capture.
-const FAR: u64 = 1 << 58;
+/// What a machine has held and skipped, and what is counted, may each be at most where a frame is taken: with the frame
+/// it is at most `PART_ROOM`. A capture comes nowhere near.
+pub const FRAME_ROOM: u64 = PART_ROOM / 2;
 
 /// The fewest cells that are fed as a piece: fewer seldom hold a packet.
 const LEAST_PIECE: usize = 3;
@@ -131,71 +134,45 @@ fn note_packet(out: &mut Events, source: SourceId, at: u64, packet: Option<Packe
     }
 }
 
-/// How many of these cells, from the first on, are at one offset after the other, the first of them at this one; none
-/// from `FAR` on.
-#[inline]
-fn adjacent(at: u64, cells: &[Cell]) -> usize
-    requires { length cells.now ≤ 15 }
-    ensures within { result ≤ length cells.now }
-    ensures from { IsFrom at (take result cells.now) }
-    ensures near { 0 < result → at ≤ FAR }
-{
-    if at > FAR {
-        return 0;
-    }
-    let mut n = 0;
-    while n < cells.len() {
-        if cells[n].at != at + n as u64 {
-            return n;
-        }
-        n += 1;
-    }
-    n
-}
-
-/// How many of these cells a machine may take as a piece, from the first on, which is at this offset: of an STP source
+/// How many bytes of a run a machine may take as a piece, from this index on, which is at this offset: of an STP source
 /// those at one offset after the other. An ITM source goes byte by byte where no whole packet is there.
 #[inline(always)]
-fn piece_length(machine: &SourceMachine, at: u64, cells: &[Cell]) -> usize
-    requires { length cells.now ≤ 15 }
-    ensures within { result ≤ length cells.now }
-    ensures from { IsFrom at (take result cells.now) }
+fn piece_length<R: Run>(machine: &SourceMachine, run: &R, from: usize, at: u64) -> usize
+    requires { from ≤ length (R.cells run.now) }
+    ensures within { from + result ≤ length (R.cells run.now) }
+    ensures from { IsFrom at (take result (drop from (R.cells run.now))) }
     ensures near { 0 < result → at ≤ FAR }
 {
     match machine {
         SourceMachine::Itm(_) => 0,
-        SourceMachine::Stp(_) => {
-            if cells.len() < LEAST_PIECE || cells[LEAST_PIECE - 1].at.wrapping_sub(at) != 2 {
-                0
-            } else {
-                adjacent(at, cells)
-            }
-        }
+        SourceMachine::Stp(_) => run.adjacent(from, at),
     }
 }
 
-/// Feeds cells from the front of these, whose bytes are `bytes`: of the first `count`, which are at one offset after
-/// the other from this one on, up to the first to which the answer is neither `Quiet` nor `Skipping`.
+/// Feeds bytes of a run to a machine, `bytes`, which are those from an index on: of the first `count`, which are at one
+/// offset after the other from this one on, up to the first to which the answer is neither `Quiet` nor `Skipping`.
 #[inline(always)]
-fn feed_cells(
+fn feed_cells<R: Run>(
     machine: &mut SourceMachine,
+    run: &R,
+    from: usize,
     at: u64,
     count: usize,
-    cells: &[Cell],
     bytes: &[u8],
 ) -> Block<Packet>
     requires live { is_live machine.old ≡ true }
     requires some { 0 < count }
-    requires within { count ≤ length cells.now }
-    requires size { length cells.now ≤ 15 }
-    requires from { IsFrom at (take count cells.now) }
+    requires within { from + count ≤ length (R.cells run.now) }
+    requires size { length (R.cells run.now) ≤ 15 }
+    requires from { IsFrom at (take count (drop from (R.cells run.now))) }
     requires near { at ≤ FAR }
-    requires bytes { bytes.now ≡ bytes_of cells.now }
-    requires room { held_of machine.old + skipped_by machine.old + 2 * length cells.now ≤ COUNT_ROOM }
+    requires bytes { bytes.now ≡ bytes_of (drop from (R.cells run.now)) }
+    requires room { held_of machine.old + skipped_by machine.old + 2 * length (drop from (R.cells run.now)) ≤ COUNT_ROOM }
     ensures same { reading_of machine.new ≡ reading_of machine.old }
-    ensures bytes { (0 < result.bytes) × (result.bytes ≤ length cells.now) }
+    ensures bytes { (0 < result.bytes) × (result.bytes ≤ length (drop from (R.cells run.now))) }
     ensures takes { (u : List Placed) → Stands machine.old u →
-        TakesCells (reading_of machine.old) (Stands machine.new) u (take result.bytes cells.now) result.step }
+        TakesCells (reading_of machine.old) (Stands machine.new) u (take result.bytes (drop from (R.cells run.now)))
+        result.step }
     ensures live { is_live machine.new ≡ goes_on_after result.step }
     ensures fits { IfSome result.step (StepFits PacketFits) }
     ensures few { held_of machine.new + skipped_by machine.new ≤
@@ -206,39 +183,46 @@ fn feed_cells(
 
 /// Feeds a run of this source to its machine, up to a fault, and notes what it gives. It takes a packet at once whose
 /// bytes are all in the run, and so it does the part of one that the run before it began, or the next one ends.
-pub fn feed_machine(
+#[inline]
+pub fn feed_machine<R: Run>(
     machine: &mut SourceMachine,
     source: SourceId,
-    run: &[Cell],
+    run: &R,
     out: &mut Events,
 ) -> Option<Fault>
     requires live { is_live machine.old ≡ true }
-    requires size { length run.now ≤ 15 }
-    requires room { held_of machine.old + skipped_by machine.old + 2 * length run.now ≤ COUNT_ROOM }
-    requires events { array_vec_len out.old + 2 * length run.now ≤ EVENTS }
+    requires size { length (R.cells run.now) ≤ 15 }
+    requires room { held_of machine.old + skipped_by machine.old + 2 * length (R.cells run.now) ≤ COUNT_ROOM }
+    requires events { array_vec_len out.old + 2 * length (R.cells run.now) ≤ EVENTS }
     ensures same { reading_of machine.new ≡ reading_of machine.old }
     ensures feeds { (u : List Placed) → Stands machine.old u →
-        Feeds (reading_of machine.old) (Stands machine.new) u run.now source out.old.items out.new.items result }
-    ensures early { IsEarly (reading_of machine.old) (Stands machine.old) run.now result }
+        Feeds (reading_of machine.old) (Stands machine.new) u (record {
+          run = R.cells run.now;
+          source = source;
+          before = out.old.items;
+          after = out.new.items;
+          fault = result;
+        }) }
+    ensures early { IsEarly (reading_of machine.old) (Stands machine.old) (R.cells run.now) result }
     ensures live { is_live machine.new ≡ is_none result }
     ensures few { held_of machine.new + skipped_by machine.new ≤
-        held_of machine.old + skipped_by machine.old + 2 * length run.now }
-    ensures events { array_vec_len out.new ≤ array_vec_len out.old + 2 * length run.now }
+        held_of machine.old + skipped_by machine.old + 2 * length (R.cells run.now) }
+    ensures events { array_vec_len out.new ≤ array_vec_len out.old + 2 * length (R.cells run.now) }
     ensures fits { AllFit PacketFits out.old.items → AllFit PacketFits out.new.items }
 {
-    let bytes = RunBytes::of(run);
+    let bytes = run.bytes();
     let mut done = 0;
     while done < run.len() {
-        if let Some((count, packet)) = machine.next_packet(&bytes.as_slice()[done..]) {
+        if let Some((count, packet)) = machine.next_packet(&bytes[done..]) {
             done += count;
-            note_packet(out, source, run[done - 1].at, Some(packet));
-        } else if let Some(cut) = machine.next_cut(&bytes.as_slice()[done..]) {
+            note_packet(out, source, run.cell(done - 1).at, Some(packet));
+        } else if let Some(cut) = machine.next_cut(&bytes[done..]) {
             machine.keep_partial(cut.partial);
             done += cut.bytes;
-            note_packet(out, source, run[done - 1].at, cut.packet);
+            note_packet(out, source, run.cell(done - 1).at, cut.packet);
         } else {
-            let cell = run[done];
-            let count = piece_length(machine, cell.at, &run[done..]);
+            let cell = run.cell(done);
+            let count = piece_length(machine, run, done, cell.at);
             if count < LEAST_PIECE {
                 done += 1;
                 let step = machine.feed(cell.at, cell.byte);
@@ -246,10 +230,9 @@ pub fn feed_machine(
                     return Some(fault);
                 }
             } else {
-                let rest = &bytes.as_slice()[done..];
-                let block = feed_cells(machine, cell.at, count, &run[done..], rest);
+                let block = feed_cells(machine, run, done, cell.at, count, &bytes[done..]);
                 done += block.bytes;
-                if let Some(fault) = note_last(out, source, run[done - 1].at, block.step) {
+                if let Some(fault) = note_last(out, source, run.cell(done - 1).at, block.step) {
                     return Some(fault);
                 }
             }

@@ -3,14 +3,15 @@ use Rattle.std.proofs.lemmas.List.{take-append-drop, drop_more}
 use Rattle.std.proofs.Math.Seq.{set-append_seam}
 use Rattle.std.proofs.Math.ListN.{set}
 use Rattle.source_merge.specs.declared.slot.Slot.{Slot}
-use Rattle.source_merge.specs.Routing.{AllLive, HaveRoom, SlotFed}
+use Rattle.source_merge.specs.Routing.{AllLive, HaveRoom}
 use Rattle.source_merge.proofs.Slots.{live_at, room_at, get_seam}
 use Rattle.source_machine.specs.Machine.{Stands, held_of, is_live, reading_of, skipped_by}
 use Rattle.source_machine.specs.declared.machine.SourceMachine.{SourceMachine}
+use Rattle.source_merge.proofs.ByParts.{SlotFedBy}
 use Rattle.source_merge.proofs.router.feed_slot.Goals as goal
 
 pub feed_machine-requires-clause-live : goal.feed_machine-requires-clause-live
-feed_machine-requires-clause-live c =
+feed_machine-requires-clause-live g c =
     let slots = c.args.slots.now in
     let k = c.args.index in
     let d = c.index-slots-index.result in
@@ -18,7 +19,7 @@ feed_machine-requires-clause-live c =
     (subst (λ (l : List (Slot SourceMachine)). AllLive is_live l) (sym (take-append-drop k slots) ∙ ap (λ l. take k slots ++ l) (drop_more slots k d c.requires.index)) c.requires.live)
 
 pub feed_machine-requires-clause-room : goal.feed_machine-requires-clause-room
-feed_machine-requires-clause-room c =
+feed_machine-requires-clause-room g c =
     let slots = c.args.slots.now in
     let k = c.args.index in
     let d = c.index-slots-index.result in
@@ -27,13 +28,13 @@ feed_machine-requires-clause-room c =
     let s = c.requires.size in omega arith
 
 pub returns-clause-fed : goal.returns-clause-fed
-returns-clause-fed c = λ front s back parts count.
+returns-clause-fed g c = λ front s back parts count.
     let slots = c.args.slots.now in
     let k = c.args.index in
     let x = get_or slots k c.index-slots-index.result in
     let t : Slot SourceMachine = record { id = x.id; machine = c.feed_machine.new.machine } in
     let at : x ≡ s = ap (λ l. get_or l k c.index-slots-index.result) parts ∙ ap (λ n. get_or (front ++ (s ∷ back)) n c.index-slots-index.result) (sym count) ∙ get_seam front s back c.index-slots-index.result in
-    subst (λ (y : Slot SourceMachine). SlotFed reading_of Stands is_live held_of skipped_by front y back (set slots k t) c.args.run.now c.args.id c.args.out.now.items c.feed_machine.new.out.items c.feed_machine.result) at
+    subst (λ (y : Slot SourceMachine). SlotFedBy reading_of Stands is_live held_of skipped_by front y back (set slots k t) (g.R.Run.cells c.args.run.now) c.args.id c.args.out.now.items c.feed_machine.new.out.items c.feed_machine.result) at
     (record {
       slot = t;
       parts = ap (λ l. set l k t) parts ∙ ap (λ n. set (front ++ (s ∷ back)) n t) (sym count) ∙ set-append_seam front s back t;

@@ -3,7 +3,7 @@ use Rattle.std.proofs.lemmas.List.{length-drop, length-take-le, take_all}
 use Rattle.std.proofs.lemmas.Bool.Decides.{nat_tests}
 use Rattle.trace_values.specs.declared.cell.Cell.{Cell}
 use Rattle.source_events.specs.Runs.{runs_of}
-use Rattle.source_merge.specs.Routing.{mapped_of, AreDistinct, Fed, Filled}
+use Rattle.source_merge.specs.Routing.{mapped_of, AreDistinct, Fed}
 use Rattle.source_events.proofs.Least.{AreSound}
 use Rattle.source_events.specs.Report.{Mapped}
 use Rattle.source_events.specs.declared.packet.Packet.{Packet}
@@ -15,6 +15,7 @@ use Rattle.source_merge.proofs.Fits.{none_fit}
 use Rattle.source_machine.specs.Machine.{Stands, has_locked, held_of, is_live, reading_of, skipped_by}
 use Rattle.source_machine.specs.MachineLaws as laws
 use Rattle.source_events.specs.Fitting.{PacketFits}
+use Rattle.source_merge.proofs.Filling.{Filled}
 use Rattle.source_merge.proofs.router.take_frame.Goals as goal
 
 pub loop-rest-init : goal.loop-rest-init

@@ -2,11 +2,12 @@ use Rattle.std.proofs.Common.{◌≡◌, ℕ, ◌+◌, ◌-◌, ◌*◌, ◌≤�
 use Rattle.arrayvec.specs.ArrayVec.{array_vec_len}
 use Rattle.trace_values.specs.declared.cell.Cell.{Cell}
 use Rattle.source_events.specs.Runs.{RisesFrom, runs_of}
-use Rattle.source_merge.specs.Routing.{mapped_of, AllLive, AllStand, HaveRoom, AreDistinct, RunsBetween, Filled}
+use Rattle.source_merge.specs.Routing.{mapped_of, AllLive, AllStand, HaveRoom, AreDistinct, RunsBetween}
 use Rattle.source_events.specs.Fitting.{AllFit}
 use Rattle.source_merge.specs.Counting.{HasBytes, bytes_counted}
 use Rattle.source_machine.specs.Machine.{Stands, held_of, is_live, reading_of, skipped_by}
 use Rattle.source_events.specs.Fitting.{PacketFits}
+use Rattle.source_merge.proofs.Filling.{Filled}
 use Rattle.source_merge.proofs.router.take_frame.Given as goal
 
 -- the runs so far are taken, and none had a fault

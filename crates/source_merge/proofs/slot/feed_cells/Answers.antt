@@ -1,5 +1,5 @@
-use Rattle.std.proofs.Common.{◌≤◌, ℕ, List, length, take, ap, subst, arith}
-use Rattle.std.proofs.lemmas.List.{length-take-le, length-map}
+use Rattle.std.proofs.Common.{◌≤◌, ℕ, List, length, take, drop, ap, subst, arith}
+use Rattle.std.proofs.lemmas.List.{length-take-le, length-drop, length-map}
 use Rattle.trace_values.specs.declared.cell.Cell.{Cell}
 use Rattle.trace_values.specs.Block.{Takes}
 use Rattle.source_events.specs.Runs.{bytes_of}
@@ -8,14 +8,15 @@ use Rattle.source_merge.proofs.CellPieces.{takes_piece}
 use Rattle.source_merge.proofs.slot.feed_cells.Goals as goal
 
 pub returns-clause-takes : goal.returns-clause-takes
-returns-clause-takes c = λ u h.
+returns-clause-takes g c = λ u h.
     let machine = c.args.machine.now in
-    let cells = c.args.cells.now in
+    let cells = drop c.args.from (g.R.Run.cells c.args.run.now) in
     let count = c.args.count in
     let at = c.args.at in
     let block = c.feed_piece.result in
     let now = Stands c.feed_piece.new.self in
-    let within = c.requires.within in
+    let left = length-drop c.args.from (g.R.Run.cells c.args.run.now) in
+    let within : count ≤ length cells = (let k = c.requires.within in omega (arith, left, k)) in
     let long = length-map cells (λ (x : Cell). x.byte) in
     let few = length-take-le count (bytes_of cells) (let z : count ≤ length (bytes_of cells) = omega (arith, long, within) in z) in
     let same = ap (λ (l : List ℕ). length (take count l)) c.requires.bytes in

@@ -14,12 +14,13 @@ use Rattle.source_events.specs.Runs.{placed_run, bytes_of, last_at, RisesFrom}
 use Rattle.source_events.specs.Fitting.{PacketFits}
 use Rattle.source_machine.specs.Machine.{Stands, StandsAs, reading_of}
 use Rattle.source_machine.specs.MachineLaws as laws
-use Rattle.source_merge.specs.Feeding.{Feeds, TakesCells}
+use Rattle.source_merge.specs.Feeding.{TakesCells}
 use Rattle.source_merge.proofs.RunSteps.{none_of, feeds_none, feeds_more, feeds_stopped, goes_as, grown_as}
 use Rattle.source_merge.proofs.Packets.{packet_event, feeds_packet, feeds_cut, cut_stands, front, packet_parts, packet_units}
 use Rattle.source_merge.proofs.Early.{early}
 use Rattle.source_merge.proofs.CellPieces.{next_cells, more_parts, last_next, some_next, all_parts, goes_last, feeds_cells, early_cells}
 use Rattle.source_merge.proofs.Fits.{more_fits, last_fits, cut_fits, fit_more}
+use Rattle.source_merge.proofs.ByParts.{FeedsBy}
 use Rattle.source_merge.proofs.slot.feed_machine.Goals as goal
 
 next_cell : (run : List Cell) (i : ℕ) (d : Cell) → i < length run → d ≡ get_or run i d → take (i + 1) run ≡ take i run ++ d ∷ []
@@ -30,17 +31,14 @@ rest_is : {X : Type 0} → (xs : List X) (n : ℕ) → take (length xs - n) (dro
 rest_is xs n = take_all (length xs - n) (drop n xs) (let k = length-drop n xs in omega arith)
 
 rest_bytes : (run : List Cell) (bytes : List ℕ) (done : ℕ) → bytes ≡ bytes_of run →
-    take (length bytes - done) (drop done bytes) ≡ bytes_of (take (length run - done) (drop done run))
-rest_bytes run bytes done e =
-    rest_is bytes done ∙ ap (drop done) e ∙ drop-map (λ (c : Cell). c.byte) done run ∙ sym (ap bytes_of (rest_is run done))
+    take (length bytes - done) (drop done bytes) ≡ bytes_of (drop done run)
+rest_bytes run bytes done e = rest_is bytes done ∙ ap (drop done) e ∙ drop-map (λ (c : Cell). c.byte) done run
 
-all_within : (run : List Cell) (done count : ℕ) → done ≤ length run → count ≤ length (take (length run - done) (drop done run)) →
-    done + count ≤ length run
-all_within run done count l h =
-    (let a = ap length (rest_is run done) in let b = length-drop done run in omega arith)
+all_within : (run : List Cell) (done count : ℕ) → done ≤ length run → count ≤ length (drop done run) → done + count ≤ length run
+all_within run done count l h = (let b = length-drop done run in omega arith)
 
 pub loop-done-init : goal.loop-done-init
-loop-done-init c = record {
+loop-done-init g c = record {
   within = omega arith;
   same = refl;
   live = c.requires.live;
@@ -53,21 +51,21 @@ loop-done-init c = record {
 }
 
 pub loop-done-preserved-in-Some : goal.loop-done-preserved-in-Some
-loop-done-preserved-in-Some c =
+loop-done-preserved-in-Some g c =
     let i = c.loop-done.invariant in
-    let run = c.args.run.now in
+    let run = g.R.Run.cells c.args.run.now in
     let done = c.loop-done.done in
     let count = c.in-Some.count in
     let packet = c.in-Some.packet in
-    let last = c.index-run-done.result in
+    let last = c.cell.result in
     let reading = reading_of c.args.machine.now in
-    let bytes = c.as_slice.result.now in
-    let same : bytes ≡ bytes_of run = c.as_slice.ensures.value ∙ c.of-bytes.ensures in
+    let bytes = c.bytes-bytes.result.now in
+    let same : bytes ≡ bytes_of run = c.bytes-bytes.ensures in
     let most = length-take-le (length bytes - done) (drop done bytes) (let k = length-drop done bytes in omega arith) in
     let long : length bytes ≡ length run = ap length same ∙ length-map run (λ (x : Cell). x.byte) in
-    let within : done + count ≤ length run = (let k = c.in-Some.ensures.bytes.1 in let h = c.loop-done-test.true in omega arith) in
+    let within : done + count ≤ length run = (let k = c.in-Some.ensures.bytes.1 in let h = c.loop-done-test.true in let length_is = c.len.ensures.value in omega arith) in
     let pushed : c.note_packet.new.out.items ≡ c.loop-done.out.items ++ packet_event c.args.source last packet ∷ [] =
-    c.note_packet.ensures.given ∙ ap (λ (x : Cell). c.loop-done.out.items ++ packet_event c.args.source x packet ∷ []) (sym c.index-run-done.is) in
+    c.note_packet.ensures.given in
     record {
       within = within;
       same = i.same;
@@ -76,39 +74,38 @@ loop-done-preserved-in-Some c =
       events = (let a = i.events in let b = c.in-Some.ensures.bytes.0 in let d = ap length c.note_packet.ensures.given in let e = length-append c.loop-done.out.items (packet_event c.args.source last packet ∷ []) in omega arith);
       fits = λ f. more_fits PacketFits c.args.source last.at (Item 0 packet) c.loop-done.out.items c.note_packet.new.out.items pushed c.in-Some.ensures.fits (i.fits f);
       feeds = λ u s.
-          subst (λ (l : List Cell). Feeds reading (Stands c.loop-done.machine) u l c.args.source c.args.out.now.items c.note_packet.new.out.items None)
-          (sym (packet_parts run done count last c.in-Some.ensures.bytes.0 within c.index-run-done.is))
-          (feeds_packet reading u c.args.source (Stands c.loop-done.machine) (take done run) (front run done count last c.in-Some.ensures.bytes.0 within c.index-run-done.is) last packet
+          subst (λ (l : List Cell). FeedsBy reading (Stands c.loop-done.machine) u l c.args.source c.args.out.now.items c.note_packet.new.out.items None)
+          (sym (packet_parts run done count last c.in-Some.ensures.bytes.0 within c.cell.ensures))
+          (feeds_packet reading u c.args.source (Stands c.loop-done.machine) (take done run) (front run done count last c.in-Some.ensures.bytes.0 within c.cell.ensures) last packet
           c.args.out.now.items c.loop-done.out.items c.note_packet.new.out.items (i.feeds u s)
-          (λ w k. subst (λ (r : List Placed → Stream Packet). Gives r (Stands c.loop-done.machine) w (placed_run (front run done count last c.in-Some.ensures.bytes.0 within c.index-run-done.is)) (byte_at last.at last.byte) packet) i.same
-          (c.in-Some.ensures.gives w (placed_run (front run done count last c.in-Some.ensures.bytes.0 within c.index-run-done.is)) (byte_at last.at last.byte) k
-          (packet_units run done count last c.in-Some.ensures.bytes.0 within c.index-run-done.is bytes same)))
+          (λ w k. subst (λ (r : List Placed → Stream Packet). Gives r (Stands c.loop-done.machine) w (placed_run (front run done count last c.in-Some.ensures.bytes.0 within c.cell.ensures)) (byte_at last.at last.byte) packet) i.same
+          (c.in-Some.ensures.gives w (placed_run (front run done count last c.in-Some.ensures.bytes.0 within c.cell.ensures)) (byte_at last.at last.byte) k
+          (packet_units run done count last c.in-Some.ensures.bytes.0 within c.cell.ensures bytes same)))
           pushed);
     }
 
 pub loop-done-preserved-in-Some-next_cut : goal.loop-done-preserved-in-Some-next_cut
-loop-done-preserved-in-Some-next_cut c =
+loop-done-preserved-in-Some-next_cut g c =
     let i = c.loop-done.invariant in
-    let run = c.args.run.now in
+    let run = g.R.Run.cells c.args.run.now in
     let done = c.loop-done.done in
     let cut = c.in-Some-next_cut.cut in
     let found = c.in-Some-next_cut.ensures in
-    let last = c.index-run-done-in-Some-next_cut.result in
-    let is = c.index-run-done-in-Some-next_cut.is in
+    let last = c.cell-in-Some-next_cut.result in
+    let is = c.cell-in-Some-next_cut.ensures in
     let reading = reading_of c.args.machine.now in
     let now = Stands c.keep_partial.new.self in
     let old = c.loop-done.out.items in
     let new = c.note_packet-in-Some-next_cut.new.out.items in
-    let bytes = c.as_slice-in_default.result.now in
-    let same : bytes ≡ bytes_of run = c.as_slice-in_default.ensures.value ∙ c.of-bytes.ensures in
+    let bytes = c.bytes-bytes.result.now in
+    let same : bytes ≡ bytes_of run = c.bytes-bytes.ensures in
     let most = length-take-le (length bytes - done) (drop done bytes) (let k = length-drop done bytes in omega arith) in
     let long : length bytes ≡ length run = ap length same ∙ length-map run (λ (x : Cell). x.byte) in
     let some : 0 < cut.bytes = found.bytes.0 in
-    let within : done + cut.bytes ≤ length run = (let k = found.bytes.1 in let h = c.loop-done-test.true in omega arith) in
+    let within : done + cut.bytes ≤ length run = (let k = found.bytes.1 in let h = c.loop-done-test.true in let length_is = c.len.ensures.value in omega arith) in
     let before : List Cell = front run done cut.bytes last some within is in
     let given : new ≡ old ++ told (Some c.args.source) (lifted (kept_at (record { at = last.at; half = 0 }) cut.packet)) =
-    c.note_packet-in-Some-next_cut.ensures.given
-    ∙ ap (λ (x : Cell). old ++ told (Some c.args.source) (lifted (kept_at (record { at = x.at; half = 0 }) cut.packet))) (sym is) in
+    c.note_packet-in-Some-next_cut.ensures.given in
     record {
       within = within;
       same = c.keep_partial.ensures.same ∙ i.same;
@@ -119,7 +116,7 @@ loop-done-preserved-in-Some-next_cut c =
           fit_more PacketFits old new (told (Some c.args.source) (lifted (kept_at (record { at = last.at; half = 0 }) cut.packet))) given (i.fits f)
           (cut_fits PacketFits c.args.source last.at cut.packet found.fits);
       feeds = λ u s.
-          subst (λ (l : List Cell). Feeds reading now u l c.args.source c.args.out.now.items new None)
+          subst (λ (l : List Cell). FeedsBy reading now u l c.args.source c.args.out.now.items new None)
           (sym (packet_parts run done cut.bytes last some within is))
           (feeds_cut reading u c.args.source (Stands c.loop-done.machine) now (take done run) before last cut.packet
           c.args.out.now.items old new (i.feeds u s)
@@ -132,28 +129,28 @@ loop-done-preserved-in-Some-next_cut c =
     }
 
 pub feed_cells-block-requires-clause-bytes : goal.feed_cells-block-requires-clause-bytes
-feed_cells-block-requires-clause-bytes c =
-    rest_bytes c.args.run.now c.as_slice-else-count-lt-LEAST_PIECE.result.now c.loop-done.done (c.as_slice-else-count-lt-LEAST_PIECE.ensures.value ∙ c.of-bytes.ensures)
+feed_cells-block-requires-clause-bytes g c =
+    rest_bytes (g.R.Run.cells c.args.run.now) c.bytes-bytes.result.now c.loop-done.done c.bytes-bytes.ensures
 
 pub loop-done-preserved : goal.loop-done-preserved
-loop-done-preserved c =
+loop-done-preserved g c =
     let reading = reading_of c.args.machine.now in
     let i = c.loop-done.invariant in
-    let run = c.args.run.now in
+    let run = g.R.Run.cells c.args.run.now in
     let done = c.loop-done.done in
     let block = c.feed_cells-block.result in
     let was = Stands c.loop-done.machine in
     let now = Stands c.feed_cells-block.new.machine in
     let old = c.loop-done.out.items in
     let new = c.note_last.new.out.items in
-    let last = c.index-run-done-else-count-lt-LEAST_PIECE.result in
+    let last = c.cell-else-count-lt-LEAST_PIECE.result in
     let some = c.feed_cells-block.ensures.bytes.0 in
-    let within = all_within run done block.bytes (let h = c.loop-done-test.true in omega arith) c.feed_cells-block.ensures.bytes.1 in
-    let is = c.index-run-done-else-count-lt-LEAST_PIECE.is in
+    let within = all_within run done block.bytes (let h = c.loop-done-test.true in let length_is = c.len.ensures.value in omega arith) c.feed_cells-block.ensures.bytes.1 in
+    let is = c.cell-else-count-lt-LEAST_PIECE.ensures in
     let cells = next_cells run done block.bytes last some within is in
     let given : new ≡ old ++ told (Some c.args.source) (lifted (given_after (last_at cells) block.step)) =
     c.note_last.ensures.given ∙ ap (λ (n : ℕ). old ++ told (Some c.args.source) (lifted (given_after n block.step)))
-    (ap (λ (x : Cell). x.at) (sym is) ∙ sym (last_next run done block.bytes last some within is)) in
+    (sym (last_next run done block.bytes last some within is)) in
     record {
       within = within;
       same = c.feed_cells-block.ensures.same ∙ i.same;
@@ -164,7 +161,7 @@ loop-done-preserved c =
           fit_more PacketFits old new (told (Some c.args.source) (lifted (given_after (last_at cells) block.step))) given (i.fits f)
           (last_fits PacketFits c.args.source (last_at cells) block.step c.feed_cells-block.ensures.fits);
       feeds = λ u s.
-          subst (λ (l : List Cell). Feeds reading now u l c.args.source c.args.out.now.items new None)
+          subst (λ (l : List Cell). FeedsBy reading now u l c.args.source c.args.out.now.items new None)
           (sym (more_parts run done block.bytes last some within is))
           (feeds_cells reading u c.args.source was now (take done run) cells block.step None c.args.out.now.items old new (i.feeds u s)
           (λ w k. subst (λ (r : List Placed → Stream Packet). TakesCells r now w cells block.step) i.same (c.feed_cells-block.ensures.takes w k))
@@ -172,26 +169,26 @@ loop-done-preserved c =
     }
 
 pub returns-in-Some-note_last-clause-feeds : goal.returns-in-Some-note_last-clause-feeds
-returns-in-Some-note_last-clause-feeds c = λ u s.
+returns-in-Some-note_last-clause-feeds g c = λ u s.
     let reading = reading_of c.args.machine.now in
     let i = c.loop-done.invariant in
-    let run = c.args.run.now in
+    let run = g.R.Run.cells c.args.run.now in
     let done = c.loop-done.done in
     let block = c.feed_cells-block.result in
     let was = Stands c.loop-done.machine in
     let now = Stands c.feed_cells-block.new.machine in
     let old = c.loop-done.out.items in
     let new = c.note_last.new.out.items in
-    let last = c.index-run-done-else-count-lt-LEAST_PIECE.result in
+    let last = c.cell-else-count-lt-LEAST_PIECE.result in
     let some = c.feed_cells-block.ensures.bytes.0 in
-    let within = all_within run done block.bytes (let h = c.loop-done-test.true in omega arith) c.feed_cells-block.ensures.bytes.1 in
-    let is = c.index-run-done-else-count-lt-LEAST_PIECE.is in
+    let within = all_within run done block.bytes (let h = c.loop-done-test.true in let length_is = c.len.ensures.value in omega arith) c.feed_cells-block.ensures.bytes.1 in
+    let is = c.cell-else-count-lt-LEAST_PIECE.ensures in
     let cells = next_cells run done block.bytes last some within is in
     let fault = c.in-Some-note_last.fault in
     let given : new ≡ old ++ told (Some c.args.source) (lifted (given_after (last_at cells) block.step)) =
     c.note_last.ensures.given ∙ ap (λ (n : ℕ). old ++ told (Some c.args.source) (lifted (given_after n block.step)))
-    (ap (λ (x : Cell). x.at) (sym is) ∙ sym (last_next run done block.bytes last some within is)) in
-    subst (λ (l : List Cell). Feeds reading now u l c.args.source c.args.out.now.items new (Some fault))
+    (sym (last_next run done block.bytes last some within is)) in
+    subst (λ (l : List Cell). FeedsBy reading now u l c.args.source c.args.out.now.items new (Some fault))
     (append_assoc (take done run) cells (drop (done + block.bytes) run) ∙ sym (all_parts run done block.bytes last some within is))
     (feeds_stopped reading u c.args.source (laws.settles c.args.machine.now) now (take done run ++ cells) (drop (done + block.bytes) run) fault c.args.out.now.items new
     (feeds_cells reading u c.args.source was now (take done run) cells block.step (Some fault) c.args.out.now.items old new (i.feeds u s)
@@ -199,17 +196,17 @@ returns-in-Some-note_last-clause-feeds c = λ u s.
     (sym c.in-Some-note_last.is ∙ c.note_last.ensures.fault) given))
 
 pub returns-in-Some-note_last-clause-early : goal.returns-in-Some-note_last-clause-early
-returns-in-Some-note_last-clause-early c = λ u s n r given h.
+returns-in-Some-note_last-clause-early g c = λ u s n r given h.
     let reading = reading_of c.args.machine.now in
     let i = c.loop-done.invariant in
-    let run = c.args.run.now in
+    let run = g.R.Run.cells c.args.run.now in
     let done = c.loop-done.done in
     let block = c.feed_cells-block.result in
     let now = Stands c.feed_cells-block.new.machine in
-    let last = c.index-run-done-else-count-lt-LEAST_PIECE.result in
+    let last = c.cell-else-count-lt-LEAST_PIECE.result in
     let some = c.feed_cells-block.ensures.bytes.0 in
-    let within = all_within run done block.bytes (let k = c.loop-done-test.true in omega arith) c.feed_cells-block.ensures.bytes.1 in
-    let is = c.index-run-done-else-count-lt-LEAST_PIECE.is in
+    let within = all_within run done block.bytes (let k = c.loop-done-test.true in let length_is = c.len.ensures.value in omega arith) c.feed_cells-block.ensures.bytes.1 in
+    let is = c.cell-else-count-lt-LEAST_PIECE.ensures in
     let cells = next_cells run done block.bytes last some within is in
     let parts = all_parts run done block.bytes last some within is in
     early_cells reading (laws.rises c.args.machine.now) (laws.settles c.args.machine.now) now u (take done run) cells
@@ -220,21 +217,21 @@ returns-in-Some-note_last-clause-early c = λ u s n r given h.
     n (subst (λ (l : List Cell). RisesFrom n l) parts r) given (ap (λ (l : List Cell). (reading (u ++ placed_run l)).given) (sym parts) ∙ h)
 
 pub loop-done-preserved-in_default-note : goal.loop-done-preserved-in_default-note
-loop-done-preserved-in_default-note c =
+loop-done-preserved-in_default-note g c =
     let reading = reading_of c.args.machine.now in
     let i = c.loop-done.invariant in
-    let run = c.args.run.now in
-    let cell = c.index-run-done-in_default-next_cut.result in
+    let run = g.R.Run.cells c.args.run.now in
+    let cell = c.cell-cell.result in
     record {
-      within = (let h = c.loop-done-test.true in omega arith);
+      within = (let h = c.loop-done-test.true in let length_is = c.len.ensures.value in omega arith);
       same = c.feed-step.ensures.same ∙ i.same;
       live = c.feed-step.ensures.live ∙ goes_as c.feed-step.result ∙ ap is_none (sym c.note.ensures.fault ∙ c.in_default-note.is);
       few = (let a = i.few in let b = c.feed-step.ensures.few in omega arith);
       events = (let a = i.events in let b = c.note.ensures.few in omega arith);
       fits = λ f. more_fits PacketFits c.args.source cell.at c.feed-step.result c.loop-done.out.items c.note.new.out.items c.note.ensures.given c.feed-step.ensures.fits (i.fits f);
       feeds = λ u s.
-          subst (λ (l : List Cell). Feeds reading (Stands c.feed-step.new.self) u l c.args.source c.args.out.now.items c.note.new.out.items None)
-          (sym (next_cell run c.loop-done.done cell c.loop-done-test.true c.index-run-done-in_default-next_cut.is))
+          subst (λ (l : List Cell). FeedsBy reading (Stands c.feed-step.new.self) u l c.args.source c.args.out.now.items c.note.new.out.items None)
+          (sym (next_cell run c.loop-done.done cell (let h = c.loop-done-test.true in let length_is = c.len.ensures.value in omega arith) c.cell-cell.ensures))
           (feeds_more reading u c.args.source (Stands c.loop-done.machine) (Stands c.feed-step.new.self) (take c.loop-done.done run) cell c.feed-step.result None
           c.args.out.now.items c.loop-done.out.items c.note.new.out.items (i.feeds u s)
           (λ w k. c.feed-step.ensures.list w k)
@@ -243,15 +240,15 @@ loop-done-preserved-in_default-note c =
     }
 
 pub returns-in-Some-note-clause-feeds : goal.returns-in-Some-note-clause-feeds
-returns-in-Some-note-clause-feeds c = λ u s.
+returns-in-Some-note-clause-feeds g c = λ u s.
     let reading = reading_of c.args.machine.now in
     let i = c.loop-done.invariant in
-    let run = c.args.run.now in
+    let run = g.R.Run.cells c.args.run.now in
     let at = c.loop-done.done in
-    let cell = c.index-run-done-in_default-next_cut.result in
-    subst (λ (l : List Cell). Feeds reading (Stands c.feed-step.new.self) u l c.args.source c.args.out.now.items c.note.new.out.items (Some c.in-Some-note.fault)) (take-append-drop (at + 1) run)
-    (subst (λ (l : List Cell). Feeds reading (Stands c.feed-step.new.self) u (l ++ drop (at + 1) run) c.args.source c.args.out.now.items c.note.new.out.items (Some c.in-Some-note.fault))
-    (sym (next_cell run at cell c.loop-done-test.true c.index-run-done-in_default-next_cut.is))
+    let cell = c.cell-cell.result in
+    subst (λ (l : List Cell). FeedsBy reading (Stands c.feed-step.new.self) u l c.args.source c.args.out.now.items c.note.new.out.items (Some c.in-Some-note.fault)) (take-append-drop (at + 1) run)
+    (subst (λ (l : List Cell). FeedsBy reading (Stands c.feed-step.new.self) u (l ++ drop (at + 1) run) c.args.source c.args.out.now.items c.note.new.out.items (Some c.in-Some-note.fault))
+    (sym (next_cell run at cell (let h = c.loop-done-test.true in let length_is = c.len.ensures.value in omega arith) c.cell-cell.ensures))
     (feeds_stopped reading u c.args.source (laws.settles c.args.machine.now) (Stands c.feed-step.new.self) (take at run ++ cell ∷ []) (drop (at + 1) run) c.in-Some-note.fault c.args.out.now.items c.note.new.out.items
     (feeds_more reading u c.args.source (Stands c.loop-done.machine) (Stands c.feed-step.new.self) (take at run) cell c.feed-step.result (Some c.in-Some-note.fault)
     c.args.out.now.items c.loop-done.out.items c.note.new.out.items (i.feeds u s)
@@ -260,13 +257,13 @@ returns-in-Some-note-clause-feeds c = λ u s.
     (sym c.in-Some-note.is ∙ c.note.ensures.fault) c.note.ensures.given)))
 
 pub returns-in-Some-note-clause-early : goal.returns-in-Some-note-clause-early
-returns-in-Some-note-clause-early c = λ u s n r given h.
+returns-in-Some-note-clause-early g c = λ u s n r given h.
     let reading = reading_of c.args.machine.now in
     let i = c.loop-done.invariant in
-    let run = c.args.run.now in
+    let run = g.R.Run.cells c.args.run.now in
     let at = c.loop-done.done in
-    let d = c.index-run-done-in_default-next_cut.result in
-    let parts : run ≡ take at run ++ (d ∷ drop (at + 1) run) = sym (take-append-drop at run) ∙ ap (λ (l : List Cell). take at run ++ l) (drop_more run at d c.loop-done-test.true ∙ ap (λ (x : Cell). x ∷ drop (at + 1) run) (sym c.index-run-done-in_default-next_cut.is)) in
+    let d = c.cell-cell.result in
+    let parts : run ≡ take at run ++ (d ∷ drop (at + 1) run) = sym (take-append-drop at run) ∙ ap (λ (l : List Cell). take at run ++ l) (drop_more run at d (let t = c.loop-done-test.true in let length_is = c.len.ensures.value in omega arith) ∙ ap (λ (x : Cell). x ∷ drop (at + 1) run) (sym c.cell-cell.ensures)) in
     early reading (laws.rises c.args.machine.now) (laws.settles c.args.machine.now) u (take at run) d (drop (at + 1) run) c.feed-step.result c.in-Some-note.fault
     (sym c.note.ensures.fault ∙ c.in-Some-note.is)
     (grown_as (reading_of c.loop-done.machine) reading i.same _ d c.feed-step.result (c.feed-step.ensures.step _ ((i.feeds u s).list refl)))

@@ -23,17 +23,17 @@ use Rattle.source_machine.specs.MachineLaws as laws
 use Rattle.source_merge.proofs.step.take_ended.Goals as goal
 
 pub returns-in-Frame-clause-room : goal.returns-in-Frame-clause-room
-returns-in-Frame-clause-room c = λ n r.
-    room_more held_of skipped_by _ (n + 30) c.take_frame.new.slots (let a = c.requires.cells in omega arith)
-    (c.take_frame.ensures.room n r)
+returns-in-Frame-clause-room g c = λ n r.
+    room_more held_of skipped_by _ (n + 30) c.take.new.slots (let a = c.requires.cells in omega arith)
+    (c.take.ensures.room n r)
 
 pub returns-in-Frame-clause-taken : goal.returns-in-Frame-clause-taken
-returns-in-Frame-clause-taken c = λ mode u byte rise step e d a.
+returns-in-Frame-clause-taken g c = λ mode u byte rise step e d a.
     let slots = c.args.slots.now in
     let ss = mapped_of reading_of slots in
     let r = port_reading mode u in
     let at = c.args.at in
-    let cells = c.args.cells.now in
+    let cells = g.F.FrameCells.cells c.args.frame.now in
     let law = lawful reading_of Stands is_live has_locked held_of skipped_by laws.shows laws.begins laws.settles laws.rises slots in
     let good = sound reading_of Stands is_live has_locked held_of skipped_by laws.shows laws.begins laws.settles laws.rises slots (runs_in r) c.requires.live a in
     let frames = step.frames ∙ ap (λ (x : PortStep). r.frames ++ frames_by x cells) c.in-Frame.is in
@@ -42,28 +42,28 @@ returns-in-Frame-clause-taken c = λ mode u byte rise step e d a.
     ∙ append-nil (port_events mode u) in
     let places = after Stands ss law mode u at byte rise e good cells frames notice in
     taken_frame Stands ss law mode u at byte rise e good cells frames (step.fault ∙ ap fault_by c.in-Frame.is) notice places
-    c.take_frame.new.slots c.take_frame.new.out.items c.take_frame.result
-    (c.take_frame.ensures.fed (runs_in r) places.end d a places.between places.rises)
+    c.take.new.slots c.take.new.out.items c.take.result
+    (c.take.ensures.fed (runs_in r) places.end d a places.between places.rises)
 
 pub returns-in-Locked-clause-room : goal.returns-in-Locked-clause-room
-returns-in-Locked-clause-room c = λ n r.
+returns-in-Locked-clause-room g c = λ n r.
     room_more held_of skipped_by n (n + 30) c.args.slots.now (omega arith) r
 
 pub returns-in-Fault-clause-room : goal.returns-in-Fault-clause-room
-returns-in-Fault-clause-room c = λ n r.
+returns-in-Fault-clause-room g c = λ n r.
     room_more held_of skipped_by n (n + 30) c.args.slots.now (omega arith) r
 
 pub returns-in-Quiet-clause-room : goal.returns-in-Quiet-clause-room
-returns-in-Quiet-clause-room c = λ n r.
+returns-in-Quiet-clause-room g c = λ n r.
     room_more held_of skipped_by n (n + 30) c.args.slots.now (omega arith) r
 
 pub returns-in-Locked-clause-taken : goal.returns-in-Locked-clause-taken
-returns-in-Locked-clause-taken c = λ mode u byte rise step e d a.
+returns-in-Locked-clause-taken g c = λ mode u byte rise step e d a.
     let slots = c.args.slots.now in
     let ss = mapped_of reading_of slots in
     let r = port_reading mode u in
     let at = c.args.at in
-    let cells = c.args.cells.now in
+    let cells = g.F.FrameCells.cells c.args.frame.now in
     let law = lawful reading_of Stands is_live has_locked held_of skipped_by laws.shows laws.begins laws.settles laws.rises slots in
     let good = sound reading_of Stands is_live has_locked held_of skipped_by laws.shows laws.begins laws.settles laws.rises slots (runs_in r) c.requires.live a in
     let next = port_reading mode (u ++ byte_at at byte ∷ []) in
@@ -75,12 +75,12 @@ returns-in-Locked-clause-taken c = λ mode u byte rise step e d a.
     (step.fault ∙ ap fault_by c.in-Locked.is) (port_grows {V = Packet} u at byte mode (Locked c.in-Locked.skipped) hunt) a
 
 pub returns-in-Fault-clause-taken : goal.returns-in-Fault-clause-taken
-returns-in-Fault-clause-taken c = λ mode u byte rise step e d a.
+returns-in-Fault-clause-taken g c = λ mode u byte rise step e d a.
     let slots = c.args.slots.now in
     let ss = mapped_of reading_of slots in
     let r = port_reading mode u in
     let at = c.args.at in
-    let cells = c.args.cells.now in
+    let cells = g.F.FrameCells.cells c.args.frame.now in
     let law = lawful reading_of Stands is_live has_locked held_of skipped_by laws.shows laws.begins laws.settles laws.rises slots in
     let good = sound reading_of Stands is_live has_locked held_of skipped_by laws.shows laws.begins laws.settles laws.rises slots (runs_in r) c.requires.live a in
     let next = port_reading mode (u ++ byte_at at byte ∷ []) in
@@ -90,12 +90,12 @@ returns-in-Fault-clause-taken c = λ mode u byte rise step e d a.
     (step.fault ∙ ap fault_by c.in-Fault.is) (port_grows {V = Packet} u at byte mode (Fault c.in-Fault.fault) hunt)
 
 pub returns-in-Quiet-clause-taken : goal.returns-in-Quiet-clause-taken
-returns-in-Quiet-clause-taken c = λ mode u byte rise step e d a.
+returns-in-Quiet-clause-taken g c = λ mode u byte rise step e d a.
     let slots = c.args.slots.now in
     let ss = mapped_of reading_of slots in
     let r = port_reading mode u in
     let at = c.args.at in
-    let cells = c.args.cells.now in
+    let cells = g.F.FrameCells.cells c.args.frame.now in
     let law = lawful reading_of Stands is_live has_locked held_of skipped_by laws.shows laws.begins laws.settles laws.rises slots in
     let good = sound reading_of Stands is_live has_locked held_of skipped_by laws.shows laws.begins laws.settles laws.rises slots (runs_in r) c.requires.live a in
     let next = port_reading mode (u ++ byte_at at byte ∷ []) in
@@ -106,10 +106,10 @@ returns-in-Quiet-clause-taken c = λ mode u byte rise step e d a.
     ∙ ap (λ (l : List (What Packet × Place)). port_events mode u ++ l) q.2) a
 
 pub returns-in-Frame-clause-counted : goal.returns-in-Frame-clause-counted
-returns-in-Frame-clause-counted c = λ whole mode u byte k step h.
+returns-in-Frame-clause-counted g c = λ whole mode u byte k step h.
     let r = port_reading mode u in
-    let cells = c.args.cells.now in
-    subst (λ (l : List (List Cell)). HasBytes c.take_frame.new.counts whole l)
+    let cells = g.F.FrameCells.cells c.args.frame.now in
+    subst (λ (l : List (List Cell)). HasBytes c.take.new.counts whole l)
     (sym (runs_with r.frames (port_reading mode (u ++ byte_at c.args.at byte ∷ [])).frames cells
     (step.frames ∙ ap (λ (x : PortStep). r.frames ++ frames_by x cells) c.in-Frame.is)))
-    (c.take_frame.ensures.counted whole (runs_in r) k h)
+    (c.take.ensures.counted whole (runs_in r) k h)

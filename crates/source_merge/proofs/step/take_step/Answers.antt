@@ -7,7 +7,7 @@ use Rattle.source_merge.specs.Counting.{HasItems}
 use Rattle.source_merge.proofs.step.take_step.Goals as goal
 
 pub returns-clause-counted : goal.returns-clause-counted
-returns-clause-counted c = λ mode u byte es k step h. record {
+returns-clause-counted g c = λ mode u byte es k step h. record {
   whole = h.whole;
   frames = h.frames;
   bytes = c.take_ended-stop.ensures.counted h.whole mode u byte k step h.bytes;
@@ -16,5 +16,5 @@ returns-clause-counted c = λ mode u byte es k step h. record {
       (c.add_items.ensures.items h.whole es h.items);
   port =
       c.add_step.ensures.counted (port_reading mode u) (port_reading mode (u ++ byte_at c.args.at byte ∷ [])) c.args.at
-      c.args.cells.now step h.port;
+      (g.F.FrameCells.cells c.args.frame.now) step h.port;
 }

@@ -21,16 +21,16 @@ use Rattle.source_merge.specs.declared.slot.Slot.{Slot}
 use Rattle.source_merge.specs.Engine.{Stands, Keeps}
 use Rattle.source_merge.specs.Gathered.{IsGathered}
 use Rattle.source_merge.specs.Answering.{port_of, fault_of}
-use Rattle.source_merge.specs.Stepping.{StepTaken}
 use Rattle.source_merge.specs.Routing.{mapped_of, AllLive, AllStand, HaveRoom, LiveIf, AreDistinct}
 use Rattle.source_merge.proofs.Slots.{room_more}
 use Rattle.source_merge.proofs.Standing.{distinct, none_there, live_now, live_if, tested, none_of}
-use Rattle.source_merge.proofs.Going.{Stepped, IsCounted, stepped, with_halves, halves_inside, rise_to, rise_block, end_block}
+use Rattle.source_merge.proofs.Going.{Stepped, stepped, halves_inside, rise_to, rise_block, end_block}
 use Rattle.source_merge.proofs.Refilled.{slots_are}
+use Rattle.source_merge.proofs.ByParts.{StepTakenBy}
 use Rattle.source_merge.proofs.engine.Engine.feed_gathered.Goals as goal
 
-pub take_step-stop-requires-clause-room : goal.take_step-stop-requires-clause-room
-take_step-stop-requires-clause-room c =
+pub take_whole-taken-requires-clause-room : goal.take_whole-taken-requires-clause-room
+take_whole-taken-requires-clause-room c =
     room_more held_of skipped_by (30 * c.args.self.now.count) (2 ^ 58) c.as_mut_slice.result.now
     (let a = c.args.self.now.within in let b = c.args.self.now.limit in omega arith)
     (subst (λ (l : List (Slot SourceMachine)). HaveRoom held_of skipped_by (30 * c.args.self.now.count) l)
@@ -40,29 +40,29 @@ pub invariant_of-self : goal.invariant_of-self
 invariant_of-self c =
     let self = c.args.self.now in
     let old = self.slots.items in
-    let new = c.take_step-stop.new.slots in
+    let new = c.take_whole-taken.new.slots in
     let value = c.as_mut_slice.ensures.value in
-    let all = slots_are reading_of old new (c.take_step-stop.ensures.same ∙ ap (mapped_of reading_of) value) in
+    let all = slots_are reading_of old new (c.take_whole-taken.ensures.same ∙ ap (mapped_of reading_of) value) in
     let n = self.count in
     let bytes = c.size-bytes.result in
     let made = c.size-bytes.ensures in
     let room = subst (λ (l : List (Slot SourceMachine)). HaveRoom held_of skipped_by (30 * n) l) (sym value) self.room in
-    let gone = tested c.take_step-stop.result c.is_none-self.result c.is_none-self.ensures in
+    let gone = tested c.take_whole-taken.result.stop c.is_none-self.result c.is_none-self.ensures in
     record {
       sound = self.sound;
       few = (let a = self.few in let b = c.pass_frame.ensures.few in omega arith);
       room =
           subst (λ (l : List (Slot SourceMachine)). HaveRoom held_of skipped_by (30 * (n + bytes)) l) (sym all)
           (room_more held_of skipped_by (30 * n + 30) (30 * (n + bytes)) new (omega arith)
-          (c.take_step-stop.ensures.room (30 * n) room));
-      size = (let a = self.size in let b = c.take_step-stop.ensures.size in omega arith);
-      whole = (let a = self.whole in let b = c.take_step-stop.ensures.whole in omega arith);
+          (c.take_whole-taken.ensures.room (30 * n) room));
+      size = (let a = self.size in let b = c.take_whole-taken.ensures.size in omega arith);
+      whole = (let a = self.whole in let b = c.take_whole-taken.ensures.whole in omega arith);
       within = (let a = self.within in let b = c.requires.offsets.0 in omega arith);
       limit = (let a = c.requires.offsets.1 in omega arith);
       port_live = λ k. c.pass_frame.ensures.live;
       lives =
           subst (λ (l : List (Slot SourceMachine)). LiveIf is_live c.is_none-self.result l) (sym all)
-          (live_if is_live c.is_none-self.result new (λ k. c.take_step-stop.ensures.live (none_there c.take_step-stop.result (sym gone ∙ k))));
+          (live_if is_live c.is_none-self.result new (λ k. c.take_whole-taken.ensures.live (none_there c.take_whole-taken.result.stop (sym gone ∙ k))));
     }
 
 -- what the frame makes of a list that the engine stood for
@@ -79,6 +79,9 @@ module _ (c : goal.After-flow_of) (u : List Placed) (w : List ℕ) (h : Stands c
   abbrev next : List Placed
   next = u ++ placed_from c.args.at w
 
+  abbrev got : List Cell
+  got = cells c.args.frame.now.bytes c.args.frame.now.offsets c.id.result
+
   abbrev last : ℕ
   last = c.args.at + (c.size-bytes.result - 1)
 
@@ -88,22 +91,21 @@ module _ (c : goal.After-flow_of) (u : List Placed) (w : List ℕ) (h : Stands c
   live : AllLive is_live slots
   live = live_now is_live c.args.self.now.live slots c.requires.live c.args.self.now.lives
 
-  given : cells (units_of f) (offsets_of f) c.args.self.now.port.port.id ≡ c.cells_of-after.new.out.items
+  given : cells (units_of f) (offsets_of f) c.args.self.now.port.port.id ≡ got
   given =
       ap (λ (l : List ℕ). cells l (offsets_of f) c.args.self.now.port.port.id) (g.whole.frame_is c.args.at)
       ∙ ap (λ (l : List ℕ). cells c.args.frame.now.bytes l c.args.self.now.port.port.id) (sym g.offsets)
       ∙ ap (λ (i : Option ℕ). cells c.args.frame.now.bytes c.args.frame.now.offsets i) (sym c.id.ensures)
-      ∙ sym c.cells_of-after.ensures.cells
 
-  fed : FedFrame plan.frames c.cells_of-after.new.out.items u c.args.at w
+  fed : FedFrame plan.frames got u c.args.at w
   fed =
-      subst (λ (m : FramesMode). FedFrame m c.cells_of-after.new.out.items u c.args.at w) h.mode
+      subst (λ (m : FramesMode). FedFrame m got u c.args.at w) h.mode
       (subst (λ (l : List Cell). FedFrame c.args.self.now.port.mode l u c.args.at w) given
       (c.pass_frame.ensures.fed u f c.args.frame.now.halves c.args.at w h.port (g.whole.spelled c.args.at)))
 
-  grows : GrowsByFrame (port_of plan u) (port_of plan next) c.args.frame.now.halves c.cells_of-after.new.out.items
+  grows : GrowsByFrame (port_of plan u) (port_of plan next) c.args.frame.now.halves got
   grows =
-      subst (λ (m : FramesMode). GrowsByFrame (port_reading m u) (port_reading m next) c.args.frame.now.halves c.cells_of-after.new.out.items) h.mode
+      subst (λ (m : FramesMode). GrowsByFrame (port_reading m u) (port_reading m next) c.args.frame.now.halves got) h.mode
       (subst (λ (l : List Cell). GrowsByFrame (port_reading c.args.self.now.port.mode u) (port_reading c.args.self.now.port.mode next) c.args.frame.now.halves l) given
       (c.pass_frame.ensures.grows u (placed_from c.args.at w) f c.args.frame.now.halves h.port (g.whole.spelled c.args.at)))
 
@@ -112,27 +114,25 @@ module _ (c : goal.After-flow_of) (u : List Placed) (w : List ℕ) (h : Stands c
       (mode : FramesMode) (v : List Placed) (byte : ℕ) → BytesRise 0 last v → PortAnswers mode Frame cs v last byte →
       (port_reading mode v).fault ≡ None → AreDistinct (mapped_of reading_of before) →
       AllStand MachineStands before (runs_in (port_reading mode v)) →
-      StepTaken MachineStands (mapped_of reading_of before) c.take_step-stop.new.slots mode v
-      (v ++ byte_at last byte ∷ []) c.take_step-stop.new.out.items c.take_step-stop.result
+      StepTakenBy MachineStands (mapped_of reading_of before) c.take_whole-taken.new.slots mode v
+      (v ++ byte_at last byte ∷ []) c.take_whole-taken.new.out.items c.take_whole-taken.result.stop
 
-  the_step : Stepped plan slots h.sources live c.take_step-stop.new.slots c.take_step-stop.new.counters u c.args.at w
-      c.take_step-stop.new.out.items c.take_step-stop.result c.flow_of.result
+  the_step : Stepped plan slots h.sources live c.take_whole-taken.new.slots c.take_whole-taken.new.counters u c.args.at w
+      c.take_whole-taken.new.out.items c.take_whole-taken.result.stop c.flow_of.result
   the_step =
       let keeps = h.going c.requires.live in
       let halves = c.args.self.now.counters.port.halves + c.args.frame.now.halves in
-      stepped plan slots h.sources live c.take_step-stop.new.slots c.args.self.now.counters c.take_step-stop.new.counters
-      halves Frame c.cells_of-after.new.out.items last
-      c.take_step-stop.new.out.items c.take_step-stop.result c.flow_of.result u c.args.at w
+      stepped plan slots h.sources live c.take_whole-taken.new.slots c.args.self.now.counters c.take_whole-taken.new.counters
+      halves Frame got last
+      c.take_whole-taken.new.out.items c.take_whole-taken.result.stop c.flow_of.result u c.args.at w
       (rise_to u c.args.self.now.next c.args.at (subst (λ (k : ℕ). BytesRise 0 k u) (sym h.next) h.rising) c.requires.offsets.0)
       (none_there (fault_of plan u) (sym h.live ∙ c.requires.live)) keeps
       (subst (λ (ss : List (Mapped Packet)). AreDistinct ss) (sym h.sources) (distinct plan c.args.self.now.sound))
       fed
-      (ap (λ (k : ℕ). k + c.args.frame.now.halves) keeps.counted.port.halves ∙ sym (halves_inside plan.frames c.cells_of-after.new.out.items u c.args.at w c.args.frame.now.halves fed grows))
+      (ap (λ (k : ℕ). k + c.args.frame.now.halves) keeps.counted.port.halves ∙ sym (halves_inside plan.frames got u c.args.at w c.args.frame.now.halves fed grows))
       (λ k e. (let a = size in omega arith))
-      (subst (λ (l : List (Slot SourceMachine)). Taken l c.cells_of-after.new.out.items) c.as_mut_slice.ensures.value
-      (subst (λ (l : List Cell). Taken c.as_mut_slice.result.now l) c.as_slice.ensures.value c.take_step-stop.ensures.taken))
-      (subst (λ (l : List Cell). IsCounted plan slots h.sources live (with_halves plan slots h.sources live c.args.self.now.counters halves) c.take_step-stop.new.counters Frame l last c.take_step-stop.new.out.items c.take_step-stop.result)
-      c.as_slice.ensures.value c.take_step-stop.ensures.counted)
+      (subst (λ (l : List (Slot SourceMachine)). Taken l got) c.as_mut_slice.ensures.value c.take_whole-taken.ensures.taken)
+      c.take_whole-taken.ensures.counted
       c.flow_of.ensures.fault
 
 pub returns-clause-fed : goal.returns-clause-fed
@@ -141,32 +141,32 @@ returns-clause-fed c = λ u w h g. (the_step c u w h g).fed
 pub returns-clause-list : goal.returns-clause-list
 returns-clause-list c = λ u w h g.
     let self = c.args.self.now in
-    let new = c.take_step-stop.new.slots in
+    let new = c.take_whole-taken.new.slots in
     let at = c.args.at in
-    let all = slots_are reading_of self.slots.items new (c.take_step-stop.ensures.same ∙ ap (mapped_of reading_of) c.as_mut_slice.ensures.value) in
+    let all = slots_are reading_of self.slots.items new (c.take_whole-taken.ensures.same ∙ ap (mapped_of reading_of) c.as_mut_slice.ensures.value) in
     let step = the_step c u w h g in
     let long = size c u w h g in
     let rise = rise_to u self.next at (subst (λ (k : ℕ). BytesRise 0 k u) (sym h.next) h.rising) c.requires.offsets.0 in
     let made = c.size-bytes.ensures in
     let end = end_block w u at (let a = long in omega arith) in
-    let gone = tested c.take_step-stop.result c.is_none-self.result c.is_none-self.ensures in
+    let gone = tested c.take_whole-taken.result.stop c.is_none-self.result c.is_none-self.ensures in
     let frame = c.args.frame.now in
     record {
       port =
           c.pass_frame.ensures.list u (placed_from at w) (f c u w h g) frame.halves h.port (g.whole.spelled at)
-          (c.cells_of-after.ensures.id ∙ ap (id_after frame.bytes) c.id.ensures
+          (c.take_whole-taken.ensures.after ∙ ap (id_after frame.bytes) c.id.ensures
           ∙ ap (λ (l : List ℕ). id_after l self.port.port.id) (sym (g.whole.frame_is at)));
       mode = c.pass_frame.ensures.same ∙ h.mode;
       sources =
-          ap (mapped_of reading_of) all ∙ c.take_step-stop.ensures.same ∙ ap (mapped_of reading_of) c.as_mut_slice.ensures.value
+          ap (mapped_of reading_of) all ∙ c.take_whole-taken.ensures.same ∙ ap (mapped_of reading_of) c.as_mut_slice.ensures.value
           ∙ h.sources;
       rising = subst (λ (k : ℕ). BytesRise 0 k (u ++ placed_from at w)) (sym end) (rise_block u at w rise);
       next = ap (λ (k : ℕ). at + k) (sym long) ∙ sym end;
       count =
           (let a = h.count in let b = length-append u (placed_from at w) in
           let d = length-placed_from at w in omega arith);
-      live = gone ∙ none_of c.take_step-stop.result ∙ ap is_none (sym step.fault);
+      live = gone ∙ none_of c.take_whole-taken.result.stop ∙ ap is_none (sym step.fault);
       going = λ k.
-          subst (λ (l : List (Slot SourceMachine)). Keeps self.plan l c.take_step-stop.new.counters (u ++ placed_from at w))
-          (sym all) (step.keeps (none_there c.take_step-stop.result (sym gone ∙ k)));
+          subst (λ (l : List (Slot SourceMachine)). Keeps self.plan l c.take_whole-taken.new.counters (u ++ placed_from at w))
+          (sym all) (step.keeps (none_there c.take_whole-taken.result.stop (sym gone ∙ k)));
     }

@@ -18,12 +18,12 @@ use Rattle.source_machine.specs.declared.machine.SourceMachine.{SourceMachine}
 use Rattle.source_merge.specs.declared.slot.Slot.{Slot}
 use Rattle.source_merge.specs.Engine.{Stands, Keeps}
 use Rattle.source_merge.specs.Answering.{fault_of}
-use Rattle.source_merge.specs.Stepping.{StepTaken}
 use Rattle.source_merge.specs.Routing.{mapped_of, AllLive, AllStand, HaveRoom, LiveIf, AreDistinct}
 use Rattle.source_merge.proofs.Slots.{room_more}
 use Rattle.source_merge.proofs.Standing.{distinct, none_there, live_now, live_if, tested, none_of}
 use Rattle.source_merge.proofs.Going.{Stepped, IsCounted, stepped, quiet_inside, rise_to, rise_block, end_block}
 use Rattle.source_merge.proofs.Refilled.{slots_are}
+use Rattle.source_merge.proofs.ByParts.{StepTakenBy}
 use Rattle.source_merge.proofs.engine.Engine.feed_step.Goals as goal
 
 pub take_step-stop-requires-clause-room : goal.take_step-stop-requires-clause-room
@@ -85,7 +85,7 @@ module _ (c : goal.After-flow_of) (u : List Placed) (h : Stands c.args.self.now 
       PortAnswers mode c.feed_block-taken.result.step cells v (c.args.at + (c.feed_block-taken.result.bytes - 1)) byte →
       (port_reading mode v).fault ≡ None → AreDistinct (mapped_of reading_of before) →
       AllStand MachineStands before (runs_in (port_reading mode v)) →
-      StepTaken MachineStands (mapped_of reading_of before) c.take_step-stop.new.slots mode v
+      StepTakenBy MachineStands (mapped_of reading_of before) c.take_step-stop.new.slots mode v
       (v ++ byte_at (c.args.at + (c.feed_block-taken.result.bytes - 1)) byte ∷ []) c.take_step-stop.new.out.items c.take_step-stop.result
 
   the_step : Stepped plan slots h.sources live c.take_step-stop.new.slots c.take_step-stop.new.counters u c.args.at bytes

@@ -1,6 +1,6 @@
 use Rattle.std.proofs.Common.{◌-◌, ◌≤◌, length, take}
 use Rattle.source_merge.specs.Feeding.{IsFrom}
-use Rattle.source_merge.proofs.slot.adjacent.Given as goal
+use Rattle.source_merge.proofs.run.adjacent.Given as goal
 
 -- the cells so far are at one offset after the other
 abbrev pub invariant-loop-n : goal.invariant-loop-n

@@ -1,7 +1,7 @@
 use Rattle.std.proofs.Common.{ap, arith}
 use Rattle.trace_values.specs.declared.cell.Cell.{Cell}
 use Rattle.source_merge.proofs.CellPieces.{next_from}
-use Rattle.source_merge.proofs.slot.adjacent.Goals as goal
+use Rattle.source_merge.proofs.run.adjacent.Goals as goal
 
 pub loop-n-preserved : goal.loop-n-preserved
 loop-n-preserved c = record {

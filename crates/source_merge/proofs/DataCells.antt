@@ -1,0 +1,63 @@
+-- The cells of a frame that names no source.
+use Rattle.std.proofs.Common.{◌≡◌, ℕ, zero, suc, ◌<◌, ◌≤◌, List, [], ◌∷◌, length, get_or, refl, sym, ◌∙◌, ap, arith, Option, Some}
+use Rattle.trace_values.specs.declared.cell.Cell.{Cell}
+use Rattle.source_events.specs.Runs.{bytes_of, id_of, joined, runs_of, RisesFrom, IsRunFrom}
+use Rattle.source_merge.specs.Data.{data_cells}
+use Rattle.source_merge.specs.Frame.{data_in}
+use Rattle.source_merge.specs.declared.frame.DataFrame.{DataFrame}
+
+pub data_length : (offsets : List ℕ) (id : Option ℕ) (bytes : List ℕ) → length bytes ≤ length offsets →
+    length (data_cells offsets id bytes) ≡ length bytes
+data_length [] id [] h = refl
+data_length [] id (b ∷ bytes) h = absurd (omega arith)
+data_length (o ∷ offsets) id [] h = refl
+data_length (o ∷ offsets) id (b ∷ bytes) h = ap suc (data_length offsets id bytes (omega arith))
+
+pub data_bytes : (offsets : List ℕ) (id : Option ℕ) (bytes : List ℕ) → length bytes ≤ length offsets →
+    bytes_of (data_cells offsets id bytes) ≡ bytes
+data_bytes [] id [] h = refl
+data_bytes [] id (b ∷ bytes) h = absurd (omega arith)
+data_bytes (o ∷ offsets) id [] h = refl
+data_bytes (o ∷ offsets) id (b ∷ bytes) h = ap (λ (l : List ℕ). b ∷ l) (data_bytes offsets id bytes (omega arith))
+
+pub data_cell : (offsets : List ℕ) (id : Option ℕ) (bytes : List ℕ) (i x y : ℕ) (c : Cell) → i < length bytes →
+    length bytes ≤ length offsets → get_or (data_cells offsets id bytes) i c ≡
+    record { at = get_or offsets i x; id = id; run = 0; byte = get_or bytes i y }
+data_cell offsets id [] i x y c l h = absurd (omega arith)
+data_cell [] id (b ∷ bytes) i x y c l h = absurd (omega arith)
+data_cell (o ∷ offsets) id (b ∷ bytes) zero x y c l h = refl
+data_cell (o ∷ offsets) id (b ∷ bytes) (suc i) x y c l h = data_cell offsets id bytes i x y c (omega arith) (omega arith)
+
+pub data_id : (offsets : List ℕ) (x : ℕ) (bytes : List ℕ) → 0 < length bytes → length bytes ≤ length offsets →
+    id_of (data_cells offsets (Some x) bytes) ≡ Some x
+data_id offsets x [] l h = absurd (omega arith)
+data_id [] x (b ∷ bytes) l h = absurd (omega arith)
+data_id (o ∷ offsets) x (b ∷ bytes) l h = refl
+
+none_after : (offsets : List ℕ) (id : Option ℕ) → data_cells offsets id [] ≡ []
+none_after [] id = refl
+none_after (o ∷ offsets) id = refl
+
+-- they are one run
+pub data_run : (offsets : List ℕ) (id : Option ℕ) (bytes : List ℕ) → 0 < length bytes → length bytes ≤ length offsets →
+    runs_of (data_cells offsets id bytes) ≡ data_cells offsets id bytes ∷ []
+data_run offsets id [] l h = absurd (omega arith)
+data_run [] id (b ∷ bytes) l h = absurd (omega arith)
+data_run (o ∷ offsets) id (b ∷ []) l h =
+    let c : Cell = record { at = o; id = id; run = 0; byte = b } in
+    ap (λ (cells : List Cell). joined c (runs_of cells)) (none_after offsets id)
+    ∙ ap (λ (cells : List Cell). (c ∷ cells) ∷ []) (sym (none_after offsets id))
+data_run (o ∷ []) id (b ∷ (d ∷ bytes)) l h = absurd (omega arith)
+data_run (o ∷ (p ∷ offsets)) id (b ∷ (d ∷ bytes)) l h =
+    let c : Cell = record { at = o; id = id; run = 0; byte = b } in
+    ap (joined c) (data_run (p ∷ offsets) id (d ∷ bytes) (omega arith) (omega arith))
+
+pub run_from : (n : ℕ) (cells : List Cell) → 0 < length cells → RisesFrom n cells → IsRunFrom n cells
+run_from n [] l r = absurd (omega arith)
+run_from n (c ∷ cells) l r = r
+
+pub data_fits : (frame : DataFrame) → length frame.run.bytes ≤ length frame.run.offsets.now
+data_fits frame = (let a = frame.run.places in let b = frame.run.sized in omega arith)
+
+pub data_size : (frame : DataFrame) → length (data_in frame) ≡ 15
+data_size frame = data_length frame.run.offsets.now (Some frame.run.source) frame.run.bytes (data_fits frame) ∙ frame.run.sized

@@ -1,0 +1,31 @@
+use Rattle.std.proofs.Common.{List, sym, ◌∙◌, subst, arith}
+use Rattle.trace_values.specs.declared.cell.Cell.{Cell}
+use Rattle.deformatter.specs.declared.step.PortStep.TheVariants.{Frame}
+use Rattle.port_reader.specs.Growth.{Answers}
+use Rattle.source_merge.proofs.DataCells.{data_size}
+use Rattle.source_merge.proofs.step.take_whole.Goals as goal
+
+pub take_step-stop-requires-clause-cells : goal.take_step-stop-requires-clause-cells
+take_step-stop-requires-clause-cells c = (let s = data_size c.in-Some.data in omega arith)
+
+pub returns-in-Some-clause-taken : goal.returns-in-Some-clause-taken
+returns-in-Some-clause-taken c = λ mode u byte rise step e d a.
+    c.take_step-stop.ensures.taken mode u byte rise
+    (subst (λ (l : List Cell). Answers mode Frame l u c.args.at byte) (sym c.in-Some.ensures.cells) step) e d a
+
+pub returns-in-Some-clause-counted : goal.returns-in-Some-clause-counted
+returns-in-Some-clause-counted c = λ mode u byte es k step h.
+    c.take_step-stop.ensures.counted mode u byte es k
+    (subst (λ (l : List Cell). Answers mode Frame l u c.args.at byte) (sym c.in-Some.ensures.cells) step) h
+
+pub returns-clause-taken : goal.returns-clause-taken
+returns-clause-taken c = λ mode u byte rise step e d a.
+    c.take_step-stop-2.ensures.taken mode u byte rise
+    (subst (λ (l : List Cell). Answers mode Frame l u c.args.at byte)
+    (sym (c.as_slice.ensures.value ∙ c.cells_of-after.ensures.cells)) step) e d a
+
+pub returns-clause-counted : goal.returns-clause-counted
+returns-clause-counted c = λ mode u byte es k step h.
+    c.take_step-stop-2.ensures.counted mode u byte es k
+    (subst (λ (l : List Cell). Answers mode Frame l u c.args.at byte)
+    (sym (c.as_slice.ensures.value ∙ c.cells_of-after.ensures.cells)) step) h

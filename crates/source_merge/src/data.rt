@@ -1,0 +1,128 @@
+//! Frames that name no source.
+
+ghost use Rattle.std.specs.Prelude.{◌≡◌, ℕ, ◌<◌, List, Option, length, IfSome};
+ghost use Rattle.frame_grammar.specs.Frame.{cells, id_after};
+ghost use Rattle.source_merge.specs.Data.{data_cells, lowest, spread_bits, with_bits};
+
+use frame_grammar::frame::FRAME_BYTES;
+
+/// How many data bytes a frame has that names no source.
+pub const DATA_BYTES: usize = 15;
+
+/// The lowest bit of each halfword of a word.
+const LOWEST: u64 = 0x0001_0001_0001_0001;
+
+/// Times a number of four bits, it has bit `k` of the number at bit `16 * k`.
+const SPREADING: u64 = 0x2000_4000_8001;
+
+/// The bits 0 of the bytes at even indexes, each in its halfword.
+#[inline(always)]
+fn low_bits(bytes: [u8; 8]) -> u64
+    ensures { result ≡ lowest bytes }
+{
+    u64::from_le_bytes(bytes) & LOWEST
+}
+
+/// Four bits, each in its halfword.
+#[inline(always)]
+fn spread(bits: u8) -> u64
+    requires { bits < 16 }
+    ensures { result ≡ spread_bits bits }
+{
+    bits as u64 * SPREADING & LOWEST
+}
+
+/// These bytes, of which those at even indexes have four bits as their bits 0, which were 0.
+#[inline(always)]
+fn with_low_bits(bytes: [u8; 8], bits: u8) -> [u8; 8]
+    requires bits { bits < 16 }
+    requires plain { lowest bytes ≡ 0 }
+    ensures { result ≡ with_bits bytes bits }
+{
+    (u64::from_le_bytes(bytes) + spread(bits)).to_le_bytes()
+}
+
+/// The data bytes of a frame that names no source, with their bits 0 from byte 15; none where it names one.
+#[inline(always)]
+pub fn data_of(frame: &[u8; FRAME_BYTES]) -> Option<[u8; DATA_BYTES]>
+    ensures cells { (offsets : List ℕ) (id : Option ℕ) → length offsets ≡ 16 →
+        IfSome result (λ bytes. cells frame.now offsets id ≡ data_cells offsets id bytes) }
+    ensures id { (id : Option ℕ) → IfSome result (λ bytes. id_after frame.now id ≡ id) }
+{
+    let first = [
+        frame[0], frame[1], frame[2], frame[3], frame[4], frame[5], frame[6], frame[7],
+    ];
+    let last = [
+        frame[8], frame[9], frame[10], frame[11], frame[12], frame[13], frame[14], frame[15],
+    ];
+    if low_bits(first) + low_bits(last) != 0 {
+        return None;
+    }
+    let first = with_low_bits(first, frame[15] % 16);
+    let last = with_low_bits(last, frame[15] / 16);
+    Some([
+        first[0], first[1], first[2], first[3], first[4], first[5], first[6], first[7], last[0],
+        last[1], last[2], last[3], last[4], last[5], last[6],
+    ])
+}
+
+#[cfg(test)]
+mod tests {
+    use super::*;
+    use arrayvec::ArrayVec;
+    use frame_grammar::frame::cells_of;
+    use frame_grammar::plain::plain_frame;
+    use std::process::Abort;
+    use trace_values::SourceId;
+
+    /// Compares with the cells of the frame, which names no source.
+    fn check(rt: &impl Abort, frame: &[u8; FRAME_BYTES]) {
+        let Some(frame) = plain_frame(frame) else {
+            panic!(rt; "{frame:?} is no frame");
+        };
+        let offsets: [u64; FRAME_BYTES] = std::array::from_fn(|i| 7 + i as u64);
+        for id in [None, SourceId::new(5)] {
+            let mut cells = ArrayVec::new();
+            assert_eq!(rt; cells_of(frame, &offsets, id, &mut cells), id);
+            let Some(bytes) = data_of(frame) else {
+                panic!(rt; "{frame:?} names no source");
+            };
+            assert_eq!(rt; cells.len(), DATA_BYTES);
+            for i in 0..DATA_BYTES {
+                assert_eq!(rt;
+                    cells.get(i).map(|cell| cell.byte),
+                    Some(bytes[i]),
+                    "{frame:?} at {i}"
+                );
+            }
+        }
+    }
+
+    #[test]
+    fn frames_without_ids_give_the_bytes_of_their_cells(rt: HostRuntime) {
+        for aux in 0..=255u8 {
+            check(
+                &rt,
+                &[0, 1, 2, 3, 4, 5, 6, 7, 8, 9, 10, 11, 12, 13, 14, aux],
+            );
+            check(
+                &rt,
+                &[
+                    254, 255, 128, 255, 254, 127, 64, 0, 254, 0, 126, 255, 254, 255, 254, aux,
+                ],
+            );
+        }
+    }
+
+    #[test]
+    fn frames_with_an_id_at_any_even_index_give_none(rt: HostRuntime) {
+        for pair in 0..8usize {
+            for number in 0..127u8 {
+                let mut frame = *b"ABBBDBFBHBJBLBN\xaa";
+                frame[0] = b'@';
+                frame[2 * pair] = 2 * number + 1;
+                assert_eq!(rt; data_of(&frame), None, "{frame:?}");
+            }
+        }
+    }
+}

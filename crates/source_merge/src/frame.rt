@@ -1,0 +1,135 @@
+//! The cells of a frame, and how they are taken.
+
+ghost use Rattle.source_merge.specs.declared.slot.TheConstants.{FRAME_ROOM};
+ghost use Rattle.std.specs.Prelude.{◌≡◌, ◌+◌, ◌*◌, ◌^◌, ◌≤◌, ◌++◌, [], ℕ, List, length, None};
+ghost use Rattle.std.specs.Prelude.{IfSome, Some};
+ghost use Rattle.source_merge.specs.Run.{source_of};
+ghost use Rattle.frame_grammar.specs.Frame.{cells, id_after};
+ghost use Rattle.source_merge.specs.Frame.{data_in, suits_data};
+ghost use Rattle.arrayvec.specs.ArrayVec.{array_vec_len};
+ghost use Rattle.trace_values.specs.declared.cell.Cell.{Cell};
+ghost use Rattle.source_events.specs.Runs.{RisesFrom, runs_of};
+ghost use Rattle.source_events.specs.Fitting.{AllFit, PacketFits};
+ghost use Rattle.source_machine.specs.declared.machine.SourceMachine.{SourceMachine};
+ghost use Rattle.source_machine.specs.Machine.{Stands, held_of, is_live, reading_of, skipped_by};
+ghost use Rattle.source_merge.specs.Counting.{HasBytes, bytes_counted};
+ghost use Rattle.source_merge.specs.Routing.{mapped_of, AllLive, AllStand, HaveRoom, AreDistinct, Fed, RunsBetween};
+ghost use Rattle.source_merge.specs.declared.slot.Slot.{Slot};
+
+use crate::counts::ByteCounts;
+use crate::data::{DATA_BYTES, data_of};
+use crate::router::{find, take_frame, take_own};
+use crate::run::DataRun;
+use crate::slot::{Events, Slot};
+use frame_grammar::placed::PlacedFrame;
+use source_events::Stop;
+use source_machine::SourceMachine;
+use trace_values::{Cell, SourceId};
+
+/// The cells of a frame.
+pub trait FrameCells {
+    // they themselves
+    ghost cells: { Self → List Cell };
+    // slots that they can be taken to
+    ghost suits: { Self → List (Slot SourceMachine) → Type 0 };
+
+    /// Takes the cells, each run to its source, up to a fault, and gives their events.
+    fn take(
+        &self,
+        slots: &mut [Slot<SourceMachine>],
+        counts: &mut ByteCounts,
+        out: &mut Events,
+    ) -> Option<Stop>
+        requires suits { suits self.now slots.old }
+        requires size { length (cells self.now) ≤ 15 }
+        requires live { AllLive is_live slots.old }
+        requires room { HaveRoom held_of skipped_by FRAME_ROOM slots.old }
+        requires count { bytes_counted counts.old ≤ FRAME_ROOM }
+        requires empty { out.old.items ≡ [] }
+        ensures same { mapped_of reading_of slots.new ≡ mapped_of reading_of slots.old }
+        ensures live { result ≡ None → AllLive is_live slots.new }
+        ensures room { (n : ℕ) → HaveRoom held_of skipped_by n slots.old →
+            HaveRoom held_of skipped_by (n + 2 * length (cells self.now)) slots.new }
+        ensures events { array_vec_len out.new ≤ 2 * length (cells self.now) }
+        ensures fits { AllFit PacketFits out.new.items }
+        ensures fed { (runs : List (List Cell)) (n : ℕ) → AreDistinct (mapped_of reading_of slots.old) →
+            AllStand Stands slots.old runs → RunsBetween 0 n runs → RisesFrom n (cells self.now) →
+            Fed Stands (mapped_of reading_of slots.old) slots.new runs (runs_of (cells self.now)) out.new.items result }
+        ensures counted { (whole runs : List (List Cell)) → result ≡ None → HasBytes counts.old whole runs →
+            HasBytes counts.new whole (runs ++ runs_of (cells self.now)) }
+        ensures count { bytes_counted counts.new ≤ bytes_counted counts.old + length (cells self.now) };
+}
+
+/// The cells of any frame.
+#[derive(Drop)]
+pub struct AnyFrame<'a> {
+    pub cells: &'a [Cell],
+}
+
+impl FrameCells for AnyFrame<'_> {
+    ghost use Rattle.source_merge.specs.Frame.{cells_in, suits_any};
+
+    ghost cells = { cells_in };
+
+    ghost suits = { suits_any };
+
+    #[inline(always)]
+    fn take(
+        &self,
+        slots: &mut [Slot<SourceMachine>],
+        counts: &mut ByteCounts,
+        out: &mut Events,
+    ) -> Option<Stop> {
+        take_frame(slots, self.cells, counts, out)
+    }
+}
+
+/// The cells of a frame that names no source, which are those of a mapped source.
+#[derive(Drop)]
+pub struct DataFrame<'a> {
+    /// The index of the source's slot.
+    pub index: usize,
+    pub run: DataRun<'a>,
+}
+
+impl FrameCells for DataFrame<'_> {
+    ghost use Rattle.source_merge.specs.Frame.{data_in, suits_data};
+
+    ghost cells = { data_in };
+
+    ghost suits = { suits_data };
+
+    #[inline(always)]
+    fn take(
+        &self,
+        slots: &mut [Slot<SourceMachine>],
+        counts: &mut ByteCounts,
+        out: &mut Events,
+    ) -> Option<Stop> {
+        let source = self.run.source();
+        counts.add_source(source, DATA_BYTES as u64);
+        take_own(slots, self.index, source, &self.run, out)
+    }
+}
+
+/// The cells of a frame, where it names no source and the ID before it is that of a mapped source.
+#[inline(always)]
+pub fn data_frame<'a>(
+    slots: &[Slot<SourceMachine>],
+    id: &Option<SourceId>,
+    frame: &'a PlacedFrame,
+) -> Option<DataFrame<'a>>
+    ensures cells { IfSome result (λ d. data_in d ≡ cells frame.now.bytes frame.now.offsets id.now) }
+    ensures suits { IfSome result (λ d. suits_data d slots.now) }
+    ensures after { IfSome result (λ d. Some (source_of d.run) ≡ id_after frame.now.bytes id.now) }
+{
+    let Some(source) = *id else {
+        return None;
+    };
+    let bytes = data_of(&frame.bytes)?;
+    let index = find(slots, source)?;
+    Some(DataFrame {
+        index,
+        run: DataRun::new(source, &frame.offsets, bytes),
+    })
+}

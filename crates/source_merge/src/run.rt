@@ -1,0 +1,198 @@
+//! The bytes of a run, and where they are.
+
+ghost use Rattle.std.specs.Prelude.{◌≡◌, ◌+◌, ◌≤◌, ◌<◌, List, length, take, drop, get_or};
+ghost use Rattle.trace_values.specs.declared.cell.Cell.{Cell};
+ghost use Rattle.source_events.specs.Runs.{bytes_of};
+ghost use Rattle.source_merge.specs.Feeding.{IsFrom};
+
+use crate::data::DATA_BYTES;
+use frame_grammar::frame::FRAME_BYTES;
+use source_events::RunBytes;
+use trace_values::{Cell, SourceId};
+
+/// The greatest offset at which bytes of a run are fed as a piece: more than any of a capture.
+pub const FAR: u64 = 1 << 58;
+
+/// A run of a source's bytes in a frame.
+pub trait Run {
+    // its cells
+    ghost cells: { Self → List Cell };
+
+    /// How many bytes it has, at most 15.
+    fn len(&self) -> usize
+        ensures value { result ≡ length (cells self.now) }
+        ensures few { result ≤ 15 };
+
+    /// Its bytes.
+    fn bytes(&self) -> &[u8]
+        ensures { result.now ≡ bytes_of (cells self.now) };
+
+    /// The cell at an index.
+    fn cell(&self, index: usize) -> Cell
+        requires { index < length (cells self.now) }
+        ensures { result ≡ get_or (cells self.now) index result };
+
+    /// How many of the bytes from an index on, which is at this offset, are at one offset after the other; none from
+    /// `FAR` on.
+    fn adjacent(&self, from: usize, at: u64) -> usize
+        requires { from ≤ length (cells self.now) }
+        ensures within { from + result ≤ length (cells self.now) }
+        ensures from { IsFrom at (take result (drop from (cells self.now))) }
+        ensures near { 0 < result → at ≤ FAR };
+}
+
+/// How many of these cells, from the first on, are at one offset after the other, the first of them at this one; none
+/// from `FAR` on.
+#[inline]
+fn adjacent(at: u64, cells: &[Cell]) -> usize
+    requires { length cells.now ≤ 15 }
+    ensures within { result ≤ length cells.now }
+    ensures from { IsFrom at (take result cells.now) }
+    ensures near { 0 < result → at ≤ FAR }
+{
+    if at > FAR {
+        return 0;
+    }
+    let mut n = 0;
+    while n < cells.len() {
+        if cells[n].at != at + n as u64 {
+            return n;
+        }
+        n += 1;
+    }
+    n
+}
+
+/// The cells of a run, with their bytes one after the other.
+#[derive(Drop)]
+pub struct CellRun<'a> {
+    cells: &'a [Cell],
+    bytes: RunBytes,
+    ghost same: { bytes ≡ bytes_of cells.now },
+    ghost few: { length cells.now ≤ 15 },
+}
+
+impl CellRun<'_> {
+    ghost use Rattle.source_merge.specs.Run.{cells_of};
+
+    /// These cells.
+    #[inline(always)]
+    pub fn of(cells: &[Cell]) -> CellRun<'_>
+        requires { length cells.now ≤ 15 }
+        ensures { cells_of result ≡ cells.now }
+    {
+        CellRun {
+            cells,
+            bytes: RunBytes::of(cells),
+        }
+    }
+}
+
+impl Run for CellRun<'_> {
+    ghost use Rattle.source_merge.specs.Run.{cells_of};
+
+    ghost cells = { cells_of };
+
+    #[inline(always)]
+    fn len(&self) -> usize {
+        self.cells.len()
+    }
+
+    #[inline(always)]
+    fn bytes(&self) -> &[u8] {
+        self.bytes.as_slice()
+    }
+
+    #[inline(always)]
+    fn cell(&self, index: usize) -> Cell {
+        self.cells[index]
+    }
+
+    #[inline(always)]
+    fn adjacent(&self, from: usize, at: u64) -> usize {
+        adjacent(at, &self.cells[from..])
+    }
+}
+
+/// The data of a frame that names no source, which are those of the source before it.
+#[derive(Drop)]
+pub struct DataRun<'a> {
+    source: SourceId,
+    /// The offsets of the frame's bytes.
+    offsets: &'a [u64; FRAME_BYTES],
+    bytes: [u8; DATA_BYTES],
+    ghost places: { length offsets.now ≡ 16 },
+    ghost sized: { length bytes ≡ 15 },
+}
+
+impl<'a> DataRun<'a> {
+    ghost use Rattle.source_merge.specs.Run.{data_of, source_of};
+    ghost use Rattle.std.specs.Prelude.{Some};
+    ghost use Rattle.source_merge.specs.Data.{data_cells};
+
+    /// These bytes of a source, the first of them at the first of these offsets.
+    #[inline(always)]
+    pub fn new(
+        source: SourceId,
+        offsets: &'a [u64; FRAME_BYTES],
+        bytes: [u8; DATA_BYTES],
+    ) -> DataRun<'a>
+        ensures cells { data_of result ≡ data_cells offsets.now (Some source) bytes }
+        ensures source { source_of result ≡ source }
+    {
+        DataRun {
+            source,
+            offsets,
+            bytes,
+        }
+    }
+
+    /// The source.
+    #[inline(always)]
+    pub fn source(&self) -> SourceId
+        ensures { result ≡ source_of self.now }
+    {
+        self.source
+    }
+}
+
+impl Run for DataRun<'_> {
+    ghost use Rattle.source_merge.specs.Run.{data_of};
+
+    ghost cells = { data_of };
+
+    #[inline(always)]
+    fn len(&self) -> usize {
+        DATA_BYTES
+    }
+
+    #[inline(always)]
+    fn bytes(&self) -> &[u8] {
+        &self.bytes
+    }
+
+    #[inline(always)]
+    fn cell(&self, index: usize) -> Cell {
+        Cell {
+            at: self.offsets[index],
+            id: Some(self.source),
+            run: 0,
+            byte: self.bytes[index],
+        }
+    }
+
+    #[inline(always)]
+    fn adjacent(&self, from: usize, at: u64) -> usize {
+        if at > FAR {
+            return 0;
+        }
+        let mut n = 0;
+        while from + n < DATA_BYTES {
+            if self.cell(from + n).at != at + n as u64 {
+                return n;
+            }
+            n += 1;
+        }
+        n
+    }
+}
