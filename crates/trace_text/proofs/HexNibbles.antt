@@ -108,3 +108,14 @@ digits_of_four (a ∷ (b ∷ [])) e = absurd (omega arith)
 digits_of_four (a ∷ (b ∷ (c ∷ []))) e = absurd (omega arith)
 digits_of_four (a ∷ (b ∷ (c ∷ (d ∷ [])))) e = refl
 digits_of_four (a ∷ (b ∷ (c ∷ (d ∷ (f ∷ bytes))))) e = absurd (omega arith)
+
+-- no bytes, and one byte more
+pub encode_none : encode_lower [] ≡ []
+unfolding encode_with
+encode_none = refl
+
+pub encode_push : (bytes : List ℕ) (byte : ℕ) → encode_lower (bytes ++ byte ∷ []) ≡ encode_lower bytes ++ encode_lower (byte ∷ [])
+unfolding encode_with
+encode_push [] byte = refl
+encode_push (b ∷ bytes) byte =
+    ap (λ (l : List ℕ). slice_index lower_digits (b / 16) ∷ slice_index lower_digits (b % 16) ∷ l) (encode_push bytes byte)

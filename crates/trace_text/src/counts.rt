@@ -1,5 +1,6 @@
 //! The lines of counts.
 
+ghost use Rattle.source_events.specs.declared.tails.TheConstants.{GREATEST_COUNT};
 ghost use Rattle.std.specs.Prelude.{◌≡◌, ◌+◌, ◌≤◌, ◌^◌, ◌++◌, length};
 ghost use Rattle.trace_text.specs.CountText.{port_counts_text, exercise_lines, source_counts_line};
 
@@ -83,8 +84,8 @@ pub fn put_source_counts(outlet: &mut Outlet, id: SourceId, bytes: u64, items: u
     requires room { length outlet.old + TEXT_ROOM ≤ OUTLET_ROOM }
     ensures text { outlet.new ≡ outlet.old ++ source_counts_line id bytes items }
     ensures bound { length outlet.new ≤ length outlet.old + SOURCE_COUNTS_ROOM }
-    // of a capture, which has less than 2^42 of either
-    ensures capture { bytes ≤ 2 ^ 42 → items ≤ 2 ^ 42 → length outlet.new ≤ length outlet.old + 44 }
+    // of a capture
+    ensures capture { bytes ≤ GREATEST_COUNT → items ≤ GREATEST_COUNT → length outlet.new ≤ length outlet.old + 44 }
 {
     let line = SourceCountsLine {
         id: id.number(),

@@ -38,7 +38,7 @@ impl PlaceText {
     pub(crate) fn keep(&mut self, place: Place)
         ensures { place_of self.new ≡ place }
     {
-        if place != self.place {
+        if place.master != self.place.master || place.channel != self.place.channel {
             *self = PlaceText::of(place);
         }
     }

@@ -67,7 +67,7 @@ fn put_two_of(room: &mut [u8], from: usize, table: &[u8], start: usize) -> usize
 
 /// Puts four bytes of a table.
 #[inline(always)]
-fn put_four_of(room: &mut [u8], from: usize, table: &[u8], start: usize) -> usize
+pub(crate) fn put_four_of(room: &mut [u8], from: usize, table: &[u8], start: usize) -> usize
     requires table { start + 4 ≤ length table.now }
     requires room { from + 4 ≤ length room.old }
     ensures text { take result room.new ≡ take from room.old ++ take 4 (drop start table.now) }
@@ -248,7 +248,7 @@ pub(crate) fn put_medium(room: &mut [u8], from: usize, number: u16) -> usize
     put_bytes(room, from, buffer.format(number).as_bytes())
 }
 
-/// Puts bytes in hexadecimal, two digits each.
+/// Puts bytes in hexadecimal, two digits each. Where it is a constant how many they are, no branch depends on it.
 #[inline(always)]
 pub(crate) fn put_digits(room: &mut [u8], from: usize, bytes: &[u8]) -> usize
     requires { from + 2 * length bytes.now ≤ length room.old }
@@ -256,8 +256,10 @@ pub(crate) fn put_digits(room: &mut [u8], from: usize, bytes: &[u8]) -> usize
     ensures same { length room.new ≡ length room.old }
     ensures end { result ≡ from + 2 * length bytes.now }
 {
-    let end = from + 2 * bytes.len();
-    let _ = hex::encode_to_slice(bytes, &mut room[from..end]);
+    let mut end = from;
+    for index in 0..bytes.len() {
+        end = put_hex_pair(room, end, bytes[index]);
+    }
     end
 }
 

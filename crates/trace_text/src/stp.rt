@@ -10,9 +10,10 @@ ghost use Rattle.trace_text.specs.StpText.{known_text, place_text, datum_text, m
 
 use crate::digits::Digits;
 use crate::room::{
-    ITEM_ROOM, NUMBER_ROOM, PART_ROOM, put_byte, put_bytes, put_digits, put_medium, put_number,
-    put_short,
+    ITEM_ROOM, NUMBER_ROOM, PART_ROOM, put_byte, put_bytes, put_digits, put_four_of, put_medium,
+    put_number, put_short,
 };
+use crate::tables::DATUM_WIDTHS;
 use stp_grammar::item::{Place, Stamp, StpItem};
 use stp_grammar::packet::Width;
 use trace_clock::word_nibbles;
@@ -80,29 +81,15 @@ fn put_datum(room: &mut [u8], from: usize, width: Width, value: u64) -> usize
     ensures same { length room.new ≡ length room.old }
     ensures end { result ≤ from + VALUE_ROOM }
 {
-    let bytes = value.to_be_bytes();
-    match width {
-        Width::Four => {
-            let end = put_bytes(room, from, b"u4 ");
-            put_nibbles(room, end, 1, value)
-        }
-        Width::Eight => {
-            let end = put_bytes(room, from, b"u8 ");
-            put_digits(room, end, &bytes[7..])
-        }
-        Width::Sixteen => {
-            let end = put_bytes(room, from, b"u16 ");
-            put_digits(room, end, &bytes[6..])
-        }
-        Width::ThirtyTwo => {
-            let end = put_bytes(room, from, b"u32 ");
-            put_digits(room, end, &bytes[4..])
-        }
-        Width::SixtyFour => {
-            let end = put_bytes(room, from, b"u64 ");
-            put_digits(room, end, &bytes)
-        }
-    }
+    let (start, len, count) = match width {
+        Width::Four => (0, 3, 1),
+        Width::Eight => (4, 3, 2),
+        Width::Sixteen => (8, 4, 4),
+        Width::ThirtyTwo => (12, 4, 8),
+        Width::SixtyFour => (16, 4, 16),
+    };
+    let _all = put_four_of(room, from, DATUM_WIDTHS, start);
+    put_nibbles(room, from + len, count, value)
 }
 
 /// Puts a timestamp: `-`, `n=N`, `g=N`, or `r=` and its word's nibbles.

@@ -42,3 +42,6 @@ pub(crate) const HEX_PAIRS: &[u8] = b"\
 
 /// The word of each width with a space after it: of one byte, of two, and of four. The bytes after it are of no account.
 pub(crate) const WIDTHS: &[u8] = b"u8  u16 u32 ";
+
+/// The words of the widths of data, each with a space after it, in four bytes: those of 4, 8, 16, 32 and 64 bits.
+pub(crate) const DATUM_WIDTHS: &[u8] = b"u4  u8  u16 u32 u64 ";

@@ -1,48 +1,39 @@
-use Rattle.std.proofs.Common.{◌≡◌, ℕ, List, ◌++◌, take, drop, sym, ◌∙◌, ap, append_assoc}
-use Rattle.std.specs.Prelude.{codes}
-use Rattle.hex.specs.Hex.{encode_lower}
+use Rattle.std.proofs.Common.{ℕ, List, ◌≡◌, ◌≤◌, ◌++◌, take, drop, sym, ◌∙◌, ap, append_assoc, arith}
+use Rattle.stp_grammar.specs.declared.packet.Width.{Width}
+use Rattle.trace_text.specs.declared.tables.TheConstants.{DATUM_WIDTHS}
+use Rattle.trace_text.specs.HexDigits.{hex_digits}
 use Rattle.trace_text.specs.StpText.{datum_text}
-use Rattle.trace_text.proofs.HexNibbles.{encoded}
+use Rattle.trace_text.proofs.Fronts.{part}
 use Rattle.trace_text.proofs.stp.put_datum.Goals as goal
+use Rattle.trace_text.proofs.stp.put_datum.Goals.{in-Four, in-Eight, in-Sixteen, in-ThirtyTwo, in-SixtyFour}
 
--- a word, and digits after it
-joined : (old word mid digits new : List ℕ) → new ≡ mid ++ digits → mid ≡ old ++ word → new ≡ old ++ (word ++ digits)
-joined old word mid digits new e f = e ∙ ap (λ l. l ++ digits) f ∙ append_assoc old word digits
-
-pub returns-in-Four-clause-text : goal.returns-in-Four-clause-text
-returns-in-Four-clause-text c =
-    let old = take c.args.from c.args.room.now in
-    joined old (codes "u4 ") _ _ _ c.put_nibbles.ensures.text c.put_bytes-end.ensures.text
-    ∙ ap (λ w. old ++ datum_text w c.args.value) (sym c.in-Four.is)
-
-pub returns-in-Eight-clause-text : goal.returns-in-Eight-clause-text
-returns-in-Eight-clause-text c =
-    let old = take c.args.from c.args.room.now in
-    joined old (codes "u8 ") _ _ _ c.put_digits.ensures.text c.put_bytes-end-in-Eight.ensures.text
-    ∙ ap (λ bs. old ++ (codes "u8 " ++ encode_lower (take 1 (drop 7 bs)))) c.to_be_bytes-bytes.ensures
-    ∙ ap (λ ds. old ++ (codes "u8 " ++ ds)) (encoded 1 c.args.value)
-    ∙ ap (λ w. old ++ datum_text w c.args.value) (sym c.in-Eight.is)
-
-pub returns-in-Sixteen-clause-text : goal.returns-in-Sixteen-clause-text
-returns-in-Sixteen-clause-text c =
-    let old = take c.args.from c.args.room.now in
-    joined old (codes "u16 ") _ _ _ c.put_digits-in-Sixteen.ensures.text c.put_bytes-end-in-Sixteen.ensures.text
-    ∙ ap (λ bs. old ++ (codes "u16 " ++ encode_lower (take 2 (drop 6 bs)))) c.to_be_bytes-bytes.ensures
-    ∙ ap (λ ds. old ++ (codes "u16 " ++ ds)) (encoded 2 c.args.value)
-    ∙ ap (λ w. old ++ datum_text w c.args.value) (sym c.in-Sixteen.is)
-
-pub returns-in-ThirtyTwo-clause-text : goal.returns-in-ThirtyTwo-clause-text
-returns-in-ThirtyTwo-clause-text c =
-    let old = take c.args.from c.args.room.now in
-    joined old (codes "u32 ") _ _ _ c.put_digits-in-ThirtyTwo.ensures.text c.put_bytes-end-in-ThirtyTwo.ensures.text
-    ∙ ap (λ bs. old ++ (codes "u32 " ++ encode_lower (take 4 (drop 4 bs)))) c.to_be_bytes-bytes.ensures
-    ∙ ap (λ ds. old ++ (codes "u32 " ++ ds)) (encoded 4 c.args.value)
-    ∙ ap (λ w. old ++ datum_text w c.args.value) (sym c.in-ThirtyTwo.is)
-
-pub returns-in-SixtyFour-clause-text : goal.returns-in-SixtyFour-clause-text
-returns-in-SixtyFour-clause-text c =
-    let old = take c.args.from c.args.room.now in
-    joined old (codes "u64 ") _ _ _ c.put_digits-in-SixtyFour.ensures.text c.put_bytes-end-in-SixtyFour.ensures.text
-    ∙ ap (λ bs. old ++ (codes "u64 " ++ encode_lower (bs))) c.to_be_bytes-bytes.ensures
-    ∙ ap (λ ds. old ++ (codes "u64 " ++ ds)) (encoded 8 c.args.value)
-    ∙ ap (λ w. old ++ datum_text w c.args.value) (sym c.in-SixtyFour.is)
+pub returns-clause-text : goal.returns-clause-text
+returns-clause-text c =
+    let s = c.match-width.start in
+    let room = c.requires.room in
+    let all = c.put_four_of-all.ensures in
+    let same = all.same in
+    let from = c.args.from in
+    let value = c.args.value in
+    let old = take from c.args.room.now in
+    let said : ℕ × ℕ × ℕ → List ℕ = λ x. take x.1 (take 4 (drop x.0 DATUM_WIDTHS.now)) ++ hex_digits x.2 value in
+    let few : s.1 ≤ 4 = elim c.match-width.branch [
+      | in-Four w ↦ (let e = ap (λ (x : ℕ × ℕ × ℕ). x.1) w.start-is in omega arith)
+      | in-Eight w ↦ (let e = ap (λ (x : ℕ × ℕ × ℕ). x.1) w.start-is in omega arith)
+      | in-Sixteen w ↦ (let e = ap (λ (x : ℕ × ℕ × ℕ). x.1) w.start-is in omega arith)
+      | in-ThirtyTwo w ↦ (let e = ap (λ (x : ℕ × ℕ × ℕ). x.1) w.start-is in omega arith)
+      | in-SixtyFour w ↦ (let e = ap (λ (x : ℕ × ℕ × ℕ). x.1) w.start-is in omega arith)
+    ] in
+    let text : said s ≡ datum_text c.args.width value = elim c.match-width.branch [
+      | in-Four w ↦ ap said w.start-is ∙ ap (λ (z : Width). datum_text z value) (sym w.in-Four.is)
+      | in-Eight w ↦ ap said w.start-is ∙ ap (λ (z : Width). datum_text z value) (sym w.in-Eight.is)
+      | in-Sixteen w ↦ ap said w.start-is ∙ ap (λ (z : Width). datum_text z value) (sym w.in-Sixteen.is)
+      | in-ThirtyTwo w ↦ ap said w.start-is ∙ ap (λ (z : Width). datum_text z value) (sym w.in-ThirtyTwo.is)
+      | in-SixtyFour w ↦ ap said w.start-is ∙ ap (λ (z : Width). datum_text z value) (sym w.in-SixtyFour.is)
+    ] in
+    c.put_nibbles.ensures.text
+    ∙ ap (λ (l : List ℕ). l ++ hex_digits s.2 value)
+    (part from s.1 4 c.args.room.now c.put_four_of-all.new.room (take 4 (drop s.0 DATUM_WIDTHS.now)) (omega arith)
+    (ap (λ (k : ℕ). take k c.put_four_of-all.new.room) (sym all.end) ∙ all.text) few (omega arith))
+    ∙ append_assoc old (take s.1 (take 4 (drop s.0 DATUM_WIDTHS.now))) (hex_digits s.2 value)
+    ∙ ap (λ (l : List ℕ). old ++ l) text
