@@ -1,5 +1,6 @@
 pub mod Timing
 pub mod Feeding
+pub mod Feeds
 pub mod Printing
 pub mod Sources
 pub mod Counting

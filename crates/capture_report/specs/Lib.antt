@@ -9,6 +9,7 @@ pub mod Filtered
 pub mod SourceClocks
 pub mod Filter
 pub mod Show
+pub mod Feeding
 pub mod Summary
 pub mod CheckLaws
 pub mod Check

@@ -1,5 +1,6 @@
 //! `check`: how many synchronisations and frames a port has, how much each source sent, and how the capture ends.
 
+ghost use Rattle.source_events.specs.declared.tails.TheConstants.{GREATEST_COUNT};
 ghost use Rattle.std.specs.Prelude.{◌≡◌, ◌+◌, ◌*◌, ◌^◌, ◌<◌, ◌≤◌, ◌++◌, [], ℕ, List, length, is_none, true};
 ghost use Rattle.trace_values.specs.Placed.{Placed};
 ghost use Rattle.source_events.specs.Plan.{is_sound};
@@ -35,8 +36,8 @@ pub struct Check {
 
 /// The line of what a source sent, if it sent a byte.
 fn put_counts(outlet: &mut Outlet, id: SourceId, counts: Counts)
-    requires bytes { counts.bytes ≤ 2 ^ 42 }
-    requires items { counts.items ≤ 2 ^ 42 }
+    requires bytes { counts.bytes ≤ GREATEST_COUNT }
+    requires items { counts.items ≤ GREATEST_COUNT }
     requires room { length outlet.old + TEXT_ROOM ≤ OUTLET_ROOM }
     ensures text { outlet.new ≡ outlet.old ++ source_text id counts }
     ensures bound { length outlet.new ≤ length outlet.old + SOURCE_ROOM }

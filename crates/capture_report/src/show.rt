@@ -33,6 +33,9 @@ use trace_stream::{Action, Flow, OUTLET_ROOM, Outlet, Taken};
 use trace_text::{Digits, EVENT_ROOM, Remark, print, print_fault, print_tails, put_stp_line};
 use trace_values::{SourceId, Step};
 
+/// How many packets one call takes at most: their lines have room where an action is fed.
+const LINES: usize = 32;
+
 /// The reading of a capture, and what its listing needs of it.
 #[derive(Drop)]
 pub struct Show {
@@ -218,6 +221,7 @@ fn put_packet(
     ensures seen { (before : List (Event Packet)) → HasSeen filter.old before →
         HasSeen filter.new (before ++ bare_events at (Some (Item half packet))) }
     ensures same { plan_by plan.now filter.new ≡ plan_by plan.now filter.old }
+    ensures bound { length outlet.new ≤ length outlet.old + EVENT_ROOM }
 {
     let event = Event {
         at,
@@ -252,6 +256,7 @@ fn put_stp(
     ensures seen { (before : List (Event Packet)) → HasSeen filter.old before →
         HasSeen filter.new (before ++ bare_events at (packet_in half item)) }
     ensures same { plan_by plan.now filter.new ≡ plan_by plan.now filter.old }
+    ensures bound { length outlet.new ≤ length outlet.old + EVENT_ROOM }
 {
     let Some(item) = item else {
         return;
@@ -305,6 +310,11 @@ fn put_answer(
 }
 
 impl Show {
+    ghost use Rattle.std.specs.Prelude.{◌<◌, take};
+    ghost use Rattle.trace_stream.specs.declared.action.Flow.TheVariants.{On};
+    ghost use Rattle.trace_stream.specs.declared.limits.TheConstants.{GREATEST_CAPTURE};
+    ghost use Rattle.trace_io.specs.Bytes.{TakesSome};
+    ghost use Rattle.capture_report.specs.Feeding.{HasFed};
     ghost use Rattle.capture_report.specs.Show.{plan_of, Stands, taken_by, IsLive};
 
     /// Nothing is read yet. The plan is sound.
@@ -322,6 +332,165 @@ impl Show {
             clocks: SourceClocks::new(),
             digits: Digits::new(),
             stop: None,
+        }
+    }
+
+    /// Takes the ITM packet that the piece begins with, where there is no formatter and it can be taken at once, and
+    /// puts its line. Answers how many bytes it has, 0 where nothing is taken.
+    #[inline(always)]
+    fn feed_packet(&mut self, piece: &[u8], outlet: &mut Outlet) -> usize
+        requires live { IsLive self.old }
+        requires room { length outlet.old + TEXT_ROOM ≤ OUTLET_ROOM }
+        requires count { taken_by self.old + length piece.now ≤ GREATEST_CAPTURE }
+        ensures few { result ≤ length piece.now }
+        ensures fed { HasFed self.old self.new (take result piece.now) On outlet.old outlet.new }
+        ensures none { result ≡ 0 → outlet.new ≡ outlet.old }
+        ensures bound { length outlet.new ≤ length outlet.old + EVENT_ROOM }
+    {
+        let at = self.engine.next();
+        let Some((bytes, packet)) = self.engine.take_packet(at, piece) else {
+            return 0;
+        };
+        put_packet(
+            outlet,
+            &mut self.digits,
+            &mut self.clocks,
+            &mut self.filter,
+            self.engine.plan(),
+            at + (bytes as u64 - 1),
+            0,
+            packet,
+        );
+        bytes
+    }
+
+    /// The same of an STP packet that the piece finishes, with all of the byte in which it ends, and the line of its
+    /// item, if it has one.
+    #[inline(always)]
+    fn feed_stp_packet(&mut self, piece: &[u8], outlet: &mut Outlet) -> usize
+        requires live { IsLive self.old }
+        requires room { length outlet.old + TEXT_ROOM ≤ OUTLET_ROOM }
+        requires count { taken_by self.old + length piece.now ≤ GREATEST_CAPTURE }
+        ensures few { result ≤ length piece.now }
+        ensures fed { HasFed self.old self.new (take result piece.now) On outlet.old outlet.new }
+        ensures none { result ≡ 0 → outlet.new ≡ outlet.old }
+        ensures bound { length outlet.new ≤ length outlet.old + EVENT_ROOM }
+    {
+        let at = self.engine.next();
+        let Some(taken) = self.engine.take_stp(at, piece) else {
+            return 0;
+        };
+        put_stp(
+            outlet,
+            &mut self.digits,
+            &mut self.clocks,
+            &mut self.filter,
+            self.engine.plan(),
+            at + (taken.bytes as u64 - 1),
+            taken.half,
+            taken.item,
+        );
+        taken.bytes
+    }
+
+    /// Takes ITM packets from the front of the piece, where there is no formatter and they can be taken at once, as many
+    /// as have room for their lines, and puts those. Answers how many bytes they have.
+    #[inline(never)]
+    fn feed_packets(&mut self, piece: &[u8], outlet: &mut Outlet) -> usize
+        requires live { IsLive self.old }
+        requires room { length outlet.old + ACTION_ROOM ≤ OUTLET_ROOM }
+        requires count { taken_by self.old + length piece.now ≤ GREATEST_CAPTURE }
+        ensures few { result ≤ length piece.now }
+        ensures fed { HasFed self.old self.new (take result piece.now) On outlet.old outlet.new }
+        ensures none { result ≡ 0 → outlet.new ≡ outlet.old }
+    {
+        let mut done = 0;
+        for line in 0..LINES {
+            let bytes = self.feed_packet(&piece[done..], outlet);
+            if bytes == 0 {
+                return done;
+            }
+            done += bytes;
+        }
+        done
+    }
+
+    /// The same of STP packets.
+    #[inline(never)]
+    fn feed_stp(&mut self, piece: &[u8], outlet: &mut Outlet) -> usize
+        requires live { IsLive self.old }
+        requires room { length outlet.old + ACTION_ROOM ≤ OUTLET_ROOM }
+        requires count { taken_by self.old + length piece.now ≤ GREATEST_CAPTURE }
+        ensures few { result ≤ length piece.now }
+        ensures fed { HasFed self.old self.new (take result piece.now) On outlet.old outlet.new }
+        ensures none { result ≡ 0 → outlet.new ≡ outlet.old }
+    {
+        let mut done = 0;
+        for line in 0..LINES {
+            let bytes = self.feed_stp_packet(&piece[done..], outlet);
+            if bytes == 0 {
+                return done;
+            }
+            done += bytes;
+        }
+        done
+    }
+
+    /// Takes what the source of a capture with no formatter is given, up to the end of a packet or a fault, and puts
+    /// its lines.
+    fn feed_slowly(&mut self, piece: &[u8], outlet: &mut Outlet) -> Taken
+        requires live { IsLive self.old }
+        requires some { 0 < length piece.now }
+        requires room { length outlet.old + ACTION_ROOM ≤ OUTLET_ROOM }
+        requires count { taken_by self.old + length piece.now ≤ GREATEST_CAPTURE }
+        ensures front { TakesSome piece.now result.bytes }
+        ensures fed { HasFed self.old self.new (take result.bytes piece.now) result.flow outlet.old outlet.new }
+    {
+        let at = self.engine.next();
+        let Some(block) = self.engine.feed_bare(at, piece) else {
+            return self.feed_block(piece, outlet);
+        };
+        put_answer(
+            outlet,
+            &mut self.digits,
+            &mut self.clocks,
+            &mut self.filter,
+            self.engine.plan(),
+            &mut self.events,
+            at + (block.bytes as u64 - 1),
+            block.step,
+        );
+        let flow = keep_stop(&mut self.stop, flow_after(&block.step));
+        Taken {
+            bytes: block.bytes,
+            flow,
+        }
+    }
+
+    /// Takes bytes up to the first with which events are decided, and puts their lines.
+    fn feed_block(&mut self, piece: &[u8], outlet: &mut Outlet) -> Taken
+        requires live { IsLive self.old }
+        requires some { 0 < length piece.now }
+        requires room { length outlet.old + ACTION_ROOM ≤ OUTLET_ROOM }
+        requires count { taken_by self.old + length piece.now ≤ GREATEST_CAPTURE }
+        ensures front { TakesSome piece.now result.bytes }
+        ensures fed { HasFed self.old self.new (take result.bytes piece.now) result.flow outlet.old outlet.new }
+    {
+        let at = self.engine.next();
+        self.events.clear();
+        let fed = self.engine.feed_block(at, piece, &mut self.events);
+        put_events(
+            outlet,
+            &mut self.digits,
+            &mut self.clocks,
+            &mut self.filter,
+            self.engine.plan(),
+            self.events.as_slice(),
+        );
+        let flow = keep_stop(&mut self.stop, fed.flow);
+        Taken {
+            bytes: fed.bytes,
+            flow,
         }
     }
 }
@@ -362,71 +531,24 @@ impl Action for Show {
 
     /// With no formatter the line of each packet is put as the packet is decoded, and no event is made.
     fn feed(&mut self, piece: &[u8], outlet: &mut Outlet) -> Taken {
-        let at = self.engine.next();
-        if let Some((bytes, packet)) = self.engine.take_packet(at, piece) {
-            put_packet(
-                outlet,
-                &mut self.digits,
-                &mut self.clocks,
-                &mut self.filter,
-                self.engine.plan(),
-                at + (bytes as u64 - 1),
-                0,
-                packet,
-            );
+        if !self.engine.is_bare() {
+            return self.feed_block(piece, outlet);
+        }
+        let bytes = self.feed_packets(piece, outlet);
+        if bytes > 0 {
             return Taken {
                 bytes,
                 flow: Flow::On,
             };
         }
-        if let Some(taken) = self.engine.take_stp(at, piece) {
-            put_stp(
-                outlet,
-                &mut self.digits,
-                &mut self.clocks,
-                &mut self.filter,
-                self.engine.plan(),
-                at + (taken.bytes as u64 - 1),
-                taken.half,
-                taken.item,
-            );
+        let bytes = self.feed_stp(piece, outlet);
+        if bytes > 0 {
             return Taken {
-                bytes: taken.bytes,
+                bytes,
                 flow: Flow::On,
             };
         }
-        if let Some(block) = self.engine.feed_bare(at, piece) {
-            put_answer(
-                outlet,
-                &mut self.digits,
-                &mut self.clocks,
-                &mut self.filter,
-                self.engine.plan(),
-                &mut self.events,
-                at + (block.bytes as u64 - 1),
-                block.step,
-            );
-            let flow = keep_stop(&mut self.stop, flow_after(&block.step));
-            return Taken {
-                bytes: block.bytes,
-                flow,
-            };
-        }
-        self.events.clear();
-        let fed = self.engine.feed_block(at, piece, &mut self.events);
-        put_events(
-            outlet,
-            &mut self.digits,
-            &mut self.clocks,
-            &mut self.filter,
-            self.engine.plan(),
-            self.events.as_slice(),
-        );
-        let flow = keep_stop(&mut self.stop, fed.flow);
-        Taken {
-            bytes: fed.bytes,
-            flow,
-        }
+        self.feed_slowly(piece, outlet)
     }
 
     fn finish(&self, outlet: &mut Outlet) {
