@@ -1,8 +1,10 @@
 pub mod Splitting
 pub mod Unnamed
 pub mod Hexadecimals
+pub mod DigitTable
 pub mod Options
 pub mod ItmRanges
 pub mod DwtRanges
 pub mod StpRanges
 pub mod LineRanges
+pub mod PacketLines

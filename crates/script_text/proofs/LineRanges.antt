@@ -1,8 +1,9 @@
 -- What lines say can be said.
 use Rattle.std.proofs.Common.{◌≡◌, ℕ, ◌*◌, ◌≤◌, List, [], ◌∷◌, length, refl, sym, ◌∙◌, ap, arith, subst, Bool, true, false, Some, None, Option, Ok, Err, Result}
 use Rattle.std.specs.Prelude.{◌==◌, ◌||◌, nat_lt, ok_or, IfOk, OnOk, if◌then◌else◌}
+use Rattle.std.specs.List.{AllPass}
 use Rattle.std.proofs.lemmas.Bool.Decides.{nat_tests}
-use Rattle.hex.specs.Hex.{decode_of, IsBytes}
+use Rattle.hex.specs.Hex.{decode_of, is_hex_digit, IsBytes}
 use Rattle.hex.specs.declared.error.FromHexError.{FromHexError}
 use Rattle.hex.proofs.HexLemmas.{decode_of-ok}
 use Rattle.decimal_words.specs.Numbers.{number_named}
@@ -46,6 +47,17 @@ bytes_said text bytes e = by (nat_lt (length text) 2) (nat_lt 200 (length text))
         let low : 2 ≤ length text = grind (arith, nat_tests) in
         let high : length text ≤ 200 = grind (arith, nat_tests) in
         (omega arith, omega arith, d.3)
+
+-- what is read is digits
+pub bytes_are : (text bytes : List ℕ) → bytes_named text ≡ Some bytes → (2 ≤ length text) × AllPass is_hex_digit text
+bytes_are text bytes e = by (nat_lt (length text) 2) (nat_lt 200 (length text)) refl e
+  where
+    by : (v w : Bool) → nat_lt (length text) 2 ≡ v → (if v || w then None else decoded (decode_of text)) ≡ Some bytes → (2 ≤ length text) × AllPass is_hex_digit text
+    by true w a e = cc
+    by false true a e = cc
+    by false false a e =
+        let d = decode_of-ok text bytes (decoded_ok (decode_of text) bytes e) in
+        (grind (arith, nat_tests), d.1)
 
 -- items
 pub item_said : (shape : Shape) (words : List (List ℕ)) (item : Item) → item_of shape words ≡ Some item → IsSayable item

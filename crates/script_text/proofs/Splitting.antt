@@ -20,7 +20,7 @@ pub record IsWord (line : List ℕ) : Type 0 where
   pub printable : are_printable line ≡ true
   pub one : words_in line ≡ line ∷ []
 
-more_word : (b : ℕ) (line : List ℕ) → is_graphic b ≡ true → IsWord line → IsWord (b ∷ line)
+pub more_word : (b : ℕ) (line : List ℕ) → is_graphic b ≡ true → IsWord line → IsWord (b ∷ line)
 more_word b line g w =
     let p = printable b g in
     let s = no_space b g in
@@ -44,7 +44,7 @@ pub record IsCut (line : List ℕ) (n : ℕ) : Type 0 where
   pub printable : are_printable line ≡ are_printable (drop (suc n) line)
   pub words : words_in line ≡ take n line ∷ words_in (drop (suc n) line)
 
-more_cut : (b : ℕ) (line : List ℕ) (n : ℕ) → is_graphic b ≡ true → IsCut line n → IsCut (b ∷ line) (suc n)
+pub more_cut : (b : ℕ) (line : List ℕ) (n : ℕ) → is_graphic b ≡ true → IsCut line n → IsCut (b ∷ line) (suc n)
 more_cut b line n g c =
     let p = printable b g in
     let s = no_space b g in

@@ -7,4 +7,5 @@ pub mod Shapes
 pub mod Items
 pub mod Lines
 pub mod Said
+pub mod Quick
 pub mod Rows

@@ -8,6 +8,7 @@ mod line_fault;
 mod lines;
 mod numbers;
 mod places;
+mod quick;
 mod raw_bytes;
 pub mod rows;
 mod shapes;
@@ -19,5 +20,5 @@ mod words;
 
 pub use items::Item;
 pub use line_fault::LineFault;
-pub use lines::{Line, read_into, read_line};
+pub use lines::{LINE_BYTES, Line, read_into, read_line};
 pub use raw_bytes::{RAW_BYTES, RawBytes};

@@ -1,21 +1,23 @@
 //! The lines of scripts (this project's profile).
 
-ghost use Rattle.std.specs.Prelude.{◌≡◌, IfOk, OnErr, OnOk};
+ghost use Rattle.std.specs.Prelude.{◌≡◌, Err, IfOk, OnErr, OnOk, if◌then◌else◌};
 ghost use Rattle.source_events.specs.Plan.{kind_of};
-ghost use Rattle.script_text.specs.Words.{texts};
-ghost use Rattle.script_text.specs.Lines.{by_itm, by_stp, by_raw, line_of_shape, line_of_words as line_in};
-ghost use Rattle.script_text.specs.Lines.{line_of, answer};
+ghost use Rattle.script_text.specs.Words.{texts, are_printable};
+ghost use Rattle.script_text.specs.Lines.{by_itm, by_stp, by_raw, taken_by, line_of_shape, line_of_words as line_in};
+ghost use Rattle.script_text.specs.Lines.{line_of, line_of_printable, answer};
 ghost use Rattle.script_text.specs.Said.{IsSaid};
 
 use crate::dwt_shapes::dwt_of;
 use crate::items::Item;
 use crate::itm_shapes::itm_of;
 use crate::line_fault::LineFault;
-use crate::raw_bytes::raw_of;
+use crate::quick::{quick_packet, quick_raw};
+use crate::raw_bytes::{RawBytes, raw_of};
 use crate::shapes::{Shape, shape_of};
 use crate::stp_shapes::stp_of;
 use crate::words::{Words, put_words};
 use decimal_words::id_in;
+use itm_grammar::packet::ItmPacket;
 use source_events::{Plan, SourceKind};
 use trace_values::SourceId;
 
@@ -29,7 +31,7 @@ pub enum Line {
 }
 
 /// The most bytes of a line, without its line feed.
-const LINE_BYTES: usize = 256;
+pub const LINE_BYTES: usize = 256;
 
 /// The source that is never raw: its bytes are triggers.
 const TRIGGER_SOURCE: u8 = 125;
@@ -107,6 +109,30 @@ fn read_shape(
     Ok(())
 }
 
+/// A packet of this source, where the source is one for it. At a fault `said` is as before.
+fn take_packet(plan: &Plan, found: (SourceId, ItmPacket), said: &mut Line) -> Result<(), LineFault>
+    ensures value { taken_by (kind_of plan.now found.0) found.0 (Item.Itm found.1) ≡ answer result said.new }
+    ensures same { OnErr result (said.new ≡ said.old) }
+{
+    let (id, packet) = found;
+    takes_itm(plan.kind_of(id))?;
+    let item = Item::Itm(packet);
+    *said = Line::Of { id, item };
+    Ok(())
+}
+
+/// Bytes of this source, where the source is one for them. At a fault `said` is as before.
+fn take_raw(plan: &Plan, found: (SourceId, RawBytes), said: &mut Line) -> Result<(), LineFault>
+    ensures value { taken_by (kind_of plan.now found.0) found.0 (Item.Raw found.1) ≡ answer result said.new }
+    ensures same { OnErr result (said.new ≡ said.old) }
+{
+    let (id, bytes) = found;
+    takes_raw(plan.kind_of(id), id)?;
+    let item = Item::Raw(bytes);
+    *said = Line::Of { id, item };
+    Ok(())
+}
+
 /// What the words of a line say.
 #[tactic(auto, unfolding(crate::specs::Lines::line_of_words))]
 fn read_words(plan: &Plan, words: &[&[u8]], said: &mut Line) -> Result<(), LineFault>
@@ -121,6 +147,24 @@ fn read_words(plan: &Plan, words: &[&[u8]], said: &mut Line) -> Result<(), LineF
             read_shape(shape, plan.kind_of(id), id, words, said)
         }
     }
+}
+
+/// What a line of words says, which are printable and between single spaces. At a fault `said` is as before.
+#[inline(never)]
+fn read_printable(line: &[u8], plan: &Plan, said: &mut Line) -> Result<(), LineFault>
+    ensures value { (if are_printable line.now then line_of_printable plan.now line.now
+        else Err LineFault.BadLine) ≡ answer result said.new }
+    ensures said { OnOk result (IsSaid plan.now said.new) }
+    ensures same { OnErr result (said.new ≡ said.old) }
+{
+    if let Some(found) = quick_raw(line) {
+        return take_raw(plan, found, said);
+    }
+    let mut words = Words::new();
+    if !put_words(line, &mut words) {
+        return Err(LineFault::BadLine);
+    }
+    read_words(plan, words.as_slice(), said)
 }
 
 /// What a line, without its line feed, says, or its first fault. What is mapped is by the plan alone, whose modes make
@@ -155,9 +199,8 @@ pub fn read_into(line: &[u8], plan: &Plan, said: &mut Line) -> Result<(), LineFa
         }
         _ => {}
     }
-    let mut words = Words::new();
-    if !put_words(line, &mut words) {
-        return Err(LineFault::BadLine);
+    if let Some(found) = quick_packet(line) {
+        return take_packet(plan, found, said);
     }
-    read_words(plan, words.as_slice(), said)
+    read_printable(line, plan, said)
 }

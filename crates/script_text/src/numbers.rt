@@ -13,31 +13,28 @@ use crate::words::word_of;
 use decimal_words::number_in;
 use itm_grammar::packet::Size;
 
-/// What a letter says as a hexadecimal digit, in either case; 16 for a byte that is none.
-fn letter_value(letter: u8) -> u8
-    ensures lower { 97 ≤ letter → letter ≤ 102 → result + 87 ≡ letter }
-    ensures upper { 65 ≤ letter → letter ≤ 70 → result + 55 ≡ letter }
-    ensures other { (letter < 65) ⊎ ((70 < letter) × (letter < 97)) ⊎ (102 < letter) → result ≡ 16 }
-{
-    let lower = letter.wrapping_sub(b'a');
-    let upper = letter.wrapping_sub(b'A');
-    if lower < 6 {
-        lower + 10
-    } else if upper < 6 {
-        upper + 10
-    } else {
-        16
-    }
-}
+/// What each byte says as a hexadecimal digit, in either case; 16 for one that is none.
+const DIGITS: [u8; 256] = [
+    16, 16, 16, 16, 16, 16, 16, 16, 16, 16, 16, 16, 16, 16, 16, 16, 16, 16, 16, 16, 16, 16, 16, 16,
+    16, 16, 16, 16, 16, 16, 16, 16, 16, 16, 16, 16, 16, 16, 16, 16, 16, 16, 16, 16, 16, 16, 16, 16,
+    0, 1, 2, 3, 4, 5, 6, 7, 8, 9, 16, 16, 16, 16, 16, 16, 16, 10, 11, 12, 13, 14, 15, 16, 16, 16,
+    16, 16, 16, 16, 16, 16, 16, 16, 16, 16, 16, 16, 16, 16, 16, 16, 16, 16, 16, 16, 16, 16, 16, 10,
+    11, 12, 13, 14, 15, 16, 16, 16, 16, 16, 16, 16, 16, 16, 16, 16, 16, 16, 16, 16, 16, 16, 16, 16,
+    16, 16, 16, 16, 16, 16, 16, 16, 16, 16, 16, 16, 16, 16, 16, 16, 16, 16, 16, 16, 16, 16, 16, 16,
+    16, 16, 16, 16, 16, 16, 16, 16, 16, 16, 16, 16, 16, 16, 16, 16, 16, 16, 16, 16, 16, 16, 16, 16,
+    16, 16, 16, 16, 16, 16, 16, 16, 16, 16, 16, 16, 16, 16, 16, 16, 16, 16, 16, 16, 16, 16, 16, 16,
+    16, 16, 16, 16, 16, 16, 16, 16, 16, 16, 16, 16, 16, 16, 16, 16, 16, 16, 16, 16, 16, 16, 16, 16,
+    16, 16, 16, 16, 16, 16, 16, 16, 16, 16, 16, 16, 16, 16, 16, 16, 16, 16, 16, 16, 16, 16, 16, 16,
+    16, 16, 16, 16, 16, 16, 16, 16, 16, 16, 16, 16, 16, 16,
+];
 
-/// What a hexadecimal digit says, in either case; 16 for a byte that is none. Both values are at hand before one is
-/// chosen, since it has no pattern which digits are letters.
+/// What a hexadecimal digit says, in either case; 16 for a byte that is none. By a table, since it has no pattern which
+/// digits are letters.
+#[tactic(auto, using(crate::proofs::DigitTable::digit_table))]
 fn digit_value(digit: u8) -> u8
     ensures { result ≡ (if is_ascii_hexdigit digit then digit_value digit else 16) }
 {
-    let letter = letter_value(digit);
-    let decimal = digit.wrapping_sub(b'0');
-    if decimal < 10 { decimal } else { letter }
+    DIGITS[digit as usize]
 }
 
 /// The number that at most 16 bytes say, if they are hexadecimal digits.
@@ -96,9 +93,10 @@ pub fn byte_at(words: &[&[u8]], k: usize) -> Option<u8>
     }
 }
 
-/// The value of this size that the word of this number is.
-pub fn value_at(size: Size, words: &[&[u8]], k: usize) -> Option<u32>
-    ensures value { result ≡ hexadecimal_in (2 * byte_count size) (texts words.now) k }
+/// The value of this size that a text is, two digits for each byte.
+#[inline(always)]
+pub fn value_named(size: Size, text: &[u8]) -> Option<u32>
+    ensures value { result ≡ named (2 * byte_count size) text.now }
     ensures fits { IfSome result (λ n. n < 256 ^ byte_count size) }
 {
     let count = match size {
@@ -106,8 +104,16 @@ pub fn value_at(size: Size, words: &[&[u8]], k: usize) -> Option<u32>
         Size::Two => 4,
         Size::Four => 8,
     };
-    match hexadecimal_at(count, words, k) {
+    match hexadecimal_named(count, text) {
         Some(value) => Some(value as u32),
         None => None,
     }
+}
+
+/// The value of this size that the word of this number is.
+pub fn value_at(size: Size, words: &[&[u8]], k: usize) -> Option<u32>
+    ensures value { result ≡ hexadecimal_in (2 * byte_count size) (texts words.now) k }
+    ensures fits { IfSome result (λ n. n < 256 ^ byte_count size) }
+{
+    value_named(size, word_of(words, k))
 }

@@ -47,7 +47,7 @@ impl RawBytes {
 }
 
 /// The bytes that a text is in hexadecimal, two digits each: 1 to 100.
-fn bytes_named(text: &[u8]) -> Option<RawBytes>
+pub fn bytes_named(text: &[u8]) -> Option<RawBytes>
     ensures { result ≡ named text.now }
 {
     if text.len() < 2 || text.len() > 2 * RAW_BYTES {

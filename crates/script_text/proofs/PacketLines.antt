@@ -1,0 +1,301 @@
+-- Lines that are read from their bytes: their words, and what they say.
+use Rattle.std.proofs.Common.{◌≡◌, ℕ, suc, ◌+◌, ◌-◌, ◌*◌, ◌<◌, ◌≤◌, ◌^◌, List, [], ◌∷◌, ◌++◌, length, take, drop, refl, sym, ◌∙◌, ap, subst, arith, Bool, true, false, Some, None, Option, Ok, Err, Result}
+use Rattle.std.specs.Prelude.{slice_index, ◌==◌, ◌&&◌, nat_lt, nat_le, codes, decimal, ok_or, option_map, OnOk, if◌then◌else◌}
+use Rattle.std.specs.List.{list_all, AllPass}
+use Rattle.std.proofs.lemmas.List.Elements.{All-head, All-tail}
+use Rattle.hex.specs.Hex.{is_hex_digit}
+use Rattle.std.specs.Char.{is_ascii_hexdigit, digit_value}
+use Rattle.std.specs.Str.Parse.{AllDigits}
+use Rattle.std.proofs.lemmas.Bool.Decides.{nat_tests}
+use Rattle.std.proofs.lemmas.Str.{digit_value_digit}
+use Rattle.decimal_words.specs.Numbers.{number_named}
+use Rattle.decimal_words.proofs.Numbers.{is_decimal, decimal_digits, decimal_has, names_number}
+use Rattle.itm_grammar.specs.Spelling.{byte_count}
+use Rattle.itm_grammar.specs.declared.packet.Size.{Size}
+use Rattle.itm_grammar.specs.declared.packet.Size.TheVariants.{One, Two, Four}
+use Rattle.itm_grammar.specs.declared.packet.Lateness.TheVariants.{Exact}
+use Rattle.itm_grammar.specs.declared.packet.ItmPacket.TheVariants as itm
+use Rattle.source_events.specs.declared.plan.Plan.{Plan}
+use Rattle.source_events.specs.Plan.{kind_of}
+use Rattle.script_text.specs.declared.shapes.Shape.{Shape}
+use Rattle.script_text.specs.declared.shapes.Shape.TheVariants as shapes
+use Rattle.script_text.specs.declared.itm_shapes.ItmShape.TheVariants as itm_shapes
+use Rattle.script_text.specs.declared.items.Item.{Item}
+use Rattle.script_text.specs.declared.items.Item.TheVariants as items
+use Rattle.script_text.specs.declared.lines.Line.{Line}
+use Rattle.script_text.specs.declared.lines.Line.TheVariants.{Nothing}
+use Rattle.script_text.specs.declared.line_fault.LineFault.{LineFault}
+use Rattle.script_text.specs.declared.line_fault.LineFault.TheVariants.{LongLine, BadLine, BadId, BadNumber}
+use Rattle.script_text.specs.Words.{is_graphic, are_printable, words_in, are_words}
+use Rattle.script_text.specs.Numbers.{hexadecimal_named}
+use Rattle.script_text.specs.Shapes.{shape_named}
+use Rattle.script_text.specs.Items.{itm_of, item_of, bytes_named}
+use Rattle.script_text.specs.Steps.{◌>>=◌}
+use Rattle.script_text.specs.Lines.{taken_by, is_nothing, line_of_words, line_of_printable, line_of, answer, ◌>>=◌ as ◌>>ₗ◌}
+use Rattle.script_text.specs.Quick.{BeginsWith, BeginsWithNumber, SaysPacket, SaysItem, IsItemOf, size_word}
+use Rattle.script_text.specs.Said.{IsSaid}
+use Rattle.script_text.proofs.LineRanges.{words_said_on, bytes_are}
+use Rattle.script_text.proofs.Hexadecimals.{and_left, and_right, hexadecimal_is}
+use Rattle.script_text.proofs.Splitting.{IsWord, more_word, IsCut, more_cut, end_of}
+
+both : (a b : Bool) → a ≡ true → b ≡ true → (a && b) ≡ true
+both true b p q = q
+both false b p q = cc
+
+-- numbers of at most three digits at the front
+graphic_digit : (a : ℕ) → 48 ≤ a → a ≤ 57 → is_graphic a ≡ true
+graphic_digit a l h = grind (arith, nat_tests)
+
+no_remark : (a : ℕ) → 48 ≤ a → (a == 35) ≡ false
+no_remark a l = grind (arith, nat_tests)
+
+space : (rest : List ℕ) (s : ℕ) → s ≡ 32 → IsCut (s ∷ rest) 0
+space rest s e = rw e (record { printable = refl; words = refl })
+
+begins : (line word : List ℕ) (n : ℕ) → IsCut line n → take n line ≡ word → BeginsWith line word (drop (suc n) line)
+begins line word n c e = record { printable = c.printable; words = c.words ∙ ap (λ (w : List ℕ). w ∷ words_in (drop (suc n) line)) e }
+
+one : (a s : ℕ) (rest : List ℕ) → 48 ≤ a → a ≤ 57 → s ≡ 32 → BeginsWith (a ∷ (s ∷ rest)) (decimal (a - 48)) rest
+one a s rest l h e =
+    let d : digit_value a + 48 ≡ a = digit_value_digit a (l, h) in
+    let text : (a ∷ []) ≡ decimal (a - 48) = is_decimal (a ∷ []) (a - 48) (omega arith, λ z. refl) (omega arith) ((omega arith, tt), omega arith) in
+    begins (a ∷ (s ∷ rest)) (decimal (a - 48)) 1 (more_cut a (s ∷ rest) 0 (graphic_digit a l h) (space rest s e)) text
+
+two : (a b s : ℕ) (rest : List ℕ) → 49 ≤ a → a ≤ 57 → 48 ≤ b → b ≤ 57 → s ≡ 32 → BeginsWith (a ∷ (b ∷ (s ∷ rest))) (decimal (10 * (a - 48) + (b - 48))) rest
+two a b s rest la ha lb hb e =
+    let n = 10 * (a - 48) + (b - 48) in
+    let da : digit_value a + 48 ≡ a = digit_value_digit a (omega arith, ha) in
+    let db : digit_value b + 48 ≡ b = digit_value_digit b (lb, hb) in
+    let text : (a ∷ (b ∷ [])) ≡ decimal n = is_decimal (a ∷ (b ∷ [])) n (omega arith, λ z. absurd (omega arith)) (omega arith) ((omega arith, (omega arith, tt)), omega arith) in
+    begins (a ∷ (b ∷ (s ∷ rest))) (decimal n) 2
+    (more_cut a (b ∷ (s ∷ rest)) 1 (graphic_digit a (omega arith) ha) (more_cut b (s ∷ rest) 0 (graphic_digit b lb hb) (space rest s e))) text
+
+three : (a b c s : ℕ) (rest : List ℕ) → 49 ≤ a → a ≤ 57 → 48 ≤ b → b ≤ 57 → 48 ≤ c → c ≤ 57 → s ≡ 32 →
+    BeginsWith (a ∷ (b ∷ (c ∷ (s ∷ rest)))) (decimal (10 * (10 * (a - 48) + (b - 48)) + (c - 48))) rest
+three a b c s rest la ha lb hb lc hc e =
+    let n = 10 * (10 * (a - 48) + (b - 48)) + (c - 48) in
+    let da : digit_value a + 48 ≡ a = digit_value_digit a (omega arith, ha) in
+    let db : digit_value b + 48 ≡ b = digit_value_digit b (lb, hb) in
+    let dc : digit_value c + 48 ≡ c = digit_value_digit c (lc, hc) in
+    let text : (a ∷ (b ∷ (c ∷ []))) ≡ decimal n = is_decimal (a ∷ (b ∷ (c ∷ []))) n (omega arith, λ z. absurd (omega arith)) (omega arith) ((omega arith, (omega arith, (omega arith, tt))), omega arith) in
+    begins (a ∷ (b ∷ (c ∷ (s ∷ rest)))) (decimal n) 3
+    (more_cut a (b ∷ (c ∷ (s ∷ rest))) 2 (graphic_digit a (omega arith) ha)
+    (more_cut b (c ∷ (s ∷ rest)) 1 (graphic_digit b lb hb) (more_cut c (s ∷ rest) 0 (graphic_digit c lc hc) (space rest s e)))) text
+
+pub one_digit : (line : List ℕ) (n : ℕ) → 4 ≤ length line → 48 ≤ slice_index line 0 → slice_index line 0 ≤ 57 → slice_index line 1 ≡ 32 →
+    n ≡ slice_index line 0 - 48 → BeginsWithNumber line n (take (length line - 2) (drop 2 line))
+one_digit [] n len l h e is = absurd (omega arith)
+one_digit (a ∷ []) n len l h e is = absurd (omega arith)
+one_digit (a ∷ (s ∷ rest)) n len l h e is =
+    let line = a ∷ (s ∷ rest) in
+    record {
+      begins = subst (BeginsWith line (decimal n)) (sym (end_of line 1)) (subst (λ (n : ℕ). BeginsWith line (decimal n) rest) (sym is) (one a s rest l h e));
+      some = no_remark a l;
+    }
+
+pub two_digits : (line : List ℕ) (n : ℕ) → 4 ≤ length line → 49 ≤ slice_index line 0 → slice_index line 0 ≤ 57 → 48 ≤ slice_index line 1 → slice_index line 1 ≤ 57 →
+    slice_index line 2 ≡ 32 → n ≡ 10 * (slice_index line 0 - 48) + (slice_index line 1 - 48) → BeginsWithNumber line n (take (length line - 3) (drop 3 line))
+two_digits [] n len la ha lb hb e is = absurd (omega arith)
+two_digits (a ∷ []) n len la ha lb hb e is = absurd (omega arith)
+two_digits (a ∷ (b ∷ [])) n len la ha lb hb e is = absurd (omega arith)
+two_digits (a ∷ (b ∷ (s ∷ rest))) n len la ha lb hb e is =
+    let line = a ∷ (b ∷ (s ∷ rest)) in
+    record {
+      begins = subst (BeginsWith line (decimal n)) (sym (end_of line 2)) (subst (λ (n : ℕ). BeginsWith line (decimal n) rest) (sym is) (two a b s rest la ha lb hb e));
+      some = no_remark a (omega arith);
+    }
+
+pub three_digits : (line : List ℕ) (n : ℕ) → 4 ≤ length line → 49 ≤ slice_index line 0 → slice_index line 0 ≤ 57 → 48 ≤ slice_index line 1 → slice_index line 1 ≤ 57 →
+    48 ≤ slice_index line 2 → slice_index line 2 ≤ 57 → slice_index line 3 ≡ 32 →
+    n ≡ 10 * (10 * (slice_index line 0 - 48) + (slice_index line 1 - 48)) + (slice_index line 2 - 48) → BeginsWithNumber line n (take (length line - 4) (drop 4 line))
+three_digits [] n len la ha lb hb lc hc e is = absurd (omega arith)
+three_digits (a ∷ []) n len la ha lb hb lc hc e is = absurd (omega arith)
+three_digits (a ∷ (b ∷ [])) n len la ha lb hb lc hc e is = absurd (omega arith)
+three_digits (a ∷ (b ∷ (c ∷ []))) n len la ha lb hb lc hc e is = absurd (omega arith)
+three_digits (a ∷ (b ∷ (c ∷ (s ∷ rest)))) n len la ha lb hb lc hc e is =
+    let line = a ∷ (b ∷ (c ∷ (s ∷ rest))) in
+    record {
+      begins = subst (BeginsWith line (decimal n)) (sym (end_of line 3)) (subst (λ (n : ℕ). BeginsWith line (decimal n) rest) (sym is) (three a b c s rest la ha lb hb lc hc e));
+      some = no_remark a (omega arith);
+    }
+
+-- digits alone are a word
+graphic_hexadecimal : (c : ℕ) → is_ascii_hexdigit c ≡ true → is_graphic c ≡ true
+graphic_hexadecimal c h = grind (arith, nat_tests)
+
+hexadecimal_word : (text : List ℕ) → list_all is_ascii_hexdigit text ≡ true → IsWord text
+hexadecimal_word [] h = record { printable = refl; one = refl }
+hexadecimal_word (c ∷ text) h =
+    more_word c text (graphic_hexadecimal c (and_left (is_ascii_hexdigit c) (list_all is_ascii_hexdigit text) h))
+    (hexadecimal_word text (and_right (is_ascii_hexdigit c) (list_all is_ascii_hexdigit text) h))
+
+graphic_decimal : (c : ℕ) → digit_value c < 10 → is_graphic c ≡ true
+graphic_decimal c h = grind (arith, nat_tests)
+
+decimal_word : (text : List ℕ) → AllDigits 10 text → IsWord text
+decimal_word [] h = record { printable = refl; one = refl }
+decimal_word (c ∷ text) h = more_word c text (graphic_decimal c h.0) (decimal_word text h.1)
+
+-- one more word
+some_words : (n : ℕ) (word : List ℕ) (words : List (List ℕ)) → 0 < length word → nat_lt n 8 ≡ true → are_words (n + 1) words ≡ true → are_words n (word ∷ words) ≡ true
+some_words n word words l h m =
+    let a : nat_lt 0 (length word) ≡ true = grind (arith, nat_tests) in
+    both (nat_lt 0 (length word) && nat_lt n 8) (are_words (n + 1) words) (both (nat_lt 0 (length word)) (nat_lt n 8) a h) m
+
+decimal_some : (n : ℕ) → n < 2 ^ 64 → 0 < length (decimal n)
+decimal_some n h = (decimal_has n (decimal n) h refl).0
+
+-- what words after an ID say, by their shape and item
+words_say : (plan : Plan) (id : List ℕ) (words : List (List ℕ)) (shape : Shape) (item : Item) → shape_named words ≡ Some shape → item_of shape words ≡ Some item →
+    line_of_words plan (id ∷ words) ≡ (ok_or (number_named 1 126 id) BadId >>ₗ λ n. taken_by (kind_of plan n) n item)
+unfolding line_of_words
+words_say plan id words shape item e f =
+    ap (λ (o : Option Shape). ok_or o BadLine >>ₗ λ shape. ok_or (number_named 1 126 id) BadId >>ₗ λ n. ok_or (item_of shape words) BadNumber >>ₗ λ item. taken_by (kind_of plan n) n item) e
+    ∙ ap (λ (o : Option Item). ok_or (number_named 1 126 id) BadId >>ₗ λ n. ok_or o BadNumber >>ₗ λ item. taken_by (kind_of plan n) n item) f
+
+-- a software packet
+port_shape : (port digits : List ℕ) (size : Size) → shape_named (codes "port" ∷ (port ∷ (size_word size ∷ (digits ∷ [])))) ≡ Some (shapes.Itm (itm_shapes.Software size))
+unfolding shape_named
+port_shape port digits One = refl
+port_shape port digits Two = refl
+port_shape port digits Four = refl
+
+port_item : (size : Size) (port v : ℕ) (digits : List ℕ) → port ≤ 31 → hexadecimal_named (2 * byte_count size) digits ≡ Some v →
+    item_of (shapes.Itm (itm_shapes.Software size)) (codes "port" ∷ (decimal port ∷ (size_word size ∷ (digits ∷ [])))) ≡ Some (items.Itm (itm.Software port size v))
+unfolding itm_of
+port_item size port v digits h e =
+    ap (λ (o : Option ℕ). option_map items.Itm (o >>= λ port. hexadecimal_named (2 * byte_count size) digits >>= λ value. Some (itm.Software port size value)))
+    (names_number 0 31 port (decimal port) (omega arith) (omega arith) h refl)
+    ∙ ap (λ (o : Option ℕ). option_map items.Itm (o >>= λ value. Some (itm.Software port size value))) e
+
+size_some : (size : Size) → 0 < length (size_word size)
+size_some One = omega arith
+size_some Two = omega arith
+size_some Four = omega arith
+
+digits_some : (size : Size) (digits : List ℕ) → length digits ≡ 2 * byte_count size → 0 < length digits
+digits_some One digits e = omega arith
+digits_some Two digits e = omega arith
+digits_some Four digits e = omega arith
+
+pub software_says : (line rest digits : List ℕ) (port : ℕ) (size : Size) (v : ℕ) → port ≤ 31 → BeginsWithNumber line port rest → BeginsWith rest (size_word size) digits →
+    hexadecimal_named (2 * byte_count size) digits ≡ Some v → SaysPacket (codes "port " ++ line) (itm.Software port size v)
+software_says line rest digits port size v h p q e =
+    let is = hexadecimal_is (2 * byte_count size) digits v e in
+    let w = hexadecimal_word digits is.1 in
+    let few = some_words 1 (codes "port") (decimal port ∷ (size_word size ∷ (digits ∷ []))) (omega arith) refl
+    (some_words 2 (decimal port) (size_word size ∷ (digits ∷ [])) (decimal_some port (omega arith)) refl
+    (some_words 3 (size_word size) (digits ∷ []) (size_some size) refl
+    (some_words 4 digits [] (digits_some size digits is.0) refl refl))) in
+    let words : words_in (codes "port " ++ line) ≡ codes "port" ∷ (decimal port ∷ (size_word size ∷ (digits ∷ []))) =
+    ap (λ (l : List (List ℕ)). codes "port" ∷ l) (p.begins.words
+    ∙ ap (λ (l : List (List ℕ)). decimal port ∷ l) (q.words ∙ ap (λ (l : List (List ℕ)). size_word size ∷ l) w.one)) in
+    record {
+      printable = p.begins.printable ∙ q.printable ∙ w.printable;
+      words = ap (are_words 1) words ∙ few;
+      said = λ plan id. ap (λ (l : List (List ℕ)). line_of_words plan (id ∷ l)) words
+          ∙ words_say plan id (codes "port" ∷ (decimal port ∷ (size_word size ∷ (digits ∷ [])))) (shapes.Itm (itm_shapes.Software size))
+          (items.Itm (itm.Software port size v)) (port_shape (decimal port) digits size) (port_item size port v digits h e);
+    }
+
+-- an exact local timestamp
+local_shape : (digits : List ℕ) → shape_named (codes "local" ∷ (codes "exact" ∷ (digits ∷ []))) ≡ Some (shapes.Itm (itm_shapes.Local Exact))
+unfolding shape_named
+local_shape digits = refl
+
+local_item : (delta : ℕ) (digits : List ℕ) → delta ≤ 2 ^ 28 - 1 → digits ≡ decimal delta →
+    item_of (shapes.Itm (itm_shapes.Local Exact)) (codes "local" ∷ (codes "exact" ∷ (digits ∷ []))) ≡ Some (items.Itm (itm.Local Exact delta))
+unfolding itm_of
+local_item delta digits h e =
+    ap (λ (o : Option ℕ). option_map items.Itm (o >>= λ delta. Some (itm.Local Exact delta)))
+    (names_number 0 (2 ^ 28 - 1) delta digits (omega arith) (omega arith) h e)
+
+pub exact_says : (digits : List ℕ) (delta : ℕ) → delta ≤ 2 ^ 28 - 1 → digits ≡ decimal delta → SaysPacket (codes "local exact " ++ digits) (itm.Local Exact delta)
+exact_says digits delta h e =
+    let w = decimal_word digits (subst (AllDigits 10) (sym e) (decimal_digits delta (omega arith))) in
+    let some : 0 < length digits = subst (λ (d : List ℕ). 0 < length d) (sym e) (decimal_some delta (omega arith)) in
+    let few = some_words 1 (codes "local") (codes "exact" ∷ (digits ∷ [])) (omega arith) refl
+    (some_words 2 (codes "exact") (digits ∷ []) (omega arith) refl (some_words 3 digits [] some refl refl)) in
+    let words : words_in (codes "local exact " ++ digits) ≡ codes "local" ∷ (codes "exact" ∷ (digits ∷ [])) =
+    ap (λ (l : List (List ℕ)). codes "local" ∷ (codes "exact" ∷ l)) w.one in
+    record {
+      printable = w.printable;
+      words = ap (are_words 1) words ∙ few;
+      said = λ plan id. ap (λ (l : List (List ℕ)). line_of_words plan (id ∷ l)) words
+          ∙ words_say plan id (codes "local" ∷ (codes "exact" ∷ (digits ∷ []))) (shapes.Itm (itm_shapes.Local Exact))
+          (items.Itm (itm.Local Exact delta)) (local_shape digits) (local_item delta digits h e);
+    }
+
+-- bytes
+graphic_hex : (c : ℕ) → is_hex_digit c ≡ true → is_graphic c ≡ true
+graphic_hex c h = grind (arith, nat_tests)
+
+hex_word : (text : List ℕ) → AllPass is_hex_digit text → IsWord text
+hex_word [] h = record { printable = refl; one = refl }
+hex_word (c ∷ text) h = more_word c text (graphic_hex c (All-head (λ c. is_hex_digit c ≡ true) c text h)) (hex_word text (All-tail (λ c. is_hex_digit c ≡ true) c text h))
+
+raw_shape : (digits : List ℕ) → shape_named (codes "raw" ∷ (digits ∷ [])) ≡ Some shapes.Raw
+unfolding shape_named
+raw_shape digits = refl
+
+pub raw_says : (line digits bytes : List ℕ) → line ≡ codes "raw " ++ digits → bytes_named digits ≡ Some bytes → SaysItem line (items.Raw bytes)
+raw_says line digits bytes is e =
+    let named = bytes_are digits bytes e in
+    let w = hex_word digits named.1 in
+    let few = some_words 1 (codes "raw") (digits ∷ []) (omega arith) refl (some_words 2 digits [] (omega (arith, named.0)) refl refl) in
+    let words : words_in (codes "raw " ++ digits) ≡ codes "raw" ∷ (digits ∷ []) = ap (λ (l : List (List ℕ)). codes "raw" ∷ l) w.one in
+    subst (λ (line : List ℕ). SaysItem line (items.Raw bytes)) (sym is) (record {
+      printable = w.printable;
+      words = ap (are_words 1) words ∙ few;
+      said = λ plan id. ap (λ (l : List (List ℕ)). line_of_words plan (id ∷ l)) words
+          ∙ words_say plan id (codes "raw" ∷ (digits ∷ [])) shapes.Raw (items.Raw bytes) (raw_shape digits) (ap (option_map items.Raw) e);
+    })
+
+-- a whole line
+named_is : (number id : ℕ) → Some id ≡ (if nat_le number 126 then Some number else None) → id ≡ number
+named_is number id e = by (nat_le number 126) e
+  where
+    by : (v : Bool) → Some id ≡ (if v then Some number else None) → id ≡ number
+    by true e = cc
+    by false e = cc
+
+pub item_of_line : (line rest : List ℕ) (number id : ℕ) (item : Item) → 1 ≤ number → number ≤ 126 → BeginsWithNumber line number rest →
+    Some id ≡ (if nat_le number 126 then Some number else None) → SaysItem rest item → IsItemOf line id item
+item_of_line line rest number id item l h b e s = subst (λ (id : ℕ). IsItemOf line id item) (sym (named_is number id e)) (record {
+  some = b.some;
+  printable = b.begins.printable ∙ s.printable;
+  words = ap (are_words 0) b.begins.words ∙ some_words 0 (decimal number) (words_in rest) (decimal_some number (omega arith)) refl s.words;
+  said = λ plan. ap (line_of_words plan) b.begins.words ∙ s.said plan (decimal number)
+      ∙ ap (λ (o : Option ℕ). ok_or o BadId >>ₗ λ n. taken_by (kind_of plan n) n item) (names_number 1 126 number (decimal number) (omega arith) l h refl);
+})
+
+-- and its reading
+pub printable_says : (plan : Plan) (line : List ℕ) (id : ℕ) (item : Item) (r : Result Line LineFault) → IsItemOf line id item →
+    taken_by (kind_of plan id) id item ≡ r → (if are_printable line then line_of_printable plan line else Err BadLine) ≡ r
+printable_says plan line id item r p e = by (are_printable line) (are_words 0 (words_in line)) p.printable p.words ∙ p.said plan ∙ e
+  where
+    by : (c d : Bool) → c ≡ true → d ≡ true →
+        (if c then (if d then line_of_words plan (words_in line) else Err BadLine) else Err BadLine) ≡ line_of_words plan (words_in line)
+    by false d g h = cc
+    by true false g h = cc
+    by true true g h = refl
+
+pub line_says : (plan : Plan) (line : List ℕ) (id : ℕ) (item : Item) (r : Result Line LineFault) → length line ≤ 256 → IsItemOf line id item →
+    taken_by (kind_of plan id) id item ≡ r → line_of plan line ≡ r
+unfolding line_of
+line_says plan line id item r few p e =
+    let short : nat_lt 256 (length line) ≡ false = grind (arith, nat_tests) in
+    by (nat_lt 256 (length line)) (is_nothing line) short p.some ∙ printable_says plan line id item r p e
+  where
+    printable : Result Line LineFault
+    printable = if are_printable line then line_of_printable plan line else Err BadLine
+
+    by : (a b : Bool) → a ≡ false → b ≡ false → (if a then Err LongLine else (if b then Ok Nothing else printable)) ≡ printable
+    by true b e f = cc
+    by false true e f = cc
+    by false false e f = refl
+
+-- so it can be said
+pub item_is_said : (plan : Plan) (line : List ℕ) (id : ℕ) (item : Item) (r : Result (Unit {0}) LineFault) (said : Line) →
+    IsItemOf line id item → taken_by (kind_of plan id) id item ≡ answer r said → OnOk r (IsSaid plan said)
+item_is_said plan line id item r said p e = words_said_on plan (words_in line) r said (p.said plan ∙ e)
