@@ -4,7 +4,7 @@ use Rattle.std.specs.Prelude.{◌==◌, ◌&&◌, not, nat_lt}
 use Rattle.std.proofs.lemmas.Bool.Decides.{nat_tests}
 use Rattle.std.proofs.lemmas.List.{length_push}
 use Rattle.frame_writer.specs.declared.pair.Pair.{Pair}
-use Rattle.frame_writer.specs.Written.{Tagged, first, behind, is_id, paired, closed, Paired, Closed, Filled, with_pair, filled, frame_bytes, frames_by, frames_from, known, is_due, following, naming, is_odd}
+use Rattle.frame_writer.specs.Written.{Tagged, first, after_first, is_id, paired, closed, Paired, Closed, Filled, with_pair, filled, frame_bytes, frames_by, frames_from, known, is_due, following, naming, is_odd}
 use Rattle.frame_writer.specs.Unfinished.{queued, middle, continued, is_empty, is_sound}
 
 pub filled_zero : (c : Option ℕ) (t : List Tagged) → filled zero c t ≡ record { pairs = []; end = closed c t }
@@ -20,16 +20,16 @@ fewer_cond : (b : Bool) (x y : Paired) (n : ℕ) → length x.rest ≤ n → len
 fewer_cond true x y n h k = h
 fewer_cond false x y n h k = k
 
-behind_fewer : (t : List Tagged) → length (behind t) ≤ length t - 1
+behind_fewer : (t : List Tagged) → length (after_first t) ≤ length t - 1
 behind_fewer [] = omega arith
 behind_fewer (x ∷ t) = omega arith
 
 paired_fewer : (c : Option ℕ) (t : List Tagged) → length (paired c t).rest ≤ length t - 1
 paired_fewer c t =
     let a = behind_fewer t in
-    let b = behind_fewer (behind t) in
+    let b = behind_fewer (after_first t) in
     fewer_cond (is_id c (first t).id) _ _ (length t - 1)
-    (fewer_cond ((first (behind t)).id == (first t).id) _ _ (length t - 1) (omega arith) a) a
+    (fewer_cond ((first (after_first t)).id == (first t).id) _ _ (length t - 1) (omega arith) a) a
 
 closed_cond : (b : Bool) (x y : Closed) (n : ℕ) → length x.rest ≤ n → length y.rest ≤ n → length (cond b x y).rest ≤ n
 closed_cond true x y n h k = h
@@ -153,7 +153,7 @@ module _ (every halves : ℕ) where
   out_of_middle n (q ∷ pairs) p c t = refl
 
   paired_named : (c : Option ℕ) (x : Tagged) (t : List Tagged) → is_id c x.id ≡ false → paired c (x ∷ t) ≡ naming x t
-  paired_named c x t e = ap (λ b. cond b (following c x (first t) t (behind t)) (naming x t)) e
+  paired_named c x t e = ap (λ b. cond b (following c x (first t) t (after_first t)) (naming x t)) e
 
   pub names : (n : ℕ) (pairs : List Pair) (c : Option ℕ) (i b : ℕ) (t : List Tagged) → is_sound every n pairs c None ≡ true → length pairs < 7 → is_id c i ≡ false →
       continued every halves n pairs c None (record { id = i; byte = b } ∷ t)

@@ -11,7 +11,7 @@ use Rattle.frame_grammar.specs.Frame.{names, aux_bit, even_data, even_cells, odd
 use Rattle.frame_grammar.proofs.Looks.{passes, passes_odd, names_now, names_next, defers, starts}
 use Rattle.frame_grammar.proofs.Pairs.{made, even_is, even_no, odd_is}
 use Rattle.frame_writer.specs.declared.pair.Pair.{Pair}
-use Rattle.frame_writer.specs.Written.{Tagged, first, behind, is_id, is_odd, paired, closed, Paired, Closed, Filled, filled, following, naming, bit, aux_byte}
+use Rattle.frame_writer.specs.Written.{Tagged, first, after_first, is_id, is_odd, paired, closed, Paired, Closed, Filled, filled, following, naming, bit, aux_byte}
 use Rattle.frame_writer.specs.ReadBack.{seen, as_seen}
 use Rattle.frame_writer.proofs.Frames.{filled_zero, filled_suc, eq_of}
 use Rattle.frame_writer.proofs.Bytes.{bit_small}
@@ -83,7 +83,7 @@ pub first_id : (t : List Tagged) → AllIds t → (first t).id ≤ 126
 first_id [] a = omega arith
 first_id (x ∷ t) a = a.0
 
-pub behind_ids : (t : List Tagged) → AllIds t → AllIds (behind t)
+pub behind_ids : (t : List Tagged) → AllIds t → AllIds (after_first t)
 behind_ids [] a = a
 behind_ids (x ∷ t) a = a.1
 
@@ -92,11 +92,11 @@ abbrev pub Knows : Option ℕ → Option ℕ → Type 0
 Knows None id = Unit {0}
 Knows (Some i) id = id ≡ Some i
 
-one : (t : List Tagged) → (n : ℕ) × ((first t ∷ behind t) ≡ t ++ replicate n null)
+one : (t : List Tagged) → (n : ℕ) × ((first t ∷ after_first t) ≡ t ++ replicate n null)
 one [] = (1, refl)
 one (x ∷ t) = (0, sym (append-nil (x ∷ t)))
 
-two : (t : List Tagged) → (n : ℕ) × ((first t ∷ (first (behind t) ∷ behind (behind t))) ≡ t ++ replicate n null)
+two : (t : List Tagged) → (n : ℕ) × ((first t ∷ (first (after_first t) ∷ after_first (after_first t))) ≡ t ++ replicate n null)
 two [] = (2, refl)
 two (x ∷ []) = (1, refl)
 two (x ∷ (y ∷ t)) = (0, sym (append-nil (x ∷ (y ∷ t))))
@@ -155,7 +155,7 @@ module _ (frame offsets : List ℕ) (before : Option ℕ) where
   same_seen id id' b b' e f = cc
 
   carries_naming : (k run : ℕ) (c id : Option ℕ) (t : List Tagged) → k < 8 → AllIds t → IsInForce frame before (2 * k) id run →
-      HasPair frame k (naming (first t) (behind t)).pair → Carries k t (Some (first t).id) (behind t)
+      HasPair frame k (naming (first t) (after_first t)).pair → Carries k t (Some (first t).id) (after_first t)
   carries_naming k run c id t h a f p =
       let i = (first t).id in
       let now = named_now k i run id h (first_id t a) p.even p.aux f in
@@ -172,10 +172,10 @@ module _ (frame offsets : List ℕ) (before : Option ℕ) where
       }
 
   carries_deferring : (k run : ℕ) (c id : Option ℕ) (t : List Tagged) → k < 8 → AllIds t → IsInForce frame before (2 * k) id run → id ≡ Some (first t).id →
-      HasPair frame k (record { even = 2 * (first (behind t)).id + 1; aux = true; odd = (first t).byte }) → Carries k t (Some (first (behind t)).id) (behind t)
+      HasPair frame k (record { even = 2 * (first (after_first t)).id + 1; aux = true; odd = (first t).byte }) → Carries k t (Some (first (after_first t)).id) (after_first t)
   carries_deferring k run c id t h a f e p =
-      let j = (first (behind t)).id in
-      let l = first_id (behind t) (behind_ids t a) in
+      let j = (first (after_first t)).id in
+      let l = first_id (after_first t) (behind_ids t a) in
       record {
         taken = first t ∷ [];
         nulls = (one t).0;
@@ -189,11 +189,11 @@ module _ (frame offsets : List ℕ) (before : Option ℕ) where
         ids = behind_ids t a;
       }
 
-  carries_two : (k run : ℕ) (c id : Option ℕ) (t : List Tagged) → k < 8 → AllIds t → IsInForce frame before (2 * k) id run → Knows c id → id ≡ Some (first t).id → (first (behind t)).id ≡ (first t).id →
-      HasPair frame k (record { even = 2 * ((first t).byte / 2); aux = is_odd (first t).byte; odd = (first (behind t)).byte }) → Carries k t c (behind (behind t))
+  carries_two : (k run : ℕ) (c id : Option ℕ) (t : List Tagged) → k < 8 → AllIds t → IsInForce frame before (2 * k) id run → Knows c id → id ≡ Some (first t).id → (first (after_first t)).id ≡ (first t).id →
+      HasPair frame k (record { even = 2 * ((first t).byte / 2); aux = is_odd (first t).byte; odd = (first (after_first t)).byte }) → Carries k t c (after_first (after_first t))
   carries_two k run c id t h a f kn e s p =
       let x = first t in
-      let y = first (behind t) in
+      let y = first (after_first t) in
       let n : (slice_index frame (2 * k) % 2 == 1) ≡ false = ap (λ (m : ℕ). m % 2 == 1) p.even ∙ even_not x.byte in
       let whole : even_data frame k ≡ x.byte =
       ap (λ (m : ℕ). 2 * (m / 2) + aux_bit frame k) p.even ∙ ap (λ (m : ℕ). 2 * (2 * (x.byte / 2) / 2) + m) (p.aux ∙ bit_odd x.byte) ∙ (let w : 2 * (2 * (x.byte / 2) / 2) + x.byte % 2 ≡ x.byte = omega arith in w) in
@@ -209,7 +209,7 @@ module _ (frame offsets : List ℕ) (before : Option ℕ) where
         bytes = (two t).1;
         force = passes frame before id k run h n f;
         knows = kn;
-        ids = behind_ids (behind t) (behind_ids t a);
+        ids = behind_ids (after_first t) (behind_ids t a);
       }
 
   abbrev CarriesPaired : ℕ → List Tagged → Paired → Type 0
@@ -221,14 +221,14 @@ module _ (frame offsets : List ℕ) (before : Option ℕ) where
     x = first t
 
     y : Tagged
-    y = first (behind t)
+    y = first (after_first t)
 
     by_next : (b : Bool) → (y.id == x.id) ≡ b → is_id c x.id ≡ true →
-        CarriesPaired k t (cond b (record { pair = record { even = 2 * (x.byte / 2); aux = is_odd x.byte; odd = y.byte }; id = c; rest = behind (behind t) }) (record { pair = record { even = 2 * y.id + 1; aux = true; odd = x.byte }; id = Some y.id; rest = behind t }))
+        CarriesPaired k t (cond b (record { pair = record { even = 2 * (x.byte / 2); aux = is_odd x.byte; odd = y.byte }; id = c; rest = after_first (after_first t) }) (record { pair = record { even = 2 * y.id + 1; aux = true; odd = x.byte }; id = Some y.id; rest = after_first t }))
     by_next true e d = carries_two k run c id t h a f kn (known_id c id x.id kn d) (eq_of y.id x.id e)
     by_next false e d = carries_deferring k run c id t h a f (known_id c id x.id kn d)
 
-    by_id : (b : Bool) → is_id c x.id ≡ b → CarriesPaired k t (cond b (following c x y (behind t) (behind (behind t))) (naming x (behind t)))
+    by_id : (b : Bool) → is_id c x.id ≡ b → CarriesPaired k t (cond b (following c x y (after_first t) (after_first (after_first t))) (naming x (after_first t)))
     by_id true e = by_next (y.id == x.id) refl e
     by_id false e = carries_naming k run c id t h a f
 
@@ -262,7 +262,7 @@ module _ (frame offsets : List ℕ) (before : Option ℕ) where
 
   lasts_data : (run : ℕ) (c id : Option ℕ) (t : List Tagged) → AllIds t → IsInForce frame before 14 id run → id ≡ Some (first t).id → c ≡ Some (first t).id →
       slice_index frame 14 ≡ 2 * ((first t).byte / 2) → aux_bit frame 7 ≡ bit (is_odd (first t).byte) →
-      Walks t (even_cells frame offsets before 7) (record { pairs = []; end = record { even = 2 * ((first t).byte / 2); aux = is_odd (first t).byte; id = c; rest = behind t } }) (id_after frame before)
+      Walks t (even_cells frame offsets before 7) (record { pairs = []; end = record { even = 2 * ((first t).byte / 2); aux = is_odd (first t).byte; id = c; rest = after_first t } }) (id_after frame before)
   lasts_data run c id t a f e g p q =
       let x = first t in
       let n : names frame 7 ≡ false = ap (λ (m : ℕ). m % 2 == 1) p ∙ even_not x.byte in
@@ -303,7 +303,7 @@ module _ (frame offsets : List ℕ) (before : Option ℕ) where
   lasts : (run : ℕ) (c id : Option ℕ) (t : List Tagged) → AllIds t → IsInForce frame before 14 id run → Knows c id → WalksClosed t (closed c t)
   lasts run c id t a f kn = by_id (is_id c (first t).id) refl where
     by_id : (b : Bool) → is_id c (first t).id ≡ b →
-        WalksClosed t (cond b (record { even = 2 * ((first t).byte / 2); aux = is_odd (first t).byte; id = c; rest = behind t }) (record { even = 2 * (first t).id + 1; aux = false; id = Some (first t).id; rest = t }))
+        WalksClosed t (cond b (record { even = 2 * ((first t).byte / 2); aux = is_odd (first t).byte; id = c; rest = after_first t }) (record { even = 2 * (first t).id + 1; aux = false; id = Some (first t).id; rest = t }))
     by_id true e = λ p q. lasts_data run c id t a f (known_id c id (first t).id kn e) (known_both c id (first t).id kn e) p q
     by_id false e = λ p q. lasts_named run id t a f p
 

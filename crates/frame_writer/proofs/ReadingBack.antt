@@ -15,7 +15,7 @@ use Rattle.frame_grammar.specs.Port.{PortItem, Full, Frame, half_spelling, IsWor
 use Rattle.frame_grammar.specs.Reading.{port_progress, port_cells, cells_of_items, id_of_items, item_cells, item_id, offsets_of, is_source}
 use Rattle.frame_grammar.proofs.Deciding.{port_decided}
 use Rattle.frame_writer.specs.declared.pair.Pair.{Pair}
-use Rattle.frame_writer.specs.Written.{Tagged, first, behind, is_id, paired, Paired, Closed, Filled, filled, spread, aux_byte, sync, is_due, known, frame_bytes, frames_by, capture}
+use Rattle.frame_writer.specs.Written.{Tagged, first, after_first, is_id, paired, Paired, Closed, Filled, filled, spread, aux_byte, sync, is_due, known, frame_bytes, frames_by, capture}
 use Rattle.port_reader.specs.Reading.{cells_of}
 use Rattle.port_reader.proofs.Grammar.{aligned_cells}
 use Rattle.frame_writer.specs.ReadBack.{IsOfSource, seen, as_seen, source_cells, read_back, ReadsBack}
@@ -130,11 +130,11 @@ placed_ids_cond false x y h k = k
 
 placed_mark : (c : Option ℕ) (t : List Tagged) → AllIds t → (paired c t).pair.even ≢ 255
 placed_mark c t a =
-    placed_cond (is_id c (first t).id) _ _ (placed_cond ((first (behind t)).id == (first t).id) _ _ (even_mark (first t).byte) (odd_mark _ (first_id (behind t) (behind_ids t a)))) (odd_mark _ (first_id t a))
+    placed_cond (is_id c (first t).id) _ _ (placed_cond ((first (after_first t)).id == (first t).id) _ _ (even_mark (first t).byte) (odd_mark _ (first_id (after_first t) (behind_ids t a)))) (odd_mark _ (first_id t a))
 
 placed_ids : (c : Option ℕ) (t : List Tagged) → AllIds t → AllIds (paired c t).rest
 placed_ids c t a =
-    placed_ids_cond (is_id c (first t).id) _ _ (placed_ids_cond ((first (behind t)).id == (first t).id) _ _ (behind_ids (behind t) (behind_ids t a)) (behind_ids t a)) (behind_ids t a)
+    placed_ids_cond (is_id c (first t).id) _ _ (placed_ids_cond ((first (after_first t)).id == (first t).id) _ _ (behind_ids (after_first t) (behind_ids t a)) (behind_ids t a)) (behind_ids t a)
 
 closed_cond : (b : Bool) (x y : Closed) → x.even ≢ 255 → y.even ≢ 255 → (cond b x y).even ≢ 255
 closed_cond true x y h k = h

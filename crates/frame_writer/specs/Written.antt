@@ -16,9 +16,9 @@ abbrev pub first : List Tagged → Tagged
 first [] = record { id = 0; byte = 0 }
 first (x ∷ t) = x
 
-abbrev pub behind : List Tagged → List Tagged
-behind [] = []
-behind (x ∷ t) = t
+abbrev pub after_first : List Tagged → List Tagged
+after_first [] = []
+after_first (x ∷ t) = t
 
 -- the ID in force, if there is one, is this
 abbrev pub is_id : Option ℕ → ℕ → Bool
@@ -52,8 +52,8 @@ following c x y t u =
 -- the next pair, where c is in force
 abbrev pub paired : Option ℕ → List Tagged → Paired
 paired c t =
-    if is_id c (first t).id then following c (first t) (first (behind t)) (behind t) (behind (behind t))
-    else naming (first t) (behind t)
+    if is_id c (first t).id then following c (first t) (first (after_first t)) (after_first t) (after_first (after_first t))
+    else naming (first t) (after_first t)
 
 -- byte 14 with its auxiliary bit, the ID in force after it, and the bytes that are left
 pub record Closed : Type 0 where
@@ -69,7 +69,7 @@ closed c t =
       even = 2 * ((first t).byte / 2);
       aux = is_odd (first t).byte;
       id = c;
-      rest = behind t;
+      rest = after_first t;
     }
     else record { even = 2 * (first t).id + 1; aux = false; id = Some (first t).id; rest = t }
 

@@ -124,6 +124,7 @@ impl FrameWriter {
     }
 
     /// Places a byte where none is held.
+    #[inline(always)]
     fn place(&mut self, id: SourceId, byte: u8, out: &mut ArrayVec<u8, 264>)
         requires held { self.old.held ≡ None }
         requires source { 0 < id }

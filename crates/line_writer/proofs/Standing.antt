@@ -1,5 +1,6 @@
 -- A writer of lines, after one more line.
-use Rattle.std.proofs.Common.{◌≡◌, ℕ, List, [], ◌∷◌, ◌++◌, sym, ◌∙◌, ap, subst, append-nil}
+use Rattle.std.proofs.Common.{◌≡◌, ℕ, List, [], ◌∷◌, ◌++◌, sym, ◌∙◌, ap, subst, append-nil, Result, Ok, Err}
+use Rattle.std.specs.Result.{OnOk}
 use Rattle.stp_grammar.specs.declared.item.StpItem.{StpItem}
 use Rattle.stp_encoder.specs.Encoder as encoders
 use Rattle.frame_writer.specs.Fronts.{sure}
@@ -7,6 +8,7 @@ use Rattle.frame_writer.specs.Sure.{IsSure}
 use Rattle.frame_writer.specs.declared.sure.SureWriter.{SureWriter}
 use Rattle.script_text.specs.declared.items.Item.{Item}
 use Rattle.script_text.specs.declared.items.Item.TheVariants.{Itm, Dwt, Stp, Raw}
+use Rattle.script_text.specs.declared.line_fault.LineFault.{LineFault}
 use Rattle.script_text.specs.declared.lines.Line.{Line}
 use Rattle.script_text.specs.declared.lines.Line.TheVariants.{Nothing, Of}
 use Rattle.line_writer.specs.declared.writer.LineWriter.{LineWriter}
@@ -44,15 +46,13 @@ grown_nothing w every halves lines line out e none =
     ∙ ap (λ l. sure every halves (put_of (order_of w) lines) ++ l) (sym none)
 
 -- an item, whose bytes were put
-pub stands_item : (w new : LineWriter) (every halves : ℕ) (lines : List Line) (line : Line) (id : ℕ) (item : Item) (bytes more : List ℕ) → line ≡ Of id item → new.stp ≡ w.stp →
+stands_item : (w new : LineWriter) (every halves : ℕ) (lines : List Line) (line : Line) (id : ℕ) (item : Item) (more : List ℕ) → line ≡ Of id item → new.stp ≡ w.stp →
     order_of new ≡ order_of w → IsOfSource w.stp id item →
-    ((before : List StpItem) → encoders.Stands w.encoder before → encoders.Stands new.encoder (before ++ items_of item)) → Puts w.frames new.frames (tagged id bytes) more →
-    bytes ≡ item_bytes (order_of w) (given_items id lines) item → Stands w every halves lines → Stands new every halves (lines ++ line ∷ [])
-stands_item w new every halves lines line id item bytes more e stp order source encoded puts are s =
-    let put : put_of (order_of new) (lines ++ Of id item ∷ []) ≡ put_of (order_of w) lines ++ tagged id bytes =
-    ap (λ o. put_of o (lines ++ Of id item ∷ [])) order
-    ∙ put_more (order_of w) lines (Of id item)
-    ∙ ap (λ l. put_of (order_of w) lines ++ tagged id l) (sym are) in
+    ((before : List StpItem) → encoders.Stands w.encoder before → encoders.Stands new.encoder (before ++ items_of item)) →
+    Puts w.frames new.frames (tagged id (item_bytes (order_of w) (given_items id lines) item)) more → Stands w every halves lines → Stands new every halves (lines ++ line ∷ [])
+stands_item w new every halves lines line id item more e stp order source encoded puts s =
+    let put : put_of (order_of new) (lines ++ Of id item ∷ []) ≡ put_of (order_of w) lines ++ tagged id (item_bytes (order_of w) (given_items id lines) item) =
+    ap (λ o. put_of o (lines ++ Of id item ∷ [])) order ∙ put_more (order_of w) lines (Of id item) in
     subst (λ l. Stands new every halves (lines ++ l ∷ [])) (sym e) (record {
       items = λ x of.
           let of_old = sym stp ∙ of in
@@ -62,10 +62,20 @@ stands_item w new every halves lines line id item bytes more e stp order source 
       frames = subst (IsSure new.frames every halves) (sym put) (puts.list every halves (put_of (order_of w) lines) s.frames);
     })
 
-pub grown_put : (w : LineWriter) (new : SureWriter) (every halves : ℕ) (lines : List Line) (line : Line) (id : ℕ) (item : Item) (bytes more : List ℕ) → line ≡ Of id item →
-    Puts w.frames new (tagged id bytes) more → bytes ≡ item_bytes (order_of w) (given_items id lines) item → Stands w every halves lines →
-    sure every halves (put_of (order_of w) (lines ++ line ∷ [])) ≡ sure every halves (put_of (order_of w) lines) ++ more
-grown_put w new every halves lines line id item bytes more e puts are s =
+pub stands_put : (r : Result (Unit {0}) LineFault) (w new : LineWriter) (every halves : ℕ) (lines : List Line) (line : Line) (id : ℕ) (item : Item) (more : List ℕ) → line ≡ Of id item →
+    new.stp ≡ w.stp → order_of new ≡ order_of w → IsOfSource w.stp id item →
+    ((before : List StpItem) → encoders.Stands w.encoder before → OnOk r (encoders.Stands new.encoder (before ++ items_of item))) →
+    OnOk r (Puts w.frames new.frames (tagged id (item_bytes (order_of w) (given_items id lines) item)) more) → Stands w every halves lines →
+    OnOk r (Stands new every halves (lines ++ line ∷ []))
+stands_put (Ok done) w new every halves lines line id item more e stp order source encoded puts s =
+    stands_item w new every halves lines line id item more e stp order source encoded puts s
+stands_put (Err fault) w new every halves lines line id item more e stp order source encoded puts s = tt
+
+pub grown_put : (r : Result (Unit {0}) LineFault) (w : LineWriter) (new : SureWriter) (every halves : ℕ) (lines : List Line) (line : Line) (id : ℕ) (item : Item) (more : List ℕ) →
+    line ≡ Of id item → OnOk r (Puts w.frames new (tagged id (item_bytes (order_of w) (given_items id lines) item)) more) → Stands w every halves lines →
+    OnOk r (sure every halves (put_of (order_of w) (lines ++ line ∷ [])) ≡ sure every halves (put_of (order_of w) lines) ++ more)
+grown_put (Ok done) w new every halves lines line id item more e puts s =
     ap (λ l. sure every halves (put_of (order_of w) (lines ++ l ∷ []))) e
-    ∙ ap (sure every halves) (put_more (order_of w) lines (Of id item) ∙ ap (λ l. put_of (order_of w) lines ++ tagged id l) (sym are))
+    ∙ ap (sure every halves) (put_more (order_of w) lines (Of id item))
     ∙ puts.grown every halves (put_of (order_of w) lines) s.frames
+grown_put (Err fault) w new every halves lines line id item more e puts s = tt

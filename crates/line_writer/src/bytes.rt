@@ -36,9 +36,6 @@ pub const LINE_ROOM: usize = 3960;
 /// What becomes sure with a line, or the rest of a capture.
 pub type LineBytes = ArrayVec<u8, LINE_ROOM>;
 
-/// The bytes of an item.
-pub(crate) type ItemBytes = ArrayVec<u8, RAW_BYTES>;
-
 /// Appends bytes for which there is room.
 pub(crate) fn append<const N: usize>(out: &mut ArrayVec<u8, N>, bytes: &[u8])
     requires room { array_vec_len out.old + length bytes.now ≤ N }
@@ -46,73 +43,6 @@ pub(crate) fn append<const N: usize>(out: &mut ArrayVec<u8, N>, bytes: &[u8])
     ensures len { array_vec_len out.new ≡ array_vec_len out.old + length bytes.now }
 {
     let _ = out.try_extend_from_slice(bytes);
-}
-
-/// The shortest bytes of a packet.
-fn put_packet(packet: &ItmPacket, bytes: &mut ItemBytes)
-    requires proper { IsProper packet.now }
-    requires empty { bytes.old.items ≡ [] }
-    ensures bytes { bytes.new.items ≡ short packet.now }
-{
-    let mut packed = ArrayVec::new();
-    encode(packet, &mut packed);
-    append(bytes, packed.as_slice());
-}
-
-/// The bytes that the encoder adds for an item.
-fn put_stp(encoder: &mut StpEncoder, item: &StpItem, bytes: &mut ItemBytes) -> Result<(), LineFault>
-    requires proper { IsProperItem item.now }
-    requires empty { bytes.old.items ≡ [] }
-    ensures order { order_of encoder.new ≡ order_of encoder.old }
-    ensures unfit { (before : List StpItem) → Stands encoder.old before →
-        is_err result ≡ is_unfit (version_after before) item.now }
-    ensures fault { IfErr result (λ f. f ≡ LineFault.Unfit) }
-    ensures same { OnErr result ((encoder.new ≡ encoder.old) × (bytes.new ≡ bytes.old)) }
-    ensures list { (before : List StpItem) → Stands encoder.old before →
-        OnOk result (Stands encoder.new (before ++ item.now ∷ [])) }
-    ensures bytes { (before : List StpItem) → Stands encoder.old before →
-        OnOk result (bytes.new.items ≡ put_bytes_by (order_of encoder.old) before item.now) }
-{
-    let mut written = ArrayVec::new();
-    match encoder.put(item, &mut written) {
-        Ok(()) => {
-            append(bytes, written.as_slice());
-            Ok(())
-        }
-        Err(_) => Err(LineFault::Unfit),
-    }
-}
-
-/// The bytes of an item, which the encoder adds where it is one of a system trace. Where that can't be written, all is
-/// as before.
-pub(crate) fn put_item(
-    encoder: &mut StpEncoder,
-    item: &Item,
-    bytes: &mut ItemBytes,
-) -> Result<(), LineFault>
-    requires sayable { IsSayable item.now }
-    requires empty { bytes.old.items ≡ [] }
-    ensures order { order_of encoder.new ≡ order_of encoder.old }
-    ensures fits { (before : List StpItem) (line : Line) → StandsFor encoder.old before item.now →
-        OnOk result (fitting_item line before item.now ≡ Ok line) }
-    ensures unfit { (before : List StpItem) (line : Line) → StandsFor encoder.old before item.now →
-        IfErr result (λ fault. fitting_item line before item.now ≡ Err fault) }
-    ensures same { OnErr result ((encoder.new ≡ encoder.old) × (bytes.new ≡ bytes.old)) }
-    ensures list { (before : List StpItem) → Stands encoder.old before →
-        OnOk result (Stands encoder.new (before ++ items_of item.now)) }
-    ensures bytes { (before : List StpItem) → StandsFor encoder.old before item.now →
-        OnOk result (bytes.new.items ≡ bytes_by (order_of encoder.old) before item.now) }
-{
-    match item {
-        Item::Itm(packet) => put_packet(packet, bytes),
-        Item::Dwt(item) => {
-            let (disc, size, value) = packet_of(item);
-            put_packet(&ItmPacket::Hardware { disc, size, value }, bytes);
-        }
-        Item::Stp(item) => return put_stp(encoder, item, bytes),
-        Item::Raw(raw) => append(bytes, raw.as_slice()),
-    }
-    Ok(())
 }
 
 /// Puts bytes of a source, and gives what becomes sure with them.
@@ -126,4 +56,92 @@ pub(crate) fn put_bytes(frames: &mut SureWriter, id: SourceId, bytes: &[u8], out
     ensures len { 7 * array_vec_len out.new ≤ 132 * (14 + 2 * length bytes.now) }
 {
     frames.put_all(id, bytes, out);
+}
+
+/// Puts the shortest bytes of a packet.
+fn put_packet(frames: &mut SureWriter, id: SourceId, packet: &ItmPacket, out: &mut LineBytes)
+    requires proper { IsProper packet.now }
+    requires source { 0 < id }
+    requires empty { out.old.items ≡ [] }
+    requires room { count_of frames.old + 100 ≤ COUNT_ROOM }
+    ensures put { Puts frames.old frames.new (tagged id (short packet.now)) out.new.items }
+    ensures count { count_of frames.new ≤ count_of frames.old + 100 }
+{
+    let mut packed = ArrayVec::new();
+    encode(packet, &mut packed);
+    put_bytes(frames, id, packed.as_slice(), out);
+}
+
+/// Puts the bytes that the encoder adds for an item. Apart, so that packets of other sources need no room for it.
+#[inline(never)]
+fn put_stp(
+    encoder: &mut StpEncoder,
+    frames: &mut SureWriter,
+    id: SourceId,
+    item: &StpItem,
+    out: &mut LineBytes,
+) -> Result<(), LineFault>
+    requires proper { IsProperItem item.now }
+    requires source { 0 < id }
+    requires empty { out.old.items ≡ [] }
+    requires room { count_of frames.old + 100 ≤ COUNT_ROOM }
+    ensures order { order_of encoder.new ≡ order_of encoder.old }
+    ensures unfit { (before : List StpItem) → Stands encoder.old before →
+        is_err result ≡ is_unfit (version_after before) item.now }
+    ensures fault { IfErr result (λ f. f ≡ LineFault.Unfit) }
+    ensures same { OnErr result
+        ((encoder.new ≡ encoder.old) × (frames.new ≡ frames.old) × (out.new ≡ out.old)) }
+    ensures list { (before : List StpItem) → Stands encoder.old before →
+        OnOk result (Stands encoder.new (before ++ item.now ∷ [])) }
+    ensures put { (before : List StpItem) → Stands encoder.old before → OnOk result
+        (Puts frames.old frames.new (tagged id (put_bytes_by (order_of encoder.old) before item.now)) out.new.items) }
+    ensures count { count_of frames.new ≤ count_of frames.old + 100 }
+{
+    let mut written = ArrayVec::new();
+    match encoder.put(item, &mut written) {
+        Ok(()) => {
+            put_bytes(frames, id, written.as_slice(), out);
+            Ok(())
+        }
+        Err(_) => Err(LineFault::Unfit),
+    }
+}
+
+/// Puts the bytes of an item of a source, which the encoder adds where it is one of a system trace, and gives what
+/// becomes sure with them. Where it can't be written, all is as before.
+pub(crate) fn put_item(
+    encoder: &mut StpEncoder,
+    frames: &mut SureWriter,
+    id: SourceId,
+    item: &Item,
+    out: &mut LineBytes,
+) -> Result<(), LineFault>
+    requires sayable { IsSayable item.now }
+    requires source { 0 < id }
+    requires empty { out.old.items ≡ [] }
+    requires room { count_of frames.old + 100 ≤ COUNT_ROOM }
+    ensures order { order_of encoder.new ≡ order_of encoder.old }
+    ensures fits { (before : List StpItem) (line : Line) → StandsFor encoder.old before item.now →
+        OnOk result (fitting_item line before item.now ≡ Ok line) }
+    ensures unfit { (before : List StpItem) (line : Line) → StandsFor encoder.old before item.now →
+        IfErr result (λ fault. fitting_item line before item.now ≡ Err fault) }
+    ensures same { OnErr result
+        ((encoder.new ≡ encoder.old) × (frames.new ≡ frames.old) × (out.new ≡ out.old)) }
+    ensures list { (before : List StpItem) → Stands encoder.old before →
+        OnOk result (Stands encoder.new (before ++ items_of item.now)) }
+    ensures put { (before : List StpItem) → StandsFor encoder.old before item.now → OnOk result
+        (Puts frames.old frames.new (tagged id (bytes_by (order_of encoder.old) before item.now)) out.new.items) }
+    ensures count { count_of frames.new ≤ count_of frames.old + 100 }
+{
+    match item {
+        Item::Itm(packet) => put_packet(frames, id, packet, out),
+        Item::Dwt(item) => {
+            let (disc, size, value) = packet_of(item);
+            let packet = ItmPacket::Hardware { disc, size, value };
+            put_packet(frames, id, &packet, out);
+        }
+        Item::Stp(item) => return put_stp(encoder, frames, id, item, out),
+        Item::Raw(raw) => put_bytes(frames, id, raw.as_slice(), out),
+    }
+    Ok(())
 }

@@ -3,7 +3,7 @@
 ghost use Rattle.std.specs.Prelude.{◌<◌};
 ghost use Rattle.std.specs.Option.{ForSome};
 
-use crate::bytes::{ItemBytes, LineBytes, append, put_bytes, put_item};
+use crate::bytes::{LineBytes, append, put_bytes, put_item};
 use arrayvec::ArrayVec;
 use frame_writer::{SureWriter, TwoFrames};
 use script_text::{Line, LineFault};
@@ -89,12 +89,7 @@ impl LineWriter {
     {
         match line {
             Line::Nothing => Ok(()),
-            Line::Of { id, item } => {
-                let mut bytes = ItemBytes::new();
-                put_item(&mut self.encoder, item, &mut bytes)?;
-                put_bytes(&mut self.frames, *id, bytes.as_slice(), out);
-                Ok(())
-            }
+            Line::Of { id, item } => put_item(&mut self.encoder, &mut self.frames, *id, item, out),
         }
     }
 

@@ -19,13 +19,10 @@ use crate::plan::{RebuildPlan, ScriptFault};
 use arrayvec::ArrayVec;
 use line_writer::{LineBytes, LineWriter};
 use memchr::memchr;
-use script_text::{Line, LineFault, read_into};
+use script_text::{LINE_BYTES, Line, LineFault, read_into};
 use source_events::Plan;
 use trace_stream::{Action, Flow, Outlet, Taken};
 use trace_values::SourceId;
-
-/// The most bytes of a line, without its line feed.
-const LINE_BYTES: usize = 256;
 
 /// A script as it is read: its open line, and the writer of what the lines before it put. It allocates nothing.
 #[derive(Drop)]
@@ -109,6 +106,18 @@ fn put_line(
     match read_into(text, plan, &mut said) {
         Ok(()) => writer.put(&said, out),
         Err(fault) => Err(fault),
+    }
+}
+
+/// Moves what became sure, if something did, to the outlet.
+fn give(sure: &mut LineBytes, outlet: &mut Outlet)
+    requires room { length outlet.old + ACTION_ROOM ≤ OUTLET_ROOM }
+    ensures given { outlet.new ≡ outlet.old ++ sure.old.items }
+    ensures empty { sure.new.items ≡ [] }
+{
+    if !sure.is_empty() {
+        outlet.append(sure.as_slice());
+        sure.clear();
     }
 }
 
@@ -247,9 +256,8 @@ impl Rebuild {
         self.count += 1;
         match put_line(&mut self.writer, &self.plan.plan, text, &mut self.sure) {
             Ok(()) => {
-                outlet.append(self.sure.as_slice());
+                give(&mut self.sure, outlet);
                 self.line.clear();
-                self.sure.clear();
                 self.lines += 1;
                 true
             }

@@ -1,3 +1,5 @@
+//! Scripts as they come, in pieces, with their faults and their captures.
+
 use crate::plan::{RebuildPlan, ScriptFault};
 use crate::rebuild::Rebuild;
 use capture_plan::{FramesMode, PacketsMode};

@@ -1,4 +1,4 @@
-use Rattle.std.proofs.Common.{◌≡◌, ◌≤◌, ◌∙◌, ◌++◌, ◌+◌, ℕ, sym, ap, subst, length, arith, Some, Err}
+use Rattle.std.proofs.Common.{◌≡◌, ◌≤◌, ◌∙◌, ◌+◌, ℕ, sym, ap, subst, length, arith, Some, Err}
 use Rattle.line_writer.specs.Script.{line_after}
 use Rattle.line_writer.specs.Writer as writers
 use Rattle.line_writer.specs.declared.writer.LineWriter.{LineWriter}
@@ -19,8 +19,8 @@ returns-in-Ok-clause-taken c = λ mid seen is s.
     let at = subst (λ (w : LineWriter). writers.Stands w mid.plan.every mid.plan.halves lines) is.writer s.writer in
     let puts = subst (λ (p : RebuildPlan). PutsLine p.plan text c.put_line.new.writer mid.plan.every mid.plan.halves lines out) (sym is.plan)
     (c.in-Ok.ensures.ok mid.plan.every mid.plan.halves lines at) in
-    line_ended mid _ seen text c.args.outlet.now c.append.new.self out (sym is.plan) live c.requires.live (ap (λ (n : ℕ). n + 1) (sym is.count)) (ap (λ (n : ℕ). n + 1) (sym is.lines))
-    c.clear.ensures few (sym is.line_is) puts (c.append.ensures ∙ ap (λ l. c.args.outlet.now ++ l) c.as_slice.ensures.value) s
+    line_ended mid _ seen text c.args.outlet.now c.give.new.outlet out (sym is.plan) live c.requires.live (ap (λ (n : ℕ). n + 1) (sym is.count)) (ap (λ (n : ℕ). n + 1) (sym is.lines))
+    c.clear.ensures few (sym is.line_is) puts c.give.ensures.given s
 
 pub returns-in-Err-clause-taken : goal.returns-in-Err-clause-taken
 returns-in-Err-clause-taken c = λ mid seen is s.
