@@ -10,6 +10,7 @@ ghost use Rattle.capture_actions.specs.Split.{bytes_of_id};
 use crate::port::{CapturePort, flow_after};
 use crate::split_plan::SplitPlan;
 use arrayvec::ArrayVec;
+use frame_grammar::frame::FRAME_BYTES;
 use frame_grammar::gather::gather_frame;
 use frame_grammar::plain::plain_frame;
 use frame_grammar::source_bytes::copy_source_bytes;
@@ -54,6 +55,7 @@ impl Split {
     ghost use Rattle.trace_stream.specs.declared.action.TheConstants.{ACTION_ROOM};
     ghost use Rattle.trace_stream.specs.declared.action.Flow.TheVariants.{On};
     ghost use Rattle.frame_grammar.specs.Whole.{IsWhole};
+    ghost use Rattle.frame_grammar.specs.declared.frame.TheConstants.{FRAME_BYTES};
     ghost use Rattle.capture_actions.specs.CapturePort.{IsBetween};
     ghost use Rattle.capture_actions.specs.Port.{port_of};
     ghost use Rattle.capture_actions.specs.Split.{split_meaning};
@@ -74,23 +76,23 @@ impl Split {
 
     /// Takes a whole frame with this many half synchronisations between its halfwords.
     #[inline]
-    fn feed_frame(&mut self, frame: &[u8; 16], halves: usize, outlet: &mut Outlet) -> Taken
+    fn feed_frame(&mut self, frame: &[u8; FRAME_BYTES], halves: usize, outlet: &mut Outlet) -> Taken
         requires live { IsLive self.old }
         requires between { IsBetween self.old.port }
         requires room { length outlet.old + ACTION_ROOM ≤ OUTLET_ROOM }
-        requires count { taken_by self.old + (16 + 2 * halves) ≤ GREATEST_CAPTURE }
+        requires count { taken_by self.old + (FRAME_BYTES + 2 * halves) ≤ GREATEST_CAPTURE }
         ensures same { plan_of self.new ≡ plan_of self.old }
-        ensures taken { result ≡ record { bytes = 16 + 2 * halves; flow = On } }
-        ensures count { taken_by self.new ≡ taken_by self.old + (16 + 2 * halves) }
+        ensures taken { result ≡ record { bytes = FRAME_BYTES + 2 * halves; flow = On } }
+        ensures count { taken_by self.new ≡ taken_by self.old + (FRAME_BYTES + 2 * halves) }
         ensures fed { (seen w : List ℕ) → Stands self.old seen → IsWhole w frame.now halves →
             let turn : Turn = record { seen = seen; front = w; before = outlet.old; after = outlet.new } in
             HasTaken (Stands self.new) (split_meaning (plan_of self.old)) turn On }
         ensures live { IsLive self.new }
     {
-        let mut bytes = [0; 16];
+        let mut bytes = [0; FRAME_BYTES];
         let copied = copy_source_bytes(frame, self.port.id(), self.plan.id, &mut bytes);
         outlet.append_front(&bytes, copied.len);
-        let size = 16 + 2 * halves;
+        let size = FRAME_BYTES + 2 * halves;
         self.port.pass_frame(size, copied.after);
         Taken {
             bytes: size,

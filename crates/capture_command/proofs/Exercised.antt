@@ -1,5 +1,5 @@
 -- How an exercise ends, by the outcome of the serving of its rest.
-use Rattle.std.proofs.Common.{◌≡◌, ℕ, ◌≤◌, ◌-◌, ◌^◌, List, [], ◌∷◌, ◌++◌, ◌⊎◌, Some, None, refl, sym, ap, ◌∙◌, subst, length, take, drop, arith, append-nil, append_assoc, length-append, inl, inr}
+use Rattle.std.proofs.Common.{◌≡◌, ℕ, ◌≤◌, ◌-◌, List, [], ◌∷◌, ◌++◌, ◌⊎◌, Some, None, refl, sym, ap, ◌∙◌, subst, length, take, drop, arith, append-nil, append_assoc, length-append, inl, inr}
 use Rattle.std.proofs.lemmas.List.{take-append-drop, take_all}
 use Rattle.std.proofs.KnownBytes.{Appends-nil}
 use Rattle.std.proofs.lemmas.List.{length-drop}
@@ -11,6 +11,7 @@ use Rattle.trace_stream.specs.Written.{GrowsOnly}
 use Rattle.source_events.specs.declared.plan.Plan.{Plan}
 use Rattle.trace_stream.specs.declared.outcome.Outcome.{Outcome}
 use Rattle.trace_stream.specs.declared.outcome.Outcome.TheVariants.{AtEnd, FaultFound, WriteFailed, OverLimit}
+use Rattle.exercise_source.specs.declared.maker.TheConstants.{MOST_BYTES}
 use Rattle.exercise_source.specs.Exercise.{exercise_plan, exercise_capture, exercise_rest}
 use Rattle.exercise_report.specs.Summary.{IsFaulty, exercise_meaning, exercise_ending, exercise_summary}
 use Rattle.exercise_report.specs.SummaryLaws.{ending_stays}
@@ -141,8 +142,8 @@ pub same_notes : (noted : Option (List ℕ)) (faults : ℕ) → Notes noted note
 same_notes noted faults = λ no_fault. Appends-nil noted
 
 -- the rest is no longer than the whole
-pub few_left : (items lose capture : ℕ) → capture ≡ length (exercise_capture items) → capture ≤ 2 ^ 36 →
-    length (exercise_rest items lose) ≤ 2 ^ 36
+pub few_left : (items lose capture : ℕ) → capture ≡ length (exercise_capture items) → capture ≤ MOST_BYTES →
+    length (exercise_rest items lose) ≤ MOST_BYTES
 few_left items lose capture e few =
     let len : length (exercise_rest items lose) ≡ length (exercise_capture items) - lose = length-drop lose (exercise_capture items) in
     omega (arith, len, e, few)

@@ -1,10 +1,10 @@
 //! The exercise, done.
 
-ghost use Rattle.std.specs.Prelude.{◌≡◌, ◌≢◌, ◌≤◌, ◌^◌, List, ℕ, [], length};
+ghost use Rattle.std.specs.Prelude.{◌≡◌, ◌≢◌, ◌≤◌, List, ℕ, [], length};
 ghost use Rattle.std.specs.declared.option.Option.{Option};
 ghost use Rattle.trace_io.specs.Causes.{Rose};
 ghost use Rattle.exercise_source.specs.Exercise.{exercise_capture};
-ghost use Rattle.exercise_source.specs.declared.maker.TheConstants.{MOST_ITEMS};
+ghost use Rattle.exercise_source.specs.declared.maker.TheConstants.{MOST_ITEMS, MOST_BYTES};
 ghost use Rattle.exercise_report.specs.Summary.{exercise_summary};
 ghost use Rattle.capture_command.specs.Run.{HasMade, streams, IsDoneOrNoMemory};
 
@@ -15,11 +15,11 @@ use exercise_source::{ExerciseSource, write_exercise};
 use trace_io::{Sink, SureSink};
 use trace_stream::{Buffers, GREATEST_CAPTURE, Outcome, serve};
 
-/// How many bytes the capture of this many items has, at most 2^36.
+/// How many bytes the capture of this many items has, at most `MOST_BYTES`.
 fn capture_len(items: u32) -> u64
     requires few { items ≤ MOST_ITEMS }
     ensures len { result ≡ length (exercise_capture items) }
-    ensures few { result ≤ 2 ^ 36 }
+    ensures few { result ≤ MOST_BYTES }
 {
     match write_exercise(items, &mut SureSink::new()) {
         Ok(len) => len,

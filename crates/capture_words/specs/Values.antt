@@ -1,5 +1,5 @@
 -- What the texts of the action and of the options say.
-use Rattle.std.specs.Prelude.{ℕ, ◌^◌, List, codes, Option, Some, None, Result, if◌then◌else◌, ◌==◌}
+use Rattle.std.specs.Prelude.{ℕ, List, codes, Option, Some, None, Result, if◌then◌else◌, ◌==◌}
 use Rattle.std.specs.Prelude.{ok_or, option_and_then, option_map}
 use Rattle.std.specs.Str.{bytes_eq}
 use Rattle.std.specs.List.{before_first, after_first}
@@ -18,6 +18,7 @@ use Rattle.item_tap.specs.declared.choice.Kind.{Kind}
 use Rattle.item_tap.specs.declared.choice.Kind.TheVariants.{Itm as ItmKind, Dwt as DwtKind, Stp as StpKind}
 use Rattle.item_tap.specs.declared.choice.Kind.TheVariants.{Raw as RawKind, Trigger as TriggerKind}
 use Rattle.decimal_words.specs.Numbers.{number_named, number_after}
+use Rattle.capture_words.specs.declared.values.TheConstants.{GREATEST_LIMIT}
 use Rattle.capture_words.specs.Command.{option_name}
 use Rattle.capture_words.specs.declared.option.CommandOption.{CommandOption}
 use Rattle.capture_words.specs.declared.option.CommandOption.TheVariants.{Frames, Packets, Itm, Stp, StpOrder, Id}
@@ -138,8 +139,5 @@ items_in = number_given Items 12000 1 1000000
 abbrev pub lose_in : List Row → Result ℕ UsageFault
 lose_in = number_given Lose 0 0 1000000
 
-abbrev pub greatest_limit : ℕ
-greatest_limit = 2 ^ 36
-
 abbrev pub limit_in : List Row → Result ℕ UsageFault
-limit_in = number_given Limit greatest_limit 1 greatest_limit
+limit_in = number_given Limit GREATEST_LIMIT 1 GREATEST_LIMIT

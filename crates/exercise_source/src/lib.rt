@@ -10,6 +10,6 @@ mod source;
 mod tests;
 mod writing;
 
-pub use maker::MOST_ITEMS;
+pub use maker::{MOST_BYTES, MOST_ITEMS};
 pub use source::ExerciseSource;
 pub use writing::write_exercise;

@@ -3,6 +3,8 @@
 ghost use Rattle.std.specs.Prelude.{◌≡◌, ◌↔◌, ◌≤◌, ◌<◌, ◌+◌, ◌*◌, ◌++◌, [], Some, IsTrue};
 ghost use Rattle.stp_grammar.specs.declared.packet.Order.TheVariants.{Msn};
 ghost use Rattle.line_writer.specs.Writer.{Stands, stp_of, order_of, count_of};
+ghost use Rattle.script_text.specs.declared.raw_bytes.TheConstants.{RAW_BYTES};
+ghost use Rattle.exercise_source.specs.declared.maker.TheConstants.{MOST_ITEMS};
 ghost use Rattle.exercise_source.specs.Exercise.{exercise_lines, exercise_capture};
 
 use crate::lines::line_at;
@@ -13,6 +15,9 @@ use trace_values::SourceId;
 /// The most items of an exercise.
 pub const MOST_ITEMS: u32 = 1_000_000;
 
+/// The most bytes of the capture of an exercise: no more than any capture may have.
+pub const MOST_BYTES: u64 = 1 << 36;
+
 /// Makes the capture of the exercise: the lines of its items, one at a time, and then its rest.
 #[derive(Drop)]
 pub(crate) struct CaptureMaker {
@@ -22,12 +27,12 @@ pub(crate) struct CaptureMaker {
     writer: LineWriter,
     /// Nothing more comes.
     is_whole: bool,
-    ghost few: { items ≤ 1000000 },
+    ghost few: { items ≤ MOST_ITEMS },
     ghost within: { next ≤ items },
     ghost stands: { ∥ Stands writer 64 0 (exercise_lines next) ∥₁ },
     ghost stp: { stp_of writer ≡ Some 2 },
     ghost order: { order_of writer ≡ Msn },
-    ghost count: { count_of writer ≤ 100 * next },
+    ghost count: { count_of writer ≤ RAW_BYTES * next },
 }
 
 impl CaptureMaker {

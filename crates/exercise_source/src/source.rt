@@ -6,6 +6,8 @@ ghost use Rattle.std.specs.Io.KnownBytes.{ReadConsumes};
 ghost use Rattle.trace_io.specs.Causes.{HasCause, CountsEmpty, faults_after};
 ghost use Rattle.exercise_source.specs.Exercise.{exercise_capture, exercise_rest};
 ghost use Rattle.exercise_source.specs.Maker as makers;
+ghost use Rattle.exercise_source.specs.declared.maker.TheConstants.{MOST_BYTES};
+ghost use Rattle.line_writer.specs.declared.bytes.TheConstants.{LINE_ROOM};
 
 use crate::maker::{CaptureMaker, MOST_ITEMS};
 use line_writer::LineBytes;
@@ -26,8 +28,8 @@ pub struct ExerciseSource {
     made: u64,
     empty_reads: u64,
     ghost within: { given ≤ length piece.items },
-    ghost room: { length piece.items ≤ 3960 },
-    ghost few: { made + 3960 * makers.pieces_left maker ≤ 2 ^ 36 },
+    ghost room: { length piece.items ≤ LINE_ROOM },
+    ghost few: { made + LINE_ROOM * makers.pieces_left maker ≤ MOST_BYTES },
     ghost total: { made + length (makers.to_come maker) ≡ length (exercise_capture (makers.items_of maker)) },
 }
 
@@ -120,7 +122,7 @@ impl ExerciseSource {
     /// How many bytes are made so far.
     pub(crate) fn made(&self) -> u64
         ensures value { result ≡ made_by self.now }
-        ensures few { result ≤ 2 ^ 36 }
+        ensures few { result ≤ MOST_BYTES }
     {
         self.made
     }

@@ -1,10 +1,11 @@
 //! The capture of the exercise, written.
 
-ghost use Rattle.std.specs.Prelude.{◌≡◌, ◌≤◌, ◌^◌, length, IfOk, OnOk};
+ghost use Rattle.std.specs.Prelude.{◌≡◌, ◌≤◌, length, IfOk, OnOk};
 ghost use Rattle.std.specs.Io.KnownBytes.{Appends};
 ghost use Rattle.trace_io.specs.Bytes.{AppendsPrefix};
 ghost use Rattle.trace_io.specs.Causes.{HasCause};
 ghost use Rattle.exercise_source.specs.Exercise.{exercise_capture};
+ghost use Rattle.exercise_source.specs.declared.maker.TheConstants.{MOST_BYTES};
 
 use crate::maker::MOST_ITEMS;
 use crate::source::ExerciseSource;
@@ -19,7 +20,7 @@ use trace_io::{Failed, Sink, write_whole};
 pub fn write_exercise<O: Sink>(items: u32, output: &mut O) -> Result<u64, Failed>
     requires few { items ≤ MOST_ITEMS }
     ensures len { IfOk result (λ n. n ≡ length (exercise_capture items)) }
-    ensures few { IfOk result (λ n. n ≤ 2 ^ 36) }
+    ensures few { IfOk result (λ n. n ≤ MOST_BYTES) }
     ensures whole { OnOk result (Appends (O.held output.old) (O.held output.new) (exercise_capture items)) }
     ensures front { AppendsPrefix (O.held output.old) (O.held output.new) (exercise_capture items) }
     ensures cause { HasCause (O.faults output.old) (O.faults output.new) result }
