@@ -49,6 +49,17 @@ filled_less n c x t =
     subst (λ (f : Filled). length f.end.rest ≤ length t) (sym (filled_suc n c (x ∷ t)))
     (let a = filled_fewer n (paired c (x ∷ t)).id (paired c (x ∷ t)).rest in let b = paired_fewer c (x ∷ t) in omega arith)
 
+all_true : (k i a : ℕ) (x : Bool) → x ≡ true → 0 < i → a < 7 → (k == i) ≡ true → ((nat_lt 0 k && nat_lt a 7) && x) ≡ true
+all_true k i a true e p l d = grind (arith, nat_tests)
+all_true k i a false e p l d = cc
+
+-- a byte may be held where there is room for a pair
+held_sound : (every n : ℕ) (pairs : List Pair) (c held : Option ℕ) (i h : ℕ) → is_sound every n pairs c held ≡ true → held ≡ None → 0 < i → length pairs < 7 → is_id c i ≡ true →
+    is_sound every n pairs c (Some h) ≡ true
+held_sound every n pairs None held i h s e p l d = cc
+held_sound every n pairs (Some k) None i h s e p l d = all_true k i (length pairs) (not (is_empty pairs && is_due every n)) s p l d
+held_sound every n pairs (Some k) (Some b) i h s e p l d = cc
+
 module _ (every halves : ℕ) where
   pub by_nothing : (k n : ℕ) (c : Option ℕ) → frames_by every halves k n c [] ≡ []
   unfolding frames_by
@@ -266,6 +277,14 @@ module _ (every halves : ℕ) where
       ∙ follows n pairs c i h b t (subst (λ (x : Option ℕ). is_sound every n pairs c x ≡ true) e s) l d
       ∙ ap (λ (x : ℕ). continued every halves n (pairs ++ record { even = x; aux = is_odd h; odd = b } ∷ []) c None t) (sym v)
       ∙ ap (λ (x : List Pair). continued every halves n x c None t) (sym k)
+
+  -- two bytes of the ID in force are a pair
+  pub joined : (n : ℕ) (pairs pairs' : List Pair) (c held : Option ℕ) (i h b even : ℕ) (t : List Tagged) → is_sound every n pairs c held ≡ true → held ≡ None → length pairs < 7 → 0 < i → is_id c i ≡ true →
+      even ≡ 2 * (h / 2) → pairs' ≡ pairs ++ record { even = even; aux = is_odd h; odd = b } ∷ [] →
+      continued every halves n pairs c held (record { id = i; byte = h } ∷ (record { id = i; byte = b } ∷ t)) ≡ continued every halves n pairs' c None t
+  joined n pairs pairs' c held i h b even t s e l p d v k =
+      kept n pairs c held i h (record { id = i; byte = b } ∷ t) e d
+      ∙ followed n pairs pairs' c (Some h) i h b even t (held_sound every n pairs c held i h s e p l d) refl l d v k
 
   pub deferred : (n : ℕ) (pairs pairs' : List Pair) (c held : Option ℕ) (i h b : ℕ) (t : List Tagged) (later : List (List ℕ)) → is_sound every n pairs c held ≡ true → held ≡ Some h → length pairs < 7 → is_id c i ≡ false →
       pairs' ≡ pairs ++ record { even = 2 * i + 1; aux = true; odd = h } ∷ [] → continued every halves n pairs' (Some i) None (record { id = i; byte = b } ∷ t) ≡ later →

@@ -45,16 +45,22 @@ as_bytes (b ∷ out) = sym (append-nil (b ∷ out))
 pub stands_fresh : (w : FrameWriter) (every halves : ℕ) → appended w ≡ 0 → ((t : List Tagged) → to_come w t ≡ frames every halves t) → Stands w every halves [] []
 stands_fresh w every halves e f = record { done = []; bytes = refl; count = e; completes = λ u. sym (f u) }
 
-pub stands_put : (w v : FrameWriter) (every halves : ℕ) (x : Tagged) (out so_far : List ℕ) (t : List Tagged) →
-    ((u : List Tagged) → to_come w (x ∷ u) ≡ as_frame out ++ to_come v u) → appended v ≡ appended w + length (as_frame out) →
-    Stands w every halves t so_far → Stands v every halves (t ++ x ∷ []) (so_far ++ out)
-stands_put w v every halves x out so_far t p q s = record {
+-- the same after more bytes were put, which completed one frame at most
+pub stands_puts : (w v : FrameWriter) (every halves : ℕ) (xs : List Tagged) (out so_far : List ℕ) (t : List Tagged) →
+    ((u : List Tagged) → to_come w (xs ++ u) ≡ as_frame out ++ to_come v u) → appended v ≡ appended w + length (as_frame out) →
+    Stands w every halves t so_far → Stands v every halves (t ++ xs) (so_far ++ out)
+stands_puts w v every halves xs out so_far t p q s = record {
   done = s.done ++ as_frame out;
   bytes = ap (λ (l : List ℕ). l ++ out) s.bytes ∙ ap (λ (l : List ℕ). concat s.done ++ l) (as_bytes out) ∙ sym (concat-append s.done (as_frame out));
   count = q ∙ ap (λ (n : ℕ). n + length (as_frame out)) s.count ∙ sym (length-append s.done (as_frame out));
-  completes = λ u. (ap (frames every halves) (append_assoc t (x ∷ []) u) ∙ s.completes (x ∷ u) ∙ ap (λ (l : List (List ℕ)). s.done ++ l) (p u)
+  completes = λ u. (ap (frames every halves) (append_assoc t xs u) ∙ s.completes (xs ++ u) ∙ ap (λ (l : List (List ℕ)). s.done ++ l) (p u)
       ∙ sym (append_assoc s.done (as_frame out) (to_come v u)));
 }
+
+pub stands_put : (w v : FrameWriter) (every halves : ℕ) (x : Tagged) (out so_far : List ℕ) (t : List Tagged) →
+    ((u : List Tagged) → to_come w (x ∷ u) ≡ as_frame out ++ to_come v u) → appended v ≡ appended w + length (as_frame out) →
+    Stands w every halves t so_far → Stands v every halves (t ++ x ∷ []) (so_far ++ out)
+stands_put w v every halves x out so_far t p q s = stands_puts w v every halves (x ∷ []) out so_far t p q s
 
 -- what is written so far, and what is still to come
 pub stands_front : (w : FrameWriter) (every halves : ℕ) (t u : List Tagged) (so_far : List ℕ) → Stands w every halves t so_far →

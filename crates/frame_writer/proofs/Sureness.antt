@@ -58,47 +58,50 @@ module _ (every halves : ℕ) where
   comes n [] None (Some b) x t e = frames_come n None x t e
   comes n [] (Some i) (Some b) x t e = frames_come n (Some i) (record { id = i; byte = b }) (x ∷ t) e
 
+-- so something is still to come where a byte more is put
+pub put_comes : (w : FrameWriter) (x : Tagged) → to_come w (x ∷ []) ≡ [] → ⊥
+put_comes w x e = comes w.every w.halves w.frames w.pairs.items w.id w.held x [] e
+
 as_bytes : (out : List ℕ) → out ≡ concat (as_frame out)
 as_bytes [] = refl
 as_bytes (b ∷ out) = sym (append-nil (b ∷ out))
 
-module _ (w v : FrameWriter) (every halves : ℕ) (t : List Tagged) (x : Tagged) (out ready so_far : List ℕ)
+module _ (w v : FrameWriter) (every halves : ℕ) (t xs : List Tagged) (out ready so_far : List ℕ)
     (stands : Stands w every halves t so_far) (written : so_far ≡ sure every halves t ++ ready)
-    (came : to_come w (x ∷ []) ≡ as_frame out ++ to_come v []) where
-  all : frames every halves (t ++ x ∷ []) ≡ (stands.done ++ as_frame out) ++ to_come v []
-  all = stands.completes (x ∷ []) ∙ ap (λ (l : List (List ℕ)). stands.done ++ l) came ∙ sym (append_assoc stands.done (as_frame out) (to_come v []))
+    (came : to_come w xs ≡ as_frame out ++ to_come v []) where
+  all : frames every halves (t ++ xs) ≡ (stands.done ++ as_frame out) ++ to_come v []
+  all = stands.completes xs ∙ ap (λ (l : List (List ℕ)). stands.done ++ l) came ∙ sym (append_assoc stands.done (as_frame out) (to_come v []))
 
   bytes : concat (stands.done ++ as_frame out) ≡ so_far ++ out
   bytes = concat-append stands.done (as_frame out) ∙ ap (λ (l : List ℕ). l ++ concat (as_frame out)) (sym stands.bytes) ∙ ap (λ (l : List ℕ). so_far ++ l) (sym (as_bytes out))
 
   -- a frame is begun after those that are whole
-  pub begun_so_far : HasOne (to_come v []) → so_far ++ out ≡ sure every halves (t ++ x ∷ []) ++ []
+  pub begun_so_far : HasOne (to_come v []) → so_far ++ out ≡ sure every halves (t ++ xs) ++ []
   begun_so_far one =
-      sym (append-nil (sure every halves (t ++ x ∷ []))
+      sym (append-nil (sure every halves (t ++ xs))
       ∙ ap (λ (l : List (List ℕ)). concat (all_but_last l)) (all ∙ ap (λ (l : List (List ℕ)). (stands.done ++ as_frame out) ++ l) one.1)
       ∙ ap concat (last_off (stands.done ++ as_frame out) one.0 [] ∙ append-nil (stands.done ++ as_frame out)) ∙ bytes)
 
-  pub begun_grown : HasOne (to_come v []) → sure every halves (t ++ x ∷ []) ≡ sure every halves t ++ (ready ++ out)
+  pub begun_grown : HasOne (to_come v []) → sure every halves (t ++ xs) ≡ sure every halves t ++ (ready ++ out)
   begun_grown one =
-      sym (append-nil (sure every halves (t ++ x ∷ []))) ∙ sym (begun_so_far one) ∙ ap (λ (l : List ℕ). l ++ out) written ∙ append_assoc (sure every halves t) ready out
+      sym (append-nil (sure every halves (t ++ xs))) ∙ sym (begun_so_far one) ∙ ap (λ (l : List ℕ). l ++ out) written ∙ append_assoc (sure every halves t) ready out
 
   -- or the last is whole
-  whole : (out' : List ℕ) → out' ≡ out → to_come v [] ≡ [] → concat (all_but_last ((stands.done ++ as_frame out') ++ [])) ≡ so_far
-  whole [] e none = absurd (comes w.every w.halves w.frames w.pairs.items w.id w.held x []
-      (came ∙ ap (λ (l : List ℕ). as_frame l ++ to_come v []) (sym e) ∙ none))
-  whole (b ∷ bs) e none =
+  whole : (to_come w xs ≡ [] → ⊥) → (out' : List ℕ) → out' ≡ out → to_come v [] ≡ [] → concat (all_but_last ((stands.done ++ as_frame out') ++ [])) ≡ so_far
+  whole some [] e none = absurd (some (came ∙ ap (λ (l : List ℕ). as_frame l ++ to_come v []) (sym e) ∙ none))
+  whole some (b ∷ bs) e none =
       ap (λ (l : List (List ℕ)). concat (all_but_last l)) (append-nil (stands.done ++ ((b ∷ bs) ∷ [])))
       ∙ ap concat (last_off stands.done (b ∷ bs) [] ∙ append-nil stands.done) ∙ sym stands.bytes
 
-  whole_sure : to_come v [] ≡ [] → sure every halves (t ++ x ∷ []) ≡ so_far
-  whole_sure none =
-      ap (λ (l : List (List ℕ)). concat (all_but_last l)) (all ∙ ap (λ (l : List (List ℕ)). (stands.done ++ as_frame out) ++ l) none) ∙ whole out refl none
+  whole_sure : (to_come w xs ≡ [] → ⊥) → to_come v [] ≡ [] → sure every halves (t ++ xs) ≡ so_far
+  whole_sure some none =
+      ap (λ (l : List (List ℕ)). concat (all_but_last l)) (all ∙ ap (λ (l : List (List ℕ)). (stands.done ++ as_frame out) ++ l) none) ∙ whole some out refl none
 
-  pub whole_grown : to_come v [] ≡ [] → sure every halves (t ++ x ∷ []) ≡ sure every halves t ++ ready
-  whole_grown none = whole_sure none ∙ written
+  pub whole_grown : (to_come w xs ≡ [] → ⊥) → to_come v [] ≡ [] → sure every halves (t ++ xs) ≡ sure every halves t ++ ready
+  whole_grown some none = whole_sure some none ∙ written
 
-  pub whole_so_far : to_come v [] ≡ [] → so_far ++ out ≡ sure every halves (t ++ x ∷ []) ++ out
-  whole_so_far none = ap (λ (l : List ℕ). l ++ out) (sym (whole_sure none))
+  pub whole_so_far : (to_come w xs ≡ [] → ⊥) → to_come v [] ≡ [] → so_far ++ out ≡ sure every halves (t ++ xs) ++ out
+  whole_so_far some none = ap (λ (l : List ℕ). l ++ out) (sym (whole_sure some none))
 
 pub none_held : (held : Option ℕ) → is_some held ≡ false → held ≡ None
 none_held None h = refl
@@ -124,3 +127,7 @@ stands_copied w v every halves t so_far e n s = record {
   count = n ∙ s.count;
   completes = λ u. (s.completes u ∙ ap (λ (l : List (List ℕ)). s.done ++ l) (sym (e u)));
 }
+
+pub pushed_some : (pairs pairs' : List Pair) (p : Pair) → pairs' ≡ pairs ++ p ∷ [] → 0 < length pairs'
+pushed_some [] pairs' p e = (let k = ap length e in omega arith)
+pushed_some (q ∷ pairs) pairs' p e = (let k = ap length e in omega arith)

@@ -1,6 +1,6 @@
 //! A writer of frames that keeps its last frame back.
 
-ghost use Rattle.std.specs.Prelude.{◌≡◌, ◌≤◌, ◌<◌, ◌+◌, ◌*◌, ◌++◌, ◌∷◌, [], ℕ, List, length};
+ghost use Rattle.std.specs.Prelude.{true, false, ◌≡◌, ◌≤◌, ◌<◌, ◌+◌, ◌*◌, ◌++◌, ◌∷◌, [], ℕ, List, length};
 ghost use Rattle.arrayvec.specs.ArrayVec.{array_vec_len};
 ghost use Rattle.trace_values.specs.declared.limits.TheConstants.{COUNT_ROOM};
 ghost use Rattle.frame_writer.specs.Written.{Tagged, capture};
@@ -109,9 +109,41 @@ impl SureWriter {
         ensures len { array_vec_len out.new + held_by self.new + 132 * count_of self.old
             ≤ array_vec_len out.old + held_by self.old + 132 * count_of self.new }
     {
-        for byte in bytes {
-            self.append_sure(id, *byte, out);
+        let mut done = 0;
+        'bytes: while done < bytes.len() {
+            if done + 1 < bytes.len() && self.append_pair(id, bytes[done], bytes[done + 1], out) {
+                done += 2;
+            } else {
+                self.append_sure(id, bytes[done], out);
+                done += 1;
+            }
         }
+    }
+
+    /// Puts two bytes of a source other than 0 as a pair, and appends what was kept back, where they are one and complete
+    /// no frame; answers whether it did.
+    #[inline(always)]
+    fn append_pair<const N: usize>(
+        &mut self,
+        id: SourceId,
+        first: u8,
+        second: u8,
+        out: &mut ArrayVec<u8, N>,
+    ) -> bool
+        requires source { 0 < id }
+        requires room { array_vec_len out.old + held_by self.old ≤ N }
+        ensures put { result ≡ true →
+            Appends self.old self.new (of_one id (first ∷ (second ∷ []))) out.old.items out.new.items }
+        ensures none { result ≡ false → (self.new ≡ self.old) × (out.new ≡ out.old) }
+        ensures count { count_of self.new ≡ count_of self.old }
+        ensures load { pairs_of self.new ≤ pairs_of self.old + 1 }
+        ensures len { array_vec_len out.new + held_by self.new ≤ array_vec_len out.old + held_by self.old }
+    {
+        if !self.writer.put_pair(id, first, second) {
+            return false;
+        }
+        give(&mut self.ready, out);
+        true
     }
 
     /// Puts a byte of a source other than 0, and appends what has become sure: nothing, or one frame.

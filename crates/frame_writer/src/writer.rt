@@ -123,6 +123,30 @@ impl FrameWriter {
         }
     }
 
+    /// Puts two bytes of a source other than 0 as a pair, where no byte is held, the source's ID is in force and there is
+    /// room for a pair; answers whether it did. They complete no frame.
+    #[inline(always)]
+    pub(crate) fn put_pair(&mut self, id: SourceId, first: u8, second: u8) -> bool
+        requires source { 0 < id }
+        ensures to_come { result ≡ true → (t : List Tagged) →
+            to_come self.old (record { id = id; byte = first } ∷ (record { id = id; byte = second } ∷ t))
+            ≡ to_come self.new t }
+        ensures begun { result ≡ true → HasOne (to_come self.new []) }
+        ensures none { result ≡ false → self.new ≡ self.old }
+        ensures count { appended self.new ≡ appended self.old }
+        ensures load { load_of self.new ≤ load_of self.old + 1 }
+    {
+        if self.held.is_some() || self.pairs.len() >= 7 || !self.is_in_force(id) {
+            return false;
+        }
+        self.pairs.push(Pair {
+            even: first / 2 * 2,
+            aux: first % 2 == 1,
+            odd: second,
+        });
+        true
+    }
+
     /// Places a byte where none is held.
     #[inline(always)]
     fn place(&mut self, id: SourceId, byte: u8, out: &mut ArrayVec<u8, 264>)
