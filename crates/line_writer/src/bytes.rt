@@ -109,6 +109,7 @@ fn put_stp(
 
 /// Puts the bytes of an item of a source, which the encoder adds where it is one of a system trace, and gives what
 /// becomes sure with them. Where it can't be written, all is as before.
+#[inline(always)]
 pub(crate) fn put_item(
     encoder: &mut StpEncoder,
     frames: &mut SureWriter,

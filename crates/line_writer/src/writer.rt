@@ -68,6 +68,7 @@ impl LineWriter {
     ///
     /// `Unfit` exactly where the line is an item of a system trace that can't be written after the lines before: then
     /// the writer and `out` are as before.
+    #[inline(always)]
     pub fn put(&mut self, line: &Line, out: &mut LineBytes) -> Result<(), LineFault>
         requires said { CanBePut (stp_of self.old) line.now }
         requires empty { out.old.items ≡ [] }

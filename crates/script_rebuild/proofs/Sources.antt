@@ -1,14 +1,22 @@
 -- The sources of a plan, and what a line says.
-use Rattle.std.proofs.Common.{◌≡◌, ℕ, ◌<◌, ◌≤◌, List, [], ◌∷◌, ◌++◌, refl, sym, ◌∙◌, ap, subst, Bool, true, false, Result, Ok, Err, arith, length, get_or}
-use Rattle.std.specs.Prelude.{◌==◌, ◌&&◌, nat_le, not}
+use Rattle.std.proofs.Common.{Option, Some, ◌≡◌, ℕ, ◌<◌, ◌≤◌, List, [], ◌∷◌, ◌++◌, refl, sym, ◌∙◌, ap, subst, Bool, true, false, Result, Ok, Err, arith, length, get_or}
+use Rattle.std.specs.Prelude.{◌==◌, ◌&&◌, nat_le, not, IfSome}
 use Rattle.std.specs.List.{list_any}
 use Rattle.std.specs.Result.{IfErr, OnOk}
 use Rattle.std.proofs.lemmas.Bool.Decides.{nat_tests}
 use Rattle.source_events.specs.declared.plan.Plan.{Plan}
-use Rattle.source_events.specs.Plan.{are_sound}
+use Rattle.source_events.specs.Plan.{are_sound, kind_of}
 use Rattle.script_text.specs.declared.lines.Line.{Line}
 use Rattle.script_text.specs.declared.line_fault.LineFault.{LineFault}
-use Rattle.script_text.specs.Lines.{◌>>=◌, line_of}
+use Rattle.source_events.specs.declared.plan.SourceKind.{SourceKind}
+use Rattle.source_events.specs.declared.plan.SourceKind.TheVariants as kinds
+use Rattle.script_text.specs.declared.quick.PacketLine.{PacketLine}
+use Rattle.script_text.specs.declared.items.Item.TheVariants as items
+use Rattle.script_text.specs.declared.lines.Line.TheVariants.{Of}
+use Rattle.script_text.specs.Quick.{IsPacketOf}
+use Rattle.script_text.specs.Said.{IsSaid}
+use Rattle.script_text.proofs.PacketLines.{line_says, item_is_said}
+use Rattle.script_text.specs.Lines.{◌>>=◌, line_of, taken_by}
 use Rattle.line_writer.specs.Script.{fitting, line_after}
 
 and_last : (a b c d : Bool) → (a && b && c && d) ≡ true → d ≡ true
@@ -46,3 +54,21 @@ all_ok (Err e) f p q s = tt
 pub err_weaker : {T E : Type 0} (r : Result T E) (F G : E → Type 0) → ((e : E) → F e → G e) → IfErr r F → IfErr r G
 err_weaker (Ok x) F G f h = tt
 err_weaker (Err e) F G f h = f e h
+
+-- a line that says a packet, where its source is one of packets
+module _ (plan : Plan) (text : List ℕ) (found : PacketLine) (says : IsPacketOf text found.id found.packet) (kind : kind_of plan found.id ≡ Some kinds.Itm) where
+  abbrev line : Line
+  line = Of found.id (items.Itm found.packet)
+
+  taken : taken_by (kind_of plan found.id) found.id (items.Itm found.packet) ≡ Ok line
+  taken = ap (λ (k : Option SourceKind). taken_by k found.id (items.Itm found.packet)) kind
+
+  pub packet_read : length text ≤ 256 → line_of plan text ≡ Ok line
+  packet_read few = line_says plan text found.id (items.Itm found.packet) (Ok line) few says taken
+
+  pub packet_said : IsSaid plan line
+  packet_said = item_is_said plan text found.id (items.Itm found.packet) (Ok tt) line says taken
+
+-- what is known of a value that is there
+pub there : {A : Type 0} (P : A → Type 0) (o : Option A) (x : A) → o ≡ Some x → IfSome o P → P x
+there P o x e h = subst (λ o. IfSome o P) e h

@@ -1,7 +1,7 @@
 //! The action `rebuild`.
 
 ghost use Rattle.std.specs.Prelude.{◌≡◌, ◌≢◌, ◌≤◌, ◌<◌, ◌+◌, ◌*◌, ◌++◌, ◌==◌, [], ℕ, List, All, length, take, slice_index};
-ghost use Rattle.std.specs.Prelude.{true, false, None, Err, option_map, option_to_list, is_none};
+ghost use Rattle.std.specs.Prelude.{true, false, None, Err, IfSome, option_map, option_to_list, is_none};
 ghost use Rattle.std.specs.Option.{ForSome};
 ghost use Rattle.std.specs.Result.{IfErr, OnErr, OnOk};
 ghost use Rattle.trace_values.specs.declared.limits.TheConstants.{COUNT_ROOM};
@@ -10,6 +10,7 @@ ghost use Rattle.trace_stream.specs.declared.outlet.TheConstants.{OUTLET_ROOM};
 ghost use Rattle.trace_stream.specs.declared.action.TheConstants.{ACTION_ROOM};
 ghost use Rattle.source_events.specs.Plan.{is_sound};
 ghost use Rattle.script_text.specs.declared.lines.Line.{Line};
+ghost use Rattle.script_text.specs.Quick.{IsPacketOf};
 ghost use Rattle.line_writer.specs.Script.{line_after};
 ghost use Rattle.line_writer.specs.Writer.{stp_of, order_of, count_of};
 ghost use Rattle.line_writer.specs.Writer.{Stands as StandsForLines};
@@ -19,8 +20,8 @@ use crate::plan::{RebuildPlan, ScriptFault};
 use arrayvec::ArrayVec;
 use line_writer::{LineBytes, LineWriter};
 use memchr::memchr;
-use script_text::{LINE_BYTES, Line, LineFault, read_into};
-use source_events::Plan;
+use script_text::{Item, LINE_BYTES, Line, LineFault, PacketLine, packet_line, read_into};
+use source_events::{Plan, SourceKind};
 use trace_stream::{Action, Flow, Outlet, Taken};
 use trace_values::SourceId;
 
@@ -82,13 +83,18 @@ fn stp_source(plan: &Plan) -> Option<SourceId>
     }
 }
 
-/// Puts what a line says, and gives what has become sure with it. At a fault the writer is as before.
+/// Puts what a line says, which may have been found, and gives what has become sure with it. At a fault the writer is
+/// as before.
+#[inline(always)]
 fn put_line(
     writer: &mut LineWriter,
     plan: &Plan,
     text: &[u8],
+    found: &Option<PacketLine>,
     out: &mut LineBytes,
 ) -> Result<(), LineFault>
+    requires few { length text.now ≤ 256 }
+    requires found { IfSome found.now (λ p. IsPacketOf text.now p.id p.packet) }
     requires order { order_of writer.old ≡ plan.now.order }
     requires stp { option_to_list (stp_of writer.old) ≡ plan.now.stp }
     requires empty { out.old.items ≡ [] }
@@ -102,6 +108,15 @@ fn put_line(
     ensures err { (every halves : ℕ) (lines : List Line) → StandsForLines writer.old every halves lines →
         IfErr result (λ fault. line_after plan.now lines text.now ≡ Err fault) }
 {
+    if let Some(found) = found {
+        if let Some(SourceKind::Itm) = plan.kind_of(found.id) {
+            let said = Line::Of {
+                id: found.id,
+                item: Item::Itm(found.packet),
+            };
+            return writer.put(&said, out);
+        }
+    }
     let mut said = Line::Nothing;
     match read_into(text, plan, &mut said) {
         Ok(()) => writer.put(&said, out),
@@ -170,7 +185,13 @@ impl Rebuild {
         }
         let mut writer = self.writer.copied();
         let mut out = LineBytes::new();
-        match put_line(&mut writer, &self.plan.plan, self.line.as_slice(), &mut out) {
+        match put_line(
+            &mut writer,
+            &self.plan.plan,
+            self.line.as_slice(),
+            &None,
+            &mut out,
+        ) {
             Ok(()) => None,
             Err(fault) => Some(ScriptFault {
                 line: self.lines + 1,
@@ -214,7 +235,7 @@ impl Rebuild {
         if byte == b'\n' {
             let mut text = ArrayVec::new();
             append(&mut text, self.line.as_slice());
-            self.end_line(text.as_slice(), outlet)
+            self.end_line(text.as_slice(), &None, outlet)
         } else {
             self.refuse_line(byte)
         }
@@ -242,9 +263,11 @@ impl Rebuild {
     }
 
     /// A line of this text is at its end: what it says is put, or its fault is kept.
-    fn end_line(&mut self, text: &[u8], outlet: &mut Outlet) -> bool
+    #[inline(always)]
+    fn end_line(&mut self, text: &[u8], found: &Option<PacketLine>, outlet: &mut Outlet) -> bool
         requires live { IsLive self.old }
         requires few { length text.now ≤ 256 }
+        requires found { IfSome found.now (λ p. IsPacketOf text.now p.id p.packet) }
         requires room { length outlet.old + ACTION_ROOM ≤ OUTLET_ROOM }
         requires count { taken_by self.old < GREATEST_CAPTURE }
         ensures same { plan_of self.new ≡ plan_of self.old }
@@ -254,7 +277,13 @@ impl Rebuild {
         ensures flow { result ≡ is_none self.new.fault }
     {
         self.count += 1;
-        match put_line(&mut self.writer, &self.plan.plan, text, &mut self.sure) {
+        match put_line(
+            &mut self.writer,
+            &self.plan.plan,
+            text,
+            found,
+            &mut self.sure,
+        ) {
             Ok(()) => {
                 give(&mut self.sure, outlet);
                 self.line.clear();
@@ -272,11 +301,13 @@ impl Rebuild {
     }
 
     /// Takes a whole line and its line feed, where no line is open. It is read where it lies.
-    fn take_line(&mut self, text: &[u8], outlet: &mut Outlet) -> Taken
+    #[inline(always)]
+    fn take_line(&mut self, text: &[u8], found: &Option<PacketLine>, outlet: &mut Outlet) -> Taken
         requires live { IsLive self.old }
         requires closed { open_len self.old ≡ 0 }
         requires few { length text.now ≤ 256 }
         requires plain { All (λ b. (b == 10) ≡ false) text.now }
+        requires found { IfSome found.now (λ p. IsPacketOf text.now p.id p.packet) }
         requires room { length outlet.old + ACTION_ROOM ≤ OUTLET_ROOM }
         requires count { taken_by self.old + length text.now < GREATEST_CAPTURE }
         ensures same { plan_of self.new ≡ plan_of self.old }
@@ -287,7 +318,7 @@ impl Rebuild {
         ensures live { result.flow ≡ Flow.On → IsLive self.new }
     {
         self.count += text.len() as u64;
-        let goes_on = self.end_line(text, outlet);
+        let goes_on = self.end_line(text, found, outlet);
         Taken {
             bytes: text.len() + 1,
             flow: if goes_on { Flow::On } else { Flow::Stopped },
@@ -359,9 +390,13 @@ impl Action for Rebuild {
     /// Takes the bytes up to a line feed, and that.
     fn feed(&mut self, piece: &[u8], outlet: &mut Outlet) -> Taken {
         if self.line.is_empty() {
+            let found = packet_line(piece);
+            if let Some(line) = &found {
+                return self.take_line(&piece[..line.bytes], &found, outlet);
+            }
             let len = plain_len(piece, LINE_BYTES);
             if len < piece.len() && piece[len] == b'\n' {
-                return self.take_line(&piece[..len], outlet);
+                return self.take_line(&piece[..len], &None, outlet);
             }
         }
         self.feed_open(piece, outlet)
@@ -374,7 +409,13 @@ impl Action for Rebuild {
         }
         let mut writer = self.writer.copied();
         let mut out = LineBytes::new();
-        match put_line(&mut writer, &self.plan.plan, self.line.as_slice(), &mut out) {
+        match put_line(
+            &mut writer,
+            &self.plan.plan,
+            self.line.as_slice(),
+            &None,
+            &mut out,
+        ) {
             Ok(()) => {
                 let mut rest = LineBytes::new();
                 writer.rest(&mut rest);

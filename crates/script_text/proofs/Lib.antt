@@ -8,3 +8,4 @@ pub mod DwtRanges
 pub mod StpRanges
 pub mod LineRanges
 pub mod PacketLines
+pub mod DatumLines

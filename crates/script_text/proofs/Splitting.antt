@@ -6,10 +6,10 @@ use Rattle.std.specs.List.{prefix_len}
 use Rattle.std.proofs.lemmas.Bool.Decides.{nat_tests}
 use Rattle.script_text.specs.Words.{is_graphic, are_printable, words_in, are_words}
 
-no_space : (b : ℕ) → is_graphic b ≡ true → (b == 32) ≡ false
+pub no_space : (b : ℕ) → is_graphic b ≡ true → (b == 32) ≡ false
 no_space b h = grind (arith, nat_tests)
 
-printable : (b : ℕ) → is_graphic b ≡ true → (nat_le 32 b && nat_le b 126) ≡ true
+pub printable : (b : ℕ) → is_graphic b ≡ true → (nat_le 32 b && nat_le b 126) ≡ true
 printable b h = grind (arith, nat_tests)
 
 unprintable : (b : ℕ) → is_graphic b ≡ false → (b == 32) ≡ false → (nat_le 32 b && nat_le b 126) ≡ false

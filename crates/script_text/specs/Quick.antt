@@ -1,26 +1,43 @@
 -- Lines that are read from their bytes: the words at the front of a line, its last word, and what such a line says.
-use Rattle.std.specs.Prelude.{◌≡◌, ℕ, List, ◌∷◌, true, false, codes, decimal, ok_or}
+use Rattle.std.specs.Prelude.{◌≡◌, ◌<◌, ◌≤◌, ℕ, List, [], ◌∷◌, ◌++◌, length, true, false, codes, decimal, ok_or, Some}
+use Rattle.std.specs.List.{list_all}
 use Rattle.decimal_words.specs.Numbers.{number_named}
 use Rattle.itm_grammar.specs.declared.packet.Size.{Size}
 use Rattle.itm_grammar.specs.declared.packet.Size.TheVariants.{One, Two, Four}
 use Rattle.itm_grammar.specs.declared.packet.ItmPacket.{ItmPacket}
 use Rattle.source_events.specs.declared.plan.Plan.{Plan}
 use Rattle.source_events.specs.Plan.{kind_of}
+use Rattle.stp_grammar.specs.declared.item.Stamp.{Stamp}
 use Rattle.script_text.specs.declared.items.Item.{Item}
 use Rattle.script_text.specs.declared.items.Item.TheVariants.{Itm}
 use Rattle.script_text.specs.declared.line_fault.LineFault.TheVariants.{BadId}
-use Rattle.script_text.specs.Words.{are_printable, words_in, are_words}
+use Rattle.script_text.specs.declared.quick.PacketLine.{PacketLine}
+use Rattle.script_text.specs.Words.{is_graphic, are_printable, words_in, are_words}
+use Rattle.script_text.specs.Numbers.{hexadecimal_named}
+use Rattle.script_text.specs.Stamps.{stamp_named}
 use Rattle.script_text.specs.Lines.{◌>>=◌, is_nothing, taken_by, line_of_words}
 
--- a line is a printable word, a space, and the rest
+-- a line is a word of printable bytes that are no spaces, a space, and the rest
 pub record BeginsWith (line word rest : List ℕ) : Type 0 where
-  pub printable : are_printable line ≡ are_printable rest
-  pub words : words_in line ≡ word ∷ words_in rest
+  pub all : line ≡ word ++ 32 ∷ rest
+  pub graphic : list_all is_graphic word ≡ true
 
 -- the word is the decimal of a number
-pub record BeginsWithNumber (line : List ℕ) (n : ℕ) (rest : List ℕ) : Type 0 where
-  pub begins : BeginsWith line (decimal n) rest
-  pub some : is_nothing line ≡ false
+abbrev pub BeginsWithNumber : List ℕ → ℕ → List ℕ → Type 0
+BeginsWithNumber line n rest = BeginsWith line (decimal n) rest
+
+-- a line is the digits of a number, of which there are so many, the byte `end`, and the rest
+pub record BeginsWithDigits (line : List ℕ) (count value end : ℕ) (rest : List ℕ) : Type 0 where
+  pub word : List ℕ
+  pub all : line ≡ word ++ end ∷ rest
+  pub named : hexadecimal_named count word ≡ Some value
+
+-- a line is one word, which is a timestamp
+pub record IsStamp (line : List ℕ) (stamp : Stamp) : Type 0 where
+  pub printable : are_printable line ≡ true
+  pub words : words_in line ≡ line ∷ []
+  pub some : 0 < length line
+  pub named : stamp_named line ≡ Some stamp
 
 -- the word of a size
 abbrev pub size_word : Size → List ℕ
@@ -47,3 +64,18 @@ pub record IsItemOf (line : List ℕ) (id : ℕ) (item : Item) : Type 0 where
 
 abbrev pub IsPacketOf : List ℕ → ℕ → ItmPacket → Type 0
 IsPacketOf line id packet = IsItemOf line id (Itm packet)
+
+-- a piece is a text after an ID that says a packet, a line feed, and what is after it
+pub record SaysFirst (piece : List ℕ) (packet : ItmPacket) (after : List ℕ) : Type 0 where
+  pub text : List ℕ
+  pub all : piece ≡ text ++ 10 ∷ after
+  pub says : SaysPacket text packet
+
+-- the first line of a piece says a packet of a source
+pub record IsFirstLine (piece : List ℕ) (line : PacketLine) : Type 0 where
+  pub text : List ℕ
+  pub after : List ℕ
+  pub all : piece ≡ text ++ 10 ∷ after
+  pub bytes : line.bytes ≡ length text
+  pub few : length text ≤ 256
+  pub says : IsPacketOf text line.id line.packet

@@ -11,7 +11,8 @@ use crate::dwt_shapes::dwt_of;
 use crate::items::Item;
 use crate::itm_shapes::itm_of;
 use crate::line_fault::LineFault;
-use crate::quick::{quick_packet, quick_raw};
+use crate::quick::quick_raw;
+use crate::quick_datum::quick_datum;
 use crate::raw_bytes::{RawBytes, raw_of};
 use crate::shapes::{Shape, shape_of};
 use crate::stp_shapes::stp_of;
@@ -19,6 +20,7 @@ use crate::words::{Words, put_words};
 use decimal_words::id_in;
 use itm_grammar::packet::ItmPacket;
 use source_events::{Plan, SourceKind};
+use stp_grammar::item::StpItem;
 use trace_values::SourceId;
 
 /// A line of a script.
@@ -109,18 +111,6 @@ fn read_shape(
     Ok(())
 }
 
-/// A packet of this source, where the source is one for it. At a fault `said` is as before.
-fn take_packet(plan: &Plan, found: (SourceId, ItmPacket), said: &mut Line) -> Result<(), LineFault>
-    ensures value { taken_by (kind_of plan.now found.0) found.0 (Item.Itm found.1) ≡ answer result said.new }
-    ensures same { OnErr result (said.new ≡ said.old) }
-{
-    let (id, packet) = found;
-    takes_itm(plan.kind_of(id))?;
-    let item = Item::Itm(packet);
-    *said = Line::Of { id, item };
-    Ok(())
-}
-
 /// Bytes of this source, where the source is one for them. At a fault `said` is as before.
 fn take_raw(plan: &Plan, found: (SourceId, RawBytes), said: &mut Line) -> Result<(), LineFault>
     ensures value { taken_by (kind_of plan.now found.0) found.0 (Item.Raw found.1) ≡ answer result said.new }
@@ -129,6 +119,18 @@ fn take_raw(plan: &Plan, found: (SourceId, RawBytes), said: &mut Line) -> Result
     let (id, bytes) = found;
     takes_raw(plan.kind_of(id), id)?;
     let item = Item::Raw(bytes);
+    *said = Line::Of { id, item };
+    Ok(())
+}
+
+/// A datum of this source, where the source is one for it. At a fault `said` is as before.
+fn take_datum(plan: &Plan, found: (SourceId, StpItem), said: &mut Line) -> Result<(), LineFault>
+    ensures value { taken_by (kind_of plan.now found.0) found.0 (Item.Stp found.1) ≡ answer result said.new }
+    ensures same { OnErr result (said.new ≡ said.old) }
+{
+    let (id, stp_item) = found;
+    takes_stp(plan.kind_of(id))?;
+    let item = Item::Stp(stp_item);
     *said = Line::Of { id, item };
     Ok(())
 }
@@ -159,6 +161,9 @@ fn read_printable(line: &[u8], plan: &Plan, said: &mut Line) -> Result<(), LineF
 {
     if let Some(found) = quick_raw(line) {
         return take_raw(plan, found, said);
+    }
+    if let Some(found) = quick_datum(line) {
+        return take_datum(plan, found, said);
     }
     let mut words = Words::new();
     if !put_words(line, &mut words) {
@@ -198,9 +203,6 @@ pub fn read_into(line: &[u8], plan: &Plan, said: &mut Line) -> Result<(), LineFa
             return Ok(());
         }
         _ => {}
-    }
-    if let Some(found) = quick_packet(line) {
-        return take_packet(plan, found, said);
     }
     read_printable(line, plan, said)
 }

@@ -1,19 +1,22 @@
-//! Lines of the most frequent packets, read from their bytes with no list of words.
+//! Lines of the most frequent packets and of bytes, read from their bytes with no list of words.
 
-ghost use Rattle.std.specs.Prelude.{◌≡◌, IfSome, ◌++◌, codes};
-ghost use Rattle.script_text.specs.Quick.{BeginsWith, BeginsWithNumber, SaysPacket, IsPacketOf, IsItemOf};
+ghost use Rattle.std.specs.Prelude.{◌≡◌, ◌<◌, ◌≤◌, ◌*◌, IfSome, ◌++◌, codes};
+ghost use Rattle.itm_grammar.specs.Spelling.{byte_count};
+ghost use Rattle.script_text.specs.Quick.{BeginsWith, BeginsWithNumber, BeginsWithDigits, IsItemOf, SaysFirst, IsFirstLine};
 ghost use Rattle.script_text.specs.declared.items.Item.TheVariants.{Raw};
 ghost use Rattle.script_text.specs.Quick.{size_word as word_of_size};
 
-use crate::numbers::value_named;
+use crate::lines::LINE_BYTES;
+use crate::numbers::hexadecimal_named;
 use crate::raw_bytes::{RawBytes, bytes_named};
 use decimal_words::{bytes_after, number_in};
 use itm_grammar::packet::{ItmPacket, Lateness, Size};
+use memchr::memchr;
 use trace_values::SourceId;
 
 /// A number below 130 that a line begins with, the space after it, and the rest.
 #[inline(always)]
-fn number_word(line: &[u8]) -> Option<(u8, &[u8])>
+pub fn number_word(line: &[u8]) -> Option<(u8, &[u8])>
     ensures { IfSome result (λ p. BeginsWithNumber line.now p.0 p.1.now) }
 {
     if line.len() < 4 || line[0] < b'0' || line[0] > b'9' {
@@ -50,30 +53,63 @@ fn size_word(line: &[u8]) -> Option<(Size, &[u8])>
     }
 }
 
-/// What follows `port `: a port, a size and a value.
+/// The number of this many hexadecimal digits that a line begins with, the byte `end` after them, and the rest.
 #[inline(always)]
-fn software(line: &[u8]) -> Option<ItmPacket>
-    ensures { IfSome result (SaysPacket (codes "port " ++ line.now)) }
+pub fn digits_word(line: &[u8], count: usize, end: u8) -> Option<(u64, &[u8])>
+    requires { count ≤ 16 }
+    ensures { IfSome result (λ p. BeginsWithDigits line.now count p.0 end p.1.now) }
+{
+    if line.len() <= count || line[count] != end {
+        return None;
+    }
+    let value = hexadecimal_named(count, &line[..count])?;
+    Some((value, &line[count + 1..]))
+}
+
+/// How many digits a value of this size has.
+#[inline(always)]
+fn digits_of(size: Size) -> usize
+    ensures value { result ≡ 2 * byte_count size }
+    ensures few { (0 < result) × (result ≤ 16) }
+{
+    match size {
+        Size::One => 2,
+        Size::Two => 4,
+        Size::Four => 8,
+    }
+}
+
+/// What follows `port ` up to a line feed, a port, a size and a value, and what is after that.
+#[inline(always)]
+fn software(line: &[u8]) -> Option<(ItmPacket, &[u8])>
+    ensures { IfSome result (λ p. SaysFirst (codes "port " ++ line.now) p.0 p.1.now) }
 {
     let (port, rest) = number_word(line)?;
     if port > 31 {
         return None;
     }
-    let (size, digits) = size_word(rest)?;
-    let value = value_named(size, digits)?;
-    Some(ItmPacket::Software { port, size, value })
+    let (size, rest) = size_word(rest)?;
+    let (value, after) = digits_word(rest, digits_of(size), b'\n')?;
+    let packet = ItmPacket::Software {
+        port,
+        size,
+        value: value as u32,
+    };
+    Some((packet, after))
 }
 
-/// An exact local timestamp.
-fn exact(line: &[u8]) -> Option<ItmPacket>
-    ensures { IfSome result (SaysPacket line.now) }
+/// An exact local timestamp up to a line feed, and what is after that.
+fn exact(line: &[u8]) -> Option<(ItmPacket, &[u8])>
+    ensures { IfSome result (λ p. SaysFirst line.now p.0 p.1.now) }
 {
-    let digits = bytes_after(b"local exact ", line)?;
-    let delta = number_in(0, 0xFFF_FFFF, digits)? as u32;
-    Some(ItmPacket::Local {
+    let rest = bytes_after(b"local exact ", line)?;
+    let end = memchr(b'\n', rest)?;
+    let delta = number_in(0, 0xFFF_FFFF, &rest[..end])? as u32;
+    let packet = ItmPacket::Local {
         lateness: Lateness::Exact,
         delta,
-    })
+    };
+    Some((packet, &rest[end + 1..]))
 }
 
 /// What follows `raw `.
@@ -86,9 +122,10 @@ fn raw_word(line: &[u8]) -> Option<&[u8]>
     }
 }
 
-/// The packet that the words after an ID say.
-fn packet_in(line: &[u8]) -> Option<ItmPacket>
-    ensures { IfSome result (SaysPacket line.now) }
+/// The packet that the words after an ID say, up to a line feed, and what is after that.
+#[inline(always)]
+fn packet_in(line: &[u8]) -> Option<(ItmPacket, &[u8])>
+    ensures { IfSome result (λ p. SaysFirst line.now p.0 p.1.now) }
 {
     match line {
         [b'p', b'o', b'r', b't', b' ', rest @ ..] => software(rest),
@@ -112,16 +149,30 @@ pub fn quick_raw(line: &[u8]) -> Option<(SourceId, RawBytes)>
     Some((id, bytes))
 }
 
-/// The source and the packet of a line, where it is one of a software packet or of an exact local timestamp. Not of
-/// each such line: what is not read here is read from its words.
-pub fn quick_packet(line: &[u8]) -> Option<(SourceId, ItmPacket)>
-    ensures { IfSome result (λ p. IsPacketOf line.now p.0 p.1) }
+/// A line that says a packet of an ITM source.
+#[derive(Clone, Copy, Debug, PartialEq, Eq, Drop)]
+pub struct PacketLine {
+    pub id: SourceId,
+    pub packet: ItmPacket,
+    /// How many bytes it has, without its line feed.
+    pub bytes: usize,
+}
+
+/// The line that a piece begins with, where it is all there with its line feed, and says a software packet or an exact
+/// local timestamp. Not of each such line: `read_line` reads what is not read here.
+#[inline(always)]
+pub fn packet_line(piece: &[u8]) -> Option<PacketLine>
+    ensures { IfSome result (IsFirstLine piece.now) }
 {
-    let (number, rest) = number_word(line)?;
+    let (number, rest) = number_word(piece)?;
     if number < 1 || number > 126 {
         return None;
     }
     let id = SourceId::new(number)?;
-    let packet = packet_in(rest)?;
-    Some((id, packet))
+    let (packet, after) = packet_in(rest)?;
+    let bytes = piece.len() - after.len() - 1;
+    if bytes > LINE_BYTES {
+        return None;
+    }
+    Some(PacketLine { id, packet, bytes })
 }

@@ -1,9 +1,9 @@
 //! Lines, and what they say.
 
-use crate::{Item, Line, LineFault, read_line};
+use crate::{Item, Line, LineFault, packet_line, read_line};
 use capture_plan::{FramesMode, PacketsMode};
 use dwt_packets::{DwtItem, meaning};
-use itm_grammar::packet::{ItmPacket, Size};
+use itm_grammar::packet::{ItmPacket, Lateness, Size};
 use itm_grammar::proper::is_proper;
 use source_events::{Plan, SourceIds};
 use std::alloc::{AllocError, Global};
@@ -112,6 +112,48 @@ fn packets_of_an_itm_source(rt: HostRuntime) -> Result<(), Fail> {
     };
     check_itm(&rt, upper, packet);
     Ok(())
+}
+
+/// Looks for a packet at the front of a piece, whose line has this many bytes.
+fn check_first(rt: &impl Abort, piece: &[u8], number: u8, packet: ItmPacket, bytes: usize) {
+    match packet_line(piece) {
+        Some(line) => {
+            assert_eq!(rt; line.id.number(), number, "{piece:?}");
+            assert_eq!(rt; line.packet, packet, "{piece:?}");
+            assert_eq!(rt; line.bytes, bytes, "{piece:?}");
+        }
+        None => panic!(rt; "{piece:?} begins with no packet"),
+    }
+}
+
+#[test]
+fn packets_at_the_front_of_a_piece(rt: HostRuntime) {
+    let packet = ItmPacket::Software {
+        port: 31,
+        size: Size::Two,
+        value: 0xBEEF,
+    };
+    check_first(&rt, b"1 port 31 u16 beef\n2 async\n", 1, packet, 18);
+    check_first(&rt, b"126 port 31 u16 BEEF\n", 126, packet, 20);
+    let stamp = ItmPacket::Local {
+        lateness: Lateness::Exact,
+        delta: 0xFFF_FFFF,
+    };
+    check_first(&rt, b"1 local exact 268435455\n\n", 1, stamp, 23);
+    for piece in [
+        b"1 port 31 u16 beef".as_slice(),
+        b"1 port 32 u8 00\n",
+        b"01 port 1 u8 00\n",
+        b"127 port 1 u8 00\n",
+        b"1 port 1 u16 be\n",
+        b"1 port 1 u16 be \n",
+        b"1 local exact 268435456\n",
+        b"1 local exact 07\n",
+        b"1 sync\n",
+        b"\n",
+    ] {
+        assert_eq!(rt; packet_line(piece), None, "{piece:?}");
+    }
 }
 
 /// What this packet, which is a hardware packet, means.

@@ -1,13 +1,33 @@
 use Rattle.std.proofs.Common.{◌≡◌, ◌∷◌, [], ◌++◌, ◌+◌, ◌∙◌, ℕ, ap, sym, subst, take}
+use Rattle.std.specs.Prelude.{IfSome}
 use Rattle.std.proofs.lemmas.List.{take_more, length-take-le}
+use Rattle.script_text.specs.declared.quick.PacketLine.{PacketLine}
+use Rattle.script_text.specs.Quick.{IsFirstLine, IsPacketOf}
 use Rattle.script_rebuild.specs.Rebuilder.{Feeds}
+use Rattle.script_rebuild.proofs.Sources.{there}
+use Rattle.script_rebuild.proofs.FirstLines.{first_plain, first_says, first_ended}
 use Rattle.script_rebuild.proofs.rebuild.RebuildAction.feed.Goals as goal
 
 pub returns-then-piece-len-eq10-clause-fed : goal.returns-then-piece-len-eq10-clause-fed
 returns-then-piece-len-eq10-clause-fed c = λ seen s.
     let piece = c.args.piece.now in
     let n = c.plain_len-len.result in
-    let bytes : c.take_line.result.bytes ≡ n + 1 = c.take_line.ensures.bytes ∙ ap (λ (k : ℕ). k + 1) (length-take-le n piece c.plain_len-len.ensures.bound) in
-    let front : take n piece ++ 10 ∷ [] ≡ take c.take_line.result.bytes piece =
+    let bytes : c.take_line-then-piece-len-eq10.result.bytes ≡ n + 1 = c.take_line-then-piece-len-eq10.ensures.bytes ∙ ap (λ (k : ℕ). k + 1) (length-take-le n piece c.plain_len-len.ensures.bound) in
+    let front : take n piece ++ 10 ∷ [] ≡ take c.take_line-then-piece-len-eq10.result.bytes piece =
     ap (λ (b : ℕ). take n piece ++ b ∷ []) (sym c.if-piece-len-eq10.true) ∙ sym (take_more piece n 0 c.if-len-piece.true) ∙ ap (λ (k : ℕ). take k piece) (sym bytes) in
-    subst (λ l. Feeds c.args.self.now c.take_line.new.self seen l c.args.outlet.now c.take_line.new.outlet c.take_line.result.flow) front (c.take_line.ensures.fed seen s)
+    subst (λ l. Feeds c.args.self.now c.take_line-then-piece-len-eq10.new.self seen l c.args.outlet.now c.take_line-then-piece-len-eq10.new.outlet c.take_line-then-piece-len-eq10.result.flow) front (c.take_line-then-piece-len-eq10.ensures.fed seen s)
+
+pub take_line-requires-clause-plain : goal.take_line-requires-clause-plain
+take_line-requires-clause-plain c =
+    first_plain c.args.piece.now c.in-Some.line (there (IsFirstLine c.args.piece.now) c.packet_line-found.result c.in-Some.line c.in-Some.is c.packet_line-found.ensures)
+
+pub take_line-requires-clause-found : goal.take_line-requires-clause-found
+take_line-requires-clause-found c =
+    subst (λ o. IfSome o (λ (p : PacketLine). IsPacketOf (take c.in-Some.line.bytes c.args.piece.now) p.id p.packet)) (sym c.in-Some.is)
+    (first_says c.args.piece.now c.in-Some.line (there (IsFirstLine c.args.piece.now) c.packet_line-found.result c.in-Some.line c.in-Some.is c.packet_line-found.ensures))
+
+pub returns-in-Some-clause-fed : goal.returns-in-Some-clause-fed
+returns-in-Some-clause-fed c = λ seen s.
+    let first = there (IsFirstLine c.args.piece.now) c.packet_line-found.result c.in-Some.line c.in-Some.is c.packet_line-found.ensures in
+    subst (λ l. Feeds c.args.self.now c.take_line.new.self seen l c.args.outlet.now c.take_line.new.outlet c.take_line.result.flow)
+    (first_ended c.args.piece.now c.in-Some.line first c.take_line.result.bytes c.take_line.ensures.bytes) (c.take_line.ensures.fed seen s)
