@@ -8,6 +8,7 @@ use Rattle.trace_values.specs.Placed.{Place, Placed}
 use Rattle.trace_values.specs.Stream.{Said, Stream, Grows, HuntBy, Shows, Settled, Holds, Rises, AllAt, StepFits, LocksAfter, given_by, fault_by, goes_on}
 use Rattle.trace_values.specs.Block.{given_after, fault_after, goes_on_after, StandsAt, StopsFor, Takes}
 use Rattle.itm_codec.specs.Wholes.{Cuts, Gives, kept_at}
+use Rattle.stp_codec.specs.Cuts.{Passes}
 use Rattle.std.specs.Option.{option_map}
 use Rattle.source_events.specs.Packets.{said_as, given_as, stream_as}
 use Rattle.source_machine.specs.Seen.{step_as, last_as}
@@ -147,6 +148,16 @@ module _ {V W : Type 0} (f : V → W) where
     list = g.list;
     given = ap (given_as f) g.given ∙ given_append _ _;
     sound = g.sound;
+  }
+
+  -- of a part of an STP packet
+  pub passes_as : (reading : List Placed → Stream V) (stands : List Placed → Type 0) (u front : List Placed) (last : Placed)
+      (step : Option (Step V)) → Passes reading stands u front last step →
+      Passes (λ w. stream_as f (reading w)) stands u front last (last_as f step)
+  passes_as reading stands u front last step p = record {
+    list = p.list;
+    given = ap (given_as f) p.given ∙ given_append _ _ ∙ ap (λ l. given_as f (reading u).given ++ l) (given_block _ step);
+    sound = p.sound;
   }
 
   -- of a part of a packet

@@ -121,7 +121,8 @@ fn stp_block(block: Block<StpItem>) -> Block<Packet>
 
 impl SourceMachine {
     ghost use Rattle.std.specs.Prelude.{ℕ, ◌+◌, ◌*◌, ◌^◌, ◌<◌, ◌≤◌, ◌++◌, ◌∷◌, List, [], length, take, max, IfSome};
-    ghost use Rattle.std.specs.Prelude.{true};
+    ghost use Rattle.std.specs.Prelude.{None, true};
+    ghost use Rattle.stp_codec.specs.Cuts.{Passes};
     ghost use Rattle.trace_values.specs.Placed.{Placed, units_of};
     ghost use Rattle.trace_values.specs.Stream.{StepFits, LocksAfter};
     ghost use Rattle.trace_values.specs.Block.{Takes, StopsFor, goes_on_after};
@@ -205,6 +206,32 @@ impl SourceMachine {
         match self {
             SourceMachine::Itm(_) => unreachable!(),
             SourceMachine::Stp(decoder) => decoder.finish_parts(at, piece, parts),
+        }
+    }
+
+    /// Takes bytes of an STP source at once, wherever they are: those within the unfinished packet up to the one in which
+    /// it ends, with all of that byte, or all of them. It is live, and has room for all their nibbles.
+    ///
+    /// None where the reading has not begun, where a nibble is a fault, of no bytes, and for an ITM source: then it is as
+    /// before.
+    #[inline(always)]
+    pub fn take_part(&mut self, bytes: &[u8]) -> Option<PacketTaken>
+        requires live { is_live self.old ≡ true }
+        requires room { held_of self.old + skipped_by self.old + 2 * length bytes.now ≤ COUNT_ROOM }
+        ensures same { reading_of self.new ≡ reading_of self.old }
+        ensures bytes { IfSome result (λ taken. (0 < taken.bytes) × (taken.bytes ≤ length bytes.now)) }
+        ensures passes { (u front : List Placed) (last : Placed) → Stands self.old u →
+            IfSome result (λ taken. units_of (front ++ last ∷ []) ≡ take taken.bytes bytes.now →
+            Passes (reading_of self.old) (Stands self.new) u front last (packet_in taken.half taken.item)) }
+        ensures live { is_live self.new ≡ true }
+        ensures fits { IfSome result (λ taken. IfSome (packet_in taken.half taken.item) (StepFits PacketFits)) }
+        ensures few { IfSome result (λ taken. held_of self.new + skipped_by self.new ≤
+            held_of self.old + skipped_by self.old + 2 * taken.bytes) }
+        ensures none { result ≡ None → self.new ≡ self.old }
+    {
+        match self {
+            SourceMachine::Itm(_) => None,
+            SourceMachine::Stp(decoder) => decoder.take_part(bytes),
         }
     }
 

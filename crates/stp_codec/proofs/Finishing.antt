@@ -76,10 +76,10 @@ module _ (order : Order) where
   pub first_is : (b : ℕ) → b < 15 → first_opening b ≡ Opened (row_at b)
   first_is b h = grind (arith, nat_tests)
 
-  second_is : (b : ℕ) → 0 < b → b < 15 → second_opening b ≡ Opened (row_at (14 + b))
+  pub second_is : (b : ℕ) → 0 < b → b < 15 → second_opening b ≡ Opened (row_at (14 + b))
   second_is b h l = grind (arith, nat_tests)
 
-  not_f : (b : ℕ) → b < 15 → (b == 15) ≡ false
+  pub not_f : (b : ℕ) → b < 15 → (b == 15) ≡ false
   not_f b h = grind (arith, nat_tests)
 
   pub ends_start : (b : ℕ) (w : List ℕ) (packet : StpPacket) → b < 15 → Ends order (begin (row_at b)) w packet → Ends order (Go Start) (b ∷ w) packet

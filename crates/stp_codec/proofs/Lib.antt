@@ -7,7 +7,10 @@ pub mod AtOnce
 pub mod Insides
 pub mod RowTables
 pub mod Finishing
+pub mod ByBytes
+pub mod Cutting
 pub mod Passing
 pub mod PacketPieces
+pub mod PartPieces
 pub mod Parts
 pub mod PartsPieces

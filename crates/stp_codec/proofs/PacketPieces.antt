@@ -1,4 +1,4 @@
--- Bytes of a piece that end a packet are taken at once.
+-- Bytes that end a packet are taken at once, wherever they are.
 use Rattle.std.proofs.Common.{◌≡◌, ℕ, zero, suc, ◌+◌, ◌-◌, ◌*◌, ◌/◌, ◌%◌, ◌<◌, ◌≤◌, List, [], ◌∷◌, ◌++◌, length, take, get_or, refl, sym, ◌∙◌, ap, subst, append_assoc, append-nil, arith, Option, None, Some, Bool, true, ◌⊎◌, inl, inr}
 use Rattle.std.specs.Prelude.{is_none}
 use Rattle.std.proofs.lemmas.List.{take_more}
@@ -13,7 +13,6 @@ use Rattle.trace_values.specs.Block.{Takes, StandsAt, given_after, fault_after}
 use Rattle.trace_values.specs.Moded.{hunts, is_locked}
 use Rattle.trace_values.proofs.Blocks.{next_placed}
 use Rattle.trace_values.proofs.Decorating.{item_step}
-use Rattle.trace_values.proofs.Nibbling.{nibbles_push}
 use Rattle.trace_values.proofs.NibbleModes as laws
 use Rattle.trace_values.proofs.Placing.{units_push}
 use Rattle.stp_grammar.specs.declared.packet.Order.{Order}
@@ -28,6 +27,7 @@ use Rattle.stp_grammar.specs.Attribution.{attribute, item_of}
 use Rattle.stp_grammar.specs.Attributed.{Stands as Attributes}
 use Rattle.stp_codec.specs.Reading.{pattern, items_at, items_in}
 use Rattle.stp_codec.specs.Wholes.{nibbles_in, between, Ends, left_of, item_in, IsQuiet}
+use Rattle.stp_codec.specs.Cuts.{Passes}
 use Rattle.stp_codec.proofs.Between.{length-nibbles, low_nibble, high_nibble}
 use Rattle.stp_codec.proofs.Taking.{At}
 use Rattle.stp_codec.proofs.Passing.{passed}
@@ -39,9 +39,9 @@ sound_before order h u w e = by (items_in order h u).fault refl where
   by None f = refl
   by (Some x) f = let s = laws.settles pattern Async (by_unit (rule order)) Start attribute [] h u w (ap is_none f) in let k = sym e ∙ s.fault ∙ f in cc
 
-units_nibbles : (at : ℕ) (bytes : List ℕ) → units_of (nibbles_of (placed_from at bytes)) ≡ nibbles_in bytes
-units_nibbles at [] = refl
-units_nibbles at (b ∷ bytes) = ap (λ l. b % 16 ∷ (b / 16 % 16 ∷ l)) (units_nibbles (at + 1) bytes)
+pub units_nibbles : (u : List Placed) → units_of (nibbles_of u) ≡ nibbles_in (units_of u)
+units_nibbles [] = refl
+units_nibbles (b ∷ u) = ap (λ l. b.unit % 16 ∷ (b.unit / 16 % 16 ∷ l)) (units_nibbles u)
 
 take_nibbles : (k : ℕ) (bytes : List ℕ) → nibbles_in (take k bytes) ≡ take (2 * k) (nibbles_in bytes)
 take_nibbles zero bytes = refl
@@ -62,98 +62,169 @@ no_place : (at half : ℕ) (o : Option StpItem) → StandsAt at (item_in half o)
 no_place at half None = tt
 no_place at half (Some item) = tt
 
+-- the nibbles of bytes of which this is the last
+pub nibbles_last : (u front : List Placed) (last : Placed) →
+    nibbles_of (u ++ (front ++ last ∷ [])) ≡ ((nibbles_of u ++ nibbles_of front) ++ low_of last.place.at last.unit ∷ []) ++ high_of last.place.at last.unit ∷ []
+nibbles_last u front last =
+    let low = low_of last.place.at last.unit in
+    let high = high_of last.place.at last.unit in
+    laws.nibbles_append u (front ++ last ∷ [])
+    ∙ ap (λ l. nibbles_of u ++ l) (laws.nibbles_append front (last ∷ []))
+    ∙ sym (append_assoc (nibbles_of u) (nibbles_of front) (low ∷ (high ∷ [])))
+    ∙ sym (append_assoc (nibbles_of u ++ nibbles_of front) (low ∷ []) (high ∷ []))
+
+-- the last of some bytes, and those before it
+pub split : (front : List Placed) (last : Placed) (k : ℕ) (bytes : List ℕ) → k < length bytes → units_of (front ++ last ∷ []) ≡ take (k + 1) bytes →
+    (units_of front ≡ take k bytes) × (last.unit ≡ get_or bytes k 0)
+split front last k bytes h e = by front k bytes h (e ∙ ap (λ n. take n bytes) (let q : k + 1 ≡ suc k = omega arith in q)) where
+  by : (front : List Placed) (k : ℕ) (bytes : List ℕ) → k < length bytes → units_of (front ++ last ∷ []) ≡ take (suc k) bytes →
+      (units_of front ≡ take k bytes) × (last.unit ≡ get_or bytes k 0)
+  by front k [] h e = absurd (omega arith)
+  by [] zero (b ∷ bytes) h e = (refl, let q : last.unit ≡ b = cc in q)
+  by [] (suc k) (b ∷ []) h e = absurd (omega arith)
+  by [] (suc k) (b ∷ (c ∷ bytes)) h e = cc
+  by (f ∷ []) zero (b ∷ bytes) h e = cc
+  by (f ∷ (g ∷ front)) zero (b ∷ bytes) h e = cc
+  by (f ∷ front) (suc k) (b ∷ bytes) h e =
+      let one : f.unit ≡ b = cc in
+      let more : units_of (front ++ last ∷ []) ≡ take (suc k) bytes = cc in
+      let r = by front k bytes (omega arith) more in
+      (ap (λ x. x ∷ units_of front) one ∙ ap (λ l. b ∷ l) r.0, r.1)
+
 module _ (order : Order) (m : Mode) (a : Attribution) (locked : is_locked m ≡ true) (v : StpPacket) (o : Option StpItem) (b : Attribution)
     (keeps : (ps : List StpPacket) → Attributes a ps → Attributes b (ps ++ v ∷ [])) (is : (ps : List StpPacket) → Attributes a ps → o ≡ item_of (ps ++ v ∷ []) v)
-    (now : List Placed → Type 0) (u : List Placed) (at : ℕ) (piece : List ℕ) (s : Partial) (stands : At order m true s a (nibbles_of u)) where
+    (now : List Placed → Type 0) (u front : List Placed) (last : Placed) (piece : List ℕ) (s : Partial) (stands : At order m true s a (nibbles_of u)) where
   abbrev reading : List Placed → Stream StpItem
   reading n = items_at order (hunts m) n
 
-  abbrev byte : ℕ → ℕ
-  byte k = get_or piece k 0
+  abbrev at : ℕ
+  at = last.place.at
+
+  abbrev low : Placed
+  low = low_of at last.unit
+
+  abbrev high : Placed
+  high = high_of at last.unit
 
   -- nibbles before the last byte
-  abbrev front : ℕ → List Placed
-  front k = nibbles_of (placed_from at (take k piece))
+  abbrev early : List Placed
+  early = nibbles_of front
 
-  all_is : (k : ℕ) → k < length piece → nibbles_of (u ++ placed_from at (take (k + 1) piece)) ≡ ((nibbles_of u ++ front k) ++ low_of (at + k) (byte k) ∷ []) ++ high_of (at + k) (byte k) ∷ []
-  all_is k h =
-      ap nibbles_of (sym (next_placed u at piece k h)) ∙ nibbles_push (u ++ placed_from at (take k piece)) (at + k) (byte k)
-      ∙ ap (λ l. (l ++ low_of (at + k) (byte k) ∷ []) ++ high_of (at + k) (byte k) ∷ []) (laws.nibbles_append u (placed_from at (take k piece)))
-
-  front_is : (k : ℕ) → units_of (front k) ≡ take (2 * k) (nibbles_in piece)
-  front_is k = units_nibbles at (take k piece) ∙ take_nibbles k piece
-
-  low_units : (k : ℕ) → k < length piece → units_of (front k) ++ byte k % 16 ∷ [] ≡ take (2 * k + 1) (nibbles_in piece)
-  low_units k h =
-      let l = length-nibbles piece in
-      ap (λ z. z ++ byte k % 16 ∷ []) (front_is k) ∙ ap (λ z. take (2 * k) (nibbles_in piece) ++ z ∷ []) (sym (low_nibble piece k h))
-      ∙ sym (take_more (nibbles_in piece) (2 * k) 0 (omega (arith, l, h)))
-
-  high_units : (k : ℕ) → k < length piece → units_of (front k ++ low_of (at + k) (byte k) ∷ []) ++ byte k / 16 % 16 ∷ [] ≡ take (2 * k + 2) (nibbles_in piece)
-  high_units k h =
-      let l = length-nibbles piece in
-      ap (λ z. z ++ byte k / 16 % 16 ∷ []) (units_push (front k) (low_of (at + k) (byte k)) ∙ low_units k h) ∙ ap (λ z. take (2 * k + 1) (nibbles_in piece) ++ z ∷ []) (sym (high_nibble piece k h))
-      ∙ sym (take_more (nibbles_in piece) (2 * k + 1) 0 (omega (arith, l, h))) ∙ ap (λ n. take n (nibbles_in piece)) (let e : 2 * k + 1 + 1 ≡ 2 * k + 2 = omega arith in e)
+  abbrev all : List Placed
+  all = nibbles_of (u ++ (front ++ last ∷ []))
 
   -- all bytes up to this one, where they are taken
-  taken : (k half : ℕ) → k < length piece → now (nibbles_of (u ++ placed_from at (take (k + 1) piece))) →
-      (reading (nibbles_of (u ++ placed_from at (take (k + 1) piece)))).given ≡ (reading (nibbles_of u)).given ++ given_by (at + k) (item_step half o) →
-      (reading (nibbles_of (u ++ placed_from at (take (k + 1) piece)))).fault ≡ None →
-      Takes (items_in order (hunts m)) (λ w. now (nibbles_of w)) u at piece (k + 1) (item_in half o)
-  taken k half h list given fault =
-      let one : k + 1 - 1 ≡ k = omega arith in
-      record {
-        list = list;
-        given = given ∙ ap (λ l. (reading (nibbles_of u)).given ++ l) (given_item (at + k) half o ∙ ap (λ n. given_after (at + n) (item_in half o)) (sym one));
-        fault = fault ∙ no_fault (at + (k + 1 - 1)) half o;
-        place = no_place (at + (k + 1 - 1)) half o;
-        sound = ap (λ n. (items_in order (hunts m) (u ++ placed_from at (take n piece))).fault) one
-            ∙ sound_before order (hunts m) (u ++ placed_from at (take k piece)) (byte_at (at + k) (byte k) ∷ [])
-            (ap (λ l. (items_in order (hunts m) l).fault) (next_placed u at piece k h) ∙ fault);
-      }
+  taken : (half : ℕ) → now all → (reading all).given ≡ (reading (nibbles_of u)).given ++ given_by at (item_step half o) → (reading all).fault ≡ None →
+      Passes (items_in order (hunts m)) (λ w. now (nibbles_of w)) u front last (item_in half o)
+  taken half list given fault = record {
+    list = list;
+    given = given ∙ ap (λ l. (reading (nibbles_of u)).given ++ l) (given_item at half o);
+    sound = fault;
+  }
 
-  module _ (k : ℕ) (h : k < length piece) where
+  module _ (k : ℕ) (h : k < length piece) (front_is : units_of front ≡ take k piece) (last_is : last.unit ≡ get_or piece k 0) where
+    early_is : units_of early ≡ take (2 * k) (nibbles_in piece)
+    early_is = units_nibbles front ∙ ap nibbles_in front_is ∙ take_nibbles k piece
+
+    low_units : units_of early ++ low.unit ∷ [] ≡ take (2 * k + 1) (nibbles_in piece)
+    low_units =
+        let l = length-nibbles piece in
+        ap (λ z. z ++ low.unit ∷ []) early_is ∙ ap (λ z. take (2 * k) (nibbles_in piece) ++ z ∷ []) (ap (λ x. x % 16) last_is ∙ sym (low_nibble piece k h))
+        ∙ sym (take_more (nibbles_in piece) (2 * k) 0 (omega (arith, l, h)))
+
+    high_units : units_of (early ++ low ∷ []) ++ high.unit ∷ [] ≡ take (2 * k + 2) (nibbles_in piece)
+    high_units =
+        let l = length-nibbles piece in
+        ap (λ z. z ++ high.unit ∷ []) (units_push early low ∙ low_units)
+        ∙ ap (λ z. take (2 * k + 1) (nibbles_in piece) ++ z ∷ []) (ap (λ x. x / 16 % 16) last_is ∙ sym (high_nibble piece k h))
+        ∙ sym (take_more (nibbles_in piece) (2 * k + 1) 0 (omega (arith, l, h))) ∙ ap (λ n. take n (nibbles_in piece)) (let e : 2 * k + 1 + 1 ≡ 2 * k + 2 = omega arith in e)
+
     abbrev low_end : List Placed
-    low_end = (nibbles_of u ++ front k) ++ low_of (at + k) (byte k) ∷ []
+    low_end = (nibbles_of u ++ early) ++ low ∷ []
 
     -- a packet that ends in the low nibble of its last byte
-    pub low_takes : walk (rule order) s (take (2 * k + 1) (nibbles_in piece)) ≡ Whole v →
-        ((n : List Placed) → At order m true Start b n → now (n ++ high_of (at + k) (byte k) ∷ [])) → ((n : List Placed) → At order m true Start b n → IsQuiet (reading n) (reading (n ++ high_of (at + k) (byte k) ∷ []))) →
-        Takes (items_in order (hunts m)) (λ w. now (nibbles_of w)) u at piece (k + 1) (item_in 0 o)
-    low_takes e list quiet =
-        let p = passed order m a locked v o b keeps is (front k) (nibbles_of u) (low_of (at + k) (byte k)) s (ap (walk (rule order) s) (low_units k h) ∙ e) stands in
+    low_passes : walk (rule order) s (take (2 * k + 1) (nibbles_in piece)) ≡ Whole v →
+        ((n : List Placed) → At order m true Start b n → now (n ++ high ∷ [])) → ((n : List Placed) → At order m true Start b n → IsQuiet (reading n) (reading (n ++ high ∷ []))) →
+        Passes (items_in order (hunts m)) (λ w. now (nibbles_of w)) u front last (item_in 0 o)
+    low_passes e list quiet =
+        let p = passed order m a locked v o b keeps is early (nibbles_of u) low s (ap (walk (rule order) s) low_units ∙ e) stands in
         let q = quiet low_end p.list in
-        taken k 0 h (subst now (sym (all_is k h)) (list low_end p.list)) (ap (λ l. (reading l).given) (all_is k h) ∙ q.0 ∙ p.given) (ap (λ l. (reading l).fault) (all_is k h) ∙ q.1)
+        let all_is = nibbles_last u front last in
+        taken 0 (subst now (sym all_is) (list low_end p.list)) (ap (λ l. (reading l).given) all_is ∙ q.0 ∙ p.given) (ap (λ l. (reading l).fault) all_is ∙ q.1)
 
     -- and one that ends in the high one
-    pub high_takes : walk (rule order) s (take (2 * k + 2) (nibbles_in piece)) ≡ Whole v → ((n : List Placed) → At order m true Start b n → now (n ++ [])) →
-        Takes (items_in order (hunts m)) (λ w. now (nibbles_of w)) u at piece (k + 1) (item_in 1 o)
-    high_takes e list =
-        let low = low_of (at + k) (byte k) in
-        let high = high_of (at + k) (byte k) in
-        let p = passed order m a locked v o b keeps is (front k ++ low ∷ []) (nibbles_of u) high s (ap (walk (rule order) s) (high_units k h) ∙ e) stands in
-        let all : nibbles_of (u ++ placed_from at (take (k + 1) piece)) ≡ (nibbles_of u ++ (front k ++ low ∷ [])) ++ high ∷ [] =
-        all_is k h ∙ ap (λ l. l ++ high ∷ []) (append_assoc (nibbles_of u) (front k) (low ∷ [])) in
-        taken k 1 h (subst now (append-nil ((nibbles_of u ++ (front k ++ low ∷ [])) ++ high ∷ []) ∙ sym all) (list ((nibbles_of u ++ (front k ++ low ∷ [])) ++ high ∷ []) p.list)) (ap (λ l. (reading l).given) all ∙ p.given) (ap (λ l. (reading l).fault) all ∙ p.fault)
+    high_passes : walk (rule order) s (take (2 * k + 2) (nibbles_in piece)) ≡ Whole v → ((n : List Placed) → At order m true Start b n → now (n ++ [])) →
+        Passes (items_in order (hunts m)) (λ w. now (nibbles_of w)) u front last (item_in 1 o)
+    high_passes e list =
+        let p = passed order m a locked v o b keeps is (early ++ low ∷ []) (nibbles_of u) high s (ap (walk (rule order) s) high_units ∙ e) stands in
+        let whole : List Placed = (nibbles_of u ++ (early ++ low ∷ [])) ++ high ∷ [] in
+        let all_is : all ≡ (nibbles_of u ++ (early ++ low ∷ [])) ++ high ∷ [] =
+        nibbles_last u front last ∙ ap (λ l. l ++ high ∷ []) (append_assoc (nibbles_of u) early (low ∷ [])) in
+        taken 1 (subst now (append-nil ((nibbles_of u ++ (early ++ low ∷ [])) ++ high ∷ []) ∙ sym all_is) (list ((nibbles_of u ++ (early ++ low ∷ [])) ++ high ∷ []) p.list))
+        (ap (λ l. (reading l).given) all_is ∙ p.given) (ap (λ l. (reading l).fault) all_is ∙ p.fault)
 
   halves : (n : ℕ) → 0 < n → (((n - 1) % 2 ≡ 0) × (2 * ((n - 1) / 2) + 1 ≡ n)) ⊎ (((n - 1) % 2 ≡ 1) × (2 * ((n - 1) / 2) + 2 ≡ n))
   halves n h = grind arith
 
   -- one that takes this many nibbles, by its half
-  pub packet_takes : (n : ℕ) → 0 < n → n ≤ 2 * length piece → Ends order (Go s) (between (nibbles_in piece) 0 n) v →
-      ((w : List Placed) → At order m true Start b w → now (w ++ left_of ((n - 1) % 2) (at + (n - 1) / 2) (byte ((n - 1) / 2)))) →
-      ((w : List Placed) → At order m true Start b w → IsQuiet (reading w) (reading (w ++ left_of ((n - 1) % 2) (at + (n - 1) / 2) (byte ((n - 1) / 2))))) →
-      Takes (items_in order (hunts m)) (λ w. now (nibbles_of w)) u at piece ((n - 1) / 2 + 1) (item_in ((n - 1) % 2) o)
-  packet_takes n some most e list quiet =
+  pub packet_passes : (n : ℕ) → 0 < n → n ≤ 2 * length piece → Ends order (Go s) (between (nibbles_in piece) 0 n) v → units_of (front ++ last ∷ []) ≡ take ((n - 1) / 2 + 1) piece →
+      ((at : ℕ) (w : List Placed) → At order m true Start b w → now (w ++ left_of ((n - 1) % 2) at (get_or piece ((n - 1) / 2) 0))) →
+      ((at : ℕ) (w : List Placed) → At order m true Start b w → IsQuiet (reading w) (reading (w ++ left_of ((n - 1) % 2) at (get_or piece ((n - 1) / 2) 0)))) →
+      Passes (items_in order (hunts m)) (λ w. now (nibbles_of w)) u front last (item_in ((n - 1) % 2) o)
+  packet_passes n some most e units list quiet =
       let k = (n - 1) / 2 in
       let h : k < length piece = omega arith in
+      let p = split front last k piece h units in
       let whole : walk (rule order) s (take n (nibbles_in piece)) ≡ Whole v = ap (λ i. walk (rule order) s (take i (nibbles_in piece))) (let z : n ≡ n - 0 = omega arith in z) ∙ e in
+      let lists : (w : List Placed) → At order m true Start b w → now (w ++ left_of ((n - 1) % 2) at last.unit) = λ w t. subst (λ x. now (w ++ left_of ((n - 1) % 2) at x)) (sym p.1) (list at w t) in
+      let quiets : (w : List Placed) → At order m true Start b w → IsQuiet (reading w) (reading (w ++ left_of ((n - 1) % 2) at last.unit)) =
+      λ w t. subst (λ x. IsQuiet (reading w) (reading (w ++ left_of ((n - 1) % 2) at x))) (sym p.1) (quiet at w t) in
       elim (halves n some) [
         | inl c ↦
-            subst (λ half. Takes (items_in order (hunts m)) (λ w. now (nibbles_of w)) u at piece (k + 1) (item_in half o)) (sym c.0)
-            (low_takes k h (ap (λ i. walk (rule order) s (take i (nibbles_in piece))) c.1 ∙ whole)
-            (λ w t. subst (λ half. now (w ++ left_of half (at + k) (byte k))) c.0 (list w t)) (λ w t. subst (λ half. IsQuiet (reading w) (reading (w ++ left_of half (at + k) (byte k)))) c.0 (quiet w t)))
+            subst (λ half. Passes (items_in order (hunts m)) (λ w. now (nibbles_of w)) u front last (item_in half o)) (sym c.0)
+            (low_passes k h p.0 p.1 (ap (λ i. walk (rule order) s (take i (nibbles_in piece))) c.1 ∙ whole)
+            (λ w t. subst (λ half. now (w ++ left_of half at last.unit)) c.0 (lists w t)) (λ w t. subst (λ half. IsQuiet (reading w) (reading (w ++ left_of half at last.unit))) c.0 (quiets w t)))
         | inr c ↦
-            subst (λ half. Takes (items_in order (hunts m)) (λ w. now (nibbles_of w)) u at piece (k + 1) (item_in half o)) (sym c.0)
-            (high_takes k h (ap (λ i. walk (rule order) s (take i (nibbles_in piece))) c.1 ∙ whole) (λ w t. subst (λ half. now (w ++ left_of half (at + k) (byte k))) c.0 (list w t)))
+            subst (λ half. Passes (items_in order (hunts m)) (λ w. now (nibbles_of w)) u front last (item_in half o)) (sym c.0)
+            (high_passes k h p.0 p.1 (ap (λ i. walk (rule order) s (take i (nibbles_in piece))) c.1 ∙ whole) (λ w t. subst (λ half. now (w ++ left_of half at last.unit)) c.0 (lists w t)))
       ]
+
+units_from : (from : ℕ) (bytes : List ℕ) → units_of (placed_from from bytes) ≡ bytes
+units_from from [] = refl
+units_from from (b ∷ bytes) = ap (λ l. b ∷ l) (units_from (from + 1) bytes)
+
+-- the same of bytes at adjacent offsets
+module _ (order : Order) (h : Bool) (now : List Placed → Type 0) (u : List Placed) (at : ℕ) (piece : List ℕ) (k half : ℕ) (o : Option StpItem) (within : k < length piece) where
+  abbrev front : List Placed
+  front = placed_from at (take k piece)
+
+  abbrev last : Placed
+  last = byte_at (at + k) (get_or piece k 0)
+
+  pub adjacent_units : units_of (front ++ last ∷ []) ≡ take (k + 1) piece
+  adjacent_units =
+      units_push front last ∙ ap (λ l. l ++ get_or piece k 0 ∷ []) (units_from at (take k piece)) ∙ sym (take_more piece k 0 within)
+
+  pub adjacent_takes : Passes (items_in order h) now u front last (item_in half o) → Takes (items_in order h) now u at piece (k + 1) (item_in half o)
+  adjacent_takes p =
+      let one : k + 1 - 1 ≡ k = omega arith in
+      let all : u ++ (front ++ last ∷ []) ≡ u ++ placed_from at (take (k + 1) piece) = sym (append_assoc u front (last ∷ [])) ∙ next_placed u at piece k within in
+      record {
+        list = subst now all p.list;
+        given = ap (λ l. (items_in order h l).given) (sym all) ∙ p.given ∙ ap (λ n. (items_in order h u).given ++ given_after (at + n) (item_in half o)) (sym one);
+        fault = ap (λ l. (items_in order h l).fault) (sym all) ∙ p.sound ∙ no_fault (at + (k + 1 - 1)) half o;
+        place = no_place (at + (k + 1 - 1)) half o;
+        sound = ap (λ n. (items_in order h (u ++ placed_from at (take n piece))).fault) one
+            ∙ sound_before order h (u ++ front) (last ∷ []) (ap (λ l. (items_in order h l).fault) (append_assoc u front (last ∷ [])) ∙ p.sound);
+      }
+
+pub part_takes : (order : Order) (h : Bool) (now : List Placed → Type 0) (u : List Placed) (at : ℕ) (piece : List ℕ) (n half : ℕ) (o : Option StpItem) → 0 < n → n ≤ length piece →
+    ((front : List Placed) (last : Placed) → units_of (front ++ last ∷ []) ≡ take n piece → Passes (items_in order h) now u front last (item_in half o)) →
+    Takes (items_in order h) now u at piece n (item_in half o)
+part_takes order h now u at piece n half o some most passes =
+    let k = n - 1 in
+    let one : k + 1 ≡ n = omega arith in
+    let within : k < length piece = omega arith in
+    subst (λ i. Takes (items_in order h) now u at piece i (item_in half o)) one
+    (adjacent_takes order h now u at piece k half o within
+    (passes (placed_from at (take k piece)) (byte_at (at + k) (get_or piece k 0)) (adjacent_units order h now u at piece k half o within ∙ ap (λ i. take i piece) one)))

@@ -3,4 +3,5 @@ pub mod Decoder
 pub mod Answers
 pub mod Wholes
 pub mod Parts
+pub mod Cuts
 pub mod FallingLaws

@@ -7,6 +7,7 @@ ghost use Rattle.stp_codec.specs.Reading.{pattern};
 ghost use Rattle.stp_codec.specs.Wholes.{item_in, left_by};
 ghost use Rattle.trace_values.specs.declared.limits.TheConstants.{COUNT_ROOM};
 
+use crate::cut::{Cut, cut_packet};
 use crate::flat::{PacketParts, WINDOW, parts_from_first};
 use crate::inside::inside;
 use crate::whole::{after_first, whole_packet};
@@ -54,8 +55,8 @@ pub struct PacketTaken {
 }
 
 impl StpDecoder {
-    ghost use Rattle.std.specs.Prelude.{[], ◌∷◌, ◌++◌, false, ℕ, ◌+◌, ◌*◌, ◌^◌, ◌<◌, ◌≤◌, List, length, IfSome, None};
-    ghost use Rattle.trace_values.specs.Placed.{Placed};
+    ghost use Rattle.std.specs.Prelude.{[], ◌∷◌, ◌++◌, false, ℕ, ◌+◌, ◌*◌, ◌^◌, ◌<◌, ◌≤◌, List, length, take, IfSome, None};
+    ghost use Rattle.trace_values.specs.Placed.{Placed, units_of};
     ghost use Rattle.trace_values.specs.Stream.{Grows, StepFits, LocksAfter, goes_on};
     ghost use Rattle.trace_values.specs.Block.{Takes, StopsFor, goes_on_after};
     ghost use Rattle.trace_values.specs.declared.step.Step.TheVariants.{Quiet};
@@ -63,6 +64,7 @@ impl StpDecoder {
     ghost use Rattle.stp_grammar.specs.declared.partial.Partial.TheVariants.{Start};
     ghost use Rattle.stp_codec.specs.Reading.{packets_of, rest_in, items_at, items_in};
     ghost use Rattle.stp_codec.specs.Wholes.{left_of, IsQuiet, GoesTwice};
+    ghost use Rattle.stp_codec.specs.Cuts.{Passes};
     ghost use Rattle.stp_grammar.specs.Rule.{count_of};
     ghost use Rattle.stp_codec.specs.Answers.{AnswersNibble};
     ghost use Rattle.stp_codec.specs.Decoder.{Stands, StandsAt, order_of, is_hunter, is_live, has_locked};
@@ -208,7 +210,7 @@ impl StpDecoder {
         ensures few { held_of self.new + skipped_by self.new ≤
             held_of self.old + skipped_by self.old + 2 * result.bytes }
     {
-        self.finish_packet(at, piece, parts.nibbles, parts.packet())
+        self.finish_packet(piece, parts.nibbles, parts.packet())
     }
 
     /// The packet that these bytes finish, and how many of their nibbles it takes, where the reading has begun.
@@ -241,14 +243,14 @@ impl StpDecoder {
     /// Takes what is left of a byte in whose half a packet ended: the high nibble, where it ended in the low one. A
     /// packet begins there.
     #[inline(always)]
-    fn pass_left(&mut self, at: u64, half: u8, byte: u8)
+    fn pass_left(&mut self, half: u8, byte: u8)
         requires live { is_live self.old ≡ true }
         requires locked { has_locked self.old ≡ true }
         requires start { self.old.partial ≡ Start }
         requires count { skipped_by self.old ≤ COUNT_ROOM }
         ensures same { (order_of self.new ≡ order_of self.old) × (is_hunter self.new ≡ is_hunter self.old) }
-        ensures list { (n : List Placed) → StandsAt self.old n → StandsAt self.new (n ++ left_of half at byte) }
-        ensures quiet { (n : List Placed) → StandsAt self.old n →
+        ensures list { (at : ℕ) (n : List Placed) → StandsAt self.old n → StandsAt self.new (n ++ left_of half at byte) }
+        ensures quiet { (at : ℕ) (n : List Placed) → StandsAt self.old n →
             IsQuiet (items_at (order_of self.old) (is_hunter self.old) n)
             (items_at (order_of self.old) (is_hunter self.old) (n ++ left_of half at byte)) }
         ensures live { is_live self.new ≡ true }
@@ -260,25 +262,19 @@ impl StpDecoder {
         }
     }
 
-    /// Takes the packet that `next_packet` finds in these bytes, whose first is at this offset, and what is left of the
-    /// byte in which it ends. It is live, and has room for all their nibbles.
+    /// Takes the packet that these bytes finish with so many of their nibbles, wherever they are, and what is left of
+    /// the byte in which it ends. It is live, and has room for all their nibbles.
     #[inline(always)]
-    fn finish_packet(
-        &mut self,
-        at: u64,
-        piece: &[u8],
-        nibbles: usize,
-        packet: StpPacket,
-    ) -> PacketTaken
+    fn finish_packet(&mut self, bytes: &[u8], nibbles: usize, packet: StpPacket) -> PacketTaken
         requires live { is_live self.old ≡ true }
-        requires room { held_of self.old + skipped_by self.old + 2 * length piece.now ≤ COUNT_ROOM }
-        requires offsets { at + length piece.now < COUNT_ROOM }
-        requires next { Finishes self.old piece.now nibbles packet }
+        requires room { held_of self.old + skipped_by self.old + 2 * length bytes.now ≤ COUNT_ROOM }
+        requires next { Finishes self.old bytes.now nibbles packet }
         ensures same { (order_of self.new ≡ order_of self.old) × (is_hunter self.new ≡ is_hunter self.old) }
-        ensures bytes { (0 < result.bytes) × (result.bytes ≤ length piece.now) }
-        ensures takes { (u : List Placed) → Stands self.old u →
-            Takes (items_in (order_of self.old) (is_hunter self.old)) (Stands self.new) u at piece.now
-            result.bytes (item_in result.half result.item) }
+        ensures bytes { (0 < result.bytes) × (result.bytes ≤ length bytes.now) }
+        ensures passes { (u front : List Placed) (last : Placed) → Stands self.old u →
+            units_of (front ++ last ∷ []) ≡ take result.bytes bytes.now →
+            Passes (items_in (order_of self.old) (is_hunter self.old)) (Stands self.new) u front last
+            (item_in result.half result.item) }
         ensures live { is_live self.new ≡ true }
         ensures fits { IfSome result.item IsProperItem }
         ensures few { held_of self.new + skipped_by self.new ≤
@@ -289,11 +285,48 @@ impl StpDecoder {
         self.partial = Partial::Start;
         self.first = 0;
         let item = self.attribution.take(packet);
-        self.pass_left(at + last as u64, half, piece[last]);
+        self.pass_left(half, bytes[last]);
         PacketTaken {
             bytes: last + 1,
             half,
             item,
+        }
+    }
+
+    /// Takes bytes at once, wherever they are: those within the unfinished packet up to the one in which it ends, with
+    /// all of that byte, or all of them. It is live, and has room for all their nibbles.
+    ///
+    /// None where the reading has not begun, where a nibble is a fault, and of no bytes: then it is as before.
+    #[inline(always)]
+    pub fn take_part(&mut self, bytes: &[u8]) -> Option<PacketTaken>
+        requires live { is_live self.old ≡ true }
+        requires room { held_of self.old + skipped_by self.old + 2 * length bytes.now ≤ COUNT_ROOM }
+        ensures same { (order_of self.new ≡ order_of self.old) × (is_hunter self.new ≡ is_hunter self.old) }
+        ensures bytes { IfSome result (λ taken. (0 < taken.bytes) × (taken.bytes ≤ length bytes.now)) }
+        ensures passes { (u front : List Placed) (last : Placed) → Stands self.old u →
+            IfSome result (λ taken. units_of (front ++ last ∷ []) ≡ take taken.bytes bytes.now →
+            Passes (items_in (order_of self.old) (is_hunter self.old)) (Stands self.new) u front last
+            (item_in taken.half taken.item)) }
+        ensures live { is_live self.new ≡ true }
+        ensures fits { IfSome result (λ taken. IfSome taken.item IsProperItem) }
+        ensures few { IfSome result (λ taken. held_of self.new + skipped_by self.new ≤
+            held_of self.old + skipped_by self.old + 2 * taken.bytes) }
+        ensures none { result ≡ None → self.new ≡ self.old }
+    {
+        if bytes.is_empty() || !self.mode.is_locked() {
+            return None;
+        }
+        match cut_packet(self.order, self.partial, bytes)? {
+            Cut::Inside(partial) => {
+                self.partial = partial;
+                self.first = MANY;
+                Some(PacketTaken {
+                    bytes: bytes.len(),
+                    half: 1,
+                    item: None,
+                })
+            }
+            Cut::Ended { nibbles, packet } => Some(self.finish_packet(bytes, nibbles, packet)),
         }
     }
 
@@ -316,7 +349,7 @@ impl StpDecoder {
         ensures none { result ≡ None → self.new ≡ self.old }
     {
         let (nibbles, packet) = self.next_packet(piece)?;
-        Some(self.finish_packet(at, piece, nibbles, packet))
+        Some(self.finish_packet(piece, nibbles, packet))
     }
 
     /// Feeds a piece, whose first byte is at this offset, up to the first byte to which the answer is

@@ -2,6 +2,7 @@
 //! project's profile of it).
 #![tactic(auto)]
 
+mod cut;
 mod decoder;
 mod flat;
 mod inside;

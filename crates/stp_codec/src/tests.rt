@@ -86,6 +86,55 @@ fn check(
     for size in [1, 3, 5000] {
         check_pieces(rt, decoder(order, hunts), bytes, size, told);
     }
+    for size in [1, 2, 3, 5, 8, 5000] {
+        check_parts(rt, decoder(order, hunts), bytes, size, told);
+    }
+}
+
+/// The bytes in runs of this size give these answers, where the part of a packet that a run has is taken at once.
+fn check_parts(rt: &impl Abort, decoder: StpDecoder, bytes: &[u8], size: usize, told: &[Told]) {
+    let mut by_parts = decoder;
+    let mut next = 0;
+    let mut at = 0;
+    for _ in 0..bytes.len() {
+        if at >= bytes.len() {
+            break;
+        }
+        assert!(rt; bytes.len() < 5000 && 0 < size && size < 10000);
+        assert!(rt; by_parts.is_live() && by_parts.held() < 10000 && by_parts.skipped() < 10000);
+        let left = size - at % size;
+        let end = if left < bytes.len() - at {
+            at + left
+        } else {
+            bytes.len()
+        };
+        let step = match by_parts.take_part(&bytes[at..end]) {
+            Some(taken) => {
+                at += taken.bytes;
+                match taken.item {
+                    Some(item) => Step::Item {
+                        half: taken.half,
+                        item,
+                    },
+                    None => Step::Quiet,
+                }
+            }
+            None => {
+                at += 1;
+                by_parts.feed(at as u64 - 1, bytes[at - 1])
+            }
+        };
+        if !matches!(&step, Step::Quiet | Step::Skipping) {
+            assert!(rt; next < told.len() && at > 0);
+            assert_eq!(rt;
+                told[next],
+                (at as u64 - 1, step),
+                "{bytes:?} in parts by {size}"
+            );
+            next += 1;
+        }
+    }
+    assert_eq!(rt; next, told.len(), "{bytes:?} in parts by {size}");
 }
 
 /// The bytes in pieces of this size give these answers.

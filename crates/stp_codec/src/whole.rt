@@ -9,7 +9,7 @@ ghost use Rattle.stp_grammar.specs.declared.packet.StpPacket.TheVariants.{Async}
 ghost use Rattle.stp_grammar.specs.declared.partial.Partial.TheVariants.{Start, Second, Third, Run, Size};
 ghost use Rattle.stp_grammar.specs.Opcodes.{line_of, row_at};
 ghost use Rattle.stp_grammar.specs.Proper.{IsProper};
-ghost use Rattle.stp_grammar.specs.Rule.{rule, begin, after_payload, is_sound};
+ghost use Rattle.stp_grammar.specs.Rule.{rule, begin, after_payload, is_sound, number_with};
 ghost use Rattle.stp_grammar.specs.Spelling.{number};
 ghost use Rattle.stp_grammar.specs.declared.packet.Order.TheVariants.{Msn};
 ghost use Rattle.stp_codec.specs.Wholes.{nibbles_in, between, number_from, Ends, Leaves};
@@ -215,29 +215,83 @@ pub fn nibble_of(bytes: &[u8], index: usize) -> u8
     if index % 2 == 0 { byte % 16 } else { byte / 16 }
 }
 
-/// The number that `count` nibbles make with the next `more`, where they made `value` without them. It goes nibble by
-/// nibble.
+/// The number that `count` nibbles make with the two of this byte, where they made `value` without them.
 #[inline(always)]
-fn number_by_nibbles(
+fn number_with_byte(order: Order, count: u8, value: u64, byte: u8) -> u64
+    requires few { count + 2 ≤ 16 }
+    requires fits { value < 16 ^ count }
+    ensures value { result ≡ number_with order (count + 1) (number_with order count value (byte % 16)) (byte / 16) }
+    ensures fits { result < 16 ^ (count + 2) }
+{
+    let first = number_with(order, count, value, byte % 16);
+    number_with(order, count + 1, first, byte / 16)
+}
+
+/// The number that `count` nibbles make with those of whole bytes, `pairs` of them, where they made `value` without
+/// them.
+#[inline(always)]
+fn number_by_bytes(
     order: Order,
     count: u8,
     value: u64,
     bytes: &[u8],
-    start: usize,
-    more: u8,
+    first: usize,
+    pairs: u8,
 ) -> u64
+    requires few { count + 2 * pairs ≤ 16 }
+    requires fits { value < 16 ^ count }
+    requires there { first + pairs ≤ length bytes.now }
+    ensures value { result ≡
+        number_from order count value (between (nibbles_in bytes.now) (2 * first) (2 * first + 2 * pairs)) }
+    ensures fits { result < 16 ^ (count + 2 * pairs) }
+{
+    let mut number = value;
+    for index in 0..pairs {
+        let byte = bytes[first + usize::from(index)];
+        number = number_with_byte(order, count + 2 * index, number, byte);
+    }
+    number
+}
+
+/// The number that `count` nibbles make with the next `more`, where they made `value` without them. The first of them
+/// is the low nibble of its byte.
+#[inline(always)]
+fn number_from_low(order: Order, count: u8, value: u64, bytes: &[u8], first: usize, more: u8) -> u64
+    requires few { count + more ≤ 16 }
+    requires fits { value < 16 ^ count }
+    requires there { 2 * first + more ≤ 2 * length bytes.now }
+    ensures value { result ≡
+        number_from order count value (between (nibbles_in bytes.now) (2 * first) (2 * first + more)) }
+    ensures fits { result < 16 ^ (count + more) }
+{
+    let pairs = more / 2;
+    let number = number_by_bytes(order, count, value, bytes, first, pairs);
+    if more % 2 == 0 {
+        number
+    } else {
+        let last = bytes[first + pairs as usize] % 16;
+        number_with(order, count + 2 * pairs, number, last)
+    }
+}
+
+/// The number that `count` nibbles make with the next `more`, where they made `value` without them. It goes byte by
+/// byte.
+#[inline(always)]
+fn number_bytewise(order: Order, count: u8, value: u64, bytes: &[u8], start: usize, more: u8) -> u64
     requires few { count + more ≤ 16 }
     requires fits { value < 16 ^ count }
     requires there { start + more ≤ 2 * length bytes.now }
     ensures value { result ≡ number_from order count value (between (nibbles_in bytes.now) start (start + more)) }
     ensures fits { result < 16 ^ (count + more) }
 {
-    let mut number = value;
-    for index in 0..more {
-        let nibble = nibble_of(bytes, start + usize::from(index));
-        number = number_with(order, count + index, number, nibble);
+    if start % 2 == 0 {
+        number_from_low(order, count, value, bytes, start / 2, more)
+    } else if more == 0 {
+        value
+    } else {
+        let number = number_with(order, count, value, bytes[start / 2] / 16);
+        number_from_low(order, count + 1, number, bytes, start / 2 + 1, more - 1)
     }
-    number
 }
 
 /// A byte with its nibbles exchanged.
@@ -278,7 +332,7 @@ pub fn number_at_once(bytes: &[u8], start: usize, more: u8) -> u64
 
 /// The number that `count` nibbles make with the next `more`, where they made `value` without them.
 #[inline(always)]
-fn number_from(order: Order, count: u8, value: u64, bytes: &[u8], start: usize, more: u8) -> u64
+pub fn number_from(order: Order, count: u8, value: u64, bytes: &[u8], start: usize, more: u8) -> u64
     requires few { count + more ≤ 16 }
     requires fits { value < 16 ^ count }
     requires there { start + more ≤ 2 * length bytes.now }
@@ -289,7 +343,7 @@ fn number_from(order: Order, count: u8, value: u64, bytes: &[u8], start: usize, 
         Order::Msn if count == 0 && start / 2 + 9 <= bytes.len() => {
             number_at_once(bytes, start, more)
         }
-        _ => number_by_nibbles(order, count, value, bytes, start, more),
+        _ => number_bytewise(order, count, value, bytes, start, more),
     }
 }
 

@@ -4,14 +4,14 @@ use Rattle.trace_values.specs.Nibbles.{nibbles_of}
 use Rattle.stp_grammar.specs.declared.partial.Partial.TheVariants.{Start}
 use Rattle.stp_codec.specs.Decoder.{StandsAt}
 use Rattle.stp_codec.proofs.Taking.{At}
-use Rattle.stp_codec.proofs.PacketPieces.{packet_takes}
+use Rattle.stp_codec.proofs.PacketPieces.{packet_passes}
 use Rattle.stp_codec.proofs.decoder.StpDecoder.finish_packet.Goals as goal
 
-pub returns-clause-takes : goal.returns-clause-takes
-returns-clause-takes c = λ u s.
+pub returns-clause-passes : goal.returns-clause-passes
+returns-clause-passes c = λ u front last s e.
     let d = c.args.self.now in
     let x = c.requires.next in
     let to_live : (w : List Placed) → At d.order d.mode true Start c.take-item.new.self w → At d.order d.mode d.live Start c.take-item.new.self w = λ w t. subst (λ l. At d.order d.mode l Start c.take-item.new.self w) (sym c.requires.live) t in
-    packet_takes d.order d.mode d.attribution x.locked c.args.packet c.take-item.result c.take-item.new.self c.take-item.ensures.list c.take-item.ensures.item
-    (StandsAt c.pass_left.new.self) u c.args.at c.args.piece.now d.partial (subst (λ l. At d.order d.mode l d.partial d.attribution (nibbles_of u)) c.requires.live s)
-    c.args.nibbles x.some x.within x.whole (λ w t. c.pass_left.ensures.list w (to_live w t)) (λ w t. c.pass_left.ensures.quiet w (to_live w t))
+    packet_passes d.order d.mode d.attribution x.locked c.args.packet c.take-item.result c.take-item.new.self c.take-item.ensures.list c.take-item.ensures.item
+    (StandsAt c.pass_left.new.self) u front last c.args.bytes.now d.partial (subst (λ l. At d.order d.mode l d.partial d.attribution (nibbles_of u)) c.requires.live s)
+    c.args.nibbles x.some x.within x.whole e (λ at w t. c.pass_left.ensures.list at w (to_live w t)) (λ at w t. c.pass_left.ensures.quiet at w (to_live w t))

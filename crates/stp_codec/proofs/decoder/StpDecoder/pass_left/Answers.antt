@@ -6,15 +6,15 @@ use Rattle.stp_codec.proofs.Passing.{left_list, left_quiet, left_few}
 use Rattle.stp_codec.proofs.decoder.StpDecoder.pass_left.Goals as goal
 
 pub returns-then-half-eq0-clause-list : goal.returns-then-half-eq0-clause-list
-returns-then-half-eq0-clause-list c = λ n s.
+returns-then-half-eq0-clause-list c = λ at n s.
     let d = c.args.self.now in
-    left_list d.order d.mode d.live d.partial d.attribution n c.args.half c.args.at c.args.byte c.if-half-eq0.true (omega (arith, c.ranges.byte)) c.requires.live c.requires.locked c.requires.start s
+    left_list d.order d.mode d.live d.partial d.attribution n c.args.half at c.args.byte c.if-half-eq0.true (omega (arith, c.ranges.byte)) c.requires.live c.requires.locked c.requires.start s
     c.after_first-self.result (c.after_first-self.ensures.next d.order)
 
 pub returns-then-half-eq0-clause-quiet : goal.returns-then-half-eq0-clause-quiet
-returns-then-half-eq0-clause-quiet c = λ n s.
+returns-then-half-eq0-clause-quiet c = λ at n s.
     let d = c.args.self.now in
-    left_quiet d.order d.mode d.live d.partial d.attribution n c.args.half c.args.at c.args.byte c.if-half-eq0.true (omega (arith, c.ranges.byte)) c.requires.live c.requires.locked c.requires.start s
+    left_quiet d.order d.mode d.live d.partial d.attribution n c.args.half at c.args.byte c.if-half-eq0.true (omega (arith, c.ranges.byte)) c.requires.live c.requires.locked c.requires.start s
     c.after_first-self.result (c.after_first-self.ensures.next d.order)
 
 pub returns-then-half-eq0-clause-few : goal.returns-then-half-eq0-clause-few

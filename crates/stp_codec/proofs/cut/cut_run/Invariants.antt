@@ -1,0 +1,17 @@
+use Rattle.std.proofs.Common.{◌≡◌, ◌+◌, ◌≤◌}
+use Rattle.trace_values.specs.declared.next.Next.TheVariants.{Go}
+use Rattle.stp_grammar.specs.declared.packet.Order.{Order}
+use Rattle.stp_grammar.specs.declared.partial.Partial.{Partial}
+use Rattle.stp_grammar.specs.declared.partial.Partial.TheVariants.{Run}
+use Rattle.stp_codec.specs.Wholes.{nibbles_in, between}
+use Rattle.stp_codec.specs.Cuts.{Leads}
+use Rattle.stp_codec.proofs.cut.cut_run.Given as goal
+
+-- nibbles F alone so far
+abbrev pub invariant-loop-index : goal.invariant-loop-index
+invariant-loop-index l = record {
+  some : 2 ≤ l.count;
+  count : l.count + l.start ≡ l.before + l.index;
+  leads : (order : Order) (s : Partial) → Leads order s (between (nibbles_in l.bytes) 0 l.start) (Go (Run l.before)) →
+      Leads order s (between (nibbles_in l.bytes) 0 l.index) (Go (Run l.count));
+}

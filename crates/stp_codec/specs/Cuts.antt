@@ -1,0 +1,48 @@
+-- Packets of which the bytes at hand are only a part.
+use Rattle.std.specs.Prelude.{◌≡◌, ℕ, ◌*◌, ◌<◌, ◌≤◌, List, [], ◌∷◌, ◌++◌, length, Option, None, true, ◌==◌, if◌then◌else◌}
+use Rattle.trace_values.specs.declared.next.Next.{Next}
+use Rattle.trace_values.specs.declared.next.Next.TheVariants.{Go, End}
+use Rattle.trace_values.specs.declared.step.Step.{Step}
+use Rattle.trace_values.specs.Placed.{Placed}
+use Rattle.trace_values.specs.Stream.{Stream}
+use Rattle.trace_values.specs.Block.{given_after}
+use Rattle.trace_values.specs.Walk.{Within, after, walk}
+use Rattle.stp_grammar.specs.declared.packet.Order.{Order}
+use Rattle.stp_grammar.specs.declared.packet.Row.{Row}
+use Rattle.stp_grammar.specs.declared.packet.StpPacket.{StpPacket}
+use Rattle.stp_grammar.specs.declared.partial.Partial.{Partial}
+use Rattle.stp_grammar.specs.declared.partial.Partial.TheVariants.{Payload}
+use Rattle.stp_grammar.specs.Opcodes.{line_of}
+use Rattle.stp_grammar.specs.Proper.{IsProper}
+use Rattle.stp_grammar.specs.Rule.{rule, after_payload, is_sound}
+use Rattle.stp_codec.specs.Wholes.{nibbles_in, between}
+use Rattle.stp_codec.specs.declared.cut.Cut.{Cut}
+use Rattle.stp_codec.specs.declared.cut.Cut.TheVariants.{Inside, Ended}
+
+-- from this unfinished packet on these nibbles lead to what is said: one that goes on, or the end of a packet
+abbrev pub Leads : Order → Partial → List ℕ → Next Partial StpPacket → Type 0
+Leads order s r next = walk (rule order) s r ≡ after {U = ℕ} next (λ t. Within t) []
+
+-- after this many nibbles of a row's payload, which make this value
+abbrev pub payload_from : Row → ℕ → ℕ → Next Partial StpPacket
+payload_from row count value =
+    if (line_of row).payload == count then after_payload row value else Go (Payload row count value)
+
+-- all nibbles of these bytes, or so many at their front, do so
+abbrev pub CutsInto : Order → Partial → List ℕ → Cut → Type 0
+CutsInto order s bytes (Inside t) = Leads order s (nibbles_in bytes) (Go t)
+CutsInto order s bytes (Ended nibbles packet) =
+    (0 < nibbles) × (nibbles ≤ 2 * length bytes)
+    × Leads order s (between (nibbles_in bytes) 0 nibbles) (End packet)
+
+-- the numbers of its packet, or of what is unfinished, are in their ranges
+abbrev pub IsProperCut : Cut → Type 0
+IsProperCut (Inside t) = is_sound t ≡ true
+IsProperCut (Ended nibbles packet) = IsProper packet
+
+-- After u these bytes give what this answer to the last of them says, and nothing else, and the reading goes on.
+pub record Passes {V : Type 0} (reading : List Placed → Stream V) (stands : List Placed → Type 0) (u front : List Placed)
+    (last : Placed) (step : Option (Step V)) : Type 0 where
+  pub list : stands (u ++ (front ++ last ∷ []))
+  pub given : (reading (u ++ (front ++ last ∷ []))).given ≡ (reading u).given ++ given_after last.place.at step
+  pub sound : (reading (u ++ (front ++ last ∷ []))).fault ≡ None

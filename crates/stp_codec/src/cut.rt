@@ -1,0 +1,301 @@
+//! Packets of which the bytes at hand are only a part: at the end of one run they begin, and the next run ends them.
+//!
+//! They are read so for speed alone: the decoder reads nibble by nibble what is not found here.
+
+ghost use Rattle.std.specs.Prelude.{◌≡◌, ◌+◌, ◌*◌, ◌^◌, ◌<◌, ◌≤◌, true, length, IfSome};
+ghost use Rattle.trace_values.specs.declared.next.Next.TheVariants.{Go};
+ghost use Rattle.stp_grammar.specs.declared.partial.Partial.TheVariants.{Start, Second, Third, Run, Size, Word};
+ghost use Rattle.stp_grammar.specs.Opcodes.{line_of, row_at, Whole};
+ghost use Rattle.stp_grammar.specs.Rule.{is_sound, count_of, begin, third_opening};
+ghost use Rattle.stp_codec.specs.Wholes.{nibbles_in, between};
+ghost use Rattle.stp_codec.specs.Cuts.{Leads, CutsInto, IsProperCut, payload_from};
+ghost use Rattle.trace_values.specs.declared.limits.TheConstants.{COUNT_ROOM};
+
+use crate::whole::{nibble_of, number_from, payload_at, row_of, stamped_at};
+use stp_grammar::packet::{Order, Row, StpPacket};
+use stp_grammar::partial::Partial;
+use trace_clock::word_nibbles;
+
+/// What bytes make of an unfinished packet.
+#[derive(Clone, Copy, Debug, PartialEq, Eq, Drop)]
+pub enum Cut {
+    /// All of them are within it, and this is unfinished after them.
+    Inside(Partial),
+    /// It ends after this many of their nibbles.
+    Ended { nibbles: usize, packet: StpPacket },
+}
+
+/// How many of the nibbles from this one on are taken, where at most so many are wanted.
+#[inline(always)]
+fn fewer(bytes: &[u8], start: usize, wanted: u8) -> u8
+    requires there { start ≤ 2 * length bytes.now }
+    ensures few { result ≤ wanted }
+    ensures there { start + result ≤ 2 * length bytes.now }
+    ensures all { result < wanted → start + result ≡ 2 * length bytes.now }
+{
+    let there = 2 * bytes.len() - start;
+    if there < usize::from(wanted) {
+        there as u8
+    } else {
+        wanted
+    }
+}
+
+/// From the nibble after those that leave a timestamp's word unfinished.
+#[inline]
+fn cut_word(
+    order: Order,
+    row: Row,
+    payload: u64,
+    size: u8,
+    count: u8,
+    word: u64,
+    bytes: &[u8],
+    start: usize,
+) -> Option<Cut>
+    requires sound { is_sound (Word row payload size count word) ≡ true }
+    requires there { start ≤ 2 * length bytes.now }
+    ensures cuts { (s : Partial) →
+        Leads order s (between (nibbles_in bytes.now) 0 start) (Go (Word row payload size count word)) →
+        IfSome result (CutsInto order s bytes.now) }
+    ensures proper { IfSome result IsProperCut }
+{
+    let wanted = word_nibbles(size) - count;
+    let more = fewer(bytes, start, wanted);
+    let number = number_from(order, count, word, bytes, start, more);
+    if more < wanted {
+        Some(Cut::Inside(Partial::Word {
+            row,
+            payload,
+            size,
+            count: count + more,
+            word: number,
+        }))
+    } else {
+        Some(Cut::Ended {
+            nibbles: start + more as usize,
+            packet: StpPacket::Stamped {
+                row,
+                payload,
+                size,
+                word: number,
+            },
+        })
+    }
+}
+
+/// From the nibble after a payload that a timestamp follows. None where its size is a fault.
+#[inline(always)]
+fn cut_size(order: Order, row: Row, payload: u64, bytes: &[u8], start: usize) -> Option<Cut>
+    requires fits { payload < 16 ^ (line_of row).payload }
+    requires there { start ≤ 2 * length bytes.now }
+    ensures cuts { (s : Partial) → Leads order s (between (nibbles_in bytes.now) 0 start) (Go (Size row payload)) →
+        IfSome result (CutsInto order s bytes.now) }
+    ensures proper { IfSome result IsProperCut }
+{
+    if start >= 2 * bytes.len() {
+        return Some(Cut::Inside(Partial::Size { row, payload }));
+    }
+    match nibble_of(bytes, start) {
+        0 => Some(Cut::Ended {
+            nibbles: start + 1,
+            packet: StpPacket::Stamped {
+                row,
+                payload,
+                size: 0,
+                word: 0,
+            },
+        }),
+        15 => None,
+        size => cut_word(order, row, payload, size, 0, 0, bytes, start + 1),
+    }
+}
+
+/// From the nibble after those that leave a payload of this row with `count` nibbles, which make this value: it has
+/// `most`, and a timestamp follows it or does not.
+#[inline]
+fn cut_payload(
+    order: Order,
+    row: Row,
+    most: u8,
+    stamped: bool,
+    count: u8,
+    value: u64,
+    bytes: &[u8],
+    start: usize,
+) -> Option<Cut>
+    requires most { most ≡ (line_of row).payload }
+    requires stamped { stamped ≡ (line_of row).stamped }
+    requires few { (count ≤ most) × (most ≤ 16) }
+    requires fits { value < 16 ^ count }
+    requires some { count ≡ most → 0 < start }
+    requires there { start ≤ 2 * length bytes.now }
+    ensures cuts { (s : Partial) →
+        Leads order s (between (nibbles_in bytes.now) 0 start) (payload_from row count value) →
+        IfSome result (CutsInto order s bytes.now) }
+    ensures proper { IfSome result IsProperCut }
+{
+    let wanted = most - count;
+    let more = fewer(bytes, start, wanted);
+    let payload = number_from(order, count, value, bytes, start, more);
+    let end = start + more as usize;
+    if more < wanted {
+        Some(Cut::Inside(Partial::Payload {
+            row,
+            count: count + more,
+            value: payload,
+        }))
+    } else if stamped {
+        cut_size(order, row, payload, bytes, end)
+    } else {
+        Some(Cut::Ended {
+            nibbles: end,
+            packet: StpPacket::Plain { row, payload },
+        })
+    }
+}
+
+/// From the nibble after the opcode of the row with this number.
+#[inline(always)]
+fn cut_opcode(order: Order, number: u8, bytes: &[u8], start: usize) -> Option<Cut>
+    requires number { number < 35 }
+    requires there { (0 < start) × (start ≤ 2 * length bytes.now) }
+    ensures cuts { (s : Partial) → Leads order s (between (nibbles_in bytes.now) 0 start) (begin (row_at number)) →
+        IfSome result (CutsInto order s bytes.now) }
+    ensures proper { IfSome result IsProperCut }
+{
+    cut_payload(
+        order,
+        row_of(number),
+        payload_at(number),
+        stamped_at(number),
+        0,
+        0,
+        bytes,
+        start,
+    )
+}
+
+/// From the nibble after this many nibbles F, at least two. None where one is a fault.
+#[inline]
+fn cut_run(before: u64, bytes: &[u8], start: usize) -> Option<Cut>
+    requires some { 2 ≤ before }
+    requires room { before + 2 * length bytes.now ≤ COUNT_ROOM + start }
+    requires there { start ≤ 2 * length bytes.now }
+    ensures cuts { (order : Order) (s : Partial) →
+        Leads order s (between (nibbles_in bytes.now) 0 start) (Go (Run before)) →
+        IfSome result (CutsInto order s bytes.now) }
+    ensures proper { IfSome result IsProperCut }
+{
+    let mut count = before;
+    for index in start..2 * bytes.len() {
+        match nibble_of(bytes, index) {
+            15 => count += 1,
+            0 if count >= 21 => {
+                return Some(Cut::Ended {
+                    nibbles: index + 1,
+                    packet: StpPacket::Async,
+                });
+            }
+            _ => return None,
+        }
+    }
+    Some(Cut::Inside(Partial::Run(count)))
+}
+
+/// The number of the row whose opcode has F, 0 and this nibble.
+#[inline(always)]
+fn third_row(nibble: u8) -> Option<u8>
+    ensures few { IfSome result (λ number. number < 35) }
+    ensures row { IfSome result (λ number. third_opening nibble ≡ Whole (row_at number)) }
+{
+    match nibble {
+        0..=1 => Some(29 + nibble),
+        6..=9 => Some(25 + nibble),
+        _ => None,
+    }
+}
+
+/// From the nibble after F and 0, which begin an opcode. None where it is a fault.
+#[inline(always)]
+fn cut_third(order: Order, bytes: &[u8], start: usize) -> Option<Cut>
+    requires there { start ≤ 2 * length bytes.now }
+    ensures cuts { (s : Partial) → Leads order s (between (nibbles_in bytes.now) 0 start) (Go Third) →
+        IfSome result (CutsInto order s bytes.now) }
+    ensures proper { IfSome result IsProperCut }
+{
+    if start >= 2 * bytes.len() {
+        return Some(Cut::Inside(Partial::Third));
+    }
+    let number = third_row(nibble_of(bytes, start))?;
+    cut_opcode(order, number, bytes, start + 1)
+}
+
+/// From the nibble after F, which begins an opcode or ASYNC. None where one is a fault.
+#[inline(always)]
+fn cut_second(order: Order, bytes: &[u8], start: usize) -> Option<Cut>
+    requires room { 1 + 2 * length bytes.now ≤ COUNT_ROOM + start }
+    requires there { start ≤ 2 * length bytes.now }
+    ensures cuts { (s : Partial) → Leads order s (between (nibbles_in bytes.now) 0 start) (Go Second) →
+        IfSome result (CutsInto order s bytes.now) }
+    ensures proper { IfSome result IsProperCut }
+{
+    if start >= 2 * bytes.len() {
+        return Some(Cut::Inside(Partial::Second));
+    }
+    match nibble_of(bytes, start) {
+        0 => cut_third(order, bytes, start + 1),
+        15 => cut_run(2, bytes, start + 1),
+        nibble => cut_opcode(order, 14 + nibble, bytes, start + 1),
+    }
+}
+
+/// From a packet's first nibble on. None where one is a fault.
+#[inline(always)]
+fn cut_start(order: Order, bytes: &[u8]) -> Option<Cut>
+    requires room { 2 * length bytes.now ≤ COUNT_ROOM }
+    ensures cuts { IfSome result (CutsInto order Start bytes.now) }
+    ensures proper { IfSome result IsProperCut }
+{
+    if bytes.is_empty() {
+        return Some(Cut::Inside(Partial::Start));
+    }
+    match nibble_of(bytes, 0) {
+        15 => cut_second(order, bytes, 1),
+        nibble => cut_opcode(order, nibble, bytes, 1),
+    }
+}
+
+/// What these bytes make of an unfinished packet. None where a nibble is a fault.
+#[inline]
+pub fn cut_packet(order: Order, unfinished: Partial, bytes: &[u8]) -> Option<Cut>
+    requires sound { is_sound unfinished ≡ true }
+    requires room { count_of unfinished + 2 * length bytes.now ≤ COUNT_ROOM }
+    ensures cuts { IfSome result (CutsInto order unfinished bytes.now) }
+    ensures proper { IfSome result IsProperCut }
+{
+    match unfinished {
+        Partial::Start => cut_start(order, bytes),
+        Partial::Second => cut_second(order, bytes, 0),
+        Partial::Third => cut_third(order, bytes, 0),
+        Partial::Run(count) => cut_run(count, bytes, 0),
+        Partial::Payload { row, count, value } => cut_payload(
+            order,
+            row,
+            row.payload_nibbles(),
+            row.is_stamped(),
+            count,
+            value,
+            bytes,
+            0,
+        ),
+        Partial::Size { row, payload } => cut_size(order, row, payload, bytes, 0),
+        Partial::Word {
+            row,
+            payload,
+            size,
+            count,
+            word,
+        } => cut_word(order, row, payload, size, count, word, bytes, 0),
+    }
+}
