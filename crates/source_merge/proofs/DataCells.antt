@@ -2,37 +2,55 @@
 use Rattle.std.proofs.Common.{◌≡◌, ℕ, zero, suc, ◌<◌, ◌≤◌, List, [], ◌∷◌, length, get_or, refl, sym, ◌∙◌, ap, arith, Option, Some}
 use Rattle.trace_values.specs.declared.cell.Cell.{Cell}
 use Rattle.source_events.specs.Runs.{bytes_of, id_of, joined, runs_of, RisesFrom, IsRunFrom}
-use Rattle.source_merge.specs.Data.{data_cells}
+use Rattle.source_merge.specs.Data.{data_cells, run_cells}
 use Rattle.source_merge.specs.Frame.{data_in}
 use Rattle.source_merge.specs.declared.frame.DataFrame.{DataFrame}
 
+pub cells_length : (offsets : List ℕ) (id : Option ℕ) (run : ℕ) (bytes : List ℕ) → length bytes ≤ length offsets →
+    length (run_cells offsets id run bytes) ≡ length bytes
+cells_length [] id run [] h = refl
+cells_length [] id run (b ∷ bytes) h = absurd (omega arith)
+cells_length (o ∷ offsets) id run [] h = refl
+cells_length (o ∷ offsets) id run (b ∷ bytes) h = ap suc (cells_length offsets id run bytes (omega arith))
+
+pub cells_bytes : (offsets : List ℕ) (id : Option ℕ) (run : ℕ) (bytes : List ℕ) → length bytes ≤ length offsets →
+    bytes_of (run_cells offsets id run bytes) ≡ bytes
+cells_bytes [] id run [] h = refl
+cells_bytes [] id run (b ∷ bytes) h = absurd (omega arith)
+cells_bytes (o ∷ offsets) id run [] h = refl
+cells_bytes (o ∷ offsets) id run (b ∷ bytes) h = ap (λ (l : List ℕ). b ∷ l) (cells_bytes offsets id run bytes (omega arith))
+
+pub cells_cell : (offsets : List ℕ) (id : Option ℕ) (run : ℕ) (bytes : List ℕ) (i x y : ℕ) (c : Cell) → i < length bytes →
+    length bytes ≤ length offsets → get_or (run_cells offsets id run bytes) i c ≡
+    record { at = get_or offsets i x; id = id; run = run; byte = get_or bytes i y }
+cells_cell offsets id run [] i x y c l h = absurd (omega arith)
+cells_cell [] id run (b ∷ bytes) i x y c l h = absurd (omega arith)
+cells_cell (o ∷ offsets) id run (b ∷ bytes) zero x y c l h = refl
+cells_cell (o ∷ offsets) id run (b ∷ bytes) (suc i) x y c l h = cells_cell offsets id run bytes i x y c (omega arith) (omega arith)
+
+pub cells_id : (offsets : List ℕ) (id : Option ℕ) (run : ℕ) (bytes : List ℕ) → 0 < length bytes → length bytes ≤ length offsets →
+    id_of (run_cells offsets id run bytes) ≡ id
+cells_id offsets id run [] l h = absurd (omega arith)
+cells_id [] id run (b ∷ bytes) l h = absurd (omega arith)
+cells_id (o ∷ offsets) id run (b ∷ bytes) l h = refl
+
+-- the same of the data of a frame that names no source
 pub data_length : (offsets : List ℕ) (id : Option ℕ) (bytes : List ℕ) → length bytes ≤ length offsets →
     length (data_cells offsets id bytes) ≡ length bytes
-data_length [] id [] h = refl
-data_length [] id (b ∷ bytes) h = absurd (omega arith)
-data_length (o ∷ offsets) id [] h = refl
-data_length (o ∷ offsets) id (b ∷ bytes) h = ap suc (data_length offsets id bytes (omega arith))
+data_length offsets id bytes h = cells_length offsets id 0 bytes h
 
 pub data_bytes : (offsets : List ℕ) (id : Option ℕ) (bytes : List ℕ) → length bytes ≤ length offsets →
     bytes_of (data_cells offsets id bytes) ≡ bytes
-data_bytes [] id [] h = refl
-data_bytes [] id (b ∷ bytes) h = absurd (omega arith)
-data_bytes (o ∷ offsets) id [] h = refl
-data_bytes (o ∷ offsets) id (b ∷ bytes) h = ap (λ (l : List ℕ). b ∷ l) (data_bytes offsets id bytes (omega arith))
+data_bytes offsets id bytes h = cells_bytes offsets id 0 bytes h
 
 pub data_cell : (offsets : List ℕ) (id : Option ℕ) (bytes : List ℕ) (i x y : ℕ) (c : Cell) → i < length bytes →
     length bytes ≤ length offsets → get_or (data_cells offsets id bytes) i c ≡
     record { at = get_or offsets i x; id = id; run = 0; byte = get_or bytes i y }
-data_cell offsets id [] i x y c l h = absurd (omega arith)
-data_cell [] id (b ∷ bytes) i x y c l h = absurd (omega arith)
-data_cell (o ∷ offsets) id (b ∷ bytes) zero x y c l h = refl
-data_cell (o ∷ offsets) id (b ∷ bytes) (suc i) x y c l h = data_cell offsets id bytes i x y c (omega arith) (omega arith)
+data_cell offsets id bytes i x y c l h = cells_cell offsets id 0 bytes i x y c l h
 
 pub data_id : (offsets : List ℕ) (x : ℕ) (bytes : List ℕ) → 0 < length bytes → length bytes ≤ length offsets →
     id_of (data_cells offsets (Some x) bytes) ≡ Some x
-data_id offsets x [] l h = absurd (omega arith)
-data_id [] x (b ∷ bytes) l h = absurd (omega arith)
-data_id (o ∷ offsets) x (b ∷ bytes) l h = refl
+data_id offsets x bytes l h = cells_id offsets (Some x) 0 bytes l h
 
 none_after : (offsets : List ℕ) (id : Option ℕ) → data_cells offsets id [] ≡ []
 none_after [] id = refl

@@ -1,10 +1,10 @@
 -- The low bits of the halfwords of a word.
-use Rattle.std.proofs.Common.{◌≡◌, ℕ, zero, suc, ◌+◌, ◌*◌, ◌/◌, ◌%◌, ◌<◌, List, [], ◌∷◌, refl, ◌∙◌, ap, arith, true, get_or, bit_and}
+use Rattle.std.proofs.Common.{◌≡◌, ℕ, zero, suc, ◌+◌, ◌-◌, ◌*◌, ◌/◌, ◌%◌, ◌<◌, List, [], ◌∷◌, refl, ◌∙◌, ap, arith, true, get_or, bit_and}
 use Rattle.std.specs.Prelude.{slice_index, ◌==◌}
 use Rattle.std.specs.Int.{w64, from_le_bytes, to_le_bytes}
 use Rattle.std.proofs.lemmas.Bool.{agree_below_at, eqb-true}
 use Rattle.std.proofs.lemmas.Nat.{and_block, and_mask, le_bytes_8}
-use Rattle.source_merge.specs.Data.{lowest, spread_bits, with_bits}
+use Rattle.source_merge.specs.Data.{lowest, spread_bits, with_bit, with_bits}
 
 -- one halfword
 low_step : (h r m : ℕ) → r < 65536 → bit_and (h * 65536 + r) (m * 65536 + 1) ≡ bit_and h m * 65536 + r % 2
@@ -55,15 +55,22 @@ one_more {x} {xs} h rest = record { at = by } where
 no_more : AreBytes []
 no_more = record { at = λ i. omega arith }
 
-with_bit : (x bit : ℕ) → x < 256 → x % 2 ≡ 0 → x + bit % 2 < 256
-with_bit x bit l e = omega arith
+small_with : (x bit : ℕ) → x < 256 → with_bit x (bit % 2) < 256
+small_with x bit l = omega arith
 
--- the bytes of the sum
-pub sum_bytes : (bytes : List ℕ) (n bits : ℕ) → ((i : ℕ) → slice_index bytes i < 256) → lowest bytes ≡ 0 → n ≡ from_le_bytes w64 bytes + spread_bits bits →
-    to_le_bytes w64 n ≡ with_bits bytes bits
-sum_bytes bytes n bits small plain e = le_bytes_8 (with_bits bytes bits) n refl
-    (one_more (with_bit (slice_index bytes 0) bits (small 0) (omega arith)) (one_more (small 1)
-    (one_more (with_bit (slice_index bytes 2) (bits / 2) (small 2) (omega arith)) (one_more (small 3)
-    (one_more (with_bit (slice_index bytes 4) (bits / 4) (small 4) (omega arith)) (one_more (small 5)
-    (one_more (with_bit (slice_index bytes 6) (bits / 8) (small 6) (omega arith)) (one_more (small 7) no_more)))))))).at
-    (omega arith)
+-- all of them
+with_bytes : (bytes : List ℕ) (bits : ℕ) → ((i : ℕ) → slice_index bytes i < 256) → AreBytes (with_bits bytes bits)
+with_bytes bytes bits small =
+    one_more (small_with (slice_index bytes 0) bits (small 0)) (one_more (small 1)
+    (one_more (small_with (slice_index bytes 2) (bits / 2) (small 2)) (one_more (small 3)
+    (one_more (small_with (slice_index bytes 4) (bits / 4) (small 4)) (one_more (small 5)
+    (one_more (small_with (slice_index bytes 6) (bits / 8) (small 6)) (one_more (small 7) no_more)))))))
+
+-- the bytes of a sum, where the bits were 0, and where they were all set first
+pub plain_bytes : (bytes : List ℕ) (n bits : ℕ) → ((i : ℕ) → slice_index bytes i < 256) → lowest bytes ≡ 0 →
+    n ≡ from_le_bytes w64 bytes + spread_bits bits → to_le_bytes w64 n ≡ with_bits bytes bits
+plain_bytes bytes n bits small plain e = le_bytes_8 (with_bits bytes bits) n refl (with_bytes bytes bits small).at (omega arith)
+
+pub sum_bytes : (bytes : List ℕ) (n bits : ℕ) → ((i : ℕ) → slice_index bytes i < 256) → bits < 16 →
+    n ≡ from_le_bytes w64 bytes + (0x1000100010001 - lowest bytes) - spread_bits (15 - bits) → to_le_bytes w64 n ≡ with_bits bytes bits
+sum_bytes bytes n bits small few e = le_bytes_8 (with_bits bytes bits) n refl (with_bytes bytes bits small).at (omega arith)

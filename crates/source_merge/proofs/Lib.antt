@@ -25,6 +25,7 @@ pub mod BareSteps
 pub mod BareGoing
 pub mod BareSlots
 pub mod Packets
-pub mod CellPieces
 pub mod Plain
 pub mod Halfwords
+pub mod Splitting
+pub mod Parts

@@ -6,12 +6,14 @@ use Rattle.std.proofs.Math.Seq.{take-append-add}
 use Rattle.trace_values.specs.declared.cell.Cell.{Cell}
 use Rattle.trace_values.specs.declared.fault.Reason.{Reason}
 use Rattle.trace_values.specs.declared.step.Step.TheVariants.{Item}
-use Rattle.trace_values.specs.Block.{Takes}
+use Rattle.trace_values.specs.declared.step.Step.{Step}
+use Rattle.trace_values.specs.Block.{Takes, given_after}
 use Rattle.trace_values.specs.Placed.{Place, Placed, byte_at, placed_from, units_of}
 use Rattle.trace_values.specs.Stream.{Said, Stream, Settled, Kept}
 use Rattle.trace_values.proofs.Blocks.{next_placed}
 use Rattle.trace_values.proofs.Placing.{units_push}
 use Rattle.itm_codec.specs.Wholes.{Cuts, Gives, kept_at}
+use Rattle.stp_codec.specs.Cuts.{Passes}
 use Rattle.source_events.specs.declared.event.Event.{Event}
 use Rattle.source_events.specs.declared.event.What.TheVariants.{Packet}
 use Rattle.source_events.specs.Runs.{placed_run, bytes_of}
@@ -44,14 +46,15 @@ feeds_packet {V} reading u id stands done front last packet old mid new f gives 
       list = λ k. subst stands all g.list;
     }
 
--- cells of which the last one ends a packet, if it ends one
-pub feeds_cut : {V : Type 0} (reading : List Placed → Stream V) (u : List Placed) (id : ℕ) (was now : List Placed → Type 0) (done front : List Cell) (last : Cell)
-    (packet : Option V) (old mid new : List (Event V)) → FeedsBy reading was u done id old mid None →
-    ((w : List Placed) → was w → Cuts reading now w (placed_run front) (byte_at last.at last.byte) packet) →
-    new ≡ mid ++ told (Some id) (lifted (kept_at (record { at = last.at; half = 0 }) packet)) → FeedsBy reading now u (done ++ (front ++ last ∷ [])) id old new None
-feeds_cut {V} reading u id was now done front last packet old mid new f cuts n =
-    let more : List (Said V × Place) = kept_at (record { at = last.at; half = 0 }) packet in
-    let g = cuts (u ++ placed_run done) (f.list refl) in
+-- cells that give this at the last of them
+feeds_given : {V : Type 0} (reading : List Placed → Stream V) (u : List Placed) (id : ℕ) (was now : List Placed → Type 0) (done front : List Cell) (last : Cell)
+    (more : List (Said V × Place)) (old mid new : List (Event V)) → FeedsBy reading was u done id old mid None →
+    ((w : List Placed) → was w → now (w ++ (placed_run front ++ byte_at last.at last.byte ∷ []))
+    × ((reading (w ++ (placed_run front ++ byte_at last.at last.byte ∷ []))).given ≡ (reading w).given ++ more)
+    × ((reading (w ++ (placed_run front ++ byte_at last.at last.byte ∷ []))).fault ≡ None)) →
+    new ≡ mid ++ told (Some id) (lifted more) → FeedsBy reading now u (done ++ (front ++ last ∷ [])) id old new None
+feeds_given {V} reading u id was now done front last more old mid new f gives n =
+    let g = gives (u ++ placed_run done) (f.list refl) in
     let all : (u ++ placed_run done) ++ (placed_run front ++ byte_at last.at last.byte ∷ []) ≡ u ++ placed_run (done ++ (front ++ last ∷ [])) =
     append_assoc u (placed_run done) (placed_run front ++ byte_at last.at last.byte ∷ [])
     ∙ ap (λ (l : List Placed). u ++ l) (sym (placed_more done (front ++ last ∷ []) ∙ ap (λ (l : List Placed). placed_run done ++ l) (placed_more front (last ∷ [])))) in
@@ -59,10 +62,28 @@ feeds_cut {V} reading u id was now done front last packet old mid new f cuts n =
       given = f.given ++ more;
       events = n ∙ ap (λ l. l ++ told (Some id) (lifted more)) f.events ∙ append_assoc old (told (Some id) (lifted f.given)) (told (Some id) (lifted more))
           ∙ ap (λ l. old ++ l) (sym (told_append (Some id) (lifted f.given) (lifted more)) ∙ ap (told (Some id)) (sym (lifted_append f.given more)));
-      grew = ap (λ (l : List Placed). (reading l).given) (sym all) ∙ g.given ∙ ap (λ l. l ++ more) f.grew ∙ append_assoc (reading u).given f.given more;
-      fault_is = ap (λ (l : List Placed). (reading l).fault) (sym all) ∙ g.sound;
-      list = λ k. subst now all g.list;
+      grew = ap (λ (l : List Placed). (reading l).given) (sym all) ∙ g.1 ∙ ap (λ l. l ++ more) f.grew ∙ append_assoc (reading u).given f.given more;
+      fault_is = ap (λ (l : List Placed). (reading l).fault) (sym all) ∙ g.2;
+      list = λ k. subst now all g.0;
     }
+
+-- cells of which the last one ends a packet, if it ends one
+pub feeds_cut : {V : Type 0} (reading : List Placed → Stream V) (u : List Placed) (id : ℕ) (was now : List Placed → Type 0) (done front : List Cell) (last : Cell)
+    (packet : Option V) (old mid new : List (Event V)) → FeedsBy reading was u done id old mid None →
+    ((w : List Placed) → was w → Cuts reading now w (placed_run front) (byte_at last.at last.byte) packet) →
+    new ≡ mid ++ told (Some id) (lifted (kept_at (record { at = last.at; half = 0 }) packet)) → FeedsBy reading now u (done ++ (front ++ last ∷ [])) id old new None
+feeds_cut reading u id was now done front last packet old mid new f cuts n =
+    feeds_given reading u id was now done front last (kept_at (record { at = last.at; half = 0 }) packet) old mid new f
+    (λ w k. let g = cuts w k in (g.list, g.given, g.sound)) n
+
+-- cells to the last of which this is the answer
+pub feeds_part : {V : Type 0} (reading : List Placed → Stream V) (u : List Placed) (id : ℕ) (was now : List Placed → Type 0) (done front : List Cell) (last : Cell)
+    (step : Option (Step V)) (old mid new : List (Event V)) → FeedsBy reading was u done id old mid None →
+    ((w : List Placed) → was w → Passes reading now w (placed_run front) (byte_at last.at last.byte) step) →
+    new ≡ mid ++ told (Some id) (lifted (given_after last.at step)) → FeedsBy reading now u (done ++ (front ++ last ∷ [])) id old new None
+feeds_part reading u id was now done front last step old mid new f passes n =
+    feeds_given reading u id was now done front last (given_after last.at step) old mid new f
+    (λ w k. let g = passes w k in (g.list, g.given, g.sound)) n
 
 -- what stands for more lists
 pub cut_stands : {V : Type 0} (reading : List Placed → Stream V) (was now : List Placed → Type 0) (u front : List Placed) (last : Placed) (packet : Option V) →

@@ -1,5 +1,5 @@
 -- What a machine makes of a run.
-use Rattle.std.specs.Prelude.{◌≡◌, ℕ, ◌+◌, List, [], ◌∷◌, ◌++◌, Option, None, Some}
+use Rattle.std.specs.Prelude.{◌≡◌, ℕ, List, ◌++◌, Option, None, Some}
 use Rattle.std.specs.Option.{option_map}
 use Rattle.trace_values.specs.declared.cell.Cell.{Cell}
 use Rattle.trace_values.specs.declared.fault.Fault.{Fault}
@@ -8,9 +8,8 @@ use Rattle.trace_values.specs.declared.step.Step.{Step}
 use Rattle.trace_values.specs.declared.step.Step.TheVariants.{Fault as Faulty}
 use Rattle.trace_values.specs.Placed.{Place, Placed}
 use Rattle.trace_values.specs.Stream.{Said, Stream}
-use Rattle.trace_values.specs.Block.{given_after, fault_after, StandsAt}
 use Rattle.source_events.specs.declared.event.Event.{Event}
-use Rattle.source_events.specs.Runs.{placed_run, last_at, RisesFrom}
+use Rattle.source_events.specs.Runs.{placed_run, RisesFrom}
 use Rattle.source_events.specs.Merge.{told, start_of, AllIn}
 use Rattle.source_events.specs.Report.{lifted}
 
@@ -52,16 +51,3 @@ IsEarly reading stands run None = Unit {0}
 IsEarly {V} reading stands run (Some f) =
     (u : List Placed) → stands u → (n : ℕ) → RisesFrom n run → (given : List (Said V × Place)) →
     (reading (u ++ placed_run run)).given ≡ (reading u).given ++ given → AllIn (start_of n) f.at given
-
--- cells at one offset after the other, from this one on
-abbrev pub IsFrom : ℕ → List Cell → Type 0
-IsFrom at [] = Unit {0}
-IsFrom at (c ∷ cells) = (c.at ≡ at) × IsFrom (at + 1) cells
-
--- After u a machine took these cells. Its reading grew by the answer to the last of them alone, where there is one.
-pub record TakesCells {V : Type 0} (reading : List Placed → Stream V) (stands : List Placed → Type 0) (u : List Placed)
-    (cells : List Cell) (step : Option (Step V)) : Type 0 where
-  pub list : stands (u ++ placed_run cells)
-  pub given : (reading (u ++ placed_run cells)).given ≡ (reading u).given ++ given_after (last_at cells) step
-  pub fault : (reading (u ++ placed_run cells)).fault ≡ fault_after (last_at cells) step
-  pub place : StandsAt (last_at cells) step

@@ -13,3 +13,4 @@ pub mod Ending
 pub mod Bare
 pub mod Engine
 pub mod Gathered
+pub mod Split

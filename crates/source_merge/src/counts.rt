@@ -164,18 +164,17 @@ impl ByteCounts {
         }
     }
 
-    /// Counts the bytes of a run, which is not empty.
+    /// Counts this many bytes of a source, or of none: those of one run.
     #[inline]
-    pub fn add_run(&mut self, run: &[Cell])
-        requires some { 0 < length run.now }
-        requires room { bytes_counted self.old + length run.now ≤ COUNT_ROOM }
-        ensures counted { (whole runs : List (List Cell)) → HasBytes self.old whole runs →
-            HasBytes self.new whole (runs ++ run.now ∷ []) }
-        ensures more { bytes_counted self.new ≡ bytes_counted self.old + length run.now }
+    pub fn add_run(&mut self, source: &Option<SourceId>, bytes: u64)
+        requires some { 0 < bytes }
+        requires room { bytes_counted self.old + bytes ≤ COUNT_ROOM }
+        ensures counted { (whole runs : List (List Cell)) (run : List Cell) → id_of run ≡ source.now → length run ≡ bytes →
+            HasBytes self.old whole runs → HasBytes self.new whole (runs ++ run ∷ []) }
+        ensures more { bytes_counted self.new ≡ bytes_counted self.old + bytes }
     {
-        let bytes = run.len() as u64;
-        match run[0].id {
-            Some(id) => self.sources.add(id, bytes),
+        match source {
+            Some(id) => self.sources.add(*id, bytes),
             None => self.unattributed += bytes,
         }
     }

@@ -347,9 +347,8 @@ impl Engine {
             self.slots.as_mut_slice(),
             &mut self.counters,
             at + (bytes - 1),
-            self.port.id(),
+            &self.port.id(),
             frame,
-            &mut self.cells,
             out,
         );
         self.port.pass_frame(taken.after);

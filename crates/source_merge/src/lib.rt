@@ -12,6 +12,7 @@ mod placed;
 mod router;
 mod run;
 mod slot;
+mod split;
 mod step;
 mod tails;
 #[cfg(test)]

@@ -6,7 +6,7 @@ ghost use Rattle.std.specs.Prelude.{◌≡◌, ◌+◌, ◌*◌, ◌^◌, ◌<�
 ghost use Rattle.std.specs.Prelude.{Some, position, ◌==◌};
 ghost use Rattle.arrayvec.specs.ArrayVec.{array_vec_len};
 ghost use Rattle.trace_values.specs.declared.cell.Cell.{Cell};
-ghost use Rattle.source_events.specs.Runs.{RisesFrom, IsRunFrom, end_of, runs_of, id_of};
+ghost use Rattle.source_events.specs.Runs.{RisesFrom, IsRunFrom, bytes_of, end_of, runs_of, id_of};
 ghost use Rattle.source_events.specs.Merge.{told};
 ghost use Rattle.source_events.specs.Report.{raw_events, triggers};
 ghost use Rattle.source_events.specs.Fitting.{AllFit, PacketFits};
@@ -21,6 +21,7 @@ ghost use Rattle.source_merge.specs.declared.slot.Slot.{Slot};
 use crate::counts::ByteCounts;
 use crate::run::{CellRun, Run};
 use crate::slot::{EVENTS, Events, Slot, feed_machine};
+use arrayvec::ArrayVec;
 use source_events::{Event, Packet, RunBytes, Stop, What, run_length};
 use source_machine::SourceMachine;
 use trace_values::{Cell, Fault, SourceId};
@@ -32,12 +33,13 @@ const NULL: u8 = 0;
 const TRIGGER: u8 = 125;
 
 /// Notes each byte of a run of the trigger source.
-fn put_triggers(source: SourceId, run: &[Cell], out: &mut Events)
-    requires { array_vec_len out.old + 2 * length run.now ≤ EVENTS }
-    ensures given { out.new.items ≡ out.old.items ++ told (Some source) (triggers run.now) }
-    ensures few { array_vec_len out.new ≤ array_vec_len out.old + 2 * length run.now }
+fn put_triggers<R: Run>(source: SourceId, run: &R, out: &mut Events)
+    requires { array_vec_len out.old + 2 * length (R.cells run.now) ≤ EVENTS }
+    ensures given { out.new.items ≡ out.old.items ++ told (Some source) (triggers (R.cells run.now)) }
+    ensures few { array_vec_len out.new ≤ array_vec_len out.old + 2 * length (R.cells run.now) }
 {
-    for cell in run {
+    for index in 0..run.len() {
+        let cell = run.cell(index);
         out.push(Event {
             at: cell.at,
             half: 0,
@@ -47,13 +49,25 @@ fn put_triggers(source: SourceId, run: &[Cell], out: &mut Events)
     }
 }
 
+/// The bytes of a run.
+#[inline(always)]
+fn raw_bytes<R: Run>(run: &R) -> RunBytes
+    ensures { result ≡ bytes_of (R.cells run.now) }
+{
+    let mut cells: ArrayVec<Cell, 15> = ArrayVec::new();
+    for index in 0..run.len() {
+        cells.push(run.cell(index));
+    }
+    RunBytes::of(cells.as_slice())
+}
+
 /// Notes a run of a source that is not mapped.
-fn put_raw(source: SourceId, run: &[Cell], out: &mut Events)
-    requires some { 0 < length run.now }
-    requires size { length run.now ≤ 15 }
-    requires room { array_vec_len out.old + 2 * length run.now ≤ EVENTS }
-    ensures given { out.new.items ≡ out.old.items ++ told (Some source) (raw_events source run.now) }
-    ensures few { array_vec_len out.new ≤ array_vec_len out.old + 2 * length run.now }
+fn put_raw<R: Run>(source: SourceId, run: &R, out: &mut Events)
+    requires some { 0 < length (R.cells run.now) }
+    requires size { length (R.cells run.now) ≤ 15 }
+    requires room { array_vec_len out.old + 2 * length (R.cells run.now) ≤ EVENTS }
+    ensures given { out.new.items ≡ out.old.items ++ told (Some source) (raw_events source (R.cells run.now)) }
+    ensures few { array_vec_len out.new ≤ array_vec_len out.old + 2 * length (R.cells run.now) }
 {
     let number = source.number();
     if number == NULL {
@@ -64,10 +78,10 @@ fn put_raw(source: SourceId, run: &[Cell], out: &mut Events)
         return;
     }
     out.push(Event {
-        at: run[run.len() - 1].at,
+        at: run.cell(run.len() - 1).at,
         half: 0,
         source: Some(source),
-        what: What::Raw(RunBytes::of(run)),
+        what: What::Raw(raw_bytes(run)),
     });
 }
 
@@ -146,33 +160,42 @@ pub fn take_own<R: Run>(
     }
 }
 
-/// Takes a run.
-fn take_run(slots: &mut [Slot<SourceMachine>], run: &[Cell], out: &mut Events) -> Option<Stop>
-    requires some { 0 < length run.now }
-    requires size { length run.now ≤ 15 }
+/// Takes a run of this source, or of none.
+pub fn take_run<R: Run>(
+    slots: &mut [Slot<SourceMachine>],
+    source: &Option<SourceId>,
+    run: &R,
+    out: &mut Events,
+) -> Option<Stop>
+    requires own { id_of (R.cells run.now) ≡ source.now }
+    requires some { 0 < length (R.cells run.now) }
+    requires size { length (R.cells run.now) ≤ 15 }
     requires live { AllLive is_live slots.old }
     requires room { HaveRoom held_of skipped_by PART_ROOM slots.old }
-    requires events { array_vec_len out.old + 2 * length run.now ≤ EVENTS }
+    requires events { array_vec_len out.old + 2 * length (R.cells run.now) ≤ EVENTS }
     ensures same { mapped_of reading_of slots.new ≡ mapped_of reading_of slots.old }
     ensures live { result ≡ None → AllLive is_live slots.new }
     ensures room { (n : ℕ) → HaveRoom held_of skipped_by n slots.old →
-        HaveRoom held_of skipped_by (n + 2 * length run.now) slots.new }
-    ensures events { array_vec_len out.new ≤ array_vec_len out.old + 2 * length run.now }
+        HaveRoom held_of skipped_by (n + 2 * length (R.cells run.now)) slots.new }
+    ensures events { array_vec_len out.new ≤ array_vec_len out.old + 2 * length (R.cells run.now) }
     ensures fits { AllFit PacketFits out.old.items → AllFit PacketFits out.new.items }
     ensures took { (runs : List (List Cell)) (n : ℕ) → AreDistinct (mapped_of reading_of slots.old) →
-        AllStand Stands slots.old runs → IsRunFrom n run.now →
-        Took Stands (mapped_of reading_of slots.old) slots.new runs n
-        (record { run = run.now; before = out.old.items; after = out.new.items; stop = result }) }
+        AllStand Stands slots.old runs → IsRunFrom n (R.cells run.now) →
+        Took Stands (mapped_of reading_of slots.old) slots.new runs n (record {
+          run = R.cells run.now;
+          before = out.old.items;
+          after = out.new.items;
+          stop = result;
+        }) }
 {
-    let first = run[0];
-    let Some(id) = first.id else {
+    let Some(id) = *source else {
         return None;
     };
     let Some(index) = find(slots, id) else {
         put_raw(id, run, out);
         return None;
     };
-    take_own(slots, index, id, &CellRun::of(run), out)
+    take_own(slots, index, id, run, out)
 }
 
 /// Takes the cells of a frame, each run to its source, up to a fault, and gives their events.
@@ -204,8 +227,8 @@ pub fn take_frame(
     while !rest.is_empty() {
         let n = run_length(rest);
         let run = &rest[..n];
-        counts.add_run(run);
-        if let Some(stop) = take_run(slots, run, out) {
+        counts.add_run(&run[0].id, n as u64);
+        if let Some(stop) = take_run(slots, &run[0].id, &CellRun::of(run), out) {
             return Some(stop);
         }
         rest = &rest[n..];

@@ -1,16 +1,15 @@
 //! The bytes of a run, and where they are.
 
-ghost use Rattle.std.specs.Prelude.{◌≡◌, ◌+◌, ◌≤◌, ◌<◌, List, length, take, drop, get_or};
+ghost use Rattle.std.specs.Prelude.{◌≡◌, ◌+◌, ◌≤◌, ◌<◌, List, length, get_or};
 ghost use Rattle.trace_values.specs.declared.cell.Cell.{Cell};
 ghost use Rattle.source_events.specs.Runs.{bytes_of};
-ghost use Rattle.source_merge.specs.Feeding.{IsFrom};
 
 use crate::data::DATA_BYTES;
 use frame_grammar::frame::FRAME_BYTES;
 use source_events::RunBytes;
 use trace_values::{Cell, SourceId};
 
-/// The greatest offset at which bytes of a run are fed as a piece: more than any of a capture.
+/// The greatest offset at which bytes are fed as a piece: more than any of a capture.
 pub const FAR: u64 = 1 << 58;
 
 /// A run of a source's bytes in a frame.
@@ -31,36 +30,6 @@ pub trait Run {
     fn cell(&self, index: usize) -> Cell
         requires { index < length (cells self.now) }
         ensures { result ≡ get_or (cells self.now) index result };
-
-    /// How many of the bytes from an index on, which is at this offset, are at one offset after the other; none from
-    /// `FAR` on.
-    fn adjacent(&self, from: usize, at: u64) -> usize
-        requires { from ≤ length (cells self.now) }
-        ensures within { from + result ≤ length (cells self.now) }
-        ensures from { IsFrom at (take result (drop from (cells self.now))) }
-        ensures near { 0 < result → at ≤ FAR };
-}
-
-/// How many of these cells, from the first on, are at one offset after the other, the first of them at this one; none
-/// from `FAR` on.
-#[inline]
-fn adjacent(at: u64, cells: &[Cell]) -> usize
-    requires { length cells.now ≤ 15 }
-    ensures within { result ≤ length cells.now }
-    ensures from { IsFrom at (take result cells.now) }
-    ensures near { 0 < result → at ≤ FAR }
-{
-    if at > FAR {
-        return 0;
-    }
-    let mut n = 0;
-    while n < cells.len() {
-        if cells[n].at != at + n as u64 {
-            return n;
-        }
-        n += 1;
-    }
-    n
 }
 
 /// The cells of a run, with their bytes one after the other.
@@ -106,11 +75,6 @@ impl Run for CellRun<'_> {
     #[inline(always)]
     fn cell(&self, index: usize) -> Cell {
         self.cells[index]
-    }
-
-    #[inline(always)]
-    fn adjacent(&self, from: usize, at: u64) -> usize {
-        adjacent(at, &self.cells[from..])
     }
 }
 
@@ -180,19 +144,67 @@ impl Run for DataRun<'_> {
             byte: self.bytes[index],
         }
     }
+}
+
+/// Bytes of a frame from one ID byte to the next, which are of one source.
+#[derive(Drop)]
+pub struct PartRun<'a> {
+    source: Option<SourceId>,
+    run: u8,
+    /// The offsets of its bytes.
+    places: &'a [u64],
+    bytes: &'a [u8],
+    ghost same: { length places.now ≡ length bytes.now },
+    ghost few: { length bytes.now ≤ 15 },
+}
+
+impl<'a> PartRun<'a> {
+    ghost use Rattle.source_merge.specs.Run.{part_of};
+    ghost use Rattle.source_merge.specs.Data.{run_cells};
+
+    /// These bytes of a source, or of none, at these offsets, with this run number.
+    #[inline(always)]
+    pub fn new(
+        source: &Option<SourceId>,
+        run: u8,
+        places: &'a [u64],
+        bytes: &'a [u8],
+    ) -> PartRun<'a>
+        requires same { length places.now ≡ length bytes.now }
+        requires few { length bytes.now ≤ 15 }
+        ensures { part_of result ≡ run_cells places.now source.now run bytes.now }
+    {
+        PartRun {
+            source: *source,
+            run,
+            places,
+            bytes,
+        }
+    }
+}
+
+impl Run for PartRun<'_> {
+    ghost use Rattle.source_merge.specs.Run.{part_of};
+
+    ghost cells = { part_of };
 
     #[inline(always)]
-    fn adjacent(&self, from: usize, at: u64) -> usize {
-        if at > FAR {
-            return 0;
+    fn len(&self) -> usize {
+        self.bytes.len()
+    }
+
+    #[inline(always)]
+    fn bytes(&self) -> &[u8] {
+        self.bytes
+    }
+
+    #[inline(always)]
+    fn cell(&self, index: usize) -> Cell {
+        Cell {
+            at: self.places[index],
+            id: self.source,
+            run: self.run,
+            byte: self.bytes[index],
         }
-        let mut n = 0;
-        while from + n < DATA_BYTES {
-            if self.cell(from + n).at != at + n as u64 {
-                return n;
-            }
-            n += 1;
-        }
-        n
     }
 }

@@ -1,19 +1,17 @@
 //! A mapped source, and a run of its bytes.
 
-ghost use Rattle.std.specs.Prelude.{◌≡◌, ◌+◌, ◌*◌, ◌^◌, ◌<◌, ◌≤◌, ◌++◌, List, length, take, is_none, true, Some};
-ghost use Rattle.std.specs.Prelude.{IfSome, drop};
-ghost use Rattle.source_merge.specs.declared.run.TheConstants.{FAR};
+ghost use Rattle.std.specs.Prelude.{◌≡◌, ◌+◌, ◌*◌, ◌^◌, ◌<◌, ◌≤◌, ◌++◌, List, length, is_none, true, Some};
 ghost use Rattle.arrayvec.specs.ArrayVec.{array_vec_len};
 ghost use Rattle.trace_values.specs.Placed.{Placed};
-ghost use Rattle.trace_values.specs.Block.{given_after, goes_on_after};
-ghost use Rattle.trace_values.specs.Stream.{StepFits, given_by};
+ghost use Rattle.trace_values.specs.Block.{given_after};
+ghost use Rattle.trace_values.specs.Stream.{given_by};
 ghost use Rattle.itm_codec.specs.Wholes.{kept_at};
-ghost use Rattle.source_events.specs.Runs.{bytes_of};
 ghost use Rattle.source_events.specs.Merge.{told};
 ghost use Rattle.source_events.specs.Report.{lifted};
 ghost use Rattle.source_events.specs.Fitting.{AllFit, PacketFits};
+ghost use Rattle.source_machine.specs.Seen.{packet_in};
 ghost use Rattle.source_machine.specs.Machine.{Stands, held_of, is_live, reading_of, skipped_by};
-ghost use Rattle.source_merge.specs.Feeding.{Feeds, IsEarly, IsFrom, TakesCells, last_fault, step_fault};
+ghost use Rattle.source_merge.specs.Feeding.{Feeds, IsEarly, step_fault};
 ghost use Rattle.trace_values.specs.declared.limits.TheConstants.{COUNT_ROOM};
 
 use crate::run::Run;
@@ -21,8 +19,9 @@ use arrayvec::ArrayVec;
 use capture_plan::PacketsMode;
 use source_events::{Event, Packet, SourceKind, What};
 use source_machine::SourceMachine;
+use stp_codec::PacketTaken;
 use stp_grammar::packet::Order;
-use trace_values::{Block, Fault, Machine, PART_ROOM, SourceId, Step};
+use trace_values::{Fault, Machine, PART_ROOM, SourceId, Step};
 
 /// How many events a list of them has room for. One byte of a capture ends at most one frame, of 15 cells, with at most
 /// two events for each.
@@ -31,9 +30,6 @@ pub const EVENTS: usize = 32;
 /// What a machine has held and skipped, and what is counted, may each be at most where a frame is taken: with the frame
 /// it is at most `PART_ROOM`. A capture comes nowhere near.
 pub const FRAME_ROOM: u64 = PART_ROOM / 2;
-
-/// The fewest cells that are fed as a piece: fewer seldom hold a packet.
-const LEAST_PIECE: usize = 3;
 
 /// The events that one call gives, in order.
 pub type Events = ArrayVec<Event<Packet>, EVENTS>;
@@ -97,25 +93,6 @@ pub fn note(out: &mut Events, source: SourceId, at: u64, step: Step<Packet>) -> 
     }
 }
 
-/// The same of the last answer to some cells, where there is one.
-#[inline]
-fn note_last(
-    out: &mut Events,
-    source: SourceId,
-    at: u64,
-    step: Option<Step<Packet>>,
-) -> Option<Fault>
-    requires { array_vec_len out.old + 2 ≤ EVENTS }
-    ensures given { out.new.items ≡ out.old.items ++ told (Some source) (lifted (given_after at step)) }
-    ensures few { array_vec_len out.new ≤ array_vec_len out.old + 2 }
-    ensures fault { result ≡ last_fault step }
-{
-    match step {
-        Some(step) => note(out, source, at, step),
-        None => None,
-    }
-}
-
 /// Notes a packet whose last byte is at this offset, where there is one.
 #[inline(always)]
 fn note_packet(out: &mut Events, source: SourceId, at: u64, packet: Option<Packet>)
@@ -134,51 +111,22 @@ fn note_packet(out: &mut Events, source: SourceId, at: u64, packet: Option<Packe
     }
 }
 
-/// How many bytes of a run a machine may take as a piece, from this index on, which is at this offset: of an STP source
-/// those at one offset after the other. An ITM source goes byte by byte where no whole packet is there.
+/// Notes the item of an STP packet that was taken at once, up to the byte at this offset, where it has one.
 #[inline(always)]
-fn piece_length<R: Run>(machine: &SourceMachine, run: &R, from: usize, at: u64) -> usize
-    requires { from ≤ length (R.cells run.now) }
-    ensures within { from + result ≤ length (R.cells run.now) }
-    ensures from { IsFrom at (take result (drop from (R.cells run.now))) }
-    ensures near { 0 < result → at ≤ FAR }
+fn note_item(out: &mut Events, source: SourceId, at: u64, taken: PacketTaken)
+    requires { array_vec_len out.old + 1 ≤ EVENTS }
+    ensures given { out.new.items ≡
+        out.old.items ++ told (Some source) (lifted (given_after at (packet_in taken.half taken.item))) }
+    ensures few { array_vec_len out.new ≤ array_vec_len out.old + 1 }
 {
-    match machine {
-        SourceMachine::Itm(_) => 0,
-        SourceMachine::Stp(_) => run.adjacent(from, at),
+    if let Some(item) = taken.item {
+        out.push(Event {
+            at,
+            half: taken.half,
+            source: Some(source),
+            what: What::Packet(Packet::Stp(item)),
+        });
     }
-}
-
-/// Feeds bytes of a run to a machine, `bytes`, which are those from an index on: of the first `count`, which are at one
-/// offset after the other from this one on, up to the first to which the answer is neither `Quiet` nor `Skipping`.
-#[inline(always)]
-fn feed_cells<R: Run>(
-    machine: &mut SourceMachine,
-    run: &R,
-    from: usize,
-    at: u64,
-    count: usize,
-    bytes: &[u8],
-) -> Block<Packet>
-    requires live { is_live machine.old ≡ true }
-    requires some { 0 < count }
-    requires within { from + count ≤ length (R.cells run.now) }
-    requires size { length (R.cells run.now) ≤ 15 }
-    requires from { IsFrom at (take count (drop from (R.cells run.now))) }
-    requires near { at ≤ FAR }
-    requires bytes { bytes.now ≡ bytes_of (drop from (R.cells run.now)) }
-    requires room { held_of machine.old + skipped_by machine.old + 2 * length (drop from (R.cells run.now)) ≤ COUNT_ROOM }
-    ensures same { reading_of machine.new ≡ reading_of machine.old }
-    ensures bytes { (0 < result.bytes) × (result.bytes ≤ length (drop from (R.cells run.now))) }
-    ensures takes { (u : List Placed) → Stands machine.old u →
-        TakesCells (reading_of machine.old) (Stands machine.new) u (take result.bytes (drop from (R.cells run.now)))
-        result.step }
-    ensures live { is_live machine.new ≡ goes_on_after result.step }
-    ensures fits { IfSome result.step (StepFits PacketFits) }
-    ensures few { held_of machine.new + skipped_by machine.new ≤
-        held_of machine.old + skipped_by machine.old + 2 * result.bytes }
-{
-    machine.feed_piece(at, &bytes[..count])
 }
 
 /// Feeds a run of this source to its machine, up to a fault, and notes what it gives. It takes a packet at once whose
@@ -220,21 +168,15 @@ pub fn feed_machine<R: Run>(
             machine.keep_partial(cut.partial);
             done += cut.bytes;
             note_packet(out, source, run.cell(done - 1).at, cut.packet);
+        } else if let Some(taken) = machine.take_part(&bytes[done..]) {
+            done += taken.bytes;
+            note_item(out, source, run.cell(done - 1).at, taken);
         } else {
             let cell = run.cell(done);
-            let count = piece_length(machine, run, done, cell.at);
-            if count < LEAST_PIECE {
-                done += 1;
-                let step = machine.feed(cell.at, cell.byte);
-                if let Some(fault) = note(out, source, cell.at, step) {
-                    return Some(fault);
-                }
-            } else {
-                let block = feed_cells(machine, run, done, cell.at, count, &bytes[done..]);
-                done += block.bytes;
-                if let Some(fault) = note_last(out, source, run.cell(done - 1).at, block.step) {
-                    return Some(fault);
-                }
+            done += 1;
+            let step = machine.feed(cell.at, cell.byte);
+            if let Some(fault) = note(out, source, cell.at, step) {
+                return Some(fault);
             }
         }
     }

@@ -22,15 +22,14 @@ ghost use Rattle.frame_grammar.specs.Frame.{IsProperFrame, cells, id_after};
 ghost use Rattle.deformatter.specs.declared.step.PortStep.TheVariants.{Frame};
 
 use crate::counts::{ByteCounts, Counters, add_step};
-use crate::frame::{AnyFrame, FrameCells, data_frame};
+use crate::frame::{FrameCells, data_frame};
 use crate::slot::{Events, Slot};
-use arrayvec::ArrayVec;
-use frame_grammar::frame::cells_of;
+use crate::split::SplitFrame;
 use frame_grammar::placed::PlacedFrame;
 use port_reader::PortStep;
 use source_events::{Event, Packet, Stop, What};
 use source_machine::SourceMachine;
-use trace_values::{Cell, SourceId};
+use trace_values::SourceId;
 
 /// Takes what a step of the port at this offset ends: this frame, or the bytes before a lock.
 #[inline(always)]
@@ -135,14 +134,13 @@ pub struct FrameTaken {
 }
 
 /// Takes a whole frame, which comes after this ID and whose last byte is at this offset, and gives the events that are
-/// decided with it. What the buffer holds before and after is of no account.
+/// decided with it.
 pub fn take_whole(
     slots: &mut [Slot<SourceMachine>],
     counters: &mut Counters,
     at: u64,
-    id: Option<SourceId>,
+    id: &Option<SourceId>,
     frame: &PlacedFrame,
-    buffer: &mut ArrayVec<Cell, 15>,
     out: &mut Events,
 ) -> FrameTaken
     requires proper { IsProperFrame frame.now.bytes }
@@ -150,7 +148,7 @@ pub fn take_whole(
     requires room { HaveRoom held_of skipped_by FRAME_ROOM slots.old }
     requires size { size_of counters.old ≤ FRAME_ROOM }
     requires empty { out.old.items ≡ [] }
-    ensures after { result.after ≡ id_after frame.now.bytes id }
+    ensures after { result.after ≡ id_after frame.now.bytes id.now }
     ensures same { mapped_of reading_of slots.new ≡ mapped_of reading_of slots.old }
     ensures live { result.stop ≡ None → AllLive is_live slots.new }
     ensures room { (n : ℕ) → HaveRoom held_of skipped_by n slots.old →
@@ -160,28 +158,28 @@ pub fn take_whole(
     ensures few { array_vec_len out.new ≤ 30 }
     ensures fits { AllFit PacketFits out.new.items }
     ensures taken { (mode : FramesMode) (u : List Placed) (byte : ℕ) → BytesRise 0 at u →
-        Answers mode Frame (cells frame.now.bytes frame.now.offsets id) u at byte →
+        Answers mode Frame (cells frame.now.bytes frame.now.offsets id.now) u at byte →
         (port_reading mode u).fault ≡ None → AreDistinct (mapped_of reading_of slots.old) →
         AllStand Stands slots.old (runs_in (port_reading mode u)) →
         StepTaken Stands (mapped_of reading_of slots.old) slots.new mode
         (record { before = u; after = u ++ byte_at at byte ∷ []; given = out.new.items; stop = result.stop }) }
     ensures counted { (mode : FramesMode) (u : List Placed) (byte : ℕ) (es : List (Event Packet)) → result.stop ≡ None →
-        Answers mode Frame (cells frame.now.bytes frame.now.offsets id) u at byte →
+        Answers mode Frame (cells frame.now.bytes frame.now.offsets id.now) u at byte →
         HasCounted counters.old (port_reading mode u) es →
         HasCounted counters.new (port_reading mode (u ++ byte_at at byte ∷ [])) (es ++ out.new.items) }
 {
-    if let Some(data) = data_frame(slots, &id, frame) {
+    if let Some(data) = data_frame(slots, id, frame) {
         let stop = take_step(slots, counters, at, PortStep::Frame, &data, out);
         return FrameTaken {
             after: Some(data.run.source()),
             stop,
         };
     }
-    buffer.clear();
-    let after = cells_of(&frame.bytes, &frame.offsets, id, buffer);
-    let cells = AnyFrame {
-        cells: buffer.as_slice(),
-    };
-    let stop = take_step(slots, counters, at, PortStep::Frame, &cells, out);
-    FrameTaken { after, stop }
+    let mut split = SplitFrame::new(frame);
+    split.take_ids(frame, id);
+    let stop = take_step(slots, counters, at, PortStep::Frame, &split, out);
+    FrameTaken {
+        after: split.after(),
+        stop,
+    }
 }

@@ -4,8 +4,8 @@ use Rattle.source_events.specs.Merge.{told}
 use Rattle.source_events.specs.Report.{triggers}
 use Rattle.source_merge.proofs.router.put_triggers.Given as goal
 
-abbrev pub invariant-loop-cell : goal.invariant-loop-cell
-invariant-loop-cell l = record {
-  given : l.out.items ≡ l.fn.out.items ++ told (Some l.source) (triggers (take l.cell-index l.run));
-  few : array_vec_len l.out ≤ array_vec_len l.fn.out + l.cell-index;
+abbrev pub invariant-loop-index : goal.invariant-loop-index
+invariant-loop-index g l = record {
+  given : l.out.items ≡ l.fn.out.items ++ told (Some l.source) (triggers (take l.index (g.R.Run.cells l.run)));
+  few : array_vec_len l.out ≤ array_vec_len l.fn.out + l.index;
 }

@@ -1,14 +1,17 @@
-use Rattle.std.proofs.Common.{append-nil, append_assoc, ◌≡◌, ◌-◌, ◌^◌, ◌<◌, List, [], ◌∷◌, ◌++◌, length, take, drop, refl, sym, ◌∙◌, ap, subst, arith, Some, None}
+use Rattle.std.proofs.Common.{append-nil, append_assoc, ◌≡◌, ◌+◌, ◌-◌, ◌*◌, ◌^◌, ◌<◌, ◌≤◌, List, [], ◌∷◌, ◌++◌, length, take, drop, refl, sym, ◌∙◌, ap, subst, arith, Some, None}
 use Rattle.std.proofs.lemmas.List.{length-drop, length-take-le, take_all}
 use Rattle.std.proofs.lemmas.Bool.Decides.{nat_tests}
 use Rattle.trace_values.specs.declared.cell.Cell.{Cell}
-use Rattle.source_events.specs.Runs.{runs_of}
+use Rattle.arrayvec.specs.ArrayVec.{array_vec_len}
+use Rattle.source_events.specs.Runs.{IsRunFrom, runs_of}
+use Rattle.source_merge.specs.Run.{cells_of}
+use Rattle.source_merge.proofs.ByParts.{TookBy}
 use Rattle.source_merge.specs.Routing.{mapped_of, AreDistinct, Fed}
 use Rattle.source_events.proofs.Least.{AreSound}
 use Rattle.source_events.specs.Report.{Mapped}
 use Rattle.source_events.specs.declared.packet.Packet.{Packet}
 use Rattle.source_merge.proofs.Slots.{room_more}
-use Rattle.source_merge.proofs.Taking.{lawful, sound}
+use Rattle.source_merge.proofs.Taking.{first_id, lawful, sound}
 use Rattle.source_merge.proofs.Framing.{cut_at, first_at, done_more, done_all, took_as, rest_in_order, filled_none, filled_more, fed_all, fed_stopped}
 use Rattle.source_merge.specs.Counting.{HasBytes}
 use Rattle.source_merge.proofs.Fits.{none_fit}
@@ -48,18 +51,23 @@ loop-rest-preserved c =
     let left = length-drop k rest in
     let more = take (length rest - k) (drop k rest) in
     let tail : more ≡ drop k rest = take_all (length rest - k) (drop k rest) (omega arith) in
+    let whole_run : length (cells_of c.of.result) ≡ length (take k rest) = ap length c.of.ensures in
     record {
       done = i.done ++ take k rest ∷ [];
       parts = done_more (runs_of c.args.cells.now) i.done rest k i.parts is some ∙ ap (λ (l : List Cell). (i.done ++ take k rest ∷ []) ++ runs_of l) (sym tail);
       same = c.take_run.ensures.same ∙ i.same;
       live = c.take_run.ensures.live c.in_default.is;
       size = (let s = i.size in omega arith);
-      room = λ n r. room_more held_of skipped_by _ _ c.take_run.new.slots (let s = i.size in let x = c.run_length-n.ensures.within in omega arith) (c.take_run.ensures.room _ (i.room n r));
-      events = (let e = i.events in let f = c.take_run.ensures.events in let s = i.size in let x = c.run_length-n.ensures.within in omega arith);
+      room = λ n r. room_more held_of skipped_by _ _ c.take_run.new.slots (let s = i.size in let x = c.run_length-n.ensures.within in let w = whole_run in omega arith) (c.take_run.ensures.room _ (i.room n r));
+      events =
+          (let e = i.events in
+          let f : array_vec_len c.take_run.new.out ≤ array_vec_len c.loop-rest.out + 2 * length (cells_of c.of.result) = c.take_run.ensures.events in
+          let s = i.size in let x = c.run_length-n.ensures.within in let w = whole_run in omega arith);
       fits = c.take_run.ensures.fits i.fits;
       counted = λ whole runs h.
           subst (λ (l : List (List Cell)). HasBytes c.add_run.new.self whole l) (append_assoc runs i.done (take k rest ∷ []))
-          (c.add_run.ensures.counted whole (runs ++ i.done) (i.counted whole runs h));
+          (c.add_run.ensures.counted whole (runs ++ i.done) (take k rest)
+          (first_id (take k rest) c.index-run-0.result (let x = taken in let y = c.run_length-n.ensures.some in omega arith) c.index-run-0.is ∙ ap (λ (x : Cell). x.id) c.index-run-0.is) taken (i.counted whole runs h));
       count = (let a = i.count in let b = c.add_run.ensures.more in let s = i.size in let x = c.run_length-n.ensures.within in omega arith);
       fed = λ runs n d a b r.
           let f = i.fed runs n d a b r in
@@ -67,7 +75,9 @@ loop-rest-preserved c =
           subst (λ (l : List Cell). Filled Stands (mapped_of reading_of c.args.slots.now) c.take_run.new.slots runs n (i.done ++ take k rest ∷ []) l c.take_run.new.out.items) (sym tail)
           (filled_more Stands (mapped_of reading_of c.args.slots.now) runs n c.loop-rest.slots c.take_run.new.slots i.done rest (take k rest) (drop k rest) c.loop-rest.out.items c.take_run.new.out.items f one.0 one.1
           (took_as Stands (mapped_of reading_of c.loop-rest.slots) (mapped_of reading_of c.args.slots.now) c.take_run.new.slots (runs ++ i.done) f.at (take k rest) c.loop-rest.out.items c.take_run.new.out.items _ None i.same c.in_default.is
-          (c.take_run.ensures.took (runs ++ i.done) f.at (subst (λ (z : List (Mapped Packet)). AreDistinct z) (sym i.same) d) f.list one.0)));
+          (subst (λ (l : List Cell). TookBy Stands (mapped_of reading_of c.loop-rest.slots) c.take_run.new.slots (runs ++ i.done) f.at l c.loop-rest.out.items c.take_run.new.out.items c.take_run.result) c.of.ensures
+          (c.take_run.ensures.took (runs ++ i.done) f.at (subst (λ (z : List (Mapped Packet)). AreDistinct z) (sym i.same) d) f.list
+          (subst (λ (l : List Cell). IsRunFrom f.at l) (sym c.of.ensures) one.0)))));
     }
 
 pub returns-in-Some-clause-room : goal.returns-in-Some-clause-room
@@ -76,7 +86,8 @@ returns-in-Some-clause-room c = λ n r.
     let rest = c.loop-rest.rest.now in
     let k = c.run_length-n.result in
     let taken = length-take-le k rest c.run_length-n.ensures.within in
-    room_more held_of skipped_by _ _ c.take_run.new.slots (let s = i.size in let x = c.run_length-n.ensures.within in omega arith) (c.take_run.ensures.room _ (i.room n r))
+    let whole_run : length (cells_of c.of.result) ≡ length (take k rest) = ap length c.of.ensures in
+    room_more held_of skipped_by _ _ c.take_run.new.slots (let s = i.size in let x = c.run_length-n.ensures.within in let w = whole_run in omega arith) (c.take_run.ensures.room _ (i.room n r))
 
 pub returns-in-Some-clause-fed : goal.returns-in-Some-clause-fed
 returns-in-Some-clause-fed c = λ runs n d a b r.
@@ -88,7 +99,9 @@ returns-in-Some-clause-fed c = λ runs n d a b r.
     let f = i.fed runs n d a b r in
     let one = first_at rest k f.at is some f.rises in
     let took = took_as Stands (mapped_of reading_of c.loop-rest.slots) (mapped_of reading_of c.args.slots.now) c.take_run.new.slots (runs ++ i.done) f.at (take k rest) c.loop-rest.out.items c.take_run.new.out.items _ (Some c.in-Some.stop) i.same c.in-Some.is
-    (c.take_run.ensures.took (runs ++ i.done) f.at (subst (λ (z : List (Mapped Packet)). AreDistinct z) (sym i.same) d) f.list one.0) in
+    (subst (λ (l : List Cell). TookBy Stands (mapped_of reading_of c.loop-rest.slots) c.take_run.new.slots (runs ++ i.done) f.at l c.loop-rest.out.items c.take_run.new.out.items c.take_run.result) c.of.ensures
+    (c.take_run.ensures.took (runs ++ i.done) f.at (subst (λ (z : List (Mapped Packet)). AreDistinct z) (sym i.same) d) f.list
+    (subst (λ (l : List Cell). IsRunFrom f.at l) (sym c.of.ensures) one.0))) in
     subst (λ (l : List (List Cell)). Fed Stands (mapped_of reading_of c.args.slots.now) c.take_run.new.slots runs l c.take_run.new.out.items (Some c.in-Some.stop))
     (sym (i.parts ∙ ap (λ (l : List (List Cell)). i.done ++ l) (cut_at rest k is some)))
     (fed_stopped Stands (mapped_of reading_of c.args.slots.now) runs n (lawful reading_of Stands is_live has_locked held_of skipped_by laws.shows laws.begins laws.settles laws.rises c.args.slots.now) c.loop-rest.slots c.take_run.new.slots i.done (runs_of (drop k rest)) rest (take k rest) c.loop-rest.out.items c.take_run.new.out.items c.in-Some.stop

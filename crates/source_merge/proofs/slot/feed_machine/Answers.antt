@@ -1,6 +1,6 @@
-use Rattle.std.proofs.Common.{append_assoc, ◌≡◌, ℕ, ◌+◌, ◌-◌, ◌<◌, ◌≤◌, ◌++◌, [], ◌∷◌, List, length, take, drop, get_or, refl, sym, ◌∙◌, ap, subst, arith, Some, None}
+use Rattle.std.proofs.Common.{◌≡◌, ℕ, ◌+◌, ◌-◌, ◌<◌, ◌≤◌, ◌++◌, [], ◌∷◌, List, length, take, drop, get_or, refl, sym, ◌∙◌, ap, subst, arith, Some, None}
 use Rattle.std.specs.Prelude.{is_none}
-use Rattle.std.proofs.lemmas.List.{drop_more, take_more, take-append-drop, take_all, length-drop, length-take-le, length-map, length-append, drop-map}
+use Rattle.std.proofs.lemmas.List.{drop_more, take_more, take-append-drop, length-drop, length-take-le, length-map, length-append}
 use Rattle.trace_values.specs.declared.cell.Cell.{Cell}
 use Rattle.trace_values.specs.declared.step.Step.TheVariants.{Item}
 use Rattle.trace_values.specs.Placed.{Placed, byte_at}
@@ -10,32 +10,22 @@ use Rattle.source_events.specs.declared.packet.Packet.{Packet}
 use Rattle.trace_values.specs.Block.{given_after}
 use Rattle.source_events.specs.Merge.{told}
 use Rattle.source_events.specs.Report.{lifted}
-use Rattle.source_events.specs.Runs.{placed_run, bytes_of, last_at, RisesFrom}
+use Rattle.source_events.specs.Runs.{placed_run, bytes_of, RisesFrom}
 use Rattle.source_events.specs.Fitting.{PacketFits}
-use Rattle.source_machine.specs.Machine.{Stands, StandsAs, reading_of}
+use Rattle.source_machine.specs.declared.machine.SourceMachine.{SourceMachine}
+use Rattle.source_machine.specs.Machine.{Stands, StandsAs, held_of, reading_of, skipped_by}
 use Rattle.source_machine.specs.MachineLaws as laws
-use Rattle.source_merge.specs.Feeding.{TakesCells}
+use Rattle.source_machine.specs.Seen.{packet_in}
+use Rattle.stp_codec.specs.Cuts.{Passes}
 use Rattle.source_merge.proofs.RunSteps.{none_of, feeds_none, feeds_more, feeds_stopped, goes_as, grown_as}
-use Rattle.source_merge.proofs.Packets.{packet_event, feeds_packet, feeds_cut, cut_stands, front, packet_parts, packet_units}
+use Rattle.source_merge.proofs.Packets.{packet_event, feeds_packet, feeds_cut, feeds_part, cut_stands, front, packet_parts, packet_units}
 use Rattle.source_merge.proofs.Early.{early}
-use Rattle.source_merge.proofs.CellPieces.{next_cells, more_parts, last_next, some_next, all_parts, goes_last, feeds_cells, early_cells}
 use Rattle.source_merge.proofs.Fits.{more_fits, last_fits, cut_fits, fit_more}
 use Rattle.source_merge.proofs.ByParts.{FeedsBy}
 use Rattle.source_merge.proofs.slot.feed_machine.Goals as goal
 
 next_cell : (run : List Cell) (i : ℕ) (d : Cell) → i < length run → d ≡ get_or run i d → take (i + 1) run ≡ take i run ++ d ∷ []
 next_cell run i d l e = take_more run i d l ∙ ap (λ (c : Cell). take i run ++ c ∷ []) (sym e)
-
--- what is left of a run
-rest_is : {X : Type 0} → (xs : List X) (n : ℕ) → take (length xs - n) (drop n xs) ≡ drop n xs
-rest_is xs n = take_all (length xs - n) (drop n xs) (let k = length-drop n xs in omega arith)
-
-rest_bytes : (run : List Cell) (bytes : List ℕ) (done : ℕ) → bytes ≡ bytes_of run →
-    take (length bytes - done) (drop done bytes) ≡ bytes_of (drop done run)
-rest_bytes run bytes done e = rest_is bytes done ∙ ap (drop done) e ∙ drop-map (λ (c : Cell). c.byte) done run
-
-all_within : (run : List Cell) (done count : ℕ) → done ≤ length run → count ≤ length (drop done run) → done + count ≤ length run
-all_within run done count l h = (let b = length-drop done run in omega arith)
 
 pub loop-done-init : goal.loop-done-init
 loop-done-init g c = record {
@@ -128,114 +118,70 @@ loop-done-preserved-in-Some-next_cut g c =
           given);
     }
 
-pub feed_cells-block-requires-clause-bytes : goal.feed_cells-block-requires-clause-bytes
-feed_cells-block-requires-clause-bytes g c =
-    rest_bytes (g.R.Run.cells c.args.run.now) c.bytes-bytes.result.now c.loop-done.done c.bytes-bytes.ensures
+pub loop-done-preserved-in-Some-take_part : goal.loop-done-preserved-in-Some-take_part
+loop-done-preserved-in-Some-take_part g c =
+    let i = c.loop-done.invariant in
+    let run = g.R.Run.cells c.args.run.now in
+    let done = c.loop-done.done in
+    let taken = c.in-Some-take_part.taken in
+    let found = c.in-Some-take_part.ensures in
+    let last = c.cell-in-Some-take_part.result in
+    let is = c.cell-in-Some-take_part.ensures in
+    let reading = reading_of c.args.machine.now in
+    let now = Stands c.take_part.new.self in
+    let old = c.loop-done.out.items in
+    let new = c.note_item.new.out.items in
+    let bytes = c.bytes-bytes.result.now in
+    let same : bytes ≡ bytes_of run = c.bytes-bytes.ensures in
+    let most = length-take-le (length bytes - done) (drop done bytes) (let k = length-drop done bytes in omega arith) in
+    let long : length bytes ≡ length run = ap length same ∙ length-map run (λ (x : Cell). x.byte) in
+    let some : 0 < taken.bytes = found.bytes.0 in
+    let within : done + taken.bytes ≤ length run = (let k = found.bytes.1 in let h = c.loop-done-test.true in let length_is = c.len.ensures.value in omega arith) in
+    let before : List Cell = front run done taken.bytes last some within is in
+    let given : new ≡ old ++ told (Some c.args.source) (lifted (given_after last.at (packet_in taken.half taken.item))) = c.note_item.ensures.given in
+    record {
+      within = within;
+      same = c.take_part.ensures.same ∙ i.same;
+      live = c.take_part.ensures.live;
+      few = (let a = i.few in let b = found.few in omega arith);
+      events = (let a = i.events in let b = c.note_item.ensures.few in omega arith);
+      fits = λ f.
+          fit_more PacketFits old new (told (Some c.args.source) (lifted (given_after last.at (packet_in taken.half taken.item)))) given (i.fits f)
+          (last_fits PacketFits c.args.source last.at (packet_in taken.half taken.item) found.fits);
+      feeds = λ u s.
+          subst (λ (l : List Cell). FeedsBy reading now u l c.args.source c.args.out.now.items new None)
+          (sym (packet_parts run done taken.bytes last some within is))
+          (feeds_part reading u c.args.source (Stands c.loop-done.machine) now (take done run) before last (packet_in taken.half taken.item)
+          c.args.out.now.items old new (i.feeds u s)
+          (λ w k. subst (λ (r : List Placed → Stream Packet). Passes r now w (placed_run before) (byte_at last.at last.byte) (packet_in taken.half taken.item)) i.same
+          (found.passes w (placed_run before) (byte_at last.at last.byte) k
+          (packet_units run done taken.bytes last some within is bytes same)))
+          given);
+    }
 
 pub loop-done-preserved : goal.loop-done-preserved
 loop-done-preserved g c =
     let reading = reading_of c.args.machine.now in
     let i = c.loop-done.invariant in
-    let run = g.R.Run.cells c.args.run.now in
-    let done = c.loop-done.done in
-    let block = c.feed_cells-block.result in
-    let was = Stands c.loop-done.machine in
-    let now = Stands c.feed_cells-block.new.machine in
-    let old = c.loop-done.out.items in
-    let new = c.note_last.new.out.items in
-    let last = c.cell-else-count-lt-LEAST_PIECE.result in
-    let some = c.feed_cells-block.ensures.bytes.0 in
-    let within = all_within run done block.bytes (let h = c.loop-done-test.true in let length_is = c.len.ensures.value in omega arith) c.feed_cells-block.ensures.bytes.1 in
-    let is = c.cell-else-count-lt-LEAST_PIECE.ensures in
-    let cells = next_cells run done block.bytes last some within is in
-    let given : new ≡ old ++ told (Some c.args.source) (lifted (given_after (last_at cells) block.step)) =
-    c.note_last.ensures.given ∙ ap (λ (n : ℕ). old ++ told (Some c.args.source) (lifted (given_after n block.step)))
-    (sym (last_next run done block.bytes last some within is)) in
-    record {
-      within = within;
-      same = c.feed_cells-block.ensures.same ∙ i.same;
-      live = c.feed_cells-block.ensures.live ∙ goes_last block.step ∙ ap is_none (sym c.note_last.ensures.fault ∙ c.in_default-note_last.is);
-      few = (let a = i.few in let b = c.feed_cells-block.ensures.few in omega arith);
-      events = (let a = i.events in let b = c.note_last.ensures.few in omega arith);
-      fits = λ f.
-          fit_more PacketFits old new (told (Some c.args.source) (lifted (given_after (last_at cells) block.step))) given (i.fits f)
-          (last_fits PacketFits c.args.source (last_at cells) block.step c.feed_cells-block.ensures.fits);
-      feeds = λ u s.
-          subst (λ (l : List Cell). FeedsBy reading now u l c.args.source c.args.out.now.items new None)
-          (sym (more_parts run done block.bytes last some within is))
-          (feeds_cells reading u c.args.source was now (take done run) cells block.step None c.args.out.now.items old new (i.feeds u s)
-          (λ w k. subst (λ (r : List Placed → Stream Packet). TakesCells r now w cells block.step) i.same (c.feed_cells-block.ensures.takes w k))
-          (sym c.in_default-note_last.is ∙ c.note_last.ensures.fault) given);
-    }
-
-pub returns-in-Some-note_last-clause-feeds : goal.returns-in-Some-note_last-clause-feeds
-returns-in-Some-note_last-clause-feeds g c = λ u s.
-    let reading = reading_of c.args.machine.now in
-    let i = c.loop-done.invariant in
-    let run = g.R.Run.cells c.args.run.now in
-    let done = c.loop-done.done in
-    let block = c.feed_cells-block.result in
-    let was = Stands c.loop-done.machine in
-    let now = Stands c.feed_cells-block.new.machine in
-    let old = c.loop-done.out.items in
-    let new = c.note_last.new.out.items in
-    let last = c.cell-else-count-lt-LEAST_PIECE.result in
-    let some = c.feed_cells-block.ensures.bytes.0 in
-    let within = all_within run done block.bytes (let h = c.loop-done-test.true in let length_is = c.len.ensures.value in omega arith) c.feed_cells-block.ensures.bytes.1 in
-    let is = c.cell-else-count-lt-LEAST_PIECE.ensures in
-    let cells = next_cells run done block.bytes last some within is in
-    let fault = c.in-Some-note_last.fault in
-    let given : new ≡ old ++ told (Some c.args.source) (lifted (given_after (last_at cells) block.step)) =
-    c.note_last.ensures.given ∙ ap (λ (n : ℕ). old ++ told (Some c.args.source) (lifted (given_after n block.step)))
-    (sym (last_next run done block.bytes last some within is)) in
-    subst (λ (l : List Cell). FeedsBy reading now u l c.args.source c.args.out.now.items new (Some fault))
-    (append_assoc (take done run) cells (drop (done + block.bytes) run) ∙ sym (all_parts run done block.bytes last some within is))
-    (feeds_stopped reading u c.args.source (laws.settles c.args.machine.now) now (take done run ++ cells) (drop (done + block.bytes) run) fault c.args.out.now.items new
-    (feeds_cells reading u c.args.source was now (take done run) cells block.step (Some fault) c.args.out.now.items old new (i.feeds u s)
-    (λ w k. subst (λ (r : List Placed → Stream Packet). TakesCells r now w cells block.step) i.same (c.feed_cells-block.ensures.takes w k))
-    (sym c.in-Some-note_last.is ∙ c.note_last.ensures.fault) given))
-
-pub returns-in-Some-note_last-clause-early : goal.returns-in-Some-note_last-clause-early
-returns-in-Some-note_last-clause-early g c = λ u s n r given h.
-    let reading = reading_of c.args.machine.now in
-    let i = c.loop-done.invariant in
-    let run = g.R.Run.cells c.args.run.now in
-    let done = c.loop-done.done in
-    let block = c.feed_cells-block.result in
-    let now = Stands c.feed_cells-block.new.machine in
-    let last = c.cell-else-count-lt-LEAST_PIECE.result in
-    let some = c.feed_cells-block.ensures.bytes.0 in
-    let within = all_within run done block.bytes (let k = c.loop-done-test.true in let length_is = c.len.ensures.value in omega arith) c.feed_cells-block.ensures.bytes.1 in
-    let is = c.cell-else-count-lt-LEAST_PIECE.ensures in
-    let cells = next_cells run done block.bytes last some within is in
-    let parts = all_parts run done block.bytes last some within is in
-    early_cells reading (laws.rises c.args.machine.now) (laws.settles c.args.machine.now) now u (take done run) cells
-    (drop (done + block.bytes) run) block.step c.in-Some-note_last.fault (sym c.note_last.ensures.fault ∙ c.in-Some-note_last.is)
-    (some_next run done block.bytes last some within is)
-    (subst (λ (f : List Placed → Stream Packet). TakesCells f now (u ++ placed_run (take done run)) cells block.step) i.same
-    (c.feed_cells-block.ensures.takes (u ++ placed_run (take done run)) ((i.feeds u s).list refl)))
-    n (subst (λ (l : List Cell). RisesFrom n l) parts r) given (ap (λ (l : List Cell). (reading (u ++ placed_run l)).given) (sym parts) ∙ h)
-
-pub loop-done-preserved-in_default-note : goal.loop-done-preserved-in_default-note
-loop-done-preserved-in_default-note g c =
-    let reading = reading_of c.args.machine.now in
-    let i = c.loop-done.invariant in
+    let kept : c.take_part.new.self ≡ c.loop-done.machine = c.in_default-take_part.ensures.none refl in
+    let read : reading_of c.take_part.new.self ≡ reading_of c.args.machine.now = c.take_part.ensures.same ∙ i.same in
     let run = g.R.Run.cells c.args.run.now in
     let cell = c.cell-cell.result in
     record {
       within = (let h = c.loop-done-test.true in let length_is = c.len.ensures.value in omega arith);
-      same = c.feed-step.ensures.same ∙ i.same;
+      same = c.feed-step.ensures.same ∙ read;
       live = c.feed-step.ensures.live ∙ goes_as c.feed-step.result ∙ ap is_none (sym c.note.ensures.fault ∙ c.in_default-note.is);
-      few = (let a = i.few in let b = c.feed-step.ensures.few in omega arith);
+      few = (let a = i.few in let b = c.feed-step.ensures.few in let held = ap held_of kept in let skipped = ap skipped_by kept in omega arith);
       events = (let a = i.events in let b = c.note.ensures.few in omega arith);
       fits = λ f. more_fits PacketFits c.args.source cell.at c.feed-step.result c.loop-done.out.items c.note.new.out.items c.note.ensures.given c.feed-step.ensures.fits (i.fits f);
       feeds = λ u s.
           subst (λ (l : List Cell). FeedsBy reading (Stands c.feed-step.new.self) u l c.args.source c.args.out.now.items c.note.new.out.items None)
           (sym (next_cell run c.loop-done.done cell (let h = c.loop-done-test.true in let length_is = c.len.ensures.value in omega arith) c.cell-cell.ensures))
-          (feeds_more reading u c.args.source (Stands c.loop-done.machine) (Stands c.feed-step.new.self) (take c.loop-done.done run) cell c.feed-step.result None
-          c.args.out.now.items c.loop-done.out.items c.note.new.out.items (i.feeds u s)
+          (feeds_more reading u c.args.source (Stands c.take_part.new.self) (Stands c.feed-step.new.self) (take c.loop-done.done run) cell c.feed-step.result None
+          c.args.out.now.items c.loop-done.out.items c.note.new.out.items
+          (subst (λ (m : SourceMachine). FeedsBy reading (Stands m) u (take c.loop-done.done run) c.args.source c.args.out.now.items c.loop-done.out.items None) (sym kept) (i.feeds u s))
           (λ w k. c.feed-step.ensures.list w k)
-          (λ w k. grown_as (reading_of c.loop-done.machine) reading i.same w cell c.feed-step.result (c.feed-step.ensures.step w k))
+          (λ w k. grown_as (reading_of c.take_part.new.self) reading read w cell c.feed-step.result (c.feed-step.ensures.step w k))
           (sym c.in_default-note.is ∙ c.note.ensures.fault) c.note.ensures.given);
     }
 
@@ -243,6 +189,8 @@ pub returns-in-Some-note-clause-feeds : goal.returns-in-Some-note-clause-feeds
 returns-in-Some-note-clause-feeds g c = λ u s.
     let reading = reading_of c.args.machine.now in
     let i = c.loop-done.invariant in
+    let kept : c.take_part.new.self ≡ c.loop-done.machine = c.in_default-take_part.ensures.none refl in
+    let read : reading_of c.take_part.new.self ≡ reading_of c.args.machine.now = c.take_part.ensures.same ∙ i.same in
     let run = g.R.Run.cells c.args.run.now in
     let at = c.loop-done.done in
     let cell = c.cell-cell.result in
@@ -250,21 +198,24 @@ returns-in-Some-note-clause-feeds g c = λ u s.
     (subst (λ (l : List Cell). FeedsBy reading (Stands c.feed-step.new.self) u (l ++ drop (at + 1) run) c.args.source c.args.out.now.items c.note.new.out.items (Some c.in-Some-note.fault))
     (sym (next_cell run at cell (let h = c.loop-done-test.true in let length_is = c.len.ensures.value in omega arith) c.cell-cell.ensures))
     (feeds_stopped reading u c.args.source (laws.settles c.args.machine.now) (Stands c.feed-step.new.self) (take at run ++ cell ∷ []) (drop (at + 1) run) c.in-Some-note.fault c.args.out.now.items c.note.new.out.items
-    (feeds_more reading u c.args.source (Stands c.loop-done.machine) (Stands c.feed-step.new.self) (take at run) cell c.feed-step.result (Some c.in-Some-note.fault)
-    c.args.out.now.items c.loop-done.out.items c.note.new.out.items (i.feeds u s)
+    (feeds_more reading u c.args.source (Stands c.take_part.new.self) (Stands c.feed-step.new.self) (take at run) cell c.feed-step.result (Some c.in-Some-note.fault)
+    c.args.out.now.items c.loop-done.out.items c.note.new.out.items
+    (subst (λ (m : SourceMachine). FeedsBy reading (Stands m) u (take c.loop-done.done run) c.args.source c.args.out.now.items c.loop-done.out.items None) (sym kept) (i.feeds u s))
     (λ w k. c.feed-step.ensures.list w k)
-    (λ w k. grown_as (reading_of c.loop-done.machine) reading i.same w cell c.feed-step.result (c.feed-step.ensures.step w k))
+    (λ w k. grown_as (reading_of c.take_part.new.self) reading read w cell c.feed-step.result (c.feed-step.ensures.step w k))
     (sym c.in-Some-note.is ∙ c.note.ensures.fault) c.note.ensures.given)))
 
 pub returns-in-Some-note-clause-early : goal.returns-in-Some-note-clause-early
 returns-in-Some-note-clause-early g c = λ u s n r given h.
     let reading = reading_of c.args.machine.now in
     let i = c.loop-done.invariant in
+    let kept : c.take_part.new.self ≡ c.loop-done.machine = c.in_default-take_part.ensures.none refl in
+    let read : reading_of c.take_part.new.self ≡ reading_of c.args.machine.now = c.take_part.ensures.same ∙ i.same in
     let run = g.R.Run.cells c.args.run.now in
     let at = c.loop-done.done in
     let d = c.cell-cell.result in
     let parts : run ≡ take at run ++ (d ∷ drop (at + 1) run) = sym (take-append-drop at run) ∙ ap (λ (l : List Cell). take at run ++ l) (drop_more run at d (let t = c.loop-done-test.true in let length_is = c.len.ensures.value in omega arith) ∙ ap (λ (x : Cell). x ∷ drop (at + 1) run) (sym c.cell-cell.ensures)) in
     early reading (laws.rises c.args.machine.now) (laws.settles c.args.machine.now) u (take at run) d (drop (at + 1) run) c.feed-step.result c.in-Some-note.fault
     (sym c.note.ensures.fault ∙ c.in-Some-note.is)
-    (grown_as (reading_of c.loop-done.machine) reading i.same _ d c.feed-step.result (c.feed-step.ensures.step _ ((i.feeds u s).list refl)))
+    (grown_as (reading_of c.take_part.new.self) reading read _ d c.feed-step.result (c.feed-step.ensures.step _ (subst (λ (m : SourceMachine). Stands m (u ++ placed_run (take at run))) (sym kept) ((i.feeds u s).list refl))))
     n (subst (λ (l : List Cell). RisesFrom n l) parts r) given (ap (λ (l : List Cell). (reading (u ++ placed_run l)).given) (sym parts) ∙ h)

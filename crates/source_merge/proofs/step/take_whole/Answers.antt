@@ -1,12 +1,20 @@
-use Rattle.std.proofs.Common.{List, sym, ◌∙◌, subst, arith}
+use Rattle.std.proofs.Common.{◌≤◌, List, length, sym, subst, arith}
 use Rattle.trace_values.specs.declared.cell.Cell.{Cell}
 use Rattle.deformatter.specs.declared.step.PortStep.TheVariants.{Frame}
+use Rattle.frame_grammar.proofs.CellLaws.{few_cells}
 use Rattle.port_reader.specs.Growth.{Answers}
 use Rattle.source_merge.proofs.DataCells.{data_size}
 use Rattle.source_merge.proofs.step.take_whole.Goals as goal
 
 pub take_step-stop-requires-clause-cells : goal.take_step-stop-requires-clause-cells
 take_step-stop-requires-clause-cells c = (let s = data_size c.in-Some.data in omega arith)
+
+pub take_step-stop-requires-2-clause-cells : goal.take_step-stop-requires-2-clause-cells
+take_step-stop-requires-2-clause-cells c =
+    subst (λ (l : List Cell). length l ≤ 15) (sym c.take_ids.ensures.cells) (few_cells c.args.frame.now.bytes c.args.frame.now.offsets c.args.id.now)
+
+pub take_step-stop-requires-2-clause-suits : goal.take_step-stop-requires-2-clause-suits
+take_step-stop-requires-2-clause-suits c = c.take_ids.ensures.suits c.args.slots.now
 
 pub returns-in-Some-clause-taken : goal.returns-in-Some-clause-taken
 returns-in-Some-clause-taken c = λ mode u byte rise step e d a.
@@ -21,11 +29,9 @@ returns-in-Some-clause-counted c = λ mode u byte es k step h.
 pub returns-clause-taken : goal.returns-clause-taken
 returns-clause-taken c = λ mode u byte rise step e d a.
     c.take_step-stop-2.ensures.taken mode u byte rise
-    (subst (λ (l : List Cell). Answers mode Frame l u c.args.at byte)
-    (sym (c.as_slice.ensures.value ∙ c.cells_of-after.ensures.cells)) step) e d a
+    (subst (λ (l : List Cell). Answers mode Frame l u c.args.at byte) (sym c.take_ids.ensures.cells) step) e d a
 
 pub returns-clause-counted : goal.returns-clause-counted
 returns-clause-counted c = λ mode u byte es k step h.
     c.take_step-stop-2.ensures.counted mode u byte es k
-    (subst (λ (l : List Cell). Answers mode Frame l u c.args.at byte)
-    (sym (c.as_slice.ensures.value ∙ c.cells_of-after.ensures.cells)) step) h
+    (subst (λ (l : List Cell). Answers mode Frame l u c.args.at byte) (sym c.take_ids.ensures.cells) step) h

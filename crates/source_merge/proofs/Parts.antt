@@ -1,0 +1,152 @@
+-- The parts of a frame, each one run.
+use Rattle.std.proofs.Common.{◌≡◌, ℕ, suc, ◌+◌, ◌-◌, ◌<◌, ◌≤◌, List, [], ◌∷◌, ◌++◌, length, take, drop, get_or, refl, sym, ◌∙◌, ap, subst, arith, Bool, cond, Option}
+use Rattle.std.proofs.Math.Seq.{drop-append_seam}
+use Rattle.std.proofs.lemmas.List.{length-drop, length-take-le, drop_more, drop_all, length-append}
+use Rattle.trace_values.specs.declared.cell.Cell.{Cell}
+use Rattle.frame_grammar.proofs.Pairs.{made}
+use Rattle.source_events.specs.Runs.{runs_of, run_length, more_of, id_of, RisesFrom, IsRunFrom, end_of}
+use Rattle.source_events.proofs.Merges.{test_same, test_other}
+use Rattle.source_merge.specs.Data.{run_cells}
+use Rattle.source_merge.specs.Split.{AreParts, cells_of_parts, part_cells}
+use Rattle.source_merge.specs.declared.split.Part.{Part}
+use Rattle.source_merge.specs.declared.split.SplitFrame.{SplitFrame}
+use Rattle.source_merge.proofs.DataCells.{cells_length, cells_id}
+use Rattle.source_merge.proofs.Framing.{cut_at, first_at}
+
+-- the first of these cells, if there is one, has a later run
+Later : ℕ → List Cell → Type 0
+Later run [] = Unit {0}
+Later run (c ∷ cells) = run < c.run
+
+none_more : (c : Cell) (rest : List Cell) → Later c.run rest → more_of c rest ≡ 0
+unfolding Later
+none_more c [] l = refl
+none_more c (d ∷ rest) l = ap (λ (t : Bool). cond t (suc (more_of d rest)) 0) (test_other d.run c.run (λ e. omega (arith, l, e)))
+
+more_is : (c : Cell) (os : List ℕ) (id : Option ℕ) (run : ℕ) (bs : List ℕ) (rest : List Cell) → c.run ≡ run → length os ≡ length bs → Later run rest →
+    more_of c (run_cells os id run bs ++ rest) ≡ length (run_cells os id run bs)
+more_is c [] id run [] rest e h l = none_more c rest (subst (λ (n : ℕ). Later n rest) (sym e) l)
+more_is c [] id run (b ∷ bs) rest e h l = absurd (omega arith)
+more_is c (o ∷ os) id run [] rest e h l = absurd (omega arith)
+more_is c (o ∷ os) id run (b ∷ bs) rest e h l =
+    ap (λ (t : Bool). cond t (suc (more_of (made o id run b) (run_cells os id run bs ++ rest))) 0) (test_same run c.run (sym e))
+    ∙ ap suc (more_is (made o id run b) os id run bs rest refl (omega arith) l)
+
+one_run : (os : List ℕ) (id : Option ℕ) (run : ℕ) (bs : List ℕ) (rest : List Cell) → 0 < length bs → length os ≡ length bs → Later run rest →
+    length (run_cells os id run bs) ≡ run_length (run_cells os id run bs ++ rest)
+one_run os id run [] rest s h l = absurd (omega arith)
+one_run [] id run (b ∷ bs) rest s h l = absurd (omega arith)
+one_run (o ∷ os) id run (b ∷ bs) rest s h l = ap suc (sym (more_is (made o id run b) os id run bs rest refl (omega arith) l))
+
+first_later : (n : ℕ) (os : List ℕ) (id : Option ℕ) (run : ℕ) (bs : List ℕ) (rest : List Cell) → 0 < length bs → length os ≡ length bs → n < run →
+    Later n (run_cells os id run bs ++ rest)
+unfolding Later
+first_later n os id run [] rest s h l = absurd (omega arith)
+first_later n [] id run (b ∷ bs) rest s h l = absurd (omega arith)
+first_later n (o ∷ os) id run (b ∷ bs) rest s h l = l
+
+take_front : (xs ys : List Cell) → take (length xs) (xs ++ ys) ≡ xs
+take_front [] ys = refl
+take_front (x ∷ xs) ys = ap (λ (l : List Cell). x ∷ l) (take_front xs ys)
+
+-- a first run, and what comes after it
+module _ (xs ys : List Cell) (e : length xs ≡ run_length (xs ++ ys)) (some : 0 < length (xs ++ ys)) where
+  pub run_then : runs_of (xs ++ ys) ≡ xs ∷ runs_of ys
+  run_then =
+      cut_at (xs ++ ys) (length xs) e some ∙ ap (λ (l : List Cell). l ∷ runs_of (drop (length xs) (xs ++ ys))) (take_front xs ys)
+      ∙ ap (λ (l : List Cell). xs ∷ runs_of l) (drop-append_seam xs ys)
+
+  pub run_at : (n : ℕ) → RisesFrom n (xs ++ ys) → IsRunFrom n xs × RisesFrom (end_of xs) ys
+  run_at n r =
+      subst (λ (l : List Cell). IsRunFrom n xs × RisesFrom (end_of xs) l) (drop-append_seam xs ys)
+      (subst (λ (l : List Cell). IsRunFrom n l × RisesFrom (end_of l) (drop (length xs) (xs ++ ys))) (take_front xs ys)
+      (first_at (xs ++ ys) (length xs) n e some r))
+
+module _ (offsets bytes : List ℕ) (places : length offsets ≡ 16) (sized : length bytes ≡ 16) where
+  part_places : (p : Part) → p.end ≤ 15 → length (drop p.from (take p.end offsets)) ≡ p.end - p.from
+  part_places p h =
+      let s = length-take-le p.end offsets (omega arith) in
+      length-drop p.from (take p.end offsets) ∙ ap (λ (n : ℕ). n - p.from) s
+
+  part_sized : (p : Part) → p.end ≤ 15 → length (drop p.from (take p.end bytes)) ≡ p.end - p.from
+  part_sized p h =
+      let s = length-take-le p.end bytes (omega arith) in
+      length-drop p.from (take p.end bytes) ∙ ap (λ (n : ℕ). n - p.from) s
+
+  pub part_length : (p : Part) → p.end ≤ 15 → length (part_cells offsets bytes p) ≡ p.end - p.from
+  part_length p h =
+      let a = part_places p h in
+      let b = part_sized p h in
+      cells_length (drop p.from (take p.end offsets)) p.source p.run (drop p.from (take p.end bytes)) (omega arith) ∙ b
+
+  later_parts : (n next end : ℕ) (parts : List Part) → end ≤ 15 → AreParts (n + 1) next end parts → Later n (cells_of_parts offsets bytes parts)
+  unfolding Later
+  later_parts n next end [] h a = tt
+  later_parts n next end (p ∷ parts) h a =
+      let e = a.2 in
+      let i = a.1 in
+      let j = a.0 in
+      let x = part_places p (omega arith) in
+      let y = part_sized p (omega arith) in
+      first_later n (drop p.from (take p.end offsets)) p.source p.run (drop p.from (take p.end bytes)) (cells_of_parts offsets bytes parts)
+      (omega arith) (omega arith) (omega arith)
+
+  pub part_run : (low next end : ℕ) (p : Part) (parts : List Part) → end ≤ 15 → AreParts low next end (p ∷ parts) →
+      length (part_cells offsets bytes p) ≡ run_length (part_cells offsets bytes p ++ cells_of_parts offsets bytes parts)
+  part_run low next end p parts h a =
+      let e = a.2 in
+      let i = a.1 in
+      let x = part_places p (omega arith) in
+      let y = part_sized p (omega arith) in
+      one_run (drop p.from (take p.end offsets)) p.source p.run (drop p.from (take p.end bytes)) (cells_of_parts offsets bytes parts)
+      (omega arith) (omega arith) (later_parts p.run next end parts h a.3)
+
+pub parts_at : (items slice : List Part) (i : ℕ) (p : Part) → slice ≡ items → i < length slice → p ≡ get_or slice i p → drop i items ≡ p ∷ drop (i + 1) items
+parts_at items slice i p e h k =
+    drop_more items i p (let l = ap length e in omega arith)
+    ∙ ap (λ (q : Part). q ∷ drop (i + 1) items) (ap (λ (l : List Part). get_or l i p) (sym e) ∙ sym k)
+
+-- a part of a frame, before these that are left
+pub record Next (split : SplitFrame) (i : ℕ) (p : Part) : Type 0 where
+  pub own : id_of (part_cells split.offsets split.bytes p) ≡ p.source
+  pub some : 0 < length (part_cells split.offsets split.bytes p)
+  pub few : length (part_cells split.offsets split.bytes p) ≤ 15
+  pub count : length (part_cells split.offsets split.bytes p) ≡ p.end - p.from
+  pub total : length (cells_of_parts split.offsets split.bytes (drop i split.parts.items)) ≡
+      length (part_cells split.offsets split.bytes p) + length (cells_of_parts split.offsets split.bytes (drop (i + 1) split.parts.items))
+  pub cut : runs_of (cells_of_parts split.offsets split.bytes (drop i split.parts.items)) ≡
+      part_cells split.offsets split.bytes p ∷ runs_of (cells_of_parts split.offsets split.bytes (drop (i + 1) split.parts.items))
+  pub rises : (n : ℕ) → RisesFrom n (cells_of_parts split.offsets split.bytes (drop i split.parts.items)) →
+      IsRunFrom n (part_cells split.offsets split.bytes p)
+      × RisesFrom (end_of (part_cells split.offsets split.bytes p)) (cells_of_parts split.offsets split.bytes (drop (i + 1) split.parts.items))
+  pub left : AreParts (p.run + 1) 8 15 (drop (i + 1) split.parts.items)
+
+pub next : (split : SplitFrame) (i low : ℕ) (p : Part) → drop i split.parts.items ≡ p ∷ drop (i + 1) split.parts.items →
+    AreParts low 8 15 (drop i split.parts.items) → Next split i p
+next split i low p at left =
+    let xs = part_cells split.offsets split.bytes p in
+    let more = drop (i + 1) split.parts.items in
+    let ys = cells_of_parts split.offsets split.bytes more in
+    let are : AreParts low 8 15 (p ∷ more) = subst (λ (l : List Part). AreParts low 8 15 l) at left in
+    let places = part_places split.offsets split.bytes split.places split.sized p are.2 in
+    let sized = part_sized split.offsets split.bytes split.places split.sized p are.2 in
+    let filled : p.from < p.end = are.1 in
+    let within : p.end ≤ 15 = are.2 in
+    let long : length xs ≡ p.end - p.from = part_length split.offsets split.bytes split.places split.sized p are.2 in
+    let is : cells_of_parts split.offsets split.bytes (drop i split.parts.items) ≡ xs ++ ys = ap (cells_of_parts split.offsets split.bytes) at in
+    let sum : length (xs ++ ys) ≡ length xs + length ys = length-append xs ys in
+    let one : length xs ≡ run_length (xs ++ ys) = part_run split.offsets split.bytes split.places split.sized low 8 15 p more (omega arith) are in
+    let some : 0 < length (xs ++ ys) = omega arith in
+    record {
+      own = cells_id (drop p.from (take p.end split.offsets)) p.source p.run (drop p.from (take p.end split.bytes)) (omega arith) (omega arith);
+      some = omega arith;
+      few = omega arith;
+      count = long;
+      total = ap length is ∙ sum;
+      cut = ap runs_of is ∙ run_then xs ys one some;
+      rises = λ n r. run_at xs ys one some n (subst (λ (l : List Cell). RisesFrom n l) is r);
+      left = are.3;
+    }
+
+pub none_left : (split : SplitFrame) (i : ℕ) → length split.parts.items ≤ i → length (cells_of_parts split.offsets split.bytes (drop i split.parts.items)) ≡ 0
+none_left split i h = ap (λ (l : List Part). length (cells_of_parts split.offsets split.bytes l)) (drop_all i split.parts.items h)

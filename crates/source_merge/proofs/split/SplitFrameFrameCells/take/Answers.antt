@@ -1,0 +1,184 @@
+use Rattle.std.proofs.Common.{append-nil, append_assoc, ◌≡◌, ◌+◌, ◌*◌, ◌^◌, ◌<◌, ◌≤◌, List, [], ◌∷◌, ◌++◌, length, drop, refl, sym, ◌∙◌, ap, subst, arith, Some, None}
+use Rattle.arrayvec.specs.ArrayVec.{array_vec_len}
+use Rattle.trace_values.specs.declared.cell.Cell.{Cell}
+use Rattle.source_events.specs.Runs.{IsRunFrom, id_of, runs_of}
+use Rattle.source_events.specs.Fitting.{PacketFits}
+use Rattle.source_events.specs.Report.{Mapped}
+use Rattle.source_events.specs.declared.packet.Packet.{Packet}
+use Rattle.source_events.proofs.Least.{AreSound}
+use Rattle.source_machine.specs.Machine.{Stands, has_locked, held_of, is_live, reading_of, skipped_by}
+use Rattle.source_machine.specs.MachineLaws as laws
+use Rattle.source_merge.specs.Counting.{HasBytes}
+use Rattle.source_merge.specs.Routing.{mapped_of, AreDistinct, Fed}
+use Rattle.source_merge.specs.Run.{part_of}
+use Rattle.source_merge.specs.Split.{cells_of_parts, part_cells, split_cells}
+use Rattle.source_merge.proofs.ByParts.{TookBy}
+use Rattle.source_merge.proofs.Fits.{none_fit}
+use Rattle.source_merge.proofs.Framing.{done_all, took_as, rest_in_order, filled_none, filled_more, fed_all, fed_stopped}
+use Rattle.source_merge.proofs.Parts.{next, none_left, parts_at}
+use Rattle.source_merge.proofs.Slots.{room_more}
+use Rattle.source_merge.proofs.Taking.{lawful, sound}
+use Rattle.source_merge.proofs.split.SplitFrameFrameCells.take.Goals as goal
+
+pub loop-part-init : goal.loop-part-init
+loop-part-init c = record {
+  done = [];
+  parts = refl;
+  low = 0;
+  left = c.requires.suits;
+  same = refl;
+  live = c.requires.live;
+  size = omega arith;
+  room = λ n r. room_more held_of skipped_by n _ c.args.slots.now (omega arith) r;
+  events = (let e = ap length c.requires.empty in omega arith);
+  fits = none_fit PacketFits c.args.out.now.items c.requires.empty;
+  counted = λ whole runs h. subst (λ (l : List (List Cell)). HasBytes c.args.counts.now whole l) (sym (append-nil runs)) h;
+  count = omega arith;
+  fed = λ runs n d a b r. filled_none Stands (mapped_of reading_of c.args.slots.now) runs n c.args.slots.now (split_cells c.args.self.now) c.args.out.now.items c.requires.empty r a;
+}
+
+pub take_run-requires-clause-own : goal.take_run-requires-clause-own
+take_run-requires-clause-own c =
+    let i = c.loop-part.invariant in
+    let split = c.args.self.now in
+    let p = c.part-item.result in
+    let x = next split c.loop-part.part-index i.low p (parts_at split.parts.items c.as_slice-part-items.result.now c.loop-part.part-index p c.as_slice-part-items.ensures.value c.loop-part-test.true c.part-item.is) i.left in
+    ap id_of c.run_of-run.ensures ∙ x.own
+
+pub take_run-requires-clause-some : goal.take_run-requires-clause-some
+take_run-requires-clause-some c =
+    let i = c.loop-part.invariant in
+    let split = c.args.self.now in
+    let p = c.part-item.result in
+    let x = next split c.loop-part.part-index i.low p (parts_at split.parts.items c.as_slice-part-items.result.now c.loop-part.part-index p c.as_slice-part-items.ensures.value c.loop-part-test.true c.part-item.is) i.left in
+    subst (λ (l : List Cell). 0 < length l) (sym c.run_of-run.ensures) x.some
+
+pub take_run-requires-clause-room : goal.take_run-requires-clause-room
+take_run-requires-clause-room c =
+    room_more held_of skipped_by _ (2 ^ 59) c.loop-part.slots (let s = c.requires.size in omega arith) (c.loop-part.invariant.room (2 ^ 58) c.requires.room)
+
+pub loop-part-preserved : goal.loop-part-preserved
+loop-part-preserved c =
+    let i = c.loop-part.invariant in
+    let split = c.args.self.now in
+    let p = c.part-item.result in
+    let x = next split c.loop-part.part-index i.low p (parts_at split.parts.items c.as_slice-part-items.result.now c.loop-part.part-index p c.as_slice-part-items.ensures.value c.loop-part-test.true c.part-item.is) i.left in
+    let xs = part_cells split.offsets split.bytes p in
+    let ys = cells_of_parts split.offsets split.bytes (drop (c.loop-part.part-index + 1) split.parts.items) in
+    let rest = cells_of_parts split.offsets split.bytes (drop c.loop-part.part-index split.parts.items) in
+    let whole_run : length (part_of c.run_of-run.result) ≡ length xs = ap length c.run_of-run.ensures in
+    let total = x.total in
+    record {
+      done = i.done ++ xs ∷ [];
+      parts = i.parts ∙ ap (λ (l : List (List Cell)). i.done ++ l) x.cut ∙ sym (append_assoc i.done (xs ∷ []) (runs_of ys));
+      low = p.run + 1;
+      left = x.left;
+      same = c.take_run.ensures.same ∙ i.same;
+      live = c.take_run.ensures.live c.in_default.is;
+      size = (let s = i.size in omega arith);
+      room = λ n r. room_more held_of skipped_by _ _ c.take_run.new.slots (let s = i.size in let w = whole_run in omega arith) (c.take_run.ensures.room _ (i.room n r));
+      events =
+          (let e = i.events in
+          let f : array_vec_len c.take_run.new.out ≤ array_vec_len c.loop-part.out + 2 * length (part_of c.run_of-run.result) = c.take_run.ensures.events in
+          let s = i.size in let w = whole_run in omega arith);
+      fits = c.take_run.ensures.fits i.fits;
+      counted = λ whole runs h.
+          subst (λ (l : List (List Cell)). HasBytes c.add_run.new.self whole l) (append_assoc runs i.done (xs ∷ []))
+          (c.add_run.ensures.counted whole (runs ++ i.done) xs x.own x.count (i.counted whole runs h));
+      count = (let a = i.count in let b = c.add_run.ensures.more in let s = i.size in let k = x.count in omega arith);
+      fed = λ runs n d a b r.
+          let f = i.fed runs n d a b r in
+          let one = x.rises f.at f.rises in
+          filled_more Stands (mapped_of reading_of c.args.slots.now) runs n c.loop-part.slots c.take_run.new.slots i.done rest xs ys c.loop-part.out.items c.take_run.new.out.items f one.0 one.1
+          (took_as Stands (mapped_of reading_of c.loop-part.slots) (mapped_of reading_of c.args.slots.now) c.take_run.new.slots (runs ++ i.done) f.at xs c.loop-part.out.items c.take_run.new.out.items _ None i.same c.in_default.is
+          (subst (λ (l : List Cell). TookBy Stands (mapped_of reading_of c.loop-part.slots) c.take_run.new.slots (runs ++ i.done) f.at l c.loop-part.out.items c.take_run.new.out.items c.take_run.result) c.run_of-run.ensures
+          (c.take_run.ensures.took (runs ++ i.done) f.at (subst (λ (z : List (Mapped Packet)). AreDistinct z) (sym i.same) d) f.list
+          (subst (λ (l : List Cell). IsRunFrom f.at l) (sym c.run_of-run.ensures) one.0))));
+    }
+
+pub returns-in-Some-clause-room : goal.returns-in-Some-clause-room
+returns-in-Some-clause-room c = λ n r.
+    let i = c.loop-part.invariant in
+    let split = c.args.self.now in
+    let p = c.part-item.result in
+    let x = next split c.loop-part.part-index i.low p (parts_at split.parts.items c.as_slice-part-items.result.now c.loop-part.part-index p c.as_slice-part-items.ensures.value c.loop-part-test.true c.part-item.is) i.left in
+    let xs = part_cells split.offsets split.bytes p in
+    let whole_run : length (part_of c.run_of-run.result) ≡ length xs = ap length c.run_of-run.ensures in
+    let total = x.total in
+    room_more held_of skipped_by _ _ c.take_run.new.slots (let s = i.size in let w = whole_run in omega arith) (c.take_run.ensures.room _ (i.room n r))
+
+pub returns-in-Some-clause-events : goal.returns-in-Some-clause-events
+returns-in-Some-clause-events c =
+    let i = c.loop-part.invariant in
+    let split = c.args.self.now in
+    let p = c.part-item.result in
+    let x = next split c.loop-part.part-index i.low p (parts_at split.parts.items c.as_slice-part-items.result.now c.loop-part.part-index p c.as_slice-part-items.ensures.value c.loop-part-test.true c.part-item.is) i.left in
+    let xs = part_cells split.offsets split.bytes p in
+    let whole_run : length (part_of c.run_of-run.result) ≡ length xs = ap length c.run_of-run.ensures in
+    let total = x.total in
+    let f : array_vec_len c.take_run.new.out ≤ array_vec_len c.loop-part.out + 2 * length (part_of c.run_of-run.result) = c.take_run.ensures.events in
+    (let e = i.events in let s = i.size in let w = whole_run in omega arith)
+
+pub returns-in-Some-clause-fed : goal.returns-in-Some-clause-fed
+returns-in-Some-clause-fed c = λ runs n d a b r.
+    let i = c.loop-part.invariant in
+    let split = c.args.self.now in
+    let p = c.part-item.result in
+    let x = next split c.loop-part.part-index i.low p (parts_at split.parts.items c.as_slice-part-items.result.now c.loop-part.part-index p c.as_slice-part-items.ensures.value c.loop-part-test.true c.part-item.is) i.left in
+    let xs = part_cells split.offsets split.bytes p in
+    let ys = cells_of_parts split.offsets split.bytes (drop (c.loop-part.part-index + 1) split.parts.items) in
+    let rest = cells_of_parts split.offsets split.bytes (drop c.loop-part.part-index split.parts.items) in
+    let f = i.fed runs n d a b r in
+    let one = x.rises f.at f.rises in
+    let took = took_as Stands (mapped_of reading_of c.loop-part.slots) (mapped_of reading_of c.args.slots.now) c.take_run.new.slots (runs ++ i.done) f.at xs c.loop-part.out.items c.take_run.new.out.items _ (Some c.in-Some.stop) i.same c.in-Some.is
+    (subst (λ (l : List Cell). TookBy Stands (mapped_of reading_of c.loop-part.slots) c.take_run.new.slots (runs ++ i.done) f.at l c.loop-part.out.items c.take_run.new.out.items c.take_run.result) c.run_of-run.ensures
+    (c.take_run.ensures.took (runs ++ i.done) f.at (subst (λ (z : List (Mapped Packet)). AreDistinct z) (sym i.same) d) f.list
+    (subst (λ (l : List Cell). IsRunFrom f.at l) (sym c.run_of-run.ensures) one.0))) in
+    subst (λ (l : List (List Cell)). Fed Stands (mapped_of reading_of c.args.slots.now) c.take_run.new.slots runs l c.take_run.new.out.items (Some c.in-Some.stop))
+    (sym (i.parts ∙ ap (λ (l : List (List Cell)). i.done ++ l) x.cut))
+    (fed_stopped Stands (mapped_of reading_of c.args.slots.now) runs n (lawful reading_of Stands is_live has_locked held_of skipped_by laws.shows laws.begins laws.settles laws.rises c.args.slots.now) c.loop-part.slots c.take_run.new.slots i.done (runs_of ys) rest xs c.loop-part.out.items c.take_run.new.out.items c.in-Some.stop
+    (sound reading_of Stands is_live has_locked held_of skipped_by laws.shows laws.begins laws.settles laws.rises c.args.slots.now runs c.requires.live a) b f one.0 (rest_in_order ys _ one.1) took.given took.stops)
+
+pub returns-in-Some-clause-fits : goal.returns-in-Some-clause-fits
+returns-in-Some-clause-fits c = c.take_run.ensures.fits c.loop-part.invariant.fits
+
+pub returns-in-Some-clause-count : goal.returns-in-Some-clause-count
+returns-in-Some-clause-count c =
+    let i = c.loop-part.invariant in
+    let split = c.args.self.now in
+    let p = c.part-item.result in
+    let x = next split c.loop-part.part-index i.low p (parts_at split.parts.items c.as_slice-part-items.result.now c.loop-part.part-index p c.as_slice-part-items.ensures.value c.loop-part-test.true c.part-item.is) i.left in
+    let total = x.total in
+    (let a = i.count in let b = c.add_run.ensures.more in let s = i.size in let k = x.count in omega arith)
+
+pub returns-clause-room : goal.returns-clause-room
+returns-clause-room c = λ n r.
+    let i = c.loop-part.invariant in
+    room_more held_of skipped_by _ _ c.loop-part.slots (let s = i.size in omega arith) (i.room n r)
+
+pub returns-clause-fed : goal.returns-clause-fed
+returns-clause-fed c = λ runs n d a b r.
+    let i = c.loop-part.invariant in
+    let split = c.args.self.now in
+    let rest = cells_of_parts split.offsets split.bytes (drop c.loop-part.part-index split.parts.items) in
+    let f = i.fed runs n d a b r in
+    let none = none_left split c.loop-part.part-index (let e = ap length c.as_slice-part-items.ensures.value in let t = c.loop-part-test.false in omega arith) in
+    subst (λ (l : List (List Cell)). Fed Stands (mapped_of reading_of c.args.slots.now) c.loop-part.slots runs l c.loop-part.out.items None)
+    (sym (done_all (runs_of (split_cells split)) i.done rest i.parts none))
+    (fed_all Stands (mapped_of reading_of c.args.slots.now) runs n c.loop-part.slots i.done rest c.loop-part.out.items (sound reading_of Stands is_live has_locked held_of skipped_by laws.shows laws.begins laws.settles laws.rises c.args.slots.now runs c.requires.live a) f
+    (subst (λ (z : List (Mapped Packet)). AreSound z (runs ++ i.done)) i.same (sound reading_of Stands is_live has_locked held_of skipped_by laws.shows laws.begins laws.settles laws.rises c.loop-part.slots (runs ++ i.done) i.live f.list)))
+
+pub returns-clause-fits : goal.returns-clause-fits
+returns-clause-fits c = c.loop-part.invariant.fits
+
+pub returns-clause-counted : goal.returns-clause-counted
+returns-clause-counted c = λ whole runs k h.
+    let i = c.loop-part.invariant in
+    let split = c.args.self.now in
+    let rest = cells_of_parts split.offsets split.bytes (drop c.loop-part.part-index split.parts.items) in
+    let none = none_left split c.loop-part.part-index (let e = ap length c.as_slice-part-items.ensures.value in let t = c.loop-part-test.false in omega arith) in
+    subst (λ (l : List (List Cell)). HasBytes c.loop-part.counts whole (runs ++ l))
+    (sym (done_all (runs_of (split_cells split)) i.done rest i.parts none)) (i.counted whole runs h)
+
+pub returns-clause-count : goal.returns-clause-count
+returns-clause-count c = (let a = c.loop-part.invariant.count in omega arith)
