@@ -11,8 +11,6 @@ pub mod rows;
 mod show;
 mod source_clocks;
 mod stopping;
-#[cfg(test)]
-mod tests;
 
 pub use check::{Check, SUMMARY_ROOM};
 pub use list_plan::ListPlan;

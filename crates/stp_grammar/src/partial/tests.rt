@@ -3,16 +3,7 @@
 ghost use Rattle.std.specs.Prelude.{◌<◌};
 
 use super::*;
-use crate::packet::Width;
 use std::process::Abort;
-
-fn datum(width: Width, marked: bool, stamped: bool) -> Row {
-    Row::Datum {
-        width,
-        marked,
-        stamped,
-    }
-}
 
 /// The digit that a character 0 to 9 or A to F is.
 fn digit(code: u8) -> u8
@@ -38,127 +29,6 @@ fn read(rt: &impl Abort, order: Order, text: &[u8]) -> Next<Partial, StpPacket> 
         assert_eq!(rt; partial.len(), at as u64 + 1);
     }
     partial.with_nibble(order, digit(text[last]))
-}
-
-/// The packet of a row with this payload, and with this timestamp of size 2 where it has one.
-fn packet(row: Row, payload: u64, word: u64) -> StpPacket {
-    if row.is_stamped() {
-        StpPacket::Stamped {
-            row,
-            payload,
-            size: 2,
-            word,
-        }
-    } else {
-        StpPacket::Plain { row, payload }
-    }
-}
-
-#[test]
-fn reads_each_row_in_both_orders(rt: HostRuntime) {
-    use Width::{Eight, Four, Sixteen, SixtyFour, ThirtyTwo};
-
-    // The payload with the most significant nibble first, and with the least significant one first. A timestamp's word
-    // is A B.
-    let rows: [(&[u8], Row, u64, u64); 35] = [
-        (b"0", Row::Null, 0, 0),
-        (b"141", Row::Master8, 0x41, 0x14),
-        (b"241", Row::MasterError, 0x41, 0x14),
-        (b"341", Row::Channel8, 0x41, 0x14),
-        (b"441", datum(Eight, false, false), 0x41, 0x14),
-        (b"51234", datum(Sixteen, false, false), 0x1234, 0x4321),
-        (
-            b"612345678",
-            datum(ThirtyTwo, false, false),
-            0x1234_5678,
-            0x8765_4321,
-        ),
-        (
-            b"7123456789ABCDEF0",
-            datum(SixtyFour, false, false),
-            0x1234_5678_9ABC_DEF0,
-            0x0FED_CBA9_8765_4321,
-        ),
-        (b"8412AB", datum(Eight, true, true), 0x41, 0x14),
-        (b"912342AB", datum(Sixteen, true, true), 0x1234, 0x4321),
-        (
-            b"A123456782AB",
-            datum(ThirtyTwo, true, true),
-            0x1234_5678,
-            0x8765_4321,
-        ),
-        (
-            b"B123456789ABCDEF02AB",
-            datum(SixtyFour, true, true),
-            0x1234_5678_9ABC_DEF0,
-            0x0FED_CBA9_8765_4321,
-        ),
-        (b"C7", datum(Four, false, false), 7, 7),
-        (b"D72AB", datum(Four, true, true), 7, 7),
-        (b"E2AB", Row::Flag { stamped: true }, 0, 0),
-        (b"F11234", Row::Master16, 0x1234, 0x4321),
-        (b"F241", Row::GlobalError, 0x41, 0x14),
-        (b"F31234", Row::Channel16, 0x1234, 0x4321),
-        (b"F4412AB", datum(Eight, false, true), 0x41, 0x14),
-        (b"F512342AB", datum(Sixteen, false, true), 0x1234, 0x4321),
-        (
-            b"F6123456782AB",
-            datum(ThirtyTwo, false, true),
-            0x1234_5678,
-            0x8765_4321,
-        ),
-        (
-            b"F7123456789ABCDEF02AB",
-            datum(SixtyFour, false, true),
-            0x1234_5678_9ABC_DEF0,
-            0x0FED_CBA9_8765_4321,
-        ),
-        (b"F841", datum(Eight, true, false), 0x41, 0x14),
-        (b"F91234", datum(Sixteen, true, false), 0x1234, 0x4321),
-        (
-            b"FA12345678",
-            datum(ThirtyTwo, true, false),
-            0x1234_5678,
-            0x8765_4321,
-        ),
-        (
-            b"FB123456789ABCDEF0",
-            datum(SixtyFour, true, false),
-            0x1234_5678_9ABC_DEF0,
-            0x0FED_CBA9_8765_4321,
-        ),
-        (b"FC72AB", datum(Four, false, true), 7, 7),
-        (b"FD7", datum(Four, true, false), 7, 7),
-        (b"FE", Row::Flag { stamped: false }, 0, 0),
-        (b"F007", Row::Version, 7, 7),
-        (b"F012AB", Row::NullStamp, 0, 0),
-        (b"F0641", Row::Trigger { stamped: false }, 0x41, 0x14),
-        (b"F07412AB", Row::Trigger { stamped: true }, 0x41, 0x14),
-        (
-            b"F0812345678",
-            Row::Frequency { stamped: false },
-            0x1234_5678,
-            0x8765_4321,
-        ),
-        (
-            b"F09123456782AB",
-            Row::Frequency { stamped: true },
-            0x1234_5678,
-            0x8765_4321,
-        ),
-    ];
-    for (text, row, msn, lsn) in rows {
-        assert_eq!(rt;
-            read(&rt, Order::Msn, text),
-            Next::End(packet(row, msn, 0xAB)),
-            "{row:?}"
-        );
-        assert_eq!(rt;
-            read(&rt, Order::Lsn, text),
-            Next::End(packet(row, lsn, 0xBA)),
-            "{row:?}"
-        );
-    }
 }
 
 #[test]
