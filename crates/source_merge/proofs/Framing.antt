@@ -45,11 +45,13 @@ between_push n k [] run b r = (weaker n k run b r, (let z : end_of run ≤ end_o
   weaker n k (c ∷ cells) l r = ((let a = r.0 in omega arith), r.1)
 between_push n k (d ∷ done) run b r = (b.0, between_push (end_of d) k done run b.1 r)
 
--- the report is over the same sources
-pub took_as : {M V : Type 0} (stands : M → List Placed → Type 0) (old ss : List (Mapped V)) (slots : List (Slot M)) (runs : List (List Cell)) (n : ℕ) (run : List Cell) (mid new : List (Event V)) (o o' : Option Stop) → old ≡ ss → o ≡ o' →
-    TookBy stands old slots runs n run mid new o → TookBy stands ss slots runs n run mid new o'
-took_as {V = V} stands old ss slots runs n run mid new o o' e h t =
-    subst (λ (z : List (Mapped V)). TookBy stands z slots runs n run mid new o') e (subst (λ (z : Option Stop). TookBy stands old slots runs n run mid new z) h t)
+-- the report is over the same sources, and had some events before
+pub took_as : {M V : Type 0} (stands : M → List Placed → Type 0) (old ss : List (Mapped V)) (slots : List (Slot M)) (runs : List (List Cell)) (n : ℕ) (run : List Cell) (mid es : List (Event V)) (o o' : Option Stop) → old ≡ ss → o ≡ o' →
+    TookBy stands old slots runs n run [] es o → TookBy stands ss slots runs n run mid (mid ++ es) o'
+took_as {V = V} stands old ss slots runs n run mid es o o' e h t =
+    let t' = subst (λ (z : List (Mapped V)). TookBy stands z slots runs n run [] es o') e
+    (subst (λ (z : Option Stop). TookBy stands old slots runs n run [] es z) h t) in
+    record { given = ap (λ (l : List (Event V)). mid ++ l) t'.given; list = t'.list; stops = t'.stops }
 
 pub rest_in_order : (cells : List Cell) (n : ℕ) → RisesFrom n cells → InOrder IsRunFrom end_of n (runs_of cells)
 rest_in_order cells n r = runs_in_order (length cells) n cells (let z : length cells ≤ length cells = omega arith in z) r

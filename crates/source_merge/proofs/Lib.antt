@@ -1,3 +1,4 @@
+pub mod Givings
 pub mod Plainly
 pub mod DataCells
 pub mod Filling

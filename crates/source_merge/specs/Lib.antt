@@ -8,6 +8,9 @@ pub mod RoutingLaws
 pub mod Mapping
 pub mod Counting
 pub mod Answering
+pub mod Giving
+pub mod Receiver
+pub mod ReceiverLaws
 pub mod Stepping
 pub mod Ending
 pub mod Bare

@@ -2,10 +2,12 @@
 
 ghost use Rattle.trace_values.specs.declared.limits.TheConstants.{PART_ROOM};
 ghost use Rattle.source_merge.specs.declared.run.TheConstants.{FAR};
-ghost use Rattle.std.specs.Prelude.{◌≡◌, ◌+◌, ◌*◌, ◌^◌, ◌<◌, ◌≤◌, ◌++◌, ◌∷◌, [], ℕ, List, length, Some, IfSome};
+ghost use Rattle.std.specs.Prelude.{◌≡◌, ◌+◌, ◌*◌, ◌<◌, ◌≤◌, ◌++◌, ◌∷◌, ℕ, List, length, Some, IfSome};
 ghost use Rattle.arrayvec.specs.ArrayVec.{array_vec_len};
 ghost use Rattle.trace_values.specs.Block.{StopsFor, goes_on_after};
-ghost use Rattle.trace_values.specs.Stream.{StepFits};
+ghost use Rattle.trace_values.specs.Stream.{StepFits, given_by};
+ghost use Rattle.source_events.specs.Merge.{told};
+ghost use Rattle.source_events.specs.Report.{lifted};
 ghost use Rattle.trace_values.specs.declared.step.Step.TheVariants.{Item};
 ghost use Rattle.source_events.specs.Fitting.{AllFit, PacketFits};
 ghost use Rattle.source_machine.specs.Machine.{FinishesStp, held_of, is_live, skipped_by};
@@ -15,8 +17,8 @@ ghost use Rattle.source_merge.specs.Bare.{PieceFed, bare_events, bare_flow, give
 ghost use Rattle.source_merge.specs.Routing.{AllLive, HaveRoom};
 
 use crate::flow::Flow;
-use crate::slot::{EVENTS, Events, Slot, note};
-use source_events::{Packet, Stop};
+use crate::slot::{EVENTS, Events, Slot, event_at};
+use source_events::{Packet, Stop, What};
 use source_machine::SourceMachine;
 use stp_codec::{PacketParts, PacketTaken};
 use trace_values::{Block, SourceId, Step};
@@ -127,6 +129,27 @@ pub fn flow_after(step: &Option<Step<Packet>>) -> Flow
     }
 }
 
+/// Notes what a step at this offset gives.
+#[inline]
+fn note(out: &mut Events, source: SourceId, at: u64, step: Step<Packet>)
+    requires { array_vec_len out.old + 2 ≤ EVENTS }
+    ensures given { out.new.items ≡ out.old.items ++ told (Some source) (lifted (given_by at step)) }
+    ensures few { array_vec_len out.new ≤ array_vec_len out.old + 2 }
+{
+    match step {
+        Step::Quiet | Step::Skipping | Step::Fault(_) => {}
+        Step::Item { half, item } => out.push(event_at(source, at, half, What::Packet(item))),
+        Step::Locked {
+            skipped,
+            half,
+            item,
+        } => {
+            out.push(event_at(source, at, half, What::Locked(skipped)));
+            out.push(event_at(source, at, half, What::Packet(item)));
+        }
+    }
+}
+
 /// Notes what the last answer to a piece of a capture with no formatter gives, which is to the byte at this offset.
 pub fn note_bare(out: &mut Events, at: u64, step: Option<Step<Packet>>)
     requires { array_vec_len out.old + 2 ≤ EVENTS }
@@ -136,7 +159,7 @@ pub fn note_bare(out: &mut Events, at: u64, step: Option<Step<Packet>>)
         AllFit PacketFits out.new.items }
 {
     if let Some(step) = step {
-        let _fault = note(out, bare_source(), at, step);
+        note(out, bare_source(), at, step);
     }
 }
 

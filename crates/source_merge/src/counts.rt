@@ -28,7 +28,7 @@ impl PerSource {
     ghost use Rattle.std.specs.Option.{is_some};
     ghost use Rattle.stp_grammar.specs.declared.item.StpItem.{StpItem};
     ghost use Rattle.source_machine.specs.Seen.{packet_in};
-    ghost use Rattle.std.specs.Prelude.{◌+◌, ◌^◌, ◌≤◌, ◌++◌, ◌∷◌, [], ℕ, List, if◌then◌else◌, ◌==◌, length};
+    ghost use Rattle.std.specs.Prelude.{◌+◌, ◌^◌, ◌≤◌, ◌++◌, ◌∷◌, [], ℕ, List, if◌then◌else◌, ◌==◌};
     ghost use Rattle.source_events.specs.declared.event.Event.{Event};
     ghost use Rattle.source_events.specs.declared.packet.Packet.{Packet};
     ghost use Rattle.std.specs.Prelude.{Some};
@@ -64,18 +64,6 @@ impl PerSource {
     {
         let number: &mut u64 = &mut self.numbers[usize::from(id.number())];
         *number += more;
-    }
-
-    /// Counts the events of sources that are no notices.
-    pub fn add_items(&mut self, events: &[Event<Packet>])
-        requires { total_of self.old + length events.now ≤ COUNT_ROOM }
-        ensures items { (whole : List (List Cell)) (es : List (Event Packet)) → HasItems self.old whole es →
-            HasItems self.new whole (es ++ events.now) }
-        ensures total { total_of self.new ≤ total_of self.old + length events.now }
-    {
-        for event in events {
-            self.add_item(event);
-        }
     }
 
     /// Counts the packet of source 1, `source`, that the last answer to a piece gives, if it gives one.
@@ -116,8 +104,8 @@ impl PerSource {
     }
 
     /// Counts an event of a source that is no notice.
-    #[inline]
-    fn add_item(&mut self, event: &Event<Packet>)
+    #[inline(always)]
+    pub fn add_item(&mut self, event: &Event<Packet>)
         requires { total_of self.old + 1 ≤ COUNT_ROOM }
         ensures items { (whole : List (List Cell)) (es : List (Event Packet)) → HasItems self.old whole es →
             HasItems self.new whole (es ++ event.now ∷ []) }
@@ -142,7 +130,7 @@ pub struct ByteCounts {
 }
 
 impl ByteCounts {
-    ghost use Rattle.std.specs.Prelude.{◌+◌, ◌^◌, ◌<◌, ◌++◌, ◌∷◌, [], ℕ, List, length, get_or};
+    ghost use Rattle.std.specs.Prelude.{◌+◌, ◌^◌, ◌<◌, ◌++◌, ◌∷◌, [], ℕ, List, length};
     ghost use Rattle.trace_values.specs.declared.cell.Cell.{Cell};
     ghost use Rattle.trace_values.specs.Placed.{Placed};
     ghost use Rattle.capture_plan.specs.declared.frames.FramesMode.TheVariants.{Bare};

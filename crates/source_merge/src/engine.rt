@@ -1,6 +1,6 @@
 //! The reading of a capture with all its sources.
 
-ghost use Rattle.std.specs.Prelude.{◌≡◌, ◌+◌, ◌*◌, ◌^◌, ◌≤◌, true};
+ghost use Rattle.std.specs.Prelude.{◌≡◌, ◌+◌, ◌*◌, ◌≤◌, true};
 ghost use Rattle.port_reader.specs.Reader.{is_live as is_port_live, skipped_by as skipped_by_port, tail_of};
 ghost use Rattle.source_events.specs.Plan.{is_sound};
 ghost use Rattle.source_events.specs.declared.tails.TheConstants.{GREATEST_COUNT};
@@ -19,6 +19,7 @@ use crate::flow::{Fed, Flow, flow_of};
 use crate::frame::AnyFrame;
 use crate::mapped::{Slots, slots_of};
 use crate::placed::place_frame;
+use crate::receiver::Receiver;
 use crate::router::find;
 use crate::slot::Events;
 use crate::step::{take_step, take_whole};
@@ -87,6 +88,7 @@ impl Engine {
     ghost use Rattle.source_merge.specs.Answering.{Answers, fault_of, goes_on};
     ghost use Rattle.source_merge.specs.Bare.{bare_events, bare_flow};
     ghost use Rattle.source_merge.specs.Gathered.{IsGathered};
+    ghost use Rattle.source_merge.specs.Giving.{GivesTo};
     ghost use Rattle.source_merge.specs.declared.flow.Flow.TheVariants.{Going};
     ghost use Rattle.source_merge.specs.Engine.{Stands, is_live, next_of, plan_of};
 
@@ -283,6 +285,7 @@ impl Engine {
                 cells: self.cells.as_slice(),
             },
             out,
+            &mut (),
         );
         self.count += taken.bytes as u64;
         self.next = at + taken.bytes as u64;
@@ -312,34 +315,75 @@ impl Engine {
             FedAs (Answers (plan_of self.old) [] Going) (Answers (plan_of self.old) out.new.items result.flow)
             u at (take result.bytes piece.now) }
     {
-        if self.port.is_between() {
-            if let Some(frame) = place_frame(at, piece) {
-                let flow = self.feed_gathered(at, &frame, out);
-                return Fed {
-                    bytes: frame.size(),
-                    flow,
-                };
-            }
+        match self.feed_frame(at, piece, out, &mut ()) {
+            Some(fed) => fed,
+            None => self.feed_step(at, piece, out),
         }
-        self.feed_step(at, piece, out)
+    }
+
+    /// Takes the whole frame that a piece begins with, the first byte of which is at this offset, with half
+    /// synchronisations between its halfwords or without, and gives its events to what takes them. It leaves what
+    /// `feed_block` does. None where no whole frame is there, or no frame can begin: then it takes nothing.
+    ///
+    /// The engine is live. The piece's first offset is at least `next()`, and its last one at most `GREATEST_OFFSET`.
+    #[inline(always)]
+    pub fn feed_frame<V: Receiver>(
+        &mut self,
+        at: u64,
+        piece: &[u8],
+        out: &mut V,
+        to: &mut V::To,
+    ) -> Option<Fed>
+        requires live { is_live self.old ≡ true }
+        requires space { 30 ≤ V.room (out.old, to.old) }
+        requires offsets { (next_of self.old ≤ at) × (at + length piece.now ≤ GREATEST_OFFSET + 1) }
+        ensures none { result ≡ None → (self.new ≡ self.old) × (out.new ≡ out.old) × (to.new ≡ to.old) }
+        ensures same { plan_of self.new ≡ plan_of self.old }
+        ensures bytes { IfSome result (λ fed. (0 < fed.bytes) × (fed.bytes ≤ length piece.now)) }
+        ensures next { IfSome result (λ fed. next_of self.new ≡ at + fed.bytes) }
+        ensures live { IfSome result (λ fed. is_live self.new ≡ goes_on fed.flow) }
+        ensures space { V.room (out.old, to.old) ≤ V.room (out.new, to.new) + 30 }
+        ensures list { (u : List Placed) → Stands self.old u →
+            IfSome result (λ fed. Stands self.new (u ++ placed_from at (take fed.bytes piece.now))) }
+        ensures fed { IfSome result (λ fed. GivesTo V.gets (out.old, to.old) (out.new, to.new) (λ given.
+            (u : List Placed) → Stands self.old u → let plan = plan_of self.old in
+            FedAs (Answers plan [] Going) (Answers plan given fed.flow) u at (take fed.bytes piece.now))) }
+    {
+        if !self.port.is_between() {
+            return None;
+        }
+        let Some(frame) = place_frame(at, piece) else {
+            return None;
+        };
+        let flow = self.feed_gathered(at, &frame, out, to);
+        Some(Fed {
+            bytes: frame.size(),
+            flow,
+        })
     }
 
     /// Takes a whole frame, the first byte of which is at this offset.
-    fn feed_gathered(&mut self, at: u64, frame: &PlacedFrame, out: &mut Events) -> Flow
+    fn feed_gathered<V: Receiver>(
+        &mut self,
+        at: u64,
+        frame: &PlacedFrame,
+        out: &mut V,
+        to: &mut V::To,
+    ) -> Flow
         requires live { is_live self.old ≡ true }
-        requires empty { out.old.items ≡ [] }
+        requires space { 30 ≤ V.room (out.old, to.old) }
         requires between { IsBetween self.old.port }
         requires proper { IsProperFrame frame.now.bytes }
         requires offsets { (next_of self.old ≤ at) × (at + (FRAME_BYTES + 2 * frame.now.halves) ≤ GREATEST_OFFSET + 1) }
         ensures same { plan_of self.new ≡ plan_of self.old }
         ensures next { next_of self.new ≡ at + (FRAME_BYTES + 2 * frame.now.halves) }
         ensures live { is_live self.new ≡ goes_on result }
-        ensures few { array_vec_len out.new ≤ 30 }
-        ensures fits { AllFit PacketFits out.new.items }
+        ensures space { V.room (out.old, to.old) ≤ V.room (out.new, to.new) + 30 }
         ensures list { (u : List Placed) (w : List ℕ) → Stands self.old u → IsGathered at w frame.now →
             Stands self.new (u ++ placed_from at w) }
-        ensures fed { (u : List Placed) (w : List ℕ) → Stands self.old u → IsGathered at w frame.now →
-            FedAs (Answers (plan_of self.old) [] Going) (Answers (plan_of self.old) out.new.items result) u at w }
+        ensures fed { GivesTo V.gets (out.old, to.old) (out.new, to.new) (λ given.
+            (u : List Placed) (w : List ℕ) → Stands self.old u → IsGathered at w frame.now →
+            FedAs (Answers (plan_of self.old) [] Going) (Answers (plan_of self.old) given result) u at w) }
     {
         self.counters.port.halves += frame.halves as u64;
         let bytes = frame.size() as u64;
@@ -350,6 +394,7 @@ impl Engine {
             &self.port.id(),
             frame,
             out,
+            to,
         );
         self.port.pass_frame(taken.after);
         self.count += bytes;

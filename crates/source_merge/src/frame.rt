@@ -1,26 +1,27 @@
 //! The cells of a frame, and how they are taken.
 
 ghost use Rattle.source_merge.specs.declared.slot.TheConstants.{FRAME_ROOM};
-ghost use Rattle.std.specs.Prelude.{◌≡◌, ◌+◌, ◌*◌, ◌^◌, ◌≤◌, ◌++◌, [], ℕ, List, length, None};
+ghost use Rattle.std.specs.Prelude.{◌≡◌, ◌+◌, ◌*◌, ◌≤◌, ◌++◌, ℕ, List, length, None};
 ghost use Rattle.std.specs.Prelude.{IfSome, Some};
 ghost use Rattle.source_merge.specs.Run.{source_of};
 ghost use Rattle.frame_grammar.specs.Frame.{cells, id_after};
 ghost use Rattle.source_merge.specs.Frame.{data_in, suits_data};
-ghost use Rattle.arrayvec.specs.ArrayVec.{array_vec_len};
 ghost use Rattle.trace_values.specs.declared.cell.Cell.{Cell};
 ghost use Rattle.source_events.specs.Runs.{RisesFrom, runs_of};
-ghost use Rattle.source_events.specs.Fitting.{AllFit, PacketFits};
 ghost use Rattle.source_machine.specs.declared.machine.SourceMachine.{SourceMachine};
 ghost use Rattle.source_machine.specs.Machine.{Stands, held_of, is_live, reading_of, skipped_by};
-ghost use Rattle.source_merge.specs.Counting.{HasBytes, bytes_counted};
+ghost use Rattle.source_merge.specs.Counting.{HasBytes, bytes_counted, total_of};
+ghost use Rattle.source_merge.specs.Giving.{Gives};
+ghost use Rattle.trace_values.specs.declared.limits.TheConstants.{COUNT_ROOM};
 ghost use Rattle.source_merge.specs.Routing.{mapped_of, AllLive, AllStand, HaveRoom, AreDistinct, Fed, RunsBetween};
 ghost use Rattle.source_merge.specs.declared.slot.Slot.{Slot};
 
-use crate::counts::ByteCounts;
+use crate::counts::{ByteCounts, PerSource};
 use crate::data::{DATA_BYTES, data_of};
+use crate::receiver::Receiver;
 use crate::router::{find, take_frame, take_own};
 use crate::run::DataRun;
-use crate::slot::{Events, Slot};
+use crate::slot::Slot;
 use frame_grammar::placed::PlacedFrame;
 use source_events::Stop;
 use source_machine::SourceMachine;
@@ -34,27 +35,31 @@ pub trait FrameCells {
     ghost suits: { Self → List (Slot SourceMachine) → Type 0 };
 
     /// Takes the cells, each run to its source, up to a fault, and gives their events.
-    fn take(
+    fn take<V: Receiver>(
         &self,
         slots: &mut [Slot<SourceMachine>],
         counts: &mut ByteCounts,
-        out: &mut Events,
+        items: &mut PerSource,
+        out: &mut V,
+        to: &mut V::To,
     ) -> Option<Stop>
         requires suits { suits self.now slots.old }
         requires size { length (cells self.now) ≤ 15 }
         requires live { AllLive is_live slots.old }
         requires room { HaveRoom held_of skipped_by FRAME_ROOM slots.old }
         requires count { bytes_counted counts.old ≤ FRAME_ROOM }
-        requires empty { out.old.items ≡ [] }
+        requires space { 2 * length (cells self.now) ≤ V.room (out.old, to.old) }
+        requires items { total_of items.old + 2 * length (cells self.now) ≤ COUNT_ROOM }
         ensures same { mapped_of reading_of slots.new ≡ mapped_of reading_of slots.old }
         ensures live { result ≡ None → AllLive is_live slots.new }
         ensures room { (n : ℕ) → HaveRoom held_of skipped_by n slots.old →
             HaveRoom held_of skipped_by (n + 2 * length (cells self.now)) slots.new }
-        ensures events { array_vec_len out.new ≤ 2 * length (cells self.now) }
-        ensures fits { AllFit PacketFits out.new.items }
-        ensures fed { (runs : List (List Cell)) (n : ℕ) → AreDistinct (mapped_of reading_of slots.old) →
+        ensures space { V.room (out.old, to.old) ≤ V.room (out.new, to.new) + 2 * length (cells self.now) }
+        ensures items { total_of items.new ≤ total_of items.old + 2 * length (cells self.now) }
+        ensures fed { Gives V.gets (items.old, (out.old, to.old)) (items.new, (out.new, to.new)) (λ given.
+            (runs : List (List Cell)) (n : ℕ) → AreDistinct (mapped_of reading_of slots.old) →
             AllStand Stands slots.old runs → RunsBetween 0 n runs → RisesFrom n (cells self.now) →
-            Fed Stands (mapped_of reading_of slots.old) slots.new runs (runs_of (cells self.now)) out.new.items result }
+            Fed Stands (mapped_of reading_of slots.old) slots.new runs (runs_of (cells self.now)) given result) }
         ensures counted { (whole runs : List (List Cell)) → result ≡ None → HasBytes counts.old whole runs →
             HasBytes counts.new whole (runs ++ runs_of (cells self.now)) }
         ensures count { bytes_counted counts.new ≤ bytes_counted counts.old + length (cells self.now) };
@@ -74,13 +79,15 @@ impl FrameCells for AnyFrame<'_> {
     ghost suits = { suits_any };
 
     #[inline(always)]
-    fn take(
+    fn take<V: Receiver>(
         &self,
         slots: &mut [Slot<SourceMachine>],
         counts: &mut ByteCounts,
-        out: &mut Events,
+        items: &mut PerSource,
+        out: &mut V,
+        to: &mut V::To,
     ) -> Option<Stop> {
-        take_frame(slots, self.cells, counts, out)
+        take_frame(slots, self.cells, counts, items, out, to)
     }
 }
 
@@ -100,15 +107,17 @@ impl FrameCells for DataFrame<'_> {
     ghost suits = { suits_data };
 
     #[inline(always)]
-    fn take(
+    fn take<V: Receiver>(
         &self,
         slots: &mut [Slot<SourceMachine>],
         counts: &mut ByteCounts,
-        out: &mut Events,
+        items: &mut PerSource,
+        out: &mut V,
+        to: &mut V::To,
     ) -> Option<Stop> {
         let source = self.run.source();
         counts.add_source(source, DATA_BYTES as u64);
-        take_own(slots, self.index, source, &self.run, out)
+        take_own(slots, self.index, source, &self.run, items, out, to)
     }
 }
 

@@ -1,19 +1,22 @@
 //! A mapped source, and a run of its bytes.
 
-ghost use Rattle.std.specs.Prelude.{◌≡◌, ◌+◌, ◌*◌, ◌^◌, ◌<◌, ◌≤◌, ◌++◌, List, length, is_none, true, Some};
-ghost use Rattle.arrayvec.specs.ArrayVec.{array_vec_len};
+ghost use Rattle.std.specs.Prelude.{◌≡◌, ◌+◌, ◌*◌, ◌<◌, ◌≤◌, ◌∷◌, [], List, length, is_none, true, Some, IfSome};
 ghost use Rattle.trace_values.specs.Placed.{Placed};
 ghost use Rattle.trace_values.specs.Block.{given_after};
-ghost use Rattle.trace_values.specs.Stream.{given_by};
+ghost use Rattle.trace_values.specs.Stream.{StepFits, given_by};
 ghost use Rattle.itm_codec.specs.Wholes.{kept_at};
 ghost use Rattle.source_events.specs.Merge.{told};
 ghost use Rattle.source_events.specs.Report.{lifted};
-ghost use Rattle.source_events.specs.Fitting.{AllFit, PacketFits};
+ghost use Rattle.source_events.specs.Fitting.{EventFits, PacketFits};
 ghost use Rattle.source_machine.specs.Seen.{packet_in};
 ghost use Rattle.source_machine.specs.Machine.{Stands, held_of, is_live, reading_of, skipped_by};
+ghost use Rattle.source_merge.specs.Counting.{total_of};
 ghost use Rattle.source_merge.specs.Feeding.{Feeds, IsEarly, step_fault};
+ghost use Rattle.source_merge.specs.Giving.{Given, Gives};
 ghost use Rattle.trace_values.specs.declared.limits.TheConstants.{COUNT_ROOM};
 
+use crate::counts::PerSource;
+use crate::receiver::Receiver;
 use crate::run::Run;
 use arrayvec::ArrayVec;
 use capture_plan::PacketsMode;
@@ -51,23 +54,44 @@ impl Default for Slot<SourceMachine> {
     }
 }
 
-/// Notes what a step at this offset gives, and answers the fault that it tells.
+/// Counts an event, and gives it to what takes them.
+#[inline(always)]
+pub fn give<V: Receiver>(items: &mut PerSource, out: &mut V, to: &mut V::To, event: Event<Packet>)
+    requires fits { EventFits PacketFits event }
+    requires space { 1 ≤ V.room (out.old, to.old) }
+    requires count { total_of items.old + 1 ≤ COUNT_ROOM }
+    ensures given { Given V.gets (items.old, (out.old, to.old)) (items.new, (out.new, to.new)) (event ∷ []) }
+    ensures space { V.room (out.old, to.old) ≤ V.room (out.new, to.new) + 1 }
+    ensures count { total_of items.new ≤ total_of items.old + 1 }
+{
+    items.add_item(&event);
+    out.give(to, event);
+}
+
+/// Gives what a step at this offset gives, and answers the fault that it tells.
 #[inline]
-pub fn note(out: &mut Events, source: SourceId, at: u64, step: Step<Packet>) -> Option<Fault>
-    requires { array_vec_len out.old + 2 ≤ EVENTS }
-    ensures given { out.new.items ≡ out.old.items ++ told (Some source) (lifted (given_by at step)) }
-    ensures few { array_vec_len out.new ≤ array_vec_len out.old + 2 }
+fn give_step<V: Receiver>(
+    items: &mut PerSource,
+    out: &mut V,
+    to: &mut V::To,
+    source: SourceId,
+    at: u64,
+    step: Step<Packet>,
+) -> Option<Fault>
+    requires fits { StepFits PacketFits step }
+    requires space { 2 ≤ V.room (out.old, to.old) }
+    requires count { total_of items.old + 2 ≤ COUNT_ROOM }
+    ensures given { Given V.gets (items.old, (out.old, to.old)) (items.new, (out.new, to.new))
+        (told (Some source) (lifted (given_by at step))) }
+    ensures space { V.room (out.old, to.old) ≤ V.room (out.new, to.new) + 2 }
+    ensures count { total_of items.new ≤ total_of items.old + 2 }
     ensures fault { result ≡ step_fault step }
 {
     match step {
         Step::Quiet | Step::Skipping => None,
         Step::Item { half, item } => {
-            out.push(Event {
-                at,
-                half,
-                source: Some(source),
-                what: What::Packet(item),
-            });
+            let what = What::Packet(item);
+            give(items, out, to, event_at(source, at, half, what));
             None
         }
         Step::Locked {
@@ -75,107 +99,130 @@ pub fn note(out: &mut Events, source: SourceId, at: u64, step: Step<Packet>) -> 
             half,
             item,
         } => {
-            out.push(Event {
-                at,
-                half,
-                source: Some(source),
-                what: What::Locked(skipped),
-            });
-            out.push(Event {
-                at,
-                half,
-                source: Some(source),
-                what: What::Packet(item),
-            });
+            let notice = What::Locked(skipped);
+            give(items, out, to, event_at(source, at, half, notice));
+            let what = What::Packet(item);
+            give(items, out, to, event_at(source, at, half, what));
             None
         }
         Step::Fault(fault) => Some(fault),
     }
 }
 
-/// Notes a packet whose last byte is at this offset, where there is one.
+/// What a source gives at this half of the byte at this offset.
 #[inline(always)]
-fn note_packet(out: &mut Events, source: SourceId, at: u64, packet: Option<Packet>)
-    requires { array_vec_len out.old + 1 ≤ EVENTS }
-    ensures given { out.new.items ≡
-        out.old.items ++ told (Some source) (lifted (kept_at (record { at = at; half = 0 }) packet)) }
-    ensures few { array_vec_len out.new ≤ array_vec_len out.old + 1 }
+pub fn event_at(source: SourceId, at: u64, half: u8, what: What<Packet>) -> Event<Packet>
+    ensures { result ≡ record { at = at; half = half; source = Some source; what = what } }
+{
+    Event {
+        at,
+        half,
+        source: Some(source),
+        what,
+    }
+}
+
+/// Gives a packet whose last byte is at this offset, where there is one.
+#[inline(always)]
+fn give_packet<V: Receiver>(
+    items: &mut PerSource,
+    out: &mut V,
+    to: &mut V::To,
+    source: SourceId,
+    at: u64,
+    packet: Option<Packet>,
+)
+    requires fits { IfSome packet PacketFits }
+    requires space { 1 ≤ V.room (out.old, to.old) }
+    requires count { total_of items.old + 1 ≤ COUNT_ROOM }
+    ensures given { Given V.gets (items.old, (out.old, to.old)) (items.new, (out.new, to.new))
+        (told (Some source) (lifted (kept_at (record { at = at; half = 0 }) packet))) }
+    ensures space { V.room (out.old, to.old) ≤ V.room (out.new, to.new) + 1 }
+    ensures count { total_of items.new ≤ total_of items.old + 1 }
 {
     if let Some(packet) = packet {
-        out.push(Event {
-            at,
-            half: 0,
-            source: Some(source),
-            what: What::Packet(packet),
-        });
+        let what = What::Packet(packet);
+        give(items, out, to, event_at(source, at, 0, what));
     }
 }
 
-/// Notes the item of an STP packet that was taken at once, up to the byte at this offset, where it has one.
+/// Gives the item of an STP packet that was taken at once, up to the byte at this offset, where it has one.
 #[inline(always)]
-fn note_item(out: &mut Events, source: SourceId, at: u64, taken: PacketTaken)
-    requires { array_vec_len out.old + 1 ≤ EVENTS }
-    ensures given { out.new.items ≡
-        out.old.items ++ told (Some source) (lifted (given_after at (packet_in taken.half taken.item))) }
-    ensures few { array_vec_len out.new ≤ array_vec_len out.old + 1 }
+fn give_item<V: Receiver>(
+    items: &mut PerSource,
+    out: &mut V,
+    to: &mut V::To,
+    source: SourceId,
+    at: u64,
+    taken: PacketTaken,
+)
+    requires fits { IfSome (packet_in taken.half taken.item) (StepFits PacketFits) }
+    requires space { 1 ≤ V.room (out.old, to.old) }
+    requires count { total_of items.old + 1 ≤ COUNT_ROOM }
+    ensures given { Given V.gets (items.old, (out.old, to.old)) (items.new, (out.new, to.new))
+        (told (Some source) (lifted (given_after at (packet_in taken.half taken.item)))) }
+    ensures space { V.room (out.old, to.old) ≤ V.room (out.new, to.new) + 1 }
+    ensures count { total_of items.new ≤ total_of items.old + 1 }
 {
     if let Some(item) = taken.item {
-        out.push(Event {
-            at,
-            half: taken.half,
-            source: Some(source),
-            what: What::Packet(Packet::Stp(item)),
-        });
+        let what = What::Packet(Packet::Stp(item));
+        give(items, out, to, event_at(source, at, taken.half, what));
     }
 }
 
-/// Feeds a run of this source to its machine, up to a fault, and notes what it gives. It takes a packet at once whose
+/// Feeds a run of this source to its machine, up to a fault, and gives its events. It takes a packet at once whose
 /// bytes are all in the run, and so it does the part of one that the run before it began, or the next one ends.
 #[inline]
-pub fn feed_machine<R: Run>(
+pub fn feed_machine<R: Run, V: Receiver>(
     machine: &mut SourceMachine,
     source: SourceId,
     run: &R,
-    out: &mut Events,
+    items: &mut PerSource,
+    out: &mut V,
+    to: &mut V::To,
 ) -> Option<Fault>
     requires live { is_live machine.old ≡ true }
     requires size { length (R.cells run.now) ≤ 15 }
     requires room { held_of machine.old + skipped_by machine.old + 2 * length (R.cells run.now) ≤ COUNT_ROOM }
-    requires events { array_vec_len out.old + 2 * length (R.cells run.now) ≤ EVENTS }
+    requires space { 2 * length (R.cells run.now) ≤ V.room (out.old, to.old) }
+    requires count { total_of items.old + 2 * length (R.cells run.now) ≤ COUNT_ROOM }
     ensures same { reading_of machine.new ≡ reading_of machine.old }
-    ensures feeds { (u : List Placed) → Stands machine.old u →
-        Feeds (reading_of machine.old) (Stands machine.new) u (record {
+    ensures feeds { Gives V.gets (items.old, (out.old, to.old)) (items.new, (out.new, to.new)) (λ given.
+        (u : List Placed) → Stands machine.old u → Feeds (reading_of machine.old) (Stands machine.new) u (record {
           run = R.cells run.now;
           source = source;
-          before = out.old.items;
-          after = out.new.items;
+          before = [];
+          after = given;
           fault = result;
-        }) }
+        })) }
     ensures early { IsEarly (reading_of machine.old) (Stands machine.old) (R.cells run.now) result }
     ensures live { is_live machine.new ≡ is_none result }
     ensures few { held_of machine.new + skipped_by machine.new ≤
         held_of machine.old + skipped_by machine.old + 2 * length (R.cells run.now) }
-    ensures events { array_vec_len out.new ≤ array_vec_len out.old + 2 * length (R.cells run.now) }
-    ensures fits { AllFit PacketFits out.old.items → AllFit PacketFits out.new.items }
+    ensures space { V.room (out.old, to.old) ≤ V.room (out.new, to.new) + 2 * length (R.cells run.now) }
+    ensures count { total_of items.new ≤ total_of items.old + 2 * length (R.cells run.now) }
 {
     let bytes = run.bytes();
     let mut done = 0;
     while done < run.len() {
         if let Some((count, packet)) = machine.next_packet(&bytes[done..]) {
             done += count;
-            note_packet(out, source, run.cell(done - 1).at, Some(packet));
+            let at = run.cell(done - 1).at;
+            give_packet(items, out, to, source, at, Some(packet));
         } else if let Some(cut) = machine.next_cut(&bytes[done..]) {
             machine.keep_partial(cut.partial);
             done += cut.bytes;
-            note_packet(out, source, run.cell(done - 1).at, cut.packet);
+            let at = run.cell(done - 1).at;
+            give_packet(items, out, to, source, at, cut.packet);
         } else if let Some(taken) = machine.take_part(&bytes[done..]) {
             done += taken.bytes;
-            note_item(out, source, run.cell(done - 1).at, taken);
+            let at = run.cell(done - 1).at;
+            give_item(items, out, to, source, at, taken);
         } else {
             let cell = run.cell(done);
             done += 1;
             let step = machine.feed(cell.at, cell.byte);
-            if let Some(fault) = note(out, source, cell.at, step) {
+            if let Some(fault) = give_step(items, out, to, source, cell.at, step) {
                 return Some(fault);
             }
         }

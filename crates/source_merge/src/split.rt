@@ -2,12 +2,13 @@
 
 ghost use Rattle.std.specs.Prelude.{◌≡◌, ◌≤◌, length};
 
-use crate::counts::ByteCounts;
+use crate::counts::{ByteCounts, PerSource};
 use crate::data::data_in_place;
 use crate::frame::FrameCells;
+use crate::receiver::Receiver;
 use crate::router::take_run;
 use crate::run::PartRun;
-use crate::slot::{Events, Slot};
+use crate::slot::Slot;
 use arrayvec::ArrayVec;
 use frame_grammar::frame::FRAME_BYTES;
 use frame_grammar::placed::PlacedFrame;
@@ -201,16 +202,18 @@ impl FrameCells for SplitFrame {
     ghost suits = { suits_split };
 
     #[inline(always)]
-    fn take(
+    fn take<V: Receiver>(
         &self,
         slots: &mut [Slot<SourceMachine>],
         counts: &mut ByteCounts,
-        out: &mut Events,
+        items: &mut PerSource,
+        out: &mut V,
+        to: &mut V::To,
     ) -> Option<Stop> {
         for part in self.parts.as_slice() {
             let run = self.run_of(part);
             counts.add_run(&part.source, (part.end - part.from) as u64);
-            if let Some(stop) = take_run(slots, &part.source, &run, out) {
+            if let Some(stop) = take_run(slots, &part.source, &run, items, out, to) {
                 return Some(stop);
             }
         }

@@ -1,8 +1,7 @@
 //! A step of the port, and the sources in the frame that it ends.
 
 ghost use Rattle.source_merge.specs.declared.slot.TheConstants.{FRAME_ROOM};
-ghost use Rattle.std.specs.Prelude.{◌≡◌, ◌+◌, ◌*◌, ◌^◌, ◌<◌, ◌≤◌, ◌++◌, ◌∷◌, [], ℕ, List, length, None, true};
-ghost use Rattle.arrayvec.specs.ArrayVec.{array_vec_len};
+ghost use Rattle.std.specs.Prelude.{◌≡◌, ◌+◌, ◌<◌, ◌≤◌, ◌++◌, ◌∷◌, [], ℕ, List, length, None, true};
 ghost use Rattle.trace_values.specs.Placed.{Placed, byte_at};
 ghost use Rattle.deformatter.specs.Growth.{goes_on};
 ghost use Rattle.capture_plan.specs.declared.frames.FramesMode.{FramesMode};
@@ -11,19 +10,21 @@ ghost use Rattle.port_reader.specs.Reading.{port_reading};
 ghost use Rattle.port_reader.specs.Rising.{BytesRise};
 ghost use Rattle.source_events.specs.declared.event.Event.{Event};
 ghost use Rattle.source_events.specs.declared.packet.Packet.{Packet};
-ghost use Rattle.source_events.specs.Fitting.{AllFit, PacketFits};
 ghost use Rattle.source_machine.specs.Machine.{Stands, held_of, is_live, reading_of, skipped_by};
 ghost use Rattle.source_events.specs.Report.{runs_in};
 ghost use Rattle.source_merge.specs.Routing.{mapped_of, AllLive, AllStand, HaveRoom, AreDistinct};
-ghost use Rattle.source_merge.specs.Counting.{HasBytes, HasCounted, bytes_counted, size_of, whole_of};
+ghost use Rattle.source_merge.specs.Counting.{HasBytes, HasCounted, bytes_counted, size_of, total_of, whole_of};
+ghost use Rattle.source_merge.specs.Giving.{Gives, GivesTo};
+ghost use Rattle.trace_values.specs.declared.limits.TheConstants.{COUNT_ROOM};
 ghost use Rattle.trace_values.specs.declared.cell.Cell.{Cell};
 ghost use Rattle.source_merge.specs.Stepping.{StepTaken};
 ghost use Rattle.frame_grammar.specs.Frame.{IsProperFrame, cells, id_after};
 ghost use Rattle.deformatter.specs.declared.step.PortStep.TheVariants.{Frame};
 
-use crate::counts::{ByteCounts, Counters, add_step};
+use crate::counts::{ByteCounts, Counters, PerSource, add_step};
 use crate::frame::{FrameCells, data_frame};
-use crate::slot::{Events, Slot};
+use crate::receiver::Receiver;
+use crate::slot::{Slot, give};
 use crate::split::SplitFrame;
 use frame_grammar::placed::PlacedFrame;
 use port_reader::PortStep;
@@ -33,46 +34,51 @@ use trace_values::SourceId;
 
 /// Takes what a step of the port at this offset ends: this frame, or the bytes before a lock.
 #[inline(always)]
-fn take_ended<F: FrameCells>(
+fn take_ended<F: FrameCells, V: Receiver>(
     slots: &mut [Slot<SourceMachine>],
     counts: &mut ByteCounts,
     at: u64,
     step: PortStep,
     frame: &F,
-    out: &mut Events,
+    items: &mut PerSource,
+    out: &mut V,
+    to: &mut V::To,
 ) -> Option<Stop>
     requires suits { F.suits frame.now slots.old }
     requires live { AllLive is_live slots.old }
     requires room { HaveRoom held_of skipped_by FRAME_ROOM slots.old }
     requires count { bytes_counted counts.old ≤ FRAME_ROOM }
     requires cells { length (F.cells frame.now) ≤ 15 }
-    requires empty { out.old.items ≡ [] }
+    requires space { 30 ≤ V.room (out.old, to.old) }
+    requires items { total_of items.old + 30 ≤ COUNT_ROOM }
     ensures same { mapped_of reading_of slots.new ≡ mapped_of reading_of slots.old }
     ensures live { result ≡ None → AllLive is_live slots.new }
     ensures going { result ≡ None → goes_on step ≡ true }
     ensures room { (n : ℕ) → HaveRoom held_of skipped_by n slots.old →
         HaveRoom held_of skipped_by (n + 30) slots.new }
     ensures count { bytes_counted counts.new ≤ bytes_counted counts.old + 15 }
-    ensures few { array_vec_len out.new ≤ 30 }
-    ensures fits { AllFit PacketFits out.new.items }
-    ensures taken { (mode : FramesMode) (u : List Placed) (byte : ℕ) → BytesRise 0 at u →
+    ensures space { V.room (out.old, to.old) ≤ V.room (out.new, to.new) + 30 }
+    ensures items { total_of items.new ≤ total_of items.old + 30 }
+    ensures taken { Gives V.gets (items.old, (out.old, to.old)) (items.new, (out.new, to.new)) (λ given.
+        (mode : FramesMode) (u : List Placed) (byte : ℕ) → BytesRise 0 at u →
         Answers mode step (F.cells frame.now) u at byte → (port_reading mode u).fault ≡ None →
         AreDistinct (mapped_of reading_of slots.old) → AllStand Stands slots.old (runs_in (port_reading mode u)) →
         StepTaken Stands (mapped_of reading_of slots.old) slots.new mode
-        (record { before = u; after = u ++ byte_at at byte ∷ []; given = out.new.items; stop = result }) }
+        (record { before = u; after = u ++ byte_at at byte ∷ []; given = given; stop = result })) }
     ensures counted { (whole : List (List Cell)) (mode : FramesMode) (u : List Placed) (byte : ℕ) → result ≡ None →
         Answers mode step (F.cells frame.now) u at byte → HasBytes counts.old whole (runs_in (port_reading mode u)) →
         HasBytes counts.new whole (runs_in (port_reading mode (u ++ byte_at at byte ∷ []))) }
 {
     match step {
-        PortStep::Frame => frame.take(slots, counts, out),
+        PortStep::Frame => frame.take(slots, counts, items, out, to),
         PortStep::Locked { skipped } => {
-            out.push(Event {
+            let notice = Event {
                 at,
                 half: 0,
                 source: None,
                 what: What::Locked(skipped),
-            });
+            };
+            give(items, out, to, notice);
             None
         }
         PortStep::Fault(fault) => Some(Stop {
@@ -86,20 +92,21 @@ fn take_ended<F: FrameCells>(
 /// Takes a step of the port at this offset, where it ends this frame, and gives the events that are
 /// decided with it. Answers the report's fault where it is certain now.
 #[inline]
-pub fn take_step<F: FrameCells>(
+pub fn take_step<F: FrameCells, V: Receiver>(
     slots: &mut [Slot<SourceMachine>],
     counters: &mut Counters,
     at: u64,
     step: PortStep,
     frame: &F,
-    out: &mut Events,
+    out: &mut V,
+    to: &mut V::To,
 ) -> Option<Stop>
     requires suits { F.suits frame.now slots.old }
     requires live { AllLive is_live slots.old }
     requires room { HaveRoom held_of skipped_by FRAME_ROOM slots.old }
     requires size { size_of counters.old ≤ FRAME_ROOM }
     requires cells { length (F.cells frame.now) ≤ 15 }
-    requires empty { out.old.items ≡ [] }
+    requires space { 30 ≤ V.room (out.old, to.old) }
     ensures same { mapped_of reading_of slots.new ≡ mapped_of reading_of slots.old }
     ensures live { result ≡ None → AllLive is_live slots.new }
     ensures going { result ≡ None → goes_on step ≡ true }
@@ -107,21 +114,28 @@ pub fn take_step<F: FrameCells>(
         HaveRoom held_of skipped_by (n + 30) slots.new }
     ensures size { size_of counters.new ≤ size_of counters.old + 46 }
     ensures whole { whole_of counters.new ≡ whole_of counters.old }
-    ensures few { array_vec_len out.new ≤ 30 }
-    ensures fits { AllFit PacketFits out.new.items }
-    ensures taken { (mode : FramesMode) (u : List Placed) (byte : ℕ) → BytesRise 0 at u →
+    ensures space { V.room (out.old, to.old) ≤ V.room (out.new, to.new) + 30 }
+    ensures taken { GivesTo V.gets (out.old, to.old) (out.new, to.new) (λ given.
+        ((mode : FramesMode) (u : List Placed) (byte : ℕ) → BytesRise 0 at u →
         Answers mode step (F.cells frame.now) u at byte → (port_reading mode u).fault ≡ None →
         AreDistinct (mapped_of reading_of slots.old) → AllStand Stands slots.old (runs_in (port_reading mode u)) →
         StepTaken Stands (mapped_of reading_of slots.old) slots.new mode
-        (record { before = u; after = u ++ byte_at at byte ∷ []; given = out.new.items; stop = result }) }
-    ensures counted { (mode : FramesMode) (u : List Placed) (byte : ℕ) (es : List (Event Packet)) → result ≡ None →
+        (record { before = u; after = u ++ byte_at at byte ∷ []; given = given; stop = result }))
+        × ((mode : FramesMode) (u : List Placed) (byte : ℕ) (es : List (Event Packet)) → result ≡ None →
         Answers mode step (F.cells frame.now) u at byte → HasCounted counters.old (port_reading mode u) es →
-        HasCounted counters.new (port_reading mode (u ++ byte_at at byte ∷ [])) (es ++ out.new.items) }
+        HasCounted counters.new (port_reading mode (u ++ byte_at at byte ∷ [])) (es ++ given))) }
 {
     add_step(&mut counters.port, &step);
-    let stop = take_ended(slots, &mut counters.bytes, at, step, frame, out);
-    counters.items.add_items(out.as_slice());
-    stop
+    take_ended(
+        slots,
+        &mut counters.bytes,
+        at,
+        step,
+        frame,
+        &mut counters.items,
+        out,
+        to,
+    )
 }
 
 /// What comes of a whole frame.
@@ -135,19 +149,20 @@ pub struct FrameTaken {
 
 /// Takes a whole frame, which comes after this ID and whose last byte is at this offset, and gives the events that are
 /// decided with it.
-pub fn take_whole(
+pub fn take_whole<V: Receiver>(
     slots: &mut [Slot<SourceMachine>],
     counters: &mut Counters,
     at: u64,
     id: &Option<SourceId>,
     frame: &PlacedFrame,
-    out: &mut Events,
+    out: &mut V,
+    to: &mut V::To,
 ) -> FrameTaken
     requires proper { IsProperFrame frame.now.bytes }
     requires live { AllLive is_live slots.old }
     requires room { HaveRoom held_of skipped_by FRAME_ROOM slots.old }
     requires size { size_of counters.old ≤ FRAME_ROOM }
-    requires empty { out.old.items ≡ [] }
+    requires space { 30 ≤ V.room (out.old, to.old) }
     ensures after { result.after ≡ id_after frame.now.bytes id.now }
     ensures same { mapped_of reading_of slots.new ≡ mapped_of reading_of slots.old }
     ensures live { result.stop ≡ None → AllLive is_live slots.new }
@@ -155,21 +170,21 @@ pub fn take_whole(
         HaveRoom held_of skipped_by (n + 30) slots.new }
     ensures size { size_of counters.new ≤ size_of counters.old + 46 }
     ensures whole { whole_of counters.new ≡ whole_of counters.old }
-    ensures few { array_vec_len out.new ≤ 30 }
-    ensures fits { AllFit PacketFits out.new.items }
-    ensures taken { (mode : FramesMode) (u : List Placed) (byte : ℕ) → BytesRise 0 at u →
+    ensures space { V.room (out.old, to.old) ≤ V.room (out.new, to.new) + 30 }
+    ensures taken { GivesTo V.gets (out.old, to.old) (out.new, to.new) (λ given.
+        ((mode : FramesMode) (u : List Placed) (byte : ℕ) → BytesRise 0 at u →
         Answers mode Frame (cells frame.now.bytes frame.now.offsets id.now) u at byte →
         (port_reading mode u).fault ≡ None → AreDistinct (mapped_of reading_of slots.old) →
         AllStand Stands slots.old (runs_in (port_reading mode u)) →
         StepTaken Stands (mapped_of reading_of slots.old) slots.new mode
-        (record { before = u; after = u ++ byte_at at byte ∷ []; given = out.new.items; stop = result.stop }) }
-    ensures counted { (mode : FramesMode) (u : List Placed) (byte : ℕ) (es : List (Event Packet)) → result.stop ≡ None →
+        (record { before = u; after = u ++ byte_at at byte ∷ []; given = given; stop = result.stop }))
+        × ((mode : FramesMode) (u : List Placed) (byte : ℕ) (es : List (Event Packet)) → result.stop ≡ None →
         Answers mode Frame (cells frame.now.bytes frame.now.offsets id.now) u at byte →
         HasCounted counters.old (port_reading mode u) es →
-        HasCounted counters.new (port_reading mode (u ++ byte_at at byte ∷ [])) (es ++ out.new.items) }
+        HasCounted counters.new (port_reading mode (u ++ byte_at at byte ∷ [])) (es ++ given))) }
 {
     if let Some(data) = data_frame(slots, id, frame) {
-        let stop = take_step(slots, counters, at, PortStep::Frame, &data, out);
+        let stop = take_step(slots, counters, at, PortStep::Frame, &data, out, to);
         return FrameTaken {
             after: Some(data.run.source()),
             stop,
@@ -177,7 +192,7 @@ pub fn take_whole(
     }
     let mut split = SplitFrame::new(frame);
     split.take_ids(frame, id);
-    let stop = take_step(slots, counters, at, PortStep::Frame, &split, out);
+    let stop = take_step(slots, counters, at, PortStep::Frame, &split, out, to);
     FrameTaken {
         after: split.after(),
         stop,

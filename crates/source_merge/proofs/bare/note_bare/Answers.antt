@@ -12,5 +12,5 @@ here answer step is f = subst (λ (o : Option (Step Packet)). IfSome o (StepFits
 
 pub returns-in-Some-clause-fits : goal.returns-in-Some-clause-fits
 returns-in-Some-clause-fits c = λ f a.
-    more_fits PacketFits c.bare_source.result c.args.at c.in-Some.step c.args.out.now.items c.note-fault.new.out.items c.note-fault.ensures.given
+    more_fits PacketFits c.bare_source.result c.args.at c.in-Some.step c.args.out.now.items c.note.new.out.items c.note.ensures.given
     (here c.args.step c.in-Some.step c.in-Some.is f) a

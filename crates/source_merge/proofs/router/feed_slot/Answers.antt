@@ -1,4 +1,4 @@
-use Rattle.std.proofs.Common.{◌≡◌, ◌+◌, ◌^◌, List, ◌∷◌, ◌++◌, get_or, take, drop, refl, sym, ◌∙◌, ap, subst, arith}
+use Rattle.std.proofs.Common.{◌≡◌, ◌+◌, ◌^◌, List, [], ◌∷◌, ◌++◌, get_or, take, drop, refl, sym, ◌∙◌, ap, subst, arith}
 use Rattle.std.proofs.lemmas.List.{take-append-drop, drop_more}
 use Rattle.std.proofs.Math.Seq.{set-append_seam}
 use Rattle.std.proofs.Math.ListN.{set}
@@ -28,20 +28,24 @@ feed_machine-requires-clause-room g c =
     let s = c.requires.size in omega arith
 
 pub returns-clause-fed : goal.returns-clause-fed
-returns-clause-fed g c = λ front s back parts count.
-    let slots = c.args.slots.now in
-    let k = c.args.index in
-    let x = get_or slots k c.index-slots-index.result in
-    let t : Slot SourceMachine = record { id = x.id; machine = c.feed_machine.new.machine } in
-    let at : x ≡ s = ap (λ l. get_or l k c.index-slots-index.result) parts ∙ ap (λ n. get_or (front ++ (s ∷ back)) n c.index-slots-index.result) (sym count) ∙ get_seam front s back c.index-slots-index.result in
-    subst (λ (y : Slot SourceMachine). SlotFedBy reading_of Stands is_live held_of skipped_by front y back (set slots k t) (g.R.Run.cells c.args.run.now) c.args.id c.args.out.now.items c.feed_machine.new.out.items c.feed_machine.result) at
-    (record {
-      slot = t;
-      parts = ap (λ l. set l k t) parts ∙ ap (λ n. set (front ++ (s ∷ back)) n t) (sym count) ∙ set-append_seam front s back t;
-      id_is = refl;
-      same = c.feed_machine.ensures.same;
-      live_is = c.feed_machine.ensures.live;
-      few = c.feed_machine.ensures.few;
-      feeds = c.feed_machine.ensures.feeds;
-      early = c.feed_machine.ensures.early;
-    })
+returns-clause-fed g c = let fed = c.feed_machine.ensures.feeds in (
+  fed.0,
+  fed.1,
+  λ front s back parts count.
+      let slots = c.args.slots.now in
+      let k = c.args.index in
+      let x = get_or slots k c.index-slots-index.result in
+      let t : Slot SourceMachine = record { id = x.id; machine = c.feed_machine.new.machine } in
+      let at : x ≡ s = ap (λ l. get_or l k c.index-slots-index.result) parts ∙ ap (λ n. get_or (front ++ (s ∷ back)) n c.index-slots-index.result) (sym count) ∙ get_seam front s back c.index-slots-index.result in
+      subst (λ (y : Slot SourceMachine). SlotFedBy reading_of Stands is_live held_of skipped_by front y back (set slots k t) (g.R.Run.cells c.args.run.now) c.args.id [] fed.0 c.feed_machine.result) at
+      (record {
+        slot = t;
+        parts = ap (λ l. set l k t) parts ∙ ap (λ n. set (front ++ (s ∷ back)) n t) (sym count) ∙ set-append_seam front s back t;
+        id_is = refl;
+        same = c.feed_machine.ensures.same;
+        live_is = c.feed_machine.ensures.live;
+        few = c.feed_machine.ensures.few;
+        feeds = fed.2;
+        early = c.feed_machine.ensures.early;
+      }),
+)

@@ -1,4 +1,4 @@
-use Rattle.std.proofs.Common.{◌+◌, List, [], ◌∷◌, ◌++◌, sym, ◌∙◌, ap, subst, append-nil, arith, None}
+use Rattle.std.proofs.Common.{◌+◌, List, [], ◌∷◌, ◌++◌, sym, ◌∙◌, ap, subst, append-nil, refl, arith, None}
 use Rattle.trace_values.specs.declared.cell.Cell.{Cell}
 use Rattle.trace_values.specs.Placed.{byte_at}
 use Rattle.deformatter.specs.declared.step.PortStep.{PortStep}
@@ -15,6 +15,7 @@ use Rattle.source_events.proofs.LockSteps.{port_grows}
 use Rattle.source_merge.specs.Counting.{HasBytes}
 use Rattle.source_merge.specs.Routing.{mapped_of}
 use Rattle.source_merge.proofs.FrameCounts.{runs_with}
+use Rattle.source_merge.proofs.Givings.{given_none}
 use Rattle.source_merge.proofs.Slots.{room_more}
 use Rattle.source_merge.proofs.Taking.{lawful, sound}
 use Rattle.source_merge.proofs.Steps.{after, taken_frame, taken_none, taken_lock, taken_fault, nothing_is}
@@ -28,22 +29,27 @@ returns-in-Frame-clause-room g c = λ n r.
     (c.take.ensures.room n r)
 
 pub returns-in-Frame-clause-taken : goal.returns-in-Frame-clause-taken
-returns-in-Frame-clause-taken g c = λ mode u byte rise step e d a.
-    let slots = c.args.slots.now in
-    let ss = mapped_of reading_of slots in
-    let r = port_reading mode u in
-    let at = c.args.at in
-    let cells = g.F.FrameCells.cells c.args.frame.now in
-    let law = lawful reading_of Stands is_live has_locked held_of skipped_by laws.shows laws.begins laws.settles laws.rises slots in
-    let good = sound reading_of Stands is_live has_locked held_of skipped_by laws.shows laws.begins laws.settles laws.rises slots (runs_in r) c.requires.live a in
-    let frames = step.frames ∙ ap (λ (x : PortStep). r.frames ++ frames_by x cells) c.in-Frame.is in
-    let notice = port_grows {V = Packet} u at byte mode Frame
-    (subst (λ (x : PortStep). HuntBy r (port_reading mode (u ++ byte_at at byte ∷ [])) at x) c.in-Frame.is step.hunt)
-    ∙ append-nil (port_events mode u) in
-    let places = after Stands ss law mode u at byte rise e good cells frames notice in
-    taken_frame Stands ss law mode u at byte rise e good cells frames (step.fault ∙ ap fault_by c.in-Frame.is) notice places
-    c.take.new.slots c.take.new.out.items c.take.result
-    (c.take.ensures.fed (runs_in r) places.end d a places.between places.rises)
+returns-in-Frame-clause-taken g c =
+    let t = c.take.ensures.fed in (
+      t.0,
+      t.1,
+      λ mode u byte rise step e d a.
+          let slots = c.args.slots.now in
+          let ss = mapped_of reading_of slots in
+          let r = port_reading mode u in
+          let at = c.args.at in
+          let cells = g.F.FrameCells.cells c.args.frame.now in
+          let law = lawful reading_of Stands is_live has_locked held_of skipped_by laws.shows laws.begins laws.settles laws.rises slots in
+          let good = sound reading_of Stands is_live has_locked held_of skipped_by laws.shows laws.begins laws.settles laws.rises slots (runs_in r) c.requires.live a in
+          let frames = step.frames ∙ ap (λ (x : PortStep). r.frames ++ frames_by x cells) c.in-Frame.is in
+          let notice = port_grows {V = Packet} u at byte mode Frame
+          (subst (λ (x : PortStep). HuntBy r (port_reading mode (u ++ byte_at at byte ∷ [])) at x) c.in-Frame.is step.hunt)
+          ∙ append-nil (port_events mode u) in
+          let places = after Stands ss law mode u at byte rise e good cells frames notice in
+          taken_frame Stands ss law mode u at byte rise e good cells frames (step.fault ∙ ap fault_by c.in-Frame.is) notice places
+          c.take.new.slots t.0 c.take.result
+          (t.2 (runs_in r) places.end d a places.between places.rises),
+    )
 
 pub returns-in-Locked-clause-room : goal.returns-in-Locked-clause-room
 returns-in-Locked-clause-room g c = λ n r.
@@ -58,52 +64,63 @@ returns-in-Quiet-clause-room g c = λ n r.
     room_more held_of skipped_by n (n + 30) c.args.slots.now (omega arith) r
 
 pub returns-in-Locked-clause-taken : goal.returns-in-Locked-clause-taken
-returns-in-Locked-clause-taken g c = λ mode u byte rise step e d a.
-    let slots = c.args.slots.now in
-    let ss = mapped_of reading_of slots in
-    let r = port_reading mode u in
-    let at = c.args.at in
-    let cells = g.F.FrameCells.cells c.args.frame.now in
-    let law = lawful reading_of Stands is_live has_locked held_of skipped_by laws.shows laws.begins laws.settles laws.rises slots in
-    let good = sound reading_of Stands is_live has_locked held_of skipped_by laws.shows laws.begins laws.settles laws.rises slots (runs_in r) c.requires.live a in
-    let next = port_reading mode (u ++ byte_at at byte ∷ []) in
-    let hunt : HuntBy r next at (Locked c.in-Locked.skipped) =
-    subst (λ (x : PortStep). HuntBy r next at x) c.in-Locked.is step.hunt in
-    taken_lock Stands ss law mode u at byte rise e good slots c.in-Locked.skipped c.push.new.self.items
-    (c.push.ensures.items ∙ ap (λ l. l ++ told None (notice_by at (Locked c.in-Locked.skipped))) c.requires.empty)
-    hunt.0 (step.frames ∙ ap (λ (x : PortStep). r.frames ++ frames_by x cells) c.in-Locked.is)
-    (step.fault ∙ ap fault_by c.in-Locked.is) (port_grows {V = Packet} u at byte mode (Locked c.in-Locked.skipped) hunt) a
+returns-in-Locked-clause-taken g c = (
+  told None (notice_by c.args.at (Locked c.in-Locked.skipped)),
+  c.give.ensures.given,
+  λ mode u byte rise step e d a.
+      let slots = c.args.slots.now in
+      let ss = mapped_of reading_of slots in
+      let r = port_reading mode u in
+      let at = c.args.at in
+      let cells = g.F.FrameCells.cells c.args.frame.now in
+      let law = lawful reading_of Stands is_live has_locked held_of skipped_by laws.shows laws.begins laws.settles laws.rises slots in
+      let good = sound reading_of Stands is_live has_locked held_of skipped_by laws.shows laws.begins laws.settles laws.rises slots (runs_in r) c.requires.live a in
+      let next = port_reading mode (u ++ byte_at at byte ∷ []) in
+      let hunt : HuntBy r next at (Locked c.in-Locked.skipped) =
+      subst (λ (x : PortStep). HuntBy r next at x) c.in-Locked.is step.hunt in
+      taken_lock Stands ss law mode u at byte rise e good slots c.in-Locked.skipped (told None (notice_by at (Locked c.in-Locked.skipped))) refl
+      hunt.0 (step.frames ∙ ap (λ (x : PortStep). r.frames ++ frames_by x cells) c.in-Locked.is)
+      (step.fault ∙ ap fault_by c.in-Locked.is) (port_grows {V = Packet} u at byte mode (Locked c.in-Locked.skipped) hunt) a,
+)
 
 pub returns-in-Fault-clause-taken : goal.returns-in-Fault-clause-taken
-returns-in-Fault-clause-taken g c = λ mode u byte rise step e d a.
-    let slots = c.args.slots.now in
-    let ss = mapped_of reading_of slots in
-    let r = port_reading mode u in
-    let at = c.args.at in
-    let cells = g.F.FrameCells.cells c.args.frame.now in
-    let law = lawful reading_of Stands is_live has_locked held_of skipped_by laws.shows laws.begins laws.settles laws.rises slots in
-    let good = sound reading_of Stands is_live has_locked held_of skipped_by laws.shows laws.begins laws.settles laws.rises slots (runs_in r) c.requires.live a in
-    let next = port_reading mode (u ++ byte_at at byte ∷ []) in
-    let hunt : HuntBy r next at (Fault c.in-Fault.fault) = subst (λ (x : PortStep). HuntBy r next at x) c.in-Fault.is step.hunt in
-    taken_fault Stands ss law mode u at byte rise e good slots c.in-Fault.fault c.args.out.now.items c.requires.empty
-    hunt.0 (step.frames ∙ ap (λ (x : PortStep). r.frames ++ frames_by x cells) c.in-Fault.is)
-    (step.fault ∙ ap fault_by c.in-Fault.is) (port_grows {V = Packet} u at byte mode (Fault c.in-Fault.fault) hunt)
+returns-in-Fault-clause-taken g c = (
+  [],
+  given_none g.V.Receiver.gets g.met.V.Receiver.gets_none (c.args.items.now, (c.args.out.now, c.args.to.now)),
+  λ mode u byte rise step e d a.
+      let slots = c.args.slots.now in
+      let ss = mapped_of reading_of slots in
+      let r = port_reading mode u in
+      let at = c.args.at in
+      let cells = g.F.FrameCells.cells c.args.frame.now in
+      let law = lawful reading_of Stands is_live has_locked held_of skipped_by laws.shows laws.begins laws.settles laws.rises slots in
+      let good = sound reading_of Stands is_live has_locked held_of skipped_by laws.shows laws.begins laws.settles laws.rises slots (runs_in r) c.requires.live a in
+      let next = port_reading mode (u ++ byte_at at byte ∷ []) in
+      let hunt : HuntBy r next at (Fault c.in-Fault.fault) = subst (λ (x : PortStep). HuntBy r next at x) c.in-Fault.is step.hunt in
+      taken_fault Stands ss law mode u at byte rise e good slots c.in-Fault.fault [] refl
+      hunt.0 (step.frames ∙ ap (λ (x : PortStep). r.frames ++ frames_by x cells) c.in-Fault.is)
+      (step.fault ∙ ap fault_by c.in-Fault.is) (port_grows {V = Packet} u at byte mode (Fault c.in-Fault.fault) hunt),
+)
 
 pub returns-in-Quiet-clause-taken : goal.returns-in-Quiet-clause-taken
-returns-in-Quiet-clause-taken g c = λ mode u byte rise step e d a.
-    let slots = c.args.slots.now in
-    let ss = mapped_of reading_of slots in
-    let r = port_reading mode u in
-    let at = c.args.at in
-    let cells = g.F.FrameCells.cells c.args.frame.now in
-    let law = lawful reading_of Stands is_live has_locked held_of skipped_by laws.shows laws.begins laws.settles laws.rises slots in
-    let good = sound reading_of Stands is_live has_locked held_of skipped_by laws.shows laws.begins laws.settles laws.rises slots (runs_in r) c.requires.live a in
-    let next = port_reading mode (u ++ byte_at at byte ∷ []) in
-    let q = nothing_is Packet c.args.step cells at c.in-Quiet.is in
-    taken_none Stands ss law mode u at byte rise e good slots c.args.out.now.items c.requires.empty
-    (step.frames ∙ ap (λ (l : List (List Cell)). r.frames ++ l) q.0) (step.fault ∙ q.1)
-    (port_grows {V = Packet} u at byte mode c.args.step step.hunt
-    ∙ ap (λ (l : List (What Packet × Place)). port_events mode u ++ l) q.2) a
+returns-in-Quiet-clause-taken g c = (
+  [],
+  given_none g.V.Receiver.gets g.met.V.Receiver.gets_none (c.args.items.now, (c.args.out.now, c.args.to.now)),
+  λ mode u byte rise step e d a.
+      let slots = c.args.slots.now in
+      let ss = mapped_of reading_of slots in
+      let r = port_reading mode u in
+      let at = c.args.at in
+      let cells = g.F.FrameCells.cells c.args.frame.now in
+      let law = lawful reading_of Stands is_live has_locked held_of skipped_by laws.shows laws.begins laws.settles laws.rises slots in
+      let good = sound reading_of Stands is_live has_locked held_of skipped_by laws.shows laws.begins laws.settles laws.rises slots (runs_in r) c.requires.live a in
+      let next = port_reading mode (u ++ byte_at at byte ∷ []) in
+      let q = nothing_is Packet c.args.step cells at c.in-Quiet.is in
+      taken_none Stands ss law mode u at byte rise e good slots [] refl
+      (step.frames ∙ ap (λ (l : List (List Cell)). r.frames ++ l) q.0) (step.fault ∙ q.1)
+      (port_grows {V = Packet} u at byte mode c.args.step step.hunt
+      ∙ ap (λ (l : List (What Packet × Place)). port_events mode u ++ l) q.2) a,
+)
 
 pub returns-in-Frame-clause-counted : goal.returns-in-Frame-clause-counted
 returns-in-Frame-clause-counted g c = λ whole mode u byte k step h.

@@ -7,31 +7,40 @@ use Rattle.source_merge.proofs.DataCells.{data_size}
 use Rattle.source_merge.proofs.step.take_whole.Goals as goal
 
 pub take_step-stop-requires-clause-cells : goal.take_step-stop-requires-clause-cells
-take_step-stop-requires-clause-cells c = (let s = data_size c.in-Some.data in omega arith)
+take_step-stop-requires-clause-cells g c = (let s = data_size c.in-Some.data in omega arith)
 
 pub take_step-stop-requires-2-clause-cells : goal.take_step-stop-requires-2-clause-cells
-take_step-stop-requires-2-clause-cells c =
+take_step-stop-requires-2-clause-cells g c =
     subst (λ (l : List Cell). length l ≤ 15) (sym c.take_ids.ensures.cells) (few_cells c.args.frame.now.bytes c.args.frame.now.offsets c.args.id.now)
 
 pub take_step-stop-requires-2-clause-suits : goal.take_step-stop-requires-2-clause-suits
-take_step-stop-requires-2-clause-suits c = c.take_ids.ensures.suits c.args.slots.now
+take_step-stop-requires-2-clause-suits g c = c.take_ids.ensures.suits c.args.slots.now
 
+-- what the step of the port says, of the cells of the frame
 pub returns-in-Some-clause-taken : goal.returns-in-Some-clause-taken
-returns-in-Some-clause-taken c = λ mode u byte rise step e d a.
-    c.take_step-stop.ensures.taken mode u byte rise
-    (subst (λ (l : List Cell). Answers mode Frame l u c.args.at byte) (sym c.in-Some.ensures.cells) step) e d a
-
-pub returns-in-Some-clause-counted : goal.returns-in-Some-clause-counted
-returns-in-Some-clause-counted c = λ mode u byte es k step h.
-    c.take_step-stop.ensures.counted mode u byte es k
-    (subst (λ (l : List Cell). Answers mode Frame l u c.args.at byte) (sym c.in-Some.ensures.cells) step) h
+returns-in-Some-clause-taken g c =
+    let t = c.take_step-stop.ensures.taken in
+    let same = sym c.in-Some.ensures.cells in (
+      t.0,
+      t.1,
+      (
+        λ mode u byte rise step e d a.
+            t.2.0 mode u byte rise (subst (λ (l : List Cell). Answers mode Frame l u c.args.at byte) same step) e d a,
+        λ mode u byte es k step h.
+            t.2.1 mode u byte es k (subst (λ (l : List Cell). Answers mode Frame l u c.args.at byte) same step) h,
+      ),
+    )
 
 pub returns-clause-taken : goal.returns-clause-taken
-returns-clause-taken c = λ mode u byte rise step e d a.
-    c.take_step-stop-2.ensures.taken mode u byte rise
-    (subst (λ (l : List Cell). Answers mode Frame l u c.args.at byte) (sym c.take_ids.ensures.cells) step) e d a
-
-pub returns-clause-counted : goal.returns-clause-counted
-returns-clause-counted c = λ mode u byte es k step h.
-    c.take_step-stop-2.ensures.counted mode u byte es k
-    (subst (λ (l : List Cell). Answers mode Frame l u c.args.at byte) (sym c.take_ids.ensures.cells) step) h
+returns-clause-taken g c =
+    let t = c.take_step-stop-2.ensures.taken in
+    let same = sym c.take_ids.ensures.cells in (
+      t.0,
+      t.1,
+      (
+        λ mode u byte rise step e d a.
+            t.2.0 mode u byte rise (subst (λ (l : List Cell). Answers mode Frame l u c.args.at byte) same step) e d a,
+        λ mode u byte es k step h.
+            t.2.1 mode u byte es k (subst (λ (l : List Cell). Answers mode Frame l u c.args.at byte) same step) h,
+      ),
+    )

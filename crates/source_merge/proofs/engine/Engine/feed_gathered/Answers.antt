@@ -13,6 +13,7 @@ use Rattle.port_reader.specs.Growth.{Answers as PortAnswers, FedFrame, GrowsByFr
 use Rattle.port_reader.specs.Reading.{port_reading}
 use Rattle.port_reader.specs.Rising.{BytesRise}
 use Rattle.source_events.specs.Report.{Mapped, runs_in}
+use Rattle.source_events.specs.declared.event.Event.{Event}
 use Rattle.source_events.specs.declared.packet.Packet.{Packet}
 use Rattle.source_events.specs.declared.plan.Plan.{Plan}
 use Rattle.source_machine.specs.Machine.{reading_of, Stands as MachineStands, is_live, held_of, skipped_by}
@@ -27,17 +28,18 @@ use Rattle.source_merge.proofs.Standing.{distinct, none_there, live_now, live_if
 use Rattle.source_merge.proofs.Going.{Stepped, stepped, halves_inside, rise_to, rise_block, end_block}
 use Rattle.source_merge.proofs.Refilled.{slots_are}
 use Rattle.source_merge.proofs.ByParts.{StepTakenBy}
+use Rattle.source_merge.proofs.engine.Engine.feed_gathered.Given as bound
 use Rattle.source_merge.proofs.engine.Engine.feed_gathered.Goals as goal
 
 pub take_whole-taken-requires-clause-room : goal.take_whole-taken-requires-clause-room
-take_whole-taken-requires-clause-room c =
+take_whole-taken-requires-clause-room g c =
     room_more held_of skipped_by (30 * c.args.self.now.count) (2 ^ 58) c.as_mut_slice.result.now
     (let a = c.args.self.now.within in let b = c.args.self.now.limit in omega arith)
     (subst (λ (l : List (Slot SourceMachine)). HaveRoom held_of skipped_by (30 * c.args.self.now.count) l)
     (sym c.as_mut_slice.ensures.value) c.args.self.now.room)
 
 pub invariant_of-self : goal.invariant_of-self
-invariant_of-self c =
+invariant_of-self g c =
     let self = c.args.self.now in
     let old = self.slots.items in
     let new = c.take_whole-taken.new.slots in
@@ -66,7 +68,8 @@ invariant_of-self c =
     }
 
 -- what the frame makes of a list that the engine stood for
-module _ (c : goal.After-flow_of) (u : List Placed) (w : List ℕ) (h : Stands c.args.self.now u) (g : IsGathered c.args.at w c.args.frame.now) where
+module _ (g : bound.Over) (c : goal.After-flow_of g) (u : List Placed) (w : List ℕ) (h : Stands c.args.self.now u)
+    (q : IsGathered c.args.at w c.args.frame.now) where
   abbrev plan : Plan
   plan = c.args.self.now.plan
 
@@ -82,32 +85,35 @@ module _ (c : goal.After-flow_of) (u : List Placed) (w : List ℕ) (h : Stands c
   abbrev got : List Cell
   got = cells c.args.frame.now.bytes c.args.frame.now.offsets c.id.result
 
+  abbrev es : List (Event Packet)
+  es = c.take_whole-taken.ensures.taken.0
+
   abbrev last : ℕ
   last = c.args.at + (c.size-bytes.result - 1)
 
   size : length w ≡ c.size-bytes.result
-  size = whole_size w c.args.frame.now.bytes c.args.frame.now.halves g.whole ∙ sym c.size-bytes.ensures
+  size = whole_size w c.args.frame.now.bytes c.args.frame.now.halves q.whole ∙ sym c.size-bytes.ensures
 
   live : AllLive is_live slots
   live = live_now is_live c.args.self.now.live slots c.requires.live c.args.self.now.lives
 
   given : cells (units_of f) (offsets_of f) c.args.self.now.port.port.id ≡ got
   given =
-      ap (λ (l : List ℕ). cells l (offsets_of f) c.args.self.now.port.port.id) (g.whole.frame_is c.args.at)
-      ∙ ap (λ (l : List ℕ). cells c.args.frame.now.bytes l c.args.self.now.port.port.id) (sym g.offsets)
+      ap (λ (l : List ℕ). cells l (offsets_of f) c.args.self.now.port.port.id) (q.whole.frame_is c.args.at)
+      ∙ ap (λ (l : List ℕ). cells c.args.frame.now.bytes l c.args.self.now.port.port.id) (sym q.offsets)
       ∙ ap (λ (i : Option ℕ). cells c.args.frame.now.bytes c.args.frame.now.offsets i) (sym c.id.ensures)
 
   fed : FedFrame plan.frames got u c.args.at w
   fed =
       subst (λ (m : FramesMode). FedFrame m got u c.args.at w) h.mode
       (subst (λ (l : List Cell). FedFrame c.args.self.now.port.mode l u c.args.at w) given
-      (c.pass_frame.ensures.fed u f c.args.frame.now.halves c.args.at w h.port (g.whole.spelled c.args.at)))
+      (c.pass_frame.ensures.fed u f c.args.frame.now.halves c.args.at w h.port (q.whole.spelled c.args.at)))
 
   grows : GrowsByFrame (port_of plan u) (port_of plan next) c.args.frame.now.halves got
   grows =
       subst (λ (m : FramesMode). GrowsByFrame (port_reading m u) (port_reading m next) c.args.frame.now.halves got) h.mode
       (subst (λ (l : List Cell). GrowsByFrame (port_reading c.args.self.now.port.mode u) (port_reading c.args.self.now.port.mode next) c.args.frame.now.halves l) given
-      (c.pass_frame.ensures.grows u (placed_from c.args.at w) f c.args.frame.now.halves h.port (g.whole.spelled c.args.at)))
+      (c.pass_frame.ensures.grows u (placed_from c.args.at w) f c.args.frame.now.halves h.port (q.whole.spelled c.args.at)))
 
   abbrev Taken : List (Slot SourceMachine) → List Cell → Type 0
   Taken before cs =
@@ -115,37 +121,39 @@ module _ (c : goal.After-flow_of) (u : List Placed) (w : List ℕ) (h : Stands c
       (port_reading mode v).fault ≡ None → AreDistinct (mapped_of reading_of before) →
       AllStand MachineStands before (runs_in (port_reading mode v)) →
       StepTakenBy MachineStands (mapped_of reading_of before) c.take_whole-taken.new.slots mode v
-      (v ++ byte_at last byte ∷ []) c.take_whole-taken.new.out.items c.take_whole-taken.result.stop
+      (v ++ byte_at last byte ∷ []) es c.take_whole-taken.result.stop
 
   the_step : Stepped plan slots h.sources live c.take_whole-taken.new.slots c.take_whole-taken.new.counters u c.args.at w
-      c.take_whole-taken.new.out.items c.take_whole-taken.result.stop c.flow_of.result
+      es c.take_whole-taken.result.stop c.flow_of.result
   the_step =
       let keeps = h.going c.requires.live in
       let halves = c.args.self.now.counters.port.halves + c.args.frame.now.halves in
       stepped plan slots h.sources live c.take_whole-taken.new.slots c.args.self.now.counters c.take_whole-taken.new.counters
       halves Frame got last
-      c.take_whole-taken.new.out.items c.take_whole-taken.result.stop c.flow_of.result u c.args.at w
+      es c.take_whole-taken.result.stop c.flow_of.result u c.args.at w
       (rise_to u c.args.self.now.next c.args.at (subst (λ (k : ℕ). BytesRise 0 k u) (sym h.next) h.rising) c.requires.offsets.0)
       (none_there (fault_of plan u) (sym h.live ∙ c.requires.live)) keeps
       (subst (λ (ss : List (Mapped Packet)). AreDistinct ss) (sym h.sources) (distinct plan c.args.self.now.sound))
       fed
       (ap (λ (k : ℕ). k + c.args.frame.now.halves) keeps.counted.port.halves ∙ sym (halves_inside plan.frames got u c.args.at w c.args.frame.now.halves fed grows))
       (λ k e. (let a = size in omega arith))
-      (subst (λ (l : List (Slot SourceMachine)). Taken l got) c.as_mut_slice.ensures.value c.take_whole-taken.ensures.taken)
-      c.take_whole-taken.ensures.counted
+      (subst (λ (l : List (Slot SourceMachine)). Taken l got) c.as_mut_slice.ensures.value c.take_whole-taken.ensures.taken.2.0)
+      c.take_whole-taken.ensures.taken.2.1
       c.flow_of.ensures.fault
 
 pub returns-clause-fed : goal.returns-clause-fed
-returns-clause-fed c = λ u w h g. (the_step c u w h g).fed
+returns-clause-fed g c =
+    let t = c.take_whole-taken.ensures.taken in
+    (t.0, t.1, λ u w h q. (the_step g c u w h q).fed)
 
 pub returns-clause-list : goal.returns-clause-list
-returns-clause-list c = λ u w h g.
+returns-clause-list g c = λ u w h q.
     let self = c.args.self.now in
     let new = c.take_whole-taken.new.slots in
     let at = c.args.at in
     let all = slots_are reading_of self.slots.items new (c.take_whole-taken.ensures.same ∙ ap (mapped_of reading_of) c.as_mut_slice.ensures.value) in
-    let step = the_step c u w h g in
-    let long = size c u w h g in
+    let step = the_step g c u w h q in
+    let long = size g c u w h q in
     let rise = rise_to u self.next at (subst (λ (k : ℕ). BytesRise 0 k u) (sym h.next) h.rising) c.requires.offsets.0 in
     let made = c.size-bytes.ensures in
     let end = end_block w u at (let a = long in omega arith) in
@@ -153,9 +161,9 @@ returns-clause-list c = λ u w h g.
     let frame = c.args.frame.now in
     record {
       port =
-          c.pass_frame.ensures.list u (placed_from at w) (f c u w h g) frame.halves h.port (g.whole.spelled at)
+          c.pass_frame.ensures.list u (placed_from at w) (f g c u w h q) frame.halves h.port (q.whole.spelled at)
           (c.take_whole-taken.ensures.after ∙ ap (id_after frame.bytes) c.id.ensures
-          ∙ ap (λ (l : List ℕ). id_after l self.port.port.id) (sym (g.whole.frame_is at)));
+          ∙ ap (λ (l : List ℕ). id_after l self.port.port.id) (sym (q.whole.frame_is at)));
       mode = c.pass_frame.ensures.same ∙ h.mode;
       sources =
           ap (mapped_of reading_of) all ∙ c.take_whole-taken.ensures.same ∙ ap (mapped_of reading_of) c.as_mut_slice.ensures.value

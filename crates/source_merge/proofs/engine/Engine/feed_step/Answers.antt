@@ -11,13 +11,16 @@ use Rattle.port_reader.specs.Growth.{Answers as PortAnswers}
 use Rattle.port_reader.specs.Reading.{port_reading}
 use Rattle.port_reader.specs.Rising.{BytesRise}
 use Rattle.source_events.specs.Report.{Mapped, runs_in}
+use Rattle.source_events.specs.Fitting.{AllFit, PacketFits}
+use Rattle.source_events.specs.declared.event.Event.{Event}
 use Rattle.source_events.specs.declared.packet.Packet.{Packet}
 use Rattle.source_events.specs.declared.plan.Plan.{Plan}
 use Rattle.source_machine.specs.Machine.{reading_of, Stands as MachineStands, is_live, held_of, skipped_by}
 use Rattle.source_machine.specs.declared.machine.SourceMachine.{SourceMachine}
 use Rattle.source_merge.specs.declared.slot.Slot.{Slot}
 use Rattle.source_merge.specs.Engine.{Stands, Keeps}
-use Rattle.source_merge.specs.Answering.{fault_of}
+use Rattle.source_merge.specs.Answering.{Answers, fault_of}
+use Rattle.source_merge.specs.declared.flow.Flow.TheVariants.{Going}
 use Rattle.source_merge.specs.Routing.{mapped_of, AllLive, AllStand, HaveRoom, LiveIf, AreDistinct}
 use Rattle.source_merge.proofs.Slots.{room_more}
 use Rattle.source_merge.proofs.Standing.{distinct, none_there, live_now, live_if, tested, none_of}
@@ -32,6 +35,9 @@ take_step-stop-requires-clause-room c =
     (let a = c.args.self.now.within in let b = c.args.self.now.limit in omega arith)
     (subst (λ (l : List (Slot SourceMachine)). HaveRoom held_of skipped_by (30 * c.args.self.now.count) l)
     (sym c.as_mut_slice.ensures.value) c.args.self.now.room)
+
+pub take_step-stop-requires-clause-space : goal.take_step-stop-requires-clause-space
+take_step-stop-requires-clause-space c = (let e = ap length c.requires.empty in omega arith)
 
 pub invariant_of-self : goal.invariant_of-self
 invariant_of-self c =
@@ -70,6 +76,9 @@ module _ (c : goal.After-flow_of) (u : List Placed) (h : Stands c.args.self.now 
   abbrev slots : List (Slot SourceMachine)
   slots = c.args.self.now.slots.items
 
+  abbrev es : List (Event Packet)
+  es = c.take_step-stop.ensures.taken.0
+
   abbrev bytes : List ℕ
   bytes = take c.feed_block-taken.result.bytes c.args.piece.now
 
@@ -86,10 +95,10 @@ module _ (c : goal.After-flow_of) (u : List Placed) (h : Stands c.args.self.now 
       (port_reading mode v).fault ≡ None → AreDistinct (mapped_of reading_of before) →
       AllStand MachineStands before (runs_in (port_reading mode v)) →
       StepTakenBy MachineStands (mapped_of reading_of before) c.take_step-stop.new.slots mode v
-      (v ++ byte_at (c.args.at + (c.feed_block-taken.result.bytes - 1)) byte ∷ []) c.take_step-stop.new.out.items c.take_step-stop.result
+      (v ++ byte_at (c.args.at + (c.feed_block-taken.result.bytes - 1)) byte ∷ []) es c.take_step-stop.result
 
   the_step : Stepped plan slots h.sources live c.take_step-stop.new.slots c.take_step-stop.new.counters u c.args.at bytes
-      c.take_step-stop.new.out.items c.take_step-stop.result c.flow_of.result
+      es c.take_step-stop.result c.flow_of.result
   the_step =
       let keeps = h.going c.requires.live in
       let inside = quiet_inside plan.frames (PortAnswers plan.frames c.feed_block-taken.result.step c.feed_block-taken.new.out.items) u c.args.at bytes
@@ -97,20 +106,37 @@ module _ (c : goal.After-flow_of) (u : List Placed) (h : Stands c.args.self.now 
       h.mode (c.feed_block-taken.ensures.fed u h.port)) in
       stepped plan slots h.sources live c.take_step-stop.new.slots c.args.self.now.counters c.take_step-stop.new.counters
       c.args.self.now.counters.port.halves c.feed_block-taken.result.step c.feed_block-taken.new.out.items (c.args.at + (c.feed_block-taken.result.bytes - 1))
-      c.take_step-stop.new.out.items c.take_step-stop.result c.flow_of.result u c.args.at bytes
+      es c.take_step-stop.result c.flow_of.result u c.args.at bytes
       (rise_to u c.args.self.now.next c.args.at (subst (λ (k : ℕ). BytesRise 0 k u) (sym h.next) h.rising) c.requires.offsets.0)
       (none_there (fault_of plan u) (sym h.live ∙ c.requires.live)) keeps
       (subst (λ (ss : List (Mapped Packet)). AreDistinct ss) (sym h.sources) (distinct plan c.args.self.now.sound))
       inside.0 (keeps.counted.port.halves ∙ sym inside.1)
       (λ k e. (let a = size in omega arith))
       (subst (λ (l : List (Slot SourceMachine)). Taken l c.feed_block-taken.new.out.items) c.as_mut_slice.ensures.value
-      (subst (λ (l : List Cell). Taken c.as_mut_slice.result.now l) c.as_slice.ensures.value c.take_step-stop.ensures.taken))
-      (subst (λ (l : List Cell). IsCounted plan slots h.sources live c.args.self.now.counters c.take_step-stop.new.counters c.feed_block-taken.result.step l (c.args.at + (c.feed_block-taken.result.bytes - 1)) c.take_step-stop.new.out.items c.take_step-stop.result)
-      c.as_slice.ensures.value c.take_step-stop.ensures.counted)
+      (subst (λ (l : List Cell). Taken c.as_mut_slice.result.now l) c.as_slice.ensures.value c.take_step-stop.ensures.taken.2.0))
+      (subst (λ (l : List Cell). IsCounted plan slots h.sources live c.args.self.now.counters c.take_step-stop.new.counters c.feed_block-taken.result.step l (c.args.at + (c.feed_block-taken.result.bytes - 1)) es c.take_step-stop.result)
+      c.as_slice.ensures.value c.take_step-stop.ensures.taken.2.1)
       c.flow_of.ensures.fault
 
+-- the list has what was given, and nothing else
+given : (c : goal.After-flow_of) → c.take_step-stop.new.out.items ≡ c.take_step-stop.ensures.taken.0
+given c =
+    let t = c.take_step-stop.ensures.taken in
+    t.1.0 ∙ ap (λ (l : List (Event Packet)). l ++ t.0) c.requires.empty
+
+pub returns-clause-few : goal.returns-clause-few
+returns-clause-few c = (let e = ap length c.requires.empty in let a = c.take_step-stop.ensures.space in omega arith)
+
+pub returns-clause-fits : goal.returns-clause-fits
+returns-clause-fits c =
+    subst (λ (l : List (Event Packet)). AllFit PacketFits l) (sym (given c)) c.take_step-stop.ensures.taken.1.1
+
 pub returns-clause-fed : goal.returns-clause-fed
-returns-clause-fed c = λ u h. (the_step c u h).fed
+returns-clause-fed c = λ u h.
+    let plan = c.args.self.now.plan in
+    let bytes = take c.feed_block-taken.result.bytes c.args.piece.now in
+    subst (λ (l : List (Event Packet)). FedAs (Answers plan [] Going) (Answers plan l c.flow_of.result) u c.args.at bytes)
+    (sym (given c)) (the_step c u h).fed
 
 pub returns-clause-list : goal.returns-clause-list
 returns-clause-list c = λ u h.

@@ -1,10 +1,11 @@
 use Rattle.std.proofs.Common.{◌≡◌, ℕ, ◌+◌, ◌-◌, ◌*◌, ◌≤◌, List, ◌++◌, length, drop}
-use Rattle.arrayvec.specs.ArrayVec.{array_vec_len}
 use Rattle.trace_values.specs.declared.cell.Cell.{Cell}
+use Rattle.source_events.specs.declared.event.Event.{Event}
+use Rattle.source_events.specs.declared.packet.Packet.{Packet}
 use Rattle.source_events.specs.Runs.{RisesFrom, runs_of}
-use Rattle.source_events.specs.Fitting.{AllFit, PacketFits}
 use Rattle.source_machine.specs.Machine.{Stands, held_of, is_live, reading_of, skipped_by}
-use Rattle.source_merge.specs.Counting.{HasBytes, bytes_counted}
+use Rattle.source_merge.specs.Counting.{HasBytes, bytes_counted, total_of}
+use Rattle.source_merge.specs.Giving.{Given}
 use Rattle.source_merge.specs.Routing.{mapped_of, AllLive, AllStand, HaveRoom, AreDistinct, RunsBetween}
 use Rattle.source_merge.specs.Split.{AreParts, cells_of_parts, split_cells}
 use Rattle.source_merge.proofs.Filling.{Filled}
@@ -12,7 +13,7 @@ use Rattle.source_merge.proofs.split.SplitFrameFrameCells.take.Given as goal
 
 -- the parts so far are taken, and none had a fault
 abbrev pub invariant-loop-part : goal.invariant-loop-part
-invariant-loop-part l =
+invariant-loop-part g l =
     let cells = split_cells l.self in
     let parts_left = drop l.part-index l.self.parts.items in
     let rest = cells_of_parts l.self.offsets l.self.bytes parts_left in
@@ -25,11 +26,13 @@ invariant-loop-part l =
       live : AllLive is_live l.slots;
       size : length rest ≤ length cells;
       room : (n : ℕ) → HaveRoom held_of skipped_by n l.fn.slots → HaveRoom held_of skipped_by (n + 2 * (length cells - length rest)) l.slots;
-      events : array_vec_len l.out ≤ 2 * (length cells - length rest);
-      fits : AllFit PacketFits l.out.items;
+      given : List (Event Packet);
+      to_receiver : Given g.V.Receiver.gets (l.fn.items, (l.fn.out, l.fn.to)) (l.items, (l.out, l.to)) given;
+      space : g.V.Receiver.room (l.fn.out, l.fn.to) ≤ g.V.Receiver.room (l.out, l.to) + 2 * (length cells - length rest);
+      total : total_of l.items ≤ total_of l.fn.items + 2 * (length cells - length rest);
       counted : (whole runs : List (List Cell)) → HasBytes l.fn.counts whole runs → HasBytes l.counts whole (runs ++ done);
       count : bytes_counted l.counts ≤ bytes_counted l.fn.counts + (length cells - length rest);
       fed : (runs : List (List Cell)) (n : ℕ) → AreDistinct (mapped_of reading_of l.fn.slots) → AllStand Stands l.fn.slots runs →
           RunsBetween 0 n runs → RisesFrom n cells →
-          Filled Stands (mapped_of reading_of l.fn.slots) l.slots runs n done rest l.out.items;
+          Filled Stands (mapped_of reading_of l.fn.slots) l.slots runs n done rest given;
     }

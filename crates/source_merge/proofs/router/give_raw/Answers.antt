@@ -1,0 +1,53 @@
+use Rattle.std.proofs.Common.{Some, ◌-◌, ◌≡◌, get_or, sym, ◌∙◌, ap, List, [], ◌∷◌, ℕ}
+use Rattle.trace_values.specs.declared.cell.Cell.{Cell}
+use Rattle.source_events.specs.declared.event.Event.{Event}
+use Rattle.source_events.specs.declared.packet.Packet.{Packet}
+use Rattle.trace_values.specs.Placed.{Place}
+use Rattle.source_events.specs.declared.event.What.{What}
+use Rattle.source_events.specs.declared.event.What.TheVariants.{Raw}
+use Rattle.source_events.specs.Merge.{told}
+use Rattle.source_events.specs.Report.{raw_events, triggers}
+use Rattle.source_events.specs.Runs.{last_at}
+use Rattle.source_events.proofs.Raws.{raw_is, last_is}
+use Rattle.source_merge.proofs.Givings.{given_as, given_none}
+use Rattle.source_merge.proofs.router.give_raw.Goals as goal
+
+-- what a run of the null source tells, and one of the trigger source
+null_run : (x : ℕ) (run : List Cell) → x ≡ 0 → [] ≡ told {V = Packet} (Some x) (raw_events x run)
+null_run x run e = ap (λ (n : ℕ). told {V = Packet} (Some x) (raw_events n run)) (sym e)
+
+trigger_run : (x : ℕ) (run : List Cell) → x ≡ 125 →
+    told {V = Packet} (Some x) (triggers run) ≡ told (Some x) (raw_events x run)
+trigger_run x run e = ap (λ (n : ℕ). told {V = Packet} (Some x) (raw_events n run)) (sym e)
+
+pub returns-then-number-eq-NULL-clause-given : goal.returns-then-number-eq-NULL-clause-given
+returns-then-number-eq-NULL-clause-given g c =
+    let run = g.R.Run.cells c.args.run.now in
+    let x = c.args.source in
+    given_as g.V.Receiver.gets (c.args.items.now, (c.args.out.now, c.args.to.now))
+    (c.args.items.now, (c.args.out.now, c.args.to.now)) [] (told (Some x) (raw_events x run))
+    (null_run x run (sym c.number-number.ensures.value ∙ c.if-number-eq-NULL.true))
+    (given_none g.V.Receiver.gets g.met.V.Receiver.gets_none (c.args.items.now, (c.args.out.now, c.args.to.now)))
+
+pub returns-then-number-eq-TRIGGER-clause-given : goal.returns-then-number-eq-TRIGGER-clause-given
+returns-then-number-eq-TRIGGER-clause-given g c =
+    let run = g.R.Run.cells c.args.run.now in
+    let x = c.args.source in
+    given_as g.V.Receiver.gets (c.args.items.now, (c.args.out.now, c.args.to.now))
+    (c.give_triggers.new.items, (c.give_triggers.new.out, c.give_triggers.new.to)) (told (Some x) (triggers run))
+    (told (Some x) (raw_events x run))
+    (trigger_run x run (sym c.number-number.ensures.value ∙ c.if-number-eq-TRIGGER.true)) c.give_triggers.ensures.given
+
+pub returns-clause-given : goal.returns-clause-given
+returns-clause-given g c =
+    let run = g.R.Run.cells c.args.run.now in
+    let x = c.args.source in
+    given_as g.V.Receiver.gets (c.args.items.now, (c.args.out.now, c.args.to.now))
+    (c.give.new.items, (c.give.new.out, c.give.new.to)) (c.event_at.result ∷ []) (told (Some x) (raw_events x run))
+    (ap (λ (e : Event Packet). e ∷ []) c.event_at.ensures
+    ∙ ap (λ (l : List (What Packet × Place)). told (Some x) l)
+    (ap (λ (n : ℕ). (Raw c.raw_bytes.result, record { at = n; half = 0 }) ∷ [])
+    (ap (λ (d : Cell). d.at) (c.cell-at.ensures ∙ ap (λ (n : ℕ). get_or run (n - 1) c.cell-at.result) c.len.ensures.value) ∙ last_is run c.cell-at.result c.requires.some)
+    ∙ ap (λ (b : List ℕ). (Raw b, record { at = last_at run; half = 0 }) ∷ []) c.raw_bytes.ensures
+    ∙ sym (raw_is Packet x run (λ e. c.if-number-eq-NULL.false (c.number-number.ensures.value ∙ e)) (λ e. c.if-number-eq-TRIGGER.false (c.number-number.ensures.value ∙ e)))))
+    c.give.ensures.given

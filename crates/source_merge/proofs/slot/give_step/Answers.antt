@@ -1,0 +1,21 @@
+use Rattle.std.proofs.Common.{◌≡◌, ◌∷◌, [], ap, Some}
+use Rattle.trace_values.specs.declared.step.Step.{Step}
+use Rattle.trace_values.specs.Stream.{given_by}
+use Rattle.source_events.specs.Merge.{told}
+use Rattle.source_events.specs.Report.{lifted}
+use Rattle.source_events.specs.declared.packet.Packet.{Packet}
+use Rattle.source_merge.proofs.Givings.{given_as, given_more}
+use Rattle.source_merge.proofs.slot.give_step.Goals as goal
+
+-- the notice, and then the packet
+pub returns-in-Locked-clause-given : goal.returns-in-Locked-clause-given
+returns-in-Locked-clause-given g c =
+    let gets = g.V.Receiver.gets in
+    let one = c.event_at-in-Locked.ensures in
+    let two = c.event_at-in-Locked-2.ensures in
+    let whole = ap (λ (s : Step Packet). told (Some c.args.source) (lifted (given_by c.args.at s))) c.in-Locked.is in
+    let events : c.event_at-in-Locked.result ∷ c.event_at-in-Locked-2.result ∷ []
+    ≡ told (Some c.args.source) (lifted (given_by c.args.at c.args.step)) = cc in
+    given_as gets _ _ _ _ events
+    (given_more gets g.met.V.Receiver.gets_more _ _ _ _ _ c.give-in-Locked.ensures.given
+    c.give-in-Locked-2.ensures.given)
