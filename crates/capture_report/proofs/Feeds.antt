@@ -1,6 +1,6 @@
 -- What a call of `show` made of the front of a piece, from what the engine took and what was put.
 use Rattle.std.proofs.Common.{◌≡◌, ◌∙◌, ℕ, ◌+◌, ◌-◌, [], List, ◌++◌, length, take, drop, sym, ap, subst, append_assoc, length-append, arith}
-use Rattle.std.specs.Prelude.{option_map}
+use Rattle.std.specs.Prelude.{option_map, Option}
 use Rattle.std.proofs.lemmas.List.{take_all, length-drop}
 use Rattle.std.proofs.Math.Seq.{take-add}
 use Rattle.trace_values.specs.Placed.{Placed, placed, placed_from}
@@ -10,16 +10,21 @@ use Rattle.trace_stream.specs.Taken.{HasTaken, FlowAfter}
 use Rattle.trace_stream.specs.declared.action.Flow.{Flow}
 use Rattle.trace_stream.specs.declared.action.Flow.TheVariants.{On}
 use Rattle.source_events.specs.declared.event.Event.{Event}
+use Rattle.source_events.specs.declared.event.Stop.{Stop}
 use Rattle.source_events.specs.declared.packet.Packet.{Packet}
+use Rattle.source_events.specs.declared.plan.Plan.{Plan}
 use Rattle.source_events.specs.Report.{stop_of}
 use Rattle.source_merge.specs.Answering.{Answers, report_of, goes_on}
+use Rattle.source_merge.specs.declared.engine.Engine.{Engine}
 use Rattle.source_merge.specs.declared.flow.Flow.{Flow as Reading}
 use Rattle.source_merge.specs.declared.flow.Flow.TheVariants.{Going, Stopped}
 use Rattle.source_merge.specs.Engine as engine
 use Rattle.capture_report.specs.declared.list_plan.ListPlan.{ListPlan}
+use Rattle.capture_report.specs.declared.lister.Lister.{Lister}
 use Rattle.capture_report.specs.declared.show.Show.{Show}
 use Rattle.capture_report.specs.Stopping.{flow_by, stop_by}
-use Rattle.capture_report.specs.Filter.{HasSeen}
+use Rattle.capture_report.specs.Filter.{plan_by, HasSeen}
+use Rattle.capture_report.specs.Lister.{ListerGets}
 use Rattle.capture_report.specs.LineLaws.{lines_append}
 use Rattle.capture_report.specs.Listing.{lines_after, show_meaning}
 use Rattle.capture_report.specs.Show.{plan_of, IsLive, Stands}
@@ -28,27 +33,42 @@ use Rattle.capture_report.specs.SourceClocks.{AllStand}
 use Rattle.capture_report.proofs.Feeding.{stands_after, report_after, report_here, stop_after, flow_after}
 
 -- what the engine took, and the fault that was kept
-pub record Took (old new : Show) (at : ℕ) (bytes : List ℕ) (given : List (Event Packet)) (flow : Reading) : Type 0 where
-  pub at_is : at ≡ engine.next_of old.engine
-  pub count : engine.next_of new.engine ≡ at + length bytes
-  pub live : engine.is_live new.engine ≡ goes_on flow
-  pub same : engine.plan_of new.engine ≡ engine.plan_of old.engine
-  pub list : (u : List Placed) → engine.Stands old.engine u → engine.Stands new.engine (u ++ placed_from at bytes)
-  pub fed : (u : List Placed) → engine.Stands old.engine u →
-      FedAs (Answers (engine.plan_of old.engine) [] Going) (Answers (engine.plan_of old.engine) given flow) u at bytes
-  pub stop : new.stop ≡ stop_by flow old.stop
+pub record Took (old new : Engine) (was now : Option Stop) (at : ℕ) (bytes : List ℕ) (given : List (Event Packet))
+    (flow : Reading) : Type 0 where
+  pub at_is : at ≡ engine.next_of old
+  pub count : engine.next_of new ≡ at + length bytes
+  pub live : engine.is_live new ≡ goes_on flow
+  pub same : engine.plan_of new ≡ engine.plan_of old
+  pub list : (u : List Placed) → engine.Stands old u → engine.Stands new (u ++ placed_from at bytes)
+  pub fed : (u : List Placed) → engine.Stands old u →
+      FedAs (Answers (engine.plan_of old) [] Going) (Answers (engine.plan_of old) given flow) u at bytes
+  pub stop : now ≡ stop_by flow was
 
--- what was put for these events
-pub record Put (old new : Show) (given : List (Event Packet)) (before after : List ℕ) : Type 0 where
-  pub asked : plan_of new ≡ plan_of old
+-- what was put for these events of a capture that is read by this plan
+pub record Put (plan : Plan) (old new : Lister) (given : List (Event Packet)) (before after : List ℕ) : Type 0 where
+  pub kept : new.plan ≡ old.plan
+  pub asked : plan_by plan new.filter ≡ plan_by plan old.filter
   pub clocks : (es : List (Event Packet)) → AllStand old.clocks es → AllStand new.clocks (es ++ given)
   pub seen : (es : List (Event Packet)) → HasSeen old.filter es → HasSeen new.filter (es ++ given)
-  pub text : (es : List (Event Packet)) → AllStand old.clocks es → HasSeen old.filter es →
-      after ≡ before ++ lines_after (plan_of old) es given
+  pub text : old.plan ≡ plan → (es : List (Event Packet)) → AllStand old.clocks es → HasSeen old.filter es →
+      after ≡ before ++ lines_after (plan_by plan old.filter) es given
+
+-- what a lister was given, it put
+pub given_put : (plan : Plan) (old new : Lister) (given : List (Event Packet)) (before after : List ℕ) →
+    ListerGets (old, before) given (new, after) → Put plan old new given before after
+given_put plan old new given before after g = record {
+  kept = g.kept;
+  asked = ap (λ (p : ListPlan). record { plan = plan; only = p.only; window = p.window }) g.asked;
+  clocks = g.clocks;
+  seen = g.seen;
+  text = λ e es h f.
+      g.text es h f ∙ ap (λ (p : Plan). before ++ lines_after (plan_by p old.filter) es given) e;
+}
 
 module _ (old new : Show) (at : ℕ) (bytes : List ℕ) (given : List (Event Packet)) (flow : Reading)
-    (before after : List ℕ) (live : IsLive old) (took : Took old new at bytes given flow)
-    (put : Put old new given before after) where
+    (before after : List ℕ) (live : IsLive old)
+    (took : Took old.engine new.engine old.stop new.stop at bytes given flow)
+    (put : Put (engine.plan_of old.engine) old.lister new.lister given before after) where
   taken : (seen : List ℕ) → Stands old seen → HasTaken (Stands new) (show_meaning (plan_of old))
       (record { seen = seen; front = bytes; before = before; after = after }) (flow_by flow)
   taken seen s =
@@ -62,8 +82,9 @@ module _ (old new : Show) (at : ℕ) (bytes : List ℕ) (given : List (Event Pac
       record {
         read = record {
           engine = stands_after e k seen bytes at given flow s.engine live took.at_is took.same list fed;
-          clocks = subst (λ (es : List (Event Packet)). AllStand new.clocks es) (sym grew) (put.clocks report s.clocks);
-          filter = subst (λ (es : List (Event Packet)). HasSeen new.filter es) (sym grew) (put.seen report s.filter);
+          plan = put.kept ∙ s.plan ∙ sym took.same;
+          clocks = subst (λ (es : List (Event Packet)). AllStand new.lister.clocks es) (sym grew) (put.clocks report s.clocks);
+          filter = subst (λ (es : List (Event Packet)). HasSeen new.lister.filter es) (sym grew) (put.seen report s.filter);
           stop = ap (option_map stop_of) took.stop
               ∙ stop_after e k seen bytes at given flow s.engine live took.at_is took.same list fed old.stop
               (sym old.alive ∙ live);
@@ -71,7 +92,7 @@ module _ (old new : Show) (at : ℕ) (bytes : List ℕ) (given : List (Event Pac
         more = lines_after p report given;
         grown = ap (lines_after p []) (report_here e k seen bytes at given flow s.engine live took.at_is took.same list fed)
             ∙ lines_append p [] report given;
-        gained = put.text report s.clocks s.filter;
+        gained = put.text s.plan report s.clocks s.filter;
         goes_on = flow_after e k seen bytes at given flow s.engine live took.at_is took.same list fed;
       }
 
@@ -81,7 +102,7 @@ module _ (old new : Show) (at : ℕ) (bytes : List ℕ) (given : List (Event Pac
 
   pub has_fed : HasFed old new bytes (flow_by flow) before after
   has_fed = record {
-    same = put.asked;
+    same = ap (λ (p : Plan). plan_by p new.lister.filter) took.same ∙ put.asked;
     count = took.count ∙ ap (λ (n : ℕ). n + length bytes) took.at_is;
     live = on_live flow took.live;
     fed = taken;

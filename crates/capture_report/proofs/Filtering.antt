@@ -1,12 +1,9 @@
 -- What is listed after one more event.
-use Rattle.std.proofs.Common.{◌≡◌, Bool, true, false, ◌&&◌, ◌||◌, List, [], ◌∷◌, ◌++◌, refl, sym, ◌∙◌, ap, append-nil, cond}
+use Rattle.std.proofs.Common.{◌≡◌, Bool, true, false, ◌&&◌, ◌||◌, List, [], ◌∷◌, ◌++◌, refl, ◌∙◌, ap, append-nil, cond}
 use Rattle.std.proofs.lemmas.List.Elements.{filter-append}
 use Rattle.source_events.specs.declared.event.Event.{Event}
 use Rattle.source_events.specs.declared.packet.Packet.{Packet}
-use Rattle.source_events.specs.declared.plan.Plan.{Plan}
 use Rattle.source_events.specs.Report.{is_item}
-use Rattle.capture_report.specs.declared.filter.Filter.{Filter}
-use Rattle.capture_report.specs.Filter.{plan_by}
 use Rattle.capture_report.specs.Listing.{items_in}
 
 or_true : (b : Bool) → (b || true) ≡ true
@@ -32,9 +29,3 @@ pub notice_more : (es : List (Event Packet)) (e : Event Packet) → is_item e.wh
     items_in (es ++ e ∷ []) ≡ items_in es
 notice_more es e h =
     items_more es e ∙ ap (λ (b : Bool). items_in es ++ cond b (e ∷ []) []) h ∙ append-nil (items_in es)
-
--- what is asked of a listing is the same after a step that keeps the plan and the filter's choices
-pub same_asked : (old given new : Plan) (before after : Filter) → given ≡ new → new ≡ old →
-    plan_by given after ≡ plan_by given before → plan_by new after ≡ plan_by old before
-same_asked old given new before after g n f =
-    ap (λ (plan : Plan). plan_by plan after) (sym g) ∙ f ∙ ap (λ (plan : Plan). plan_by plan before) (g ∙ n)

@@ -8,10 +8,13 @@ pub mod ListingLaws
 pub mod Filtered
 pub mod SourceClocks
 pub mod Filter
+pub mod Lister
+pub mod ListerLaws
 pub mod Show
 pub mod Feeding
 pub mod Summary
 pub mod CheckLaws
 pub mod Check
+pub mod Ignored
 pub mod Rows
 pub mod Stopping

@@ -11,14 +11,15 @@ use Rattle.capture_report.specs.declared.show.Show.{Show}
 
 -- what it was asked for
 abbrev pub plan_of : Show → ListPlan
-plan_of show = plan_by (reading.plan_of show.engine) show.filter
+plan_of show = plan_by (reading.plan_of show.engine) show.lister.filter
 
--- its engine stands for these bytes, its clocks have taken their packets, its window has seen their events, and it
--- keeps the fault of their report
+-- its engine stands for these bytes, its lister reads by the same plan, its clocks have taken their packets, its window
+-- has seen their events, and it keeps the fault of their report
 pub record Stands (show : Show) (seen : List ℕ) : Type 0 where
   pub engine : reading.Stands show.engine (placed seen)
-  pub clocks : AllStand show.clocks (report_of (reading.plan_of show.engine) (placed seen))
-  pub filter : HasSeen show.filter (report_of (reading.plan_of show.engine) (placed seen))
+  pub plan : show.lister.plan ≡ reading.plan_of show.engine
+  pub clocks : AllStand show.lister.clocks (report_of (reading.plan_of show.engine) (placed seen))
+  pub filter : HasSeen show.lister.filter (report_of (reading.plan_of show.engine) (placed seen))
   pub stop : option_map stop_of show.stop ≡ fault_of (reading.plan_of show.engine) (placed seen)
 
 -- how many bytes it took

@@ -1,7 +1,7 @@
 //! `check`: how many synchronisations and frames a port has, how much each source sent, and how the capture ends.
 
 ghost use Rattle.source_events.specs.declared.tails.TheConstants.{GREATEST_COUNT};
-ghost use Rattle.std.specs.Prelude.{◌≡◌, ◌+◌, ◌*◌, ◌^◌, ◌<◌, ◌≤◌, ◌++◌, [], ℕ, List, length, is_none, true};
+ghost use Rattle.std.specs.Prelude.{◌≡◌, ◌+◌, ◌*◌, ◌<◌, ◌≤◌, ◌++◌, [], ℕ, List, length, is_none, true};
 ghost use Rattle.trace_values.specs.Placed.{Placed};
 ghost use Rattle.source_events.specs.Plan.{is_sound};
 ghost use Rattle.source_events.specs.Tails.{source_counts_of};
@@ -9,11 +9,11 @@ ghost use Rattle.source_merge.specs.Engine as engine;
 ghost use Rattle.source_merge.specs.Engine.{is_live};
 ghost use Rattle.capture_report.specs.Summary.{source_text, sources_text};
 
-use crate::show::sends_stp;
+use crate::lister::sends_stp;
 use crate::stopping::keep_stop;
 use source_counts::Counts;
-use source_events::{Plan, Stop};
-use source_merge::{Engine, Events, flow_after};
+use source_events::{Event, Packet, Plan, Stop};
+use source_merge::{Engine, Events, Receiver, flow_after};
 use trace_stream::{Action, Flow, OUTLET_ROOM, Outlet, TEXT_ROOM, Taken};
 use trace_text::{PortCountsLines, TAILS_ROOM, print_fault, print_tails, put_source_counts};
 use trace_values::{ID_COUNT, SourceId};
@@ -32,6 +32,28 @@ pub struct Check {
     events: Events,
     stop: Option<Stop>,
     ghost alive: { is_live engine ≡ is_none stop },
+}
+
+/// Takes the events of whole frames. Events are only counted, which the engine does.
+#[derive(Drop)]
+struct Ignored;
+
+/// Nothing is done with an event.
+impl Receiver for Ignored {
+    ghost use Rattle.capture_report.specs.Ignored.{gets, room, gets_none, gets_more};
+
+    type To = ();
+
+    ghost gets = { gets };
+
+    ghost room = { room };
+
+    ghost gets_none = { gets_none };
+
+    ghost gets_more = { gets_more };
+
+    #[inline(always)]
+    fn give(&mut self, _to: &mut (), _event: Event<Packet>) {}
 }
 
 /// The line of what a source sent, if it sent a byte.
@@ -174,7 +196,7 @@ impl Action for Check {
 
     ghost text_grows = { text_grows };
 
-    /// A whole frame is counted at once where no source is mapped.
+    /// A whole frame is counted at once where no source is mapped, and is taken at once where one is.
     fn feed(&mut self, piece: &[u8], _outlet: &mut Outlet) -> Taken {
         let at = self.engine.next();
         if let Some(bytes) = self.engine.count_frame(at, piece) {
@@ -187,6 +209,14 @@ impl Action for Check {
             let flow = keep_stop(&mut self.stop, flow_after(&block.step));
             return Taken {
                 bytes: block.bytes,
+                flow,
+            };
+        }
+        let framed = self.engine.feed_frame(at, piece, &mut Ignored, &mut ());
+        if let Some(fed) = framed {
+            let flow = keep_stop(&mut self.stop, fed.flow);
+            return Taken {
+                bytes: fed.bytes,
                 flow,
             };
         }

@@ -7,6 +7,7 @@ mod clocks;
 mod filter;
 pub mod laws;
 mod list_plan;
+mod lister;
 pub mod rows;
 mod show;
 mod source_clocks;

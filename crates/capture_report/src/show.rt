@@ -1,37 +1,32 @@
 //! `show`: the listing of the events of a capture.
 
-ghost use Rattle.std.specs.Prelude.{◌≡◌, ◌+◌, ◌≤◌, ◌++◌, ◌∷◌, [], List, length, is_none, Some, IfSome, true};
-ghost use Rattle.std.specs.Prelude.{if◌then◌else◌};
-ghost use Rattle.arrayvec.specs.ArrayVec.{array_vec_len};
+ghost use Rattle.std.specs.Prelude.{◌≡◌, ◌+◌, ◌≤◌, ◌++◌, [], List, length, is_none, Some, IfSome, true};
 ghost use Rattle.trace_stream.specs.declared.action.TheConstants.{ACTION_ROOM};
 ghost use Rattle.source_events.specs.declared.event.Event.{Event};
 ghost use Rattle.source_events.specs.declared.packet.Packet.{Packet};
-ghost use Rattle.source_events.specs.Fitting.{AllFit, EventFits, PacketFits};
+ghost use Rattle.source_events.specs.Fitting.{AllFit, PacketFits};
 ghost use Rattle.source_events.specs.Plan.{is_sound};
 ghost use Rattle.trace_values.specs.declared.step.Step.TheVariants.{Item};
 ghost use Rattle.trace_values.specs.Stream.{StepFits};
 ghost use Rattle.source_machine.specs.Seen.{packet_in};
 ghost use Rattle.source_merge.specs.Bare.{bare_events};
 ghost use Rattle.source_merge.specs.Engine.{is_live};
-ghost use Rattle.trace_text.specs.LineText.{event_line};
-ghost use Rattle.trace_text.specs.Printable.{Suits};
 ghost use Rattle.trace_stream.specs.declared.outlet.TheConstants.{TEXT_ROOM, OUTLET_ROOM};
-ghost use Rattle.capture_report.specs.Faulty.{is_stp};
 ghost use Rattle.capture_report.specs.Filter.{plan_by, HasSeen};
-ghost use Rattle.capture_report.specs.Listing.{is_listed, line_after, lines_after};
+ghost use Rattle.capture_report.specs.Listing.{lines_after};
 ghost use Rattle.capture_report.specs.SourceClocks.{AllStand};
 
 use crate::filter::Filter;
 use crate::list_plan::ListPlan;
+use crate::lister::{Lister, put_by_kind, put_event, sends_stp};
 use crate::source_clocks::SourceClocks;
 use crate::stopping::keep_stop;
-use itm_grammar::packet::ItmPacket;
 use source_events::{Event, Packet, Plan, Stop, What};
 use source_merge::{Engine, Events, bare_source, flow_after, note_bare};
 use stp_grammar::item::StpItem;
 use trace_stream::{Action, Flow, OUTLET_ROOM, Outlet, Taken};
-use trace_text::{Digits, EVENT_ROOM, Remark, print, print_fault, print_tails, put_stp_line};
-use trace_values::{SourceId, Step};
+use trace_text::{Digits, EVENT_ROOM, print_fault, print_tails, put_stp_line};
+use trace_values::Step;
 
 /// How many packets one call takes at most: their lines have room where an action is fed.
 const LINES: usize = 32;
@@ -42,136 +37,9 @@ pub struct Show {
     engine: Engine,
     /// The events of the bytes that were taken last.
     events: Events,
-    /// Which events are listed.
-    filter: Filter,
-    clocks: SourceClocks,
-    digits: Digits,
+    lister: Lister,
     stop: Option<Stop>,
     ghost alive: { is_live engine ≡ is_none stop },
-}
-
-/// The source sends STP packets.
-#[inline]
-pub(crate) fn sends_stp(plan: &Plan, source: Option<SourceId>) -> bool
-    ensures { result ≡ is_stp plan.now source }
-{
-    match source {
-        None => false,
-        Some(id) => plan.stp.contains(id),
-    }
-}
-
-/// Puts the line of the next event with what the clocks say beside it, if it is listed.
-#[inline(always)]
-fn put_event(
-    outlet: &mut Outlet,
-    digits: &mut Digits,
-    filter: &mut Filter,
-    plan: &Plan,
-    event: &Event<Packet>,
-    remark: Remark,
-)
-    requires fits { EventFits PacketFits event.now }
-    requires suits { Suits event.now.what remark }
-    requires room { length outlet.old + TEXT_ROOM ≤ OUTLET_ROOM }
-    ensures text { (before : List (Event Packet)) → HasSeen filter.old before →
-        let p = plan_by plan.now filter.old in
-        let line = event_line (is_stp p.plan event.now.source) event.now remark in
-        outlet.new ≡ outlet.old ++ (if is_listed p.only p.window before event.now then line else []) }
-    ensures seen { (before : List (Event Packet)) → HasSeen filter.old before →
-        HasSeen filter.new (before ++ event.now ∷ []) }
-    ensures same { plan_by plan.now filter.new ≡ plan_by plan.now filter.old }
-    ensures bound { length outlet.new ≤ length outlet.old + EVENT_ROOM }
-{
-    if filter.lists(event) {
-        print(outlet, digits, event, sends_stp(plan, event.source), remark);
-    }
-}
-
-/// Takes the next event, and puts its line if it is listed.
-#[inline(always)]
-fn put_next(
-    outlet: &mut Outlet,
-    digits: &mut Digits,
-    clocks: &mut SourceClocks,
-    filter: &mut Filter,
-    plan: &Plan,
-    event: &Event<Packet>,
-)
-    requires fits { EventFits PacketFits event.now }
-    requires room { length outlet.old + TEXT_ROOM ≤ OUTLET_ROOM }
-    ensures text { (before : List (Event Packet)) → AllStand clocks.old before → HasSeen filter.old before →
-        outlet.new ≡ outlet.old ++ line_after (plan_by plan.now filter.old) before event.now }
-    ensures clocks { (before : List (Event Packet)) → AllStand clocks.old before →
-        AllStand clocks.new (before ++ event.now ∷ []) }
-    ensures seen { (before : List (Event Packet)) → HasSeen filter.old before →
-        HasSeen filter.new (before ++ event.now ∷ []) }
-    ensures same { plan_by plan.now filter.new ≡ plan_by plan.now filter.old }
-    ensures bound { length outlet.new ≤ length outlet.old + EVENT_ROOM }
-{
-    let remark = clocks.remark(event);
-    put_event(outlet, digits, filter, plan, event, remark);
-}
-
-/// The same, for an event that is no software packet.
-#[inline(never)]
-fn put_other(
-    outlet: &mut Outlet,
-    digits: &mut Digits,
-    clocks: &mut SourceClocks,
-    filter: &mut Filter,
-    plan: &Plan,
-    event: &Event<Packet>,
-)
-    requires fits { EventFits PacketFits event.now }
-    requires room { length outlet.old + TEXT_ROOM ≤ OUTLET_ROOM }
-    ensures text { (before : List (Event Packet)) → AllStand clocks.old before → HasSeen filter.old before →
-        outlet.new ≡ outlet.old ++ line_after (plan_by plan.now filter.old) before event.now }
-    ensures clocks { (before : List (Event Packet)) → AllStand clocks.old before →
-        AllStand clocks.new (before ++ event.now ∷ []) }
-    ensures seen { (before : List (Event Packet)) → HasSeen filter.old before →
-        HasSeen filter.new (before ++ event.now ∷ []) }
-    ensures same { plan_by plan.now filter.new ≡ plan_by plan.now filter.old }
-    ensures bound { length outlet.new ≤ length outlet.old + EVENT_ROOM }
-{
-    put_next(outlet, digits, clocks, filter, plan, event);
-}
-
-/// The event is a software packet: most are.
-#[inline(always)]
-fn is_software(event: &Event<Packet>) -> bool {
-    matches!(
-        event.what,
-        What::Packet(Packet::Itm(ItmPacket::Software { .. }))
-    )
-}
-
-/// The same for any event. A software packet has code of its own, in which nothing more depends on the packet's kind.
-#[inline(always)]
-fn put_by_kind(
-    outlet: &mut Outlet,
-    digits: &mut Digits,
-    clocks: &mut SourceClocks,
-    filter: &mut Filter,
-    plan: &Plan,
-    event: &Event<Packet>,
-)
-    requires fits { EventFits PacketFits event.now }
-    requires room { length outlet.old + TEXT_ROOM ≤ OUTLET_ROOM }
-    ensures text { (before : List (Event Packet)) → AllStand clocks.old before → HasSeen filter.old before →
-        outlet.new ≡ outlet.old ++ line_after (plan_by plan.now filter.old) before event.now }
-    ensures clocks { (before : List (Event Packet)) → AllStand clocks.old before →
-        AllStand clocks.new (before ++ event.now ∷ []) }
-    ensures seen { (before : List (Event Packet)) → HasSeen filter.old before →
-        HasSeen filter.new (before ++ event.now ∷ []) }
-    ensures same { plan_by plan.now filter.new ≡ plan_by plan.now filter.old }
-    ensures bound { length outlet.new ≤ length outlet.old + EVENT_ROOM }
-{
-    if is_software(event) {
-        put_next(outlet, digits, clocks, filter, plan, event);
-    } else {
-        put_other(outlet, digits, clocks, filter, plan, event);
-    }
 }
 
 /// Puts the lines of these events, which follow others.
@@ -326,11 +194,9 @@ impl Show {
         ensures live { IsLive result }
     {
         Show {
+            lister: Lister::new(&plan.plan, plan.only, plan.window),
             engine: Engine::new(plan.plan),
             events: Events::new(),
-            filter: Filter::new(plan.only, plan.window),
-            clocks: SourceClocks::new(),
-            digits: Digits::new(),
             stop: None,
         }
     }
@@ -353,9 +219,9 @@ impl Show {
         };
         put_packet(
             outlet,
-            &mut self.digits,
-            &mut self.clocks,
-            &mut self.filter,
+            &mut self.lister.digits,
+            &mut self.lister.clocks,
+            &mut self.lister.filter,
             self.engine.plan(),
             at + (bytes as u64 - 1),
             0,
@@ -382,9 +248,9 @@ impl Show {
         };
         put_stp(
             outlet,
-            &mut self.digits,
-            &mut self.clocks,
-            &mut self.filter,
+            &mut self.lister.digits,
+            &mut self.lister.clocks,
+            &mut self.lister.filter,
             self.engine.plan(),
             at + (taken.bytes as u64 - 1),
             taken.half,
@@ -452,9 +318,9 @@ impl Show {
         };
         put_answer(
             outlet,
-            &mut self.digits,
-            &mut self.clocks,
-            &mut self.filter,
+            &mut self.lister.digits,
+            &mut self.lister.clocks,
+            &mut self.lister.filter,
             self.engine.plan(),
             &mut self.events,
             at + (block.bytes as u64 - 1),
@@ -467,7 +333,8 @@ impl Show {
         }
     }
 
-    /// Takes bytes up to the first with which events are decided, and puts their lines.
+    /// Takes bytes up to the first with which events are decided, and puts their lines. Those of a whole frame are put
+    /// as its events come.
     fn feed_block(&mut self, piece: &[u8], outlet: &mut Outlet) -> Taken
         requires live { IsLive self.old }
         requires some { 0 < length piece.now }
@@ -477,13 +344,21 @@ impl Show {
         ensures fed { HasFed self.old self.new (take result.bytes piece.now) result.flow outlet.old outlet.new }
     {
         let at = self.engine.next();
+        let framed = self.engine.feed_frame(at, piece, &mut self.lister, outlet);
+        if let Some(fed) = framed {
+            let flow = keep_stop(&mut self.stop, fed.flow);
+            return Taken {
+                bytes: fed.bytes,
+                flow,
+            };
+        }
         self.events.clear();
         let fed = self.engine.feed_block(at, piece, &mut self.events);
         put_events(
             outlet,
-            &mut self.digits,
-            &mut self.clocks,
-            &mut self.filter,
+            &mut self.lister.digits,
+            &mut self.lister.clocks,
+            &mut self.lister.filter,
             self.engine.plan(),
             self.events.as_slice(),
         );

@@ -54,7 +54,8 @@ returns-clause-fed c = λ seen s.
     let cut : take block.result.bytes (take front.result c.args.piece.now) ≡ bytes =
     take-take block.result.bytes front.result c.args.piece.now few in
     let at = c.next-at.result in
-    let is = c.feed_bare.ensures.none c.in_default-feed_bare.is ∙ c.count_frame.ensures.none c.in_default.is in
+    let is = (c.feed_frame-framed.ensures.none c.in_default-framed.is).0
+    ∙ c.feed_bare.ensures.none c.in_default-feed_bare.is ∙ c.count_frame.ensures.none c.in_default.is in
     let same = subst (λ (k : Engine). engine.plan_of block.new.self ≡ engine.plan_of k) is block.ensures.same in
     let list = subst (λ (l : List ℕ). engine.Stands block.new.self (placed seen ++ placed_from at l)) cut
     (subst (λ (k : Engine). (u : List Placed) → engine.Stands k u →
@@ -116,4 +117,36 @@ returns-in-Some-feed_bare-clause-fed c = λ seen s.
       goes_on = subst (λ (f : Flow). FlowAfter (IsFaulty p) (seen ++ bytes) f)
           (sym (c.keep_stop-flow.ensures.flow ∙ ap flow_by c.flow_after.ensures))
           (flow_after old.engine new seen bytes at events flow s.engine c.requires.live c.next-at.ensures same list fed);
+    }
+
+pub returns-in-Some-framed-clause-fed : goal.returns-in-Some-framed-clause-fed
+returns-in-Some-framed-clause-fed c = λ seen s.
+    let old = c.args.self.now in
+    let p = plan_of old in
+    let at = c.next-at.result in
+    let frame = c.feed_frame-framed in
+    let some = c.in-Some-framed.ensures in
+    let fed = c.in-Some-framed.fed in
+    let new = frame.new.self in
+    let bytes = take fed.bytes c.args.piece.now in
+    let given = some.fed.0 in
+    let is = c.feed_bare.ensures.none c.in_default-feed_bare.is ∙ c.count_frame.ensures.none c.in_default.is in
+    let list = subst (λ (k : Engine). (u : List Placed) → engine.Stands k u → engine.Stands new (u ++ placed_from at bytes))
+    is some.list (placed seen) s.engine in
+    let taken = subst (λ (k : Engine). (u : List Placed) → engine.Stands k u →
+    FedAs (Answers (engine.plan_of k) [] Going) (Answers (engine.plan_of k) given fed.flow) u at bytes)
+    is some.fed.2 (placed seen) s.engine in
+    let same = some.same ∙ ap (λ (k : Engine). engine.plan_of k) is in
+    record {
+      read = record {
+        engine = stands_after old.engine new seen bytes at given fed.flow s.engine c.requires.live c.next-at.ensures same list taken;
+        stop = ap (option_map stop_of) c.keep_stop-flow-in-Some-framed.ensures.kept
+            ∙ stop_after old.engine new seen bytes at given fed.flow s.engine c.requires.live c.next-at.ensures same list taken
+            old.stop (sym old.alive ∙ c.requires.live);
+      };
+      more = [];
+      grown = refl;
+      gained = sym (append-nil c.args._outlet.now);
+      goes_on = subst (λ (f : Flow). FlowAfter (IsFaulty p) (seen ++ bytes) f) (sym c.keep_stop-flow-in-Some-framed.ensures.flow)
+          (flow_after old.engine new seen bytes at given fed.flow s.engine c.requires.live c.next-at.ensures same list taken);
     }

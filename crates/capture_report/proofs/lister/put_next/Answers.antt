@@ -4,7 +4,7 @@ use Rattle.trace_text.specs.LineText.{event_line}
 use Rattle.capture_report.specs.Faulty.{is_stp}
 use Rattle.capture_report.specs.Filter.{plan_by}
 use Rattle.capture_report.specs.Listing.{is_listed}
-use Rattle.capture_report.proofs.show.put_next.Goals as goal
+use Rattle.capture_report.proofs.lister.put_next.Goals as goal
 
 pub returns-clause-text : goal.returns-clause-text
 returns-clause-text c = λ before h f.
