@@ -86,6 +86,7 @@ fn class_of_stamp(high: u8) -> Class
 }
 
 /// The class of a header, by the table of headers.
+#[inline(always)]
 pub fn classify(header: u8) -> Class
     ensures class { result ≡ class_of header }
     ensures proper { is_proper_class result ≡ true }

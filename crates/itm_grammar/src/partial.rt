@@ -23,6 +23,7 @@ pub enum Partial {
 }
 
 /// The number that payload bytes stand for with one more, the least byte first.
+#[inline(always)]
 fn number_with(value: u64, count: u8, byte: u8) -> u64
     requires few { count < 4 }
     requires fits { value < 256 ^ count }
@@ -39,6 +40,7 @@ fn number_with(value: u64, count: u8, byte: u8) -> u64
 
 /// The number that payload bytes stand for with one more of which these are the bits, seven a byte, the
 /// lowest first. The last byte of an extension packet has eight.
+#[inline(always)]
 fn groups_with(value: u64, count: u8, bits: u8) -> u64
     requires few { count < 6 }
     requires fits { value < 128 ^ count }
@@ -56,6 +58,7 @@ fn groups_with(value: u64, count: u8, bits: u8) -> u64
 }
 
 /// What a header of this class begins.
+#[inline(always)]
 fn begin(class: Class) -> Next<Partial, ItmPacket>
     requires { is_proper_class class ≡ true }
     ensures next { result ≡ begin class }
@@ -89,6 +92,7 @@ fn begin(class: Class) -> Next<Partial, ItmPacket>
     }
 }
 
+#[inline(always)]
 fn zeros_with(count: u64, byte: u8) -> Next<Partial, ItmPacket>
     requires { count ≤ COUNT_ROOM }
     ensures next { result ≡ zeros_with count byte }
@@ -104,6 +108,7 @@ fn zeros_with(count: u64, byte: u8) -> Next<Partial, ItmPacket>
 }
 
 /// The number of the payload with one more byte.
+#[inline(always)]
 fn value_with(class: Class, count: u8, value: u64, byte: u8) -> u64
     requires sound { is_sound_payload class count value ≡ true }
     ensures { result ≡ value + digit class count byte * base_of class ^ count }
@@ -116,6 +121,7 @@ fn value_with(class: Class, count: u8, value: u64, byte: u8) -> u64
 }
 
 /// Whether another payload byte follows this one, by the size or by bit 7.
+#[inline(always)]
 fn another_follows(class: Class, count: u8, byte: u8) -> bool
     requires { count < 6 }
     ensures { result ≡ another_follows class count byte }
@@ -130,6 +136,7 @@ fn another_follows(class: Class, count: u8, byte: u8) -> bool
     }
 }
 
+#[inline(always)]
 fn source(hardware: bool, number: u8, size: Size, value: u32) -> ItmPacket
     ensures { result ≡ source hardware number size value }
 {
@@ -149,6 +156,7 @@ fn source(hardware: bool, number: u8, size: Size, value: u32) -> ItmPacket
 }
 
 /// A first global timestamp of this many payload bytes: 26 bits of the time, clock change and wrap.
+#[inline(always)]
 fn first_stamp(count: u8, value: u64) -> ItmPacket
     ensures { result ≡ first_stamp count value }
 {
@@ -161,6 +169,7 @@ fn first_stamp(count: u8, value: u64) -> ItmPacket
 }
 
 /// A second global timestamp of this many payload bytes; the bits above those of the time are ignored.
+#[inline(always)]
 fn second_stamp(count: u8, value: u64) -> Next<Partial, ItmPacket>
     ensures next { result ≡ second_stamp count value }
     ensures sound { IsSoundNext result }
@@ -180,6 +189,7 @@ fn second_stamp(count: u8, value: u64) -> Next<Partial, ItmPacket>
 }
 
 /// The last payload byte, with which they are this many, and stand for this number.
+#[inline(always)]
 fn last(class: Class, count: u8, value: u64, byte: u8) -> Next<Partial, ItmPacket>
     requires { FitsLast class value }
     ensures next { result ≡ last class count value byte }
@@ -211,6 +221,7 @@ fn last(class: Class, count: u8, value: u64, byte: u8) -> Next<Partial, ItmPacke
     }
 }
 
+#[inline(always)]
 fn payload_with(class: Class, count: u8, value: u64, byte: u8) -> Next<Partial, ItmPacket>
     requires proper { is_proper_class class ≡ true }
     requires sound { is_sound_payload class count value ≡ true }
@@ -232,6 +243,7 @@ fn payload_with(class: Class, count: u8, value: u64, byte: u8) -> Next<Partial, 
 
 impl Partial {
     /// The unfinished packet with one more byte.
+    #[inline(always)]
     pub fn with_byte(self, byte: u8) -> Next<Partial, ItmPacket>
         requires sound { is_sound self ≡ true }
         requires room { count_of self ≤ COUNT_ROOM }

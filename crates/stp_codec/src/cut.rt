@@ -42,7 +42,7 @@ fn fewer(bytes: &[u8], start: usize, wanted: u8) -> u8
 }
 
 /// From the nibble after those that leave a timestamp's word unfinished.
-#[inline]
+#[inline(always)]
 fn cut_word(
     order: Order,
     row: Row,
@@ -113,7 +113,7 @@ fn cut_size(order: Order, row: Row, payload: u64, bytes: &[u8], start: usize) ->
 
 /// From the nibble after those that leave a payload of this row with `count` nibbles, which make this value: it has
 /// `most`, and a timestamp follows it or does not.
-#[inline]
+#[inline(always)]
 fn cut_payload(
     order: Order,
     row: Row,
@@ -177,7 +177,7 @@ fn cut_opcode(order: Order, number: u8, bytes: &[u8], start: usize) -> Option<Cu
 }
 
 /// From the nibble after this many nibbles F, at least two. None where one is a fault.
-#[inline]
+#[inline(always)]
 fn cut_run(before: u64, bytes: &[u8], start: usize) -> Option<Cut>
     requires some { 2 ≤ before }
     requires room { before + 2 * length bytes.now ≤ COUNT_ROOM + start }
@@ -267,7 +267,7 @@ fn cut_start(order: Order, bytes: &[u8]) -> Option<Cut>
 }
 
 /// What these bytes make of an unfinished packet. None where a nibble is a fault.
-#[inline]
+#[inline(always)]
 pub fn cut_packet(order: Order, unfinished: Partial, bytes: &[u8]) -> Option<Cut>
     requires sound { is_sound unfinished ≡ true }
     requires room { count_of unfinished + 2 * length bytes.now ≤ COUNT_ROOM }
