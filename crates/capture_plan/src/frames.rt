@@ -27,24 +27,3 @@ impl FramesMode {
         }
     }
 }
-
-#[cfg(test)]
-mod tests {
-    use super::*;
-
-    #[test]
-    fn three_names_are_modes(rt: HostRuntime) {
-        let table = [
-            ("hunt", Some(FramesMode::Hunt)),
-            ("aligned", Some(FramesMode::Aligned)),
-            ("bare", Some(FramesMode::Bare)),
-            ("", None),
-            ("Hunt", None),
-            ("hun", None),
-            ("bare ", None),
-        ];
-        for (name, mode) in table {
-            assert_eq!(rt; FramesMode::named(name), mode, "{name}");
-        }
-    }
-}

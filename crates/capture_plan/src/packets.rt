@@ -24,22 +24,3 @@ impl PacketsMode {
         }
     }
 }
-
-#[cfg(test)]
-mod tests {
-    use super::*;
-
-    #[test]
-    fn two_names_are_modes(rt: HostRuntime) {
-        let table = [
-            ("hunt", Some(PacketsMode::Hunt)),
-            ("aligned", Some(PacketsMode::Aligned)),
-            ("bare", None),
-            ("", None),
-            ("aligned1", None),
-        ];
-        for (name, mode) in table {
-            assert_eq!(rt; PacketsMode::named(name), mode, "{name}");
-        }
-    }
-}

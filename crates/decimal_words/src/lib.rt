@@ -7,6 +7,3 @@ mod prefix;
 
 pub use number::{id_in, id_named, number_in, number_named};
 pub use prefix::{bytes_after, text_after};
-
-#[cfg(test)]
-mod tests;

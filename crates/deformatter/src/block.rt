@@ -146,6 +146,3 @@ impl Deformatter {
         }
     }
 }
-
-#[cfg(test)]
-mod tests;

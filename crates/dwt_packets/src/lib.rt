@@ -14,6 +14,3 @@ pub use item::{Change, DwtItem};
 pub use naming::meaning;
 pub use packets::packet_of;
 pub use proper::is_proper_item;
-
-#[cfg(test)]
-mod tests;

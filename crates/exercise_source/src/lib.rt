@@ -6,8 +6,6 @@ mod lines;
 mod maker;
 pub mod rows;
 mod source;
-#[cfg(test)]
-mod tests;
 mod writing;
 
 pub use maker::{MOST_BYTES, MOST_ITEMS};

@@ -65,26 +65,3 @@ pub fn gather_frame_at(at: u64, piece: &[u8]) -> Option<PlacedFrame>
         halves: from / 2 - 8,
     })
 }
-
-#[cfg(test)]
-mod tests {
-    use super::*;
-    use crate::gather::gather_frame;
-
-    #[test]
-    fn places_a_frame(rt: HostRuntime) {
-        // The half synchronisations are at 44 and 52.
-        let piece =
-            b"\x01\xff\xfe\x7f\xff\x7f\x7f\xff\0\xff\x02\xff\xff\x7f\x03\x7f\x04\xff\xfd\xff";
-        let offsets = [
-            40, 41, 42, 43, 46, 47, 48, 49, 50, 51, 54, 55, 56, 57, 58, 59,
-        ];
-        let gathered = gather_frame(piece);
-        let placed = gather_frame_at(40, piece);
-        assert_eq!(rt; placed.map(|p| p.bytes), gathered.map(|g| g.bytes));
-        assert_eq!(rt; placed.map(|p| p.halves), gathered.map(|g| g.halves));
-        assert_eq!(rt; placed.map(|p| p.size()), Some(piece.len()));
-        assert_eq!(rt; placed.map(|p| p.offsets), Some(offsets));
-        assert_eq!(rt; gather_frame_at(40, b"AB\xff\x7fCDEFGHIJKLMNO"), None);
-    }
-}

@@ -33,33 +33,3 @@ pub fn plain_frame(piece: &[u8]) -> Option<&[u8; FRAME_BYTES]>
         None => None,
     }
 }
-
-#[cfg(test)]
-mod tests {
-    use super::*;
-
-    #[test]
-    fn takes_a_plain_frame(rt: HostRuntime) {
-        let rows: [(&[u8], bool); 7] = [
-            (b"ABCDEFGHIJKLMNOP", true),
-            (b"A\xffC\xffE\xffG\xffI\xffK\xffM\xffO\xff\xff", true),
-            (b"", false),
-            (b"ABCDEFGHIJKLMNO", false),
-            (b"\xffBCDEFGHIJKLMNOP", false),
-            (b"ABCDEF\xff\x7fGHIJKLMNOP", false),
-            (b"ABCDEFGHIJKLMN\xffP", false),
-        ];
-        for (piece, plain) in rows {
-            let frame = plain_frame(piece).map(|frame| frame.as_slice());
-            assert_eq!(rt;
-                frame,
-                if plain {
-                    piece.get(..FRAME_BYTES)
-                } else {
-                    None
-                },
-                "{piece:?}"
-            );
-        }
-    }
-}

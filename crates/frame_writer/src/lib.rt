@@ -7,8 +7,6 @@ pub mod laws;
 mod pair;
 pub mod rows;
 mod sure;
-#[cfg(test)]
-mod tests;
 mod writer;
 
 pub use sure::{SureWriter, TwoFrames};

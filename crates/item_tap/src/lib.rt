@@ -8,8 +8,6 @@ pub mod laws;
 pub mod rows;
 mod rule;
 mod tap;
-#[cfg(test)]
-mod tests;
 mod window;
 
 pub use bounds::Bounds;

@@ -11,6 +11,3 @@ mod whole;
 pub use cut::Cut;
 pub use decoder::ItmDecoder;
 pub use encoder::encode;
-
-#[cfg(test)]
-mod tests;

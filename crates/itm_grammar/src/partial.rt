@@ -274,6 +274,3 @@ impl Partial {
         }
     }
 }
-
-#[cfg(test)]
-mod tests;

@@ -6,8 +6,6 @@
 pub mod laws;
 mod reader;
 pub mod rows;
-#[cfg(test)]
-mod tests;
 
 pub use deformatter::{PortStep, Taken};
 pub use reader::PortReader;

@@ -48,19 +48,3 @@ impl Hunter {
         found
     }
 }
-
-#[cfg(test)]
-mod tests {
-    use super::*;
-
-    #[test]
-    fn finds_the_pattern_at_any_offset(rt: HostRuntime) {
-        let bytes =
-            b"\x7f\xff\xff\x7f\xff\xff\xff\x7f\x7f\xff\xff\xff\xff\xff\x7f\xff\xff\xff\xfe\x7f\xff\xff\0\xff\x7f";
-        let mut hunter = Hunter::new();
-        for (index, byte) in bytes.iter().enumerate() {
-            let found = hunter.push(*byte);
-            assert_eq!(rt; found, index == 7 || index == 14, "at {index}");
-        }
-    }
-}

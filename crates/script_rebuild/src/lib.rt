@@ -4,8 +4,6 @@
 pub mod laws;
 mod plan;
 mod rebuild;
-#[cfg(test)]
-mod tests;
 
 pub use plan::{RebuildPlan, ScriptFault};
 pub use rebuild::Rebuild;

@@ -15,8 +15,6 @@ pub mod rows;
 mod shapes;
 mod stamps;
 mod stp_shapes;
-#[cfg(test)]
-mod tests;
 mod words;
 
 pub use items::Item;

@@ -4,8 +4,6 @@
 mod counts;
 pub mod rows;
 mod source_counts;
-#[cfg(test)]
-mod tests;
 
 pub use counts::Counts;
 pub use source_counts::SourceCounts;

@@ -16,8 +16,6 @@ mod slot;
 mod split;
 mod step;
 mod tails;
-#[cfg(test)]
-mod tests;
 
 pub use bare::{bare_source, flow_after, note_bare};
 pub use engine::{Engine, GREATEST_OFFSET};

@@ -11,6 +11,3 @@ mod whole;
 
 pub use decoder::{PacketTaken, StpDecoder};
 pub use flat::PacketParts;
-
-#[cfg(test)]
-mod tests;

@@ -10,7 +10,5 @@ mod opcode;
 mod packet;
 pub mod rows;
 mod telling;
-#[cfg(test)]
-mod tests;
 
 pub use encoder::{StpEncoder, Unfit};

@@ -217,6 +217,3 @@ impl Attribution {
         }
     }
 }
-
-#[cfg(test)]
-mod tests;

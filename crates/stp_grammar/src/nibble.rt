@@ -28,20 +28,3 @@ pub fn number_with(order: Order, count: u8, value: u64, nibble: u8) -> u64
         Order::Lsn => value + (u64::from(nibble) << (4 * count)),
     }
 }
-
-#[cfg(test)]
-mod tests {
-    use super::*;
-
-    #[test]
-    fn halves_bytes_and_joins_nibbles(rt: HostRuntime) {
-        assert_eq!(rt; nibbles(0x00), (0, 0));
-        assert_eq!(rt; nibbles(0x41), (1, 4));
-        assert_eq!(rt; nibbles(0xFE), (14, 15));
-        assert_eq!(rt; number_with(Order::Msn, 2, 0x41, 0xA), 0x41A);
-        assert_eq!(rt; number_with(Order::Lsn, 2, 0x41, 0xA), 0xA41);
-        let low = 0x0FFF_FFFF_FFFF_FFFF;
-        assert_eq!(rt; number_with(Order::Msn, 15, low, 0), 0xFFFF_FFFF_FFFF_FFF0);
-        assert_eq!(rt; number_with(Order::Lsn, 15, low, 8), 0x8FFF_FFFF_FFFF_FFFF);
-    }
-}

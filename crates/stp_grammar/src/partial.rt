@@ -288,6 +288,3 @@ impl Partial {
         }
     }
 }
-
-#[cfg(test)]
-mod tests;

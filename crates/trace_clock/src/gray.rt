@@ -25,30 +25,3 @@ pub fn from_gray(gray: u64) -> u64
     let half = sixteen ^ (sixteen >> 16);
     half ^ (half >> 32)
 }
-
-#[cfg(test)]
-mod tests {
-    use super::*;
-
-    #[test]
-    fn goes_to_and_fro(rt: HostRuntime) {
-        let rows: [(u64, u64); 12] = [
-            (0, 0),
-            (1, 1),
-            (2, 3),
-            (3, 2),
-            (4, 6),
-            (5, 7),
-            (6, 5),
-            (7, 4),
-            (8, 12),
-            (0x7FFF_FFFF_FFFF_FFFF, 0x4000_0000_0000_0000),
-            (0x8000_0000_0000_0000, 0xC000_0000_0000_0000),
-            (u64::MAX, 0x8000_0000_0000_0000),
-        ];
-        for (natural, gray) in rows {
-            assert_eq!(rt; to_gray(natural), gray, "{natural}");
-            assert_eq!(rt; from_gray(gray), natural, "{gray}");
-        }
-    }
-}

@@ -44,22 +44,3 @@ impl LocalClock {
         self.ticks
     }
 }
-
-#[cfg(test)]
-mod tests {
-    use super::*;
-
-    #[test]
-    fn adds_up(rt: HostRuntime) {
-        let mut clock = LocalClock::new();
-        assert_eq!(rt; clock.add(136), 136);
-        assert_eq!(rt; clock.add(2), 138);
-        assert_eq!(rt; clock.add(0), 138);
-        assert_eq!(rt; clock.add(0x0FFF_FFFF), 0x1000_0089);
-        let mut late = LocalClock {
-            ticks: 0xFFFF_FFFF_FFFF_FFFE,
-        };
-        assert_eq!(rt; late.add(1), 0xFFFF_FFFF_FFFF_FFFF);
-        assert_eq!(rt; late.add(3), 2);
-    }
-}

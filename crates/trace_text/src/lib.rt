@@ -17,8 +17,6 @@ mod room;
 pub mod rows;
 mod stp;
 mod tables;
-#[cfg(test)]
-mod tests;
 
 pub use counts::{ExerciseLines, PortCountsLines, SOURCE_COUNTS_ROOM, put_source_counts};
 pub use digits::Digits;

@@ -58,36 +58,3 @@ pub struct Cell {
     /// The byte itself.
     pub byte: u8,
 }
-
-#[cfg(test)]
-mod tests {
-    use super::*;
-
-    #[test]
-    fn sources_are_0_to_126(rt: HostRuntime) {
-        for number in 0..=255u8 {
-            let found = SourceId::new(number).map(|id| id.number());
-            let want = match number {
-                127..=255 => None,
-                _ => Some(number),
-            };
-            assert_eq!(rt; found, want, "{number}");
-        }
-    }
-
-    #[test]
-    fn the_default_source_is_the_null_source(rt: HostRuntime) {
-        assert_eq!(rt; SourceId::default().number(), 0);
-    }
-
-    #[test]
-    fn a_default_cell_has_no_source(rt: HostRuntime) {
-        let cell = Cell {
-            at: 0,
-            id: None,
-            run: 0,
-            byte: 0,
-        };
-        assert_eq!(rt; Cell::default(), cell);
-    }
-}

@@ -72,27 +72,3 @@ pub struct Fault {
     /// Why it is one.
     pub reason: Reason,
 }
-
-#[cfg(test)]
-mod tests {
-    use super::*;
-
-    #[test]
-    fn each_reason_has_its_number_and_name(rt: HostRuntime) {
-        let table = [
-            (Reason::BadSync, 1, "BadSync"),
-            (Reason::SyncInFrame, 2, "SyncInFrame"),
-            (Reason::ReservedHeader, 3, "ReservedHeader"),
-            (Reason::BadItmSync, 4, "BadItmSync"),
-            (Reason::LongStamp, 5, "LongStamp"),
-            (Reason::ShortStamp, 6, "ShortStamp"),
-            (Reason::Unsupported, 7, "Unsupported"),
-            (Reason::StampSize, 8, "StampSize"),
-            (Reason::BadAsync, 9, "BadAsync"),
-        ];
-        for (reason, number, name) in table {
-            assert_eq!(rt; reason.number(), number, "{reason:?}");
-            assert_eq!(rt; reason.name(), name, "{reason:?}");
-        }
-    }
-}

@@ -7,8 +7,6 @@ pub mod itm;
 mod made;
 pub mod rows;
 pub mod stp;
-#[cfg(test)]
-mod tests;
 pub mod worked;
 
 pub use made::{Made, item_at};

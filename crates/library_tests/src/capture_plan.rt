@@ -1,0 +1,33 @@
+//! Names, and the modes that they name.
+
+use capture_plan::{FramesMode, PacketsMode};
+
+#[test]
+fn three_names_are_modes(rt: HostRuntime) {
+    let table = [
+        ("hunt", Some(FramesMode::Hunt)),
+        ("aligned", Some(FramesMode::Aligned)),
+        ("bare", Some(FramesMode::Bare)),
+        ("", None),
+        ("Hunt", None),
+        ("hun", None),
+        ("bare ", None),
+    ];
+    for (name, mode) in table {
+        assert_eq!(rt; FramesMode::named(name), mode, "{name}");
+    }
+}
+
+#[test]
+fn two_names_are_modes(rt: HostRuntime) {
+    let table = [
+        ("hunt", Some(PacketsMode::Hunt)),
+        ("aligned", Some(PacketsMode::Aligned)),
+        ("bare", None),
+        ("", None),
+        ("aligned1", None),
+    ];
+    for (name, mode) in table {
+        assert_eq!(rt; PacketsMode::named(name), mode, "{name}");
+    }
+}

@@ -1,0 +1,192 @@
+//! Packets as the bytes that the standard's formats give them, written and read.
+
+use arrayvec::ArrayVec;
+use itm_codec::{ItmDecoder, encode};
+use itm_grammar::packet::{ItmPacket, Lateness};
+use itm_grammar::proper::is_proper;
+use std::process::Abort;
+use trace_values::{Fault, Machine, Reason, Step};
+use trace_vectors::itm::{EXTENSIONS, HARDWARE_PACKETS, ItmRow, SOURCE_PACKETS, TIMESTAMPS};
+
+fn local(lateness: Lateness, delta: u32) -> ItmPacket {
+    ItmPacket::Local { lateness, delta }
+}
+
+fn extension(dwt: bool, value: u32) -> ItmPacket {
+    ItmPacket::Extension { dwt, value }
+}
+
+/// What the decoder answers to a byte.
+fn answer(rt: &impl Abort, decoder: &mut ItmDecoder, at: u64, byte: u8) -> Step<ItmPacket> {
+    assert!(rt; decoder.is_live());
+    assert!(rt; decoder.held() < 1000);
+    assert!(rt; decoder.skipped() < 1000);
+    decoder.feed(at, byte)
+}
+
+/// The decoder is quiet up to the last of these bytes, where it answers the packet.
+fn read(rt: &impl Abort, decoder: &mut ItmDecoder, at: u64, bytes: &[u8], packet: ItmPacket) {
+    assert!(rt; at < 1000 && bytes.len() < 8);
+    for i in 0..bytes.len() {
+        let here = at + i as u64;
+        let step = answer(rt, decoder, here, bytes[i]);
+        let held = i as u64 + 1;
+        assert!(rt; decoder.is_live());
+        if i + 1 < bytes.len() {
+            assert_eq!(rt; step, Step::Quiet, "{packet:?} at {i}");
+            assert_eq!(rt; decoder.held(), held, "{packet:?} at {i}");
+        } else {
+            let item = Step::Item {
+                half: 0,
+                item: packet,
+            };
+            assert_eq!(rt; step, item, "{bytes:?}");
+            assert_eq!(rt; decoder.held(), 0, "{bytes:?}");
+        }
+    }
+}
+
+/// Each packet is written as these bytes, which read as that packet: alone, and after those before.
+fn check(rt: &impl Abort, rows: &[ItmRow]) {
+    let mut stream = ItmDecoder::aligned();
+    let mut hunter = ItmDecoder::hunting();
+    for zeros in 0..5 {
+        assert_eq!(rt; answer(rt, &mut hunter, zeros, 0), Step::Skipping);
+    }
+    let locked = Step::Locked {
+        skipped: 0,
+        half: 0,
+        item: ItmPacket::Sync,
+    };
+    assert_eq!(rt; answer(rt, &mut hunter, 5, 0x80), locked);
+    let mut at = 0;
+    for row in rows {
+        let packet = row.packet;
+        assert!(rt; is_proper(&packet), "{packet:?}");
+        let mut written = ArrayVec::new();
+        encode(&packet, &mut written);
+        assert_eq!(rt; written.as_slice(), row.bytes, "{packet:?}");
+        let mut alone = ItmDecoder::aligned();
+        read(rt, &mut alone, 0, written.as_slice(), packet);
+        read(rt, &mut stream, at, written.as_slice(), packet);
+        read(rt, &mut hunter, at, written.as_slice(), packet);
+        assert!(rt; at < 1000);
+        at += written.len() as u64;
+    }
+}
+
+#[test]
+fn writes_and_reads_each_packet(rt: HostRuntime) {
+    check(&rt, &SOURCE_PACKETS);
+    check(&rt, &HARDWARE_PACKETS);
+    check(&rt, &TIMESTAMPS);
+    check(&rt, &EXTENSIONS);
+}
+
+/// Bytes that end with the first pattern, or have none, and the bytes before the pattern.
+#[test]
+fn hunts_for_the_first_sync(rt: HostRuntime) {
+    let rows: [(&[u8], Option<u64>); 7] = [
+        (b"\0\0\0\0\0\x80", Some(0)),
+        (b"\x01\x41\0\0\0\0\0\x80", Some(2)),
+        (b"\0\0\0\0\0\0\0\x80", Some(2)),
+        (b"\0\0\0\0\x80\0\0\0\0\0\x80", Some(5)),
+        (b"\0\0\0\0\0\x81\0\0\0\0\0\x80", Some(6)),
+        (b"\0\0\0\0\x80\0\0\0\0", None),
+        (b"\x03\xff\x80\x80\0\x70", None),
+    ];
+    for (bytes, before) in rows {
+        let mut decoder = ItmDecoder::hunting();
+        assert!(rt; bytes.len() < 100);
+        for i in 0..bytes.len() {
+            let step = answer(&rt, &mut decoder, i as u64, bytes[i]);
+            assert!(rt; decoder.is_live());
+            let lock = match before {
+                Some(skipped) if i + 1 == bytes.len() => Some(skipped),
+                _ => None,
+            };
+            let skipped = lock.unwrap_or(i as u64 + 1);
+            let expected = match lock {
+                Some(skipped) => Step::Locked {
+                    skipped,
+                    half: 0,
+                    item: ItmPacket::Sync,
+                },
+                None => Step::Skipping,
+            };
+            assert_eq!(rt; step, expected, "{bytes:?} at {i}");
+            assert_eq!(rt; decoder.is_locked(), lock.is_some(), "{bytes:?} at {i}");
+            assert_eq!(rt; decoder.skipped(), skipped, "{bytes:?} at {i}");
+            assert_eq!(rt; decoder.held(), 0, "{bytes:?} at {i}");
+        }
+    }
+}
+
+/// What a header alone is, by its high and its low nibble: a packet, no packet, or the beginning of one.
+fn alone(header: u8) -> Step<ItmPacket> {
+    let high = header >> 4;
+    let item = match (high, header & 15) {
+        (7, 0) => ItmPacket::Overflow,
+        (1..=6, 0) => local(Lateness::Exact, u32::from(high)),
+        (0..=7, 8) => extension(false, u32::from(high)),
+        (0..=7, 12) => extension(true, u32::from(high)),
+        (9 | 11, 4) | (0 | 12..=15, 0) => return Step::Quiet,
+        (_, 0 | 4) => {
+            return Step::Fault(Fault {
+                at: 9,
+                half: 0,
+                reason: Reason::ReservedHeader,
+            });
+        }
+        _ => return Step::Quiet,
+    };
+    Step::Item { half: 0, item }
+}
+
+#[test]
+fn reads_each_header_alone(rt: HostRuntime) {
+    for header in 0..=255u8 {
+        let mut decoder = ItmDecoder::aligned();
+        let step = answer(&rt, &mut decoder, 9, header);
+        assert_eq!(rt; step, alone(header), "header {header}");
+        if decoder.is_live() {
+            let held = if step == Step::Quiet { 1 } else { 0 };
+            assert_eq!(rt; decoder.held(), held, "header {header}");
+        }
+    }
+}
+
+/// Bytes of which the last breaks the grammar.
+#[test]
+fn ends_at_a_fault(rt: HostRuntime) {
+    let rows: [(&[u8], Reason); 11] = [
+        (b"\x80", Reason::ReservedHeader),
+        (b"\x04", Reason::ReservedHeader),
+        (b"\0\0\0\0\x80", Reason::BadItmSync),
+        (b"\0\0\0\0\0\0\x01", Reason::BadItmSync),
+        (b"\xc0\x80\x80\x80\x80", Reason::LongStamp),
+        (b"\x94\x80\x80\x80\xc0", Reason::LongStamp),
+        (b"\xb4\x82\x80\x80\x80\x80\x80", Reason::LongStamp),
+        (b"\xb4\x02", Reason::ShortStamp),
+        (b"\xb4\x82\x80\x02", Reason::ShortStamp),
+        (b"\xb4\x82\x80\x80\x80\0", Reason::ShortStamp),
+        (b"\0\x70", Reason::BadItmSync),
+    ];
+    for (bytes, reason) in rows {
+        let mut decoder = ItmDecoder::aligned();
+        assert!(rt; bytes.len() < 100);
+        for i in 0..bytes.len() {
+            let at = i as u64;
+            let step = answer(&rt, &mut decoder, at, bytes[i]);
+            let is_last = i + 1 == bytes.len();
+            let fault = Step::Fault(Fault {
+                at,
+                half: 0,
+                reason,
+            });
+            let expected = if is_last { fault } else { Step::Quiet };
+            assert_eq!(rt; step, expected, "{bytes:?} at {i}");
+            assert_eq!(rt; decoder.is_live(), !is_last, "{bytes:?} at {i}");
+        }
+    }
+}

@@ -1,0 +1,339 @@
+//! The times that timestamps tell.
+
+use std::process::Abort;
+use trace_clock::{
+    GlobalClock, LocalClock, Stamps, from_gray, to_gray, word_after, word_fits, word_nibbles,
+};
+
+#[test]
+fn goes_to_and_fro(rt: HostRuntime) {
+    let rows: [(u64, u64); 12] = [
+        (0, 0),
+        (1, 1),
+        (2, 3),
+        (3, 2),
+        (4, 6),
+        (5, 7),
+        (6, 5),
+        (7, 4),
+        (8, 12),
+        (0x7FFF_FFFF_FFFF_FFFF, 0x4000_0000_0000_0000),
+        (0x8000_0000_0000_0000, 0xC000_0000_0000_0000),
+        (u64::MAX, 0x8000_0000_0000_0000),
+    ];
+    for (natural, gray) in rows {
+        assert_eq!(rt; to_gray(natural), gray, "{natural}");
+        assert_eq!(rt; from_gray(gray), natural, "{gray}");
+    }
+}
+
+#[test]
+fn adds_up(rt: HostRuntime) {
+    let mut clock = LocalClock::new();
+    assert_eq!(rt; clock.add(136), 136);
+    assert_eq!(rt; clock.add(2), 138);
+    assert_eq!(rt; clock.add(0), 138);
+    assert_eq!(rt; clock.add(0x0FFF_FFFF), 0x1000_0089);
+}
+
+#[derive(Clone, Copy, Debug)]
+enum Stamp {
+    /// Of one to three payload bytes.
+    Short(u8, u32),
+    /// Of four, with clock change and wrap.
+    Whole(u32, bool, bool),
+    Narrow(u64),
+    Wide(u64),
+}
+
+fn take(rt: &impl Abort, clock: &mut GlobalClock, stamp: Stamp) {
+    match stamp {
+        Stamp::Short(len, value) => {
+            assert!(rt; 0 < len && len < 4 && value < 1 << (7 * len));
+            clock.first(len, value, false, false);
+        }
+        Stamp::Whole(value, change, wrap) => {
+            assert!(rt; value < 1 << 26);
+            clock.first(4, value, change, wrap);
+        }
+        Stamp::Narrow(value) => {
+            assert!(rt; value < 1 << 22);
+            clock.second(false, value);
+        }
+        Stamp::Wide(value) => {
+            assert!(rt; value < 1 << 38);
+            clock.second(true, value);
+        }
+    }
+}
+
+#[test]
+fn tells_the_time(rt: HostRuntime) {
+    use Stamp::{Narrow, Short, Whole, Wide};
+
+    let rows: [(&[Stamp], Option<u64>); 20] = [
+        (&[], None),
+        (&[Whole(1, false, true)], None),
+        (&[Narrow(2)], None),
+        (&[Short(3, 0x1F_FFFF), Narrow(2)], None),
+        (&[Short(1, 5), Wide(2), Short(2, 1)], None),
+        (&[Whole(1, false, true), Narrow(2)], Some(134217729)),
+        (
+            &[Whole(1, false, true), Narrow(2), Short(1, 5)],
+            Some(134217733),
+        ),
+        // The bits from 26 on are told before the others, and lost at a wrap.
+        (&[Narrow(2), Whole(1, false, false)], Some(134217729)),
+        (&[Narrow(2), Whole(1, false, true)], None),
+        (&[Narrow(2), Whole(1, true, true)], None),
+        (&[Narrow(2), Whole(1, false, true), Short(1, 5)], None),
+        (
+            &[
+                Whole(9, false, false),
+                Narrow(2),
+                Whole(3, false, true),
+                Narrow(4),
+            ],
+            Some(0x1000_0003),
+        ),
+        // A clock change changes nothing.
+        (&[Narrow(2), Whole(1, true, false)], Some(134217729)),
+        (&[Whole(1, true, false), Narrow(2)], Some(134217729)),
+        // A short timestamp replaces its bits, and tells nothing before a whole one.
+        (
+            &[Whole(0x3FF_FFFF, false, false), Narrow(0), Short(1, 0)],
+            Some(0x3FF_FF80),
+        ),
+        (
+            &[Whole(0x3FF_FFFF, false, false), Narrow(0), Short(2, 0)],
+            Some(0x3FF_C000),
+        ),
+        (
+            &[Whole(0x3FF_FFFF, false, false), Narrow(0), Short(3, 0)],
+            Some(0x3E0_0000),
+        ),
+        (
+            &[
+                Whole(0, false, false),
+                Narrow(0),
+                Short(3, 0x1F_FFFF),
+                Short(1, 1),
+            ],
+            Some(0x1F_FF81),
+        ),
+        (
+            &[Short(3, 0x1F_FFFF), Whole(0, false, false), Narrow(1)],
+            Some(0x400_0000),
+        ),
+        // The last second timestamp, up to all bits of the time.
+        (
+            &[
+                Narrow(0x3F_FFFF),
+                Whole(0x3FF_FFFF, false, false),
+                Wide(0x3F_FFFF_FFFF),
+            ],
+            Some(u64::MAX),
+        ),
+    ];
+    for (stamps, time) in rows {
+        let mut clock = GlobalClock::new();
+        for stamp in stamps {
+            take(&rt, &mut clock, *stamp);
+        }
+        assert_eq!(rt; clock.now(), time, "{stamps:?}");
+    }
+}
+
+fn after_word(rt: &impl Abort, last: u64, size: u8, word: u64) -> u64 {
+    assert!(rt; word_fits(size, word));
+    word_after(last, size, word)
+}
+
+#[test]
+fn has_the_nibbles_of_its_size(rt: HostRuntime) {
+    let last = 0xFEDC_BA98_7654_3210;
+    // Of each size how many nibbles, the greatest word, and the last words after_word 0 and after_word that one.
+    let rows: [(u8, u64, u64, u64); 15] = [
+        (0, 0, 0xFEDC_BA98_7654_3210, 0xFEDC_BA98_7654_3210),
+        (1, 0xF, 0xFEDC_BA98_7654_3210, 0xFEDC_BA98_7654_321F),
+        (2, 0xFF, 0xFEDC_BA98_7654_3200, 0xFEDC_BA98_7654_32FF),
+        (3, 0xFFF, 0xFEDC_BA98_7654_3000, 0xFEDC_BA98_7654_3FFF),
+        (4, 0xFFFF, 0xFEDC_BA98_7654_0000, 0xFEDC_BA98_7654_FFFF),
+        (5, 0xF_FFFF, 0xFEDC_BA98_7650_0000, 0xFEDC_BA98_765F_FFFF),
+        (6, 0xFF_FFFF, 0xFEDC_BA98_7600_0000, 0xFEDC_BA98_76FF_FFFF),
+        (7, 0xFFF_FFFF, 0xFEDC_BA98_7000_0000, 0xFEDC_BA98_7FFF_FFFF),
+        (8, 0xFFFF_FFFF, 0xFEDC_BA98_0000_0000, 0xFEDC_BA98_FFFF_FFFF),
+        (
+            9,
+            0xF_FFFF_FFFF,
+            0xFEDC_BA90_0000_0000,
+            0xFEDC_BA9F_FFFF_FFFF,
+        ),
+        (
+            10,
+            0xFF_FFFF_FFFF,
+            0xFEDC_BA00_0000_0000,
+            0xFEDC_BAFF_FFFF_FFFF,
+        ),
+        (
+            11,
+            0xFFF_FFFF_FFFF,
+            0xFEDC_B000_0000_0000,
+            0xFEDC_BFFF_FFFF_FFFF,
+        ),
+        (
+            12,
+            0xFFFF_FFFF_FFFF,
+            0xFEDC_0000_0000_0000,
+            0xFEDC_FFFF_FFFF_FFFF,
+        ),
+        (
+            14,
+            0xFF_FFFF_FFFF_FFFF,
+            0xFE00_0000_0000_0000,
+            0xFEFF_FFFF_FFFF_FFFF,
+        ),
+        (16, 0xFFFF_FFFF_FFFF_FFFF, 0, 0xFFFF_FFFF_FFFF_FFFF),
+    ];
+    for size in 0..15u8 {
+        let (nibbles, greatest, after_least, after_greatest) = rows[usize::from(size)];
+        assert_eq!(rt; word_nibbles(size), nibbles, "{size}");
+        if size < 14 {
+            assert!(rt; !word_fits(size, greatest.saturating_add(1)), "{size}");
+            assert!(rt; !word_fits(size, u64::MAX), "{size}");
+        }
+        assert_eq!(rt; after_word(&rt, last, size, 0), after_least, "{size}");
+        assert_eq!(rt;
+            after_word(&rt, last, size, greatest),
+            after_greatest,
+            "{size}"
+        );
+    }
+    assert!(rt; !word_fits(15, 0) && !word_fits(15, u64::MAX) && !word_fits(255, 0));
+}
+
+fn apply(rt: &impl Abort, stamps: &mut Stamps, size: u8, word: u64) -> u64 {
+    assert!(rt; word_fits(size, word));
+    stamps.apply(size, word)
+}
+
+/// Stamps after a whole word.
+fn after(rt: &impl Abort, gray: bool, word: u64) -> Stamps {
+    let mut stamps = Stamps::new(gray);
+    apply(rt, &mut stamps, 14, word);
+    stamps
+}
+
+#[test]
+fn tells_natural_times(rt: HostRuntime) {
+    let mut stamps = Stamps::new(false);
+    let rows: [(u8, u64, u64); 9] = [
+        (0, 0, 0),
+        (2, 0x12, 0x12),
+        (1, 0xF, 0x1F),
+        (14, 0xFEDC_BA98_7654_3210, 0xFEDC_BA98_7654_3210),
+        (0, 0, 0xFEDC_BA98_7654_3210),
+        (1, 5, 0xFEDC_BA98_7654_3215),
+        (12, 1, 0xFEDC_0000_0000_0001),
+        (13, 2, 0xFE00_0000_0000_0002),
+        (14, 3, 3),
+    ];
+    for (size, word, time) in rows {
+        assert_eq!(rt; apply(&rt, &mut stamps, size, word), time, "{size} {word}");
+    }
+}
+
+#[test]
+fn tells_gray_times(rt: HostRuntime) {
+    let mut stamps = Stamps::new(true);
+    let rows: [(u8, u64, u64); 8] = [
+        (0, 0, 0),
+        (1, 3, 2),
+        (1, 2, 3),
+        (2, 0x10, 31),
+        (14, 0x8000_0000_0000_0000, u64::MAX),
+        (13, 0, u64::MAX),
+        (1, 1, u64::MAX - 1),
+        (0, 0, u64::MAX - 1),
+    ];
+    for (size, word, time) in rows {
+        assert_eq!(rt; apply(&rt, &mut stamps, size, word), time, "{size} {word}");
+    }
+}
+
+#[test]
+fn finds_the_least(rt: HostRuntime) {
+    let rows: [(bool, u64, u64, (u8, u64)); 13] = [
+        (false, 0x1234, 0x1234, (0, 0)),
+        (false, 0x1234, 0x1235, (1, 5)),
+        (false, 0x1234, 0x1204, (2, 4)),
+        (false, 0x0F, 0x10, (2, 0x10)),
+        (false, 0, 0x8000_0000_0000, (12, 0x8000_0000_0000)),
+        (false, 0, 0x1_0000_0000_0000, (13, 0x1_0000_0000_0000)),
+        (false, 0, 0x10_0000_0000_0000, (13, 0x10_0000_0000_0000)),
+        (false, 0, 0x100_0000_0000_0000, (14, 0x100_0000_0000_0000)),
+        (false, u64::MAX, 0, (14, 0)),
+        // Gray neighbours differ in one bit.
+        (true, 0x8000_0000_0000_0000, u64::MAX, (0, 0)),
+        (true, 0x8000_0000_0000_0000, u64::MAX - 1, (1, 1)),
+        (true, 0x8000_0000_0000_0000, 0, (14, 0)),
+        (true, 8, 16, (2, 0x18)),
+    ];
+    for (gray, word, time, least) in rows {
+        assert_eq!(rt; after(&rt, gray, word).least(time), least, "{word} {time}");
+    }
+}
+
+/// The greatest word of each size.
+const GREATEST: [u64; 15] = [
+    0,
+    0xF,
+    0xFF,
+    0xFFF,
+    0xFFFF,
+    0xF_FFFF,
+    0xFF_FFFF,
+    0xFFF_FFFF,
+    0xFFFF_FFFF,
+    0xF_FFFF_FFFF,
+    0xFF_FFFF_FFFF,
+    0xFFF_FFFF_FFFF,
+    0xFFFF_FFFF_FFFF,
+    0xFF_FFFF_FFFF_FFFF,
+    u64::MAX,
+];
+
+/// The first size after whose word, the low nibbles of the whole one, this is the time.
+fn search(rt: &impl Abort, stamps: Stamps, whole: u64, time: u64) -> Option<(u8, u64)> {
+    for size in 0..15u8 {
+        let word = whole & GREATEST[usize::from(size)];
+        let mut copy = stamps;
+        if apply(rt, &mut copy, size, word) == time {
+            return Some((size, word));
+        }
+    }
+    None
+}
+
+#[test]
+fn finds_what_a_search_finds(rt: HostRuntime) {
+    let last = 0x0123_4567_89AB_CDEF;
+    let natural = after(&rt, false, last);
+    let gray = after(&rt, true, last);
+    for shift in 0..64u32 {
+        for near in [0, 1, 2, 3, 0x11, 0xF0F, 0x8001] {
+            let whole = last ^ (near << shift);
+            assert_eq!(rt;
+                Some(natural.least(whole)),
+                search(&rt, natural, whole, whole),
+                "{whole}"
+            );
+            let time = from_gray(whole);
+            assert_eq!(rt;
+                Some(gray.least(time)),
+                search(&rt, gray, whole, time),
+                "{whole}"
+            );
+        }
+    }
+}
