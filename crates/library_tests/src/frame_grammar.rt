@@ -13,8 +13,8 @@ const OFFSETS: [u64; FRAME_BYTES] = [
     40, 41, 44, 45, 46, 47, 52, 53, 54, 55, 56, 57, 58, 59, 60, 61,
 ];
 
-/// The ID in force at an index, and how many IDs the frame has named up to it: by the last ID byte before the index that
-/// is not deferred or is two before it.
+/// The ID in force at an index, and how many IDs the frame has named up to it: by the last ID byte before the index
+/// that is not deferred or is two before it.
 fn in_force(frame: &[u8; FRAME_BYTES], before: Option<u8>, index: usize) -> (Option<SourceId>, u8) {
     let mut id = before.and_then(SourceId::new);
     let mut run = 0u8;

@@ -130,8 +130,8 @@ fn is_row(event: &Event<Packet>, row: &Row) -> bool {
         && gives(&event.what, wanted)
 }
 
-/// Feeds what comes next of a capture, in a piece of at most this many bytes; 0 stands for one byte by itself. Gives how
-/// many bytes it took.
+/// Feeds what comes next of a capture, in a piece of at most this many bytes; 0 stands for one byte by itself. Gives
+/// how many bytes it took.
 fn feed(
     rt: &impl Abort,
     engine: &mut Engine,
@@ -443,8 +443,8 @@ fn reads_with_no_formatter(rt: HostRuntime) {
     );
 }
 
-/// The bytes of an ITM source, of a raw one and of the trigger source, which are four of a frame, and their events where
-/// the first byte is at this offset.
+/// The bytes of an ITM source, of a raw one and of the trigger source, which are four of a frame, and their events
+/// where the first byte is at this offset.
 fn group(which: usize, from: u8) -> ([u8; 4], [Option<Row>; 3]) {
     let at = u64::from(from);
     match which {

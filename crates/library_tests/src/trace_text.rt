@@ -1,7 +1,5 @@
 //! The texts of lines, with the least and the greatest numbers.
 
-ghost use Rattle.std.specs.Prelude.{◌≤◌, IsSome};
-
 use source_events::{PortMode, SourceKind, SourceTail, Stop};
 use std::process::Abort;
 use trace_stream::{TEXT_ROOM, Text};
@@ -105,111 +103,87 @@ fn lines_at_the_end(rt: HostRuntime) {
     );
 }
 
-fn source(number: u8) -> Option<SourceId>
-    ensures { IsSome result }
-{
-    Some(SourceId::new(number).unwrap_or_default())
-}
-
-fn check_fault(
-    rt: &impl Abort,
-    at: u64,
-    half: u8,
-    source: Option<SourceId>,
-    stp: bool,
-    reason: Reason,
-    expected: &[u8],
-)
-    requires half { half ≤ 1 }
-{
-    let stop = Stop {
-        fault: Fault { at, half, reason },
-        source,
-    };
-    check(rt, &FaultLine { stop, stp }, expected);
-}
-
 #[test]
 fn lines_of_faults(rt: HostRuntime) {
-    check_fault(
-        &rt,
-        0,
-        0,
-        None,
-        false,
-        Reason::BadSync,
-        b"fault 0 port 1 BadSync\n",
-    );
-    check_fault(
-        &rt,
-        7,
-        0,
-        None,
-        false,
-        Reason::SyncInFrame,
-        b"fault 7 port 2 SyncInFrame\n",
-    );
-    check_fault(
-        &rt,
-        MOST,
-        0,
-        source(111),
-        false,
-        Reason::ReservedHeader,
-        b"fault 18446744073709551615 111 3 ReservedHeader\n",
-    );
-    check_fault(
-        &rt,
-        2,
-        0,
-        source(1),
-        false,
-        Reason::BadItmSync,
-        b"fault 2 1 4 BadItmSync\n",
-    );
-    check_fault(
-        &rt,
-        4,
-        0,
-        source(1),
-        false,
-        Reason::LongStamp,
-        b"fault 4 1 5 LongStamp\n",
-    );
-    check_fault(
-        &rt,
-        1,
-        0,
-        source(1),
-        false,
-        Reason::ShortStamp,
-        b"fault 1 1 6 ShortStamp\n",
-    );
-    check_fault(
-        &rt,
-        1,
-        0,
-        source(1),
-        true,
-        Reason::Unsupported,
-        b"fault 1.0 1 7 Unsupported\n",
-    );
-    check_fault(
-        &rt,
-        0,
-        1,
-        source(1),
-        true,
-        Reason::StampSize,
-        b"fault 0.1 1 8 StampSize\n",
-    );
-    check_fault(
-        &rt,
-        MOST,
-        1,
-        source(111),
-        true,
-        Reason::BadAsync,
-        b"fault 18446744073709551615.1 111 9 BadAsync\n",
-    );
+    let rows: [(u64, u8, Option<u8>, bool, Reason, &[u8]); 9] = [
+        (
+            0,
+            0,
+            None,
+            false,
+            Reason::BadSync,
+            b"fault 0 port 1 BadSync\n",
+        ),
+        (
+            7,
+            0,
+            None,
+            false,
+            Reason::SyncInFrame,
+            b"fault 7 port 2 SyncInFrame\n",
+        ),
+        (
+            MOST,
+            0,
+            Some(111),
+            false,
+            Reason::ReservedHeader,
+            b"fault 18446744073709551615 111 3 ReservedHeader\n",
+        ),
+        (
+            2,
+            0,
+            Some(1),
+            false,
+            Reason::BadItmSync,
+            b"fault 2 1 4 BadItmSync\n",
+        ),
+        (
+            4,
+            0,
+            Some(1),
+            false,
+            Reason::LongStamp,
+            b"fault 4 1 5 LongStamp\n",
+        ),
+        (
+            1,
+            0,
+            Some(1),
+            false,
+            Reason::ShortStamp,
+            b"fault 1 1 6 ShortStamp\n",
+        ),
+        (
+            1,
+            0,
+            Some(1),
+            true,
+            Reason::Unsupported,
+            b"fault 1.0 1 7 Unsupported\n",
+        ),
+        (
+            0,
+            1,
+            Some(1),
+            true,
+            Reason::StampSize,
+            b"fault 0.1 1 8 StampSize\n",
+        ),
+        (
+            MOST,
+            1,
+            Some(111),
+            true,
+            Reason::BadAsync,
+            b"fault 18446744073709551615.1 111 9 BadAsync\n",
+        ),
+    ];
+    for (at, half, source, stp, reason, expected) in rows {
+        let stop = Stop {
+            fault: Fault { at, half, reason },
+            source: source.and_then(SourceId::new),
+        };
+        check(&rt, &FaultLine { stop, stp }, expected);
+    }
 }
