@@ -1,6 +1,6 @@
 //! What hardware packets mean, and back.
 
-use dwt_packets::*;
+use dwt_packets::{Change, DwtItem, is_proper_item, meaning, packet_of};
 use itm_grammar::packet::{ItmPacket, Size};
 use itm_grammar::proper::is_proper;
 use std::process::Abort;
