@@ -236,12 +236,19 @@ pub record Pair (p : List ℕ) (from x y : ℕ) : Type 0 where
   pub room : from + 2 ≤ length p
   pub parts : drop from p ≡ x ∷ (y ∷ drop (from + 2) p)
 
+-- the two bytes from a place on
+pub pair_at : (p : List ℕ) (from next after : ℕ) → next ≡ from + 1 → after ≡ from + 2 → after ≤ length p →
+    drop from p ≡ get_or p from 0 ∷ (get_or p next 0 ∷ drop after p)
+pair_at p from next after n a room =
+    drop-cons p from 0 (omega arith)
+    ∙ ap (λ (m : ℕ). get_or p from 0 ∷ drop m p) (let d : suc from ≡ next = omega arith in d)
+    ∙ ap (λ (l : List ℕ). get_or p from 0 ∷ l) (drop-cons p next 0 (omega arith) ∙ ap (λ (m : ℕ). get_or p next 0 ∷ drop m p) (let d : suc next ≡ after = omega arith in d))
+
 pub pair_of : (p chunk : List ℕ) (from : ℕ) → IsFirstChunk (take (length p - from) (drop from p)) chunk 2 → Pair p from (get_or chunk 0 0) (get_or chunk 1 0)
 pair_of p chunk from i =
     let room : from + 2 ≤ length p = (let e = i.enough in let d = ap length (take_rest p from) ∙ length-drop from p in omega arith) in
     let parts : drop from p ≡ get_or p from 0 ∷ (get_or p (suc from) 0 ∷ drop (from + 2) p) =
-    drop-cons p from 0 (omega arith)
-    ∙ ap (λ (l : List ℕ). get_or p from 0 ∷ l) (drop-cons p (suc from) 0 (omega arith) ∙ ap (λ (n : ℕ). get_or p (suc from) 0 ∷ drop n p) (let d : suc (suc from) ≡ from + 2 = omega arith in d)) in
+    pair_at p from (suc from) (from + 2) (omega arith) (omega arith) room in
     let c : chunk ≡ get_or p from 0 ∷ (get_or p (suc from) 0 ∷ []) = i.same ∙ ap (take 2) (take_rest p from ∙ parts) in
     let x : get_or p from 0 ≡ get_or chunk 0 0 = ap (λ (l : List ℕ). get_or l 0 0) (sym c) in
     let y : get_or p (suc from) 0 ≡ get_or chunk 1 0 = ap (λ (l : List ℕ). get_or l 1 0) (sym c) in

@@ -37,7 +37,18 @@ pub fn gather_frame(piece: &[u8]) -> Option<GatheredFrame>
 {
     let mut bytes = [0; FRAME_BYTES];
     let mut words = 0;
-    let mut from = 0;
+    // The first halfwords that have a half synchronisation after them are taken with it.
+    let most = (piece.len() / 4).min(7);
+    while words < most {
+        let at = 4 * words;
+        if piece[at] == 0xFF || piece[at + 2] != 0xFF || piece[at + 3] != 0x7F {
+            break;
+        }
+        bytes[2 * words] = piece[at];
+        bytes[2 * words + 1] = piece[at + 1];
+        words += 1;
+    }
+    let mut from = 4 * words;
     while words < 8 {
         let [first, second] = *piece[from..].first_chunk::<2>()?;
         if first != 0xFF {
