@@ -30,7 +30,8 @@ faulty_summary plan u w (Some f) g h e = ap (λ (x : Option (Place × (Reason ×
 
 pub summary_stays : (plan : Plan) (xs ys : List ℕ) → IsFaulty plan xs → summary plan (xs ++ ys) ≡ summary plan xs
 summary_stays plan xs ys h =
-    faulty_summary plan (placed (xs ++ ys)) (placed xs) (fault_of plan (placed xs)) (fault_of plan (placed (xs ++ ys))) h
+    faulty_summary plan (placed (xs ++ ys)) (placed xs) (fault_of plan (placed xs))
+    (fault_of plan (placed (xs ++ ys))) h
     (laws.same_fault plan xs ys h)
 
 pub text_grows : (plan : Plan) (xs ys : List ℕ) → GrowsOnly (check_text plan xs) (check_text plan (xs ++ ys))

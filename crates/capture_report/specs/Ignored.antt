@@ -13,5 +13,6 @@ room s = 32
 pub gets_none : (s : Ignored × Unit {0}) → gets s [] s
 gets_none s = tt
 
-pub gets_more : (a b c : Ignored × Unit {0}) (es fs : List (Event Packet)) → gets a es b → gets b fs c → gets a (es ++ fs) c
+pub gets_more : (a b c : Ignored × Unit {0}) (es fs : List (Event Packet)) → gets a es b → gets b fs c →
+    gets a (es ++ fs) c
 gets_more a b c es fs h k = tt

@@ -15,7 +15,8 @@ lines_append p before (x ∷ xs) ys =
     ap (λ (l : List ℕ). line_after p before x ++ l) (lines_append p (before ++ x ∷ []) xs ys)
     ∙ sym (append_assoc (line_after p before x) (lines_after p (before ++ x ∷ []) xs)
     (lines_after p ((before ++ x ∷ []) ++ xs) ys))
-    ∙ ap (λ (l : List (Event Packet)). (line_after p before x ++ lines_after p (before ++ x ∷ []) xs) ++ lines_after p l ys)
+    ∙ ap (λ (l : List (Event Packet)). (line_after p before x ++ lines_after p (before ++ x ∷ []) xs)
+    ++ lines_after p l ys)
     (append_assoc before (x ∷ []) xs)
 
 pub lines_push : (p : ListPlan) (before xs : List (Event Packet)) (e : Event Packet) →
@@ -28,4 +29,5 @@ pub packets_push : (source : Option ℕ) (es : List (Event Packet)) (e : Event P
     itm_packets source (es ++ e ∷ []) ≡ itm_packets source es ++ cond (is_of source e.source) (itm_packet e.what) []
 packets_push source es e =
     flat_map-append (λ (x : Event Packet). cond (is_of source x.source) (itm_packet x.what) []) es (e ∷ [])
-    ∙ ap (λ (l : List ItmPacket). itm_packets source es ++ l) (append-nil (cond (is_of source e.source) (itm_packet e.what) []))
+    ∙ ap (λ (l : List ItmPacket). itm_packets source es ++ l)
+    (append-nil (cond (is_of source e.source) (itm_packet e.what) []))

@@ -19,7 +19,8 @@ gets_none s = record {
   text = λ before h f. sym (append-nil s.1);
 }
 
-pub gets_more : (a b c : Lister × List ℕ) (es fs : List (Event Packet)) → gets a es b → gets b fs c → gets a (es ++ fs) c
+pub gets_more : (a b c : Lister × List ℕ) (es fs : List (Event Packet)) → gets a es b → gets b fs c →
+    gets a (es ++ fs) c
 gets_more a b c es fs g h =
     let p = plan_by a.0.plan a.0.filter in
     record {

@@ -40,7 +40,8 @@ faulty_ending plan u w (Some f) g h e = ap (λ (x : Option (Place × (Reason × 
 
 pub ending_stays : (p : ListPlan) (xs ys : List ℕ) → Faulty p xs → ending p (xs ++ ys) ≡ ending p xs
 ending_stays p xs ys h =
-    faulty_ending p.plan (placed (xs ++ ys)) (placed xs) (fault_of p.plan (placed xs)) (fault_of p.plan (placed (xs ++ ys))) h
+    faulty_ending p.plan (placed (xs ++ ys)) (placed xs) (fault_of p.plan (placed xs))
+    (fault_of p.plan (placed (xs ++ ys))) h
     (laws.same_fault p.plan xs ys h)
 
 pub listed_grows : (p : ListPlan) (xs ys : List ℕ) → GrowsOnly (listed p xs) (listed p (xs ++ ys))

@@ -259,8 +259,8 @@ impl Show {
         taken.bytes
     }
 
-    /// Takes ITM packets from the front of the piece, where there is no formatter and they can be taken at once, as many
-    /// as have room for their lines, and puts those. Answers how many bytes they have.
+    /// Takes ITM packets from the front of the piece, where there is no formatter and they can be taken at once, as
+    /// many as have room for their lines, and puts those. Answers how many bytes they have.
     #[inline(never)]
     fn feed_packets(&mut self, piece: &[u8], outlet: &mut Outlet) -> usize
         requires live { IsLive self.old }

@@ -19,7 +19,8 @@ faulty_stays p xs ys h = laws.faulty_stays p.plan xs ys h
 pub text_stays : (p : ExercisePlan) (xs ys : List ℕ) → IsFaulty p xs → exercise_text p (xs ++ ys) ≡ exercise_text p xs
 text_stays p xs ys h = refl
 
-pub ending_stays : (p : ExercisePlan) (xs ys : List ℕ) → IsFaulty p xs → exercise_ending p (xs ++ ys) ≡ exercise_ending p xs
+pub ending_stays : (p : ExercisePlan) (xs ys : List ℕ) → IsFaulty p xs →
+    exercise_ending p (xs ++ ys) ≡ exercise_ending p xs
 ending_stays p xs ys h = ap (λ (l : List ℕ). exercise_lines p.items p.capture ++ l) (laws.summary_stays p.plan xs ys h)
 
 pub text_grows : (p : ExercisePlan) (xs ys : List ℕ) → GrowsOnly (exercise_text p xs) (exercise_text p (xs ++ ys))

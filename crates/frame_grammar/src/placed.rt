@@ -30,8 +30,8 @@ impl PlacedFrame {
     }
 }
 
-/// The frame that the piece begins with, the first byte of which is at this offset, where all its bytes are there. It is
-/// that of `gather_frame`, which keeps no offsets and is faster.
+/// The frame that the piece begins with, the first byte of which is at this offset, where all its bytes are there. It
+/// is that of `gather_frame`, which keeps no offsets and is faster.
 #[inline]
 pub fn gather_frame_at(at: u64, piece: &[u8]) -> Option<PlacedFrame>
     requires { at + length piece.now ≤ 2 ^ 64 }

@@ -52,7 +52,8 @@ following c x y t u =
 -- the next pair, where c is in force
 abbrev pub paired : Option ℕ → List Tagged → Paired
 paired c t =
-    if is_id c (first t).id then following c (first t) (first (after_first t)) (after_first t) (after_first (after_first t))
+    if is_id c (first t).id then following c (first t) (first (after_first t)) (after_first t)
+    (after_first (after_first t))
     else naming (first t) (after_first t)
 
 -- byte 14 with its auxiliary bit, the ID in force after it, and the bytes that are left

@@ -120,8 +120,8 @@ impl SureWriter {
         }
     }
 
-    /// Puts two bytes of a source other than 0 as a pair, and appends what was kept back, where they are one and complete
-    /// no frame; answers whether it did.
+    /// Puts two bytes of a source other than 0 as a pair, and appends what was kept back, where they are one and
+    /// complete no frame; answers whether it did.
     #[inline(always)]
     fn append_pair<const N: usize>(
         &mut self,

@@ -123,8 +123,8 @@ impl FrameWriter {
         }
     }
 
-    /// Puts two bytes of a source other than 0 as a pair, where no byte is held, the source's ID is in force and there is
-    /// room for a pair; answers whether it did. They complete no frame.
+    /// Puts two bytes of a source other than 0 as a pair, where no byte is held, the source's ID is in force and there
+    /// is room for a pair; answers whether it did. They complete no frame.
     #[inline(always)]
     pub(crate) fn put_pair(&mut self, id: SourceId, first: u8, second: u8) -> bool
         requires source { 0 < id }

@@ -71,8 +71,8 @@ given_bytes x lines = flat_map (raw_by x) lines
 
 -- == What lines put
 
--- the bytes of an item of a source that was given these STP items before: the shortest bytes of its packet, the bytes that
--- the encoder adds, or the bytes themselves
+-- the bytes of an item of a source that was given these STP items before: the shortest bytes of its packet, the bytes
+-- that the encoder adds, or the bytes themselves
 abbrev pub item_bytes : Order → List StpItem → Item → List ℕ
 item_bytes order before (Itm p) = short p
 item_bytes order before (Dwt item) = short (hardware (packet item))

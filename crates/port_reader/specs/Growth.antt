@@ -55,7 +55,8 @@ Answers mode step cells u at byte =
 abbrev pub IsInside : FramesMode → List Placed → ℕ → ℕ → Type 0
 IsInside mode u at byte = Answers mode Quiet [] u at byte ⊎ Answers mode Half [] u at byte
 
--- these bytes follow u from this offset on: the last of them ends a frame of these cells, and those before it are inside
+-- these bytes follow u from this offset on: the last of them ends a frame of these cells, and those before it are
+-- inside
 abbrev pub FedFrame : FramesMode → List Cell → List Placed → ℕ → List ℕ → Type 0
 FedFrame mode cells u at bytes = FedAs (IsInside mode) (Answers mode Frame cells) u at bytes
 

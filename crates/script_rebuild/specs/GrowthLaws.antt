@@ -1,5 +1,23 @@
 -- What a longer script reads as.
-use Rattle.std.proofs.Common.{◌≡◌, ℕ, List, [], ◌∷◌, ◌++◌, refl, sym, ◌∙◌, ap, subst, Bool, true, false, append-nil, append_assoc, length}
+use Rattle.std.proofs.Common.{
+  ◌≡◌,
+  ℕ,
+  List,
+  [],
+  ◌∷◌,
+  ◌++◌,
+  refl,
+  sym,
+  ◌∙◌,
+  ap,
+  subst,
+  Bool,
+  true,
+  false,
+  append-nil,
+  append_assoc,
+  length,
+}
 use Rattle.std.specs.Prelude.{nat_lt, is_some, if◌then◌else◌}
 use Rattle.source_events.specs.declared.plan.Plan.{Plan}
 use Rattle.frame_writer.specs.Fronts.{all_but_last}
@@ -66,7 +84,8 @@ module _ (plan : Plan) (xs ys : List ℕ) where
 
   goes : (more : List (List ℕ)) → nat_lt 256 (length (open_line xs)) ≡ false →
       read_after plan [] (ended ++ more) ≡ go_on plan (read_so_far plan xs) more (read_so_far plan xs).fault
-  goes more h = read_append plan [] ended more ∙ ap (λ l. go_on plan (read_after plan [] l) more (read_after plan [] l).fault) (sym (short_is h))
+  goes more h = read_append plan [] ended more
+      ∙ ap (λ l. go_on plan (read_after plan [] l) more (read_after plan [] l).fault) (sym (short_is h))
 
   short_so_far : nat_lt 256 (length (open_line xs)) ≡ false →
       read_so_far plan (xs ++ ys) ≡ go_on plan (read_so_far plan xs) certain_later (read_so_far plan xs).fault
@@ -89,8 +108,12 @@ module _ (plan : Plan) (xs ys : List ℕ) where
   pub so_far_extends : Extends (read_so_far plan xs).lines (read_so_far plan (xs ++ ys)).lines
   so_far_extends = by (nat_lt 256 (length (open_line xs))) refl
     where
-      by : (v : Bool) → nat_lt 256 (length (open_line xs)) ≡ v → Extends (read_so_far plan xs).lines (read_so_far plan (xs ++ ys)).lines
-      by true h = record { more = []; all = ap (λ r. r.lines) (long_settled h).so_far ∙ sym (append-nil (read_so_far plan xs).lines) }
+      by : (v : Bool) → nat_lt 256 (length (open_line xs)) ≡ v →
+          Extends (read_so_far plan xs).lines (read_so_far plan (xs ++ ys)).lines
+      by true h = record {
+        more = [];
+        all = ap (λ r. r.lines) (long_settled h).so_far ∙ sym (append-nil (read_so_far plan xs).lines);
+      }
       by false h =
           let goes = goes_extends plan (read_so_far plan xs) certain_later (read_so_far plan xs).fault in
           record { more = goes.more; all = ap (λ r. r.lines) (short_so_far h) ∙ goes.all }
@@ -98,15 +121,22 @@ module _ (plan : Plan) (xs ys : List ℕ) where
   pub whole_extends : Extends (read_so_far plan xs).lines (script_of plan (xs ++ ys)).lines
   whole_extends = by (nat_lt 256 (length (open_line xs))) refl
     where
-      by : (v : Bool) → nat_lt 256 (length (open_line xs)) ≡ v → Extends (read_so_far plan xs).lines (script_of plan (xs ++ ys)).lines
-      by true h = record { more = []; all = ap (λ r. r.lines) (long_settled h).whole ∙ sym (append-nil (read_so_far plan xs).lines) }
+      by : (v : Bool) → nat_lt 256 (length (open_line xs)) ≡ v →
+          Extends (read_so_far plan xs).lines (script_of plan (xs ++ ys)).lines
+      by true h = record {
+        more = [];
+        all = ap (λ r. r.lines) (long_settled h).whole ∙ sym (append-nil (read_so_far plan xs).lines);
+      }
       by false h =
           let goes = goes_extends plan (read_so_far plan xs) (next ∷ later) (read_so_far plan xs).fault in
           record { more = goes.more; all = ap (λ r. r.lines) (short_whole h) ∙ goes.all }
 
 -- the same at the end of a script
-pub whole_settled : (plan : Plan) (xs : List ℕ) → is_some (read_so_far plan xs).fault ≡ true → script_of plan xs ≡ read_so_far plan xs
-whole_settled plan xs faulty = subst (λ l. script_of plan l ≡ read_so_far plan xs) (append-nil xs) (settled plan xs [] faulty).whole
+pub whole_settled : (plan : Plan) (xs : List ℕ) → is_some (read_so_far plan xs).fault ≡ true →
+    script_of plan xs ≡ read_so_far plan xs
+whole_settled plan xs faulty = subst (λ l. script_of plan l ≡ read_so_far plan xs) (append-nil xs)
+    (settled plan xs [] faulty).whole
 
 pub end_extends : (plan : Plan) (xs : List ℕ) → Extends (read_so_far plan xs).lines (script_of plan xs).lines
-end_extends plan xs = subst (λ l. Extends (read_so_far plan xs).lines (script_of plan l).lines) (append-nil xs) (whole_extends plan xs [])
+end_extends plan xs = subst (λ l. Extends (read_so_far plan xs).lines (script_of plan l).lines) (append-nil xs)
+    (whole_extends plan xs [])

@@ -55,4 +55,5 @@ pub record IsOpen (mid r : Rebuild) (line : List ℕ) : Type 0 where
 -- it took a front of a piece, and goes on or stops after it
 abbrev pub Feeds : Rebuild → Rebuild → List ℕ → List ℕ → List ℕ → List ℕ → Flow → Type 0
 Feeds old new seen front before after flow =
-    HasTaken (Stands new) (rebuild_meaning old.plan) (record { seen = seen; front = front; before = before; after = after }) flow
+    HasTaken (Stands new) (rebuild_meaning old.plan)
+    (record { seen = seen; front = front; before = before; after = after }) flow

@@ -24,19 +24,25 @@ faulty_stays p xs ys h = ap (λ r. is_some r.fault) (settled p.plan xs ys h).so_
 pub text_stays : (p : RebuildPlan) (xs ys : List ℕ) → IsFaulty p xs → text p (xs ++ ys) ≡ text p xs
 text_stays p xs ys h = ap (λ r. sure p.every p.halves (put_of p.plan.order r.lines)) (settled p.plan xs ys h).so_far
 
-pub nothing_left : (whole front : List ℕ) (fault : Option (ℕ × LineFault)) → is_some fault ≡ true → left_of whole front fault ≡ []
+pub nothing_left : (whole front : List ℕ) (fault : Option (ℕ × LineFault)) → is_some fault ≡ true →
+    left_of whole front fault ≡ []
 nothing_left whole front None h = cc
 nothing_left whole front (Some fault) h = refl
 
 pub ending_stays : (p : RebuildPlan) (xs ys : List ℕ) → IsFaulty p xs → ending p (xs ++ ys) ≡ ending p xs
 ending_stays p xs ys h =
-    nothing_left (script_capture p (xs ++ ys)) (text p (xs ++ ys)) (script_of p.plan (xs ++ ys)).fault (ap (λ r. is_some r.fault) (settled p.plan xs ys h).whole ∙ h)
-    ∙ sym (nothing_left (script_capture p xs) (text p xs) (script_of p.plan xs).fault (ap (λ r. is_some r.fault) (whole_settled p.plan xs h) ∙ h))
+    nothing_left (script_capture p (xs ++ ys)) (text p (xs ++ ys)) (script_of p.plan (xs ++ ys)).fault
+    (ap (λ r. is_some r.fault) (settled p.plan xs ys h).whole ∙ h)
+    ∙ sym (nothing_left (script_capture p xs) (text p xs) (script_of p.plan xs).fault
+    (ap (λ r. is_some r.fault) (whole_settled p.plan xs h) ∙ h))
 
 pub text_grows : (p : RebuildPlan) (xs ys : List ℕ) → GrowsOnly (text p xs) (text p (xs ++ ys))
 text_grows p xs ys =
     let order = p.plan.order in
     let lines = (read_so_far p.plan xs).lines in
     let longer = so_far_extends p.plan xs ys in
-    let grown = sure_grows p.every p.halves (put_of order lines) (put_after order lines longer.more) in
-    (grown.0, ap (λ l. sure p.every p.halves (put_of order l)) longer.all ∙ ap (sure p.every p.halves) (put_after-append order [] lines longer.more) ∙ grown.1)
+    let grown = sure_grows p.every p.halves (put_of order lines) (put_after order lines longer.more) in (
+      grown.0,
+      ap (λ l. sure p.every p.halves (put_of order l)) longer.all
+          ∙ ap (sure p.every p.halves) (put_after-append order [] lines longer.more) ∙ grown.1,
+    )

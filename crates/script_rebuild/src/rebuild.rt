@@ -1,7 +1,7 @@
 //! The action `rebuild`.
 
-ghost use Rattle.std.specs.Prelude.{◌≡◌, ◌≢◌, ◌≤◌, ◌<◌, ◌+◌, ◌*◌, ◌++◌, ◌==◌, [], ℕ, List, All, length, take, slice_index};
-ghost use Rattle.std.specs.Prelude.{true, false, None, Err, IfSome, option_map, option_to_list, is_none};
+ghost use Rattle.std.specs.Prelude.{◌≡◌, ◌≢◌, ◌≤◌, ◌<◌, ◌+◌, ◌*◌, ◌++◌, ◌==◌, [], ℕ, List, All, length, take};
+ghost use Rattle.std.specs.Prelude.{slice_index, true, false, None, Err, IfSome, option_map, option_to_list, is_none};
 ghost use Rattle.std.specs.Option.{ForSome};
 ghost use Rattle.std.specs.Result.{IfErr, OnErr, OnOk};
 ghost use Rattle.trace_values.specs.declared.limits.TheConstants.{COUNT_ROOM};

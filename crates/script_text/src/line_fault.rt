@@ -20,8 +20,8 @@ pub enum LineFault {
     Unmapped,
     /// The item is of another kind than its source.
     Mixed,
-    /// An STP item has a timestamp that the version of the protocol has not. `read_line` never answers this fault, since
-    /// it depends on the lines before.
+    /// An STP item has a timestamp that the version of the protocol has not. `read_line` never answers this fault,
+    /// since it depends on the lines before.
     Unfit,
 }
 

@@ -2,7 +2,8 @@
 
 ghost use Rattle.std.specs.Prelude.{◌≡◌, ◌<◌, ◌≤◌, ◌*◌, IfSome, ◌++◌, codes};
 ghost use Rattle.itm_grammar.specs.Spelling.{byte_count};
-ghost use Rattle.script_text.specs.Quick.{BeginsWith, BeginsWithNumber, BeginsWithDigits, IsItemOf, SaysFirst, IsFirstLine};
+ghost use Rattle.script_text.specs.Quick.{BeginsWith, BeginsWithNumber, BeginsWithDigits, IsItemOf, SaysFirst};
+ghost use Rattle.script_text.specs.Quick.{IsFirstLine};
 ghost use Rattle.script_text.specs.declared.items.Item.TheVariants.{Raw};
 ghost use Rattle.script_text.specs.Quick.{size_word as word_of_size};
 

@@ -78,5 +78,6 @@ keeps (Itm d) u at byte s l f =
     falling.keeps_one pattern Sync (by_unit rule) Header count_of refl counting.counts_placed d.mode d.live d.partial u
     (byte_at at byte) s l f
 keeps (Stp d) u at byte s l f =
-    nibbles.keeps stp_pattern Async (by_unit (stp_rule d.order)) Start attribute [] (stp_falling.begins d.order) stp_count refl
+    nibbles.keeps stp_pattern Async (by_unit (stp_rule d.order)) Start attribute []
+    (stp_falling.begins d.order) stp_count refl
     (stp_counting.counts_placed d.order) d.mode d.live d.partial u at byte s.0 l f

@@ -5,7 +5,22 @@ use Rattle.std.proofs.lemmas.List.{map-append}
 use Rattle.trace_values.specs.declared.step.Step.{Step}
 use Rattle.trace_values.specs.declared.step.Step.TheVariants.{Quiet, Skipping, Item, Locked, Fault}
 use Rattle.trace_values.specs.Placed.{Place, Placed}
-use Rattle.trace_values.specs.Stream.{Said, Stream, Grows, HuntBy, Shows, Settled, Holds, Rises, AllAt, StepFits, LocksAfter, given_by, fault_by, goes_on}
+use Rattle.trace_values.specs.Stream.{
+  Said,
+  Stream,
+  Grows,
+  HuntBy,
+  Shows,
+  Settled,
+  Holds,
+  Rises,
+  AllAt,
+  StepFits,
+  LocksAfter,
+  given_by,
+  fault_by,
+  goes_on,
+}
 use Rattle.trace_values.specs.Block.{given_after, fault_after, goes_on_after, StandsAt, StopsFor, Takes}
 use Rattle.itm_codec.specs.Wholes.{Cuts, Gives, kept_at}
 use Rattle.stp_codec.specs.Cuts.{Passes}
@@ -84,8 +99,14 @@ module _ {V W : Type 0} (f : V → W) where
   pub settled_as : (old new : Stream V) → Settled old new → Settled (stream_as f old) (stream_as f new)
   settled_as old new s = record { given = ap (given_as f) s.given; fault = s.fault }
 
-  pub holds_as : (units : ℕ) (old new : Stream V) → Holds units old new → Holds units (stream_as f old) (stream_as f new)
-  holds_as units old new h = record { given = ap (given_as f) h.given; held = h.held; skipped = h.skipped; locked = h.locked }
+  pub holds_as : (units : ℕ) (old new : Stream V) → Holds units old new →
+      Holds units (stream_as f old) (stream_as f new)
+  holds_as units old new h = record {
+    given = ap (given_as f) h.given;
+    held = h.held;
+    skipped = h.skipped;
+    locked = h.locked;
+  }
 
   all_as : (at half : ℕ) (xs : List (Said V × Place)) → AllAt at half xs → AllAt at half (given_as f xs)
   all_as at half [] a = tt
@@ -129,19 +150,22 @@ module _ {V W : Type 0} (f : V → W) where
   stops_as bytes length (Some (Locked n half v)) h = h
   stops_as bytes length (Some (Fault x)) h = h
 
-  pub takes_as : (reading : List Placed → Stream V) (stands : List Placed → Type 0) (u : List Placed) (at : ℕ) (piece : List ℕ)
+  pub takes_as : (reading : List Placed → Stream V) (stands : List Placed → Type 0)
+      (u : List Placed) (at : ℕ) (piece : List ℕ)
       (bytes : ℕ) (step : Option (Step V)) → Takes reading stands u at piece bytes step →
       Takes (λ w. stream_as f (reading w)) stands u at piece bytes (last_as f step)
   takes_as reading stands u at piece bytes step t = record {
     list = t.list;
-    given = ap (given_as f) t.given ∙ given_append _ _ ∙ ap (λ l. given_as f (reading u).given ++ l) (given_block _ step);
+    given = ap (given_as f) t.given ∙ given_append _ _
+        ∙ ap (λ l. given_as f (reading u).given ++ l) (given_block _ step);
     fault = t.fault ∙ fault_block _ step;
     place = place_block _ step t.place;
     sound = t.sound;
   }
 
   -- of a whole packet
-  pub gives_as : (reading : List Placed → Stream V) (stands : List Placed → Type 0) (u front : List Placed) (last : Placed)
+  pub gives_as : (reading : List Placed → Stream V) (stands : List Placed → Type 0)
+      (u front : List Placed) (last : Placed)
       (packet : V) → Gives reading stands u front last packet →
       Gives (λ w. stream_as f (reading w)) stands u front last (f packet)
   gives_as reading stands u front last packet g = record {
@@ -151,25 +175,30 @@ module _ {V W : Type 0} (f : V → W) where
   }
 
   -- of a part of an STP packet
-  pub passes_as : (reading : List Placed → Stream V) (stands : List Placed → Type 0) (u front : List Placed) (last : Placed)
+  pub passes_as : (reading : List Placed → Stream V) (stands : List Placed → Type 0)
+      (u front : List Placed) (last : Placed)
       (step : Option (Step V)) → Passes reading stands u front last step →
       Passes (λ w. stream_as f (reading w)) stands u front last (last_as f step)
   passes_as reading stands u front last step p = record {
     list = p.list;
-    given = ap (given_as f) p.given ∙ given_append _ _ ∙ ap (λ l. given_as f (reading u).given ++ l) (given_block _ step);
+    given = ap (given_as f) p.given ∙ given_append _ _
+        ∙ ap (λ l. given_as f (reading u).given ++ l) (given_block _ step);
     sound = p.sound;
   }
 
   -- of a part of a packet
-  kept_as : (place : Place) (packet : Option V) → given_as f (kept_at place packet) ≡ kept_at place (option_map f packet)
+  kept_as : (place : Place) (packet : Option V) →
+      given_as f (kept_at place packet) ≡ kept_at place (option_map f packet)
   kept_as place None = refl
   kept_as place (Some packet) = refl
 
-  pub cuts_as : (reading : List Placed → Stream V) (stands : List Placed → Type 0) (u front : List Placed) (last : Placed)
+  pub cuts_as : (reading : List Placed → Stream V) (stands : List Placed → Type 0)
+      (u front : List Placed) (last : Placed)
       (packet : Option V) → Cuts reading stands u front last packet →
       Cuts (λ w. stream_as f (reading w)) stands u front last (option_map f packet)
   cuts_as reading stands u front last packet c = record {
     list = c.list;
-    given = ap (given_as f) c.given ∙ given_append _ _ ∙ ap (λ l. given_as f (reading u).given ++ l) (kept_as last.place packet);
+    given = ap (given_as f) c.given ∙ given_append _ _
+        ∙ ap (λ l. given_as f (reading u).given ++ l) (kept_as last.place packet);
     sound = c.sound;
   }

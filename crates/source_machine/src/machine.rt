@@ -209,11 +209,11 @@ impl SourceMachine {
         }
     }
 
-    /// Takes bytes of an STP source at once, wherever they are: those within the unfinished packet up to the one in which
-    /// it ends, with all of that byte, or all of them. It is live, and has room for all their nibbles.
+    /// Takes bytes of an STP source at once, wherever they are: those within the unfinished packet up to the one in
+    /// which it ends, with all of that byte, or all of them. It is live, and has room for all their nibbles.
     ///
-    /// None where the reading has not begun, where a nibble is a fault, of no bytes, and for an ITM source: then it is as
-    /// before.
+    /// None where the reading has not begun, where a nibble is a fault, of no bytes, and for an ITM source: then it is
+    /// as before.
     #[inline(always)]
     pub fn take_part(&mut self, bytes: &[u8]) -> Option<PacketTaken>
         requires live { is_live self.old ≡ true }

@@ -1,5 +1,5 @@
--- The data of a frame, and the cells of one that names no source (CoreSight Architecture Specification, Arm IHI 0029E (version 3.0), chapter
--- 'Trace Formatter', its section on frames).
+-- The data of a frame, and the cells of one that names no source (CoreSight Architecture Specification, Arm IHI 0029E
+-- (version 3.0), chapter 'Trace Formatter', its section on frames).
 use Rattle.std.specs.Prelude.{ℕ, ◌+◌, ◌*◌, ◌/◌, ◌%◌, slice_index, List, [], ◌∷◌, Option}
 use Rattle.trace_values.specs.declared.cell.Cell.{Cell}
 

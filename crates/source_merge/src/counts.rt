@@ -157,8 +157,8 @@ impl ByteCounts {
     pub fn add_run(&mut self, source: &Option<SourceId>, bytes: u64)
         requires some { 0 < bytes }
         requires room { bytes_counted self.old + bytes ≤ COUNT_ROOM }
-        ensures counted { (whole runs : List (List Cell)) (run : List Cell) → id_of run ≡ source.now → length run ≡ bytes →
-            HasBytes self.old whole runs → HasBytes self.new whole (runs ++ run ∷ []) }
+        ensures counted { (whole runs : List (List Cell)) (run : List Cell) → id_of run ≡ source.now →
+            length run ≡ bytes → HasBytes self.old whole runs → HasBytes self.new whole (runs ++ run ∷ []) }
         ensures more { bytes_counted self.new ≡ bytes_counted self.old + bytes }
     {
         match source {

@@ -23,8 +23,8 @@ fn offsets_from(at: u64) -> [u64; FRAME_BYTES]
     offsets
 }
 
-/// The frame that the piece begins with, the first byte of which is at this offset, where all its bytes are there. It is
-/// that of `gather_frame_at`, and found faster where no half synchronisation is between its halfwords.
+/// The frame that the piece begins with, the first byte of which is at this offset, where all its bytes are there. It
+/// is that of `gather_frame_at`, and found faster where no half synchronisation is between its halfwords.
 #[inline(always)]
 pub fn place_frame(at: u64, piece: &[u8]) -> Option<PlacedFrame>
     requires { at + length piece.now ≤ 2 ^ 64 }

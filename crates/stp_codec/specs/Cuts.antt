@@ -1,5 +1,21 @@
 -- Packets of which the bytes at hand are only a part.
-use Rattle.std.specs.Prelude.{◌≡◌, ℕ, ◌*◌, ◌<◌, ◌≤◌, List, [], ◌∷◌, ◌++◌, length, Option, None, true, ◌==◌, if◌then◌else◌}
+use Rattle.std.specs.Prelude.{
+  ◌≡◌,
+  ℕ,
+  ◌*◌,
+  ◌<◌,
+  ◌≤◌,
+  List,
+  [],
+  ◌∷◌,
+  ◌++◌,
+  length,
+  Option,
+  None,
+  true,
+  ◌==◌,
+  if◌then◌else◌,
+}
 use Rattle.trace_values.specs.declared.next.Next.{Next}
 use Rattle.trace_values.specs.declared.next.Next.TheVariants.{Go, End}
 use Rattle.trace_values.specs.declared.step.Step.{Step}
@@ -41,7 +57,8 @@ IsProperCut (Inside t) = is_sound t ≡ true
 IsProperCut (Ended nibbles packet) = IsProper packet
 
 -- After u these bytes give what this answer to the last of them says, and nothing else, and the reading goes on.
-pub record Passes {V : Type 0} (reading : List Placed → Stream V) (stands : List Placed → Type 0) (u front : List Placed)
+pub record Passes {V : Type 0} (reading : List Placed → Stream V) (stands : List Placed → Type 0)
+    (u front : List Placed)
     (last : Placed) (step : Option (Step V)) : Type 0 where
   pub list : stands (u ++ (front ++ last ∷ []))
   pub given : (reading (u ++ (front ++ last ∷ []))).given ≡ (reading u).given ++ given_after last.place.at step

@@ -55,7 +55,8 @@ pub struct PacketTaken {
 }
 
 impl StpDecoder {
-    ghost use Rattle.std.specs.Prelude.{[], ◌∷◌, ◌++◌, false, ℕ, ◌+◌, ◌*◌, ◌^◌, ◌<◌, ◌≤◌, List, length, take, IfSome, None};
+    ghost use Rattle.std.specs.Prelude.{[], ◌∷◌, ◌++◌, false, ℕ, ◌+◌, ◌*◌, ◌^◌, ◌<◌, ◌≤◌, List, length, take, IfSome};
+    ghost use Rattle.std.specs.Prelude.{None};
     ghost use Rattle.trace_values.specs.Placed.{Placed, units_of};
     ghost use Rattle.trace_values.specs.Stream.{Grows, StepFits, LocksAfter, goes_on};
     ghost use Rattle.trace_values.specs.Block.{Takes, StopsFor, goes_on_after};
@@ -249,7 +250,8 @@ impl StpDecoder {
         requires start { self.old.partial ≡ Start }
         requires count { skipped_by self.old ≤ COUNT_ROOM }
         ensures same { (order_of self.new ≡ order_of self.old) × (is_hunter self.new ≡ is_hunter self.old) }
-        ensures list { (at : ℕ) (n : List Placed) → StandsAt self.old n → StandsAt self.new (n ++ left_of half at byte) }
+        ensures list { (at : ℕ) (n : List Placed) → StandsAt self.old n →
+            StandsAt self.new (n ++ left_of half at byte) }
         ensures quiet { (at : ℕ) (n : List Placed) → StandsAt self.old n →
             IsQuiet (items_at (order_of self.old) (is_hunter self.old) n)
             (items_at (order_of self.old) (is_hunter self.old) (n ++ left_of half at byte)) }

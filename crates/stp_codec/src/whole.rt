@@ -362,7 +362,8 @@ fn number_at(
     requires fits { value < 16 ^ count }
     requires there { start ≤ 2 * length bytes.now }
     ensures end { IfSome result (λ x. (x.0 ≡ start + (most - count)) × (x.0 ≤ 2 * length bytes.now)) }
-    ensures value { IfSome result (λ x. x.1 ≡ number_from order count value (between (nibbles_in bytes.now) start x.0)) }
+    ensures value { IfSome result (λ x.
+        x.1 ≡ number_from order count value (between (nibbles_in bytes.now) start x.0)) }
     ensures fits { IfSome result (λ x. x.1 < 16 ^ most) }
 {
     let more = most - count;

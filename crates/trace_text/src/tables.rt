@@ -40,7 +40,8 @@ pub(crate) const HEX_PAIRS: &[u8] = b"\
     c8c9cacbcccdcecfd0d1d2d3d4d5d6d7d8d9dadbdcdddedfe0e1e2e3e4e5e6e7e8e9eaebecedeeef\
     f0f1f2f3f4f5f6f7f8f9fafbfcfdfeff";
 
-/// The word of each width with a space after it: of one byte, of two, and of four. The bytes after it are of no account.
+/// The word of each width with a space after it: of one byte, of two, and of four. The bytes after it are of no
+/// account.
 pub(crate) const WIDTHS: &[u8] = b"u8  u16 u32 ";
 
 /// The words of the widths of data, each with a space after it, in four bytes: those of 4, 8, 16, 32 and 64 bits.

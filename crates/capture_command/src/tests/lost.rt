@@ -102,8 +102,8 @@ fn check_front(
     Ok(())
 }
 
-/// The capture with a half synchronisation in each frame: before its first halfword, in the next frame before its second
-/// one, and so on.
+/// The capture with a half synchronisation in each frame: before its first halfword, in the next frame before its
+/// second one, and so on.
 fn with_halves(alloc: Global, rt: &impl Abort, capture: &[u8]) -> Result<Vec<u8>, AllocError> {
     let mut halved = Vec::new(alloc);
     let mut rest = capture;
