@@ -3,48 +3,48 @@
 #![tactic(auto)]
 
 #[cfg(test)]
-mod capture_plan;
+mod capture_plan_tests;
 #[cfg(test)]
-mod decimal_words;
+mod decimal_words_tests;
 #[cfg(test)]
-mod deformatter;
+mod deformatter_tests;
 #[cfg(test)]
-mod dwt_packets;
+mod dwt_packets_tests;
 #[cfg(test)]
-mod exercise_source;
+mod exercise_source_tests;
 #[cfg(test)]
-mod frame_grammar;
+mod frame_grammar_tests;
 #[cfg(test)]
-mod frame_writer;
+mod frame_writer_tests;
 #[cfg(test)]
-mod item_tap;
+mod item_tap_tests;
 #[cfg(test)]
-mod itm_codec;
+mod itm_codec_tests;
 #[cfg(test)]
-mod itm_grammar;
+mod itm_grammar_tests;
 #[cfg(test)]
-mod port_reader;
+mod port_reader_tests;
 #[cfg(test)]
-mod port_sync;
+mod port_sync_tests;
 #[cfg(test)]
-mod script_rebuild;
+mod script_rebuild_tests;
 #[cfg(test)]
-mod script_text;
+mod script_text_tests;
 #[cfg(test)]
-mod source_counts;
+mod source_counts_tests;
 #[cfg(test)]
-mod source_merge;
+mod source_merge_tests;
 #[cfg(test)]
-mod stp_codec;
+mod stp_codec_tests;
 #[cfg(test)]
-mod stp_encoder;
+mod stp_encoder_tests;
 #[cfg(test)]
-mod stp_grammar;
+mod stp_grammar_tests;
 #[cfg(test)]
-mod trace_clock;
+mod trace_clock_tests;
 #[cfg(test)]
-mod trace_text;
+mod trace_text_tests;
 #[cfg(test)]
-mod trace_values;
+mod trace_values_tests;
 #[cfg(test)]
-mod trace_vectors;
+mod trace_vectors_tests;
