@@ -1,5 +1,5 @@
 -- The cells of a frame that names no source.
-use Rattle.std.proofs.Common.{◌≡◌, ℕ, zero, suc, ◌<◌, ◌≤◌, List, [], ◌∷◌, length, get_or, refl, sym, ◌∙◌, ap, arith, Option, Some}
+use Rattle.std.proofs.Common.{◌≡◌, ℕ, zero, suc, ◌<◌, ◌≤◌, List, [], ◌∷◌, length, take, get_or, refl, sym, ◌∙◌, ap, arith, Option, Some}
 use Rattle.trace_values.specs.declared.cell.Cell.{Cell}
 use Rattle.source_events.specs.Runs.{bytes_of, id_of, joined, runs_of, RisesFrom, IsRunFrom}
 use Rattle.source_merge.specs.Data.{data_cells, run_cells}
@@ -34,19 +34,19 @@ cells_id offsets id run [] l h = absurd (omega arith)
 cells_id [] id run (b ∷ bytes) l h = absurd (omega arith)
 cells_id (o ∷ offsets) id run (b ∷ bytes) l h = refl
 
+-- offsets after those of the bytes say nothing
+pub cells_take : (offsets : List ℕ) (id : Option ℕ) (run : ℕ) (bytes : List ℕ) →
+    run_cells (take (length bytes) offsets) id run bytes ≡ run_cells offsets id run bytes
+cells_take [] id run [] = refl
+cells_take [] id run (b ∷ bytes) = refl
+cells_take (o ∷ offsets) id run [] = refl
+cells_take (o ∷ offsets) id run (b ∷ bytes) =
+    ap (λ (l : List Cell). record { at = o; id = id; run = run; byte = b } ∷ l) (cells_take offsets id run bytes)
+
 -- the same of the data of a frame that names no source
 pub data_length : (offsets : List ℕ) (id : Option ℕ) (bytes : List ℕ) → length bytes ≤ length offsets →
     length (data_cells offsets id bytes) ≡ length bytes
 data_length offsets id bytes h = cells_length offsets id 0 bytes h
-
-pub data_bytes : (offsets : List ℕ) (id : Option ℕ) (bytes : List ℕ) → length bytes ≤ length offsets →
-    bytes_of (data_cells offsets id bytes) ≡ bytes
-data_bytes offsets id bytes h = cells_bytes offsets id 0 bytes h
-
-pub data_cell : (offsets : List ℕ) (id : Option ℕ) (bytes : List ℕ) (i x y : ℕ) (c : Cell) → i < length bytes →
-    length bytes ≤ length offsets → get_or (data_cells offsets id bytes) i c ≡
-    record { at = get_or offsets i x; id = id; run = 0; byte = get_or bytes i y }
-data_cell offsets id bytes i x y c l h = cells_cell offsets id 0 bytes i x y c l h
 
 pub data_id : (offsets : List ℕ) (x : ℕ) (bytes : List ℕ) → 0 < length bytes → length bytes ≤ length offsets →
     id_of (data_cells offsets (Some x) bytes) ≡ Some x

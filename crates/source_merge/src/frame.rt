@@ -117,7 +117,7 @@ impl FrameCells for DataFrame<'_> {
     ) -> Option<Stop> {
         let source = self.run.source();
         counts.add_source(source, DATA_BYTES as u64);
-        take_own(slots, self.index, source, &self.run, items, out, to)
+        take_own(slots, self.index, source, &self.run.part(), items, out, to)
     }
 }
 

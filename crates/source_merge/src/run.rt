@@ -90,7 +90,7 @@ pub struct DataRun<'a> {
 }
 
 impl<'a> DataRun<'a> {
-    ghost use Rattle.source_merge.specs.Run.{data_of, source_of};
+    ghost use Rattle.source_merge.specs.Run.{data_of, part_of, source_of};
     ghost use Rattle.std.specs.Prelude.{Some};
     ghost use Rattle.source_merge.specs.Data.{data_cells};
 
@@ -111,38 +111,22 @@ impl<'a> DataRun<'a> {
         }
     }
 
+    /// The same run as a part of a frame, so that one function reads both kinds: two do not fit into the instruction
+    /// cache.
+    #[inline(always)]
+    pub fn part(&self) -> PartRun<'_>
+        ensures { part_of result ≡ data_of self.now }
+    {
+        let offsets = self.offsets;
+        PartRun::new(&Some(self.source), 0, &offsets[..DATA_BYTES], &self.bytes)
+    }
+
     /// The source.
     #[inline(always)]
     pub fn source(&self) -> SourceId
         ensures { result ≡ source_of self.now }
     {
         self.source
-    }
-}
-
-impl Run for DataRun<'_> {
-    ghost use Rattle.source_merge.specs.Run.{data_of};
-
-    ghost cells = { data_of };
-
-    #[inline(always)]
-    fn len(&self) -> usize {
-        DATA_BYTES
-    }
-
-    #[inline(always)]
-    fn bytes(&self) -> &[u8] {
-        &self.bytes
-    }
-
-    #[inline(always)]
-    fn cell(&self, index: usize) -> Cell {
-        Cell {
-            at: self.offsets[index],
-            id: Some(self.source),
-            run: 0,
-            byte: self.bytes[index],
-        }
     }
 }
 

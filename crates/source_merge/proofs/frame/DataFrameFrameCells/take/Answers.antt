@@ -1,7 +1,7 @@
-use Rattle.std.proofs.Common.{append-nil, ◌≡◌, ◌^◌, List, [], ◌∷◌, ◌++◌, refl, sym, ◌∙◌, ap, subst, arith, Some}
+use Rattle.std.proofs.Common.{append-nil, ◌≡◌, ◌+◌, ◌*◌, ◌^◌, length, List, [], ◌∷◌, ◌++◌, refl, sym, ◌∙◌, ap, subst, arith, Some}
 use Rattle.trace_values.specs.declared.cell.Cell.{Cell}
 use Rattle.source_events.proofs.Least.{AreSound}
-use Rattle.source_events.specs.Runs.{runs_of}
+use Rattle.source_events.specs.Runs.{id_of, runs_of, IsRunFrom}
 use Rattle.source_events.specs.Report.{Mapped}
 use Rattle.source_events.specs.declared.packet.Packet.{Packet}
 use Rattle.source_machine.specs.Machine.{Stands, has_locked, held_of, is_live, reading_of, skipped_by}
@@ -9,7 +9,7 @@ use Rattle.source_machine.specs.MachineLaws as laws
 use Rattle.source_merge.specs.declared.frame.DataFrame.{DataFrame}
 use Rattle.source_merge.specs.Counting.{HasBytes}
 use Rattle.source_merge.specs.Frame.{data_in}
-use Rattle.source_merge.specs.Routing.{mapped_of, Fed}
+use Rattle.source_merge.specs.Routing.{mapped_of, Fed, HaveRoom}
 use Rattle.source_merge.proofs.ByParts.{TookBy}
 use Rattle.source_merge.proofs.DataCells.{data_fits, data_size, data_id, data_run, run_from}
 use Rattle.source_merge.proofs.Framing.{fed_one}
@@ -23,11 +23,16 @@ one frame = data_run frame.run.offsets.now (Some frame.run.source) frame.run.byt
 pub take_own-requires-clause-own : goal.take_own-requires-clause-own
 take_own-requires-clause-own g c =
     let frame = c.args.self.now in
-    data_id frame.run.offsets.now frame.run.source frame.run.bytes (let b = frame.run.sized in omega arith) (data_fits frame)
+    ap id_of c.part.ensures
+    ∙ data_id frame.run.offsets.now frame.run.source frame.run.bytes (let b = frame.run.sized in omega arith) (data_fits frame)
     ∙ ap Some (sym c.source-source.ensures)
 
 pub take_own-requires-clause-room : goal.take_own-requires-clause-room
 take_own-requires-clause-room g c = room_more held_of skipped_by (2 ^ 58) (2 ^ 59) c.args.slots.now (omega arith) c.requires.room
+
+pub returns-clause-room : goal.returns-clause-room
+returns-clause-room g c = λ n h. subst (λ (l : List Cell). HaveRoom held_of skipped_by (n + 2 * length l) c.take_own.new.slots) c.part.ensures
+    (c.take_own.ensures.room n h)
 
 pub returns-clause-fed : goal.returns-clause-fed
 returns-clause-fed g c =
@@ -40,7 +45,8 @@ returns-clause-fed g c =
           let now = c.take_own.new.slots in
           let cells = data_in c.args.self.now in
           let run = run_from n cells (let s = data_size c.args.self.now in omega arith) r in
-          let took = given.2 runs n d a run in
+          let took = subst (λ (l : List Cell). TookBy Stands ss now runs n l [] given.0 c.take_own.result) c.part.ensures
+          (given.2 runs n d a (subst (λ (l : List Cell). IsRunFrom n l) (sym c.part.ensures) run)) in
           subst (λ (l : List (List Cell)). Fed Stands ss now runs l given.0 c.take_own.result)
           (sym (one c.args.self.now))
           (fed_one Stands ss runs n
