@@ -96,30 +96,6 @@ fn put_next(
     put_event(outlet, digits, filter, plan, event, remark);
 }
 
-/// The same, for an event that is no software packet.
-#[inline(never)]
-fn put_other(
-    outlet: &mut Outlet,
-    digits: &mut Digits,
-    clocks: &mut SourceClocks,
-    filter: &mut Filter,
-    plan: &Plan,
-    event: &Event<Packet>,
-)
-    requires fits { EventFits PacketFits event.now }
-    requires room { length outlet.old + TEXT_ROOM ≤ OUTLET_ROOM }
-    ensures text { (before : List (Event Packet)) → AllStand clocks.old before → HasSeen filter.old before →
-        outlet.new ≡ outlet.old ++ line_after (plan_by plan.now filter.old) before event.now }
-    ensures clocks { (before : List (Event Packet)) → AllStand clocks.old before →
-        AllStand clocks.new (before ++ event.now ∷ []) }
-    ensures seen { (before : List (Event Packet)) → HasSeen filter.old before →
-        HasSeen filter.new (before ++ event.now ∷ []) }
-    ensures same { plan_by plan.now filter.new ≡ plan_by plan.now filter.old }
-    ensures bound { length outlet.new ≤ length outlet.old + EVENT_ROOM }
-{
-    put_next(outlet, digits, clocks, filter, plan, event);
-}
-
 /// The event is a software packet: most are.
 #[inline(always)]
 fn is_software(event: &Event<Packet>) -> bool {
@@ -129,7 +105,7 @@ fn is_software(event: &Event<Packet>) -> bool {
     )
 }
 
-/// The same for any event. A software packet has code of its own, in which nothing more depends on the packet's kind.
+/// The same. A software packet has code of its own, in which nothing more depends on the packet's kind.
 #[inline(always)]
 pub(crate) fn put_by_kind(
     outlet: &mut Outlet,
@@ -153,7 +129,7 @@ pub(crate) fn put_by_kind(
     if is_software(event) {
         put_next(outlet, digits, clocks, filter, plan, event);
     } else {
-        put_other(outlet, digits, clocks, filter, plan, event);
+        put_next(outlet, digits, clocks, filter, plan, event);
     }
 }
 
