@@ -10,8 +10,6 @@ mod option;
 mod reading;
 pub mod rows;
 mod settings;
-#[cfg(test)]
-mod tests;
 mod usage;
 mod values;
 

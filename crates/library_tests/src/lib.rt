@@ -43,6 +43,8 @@ mod stp_grammar_tests;
 #[cfg(test)]
 mod trace_clock_tests;
 #[cfg(test)]
+mod trace_stream_tests;
+#[cfg(test)]
 mod trace_text_tests;
 #[cfg(test)]
 mod trace_values_tests;

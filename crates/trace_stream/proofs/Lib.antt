@@ -1,5 +1,4 @@
 pub mod Certain
-pub mod Doubling
 pub mod Inputs
 pub mod Kept
 pub mod Parts

@@ -1,6 +1,4 @@
 pub mod BuffersState
-pub mod Doubling
-pub mod DoublingLaws
 pub mod Fed
 pub mod Fresh
 pub mod Pumped

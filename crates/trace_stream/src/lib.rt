@@ -14,8 +14,6 @@ mod outlet;
 mod pumping;
 mod recent;
 mod serving;
-#[cfg(test)]
-mod tests;
 
 pub use action::{ACTION_ROOM, Action, Flow, Taken};
 pub use buffers::Buffers;

@@ -1,0 +1,151 @@
+-- How a run ends, by the outcome of the serving of its input.
+use Rattle.std.proofs.Common.{◌≡◌, ◌⊎◌, ℕ, ◌≤◌, List, [], Some, None, refl, sym, ap, ◌∙◌, subst, inl, inr, length, take, arith, true, false}
+use Rattle.std.proofs.lemmas.List.{append_cancel_right, take_all}
+use Rattle.std.specs.declared.option.Option.{Option}
+use Rattle.std.specs.Prelude.{codes}
+use Rattle.std.specs.Io.KnownBytes.{Consumes, Keeps}
+use Rattle.std.proofs.KnownBytes.{Consumes-nil, Appends-nil}
+use Rattle.trace_stream.specs.Served.{Meaning, Ends, HasServed, HasStopped, HasEnded}
+use Rattle.trace_stream.specs.declared.outcome.Outcome.TheVariants.{AtEnd, FaultFound, ReadFailed, WriteFailed, OverLimit}
+use Rattle.trace_text.specs.NoteText.{limit_line}
+use Rattle.capture_words.specs.declared.job.Task.{Task}
+use Rattle.capture_words.specs.declared.job.Task.TheVariants as tasks
+use Rattle.capture_run.specs.Actions.{HasDone, meaning_of}
+use Rattle.capture_run.specs.Notes.{Notes, status_of}
+use Rattle.capture_run.specs.Run.{HasRun, TaskMeaning, Streams, Stops, EndsLate, WritesBy, Loses}
+use Rattle.capture_run.specs.declared.actions.FaultNote.{FaultNote}
+use Rattle.capture_run.specs.declared.actions.FaultNote.TheVariants.{Capture, Script}
+use Rattle.capture_run.specs.declared.status.Status.TheVariants.{Done, ReadFault, WriteFault, NoMemory, Limit}
+
+-- the bytes that were lost are told by what was left
+pub same_lost : (old new : Option (List ℕ)) (xs ys : List ℕ) → Consumes old new xs → Loses old new ys → xs ≡ ys
+same_lost None new xs ys p q = absurd q
+same_lost (Some a) None xs ys p q = absurd p
+same_lost (Some a) (Some b) xs ys p q = append_cancel_right xs ys b (sym p ∙ q)
+
+-- the input and the output of a run
+abbrev pub ends : Streams → Ends
+ends s = record { left = s.left; held = s.held }
+
+-- at the end of the input, where it has no fault
+pub run_done : (m : TaskMeaning) (limit : ℕ) (old new : Streams) (recent : List ℕ) (there : List ℕ → Type 0)
+    → (k : HasEnded there m.action limit (ends old) (ends new) recent) → m.late k.served.bytes ≡ false
+    → Notes old.noted new.noted old.note_faults new.note_faults [] → HasRun m limit old new Done
+run_done m limit old new recent there k late n =
+    let s = k.served in
+    record { bytes = s.bytes; out = s.out; note = []; lost = s.lost; gained = s.gained; noted = n; at_most = s.at_most; writes = (s.outcome, s.ended refl, late, refl) }
+
+-- a fault by its note
+writes_fault : (fault : FaultNote) (m : TaskMeaning) (limit : ℕ) (left : Option (List ℕ)) (bytes out note : List ℕ) → status_of fault ≡ m.fault_status
+    → Stops m limit left bytes out note ⊎ EndsLate m limit left bytes out note → WritesBy m limit left (status_of fault) bytes out note
+writes_fault (Capture fault) m limit left bytes out note e w = (sym e, w)
+writes_fault (Script fault) m limit left bytes out note e w = (sym e, w)
+
+-- at the end of the input, where it has one
+pub run_late : (fault : FaultNote) (m : TaskMeaning) (limit : ℕ) (old new : Streams) (recent note : List ℕ) (there : List ℕ → Type 0)
+    → status_of fault ≡ m.fault_status
+    → (k : HasEnded there m.action limit (ends old) (ends new) recent) → m.late k.served.bytes ≡ true → note ≡ m.fault_note k.served.bytes
+    → Notes old.noted new.noted old.note_faults new.note_faults note → HasRun m limit old new (status_of fault)
+run_late fault m limit old new recent note there e k late noted n =
+    let s = k.served in
+    record {
+      bytes = s.bytes;
+      out = s.out;
+      note = note;
+      lost = s.lost;
+      gained = s.gained;
+      noted = n;
+      at_most = s.at_most;
+      writes = writes_fault fault m limit new.left s.bytes s.out note e (inr (s.outcome, s.ended refl, late, noted));
+    }
+
+-- where one became certain before
+pub run_stopped : (fault : FaultNote) (m : TaskMeaning) (limit : ℕ) (old new : Streams) (recent note : List ℕ) (there : List ℕ → Type 0)
+    → status_of fault ≡ m.fault_status
+    → (k : HasStopped there m.action limit (ends old) (ends new) recent) → note ≡ m.fault_note k.served.outcome.0.seen
+    → Notes old.noted new.noted old.note_faults new.note_faults note → HasRun m limit old new (status_of fault)
+run_stopped fault m limit old new recent note there e k noted n =
+    let s = k.served in
+    record {
+      bytes = s.bytes;
+      out = s.out;
+      note = note;
+      lost = s.lost;
+      gained = s.gained;
+      noted = n;
+      at_most = s.at_most;
+      writes = writes_fault fault m limit new.left s.bytes s.out note e (inl (recent, s.outcome, noted));
+    }
+
+pub run_read_failed : (m : TaskMeaning) (limit : ℕ) (old new : Streams) (recent : List ℕ)
+    → HasServed m.action limit (ends old) (ends new) recent ReadFailed
+    → Notes old.noted new.noted old.note_faults new.note_faults (codes "read fault\n") → HasRun m limit old new ReadFault
+run_read_failed m limit old new recent s n =
+    record { bytes = s.bytes; out = s.out; note = codes "read fault\n"; lost = s.lost; gained = s.gained; noted = n; at_most = s.at_most; writes = (s.outcome, refl) }
+
+pub run_write_failed : (m : TaskMeaning) (limit : ℕ) (old new : Streams) (recent : List ℕ)
+    → HasServed m.action limit (ends old) (ends new) recent WriteFailed
+    → Notes old.noted new.noted old.note_faults new.note_faults (codes "write fault\n") → HasRun m limit old new WriteFault
+run_write_failed m limit old new recent s n =
+    record { bytes = s.bytes; out = s.out; note = codes "write fault\n"; lost = s.lost; gained = s.gained; noted = n; at_most = s.at_most; writes = (s.outcome, refl) }
+
+pub run_over_limit : (m : TaskMeaning) (limit : ℕ) (old new : Streams) (recent : List ℕ)
+    → HasServed m.action limit (ends old) (ends new) recent OverLimit
+    → Notes old.noted new.noted old.note_faults new.note_faults (limit_line limit) → HasRun m limit old new Limit
+run_over_limit m limit old new recent s n =
+    record { bytes = s.bytes; out = s.out; note = limit_line limit; lost = s.lost; gained = s.gained; noted = n; at_most = s.at_most; writes = (s.outcome, refl) }
+
+-- no fault became certain, since all bytes that were read have none
+pub never_stopped : (m : Meaning) (limit : ℕ) (old new : Ends) (recent bytes : List ℕ)
+    → HasServed m limit old new recent FaultFound → Loses old.left new.left bytes → length bytes ≤ limit → (m.faulty bytes → ⊥) → ⊥
+never_stopped m limit old new recent bytes served lost within sound =
+    let same = same_lost old.left new.left served.bytes bytes served.lost lost in
+    sound (subst m.faulty (ap (take limit) same ∙ take_all limit bytes within) served.outcome.0.broken)
+
+-- they have none as all of the input
+pub never_late : (m : TaskMeaning) (limit : ℕ) (old new : Ends) (recent bytes : List ℕ)
+    → (s : HasServed m.action limit old new recent AtEnd) → Loses old.left new.left bytes → m.late s.bytes ≡ true → m.late bytes ≡ false → ⊥
+never_late m limit old new recent bytes served lost late sound =
+    let same = same_lost old.left new.left served.bytes bytes served.lost lost in
+    let both = sym late ∙ ap m.late same ∙ sound in cc
+
+-- and they are within the limit
+pub never_over : (m : Meaning) (limit : ℕ) (old new : Ends) (recent bytes : List ℕ)
+    → HasServed m limit old new recent OverLimit → Loses old.left new.left bytes → length bytes ≤ limit → ⊥
+never_over m limit old new recent bytes served lost within =
+    let same = same_lost old.left new.left served.bytes bytes served.lost lost in
+    omega (arith, ap length same, served.outcome.1)
+
+-- how a run ends at a fault is none of these
+pub not_no_memory : (fault : FaultNote) → status_of fault ≡ NoMemory → ⊥
+not_no_memory (Capture fault) e = cc
+not_no_memory (Script fault) e = cc
+
+pub not_read_fault : (fault : FaultNote) → status_of fault ≡ ReadFault → ⊥
+not_read_fault (Capture fault) e = cc
+not_read_fault (Script fault) e = cc
+
+pub not_write_fault : (fault : FaultNote) → status_of fault ≡ WriteFault → ⊥
+not_write_fault (Capture fault) e = cc
+not_write_fault (Script fault) e = cc
+
+-- with no memory to begin with nothing is read or written, whatever the task
+keeps : (left : Option (List ℕ)) → Keeps left left
+keeps None = tt
+keeps (Some xs) = refl
+
+run_unopened : (m : TaskMeaning) (limit : ℕ) (left held noted noted' : Option (List ℕ)) (faults faults' : ℕ)
+    → Notes noted noted' faults faults' (codes "no memory\n")
+    → HasRun m limit (record { left = left; held = held; noted = noted; note_faults = faults }) (record { left = left; held = held; noted = noted'; note_faults = faults' }) NoMemory
+run_unopened m limit left held noted noted' faults faults' n =
+    record { bytes = []; out = []; note = codes "no memory\n"; lost = Consumes-nil left; gained = Appends-nil held; noted = n; at_most = omega arith; writes = (refl, refl) }
+
+pub done_unopened : (task : Task) (limit : ℕ) (left held noted noted' : Option (List ℕ)) (faults faults' : ℕ)
+    → Notes noted noted' faults faults' (codes "no memory\n")
+    → HasDone task limit (record { left = left; held = held; noted = noted; note_faults = faults }) (record { left = left; held = held; noted = noted'; note_faults = faults' }) NoMemory
+done_unopened (tasks.Show plan only window) limit left held noted noted' faults faults' n = run_unopened (meaning_of (tasks.Show plan only window)) limit left held noted noted' faults faults' n
+done_unopened (tasks.Split frames id) limit left held noted noted' faults faults' n = run_unopened (meaning_of (tasks.Split frames id)) limit left held noted noted' faults faults' n
+done_unopened (tasks.Check plan) limit left held noted noted' faults faults' n = run_unopened (meaning_of (tasks.Check plan)) limit left held noted noted' faults faults' n
+done_unopened (tasks.Rebuild plan sync half) limit left held noted noted' faults faults' n = run_unopened (meaning_of (tasks.Rebuild plan sync half)) limit left held noted noted' faults faults' n
+done_unopened (tasks.Exercise items lose) limit left held noted noted' faults faults' n =
+    record { out = []; note = codes "no memory\n"; lost = keeps left; gained = Appends-nil held; noted = n; makes = refl }

@@ -1,0 +1,84 @@
+-- What each action that reads the input does: which bytes have a fault, what is written for them, what comes after it
+-- at the end or at a fault, what is noted at a fault, and how the run ends then.
+use Rattle.std.specs.Prelude.{◌≡◌, ℕ, List, [], ◌++◌, Bool, false, is_some}
+use Rattle.circular_buffer.specs.Buffer.{keep_last}
+use Rattle.capture_words.specs.declared.job.Task.{Task}
+use Rattle.capture_words.specs.declared.job.Task.TheVariants.{Show, Split, Check, Rebuild, Exercise}
+use Rattle.capture_actions.specs.Port.{port_of}
+use Rattle.capture_actions.specs.Split.{split_meaning}
+use Rattle.capture_actions.specs.declared.split_plan.SplitPlan.{SplitPlan}
+use Rattle.capture_report.specs.Listing.{show_meaning}
+use Rattle.capture_report.specs.Summary.{check_meaning}
+use Rattle.capture_report.specs.declared.list_plan.ListPlan.{ListPlan}
+use Rattle.exercise_report.specs.Summary.{exercise_summary}
+use Rattle.line_writer.specs.Script.{script_of}
+use Rattle.script_rebuild.specs.Rebuilt.{rebuild_meaning}
+use Rattle.script_rebuild.specs.declared.plan.RebuildPlan.{RebuildPlan}
+use Rattle.trace_stream.specs.Served.{Meaning}
+use Rattle.trace_stream.specs.declared.recent.TheConstants.{RECENT_ROOM}
+use Rattle.trace_text.specs.NoteText.{last_line}
+use Rattle.capture_run.specs.Notes.{fault_text, script_note}
+use Rattle.capture_run.specs.Run.{TaskMeaning, Streams, HasRun, HasMade}
+use Rattle.capture_run.specs.declared.status.Status.{Status}
+use Rattle.capture_run.specs.declared.status.Status.TheVariants.{CaptureFault, ScriptFault}
+
+-- the note at a fault that is certain with the last of these bytes: the last sixteen of them
+abbrev pub last_note : List ℕ → List ℕ
+last_note seen = last_line (keep_last RECENT_ROOM seen)
+
+-- with `split` the line of the port's fault comes before it, since the output has none
+abbrev pub split_note : SplitPlan → List ℕ → List ℕ
+split_note plan seen = fault_text (port_of plan.frames seen).fault ++ last_note seen
+
+-- a fault of a capture is certain at some byte, and none is mended by what comes after it
+abbrev pub of_capture : Meaning → (List ℕ → List ℕ) → TaskMeaning
+of_capture action note =
+    record { action = action; late = λ bytes. false; fault_note = note; fault_status = CaptureFault }
+
+-- where a script ends, its last line needs no line feed, and may have a fault that it would not have if it went on
+abbrev pub rebuild_late : RebuildPlan → List ℕ → Bool
+rebuild_late plan bytes = is_some (script_of plan.plan bytes).fault
+
+-- its first fault is noted by its line
+abbrev pub rebuild_note : RebuildPlan → List ℕ → List ℕ
+rebuild_note plan bytes = script_note (script_of plan.plan bytes).fault
+
+-- `exercise` reads nothing
+abbrev pub reads_nothing : List ℕ → TaskMeaning
+reads_nothing text =
+    let action : Meaning = record { faulty = λ bytes. ⊥; text = λ bytes. []; ending = λ bytes. text } in
+    of_capture action (λ bytes. [])
+
+-- what the task makes of the bytes of its input
+abbrev pub meaning_of : Task → TaskMeaning
+meaning_of (Show plan only window) =
+    let listing : ListPlan = record { plan = plan; only = only; window = window } in
+    of_capture (show_meaning listing) last_note
+meaning_of (Split frames id) =
+    let plan : SplitPlan = record { frames = frames; id = id } in
+    of_capture (split_meaning plan) (split_note plan)
+meaning_of (Check plan) = of_capture (check_meaning plan) last_note
+meaning_of (Rebuild plan sync half) =
+    let script : RebuildPlan = record { plan = plan; every = sync; halves = half } in
+    record {
+      action = rebuild_meaning script;
+      late = rebuild_late script;
+      fault_note = rebuild_note script;
+      fault_status = ScriptFault;
+    }
+meaning_of (Exercise items lose) = reads_nothing (exercise_summary items lose)
+
+-- What was read, written and noted, by the status. `exercise` reads nothing.
+abbrev pub HasDone : Task → ℕ → Streams → Streams → Status → Type 0
+HasDone (Exercise items lose) limit old new status = HasMade (exercise_summary items lose) old new status
+HasDone (Show plan only window) limit old new status =
+    HasRun (meaning_of (Show plan only window)) limit old new status
+HasDone (Split frames id) limit old new status = HasRun (meaning_of (Split frames id)) limit old new status
+HasDone (Check plan) limit old new status = HasRun (meaning_of (Check plan)) limit old new status
+HasDone (Rebuild plan sync half) limit old new status =
+    HasRun (meaning_of (Rebuild plan sync half)) limit old new status
+
+-- these bytes, as all of the input, have no fault
+pub record IsSoundInput (task : Task) (bytes : List ℕ) : Type 0 where
+  pub sound : (meaning_of task).action.faulty bytes → ⊥
+  pub not_late : (meaning_of task).late bytes ≡ false

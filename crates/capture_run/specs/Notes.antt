@@ -1,0 +1,40 @@
+-- The notes of a run.
+use Rattle.std.specs.Prelude.{ℕ, List, [], ◌++◌, option_map, Some, None}
+use Rattle.std.specs.declared.option.Option.{Option}
+use Rattle.std.specs.Io.KnownBytes.{Appends}
+use Rattle.script_text.specs.Faults.{number_of, name_of}
+use Rattle.script_text.specs.declared.line_fault.LineFault.{LineFault}
+use Rattle.script_rebuild.specs.Rebuilder.{told as told_of_script}
+use Rattle.trace_io.specs.Causes.{Rose}
+use Rattle.trace_values.specs.declared.fault.Reason.{Reason}
+use Rattle.trace_values.specs.Placed.{Place}
+use Rattle.trace_text.specs.FaultText.{told, port_fault_line}
+use Rattle.trace_text.specs.NoteText.{last_line, script_fault_line}
+use Rattle.capture_run.specs.declared.actions.FaultNote.{FaultNote}
+use Rattle.capture_run.specs.declared.actions.FaultNote.TheVariants.{Capture, Script}
+use Rattle.capture_run.specs.declared.status.Status.{Status}
+use Rattle.capture_run.specs.declared.status.Status.TheVariants.{CaptureFault, ScriptFault}
+
+-- the line of the port's fault, where there is one
+abbrev pub fault_text : Option (Place × Reason) → List ℕ
+fault_text None = []
+fault_text (Some fault) = port_fault_line fault
+
+-- the line of a script's fault, where there is one: with the number of its line
+abbrev pub script_note : Option (ℕ × LineFault) → List ℕ
+script_note None = []
+script_note (Some fault) = script_fault_line fault.0 (number_of fault.1) (name_of fault.1)
+
+-- what is noted at a fault, where these bytes are the last up to it
+abbrev pub text_of : FaultNote → List ℕ → List ℕ
+text_of (Capture fault) recent = fault_text (option_map told fault) ++ last_line recent
+text_of (Script fault) recent = script_note (option_map told_of_script fault)
+
+-- how a run ends then
+abbrev pub status_of : FaultNote → Status
+status_of (Capture fault) = CaptureFault
+status_of (Script fault) = ScriptFault
+
+-- the notes gained this text, unless they failed
+abbrev pub Notes : Option (List ℕ) → Option (List ℕ) → ℕ → ℕ → List ℕ → Type 0
+Notes held_old held_new faults_old faults_new text = (Rose faults_old faults_new → ⊥) → Appends held_old held_new text

@@ -1,0 +1,95 @@
+//! The notes of a run, each one line.
+
+ghost use Rattle.std.specs.Prelude.{◌≡◌, ◌≤◌, ◌++◌, option_map};
+ghost use Rattle.trace_text.specs.FaultText.{told};
+ghost use Rattle.trace_text.specs.NoteText.{last_line};
+ghost use Rattle.script_rebuild.specs.Rebuilder.{told as told_of_script};
+ghost use Rattle.capture_run.specs.Notes.{Notes, fault_text, script_note, text_of, status_of};
+
+use crate::actions::FaultNote;
+use crate::status::Status;
+use script_rebuild::ScriptFault;
+use source_events::Stop;
+use trace_io::{Sink, write_whole};
+use trace_stream::{Buffers, RECENT_ROOM, TEXT_ROOM, Text};
+use trace_text::{FaultLine, LastLine, ScriptFaultLine};
+use trace_values::Fault;
+
+/// Writes the line. Where that fails nothing changes.
+pub fn note<N: Sink>(notes: &mut N, line: &[u8])
+    ensures noted { Notes (N.held notes.old) (N.held notes.new) (N.faults notes.old) (N.faults notes.new) line.now }
+    ensures later { N.faults notes.old ≤ N.faults notes.new }
+{
+    let _ = write_whole(notes, line);
+}
+
+/// Writes the text of a line. Where that fails nothing changes.
+pub fn note_text<N: Sink, T: Text>(notes: &mut N, text: &T)
+    requires { T.fits text.now }
+    ensures noted { Notes (N.held notes.old) (N.held notes.new) (N.faults notes.old) (N.faults notes.new)
+        (T.text text.now) }
+    ensures later { N.faults notes.old ≤ N.faults notes.new }
+{
+    let mut room = [0; TEXT_ROOM];
+    let end = text.put(&mut room, 0);
+    note(notes, &room[..end]);
+}
+
+/// The last bytes up to a fault.
+fn note_last<N: Sink>(notes: &mut N, buffers: &Buffers)
+    ensures noted { Notes (N.held notes.old) (N.held notes.new) (N.faults notes.old) (N.faults notes.new)
+        (last_line buffers.now.recent) }
+    ensures later { N.faults notes.old ≤ N.faults notes.new }
+{
+    let mut bytes = [0; RECENT_ROOM];
+    let count = buffers.recent(&mut bytes);
+    note_text(
+        notes,
+        &LastLine {
+            bytes: &bytes[..count],
+        },
+    );
+}
+
+/// The port's fault, where there is one, and the last bytes up to the fault of the run.
+fn note_stop<N: Sink>(notes: &mut N, fault: Option<Fault>, buffers: &Buffers)
+    ensures noted { Notes (N.held notes.old) (N.held notes.new) (N.faults notes.old) (N.faults notes.new)
+        (fault_text (option_map told fault) ++ last_line buffers.now.recent) }
+{
+    if let Some(fault) = fault {
+        let stop = Stop {
+            fault,
+            source: None,
+        };
+        note_text(notes, &FaultLine { stop, stp: false });
+    }
+    note_last(notes, buffers);
+}
+
+/// The fault of a script, where there is one.
+fn note_script<N: Sink>(notes: &mut N, fault: Option<ScriptFault>)
+    ensures noted { Notes (N.held notes.old) (N.held notes.new) (N.faults notes.old) (N.faults notes.new)
+        (script_note (option_map told_of_script fault)) }
+{
+    if let Some(ScriptFault { line, fault }) = fault {
+        let line = ScriptFaultLine {
+            line,
+            number: fault.number(),
+            name: fault.name(),
+        };
+        note_text(notes, &line);
+    }
+}
+
+/// Notes a fault, over these buffers, and answers how the run ends.
+pub fn note_fault<N: Sink>(notes: &mut N, fault: FaultNote, buffers: &Buffers) -> Status
+    ensures noted { Notes (N.held notes.old) (N.held notes.new) (N.faults notes.old) (N.faults notes.new)
+        (text_of fault buffers.now.recent) }
+    ensures status { result ≡ status_of fault }
+{
+    match fault {
+        FaultNote::Capture(fault) => note_stop(notes, fault, buffers),
+        FaultNote::Script(fault) => note_script(notes, fault),
+    }
+    fault.status()
+}

@@ -1,0 +1,434 @@
+//! Captures whose front is lost: what is read after it is what the whole has there.
+
+use super::written::written;
+use super::{check, output_of};
+use capture_run::Status;
+use std::alloc::{AllocError, Global};
+use std::process::Abort;
+use std::test::Fail;
+use trace_vectors::worked::TWICE;
+
+/// What an ITM wrote: values, stamps and events, and four synchronisations, some after bytes of zeros.
+const ITM: &[u8] = &[
+    0x01, 0x41, 0xC0, 0x88, 0x01, 0x00, 0x00, 0x00, 0x00, 0x00, 0x80, 0x01, 0x42, 0xD0, 0x05, 0x03,
+    0x00, 0x00, 0x00, 0x00, 0x00, 0x00, 0x00, 0x00, 0x00, 0x80, 0x0E, 0x0F, 0x10, 0x8D, 0x2A, 0x20,
+    0x94, 0x81, 0x80, 0x80, 0x40, 0xB4, 0x82, 0x80, 0x80, 0x00, 0x70, 0x00, 0x00, 0x00, 0x00, 0x00,
+    0x00, 0x00, 0x00, 0x00, 0x80, 0xFA, 0x34, 0x12, 0x58, 0x98, 0x80, 0x01, 0x94, 0x05, 0x01, 0x80,
+    0x00, 0x00, 0x00, 0x00, 0x00, 0x80, 0x0A, 0xE8, 0x03, 0xC0, 0x80, 0x80, 0x01, 0x13, 0x78, 0x56,
+    0x34, 0x12, 0x03, 0x01, 0x02,
+];
+
+/// A system trace: most packets, and four synchronisations, after data of nibbles F and in both halves of a byte.
+const STP: &[u8] = &[
+    0x44, 0x11, 0x10, 0x03, 0xF5, 0x01, 0x01, 0x70, 0xFF, 0xFF, 0xFF, 0xFF, 0xFF, 0xFF, 0xFF, 0xFF,
+    0xFF, 0xFF, 0xFF, 0xFF, 0xFF, 0xFF, 0xFF, 0xFF, 0xFF, 0xFF, 0x0F, 0x44, 0xF2, 0x00, 0x43, 0x24,
+    0x48, 0x13, 0x15, 0x20, 0x03, 0xF7, 0xEE, 0x12, 0xB0, 0xFF, 0xFF, 0xFF, 0xFF, 0xFF, 0xFF, 0xFF,
+    0xFF, 0xFE, 0xFF, 0xFF, 0xFF, 0xFF, 0xFF, 0xFF, 0xFF, 0xFF, 0xFF, 0xFF, 0xFF, 0xFF, 0xFF, 0xFF,
+    0xFF, 0xFF, 0xFF, 0xFF, 0x0F, 0x0F, 0x40, 0x1E, 0x27, 0x11, 0x2F, 0x22, 0x0F, 0x06, 0xF4, 0x80,
+    0x00, 0xF0, 0xFF, 0xFF, 0x00, 0xF0, 0x10, 0x0D, 0x00, 0x00, 0x00, 0x00, 0x00, 0x00, 0x41, 0xA4,
+    0xFF, 0xFF, 0xFF, 0xFF, 0xFF, 0xFF, 0xFF, 0xFF, 0xFF, 0xFF, 0xFF, 0xFF, 0xFF, 0xFF, 0xFF, 0xFF,
+    0xFF, 0xFF, 0xFF, 0xFF, 0xF0, 0x00, 0x97, 0x21, 0x43, 0xA3, 0xCB, 0x5C, 0x5D, 0xF0, 0x6C, 0x12,
+    0xF2, 0x7D, 0x3F, 0x10, 0x20, 0x15, 0x32, 0x64, 0x21, 0x43, 0x65, 0x87, 0x0F, 0x07, 0x14, 0xF1,
+    0x90, 0x00, 0x00, 0x00, 0x00, 0x12, 0x02, 0xFF, 0xFF, 0xFF, 0xFF, 0xFF, 0xFF, 0xFF, 0xFF, 0xFF,
+    0xFF, 0x0F, 0x0F, 0x30, 0xF3, 0x4F, 0xF4, 0x7F, 0x00, 0x00,
+];
+
+/// What four sources wrote in turn: an ITM, 1, an STP source, 2, one that is not mapped, 16, and the trigger, 125.
+const RUNS: [(u8, &[u8]); 24] = [
+    (1, &[0x01, 0x41, 0xC0, 0x88, 0x01]),
+    (2, &[0x44, 0x01]),
+    (16, &[0xA5, 0xA6]),
+    (125, &[0x07]),
+    (1, &[0x00, 0x00, 0x00, 0x00, 0x00, 0x80, 0x01]),
+    (16, &[0x01]),
+    (1, &[0x42]),
+    (2, &[0xFF; 7]),
+    (125, &[0x08, 0x09]),
+    (2, &[0xFF, 0xFF, 0xFF, 0x0F, 0x0F, 0x30, 0x01, 0x32]),
+    (1, &[0xD0, 0x05, 0x03, 0x00, 0x00, 0x00, 0x00]),
+    (
+        16,
+        &[
+            0xFF, 0xFF, 0xFF, 0x7F, 0xFF, 0xFF, 0xFF, 0x7F, 0xFF, 0xFF, 0xFF, 0x7F, 0xFF, 0x7F,
+            0xFF, 0x7F, 0x00, 0x01,
+        ],
+    ),
+    (2, &[0x70, 0x44, 0x02]),
+    (1, &[0x00, 0x00, 0x00]),
+    (125, &[0xFF]),
+    (1, &[0x00, 0x00, 0x00, 0x80, 0x0E, 0x0F, 0x10]),
+    (2, &[0xF0, 0xFF, 0xFF, 0xFF, 0xFF, 0xFF]),
+    (85, &[0x11, 0x12]),
+    (
+        2,
+        &[
+            0xFF, 0xFF, 0xFF, 0xFF, 0xFF, 0xFF, 0xF0, 0x00, 0xE4, 0x71, 0x44, 0x05,
+        ],
+    ),
+    (1, &[0x94, 0x05, 0x00, 0x00, 0x00, 0x00, 0x00, 0x80, 0x0A]),
+    (16, &[0x03, 0x05]),
+    (1, &[0xE8, 0x03]),
+    (125, &[0x0A]),
+    (16, &[0x04]),
+];
+
+/// What is lost of a source whose front is lost.
+#[derive(Clone, Copy, PartialEq, Eq)]
+pub(super) enum Kind {
+    /// All up to the first synchronisation, and nothing after it.
+    Itm,
+    /// The same; a place and a stamp are known from the first version on.
+    Stp,
+    /// All up to the port's synchronisation.
+    Port,
+}
+
+/// An item's line: its place in half bytes, its source, and its text without the time that follows from other items.
+#[derive(Clone, Copy)]
+pub(super) struct Line<'a> {
+    pub(super) place: usize,
+    pub(super) id: usize,
+    pub(super) text: &'a [u8],
+}
+
+/// What is before the first such byte, and what is after it.
+pub(super) fn cut(bytes: &[u8], separator: u8) -> Option<(&[u8], &[u8])> {
+    for i in 0..bytes.len() {
+        if bytes[i] == separator {
+            return Some((&bytes[..i], &bytes[i + 1..]));
+        }
+    }
+    None
+}
+
+/// The number that these digits are.
+fn number(digits: &[u8]) -> Option<usize> {
+    let mut value = 0usize;
+    for &digit in digits {
+        if digit < b'0' || b'9' < digit {
+            return None;
+        }
+        value = value.wrapping_mul(10).wrapping_add((digit - b'0') as usize);
+    }
+    Some(value)
+}
+
+/// The item of this line, which may be an end line or that of a lock.
+pub(super) fn item(line: &[u8]) -> Option<Line<'_>> {
+    let (place, rest) = cut(line, b' ')?;
+    let (id, text) = cut(rest, b' ')?;
+    let id = number(id)?;
+    let (at, half) = match cut(place, b'.') {
+        Some((at, half)) => (number(at)?, number(half)?),
+        None => (number(place)?, 0),
+    };
+    if text.starts_with(b"locked") {
+        return None;
+    }
+    let place = at.wrapping_mul(2).wrapping_add(half);
+    let timed = text.starts_with(b"local") || text.starts_with(b"global");
+    match cut(text, b'=') {
+        Some((text, _)) if timed => Some(Line { place, id, text }),
+        _ => Some(Line { place, id, text }),
+    }
+}
+
+/// The items of a source.
+pub(super) fn items<'a>(
+    alloc: Global,
+    listing: &'a [u8],
+    source: usize,
+) -> Result<Vec<Line<'a>>, AllocError> {
+    let mut lines = Vec::new(alloc);
+    let mut rest = listing;
+    for _ in 0..listing.len() {
+        if let Some((line, after)) = cut(rest, b'\n') {
+            if let Some(line) = item(line) {
+                if line.id == source {
+                    lines.push(line)?;
+                }
+            }
+            rest = after;
+        }
+    }
+    Ok(lines)
+}
+
+/// How many synchronisation packets these bytes of an ITM have: five bytes 00 and 80.
+fn synchronisations(bytes: &[u8]) -> usize {
+    let (mut run, mut count) = (0usize, 0usize);
+    for &byte in bytes {
+        if byte == 0x80 && 5 <= run {
+            count = count.wrapping_add(1);
+        }
+        run = if byte == 0 { run.wrapping_add(1) } else { 0 };
+    }
+    count
+}
+
+/// How many synchronisation packets these bytes of a system trace have: 21 nibbles F and 0, the low nibble first.
+fn asynchronous(bytes: &[u8]) -> usize {
+    let (mut run, mut count) = (0usize, 0usize);
+    for &byte in bytes {
+        for nibble in [byte & 15, byte >> 4] {
+            if nibble == 0 && 21 <= run {
+                count = count.wrapping_add(1);
+            }
+            run = if nibble == 15 { run.wrapping_add(1) } else { 0 };
+        }
+    }
+    count
+}
+
+/// The least place where a full synchronisation begins, or the length.
+pub(super) fn full_synchronisation(capture: &[u8], from: usize) -> usize {
+    for i in from..capture.len() {
+        if capture[i..].starts_with(b"\xff\xff\xff\x7f") {
+            return i;
+        }
+    }
+    capture.len()
+}
+
+/// The lines of a source in the rest are the last ones of the whole, with their places `lost` bytes earlier.
+pub(super) fn check_lines(
+    rt: &impl Abort,
+    (all, left): (&[Line<'_>], &[Line<'_>]),
+    lost: usize,
+    (source, kind): (usize, Kind),
+) {
+    assert!(rt; left.len() <= all.len(), "{source} without {lost} bytes");
+    let first = all.len() - left.len();
+    let mut known = kind != Kind::Stp;
+    for i in 0..left.len() {
+        let (got, want) = (left[i], all[first + i]);
+        let place = got.place.wrapping_add(lost.wrapping_mul(2));
+        assert_eq!(rt; place, want.place, "{source} without {lost} bytes");
+        known = known || got.text.starts_with(b"version");
+        if known {
+            assert_eq!(rt; got.text, want.text, "{source} without {lost} bytes");
+        }
+    }
+}
+
+/// The same of the lines in these listings. Answers how many they are.
+fn check_last(
+    alloc: Global,
+    rt: &impl Abort,
+    (whole, rest): (&[u8], &[u8]),
+    lost: usize,
+    (source, kind): (usize, Kind),
+) -> Result<usize, Fail> {
+    let all = items(alloc, whole, source)?;
+    let left = items(alloc, rest, source)?;
+    check_lines(rt, (&all, &left), lost, (source, kind));
+    Ok(left.len())
+}
+
+/// The items of a mapped source begin with a synchronisation, and each that these bytes of the source have is there.
+pub(super) fn check_synchronised(
+    rt: &impl Abort,
+    left: &[Line<'_>],
+    bytes: &[u8],
+    (source, kind): (usize, Kind),
+) {
+    let (word, count): (&[u8], usize) = match kind {
+        Kind::Itm => (b"sync", synchronisations(bytes)),
+        _ => (b"async", asynchronous(bytes)),
+    };
+    let mut found = 0usize;
+    for i in 0..left.len() {
+        if left[i].text == word {
+            found = found.wrapping_add(1);
+        }
+        assert!(rt; 0 < found, "{source} in {bytes:?}");
+    }
+    assert_eq!(rt; found, count, "{source} in {bytes:?}");
+}
+
+/// Each front of a capture of one source without frames.
+fn check_bare(
+    alloc: Global,
+    rt: &impl Abort,
+    capture: &[u8],
+    option: &str,
+    kind: Kind,
+) -> Result<(), Fail> {
+    let aligned = [
+        "show",
+        "--frames",
+        "bare",
+        "--packets",
+        "aligned",
+        option,
+        "1",
+    ];
+    let hunting = ["show", "--frames", "bare", option, "1"];
+    let whole = output_of(alloc, rt, &aligned, capture)?;
+    for lost in 0..=capture.len() {
+        let left = &capture[lost..];
+        let rest = output_of(alloc, rt, &hunting, left)?;
+        check_last(alloc, rt, (&whole, &rest), lost, (1, kind))?;
+        check_synchronised(rt, &items(alloc, &rest, 1)?, left, (1, kind));
+    }
+    Ok(())
+}
+
+#[test]
+fn an_itm_after_each_front_is_as_in_the_whole(rt: HostRuntime) -> Result<(), Fail> {
+    assert_eq!(rt; synchronisations(ITM), 4);
+    check_bare(rt.alloc(), &rt, ITM, "--itm", Kind::Itm)
+}
+
+#[test]
+fn a_system_trace_after_each_front_is_as_in_the_whole(rt: HostRuntime) -> Result<(), Fail> {
+    assert_eq!(rt; asynchronous(STP), 4);
+    check_bare(rt.alloc(), &rt, STP, "--stp", Kind::Stp)
+}
+
+/// The bytes of all runs, each with its source.
+pub(super) fn tagged(alloc: Global) -> Result<Vec<(u8, u8)>, AllocError> {
+    let mut bytes = Vec::new(alloc);
+    for (id, run) in RUNS {
+        for &byte in run {
+            bytes.push((id, byte))?;
+        }
+    }
+    Ok(bytes)
+}
+
+/// The bytes of one source.
+fn bytes_of(alloc: Global, id: u8) -> Result<Vec<u8>, AllocError> {
+    let mut bytes = Vec::new(alloc);
+    for (number, run) in RUNS {
+        if number == id {
+            bytes.extend_from_slice(run)?;
+        }
+    }
+    Ok(bytes)
+}
+
+/// The sources that are not mapped have the lines of the whole after the port's synchronisation.
+fn check_port(
+    alloc: Global,
+    rt: &impl Abort,
+    (whole, rest): (&[u8], &[u8]),
+    (lost, lock): (usize, usize),
+) -> Result<(), Fail> {
+    for source in [16, 85, 125] {
+        let count = check_last(alloc, rt, (whole, rest), lost, (source, Kind::Port))?;
+        let mut after = 0usize;
+        for line in items(alloc, whole, source)? {
+            if lock.wrapping_mul(2) < line.place {
+                after = after.wrapping_add(1);
+            }
+        }
+        assert_eq!(rt; count, after, "{source} without {lost} bytes");
+    }
+    Ok(())
+}
+
+/// A mapped source has the last bytes of the whole's, and from its synchronisation on the lines of the whole.
+fn check_mapped(
+    alloc: Global,
+    rt: &impl Abort,
+    (whole, rest): (&[u8], &[u8]),
+    (capture, lost): (&[u8], usize),
+    (id, name, kind): (u8, &str, Kind),
+) -> Result<(), Fail> {
+    let source = id as usize;
+    assert!(rt; lost <= capture.len());
+    let bytes = output_of(alloc, rt, &["split", "--id", name], &capture[lost..])?;
+    let all = bytes_of(alloc, id)?;
+    assert!(rt; all.ends_with(&bytes), "{id} without {lost} bytes");
+    check_last(alloc, rt, (whole, rest), lost, (source, kind))?;
+    check_synchronised(rt, &items(alloc, rest, source)?, &bytes, (source, kind));
+    Ok(())
+}
+
+/// Each front of what the frame writer writes of all runs.
+fn check_frames(alloc: Global, rt: &impl Abort, every: u32, halves: u8) -> Result<(), Fail> {
+    let bytes = tagged(alloc)?;
+    let written = written(rt, every, halves, &bytes);
+    let capture = written.as_slice();
+    let aligned = [
+        "show",
+        "--frames",
+        "aligned",
+        "--packets",
+        "aligned",
+        "--itm",
+        "1",
+        "--stp",
+        "2",
+    ];
+    let whole = output_of(alloc, rt, &aligned, capture)?;
+    for lost in 0..=capture.len() {
+        let left = &capture[lost..];
+        let rest = output_of(alloc, rt, &["show", "--itm", "1", "--stp", "2"], left)?;
+        let lock = full_synchronisation(capture, lost);
+        let listings: (&[u8], &[u8]) = (&whole, &rest);
+        check_port(alloc, rt, listings, (lost, lock))?;
+        check_mapped(alloc, rt, listings, (capture, lost), (1, "1", Kind::Itm))?;
+        check_mapped(alloc, rt, listings, (capture, lost), (2, "2", Kind::Stp))?;
+    }
+    Ok(())
+}
+
+#[test]
+fn frames_after_each_front_are_as_in_the_whole(rt: HostRuntime) -> Result<(), Fail> {
+    check_frames(rt.alloc(), &rt, 1, 0)?;
+    check_frames(rt.alloc(), &rt, 3, 1)
+}
+
+#[test]
+fn a_front_lost_in_data_of_nibbles_f_skips_the_rest_of_them(rt: HostRuntime) -> Result<(), Fail> {
+    let mut capture = [0xFF; 22];
+    capture[0] = 0xF7;
+    capture[19] = 0xF0;
+    capture[20] = 0x00;
+    capture[21] = 0x04;
+    let aligned = [
+        "show",
+        "--frames",
+        "bare",
+        "--packets",
+        "aligned",
+        "--stp",
+        "1",
+    ];
+    let whole = "8.0 1 data - - u64 ffffffffffffffff - -
+19.0 1 async
+21.0 1 version 4
+end 22
+port bare skipped 0 tail 0 unattributed 0
+1 stp aligned skipped 0 tail 0
+";
+    check(rt.alloc(), &rt, &aligned, &capture, Status::Done, whole)?;
+    let hunting = ["show", "--frames", "bare", "--stp", "1"];
+    let rest = "18.0 1 locked 15
+18.0 1 async
+20.0 1 version 4
+end 21
+port bare skipped 0 tail 0 unattributed 0
+1 stp locked skipped 15 tail 0
+";
+    check(rt.alloc(), &rt, &hunting, &capture[1..], Status::Done, rest)
+}
+
+/// The bytes of source 1 in the capture of two synchronisations with a frame after each.
+const SPLIT: &[u8] = b"\0\0\0\0\0\x80\x03\0\0\0\0\0\0\0\0\0\x80\x01\x41\0\0\0\0\0\x80";
+
+#[test]
+fn splits_after_each_front_what_the_port_has_there(rt: HostRuntime) -> Result<(), Fail> {
+    for lost in 0..=TWICE.len() {
+        let first = match lost {
+            0 => 0,
+            1..=20 => 14,
+            _ => SPLIT.len(),
+        };
+        let bytes = output_of(rt.alloc(), &rt, &["split", "--id", "1"], &TWICE[lost..])?;
+        assert_eq!(rt; bytes.as_slice(), &SPLIT[first..], "without {lost} bytes");
+    }
+    Ok(())
+}

@@ -1,0 +1,454 @@
+//! Scripts that become captures, their faults, and listings that become scripts again.
+
+use super::fronts::{cut, item};
+use super::words::check_words;
+use super::written::written;
+use super::{Calls, LONG_ROOM, check_run, check_writes, pieces_of, run_over, text_before};
+use capture_run::Status;
+use std::alloc::{AllocError, Global};
+use std::process::Abort;
+use std::test::Fail;
+use trace_vectors::worked::{
+    LETTER, LETTER_SCRIPT, LETTER_WITH_HALVES, RAW, RAW_SCRIPT, SOURCES, SOURCES_SCRIPT, TWICE,
+    TWICE_SCRIPT,
+};
+
+const TWICE_WORDS: [&str; 5] = ["rebuild", "--itm", "1", "--sync", "1"];
+
+const ITM_AND_STP: [&str; 5] = ["rebuild", "--itm", "1", "--stp", "2"];
+
+/// A script that says nothing.
+const SILENT: &[u8] = b"# a script\n\n#\n\n# of comments\n";
+
+#[test]
+fn writes_the_captures_of_scripts(rt: HostRuntime) -> Result<(), Fail> {
+    let table: [(&[&str], &[u8], &[u8]); 8] = [
+        (&["rebuild", "--itm", "1"], LETTER_SCRIPT, LETTER),
+        (&["rebuild", "--sync", "0"], RAW_SCRIPT, RAW),
+        (
+            &["rebuild", "--itm", "1", "--half", "1"],
+            LETTER_SCRIPT,
+            LETTER_WITH_HALVES,
+        ),
+        (&ITM_AND_STP, SOURCES_SCRIPT, SOURCES),
+        (&TWICE_WORDS, TWICE_SCRIPT, TWICE),
+        (
+            &["rebuild", "--itm", "1"],
+            b"\n1 sync\n# 1 overflow\n\n1 port 0 u8 41\n#\n",
+            LETTER,
+        ),
+        (&["rebuild", "--half", "8"], SILENT, b""),
+        (&["rebuild"], b"", b""),
+    ];
+    for (words, script, capture) in table {
+        let want = (Status::Done, capture, "");
+        check_run(rt.alloc(), &rt, words, script, want)?;
+        // the last line without its line feed
+        let short = script.strip_suffix(b"\n").unwrap_or(script);
+        check_run(rt.alloc(), &rt, words, short, want)?;
+    }
+    Ok(())
+}
+
+#[test]
+fn notes_the_first_fault_of_a_script(rt: HostRuntime) -> Result<(), Fail> {
+    let table: [(&[u8], &str); 15] = [
+        (&[b'a'; 257], "line 1 1 LongLine\n"),
+        (&[b'#'; 257], "line 1 1 LongLine\n"),
+        (&[b'a'; 256], "line 1 2 BadLine\n"),
+        (b"1 prt 0 u8 41", "line 1 2 BadLine\n"),
+        (b"127 raw 00", "line 1 3 BadId\n"),
+        (b"1 port 32 u8 41", "line 1 4 BadNumber\n"),
+        (b"3 sync", "line 1 5 Unmapped\n"),
+        (b"1 raw 00", "line 1 6 Mixed\n"),
+        (b"2 version 3\n2 flag 0 0 g=5", "line 2 7 Unfit\n"),
+        // the first of several lines, of which one is too long
+        (b"3 sync\n1 raw 00\n", "line 1 5 Unmapped\n"),
+        (b"1 sync\n1 raw 00\n3 sync\n", "line 2 6 Mixed\n"),
+        // lines that say nothing count
+        (b"# 3 sync\n\n\n127 raw 00\n", "line 4 3 BadId\n"),
+        // a carriage return is a byte of its line
+        (b"1 sync\r\n", "line 1 2 BadLine\n"),
+        (b"125 trigger 07\n", "line 1 2 BadLine\n"),
+        (b"trace-script 2\n16 raw aa\n", "line 1 2 BadLine\n"),
+    ];
+    for (script, note) in table {
+        let want: (Status, &[u8], &str) = (Status::ScriptFault, b"", note);
+        check_run(rt.alloc(), &rt, &ITM_AND_STP, script, want)?;
+    }
+    Ok(())
+}
+
+#[test]
+fn a_line_is_too_long_with_its_257th_byte(rt: HostRuntime) -> Result<(), Fail> {
+    // A line that goes on, by the last byte that is read before a read fails.
+    let bytes = [b'#'; 300];
+    for (failing, status, note) in [
+        (256, Status::ReadFault, "read fault\n"),
+        (257, Status::ScriptFault, "line 1 1 LongLine\n"),
+    ] {
+        let reads = Calls { piece: 1, failing };
+        let calls = (reads, pieces_of(4096));
+        let got = run_over(rt.alloc(), &["rebuild"], &bytes, calls, LONG_ROOM)?;
+        assert_eq!(rt; got.status, status, "read {failing} fails");
+        assert_eq!(rt;
+            got.note.as_slice(),
+            note.as_bytes(),
+            "read {failing} fails"
+        );
+    }
+    // with a line feed after 256 bytes it is not
+    let mut lines = [b'#'; 300];
+    lines[256] = b'\n';
+    let want: (Status, &[u8], &str) = (Status::Done, b"", "");
+    check_run(rt.alloc(), &rt, &["rebuild"], &lines, want)
+}
+
+#[test]
+fn words_of_rebuild_that_are_no_call(rt: HostRuntime) -> Result<(), Fail> {
+    let table: [(&[&str], &str); 5] = [
+        (&["rebuild", "--half", "9"], "usage: bad value of --half\n"),
+        (&["show", "--half", "9"], "usage: bad value of --half\n"),
+        (
+            &["rebuild", "--sync", "1000001"],
+            "usage: bad value of --sync\n",
+        ),
+        (
+            &["rebuild", "--half", "9", "--sync", "01"],
+            "usage: bad value of --sync\n",
+        ),
+        (
+            &["rebuild", "--itm", "1", "--stp", "1"],
+            "usage: 1 is mapped twice\n",
+        ),
+    ];
+    for (words, note) in table {
+        check_words(rt.alloc(), &rt, words, (Status::Usage, 0, 2), note)?;
+    }
+    Ok(())
+}
+
+/// How many bytes of source 16 each line of a long script has, and how many bytes the line has.
+const LINE: usize = 100;
+
+const LINE_LEN: usize = 8 + 2 * LINE;
+
+/// A script of this many lines of hundred bytes A5, and what they put.
+fn long_script(alloc: Global, count: usize) -> Result<(Vec<u8>, Vec<(u8, u8)>), AllocError> {
+    let mut script = Vec::new(alloc);
+    let mut bytes = Vec::new(alloc);
+    for _ in 0..count {
+        script.extend_from_slice(b"16 raw ")?;
+        for _ in 0..LINE {
+            script.extend_from_slice(b"a5")?;
+            bytes.push((16, 0xA5))?;
+        }
+        script.push(b'\n')?;
+    }
+    Ok((script, bytes))
+}
+
+/// Four long lines, and one whose last byte ends it with a fault.
+#[test]
+fn a_failed_write_before_a_fault_and_that_before_a_failed_read(
+    rt: HostRuntime,
+) -> Result<(), Fail> {
+    let (mut script, _) = long_script(rt.alloc(), 4)?;
+    script.extend_from_slice(b"127 raw 00\n")?;
+    // The second read and the first write fail or not; the limit, and what is answered and noted.
+    let table: [(u64, u64, &str, Status, &str); 6] = [
+        (9, 9, "843", Status::ScriptFault, "line 5 3 BadId\n"),
+        (9, 0, "843", Status::WriteFault, "write fault\n"),
+        (1, 9, "842", Status::ReadFault, "read fault\n"),
+        (1, 0, "842", Status::WriteFault, "write fault\n"),
+        (9, 9, "842", Status::Limit, "limit 842\n"),
+        (9, 0, "842", Status::WriteFault, "write fault\n"),
+    ];
+    for (read, write, limit, status, note) in table {
+        let words = ["rebuild", "--limit", limit];
+        let reads = Calls {
+            piece: 838,
+            failing: read,
+        };
+        let writes = Calls {
+            piece: 4096,
+            failing: write,
+        };
+        let got = run_over(rt.alloc(), &words, &script, (reads, writes), LONG_ROOM)?;
+        assert_eq!(rt; got.status, status, "{limit}, {note}");
+        assert_eq!(rt; got.note.as_slice(), note.as_bytes(), "{limit}, {note}");
+    }
+    Ok(())
+}
+
+/// What a run that ends within a long script has written: of the capture of the whole lines so far all but at most 264
+/// bytes.
+fn check_front(alloc: Global, rt: &impl Abort, read: usize, text: &[u8]) -> Result<(), Fail> {
+    let (_, bytes) = long_script(alloc, read / LINE_LEN)?;
+    let capture = written(rt, 64, 0, &bytes);
+    assert!(rt; capture.as_slice().starts_with(text), "{read} bytes");
+    let count = text.len().saturating_add(264);
+    assert!(rt; capture.as_slice().len() <= count, "{read} bytes");
+    Ok(())
+}
+
+#[test]
+fn a_prefix_of_the_capture_where_the_script_is_cut(rt: HostRuntime) -> Result<(), Fail> {
+    let (script, _) = long_script(rt.alloc(), 12)?;
+    for read in [1, 7, 208, 209, 415, 416, 417, 1000, 1664, 2288, 2495] {
+        let digits = format!(in rt.alloc(); "{read}")?;
+        let words = ["rebuild", "--limit", digits.as_str()];
+        let calls = (pieces_of(7), pieces_of(4096));
+        let got = run_over(rt.alloc(), &words, &script, calls, LONG_ROOM)?;
+        let note = format!(in rt.alloc(); "limit {read}\n")?;
+        assert_eq!(rt; got.status, Status::Limit, "{read} bytes");
+        assert_eq!(rt; got.note.as_slice(), note.as_bytes(), "{read} bytes");
+        check_front(rt.alloc(), &rt, read, &got.text)?;
+        let reads = Calls {
+            piece: read,
+            failing: 1,
+        };
+        let text = text_before(rt.alloc(), &rt, &["rebuild"], &script, reads)?;
+        check_front(rt.alloc(), &rt, read, &text)?;
+    }
+    Ok(())
+}
+
+#[test]
+fn each_read_and_each_write_of_a_script_fails(rt: HostRuntime) -> Result<(), Fail> {
+    let table: [(&[&str], &[u8], &[u8]); 2] = [
+        (&TWICE_WORDS, TWICE_SCRIPT, TWICE),
+        (&ITM_AND_STP, SOURCES_SCRIPT, SOURCES),
+    ];
+    for (words, script, capture) in table {
+        for read in 0..=script.len() {
+            let reads = Calls {
+                piece: 1,
+                failing: read as u64,
+            };
+            let text = text_before(rt.alloc(), &rt, words, script, reads)?;
+            assert!(rt; capture.starts_with(&text), "read {read} fails");
+        }
+        check_writes(rt.alloc(), &rt, words, script, capture)?;
+    }
+    Ok(())
+}
+
+#[test]
+fn each_prefix_of_a_script_ends(rt: HostRuntime) -> Result<(), Fail> {
+    // Of the lines of this script none has a shorter one as its front, but for the empty one.
+    let (mut line, mut begins) = (1usize, 0usize);
+    for count in 0..=SOURCES_SCRIPT.len() {
+        let calls = (pieces_of(7), pieces_of(4096));
+        let script = &SOURCES_SCRIPT[..count];
+        let got = run_over(rt.alloc(), &ITM_AND_STP, script, calls, LONG_ROOM)?;
+        let at_end = count == SOURCES_SCRIPT.len() || SOURCES_SCRIPT[count] == b'\n';
+        if at_end || count == begins {
+            assert_eq!(rt; got.status, Status::Done, "{count} bytes");
+            assert!(rt; got.note.is_empty(), "{count} bytes");
+        } else {
+            let note = format!(in rt.alloc(); "line {line} ")?;
+            assert_eq!(rt; got.status, Status::ScriptFault, "{count} bytes");
+            assert!(rt; got.note.starts_with(note.as_bytes()), "{count} bytes");
+            assert!(rt; SOURCES.starts_with(&got.text), "{count} bytes");
+        }
+        if at_end {
+            line = line.wrapping_add(1);
+            begins = count.wrapping_add(1);
+        }
+    }
+    Ok(())
+}
+
+/// What is before the last space.
+fn without_last_word(text: &[u8]) -> &[u8] {
+    for i in 0..text.len() {
+        let end = text.len() - 1 - i;
+        if text[end] == b' ' {
+            return &text[..end];
+        }
+    }
+    text
+}
+
+/// The events of a listing as lines of a script: without their places and the times of the clocks.
+fn script_of(alloc: Global, listing: &[u8]) -> Result<Vec<u8>, AllocError> {
+    let mut script = Vec::new(alloc);
+    let mut rest = listing;
+    for _ in 0..listing.len() {
+        if let Some((line, after)) = cut(rest, b'\n') {
+            if let (Some(event), Some((_, said))) = (item(line), cut(line, b' ')) {
+                let timed = event.text.starts_with(b"local") || event.text.starts_with(b"global");
+                script.extend_from_slice(if timed { without_last_word(said) } else { said })?;
+                script.push(b'\n')?;
+            }
+            rest = after;
+        }
+    }
+    Ok(script)
+}
+
+/// What the words write over these bytes.
+fn text_of(alloc: Global, rt: &impl Abort, words: &[&str], bytes: &[u8]) -> Result<Vec<u8>, Fail> {
+    let calls = (pieces_of(4096), pieces_of(4096));
+    let got = run_over(alloc, words, bytes, calls, 8192)?;
+    assert_eq!(rt; got.status, Status::Done, "{words:?}");
+    Ok(got.text)
+}
+
+/// The script becomes a capture, that a listing, and the events of that the same script again.
+fn check_listing(
+    alloc: Global,
+    rt: &impl Abort,
+    (rebuild, show): (&[&str], &[&str]),
+    script: &str,
+) -> Result<(), Fail> {
+    let capture = text_of(alloc, rt, rebuild, script.as_bytes())?;
+    let listing = text_of(alloc, rt, show, &capture)?;
+    let again = script_of(alloc, &listing)?;
+    assert_eq!(rt; again.as_slice(), script.as_bytes());
+    Ok(())
+}
+
+/// Each word of an ITM source with its least and its greatest numbers.
+const ITM_LINES: &str = "1 sync
+1 overflow
+1 port 0 u8 00
+1 port 31 u8 ff
+1 port 0 u16 0000
+1 port 31 u16 ffff
+1 port 0 u32 00000000
+1 port 31 u32 ffffffff
+1 local exact 0
+1 local exact 1
+1 local exact 6
+1 local exact 7
+1 local exact 268435455
+1 local stamp-late 0
+1 local stamp-late 268435455
+1 local packet-late 127
+1 local both-late 128
+1 global1 1 0 0 0
+1 global1 1 127 0 0
+1 global1 2 0 0 0
+1 global1 2 16383 0 0
+1 global1 3 0 0 0
+1 global1 3 2097151 0 0
+1 global1 4 0 0 0
+1 global1 4 67108863 1 1
+1 global2 48 0
+1 global2 48 4194303
+1 global2 64 0
+1 global2 64 274877906943
+1 ext itm 00000000
+1 ext itm ffffffff
+1 ext dwt 00000000
+1 ext dwt ffffffff
+1 counters 00
+1 counters 3f
+1 exception 0 enter
+1 exception 511 exit
+1 exception 0 return
+1 pc 00000000
+1 pc ffffffff
+1 asleep
+1 cmp 0 pc 00000000
+1 cmp 3 pc ffffffff
+1 cmp 0 addr 0000
+1 cmp 3 addr ffff
+1 cmp 0 read u8 00
+1 cmp 1 read u16 ffff
+1 cmp 3 read u32 ffffffff
+1 cmp 0 write u8 00
+1 cmp 2 write u16 0000
+1 cmp 3 write u32 ffffffff
+1 hw 0 u8 40
+1 hw 3 u16 0000
+1 hw 31 u32 ffffffff
+";
+
+/// Each word of an STP source with its least and its greatest numbers, and each kind of timestamp.
+const STP_LINES: &str = "2 async
+2 nullts r=
+2 version 0
+2 flag 0 0 r=0
+2 flag 65535 65535 r=ffffffffffff
+2 data 0 0 u4 0 - -
+2 data 0 0 u4 f m -
+2 data 255 0 u8 00 - r=ffffffffffffff
+2 data 256 255 u8 ff m r=ffffffffffffffff
+2 merr 0 0 00
+2 merr 65535 65535 ff
+2 gerr 00
+2 gerr ff
+2 trig 00 -
+2 trig ff r=00a
+2 freq 0 -
+2 freq 4294967295 r=1
+2 version 3
+2 data 0 0 u16 0000 - n=0
+2 data 0 0 u16 ffff m n=18446744073709551615
+2 data 1 2 u32 00000000 - -
+2 data 1 2 u32 ffffffff m n=5
+2 nullts n=0
+2 trig 00 n=1
+2 freq 1 n=16
+2 flag 0 0 -
+2 version 4
+2 data 3 65535 u64 0000000000000000 - g=0
+2 data 65535 1 u64 ffffffffffffffff m g=18446744073709551615
+2 nullts g=1
+2 version 15
+2 async
+";
+
+/// Lines of several sources in turn. Where a line of another source follows, no nibble of the system trace is kept, so
+/// that the places of the items are in the order of the lines.
+const MIXED_LINES: &str = "1 sync
+2 async
+16 raw 01
+1 port 0 u8 41
+2 version 3
+126 raw ff
+1 local exact 3
+2 data 1 0 u8 42 - n=5
+2 flag 1 0 -
+2 trig 07 -
+3 raw 00
+1 port 5 u16 beef
+1 exception 15 enter
+2 async
+1 sync
+";
+
+#[test]
+fn the_items_of_a_listing_are_a_script_again(rt: HostRuntime) -> Result<(), Fail> {
+    let show = [
+        "show",
+        "--frames",
+        "aligned",
+        "--packets",
+        "aligned",
+        "--itm",
+        "1",
+        "--stp",
+        "2",
+    ];
+    for script in [ITM_LINES, STP_LINES, MIXED_LINES] {
+        check_listing(rt.alloc(), &rt, (&ITM_AND_STP, &show), script)?;
+    }
+    // with the least significant nibble first, and synchronisations of both kinds
+    let rebuild = [
+        "rebuild",
+        "--itm=1",
+        "--stp=2",
+        "--stp-order=lsn",
+        "--sync=2",
+        "--half=3",
+    ];
+    let show = ["show", "--itm=1", "--stp=2", "--stp-order=lsn"];
+    for script in [ITM_LINES, STP_LINES, MIXED_LINES] {
+        check_listing(rt.alloc(), &rt, (&rebuild, &show), script)?;
+    }
+    Ok(())
+}
