@@ -1,15 +1,19 @@
 //! What puts the lines of events into an outlet, as they come.
 
-ghost use Rattle.std.specs.Prelude.{◌≡◌, ◌+◌, ◌≤◌, ◌++◌, ◌∷◌, [], List, length, if◌then◌else◌};
+ghost use Rattle.std.specs.Prelude.{◌≡◌, ◌+◌, ◌≤◌, ◌++◌, ◌∷◌, [], List, Some, None, true, false, length};
+ghost use Rattle.std.specs.Prelude.{if◌then◌else◌};
+ghost use Rattle.itm_grammar.specs.Proper.{IsProper};
 ghost use Rattle.source_events.specs.declared.event.Event.{Event};
+ghost use Rattle.source_events.specs.declared.event.What.TheVariants.{Packet as Said};
 ghost use Rattle.source_events.specs.declared.packet.Packet.{Packet};
+ghost use Rattle.source_events.specs.declared.packet.Packet.TheVariants.{Itm};
 ghost use Rattle.source_events.specs.Fitting.{EventFits, PacketFits};
-ghost use Rattle.trace_text.specs.LineText.{event_line};
+ghost use Rattle.trace_text.specs.LineText.{event_line, itm_event};
 ghost use Rattle.trace_text.specs.Printable.{Suits};
 ghost use Rattle.trace_stream.specs.declared.outlet.TheConstants.{TEXT_ROOM, OUTLET_ROOM};
 ghost use Rattle.capture_report.specs.Faulty.{is_stp};
 ghost use Rattle.capture_report.specs.Filter.{plan_by, HasSeen};
-ghost use Rattle.capture_report.specs.Listing.{is_listed, line_after};
+ghost use Rattle.capture_report.specs.Listing.{is_listed, itm_packets, line_after, remark_of};
 ghost use Rattle.capture_report.specs.SourceClocks.{AllStand};
 
 use crate::filter::Filter;
@@ -19,7 +23,7 @@ use itm_grammar::packet::ItmPacket;
 use source_events::{Event, Packet, Plan, SourceIds, What};
 use source_merge::Receiver;
 use trace_stream::{OUTLET_ROOM, Outlet};
-use trace_text::{Digits, EVENT_ROOM, Remark, print};
+use trace_text::{Digits, EVENT_ROOM, Remark, print, put_line, put_stp_line};
 use trace_values::SourceId;
 
 /// What puts the lines of events, and what it needs of the events before them.
@@ -46,7 +50,7 @@ pub(crate) fn sends_stp(plan: &Plan, source: Option<SourceId>) -> bool
 
 /// Puts the line of the next event with what the clocks say beside it, if it is listed.
 #[inline(always)]
-pub(crate) fn put_event(
+fn put_event(
     outlet: &mut Outlet,
     digits: &mut Digits,
     filter: &mut Filter,
@@ -73,7 +77,7 @@ pub(crate) fn put_event(
 
 /// Takes the next event, and puts its line if it is listed.
 #[inline(always)]
-fn put_next(
+pub(crate) fn put_next(
     outlet: &mut Outlet,
     digits: &mut Digits,
     clocks: &mut SourceClocks,
@@ -96,41 +100,126 @@ fn put_next(
     put_event(outlet, digits, filter, plan, event, remark);
 }
 
-/// The event is a software packet: most are.
+/// Takes the next packet of this ITM source, whose last byte is at this offset, and puts its line.
 #[inline(always)]
-fn is_software(event: &Event<Packet>) -> bool {
-    matches!(
-        event.what,
-        What::Packet(Packet::Itm(ItmPacket::Software { .. }))
-    )
+fn put_itm(
+    outlet: &mut Outlet,
+    digits: &mut Digits,
+    clocks: &mut SourceClocks,
+    at: u64,
+    id: SourceId,
+    packet: &ItmPacket,
+)
+    requires proper { IsProper packet.now }
+    requires room { length outlet.old + TEXT_ROOM ≤ OUTLET_ROOM }
+    ensures text { (before : List (Event Packet)) → AllStand clocks.old before →
+        outlet.new ≡ outlet.old ++ event_line false (itm_event at id packet.now)
+        (remark_of (itm_packets (Some id) before) (Said (Itm packet.now))) }
+    ensures clocks { (before : List (Event Packet)) (event : Event Packet) → event.source ≡ Some id →
+        event.what ≡ Said (Itm packet.now) → AllStand clocks.old before →
+        AllStand clocks.new (before ++ event ∷ []) }
+    ensures bound { length outlet.new ≤ length outlet.old + EVENT_ROOM }
+{
+    let remark = clocks.packet_remark(id, packet);
+    put_line(outlet, digits, at, id, packet, remark);
 }
 
-/// The same. A software packet has code of its own, in which nothing more depends on the packet's kind.
+/// Takes the next event where all events are listed and it is a packet of a source that sends such packets, and puts its
+/// line from the packet's parts. Answers whether it did; if not, nothing has changed. The event itself goes nowhere, so
+/// that it need not be in memory.
 #[inline(always)]
-pub(crate) fn put_by_kind(
+fn put_parts(
+    outlet: &mut Outlet,
+    digits: &mut Digits,
+    clocks: &mut SourceClocks,
+    filter: &Filter,
+    plan: &Plan,
+    event: &Event<Packet>,
+) -> bool
+    requires fits { EventFits PacketFits event.now }
+    requires room { length outlet.old + TEXT_ROOM ≤ OUTLET_ROOM }
+    ensures text { result ≡ true → (before : List (Event Packet)) → AllStand clocks.old before →
+        outlet.new ≡ outlet.old ++ line_after (plan_by plan.now filter.now) before event.now }
+    ensures clocks { result ≡ true → (before : List (Event Packet)) → AllStand clocks.old before →
+        AllStand clocks.new (before ++ event.now ∷ []) }
+    ensures seen { result ≡ true → filter.now.window ≡ None }
+    ensures bound { length outlet.new ≤ length outlet.old + EVENT_ROOM }
+    ensures none { result ≡ false → (outlet.new ≡ outlet.old) × (clocks.new ≡ clocks.old) }
+{
+    if !filter.lists_all() {
+        return false;
+    }
+    let Some(id) = event.source else {
+        return false;
+    };
+    match &event.what {
+        What::Packet(Packet::Itm(packet)) => {
+            if sends_stp(plan, event.source) {
+                return false;
+            }
+            put_itm(outlet, digits, clocks, event.at, id, packet);
+            true
+        }
+        What::Packet(Packet::Stp(item)) => {
+            if !sends_stp(plan, event.source) {
+                return false;
+            }
+            clocks.pass_stp();
+            put_stp_line(outlet, digits, event.at, event.half, id, *item);
+            true
+        }
+        _ => false,
+    }
+}
+
+/// Takes the next event, and puts its line if it is listed. Most are packets of which the line is put from their parts.
+#[inline(always)]
+pub(crate) fn put_given(
     outlet: &mut Outlet,
     digits: &mut Digits,
     clocks: &mut SourceClocks,
     filter: &mut Filter,
     plan: &Plan,
-    event: &Event<Packet>,
+    event: Event<Packet>,
 )
-    requires fits { EventFits PacketFits event.now }
+    requires fits { EventFits PacketFits event }
     requires room { length outlet.old + TEXT_ROOM ≤ OUTLET_ROOM }
     ensures text { (before : List (Event Packet)) → AllStand clocks.old before → HasSeen filter.old before →
-        outlet.new ≡ outlet.old ++ line_after (plan_by plan.now filter.old) before event.now }
+        outlet.new ≡ outlet.old ++ line_after (plan_by plan.now filter.old) before event }
     ensures clocks { (before : List (Event Packet)) → AllStand clocks.old before →
-        AllStand clocks.new (before ++ event.now ∷ []) }
+        AllStand clocks.new (before ++ event ∷ []) }
     ensures seen { (before : List (Event Packet)) → HasSeen filter.old before →
-        HasSeen filter.new (before ++ event.now ∷ []) }
+        HasSeen filter.new (before ++ event ∷ []) }
     ensures same { plan_by plan.now filter.new ≡ plan_by plan.now filter.old }
     ensures bound { length outlet.new ≤ length outlet.old + EVENT_ROOM }
 {
-    if is_software(event) {
-        put_next(outlet, digits, clocks, filter, plan, event);
-    } else {
-        put_next(outlet, digits, clocks, filter, plan, event);
+    if !put_parts(outlet, digits, clocks, filter, plan, &event) {
+        put_whole(outlet, digits, clocks, filter, plan, event);
     }
+}
+
+/// The same by the event itself.
+#[inline(never)]
+fn put_whole(
+    outlet: &mut Outlet,
+    digits: &mut Digits,
+    clocks: &mut SourceClocks,
+    filter: &mut Filter,
+    plan: &Plan,
+    event: Event<Packet>,
+)
+    requires fits { EventFits PacketFits event }
+    requires room { length outlet.old + TEXT_ROOM ≤ OUTLET_ROOM }
+    ensures text { (before : List (Event Packet)) → AllStand clocks.old before → HasSeen filter.old before →
+        outlet.new ≡ outlet.old ++ line_after (plan_by plan.now filter.old) before event }
+    ensures clocks { (before : List (Event Packet)) → AllStand clocks.old before →
+        AllStand clocks.new (before ++ event ∷ []) }
+    ensures seen { (before : List (Event Packet)) → HasSeen filter.old before →
+        HasSeen filter.new (before ++ event ∷ []) }
+    ensures same { plan_by plan.now filter.new ≡ plan_by plan.now filter.old }
+    ensures bound { length outlet.new ≤ length outlet.old + EVENT_ROOM }
+{
+    put_next(outlet, digits, clocks, filter, plan, &event);
 }
 
 /// The same IDs.
@@ -196,13 +285,13 @@ impl Receiver for Lister {
 
     #[inline(always)]
     fn give(&mut self, outlet: &mut Outlet, event: Event<Packet>) {
-        put_by_kind(
+        put_given(
             outlet,
             &mut self.digits,
             &mut self.clocks,
             &mut self.filter,
             &self.plan,
-            &event,
+            event,
         );
     }
 }

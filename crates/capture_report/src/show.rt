@@ -18,14 +18,14 @@ ghost use Rattle.capture_report.specs.SourceClocks.{AllStand};
 
 use crate::filter::Filter;
 use crate::list_plan::ListPlan;
-use crate::lister::{Lister, put_by_kind, put_event, sends_stp};
+use crate::lister::{Lister, put_given, put_next, sends_stp};
 use crate::source_clocks::SourceClocks;
 use crate::stopping::keep_stop;
 use source_events::{Event, Packet, Plan, Stop, What};
 use source_merge::{Engine, Events, bare_source, flow_after, note_bare};
 use stp_grammar::item::StpItem;
 use trace_stream::{Action, Flow, OUTLET_ROOM, Outlet, Taken};
-use trace_text::{Digits, EVENT_ROOM, print_fault, print_tails, put_stp_line};
+use trace_text::{Digits, EVENT_ROOM, print_fault, print_tails};
 use trace_values::Step;
 
 /// How many packets one call takes at most: their lines have room where an action is fed.
@@ -63,7 +63,7 @@ fn put_events(
     ensures same { plan_by plan.now filter.new ≡ plan_by plan.now filter.old }
 {
     for event in events {
-        put_by_kind(outlet, digits, clocks, filter, plan, event);
+        put_next(outlet, digits, clocks, filter, plan, event);
     }
 }
 
@@ -97,12 +97,11 @@ fn put_packet(
         source: Some(bare_source()),
         what: What::Packet(packet),
     };
-    let remark = clocks.remark(&event);
-    put_event(outlet, digits, filter, plan, &event, remark);
+    put_given(outlet, digits, clocks, filter, plan, event);
 }
 
 /// Puts the line of the item of an STP packet, if it has one, in a capture with no formatter: the packet ends in this
-/// half of the byte at this offset. Where all events are listed no event is made.
+/// half of the byte at this offset.
 #[inline(always)]
 fn put_stp(
     outlet: &mut Outlet,
@@ -129,14 +128,8 @@ fn put_stp(
     let Some(item) = item else {
         return;
     };
-    let source = bare_source();
-    if filter.lists_all() && sends_stp(plan, Some(source)) {
-        clocks.pass_stp();
-        put_stp_line(outlet, digits, at, half, source, item);
-    } else {
-        let packet = Packet::Stp(item);
-        put_packet(outlet, digits, clocks, filter, plan, at, half, packet);
-    }
+    let packet = Packet::Stp(item);
+    put_packet(outlet, digits, clocks, filter, plan, at, half, packet);
 }
 
 /// Puts the lines of what the answer to the byte at this offset gives, in a capture with no formatter. The events are

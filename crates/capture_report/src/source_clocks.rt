@@ -2,18 +2,22 @@
 
 ghost use Rattle.std.specs.Prelude.{◌≡◌, ◌<◌, ◌++◌, ◌∷◌, [], ℕ, List, Some, get_or};
 ghost use Rattle.stp_grammar.specs.declared.item.StpItem.{StpItem};
+ghost use Rattle.itm_grammar.specs.Proper.{IsProper};
 ghost use Rattle.source_events.specs.declared.event.Event.{Event};
+ghost use Rattle.source_events.specs.declared.event.What.TheVariants.{Packet as Said};
 ghost use Rattle.source_events.specs.declared.packet.Packet.{Packet};
+ghost use Rattle.source_events.specs.declared.packet.Packet.TheVariants.{Itm};
 ghost use Rattle.source_events.specs.Fitting.{EventFits, PacketFits};
 ghost use Rattle.trace_text.specs.LineText.{stp_event};
-ghost use Rattle.trace_text.specs.Printable.{Suits};
+ghost use Rattle.trace_text.specs.Printable.{Suits, SuitsPacket};
 ghost use Rattle.capture_report.specs.Listing.{itm_packets, remark_of};
 ghost use Rattle.capture_report.specs.SourceClocks.{AllStand};
 
 use crate::clocks::Clocks;
+use itm_grammar::packet::ItmPacket;
 use source_events::{Event, Packet, What};
 use trace_text::Remark;
-use trace_values::ID_COUNT;
+use trace_values::{ID_COUNT, SourceId};
 
 /// The clocks of each source, by its ID.
 #[derive(Debug, Drop)]
@@ -41,11 +45,22 @@ impl SourceClocks {
             result ≡ remark_of (itm_packets event.now.source es) event.now.what }
     {
         match (&event.what, event.source) {
-            (What::Packet(Packet::Itm(packet)), Some(id)) => {
-                self.clocks[id.number() as usize].remark(packet)
-            }
+            (What::Packet(Packet::Itm(packet)), Some(id)) => self.packet_remark(id, packet),
             _ => Remark::None,
         }
+    }
+
+    /// The same of the next packet of this source, whose event is not looked at.
+    #[inline(always)]
+    pub fn packet_remark(&mut self, id: SourceId, packet: &ItmPacket) -> Remark
+        requires proper { IsProper packet.now }
+        ensures suits { SuitsPacket packet.now result }
+        ensures stand { (es : List (Event Packet)) (event : Event Packet) → event.source ≡ Some id →
+            event.what ≡ Said (Itm packet.now) → AllStand self.old es → AllStand self.new (es ++ event ∷ []) }
+        ensures remark { (es : List (Event Packet)) → AllStand self.old es →
+            result ≡ remark_of (itm_packets (Some id) es) (Said (Itm packet.now)) }
+    {
+        self.clocks[id.number() as usize].remark(packet)
     }
 
     /// An STP item leaves the clocks as they are.

@@ -17,19 +17,19 @@ loop-event-preserved c =
     let kept = c.loop-event.invariant in
     let plan = plan_by c.args.plan.now c.args.filter.now in
     let old = c.loop-event.outlet in
-    let put = c.put_by_kind.ensures in
+    let put = c.put_next.ensures in
     record {
       text = λ before h f.
-          next_line es i e c.loop-event-test.true c.event-item.is plan before c.args.outlet.now old c.put_by_kind.new.outlet
+          next_line es i e c.loop-event-test.true c.event-item.is plan before c.args.outlet.now old c.put_next.new.outlet
           (kept.text before h f)
           (put.text (before ++ take i es) (kept.clocks before h) (kept.seen before f)
           ∙ ap (λ (p : ListPlan). old ++ line_after p (before ++ take i es) e) kept.same);
       clocks = λ before h.
-          subst (λ (x : List (Event Packet)). AllStand c.put_by_kind.new.clocks x)
+          subst (λ (x : List (Event Packet)). AllStand c.put_next.new.clocks x)
           (next_list es i e c.loop-event-test.true c.event-item.is before)
           (put.clocks (before ++ take i es) (kept.clocks before h));
       seen = λ before f.
-          subst (λ (x : List (Event Packet)). HasSeen c.put_by_kind.new.filter x)
+          subst (λ (x : List (Event Packet)). HasSeen c.put_next.new.filter x)
           (next_list es i e c.loop-event-test.true c.event-item.is before)
           (put.seen (before ++ take i es) (kept.seen before f));
       same = put.same ∙ kept.same;
