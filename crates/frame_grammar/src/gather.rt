@@ -5,6 +5,7 @@ ghost use Rattle.frame_grammar.specs.Whole.{IsWhole};
 ghost use Rattle.frame_grammar.specs.declared.frame.TheConstants.{FRAME_BYTES};
 
 use crate::frame::FRAME_BYTES;
+use crate::spaced::spaced_frame;
 
 /// A frame gathered from a piece that has half synchronisations between its halfwords.
 #[derive(Clone, Copy, Debug, PartialEq, Eq, Drop)]
@@ -28,27 +29,22 @@ impl GatheredFrame {
 
 /// The frame that the piece begins with, where all its bytes are there. Any number of half synchronisations may be
 /// between two of its halfwords, and none before the first.
-#[inline]
+#[inline(always)]
 pub fn gather_frame(piece: &[u8]) -> Option<GatheredFrame>
     ensures room { IfSome result (λ g. FRAME_BYTES + 2 * g.halves ≤ length piece.now) }
     ensures whole { IfSome result (λ g. IsWhole (take (FRAME_BYTES + 2 * g.halves) piece.now) g.bytes g.halves) }
     ensures only { IsNone result → (n halves : ℕ) (frame : List ℕ) → n ≤ length piece.now →
         IsWhole (take n piece.now) frame halves → ⊥ }
 {
+    if let Some(spaced) = spaced_frame(0, piece) {
+        return Some(GatheredFrame {
+            bytes: spaced.bytes,
+            halves: spaced.halves,
+        });
+    }
     let mut bytes = [0; FRAME_BYTES];
     let mut words = 0;
-    // The first halfwords that have a half synchronisation after them are taken with it.
-    let most = (piece.len() / 4).min(7);
-    while words < most {
-        let at = 4 * words;
-        if piece[at] == 0xFF || piece[at + 2] != 0xFF || piece[at + 3] != 0x7F {
-            break;
-        }
-        bytes[2 * words] = piece[at];
-        bytes[2 * words + 1] = piece[at + 1];
-        words += 1;
-    }
-    let mut from = 4 * words;
+    let mut from = 0;
     while words < 8 {
         let [first, second] = *piece[from..].first_chunk::<2>()?;
         if first != 0xFF {

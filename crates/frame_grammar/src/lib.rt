@@ -10,3 +10,4 @@ pub mod placed;
 pub mod plain;
 pub mod rows;
 pub mod source_bytes;
+mod spaced;

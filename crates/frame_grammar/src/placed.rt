@@ -7,6 +7,7 @@ ghost use Rattle.frame_grammar.specs.Whole.{IsWhole, without_halves};
 ghost use Rattle.frame_grammar.specs.declared.frame.TheConstants.{FRAME_BYTES};
 
 use crate::frame::FRAME_BYTES;
+use crate::spaced::spaced_frame;
 
 /// A frame gathered from a piece that has half synchronisations between its halfwords.
 #[derive(Clone, Copy, Debug, PartialEq, Eq, Drop)]
@@ -32,7 +33,7 @@ impl PlacedFrame {
 
 /// The frame that the piece begins with, the first byte of which is at this offset, where all its bytes are there. It
 /// is that of `gather_frame`, which keeps no offsets and is faster.
-#[inline]
+#[inline(always)]
 pub fn gather_frame_at(at: u64, piece: &[u8]) -> Option<PlacedFrame>
     requires { at + length piece.now ≤ 2 ^ 64 }
     ensures room { IfSome result (λ g. FRAME_BYTES + 2 * g.halves ≤ length piece.now) }
@@ -42,6 +43,9 @@ pub fn gather_frame_at(at: u64, piece: &[u8]) -> Option<PlacedFrame>
     ensures only { IsNone result → (n halves : ℕ) (frame : List ℕ) → n ≤ length piece.now →
         IsWhole (take n piece.now) frame halves → ⊥ }
 {
+    if let Some(spaced) = spaced_frame(at, piece) {
+        return Some(spaced);
+    }
     let mut bytes = [0; FRAME_BYTES];
     let mut offsets = [0; FRAME_BYTES];
     let mut words = 0;

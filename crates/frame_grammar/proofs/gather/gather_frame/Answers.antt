@@ -2,110 +2,58 @@ use Rattle.std.proofs.Common.{◌+◌, ◌*◌, ℕ, List, [], ◌∷◌, ◌++�
 use Rattle.std.specs.Option.{option_map}
 use Rattle.std.proofs.lemmas.List.{take_rest, length-drop, length-set}
 use Rattle.std.proofs.Math.Seq.{take-length}
-use Rattle.frame_grammar.proofs.Gathering.{joined, joined_nothing, gathered, gathers_whole, no_whole, whole_begins, pair_of, pair_at, ends_short, ends_bad, ends_whole, next_word, next_half, put_word, begins_well}
+use Rattle.frame_grammar.proofs.Gathering.{joined, joined_nothing, gathered, gathers_whole, no_whole, whole_begins, pair_of, ends_short, ends_bad, ends_whole, next_word, next_half, put_word, begins_well}
 use Rattle.frame_grammar.proofs.gather.gather_frame.Goals as goal
 use Rattle.frame_grammar.proofs.gather.gather_frame.Goals.{then-first, else-first+else-words-eq0+else-second-ne127, then-words-eq0-via-then-words-eq0, then-words-eq0-via-else-words-eq0+then-second-ne127}
 
 pub loop-words-init : goal.loop-words-init
-loop-words-init c =
-    let least = c.min-most.ensures in
-    record {
-      few = omega arith;
-      most = omega arith;
-      room = omega arith;
-      within = omega arith;
-      size = refl;
-      begins = λ x r n e. absurd (n refl);
-      so_far = joined_nothing (gathered 8 c.args.piece.now);
-    }
-
-pub loop-words-preserved : goal.loop-words-preserved
-loop-words-preserved c =
-    let p = c.args.piece.now in
-    let words = c.loop-words.words in
-    let bytes = c.loop-words.bytes in
-    let i = c.loop-words.invariant in
-    let most = i.most in
-    let room = i.room in
-    let size = i.size in
-    let more = c.loop-words-test.true in
-    let first = get_or p (4 * words) 0 in
-    let second = get_or p (4 * words + 1) 0 in
-    let word : drop (4 * words) p ≡ first ∷ (second ∷ drop (4 * words + 2) p) =
-    pair_at p (4 * words) (4 * words + 1) (4 * words + 2) refl refl (omega arith) in
-    let half : drop (4 * words + 2) p ≡ get_or p (4 * words + 2) 0 ∷ (get_or p (4 * words + 3) 0 ∷ drop (4 * (words + 1)) p) =
-    pair_at p (4 * words + 2) (4 * words + 3) (4 * (words + 1)) (omega arith) (omega arith) (omega arith) in
-    let put = set (set bytes (2 * words) first) (2 * words + 1) second in
-    let t : take (2 * (words + 1)) put ≡ take (2 * words) bytes ++ (first ∷ (second ∷ [])) =
-    put_word bytes (2 * words) (2 * (words + 1)) first second (omega arith) (omega arith) in
-    record {
-      few = omega arith;
-      most = i.most;
-      room = i.room;
-      within = omega arith;
-      size = length-set (set bytes (2 * words) first) (2 * words + 1) second ∙ length-set bytes (2 * words) first ∙ size;
-      begins = λ x r m e. begins_well words (4 * words) first p (second ∷ drop (4 * words + 2) p) (λ z. omega arith) i.begins word c.if-piece-at.false x r e;
-      so_far = next_half p (drop (4 * words + 2) p) (take (2 * (words + 1)) put) (8 - (words + 1)) (7 - (words + 1)) words
-          (next_word p (drop (4 * words) p) (take (2 * words) bytes) (8 - words) (8 - (words + 1)) words i.so_far (omega arith)
-          first second words (drop (4 * words + 2) p) (take (2 * (words + 1)) put) word c.if-piece-at.false (omega arith) t)
-          (omega arith) (get_or p (4 * words + 2) 0) (get_or p (4 * words + 3) 0) (words + 1) (drop (4 * (words + 1)) p) half c.if-piece-at-2.false c.if-piece-at-ne127.false (omega arith);
-    }
-
-pub loop-words-2-init : goal.loop-words-2-init
-loop-words-2-init c =
-    let words = c.loop-words.words in
-    let i = c.loop-words.invariant in
-    let few = i.few in
-    let within = i.within in
-    let room = i.room in
-    record {
-      room = omega arith;
-      few = omega arith;
-      enough = omega arith;
-      even = omega arith;
-      size = i.size;
-      none = λ e. omega arith;
-      begins = i.begins;
-      so_far = i.so_far ∙ ap (λ (h : ℕ). option_map (joined h (take (2 * words) c.loop-words.bytes)) (gathered (8 - words) (drop (4 * words) c.args.piece.now)))
-          (let d : words ≡ 4 * words / 2 - words = omega arith in d);
-    }
+loop-words-init c = record {
+  room = omega arith;
+  few = omega arith;
+  enough = omega arith;
+  even = refl;
+  size = refl;
+  none = λ e. refl;
+  begins = λ x r n e. absurd (n refl);
+  so_far = joined_nothing (gathered 8 c.args.piece.now);
+}
 
 pub returns-in_err-first-clause-only : goal.returns-in_err-first-clause-only
 returns-in_err-first-clause-only c = λ e n halves frame l whole.
     let p = c.args.piece.now in
-    let from = c.loop-words-2.from in
-    let words = c.loop-words-2.words in
-    let room = c.loop-words-2.invariant.room in
-    let few = c.loop-words-2-test.true in
+    let from = c.loop-words.from in
+    let words = c.loop-words.words in
+    let room = c.loop-words.invariant.room in
+    let few = c.loop-words-test.true in
     let size = ap length (take_rest p from) ∙ length-drop from p in
     let k = c.in_err-first.ensures.cases in
-    no_whole p (ends_short p (drop from p) _ (8 - words) (7 - words) _ c.loop-words-2.invariant.so_far (omega arith) (let d = length-drop from p in omega arith)) n halves frame whole
+    no_whole p (ends_short p (drop from p) _ (8 - words) (7 - words) _ c.loop-words.invariant.so_far (omega arith) (let d = length-drop from p in omega arith)) n halves frame whole
 
 pub returns-then-words-eq0-clause-only : goal.returns-then-words-eq0-clause-only
 returns-then-words-eq0-clause-only c = λ e n halves frame l whole.
     let p = c.args.piece.now in
-    let from = c.loop-words-2.from in
-    let words = c.loop-words-2.words in
-    let few = c.loop-words-2-test.true in
+    let from = c.loop-words.from in
+    let words = c.loop-words.words in
+    let few = c.loop-words-test.true in
     let chunk = c.in_ok-first.field-0.now in
     let pair = pair_of p chunk from c.in_ok-first.ensures.cases in
     elim c.then-words-eq0.branch [
       | then-words-eq0-via-then-words-eq0 w ↦
           whole_begins p n halves frame whole (get_or chunk 0 0) (get_or chunk 1 0 ∷ drop (from + 2) p)
-          (ap (λ (m : ℕ). drop m p) (sym (c.loop-words-2.invariant.none w.if-words-eq0.true)) ∙ pair.parts) c.if-first.false
+          (ap (λ (m : ℕ). drop m p) (sym (c.loop-words.invariant.none w.if-words-eq0.true)) ∙ pair.parts) c.if-first.false
       | then-words-eq0-via-else-words-eq0+then-second-ne127 w ↦
-          no_whole p (ends_bad p (drop from p) _ (8 - words) (7 - words) _ c.loop-words-2.invariant.so_far (omega arith) (get_or chunk 0 0) (get_or chunk 1 0) (drop (from + 2) p)
+          no_whole p (ends_bad p (drop from p) _ (8 - words) (7 - words) _ c.loop-words.invariant.so_far (omega arith) (get_or chunk 0 0) (get_or chunk 1 0) (drop (from + 2) p)
           pair.parts c.if-first.false w.if-second-ne127.true) n halves frame whole
     ]
 
-pub loop-words-2-preserved : goal.loop-words-2-preserved
-loop-words-2-preserved c =
+pub loop-words-preserved : goal.loop-words-preserved
+loop-words-preserved c =
     let p = c.args.piece.now in
-    let from = c.loop-words-2.from in
-    let words = c.loop-words-2.words in
-    let bytes = c.loop-words-2.bytes in
-    let i = c.loop-words-2.invariant in
-    let few = c.loop-words-2-test.true in
+    let from = c.loop-words.from in
+    let words = c.loop-words.words in
+    let bytes = c.loop-words.bytes in
+    let i = c.loop-words.invariant in
+    let few = c.loop-words-test.true in
     let enough = i.enough in
     let even = i.even in
     let size = i.size in
@@ -154,14 +102,14 @@ loop-words-2-preserved c =
 pub returns-clause-whole : goal.returns-clause-whole
 returns-clause-whole c =
     let p = c.args.piece.now in
-    let bytes = c.loop-words-2.bytes in
-    let few = c.loop-words-2.invariant.few in
-    let all = c.loop-words-2-test.false in
-    let words : c.loop-words-2.words ≡ 8 = omega arith in
-    let frame : take (2 * c.loop-words-2.words) bytes ≡ bytes =
-    ap (λ (n : ℕ). take n bytes) (let d : 2 * c.loop-words-2.words ≡ length bytes = (let s = c.loop-words-2.invariant.size in omega arith) in d) ∙ take-length bytes in
-    (gathers_whole p (record { halves = c.loop-words-2.from / 2 - 8; frame = bytes; rest = drop c.loop-words-2.from p })
-    (λ x l e. c.loop-words-2.invariant.begins x l (λ z. absurd (omega arith)) e)
-    (ends_whole p (drop c.loop-words-2.from p) bytes (8 - c.loop-words-2.words) (c.loop-words-2.from / 2 - c.loop-words-2.words) (c.loop-words-2.from / 2 - 8)
-    (c.loop-words-2.invariant.so_far ∙ ap (λ (t : List ℕ). option_map (joined (c.loop-words-2.from / 2 - c.loop-words-2.words) t) (gathered (8 - c.loop-words-2.words) (drop c.loop-words-2.from p))) frame)
+    let bytes = c.loop-words.bytes in
+    let few = c.loop-words.invariant.few in
+    let all = c.loop-words-test.false in
+    let words : c.loop-words.words ≡ 8 = omega arith in
+    let frame : take (2 * c.loop-words.words) bytes ≡ bytes =
+    ap (λ (n : ℕ). take n bytes) (let d : 2 * c.loop-words.words ≡ length bytes = (let s = c.loop-words.invariant.size in omega arith) in d) ∙ take-length bytes in
+    (gathers_whole p (record { halves = c.loop-words.from / 2 - 8; frame = bytes; rest = drop c.loop-words.from p })
+    (λ x l e. c.loop-words.invariant.begins x l (λ z. absurd (omega arith)) e)
+    (ends_whole p (drop c.loop-words.from p) bytes (8 - c.loop-words.words) (c.loop-words.from / 2 - c.loop-words.words) (c.loop-words.from / 2 - 8)
+    (c.loop-words.invariant.so_far ∙ ap (λ (t : List ℕ). option_map (joined (c.loop-words.from / 2 - c.loop-words.words) t) (gathered (8 - c.loop-words.words) (drop c.loop-words.from p))) frame)
     (omega arith) (omega arith))).1

@@ -3,23 +3,8 @@ use Rattle.std.specs.Option.{option_map}
 use Rattle.frame_grammar.proofs.Gathering.{gathered, joined}
 use Rattle.frame_grammar.proofs.gather.gather_frame.Given as goal
 
--- one half synchronisation after each halfword so far
 abbrev pub invariant-loop-words : goal.invariant-loop-words
 invariant-loop-words l = record {
-  few : l.words ≤ 7;
-  most : l.most ≤ 7;
-  room : 4 * l.most ≤ length l.piece;
-  within : l.words ≤ l.most;
-  size : length l.bytes ≡ 16;
-  begins : (x : ℕ) (r : List ℕ) → l.words ≢ 0 → l.piece ≡ x ∷ r → x ≢ 255;
-  so_far : gathered 8 l.piece ≡ option_map (joined l.words (take (2 * l.words) l.bytes)) (gathered (8 - l.words) (drop (4 * l.words) l.piece));
-}
-
-abbrev pub decreases-loop-words : goal.decreases-loop-words
-decreases-loop-words l = 7 - l.words
-
-abbrev pub invariant-loop-words-2 : goal.invariant-loop-words-2
-invariant-loop-words-2 l = record {
   room : l.from ≤ length l.piece;
   few : l.words ≤ 8;
   enough : 2 * l.words ≤ l.from;
@@ -30,5 +15,5 @@ invariant-loop-words-2 l = record {
   so_far : gathered 8 l.piece ≡ option_map (joined (l.from / 2 - l.words) (take (2 * l.words) l.bytes)) (gathered (8 - l.words) (drop l.from l.piece));
 }
 
-abbrev pub decreases-loop-words-2 : goal.decreases-loop-words-2
-decreases-loop-words-2 l = length l.piece - l.from
+abbrev pub decreases-loop-words : goal.decreases-loop-words
+decreases-loop-words l = length l.piece - l.from
