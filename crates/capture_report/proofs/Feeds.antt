@@ -141,7 +141,7 @@ module _ (old mid new : Show) (front next : List ℕ) (flow : Flow) (before betw
     fed = both;
   }
 
-rest_of : (n : ℕ) (piece : List ℕ) → take (length piece - n) (drop n piece) ≡ drop n piece
+pub rest_of : (n : ℕ) (piece : List ℕ) → take (length piece - n) (drop n piece) ≡ drop n piece
 rest_of n piece = take_all (length piece - n) (drop n piece) (let k = length-drop n piece in omega arith)
 
 -- the front of a piece, and then some of its rest

@@ -1,12 +1,13 @@
 //! `check`: how many synchronisations and frames a port has, how much each source sent, and how the capture ends.
 
 ghost use Rattle.source_events.specs.declared.tails.TheConstants.{GREATEST_COUNT};
-ghost use Rattle.std.specs.Prelude.{◌≡◌, ◌+◌, ◌*◌, ◌<◌, ◌≤◌, ◌++◌, [], ℕ, List, length, is_none, true};
-ghost use Rattle.trace_values.specs.Placed.{Placed};
+ghost use Rattle.std.specs.Prelude.{◌≡◌, ◌+◌, ◌*◌, ◌<◌, ◌≤◌, ◌++◌, [], ℕ, List, length, is_none, take, true};
+ghost use Rattle.trace_values.specs.Placed.{Placed, placed_from};
 ghost use Rattle.source_events.specs.Plan.{is_sound};
 ghost use Rattle.source_events.specs.Tails.{source_counts_of};
 ghost use Rattle.source_merge.specs.Engine as engine;
 ghost use Rattle.source_merge.specs.Engine.{is_live};
+ghost use Rattle.source_merge.specs.declared.engine.TheConstants.{GREATEST_OFFSET};
 ghost use Rattle.capture_report.specs.Summary.{source_text, sources_text};
 
 use crate::lister::sends_stp;
@@ -54,6 +55,29 @@ impl Receiver for Ignored {
 
     #[inline(always)]
     fn give(&mut self, _to: &mut (), _event: Event<Packet>) {}
+}
+
+/// Takes whole frames from the front of the piece, the first byte of which is at this offset, where no source is mapped.
+/// Answers how many bytes they have.
+fn count_frames(reading: &mut Engine, at: u64, piece: &[u8]) -> usize
+    requires live { is_live reading.old ≡ true }
+    requires offsets { (engine.next_of reading.old ≤ at) × (at + length piece.now ≤ GREATEST_OFFSET + 1) }
+    ensures few { result ≤ length piece.now }
+    ensures none { result ≡ 0 → reading.new ≡ reading.old }
+    ensures same { engine.plan_of reading.new ≡ engine.plan_of reading.old }
+    ensures next { 0 < result → engine.next_of reading.new ≡ at + result }
+    ensures live { is_live reading.new ≡ true }
+    ensures list { (u : List Placed) → engine.Stands reading.old u →
+        engine.Stands reading.new (u ++ placed_from at (take result piece.now)) }
+{
+    let mut done = 0;
+    while done < piece.len() {
+        let Some(bytes) = reading.count_frame(at + done as u64, &piece[done..]) else {
+            return done;
+        };
+        done += bytes;
+    }
+    done
 }
 
 /// The line of what a source sent, if it sent a byte.
@@ -199,7 +223,8 @@ impl Action for Check {
     /// A whole frame is counted at once where no source is mapped, and is taken at once where one is.
     fn feed(&mut self, piece: &[u8], _outlet: &mut Outlet) -> Taken {
         let at = self.engine.next();
-        if let Some(bytes) = self.engine.count_frame(at, piece) {
+        let bytes = count_frames(&mut self.engine, at, piece);
+        if bytes > 0 {
             return Taken {
                 bytes,
                 flow: Flow::On,

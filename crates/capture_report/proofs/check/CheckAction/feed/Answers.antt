@@ -20,17 +20,15 @@ use Rattle.capture_report.specs.Faulty.{IsFaulty}
 use Rattle.capture_report.proofs.Feeding.{stands_after, stop_after, flow_after, counted_stands, counted_stop, counted_on}
 use Rattle.capture_report.proofs.check.CheckAction.feed.Goals as goal
 
-pub returns-in-Some-clause-fed : goal.returns-in-Some-clause-fed
-returns-in-Some-clause-fed c = λ seen s.
+pub returns-then-bytes-gt0-clause-fed : goal.returns-then-bytes-gt0-clause-fed
+returns-then-bytes-gt0-clause-fed c = λ seen s.
     let old = c.args.self.now in
-    let new = c.count_frame.new.self in
+    let new = c.count_frames-bytes.new.reading in
     let at = c.next-at.result in
-    let piece = c.args.piece.now in
-    let bytes = take c.in-Some.bytes piece in
-    let list = subst (λ (o : Option ℕ). IfSome o (λ n. engine.Stands new (placed seen ++ placed_from at (take n piece))))
-    c.in-Some.is (c.count_frame.ensures.list (placed seen) s.engine) in
-    let same = c.count_frame.ensures.same in
-    let live = c.count_frame.ensures.live in
+    let bytes = take c.count_frames-bytes.result c.args.piece.now in
+    let list = c.count_frames-bytes.ensures.list (placed seen) s.engine in
+    let same = c.count_frames-bytes.ensures.same in
+    let live = c.count_frames-bytes.ensures.live in
     record {
       read = record {
         engine = counted_stands old.engine new seen bytes at s.engine c.next-at.ensures same live list;
@@ -55,7 +53,7 @@ returns-clause-fed c = λ seen s.
     take-take block.result.bytes front.result c.args.piece.now few in
     let at = c.next-at.result in
     let is = (c.feed_frame-framed.ensures.none c.in_default-framed.is).0
-    ∙ c.feed_bare.ensures.none c.in_default-feed_bare.is ∙ c.count_frame.ensures.none c.in_default.is in
+    ∙ c.feed_bare.ensures.none c.in_default.is ∙ c.count_frames-bytes.ensures.none (let z = c.if-bytes-gt0.false in omega arith) in
     let same = subst (λ (k : Engine). engine.plan_of block.new.self ≡ engine.plan_of k) is block.ensures.same in
     let list = subst (λ (l : List ℕ). engine.Stands block.new.self (placed seen ++ placed_from at l)) cut
     (subst (λ (k : Engine). (u : List Placed) → engine.Stands k u →
@@ -82,24 +80,24 @@ returns-clause-fed c = λ seen s.
           c.requires.live c.next-at.ensures same list fed);
     }
 
-pub returns-in-Some-feed_bare-clause-fed : goal.returns-in-Some-feed_bare-clause-fed
-returns-in-Some-feed_bare-clause-fed c = λ seen s.
+pub returns-in-Some-clause-fed : goal.returns-in-Some-clause-fed
+returns-in-Some-clause-fed c = λ seen s.
     let old = c.args.self.now in
     let p = plan_of old in
-    let block = c.in-Some-feed_bare.block in
+    let block = c.in-Some.block in
     let piece = c.args.piece.now in
     let at = c.next-at.result in
     let new = c.feed_bare.new.self in
     let events = bare_events (at + (block.bytes - 1)) block.step in
     let flow = bare_flow block.step in
     let bytes = take block.bytes piece in
-    let is = c.count_frame.ensures.none c.in_default.is in
+    let is = c.count_frames-bytes.ensures.none (let z = c.if-bytes-gt0.false in omega arith) in
     let s1 = subst (λ (k : Engine). engine.Stands k (placed seen)) (sym is) s.engine in
     let list = subst (λ (o : Option (Block Packet)). IfSome o (λ b. engine.Stands new (placed seen ++ placed_from at (take b.bytes piece))))
-    c.in-Some-feed_bare.is (c.feed_bare.ensures.list (placed seen) s1) in
-    let fed1 = subst (λ (o : Option (Block Packet)). IfSome o (λ b. FedAs (Answers (engine.plan_of c.count_frame.new.self) [] Going)
-    (Answers (engine.plan_of c.count_frame.new.self) (bare_events (at + (b.bytes - 1)) b.step) (bare_flow b.step)) (placed seen) at (take b.bytes piece)))
-    c.in-Some-feed_bare.is (c.feed_bare.ensures.fed (placed seen) s1) in
+    c.in-Some.is (c.feed_bare.ensures.list (placed seen) s1) in
+    let fed1 = subst (λ (o : Option (Block Packet)). IfSome o (λ b. FedAs (Answers (engine.plan_of c.count_frames-bytes.new.reading) [] Going)
+    (Answers (engine.plan_of c.count_frames-bytes.new.reading) (bare_events (at + (b.bytes - 1)) b.step) (bare_flow b.step)) (placed seen) at (take b.bytes piece)))
+    c.in-Some.is (c.feed_bare.ensures.fed (placed seen) s1) in
     let fed = subst (λ (k : Engine). FedAs (Answers (engine.plan_of k) [] Going) (Answers (engine.plan_of k) events flow) (placed seen) at bytes)
     is fed1 in
     let same = c.feed_bare.ensures.same ∙ ap (λ (k : Engine). engine.plan_of k) is in
@@ -130,7 +128,7 @@ returns-in-Some-framed-clause-fed c = λ seen s.
     let new = frame.new.self in
     let bytes = take fed.bytes c.args.piece.now in
     let given = some.fed.0 in
-    let is = c.feed_bare.ensures.none c.in_default-feed_bare.is ∙ c.count_frame.ensures.none c.in_default.is in
+    let is = c.feed_bare.ensures.none c.in_default.is ∙ c.count_frames-bytes.ensures.none (let z = c.if-bytes-gt0.false in omega arith) in
     let list = subst (λ (k : Engine). (u : List Placed) → engine.Stands k u → engine.Stands new (u ++ placed_from at bytes))
     is some.list (placed seen) s.engine in
     let taken = subst (λ (k : Engine). (u : List Placed) → engine.Stands k u →
