@@ -57,8 +57,8 @@ impl Receiver for Ignored {
     fn give(&mut self, _to: &mut (), _event: Event<Packet>) {}
 }
 
-/// Takes whole frames from the front of the piece, the first byte of which is at this offset, where no source is mapped.
-/// Answers how many bytes they have.
+/// Takes whole frames from the front of the piece, the first byte of which is at this offset, where no source is
+/// mapped. Answers how many bytes they have.
 fn count_frames(reading: &mut Engine, at: u64, piece: &[u8]) -> usize
     requires live { is_live reading.old ≡ true }
     requires offsets { (engine.next_of reading.old ≤ at) × (at + length piece.now ≤ GREATEST_OFFSET + 1) }

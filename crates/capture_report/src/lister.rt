@@ -124,9 +124,9 @@ fn put_itm(
     put_line(outlet, digits, at, id, packet, remark);
 }
 
-/// Takes the next event where all events are listed and it is a packet of a source that sends such packets, and puts its
-/// line from the packet's parts. Answers whether it did; if not, nothing has changed. The event itself goes nowhere, so
-/// that it need not be in memory.
+/// Takes the next event where all events are listed and it is a packet of a source that sends such packets, and puts
+/// its line from the packet's parts. Answers whether it did; if not, nothing has changed. The event itself goes
+/// nowhere, so that it need not be in memory.
 #[inline(always)]
 fn put_parts(
     outlet: &mut Outlet,
