@@ -1,6 +1,6 @@
-//! All that the program does, as one call over its words and three streams: it lists what all sources of a capture gave,
-//! takes the bytes of one source out of the frames of a trace port, or counts what each source sent. Or it writes the
-//! capture of a script, or tries itself on a capture of its own.
+//! All that the program does, as one call over its words and three streams: it lists what all sources of a capture
+//! gave, takes the bytes of one source out of the frames of a trace port, or counts what each source sent. Or it writes
+//! the capture of a script, or tries itself on a capture of its own.
 #![tactic(auto)]
 
 ghost use Rattle.std.specs.Prelude.{◌≡◌, ◌⊎◌, ◌+◌, ◌≤◌, ℕ, List, length, map, codes};
