@@ -3,6 +3,7 @@ pub mod Bytes
 pub mod Answering
 pub mod Holding
 pub mod Between
+pub mod Words
 pub mod AtOnce
 pub mod Insides
 pub mod RowTables

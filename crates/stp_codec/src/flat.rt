@@ -153,7 +153,8 @@ fn parts_from_second(bytes: &[u8], start: usize) -> Option<PacketParts>
     }
 }
 
-/// The first nibble of a packet: this one, or that of the bytes where none is before them, 0.
+/// The first nibble of a packet: this one, or that of the bytes where none is before them, 0. It is a sum, so that no
+/// branch chooses.
 #[inline(always)]
 fn first_nibble(first: u8, bytes: &[u8]) -> u8
     requires first { first < 16 }
@@ -161,11 +162,7 @@ fn first_nibble(first: u8, bytes: &[u8]) -> u8
     ensures value { result ≡ (if first == 0 then get_or (nibbles_in bytes.now) 0 0 else first) }
     ensures small { result < 16 }
 {
-    if first == 0 {
-        nibble_of(bytes, 0)
-    } else {
-        first
-    }
+    first + nibble_of(bytes, 0) * u8::from(first == 0)
 }
 
 /// The nibble of the bytes after it.

@@ -3,7 +3,7 @@
 //!
 //! They are read so for speed alone: the decoder reads nibble by nibble what is not found here.
 
-ghost use Rattle.std.specs.Prelude.{◌≡◌, ◌+◌, ◌-◌, ◌*◌, ◌/◌, ◌%◌, ◌^◌, ◌<◌, ◌≤◌, true, length, get_or, IfSome};
+ghost use Rattle.std.specs.Prelude.{◌≡◌, ℕ, ◌+◌, ◌-◌, ◌*◌, ◌/◌, ◌%◌, ◌^◌, ◌<◌, ◌≤◌, List, true, length, get_or, IfSome};
 ghost use Rattle.trace_values.specs.declared.next.Next.TheVariants.{Go};
 ghost use Rattle.stp_grammar.specs.declared.packet.StpPacket.TheVariants.{Async};
 ghost use Rattle.stp_grammar.specs.declared.partial.Partial.TheVariants.{Start, Second, Third, Run, Size};
@@ -11,7 +11,7 @@ ghost use Rattle.stp_grammar.specs.Opcodes.{line_of, row_at};
 ghost use Rattle.stp_grammar.specs.Proper.{IsProper};
 ghost use Rattle.stp_grammar.specs.Rule.{rule, begin, after_payload, is_sound, number_with};
 ghost use Rattle.stp_grammar.specs.Spelling.{number};
-ghost use Rattle.stp_grammar.specs.declared.packet.Order.TheVariants.{Msn};
+ghost use Rattle.stp_grammar.specs.declared.packet.Order.TheVariants.{Lsn, Msn};
 ghost use Rattle.stp_codec.specs.Wholes.{nibbles_in, between, number_from, Ends, Leaves};
 
 use stp_grammar::nibble::number_with;
@@ -294,25 +294,42 @@ fn number_bytewise(order: Order, count: u8, value: u64, bytes: &[u8], start: usi
     }
 }
 
-/// A byte with its nibbles exchanged.
+/// One more than the greatest number that 16 nibbles make.
+const WORD: u128 = 0x1_0000_0000_0000_0000;
+
+/// Masks all nibbles of a word but those at even places.
+const EVEN: u64 = 0x0F0F_0F0F_0F0F_0F0F;
+
+/// The number that the nibbles of the eight bytes from this one on make, the first of them the least significant.
 #[inline(always)]
-fn turned(byte: u8) -> u8
-    ensures { result ≡ byte % 16 * 16 + byte / 16 }
+fn word_from(bytes: &[u8], first: usize) -> u64
+    requires { first + 8 ≤ length bytes.now }
+    ensures { result ≡ number Lsn (between (nibbles_in bytes.now) (2 * first) (2 * first + 16)) }
 {
-    byte % 16 * 16 + byte / 16
+    u64::from_le_bytes(*bytes[first..].first_chunk::<8>().unwrap())
 }
 
-/// The number that the nibbles of nine bytes make, the first of them the most significant.
+/// The number that the 16 nibbles from this one on make, the first of them the least significant.
 #[inline(always)]
-fn number_of_nine(bytes: &[u8], first: usize) -> u128
-    requires { first + 9 ≤ length bytes.now }
-    ensures { result ≡ number Msn (between (nibbles_in bytes.now) (2 * first) (2 * first + 18)) }
+fn nibbles_from(bytes: &[u8], start: usize) -> u64
+    requires { start / 2 + 9 ≤ length bytes.now }
+    ensures { result ≡ number Lsn (between (nibbles_in bytes.now) start (start + 16)) }
 {
-    let mut number = 0u64;
-    for index in 0..8usize {
-        number = 256 * number + u64::from(turned(bytes[first + index]));
-    }
-    256 * u128::from(number) + u128::from(turned(bytes[first + 8]))
+    let front = word_from(bytes, start / 2);
+    let all = u128::from(front) + WORD * u128::from(bytes[start / 2 + 8]);
+    let half = (start % 2) as u32;
+    ((all >> (4 * half)) % WORD) as u64
+}
+
+/// The number that 16 nibbles make, the first of them the most significant, where they make this one with the first of
+/// them the least significant.
+#[inline(always)]
+fn turned(nibbles: u64) -> u64
+    ensures { (r : List ℕ) → length r ≡ 16 → ((i : ℕ) → get_or r i 0 < 16) → nibbles ≡ number Lsn r →
+        result ≡ number Msn r }
+{
+    let pairs = 16 * (nibbles & EVEN) + (nibbles / 16 & EVEN);
+    u64::from_be_bytes(pairs.to_le_bytes())
 }
 
 /// The number that the next `more` nibbles make, the first of them the most significant. No branch depends on how
@@ -324,10 +341,12 @@ pub fn number_at_once(bytes: &[u8], start: usize, more: u8) -> u64
     ensures value { result ≡ number_from Msn 0 0 (between (nibbles_in bytes.now) start (start + more)) }
     ensures fits { result < 16 ^ more }
 {
-    let half = (start % 2) as u32;
-    let after = 18 - half - u32::from(more);
-    let number = number_of_nine(bytes, start / 2) >> (4 * after);
-    (number & ((1 << (4 * u32::from(more))) - 1)) as u64
+    let number = turned(nibbles_from(bytes, start));
+    if more == 0 {
+        0
+    } else {
+        number >> (64 - 4 * u32::from(more))
+    }
 }
 
 /// The number that `count` nibbles make with the next `more`, where they made `value` without them.

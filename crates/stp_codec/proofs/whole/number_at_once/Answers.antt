@@ -1,32 +1,30 @@
-use Rattle.std.proofs.Common.{◌≡◌, ◌+◌, ◌-◌, ◌*◌, ◌/◌, ◌%◌, ◌^◌, sym, ◌∙◌, ap, arith}
+use Rattle.std.proofs.Common.{◌≡◌, ◌+◌, ◌-◌, ◌*◌, ◌/◌, ◌^◌, ◌<◌, ◌≤◌, length, sym, ◌∙◌, ap, subst, arith}
 use Rattle.stp_grammar.specs.declared.packet.Order.TheVariants.{Msn}
 use Rattle.stp_grammar.specs.Spelling.{number}
 use Rattle.stp_grammar.proofs.Digits.{value_whole}
 use Rattle.stp_codec.specs.Wholes.{nibbles_in, between}
-use Rattle.stp_codec.proofs.AtOnce.{at_once, masked, masked_fits, most}
+use Rattle.stp_codec.proofs.Between.{length-nibbles, length-between}
+use Rattle.stp_codec.proofs.AtOnce.{first_ones, between_fits, nibbles_fit}
 use Rattle.stp_codec.proofs.Finishing.{value_is}
 use Rattle.stp_codec.proofs.whole.number_at_once.Goals as goal
 
-pub overflow_cast-result-2 : goal.overflow_cast-result-2
-overflow_cast-result-2 c =
-    let k = masked_fits c.number_of_nine.result (c.args.start % 2) c.args.more c.from.result c.from-2.result c.from.ensures c.from-2.ensures c.requires.few in
-    let m = most c.args.more c.requires.few in
-    omega (arith, k, m)
+-- the first of the nibbles that are turned
+first : (c : goal.After-from) → c.turned-number.result / 2 ^ (64 - 4 * c.from.result) ≡ number Msn (between (nibbles_in c.args.bytes.now) c.args.start (c.args.start + c.args.more))
+first c =
+    let a = c.args in
+    let l = length-nibbles a.bytes.now in
+    let room : a.start + 16 ≤ 2 * length a.bytes.now = omega (arith, c.requires.there) in
+    ap (λ n. c.turned-number.result / 2 ^ (64 - 4 * n)) c.from.ensures
+    ∙ ap (λ n. n / 2 ^ (64 - 4 * a.more)) (c.turned-number.ensures (between (nibbles_in a.bytes.now) a.start (a.start + 16))
+    (length-between (nibbles_in a.bytes.now) 16 a.start (omega (arith, l, room))) (nibbles_fit a.bytes.now a.start (a.start + 16)) c.nibbles_from.ensures)
+    ∙ first_ones a.bytes.now a.start a.more c.requires.few room
 
-pub returns-clause-value : goal.returns-clause-value
-returns-clause-value c =
-    let xs = nibbles_in c.args.bytes.now in
-    let first = c.args.start / 2 in
-    let half = c.args.start % 2 in
-    let more = c.args.more in
-    let place : 2 * first + half ≡ c.args.start = omega arith in
-    let r = between xs c.args.start (c.args.start + more) in
-    masked c.number_of_nine.result half more c.from.result c.from-2.result c.from.ensures c.from-2.ensures c.requires.few
-    ∙ ap (λ n. n / 16 ^ (18 - half - more) % 16 ^ more) c.number_of_nine.ensures
-    ∙ at_once c.args.bytes.now first half more (omega arith) c.requires.few c.requires.there
-    ∙ ap (λ s. number Msn (between xs s (s + more))) place
-    ∙ sym (value_whole Msn r) ∙ value_is Msn 0 0 r
+pub returns-else-more-eq0-clause-value : goal.returns-else-more-eq0-clause-value
+returns-else-more-eq0-clause-value c =
+    let r = between (nibbles_in c.args.bytes.now) c.args.start (c.args.start + c.args.more) in
+    first c ∙ sym (value_whole Msn r) ∙ value_is Msn 0 0 r
 
-pub returns-clause-fits : goal.returns-clause-fits
-returns-clause-fits c =
-    masked_fits c.number_of_nine.result (c.args.start % 2) c.args.more c.from.result c.from-2.result c.from.ensures c.from-2.ensures c.requires.few
+pub returns-else-more-eq0-clause-fits : goal.returns-else-more-eq0-clause-fits
+returns-else-more-eq0-clause-fits c =
+    let a = c.args in
+    subst (λ n. n < 16 ^ a.more) (sym (first c)) (between_fits a.bytes.now a.start a.more (omega (arith, c.requires.few, c.requires.there)))
