@@ -118,9 +118,6 @@ module _ (order : Order) where
   pub ends_second_f : (w : List ℕ) (packet : StpPacket) → Ends order (Go (Run 2)) w packet → Ends order (Go Second) (15 ∷ w) packet
   ends_second_f w packet k = k
 
-  pub ends_start_f : (w : List ℕ) (packet : StpPacket) → Ends order (Go Second) w packet → Ends order (Go Start) (15 ∷ w) packet
-  ends_start_f w packet k = k
-
   -- among the nibbles of bytes
   module _ (xs : List ℕ) (start end : ℕ) where
     parts_of : (n last : ℕ) → end ≡ start + n → end ≤ last → end ≤ length xs → (length (between xs start end) ≡ n) × (between xs start last ≡ between xs start end ++ between xs end last)

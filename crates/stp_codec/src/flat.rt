@@ -3,14 +3,15 @@
 //!
 //! They are read so for speed alone: what is not found here is read otherwise.
 
-ghost use Rattle.std.specs.Prelude.{◌≡◌, ◌+◌, ◌*◌, ◌/◌, ◌^◌, ◌<◌, ◌≤◌, ◌==◌, true, length, get_or, IfSome};
+ghost use Rattle.std.specs.Prelude.{◌≡◌, ℕ, ◌+◌, ◌*◌, ◌/◌, ◌^◌, ◌<◌, ◌≤◌, ◌==◌, true, length, get_or, IfSome};
 ghost use Rattle.std.specs.Prelude.{if◌then◌else◌};
 ghost use Rattle.trace_values.specs.declared.next.Next.TheVariants.{Go};
+ghost use Rattle.stp_grammar.specs.declared.packet.StpPacket.{StpPacket};
 ghost use Rattle.stp_grammar.specs.declared.packet.Order.TheVariants.{Msn};
-ghost use Rattle.stp_grammar.specs.declared.partial.Partial.TheVariants.{Second, Third, Size};
+ghost use Rattle.stp_grammar.specs.declared.partial.Partial.TheVariants.{Start, Third, Size};
 ghost use Rattle.stp_grammar.specs.Opcodes.{line_of, row_at};
 ghost use Rattle.stp_grammar.specs.Proper.{IsProper};
-ghost use Rattle.stp_grammar.specs.Rule.{begin};
+ghost use Rattle.stp_grammar.specs.Rule.{rule, begin};
 ghost use Rattle.stp_codec.specs.Wholes.{nibbles_in, between, Ends, left_by};
 ghost use Rattle.stp_codec.specs.Parts.{packet_of};
 ghost use Rattle.stp_codec.specs.declared.flat.TheConstants.{WINDOW};
@@ -117,39 +118,43 @@ fn parts_from_opcode(number: u8, bytes: &[u8], start: usize) -> Option<PacketPar
     }
 }
 
-/// A packet whose first nibbles are F and 0, from its third on. None where there is none.
+/// The number of the row whose opcode is F, 0 and the nibble here, and the nibble after it. None where there is none.
 #[inline(always)]
-fn parts_from_third(bytes: &[u8], start: usize) -> Option<PacketParts>
-    requires start { start ≤ 2 }
-    requires there { WINDOW ≤ length bytes.now }
-    ensures end { IfSome result (λ x. (start < x.nibbles) × (x.nibbles ≤ 2 * length bytes.now)) }
-    ensures number { IfSome result (λ x. x.number < 35) }
-    ensures whole { IfSome result (λ x.
-        Ends Msn (Go Third) (between (nibbles_in bytes.now) start x.nibbles) (packet_of x)) }
-    ensures proper { IfSome result (λ x. IsProper (packet_of x)) }
+fn opcode_from_third(bytes: &[u8], start: usize) -> Option<(u8, usize)>
+    requires there { start < 2 * length bytes.now }
+    ensures number { IfSome result (λ x. x.0 < 35) }
+    ensures after { IfSome result (λ x. x.1 ≡ start + 1) }
+    ensures whole { (end : ℕ) (packet : StpPacket) → IfSome result (λ x. x.1 ≤ end →
+        Ends Msn (begin (row_at x.0)) (between (nibbles_in bytes.now) x.1 end) packet →
+        Ends Msn (Go Third) (between (nibbles_in bytes.now) start end) packet) }
 {
     match nibble_of(bytes, start) {
-        nibble @ 0..=1 => parts_from_opcode(29 + nibble, bytes, start + 1),
-        nibble @ 6..=9 => parts_from_opcode(25 + nibble, bytes, start + 1),
+        nibble @ 0..=1 => Some((29 + nibble, start + 1)),
+        nibble @ 6..=9 => Some((25 + nibble, start + 1)),
         _ => None,
     }
 }
 
-/// A packet whose first nibble is F, from its second on. None for ASYNC.
+/// The number of the row whose opcode begins with this nibble and goes on here, and the nibble after it. No branch
+/// chooses between opcodes of one nibble and of two. None for ASYNC, and where there is none.
 #[inline(always)]
-fn parts_from_second(bytes: &[u8], start: usize) -> Option<PacketParts>
-    requires start { start ≤ 1 }
-    requires there { WINDOW ≤ length bytes.now }
-    ensures end { IfSome result (λ x. (start < x.nibbles) × (x.nibbles ≤ 2 * length bytes.now)) }
-    ensures number { IfSome result (λ x. x.number < 35) }
-    ensures whole { IfSome result (λ x.
-        Ends Msn (Go Second) (between (nibbles_in bytes.now) start x.nibbles) (packet_of x)) }
-    ensures proper { IfSome result (λ x. IsProper (packet_of x)) }
+fn opcode_from_first(first: u8, bytes: &[u8], start: usize) -> Option<(u8, usize)>
+    requires first { first < 16 }
+    requires there { start + 1 < 2 * length bytes.now }
+    ensures number { IfSome result (λ x. x.0 < 35) }
+    ensures after { IfSome result (λ x. (start ≤ x.1) × (x.1 ≤ start + 2)) }
+    ensures whole { (end : ℕ) (packet : StpPacket) → IfSome result (λ x. x.1 ≤ end →
+        Ends Msn (begin (row_at x.0)) (between (nibbles_in bytes.now) x.1 end) packet →
+        Ends Msn (rule Msn Start first) (between (nibbles_in bytes.now) start end) packet) }
 {
-    match nibble_of(bytes, start) {
-        0 => parts_from_third(bytes, start + 1),
-        15 => None,
-        nibble => parts_from_opcode(14 + nibble, bytes, start + 1),
+    let second = nibble_of(bytes, start);
+    match 16 * first + second {
+        0xF0 => opcode_from_third(bytes, start + 1),
+        0xFF => None,
+        _ => {
+            let more = u8::from(first == 15);
+            Some((first + second * more - more, start + usize::from(more)))
+        }
     }
 }
 
@@ -187,10 +192,6 @@ pub fn parts_from_first(first: u8, bytes: &[u8]) -> Option<PacketParts>
     ensures proper { IfSome result (λ x. IsProper (packet_of x)) }
 {
     let nibble = first_nibble(first, bytes);
-    let start = start_after(first);
-    if nibble == 15 {
-        parts_from_second(bytes, start)
-    } else {
-        parts_from_opcode(nibble, bytes, start)
-    }
+    let (number, start) = opcode_from_first(nibble, bytes, start_after(first))?;
+    parts_from_opcode(number, bytes, start)
 }
