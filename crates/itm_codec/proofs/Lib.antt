@@ -1,4 +1,6 @@
 pub mod Answering
 pub mod Encoding
 pub mod Holding
+pub mod Parts
+pub mod Waiting
 pub mod Wholes

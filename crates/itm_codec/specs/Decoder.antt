@@ -1,5 +1,5 @@
 -- What a decoder stands for, and what it shows.
-use Rattle.std.specs.Prelude.{ℕ, List, Bool}
+use Rattle.std.specs.Prelude.{ℕ, List, take, Bool}
 use Rattle.trace_values.specs.Placed.{Placed}
 use Rattle.trace_values.specs.Walk.{by_unit}
 use Rattle.trace_values.specs.Moded.{StandsIn, hunts, is_locked, skipped_of}
@@ -8,16 +8,21 @@ use Rattle.itm_grammar.specs.declared.partial.Partial.{Partial}
 use Rattle.itm_grammar.specs.declared.partial.Partial.TheVariants.{Header}
 use Rattle.itm_grammar.specs.Rule.{rule, count_of}
 use Rattle.itm_codec.specs.Reading.{pattern}
+use Rattle.itm_codec.specs.Reached.{reached}
 use Rattle.itm_codec.specs.declared.decoder.ItmDecoder.{ItmDecoder}
+
+-- the bytes that it took and has not read
+abbrev pub waiting_in : ItmDecoder → List ℕ
+waiting_in decoder = take decoder.waiting decoder.held
+
+-- the unfinished packet
+abbrev pub partial_of : ItmDecoder → Partial
+partial_of decoder = reached decoder.partial (waiting_in decoder)
 
 -- before its lock it keeps how far the hunt has come; else it is live exactly where the reading of the list has no
 -- fault, and keeps the unfinished packet of that reading
 abbrev pub Stands : ItmDecoder → List Placed → Type 0
-Stands decoder u = StandsIn pattern Sync (by_unit rule) Header decoder.mode decoder.live decoder.partial u
-
--- the same, but that this is the unfinished packet
-abbrev pub StandsAs : ItmDecoder → Partial → List Placed → Type 0
-StandsAs decoder partial u = StandsIn pattern Sync (by_unit rule) Header decoder.mode decoder.live partial u
+Stands decoder u = StandsIn pattern Sync (by_unit rule) Header decoder.mode decoder.live (partial_of decoder) u
 
 -- it was made to hunt
 abbrev pub is_hunter : ItmDecoder → Bool
@@ -33,7 +38,7 @@ has_locked decoder = is_locked decoder.mode
 
 -- how many bytes of an unfinished packet it holds
 abbrev pub held_of : ItmDecoder → ℕ
-held_of decoder = count_of decoder.partial
+held_of decoder = count_of (partial_of decoder)
 
 -- how many bytes are before its reading
 abbrev pub skipped_by : ItmDecoder → ℕ

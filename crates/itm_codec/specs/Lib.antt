@@ -1,4 +1,6 @@
 pub mod Reading
+pub mod Reached
 pub mod Decoder
+pub mod Parts
 pub mod Answers
 pub mod Wholes

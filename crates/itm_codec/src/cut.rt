@@ -1,9 +1,8 @@
-//! Packets of which the bytes at hand are only a part: at the end of one run they begin, and the next run ends them.
-//!
-//! They are read so for speed alone: the decoder reads byte by byte what is not found here.
+//! What bytes make of an unfinished packet, read one by one.
 
 ghost use Rattle.std.specs.Prelude.{◌≡◌, ◌+◌, ◌<◌, ◌≤◌, length, take, IfSome, None, true};
 ghost use Rattle.trace_values.specs.Walk.{walk, Within, Whole};
+ghost use Rattle.itm_grammar.specs.declared.partial.Partial.{Partial};
 ghost use Rattle.itm_grammar.specs.declared.partial.Partial.TheVariants.{Header};
 ghost use Rattle.itm_grammar.specs.Rule.{rule, is_sound, count_of};
 ghost use Rattle.itm_grammar.specs.Proper.{IsProper};
@@ -14,19 +13,19 @@ use itm_grammar::partial::Partial;
 use trace_values::Next;
 
 /// What bytes make of an unfinished packet.
-#[derive(Clone, Copy, Debug, PartialEq, Eq, Drop)]
-pub struct Cut<T> {
+#[derive(Clone, Copy, Drop)]
+pub(crate) struct Cut {
     /// How many bytes from their front: those within the packet, and the one that ends it.
     pub bytes: usize,
     /// What is unfinished after them.
     pub partial: Partial,
     /// The packet that the last of them ends, if it ends one.
-    pub packet: Option<T>,
+    pub packet: Option<ItmPacket>,
 }
 
 /// What bytes make of an unfinished packet: they are taken up to the one that ends it, or up to one that is a fault.
 #[inline]
-pub(crate) fn cut_packet(unfinished: Partial, bytes: &[u8]) -> Cut<ItmPacket>
+pub(crate) fn cut_packet(unfinished: Partial, bytes: &[u8]) -> Cut
     requires sound { is_sound unfinished ≡ true }
     requires room { count_of unfinished + length bytes.now ≤ COUNT_ROOM }
     ensures bytes { result.bytes ≤ length bytes.now }
@@ -36,6 +35,7 @@ pub(crate) fn cut_packet(unfinished: Partial, bytes: &[u8]) -> Cut<ItmPacket>
     ensures proper { IfSome result.packet IsProper }
     ensures sound { is_sound result.partial ≡ true }
     ensures few { count_of result.partial ≤ count_of unfinished + result.bytes }
+    ensures all { (partial : Partial) → walk rule unfinished bytes.now ≡ Within partial → result.partial ≡ partial }
 {
     let mut partial = unfinished;
     for (index, byte) in bytes.iter().enumerate() {

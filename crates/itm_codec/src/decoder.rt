@@ -1,12 +1,15 @@
 //! The decoder of ITM packets.
 
-ghost use Rattle.std.specs.Prelude.{◌≡◌, true};
-ghost use Rattle.trace_values.specs.Moded.{is_counted};
-ghost use Rattle.itm_grammar.specs.Rule.{is_sound};
+ghost use Rattle.std.specs.Prelude.{◌≡◌, ◌<◌, ◌≤◌, length, take, true};
+ghost use Rattle.trace_values.specs.Moded.{is_counted, is_locked};
+ghost use Rattle.trace_values.specs.Walk.{walk, Within};
+ghost use Rattle.itm_grammar.specs.Rule.{rule, is_sound};
+ghost use Rattle.itm_grammar.specs.declared.partial.Partial.TheVariants.{Header};
 ghost use Rattle.itm_codec.specs.Reading.{pattern};
+ghost use Rattle.itm_codec.specs.Reached.{reached};
 ghost use Rattle.trace_values.specs.declared.limits.TheConstants.{COUNT_ROOM};
 
-use crate::cut::{Cut, cut_packet};
+use crate::cut::cut_packet;
 use crate::whole::whole_packet;
 use itm_grammar::packet::ItmPacket;
 use itm_grammar::partial::Partial;
@@ -19,18 +22,41 @@ const SYNC: Pattern = Pattern {
     last: 0x80,
 };
 
+/// How many bytes are there behind those that are taken: more than the longest packet has that is read at once.
+pub const AHEAD: usize = 8;
+
+/// What was taken of a packet at once.
+#[derive(Clone, Copy, Debug, PartialEq, Eq, Drop)]
+pub struct PartTaken<T> {
+    /// How many bytes, at least one.
+    pub bytes: usize,
+    /// The packet that the last of them ends, if it ends one.
+    pub packet: Option<T>,
+}
+
 /// A decoder of ITM packets. It keeps what it needs of the one unfinished packet.
+///
+/// Bytes that begin a packet may wait: they are taken, but not read yet. They are read with those that end the packet,
+/// all at once, which is faster than byte by byte.
 #[derive(Drop)]
 pub struct ItmDecoder {
     mode: Mode,
     partial: Partial,
     live: bool,
+    /// How many of the bytes below wait.
+    waiting: usize,
+    held: [u8; 16],
     ghost sound: { is_sound partial ≡ true },
     ghost counted: { is_counted pattern mode ≡ true },
+    ghost room: { length held ≡ 16 },
+    ghost few: { waiting ≤ 7 },
+    ghost begins: { 0 < waiting → partial ≡ Header },
+    ghost locked: { 0 < waiting → is_locked mode ≡ true },
+    ghost within: { walk rule partial (take waiting held) ≡ Within (reached partial (take waiting held)) },
 }
 
 impl ItmDecoder {
-    ghost use Rattle.std.specs.Prelude.{[], ◌∷◌, ◌++◌, false, ℕ, ◌+◌, ◌*◌, ◌<◌, ◌≤◌, List, length, take, IfSome};
+    ghost use Rattle.std.specs.Prelude.{[], ◌∷◌, ◌++◌, false, ℕ, ◌+◌, ◌*◌, List, IfSome, None};
     ghost use Rattle.trace_values.specs.Placed.{Placed, units_of};
     ghost use Rattle.trace_values.specs.Stream.{StepFits, LocksAfter};
     ghost use Rattle.trace_values.specs.Block.{Takes, StopsFor, goes_on_after};
@@ -38,9 +64,9 @@ impl ItmDecoder {
     ghost use Rattle.itm_grammar.specs.Spelling.{Spells};
     ghost use Rattle.itm_grammar.specs.Proper.{IsProper};
     ghost use Rattle.itm_codec.specs.Reading.{packets_in};
-    ghost use Rattle.itm_codec.specs.Decoder.{Stands, StandsAs, is_hunter, is_live, has_locked, held_of, skipped_by};
+    ghost use Rattle.itm_codec.specs.Decoder.{Stands, partial_of, is_hunter, is_live, has_locked, held_of, skipped_by};
+    ghost use Rattle.itm_codec.specs.Parts.{Took};
     ghost use Rattle.itm_codec.specs.Wholes.{Cuts, Gives};
-    ghost use Rattle.itm_grammar.specs.Rule.{count_of};
 
     /// A decoder of bytes that begin with a packet.
     pub fn aligned() -> ItmDecoder
@@ -53,6 +79,8 @@ impl ItmDecoder {
             mode: Mode::Aligned,
             partial: Partial::Header,
             live: true,
+            waiting: 0,
+            held: [0; 16],
         }
     }
 
@@ -67,6 +95,8 @@ impl ItmDecoder {
             mode: Mode::Hunting { run: 0, skipped: 0 },
             partial: Partial::Header,
             live: true,
+            waiting: 0,
+            held: [0; 16],
         }
     }
 
@@ -78,7 +108,7 @@ impl ItmDecoder {
     #[inline(always)]
     pub fn next_packet(&self, piece: &[u8]) -> Option<(usize, ItmPacket)>
         requires { is_live self.now ≡ true }
-        ensures header { IfSome result (λ x. (has_locked self.now ≡ true) × (self.now.partial ≡ Header)) }
+        ensures header { IfSome result (λ x. (has_locked self.now ≡ true) × (partial_of self.now ≡ Header)) }
         ensures whole { IfSome result (λ x. (0 < x.0) × (x.0 ≤ length piece.now) × Spells x.1 (take x.0 piece.now)) }
         ensures proper { IfSome result (λ x. IsProper x.1) }
         ensures gives { (u front : List Placed) (last : Placed) → Stands self.now u →
@@ -86,46 +116,156 @@ impl ItmDecoder {
             Gives (packets_in (is_hunter self.now)) (Stands self.now) u front last x.1) }
     {
         match self.partial {
-            Partial::Header if Mode::is_locked(self.mode) => whole_packet(piece),
+            Partial::Header if self.waiting == 0 && Mode::is_locked(self.mode) => {
+                whole_packet(piece)
+            }
             _ => None,
         }
     }
 
-    /// What these bytes make of the unfinished packet: they are taken up to the one that ends it. Wherever they are, a
-    /// decoder that takes them gives this packet at the last of them, or nothing where none is ended, and keeps what is
-    /// unfinished after them (`keep_partial`).
+    /// The unfinished packet, with the bytes that wait.
+    #[inline(always)]
+    fn unfinished(&self) -> Partial
+        ensures part { result ≡ partial_of self.now }
+        ensures sound { is_sound result ≡ true }
+    {
+        if self.waiting > 0 {
+            self.with_waiting()
+        } else {
+            self.partial
+        }
+    }
+
+    /// Reads the bytes that wait.
+    #[inline(never)]
+    fn with_waiting(&self) -> Partial
+        requires { 0 < self.now.waiting }
+        ensures part { result ≡ partial_of self.now }
+        ensures sound { is_sound result ≡ true }
+    {
+        cut_packet(self.partial, &self.held[..self.waiting]).partial
+    }
+
+    /// Takes the first `count` of these bytes, wherever they are: those within the unfinished packet up to the one that
+    /// ends it, or all of them. It gives this packet at the last of those that it takes, or nothing where none ends.
+    /// What the bytes after the first `count` are is of no account.
     ///
-    /// None says nothing of the bytes: in a hunt, and where the first of them is a fault.
-    #[inline]
-    pub fn next_cut(&self, piece: &[u8]) -> Option<Cut<ItmPacket>>
-        requires live { is_live self.now ≡ true }
-        requires room { held_of self.now + length piece.now ≤ COUNT_ROOM }
-        ensures bytes { IfSome result (λ x. (0 < x.bytes) × (x.bytes ≤ length piece.now)) }
+    /// None says nothing of the bytes: in a hunt, of no bytes, and where the first of them is a fault. Then the decoder
+    /// stands for what it stood for.
+    #[inline(always)]
+    pub fn take_part(&mut self, ahead: &[u8], count: usize) -> Option<PartTaken<ItmPacket>>
+        requires live { is_live self.old ≡ true }
+        requires room { held_of self.old + count ≤ COUNT_ROOM }
+        requires ahead { count + AHEAD ≤ length ahead.now }
+        ensures same { packets_in (is_hunter self.new) ≡ packets_in (is_hunter self.old) }
+        ensures bytes { IfSome result (λ x. (0 < x.bytes) × (x.bytes ≤ count)) }
         ensures fits { IfSome result (λ x. IfSome x.packet IsProper) }
-        ensures sound { IfSome result (λ x. is_sound x.partial ≡ true) }
-        ensures few { IfSome result (λ x. count_of x.partial ≤ held_of self.now + x.bytes) }
-        ensures cuts { (u front : List Placed) (last : Placed) → Stands self.now u →
-            IfSome result (λ x. units_of (front ++ last ∷ []) ≡ take x.bytes piece.now →
-            Cuts (packets_in (is_hunter self.now)) (StandsAs self.now x.partial) u front last x.packet) }
+        ensures few { IfSome result (λ x. held_of self.new ≤ held_of self.old + x.bytes) }
+        ensures skipped { skipped_by self.new ≡ skipped_by self.old }
+        ensures live { is_live self.new ≡ true }
+        ensures cuts { (u front : List Placed) (last : Placed) → Stands self.old u →
+            IfSome result (λ x. units_of (front ++ last ∷ []) ≡ take x.bytes ahead.now →
+            Cuts (packets_in (is_hunter self.old)) (Stands self.new) u front last x.packet) }
+        ensures none { result ≡ None → ((u : List Placed) → Stands self.old u → Stands self.new u)
+            × (held_of self.new ≡ held_of self.old) }
+    {
+        if count == 0 {
+            return None;
+        }
+        match self.take_at_once(ahead, count) {
+            Some(part) => Some(part),
+            None => self.take_slowly(&ahead[..count]),
+        }
+    }
+
+    /// Takes the first `count` of these bytes where they, after those that wait, end a packet that is read at once, or
+    /// are within one.
+    #[inline(always)]
+    fn take_at_once(&mut self, ahead: &[u8], count: usize) -> Option<PartTaken<ItmPacket>>
+        requires some { 0 < count }
+        requires ahead { count + AHEAD ≤ length ahead.now }
+        ensures { Took self.old self.new ahead.now count result }
+    {
+        if self.waiting > 0 {
+            return self.take_more(ahead, count);
+        }
+        match self.partial {
+            Partial::Header if Mode::is_locked(self.mode) => self.take_first(ahead, count),
+            _ => None,
+        }
+    }
+
+    /// Takes bytes of a packet whose header is the first of them. Where they do not end it, they wait.
+    #[inline(always)]
+    fn take_first(&mut self, ahead: &[u8], count: usize) -> Option<PartTaken<ItmPacket>>
+        requires some { 0 < count }
+        requires ahead { count + AHEAD ≤ length ahead.now }
+        requires header { self.old.partial ≡ Header }
+        requires locked { has_locked self.old ≡ true }
+        requires none { self.old.waiting ≡ 0 }
+        ensures { Took self.old self.new ahead.now count result }
+    {
+        let next = ahead.first_chunk::<AHEAD>()?;
+        let (bytes, packet) = whole_packet(next)?;
+        if bytes <= count {
+            return Some(PartTaken {
+                bytes,
+                packet: Some(packet),
+            });
+        }
+        self.held[0..AHEAD].copy_from_slice(next);
+        self.waiting = count;
+        Some(PartTaken {
+            bytes: count,
+            packet: None,
+        })
+    }
+
+    /// Takes bytes of the packet whose first bytes wait. Where they do not end it, they wait too.
+    #[inline(always)]
+    fn take_more(&mut self, ahead: &[u8], count: usize) -> Option<PartTaken<ItmPacket>>
+        requires some { 0 < count }
+        requires ahead { count + AHEAD ≤ length ahead.now }
+        requires waiting { 0 < self.old.waiting }
+        ensures { Took self.old self.new ahead.now count result }
+    {
+        let next = ahead.first_chunk::<AHEAD>()?;
+        let waiting = self.waiting;
+        self.held[waiting..waiting + AHEAD].copy_from_slice(next);
+        let (bytes, packet) = whole_packet(&self.held[..AHEAD])?;
+        if bytes <= waiting + count {
+            self.waiting = 0;
+            return Some(PartTaken {
+                bytes: bytes - waiting,
+                packet: Some(packet),
+            });
+        }
+        self.waiting = waiting + count;
+        Some(PartTaken {
+            bytes: count,
+            packet: None,
+        })
+    }
+
+    /// Takes these bytes one by one.
+    #[inline(never)]
+    fn take_slowly(&mut self, bytes: &[u8]) -> Option<PartTaken<ItmPacket>>
+        requires room { held_of self.old + length bytes.now ≤ COUNT_ROOM }
+        ensures { Took self.old self.new bytes.now (length bytes.now) result }
     {
         if !Mode::is_locked(self.mode) {
             return None;
         }
-        let cut = cut_packet(self.partial, piece);
-        if cut.bytes == 0 { None } else { Some(cut) }
-    }
-
-    /// Keeps this unfinished packet, as it is after bytes that were taken by `next_cut`.
-    #[inline]
-    pub fn keep_partial(&mut self, partial: Partial)
-        requires { is_sound partial ≡ true }
-        ensures stands { (u : List Placed) → StandsAs self.old partial u → Stands self.new u }
-        ensures same { packets_in (is_hunter self.new) ≡ packets_in (is_hunter self.old) }
-        ensures live { is_live self.new ≡ is_live self.old }
-        ensures held { held_of self.new ≡ count_of partial }
-        ensures skipped { skipped_by self.new ≡ skipped_by self.old }
-    {
-        self.partial = partial;
+        let cut = cut_packet(self.unfinished(), bytes);
+        if cut.bytes == 0 {
+            return None;
+        }
+        self.partial = cut.partial;
+        self.waiting = 0;
+        Some(PartTaken {
+            bytes: cut.bytes,
+            packet: cut.packet,
+        })
     }
 
     /// Feeds a piece, whose first byte is at this offset, up to the first byte to which the answer is
@@ -172,7 +312,7 @@ impl Machine for ItmDecoder {
     ghost use Rattle.itm_grammar.specs.declared.partial.Partial.TheVariants.{Header};
     ghost use Rattle.trace_values.specs.Walk.{by_unit};
     ghost use Rattle.itm_codec.specs.Reading.{pattern, packets_in, rest_in};
-    ghost use Rattle.itm_codec.specs.Decoder.{Stands, is_hunter, is_live, has_locked, held_of, skipped_by};
+    ghost use Rattle.itm_codec.specs.Decoder.{Stands, partial_of, is_hunter, is_live, has_locked, held_of, skipped_by};
     ghost use Rattle.trace_values.proofs.Modes as laws;
     ghost use Rattle.trace_values.proofs.Falls as falling;
     ghost use Rattle.itm_grammar.proofs.Counting as counting;
@@ -197,7 +337,7 @@ impl Machine for ItmDecoder {
 
     ghost shows = { λ m u s.
         laws.shows pattern Sync (by_unit rule) Header count_of refl counting.counts_placed
-        m.mode m.live m.partial u s };
+        m.mode m.live (partial_of m) u s };
 
     ghost begins = { λ m. laws.begins pattern Sync (by_unit rule) Header (is_hunter m) };
 
@@ -210,7 +350,7 @@ impl Machine for ItmDecoder {
 
     ghost keeps = { λ m u at byte s l f.
         falling.keeps_one pattern Sync (by_unit rule) Header count_of refl counting.counts_placed
-        m.mode m.live m.partial u (byte_at at byte) s l f };
+        m.mode m.live (partial_of m) u (byte_at at byte) s l f };
 
     /// Takes the next byte. Beside what every machine says, its answer in a reading is the grammar's: an
     /// item exactly where the unfinished packet with this byte is a packet, a fault exactly where no
@@ -249,7 +389,10 @@ impl Machine for ItmDecoder {
                 Step::Skipping
             }
         } else {
-            match self.partial.with_byte(byte) {
+            let unfinished = self.unfinished();
+            self.waiting = 0;
+            self.partial = unfinished;
+            match unfinished.with_byte(byte) {
                 Next::Go(partial) => {
                     self.partial = partial;
                     Step::Quiet
@@ -288,7 +431,11 @@ impl Machine for ItmDecoder {
         ensures few { (u : List Placed) → Stands self.now u →
             (result ≤ 6) ⊎ All (λ b. b ≡ 0) (take result (units_of (rest_in (is_hunter self.now) u))) }
     {
-        self.partial.len()
+        if self.waiting > 0 {
+            self.waiting as u64
+        } else {
+            self.partial.len()
+        }
     }
 
     fn skipped(&self) -> u64 {

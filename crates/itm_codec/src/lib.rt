@@ -8,6 +8,5 @@ mod encoder;
 pub mod laws;
 mod whole;
 
-pub use cut::Cut;
-pub use decoder::ItmDecoder;
+pub use decoder::{AHEAD, ItmDecoder, PartTaken};
 pub use encoder::encode;

@@ -11,8 +11,7 @@ ghost use Rattle.itm_grammar.specs.Proper.{IsProper};
 use itm_grammar::packet::{ItmPacket, Lateness, Size};
 
 /// The packet that these bytes begin with, and how many of them it takes. None where they begin with no packet,
-/// do not finish it, or begin with one that is rare: a longer synchronisation or a second global timestamp of
-/// seven bytes.
+/// do not finish it, or begin with one that is rare: a longer synchronisation.
 #[inline(always)]
 pub fn whole_packet(bytes: &[u8]) -> Option<(usize, ItmPacket)>
     ensures whole { IfSome result (λ x. (0 < x.0) × (x.0 ≤ length bytes.now) × Spells x.1 (take x.0 bytes.now)) }
@@ -166,7 +165,8 @@ fn first_global(payload: &[u8]) -> Option<(usize, ItmPacket)>
     Some((bytes, packet))
 }
 
-/// The second global timestamp of this payload, where it has 22 bits of the time, and how many bytes it takes.
+/// The second global timestamp of this payload, and how many bytes of it it takes: four with 22 bits of the time, or
+/// six with 38.
 #[inline]
 fn second_global(payload: &[u8]) -> Option<(usize, ItmPacket)>
     ensures bytes { IfSome result (λ x. (0 < x.0) × (x.0 ≤ length payload.now)) }
@@ -184,6 +184,32 @@ fn second_global(payload: &[u8]) -> Option<(usize, ItmPacket)>
                 value: value % 0x40_0000,
             };
             Some((4, packet))
+        }
+        _ => wide_second(payload),
+    }
+}
+
+/// The second global timestamp of this payload, where it has 38 bits of the time, and how many bytes it takes.
+#[inline]
+fn wide_second(payload: &[u8]) -> Option<(usize, ItmPacket)>
+    ensures bytes { IfSome result (λ x. (0 < x.0) × (x.0 ≤ length payload.now)) }
+    ensures spells { IfSome result (λ x. Spells x.1 (180 ∷ take x.0 payload.now)) }
+    ensures proper { IfSome result (λ x. IsProper x.1) }
+{
+    match payload {
+        [a, b, c, d, e, f, ..]
+            if *a >= 128 && *b >= 128 && *c >= 128 && *d >= 128 && *e >= 128 && *f < 128 => {
+            let value = u64::from(*a % 128)
+                + 128 * u64::from(*b % 128)
+                + 16384 * u64::from(*c % 128)
+                + 2_097_152 * u64::from(*d % 128)
+                + 268_435_456 * u64::from(*e % 128)
+                + 34_359_738_368 * u64::from(*f);
+            let packet = ItmPacket::GlobalSecond {
+                wide: true,
+                value: value % 0x40_0000_0000,
+            };
+            Some((6, packet))
         }
         _ => None,
     }

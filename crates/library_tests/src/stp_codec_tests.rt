@@ -1,7 +1,7 @@
 //! Captures and single packets, read by the bytes and by pieces.
 
 use std::process::Abort;
-use stp_codec::StpDecoder;
+use stp_codec::{StpDecoder, WINDOW};
 use stp_grammar::item::{Place, Stamp, StpItem};
 use stp_grammar::packet::{Order, Width};
 use trace_values::{Block, Fault, Machine, Reason, Step};
@@ -86,13 +86,24 @@ fn check(
     for size in [1, 3, 5000] {
         check_pieces(rt, decoder(order, hunts), bytes, size, told);
     }
+    let mut zeros = [0; 5000 + WINDOW];
+    let mut ones = [255; 5000 + WINDOW];
     for size in [1, 2, 3, 5, 8, 5000] {
-        check_parts(rt, decoder(order, hunts), bytes, size, told);
+        check_parts(rt, decoder(order, hunts), bytes, size, &mut zeros, told);
+        check_parts(rt, decoder(order, hunts), bytes, size, &mut ones, told);
     }
 }
 
-/// The bytes in runs of this size give these answers, where the part of a packet that a run has is taken at once.
-fn check_parts(rt: &impl Abort, decoder: StpDecoder, bytes: &[u8], size: usize, told: &[Told]) {
+/// The bytes in runs of this size give these answers, where the part of a packet that a run has is taken at once. It is
+/// copied to the front of `ahead`, where other bytes are behind it.
+fn check_parts(
+    rt: &impl Abort,
+    decoder: StpDecoder,
+    bytes: &[u8],
+    size: usize,
+    ahead: &mut [u8],
+    told: &[Told],
+) {
     let mut by_parts = decoder;
     let mut next = 0;
     let mut at = 0;
@@ -108,7 +119,10 @@ fn check_parts(rt: &impl Abort, decoder: StpDecoder, bytes: &[u8], size: usize, 
         } else {
             bytes.len()
         };
-        let step = match by_parts.take_part(&bytes[at..end]) {
+        let count = end - at;
+        assert!(rt; count < 5000 && count + WINDOW <= ahead.len());
+        ahead[..count].copy_from_slice(&bytes[at..end]);
+        let step = match by_parts.take_part(ahead, count) {
             Some(taken) => {
                 at += taken.bytes;
                 match taken.item {

@@ -1,11 +1,10 @@
 -- What the machine of a source stands for, and what it shows.
-use Rattle.std.specs.Prelude.{ℕ, List, Bool}
+use Rattle.std.specs.Prelude.{ℕ, List, Bool, true, false}
 use Rattle.trace_values.specs.Placed.{Placed}
 use Rattle.trace_values.specs.Stream.{Stream}
 use Rattle.capture_plan.specs.declared.packets.PacketsMode.{PacketsMode}
 use Rattle.capture_plan.specs.Modes.{packets_hunt}
 use Rattle.itm_codec.specs.Reading.{packets_in}
-use Rattle.itm_grammar.specs.declared.partial.Partial.{Partial}
 use Rattle.itm_codec.specs.Decoder as itm
 use Rattle.stp_grammar.specs.declared.packet.Order.{Order}
 use Rattle.stp_codec.specs.Reading.{items_in}
@@ -34,11 +33,6 @@ abbrev pub Stands : SourceMachine → List Placed → Type 0
 Stands (Itm decoder) u = itm.Stands decoder u
 Stands (Stp decoder) u = stp.Stands decoder u
 
--- the same, but that this is the unfinished packet of an ITM source
-abbrev pub StandsAs : SourceMachine → Partial → List Placed → Type 0
-StandsAs (Itm decoder) partial u = itm.StandsAs decoder partial u
-StandsAs (Stp decoder) partial u = ⊥
-
 -- it has met no fault
 abbrev pub is_live : SourceMachine → Bool
 is_live (Itm decoder) = itm.is_live decoder
@@ -57,6 +51,11 @@ held_of (Stp decoder) = stp.held_of decoder
 abbrev pub skipped_by : SourceMachine → ℕ
 skipped_by (Itm decoder) = itm.skipped_by decoder
 skipped_by (Stp decoder) = stp.skipped_by decoder
+
+-- it reads an STP source
+abbrev pub is_stp : SourceMachine → Bool
+is_stp (Itm decoder) = false
+is_stp (Stp decoder) = true
 
 -- its units are bytes, or nibbles
 abbrev pub units_by : SourceMachine → ℕ

@@ -32,11 +32,11 @@ pub shows : (m : SourceMachine) (u : List Placed) → Stands m u →
     Shows (is_live m) (has_locked m) (held_of m) (skipped_by m) (length u) (reading_of m u)
 shows (Itm d) u s =
     shows_as ItmPacket _ _ _ _ _ _
-    (modes.shows pattern Sync (by_unit rule) Header count_of refl counting.counts_placed d.mode d.live d.partial u s)
+    (modes.shows pattern Sync (by_unit rule) Header count_of refl counting.counts_placed d.mode d.live (itm.partial_of d) u s)
 shows (Stp d) u s =
     shows_as StpPacket _ _ _ _ _ _
     (nibbles.shows stp_pattern Async (by_unit (stp_rule d.order)) Start attribute [] stp_count refl
-    (stp_counting.counts_placed d.order) d.mode d.live d.partial u s.0)
+    (stp_counting.counts_placed d.order) d.mode d.live (stp.partial_of d) u s.0)
 
 pub begins : (m : SourceMachine) → ((reading_of m []).given ≡ []) × ((reading_of m []).fault ≡ None)
 begins (Itm d) =
@@ -75,9 +75,9 @@ pub keeps : (m : SourceMachine) (u : List Placed) (at byte : ℕ) → Stands m (
     is_live m ≡ false → (reading_of m u).fault ≡ None →
     ((reading_of m u).held ≤ held_of m) × (held_of m < (reading_of m u).held + units_by m)
 keeps (Itm d) u at byte s l f =
-    falling.keeps_one pattern Sync (by_unit rule) Header count_of refl counting.counts_placed d.mode d.live d.partial u
+    falling.keeps_one pattern Sync (by_unit rule) Header count_of refl counting.counts_placed d.mode d.live (itm.partial_of d) u
     (byte_at at byte) s l f
 keeps (Stp d) u at byte s l f =
     nibbles.keeps stp_pattern Async (by_unit (stp_rule d.order)) Start attribute []
     (stp_falling.begins d.order) stp_count refl
-    (stp_counting.counts_placed d.order) d.mode d.live d.partial u at byte s.0 l f
+    (stp_counting.counts_placed d.order) d.mode d.live (stp.partial_of d) u at byte s.0 l f

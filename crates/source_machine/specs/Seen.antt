@@ -6,7 +6,7 @@ use Rattle.trace_values.specs.declared.block.Block.{Block}
 use Rattle.stp_grammar.specs.declared.item.StpItem.{StpItem}
 use Rattle.source_events.specs.declared.packet.Packet.{Packet}
 use Rattle.source_events.specs.declared.packet.Packet.TheVariants.{Stp}
-use Rattle.itm_codec.specs.declared.cut.Cut.{Cut}
+use Rattle.itm_codec.specs.declared.decoder.PartTaken.{PartTaken}
 use Rattle.std.specs.Option.{option_map}
 
 abbrev pub step_as : {V W : Type 0} → (V → W) → Step V → Step W
@@ -30,5 +30,5 @@ packet_in half None = None
 packet_in half (Some item) = Some (Item half (Stp item))
 
 -- of a part of a packet
-abbrev pub cut_as : {V W : Type 0} → (V → W) → Cut V → Cut W
-cut_as f cut = record { bytes = cut.bytes; partial = cut.partial; packet = option_map f cut.packet }
+abbrev pub part_as : {V W : Type 0} → (V → W) → PartTaken V → PartTaken W
+part_as f part = record { bytes = part.bytes; packet = option_map f part.packet }

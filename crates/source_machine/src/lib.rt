@@ -3,4 +3,4 @@
 
 mod machine;
 
-pub use machine::SourceMachine;
+pub use machine::{AHEAD, ItmParts, PartsOf, SourceMachine, StpParts};

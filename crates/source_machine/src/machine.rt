@@ -2,19 +2,46 @@
 
 ghost use Rattle.std.specs.Prelude.{◌≡◌};
 ghost use Rattle.source_events.specs.declared.packet.Packet.TheVariants.{Itm, Stp};
-ghost use Rattle.std.specs.Option.{option_map};
-ghost use Rattle.source_machine.specs.Seen.{block_as, cut_as, step_as, packet_in};
+ghost use Rattle.source_machine.specs.Seen.{block_as, part_as, step_as, packet_in};
 ghost use Rattle.trace_values.specs.declared.limits.TheConstants.{COUNT_ROOM};
 
 use capture_plan::PacketsMode;
-use itm_codec::{Cut, ItmDecoder};
+use itm_codec::{ItmDecoder, PartTaken};
 use itm_grammar::packet::ItmPacket;
-use itm_grammar::partial::Partial;
 use source_events::{Packet, SourceKind};
 use stp_codec::{PacketParts, PacketTaken, StpDecoder};
 use stp_grammar::item::StpItem;
 use stp_grammar::packet::Order;
 use trace_values::{Block, Machine, Step};
+
+/// How many bytes are there behind those of a part that is taken at once, whatever they are.
+pub const AHEAD: usize = 24;
+
+/// A kind of sources for which code is made that takes parts of packets, so that it holds no code of the other kind.
+pub trait PartsOf {
+    /// They are STP sources, and else ITM sources.
+    fn are_stp() -> bool;
+}
+
+/// ITM sources.
+pub struct ItmParts;
+
+impl PartsOf for ItmParts {
+    #[inline(always)]
+    fn are_stp() -> bool {
+        false
+    }
+}
+
+/// STP sources.
+pub struct StpParts;
+
+impl PartsOf for StpParts {
+    #[inline(always)]
+    fn are_stp() -> bool {
+        true
+    }
+}
 
 /// What reads the bytes of a mapped source.
 #[derive(Drop)]
@@ -64,19 +91,15 @@ fn itm_block(block: Block<ItmPacket>) -> Block<Packet>
 
 /// The same of a part of a packet.
 #[inline(always)]
-fn itm_cut(cut: Option<Cut<ItmPacket>>) -> Option<Cut<Packet>>
-    ensures { result ≡ option_map (cut_as Itm) cut }
+fn itm_part(part: PartTaken<ItmPacket>) -> PartTaken<Packet>
+    ensures { result ≡ part_as Itm part }
 {
-    match cut {
-        None => None,
-        Some(cut) => Some(Cut {
-            bytes: cut.bytes,
-            partial: cut.partial,
-            packet: match cut.packet {
-                None => None,
-                Some(packet) => Some(Packet::Itm(packet)),
-            },
-        }),
+    PartTaken {
+        bytes: part.bytes,
+        packet: match part.packet {
+            None => None,
+            Some(packet) => Some(Packet::Itm(packet)),
+        },
     }
 }
 
@@ -120,16 +143,16 @@ fn stp_block(block: Block<StpItem>) -> Block<Packet>
 }
 
 impl SourceMachine {
-    ghost use Rattle.std.specs.Prelude.{ℕ, ◌+◌, ◌*◌, ◌^◌, ◌<◌, ◌≤◌, ◌++◌, ◌∷◌, List, [], length, take, max, IfSome};
+    ghost use Rattle.std.specs.Prelude.{ℕ, ◌+◌, ◌*◌, ◌^◌, ◌<◌, ◌≤◌, ◌++◌, ◌∷◌, List, [], length, take, IfSome};
     ghost use Rattle.std.specs.Prelude.{None, true};
     ghost use Rattle.stp_codec.specs.Cuts.{Passes};
     ghost use Rattle.trace_values.specs.Placed.{Placed, units_of};
     ghost use Rattle.trace_values.specs.Stream.{StepFits, LocksAfter};
     ghost use Rattle.trace_values.specs.Block.{Takes, StopsFor, goes_on_after};
     ghost use Rattle.itm_codec.specs.Wholes.{Cuts, Gives};
-    ghost use Rattle.itm_grammar.specs.Rule.{is_sound, count_of};
+    ghost use Rattle.source_machine.specs.declared.machine.TheConstants.{AHEAD};
     ghost use Rattle.source_events.specs.Fitting.{PacketFits};
-    ghost use Rattle.source_machine.specs.Machine.{reading_of, reading_by, Stands, StandsAs, is_live, held_of};
+    ghost use Rattle.source_machine.specs.Machine.{reading_of, reading_by, Stands, is_live, is_stp, held_of};
     ghost use Rattle.source_machine.specs.Machine.{skipped_by};
     ghost use Rattle.source_machine.specs.Machine.{FinishesStp};
 
@@ -209,68 +232,84 @@ impl SourceMachine {
         }
     }
 
-    /// Takes bytes of an STP source at once, wherever they are: those within the unfinished packet up to the one in
-    /// which it ends, with all of that byte, or all of them. It is live, and has room for all their nibbles.
-    ///
-    /// None where the reading has not begun, where a nibble is a fault, of no bytes, and for an ITM source: then it is
-    /// as before.
+    /// It reads an STP source.
     #[inline(always)]
-    pub fn take_part(&mut self, bytes: &[u8]) -> Option<PacketTaken>
+    pub fn is_stp(&self) -> bool
+        ensures { result ≡ is_stp self.now }
+    {
+        match self {
+            SourceMachine::Itm(_) => false,
+            SourceMachine::Stp(_) => true,
+        }
+    }
+
+    /// Takes the first `count` of these bytes of an ITM source at once, wherever they are: those within the unfinished
+    /// packet up to the one that ends it, or all of them. It is live, and has room for all of them. What the bytes
+    /// behind them are is of no account.
+    ///
+    /// None in a hunt, where the first of them is a fault, of no bytes, for an STP source, and in code for those: then it
+    /// stands for what it stood for.
+    #[inline(always)]
+    pub fn take_itm<K: PartsOf>(&mut self, ahead: &[u8], count: usize) -> Option<PartTaken<Packet>>
         requires live { is_live self.old ≡ true }
-        requires room { held_of self.old + skipped_by self.old + 2 * length bytes.now ≤ COUNT_ROOM }
+        requires room { held_of self.old + skipped_by self.old + 2 * count ≤ COUNT_ROOM }
+        requires ahead { count + AHEAD ≤ length ahead.now }
         ensures same { reading_of self.new ≡ reading_of self.old }
-        ensures bytes { IfSome result (λ taken. (0 < taken.bytes) × (taken.bytes ≤ length bytes.now)) }
+        ensures bytes { IfSome result (λ part. (0 < part.bytes) × (part.bytes ≤ count)) }
+        ensures cuts { (u front : List Placed) (last : Placed) → Stands self.old u →
+            IfSome result (λ part. units_of (front ++ last ∷ []) ≡ take part.bytes ahead.now →
+            Cuts (reading_of self.old) (Stands self.new) u front last part.packet) }
+        ensures live { is_live self.new ≡ true }
+        ensures fits { IfSome result (λ part. IfSome part.packet PacketFits) }
+        ensures few { IfSome result (λ part. held_of self.new + skipped_by self.new ≤
+            held_of self.old + skipped_by self.old + 2 * part.bytes) }
+        ensures none { result ≡ None → ((u : List Placed) → Stands self.old u → Stands self.new u)
+            × (held_of self.new ≡ held_of self.old) × (skipped_by self.new ≡ skipped_by self.old) }
+    {
+        if K::are_stp() {
+            return None;
+        }
+        match self {
+            SourceMachine::Itm(decoder) => {
+                let part = decoder.take_part(ahead, count)?;
+                Some(itm_part(part))
+            }
+            SourceMachine::Stp(_) => None,
+        }
+    }
+
+    /// Takes the first `count` of these bytes of an STP source at once, wherever they are: those within the unfinished
+    /// packet up to the one in which it ends, with all of that byte, or all of them. It is live, and has room for all
+    /// their nibbles. What the bytes behind them are is of no account.
+    ///
+    /// None where the reading has not begun, where a nibble is a fault, of no bytes, for an ITM source, and in code for
+    /// those: then it stands for what it stood for.
+    #[inline(always)]
+    pub fn take_stp<K: PartsOf>(&mut self, ahead: &[u8], count: usize) -> Option<PacketTaken>
+        requires live { is_live self.old ≡ true }
+        requires room { held_of self.old + skipped_by self.old + 2 * count ≤ COUNT_ROOM }
+        requires ahead { count + AHEAD ≤ length ahead.now }
+        ensures same { reading_of self.new ≡ reading_of self.old }
+        ensures bytes { IfSome result (λ taken. (0 < taken.bytes) × (taken.bytes ≤ count)) }
         ensures passes { (u front : List Placed) (last : Placed) → Stands self.old u →
-            IfSome result (λ taken. units_of (front ++ last ∷ []) ≡ take taken.bytes bytes.now →
+            IfSome result (λ taken. units_of (front ++ last ∷ []) ≡ take taken.bytes ahead.now →
             Passes (reading_of self.old) (Stands self.new) u front last (packet_in taken.half taken.item)) }
         ensures live { is_live self.new ≡ true }
         ensures fits { IfSome result (λ taken. IfSome (packet_in taken.half taken.item) (StepFits PacketFits)) }
         ensures few { IfSome result (λ taken. held_of self.new + skipped_by self.new ≤
             held_of self.old + skipped_by self.old + 2 * taken.bytes) }
-        ensures none { result ≡ None → self.new ≡ self.old }
+        ensures none { result ≡ None → ((u : List Placed) → Stands self.old u → Stands self.new u)
+            × (held_of self.new ≡ held_of self.old) × (skipped_by self.new ≡ skipped_by self.old) }
     {
+        if !K::are_stp() {
+            return None;
+        }
         match self {
             SourceMachine::Itm(_) => None,
-            SourceMachine::Stp(decoder) => decoder.take_part(bytes),
-        }
-    }
-
-    /// What these bytes make of the unfinished packet of an ITM source: they are taken up to the one that ends it.
-    /// Wherever they are, a machine that takes them gives this packet at the last of them, or nothing where none is
-    /// ended, and keeps what is unfinished after them (`keep_partial`).
-    ///
-    /// None says nothing of the bytes: in a hunt, where the first of them is a fault, and for an STP source.
-    #[inline(always)]
-    pub fn next_cut(&self, bytes: &[u8]) -> Option<Cut<Packet>>
-        requires live { is_live self.now ≡ true }
-        requires room { held_of self.now + length bytes.now ≤ COUNT_ROOM }
-        ensures bytes { IfSome result (λ x. (0 < x.bytes) × (x.bytes ≤ length bytes.now)) }
-        ensures fits { IfSome result (λ x. IfSome x.packet PacketFits) }
-        ensures sound { IfSome result (λ x. is_sound x.partial ≡ true) }
-        ensures few { IfSome result (λ x. count_of x.partial ≤ held_of self.now + x.bytes) }
-        ensures cuts { (u front : List Placed) (last : Placed) → Stands self.now u →
-            IfSome result (λ x. units_of (front ++ last ∷ []) ≡ take x.bytes bytes.now →
-            Cuts (reading_of self.now) (StandsAs self.now x.partial) u front last x.packet) }
-    {
-        match self {
-            SourceMachine::Itm(decoder) => itm_cut(decoder.next_cut(bytes)),
-            SourceMachine::Stp(_) => None,
-        }
-    }
-
-    /// Keeps this unfinished packet of an ITM source, as it is after bytes that were taken by `next_cut`.
-    #[inline(always)]
-    pub fn keep_partial(&mut self, partial: Partial)
-        requires { is_sound partial ≡ true }
-        ensures stands { (u : List Placed) → StandsAs self.old partial u → Stands self.new u }
-        ensures same { reading_of self.new ≡ reading_of self.old }
-        ensures live { is_live self.new ≡ is_live self.old }
-        ensures held { held_of self.new ≤ max (held_of self.old) (count_of partial) }
-        ensures skipped { skipped_by self.new ≡ skipped_by self.old }
-    {
-        match self {
-            SourceMachine::Itm(decoder) => decoder.keep_partial(partial),
-            SourceMachine::Stp(_) => {}
+            SourceMachine::Stp(decoder) => {
+                let taken = decoder.take_part(ahead, count)?;
+                Some(taken)
+            }
         }
     }
 

@@ -1,5 +1,6 @@
 -- The cells of a frame that names no source.
 use Rattle.std.proofs.Common.{◌≡◌, ℕ, zero, suc, ◌<◌, ◌≤◌, List, [], ◌∷◌, length, take, get_or, refl, sym, ◌∙◌, ap, arith, Option, Some}
+use Rattle.std.proofs.lemmas.List.{length-take-le}
 use Rattle.trace_values.specs.declared.cell.Cell.{Cell}
 use Rattle.source_events.specs.Runs.{bytes_of, id_of, joined, runs_of, RisesFrom, IsRunFrom}
 use Rattle.source_merge.specs.Data.{data_cells, run_cells}
@@ -74,8 +75,12 @@ pub run_from : (n : ℕ) (cells : List Cell) → 0 < length cells → RisesFrom 
 run_from n [] l r = absurd (omega arith)
 run_from n (c ∷ cells) l r = r
 
-pub data_fits : (frame : DataFrame) → length frame.run.bytes ≤ length frame.run.offsets.now
-data_fits frame = (let a = frame.run.places in let b = frame.run.sized in omega arith)
+pub data_long : (frame : DataFrame) → length (take 15 frame.run.ahead) ≡ 15
+data_long frame = length-take-le 15 frame.run.ahead (let b = frame.run.sized in omega arith)
+
+pub data_fits : (frame : DataFrame) → length (take 15 frame.run.ahead) ≤ length frame.run.offsets.now
+data_fits frame = (let a = frame.run.places in let b = data_long frame in omega arith)
 
 pub data_size : (frame : DataFrame) → length (data_in frame) ≡ 15
-data_size frame = data_length frame.run.offsets.now (Some frame.run.source) frame.run.bytes (data_fits frame) ∙ frame.run.sized
+data_size frame =
+    data_length frame.run.offsets.now (Some frame.run.source) (take 15 frame.run.ahead) (data_fits frame) ∙ data_long frame

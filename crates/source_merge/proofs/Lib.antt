@@ -1,6 +1,7 @@
 pub mod Givings
 pub mod Plainly
 pub mod DataCells
+pub mod RunCells
 pub mod Filling
 pub mod ByParts
 pub mod RunSteps

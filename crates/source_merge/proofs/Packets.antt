@@ -1,7 +1,7 @@
 -- A packet whose bytes are all in a run.
 use Rattle.std.proofs.Common.{◌≡◌, ℕ, ◌+◌, ◌-◌, ◌<◌, ◌≤◌, List, [], ◌∷◌, ◌++◌, length, take, drop, get_or, refl, sym, ◌∙◌, ap, subst, append_assoc, arith, Option, Some, None, false}
 use Rattle.std.specs.Prelude.{is_none}
-use Rattle.std.proofs.lemmas.List.{take_more, take-append-drop, take-map, drop-map, get_or-drop, length-drop, length-take-le, take_all}
+use Rattle.std.proofs.lemmas.List.{take_more, take-append-drop, take-map, drop-map, drop-take, take-take, take_rest, get_or-drop, length-drop, length-take-le}
 use Rattle.std.proofs.Math.Seq.{take-append-add}
 use Rattle.trace_values.specs.declared.cell.Cell.{Cell}
 use Rattle.trace_values.specs.declared.fault.Reason.{Reason}
@@ -9,42 +9,18 @@ use Rattle.trace_values.specs.declared.step.Step.TheVariants.{Item}
 use Rattle.trace_values.specs.declared.step.Step.{Step}
 use Rattle.trace_values.specs.Block.{Takes, given_after}
 use Rattle.trace_values.specs.Placed.{Place, Placed, byte_at, placed_from, units_of}
-use Rattle.trace_values.specs.Stream.{Said, Stream, Settled, Kept}
+use Rattle.trace_values.specs.Stream.{Said, Stream, Settled}
 use Rattle.trace_values.proofs.Blocks.{next_placed}
 use Rattle.trace_values.proofs.Placing.{units_push}
 use Rattle.itm_codec.specs.Wholes.{Cuts, Gives, kept_at}
 use Rattle.stp_codec.specs.Cuts.{Passes}
 use Rattle.source_events.specs.declared.event.Event.{Event}
-use Rattle.source_events.specs.declared.event.What.TheVariants.{Packet}
 use Rattle.source_events.specs.Runs.{placed_run, bytes_of}
 use Rattle.source_events.specs.Merge.{told}
 use Rattle.source_events.specs.Report.{lifted}
 use Rattle.source_events.proofs.Merges.{told_append}
 use Rattle.source_merge.proofs.ByParts.{FeedsBy}
 use Rattle.source_merge.proofs.RunSteps.{placed_more, lifted_append}
-
--- the event of a packet of this source that ends with a cell
-abbrev pub packet_event : {V : Type 0} → ℕ → Cell → V → Event V
-packet_event id last packet = record { at = last.at; half = 0; source = Some id; what = Packet packet }
-
-pub feeds_packet : {V : Type 0} (reading : List Placed → Stream V) (u : List Placed) (id : ℕ) (stands : List Placed → Type 0) (done front : List Cell) (last : Cell)
-    (packet : V) (old mid new : List (Event V)) → FeedsBy reading stands u done id old mid None →
-    ((w : List Placed) → stands w → Gives reading stands w (placed_run front) (byte_at last.at last.byte) packet) →
-    new ≡ mid ++ packet_event id last packet ∷ [] → FeedsBy reading stands u (done ++ (front ++ last ∷ [])) id old new None
-feeds_packet {V} reading u id stands done front last packet old mid new f gives n =
-    let more : List (Said V × Place) = (Kept packet, record { at = last.at; half = 0 }) ∷ [] in
-    let g = gives (u ++ placed_run done) (f.list refl) in
-    let all : (u ++ placed_run done) ++ (placed_run front ++ byte_at last.at last.byte ∷ []) ≡ u ++ placed_run (done ++ (front ++ last ∷ [])) =
-    append_assoc u (placed_run done) (placed_run front ++ byte_at last.at last.byte ∷ [])
-    ∙ ap (λ (l : List Placed). u ++ l) (sym (placed_more done (front ++ last ∷ []) ∙ ap (λ (l : List Placed). placed_run done ++ l) (placed_more front (last ∷ [])))) in
-    record {
-      given = f.given ++ more;
-      events = n ∙ ap (λ l. l ++ told (Some id) (lifted more)) f.events ∙ append_assoc old (told (Some id) (lifted f.given)) (told (Some id) (lifted more))
-          ∙ ap (λ l. old ++ l) (sym (told_append (Some id) (lifted f.given) (lifted more)) ∙ ap (told (Some id)) (sym (lifted_append f.given more)));
-      grew = ap (λ (l : List Placed). (reading l).given) (sym all) ∙ g.given ∙ ap (λ l. l ++ more) f.grew ∙ append_assoc (reading u).given f.given more;
-      fault_is = ap (λ (l : List Placed). (reading l).fault) (sym all) ∙ g.sound;
-      list = λ k. subst stands all g.list;
-    }
 
 -- cells that give this at the last of them
 feeds_given : {V : Type 0} (reading : List Placed → Stream V) (u : List Placed) (id : ℕ) (was now : List Placed → Type 0) (done front : List Cell) (last : Cell)
@@ -85,11 +61,6 @@ feeds_part reading u id was now done front last step old mid new f passes n =
     feeds_given reading u id was now done front last (given_after last.at step) old mid new f
     (λ w k. let g = passes w k in (g.list, g.given, g.sound)) n
 
--- what stands for more lists
-pub cut_stands : {V : Type 0} (reading : List Placed → Stream V) (was now : List Placed → Type 0) (u front : List Placed) (last : Placed) (packet : Option V) →
-    ((w : List Placed) → was w → now w) → Cuts reading was u front last packet → Cuts reading now u front last packet
-cut_stands reading was now u front last packet f c = record { list = f (u ++ (front ++ last ∷ [])) c.list; given = c.given; sound = c.sound }
-
 -- this many cells after those that are done
 module _ (run : List Cell) (done count : ℕ) (last : Cell) (some : 0 < count) (within : done + count ≤ length run) (is : last ≡ get_or run (done + count - 1) last) where
   abbrev pub front : List Cell
@@ -109,12 +80,18 @@ module _ (run : List Cell) (done count : ℕ) (last : Cell) (some : 0 < count) (
       ∙ take-append-add (take done run) (drop done run) count
       ∙ ap (λ (l : List Cell). take done run ++ l) last_parts
 
-  -- the bytes that are looked at from there on
-  pub packet_units : (bytes : List ℕ) → bytes ≡ bytes_of run → units_of (placed_run front ++ byte_at last.at last.byte ∷ []) ≡ take count (take (length bytes - done) (drop done bytes))
-  packet_units bytes e =
+  -- the bytes that are looked at from there on, with others behind them
+  pub packet_units : (ahead : List ℕ) → take (length run) ahead ≡ bytes_of run → length run ≤ length ahead →
+      units_of (placed_run front ++ byte_at last.at last.byte ∷ []) ≡ take count (take (length ahead - done) (drop done ahead))
+  packet_units ahead e long =
+      let rest : ℕ = length run - (done + count) in
+      let all : length run ≡ (done + count) + rest = omega arith in
       ap units_of (sym (placed_more front (last ∷ []))) ∙ units_run (front ++ last ∷ []) ∙ ap bytes_of (sym last_parts)
       ∙ sym (ap (take count) (ap (drop done) e ∙ drop-map (λ (c : Cell). c.byte) done run) ∙ take-map (λ (c : Cell). c.byte) count (drop done run))
-      ∙ ap (take count) (sym (take_all (length bytes - done) (drop done bytes) (let k = length-drop done bytes in omega arith))) where
+      ∙ ap (λ (n : ℕ). take count (drop done (take n ahead))) (let z : length run ≡ done + (count + rest) = omega arith in z)
+      ∙ ap (take count) (drop-take done (count + rest) ahead)
+      ∙ take-take count (count + rest) (drop done ahead) (omega arith)
+      ∙ ap (take count) (sym (take_rest ahead done)) where
         units_run : (l : List Cell) → units_of (placed_run l) ≡ bytes_of l
         units_run [] = refl
         units_run (c ∷ l) = ap (λ b. c.byte ∷ b) (units_run l)

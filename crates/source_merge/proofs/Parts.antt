@@ -62,7 +62,7 @@ module _ (xs ys : List Cell) (e : length xs ≡ run_length (xs ++ ys)) (some : 0
       (subst (λ (l : List Cell). IsRunFrom n l × RisesFrom (end_of l) (drop (length xs) (xs ++ ys))) (take_front xs ys)
       (first_at (xs ++ ys) (length xs) n e some r))
 
-module _ (offsets bytes : List ℕ) (places : length offsets ≡ 16) (sized : length bytes ≡ 16) where
+module _ (offsets bytes : List ℕ) (places : length offsets ≡ 16) (sized : length bytes ≡ 40) where
   part_places : (p : Part) → p.end ≤ 15 → length (drop p.from (take p.end offsets)) ≡ p.end - p.from
   part_places p h =
       let s = length-take-le p.end offsets (omega arith) in

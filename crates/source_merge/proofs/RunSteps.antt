@@ -93,3 +93,14 @@ module _ {V : Type 0} (reading : List Placed → Stream V) (u : List Placed) (id
         fault_is = ap (λ (l : List Placed). (reading l).fault) (sym all) ∙ s.fault ∙ f.fault_is;
         list = λ k. (let q = k in cc);
       }
+
+  -- what it stands for now it stood for before
+  pub feeds_kept : (was now : List Placed → Type 0) (done : List Cell) (old new : List (Event V)) (fault : Option Fault) →
+      ((w : List Placed) → was w → now w) → FeedsBy reading was u done id old new fault → FeedsBy reading now u done id old new fault
+  feeds_kept was now done old new fault kept f = record {
+    given = f.given;
+    events = f.events;
+    grew = f.grew;
+    fault_is = f.fault_is;
+    list = λ k. kept (u ++ placed_run done) (f.list k);
+  }

@@ -137,7 +137,7 @@ module _ (frame at : List ℕ) (id : Option ℕ) where
     long : length split.offsets ≡ 16
     long = split.places
 
-    wide : length split.bytes ≡ 16
+    wide : length split.bytes ≡ 40
     wide = split.sized
 
     -- the two bytes are data
@@ -191,7 +191,7 @@ module _ (frame at : List ℕ) (id : Option ℕ) where
       os_long : length os ≡ 16
       os_long = length-set split.offsets (2 * pair) _ ∙ long
 
-      bs_wide : length bs ≡ 16
+      bs_wide : length bs ≡ 40
       bs_wide = length-set split.bytes (2 * pair) _ ∙ wide
 
       -- in effect at once

@@ -23,7 +23,7 @@ use crate::run::{CellRun, Run};
 use crate::slot::{Slot, event_at, feed_machine, give};
 use arrayvec::ArrayVec;
 use source_events::{Packet, RunBytes, Stop, What, run_length};
-use source_machine::SourceMachine;
+use source_machine::{ItmParts, SourceMachine, StpParts};
 use trace_values::{Cell, Fault, SourceId};
 
 /// The null source, whose bytes only fill frames.
@@ -133,7 +133,12 @@ fn feed_slot<R: Run, V: Receiver>(
     ensures space { V.room (out.old, to.old) ≤ V.room (out.new, to.new) + 2 * length (R.cells run.now) }
     ensures count { total_of items.new ≤ total_of items.old + 2 * length (R.cells run.now) }
 {
-    feed_machine(&mut slots[index].machine, id, run, items, out, to)
+    let machine = &mut slots[index].machine;
+    if machine.is_stp() {
+        feed_machine::<StpParts, R, V>(machine, id, run, items, out, to)
+    } else {
+        feed_machine::<ItmParts, R, V>(machine, id, run, items, out, to)
+    }
 }
 
 /// Takes a run of the mapped source whose slot has this index.

@@ -1,6 +1,8 @@
 //! The bytes of a run, and where they are.
 
-ghost use Rattle.std.specs.Prelude.{◌≡◌, ◌+◌, ◌≤◌, ◌<◌, List, length, get_or};
+ghost use Rattle.std.specs.Prelude.{◌≡◌, ◌+◌, ◌≤◌, ◌<◌, List, length, take, get_or};
+ghost use Rattle.source_machine.specs.declared.machine.TheConstants.{AHEAD};
+ghost use Rattle.source_merge.specs.declared.run.TheConstants.{ROOM};
 ghost use Rattle.trace_values.specs.declared.cell.Cell.{Cell};
 ghost use Rattle.source_events.specs.Runs.{bytes_of};
 
@@ -22,9 +24,10 @@ pub trait Run {
         ensures value { result ≡ length (cells self.now) }
         ensures few { result ≤ 15 };
 
-    /// Its bytes.
-    fn bytes(&self) -> &[u8]
-        ensures { result.now ≡ bytes_of (cells self.now) };
+    /// Its bytes, with `AHEAD` more behind them, whatever these are.
+    fn ahead(&self) -> &[u8]
+        ensures bytes { take (length (cells self.now)) result.now ≡ bytes_of (cells self.now) }
+        ensures room { length (cells self.now) + AHEAD ≤ length result.now };
 
     /// The cell at an index.
     fn cell(&self, index: usize) -> Cell
@@ -32,13 +35,17 @@ pub trait Run {
         ensures { result ≡ get_or (cells self.now) index result };
 }
 
+/// How many bytes are kept of a run or of a frame: at most 15 of a run, and `AHEAD` more.
+pub const ROOM: usize = 40;
+
 /// The cells of a run, with their bytes one after the other.
 #[derive(Drop)]
 pub struct CellRun<'a> {
     cells: &'a [Cell],
-    bytes: RunBytes,
-    ghost same: { bytes ≡ bytes_of cells.now },
+    ahead: [u8; ROOM],
+    ghost same: { take (length cells.now) ahead ≡ bytes_of cells.now },
     ghost few: { length cells.now ≤ 15 },
+    ghost sized: { length ahead ≡ ROOM },
 }
 
 impl CellRun<'_> {
@@ -50,10 +57,10 @@ impl CellRun<'_> {
         requires { length cells.now ≤ 15 }
         ensures { cells_of result ≡ cells.now }
     {
-        CellRun {
-            cells,
-            bytes: RunBytes::of(cells),
-        }
+        let bytes = RunBytes::of(cells);
+        let mut ahead = [0; ROOM];
+        ahead[..cells.len()].copy_from_slice(bytes.as_slice());
+        CellRun { cells, ahead }
     }
 }
 
@@ -68,8 +75,8 @@ impl Run for CellRun<'_> {
     }
 
     #[inline(always)]
-    fn bytes(&self) -> &[u8] {
-        self.bytes.as_slice()
+    fn ahead(&self) -> &[u8] {
+        &self.ahead
     }
 
     #[inline(always)]
@@ -84,9 +91,10 @@ pub struct DataRun<'a> {
     source: SourceId,
     /// The offsets of the frame's bytes.
     offsets: &'a [u64; FRAME_BYTES],
-    bytes: [u8; DATA_BYTES],
+    /// Its bytes, and others behind them.
+    ahead: [u8; ROOM],
     ghost places: { length offsets.now ≡ 16 },
-    ghost sized: { length bytes ≡ 15 },
+    ghost sized: { length ahead ≡ ROOM },
 }
 
 impl<'a> DataRun<'a> {
@@ -104,10 +112,12 @@ impl<'a> DataRun<'a> {
         ensures cells { data_of result ≡ data_cells offsets.now (Some source) bytes }
         ensures source { source_of result ≡ source }
     {
+        let mut ahead = [0; ROOM];
+        ahead[..DATA_BYTES].copy_from_slice(&bytes);
         DataRun {
             source,
             offsets,
-            bytes,
+            ahead,
         }
     }
 
@@ -118,7 +128,7 @@ impl<'a> DataRun<'a> {
         ensures { part_of result ≡ data_of self.now }
     {
         let offsets = self.offsets;
-        PartRun::new(&Some(self.source), 0, &offsets[..DATA_BYTES], &self.bytes)
+        PartRun::new(&Some(self.source), 0, &offsets[..DATA_BYTES], &self.ahead)
     }
 
     /// The source.
@@ -137,32 +147,33 @@ pub struct PartRun<'a> {
     run: u8,
     /// The offsets of its bytes.
     places: &'a [u64],
-    bytes: &'a [u8],
-    ghost same: { length places.now ≡ length bytes.now },
-    ghost few: { length bytes.now ≤ 15 },
+    /// Its bytes, and others behind them.
+    ahead: &'a [u8],
+    ghost few: { length places.now ≤ 15 },
+    ghost room: { length places.now + AHEAD ≤ length ahead.now },
 }
 
 impl<'a> PartRun<'a> {
     ghost use Rattle.source_merge.specs.Run.{part_of};
     ghost use Rattle.source_merge.specs.Data.{run_cells};
 
-    /// These bytes of a source, or of none, at these offsets, with this run number.
+    /// These bytes of a source, or of none, at these offsets, with this run number, and others behind them.
     #[inline(always)]
     pub fn new(
         source: &Option<SourceId>,
         run: u8,
         places: &'a [u64],
-        bytes: &'a [u8],
+        ahead: &'a [u8],
     ) -> PartRun<'a>
-        requires same { length places.now ≡ length bytes.now }
-        requires few { length bytes.now ≤ 15 }
-        ensures { part_of result ≡ run_cells places.now source.now run bytes.now }
+        requires few { length places.now ≤ 15 }
+        requires room { length places.now + AHEAD ≤ length ahead.now }
+        ensures { part_of result ≡ run_cells places.now source.now run (take (length places.now) ahead.now) }
     {
         PartRun {
             source: *source,
             run,
             places,
-            bytes,
+            ahead,
         }
     }
 }
@@ -174,12 +185,12 @@ impl Run for PartRun<'_> {
 
     #[inline(always)]
     fn len(&self) -> usize {
-        self.bytes.len()
+        self.places.len()
     }
 
     #[inline(always)]
-    fn bytes(&self) -> &[u8] {
-        self.bytes
+    fn ahead(&self) -> &[u8] {
+        self.ahead
     }
 
     #[inline(always)]
@@ -188,7 +199,7 @@ impl Run for PartRun<'_> {
             at: self.places[index],
             id: self.source,
             run: self.run,
-            byte: self.bytes[index],
+            byte: self.ahead[index],
         }
     }
 }

@@ -21,7 +21,7 @@ use crate::run::Run;
 use arrayvec::ArrayVec;
 use capture_plan::PacketsMode;
 use source_events::{Event, Packet, SourceKind, What};
-use source_machine::SourceMachine;
+use source_machine::{PartsOf, SourceMachine};
 use stp_codec::PacketTaken;
 use stp_grammar::packet::Order;
 use trace_values::{Fault, Machine, PART_ROOM, SourceId, Step};
@@ -170,10 +170,10 @@ fn give_item<V: Receiver>(
     }
 }
 
-/// Feeds a run of this source to its machine, up to a fault, and gives its events. It takes a packet at once whose
-/// bytes are all in the run, and so it does the part of one that the run before it began, or the next one ends.
-#[inline]
-pub fn feed_machine<R: Run, V: Receiver>(
+/// Feeds a run of this source to its machine, up to a fault, and gives its events. It takes a packet at once, also one
+/// that runs before it began, and the part of one that the next run ends. It is fast for sources of this kind.
+#[inline(never)]
+pub fn feed_machine<K: PartsOf, R: Run, V: Receiver>(
     machine: &mut SourceMachine,
     source: SourceId,
     run: &R,
@@ -202,19 +202,15 @@ pub fn feed_machine<R: Run, V: Receiver>(
     ensures space { V.room (out.old, to.old) ≤ V.room (out.new, to.new) + 2 * length (R.cells run.now) }
     ensures count { total_of items.new ≤ total_of items.old + 2 * length (R.cells run.now) }
 {
-    let bytes = run.bytes();
+    let ahead = run.ahead();
     let mut done = 0;
     while done < run.len() {
-        if let Some((count, packet)) = machine.next_packet(&bytes[done..]) {
-            done += count;
+        let left = run.len() - done;
+        if let Some(part) = machine.take_itm::<K>(&ahead[done..], left) {
+            done += part.bytes;
             let at = run.cell(done - 1).at;
-            give_packet(items, out, to, source, at, Some(packet));
-        } else if let Some(cut) = machine.next_cut(&bytes[done..]) {
-            machine.keep_partial(cut.partial);
-            done += cut.bytes;
-            let at = run.cell(done - 1).at;
-            give_packet(items, out, to, source, at, cut.packet);
-        } else if let Some(taken) = machine.take_part(&bytes[done..]) {
+            give_packet(items, out, to, source, at, part.packet);
+        } else if let Some(taken) = machine.take_stp::<K>(&ahead[done..], left) {
             done += taken.bytes;
             let at = run.cell(done - 1).at;
             give_item(items, out, to, source, at, taken);

@@ -1,13 +1,14 @@
 //! A whole frame that is taken apart into the runs of its sources.
 
 ghost use Rattle.std.specs.Prelude.{◌≡◌, ◌≤◌, length};
+ghost use Rattle.source_merge.specs.declared.run.TheConstants.{ROOM};
 
 use crate::counts::{ByteCounts, PerSource};
 use crate::data::data_in_place;
 use crate::frame::FrameCells;
 use crate::receiver::Receiver;
 use crate::router::take_run;
-use crate::run::PartRun;
+use crate::run::{PartRun, ROOM};
 use crate::slot::Slot;
 use arrayvec::ArrayVec;
 use frame_grammar::frame::FRAME_BYTES;
@@ -41,14 +42,14 @@ struct Begun {
 #[derive(Drop)]
 pub struct SplitFrame {
     /// The data bytes in their places. The one after an ID byte that is in effect only after it is in the place of that
-    /// ID byte, so that each part has its bytes one after the other.
-    bytes: [u8; FRAME_BYTES],
+    /// ID byte, so that each part has its bytes one after the other. Behind them are bytes that are of no account.
+    bytes: [u8; ROOM],
     /// Their offsets.
     offsets: [u64; FRAME_BYTES],
     parts: ArrayVec<Part, PARTS>,
     /// The ID after the frame.
     after: Option<SourceId>,
-    ghost sized: { length bytes ≡ 16 },
+    ghost sized: { length bytes ≡ ROOM },
     ghost places: { length offsets ≡ 16 },
 }
 
@@ -72,8 +73,10 @@ impl SplitFrame {
         ensures offsets { result.offsets ≡ frame.now.offsets }
         ensures parts { result.parts.items ≡ [] }
     {
+        let mut bytes = [0; ROOM];
+        bytes[..FRAME_BYTES].copy_from_slice(&data_in_place(&frame.bytes));
         SplitFrame {
-            bytes: data_in_place(&frame.bytes),
+            bytes,
             offsets: frame.offsets,
             parts: ArrayVec::new(),
             after: None,
@@ -189,7 +192,7 @@ impl SplitFrame {
             &part.source,
             part.run,
             &self.offsets[..end][from..],
-            &self.bytes[..end][from..],
+            &self.bytes[from..],
         )
     }
 }

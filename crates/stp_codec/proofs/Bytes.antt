@@ -26,16 +26,16 @@ use Rattle.stp_grammar.specs.Attributed.{Stands as Attributes}
 use Rattle.stp_codec.specs.Reading.{pattern, packets_in, packets_of, items_at, items_in, rest_in}
 use Rattle.stp_codec.specs.Answers.{AnswersNibble, AnswersByte}
 use Rattle.stp_codec.specs.Wholes.{left_of}
-use Rattle.stp_codec.specs.Decoder.{StandsAt, Stands, nibble_at, EndsItem}
+use Rattle.stp_codec.specs.Decoder.{ReadsAt, Reads, nibble_at, EndsItem}
 
 -- the high nibble of a byte
 pub high_is : (at byte : ℕ) → byte < 256 → nibble_at at 1 (byte / 16) ≡ high_of at byte
 high_is at byte h = ap (nibble_at at 1) (let e : byte / 16 ≡ byte / 16 % 16 = omega arith in e)
 
 -- the list of a byte's nibbles is that of the byte
-pub of_byte : (d : StpDecoder) (u : List Placed) (at byte : ℕ) → byte < 256 → StandsAt d ((nibbles_of u ++ low_of at byte ∷ []) ++ nibble_at at 1 (byte / 16) ∷ []) → Stands d (u ++ byte_at at byte ∷ [])
+pub of_byte : (d : StpDecoder) (u : List Placed) (at byte : ℕ) → byte < 256 → ReadsAt d ((nibbles_of u ++ low_of at byte ∷ []) ++ nibble_at at 1 (byte / 16) ∷ []) → Reads d (u ++ byte_at at byte ∷ [])
 of_byte d u at byte h s =
-    subst (StandsAt d) (ap (λ b. (nibbles_of u ++ low_of at byte ∷ []) ++ b ∷ []) (high_is at byte h) ∙ sym (nibbles_push u at byte)) s
+    subst (ReadsAt d) (ap (λ b. (nibbles_of u ++ low_of at byte ∷ []) ++ b ∷ []) (high_is at byte h) ∙ sym (nibbles_push u at byte)) s
 
 -- the answer is an item or a lock
 abbrev pub IsGiven : Step StpItem → Type 0
@@ -80,15 +80,15 @@ grows_faulty order h u at byte s f e g =
     (laws.grows_fault_in pattern Async (by_unit (rule order)) Start attribute [] h u at byte f (ap is_none k.fault) k)
 
 -- after a fault in the low nibble
-pub faulty_list : (d : StpDecoder) (u : List Placed) (at byte : ℕ) → d.live ≡ false → StandsAt d (nibbles_of u ++ low_of at byte ∷ []) → Stands d (u ++ byte_at at byte ∷ [])
+pub faulty_list : (d : StpDecoder) (u : List Placed) (at byte : ℕ) → d.live ≡ false → ReadsAt d (nibbles_of u ++ low_of at byte ∷ []) → Reads d (u ++ byte_at at byte ∷ [])
 faulty_list d u at byte l s =
     let m = nibbles_of u ++ low_of at byte ∷ [] in
-    subst (StandsAt d) (sym (nibbles_push u at byte)) (
+    subst (ReadsAt d) (sym (nibbles_push u at byte)) (
       modes.dead-list pattern Async (by_unit (rule d.order)) Start d.mode d.live d.partial m (high_of at byte ∷ []) l s.0,
       subst (Attributes d.attribution) (sym (ap (λ g. carried attribute [] g) (modes.settles pattern Async (by_unit (rule d.order)) Start (hunts d.mode) m (high_of at byte ∷ []) (fault_is d m l s)).given)) s.1,
     )
   where
-    fault_is : (d : StpDecoder) (m : List Placed) → d.live ≡ false → StandsAt d m → is_none (packets_in d.order (hunts d.mode) m).fault ≡ false
+    fault_is : (d : StpDecoder) (m : List Placed) → d.live ≡ false → ReadsAt d m → is_none (packets_in d.order (hunts d.mode) m).fault ≡ false
     fault_is d m l s = sym (modes.shows pattern Async (by_unit (rule d.order)) Start count_of refl (counts_placed d.order) d.mode d.live d.partial m s.0).live_is ∙ l
 
 -- what a nibble says, by what it is

@@ -1,4 +1,6 @@
 pub mod Taking
+pub mod Unread
+pub mod Taken
 pub mod Bytes
 pub mod Answering
 pub mod Holding

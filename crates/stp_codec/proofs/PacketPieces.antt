@@ -43,7 +43,7 @@ pub units_nibbles : (u : List Placed) → units_of (nibbles_of u) ≡ nibbles_in
 units_nibbles [] = refl
 units_nibbles (b ∷ u) = ap (λ l. b.unit % 16 ∷ (b.unit / 16 % 16 ∷ l)) (units_nibbles u)
 
-take_nibbles : (k : ℕ) (bytes : List ℕ) → nibbles_in (take k bytes) ≡ take (2 * k) (nibbles_in bytes)
+pub take_nibbles : (k : ℕ) (bytes : List ℕ) → nibbles_in (take k bytes) ≡ take (2 * k) (nibbles_in bytes)
 take_nibbles zero bytes = refl
 take_nibbles (suc k) [] = ap (λ n. take n (nibbles_in [])) (let e : suc (suc (2 * k)) ≡ 2 * suc k = omega arith in e)
 take_nibbles (suc k) (b ∷ bytes) =

@@ -1,37 +1,61 @@
 -- What a decoder stands for, and what it shows.
-use Rattle.std.specs.Prelude.{◌≡◌, ℕ, ◌*◌, ◌<◌, ◌≤◌, List, length, Bool, true}
+use Rattle.std.specs.Prelude.{◌≡◌, ℕ, ◌+◌, ◌*◌, ◌<◌, ◌≤◌, List, [], ◌∷◌, ◌++◌, length, take, Bool, true, IfSome}
 use Rattle.trace_values.specs.declared.next.Next.TheVariants.{Go}
 use Rattle.trace_values.specs.declared.step.Step.{Step}
 use Rattle.trace_values.specs.declared.step.Step.TheVariants.{Item, Locked}
-use Rattle.trace_values.specs.Placed.{Placed}
+use Rattle.trace_values.specs.Placed.{Placed, units_of}
 use Rattle.trace_values.specs.Nibbles.{nibbles_of}
 use Rattle.trace_values.specs.Walk.{by_unit}
 use Rattle.trace_values.specs.Moded.{StandsIn, hunts, is_locked, skipped_of}
 use Rattle.stp_grammar.specs.declared.packet.Order.{Order}
+use Rattle.stp_grammar.specs.declared.packet.Order.TheVariants.{Msn}
 use Rattle.stp_grammar.specs.declared.packet.StpPacket.{StpPacket}
 use Rattle.stp_grammar.specs.declared.packet.StpPacket.TheVariants.{Async}
 use Rattle.stp_grammar.specs.declared.item.StpItem.{StpItem}
 use Rattle.stp_grammar.specs.declared.partial.Partial.{Partial}
 use Rattle.stp_grammar.specs.declared.partial.Partial.TheVariants.{Start}
-use Rattle.stp_grammar.specs.Proper.{IsProper}
+use Rattle.stp_grammar.specs.Proper.{IsProper, IsProperItem}
 use Rattle.stp_grammar.specs.Rule.{rule, count_of}
 use Rattle.stp_grammar.specs.Attributed as attributed
-use Rattle.stp_codec.specs.Reading.{pattern, packets_of}
-use Rattle.stp_codec.specs.Wholes.{Ends, between, nibbles_in}
+use Rattle.stp_codec.specs.Reading.{pattern, packets_of, items_in}
+use Rattle.stp_codec.specs.Wholes.{Ends, between, nibbles_in, reached, item_in}
+use Rattle.stp_codec.specs.Cuts.{Passes}
 use Rattle.stp_codec.specs.Parts.{packet_of}
 use Rattle.stp_codec.specs.declared.flat.PacketParts.{PacketParts}
+use Rattle.stp_codec.specs.declared.flat.TheConstants.{WINDOW}
+use Rattle.stp_codec.specs.declared.decoder.PacketTaken.{PacketTaken}
 use Rattle.stp_codec.specs.declared.decoder.StpDecoder.{StpDecoder}
 
--- Its parts are those of this list of nibbles: before its lock how far the hunt has come; else whether the reading has
--- no fault, and the unfinished packet; and what the packets so far say of the next item.
-abbrev pub StandsAt : StpDecoder → List Placed → Type 0
-StandsAt decoder n =
-    StandsIn pattern Async (by_unit (rule decoder.order)) Start decoder.mode decoder.live decoder.partial n
+-- the bytes that it took and has not read
+abbrev pub waiting_in : StpDecoder → List ℕ
+waiting_in decoder = take decoder.waiting decoder.held
+
+-- the unfinished packet
+abbrev pub partial_of : StpDecoder → Partial
+partial_of decoder = reached decoder.order decoder.partial (nibbles_in (waiting_in decoder))
+
+-- With this unfinished packet its parts are those of this list of nibbles: before its lock how far the hunt has come;
+-- else whether the reading has no fault, and the unfinished packet; and what the packets so far say of the next item.
+abbrev pub StandsWith : StpDecoder → Partial → List Placed → Type 0
+StandsWith decoder partial n =
+    StandsIn pattern Async (by_unit (rule decoder.order)) Start decoder.mode decoder.live partial n
     × attributed.Stands decoder.attribution (packets_of decoder.order (hunts decoder.mode) n)
+
+-- It stands for this list of nibbles.
+abbrev pub StandsAt : StpDecoder → List Placed → Type 0
+StandsAt decoder n = StandsWith decoder (partial_of decoder) n
 
 -- of this list of bytes
 abbrev pub Stands : StpDecoder → List Placed → Type 0
 Stands decoder u = StandsAt decoder (nibbles_of u)
+
+-- It stands for this list of nibbles by what it has read, where no bytes wait.
+abbrev pub ReadsAt : StpDecoder → List Placed → Type 0
+ReadsAt decoder n = StandsWith decoder decoder.partial n
+
+-- of this list of bytes
+abbrev pub Reads : StpDecoder → List Placed → Type 0
+Reads decoder u = ReadsAt decoder (nibbles_of u)
 
 -- the order of the nibbles of its numbers
 abbrev pub order_of : StpDecoder → Order
@@ -51,7 +75,11 @@ has_locked decoder = is_locked decoder.mode
 
 -- how many nibbles of an unfinished packet it holds
 abbrev pub held_of : StpDecoder → ℕ
-held_of decoder = count_of decoder.partial
+held_of decoder = count_of (partial_of decoder)
+
+-- how many of these it has read
+abbrev pub read_of : StpDecoder → ℕ
+read_of decoder = count_of decoder.partial
 
 -- how many nibbles are before its reading
 abbrev pub skipped_by : StpDecoder → ℕ
@@ -72,10 +100,56 @@ pub record Finishes (decoder : StpDecoder) (bytes : List ℕ) (nibbles : ℕ) (p
   pub locked : has_locked decoder ≡ true
   pub some : 0 < nibbles
   pub within : nibbles ≤ 2 * length bytes
-  pub whole : Ends decoder.order (Go decoder.partial) (between (nibbles_in bytes) 0 nibbles) packet
+  pub whole : Ends decoder.order (Go (partial_of decoder)) (between (nibbles_in bytes) 0 nibbles) packet
   pub proper : IsProper packet
 
 -- the packet of these parts is so finished
 pub record FinishesParts (decoder : StpDecoder) (bytes : List ℕ) (parts : PacketParts) : Type 0 where
   pub number : parts.number < 35
   pub packet : Finishes decoder bytes parts.nibbles (packet_of parts)
+
+-- It has read the bytes that waited.
+pub record Settles (old new : StpDecoder) : Type 0 where
+  pub order : new.order ≡ old.order
+  pub mode : new.mode ≡ old.mode
+  pub live : new.live ≡ old.live
+  pub attribution : new.attribution ≡ old.attribution
+  pub partial : new.partial ≡ partial_of old
+  pub none : new.waiting ≡ 0
+
+-- the first `more` of these bytes are behind those that wait
+abbrev pub HoldsAhead : StpDecoder → List ℕ → ℕ → Type 0
+HoldsAhead decoder ahead more = take (decoder.waiting + more) decoder.held ≡ waiting_in decoder ++ take more ahead
+
+-- Nothing changed but what is behind the bytes that wait: there are now these.
+pub record Copies (old new : StpDecoder) (ahead : List ℕ) : Type 0 where
+  pub order : new.order ≡ old.order
+  pub mode : new.mode ≡ old.mode
+  pub live : new.live ≡ old.live
+  pub attribution : new.attribution ≡ old.attribution
+  pub partial : new.partial ≡ old.partial
+  pub first : new.first ≡ old.first
+  pub waiting : new.waiting ≡ old.waiting
+  pub bytes : waiting_in new ≡ waiting_in old
+  pub behind : (more : ℕ) → more ≤ WINDOW → HoldsAhead new ahead more
+
+-- A packet that began can be read at once.
+pub record IsReady (decoder : StpDecoder) : Type 0 where
+  pub order : decoder.order ≡ Msn
+  pub first : decoder.first < 16
+  pub locked : has_locked decoder ≡ true
+
+-- Nothing was taken.
+abbrev pub Idles : StpDecoder → StpDecoder → Type 0
+Idles old new =
+    ((u : List Placed) → Stands old u → Stands new u)
+    × (held_of new ≡ held_of old) × (skipped_by new ≡ skipped_by old)
+
+-- Of the first `count` of these bytes this was taken.
+pub record TakesPart (old new : StpDecoder) (ahead : List ℕ) (count : ℕ) (taken : PacketTaken) : Type 0 where
+  pub bytes : (0 < taken.bytes) × (taken.bytes ≤ count)
+  pub passes : (u front : List Placed) (last : Placed) → Stands old u →
+      units_of (front ++ last ∷ []) ≡ take taken.bytes ahead →
+      Passes (items_in (order_of old) (is_hunter old)) (Stands new) u front last (item_in taken.half taken.item)
+  pub fits : IfSome taken.item IsProperItem
+  pub few : held_of new + skipped_by new ≤ held_of old + skipped_by old + 2 * taken.bytes

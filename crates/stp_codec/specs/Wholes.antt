@@ -8,7 +8,7 @@ use Rattle.trace_values.specs.declared.step.Step.TheVariants.{Item}
 use Rattle.trace_values.specs.Placed.{Placed}
 use Rattle.trace_values.specs.Stream.{Stream}
 use Rattle.trace_values.specs.Nibbles.{high_of}
-use Rattle.trace_values.specs.Walk.{Whole, after, walk}
+use Rattle.trace_values.specs.Walk.{Walked, Within, Whole, Beyond, Broken, after, walk}
 use Rattle.stp_grammar.specs.declared.packet.Order.{Order}
 use Rattle.stp_grammar.specs.declared.packet.StpPacket.{StpPacket}
 use Rattle.stp_grammar.specs.declared.item.StpItem.{StpItem}
@@ -32,6 +32,25 @@ number_from order count value (b ∷ r) = number_from order (count + 1) (number_
 -- after what the rule says, these nibbles end this packet
 abbrev pub Ends : Order → Next Partial StpPacket → List ℕ → StpPacket → Type 0
 Ends order next r packet = after next (λ t. walk (rule order) t r) r ≡ Whole packet
+
+-- the state to which a walk leads, where it leads to one
+abbrev pub state_of : Walked Partial StpPacket → Partial
+state_of (Within t) = t
+state_of (Whole packet) = Start
+state_of Beyond = Start
+state_of (Broken reason) = Start
+
+-- what is unfinished after these nibbles
+abbrev pub reached : Order → Partial → List ℕ → Partial
+reached order s r = state_of (walk (rule order) s r)
+
+-- none of these nibbles ends it, and none is a fault
+abbrev pub Fronts : Order → Partial → List ℕ → Type 0
+Fronts order s r = walk (rule order) s r ≡ Within (reached order s r)
+
+-- the rule says that this is unfinished
+abbrev pub GoesOn : Next Partial StpPacket → Type 0
+GoesOn next = (t : Partial) × (next ≡ Go t)
 
 -- what is left of a byte after this half of it: its high nibble after the low one, and else nothing
 abbrev pub left_of : ℕ → ℕ → ℕ → List Placed

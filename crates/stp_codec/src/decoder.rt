@@ -1,15 +1,19 @@
 //! The decoder of STP packets.
 
-ghost use Rattle.std.specs.Prelude.{◌≡◌, ◌<◌, true};
-ghost use Rattle.trace_values.specs.Moded.{is_counted};
+ghost use Rattle.std.specs.Prelude.{◌≡◌, ◌<◌, ◌≤◌, true, length, take};
+ghost use Rattle.trace_values.specs.Moded.{is_counted, is_locked};
 ghost use Rattle.stp_grammar.specs.Rule.{is_sound};
 ghost use Rattle.stp_codec.specs.Reading.{pattern};
-ghost use Rattle.stp_codec.specs.Wholes.{item_in, left_by};
+ghost use Rattle.stp_grammar.specs.declared.packet.Order.TheVariants.{Msn};
+ghost use Rattle.stp_codec.specs.Wholes.{item_in, left_by, nibbles_in, Fronts};
+ghost use Rattle.stp_codec.specs.declared.flat.TheConstants.{WINDOW};
 ghost use Rattle.trace_values.specs.declared.limits.TheConstants.{COUNT_ROOM};
+ghost use Rattle.stp_codec.specs.declared.decoder.TheConstants.{ROOM};
 
 use crate::cut::{Cut, cut_packet};
 use crate::flat::{PacketParts, WINDOW, parts_from_first};
 use crate::inside::inside;
+use crate::waiting::with_bytes;
 use crate::whole::{after_first, whole_packet};
 use stp_grammar::attribution::Attribution;
 use stp_grammar::item::StpItem;
@@ -27,20 +31,35 @@ const ASYNC: Pattern = Pattern {
 /// In the place of a packet's first nibble where more came of it.
 const MANY: u8 = 16;
 
+/// Bytes of room for those that wait. They are fewer than `WINDOW`, and as many again are copied behind them.
+const ROOM: usize = 64;
+
 /// A decoder of STP packets. It keeps what it needs of the one unfinished packet, and what the packets so far say of
 /// the next item.
+///
+/// Where `take_part` is given only some bytes of a packet, they wait in it unread, so that the packet is read at once
+/// when the others come.
 #[derive(Debug, Drop)]
 pub struct StpDecoder {
     order: Order,
     mode: Mode,
+    /// The unfinished packet without the bytes that wait.
     partial: Partial,
     /// The first nibble of the unfinished packet where that has no more, 0 where there is none, and else `MANY`.
     first: u8,
     live: bool,
     attribution: Attribution,
+    /// The bytes that wait; what is behind them is of no account.
+    held: [u8; ROOM],
+    /// How many bytes wait.
+    waiting: usize,
     ghost pending: { first < 16 → left_by order first ≡ partial },
     ghost sound: { is_sound partial ≡ true },
     ghost counted: { is_counted pattern mode ≡ true },
+    ghost size: { length held ≡ ROOM },
+    ghost few: { waiting ≤ WINDOW },
+    ghost ready: { 0 < waiting → (order ≡ Msn) × (first < 16) × (is_locked mode ≡ true) },
+    ghost fronts: { 0 < waiting → Fronts order partial (nibbles_in (take waiting held)) },
 }
 
 /// What was taken of a packet at once.
@@ -55,7 +74,7 @@ pub struct PacketTaken {
 }
 
 impl StpDecoder {
-    ghost use Rattle.std.specs.Prelude.{[], ◌∷◌, ◌++◌, false, ℕ, ◌+◌, ◌*◌, ◌^◌, ◌<◌, ◌≤◌, List, length, take, IfSome};
+    ghost use Rattle.std.specs.Prelude.{[], ◌∷◌, ◌++◌, false, ℕ, ◌+◌, ◌-◌, ◌*◌, ◌/◌, ◌^◌, ◌<◌, List, IfSome};
     ghost use Rattle.std.specs.Prelude.{None};
     ghost use Rattle.trace_values.specs.Placed.{Placed, units_of};
     ghost use Rattle.trace_values.specs.Stream.{Grows, StepFits, LocksAfter, goes_on};
@@ -67,8 +86,12 @@ impl StpDecoder {
     ghost use Rattle.stp_codec.specs.Wholes.{left_of, IsQuiet, GoesTwice};
     ghost use Rattle.stp_codec.specs.Cuts.{Passes};
     ghost use Rattle.stp_grammar.specs.Rule.{count_of};
-    ghost use Rattle.stp_codec.specs.Answers.{AnswersNibble};
-    ghost use Rattle.stp_codec.specs.Decoder.{Stands, StandsAt, order_of, is_hunter, is_live, has_locked};
+    ghost use Rattle.stp_codec.specs.Answers.{AnswersNibble, AnswersByte};
+    ghost use Rattle.trace_values.specs.Placed.{byte_at};
+    ghost use Rattle.trace_values.specs.Nibbles.{nibbles_of};
+    ghost use Rattle.stp_codec.specs.Decoder.{Stands, ReadsAt, Reads, order_of, is_hunter, is_live, has_locked};
+    ghost use Rattle.stp_codec.specs.Decoder.{partial_of, read_of, Settles, Copies, HoldsAhead, IsReady, Idles};
+    ghost use Rattle.stp_codec.specs.Decoder.{TakesPart};
     ghost use Rattle.stp_codec.specs.Decoder.{held_of, skipped_by, nibble_at, EndsItem, Finishes, FinishesParts};
 
     /// A decoder of bytes that begin with a packet, whose numbers have their nibbles in this order.
@@ -86,6 +109,8 @@ impl StpDecoder {
             first: 0,
             live: true,
             attribution: Attribution::new(),
+            held: [0; ROOM],
+            waiting: 0,
         }
     }
 
@@ -104,30 +129,34 @@ impl StpDecoder {
             first: 0,
             live: true,
             attribution: Attribution::new(),
+            held: [0; ROOM],
+            waiting: 0,
         }
     }
 
-    /// Takes the next nibble, which is this half of the byte at this offset.
+    /// Takes the next nibble, which is this half of the byte at this offset. No bytes wait.
     #[inline]
     fn take_nibble(&mut self, at: u64, half: u8, nibble: u8) -> Step<StpItem>
         requires live { is_live self.old ≡ true }
-        requires room { held_of self.old ≤ COUNT_ROOM + 1 }
+        requires room { read_of self.old ≤ COUNT_ROOM + 1 }
         requires count { skipped_by self.old ≤ COUNT_ROOM + 1 }
         requires nibble { nibble < 16 }
+        requires settled { self.old.waiting ≡ 0 }
         ensures same { (order_of self.new ≡ order_of self.old) × (is_hunter self.new ≡ is_hunter self.old) }
-        ensures list { (n : List Placed) → StandsAt self.old n →
-            StandsAt self.new (n ++ nibble_at at half nibble ∷ []) }
-        ensures step { (n : List Placed) → StandsAt self.old n →
+        ensures settled { self.new.waiting ≡ 0 }
+        ensures list { (n : List Placed) → ReadsAt self.old n →
+            ReadsAt self.new (n ++ nibble_at at half nibble ∷ []) }
+        ensures step { (n : List Placed) → ReadsAt self.old n →
             Grows (items_at (order_of self.old) (is_hunter self.old) n)
             (items_at (order_of self.old) (is_hunter self.old) (n ++ nibble_at at half nibble ∷ [])) at result }
         ensures live { is_live self.new ≡ goes_on result }
         ensures lock { LocksAfter (skipped_by self.new) result }
         ensures fits { StepFits IsProperItem result }
-        ensures few { held_of self.new + skipped_by self.new ≤ held_of self.old + skipped_by self.old + 1 }
-        ensures more { (held_of self.new ≤ held_of self.old + 1) × (skipped_by self.new ≤ skipped_by self.old + 1) }
+        ensures few { read_of self.new + skipped_by self.new ≤ read_of self.old + skipped_by self.old + 1 }
+        ensures more { (read_of self.new ≤ read_of self.old + 1) × (skipped_by self.new ≤ skipped_by self.old + 1) }
         ensures stays { has_locked self.old ≡ true →
             (has_locked self.new ≡ true) × (skipped_by self.new ≡ skipped_by self.old) }
-        ensures grammar { (n : List Placed) → StandsAt self.old n → has_locked self.old ≡ true →
+        ensures grammar { (n : List Placed) → ReadsAt self.old n → has_locked self.old ≡ true →
             let placed = n ++ nibble_at at half nibble ∷ [] in
             AnswersNibble (order_of self.old) (packets_of (order_of self.old) (is_hunter self.old) n)
             (rest_in (order_of self.old) (is_hunter self.old) n ++ nibble_at at half nibble ∷ [])
@@ -179,16 +208,18 @@ impl StpDecoder {
     }
 
     /// The packet that these bytes finish, where the reading has begun and the packet can be taken at once: most
-    /// significant nibbles come first, at most one nibble of it came before, and there are more bytes than the longest
-    /// has. None says nothing of the bytes.
+    /// significant nibbles come first, at most one nibble of it came before, no bytes wait, and there are more bytes
+    /// than the longest has. None says nothing of the bytes.
     #[inline(always)]
     pub fn next_parts(&self, piece: &[u8]) -> Option<PacketParts>
         ensures { IfSome result (λ parts. FinishesParts self.now piece.now parts) }
     {
         match self.order {
-            Order::Msn if self.first < MANY && self.mode.is_locked() && piece.len() >= WINDOW => {
-                parts_from_first(self.first, piece)
-            }
+            Order::Msn
+                if self.waiting == 0
+                    && self.first < MANY
+                    && self.mode.is_locked()
+                    && piece.len() >= WINDOW => { parts_from_first(self.first, piece) }
             _ => None,
         }
     }
@@ -214,12 +245,13 @@ impl StpDecoder {
         self.finish_packet(piece, parts.nibbles, parts.packet())
     }
 
-    /// The packet that these bytes finish, and how many of their nibbles it takes, where the reading has begun.
+    /// The packet that these bytes finish, and how many of their nibbles it takes, where the reading has begun and no
+    /// bytes wait.
     #[inline(always)]
     fn next_packet(&self, piece: &[u8]) -> Option<(usize, StpPacket)>
         ensures { IfSome result (λ x. Finishes self.now piece.now x.0 x.1) }
     {
-        if self.mode.is_locked() {
+        if self.waiting == 0 && self.mode.is_locked() {
             whole_packet(self.order, self.partial, piece)
         } else {
             None
@@ -233,7 +265,7 @@ impl StpDecoder {
         ensures locked { IfSome result (λ t. has_locked self.now ≡ true) }
         ensures goes { IfSome result (λ t. GoesTwice (order_of self.now) self.now.partial byte t) }
         ensures sound { IfSome result (λ t. is_sound t ≡ true) }
-        ensures held { IfSome result (λ t. count_of t ≡ held_of self.now + 2) }
+        ensures held { IfSome result (λ t. count_of t ≡ read_of self.now + 2) }
     {
         if !self.mode.is_locked() {
             return None;
@@ -242,21 +274,23 @@ impl StpDecoder {
     }
 
     /// Takes what is left of a byte in whose half a packet ended: the high nibble, where it ended in the low one. A
-    /// packet begins there.
+    /// packet begins there, and no bytes wait.
     #[inline(always)]
     fn pass_left(&mut self, half: u8, byte: u8)
         requires live { is_live self.old ≡ true }
         requires locked { has_locked self.old ≡ true }
+        requires settled { self.old.waiting ≡ 0 }
         requires start { self.old.partial ≡ Start }
         requires count { skipped_by self.old ≤ COUNT_ROOM }
         ensures same { (order_of self.new ≡ order_of self.old) × (is_hunter self.new ≡ is_hunter self.old) }
-        ensures list { (at : ℕ) (n : List Placed) → StandsAt self.old n →
-            StandsAt self.new (n ++ left_of half at byte) }
-        ensures quiet { (at : ℕ) (n : List Placed) → StandsAt self.old n →
+        ensures settled { self.new.waiting ≡ 0 }
+        ensures list { (at : ℕ) (n : List Placed) → ReadsAt self.old n →
+            ReadsAt self.new (n ++ left_of half at byte) }
+        ensures quiet { (at : ℕ) (n : List Placed) → ReadsAt self.old n →
             IsQuiet (items_at (order_of self.old) (is_hunter self.old) n)
             (items_at (order_of self.old) (is_hunter self.old) (n ++ left_of half at byte)) }
         ensures live { is_live self.new ≡ true }
-        ensures few { (held_of self.new ≤ 1) × (skipped_by self.new ≡ skipped_by self.old) }
+        ensures few { (read_of self.new ≤ 1) × (skipped_by self.new ≡ skipped_by self.old) }
     {
         if half == 0 {
             self.partial = after_first(byte / 16);
@@ -265,13 +299,14 @@ impl StpDecoder {
     }
 
     /// Takes the packet that these bytes finish with so many of their nibbles, wherever they are, and what is left of
-    /// the byte in which it ends. It is live, and has room for all their nibbles.
+    /// the byte in which it ends. It is live.
     #[inline(always)]
     fn finish_packet(&mut self, bytes: &[u8], nibbles: usize, packet: StpPacket) -> PacketTaken
         requires live { is_live self.old ≡ true }
-        requires room { held_of self.old + skipped_by self.old + 2 * length bytes.now ≤ COUNT_ROOM }
+        requires count { skipped_by self.old ≤ COUNT_ROOM }
         requires next { Finishes self.old bytes.now nibbles packet }
         ensures same { (order_of self.new ≡ order_of self.old) × (is_hunter self.new ≡ is_hunter self.old) }
+        ensures last { result.bytes ≡ (nibbles - 1) / 2 + 1 }
         ensures bytes { (0 < result.bytes) × (result.bytes ≤ length bytes.now) }
         ensures passes { (u front : List Placed) (last : Placed) → Stands self.old u →
             units_of (front ++ last ∷ []) ≡ take result.bytes bytes.now →
@@ -286,6 +321,7 @@ impl StpDecoder {
         let half = ((nibbles - 1) % 2) as u8;
         self.partial = Partial::Start;
         self.first = 0;
+        self.waiting = 0;
         let item = self.attribution.take(packet);
         self.pass_left(half, bytes[last]);
         PacketTaken {
@@ -295,25 +331,32 @@ impl StpDecoder {
         }
     }
 
+    /// Reads the bytes that wait. It has room for their nibbles.
+    #[inline]
+    fn settle(&mut self)
+        requires room { held_of self.old ≤ COUNT_ROOM }
+        ensures { Settles self.old self.new }
+    {
+        if self.waiting > 0 {
+            self.partial = with_bytes(self.order, self.partial, &self.held[..self.waiting]);
+            self.first = MANY;
+            self.waiting = 0;
+        }
+    }
+
     /// Takes bytes at once, wherever they are: those within the unfinished packet up to the one in which it ends, with
-    /// all of that byte, or all of them. It is live, and has room for all their nibbles.
+    /// all of that byte, or all of them. It is live, has room for all their nibbles, and no bytes wait.
     ///
-    /// None where the reading has not begun, where a nibble is a fault, and of no bytes: then it is as before.
+    /// None where the reading has not begun, where a nibble is a fault, and of no bytes.
     #[inline(always)]
-    pub fn take_part(&mut self, bytes: &[u8]) -> Option<PacketTaken>
+    fn take_settled(&mut self, bytes: &[u8]) -> Option<PacketTaken>
         requires live { is_live self.old ≡ true }
         requires room { held_of self.old + skipped_by self.old + 2 * length bytes.now ≤ COUNT_ROOM }
+        requires settled { self.old.waiting ≡ 0 }
         ensures same { (order_of self.new ≡ order_of self.old) × (is_hunter self.new ≡ is_hunter self.old) }
-        ensures bytes { IfSome result (λ taken. (0 < taken.bytes) × (taken.bytes ≤ length bytes.now)) }
-        ensures passes { (u front : List Placed) (last : Placed) → Stands self.old u →
-            IfSome result (λ taken. units_of (front ++ last ∷ []) ≡ take taken.bytes bytes.now →
-            Passes (items_in (order_of self.old) (is_hunter self.old)) (Stands self.new) u front last
-            (item_in taken.half taken.item)) }
         ensures live { is_live self.new ≡ true }
-        ensures fits { IfSome result (λ taken. IfSome taken.item IsProperItem) }
-        ensures few { IfSome result (λ taken. held_of self.new + skipped_by self.new ≤
-            held_of self.old + skipped_by self.old + 2 * taken.bytes) }
-        ensures none { result ≡ None → self.new ≡ self.old }
+        ensures some { IfSome result (TakesPart self.old self.new bytes.now (length bytes.now)) }
+        ensures none { result ≡ None → Idles self.old self.new }
     {
         if bytes.is_empty() || !self.mode.is_locked() {
             return None;
@@ -329,6 +372,181 @@ impl StpDecoder {
                 })
             }
             Cut::Ended { nibbles, packet } => Some(self.finish_packet(bytes, nibbles, packet)),
+        }
+    }
+
+    /// Takes bytes as `take_settled` does, and first reads those that wait.
+    #[inline(never)]
+    fn take_slowly(&mut self, bytes: &[u8]) -> Option<PacketTaken>
+        requires live { is_live self.old ≡ true }
+        requires room { held_of self.old + skipped_by self.old + 2 * length bytes.now ≤ COUNT_ROOM }
+        ensures same { (order_of self.new ≡ order_of self.old) × (is_hunter self.new ≡ is_hunter self.old) }
+        ensures live { is_live self.new ≡ true }
+        ensures some { IfSome result (TakesPart self.old self.new bytes.now (length bytes.now)) }
+        ensures none { result ≡ None → Idles self.old self.new }
+    {
+        self.settle();
+        self.take_settled(bytes)
+    }
+
+    /// Copies bytes behind those that wait.
+    #[inline(always)]
+    fn hold(&mut self, ahead: &[u8])
+        requires ahead { WINDOW ≤ length ahead.now }
+        ensures { Copies self.old self.new ahead.now }
+    {
+        let from = self.waiting;
+        self.held[from..from + WINDOW].copy_from_slice(&ahead[..WINDOW]);
+    }
+
+    /// Lets the first `count` of these bytes wait. They are behind those that wait already, and within the packet.
+    #[inline(always)]
+    fn wait(&mut self, _ahead: &[u8], count: usize) -> PacketTaken
+        requires live { is_live self.old ≡ true }
+        requires ready { IsReady self.old }
+        requires some { 0 < count }
+        requires few { self.old.waiting + count ≤ WINDOW }
+        requires ahead { count ≤ length _ahead.now }
+        requires held { HoldsAhead self.old _ahead.now count }
+        requires fronts { Fronts (order_of self.old) (partial_of self.old) (nibbles_in (take count _ahead.now)) }
+        ensures same { (order_of self.new ≡ order_of self.old) × (is_hunter self.new ≡ is_hunter self.old) }
+        ensures live { is_live self.new ≡ true }
+        ensures part { TakesPart self.old self.new _ahead.now count result }
+    {
+        self.waiting += count;
+        PacketTaken {
+            bytes: count,
+            half: 1,
+            item: None,
+        }
+    }
+
+    /// Takes the first `count` of these bytes at once, where no bytes wait. None says nothing of them.
+    #[inline(always)]
+    fn take_fresh(&mut self, ahead: &[u8], count: usize) -> Option<PacketTaken>
+        requires live { is_live self.old ≡ true }
+        requires ready { IsReady self.old }
+        requires settled { self.old.waiting ≡ 0 }
+        requires some { 0 < count }
+        requires room { skipped_by self.old ≤ COUNT_ROOM }
+        requires ahead { count + WINDOW ≤ length ahead.now }
+        ensures same { (order_of self.new ≡ order_of self.old) × (is_hunter self.new ≡ is_hunter self.old) }
+        ensures live { is_live self.new ≡ true }
+        ensures some { IfSome result (TakesPart self.old self.new ahead.now count) }
+        ensures none { result ≡ None → Idles self.old self.new }
+    {
+        let parts = parts_from_first(self.first, ahead)?;
+        if parts.nibbles <= 2 * count {
+            return Some(self.finish_packet(ahead, parts.nibbles, parts.packet()));
+        }
+        if count >= WINDOW {
+            return None;
+        }
+        self.hold(ahead);
+        Some(self.wait(ahead, count))
+    }
+
+    /// Takes the first `count` of these bytes at once, which are behind those that wait. None says nothing of them.
+    #[inline(always)]
+    fn take_held(&mut self, ahead: &[u8], count: usize) -> Option<PacketTaken>
+        requires live { is_live self.old ≡ true }
+        requires ready { IsReady self.old }
+        requires wait { 0 < self.old.waiting }
+        requires some { 0 < count }
+        requires room { skipped_by self.old ≤ COUNT_ROOM }
+        requires ahead { count + WINDOW ≤ length ahead.now }
+        requires held { (more : ℕ) → more ≤ WINDOW → HoldsAhead self.old ahead.now more }
+        ensures same { (order_of self.new ≡ order_of self.old) × (is_hunter self.new ≡ is_hunter self.old) }
+        ensures live { is_live self.new ≡ true }
+        ensures some { IfSome result (TakesPart self.old self.new ahead.now count) }
+        ensures none { result ≡ None → Idles self.old self.new }
+    {
+        let parts = parts_from_first(self.first, &self.held[..WINDOW])?;
+        let before = 2 * self.waiting;
+        if parts.nibbles <= before + 2 * count {
+            Some(self.finish_packet(ahead, parts.nibbles - before, parts.packet()))
+        } else {
+            Some(self.wait(ahead, count))
+        }
+    }
+
+    /// Takes the first `count` of these bytes at once. None says nothing of them.
+    #[inline(always)]
+    fn take_ready(&mut self, ahead: &[u8], count: usize) -> Option<PacketTaken>
+        requires live { is_live self.old ≡ true }
+        requires ready { IsReady self.old }
+        requires some { 0 < count }
+        requires room { skipped_by self.old ≤ COUNT_ROOM }
+        requires ahead { count + WINDOW ≤ length ahead.now }
+        ensures same { (order_of self.new ≡ order_of self.old) × (is_hunter self.new ≡ is_hunter self.old) }
+        ensures live { is_live self.new ≡ true }
+        ensures some { IfSome result (TakesPart self.old self.new ahead.now count) }
+        ensures none { result ≡ None → Idles self.old self.new }
+    {
+        if self.waiting == 0 {
+            return self.take_fresh(ahead, count);
+        }
+        self.hold(ahead);
+        self.take_held(ahead, count)
+    }
+
+    /// Takes the first `count` of these bytes at once, where a packet that begins or has begun can be read as numbers.
+    /// None says nothing of them.
+    #[inline(always)]
+    fn take_at_once(&mut self, ahead: &[u8], count: usize) -> Option<PacketTaken>
+        requires live { is_live self.old ≡ true }
+        requires room { skipped_by self.old ≤ COUNT_ROOM }
+        requires ahead { count + WINDOW ≤ length ahead.now }
+        ensures same { (order_of self.new ≡ order_of self.old) × (is_hunter self.new ≡ is_hunter self.old) }
+        ensures live { is_live self.new ≡ true }
+        ensures some { IfSome result (TakesPart self.old self.new ahead.now count) }
+        ensures none { result ≡ None → Idles self.old self.new }
+    {
+        if count > 0 && self.is_ready() {
+            self.take_ready(ahead, count)
+        } else {
+            None
+        }
+    }
+
+    /// A packet that begins or has begun can be read as numbers: most significant nibbles come first, at most one of
+    /// its nibbles is read, and the reading has begun.
+    #[inline(always)]
+    fn is_ready(&self) -> bool
+        ensures { result ≡ true → IsReady self.now }
+    {
+        match self.order {
+            Order::Msn => self.first < MANY && self.mode.is_locked(),
+            _ => false,
+        }
+    }
+
+    /// Takes the first `count` of these bytes at once, wherever they are: those within the unfinished packet up to the
+    /// one in which it ends, with all of that byte, or all of them. What the bytes after them are is of no account,
+    /// but there are `WINDOW` of them, more than the longest packet has. It is live, and has room for the nibbles.
+    ///
+    /// None where the reading has not begun, where a nibble is a fault, and of no bytes: then it stands as before.
+    #[inline(always)]
+    pub fn take_part(&mut self, ahead: &[u8], count: usize) -> Option<PacketTaken>
+        requires live { is_live self.old ≡ true }
+        requires room { held_of self.old + skipped_by self.old + 2 * count ≤ COUNT_ROOM }
+        requires ahead { count + WINDOW ≤ length ahead.now }
+        ensures same { (order_of self.new ≡ order_of self.old) × (is_hunter self.new ≡ is_hunter self.old) }
+        ensures bytes { IfSome result (λ taken. (0 < taken.bytes) × (taken.bytes ≤ count)) }
+        ensures passes { (u front : List Placed) (last : Placed) → Stands self.old u →
+            IfSome result (λ taken. units_of (front ++ last ∷ []) ≡ take taken.bytes ahead.now →
+            Passes (items_in (order_of self.old) (is_hunter self.old)) (Stands self.new) u front last
+            (item_in taken.half taken.item)) }
+        ensures live { is_live self.new ≡ true }
+        ensures fits { IfSome result (λ taken. IfSome taken.item IsProperItem) }
+        ensures few { IfSome result (λ taken. held_of self.new + skipped_by self.new ≤
+            held_of self.old + skipped_by self.old + 2 * taken.bytes) }
+        ensures none { result ≡ None → ((u : List Placed) → Stands self.old u → Stands self.new u)
+            × (held_of self.new ≡ held_of self.old) × (skipped_by self.new ≡ skipped_by self.old) }
+    {
+        match self.take_at_once(ahead, count) {
+            Some(taken) => Some(taken),
+            None => self.take_slowly(&ahead[..count]),
         }
     }
 
@@ -352,6 +570,44 @@ impl StpDecoder {
     {
         let (nibbles, packet) = self.next_packet(piece)?;
         Some(self.finish_packet(piece, nibbles, packet))
+    }
+
+    /// Takes the next byte, as `feed` does. No bytes wait.
+    #[inline]
+    fn feed_settled(&mut self, at: u64, byte: u8) -> Step<StpItem>
+        requires settled { self.old.waiting ≡ 0 }
+        requires live { is_live self.old ≡ true }
+        requires room { read_of self.old ≤ COUNT_ROOM }
+        requires count { skipped_by self.old ≤ COUNT_ROOM }
+        ensures same { items_in (order_of self.new) (is_hunter self.new) ≡
+            items_in (order_of self.old) (is_hunter self.old) }
+        ensures list { (u : List Placed) → Reads self.old u → Reads self.new (u ++ byte_at at byte ∷ []) }
+        ensures step { (u : List Placed) → Reads self.old u →
+            Grows (items_in (order_of self.old) (is_hunter self.old) u)
+            (items_in (order_of self.old) (is_hunter self.old) (u ++ byte_at at byte ∷ [])) at result }
+        ensures settled { self.new.waiting ≡ 0 }
+        ensures live { is_live self.new ≡ goes_on result }
+        ensures lock { LocksAfter (skipped_by self.new) result }
+        ensures fits { StepFits IsProperItem result }
+        ensures few { read_of self.new + skipped_by self.new ≤ read_of self.old + skipped_by self.old + 2 }
+        ensures grammar { (u : List Placed) → Reads self.old u → has_locked self.old ≡ true →
+            AnswersByte (order_of self.old) (packets_of (order_of self.old) (is_hunter self.old) (nibbles_of u))
+            (rest_in (order_of self.old) (is_hunter self.old) (nibbles_of u)) at byte result }
+    {
+        if let Some(partial) = self.next_inside(byte) {
+            self.partial = partial;
+            self.first = MANY;
+            return Step::Quiet;
+        }
+        let low = self.take_nibble(at, 0, byte % 16);
+        match low {
+            Step::Quiet | Step::Skipping => self.take_nibble(at, 1, byte / 16),
+            Step::Fault(_) => low,
+            Step::Item { .. } | Step::Locked { .. } => {
+                self.take_nibble(at, 1, byte / 16);
+                low
+            }
+        }
     }
 
     /// Feeds a piece, whose first byte is at this offset, up to the first byte to which the answer is
@@ -438,6 +694,7 @@ impl Machine for StpDecoder {
     ghost use Rattle.stp_codec.specs.Reading.{pattern, packets_of, items_in, rest_in};
     ghost use Rattle.stp_codec.specs.Answers.{AnswersByte};
     ghost use Rattle.stp_codec.specs.Decoder.{Stands, order_of, is_hunter, is_live, has_locked, held_of, skipped_by};
+    ghost use Rattle.stp_codec.specs.Decoder.{partial_of};
     ghost use Rattle.trace_values.proofs.NibbleModes as laws;
     ghost use Rattle.stp_grammar.proofs.Counting as counting;
     ghost use Rattle.stp_codec.specs.FallingLaws as falling;
@@ -461,7 +718,7 @@ impl Machine for StpDecoder {
     ghost fits = { IsProperItem };
 
     ghost shows = { λ m u s. laws.shows pattern Async (by_unit (rule m.order)) Start attribute [] count_of refl
-        (counting.counts_placed m.order) m.mode m.live m.partial u s.0 };
+        (counting.counts_placed m.order) m.mode m.live (partial_of m) u s.0 };
 
     ghost begins = { λ m. laws.begins pattern Async (by_unit (rule m.order)) Start attribute [] (is_hunter m) };
 
@@ -476,7 +733,7 @@ impl Machine for StpDecoder {
 
     ghost keeps = { λ m u at byte s l f. laws.keeps pattern Async (by_unit (rule m.order)) Start attribute []
         (falling.begins m.order) count_of refl (counting.counts_placed m.order)
-        m.mode m.live m.partial u at byte s.0 l f };
+        m.mode m.live (partial_of m) u at byte s.0 l f };
 
     /// Takes the next byte: its low nibble, and then its high one. Beside what every machine says, its answer in a
     /// reading is the grammar's, by those to its nibbles: an item exactly where a nibble ends a packet that has one, a
@@ -499,20 +756,8 @@ impl Machine for StpDecoder {
             AnswersByte (order_of self.old) (packets_of (order_of self.old) (is_hunter self.old) (nibbles_of u))
             (rest_in (order_of self.old) (is_hunter self.old) (nibbles_of u)) at byte result }
     {
-        if let Some(partial) = self.next_inside(byte) {
-            self.partial = partial;
-            self.first = MANY;
-            return Step::Quiet;
-        }
-        let low = self.take_nibble(at, 0, byte % 16);
-        match low {
-            Step::Quiet | Step::Skipping => self.take_nibble(at, 1, byte / 16),
-            Step::Fault(_) => low,
-            Step::Item { .. } | Step::Locked { .. } => {
-                self.take_nibble(at, 1, byte / 16);
-                low
-            }
-        }
+        self.settle();
+        self.feed_settled(at, byte)
     }
 
     fn is_live(&self) -> bool {
@@ -531,7 +776,10 @@ impl Machine for StpDecoder {
             All (λ b. b ≡ 15)
             (take result (units_of (rest_in (order_of self.now) (is_hunter self.now) (nibbles_of u)))) }
     {
-        self.partial.len()
+        if self.waiting == 0 {
+            return self.partial.len();
+        }
+        self.partial.len() + 2 * self.waiting as u64
     }
 
     fn skipped(&self) -> u64 {

@@ -20,7 +20,8 @@ use crate::whole::{nibble_of, number_at_once, payload_at, row_of, stamped_at};
 use stp_grammar::packet::StpPacket;
 use trace_clock::word_nibbles;
 
-/// Bytes that are there where a packet is read so: more than the longest has.
+/// Bytes that are there where a packet is read so, and behind those that `take_part` takes: more than the longest
+/// packet has.
 pub const WINDOW: usize = 24;
 
 /// A packet, as numbers.

@@ -7,7 +7,8 @@ mod decoder;
 mod flat;
 mod inside;
 pub mod laws;
+mod waiting;
 mod whole;
 
 pub use decoder::{PacketTaken, StpDecoder};
-pub use flat::PacketParts;
+pub use flat::{PacketParts, WINDOW};

@@ -1,12 +1,13 @@
-use Rattle.std.proofs.Common.{◌≡◌, ℕ, ◌+◌, ◌<◌, List, [], ◌∷◌, length, take, get_or, refl, sym, ◌∙◌, ap, arith}
-use Rattle.std.proofs.lemmas.List.{take_more}
+use Rattle.std.proofs.Common.{◌≡◌, ℕ, ◌+◌, ◌<◌, List, [], ◌∷◌, length, take, get_or, drop, refl, sym, ◌∙◌, ap, arith}
+use Rattle.std.proofs.lemmas.List.{take_more, take-append-drop}
 use Rattle.trace_values.specs.declared.next.Next.{Next}
-use Rattle.trace_values.specs.declared.next.Next.TheVariants.{Go, End}
+use Rattle.trace_values.specs.declared.next.Next.TheVariants.{Go, End, Fail}
 use Rattle.trace_values.specs.Walk.{after, walk, Within}
 use Rattle.trace_values.proofs.Walks.{walk_more}
 use Rattle.itm_grammar.specs.declared.packet.ItmPacket.{ItmPacket}
 use Rattle.itm_grammar.specs.declared.partial.Partial.{Partial}
 use Rattle.itm_grammar.specs.Rule.{rule}
+use Rattle.itm_codec.proofs.Waiting.{whole_within, broken_within}
 use Rattle.itm_codec.proofs.cut.cut_packet.Goals as goal
 
 -- one more byte
@@ -29,3 +30,19 @@ loop-index-preserved c = record {
   sound = c.in-Go.ensures.sound;
   few = (let a = c.loop-index.invariant.few in let b = c.in-Go.ensures.held in omega arith);
 }
+
+pub returns-in-End-clause-all : goal.returns-in-End-clause-all
+returns-in-End-clause-all c = λ t h.
+    let bytes = c.args.bytes.now in
+    let i = c.loop-index.index in
+    absurd (whole_within rule c.args.unfinished t (take (i + 1) bytes) (drop (i + 1) bytes) c.in-End.packet
+    (next_byte c.args.unfinished c.loop-index.partial bytes i (End c.in-End.packet) c.loop-index-test.true c.loop-index.invariant.part c.in-End.ensures.next)
+    (ap (walk rule c.args.unfinished) (take-append-drop (i + 1) bytes) ∙ h))
+
+pub returns-in-Fail-clause-all : goal.returns-in-Fail-clause-all
+returns-in-Fail-clause-all c = λ t h.
+    let bytes = c.args.bytes.now in
+    let i = c.loop-index.index in
+    absurd (broken_within rule c.args.unfinished t (take (i + 1) bytes) (drop (i + 1) bytes) _
+    (next_byte c.args.unfinished c.loop-index.partial bytes i (Fail _) c.loop-index-test.true c.loop-index.invariant.part c.in-Fail.ensures.next)
+    (ap (walk rule c.args.unfinished) (take-append-drop (i + 1) bytes) ∙ h))

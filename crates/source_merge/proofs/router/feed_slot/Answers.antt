@@ -1,51 +1,88 @@
-use Rattle.std.proofs.Common.{◌≡◌, ◌+◌, ◌^◌, List, [], ◌∷◌, ◌++◌, get_or, take, drop, refl, sym, ◌∙◌, ap, subst, arith}
+use Rattle.std.proofs.Common.{◌≡◌, ℕ, ◌+◌, ◌*◌, ◌^◌, ◌<◌, ◌≤◌, true, List, [], ◌∷◌, ◌++◌, length, get_or, take, drop, refl, sym, ◌∙◌, ap, subst, arith, Option}
+use Rattle.std.specs.Prelude.{is_none}
 use Rattle.std.proofs.lemmas.List.{take-append-drop, drop_more}
 use Rattle.std.proofs.Math.Seq.{set-append_seam}
 use Rattle.std.proofs.Math.ListN.{set}
+use Rattle.trace_values.specs.declared.cell.Cell.{Cell}
+use Rattle.trace_values.specs.declared.fault.Fault.{Fault}
+use Rattle.trace_values.specs.Placed.{Placed}
+use Rattle.source_events.specs.declared.event.Event.{Event}
+use Rattle.source_events.specs.declared.packet.Packet.{Packet}
 use Rattle.source_merge.specs.declared.slot.Slot.{Slot}
+use Rattle.source_merge.specs.Feeding.{IsEarly}
 use Rattle.source_merge.specs.Routing.{AllLive, HaveRoom}
 use Rattle.source_merge.proofs.Slots.{live_at, room_at, get_seam}
 use Rattle.source_machine.specs.Machine.{Stands, held_of, is_live, reading_of, skipped_by}
 use Rattle.source_machine.specs.declared.machine.SourceMachine.{SourceMachine}
-use Rattle.source_merge.proofs.ByParts.{SlotFedBy}
+use Rattle.source_merge.proofs.ByParts.{FeedsBy, SlotFedBy}
 use Rattle.source_merge.proofs.router.feed_slot.Goals as goal
 
+-- the slot at this index
+module _ (slots : List (Slot SourceMachine)) (k : ℕ) (d : Slot SourceMachine) (below : k < length slots) where
+  parts : slots ≡ take k slots ++ (get_or slots k d ∷ drop (k + 1) slots)
+  parts = sym (take-append-drop k slots) ∙ ap (λ l. take k slots ++ l) (drop_more slots k d below)
+
+  is_on : AllLive is_live slots → is_live (get_or slots k d).machine ≡ true
+  is_on h = live_at is_live (take k slots) (get_or slots k d) (drop (k + 1) slots) (subst (λ (l : List (Slot SourceMachine)). AllLive is_live l) parts h)
+
+  has_room : HaveRoom held_of skipped_by (2 ^ 59) slots → held_of (get_or slots k d).machine + skipped_by (get_or slots k d).machine ≤ 2 ^ 59
+  has_room h = room_at held_of skipped_by (2 ^ 59) (take k slots) (get_or slots k d) (drop (k + 1) slots) (subst (λ (l : List (Slot SourceMachine)). HaveRoom held_of skipped_by (2 ^ 59) l) parts h)
+
+-- it is fed
+module _ (cells : List Cell) (id : ℕ) (slots : List (Slot SourceMachine)) (k : ℕ) (d : Slot SourceMachine) (machine : SourceMachine) (fault : Option Fault)
+    (given : List (Event Packet)) where
+  abbrev x : Slot SourceMachine
+  x = get_or slots k d
+
+  fed : reading_of machine ≡ reading_of x.machine → is_live machine ≡ is_none fault →
+      held_of machine + skipped_by machine ≤ held_of x.machine + skipped_by x.machine + 2 * length cells →
+      ((u : List Placed) → Stands x.machine u → FeedsBy (reading_of x.machine) (Stands machine) u cells id [] given fault) →
+      IsEarly (reading_of x.machine) (Stands x.machine) cells fault →
+      (front : List (Slot SourceMachine)) (s : Slot SourceMachine) (back : List (Slot SourceMachine)) → slots ≡ front ++ (s ∷ back) → length front ≡ k →
+      SlotFedBy reading_of Stands is_live held_of skipped_by front s back (set slots k (record { id = x.id; machine = machine })) cells id [] given fault
+  fed same live few feeds early front s back is count =
+      let t : Slot SourceMachine = record { id = x.id; machine = machine } in
+      let at : x ≡ s = ap (λ l. get_or l k d) is ∙ ap (λ n. get_or (front ++ (s ∷ back)) n d) (sym count) ∙ get_seam front s back d in
+      subst (λ (y : Slot SourceMachine). SlotFedBy reading_of Stands is_live held_of skipped_by front y back (set slots k t) cells id [] given fault) at
+      (record {
+        slot = t;
+        parts = ap (λ l. set l k t) is ∙ ap (λ n. set (front ++ (s ∷ back)) n t) (sym count) ∙ set-append_seam front s back t;
+        id_is = refl;
+        same = same;
+        live_is = live;
+        few = few;
+        feeds = feeds;
+        early = early;
+      })
+
 pub feed_machine-requires-clause-live : goal.feed_machine-requires-clause-live
-feed_machine-requires-clause-live g c =
-    let slots = c.args.slots.now in
-    let k = c.args.index in
-    let d = c.index-slots-index.result in
-    live_at is_live (take k slots) (get_or slots k d) (drop (k + 1) slots)
-    (subst (λ (l : List (Slot SourceMachine)). AllLive is_live l) (sym (take-append-drop k slots) ∙ ap (λ l. take k slots ++ l) (drop_more slots k d c.requires.index)) c.requires.live)
+feed_machine-requires-clause-live g c = is_on c.args.slots.now c.args.index c.index-slots-index.result c.requires.index c.requires.live
 
 pub feed_machine-requires-clause-room : goal.feed_machine-requires-clause-room
 feed_machine-requires-clause-room g c =
-    let slots = c.args.slots.now in
-    let k = c.args.index in
-    let d = c.index-slots-index.result in
-    let r = room_at held_of skipped_by (2 ^ 59) (take k slots) (get_or slots k d) (drop (k + 1) slots)
-    (subst (λ (l : List (Slot SourceMachine)). HaveRoom held_of skipped_by (2 ^ 59) l) (sym (take-append-drop k slots) ∙ ap (λ l. take k slots ++ l) (drop_more slots k d c.requires.index)) c.requires.room) in
-    let s = c.requires.size in omega arith
+    (let r = has_room c.args.slots.now c.args.index c.index-slots-index.result c.requires.index c.requires.room in let s = c.requires.size in omega arith)
 
-pub returns-clause-fed : goal.returns-clause-fed
-returns-clause-fed g c = let fed = c.feed_machine.ensures.feeds in (
-  fed.0,
-  fed.1,
-  λ front s back parts count.
-      let slots = c.args.slots.now in
-      let k = c.args.index in
-      let x = get_or slots k c.index-slots-index.result in
-      let t : Slot SourceMachine = record { id = x.id; machine = c.feed_machine.new.machine } in
-      let at : x ≡ s = ap (λ l. get_or l k c.index-slots-index.result) parts ∙ ap (λ n. get_or (front ++ (s ∷ back)) n c.index-slots-index.result) (sym count) ∙ get_seam front s back c.index-slots-index.result in
-      subst (λ (y : Slot SourceMachine). SlotFedBy reading_of Stands is_live held_of skipped_by front y back (set slots k t) (g.R.Run.cells c.args.run.now) c.args.id [] fed.0 c.feed_machine.result) at
-      (record {
-        slot = t;
-        parts = ap (λ l. set l k t) parts ∙ ap (λ n. set (front ++ (s ∷ back)) n t) (sym count) ∙ set-append_seam front s back t;
-        id_is = refl;
-        same = c.feed_machine.ensures.same;
-        live_is = c.feed_machine.ensures.live;
-        few = c.feed_machine.ensures.few;
-        feeds = fed.2;
-        early = c.feed_machine.ensures.early;
-      }),
-)
+pub returns-then-is_stp-clause-fed : goal.returns-then-is_stp-clause-fed
+returns-then-is_stp-clause-fed g c =
+    let e = c.feed_machine.ensures in (
+      e.feeds.0,
+      e.feeds.1,
+      fed (g.R.Run.cells c.args.run.now) c.args.id c.args.slots.now c.args.index c.index-slots-index.result c.feed_machine.new.machine
+          c.feed_machine.result e.feeds.0 e.same e.live e.few e.feeds.2 e.early,
+    )
+
+pub feed_machine-requires-else-is_stp-clause-live : goal.feed_machine-requires-else-is_stp-clause-live
+feed_machine-requires-else-is_stp-clause-live g c = is_on c.args.slots.now c.args.index c.index-slots-index.result c.requires.index c.requires.live
+
+pub feed_machine-requires-else-is_stp-clause-room : goal.feed_machine-requires-else-is_stp-clause-room
+feed_machine-requires-else-is_stp-clause-room g c =
+    (let r = has_room c.args.slots.now c.args.index c.index-slots-index.result c.requires.index c.requires.room in let s = c.requires.size in omega arith)
+
+pub returns-else-is_stp-clause-fed : goal.returns-else-is_stp-clause-fed
+returns-else-is_stp-clause-fed g c =
+    let e = c.feed_machine-else-is_stp.ensures in (
+      e.feeds.0,
+      e.feeds.1,
+      fed (g.R.Run.cells c.args.run.now) c.args.id c.args.slots.now c.args.index c.index-slots-index.result c.feed_machine-else-is_stp.new.machine
+          c.feed_machine-else-is_stp.result e.feeds.0 e.same e.live e.few e.feeds.2 e.early,
+    )

@@ -1,22 +1,21 @@
-use Rattle.std.proofs.Common.{◌≡◌, ℕ, ◌+◌, ◌-◌, ◌<◌, ◌≤◌, ◌++◌, [], ◌∷◌, List, length, take, drop, get_or, refl, sym, ◌∙◌, ap, subst, arith, Some, None}
+use Rattle.std.proofs.Common.{◌≡◌, ℕ, ◌+◌, ◌<◌, ◌≤◌, ◌++◌, [], ◌∷◌, List, length, take, drop, get_or, refl, sym, ◌∙◌, ap, subst, arith, Some, None}
 use Rattle.std.specs.Prelude.{is_none}
-use Rattle.std.proofs.lemmas.List.{drop_more, take_more, take-append-drop, length-drop, length-take-le, length-map}
+use Rattle.std.proofs.lemmas.List.{drop_more, take_more, take-append-drop}
 use Rattle.trace_values.specs.declared.cell.Cell.{Cell}
 use Rattle.trace_values.specs.Placed.{Placed, byte_at}
 use Rattle.trace_values.specs.Stream.{Stream, given_by}
-use Rattle.itm_codec.specs.Wholes.{Cuts, Gives, kept_at}
+use Rattle.itm_codec.specs.Wholes.{Cuts, kept_at}
 use Rattle.source_events.specs.declared.packet.Packet.{Packet}
 use Rattle.trace_values.specs.Block.{given_after}
 use Rattle.source_events.specs.Merge.{told}
 use Rattle.source_events.specs.Report.{lifted}
-use Rattle.source_events.specs.Runs.{placed_run, bytes_of, RisesFrom}
-use Rattle.source_machine.specs.declared.machine.SourceMachine.{SourceMachine}
-use Rattle.source_machine.specs.Machine.{Stands, StandsAs, held_of, reading_of, skipped_by}
+use Rattle.source_events.specs.Runs.{placed_run, RisesFrom}
+use Rattle.source_machine.specs.Machine.{Stands, reading_of}
 use Rattle.source_machine.specs.MachineLaws as laws
 use Rattle.source_machine.specs.Seen.{packet_in}
 use Rattle.stp_codec.specs.Cuts.{Passes}
-use Rattle.source_merge.proofs.RunSteps.{none_of, feeds_none, feeds_more, feeds_stopped, goes_as, grown_as}
-use Rattle.source_merge.proofs.Packets.{packet_event, feeds_packet, feeds_cut, feeds_part, cut_stands, front, packet_parts, packet_units}
+use Rattle.source_merge.proofs.RunSteps.{none_of, feeds_none, feeds_more, feeds_stopped, feeds_kept, goes_as, grown_as}
+use Rattle.source_merge.proofs.Packets.{feeds_cut, feeds_part, front, packet_parts, packet_units}
 use Rattle.source_merge.proofs.Early.{early}
 use Rattle.source_merge.proofs.Givings.{given_more, given_none}
 use Rattle.source_merge.proofs.ByParts.{FeedsBy}
@@ -46,109 +45,66 @@ loop-done-preserved-in-Some g c =
     let i = c.loop-done.invariant in
     let run = g.R.Run.cells c.args.run.now in
     let done = c.loop-done.done in
-    let count = c.in-Some.count in
-    let packet = c.in-Some.packet in
+    let part = c.in-Some.part in
+    let found = c.in-Some.ensures in
     let last = c.cell-at.result in
-    let reading = reading_of c.args.machine.now in
-    let bytes = c.bytes-bytes.result.now in
-    let same : bytes ≡ bytes_of run = c.bytes-bytes.ensures in
-    let most = length-take-le (length bytes - done) (drop done bytes) (let k = length-drop done bytes in omega arith) in
-    let long : length bytes ≡ length run = ap length same ∙ length-map run (λ (x : Cell). x.byte) in
-    let within : done + count ≤ length run = (let k = c.in-Some.ensures.bytes.1 in let h = c.loop-done-test.true in let length_is = c.len.ensures.value in omega arith) in
-    let old = i.given in
-    let new = old ++ packet_event c.args.source last packet ∷ [] in
-    let some = c.in-Some.ensures.bytes.0 in
     let is = c.cell-at.ensures in
-    let before : List Cell = front run done count last some within is in
+    let reading = reading_of c.args.machine.now in
+    let now = Stands c.take_itm.new.self in
+    let old = i.given in
+    let new = old ++ told (Some c.args.source) (lifted (kept_at (record { at = last.at; half = 0 }) part.packet)) in
+    let ahead = c.ahead-ahead.result.now in
+    let long : length run ≤ length ahead = (let k = c.ahead-ahead.ensures.room in omega arith) in
+    let some : 0 < part.bytes = found.bytes.0 in
+    let within : done + part.bytes ≤ length run = (let k = found.bytes.1 in let h = c.loop-done-test.true in let length_is = c.len.ensures.value in omega arith) in
+    let before : List Cell = front run done part.bytes last some within is in
     record {
       within = within;
-      same = i.same;
-      live = i.live;
-      few = (let a = i.few in omega arith);
+      same = c.take_itm.ensures.same ∙ i.same;
+      live = c.take_itm.ensures.live;
+      few = (let a = i.few in let b = found.few in omega arith);
       given = new;
       to_receiver = given_more g.V.Receiver.gets g.met.V.Receiver.gets_more _ _ _ _ _
           i.to_receiver c.give_packet.ensures.given;
       space = (let a = i.space in let b = c.give_packet.ensures.space in omega arith);
       count = (let a = i.count in let b = c.give_packet.ensures.count in omega arith);
       feeds = λ u s.
-          subst (λ (l : List Cell). FeedsBy reading (Stands c.loop-done.machine) u l c.args.source [] new None)
-          (sym (packet_parts run done count last some within is))
-          (feeds_packet reading u c.args.source (Stands c.loop-done.machine) (take done run) before last packet
-          [] old new (i.feeds u s)
-          (λ w k. subst (λ (r : List Placed → Stream Packet). Gives r (Stands c.loop-done.machine) w (placed_run before) (byte_at last.at last.byte) packet) i.same
-          (c.in-Some.ensures.gives w (placed_run before) (byte_at last.at last.byte) k
-          (packet_units run done count last some within is bytes same)))
-          refl);
-    }
-
-pub loop-done-preserved-in-Some-next_cut : goal.loop-done-preserved-in-Some-next_cut
-loop-done-preserved-in-Some-next_cut g c =
-    let i = c.loop-done.invariant in
-    let run = g.R.Run.cells c.args.run.now in
-    let done = c.loop-done.done in
-    let cut = c.in-Some-next_cut.cut in
-    let found = c.in-Some-next_cut.ensures in
-    let last = c.cell-at-in-Some-next_cut.result in
-    let is = c.cell-at-in-Some-next_cut.ensures in
-    let reading = reading_of c.args.machine.now in
-    let now = Stands c.keep_partial.new.self in
-    let old = i.given in
-    let new = old ++ told (Some c.args.source) (lifted (kept_at (record { at = last.at; half = 0 }) cut.packet)) in
-    let bytes = c.bytes-bytes.result.now in
-    let same : bytes ≡ bytes_of run = c.bytes-bytes.ensures in
-    let most = length-take-le (length bytes - done) (drop done bytes) (let k = length-drop done bytes in omega arith) in
-    let long : length bytes ≡ length run = ap length same ∙ length-map run (λ (x : Cell). x.byte) in
-    let some : 0 < cut.bytes = found.bytes.0 in
-    let within : done + cut.bytes ≤ length run = (let k = found.bytes.1 in let h = c.loop-done-test.true in let length_is = c.len.ensures.value in omega arith) in
-    let before : List Cell = front run done cut.bytes last some within is in
-    record {
-      within = within;
-      same = c.keep_partial.ensures.same ∙ i.same;
-      live = c.keep_partial.ensures.live ∙ i.live;
-      few = (let a = i.few in let b = c.keep_partial.ensures.held in let d = c.keep_partial.ensures.skipped in let e = found.few in omega arith);
-      given = new;
-      to_receiver = given_more g.V.Receiver.gets g.met.V.Receiver.gets_more _ _ _ _ _
-          i.to_receiver c.give_packet-in-Some-next_cut.ensures.given;
-      space = (let a = i.space in let b = c.give_packet-in-Some-next_cut.ensures.space in omega arith);
-      count = (let a = i.count in let b = c.give_packet-in-Some-next_cut.ensures.count in omega arith);
-      feeds = λ u s.
           subst (λ (l : List Cell). FeedsBy reading now u l c.args.source [] new None)
-          (sym (packet_parts run done cut.bytes last some within is))
-          (feeds_cut reading u c.args.source (Stands c.loop-done.machine) now (take done run) before last cut.packet
+          (sym (packet_parts run done part.bytes last some within is))
+          (feeds_cut reading u c.args.source (Stands c.loop-done.machine) now (take done run) before last part.packet
           [] old new (i.feeds u s)
-          (λ w k. subst (λ (r : List Placed → Stream Packet). Cuts r now w (placed_run before) (byte_at last.at last.byte) cut.packet) i.same
-          (cut_stands (reading_of c.loop-done.machine) (StandsAs c.loop-done.machine cut.partial) now w (placed_run before) (byte_at last.at last.byte) cut.packet
-          c.keep_partial.ensures.stands
+          (λ w k. subst (λ (r : List Placed → Stream Packet). Cuts r now w (placed_run before) (byte_at last.at last.byte) part.packet) i.same
           (found.cuts w (placed_run before) (byte_at last.at last.byte) k
-          (packet_units run done cut.bytes last some within is bytes same))))
+          (packet_units run done part.bytes last some within is ahead c.ahead-ahead.ensures.bytes long)))
           refl);
     }
 
-pub loop-done-preserved-in-Some-take_part : goal.loop-done-preserved-in-Some-take_part
-loop-done-preserved-in-Some-take_part g c =
+pub loop-done-preserved-in-Some-take_stp : goal.loop-done-preserved-in-Some-take_stp
+loop-done-preserved-in-Some-take_stp g c =
     let i = c.loop-done.invariant in
     let run = g.R.Run.cells c.args.run.now in
     let done = c.loop-done.done in
-    let taken = c.in-Some-take_part.taken in
-    let found = c.in-Some-take_part.ensures in
-    let last = c.cell-at-in-Some-take_part.result in
-    let is = c.cell-at-in-Some-take_part.ensures in
+    let taken = c.in-Some-take_stp.taken in
+    let found = c.in-Some-take_stp.ensures in
+    let last = c.cell-at-in-Some-take_stp.result in
+    let is = c.cell-at-in-Some-take_stp.ensures in
     let reading = reading_of c.args.machine.now in
-    let now = Stands c.take_part.new.self in
+    let kept = c.in_default.ensures.none refl in
+    let read : reading_of c.take_itm.new.self ≡ reading = c.take_itm.ensures.same ∙ i.same in
+    let was = Stands c.take_itm.new.self in
+    let now = Stands c.take_stp.new.self in
     let old = i.given in
     let new = old ++ told (Some c.args.source) (lifted (given_after last.at (packet_in taken.half taken.item))) in
-    let bytes = c.bytes-bytes.result.now in
-    let same : bytes ≡ bytes_of run = c.bytes-bytes.ensures in
-    let most = length-take-le (length bytes - done) (drop done bytes) (let k = length-drop done bytes in omega arith) in
-    let long : length bytes ≡ length run = ap length same ∙ length-map run (λ (x : Cell). x.byte) in
+    let ahead = c.ahead-ahead.result.now in
+    let long : length run ≤ length ahead = (let k = c.ahead-ahead.ensures.room in omega arith) in
     let some : 0 < taken.bytes = found.bytes.0 in
     let within : done + taken.bytes ≤ length run = (let k = found.bytes.1 in let h = c.loop-done-test.true in let length_is = c.len.ensures.value in omega arith) in
     let before : List Cell = front run done taken.bytes last some within is in
     record {
       within = within;
-      same = c.take_part.ensures.same ∙ i.same;
-      live = c.take_part.ensures.live;
-      few = (let a = i.few in let b = found.few in omega arith);
+      same = c.take_stp.ensures.same ∙ read;
+      live = c.take_stp.ensures.live;
+      few = (let a = i.few in let b = found.few in let h = kept.1 in let n = kept.2 in omega arith);
       given = new;
       to_receiver = given_more g.V.Receiver.gets g.met.V.Receiver.gets_more _ _ _ _ _
           i.to_receiver c.give_item.ensures.given;
@@ -157,11 +113,11 @@ loop-done-preserved-in-Some-take_part g c =
       feeds = λ u s.
           subst (λ (l : List Cell). FeedsBy reading now u l c.args.source [] new None)
           (sym (packet_parts run done taken.bytes last some within is))
-          (feeds_part reading u c.args.source (Stands c.loop-done.machine) now (take done run) before last (packet_in taken.half taken.item)
-          [] old new (i.feeds u s)
-          (λ w k. subst (λ (r : List Placed → Stream Packet). Passes r now w (placed_run before) (byte_at last.at last.byte) (packet_in taken.half taken.item)) i.same
+          (feeds_part reading u c.args.source was now (take done run) before last (packet_in taken.half taken.item)
+          [] old new (feeds_kept reading u c.args.source (Stands c.loop-done.machine) was (take done run) [] old None kept.0 (i.feeds u s))
+          (λ w k. subst (λ (r : List Placed → Stream Packet). Passes r now w (placed_run before) (byte_at last.at last.byte) (packet_in taken.half taken.item)) read
           (found.passes w (placed_run before) (byte_at last.at last.byte) k
-          (packet_units run done taken.bytes last some within is bytes same)))
+          (packet_units run done taken.bytes last some within is ahead c.ahead-ahead.ensures.bytes long)))
           refl);
     }
 
@@ -169,8 +125,11 @@ pub loop-done-preserved : goal.loop-done-preserved
 loop-done-preserved g c =
     let reading = reading_of c.args.machine.now in
     let i = c.loop-done.invariant in
-    let kept : c.take_part.new.self ≡ c.loop-done.machine = c.in_default-take_part.ensures.none refl in
-    let read : reading_of c.take_part.new.self ≡ reading_of c.args.machine.now = c.take_part.ensures.same ∙ i.same in
+    let first = c.in_default.ensures.none refl in
+    let second = c.in_default-take_stp.ensures.none refl in
+    let was = Stands c.take_stp.new.self in
+    let kept : (w : List Placed) → Stands c.loop-done.machine w → was w = λ w k. second.0 w (first.0 w k) in
+    let read : reading_of c.take_stp.new.self ≡ reading_of c.args.machine.now = c.take_stp.ensures.same ∙ c.take_itm.ensures.same ∙ i.same in
     let run = g.R.Run.cells c.args.run.now in
     let cell = c.cell-cell.result in
     let new = i.given ++ told (Some c.args.source) (lifted (given_by cell.at c.feed-step.result)) in
@@ -178,7 +137,7 @@ loop-done-preserved g c =
       within = (let h = c.loop-done-test.true in let length_is = c.len.ensures.value in omega arith);
       same = c.feed-step.ensures.same ∙ read;
       live = c.feed-step.ensures.live ∙ goes_as c.feed-step.result ∙ ap is_none (sym c.give_step.ensures.fault ∙ c.in_default-give_step.is);
-      few = (let a = i.few in let b = c.feed-step.ensures.few in let held = ap held_of kept in let skipped = ap skipped_by kept in omega arith);
+      few = (let a = i.few in let b = c.feed-step.ensures.few in let h = first.1 in let n = first.2 in let k = second.1 in let m = second.2 in omega arith);
       given = new;
       to_receiver = given_more g.V.Receiver.gets g.met.V.Receiver.gets_more _ _ _ _ _
           i.to_receiver c.give_step.ensures.given;
@@ -187,11 +146,11 @@ loop-done-preserved g c =
       feeds = λ u s.
           subst (λ (l : List Cell). FeedsBy reading (Stands c.feed-step.new.self) u l c.args.source [] new None)
           (sym (next_cell run c.loop-done.done cell (let h = c.loop-done-test.true in let length_is = c.len.ensures.value in omega arith) c.cell-cell.ensures))
-          (feeds_more reading u c.args.source (Stands c.take_part.new.self) (Stands c.feed-step.new.self) (take c.loop-done.done run) cell c.feed-step.result None
+          (feeds_more reading u c.args.source was (Stands c.feed-step.new.self) (take c.loop-done.done run) cell c.feed-step.result None
           [] i.given new
-          (subst (λ (m : SourceMachine). FeedsBy reading (Stands m) u (take c.loop-done.done run) c.args.source [] i.given None) (sym kept) (i.feeds u s))
+          (feeds_kept reading u c.args.source (Stands c.loop-done.machine) was (take c.loop-done.done run) [] i.given None kept (i.feeds u s))
           (λ w k. c.feed-step.ensures.list w k)
-          (λ w k. grown_as (reading_of c.take_part.new.self) reading read w cell c.feed-step.result (c.feed-step.ensures.step w k))
+          (λ w k. grown_as (reading_of c.take_stp.new.self) reading read w cell c.feed-step.result (c.feed-step.ensures.step w k))
           (sym c.in_default-give_step.is ∙ c.give_step.ensures.fault) refl);
     }
 
@@ -199,8 +158,11 @@ pub returns-in-Some-give_step-clause-feeds : goal.returns-in-Some-give_step-clau
 returns-in-Some-give_step-clause-feeds g c =
     let reading = reading_of c.args.machine.now in
     let i = c.loop-done.invariant in
-    let kept : c.take_part.new.self ≡ c.loop-done.machine = c.in_default-take_part.ensures.none refl in
-    let read : reading_of c.take_part.new.self ≡ reading_of c.args.machine.now = c.take_part.ensures.same ∙ i.same in
+    let first = c.in_default.ensures.none refl in
+    let second = c.in_default-take_stp.ensures.none refl in
+    let was = Stands c.take_stp.new.self in
+    let kept : (w : List Placed) → Stands c.loop-done.machine w → was w = λ w k. second.0 w (first.0 w k) in
+    let read : reading_of c.take_stp.new.self ≡ reading_of c.args.machine.now = c.take_stp.ensures.same ∙ c.take_itm.ensures.same ∙ i.same in
     let run = g.R.Run.cells c.args.run.now in
     let at = c.loop-done.done in
     let cell = c.cell-cell.result in
@@ -213,11 +175,11 @@ returns-in-Some-give_step-clause-feeds g c =
           (subst (λ (l : List Cell). FeedsBy reading (Stands c.feed-step.new.self) u (l ++ drop (at + 1) run) c.args.source [] new (Some c.in-Some-give_step.fault))
           (sym (next_cell run at cell (let h = c.loop-done-test.true in let length_is = c.len.ensures.value in omega arith) c.cell-cell.ensures))
           (feeds_stopped reading u c.args.source (laws.settles c.args.machine.now) (Stands c.feed-step.new.self) (take at run ++ cell ∷ []) (drop (at + 1) run) c.in-Some-give_step.fault [] new
-          (feeds_more reading u c.args.source (Stands c.take_part.new.self) (Stands c.feed-step.new.self) (take at run) cell c.feed-step.result (Some c.in-Some-give_step.fault)
+          (feeds_more reading u c.args.source was (Stands c.feed-step.new.self) (take at run) cell c.feed-step.result (Some c.in-Some-give_step.fault)
           [] i.given new
-          (subst (λ (m : SourceMachine). FeedsBy reading (Stands m) u (take c.loop-done.done run) c.args.source [] i.given None) (sym kept) (i.feeds u s))
+          (feeds_kept reading u c.args.source (Stands c.loop-done.machine) was (take c.loop-done.done run) [] i.given None kept (i.feeds u s))
           (λ w k. c.feed-step.ensures.list w k)
-          (λ w k. grown_as (reading_of c.take_part.new.self) reading read w cell c.feed-step.result (c.feed-step.ensures.step w k))
+          (λ w k. grown_as (reading_of c.take_stp.new.self) reading read w cell c.feed-step.result (c.feed-step.ensures.step w k))
           (sym c.in-Some-give_step.is ∙ c.give_step.ensures.fault) refl))),
     )
 
@@ -225,13 +187,16 @@ pub returns-in-Some-give_step-clause-early : goal.returns-in-Some-give_step-clau
 returns-in-Some-give_step-clause-early g c = λ u s n r given h.
     let reading = reading_of c.args.machine.now in
     let i = c.loop-done.invariant in
-    let kept : c.take_part.new.self ≡ c.loop-done.machine = c.in_default-take_part.ensures.none refl in
-    let read : reading_of c.take_part.new.self ≡ reading_of c.args.machine.now = c.take_part.ensures.same ∙ i.same in
+    let first = c.in_default.ensures.none refl in
+    let second = c.in_default-take_stp.ensures.none refl in
+    let was = Stands c.take_stp.new.self in
+    let kept : (w : List Placed) → Stands c.loop-done.machine w → was w = λ w k. second.0 w (first.0 w k) in
+    let read : reading_of c.take_stp.new.self ≡ reading_of c.args.machine.now = c.take_stp.ensures.same ∙ c.take_itm.ensures.same ∙ i.same in
     let run = g.R.Run.cells c.args.run.now in
     let at = c.loop-done.done in
     let d = c.cell-cell.result in
     let parts : run ≡ take at run ++ (d ∷ drop (at + 1) run) = sym (take-append-drop at run) ∙ ap (λ (l : List Cell). take at run ++ l) (drop_more run at d (let t = c.loop-done-test.true in let length_is = c.len.ensures.value in omega arith) ∙ ap (λ (x : Cell). x ∷ drop (at + 1) run) (sym c.cell-cell.ensures)) in
     early reading (laws.rises c.args.machine.now) (laws.settles c.args.machine.now) u (take at run) d (drop (at + 1) run) c.feed-step.result c.in-Some-give_step.fault
     (sym c.give_step.ensures.fault ∙ c.in-Some-give_step.is)
-    (grown_as (reading_of c.take_part.new.self) reading read _ d c.feed-step.result (c.feed-step.ensures.step _ (subst (λ (m : SourceMachine). Stands m (u ++ placed_run (take at run))) (sym kept) ((i.feeds u s).list refl))))
+    (grown_as (reading_of c.take_stp.new.self) reading read _ d c.feed-step.result (c.feed-step.ensures.step _ (kept (u ++ placed_run (take at run)) ((i.feeds u s).list refl))))
     n (subst (λ (l : List Cell). RisesFrom n l) parts r) given (ap (λ (l : List Cell). (reading (u ++ placed_run l)).given) (sym parts) ∙ h)

@@ -14,7 +14,7 @@ use Rattle.itm_grammar.specs.Rule.{rule, count_of}
 use Rattle.itm_grammar.proofs.Deciding.{decided}
 use Rattle.itm_grammar.proofs.Counting.{counts_placed}
 use Rattle.itm_codec.specs.Reading.{pattern, packets_in}
-use Rattle.itm_codec.specs.Decoder.{Stands, is_hunter}
+use Rattle.itm_codec.specs.Decoder.{Stands, partial_of, is_hunter}
 use Rattle.itm_codec.proofs.decoder.ItmDecoder.feed_piece.Goals as goal
 
 none_is : {A : Type 0} → (o : Option A) → true ≡ is_none o → o ≡ None
@@ -33,7 +33,7 @@ returns-in-Some-clause-takes c = λ u s.
     let shown = laws.shows pattern Sync (by_unit rule) Header count_of refl counts_placed m true Header u at_header in
     subst (λ (n : ℕ). Takes (packets_in (is_hunter c.args.self.now)) (Stands c.args.self.now) u c.args.at c.args.piece.now n (Some (Item 0 c.in-Some.packet)))
     (let k : 0 + c.in-Some.bytes ≡ c.in-Some.bytes = omega arith in k)
-    (subst (λ (x : Bool). Takes (packets_in (is_hunter c.args.self.now)) (λ w. StandsIn pattern Sync (by_unit rule) Header m x c.args.self.now.partial w) u c.args.at c.args.piece.now (0 + c.in-Some.bytes) (Some (Item 0 c.in-Some.packet))) (sym c.requires.live)
+    (subst (λ (x : Bool). Takes (packets_in (is_hunter c.args.self.now)) (λ w. StandsIn pattern Sync (by_unit rule) Header m x (partial_of c.args.self.now) w) u c.args.at c.args.piece.now (0 + c.in-Some.bytes) (Some (Item 0 c.in-Some.packet))) (sym c.requires.live)
     (subst (λ (x : Partial). Takes (packets_in (is_hunter c.args.self.now)) (λ w. StandsIn pattern Sync (by_unit rule) Header m true x w) u c.args.at c.args.piece.now (0 + c.in-Some.bytes) (Some (Item 0 c.in-Some.packet))) (sym c.in-Some.ensures.header.1)
     (whole_takes pattern Sync rule Header m c.in-Some.ensures.header.0 u c.args.at c.args.piece.now c.in-Some.bytes 0 Header c.in-Some.packet
     (let k = c.in-Some.ensures.whole.1 in omega arith) (decided.complete c.in-Some.packet _ c.in-Some.ensures.whole.2)

@@ -30,3 +30,6 @@ returns-in-Itm-clause-step c = λ u s.
     (subst (λ step. Grows (stream_as Itm (packets_in hunts u)) (stream_as Itm (packets_in hunts next)) c.args.at step) (sym c.itm_step.ensures)
     (grows_as Itm (packets_in hunts u) (packets_in hunts next) c.args.at c.feed.result
     (c.feed.ensures.step u (subst (λ (m : SourceMachine). Stands m u) c.in-Itm.is s))))
+
+pub returns-in-Itm-clause-list : goal.returns-in-Itm-clause-list
+returns-in-Itm-clause-list c = λ u s. c.feed.ensures.list u (subst (λ (m : SourceMachine). Stands m u) c.in-Itm.is s)

@@ -1,4 +1,4 @@
-use Rattle.std.proofs.Common.{append-nil, ◌≡◌, ◌+◌, ◌*◌, ◌^◌, length, List, [], ◌∷◌, ◌++◌, refl, sym, ◌∙◌, ap, subst, arith, Some}
+use Rattle.std.proofs.Common.{append-nil, ◌≡◌, ◌+◌, ◌*◌, ◌^◌, length, take, List, [], ◌∷◌, ◌++◌, refl, sym, ◌∙◌, ap, subst, arith, Some}
 use Rattle.trace_values.specs.declared.cell.Cell.{Cell}
 use Rattle.source_events.proofs.Least.{AreSound}
 use Rattle.source_events.specs.Runs.{id_of, runs_of, IsRunFrom}
@@ -11,20 +11,20 @@ use Rattle.source_merge.specs.Counting.{HasBytes}
 use Rattle.source_merge.specs.Frame.{data_in}
 use Rattle.source_merge.specs.Routing.{mapped_of, Fed, HaveRoom}
 use Rattle.source_merge.proofs.ByParts.{TookBy}
-use Rattle.source_merge.proofs.DataCells.{data_fits, data_size, data_id, data_run, run_from}
+use Rattle.source_merge.proofs.DataCells.{data_long, data_fits, data_size, data_id, data_run, run_from}
 use Rattle.source_merge.proofs.Framing.{fed_one}
 use Rattle.source_merge.proofs.Slots.{room_more}
 use Rattle.source_merge.proofs.Taking.{lawful, sound}
 use Rattle.source_merge.proofs.frame.DataFrameFrameCells.take.Goals as goal
 
 one : (frame : DataFrame) → runs_of (data_in frame) ≡ data_in frame ∷ []
-one frame = data_run frame.run.offsets.now (Some frame.run.source) frame.run.bytes (let b = frame.run.sized in omega arith) (data_fits frame)
+one frame = data_run frame.run.offsets.now (Some frame.run.source) (take 15 frame.run.ahead) (let b = data_long frame in omega arith) (data_fits frame)
 
 pub take_own-requires-clause-own : goal.take_own-requires-clause-own
 take_own-requires-clause-own g c =
     let frame = c.args.self.now in
     ap id_of c.part.ensures
-    ∙ data_id frame.run.offsets.now frame.run.source frame.run.bytes (let b = frame.run.sized in omega arith) (data_fits frame)
+    ∙ data_id frame.run.offsets.now frame.run.source (take 15 frame.run.ahead) (let b = data_long frame in omega arith) (data_fits frame)
     ∙ ap Some (sym c.source-source.ensures)
 
 pub take_own-requires-clause-room : goal.take_own-requires-clause-room
@@ -66,7 +66,7 @@ returns-clause-counted g c = λ whole runs k h.
     let frame = c.args.self.now in
     subst (λ (l : List (List Cell)). HasBytes c.add_source.new.self whole (runs ++ l)) (sym (one frame))
     (c.add_source.ensures.counted whole runs (data_in frame)
-    (data_id frame.run.offsets.now frame.run.source frame.run.bytes (let b = frame.run.sized in omega arith) (data_fits frame)
+    (data_id frame.run.offsets.now frame.run.source (take 15 frame.run.ahead) (let b = data_long frame in omega arith) (data_fits frame)
     ∙ ap Some (sym c.source-source.ensures)) (data_size frame) h)
 
 pub returns-clause-count : goal.returns-clause-count

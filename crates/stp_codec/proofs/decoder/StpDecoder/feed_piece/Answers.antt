@@ -1,10 +1,10 @@
-use Rattle.std.proofs.Common.{◌+◌, ◌++◌, take, drop, Some, refl, sym, ◌∙◌, ap, subst, arith}
+use Rattle.std.proofs.Common.{◌≡◌, ◌+◌, ◌-◌, ◌++◌, length, take, drop, Some, refl, sym, ◌∙◌, ap, subst, arith}
 use Rattle.trace_values.specs.Placed.{placed_from}
 use Rattle.trace_values.specs.Block.{Takes}
 use Rattle.trace_values.specs.declared.step.Step.TheVariants.{Item}
 use Rattle.stp_codec.specs.Reading.{items_in}
 use Rattle.stp_codec.specs.Wholes.{item_in}
-use Rattle.stp_codec.specs.Decoder.{Stands, order_of, is_hunter}
+use Rattle.stp_codec.specs.Decoder.{Stands, order_of, is_hunter, held_of, skipped_by}
 use Rattle.stp_codec.proofs.Parts.{takes_with, taking_with, taken_all, same_takes}
 use Rattle.stp_codec.proofs.decoder.StpDecoder.feed_piece.Goals as goal
 
@@ -53,3 +53,23 @@ returns-clause-takes c = λ u s.
     let d = c.args.self.now in
     taken_all (order_of d) (is_hunter d) (Stands c.loop-taken.self) u c.args.at c.args.piece.now c.loop-taken.taken
     (let m = c.loop-taken.invariant.most in omega (arith, m, c.loop-taken-test.false)) c.requires.some (c.loop-taken.invariant.taking u s)
+
+pub feed_block-block-requires-clause-room : goal.feed_block-block-requires-clause-room
+feed_block-block-requires-clause-room c =
+    let p = c.args.piece.now in
+    let n = c.loop-taken.taken in
+    let e = c.in-None.ensures.none refl in
+    let k : held_of c.take_packet.new.self ≡ held_of c.loop-taken.self = ap (λ x. held_of x) e in
+    let m : skipped_by c.take_packet.new.self ≡ skipped_by c.loop-taken.self = ap (λ x. skipped_by x) e in
+    let l : length (take (length p - n) (drop n p)) ≡ length p - n = search in
+    let f = c.loop-taken.invariant.few in
+    omega (arith, k, m, l, f, c.requires.room, c.loop-taken-test.true)
+
+pub returns-in-None-clause-few : goal.returns-in-None-clause-few
+returns-in-None-clause-few c =
+    let e = c.in-None.ensures.none refl in
+    let k : held_of c.take_packet.new.self ≡ held_of c.loop-taken.self = ap (λ x. held_of x) e in
+    let m : skipped_by c.take_packet.new.self ≡ skipped_by c.loop-taken.self = ap (λ x. skipped_by x) e in
+    let f = c.loop-taken.invariant.few in
+    let g = c.feed_block-block.ensures.few in
+    omega (arith, k, m, f, g)

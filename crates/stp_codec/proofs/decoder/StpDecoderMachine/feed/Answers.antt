@@ -1,84 +1,30 @@
-use Rattle.std.proofs.Common.{[], ◌∷◌, ◌++◌, sym, subst, arith}
-use Rattle.trace_values.specs.Nibbles.{nibbles_of, low_of}
-use Rattle.trace_values.specs.Stream.{LocksAfter}
-use Rattle.stp_codec.specs.Decoder.{is_hunter}
-use Rattle.stp_codec.proofs.Bytes.{of_byte, grows_high, grows_low, grows_faulty, faulty_list, ended, high_answer, low_answer, fault_answer}
-use Rattle.stp_codec.proofs.Insides.{inside_list, inside_step, inside_answer}
+use Rattle.std.proofs.Common.{[], ◌∷◌, ◌++◌, ◌∙◌, ap}
+use Rattle.trace_values.specs.Placed.{byte_at}
+use Rattle.trace_values.specs.Nibbles.{nibbles_of}
+use Rattle.trace_values.specs.Stream.{Grows}
+use Rattle.trace_values.specs.Moded.{is_locked}
+use Rattle.stp_codec.specs.Reading.{items_in, packets_of, rest_in}
+use Rattle.stp_codec.specs.Answers.{AnswersByte}
+use Rattle.stp_codec.proofs.Taken.{to_stands, settles_reads, settles_same, same_order}
 use Rattle.stp_codec.proofs.decoder.StpDecoderMachine.feed.Goals as goal
 
-pub take_nibble-requires-clause-room : goal.take_nibble-requires-clause-room
-take_nibble-requires-clause-room c = let k = c.take_nibble-low.ensures.more in omega (arith, k.0)
+pub returns-clause-list : goal.returns-clause-list
+returns-clause-list c = λ u s.
+    to_stands c.feed_settled.new.self c.feed_settled.ensures.settled (nibbles_of (u ++ byte_at c.args.at c.args.byte ∷ []))
+    (c.feed_settled.ensures.list u (settles_reads c.args.self.now c.settle.new.self c.settle.ensures u s))
 
-pub take_nibble-requires-clause-count : goal.take_nibble-requires-clause-count
-take_nibble-requires-clause-count c = let k = c.take_nibble-low.ensures.more in omega (arith, k.1)
-
-pub take_nibble-requires-in-Item-clause-count : goal.take_nibble-requires-in-Item-clause-count
-take_nibble-requires-in-Item-clause-count c = let k = c.take_nibble-low.ensures.more in omega (arith, k.1)
-
-pub returns-in-Quiet-clause-list : goal.returns-in-Quiet-clause-list
-returns-in-Quiet-clause-list c = λ u s.
-    of_byte c.take_nibble.new.self u c.args.at c.args.byte (omega (arith, c.ranges.byte))
-    (c.take_nibble.ensures.list (nibbles_of u ++ low_of c.args.at c.args.byte ∷ []) (c.take_nibble-low.ensures.list (nibbles_of u) s))
-
-pub returns-in-Quiet-clause-step : goal.returns-in-Quiet-clause-step
-returns-in-Quiet-clause-step c = λ u s.
-    grows_high c.args.self.now.order c.take_nibble-low.new.self.order (is_hunter c.args.self.now) (is_hunter c.take_nibble-low.new.self) u c.args.at c.args.byte c.take_nibble-low.ensures.same
-    c.take_nibble-low.result c.take_nibble.result (c.take_nibble-low.ensures.step (nibbles_of u) s) (omega (arith, c.ranges.byte))
-    (c.take_nibble.ensures.step (nibbles_of u ++ low_of c.args.at c.args.byte ∷ []) (c.take_nibble-low.ensures.list (nibbles_of u) s)) c.in-Quiet.is
-
-pub returns-in-Item-clause-list : goal.returns-in-Item-clause-list
-returns-in-Item-clause-list c = λ u s.
-    of_byte c.take_nibble-in-Item.new.self u c.args.at c.args.byte (omega (arith, c.ranges.byte))
-    (c.take_nibble-in-Item.ensures.list (nibbles_of u ++ low_of c.args.at c.args.byte ∷ []) (c.take_nibble-low.ensures.list (nibbles_of u) s))
-
-pub returns-in-Item-clause-step : goal.returns-in-Item-clause-step
-returns-in-Item-clause-step c = λ u s.
-    grows_low c.args.self.now.order c.take_nibble-low.new.self.order (is_hunter c.args.self.now) (is_hunter c.take_nibble-low.new.self) u c.args.at c.args.byte c.take_nibble-low.ensures.same
-    c.take_nibble-low.result c.take_nibble-in-Item.result (c.take_nibble-low.ensures.step (nibbles_of u) s) (omega (arith, c.ranges.byte))
-    (c.take_nibble-in-Item.ensures.step (nibbles_of u ++ low_of c.args.at c.args.byte ∷ []) (c.take_nibble-low.ensures.list (nibbles_of u) s)) c.in-Item.is
-    (let k = ended c.take_nibble-low.result c.take_nibble-low.new.self.partial _ c.in-Item.is c.take_nibble-low.ensures.ends in c.take_nibble-in-Item.ensures.quiet k.0 k.1)
-
-pub returns-in-Fault-clause-list : goal.returns-in-Fault-clause-list
-returns-in-Fault-clause-list c = λ u s. faulty_list c.take_nibble-low.new.self u c.args.at c.args.byte c.in-Fault.ensures.live (c.take_nibble-low.ensures.list (nibbles_of u) s)
-
-pub returns-in-Fault-clause-step : goal.returns-in-Fault-clause-step
-returns-in-Fault-clause-step c = λ u s.
-    grows_faulty c.args.self.now.order (is_hunter c.args.self.now) u c.args.at c.args.byte c.take_nibble-low.result c.in-Fault.field-0 c.in-Fault.is (c.take_nibble-low.ensures.step (nibbles_of u) s)
-
-pub returns-in-Quiet-clause-grammar : goal.returns-in-Quiet-clause-grammar
-returns-in-Quiet-clause-grammar c = λ u s k.
-    high_answer c.args.self.now.order (is_hunter c.args.self.now) (nibbles_of u) c.args.at c.args.byte c.take_nibble-low.result c.take_nibble.result
-    c.take_nibble-low.new.self.order (is_hunter c.take_nibble-low.new.self) (omega (arith, c.ranges.byte)) c.take_nibble-low.ensures.same c.in-Quiet.is (c.take_nibble-low.ensures.grammar (nibbles_of u) s k)
-    (c.take_nibble.ensures.grammar (nibbles_of u ++ low_of c.args.at c.args.byte ∷ []) (c.take_nibble-low.ensures.list (nibbles_of u) s) (c.take_nibble-low.ensures.stays k).0)
-
-pub returns-in-Item-clause-grammar : goal.returns-in-Item-clause-grammar
-returns-in-Item-clause-grammar c = λ u s k.
-    low_answer c.args.self.now.order (is_hunter c.args.self.now) (nibbles_of u) c.args.at c.args.byte c.take_nibble-low.result c.take_nibble-in-Item.result
-    c.take_nibble-low.new.self.order (is_hunter c.take_nibble-low.new.self) (omega (arith, c.ranges.byte)) c.take_nibble-low.ensures.same c.in-Item.is
-    (let e = ended c.take_nibble-low.result c.take_nibble-low.new.self.partial _ c.in-Item.is c.take_nibble-low.ensures.ends in c.take_nibble-in-Item.ensures.quiet e.0 e.1)
-    (c.take_nibble-low.ensures.grammar (nibbles_of u) s k)
-    (c.take_nibble-in-Item.ensures.grammar (nibbles_of u ++ low_of c.args.at c.args.byte ∷ []) (c.take_nibble-low.ensures.list (nibbles_of u) s) (c.take_nibble-low.ensures.stays k).0)
-
-pub returns-in-Fault-clause-grammar : goal.returns-in-Fault-clause-grammar
-returns-in-Fault-clause-grammar c = λ u s k.
-    fault_answer c.args.self.now.order (is_hunter c.args.self.now) (nibbles_of u) c.args.at c.args.byte c.take_nibble-low.result c.in-Fault.field-0 c.in-Fault.is (c.take_nibble-low.ensures.grammar (nibbles_of u) s k)
-
-pub returns-in-Item-clause-lock : goal.returns-in-Item-clause-lock
-returns-in-Item-clause-lock c =
-    let e = ended c.take_nibble-low.result c.take_nibble-low.new.self.partial _ c.in-Item.is c.take_nibble-low.ensures.ends in
-    subst (λ k. LocksAfter k c.take_nibble-low.result) (sym (c.take_nibble-in-Item.ensures.stays e.1).1) c.take_nibble-low.ensures.lock
-
-pub returns-in-Some-clause-list : goal.returns-in-Some-clause-list
-returns-in-Some-clause-list c = λ u s.
+pub returns-clause-step : goal.returns-clause-step
+returns-clause-step c = λ u s.
     let d = c.args.self.now in
-    inside_list d.order d.mode d.live d.partial d.attribution u c.args.at c.args.byte c.requires.live c.in-Some.ensures.locked (omega (arith, c.ranges.byte)) c.in-Some.partial c.in-Some.ensures.goes s
+    let m = c.settle.new.self in
+    same_order d m (settles_same d m c.settle.ensures)
+    (λ o h. Grows (items_in o h u) (items_in o h (u ++ byte_at c.args.at c.args.byte ∷ [])) c.args.at c.feed_settled.result)
+    (c.feed_settled.ensures.step u (settles_reads d m c.settle.ensures u s))
 
-pub returns-in-Some-clause-step : goal.returns-in-Some-clause-step
-returns-in-Some-clause-step c = λ u s.
+pub returns-clause-grammar : goal.returns-clause-grammar
+returns-clause-grammar c = λ u s k.
     let d = c.args.self.now in
-    inside_step d.order d.mode d.live d.partial d.attribution u c.args.at c.args.byte c.requires.live c.in-Some.ensures.locked (omega (arith, c.ranges.byte)) c.in-Some.partial c.in-Some.ensures.goes s
-
-pub returns-in-Some-clause-grammar : goal.returns-in-Some-clause-grammar
-returns-in-Some-clause-grammar c = λ u s k.
-    let d = c.args.self.now in
-    inside_answer d.order d.mode d.live d.partial d.attribution u c.args.at c.args.byte c.requires.live c.in-Some.ensures.locked (omega (arith, c.ranges.byte)) c.in-Some.partial c.in-Some.ensures.goes s
+    let m = c.settle.new.self in
+    same_order d m (settles_same d m c.settle.ensures)
+    (λ o h. AnswersByte o (packets_of o h (nibbles_of u)) (rest_in o h (nibbles_of u)) c.args.at c.args.byte c.feed_settled.result)
+    (c.feed_settled.ensures.grammar u (settles_reads d m c.settle.ensures u s) (ap (λ x. is_locked x) c.settle.ensures.mode ∙ k))

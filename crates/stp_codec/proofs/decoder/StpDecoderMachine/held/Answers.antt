@@ -1,13 +1,35 @@
-use Rattle.std.proofs.Common.{◌≡◌, ℕ, ◌≤◌, ◌⊎◌, All, take, sym, subst}
+use Rattle.std.proofs.Common.{◌≡◌, ℕ, ◌≤◌, ◌⊎◌, ◌<◌, All, take, sym, ◌∙◌, subst, arith}
 use Rattle.trace_values.specs.Placed.{units_of}
 use Rattle.trace_values.specs.Nibbles.{nibbles_of}
 use Rattle.stp_codec.specs.Reading.{rest_in}
-use Rattle.stp_codec.specs.Decoder.{is_hunter}
+use Rattle.stp_codec.specs.Decoder.{is_hunter, partial_of}
 use Rattle.stp_codec.proofs.Holding as holding
+use Rattle.stp_codec.proofs.Taken.{held_read, held_count, read_few}
 use Rattle.stp_codec.proofs.decoder.StpDecoderMachine.held.Goals as goal
+
+pub returns-then-self-eq0-clause-few : goal.returns-then-self-eq0-clause-few
+returns-then-self-eq0-clause-few c = λ u s.
+    let d = c.args.self.now in
+    subst (λ (n : ℕ). (n ≤ 34) ⊎ All (λ b. b ≡ 15) (take n (units_of (rest_in d.order (is_hunter d) (nibbles_of u))))) (sym (c.len.ensures ∙ sym (held_read d c.if-self-eq0.true)))
+    (holding.few d.order d.mode d.live (partial_of d) (nibbles_of u) s.0)
+
+pub overflow_add-result : goal.overflow_add-result
+overflow_add-result c =
+    let d = c.args.self.now in
+    let n = c.if-self-eq0.false in
+    let w : 0 < d.waiting = grind arith in
+    let k = read_few d w in
+    let f = d.few in
+    let e = c.len-2.ensures in
+    omega (arith, k, f, e)
+
+pub returns-clause-count : goal.returns-clause-count
+returns-clause-count c = (let k = held_count c.args.self.now in let e = c.len-2.ensures in omega (arith, k, e))
 
 pub returns-clause-few : goal.returns-clause-few
 returns-clause-few c = λ u s.
     let d = c.args.self.now in
-    subst (λ (n : ℕ). (n ≤ 34) ⊎ All (λ b. b ≡ 15) (take n (units_of (rest_in d.order (is_hunter d) (nibbles_of u))))) (sym c.len.ensures)
-    (holding.few d.order d.mode d.live d.partial (nibbles_of u) s.0)
+    let e = c.len-2.ensures in
+    let k = held_count d in
+    subst (λ (n : ℕ). (n ≤ 34) ⊎ All (λ b. b ≡ 15) (take n (units_of (rest_in d.order (is_hunter d) (nibbles_of u))))) (omega (arith, k, e))
+    (holding.few d.order d.mode d.live (partial_of d) (nibbles_of u) s.0)

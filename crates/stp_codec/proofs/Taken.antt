@@ -1,0 +1,257 @@
+-- What a decoder stands for while bytes wait in it.
+use Rattle.std.proofs.Common.{◌≡◌, ℕ, zero, suc, ◌+◌, ◌-◌, ◌*◌, ◌<◌, ◌≤◌, List, [], ◌∷◌, ◌++◌, length, take, refl, sym, ◌∙◌, ap, subst, arith, Option, None, Some, Bool, true}
+use Rattle.std.specs.Prelude.{IfSome}
+use Rattle.std.proofs.lemmas.List.{take_all, length-take-le}
+use Rattle.trace_values.specs.declared.next.Next.TheVariants.{Go, End, Fail}
+use Rattle.trace_values.specs.declared.next.Next.{Next}
+use Rattle.trace_values.specs.declared.mode.Mode.{Mode}
+use Rattle.trace_values.specs.Placed.{Placed, units_of}
+use Rattle.trace_values.specs.Nibbles.{nibbles_of}
+use Rattle.trace_values.specs.Moded.{hunts, is_locked, skipped_of}
+use Rattle.stp_grammar.specs.declared.packet.Order.{Order}
+use Rattle.stp_grammar.specs.declared.packet.Order.TheVariants.{Msn}
+use Rattle.stp_grammar.specs.declared.packet.StpPacket.{StpPacket}
+use Rattle.stp_grammar.specs.declared.attribution.Attribution.{Attribution}
+use Rattle.stp_grammar.specs.declared.partial.Partial.{Partial}
+use Rattle.stp_grammar.specs.declared.partial.Partial.TheVariants.{Start}
+use Rattle.stp_grammar.specs.Proper.{IsProper}
+use Rattle.stp_grammar.specs.Rule.{rule, count_of}
+use Rattle.stp_grammar.proofs.Counting.{counts}
+use Rattle.stp_codec.specs.Reading.{items_in}
+use Rattle.stp_codec.specs.Wholes.{nibbles_in, reached, Fronts, left_after, left_by, item_in, between, Ends}
+use Rattle.stp_codec.specs.Cuts.{Passes}
+use Rattle.stp_codec.specs.declared.flat.TheConstants.{WINDOW}
+use Rattle.stp_codec.specs.declared.decoder.PacketTaken.{PacketTaken}
+use Rattle.stp_codec.specs.declared.decoder.StpDecoder.{StpDecoder}
+use Rattle.stp_codec.specs.Decoder.{waiting_in, partial_of, StandsWith, Stands, Reads, ReadsAt, order_of, is_hunter, held_of, skipped_by, read_of, is_live, has_locked, Finishes, IsReady, Settles, HoldsAhead, Copies, Idles, TakesPart}
+use Rattle.stp_codec.proofs.Taking.{At}
+use Rattle.stp_codec.proofs.Between.{length-nibbles}
+use Rattle.stp_codec.proofs.PacketPieces.{take_nibbles}
+use Rattle.stp_codec.proofs.PartPieces.{inside_count, inside_passes}
+use Rattle.stp_codec.proofs.Unread.{nibbles_append, take_fewer, reached_on, fronts_on, reached_none, fewer_front, some_behind, ends_behind}
+
+-- the same in all parts
+stands_as : (d e : StpDecoder) (s t : Partial) → e.order ≡ d.order → e.mode ≡ d.mode → e.live ≡ d.live → e.attribution ≡ d.attribution → t ≡ s →
+    (n : List Placed) → StandsWith d s n → StandsWith e t n
+stands_as d e s t order mode live attribution same n h =
+    subst (λ (x : Order). At x e.mode e.live t e.attribution n) (sym order)
+    (subst (λ (x : Mode). At d.order x e.live t e.attribution n) (sym mode)
+    (subst (λ (x : Bool). At d.order d.mode x t e.attribution n) (sym live)
+    (subst (λ (x : Partial). At d.order d.mode d.live x e.attribution n) (sym same)
+    (subst (λ (x : Attribution). At d.order d.mode d.live s x n) (sym attribution) h))))
+
+-- where no bytes wait
+pub settled : (d : StpDecoder) → d.waiting ≡ 0 → partial_of d ≡ d.partial
+settled d e = reached_none d.order d.partial d.held d.waiting e
+
+pub to_reads : (d : StpDecoder) → d.waiting ≡ 0 → (u : List Placed) → Stands d u → Reads d u
+to_reads d e u h = subst (λ (p : Partial). StandsWith d p (nibbles_of u)) (settled d e) h
+
+pub to_stands : (d : StpDecoder) → d.waiting ≡ 0 → (n : List Placed) → ReadsAt d n → StandsWith d (partial_of d) n
+to_stands d e n h = subst (λ (p : Partial). StandsWith d p n) (sym (settled d e)) h
+
+pub held_read : (d : StpDecoder) → d.waiting ≡ 0 → held_of d ≡ read_of d
+held_read d e = ap (λ (p : Partial). count_of p) (settled d e)
+
+-- the bytes that wait end nothing
+pub fronts_of : (d : StpDecoder) → Fronts d.order d.partial (nibbles_in (waiting_in d))
+fronts_of d = by d.waiting refl where
+  by : (n : ℕ) → d.waiting ≡ n → Fronts d.order d.partial (nibbles_in (waiting_in d))
+  by zero e = subst (λ (k : ℕ). Fronts d.order d.partial (nibbles_in (take k d.held))) (sym e) refl
+  by (suc n) e = d.fronts (omega (arith, e))
+
+pub waiting_length : (d : StpDecoder) → length (waiting_in d) ≡ d.waiting
+waiting_length d = (let s = d.size in let f = d.few in length-take-le d.waiting d.held (omega (arith, s, f)))
+
+pub held_count : (d : StpDecoder) → held_of d ≡ read_of d + 2 * d.waiting
+held_count d =
+    let l = waiting_length d in
+    let k = inside_count d.order d.partial (partial_of d) (waiting_in d) (fronts_of d) in
+    omega (arith, k, l)
+
+-- a packet's first nibble leaves at most one
+pub left_count : (order : Order) (first : ℕ) → count_of (left_by order first) ≤ 1
+left_count order first = by (rule order Start first) refl where
+  by : (x : Next Partial StpPacket) → rule order Start first ≡ x → count_of (left_after x) ≤ 1
+  by (Go t) e = (let n = counts order Start t first e in omega (arith, n))
+  by (End v) e = omega arith
+  by (Fail r) e = omega arith
+
+pub read_few : (d : StpDecoder) → 0 < d.waiting → read_of d ≤ 1
+read_few d h = subst (λ (p : Partial). count_of p ≤ 1) (d.pending (d.ready h).1) (left_count d.order d.first)
+
+-- bytes that were read
+module _ (d e : StpDecoder) (s : Settles d e) where
+  pub settles_reads : (u : List Placed) → Stands d u → Reads e u
+  settles_reads u h = stands_as d e (partial_of d) e.partial s.order s.mode s.live s.attribution s.partial (nibbles_of u) h
+
+  pub settles_read : read_of e ≡ held_of d
+  settles_read = ap (λ (p : Partial). count_of p) s.partial
+
+  pub settles_skipped : skipped_by e ≡ skipped_by d
+  settles_skipped = ap (λ (m : Mode). skipped_of m) s.mode
+
+  pub settles_same : (order_of e ≡ order_of d) × (is_hunter e ≡ is_hunter d)
+  settles_same = (s.order, ap (λ (m : Mode). hunts m) s.mode)
+
+  pub settles_idle : Idles d e
+  settles_idle = (λ u h. to_stands e s.none (nibbles_of u) (settles_reads u h), held_read e s.none ∙ settles_read, settles_skipped)
+
+-- bytes that were copied
+module _ (d e : StpDecoder) (ahead : List ℕ) (c : Copies d e ahead) where
+  copies_partial : partial_of e ≡ partial_of d
+  copies_partial =
+      ap (λ (o : Order). reached o e.partial (nibbles_in (waiting_in e))) c.order
+      ∙ ap (λ (p : Partial). reached d.order p (nibbles_in (waiting_in e))) c.partial
+      ∙ ap (λ (l : List ℕ). reached d.order d.partial (nibbles_in l)) c.bytes
+
+  pub copies_same : (order_of e ≡ order_of d) × (is_hunter e ≡ is_hunter d)
+  copies_same = (c.order, ap (λ (m : Mode). hunts m) c.mode)
+
+  pub copies_idle : Idles d e
+  copies_idle = (
+    λ u h. stands_as d e (partial_of d) (partial_of e) c.order c.mode c.live c.attribution copies_partial (nibbles_of u) h,
+    ap (λ (p : Partial). count_of p) copies_partial,
+    ap (λ (m : Mode). skipped_of m) c.mode,
+  )
+
+  pub copies_ready : IsReady d → IsReady e
+  copies_ready r = record {
+    order = c.order ∙ r.order;
+    first = subst (λ (n : ℕ). n < 16) (sym c.first) r.first;
+    locked = ap (λ (m : Mode). is_locked m) c.mode ∙ r.locked;
+  }
+
+  pub copies_fronts : (x : List ℕ) → Fronts (order_of d) (partial_of d) x → Fronts (order_of e) (partial_of e) x
+  copies_fronts x f = subst (λ (o : Order). Fronts o (partial_of e) x) (sym c.order) (subst (λ (p : Partial). Fronts (order_of d) p x) (sym copies_partial) f)
+
+-- one after another
+module _ (d e f : StpDecoder) (same : (order_of e ≡ order_of d) × (is_hunter e ≡ is_hunter d)) (i : Idles d e) where
+  pub idle_idle : Idles e f → Idles d f
+  idle_idle j = (λ u h. j.0 u (i.0 u h), j.1 ∙ i.1, j.2 ∙ i.2)
+
+  pub idle_part : (ahead : List ℕ) (count : ℕ) (taken : PacketTaken) → TakesPart e f ahead count taken → TakesPart d f ahead count taken
+  idle_part ahead count taken t = record {
+    bytes = t.bytes;
+    passes = λ u front last h units.
+        subst (λ (o : Order). Passes (items_in o (is_hunter d)) (Stands f) u front last (item_in taken.half taken.item)) same.0
+        (subst (λ (b : Bool). Passes (items_in (order_of e) b) (Stands f) u front last (item_in taken.half taken.item)) same.1
+        (t.passes u front last (i.0 u h) units));
+    fits = t.fits;
+    few = (let k = t.few in let l = i.1 in let m = i.2 in omega (arith, k, l, m));
+  }
+
+  pub idle_parts : (ahead : List ℕ) (count : ℕ) (o : Option PacketTaken) → IfSome o (TakesPart e f ahead count) → IfSome o (TakesPart d f ahead count)
+  idle_parts ahead count None t = tt
+  idle_parts ahead count (Some taken) t = idle_part ahead count taken t
+
+-- the first bytes of more
+front_passes : (d f : StpDecoder) (ahead : List ℕ) (count n : ℕ) → n ≤ count → (o : Option PacketTaken) → IfSome o (TakesPart d f (take count ahead) n) →
+    (u front : List Placed) (last : Placed) → Stands d u → IfSome o (λ taken. units_of (front ++ last ∷ []) ≡ take taken.bytes ahead →
+    Passes (items_in (order_of d) (is_hunter d)) (Stands f) u front last (item_in taken.half taken.item))
+front_passes d f ahead count n h None t u front last s = tt
+front_passes d f ahead count n h (Some taken) t u front last s =
+    λ e. t.passes u front last s (e ∙ sym (take_fewer taken.bytes count ahead (let b = t.bytes in omega (arith, b.1, h))))
+
+pub part_passes : (d e f : StpDecoder) → (order_of e ≡ order_of d) × (is_hunter e ≡ is_hunter d) → Idles d e →
+    (ahead : List ℕ) (count : ℕ) → count ≤ length ahead → (o : Option PacketTaken) → IfSome o (TakesPart e f (take count ahead) (length (take count ahead))) →
+    (u front : List Placed) (last : Placed) → Stands d u → IfSome o (λ taken. units_of (front ++ last ∷ []) ≡ take taken.bytes ahead →
+    Passes (items_in (order_of d) (is_hunter d)) (Stands f) u front last (item_in taken.half taken.item))
+part_passes d e f same i ahead count within o t u front last s =
+    let l = length-take-le count ahead within in
+    front_passes d f ahead count (length (take count ahead)) (omega (arith, l)) o (idle_parts d e f same i (take count ahead) (length (take count ahead)) o t) u front last s
+
+pub same_order : (d e : StpDecoder) → (order_of e ≡ order_of d) × (is_hunter e ≡ is_hunter d) → (P : Order → Bool → Type 0) → P (order_of e) (is_hunter e) → P (order_of d) (is_hunter d)
+same_order d e same P h = subst (λ (o : Order). P o (is_hunter d)) same.0 (subst (λ (b : Bool). P (order_of e) b) same.1 h)
+
+-- a packet that can be read at once
+module _ (d : StpDecoder) (r : IsReady d) where
+  parts_ends : (w : List ℕ) (v : StpPacket) → Ends Msn (Go (left_by Msn d.first)) w v → Ends d.order (Go d.partial) w v
+  parts_ends w v k =
+      subst (λ (t : Partial). Ends d.order (Go t) w v) (d.pending r.first)
+      (subst (λ (o : Order). Ends o (Go (left_by o d.first)) w v) (sym r.order) k)
+
+  -- where no bytes wait
+  module _ (e : d.waiting ≡ 0) (ahead : List ℕ) (n : ℕ) (v : StpPacket) where
+    fresh_ends : Ends Msn (Go (left_by Msn d.first)) (between (nibbles_in ahead) 0 n) v → Ends d.order (Go (partial_of d)) (between (nibbles_in ahead) 0 n) v
+    fresh_ends k =
+        subst (λ (t : Partial). Ends d.order (Go t) (between (nibbles_in ahead) 0 n) v) (sym (settled d e))
+        (parts_ends (between (nibbles_in ahead) 0 n) v k)
+
+    pub fresh_finishes : 0 < n → n ≤ 2 * length ahead → Ends Msn (Go (left_by Msn d.first)) (between (nibbles_in ahead) 0 n) v → IsProper v → Finishes d ahead n v
+    fresh_finishes some within k proper = record { locked = r.locked; some = some; within = within; whole = fresh_ends k; proper = proper }
+
+    pub fresh_fronts : (count : ℕ) → 2 * count < n → count < length ahead → Ends Msn (Go (left_by Msn d.first)) (between (nibbles_in ahead) 0 n) v →
+        Fronts (order_of d) (partial_of d) (nibbles_in (take count ahead))
+    fresh_fronts count h l k =
+        let m = length-nibbles ahead in
+        subst (λ (x : List ℕ). Fronts (order_of d) (partial_of d) x) (sym (take_nibbles count ahead))
+        (fewer_front d.order (partial_of d) (nibbles_in ahead) (2 * count) n v h (omega (arith, l, m)) (fresh_ends k))
+
+  -- where these bytes are behind those that wait
+  module _ (ahead : List ℕ) (h : (more : ℕ) → more ≤ WINDOW → HoldsAhead d ahead more) (n : ℕ) (v : StpPacket) (most : n ≤ 48)
+      (k : Ends Msn (Go (left_by Msn d.first)) (between (nibbles_in (take 24 d.held)) 0 n) v) where
+    few : length (waiting_in d) ≤ 24
+    few = (let l = waiting_length d in let f = d.few in omega (arith, l, f))
+
+    window : take 24 d.held ≡ waiting_in d ++ take (24 - length (waiting_in d)) ahead
+    window =
+        let l = waiting_length d in
+        let f = d.few in
+        let all : d.waiting + (24 - d.waiting) ≡ 24 = omega (arith, f) in
+        ap (λ i. take i d.held) (sym all) ∙ h (24 - d.waiting) (omega arith) ∙ ap (λ i. waiting_in d ++ take (24 - i) ahead) (sym l)
+
+    pub held_some : 2 * d.waiting < n
+    held_some =
+        let l = waiting_length d in
+        let s = some_behind d.order d.partial (waiting_in d) ahead (take 24 d.held) n v few most window (fronts_of d) (parts_ends (between (nibbles_in (take 24 d.held)) 0 n) v k) in
+        omega (arith, l, s)
+
+    held_ends : Ends d.order (Go (partial_of d)) (between (nibbles_in ahead) 0 (n - 2 * d.waiting)) v
+    held_ends =
+        subst (λ (i : ℕ). Ends d.order (Go (partial_of d)) (between (nibbles_in ahead) 0 (n - 2 * i)) v) (waiting_length d)
+        (ends_behind d.order d.partial (waiting_in d) ahead (take 24 d.held) n v few most window (fronts_of d) (parts_ends (between (nibbles_in (take 24 d.held)) 0 n) v k))
+
+    pub held_finishes : n - 2 * d.waiting ≤ 2 * length ahead → IsProper v → Finishes d ahead (n - 2 * d.waiting) v
+    held_finishes within proper =
+        let s = held_some in
+        record { locked = r.locked; some = omega (arith, s); within = within; whole = held_ends; proper = proper }
+
+    pub held_fronts : (count : ℕ) → 2 * d.waiting + 2 * count < n → count < length ahead → Fronts (order_of d) (partial_of d) (nibbles_in (take count ahead))
+    held_fronts count g l =
+        let m = length-nibbles ahead in
+        subst (λ (x : List ℕ). Fronts (order_of d) (partial_of d) x) (sym (take_nibbles count ahead))
+        (fewer_front d.order (partial_of d) (nibbles_in ahead) (2 * count) (n - 2 * d.waiting) v (omega (arith, g)) (omega (arith, l, m)) held_ends)
+
+-- bytes that wait from now on
+module _ (d : StpDecoder) (ahead : List ℕ) (count : ℕ) (held : HoldsAhead d ahead count) (fronts : Fronts (order_of d) (partial_of d) (nibbles_in (take count ahead))) where
+  more_nibbles : nibbles_in (take (d.waiting + count) d.held) ≡ nibbles_in (waiting_in d) ++ nibbles_in (take count ahead)
+  more_nibbles = ap nibbles_in held ∙ nibbles_append (waiting_in d) (take count ahead)
+
+  pub more_fronts : Fronts d.order d.partial (nibbles_in (take (d.waiting + count) d.held))
+  more_fronts =
+      subst (λ (x : List ℕ). Fronts d.order d.partial x) (sym more_nibbles)
+      (fronts_on d.order d.partial (nibbles_in (waiting_in d)) (nibbles_in (take count ahead)) (fronts_of d) fronts)
+
+  more_reached : reached d.order d.partial (nibbles_in (take (d.waiting + count) d.held)) ≡ reached d.order (partial_of d) (nibbles_in (take count ahead))
+  more_reached =
+      ap (λ (x : List ℕ). reached d.order d.partial x) more_nibbles
+      ∙ reached_on d.order d.partial (nibbles_in (waiting_in d)) (nibbles_in (take count ahead)) (fronts_of d)
+
+  pub more_count : count ≤ length ahead → count_of (reached d.order d.partial (nibbles_in (take (d.waiting + count) d.held))) ≡ held_of d + 2 * count
+  more_count within =
+      let l = length-take-le count ahead within in
+      let k = inside_count d.order (partial_of d) (reached d.order (partial_of d) (nibbles_in (take count ahead))) (take count ahead) fronts in
+      let m = ap (λ (p : Partial). count_of p) more_reached in
+      omega (arith, k, l, m)
+
+  pub more_passes : is_live d ≡ true → has_locked d ≡ true → (u front : List Placed) (last : Placed) → Stands d u → units_of (front ++ last ∷ []) ≡ take count ahead →
+      Passes (items_in (order_of d) (is_hunter d))
+      (λ w. At d.order d.mode d.live (reached d.order d.partial (nibbles_in (take (d.waiting + count) d.held))) d.attribution (nibbles_of w)) u front last None
+  more_passes live locked u front last s e =
+      let t = reached d.order (partial_of d) (nibbles_in (take count ahead)) in
+      subst (λ (p : Partial). Passes (items_in (order_of d) (is_hunter d)) (λ w. At d.order d.mode d.live p d.attribution (nibbles_of w)) u front last None) (sym more_reached)
+      (subst (λ (l : Bool). Passes (items_in (order_of d) (is_hunter d)) (λ w. At d.order d.mode l t d.attribution (nibbles_of w)) u front last None) (sym live)
+      (inside_passes d.order d.mode d.attribution locked (partial_of d) t (take count ahead) u front last fronts
+      (subst (λ (l : Bool). At d.order d.mode l (partial_of d) d.attribution (nibbles_of u)) live s)
+      (e ∙ sym (take_all (length (take count ahead)) (take count ahead) (omega arith)))))
