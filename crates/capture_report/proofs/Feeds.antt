@@ -145,11 +145,11 @@ pub rest_of : (n : ℕ) (piece : List ℕ) → take (length piece - n) (drop n p
 rest_of n piece = take_all (length piece - n) (drop n piece) (let k = length-drop n piece in omega arith)
 
 -- the front of a piece, and then some of its rest
-pub fed_next : (old mid new : Show) (piece : List ℕ) (done bytes : ℕ) (before between after : List ℕ) →
+pub fed_next : (old mid new : Show) (piece : List ℕ) (done bytes : ℕ) (flow : Flow) (before between after : List ℕ) →
     HasFed old mid (take done piece) On before between →
-    HasFed mid new (take bytes (take (length piece - done) (drop done piece))) On between after →
-    HasFed old new (take (done + bytes) piece) On before after
-fed_next old mid new piece done bytes before between after first second =
-    subst (λ (l : List ℕ). HasFed old new l On before after) (sym (take-add done bytes piece))
-    (fed_on old mid new (take done piece) (take bytes (drop done piece)) On before between after first
-    (subst (λ (l : List ℕ). HasFed mid new (take bytes l) On between after) (rest_of done piece) second))
+    HasFed mid new (take bytes (take (length piece - done) (drop done piece))) flow between after →
+    HasFed old new (take (done + bytes) piece) flow before after
+fed_next old mid new piece done bytes flow before between after first second =
+    subst (λ (l : List ℕ). HasFed old new l flow before after) (sym (take-add done bytes piece))
+    (fed_on old mid new (take done piece) (take bytes (drop done piece)) flow before between after first
+    (subst (λ (l : List ℕ). HasFed mid new (take bytes l) flow between after) (rest_of done piece) second))

@@ -5,15 +5,15 @@ use Rattle.std.proofs.lemmas.Bool.{cases_eq}
 use Rattle.std.proofs.lemmas.Bool.Decides.{nat_tests}
 use Rattle.std.proofs.lemmas.List.{get_or-set_same, get_or-set_other}
 use Rattle.itm_grammar.specs.declared.packet.ItmPacket.{ItmPacket}
-use Rattle.stp_grammar.specs.declared.item.StpItem.{StpItem}
 use Rattle.source_events.specs.declared.event.Event.{Event}
 use Rattle.source_events.specs.declared.packet.Packet.{Packet}
 use Rattle.source_events.specs.Merge.{is_of}
-use Rattle.trace_text.specs.LineText.{stp_event}
 use Rattle.capture_report.specs.declared.clocks.Clocks.{Clocks}
 use Rattle.capture_report.specs.Clocks.{Stands}
 use Rattle.capture_report.specs.Listing.{itm_packet, itm_packets}
 use Rattle.capture_report.specs.LineLaws.{packets_push}
+use Rattle.capture_report.specs.Remarks.{is_stamp}
+use Rattle.capture_report.proofs.Timing.{after_other, no_deltas, no_stamps}
 
 same_number : (id x : ℕ) → x ≡ id → (id == x) ≡ true
 same_number id x h = grind (arith, nat_tests)
@@ -56,12 +56,22 @@ module _ (es : List (Event Packet)) (e : Event Packet) (packet : ItmPacket) (id 
         )
   ]
 
--- an STP item is no packet of the clocks
-pub stp_stays : (source : Option ℕ) (es : List (Event Packet)) (at half id : ℕ) (item : StpItem) →
-    itm_packets source (es ++ stp_event at half id item ∷ []) ≡ itm_packets source es
-stp_stays source es at half id item =
-    packets_push source es (stp_event at half id item)
-    ∙ ap (λ (l : List ItmPacket). itm_packets source es ++ l) (none (is_of source (Some id))) ∙ append-nil (itm_packets source es) where
+  -- a packet that is no timestamp leaves those of any source as they are
+  pub stand_same : is_stamp packet ≡ false → (x : ℕ) (k : Clocks) → Stands k (itm_packets (Some x) es) →
+      Stands k (itm_packets (Some x) (es ++ e ∷ []))
+  stand_same other x k stands = elim (cases_eq x id) [
+    | inl h ↦ subst (Stands k) (sym (own x h))
+        (after_other k (itm_packets (Some x) es) packet (no_deltas packet other) (no_stamps packet other) stands)
+    | inr h ↦ subst (Stands k) (sym (another x h)) stands
+  ]
+
+-- what is no ITM packet is none of the clocks
+pub other_stays : (source : Option ℕ) (es : List (Event Packet)) (e : Event Packet) → itm_packet e.what ≡ [] →
+    itm_packets source (es ++ e ∷ []) ≡ itm_packets source es
+other_stays source es e other =
+    packets_push source es e
+    ∙ ap (λ (l : List ItmPacket). itm_packets source es ++ cond (is_of source e.source) l []) other
+    ∙ ap (λ (l : List ItmPacket). itm_packets source es ++ l) (none (is_of source e.source)) ∙ append-nil (itm_packets source es) where
       none : (b : Bool) → ◌≡◌ {A = List ItmPacket} (cond b [] []) []
       none true = refl
       none false = refl

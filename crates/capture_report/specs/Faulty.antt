@@ -1,7 +1,8 @@
 -- Faults of the report of a capture, and the line that stands for one.
-use Rattle.std.specs.Prelude.{◌≡◌, ℕ, List, ◌==◌, Option, Some, None, is_none, Bool, false}
+use Rattle.std.specs.Prelude.{◌≡◌, ℕ, ◌<◌, List, ◌==◌, Option, Some, None, is_none, get_or, Bool, false}
 use Rattle.std.specs.List.{list_any}
 use Rattle.trace_values.specs.Placed.{placed}
+use Rattle.trace_values.specs.declared.limits.TheConstants.{ID_COUNT}
 use Rattle.source_events.specs.declared.plan.Plan.{Plan}
 use Rattle.source_merge.specs.Answering.{fault_of}
 
@@ -9,6 +10,10 @@ use Rattle.source_merge.specs.Answering.{fault_of}
 abbrev pub is_stp : Plan → Option ℕ → Bool
 is_stp plan None = false
 is_stp plan (Some x) = list_any (λ y. y == x) plan.stp
+
+-- these are for each ID whether its source does
+abbrev pub IsTable : Plan → List Bool → Type 0
+IsTable plan table = (x : ℕ) (d : Bool) → x < ID_COUNT → get_or table x d ≡ is_stp plan (Some x)
 
 -- the report of these bytes has a fault
 abbrev pub IsFaulty : Plan → List ℕ → Type 0

@@ -1,9 +1,10 @@
 -- What the receiver of `show` was given, and how much more it has room for.
-use Rattle.std.specs.Prelude.{◌≡◌, ℕ, ◌+◌, ◌-◌, ◌/◌, List, ◌++◌, length}
+use Rattle.std.specs.Prelude.{◌≡◌, ℕ, ◌+◌, ◌-◌, ◌/◌, List, ◌++◌, length, None, Some, true, false}
 use Rattle.source_events.specs.declared.event.Event.{Event}
 use Rattle.source_events.specs.declared.packet.Packet.{Packet}
 use Rattle.trace_stream.specs.declared.outlet.TheConstants.{TEXT_ROOM, OUTLET_ROOM}
 use Rattle.trace_text.specs.declared.lines.TheConstants.{EVENT_ROOM}
+use Rattle.capture_report.specs.Faulty.{is_stp}
 use Rattle.capture_report.specs.Filter.{plan_by, HasSeen}
 use Rattle.capture_report.specs.Listing.{lines_after}
 use Rattle.capture_report.specs.SourceClocks.{AllStand}
@@ -21,6 +22,16 @@ pub record ListerGets (old : Lister × List ℕ) (es : List (Event Packet)) (new
 
 abbrev pub gets : Lister × List ℕ → List (Event Packet) → Lister × List ℕ → Type 0
 gets old es new = ListerGets old es new
+
+-- Packets of this source are listed from their parts: all events are listed, and by the plan it sends none of the other
+-- kind.
+abbrev pub ListsItm : Lister → ℕ → Type 0
+ListsItm lister source =
+    (lister.filter.only ≡ None) × (lister.filter.window ≡ None) × (is_stp lister.plan (Some source) ≡ false)
+
+abbrev pub ListsStp : Lister → ℕ → Type 0
+ListsStp lister source =
+    (lister.filter.only ≡ None) × (lister.filter.window ≡ None) × (is_stp lister.plan (Some source) ≡ true)
 
 -- A line takes at most the room of an event, and is put where a text has room.
 abbrev pub room : Lister × List ℕ → ℕ

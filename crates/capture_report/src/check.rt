@@ -10,11 +10,13 @@ ghost use Rattle.source_merge.specs.Engine.{is_live};
 ghost use Rattle.source_merge.specs.declared.engine.TheConstants.{GREATEST_OFFSET};
 ghost use Rattle.capture_report.specs.Summary.{source_text, sources_text};
 
-use crate::lister::sends_stp;
+use crate::plan_table::sends_stp;
 use crate::stopping::keep_stop;
+use itm_grammar::packet::ItmPacket;
 use source_counts::Counts;
 use source_events::{Event, Packet, Plan, Stop};
 use source_merge::{Engine, Events, Receiver, flow_after};
+use stp_grammar::item::StpItem;
 use trace_stream::{Action, Flow, OUTLET_ROOM, Outlet, TEXT_ROOM, Taken};
 use trace_text::{PortCountsLines, TAILS_ROOM, print_fault, print_tails, put_source_counts};
 use trace_values::{ID_COUNT, SourceId};
@@ -42,6 +44,7 @@ struct Ignored;
 /// Nothing is done with an event.
 impl Receiver for Ignored {
     ghost use Rattle.capture_report.specs.Ignored.{gets, room, gets_none, gets_more};
+    ghost use Rattle.std.specs.Prelude.{⊤};
 
     type To = ();
 
@@ -49,12 +52,35 @@ impl Receiver for Ignored {
 
     ghost room = { room };
 
+    ghost itm = { λ ignored source. ⊤ };
+
+    ghost stp = { λ ignored source. ⊤ };
+
     ghost gets_none = { gets_none };
 
     ghost gets_more = { gets_more };
 
     #[inline(always)]
     fn give(&mut self, _to: &mut (), _event: Event<Packet>) {}
+
+    #[inline(always)]
+    fn takes_itm(&self, _source: SourceId) -> bool {
+        true
+    }
+
+    #[inline(always)]
+    fn takes_stp(&self, _source: SourceId) -> bool {
+        true
+    }
+
+    #[inline(always)]
+    fn give_itm(&mut self, _to: &mut (), _at: u64, _source: SourceId, _packet: ItmPacket) {}
+
+    #[inline(always)]
+    fn give_stp(&mut self, _to: &mut (), _at: u64, _half: u8, _source: SourceId, _item: StpItem) {}
+
+    #[inline(always)]
+    fn give_raw(&mut self, _to: &mut (), _at: u64, _source: SourceId, _bytes: &[u8]) {}
 }
 
 /// Takes whole frames from the front of the piece, the first byte of which is at this offset, where no source is

@@ -4,12 +4,23 @@ ghost use Rattle.std.specs.Prelude.{◌≡◌, ◌++◌, ◌∷◌, [], List};
 ghost use Rattle.itm_grammar.specs.Proper.{IsProper};
 ghost use Rattle.itm_grammar.specs.declared.packet.ItmPacket.{ItmPacket};
 ghost use Rattle.trace_text.specs.Printable.{SuitsPacket};
-ghost use Rattle.capture_report.specs.Remarks.{remark_by};
+ghost use Rattle.capture_report.specs.Remarks.{is_stamp, remark_by};
 ghost use Rattle.capture_report.specs.Clocks.{Stands};
 
 use itm_grammar::packet::ItmPacket;
 use trace_clock::{GlobalClock, LocalClock};
 use trace_text::Remark;
+
+/// The packet is a timestamp: beside all others is nothing, and the clocks stay as they are.
+#[inline(always)]
+pub(crate) fn is_stamp(packet: &ItmPacket) -> bool
+    ensures { result ≡ is_stamp packet.now }
+{
+    matches!(
+        packet,
+        ItmPacket::Local { .. } | ItmPacket::GlobalFirst { .. } | ItmPacket::GlobalSecond { .. }
+    )
+}
 
 /// The local and the global clock of one source.
 #[derive(Clone, Copy, Debug, Drop)]

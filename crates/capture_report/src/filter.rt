@@ -1,10 +1,9 @@
 //! Which events of a capture are listed.
 
-ghost use Rattle.std.specs.Prelude.{◌≡◌, ◌↔◌, ◌++◌, ◌∷◌, [], List, IsTrue, not, ◌||◌};
+ghost use Rattle.std.specs.Prelude.{◌≡◌, ◌↔◌, ◌++◌, ◌∷◌, [], List, IsTrue, not, ◌||◌, ◌&&◌, is_none};
 ghost use Rattle.source_events.specs.declared.event.Event.{Event};
 ghost use Rattle.source_events.specs.declared.packet.Packet.{Packet};
 ghost use Rattle.source_events.specs.Report.{is_item};
-ghost use Rattle.capture_report.specs.Filter.{bounds_in, SawAll, HasSeen};
 ghost use Rattle.capture_report.specs.Listing.{meets, is_within, is_listed};
 
 use item_tap::{Bounds, Choice, ChoiceWindow};
@@ -15,6 +14,9 @@ use source_events::{Event, Packet, What};
 pub struct Filter {
     only: Option<Choice>,
     window: Option<ChoiceWindow>,
+    /// There is neither, and all events are listed.
+    all: bool,
+    ghost neither: { all ≡ (is_none only && is_none window) },
 }
 
 /// Whether an event meets the choice, if there is one, or is the notice of a lock.
@@ -31,25 +33,9 @@ fn meets(only: &Option<Choice>, event: &Event<Packet>) -> bool
     }
 }
 
-/// Whether an event is within the window, which takes it, if there is one, or is the notice of a lock, which the window
-/// does not see.
-#[inline]
-fn is_within(window: &mut Option<ChoiceWindow>, event: &Event<Packet>) -> bool
-    ensures bounds { bounds_in window.new ≡ bounds_in window.old }
-    ensures seen { (es : List (Event Packet)) → SawAll window.old es → SawAll window.new (es ++ event.now ∷ []) }
-    ensures answer { (es : List (Event Packet)) → SawAll window.old es →
-        result ≡ (is_within (bounds_in window.old) es event.now || not (is_item event.now.what)) }
-{
-    match window {
-        None => true,
-        Some(window) => match event.what {
-            What::Locked(_) => true,
-            What::Packet(_) | What::Raw(_) | What::Trigger(_) => window.see(event),
-        },
-    }
-}
-
 impl Filter {
+    ghost use Rattle.capture_report.specs.Filter.{bounds_in, SawAll, HasSeen};
+
     /// What is asked of the events, none of which is seen yet.
     pub fn new(only: Option<Choice>, bounds: Option<Bounds>) -> Filter
         ensures only { result.only ≡ only }
@@ -60,7 +46,8 @@ impl Filter {
             None => None,
             Some(bounds) => Some(bounds.window()),
         };
-        Filter { only, window }
+        let all = only.is_none() && window.is_none();
+        Filter { only, window, all }
     }
 
     /// All events are listed: there is no choice and no window.
@@ -68,11 +55,31 @@ impl Filter {
     pub fn lists_all(&self) -> bool
         ensures { IsTrue result ↔ ((self.now.only ≡ None) × (self.now.window ≡ None)) }
     {
-        self.only.is_none() && self.window.is_none()
+        self.all
+    }
+
+    /// Whether an event is within the window, which takes it, if there is one, or is the notice of a lock, which the
+    /// window does not see.
+    #[inline]
+    fn sees(window: &mut Option<ChoiceWindow>, event: &Event<Packet>) -> bool
+        ensures same { is_none window.new ≡ is_none window.old }
+        ensures bounds { bounds_in window.new ≡ bounds_in window.old }
+        ensures seen { (es : List (Event Packet)) → SawAll window.old es → SawAll window.new (es ++ event.now ∷ []) }
+        ensures answer { (es : List (Event Packet)) → SawAll window.old es →
+            result ≡ (is_within (bounds_in window.old) es event.now || not (is_item event.now.what)) }
+    {
+        match window {
+            None => true,
+            Some(window) => match event.what {
+                What::Locked(_) => true,
+                What::Packet(_) | What::Raw(_) | What::Trigger(_) => window.see(event),
+            },
+        }
     }
 
     /// Takes the next event, and answers whether it is listed. Notices of locks are, and the window does not see them;
     /// it sees all other events, also those that do not meet the choice.
+    #[tactic(auto, using(crate::proofs::Filtering::listed_where_met))]
     #[inline(always)]
     pub fn lists(&mut self, event: &Event<Packet>) -> bool
         ensures only { self.new.only ≡ self.old.only }
@@ -81,7 +88,7 @@ impl Filter {
         ensures answer { (es : List (Event Packet)) → HasSeen self.old es →
             result ≡ is_listed self.old.only (bounds_in self.old.window) es event.now }
     {
-        let is_within = is_within(&mut self.window, event);
+        let is_within = Filter::sees(&mut self.window, event);
         is_within && meets(&self.only, event)
     }
 }

@@ -8,6 +8,7 @@ mod filter;
 pub mod laws;
 mod list_plan;
 mod lister;
+mod plan_table;
 pub mod rows;
 mod show;
 mod source_clocks;

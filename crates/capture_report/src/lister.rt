@@ -1,6 +1,6 @@
 //! What puts the lines of events into an outlet, as they come.
 
-ghost use Rattle.std.specs.Prelude.{◌≡◌, ◌+◌, ◌≤◌, ◌++◌, ◌∷◌, [], List, Some, None, true, false, length};
+ghost use Rattle.std.specs.Prelude.{◌≡◌, ◌+◌, ◌≤◌, ◌++◌, ◌∷◌, [], List, Some, false, length};
 ghost use Rattle.std.specs.Prelude.{if◌then◌else◌};
 ghost use Rattle.itm_grammar.specs.Proper.{IsProper};
 ghost use Rattle.source_events.specs.declared.event.Event.{Event};
@@ -8,7 +8,8 @@ ghost use Rattle.source_events.specs.declared.event.What.TheVariants.{Packet as 
 ghost use Rattle.source_events.specs.declared.packet.Packet.{Packet};
 ghost use Rattle.source_events.specs.declared.packet.Packet.TheVariants.{Itm};
 ghost use Rattle.source_events.specs.Fitting.{EventFits, PacketFits};
-ghost use Rattle.trace_text.specs.LineText.{event_line, itm_event};
+ghost use Rattle.stp_grammar.specs.Proper.{IsProperItem};
+ghost use Rattle.trace_text.specs.LineText.{event_line, itm_event, raw_event, stp_event};
 ghost use Rattle.trace_text.specs.Printable.{Suits};
 ghost use Rattle.trace_stream.specs.declared.outlet.TheConstants.{TEXT_ROOM, OUTLET_ROOM};
 ghost use Rattle.capture_report.specs.Faulty.{is_stp};
@@ -16,36 +17,28 @@ ghost use Rattle.capture_report.specs.Filter.{plan_by, HasSeen};
 ghost use Rattle.capture_report.specs.Listing.{is_listed, itm_packets, line_after, remark_of};
 ghost use Rattle.capture_report.specs.SourceClocks.{AllStand};
 
+use crate::clocks::is_stamp;
 use crate::filter::Filter;
+use crate::plan_table::{PlanTable, sends_stp};
 use crate::source_clocks::SourceClocks;
 use item_tap::{Bounds, Choice};
 use itm_grammar::packet::ItmPacket;
-use source_events::{Event, Packet, Plan, SourceIds, What};
-use source_merge::Receiver;
+use source_events::{Event, Packet, Plan, RunBytes, What};
+use source_merge::{Receiver, bare_source};
+use stp_grammar::item::StpItem;
 use trace_stream::{OUTLET_ROOM, Outlet};
-use trace_text::{Digits, EVENT_ROOM, Remark, print, put_line, put_stp_line};
+use trace_text::{Digits, EVENT_ROOM, Remark, print, put_line, put_raw_line, put_stp_line};
 use trace_values::SourceId;
 
 /// What puts the lines of events, and what it needs of the events before them.
 #[derive(Drop)]
 pub struct Lister {
     /// How the capture is read.
-    pub plan: Plan,
+    pub plan: PlanTable,
     /// Which events are listed.
     pub filter: Filter,
     pub clocks: SourceClocks,
     pub digits: Digits,
-}
-
-/// The source sends STP packets.
-#[inline]
-pub(crate) fn sends_stp(plan: &Plan, source: Option<SourceId>) -> bool
-    ensures { result ≡ is_stp plan.now source }
-{
-    match source {
-        None => false,
-        Some(id) => plan.stp.contains(id),
-    }
 }
 
 /// Puts the line of the next event with what the clocks say beside it, if it is listed.
@@ -100,9 +93,10 @@ pub(crate) fn put_next(
     put_event(outlet, digits, filter, plan, event, remark);
 }
 
-/// Takes the next packet of this ITM source, whose last byte is at this offset, and puts its line.
+/// Takes the next packet of this ITM source, whose last byte is at this offset, and puts its line. The clocks are asked
+/// only for a timestamp.
 #[inline(always)]
-fn put_itm(
+fn put_itm_line(
     outlet: &mut Outlet,
     digits: &mut Digits,
     clocks: &mut SourceClocks,
@@ -120,87 +114,18 @@ fn put_itm(
         AllStand clocks.new (before ++ event ∷ []) }
     ensures bound { length outlet.new ≤ length outlet.old + EVENT_ROOM }
 {
-    let remark = clocks.packet_remark(id, packet);
-    put_line(outlet, digits, at, id, packet, remark);
-}
-
-/// Takes the next event where all events are listed and it is a packet of a source that sends such packets, and puts
-/// its line from the packet's parts. Answers whether it did; if not, nothing has changed. The event itself goes
-/// nowhere, so that it need not be in memory.
-#[inline(always)]
-fn put_parts(
-    outlet: &mut Outlet,
-    digits: &mut Digits,
-    clocks: &mut SourceClocks,
-    filter: &Filter,
-    plan: &Plan,
-    event: &Event<Packet>,
-) -> bool
-    requires fits { EventFits PacketFits event.now }
-    requires room { length outlet.old + TEXT_ROOM ≤ OUTLET_ROOM }
-    ensures text { result ≡ true → (before : List (Event Packet)) → AllStand clocks.old before →
-        outlet.new ≡ outlet.old ++ line_after (plan_by plan.now filter.now) before event.now }
-    ensures clocks { result ≡ true → (before : List (Event Packet)) → AllStand clocks.old before →
-        AllStand clocks.new (before ++ event.now ∷ []) }
-    ensures seen { result ≡ true → filter.now.window ≡ None }
-    ensures bound { length outlet.new ≤ length outlet.old + EVENT_ROOM }
-    ensures none { result ≡ false → (outlet.new ≡ outlet.old) × (clocks.new ≡ clocks.old) }
-{
-    if !filter.lists_all() {
-        return false;
-    }
-    let Some(id) = event.source else {
-        return false;
-    };
-    match &event.what {
-        What::Packet(Packet::Itm(packet)) => {
-            if sends_stp(plan, event.source) {
-                return false;
-            }
-            put_itm(outlet, digits, clocks, event.at, id, packet);
-            true
-        }
-        What::Packet(Packet::Stp(item)) => {
-            if !sends_stp(plan, event.source) {
-                return false;
-            }
-            clocks.pass_stp();
-            put_stp_line(outlet, digits, event.at, event.half, id, *item);
-            true
-        }
-        _ => false,
+    if is_stamp(packet) {
+        let remark = clocks.packet_remark(id, packet);
+        put_line(outlet, digits, at, id, packet, remark);
+    } else {
+        clocks.pass_other(packet);
+        put_line(outlet, digits, at, id, packet, Remark::None);
     }
 }
 
-/// Takes the next event, and puts its line if it is listed. Most are packets of which the line is put from their parts.
-#[inline(always)]
-pub(crate) fn put_given(
-    outlet: &mut Outlet,
-    digits: &mut Digits,
-    clocks: &mut SourceClocks,
-    filter: &mut Filter,
-    plan: &Plan,
-    event: Event<Packet>,
-)
-    requires fits { EventFits PacketFits event }
-    requires room { length outlet.old + TEXT_ROOM ≤ OUTLET_ROOM }
-    ensures text { (before : List (Event Packet)) → AllStand clocks.old before → HasSeen filter.old before →
-        outlet.new ≡ outlet.old ++ line_after (plan_by plan.now filter.old) before event }
-    ensures clocks { (before : List (Event Packet)) → AllStand clocks.old before →
-        AllStand clocks.new (before ++ event ∷ []) }
-    ensures seen { (before : List (Event Packet)) → HasSeen filter.old before →
-        HasSeen filter.new (before ++ event ∷ []) }
-    ensures same { plan_by plan.now filter.new ≡ plan_by plan.now filter.old }
-    ensures bound { length outlet.new ≤ length outlet.old + EVENT_ROOM }
-{
-    if !put_parts(outlet, digits, clocks, filter, plan, &event) {
-        put_whole(outlet, digits, clocks, filter, plan, event);
-    }
-}
-
-/// The same by the event itself.
+/// The same of an event that comes seldom, out of line.
 #[inline(never)]
-fn put_whole(
+pub(crate) fn put_whole(
     outlet: &mut Outlet,
     digits: &mut Digits,
     clocks: &mut SourceClocks,
@@ -222,33 +147,14 @@ fn put_whole(
     put_next(outlet, digits, clocks, filter, plan, &event);
 }
 
-/// The same IDs.
-fn same_ids(ids: &SourceIds) -> SourceIds
-    ensures { result ≡ ids.now }
-{
-    let mut same = SourceIds::new();
-    for id in ids.as_slice() {
-        same.push(*id);
-    }
-    same
-}
-
-/// The same plan.
-fn same_plan(plan: &Plan) -> Plan
-    ensures { result ≡ plan.now }
-{
-    Plan {
-        frames: plan.frames,
-        packets: plan.packets,
-        itm: same_ids(&plan.itm),
-        stp: same_ids(&plan.stp),
-        order: plan.order,
-    }
-}
-
 impl Lister {
     ghost use Rattle.capture_report.specs.Filter.{bounds_in};
-    ghost use Rattle.std.specs.Prelude.{[]};
+    ghost use Rattle.capture_report.specs.Lister.{gets, ListsItm, ListsStp};
+    ghost use Rattle.std.specs.Prelude.{[], ◌<◌, ◌↔◌, IfSome, IsTrue, true, false};
+    ghost use Rattle.trace_values.specs.declared.step.Step.TheVariants.{Item};
+    ghost use Rattle.trace_values.specs.Stream.{StepFits};
+    ghost use Rattle.source_machine.specs.Seen.{packet_in};
+    ghost use Rattle.source_merge.specs.Bare.{bare_events};
 
     /// No event came yet. It lists those of a capture that is read so which meet a choice, if there is one, and are
     /// within a window, if there is one.
@@ -260,17 +166,256 @@ impl Lister {
         ensures seen { HasSeen result.filter [] }
     {
         Lister {
-            plan: same_plan(plan),
+            plan: PlanTable::new(plan),
             filter: Filter::new(only, window),
             clocks: SourceClocks::new(),
             digits: Digits::new(),
+        }
+    }
+
+    /// Takes the next packet of this source by its event, which is made here, and puts its line if it is listed.
+    #[inline(always)]
+    fn give_itm_event(&mut self, outlet: &mut Outlet, at: u64, source: SourceId, packet: ItmPacket)
+        requires proper { IsProper packet }
+        requires room { length outlet.old + TEXT_ROOM ≤ OUTLET_ROOM }
+        ensures gets { gets (self.old, outlet.old) (itm_event at source packet ∷ []) (self.new, outlet.new) }
+        ensures bound { length outlet.new ≤ length outlet.old + EVENT_ROOM }
+    {
+        let event = Event {
+            at,
+            half: 0,
+            source: Some(source),
+            what: What::Packet(Packet::Itm(packet)),
+        };
+        put_whole(
+            outlet,
+            &mut self.digits,
+            &mut self.clocks,
+            &mut self.filter,
+            self.plan.plan(),
+            event,
+        );
+    }
+
+    /// The same of the next item of this source, which ends in this half of the byte.
+    #[inline(always)]
+    fn give_stp_event(
+        &mut self,
+        outlet: &mut Outlet,
+        at: u64,
+        half: u8,
+        source: SourceId,
+        item: StpItem,
+    )
+        requires proper { IsProperItem item }
+        requires room { length outlet.old + TEXT_ROOM ≤ OUTLET_ROOM }
+        ensures gets { gets (self.old, outlet.old) (stp_event at half source item ∷ []) (self.new, outlet.new) }
+        ensures bound { length outlet.new ≤ length outlet.old + EVENT_ROOM }
+    {
+        let event = Event {
+            at,
+            half,
+            source: Some(source),
+            what: What::Packet(Packet::Stp(item)),
+        };
+        put_whole(
+            outlet,
+            &mut self.digits,
+            &mut self.clocks,
+            &mut self.filter,
+            self.plan.plan(),
+            event,
+        );
+    }
+
+    /// The same of the next run of bytes of this source.
+    #[inline(never)]
+    fn give_raw_event(&mut self, outlet: &mut Outlet, at: u64, source: SourceId, bytes: &[u8])
+        requires some { 0 < length bytes.now }
+        requires few { length bytes.now ≤ 15 }
+        requires room { length outlet.old + TEXT_ROOM ≤ OUTLET_ROOM }
+        ensures gets { gets (self.old, outlet.old) (raw_event at source bytes.now ∷ []) (self.new, outlet.new) }
+        ensures bound { length outlet.new ≤ length outlet.old + EVENT_ROOM }
+    {
+        let event = Event {
+            at,
+            half: 0,
+            source: Some(source),
+            what: What::Raw(RunBytes::new(bytes)),
+        };
+        put_next(
+            outlet,
+            &mut self.digits,
+            &mut self.clocks,
+            &mut self.filter,
+            self.plan.plan(),
+            &event,
+        );
+    }
+
+    /// The lines of ITM packets of this source are put from the packets' parts: all events are listed, and it sends no STP
+    /// packets.
+    #[inline(always)]
+    fn lists_itm(&self, source: SourceId) -> bool
+        ensures { IsTrue result ↔ ListsItm self.now source }
+    {
+        self.filter.lists_all() && !self.plan.sends_stp(source)
+    }
+
+    /// The same of an STP source.
+    #[inline(always)]
+    fn lists_stp(&self, source: SourceId) -> bool
+        ensures { IsTrue result ↔ ListsStp self.now source }
+    {
+        self.filter.lists_all() && self.plan.sends_stp(source)
+    }
+
+    /// Takes the next packet of this source, and puts its line from the packet's parts: the event itself goes nowhere, so
+    /// that it need not be in memory.
+    #[inline(always)]
+    fn put_own_itm(&mut self, outlet: &mut Outlet, at: u64, source: SourceId, packet: ItmPacket)
+        requires proper { IsProper packet }
+        requires own { ListsItm self.old source }
+        requires room { length outlet.old + TEXT_ROOM ≤ OUTLET_ROOM }
+        ensures gets { gets (self.old, outlet.old) (itm_event at source packet ∷ []) (self.new, outlet.new) }
+        ensures bound { length outlet.new ≤ length outlet.old + EVENT_ROOM }
+    {
+        put_itm_line(
+            outlet,
+            &mut self.digits,
+            &mut self.clocks,
+            at,
+            source,
+            &packet,
+        );
+    }
+
+    /// The same of the next item of this source, which ends in this half of the byte.
+    #[inline(always)]
+    fn put_own_stp(
+        &mut self,
+        outlet: &mut Outlet,
+        at: u64,
+        half: u8,
+        source: SourceId,
+        item: StpItem,
+    )
+        requires proper { IsProperItem item }
+        requires own { ListsStp self.old source }
+        requires room { length outlet.old + TEXT_ROOM ≤ OUTLET_ROOM }
+        ensures gets { gets (self.old, outlet.old) (stp_event at half source item ∷ []) (self.new, outlet.new) }
+        ensures bound { length outlet.new ≤ length outlet.old + EVENT_ROOM }
+    {
+        self.clocks.pass();
+        put_stp_line(outlet, &mut self.digits, at, half, source, item);
+    }
+
+    /// Takes the next packet of this source, and puts its line if it is listed.
+    #[inline(always)]
+    fn put_itm(&mut self, outlet: &mut Outlet, at: u64, source: SourceId, packet: ItmPacket)
+        requires proper { IsProper packet }
+        requires room { length outlet.old + TEXT_ROOM ≤ OUTLET_ROOM }
+        ensures gets { gets (self.old, outlet.old) (itm_event at source packet ∷ []) (self.new, outlet.new) }
+        ensures bound { length outlet.new ≤ length outlet.old + EVENT_ROOM }
+    {
+        if self.lists_itm(source) {
+            self.put_own_itm(outlet, at, source, packet);
+        } else {
+            self.give_itm_event(outlet, at, source, packet);
+        }
+    }
+
+    /// The same of the next item of this source, which ends in this half of the byte.
+    #[inline(always)]
+    fn put_stp(&mut self, outlet: &mut Outlet, at: u64, half: u8, source: SourceId, item: StpItem)
+        requires proper { IsProperItem item }
+        requires room { length outlet.old + TEXT_ROOM ≤ OUTLET_ROOM }
+        ensures gets { gets (self.old, outlet.old) (stp_event at half source item ∷ []) (self.new, outlet.new) }
+        ensures bound { length outlet.new ≤ length outlet.old + EVENT_ROOM }
+    {
+        if self.lists_stp(source) {
+            self.put_own_stp(outlet, at, half, source, item);
+        } else {
+            self.give_stp_event(outlet, at, half, source, item);
+        }
+    }
+
+    /// The same of the next run of bytes of this source.
+    #[inline(always)]
+    pub(crate) fn put_raw(&mut self, outlet: &mut Outlet, at: u64, source: SourceId, bytes: &[u8])
+        requires some { 0 < length bytes.now }
+        requires few { length bytes.now ≤ 15 }
+        requires room { length outlet.old + TEXT_ROOM ≤ OUTLET_ROOM }
+        ensures gets { gets (self.old, outlet.old) (raw_event at source bytes.now ∷ []) (self.new, outlet.new) }
+        ensures bound { length outlet.new ≤ length outlet.old + EVENT_ROOM }
+    {
+        if self.lists_itm(source) {
+            self.clocks.pass();
+            put_raw_line(outlet, &mut self.digits, at, source, bytes);
+        } else {
+            self.give_raw_event(outlet, at, source, bytes);
+        }
+    }
+
+    /// Takes the next event where it is a trigger and all events are listed, and puts its line. Answers whether it did; if
+    /// not, nothing has changed.
+    #[inline(always)]
+    fn put_trigger(&mut self, outlet: &mut Outlet, event: &Event<Packet>) -> bool
+        requires room { length outlet.old + TEXT_ROOM ≤ OUTLET_ROOM }
+        ensures gets { result ≡ true → gets (self.old, outlet.old) (event.now ∷ []) (self.new, outlet.new) }
+        ensures bound { length outlet.new ≤ length outlet.old + EVENT_ROOM }
+        ensures none { result ≡ false → (self.new ≡ self.old) × (outlet.new ≡ outlet.old) }
+    {
+        let (What::Trigger(_), Some(id)) = (&event.what, event.source) else {
+            return false;
+        };
+        if !self.lists_itm(id) {
+            return false;
+        }
+        self.clocks.pass();
+        print(outlet, &mut self.digits, event, false, Remark::None);
+        true
+    }
+
+    /// Takes the next packet of a capture with no formatter. Its last byte is at this offset.
+    #[inline(always)]
+    pub(crate) fn put_bare(&mut self, outlet: &mut Outlet, at: u64, packet: Packet)
+        requires fits { PacketFits packet }
+        requires room { length outlet.old + TEXT_ROOM ≤ OUTLET_ROOM }
+        ensures gets { gets (self.old, outlet.old) (bare_events at (Some (Item 0 packet))) (self.new, outlet.new) }
+        ensures bound { length outlet.new ≤ length outlet.old + EVENT_ROOM }
+    {
+        match packet {
+            Packet::Itm(packet) => self.put_itm(outlet, at, bare_source(), packet),
+            Packet::Stp(item) => self.put_stp(outlet, at, 0, bare_source(), item),
+        }
+    }
+
+    /// Takes the item of an STP packet of a capture with no formatter, if it has one. The packet ends in this half of
+    /// the byte at this offset.
+    #[inline(always)]
+    pub(crate) fn put_bare_stp(
+        &mut self,
+        outlet: &mut Outlet,
+        at: u64,
+        half: u8,
+        item: Option<StpItem>,
+    )
+        requires fits { IfSome (packet_in half item) (StepFits PacketFits) }
+        requires room { length outlet.old + TEXT_ROOM ≤ OUTLET_ROOM }
+        ensures gets { gets (self.old, outlet.old) (bare_events at (packet_in half item)) (self.new, outlet.new) }
+        ensures bound { length outlet.new ≤ length outlet.old + EVENT_ROOM }
+    {
+        match item {
+            None => {}
+            Some(item) => self.put_stp(outlet, at, half, bare_source(), item),
         }
     }
 }
 
 /// An event goes to the outlet as its line, if it is listed.
 impl Receiver for Lister {
-    ghost use Rattle.capture_report.specs.Lister.{gets, room};
+    ghost use Rattle.capture_report.specs.Lister.{gets, room, ListsItm, ListsStp};
     ghost use Rattle.capture_report.specs.ListerLaws.{gets_none, gets_more};
 
     type To = Outlet;
@@ -279,19 +424,58 @@ impl Receiver for Lister {
 
     ghost room = { room };
 
+    ghost itm = { ListsItm };
+
+    ghost stp = { ListsStp };
+
     ghost gets_none = { gets_none };
 
     ghost gets_more = { gets_more };
 
+    /// What comes so is seldom: the notice of a lock, or a trigger.
     #[inline(always)]
     fn give(&mut self, outlet: &mut Outlet, event: Event<Packet>) {
-        put_given(
-            outlet,
-            &mut self.digits,
-            &mut self.clocks,
-            &mut self.filter,
-            &self.plan,
-            event,
-        );
+        if !self.put_trigger(outlet, &event) {
+            put_whole(
+                outlet,
+                &mut self.digits,
+                &mut self.clocks,
+                &mut self.filter,
+                self.plan.plan(),
+                event,
+            );
+        }
+    }
+
+    #[inline(always)]
+    fn takes_itm(&self, source: SourceId) -> bool {
+        self.lists_itm(source)
+    }
+
+    #[inline(always)]
+    fn takes_stp(&self, source: SourceId) -> bool {
+        self.lists_stp(source)
+    }
+
+    #[inline(always)]
+    fn give_itm(&mut self, outlet: &mut Outlet, at: u64, source: SourceId, packet: ItmPacket) {
+        self.put_own_itm(outlet, at, source, packet);
+    }
+
+    #[inline(always)]
+    fn give_stp(
+        &mut self,
+        outlet: &mut Outlet,
+        at: u64,
+        half: u8,
+        source: SourceId,
+        item: StpItem,
+    ) {
+        self.put_own_stp(outlet, at, half, source, item);
+    }
+
+    #[inline(always)]
+    fn give_raw(&mut self, outlet: &mut Outlet, at: u64, source: SourceId, bytes: &[u8]) {
+        self.put_raw(outlet, at, source, bytes);
     }
 }

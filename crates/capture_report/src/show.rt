@@ -1,6 +1,7 @@
 //! `show`: the listing of the events of a capture.
 
-ghost use Rattle.std.specs.Prelude.{◌≡◌, ◌+◌, ◌≤◌, ◌++◌, [], List, length, is_none, Some, IfSome, true};
+ghost use Rattle.std.specs.Prelude.{◌≡◌, ◌+◌, ◌<◌, ◌≤◌, ◌++◌, [], List, length, is_none, Some, IfSome, true};
+ghost use Rattle.trace_stream.specs.declared.action.Flow.TheVariants.{On};
 ghost use Rattle.trace_stream.specs.declared.action.TheConstants.{ACTION_ROOM};
 ghost use Rattle.source_events.specs.declared.event.Event.{Event};
 ghost use Rattle.source_events.specs.declared.packet.Packet.{Packet};
@@ -8,7 +9,6 @@ ghost use Rattle.source_events.specs.Fitting.{AllFit, PacketFits};
 ghost use Rattle.source_events.specs.Plan.{is_sound};
 ghost use Rattle.trace_values.specs.declared.step.Step.TheVariants.{Item};
 ghost use Rattle.trace_values.specs.Stream.{StepFits};
-ghost use Rattle.source_machine.specs.Seen.{packet_in};
 ghost use Rattle.source_merge.specs.Bare.{bare_events};
 ghost use Rattle.source_merge.specs.Engine.{is_live};
 ghost use Rattle.trace_stream.specs.declared.outlet.TheConstants.{TEXT_ROOM, OUTLET_ROOM};
@@ -18,18 +18,21 @@ ghost use Rattle.capture_report.specs.SourceClocks.{AllStand};
 
 use crate::filter::Filter;
 use crate::list_plan::ListPlan;
-use crate::lister::{Lister, put_given, put_next, sends_stp};
+use crate::lister::{Lister, put_next, put_whole};
+use crate::plan_table::sends_stp;
 use crate::source_clocks::SourceClocks;
 use crate::stopping::keep_stop;
 use source_events::{Event, Packet, Plan, Stop, What};
 use source_merge::{Engine, Events, bare_source, flow_after, note_bare};
-use stp_grammar::item::StpItem;
-use trace_stream::{Action, Flow, OUTLET_ROOM, Outlet, Taken};
+use trace_stream::{ACTION_ROOM, Action, Flow, OUTLET_ROOM, Outlet, Taken};
 use trace_text::{Digits, EVENT_ROOM, print_fault, print_tails};
 use trace_values::Step;
 
 /// How many packets one call takes at most: their lines have room where an action is fed.
 const LINES: usize = 32;
+
+/// How many whole frames one call takes at most, where their lines leave room for more.
+const FRAMES: usize = 16;
 
 /// The reading of a capture, and what its listing needs of it.
 #[derive(Drop)]
@@ -40,6 +43,27 @@ pub struct Show {
     lister: Lister,
     stop: Option<Stop>,
     ghost alive: { is_live engine ≡ is_none stop },
+}
+
+/// What was taken of whole frames at the front of a piece.
+#[derive(Clone, Copy, Drop)]
+struct FramesTaken {
+    /// How many bytes, 0 where no whole frame is there.
+    bytes: usize,
+    flow: Flow,
+}
+
+/// A frame was taken, nothing ends the reading, and there is room for the lines of another frame.
+#[inline(always)]
+fn goes_on_after(taken: &FramesTaken, outlet: &Outlet) -> bool
+    ensures flow { result ≡ true → taken.now.flow ≡ On }
+    ensures some { result ≡ true → 0 < taken.now.bytes }
+    ensures room { result ≡ true → length outlet.now + ACTION_ROOM ≤ OUTLET_ROOM }
+{
+    match taken.flow {
+        Flow::On => taken.bytes > 0 && outlet.len() <= OUTLET_ROOM - ACTION_ROOM,
+        _ => false,
+    }
 }
 
 /// Puts the lines of these events, which follow others.
@@ -68,7 +92,6 @@ fn put_events(
 }
 
 /// Puts the line of a packet of a capture with no formatter, which ends in this half of the byte at this offset.
-#[inline(always)]
 fn put_packet(
     outlet: &mut Outlet,
     digits: &mut Digits,
@@ -97,39 +120,7 @@ fn put_packet(
         source: Some(bare_source()),
         what: What::Packet(packet),
     };
-    put_given(outlet, digits, clocks, filter, plan, event);
-}
-
-/// Puts the line of the item of an STP packet, if it has one, in a capture with no formatter: the packet ends in this
-/// half of the byte at this offset.
-#[inline(always)]
-fn put_stp(
-    outlet: &mut Outlet,
-    digits: &mut Digits,
-    clocks: &mut SourceClocks,
-    filter: &mut Filter,
-    plan: &Plan,
-    at: u64,
-    half: u8,
-    item: Option<StpItem>,
-)
-    requires fits { IfSome (packet_in half item) (StepFits PacketFits) }
-    requires room { length outlet.old + TEXT_ROOM ≤ OUTLET_ROOM }
-    ensures text { (before : List (Event Packet)) → AllStand clocks.old before → HasSeen filter.old before →
-        outlet.new ≡ outlet.old ++ lines_after (plan_by plan.now filter.old) before
-        (bare_events at (packet_in half item)) }
-    ensures clocks { (before : List (Event Packet)) → AllStand clocks.old before →
-        AllStand clocks.new (before ++ bare_events at (packet_in half item)) }
-    ensures seen { (before : List (Event Packet)) → HasSeen filter.old before →
-        HasSeen filter.new (before ++ bare_events at (packet_in half item)) }
-    ensures same { plan_by plan.now filter.new ≡ plan_by plan.now filter.old }
-    ensures bound { length outlet.new ≤ length outlet.old + EVENT_ROOM }
-{
-    let Some(item) = item else {
-        return;
-    };
-    let packet = Packet::Stp(item);
-    put_packet(outlet, digits, clocks, filter, plan, at, half, packet);
+    put_whole(outlet, digits, clocks, filter, plan, event);
 }
 
 /// Puts the lines of what the answer to the byte at this offset gives, in a capture with no formatter. The events are
@@ -210,16 +201,8 @@ impl Show {
         let Some((bytes, packet)) = self.engine.take_packet(at, piece) else {
             return 0;
         };
-        put_packet(
-            outlet,
-            &mut self.lister.digits,
-            &mut self.lister.clocks,
-            &mut self.lister.filter,
-            self.engine.plan(),
-            at + (bytes as u64 - 1),
-            0,
-            packet,
-        );
+        let last = at + (bytes as u64 - 1);
+        self.lister.put_bare(outlet, last, packet);
         bytes
     }
 
@@ -239,16 +222,9 @@ impl Show {
         let Some(taken) = self.engine.take_stp(at, piece) else {
             return 0;
         };
-        put_stp(
-            outlet,
-            &mut self.lister.digits,
-            &mut self.lister.clocks,
-            &mut self.lister.filter,
-            self.engine.plan(),
-            at + (taken.bytes as u64 - 1),
-            taken.half,
-            taken.item,
-        );
+        let last = at + (taken.bytes as u64 - 1);
+        self.lister
+            .put_bare_stp(outlet, last, taken.half, taken.item);
         taken.bytes
     }
 
@@ -326,9 +302,62 @@ impl Show {
         }
     }
 
-    /// Takes bytes up to the first with which events are decided, and puts their lines. Those of a whole frame are put
-    /// as its events come.
-    fn feed_block(&mut self, piece: &[u8], outlet: &mut Outlet) -> Taken
+    /// Takes the whole frame that the piece begins with, and puts the lines of its events as they come. It takes nothing
+    /// where none is there.
+    #[inline(always)]
+    fn feed_frame(&mut self, piece: &[u8], outlet: &mut Outlet) -> FramesTaken
+        requires live { IsLive self.old }
+        requires room { length outlet.old + ACTION_ROOM ≤ OUTLET_ROOM }
+        requires count { taken_by self.old + length piece.now ≤ GREATEST_CAPTURE }
+        ensures few { result.bytes ≤ length piece.now }
+        ensures fed { HasFed self.old self.new (take result.bytes piece.now) result.flow outlet.old outlet.new }
+        ensures none { result.bytes ≡ 0 → (result.flow ≡ On) × (outlet.new ≡ outlet.old) }
+    {
+        let at = self.engine.next();
+        let framed = self.engine.feed_frame(at, piece, &mut self.lister, outlet);
+        let Some(fed) = framed else {
+            return FramesTaken {
+                bytes: 0,
+                flow: Flow::On,
+            };
+        };
+        let flow = keep_stop(&mut self.stop, fed.flow);
+        FramesTaken {
+            bytes: fed.bytes,
+            flow,
+        }
+    }
+
+    /// Takes whole frames from the front of the piece, as many as have room for their lines, up to a fault. It takes
+    /// nothing where none is there.
+    #[inline(never)]
+    fn feed_frames(&mut self, piece: &[u8], outlet: &mut Outlet) -> FramesTaken
+        requires live { IsLive self.old }
+        requires room { length outlet.old + ACTION_ROOM ≤ OUTLET_ROOM }
+        requires count { taken_by self.old + length piece.now ≤ GREATEST_CAPTURE }
+        ensures few { result.bytes ≤ length piece.now }
+        ensures fed { HasFed self.old self.new (take result.bytes piece.now) result.flow outlet.old outlet.new }
+        ensures none { result.bytes ≡ 0 → (result.flow ≡ On) × (outlet.new ≡ outlet.old) }
+    {
+        let mut done = 0;
+        for frame in 0..FRAMES {
+            let taken = self.feed_frame(&piece[done..], outlet);
+            done += taken.bytes;
+            if !goes_on_after(&taken, outlet) {
+                return FramesTaken {
+                    bytes: done,
+                    flow: taken.flow,
+                };
+            }
+        }
+        FramesTaken {
+            bytes: done,
+            flow: Flow::On,
+        }
+    }
+
+    /// Takes bytes up to the first with which events are decided, and puts their lines.
+    fn feed_events(&mut self, piece: &[u8], outlet: &mut Outlet) -> Taken
         requires live { IsLive self.old }
         requires some { 0 < length piece.now }
         requires room { length outlet.old + ACTION_ROOM ≤ OUTLET_ROOM }
@@ -337,14 +366,6 @@ impl Show {
         ensures fed { HasFed self.old self.new (take result.bytes piece.now) result.flow outlet.old outlet.new }
     {
         let at = self.engine.next();
-        let framed = self.engine.feed_frame(at, piece, &mut self.lister, outlet);
-        if let Some(fed) = framed {
-            let flow = keep_stop(&mut self.stop, fed.flow);
-            return Taken {
-                bytes: fed.bytes,
-                flow,
-            };
-        }
         self.events.clear();
         let fed = self.engine.feed_block(at, piece, &mut self.events);
         put_events(
@@ -360,6 +381,25 @@ impl Show {
             bytes: fed.bytes,
             flow,
         }
+    }
+
+    /// Takes whole frames, or else bytes up to the first with which events are decided, and puts their lines.
+    fn feed_block(&mut self, piece: &[u8], outlet: &mut Outlet) -> Taken
+        requires live { IsLive self.old }
+        requires some { 0 < length piece.now }
+        requires room { length outlet.old + ACTION_ROOM ≤ OUTLET_ROOM }
+        requires count { taken_by self.old + length piece.now ≤ GREATEST_CAPTURE }
+        ensures front { TakesSome piece.now result.bytes }
+        ensures fed { HasFed self.old self.new (take result.bytes piece.now) result.flow outlet.old outlet.new }
+    {
+        let taken = self.feed_frames(piece, outlet);
+        if taken.bytes > 0 {
+            return Taken {
+                bytes: taken.bytes,
+                flow: taken.flow,
+            };
+        }
+        self.feed_events(piece, outlet)
     }
 }
 

@@ -1,16 +1,17 @@
 //! The clocks of all sources.
 
-ghost use Rattle.std.specs.Prelude.{◌≡◌, ◌<◌, ◌++◌, ◌∷◌, [], ℕ, List, Some, get_or};
-ghost use Rattle.stp_grammar.specs.declared.item.StpItem.{StpItem};
+ghost use Rattle.std.specs.Prelude.{◌≡◌, ◌<◌, ◌++◌, ◌∷◌, [], ℕ, List, Some, false, get_or};
+ghost use Rattle.itm_grammar.specs.declared.packet.ItmPacket.{ItmPacket};
 ghost use Rattle.itm_grammar.specs.Proper.{IsProper};
 ghost use Rattle.source_events.specs.declared.event.Event.{Event};
 ghost use Rattle.source_events.specs.declared.event.What.TheVariants.{Packet as Said};
 ghost use Rattle.source_events.specs.declared.packet.Packet.{Packet};
 ghost use Rattle.source_events.specs.declared.packet.Packet.TheVariants.{Itm};
 ghost use Rattle.source_events.specs.Fitting.{EventFits, PacketFits};
-ghost use Rattle.trace_text.specs.LineText.{stp_event};
 ghost use Rattle.trace_text.specs.Printable.{Suits, SuitsPacket};
-ghost use Rattle.capture_report.specs.Listing.{itm_packets, remark_of};
+ghost use Rattle.trace_text.specs.declared.remark.Remark.TheVariants.{None as NoRemark};
+ghost use Rattle.capture_report.specs.Remarks.{is_stamp};
+ghost use Rattle.capture_report.specs.Listing.{itm_packet, itm_packets, remark_of};
 ghost use Rattle.capture_report.specs.SourceClocks.{AllStand};
 
 use crate::clocks::Clocks;
@@ -63,10 +64,20 @@ impl SourceClocks {
         self.clocks[id.number() as usize].remark(packet)
     }
 
-    /// An STP item leaves the clocks as they are.
+    /// A packet that is no timestamp leaves the clocks as they are, and nothing is beside it.
     #[inline(always)]
-    pub fn pass_stp(&self)
-        ensures { (es : List (Event Packet)) (at half id : ℕ) (item : StpItem) → AllStand self.now es →
-            AllStand self.now (es ++ stp_event at half id item ∷ []) }
+    pub fn pass_other(&self, packet: &ItmPacket)
+        requires other { is_stamp packet.now ≡ false }
+        ensures suits { SuitsPacket packet.now NoRemark }
+        ensures stand { (es : List (Event Packet)) (event : Event Packet) (id : ℕ) → event.source ≡ Some id →
+            event.what ≡ Said (Itm packet.now) → AllStand self.now es → AllStand self.now (es ++ event ∷ []) }
+        ensures remark { (packets : List ItmPacket) → remark_of packets (Said (Itm packet.now)) ≡ NoRemark }
+    {}
+
+    /// What is no ITM packet leaves the clocks as they are.
+    #[inline(always)]
+    pub fn pass(&self)
+        ensures { (es : List (Event Packet)) (event : Event Packet) → itm_packet event.what ≡ [] →
+            AllStand self.now es → AllStand self.now (es ++ event ∷ []) }
     {}
 }

@@ -70,7 +70,7 @@ mapped : (f : Gathered → Gathered) (o : Option Gathered) (g : Gathered) → op
 mapped f None g e = cc
 mapped f (Some x) g e = record { before = x; was = refl; is = cc }
 
-half_goes : (a b : Placed) (w : List Placed) → a.unit ≡ 255 → b.unit ≡ 127 → without_halves (a ∷ (b ∷ w)) ≡ without_halves w
+pub half_goes : (a b : Placed) (w : List Placed) → a.unit ≡ 255 → b.unit ≡ 127 → without_halves (a ∷ (b ∷ w)) ≡ without_halves w
 half_goes a b w h k =
     ap (λ (t : Bool). cond (t && b.unit == 127) (without_halves w) (a ∷ (b ∷ without_halves w))) (yes a.unit 255 h)
     ∙ ap (λ (t : Bool). cond t (without_halves w) (a ∷ (b ∷ without_halves w))) (yes b.unit 127 k)

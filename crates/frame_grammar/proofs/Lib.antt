@@ -2,9 +2,13 @@ pub mod Looks
 pub mod Pairs
 pub mod CellLaws
 pub mod Runs
+pub mod Spacing
+pub mod Nearness
 pub mod Deciding
 pub mod Items
 pub mod Wholes
+pub mod Masks
+pub mod Halves
 pub mod Gathering
 pub mod SourceBytes
 pub mod Broken

@@ -11,3 +11,4 @@ pub mod plain;
 pub mod rows;
 pub mod source_bytes;
 mod spaced;
+mod words;

@@ -5,18 +5,17 @@ ghost use Rattle.frame_grammar.specs.Frame.{IsProperFrame};
 ghost use Rattle.frame_grammar.specs.declared.frame.TheConstants.{FRAME_BYTES};
 
 use crate::frame::FRAME_BYTES;
+use crate::words::is_proper_half;
 
 /// None of the mixed-use bytes, those at even indexes, is FF.
 #[inline]
 fn is_proper(frame: &[u8; FRAME_BYTES]) -> bool
     ensures { IsTrue result ↔ IsProperFrame frame.now }
 {
-    for pair in 0..8 {
-        if frame[2 * pair] == 0xFF {
-            return false;
-        }
+    match (frame.first_chunk::<8>(), frame.last_chunk::<8>()) {
+        (Some(first), Some(last)) => is_proper_half(first) & is_proper_half(last),
+        _ => false,
     }
-    true
 }
 
 /// The piece's first 16 bytes, where they are there and are a frame: none of the mixed-use bytes, those at even

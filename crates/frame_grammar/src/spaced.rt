@@ -3,6 +3,7 @@
 ghost use Rattle.std.specs.Prelude.{◌≡◌, ◌≢◌, ◌≤◌, ◌<◌, ◌+◌, ◌*◌, ◌^◌, ℕ, length, take, IfSome};
 ghost use Rattle.std.specs.Prelude.{IsTrue, slice_index};
 ghost use Rattle.trace_values.specs.Placed.{placed_from};
+ghost use Rattle.frame_grammar.specs.Placing.{places_of};
 ghost use Rattle.frame_grammar.specs.Reading.{offsets_of};
 ghost use Rattle.frame_grammar.specs.Whole.{IsWhole, without_halves};
 ghost use Rattle.frame_grammar.specs.declared.frame.TheConstants.{FRAME_BYTES};
@@ -10,12 +11,27 @@ ghost use Rattle.frame_grammar.specs.declared.spaced.TheConstants.{GAPS, SPACED_
 
 use crate::frame::FRAME_BYTES;
 use crate::placed::PlacedFrame;
+use crate::words::is_spaced_word;
 
 /// How many gaps are between the halfwords of a frame.
 const GAPS: usize = 7;
 
 /// How many bytes the frame and its half synchronisations have.
 const SPACED_BYTES: usize = FRAME_BYTES + 2 * GAPS;
+
+/// From this index on a half synchronisation follows each of two halfwords, neither of which begins with FF.
+#[inline(always)]
+fn has_gaps(piece: &[u8], from: usize) -> bool
+    requires { from + 8 ≤ length piece.now }
+    ensures words { IsTrue result → (k : ℕ) → k < 2 → slice_index piece.now (from + 4 * k) ≢ 255 }
+    ensures gaps { IsTrue result → (k : ℕ) → k < 2 →
+        (slice_index piece.now (from + 4 * k + 2) ≡ 255) × (slice_index piece.now (from + 4 * k + 3) ≡ 127) }
+{
+    match piece[from..].first_chunk::<8>() {
+        Some(word) => is_spaced_word(word),
+        None => false,
+    }
+}
 
 /// One half synchronisation is in each gap between the halfwords that the piece begins with, and none of the eight
 /// begins with FF.
@@ -26,13 +42,12 @@ fn is_spaced(piece: &[u8]) -> bool
     ensures gaps { IsTrue result → (k : ℕ) → k < GAPS →
         (slice_index piece.now (4 * k + 2) ≡ 255) × (slice_index piece.now (4 * k + 3) ≡ 127) }
 {
-    for word in 0..GAPS {
-        let from = 4 * word;
-        if piece[from] == 0xFF || piece[from + 2] != 0xFF || piece[from + 3] != 0x7F {
-            return false;
-        }
-    }
-    piece[4 * GAPS] != 0xFF
+    // There are seven gaps, so that the words at 16 and 20 have one of them in common.
+    has_gaps(piece, 0)
+        & has_gaps(piece, 8)
+        & has_gaps(piece, 16)
+        & has_gaps(piece, 20)
+        & (piece[28] != 0xFF)
 }
 
 /// The frame that the piece begins with, the first byte of which is at this offset, where it has one half
@@ -40,31 +55,24 @@ fn is_spaced(piece: &[u8]) -> bool
 #[inline(always)]
 pub(crate) fn spaced_frame(at: u64, piece: &[u8]) -> Option<PlacedFrame>
     requires { at + length piece.now ≤ 2 ^ 64 }
+    ensures at { IfSome result (λ g. g.at ≡ at) }
     ensures room { IfSome result (λ g. FRAME_BYTES + 2 * g.halves ≤ length piece.now) }
     ensures whole { IfSome result (λ g. IsWhole (take (FRAME_BYTES + 2 * g.halves) piece.now) g.bytes g.halves) }
     ensures offsets { IfSome result (λ g. let w = placed_from at (take (FRAME_BYTES + 2 * g.halves) piece.now) in
-        g.offsets ≡ offsets_of (without_halves w)) }
+        places_of g.at g.behind ≡ offsets_of (without_halves w)) }
+    ensures near { IfSome result (λ g. (i : ℕ) → i < FRAME_BYTES →
+        slice_index g.behind i < FRAME_BYTES + 2 * g.halves) }
 {
     if piece.len() < SPACED_BYTES || !is_spaced(piece) {
         return None;
     }
-    let mut bytes = [0; FRAME_BYTES];
-    let mut offsets = [0; FRAME_BYTES];
-    for word in 0..GAPS {
-        let from = 4 * word;
-        bytes[2 * word] = piece[from];
-        bytes[2 * word + 1] = piece[from + 1];
-        offsets[2 * word] = at + from as u64;
-        offsets[2 * word + 1] = at + from as u64 + 1;
-    }
-    let last = 4 * GAPS;
-    bytes[2 * GAPS] = piece[last];
-    bytes[2 * GAPS + 1] = piece[last + 1];
-    offsets[2 * GAPS] = at + last as u64;
-    offsets[2 * GAPS + 1] = at + last as u64 + 1;
     Some(PlacedFrame {
-        bytes,
-        offsets,
+        bytes: [
+            piece[0], piece[1], piece[4], piece[5], piece[8], piece[9], piece[12], piece[13],
+            piece[16], piece[17], piece[20], piece[21], piece[24], piece[25], piece[28], piece[29],
+        ],
+        at,
+        behind: [0, 1, 4, 5, 8, 9, 12, 13, 16, 17, 20, 21, 24, 25, 28, 29],
         halves: GAPS,
     })
 }

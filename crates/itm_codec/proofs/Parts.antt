@@ -19,7 +19,6 @@ use Rattle.itm_codec.specs.Decoder.{Stands, partial_of, is_hunter, is_live, held
 use Rattle.itm_codec.specs.Parts.{Reads, Took}
 use Rattle.itm_codec.specs.Wholes.{Cuts}
 use Rattle.itm_codec.proofs.Wholes.{cut_goes}
-use Rattle.itm_codec.proofs.Waiting.{take_take}
 
 -- the packet of a part is proper
 pub fits : (s t : Partial) (bytes : List ℕ) (packet : Option ItmPacket) → Reads s t bytes packet → IfSome packet IsProper
@@ -77,21 +76,3 @@ module _ (old new : ItmDecoder) (bytes : List ℕ) (most : ℕ) where
         (subst (λ (p : Partial). StandsIn pattern Sync (by_unit rule) Header old.mode old.live p u) (sym t.part) h)),
     ap count_of t.part,
   )
-
--- where it took nothing, and then a part of the first of them
-pub took_then : (old mid new : ItmDecoder) (ahead : List ℕ) (count : ℕ) (x : Option (PartTaken ItmPacket)) → count ≤ length ahead → length (take count ahead) ≡ count →
-    Took old mid ahead count None → Took mid new (take count ahead) (length (take count ahead)) x → Took old new ahead count x
-took_then old mid new ahead count None l n a b = record { mode = b.mode ∙ a.mode; live = b.live ∙ a.live; part = b.part ∙ a.part }
-took_then old mid new ahead count (Some x) l n a b = record {
-  mode = b.mode ∙ a.mode;
-  live = b.live ∙ a.live;
-  part = (
-    ap is_locked (sym a.mode) ∙ b.part.0,
-    b.part.1,
-    within,
-    subst (λ (units : List ℕ). Reads (partial_of old) (partial_of new) units x.packet) (take_take x.bytes count ahead within l)
-        (subst (λ (s : Partial). Reads s (partial_of new) (take x.bytes (take count ahead)) x.packet) a.part b.part.3),
-  );
-} where
-  within : x.bytes ≤ count
-  within = (let k = b.part.2 in omega (arith, n, k))

@@ -1,13 +1,12 @@
 -- Bytes that wait, and bytes after them.
 use Rattle.std.proofs.Common.{◌≡◌, ℕ, ◌+◌, ◌-◌, ◌<◌, ◌≤◌, ◌⊎◌, inl, inr, List, [], ◌∷◌, ◌++◌, length, take, drop, refl, sym, ◌∙◌, ap, arith, append_assoc, append-nil, length-append, length-drop}
 use Rattle.std.proofs.Math.Seq.{take-append-add}
-use Rattle.std.proofs.lemmas.List.{take-append-drop, take-append-le, length-take, length-take-le}
+use Rattle.std.proofs.lemmas.List.{take-append-drop, take-append-le, length-take-le}
 use Rattle.trace_values.specs.declared.fault.Reason.{Reason}
 use Rattle.trace_values.specs.declared.next.Next.{Next}
 use Rattle.trace_values.specs.declared.next.Next.TheVariants.{Go, End, Fail}
 use Rattle.trace_values.specs.Walk.{Walked, Within, Whole, Broken, after, walk}
 use Rattle.trace_values.proofs.Walks.{walk_more, walk_beyond, walk_broken}
-use Rattle.itm_grammar.specs.declared.packet.ItmPacket.{ItmPacket}
 use Rattle.itm_grammar.specs.declared.partial.Partial.{Partial}
 use Rattle.itm_grammar.specs.Rule.{rule, count_of}
 use Rattle.itm_grammar.proofs.Deciding.{counted_bytes}
@@ -28,10 +27,6 @@ same_front a next more ahead n e l h =
     ap (take n) (sym (append_assoc a next more)) ∙ take-append-le n (a ++ next) more enough ∙ sym (take-append-le n (a ++ next) (drop 8 ahead) enough)
     ∙ ap (take n) (append_assoc a next (drop 8 ahead) ∙ ap (λ (x : List ℕ). a ++ (x ++ drop 8 ahead)) e ∙ ap (λ (x : List ℕ). a ++ x) (take-append-drop 8 ahead))
 
--- they are no more than eight
-pub no_more : (n : ℕ) (l : List ℕ) → n ≤ length (take 8 l) → n ≤ 8
-no_more n l h = omega (arith, h, length-take 8 l)
-
 -- and those that are read at once
 pub read_front : (a next more ahead : List ℕ) (n : ℕ) → next ≡ take 8 ahead → 8 ≤ length ahead → n ≤ length (take 8 (a ++ (next ++ more))) →
     take n (take 8 (a ++ (next ++ more))) ≡ take n (a ++ ahead)
@@ -42,13 +37,13 @@ read_front a next more ahead n e l h =
     take_take n 8 (a ++ (next ++ more)) m enough ∙ same_front a next more ahead n e l (omega (arith, m))
 
 -- a list is that of its first elements, with more
-longer : (k n : ℕ) (l : List ℕ) → k < n → n ≤ length l → (b : ℕ) × (more : List ℕ) × (take n l ≡ take k l ++ (b ∷ more))
+pub longer : (k n : ℕ) (l : List ℕ) → k < n → n ≤ length l → (b : ℕ) × (more : List ℕ) × (take n l ≡ take k l ++ (b ∷ more))
 longer k n l h m = by (drop k (take n l)) refl where
   by : (rest : List ℕ) → drop k (take n l) ≡ rest → (b : ℕ) × (more : List ℕ) × (take n l ≡ take k l ++ (b ∷ more))
   by [] e = absurd (let s : length (drop k (take n l)) ≡ 0 = ap length e in omega (arith, length-drop k (take n l), length-take-le n l m))
   by (b ∷ more) e = (b, more, sym (take-append-drop k (take n l)) ∙ ap (λ (x : List ℕ). take k (take n l) ++ x) e ∙ ap (λ (x : List ℕ). x ++ (b ∷ more)) (take_take k n l (omega arith) m))
 
-reaches : (n m : ℕ) → (n ≤ m) ⊎ (m < n)
+pub reaches : (n m : ℕ) → (n ≤ m) ⊎ (m < n)
 reaches n m = grind arith
 
 module _ {S V : Type 0} (rule : S → ℕ → Next S V) where
@@ -111,20 +106,3 @@ waiting_is d h =
     let n = counted_bytes d.partial (partial_of d) (take d.waiting d.held) d.within in
     let none : count_of d.partial ≡ 0 = ap count_of (d.begins h) in
     omega (arith, n, none, count_is d)
-
--- where bytes wait, and more with them are a front of a packet
-pub waits_in : (s t : Partial) (a ahead l : List ℕ) (n count : ℕ) (v : ItmPacket) → walk rule s a ≡ Within t → walk rule s (take n (a ++ ahead)) ≡ Whole v →
-    length a + count < n → n ≤ length a + length ahead → l ≡ a ++ take count ahead →
-    (walk rule s l ≡ Within (reached s l)) × (walk rule t (take count ahead) ≡ Within (reached s l))
-waits_in s t a ahead l n count v e w h m same = (
-  front.1 ∙ ap Within (sym (reached_is s front.0 l front.1)),
-  sym (walk_more rule s t a (take count ahead) e) ∙ ap (walk rule s) (sym same) ∙ front.1 ∙ ap Within (sym (reached_is s front.0 l front.1)),
-) where
-  more : (b : ℕ) × (rest : List ℕ) × (take n (a ++ ahead) ≡ take (length a + count) (a ++ ahead) ++ (b ∷ rest))
-  more = longer (length a + count) n (a ++ ahead) h (omega (arith, length-append a ahead))
-
-  split : take n (a ++ ahead) ≡ l ++ (more.0 ∷ more.1)
-  split = more.2 ∙ ap (λ (x : List ℕ). x ++ (more.0 ∷ more.1)) (take-append-add a ahead count ∙ sym same)
-
-  front : (r : Partial) × (walk rule s l ≡ Within r)
-  front = front_within rule s l more.0 more.1 v (ap (walk rule s) (sym split) ∙ w)

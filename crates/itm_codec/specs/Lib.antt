@@ -4,3 +4,4 @@ pub mod Decoder
 pub mod Parts
 pub mod Answers
 pub mod Wholes
+pub mod Windows

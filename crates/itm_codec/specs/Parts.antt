@@ -8,6 +8,8 @@ use Rattle.itm_grammar.specs.Rule.{rule}
 use Rattle.itm_grammar.specs.Proper.{IsProper}
 use Rattle.itm_codec.specs.declared.decoder.ItmDecoder.{ItmDecoder}
 use Rattle.itm_codec.specs.declared.decoder.PartTaken.{PartTaken}
+use Rattle.itm_codec.specs.declared.decoder.ItmFound.{ItmFound}
+use Rattle.itm_codec.specs.declared.decoder.ItmFound.TheVariants.{Ends, Waits, Unknown}
 use Rattle.itm_codec.specs.Decoder.{partial_of, has_locked}
 
 -- these bytes leave t unfinished of s, or end it as this packet
@@ -27,3 +29,9 @@ pub record Took (old new : ItmDecoder) (bytes : List ℕ) (most : ℕ) (taken : 
   pub mode : new.mode ≡ old.mode
   pub live : new.live ≡ old.live
   pub part : TookPart old new bytes most taken
+
+-- the part that was taken of so many bytes, by what they are to the unfinished packet
+abbrev pub part_found : ℕ → ItmFound → Option (PartTaken ItmPacket)
+part_found count (Ends bytes packet) = Some (record { bytes = bytes; packet = Some packet })
+part_found count Waits = Some (record { bytes = count; packet = None })
+part_found count Unknown = None

@@ -1,16 +1,20 @@
 //! The decoder of ITM packets.
 
-ghost use Rattle.std.specs.Prelude.{◌≡◌, ◌<◌, ◌≤◌, length, take, true};
+ghost use Rattle.std.specs.Prelude.{◌≡◌, ◌<◌, ◌≤◌, length, take, true, IfSome};
 ghost use Rattle.trace_values.specs.Moded.{is_counted, is_locked};
 ghost use Rattle.trace_values.specs.Walk.{walk, Within};
 ghost use Rattle.itm_grammar.specs.Rule.{rule, is_sound};
+ghost use Rattle.itm_grammar.specs.Spelling.{Spells};
+ghost use Rattle.itm_grammar.specs.Proper.{IsProper};
 ghost use Rattle.itm_grammar.specs.declared.partial.Partial.TheVariants.{Header};
 ghost use Rattle.itm_codec.specs.Reading.{pattern};
 ghost use Rattle.itm_codec.specs.Reached.{reached};
+ghost use Rattle.itm_codec.specs.Windows.{IsSeen};
 ghost use Rattle.trace_values.specs.declared.limits.TheConstants.{COUNT_ROOM};
 
 use crate::cut::cut_packet;
-use crate::whole::whole_packet;
+use crate::front::is_front;
+use crate::whole::{InWindow, WINDOW, packet_in};
 use itm_grammar::packet::ItmPacket;
 use itm_grammar::partial::Partial;
 use trace_values::{Block, Fault, Machine, Mode, Next, Pattern, Step, feed_block};
@@ -32,6 +36,17 @@ pub struct PartTaken<T> {
     pub bytes: usize,
     /// The packet that the last of them ends, if it ends one.
     pub packet: Option<T>,
+}
+
+/// What bytes are to the unfinished packet, as a quick look at them says.
+#[derive(Clone, Copy, Debug, PartialEq, Eq, Drop)]
+pub enum ItmFound {
+    /// So many of them end it as this packet.
+    Ends { bytes: usize, packet: ItmPacket },
+    /// They are all within it, and wait.
+    Waits,
+    /// The look does not tell.
+    Unknown,
 }
 
 /// A decoder of ITM packets. It keeps what it needs of the one unfinished packet.
@@ -61,11 +76,9 @@ impl ItmDecoder {
     ghost use Rattle.trace_values.specs.Stream.{StepFits, LocksAfter};
     ghost use Rattle.trace_values.specs.Block.{Takes, StopsFor, goes_on_after};
     ghost use Rattle.itm_grammar.specs.declared.partial.Partial.TheVariants.{Header};
-    ghost use Rattle.itm_grammar.specs.Spelling.{Spells};
-    ghost use Rattle.itm_grammar.specs.Proper.{IsProper};
     ghost use Rattle.itm_codec.specs.Reading.{packets_in};
     ghost use Rattle.itm_codec.specs.Decoder.{Stands, partial_of, is_hunter, is_live, has_locked, held_of, skipped_by};
-    ghost use Rattle.itm_codec.specs.Parts.{Took};
+    ghost use Rattle.itm_codec.specs.Parts.{Took, part_found};
     ghost use Rattle.itm_codec.specs.Wholes.{Cuts, Gives};
 
     /// A decoder of bytes that begin with a packet.
@@ -104,7 +117,8 @@ impl ItmDecoder {
     /// Wherever they are, a decoder that takes them gives this packet at the last of them and nothing else, and is as
     /// it was before them.
     ///
-    /// None says nothing of the bytes: some packets are read byte by byte alone.
+    /// None says nothing of the bytes: some packets are read byte by byte alone, and all where fewer than eight bytes
+    /// are there.
     #[inline(always)]
     pub fn next_packet(&self, piece: &[u8]) -> Option<(usize, ItmPacket)>
         requires { is_live self.now ≡ true }
@@ -117,7 +131,7 @@ impl ItmDecoder {
     {
         match self.partial {
             Partial::Header if self.waiting == 0 && Mode::is_locked(self.mode) => {
-                whole_packet(piece)
+                front_packet(piece)
             }
             _ => None,
         }
@@ -146,109 +160,132 @@ impl ItmDecoder {
         cut_packet(self.partial, &self.held[..self.waiting]).partial
     }
 
-    /// Takes the first `count` of these bytes, wherever they are: those within the unfinished packet up to the one that
-    /// ends it, or all of them. It gives this packet at the last of those that it takes, or nothing where none ends.
-    /// What the bytes after the first `count` are is of no account.
+    /// Looks for the end of the unfinished packet in the first `count` of these bytes, wherever they are: it takes those
+    /// up to the one that ends the packet, which it then gives, or all of them, where the packet ends after them. What
+    /// the bytes after the first `count` are is of no account.
     ///
-    /// None says nothing of the bytes: in a hunt, of no bytes, and where the first of them is a fault. Then the decoder
-    /// stands for what it stood for.
+    /// It is quick: it answers `Unknown` in a hunt, of no bytes, and of packets that are rare. This says nothing of the
+    /// bytes, and the decoder stands for what it stood for: `take_part` reads them all the same.
     #[inline(always)]
-    pub fn take_part(&mut self, ahead: &[u8], count: usize) -> Option<PartTaken<ItmPacket>>
+    pub fn find_part(&mut self, ahead: &[u8], count: usize) -> ItmFound
         requires live { is_live self.old ≡ true }
         requires room { held_of self.old + count ≤ COUNT_ROOM }
         requires ahead { count + AHEAD ≤ length ahead.now }
         ensures same { packets_in (is_hunter self.new) ≡ packets_in (is_hunter self.old) }
-        ensures bytes { IfSome result (λ x. (0 < x.bytes) × (x.bytes ≤ count)) }
-        ensures fits { IfSome result (λ x. IfSome x.packet IsProper) }
-        ensures few { IfSome result (λ x. held_of self.new ≤ held_of self.old + x.bytes) }
+        ensures bytes { IfSome (part_found count result) (λ x. (0 < x.bytes) × (x.bytes ≤ count)) }
+        ensures fits { IfSome (part_found count result) (λ x. IfSome x.packet IsProper) }
+        ensures few { IfSome (part_found count result) (λ x. held_of self.new ≤ held_of self.old + x.bytes) }
         ensures skipped { skipped_by self.new ≡ skipped_by self.old }
         ensures live { is_live self.new ≡ true }
         ensures cuts { (u front : List Placed) (last : Placed) → Stands self.old u →
-            IfSome result (λ x. units_of (front ++ last ∷ []) ≡ take x.bytes ahead.now →
+            IfSome (part_found count result) (λ x. units_of (front ++ last ∷ []) ≡ take x.bytes ahead.now →
             Cuts (packets_in (is_hunter self.old)) (Stands self.new) u front last x.packet) }
-        ensures none { result ≡ None → ((u : List Placed) → Stands self.old u → Stands self.new u)
+        ensures none { part_found count result ≡ None → ((u : List Placed) → Stands self.old u → Stands self.new u)
             × (held_of self.new ≡ held_of self.old) }
     {
-        if count == 0 {
-            return None;
-        }
-        match self.take_at_once(ahead, count) {
-            Some(part) => Some(part),
-            None => self.take_slowly(&ahead[..count]),
-        }
+        self.find_at_once(ahead, count)
     }
 
-    /// Takes the first `count` of these bytes where they, after those that wait, end a packet that is read at once, or
-    /// are within one.
+    /// The same, said of what the decoder keeps.
     #[inline(always)]
-    fn take_at_once(&mut self, ahead: &[u8], count: usize) -> Option<PartTaken<ItmPacket>>
-        requires some { 0 < count }
+    fn find_at_once(&mut self, ahead: &[u8], count: usize) -> ItmFound
         requires ahead { count + AHEAD ≤ length ahead.now }
-        ensures { Took self.old self.new ahead.now count result }
+        ensures { Took self.old self.new ahead.now count (part_found count result) }
     {
+        if count == 0 {
+            return ItmFound::Unknown;
+        }
         if self.waiting > 0 {
-            return self.take_more(ahead, count);
+            return self.find_more(ahead, count);
         }
         match self.partial {
-            Partial::Header if Mode::is_locked(self.mode) => self.take_first(ahead, count),
-            _ => None,
+            Partial::Header if Mode::is_locked(self.mode) => self.find_first(ahead, count),
+            _ => ItmFound::Unknown,
         }
     }
 
-    /// Takes bytes of a packet whose header is the first of them. Where they do not end it, they wait.
+    /// Looks in bytes whose first is the packet's header. Where they do not end it, they wait.
     #[inline(always)]
-    fn take_first(&mut self, ahead: &[u8], count: usize) -> Option<PartTaken<ItmPacket>>
+    fn find_first(&mut self, ahead: &[u8], count: usize) -> ItmFound
         requires some { 0 < count }
         requires ahead { count + AHEAD ≤ length ahead.now }
         requires header { self.old.partial ≡ Header }
         requires locked { has_locked self.old ≡ true }
         requires none { self.old.waiting ≡ 0 }
-        ensures { Took self.old self.new ahead.now count result }
+        ensures { Took self.old self.new ahead.now count (part_found count result) }
     {
-        let next = ahead.first_chunk::<AHEAD>()?;
-        let (bytes, packet) = whole_packet(next)?;
-        if bytes <= count {
-            return Some(PartTaken {
-                bytes,
-                packet: Some(packet),
-            });
+        let Some(next) = ahead.first_chunk::<AHEAD>() else {
+            return ItmFound::Unknown;
+        };
+        match look_in(next, count) {
+            ItmFound::Ends { bytes, packet } => ItmFound::Ends { bytes, packet },
+            ItmFound::Waits => {
+                self.held[0..AHEAD].copy_from_slice(next);
+                self.waiting = count;
+                ItmFound::Waits
+            }
+            ItmFound::Unknown => ItmFound::Unknown,
         }
-        self.held[0..AHEAD].copy_from_slice(next);
-        self.waiting = count;
-        Some(PartTaken {
-            bytes: count,
-            packet: None,
-        })
     }
 
-    /// Takes bytes of the packet whose first bytes wait. Where they do not end it, they wait too.
+    /// Looks in bytes after those of the packet that wait. Where they do not end it, they wait too.
     #[inline(always)]
-    fn take_more(&mut self, ahead: &[u8], count: usize) -> Option<PartTaken<ItmPacket>>
+    fn find_more(&mut self, ahead: &[u8], count: usize) -> ItmFound
         requires some { 0 < count }
         requires ahead { count + AHEAD ≤ length ahead.now }
         requires waiting { 0 < self.old.waiting }
-        ensures { Took self.old self.new ahead.now count result }
+        ensures { Took self.old self.new ahead.now count (part_found count result) }
     {
-        let next = ahead.first_chunk::<AHEAD>()?;
+        let Some(next) = ahead.first_chunk::<AHEAD>() else {
+            return ItmFound::Unknown;
+        };
         let waiting = self.waiting;
         self.held[waiting..waiting + AHEAD].copy_from_slice(next);
-        let (bytes, packet) = whole_packet(&self.held[..AHEAD])?;
-        if bytes <= waiting + count {
-            self.waiting = 0;
-            return Some(PartTaken {
-                bytes: bytes - waiting,
-                packet: Some(packet),
-            });
+        let Some(window) = self.held.first_chunk::<WINDOW>() else {
+            return ItmFound::Unknown;
+        };
+        match look_in(window, waiting + count) {
+            ItmFound::Ends { bytes, packet } => {
+                self.waiting = 0;
+                ItmFound::Ends {
+                    bytes: bytes - waiting,
+                    packet,
+                }
+            }
+            ItmFound::Waits => {
+                self.waiting = waiting + count;
+                ItmFound::Waits
+            }
+            ItmFound::Unknown => ItmFound::Unknown,
         }
-        self.waiting = waiting + count;
-        Some(PartTaken {
-            bytes: count,
-            packet: None,
-        })
+    }
+
+    /// Takes these bytes, wherever they are: those within the unfinished packet up to the one that ends it, or all of
+    /// them. It gives this packet at the last of those that it takes, or nothing where none ends.
+    ///
+    /// None says nothing of the bytes: in a hunt, of no bytes, and where the first of them is a fault. Then the decoder
+    /// stands for what it stood for.
+    #[inline(never)]
+    pub fn take_part(&mut self, bytes: &[u8]) -> Option<PartTaken<ItmPacket>>
+        requires live { is_live self.old ≡ true }
+        requires room { held_of self.old + length bytes.now ≤ COUNT_ROOM }
+        ensures same { packets_in (is_hunter self.new) ≡ packets_in (is_hunter self.old) }
+        ensures bytes { IfSome result (λ x. (0 < x.bytes) × (x.bytes ≤ length bytes.now)) }
+        ensures fits { IfSome result (λ x. IfSome x.packet IsProper) }
+        ensures few { IfSome result (λ x. held_of self.new ≤ held_of self.old + x.bytes) }
+        ensures skipped { skipped_by self.new ≡ skipped_by self.old }
+        ensures live { is_live self.new ≡ true }
+        ensures cuts { (u front : List Placed) (last : Placed) → Stands self.old u →
+            IfSome result (λ x. units_of (front ++ last ∷ []) ≡ take x.bytes bytes.now →
+            Cuts (packets_in (is_hunter self.old)) (Stands self.new) u front last x.packet) }
+        ensures none { result ≡ None → ((u : List Placed) → Stands self.old u → Stands self.new u)
+            × (held_of self.new ≡ held_of self.old) }
+    {
+        self.take_slowly(bytes)
     }
 
     /// Takes these bytes one by one.
-    #[inline(never)]
+    #[inline(always)]
     fn take_slowly(&mut self, bytes: &[u8]) -> Option<PartTaken<ItmPacket>>
         requires room { held_of self.old + length bytes.now ≤ COUNT_ROOM }
         ensures { Took self.old self.new bytes.now (length bytes.now) result }
@@ -269,8 +306,8 @@ impl ItmDecoder {
     }
 
     /// Feeds a piece, whose first byte is at this offset, up to the first byte to which the answer is
-    /// neither `Quiet` nor `Skipping`, or to the piece's end. It takes a packet at once whose bytes
-    /// are all there.
+    /// neither `Quiet` nor `Skipping`, or to the piece's end. It takes a packet at once where eight bytes
+    /// or more are there that begin with it.
     #[inline]
     pub fn feed_piece(&mut self, at: u64, piece: &[u8]) -> Block<ItmPacket>
         requires live { is_live self.old ≡ true }
@@ -301,13 +338,44 @@ impl ItmDecoder {
     }
 }
 
+/// What the first `count` of these bytes are to a packet whose first byte is the first of them. What the bytes after the
+/// first `count` are is of no account.
+#[inline(always)]
+fn look_in(window: &[u8; WINDOW], count: usize) -> ItmFound
+    ensures { IsSeen window.now count result }
+{
+    match packet_in(window) {
+        InWindow::Packet { bytes, packet } if bytes <= count => ItmFound::Ends { bytes, packet },
+        InWindow::Packet { .. } => ItmFound::Waits,
+        InWindow::Other => {
+            if is_front(window, count) {
+                ItmFound::Waits
+            } else {
+                ItmFound::Unknown
+            }
+        }
+    }
+}
+
+/// The packet that these bytes begin with, where they are a word or more.
+#[inline(always)]
+fn front_packet(piece: &[u8]) -> Option<(usize, ItmPacket)>
+    ensures whole { IfSome result (λ x. (0 < x.0) × (x.0 ≤ length piece.now) × Spells x.1 (take x.0 piece.now)) }
+    ensures proper { IfSome result (λ x. IsProper x.1) }
+{
+    let window = piece.first_chunk::<WINDOW>()?;
+    match packet_in(window) {
+        InWindow::Packet { bytes, packet } => Some((bytes, packet)),
+        InWindow::Other => None,
+    }
+}
+
 impl Machine for ItmDecoder {
     ghost use Rattle.std.specs.Prelude.{refl, ◌+◌, ◌≤◌, ◌⊎◌, ◌∷◌, ◌++◌, [], List, All, take};
     ghost use Rattle.trace_values.specs.Placed.{Placed, byte_at, units_of};
     ghost use Rattle.trace_values.specs.Stream.{Grows, StepFits, LocksAfter, goes_on};
     ghost use Rattle.itm_codec.specs.Answers.{AnswersBy};
     ghost use Rattle.itm_grammar.specs.Rule.{rule, count_of};
-    ghost use Rattle.itm_grammar.specs.Proper.{IsProper};
     ghost use Rattle.itm_grammar.specs.declared.packet.ItmPacket.TheVariants.{Sync};
     ghost use Rattle.itm_grammar.specs.declared.partial.Partial.TheVariants.{Header};
     ghost use Rattle.trace_values.specs.Walk.{by_unit};

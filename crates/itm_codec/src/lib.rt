@@ -5,8 +5,9 @@
 mod cut;
 mod decoder;
 mod encoder;
+mod front;
 pub mod laws;
 mod whole;
 
-pub use decoder::{AHEAD, ItmDecoder, PartTaken};
+pub use decoder::{AHEAD, ItmDecoder, ItmFound, PartTaken};
 pub use encoder::encode;

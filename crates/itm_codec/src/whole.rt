@@ -1,55 +1,87 @@
-//! Packets whose bytes are all there, read at once (ARMv7-M Architecture Reference Manual, Arm DDI 0403E, appendix D4
+//! Packets whose bytes are all there, read as one word (ARMv7-M Architecture Reference Manual, Arm DDI 0403E, appendix D4
 //! 'Debug ITM and DWT Packet Protocol', section D4.2 'Packet descriptions').
 //!
 //! They are read so for speed alone: the decoder reads byte by byte what is not found here.
 
-ghost use Rattle.std.specs.Prelude.{◌≡◌, [], ◌+◌, ◌*◌, ◌/◌, ◌%◌, ◌^◌, ◌<◌, ◌≤◌, ◌∷◌, ℕ, List, length, take, IfSome};
+ghost use Rattle.std.specs.Prelude.{◌≡◌, [], ◌+◌, ◌*◌, ◌/◌, ◌%◌, ◌^◌, ◌<◌, ◌≤◌, ◌∷◌, ℕ, List, length, take, drop};
+ghost use Rattle.std.specs.Prelude.{slice_index, IfSome};
 ghost use Rattle.itm_grammar.specs.Spelling.{Spells, IsExtended, extended, more_bit, IsContinued, groups, late_bits};
 ghost use Rattle.itm_grammar.specs.Spelling.{byte_count, size_bits, number};
 ghost use Rattle.itm_grammar.specs.Proper.{IsProper};
+ghost use Rattle.itm_codec.specs.Windows.{IsFound, four_bytes};
 
 use itm_grammar::packet::{ItmPacket, Lateness, Size};
 
-/// The packet that these bytes begin with, and how many of them it takes. None where they begin with no packet,
-/// do not finish it, or begin with one that is rare: a longer synchronisation.
+/// How many bytes are read as one word.
+pub const WINDOW: usize = 8;
+
+/// What eight bytes begin with.
+#[derive(Clone, Copy, Drop)]
+pub enum InWindow {
+    /// So many of them are this packet.
+    Packet { bytes: usize, packet: ItmPacket },
+    /// It is not told: no packet, a longer one, or one that is rare.
+    Other,
+}
+
+/// The packet that these bytes begin with, where they have all of it. A synchronisation of more than six bytes is not
+/// found.
 #[inline(always)]
-pub fn whole_packet(bytes: &[u8]) -> Option<(usize, ItmPacket)>
-    ensures whole { IfSome result (λ x. (0 < x.0) × (x.0 ≤ length bytes.now) × Spells x.1 (take x.0 bytes.now)) }
-    ensures proper { IfSome result (λ x. IsProper x.1) }
+pub fn packet_in(window: &[u8; WINDOW]) -> InWindow
+    ensures { IsFound window.now result }
 {
-    match bytes {
-        [header, ..] if header % 4 != 0 => source_packet(bytes),
-        [0, 0, 0, 0, 0, 0x80, ..] => Some((6, ItmPacket::Sync)),
-        [header, ..] => {
-            let (payload, packet) = packet_of(*header, &bytes[1..])?;
-            Some((payload + 1, packet))
-        }
-        [] => None,
+    let header = window[0];
+    if header % 4 == 0 {
+        other_in(header, window)
+    } else {
+        source_in(header, payload_in(window))
     }
 }
 
-/// The software or hardware packet that these bytes begin with, and how many of them it takes. None where they
-/// begin with another packet or do not finish it.
+/// The four bytes after the header.
 #[inline(always)]
-fn source_packet(bytes: &[u8]) -> Option<(usize, ItmPacket)>
-    ensures whole { IfSome result (λ x. (0 < x.0) × (x.0 ≤ length bytes.now) × Spells x.1 (take x.0 bytes.now)) }
-    ensures proper { IfSome result (λ x. IsProper x.1) }
+fn payload_in(window: &[u8; WINDOW]) -> u32
+    ensures { four_bytes result ≡ take 4 (drop 1 window.now) }
 {
-    match bytes {
-        [header, a, ..] if header % 4 == 1 => Some((
-            2,
-            source_of(*header, Size::One, u32::from(*a)),
-        )),
-        [header, a, b, ..] if header % 4 == 2 => {
-            let value = u16::from_le_bytes([*a, *b]);
-            Some((3, source_of(*header, Size::Two, u32::from(value))))
-        }
-        [header, a, b, c, d, ..] if header % 4 == 3 => {
-            let value = u32::from_le_bytes([*a, *b, *c, *d]);
-            Some((5, source_of(*header, Size::Four, value)))
-        }
-        _ => None,
+    ((u64::from_le_bytes(*window) >> 8u32) % 0x1_0000_0000) as u32
+}
+
+/// The software or hardware packet of this header, which is that of one, and of the payload that begins with these four
+/// bytes.
+#[inline(always)]
+fn source_in(header: u8, payload: u32) -> InWindow
+    requires { 0 < header % 4 }
+    ensures { IsFound (header ∷ four_bytes payload) result }
+{
+    let code = header % 4;
+    let count = code + code / 3;
+    let value = front_of(payload, count);
+    InWindow::Packet {
+        bytes: 1 + usize::from(count),
+        packet: source_of(header, size_of(code), value),
     }
+}
+
+/// The size with this code.
+#[inline(always)]
+fn size_of(code: u8) -> Size
+    requires { (0 < code) × (code < 4) }
+    ensures { size_bits result ≡ code }
+{
+    match code {
+        1 => Size::One,
+        2 => Size::Two,
+        _ => Size::Four,
+    }
+}
+
+/// The number that the first so many of these four bytes are.
+#[inline(always)]
+fn front_of(payload: u32, count: u8) -> u32
+    requires { (0 < count) × (count ≤ 4) }
+    ensures { result ≡ payload % 256 ^ count }
+{
+    payload & (0xFFFF_FFFF >> (32 - 8 * u32::from(count)))
 }
 
 /// The software or hardware packet with this header and this value, which fits its size.
@@ -77,60 +109,153 @@ fn source_of(header: u8, size: Size, value: u32) -> ItmPacket
     }
 }
 
-/// The packet of this header, which is not that of a source packet, and how many bytes of this payload it takes.
-#[inline]
-fn packet_of(header: u8, payload: &[u8]) -> Option<(usize, ItmPacket)>
-    ensures bytes { IfSome result (λ x. x.0 ≤ length payload.now) }
-    ensures spells { IfSome result (λ x. Spells x.1 (header ∷ take x.0 payload.now)) }
-    ensures proper { IfSome result (λ x. IsProper x.1) }
+/// The packet that these bytes begin with, whose first is this header, which is not that of a source packet.
+#[inline(always)]
+fn other_in(header: u8, window: &[u8; WINDOW]) -> InWindow
+    requires header { header ≡ slice_index window.now 0 }
+    requires kind { header % 4 ≡ 0 }
+    ensures { IsFound window.now result }
 {
-    if header >= 0xC0 && header % 16 == 0 {
-        long_local(header, payload)
-    } else if header == 0x94 {
-        first_global(payload)
-    } else if header == 0xB4 {
-        second_global(payload)
-    } else if header >= 0x80 && header % 4 == 0 && (header / 8) % 2 == 1 {
-        long_extension(header, payload)
-    } else {
-        Some((0, packet_alone(header)?))
+    match header % 16 {
+        0 => local_in(header, window),
+        4 => global_in(header, window),
+        _ => extension_in(header, window),
     }
 }
 
-/// The packet that is this header alone: an overflow, or a short local timestamp or extension packet.
-#[inline]
-fn packet_alone(header: u8) -> Option<ItmPacket>
-    ensures spells { IfSome result (λ p. Spells p (header ∷ [])) }
-    ensures proper { IfSome result (λ p. IsProper p) }
+/// The local timestamp, overflow or synchronisation with this header that these bytes begin with.
+#[inline(always)]
+fn local_in(header: u8, window: &[u8; WINDOW]) -> InWindow
+    requires header { header ≡ slice_index window.now 0 }
+    requires kind { header % 16 ≡ 0 }
+    ensures { IsFound window.now result }
 {
-    if header == 0x70 {
-        Some(ItmPacket::Overflow)
-    } else if header % 16 == 0 && header > 0 && header < 0x70 {
-        Some(ItmPacket::Local {
-            lateness: Lateness::Exact,
-            delta: u32::from(header / 16),
-        })
-    } else if header % 16 == 8 && header < 0x80 {
-        Some(ItmPacket::Extension {
-            dwt: false,
-            value: u32::from(header / 16),
-        })
+    if header == 0 {
+        sync_in(window)
+    } else if header < 0xC0 {
+        short_local(header)
     } else {
-        None
+        long_local(header, payload_in(window))
     }
 }
 
-/// The long local timestamp of this header and payload, and how many bytes of the payload it takes.
-#[inline]
-fn long_local(header: u8, payload: &[u8]) -> Option<(usize, ItmPacket)>
+/// The global timestamp with this header that these bytes begin with.
+#[inline(always)]
+fn global_in(header: u8, window: &[u8; WINDOW]) -> InWindow
+    requires header { header ≡ slice_index window.now 0 }
+    ensures { IsFound window.now result }
+{
+    match header {
+        0x94 => first_global(payload_in(window)),
+        0xB4 => after_header(second_global(&window[1..])),
+        _ => InWindow::Other,
+    }
+}
+
+/// The extension packet with this header that these bytes begin with.
+#[inline(always)]
+fn extension_in(header: u8, window: &[u8; WINDOW]) -> InWindow
+    requires header { header ≡ slice_index window.now 0 }
+    requires kind { (header % 4 ≡ 0) × ((header / 8) % 2 ≡ 1) }
+    ensures { IsFound window.now result }
+{
+    if header < 0x80 {
+        short_extension(header)
+    } else {
+        after_header(long_extension(header, &window[1..]))
+    }
+}
+
+/// The synchronisation of six bytes that these bytes begin with.
+#[inline(always)]
+fn sync_in(window: &[u8; WINDOW]) -> InWindow
+    ensures { IsFound window.now result }
+{
+    match window {
+        [0, 0, 0, 0, 0, 0x80, _, _] => InWindow::Packet {
+            bytes: 6,
+            packet: ItmPacket::Sync,
+        },
+        _ => InWindow::Other,
+    }
+}
+
+/// A packet with the header before so many bytes of its payload.
+#[inline(always)]
+fn after_header(found: Option<(usize, ItmPacket)>) -> InWindow
+    requires { IfSome found (λ x. x.0 < 100) }
+    ensures { (header : ℕ) (payload : List ℕ) →
+        IfSome found (λ x. (x.0 ≤ length payload) × Spells x.1 (header ∷ take x.0 payload) × IsProper x.1) →
+        IsFound (header ∷ payload) result }
+{
+    match found {
+        Some((bytes, packet)) => InWindow::Packet {
+            bytes: 1 + bytes,
+            packet,
+        },
+        None => InWindow::Other,
+    }
+}
+
+/// The packet that is this header alone: a short local timestamp or an overflow.
+#[inline(always)]
+fn short_local(header: u8) -> InWindow
+    requires { (0 < header) × (header % 16 ≡ 0) }
+    ensures { IsFound (header ∷ []) result }
+{
+    if header < 0x70 {
+        InWindow::Packet {
+            bytes: 1,
+            packet: ItmPacket::Local {
+                lateness: Lateness::Exact,
+                delta: u32::from(header / 16),
+            },
+        }
+    } else if header == 0x70 {
+        InWindow::Packet {
+            bytes: 1,
+            packet: ItmPacket::Overflow,
+        }
+    } else {
+        InWindow::Other
+    }
+}
+
+/// The short extension packet that is this header alone.
+#[inline(always)]
+fn short_extension(header: u8) -> InWindow
+    requires { header < 128 }
+    ensures { IsFound (header ∷ []) result }
+{
+    if header % 16 == 8 {
+        InWindow::Packet {
+            bytes: 1,
+            packet: ItmPacket::Extension {
+                dwt: false,
+                value: u32::from(header / 16),
+            },
+        }
+    } else {
+        InWindow::Other
+    }
+}
+
+/// The long local timestamp of this header and of the payload that begins with these four bytes.
+#[inline(always)]
+fn long_local(header: u8, payload: u32) -> InWindow
     requires { (192 ≤ header) × (header % 16 ≡ 0) }
-    ensures bytes { IfSome result (λ x. (0 < x.0) × (x.0 ≤ length payload.now)) }
-    ensures spells { IfSome result (λ x. Spells x.1 (header ∷ take x.0 payload.now)) }
-    ensures proper { IfSome result (λ x. IsProper x.1) }
+    ensures { IsFound (header ∷ four_bytes payload) result }
 {
-    let (bytes, delta) = stamp_of(payload)?;
-    let lateness = lateness_of(header);
-    Some((bytes, ItmPacket::Local { lateness, delta }))
+    match groups_in(payload) {
+        Some((bytes, delta)) => InWindow::Packet {
+            bytes: 1 + bytes,
+            packet: ItmPacket::Local {
+                lateness: lateness_of(header),
+                delta,
+            },
+        },
+        None => InWindow::Other,
+    }
 }
 
 /// How late the long local timestamp of this header is.
@@ -147,22 +272,24 @@ fn lateness_of(header: u8) -> Lateness
     }
 }
 
-/// The first global timestamp of this payload, and how many bytes of it it takes. A fourth byte has the time's
-/// last five bits, then clock change, then wrap.
-#[inline]
-fn first_global(payload: &[u8]) -> Option<(usize, ItmPacket)>
-    ensures bytes { IfSome result (λ x. (0 < x.0) × (x.0 ≤ length payload.now)) }
-    ensures spells { IfSome result (λ x. Spells x.1 (148 ∷ take x.0 payload.now)) }
-    ensures proper { IfSome result (λ x. IsProper x.1) }
+/// The first global timestamp of the payload that begins with these four bytes. A fourth byte has the time's last five
+/// bits, then clock change, then wrap.
+#[inline(always)]
+fn first_global(payload: u32) -> InWindow
+    ensures { IsFound (148 ∷ four_bytes payload) result }
 {
-    let (bytes, value) = stamp_of(payload)?;
-    let packet = ItmPacket::GlobalFirst {
-        len: bytes as u8,
-        value: value % 0x400_0000,
-        change: (value / 0x400_0000) % 2 == 1,
-        wrap: (value / 0x800_0000) % 2 == 1,
-    };
-    Some((bytes, packet))
+    match groups_in(payload) {
+        Some((bytes, value)) => InWindow::Packet {
+            bytes: 1 + bytes,
+            packet: ItmPacket::GlobalFirst {
+                len: bytes as u8,
+                value: value % 0x400_0000,
+                change: (value / 0x400_0000) % 2 == 1,
+                wrap: (value / 0x800_0000) % 2 == 1,
+            },
+        },
+        None => InWindow::Other,
+    }
 }
 
 /// The second global timestamp of this payload, and how many bytes of it it takes: four with 22 bits of the time, or
@@ -215,31 +342,30 @@ fn wide_second(payload: &[u8]) -> Option<(usize, ItmPacket)>
     }
 }
 
-/// The payload of a timestamp, at most four bytes: how many they are, and the number that their bits 6 to 0
+/// The payload of a timestamp that begins these four bytes: how many they are, and the number that their bits 6 to 0
 /// stand for, the lowest group first. Bit 7 says that another byte follows.
-#[inline]
-fn stamp_of(payload: &[u8]) -> Option<(usize, u32)>
-    ensures bytes { IfSome result (λ x. (0 < x.0) × (x.0 ≤ 4) × (x.0 ≤ length payload.now)) }
-    ensures continued { IfSome result (λ x. IsContinued (take x.0 payload.now)) }
-    ensures number { IfSome result (λ x. x.1 ≡ groups (take x.0 payload.now)) }
+#[inline(always)]
+fn groups_in(payload: u32) -> Option<(usize, u32)>
+    ensures bytes { IfSome result (λ x. (0 < x.0) × (x.0 ≤ 4)) }
+    ensures continued { IfSome result (λ x. IsContinued (take x.0 (four_bytes payload))) }
+    ensures number { IfSome result (λ x. x.1 ≡ groups (take x.0 (four_bytes payload))) }
     ensures fits { IfSome result (λ x. x.1 < 128 ^ x.0) }
 {
-    match payload {
-        [a, ..] if *a < 128 => Some((1, u32::from(*a))),
-        [a, b, ..] if *b < 128 => Some((2, u32::from(*a % 128) + 128 * u32::from(*b))),
-        [a, b, c, ..] if *c < 128 => Some((
-            3,
-            u32::from(*a % 128) + 128 * u32::from(*b % 128) + 16384 * u32::from(*c),
-        )),
-        [a, b, c, d, ..] if *d < 128 => Some((
-            4,
-            u32::from(*a % 128)
-                + 128 * u32::from(*b % 128)
-                + 16384 * u32::from(*c % 128)
-                + 2_097_152 * u32::from(*d),
-        )),
-        _ => None,
+    let ends = (0xFFFF_FFFF - payload) & 0x8080_8080;
+    if ends == 0 {
+        return None;
     }
+    let last = ends & (0xFFFF_FFFF - (ends - 1));
+    let bytes = ends.trailing_zeros() as usize / 8 + 1;
+    Some((bytes, without_bits(payload & (last - 1))))
+}
+
+/// The number that bits 6 to 0 of these four bytes stand for, the lowest group first.
+#[inline(always)]
+fn without_bits(kept: u32) -> u32
+    ensures { result ≡ groups (four_bytes kept) }
+{
+    (kept & 0x7F) + (kept / 2 & 0x3F80) + (kept / 4 & 0x1F_C000) + (kept / 8 & 0xFE0_0000)
 }
 
 /// The extension packet of this header and payload, and how many bytes of the payload it takes.

@@ -216,16 +216,39 @@ fn keeps_any_second_byte(rt: HostRuntime) {
 fn places_a_frame(rt: HostRuntime) {
     // The half synchronisations are at 44 and 52.
     let piece = b"\x01\xff\xfe\x7f\xff\x7f\x7f\xff\0\xff\x02\xff\xff\x7f\x03\x7f\x04\xff\xfd\xff";
-    let offsets = [
-        40, 41, 42, 43, 46, 47, 48, 49, 50, 51, 54, 55, 56, 57, 58, 59,
-    ];
+    let behind = [0, 1, 2, 3, 6, 7, 8, 9, 10, 11, 14, 15, 16, 17, 18, 19];
     let gathered = gather_frame(piece);
     let placed = gather_frame_at(40, piece);
     assert_eq!(rt; placed.map(|p| p.bytes), gathered.map(|g| g.bytes));
     assert_eq!(rt; placed.map(|p| p.halves), gathered.map(|g| g.halves));
     assert_eq!(rt; placed.map(|p| p.size()), Some(piece.len()));
-    assert_eq!(rt; placed.map(|p| p.offsets), Some(offsets));
+    assert_eq!(rt; placed.map(|p| p.at), Some(40));
+    assert_eq!(rt; placed.map(|p| p.behind), Some(behind));
     assert_eq!(rt; gather_frame_at(40, b"AB\xff\x7fCDEFGHIJKLMNO"), None);
+    // One in each gap.
+    let spaced = gather_frame_at(
+        40,
+        b"AB\xff\x7fCD\xff\x7fEF\xff\x7fGH\xff\x7fIJ\xff\x7fKL\xff\x7fMN\xff\x7fOP",
+    );
+    let behind = [0, 1, 4, 5, 8, 9, 12, 13, 16, 17, 20, 21, 24, 25, 28, 29];
+    assert_eq!(rt; spaced.map(|p| p.at), Some(40));
+    assert_eq!(rt; spaced.map(|p| p.behind), Some(behind));
+}
+
+#[test]
+fn places_no_frame_of_more_than_256_bytes(rt: HostRuntime) {
+    // 121 half synchronisations after the first halfword.
+    let mut piece = [0x7f; 258];
+    for word in 0..129 {
+        piece[2 * word] = if word == 0 || word > 121 { 0x11 } else { 0xff };
+    }
+    assert_eq!(rt; gather_frame(&piece).map(|g| g.halves), Some(121));
+    assert_eq!(rt; gather_frame_at(40, &piece), None);
+    // And one fewer.
+    piece[2] = 0x11;
+    let placed = gather_frame_at(40, &piece[2..]);
+    assert_eq!(rt; placed.map(|p| p.halves), Some(120));
+    assert_eq!(rt; placed.map(|p| p.behind[15]), Some(255));
 }
 
 #[test]

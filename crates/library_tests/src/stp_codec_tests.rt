@@ -1,7 +1,7 @@
 //! Captures and single packets, read by the bytes and by pieces.
 
 use std::process::Abort;
-use stp_codec::{StpDecoder, WINDOW};
+use stp_codec::{PacketTaken, StpDecoder, StpFound, WINDOW};
 use stp_grammar::item::{Place, Stamp, StpItem};
 use stp_grammar::packet::{Order, Width};
 use trace_values::{Block, Fault, Machine, Reason, Step};
@@ -94,6 +94,27 @@ fn check(
     }
 }
 
+/// Takes the first `count` of these bytes by what `find_part` finds that they are, and where that is unknown by
+/// `take_part`.
+fn take_front(
+    rt: &impl Abort,
+    decoder: &mut StpDecoder,
+    ahead: &[u8],
+    count: usize,
+) -> Option<PacketTaken> {
+    assert!(rt; count < 5000 && count + WINDOW <= ahead.len());
+    assert!(rt; decoder.is_live() && decoder.held() < 10000 && decoder.skipped() < 10000);
+    match decoder.find_part(ahead, count) {
+        StpFound::Ends(parts) => Some(decoder.end_part(ahead, parts)),
+        StpFound::Waits => Some(PacketTaken {
+            bytes: count,
+            half: 1,
+            item: None,
+        }),
+        StpFound::Unknown => decoder.take_part(&ahead[..count]),
+    }
+}
+
 /// The bytes in runs of this size give these answers, where the part of a packet that a run has is taken at once. It is
 /// copied to the front of `ahead`, where other bytes are behind it.
 fn check_parts(
@@ -112,7 +133,6 @@ fn check_parts(
             break;
         }
         assert!(rt; bytes.len() < 5000 && 0 < size && size < 10000);
-        assert!(rt; by_parts.is_live() && by_parts.held() < 10000 && by_parts.skipped() < 10000);
         let left = size - at % size;
         let end = if left < bytes.len() - at {
             at + left
@@ -122,8 +142,9 @@ fn check_parts(
         let count = end - at;
         assert!(rt; count < 5000 && count + WINDOW <= ahead.len());
         ahead[..count].copy_from_slice(&bytes[at..end]);
-        let step = match by_parts.take_part(ahead, count) {
+        let step = match take_front(rt, &mut by_parts, ahead, count) {
             Some(taken) => {
+                assert!(rt; taken.bytes <= count);
                 at += taken.bytes;
                 match taken.item {
                     Some(item) => Step::Item {
@@ -134,6 +155,9 @@ fn check_parts(
                 }
             }
             None => {
+                assert!(rt;
+                    by_parts.is_live() && by_parts.held() < 10000 && by_parts.skipped() < 10000
+                );
                 at += 1;
                 by_parts.feed(at as u64 - 1, bytes[at - 1])
             }

@@ -22,6 +22,18 @@ impl Model for RunBytes {
 }
 
 impl RunBytes {
+    /// These bytes.
+    pub fn new(run: &[u8]) -> RunBytes
+        requires { length run.now ≤ 15 }
+        ensures { result ≡ run.now }
+    {
+        let mut bytes = ArrayVec::new();
+        for byte in run {
+            bytes.push(*byte);
+        }
+        RunBytes { bytes }
+    }
+
     /// Those of the cells of a run.
     pub fn of(run: &[Cell]) -> RunBytes
         requires { length run.now ≤ 15 }

@@ -1,5 +1,5 @@
 -- What the machine of a source stands for, and what it shows.
-use Rattle.std.specs.Prelude.{ℕ, List, Bool, true, false}
+use Rattle.std.specs.Prelude.{◌≡◌, ℕ, List, Bool, true, false}
 use Rattle.trace_values.specs.Placed.{Placed}
 use Rattle.trace_values.specs.Stream.{Stream}
 use Rattle.capture_plan.specs.declared.packets.PacketsMode.{PacketsMode}
@@ -66,3 +66,9 @@ units_by (Stp decoder) = 2
 abbrev pub FinishesStp : SourceMachine → List ℕ → PacketParts → Type 0
 FinishesStp (Itm decoder) bytes parts = ⊥
 FinishesStp (Stp decoder) bytes parts = stp.FinishesParts decoder bytes parts
+
+-- it stands for what it stood for
+abbrev pub Idles : SourceMachine → SourceMachine → Type 0
+Idles old new =
+    ((u : List Placed) → Stands old u → Stands new u)
+    × (held_of new ≡ held_of old) × (skipped_by new ≡ skipped_by old)

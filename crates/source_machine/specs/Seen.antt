@@ -5,8 +5,10 @@ use Rattle.trace_values.specs.declared.step.Step.TheVariants.{Quiet, Skipping, I
 use Rattle.trace_values.specs.declared.block.Block.{Block}
 use Rattle.stp_grammar.specs.declared.item.StpItem.{StpItem}
 use Rattle.source_events.specs.declared.packet.Packet.{Packet}
-use Rattle.source_events.specs.declared.packet.Packet.TheVariants.{Stp}
+use Rattle.source_events.specs.declared.packet.Packet.TheVariants.{Itm, Stp}
 use Rattle.itm_codec.specs.declared.decoder.PartTaken.{PartTaken}
+use Rattle.itm_codec.specs.declared.decoder.ItmFound.{ItmFound}
+use Rattle.itm_codec.specs.Parts.{part_found}
 use Rattle.std.specs.Option.{option_map}
 
 abbrev pub step_as : {V W : Type 0} → (V → W) → Step V → Step W
@@ -32,3 +34,7 @@ packet_in half (Some item) = Some (Item half (Stp item))
 -- of a part of a packet
 abbrev pub part_as : {V W : Type 0} → (V → W) → PartTaken V → PartTaken W
 part_as f part = record { bytes = part.bytes; packet = option_map f part.packet }
+
+-- of the part of so many bytes that a quick look found
+abbrev pub itm_found : ℕ → ItmFound → Option (PartTaken Packet)
+itm_found count found = option_map (part_as Itm) (part_found count found)

@@ -3,4 +3,4 @@
 
 mod machine;
 
-pub use machine::{AHEAD, ItmParts, PartsOf, SourceMachine, StpParts};
+pub use machine::{AHEAD, SourceMachine};

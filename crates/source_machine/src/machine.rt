@@ -2,46 +2,20 @@
 
 ghost use Rattle.std.specs.Prelude.{◌≡◌};
 ghost use Rattle.source_events.specs.declared.packet.Packet.TheVariants.{Itm, Stp};
-ghost use Rattle.source_machine.specs.Seen.{block_as, part_as, step_as, packet_in};
+ghost use Rattle.source_machine.specs.Seen.{block_as, itm_found, part_as, step_as, packet_in};
 ghost use Rattle.trace_values.specs.declared.limits.TheConstants.{COUNT_ROOM};
 
 use capture_plan::PacketsMode;
-use itm_codec::{ItmDecoder, PartTaken};
+use itm_codec::{ItmDecoder, ItmFound, PartTaken};
 use itm_grammar::packet::ItmPacket;
 use source_events::{Packet, SourceKind};
-use stp_codec::{PacketParts, PacketTaken, StpDecoder};
+use stp_codec::{PacketParts, PacketTaken, StpDecoder, StpFound};
 use stp_grammar::item::StpItem;
 use stp_grammar::packet::Order;
 use trace_values::{Block, Machine, Step};
 
 /// How many bytes are there behind those of a part that is taken at once, whatever they are.
 pub const AHEAD: usize = 24;
-
-/// A kind of sources for which code is made that takes parts of packets, so that it holds no code of the other kind.
-pub trait PartsOf {
-    /// They are STP sources, and else ITM sources.
-    fn are_stp() -> bool;
-}
-
-/// ITM sources.
-pub struct ItmParts;
-
-impl PartsOf for ItmParts {
-    #[inline(always)]
-    fn are_stp() -> bool {
-        false
-    }
-}
-
-/// STP sources.
-pub struct StpParts;
-
-impl PartsOf for StpParts {
-    #[inline(always)]
-    fn are_stp() -> bool {
-        true
-    }
-}
 
 /// What reads the bytes of a mapped source.
 #[derive(Drop)]
@@ -154,7 +128,8 @@ impl SourceMachine {
     ghost use Rattle.source_events.specs.Fitting.{PacketFits};
     ghost use Rattle.source_machine.specs.Machine.{reading_of, reading_by, Stands, is_live, is_stp, held_of};
     ghost use Rattle.source_machine.specs.Machine.{skipped_by};
-    ghost use Rattle.source_machine.specs.Machine.{FinishesStp};
+    ghost use Rattle.source_machine.specs.Machine.{FinishesStp, Idles};
+    ghost use Rattle.stp_codec.specs.declared.decoder.StpFound.TheVariants.{Ends, Waits, Unknown};
 
     /// The machine of a source of this kind before its first byte.
     pub fn new(kind: SourceKind, packets: PacketsMode, order: Order) -> SourceMachine
@@ -243,21 +218,48 @@ impl SourceMachine {
         }
     }
 
-    /// Takes the first `count` of these bytes of an ITM source at once, wherever they are: those within the unfinished
-    /// packet up to the one that ends it, or all of them. It is live, and has room for all of them. What the bytes
-    /// behind them are is of no account.
+    /// Looks for the end of the unfinished packet of an ITM source in the first `count` of these bytes, wherever they
+    /// are: it takes those up to the one that ends the packet, which it then gives, or all of them, where the packet
+    /// ends after them. It is live, and has room for all of them. What the bytes behind them are is of no account.
     ///
-    /// None in a hunt, where the first of them is a fault, of no bytes, for an STP source, and in code for those: then it
-    /// stands for what it stood for.
+    /// It is quick: it answers `Unknown` in a hunt, of no bytes, of packets that are rare, and for an STP source. Then it
+    /// stands for what it stood for, and `take_itm` reads the bytes all the same.
     #[inline(always)]
-    pub fn take_itm<K: PartsOf>(&mut self, ahead: &[u8], count: usize) -> Option<PartTaken<Packet>>
+    pub fn find_itm(&mut self, ahead: &[u8], count: usize) -> ItmFound
         requires live { is_live self.old ≡ true }
         requires room { held_of self.old + skipped_by self.old + 2 * count ≤ COUNT_ROOM }
         requires ahead { count + AHEAD ≤ length ahead.now }
         ensures same { reading_of self.new ≡ reading_of self.old }
-        ensures bytes { IfSome result (λ part. (0 < part.bytes) × (part.bytes ≤ count)) }
+        ensures bytes { IfSome (itm_found count result) (λ part. (0 < part.bytes) × (part.bytes ≤ count)) }
         ensures cuts { (u front : List Placed) (last : Placed) → Stands self.old u →
-            IfSome result (λ part. units_of (front ++ last ∷ []) ≡ take part.bytes ahead.now →
+            IfSome (itm_found count result) (λ part. units_of (front ++ last ∷ []) ≡ take part.bytes ahead.now →
+            Cuts (reading_of self.old) (Stands self.new) u front last part.packet) }
+        ensures live { is_live self.new ≡ true }
+        ensures fits { IfSome (itm_found count result) (λ part. IfSome part.packet PacketFits) }
+        ensures few { IfSome (itm_found count result) (λ part. held_of self.new + skipped_by self.new ≤
+            held_of self.old + skipped_by self.old + 2 * part.bytes) }
+        ensures none { itm_found count result ≡ None → ((u : List Placed) → Stands self.old u → Stands self.new u)
+            × (held_of self.new ≡ held_of self.old) × (skipped_by self.new ≡ skipped_by self.old) }
+    {
+        match self {
+            SourceMachine::Itm(decoder) => decoder.find_part(ahead, count),
+            SourceMachine::Stp(_) => ItmFound::Unknown,
+        }
+    }
+
+    /// Takes these bytes of an ITM source, wherever they are: those within the unfinished packet up to the one that ends
+    /// it, or all of them. It is live, and has room for all of them.
+    ///
+    /// None in a hunt, where the first of them is a fault, of no bytes, and for an STP source: then it stands for what it
+    /// stood for.
+    #[inline(always)]
+    pub fn take_itm(&mut self, bytes: &[u8]) -> Option<PartTaken<Packet>>
+        requires live { is_live self.old ≡ true }
+        requires room { held_of self.old + skipped_by self.old + 2 * length bytes.now ≤ COUNT_ROOM }
+        ensures same { reading_of self.new ≡ reading_of self.old }
+        ensures bytes { IfSome result (λ part. (0 < part.bytes) × (part.bytes ≤ length bytes.now)) }
+        ensures cuts { (u front : List Placed) (last : Placed) → Stands self.old u →
+            IfSome result (λ part. units_of (front ++ last ∷ []) ≡ take part.bytes bytes.now →
             Cuts (reading_of self.old) (Stands self.new) u front last part.packet) }
         ensures live { is_live self.new ≡ true }
         ensures fits { IfSome result (λ part. IfSome part.packet PacketFits) }
@@ -266,55 +268,95 @@ impl SourceMachine {
         ensures none { result ≡ None → ((u : List Placed) → Stands self.old u → Stands self.new u)
             × (held_of self.new ≡ held_of self.old) × (skipped_by self.new ≡ skipped_by self.old) }
     {
-        if K::are_stp() {
-            return None;
-        }
         match self {
             SourceMachine::Itm(decoder) => {
-                let part = decoder.take_part(ahead, count)?;
+                let part = decoder.take_part(bytes)?;
                 Some(itm_part(part))
             }
             SourceMachine::Stp(_) => None,
         }
     }
 
-    /// Takes the first `count` of these bytes of an STP source at once, wherever they are: those within the unfinished
-    /// packet up to the one in which it ends, with all of that byte, or all of them. It is live, and has room for all
-    /// their nibbles. What the bytes behind them are is of no account.
+    /// Finds at once what the first `count` of these bytes of an STP source are, wherever they are: they end the
+    /// unfinished packet, or all of them are taken. It is live. What the bytes behind them are is of no account.
     ///
-    /// None where the reading has not begun, where a nibble is a fault, of no bytes, for an ITM source, and in code for
-    /// those: then it stands for what it stood for.
+    /// A packet that ends is not taken: `end_stp` does that, given the same bytes. `Unknown` says nothing of them, and
+    /// it stands for what it stood for: `take_stp` reads them. It is the answer for an ITM source.
     #[inline(always)]
-    pub fn take_stp<K: PartsOf>(&mut self, ahead: &[u8], count: usize) -> Option<PacketTaken>
+    pub fn find_stp(&mut self, ahead: &[u8], count: usize) -> StpFound
         requires live { is_live self.old ≡ true }
-        requires room { held_of self.old + skipped_by self.old + 2 * count ≤ COUNT_ROOM }
         requires ahead { count + AHEAD ≤ length ahead.now }
         ensures same { reading_of self.new ≡ reading_of self.old }
-        ensures bytes { IfSome result (λ taken. (0 < taken.bytes) × (taken.bytes ≤ count)) }
+        ensures live { is_live self.new ≡ true }
+        ensures nibbles { (parts : PacketParts) → result ≡ Ends parts →
+            (0 < parts.nibbles) × (parts.nibbles ≤ 2 * count) }
+        ensures ends { (parts : PacketParts) → result ≡ Ends parts → FinishesStp self.new ahead.now parts }
+        ensures idles { (parts : PacketParts) → result ≡ Ends parts → Idles self.old self.new }
+        ensures waits { result ≡ Waits → (0 < count) × (held_of self.new + skipped_by self.new ≤
+            held_of self.old + skipped_by self.old + 2 * count) }
+        ensures passes { (u front : List Placed) (last : Placed) → Stands self.old u → result ≡ Waits →
+            units_of (front ++ last ∷ []) ≡ take count ahead.now →
+            Passes (reading_of self.old) (Stands self.new) u front last None }
+        ensures unknown { result ≡ Unknown → Idles self.old self.new }
+    {
+        match self {
+            SourceMachine::Itm(_) => StpFound::Unknown,
+            SourceMachine::Stp(decoder) => decoder.find_part(ahead, count),
+        }
+    }
+
+    /// Takes the packet of these parts that `find_stp` found in these bytes, with all of the byte in which it ends. It
+    /// is live.
+    #[inline(always)]
+    pub fn end_stp(&mut self, ahead: &[u8], parts: PacketParts) -> PacketTaken
+        requires live { is_live self.old ≡ true }
+        requires room { skipped_by self.old ≤ COUNT_ROOM }
+        requires next { FinishesStp self.old ahead.now parts }
+        ensures same { reading_of self.new ≡ reading_of self.old }
+        ensures bytes { (0 < result.bytes) × (2 * result.bytes ≤ parts.nibbles + 1) }
         ensures passes { (u front : List Placed) (last : Placed) → Stands self.old u →
-            IfSome result (λ taken. units_of (front ++ last ∷ []) ≡ take taken.bytes ahead.now →
+            units_of (front ++ last ∷ []) ≡ take result.bytes ahead.now →
+            Passes (reading_of self.old) (Stands self.new) u front last (packet_in result.half result.item) }
+        ensures live { is_live self.new ≡ true }
+        ensures fits { IfSome (packet_in result.half result.item) (StepFits PacketFits) }
+        ensures few { held_of self.new + skipped_by self.new ≤
+            held_of self.old + skipped_by self.old + 2 * result.bytes }
+    {
+        match self {
+            SourceMachine::Itm(_) => unreachable!(),
+            SourceMachine::Stp(decoder) => decoder.end_part(ahead, parts),
+        }
+    }
+
+    /// Takes bytes of an STP source, wherever they are: those within the unfinished packet up to the one in which it
+    /// ends, with all of that byte, or all of them. It is live, and has room for all their nibbles. Where `find_stp`
+    /// knows what they are, that is faster.
+    ///
+    /// None where the reading has not begun, where a nibble is a fault, of no bytes, and for an ITM source: then it
+    /// stands for what it stood for.
+    #[inline(always)]
+    pub fn take_stp(&mut self, bytes: &[u8]) -> Option<PacketTaken>
+        requires live { is_live self.old ≡ true }
+        requires room { held_of self.old + skipped_by self.old + 2 * length bytes.now ≤ COUNT_ROOM }
+        ensures same { reading_of self.new ≡ reading_of self.old }
+        ensures bytes { IfSome result (λ taken. (0 < taken.bytes) × (taken.bytes ≤ length bytes.now)) }
+        ensures passes { (u front : List Placed) (last : Placed) → Stands self.old u →
+            IfSome result (λ taken. units_of (front ++ last ∷ []) ≡ take taken.bytes bytes.now →
             Passes (reading_of self.old) (Stands self.new) u front last (packet_in taken.half taken.item)) }
         ensures live { is_live self.new ≡ true }
         ensures fits { IfSome result (λ taken. IfSome (packet_in taken.half taken.item) (StepFits PacketFits)) }
         ensures few { IfSome result (λ taken. held_of self.new + skipped_by self.new ≤
             held_of self.old + skipped_by self.old + 2 * taken.bytes) }
-        ensures none { result ≡ None → ((u : List Placed) → Stands self.old u → Stands self.new u)
-            × (held_of self.new ≡ held_of self.old) × (skipped_by self.new ≡ skipped_by self.old) }
+        ensures none { result ≡ None → Idles self.old self.new }
     {
-        if !K::are_stp() {
-            return None;
-        }
         match self {
             SourceMachine::Itm(_) => None,
-            SourceMachine::Stp(decoder) => {
-                let taken = decoder.take_part(ahead, count)?;
-                Some(taken)
-            }
+            SourceMachine::Stp(decoder) => decoder.take_part(bytes),
         }
     }
 
     /// Feeds a piece, whose first byte is at this offset, up to the first byte to which the answer is neither `Quiet`
-    /// nor `Skipping`, or to the piece's end. It takes a packet at once whose bytes are all there.
+    /// nor `Skipping`, or to the piece's end. It takes most packets at once whose bytes are all there.
     #[inline(always)]
     pub fn feed_piece(&mut self, at: u64, piece: &[u8]) -> Block<Packet>
         requires live { is_live self.old ≡ true }

@@ -43,16 +43,16 @@ spread_is n l =
     eqb-true _ _ (agree_below_at (λ (k : ℕ). bit_and (k * 35185445863425) 0x1000100010001 == spread_bits k) (λ (k : ℕ). true) 16 n refl l)
 
 -- bytes one by one
-record AreBytes (xs : List ℕ) : Type 0 where
-  at : (i : ℕ) → get_or xs i 0 < 256
+pub record AreBytes (xs : List ℕ) : Type 0 where
+  pub at : (i : ℕ) → get_or xs i 0 < 256
 
-one_more : {x : ℕ} {xs : List ℕ} → x < 256 → AreBytes xs → AreBytes (x ∷ xs)
+pub one_more : {x : ℕ} {xs : List ℕ} → x < 256 → AreBytes xs → AreBytes (x ∷ xs)
 one_more {x} {xs} h rest = record { at = by } where
   by : (i : ℕ) → get_or (x ∷ xs) i 0 < 256
   by zero = h
   by (suc i) = rest.at i
 
-no_more : AreBytes []
+pub no_more : AreBytes []
 no_more = record { at = λ i. omega arith }
 
 small_with : (x bit : ℕ) → x < 256 → with_bit x (bit % 2) < 256

@@ -27,7 +27,12 @@ pub mod BareSteps
 pub mod BareGoing
 pub mod BareSlots
 pub mod Packets
+pub mod Placing
+pub mod FedRuns
 pub mod Plain
 pub mod Halfwords
+pub mod NamedPairs
 pub mod Splitting
 pub mod Parts
+pub mod Moves
+pub mod InPlace

@@ -96,6 +96,14 @@ module _ (run : List Cell) (done count : ℕ) (last : Cell) (some : 0 < count) (
         units_run [] = refl
         units_run (c ∷ l) = ap (λ b. c.byte ∷ b) (units_run l)
 
+  -- the bytes from there on, up to the end of the run
+  pub packet_bytes : (ahead : List ℕ) → take (length run) ahead ≡ bytes_of run → length run ≤ length ahead →
+      units_of (placed_run front ++ byte_at last.at last.byte ∷ []) ≡ take count (take (length run - done) (drop done ahead))
+  packet_bytes ahead e long =
+      packet_units ahead e long
+      ∙ take-take count (length ahead - done) (drop done ahead) (omega arith)
+      ∙ sym (take-take count (length run - done) (drop done ahead) (omega arith))
+
 -- bytes of a piece that give a packet
 module _ {V : Type 0} (reading : List Placed → Stream V) (stands : List Placed → Type 0) (u : List Placed) (at : ℕ) (piece : List ℕ) (bytes : ℕ) (some : 0 < bytes) (within : bytes ≤ length piece) where
   abbrev pub piece_front : List Placed

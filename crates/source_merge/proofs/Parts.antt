@@ -7,11 +7,12 @@ use Rattle.frame_grammar.proofs.Pairs.{made}
 use Rattle.source_events.specs.Runs.{runs_of, run_length, more_of, id_of, RisesFrom, IsRunFrom, end_of}
 use Rattle.source_events.proofs.Merges.{test_same, test_other}
 use Rattle.source_merge.specs.Data.{run_cells}
-use Rattle.source_merge.specs.Split.{AreParts, cells_of_parts, part_cells}
+use Rattle.source_merge.specs.Split.{AreParts, cells_of_parts, part_cells, split_places}
 use Rattle.source_merge.specs.declared.split.Part.{Part}
 use Rattle.source_merge.specs.declared.split.SplitFrame.{SplitFrame}
 use Rattle.source_merge.proofs.DataCells.{cells_length, cells_id}
 use Rattle.source_merge.proofs.Framing.{cut_at, first_at}
+use Rattle.source_merge.proofs.Splitting.{places_long}
 
 -- the first of these cells, if there is one, has a later run
 Later : ℕ → List Cell → Type 0
@@ -63,12 +64,12 @@ module _ (xs ys : List Cell) (e : length xs ≡ run_length (xs ++ ys)) (some : 0
       (first_at (xs ++ ys) (length xs) n e some r))
 
 module _ (offsets bytes : List ℕ) (places : length offsets ≡ 16) (sized : length bytes ≡ 40) where
-  part_places : (p : Part) → p.end ≤ 15 → length (drop p.from (take p.end offsets)) ≡ p.end - p.from
+  pub part_places : (p : Part) → p.end ≤ 15 → length (drop p.from (take p.end offsets)) ≡ p.end - p.from
   part_places p h =
       let s = length-take-le p.end offsets (omega arith) in
       length-drop p.from (take p.end offsets) ∙ ap (λ (n : ℕ). n - p.from) s
 
-  part_sized : (p : Part) → p.end ≤ 15 → length (drop p.from (take p.end bytes)) ≡ p.end - p.from
+  pub part_sized : (p : Part) → p.end ≤ 15 → length (drop p.from (take p.end bytes)) ≡ p.end - p.from
   part_sized p h =
       let s = length-take-le p.end bytes (omega arith) in
       length-drop p.from (take p.end bytes) ∙ ap (λ (n : ℕ). n - p.from) s
@@ -108,37 +109,37 @@ parts_at items slice i p e h k =
 
 -- a part of a frame, before these that are left
 pub record Next (split : SplitFrame) (i : ℕ) (p : Part) : Type 0 where
-  pub own : id_of (part_cells split.offsets split.bytes p) ≡ p.source
-  pub some : 0 < length (part_cells split.offsets split.bytes p)
-  pub few : length (part_cells split.offsets split.bytes p) ≤ 15
-  pub count : length (part_cells split.offsets split.bytes p) ≡ p.end - p.from
-  pub total : length (cells_of_parts split.offsets split.bytes (drop i split.parts.items)) ≡
-      length (part_cells split.offsets split.bytes p) + length (cells_of_parts split.offsets split.bytes (drop (i + 1) split.parts.items))
-  pub cut : runs_of (cells_of_parts split.offsets split.bytes (drop i split.parts.items)) ≡
-      part_cells split.offsets split.bytes p ∷ runs_of (cells_of_parts split.offsets split.bytes (drop (i + 1) split.parts.items))
-  pub rises : (n : ℕ) → RisesFrom n (cells_of_parts split.offsets split.bytes (drop i split.parts.items)) →
-      IsRunFrom n (part_cells split.offsets split.bytes p)
-      × RisesFrom (end_of (part_cells split.offsets split.bytes p)) (cells_of_parts split.offsets split.bytes (drop (i + 1) split.parts.items))
+  pub own : id_of (part_cells (split_places split) split.bytes p) ≡ p.source
+  pub some : 0 < length (part_cells (split_places split) split.bytes p)
+  pub few : length (part_cells (split_places split) split.bytes p) ≤ 15
+  pub count : length (part_cells (split_places split) split.bytes p) ≡ p.end - p.from
+  pub total : length (cells_of_parts (split_places split) split.bytes (drop i split.parts.items)) ≡
+      length (part_cells (split_places split) split.bytes p) + length (cells_of_parts (split_places split) split.bytes (drop (i + 1) split.parts.items))
+  pub cut : runs_of (cells_of_parts (split_places split) split.bytes (drop i split.parts.items)) ≡
+      part_cells (split_places split) split.bytes p ∷ runs_of (cells_of_parts (split_places split) split.bytes (drop (i + 1) split.parts.items))
+  pub rises : (n : ℕ) → RisesFrom n (cells_of_parts (split_places split) split.bytes (drop i split.parts.items)) →
+      IsRunFrom n (part_cells (split_places split) split.bytes p)
+      × RisesFrom (end_of (part_cells (split_places split) split.bytes p)) (cells_of_parts (split_places split) split.bytes (drop (i + 1) split.parts.items))
   pub left : AreParts (p.run + 1) 8 15 (drop (i + 1) split.parts.items)
 
 pub next : (split : SplitFrame) (i low : ℕ) (p : Part) → drop i split.parts.items ≡ p ∷ drop (i + 1) split.parts.items →
     AreParts low 8 15 (drop i split.parts.items) → Next split i p
 next split i low p at left =
-    let xs = part_cells split.offsets split.bytes p in
+    let xs = part_cells (split_places split) split.bytes p in
     let more = drop (i + 1) split.parts.items in
-    let ys = cells_of_parts split.offsets split.bytes more in
+    let ys = cells_of_parts (split_places split) split.bytes more in
     let are : AreParts low 8 15 (p ∷ more) = subst (λ (l : List Part). AreParts low 8 15 l) at left in
-    let places = part_places split.offsets split.bytes split.places split.sized p are.2 in
-    let sized = part_sized split.offsets split.bytes split.places split.sized p are.2 in
+    let places = part_places (split_places split) split.bytes (places_long split) split.sized p are.2 in
+    let sized = part_sized (split_places split) split.bytes (places_long split) split.sized p are.2 in
     let filled : p.from < p.end = are.1 in
     let within : p.end ≤ 15 = are.2 in
-    let long : length xs ≡ p.end - p.from = part_length split.offsets split.bytes split.places split.sized p are.2 in
-    let is : cells_of_parts split.offsets split.bytes (drop i split.parts.items) ≡ xs ++ ys = ap (cells_of_parts split.offsets split.bytes) at in
+    let long : length xs ≡ p.end - p.from = part_length (split_places split) split.bytes (places_long split) split.sized p are.2 in
+    let is : cells_of_parts (split_places split) split.bytes (drop i split.parts.items) ≡ xs ++ ys = ap (cells_of_parts (split_places split) split.bytes) at in
     let sum : length (xs ++ ys) ≡ length xs + length ys = length-append xs ys in
-    let one : length xs ≡ run_length (xs ++ ys) = part_run split.offsets split.bytes split.places split.sized low 8 15 p more (omega arith) are in
+    let one : length xs ≡ run_length (xs ++ ys) = part_run (split_places split) split.bytes (places_long split) split.sized low 8 15 p more (omega arith) are in
     let some : 0 < length (xs ++ ys) = omega arith in
     record {
-      own = cells_id (drop p.from (take p.end split.offsets)) p.source p.run (drop p.from (take p.end split.bytes)) (omega arith) (omega arith);
+      own = cells_id (drop p.from (take p.end (split_places split))) p.source p.run (drop p.from (take p.end split.bytes)) (omega arith) (omega arith);
       some = omega arith;
       few = omega arith;
       count = long;
@@ -148,5 +149,5 @@ next split i low p at left =
       left = are.3;
     }
 
-pub none_left : (split : SplitFrame) (i : ℕ) → length split.parts.items ≤ i → length (cells_of_parts split.offsets split.bytes (drop i split.parts.items)) ≡ 0
-none_left split i h = ap (λ (l : List Part). length (cells_of_parts split.offsets split.bytes l)) (drop_all i split.parts.items h)
+pub none_left : (split : SplitFrame) (i : ℕ) → length split.parts.items ≤ i → length (cells_of_parts (split_places split) split.bytes (drop i split.parts.items)) ≡ 0
+none_left split i h = ap (λ (l : List Part). length (cells_of_parts (split_places split) split.bytes l)) (drop_all i split.parts.items h)

@@ -1,11 +1,13 @@
 -- Frames that name no source.
-use Rattle.std.proofs.Common.{◌≡◌, ℕ, zero, suc, ◌+◌, ◌*◌, ◌/◌, ◌%◌, ◌^◌, ◌<◌, ◌≤◌, List, [], ◌∷◌, ◌++◌, length, drop, drop-cons, refl, sym, ◌∙◌, ap, arith, add-one, false, Option}
+use Rattle.std.proofs.Common.{◌≡◌, ℕ, zero, suc, ◌+◌, ◌*◌, ◌/◌, ◌%◌, ◌^◌, ◌<◌, ◌≤◌, List, [], ◌∷◌, ◌++◌, length, take, drop, drop-cons, refl, sym, ◌∙◌, ap, arith, add-one, false, Option}
 use Rattle.std.specs.Prelude.{slice_index}
 use Rattle.trace_values.specs.declared.cell.Cell.{Cell}
 use Rattle.frame_grammar.specs.Frame.{names, even_data, even_cells, odd_cells, cells_below, cells, id_after, IsInForce}
 use Rattle.frame_grammar.proofs.Looks.{starts, passes, passes_odd}
 use Rattle.frame_grammar.proofs.Pairs.{made, even_is, odd_is, after_plain, even_plain}
-use Rattle.source_merge.specs.Data.{data_cells, first_bytes, last_bytes, lowest, with_bit, with_bits}
+use Rattle.source_merge.specs.Data.{data_cells, first_bytes, last_bytes, lowest, with_bits}
+use Rattle.source_merge.proofs.DataCells.{cells_take}
+use Rattle.source_merge.proofs.InPlace.{bit_is}
 
 pub none_named : (frame : List ℕ) → lowest (first_bytes frame) ≡ 0 → lowest (last_bytes frame) ≡ 0 → (k : ℕ) → k < 8 → names frame k ≡ false
 none_named frame f l zero h = even_plain (slice_index frame 0) (omega arith)
@@ -17,44 +19,6 @@ none_named frame f l (suc (suc (suc (suc (suc zero))))) h = even_plain (slice_in
 none_named frame f l (suc (suc (suc (suc (suc (suc zero)))))) h = even_plain (slice_index frame 12) (omega arith)
 none_named frame f l (suc (suc (suc (suc (suc (suc (suc zero))))))) h = even_plain (slice_index frame 14) (omega arith)
 none_named frame f l (suc (suc (suc (suc (suc (suc (suc (suc k)))))))) h = absurd (omega arith)
-
--- a byte with its bit from byte 15
-bit_is : (x a b : ℕ) → a ≡ b → with_bit x a ≡ 2 * (x / 2) + b
-bit_is x a b h = ap (with_bit x) h
-
--- the bytes of a frame in their places
-module _ (frame first last : List ℕ) (e : first ≡ with_bits (first_bytes frame) (slice_index frame 15 % 16))
-    (f : last ≡ with_bits (last_bytes frame) (slice_index frame 15 / 16)) where
-  abbrev pub in_place : List ℕ
-  in_place =
-      slice_index first 0 ∷ slice_index first 1 ∷ slice_index first 2 ∷ slice_index first 3 ∷ slice_index first 4 ∷ slice_index first 5
-      ∷ slice_index first 6 ∷ slice_index first 7 ∷ slice_index last 0 ∷ slice_index last 1 ∷ slice_index last 2 ∷ slice_index last 3
-      ∷ slice_index last 4 ∷ slice_index last 5 ∷ slice_index last 6 ∷ slice_index last 7 ∷ []
-
-  abbrev aux : ℕ
-  aux = slice_index frame 15
-
-  pub even_in_place : (k : ℕ) → k < 8 → slice_index in_place (2 * k) ≡ even_data frame k
-  even_in_place zero h = ap (λ (l : List ℕ). slice_index l 0) e ∙ bit_is (slice_index frame 0) (aux % 16 % 2) (aux / 2 ^ 0 % 2) (omega arith)
-  even_in_place (suc zero) h = ap (λ (l : List ℕ). slice_index l 2) e ∙ bit_is (slice_index frame 2) (aux % 16 / 2 % 2) (aux / 2 ^ 1 % 2) (omega arith)
-  even_in_place (suc (suc zero)) h = ap (λ (l : List ℕ). slice_index l 4) e ∙ bit_is (slice_index frame 4) (aux % 16 / 4 % 2) (aux / 2 ^ 2 % 2) (omega arith)
-  even_in_place (suc (suc (suc zero))) h = ap (λ (l : List ℕ). slice_index l 6) e ∙ bit_is (slice_index frame 6) (aux % 16 / 8 % 2) (aux / 2 ^ 3 % 2) (omega arith)
-  even_in_place (suc (suc (suc (suc zero)))) h = ap (λ (l : List ℕ). slice_index l 0) f ∙ bit_is (slice_index frame 8) (aux / 16 % 2) (aux / 2 ^ 4 % 2) (omega arith)
-  even_in_place (suc (suc (suc (suc (suc zero))))) h = ap (λ (l : List ℕ). slice_index l 2) f ∙ bit_is (slice_index frame 10) (aux / 16 / 2 % 2) (aux / 2 ^ 5 % 2) (omega arith)
-  even_in_place (suc (suc (suc (suc (suc (suc zero)))))) h = ap (λ (l : List ℕ). slice_index l 4) f ∙ bit_is (slice_index frame 12) (aux / 16 / 4 % 2) (aux / 2 ^ 6 % 2) (omega arith)
-  even_in_place (suc (suc (suc (suc (suc (suc (suc zero))))))) h = ap (λ (l : List ℕ). slice_index l 6) f ∙ bit_is (slice_index frame 14) (aux / 16 / 8 % 2) (aux / 2 ^ 7 % 2) (omega arith)
-  even_in_place (suc (suc (suc (suc (suc (suc (suc (suc k)))))))) h = absurd (omega arith)
-
-  pub odd_in_place : (k : ℕ) → k < 8 → slice_index in_place (2 * k + 1) ≡ slice_index frame (2 * k + 1)
-  odd_in_place zero h = ap (λ (l : List ℕ). slice_index l 1) e
-  odd_in_place (suc zero) h = ap (λ (l : List ℕ). slice_index l 3) e
-  odd_in_place (suc (suc zero)) h = ap (λ (l : List ℕ). slice_index l 5) e
-  odd_in_place (suc (suc (suc zero))) h = ap (λ (l : List ℕ). slice_index l 7) e
-  odd_in_place (suc (suc (suc (suc zero)))) h = ap (λ (l : List ℕ). slice_index l 1) f
-  odd_in_place (suc (suc (suc (suc (suc zero))))) h = ap (λ (l : List ℕ). slice_index l 3) f
-  odd_in_place (suc (suc (suc (suc (suc (suc zero)))))) h = ap (λ (l : List ℕ). slice_index l 5) f
-  odd_in_place (suc (suc (suc (suc (suc (suc (suc zero))))))) h = ap (λ (l : List ℕ). slice_index l 7) f
-  odd_in_place (suc (suc (suc (suc (suc (suc (suc (suc k)))))))) h = absurd (omega arith)
 
 module _ (frame : List ℕ) (free : (k : ℕ) → k < 8 → names frame k ≡ false) (before : Option ℕ) where
   -- what is in force before the frame is so at each pair
@@ -111,12 +75,13 @@ module _ (frame : List ℕ) (free : (k : ℕ) → k < 8 → names frame k ≡ fa
         ap (λ (o : List ℕ). data_cells o before (byte ∷ bytes)) (drop-cons offsets n 0 l)
         ∙ ap (λ (c : List Cell). placed n byte ∷ c) (from_is (suc n) bytes (omega arith))
 
+    whole : (bytes : List ℕ) → length offsets ≡ 16 → length bytes ≡ 15 → data_cells (take 15 offsets) before bytes ≡ from 0 bytes
+    whole bytes h l =
+        ap (λ (n : ℕ). data_cells (take n offsets) before bytes) (sym l) ∙ cells_take offsets before 0 bytes ∙ from_is 0 bytes (omega arith)
+
     pub cells_are : length offsets ≡ 16 → (first last : List ℕ) →
         first ≡ with_bits (first_bytes frame) (slice_index frame 15 % 16) → last ≡ with_bits (last_bytes frame) (slice_index frame 15 / 16) →
-        cells frame offsets before ≡ data_cells offsets before
-        (slice_index first 0 ∷ slice_index first 1 ∷ slice_index first 2 ∷ slice_index first 3 ∷ slice_index first 4 ∷ slice_index first 5 ∷ slice_index first 6
-        ∷ slice_index first 7 ∷ slice_index last 0 ∷ slice_index last 1 ∷ slice_index last 2 ∷ slice_index last 3 ∷ slice_index last 4 ∷ slice_index last 5
-        ∷ slice_index last 6 ∷ [])
+        cells frame offsets before ≡ data_cells (take 15 offsets) before (take 15 (first ++ last))
     cells_are h first last e f =
         let aux = slice_index frame 15 in
         let e0 = bit_is (slice_index frame 0) (aux % 16 % 2) (aux / 2 ^ 0 % 2) (omega arith) in
@@ -127,4 +92,4 @@ module _ (frame : List ℕ) (free : (k : ℕ) → k < 8 → names frame k ≡ fa
         let e10 = bit_is (slice_index frame 10) (aux / 16 / 2 % 2) (aux / 2 ^ 5 % 2) (omega arith) in
         let e12 = bit_is (slice_index frame 12) (aux / 16 / 4 % 2) (aux / 2 ^ 6 % 2) (omega arith) in
         let e14 = bit_is (slice_index frame 14) (aux / 16 / 8 % 2) (aux / 2 ^ 7 % 2) (omega arith) in
-        simp (e, f, e0, e2, e4, e6, e8, e10, e12, e14) (all_is ∙ sym (from_is 0 _ (omega arith)))
+        simp (e, f, e0, e2, e4, e6, e8, e10, e12, e14) (all_is ∙ sym (whole _ h refl))

@@ -1,46 +1,55 @@
--- The cells of a part of a frame, whose bytes have others behind them.
-use Rattle.std.proofs.Common.{◌≡◌, ℕ, ◌+◌, ◌-◌, ◌<◌, ◌≤◌, List, Option, length, take, drop, ◌∙◌, sym, ap, arith}
-use Rattle.std.proofs.lemmas.List.{drop-take, length-drop, length-take-le, take_rest}
+-- The run of a part of a frame, whose bytes have others behind them.
+use Rattle.std.proofs.Common.{◌≡◌, ℕ, ◌+◌, ◌-◌, ◌<◌, ◌≤◌, List, length, take, drop, get_or, refl, ◌∙◌, sym, ap, arith}
+use Rattle.std.proofs.lemmas.List.{drop-take, length-drop, length-take-le, get_or-drop, get_or-take}
+use Rattle.trace_values.specs.declared.cell.Cell.{Cell}
 use Rattle.source_events.specs.Runs.{bytes_of}
-use Rattle.source_merge.specs.Data.{run_cells}
-use Rattle.source_merge.specs.declared.run.PartRun.{PartRun}
-use Rattle.source_merge.specs.Run.{part_of}
-use Rattle.source_merge.proofs.DataCells.{cells_bytes, cells_length}
+use Rattle.source_merge.specs.declared.split.SplitRun.{SplitRun}
+use Rattle.source_merge.specs.Split.{run_in, split_places}
+use Rattle.source_merge.proofs.DataCells.{cells_bytes, cells_cell}
+use Rattle.source_merge.proofs.Parts.{part_length, part_places, part_sized}
+use Rattle.source_merge.proofs.Splitting.{places_long}
 
-pub own_length : (run : PartRun) → length (take (length run.places.now) run.ahead.now) ≡ length run.places.now
-own_length run = length-take-le (length run.places.now) run.ahead.now (let r = run.room in omega arith)
+module _ (run : SplitRun) where
+  abbrev from : ℕ
+  from = run.part.now.from
 
-pub part_length : (run : PartRun) → length (part_of run) ≡ length run.places.now
-part_length run =
-    cells_length run.places.now run.source run.run (take (length run.places.now) run.ahead.now)
-    (let k = own_length run in omega arith) ∙ own_length run
+  abbrev end : ℕ
+  end = run.part.now.end
 
-pub part_bytes : (run : PartRun) → take (length (part_of run)) run.ahead.now ≡ bytes_of (part_of run)
-part_bytes run =
-    ap (λ (n : ℕ). take n run.ahead.now) (part_length run)
-    ∙ sym (cells_bytes run.places.now run.source run.run (take (length run.places.now) run.ahead.now)
-    (let k = own_length run in omega arith))
+  abbrev bytes : List ℕ
+  bytes = run.frame.now.bytes
 
--- a part of a frame, by slices of its offsets and of its bytes, which have others behind them
-module _ (offsets bytes : List ℕ) (id : Option ℕ) (run from end : ℕ) (some : from < end) (low : end ≤ 15) (places : length offsets ≡ 16)
-    (sized : length bytes ≡ 40) where
-  abbrev pub own : List ℕ
-  own = drop from (take end offsets)
+  abbrev places : List ℕ
+  places = split_places run.frame.now
 
-  abbrev pub cut : List ℕ
-  cut = take (length (take end offsets) - from) own
+  pub run_length : length (run_in run) ≡ end - from
+  run_length = part_length places bytes (places_long run.frame.now) run.frame.now.sized run.part.now run.within
 
-  few : length own ≡ end - from
-  few = length-drop from (take end offsets) ∙ ap (λ (n : ℕ). n - from) (length-take-le end offsets (omega arith))
+  own_places : length (drop from (take end places)) ≡ end - from
+  own_places = part_places places bytes (places_long run.frame.now) run.frame.now.sized run.part.now run.within
+
+  own_bytes : length (drop from (take end bytes)) ≡ end - from
+  own_bytes = part_sized places bytes (places_long run.frame.now) run.frame.now.sized run.part.now run.within
 
   same : take (end - from) (drop from bytes) ≡ drop from (take end bytes)
-  same = sym (drop-take from (end - from) bytes) ∙ ap (λ (n : ℕ). drop from (take n bytes)) (let e : from + (end - from) ≡ end = omega arith in e)
+  same =
+      sym (drop-take from (end - from) bytes)
+      ∙ ap (λ (n : ℕ). drop from (take n bytes)) (let a = run.some in let e : from + (end - from) ≡ end = omega arith in e)
 
-  pub part_is : run_cells cut id run (take (length cut) (take (40 - from) (drop from bytes)))
-      ≡ run_cells own id run (drop from (take end bytes))
-  part_is =
-      ap (λ (l : List ℕ). run_cells l id run (take (length l) (take (40 - from) (drop from bytes)))) (take_rest (take end offsets) from)
-      ∙ ap (λ (n : ℕ). run_cells own id run (take (length own) (take (n - from) (drop from bytes)))) (sym sized)
-      ∙ ap (λ (l : List ℕ). run_cells own id run (take (length own) l)) (take_rest bytes from)
-      ∙ ap (λ (n : ℕ). run_cells own id run (take n (drop from bytes))) few
-      ∙ ap (λ (l : List ℕ). run_cells own id run l) same
+  pub run_bytes : take (length (run_in run)) (drop from bytes) ≡ bytes_of (run_in run)
+  run_bytes =
+      ap (λ (n : ℕ). take n (drop from bytes)) run_length
+      ∙ same
+      ∙ sym (cells_bytes (drop from (take end places)) run.part.now.source run.part.now.run (drop from (take end bytes))
+      (let a = own_places in let b = own_bytes in omega arith))
+
+  pub run_cell : (i : ℕ) (c : Cell) → i < end - from → get_or (run_in run) i c ≡
+      record { at = get_or places (from + i) 0; id = run.part.now.source; run = run.part.now.run; byte = get_or bytes (from + i) 0 }
+  run_cell i c l =
+      let a = own_places in
+      let b = own_bytes in
+      cells_cell (drop from (take end places)) run.part.now.source run.part.now.run (drop from (take end bytes)) i 0 0 c (omega arith) (omega arith)
+      ∙ ap (λ (x : ℕ). record { at = x; id = run.part.now.source; run = run.part.now.run; byte = get_or (drop from (take end bytes)) i 0 })
+      (get_or-drop from (take end places) i 0 ∙ get_or-take end places (from + i) 0 (omega arith))
+      ∙ ap (λ (x : ℕ). record { at = get_or places (from + i) 0; id = run.part.now.source; run = run.part.now.run; byte = x })
+      (get_or-drop from (take end bytes) i 0 ∙ get_or-take end bytes (from + i) 0 (omega arith))

@@ -1,16 +1,17 @@
 -- A frame that is taken apart.
-use Rattle.std.proofs.Common.{◌≡◌, ◌≢◌, ℕ, ◌+◌, ◌-◌, ◌*◌, ◌/◌, ◌%◌, ◌<◌, ◌≤◌, List, [], ◌∷◌, ◌++◌, length, take, drop, set, get_or, refl, sym, ◌∙◌, ap, subst, arith, Bool, true, false, cond, Option, append_assoc, append-nil, ◌⊎◌, inl, inr}
-use Rattle.std.specs.Prelude.{slice_index, nat_lt, ◌==◌}
+use Rattle.std.proofs.Common.{◌≡◌, ◌≢◌, ℕ, zero, suc, ◌+◌, ◌-◌, ◌*◌, ◌/◌, ◌%◌, ◌<◌, ◌≤◌, List, [], ◌∷◌, ◌++◌, length, take, drop, set, get_or, refl, sym, ◌∙◌, ap, subst, arith, Bool, true, false, cond, Option, append_assoc, append-nil, ◌⊎◌, inl, inr}
+use Rattle.std.specs.Prelude.{slice_index, nat_lt, ◌==◌, ◌&&◌}
 use Rattle.std.proofs.lemmas.Bool.Decides.{nat_tests}
 use Rattle.std.proofs.lemmas.Grind.{flat_map-append}
-use Rattle.std.proofs.lemmas.List.{take-set-le, take_more, drop-append-le, drop_all, length-drop, length-take-le, get_or-set_other, get_or-set_same, length-set}
+use Rattle.std.proofs.lemmas.List.{take_more, drop-append-le, drop_all, length-drop, length-take-le, length-map}
 use Rattle.trace_values.specs.declared.cell.Cell.{Cell}
 use Rattle.trace_values.specs.Cells.{source_id}
 use Rattle.frame_grammar.specs.Frame.{names, aux_bit, even_data, cells_below, cells, id_after, IsInForce}
 use Rattle.frame_grammar.proofs.Looks.{starts, passes, names_now, defers, names_next}
 use Rattle.frame_grammar.proofs.Pairs.{made, plain, named, more_cells, whole_plain, whole_named, after_plain, after_named, even_plain}
-use Rattle.source_merge.specs.Data.{run_cells}
-use Rattle.source_merge.specs.Split.{part_cells, begun_cells, cells_of_parts, AreParts, ended, IsSplit}
+use Rattle.frame_grammar.specs.Placing.{places_of}
+use Rattle.source_merge.specs.Data.{run_cells, is_late, byte_in, place_in}
+use Rattle.source_merge.specs.Split.{part_cells, begun_cells, cells_of_parts, split_places, AreParts, ended, IsPlaced, IsSplit}
 use Rattle.source_merge.specs.declared.split.Begun.{Begun}
 use Rattle.source_merge.specs.declared.split.Part.{Part}
 use Rattle.source_merge.specs.declared.split.SplitFrame.{SplitFrame}
@@ -48,11 +49,6 @@ module _ (offsets bytes : List ℕ) (begun : Begun) where
   pub none_yet : (n : ℕ) → n ≤ begun.from → n ≤ length offsets → begun_cells offsets bytes begun n ≡ []
   none_yet n h l = ap (λ (os : List ℕ). run_cells os begun.source begun.run (drop begun.from (take n bytes))) (no_items begun.from n offsets h l)
 
-  pub stays : (n i x y : ℕ) → n ≤ i → begun_cells (set offsets i x) (set bytes i y) begun n ≡ begun_cells offsets bytes begun n
-  stays n i x y h =
-      ap (λ (os : List ℕ). run_cells (drop begun.from os) begun.source begun.run (drop begun.from (take n (set bytes i y)))) (take-set-le n offsets i x h)
-      ∙ ap (λ (bs : List ℕ). run_cells (drop begun.from (take n offsets)) begun.source begun.run (drop begun.from bs)) (take-set-le n bytes i y h)
-
   -- the part that ends
   with_part : (parts : List Part) (end : ℕ) (t : Bool) → (t ≡ false → begun_cells offsets bytes begun end ≡ []) →
       cells_of_parts offsets bytes (cond t (parts ++ (record { source = begun.source; run = begun.run; from = begun.from; end = end }) ∷ []) parts)
@@ -67,14 +63,6 @@ module _ (offsets bytes : List ℕ) (begun : Begun) where
   pub ended_cells : (parts : List Part) (end : ℕ) → end ≤ length offsets →
       cells_of_parts offsets bytes (ended parts begun end) ≡ cells_of_parts offsets bytes parts ++ begun_cells offsets bytes begun end
   ended_cells parts end l = with_part parts end (nat_lt begun.from end) (λ e. none_yet end (grind (arith, nat_tests)) l)
-
-parts_stay : (offsets bytes : List ℕ) (run next end i x y : ℕ) (parts : List Part) → AreParts run next end parts → end ≤ i →
-    cells_of_parts (set offsets i x) (set bytes i y) parts ≡ cells_of_parts offsets bytes parts
-parts_stay offsets bytes run next end i x y [] a h = refl
-parts_stay offsets bytes run next end i x y (p ∷ parts) a h =
-    ap (λ (l : List Cell). l ++ cells_of_parts (set offsets i x) (set bytes i y) parts)
-    (stays offsets bytes (record { source = p.source; run = p.run; from = p.from }) p.end i x y (let e = a.2 in omega arith))
-    ∙ ap (λ (l : List Cell). part_cells offsets bytes p ++ l) (parts_stay offsets bytes (p.run + 1) next end i x y parts a.3 h)
 
 pub parts_up : (run next end more later : ℕ) (parts : List Part) → next ≤ more → end ≤ later → AreParts run next end parts → AreParts run more later parts
 parts_up run next end more later [] h l a = (let e = a in omega arith)
@@ -113,59 +101,105 @@ to_front a b c d = sym (append_assoc a (b ++ c ∷ []) (d ∷ [])) ∙ ap (λ (l
 bit_or_none : (n : ℕ) → n < 2 → (n ≡ 0) ⊎ (n ≡ 1)
 bit_or_none n h = grind arith
 
+-- how many places a frame that is taken apart has
+pub places_long : (split : SplitFrame) → length (split_places split) ≡ 16
+places_long split = length-map split.behind (λ (b : ℕ). split.at + b) ∙ split.places
+
+-- what is in the place of a byte at an even index: of data it itself, of an ID byte that is late the byte behind it
+late_is : (frame : List ℕ) (k : ℕ) (named : Bool) → names frame k ≡ named → is_late frame k ≡ (nat_lt k 7 && named && aux_bit frame k == 1)
+late_is frame k named e = ap (λ (t : Bool). nat_lt k 7 && t && aux_bit frame k == 1) e
+
+not_late : (frame : List ℕ) (k : ℕ) → names frame k ≡ false → is_late frame k ≡ false
+not_late frame k e = late_is frame k false e ∙ none (nat_lt k 7) where
+  none : (t : Bool) → (t && false && aux_bit frame k == 1) ≡ false
+  none true = refl
+  none false = refl
+
+last_early : (frame : List ℕ) → is_late frame 7 ≡ false
+last_early frame = refl
+
+is_late_so : (frame : List ℕ) (k : ℕ) → k < 7 → names frame k ≡ true → aux_bit frame k ≡ 1 → is_late frame k ≡ true
+is_late_so frame k l n a =
+    late_is frame k true n
+    ∙ ap (λ (t : Bool). t && true && aux_bit frame k == 1) (let e : nat_lt k 7 ≡ true = grind (arith, nat_tests) in e)
+    ∙ ap (λ (x : ℕ). x == 1) a
+
+early_byte : (frame : List ℕ) (k : ℕ) → is_late frame k ≡ false → byte_in frame k ≡ even_data frame k
+early_byte frame k e = ap (λ (t : Bool). cond t (slice_index frame (2 * k + 1)) (even_data frame k)) e
+
+late_byte : (frame : List ℕ) (k : ℕ) → is_late frame k ≡ true → byte_in frame k ≡ slice_index frame (2 * k + 1)
+late_byte frame k e = ap (λ (t : Bool). cond t (slice_index frame (2 * k + 1)) (even_data frame k)) e
+
+early_place : (frame at : List ℕ) (k : ℕ) → is_late frame k ≡ false → place_in frame at k ≡ slice_index at (2 * k)
+early_place frame at k e = ap (λ (t : Bool). cond t (slice_index at (2 * k + 1)) (slice_index at (2 * k))) e
+
+late_place : (frame at : List ℕ) (k : ℕ) → is_late frame k ≡ true → place_in frame at k ≡ slice_index at (2 * k + 1)
+late_place frame at k e = ap (λ (t : Bool). cond t (slice_index at (2 * k + 1)) (slice_index at (2 * k))) e
+
+pub places_same : (new old : SplitFrame) → (new.at ≡ old.at) × (new.behind ≡ old.behind) → split_places new ≡ split_places old
+places_same new old h = ap (λ (n : ℕ). places_of n new.behind) h.0 ∙ ap (λ (l : List ℕ). places_of old.at l) h.1
+
 module _ (frame at : List ℕ) (id : Option ℕ) where
   pub starts_split : (split : SplitFrame) (begun : Begun) → split.parts.items ≡ [] → begun.source ≡ id → begun.run ≡ 0 →
-      ((k : ℕ) → k < 8 → slice_index split.bytes (2 * k) ≡ even_data frame k) →
-      ((k : ℕ) → k < 8 → slice_index split.bytes (2 * k + 1) ≡ slice_index frame (2 * k + 1)) → split.offsets ≡ at →
-      IsSplit frame at id 0 split begun
-  starts_split split begun none source run even odd offsets = record {
-    cells = ap (λ (ps : List Part). cells_of_parts split.offsets split.bytes ps ++ begun_cells split.offsets split.bytes begun 0) none
-        ∙ none_yet split.offsets split.bytes begun 0 (omega arith) (omega arith);
+      IsPlaced frame at split → IsSplit frame at id 0 split begun
+  starts_split split begun none source run placed = record {
+    cells = ap (λ (ps : List Part). cells_of_parts (split_places split) split.bytes ps ++ begun_cells (split_places split) split.bytes begun 0) none
+        ∙ none_yet (split_places split) split.bytes begun 0 (omega arith) (omega arith);
     here =
         subst (λ (i : Option ℕ). IsInForce frame id 0 i begun.run) (sym source)
         (subst (λ (n : ℕ). IsInForce frame id 0 id n) (sym run) (starts frame id));
     parts = subst (λ (ps : List Part). AreParts 0 begun.run 0 ps) (sym none) (let e : 0 ≤ begun.run = omega arith in e);
-    even = λ k l h. even k h;
-    odd = λ k l h. odd k h;
-    offsets = λ i l. ap (λ (os : List ℕ). slice_index os i) offsets;
+    placed = placed;
   }
 
   module _ (pair : ℕ) (split : SplitFrame) (begun : Begun) (low : pair < 7) (from : begun.from ≤ 2 * pair) (s : IsSplit frame at id pair split begun) where
+    abbrev os : List ℕ
+    os = split_places split
+
+    abbrev bs : List ℕ
+    bs = split.bytes
+
     abbrev old : List Cell
-    old = cells_of_parts split.offsets split.bytes split.parts.items ++ begun_cells split.offsets split.bytes begun (2 * pair)
+    old = cells_of_parts os bs split.parts.items ++ begun_cells os bs begun (2 * pair)
 
-    long : length split.offsets ≡ 16
-    long = split.places
+    long : length os ≡ 16
+    long = places_long split
 
-    wide : length split.bytes ≡ 40
+    wide : length bs ≡ 40
     wide = split.sized
+
+    odd_at : slice_index os (2 * pair + 1) ≡ slice_index at (2 * pair + 1)
+    odd_at = s.placed.odd_places pair (omega arith)
+
+    odd_byte : slice_index bs (2 * pair + 1) ≡ slice_index frame (2 * pair + 1)
+    odd_byte = s.placed.odd pair (omega arith)
 
     -- the two bytes are data
     pub passed : names frame pair ≡ false → IsSplit frame at id (pair + 1) split begun
     passed n =
         let a = long in
         let b = wide in
-        let parts = cells_of_parts split.offsets split.bytes split.parts.items in
-        let so_far = begun_cells split.offsets split.bytes begun (2 * pair) in
-        let even = made (slice_index at (2 * pair)) begun.source begun.run (slice_index split.bytes (2 * pair)) in
+        let parts = cells_of_parts os bs split.parts.items in
+        let so_far = begun_cells os bs begun (2 * pair) in
+        let even = made (slice_index at (2 * pair)) begun.source begun.run (slice_index bs (2 * pair)) in
         let odd = made (slice_index at (2 * pair + 1)) begun.source begun.run (slice_index frame (2 * pair + 1)) in
+        let early = not_late frame pair n in
         record {
           cells =
-              more_cells frame at id pair old (parts ++ begun_cells split.offsets split.bytes begun (2 * (pair + 1))) s.cells
-              (ap (λ (k : ℕ). parts ++ begun_cells split.offsets split.bytes begun k) (let e : 2 * (pair + 1) ≡ 2 * pair + 1 + 1 = omega arith in e)
+              more_cells frame at id pair old (parts ++ begun_cells os bs begun (2 * (pair + 1))) s.cells
+              (ap (λ (k : ℕ). parts ++ begun_cells os bs begun k) (let e : 2 * (pair + 1) ≡ 2 * pair + 1 + 1 = omega arith in e)
               ∙ ap (λ (l : List Cell). parts ++ l)
-              (two_more split.offsets split.bytes begun (2 * pair) from (omega arith) (omega arith)
-              ∙ ap (λ (c : Cell). (so_far ++ c ∷ []) ++ made (slice_index split.offsets (2 * pair + 1)) begun.source begun.run (slice_index split.bytes (2 * pair + 1)) ∷ [])
-              (same_made (slice_index split.offsets (2 * pair)) _ begun.source begun.run _ _ (s.offsets (2 * pair) (omega arith)) refl)
+              (two_more os bs begun (2 * pair) from (omega arith) (omega arith)
+              ∙ ap (λ (c : Cell). (so_far ++ c ∷ []) ++ made (slice_index os (2 * pair + 1)) begun.source begun.run (slice_index bs (2 * pair + 1)) ∷ [])
+              (same_made (slice_index os (2 * pair)) _ begun.source begun.run _ _ (s.placed.even_places pair (omega arith) ∙ early_place frame at pair early) refl)
               ∙ ap (λ (c : Cell). (so_far ++ even ∷ []) ++ c ∷ [])
-              (same_made (slice_index split.offsets (2 * pair + 1)) _ begun.source begun.run _ _ (s.offsets (2 * pair + 1) (omega arith)) (s.odd pair (omega arith) (omega arith))))
+              (same_made (slice_index os (2 * pair + 1)) _ begun.source begun.run _ _ odd_at odd_byte))
               ∙ to_front parts so_far even odd
-              ∙ plain frame at id pair begun.run (slice_index split.bytes (2 * pair)) begun.source old (omega arith) n s.here (s.even pair (omega arith) (omega arith)));
+              ∙ plain frame at id pair begun.run (slice_index bs (2 * pair)) begun.source old (omega arith) n s.here
+              (s.placed.even pair (omega arith) ∙ early_byte frame pair early));
           here = passes frame id begun.source pair begun.run (omega arith) n s.here;
           parts = parts_up 0 begun.run (2 * pair) begun.run (2 * (pair + 1)) split.parts.items (omega arith) (omega arith) s.parts;
-          even = λ k l h. s.even k (omega arith) h;
-          odd = λ k l h. s.odd k (omega arith) h;
-          offsets = λ i l. s.offsets i (omega arith);
+          placed = s.placed;
         }
 
     -- the first one names a source
@@ -173,48 +207,26 @@ module _ (frame at : List ℕ) (id : Option ℕ) where
       abbrev next : Begun
       next = record { source = source; run = begun.run + 1; from = end + 1 }
 
-      abbrev os : List ℕ
-      os = set split.offsets (2 * pair) (slice_index split.offsets end)
-
-      abbrev bs : List ℕ
-      bs = set split.bytes (2 * pair) (slice_index split.bytes end)
-
-      parts_same : cells_of_parts os bs split.parts.items ≡ cells_of_parts split.offsets split.bytes split.parts.items
-      parts_same = parts_stay split.offsets split.bytes 0 begun.run (2 * pair) (2 * pair) _ _ split.parts.items s.parts (omega arith)
-
-      begun_same : begun_cells os bs begun (2 * pair) ≡ begun_cells split.offsets split.bytes begun (2 * pair)
-      begun_same = stays split.offsets split.bytes begun (2 * pair) (2 * pair) _ _ (omega arith)
-
       abbrev own : Option ℕ → ℕ → Cell
       own i run = made (slice_index at (2 * pair + 1)) i run (slice_index frame (2 * pair + 1))
-
-      os_long : length os ≡ 16
-      os_long = length-set split.offsets (2 * pair) _ ∙ long
-
-      bs_wide : length bs ≡ 40
-      bs_wide = length-set split.bytes (2 * pair) _ ∙ wide
 
       -- in effect at once
       at_once : aux_bit frame pair ≡ 0 → end ≡ 2 * pair →
           cells_of_parts os bs (ended split.parts.items begun end) ++ begun_cells os bs next (2 * (pair + 1)) ≡ cells_below frame at id (pair + 1)
       at_once a e =
-          let l = os_long in
-          let w = bs_wide in
+          let l = long in
+          let w = wide in
           more_cells frame at id pair old _ s.cells
           (ap (λ (c : List Cell). c ++ begun_cells os bs next (2 * (pair + 1)))
           (ended_cells os bs begun split.parts.items end (omega arith)
-          ∙ ap (λ (k : ℕ). cells_of_parts os bs split.parts.items ++ begun_cells os bs begun k) e
-          ∙ ap (λ (c : List Cell). c ++ begun_cells os bs begun (2 * pair)) parts_same
-          ∙ ap (λ (c : List Cell). cells_of_parts split.offsets split.bytes split.parts.items ++ c) begun_same)
+          ∙ ap (λ (k : ℕ). cells_of_parts os bs split.parts.items ++ begun_cells os bs begun k) e)
           ∙ ap (λ (c : List Cell). old ++ c)
           (ap (λ (k : ℕ). begun_cells os bs next k) (let z : 2 * (pair + 1) ≡ 2 * pair + 1 + 1 = omega arith in z)
           ∙ one_more_of next (2 * pair + 1) (let z : next.from ≤ 2 * pair + 1 = omega arith in z) (omega arith) (omega arith)
           ∙ ap (λ (c : List Cell). c ++ made (slice_index os (2 * pair + 1)) source (begun.run + 1) (slice_index bs (2 * pair + 1)) ∷ [])
           (none_yet os bs next (2 * pair + 1) (let z : 2 * pair + 1 ≤ next.from = omega arith in z) (omega arith))
           ∙ ap (λ (c : Cell). c ∷ [])
-          (same_made (slice_index os (2 * pair + 1)) _ source (begun.run + 1) _ _
-          (get_or-set_other split.offsets (2 * pair) (2 * pair + 1) _ 0 (λ z. omega (arith, z)) ∙ s.offsets (2 * pair + 1) (omega arith))
-          (get_or-set_other split.bytes (2 * pair) (2 * pair + 1) _ 0 (λ z. omega (arith, z)) ∙ s.odd pair (omega arith) (omega arith))))
+          (same_made (slice_index os (2 * pair + 1)) _ source (begun.run + 1) _ _ odd_at odd_byte))
           ∙ named frame at id pair (begun.run + 1) source old n
           (subst (λ (i : Option ℕ). IsInForce frame id (2 * pair + 1) i (begun.run + 1)) (sym named_is)
           (names_now frame id begun.source pair begun.run (omega arith) n a s.here))) where
@@ -223,44 +235,42 @@ module _ (frame at : List ℕ) (id : Option ℕ) where
             one_more_of b m h i j = one_more os bs b m h i j
 
       -- in effect after the next byte
-      later : aux_bit frame pair ≢ 0 → end ≡ 2 * pair + 1 →
+      later : aux_bit frame pair ≡ 1 → end ≡ 2 * pair + 1 →
           cells_of_parts os bs (ended split.parts.items begun end) ++ begun_cells os bs next (2 * (pair + 1)) ≡ cells_below frame at id (pair + 1)
       later a e =
-          let l = os_long in
-          let w = bs_wide in
-          let x = long in
-          let y = wide in
-          let parts = cells_of_parts split.offsets split.bytes split.parts.items in
-          let so_far = begun_cells split.offsets split.bytes begun (2 * pair) in
+          let l = long in
+          let w = wide in
+          let late = is_late_so frame pair low n a in
+          let parts = cells_of_parts os bs split.parts.items in
+          let so_far = begun_cells os bs begun (2 * pair) in
           more_cells frame at id pair old _ s.cells
           (ap (λ (c : List Cell). cells_of_parts os bs (ended split.parts.items begun end) ++ c)
           (none_yet os bs next (2 * (pair + 1)) (let z : 2 * (pair + 1) ≤ next.from = omega arith in z) (omega arith))
           ∙ append-nil (cells_of_parts os bs (ended split.parts.items begun end))
           ∙ ended_cells os bs begun split.parts.items end (omega arith)
-          ∙ ap (λ (k : ℕ). cells_of_parts os bs split.parts.items ++ begun_cells os bs begun k) e
-          ∙ ap (λ (c : List Cell). c ++ begun_cells os bs begun (2 * pair + 1)) parts_same
+          ∙ ap (λ (k : ℕ). parts ++ begun_cells os bs begun k) e
           ∙ ap (λ (c : List Cell). parts ++ c)
           (one_more os bs begun (2 * pair) from (omega arith) (omega arith)
-          ∙ ap (λ (c : List Cell). c ++ made (slice_index os (2 * pair)) begun.source begun.run (slice_index bs (2 * pair)) ∷ []) begun_same
           ∙ ap (λ (c : Cell). so_far ++ c ∷ [])
           (same_made (slice_index os (2 * pair)) _ begun.source begun.run _ _
-          (get_or-set_same split.offsets (2 * pair) _ 0 (omega arith) ∙ ap (slice_index split.offsets) e ∙ s.offsets (2 * pair + 1) (omega arith))
-          (get_or-set_same split.bytes (2 * pair) _ 0 (omega arith) ∙ ap (slice_index split.bytes) e ∙ s.odd pair (omega arith) (omega arith))))
+          (s.placed.even_places pair (omega arith) ∙ late_place frame at pair late)
+          (s.placed.even pair (omega arith) ∙ late_byte frame pair late)))
           ∙ sym (append_assoc parts so_far (own begun.source begun.run ∷ []))
-          ∙ named frame at id pair begun.run begun.source old n (defers frame id begun.source pair begun.run (omega arith) a s.here))
+          ∙ named frame at id pair begun.run begun.source old n (defers frame id begun.source pair begun.run (omega arith) (λ q. omega (arith, a, q)) s.here))
 
-      pub divided : (new : SplitFrame) → end ≡ 2 * pair + aux_bit frame pair → new.bytes ≡ bs → new.offsets ≡ os →
+      pub divided : (new : SplitFrame) → end ≡ 2 * pair + aux_bit frame pair → new.bytes ≡ bs → (new.at ≡ split.at) × (new.behind ≡ split.behind) →
           new.parts.items ≡ ended split.parts.items begun end → IsSplit frame at id (pair + 1) new next
       divided new e b o p =
           let few : aux_bit frame pair < 2 = omega arith in
+          let same : split_places new ≡ os = places_same new split o in
           record {
             cells =
-                ap (λ (x : List ℕ). cells_of_parts x new.bytes new.parts.items ++ begun_cells x new.bytes next (2 * (pair + 1))) o
+                ap (λ (x : List ℕ). cells_of_parts x new.bytes new.parts.items ++ begun_cells x new.bytes next (2 * (pair + 1))) same
                 ∙ ap (λ (x : List ℕ). cells_of_parts os x new.parts.items ++ begun_cells os x next (2 * (pair + 1))) b
                 ∙ ap (λ (x : List Part). cells_of_parts os bs x ++ begun_cells os bs next (2 * (pair + 1))) p
                 ∙ (elim (bit_or_none (aux_bit frame pair) few) [
                   | inl z ↦ at_once z (omega arith)
-                  | inr z ↦ later (λ q. omega (arith, z, q)) (omega arith)
+                  | inr z ↦ later z (omega arith)
                 ]);
             here =
                 subst (λ (i : Option ℕ). IsInForce frame id (2 * (pair + 1)) i (begun.run + 1)) (sym named_is)
@@ -269,38 +279,50 @@ module _ (frame at : List ℕ) (id : Option ℕ) where
                 subst (λ (x : List Part). AreParts 0 (begun.run + 1) (2 * (pair + 1)) x) (sym p)
                 (parts_up 0 (begun.run + 1) end (begun.run + 1) (2 * (pair + 1)) (ended split.parts.items begun end) (omega arith) (omega arith)
                 (ended_parts begun end (2 * pair) split.parts.items (omega arith) s.parts));
-            even = λ k l h.
-                ap (λ (x : List ℕ). slice_index x (2 * k)) b
-                ∙ get_or-set_other split.bytes (2 * pair) (2 * k) _ 0 (λ z. omega (arith, z, l)) ∙ s.even k (omega arith) h;
-            odd = λ k l h.
-                ap (λ (x : List ℕ). slice_index x (2 * k + 1)) b
-                ∙ get_or-set_other split.bytes (2 * pair) (2 * k + 1) _ 0 (λ z. omega (arith, z, l)) ∙ s.odd k (omega arith) h;
-            offsets = λ i l.
-                ap (λ (x : List ℕ). slice_index x i) o
-                ∙ get_or-set_other split.offsets (2 * pair) i _ 0 (λ z. omega (arith, z, l)) ∙ s.offsets i (omega arith);
+            placed = record {
+              even = λ k h. ap (λ (x : List ℕ). slice_index x (2 * k)) b ∙ s.placed.even k h;
+              odd = λ k h. ap (λ (x : List ℕ). slice_index x (2 * k + 1)) b ∙ s.placed.odd k h;
+              even_places = λ k h. ap (λ (x : List ℕ). slice_index x (2 * k)) same ∙ s.placed.even_places k h;
+              odd_places = λ k h. ap (λ (x : List ℕ). slice_index x (2 * k + 1)) same ∙ s.placed.odd_places k h;
+            };
           }
+
+  -- the pairs up to another one are data
+  pub passed_up : (split : SplitFrame) (begun : Begun) (n p : ℕ) → p + n ≤ 7 → begun.from ≤ 2 * p →
+      ((k : ℕ) → p ≤ k → k < p + n → names frame k ≡ false) → IsSplit frame at id p split begun → IsSplit frame at id (p + n) split begun
+  passed_up split begun zero p few from none s = subst (λ (k : ℕ). IsSplit frame at id k split begun) (let e : p ≡ p + 0 = omega arith in e) s
+  passed_up split begun (suc n) p few from none s =
+      subst (λ (k : ℕ). IsSplit frame at id k split begun) (let e : p + 1 + n ≡ p + suc n = omega arith in e)
+      (passed_up split begun n (p + 1) (omega arith) (omega arith) (λ k l h. none k (omega arith) (omega arith))
+      (passed p split begun (omega arith) from s (none p (omega arith) (omega arith))))
+
+  pub passed_to : (split : SplitFrame) (begun : Begun) (p q : ℕ) → p ≤ q → q ≤ 7 → begun.from ≤ 2 * p →
+      ((k : ℕ) → p ≤ k → k < q → names frame k ≡ false) → IsSplit frame at id p split begun → IsSplit frame at id q split begun
+  passed_to split begun p q low few from none s =
+      subst (λ (k : ℕ). IsSplit frame at id k split begun) (let e : p + (q - p) ≡ q = omega arith in e)
+      (passed_up split begun (q - p) p (omega arith) from (λ k l h. none k l (omega arith)) s)
 
   -- byte 14
   module _ (split : SplitFrame) (begun : Begun) (from : begun.from ≤ 14) (s : IsSplit frame at id 7 split begun) where
-    last_plain : slice_index frame 14 % 2 ≡ 0 → cells_of_parts split.offsets split.bytes (ended split.parts.items begun 15) ≡ cells frame at id
+    last_plain : slice_index frame 14 % 2 ≡ 0 → cells_of_parts (split_places split) split.bytes (ended split.parts.items begun 15) ≡ cells frame at id
     last_plain n =
-        let a = split.places in
+        let a = places_long split in
         let b = split.sized in
-        let parts = cells_of_parts split.offsets split.bytes split.parts.items in
-        let so_far = begun_cells split.offsets split.bytes begun 14 in
+        let parts = cells_of_parts (split_places split) split.bytes split.parts.items in
+        let so_far = begun_cells (split_places split) split.bytes begun 14 in
         let byte = slice_index split.bytes 14 in
         whole_plain frame at id 7 begun.run byte begun.source (parts ++ so_far) _ refl s.cells s.here (even_plain (slice_index frame 14) n)
-        (s.even 7 (omega arith) (omega arith))
-        (ended_cells split.offsets split.bytes begun split.parts.items 15 (omega arith)
+        (s.placed.even 7 (omega arith) ∙ early_byte frame 7 (last_early frame))
+        (ended_cells (split_places split) split.bytes begun split.parts.items 15 (omega arith)
         ∙ ap (λ (l : List Cell). parts ++ l)
-        (one_more split.offsets split.bytes begun 14 from (omega arith) (omega arith)
-        ∙ ap (λ (c : Cell). so_far ++ c ∷ []) (same_made (slice_index split.offsets 14) _ begun.source begun.run byte byte (s.offsets 14 (omega arith)) refl))
+        (one_more (split_places split) split.bytes begun 14 from (omega arith) (omega arith)
+        ∙ ap (λ (c : Cell). so_far ++ c ∷ []) (same_made (slice_index (split_places split) 14) _ begun.source begun.run byte byte (s.placed.even_places 7 (omega arith) ∙ early_place frame at 7 (last_early frame)) refl))
         ∙ sym (append_assoc parts so_far (made (slice_index at 14) begun.source begun.run byte ∷ [])))
 
-    last_named : names frame 7 ≡ true → cells_of_parts split.offsets split.bytes (ended split.parts.items begun 14) ≡ cells frame at id
+    last_named : names frame 7 ≡ true → cells_of_parts (split_places split) split.bytes (ended split.parts.items begun 14) ≡ cells frame at id
     last_named n =
-        let a = split.places in
-        ended_cells split.offsets split.bytes begun split.parts.items 14 (omega arith)
+        let a = places_long split in
+        ended_cells (split_places split) split.bytes begun split.parts.items 14 (omega arith)
         ∙ whole_named frame at id 7 _ refl s.cells n
 
     last_bit : (slice_index frame 14 % 2 ≡ 0) ⊎ (slice_index frame 14 % 2 ≡ 1)
@@ -309,10 +331,10 @@ module _ (frame at : List ℕ) (id : Option ℕ) where
     odd_named : slice_index frame 14 % 2 ≡ 1 → names frame 7 ≡ true
     odd_named h = grind (arith, nat_tests)
 
-    pub all_cells : cells_of_parts split.offsets split.bytes (ended split.parts.items begun (15 - slice_index frame 14 % 2)) ≡ cells frame at id
+    pub all_cells : cells_of_parts (split_places split) split.bytes (ended split.parts.items begun (15 - slice_index frame 14 % 2)) ≡ cells frame at id
     all_cells = elim last_bit [
-      | inl z ↦ ap (λ (k : ℕ). cells_of_parts split.offsets split.bytes (ended split.parts.items begun k)) (let e : 15 - slice_index frame 14 % 2 ≡ 15 = omega arith in e) ∙ last_plain z
-      | inr z ↦ ap (λ (k : ℕ). cells_of_parts split.offsets split.bytes (ended split.parts.items begun k)) (let e : 15 - slice_index frame 14 % 2 ≡ 14 = omega arith in e) ∙ last_named (odd_named z)
+      | inl z ↦ ap (λ (k : ℕ). cells_of_parts (split_places split) split.bytes (ended split.parts.items begun k)) (let e : 15 - slice_index frame 14 % 2 ≡ 15 = omega arith in e) ∙ last_plain z
+      | inr z ↦ ap (λ (k : ℕ). cells_of_parts (split_places split) split.bytes (ended split.parts.items begun k)) (let e : 15 - slice_index frame 14 % 2 ≡ 14 = omega arith in e) ∙ last_named (odd_named z)
     ]
 
     pub all_parts : begun.run ≤ 7 → AreParts 0 8 15 (ended split.parts.items begun (15 - slice_index frame 14 % 2))

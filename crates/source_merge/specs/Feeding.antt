@@ -1,5 +1,5 @@
 -- What a machine makes of a run.
-use Rattle.std.specs.Prelude.{◌≡◌, ℕ, List, ◌++◌, Option, None, Some}
+use Rattle.std.specs.Prelude.{◌≡◌, ℕ, List, ◌++◌, take, Option, None, Some}
 use Rattle.std.specs.Option.{option_map}
 use Rattle.trace_values.specs.declared.cell.Cell.{Cell}
 use Rattle.trace_values.specs.declared.fault.Fault.{Fault}
@@ -44,7 +44,15 @@ pub record Feeds {V : Type 0} (reading : List Placed → Stream V) (stands : Lis
   pub fault_is : (reading (u ++ placed_run fed.run)).fault ≡ option_map place_and_reason fed.fault
   pub list : fed.fault ≡ None → stands (u ++ placed_run fed.run)
 
--- what was given before a fault is before it
+-- What was given before a fault is before it: of a whole run, and of one of which so many cells were fed before.
+abbrev pub IsEarlyFrom : {V : Type 0} → ℕ → (List Placed → Stream V) → (List Placed → Type 0) → List Cell →
+    Option Fault → Type 0
+IsEarlyFrom done reading stands run None = Unit {0}
+IsEarlyFrom {V} done reading stands run (Some f) =
+    (u : List Placed) → stands (u ++ placed_run (take done run)) → (n : ℕ) → RisesFrom n run →
+    (given : List (Said V × Place)) →
+    (reading (u ++ placed_run run)).given ≡ (reading u).given ++ given → AllIn (start_of n) f.at given
+
 abbrev pub IsEarly : {V : Type 0} → (List Placed → Stream V) → (List Placed → Type 0) → List Cell →
     Option Fault → Type 0
 IsEarly reading stands run None = Unit {0}

@@ -17,3 +17,4 @@ pub mod Bare
 pub mod Engine
 pub mod Gathered
 pub mod Split
+pub mod Pairs

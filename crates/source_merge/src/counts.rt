@@ -28,7 +28,8 @@ impl PerSource {
     ghost use Rattle.std.specs.Option.{is_some};
     ghost use Rattle.stp_grammar.specs.declared.item.StpItem.{StpItem};
     ghost use Rattle.source_machine.specs.Seen.{packet_in};
-    ghost use Rattle.std.specs.Prelude.{◌+◌, ◌^◌, ◌≤◌, ◌++◌, ◌∷◌, [], ℕ, List, if◌then◌else◌, ◌==◌};
+    ghost use Rattle.std.specs.Prelude.{◌+◌, ◌^◌, ◌≤◌, ◌++◌, ◌∷◌, [], ℕ, List, if◌then◌else◌, ◌==◌, true};
+    ghost use Rattle.source_events.specs.Report.{is_item};
     ghost use Rattle.source_events.specs.declared.event.Event.{Event};
     ghost use Rattle.source_events.specs.declared.packet.Packet.{Packet};
     ghost use Rattle.std.specs.Prelude.{Some};
@@ -103,6 +104,18 @@ impl PerSource {
         self.add(source, u64::from(has_item));
     }
 
+    /// Counts an event of this source, which is no notice.
+    #[inline(always)]
+    pub fn add_event(&mut self, source: SourceId)
+        requires { total_of self.old + 1 ≤ COUNT_ROOM }
+        ensures items { (whole : List (List Cell)) (es : List (Event Packet)) (event : Event Packet) →
+            event.source ≡ Some source → is_item event.what ≡ true → HasItems self.old whole es →
+            HasItems self.new whole (es ++ event ∷ []) }
+        ensures total { total_of self.new ≤ total_of self.old + 1 }
+    {
+        self.add(source, 1);
+    }
+
     /// Counts an event of a source that is no notice.
     #[inline(always)]
     pub fn add_item(&mut self, event: &Event<Packet>)
@@ -115,7 +128,7 @@ impl PerSource {
             What::Locked(_) => {}
             What::Packet(_) | What::Raw(_) | What::Trigger(_) => {
                 if let Some(id) = event.source {
-                    self.add(id, 1);
+                    self.add_event(id);
                 }
             }
         }
@@ -165,18 +178,6 @@ impl ByteCounts {
             Some(id) => self.sources.add(*id, bytes),
             None => self.unattributed += bytes,
         }
-    }
-
-    /// Counts this many bytes of a source: those of one run.
-    #[inline(always)]
-    pub fn add_source(&mut self, id: SourceId, bytes: u64)
-        requires some { 0 < bytes }
-        requires room { bytes_counted self.old + bytes ≤ COUNT_ROOM }
-        ensures counted { (whole runs : List (List Cell)) (run : List Cell) → id_of run ≡ Some id → length run ≡ bytes →
-            HasBytes self.old whole runs → HasBytes self.new whole (runs ++ run ∷ []) }
-        ensures more { bytes_counted self.new ≡ bytes_counted self.old + bytes }
-    {
-        self.sources.add(id, bytes);
     }
 
     /// Counts this many bytes of a capture with no formatter: those of source 1.

@@ -1,8 +1,9 @@
 //! The data bytes of a frame, and frames that name no source.
 
-ghost use Rattle.std.specs.Prelude.{◌≡◌, ℕ, ◌<◌, ◌*◌, ◌+◌, List, Option, length, slice_index, IfSome};
-ghost use Rattle.frame_grammar.specs.Frame.{cells, even_data, id_after};
-ghost use Rattle.source_merge.specs.Data.{data_cells, first_bytes, last_bytes, lowest, spread_bits, with_bits};
+ghost use Rattle.std.specs.Prelude.{◌≡◌, ℕ, ◌<◌, ◌*◌, ◌+◌, List, ◌++◌, Option, length, slice_index, take, IfSome};
+ghost use Rattle.frame_grammar.specs.Frame.{cells, id_after};
+ghost use Rattle.source_merge.specs.Data.{first_bytes, last_bytes, lowest, run_cells, spread_bits, with_bits};
+ghost use Rattle.source_merge.specs.Data.{byte_in, late_bits, masks, moved_bytes, place_in};
 
 use frame_grammar::frame::FRAME_BYTES;
 
@@ -17,7 +18,7 @@ const SPREADING: u64 = 0x2000_4000_8001;
 
 /// The bits 0 of the bytes at even indexes, each in its halfword.
 #[inline(always)]
-fn low_bits(bytes: [u8; 8]) -> u64
+pub fn low_bits(bytes: [u8; 8]) -> u64
     ensures { result ≡ lowest bytes }
 {
     u64::from_le_bytes(bytes) & LOWEST
@@ -52,46 +53,89 @@ fn with_new_bits(bytes: [u8; 8], bits: u8) -> [u8; 8]
     (all - spread(15 - bits)).to_le_bytes()
 }
 
+/// FF in the low byte of each halfword whose even byte is an ID byte that is in effect only after the byte behind it
+/// (its bit 0 and its auxiliary bit are 1), and else 0.
+#[inline(always)]
+fn late(bytes: [u8; 8], bits: u8) -> u64
+    requires { bits < 16 }
+    ensures { result ≡ masks (late_bits bytes bits) }
+{
+    (low_bits(bytes) & spread(bits)) * 255
+}
+
+/// These bytes, of which those behind the masked ones are moved one place to the front: each masked byte at an even
+/// index is replaced by the one behind it.
+#[inline(always)]
+fn moved(bytes: [u8; 8], late: u64) -> [u8; 8]
+    ensures { (bits : ℕ) → bits < 16 → late ≡ masks bits → result ≡ moved_bytes bytes bits }
+{
+    let word = u64::from_le_bytes(bytes);
+    ((word & (u64::MAX - late)) | ((word >> 8u32) & late)).to_le_bytes()
+}
+
 /// The first eight bytes of a frame.
 #[inline(always)]
-fn first_half(frame: &[u8; FRAME_BYTES]) -> [u8; 8]
+pub fn first_half(frame: &[u8; FRAME_BYTES]) -> [u8; 8]
     ensures { result ≡ first_bytes frame.now }
 {
-    [
-        frame[0], frame[1], frame[2], frame[3], frame[4], frame[5], frame[6], frame[7],
-    ]
+    match frame.first_chunk::<8>() {
+        Some(half) => *half,
+        None => [0; 8],
+    }
 }
 
 /// The last eight bytes of a frame.
 #[inline(always)]
-fn last_half(frame: &[u8; FRAME_BYTES]) -> [u8; 8]
+pub fn last_half(frame: &[u8; FRAME_BYTES]) -> [u8; 8]
     ensures { result ≡ last_bytes frame.now }
 {
-    [
-        frame[8], frame[9], frame[10], frame[11], frame[12], frame[13], frame[14], frame[15],
-    ]
+    match frame.last_chunk::<8>() {
+        Some(half) => *half,
+        None => [0; 8],
+    }
 }
 
-/// The bytes of a frame, each in its place, those at even indexes with their bits 0 from byte 15: the data, but for
-/// the ID bytes.
+/// Two halves, one behind the other. Each is copied whole, since a list of the elements would be written byte by byte.
 #[inline(always)]
-pub fn data_in_place(frame: &[u8; FRAME_BYTES]) -> [u8; FRAME_BYTES]
-    ensures even { (k : ℕ) → k < 8 → slice_index result (2 * k) ≡ even_data frame.now k }
-    ensures odd { (k : ℕ) → k < 8 → slice_index result (2 * k + 1) ≡ slice_index frame.now (2 * k + 1) }
+fn joined(first: &[u8; 8], last: &[u8; 8]) -> [u8; FRAME_BYTES]
+    ensures { result ≡ first.now ++ last.now }
 {
-    let first = with_new_bits(first_half(frame), frame[15] % 16);
-    let last = with_new_bits(last_half(frame), frame[15] / 16);
-    [
-        first[0], first[1], first[2], first[3], first[4], first[5], first[6], first[7], last[0],
-        last[1], last[2], last[3], last[4], last[5], last[6], last[7],
-    ]
+    let mut both = [0; FRAME_BYTES];
+    both[..8].copy_from_slice(first);
+    both[8..].copy_from_slice(last);
+    both
 }
 
-/// The data bytes of a frame that names no source, with their bits 0 from byte 15; none where it names one.
+/// The bytes of a frame, each in its place, those at even indexes with their bits 0 from byte 15: the data, but for the
+/// ID bytes. And where each of them is, by the places of the frame's bytes. An ID byte that is in effect only after the
+/// byte behind it gives way to that byte, so that the data of the source before it are in one piece.
 #[inline(always)]
-pub fn data_of(frame: &[u8; FRAME_BYTES]) -> Option<[u8; DATA_BYTES]>
+pub fn data_in_place(
+    frame: &[u8; FRAME_BYTES],
+    behind: &[u8; FRAME_BYTES],
+) -> ([u8; FRAME_BYTES], [u8; FRAME_BYTES])
+    ensures even { (k : ℕ) → k < 8 → slice_index result.0 (2 * k) ≡ byte_in frame.now k }
+    ensures odd { (k : ℕ) → k < 8 → slice_index result.0 (2 * k + 1) ≡ slice_index frame.now (2 * k + 1) }
+    ensures even_places { (k : ℕ) → k < 8 → slice_index result.1 (2 * k) ≡ place_in frame.now behind.now k }
+    ensures odd_places { (k : ℕ) → k < 8 → slice_index result.1 (2 * k + 1) ≡ slice_index behind.now (2 * k + 1) }
+{
+    let front = first_half(frame);
+    let back = last_half(frame);
+    let early = late(front, frame[15] % 16);
+    let later = late(back, frame[15] / 16 % 8);
+    let first = moved(with_new_bits(front, frame[15] % 16), early);
+    let last = moved(with_new_bits(back, frame[15] / 16), later);
+    let first_at = moved(first_half(behind), early);
+    let last_at = moved(last_half(behind), later);
+    (joined(&first, &last), joined(&first_at, &last_at))
+}
+
+/// The data bytes of a frame that names no source, with their bits 0 from byte 15, and byte 15 behind them; none where
+/// it names one.
+#[inline(always)]
+pub fn data_of(frame: &[u8; FRAME_BYTES]) -> Option<[u8; FRAME_BYTES]>
     ensures cells { (offsets : List ℕ) (id : Option ℕ) → length offsets ≡ 16 →
-        IfSome result (λ bytes. cells frame.now offsets id ≡ data_cells offsets id bytes) }
+        IfSome result (λ bytes. cells frame.now offsets id ≡ run_cells (take 15 offsets) id 0 (take 15 bytes)) }
     ensures id { (id : Option ℕ) → IfSome result (λ bytes. id_after frame.now id ≡ id) }
 {
     let first = first_half(frame);
@@ -101,8 +145,5 @@ pub fn data_of(frame: &[u8; FRAME_BYTES]) -> Option<[u8; DATA_BYTES]>
     }
     let first = with_low_bits(first, frame[15] % 16);
     let last = with_low_bits(last, frame[15] / 16);
-    Some([
-        first[0], first[1], first[2], first[3], first[4], first[5], first[6], first[7], last[0],
-        last[1], last[2], last[3], last[4], last[5], last[6],
-    ])
+    Some(joined(&first, &last))
 }

@@ -355,17 +355,17 @@ impl Engine {
         let Some(frame) = place_frame(at, piece) else {
             return None;
         };
-        let flow = self.feed_gathered(at, &frame, out, to);
+        let flow = self.feed_gathered(&frame, out, to);
         Some(Fed {
             bytes: frame.size(),
             flow,
         })
     }
 
-    /// Takes a whole frame, the first byte of which is at this offset.
+    /// Takes a whole frame.
+    #[inline(never)]
     fn feed_gathered<V: Receiver>(
         &mut self,
-        at: u64,
         frame: &PlacedFrame,
         out: &mut V,
         to: &mut V::To,
@@ -374,23 +374,24 @@ impl Engine {
         requires space { 30 ≤ V.room (out.old, to.old) }
         requires between { IsBetween self.old.port }
         requires proper { IsProperFrame frame.now.bytes }
-        requires offsets { (next_of self.old ≤ at) × (at + (FRAME_BYTES + 2 * frame.now.halves) ≤ GREATEST_OFFSET + 1) }
+        requires offsets { (next_of self.old ≤ frame.now.at)
+            × (frame.now.at + (FRAME_BYTES + 2 * frame.now.halves) ≤ GREATEST_OFFSET + 1) }
         ensures same { plan_of self.new ≡ plan_of self.old }
-        ensures next { next_of self.new ≡ at + (FRAME_BYTES + 2 * frame.now.halves) }
+        ensures next { next_of self.new ≡ frame.now.at + (FRAME_BYTES + 2 * frame.now.halves) }
         ensures live { is_live self.new ≡ goes_on result }
         ensures space { V.room (out.old, to.old) ≤ V.room (out.new, to.new) + 30 }
-        ensures list { (u : List Placed) (w : List ℕ) → Stands self.old u → IsGathered at w frame.now →
-            Stands self.new (u ++ placed_from at w) }
+        ensures list { (u : List Placed) (w : List ℕ) → Stands self.old u → IsGathered frame.now.at w frame.now →
+            Stands self.new (u ++ placed_from frame.now.at w) }
         ensures fed { GivesTo V.gets (out.old, to.old) (out.new, to.new) (λ given.
-            (u : List Placed) (w : List ℕ) → Stands self.old u → IsGathered at w frame.now →
-            FedAs (Answers (plan_of self.old) [] Going) (Answers (plan_of self.old) given result) u at w) }
+            (u : List Placed) (w : List ℕ) → Stands self.old u → IsGathered frame.now.at w frame.now →
+            FedAs (Answers (plan_of self.old) [] Going) (Answers (plan_of self.old) given result) u frame.now.at w) }
     {
         self.counters.port.halves += frame.halves as u64;
         let bytes = frame.size() as u64;
         let taken = take_whole(
             self.slots.as_mut_slice(),
             &mut self.counters,
-            at + (bytes - 1),
+            frame.at + (bytes - 1),
             &self.port.id(),
             frame,
             out,
@@ -398,7 +399,7 @@ impl Engine {
         );
         self.port.pass_frame(taken.after);
         self.count += bytes;
-        self.next = at + bytes;
+        self.next = frame.at + bytes;
         self.live = taken.stop.is_none();
         flow_of(taken.stop)
     }

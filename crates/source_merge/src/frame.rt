@@ -2,10 +2,6 @@
 
 ghost use Rattle.source_merge.specs.declared.slot.TheConstants.{FRAME_ROOM};
 ghost use Rattle.std.specs.Prelude.{◌≡◌, ◌+◌, ◌*◌, ◌≤◌, ◌++◌, ℕ, List, length, None};
-ghost use Rattle.std.specs.Prelude.{IfSome, Some};
-ghost use Rattle.source_merge.specs.Run.{source_of};
-ghost use Rattle.frame_grammar.specs.Frame.{cells, id_after};
-ghost use Rattle.source_merge.specs.Frame.{data_in, suits_data};
 ghost use Rattle.trace_values.specs.declared.cell.Cell.{Cell};
 ghost use Rattle.source_events.specs.Runs.{RisesFrom, runs_of};
 ghost use Rattle.source_machine.specs.declared.machine.SourceMachine.{SourceMachine};
@@ -17,15 +13,12 @@ ghost use Rattle.source_merge.specs.Routing.{mapped_of, AllLive, AllStand, HaveR
 ghost use Rattle.source_merge.specs.declared.slot.Slot.{Slot};
 
 use crate::counts::{ByteCounts, PerSource};
-use crate::data::{DATA_BYTES, data_of};
 use crate::receiver::Receiver;
-use crate::router::{find, take_frame, take_own};
-use crate::run::DataRun;
+use crate::router::take_frame;
 use crate::slot::Slot;
-use frame_grammar::placed::PlacedFrame;
 use source_events::Stop;
 use source_machine::SourceMachine;
-use trace_values::{Cell, SourceId};
+use trace_values::Cell;
 
 /// The cells of a frame.
 pub trait FrameCells {
@@ -89,56 +82,4 @@ impl FrameCells for AnyFrame<'_> {
     ) -> Option<Stop> {
         take_frame(slots, self.cells, counts, items, out, to)
     }
-}
-
-/// The cells of a frame that names no source, which are those of a mapped source.
-#[derive(Drop)]
-pub struct DataFrame<'a> {
-    /// The index of the source's slot.
-    pub index: usize,
-    pub run: DataRun<'a>,
-}
-
-impl FrameCells for DataFrame<'_> {
-    ghost use Rattle.source_merge.specs.Frame.{data_in, suits_data};
-
-    ghost cells = { data_in };
-
-    ghost suits = { suits_data };
-
-    #[inline(always)]
-    fn take<V: Receiver>(
-        &self,
-        slots: &mut [Slot<SourceMachine>],
-        counts: &mut ByteCounts,
-        items: &mut PerSource,
-        out: &mut V,
-        to: &mut V::To,
-    ) -> Option<Stop> {
-        let source = self.run.source();
-        counts.add_source(source, DATA_BYTES as u64);
-        take_own(slots, self.index, source, &self.run.part(), items, out, to)
-    }
-}
-
-/// The cells of a frame, where it names no source and the ID before it is that of a mapped source.
-#[inline(always)]
-pub fn data_frame<'a>(
-    slots: &[Slot<SourceMachine>],
-    id: &Option<SourceId>,
-    frame: &'a PlacedFrame,
-) -> Option<DataFrame<'a>>
-    ensures cells { IfSome result (λ d. data_in d ≡ cells frame.now.bytes frame.now.offsets id.now) }
-    ensures suits { IfSome result (λ d. suits_data d slots.now) }
-    ensures after { IfSome result (λ d. Some (source_of d.run) ≡ id_after frame.now.bytes id.now) }
-{
-    let Some(source) = *id else {
-        return None;
-    };
-    let bytes = data_of(&frame.bytes)?;
-    let index = find(slots, source)?;
-    Some(DataFrame {
-        index,
-        run: DataRun::new(source, &frame.offsets, bytes),
-    })
 }

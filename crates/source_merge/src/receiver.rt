@@ -1,12 +1,18 @@
 //! What takes the events of a report as they come.
 
-ghost use Rattle.std.specs.Prelude.{◌+◌, ◌<◌, ◌≤◌, ◌++◌, ◌∷◌, [], ℕ, List};
+ghost use Rattle.std.specs.Prelude.{◌↔◌, ◌+◌, ◌<◌, ◌≤◌, ◌++◌, ◌∷◌, [], ℕ, List, length, IsTrue};
+ghost use Rattle.itm_grammar.specs.Proper.{IsProper};
 ghost use Rattle.source_events.specs.declared.event.Event.{Event};
 ghost use Rattle.source_events.specs.declared.packet.Packet.{Packet};
 ghost use Rattle.source_events.specs.Fitting.{EventFits, PacketFits};
+ghost use Rattle.stp_grammar.specs.Proper.{IsProperItem};
+ghost use Rattle.source_merge.specs.Receiver.{itm_event, raw_event, stp_event};
 
-use crate::slot::Events;
-use source_events::{Event, Packet};
+use crate::slot::{Events, event_at};
+use itm_grammar::packet::ItmPacket;
+use source_events::{Event, Packet, RunBytes, What};
+use stp_grammar::item::StpItem;
+use trace_values::SourceId;
 
 /// What takes the events of a report, one after the other.
 pub trait Receiver {
@@ -17,12 +23,52 @@ pub trait Receiver {
     ghost gets: { (Self × Self.To) → List (Event Packet) → (Self × Self.To) → Type 0 };
     // how many more it has room for
     ghost room: { (Self × Self.To) → ℕ };
+    // of which ITM sources, and of which STP sources, it may be given packets by their parts
+    ghost itm: { Self → ℕ → Type 0 };
+
+    ghost stp: { Self → ℕ → Type 0 };
 
     /// Takes the next event.
     fn give(&mut self, to: &mut Self::To, event: Event<Packet>)
         requires fits { EventFits PacketFits event }
         requires room { 0 < room (self.old, to.old) }
         ensures gets { gets (self.old, to.old) (event ∷ []) (self.new, to.new) }
+        ensures room { room (self.old, to.old) ≤ room (self.new, to.new) + 1 };
+
+    /// Packets of this ITM source may be given by their parts. It is asked before the packet is read: so what is read
+    /// goes straight into what is made of it.
+    fn takes_itm(&self, source: SourceId) -> bool
+        ensures { IsTrue result ↔ itm self.now source };
+
+    /// Items of this STP source may be given by their parts.
+    fn takes_stp(&self, source: SourceId) -> bool
+        ensures { IsTrue result ↔ stp self.now source };
+
+    /// Takes the next event, which is an ITM packet of this source. Its last byte is at this offset.
+    ///
+    /// It is what `give` makes of that event, which need not be in memory; so are the two below.
+    fn give_itm(&mut self, to: &mut Self::To, at: u64, source: SourceId, packet: ItmPacket)
+        requires fits { IsProper packet }
+        requires own { itm self.old source }
+        requires room { 0 < room (self.old, to.old) }
+        ensures gets { gets (self.old, to.old) (itm_event source at packet ∷ []) (self.new, to.new) }
+        ensures room { room (self.old, to.old) ≤ room (self.new, to.new) + 1 };
+
+    /// Takes the next event, which is an item of this STP source. It ends in this half of the byte at this offset.
+    fn give_stp(&mut self, to: &mut Self::To, at: u64, half: u8, source: SourceId, item: StpItem)
+        requires fits { IsProperItem item }
+        requires own { stp self.old source }
+        requires room { 0 < room (self.old, to.old) }
+        ensures gets { gets (self.old, to.old) (stp_event source at half item ∷ []) (self.new, to.new) }
+        ensures room { room (self.old, to.old) ≤ room (self.new, to.new) + 1 };
+
+    /// Takes the next event, which is a run of this source, 1 to 15 bytes that are not read. The last of them is at this
+    /// offset.
+    fn give_raw(&mut self, to: &mut Self::To, at: u64, source: SourceId, bytes: &[u8])
+        requires some { 0 < length bytes.now }
+        requires few { length bytes.now ≤ 15 }
+        requires room { 0 < room (self.old, to.old) }
+        ensures gets { gets (self.old, to.old) (raw_event source at bytes.now ∷ []) (self.new, to.new) }
         ensures room { room (self.old, to.old) ≤ room (self.new, to.new) + 1 };
 
     // given nothing it is as before
@@ -34,6 +80,7 @@ pub trait Receiver {
 
 /// A list of events, which has them in the order in which they came.
 impl Receiver for Events {
+    ghost use Rattle.std.specs.Prelude.{⊤};
     ghost use Rattle.source_merge.specs.Receiver.{list_gets, list_room};
     ghost use Rattle.source_merge.specs.ReceiverLaws.{list_gets_none, list_gets_more};
 
@@ -43,6 +90,10 @@ impl Receiver for Events {
 
     ghost room = { list_room };
 
+    ghost itm = { λ events source. ⊤ };
+
+    ghost stp = { λ events source. ⊤ };
+
     ghost gets_none = { list_gets_none };
 
     ghost gets_more = { list_gets_more };
@@ -50,5 +101,30 @@ impl Receiver for Events {
     #[inline(always)]
     fn give(&mut self, _to: &mut (), event: Event<Packet>) {
         self.push(event);
+    }
+
+    #[inline(always)]
+    fn takes_itm(&self, _source: SourceId) -> bool {
+        true
+    }
+
+    #[inline(always)]
+    fn takes_stp(&self, _source: SourceId) -> bool {
+        true
+    }
+
+    #[inline(always)]
+    fn give_itm(&mut self, _to: &mut (), at: u64, source: SourceId, packet: ItmPacket) {
+        self.push(event_at(source, at, 0, What::Packet(Packet::Itm(packet))));
+    }
+
+    #[inline(always)]
+    fn give_stp(&mut self, _to: &mut (), at: u64, half: u8, source: SourceId, item: StpItem) {
+        self.push(event_at(source, at, half, What::Packet(Packet::Stp(item))));
+    }
+
+    #[inline(always)]
+    fn give_raw(&mut self, _to: &mut (), at: u64, source: SourceId, bytes: &[u8]) {
+        self.push(event_at(source, at, 0, What::Raw(RunBytes::new(bytes))));
     }
 }

@@ -5,7 +5,7 @@ ghost use Rattle.source_merge.specs.declared.slot.TheConstants.{FRAME_ROOM};
 ghost use Rattle.std.specs.Prelude.{◌≡◌, ◌+◌, ◌*◌, ◌<◌, ◌≤◌, ◌++◌, ◌∷◌, [], ℕ, List, length, None};
 ghost use Rattle.std.specs.Prelude.{Some, position, ◌==◌};
 ghost use Rattle.trace_values.specs.declared.cell.Cell.{Cell};
-ghost use Rattle.source_events.specs.Runs.{RisesFrom, IsRunFrom, bytes_of, runs_of, id_of};
+ghost use Rattle.source_events.specs.Runs.{RisesFrom, IsRunFrom, runs_of, id_of};
 ghost use Rattle.source_events.specs.Merge.{told};
 ghost use Rattle.source_events.specs.Report.{raw_events, triggers};
 ghost use Rattle.source_machine.specs.declared.machine.SourceMachine.{SourceMachine};
@@ -20,10 +20,9 @@ ghost use Rattle.source_merge.specs.declared.slot.Slot.{Slot};
 use crate::counts::{ByteCounts, PerSource};
 use crate::receiver::Receiver;
 use crate::run::{CellRun, Run};
-use crate::slot::{Slot, event_at, feed_machine, give};
-use arrayvec::ArrayVec;
-use source_events::{Packet, RunBytes, Stop, What, run_length};
-use source_machine::{ItmParts, SourceMachine, StpParts};
+use crate::slot::{Slot, event_at, feed_itm, feed_stp, give};
+use source_events::{Packet, Stop, What, run_length};
+use source_machine::SourceMachine;
 use trace_values::{Cell, Fault, SourceId};
 
 /// The null source, whose bytes only fill frames.
@@ -54,18 +53,6 @@ fn give_triggers<R: Run, V: Receiver>(
     }
 }
 
-/// The bytes of a run.
-#[inline(always)]
-fn raw_bytes<R: Run>(run: &R) -> RunBytes
-    ensures { result ≡ bytes_of (R.cells run.now) }
-{
-    let mut cells: ArrayVec<Cell, 15> = ArrayVec::new();
-    for index in 0..run.len() {
-        cells.push(run.cell(index));
-    }
-    RunBytes::of(cells.as_slice())
-}
-
 /// Gives a run of a source that is not mapped.
 fn give_raw<R: Run, V: Receiver>(
     source: SourceId,
@@ -91,9 +78,10 @@ fn give_raw<R: Run, V: Receiver>(
         give_triggers(source, run, items, out, to);
         return;
     }
-    let at = run.cell(run.len() - 1).at;
-    let what = What::Raw(raw_bytes(run));
-    give(items, out, to, event_at(source, at, 0, what));
+    let count = run.len();
+    let at = run.cell(count - 1).at;
+    items.add_event(source);
+    out.give_raw(to, at, source, &run.ahead()[..count]);
 }
 
 /// The index of the source of this ID among the mapped ones.
@@ -135,9 +123,9 @@ fn feed_slot<R: Run, V: Receiver>(
 {
     let machine = &mut slots[index].machine;
     if machine.is_stp() {
-        feed_machine::<StpParts, R, V>(machine, id, run, items, out, to)
+        feed_stp(machine, id, run, items, out, to)
     } else {
-        feed_machine::<ItmParts, R, V>(machine, id, run, items, out, to)
+        feed_itm(machine, id, run, items, out, to)
     }
 }
 

@@ -1,28 +1,29 @@
 //! A whole frame that is taken apart into the runs of its sources.
 
-ghost use Rattle.std.specs.Prelude.{◌≡◌, ◌≤◌, length};
+ghost use Rattle.std.specs.Prelude.{◌≡◌, ◌≤◌, ◌<◌, ◌+◌, ◌^◌, length};
+ghost use Rattle.source_merge.specs.declared.data.TheConstants.{DATA_BYTES};
 ghost use Rattle.source_merge.specs.declared.run.TheConstants.{ROOM};
 
 use crate::counts::{ByteCounts, PerSource};
-use crate::data::data_in_place;
+use crate::data::{DATA_BYTES, data_in_place, data_of};
 use crate::frame::FrameCells;
+use crate::pairs::NamedPairs;
 use crate::receiver::Receiver;
 use crate::router::take_run;
-use crate::run::{PartRun, ROOM};
+use crate::run::{ROOM, Run};
 use crate::slot::Slot;
 use arrayvec::ArrayVec;
 use frame_grammar::frame::FRAME_BYTES;
-use frame_grammar::placed::PlacedFrame;
 use source_events::Stop;
 use source_machine::SourceMachine;
-use trace_values::SourceId;
+use trace_values::{Cell, SourceId};
 
 /// The most parts of a frame: one up to each ID byte before index 14, and the last one.
 const PARTS: usize = 8;
 
 /// A part of a frame: its data from one index up to another, which are of one source.
 #[derive(Clone, Copy, Default, Drop)]
-struct Part {
+pub struct Part {
     source: Option<SourceId>,
     /// How many IDs the frame has named up to it.
     run: u8,
@@ -41,72 +42,127 @@ struct Begun {
 /// A whole frame, taken apart into the runs of its sources.
 #[derive(Drop)]
 pub struct SplitFrame {
-    /// The data bytes in their places. The one after an ID byte that is in effect only after it is in the place of that
-    /// ID byte, so that each part has its bytes one after the other. Behind them are bytes that are of no account.
+    /// The data bytes in their places, so that each part has its bytes one after the other. Behind them are bytes that
+    /// are of no account.
     bytes: [u8; ROOM],
-    /// Their offsets.
-    offsets: [u64; FRAME_BYTES],
+    /// The offset of the frame's first byte.
+    at: u64,
+    /// How far behind it each data byte is.
+    behind: [u8; FRAME_BYTES],
     parts: ArrayVec<Part, PARTS>,
     /// The ID after the frame.
     after: Option<SourceId>,
     ghost sized: { length bytes ≡ ROOM },
-    ghost places: { length offsets ≡ 16 },
+    ghost places: { length behind ≡ 16 },
+    ghost near: { at + 255 < 2 ^ 64 },
 }
 
 impl SplitFrame {
     ghost use Rattle.std.specs.Prelude.{ℕ, ◌+◌, ◌-◌, ◌*◌, ◌/◌, ◌%◌, ◌<◌, ◌==◌, if◌then◌else◌};
-    ghost use Rattle.std.specs.Prelude.{Option, List, [], slice_index};
+    ghost use Rattle.std.specs.Prelude.{Option, List, [], ◌∷◌, slice_index, take, drop};
     ghost use Rattle.arrayvec.specs.ArrayVec.{array_vec_len};
-    ghost use Rattle.frame_grammar.specs.Frame.{IsProperFrame, cells, even_data, id_after};
+    ghost use Rattle.frame_grammar.specs.Frame.{IsProperFrame, cells, id_after};
+    ghost use Rattle.frame_grammar.specs.Placing.{places_of};
     ghost use Rattle.trace_values.specs.Cells.{source_id};
-    ghost use Rattle.source_merge.specs.Run.{part_of};
-    ghost use Rattle.source_merge.specs.Split.{IsSplit, after_of, ended, part_cells, split_cells, suits_split};
+    ghost use Rattle.source_merge.specs.Split.{IsPlaced, IsSplit, after_of, ended, split_cells, suits_split};
     ghost use Rattle.source_machine.specs.declared.machine.SourceMachine.{SourceMachine};
     ghost use Rattle.source_merge.specs.declared.slot.Slot.{Slot};
     ghost use Rattle.source_merge.specs.declared.split.TheConstants.{PARTS};
 
-    /// A frame whose data are in their places, and of which nothing is taken apart.
+    /// A frame whose first byte is at this offset, and of which nothing is taken yet. It is filled where it is: given
+    /// whole, its bytes would be copied.
     #[inline(always)]
-    pub fn new(frame: &PlacedFrame) -> SplitFrame
-        ensures even { (k : ℕ) → k < 8 → slice_index result.bytes (2 * k) ≡ even_data frame.now.bytes k }
-        ensures odd { (k : ℕ) → k < 8 → slice_index result.bytes (2 * k + 1) ≡ slice_index frame.now.bytes (2 * k + 1) }
-        ensures offsets { result.offsets ≡ frame.now.offsets }
+    pub fn blank(at: u64) -> SplitFrame
+        requires { at + 255 < 2 ^ 64 }
+        ensures at { result.at ≡ at }
         ensures parts { result.parts.items ≡ [] }
     {
-        let mut bytes = [0; ROOM];
-        bytes[..FRAME_BYTES].copy_from_slice(&data_in_place(&frame.bytes));
         SplitFrame {
-            bytes,
-            offsets: frame.offsets,
+            bytes: [0; ROOM],
+            at,
+            behind: [0; FRAME_BYTES],
             parts: ArrayVec::new(),
             after: None,
         }
     }
 
-    /// Takes this frame apart, which is that of `new` and comes after this ID.
+    /// Takes this frame apart, which comes after this ID. Its bytes are so far behind the first one.
     #[inline(always)]
-    pub fn take_ids(&mut self, frame: &PlacedFrame, id: &Option<SourceId>)
-        requires proper { IsProperFrame frame.now.bytes }
-        requires even { (k : ℕ) → k < 8 → slice_index self.old.bytes (2 * k) ≡ even_data frame.now.bytes k }
-        requires odd { (k : ℕ) → k < 8 →
-            slice_index self.old.bytes (2 * k + 1) ≡ slice_index frame.now.bytes (2 * k + 1) }
-        requires offsets { self.old.offsets ≡ frame.now.offsets }
+    pub fn fill(
+        &mut self,
+        frame: &[u8; FRAME_BYTES],
+        behind: &[u8; FRAME_BYTES],
+        id: &Option<SourceId>,
+    )
+        requires proper { IsProperFrame frame.now }
         requires parts { self.old.parts.items ≡ [] }
-        ensures cells { split_cells self.new ≡ cells frame.now.bytes frame.now.offsets id.now }
+        ensures cells { split_cells self.new ≡ cells frame.now (places_of self.old.at behind.now) id.now }
         ensures suits { (slots : List (Slot SourceMachine)) → suits_split self.new slots }
-        ensures after { after_of self.new ≡ id_after frame.now.bytes id.now }
+        ensures after { after_of self.new ≡ id_after frame.now id.now }
+    {
+        if let Some(bytes) = data_of(frame) {
+            self.place(&bytes, behind);
+            self.take_all(id);
+        } else {
+            let (bytes, places) = data_in_place(frame, behind);
+            self.place(&bytes, &places);
+            self.take_ids(frame, id);
+        }
+    }
+
+    /// Puts these data into their places, which are so far behind the first one.
+    #[inline(always)]
+    fn place(&mut self, own: &[u8; FRAME_BYTES], behind: &[u8; FRAME_BYTES])
+        ensures bytes { take FRAME_BYTES self.new.bytes ≡ own.now }
+        ensures behind { self.new.behind ≡ behind.now }
+        ensures at { self.new.at ≡ self.old.at }
+        ensures parts { self.new.parts ≡ self.old.parts }
+    {
+        let mut bytes = self.bytes;
+        bytes[..FRAME_BYTES].copy_from_slice(own);
+        self.bytes = bytes;
+        self.behind = *behind;
+    }
+
+    /// Takes the data as one part: the frame names no source.
+    #[inline(always)]
+    fn take_all(&mut self, id: &Option<SourceId>)
+        requires parts { self.old.parts.items ≡ [] }
+        ensures bytes { self.new.bytes ≡ self.old.bytes }
+        ensures places { (self.new.at ≡ self.old.at) × (self.new.behind ≡ self.old.behind) }
+        ensures parts { self.new.parts.items ≡
+            (record { source = id.now; run = 0; from = 0; end = DATA_BYTES }) ∷ [] }
+        ensures after { self.new.after ≡ id.now }
+    {
+        self.parts.push(Part {
+            source: *id,
+            run: 0,
+            from: 0,
+            end: DATA_BYTES as u8,
+        });
+        self.after = *id;
+    }
+
+    /// Takes this frame apart, whose data are in their places at these offsets, and which comes after this ID.
+    #[inline(always)]
+    fn take_ids(&mut self, frame: &[u8; FRAME_BYTES], id: &Option<SourceId>)
+        requires proper { IsProperFrame frame.now }
+        requires parts { self.old.parts.items ≡ [] }
+        ensures cells { (at : List ℕ) → IsPlaced frame.now at self.old → split_cells self.new ≡ cells frame.now at id.now }
+        ensures suits { (at : List ℕ) (slots : List (Slot SourceMachine)) → IsPlaced frame.now at self.old →
+            suits_split self.new slots }
+        ensures after { (at : List ℕ) → IsPlaced frame.now at self.old → after_of self.new ≡ id_after frame.now id.now }
     {
         let mut begun = Begun {
             source: *id,
             run: 0,
             from: 0,
         };
-        for pair in 0..7 {
-            if frame.bytes[2 * pair] % 2 == 1 {
-                begun = self.take_id(&frame.bytes, pair, &begun);
-            }
+        let mut pairs = NamedPairs::of(frame);
+        while let Some(pair) = pairs.next() {
+            begun = self.take_id(frame, pair, &begun);
         }
-        self.take_last(frame.bytes[14], &begun);
+        self.take_last(frame[14], &begun);
     }
 
     /// Takes byte 14, after the part that has begun. An ID there holds from the next frame on, whatever its auxiliary
@@ -114,8 +170,8 @@ impl SplitFrame {
     #[inline(always)]
     fn take_last(&mut self, last: u8, begun: &Begun)
         requires { array_vec_len self.old.parts < PARTS }
-        ensures cells { self.new.bytes ≡ self.old.bytes }
-        ensures offsets { self.new.offsets ≡ self.old.offsets }
+        ensures bytes { self.new.bytes ≡ self.old.bytes }
+        ensures places { (self.new.at ≡ self.old.at) × (self.new.behind ≡ self.old.behind) }
         ensures parts { self.new.parts.items ≡ ended self.old.parts.items begun.now (15 - last % 2) }
         ensures after { self.new.after ≡ (if last % 2 == 0 then begun.now.source else source_id (last / 2)) }
     {
@@ -135,12 +191,21 @@ impl SplitFrame {
         self.after
     }
 
+    /// Its bytes from an index on.
+    #[inline(always)]
+    fn bytes_from(&self, from: u8) -> &[u8]
+        requires { from ≤ ROOM }
+        ensures { result.now ≡ drop from self.now.bytes }
+    {
+        &self.bytes[usize::from(from)..]
+    }
+
     /// Ends a part before this index. It is none where it has no byte.
     #[inline(always)]
     fn end_part(&mut self, begun: &Begun, end: u8)
         requires { array_vec_len self.old.parts < PARTS }
         ensures bytes { self.new.bytes ≡ self.old.bytes }
-        ensures offsets { self.new.offsets ≡ self.old.offsets }
+        ensures places { (self.new.at ≡ self.old.at) × (self.new.behind ≡ self.old.behind) }
         ensures parts { self.new.parts.items ≡ ended self.old.parts.items begun.now end }
         ensures few { array_vec_len self.new.parts ≤ array_vec_len self.old.parts + 1 }
     {
@@ -170,8 +235,6 @@ impl SplitFrame {
     {
         let aux = (frame[15] >> pair) % 2;
         let end = 2 * pair + usize::from(aux);
-        self.bytes[2 * pair] = self.bytes[end];
-        self.offsets[2 * pair] = self.offsets[end];
         self.end_part(begun, end as u8);
         Begun {
             source: SourceId::new(frame[2 * pair] / 2),
@@ -179,21 +242,41 @@ impl SplitFrame {
             from: end as u8 + 1,
         }
     }
+}
 
-    /// The run of a part.
+/// The run of a part of a frame.
+#[derive(Drop)]
+pub struct SplitRun<'a> {
+    frame: &'a SplitFrame,
+    part: &'a Part,
+    ghost some: { part.now.from < part.now.end },
+    ghost within: { part.now.end ≤ DATA_BYTES },
+}
+
+impl Run for SplitRun<'_> {
+    ghost use Rattle.source_merge.specs.Split.{run_in};
+
+    ghost cells = { run_in };
+
     #[inline(always)]
-    fn run_of(&self, part: &Part) -> PartRun<'_>
-        requires { (part.now.from < part.now.end) × (part.now.end ≤ 15) }
-        ensures { part_of result ≡ part_cells self.now.offsets self.now.bytes part.now }
-    {
-        let from = usize::from(part.from);
-        let end = usize::from(part.end);
-        PartRun::new(
-            &part.source,
-            part.run,
-            &self.offsets[..end][from..],
-            &self.bytes[from..],
-        )
+    fn len(&self) -> usize {
+        usize::from(self.part.end - self.part.from)
+    }
+
+    #[inline(always)]
+    fn ahead(&self) -> &[u8] {
+        self.frame.bytes_from(self.part.from)
+    }
+
+    #[inline(always)]
+    fn cell(&self, index: usize) -> Cell {
+        let here = usize::from(self.part.from) + index;
+        Cell {
+            at: self.frame.at + u64::from(self.frame.behind[here]),
+            id: self.part.source,
+            run: self.part.run,
+            byte: self.frame.bytes[here],
+        }
     }
 }
 
@@ -214,7 +297,7 @@ impl FrameCells for SplitFrame {
         to: &mut V::To,
     ) -> Option<Stop> {
         for part in self.parts.as_slice() {
-            let run = self.run_of(part);
+            let run = SplitRun { frame: self, part };
             counts.add_run(&part.source, (part.end - part.from) as u64);
             if let Some(stop) = take_run(slots, &part.source, &run, items, out, to) {
                 return Some(stop);

@@ -1,7 +1,7 @@
 //! A step of the port, and the sources in the frame that it ends.
 
 ghost use Rattle.source_merge.specs.declared.slot.TheConstants.{FRAME_ROOM};
-ghost use Rattle.std.specs.Prelude.{◌≡◌, ◌+◌, ◌<◌, ◌≤◌, ◌++◌, ◌∷◌, [], ℕ, List, length, None, true};
+ghost use Rattle.std.specs.Prelude.{◌≡◌, ◌+◌, ◌^◌, ◌<◌, ◌≤◌, ◌++◌, ◌∷◌, [], ℕ, List, length, None, true};
 ghost use Rattle.trace_values.specs.Placed.{Placed, byte_at};
 ghost use Rattle.deformatter.specs.Growth.{goes_on};
 ghost use Rattle.capture_plan.specs.declared.frames.FramesMode.{FramesMode};
@@ -17,12 +17,13 @@ ghost use Rattle.source_merge.specs.Counting.{HasBytes, HasCounted, bytes_counte
 ghost use Rattle.source_merge.specs.Giving.{Gives, GivesTo};
 ghost use Rattle.trace_values.specs.declared.limits.TheConstants.{COUNT_ROOM};
 ghost use Rattle.trace_values.specs.declared.cell.Cell.{Cell};
+ghost use Rattle.source_merge.specs.Gathered.{frame_places};
 ghost use Rattle.source_merge.specs.Stepping.{StepTaken};
 ghost use Rattle.frame_grammar.specs.Frame.{IsProperFrame, cells, id_after};
 ghost use Rattle.deformatter.specs.declared.step.PortStep.TheVariants.{Frame};
 
 use crate::counts::{ByteCounts, Counters, PerSource, add_step};
-use crate::frame::{FrameCells, data_frame};
+use crate::frame::FrameCells;
 use crate::receiver::Receiver;
 use crate::slot::{Slot, give};
 use crate::split::SplitFrame;
@@ -159,6 +160,7 @@ pub fn take_whole<V: Receiver>(
     to: &mut V::To,
 ) -> FrameTaken
     requires proper { IsProperFrame frame.now.bytes }
+    requires near { frame.now.at + 255 < 2 ^ 64 }
     requires live { AllLive is_live slots.old }
     requires room { HaveRoom held_of skipped_by FRAME_ROOM slots.old }
     requires size { size_of counters.old ≤ FRAME_ROOM }
@@ -173,25 +175,18 @@ pub fn take_whole<V: Receiver>(
     ensures space { V.room (out.old, to.old) ≤ V.room (out.new, to.new) + 30 }
     ensures taken { GivesTo V.gets (out.old, to.old) (out.new, to.new) (λ given.
         ((mode : FramesMode) (u : List Placed) (byte : ℕ) → BytesRise 0 at u →
-        Answers mode Frame (cells frame.now.bytes frame.now.offsets id.now) u at byte →
+        Answers mode Frame (cells frame.now.bytes (frame_places frame.now) id.now) u at byte →
         (port_reading mode u).fault ≡ None → AreDistinct (mapped_of reading_of slots.old) →
         AllStand Stands slots.old (runs_in (port_reading mode u)) →
         StepTaken Stands (mapped_of reading_of slots.old) slots.new mode
         (record { before = u; after = u ++ byte_at at byte ∷ []; given = given; stop = result.stop }))
         × ((mode : FramesMode) (u : List Placed) (byte : ℕ) (es : List (Event Packet)) → result.stop ≡ None →
-        Answers mode Frame (cells frame.now.bytes frame.now.offsets id.now) u at byte →
+        Answers mode Frame (cells frame.now.bytes (frame_places frame.now) id.now) u at byte →
         HasCounted counters.old (port_reading mode u) es →
         HasCounted counters.new (port_reading mode (u ++ byte_at at byte ∷ [])) (es ++ given))) }
 {
-    if let Some(data) = data_frame(slots, id, frame) {
-        let stop = take_step(slots, counters, at, PortStep::Frame, &data, out, to);
-        return FrameTaken {
-            after: Some(data.run.source()),
-            stop,
-        };
-    }
-    let mut split = SplitFrame::new(frame);
-    split.take_ids(frame, id);
+    let mut split = SplitFrame::blank(frame.at);
+    split.fill(&frame.bytes, &frame.behind, id);
     let stop = take_step(slots, counters, at, PortStep::Frame, &split, out, to);
     FrameTaken {
         after: split.after(),

@@ -1,5 +1,5 @@
 -- Nibbles that end a packet, read as numbers.
-use Rattle.std.proofs.Common.{◌≡◌, ℕ, zero, suc, ◌+◌, ◌-◌, ◌*◌, ◌<◌, ◌≤◌, List, [], ◌∷◌, length, get_or, refl, sym, ◌∙◌, ap, subst, arith, Bool, true, false, cond}
+use Rattle.std.proofs.Common.{◌≡◌, ℕ, zero, suc, ◌+◌, ◌-◌, ◌*◌, ◌/◌, ◌%◌, ◌^◌, ◌⊎◌, inl, inr, ◌<◌, ◌≤◌, List, [], ◌∷◌, length, get_or, refl, sym, ◌∙◌, ap, subst, arith, Bool, true, false, cond}
 use Rattle.std.specs.Prelude.{◌==◌}
 use Rattle.std.proofs.lemmas.Bool.Decides.{nat_tests}
 use Rattle.trace_values.specs.declared.next.Next.{Next}
@@ -11,13 +11,14 @@ use Rattle.stp_grammar.specs.declared.packet.Row.{Row}
 use Rattle.stp_grammar.specs.declared.packet.StpPacket.{StpPacket}
 use Rattle.stp_grammar.specs.declared.packet.StpPacket.TheVariants.{Stamped}
 use Rattle.stp_grammar.specs.declared.partial.Partial.{Partial}
-use Rattle.stp_grammar.specs.declared.partial.Partial.TheVariants.{Start, Second, Size}
+use Rattle.stp_grammar.specs.declared.partial.Partial.TheVariants.{Start, Second, Third, Size}
 use Rattle.stp_grammar.specs.Opcodes.{Opening, row_at}
 use Rattle.stp_grammar.specs.Rule.{rule, begin, opened}
 use Rattle.stp_codec.specs.Wholes.{between, number_from, Ends, Leaves, left_after, left_by}
+use Rattle.stp_codec.specs.declared.flat.TheConstants.{OPCODES}
 use Rattle.stp_codec.proofs.Between.{between_first, between_none}
-use Rattle.stp_codec.proofs.Finishing.{ends_size, ends_word_at, ends_second, first_is, next_at, some_word}
-use Rattle.stp_codec.proofs.RowTables.{goes, row_goes}
+use Rattle.stp_codec.proofs.Finishing.{ends_size, ends_word_at, ends_second, ends_second_zero, ends_third, ends_late_third, first_is, next_at, some_word}
+use Rattle.stp_codec.proofs.RowTables.{goes, row_goes, number_of_one, number_of_two, number_of_three}
 
 -- what is left of a packet's first nibble
 pub leaves_is : (x : Next Partial StpPacket) (t : Partial) → Leaves x t → left_after x ≡ t
@@ -76,30 +77,77 @@ first_goes b some small = by (b == 15) refl where
       let l : b < 15 = grind (arith, nat_tests) in
       ap goes (first_begins b l) ∙ row_goes b some l
 
--- an opcode of one nibble or of two, by numbers alone
-pub short_opcode : (xs : List ℕ) (first second more start end : ℕ) (packet : StpPacket) → first < 16 → second < 16 →
-    more ≡ cond (first == 15) 1 0 → second ≡ get_or xs start 0 → start < length xs → (16 * first + second ≡ 240 → ⊥) → (16 * first + second ≡ 255 → ⊥) →
-    start + more ≤ end → Ends Msn (begin (row_at (first + second * more - more))) (between xs (start + more) end) packet →
-    Ends Msn (rule Msn Start first) (between xs start end) packet
-short_opcode xs first second more start end packet f s m is here third async h k = by (first == 15) refl where
-  by : (t : Bool) → (first == 15) ≡ t → Ends Msn (rule Msn Start first) (between xs start end) packet
-  by true e =
-      let one : more ≡ 1 = m ∙ ap (λ (t : Bool). cond t 1 0) e in
-      let long : first ≡ 15 = grind (arith, nat_tests) in
-      let number : first + second * more - more ≡ 14 + second = ap (λ (i : ℕ). first + second * i - i) one ∙ omega (arith, long) in
-      subst (λ (i : ℕ). Ends Msn (rule Msn Start i) (between xs start end) packet) (sym long)
-      (next_at Msn Second (begin (row_at (14 + second))) xs start end second packet (omega (arith, one, h)) here is
-      (λ r. ends_second Msn second _ packet (grind (arith, long, third)) (grind (arith, s, long, async)) r)
-      (subst (λ (i : ℕ). Ends Msn (begin (row_at (14 + second))) (between xs (start + i) end) packet) one
-      (subst (λ (i : ℕ). Ends Msn (begin (row_at i)) (between xs (start + more) end) packet) number k)))
-  by false e =
-      let none : more ≡ 0 = m ∙ ap (λ (t : Bool). cond t 1 0) e in
-      let small : first < 15 = grind (arith, nat_tests) in
-      let number : first + second * more - more ≡ first = ap (λ (i : ℕ). first + second * i - i) none ∙ omega arith in
-      let place : start + more ≡ start = omega (arith, none) in
-      subst (λ (x : Next Partial StpPacket). Ends Msn x (between xs start end) packet) (sym (first_begins first small))
-      (subst (λ (i : ℕ). Ends Msn (begin (row_at first)) (between xs i end) packet) place
-      (subst (λ (i : ℕ). Ends Msn (begin (row_at i)) (between xs (start + more) end) packet) number k))
+-- an opcode by the table, of three nibbles, the first the least significant
+module _ (v : ℕ) (r : List ℕ) (start end : ℕ) (packet : StpPacket) (room : start + 1 < length r)
+    (second : v / 16 % 16 ≡ get_or r start 0) (third : v / 256 % 16 ≡ get_or r (start + 1) 0) where
+  -- the number, where so many nibbles are before the opcode's last
+  abbrev number_after : ℕ → ℕ
+  number_after n = get_or OPCODES.now (16 * n + v / 2 ^ (4 * n) % 16) 0
+
+  abbrev Opens : ℕ → Type 0
+  Opens n = number_after n < 35 → start + (n + 1) ≤ end + 1 → Ends Msn (begin (row_at (number_after n))) (between r (start + (n + 1) - 1) end) packet →
+      Ends Msn (rule Msn Start (v % 16)) (between r start end) packet
+
+  moved : (n m i j : ℕ) → n ≡ m → i ≡ j → Ends Msn (begin (row_at n)) (between r i end) packet → Ends Msn (begin (row_at m)) (between r j end) packet
+  moved n m i j a b k =
+      subst (λ (x : ℕ). Ends Msn (begin (row_at m)) (between r x end) packet) b
+      (subst (λ (x : ℕ). Ends Msn (begin (row_at x)) (between r i end) packet) a k)
+
+  at_index : (n i : ℕ) → 16 * n + v / 2 ^ (4 * n) % 16 ≡ i → number_after n ≡ get_or OPCODES.now i 0
+  at_index n i e = ap (λ (k : ℕ). get_or OPCODES.now k 0) e
+
+  opens_one : v % 16 < 15 → Opens 0
+  opens_one h small within k =
+      let n = at_index 0 (v % 16) (omega arith) in
+      subst (λ (x : Next Partial StpPacket). Ends Msn x (between r start end) packet) (sym (first_begins (v % 16) h))
+      (moved (number_after 0) (v % 16) (start + (0 + 1) - 1) start (n ∙ number_of_one (v % 16) h) (omega arith) k)
+
+  opens_two : v % 16 ≡ 15 → (v % 256 ≡ 15 → ⊥) → Opens 1
+  opens_two f z small within k =
+      let b = v / 16 % 16 in
+      let n = at_index 1 (16 + b) (omega arith) in
+      let some : 0 < b = omega (arith, f, z) in
+      let t = number_of_two b some (omega arith) (subst (λ (x : ℕ). x < 35) n small) in
+      subst (λ (i : ℕ). Ends Msn (rule Msn Start i) (between r start end) packet) (sym f)
+      (next_at Msn Second (begin (row_at (14 + b))) r start end b packet (omega (arith, within)) (omega (arith, room)) second
+      (λ q. ends_second Msn b _ packet some t.0 q)
+      (moved (number_after 1) (14 + b) (start + (1 + 1) - 1) (start + 1) (n ∙ t.1) (omega arith) k))
+
+  opens_three : v % 256 ≡ 15 → Opens 2
+  opens_three f small within k =
+      let n = at_index 2 (32 + v / 256 % 16) (omega arith) in
+      let long : v % 16 ≡ 15 = omega (arith, f) in
+      let zero : v / 16 % 16 ≡ 0 = omega (arith, f) in
+      subst (λ (i : ℕ). Ends Msn (rule Msn Start i) (between r start end) packet) (sym long)
+      (next_at Msn Second (Go Third) r start end 0 packet (omega (arith, within)) (omega (arith, room)) (sym zero ∙ second)
+      (λ q. ends_second_zero Msn (between r (start + 1) end) packet q)
+      (by (v / 256 % 16) refl (number_of_three (v / 256 % 16) (omega arith) (subst (λ (x : ℕ). x < 35) n small)) n))
+    where
+      by : (c : ℕ) → v / 256 % 16 ≡ c →
+          ((c < 2) × (get_or OPCODES.now (32 + c) 0 ≡ 29 + c)) ⊎ ((6 ≤ c) × ((c < 10) × (get_or OPCODES.now (32 + c) 0 ≡ 25 + c))) →
+          number_after 2 ≡ get_or OPCODES.now (32 + c) 0 → Ends Msn (Go Third) (between r (start + 1) end) packet
+      by c e (inl t) n =
+          next_at Msn Third (begin (row_at (29 + c))) r (start + 1) end c packet (omega (arith, within)) room (sym e ∙ third)
+          (λ q. ends_third Msn c _ packet t.0 q)
+          (moved (number_after 2) (29 + c) (start + (2 + 1) - 1) (start + 1 + 1) (n ∙ t.1) (omega arith) k)
+      by c e (inr t) n =
+          next_at Msn Third (begin (row_at (25 + c))) r (start + 1) end c packet (omega (arith, within)) room (sym e ∙ third)
+          (λ q. ends_late_third Msn c _ packet t.0 t.1.0 q)
+          (moved (number_after 2) (25 + c) (start + (2 + 1) - 1) (start + 1 + 1) (n ∙ t.1.1) (omega arith) k)
+
+  pub opens : (two three : ℕ) → two ≡ cond (v % 16 == 15) 1 0 → three ≡ cond (v % 256 == 15) 1 0 → Opens (two + three)
+  opens two three e f = by (v % 16 == 15) (v % 256 == 15) refl refl where
+    sum : (s t : Bool) → (v % 16 == 15) ≡ s → (v % 256 == 15) ≡ t → two + three ≡ cond s 1 0 + cond t 1 0
+    sum s t g h = ap (λ (n : ℕ). n + three) (e ∙ ap (λ (x : Bool). cond x 1 0) g) ∙ ap (λ (n : ℕ). cond s 1 0 + n) (f ∙ ap (λ (x : Bool). cond x 1 0) h)
+
+    by : (s t : Bool) → (v % 16 == 15) ≡ s → (v % 256 == 15) ≡ t → Opens (two + three)
+    by false false g h = subst Opens (sym (sum false false g h)) (opens_one (let m : v % 16 < 16 = omega arith in grind (arith, nat_tests)))
+    by true false g h = subst Opens (sym (sum true false g h)) (opens_two (grind (arith, nat_tests)) (grind (arith, nat_tests)))
+    by true true g h = subst Opens (sym (sum true true g h)) (opens_three (grind (arith, nat_tests)))
+    by false true g h =
+        let a : v % 256 ≡ 15 = grind (arith, nat_tests) in
+        let b : v % 16 ≡ 15 = omega (arith, a) in
+        absurd (grind (arith, nat_tests))
 
 -- nothing ends a packet that goes on
 pub some_nibbles : (t : Partial) (xs : List ℕ) (n : ℕ) (packet : StpPacket) → Ends Msn (Go t) (between xs 0 n) packet → 0 < n
@@ -136,3 +184,10 @@ module _ (first nibble start : ℕ) (xs : List ℕ) (n : ℕ) (packet : StpPacke
         left_goes (rule Msn Start first) (first_goes first (is_some e) b) (between xs 0 n) packet
         (subst (λ (i : ℕ). Ends Msn (rule Msn Start first) (between xs i n) packet) z.0
         (subst (λ (i : ℕ). Ends Msn (rule Msn Start i) (between xs start n) packet) z.1 k))
+
+-- where none is before the bytes, an opcode takes one nibble more of them
+pub place_is : (first from n : ℕ) → from ≡ cond (first == 0) 0 1 → 0 < n → cond (first == 0) 1 0 + n - 1 ≡ n - from
+place_is first from n e h = by (first == 0) e where
+  by : (t : Bool) → from ≡ cond t 0 1 → cond t 1 0 + n - 1 ≡ n - from
+  by true f = omega arith
+  by false f = omega arith

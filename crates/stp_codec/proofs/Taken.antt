@@ -1,6 +1,7 @@
 -- What a decoder stands for while bytes wait in it.
-use Rattle.std.proofs.Common.{◌≡◌, ℕ, zero, suc, ◌+◌, ◌-◌, ◌*◌, ◌<◌, ◌≤◌, List, [], ◌∷◌, ◌++◌, length, take, refl, sym, ◌∙◌, ap, subst, arith, Option, None, Some, Bool, true}
-use Rattle.std.specs.Prelude.{IfSome}
+use Rattle.std.proofs.Common.{◌≡◌, ℕ, zero, suc, ◌+◌, ◌-◌, ◌*◌, ◌/◌, ◌<◌, ◌≤◌, List, [], ◌∷◌, ◌++◌, length, take, refl, sym, ◌∙◌, ap, subst, arith, Option, None, Some, Bool, true, false, cond}
+use Rattle.std.specs.Prelude.{IfSome, nat_lt}
+use Rattle.std.proofs.lemmas.Bool.Decides.{nat_tests}
 use Rattle.std.proofs.lemmas.List.{take_all, length-take-le}
 use Rattle.trace_values.specs.declared.next.Next.TheVariants.{Go, End, Fail}
 use Rattle.trace_values.specs.declared.next.Next.{Next}
@@ -14,21 +15,26 @@ use Rattle.stp_grammar.specs.declared.packet.StpPacket.{StpPacket}
 use Rattle.stp_grammar.specs.declared.attribution.Attribution.{Attribution}
 use Rattle.stp_grammar.specs.declared.partial.Partial.{Partial}
 use Rattle.stp_grammar.specs.declared.partial.Partial.TheVariants.{Start}
-use Rattle.stp_grammar.specs.Proper.{IsProper}
+use Rattle.stp_grammar.specs.Proper.{IsProper, IsProperItem}
 use Rattle.stp_grammar.specs.Rule.{rule, count_of}
+use Rattle.stp_grammar.proofs.Beginning.{start_never_fails}
 use Rattle.stp_grammar.proofs.Counting.{counts}
 use Rattle.stp_codec.specs.Reading.{items_in}
-use Rattle.stp_codec.specs.Wholes.{nibbles_in, reached, Fronts, left_after, left_by, item_in, between, Ends}
+use Rattle.stp_codec.specs.Wholes.{nibbles_in, reached, Fronts, left_after, left_by, begun, Leaves, item_in, between, Ends}
 use Rattle.stp_codec.specs.Cuts.{Passes}
 use Rattle.stp_codec.specs.declared.flat.TheConstants.{WINDOW}
 use Rattle.stp_codec.specs.declared.decoder.PacketTaken.{PacketTaken}
 use Rattle.stp_codec.specs.declared.decoder.StpDecoder.{StpDecoder}
-use Rattle.stp_codec.specs.Decoder.{waiting_in, partial_of, StandsWith, Stands, Reads, ReadsAt, order_of, is_hunter, held_of, skipped_by, read_of, is_live, has_locked, Finishes, IsReady, Settles, HoldsAhead, Copies, Idles, TakesPart}
+use Rattle.stp_codec.specs.declared.decoder.StpFound.{StpFound}
+use Rattle.stp_codec.specs.declared.decoder.StpFound.TheVariants.{Ends as EndsIn, Waits, Unknown}
+use Rattle.stp_codec.specs.declared.flat.PacketParts.{PacketParts}
+use Rattle.stp_codec.specs.Parts.{packet_of}
+use Rattle.stp_codec.specs.Decoder.{waiting_in, partial_of, begun_of, BegunAt, IsSettled, StandsWith, Stands, Reads, ReadsAt, order_of, is_hunter, held_of, skipped_by, read_of, is_live, has_locked, Finishes, IsReady, Settles, HoldsAhead, Copies, Idles, TakesPart, Finds}
 use Rattle.stp_codec.proofs.Taking.{At}
 use Rattle.stp_codec.proofs.Between.{length-nibbles}
 use Rattle.stp_codec.proofs.PacketPieces.{take_nibbles}
 use Rattle.stp_codec.proofs.PartPieces.{inside_count, inside_passes}
-use Rattle.stp_codec.proofs.Unread.{nibbles_append, take_fewer, reached_on, fronts_on, reached_none, fewer_front, some_behind, ends_behind}
+use Rattle.stp_codec.proofs.Unread.{nibbles_append, reached_on, fronts_on, reached_none, fewer_front, some_behind, ends_behind}
 
 -- the same in all parts
 stands_as : (d e : StpDecoder) (s t : Partial) → e.order ≡ d.order → e.mode ≡ d.mode → e.live ≡ d.live → e.attribution ≡ d.attribution → t ≡ s →
@@ -41,32 +47,72 @@ stands_as d e s t order mode live attribution same n h =
     (subst (λ (x : Attribution). At d.order d.mode d.live s x n) (sym attribution) h))))
 
 -- where no bytes wait
-pub settled : (d : StpDecoder) → d.waiting ≡ 0 → partial_of d ≡ d.partial
-settled d e = reached_none d.order d.partial d.held d.waiting e
+pub settled : (d : StpDecoder) → d.waiting ≡ 0 → partial_of d ≡ begun_of d
+settled d e = reached_none d.order (begun_of d) d.held d.waiting e
 
-pub to_reads : (d : StpDecoder) → d.waiting ≡ 0 → (u : List Placed) → Stands d u → Reads d u
-to_reads d e u h = subst (λ (p : Partial). StandsWith d p (nibbles_of u)) (settled d e) h
+pub filled : (d : StpDecoder) → IsSettled d → partial_of d ≡ d.partial
+filled d e = settled d e.0 ∙ e.1
 
-pub to_stands : (d : StpDecoder) → d.waiting ≡ 0 → (n : List Placed) → ReadsAt d n → StandsWith d (partial_of d) n
-to_stands d e n h = subst (λ (p : Partial). StandsWith d p n) (sym (settled d e)) h
+pub to_reads : (d : StpDecoder) → IsSettled d → (u : List Placed) → Stands d u → Reads d u
+to_reads d e u h = subst (λ (p : Partial). StandsWith d p (nibbles_of u)) (filled d e) h
 
-pub held_read : (d : StpDecoder) → d.waiting ≡ 0 → held_of d ≡ read_of d
-held_read d e = ap (λ (p : Partial). count_of p) (settled d e)
+pub to_stands : (d : StpDecoder) → IsSettled d → (n : List Placed) → ReadsAt d n → StandsWith d (partial_of d) n
+to_stands d e n h = subst (λ (p : Partial). StandsWith d p n) (sym (filled d e)) h
+
+pub from_begun : (d : StpDecoder) → d.waiting ≡ 0 → (n : List Placed) → BegunAt d n → StandsWith d (partial_of d) n
+from_begun d e n h = subst (λ (p : Partial). StandsWith d p n) (sym (settled d e)) h
+
+pub held_read : (d : StpDecoder) → IsSettled d → held_of d ≡ read_of d
+held_read d e = ap (λ (p : Partial). count_of p) (filled d e)
+
+pub held_begun : (d : StpDecoder) → d.waiting ≡ 0 → held_of d ≡ count_of (begun_of d)
+held_begun d e = ap (λ (p : Partial). count_of p) (settled d e)
+
+-- the first nibble, or more
+pub begun_first : (order : Order) (first : ℕ) (partial : Partial) → first < 16 → begun order first partial ≡ left_by order first
+begun_first order first partial h = ap (λ (t : Bool). cond t (left_by order first) partial) (let e : nat_lt first 16 ≡ true = grind (arith, nat_tests) in e)
+
+pub begun_more : (order : Order) (first : ℕ) (partial : Partial) → (first < 16 → ⊥) → begun order first partial ≡ partial
+begun_more order first partial h = ap (λ (t : Bool). cond t (left_by order first) partial) (let e : nat_lt first 16 ≡ false = grind (arith, nat_tests) in e)
+
+pub begun_again : (order : Order) (first : ℕ) (partial t : Partial) → t ≡ begun order first partial → begun order first t ≡ t
+begun_again order first partial t e = by (nat_lt first 16) e where
+  by : (b : Bool) → t ≡ cond b (left_by order first) partial → cond b (left_by order first) t ≡ t
+  by true f = sym f
+  by false f = refl
+
+-- what is left of a byte: its high nibble, or nothing
+pub begun_left : (order : Order) (half byte : ℕ) (partial : Partial) → byte < 256 → half ≤ 1 → (P : ℕ → Partial → Type 0) →
+    P 0 (left_by order (byte / 16)) → P 1 Start → P half (begun order (byte / 16 * (1 - half)) partial)
+begun_left order zero byte partial small h P a b =
+    subst (P 0) (sym (begun_first order (byte / 16 * (1 - 0)) partial (omega arith)
+    ∙ ap (left_by order) (let e : byte / 16 * (1 - 0) ≡ byte / 16 = omega arith in e))) a
+begun_left order (suc zero) byte partial small h P a b =
+    subst (P 1) (sym (begun_first order (byte / 16 * (1 - 1)) partial (omega arith)
+    ∙ ap (left_by order) (let e : byte / 16 * (1 - 1) ≡ 0 = omega arith in e))) b
+begun_left order (suc (suc n)) byte partial small h P a b = absurd (omega arith)
+
+pub left_leaves : (order : Order) (b : ℕ) → b < 16 → Leaves (rule order Start b) (left_by order b)
+left_leaves order b h = by (rule order Start b) refl where
+  by : (x : Next Partial StpPacket) → rule order Start b ≡ x → Leaves x (left_after x)
+  by (Go t) e = refl
+  by (End v) e = refl
+  by (Fail r) e = absurd (start_never_fails order r b h (sym e))
 
 -- the bytes that wait end nothing
-pub fronts_of : (d : StpDecoder) → Fronts d.order d.partial (nibbles_in (waiting_in d))
+pub fronts_of : (d : StpDecoder) → Fronts d.order (begun_of d) (nibbles_in (waiting_in d))
 fronts_of d = by d.waiting refl where
-  by : (n : ℕ) → d.waiting ≡ n → Fronts d.order d.partial (nibbles_in (waiting_in d))
-  by zero e = subst (λ (k : ℕ). Fronts d.order d.partial (nibbles_in (take k d.held))) (sym e) refl
+  by : (n : ℕ) → d.waiting ≡ n → Fronts d.order (begun_of d) (nibbles_in (waiting_in d))
+  by zero e = subst (λ (k : ℕ). Fronts d.order (begun_of d) (nibbles_in (take k d.held))) (sym e) refl
   by (suc n) e = d.fronts (omega (arith, e))
 
 pub waiting_length : (d : StpDecoder) → length (waiting_in d) ≡ d.waiting
 waiting_length d = (let s = d.size in let f = d.few in length-take-le d.waiting d.held (omega (arith, s, f)))
 
-pub held_count : (d : StpDecoder) → held_of d ≡ read_of d + 2 * d.waiting
+pub held_count : (d : StpDecoder) → held_of d ≡ count_of (begun_of d) + 2 * d.waiting
 held_count d =
     let l = waiting_length d in
-    let k = inside_count d.order d.partial (partial_of d) (waiting_in d) (fronts_of d) in
+    let k = inside_count d.order (begun_of d) (partial_of d) (waiting_in d) (fronts_of d) in
     omega (arith, k, l)
 
 -- a packet's first nibble leaves at most one
@@ -77,8 +123,8 @@ left_count order first = by (rule order Start first) refl where
   by (End v) e = omega arith
   by (Fail r) e = omega arith
 
-pub read_few : (d : StpDecoder) → 0 < d.waiting → read_of d ≤ 1
-read_few d h = subst (λ (p : Partial). count_of p ≤ 1) (d.pending (d.ready h).1) (left_count d.order d.first)
+pub read_few : (d : StpDecoder) → 0 < d.waiting → count_of (begun_of d) ≤ 1
+read_few d h = subst (λ (p : Partial). count_of p ≤ 1) (sym (begun_first d.order d.first d.partial (d.ready h).1)) (left_count d.order d.first)
 
 -- bytes that were read
 module _ (d e : StpDecoder) (s : Settles d e) where
@@ -101,9 +147,10 @@ module _ (d e : StpDecoder) (s : Settles d e) where
 module _ (d e : StpDecoder) (ahead : List ℕ) (c : Copies d e ahead) where
   copies_partial : partial_of e ≡ partial_of d
   copies_partial =
-      ap (λ (o : Order). reached o e.partial (nibbles_in (waiting_in e))) c.order
-      ∙ ap (λ (p : Partial). reached d.order p (nibbles_in (waiting_in e))) c.partial
-      ∙ ap (λ (l : List ℕ). reached d.order d.partial (nibbles_in l)) c.bytes
+      ap (λ (o : Order). reached o (begun o e.first e.partial) (nibbles_in (waiting_in e))) c.order
+      ∙ ap (λ (p : Partial). reached d.order (begun d.order e.first p) (nibbles_in (waiting_in e))) c.partial
+      ∙ ap (λ (f : ℕ). reached d.order (begun d.order f d.partial) (nibbles_in (waiting_in e))) c.first
+      ∙ ap (λ (l : List ℕ). reached d.order (begun_of d) (nibbles_in l)) c.bytes
 
   pub copies_same : (order_of e ≡ order_of d) × (is_hunter e ≡ is_hunter d)
   copies_same = (c.order, ap (λ (m : Mode). hunts m) c.mode)
@@ -145,30 +192,44 @@ module _ (d e f : StpDecoder) (same : (order_of e ≡ order_of d) × (is_hunter 
   idle_parts ahead count None t = tt
   idle_parts ahead count (Some taken) t = idle_part ahead count taken t
 
--- the first bytes of more
-front_passes : (d f : StpDecoder) (ahead : List ℕ) (count n : ℕ) → n ≤ count → (o : Option PacketTaken) → IfSome o (TakesPart d f (take count ahead) n) →
-    (u front : List Placed) (last : Placed) → Stands d u → IfSome o (λ taken. units_of (front ++ last ∷ []) ≡ take taken.bytes ahead →
-    Passes (items_in (order_of d) (is_hunter d)) (Stands f) u front last (item_in taken.half taken.item))
-front_passes d f ahead count n h None t u front last s = tt
-front_passes d f ahead count n h (Some taken) t u front last s =
-    λ e. t.passes u front last s (e ∙ sym (take_fewer taken.bytes count ahead (let b = t.bytes in omega (arith, b.1, h))))
+  pub idle_finds : (ahead : List ℕ) (count : ℕ) (found : StpFound) → Finds e f ahead count found → Finds d f ahead count found
+  idle_finds ahead count (EndsIn parts) h = (h.0, h.1, h.2, idle_idle h.3)
+  idle_finds ahead count Waits h = idle_part ahead count (record { bytes = count; half = 1; item = None }) h
+  idle_finds ahead count Unknown h = idle_idle h
 
-pub part_passes : (d e f : StpDecoder) → (order_of e ≡ order_of d) × (is_hunter e ≡ is_hunter d) → Idles d e →
-    (ahead : List ℕ) (count : ℕ) → count ≤ length ahead → (o : Option PacketTaken) → IfSome o (TakesPart e f (take count ahead) (length (take count ahead))) →
-    (u front : List Placed) (last : Placed) → Stands d u → IfSome o (λ taken. units_of (front ++ last ∷ []) ≡ take taken.bytes ahead →
-    Passes (items_in (order_of d) (is_hunter d)) (Stands f) u front last (item_in taken.half taken.item))
-part_passes d e f same i ahead count within o t u front last s =
-    let l = length-take-le count ahead within in
-    front_passes d f ahead count (length (take count ahead)) (omega (arith, l)) o (idle_parts d e f same i (take count ahead) (length (take count ahead)) o t) u front last s
+-- a packet was found, and nothing was taken
+pub finds_packet : (d : StpDecoder) (ahead : List ℕ) (count : ℕ) (x : PacketParts) → x.number < 35 → x.nibbles ≤ 2 * count → Finishes d ahead x.nibbles (packet_of x) → Finds d d ahead count (EndsIn x)
+finds_packet d ahead count x number within p = (p.some, within, record { number = number; packet = p }, (λ u h. h, refl, refl))
+
+-- what was taken, if anything
+module _ (d f : StpDecoder) (bytes : List ℕ) (count : ℕ) where
+  pub part_bytes : (o : Option PacketTaken) → IfSome o (TakesPart d f bytes count) → IfSome o (λ taken. (0 < taken.bytes) × (taken.bytes ≤ count))
+  part_bytes None t = tt
+  part_bytes (Some taken) t = t.bytes
+
+  pub part_passes : (o : Option PacketTaken) → IfSome o (TakesPart d f bytes count) → (u front : List Placed) (last : Placed) → Stands d u →
+      IfSome o (λ taken. units_of (front ++ last ∷ []) ≡ take taken.bytes bytes →
+      Passes (items_in (order_of d) (is_hunter d)) (Stands f) u front last (item_in taken.half taken.item))
+  part_passes None t u front last s = tt
+  part_passes (Some taken) t u front last s = λ e. t.passes u front last s e
+
+  pub part_fits : (o : Option PacketTaken) → IfSome o (TakesPart d f bytes count) → IfSome o (λ taken. IfSome taken.item IsProperItem)
+  part_fits None t = tt
+  part_fits (Some taken) t = t.fits
+
+  pub part_few : (o : Option PacketTaken) → IfSome o (TakesPart d f bytes count) →
+      IfSome o (λ taken. held_of f + skipped_by f ≤ held_of d + skipped_by d + 2 * taken.bytes)
+  part_few None t = tt
+  part_few (Some taken) t = t.few
 
 pub same_order : (d e : StpDecoder) → (order_of e ≡ order_of d) × (is_hunter e ≡ is_hunter d) → (P : Order → Bool → Type 0) → P (order_of e) (is_hunter e) → P (order_of d) (is_hunter d)
 same_order d e same P h = subst (λ (o : Order). P o (is_hunter d)) same.0 (subst (λ (b : Bool). P (order_of e) b) same.1 h)
 
 -- a packet that can be read at once
 module _ (d : StpDecoder) (r : IsReady d) where
-  parts_ends : (w : List ℕ) (v : StpPacket) → Ends Msn (Go (left_by Msn d.first)) w v → Ends d.order (Go d.partial) w v
+  parts_ends : (w : List ℕ) (v : StpPacket) → Ends Msn (Go (left_by Msn d.first)) w v → Ends d.order (Go (begun_of d)) w v
   parts_ends w v k =
-      subst (λ (t : Partial). Ends d.order (Go t) w v) (d.pending r.first)
+      subst (λ (t : Partial). Ends d.order (Go t) w v) (sym (begun_first d.order d.first d.partial r.first))
       (subst (λ (o : Order). Ends o (Go (left_by o d.first)) w v) (sym r.order) k)
 
   -- where no bytes wait
@@ -204,13 +265,13 @@ module _ (d : StpDecoder) (r : IsReady d) where
     pub held_some : 2 * d.waiting < n
     held_some =
         let l = waiting_length d in
-        let s = some_behind d.order d.partial (waiting_in d) ahead (take 24 d.held) n v few most window (fronts_of d) (parts_ends (between (nibbles_in (take 24 d.held)) 0 n) v k) in
+        let s = some_behind d.order (begun_of d) (waiting_in d) ahead (take 24 d.held) n v few most window (fronts_of d) (parts_ends (between (nibbles_in (take 24 d.held)) 0 n) v k) in
         omega (arith, l, s)
 
     held_ends : Ends d.order (Go (partial_of d)) (between (nibbles_in ahead) 0 (n - 2 * d.waiting)) v
     held_ends =
         subst (λ (i : ℕ). Ends d.order (Go (partial_of d)) (between (nibbles_in ahead) 0 (n - 2 * i)) v) (waiting_length d)
-        (ends_behind d.order d.partial (waiting_in d) ahead (take 24 d.held) n v few most window (fronts_of d) (parts_ends (between (nibbles_in (take 24 d.held)) 0 n) v k))
+        (ends_behind d.order (begun_of d) (waiting_in d) ahead (take 24 d.held) n v few most window (fronts_of d) (parts_ends (between (nibbles_in (take 24 d.held)) 0 n) v k))
 
     pub held_finishes : n - 2 * d.waiting ≤ 2 * length ahead → IsProper v → Finishes d ahead (n - 2 * d.waiting) v
     held_finishes within proper =
@@ -228,17 +289,17 @@ module _ (d : StpDecoder) (ahead : List ℕ) (count : ℕ) (held : HoldsAhead d 
   more_nibbles : nibbles_in (take (d.waiting + count) d.held) ≡ nibbles_in (waiting_in d) ++ nibbles_in (take count ahead)
   more_nibbles = ap nibbles_in held ∙ nibbles_append (waiting_in d) (take count ahead)
 
-  pub more_fronts : Fronts d.order d.partial (nibbles_in (take (d.waiting + count) d.held))
+  pub more_fronts : Fronts d.order (begun_of d) (nibbles_in (take (d.waiting + count) d.held))
   more_fronts =
-      subst (λ (x : List ℕ). Fronts d.order d.partial x) (sym more_nibbles)
-      (fronts_on d.order d.partial (nibbles_in (waiting_in d)) (nibbles_in (take count ahead)) (fronts_of d) fronts)
+      subst (λ (x : List ℕ). Fronts d.order (begun_of d) x) (sym more_nibbles)
+      (fronts_on d.order (begun_of d) (nibbles_in (waiting_in d)) (nibbles_in (take count ahead)) (fronts_of d) fronts)
 
-  more_reached : reached d.order d.partial (nibbles_in (take (d.waiting + count) d.held)) ≡ reached d.order (partial_of d) (nibbles_in (take count ahead))
+  more_reached : reached d.order (begun_of d) (nibbles_in (take (d.waiting + count) d.held)) ≡ reached d.order (partial_of d) (nibbles_in (take count ahead))
   more_reached =
-      ap (λ (x : List ℕ). reached d.order d.partial x) more_nibbles
-      ∙ reached_on d.order d.partial (nibbles_in (waiting_in d)) (nibbles_in (take count ahead)) (fronts_of d)
+      ap (λ (x : List ℕ). reached d.order (begun_of d) x) more_nibbles
+      ∙ reached_on d.order (begun_of d) (nibbles_in (waiting_in d)) (nibbles_in (take count ahead)) (fronts_of d)
 
-  pub more_count : count ≤ length ahead → count_of (reached d.order d.partial (nibbles_in (take (d.waiting + count) d.held))) ≡ held_of d + 2 * count
+  pub more_count : count ≤ length ahead → count_of (reached d.order (begun_of d) (nibbles_in (take (d.waiting + count) d.held))) ≡ held_of d + 2 * count
   more_count within =
       let l = length-take-le count ahead within in
       let k = inside_count d.order (partial_of d) (reached d.order (partial_of d) (nibbles_in (take count ahead))) (take count ahead) fronts in
@@ -247,7 +308,7 @@ module _ (d : StpDecoder) (ahead : List ℕ) (count : ℕ) (held : HoldsAhead d 
 
   pub more_passes : is_live d ≡ true → has_locked d ≡ true → (u front : List Placed) (last : Placed) → Stands d u → units_of (front ++ last ∷ []) ≡ take count ahead →
       Passes (items_in (order_of d) (is_hunter d))
-      (λ w. At d.order d.mode d.live (reached d.order d.partial (nibbles_in (take (d.waiting + count) d.held))) d.attribution (nibbles_of w)) u front last None
+      (λ w. At d.order d.mode d.live (reached d.order (begun_of d) (nibbles_in (take (d.waiting + count) d.held))) d.attribution (nibbles_of w)) u front last None
   more_passes live locked u front last s e =
       let t = reached d.order (partial_of d) (nibbles_in (take count ahead)) in
       subst (λ (p : Partial). Passes (items_in (order_of d) (is_hunter d)) (λ w. At d.order d.mode d.live p d.attribution (nibbles_of w)) u front last None) (sym more_reached)

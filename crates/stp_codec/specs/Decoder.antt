@@ -1,5 +1,5 @@
 -- What a decoder stands for, and what it shows.
-use Rattle.std.specs.Prelude.{◌≡◌, ℕ, ◌+◌, ◌*◌, ◌<◌, ◌≤◌, List, [], ◌∷◌, ◌++◌, length, take, Bool, true, IfSome}
+use Rattle.std.specs.Prelude.{◌≡◌, ℕ, ◌+◌, ◌*◌, ◌<◌, ◌≤◌, List, [], ◌∷◌, ◌++◌, length, take, Bool, true, None, IfSome}
 use Rattle.trace_values.specs.declared.next.Next.TheVariants.{Go}
 use Rattle.trace_values.specs.declared.step.Step.{Step}
 use Rattle.trace_values.specs.declared.step.Step.TheVariants.{Item, Locked}
@@ -18,21 +18,27 @@ use Rattle.stp_grammar.specs.Proper.{IsProper, IsProperItem}
 use Rattle.stp_grammar.specs.Rule.{rule, count_of}
 use Rattle.stp_grammar.specs.Attributed as attributed
 use Rattle.stp_codec.specs.Reading.{pattern, packets_of, items_in}
-use Rattle.stp_codec.specs.Wholes.{Ends, between, nibbles_in, reached, item_in}
+use Rattle.stp_codec.specs.Wholes.{Ends, between, nibbles_in, reached, item_in, begun}
 use Rattle.stp_codec.specs.Cuts.{Passes}
 use Rattle.stp_codec.specs.Parts.{packet_of}
 use Rattle.stp_codec.specs.declared.flat.PacketParts.{PacketParts}
 use Rattle.stp_codec.specs.declared.flat.TheConstants.{WINDOW}
 use Rattle.stp_codec.specs.declared.decoder.PacketTaken.{PacketTaken}
 use Rattle.stp_codec.specs.declared.decoder.StpDecoder.{StpDecoder}
+use Rattle.stp_codec.specs.declared.decoder.StpFound.{StpFound}
+use Rattle.stp_codec.specs.declared.decoder.StpFound.TheVariants.{Ends as EndsIn, Waits, Unknown}
 
 -- the bytes that it took and has not read
 abbrev pub waiting_in : StpDecoder → List ℕ
 waiting_in decoder = take decoder.waiting decoder.held
 
+-- the unfinished packet without the bytes that wait
+abbrev pub begun_of : StpDecoder → Partial
+begun_of decoder = begun decoder.order decoder.first decoder.partial
+
 -- the unfinished packet
 abbrev pub partial_of : StpDecoder → Partial
-partial_of decoder = reached decoder.order decoder.partial (nibbles_in (waiting_in decoder))
+partial_of decoder = reached decoder.order (begun_of decoder) (nibbles_in (waiting_in decoder))
 
 -- With this unfinished packet its parts are those of this list of nibbles: before its lock how far the hunt has come;
 -- else whether the reading has no fault, and the unfinished packet; and what the packets so far say of the next item.
@@ -49,7 +55,15 @@ StandsAt decoder n = StandsWith decoder (partial_of decoder) n
 abbrev pub Stands : StpDecoder → List Placed → Type 0
 Stands decoder u = StandsAt decoder (nibbles_of u)
 
--- It stands for this list of nibbles by what it has read, where no bytes wait.
+-- without the bytes that wait
+abbrev pub BegunAt : StpDecoder → List Placed → Type 0
+BegunAt decoder n = StandsWith decoder (begun_of decoder) n
+
+-- no bytes wait, and its state says what is unfinished, also where that is one nibble
+abbrev pub IsSettled : StpDecoder → Type 0
+IsSettled decoder = (decoder.waiting ≡ 0) × (begun_of decoder ≡ decoder.partial)
+
+-- It stands for this list of nibbles by its state, where it is settled.
 abbrev pub ReadsAt : StpDecoder → List Placed → Type 0
 ReadsAt decoder n = StandsWith decoder decoder.partial n
 
@@ -115,7 +129,7 @@ pub record Settles (old new : StpDecoder) : Type 0 where
   pub live : new.live ≡ old.live
   pub attribution : new.attribution ≡ old.attribution
   pub partial : new.partial ≡ partial_of old
-  pub none : new.waiting ≡ 0
+  pub none : IsSettled new
 
 -- the first `more` of these bytes are behind those that wait
 abbrev pub HoldsAhead : StpDecoder → List ℕ → ℕ → Type 0
@@ -153,3 +167,11 @@ pub record TakesPart (old new : StpDecoder) (ahead : List ℕ) (count : ℕ) (ta
       Passes (items_in (order_of old) (is_hunter old)) (Stands new) u front last (item_in taken.half taken.item)
   pub fits : IfSome taken.item IsProperItem
   pub few : held_of new + skipped_by new ≤ held_of old + skipped_by old + 2 * taken.bytes
+
+-- What was found of the first `count` of these bytes: a packet that ends in them, and nothing was taken; or all of them
+-- were taken, which are within one; or nothing is known of them, and nothing was taken.
+abbrev pub Finds : StpDecoder → StpDecoder → List ℕ → ℕ → StpFound → Type 0
+Finds old new ahead count (EndsIn parts) =
+    (0 < parts.nibbles) × (parts.nibbles ≤ 2 * count) × FinishesParts new ahead parts × Idles old new
+Finds old new ahead count Waits = TakesPart old new ahead count (record { bytes = count; half = 1; item = None })
+Finds old new ahead count Unknown = Idles old new

@@ -1,5 +1,5 @@
 -- Nibbles of a piece that end a packet.
-use Rattle.std.specs.Prelude.{◌≡◌, ℕ, ◌-◌, ◌/◌, ◌%◌, ◌+◌, List, [], ◌∷◌, take, drop, flat_map, ◌==◌, if◌then◌else◌}
+use Rattle.std.specs.Prelude.{◌≡◌, ℕ, nat_lt, ◌-◌, ◌/◌, ◌%◌, ◌+◌, List, [], ◌∷◌, take, drop, flat_map, ◌==◌, if◌then◌else◌}
 use Rattle.std.specs.Prelude.{Option, None, Some}
 use Rattle.trace_values.specs.declared.next.Next.{Next}
 use Rattle.trace_values.specs.declared.next.Next.TheVariants.{Go, End, Fail}
@@ -84,3 +84,8 @@ left_after (Fail reason) = Start
 
 abbrev pub left_by : Order → ℕ → Partial
 left_by order first = left_after (rule order Start first)
+
+-- The unfinished packet without the bytes that wait, of which this is the first nibble where it has no more (0 where it
+-- has none), and this the state where it has.
+abbrev pub begun : Order → ℕ → Partial → Partial
+begun order first partial = if nat_lt first 16 then left_by order first else partial

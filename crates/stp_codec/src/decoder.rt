@@ -5,7 +5,7 @@ ghost use Rattle.trace_values.specs.Moded.{is_counted, is_locked};
 ghost use Rattle.stp_grammar.specs.Rule.{is_sound};
 ghost use Rattle.stp_codec.specs.Reading.{pattern};
 ghost use Rattle.stp_grammar.specs.declared.packet.Order.TheVariants.{Msn};
-ghost use Rattle.stp_codec.specs.Wholes.{item_in, left_by, nibbles_in, Fronts};
+ghost use Rattle.stp_codec.specs.Wholes.{item_in, begun, nibbles_in, Fronts};
 ghost use Rattle.stp_codec.specs.declared.flat.TheConstants.{WINDOW};
 ghost use Rattle.trace_values.specs.declared.limits.TheConstants.{COUNT_ROOM};
 ghost use Rattle.stp_codec.specs.declared.decoder.TheConstants.{ROOM};
@@ -37,13 +37,13 @@ const ROOM: usize = 64;
 /// A decoder of STP packets. It keeps what it needs of the one unfinished packet, and what the packets so far say of
 /// the next item.
 ///
-/// Where `take_part` is given only some bytes of a packet, they wait in it unread, so that the packet is read at once
+/// Where `find_part` is given only some bytes of a packet, they wait in it unread, so that the packet is read at once
 /// when the others come.
 #[derive(Debug, Drop)]
 pub struct StpDecoder {
     order: Order,
     mode: Mode,
-    /// The unfinished packet without the bytes that wait.
+    /// The unfinished packet without the bytes that wait, where it has more than one nibble; else of no account.
     partial: Partial,
     /// The first nibble of the unfinished packet where that has no more, 0 where there is none, and else `MANY`.
     first: u8,
@@ -53,13 +53,24 @@ pub struct StpDecoder {
     held: [u8; ROOM],
     /// How many bytes wait.
     waiting: usize,
-    ghost pending: { first < 16 → left_by order first ≡ partial },
-    ghost sound: { is_sound partial ≡ true },
+    ghost sound: { is_sound (begun order first partial) ≡ true },
     ghost counted: { is_counted pattern mode ≡ true },
     ghost size: { length held ≡ ROOM },
     ghost few: { waiting ≤ WINDOW },
     ghost ready: { 0 < waiting → (order ≡ Msn) × (first < 16) × (is_locked mode ≡ true) },
-    ghost fronts: { 0 < waiting → Fronts order partial (nibbles_in (take waiting held)) },
+    ghost fronts: { 0 < waiting →
+        Fronts order (begun order first partial) (nibbles_in (take waiting held)) },
+}
+
+/// What the front of bytes is to the unfinished packet.
+#[derive(Clone, Copy, Debug, PartialEq, Eq, Drop)]
+pub enum StpFound {
+    /// They end a packet of these parts.
+    Ends(PacketParts),
+    /// All of them were taken: they are within a packet.
+    Waits,
+    /// Nothing is known of them: they are read another way.
+    Unknown,
 }
 
 /// What was taken of a packet at once.
@@ -90,8 +101,10 @@ impl StpDecoder {
     ghost use Rattle.trace_values.specs.Placed.{byte_at};
     ghost use Rattle.trace_values.specs.Nibbles.{nibbles_of};
     ghost use Rattle.stp_codec.specs.Decoder.{Stands, ReadsAt, Reads, order_of, is_hunter, is_live, has_locked};
-    ghost use Rattle.stp_codec.specs.Decoder.{partial_of, read_of, Settles, Copies, HoldsAhead, IsReady, Idles};
-    ghost use Rattle.stp_codec.specs.Decoder.{TakesPart};
+    ghost use Rattle.stp_codec.specs.Decoder.{partial_of, begun_of, read_of, BegunAt, IsSettled, Settles, Copies};
+    ghost use Rattle.stp_codec.specs.Decoder.{HoldsAhead, IsReady, Idles};
+    ghost use Rattle.stp_codec.specs.Decoder.{TakesPart, Finds};
+    ghost use Rattle.stp_codec.specs.declared.decoder.StpFound.TheVariants.{Ends, Waits, Unknown};
     ghost use Rattle.stp_codec.specs.Decoder.{held_of, skipped_by, nibble_at, EndsItem, Finishes, FinishesParts};
 
     /// A decoder of bytes that begin with a packet, whose numbers have their nibbles in this order.
@@ -134,16 +147,16 @@ impl StpDecoder {
         }
     }
 
-    /// Takes the next nibble, which is this half of the byte at this offset. No bytes wait.
+    /// Takes the next nibble, which is this half of the byte at this offset. It is settled.
     #[inline]
     fn take_nibble(&mut self, at: u64, half: u8, nibble: u8) -> Step<StpItem>
         requires live { is_live self.old ≡ true }
         requires room { read_of self.old ≤ COUNT_ROOM + 1 }
         requires count { skipped_by self.old ≤ COUNT_ROOM + 1 }
         requires nibble { nibble < 16 }
-        requires settled { self.old.waiting ≡ 0 }
+        requires settled { IsSettled self.old }
         ensures same { (order_of self.new ≡ order_of self.old) × (is_hunter self.new ≡ is_hunter self.old) }
-        ensures settled { self.new.waiting ≡ 0 }
+        ensures settled { IsSettled self.new }
         ensures list { (n : List Placed) → ReadsAt self.old n →
             ReadsAt self.new (n ++ nibble_at at half nibble ∷ []) }
         ensures step { (n : List Placed) → ReadsAt self.old n →
@@ -252,16 +265,17 @@ impl StpDecoder {
         ensures { IfSome result (λ x. Finishes self.now piece.now x.0 x.1) }
     {
         if self.waiting == 0 && self.mode.is_locked() {
-            whole_packet(self.order, self.partial, piece)
+            whole_packet(self.order, self.unfinished(), piece)
         } else {
             None
         }
     }
 
     /// The unfinished packet with this byte, where the reading has begun and both nibbles are inside a payload or a
-    /// timestamp's word.
+    /// timestamp's word. It is settled.
     #[inline(always)]
     fn next_inside(&self, byte: u8) -> Option<Partial>
+        requires settled { IsSettled self.now }
         ensures locked { IfSome result (λ t. has_locked self.now ≡ true) }
         ensures goes { IfSome result (λ t. GoesTwice (order_of self.now) self.now.partial byte t) }
         ensures sound { IfSome result (λ t. is_sound t ≡ true) }
@@ -280,22 +294,20 @@ impl StpDecoder {
         requires live { is_live self.old ≡ true }
         requires locked { has_locked self.old ≡ true }
         requires settled { self.old.waiting ≡ 0 }
-        requires start { self.old.partial ≡ Start }
+        requires half { half ≤ 1 }
+        requires start { self.old.first ≡ 0 }
         requires count { skipped_by self.old ≤ COUNT_ROOM }
         ensures same { (order_of self.new ≡ order_of self.old) × (is_hunter self.new ≡ is_hunter self.old) }
         ensures settled { self.new.waiting ≡ 0 }
-        ensures list { (at : ℕ) (n : List Placed) → ReadsAt self.old n →
-            ReadsAt self.new (n ++ left_of half at byte) }
-        ensures quiet { (at : ℕ) (n : List Placed) → ReadsAt self.old n →
+        ensures list { (at : ℕ) (n : List Placed) → BegunAt self.old n →
+            BegunAt self.new (n ++ left_of half at byte) }
+        ensures quiet { (at : ℕ) (n : List Placed) → BegunAt self.old n →
             IsQuiet (items_at (order_of self.old) (is_hunter self.old) n)
             (items_at (order_of self.old) (is_hunter self.old) (n ++ left_of half at byte)) }
         ensures live { is_live self.new ≡ true }
-        ensures few { (read_of self.new ≤ 1) × (skipped_by self.new ≡ skipped_by self.old) }
+        ensures few { (count_of (begun_of self.new) ≤ 1) × (skipped_by self.new ≡ skipped_by self.old) }
     {
-        if half == 0 {
-            self.partial = after_first(byte / 16);
-            self.first = byte / 16;
-        }
+        self.first = byte / 16 * (1 - half);
     }
 
     /// Takes the packet that these bytes finish with so many of their nibbles, wherever they are, and what is left of
@@ -319,7 +331,6 @@ impl StpDecoder {
     {
         let last = (nibbles - 1) / 2;
         let half = ((nibbles - 1) % 2) as u8;
-        self.partial = Partial::Start;
         self.first = 0;
         self.waiting = 0;
         let item = self.attribution.take(packet);
@@ -331,28 +342,44 @@ impl StpDecoder {
         }
     }
 
-    /// Reads the bytes that wait. It has room for their nibbles.
+    /// The unfinished packet without the bytes that wait.
+    #[inline(always)]
+    fn unfinished(&self) -> Partial
+        ensures value { result ≡ begun_of self.now }
+        ensures sound { is_sound result ≡ true }
+    {
+        if self.first < MANY {
+            after_first(self.first)
+        } else {
+            self.partial
+        }
+    }
+
+    /// Settles it: the bytes that wait are read, and the state of the unfinished packet is kept also where it has one
+    /// nibble or none. It has room for their nibbles.
     #[inline]
     fn settle(&mut self)
         requires room { held_of self.old ≤ COUNT_ROOM }
         ensures { Settles self.old self.new }
     {
         if self.waiting > 0 {
-            self.partial = with_bytes(self.order, self.partial, &self.held[..self.waiting]);
+            self.partial = with_bytes(self.order, self.unfinished(), &self.held[..self.waiting]);
             self.first = MANY;
             self.waiting = 0;
+        } else {
+            self.partial = self.unfinished();
         }
     }
 
     /// Takes bytes at once, wherever they are: those within the unfinished packet up to the one in which it ends, with
-    /// all of that byte, or all of them. It is live, has room for all their nibbles, and no bytes wait.
+    /// all of that byte, or all of them. It is live, has room for all their nibbles, and is settled.
     ///
     /// None where the reading has not begun, where a nibble is a fault, and of no bytes.
     #[inline(always)]
     fn take_settled(&mut self, bytes: &[u8]) -> Option<PacketTaken>
         requires live { is_live self.old ≡ true }
         requires room { held_of self.old + skipped_by self.old + 2 * length bytes.now ≤ COUNT_ROOM }
-        requires settled { self.old.waiting ≡ 0 }
+        requires settled { IsSettled self.old }
         ensures same { (order_of self.new ≡ order_of self.old) × (is_hunter self.new ≡ is_hunter self.old) }
         ensures live { is_live self.new ≡ true }
         ensures some { IfSome result (TakesPart self.old self.new bytes.now (length bytes.now)) }
@@ -375,20 +402,6 @@ impl StpDecoder {
         }
     }
 
-    /// Takes bytes as `take_settled` does, and first reads those that wait.
-    #[inline(never)]
-    fn take_slowly(&mut self, bytes: &[u8]) -> Option<PacketTaken>
-        requires live { is_live self.old ≡ true }
-        requires room { held_of self.old + skipped_by self.old + 2 * length bytes.now ≤ COUNT_ROOM }
-        ensures same { (order_of self.new ≡ order_of self.old) × (is_hunter self.new ≡ is_hunter self.old) }
-        ensures live { is_live self.new ≡ true }
-        ensures some { IfSome result (TakesPart self.old self.new bytes.now (length bytes.now)) }
-        ensures none { result ≡ None → Idles self.old self.new }
-    {
-        self.settle();
-        self.take_settled(bytes)
-    }
-
     /// Copies bytes behind those that wait.
     #[inline(always)]
     fn hold(&mut self, ahead: &[u8])
@@ -401,7 +414,7 @@ impl StpDecoder {
 
     /// Lets the first `count` of these bytes wait. They are behind those that wait already, and within the packet.
     #[inline(always)]
-    fn wait(&mut self, _ahead: &[u8], count: usize) -> PacketTaken
+    fn wait(&mut self, _ahead: &[u8], count: usize) -> StpFound
         requires live { is_live self.old ≡ true }
         requires ready { IsReady self.old }
         requires some { 0 < count }
@@ -411,102 +424,75 @@ impl StpDecoder {
         requires fronts { Fronts (order_of self.old) (partial_of self.old) (nibbles_in (take count _ahead.now)) }
         ensures same { (order_of self.new ≡ order_of self.old) × (is_hunter self.new ≡ is_hunter self.old) }
         ensures live { is_live self.new ≡ true }
-        ensures part { TakesPart self.old self.new _ahead.now count result }
+        ensures found { Finds self.old self.new _ahead.now count result }
     {
         self.waiting += count;
-        PacketTaken {
-            bytes: count,
-            half: 1,
-            item: None,
-        }
+        StpFound::Waits
     }
 
-    /// Takes the first `count` of these bytes at once, where no bytes wait. None says nothing of them.
+    /// Finds what the first `count` of these bytes are, where no bytes wait.
     #[inline(always)]
-    fn take_fresh(&mut self, ahead: &[u8], count: usize) -> Option<PacketTaken>
+    fn find_fresh(&mut self, ahead: &[u8], count: usize) -> StpFound
         requires live { is_live self.old ≡ true }
         requires ready { IsReady self.old }
         requires settled { self.old.waiting ≡ 0 }
         requires some { 0 < count }
-        requires room { skipped_by self.old ≤ COUNT_ROOM }
         requires ahead { count + WINDOW ≤ length ahead.now }
         ensures same { (order_of self.new ≡ order_of self.old) × (is_hunter self.new ≡ is_hunter self.old) }
         ensures live { is_live self.new ≡ true }
-        ensures some { IfSome result (TakesPart self.old self.new ahead.now count) }
-        ensures none { result ≡ None → Idles self.old self.new }
+        ensures found { Finds self.old self.new ahead.now count result }
     {
-        let parts = parts_from_first(self.first, ahead)?;
+        let Some(parts) = parts_from_first(self.first, ahead) else {
+            return StpFound::Unknown;
+        };
         if parts.nibbles <= 2 * count {
-            return Some(self.finish_packet(ahead, parts.nibbles, parts.packet()));
+            return StpFound::Ends(parts);
         }
         if count >= WINDOW {
-            return None;
+            return StpFound::Unknown;
         }
         self.hold(ahead);
-        Some(self.wait(ahead, count))
+        self.wait(ahead, count)
     }
 
-    /// Takes the first `count` of these bytes at once, which are behind those that wait. None says nothing of them.
+    /// Finds what the first `count` of these bytes are, which are behind those that wait.
     #[inline(always)]
-    fn take_held(&mut self, ahead: &[u8], count: usize) -> Option<PacketTaken>
+    fn find_held(&mut self, ahead: &[u8], count: usize) -> StpFound
         requires live { is_live self.old ≡ true }
         requires ready { IsReady self.old }
-        requires wait { 0 < self.old.waiting }
         requires some { 0 < count }
-        requires room { skipped_by self.old ≤ COUNT_ROOM }
         requires ahead { count + WINDOW ≤ length ahead.now }
         requires held { (more : ℕ) → more ≤ WINDOW → HoldsAhead self.old ahead.now more }
         ensures same { (order_of self.new ≡ order_of self.old) × (is_hunter self.new ≡ is_hunter self.old) }
         ensures live { is_live self.new ≡ true }
-        ensures some { IfSome result (TakesPart self.old self.new ahead.now count) }
-        ensures none { result ≡ None → Idles self.old self.new }
+        ensures found { Finds self.old self.new ahead.now count result }
     {
-        let parts = parts_from_first(self.first, &self.held[..WINDOW])?;
+        let Some(parts) = parts_from_first(self.first, &self.held[..WINDOW]) else {
+            return StpFound::Unknown;
+        };
         let before = 2 * self.waiting;
         if parts.nibbles <= before + 2 * count {
-            Some(self.finish_packet(ahead, parts.nibbles - before, parts.packet()))
-        } else {
-            Some(self.wait(ahead, count))
+            return StpFound::Ends(parts.after(before));
         }
+        self.wait(ahead, count)
     }
 
-    /// Takes the first `count` of these bytes at once. None says nothing of them.
+    /// Finds what the first `count` of these bytes are, where a packet that begins or has begun can be read as numbers.
     #[inline(always)]
-    fn take_ready(&mut self, ahead: &[u8], count: usize) -> Option<PacketTaken>
+    fn find_ready(&mut self, ahead: &[u8], count: usize) -> StpFound
         requires live { is_live self.old ≡ true }
         requires ready { IsReady self.old }
         requires some { 0 < count }
-        requires room { skipped_by self.old ≤ COUNT_ROOM }
         requires ahead { count + WINDOW ≤ length ahead.now }
         ensures same { (order_of self.new ≡ order_of self.old) × (is_hunter self.new ≡ is_hunter self.old) }
         ensures live { is_live self.new ≡ true }
-        ensures some { IfSome result (TakesPart self.old self.new ahead.now count) }
-        ensures none { result ≡ None → Idles self.old self.new }
+        ensures found { Finds self.old self.new ahead.now count result }
     {
         if self.waiting == 0 {
-            return self.take_fresh(ahead, count);
+            return self.find_fresh(ahead, count);
         }
         self.hold(ahead);
-        self.take_held(ahead, count)
-    }
-
-    /// Takes the first `count` of these bytes at once, where a packet that begins or has begun can be read as numbers.
-    /// None says nothing of them.
-    #[inline(always)]
-    fn take_at_once(&mut self, ahead: &[u8], count: usize) -> Option<PacketTaken>
-        requires live { is_live self.old ≡ true }
-        requires room { skipped_by self.old ≤ COUNT_ROOM }
-        requires ahead { count + WINDOW ≤ length ahead.now }
-        ensures same { (order_of self.new ≡ order_of self.old) × (is_hunter self.new ≡ is_hunter self.old) }
-        ensures live { is_live self.new ≡ true }
-        ensures some { IfSome result (TakesPart self.old self.new ahead.now count) }
-        ensures none { result ≡ None → Idles self.old self.new }
-    {
-        if count > 0 && self.is_ready() {
-            self.take_ready(ahead, count)
-        } else {
-            None
-        }
+        self.find_held(ahead, count)
     }
 
     /// A packet that begins or has begun can be read as numbers: most significant nibbles come first, at most one of
@@ -521,20 +507,70 @@ impl StpDecoder {
         }
     }
 
-    /// Takes the first `count` of these bytes at once, wherever they are: those within the unfinished packet up to the
-    /// one in which it ends, with all of that byte, or all of them. What the bytes after them are is of no account,
-    /// but there are `WINDOW` of them, more than the longest packet has. It is live, and has room for the nibbles.
+    /// Finds at once what the first `count` of these bytes are, wherever they are: they end the unfinished packet, or
+    /// all of them are taken. What the bytes after them are is of no account, but there are `WINDOW` of them, more than
+    /// the longest packet has. It is live.
     ///
-    /// None where the reading has not begun, where a nibble is a fault, and of no bytes: then it stands as before.
+    /// A packet that ends is not taken: `end_part` does that, given the same bytes. `Unknown` says nothing of them, and
+    /// it stands as before: `take_part` reads them.
     #[inline(always)]
-    pub fn take_part(&mut self, ahead: &[u8], count: usize) -> Option<PacketTaken>
+    pub fn find_part(&mut self, ahead: &[u8], count: usize) -> StpFound
         requires live { is_live self.old ≡ true }
-        requires room { held_of self.old + skipped_by self.old + 2 * count ≤ COUNT_ROOM }
         requires ahead { count + WINDOW ≤ length ahead.now }
         ensures same { (order_of self.new ≡ order_of self.old) × (is_hunter self.new ≡ is_hunter self.old) }
-        ensures bytes { IfSome result (λ taken. (0 < taken.bytes) × (taken.bytes ≤ count)) }
+        ensures live { is_live self.new ≡ true }
+        ensures nibbles { (parts : PacketParts) → result ≡ Ends parts →
+            (0 < parts.nibbles) × (parts.nibbles ≤ 2 * count) }
+        ensures ends { (parts : PacketParts) → result ≡ Ends parts → FinishesParts self.new ahead.now parts }
+        ensures idles { (parts : PacketParts) → result ≡ Ends parts → Idles self.old self.new }
+        ensures waits { result ≡ Waits → (0 < count) × (held_of self.new + skipped_by self.new ≤
+            held_of self.old + skipped_by self.old + 2 * count) }
+        ensures passes { (u front : List Placed) (last : Placed) → Stands self.old u → result ≡ Waits →
+            units_of (front ++ last ∷ []) ≡ take count ahead.now →
+            Passes (items_in (order_of self.old) (is_hunter self.old)) (Stands self.new) u front last None }
+        ensures unknown { result ≡ Unknown → Idles self.old self.new }
+    {
+        if count > 0 && self.is_ready() {
+            self.find_ready(ahead, count)
+        } else {
+            StpFound::Unknown
+        }
+    }
+
+    /// Takes the packet of these parts that `find_part` found in these bytes, with all of the byte in which it ends. It
+    /// is live.
+    #[inline(always)]
+    pub fn end_part(&mut self, ahead: &[u8], parts: PacketParts) -> PacketTaken
+        requires live { is_live self.old ≡ true }
+        requires room { skipped_by self.old ≤ COUNT_ROOM }
+        requires next { FinishesParts self.old ahead.now parts }
+        ensures same { (order_of self.new ≡ order_of self.old) × (is_hunter self.new ≡ is_hunter self.old) }
+        ensures bytes { (0 < result.bytes) × (2 * result.bytes ≤ parts.nibbles + 1) }
         ensures passes { (u front : List Placed) (last : Placed) → Stands self.old u →
-            IfSome result (λ taken. units_of (front ++ last ∷ []) ≡ take taken.bytes ahead.now →
+            units_of (front ++ last ∷ []) ≡ take result.bytes ahead.now →
+            Passes (items_in (order_of self.old) (is_hunter self.old)) (Stands self.new) u front last
+            (item_in result.half result.item) }
+        ensures live { is_live self.new ≡ true }
+        ensures fits { IfSome result.item IsProperItem }
+        ensures few { held_of self.new + skipped_by self.new ≤
+            held_of self.old + skipped_by self.old + 2 * result.bytes }
+    {
+        self.finish_packet(ahead, parts.nibbles, parts.packet())
+    }
+
+    /// Takes bytes, wherever they are: those within the unfinished packet up to the one in which it ends, with all of
+    /// that byte, or all of them. It is live, and has room for the nibbles. The bytes that wait are read first. Where
+    /// `find_part` knows what the bytes are, that is faster.
+    ///
+    /// None where the reading has not begun, where a nibble is a fault, and of no bytes: then it stands as before.
+    #[inline(never)]
+    pub fn take_part(&mut self, bytes: &[u8]) -> Option<PacketTaken>
+        requires live { is_live self.old ≡ true }
+        requires room { held_of self.old + skipped_by self.old + 2 * length bytes.now ≤ COUNT_ROOM }
+        ensures same { (order_of self.new ≡ order_of self.old) × (is_hunter self.new ≡ is_hunter self.old) }
+        ensures bytes { IfSome result (λ taken. (0 < taken.bytes) × (taken.bytes ≤ length bytes.now)) }
+        ensures passes { (u front : List Placed) (last : Placed) → Stands self.old u →
+            IfSome result (λ taken. units_of (front ++ last ∷ []) ≡ take taken.bytes bytes.now →
             Passes (items_in (order_of self.old) (is_hunter self.old)) (Stands self.new) u front last
             (item_in taken.half taken.item)) }
         ensures live { is_live self.new ≡ true }
@@ -544,10 +580,8 @@ impl StpDecoder {
         ensures none { result ≡ None → ((u : List Placed) → Stands self.old u → Stands self.new u)
             × (held_of self.new ≡ held_of self.old) × (skipped_by self.new ≡ skipped_by self.old) }
     {
-        match self.take_at_once(ahead, count) {
-            Some(taken) => Some(taken),
-            None => self.take_slowly(&ahead[..count]),
-        }
+        self.settle();
+        self.take_settled(bytes)
     }
 
     /// Takes the packet that the bytes finish, whose first is at this offset, and what is left of the byte in which
@@ -572,10 +606,10 @@ impl StpDecoder {
         Some(self.finish_packet(piece, nibbles, packet))
     }
 
-    /// Takes the next byte, as `feed` does. No bytes wait.
+    /// Takes the next byte, as `feed` does. It is settled.
     #[inline]
     fn feed_settled(&mut self, at: u64, byte: u8) -> Step<StpItem>
-        requires settled { self.old.waiting ≡ 0 }
+        requires settled { IsSettled self.old }
         requires live { is_live self.old ≡ true }
         requires room { read_of self.old ≤ COUNT_ROOM }
         requires count { skipped_by self.old ≤ COUNT_ROOM }
@@ -585,7 +619,7 @@ impl StpDecoder {
         ensures step { (u : List Placed) → Reads self.old u →
             Grows (items_in (order_of self.old) (is_hunter self.old) u)
             (items_in (order_of self.old) (is_hunter self.old) (u ++ byte_at at byte ∷ [])) at result }
-        ensures settled { self.new.waiting ≡ 0 }
+        ensures settled { IsSettled self.new }
         ensures live { is_live self.new ≡ goes_on result }
         ensures lock { LocksAfter (skipped_by self.new) result }
         ensures fits { StepFits IsProperItem result }
@@ -777,9 +811,9 @@ impl Machine for StpDecoder {
             (take result (units_of (rest_in (order_of self.now) (is_hunter self.now) (nibbles_of u)))) }
     {
         if self.waiting == 0 {
-            return self.partial.len();
+            return self.unfinished().len();
         }
-        self.partial.len() + 2 * self.waiting as u64
+        self.unfinished().len() + 2 * self.waiting as u64
     }
 
     fn skipped(&self) -> u64 {

@@ -3,12 +3,12 @@
 //!
 //! They are read so for speed alone: what is not found here is read otherwise.
 
-ghost use Rattle.std.specs.Prelude.{◌≡◌, ℕ, ◌+◌, ◌*◌, ◌/◌, ◌^◌, ◌<◌, ◌≤◌, ◌==◌, true, length, get_or, IfSome};
+ghost use Rattle.std.specs.Prelude.{◌≡◌, ℕ, ◌+◌, ◌-◌, ◌*◌, ◌/◌, ◌%◌, ◌^◌, ◌<◌, ◌≤◌, ◌==◌, List, true, length, get_or, IfSome};
 ghost use Rattle.std.specs.Prelude.{if◌then◌else◌};
 ghost use Rattle.trace_values.specs.declared.next.Next.TheVariants.{Go};
 ghost use Rattle.stp_grammar.specs.declared.packet.StpPacket.{StpPacket};
 ghost use Rattle.stp_grammar.specs.declared.packet.Order.TheVariants.{Msn};
-ghost use Rattle.stp_grammar.specs.declared.partial.Partial.TheVariants.{Start, Third, Size};
+ghost use Rattle.stp_grammar.specs.declared.partial.Partial.TheVariants.{Start, Size};
 ghost use Rattle.stp_grammar.specs.Opcodes.{line_of, row_at};
 ghost use Rattle.stp_grammar.specs.Proper.{IsProper};
 ghost use Rattle.stp_grammar.specs.Rule.{rule, begin};
@@ -16,12 +16,13 @@ ghost use Rattle.stp_codec.specs.Wholes.{nibbles_in, between, Ends, left_by};
 ghost use Rattle.stp_codec.specs.Parts.{packet_of};
 ghost use Rattle.stp_codec.specs.declared.flat.TheConstants.{WINDOW};
 
-use crate::whole::{nibble_of, number_at_once, payload_at, row_of, stamped_at};
+use crate::whole::{nibble_of, number_at_once, payload_at, stamped_at};
+use stp_grammar::opcode::row_at;
 use stp_grammar::packet::StpPacket;
 use trace_clock::word_nibbles;
 
-/// Bytes that are there where a packet is read so, and behind those that `take_part` takes: more than the longest
-/// packet has.
+/// Bytes that are there where a packet is read so, and behind those of which `find_part` finds what they are: more than
+/// the longest packet has.
 pub const WINDOW: usize = 24;
 
 /// A packet, as numbers.
@@ -40,14 +41,29 @@ pub struct PacketParts {
 }
 
 impl PacketParts {
+    /// The same packet, where so many of its nibbles are before the bytes.
+    #[inline(always)]
+    pub fn after(&self, before: usize) -> PacketParts
+        requires { before ≤ self.now.nibbles }
+        ensures { result ≡ record self.now { nibbles = self.now.nibbles - before } }
+    {
+        PacketParts {
+            nibbles: self.nibbles - before,
+            number: self.number,
+            payload: self.payload,
+            size: self.size,
+            word: self.word,
+        }
+    }
+
     /// The packet.
     #[inline(always)]
     pub fn packet(&self) -> StpPacket
         requires { self.now.number < 35 }
         ensures { result ≡ packet_of self.now }
     {
-        let row = row_of(self.number);
-        if stamped_at(self.number) {
+        let row = row_at(self.number);
+        if row.is_stamped() {
             StpPacket::Stamped {
                 row,
                 payload: self.payload,
@@ -119,65 +135,48 @@ fn parts_from_opcode(number: u8, bytes: &[u8], start: usize) -> Option<PacketPar
     }
 }
 
-/// The number of the row whose opcode is F, 0 and the nibble here, and the nibble after it. None where there is none.
+/// The numbers of the rows by the last nibbles of their opcodes: those of one nibble, of F and one, and of F, 0 and one.
+/// `NONE` where there is none.
+const OPCODES: &[u8] = &[
+    0, 1, 2, 3, 4, 5, 6, 7, 8, 9, 10, 11, 12, 13, 14, 35, 35, 15, 16, 17, 18, 19, 20, 21, 22, 23,
+    24, 25, 26, 27, 28, 35, 29, 30, 35, 35, 35, 35, 31, 32, 33, 34, 35, 35, 35, 35, 35, 35,
+];
+
+/// No number of a row.
+const NONE: u8 = 35;
+
+/// The number of the row of whose opcode these are the first three nibbles, the first the least significant, or `NONE`;
+/// and how many nibbles the opcode has. No branch chooses between opcodes. `NONE` for ASYNC too.
 #[inline(always)]
-fn opcode_from_third(bytes: &[u8], start: usize) -> Option<(u8, usize)>
-    requires there { start < 2 * length bytes.now }
-    ensures number { IfSome result (λ x. x.0 < 35) }
-    ensures after { IfSome result (λ x. x.1 ≡ start + 1) }
-    ensures whole { (end : ℕ) (packet : StpPacket) → IfSome result (λ x. x.1 ≤ end →
-        Ends Msn (begin (row_at x.0)) (between (nibbles_in bytes.now) x.1 end) packet →
-        Ends Msn (Go Third) (between (nibbles_in bytes.now) start end) packet) }
+fn opcode_in(nibbles: u32) -> (u8, usize)
+    ensures number { result.0 ≤ 35 }
+    ensures few { (0 < result.1) × (result.1 ≤ 3) }
+    ensures whole { (r : List ℕ) (start end : ℕ) (packet : StpPacket) → result.0 < 35 → start + 1 < length r →
+        nibbles / 16 % 16 ≡ get_or r start 0 → nibbles / 256 % 16 ≡ get_or r (start + 1) 0 →
+        start + result.1 ≤ end + 1 →
+        Ends Msn (begin (row_at result.0)) (between r (start + result.1 - 1) end) packet →
+        Ends Msn (rule Msn Start (nibbles % 16)) (between r start end) packet }
 {
-    match nibble_of(bytes, start) {
-        nibble @ 0..=1 => Some((29 + nibble, start + 1)),
-        nibble @ 6..=9 => Some((25 + nibble, start + 1)),
-        _ => None,
-    }
+    let opcodes = OPCODES;
+    let two = u32::from(nibbles % 16 == 15);
+    let three = u32::from(nibbles % 256 == 15);
+    let before = two + three;
+    let last = (nibbles >> (4 * before)) % 16;
+    (opcodes[(16 * before + last) as usize], before as usize + 1)
 }
 
-/// The number of the row whose opcode begins with this nibble and goes on here, and the nibble after it. No branch
-/// chooses between opcodes of one nibble and of two. None for ASYNC, and where there is none.
+/// The first three nibbles of a packet, the first the least significant: this one, if it is not 0, and those of the
+/// bytes.
 #[inline(always)]
-fn opcode_from_first(first: u8, bytes: &[u8], start: usize) -> Option<(u8, usize)>
+fn front_of(first: u8, bytes: &[u8]) -> u32
     requires first { first < 16 }
-    requires there { start + 1 < 2 * length bytes.now }
-    ensures number { IfSome result (λ x. x.0 < 35) }
-    ensures after { IfSome result (λ x. (start ≤ x.1) × (x.1 ≤ start + 2)) }
-    ensures whole { (end : ℕ) (packet : StpPacket) → IfSome result (λ x. x.1 ≤ end →
-        Ends Msn (begin (row_at x.0)) (between (nibbles_in bytes.now) x.1 end) packet →
-        Ends Msn (rule Msn Start first) (between (nibbles_in bytes.now) start end) packet) }
+    requires there { 2 ≤ length bytes.now }
+    ensures first { result % 16 ≡ (if first == 0 then get_or (nibbles_in bytes.now) 0 0 else first) }
+    ensures second { result / 16 % 16 ≡ get_or (nibbles_in bytes.now) (if first == 0 then 1 else 0) 0 }
+    ensures third { result / 256 % 16 ≡ get_or (nibbles_in bytes.now) ((if first == 0 then 1 else 0) + 1) 0 }
 {
-    let second = nibble_of(bytes, start);
-    match 16 * first + second {
-        0xF0 => opcode_from_third(bytes, start + 1),
-        0xFF => None,
-        _ => {
-            let more = u8::from(first == 15);
-            Some((first + second * more - more, start + usize::from(more)))
-        }
-    }
-}
-
-/// The first nibble of a packet: this one, or that of the bytes where none is before them, 0. It is a sum, so that no
-/// branch chooses.
-#[inline(always)]
-fn first_nibble(first: u8, bytes: &[u8]) -> u8
-    requires first { first < 16 }
-    requires some { 0 < length bytes.now }
-    ensures value { result ≡ (if first == 0 then get_or (nibbles_in bytes.now) 0 0 else first) }
-    ensures small { result < 16 }
-{
-    first + nibble_of(bytes, 0) * u8::from(first == 0)
-}
-
-/// The nibble of the bytes after it.
-#[inline(always)]
-fn start_after(first: u8) -> usize
-    ensures value { result ≡ (if first == 0 then 1 else 0) }
-    ensures few { result ≤ 1 }
-{
-    usize::from(first == 0)
+    let there = u32::from(bytes[0]) + 256 * u32::from(bytes[1]);
+    u32::from(first) + (there << (4 * u32::from(first != 0)))
 }
 
 /// The packet that the bytes finish, of which this nibble is before them; none is where that is 0. Most significant
@@ -192,7 +191,9 @@ pub fn parts_from_first(first: u8, bytes: &[u8]) -> Option<PacketParts>
         Ends Msn (Go (left_by Msn first)) (between (nibbles_in bytes.now) 0 x.nibbles) (packet_of x)) }
     ensures proper { IfSome result (λ x. IsProper (packet_of x)) }
 {
-    let nibble = first_nibble(first, bytes);
-    let (number, start) = opcode_from_first(nibble, bytes, start_after(first))?;
-    parts_from_opcode(number, bytes, start)
+    let (number, nibbles) = opcode_in(front_of(first, bytes));
+    if number == NONE {
+        return None;
+    }
+    parts_from_opcode(number, bytes, nibbles - usize::from(first != 0))
 }

@@ -3,3 +3,4 @@ pub mod Fours
 pub mod DigitTables
 pub mod HexNibbles
 pub mod LongestLines
+pub mod Widths

@@ -48,7 +48,7 @@ use Rattle.trace_text.specs.HexDigits.{hex_digits}
 use Rattle.trace_text.specs.StpText.{known_text, width_text, mark_text, stamp_text, stp_text}
 use Rattle.trace_text.specs.declared.remark.Remark.{Remark}
 use Rattle.trace_text.specs.declared.remark.Remark.TheVariants.{None as NoRemark, Clock, Time}
-use Rattle.trace_text.specs.LineText.{half_text, source_text, what_text, remark_text, event_line, itm_event, stp_event}
+use Rattle.trace_text.specs.LineText.{half_text, source_text, what_text, remark_text, event_line, itm_event, stp_event, raw_event}
 use Rattle.trace_text.specs.Printable.{IsProperWhat, IsNone, SuitsPacket, Suits, HasSource, IsPrintable}
 use Rattle.trace_text.specs.Lengths.{HasDigits, IsShortWhat, IsShortSource, IsShortRemark, IsShort}
 use Rattle.trace_text.specs.EndText.{mode_text, kind_text, source_line}
@@ -295,6 +295,13 @@ stp_item at half id i proper a b c =
     event true (stp_event at half id i) NoRemark
     (record { proper = proper; suits = tt; source = refl })
     (record { at = a; half = b; source = c; what = tt }) tt
+
+-- and that of a run of bytes
+pub raw_run : (at id : ℕ) (bytes : List ℕ) → length bytes ≤ 15 → HasDigits 20 at → HasDigits 3 id →
+    length (event_line false (raw_event at id bytes) NoRemark) ≤ 92
+raw_run at id bytes few a b =
+    let y = length-encode_with lower_digits bytes in
+    simp length-append (omega arith)
 
 mode : (m : PortMode) → length (mode_text m) ≤ 7
 mode Bare = omega arith

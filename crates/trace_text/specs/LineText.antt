@@ -61,3 +61,7 @@ itm_event at id packet = record { at = at; half = 0; source = Some id; what = Sa
 -- an item of this STP source, which ends in this half of the byte here
 abbrev pub stp_event : ℕ → ℕ → ℕ → StpItem → Event Packet
 stp_event at half id item = record { at = at; half = half; source = Some id; what = Said (Stp item) }
+
+-- a run of bytes of this source, which is not mapped, the last of them here
+abbrev pub raw_event : ℕ → ℕ → List ℕ → Event Packet
+raw_event at id bytes = record { at = at; half = 0; source = Some id; what = Raw bytes }

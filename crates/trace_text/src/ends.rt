@@ -5,7 +5,7 @@ ghost use Rattle.trace_text.specs.EndText.{mode_text, kind_text, rest_text, end_
 ghost use Rattle.trace_text.specs.EndText.{tails_text};
 
 use crate::lengths::{few_digits, few_id_digits};
-use crate::room::{ITEM_ROOM, WORD_ROOM, put_byte, put_bytes, put_number, put_short};
+use crate::room::{ITEM_ROOM, WORD_ROOM, put_byte, put_bytes, put_number, put_short, put_slice};
 use source_events::{PortMode, SourceKind, SourceTail, Tails};
 use trace_stream::{OUTLET_ROOM, Outlet, TEXT_ROOM, Text};
 
@@ -89,7 +89,7 @@ impl Text for PortEndLine {
 
     fn put(&self, room: &mut [u8], from: usize) -> usize {
         let from = put_bytes(room, from, b"port ");
-        let from = put_bytes(room, from, mode_word(self.mode).as_bytes());
+        let from = put_slice(room, from, mode_word(self.mode).as_bytes());
         let from = put_rest(room, from, self.skipped, self.tail);
         let from = put_bytes(room, from, b" unattributed ");
         let from = put_number(room, from, self.unattributed);
@@ -106,9 +106,9 @@ impl Text for SourceEndLine {
         let source = self.source;
         let from = put_short(room, from, source.id.number());
         let from = put_byte(room, from, b' ');
-        let from = put_bytes(room, from, kind_word(source.kind).as_bytes());
+        let from = put_slice(room, from, kind_word(source.kind).as_bytes());
         let from = put_byte(room, from, b' ');
-        let from = put_bytes(room, from, mode_word(source.mode).as_bytes());
+        let from = put_slice(room, from, mode_word(source.mode).as_bytes());
         let from = put_rest(room, from, source.skipped, source.tail);
         put_byte(room, from, b'\n')
     }

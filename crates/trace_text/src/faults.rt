@@ -5,7 +5,7 @@ ghost use Rattle.source_events.specs.Report.{stop_of};
 ghost use Rattle.trace_text.specs.FaultText.{reason_text, fault_line};
 
 use crate::lines::{put_half, put_source};
-use crate::room::{PART_ROOM, put_byte, put_bytes, put_number, put_short};
+use crate::room::{PART_ROOM, put_byte, put_bytes, put_number, put_short, put_slice};
 use source_events::Stop;
 use trace_stream::{OUTLET_ROOM, Outlet, TEXT_ROOM, Text};
 use trace_values::Reason;
@@ -28,7 +28,7 @@ fn put_reason(room: &mut [u8], from: usize, reason: Reason) -> usize
 {
     let from = put_short(room, from, reason.number());
     let from = put_byte(room, from, b' ');
-    let from = put_bytes(room, from, reason.name().as_bytes());
+    let from = put_slice(room, from, reason.name().as_bytes());
     put_byte(room, from, b'\n')
 }
 

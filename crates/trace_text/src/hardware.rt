@@ -5,7 +5,8 @@ ghost use Rattle.trace_text.specs.HardwareText.{change_text, comparator_text, ha
 
 use crate::items::put_source;
 use crate::room::{
-    ITEM_ROOM, PART_ROOM, WORD_ROOM, put_bytes, put_digits, put_number, put_short, put_value,
+    ITEM_ROOM, PART_ROOM, WORD_ROOM, put_bytes, put_digits, put_number, put_short, put_slice,
+    put_value,
 };
 use dwt_packets::{Change, DwtItem};
 
@@ -31,7 +32,7 @@ fn put_comparator(room: &mut [u8], from: usize, comparator: u8, word: &str) -> u
 {
     let from = put_bytes(room, from, b"cmp ");
     let from = put_short(room, from, comparator);
-    put_bytes(room, from, word.as_bytes())
+    put_slice(room, from, word.as_bytes())
 }
 
 /// Puts what the processor did at an exception, `exception N C`.
@@ -45,7 +46,7 @@ fn put_exception(room: &mut [u8], from: usize, number: u16, change: Change) -> u
 {
     let from = put_bytes(room, from, b"exception ");
     let from = put_number(room, from, u64::from(number));
-    put_bytes(room, from, change_word(change).as_bytes())
+    put_slice(room, from, change_word(change).as_bytes())
 }
 
 /// Puts the text of what a hardware packet means.

@@ -8,22 +8,29 @@ ghost use Rattle.trace_text.specs.ItemText.{lateness_text, flag_text, bits_text,
 
 use crate::hardware::put_hardware;
 use crate::room::{
-    ITEM_ROOM, PART_ROOM, WORD_ROOM, put_bytes, put_digits, put_number, put_port, put_short,
-    put_value,
+    ITEM_ROOM, PART_ROOM, WORD_ROOM, put_bytes, put_digits, put_four_of, put_number, put_port,
+    put_short, put_slice, put_twelve_of, put_value,
 };
+use crate::tables::{BITS, FLAGS, LATENESSES};
 use dwt_packets::meaning;
 use itm_grammar::packet::{ItmPacket, Lateness, Size};
 
-fn lateness_word(lateness: Lateness) -> &'static str
-    ensures text { result.now ≡ lateness_text lateness }
-    ensures bound { length result.now ≤ WORD_ROOM }
+/// Puts how late a local timestamp is, and a space after it. No branch depends on how long the word is.
+#[inline(always)]
+fn put_lateness(room: &mut [u8], from: usize, lateness: Lateness) -> usize
+    requires room { from + WORD_ROOM ≤ length room.old }
+    ensures text { take result room.new ≡ take from room.old ++ (lateness_text lateness ++ codes " ") }
+    ensures same { length room.new ≡ length room.old }
+    ensures end { result ≤ from + WORD_ROOM }
 {
-    match lateness {
-        Lateness::Exact => "exact",
-        Lateness::StampLate => "stamp-late",
-        Lateness::PacketLate => "packet-late",
-        Lateness::BothLate => "both-late",
-    }
+    let (start, len) = match lateness {
+        Lateness::Exact => (0, 6),
+        Lateness::StampLate => (12, 11),
+        Lateness::PacketLate => (24, 12),
+        Lateness::BothLate => (36, 10),
+    };
+    let _all = put_twelve_of(room, from, LATENESSES, start);
+    from + len
 }
 
 #[inline]
@@ -34,21 +41,20 @@ fn put_local(room: &mut [u8], from: usize, lateness: Lateness, delta: u32) -> us
     ensures end { result ≤ from + PART_ROOM }
 {
     let from = put_bytes(room, from, b"local ");
-    let from = put_bytes(room, from, lateness_word(lateness).as_bytes());
-    let from = put_bytes(room, from, b" ");
+    let from = put_lateness(room, from, lateness);
     put_number(room, from, u64::from(delta))
 }
 
-fn flag_words(change: bool, wrap: bool) -> &'static str
-    ensures text { result.now ≡ codes " " ++ (flag_text change ++ (codes " " ++ flag_text wrap)) }
-    ensures bound { length result.now ≤ WORD_ROOM }
+/// Puts the two flags of a first global timestamp, each with a space before it.
+#[inline(always)]
+fn put_flags(room: &mut [u8], from: usize, change: bool, wrap: bool) -> usize
+    requires room { from + 4 ≤ length room.old }
+    ensures text { take result room.new ≡
+        take from room.old ++ (codes " " ++ (flag_text change ++ (codes " " ++ flag_text wrap))) }
+    ensures same { length room.new ≡ length room.old }
+    ensures end { result ≡ from + 4 }
 {
-    match (change, wrap) {
-        (false, false) => " 0 0",
-        (false, true) => " 0 1",
-        (true, false) => " 1 0",
-        (true, true) => " 1 1",
-    }
+    put_four_of(room, from, FLAGS, 8 * change as usize + 4 * wrap as usize)
 }
 
 #[inline]
@@ -69,14 +75,19 @@ fn put_first_stamp(
     let from = put_short(room, from, len);
     let from = put_bytes(room, from, b" ");
     let from = put_number(room, from, u64::from(value));
-    put_bytes(room, from, flag_words(change, wrap).as_bytes())
+    put_flags(room, from, change, wrap)
 }
 
-fn second_words(wide: bool) -> &'static str
-    ensures text { result.now ≡ codes "global2 " ++ (bits_text wide ++ codes " ") }
-    ensures bound { length result.now ≤ WORD_ROOM }
+/// Puts how many bits the time of a second global timestamp has, and a space after it.
+#[inline(always)]
+fn put_bits(room: &mut [u8], from: usize, wide: bool) -> usize
+    requires room { from + 4 ≤ length room.old }
+    ensures text { take result room.new ≡ take from room.old ++ (bits_text wide ++ codes " ") }
+    ensures same { length room.new ≡ length room.old }
+    ensures end { result ≡ from + 3 }
 {
-    if wide { "global2 64 " } else { "global2 48 " }
+    let _all = put_four_of(room, from, BITS, 4 * wide as usize);
+    from + 3
 }
 
 #[inline]
@@ -86,7 +97,8 @@ fn put_second_stamp(room: &mut [u8], from: usize, wide: bool, value: u64) -> usi
     ensures same { length room.new ≡ length room.old }
     ensures end { result ≤ from + PART_ROOM }
 {
-    let from = put_bytes(room, from, second_words(wide).as_bytes());
+    let from = put_bytes(room, from, b"global2 ");
+    let from = put_bits(room, from, wide);
     put_number(room, from, value)
 }
 
@@ -104,7 +116,7 @@ fn put_extension(room: &mut [u8], from: usize, dwt: bool, value: u32) -> usize
     ensures same { length room.new ≡ length room.old }
     ensures end { result ≤ from + PART_ROOM }
 {
-    let from = put_bytes(room, from, extension_words(dwt).as_bytes());
+    let from = put_slice(room, from, extension_words(dwt).as_bytes());
     put_digits(room, from, &value.to_be_bytes())
 }
 

@@ -22,6 +22,6 @@ pub use counts::{ExerciseLines, PortCountsLines, SOURCE_COUNTS_ROOM, put_source_
 pub use digits::Digits;
 pub use ends::{EndLine, PortEndLine, SourceEndLine, TAILS_ROOM, print_tails};
 pub use faults::{FaultLine, print_fault};
-pub use lines::{EVENT_ROOM, print, put_line, put_stp_line};
+pub use lines::{EVENT_ROOM, print, put_line, put_raw_line, put_stp_line};
 pub use notes::{LastLine, LimitLine, ScriptFaultLine};
 pub use remark::Remark;

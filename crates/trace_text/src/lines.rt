@@ -8,7 +8,7 @@ ghost use Rattle.stp_grammar.specs.Proper.{IsProperItem};
 ghost use Rattle.trace_text.specs.Digits.{hundreds_of, KeepsPlace, KeepsPlaceOf};
 ghost use Rattle.trace_text.specs.Printable.{IsProperPacket, IsProperWhat, SuitsPacket, IsPrintable};
 ghost use Rattle.trace_text.specs.LineText.{half_text, source_text, packet_text, what_text, remark_text, event_line};
-ghost use Rattle.trace_text.specs.LineText.{itm_event, stp_event};
+ghost use Rattle.trace_text.specs.LineText.{itm_event, stp_event, raw_event};
 ghost use Rattle.trace_text.specs.declared.remark.Remark.TheVariants.{None as NoRemark};
 
 use crate::digits::Digits;
@@ -224,6 +224,29 @@ impl Text for StpLine<'_> {
     }
 }
 
+/// The line of a run of bytes of a source that is not mapped, at an offset whose digits but for the last two are kept.
+#[derive(Drop)]
+pub(crate) struct RawLine<'a> {
+    pub(crate) digits: &'a Digits,
+    pub(crate) at: u64,
+    pub(crate) id: SourceId,
+    pub(crate) bytes: &'a [u8],
+}
+
+impl Text for RawLine<'_> {
+    ghost fits = { λ l. (length l.bytes.now ≤ 15) × (hundreds_of l.digits.now ≡ l.at / 100) };
+
+    ghost text = { λ l. event_line false (raw_event l.at l.id l.bytes.now) NoRemark };
+
+    #[inline(always)]
+    fn put(&self, room: &mut [u8], from: usize) -> usize {
+        let from = self.digits.put(room, from, self.at);
+        let from = put_source(room, from, Some(self.id));
+        let from = put_raw(room, from, self.bytes);
+        put_byte(room, from, b'\n')
+    }
+}
+
 /// Puts the line of an event, with its remark: `AT SOURCE WHAT`, or `AT.H SOURCE WHAT` where its source is an STP
 /// source (`stp`). The digits of the offset and the text of a place are kept for the next line.
 #[inline(always)]
@@ -315,6 +338,27 @@ pub fn put_stp_line(
         half,
         id,
         item,
+    };
+    outlet.put(&line);
+}
+
+/// Puts the line of a run of at most 15 bytes of this source, which is not mapped; its last byte is at this offset. It
+/// is what `print` puts for that event, which is not made. The digits of the offset are kept for the next line.
+#[inline(always)]
+pub fn put_raw_line(outlet: &mut Outlet, digits: &mut Digits, at: u64, id: SourceId, bytes: &[u8])
+    requires few { length bytes.now ≤ 15 }
+    requires room { length outlet.old + TEXT_ROOM ≤ OUTLET_ROOM }
+    ensures line { outlet.new ≡ outlet.old ++ event_line false (raw_event at id bytes.now) NoRemark }
+    ensures bound { length outlet.new ≤ length outlet.old + EVENT_ROOM }
+{
+    few_digits(at);
+    few_id_digits(id);
+    digits.keep(at);
+    let line = RawLine {
+        digits,
+        at,
+        id,
+        bytes,
     };
     outlet.put(&line);
 }

@@ -4,7 +4,7 @@ ghost use Rattle.std.specs.Prelude.{◌≡◌, ◌+◌, ◌≤◌, ◌++◌, len
 ghost use Rattle.trace_stream.specs.declared.recent.TheConstants.{RECENT_ROOM};
 ghost use Rattle.trace_text.specs.NoteText.{last_line, limit_line, script_fault_line};
 
-use crate::room::{put_byte, put_bytes, put_digits, put_number, put_short};
+use crate::room::{put_byte, put_bytes, put_digits, put_number, put_short, put_slice};
 use trace_stream::Text;
 
 /// The last bytes up to a fault, at most `RECENT_ROOM`, in hexadecimal: `last H`.
@@ -52,7 +52,7 @@ impl Text for ScriptFaultLine<'_> {
         let from = put_byte(room, from, b' ');
         let from = put_short(room, from, self.number);
         let from = put_byte(room, from, b' ');
-        let from = put_bytes(room, from, self.name.as_bytes());
+        let from = put_slice(room, from, self.name.as_bytes());
         put_byte(room, from, b'\n')
     }
 }

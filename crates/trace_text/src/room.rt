@@ -27,9 +27,26 @@ pub(crate) const PART_ROOM: usize = 50;
 /// Bytes that the text of a packet is given, or two parts of a line.
 pub(crate) const ITEM_ROOM: usize = 80;
 
-/// Puts the piece.
+/// Puts a piece whose length is a constant, as a word that the code spells. Its bytes are put one by one, which becomes
+/// a few stores of whole words: a copy of a slice asks first whether the two overlap.
 #[inline(always)]
 pub(crate) fn put_bytes(room: &mut [u8], from: usize, piece: &[u8]) -> usize
+    requires room { from + length piece.now ≤ length room.old }
+    ensures text { take result room.new ≡ take from room.old ++ piece.now }
+    ensures same { length room.new ≡ length room.old }
+    ensures end { result ≡ from + length piece.now }
+{
+    let mut end = from;
+    for index in 0..piece.len() {
+        end = put_byte(room, end, piece[index]);
+    }
+    end
+}
+
+/// Puts a piece whose length is known only when it runs. It is copied as a whole, since a loop would ask at each byte
+/// whether it is the last.
+#[inline(always)]
+pub(crate) fn put_slice(room: &mut [u8], from: usize, piece: &[u8]) -> usize
     requires room { from + length piece.now ≤ length room.old }
     ensures text { take result room.new ≡ take from room.old ++ piece.now }
     ensures same { length room.new ≡ length room.old }
@@ -91,6 +108,19 @@ fn put_eight_of(room: &mut [u8], from: usize, table: &[u8], start: usize) -> usi
     put_four_of(room, from, table, start + 4)
 }
 
+/// Puts twelve bytes of a table.
+#[inline(always)]
+pub(crate) fn put_twelve_of(room: &mut [u8], from: usize, table: &[u8], start: usize) -> usize
+    requires table { start + 12 ≤ length table.now }
+    requires room { from + 12 ≤ length room.old }
+    ensures text { take result room.new ≡ take from room.old ++ take 12 (drop start table.now) }
+    ensures same { length room.new ≡ length room.old }
+    ensures end { result ≡ from + 12 }
+{
+    let from = put_eight_of(room, from, table, start);
+    put_four_of(room, from, table, start + 8)
+}
+
 /// Puts the tens and the ones of a number below 100.
 #[inline]
 pub(crate) fn put_two(room: &mut [u8], from: usize, number: u8) -> usize
@@ -113,7 +143,7 @@ pub(crate) fn put_front(room: &mut [u8], from: usize, bytes: &[u8], len: usize) 
     ensures same { length room.new ≡ length room.old }
     ensures end { result ≡ from + len }
 {
-    let _all = put_bytes(room, from, bytes);
+    let _all = put_slice(room, from, bytes);
     from + len
 }
 
@@ -245,7 +275,7 @@ pub(crate) fn put_medium(room: &mut [u8], from: usize, number: u16) -> usize
     ensures end { result ≤ from + 5 }
 {
     let mut buffer = Buffer::new();
-    put_bytes(room, from, buffer.format(number).as_bytes())
+    put_slice(room, from, buffer.format(number).as_bytes())
 }
 
 /// Puts bytes in hexadecimal, two digits each. Where it is a constant how many they are, no branch depends on it.
@@ -298,26 +328,19 @@ fn put_width(room: &mut [u8], from: usize, size: Size) -> usize
     ensures same { length room.new ≡ length room.old }
     ensures end { result ≤ from + 4 }
 {
-    let (start, len) = match size {
-        Size::One => (0, 3),
-        Size::Two => (4, 4),
-        Size::Four => (8, 4),
-    };
-    let _all = put_four_of(room, from, WIDTHS, start);
+    let count = size.byte_count() as usize;
+    let is_long = count >= 2;
+    let len = 3 + is_long as usize;
+    let _all = put_four_of(room, from, WIDTHS, 4 * (count / 2));
     from + len
 }
 
-/// The bytes of a value of this size, the most significant first, and then others.
+/// The bytes of a value of this size, the most significant first, and then others. No branch depends on the size.
 #[inline(always)]
 fn value_bytes(size: Size, value: u32) -> [u8; 4]
     ensures { take (byte_count size) result ≡ bytes_of_value size value }
 {
-    let [a, b, c, d] = value.to_be_bytes();
-    match size {
-        Size::One => [d, 0, 0, 0],
-        Size::Two => [c, d, 0, 0],
-        Size::Four => [a, b, c, d],
-    }
+    (value << (32 - 8 * size.byte_count() as u32)).to_be_bytes()
 }
 
 /// Puts the word of a width, and the value in hexadecimal with as many digits as its bytes have.

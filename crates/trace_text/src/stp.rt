@@ -11,7 +11,7 @@ ghost use Rattle.trace_text.specs.StpText.{known_text, place_text, datum_text, m
 use crate::digits::Digits;
 use crate::room::{
     ITEM_ROOM, NUMBER_ROOM, PART_ROOM, put_byte, put_bytes, put_digits, put_four_of, put_medium,
-    put_number, put_short,
+    put_number, put_short, put_slice,
 };
 use crate::tables::DATUM_WIDTHS;
 use stp_grammar::item::{Place, Stamp, StpItem};
@@ -152,7 +152,7 @@ fn put_data(
     let from = digits.place.put(room, from, place);
     let from = put_byte(room, from, b' ');
     let from = put_datum(room, from, width, value);
-    let from = put_bytes(room, from, mark_words(marked).as_bytes());
+    let from = put_slice(room, from, mark_words(marked).as_bytes());
     put_stamp(room, from, stamp)
 }
 

@@ -46,3 +46,15 @@ pub(crate) const WIDTHS: &[u8] = b"u8  u16 u32 ";
 
 /// The words of the widths of data, each with a space after it, in four bytes: those of 4, 8, 16, 32 and 64 bits.
 pub(crate) const DATUM_WIDTHS: &[u8] = b"u4  u8  u16 u32 u64 ";
+
+/// How late a local timestamp is, with a space after it, in twelve bytes: exact, then by its stamp, by its packet, and by
+/// both. The bytes after it are of no account.
+pub(crate) const LATENESSES: &[u8] = b"exact       stamp-late  packet-late both-late   ";
+
+/// The flags of a first global timestamp, each with a space before it, in four bytes: first by whether the clock changed,
+/// then by whether the time wrapped.
+pub(crate) const FLAGS: &[u8] = b" 0 0 0 1 1 0 1 1";
+
+/// How many bits the time of a second global timestamp has, with a space after it, in four bytes. The last is of no
+/// account.
+pub(crate) const BITS: &[u8] = b"48  64  ";

@@ -6,12 +6,12 @@ use Rattle.capture_report.proofs.show.put_packet.Goals as goal
 
 pub returns-clause-clocks : goal.returns-clause-clocks
 returns-clause-clocks c = λ before h.
-    subst (λ (x : ℕ). AllStand c.put_given.new.clocks
+    subst (λ (x : ℕ). AllStand c.put_whole.new.clocks
     (before ++ (record { at = c.args.at; half = c.args.half; source = Some x; what = Said c.args.packet }) ∷ []))
-    c.bare_source.ensures (c.put_given.ensures.clocks before h)
+    c.bare_source.ensures (c.put_whole.ensures.clocks before h)
 
 pub returns-clause-seen : goal.returns-clause-seen
 returns-clause-seen c = λ before f.
-    subst (λ (x : ℕ). HasSeen c.put_given.new.filter
+    subst (λ (x : ℕ). HasSeen c.put_whole.new.filter
     (before ++ (record { at = c.args.at; half = c.args.half; source = Some x; what = Said c.args.packet }) ∷ []))
-    c.bare_source.ensures (c.put_given.ensures.seen before f)
+    c.bare_source.ensures (c.put_whole.ensures.seen before f)

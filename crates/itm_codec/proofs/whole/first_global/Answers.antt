@@ -1,9 +1,11 @@
-use Rattle.std.proofs.Common.{◌≡◌, ℕ, ◌+◌, ◌*◌, ◌/◌, ◌%◌, ◌^◌, ◌<◌, ◌≤◌, ◌⊎◌, inl, inr, take, refl, sym, ◌∙◌, subst, arith, Bool, true, false}
+use Rattle.std.proofs.Common.{◌≡◌, ℕ, ◌+◌, ◌*◌, ◌/◌, ◌%◌, ◌^◌, ◌<◌, ◌≤◌, inl, inr, take, refl, sym, ◌∙◌, subst, arith, Bool, true, false}
 use Rattle.std.specs.Prelude.{◌==◌}
 use Rattle.std.proofs.lemmas.Bool.Decides.{nat_tests}
 use Rattle.std.proofs.lemmas.List.{length-take-le}
 use Rattle.itm_grammar.specs.Spelling.{bit_of}
 use Rattle.itm_grammar.specs.Proper.{first_bits}
+use Rattle.itm_codec.specs.Windows.{four_bytes}
+use Rattle.itm_codec.proofs.Windows.{one_more, sizes, small, under}
 use Rattle.itm_codec.proofs.whole.first_global.Goals as goal
 
 by_bit : (m : ℕ) (t : Bool) → (m == 1) ≡ t → m < 2 → bit_of t ≡ m
@@ -12,24 +14,6 @@ by_bit m false e h = grind (arith, nat_tests)
 
 bit_is : (m : ℕ) → bit_of (m % 2 == 1) ≡ m % 2
 bit_is m = by_bit (m % 2) (m % 2 == 1) refl (omega arith)
-
-sizes : (n : ℕ) → 0 < n → n ≤ 4 → (n ≡ 1) ⊎ ((n ≡ 2) ⊎ ((n ≡ 3) ⊎ (n ≡ 4)))
-sizes n h l = grind arith
-
-under : (n v k : ℕ) → n ≡ k → v < 128 ^ n → v < 128 ^ k
-under n v k e h = subst (λ (m : ℕ). v < 128 ^ m) e h
-
-small : (n v : ℕ) → 0 < n → n ≤ 4 → v < 128 ^ n → v < 268435456
-small n v h l f = elim (sizes n h l) [
-  | inl e ↦ (let k : v < 128 = under n v 1 e f in omega arith)
-  | inr m ↦ elim m [
-    | inl e ↦ (let k : v < 16384 = under n v 2 e f in omega arith)
-    | inr o ↦ elim o [
-      | inl e ↦ (let k : v < 2097152 = under n v 3 e f in omega arith)
-      | inr e ↦ (let k : v < 268435456 = under n v 4 e f in k)
-    ]
-  ]
-]
 
 parts : (v : ℕ) → v < 268435456 → v ≡ v % 67108864 + 67108864 * bit_of (v / 67108864 % 2 == 1) + 134217728 * bit_of (v / 134217728 % 2 == 1)
 parts v h = (let a = bit_is (v / 67108864) in let b = bit_is (v / 134217728) in
@@ -65,27 +49,26 @@ room n v h l f = elim (sizes n h l) [
   ]
 ]
 
-pub returns-clause-spells : goal.returns-clause-spells
-returns-clause-spells c =
-    let b = c.in_ok-bytes.ensures.bytes in
-    let n = c.in_ok-bytes.bytes in
-    let v = c.in_ok-bytes.value in (
-      take n c.args.payload.now,
-      refl,
-      c.in_ok-bytes.ensures.continued,
-      length-take-le n c.args.payload.now b.2,
-      b.1,
-      omega arith,
-      sym c.in_ok-bytes.ensures.number ∙ parts v (small n v b.0 b.1 c.in_ok-bytes.ensures.fits),
-    )
-
-pub returns-clause-proper : goal.returns-clause-proper
-returns-clause-proper c =
-    let b = c.in_ok-bytes.ensures.bytes in
-    let n = c.in_ok-bytes.bytes in
-    let v = c.in_ok-bytes.value in (
-      b.0,
-      b.1,
-      room n v b.0 b.1 c.in_ok-bytes.ensures.fits,
-      λ l. (let s = short n v b.0 l c.in_ok-bytes.ensures.fits in (no_bit (v / 67108864 % 2) (omega arith), no_bit (v / 134217728 % 2) (omega arith))),
+pub returns-in-Some : goal.returns-in-Some
+returns-in-Some c =
+    let b = c.in-Some.ensures in
+    let n = c.in-Some.bytes in
+    let v = c.in-Some.value in (
+      omega (arith, b.bytes),
+      omega (arith, b.bytes),
+      (
+        take n (four_bytes c.args.payload),
+        one_more n 148 (four_bytes c.args.payload),
+        b.continued,
+        length-take-le n (four_bytes c.args.payload) b.bytes.1,
+        b.bytes.1,
+        omega arith,
+        sym b.number ∙ parts v (small n v b.bytes.0 b.bytes.1 b.fits),
+      ),
+      (
+        b.bytes.0,
+        b.bytes.1,
+        room n v b.bytes.0 b.bytes.1 b.fits,
+        λ l. (let s = short n v b.bytes.0 l b.fits in (no_bit (v / 67108864 % 2) (omega arith), no_bit (v / 134217728 % 2) (omega arith))),
+      ),
     )

@@ -55,34 +55,34 @@ module _ (cells : List Cell) (id : ℕ) (slots : List (Slot SourceMachine)) (k :
         early = early;
       })
 
-pub feed_machine-requires-clause-live : goal.feed_machine-requires-clause-live
-feed_machine-requires-clause-live g c = is_on c.args.slots.now c.args.index c.index-slots-index.result c.requires.index c.requires.live
+pub feed_stp-requires-clause-live : goal.feed_stp-requires-clause-live
+feed_stp-requires-clause-live g c = is_on c.args.slots.now c.args.index c.index-slots-index.result c.requires.index c.requires.live
 
-pub feed_machine-requires-clause-room : goal.feed_machine-requires-clause-room
-feed_machine-requires-clause-room g c =
+pub feed_stp-requires-clause-room : goal.feed_stp-requires-clause-room
+feed_stp-requires-clause-room g c =
     (let r = has_room c.args.slots.now c.args.index c.index-slots-index.result c.requires.index c.requires.room in let s = c.requires.size in omega arith)
 
 pub returns-then-is_stp-clause-fed : goal.returns-then-is_stp-clause-fed
 returns-then-is_stp-clause-fed g c =
-    let e = c.feed_machine.ensures in (
+    let e = c.feed_stp.ensures in (
       e.feeds.0,
       e.feeds.1,
-      fed (g.R.Run.cells c.args.run.now) c.args.id c.args.slots.now c.args.index c.index-slots-index.result c.feed_machine.new.machine
-          c.feed_machine.result e.feeds.0 e.same e.live e.few e.feeds.2 e.early,
+      fed (g.R.Run.cells c.args.run.now) c.args.id c.args.slots.now c.args.index c.index-slots-index.result c.feed_stp.new.machine
+          c.feed_stp.result e.feeds.0 e.same e.live e.few e.feeds.2 e.early,
     )
 
-pub feed_machine-requires-else-is_stp-clause-live : goal.feed_machine-requires-else-is_stp-clause-live
-feed_machine-requires-else-is_stp-clause-live g c = is_on c.args.slots.now c.args.index c.index-slots-index.result c.requires.index c.requires.live
+pub feed_itm-requires-clause-live : goal.feed_itm-requires-clause-live
+feed_itm-requires-clause-live g c = is_on c.args.slots.now c.args.index c.index-slots-index.result c.requires.index c.requires.live
 
-pub feed_machine-requires-else-is_stp-clause-room : goal.feed_machine-requires-else-is_stp-clause-room
-feed_machine-requires-else-is_stp-clause-room g c =
+pub feed_itm-requires-clause-room : goal.feed_itm-requires-clause-room
+feed_itm-requires-clause-room g c =
     (let r = has_room c.args.slots.now c.args.index c.index-slots-index.result c.requires.index c.requires.room in let s = c.requires.size in omega arith)
 
 pub returns-else-is_stp-clause-fed : goal.returns-else-is_stp-clause-fed
 returns-else-is_stp-clause-fed g c =
-    let e = c.feed_machine-else-is_stp.ensures in (
+    let e = c.feed_itm.ensures in (
       e.feeds.0,
       e.feeds.1,
-      fed (g.R.Run.cells c.args.run.now) c.args.id c.args.slots.now c.args.index c.index-slots-index.result c.feed_machine-else-is_stp.new.machine
-          c.feed_machine-else-is_stp.result e.feeds.0 e.same e.live e.few e.feeds.2 e.early,
+      fed (g.R.Run.cells c.args.run.now) c.args.id c.args.slots.now c.args.index c.index-slots-index.result c.feed_itm.new.machine
+          c.feed_itm.result e.feeds.0 e.same e.live e.few e.feeds.2 e.early,
     )

@@ -1,6 +1,5 @@
-use Rattle.std.proofs.Common.{Some, ◌-◌, ◌≡◌, get_or, sym, ◌∙◌, ap, List, [], ◌∷◌, ℕ}
+use Rattle.std.proofs.Common.{Some, take, refl, ◌-◌, ◌≡◌, get_or, sym, ◌∙◌, ap, List, [], ◌∷◌, ℕ}
 use Rattle.trace_values.specs.declared.cell.Cell.{Cell}
-use Rattle.source_events.specs.declared.event.Event.{Event}
 use Rattle.source_events.specs.declared.packet.Packet.{Packet}
 use Rattle.trace_values.specs.Placed.{Place}
 use Rattle.source_events.specs.declared.event.What.{What}
@@ -10,6 +9,7 @@ use Rattle.source_events.specs.Report.{raw_events, triggers}
 use Rattle.source_events.specs.Runs.{last_at}
 use Rattle.source_events.proofs.Raws.{raw_is, last_is}
 use Rattle.source_merge.proofs.Givings.{given_as, given_none}
+use Rattle.source_merge.specs.Receiver.{raw_event}
 use Rattle.source_merge.proofs.router.give_raw.Goals as goal
 
 -- what a run of the null source tells, and one of the trigger source
@@ -42,12 +42,14 @@ pub returns-clause-given : goal.returns-clause-given
 returns-clause-given g c =
     let run = g.R.Run.cells c.args.run.now in
     let x = c.args.source in
+    let bytes = take c.len-count.result c.ahead.result.now in
+    let last = c.cell-at.result in
+    let event = raw_event x last.at bytes in
     given_as g.V.Receiver.gets (c.args.items.now, (c.args.out.now, c.args.to.now))
-    (c.give.new.items, (c.give.new.out, c.give.new.to)) (c.event_at.result ∷ []) (told (Some x) (raw_events x run))
-    (ap (λ (e : Event Packet). e ∷ []) c.event_at.ensures
-    ∙ ap (λ (l : List (What Packet × Place)). told (Some x) l)
-    (ap (λ (n : ℕ). (Raw c.raw_bytes.result, record { at = n; half = 0 }) ∷ [])
-    (ap (λ (d : Cell). d.at) (c.cell-at.ensures ∙ ap (λ (n : ℕ). get_or run (n - 1) c.cell-at.result) c.len.ensures.value) ∙ last_is run c.cell-at.result c.requires.some)
-    ∙ ap (λ (b : List ℕ). (Raw b, record { at = last_at run; half = 0 }) ∷ []) c.raw_bytes.ensures
+    (c.add_event.new.self, (c.give_raw.new.self, c.give_raw.new.to)) (event ∷ []) (told (Some x) (raw_events x run))
+    (ap (λ (l : List (What Packet × Place)). told (Some x) l)
+    (ap (λ (n : ℕ). (Raw bytes, record { at = n; half = 0 }) ∷ [])
+    (ap (λ (d : Cell). d.at) (c.cell-at.ensures ∙ ap (λ (n : ℕ). get_or run (n - 1) c.cell-at.result) c.len-count.ensures.value) ∙ last_is run c.cell-at.result c.requires.some)
+    ∙ ap (λ (b : List ℕ). (Raw b, record { at = last_at run; half = 0 }) ∷ []) (ap (λ (n : ℕ). take n c.ahead.result.now) c.len-count.ensures.value ∙ c.ahead.ensures.bytes)
     ∙ sym (raw_is Packet x run (λ e. c.if-number-eq-NULL.false (c.number-number.ensures.value ∙ e)) (λ e. c.if-number-eq-TRIGGER.false (c.number-number.ensures.value ∙ e)))))
-    c.give.ensures.given
+    (record { received = c.give_raw.ensures.gets; counted = λ whole before h. c.add_event.ensures.items whole before event refl refl h })

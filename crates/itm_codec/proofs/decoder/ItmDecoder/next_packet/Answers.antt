@@ -44,10 +44,10 @@ pub returns-in-Header-clause-header : goal.returns-in-Header-clause-header
 returns-in-Header-clause-header c =
     let d = c.args.self.now in
     let locked : is_locked d.mode ≡ true = search in
-    header c.whole_packet.result d locked (settled d c.if-self-eq0.true ∙ c.in-Header.is)
+    header c.front_packet.result d locked (settled d c.if-self-eq0.true ∙ c.in-Header.is)
 
 pub returns-in-Header-clause-gives : goal.returns-in-Header-clause-gives
 returns-in-Header-clause-gives c =
     let d = c.args.self.now in
     let locked : is_locked d.mode ≡ true = search in
-    gives d c.args.piece.now c.whole_packet.result c.requires locked (settled d c.if-self-eq0.true ∙ c.in-Header.is) c.whole_packet.ensures.whole
+    gives d c.args.piece.now c.front_packet.result c.requires locked (settled d c.if-self-eq0.true ∙ c.in-Header.is) c.front_packet.ensures.whole

@@ -20,7 +20,7 @@ use Rattle.source_machine.specs.Machine.{reading_of, Stands as MachineStands, is
 use Rattle.source_machine.specs.declared.machine.SourceMachine.{SourceMachine}
 use Rattle.source_merge.specs.declared.slot.Slot.{Slot}
 use Rattle.source_merge.specs.Engine.{Stands, Keeps}
-use Rattle.source_merge.specs.Gathered.{IsGathered}
+use Rattle.source_merge.specs.Gathered.{IsGathered, frame_places}
 use Rattle.source_merge.specs.Answering.{port_of, fault_of}
 use Rattle.source_merge.specs.Routing.{mapped_of, AllLive, AllStand, HaveRoom, LiveIf, AreDistinct}
 use Rattle.source_merge.proofs.Slots.{room_more}
@@ -69,7 +69,7 @@ invariant_of-self g c =
 
 -- what the frame makes of a list that the engine stood for
 module _ (g : bound.Over) (c : goal.After-flow_of g) (u : List Placed) (w : List ℕ) (h : Stands c.args.self.now u)
-    (q : IsGathered c.args.at w c.args.frame.now) where
+    (q : IsGathered c.args.frame.now.at w c.args.frame.now) where
   abbrev plan : Plan
   plan = c.args.self.now.plan
 
@@ -77,19 +77,19 @@ module _ (g : bound.Over) (c : goal.After-flow_of g) (u : List Placed) (w : List
   slots = c.args.self.now.slots.items
 
   abbrev f : List Placed
-  f = without_halves (placed_from c.args.at w)
+  f = without_halves (placed_from c.args.frame.now.at w)
 
   abbrev next : List Placed
-  next = u ++ placed_from c.args.at w
+  next = u ++ placed_from c.args.frame.now.at w
 
   abbrev got : List Cell
-  got = cells c.args.frame.now.bytes c.args.frame.now.offsets c.id.result
+  got = cells c.args.frame.now.bytes (frame_places c.args.frame.now) c.id.result
 
   abbrev es : List (Event Packet)
   es = c.take_whole-taken.ensures.taken.0
 
   abbrev last : ℕ
-  last = c.args.at + (c.size-bytes.result - 1)
+  last = c.args.frame.now.at + (c.size-bytes.result - 1)
 
   size : length w ≡ c.size-bytes.result
   size = whole_size w c.args.frame.now.bytes c.args.frame.now.halves q.whole ∙ sym c.size-bytes.ensures
@@ -99,21 +99,21 @@ module _ (g : bound.Over) (c : goal.After-flow_of g) (u : List Placed) (w : List
 
   given : cells (units_of f) (offsets_of f) c.args.self.now.port.port.id ≡ got
   given =
-      ap (λ (l : List ℕ). cells l (offsets_of f) c.args.self.now.port.port.id) (q.whole.frame_is c.args.at)
+      ap (λ (l : List ℕ). cells l (offsets_of f) c.args.self.now.port.port.id) (q.whole.frame_is c.args.frame.now.at)
       ∙ ap (λ (l : List ℕ). cells c.args.frame.now.bytes l c.args.self.now.port.port.id) (sym q.offsets)
-      ∙ ap (λ (i : Option ℕ). cells c.args.frame.now.bytes c.args.frame.now.offsets i) (sym c.id.ensures)
+      ∙ ap (λ (i : Option ℕ). cells c.args.frame.now.bytes (frame_places c.args.frame.now) i) (sym c.id.ensures)
 
-  fed : FedFrame plan.frames got u c.args.at w
+  fed : FedFrame plan.frames got u c.args.frame.now.at w
   fed =
-      subst (λ (m : FramesMode). FedFrame m got u c.args.at w) h.mode
-      (subst (λ (l : List Cell). FedFrame c.args.self.now.port.mode l u c.args.at w) given
-      (c.pass_frame.ensures.fed u f c.args.frame.now.halves c.args.at w h.port (q.whole.spelled c.args.at)))
+      subst (λ (m : FramesMode). FedFrame m got u c.args.frame.now.at w) h.mode
+      (subst (λ (l : List Cell). FedFrame c.args.self.now.port.mode l u c.args.frame.now.at w) given
+      (c.pass_frame.ensures.fed u f c.args.frame.now.halves c.args.frame.now.at w h.port (q.whole.spelled c.args.frame.now.at)))
 
   grows : GrowsByFrame (port_of plan u) (port_of plan next) c.args.frame.now.halves got
   grows =
       subst (λ (m : FramesMode). GrowsByFrame (port_reading m u) (port_reading m next) c.args.frame.now.halves got) h.mode
       (subst (λ (l : List Cell). GrowsByFrame (port_reading c.args.self.now.port.mode u) (port_reading c.args.self.now.port.mode next) c.args.frame.now.halves l) given
-      (c.pass_frame.ensures.grows u (placed_from c.args.at w) f c.args.frame.now.halves h.port (q.whole.spelled c.args.at)))
+      (c.pass_frame.ensures.grows u (placed_from c.args.frame.now.at w) f c.args.frame.now.halves h.port (q.whole.spelled c.args.frame.now.at)))
 
   abbrev Taken : List (Slot SourceMachine) → List Cell → Type 0
   Taken before cs =
@@ -123,19 +123,19 @@ module _ (g : bound.Over) (c : goal.After-flow_of g) (u : List Placed) (w : List
       StepTakenBy MachineStands (mapped_of reading_of before) c.take_whole-taken.new.slots mode v
       (v ++ byte_at last byte ∷ []) es c.take_whole-taken.result.stop
 
-  the_step : Stepped plan slots h.sources live c.take_whole-taken.new.slots c.take_whole-taken.new.counters u c.args.at w
+  the_step : Stepped plan slots h.sources live c.take_whole-taken.new.slots c.take_whole-taken.new.counters u c.args.frame.now.at w
       es c.take_whole-taken.result.stop c.flow_of.result
   the_step =
       let keeps = h.going c.requires.live in
       let halves = c.args.self.now.counters.port.halves + c.args.frame.now.halves in
       stepped plan slots h.sources live c.take_whole-taken.new.slots c.args.self.now.counters c.take_whole-taken.new.counters
       halves Frame got last
-      es c.take_whole-taken.result.stop c.flow_of.result u c.args.at w
-      (rise_to u c.args.self.now.next c.args.at (subst (λ (k : ℕ). BytesRise 0 k u) (sym h.next) h.rising) c.requires.offsets.0)
+      es c.take_whole-taken.result.stop c.flow_of.result u c.args.frame.now.at w
+      (rise_to u c.args.self.now.next c.args.frame.now.at (subst (λ (k : ℕ). BytesRise 0 k u) (sym h.next) h.rising) c.requires.offsets.0)
       (none_there (fault_of plan u) (sym h.live ∙ c.requires.live)) keeps
       (subst (λ (ss : List (Mapped Packet)). AreDistinct ss) (sym h.sources) (distinct plan c.args.self.now.sound))
       fed
-      (ap (λ (k : ℕ). k + c.args.frame.now.halves) keeps.counted.port.halves ∙ sym (halves_inside plan.frames got u c.args.at w c.args.frame.now.halves fed grows))
+      (ap (λ (k : ℕ). k + c.args.frame.now.halves) keeps.counted.port.halves ∙ sym (halves_inside plan.frames got u c.args.frame.now.at w c.args.frame.now.halves fed grows))
       (λ k e. (let a = size in omega arith))
       (subst (λ (l : List (Slot SourceMachine)). Taken l got) c.as_mut_slice.ensures.value c.take_whole-taken.ensures.taken.2.0)
       c.take_whole-taken.ensures.taken.2.1
@@ -150,7 +150,7 @@ pub returns-clause-list : goal.returns-clause-list
 returns-clause-list g c = λ u w h q.
     let self = c.args.self.now in
     let new = c.take_whole-taken.new.slots in
-    let at = c.args.at in
+    let at = c.args.frame.now.at in
     let all = slots_are reading_of self.slots.items new (c.take_whole-taken.ensures.same ∙ ap (mapped_of reading_of) c.as_mut_slice.ensures.value) in
     let step = the_step g c u w h q in
     let long = size g c u w h q in

@@ -10,4 +10,4 @@ returns-clause-split c = λ at id s.
     let n : names frame c.args.pair ≡ true = (let h = c.requires.named in grind (arith, nat_tests)) in
     divided frame at id c.args.pair c.args.self.now c.args.begun.now c.requires.pair c.requires.from s n _ c.new.result c.new.ensures
     c.end_part.new.self (ap (λ (k : ℕ). 2 * c.args.pair + k) c.from.ensures)
-    c.end_part.ensures.bytes c.end_part.ensures.offsets c.end_part.ensures.parts
+    c.end_part.ensures.bytes c.end_part.ensures.places c.end_part.ensures.parts

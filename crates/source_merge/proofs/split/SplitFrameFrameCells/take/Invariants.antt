@@ -7,7 +7,7 @@ use Rattle.source_machine.specs.Machine.{Stands, held_of, is_live, reading_of, s
 use Rattle.source_merge.specs.Counting.{HasBytes, bytes_counted, total_of}
 use Rattle.source_merge.specs.Giving.{Given}
 use Rattle.source_merge.specs.Routing.{mapped_of, AllLive, AllStand, HaveRoom, AreDistinct, RunsBetween}
-use Rattle.source_merge.specs.Split.{AreParts, cells_of_parts, split_cells}
+use Rattle.source_merge.specs.Split.{AreParts, cells_of_parts, split_cells, split_places}
 use Rattle.source_merge.proofs.Filling.{Filled}
 use Rattle.source_merge.proofs.split.SplitFrameFrameCells.take.Given as goal
 
@@ -16,7 +16,7 @@ abbrev pub invariant-loop-part : goal.invariant-loop-part
 invariant-loop-part g l =
     let cells = split_cells l.self in
     let parts_left = drop l.part-index l.self.parts.items in
-    let rest = cells_of_parts l.self.offsets l.self.bytes parts_left in
+    let rest = cells_of_parts (split_places l.self) l.self.bytes parts_left in
     record {
       done : List (List Cell);
       parts : runs_of cells ≡ done ++ runs_of rest;

@@ -36,7 +36,7 @@ returns-in-Go c =
     let locked = reads_on d.mode c.in_default.not-Hunting in
     record {
       same = (refl, refl);
-      settled = c.requires.settled;
+      settled = (c.requires.settled.0, refl);
       list = λ u s. goes_list d.order d.mode d.live d.partial d.attribution u b c.requires.live locked c.in-Go.partial c.in-Go.ensures.next s;
       step = λ u s. goes_step d.order d.mode d.live d.partial d.attribution u b c.requires.live locked c.in-Go.partial c.in-Go.ensures.next s;
       live = c.requires.live;
@@ -57,7 +57,7 @@ returns-in-Some c =
     let locked = reads_on d.mode c.in_default.not-Hunting in
     record {
       same = (refl, refl);
-      settled = c.requires.settled;
+      settled = (c.requires.settled.0, refl);
       list = λ u s. stops_list d.order d.mode d.live d.partial d.attribution u b c.requires.live locked c.in-End.packet c.take.new.self c.in-End.ensures.next c.in-Some.ensures.list s;
       step = λ u s. stops_step d.order d.mode d.live d.partial d.attribution u b c.requires.live locked c.in-End.packet _ c.in-End.ensures.next c.in-Some.ensures.item s;
       live = c.requires.live;
@@ -80,7 +80,7 @@ returns-in-None c =
     let locked = reads_on d.mode c.in_default.not-Hunting in
     record {
       same = (refl, refl);
-      settled = c.requires.settled;
+      settled = (c.requires.settled.0, refl);
       list = λ u s. stops_list d.order d.mode d.live d.partial d.attribution u b c.requires.live locked c.in-End.packet c.take.new.self c.in-End.ensures.next c.in-None.ensures.list s;
       step = λ u s. stops_step d.order d.mode d.live d.partial d.attribution u b c.requires.live locked c.in-End.packet _ c.in-End.ensures.next c.in-None.ensures.item s;
       live = c.requires.live;

@@ -10,7 +10,7 @@ use Rattle.stp_codec.specs.Wholes.{Ends, between, nibbles_in}
 use Rattle.stp_codec.specs.Decoder.{is_hunter, has_locked}
 use Rattle.stp_codec.specs.Cuts.{Passes, CutsInto, IsProperCut}
 use Rattle.stp_codec.proofs.Taking.{At}
-use Rattle.stp_codec.proofs.Taken.{settled}
+use Rattle.stp_codec.proofs.Taken.{filled}
 use Rattle.stp_codec.proofs.Unread.{reached_none}
 use Rattle.stp_codec.proofs.PartPieces.{inside_passes, inside_count}
 use Rattle.stp_codec.proofs.decoder.StpDecoder.take_settled.Goals as goal
@@ -24,8 +24,8 @@ returns-in-Inside-clause-some c =
     let some : 0 < length c.args.bytes.now = grind (arith, nat_tests) in
     let walks = subst (CutsInto d.order d.partial c.args.bytes.now) c.in-Inside.is c.in_ok-partial.ensures.cuts in
     let count = inside_count d.order d.partial t c.args.bytes.now walks in
-    let old = settled d c.requires.settled in
-    let new = reached_none d.order t d.held d.waiting c.requires.settled in
+    let old = filled d c.requires.settled in
+    let new = reached_none d.order t d.held d.waiting c.requires.settled.0 in
     let old_count = ap (λ (p : Partial). count_of p) old in
     let new_count = ap (λ (p : Partial). count_of p) new in
     record {
@@ -49,7 +49,7 @@ finish_packet-requires-clause-next c =
       locked = locked;
       some = cut.0;
       within = cut.1;
-      whole = subst (λ (p : Partial). Ends d.order (Go p) (between (nibbles_in c.args.bytes.now) 0 c.in-Ended.nibbles) c.in-Ended.packet) (sym (settled d c.requires.settled)) cut.2;
+      whole = subst (λ (p : Partial). Ends d.order (Go p) (between (nibbles_in c.args.bytes.now) 0 c.in-Ended.nibbles) c.in-Ended.packet) (sym (filled d c.requires.settled)) cut.2;
       proper = subst IsProperCut c.in-Ended.is c.in_ok-partial.ensures.proper;
     }
 

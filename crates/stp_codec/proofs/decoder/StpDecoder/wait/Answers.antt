@@ -5,8 +5,8 @@ use Rattle.stp_codec.proofs.decoder.StpDecoder.wait.Goals as goal
 pub invariant_of-self-clause-fronts : goal.invariant_of-self-clause-fronts
 invariant_of-self-clause-fronts c = λ h. more_fronts c.args.self.now c.args._ahead.now c.args.count c.requires.held c.requires.fronts
 
-pub returns-clause-part : goal.returns-clause-part
-returns-clause-part c =
+pub returns-clause-found : goal.returns-clause-found
+returns-clause-found c =
     let d = c.args.self.now in
     let k = more_count d c.args._ahead.now c.args.count c.requires.held c.requires.fronts c.requires.ahead in
     record {

@@ -1,0 +1,142 @@
+-- The pairs of a frame that name a source, one after the other.
+use Rattle.std.proofs.Common.{◌≡◌, ◌≢◌, ℕ, zero, suc, ◌+◌, ◌-◌, ◌*◌, ◌/◌, ◌%◌, ◌^◌, ◌<◌, ◌≤◌, List, [], ◌∷◌, refl, sym, ◌∙◌, ap, ap₂, subst, arith, Bool, true, false, cond, bit_and, ◌&&◌, ◌||◌, ⊎_elim}
+use Rattle.std.specs.Prelude.{slice_index, ◌==◌}
+use Rattle.std.specs.Int.{w64, trailing_zeros}
+use Rattle.std.specs.Int.Count.{count_trailing_zeros}
+use Rattle.std.specs.List.{filter, range_with_len}
+use Rattle.std.proofs.lemmas.Bool.{agree_below_at, and_parts, cases_Bool, cases_lt, eqb-true, true≢false}
+use Rattle.frame_grammar.specs.Frame.{names}
+use Rattle.source_merge.specs.Data.{first_bytes, last_bytes}
+use Rattle.source_merge.specs.Pairs.{named_from, places, bits_of_half}
+
+-- two tests that agree from a on keep the same
+same_kept : (f g : ℕ → Bool) (a n : ℕ) → ((k : ℕ) → k < a + n → f k ≡ g k) →
+    filter f (range_with_len a n) ≡ filter g (range_with_len a n)
+same_kept f g a zero h = refl
+same_kept f g a (suc n) h =
+    ap₂ (λ (b : Bool) (xs : List ℕ). cond b (a ∷ xs) xs) (h a (omega arith)) (same_kept f g (a + 1) n (λ k l. h k (omega (arith, l))))
+
+-- each bit of the number that is gathered
+each_bit : (frame : List ℕ) (bits k : ℕ) → bits ≡ bits_of_half (first_bytes frame) + bits_of_half (last_bytes frame) % 8 * 16 → k < 7 →
+    (bits / 2 ^ k % 2 == 1) ≡ names frame k
+each_bit frame bits k e l = ap (λ (x : ℕ). x == 1) (by k l) where
+  by : (k : ℕ) → k < 7 → bits / 2 ^ k % 2 ≡ slice_index frame (2 * k) % 2
+  by zero l = omega (arith, e)
+  by (suc zero) l = omega (arith, e)
+  by (suc (suc zero)) l = omega (arith, e)
+  by (suc (suc (suc zero))) l = omega (arith, e)
+  by (suc (suc (suc (suc zero)))) l = omega (arith, e)
+  by (suc (suc (suc (suc (suc zero))))) l = omega (arith, e)
+  by (suc (suc (suc (suc (suc (suc zero)))))) l = omega (arith, e)
+  by (suc (suc (suc (suc (suc (suc (suc k))))))) l = absurd (omega (arith, l))
+
+-- so they are the places of those bits
+pub named_are : (frame : List ℕ) (bits : ℕ) → bits ≡ bits_of_half (first_bytes frame) + bits_of_half (last_bytes frame) % 8 * 16 →
+    places bits ≡ named_from frame 0
+unfolding places named_from
+named_are frame bits e =
+    same_kept (λ k. bits / 2 ^ k % 2 == 1) (λ k. names frame k) 0 7 (λ k l. each_bit frame bits k e (omega (arith, l)))
+
+-- whether two lists are the same
+same : List ℕ → List ℕ → Bool
+same [] [] = true
+same [] (y ∷ ys) = false
+same (x ∷ xs) [] = false
+same (x ∷ xs) (y ∷ ys) = x == y && same xs ys
+
+from_same : (xs ys : List ℕ) → same xs ys ≡ true → xs ≡ ys
+unfolding same
+from_same [] [] e = refl
+from_same [] (y ∷ ys) e = absurd (true≢false (sym e))
+from_same (x ∷ xs) [] e = absurd (true≢false (sym e))
+from_same (x ∷ xs) (y ∷ ys) e =
+    let parts = and_parts (x == y) (same xs ys) e in
+    ap₂ (λ (z : ℕ) (zs : List ℕ). z ∷ zs) (eqb-true x y parts.0) (from_same xs ys parts.1)
+
+-- the place of the lowest bit is the first, and without that bit the others are left
+first_at : ℕ → Bool
+unfolding places same
+first_at n = n == 0 || same (places n) (trailing_zeros w64 n ∷ places (bit_and n (n - 1)))
+
+pub first_place : (n : ℕ) → n < 128 → n ≢ 0 → places n ≡ trailing_zeros w64 n ∷ places (bit_and n (n - 1))
+unfolding first_at count_trailing_zeros
+first_place n l some = from_same _ _ (by (n == 0) refl) where
+  all : first_at n ≡ true
+  all = agree_below_at first_at (λ (k : ℕ). true) 128 n refl l
+
+  by : (b : Bool) → (n == 0) ≡ b → same (places n) (trailing_zeros w64 n ∷ places (bit_and n (n - 1))) ≡ true
+  by true e = absurd (some (eqb-true n 0 e))
+  by false e = sym (ap (λ (b : Bool). b || same (places n) (trailing_zeros w64 n ∷ places (bit_and n (n - 1)))) e) ∙ all
+
+pub no_place : (n : ℕ) → n ≡ 0 → places n ≡ []
+unfolding places
+no_place n e = ap (λ (x : ℕ). filter (λ k. x / 2 ^ k % 2 == 1) (range_with_len 0 7)) e
+
+-- what a list of them says: its first one, and that none before it names a source
+record IsNext (frame : List ℕ) (p q : ℕ) (rest : List ℕ) : Type 0 where
+  from : p ≤ q
+  below : q < 7
+  named : names frame q ≡ true
+  plain : (k : ℕ) → p ≤ k → k < q → names frame k ≡ false
+  rest_is : rest ≡ named_from frame (q + 1)
+
+-- n pairs from p on
+abbrev named_of : List ℕ → ℕ → ℕ → List ℕ
+named_of frame p n = filter (λ k. names frame k) (range_with_len p n)
+
+found : (frame : List ℕ) (p n : ℕ) → names frame p ≡ true → named_of frame p (suc n) ≡ p ∷ named_of frame (p + 1) n
+found frame p n h = ap (λ (b : Bool). cond b (p ∷ named_of frame (p + 1) n) (named_of frame (p + 1) n)) h
+
+passed : (frame : List ℕ) (p n : ℕ) → names frame p ≡ false → named_of frame p (suc n) ≡ named_of frame (p + 1) n
+passed frame p n h = ap (λ (b : Bool). cond b (p ∷ named_of frame (p + 1) n) (named_of frame (p + 1) n)) h
+
+-- the first pair names a source, or it does not
+next_here : (frame : List ℕ) (n p q : ℕ) (rest : List ℕ) → p + suc n ≡ 7 → names frame p ≡ true →
+    p ∷ named_of frame (p + 1) n ≡ q ∷ rest → IsNext frame p q rest
+unfolding named_from
+next_here frame n p q rest s h e =
+    let first : p ≡ q = cc in
+    let left : named_of frame (p + 1) n ≡ rest = cc in
+    record {
+      from = omega (arith, first);
+      below = omega (arith, first, s);
+      named = subst (λ (k : ℕ). names frame k ≡ true) first h;
+      plain = λ k low high. absurd (omega (arith, first, low, high));
+      rest_is = sym left ∙ ap₂ (λ (a m : ℕ). named_of frame a m) (ap (λ (k : ℕ). k + 1) first) (omega (arith, first, s));
+    }
+
+next_later : (frame : List ℕ) (p q : ℕ) (rest : List ℕ) → names frame p ≡ false → IsNext frame (p + 1) q rest → IsNext frame p q rest
+next_later frame p q rest h later =
+    record {
+      from = (let low = later.from in omega (arith, low));
+      below = later.below;
+      named = later.named;
+      plain = λ k low high.
+          ⊎_elim (λ more. later.plain k (omega (arith, more)) high) (λ most. ap (names frame) (omega (arith, low, most)) ∙ h) (cases_lt p k);
+      rest_is = later.rest_is;
+    }
+
+next_of : (frame : List ℕ) (n p q : ℕ) (rest : List ℕ) → p + n ≡ 7 → named_of frame p n ≡ q ∷ rest → IsNext frame p q rest
+next_of frame zero p q rest s e = let k : [] ≡ q ∷ rest = e in absurd cc
+next_of frame (suc n) p q rest s e =
+    ⊎_elim (λ h. next_here frame n p q rest s h (sym (found frame p n h) ∙ e))
+    (λ h. next_later frame p q rest h (next_of frame n (p + 1) q rest (omega (arith, s)) (sym (passed frame p n h) ∙ e)))
+    (cases_Bool (names frame p))
+
+pub named_next : (frame : List ℕ) (p q : ℕ) (rest : List ℕ) → p ≤ 7 → named_from frame p ≡ q ∷ rest →
+    (p ≤ q) × (q < 7) × (names frame q ≡ true) × ((k : ℕ) → p ≤ k → k < q → names frame k ≡ false) × (rest ≡ named_from frame (q + 1))
+unfolding named_from
+named_next frame p q rest l e =
+    let n = next_of frame (7 - p) p q rest (omega (arith, l)) e in (n.from, n.below, n.named, n.plain, n.rest_is)
+
+-- where a list of them is empty, none names a source
+none_of : (frame : List ℕ) (n p : ℕ) → named_of frame p n ≡ [] → (k : ℕ) → p ≤ k → k < p + n → names frame k ≡ false
+none_of frame zero p e k low high = absurd (omega (arith, low, high))
+none_of frame (suc n) p e k low high =
+    ⊎_elim (λ h. let no : p ∷ named_of frame (p + 1) n ≡ [] = sym (found frame p n h) ∙ e in absurd cc)
+    (λ h. ⊎_elim (λ more. none_of frame n (p + 1) (sym (passed frame p n h) ∙ e) k (omega (arith, more)) (omega (arith, high)))
+    (λ most. ap (names frame) (omega (arith, low, most)) ∙ h) (cases_lt p k)) (cases_Bool (names frame p))
+
+pub named_none : (frame : List ℕ) (p : ℕ) → p ≤ 7 → named_from frame p ≡ [] → (k : ℕ) → p ≤ k → k < 7 → names frame k ≡ false
+unfolding named_from
+named_none frame p l e k low high = none_of frame (7 - p) p e k low (omega (arith, l, high))

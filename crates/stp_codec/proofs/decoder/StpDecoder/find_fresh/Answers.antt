@@ -1,0 +1,31 @@
+use Rattle.std.proofs.Common.{arith, take}
+use Rattle.stp_codec.specs.Parts.{packet_of}
+use Rattle.stp_codec.specs.Wholes.{nibbles_in}
+use Rattle.stp_codec.proofs.Taken.{fresh_finishes, fresh_fronts, copies_ready, copies_fronts, copies_same, copies_idle, idle_finds, finds_packet}
+use Rattle.stp_codec.proofs.decoder.StpDecoder.find_fresh.Goals as goal
+
+pub returns-then-parts-count-clause-found : goal.returns-then-parts-count-clause-found
+returns-then-parts-count-clause-found c =
+    let d = c.args.self.now in
+    let x = c.in-Some.parts in
+    let e = c.in-Some.ensures in
+    finds_packet d c.args.ahead.now c.args.count x e.number c.if-parts-count.true
+    (fresh_finishes d c.requires.ready c.requires.settled c.args.ahead.now x.nibbles (packet_of x) e.end.0 e.end.1 e.whole e.proper)
+
+pub wait-requires-clause-fronts : goal.wait-requires-clause-fronts
+wait-requires-clause-fronts c =
+    let d = c.args.self.now in
+    let x = c.in-Some.parts in
+    let e = c.in-Some.ensures in
+    let f = c.if-parts-count.false in
+    copies_fronts d c.hold.new.self c.args.ahead.now c.hold.ensures (nibbles_in (take c.args.count c.args.ahead.now))
+    (fresh_fronts d c.requires.ready c.requires.settled c.args.ahead.now x.nibbles (packet_of x) c.args.count (omega (arith, f)) (omega arith) e.whole)
+
+pub wait-requires-clause-ready : goal.wait-requires-clause-ready
+wait-requires-clause-ready c = copies_ready c.args.self.now c.hold.new.self c.args.ahead.now c.hold.ensures c.requires.ready
+
+pub returns-clause-found : goal.returns-clause-found
+returns-clause-found c =
+    let d = c.args.self.now in
+    let m = c.hold.new.self in
+    idle_finds d m c.wait.new.self (copies_same d m c.args.ahead.now c.hold.ensures) (copies_idle d m c.args.ahead.now c.hold.ensures) c.args.ahead.now c.args.count c.wait.result c.wait.ensures.found
