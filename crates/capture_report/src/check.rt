@@ -16,7 +16,7 @@ use itm_grammar::packet::ItmPacket;
 use source_counts::Counts;
 use source_events::{Event, Packet, Plan, Stop};
 use source_merge::{Engine, Events, Receiver, flow_after};
-use stp_grammar::item::StpItem;
+use stp_grammar::said::Said;
 use trace_stream::{Action, Flow, OUTLET_ROOM, Outlet, TEXT_ROOM, Taken};
 use trace_text::{PortCountsLines, TAILS_ROOM, print_fault, print_tails, put_source_counts};
 use trace_values::{ID_COUNT, SourceId};
@@ -77,10 +77,13 @@ impl Receiver for Ignored {
     fn give_itm(&mut self, _to: &mut (), _at: u64, _source: SourceId, _packet: ItmPacket) {}
 
     #[inline(always)]
-    fn give_stp(&mut self, _to: &mut (), _at: u64, _half: u8, _source: SourceId, _item: StpItem) {}
+    fn give_stp(&mut self, _to: &mut (), _at: u64, _half: u8, _source: SourceId, _said: Said) {}
 
     #[inline(always)]
     fn give_raw(&mut self, _to: &mut (), _at: u64, _source: SourceId, _bytes: &[u8]) {}
+
+    #[inline(always)]
+    fn give_trigger(&mut self, _to: &mut (), _at: u64, _source: SourceId, _byte: u8) {}
 }
 
 /// Takes whole frames from the front of the piece, the first byte of which is at this offset, where no source is

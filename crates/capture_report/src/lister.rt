@@ -4,11 +4,16 @@ ghost use Rattle.std.specs.Prelude.{◌≡◌, ◌+◌, ◌≤◌, ◌++◌, ◌
 ghost use Rattle.std.specs.Prelude.{if◌then◌else◌};
 ghost use Rattle.itm_grammar.specs.Proper.{IsProper};
 ghost use Rattle.source_events.specs.declared.event.Event.{Event};
-ghost use Rattle.source_events.specs.declared.event.What.TheVariants.{Packet as Said};
+ghost use Rattle.source_events.specs.declared.event.What.TheVariants.{Packet as GivenPacket};
 ghost use Rattle.source_events.specs.declared.packet.Packet.{Packet};
 ghost use Rattle.source_events.specs.declared.packet.Packet.TheVariants.{Itm};
 ghost use Rattle.source_events.specs.Fitting.{EventFits, PacketFits};
+ghost use Rattle.std.specs.Option.{is_some};
+ghost use Rattle.std.specs.Prelude.{true};
+ghost use Rattle.source_merge.specs.Receiver.{trigger_event};
 ghost use Rattle.stp_grammar.specs.Proper.{IsProperItem};
+ghost use Rattle.stp_grammar.specs.Said.{said_item, IsProperSaid};
+ghost use Rattle.stp_grammar.specs.declared.item.StpItem.{StpItem};
 ghost use Rattle.trace_text.specs.LineText.{event_line, itm_event, raw_event, stp_event};
 ghost use Rattle.trace_text.specs.Printable.{Suits};
 ghost use Rattle.trace_stream.specs.declared.outlet.TheConstants.{TEXT_ROOM, OUTLET_ROOM};
@@ -26,8 +31,11 @@ use itm_grammar::packet::ItmPacket;
 use source_events::{Event, Packet, Plan, RunBytes, What};
 use source_merge::{Receiver, bare_source};
 use stp_grammar::item::StpItem;
+use stp_grammar::said::Said;
 use trace_stream::{OUTLET_ROOM, Outlet};
-use trace_text::{Digits, EVENT_ROOM, Remark, print, put_line, put_raw_line, put_stp_line};
+use trace_text::{
+    Digits, EVENT_ROOM, Remark, print, put_line, put_raw_line, put_said_line, put_stp_line,
+};
 use trace_values::SourceId;
 
 /// What puts the lines of events, and what it needs of the events before them.
@@ -108,9 +116,9 @@ fn put_itm_line(
     requires room { length outlet.old + TEXT_ROOM ≤ OUTLET_ROOM }
     ensures text { (before : List (Event Packet)) → AllStand clocks.old before →
         outlet.new ≡ outlet.old ++ event_line false (itm_event at id packet.now)
-        (remark_of (itm_packets (Some id) before) (Said (Itm packet.now))) }
+        (remark_of (itm_packets (Some id) before) (GivenPacket (Itm packet.now))) }
     ensures clocks { (before : List (Event Packet)) (event : Event Packet) → event.source ≡ Some id →
-        event.what ≡ Said (Itm packet.now) → AllStand clocks.old before →
+        event.what ≡ GivenPacket (Itm packet.now) → AllStand clocks.old before →
         AllStand clocks.new (before ++ event ∷ []) }
     ensures bound { length outlet.new ≤ length outlet.old + EVENT_ROOM }
 {
@@ -228,6 +236,24 @@ impl Lister {
         );
     }
 
+    /// The same of the byte of the trigger source at this offset.
+    #[inline(never)]
+    fn give_trigger_event(&mut self, outlet: &mut Outlet, at: u64, source: SourceId, byte: u8)
+        requires room { length outlet.old + TEXT_ROOM ≤ OUTLET_ROOM }
+        ensures gets { gets (self.old, outlet.old) (trigger_event source at byte ∷ []) (self.new, outlet.new) }
+        ensures bound { length outlet.new ≤ length outlet.old + EVENT_ROOM }
+    {
+        let event = trigger_of(at, source, byte);
+        put_next(
+            outlet,
+            &mut self.digits,
+            &mut self.clocks,
+            &mut self.filter,
+            self.plan.plan(),
+            &event,
+        );
+    }
+
     /// The same of the next run of bytes of this source.
     #[inline(never)]
     fn give_raw_event(&mut self, outlet: &mut Outlet, at: u64, source: SourceId, bytes: &[u8])
@@ -310,6 +336,21 @@ impl Lister {
         put_stp_line(outlet, &mut self.digits, at, half, source, item);
     }
 
+    /// The same of the item of what a packet of this source says, which has one.
+    #[inline(always)]
+    fn put_said(&mut self, outlet: &mut Outlet, at: u64, half: u8, source: SourceId, said: Said)
+        requires proper { IsProperSaid said }
+        requires some { is_some (said_item said) ≡ true }
+        requires own { ListsStp self.old source }
+        requires room { length outlet.old + TEXT_ROOM ≤ OUTLET_ROOM }
+        ensures gets { (item : StpItem) → said_item said ≡ Some item →
+            gets (self.old, outlet.old) (stp_event at half source item ∷ []) (self.new, outlet.new) }
+        ensures bound { length outlet.new ≤ length outlet.old + EVENT_ROOM }
+    {
+        self.clocks.pass();
+        put_said_line(outlet, &mut self.digits, at, half, source, said);
+    }
+
     /// Takes the next packet of this source, and puts its line if it is listed.
     #[inline(always)]
     fn put_itm(&mut self, outlet: &mut Outlet, at: u64, source: SourceId, packet: ItmPacket)
@@ -357,24 +398,20 @@ impl Lister {
         }
     }
 
-    /// Takes the next event where it is a trigger and all events are listed, and puts its line. Answers whether it did; if
-    /// not, nothing has changed.
+    /// The same of a byte of the trigger source, which is this one.
     #[inline(always)]
-    fn put_trigger(&mut self, outlet: &mut Outlet, event: &Event<Packet>) -> bool
+    fn put_trigger(&mut self, outlet: &mut Outlet, at: u64, source: SourceId, byte: u8)
         requires room { length outlet.old + TEXT_ROOM ≤ OUTLET_ROOM }
-        ensures gets { result ≡ true → gets (self.old, outlet.old) (event.now ∷ []) (self.new, outlet.new) }
+        ensures gets { gets (self.old, outlet.old) (trigger_event source at byte ∷ []) (self.new, outlet.new) }
         ensures bound { length outlet.new ≤ length outlet.old + EVENT_ROOM }
-        ensures none { result ≡ false → (self.new ≡ self.old) × (outlet.new ≡ outlet.old) }
     {
-        let (What::Trigger(_), Some(id)) = (&event.what, event.source) else {
-            return false;
-        };
-        if !self.lists_itm(id) {
-            return false;
+        if self.lists_itm(source) {
+            self.clocks.pass();
+            let event = trigger_of(at, source, byte);
+            print(outlet, &mut self.digits, &event, false, Remark::None);
+        } else {
+            self.give_trigger_event(outlet, at, source, byte);
         }
-        self.clocks.pass();
-        print(outlet, &mut self.digits, event, false, Remark::None);
-        true
     }
 
     /// Takes the next packet of a capture with no formatter. Its last byte is at this offset.
@@ -413,6 +450,19 @@ impl Lister {
     }
 }
 
+/// The event of the byte of the trigger source at this offset.
+#[inline(always)]
+fn trigger_of(at: u64, source: SourceId, byte: u8) -> Event<Packet>
+    ensures { result ≡ trigger_event source at byte }
+{
+    Event {
+        at,
+        half: 0,
+        source: Some(source),
+        what: What::Trigger(byte),
+    }
+}
+
 /// An event goes to the outlet as its line, if it is listed.
 impl Receiver for Lister {
     ghost use Rattle.capture_report.specs.Lister.{gets, room, ListsItm, ListsStp};
@@ -432,19 +482,17 @@ impl Receiver for Lister {
 
     ghost gets_more = { gets_more };
 
-    /// What comes so is seldom: the notice of a lock, or a trigger.
+    /// What comes so is seldom: the notice of a lock.
     #[inline(always)]
     fn give(&mut self, outlet: &mut Outlet, event: Event<Packet>) {
-        if !self.put_trigger(outlet, &event) {
-            put_whole(
-                outlet,
-                &mut self.digits,
-                &mut self.clocks,
-                &mut self.filter,
-                self.plan.plan(),
-                event,
-            );
-        }
+        put_whole(
+            outlet,
+            &mut self.digits,
+            &mut self.clocks,
+            &mut self.filter,
+            self.plan.plan(),
+            event,
+        );
     }
 
     #[inline(always)]
@@ -463,19 +511,17 @@ impl Receiver for Lister {
     }
 
     #[inline(always)]
-    fn give_stp(
-        &mut self,
-        outlet: &mut Outlet,
-        at: u64,
-        half: u8,
-        source: SourceId,
-        item: StpItem,
-    ) {
-        self.put_own_stp(outlet, at, half, source, item);
+    fn give_stp(&mut self, outlet: &mut Outlet, at: u64, half: u8, source: SourceId, said: Said) {
+        self.put_said(outlet, at, half, source, said);
     }
 
     #[inline(always)]
     fn give_raw(&mut self, outlet: &mut Outlet, at: u64, source: SourceId, bytes: &[u8]) {
         self.put_raw(outlet, at, source, bytes);
+    }
+
+    #[inline(always)]
+    fn give_trigger(&mut self, outlet: &mut Outlet, at: u64, source: SourceId, byte: u8) {
+        self.put_trigger(outlet, at, source, byte);
     }
 }

@@ -1,5 +1,5 @@
 -- Bytes that are within a packet, as a word of eight bytes tells.
-use Rattle.std.proofs.Common.{◌≡◌, ℕ, zero, suc, ◌+◌, ◌-◌, ◌*◌, ◌%◌, ◌^◌, ◌<◌, ◌≤◌, List, slice_index, [], ◌∷◌, ◌++◌, length, length-append, take, get_or, bit_and, true, refl, sym, ◌∙◌, ap, subst, arith}
+use Rattle.std.proofs.Common.{◌≡◌, ℕ, zero, suc, ◌+◌, ◌-◌, ◌*◌, ◌%◌, ◌^◌, ◌<◌, ◌≤◌, List, slice_index, [], ◌∷◌, ◌++◌, length, length-append, take, replicate, get_or, bit_and, true, refl, sym, ◌∙◌, ap, subst, arith}
 use Rattle.std.specs.Int.{w64, from_le_bytes}
 use Rattle.std.specs.Int.Bits.{and_zero_r}
 use Rattle.std.proofs.lemmas.Nat.{and_block, and_mask}
@@ -9,10 +9,11 @@ use Rattle.itm_grammar.specs.declared.packet.ItmPacket.TheVariants.{GlobalSecond
 use Rattle.itm_grammar.specs.declared.partial.Partial.{Partial}
 use Rattle.itm_grammar.specs.declared.partial.Partial.TheVariants.{Header}
 use Rattle.itm_grammar.specs.Rule.{rule}
-use Rattle.itm_grammar.specs.Spelling.{Spells, IsContinued, groups}
+use Rattle.itm_grammar.specs.Spelling.{Spells, IsContinued, groups, number}
 use Rattle.itm_grammar.proofs.Deciding.{decided}
 use Rattle.itm_codec.specs.Reached.{reached}
 use Rattle.itm_codec.specs.Windows.{IsFrontOf}
+use Rattle.itm_codec.proofs.Zeros.{word_is, zeros_in}
 use Rattle.itm_codec.proofs.Waiting.{longer, front_within, reached_is}
 use Rattle.itm_codec.proofs.Windows.{bit_seven, sevens_step, clear, set_of, clear_is, clear_few}
 
@@ -32,7 +33,7 @@ cut_front window count bytes p h l s =
     front_of (take count window) more.0 more.1 p (subst (λ (x : List ℕ). Spells p x) more.2 s)
 
 -- all bits of the first bytes
-pub bits_are : (n : ℕ) → n ≤ 6 → 1 * 2 ^ (8 * n) % 18446744073709551616 - 1 ≡ 256 ^ n - 1
+pub bits_are : (n : ℕ) → n ≤ 7 → 1 * 2 ^ (8 * n) % 18446744073709551616 - 1 ≡ 256 ^ n - 1
 bits_are zero h = refl
 bits_are (suc zero) h = refl
 bits_are (suc (suc zero)) h = refl
@@ -40,9 +41,10 @@ bits_are (suc (suc (suc zero))) h = refl
 bits_are (suc (suc (suc (suc zero)))) h = refl
 bits_are (suc (suc (suc (suc (suc zero))))) h = refl
 bits_are (suc (suc (suc (suc (suc (suc zero)))))) h = refl
-bits_are (suc (suc (suc (suc (suc (suc (suc n))))))) h = absurd (omega arith)
+bits_are (suc (suc (suc (suc (suc (suc (suc zero))))))) h = refl
+bits_are (suc (suc (suc (suc (suc (suc (suc (suc n)))))))) h = absurd (omega arith)
 
-low_bits : (word n : ℕ) → n ≤ 6 → bit_and word (256 ^ n - 1) ≡ word % 256 ^ n
+pub low_bits : (word n : ℕ) → n ≤ 7 → bit_and word (256 ^ n - 1) ≡ word % 256 ^ n
 low_bits word zero h = and_mask word 0
 low_bits word (suc zero) h = and_mask word 8
 low_bits word (suc (suc zero)) h = and_mask word 16
@@ -50,46 +52,27 @@ low_bits word (suc (suc (suc zero))) h = and_mask word 24
 low_bits word (suc (suc (suc (suc zero)))) h = and_mask word 32
 low_bits word (suc (suc (suc (suc (suc zero))))) h = and_mask word 40
 low_bits word (suc (suc (suc (suc (suc (suc zero)))))) h = and_mask word 48
-low_bits word (suc (suc (suc (suc (suc (suc (suc n))))))) h = absurd (omega arith)
+low_bits word (suc (suc (suc (suc (suc (suc (suc zero))))))) h = and_mask word 56
+low_bits word (suc (suc (suc (suc (suc (suc (suc (suc n)))))))) h = absurd (omega arith)
 
--- bytes 00
-zeros : (b0 b1 b2 b3 b4 high n : ℕ) (rest : List ℕ) → b0 < 256 → b1 < 256 → b2 < 256 → b3 < 256 → b4 < 256 → n ≤ 5 →
-    (b0 + 256 * (b1 + 256 * (b2 + 256 * (b3 + 256 * (b4 + 256 * high))))) % 256 ^ n ≡ 0 → Front (take n (b0 ∷ (b1 ∷ (b2 ∷ (b3 ∷ (b4 ∷ rest))))))
-zeros b0 b1 b2 b3 b4 high zero rest l0 l1 l2 l3 l4 h e = refl
-zeros b0 b1 b2 b3 b4 high (suc zero) rest l0 l1 l2 l3 l4 h e =
-    let e0 : b0 ≡ 0 = omega arith in
-    let l : b0 ∷ [] ≡ 0 ∷ [] = cc in subst Front (sym l) refl
-zeros b0 b1 b2 b3 b4 high (suc (suc zero)) rest l0 l1 l2 l3 l4 h e =
-    let e0 : b0 ≡ 0 = omega arith in
-    let e1 : b1 ≡ 0 = omega arith in
-    let l : b0 ∷ (b1 ∷ []) ≡ 0 ∷ (0 ∷ []) = cc in subst Front (sym l) refl
-zeros b0 b1 b2 b3 b4 high (suc (suc (suc zero))) rest l0 l1 l2 l3 l4 h e =
-    let e0 : b0 ≡ 0 = omega arith in
-    let e1 : b1 ≡ 0 = omega arith in
-    let e2 : b2 ≡ 0 = omega arith in
-    let l : b0 ∷ (b1 ∷ (b2 ∷ [])) ≡ 0 ∷ (0 ∷ (0 ∷ [])) = cc in subst Front (sym l) refl
-zeros b0 b1 b2 b3 b4 high (suc (suc (suc (suc zero)))) rest l0 l1 l2 l3 l4 h e =
-    let e0 : b0 ≡ 0 = omega arith in
-    let e1 : b1 ≡ 0 = omega arith in
-    let e2 : b2 ≡ 0 = omega arith in
-    let e3 : b3 ≡ 0 = omega arith in
-    let l : b0 ∷ (b1 ∷ (b2 ∷ (b3 ∷ []))) ≡ 0 ∷ (0 ∷ (0 ∷ (0 ∷ []))) = cc in subst Front (sym l) refl
-zeros b0 b1 b2 b3 b4 high (suc (suc (suc (suc (suc zero))))) rest l0 l1 l2 l3 l4 h e =
-    let e0 : b0 ≡ 0 = omega arith in
-    let e1 : b1 ≡ 0 = omega arith in
-    let e2 : b2 ≡ 0 = omega arith in
-    let e3 : b3 ≡ 0 = omega arith in
-    let e4 : b4 ≡ 0 = omega arith in
-    let l : b0 ∷ (b1 ∷ (b2 ∷ (b3 ∷ (b4 ∷ [])))) ≡ 0 ∷ (0 ∷ (0 ∷ (0 ∷ (0 ∷ [])))) = cc in subst Front (sym l) refl
-zeros b0 b1 b2 b3 b4 high (suc (suc (suc (suc (suc (suc n)))))) rest l0 l1 l2 l3 l4 h e = absurd (omega arith)
+-- bytes 00 are within a synchronisation
+zeros_front : (n : ℕ) → n ≤ 7 → Front (replicate n 0)
+zeros_front zero h = refl
+zeros_front (suc zero) h = refl
+zeros_front (suc (suc zero)) h = refl
+zeros_front (suc (suc (suc zero))) h = refl
+zeros_front (suc (suc (suc (suc zero)))) h = refl
+zeros_front (suc (suc (suc (suc (suc zero))))) h = refl
+zeros_front (suc (suc (suc (suc (suc (suc zero)))))) h = refl
+zeros_front (suc (suc (suc (suc (suc (suc (suc zero))))))) h = refl
+zeros_front (suc (suc (suc (suc (suc (suc (suc (suc n)))))))) h = absurd (omega arith)
 
-pub zero_front : (window : List ℕ) (word bits n : ℕ) → length window ≡ 8 → ((i : ℕ) → get_or window i 0 < 256) → word ≡ from_le_bytes w64 window → n ≤ 5 → bits ≡ 256 ^ n - 1 →
+pub zero_front : (window : List ℕ) (word bits n : ℕ) → length window ≡ 8 → ((i : ℕ) → get_or window i 0 < 256) → word ≡ from_le_bytes w64 window → n ≤ 7 → bits ≡ 256 ^ n - 1 →
     bit_and word bits ≡ 0 → IsFrontOf window n
-zero_front (b0 ∷ (b1 ∷ (b2 ∷ (b3 ∷ (b4 ∷ (b5 ∷ (b6 ∷ (b7 ∷ rest)))))))) word bits n l small e h b z =
-    let sum : word ≡ b0 + 256 * (b1 + 256 * (b2 + 256 * (b3 + 256 * (b4 + 256 * (b5 + 256 * (b6 + 256 * b7)))))) = omega (arith, e) in
-    zeros b0 b1 b2 b3 b4 (b5 + 256 * (b6 + 256 * b7)) n (b5 ∷ (b6 ∷ (b7 ∷ rest))) (small 0) (small 1) (small 2) (small 3) (small 4) h
-    (ap (λ (x : ℕ). x % 256 ^ n) (sym sum) ∙ sym (low_bits word n (omega arith)) ∙ ap (bit_and word) (sym b) ∙ z)
-zero_front window word bits n l small e h b z = absurd (omega arith)
+zero_front window word bits n l small e h b z =
+    let clear : number window % 256 ^ n ≡ 0 =
+    ap (λ (x : ℕ). x % 256 ^ n) (sym (word_is window word l e)) ∙ sym (low_bits word n h) ∙ ap (bit_and word) (sym b) ∙ z in
+    subst Front (sym (zeros_in n window small (omega arith) clear)) (zeros_front n h)
 
 -- each of these bytes says that another follows
 abbrev EachContinues : List ℕ → Type 0
@@ -217,5 +200,5 @@ stamp_front (b0 ∷ (b1 ∷ (b2 ∷ (b3 ∷ (b4 ∷ (b5 ∷ (b6 ∷ (b7 ∷ rest
     let ends = ap (λ (x : ℕ). bit_and x 0x8080808080808000) left ∙ clears b0 b1 b2 b3 b4 b5 b6 b7 s0 s1 s2 s3 s4 s5 s6 in
     subst (λ (x : ℕ). Front (take n (x ∷ (b1 ∷ (b2 ∷ (b3 ∷ (b4 ∷ (b5 ∷ (b6 ∷ (b7 ∷ rest)))))))))) (sym header)
     (stamps b1 b2 b3 b4 b5 (128 * clear b6 + 256 * (128 * clear b7)) n (b6 ∷ (b7 ∷ rest)) s1 s2 s3 s4 s5 h
-    (ap (λ (x : ℕ). x % 256 ^ n) (sym ends) ∙ sym (low_bits _ n h) ∙ ap (bit_and _) (sym b) ∙ z))
+    (ap (λ (x : ℕ). x % 256 ^ n) (sym ends) ∙ sym (low_bits _ n (omega arith)) ∙ ap (bit_and _) (sym b) ∙ z))
 stamp_front window word bits n l small header e h b z = absurd (omega arith)

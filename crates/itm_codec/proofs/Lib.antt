@@ -2,7 +2,11 @@ pub mod Answering
 pub mod Encoding
 pub mod Fronts
 pub mod Holding
+pub mod Joining
 pub mod Parts
+pub mod Seconds
+pub mod Syncs
 pub mod Waiting
 pub mod Wholes
 pub mod Windows
+pub mod Zeros

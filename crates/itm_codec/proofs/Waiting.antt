@@ -11,30 +11,23 @@ use Rattle.itm_grammar.specs.declared.partial.Partial.{Partial}
 use Rattle.itm_grammar.specs.Rule.{rule, count_of}
 use Rattle.itm_grammar.proofs.Deciding.{counted_bytes}
 use Rattle.itm_codec.specs.declared.decoder.ItmDecoder.{ItmDecoder}
-use Rattle.itm_codec.specs.Decoder.{partial_of, held_of}
+use Rattle.itm_grammar.specs.Shortest.{bytes_of}
+use Rattle.itm_codec.specs.Decoder.{partial_of, held_of, waiting_in}
 use Rattle.itm_codec.specs.Reached.{reached, left_by}
+use Rattle.itm_codec.proofs.Joining.{count_of_bytes}
 
 pub take_take : (k n : ℕ) (l : List ℕ) → k ≤ n → n ≤ length l → take k (take n l) ≡ take k l
 take_take k n l h m =
     let e : length (take n l) ≡ n = length-take-le n l m in
     sym (take-append-le k (take n l) (drop n l) (omega arith)) ∙ ap (take k) (take-append-drop n l)
 
--- the first units of a list whose middle is a copy of others
-pub same_front : (a next more ahead : List ℕ) (n : ℕ) → next ≡ take 8 ahead → 8 ≤ length ahead → n ≤ length a + 8 → take n (a ++ (next ++ more)) ≡ take n (a ++ ahead)
-same_front a next more ahead n e l h =
+-- a list with a copy of the first of others
+pub seen : (a next ahead : List ℕ) → next ≡ take 8 ahead → 8 ≤ length ahead → take 8 (a ++ next) ≡ take 8 (a ++ ahead)
+seen a next ahead e l =
     let copied : length next ≡ 8 = ap length e ∙ length-take-le 8 ahead l in
-    let enough : n ≤ length (a ++ next) = omega (arith, length-append a next, copied) in
-    ap (take n) (sym (append_assoc a next more)) ∙ take-append-le n (a ++ next) more enough ∙ sym (take-append-le n (a ++ next) (drop 8 ahead) enough)
-    ∙ ap (take n) (append_assoc a next (drop 8 ahead) ∙ ap (λ (x : List ℕ). a ++ (x ++ drop 8 ahead)) e ∙ ap (λ (x : List ℕ). a ++ x) (take-append-drop 8 ahead))
-
--- and those that are read at once
-pub read_front : (a next more ahead : List ℕ) (n : ℕ) → next ≡ take 8 ahead → 8 ≤ length ahead → n ≤ length (take 8 (a ++ (next ++ more))) →
-    take n (take 8 (a ++ (next ++ more))) ≡ take n (a ++ ahead)
-read_front a next more ahead n e l h =
-    let copied : length next ≡ 8 = ap length e ∙ length-take-le 8 ahead l in
-    let enough : 8 ≤ length (a ++ (next ++ more)) = omega (arith, length-append a (next ++ more), length-append next more, copied) in
-    let m : n ≤ 8 = omega (arith, h, length-take-le 8 (a ++ (next ++ more)) enough) in
-    take_take n 8 (a ++ (next ++ more)) m enough ∙ same_front a next more ahead n e l (omega (arith, m))
+    let enough : 8 ≤ length (a ++ next) = omega (arith, length-append a next, copied) in
+    sym (take-append-le 8 (a ++ next) (drop 8 ahead) enough) ∙ ap (take 8)
+    (append_assoc a next (drop 8 ahead) ∙ ap (λ (x : List ℕ). a ++ (x ++ drop 8 ahead)) e ∙ ap (λ (x : List ℕ). a ++ x) (take-append-drop 8 ahead))
 
 -- a list is that of its first elements, with more
 pub longer : (k n : ℕ) (l : List ℕ) → k < n → n ≤ length l → (b : ℕ) × (more : List ℕ) × (take n l ≡ take k l ++ (b ∷ more))
@@ -94,15 +87,15 @@ reached_is s t r e = ap (left_by s) e
 
 -- where none wait, what is unfinished is kept as it is
 pub settled : (d : ItmDecoder) → d.waiting ≡ 0 → partial_of d ≡ d.partial
-settled d e = ap (λ (n : ℕ). reached d.partial (take n d.held)) e
+settled d e = ap (λ (n : ℕ). reached d.partial (bytes_of n d.held)) e
 
 -- the bytes that wait are so many
-pub count_is : (d : ItmDecoder) → length (take d.waiting d.held) ≡ d.waiting
-count_is d = length-take-le d.waiting d.held (let r = d.room in let f = d.few in omega arith)
+pub count_is : (d : ItmDecoder) → length (waiting_in d) ≡ d.waiting
+count_is d = count_of_bytes d.waiting d.held
 
 -- and they are all that is held
 pub waiting_is : (d : ItmDecoder) → 0 < d.waiting → d.waiting ≡ held_of d
 waiting_is d h =
-    let n = counted_bytes d.partial (partial_of d) (take d.waiting d.held) d.within in
+    let n = counted_bytes d.partial (partial_of d) (waiting_in d) d.within in
     let none : count_of d.partial ≡ 0 = ap count_of (d.begins h) in
     omega (arith, n, none, count_is d)

@@ -1,12 +1,12 @@
 -- Packets that eight bytes begin with, and their payloads as words.
-use Rattle.std.proofs.Common.{◌≡◌, ℕ, zero, suc, ◌+◌, ◌-◌, ◌*◌, ◌/◌, ◌%◌, ◌^◌, ◌<◌, ◌≤◌, ◌⊎◌, inl, inr, List, [], ◌∷◌, length, take, drop, slice_index, bit_and, true, refl, sym, ◌∙◌, ap, subst, arith}
+use Rattle.std.proofs.Common.{◌≡◌, ℕ, zero, suc, ◌+◌, ◌-◌, ◌*◌, ◌/◌, ◌%◌, ◌^◌, ◌<◌, ◌≤◌, ◌⊎◌, inl, inr, List, [], ◌∷◌, All, length, take, drop, slice_index, bit_and, true, refl, sym, ◌∙◌, ap, subst, arith}
 use Rattle.std.specs.Prelude.{◌==◌}
 use Rattle.std.specs.Int.Count.{count_trailing_zeros}
 use Rattle.std.specs.Int.Bits.{and_zero_r}
 use Rattle.std.proofs.lemmas.Bool.{agree_below_at, eqb-true}
 use Rattle.std.proofs.lemmas.List.{length-take-le}
 use Rattle.std.proofs.lemmas.Nat.{and_block, and_mask}
-use Rattle.itm_grammar.specs.Spelling.{Spells, IsContinued, groups}
+use Rattle.itm_grammar.specs.Spelling.{Spells, IsContinued, IsExtended, groups, extended}
 use Rattle.itm_codec.specs.declared.whole.InWindow.{InWindow}
 use Rattle.itm_codec.specs.declared.whole.InWindow.TheVariants.{Packet, Other}
 use Rattle.itm_codec.specs.Windows.{IsFound, four_bytes}
@@ -248,6 +248,21 @@ module _ (word : ℕ) (small : word < 4294967296) (some : ends_of word ≡ 0 →
     ]
   ]
 
+-- where all four bits are clear, each byte has bit 7 set
+all_four : (a b c d : ℕ) → 128 ≤ a → 128 ≤ b → 128 ≤ c → 128 ≤ d → All (λ byte. 128 ≤ byte) (a ∷ (b ∷ (c ∷ (d ∷ []))))
+all_four a b c d ha hb hc hd zero x l = ha
+all_four a b c d ha hb hc hd (suc zero) x l = hb
+all_four a b c d ha hb hc hd (suc (suc zero)) x l = hc
+all_four a b c d ha hb hc hd (suc (suc (suc zero))) x l = hd
+all_four a b c d ha hb hc hd (suc (suc (suc (suc k)))) x l = absurd (omega arith)
+
+pub each_continued : (word : ℕ) → word < 4294967296 → ends_of word ≡ 0 → All (λ byte. 128 ≤ byte) (four_bytes word)
+each_continued word small e =
+    let k = sym (ends_are word small) ∙ e in
+    all_four (word % 256) (word / 256 % 256) (word / 65536 % 256) (word / 16777216 % 256)
+    (set_of (word % 256) (omega (arith, k)) (omega arith)) (set_of (word / 256 % 256) (omega (arith, k)) (omega arith))
+    (set_of (word / 65536 % 256) (omega (arith, k)) (omega arith)) (set_of (word / 16777216 % 256) (omega (arith, k)) (omega arith))
+
 -- numbers of groups, by how many these are
 pub under : (n v k : ℕ) → n ≡ k → v < 128 ^ n → v < 128 ^ k
 under n v k e h = subst (λ (m : ℕ). v < 128 ^ m) e h
@@ -266,3 +281,34 @@ small n v h l f = elim (sizes n h l) [
     ]
   ]
 ]
+
+-- a payload of at most four bytes is one of an extension packet too
+abbrev pub Extends : ℕ → List ℕ → Type 0
+Extends v l = IsExtended l × (extended l ≡ v)
+
+extends_one : (a v : ℕ) → IsContinued (a ∷ []) → v ≡ groups (a ∷ []) → Extends v (a ∷ [])
+extends_one a v h e = (h, omega (arith, e, h))
+
+extends_two : (a b v : ℕ) → IsContinued (a ∷ (b ∷ [])) → v ≡ groups (a ∷ (b ∷ [])) → Extends v (a ∷ (b ∷ []))
+extends_two a b v h e = (h, (let k : b < 128 = h.1 in omega (arith, e, k)))
+
+extends_three : (a b c v : ℕ) → IsContinued (a ∷ (b ∷ (c ∷ []))) → v ≡ groups (a ∷ (b ∷ (c ∷ []))) → Extends v (a ∷ (b ∷ (c ∷ [])))
+extends_three a b c v h e = ((h.0, h.1.0, h.1.1), (let k : c < 128 = h.1.1 in omega (arith, e, k)))
+
+extends_four : (a b c d v : ℕ) → IsContinued (a ∷ (b ∷ (c ∷ (d ∷ [])))) → v ≡ groups (a ∷ (b ∷ (c ∷ (d ∷ [])))) → Extends v (a ∷ (b ∷ (c ∷ (d ∷ []))))
+extends_four a b c d v h e = ((h.0, h.1.0, h.1.1.0, refl), (let k : d < 128 = h.1.1.1 in omega (arith, e, k)))
+
+pub extends : (n v word : ℕ) → 0 < n → n ≤ 4 → IsContinued (take n (four_bytes word)) → v ≡ groups (take n (four_bytes word)) → Extends v (take n (four_bytes word))
+extends zero v word h l c e = absurd (omega arith)
+extends (suc zero) v word h l c e = extends_one (word % 256) v c e
+extends (suc (suc zero)) v word h l c e = extends_two (word % 256) (word / 256 % 256) v c e
+extends (suc (suc (suc zero))) v word h l c e = extends_three (word % 256) (word / 256 % 256) (word / 65536 % 256) v c e
+extends (suc (suc (suc (suc zero)))) v word h l c e = extends_four (word % 256) (word / 256 % 256) (word / 65536 % 256) (word / 16777216 % 256) v c e
+extends (suc (suc (suc (suc (suc n))))) v word h l c e = absurd (omega arith)
+
+-- a fourth byte has eight bits
+pub extends_long : (v word : ℕ) → All (λ byte. 128 ≤ byte) (four_bytes word) → v ≡ groups (four_bytes word) → Extends (v + 268435456) (four_bytes word)
+extends_long v word all e =
+    let d : ℕ = word / 16777216 % 256 in
+    let h : 128 ≤ d = all 3 0 (omega arith) in
+    ((all 0 0 (omega arith), all 1 0 (omega arith), all 2 0 (omega arith), refl), omega (arith, e, h))

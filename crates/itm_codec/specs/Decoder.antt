@@ -1,5 +1,5 @@
 -- What a decoder stands for, and what it shows.
-use Rattle.std.specs.Prelude.{ℕ, List, take, Bool}
+use Rattle.std.specs.Prelude.{ℕ, List, Bool}
 use Rattle.trace_values.specs.Placed.{Placed}
 use Rattle.trace_values.specs.Walk.{by_unit}
 use Rattle.trace_values.specs.Moded.{StandsIn, hunts, is_locked, skipped_of}
@@ -7,13 +7,14 @@ use Rattle.itm_grammar.specs.declared.packet.ItmPacket.TheVariants.{Sync}
 use Rattle.itm_grammar.specs.declared.partial.Partial.{Partial}
 use Rattle.itm_grammar.specs.declared.partial.Partial.TheVariants.{Header}
 use Rattle.itm_grammar.specs.Rule.{rule, count_of}
+use Rattle.itm_grammar.specs.Shortest.{bytes_of}
 use Rattle.itm_codec.specs.Reading.{pattern}
 use Rattle.itm_codec.specs.Reached.{reached}
 use Rattle.itm_codec.specs.declared.decoder.ItmDecoder.{ItmDecoder}
 
 -- the bytes that it took and has not read
 abbrev pub waiting_in : ItmDecoder → List ℕ
-waiting_in decoder = take decoder.waiting decoder.held
+waiting_in decoder = bytes_of decoder.waiting decoder.held
 
 -- the unfinished packet
 abbrev pub partial_of : ItmDecoder → Partial

@@ -1,10 +1,11 @@
 //! The decoder of ITM packets.
 
-ghost use Rattle.std.specs.Prelude.{◌≡◌, ◌<◌, ◌≤◌, length, take, true, IfSome};
+ghost use Rattle.std.specs.Prelude.{◌≡◌, ◌^◌, ◌<◌, ◌≤◌, length, replicate, take, true, IfSome};
 ghost use Rattle.trace_values.specs.Moded.{is_counted, is_locked};
 ghost use Rattle.trace_values.specs.Walk.{walk, Within};
 ghost use Rattle.itm_grammar.specs.Rule.{rule, is_sound};
 ghost use Rattle.itm_grammar.specs.Spelling.{Spells};
+ghost use Rattle.itm_grammar.specs.Shortest.{bytes_of};
 ghost use Rattle.itm_grammar.specs.Proper.{IsProper};
 ghost use Rattle.itm_grammar.specs.declared.partial.Partial.TheVariants.{Header};
 ghost use Rattle.itm_codec.specs.Reading.{pattern};
@@ -13,7 +14,8 @@ ghost use Rattle.itm_codec.specs.Windows.{IsSeen};
 ghost use Rattle.trace_values.specs.declared.limits.TheConstants.{COUNT_ROOM};
 
 use crate::cut::cut_packet;
-use crate::front::is_front;
+use crate::front::{first_bits, is_front};
+use crate::sync::{sync_at, zeros_in};
 use crate::whole::{InWindow, WINDOW, packet_in};
 use itm_grammar::packet::ItmPacket;
 use itm_grammar::partial::Partial;
@@ -58,26 +60,28 @@ pub struct ItmDecoder {
     mode: Mode,
     partial: Partial,
     live: bool,
-    /// How many of the bytes below wait.
+    /// How many bytes wait, and the number that they are, the first the least significant.
     waiting: usize,
-    held: [u8; 16],
+    held: u64,
     ghost sound: { is_sound partial ≡ true },
     ghost counted: { is_counted pattern mode ≡ true },
-    ghost room: { length held ≡ 16 },
     ghost few: { waiting ≤ 7 },
+    ghost fits: { held < 256 ^ waiting },
     ghost begins: { 0 < waiting → partial ≡ Header },
     ghost locked: { 0 < waiting → is_locked mode ≡ true },
-    ghost within: { walk rule partial (take waiting held) ≡ Within (reached partial (take waiting held)) },
+    ghost within: { walk rule partial (bytes_of waiting held) ≡ Within (reached partial (bytes_of waiting held)) },
 }
 
 impl ItmDecoder {
     ghost use Rattle.std.specs.Prelude.{[], ◌∷◌, ◌++◌, false, ℕ, ◌+◌, ◌*◌, List, IfSome, None};
+    ghost use Rattle.std.specs.Int.{w64, to_le_bytes};
     ghost use Rattle.trace_values.specs.Placed.{Placed, units_of};
     ghost use Rattle.trace_values.specs.Stream.{StepFits, LocksAfter};
     ghost use Rattle.trace_values.specs.Block.{Takes, StopsFor, goes_on_after};
     ghost use Rattle.itm_grammar.specs.declared.partial.Partial.TheVariants.{Header};
     ghost use Rattle.itm_codec.specs.Reading.{packets_in};
     ghost use Rattle.itm_codec.specs.Decoder.{Stands, partial_of, is_hunter, is_live, has_locked, held_of, skipped_by};
+    ghost use Rattle.itm_codec.specs.Decoder.{waiting_in};
     ghost use Rattle.itm_codec.specs.Parts.{Took, part_found};
     ghost use Rattle.itm_codec.specs.Wholes.{Cuts, Gives};
 
@@ -93,7 +97,7 @@ impl ItmDecoder {
             partial: Partial::Header,
             live: true,
             waiting: 0,
-            held: [0; 16],
+            held: 0,
         }
     }
 
@@ -109,7 +113,7 @@ impl ItmDecoder {
             partial: Partial::Header,
             live: true,
             waiting: 0,
-            held: [0; 16],
+            held: 0,
         }
     }
 
@@ -157,7 +161,7 @@ impl ItmDecoder {
         ensures part { result ≡ partial_of self.now }
         ensures sound { is_sound result ≡ true }
     {
-        cut_packet(self.partial, &self.held[..self.waiting]).partial
+        cut_packet(self.partial, &self.held.to_le_bytes()[..self.waiting]).partial
     }
 
     /// Looks for the end of the unfinished packet in the first `count` of these bytes, wherever they are: it takes those
@@ -192,61 +196,32 @@ impl ItmDecoder {
         requires ahead { count + AHEAD ≤ length ahead.now }
         ensures { Took self.old self.new ahead.now count (part_found count result) }
     {
-        if count == 0 {
-            return ItmFound::Unknown;
-        }
-        if self.waiting > 0 {
-            return self.find_more(ahead, count);
-        }
         match self.partial {
-            Partial::Header if Mode::is_locked(self.mode) => self.find_first(ahead, count),
+            Partial::Header if count > 0 && Mode::is_locked(self.mode) => {
+                self.find_next(ahead, count)
+            }
             _ => ItmFound::Unknown,
         }
     }
 
-    /// Looks in bytes whose first is the packet's header. Where they do not end it, they wait.
+    /// Looks in the bytes that wait and those after them. Where they do not end a packet, they all wait.
     #[inline(always)]
-    fn find_first(&mut self, ahead: &[u8], count: usize) -> ItmFound
+    fn find_next(&mut self, ahead: &[u8], count: usize) -> ItmFound
         requires some { 0 < count }
         requires ahead { count + AHEAD ≤ length ahead.now }
         requires header { self.old.partial ≡ Header }
         requires locked { has_locked self.old ≡ true }
-        requires none { self.old.waiting ≡ 0 }
-        ensures { Took self.old self.new ahead.now count (part_found count result) }
-    {
-        let Some(next) = ahead.first_chunk::<AHEAD>() else {
-            return ItmFound::Unknown;
-        };
-        match look_in(next, count) {
-            ItmFound::Ends { bytes, packet } => ItmFound::Ends { bytes, packet },
-            ItmFound::Waits => {
-                self.held[0..AHEAD].copy_from_slice(next);
-                self.waiting = count;
-                ItmFound::Waits
-            }
-            ItmFound::Unknown => ItmFound::Unknown,
-        }
-    }
-
-    /// Looks in bytes after those of the packet that wait. Where they do not end it, they wait too.
-    #[inline(always)]
-    fn find_more(&mut self, ahead: &[u8], count: usize) -> ItmFound
-        requires some { 0 < count }
-        requires ahead { count + AHEAD ≤ length ahead.now }
-        requires waiting { 0 < self.old.waiting }
         ensures { Took self.old self.new ahead.now count (part_found count result) }
     {
         let Some(next) = ahead.first_chunk::<AHEAD>() else {
             return ItmFound::Unknown;
         };
         let waiting = self.waiting;
-        self.held[waiting..waiting + AHEAD].copy_from_slice(next);
-        let Some(window) = self.held.first_chunk::<WINDOW>() else {
-            return ItmFound::Unknown;
-        };
-        match look_in(window, waiting + count) {
+        let word = self.word_with(next);
+        match look_in(&word.to_le_bytes(), waiting + count) {
             ItmFound::Ends { bytes, packet } => {
                 self.waiting = 0;
+                self.held = 0;
                 ItmFound::Ends {
                     bytes: bytes - waiting,
                     packet,
@@ -254,10 +229,19 @@ impl ItmDecoder {
             }
             ItmFound::Waits => {
                 self.waiting = waiting + count;
+                self.held = word & first_bits(waiting + count);
                 ItmFound::Waits
             }
             ItmFound::Unknown => ItmFound::Unknown,
         }
+    }
+
+    /// The bytes that wait and those after them, as a word of eight bytes.
+    #[inline(always)]
+    fn word_with(&self, next: &[u8; AHEAD]) -> u64
+        ensures { to_le_bytes w64 result ≡ take 8 (waiting_in self.now ++ next.now) }
+    {
+        self.held + (u64::from_le_bytes(*next) << (8 * self.waiting as u32))
     }
 
     /// Takes these bytes, wherever they are: those within the unfinished packet up to the one that ends it, or all of
@@ -284,7 +268,7 @@ impl ItmDecoder {
         self.take_slowly(bytes)
     }
 
-    /// Takes these bytes one by one.
+    /// Takes these bytes one by one, or those of a synchronisation all at once.
     #[inline(always)]
     fn take_slowly(&mut self, bytes: &[u8]) -> Option<PartTaken<ItmPacket>>
         requires room { held_of self.old + length bytes.now ≤ COUNT_ROOM }
@@ -293,16 +277,68 @@ impl ItmDecoder {
         if !Mode::is_locked(self.mode) {
             return None;
         }
+        match self.partial {
+            Partial::Header if self.held == 0 => self.take_zeros(self.waiting as u64, bytes),
+            Partial::Zeros(taken) => self.take_zeros(taken, bytes),
+            _ => self.take_others(bytes),
+        }
+    }
+
+    /// Takes these bytes after this many bytes 00, which are all that was taken of a packet.
+    #[inline(always)]
+    fn take_zeros(&mut self, taken: u64, bytes: &[u8]) -> Option<PartTaken<ItmPacket>>
+        requires locked { has_locked self.old ≡ true }
+        requires room { held_of self.old + length bytes.now ≤ COUNT_ROOM }
+        requires zeros { walk rule Header (replicate taken 0) ≡ Within (partial_of self.old) }
+        ensures { Took self.old self.new bytes.now (length bytes.now) result }
+    {
+        let more = zeros_in(bytes);
+        let zeros = taken + more as u64;
+        if more == bytes.len() && more > 0 {
+            self.keep(Partial::Zeros(zeros));
+            Some(PartTaken {
+                bytes: more,
+                packet: None,
+            })
+        } else if more < bytes.len() && bytes[more] == 0x80 && zeros >= 5 {
+            self.keep(Partial::Header);
+            Some(PartTaken {
+                bytes: more + 1,
+                packet: Some(ItmPacket::Sync),
+            })
+        } else {
+            self.take_others(bytes)
+        }
+    }
+
+    /// Takes these bytes one by one.
+    #[inline(never)]
+    fn take_others(&mut self, bytes: &[u8]) -> Option<PartTaken<ItmPacket>>
+        requires locked { has_locked self.old ≡ true }
+        requires room { held_of self.old + length bytes.now ≤ COUNT_ROOM }
+        ensures { Took self.old self.new bytes.now (length bytes.now) result }
+    {
         let cut = cut_packet(self.unfinished(), bytes);
         if cut.bytes == 0 {
             return None;
         }
-        self.partial = cut.partial;
-        self.waiting = 0;
+        self.keep(cut.partial);
         Some(PartTaken {
             bytes: cut.bytes,
             packet: cut.packet,
         })
+    }
+
+    /// Keeps this unfinished packet in place of the one that it kept, with no bytes that wait.
+    #[inline(always)]
+    fn keep(&mut self, partial: Partial)
+        requires { is_sound partial ≡ true }
+        ensures part { partial_of self.new ≡ partial }
+        ensures same { (self.new.mode ≡ self.old.mode) × (self.new.live ≡ self.old.live) }
+    {
+        self.partial = partial;
+        self.waiting = 0;
+        self.held = 0;
     }
 
     /// Feeds a piece, whose first byte is at this offset, up to the first byte to which the answer is
@@ -366,6 +402,7 @@ fn front_packet(piece: &[u8]) -> Option<(usize, ItmPacket)>
     let window = piece.first_chunk::<WINDOW>()?;
     match packet_in(window) {
         InWindow::Packet { bytes, packet } => Some((bytes, packet)),
+        InWindow::Other if window[0] == 0 => Some((sync_at(piece)?, ItmPacket::Sync)),
         InWindow::Other => None,
     }
 }
@@ -459,6 +496,7 @@ impl Machine for ItmDecoder {
         } else {
             let unfinished = self.unfinished();
             self.waiting = 0;
+            self.held = 0;
             self.partial = unfinished;
             match unfinished.with_byte(byte) {
                 Next::Go(partial) => {

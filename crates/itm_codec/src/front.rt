@@ -13,12 +13,12 @@ const CONTINUED: u64 = 0x8080_8080_8080_8000;
 /// another follows, or bytes 00 of a synchronisation. Of longer ones, and of other packets, it does not tell.
 #[inline(always)]
 pub fn is_front(window: &[u8; WINDOW], count: usize) -> bool
-    ensures { result ≡ true → (count ≤ 6) × IsFrontOf window.now count }
+    ensures { result ≡ true → (count ≤ 7) × IsFrontOf window.now count }
 {
     if window[0] == 0xB4 {
         count <= 6 && is_stamp_front(window, count)
     } else {
-        count <= 5 && is_zero_front(window, count)
+        count <= 7 && is_zero_front(window, count)
     }
 }
 
@@ -36,7 +36,7 @@ fn is_stamp_front(window: &[u8; WINDOW], count: usize) -> bool
 /// The first `count` of these bytes are 00.
 #[inline(always)]
 fn is_zero_front(window: &[u8; WINDOW], count: usize) -> bool
-    requires { count ≤ 5 }
+    requires { count ≤ 7 }
     ensures { result ≡ true → IsFrontOf window.now count }
 {
     u64::from_le_bytes(*window) & first_bits(count) == 0
@@ -44,8 +44,8 @@ fn is_zero_front(window: &[u8; WINDOW], count: usize) -> bool
 
 /// All bits of the first `count` bytes of a word.
 #[inline(always)]
-fn first_bits(count: usize) -> u64
-    requires { count ≤ 6 }
+pub fn first_bits(count: usize) -> u64
+    requires { count ≤ 7 }
     ensures { result ≡ 256 ^ count - 1 }
 {
     (1u64 << (8 * count as u32)) - 1

@@ -7,6 +7,7 @@ mod decoder;
 mod encoder;
 mod front;
 pub mod laws;
+mod sync;
 mod whole;
 
 pub use decoder::{AHEAD, ItmDecoder, ItmFound, PartTaken};

@@ -4,11 +4,13 @@
 //! They are read so for speed alone: the decoder reads byte by byte what is not found here.
 
 ghost use Rattle.std.specs.Prelude.{◌≡◌, [], ◌+◌, ◌*◌, ◌/◌, ◌%◌, ◌^◌, ◌<◌, ◌≤◌, ◌∷◌, ℕ, List, length, take, drop};
-ghost use Rattle.std.specs.Prelude.{slice_index, IfSome};
-ghost use Rattle.itm_grammar.specs.Spelling.{Spells, IsExtended, extended, more_bit, IsContinued, groups, late_bits};
+ghost use Rattle.std.specs.Prelude.{slice_index, IfSome, All, None};
+ghost use Rattle.itm_grammar.specs.Spelling.{Spells, IsExtended, extended, IsContinued, groups, late_bits};
 ghost use Rattle.itm_grammar.specs.Spelling.{byte_count, size_bits, number};
 ghost use Rattle.itm_grammar.specs.Proper.{IsProper};
+ghost use Rattle.itm_grammar.specs.declared.packet.ItmPacket.TheVariants.{Sync};
 ghost use Rattle.itm_codec.specs.Windows.{IsFound, four_bytes};
+ghost use Rattle.itm_codec.specs.declared.whole.InWindow.TheVariants.{Packet};
 
 use itm_grammar::packet::{ItmPacket, Lateness, Size};
 
@@ -24,8 +26,7 @@ pub enum InWindow {
     Other,
 }
 
-/// The packet that these bytes begin with, where they have all of it. A synchronisation of more than six bytes is not
-/// found.
+/// The packet that these bytes begin with, where they have all of it.
 #[inline(always)]
 pub fn packet_in(window: &[u8; WINDOW]) -> InWindow
     ensures { IsFound window.now result }
@@ -147,7 +148,7 @@ fn global_in(header: u8, window: &[u8; WINDOW]) -> InWindow
 {
     match header {
         0x94 => first_global(payload_in(window)),
-        0xB4 => after_header(second_global(&window[1..])),
+        0xB4 => second_global(window),
         _ => InWindow::Other,
     }
 }
@@ -162,38 +163,35 @@ fn extension_in(header: u8, window: &[u8; WINDOW]) -> InWindow
     if header < 0x80 {
         short_extension(header)
     } else {
-        after_header(long_extension(header, &window[1..]))
+        long_extension(header, payload_in(window))
     }
 }
 
-/// The synchronisation of six bytes that these bytes begin with.
+/// The synchronisation that these bytes begin with, of six bytes, seven or eight.
 #[inline(always)]
 fn sync_in(window: &[u8; WINDOW]) -> InWindow
     ensures { IsFound window.now result }
 {
-    match window {
-        [0, 0, 0, 0, 0, 0x80, _, _] => InWindow::Packet {
-            bytes: 6,
-            packet: ItmPacket::Sync,
-        },
-        _ => InWindow::Other,
+    let word = u64::from_le_bytes(*window);
+    if word % 0x1_0000_0000_0000 == 0x8000_0000_0000 {
+        sync_of(6)
+    } else if word % 0x100_0000_0000_0000 == 0x80_0000_0000_0000 {
+        sync_of(7)
+    } else if word == 0x8000_0000_0000_0000 {
+        sync_of(8)
+    } else {
+        InWindow::Other
     }
 }
 
-/// A packet with the header before so many bytes of its payload.
+/// A synchronisation of so many bytes.
 #[inline(always)]
-fn after_header(found: Option<(usize, ItmPacket)>) -> InWindow
-    requires { IfSome found (λ x. x.0 < 100) }
-    ensures { (header : ℕ) (payload : List ℕ) →
-        IfSome found (λ x. (x.0 ≤ length payload) × Spells x.1 (header ∷ take x.0 payload) × IsProper x.1) →
-        IsFound (header ∷ payload) result }
+fn sync_of(bytes: usize) -> InWindow
+    ensures { result ≡ Packet bytes Sync }
 {
-    match found {
-        Some((bytes, packet)) => InWindow::Packet {
-            bytes: 1 + bytes,
-            packet,
-        },
-        None => InWindow::Other,
+    InWindow::Packet {
+        bytes,
+        packet: ItmPacket::Sync,
     }
 }
 
@@ -224,19 +222,15 @@ fn short_local(header: u8) -> InWindow
 /// The short extension packet that is this header alone.
 #[inline(always)]
 fn short_extension(header: u8) -> InWindow
-    requires { header < 128 }
+    requires { (header < 128) × (header % 4 ≡ 0) × ((header / 8) % 2 ≡ 1) }
     ensures { IsFound (header ∷ []) result }
 {
-    if header % 16 == 8 {
-        InWindow::Packet {
-            bytes: 1,
-            packet: ItmPacket::Extension {
-                dwt: false,
-                value: u32::from(header / 16),
-            },
-        }
-    } else {
-        InWindow::Other
+    InWindow::Packet {
+        bytes: 1,
+        packet: ItmPacket::Extension {
+            dwt: (header / 4) % 2 == 1,
+            value: u32::from(header / 16),
+        },
     }
 }
 
@@ -292,64 +286,46 @@ fn first_global(payload: u32) -> InWindow
     }
 }
 
-/// The second global timestamp of this payload, and how many bytes of it it takes: four with 22 bits of the time, or
-/// six with 38.
-#[inline]
-fn second_global(payload: &[u8]) -> Option<(usize, ItmPacket)>
-    ensures bytes { IfSome result (λ x. (0 < x.0) × (x.0 ≤ length payload.now)) }
-    ensures spells { IfSome result (λ x. Spells x.1 (180 ∷ take x.0 payload.now)) }
-    ensures proper { IfSome result (λ x. IsProper x.1) }
+/// The second global timestamp that these bytes begin with: its payload is four bytes with 22 bits of the time, or six
+/// with 38.
+#[inline(always)]
+fn second_global(window: &[u8; WINDOW]) -> InWindow
+    requires { slice_index window.now 0 ≡ 180 }
+    ensures { IsFound window.now result }
 {
-    match payload {
-        [a, b, c, d, ..] if *a >= 128 && *b >= 128 && *c >= 128 && *d < 128 => {
-            let value = u64::from(*a % 128)
-                + 128 * u64::from(*b % 128)
-                + 16384 * u64::from(*c % 128)
-                + 2_097_152 * u64::from(*d);
-            let packet = ItmPacket::GlobalSecond {
+    let word = u64::from_le_bytes(*window);
+    let low = u64::from(without_bits(payload_in(window)));
+    if word & 0x80_8080_8000 == 0x8080_8000 {
+        InWindow::Packet {
+            bytes: 5,
+            packet: ItmPacket::GlobalSecond {
                 wide: false,
-                value: value % 0x40_0000,
-            };
-            Some((4, packet))
+                value: low % 0x40_0000,
+            },
         }
-        _ => wide_second(payload),
-    }
-}
-
-/// The second global timestamp of this payload, where it has 38 bits of the time, and how many bytes it takes.
-#[inline]
-fn wide_second(payload: &[u8]) -> Option<(usize, ItmPacket)>
-    ensures bytes { IfSome result (λ x. (0 < x.0) × (x.0 ≤ length payload.now)) }
-    ensures spells { IfSome result (λ x. Spells x.1 (180 ∷ take x.0 payload.now)) }
-    ensures proper { IfSome result (λ x. IsProper x.1) }
-{
-    match payload {
-        [a, b, c, d, e, f, ..]
-            if *a >= 128 && *b >= 128 && *c >= 128 && *d >= 128 && *e >= 128 && *f < 128 => {
-            let value = u64::from(*a % 128)
-                + 128 * u64::from(*b % 128)
-                + 16384 * u64::from(*c % 128)
-                + 2_097_152 * u64::from(*d % 128)
-                + 268_435_456 * u64::from(*e % 128)
-                + 34_359_738_368 * u64::from(*f);
-            let packet = ItmPacket::GlobalSecond {
+    } else if word & 0x80_8080_8080_8000 == 0x8080_8080_8000 {
+        let high = u64::from(window[5] % 128) + 128 * u64::from(window[6] % 8);
+        InWindow::Packet {
+            bytes: 7,
+            packet: ItmPacket::GlobalSecond {
                 wide: true,
-                value: value % 0x40_0000_0000,
-            };
-            Some((6, packet))
+                value: low + 0x1000_0000 * high,
+            },
         }
-        _ => None,
+    } else {
+        InWindow::Other
     }
 }
 
-/// The payload of a timestamp that begins these four bytes: how many they are, and the number that their bits 6 to 0
-/// stand for, the lowest group first. Bit 7 says that another byte follows.
+/// The payload that begins these four bytes: how many they are, and the number that their bits 6 to 0 stand for, the
+/// lowest group first. Bit 7 says that another byte follows. None where all four of them say so.
 #[inline(always)]
 fn groups_in(payload: u32) -> Option<(usize, u32)>
     ensures bytes { IfSome result (λ x. (0 < x.0) × (x.0 ≤ 4)) }
     ensures continued { IfSome result (λ x. IsContinued (take x.0 (four_bytes payload))) }
     ensures number { IfSome result (λ x. x.1 ≡ groups (take x.0 (four_bytes payload))) }
     ensures fits { IfSome result (λ x. x.1 < 128 ^ x.0) }
+    ensures none { result ≡ None → All (λ byte. 128 ≤ byte) (four_bytes payload) }
 {
     let ends = (0xFFFF_FFFF - payload) & 0x8080_8080;
     if ends == 0 {
@@ -368,46 +344,33 @@ fn without_bits(kept: u32) -> u32
     (kept & 0x7F) + (kept / 2 & 0x3F80) + (kept / 4 & 0x1F_C000) + (kept / 8 & 0xFE0_0000)
 }
 
-/// The extension packet of this header and payload, and how many bytes of the payload it takes.
-#[inline]
-fn long_extension(header: u8, payload: &[u8]) -> Option<(usize, ItmPacket)>
+/// The extension packet of this header and of the payload that begins with these four bytes. A fourth byte has eight
+/// bits.
+#[inline(always)]
+fn long_extension(header: u8, payload: u32) -> InWindow
     requires { (128 ≤ header) × (header % 4 ≡ 0) × ((header / 8) % 2 ≡ 1) }
-    ensures bytes { IfSome result (λ x. (0 < x.0) × (x.0 ≤ length payload.now)) }
-    ensures spells { IfSome result (λ x. Spells x.1 (header ∷ take x.0 payload.now)) }
-    ensures proper { IfSome result (λ x. IsProper x.1) }
+    ensures { IsFound (header ∷ four_bytes payload) result }
 {
-    let (bytes, value) = extension_of(payload)?;
-    let packet = ItmPacket::Extension {
-        dwt: (header / 4) % 2 == 1,
-        value: u32::from((header / 16) % 8) + 8 * value,
-    };
-    Some((bytes, packet))
+    match groups_in(payload) {
+        Some((bytes, high)) => extension_of(header, bytes, high),
+        None => extension_of(header, 4, without_bits(payload) + 0x1000_0000),
+    }
 }
 
-/// The payload of an extension packet, at most four bytes: how many they are, and the number that they stand
-/// for. A fourth byte has eight bits.
-#[inline]
-fn extension_of(payload: &[u8]) -> Option<(usize, u32)>
-    ensures bytes { IfSome result (λ x. (0 < x.0) × (x.0 ≤ 4) × (x.0 ≤ length payload.now)) }
-    ensures extended { IfSome result (λ x. IsExtended (take x.0 payload.now)) }
-    ensures number { IfSome result (λ x. x.1 ≡ extended (take x.0 payload.now)) }
-    ensures fits { IfSome result (λ x. x.1 < 536870912) }
-    ensures some { IfSome result (λ x. more_bit (take x.0 payload.now) ≡ 1) }
+/// The extension packet of this header, whose payload is so many bytes and stands for this number.
+#[inline(always)]
+fn extension_of(header: u8, bytes: usize, high: u32) -> InWindow
+    requires header { (128 ≤ header) × (header % 4 ≡ 0) × ((header / 8) % 2 ≡ 1) }
+    requires bytes { (0 < bytes) × (bytes ≤ 4) }
+    requires fits { high < 536870912 }
+    ensures { (payload : List ℕ) → bytes ≤ length payload → IsExtended (take bytes payload) →
+        extended (take bytes payload) ≡ high → IsFound (header ∷ payload) result }
 {
-    match payload {
-        [a, ..] if *a < 128 => Some((1, u32::from(*a))),
-        [a, b, ..] if *b < 128 => Some((2, u32::from(*a % 128) + 128 * u32::from(*b))),
-        [a, b, c, ..] if *c < 128 => Some((
-            3,
-            u32::from(*a % 128) + 128 * u32::from(*b % 128) + 16384 * u32::from(*c),
-        )),
-        [a, b, c, d, ..] => Some((
-            4,
-            u32::from(*a % 128)
-                + 128 * u32::from(*b % 128)
-                + 16384 * u32::from(*c % 128)
-                + 2_097_152 * u32::from(*d),
-        )),
-        _ => None,
+    InWindow::Packet {
+        bytes: 1 + bytes,
+        packet: ItmPacket::Extension {
+            dwt: (header / 4) % 2 == 1,
+            value: u32::from((header / 16) % 8) + 8 * high,
+        },
     }
 }

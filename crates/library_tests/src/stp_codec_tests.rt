@@ -105,7 +105,16 @@ fn take_front(
     assert!(rt; count < 5000 && count + WINDOW <= ahead.len());
     assert!(rt; decoder.is_live() && decoder.held() < 10000 && decoder.skipped() < 10000);
     match decoder.find_part(ahead, count) {
-        StpFound::Ends(parts) => Some(decoder.end_part(ahead, parts)),
+        StpFound::Ends(parts) => {
+            let taken = decoder.end_part(ahead, parts);
+            let item = taken.said.item();
+            assert_eq!(rt; taken.said.has_item(), item.is_some());
+            Some(PacketTaken {
+                bytes: taken.bytes,
+                half: taken.half,
+                item,
+            })
+        }
         StpFound::Waits => Some(PacketTaken {
             bytes: count,
             half: 1,

@@ -3,13 +3,14 @@
 ghost use Rattle.std.specs.Prelude.{◌≡◌};
 ghost use Rattle.source_events.specs.declared.packet.Packet.TheVariants.{Itm, Stp};
 ghost use Rattle.source_machine.specs.Seen.{block_as, itm_found, part_as, step_as, packet_in};
+ghost use Rattle.stp_grammar.specs.Said.{said_item, IsProperSaid};
 ghost use Rattle.trace_values.specs.declared.limits.TheConstants.{COUNT_ROOM};
 
 use capture_plan::PacketsMode;
 use itm_codec::{ItmDecoder, ItmFound, PartTaken};
 use itm_grammar::packet::ItmPacket;
 use source_events::{Packet, SourceKind};
-use stp_codec::{PacketParts, PacketTaken, StpDecoder, StpFound};
+use stp_codec::{PacketParts, PacketTaken, SaidTaken, StpDecoder, StpFound};
 use stp_grammar::item::StpItem;
 use stp_grammar::packet::Order;
 use trace_values::{Block, Machine, Step};
@@ -308,7 +309,7 @@ impl SourceMachine {
     /// Takes the packet of these parts that `find_stp` found in these bytes, with all of the byte in which it ends. It
     /// is live.
     #[inline(always)]
-    pub fn end_stp(&mut self, ahead: &[u8], parts: PacketParts) -> PacketTaken
+    pub fn end_stp(&mut self, ahead: &[u8], parts: PacketParts) -> SaidTaken
         requires live { is_live self.old ≡ true }
         requires room { skipped_by self.old ≤ COUNT_ROOM }
         requires next { FinishesStp self.old ahead.now parts }
@@ -316,9 +317,10 @@ impl SourceMachine {
         ensures bytes { (0 < result.bytes) × (2 * result.bytes ≤ parts.nibbles + 1) }
         ensures passes { (u front : List Placed) (last : Placed) → Stands self.old u →
             units_of (front ++ last ∷ []) ≡ take result.bytes ahead.now →
-            Passes (reading_of self.old) (Stands self.new) u front last (packet_in result.half result.item) }
+            Passes (reading_of self.old) (Stands self.new) u front last
+            (packet_in result.half (said_item result.said)) }
         ensures live { is_live self.new ≡ true }
-        ensures fits { IfSome (packet_in result.half result.item) (StepFits PacketFits) }
+        ensures fits { IsProperSaid result.said }
         ensures few { held_of self.new + skipped_by self.new ≤
             held_of self.old + skipped_by self.old + 2 * result.bytes }
     {

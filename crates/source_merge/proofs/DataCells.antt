@@ -1,6 +1,5 @@
 -- The cells of bytes of one source.
-use Rattle.std.proofs.Common.{◌≡◌, ℕ, zero, suc, ◌<◌, ◌≤◌, List, [], ◌∷◌, length, take, get_or, refl, sym, ◌∙◌, ap, arith, Option, Some}
-use Rattle.std.proofs.lemmas.List.{length-take-le}
+use Rattle.std.proofs.Common.{◌≡◌, ℕ, zero, suc, ◌<◌, ◌≤◌, List, [], ◌∷◌, length, take, get_or, refl, ap, arith, Option}
 use Rattle.trace_values.specs.declared.cell.Cell.{Cell}
 use Rattle.source_events.specs.Runs.{bytes_of, id_of}
 use Rattle.source_merge.specs.Data.{run_cells}

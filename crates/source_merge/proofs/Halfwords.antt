@@ -66,11 +66,7 @@ with_bytes bytes bits small =
     (one_more (small_with (slice_index bytes 4) (bits / 4) (small 4)) (one_more (small 5)
     (one_more (small_with (slice_index bytes 6) (bits / 8) (small 6)) (one_more (small 7) no_more)))))))
 
--- the bytes of a sum, where the bits were 0, and where they were all set first
-pub plain_bytes : (bytes : List ℕ) (n bits : ℕ) → ((i : ℕ) → slice_index bytes i < 256) → lowest bytes ≡ 0 →
-    n ≡ from_le_bytes w64 bytes + spread_bits bits → to_le_bytes w64 n ≡ with_bits bytes bits
-plain_bytes bytes n bits small plain e = le_bytes_8 (with_bits bytes bits) n refl (with_bytes bytes bits small).at (omega arith)
-
+-- the bytes of a sum with the bits in place of those that were
 pub sum_bytes : (bytes : List ℕ) (n bits : ℕ) → ((i : ℕ) → slice_index bytes i < 256) → bits < 16 →
-    n ≡ from_le_bytes w64 bytes + (0x1000100010001 - lowest bytes) - spread_bits (15 - bits) → to_le_bytes w64 n ≡ with_bits bytes bits
+    n ≡ from_le_bytes w64 bytes - lowest bytes + spread_bits bits → to_le_bytes w64 n ≡ with_bits bytes bits
 sum_bytes bytes n bits small few e = le_bytes_8 (with_bits bytes bits) n refl (with_bytes bytes bits small).at (omega arith)

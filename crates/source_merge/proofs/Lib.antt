@@ -29,10 +29,11 @@ pub mod BareSlots
 pub mod Packets
 pub mod Placing
 pub mod FedRuns
-pub mod Plain
 pub mod Halfwords
-pub mod NamedPairs
+pub mod RunEnds
+pub mod After
 pub mod Splitting
+pub mod Cuts
 pub mod Parts
 pub mod Moves
 pub mod InPlace

@@ -1,18 +1,15 @@
 -- The parts of a frame, each one run.
-use Rattle.std.proofs.Common.{◌≡◌, ℕ, suc, ◌+◌, ◌-◌, ◌<◌, ◌≤◌, List, [], ◌∷◌, ◌++◌, length, take, drop, get_or, refl, sym, ◌∙◌, ap, subst, arith, Bool, cond, Option}
+use Rattle.std.proofs.Common.{◌≡◌, ℕ, suc, ◌+◌, ◌-◌, ◌<◌, ◌≤◌, List, [], ◌∷◌, ◌++◌, length, take, drop, refl, sym, ◌∙◌, ap, subst, arith, Bool, cond, Option}
 use Rattle.std.proofs.Math.Seq.{drop-append_seam}
-use Rattle.std.proofs.lemmas.List.{length-drop, length-take-le, drop_more, drop_all, length-append}
+use Rattle.std.proofs.lemmas.List.{length-drop, length-take-le, length-append}
 use Rattle.trace_values.specs.declared.cell.Cell.{Cell}
 use Rattle.frame_grammar.proofs.Pairs.{made}
 use Rattle.source_events.specs.Runs.{runs_of, run_length, more_of, id_of, RisesFrom, IsRunFrom, end_of}
 use Rattle.source_events.proofs.Merges.{test_same, test_other}
 use Rattle.source_merge.specs.Data.{run_cells}
-use Rattle.source_merge.specs.Split.{AreParts, cells_of_parts, part_cells, split_places}
-use Rattle.source_merge.specs.declared.split.Part.{Part}
-use Rattle.source_merge.specs.declared.split.SplitFrame.{SplitFrame}
 use Rattle.source_merge.proofs.DataCells.{cells_length, cells_id}
 use Rattle.source_merge.proofs.Framing.{cut_at, first_at}
-use Rattle.source_merge.proofs.Splitting.{places_long}
+use Rattle.source_merge.proofs.Splitting.{Part, AreParts, cells_of_parts, part_cells}
 
 -- the first of these cells, if there is one, has a later run
 Later : ℕ → List Cell → Type 0
@@ -102,52 +99,40 @@ module _ (offsets bytes : List ℕ) (places : length offsets ≡ 16) (sized : le
       one_run (drop p.from (take p.end offsets)) p.source p.run (drop p.from (take p.end bytes)) (cells_of_parts offsets bytes parts)
       (omega arith) (omega arith) (later_parts p.run next end parts h a.3)
 
-pub parts_at : (items slice : List Part) (i : ℕ) (p : Part) → slice ≡ items → i < length slice → p ≡ get_or slice i p → drop i items ≡ p ∷ drop (i + 1) items
-parts_at items slice i p e h k =
-    drop_more items i p (let l = ap length e in omega arith)
-    ∙ ap (λ (q : Part). q ∷ drop (i + 1) items) (ap (λ (l : List Part). get_or l i p) (sym e) ∙ sym k)
+-- parts of a frame, the first of them, and those that come after it
+pub record Next (offsets bytes : List ℕ) (p : Part) (left more : List Part) : Type 0 where
+  pub own : id_of (part_cells offsets bytes p) ≡ p.source
+  pub some : 0 < length (part_cells offsets bytes p)
+  pub few : length (part_cells offsets bytes p) ≤ 15
+  pub count : length (part_cells offsets bytes p) ≡ p.end - p.from
+  pub total : length (cells_of_parts offsets bytes left) ≡ length (part_cells offsets bytes p) + length (cells_of_parts offsets bytes more)
+  pub cut : runs_of (cells_of_parts offsets bytes left) ≡ part_cells offsets bytes p ∷ runs_of (cells_of_parts offsets bytes more)
+  pub rises : (n : ℕ) → RisesFrom n (cells_of_parts offsets bytes left) →
+      IsRunFrom n (part_cells offsets bytes p) × RisesFrom (end_of (part_cells offsets bytes p)) (cells_of_parts offsets bytes more)
+  pub are : AreParts (p.run + 1) 8 15 more
 
--- a part of a frame, before these that are left
-pub record Next (split : SplitFrame) (i : ℕ) (p : Part) : Type 0 where
-  pub own : id_of (part_cells (split_places split) split.bytes p) ≡ p.source
-  pub some : 0 < length (part_cells (split_places split) split.bytes p)
-  pub few : length (part_cells (split_places split) split.bytes p) ≤ 15
-  pub count : length (part_cells (split_places split) split.bytes p) ≡ p.end - p.from
-  pub total : length (cells_of_parts (split_places split) split.bytes (drop i split.parts.items)) ≡
-      length (part_cells (split_places split) split.bytes p) + length (cells_of_parts (split_places split) split.bytes (drop (i + 1) split.parts.items))
-  pub cut : runs_of (cells_of_parts (split_places split) split.bytes (drop i split.parts.items)) ≡
-      part_cells (split_places split) split.bytes p ∷ runs_of (cells_of_parts (split_places split) split.bytes (drop (i + 1) split.parts.items))
-  pub rises : (n : ℕ) → RisesFrom n (cells_of_parts (split_places split) split.bytes (drop i split.parts.items)) →
-      IsRunFrom n (part_cells (split_places split) split.bytes p)
-      × RisesFrom (end_of (part_cells (split_places split) split.bytes p)) (cells_of_parts (split_places split) split.bytes (drop (i + 1) split.parts.items))
-  pub left : AreParts (p.run + 1) 8 15 (drop (i + 1) split.parts.items)
-
-pub next : (split : SplitFrame) (i low : ℕ) (p : Part) → drop i split.parts.items ≡ p ∷ drop (i + 1) split.parts.items →
-    AreParts low 8 15 (drop i split.parts.items) → Next split i p
-next split i low p at left =
-    let xs = part_cells (split_places split) split.bytes p in
-    let more = drop (i + 1) split.parts.items in
-    let ys = cells_of_parts (split_places split) split.bytes more in
-    let are : AreParts low 8 15 (p ∷ more) = subst (λ (l : List Part). AreParts low 8 15 l) at left in
-    let places = part_places (split_places split) split.bytes (places_long split) split.sized p are.2 in
-    let sized = part_sized (split_places split) split.bytes (places_long split) split.sized p are.2 in
+pub next : (offsets bytes : List ℕ) → length offsets ≡ 16 → length bytes ≡ 40 → (low : ℕ) (p : Part) (left more : List Part) →
+    left ≡ p ∷ more → AreParts low 8 15 left → Next offsets bytes p left more
+next offsets bytes long wide low p left more at h =
+    let are : AreParts low 8 15 (p ∷ more) = subst (λ (l : List Part). AreParts low 8 15 l) at h in
+    let xs = part_cells offsets bytes p in
+    let ys = cells_of_parts offsets bytes more in
+    let places = part_places offsets bytes long wide p are.2 in
+    let sized = part_sized offsets bytes long wide p are.2 in
     let filled : p.from < p.end = are.1 in
     let within : p.end ≤ 15 = are.2 in
-    let long : length xs ≡ p.end - p.from = part_length (split_places split) split.bytes (places_long split) split.sized p are.2 in
-    let is : cells_of_parts (split_places split) split.bytes (drop i split.parts.items) ≡ xs ++ ys = ap (cells_of_parts (split_places split) split.bytes) at in
+    let count : length xs ≡ p.end - p.from = part_length offsets bytes long wide p are.2 in
+    let is : cells_of_parts offsets bytes left ≡ xs ++ ys = ap (cells_of_parts offsets bytes) at in
     let sum : length (xs ++ ys) ≡ length xs + length ys = length-append xs ys in
-    let one : length xs ≡ run_length (xs ++ ys) = part_run (split_places split) split.bytes (places_long split) split.sized low 8 15 p more (omega arith) are in
+    let one : length xs ≡ run_length (xs ++ ys) = part_run offsets bytes long wide low 8 15 p more (omega arith) are in
     let some : 0 < length (xs ++ ys) = omega arith in
     record {
-      own = cells_id (drop p.from (take p.end (split_places split))) p.source p.run (drop p.from (take p.end split.bytes)) (omega arith) (omega arith);
+      own = cells_id (drop p.from (take p.end offsets)) p.source p.run (drop p.from (take p.end bytes)) (omega arith) (omega arith);
       some = omega arith;
       few = omega arith;
-      count = long;
+      count = count;
       total = ap length is ∙ sum;
       cut = ap runs_of is ∙ run_then xs ys one some;
       rises = λ n r. run_at xs ys one some n (subst (λ (l : List Cell). RisesFrom n l) is r);
-      left = are.3;
+      are = are.3;
     }
-
-pub none_left : (split : SplitFrame) (i : ℕ) → length split.parts.items ≤ i → length (cells_of_parts (split_places split) split.bytes (drop i split.parts.items)) ≡ 0
-none_left split i h = ap (λ (l : List Part). length (cells_of_parts (split_places split) split.bytes l)) (drop_all i split.parts.items h)

@@ -1,20 +1,20 @@
--- The run of a part of a frame, whose bytes have others behind them.
-use Rattle.std.proofs.Common.{◌≡◌, ℕ, ◌+◌, ◌-◌, ◌<◌, ◌≤◌, List, length, take, drop, get_or, refl, ◌∙◌, sym, ap, arith}
-use Rattle.std.proofs.lemmas.List.{drop-take, length-drop, length-take-le, get_or-drop, get_or-take}
+-- A run of a frame, whose bytes have others behind them.
+use Rattle.std.proofs.Common.{◌≡◌, ℕ, ◌+◌, ◌-◌, ◌<◌, List, length, take, drop, get_or, ◌∙◌, sym, ap, arith}
+use Rattle.std.proofs.lemmas.List.{drop-take, get_or-drop, get_or-take}
 use Rattle.trace_values.specs.declared.cell.Cell.{Cell}
 use Rattle.source_events.specs.Runs.{bytes_of}
 use Rattle.source_merge.specs.declared.split.SplitRun.{SplitRun}
 use Rattle.source_merge.specs.Split.{run_in, split_places}
 use Rattle.source_merge.proofs.DataCells.{cells_bytes, cells_cell}
 use Rattle.source_merge.proofs.Parts.{part_length, part_places, part_sized}
-use Rattle.source_merge.proofs.Splitting.{places_long}
+use Rattle.source_merge.proofs.Splitting.{part_to, places_long}
 
 module _ (run : SplitRun) where
   abbrev from : ℕ
-  from = run.part.now.from
+  from = run.begun.from
 
   abbrev end : ℕ
-  end = run.part.now.end
+  end = run.end
 
   abbrev bytes : List ℕ
   bytes = run.frame.now.bytes
@@ -23,13 +23,13 @@ module _ (run : SplitRun) where
   places = split_places run.frame.now
 
   pub run_length : length (run_in run) ≡ end - from
-  run_length = part_length places bytes (places_long run.frame.now) run.frame.now.sized run.part.now run.within
+  run_length = part_length places bytes (places_long run.frame.now) run.frame.now.sized (part_to run.begun run.end) run.within
 
   own_places : length (drop from (take end places)) ≡ end - from
-  own_places = part_places places bytes (places_long run.frame.now) run.frame.now.sized run.part.now run.within
+  own_places = part_places places bytes (places_long run.frame.now) run.frame.now.sized (part_to run.begun run.end) run.within
 
   own_bytes : length (drop from (take end bytes)) ≡ end - from
-  own_bytes = part_sized places bytes (places_long run.frame.now) run.frame.now.sized run.part.now run.within
+  own_bytes = part_sized places bytes (places_long run.frame.now) run.frame.now.sized (part_to run.begun run.end) run.within
 
   same : take (end - from) (drop from bytes) ≡ drop from (take end bytes)
   same =
@@ -40,16 +40,16 @@ module _ (run : SplitRun) where
   run_bytes =
       ap (λ (n : ℕ). take n (drop from bytes)) run_length
       ∙ same
-      ∙ sym (cells_bytes (drop from (take end places)) run.part.now.source run.part.now.run (drop from (take end bytes))
+      ∙ sym (cells_bytes (drop from (take end places)) run.begun.source run.begun.run (drop from (take end bytes))
       (let a = own_places in let b = own_bytes in omega arith))
 
   pub run_cell : (i : ℕ) (c : Cell) → i < end - from → get_or (run_in run) i c ≡
-      record { at = get_or places (from + i) 0; id = run.part.now.source; run = run.part.now.run; byte = get_or bytes (from + i) 0 }
+      record { at = get_or places (from + i) 0; id = run.begun.source; run = run.begun.run; byte = get_or bytes (from + i) 0 }
   run_cell i c l =
       let a = own_places in
       let b = own_bytes in
-      cells_cell (drop from (take end places)) run.part.now.source run.part.now.run (drop from (take end bytes)) i 0 0 c (omega arith) (omega arith)
-      ∙ ap (λ (x : ℕ). record { at = x; id = run.part.now.source; run = run.part.now.run; byte = get_or (drop from (take end bytes)) i 0 })
+      cells_cell (drop from (take end places)) run.begun.source run.begun.run (drop from (take end bytes)) i 0 0 c (omega arith) (omega arith)
+      ∙ ap (λ (x : ℕ). record { at = x; id = run.begun.source; run = run.begun.run; byte = get_or (drop from (take end bytes)) i 0 })
       (get_or-drop from (take end places) i 0 ∙ get_or-take end places (from + i) 0 (omega arith))
-      ∙ ap (λ (x : ℕ). record { at = get_or places (from + i) 0; id = run.part.now.source; run = run.part.now.run; byte = x })
+      ∙ ap (λ (x : ℕ). record { at = get_or places (from + i) 0; id = run.begun.source; run = run.begun.run; byte = x })
       (get_or-drop from (take end bytes) i 0 ∙ get_or-take end bytes (from + i) 0 (omega arith))

@@ -1,20 +1,54 @@
 -- A frame that is taken apart.
-use Rattle.std.proofs.Common.{◌≡◌, ◌≢◌, ℕ, zero, suc, ◌+◌, ◌-◌, ◌*◌, ◌/◌, ◌%◌, ◌<◌, ◌≤◌, List, [], ◌∷◌, ◌++◌, length, take, drop, set, get_or, refl, sym, ◌∙◌, ap, subst, arith, Bool, true, false, cond, Option, append_assoc, append-nil, ◌⊎◌, inl, inr}
-use Rattle.std.specs.Prelude.{slice_index, nat_lt, ◌==◌, ◌&&◌}
+use Rattle.std.proofs.Common.{◌≡◌, ℕ, zero, suc, ◌+◌, ◌-◌, ◌*◌, ◌/◌, ◌%◌, ◌<◌, ◌≤◌, List, [], ◌∷◌, ◌++◌, length, take, drop, get_or, refl, sym, ◌∙◌, ap, subst, arith, Bool, true, false, cond, Option, append_assoc, append-nil, ◌⊎◌, inl, inr, flat_map}
+use Rattle.std.specs.Prelude.{slice_index, nat_lt, if◌then◌else◌, ◌==◌, ◌&&◌}
 use Rattle.std.proofs.lemmas.Bool.Decides.{nat_tests}
 use Rattle.std.proofs.lemmas.Grind.{flat_map-append}
 use Rattle.std.proofs.lemmas.List.{take_more, drop-append-le, drop_all, length-drop, length-take-le, length-map}
 use Rattle.trace_values.specs.declared.cell.Cell.{Cell}
 use Rattle.trace_values.specs.Cells.{source_id}
-use Rattle.frame_grammar.specs.Frame.{names, aux_bit, even_data, cells_below, cells, id_after, IsInForce}
+use Rattle.frame_grammar.specs.Frame.{names, aux_bit, even_data, cells_below, cells, IsInForce}
 use Rattle.frame_grammar.proofs.Looks.{starts, passes, names_now, defers, names_next}
-use Rattle.frame_grammar.proofs.Pairs.{made, plain, named, more_cells, whole_plain, whole_named, after_plain, after_named, even_plain}
-use Rattle.frame_grammar.specs.Placing.{places_of}
+use Rattle.frame_grammar.proofs.Pairs.{made, plain, named, more_cells, whole_plain, whole_named, even_plain}
 use Rattle.source_merge.specs.Data.{run_cells, is_late, byte_in, place_in}
-use Rattle.source_merge.specs.Split.{part_cells, begun_cells, cells_of_parts, split_places, AreParts, ended, IsPlaced, IsSplit}
+use Rattle.source_merge.specs.Split.{begun_cells, split_places, AreInPlace}
 use Rattle.source_merge.specs.declared.split.Begun.{Begun}
-use Rattle.source_merge.specs.declared.split.Part.{Part}
 use Rattle.source_merge.specs.declared.split.SplitFrame.{SplitFrame}
+
+-- a run of a frame: its data from one index up to another
+pub record Part : Type 0 where
+  pub source : Option ℕ
+  pub run : ℕ
+  pub from : ℕ
+  pub end : ℕ
+
+-- its cells, of these bytes at these offsets
+abbrev pub part_cells : List ℕ → List ℕ → Part → List Cell
+part_cells offsets bytes part =
+    run_cells (drop part.from (take part.end offsets)) part.source part.run (drop part.from (take part.end bytes))
+
+-- the cells of some, in order
+abbrev pub cells_of_parts : List ℕ → List ℕ → List Part → List Cell
+cells_of_parts offsets bytes parts = flat_map (λ part. part_cells offsets bytes part) parts
+
+-- Parts that are not empty end before an index, or there. Their runs rise, from one number on and below another.
+abbrev pub AreParts : ℕ → ℕ → ℕ → List Part → Type 0
+AreParts run next end [] = run ≤ next
+AreParts run next end (p ∷ parts) =
+    (run ≤ p.run) × (p.from < p.end) × (p.end ≤ end) × AreParts (p.run + 1) next end parts
+
+-- what has begun, as a part that ends before an index
+abbrev pub part_to : Begun → ℕ → Part
+part_to begun end = record { source = begun.source; run = begun.run; from = begun.from; end = end }
+
+-- these parts, and the one that has begun, if it has a byte before an index
+abbrev pub ended : List Part → Begun → ℕ → List Part
+ended parts begun end = if nat_lt begun.from end then parts ++ part_to begun end ∷ [] else parts
+
+-- A frame that comes after this ID is taken apart up to index `2 * pair`, into parts and one that has begun.
+pub record IsCut (frame at : List ℕ) (id : Option ℕ) (os bs : List ℕ) (pair : ℕ) (parts : List Part) (begun : Begun) : Type 0 where
+  pub cells : cells_of_parts os bs parts ++ begun_cells os bs begun (2 * pair) ≡ cells_below frame at id pair
+  pub here : IsInForce frame id (2 * pair) begun.source begun.run
+  pub are : AreParts 0 begun.run (2 * pair) parts
 
 -- one more cell
 push_cell : (os : List ℕ) (id : Option ℕ) (run : ℕ) (bs : List ℕ) (o b : ℕ) → length os ≡ length bs →
@@ -101,9 +135,9 @@ to_front a b c d = sym (append_assoc a (b ++ c ∷ []) (d ∷ [])) ∙ ap (λ (l
 bit_or_none : (n : ℕ) → n < 2 → (n ≡ 0) ⊎ (n ≡ 1)
 bit_or_none n h = grind arith
 
--- how many places a frame that is taken apart has
+-- how many places a frame has
 pub places_long : (split : SplitFrame) → length (split_places split) ≡ 16
-places_long split = length-map split.behind (λ (b : ℕ). split.at + b) ∙ split.places
+places_long split = length-map split.behind (λ (b : ℕ). split.frame.now.at + b) ∙ split.places
 
 -- what is in the place of a byte at an even index: of data it itself, of an ID byte that is late the byte behind it
 late_is : (frame : List ℕ) (k : ℕ) (named : Bool) → names frame k ≡ named → is_late frame k ≡ (nat_lt k 7 && named && aux_bit frame k == 1)
@@ -136,70 +170,55 @@ early_place frame at k e = ap (λ (t : Bool). cond t (slice_index at (2 * k + 1)
 late_place : (frame at : List ℕ) (k : ℕ) → is_late frame k ≡ true → place_in frame at k ≡ slice_index at (2 * k + 1)
 late_place frame at k e = ap (λ (t : Bool). cond t (slice_index at (2 * k + 1)) (slice_index at (2 * k))) e
 
-pub places_same : (new old : SplitFrame) → (new.at ≡ old.at) × (new.behind ≡ old.behind) → split_places new ≡ split_places old
-places_same new old h = ap (λ (n : ℕ). places_of n new.behind) h.0 ∙ ap (λ (l : List ℕ). places_of old.at l) h.1
+module _ (frame at : List ℕ) (id : Option ℕ) (os bs : List ℕ) (long : length os ≡ 16) (wide : length bs ≡ 40)
+    (placed : AreInPlace frame at bs os) where
+  abbrev pub Cut : ℕ → List Part → Begun → Type 0
+  Cut pair parts begun = IsCut frame at id os bs pair parts begun
 
-module _ (frame at : List ℕ) (id : Option ℕ) where
-  pub starts_split : (split : SplitFrame) (begun : Begun) → split.parts.items ≡ [] → begun.source ≡ id → begun.run ≡ 0 →
-      IsPlaced frame at split → IsSplit frame at id 0 split begun
-  starts_split split begun none source run placed = record {
-    cells = ap (λ (ps : List Part). cells_of_parts (split_places split) split.bytes ps ++ begun_cells (split_places split) split.bytes begun 0) none
-        ∙ none_yet (split_places split) split.bytes begun 0 (omega arith) (omega arith);
+  pub starts_cut : (begun : Begun) → begun.source ≡ id → begun.run ≡ 0 → Cut 0 [] begun
+  starts_cut begun source run = record {
+    cells = none_yet os bs begun 0 (omega arith) (omega arith);
     here =
         subst (λ (i : Option ℕ). IsInForce frame id 0 i begun.run) (sym source)
         (subst (λ (n : ℕ). IsInForce frame id 0 id n) (sym run) (starts frame id));
-    parts = subst (λ (ps : List Part). AreParts 0 begun.run 0 ps) (sym none) (let e : 0 ≤ begun.run = omega arith in e);
-    placed = placed;
+    are = (let e : 0 ≤ begun.run = omega arith in e);
   }
 
-  module _ (pair : ℕ) (split : SplitFrame) (begun : Begun) (low : pair < 7) (from : begun.from ≤ 2 * pair) (s : IsSplit frame at id pair split begun) where
-    abbrev os : List ℕ
-    os = split_places split
-
-    abbrev bs : List ℕ
-    bs = split.bytes
-
+  module _ (pair : ℕ) (parts : List Part) (begun : Begun) (low : pair < 7) (from : begun.from ≤ 2 * pair) (s : Cut pair parts begun) where
     abbrev old : List Cell
-    old = cells_of_parts os bs split.parts.items ++ begun_cells os bs begun (2 * pair)
-
-    long : length os ≡ 16
-    long = places_long split
-
-    wide : length bs ≡ 40
-    wide = split.sized
+    old = cells_of_parts os bs parts ++ begun_cells os bs begun (2 * pair)
 
     odd_at : slice_index os (2 * pair + 1) ≡ slice_index at (2 * pair + 1)
-    odd_at = s.placed.odd_places pair (omega arith)
+    odd_at = placed.odd_places pair (omega arith)
 
     odd_byte : slice_index bs (2 * pair + 1) ≡ slice_index frame (2 * pair + 1)
-    odd_byte = s.placed.odd pair (omega arith)
+    odd_byte = placed.odd pair (omega arith)
 
     -- the two bytes are data
-    pub passed : names frame pair ≡ false → IsSplit frame at id (pair + 1) split begun
+    pub passed : names frame pair ≡ false → Cut (pair + 1) parts begun
     passed n =
         let a = long in
         let b = wide in
-        let parts = cells_of_parts os bs split.parts.items in
+        let front = cells_of_parts os bs parts in
         let so_far = begun_cells os bs begun (2 * pair) in
         let even = made (slice_index at (2 * pair)) begun.source begun.run (slice_index bs (2 * pair)) in
         let odd = made (slice_index at (2 * pair + 1)) begun.source begun.run (slice_index frame (2 * pair + 1)) in
         let early = not_late frame pair n in
         record {
           cells =
-              more_cells frame at id pair old (parts ++ begun_cells os bs begun (2 * (pair + 1))) s.cells
-              (ap (λ (k : ℕ). parts ++ begun_cells os bs begun k) (let e : 2 * (pair + 1) ≡ 2 * pair + 1 + 1 = omega arith in e)
-              ∙ ap (λ (l : List Cell). parts ++ l)
+              more_cells frame at id pair old (front ++ begun_cells os bs begun (2 * (pair + 1))) s.cells
+              (ap (λ (k : ℕ). front ++ begun_cells os bs begun k) (let e : 2 * (pair + 1) ≡ 2 * pair + 1 + 1 = omega arith in e)
+              ∙ ap (λ (l : List Cell). front ++ l)
               (two_more os bs begun (2 * pair) from (omega arith) (omega arith)
               ∙ ap (λ (c : Cell). (so_far ++ c ∷ []) ++ made (slice_index os (2 * pair + 1)) begun.source begun.run (slice_index bs (2 * pair + 1)) ∷ [])
-              (same_made (slice_index os (2 * pair)) _ begun.source begun.run _ _ (s.placed.even_places pair (omega arith) ∙ early_place frame at pair early) refl)
+              (same_made (slice_index os (2 * pair)) _ begun.source begun.run _ _ (placed.even_places pair (omega arith) ∙ early_place frame at pair early) refl)
               ∙ ap (λ (c : Cell). (so_far ++ even ∷ []) ++ c ∷ [])
               (same_made (slice_index os (2 * pair + 1)) _ begun.source begun.run _ _ odd_at odd_byte))
-              ∙ to_front parts so_far even odd
+              ∙ to_front front so_far even odd
               ∙ plain frame at id pair begun.run (slice_index bs (2 * pair)) begun.source old (omega arith) n s.here
-              (s.placed.even pair (omega arith) ∙ early_byte frame pair early));
+              (placed.even pair (omega arith) ∙ early_byte frame pair early));
           here = passes frame id begun.source pair begun.run (omega arith) n s.here;
-          parts = parts_up 0 begun.run (2 * pair) begun.run (2 * (pair + 1)) split.parts.items (omega arith) (omega arith) s.parts;
-          placed = s.placed;
+          are = parts_up 0 begun.run (2 * pair) begun.run (2 * (pair + 1)) parts (omega arith) (omega arith) s.are;
         }
 
     -- the first one names a source
@@ -212,14 +231,14 @@ module _ (frame at : List ℕ) (id : Option ℕ) where
 
       -- in effect at once
       at_once : aux_bit frame pair ≡ 0 → end ≡ 2 * pair →
-          cells_of_parts os bs (ended split.parts.items begun end) ++ begun_cells os bs next (2 * (pair + 1)) ≡ cells_below frame at id (pair + 1)
+          cells_of_parts os bs (ended parts begun end) ++ begun_cells os bs next (2 * (pair + 1)) ≡ cells_below frame at id (pair + 1)
       at_once a e =
           let l = long in
           let w = wide in
           more_cells frame at id pair old _ s.cells
           (ap (λ (c : List Cell). c ++ begun_cells os bs next (2 * (pair + 1)))
-          (ended_cells os bs begun split.parts.items end (omega arith)
-          ∙ ap (λ (k : ℕ). cells_of_parts os bs split.parts.items ++ begun_cells os bs begun k) e)
+          (ended_cells os bs begun parts end (omega arith)
+          ∙ ap (λ (k : ℕ). cells_of_parts os bs parts ++ begun_cells os bs begun k) e)
           ∙ ap (λ (c : List Cell). old ++ c)
           (ap (λ (k : ℕ). begun_cells os bs next k) (let z : 2 * (pair + 1) ≡ 2 * pair + 1 + 1 = omega arith in z)
           ∙ one_more_of next (2 * pair + 1) (let z : next.from ≤ 2 * pair + 1 = omega arith in z) (omega arith) (omega arith)
@@ -236,93 +255,77 @@ module _ (frame at : List ℕ) (id : Option ℕ) where
 
       -- in effect after the next byte
       later : aux_bit frame pair ≡ 1 → end ≡ 2 * pair + 1 →
-          cells_of_parts os bs (ended split.parts.items begun end) ++ begun_cells os bs next (2 * (pair + 1)) ≡ cells_below frame at id (pair + 1)
+          cells_of_parts os bs (ended parts begun end) ++ begun_cells os bs next (2 * (pair + 1)) ≡ cells_below frame at id (pair + 1)
       later a e =
           let l = long in
           let w = wide in
           let late = is_late_so frame pair low n a in
-          let parts = cells_of_parts os bs split.parts.items in
+          let front = cells_of_parts os bs parts in
           let so_far = begun_cells os bs begun (2 * pair) in
           more_cells frame at id pair old _ s.cells
-          (ap (λ (c : List Cell). cells_of_parts os bs (ended split.parts.items begun end) ++ c)
+          (ap (λ (c : List Cell). cells_of_parts os bs (ended parts begun end) ++ c)
           (none_yet os bs next (2 * (pair + 1)) (let z : 2 * (pair + 1) ≤ next.from = omega arith in z) (omega arith))
-          ∙ append-nil (cells_of_parts os bs (ended split.parts.items begun end))
-          ∙ ended_cells os bs begun split.parts.items end (omega arith)
-          ∙ ap (λ (k : ℕ). parts ++ begun_cells os bs begun k) e
-          ∙ ap (λ (c : List Cell). parts ++ c)
+          ∙ append-nil (cells_of_parts os bs (ended parts begun end))
+          ∙ ended_cells os bs begun parts end (omega arith)
+          ∙ ap (λ (k : ℕ). front ++ begun_cells os bs begun k) e
+          ∙ ap (λ (c : List Cell). front ++ c)
           (one_more os bs begun (2 * pair) from (omega arith) (omega arith)
           ∙ ap (λ (c : Cell). so_far ++ c ∷ [])
           (same_made (slice_index os (2 * pair)) _ begun.source begun.run _ _
-          (s.placed.even_places pair (omega arith) ∙ late_place frame at pair late)
-          (s.placed.even pair (omega arith) ∙ late_byte frame pair late)))
-          ∙ sym (append_assoc parts so_far (own begun.source begun.run ∷ []))
+          (placed.even_places pair (omega arith) ∙ late_place frame at pair late)
+          (placed.even pair (omega arith) ∙ late_byte frame pair late)))
+          ∙ sym (append_assoc front so_far (own begun.source begun.run ∷ []))
           ∙ named frame at id pair begun.run begun.source old n (defers frame id begun.source pair begun.run (omega arith) (λ q. omega (arith, a, q)) s.here))
 
-      pub divided : (new : SplitFrame) → end ≡ 2 * pair + aux_bit frame pair → new.bytes ≡ bs → (new.at ≡ split.at) × (new.behind ≡ split.behind) →
-          new.parts.items ≡ ended split.parts.items begun end → IsSplit frame at id (pair + 1) new next
-      divided new e b o p =
+      pub divided : end ≡ 2 * pair + aux_bit frame pair → Cut (pair + 1) (ended parts begun end) next
+      divided e =
           let few : aux_bit frame pair < 2 = omega arith in
-          let same : split_places new ≡ os = places_same new split o in
           record {
-            cells =
-                ap (λ (x : List ℕ). cells_of_parts x new.bytes new.parts.items ++ begun_cells x new.bytes next (2 * (pair + 1))) same
-                ∙ ap (λ (x : List ℕ). cells_of_parts os x new.parts.items ++ begun_cells os x next (2 * (pair + 1))) b
-                ∙ ap (λ (x : List Part). cells_of_parts os bs x ++ begun_cells os bs next (2 * (pair + 1))) p
-                ∙ (elim (bit_or_none (aux_bit frame pair) few) [
-                  | inl z ↦ at_once z (omega arith)
-                  | inr z ↦ later z (omega arith)
-                ]);
+            cells = elim (bit_or_none (aux_bit frame pair) few) [
+              | inl z ↦ at_once z (omega arith)
+              | inr z ↦ later z (omega arith)
+            ];
             here =
                 subst (λ (i : Option ℕ). IsInForce frame id (2 * (pair + 1)) i (begun.run + 1)) (sym named_is)
                 (names_next frame id begun.source pair begun.run (omega arith) n s.here);
-            parts =
-                subst (λ (x : List Part). AreParts 0 (begun.run + 1) (2 * (pair + 1)) x) (sym p)
-                (parts_up 0 (begun.run + 1) end (begun.run + 1) (2 * (pair + 1)) (ended split.parts.items begun end) (omega arith) (omega arith)
-                (ended_parts begun end (2 * pair) split.parts.items (omega arith) s.parts));
-            placed = record {
-              even = λ k h. ap (λ (x : List ℕ). slice_index x (2 * k)) b ∙ s.placed.even k h;
-              odd = λ k h. ap (λ (x : List ℕ). slice_index x (2 * k + 1)) b ∙ s.placed.odd k h;
-              even_places = λ k h. ap (λ (x : List ℕ). slice_index x (2 * k)) same ∙ s.placed.even_places k h;
-              odd_places = λ k h. ap (λ (x : List ℕ). slice_index x (2 * k + 1)) same ∙ s.placed.odd_places k h;
-            };
+            are =
+                parts_up 0 (begun.run + 1) end (begun.run + 1) (2 * (pair + 1)) (ended parts begun end) (omega arith) (omega arith)
+                (ended_parts begun end (2 * pair) parts (omega arith) s.are);
           }
 
   -- the pairs up to another one are data
-  pub passed_up : (split : SplitFrame) (begun : Begun) (n p : ℕ) → p + n ≤ 7 → begun.from ≤ 2 * p →
-      ((k : ℕ) → p ≤ k → k < p + n → names frame k ≡ false) → IsSplit frame at id p split begun → IsSplit frame at id (p + n) split begun
-  passed_up split begun zero p few from none s = subst (λ (k : ℕ). IsSplit frame at id k split begun) (let e : p ≡ p + 0 = omega arith in e) s
-  passed_up split begun (suc n) p few from none s =
-      subst (λ (k : ℕ). IsSplit frame at id k split begun) (let e : p + 1 + n ≡ p + suc n = omega arith in e)
-      (passed_up split begun n (p + 1) (omega arith) (omega arith) (λ k l h. none k (omega arith) (omega arith))
-      (passed p split begun (omega arith) from s (none p (omega arith) (omega arith))))
+  pub passed_up : (parts : List Part) (begun : Begun) (n p : ℕ) → p + n ≤ 7 → begun.from ≤ 2 * p →
+      ((k : ℕ) → p ≤ k → k < p + n → names frame k ≡ false) → Cut p parts begun → Cut (p + n) parts begun
+  passed_up parts begun zero p few from none s = subst (λ (k : ℕ). Cut k parts begun) (let e : p ≡ p + 0 = omega arith in e) s
+  passed_up parts begun (suc n) p few from none s =
+      subst (λ (k : ℕ). Cut k parts begun) (let e : p + 1 + n ≡ p + suc n = omega arith in e)
+      (passed_up parts begun n (p + 1) (omega arith) (omega arith) (λ k l h. none k (omega arith) (omega arith))
+      (passed p parts begun (omega arith) from s (none p (omega arith) (omega arith))))
 
-  pub passed_to : (split : SplitFrame) (begun : Begun) (p q : ℕ) → p ≤ q → q ≤ 7 → begun.from ≤ 2 * p →
-      ((k : ℕ) → p ≤ k → k < q → names frame k ≡ false) → IsSplit frame at id p split begun → IsSplit frame at id q split begun
-  passed_to split begun p q low few from none s =
-      subst (λ (k : ℕ). IsSplit frame at id k split begun) (let e : p + (q - p) ≡ q = omega arith in e)
-      (passed_up split begun (q - p) p (omega arith) from (λ k l h. none k l (omega arith)) s)
+  pub passed_to : (parts : List Part) (begun : Begun) (p q : ℕ) → p ≤ q → q ≤ 7 → begun.from ≤ 2 * p →
+      ((k : ℕ) → p ≤ k → k < q → names frame k ≡ false) → Cut p parts begun → Cut q parts begun
+  passed_to parts begun p q low few from none s =
+      subst (λ (k : ℕ). Cut k parts begun) (let e : p + (q - p) ≡ q = omega arith in e)
+      (passed_up parts begun (q - p) p (omega arith) from (λ k l h. none k l (omega arith)) s)
 
   -- byte 14
-  module _ (split : SplitFrame) (begun : Begun) (from : begun.from ≤ 14) (s : IsSplit frame at id 7 split begun) where
-    last_plain : slice_index frame 14 % 2 ≡ 0 → cells_of_parts (split_places split) split.bytes (ended split.parts.items begun 15) ≡ cells frame at id
+  module _ (parts : List Part) (begun : Begun) (from : begun.from ≤ 14) (s : Cut 7 parts begun) where
+    last_plain : slice_index frame 14 % 2 ≡ 0 → cells_of_parts os bs (ended parts begun 15) ≡ cells frame at id
     last_plain n =
-        let a = places_long split in
-        let b = split.sized in
-        let parts = cells_of_parts (split_places split) split.bytes split.parts.items in
-        let so_far = begun_cells (split_places split) split.bytes begun 14 in
-        let byte = slice_index split.bytes 14 in
-        whole_plain frame at id 7 begun.run byte begun.source (parts ++ so_far) _ refl s.cells s.here (even_plain (slice_index frame 14) n)
-        (s.placed.even 7 (omega arith) ∙ early_byte frame 7 (last_early frame))
-        (ended_cells (split_places split) split.bytes begun split.parts.items 15 (omega arith)
-        ∙ ap (λ (l : List Cell). parts ++ l)
-        (one_more (split_places split) split.bytes begun 14 from (omega arith) (omega arith)
-        ∙ ap (λ (c : Cell). so_far ++ c ∷ []) (same_made (slice_index (split_places split) 14) _ begun.source begun.run byte byte (s.placed.even_places 7 (omega arith) ∙ early_place frame at 7 (last_early frame)) refl))
-        ∙ sym (append_assoc parts so_far (made (slice_index at 14) begun.source begun.run byte ∷ [])))
+        let front = cells_of_parts os bs parts in
+        let so_far = begun_cells os bs begun 14 in
+        let byte = slice_index bs 14 in
+        whole_plain frame at id 7 begun.run byte begun.source (front ++ so_far) _ refl s.cells s.here (even_plain (slice_index frame 14) n)
+        (placed.even 7 (omega arith) ∙ early_byte frame 7 (last_early frame))
+        (ended_cells os bs begun parts 15 (omega arith)
+        ∙ ap (λ (l : List Cell). front ++ l)
+        (one_more os bs begun 14 from (omega arith) (omega arith)
+        ∙ ap (λ (c : Cell). so_far ++ c ∷ []) (same_made (slice_index os 14) _ begun.source begun.run byte byte (placed.even_places 7 (omega arith) ∙ early_place frame at 7 (last_early frame)) refl))
+        ∙ sym (append_assoc front so_far (made (slice_index at 14) begun.source begun.run byte ∷ [])))
 
-    last_named : names frame 7 ≡ true → cells_of_parts (split_places split) split.bytes (ended split.parts.items begun 14) ≡ cells frame at id
+    last_named : names frame 7 ≡ true → cells_of_parts os bs (ended parts begun 14) ≡ cells frame at id
     last_named n =
-        let a = places_long split in
-        ended_cells (split_places split) split.bytes begun split.parts.items 14 (omega arith)
+        ended_cells os bs begun parts 14 (omega arith)
         ∙ whole_named frame at id 7 _ refl s.cells n
 
     last_bit : (slice_index frame 14 % 2 ≡ 0) ⊎ (slice_index frame 14 % 2 ≡ 1)
@@ -331,23 +334,13 @@ module _ (frame at : List ℕ) (id : Option ℕ) where
     odd_named : slice_index frame 14 % 2 ≡ 1 → names frame 7 ≡ true
     odd_named h = grind (arith, nat_tests)
 
-    pub all_cells : cells_of_parts (split_places split) split.bytes (ended split.parts.items begun (15 - slice_index frame 14 % 2)) ≡ cells frame at id
+    pub all_cells : cells_of_parts os bs (ended parts begun (15 - slice_index frame 14 % 2)) ≡ cells frame at id
     all_cells = elim last_bit [
-      | inl z ↦ ap (λ (k : ℕ). cells_of_parts (split_places split) split.bytes (ended split.parts.items begun k)) (let e : 15 - slice_index frame 14 % 2 ≡ 15 = omega arith in e) ∙ last_plain z
-      | inr z ↦ ap (λ (k : ℕ). cells_of_parts (split_places split) split.bytes (ended split.parts.items begun k)) (let e : 15 - slice_index frame 14 % 2 ≡ 14 = omega arith in e) ∙ last_named (odd_named z)
+      | inl z ↦ ap (λ (k : ℕ). cells_of_parts os bs (ended parts begun k)) (let e : 15 - slice_index frame 14 % 2 ≡ 15 = omega arith in e) ∙ last_plain z
+      | inr z ↦ ap (λ (k : ℕ). cells_of_parts os bs (ended parts begun k)) (let e : 15 - slice_index frame 14 % 2 ≡ 14 = omega arith in e) ∙ last_named (odd_named z)
     ]
 
-    pub all_parts : begun.run ≤ 7 → AreParts 0 8 15 (ended split.parts.items begun (15 - slice_index frame 14 % 2))
+    pub all_parts : begun.run ≤ 7 → AreParts 0 8 15 (ended parts begun (15 - slice_index frame 14 % 2))
     all_parts h =
         parts_up 0 (begun.run + 1) (15 - slice_index frame 14 % 2) 8 15 _ (omega arith) (omega arith)
-        (ended_parts begun (15 - slice_index frame 14 % 2) 14 split.parts.items (omega arith) s.parts)
-
-    after_by : (t : Bool) → t ≡ (slice_index frame 14 % 2 == 0) →
-        cond t begun.source (source_id (slice_index frame 14 / 2)) ≡ id_after frame id
-    after_by true e = after_plain frame at id 7 begun.run begun.source refl s.here (even_plain (slice_index frame 14) (grind (arith, nat_tests)))
-    after_by false e =
-        after_named frame at id 7 begun.run begun.source refl s.here
-        (odd_named (let z : slice_index frame 14 % 2 ≢ 0 = grind (arith, nat_tests) in omega (arith, z)))
-
-    pub after_all : cond (slice_index frame 14 % 2 == 0) begun.source (source_id (slice_index frame 14 / 2)) ≡ id_after frame id
-    after_all = after_by (slice_index frame 14 % 2 == 0) refl
+        (ended_parts begun (15 - slice_index frame 14 % 2) 14 parts (omega arith) s.are)

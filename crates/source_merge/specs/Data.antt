@@ -1,4 +1,4 @@
--- The data of a frame, and the cells of one that names no source (CoreSight Architecture Specification, Arm IHI 0029E
+-- The data of a frame, and the cells of its runs (CoreSight Architecture Specification, Arm IHI 0029E
 -- (version 3.0), chapter 'Trace Formatter', its section on frames).
 use Rattle.std.specs.Prelude.{ℕ, ◌+◌, ◌*◌, ◌/◌, ◌%◌, slice_index, List, [], ◌∷◌, Option}
 use Rattle.std.specs.Prelude.{Bool, if◌then◌else◌, nat_lt, ◌==◌, ◌&&◌}
@@ -11,10 +11,6 @@ run_cells [] id run bytes = []
 run_cells (at ∷ offsets) id run [] = []
 run_cells (at ∷ offsets) id run (byte ∷ bytes) =
     (record { at = at; id = id; run = run; byte = byte }) ∷ run_cells offsets id run bytes
-
--- these data bytes, at these offsets, of the source before the frame: all are of its first run
-abbrev pub data_cells : List ℕ → Option ℕ → List ℕ → List Cell
-data_cells offsets id bytes = run_cells offsets id 0 bytes
 
 -- the two words of a frame
 abbrev pub first_bytes : List ℕ → List ℕ

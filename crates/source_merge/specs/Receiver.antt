@@ -4,7 +4,7 @@ use Rattle.arrayvec.specs.ArrayVec.{ArrayVec, array_vec_len}
 use Rattle.itm_grammar.specs.declared.packet.ItmPacket.{ItmPacket}
 use Rattle.stp_grammar.specs.declared.item.StpItem.{StpItem}
 use Rattle.source_events.specs.declared.event.Event.{Event}
-use Rattle.source_events.specs.declared.event.What.TheVariants.{Packet as Said, Raw}
+use Rattle.source_events.specs.declared.event.What.TheVariants.{Packet as Said, Raw, Trigger}
 use Rattle.source_events.specs.declared.packet.Packet.{Packet}
 use Rattle.source_events.specs.declared.packet.Packet.TheVariants.{Itm, Stp}
 use Rattle.source_events.specs.Fitting.{AllFit, PacketFits}
@@ -20,6 +20,10 @@ stp_event source at half item = record { at = at; half = half; source = Some sou
 
 abbrev pub raw_event : ℕ → ℕ → List ℕ → Event Packet
 raw_event source at bytes = record { at = at; half = 0; source = Some source; what = Raw bytes }
+
+-- a byte of the trigger source, which is here
+abbrev pub trigger_event : ℕ → ℕ → ℕ → Event Packet
+trigger_event source at byte = record { at = at; half = 0; source = Some source; what = Trigger byte }
 
 -- it has these events after those that it had, and their numbers are in their ranges
 abbrev pub list_gets : ArrayVec (Event Packet) × Unit {0} → List (Event Packet) →

@@ -1,14 +1,10 @@
-//! The data bytes of a frame, and frames that name no source.
+//! The data bytes of a frame.
 
-ghost use Rattle.std.specs.Prelude.{◌≡◌, ℕ, ◌<◌, ◌*◌, ◌+◌, List, ◌++◌, Option, length, slice_index, take, IfSome};
-ghost use Rattle.frame_grammar.specs.Frame.{cells, id_after};
-ghost use Rattle.source_merge.specs.Data.{first_bytes, last_bytes, lowest, run_cells, spread_bits, with_bits};
+ghost use Rattle.std.specs.Prelude.{◌≡◌, ℕ, ◌<◌, ◌*◌, ◌+◌, ◌++◌, slice_index};
+ghost use Rattle.source_merge.specs.Data.{first_bytes, last_bytes, lowest, spread_bits, with_bits};
 ghost use Rattle.source_merge.specs.Data.{byte_in, late_bits, masks, moved_bytes, place_in};
 
 use frame_grammar::frame::FRAME_BYTES;
-
-/// How many data bytes a frame has that names no source.
-pub const DATA_BYTES: usize = 15;
 
 /// The lowest bit of each halfword of a word.
 const LOWEST: u64 = 0x0001_0001_0001_0001;
@@ -33,24 +29,13 @@ fn spread(bits: u8) -> u64
     bits as u64 * SPREADING & LOWEST
 }
 
-/// These bytes, of which those at even indexes have four bits as their bits 0, which were 0.
-#[inline(always)]
-fn with_low_bits(bytes: [u8; 8], bits: u8) -> [u8; 8]
-    requires bits { bits < 16 }
-    requires plain { lowest bytes ≡ 0 }
-    ensures { result ≡ with_bits bytes bits }
-{
-    (u64::from_le_bytes(bytes) + spread(bits)).to_le_bytes()
-}
-
-/// The same where their bits 0 were any. They are all set first, so that the word is never taken apart into bytes.
+/// These bytes, of which those at even indexes have four bits as their bits 0.
 #[inline(always)]
 fn with_new_bits(bytes: [u8; 8], bits: u8) -> [u8; 8]
     requires { bits < 16 }
     ensures { result ≡ with_bits bytes bits }
 {
-    let all = u64::from_le_bytes(bytes) + (LOWEST - low_bits(bytes));
-    (all - spread(15 - bits)).to_le_bytes()
+    (u64::from_le_bytes(bytes) - low_bits(bytes) + spread(bits)).to_le_bytes()
 }
 
 /// FF in the low byte of each halfword whose even byte is an ID byte that is in effect only after the byte behind it
@@ -128,22 +113,4 @@ pub fn data_in_place(
     let first_at = moved(first_half(behind), early);
     let last_at = moved(last_half(behind), later);
     (joined(&first, &last), joined(&first_at, &last_at))
-}
-
-/// The data bytes of a frame that names no source, with their bits 0 from byte 15, and byte 15 behind them; none where
-/// it names one.
-#[inline(always)]
-pub fn data_of(frame: &[u8; FRAME_BYTES]) -> Option<[u8; FRAME_BYTES]>
-    ensures cells { (offsets : List ℕ) (id : Option ℕ) → length offsets ≡ 16 →
-        IfSome result (λ bytes. cells frame.now offsets id ≡ run_cells (take 15 offsets) id 0 (take 15 bytes)) }
-    ensures id { (id : Option ℕ) → IfSome result (λ bytes. id_after frame.now id ≡ id) }
-{
-    let first = first_half(frame);
-    let last = last_half(frame);
-    if low_bits(first) + low_bits(last) != 0 {
-        return None;
-    }
-    let first = with_low_bits(first, frame[15] % 16);
-    let last = with_low_bits(last, frame[15] / 16);
-    Some(joined(&first, &last))
 }

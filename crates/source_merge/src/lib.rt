@@ -8,6 +8,7 @@ mod engine;
 mod flow;
 mod frame;
 mod mapped;
+mod named;
 mod pairs;
 mod placed;
 mod receiver;

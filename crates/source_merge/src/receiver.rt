@@ -1,17 +1,20 @@
 //! What takes the events of a report as they come.
 
+ghost use Rattle.std.specs.Option.{is_some};
+ghost use Rattle.std.specs.Prelude.{◌≡◌, true, Some};
 ghost use Rattle.std.specs.Prelude.{◌↔◌, ◌+◌, ◌<◌, ◌≤◌, ◌++◌, ◌∷◌, [], ℕ, List, length, IsTrue};
 ghost use Rattle.itm_grammar.specs.Proper.{IsProper};
 ghost use Rattle.source_events.specs.declared.event.Event.{Event};
 ghost use Rattle.source_events.specs.declared.packet.Packet.{Packet};
 ghost use Rattle.source_events.specs.Fitting.{EventFits, PacketFits};
-ghost use Rattle.stp_grammar.specs.Proper.{IsProperItem};
-ghost use Rattle.source_merge.specs.Receiver.{itm_event, raw_event, stp_event};
+ghost use Rattle.stp_grammar.specs.Said.{said_item, IsProperSaid};
+ghost use Rattle.stp_grammar.specs.declared.item.StpItem.{StpItem};
+ghost use Rattle.source_merge.specs.Receiver.{itm_event, raw_event, stp_event, trigger_event};
 
 use crate::slot::{Events, event_at};
 use itm_grammar::packet::ItmPacket;
 use source_events::{Event, Packet, RunBytes, What};
-use stp_grammar::item::StpItem;
+use stp_grammar::said::Said;
 use trace_values::SourceId;
 
 /// What takes the events of a report, one after the other.
@@ -46,7 +49,7 @@ pub trait Receiver {
 
     /// Takes the next event, which is an ITM packet of this source. Its last byte is at this offset.
     ///
-    /// It is what `give` makes of that event, which need not be in memory; so are the two below.
+    /// It is what `give` makes of that event, which need not be in memory; so are those below.
     fn give_itm(&mut self, to: &mut Self::To, at: u64, source: SourceId, packet: ItmPacket)
         requires fits { IsProper packet }
         requires own { itm self.old source }
@@ -54,12 +57,15 @@ pub trait Receiver {
         ensures gets { gets (self.old, to.old) (itm_event source at packet ∷ []) (self.new, to.new) }
         ensures room { room (self.old, to.old) ≤ room (self.new, to.new) + 1 };
 
-    /// Takes the next event, which is an item of this STP source. It ends in this half of the byte at this offset.
-    fn give_stp(&mut self, to: &mut Self::To, at: u64, half: u8, source: SourceId, item: StpItem)
-        requires fits { IsProperItem item }
+    /// Takes the next event, which is the item of what a packet of this STP source says, which has one. It ends in this
+    /// half of the byte at this offset.
+    fn give_stp(&mut self, to: &mut Self::To, at: u64, half: u8, source: SourceId, said: Said)
+        requires fits { IsProperSaid said }
+        requires some { is_some (said_item said) ≡ true }
         requires own { stp self.old source }
         requires room { 0 < room (self.old, to.old) }
-        ensures gets { gets (self.old, to.old) (stp_event source at half item ∷ []) (self.new, to.new) }
+        ensures gets { (item : StpItem) → said_item said ≡ Some item →
+            gets (self.old, to.old) (stp_event source at half item ∷ []) (self.new, to.new) }
         ensures room { room (self.old, to.old) ≤ room (self.new, to.new) + 1 };
 
     /// Takes the next event, which is a run of this source, 1 to 15 bytes that are not read. The last of them is at this
@@ -69,6 +75,12 @@ pub trait Receiver {
         requires few { length bytes.now ≤ 15 }
         requires room { 0 < room (self.old, to.old) }
         ensures gets { gets (self.old, to.old) (raw_event source at bytes.now ∷ []) (self.new, to.new) }
+        ensures room { room (self.old, to.old) ≤ room (self.new, to.new) + 1 };
+
+    /// Takes the next event, which is a byte of the trigger source. It is at this offset.
+    fn give_trigger(&mut self, to: &mut Self::To, at: u64, source: SourceId, byte: u8)
+        requires room { 0 < room (self.old, to.old) }
+        ensures gets { gets (self.old, to.old) (trigger_event source at byte ∷ []) (self.new, to.new) }
         ensures room { room (self.old, to.old) ≤ room (self.new, to.new) + 1 };
 
     // given nothing it is as before
@@ -119,12 +131,19 @@ impl Receiver for Events {
     }
 
     #[inline(always)]
-    fn give_stp(&mut self, _to: &mut (), at: u64, half: u8, source: SourceId, item: StpItem) {
-        self.push(event_at(source, at, half, What::Packet(Packet::Stp(item))));
+    fn give_stp(&mut self, _to: &mut (), at: u64, half: u8, source: SourceId, said: Said) {
+        if let Some(item) = said.item() {
+            self.push(event_at(source, at, half, What::Packet(Packet::Stp(item))));
+        }
     }
 
     #[inline(always)]
     fn give_raw(&mut self, _to: &mut (), at: u64, source: SourceId, bytes: &[u8]) {
         self.push(event_at(source, at, 0, What::Raw(RunBytes::new(bytes))));
+    }
+
+    #[inline(always)]
+    fn give_trigger(&mut self, _to: &mut (), at: u64, source: SourceId, byte: u8) {
+        self.push(event_at(source, at, 0, What::Trigger(byte)));
     }
 }

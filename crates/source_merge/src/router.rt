@@ -20,8 +20,8 @@ ghost use Rattle.source_merge.specs.declared.slot.Slot.{Slot};
 use crate::counts::{ByteCounts, PerSource};
 use crate::receiver::Receiver;
 use crate::run::{CellRun, Run};
-use crate::slot::{Slot, event_at, feed_itm, feed_stp, give};
-use source_events::{Packet, Stop, What, run_length};
+use crate::slot::{Slot, feed_itm, feed_stp};
+use source_events::{Packet, Stop, run_length};
 use source_machine::SourceMachine;
 use trace_values::{Cell, Fault, SourceId};
 
@@ -48,12 +48,13 @@ fn give_triggers<R: Run, V: Receiver>(
 {
     for index in 0..run.len() {
         let cell = run.cell(index);
-        let what = What::Trigger(cell.byte);
-        give(items, out, to, event_at(source, cell.at, 0, what));
+        items.add_event(source);
+        out.give_trigger(to, cell.at, source, cell.byte);
     }
 }
 
-/// Gives a run of a source that is not mapped.
+/// Gives a run of a source that is not mapped. It stands by itself, since what gives the events takes many registers.
+#[inline(never)]
 fn give_raw<R: Run, V: Receiver>(
     source: SourceId,
     run: &R,

@@ -22,6 +22,7 @@ ghost use Rattle.source_merge.specs.Counting.{total_of};
 ghost use Rattle.itm_grammar.specs.Proper.{IsProper};
 ghost use Rattle.source_merge.specs.Feeding.{Feeds, IsEarly, IsEarlyFrom, step_fault};
 ghost use Rattle.source_merge.specs.Receiver.{itm_event};
+ghost use Rattle.stp_grammar.specs.Said.{said_item, IsProperSaid};
 ghost use Rattle.source_merge.specs.Giving.{Given, Gives};
 ghost use Rattle.trace_values.specs.declared.limits.TheConstants.{COUNT_ROOM};
 
@@ -34,7 +35,7 @@ use itm_codec::ItmFound;
 use itm_grammar::packet::ItmPacket;
 use source_events::{Event, Packet, SourceKind, What};
 use source_machine::SourceMachine;
-use stp_codec::{PacketTaken, StpFound};
+use stp_codec::{PacketTaken, SaidTaken, StpFound};
 use stp_grammar::packet::Order;
 use trace_values::{Fault, Machine, PART_ROOM, SourceId, Step};
 
@@ -182,7 +183,7 @@ fn give_stp_event<V: Receiver>(
     }
 }
 
-/// Gives the item of an STP packet that was taken at once, up to the byte at this offset, where it has one.
+/// Gives the item of what an STP packet says that was taken at once, up to the byte at this offset, where it has one.
 #[inline(always)]
 fn give_item<V: Receiver>(
     items: &mut PerSource,
@@ -190,20 +191,20 @@ fn give_item<V: Receiver>(
     to: &mut V::To,
     source: SourceId,
     at: u64,
-    taken: PacketTaken,
+    taken: SaidTaken,
 )
-    requires fits { IfSome (packet_in taken.half taken.item) (StepFits PacketFits) }
+    requires fits { IsProperSaid taken.said }
     requires own { V.stp out.old source }
     requires space { 1 ≤ V.room (out.old, to.old) }
     requires count { total_of items.old + 1 ≤ COUNT_ROOM }
     ensures given { Given V.gets (items.old, (out.old, to.old)) (items.new, (out.new, to.new))
-        (told (Some source) (lifted (given_after at (packet_in taken.half taken.item)))) }
+        (told (Some source) (lifted (given_after at (packet_in taken.half (said_item taken.said))))) }
     ensures space { V.room (out.old, to.old) ≤ V.room (out.new, to.new) + 1 }
     ensures count { total_of items.new ≤ total_of items.old + 1 }
 {
-    if let Some(item) = taken.item {
+    if taken.said.has_item() {
         items.add_event(source);
-        out.give_stp(to, at, taken.half, source, item);
+        out.give_stp(to, at, taken.half, source, taken.said);
     }
 }
 

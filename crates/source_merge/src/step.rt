@@ -24,6 +24,7 @@ ghost use Rattle.deformatter.specs.declared.step.PortStep.TheVariants.{Frame};
 
 use crate::counts::{ByteCounts, Counters, PerSource, add_step};
 use crate::frame::FrameCells;
+use crate::named::after_frame;
 use crate::receiver::Receiver;
 use crate::slot::{Slot, give};
 use crate::split::SplitFrame;
@@ -185,11 +186,8 @@ pub fn take_whole<V: Receiver>(
         HasCounted counters.old (port_reading mode u) es →
         HasCounted counters.new (port_reading mode (u ++ byte_at at byte ∷ [])) (es ++ given))) }
 {
-    let mut split = SplitFrame::blank(frame.at);
-    split.fill(&frame.bytes, &frame.behind, id);
+    let split = SplitFrame::of(frame, id);
+    let after = after_frame(&frame.bytes, id);
     let stop = take_step(slots, counters, at, PortStep::Frame, &split, out, to);
-    FrameTaken {
-        after: split.after(),
-        stop,
-    }
+    FrameTaken { after, stop }
 }

@@ -19,6 +19,7 @@ use stp_grammar::attribution::Attribution;
 use stp_grammar::item::StpItem;
 use stp_grammar::packet::{Order, StpPacket};
 use stp_grammar::partial::Partial;
+use stp_grammar::said::Said;
 use trace_values::{Block, Fault, Machine, Mode, Next, Pattern, Step, feed_block};
 
 /// The shortest ASYNC: 21 nibbles F, and then a nibble 0.
@@ -84,6 +85,17 @@ pub struct PacketTaken {
     pub item: Option<StpItem>,
 }
 
+/// What was taken of a packet that was read as numbers.
+#[derive(Clone, Copy, Debug, PartialEq, Eq, Drop)]
+pub struct SaidTaken {
+    /// How many bytes, at least one. The packet ends in the last of them.
+    pub bytes: usize,
+    /// The half of that byte in which it ends: 0 for the low nibble, 1 for the high one.
+    pub half: u8,
+    /// What it says.
+    pub said: Said,
+}
+
 impl StpDecoder {
     ghost use Rattle.std.specs.Prelude.{[], ◌∷◌, ◌++◌, false, ℕ, ◌+◌, ◌-◌, ◌*◌, ◌/◌, ◌^◌, ◌<◌, List, IfSome};
     ghost use Rattle.std.specs.Prelude.{None};
@@ -92,6 +104,7 @@ impl StpDecoder {
     ghost use Rattle.trace_values.specs.Block.{Takes, StopsFor, goes_on_after};
     ghost use Rattle.trace_values.specs.declared.step.Step.TheVariants.{Quiet};
     ghost use Rattle.stp_grammar.specs.Proper.{IsProperItem};
+    ghost use Rattle.stp_grammar.specs.Said.{said_item, IsProperSaid};
     ghost use Rattle.stp_grammar.specs.declared.partial.Partial.TheVariants.{Start};
     ghost use Rattle.stp_codec.specs.Reading.{packets_of, rest_in, items_at, items_in};
     ghost use Rattle.stp_codec.specs.Wholes.{left_of, IsQuiet, GoesTwice};
@@ -538,9 +551,9 @@ impl StpDecoder {
     }
 
     /// Takes the packet of these parts that `find_part` found in these bytes, with all of the byte in which it ends. It
-    /// is live.
+    /// is live. What the packet says is answered, from which its item can be made.
     #[inline(always)]
-    pub fn end_part(&mut self, ahead: &[u8], parts: PacketParts) -> PacketTaken
+    pub fn end_part(&mut self, ahead: &[u8], parts: PacketParts) -> SaidTaken
         requires live { is_live self.old ≡ true }
         requires room { skipped_by self.old ≤ COUNT_ROOM }
         requires next { FinishesParts self.old ahead.now parts }
@@ -549,13 +562,25 @@ impl StpDecoder {
         ensures passes { (u front : List Placed) (last : Placed) → Stands self.old u →
             units_of (front ++ last ∷ []) ≡ take result.bytes ahead.now →
             Passes (items_in (order_of self.old) (is_hunter self.old)) (Stands self.new) u front last
-            (item_in result.half result.item) }
+            (item_in result.half (said_item result.said)) }
         ensures live { is_live self.new ≡ true }
-        ensures fits { IfSome result.item IsProperItem }
+        ensures fits { IsProperSaid result.said }
         ensures few { held_of self.new + skipped_by self.new ≤
             held_of self.old + skipped_by self.old + 2 * result.bytes }
     {
-        self.finish_packet(ahead, parts.nibbles, parts.packet())
+        let last = (parts.nibbles - 1) / 2;
+        let half = ((parts.nibbles - 1) % 2) as u8;
+        self.first = 0;
+        self.waiting = 0;
+        let said = self
+            .attribution
+            .say(parts.number, parts.payload, parts.size, parts.word);
+        self.pass_left(half, ahead[last]);
+        SaidTaken {
+            bytes: last + 1,
+            half,
+            said,
+        }
     }
 
     /// Takes bytes, wherever they are: those within the unfinished packet up to the one in which it ends, with all of

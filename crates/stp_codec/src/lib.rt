@@ -10,5 +10,5 @@ pub mod laws;
 mod waiting;
 mod whole;
 
-pub use decoder::{PacketTaken, StpDecoder, StpFound};
+pub use decoder::{PacketTaken, SaidTaken, StpDecoder, StpFound};
 pub use flat::{PacketParts, WINDOW};

@@ -137,7 +137,7 @@ datum_fits place stamp width marked stamped v p s h = some_fits (DatumItem place
   value SixtyFour false true h = h
   value SixtyFour false false h = h
 
-row_fits : (place : Place) (stamp : Stamp) (row : Row) (v : ℕ) → IsProperPlace place → IsProperStamp stamp → v < 16 ^ (line_of row).payload → Fits (item_with place stamp row v)
+pub row_fits : (place : Place) (stamp : Stamp) (row : Row) (v : ℕ) → IsProperPlace place → IsProperStamp stamp → v < 16 ^ (line_of row).payload → Fits (item_with place stamp row v)
 row_fits place stamp Null v p s h = none_fits
 row_fits place stamp Master8 v p s h = none_fits
 row_fits place stamp MasterError v p s h = some_fits (MasterErrorItem place v) (p, h)

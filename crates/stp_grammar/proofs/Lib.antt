@@ -18,3 +18,5 @@ pub mod Attributing
 pub mod Fitting
 pub mod ShortSpellings
 pub mod Items
+pub mod RowBits
+pub mod Saying

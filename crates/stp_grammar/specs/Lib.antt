@@ -7,3 +7,4 @@ pub mod Attribution
 pub mod NextState
 pub mod Attributed
 pub mod Rows
+pub mod Said

@@ -1,15 +1,17 @@
 //! What the packets so far say of the next item: its place and its timestamp.
 
-ghost use Rattle.std.specs.Prelude.{◌≡◌, ◌<◌, ◌+◌, ◌*◌, ◌/◌, ◌^◌, option_map};
+ghost use Rattle.std.specs.Prelude.{◌≡◌, ◌<◌, ◌+◌, ◌*◌, ◌/◌, ◌^◌, option_map, if◌then◌else◌};
 ghost use Rattle.trace_clock.specs.LastWord.{WordFits};
 ghost use Rattle.stp_grammar.specs.declared.packet.StpPacket.TheVariants.{Plain, Stamped};
-ghost use Rattle.stp_grammar.specs.Opcodes.{line_of};
+ghost use Rattle.stp_grammar.specs.Opcodes.{line_of, row_at};
 ghost use Rattle.std.specs.Option.{ForSome};
 ghost use Rattle.stp_grammar.specs.Proper.{IsProperStamp, IsProperItem};
 ghost use Rattle.stp_grammar.specs.Attribution.{item_with};
 
 use crate::item::{Place, Stamp, StpItem};
+use crate::opcode::row_at;
 use crate::packet::{Row, StpPacket};
+use crate::said::{Said, is_stamped_at, tells_at};
 use trace_clock::{from_gray, word_after};
 
 /// What is kept of the packets so far: the version of the protocol, and the master and the channel in force, as far as
@@ -24,7 +26,7 @@ pub struct Attribution {
 
 /// The item of a packet of this row with this payload.
 #[inline(always)]
-fn item_with(place: Place, stamp: Stamp, row: Row, payload: u64) -> Option<StpItem>
+pub(crate) fn item_with(place: Place, stamp: Stamp, row: Row, payload: u64) -> Option<StpItem>
     requires payload { payload < 16 ^ (line_of row).payload }
     requires stamp { IsProperStamp stamp }
     ensures item { result ≡ item_with place stamp row payload }
@@ -76,6 +78,8 @@ impl Attribution {
     ghost use Rattle.stp_grammar.specs.Attribution.{item_of, stamp_by, version_of, place_of, last_word_of};
     ghost use Rattle.stp_grammar.specs.NextState.{next_version, next_master, next_channel, next_last};
     ghost use Rattle.stp_grammar.specs.Attributed.{Stands, kept_version, kept_place, kept_word};
+    ghost use Rattle.stp_grammar.specs.Said.{packet_at, said_item, IsProperSaid};
+    ghost use Rattle.stp_grammar.specs.declared.item.Stamp.TheVariants.{None as NoStamp};
 
     /// What is kept before the first packet: version, master and channel are unknown, and the last word is 0.
     pub fn new() -> Attribution
@@ -214,6 +218,62 @@ impl Attribution {
                 let stamp = self.stamp(row, payload, size, word);
                 item_with(self.place(), stamp, row, payload)
             }
+        }
+    }
+
+    /// Keeps what a packet of the row of this number tells, which has no timestamp.
+    #[inline(always)]
+    fn note_at(&mut self, number: u8, payload: u64)
+        requires number { number < 35 }
+        requires fits { payload < 16 ^ (line_of (row_at number)).payload }
+        ensures version { self.new.version ≡ next_version self.old.version (Plain (row_at number) payload) }
+        ensures master { self.new.master ≡ next_master self.old.master (Plain (row_at number) payload) }
+        ensures channel { self.new.channel ≡ next_channel self.old.channel (Plain (row_at number) payload) }
+        ensures last { self.new.last ≡ next_last self.old.version self.old.last (Plain (row_at number) payload) }
+    {
+        if tells_at(number) {
+            self.note(row_at(number), payload);
+        }
+    }
+
+    /// Keeps what a packet of the row of this number tells, and answers its timestamp as an item has it.
+    #[inline(always)]
+    fn stamp_at(&mut self, number: u8, payload: u64, size: u8, word: u64) -> Stamp
+        requires number { number < 35 }
+        requires proper { IsProper (packet_at number payload size word) }
+        ensures list { (packets : List StpPacket) → Stands self.old packets →
+            Stands self.new (packets ++ packet_at number payload size word ∷ []) }
+        ensures stamp { result ≡ (if (line_of (row_at number)).stamped
+            then stamp_by self.new.version self.new.last size word else NoStamp) }
+        ensures fits { IsProperStamp result }
+    {
+        if is_stamped_at(number) {
+            self.stamp(row_at(number), payload, size, word)
+        } else {
+            self.note_at(number, payload);
+            Stamp::None
+        }
+    }
+
+    /// Takes the next packet, which is of the row of this number, and answers what it says: that has the item which
+    /// `take` answers to the packet. The size and the word are its timestamp's, of no account where it has none.
+    #[inline(always)]
+    pub fn say(&mut self, number: u8, payload: u64, size: u8, word: u64) -> Said
+        requires number { number < 35 }
+        requires proper { IsProper (packet_at number payload size word) }
+        ensures list { (packets : List StpPacket) → Stands self.old packets →
+            Stands self.new (packets ++ packet_at number payload size word ∷ []) }
+        ensures item { (packets : List StpPacket) → Stands self.old packets →
+            let packet = packet_at number payload size word in
+            said_item result ≡ item_of (packets ++ packet ∷ []) packet }
+        ensures fits { IsProperSaid result }
+    {
+        let stamp = self.stamp_at(number, payload, size, word);
+        Said {
+            number,
+            place: self.place(),
+            payload,
+            stamp,
         }
     }
 }

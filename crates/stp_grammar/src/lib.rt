@@ -11,3 +11,4 @@ pub mod packet;
 pub mod partial;
 pub mod proper;
 pub mod rows;
+pub mod said;

@@ -19,13 +19,13 @@ rest : (a b : Bool) → (a && b) ≡ true → b ≡ true
 rest true b e = e
 rest false b e = cc
 
-same : List ℕ → List ℕ → Bool
+unfoldable pub same : List ℕ → List ℕ → Bool
 same [] [] = true
 same [] (y ∷ ys) = false
 same (x ∷ xs) [] = false
 same (x ∷ xs) (y ∷ ys) = (x == y) && same xs ys
 
-is_same : (xs ys : List ℕ) → same xs ys ≡ true → xs ≡ ys
+pub is_same : (xs ys : List ℕ) → same xs ys ≡ true → xs ≡ ys
 unfolding same
 is_same [] [] e = refl
 is_same [] (y ∷ ys) e = absurd (false≢true e)

@@ -6,8 +6,9 @@ use mir.Val.{bool_byte}
 use Rattle.itm_grammar.specs.declared.packet.Size.{Size}
 use Rattle.itm_grammar.specs.declared.packet.Size.TheVariants.{One, Two, Four}
 use Rattle.itm_grammar.specs.Spelling.{byte_count}
-use Rattle.trace_text.specs.declared.tables.TheConstants.{BITS, FLAGS, WIDTHS}
+use Rattle.trace_text.specs.declared.tables.TheConstants.{BITS, FLAGS, MARKS, WIDTHS}
 use Rattle.trace_text.specs.ItemText.{bits_text, flag_text}
+use Rattle.trace_text.specs.StpText.{mark_text}
 use Rattle.trace_text.specs.Values.{width_text}
 
 pub most_of_width : (a : Bool) → 3 + bool_byte a ≤ 4
@@ -27,3 +28,7 @@ flags false false = refl
 pub bits : (a : Bool) → take 3 (take 4 (drop (4 * bool_byte a) BITS.now)) ≡ bits_text a ++ codes " "
 bits true = refl
 bits false = refl
+
+pub mark : (a : Bool) → take 3 (take 4 (drop (4 * bool_byte a) MARKS.now)) ≡ codes " " ++ (mark_text a ++ codes " ")
+mark true = refl
+mark false = refl

@@ -4,6 +4,7 @@ pub mod HardwareText
 pub mod ItemText
 pub mod StpText
 pub mod LineText
+pub mod SaidText
 pub mod Printable
 pub mod Lengths
 pub mod FaultText

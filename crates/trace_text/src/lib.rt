@@ -15,6 +15,8 @@ mod place_text;
 mod remark;
 mod room;
 pub mod rows;
+mod said;
+mod said_tables;
 mod stp;
 mod tables;
 
@@ -25,3 +27,4 @@ pub use faults::{FaultLine, print_fault};
 pub use lines::{EVENT_ROOM, print, put_line, put_raw_line, put_stp_line};
 pub use notes::{LastLine, LimitLine, ScriptFaultLine};
 pub use remark::Remark;
+pub use said::put_said_line;

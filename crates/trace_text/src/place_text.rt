@@ -1,6 +1,6 @@
 //! The text of a place that is kept from one line to the next.
 
-ghost use Rattle.std.specs.Prelude.{◌≡◌, ◌+◌, ◌≤◌, ◌++◌, length, take};
+ghost use Rattle.std.specs.Prelude.{◌≡◌, ◌+◌, ◌≤◌, ◌++◌, [], length, take, ◌==◌, if◌then◌else◌};
 ghost use Rattle.trace_text.specs.StpText.{place_text};
 
 use crate::room::put_front;
@@ -16,7 +16,7 @@ pub(crate) struct PlaceText {
     place: Place,
     text: [u8; PLACE_COPY],
     len: usize,
-    ghost few: { len ≤ 11 },
+    ghost few: { len ≤ 15 },
     ghost sized: { length text ≡ 16 },
     ghost kept: { take len text ≡ place_text place },
 }
@@ -53,5 +53,24 @@ impl PlaceText {
         ensures end { result ≤ from + PLACE_ROOM }
     {
         put_front(room, from, &self.text, self.len)
+    }
+
+    /// Puts the place whose text is kept once, or never: so many times. No branch depends on which it is.
+    #[inline(always)]
+    pub(crate) fn put_times(
+        &self,
+        room: &mut [u8],
+        from: usize,
+        place: Place,
+        times: usize,
+    ) -> usize
+        requires kept { place_of self.now ≡ place }
+        requires times { times ≤ 1 }
+        requires room { from + PLACE_COPY ≤ length room.old }
+        ensures text { take result room.new ≡ take from room.old ++ (if times == 1 then place_text place else []) }
+        ensures same { length room.new ≡ length room.old }
+        ensures end { result ≤ from + PLACE_ROOM }
+    {
+        put_front(room, from, &self.text, self.len * times)
     }
 }

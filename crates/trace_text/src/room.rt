@@ -10,13 +10,15 @@ ghost use Rattle.trace_text.specs.Values.{bytes_of_value, value_text, width_text
 
 use crate::tables::{HEX_PAIRS, NUMBERS, PAIRS, PORTS, WIDTHS};
 use itm_grammar::packet::Size;
-use itoa::Buffer;
 
 /// Bytes that a number or a value is given: more than any has.
 pub(crate) const NUMBER_ROOM: usize = 24;
 
 /// Bytes that a number of at most three digits is given.
 pub(crate) const SHORT_ROOM: usize = 4;
+
+/// Bytes that a number of at most five digits is given: more than any has.
+pub(crate) const MEDIUM_ROOM: usize = 7;
 
 /// The most bytes of a word.
 pub(crate) const WORD_ROOM: usize = 12;
@@ -97,7 +99,7 @@ pub(crate) fn put_four_of(room: &mut [u8], from: usize, table: &[u8], start: usi
 
 /// Puts eight bytes of a table.
 #[inline(always)]
-fn put_eight_of(room: &mut [u8], from: usize, table: &[u8], start: usize) -> usize
+pub(crate) fn put_eight_of(room: &mut [u8], from: usize, table: &[u8], start: usize) -> usize
     requires table { start + 8 ≤ length table.now }
     requires room { from + 8 ≤ length room.old }
     ensures text { take result room.new ≡ take from room.old ++ take 8 (drop start table.now) }
@@ -269,13 +271,16 @@ pub(crate) fn put_number(room: &mut [u8], from: usize, number: u64) -> usize
 /// Puts a number of at most five digits in decimal.
 #[inline]
 pub(crate) fn put_medium(room: &mut [u8], from: usize, number: u16) -> usize
-    requires room { from + 5 ≤ length room.old }
+    requires room { from + MEDIUM_ROOM ≤ length room.old }
     ensures text { take result room.new ≡ take from room.old ++ decimal number }
     ensures same { length room.new ≡ length room.old }
-    ensures end { result ≤ from + 5 }
+    ensures end { result ≤ from + MEDIUM_ROOM }
 {
-    let mut buffer = Buffer::new();
-    put_slice(room, from, buffer.format(number).as_bytes())
+    if number < 10_000 {
+        return put_up_to_four(room, from, number);
+    }
+    let from = put_short(room, from, (number / 10_000) as u8);
+    put_four(room, from, number % 10_000)
 }
 
 /// Puts bytes in hexadecimal, two digits each. Where it is a constant how many they are, no branch depends on it.

@@ -10,16 +10,16 @@ ghost use Rattle.trace_text.specs.StpText.{known_text, place_text, datum_text, m
 
 use crate::digits::Digits;
 use crate::room::{
-    ITEM_ROOM, NUMBER_ROOM, PART_ROOM, put_byte, put_bytes, put_digits, put_four_of, put_medium,
-    put_number, put_short, put_slice,
+    ITEM_ROOM, MEDIUM_ROOM, NUMBER_ROOM, PART_ROOM, put_byte, put_bytes, put_digits, put_four_of,
+    put_medium, put_number, put_short,
 };
-use crate::tables::DATUM_WIDTHS;
+use crate::tables::{DATUM_WIDTHS, MARKS};
 use stp_grammar::item::{Place, Stamp, StpItem};
 use stp_grammar::packet::Width;
 use trace_clock::word_nibbles;
 
-/// The most bytes of a master and a channel.
-pub(crate) const PLACE_ROOM: usize = 11;
+/// Bytes that a master and a channel are given: more than any have.
+pub(crate) const PLACE_ROOM: usize = 2 * MEDIUM_ROOM + 1;
 
 /// The most bytes of a datum's width and value.
 const VALUE_ROOM: usize = 20;
@@ -30,10 +30,10 @@ const STAMP_ROOM: usize = 2 + NUMBER_ROOM;
 /// Puts a number, or `-` where it is unknown.
 #[inline(always)]
 fn put_known(room: &mut [u8], from: usize, number: Option<u16>) -> usize
-    requires room { from + 5 ≤ length room.old }
+    requires room { from + MEDIUM_ROOM ≤ length room.old }
     ensures text { take result room.new ≡ take from room.old ++ known_text number }
     ensures same { length room.new ≡ length room.old }
-    ensures end { result ≤ from + 5 }
+    ensures end { result ≤ from + MEDIUM_ROOM }
 {
     match number {
         None => put_byte(room, from, b'-'),
@@ -94,7 +94,7 @@ fn put_datum(room: &mut [u8], from: usize, width: Width, value: u64) -> usize
 
 /// Puts a timestamp: `-`, `n=N`, `g=N`, or `r=` and its word's nibbles.
 #[inline(always)]
-fn put_stamp(room: &mut [u8], from: usize, stamp: Stamp) -> usize
+pub(crate) fn put_stamp(room: &mut [u8], from: usize, stamp: Stamp) -> usize
     requires proper { IsProperStamp stamp }
     requires room { from + STAMP_ROOM ≤ length room.old }
     ensures text { take result room.new ≡ take from room.old ++ stamp_text stamp }
@@ -118,12 +118,16 @@ fn put_stamp(room: &mut [u8], from: usize, stamp: Stamp) -> usize
     }
 }
 
-#[inline]
-fn mark_words(marked: bool) -> &'static str
-    ensures text { result.now ≡ codes " " ++ (mark_text marked ++ codes " ") }
-    ensures bound { length result.now ≡ 3 }
+/// Puts whether a datum is marked, between spaces.
+#[inline(always)]
+fn put_mark(room: &mut [u8], from: usize, marked: bool) -> usize
+    requires room { from + 4 ≤ length room.old }
+    ensures text { take result room.new ≡ take from room.old ++ (codes " " ++ (mark_text marked ++ codes " ")) }
+    ensures same { length room.new ≡ length room.old }
+    ensures end { result ≡ from + 3 }
 {
-    if marked { " m " } else { " - " }
+    let _all = put_four_of(room, from, MARKS, 4 * marked as usize);
+    from + 3
 }
 
 /// Puts what was written, with its place and its timestamp: `data M C uB V K T`.
@@ -152,7 +156,7 @@ fn put_data(
     let from = digits.place.put(room, from, place);
     let from = put_byte(room, from, b' ');
     let from = put_datum(room, from, width, value);
-    let from = put_slice(room, from, mark_words(marked).as_bytes());
+    let from = put_mark(room, from, marked);
     put_stamp(room, from, stamp)
 }
 

@@ -58,3 +58,7 @@ pub(crate) const FLAGS: &[u8] = b" 0 0 0 1 1 0 1 1";
 /// How many bits the time of a second global timestamp has, with a space after it, in four bytes. The last is of no
 /// account.
 pub(crate) const BITS: &[u8] = b"48  64  ";
+
+/// Whether a datum is marked, with a space before it and after it, in four bytes: first where it is not. The last is of
+/// no account.
+pub(crate) const MARKS: &[u8] = b" -   m  ";

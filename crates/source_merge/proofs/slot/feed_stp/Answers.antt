@@ -14,6 +14,7 @@ use Rattle.trace_values.specs.Block.{given_after}
 use Rattle.source_events.specs.Merge.{told}
 use Rattle.source_events.specs.Report.{lifted}
 use Rattle.source_machine.specs.Seen.{packet_in}
+use Rattle.stp_grammar.specs.Said.{said_item}
 use Rattle.source_merge.proofs.slot.feed_stp.Goals as goal
 
 pub loop-done-init : goal.loop-done-init
@@ -34,7 +35,7 @@ loop-done-preserved-in-Ends g c =
     let was : PerSource × (_ × _) = (c.loop-done.items, (c.loop-done.out, c.loop-done.to)) in
     let within : done + taken.bytes ≤ length run =
     (let a = found.bytes.1 in let b = few.1 in let h = c.loop-done-test.true in let e = c.len-in-loop-done.ensures.value in let f = c.len.ensures.value in omega arith) in
-    let step = packet_in taken.half taken.item in
+    let step = packet_in taken.half (said_item taken.said) in
     fed_on g.V.Receiver.gets g.V.Receiver.room c.args.machine.now (c.args.items.now, (c.args.out.now, c.args.to.now)) run
     c.args.source g.met.V.Receiver.gets_more done taken.bytes c.look_stp.new.machine c.end_stp-taken.new.self
     was (c.give_item.new.items, (c.give_item.new.out, c.give_item.new.to))

@@ -1,8 +1,8 @@
-use Rattle.std.proofs.Common.{◌≡◌, ◌≤◌, List, length, sym, ◌∙◌, ap, subst, arith, ℕ}
+use Rattle.std.proofs.Common.{◌≡◌, List, sym, ◌∙◌, ap, subst, ℕ, Option}
 use Rattle.trace_values.specs.declared.cell.Cell.{Cell}
 use Rattle.deformatter.specs.declared.step.PortStep.TheVariants.{Frame}
 use Rattle.frame_grammar.specs.Frame.{cells}
-use Rattle.frame_grammar.specs.Placing.{places_of}
+use Rattle.frame_grammar.specs.declared.placed.PlacedFrame.{PlacedFrame}
 use Rattle.frame_grammar.proofs.CellLaws.{few_cells}
 use Rattle.port_reader.specs.Growth.{Answers}
 use Rattle.source_merge.specs.Gathered.{frame_places}
@@ -11,19 +11,19 @@ use Rattle.source_merge.proofs.step.take_whole.Goals as goal
 
 pub take_step-stop-requires-clause-cells : goal.take_step-stop-requires-clause-cells
 take_step-stop-requires-clause-cells g c =
-    subst (λ (l : List Cell). length l ≤ 15) (sym c.fill.ensures.cells)
-    (few_cells c.args.frame.now.bytes (places_of c.blank-split.result.at c.args.frame.now.behind) c.args.id.now)
+    let split = c.of-split.result in few_cells split.frame.now.bytes (frame_places split.frame.now) split.id
 
 pub take_step-stop-requires-clause-suits : goal.take_step-stop-requires-clause-suits
-take_step-stop-requires-clause-suits g c = c.fill.ensures.suits c.args.slots.now
+take_step-stop-requires-clause-suits g c = c.of-split.ensures.split
 
 -- what the step of the port says, of the cells of the frame
 pub returns-clause-taken : goal.returns-clause-taken
 returns-clause-taken g c =
     let t = c.take_step-stop.ensures.taken in
-    let same : cells c.args.frame.now.bytes (frame_places c.args.frame.now) c.args.id.now ≡ split_cells c.fill.new.self =
-    ap (λ (n : ℕ). cells c.args.frame.now.bytes (places_of n c.args.frame.now.behind) c.args.id.now) (sym c.blank-split.ensures.at)
-    ∙ sym c.fill.ensures.cells in (
+    let split = c.of-split.result in
+    let same : cells c.args.frame.now.bytes (frame_places c.args.frame.now) c.args.id.now ≡ split_cells split =
+    ap (λ (f : PlacedFrame). cells f.bytes (frame_places f) c.args.id.now) (sym c.of-split.ensures.frame)
+    ∙ ap (λ (id : Option ℕ). cells split.frame.now.bytes (frame_places split.frame.now) id) (sym c.of-split.ensures.id) in (
       t.0,
       t.1,
       (

@@ -1,4 +1,4 @@
-use Rattle.std.proofs.Common.{◌≡◌, ℕ, ◌+◌, ◌-◌, ◌*◌, ◌≤◌, List, ◌++◌, length, drop}
+use Rattle.std.proofs.Common.{◌≡◌, ℕ, ◌+◌, ◌-◌, ◌*◌, ◌≤◌, List, ◌++◌, length}
 use Rattle.trace_values.specs.declared.cell.Cell.{Cell}
 use Rattle.source_events.specs.declared.event.Event.{Event}
 use Rattle.source_events.specs.declared.packet.Packet.{Packet}
@@ -6,18 +6,27 @@ use Rattle.source_events.specs.Runs.{RisesFrom, runs_of}
 use Rattle.source_machine.specs.Machine.{Stands, held_of, is_live, reading_of, skipped_by}
 use Rattle.source_merge.specs.Counting.{HasBytes, bytes_counted, total_of}
 use Rattle.source_merge.specs.Giving.{Given}
+use Rattle.source_merge.specs.Pairs.{ends_from, ends_left}
 use Rattle.source_merge.specs.Routing.{mapped_of, AllLive, AllStand, HaveRoom, AreDistinct, RunsBetween}
-use Rattle.source_merge.specs.Split.{AreParts, cells_of_parts, split_cells, split_places}
+use Rattle.source_merge.specs.Split.{split_cells, split_places}
+use Rattle.source_merge.proofs.Cuts.{parts_from}
 use Rattle.source_merge.proofs.Filling.{Filled}
+use Rattle.source_merge.proofs.Splitting.{AreParts, cells_of_parts}
 use Rattle.source_merge.proofs.split.SplitFrameFrameCells.take.Given as goal
 
--- the parts so far are taken, and none had a fault
-abbrev pub invariant-loop-part : goal.invariant-loop-part
-invariant-loop-part g l =
+-- the runs that ended so far are taken, and none had a fault
+abbrev pub invariant-loop-pair : goal.invariant-loop-pair
+invariant-loop-pair g l =
+    let frame = l.self.frame.now.bytes in
     let cells = split_cells l.self in
-    let parts_left = drop l.part-index l.self.parts.items in
+    let parts_left = parts_from frame l.begun (ends_left l.ends) in
     let rest = cells_of_parts (split_places l.self) l.self.bytes parts_left in
     record {
+      pair : ℕ;
+      last : pair ≤ 8;
+      ends : ends_left l.ends ≡ ends_from frame pair;
+      run : l.begun.run ≤ pair;
+      from : l.begun.from ≤ 2 * pair;
       done : List (List Cell);
       parts : runs_of cells ≡ done ++ runs_of rest;
       low : ℕ;
@@ -36,3 +45,6 @@ invariant-loop-part g l =
           RunsBetween 0 n runs → RisesFrom n cells →
           Filled Stands (mapped_of reading_of l.fn.slots) l.slots runs n done rest given;
     }
+
+abbrev pub decreases-loop-pair : goal.decreases-loop-pair
+decreases-loop-pair g l = length (ends_left l.ends)

@@ -1,0 +1,100 @@
+-- The texts of what packets say, by their rows.
+use Rattle.std.proofs.Common.{◌≡◌, ℕ, zero, suc, ◌-◌, ◌*◌, ◌/◌, ◌%◌, ◌^◌, ◌<◌, ◌≤◌, List, [], ◌∷◌, ◌++◌, length, take, true, false, Option, refl, sym, ◌∙◌, ap, append_assoc, arith}
+use Rattle.std.specs.Prelude.{codes, decimal, None, Some}
+use Rattle.std.specs.Option.{ForSome, is_some}
+use Rattle.std.specs.Int.{bytes_high_first, byte_at}
+use Rattle.std.proofs.Math.Nat.{pow-zero}
+use Rattle.hex.specs.Hex.{encode_lower}
+use Rattle.stp_grammar.specs.declared.packet.Width.TheVariants.{Four, Eight, Sixteen, ThirtyTwo, SixtyFour}
+use Rattle.stp_grammar.specs.declared.packet.Row.{Row}
+use Rattle.stp_grammar.specs.declared.packet.Row.TheVariants.{Null, Master8, MasterError, Channel8, Datum, Flag, Master16, GlobalError, Channel16, Version, NullStamp, Trigger, Frequency}
+use Rattle.stp_grammar.specs.declared.item.Place.{Place}
+use Rattle.stp_grammar.specs.declared.item.Stamp.{Stamp}
+use Rattle.stp_grammar.specs.declared.item.StpItem.{StpItem}
+use Rattle.stp_grammar.specs.Opcodes.{line_of}
+use Rattle.stp_grammar.specs.Proper.{IsProperItem}
+use Rattle.stp_grammar.specs.Attribution.{item_with}
+use Rattle.trace_text.specs.HexDigits.{hex_digits}
+use Rattle.trace_text.specs.Lengths.{HasDigits}
+use Rattle.trace_text.specs.LineText.{half_text, source_text}
+use Rattle.trace_text.specs.StpText.{stamp_text, stp_text}
+use Rattle.trace_text.specs.SaidText.{is_written, word_at, place_at, width_at, mark_at, said_text, said_line}
+use Rattle.trace_text.proofs.HexNibbles.{encoded, moved_digits}
+use Rattle.trace_text.proofs.LongestLines.{stp_item}
+
+-- one part after another
+pub after : (old x y a r : List ℕ) → x ≡ old ++ a → y ≡ x ++ r → y ≡ old ++ (a ++ r)
+after old x y a r e f = f ∙ ap (λ (l : List ℕ). l ++ r) e ∙ append_assoc old a r
+
+-- the first digits of the bytes of a word into whose top a number was moved, or of none
+pub value_digits : (count number : ℕ) → count ≤ 16 → number < 16 ^ count →
+    take count (encode_lower (bytes_high_first 8 (number * 2 ^ ((64 - 4 * count) % 64) % 2 ^ 64))) ≡ hex_digits count number
+unfolding hex_digits
+value_digits zero number few fits = refl
+value_digits (suc n) number few fits =
+    let e : (64 - 4 * suc n) % 64 ≡ 64 - 4 * suc n = omega arith in
+    ap (λ k. take (suc n) (encode_lower (bytes_high_first 8 (number * 2 ^ k % 2 ^ 64)))) e ∙ moved_digits (suc n) number few fits
+
+-- a byte's two digits
+pub byte_digits : (v : ℕ) → v < 16 ^ 2 → hex_digits 2 v ≡ encode_lower (v ∷ [])
+byte_digits v h =
+    let p : v / 256 ^ 0 ≡ v / 1 = ap (λ k. v / k) (pow-zero 256) in
+    let e : byte_at 0 v ≡ v = omega arith in
+    sym (encoded 1 v) ∙ ap (λ b. encode_lower (b ∷ [])) e
+
+-- the parts of a row's text, of this place, value and timestamp
+abbrev pub by_parts : Place → Stamp → Row → ℕ → List ℕ
+by_parts place stamp row v =
+    word_at row ++ (place_at row place ++ (width_at row ++ (hex_digits (line_of row).payload v ++ (mark_at row ++ stamp_text stamp))))
+
+pub written_text : (place : Place) (stamp : Stamp) (row : Row) (v : ℕ) → is_written row ≡ true → v < 16 ^ (line_of row).payload →
+    by_parts place stamp row v ≡ said_text (item_with place stamp row v)
+unfolding hex_digits
+written_text place stamp (Datum Four true true) v e h = refl
+written_text place stamp (Datum Four true false) v e h = refl
+written_text place stamp (Datum Four false true) v e h = refl
+written_text place stamp (Datum Four false false) v e h = refl
+written_text place stamp (Datum Eight true true) v e h = refl
+written_text place stamp (Datum Eight true false) v e h = refl
+written_text place stamp (Datum Eight false true) v e h = refl
+written_text place stamp (Datum Eight false false) v e h = refl
+written_text place stamp (Datum Sixteen true true) v e h = refl
+written_text place stamp (Datum Sixteen true false) v e h = refl
+written_text place stamp (Datum Sixteen false true) v e h = refl
+written_text place stamp (Datum Sixteen false false) v e h = refl
+written_text place stamp (Datum ThirtyTwo true true) v e h = refl
+written_text place stamp (Datum ThirtyTwo true false) v e h = refl
+written_text place stamp (Datum ThirtyTwo false true) v e h = refl
+written_text place stamp (Datum ThirtyTwo false false) v e h = refl
+written_text place stamp (Datum SixtyFour true true) v e h = refl
+written_text place stamp (Datum SixtyFour true false) v e h = refl
+written_text place stamp (Datum SixtyFour false true) v e h = refl
+written_text place stamp (Datum SixtyFour false false) v e h = refl
+written_text place stamp (Flag true) v e h = refl
+written_text place stamp (Flag false) v e h = refl
+written_text place stamp NullStamp v e h = refl
+written_text place stamp (Trigger true) v e h = ap (λ (l : List ℕ). codes "trig " ++ (l ++ (codes " " ++ stamp_text stamp))) (byte_digits v h)
+written_text place stamp (Trigger false) v e h = ap (λ (l : List ℕ). codes "trig " ++ (l ++ (codes " " ++ stamp_text stamp))) (byte_digits v h)
+written_text place stamp Null v e h = cc
+written_text place stamp Master8 v e h = cc
+written_text place stamp MasterError v e h = cc
+written_text place stamp Channel8 v e h = cc
+written_text place stamp Master16 v e h = cc
+written_text place stamp GlobalError v e h = cc
+written_text place stamp Channel16 v e h = cc
+written_text place stamp Version v e h = cc
+written_text place stamp (Frequency stamped) v e h = cc
+
+-- a line by its parts
+pub line_by : (at half id : ℕ) (o : Option StpItem) → is_some o ≡ true →
+    decimal at ++ (half_text true half ++ ((codes " " ++ (source_text (Some id) ++ codes " ")) ++ (said_text o ++ codes "\n"))) ≡ said_line at half id o
+line_by at half id None e = cc
+line_by at half id (Some item) e =
+    ap (λ (l : List ℕ). decimal at ++ (half_text true half ++ (32 ∷ l))) (append_assoc (decimal id) (codes " ") (stp_text item ++ codes "\n"))
+    ∙ sym (append_assoc (decimal at) (half_text true half) (32 ∷ (decimal id ++ (codes " " ++ (stp_text item ++ codes "\n")))))
+
+-- the longest
+pub line_most : (at half id : ℕ) (o : Option StpItem) → ForSome o (λ item. IsProperItem item) → HasDigits 20 at → HasDigits 3 half → HasDigits 3 id →
+    length (said_line at half id o) ≤ 92
+line_most at half id None p a b c = omega arith
+line_most at half id (Some item) p a b c = stp_item at half id item (p item refl) a b c

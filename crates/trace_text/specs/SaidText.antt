@@ -1,0 +1,55 @@
+-- The parts of the texts of data, flags, triggers and NULL_TS, by their rows in the table of opcodes; and the line of
+-- what a packet says.
+use Rattle.std.specs.Prelude.{ℕ, List, [], ◌++◌, codes, Bool, true, false, Option, Some, None, if◌then◌else◌}
+use Rattle.stp_grammar.specs.declared.packet.Row.{Row}
+use Rattle.stp_grammar.specs.declared.packet.Row.TheVariants.{Datum, Flag, NullStamp, Trigger}
+use Rattle.stp_grammar.specs.declared.item.Place.{Place}
+use Rattle.stp_grammar.specs.declared.item.StpItem.{StpItem}
+use Rattle.trace_text.specs.LineText.{event_line, stp_event}
+use Rattle.trace_text.specs.StpText.{mark_text, place_text, stp_text, width_text}
+use Rattle.trace_text.specs.declared.remark.Remark.TheVariants.{None as NoRemark}
+
+-- it is one of these rows
+abbrev pub is_written : Row → Bool
+is_written (Datum width marked stamped) = true
+is_written (Flag stamped) = true
+is_written NullStamp = true
+is_written (Trigger stamped) = true
+is_written row = false
+
+-- the first word
+abbrev pub word_at : Row → List ℕ
+word_at (Datum width marked stamped) = codes "data "
+word_at (Flag stamped) = codes "flag "
+word_at (Trigger stamped) = codes "trig "
+word_at row = codes "nullts "
+
+-- only a datum and a flag have a place
+abbrev pub is_placed : Row → Bool
+is_placed (Datum width marked stamped) = true
+is_placed (Flag stamped) = true
+is_placed row = false
+
+abbrev pub place_at : Row → Place → List ℕ
+place_at row place = if is_placed row then place_text place else []
+
+-- what is after the place, before the value, if there is one
+abbrev pub width_at : Row → List ℕ
+width_at (Datum width marked stamped) = codes " " ++ (width_text width ++ codes " ")
+width_at (Flag stamped) = codes " "
+width_at row = []
+
+-- what is after the value, before the timestamp
+abbrev pub mark_at : Row → List ℕ
+mark_at (Datum width marked stamped) = codes " " ++ (mark_text marked ++ codes " ")
+mark_at (Trigger stamped) = codes " "
+mark_at row = []
+
+-- the text of an item, where there is one, and its line
+abbrev pub said_text : Option StpItem → List ℕ
+said_text None = []
+said_text (Some item) = stp_text item
+
+abbrev pub said_line : ℕ → ℕ → ℕ → Option StpItem → List ℕ
+said_line at half id None = []
+said_line at half id (Some item) = event_line true (stp_event at half id item) NoRemark

@@ -1,0 +1,259 @@
+//! The lines of what STP packets say, from their parts. Those of data, flags, triggers and NULL_TS, which are most, are
+//! put with no branch by what the packet is.
+
+ghost use Rattle.std.specs.Prelude.{◌≡◌, ◌+◌, ◌*◌, ◌/◌, ◌^◌, ◌≤◌, ◌<◌, ◌++◌, ◌==◌, true, length, take, Some};
+ghost use Rattle.std.specs.Option.{is_some};
+ghost use Rattle.stp_grammar.specs.Opcodes.{line_of, row_at};
+ghost use Rattle.stp_grammar.specs.Said.{said_item, IsProperSaid};
+ghost use Rattle.stp_grammar.specs.declared.item.StpItem.{StpItem};
+ghost use Rattle.trace_text.specs.HexDigits.{hex_digits};
+ghost use Rattle.trace_text.specs.Digits.{hundreds_of, place_of};
+ghost use Rattle.trace_text.specs.LineText.{event_line, stp_event};
+ghost use Rattle.trace_text.specs.SaidText.{is_written, is_placed, word_at, width_at, mark_at, said_text, said_line};
+ghost use Rattle.trace_text.specs.declared.remark.Remark.TheVariants.{None as NoRemark};
+
+use crate::digits::Digits;
+use crate::lengths::{few_digits, few_half_digits, few_id_digits};
+use crate::lines::{EVENT_ROOM, put_half, put_source, put_stp_line};
+use crate::room::{ITEM_ROOM, put_byte, put_digits, put_eight_of, put_four_of};
+use crate::said_tables::{
+    DIGIT_COUNTS, MARK_LENS, MARKS, PLACE_COUNTS, WIDTH_LENS, WIDTHS, WORD_LENS, WORDS, WRITTEN,
+};
+use crate::stp::put_stamp;
+use stp_grammar::said::Said;
+use trace_stream::{OUTLET_ROOM, Outlet, TEXT_ROOM, Text};
+use trace_values::SourceId;
+
+/// The line of a packet of the row of this number is put by its row.
+#[inline(always)]
+fn is_written(number: u8) -> bool
+    requires { number < 35 }
+    ensures { result ≡ is_written (row_at number) }
+{
+    (WRITTEN >> number) % 2 == 1
+}
+
+/// How many places the line has: 1 or 0.
+#[inline(always)]
+fn place_count(number: u8) -> usize
+    requires { number < 35 }
+    ensures placed { (result == 1) ≡ is_placed (row_at number) }
+    ensures few { result ≤ 1 }
+{
+    let counts = PLACE_COUNTS;
+    counts[number as usize] as usize
+}
+
+/// How many bytes the word of a row has.
+#[inline(always)]
+fn word_len(number: u8) -> usize
+    requires number { number < 35 }
+    requires written { is_written (row_at number) ≡ true }
+    ensures { result ≡ length (word_at (row_at number)) }
+{
+    let lens = WORD_LENS;
+    lens[number as usize] as usize
+}
+
+/// How many bytes what is after the place has.
+#[inline(always)]
+fn width_len(number: u8) -> usize
+    requires number { number < 35 }
+    requires written { is_written (row_at number) ≡ true }
+    ensures { result ≡ length (width_at (row_at number)) }
+{
+    let lens = WIDTH_LENS;
+    lens[number as usize] as usize
+}
+
+/// How many hexadecimal digits the value has.
+#[inline(always)]
+fn digit_count(number: u8) -> u8
+    requires number { number < 35 }
+    requires written { is_written (row_at number) ≡ true }
+    ensures count { result ≡ (line_of (row_at number)).payload }
+    ensures few { result ≤ 16 }
+{
+    let counts = DIGIT_COUNTS;
+    counts[number as usize]
+}
+
+/// How many bytes what is between the value and the timestamp has.
+#[inline(always)]
+fn mark_len(number: u8) -> usize
+    requires number { number < 35 }
+    requires written { is_written (row_at number) ≡ true }
+    ensures { result ≡ length (mark_at (row_at number)) }
+{
+    let lens = MARK_LENS;
+    lens[number as usize] as usize
+}
+
+/// Puts the word of a row.
+#[inline(always)]
+fn put_word(room: &mut [u8], from: usize, number: u8) -> usize
+    requires number { number < 35 }
+    requires written { is_written (row_at number) ≡ true }
+    requires room { from + 8 ≤ length room.old }
+    ensures text { take result room.new ≡ take from room.old ++ word_at (row_at number) }
+    ensures same { length room.new ≡ length room.old }
+    ensures end { result ≤ from + 8 }
+{
+    let _all = put_eight_of(room, from, WORDS, 8 * number as usize);
+    from + word_len(number)
+}
+
+/// Puts what is after the place.
+#[inline(always)]
+fn put_width(room: &mut [u8], from: usize, number: u8) -> usize
+    requires number { number < 35 }
+    requires written { is_written (row_at number) ≡ true }
+    requires room { from + 8 ≤ length room.old }
+    ensures text { take result room.new ≡ take from room.old ++ width_at (row_at number) }
+    ensures same { length room.new ≡ length room.old }
+    ensures end { result ≤ from + 8 }
+{
+    let _all = put_eight_of(room, from, WIDTHS, 8 * number as usize);
+    from + width_len(number)
+}
+
+/// Puts the value, as hexadecimal digits. No branch depends on how many they are, also where there are none.
+#[inline(always)]
+fn put_value(room: &mut [u8], from: usize, number: u8, value: u64) -> usize
+    requires number { number < 35 }
+    requires written { is_written (row_at number) ≡ true }
+    requires fits { value < 16 ^ (line_of (row_at number)).payload }
+    requires room { from + 16 ≤ length room.old }
+    ensures text { take result room.new ≡
+        take from room.old ++ hex_digits (line_of (row_at number)).payload value }
+    ensures same { length room.new ≡ length room.old }
+    ensures end { result ≤ from + 16 }
+{
+    let count = digit_count(number);
+    let first = value << ((64 - 4 * count) % 64);
+    let _all = put_digits(room, from, &first.to_be_bytes());
+    from + usize::from(count)
+}
+
+/// Puts what is between the value and the timestamp.
+#[inline(always)]
+fn put_mark(room: &mut [u8], from: usize, number: u8) -> usize
+    requires number { number < 35 }
+    requires written { is_written (row_at number) ≡ true }
+    requires room { from + 4 ≤ length room.old }
+    ensures text { take result room.new ≡ take from room.old ++ mark_at (row_at number) }
+    ensures same { length room.new ≡ length room.old }
+    ensures end { result ≤ from + 4 }
+{
+    let _all = put_four_of(room, from, MARKS, 4 * number as usize);
+    from + mark_len(number)
+}
+
+/// Puts a datum, a flag, a trigger or a NULL_TS, whose place is kept.
+#[inline(always)]
+fn put_said(room: &mut [u8], from: usize, digits: &Digits, said: Said) -> usize
+    requires proper { IsProperSaid said }
+    requires written { is_written (row_at said.number) ≡ true }
+    requires kept { place_of digits.now.place ≡ said.place }
+    requires room { from + ITEM_ROOM ≤ length room.old }
+    ensures text { take result room.new ≡ take from room.old ++ said_text (said_item said) }
+    ensures same { length room.new ≡ length room.old }
+    ensures end { result ≤ from + ITEM_ROOM }
+{
+    let from = put_word(room, from, said.number);
+    let from = digits
+        .place
+        .put_times(room, from, said.place, place_count(said.number));
+    let from = put_width(room, from, said.number);
+    let from = put_value(room, from, said.number, said.payload);
+    let from = put_mark(room, from, said.number);
+    put_stamp(room, from, said.stamp)
+}
+
+/// The line of a datum, a flag, a trigger or a NULL_TS, at an offset whose digits but for the last two are kept, as is
+/// its place.
+#[derive(Drop)]
+pub(crate) struct SaidLine<'a> {
+    pub(crate) digits: &'a Digits,
+    pub(crate) at: u64,
+    pub(crate) half: u8,
+    pub(crate) id: SourceId,
+    pub(crate) said: Said,
+}
+
+impl Text for SaidLine<'_> {
+    ghost fits = { λ l. IsProperSaid l.said × (is_written (row_at l.said.number) ≡ true)
+        × (is_some (said_item l.said) ≡ true)
+        × (hundreds_of l.digits.now ≡ l.at / 100) × (place_of l.digits.now.place ≡ l.said.place) };
+
+    ghost text = { λ l. said_line l.at l.half l.id (said_item l.said) };
+
+    #[inline(always)]
+    fn put(&self, room: &mut [u8], from: usize) -> usize {
+        let from = self.digits.put(room, from, self.at);
+        let from = put_half(room, from, true, self.half);
+        let from = put_source(room, from, Some(self.id));
+        let from = put_said(room, from, self.digits, self.said);
+        put_byte(room, from, b'\n')
+    }
+}
+
+/// Puts the line of what a packet of another row says, which has an item.
+#[inline(never)]
+fn put_other_line(
+    outlet: &mut Outlet,
+    digits: &mut Digits,
+    at: u64,
+    half: u8,
+    id: SourceId,
+    said: Said,
+)
+    requires proper { IsProperSaid said }
+    requires some { is_some (said_item said) ≡ true }
+    requires room { length outlet.old + TEXT_ROOM ≤ OUTLET_ROOM }
+    ensures line { (item : StpItem) → said_item said ≡ Some item →
+        outlet.new ≡ outlet.old ++ event_line true (stp_event at half id item) NoRemark }
+    ensures bound { length outlet.new ≤ length outlet.old + EVENT_ROOM }
+{
+    if let Some(item) = said.item() {
+        put_stp_line(outlet, digits, at, half, id, item);
+    }
+}
+
+/// Puts the line of what a packet of this STP source says, which has an item, and ends in this half of the byte at
+/// this offset. It is the line that `put_stp_line` puts for the item, which is not made. The digits of the offset and
+/// the text of a place are kept for the next line.
+#[inline(always)]
+pub fn put_said_line(
+    outlet: &mut Outlet,
+    digits: &mut Digits,
+    at: u64,
+    half: u8,
+    id: SourceId,
+    said: Said,
+)
+    requires proper { IsProperSaid said }
+    requires some { is_some (said_item said) ≡ true }
+    requires room { length outlet.old + TEXT_ROOM ≤ OUTLET_ROOM }
+    ensures line { (item : StpItem) → said_item said ≡ Some item →
+        outlet.new ≡ outlet.old ++ event_line true (stp_event at half id item) NoRemark }
+    ensures bound { length outlet.new ≤ length outlet.old + EVENT_ROOM }
+{
+    if !is_written(said.number) {
+        put_other_line(outlet, digits, at, half, id, said);
+        return;
+    }
+    few_digits(at);
+    few_half_digits(half);
+    few_id_digits(id);
+    digits.keep(at);
+    digits.place.keep(said.place);
+    let line = SaidLine {
+        digits,
+        at,
+        half,
+        id,
+        said,
+    };
+    outlet.put(&line);
+}
