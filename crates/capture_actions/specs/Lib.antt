@@ -1,8 +1,13 @@
+pub mod BufferAction
+pub mod BufferLaws
+pub mod CapturePort
+pub mod Flows
 pub mod Port
 pub mod PortGrowth
-pub mod Flows
-pub mod CapturePort
 pub mod PortLaws
+pub mod RealignLaws
+pub mod Realigned
+pub mod Realigner
 pub mod Split
 pub mod SplitLaws
 pub mod Splitter

@@ -1,5 +1,5 @@
 -- What `split` writes: the bytes of one ID in the cells of a port.
-use Rattle.std.specs.Prelude.{ℕ, List, [], map}
+use Rattle.std.specs.Prelude.{ℕ, List, [], map, false}
 use Rattle.trace_values.specs.declared.cell.Cell.{Cell}
 use Rattle.frame_grammar.specs.Reading.{source_list}
 use Rattle.port_reader.specs.Reading.{cells_of}
@@ -25,4 +25,9 @@ split_ending plan bytes = []
 
 -- all that `split` makes of the bytes of a capture
 abbrev pub split_meaning : SplitPlan → Meaning
-split_meaning plan = record { faulty = split_faulty plan; text = split_text plan; ending = split_ending plan }
+split_meaning plan = record {
+  faulty = split_faulty plan;
+  text = split_text plan;
+  ending = split_ending plan;
+  due = false;
+}

@@ -134,6 +134,7 @@ impl Split {
 }
 
 impl Action for Split {
+    ghost use Rattle.std.specs.Prelude.{false};
     ghost use Rattle.capture_actions.specs.Split.{split_faulty, split_text, split_ending};
     ghost use Rattle.capture_actions.specs.Splitter.{Stands, plan_of, taken_by, IsLive};
     ghost use Rattle.capture_actions.specs.SplitLaws.{none_at_first, nothing_at_first, faulty_stays, text_stays};
@@ -154,6 +155,8 @@ impl Action for Split {
     ghost text = { split_text };
 
     ghost ending = { split_ending };
+
+    ghost due = { λ _. false };
 
     ghost never_at_first = { none_at_first };
 
@@ -182,4 +185,8 @@ impl Action for Split {
     }
 
     fn finish(&self, _outlet: &mut Outlet) {}
+
+    fn is_due(&self) -> bool {
+        false
+    }
 }

@@ -3,7 +3,7 @@
 //! tries itself on a capture of its own.
 #![tactic(auto)]
 
-use capture_run::start;
+use capture_run::run;
 use std::env;
 use std::process::ExitCode;
 use trace_io::{ReadAdapter, WriteAdapter};
@@ -18,6 +18,6 @@ fn main(rt: HostRuntime) -> ExitCode {
     let mut input = ReadAdapter::new(rt.stdin());
     let mut output = WriteAdapter::new(rt.stdout());
     let mut notes = WriteAdapter::new(rt.stderr());
-    let status = start(rt.alloc(), &words, &mut input, &mut output, &mut notes);
-    ExitCode::from(status)
+    let status = run(rt.alloc(), &words, &mut input, &mut output, &mut notes);
+    ExitCode::from(status.number())
 }

@@ -6,7 +6,7 @@ use Rattle.trace_values.specs.Placed.{placed}
 use Rattle.source_merge.specs.Answering.{report_of}
 use Rattle.capture_report.specs.declared.list_plan.ListPlan.{ListPlan}
 use Rattle.capture_report.specs.Filtered.{unfiltered, marked_lines, marked, all_lines, listed_lines}
-use Rattle.capture_report.specs.Listing.{is_listed, line_after, lines_after, ending, listing}
+use Rattle.capture_report.specs.Listing.{is_listed, line_after, lines_after, listed}
 
 all_so : (p : ListPlan) (before es : List (Event Packet)) →
     lines_after (unfiltered p) before es ≡ all_lines (marked_lines p before es)
@@ -26,8 +26,8 @@ some_so p before (e ∷ es) =
     ∙ one_so (is_listed p.only p.window before e) (line_after (unfiltered p) before e) (marked_lines p (before ++ e ∷ []) es)
 
 pub all_listed : (p : ListPlan) (bytes : List ℕ) →
-    listing (unfiltered p) bytes ≡ all_lines (marked p bytes) ++ ending p bytes
-all_listed p bytes = ap (λ (l : List ℕ). l ++ ending p bytes) (all_so p [] (report_of p.plan (placed bytes)))
+    listed (unfiltered p) bytes ≡ all_lines (marked p bytes)
+all_listed p bytes = all_so p [] (report_of p.plan (placed bytes))
 
-pub some_listed : (p : ListPlan) (bytes : List ℕ) → listing p bytes ≡ listed_lines (marked p bytes) ++ ending p bytes
-some_listed p bytes = ap (λ (l : List ℕ). l ++ ending p bytes) (some_so p [] (report_of p.plan (placed bytes)))
+pub some_listed : (p : ListPlan) (bytes : List ℕ) → listed p bytes ≡ listed_lines (marked p bytes)
+some_listed p bytes = some_so p [] (report_of p.plan (placed bytes))

@@ -7,3 +7,4 @@ pub mod Counting
 pub mod Shown
 pub mod Filtering
 pub mod Choosing
+pub mod Few

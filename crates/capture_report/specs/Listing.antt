@@ -1,6 +1,6 @@
 -- What `show` writes: the lines of the events of a capture's report, and the end lines or the line of its fault.
 use Rattle.std.specs.Prelude.{ℕ, List, [], ◌∷◌, ◌++◌, flat_map, filter, Option, Some, None, Bool, true, not, ◌&&◌, ◌||◌}
-use Rattle.std.specs.Prelude.{if◌then◌else◌}
+use Rattle.std.specs.Prelude.{if◌then◌else◌, false}
 use Rattle.trace_values.specs.declared.fault.Reason.{Reason}
 use Rattle.trace_values.specs.Placed.{Place, Placed, placed}
 use Rattle.trace_stream.specs.Served.{Meaning}
@@ -90,4 +90,4 @@ listing p bytes = listed p bytes ++ ending p bytes
 
 -- all that `show` makes of the bytes of a capture
 abbrev pub show_meaning : ListPlan → Meaning
-show_meaning p = record { faulty = IsFaulty p.plan; text = listed p; ending = ending p }
+show_meaning p = record { faulty = IsFaulty p.plan; text = listed p; ending = ending p; due = false }

@@ -1,5 +1,5 @@
 -- What `check` writes: how many synchronisations and frames a port has, how much each source sent, and the end lines.
-use Rattle.std.specs.Prelude.{ℕ, List, [], ◌++◌, flat_map, Option, Some, None, ◌==◌, if◌then◌else◌}
+use Rattle.std.specs.Prelude.{ℕ, List, [], ◌++◌, flat_map, Option, Some, None, ◌==◌, if◌then◌else◌, false}
 use Rattle.std.specs.List.{range_with_len}
 use Rattle.trace_values.specs.declared.fault.Reason.{Reason}
 use Rattle.trace_values.specs.declared.limits.TheConstants.{ID_COUNT}
@@ -43,4 +43,4 @@ summary plan bytes = summary_by plan (placed bytes) (fault_of plan (placed bytes
 
 -- all that `check` makes of the bytes of a capture
 abbrev pub check_meaning : Plan → Meaning
-check_meaning plan = record { faulty = IsFaulty plan; text = check_text plan; ending = summary plan }
+check_meaning plan = record { faulty = IsFaulty plan; text = check_text plan; ending = summary plan; due = false }

@@ -214,6 +214,7 @@ impl Check {
 }
 
 impl Action for Check {
+    ghost use Rattle.std.specs.Prelude.{false};
     ghost use Rattle.source_events.specs.declared.plan.Plan.{Plan};
     ghost use Rattle.capture_report.specs.Faulty.{IsFaulty};
     ghost use Rattle.capture_report.specs.Summary.{check_text, summary};
@@ -236,6 +237,8 @@ impl Action for Check {
     ghost text = { check_text };
 
     ghost ending = { summary };
+
+    ghost due = { λ _. false };
 
     ghost never_at_first = { none_at_first };
 
@@ -288,5 +291,9 @@ impl Action for Check {
 
     fn finish(&self, outlet: &mut Outlet) {
         self.put_summary(outlet);
+    }
+
+    fn is_due(&self) -> bool {
+        false
     }
 }

@@ -404,6 +404,7 @@ impl Show {
 }
 
 impl Action for Show {
+    ghost use Rattle.std.specs.Prelude.{false};
     ghost use Rattle.capture_report.specs.Listing.{listed, ending};
     ghost use Rattle.capture_report.specs.ListingLaws.{Faulty, none_at_first, nothing_at_first, faulty_stays};
     ghost use Rattle.capture_report.specs.ListingLaws.{listed_stays, ending_stays, listed_grows};
@@ -424,6 +425,8 @@ impl Action for Show {
     ghost text = { listed };
 
     ghost ending = { ending };
+
+    ghost due = { λ _. false };
 
     ghost never_at_first = { none_at_first };
 
@@ -464,5 +467,9 @@ impl Action for Show {
             None => print_tails(outlet, &self.engine.finish()),
             Some(stop) => print_fault(outlet, stop, sends_stp(self.engine.plan(), stop.source)),
         }
+    }
+
+    fn is_due(&self) -> bool {
+        false
     }
 }

@@ -1,5 +1,5 @@
 -- How an exercise ends, by the outcome of the serving of its rest.
-use Rattle.std.proofs.Common.{◌≡◌, ℕ, ◌≤◌, ◌-◌, List, [], ◌∷◌, ◌++◌, ◌⊎◌, Some, None, refl, sym, ap, ◌∙◌, subst, length, take, drop, arith, append-nil, append_assoc, length-append, inl, inr}
+use Rattle.std.proofs.Common.{◌≡◌, true, false, ℕ, ◌≤◌, ◌-◌, List, [], ◌∷◌, ◌++◌, ◌⊎◌, Some, None, refl, sym, ap, ◌∙◌, subst, length, take, drop, arith, append-nil, append_assoc, length-append, inl, inr}
 use Rattle.std.proofs.lemmas.List.{take-append-drop, take_all}
 use Rattle.std.proofs.KnownBytes.{Appends-nil}
 use Rattle.std.proofs.lemmas.List.{length-drop}
@@ -132,10 +132,14 @@ module _ (items lose limit : ℕ) (left : Option (List ℕ)) (old new : Streams)
       Notes old.noted new.noted old.note_faults new.note_faults (codes "write fault\n") → HasMade (exercise_summary items lose) started over WriteFault
   made_failed s n = record { out = s.out; note = codes "write fault\n"; lost = keeps left; gained = s.gained; noted = n; makes = (by s.outcome, refl) }
     where
-      by : GrowsOnly s.out [] ⊎ (IsAllRead (IsFaulty (plan_for items)) limit rest_left s.bytes × GrowsOnly s.out (exercise_ending (plan_for items) (take limit s.bytes))) →
+      all_read : {A : Type 0} → A ⊎ (false ≡ true) → A
+      all_read (inl all) = all
+      all_read (inr due) = absurd (let no = due in cc)
+
+      by : GrowsOnly s.out [] ⊎ ((IsAllRead (IsFaulty (plan_for items)) limit rest_left s.bytes ⊎ (false ≡ true)) × GrowsOnly s.out (exercise_ending (plan_for items) (take limit s.bytes))) →
           GrowsOnly s.out (exercise_summary items lose)
       by (inl front) = nothing s.out front
-      by (inr both) = a_front s.out s.bytes s.lost both.0 both.1
+      by (inr both) = a_front s.out s.bytes s.lost (all_read both.0) both.1
 
 -- where nothing was noted
 pub same_notes : (noted : Option (List ℕ)) (faults : ℕ) → Notes noted noted faults faults []

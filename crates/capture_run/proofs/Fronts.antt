@@ -10,6 +10,7 @@ use Rattle.capture_words.specs.declared.job.Task.TheVariants.{Show}
 use Rattle.capture_words.specs.declared.usage.UsageFault.{UsageFault}
 use Rattle.resync_laws.specs.Report.{rest_plan}
 use Rattle.resync_laws.proofs.ReportRest.{report_follows}
+use Rattle.resync_laws.proofs.Skipping.{tail_skips}
 use Rattle.source_events.specs.declared.plan.Plan.{Plan}
 use Rattle.std.specs.Io.KnownBytes.{Appends}
 use Rattle.trace_values.specs.Placed.{placed}
@@ -41,6 +42,8 @@ show_follows limit old new whole lost left run loses sound =
       written = subst (Appends old.held new.held) (run.writes.0.2 ∙ ap (listing rest) same ∙ ends) run.gained;
       offsets = law.report_is;
       follows = law;
+      skipped = λ x kind mapped.
+          tail_skips whole lost left law.reading x kind (law.sources x kind mapped).early (law.sources x kind mapped).rest_reads;
     }
 
 pub follows_whole : (task : Task) (limit : ℕ) (old new : Streams) (status : Status) (whole : Plan) (lost left : List ℕ)

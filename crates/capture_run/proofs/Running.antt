@@ -30,10 +30,11 @@ ends s = record { left = s.left; held = s.held }
 -- at the end of the input, where it has no fault
 pub run_done : (m : TaskMeaning) (limit : ℕ) (old new : Streams) (recent : List ℕ) (there : List ℕ → Type 0)
     → (k : HasEnded there m.action limit (ends old) (ends new) recent) → m.late k.served.bytes ≡ false
-    → Notes old.noted new.noted old.note_faults new.note_faults [] → HasRun m limit old new Done
-run_done m limit old new recent there k late n =
+    → (note : List ℕ) → note ≡ m.done_note k.served.bytes
+    → Notes old.noted new.noted old.note_faults new.note_faults note → HasRun m limit old new Done
+run_done m limit old new recent there k late note noted n =
     let s = k.served in
-    record { bytes = s.bytes; out = s.out; note = []; lost = s.lost; gained = s.gained; noted = n; at_most = s.at_most; writes = (s.outcome, s.ended refl, late, refl) }
+    record { bytes = s.bytes; out = s.out; note = note; lost = s.lost; gained = s.gained; noted = n; at_most = s.at_most; writes = (s.outcome, s.ended refl, late, noted) }
 
 -- a fault by its note
 writes_fault : (fault : FaultNote) (m : TaskMeaning) (limit : ℕ) (left : Option (List ℕ)) (bytes out note : List ℕ) → status_of fault ≡ m.fault_status
@@ -89,11 +90,11 @@ pub run_write_failed : (m : TaskMeaning) (limit : ℕ) (old new : Streams) (rece
 run_write_failed m limit old new recent s n =
     record { bytes = s.bytes; out = s.out; note = codes "write fault\n"; lost = s.lost; gained = s.gained; noted = n; at_most = s.at_most; writes = (s.outcome, refl) }
 
-pub run_over_limit : (m : TaskMeaning) (limit : ℕ) (old new : Streams) (recent : List ℕ)
+pub run_over_limit : (m : TaskMeaning) (limit : ℕ) (old new : Streams) (recent : List ℕ) → m.exact ≡ false
     → HasServed m.action limit (ends old) (ends new) recent OverLimit
     → Notes old.noted new.noted old.note_faults new.note_faults (limit_line limit) → HasRun m limit old new Limit
-run_over_limit m limit old new recent s n =
-    record { bytes = s.bytes; out = s.out; note = limit_line limit; lost = s.lost; gained = s.gained; noted = n; at_most = s.at_most; writes = (s.outcome, refl) }
+run_over_limit m limit old new recent exact s n =
+    record { bytes = s.bytes; out = s.out; note = limit_line limit; lost = s.lost; gained = s.gained; noted = n; at_most = s.at_most; writes = (exact, s.outcome, refl) }
 
 -- no fault became certain, since all bytes that were read have none
 pub never_stopped : (m : Meaning) (limit : ℕ) (old new : Ends) (recent bytes : List ℕ)
@@ -147,5 +148,8 @@ done_unopened (tasks.Show plan only window) limit left held noted noted' faults 
 done_unopened (tasks.Split frames id) limit left held noted noted' faults faults' n = run_unopened (meaning_of (tasks.Split frames id)) limit left held noted noted' faults faults' n
 done_unopened (tasks.Check plan) limit left held noted noted' faults faults' n = run_unopened (meaning_of (tasks.Check plan)) limit left held noted noted' faults faults' n
 done_unopened (tasks.Rebuild plan sync half) limit left held noted noted' faults faults' n = run_unopened (meaning_of (tasks.Rebuild plan sync half)) limit left held noted noted' faults faults' n
+done_unopened tasks.Realign limit left held noted noted' faults faults' n = run_unopened (meaning_of tasks.Realign) limit left held noted noted' faults faults' n
+done_unopened (tasks.Ring size) limit left held noted noted' faults faults' n = run_unopened (meaning_of (tasks.Ring size)) limit left held noted noted' faults faults' n
+done_unopened (tasks.Unring size at full) limit left held noted noted' faults faults' n = run_unopened (meaning_of (tasks.Unring size at full)) size left held noted noted' faults faults' n
 done_unopened (tasks.Exercise items lose) limit left held noted noted' faults faults' n =
     record { out = []; note = codes "no memory\n"; lost = keeps left; gained = Appends-nil held; noted = n; makes = refl }

@@ -1,10 +1,12 @@
 -- What each action that reads the input does: which bytes have a fault, what is written for them, what comes after it
--- at the end or at a fault, what is noted at a fault, and how the run ends then.
-use Rattle.std.specs.Prelude.{◌≡◌, ℕ, List, [], ◌++◌, Bool, false, is_some}
-use Rattle.circular_buffer.specs.Buffer.{keep_last}
+-- at the end or at a fault, what is noted at the end and at a fault, and how the run ends then.
+use Rattle.std.specs.Prelude.{◌≡◌, ℕ, List, [], ◌++◌, Bool, true, false, is_some, length, not, ◌==◌, if◌then◌else◌}
 use Rattle.capture_words.specs.declared.job.Task.{Task}
-use Rattle.capture_words.specs.declared.job.Task.TheVariants.{Show, Split, Check, Rebuild, Exercise}
+use Rattle.capture_words.specs.declared.job.Task.TheVariants.{Show, Split, Check, Rebuild, Exercise, Realign, Ring}
+use Rattle.capture_words.specs.declared.job.Task.TheVariants.{Unring}
+use Rattle.buffer_ring.specs.Image.{image, pointer, is_full, dropped, ordered}
 use Rattle.capture_actions.specs.Port.{port_of}
+use Rattle.capture_actions.specs.Realigned.{realign_meaning}
 use Rattle.capture_actions.specs.Split.{split_meaning}
 use Rattle.capture_actions.specs.declared.split_plan.SplitPlan.{SplitPlan}
 use Rattle.capture_report.specs.Listing.{show_meaning}
@@ -12,19 +14,20 @@ use Rattle.capture_report.specs.Summary.{check_meaning}
 use Rattle.capture_report.specs.declared.list_plan.ListPlan.{ListPlan}
 use Rattle.exercise_report.specs.Summary.{exercise_summary}
 use Rattle.line_writer.specs.Script.{script_of}
+use Rattle.port_slip.specs.Segments.{realigned}
 use Rattle.script_rebuild.specs.Rebuilt.{rebuild_meaning}
 use Rattle.script_rebuild.specs.declared.plan.RebuildPlan.{RebuildPlan}
 use Rattle.trace_stream.specs.Served.{Meaning}
-use Rattle.trace_stream.specs.declared.recent.TheConstants.{RECENT_ROOM}
-use Rattle.trace_text.specs.NoteText.{last_line}
+use Rattle.trace_stream.specs.Recent.{last_sixteen}
+use Rattle.trace_text.specs.NoteText.{last_line, slipped_line, buffer_line, image_line}
 use Rattle.capture_run.specs.Notes.{fault_text, script_note}
 use Rattle.capture_run.specs.Run.{TaskMeaning, Streams, HasRun, HasMade}
 use Rattle.capture_run.specs.declared.status.Status.{Status}
-use Rattle.capture_run.specs.declared.status.Status.TheVariants.{CaptureFault, ScriptFault}
+use Rattle.capture_run.specs.declared.status.Status.TheVariants.{CaptureFault, ScriptFault, BadImage}
 
 -- the note at a fault that is certain with the last of these bytes: the last sixteen of them
 abbrev pub last_note : List ℕ → List ℕ
-last_note seen = last_line (keep_last RECENT_ROOM seen)
+last_note seen = last_line (last_sixteen seen)
 
 -- with `split` the line of the port's fault comes before it, since the output has none
 abbrev pub split_note : SplitPlan → List ℕ → List ℕ
@@ -33,7 +36,14 @@ split_note plan seen = fault_text (port_of plan.frames seen).fault ++ last_note 
 -- a fault of a capture is certain at some byte, and none is mended by what comes after it
 abbrev pub of_capture : Meaning → (List ℕ → List ℕ) → TaskMeaning
 of_capture action note =
-    record { action = action; late = λ bytes. false; fault_note = note; fault_status = CaptureFault }
+    record {
+      action = action;
+      late = λ bytes. false;
+      done_note = λ bytes. [];
+      fault_note = note;
+      fault_status = CaptureFault;
+      exact = false;
+    }
 
 -- where a script ends, its last line needs no line feed, and may have a fault that it would not have if it went on
 abbrev pub rebuild_late : RebuildPlan → List ℕ → Bool
@@ -46,8 +56,51 @@ rebuild_note plan bytes = script_note (script_of plan.plan bytes).fault
 -- `exercise` reads nothing
 abbrev pub reads_nothing : List ℕ → TaskMeaning
 reads_nothing text =
-    let action : Meaning = record { faulty = λ bytes. ⊥; text = λ bytes. []; ending = λ bytes. text } in
+    let action : Meaning = record { faulty = λ bytes. ⊥; text = λ bytes. []; ending = λ bytes. text; due = false } in
     of_capture action (λ bytes. [])
+
+-- what realigning does not write is noted where it is done
+abbrev pub realign_note : List ℕ → List ℕ
+realign_note bytes = let r = realigned bytes in slipped_line r.skipped r.dropped r.patterns
+
+abbrev pub realigning : TaskMeaning
+realigning =
+    record {
+      action = realign_meaning;
+      late = λ bytes. false;
+      done_note = realign_note;
+      fault_note = last_note;
+      fault_status = CaptureFault;
+      exact = false;
+    }
+
+-- the image of a trace buffer of this size is written at the input's end, and what tells its bytes' order is noted
+abbrev pub buffering : ℕ → TaskMeaning
+buffering size =
+    let action : Meaning =
+    record { faulty = λ bytes. ⊥; text = λ bytes. []; ending = image size; due = false } in
+    record {
+      action = action;
+      late = λ bytes. false;
+      done_note = λ bytes. buffer_line (pointer size bytes) (is_full size bytes) (dropped size bytes);
+      fault_note = λ bytes. [];
+      fault_status = CaptureFault;
+      exact = false;
+    }
+
+-- the bytes of an image of this size are written in order; an input of another size is no image, and nothing is written
+abbrev pub ordering : ℕ → ℕ → Bool → TaskMeaning
+ordering size at full =
+    let in_order : List ℕ → List ℕ = λ bytes. if length bytes == size then ordered bytes at full else [] in
+    let action : Meaning = record { faulty = λ bytes. ⊥; text = λ bytes. []; ending = in_order; due = false } in
+    record {
+      action = action;
+      late = λ bytes. not (length bytes == size);
+      done_note = λ bytes. [];
+      fault_note = λ bytes. image_line size;
+      fault_status = BadImage;
+      exact = true;
+    }
 
 -- what the task makes of the bytes of its input
 abbrev pub meaning_of : Task → TaskMeaning
@@ -63,10 +116,20 @@ meaning_of (Rebuild plan sync half) =
     record {
       action = rebuild_meaning script;
       late = rebuild_late script;
+      done_note = λ bytes. [];
       fault_note = rebuild_note script;
       fault_status = ScriptFault;
+      exact = false;
     }
 meaning_of (Exercise items lose) = reads_nothing (exercise_summary items lose)
+meaning_of Realign = realigning
+meaning_of (Ring size) = buffering size
+meaning_of (Unring size at full) = ordering size at full
+
+-- how many bytes of its input a task reads at most: as many as the words allow, or as an image is to have
+abbrev pub limit_of : Task → ℕ → ℕ
+limit_of (Unring size at full) limit = size
+limit_of task limit = limit
 
 -- What was read, written and noted, by the status. `exercise` reads nothing.
 abbrev pub HasDone : Task → ℕ → Streams → Streams → Status → Type 0
@@ -77,6 +140,9 @@ HasDone (Split frames id) limit old new status = HasRun (meaning_of (Split frame
 HasDone (Check plan) limit old new status = HasRun (meaning_of (Check plan)) limit old new status
 HasDone (Rebuild plan sync half) limit old new status =
     HasRun (meaning_of (Rebuild plan sync half)) limit old new status
+HasDone Realign limit old new status = HasRun (meaning_of Realign) limit old new status
+HasDone (Ring size) limit old new status = HasRun (meaning_of (Ring size)) limit old new status
+HasDone (Unring size at full) limit old new status = HasRun (meaning_of (Unring size at full)) size old new status
 
 -- these bytes, as all of the input, have no fault
 pub record IsSoundInput (task : Task) (bytes : List ℕ) : Type 0 where

@@ -1,14 +1,19 @@
 -- What `show` wrote of a capture whose front may be lost, against the whole capture.
-use Rattle.std.specs.Prelude.{◌≡◌, ℕ, List, ◌++◌, length, map, Option, None}
+use Rattle.std.specs.Prelude.{◌≡◌, ℕ, List, ◌++◌, length, map, Option, Some, None}
 use Rattle.std.specs.Io.KnownBytes.{Appends}
 use Rattle.capture_report.specs.Listing.{listed}
 use Rattle.capture_report.specs.declared.list_plan.ListPlan.{ListPlan}
 use Rattle.capture_words.specs.declared.job.Task.{Task}
 use Rattle.capture_words.specs.declared.job.Task.TheVariants.{Show}
-use Rattle.resync_laws.specs.Report.{rest_plan, left_report, ReportFollows}
+use Rattle.port_reader.specs.Reading.{port_reading}
+use Rattle.resync_laws.specs.Report.{rest_plan, left_bytes, left_report, ReportFollows, skips}
+use Rattle.resync_ports.specs.Port.{rest_mode}
+use Rattle.resync_sources.specs.Capture.{source_bytes}
 use Rattle.resync_reports.specs.Moved.{later_event}
-use Rattle.source_events.specs.Tails.{tails_of}
+use Rattle.source_events.specs.Plan.{kind_of}
+use Rattle.source_events.specs.Tails.{tail_of, tails_of}
 use Rattle.source_events.specs.declared.plan.Plan.{Plan}
+use Rattle.source_events.specs.declared.plan.SourceKind.{SourceKind}
 use Rattle.source_merge.specs.Answering.{report_of, fault_of}
 use Rattle.trace_text.specs.EndText.{tails_text}
 use Rattle.trace_values.specs.Placed.{placed}
@@ -38,3 +43,9 @@ pub record FollowsWhole (whole : Plan) (lost left : List ℕ) (held_old held_new
   -- This report has no fault, and follows that of the whole: notices aside, from each source's point on it has the
   -- whole's events, in the same order.
   pub follows : ReportFollows whole lost left
+  -- The end line of each mapped source has the exact number of units that its hunt skips, bytes or nibbles: all that
+  -- are left of the source, or those before the last units of the first sync that has all these left.
+  pub skipped : (x : ℕ) (kind : SourceKind) (mapped : kind_of whole x ≡ Some kind) →
+      skips whole kind (follows.sources x kind mapped).early
+      (source_bytes (rest_mode whole.frames) x (left_bytes lost left))
+      (tail_of (rest_plan whole) (port_reading (rest_mode whole.frames) (placed left)) x kind).skipped

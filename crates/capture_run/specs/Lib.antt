@@ -4,3 +4,4 @@ pub mod Actions
 pub mod Run
 pub mod Fronts
 pub mod Rebuilds
+pub mod Rings

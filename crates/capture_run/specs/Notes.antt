@@ -9,7 +9,9 @@ use Rattle.trace_io.specs.Causes.{Rose}
 use Rattle.trace_values.specs.declared.fault.Reason.{Reason}
 use Rattle.trace_values.specs.Placed.{Place}
 use Rattle.trace_text.specs.FaultText.{told, port_fault_line}
-use Rattle.trace_text.specs.NoteText.{last_line, script_fault_line}
+use Rattle.trace_text.specs.NoteText.{last_line, script_fault_line, slipped_line}
+use Rattle.capture_run.specs.declared.actions.DoneNote.{DoneNote}
+use Rattle.capture_run.specs.declared.actions.DoneNote.TheVariants.{Nothing, Realigned}
 use Rattle.capture_run.specs.declared.actions.FaultNote.{FaultNote}
 use Rattle.capture_run.specs.declared.actions.FaultNote.TheVariants.{Capture, Script}
 use Rattle.capture_run.specs.declared.status.Status.{Status}
@@ -30,7 +32,12 @@ abbrev pub text_of : FaultNote → List ℕ → List ℕ
 text_of (Capture fault) recent = fault_text (option_map told fault) ++ last_line recent
 text_of (Script fault) recent = script_note (option_map told_of_script fault)
 
--- how a run ends then
+-- what is noted where a run is done
+abbrev pub done_text : DoneNote → List ℕ
+done_text Nothing = []
+done_text (Realigned slipped) = slipped_line slipped.skipped slipped.dropped slipped.patterns
+
+-- how a run ends at such a fault
 abbrev pub status_of : FaultNote → Status
 status_of (Capture fault) = CaptureFault
 status_of (Script fault) = ScriptFault

@@ -10,16 +10,20 @@ use Rattle.trace_text.specs.NoteText.{limit_line}
 use Rattle.capture_run.specs.Notes.{Notes}
 use Rattle.capture_run.specs.declared.status.Status.{Status}
 use Rattle.capture_run.specs.declared.status.Status.TheVariants.{Done, Usage, CaptureFault, ReadFault, WriteFault}
-use Rattle.capture_run.specs.declared.status.Status.TheVariants.{NoMemory, ScriptFault, Limit}
+use Rattle.capture_run.specs.declared.status.Status.TheVariants.{NoMemory, ScriptFault, Limit, BadImage}
 
 -- What a task makes of the bytes that it reads: what its action does; which bytes have a fault where they are all of
--- the input, one that further bytes might have mended; what is noted where a fault is certain with the last of these
--- bytes, or where they are all of the input and have one; and how the run ends then.
+-- the input, one that further bytes might have mended; what is noted where they are all and have none; what is noted
+-- where a fault is certain with the last of these bytes, or where they are all of the input and have one; how the
+-- run ends then; and whether the input is to have exactly as many bytes as the limit, so that it ends so where it has
+-- more, too.
 pub record TaskMeaning : Type 1 where
   pub action : Meaning
   pub late : List ℕ → Bool
+  pub done_note : List ℕ → List ℕ
   pub fault_note : List ℕ → List ℕ
   pub fault_status : Status
+  pub exact : Bool
 
 -- what the streams of a run show at a moment: the bytes that are left in the input, those that the output and the
 -- notes took, and how often the notes failed
@@ -46,19 +50,27 @@ EndsLate m limit left bytes out note =
     ServedBy m.action limit left AtEnd bytes out [] × IsAtEnd left × (m.late bytes ≡ true)
     × (note ≡ m.fault_note bytes)
 
+-- the input has more bytes than it is to have, and that is noted
+abbrev pub EndsOver : TaskMeaning → ℕ → Option (List ℕ) → List ℕ → List ℕ → List ℕ → Type 0
+EndsOver m limit left bytes out note =
+    ServedBy m.action limit left OverLimit bytes out [] × (note ≡ m.fault_note bytes)
+
 -- The table of statuses: that of outcomes, and the note. The cases exclude each other. The note at want of memory
--- hangs on no job: `run` tells it for all words.
+-- does not depend on the job: `run` tells it for all words.
 abbrev pub WritesBy : TaskMeaning → ℕ → Option (List ℕ) → Status → List ℕ → List ℕ → List ℕ → Type 0
 WritesBy m limit left Done bytes out note =
-    ServedBy m.action limit left AtEnd bytes out [] × IsAtEnd left × (m.late bytes ≡ false) × (note ≡ [])
+    ServedBy m.action limit left AtEnd bytes out [] × IsAtEnd left × (m.late bytes ≡ false)
+    × (note ≡ m.done_note bytes)
 WritesBy m limit left CaptureFault bytes out note =
     (m.fault_status ≡ CaptureFault) × (Stops m limit left bytes out note ⊎ EndsLate m limit left bytes out note)
 WritesBy m limit left ScriptFault bytes out note =
     (m.fault_status ≡ ScriptFault) × (Stops m limit left bytes out note ⊎ EndsLate m limit left bytes out note)
+WritesBy m limit left BadImage bytes out note =
+    (m.exact ≡ true) × (EndsLate m limit left bytes out note ⊎ EndsOver m limit left bytes out note)
 WritesBy m limit left ReadFault bytes out note =
     ServedBy m.action limit left ReadFailed bytes out [] × (note ≡ codes "read fault\n")
 WritesBy m limit left Limit bytes out note =
-    ServedBy m.action limit left OverLimit bytes out [] × (note ≡ limit_line limit)
+    (m.exact ≡ false) × ServedBy m.action limit left OverLimit bytes out [] × (note ≡ limit_line limit)
 WritesBy m limit left WriteFault bytes out note =
     ServedBy m.action limit left WriteFailed bytes out [] × (note ≡ codes "write fault\n")
 WritesBy m limit left NoMemory bytes out note = (bytes ≡ []) × (out ≡ [])
@@ -86,6 +98,7 @@ MakesBy text CaptureFault out note = ⊥
 MakesBy text ScriptFault out note = ⊥
 MakesBy text ReadFault out note = ⊥
 MakesBy text Limit out note = ⊥
+MakesBy text BadImage out note = ⊥
 
 pub record HasMade (text : List ℕ) (old new : Streams) (status : Status) : Type 0 where
   pub out : List ℕ

@@ -5,15 +5,17 @@ ghost use Rattle.trace_io.specs.Causes.{Rose};
 ghost use Rattle.trace_stream.specs.Fresh.{IsFresh};
 ghost use Rattle.trace_stream.specs.declared.limits.TheConstants.{GREATEST_CAPTURE};
 ghost use Rattle.capture_words.specs.Jobs.{IsSoundTask};
-ghost use Rattle.capture_run.specs.Actions.{HasDone, IsSoundInput};
+ghost use Rattle.capture_run.specs.Actions.{HasDone, IsSoundInput, limit_of};
 ghost use Rattle.capture_run.specs.Notes.{Notes};
 ghost use Rattle.capture_run.specs.Run.{HasRun, TaskMeaning, streams, Loses, IsDoneOrNoMemory};
 
 use crate::actions::CommandAction;
 use crate::exercise::run_exercise;
-use crate::notes::{note, note_fault, note_text};
+use crate::images::{run_ring, run_unring};
+use crate::notes::{note, note_done, note_fault, note_text};
 use crate::status::Status;
-use capture_actions::{Split, SplitPlan};
+use buffer_ring::TraceBuffer;
+use capture_actions::{Realign, Split, SplitPlan};
 use capture_report::{Check, ListPlan, Show};
 use capture_words::{Job, Task};
 use script_rebuild::{Rebuild, RebuildPlan};
@@ -35,10 +37,12 @@ fn run_action<A: CommandAction, I: Source, O: Sink, N: Sink>(
     requires small { limit ≤ GREATEST_CAPTURE }
     ensures ran { let p = A.plan action.old in
         let meaning : TaskMeaning = record {
-          action = record { faulty = A.faulty p; text = A.text p; ending = A.ending p };
+          action = record { faulty = A.faulty p; text = A.text p; ending = A.ending p; due = A.due p };
           late = A.late p;
+          done_note = A.done p;
           fault_note = A.noted p;
           fault_status = A.faulted p;
+          exact = false;
         } in
         let before = streams (I.left input.old) (O.held output.old) (N.held notes.old) (N.faults notes.old) in
         let after = streams (I.left input.new) (O.held output.new) (N.held notes.new) (N.faults notes.new) in
@@ -59,6 +63,7 @@ fn run_action<A: CommandAction, I: Source, O: Sink, N: Sink>(
             if action.is_late() {
                 note_fault(notes, action.fault_note(), buffers)
             } else {
+                note_done(notes, action.done_note());
                 Status::Done
             }
         }
@@ -99,7 +104,7 @@ pub fn run_job<I: Source, O: Sink, N: Sink>(
     ensures complete { (bytes : List ℕ) → Loses (I.left input.old) (I.left input.new) bytes →
         (Rose (I.faults input.old) (I.faults input.new) → ⊥) →
         (Rose (O.faults output.old) (O.faults output.new) → ⊥) →
-        length bytes ≤ job.limit → IsSoundInput job.task bytes → IsDoneOrNoMemory result }
+        length bytes ≤ limit_of job.task job.limit → IsSoundInput job.task bytes → IsDoneOrNoMemory result }
 {
     let Ok(mut buffers) = Buffers::open(alloc) else {
         note(notes, b"no memory\n");
@@ -126,6 +131,28 @@ pub fn run_job<I: Source, O: Sink, N: Sink>(
                 halves: half,
             });
             run_action(&mut buffers, &mut action, limit, input, output, notes)
+        }
+        Task::Realign => {
+            let mut action = Realign::new();
+            run_action(&mut buffers, &mut action, limit, input, output, notes)
+        }
+        Task::Ring { size } => {
+            let Ok(buffer) = TraceBuffer::new(alloc, size) else {
+                note(notes, b"no memory\n");
+                return Status::NoMemory;
+            };
+            run_ring(&mut buffers, buffer, limit, input, output, notes)
+        }
+        Task::Unring {
+            size,
+            pointer,
+            full,
+        } => {
+            let Ok(buffer) = TraceBuffer::new(alloc, size) else {
+                note(notes, b"no memory\n");
+                return Status::NoMemory;
+            };
+            run_unring(&mut buffers, buffer, pointer, full, input, output, notes)
         }
         Task::Exercise { items, lose } => run_exercise(&mut buffers, items, lose, output, notes),
     }

@@ -12,17 +12,19 @@ ghost use Rattle.capture_words.specs.declared.job.Job.{Job};
 ghost use Rattle.capture_words.specs.declared.job.Task.TheVariants.{Rebuild};
 ghost use Rattle.capture_words.specs.declared.usage.UsageFault.{UsageFault};
 ghost use Rattle.source_events.specs.declared.plan.Plan.{Plan};
-ghost use Rattle.capture_run.specs.Actions.{HasDone, IsSoundInput};
+ghost use Rattle.capture_run.specs.Actions.{HasDone, IsSoundInput, limit_of};
 ghost use Rattle.capture_run.specs.Fronts.{ListsRest, IsSoundWhole, FollowsWhole};
 ghost use Rattle.capture_run.specs.Notes.{Notes};
 ghost use Rattle.capture_run.specs.Rebuilds.{Rebuilds};
 ghost use Rattle.capture_run.specs.Run.{streams, Untouched, Loses, IsDoneOrNoMemory};
-ghost use Rattle.capture_run.specs.Statuses.{number_of};
 
 mod actions;
 mod exercise;
+mod images;
 mod jobs;
+pub mod laws;
 mod notes;
+mod pieces;
 mod rows;
 mod status;
 
@@ -37,8 +39,8 @@ use trace_io::{Sink, Source};
 /// that ended.
 ///
 /// A status is the first that holds of Usage, WriteFault, CaptureFault or ScriptFault, ReadFault, Limit and Done.
-/// Want of memory is the one free answer, and comes only before anything is read or written. A failed write to
-/// the notes changes nothing.
+/// Want of memory is the one free answer, and comes only where no byte was read and none written. By these clauses a
+/// failed write to the notes changes no other status; that it changes none at all is read in the code.
 ///
 /// A capture may begin in the middle of a stream. Take any bytes that may have come before those read, so that
 /// the whole reads without a fault, whether by hunts or not. Where `show` hunts at the port, if it has frames, and
@@ -82,7 +84,7 @@ pub fn run<I: Source, O: Sink, N: Sink>(
         Loses (I.left input.old) (I.left input.new) bytes →
         (Rose (I.faults input.old) (I.faults input.new) → ⊥) →
         (Rose (O.faults output.old) (O.faults output.new) → ⊥) →
-        length bytes ≤ job.limit → IsSoundInput job.task bytes → IsDoneOrNoMemory result }
+        length bytes ≤ limit_of job.task job.limit → IsSoundInput job.task bytes → IsDoneOrNoMemory result }
 
     // Where a front of the capture may be lost: what was written follows the whole.
     ensures fronts { (job : Job) (whole : Plan) (lost bytes : List ℕ) → AsksFor (map string_bytes words.now) job →
@@ -111,22 +113,4 @@ pub fn run<I: Source, O: Sink, N: Sink>(
             Status::NoMemory
         }
     }
-}
-
-/// Runs the words on these streams, and answers the status of the process.
-pub fn start<I: Source, O: Sink, N: Sink>(
-    alloc: Global,
-    words: &[String],
-    input: &mut I,
-    output: &mut O,
-    notes: &mut N,
-) -> u8
-    ensures misuse { IsMisuse (map string_bytes words.now) →
-        (result ≡ number_of Status.Usage) ⊎ (result ≡ number_of Status.NoMemory) }
-    ensures ran { (job : Job) → AsksFor (map string_bytes words.now) job →
-        let before = streams (I.left input.old) (O.held output.old) (N.held notes.old) (N.faults notes.old) in
-        let after = streams (I.left input.new) (O.held output.new) (N.held notes.new) (N.faults notes.new) in
-        (status : Status) × (result ≡ number_of status) × HasDone job.task job.limit before after status }
-{
-    run(alloc, words, input, output, notes).number()
 }

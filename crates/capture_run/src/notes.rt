@@ -4,15 +4,16 @@ ghost use Rattle.std.specs.Prelude.{◌≡◌, ◌≤◌, ◌++◌, option_map};
 ghost use Rattle.trace_text.specs.FaultText.{told};
 ghost use Rattle.trace_text.specs.NoteText.{last_line};
 ghost use Rattle.script_rebuild.specs.Rebuilder.{told as told_of_script};
-ghost use Rattle.capture_run.specs.Notes.{Notes, fault_text, script_note, text_of, status_of};
+ghost use Rattle.capture_run.specs.Notes.{Notes, fault_text, script_note, text_of, done_text, status_of};
 
-use crate::actions::FaultNote;
+use crate::actions::{DoneNote, FaultNote};
 use crate::status::Status;
+use port_slip::Slipped;
 use script_rebuild::ScriptFault;
 use source_events::Stop;
 use trace_io::{Sink, write_whole};
 use trace_stream::{Buffers, RECENT_ROOM, TEXT_ROOM, Text};
-use trace_text::{FaultLine, LastLine, ScriptFaultLine};
+use trace_text::{FaultLine, LastLine, ScriptFaultLine, SlippedLine};
 use trace_values::Fault;
 
 /// Writes the line. Where that fails nothing changes.
@@ -92,4 +93,28 @@ pub fn note_fault<N: Sink>(notes: &mut N, fault: FaultNote, buffers: &Buffers) -
         FaultNote::Script(fault) => note_script(notes, fault),
     }
     fault.status()
+}
+
+/// Notes what is told of a run that is done.
+pub fn note_done<N: Sink>(notes: &mut N, done: DoneNote)
+    ensures noted { Notes (N.held notes.old) (N.held notes.new) (N.faults notes.old) (N.faults notes.new) (done_text done) }
+    ensures later { N.faults notes.old ≤ N.faults notes.new }
+{
+    match done {
+        DoneNote::Nothing => {}
+        DoneNote::Realigned(
+            Slipped {
+                skipped,
+                dropped,
+                patterns,
+            },
+        ) => {
+            let line = SlippedLine {
+                skipped,
+                dropped,
+                patterns,
+            };
+            note_text(notes, &line);
+        }
+    }
 }

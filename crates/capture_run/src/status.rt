@@ -23,6 +23,8 @@ pub enum Status {
     ScriptFault,
     /// The input has more bytes than the limit.
     Limit,
+    /// The input is no image: it has fewer or more bytes than the trace buffer.
+    BadImage,
 }
 
 impl Status {
@@ -39,6 +41,7 @@ impl Status {
             Status::NoMemory => 6,
             Status::ScriptFault => 7,
             Status::Limit => 8,
+            Status::BadImage => 10,
         }
     }
 }

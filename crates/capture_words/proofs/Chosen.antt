@@ -1,12 +1,10 @@
 -- A text names exactly the choice whose text it is.
 use Rattle.std.proofs.Common.{◌≡◌, ◌↔◌, ◌⊎◌, inl, inr, ℕ, ◌≤◌, List, Bool, true, false, Option, Some, None, codes, ap}
-use Rattle.std.proofs.Common.{refl, ◌∙◌, subst, arith, nat_eq, length, drop, ◌++◌, option_map, if◌then◌else◌}
+use Rattle.std.proofs.Common.{refl, ◌∙◌, subst, arith, ◌++◌, option_map, if◌then◌else◌}
 use Rattle.std.specs.Fmt.{decimal}
-use Rattle.std.specs.List.{starts_with}
 use Rattle.std.specs.Option.{option_and_then}
 use Rattle.std.specs.Str.{bytes_eq}
-use Rattle.std.proofs.lemmas.Slice.Eq.{bytes_eq-Decides, starts_is}
-use Rattle.std.proofs.lemmas.Bool.Decides.{Decides-eqb}
+use Rattle.std.proofs.lemmas.Slice.Eq.{bytes_eq-Decides}
 use Rattle.item_tap.specs.declared.choice.Choice.{Choice}
 use Rattle.item_tap.specs.declared.choice.Choice.TheVariants.{OfKind, Source, Port}
 use Rattle.item_tap.specs.declared.choice.Kind.{Kind}

@@ -1,4 +1,5 @@
 pub mod Shapes
 pub mod Calls
 pub mod Chosen
+mod Lines
 mod Windows

@@ -7,7 +7,7 @@ use Rattle.clap.specs.declared.builder.ArgAction.TheVariants.{Set}
 use Rattle.capture_words.specs.declared.option.CommandOption.{CommandOption}
 use Rattle.capture_words.specs.declared.option.CommandOption.TheVariants.{Frames, Packets, Itm, Stp, StpOrder, Id}
 use Rattle.capture_words.specs.declared.option.CommandOption.TheVariants.{Only, Window, Sync, Half, Limit, Items}
-use Rattle.capture_words.specs.declared.option.CommandOption.TheVariants.{Lose}
+use Rattle.capture_words.specs.declared.option.CommandOption.TheVariants.{Lose, Size, Pointer, Full}
 
 -- the name of an option, after the two dashes
 abbrev pub option_name : CommandOption → Text
@@ -24,6 +24,9 @@ option_name Half = codes "half"
 option_name Limit = codes "limit"
 option_name Items = codes "items"
 option_name Lose = codes "lose"
+option_name Size = codes "size"
+option_name Pointer = codes "pointer"
+option_name Full = codes "full"
 
 -- an option has one value, and is given once at most
 abbrev pub option_rule : CommandOption → Rule
@@ -35,7 +38,8 @@ action_rule = record (new_rule (codes "action")) { required = true; action = Som
 
 abbrev pub all_options : List CommandOption
 all_options =
-    Frames ∷ Packets ∷ Itm ∷ Stp ∷ StpOrder ∷ Id ∷ Only ∷ Window ∷ Sync ∷ Half ∷ Limit ∷ Items ∷ Lose ∷ []
+    Frames ∷ Packets ∷ Itm ∷ Stp ∷ StpOrder ∷ Id ∷ Only ∷ Window ∷ Sync ∷ Half ∷ Limit ∷ Items ∷ Lose
+    ∷ Size ∷ Pointer ∷ Full ∷ []
 
 abbrev pub with_options : List CommandOption → App → App
 with_options [] app = app

@@ -1,25 +1,28 @@
 -- The job of the entries, or the first fault.
-use Rattle.std.specs.Prelude.{◌≡◌, ◌≤◌, ℕ, length, List, [], ◌∷◌, true, Option, Some, None, Result, Ok, Err, ◌==◌}
-use Rattle.std.specs.Prelude.{if◌then◌else◌}
-use Rattle.std.specs.Prelude.{option_map}
+use Rattle.std.specs.Prelude.{◌≡◌, ◌≤◌, ◌<◌, ℕ, ◌^◌, length, List, [], ◌∷◌, Bool, true, Option, Some, None, Result}
+use Rattle.std.specs.Prelude.{Ok, Err, ◌==◌, nat_lt, if◌then◌else◌, option_map}
 use Rattle.clap.specs.Words.{Row}
 use Rattle.capture_plan.specs.declared.frames.FramesMode.{FramesMode}
 use Rattle.source_events.specs.Plan.{is_sound}
 use Rattle.source_events.specs.declared.plan.Plan.{Plan}
 use Rattle.capture_words.specs.Values.{action_in, frames_in, packets_in, itm_in, stp_in, order_in, id_in, only_in}
-use Rattle.capture_words.specs.Values.{window_in, sync_in, half_in, limit_in, items_in, lose_in}
+use Rattle.capture_words.specs.Values.{window_in, sync_in, half_in, limit_in, items_in, lose_in, size_in, pointer_in}
+use Rattle.capture_words.specs.Values.{full_in}
 use Rattle.capture_words.specs.declared.job.Task.{Task}
 use Rattle.capture_words.specs.declared.job.Task.TheVariants.{Show, Split, Check, Rebuild, Exercise}
+use Rattle.capture_words.specs.declared.job.Task.TheVariants.{Realign, Ring, Unring}
 use Rattle.capture_words.specs.declared.job.Job.{Job}
 use Rattle.capture_words.specs.declared.settings.Settings.{Settings}
 use Rattle.capture_words.specs.declared.usage.UsageFault.{UsageFault}
-use Rattle.capture_words.specs.declared.usage.UsageFault.TheVariants.{SplitNeedsId, MappedTwice}
+use Rattle.capture_words.specs.declared.usage.UsageFault.TheVariants.{SplitNeedsId, MappedTwice, RingNeedsSize}
+use Rattle.capture_words.specs.declared.usage.UsageFault.TheVariants.{UnringNeedsSize, PointerNotUnderSize}
 use Rattle.capture_words.specs.declared.values.ActionName.{ActionName}
 use Rattle.capture_words.specs.declared.values.ActionName.TheVariants.{Show as ShowName, Split as SplitName}
 use Rattle.capture_words.specs.declared.values.ActionName.TheVariants.{Check as CheckName, Rebuild as RebuildName}
-use Rattle.capture_words.specs.declared.values.ActionName.TheVariants.{Exercise as ExerciseName}
+use Rattle.capture_words.specs.declared.values.ActionName.TheVariants.{Exercise as ExerciseName, Realign as RealignName}
+use Rattle.capture_words.specs.declared.values.ActionName.TheVariants.{Ring as RingName, Unring as UnringName}
 
-infixr 10 ◌>>=◌
+infixl 10 ◌>>=◌
 -- a fault, or else what is made of the value
 abbrev ◌>>=◌ : {A B : Type 0} → Result A UsageFault → (A → Result B UsageFault) → Result B UsageFault
 Err fault >>= next = Err fault
@@ -27,35 +30,41 @@ Ok value >>= next = next value
 
 -- what all options say, or the first fault in the order of the command
 abbrev pub settings_in : List Row → Result Settings UsageFault
-settings_in rows =
-    frames_in rows >>= (λ frames.
-    packets_in rows >>= (λ packets.
-    itm_in rows >>= (λ itm.
-    stp_in rows >>= (λ stp.
-    order_in rows >>= (λ order.
-    id_in rows >>= (λ id.
-    only_in rows >>= (λ only.
-    window_in rows >>= (λ window.
-    sync_in rows >>= (λ sync.
-    half_in rows >>= (λ half.
-    limit_in rows >>= (λ limit.
-    items_in rows >>= (λ items.
-    lose_in rows >>= (λ lose.
-    Ok (record {
-      frames = frames;
-      packets = packets;
-      itm = itm;
-      stp = stp;
-      order = order;
-      id = id;
-      only = only;
-      window = window;
-      sync = sync;
-      half = half;
-      limit = limit;
-      items = items;
-      lose = lose;
-    }))))))))))))))
+settings_in rows = do
+  frames ← frames_in rows
+  packets ← packets_in rows
+  itm ← itm_in rows
+  stp ← stp_in rows
+  order ← order_in rows
+  id ← id_in rows
+  only ← only_in rows
+  window ← window_in rows
+  sync ← sync_in rows
+  half ← half_in rows
+  limit ← limit_in rows
+  items ← items_in rows
+  lose ← lose_in rows
+  size ← size_in rows
+  pointer ← pointer_in rows
+  full ← full_in rows
+  Ok (record {
+    frames = frames;
+    packets = packets;
+    itm = itm;
+    stp = stp;
+    order = order;
+    id = id;
+    only = only;
+    window = window;
+    sync = sync;
+    half = half;
+    limit = limit;
+    items = items;
+    lose = lose;
+    size = size;
+    pointer = pointer;
+    full = full;
+  })
 
 -- no ID, or one
 abbrev pub ids_of : Option ℕ → List ℕ
@@ -89,6 +98,17 @@ abbrev pub split_with : FramesMode → Option ℕ → Result Task UsageFault
 split_with frames None = Err SplitNeedsId
 split_with frames (Some id) = Ok (Split frames id)
 
+-- `ring` and `unring` need the size of a trace buffer
+abbrev pub ring_with : Option ℕ → Result Task UsageFault
+ring_with None = Err RingNeedsSize
+ring_with (Some size) = Ok (Ring size)
+
+-- and the write pointer of `unring` is under it
+abbrev pub unring_with : Option ℕ → ℕ → Bool → Result Task UsageFault
+unring_with None pointer full = Err UnringNeedsSize
+unring_with (Some size) pointer full =
+    if nat_lt pointer size then Ok (Unring size pointer full) else Err PointerNotUnderSize
+
 -- the task of an action with what it needs of the options
 abbrev pub task_with : ActionName → Settings → Result Task UsageFault
 task_with ShowName s = plan_with s >>= (λ plan. Ok (Show plan s.only s.window))
@@ -96,21 +116,28 @@ task_with SplitName s = split_with s.frames s.id
 task_with CheckName s = plan_with s >>= (λ plan. Ok (Check plan))
 task_with RebuildName s = plan_with s >>= (λ plan. Ok (Rebuild plan s.sync s.half))
 task_with ExerciseName s = Ok (Exercise s.items s.lose)
+task_with RealignName s = Ok Realign
+task_with RingName s = ring_with s.size
+task_with UnringName s = unring_with s.size s.pointer s.full
 
 -- The first fault of the action's name, of the options' values in the order of the command, and of what the
 -- action needs; and where there is none, the job. An option that the action doesn't use has no effect.
 abbrev pub job_of : List Row → Result Job UsageFault
-job_of rows =
-    action_in rows >>= (λ name.
-    settings_in rows >>= (λ settings.
-    task_with name settings >>= (λ task.
-    Ok (record { task = task; limit = settings.limit }))))
+job_of rows = do
+  name ← action_in rows
+  settings ← settings_in rows
+  task ← task_with name settings
+  Ok (record { task = task; limit = settings.limit })
 
 -- What is sure of a task: its plan is sound. For a script it has at most one STP source, and there are at most eight
--- half synchronisations in a gap. From 1 to 1,000,000 items are made, of which at most 1,000,000 bytes are lost.
+-- half synchronisations in a gap. From 1 to 1,000,000 items are made, of which at most 1,000,000 bytes are lost. A
+-- trace buffer has from 16 to 2^24 bytes, and its write pointer is one of them.
 abbrev pub IsSoundTask : Task → Type 0
 IsSoundTask (Show plan only window) = is_sound plan ≡ true
 IsSoundTask (Split frames id) = Unit {0}
 IsSoundTask (Check plan) = is_sound plan ≡ true
 IsSoundTask (Rebuild plan sync half) = (is_sound plan ≡ true) × (length plan.stp ≤ 1) × (half ≤ 8)
 IsSoundTask (Exercise items lose) = (1 ≤ items) × (items ≤ 1000000) × (lose ≤ 1000000)
+IsSoundTask Realign = Unit {0}
+IsSoundTask (Ring size) = (16 ≤ size) × (size ≤ 2 ^ 24)
+IsSoundTask (Unring size pointer full) = (16 ≤ size) × (size ≤ 2 ^ 24) × (pointer < size)

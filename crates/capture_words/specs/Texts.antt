@@ -1,12 +1,21 @@
 -- The lines of the faults of usage.
-use Rattle.std.specs.Prelude.{ℕ, List, codes, decimal, ◌++◌}
+use Rattle.std.specs.Prelude.{ℕ, ◌≤◌, List, codes, decimal, ◌++◌}
 use Rattle.capture_words.specs.Command.{option_name}
 use Rattle.capture_words.specs.declared.usage.UsageFault.{UsageFault}
 use Rattle.capture_words.specs.declared.usage.UsageFault.TheVariants.{UnknownAction, BadValue, SplitNeedsId}
-use Rattle.capture_words.specs.declared.usage.UsageFault.TheVariants.{MappedTwice}
+use Rattle.capture_words.specs.declared.usage.UsageFault.TheVariants.{MappedTwice, RingNeedsSize, UnringNeedsSize}
+use Rattle.capture_words.specs.declared.usage.UsageFault.TheVariants.{PointerNotUnderSize}
 
 abbrev pub usage_line : UsageFault → List ℕ
 usage_line UnknownAction = codes "usage: unknown action\n"
 usage_line (BadValue option) = codes "usage: bad value of --" ++ option_name option ++ codes "\n"
 usage_line SplitNeedsId = codes "usage: split needs --id\n"
 usage_line (MappedTwice id) = codes "usage: " ++ decimal id ++ codes " is mapped twice\n"
+usage_line RingNeedsSize = codes "usage: ring needs --size\n"
+usage_line UnringNeedsSize = codes "usage: unring needs --size\n"
+usage_line PointerNotUnderSize = codes "usage: pointer isn't under size\n"
+
+-- An ID that is mapped twice is one that can be mapped.
+abbrev pub IsFault : UsageFault → Type 0
+IsFault (MappedTwice id) = id ≤ 111
+IsFault fault = Unit {0}

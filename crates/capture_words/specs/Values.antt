@@ -1,5 +1,5 @@
 -- What the texts of the action and of the options say.
-use Rattle.std.specs.Prelude.{ℕ, List, codes, Option, Some, None, Result, if◌then◌else◌, ◌==◌}
+use Rattle.std.specs.Prelude.{ℕ, List, codes, Bool, true, false, Option, Some, None, Result, if◌then◌else◌, ◌==◌}
 use Rattle.std.specs.Prelude.{ok_or, option_and_then, option_map}
 use Rattle.std.specs.Str.{bytes_eq}
 use Rattle.std.specs.List.{before_first, after_first}
@@ -18,16 +18,18 @@ use Rattle.item_tap.specs.declared.choice.Kind.{Kind}
 use Rattle.item_tap.specs.declared.choice.Kind.TheVariants.{Itm as ItmKind, Dwt as DwtKind, Stp as StpKind}
 use Rattle.item_tap.specs.declared.choice.Kind.TheVariants.{Raw as RawKind, Trigger as TriggerKind}
 use Rattle.decimal_words.specs.Numbers.{number_named, number_after}
-use Rattle.capture_words.specs.declared.values.TheConstants.{GREATEST_LIMIT}
+use Rattle.capture_words.specs.declared.values.TheConstants.{GREATEST_LIMIT, LEAST_SIZE, GREATEST_SIZE}
+use Rattle.capture_words.specs.declared.values.TheConstants.{GREATEST_POINTER}
 use Rattle.capture_words.specs.Command.{option_name}
 use Rattle.capture_words.specs.declared.option.CommandOption.{CommandOption}
 use Rattle.capture_words.specs.declared.option.CommandOption.TheVariants.{Frames, Packets, Itm, Stp, StpOrder, Id}
 use Rattle.capture_words.specs.declared.option.CommandOption.TheVariants.{Only, Window, Sync, Half, Limit, Items}
-use Rattle.capture_words.specs.declared.option.CommandOption.TheVariants.{Lose}
+use Rattle.capture_words.specs.declared.option.CommandOption.TheVariants.{Lose, Size, Pointer, Full}
 use Rattle.capture_words.specs.declared.usage.UsageFault.{UsageFault}
 use Rattle.capture_words.specs.declared.usage.UsageFault.TheVariants.{UnknownAction, BadValue}
 use Rattle.capture_words.specs.declared.values.ActionName.{ActionName}
 use Rattle.capture_words.specs.declared.values.ActionName.TheVariants.{Show, Split, Check, Rebuild, Exercise}
+use Rattle.capture_words.specs.declared.values.ActionName.TheVariants.{Realign, Ring, Unring}
 
 -- the action that a text names
 abbrev pub action_named : Text → Option ActionName
@@ -37,12 +39,20 @@ action_named text =
     else if bytes_eq text (codes "check") then Some Check
     else if bytes_eq text (codes "rebuild") then Some Rebuild
     else if bytes_eq text (codes "exercise") then Some Exercise
+    else if bytes_eq text (codes "realign") then Some Realign
+    else if bytes_eq text (codes "ring") then Some Ring
+    else if bytes_eq text (codes "unring") then Some Unring
     else None
 
 -- the order of nibbles that a text names
 abbrev pub order_named : Text → Option Order
 order_named text =
     if bytes_eq text (codes "msn") then Some Msn else if bytes_eq text (codes "lsn") then Some Lsn else None
+
+-- the bit that a text names
+abbrev pub bit_named : Text → Option Bool
+bit_named text =
+    if bytes_eq text (codes "0") then Some false else if bytes_eq text (codes "1") then Some true else None
 
 -- the kind of events that a text names
 abbrev pub kind_named : Text → Option Kind
@@ -95,23 +105,24 @@ frames_in = option_in Frames FramesHunt frames_named
 abbrev pub packets_in : List Row → Result PacketsMode UsageFault
 packets_in = option_in Packets PacketsHunt packets_named
 
--- an option whose value is an ID within these bounds; there is none by default
-abbrev pub id_given : CommandOption → ℕ → ℕ → List Row → Result (Option ℕ) UsageFault
-id_given option least greatest = option_in option None (λ text. option_map Some (number_named least greatest text))
+-- an option whose value is a number within these bounds, and none by default
+abbrev pub number_if_given : CommandOption → ℕ → ℕ → List Row → Result (Option ℕ) UsageFault
+number_if_given option least greatest =
+    option_in option None (λ text. option_map Some (number_named least greatest text))
 
 -- the ID of an ITM source and that of an STP source are 1 to 111
 abbrev pub itm_in : List Row → Result (Option ℕ) UsageFault
-itm_in = id_given Itm 1 111
+itm_in = number_if_given Itm 1 111
 
 abbrev pub stp_in : List Row → Result (Option ℕ) UsageFault
-stp_in = id_given Stp 1 111
+stp_in = number_if_given Stp 1 111
 
 abbrev pub order_in : List Row → Result Order UsageFault
 order_in = option_in StpOrder Msn order_named
 
 -- the ID that is taken is 0 to 126
 abbrev pub id_in : List Row → Result (Option ℕ) UsageFault
-id_in = id_given Id 0 126
+id_in = number_if_given Id 0 126
 
 -- which events are listed; all are by default
 abbrev pub only_in : List Row → Result (Option Choice) UsageFault
@@ -138,6 +149,16 @@ items_in = number_given Items 12000 1 1000000
 
 abbrev pub lose_in : List Row → Result ℕ UsageFault
 lose_in = number_given Lose 0 0 1000000
+
+-- a trace buffer's size in bytes, its write pointer, and whether it is full
+abbrev pub size_in : List Row → Result (Option ℕ) UsageFault
+size_in = number_if_given Size LEAST_SIZE GREATEST_SIZE
+
+abbrev pub pointer_in : List Row → Result ℕ UsageFault
+pointer_in = number_given Pointer 0 0 GREATEST_POINTER
+
+abbrev pub full_in : List Row → Result Bool UsageFault
+full_in = option_in Full false bit_named
 
 abbrev pub limit_in : List Row → Result ℕ UsageFault
 limit_in = number_given Limit GREATEST_LIMIT 1 GREATEST_LIMIT

@@ -10,12 +10,15 @@ use std::alloc::{AllocError, Global};
 
 /// What `--help` says below the options: how a capture is given.
 const CAPTURE_HELP: &str =
-    "The capture, or for rebuild the script, is read from standard input, as in: ./lipparoy check < CAPTURE";
+    "The capture, or for rebuild the script and for unring the image, is read from standard input, as in: \
+    ./lipparoy check < CAPTURE";
 
 /// What `--help` says of the action.
 const ACTION_HELP: &str =
     "show lists events, split writes the bytes of one source, check counts those of each, rebuild \
-    writes the capture of a script, exercise tries the tool on a capture of its own";
+    writes the capture of a script, exercise tries the tool on a capture of its own, realign writes a capture \
+    that lost bits in whole bytes again, ring writes the image of a trace buffer that took a capture, unring \
+    writes the bytes of such an image from the oldest on";
 
 /// The command with this option besides. It takes one value, and is given once at most.
 fn with_option<'a>(
@@ -63,5 +66,8 @@ pub fn trace_command<'a>(alloc: Global) -> Result<Command<'a>, AllocError>
     let command = with_option(alloc, command, CommandOption::Half)?;
     let command = with_option(alloc, command, CommandOption::Limit)?;
     let command = with_option(alloc, command, CommandOption::Items)?;
-    with_option(alloc, command, CommandOption::Lose)
+    let command = with_option(alloc, command, CommandOption::Lose)?;
+    let command = with_option(alloc, command, CommandOption::Size)?;
+    let command = with_option(alloc, command, CommandOption::Pointer)?;
+    with_option(alloc, command, CommandOption::Full)
 }

@@ -2,10 +2,11 @@
 
 ghost use Rattle.std.specs.Prelude.{◌≡◌, ◌≤◌, true, length, IfOk, IfSome};
 ghost use Rattle.capture_words.specs.declared.values.TheConstants.{GREATEST_LIMIT, GREATEST_HALF, GREATEST_ITEMS};
-ghost use Rattle.capture_words.specs.declared.values.TheConstants.{GREATEST_LOSS};
+ghost use Rattle.capture_words.specs.declared.values.TheConstants.{GREATEST_LOSS, LEAST_SIZE, GREATEST_SIZE};
 ghost use Rattle.clap.specs.Words.{rows_of, found_of};
 ghost use Rattle.source_events.specs.Plan.{is_sound};
-ghost use Rattle.capture_words.specs.Jobs.{ids_of, mapped_twice, plan_with, task_with, job_of, IsSoundTask};
+ghost use Rattle.capture_words.specs.Jobs.{ids_of, mapped_twice, plan_with, split_with, ring_with, unring_with};
+ghost use Rattle.capture_words.specs.Jobs.{task_with, job_of, IsSoundTask};
 
 use crate::settings::{Settings, settings_in};
 use crate::usage::UsageFault;
@@ -52,6 +53,22 @@ pub enum Task {
         items: u32,
         /// How many bytes are lost, at most 1,000,000.
         lose: u32,
+    },
+    /// A capture that lost single bits is written in whole bytes again.
+    Realign,
+    /// The capture goes into a trace buffer, and the buffer's image is written.
+    Ring {
+        /// How many bytes the buffer has, 16 to 16,777,216.
+        size: usize,
+    },
+    /// The bytes of a trace buffer's image are written, from the oldest on. The job's limit makes no difference.
+    Unring {
+        /// How many bytes the buffer has, 16 to 16,777,216, and the image with it.
+        size: usize,
+        /// The buffer's write pointer, where its next byte would have gone: 0 or more, and under the size.
+        pointer: usize,
+        /// Whether the buffer took as many bytes as it has, or more, so that its oldest byte is that at the pointer.
+        full: bool,
     },
 }
 
@@ -105,6 +122,53 @@ fn plan_with(settings: &Settings) -> Result<Plan, UsageFault>
     }
 }
 
+/// The bytes of a source, whose ID is needed.
+fn split_with(settings: &Settings) -> Result<Task, UsageFault>
+    ensures task { result ≡ split_with settings.now.frames settings.now.id }
+    ensures sound { IfOk result IsSoundTask }
+{
+    match settings.id {
+        Some(id) => Ok(Task::Split {
+            frames: settings.frames,
+            id,
+        }),
+        None => Err(UsageFault::SplitNeedsId),
+    }
+}
+
+/// The image of a trace buffer, whose size is needed.
+fn ring_with(settings: &Settings) -> Result<Task, UsageFault>
+    requires { IfSome settings.now.size (λ n. (LEAST_SIZE ≤ n) × (n ≤ GREATEST_SIZE)) }
+    ensures task { result ≡ ring_with settings.now.size }
+    ensures sound { IfOk result IsSoundTask }
+{
+    match settings.size {
+        Some(size) => Ok(Task::Ring { size }),
+        None => Err(UsageFault::RingNeedsSize),
+    }
+}
+
+/// The bytes of an image in order. Its size is needed, and its write pointer is under it.
+fn unring_with(settings: &Settings) -> Result<Task, UsageFault>
+    requires { IfSome settings.now.size (λ n. (LEAST_SIZE ≤ n) × (n ≤ GREATEST_SIZE)) }
+    ensures task { result ≡ unring_with settings.now.size settings.now.pointer settings.now.full }
+    ensures sound { IfOk result IsSoundTask }
+{
+    let Some(size) = settings.size else {
+        return Err(UsageFault::UnringNeedsSize);
+    };
+    let pointer = settings.pointer;
+    if pointer < size {
+        Ok(Task::Unring {
+            size,
+            pointer,
+            full: settings.full,
+        })
+    } else {
+        Err(UsageFault::PointerNotUnderSize)
+    }
+}
+
 /// The task of an action, with what it needs of the options.
 fn task_with(name: ActionName, settings: &Settings) -> Result<Task, UsageFault>
     requires itm { IfSome settings.now.itm (λ n. (1 ≤ n) × (n ≤ 111)) }
@@ -112,41 +176,30 @@ fn task_with(name: ActionName, settings: &Settings) -> Result<Task, UsageFault>
     requires half { settings.now.half ≤ GREATEST_HALF }
     requires items { (1 ≤ settings.now.items) × (settings.now.items ≤ GREATEST_ITEMS) }
     requires lose { settings.now.lose ≤ GREATEST_LOSS }
+    requires size { IfSome settings.now.size (λ n. (LEAST_SIZE ≤ n) × (n ≤ GREATEST_SIZE)) }
     ensures task { result ≡ task_with name settings.now }
     ensures sound { IfOk result IsSoundTask }
 {
     match name {
-        ActionName::Show => {
-            let plan = plan_with(settings)?;
-            Ok(Task::Show {
-                plan,
-                only: settings.only,
-                window: settings.window,
-            })
-        }
-        ActionName::Split => match settings.id {
-            Some(id) => Ok(Task::Split {
-                frames: settings.frames,
-                id,
-            }),
-            None => Err(UsageFault::SplitNeedsId),
-        },
-        ActionName::Check => {
-            let plan = plan_with(settings)?;
-            Ok(Task::Check(plan))
-        }
-        ActionName::Rebuild => {
-            let plan = plan_with(settings)?;
-            Ok(Task::Rebuild {
-                plan,
-                sync: settings.sync,
-                half: settings.half,
-            })
-        }
+        ActionName::Show => Ok(Task::Show {
+            plan: plan_with(settings)?,
+            only: settings.only,
+            window: settings.window,
+        }),
+        ActionName::Split => split_with(settings),
+        ActionName::Check => Ok(Task::Check(plan_with(settings)?)),
+        ActionName::Rebuild => Ok(Task::Rebuild {
+            plan: plan_with(settings)?,
+            sync: settings.sync,
+            half: settings.half,
+        }),
         ActionName::Exercise => Ok(Task::Exercise {
             items: settings.items,
             lose: settings.lose,
         }),
+        ActionName::Realign => Ok(Task::Realign),
+        ActionName::Ring => ring_with(settings),
+        ActionName::Unring => unring_with(settings),
     }
 }
 

@@ -1,13 +1,15 @@
 //! Laws of the words, over their definitions alone.
 
-ghost use Rattle.std.specs.Prelude.{◌≡◌, ◌⊎◌, ◌↔◌, List, Some};
+ghost use Rattle.std.specs.Prelude.{◌≡◌, ◌≤◌, ◌⊎◌, ◌↔◌, List, Some, length};
 ghost use Rattle.clap.specs.Words.{Text};
 ghost use Rattle.capture_words.specs.Calls.{AsksFor, Misuses, IsMisuse};
 ghost use Rattle.item_tap.specs.declared.bounds.Bounds.{Bounds};
 ghost use Rattle.item_tap.specs.declared.choice.Choice.{Choice};
 ghost use Rattle.capture_words.specs.Choices.{IsChoice, choice_text, IsWindow, window_text};
+ghost use Rattle.capture_words.specs.Texts.{usage_line, IsFault};
 ghost use Rattle.capture_words.specs.Values.{choice_named, window_named};
 ghost use Rattle.capture_words.specs.declared.job.Job.{Job};
+ghost use Rattle.capture_words.specs.declared.usage.TheConstants.{LINE_ROOM};
 ghost use Rattle.capture_words.specs.declared.usage.UsageFault.{UsageFault};
 
 /// All words ask for a job or are a misuse, and never both. They ask for one job, and have one fault.
@@ -16,6 +18,12 @@ pub fn calls_law()
     ensures not_both { (words : List Text) (job : Job) → AsksFor words job → IsMisuse words → ⊥ }
     ensures one_job { (words : List Text) (a b : Job) → AsksFor words a → AsksFor words b → a ≡ b }
     ensures one_fault { (words : List Text) (a b : UsageFault) → Misuses words a → Misuses words b → a ≡ b }
+{}
+
+/// The line of a fault has at most `LINE_ROOM` bytes, and one has as many.
+pub fn line_law()
+    ensures fits { (fault : UsageFault) → IsFault fault → length (usage_line fault) ≤ LINE_ROOM }
+    ensures tight { (fault : UsageFault) × (length (usage_line fault) ≡ LINE_ROOM) }
 {}
 
 /// A text names exactly the choice within the bounds whose text it is.

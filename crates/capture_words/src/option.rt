@@ -32,6 +32,12 @@ pub enum CommandOption {
     Items,
     /// `--lose`: how many bytes are lost of the front of what is made.
     Lose,
+    /// `--size`: how many bytes a trace buffer has.
+    Size,
+    /// `--pointer`: where a trace buffer would have put its next byte.
+    Pointer,
+    /// `--full`: whether a trace buffer has taken as many bytes as it has, or more.
+    Full,
 }
 
 impl CommandOption {
@@ -54,6 +60,9 @@ impl CommandOption {
             CommandOption::Limit => "limit",
             CommandOption::Items => "items",
             CommandOption::Lose => "lose",
+            CommandOption::Size => "size",
+            CommandOption::Pointer => "pointer",
+            CommandOption::Full => "full",
         }
     }
 
@@ -97,6 +106,17 @@ impl CommandOption {
                 "How many items exercise makes: 1 to 1000000, 12000 where it is not given",
             CommandOption::Lose => {
                 "How many bytes exercise loses at the front: 0 (the default) to 1000000"
+            }
+            CommandOption::Size => {
+                "How many bytes the trace buffer of ring or unring has: 16 to 16777216"
+            }
+            CommandOption::Pointer => {
+                "Where the trace buffer of unring would have put its next byte: 0 (the default) to 16777215, and \
+                under its size"
+            }
+            CommandOption::Full => {
+                "Whether the trace buffer of unring took as many bytes as it has, or more: 0 (no, the default) or \
+                1 (yes)"
             }
         }
     }

@@ -1,6 +1,6 @@
 //! Worked rows: words, and what they ask for, which the checker computes.
 
-ghost use Rattle.std.specs.Prelude.{codes, [], ◌∷◌, None, Some};
+ghost use Rattle.std.specs.Prelude.{codes, [], ◌∷◌, None, Some, true, false};
 ghost use Rattle.clap.specs.declared.error.kind.ErrorKind.TheVariants.{ArgumentConflict, DisplayHelp, InvalidValue};
 ghost use Rattle.clap.specs.declared.error.kind.ErrorKind.TheVariants.{MissingRequiredArgument, UnknownArgument};
 ghost use Rattle.capture_plan.specs.declared.frames.FramesMode.TheVariants.{Hunt as FramesHunt};
@@ -13,11 +13,14 @@ ghost use Rattle.item_tap.specs.declared.choice.Kind.TheVariants.{Itm as ItmKind
 ghost use Rattle.item_tap.specs.declared.choice.Kind.TheVariants.{Raw as RawKind, Trigger as TriggerKind};
 ghost use Rattle.capture_words.specs.Rows.{Does, Lists, Faults, Refuses, planned};
 ghost use Rattle.capture_words.specs.declared.job.Task.TheVariants.{Show, Split, Check, Rebuild, Exercise};
+ghost use Rattle.capture_words.specs.declared.job.Task.TheVariants.{Realign, Ring, Unring};
 ghost use Rattle.capture_words.specs.declared.option.CommandOption.TheVariants.{Frames, Packets, Itm, Stp, StpOrder};
 ghost use Rattle.capture_words.specs.declared.option.CommandOption.TheVariants.{Id, Only, Window, Sync};
 ghost use Rattle.capture_words.specs.declared.option.CommandOption.TheVariants.{Half, Limit, Items, Lose};
+ghost use Rattle.capture_words.specs.declared.option.CommandOption.TheVariants.{Size, Pointer, Full};
 ghost use Rattle.capture_words.specs.declared.usage.UsageFault.TheVariants.{UnknownAction, BadValue, SplitNeedsId};
-ghost use Rattle.capture_words.specs.declared.usage.UsageFault.TheVariants.{MappedTwice};
+ghost use Rattle.capture_words.specs.declared.usage.UsageFault.TheVariants.{MappedTwice, RingNeedsSize};
+ghost use Rattle.capture_words.specs.declared.usage.UsageFault.TheVariants.{UnringNeedsSize, PointerNotUnderSize};
 
 /// Words that ask for a listing, in several orders and spellings.
 pub fn show()
@@ -80,6 +83,30 @@ pub fn exercise()
     ensures unused { Does (codes "exercise --itm 5 --stp 5 --sync 1 --half 1") (Exercise 12000 0) 68719476736 }
 {}
 
+/// Words that ask for a capture in whole bytes again.
+pub fn realign()
+    ensures defaults { Does (codes "realign") Realign 68719476736 }
+    ensures limit { Does (codes "--limit 5 realign") Realign 5 }
+    ensures unused { Does (codes "realign --itm 5 --stp 5 --pointer 16 --size 16") Realign 68719476736 }
+{}
+
+/// Words that ask for the image of a trace buffer.
+pub fn ring()
+    ensures least { Does (codes "ring --size 16") (Ring 16) 68719476736 }
+    ensures most { Does (codes "--size=16777216 ring --limit 9") (Ring 16777216) 9 }
+    ensures unused { Does (codes "ring --size 32 --pointer 32 --full 1 --itm 5 --stp 5") (Ring 32) 68719476736 }
+{}
+
+/// Words that ask for the bytes of an image in order.
+pub fn unring()
+    ensures defaults { Does (codes "unring --size 16") (Unring 16 0 false) 68719476736 }
+    ensures all { Does (codes "unring --size 16 --pointer 4 --full 1") (Unring 16 4 true) 68719476736 }
+    ensures last { Does (codes "--full=0 --pointer=15 unring --size=16") (Unring 16 15 false) 68719476736 }
+    ensures most { Does (codes "unring --size 16777216 --pointer 16777215 --full 1 --limit 3")
+        (Unring 16777216 16777215 true) 3 }
+    ensures unused { Does (codes "unring --size 17 --id 5 --sync 1 --itm 5 --stp 5") (Unring 17 0 false) 68719476736 }
+{}
+
 /// Words that ask for the bytes of an ID.
 pub fn split()
     ensures hunt { Does (codes "split --id 5") (Split FramesHunt 5) 68719476736 }
@@ -121,6 +148,14 @@ pub fn bad_values()
     ensures items_over { Faults (codes "check --items 1000001") (BadValue Items) }
     ensures lose_over { Faults (codes "exercise --lose 1000001") (BadValue Lose) }
     ensures lose_wide { Faults (codes "exercise --lose 4294967296") (BadValue Lose) }
+    ensures size_15 { Faults (codes "ring --size 15") (BadValue Size) }
+    ensures size_over { Faults (codes "show --size 16777217") (BadValue Size) }
+    ensures pointer_over { Faults (codes "unring --size 16 --pointer 16777216") (BadValue Pointer) }
+    ensures pointer_sign { Faults (codes "check --pointer=-1") (BadValue Pointer) }
+    ensures full_2 { Faults (codes "unring --size 16 --full 2") (BadValue Full) }
+    ensures full_zeros { Faults (codes "ring --size 16 --full 01") (BadValue Full) }
+    ensures full_word { Faults (codes "realign --full yes") (BadValue Full) }
+    ensures limit_unused { Faults (codes "unring --size 16 --limit 0") (BadValue Limit) }
     ensures limit_0 { Faults (codes "check --limit 0") (BadValue Limit) }
     ensures limit_over { Faults (codes "show --limit 68719476737") (BadValue Limit) }
     ensures limit_zeros { Faults (codes "check --limit 01") (BadValue Limit) }
@@ -162,12 +197,20 @@ pub fn order()
     ensures half { Faults (codes "check --limit 0 --half x") (BadValue Half) }
     ensures limit { Faults (codes "check --items x --limit 0") (BadValue Limit) }
     ensures items { Faults (codes "check --lose x --items x") (BadValue Items) }
+    ensures lose { Faults (codes "check --size x --lose x") (BadValue Lose) }
+    ensures size { Faults (codes "check --pointer x --size x") (BadValue Size) }
+    ensures pointer { Faults (codes "check --full x --pointer x") (BadValue Pointer) }
+    ensures full { Faults (codes "ring --full x") (BadValue Full) }
     ensures needs { Faults (codes "split") SplitNeedsId }
     ensures needs_last { Faults (codes "split --limit x") (BadValue Limit) }
     ensures mapped { Faults (codes "show --itm 5 --stp 5") (MappedTwice 5) }
     ensures rebuilt { Faults (codes "rebuild --itm 5 --stp 5") (MappedTwice 5) }
     ensures checked { Faults (codes "check --stp 111 --frames bare --itm 111") (MappedTwice 111) }
     ensures mapped_last { Faults (codes "show --itm 5 --stp 5 --limit 0") (BadValue Limit) }
+    ensures ring_needs { Faults (codes "ring --itm 5 --stp 5 --pointer 4") RingNeedsSize }
+    ensures unring_needs { Faults (codes "unring --pointer 16777215 --full 1") UnringNeedsSize }
+    ensures at_size { Faults (codes "unring --size 16 --pointer 16") PointerNotUnderSize }
+    ensures over_size { Faults (codes "unring --pointer 99 --size 98 --full 1") PointerNotUnderSize }
 {}
 
 /// Words that `clap` refuses, and what for.

@@ -2,15 +2,15 @@
 
 ghost use Rattle.std.specs.Prelude.{◌≡◌, ◌≤◌, ℕ, Option, IfOk, IfSome};
 ghost use Rattle.capture_words.specs.declared.values.TheConstants.{GREATEST_LIMIT, GREATEST_SYNC, GREATEST_HALF};
-ghost use Rattle.capture_words.specs.declared.values.TheConstants.{GREATEST_ITEMS};
-ghost use Rattle.capture_words.specs.declared.values.TheConstants.{GREATEST_LOSS};
+ghost use Rattle.capture_words.specs.declared.values.TheConstants.{GREATEST_ITEMS, GREATEST_LOSS};
+ghost use Rattle.capture_words.specs.declared.values.TheConstants.{LEAST_SIZE, GREATEST_SIZE};
 ghost use Rattle.clap.specs.Words.{rows_of, found_of};
 ghost use Rattle.capture_words.specs.Jobs.{settings_in};
 
 use crate::usage::UsageFault;
 use crate::values::{
-    frames_in, half_in, id_in, items_in, itm_in, limit_in, lose_in, only_in, order_in, packets_in,
-    stp_in, sync_in, window_in,
+    frames_in, full_in, half_in, id_in, items_in, itm_in, limit_in, lose_in, only_in, order_in,
+    packets_in, pointer_in, size_in, stp_in, sync_in, window_in,
 };
 use capture_plan::{FramesMode, PacketsMode};
 use clap::ArgMatches;
@@ -47,6 +47,12 @@ pub struct Settings {
     pub items: u32,
     /// How many bytes are lost of the front of what is made.
     pub lose: u32,
+    /// How many bytes a trace buffer has.
+    pub size: Option<usize>,
+    /// Where a trace buffer would have put its next byte.
+    pub pointer: usize,
+    /// Whether a trace buffer has taken as many bytes as it has, or more.
+    pub full: bool,
 }
 
 /// What the options say, or the first whose value is none of its own.
@@ -59,6 +65,7 @@ pub fn settings_in(matches: &ArgMatches<'_>) -> Result<Settings, UsageFault>
     ensures limit { IfOk result (λ s. (1 ≤ s.limit) × (s.limit ≤ GREATEST_LIMIT)) }
     ensures items { IfOk result (λ s. (1 ≤ s.items) × (s.items ≤ GREATEST_ITEMS)) }
     ensures lose { IfOk result (λ s. s.lose ≤ GREATEST_LOSS) }
+    ensures size { IfOk result (λ s. IfSome s.size (λ n. (LEAST_SIZE ≤ n) × (n ≤ GREATEST_SIZE))) }
 {
     let frames = frames_in(matches)?;
     let packets = packets_in(matches)?;
@@ -73,6 +80,9 @@ pub fn settings_in(matches: &ArgMatches<'_>) -> Result<Settings, UsageFault>
     let limit = limit_in(matches)?;
     let items = items_in(matches)?;
     let lose = lose_in(matches)?;
+    let size = size_in(matches)?;
+    let pointer = pointer_in(matches)?;
+    let full = full_in(matches)?;
     Ok(Settings {
         frames,
         packets,
@@ -87,5 +97,8 @@ pub fn settings_in(matches: &ArgMatches<'_>) -> Result<Settings, UsageFault>
         limit,
         items,
         lose,
+        size,
+        pointer,
+        full,
     })
 }

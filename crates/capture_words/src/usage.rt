@@ -8,8 +8,8 @@ use arrayvec::ArrayString;
 use itoa::Buffer;
 use trace_values::SourceId;
 
-/// How many bytes the line of a fault has at most.
-pub const LINE_ROOM: usize = 40;
+/// How many bytes the line of a fault has at most: as many as that of a bad value of `--stp-order`.
+pub const LINE_ROOM: usize = 32;
 
 /// Why words that `clap` takes are no job. The first that holds is the fault, in this order.
 #[derive(Clone, Copy, Debug, PartialEq, Eq, Drop)]
@@ -22,6 +22,12 @@ pub enum UsageFault {
     SplitNeedsId,
     /// The action reads mapped sources, and `--itm` and `--stp` both name this one.
     MappedTwice(SourceId),
+    /// The action is `ring`, and `--size` is absent.
+    RingNeedsSize,
+    /// The action is `unring`, and `--size` is absent.
+    UnringNeedsSize,
+    /// The action is `unring`, and the write pointer isn't under the size.
+    PointerNotUnderSize,
 }
 
 /// The text of these parts, one after another.
@@ -49,6 +55,9 @@ impl UsageFault {
                 let mut number = Buffer::new();
                 joined("usage: ", number.format(id.number()), " is mapped twice\n")
             }
+            UsageFault::RingNeedsSize => joined("usage: ring needs --size\n", "", ""),
+            UsageFault::UnringNeedsSize => joined("usage: unring needs --size\n", "", ""),
+            UsageFault::PointerNotUnderSize => joined("usage: pointer isn't under size\n", "", ""),
         }
     }
 }

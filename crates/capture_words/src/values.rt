@@ -3,9 +3,10 @@
 ghost use Rattle.std.specs.Prelude.{◌≡◌, ◌≤◌, option_map, IfOk, IfSome};
 ghost use Rattle.clap.specs.Words.{rows_of, found_of, first_of};
 ghost use Rattle.capture_words.specs.Command.{option_name};
-ghost use Rattle.capture_words.specs.Values.{action_named, order_named, action_in, frames_in, packets_in, id_given};
-ghost use Rattle.capture_words.specs.Values.{itm_in, stp_in, order_in, id_in, only_in, window_in, number_given};
-ghost use Rattle.capture_words.specs.Values.{sync_in, half_in, limit_in, items_in, lose_in};
+ghost use Rattle.capture_words.specs.Values.{action_named, order_named, bit_named, action_in, frames_in, packets_in};
+ghost use Rattle.capture_words.specs.Values.{number_if_given, itm_in, stp_in, order_in, id_in, only_in, window_in};
+ghost use Rattle.capture_words.specs.Values.{number_given, sync_in, half_in, limit_in, items_in, lose_in, size_in};
+ghost use Rattle.capture_words.specs.Values.{pointer_in, full_in};
 
 use crate::choices::{choice_named, window_named};
 use crate::option::CommandOption;
@@ -32,6 +33,12 @@ pub const GREATEST_ITEMS: u32 = 1_000_000;
 pub const DEFAULT_ITEMS: u32 = 12_000;
 /// The most bytes that are lost of what is made; none are where no number is given.
 pub const GREATEST_LOSS: u32 = 1_000_000;
+/// The least size of a trace buffer, in bytes.
+pub const LEAST_SIZE: u32 = 16;
+/// The greatest.
+pub const GREATEST_SIZE: u32 = 1 << 24;
+/// The greatest write pointer of a trace buffer, that of the last byte of the greatest; it is 0 where none is given.
+pub const GREATEST_POINTER: u32 = (1 << 24) - 1;
 
 /// The action that a word names.
 #[derive(Clone, Copy, Debug, PartialEq, Eq, Drop)]
@@ -46,6 +53,12 @@ pub enum ActionName {
     Rebuild,
     /// `exercise`
     Exercise,
+    /// `realign`
+    Realign,
+    /// `ring`
+    Ring,
+    /// `unring`
+    Unring,
 }
 
 impl ActionName {
@@ -59,6 +72,9 @@ impl ActionName {
             "check" => Some(ActionName::Check),
             "rebuild" => Some(ActionName::Rebuild),
             "exercise" => Some(ActionName::Exercise),
+            "realign" => Some(ActionName::Realign),
+            "ring" => Some(ActionName::Ring),
+            "unring" => Some(ActionName::Unring),
             _ => None,
         }
     }
@@ -71,6 +87,17 @@ fn order_named(name: &str) -> Option<Order>
     match name {
         "msn" => Some(Order::Msn),
         "lsn" => Some(Order::Lsn),
+        _ => None,
+    }
+}
+
+/// The bit of this name: `0` or `1`.
+fn bit_named(name: &str) -> Option<bool>
+    ensures { result ≡ bit_named name.now }
+{
+    match name {
+        "0" => Some(false),
+        "1" => Some(true),
         _ => None,
     }
 }
@@ -89,7 +116,7 @@ fn text_of<'a>(matches: &ArgMatches<'a>, option: CommandOption) -> Option<&'a st
     text_named(matches, option.name())
 }
 
-/// The action: `show`, `split`, `check`, `rebuild` or `exercise`.
+/// The action: `show`, `split`, `check`, `rebuild`, `exercise`, `realign`, `ring` or `unring`.
 pub fn action_in(matches: &ArgMatches<'_>) -> Result<ActionName, UsageFault>
     ensures { result ≡ action_in (rows_of (found_of matches.now)) }
 {
@@ -127,7 +154,7 @@ fn id_given(
     greatest: u8,
 ) -> Result<Option<SourceId>, UsageFault>
     requires { greatest ≤ 126 }
-    ensures value { result ≡ id_given option least greatest (rows_of (found_of matches.now)) }
+    ensures value { result ≡ number_if_given option least greatest (rows_of (found_of matches.now)) }
     ensures in_range { IfOk result (λ id. IfSome id (λ n. (least ≤ n) × (n ≤ greatest))) }
 {
     match text_of(matches, option) {
@@ -257,6 +284,38 @@ pub fn lose_in(matches: &ArgMatches<'_>) -> Result<u32, UsageFault>
     ensures in_range { IfOk result (λ n. n ≤ GREATEST_LOSS) }
 {
     number_given(matches, CommandOption::Lose, 0, 0, GREATEST_LOSS)
+}
+
+/// How many bytes a trace buffer has, 16 to 16,777,216, if that is given.
+pub fn size_in(matches: &ArgMatches<'_>) -> Result<Option<usize>, UsageFault>
+    ensures value { result ≡ size_in (rows_of (found_of matches.now)) }
+    ensures in_range { IfOk result (λ size. IfSome size (λ n. (LEAST_SIZE ≤ n) × (n ≤ GREATEST_SIZE))) }
+{
+    match text_of(matches, CommandOption::Size) {
+        None => Ok(None),
+        Some(text) => match number_named(u64::from(LEAST_SIZE), u64::from(GREATEST_SIZE), text) {
+            Some(size) => Ok(Some(size as usize)),
+            None => Err(UsageFault::BadValue(CommandOption::Size)),
+        },
+    }
+}
+
+/// Where a trace buffer would have put its next byte: 0 to 16,777,215, and 0 where it is absent.
+pub fn pointer_in(matches: &ArgMatches<'_>) -> Result<usize, UsageFault>
+    ensures { result ≡ pointer_in (rows_of (found_of matches.now)) }
+{
+    let pointer = number_given(matches, CommandOption::Pointer, 0, 0, GREATEST_POINTER)?;
+    Ok(pointer as usize)
+}
+
+/// Whether a trace buffer has taken as many bytes as it has, or more: `0` or `1`, and `0` where it is absent.
+pub fn full_in(matches: &ArgMatches<'_>) -> Result<bool, UsageFault>
+    ensures { result ≡ full_in (rows_of (found_of matches.now)) }
+{
+    match text_of(matches, CommandOption::Full) {
+        None => Ok(false),
+        Some(text) => bit_named(text).ok_or(UsageFault::BadValue(CommandOption::Full)),
+    }
 }
 
 /// How many bytes are read at most: 1 to the greatest limit, which holds where it is absent.

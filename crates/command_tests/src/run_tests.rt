@@ -1,28 +1,18 @@
-//! The program's one call over bytes in memory, whose reads and writes come in pieces and fail.
+//! The program's one call over bytes in memory, compared with what is computed apart from it.
 
-mod counts;
 mod engine;
-mod examples;
 mod exercise;
-mod failures;
 mod fronts;
 mod headers;
-mod hunting;
 mod ids;
 mod listing;
 mod lost;
-mod notes;
 mod rebuild;
-mod sources;
-mod split;
-mod stamps;
 mod stp;
 mod surroundings;
-mod windows;
-mod words;
-mod worked;
 mod written;
 
+use crate::same::same;
 use capture_run::{Status, run};
 use std::alloc::{AllocError, Global};
 use std::process::Abort;
@@ -39,9 +29,6 @@ const ALIGNED: [&str; 7] = [
     "--itm",
     "1",
 ];
-
-/// The call that lists a capture from its first synchronisation packet on.
-const HUNTING: [&str; 5] = ["show", "--frames", "bare", "--itm", "1"];
 
 /// Room for the longest text of these tests.
 const ROOM: usize = 256;
@@ -81,12 +68,8 @@ fn check(
         let mut output = MemorySink::new(&mut room, &[], &[]);
         let mut notes = MemorySink::new(&mut noted, &[], &[]);
         let got = answer(alloc, words, &mut input, &mut output, &mut notes)?;
-        assert_eq!(rt; got, status, "pieces of {piece} of {bytes:?}");
-        assert_eq!(rt;
-            output.held(),
-            text.as_bytes(),
-            "pieces of {piece} of {bytes:?}"
-        );
+        same(rt, &(&piece, &bytes), &got, &status);
+        same(rt, &(&piece, &bytes), &output.held(), &text.as_bytes());
     }
     Ok(())
 }
@@ -103,7 +86,7 @@ fn output_of(
     let mut output = MemorySink::new(&mut room, &[], &[]);
     let mut notes = MemorySink::new(&mut [], &[], &[]);
     let got = answer(alloc, words, &mut input, &mut output, &mut notes)?;
-    assert_eq!(rt; got, Status::Done, "{words:?} of {bytes:?}");
+    same(rt, &(&words, &bytes), &got, &Status::Done);
     let mut text = Vec::new(alloc);
     text.extend_from_slice(output.held())?;
     Ok(text)
@@ -162,58 +145,6 @@ fn run_over(
     })
 }
 
-/// Checks what a run answers, writes and notes, with reads of several lengths.
-fn check_run(
-    alloc: Global,
-    rt: &impl Abort,
-    words: &[&str],
-    bytes: &[u8],
-    (status, text, note): (Status, &[u8], &str),
-) -> Result<(), Fail> {
-    for piece in [1, 7, 4096] {
-        let calls = (pieces_of(piece), pieces_of(4096));
-        let got = run_over(alloc, words, bytes, calls, LONG_ROOM)?;
-        assert_eq!(rt; got.status, status, "{words:?} in pieces of {piece}");
-        assert_eq!(rt; got.text.as_slice(), text, "{words:?} in pieces of {piece}");
-        assert_eq!(rt;
-            got.note.as_slice(),
-            note.as_bytes(),
-            "{words:?} in pieces of {piece}"
-        );
-    }
-    Ok(())
-}
-
-/// Checks that each write of one byte that fails leaves the text up to it, and that no other changes anything.
-fn check_writes(
-    alloc: Global,
-    rt: &impl Abort,
-    words: &[&str],
-    bytes: &[u8],
-    text: &[u8],
-) -> Result<(), Fail> {
-    for count in 0..=text.len() {
-        let writes = Calls {
-            piece: 1,
-            failing: count as u64,
-        };
-        let got = run_over(alloc, words, bytes, (pieces_of(4096), writes), LONG_ROOM)?;
-        let (status, note): (Status, &[u8]) = if count < text.len() {
-            (Status::WriteFault, b"write fault\n")
-        } else {
-            (Status::Done, b"")
-        };
-        assert_eq!(rt; got.status, status, "{words:?}, write {count}");
-        assert_eq!(rt;
-            got.text.as_slice(),
-            &text[..count],
-            "{words:?}, write {count}"
-        );
-        assert_eq!(rt; got.note.as_slice(), note, "{words:?}, write {count}");
-    }
-    Ok(())
-}
-
 /// What a run whose read of one byte of this number fails has written. It has noted the fault.
 fn text_before(
     alloc: Global,
@@ -223,11 +154,12 @@ fn text_before(
     reads: Calls,
 ) -> Result<Vec<u8>, Fail> {
     let got = run_over(alloc, words, bytes, (reads, pieces_of(4096)), LONG_ROOM)?;
-    assert_eq!(rt; got.status, Status::ReadFault, "{words:?}, {reads:?}");
-    assert_eq!(rt;
-        got.note.as_slice(),
-        b"read fault\n".as_slice(),
-        "{words:?}, {reads:?}"
+    same(rt, &(&words, &reads), &got.status, &Status::ReadFault);
+    same(
+        rt,
+        &(&words, &reads),
+        &got.note.as_slice(),
+        &(b"read fault\n".as_slice()),
     );
     Ok(got.text)
 }

@@ -7,3 +7,5 @@ pub mod ReadingLaws
 pub mod Feeding
 pub mod Frames
 pub mod Blocks
+pub mod BeforeFaults
+pub mod Resuming

@@ -6,3 +6,4 @@ pub mod Phase
 pub mod Deformatter
 pub mod Frames
 pub mod Block
+pub mod Resume

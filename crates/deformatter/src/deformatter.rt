@@ -25,14 +25,14 @@ pub enum Phase {
 /// Reads the bytes of a port one by one, and keeps only what it needs of the one unfinished frame.
 #[derive(Debug, Drop)]
 pub struct Deformatter {
-    phase: Phase,
-    hunter: Hunter,
+    pub(crate) phase: Phase,
+    pub(crate) hunter: Hunter,
     /// How many bytes are before the pattern that it hunted; before the lock, all bytes so far.
-    skipped: u64,
-    aligner: Aligner,
+    pub(crate) skipped: u64,
+    pub(crate) aligner: Aligner,
     /// The offset of the last byte that ended nothing: that of a halfword's first byte, where one is there.
     first_at: u64,
-    frame: Unfinished,
+    pub(crate) frame: Unfinished,
     id: Option<SourceId>,
     ghost whole: { len_of frame + 2 * left_of aligner ≡ 14 },
     ghost between: { len_of frame ≡ 0 → halves_of frame ≡ 0 },
@@ -77,7 +77,7 @@ impl Deformatter {
     }
 
     /// A deformatter before the first byte.
-    fn new(phase: Phase) -> Deformatter
+    pub(crate) fn new(phase: Phase) -> Deformatter
         ensures phase { result.phase ≡ phase }
         ensures run { run_of result.hunter ≡ 0 }
         ensures skipped { result.skipped ≡ 0 }

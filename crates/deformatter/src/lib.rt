@@ -5,6 +5,7 @@
 mod block;
 mod deformatter;
 pub mod laws;
+mod resume;
 mod step;
 mod unfinished;
 

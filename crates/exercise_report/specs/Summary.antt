@@ -1,6 +1,6 @@
 -- What `exercise` writes: how many items the exercise has and how many bytes its capture, and the summary of what is
 -- left of that.
-use Rattle.std.specs.Prelude.{ℕ, List, ◌++◌, length}
+use Rattle.std.specs.Prelude.{ℕ, List, ◌++◌, length, false}
 use Rattle.trace_stream.specs.Served.{Meaning}
 use Rattle.trace_text.specs.CountText.{exercise_lines}
 use Rattle.capture_report.specs.Faulty as readings
@@ -21,7 +21,7 @@ exercise_ending p bytes = exercise_lines p.items p.capture ++ summary p.plan byt
 
 -- all that `exercise` makes of the bytes that it reads
 abbrev pub exercise_meaning : ExercisePlan → Meaning
-exercise_meaning p = record { faulty = IsFaulty p; text = exercise_text p; ending = exercise_ending p }
+exercise_meaning p = record { faulty = IsFaulty p; text = exercise_text p; ending = exercise_ending p; due = false }
 
 -- what it writes for this many items where this many bytes of the capture's front are lost
 abbrev pub exercise_summary : ℕ → ℕ → List ℕ

@@ -38,6 +38,7 @@ impl Exercise {
 }
 
 impl Action for Exercise {
+    ghost use Rattle.std.specs.Prelude.{false};
     ghost use Rattle.exercise_report.specs.declared.plans.ExercisePlan.{ExercisePlan};
     ghost use Rattle.exercise_report.specs.Summary.{IsFaulty, exercise_text, exercise_ending};
     ghost use Rattle.exercise_report.specs.SummaryLaws.{none_at_first, nothing_at_first, faulty_stays, text_stays};
@@ -60,6 +61,8 @@ impl Action for Exercise {
 
     ghost ending = { exercise_ending };
 
+    ghost due = { λ _. false };
+
     ghost never_at_first = { none_at_first };
 
     ghost nothing_at_first = { nothing_at_first };
@@ -79,5 +82,9 @@ impl Action for Exercise {
     fn finish(&self, outlet: &mut Outlet) {
         outlet.put(&self.lines);
         self.check.put_summary(outlet);
+    }
+
+    fn is_due(&self) -> bool {
+        false
     }
 }

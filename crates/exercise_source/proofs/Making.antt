@@ -43,8 +43,8 @@ front items n le =
     let same : script_bytes exercise_plan (exercise_lines items) ≡ t ++ u =
     ap (λ (l : List Tagged). l ++ ends) (ap (put_of Msn) (lines_begin items n le) ∙ put_after_append Msn [] lines more)
     ∙ append_assoc t (put_after Msn lines more) ends in
-    let whole = sure_begins 64 0 (t ++ u) (omega arith) in
-    let grown = sure_grows 64 0 t u in (
+    let whole = sure_begins 64 0 [] (t ++ u) (omega arith) in
+    let grown = sure_grows 64 0 [] t u in (
       grown.0 ++ whole.0,
       ap (capture 64 0) same ∙ whole.1 ∙ ap (λ (l : List ℕ). l ++ whole.0) grown.1
           ∙ append_assoc (so_far n) grown.0 whole.0,

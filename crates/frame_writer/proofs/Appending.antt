@@ -2,7 +2,7 @@
 use Rattle.std.proofs.Common.{◌≡◌, ℕ, ◌+◌, ◌<◌, List, [], ◌∷◌, ◌++◌, sym, ◌∙◌, ap, arith, subst, append_assoc, append-nil, length, take, get_or}
 use Rattle.std.proofs.lemmas.List.{take_more, map-append}
 use Rattle.frame_writer.specs.Written.{Tagged}
-use Rattle.frame_writer.specs.Fronts.{sure}
+use Rattle.frame_writer.specs.Fronts.{sure_after}
 use Rattle.frame_writer.specs.Sure.{IsSure, Appends, of_one}
 use Rattle.frame_writer.specs.declared.sure.SureWriter.{SureWriter}
 
@@ -10,20 +10,20 @@ pub appends_none : (w : SureWriter) (out : List ℕ) → Appends w w [] out out
 appends_none w out = record {
   more = [];
   appended = sym (append-nil out);
-  list = λ every halves t s. subst (IsSure w every halves) (sym (append-nil t)) s;
-  grown = λ every halves t s. ap (sure every halves) (append-nil t) ∙ sym (append-nil (sure every halves t));
+  list = λ every halves closed t s. subst (IsSure w every halves closed) (sym (append-nil t)) s;
+  grown = λ every halves closed t s. ap (sure_after every halves closed) (append-nil t) ∙ sym (append-nil (sure_after every halves closed t));
 }
 
 appends_join : (a b c : SureWriter) (t u : List Tagged) (first mid last : List ℕ) → Appends a b t first mid → Appends b c u mid last → Appends a c (t ++ u) first last
 appends_join a b c t u first mid last one two = record {
   more = one.more ++ two.more;
   appended = two.appended ∙ ap (λ (l : List ℕ). l ++ two.more) one.appended ∙ append_assoc first one.more two.more;
-  list = λ every halves s k. subst (IsSure c every halves) (append_assoc s t u) (two.list every halves (s ++ t) (one.list every halves s k));
-  grown = λ every halves s k.
-      ap (sure every halves) (sym (append_assoc s t u))
-      ∙ two.grown every halves (s ++ t) (one.list every halves s k)
-      ∙ ap (λ (l : List ℕ). l ++ two.more) (one.grown every halves s k)
-      ∙ append_assoc (sure every halves s) one.more two.more;
+  list = λ every halves closed s k. subst (IsSure c every halves closed) (append_assoc s t u) (two.list every halves closed (s ++ t) (one.list every halves closed s k));
+  grown = λ every halves closed s k.
+      ap (sure_after every halves closed) (sym (append_assoc s t u))
+      ∙ two.grown every halves closed (s ++ t) (one.list every halves closed s k)
+      ∙ ap (λ (l : List ℕ). l ++ two.more) (one.grown every halves closed s k)
+      ∙ append_assoc (sure_after every halves closed s) one.more two.more;
 }
 
 pub appends_same : (a b b' : SureWriter) (t : List Tagged) (first mid mid' : List ℕ) → b' ≡ b → mid' ≡ mid → Appends a b t first mid → Appends a b' t first mid'

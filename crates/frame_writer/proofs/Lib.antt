@@ -1,4 +1,5 @@
 pub mod Frames
+pub mod Segments
 pub mod Bytes
 pub mod Law
 pub mod Standing

@@ -4,7 +4,7 @@ use Rattle.std.specs.Prelude.{◌==◌, not}
 use Rattle.std.specs.List.{All, concat, filter}
 use Rattle.std.proofs.lemmas.Bool.Decides.{nat_tests}
 use Rattle.std.proofs.lemmas.List.{map-append, replicate-append-replicate}
-use Rattle.std.proofs.lemmas.List.Elements.{All-nil, All-cons, All-head, All-tail}
+use Rattle.std.proofs.lemmas.List.Elements.{All-nil, All-cons, All-head, All-tail, filter-append}
 use Rattle.trace_values.specs.declared.cell.Cell.{Cell}
 use Rattle.trace_values.specs.Placed.{Place, Placed, units_of, byte_at, placed_from, placed}
 use Rattle.trace_values.specs.Reading.{Progress, progress_from, advance}
@@ -15,7 +15,7 @@ use Rattle.frame_grammar.specs.Port.{PortItem, Full, Frame, half_spelling, IsWor
 use Rattle.frame_grammar.specs.Reading.{port_progress, port_cells, cells_of_items, id_of_items, item_cells, item_id, offsets_of, is_source}
 use Rattle.frame_grammar.proofs.Deciding.{port_decided}
 use Rattle.frame_writer.specs.declared.pair.Pair.{Pair}
-use Rattle.frame_writer.specs.Written.{Tagged, first, after_first, is_id, paired, Paired, Closed, Filled, filled, spread, aux_byte, sync, is_due, known, frame_bytes, frames_by, capture}
+use Rattle.frame_writer.specs.Written.{Tagged, first, after_first, is_id, paired, Paired, Closed, Filled, filled, spread, aux_byte, sync, is_due, known, frame_bytes, frames_by, Later, none_later, segments_then, joined, written_segments, capture}
 use Rattle.port_reader.specs.Reading.{cells_of}
 use Rattle.port_reader.proofs.Grammar.{aligned_cells}
 use Rattle.frame_writer.specs.ReadBack.{IsOfSource, seen, as_seen, source_cells, read_back, ReadsBack}
@@ -222,13 +222,6 @@ synced : (u : List Placed) (m : ℕ) (id : Option ℕ) (b : Bool) → Clean u id
 synced u m id true c = let a = adds u (byte_at m 255) (placed_from (m + 1) (255 ∷ (255 ∷ (127 ∷ [])))) id Full c refl in (a.0, a.1 ∙ append-nil (port_cells u))
 synced u m id false c = (subst (λ (l : List Placed). Clean l id) (sym (append-nil u)) c, ap port_cells (append-nil u))
 
--- what the reading grew by: the tagged bytes and null bytes after them
-record Grown (u v : List Placed) (t : List Tagged) : Type 0 where
-  nulls : ℕ
-  id : Option ℕ
-  clean : Clean v id
-  cells : map seen (port_cells v) ≡ map seen (port_cells u) ++ map as_seen (t ++ replicate nulls null)
-
 knows_start : (b : Bool) (c id : Option ℕ) → Knows c id → Knows (cond b None c) id
 knows_start true c id k = tt
 knows_start false c id k = k
@@ -280,6 +273,35 @@ attributed (c ∷ cs) (x ∷ ts) e =
     let h : c.id ≡ Some x.id = ap (λ (s : Option ℕ × ℕ). s.0) p.0 in
     All-cons (λ (d : Cell). d.id ≢ None) c cs (λ z. (let k : Some x.id ≡ None = sym h ∙ z in cc)) (attributed cs ts p.1)
 
+-- what the reading grew by: bytes of which those of IDs other than 0 are these
+record Grown (u v : List Placed) (t : List Tagged) : Type 0 where
+  taken : List Tagged
+  id : Option ℕ
+  clean : Clean v id
+  cells : map seen (port_cells v) ≡ map seen (port_cells u) ++ map as_seen taken
+  source : filter is_kept (map as_seen taken) ≡ map as_seen t
+
+-- the bytes t and null bytes after them, and then others
+record GrownBy (u v : List Placed) (t s : List Tagged) : Type 0 where
+  nulls : ℕ
+  more : List Tagged
+  id : Option ℕ
+  clean : Clean v id
+  cells : map seen (port_cells v) ≡ map seen (port_cells u) ++ map as_seen ((t ++ replicate nulls null) ++ more)
+  source : filter is_kept (map as_seen more) ≡ map as_seen s
+
+as_grown : (u v : List Placed) (t s : List Tagged) → All IsOfSource t → GrownBy u v t s → Grown u v (t ++ s)
+as_grown u v t s a g =
+    let both = map-append as_seen (t ++ replicate g.nulls null) g.more in record {
+      taken = (t ++ replicate g.nulls null) ++ g.more;
+      id = g.id;
+      clean = g.clean;
+      cells = g.cells;
+      source = ap (filter is_kept) both ∙ filter-append is_kept (map as_seen (t ++ replicate g.nulls null)) (map as_seen g.more)
+          ∙ ap (λ (l : List (Option ℕ × ℕ)). l ++ filter is_kept (map as_seen g.more)) (kept t g.nulls a)
+          ∙ ap (λ (l : List (Option ℕ × ℕ)). map as_seen t ++ l) g.source ∙ sym (map-append as_seen t s);
+    }
+
 module _ (every halves : ℕ) where
   -- one frame
   record Framed (u : List Placed) (m n : ℕ) (c : Option ℕ) (t : List Tagged) : Type 0 where
@@ -320,47 +342,69 @@ module _ (every halves : ℕ) where
         ids = law.ids;
       }
 
-  law_by : (k m n : ℕ) (u : List Placed) (c id : Option ℕ) (t : List Tagged) → length t ≤ k → Clean u id → Knows c id → AllIds t → Grown u (u ++ placed_from m (concat (frames_by every halves k n c t))) t
-  law_by k m n u c id [] l cl kn a =
-      let e : u ≡ u ++ placed_from m (concat (frames_by every halves k n c [])) = sym (append-nil u) ∙ ap (λ (w : List (List ℕ)). u ++ placed_from m (concat w)) (sym (by_nothing every halves k n c)) in
-      subst (λ (v : List Placed). Grown u v []) e (record { nulls = 0; id = id; clean = cl; cells = sym (append-nil (map seen (port_cells u))) })
-  law_by zero m n u c id (x ∷ t) l cl kn a = absurd (omega arith)
-  law_by (suc k) m n u c id (x ∷ t) l cl kn a =
+  -- what the later frames are
+  abbrev LaterLaw : Later → List Tagged → Type 0
+  LaterLaw later s = (m n : ℕ) (u : List Placed) (c id : Option ℕ) → Clean u id → Knows c id → Grown u (u ++ placed_from m (concat (later n c))) s
+
+  law_by : (later : Later) (s : List Tagged) → LaterLaw later s → (k m n : ℕ) (u : List Placed) (c id : Option ℕ) (t : List Tagged) → length t ≤ k → Clean u id → Knows c id → AllIds t →
+      GrownBy u (u ++ placed_from m (concat (frames_by every halves later k n c t))) t s
+  law_by later s h k m n u c id [] l cl kn a =
+      let g = h m n u c id cl kn in
+      subst (λ (w : List (List ℕ)). GrownBy u (u ++ placed_from m (concat w)) [] s) (sym (by_nothing every halves later k n c))
+      (record { nulls = 0; more = g.taken; id = g.id; clean = g.clean; cells = g.cells; source = g.source })
+  law_by later s h zero m n u c id (x ∷ t) l cl kn a = absurd (omega arith)
+  law_by later s h (suc k) m n u c id (x ∷ t) l cl kn a =
       let f = filled 7 (known every n c) (x ∷ t) in
       let w = frame_bytes every halves n f.pairs f.end.even f.end.aux in
       let fr = framed u m n c id (x ∷ t) cl kn a in
       let less = filled_less 6 (known every n c) x t in
-      let more = law_by k (m + length w) (n + 1) (u ++ placed_from m w) f.end.id fr.id f.end.rest (omega arith) fr.clean fr.knows fr.ids in
-      let later = concat (frames_by every halves k (n + 1) f.end.id f.end.rest) in
-      let parts : (u ++ placed_from m w) ++ placed_from (m + length w) later ≡ u ++ placed_from m (concat (frames_by every halves (suc k) n c (x ∷ t))) =
-      append_assoc u (placed_from m w) (placed_from (m + length w) later) ∙ ap (λ (q : List Placed). u ++ q) (sym (placed_from_append m w later) ∙ ap (λ (q : List (List ℕ)). placed_from m (concat q)) (sym (by_some every halves k n c x t))) in
-      subst (λ (v : List Placed). Grown u v (x ∷ t)) parts
+      let more = law_by later s h k (m + length w) (n + 1) (u ++ placed_from m w) f.end.id fr.id f.end.rest (omega arith) fr.clean fr.knows fr.ids in
+      let after = concat (frames_by every halves later k (n + 1) f.end.id f.end.rest) in
+      let parts : (u ++ placed_from m w) ++ placed_from (m + length w) after ≡ u ++ placed_from m (concat (frames_by every halves later (suc k) n c (x ∷ t))) =
+      append_assoc u (placed_from m w) (placed_from (m + length w) after) ∙ ap (λ (q : List Placed). u ++ q) (sym (placed_from_append m w after) ∙ ap (λ (q : List (List ℕ)). placed_from m (concat q)) (sym (by_some every halves later k n c x t))) in
+      subst (λ (v : List Placed). GrownBy u v (x ∷ t) s) parts
       (record {
         nulls = fr.nulls + more.nulls;
+        more = more.more;
         id = more.id;
         clean = more.clean;
-        cells = more.cells ∙ ap (λ (q : List (Option ℕ × ℕ)). q ++ map as_seen (f.end.rest ++ replicate more.nulls null)) fr.cells
-            ∙ append_assoc (map seen (port_cells u)) (map as_seen fr.taken) (map as_seen (f.end.rest ++ replicate more.nulls null))
-            ∙ ap (λ (q : List (Option ℕ × ℕ)). map seen (port_cells u) ++ q) (sym (map-append as_seen fr.taken (f.end.rest ++ replicate more.nulls null))
-            ∙ ap (map as_seen) (sym (append_assoc fr.taken f.end.rest (replicate more.nulls null)) ∙ ap (λ (q : List Tagged). q ++ replicate more.nulls null) fr.bytes
-            ∙ append_assoc (x ∷ t) (replicate fr.nulls null) (replicate more.nulls null) ∙ ap (λ (q : List Tagged). (x ∷ t) ++ q) (replicate-append-replicate fr.nulls more.nulls null)));
+        cells = more.cells ∙ ap (λ (q : List (Option ℕ × ℕ)). q ++ map as_seen ((f.end.rest ++ replicate more.nulls null) ++ more.more)) fr.cells
+            ∙ append_assoc (map seen (port_cells u)) (map as_seen fr.taken) (map as_seen ((f.end.rest ++ replicate more.nulls null) ++ more.more))
+            ∙ ap (λ (q : List (Option ℕ × ℕ)). map seen (port_cells u) ++ q) (sym (map-append as_seen fr.taken ((f.end.rest ++ replicate more.nulls null) ++ more.more))
+            ∙ ap (map as_seen) (sym (append_assoc fr.taken (f.end.rest ++ replicate more.nulls null) more.more) ∙ ap (λ (q : List Tagged). q ++ more.more)
+            (sym (append_assoc fr.taken f.end.rest (replicate more.nulls null)) ∙ ap (λ (q : List Tagged). q ++ replicate more.nulls null) fr.bytes
+            ∙ append_assoc (x ∷ t) (replicate fr.nulls null) (replicate more.nulls null) ∙ ap (λ (q : List Tagged). (x ∷ t) ++ q) (replicate-append-replicate fr.nulls more.nulls null))));
+        source = more.source;
       })
 
-  grown : (t : List Tagged) → AllIds t → Grown [] (placed (capture every halves t)) t
-  grown t a = law_by (length t) 0 0 [] None None t (omega arith) (record { items = []; reads = refl; id_is = refl }) tt a
+  segments_law : (segments : List (List Tagged)) → All (λ t. All IsOfSource t) segments → LaterLaw (λ n c. segments_then every halves none_later segments n c) (joined segments)
+  segments_law [] a m n u c id cl kn =
+      subst (λ (v : List Placed). Grown u v []) (sym (append-nil u)) (record { taken = []; id = id; clean = cl; cells = sym (append-nil (map seen (port_cells u))); source = refl })
+  segments_law (t ∷ segments) a m n u c id cl kn =
+      let one = All-head (λ t. All IsOfSource t) t segments a in
+      as_grown u (u ++ placed_from m (concat (segments_then every halves none_later (t ∷ segments) n c))) t (joined segments) one
+      (law_by (λ n c. segments_then every halves none_later segments n c) (joined segments) (segments_law segments (All-tail (λ t. All IsOfSource t) t segments a))
+      (length t) m n u c id t (omega arith) cl kn (all_ids t one))
 
-  -- the cells are the tagged bytes and null bytes after them
-  written : (t : List Tagged) → All IsOfSource t → Grown [] (placed (capture every halves t)) t → ReadsBack every halves t
-  written t a g = record {
-    no_fault = ap (λ (q : Progress State PortItem). q.fault) g.clean.reads;
-    no_tail = ap (λ (q : Progress State PortItem). length q.rest) g.clean.reads;
-    attributed = subst (λ (l : List Cell). All (λ (c : Cell). c.id ≢ None) l) (sym read_cells) (attributed (port_cells (placed (capture every halves t))) (t ++ replicate g.nulls null) g.cells);
-    cells = ap (λ (l : List Cell). map seen (source_cells l)) read_cells
-        ∙ filter_seen (port_cells (placed (capture every halves t))) ∙ ap (filter is_kept) g.cells ∙ kept t g.nulls a;
-  } where
-    -- the cells of the frames are the grammar's
-    read_cells : cells_of (read_back every halves t) ≡ port_cells (placed (capture every halves t))
-    read_cells = aligned_cells (placed (capture every halves t))
+-- the cells are the tagged bytes and null bytes among them
+written : (bytes : List ℕ) (t : List Tagged) → Grown [] (placed bytes) t → ReadsBack bytes t
+written bytes t g = record {
+  no_fault = ap (λ (q : Progress State PortItem). q.fault) g.clean.reads;
+  no_tail = ap (λ (q : Progress State PortItem). length q.rest) g.clean.reads;
+  attributed = subst (λ (l : List Cell). All (λ (c : Cell). c.id ≢ None) l) (sym read_cells) (attributed (port_cells (placed bytes)) g.taken g.cells);
+  cells = ap (λ (l : List Cell). map seen (source_cells l)) read_cells
+      ∙ filter_seen (port_cells (placed bytes)) ∙ ap (filter is_kept) g.cells ∙ g.source;
+} where
+  -- the cells of the frames are the grammar's
+  read_cells : cells_of (read_back bytes) ≡ port_cells (placed bytes)
+  read_cells = aligned_cells (placed bytes)
 
-  pub written_reads : (t : List Tagged) → All IsOfSource t → ReadsBack every halves t
-  written_reads t a = written t a (grown t (all_ids t a))
+pub written_reads : (every halves : ℕ) (segments : List (List Tagged)) → All (λ t. All IsOfSource t) segments → ReadsBack (written_segments every halves segments) (joined segments)
+written_reads every halves segments a =
+    written (written_segments every halves segments) (joined segments)
+    (segments_law every halves segments a 0 0 [] None None (record { items = []; reads = refl; id_is = refl }) tt)
+
+-- the same of one segment
+pub capture_reads : (every halves : ℕ) (t : List Tagged) → All IsOfSource t → ReadsBack (capture every halves t) t
+capture_reads every halves t a =
+    subst (λ (l : List Tagged). ReadsBack (capture every halves t) l) (append-nil t) (written_reads every halves (t ∷ []) (All-cons (λ t. All IsOfSource t) t [] a (All-nil (λ t. All IsOfSource t))))

@@ -6,35 +6,46 @@ use Rattle.std.proofs.lemmas.Bool.Decides.{nat_tests}
 use Rattle.frame_grammar.specs.Port.{half_spelling}
 use Rattle.frame_writer.specs.declared.pair.Pair.{Pair}
 use Rattle.frame_writer.specs.declared.writer.FrameWriter.{FrameWriter}
-use Rattle.frame_writer.specs.Written.{Tagged, filled, spread, aux_byte, sync, is_due, known, frame_bytes, frames_by, frames_from, frames}
+use Rattle.frame_writer.specs.Written.{Tagged, Later, none_later, filled, spread, aux_byte, sync, is_due, known, frame_bytes, frames_by, frames_from, joined, segments_then}
 use Rattle.frame_writer.specs.Unfinished.{middle, continued, is_sound}
 use Rattle.frame_writer.specs.Writer.{to_come, appended, Stands}
 use Rattle.frame_writer.proofs.Frames.{filled_fewer, filled_less, by_nothing, by_some, opens, nothing}
 use Rattle.frame_writer.proofs.Law.{filled_length}
+use Rattle.frame_writer.proofs.Standing.{frames_now}
 
-pub no_frames : (every halves n : ℕ) (c : Option ℕ) (t : List Tagged) → frames_by every halves zero n c t ≡ []
+pub no_frames : (every halves : ℕ) (later : Later) (n : ℕ) (c : Option ℕ) (t : List Tagged) → frames_by every halves later zero n c t ≡ later n c
 unfolding frames_by
-no_frames every halves n c t = refl
-
-none_within : (every halves n : ℕ) (c : Option ℕ) (t : List Tagged) → length (frames_by every halves zero n c t) ≤ zero
-unfolding frames_by
-none_within every halves n c t = omega arith
+no_frames every halves later n c t = refl
 
 -- each frame takes a byte
-pub few_frames : (every halves k n : ℕ) (c : Option ℕ) (t : List Tagged) → length (frames_by every halves k n c t) ≤ k
-few_frames every halves k n c [] = let e = ap length (by_nothing every halves k n c) in omega arith
-few_frames every halves zero n c (x ∷ t) = none_within every halves n c (x ∷ t)
-few_frames every halves (suc k) n c (x ∷ t) =
+few_frames : (every halves : ℕ) (later : Later) (few : ℕ) → ((n : ℕ) (c : Option ℕ) → length (later n c) ≤ few) →
+    (k n : ℕ) (c : Option ℕ) (t : List Tagged) → length (frames_by every halves later k n c t) ≤ k + few
+few_frames every halves later few h k n c [] = let e = ap length (by_nothing every halves later k n c) in let m = h n c in omega arith
+few_frames every halves later few h zero n c (x ∷ t) = let e = ap length (no_frames every halves later n c (x ∷ t)) in let m = h n c in omega arith
+few_frames every halves later few h (suc k) n c (x ∷ t) =
     let f = filled 7 (known every n c) (x ∷ t) in
-    let e = ap length (by_some every halves k n c x t) in
-    let m = few_frames every halves k (n + 1) f.end.id f.end.rest in omega arith
+    let e = ap length (by_some every halves later k n c x t) in
+    let m = few_frames every halves later few h k (n + 1) f.end.id f.end.rest in omega arith
 
-pub appended_few : (w : FrameWriter) (every halves : ℕ) (t : List Tagged) (so_far : List ℕ) → Stands w every halves t so_far → appended w ≤ length t
-appended_few w every halves t so_far s =
-    let all : frames every halves t ≡ s.done ++ to_come w [] = ap (frames every halves) (sym (append-nil t)) ∙ s.completes [] in
-    let few = few_frames every halves (length t) 0 None t in
-    let a = ap length all in
-    let b = length-append s.done (to_come w []) in
+few_segments : (every halves : ℕ) (segments : List (List Tagged)) (n : ℕ) (c : Option ℕ) → length (segments_then every halves none_later segments n c) ≤ length (joined segments)
+few_segments every halves [] n c = omega arith
+few_segments every halves (t ∷ segments) n c =
+    let m = few_frames every halves (λ n c. segments_then every halves none_later segments n c) (length (joined segments)) (λ n c. few_segments every halves segments n c) (length t) n c t in
+    let a = length-append t (joined segments) in omega arith
+
+joined_more : (closed : List (List Tagged)) (t : List Tagged) → length (joined (closed ++ t ∷ [])) ≡ length (joined closed) + length t
+joined_more [] t = let e = ap length (append-nil t) in omega arith
+joined_more (s ∷ closed) t =
+    let a = length-append s (joined (closed ++ t ∷ [])) in
+    let b = length-append s (joined closed) in
+    let k = joined_more closed t in omega arith
+
+pub appended_few : (w : FrameWriter) (every halves : ℕ) (closed : List (List Tagged)) (t : List Tagged) (so_far : List ℕ) → Stands w every halves closed t so_far → appended w ≤ length (joined closed) + length t
+appended_few w every halves closed t so_far s =
+    let few = few_segments every halves (closed ++ t ∷ []) 0 None in
+    let a = ap length (frames_now w every halves closed t so_far s) in
+    let b = length-append s.done (to_come w [] []) in
+    let e = joined_more closed t in
     let k = s.count in omega arith
 
 -- the bytes of a frame
@@ -75,24 +86,24 @@ no_rest [] h = refl
 no_rest (x ∷ t) h = absurd (omega arith)
 
 module _ (every halves n : ℕ) (few : halves ≤ 8) where
-  middle_short : (pairs : List Pair) (c : Option ℕ) (t : List Tagged) → length pairs ≤ 7 → length (filled (7 - length pairs) c t).end.rest ≤ 0 → IsShort (middle every halves n pairs c t)
+  middle_short : (pairs : List Pair) (c : Option ℕ) (t : List Tagged) → length pairs ≤ 7 → length (filled (7 - length pairs) c t).end.rest ≤ 0 → IsShort (middle every halves none_later n pairs c t)
   middle_short pairs c t h k =
       let f = filled (7 - length pairs) c t in
       let a = length-append pairs f.pairs in
       let b = filled_length (7 - length pairs) c t in (
         frame_size every halves n (pairs ++ f.pairs) f.end.even f.end.aux few (omega arith),
-        ap (λ (l : List Tagged). frames_from every halves (n + 1) f.end.id l) (no_rest f.end.rest k) ∙ nothing every halves (n + 1) f.end.id,
+        ap (λ (l : List Tagged). frames_from every halves none_later (n + 1) f.end.id l) (no_rest f.end.rest k) ∙ nothing every halves none_later (n + 1) f.end.id,
       )
 
-  first_short : (c : Option ℕ) (x : Tagged) → IsShort (frames_from every halves n c (x ∷ []))
-  first_short c x = subst IsShort (sym (opens every halves n c x [])) (middle_short [] (known every n c) (x ∷ []) (omega arith) (filled_less 6 (known every n c) x []))
+  first_short : (c : Option ℕ) (x : Tagged) → IsShort (frames_from every halves none_later n c (x ∷ []))
+  first_short c x = subst IsShort (sym (opens every halves none_later n c x [])) (middle_short [] (known every n c) (x ∷ []) (omega arith) (filled_less 6 (known every n c) x []))
 
   room_in_pairs : (pairs : List Pair) (i b : ℕ) → is_sound every n pairs (Some i) (Some b) ≡ true → length pairs < 7
   room_in_pairs pairs i b e = tests (length pairs) (nat_lt 0 i) _ e where
     tests : (l : ℕ) (a d : Bool) → ((a && nat_lt l 7) && d) ≡ true → l < 7
     tests l a d e = grind (arith, nat_tests)
 
-  begun_short : (p : Pair) (pairs : List Pair) (c : Option ℕ) (held : Option ℕ) → length (p ∷ pairs) ≤ 7 → is_sound every n (p ∷ pairs) c held ≡ true → IsShort (continued every halves n (p ∷ pairs) c held [])
+  begun_short : (p : Pair) (pairs : List Pair) (c : Option ℕ) (held : Option ℕ) → length (p ∷ pairs) ≤ 7 → is_sound every n (p ∷ pairs) c held ≡ true → IsShort (continued every halves none_later n (p ∷ pairs) c held [])
   begun_short p pairs c None h e = middle_short (p ∷ pairs) c [] h (filled_fewer (7 - length (p ∷ pairs)) c [])
   begun_short p pairs None (Some b) h e = middle_short (p ∷ pairs) None [] h (filled_fewer (7 - length (p ∷ pairs)) None [])
   begun_short p pairs (Some i) (Some b) h e =
@@ -101,11 +112,11 @@ module _ (every halves n : ℕ) (few : halves ≤ 8) where
       let m : 7 - length (p ∷ pairs) ≡ suc (6 - length (p ∷ pairs)) = omega arith in
       middle_short (p ∷ pairs) (Some i) (x ∷ []) h (subst (λ (r : ℕ). length (filled r (Some i) (x ∷ [])).end.rest ≤ 0) (sym m) (filled_less (6 - length (p ∷ pairs)) (Some i) x []))
 
-  short : (pairs : List Pair) (c held : Option ℕ) → length pairs ≤ 7 → is_sound every n pairs c held ≡ true → IsShort (continued every halves n pairs c held [])
-  short [] c None h e = subst IsShort (sym (nothing every halves n c)) tt
-  short [] None (Some b) h e = subst IsShort (sym (nothing every halves n None)) tt
+  short : (pairs : List Pair) (c held : Option ℕ) → length pairs ≤ 7 → is_sound every n pairs c held ≡ true → IsShort (continued every halves none_later n pairs c held [])
+  short [] c None h e = subst IsShort (sym (nothing every halves none_later n c)) tt
+  short [] None (Some b) h e = subst IsShort (sym (nothing every halves none_later n None)) tt
   short [] (Some i) (Some b) h e = first_short (Some i) (record { id = i; byte = b })
   short (p ∷ pairs) c held h e = begun_short p pairs c held h e
 
-pub little_to_come : (w : FrameWriter) → length (concat (to_come w [])) ≤ 132
-little_to_come w = short_bytes (to_come w []) (short w.every w.halves w.frames w.few w.pairs.items w.id w.held w.fits w.sound)
+pub little_to_come : (w : FrameWriter) → length (concat (to_come w [] [])) ≤ 132
+little_to_come w = short_bytes (to_come w [] []) (short w.every w.halves w.frames w.few w.pairs.items w.id w.held w.fits w.sound)

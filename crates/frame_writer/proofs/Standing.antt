@@ -4,7 +4,7 @@ use Rattle.std.specs.List.{concat}
 use Rattle.std.proofs.lemmas.List.Folds.{concat-append}
 use Rattle.frame_writer.specs.declared.pair.Pair.{Pair}
 use Rattle.frame_writer.specs.declared.writer.FrameWriter.{FrameWriter}
-use Rattle.frame_writer.specs.Written.{Tagged, frames, capture, frame_bytes, sync, spread, aux_byte}
+use Rattle.frame_writer.specs.Written.{Tagged, segment_frames, written_segments, frame_bytes, sync, spread, aux_byte}
 use Rattle.frame_writer.specs.Writer.{to_come, appended, as_frame, Stands}
 
 one_frame : (a b l : List ℕ) (x : ℕ) → as_frame (a ++ (b ++ (x ∷ l))) ≡ (a ++ (b ++ (x ∷ l))) ∷ []
@@ -38,47 +38,77 @@ nothing_before out x y e f = f ∙ ap (λ (l : List ℕ). as_frame l ++ y) (sym 
 pub none_more : (out : List ℕ) (m : ℕ) → out ≡ [] → m ≡ m + length (as_frame out)
 none_more out m e = (let k : m ≡ m + 0 = omega arith in k) ∙ ap (λ (l : List ℕ). m + length (as_frame l)) (sym e)
 
-as_bytes : (out : List ℕ) → out ≡ concat (as_frame out)
+pub as_bytes : (out : List ℕ) → out ≡ concat (as_frame out)
 as_bytes [] = refl
 as_bytes (b ∷ out) = sym (append-nil (b ∷ out))
 
-pub stands_fresh : (w : FrameWriter) (every halves : ℕ) → appended w ≡ 0 → ((t : List Tagged) → to_come w t ≡ frames every halves t) → Stands w every halves [] []
-stands_fresh w every halves e f = record { done = []; bytes = refl; count = e; completes = λ u. sym (f u) }
+pub stands_fresh : (w : FrameWriter) (every halves : ℕ) → appended w ≡ 0 → ((t : List Tagged) (later : List (List Tagged)) → to_come w t later ≡ segment_frames every halves (t ∷ later)) →
+    Stands w every halves [] [] []
+stands_fresh w every halves e f = record { done = []; bytes = refl; count = e; completes = λ u later. sym (f u later) }
 
--- the same after more bytes were put, which completed one frame at most
-pub stands_puts : (w v : FrameWriter) (every halves : ℕ) (xs : List Tagged) (out so_far : List ℕ) (t : List Tagged) →
-    ((u : List Tagged) → to_come w (xs ++ u) ≡ as_frame out ++ to_come v u) → appended v ≡ appended w + length (as_frame out) →
-    Stands w every halves t so_far → Stands v every halves (t ++ xs) (so_far ++ out)
-stands_puts w v every halves xs out so_far t p q s = record {
-  done = s.done ++ as_frame out;
-  bytes = ap (λ (l : List ℕ). l ++ out) s.bytes ∙ ap (λ (l : List ℕ). concat s.done ++ l) (as_bytes out) ∙ sym (concat-append s.done (as_frame out));
-  count = q ∙ ap (λ (n : ℕ). n + length (as_frame out)) s.count ∙ sym (length-append s.done (as_frame out));
-  completes = λ u. (ap (frames every halves) (append_assoc t xs u) ∙ s.completes (xs ++ u) ∙ ap (λ (l : List (List ℕ)). s.done ++ l) (p u)
-      ∙ sym (append_assoc s.done (as_frame out) (to_come v u)));
+-- the same of segments that go on from others, where one frame at most was completed
+stands_on : (v : FrameWriter) (every halves : ℕ) (closed : List (List Tagged)) (t : List Tagged) (out so_far : List ℕ)
+    (done : List (List ℕ)) (count : ℕ) → so_far ≡ concat done → count ≡ length done →
+    appended v ≡ count + length (as_frame out) →
+    ((u : List Tagged) (later : List (List Tagged)) → segment_frames every halves (closed ++ ((t ++ u) ∷ later))
+    ≡ done ++ (as_frame out ++ to_come v u later)) →
+    Stands v every halves closed t (so_far ++ out)
+stands_on v every halves closed t out so_far done count b e q p = record {
+  done = done ++ as_frame out;
+  bytes = ap (λ (l : List ℕ). l ++ out) b ∙ ap (λ (l : List ℕ). concat done ++ l) (as_bytes out)
+      ∙ sym (concat-append done (as_frame out));
+  count = q ∙ ap (λ (n : ℕ). n + length (as_frame out)) e ∙ sym (length-append done (as_frame out));
+  completes = λ u later. (p u later ∙ sym (append_assoc done (as_frame out) (to_come v u later)));
 }
 
-pub stands_put : (w v : FrameWriter) (every halves : ℕ) (x : Tagged) (out so_far : List ℕ) (t : List Tagged) →
-    ((u : List Tagged) → to_come w (x ∷ u) ≡ as_frame out ++ to_come v u) → appended v ≡ appended w + length (as_frame out) →
-    Stands w every halves t so_far → Stands v every halves (t ++ x ∷ []) (so_far ++ out)
-stands_put w v every halves x out so_far t p q s = stands_puts w v every halves (x ∷ []) out so_far t p q s
+module _ (w v : FrameWriter) (every halves : ℕ) (closed : List (List Tagged)) where
+  -- after more bytes were put
+  pub stands_puts : (xs : List Tagged) (out so_far : List ℕ) (t : List Tagged) →
+      ((u : List Tagged) (later : List (List Tagged)) → to_come w (xs ++ u) later ≡ as_frame out ++ to_come v u later) →
+      appended v ≡ appended w + length (as_frame out) →
+      Stands w every halves closed t so_far → Stands v every halves closed (t ++ xs) (so_far ++ out)
+  stands_puts xs out so_far t p q s =
+      stands_on v every halves closed (t ++ xs) out so_far s.done (appended w) s.bytes s.count q
+      (λ u later. ap (λ (l : List Tagged). segment_frames every halves (closed ++ (l ∷ later))) (append_assoc t xs u)
+      ∙ s.completes (xs ++ u) later ∙ ap (λ (l : List (List ℕ)). s.done ++ l) (p u later))
 
--- what is written so far, and what is still to come
-pub stands_front : (w : FrameWriter) (every halves : ℕ) (t u : List Tagged) (so_far : List ℕ) → Stands w every halves t so_far →
-    capture every halves (t ++ u) ≡ so_far ++ concat (to_come w u)
-stands_front w every halves t u so_far s =
-    ap concat (s.completes u) ∙ concat-append s.done (to_come w u) ∙ ap (λ (l : List ℕ). l ++ concat (to_come w u)) (sym s.bytes)
+  pub stands_put : (x : Tagged) (out so_far : List ℕ) (t : List Tagged) →
+      ((u : List Tagged) (later : List (List Tagged)) → to_come w (x ∷ u) later ≡ as_frame out ++ to_come v u later) → appended v ≡ appended w + length (as_frame out) →
+      Stands w every halves closed t so_far → Stands v every halves closed (t ++ x ∷ []) (so_far ++ out)
+  stands_put x out so_far t p q s = stands_puts (x ∷ []) out so_far t p q s
 
-pub stands_now : (w : FrameWriter) (every halves : ℕ) (t : List Tagged) (so_far : List ℕ) → Stands w every halves t so_far →
-    capture every halves t ≡ so_far ++ concat (to_come w [])
-stands_now w every halves t so_far s = ap (capture every halves) (sym (append-nil t)) ∙ stands_front w every halves t [] so_far s
+  -- and after the segment was ended
+  pub stands_flush : (out so_far : List ℕ) (t : List Tagged) →
+      ((u : List Tagged) (later : List (List Tagged)) → to_come w [] (u ∷ later) ≡ as_frame out ++ to_come v u later) →
+      appended v ≡ appended w + length (as_frame out) →
+      Stands w every halves closed t so_far → Stands v every halves (closed ++ t ∷ []) [] (so_far ++ out)
+  stands_flush out so_far t p q s =
+      stands_on v every halves (closed ++ t ∷ []) [] out so_far s.done (appended w) s.bytes s.count q
+      (λ u later. ap (segment_frames every halves) (append_assoc closed (t ∷ []) (u ∷ later))
+      ∙ ap (λ (l : List Tagged). segment_frames every halves (closed ++ (l ∷ (u ∷ later)))) (sym (append-nil t))
+      ∙ s.completes [] (u ∷ later) ∙ ap (λ (l : List (List ℕ)). s.done ++ l) (p u later))
 
-pub finished : (w : FrameWriter) (every halves : ℕ) (t : List Tagged) (so_far out : List ℕ) → as_frame out ≡ to_come w [] → Stands w every halves t so_far →
-    so_far ++ out ≡ capture every halves t
-finished w every halves t so_far out e s =
-    ap (λ (l : List ℕ). so_far ++ l) (as_bytes out ∙ ap concat e) ∙ sym (stands_now w every halves t so_far s)
+module _ (w : FrameWriter) (every halves : ℕ) (closed : List (List Tagged)) where
+  -- what is written so far, and what is still to come
+  pub stands_front : (t u : List Tagged) (later : List (List Tagged)) (so_far : List ℕ) → Stands w every halves closed t so_far →
+      written_segments every halves (closed ++ ((t ++ u) ∷ later)) ≡ so_far ++ concat (to_come w u later)
+  stands_front t u later so_far s =
+      ap concat (s.completes u later) ∙ concat-append s.done (to_come w u later) ∙ ap (λ (l : List ℕ). l ++ concat (to_come w u later)) (sym s.bytes)
 
-pub finished_count : (w : FrameWriter) (every halves : ℕ) (t : List Tagged) (so_far out : List ℕ) (n : ℕ) → as_frame out ≡ to_come w [] → n ≡ appended w + length (as_frame out) →
-    Stands w every halves t so_far → n ≡ length (frames every halves t)
-finished_count w every halves t so_far out n e f s =
-    f ∙ ap (λ (m : ℕ). m + length (as_frame out)) s.count ∙ ap (λ (l : List (List ℕ)). length s.done + length l) e
-    ∙ sym (length-append s.done (to_come w [])) ∙ ap length (sym (s.completes []) ∙ ap (frames every halves) (append-nil t))
+  pub frames_now : (t : List Tagged) (so_far : List ℕ) (s : Stands w every halves closed t so_far) → segment_frames every halves (closed ++ t ∷ []) ≡ s.done ++ to_come w [] []
+  frames_now t so_far s = ap (λ (l : List Tagged). segment_frames every halves (closed ++ l ∷ [])) (sym (append-nil t)) ∙ s.completes [] []
+
+  pub stands_now : (t : List Tagged) (so_far : List ℕ) → Stands w every halves closed t so_far →
+      written_segments every halves (closed ++ t ∷ []) ≡ so_far ++ concat (to_come w [] [])
+  stands_now t so_far s = ap (λ (l : List Tagged). written_segments every halves (closed ++ l ∷ [])) (sym (append-nil t)) ∙ stands_front t [] [] so_far s
+
+  pub finished : (t : List Tagged) (so_far out : List ℕ) → as_frame out ≡ to_come w [] [] → Stands w every halves closed t so_far →
+      so_far ++ out ≡ written_segments every halves (closed ++ t ∷ [])
+  finished t so_far out e s =
+      ap (λ (l : List ℕ). so_far ++ l) (as_bytes out ∙ ap concat e) ∙ sym (stands_now t so_far s)
+
+  pub finished_count : (t : List Tagged) (so_far out : List ℕ) (n : ℕ) → as_frame out ≡ to_come w [] [] → n ≡ appended w + length (as_frame out) →
+      Stands w every halves closed t so_far → n ≡ length (segment_frames every halves (closed ++ t ∷ []))
+  finished_count t so_far out n e f s =
+      f ∙ ap (λ (m : ℕ). m + length (as_frame out)) s.count ∙ ap (λ (l : List (List ℕ)). length s.done + length l) e
+      ∙ sym (length-append s.done (to_come w [] [])) ∙ ap length (sym (frames_now t so_far s))

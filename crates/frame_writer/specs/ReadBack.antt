@@ -6,7 +6,7 @@ use Rattle.trace_values.specs.declared.cell.Cell.{Cell}
 use Rattle.capture_plan.specs.declared.frames.FramesMode.TheVariants.{Aligned}
 use Rattle.frame_grammar.specs.Reading.{is_source}
 use Rattle.port_reader.specs.Reading.{PortReading, port_reading, cells_of}
-use Rattle.frame_writer.specs.Written.{Tagged, capture}
+use Rattle.frame_writer.specs.Written.{Tagged}
 
 -- a byte of a source from 1 to 126
 pub record IsOfSource (x : Tagged) : Type 0 where
@@ -25,13 +25,13 @@ abbrev pub source_cells : List Cell → List Cell
 source_cells cs = filter (λ c. not (is_source 0 c.id)) cs
 
 -- the reading of a written capture, from its first byte on
-abbrev pub read_back : ℕ → ℕ → List Tagged → PortReading
-read_back every halves t = port_reading Aligned (placed (capture every halves t))
+abbrev pub read_back : List ℕ → PortReading
+read_back bytes = port_reading Aligned (placed bytes)
 
--- The capture of t reads back as t, from its first byte on: there is no fault and no tail, each cell has
--- an ID, and the cells of IDs other than 0 are t, in order.
-pub record ReadsBack (every halves : ℕ) (t : List Tagged) : Type 0 where
-  pub no_fault : (read_back every halves t).fault ≡ None
-  pub no_tail : (read_back every halves t).tail ≡ 0
-  pub attributed : All (λ c. c.id ≢ None) (cells_of (read_back every halves t))
-  pub cells : map seen (source_cells (cells_of (read_back every halves t))) ≡ map as_seen t
+-- These bytes read back as t, from the first one on: there is no fault and no tail, each cell has an ID, and the cells
+-- of IDs other than 0 are t, in order.
+pub record ReadsBack (bytes : List ℕ) (t : List Tagged) : Type 0 where
+  pub no_fault : (read_back bytes).fault ≡ None
+  pub no_tail : (read_back bytes).tail ≡ 0
+  pub attributed : All (λ c. c.id ≢ None) (cells_of (read_back bytes))
+  pub cells : map seen (source_cells (cells_of (read_back bytes))) ≡ map as_seen t

@@ -2,7 +2,7 @@
 use Rattle.std.specs.Prelude.{◌≡◌, ℕ, ◌+◌, ◌-◌, List, [], ◌∷◌, ◌++◌, length, Bool, true, false, not, ◌&&◌, Option, None}
 use Rattle.std.specs.Prelude.{Some, nat_lt}
 use Rattle.frame_writer.specs.declared.pair.Pair.{Pair}
-use Rattle.frame_writer.specs.Written.{Tagged, filled, frame_bytes, frames_from, is_due}
+use Rattle.frame_writer.specs.Written.{Tagged, Later, filled, frame_bytes, frames_from, is_due}
 
 -- a byte that is held, of the ID in force, comes before the others
 abbrev pub queued : Option ℕ → Option ℕ → List Tagged → List Tagged
@@ -11,16 +11,16 @@ queued (Some b) None t = t
 queued (Some b) (Some i) t = record { id = i; byte = b } ∷ t
 
 -- frame n, which begins with these pairs, and the frames after it
-abbrev pub middle : ℕ → ℕ → ℕ → List Pair → Option ℕ → List Tagged → List (List ℕ)
-middle every halves n pairs c t =
+abbrev pub middle : ℕ → ℕ → Later → ℕ → List Pair → Option ℕ → List Tagged → List (List ℕ)
+middle every halves later n pairs c t =
     let f = filled (7 - length pairs) c t in
     frame_bytes every halves n (pairs ++ f.pairs) f.end.even f.end.aux
-    ∷ frames_from every halves (n + 1) f.end.id f.end.rest
+    ∷ frames_from every halves later (n + 1) f.end.id f.end.rest
 
 -- the same, where without a pair no frame is begun
-abbrev pub continued : ℕ → ℕ → ℕ → List Pair → Option ℕ → Option ℕ → List Tagged → List (List ℕ)
-continued every halves n [] c held t = frames_from every halves n c (queued held c t)
-continued every halves n (p ∷ pairs) c held t = middle every halves n (p ∷ pairs) c (queued held c t)
+abbrev pub continued : ℕ → ℕ → Later → ℕ → List Pair → Option ℕ → Option ℕ → List Tagged → List (List ℕ)
+continued every halves later n [] c held t = frames_from every halves later n c (queued held c t)
+continued every halves later n (p ∷ pairs) c held t = middle every halves later n (p ∷ pairs) c (queued held c t)
 
 abbrev pub is_empty : List Pair → Bool
 is_empty [] = true

@@ -115,22 +115,50 @@ unfoldable pub frame_bytes : ℕ → ℕ → ℕ → List Pair → ℕ → Bool 
 frame_bytes every halves n pairs even last =
     sync every n ++ (spread halves pairs ++ (even ∷ (aux_byte pairs last ∷ [])))
 
--- frames from number n on, where the writer knows c, until all bytes are placed: at most this many
-unfoldable pub frames_by : ℕ → ℕ → ℕ → ℕ → Option ℕ → List Tagged → List (List ℕ)
-frames_by every halves zero n c t = []
-frames_by every halves (suc most) n c [] = []
-frames_by every halves (suc most) n c (x ∷ t) =
+-- the frames after others, by the number of the next one and the ID in force after those before it
+abbrev pub Later : Type 0
+Later = ℕ → Option ℕ → List (List ℕ)
+
+abbrev pub none_later : Later
+none_later n c = []
+
+-- frames from number n on, where the writer knows c, until all bytes are placed: at most this many, and then the later
+-- ones
+unfoldable pub frames_by : ℕ → ℕ → Later → ℕ → ℕ → Option ℕ → List Tagged → List (List ℕ)
+frames_by every halves later zero n c t = later n c
+frames_by every halves later (suc most) n c [] = later n c
+frames_by every halves later (suc most) n c (x ∷ t) =
     let f = filled 7 (known every n c) (x ∷ t) in
-    frame_bytes every halves n f.pairs f.end.even f.end.aux ∷ frames_by every halves most (n + 1) f.end.id f.end.rest
+    frame_bytes every halves n f.pairs f.end.even f.end.aux
+    ∷ frames_by every halves later most (n + 1) f.end.id f.end.rest
 
 -- each frame takes a byte, so there are at most as many frames as bytes
-abbrev pub frames_from : ℕ → ℕ → ℕ → Option ℕ → List Tagged → List (List ℕ)
-frames_from every halves n c t = frames_by every halves (length t) n c t
+abbrev pub frames_from : ℕ → ℕ → Later → ℕ → Option ℕ → List Tagged → List (List ℕ)
+frames_from every halves later n c t = frames_by every halves later (length t) n c t
 
--- the frames of a list of tagged bytes, each with its synchronisations
+-- The frames of segments, and then the later ones: each segment is filled with null bytes of its own, and the next one
+-- goes on with the numbers and with the ID in force. An empty segment has no frame.
+abbrev pub segments_then : ℕ → ℕ → Later → List (List Tagged) → Later
+segments_then every halves later [] n c = later n c
+segments_then every halves later (t ∷ segments) n c =
+    frames_from every halves (λ n c. segments_then every halves later segments n c) n c t
+
+-- the bytes of all segments
+abbrev pub joined : List (List Tagged) → List Tagged
+joined [] = []
+joined (t ∷ segments) = t ++ joined segments
+
+-- the frames of a list of segments, each with its synchronisations
+abbrev pub segment_frames : ℕ → ℕ → List (List Tagged) → List (List ℕ)
+segment_frames every halves segments = segments_then every halves none_later segments 0 None
+
+-- the written segments
+abbrev pub written_segments : ℕ → ℕ → List (List Tagged) → List ℕ
+written_segments every halves segments = concat (segment_frames every halves segments)
+
+-- the frames of one segment, and the written capture
 abbrev pub frames : ℕ → ℕ → List Tagged → List (List ℕ)
-frames every halves t = frames_from every halves 0 None t
+frames every halves t = segment_frames every halves (t ∷ [])
 
--- the written capture
 abbrev pub capture : ℕ → ℕ → List Tagged → List ℕ
-capture every halves t = concat (frames every halves t)
+capture every halves t = written_segments every halves (t ∷ [])

@@ -3,8 +3,8 @@
 ghost use Rattle.std.specs.Prelude.{true, false, ◌≡◌, ◌≤◌, ◌<◌, ◌+◌, ◌*◌, ◌++◌, ◌∷◌, [], ℕ, List, length};
 ghost use Rattle.arrayvec.specs.ArrayVec.{array_vec_len};
 ghost use Rattle.trace_values.specs.declared.limits.TheConstants.{COUNT_ROOM};
-ghost use Rattle.frame_writer.specs.Written.{Tagged, capture};
-ghost use Rattle.frame_writer.specs.Fronts.{sure};
+ghost use Rattle.frame_writer.specs.Written.{Tagged, written_segments};
+ghost use Rattle.frame_writer.specs.Fronts.{sure_after};
 
 use crate::writer::FrameWriter;
 use arrayvec::ArrayVec;
@@ -46,8 +46,9 @@ fn frame_of(bytes: &[u8]) -> ArrayVec<u8, 264>
 }
 
 /// Writes bytes of several sources as the frames of a `FrameWriter`, and gives those that stay as they are whatever
-/// comes after: all but the last, which it keeps back until a byte of the next one is put. So what it has given is a
-/// front of the capture, and the rest of the capture is one frame.
+/// comes after: those of ended segments, and of the unfinished segment all but the last, which it keeps back until a
+/// byte of the next one is put. So what it has given is a front of the capture, and the rest of the capture is one
+/// frame.
 #[derive(Drop)]
 pub struct SureWriter {
     writer: FrameWriter,
@@ -57,12 +58,12 @@ pub struct SureWriter {
 }
 
 impl SureWriter {
-    ghost use Rattle.frame_writer.specs.Sure.{IsSure, Appends, count_of, held_by, pairs_of, most_with, of_one};
+    ghost use Rattle.frame_writer.specs.Sure.{IsSure, Appends, Ends, count_of, held_by, pairs_of, most_with, of_one};
 
     /// A writer that was given nothing. It writes synchronisations as `FrameWriter::new` says.
     pub fn new(every: u32, halves: u8) -> SureWriter
         requires few { halves ≤ 8 }
-        ensures fresh { IsSure result every halves [] }
+        ensures fresh { IsSure result every halves [] [] }
         ensures count { count_of result ≡ 0 }
     {
         SureWriter {
@@ -83,10 +84,13 @@ impl SureWriter {
         requires source { 0 < id }
         requires empty { out.old.items ≡ [] }
         requires room { count_of self.old < COUNT_ROOM }
-        ensures list { (every halves : ℕ) → (t : List Tagged) → IsSure self.old every halves t →
-            IsSure self.new every halves (t ++ record { id = id; byte = byte } ∷ []) }
-        ensures grown { (every halves : ℕ) → (t : List Tagged) → IsSure self.old every halves t →
-            sure every halves (t ++ record { id = id; byte = byte } ∷ []) ≡ sure every halves t ++ out.new.items }
+        ensures list { (every halves : ℕ) (closed : List (List Tagged)) (t : List Tagged) →
+            IsSure self.old every halves closed t →
+            IsSure self.new every halves closed (t ++ record { id = id; byte = byte } ∷ []) }
+        ensures grown { (every halves : ℕ) (closed : List (List Tagged)) (t : List Tagged) →
+            IsSure self.old every halves closed t →
+            sure_after every halves closed (t ++ record { id = id; byte = byte } ∷ [])
+            ≡ sure_after every halves closed t ++ out.new.items }
         ensures count { count_of self.new ≤ count_of self.old + 1 }
         ensures load { 7 * count_of self.new + pairs_of self.new ≤ 7 * count_of self.old + pairs_of self.old + 2 }
         ensures len { array_vec_len out.new + held_by self.new + 132 * count_of self.old
@@ -165,10 +169,28 @@ impl SureWriter {
         }
     }
 
+    /// Ends the segment, and appends what has become sure, for which there is room: what is kept back, and the unfinished
+    /// frame with null bytes after its last byte, at most 132 bytes. Then nothing is kept back, and all that is written
+    /// so far is sure.
+    pub fn flush<const N: usize>(&mut self, out: &mut ArrayVec<u8, N>)
+        requires count { count_of self.old < COUNT_ROOM }
+        requires room { array_vec_len out.old + held_by self.old + 132 ≤ N }
+        ensures ends { Ends self.old self.new out.old.items out.new.items }
+        ensures count { count_of self.new ≤ count_of self.old + 1 }
+        ensures load { pairs_of self.new ≡ 0 }
+        ensures held { held_by self.new ≡ 0 }
+        ensures len { array_vec_len out.new + 132 * count_of self.old
+            ≤ array_vec_len out.old + held_by self.old + 132 * count_of self.new }
+    {
+        give(&mut self.ready, out);
+        self.writer.flush(&mut self.ready);
+        give(&mut self.ready, out);
+    }
+
     /// Another writer that was given the same.
     pub fn copied(&self) -> SureWriter
-        ensures list { (every halves : ℕ) → (t : List Tagged) → IsSure self.now every halves t →
-            IsSure result every halves t }
+        ensures list { (every halves : ℕ) (closed : List (List Tagged)) (t : List Tagged) →
+            IsSure self.now every halves closed t → IsSure result every halves closed t }
         ensures count { count_of result ≡ count_of self.now }
         ensures held { held_by result ≤ 132 }
         ensures pairs { pairs_of result ≤ 7 }
@@ -182,8 +204,9 @@ impl SureWriter {
     /// The rest of the capture, which is what is not sure of it: at most one frame, by `sure_law`.
     pub fn rest(&self, out: &mut TwoFrames)
         requires empty { out.old.items ≡ [] }
-        ensures whole { (every halves : ℕ) → (t : List Tagged) → IsSure self.now every halves t →
-            capture every halves t ≡ sure every halves t ++ out.new.items }
+        ensures whole { (every halves : ℕ) (closed : List (List Tagged)) (t : List Tagged) →
+            IsSure self.now every halves closed t →
+            written_segments every halves (closed ++ t ∷ []) ≡ sure_after every halves closed t ++ out.new.items }
         ensures few { array_vec_len out.new ≤ 264 }
     {
         let mut last = ArrayVec::new();

@@ -9,7 +9,8 @@ use crate::pair::Pair;
 use arrayvec::ArrayVec;
 use trace_values::SourceId;
 
-/// Writes the bytes of several sources as frames. It keeps what it needs of the one unfinished frame.
+/// Writes the bytes of several sources as frames, in one segment or in several. It keeps what it needs of the one
+/// unfinished frame.
 #[derive(Drop)]
 pub struct FrameWriter {
     every: u32,
@@ -28,8 +29,9 @@ pub struct FrameWriter {
 impl FrameWriter {
     ghost use Rattle.std.specs.Prelude.{ℕ, ◌*◌, ◌<◌, ◌+◌, ◌++◌, ◌∷◌, [], List, None, false};
     ghost use Rattle.frame_writer.specs.Unfinished.{HasOne};
-    ghost use Rattle.frame_writer.specs.Writer.{appended, as_frame, load_of, to_come, Stands};
-    ghost use Rattle.frame_writer.specs.Written.{Tagged, capture, frames, frames_from, frame_bytes, is_id};
+    ghost use Rattle.frame_writer.specs.Writer.{appended, as_frame, later_of, load_of, to_come, Stands};
+    ghost use Rattle.frame_writer.specs.Written.{Tagged, segment_frames, written_segments, frames_from, frame_bytes};
+    ghost use Rattle.frame_writer.specs.Written.{is_id};
 
     /// A writer that has written nothing.
     ///
@@ -38,8 +40,9 @@ impl FrameWriter {
     /// halfwords of a frame.
     pub fn new(every: u32, halves: u8) -> FrameWriter
         requires few { halves ≤ 8 }
-        ensures fresh { Stands result every halves [] [] }
-        ensures to_come { (t : List Tagged) → to_come result t ≡ frames every halves t }
+        ensures fresh { Stands result every halves [] [] [] }
+        ensures to_come { (t : List Tagged) (later : List (List Tagged)) →
+            to_come result t later ≡ segment_frames every halves (t ∷ later) }
         ensures count { appended result ≡ 0 }
     {
         FrameWriter {
@@ -61,15 +64,16 @@ impl FrameWriter {
 
     /// Whether a frame is begun, or a byte is held for one.
     pub fn is_begun(&self) -> bool
-        ensures begun { result ≡ true → HasOne (to_come self.now []) }
-        ensures none { result ≡ false → to_come self.now [] ≡ [] }
+        ensures begun { result ≡ true → HasOne (to_come self.now [] []) }
+        ensures none { result ≡ false → to_come self.now [] [] ≡ [] }
     {
         self.held.is_some() || !self.pairs.is_empty()
     }
 
     /// Another writer that has written and holds the same.
     pub fn copied(&self) -> FrameWriter
-        ensures to_come { (t : List Tagged) → to_come result t ≡ to_come self.now t }
+        ensures to_come { (t : List Tagged) (later : List (List Tagged)) →
+            to_come result t later ≡ to_come self.now t later }
         ensures count { appended result ≡ appended self.now }
     {
         let mut pairs = ArrayVec::new();
@@ -90,11 +94,12 @@ impl FrameWriter {
         requires source { 0 < id }
         requires empty { out.old.items ≡ [] }
         requires room { appended self.old < COUNT_ROOM }
-        ensures list { (every halves : ℕ) → (t : List Tagged) → (so_far : List ℕ) →
-            Stands self.old every halves t so_far →
-            Stands self.new every halves (t ++ record { id = id; byte = byte } ∷ []) (so_far ++ out.new.items) }
-        ensures to_come { (t : List Tagged) → to_come self.old (record { id = id; byte = byte } ∷ t)
-            ≡ as_frame out.new.items ++ to_come self.new t }
+        ensures list { (every halves : ℕ) (closed : List (List Tagged)) (t : List Tagged) (so_far : List ℕ) →
+            Stands self.old every halves closed t so_far → Stands self.new every halves closed
+            (t ++ record { id = id; byte = byte } ∷ []) (so_far ++ out.new.items) }
+        ensures to_come { (t : List Tagged) (later : List (List Tagged)) →
+            to_come self.old (record { id = id; byte = byte } ∷ t) later
+            ≡ as_frame out.new.items ++ to_come self.new t later }
         ensures count { appended self.new ≡ appended self.old + length (as_frame out.new.items) }
         ensures load { load_of self.new ≤ load_of self.old + 2 }
         ensures len { length out.new.items + 132 * appended self.old ≤ 132 * appended self.new }
@@ -128,10 +133,10 @@ impl FrameWriter {
     #[inline(always)]
     pub(crate) fn put_pair(&mut self, id: SourceId, first: u8, second: u8) -> bool
         requires source { 0 < id }
-        ensures to_come { result ≡ true → (t : List Tagged) →
-            to_come self.old (record { id = id; byte = first } ∷ (record { id = id; byte = second } ∷ t))
-            ≡ to_come self.new t }
-        ensures begun { result ≡ true → HasOne (to_come self.new []) }
+        ensures to_come { result ≡ true → (t : List Tagged) (later : List (List Tagged)) →
+            to_come self.old (record { id = id; byte = first } ∷ (record { id = id; byte = second } ∷ t)) later
+            ≡ to_come self.new t later }
+        ensures begun { result ≡ true → HasOne (to_come self.new [] []) }
         ensures none { result ≡ false → self.new ≡ self.old }
         ensures count { appended self.new ≡ appended self.old }
         ensures load { load_of self.new ≤ load_of self.old + 1 }
@@ -154,8 +159,9 @@ impl FrameWriter {
         requires source { 0 < id }
         requires empty { out.old.items ≡ [] }
         requires room { self.old.frames < COUNT_ROOM }
-        ensures to_come { (t : List Tagged) → to_come self.old (record { id = id; byte = byte } ∷ t)
-            ≡ as_frame out.new.items ++ to_come self.new t }
+        ensures to_come { (t : List Tagged) (later : List (List Tagged)) →
+            to_come self.old (record { id = id; byte = byte } ∷ t) later
+            ≡ as_frame out.new.items ++ to_come self.new t later }
         ensures count { self.new.frames ≡ self.old.frames + length (as_frame out.new.items) }
         ensures load { load_of self.new ≤ load_of self.old + 1 }
         ensures len { length out.new.items + 132 * self.old.frames ≤ 132 * self.new.frames }
@@ -178,8 +184,8 @@ impl FrameWriter {
         requires held { self.old.held ≡ None }
         requires source { 0 < id }
         requires room { length self.old.pairs.items < 7 }
-        ensures to_come { (t : List Tagged) → to_come self.old (record { id = id; byte = byte } ∷ t)
-            ≡ to_come self.new t }
+        ensures to_come { (t : List Tagged) (later : List (List Tagged)) →
+            to_come self.old (record { id = id; byte = byte } ∷ t) later ≡ to_come self.new t later }
         ensures same { self.new.frames ≡ self.old.frames }
         ensures load { load_of self.new ≤ load_of self.old + 1 }
     {
@@ -222,8 +228,9 @@ impl FrameWriter {
     fn begin_frame(&mut self)
         requires held { self.old.held ≡ None }
         requires room { self.old.frames < COUNT_ROOM }
-        ensures to_come { (t : List Tagged) →
-            frames_from self.old.every self.old.halves (self.old.frames + 1) self.old.id t ≡ to_come self.new t }
+        ensures to_come { (t : List Tagged) (later : List (List Tagged)) →
+            frames_from self.old.every self.old.halves (later_of self.old later) (self.old.frames + 1) self.old.id t
+            ≡ to_come self.new t later }
         ensures begun { (self.new.frames ≡ self.old.frames + 1) × (self.new.pairs.items ≡ []) × (self.new.held ≡ None) }
     {
         self.frames += 1;
@@ -233,33 +240,84 @@ impl FrameWriter {
         }
     }
 
-    /// Appends the unfinished frame, if one is begun or a byte is held, with null bytes after the last
-    /// byte, and gives the number of frames in all.
+    /// Ends the segment: appends the unfinished frame, if one is begun or a byte is held, with null bytes after the last
+    /// byte and with its synchronisations, at most 132 bytes. Where no byte was put since the last flush, or the last
+    /// byte completed its frame, nothing is appended. The next byte begins a frame; the frames' numbers go on, and so does
+    /// the ID in force.
+    ///
+    /// `out` is empty, and fewer than `COUNT_ROOM` frames have been appended.
+    pub fn flush(&mut self, out: &mut ArrayVec<u8, 264>)
+        requires empty { out.old.items ≡ [] }
+        requires room { appended self.old < COUNT_ROOM }
+        ensures list { (every halves : ℕ) (closed : List (List Tagged)) (t : List Tagged) (so_far : List ℕ) →
+            Stands self.old every halves closed t so_far →
+            Stands self.new every halves (closed ++ t ∷ []) [] (so_far ++ out.new.items) }
+        ensures to_come { (t : List Tagged) (later : List (List Tagged)) →
+            to_come self.old [] (t ∷ later) ≡ as_frame out.new.items ++ to_come self.new t later }
+        ensures none { to_come self.new [] [] ≡ [] }
+        ensures count { appended self.new ≡ appended self.old + length (as_frame out.new.items) }
+        ensures load { load_of self.new ≡ 7 * appended self.new }
+        ensures len { length out.new.items + 132 * appended self.old ≤ 132 * appended self.new }
+        ensures one { length out.new.items ≤ 132 }
+    {
+        if self.complete(out) {
+            self.begin_frame();
+        }
+    }
+
+    /// Ends the last segment, as `flush` does, and gives the number of frames in all. Right after `flush` it appends
+    /// nothing.
     pub fn finish(mut self, out: &mut ArrayVec<u8, 264>) -> u64
         requires empty { out.old.items ≡ [] }
-        ensures capture { (every halves : ℕ) → (t : List Tagged) → (so_far : List ℕ) →
-            Stands self every halves t so_far →
-            so_far ++ out.new.items ≡ capture every halves t }
-        ensures frames { (every halves : ℕ) → (t : List Tagged) → (so_far : List ℕ) →
-            Stands self every halves t so_far →
-            result ≡ length (frames every halves t) }
-        ensures to_come { as_frame out.new.items ≡ to_come self [] }
+        ensures capture { (every halves : ℕ) (closed : List (List Tagged)) (t : List Tagged) (so_far : List ℕ) →
+            Stands self every halves closed t so_far →
+            so_far ++ out.new.items ≡ written_segments every halves (closed ++ t ∷ []) }
+        ensures frames { (every halves : ℕ) (closed : List (List Tagged)) (t : List Tagged) (so_far : List ℕ) →
+            Stands self every halves closed t so_far →
+            result ≡ length (segment_frames every halves (closed ++ t ∷ [])) }
+        ensures to_come { as_frame out.new.items ≡ to_come self [] [] }
         ensures count { result ≡ appended self + length (as_frame out.new.items) }
+        ensures few { length out.new.items ≤ 132 }
+    {
+        if self.complete(out) {
+            self.frames + 1
+        } else {
+            self.frames
+        }
+    }
+
+    /// Appends the unfinished frame, if one is begun or a byte is held, with null bytes after the last byte; answers
+    /// whether there is one.
+    fn complete(&mut self, out: &mut ArrayVec<u8, 264>) -> bool
+        requires empty { out.old.items ≡ [] }
+        ensures frame { result ≡ true → as_frame out.new.items ≡ out.new.items ∷ [] }
+        ensures to_come { result ≡ true → (later : List (List Tagged)) →
+            to_come self.old [] later
+            ≡ as_frame out.new.items ++ later_of self.new later (self.new.frames + 1) self.new.id }
+        ensures none { result ≡ false → (later : List (List Tagged)) →
+            (to_come self.old [] later ≡ later_of self.new later self.new.frames self.new.id) × (out.new.items ≡ [])
+            × (self.new.pairs.items ≡ []) }
+        ensures held { self.new.held ≡ None }
+        ensures same { self.new.frames ≡ self.old.frames }
         ensures few { length out.new.items ≤ 132 }
     {
         self.release();
         if self.pairs.is_empty() {
-            return self.frames;
+            return false;
         }
         self.fill_pairs();
-        let even = if self.is_null_in_force() { 0 } else { 1 };
-        self.append_frame(even, false, out);
-        self.frames + 1
+        if self.is_null_in_force() {
+            self.append_frame(0, false, out);
+        } else {
+            self.append_frame(1, false, out);
+            self.id = SourceId::new(0);
+        }
+        true
     }
 
     /// Puts the byte that is held before a null byte.
     fn release(&mut self)
-        ensures to_come { to_come self.old [] ≡ to_come self.new [] }
+        ensures to_come { (later : List (List Tagged)) → to_come self.old [] later ≡ to_come self.new [] later }
         ensures held { self.new.held ≡ None }
         ensures frames { self.new.frames ≡ self.old.frames }
     {
@@ -278,7 +336,7 @@ impl FrameWriter {
     fn fill_pairs(&mut self)
         requires held { self.old.held ≡ None }
         requires begun { 0 < length self.old.pairs.items }
-        ensures to_come { to_come self.old [] ≡ to_come self.new [] }
+        ensures to_come { (later : List (List Tagged)) → to_come self.old [] later ≡ to_come self.new [] later }
         ensures held { self.new.held ≡ None }
         ensures pairs { length self.new.pairs.items ≡ 7 }
         ensures frames { self.new.frames ≡ self.old.frames }
@@ -293,7 +351,7 @@ impl FrameWriter {
         requires held { self.old.held ≡ None }
         requires begun { 0 < length self.old.pairs.items }
         requires room { length self.old.pairs.items < 7 }
-        ensures to_come { to_come self.old [] ≡ to_come self.new [] }
+        ensures to_come { (later : List (List Tagged)) → to_come self.old [] later ≡ to_come self.new [] later }
         ensures held { self.new.held ≡ None }
         ensures pairs { length self.new.pairs.items ≡ length self.old.pairs.items + 1 }
         ensures same { self.new.frames ≡ self.old.frames }

@@ -26,7 +26,7 @@ fault_with_good seen b h = has_fault-append seen (b ∷ []) ∙ ap (λ v. has_fa
 
 -- what the action makes of bytes
 abbrev pub doubling : Meaning
-doubling = record { faulty = HasFault; text = doubled; ending = last_line }
+doubling = record { faulty = HasFault; text = doubled; ending = last_line; due = false }
 
 -- one of its calls
 abbrev pub turn : List ℕ → List ℕ → List ℕ → List ℕ → Turn

@@ -1,5 +1,6 @@
 //! Names, and the modes that they name.
 
+use crate::same::same;
 use capture_plan::{FramesMode, PacketsMode};
 
 #[test]
@@ -14,7 +15,7 @@ fn three_names_are_modes(rt: HostRuntime) {
         ("bare ", None),
     ];
     for (name, mode) in table {
-        assert_eq!(rt; FramesMode::named(name), mode, "{name}");
+        same(&rt, &name, &FramesMode::named(name), &mode);
     }
 }
 
@@ -28,6 +29,6 @@ fn two_names_are_modes(rt: HostRuntime) {
         ("aligned1", None),
     ];
     for (name, mode) in table {
-        assert_eq!(rt; PacketsMode::named(name), mode, "{name}");
+        same(&rt, &name, &PacketsMode::named(name), &mode);
     }
 }

@@ -1,5 +1,6 @@
 //! Words, and the numbers that they say.
 
+use crate::same::same;
 use decimal_words::{bytes_after, id_in, id_named, number_in, number_named, text_after};
 
 #[test]
@@ -23,11 +24,12 @@ fn tests_numbers(rt: HostRuntime) {
         (0, 99, "1a", None),
     ];
     for (least, greatest, text, number) in rows {
-        assert_eq!(rt; number_named(least, greatest, text), number, "{text}");
-        assert_eq!(rt;
-            number_in(least, greatest, text.as_bytes()),
-            number,
-            "{text}"
+        same(&rt, &text, &number_named(least, greatest, text), &number);
+        same(
+            &rt,
+            &text,
+            &number_in(least, greatest, text.as_bytes()),
+            &number,
         );
     }
 }
@@ -43,9 +45,9 @@ fn tests_ids(rt: HostRuntime) {
     ];
     for (least, greatest, text, number) in rows {
         let found = id_named(least, greatest, text).map(|id| id.number());
-        assert_eq!(rt; found, number, "{text}");
+        same(&rt, &text, &found, &number);
         let found = id_in(least, greatest, text.as_bytes()).map(|id| id.number());
-        assert_eq!(rt; found, number, "{text}");
+        same(&rt, &text, &found, &number);
     }
 }
 
@@ -59,8 +61,8 @@ fn tests_fronts(rt: HostRuntime) {
         ("", "5", Some("5")),
     ];
     for (front, text, rest) in rows {
-        assert_eq!(rt; text_after(front, text), rest, "{text}");
+        same(&rt, &text, &text_after(front, text), &rest);
         let bytes = bytes_after(front.as_bytes(), text.as_bytes());
-        assert_eq!(rt; bytes, rest.map(|rest| rest.as_bytes()), "{text}");
+        same(&rt, &text, &bytes, &rest.map(|rest| rest.as_bytes()));
     }
 }

@@ -1,5 +1,6 @@
 //! Captures of a port, byte by byte and in pieces.
 
+use crate::same::same;
 use arrayvec::ArrayVec;
 use deformatter::{Deformatter, PortStep};
 use std::alloc::Global;
@@ -49,17 +50,18 @@ fn expect(
             }
             _ => PortStep::Quiet,
         };
-        assert_eq!(rt; step, wanted, "{bytes:?} at {at}");
-        assert_eq!(rt;
-            out.is_empty(),
-            step != PortStep::Frame,
-            "{bytes:?} at {at}"
+        same(rt, &(&bytes, &at), &step, &wanted);
+        same(
+            rt,
+            &(&bytes, &at),
+            &out.is_empty(),
+            &(step != PortStep::Frame),
         );
     }
-    assert_eq!(rt; next, steps.len());
+    same(rt, &"next", &next, &steps.len());
     if port.is_live() {
-        assert_eq!(rt; port.tail(), tail, "{bytes:?}");
-        assert_eq!(rt; port.skipped(), skipped, "{bytes:?}");
+        same(rt, &bytes, &port.tail(), &tail);
+        same(rt, &bytes, &port.skipped(), &skipped);
     }
 }
 
@@ -76,13 +78,13 @@ fn expect_ids(
         feed(rt, &mut port, at, *byte, &mut out);
         for cell in out.iter() {
             let (offset, id) = place_of(runs, cells);
-            assert_eq!(rt; cell.at, offset as u64);
-            assert_eq!(rt; cell.id, id.and_then(SourceId::new), "{bytes:?} at {at}");
+            same(rt, &"cell.at", &cell.at, &(offset as u64));
+            same(rt, &(&bytes, &at), &cell.id, &id.and_then(SourceId::new));
             cells = cells.wrapping_add(1);
         }
     }
     let all = runs.iter().fold(0usize, |sum, run| sum.wrapping_add(run.1));
-    assert_eq!(rt; cells, all, "{bytes:?}");
+    same(rt, &bytes, &cells, &all);
 }
 
 /// The offset and the ID of the cell at this index.
@@ -305,7 +307,7 @@ fn feed_piece(
         used += taken.bytes;
         heard.add((from + used - 1) as u64, taken.step, out.as_slice())?;
     }
-    assert_eq!(rt; used, piece.len());
+    same(rt, &"used", &used, &piece.len());
     Ok(())
 }
 
@@ -320,7 +322,7 @@ fn takes_pieces_cut_at_every_place(rt: HostRuntime) -> Result<(), Fail> {
                 let mut heard = Heard::new(rt.alloc());
                 feed_piece(&rt, &mut port, 0, front, &mut heard)?;
                 feed_piece(&rt, &mut port, cut, rest, &mut heard)?;
-                assert_eq!(rt; heard, wanted, "{capture:?} cut at {cut}");
+                same(&rt, &(&capture, &cut), &heard, &wanted);
             }
         }
     }

@@ -1,5 +1,6 @@
 //! What hardware packets mean, and back.
 
+use crate::same::same;
 use dwt_packets::{Change, DwtItem, is_proper_item, meaning, packet_of};
 use itm_grammar::packet::{ItmPacket, Size};
 use itm_grammar::proper::is_proper;
@@ -8,9 +9,14 @@ use std::process::Abort;
 /// The packet means this item, and the item has this packet.
 fn check(rt: &impl Abort, disc: u8, size: Size, value: u32, item: DwtItem) {
     assert!(rt; is_proper(&ItmPacket::Hardware { disc, size, value }));
-    assert_eq!(rt; meaning(disc, size, value), item, "{disc} {size:?} {value}");
+    same(
+        rt,
+        &(&disc, &size, &value),
+        &meaning(disc, size, value),
+        &item,
+    );
     assert!(rt; is_proper_item(&item));
-    assert_eq!(rt; packet_of(&item), (disc, size, value), "{item:?}");
+    same(rt, &item, &packet_of(&item), &(disc, size, value));
 }
 
 /// What a letter stands for, as in the table of the test below.

@@ -2,6 +2,7 @@
 
 ghost use Rattle.std.specs.Prelude.{◌<◌, length};
 
+use crate::same::same;
 use exercise_source::{ExerciseSource, write_exercise};
 use trace_io::{Failed, MemorySink, Source, SureSink};
 
@@ -16,10 +17,25 @@ const THREE: [u8; 36] = [
 fn writes_the_capture_of_three_items(rt: HostRuntime) {
     let mut room = [0; 64];
     let mut sink = MemorySink::new(&mut room, &[], &[]);
-    assert_eq!(rt; write_exercise(3, &mut sink), Ok(36));
-    assert_eq!(rt; sink.held(), THREE.as_slice());
-    assert_eq!(rt; write_exercise(3, &mut SureSink::new()), Ok(36));
-    assert_eq!(rt; write_exercise(0, &mut SureSink::new()), Ok(0));
+    same(
+        &rt,
+        &"write_exercise(3, &mut sink)",
+        &write_exercise(3, &mut sink),
+        &Ok(36),
+    );
+    same(&rt, &"sink.held()", &sink.held(), &THREE.as_slice());
+    same(
+        &rt,
+        &"write_exercise(3, &mut SureSink::new())",
+        &write_exercise(3, &mut SureSink::new()),
+        &Ok(36),
+    );
+    same(
+        &rt,
+        &"write_exercise(0, &mut SureSink::new())",
+        &write_exercise(0, &mut SureSink::new()),
+        &Ok(0),
+    );
 }
 
 #[test]
@@ -29,13 +45,9 @@ fn answers_a_write_that_fails_once(rt: HostRuntime) {
         let mut room = [0; 64];
         let fail = [failing];
         let mut sink = MemorySink::new(&mut room, &[5], &fail);
-        assert_eq!(rt;
-            write_exercise(3, &mut sink),
-            Err(Failed),
-            "write {failing}"
-        );
+        same(&rt, &failing, &write_exercise(3, &mut sink), &Err(Failed));
         let held = sink.held();
-        assert_eq!(rt; held, &THREE[..held.len().min(36)], "write {failing}");
+        same(&rt, &failing, &held, &&THREE[..held.len().min(36)]);
     }
 }
 
@@ -72,7 +84,12 @@ fn gives_what_is_left_in_any_pieces(rt: HostRuntime) {
                 rest = &rest[piece.len().min(rest.len())..];
             }
             assert!(rt; rest.is_empty(), "{lose} lost");
-            assert_eq!(rt; source.read(&mut buf), Ok(0));
+            same(
+                &rt,
+                &"source.read(&mut buf)",
+                &source.read(&mut buf),
+                &Ok(0),
+            );
         }
     }
 }

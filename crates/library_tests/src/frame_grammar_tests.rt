@@ -1,5 +1,6 @@
 //! Frames, their cells and the bytes of their sources, and frames that are gathered from pieces.
 
+use crate::same::same;
 use arrayvec::ArrayVec;
 use frame_grammar::frame::{FRAME_BYTES, cells_of};
 use frame_grammar::gather::gather_frame;
@@ -36,7 +37,7 @@ fn check(rt: &impl Abort, frame: &[u8; FRAME_BYTES], before: Option<u8>) {
     };
     let mut out = ArrayVec::new();
     let after = cells_of(frame, &OFFSETS, before.and_then(SourceId::new), &mut out);
-    let mut found = 0;
+    let mut found = 0usize;
     for index in 0..15 {
         let mixed = index % 2 == 0;
         if mixed && frame[index] & 1 == 1 {
@@ -55,11 +56,11 @@ fn check(rt: &impl Abort, frame: &[u8; FRAME_BYTES], before: Option<u8>) {
             run,
             byte,
         };
-        assert_eq!(rt; out.get(found), Some(&cell), "{frame:?} at {index}");
-        found += 1;
+        same(rt, &(&frame, &index), &out.get(found), &Some(&cell));
+        found = found.wrapping_add(1);
     }
-    assert_eq!(rt; out.len(), found);
-    assert_eq!(rt; after, in_force(frame, before, 16).0, "{frame:?}");
+    same(rt, &"out.len()", &out.len(), &found);
+    same(rt, &frame, &after, &in_force(frame, before, 16).0);
 }
 
 /// Takes a frame at these offsets, which must give these cells: the index, the ID, the run and the byte of each.
@@ -75,8 +76,8 @@ fn expect(
     };
     let mut out = ArrayVec::new();
     let id = cells_of(frame, &OFFSETS, before.and_then(SourceId::new), &mut out);
-    assert_eq!(rt; id, after.and_then(SourceId::new));
-    assert_eq!(rt; out.len(), cells.len());
+    same(rt, &"id", &id, &after.and_then(SourceId::new));
+    same(rt, &"out.len()", &out.len(), &cells.len());
     for i in 0..cells.len() {
         let (index, number, run, byte) = cells[i];
         let id = number.and_then(SourceId::new);
@@ -87,7 +88,7 @@ fn expect(
             run,
             byte,
         };
-        assert_eq!(rt; out.get(i), Some(&cell), "{frame:?} at {index}");
+        same(rt, &(&frame, &index), &out.get(i), &Some(&cell));
     }
 }
 
@@ -189,16 +190,18 @@ fn gathers_a_frame(rt: HostRuntime) {
     ];
     for (piece, halves) in rows {
         let gathered = gather_frame(piece);
-        assert_eq!(rt; gathered.map(|g| g.halves), halves, "{piece:?}");
-        assert_eq!(rt;
-            gathered.map(|g| g.size()),
-            halves.map(|n| FRAME_BYTES + 2 * n),
-            "{piece:?}"
+        same(&rt, &piece, &gathered.map(|g| g.halves), &halves);
+        same(
+            &rt,
+            &piece,
+            &gathered.map(|g| g.size()),
+            &halves.map(|n| FRAME_BYTES + 2 * n),
         );
-        assert_eq!(rt;
-            gathered.map(|g| g.bytes),
-            halves.map(|_| *b"ABCDEFGHIJKLMNOP"),
-            "{piece:?}"
+        same(
+            &rt,
+            &piece,
+            &gathered.map(|g| g.bytes),
+            &halves.map(|_| *b"ABCDEFGHIJKLMNOP"),
         );
     }
 }
@@ -208,8 +211,18 @@ fn keeps_any_second_byte(rt: HostRuntime) {
     let piece = b"\x01\xff\xfe\x7f\xff\x7f\x7f\xff\0\xff\x02\xff\xff\x7f\x03\x7f\x04\xff\xfd\xff";
     let frame = *b"\x01\xff\xfe\x7f\x7f\xff\0\xff\x02\xff\x03\x7f\x04\xff\xfd\xff";
     let gathered = gather_frame(piece);
-    assert_eq!(rt; gathered.map(|g| g.bytes), Some(frame));
-    assert_eq!(rt; gathered.map(|g| g.halves), Some(2));
+    same(
+        &rt,
+        &"gathered.map(|g| g.bytes)",
+        &gathered.map(|g| g.bytes),
+        &Some(frame),
+    );
+    same(
+        &rt,
+        &"gathered.map(|g| g.halves)",
+        &gathered.map(|g| g.halves),
+        &Some(2),
+    );
 }
 
 #[test]
@@ -219,20 +232,60 @@ fn places_a_frame(rt: HostRuntime) {
     let behind = [0, 1, 2, 3, 6, 7, 8, 9, 10, 11, 14, 15, 16, 17, 18, 19];
     let gathered = gather_frame(piece);
     let placed = gather_frame_at(40, piece);
-    assert_eq!(rt; placed.map(|p| p.bytes), gathered.map(|g| g.bytes));
-    assert_eq!(rt; placed.map(|p| p.halves), gathered.map(|g| g.halves));
-    assert_eq!(rt; placed.map(|p| p.size()), Some(piece.len()));
-    assert_eq!(rt; placed.map(|p| p.at), Some(40));
-    assert_eq!(rt; placed.map(|p| p.behind), Some(behind));
-    assert_eq!(rt; gather_frame_at(40, b"AB\xff\x7fCDEFGHIJKLMNO"), None);
+    same(
+        &rt,
+        &"placed.map(|p| p.bytes)",
+        &placed.map(|p| p.bytes),
+        &gathered.map(|g| g.bytes),
+    );
+    same(
+        &rt,
+        &"placed.map(|p| p.halves)",
+        &placed.map(|p| p.halves),
+        &gathered.map(|g| g.halves),
+    );
+    same(
+        &rt,
+        &"placed.map(|p| p.size())",
+        &placed.map(|p| p.size()),
+        &Some(piece.len()),
+    );
+    same(
+        &rt,
+        &"placed.map(|p| p.at)",
+        &placed.map(|p| p.at),
+        &Some(40),
+    );
+    same(
+        &rt,
+        &"placed.map(|p| p.behind)",
+        &placed.map(|p| p.behind),
+        &Some(behind),
+    );
+    same(
+        &rt,
+        &"gather_frame_at(40, b'ABxffx7fCDEFGHIJKLMNO')",
+        &gather_frame_at(40, b"AB\xff\x7fCDEFGHIJKLMNO"),
+        &None,
+    );
     // One in each gap.
     let spaced = gather_frame_at(
         40,
         b"AB\xff\x7fCD\xff\x7fEF\xff\x7fGH\xff\x7fIJ\xff\x7fKL\xff\x7fMN\xff\x7fOP",
     );
     let behind = [0, 1, 4, 5, 8, 9, 12, 13, 16, 17, 20, 21, 24, 25, 28, 29];
-    assert_eq!(rt; spaced.map(|p| p.at), Some(40));
-    assert_eq!(rt; spaced.map(|p| p.behind), Some(behind));
+    same(
+        &rt,
+        &"spaced.map(|p| p.at)",
+        &spaced.map(|p| p.at),
+        &Some(40),
+    );
+    same(
+        &rt,
+        &"spaced.map(|p| p.behind)",
+        &spaced.map(|p| p.behind),
+        &Some(behind),
+    );
 }
 
 #[test]
@@ -242,13 +295,33 @@ fn places_no_frame_of_more_than_256_bytes(rt: HostRuntime) {
     for word in 0..129 {
         piece[2 * word] = if word == 0 || word > 121 { 0x11 } else { 0xff };
     }
-    assert_eq!(rt; gather_frame(&piece).map(|g| g.halves), Some(121));
-    assert_eq!(rt; gather_frame_at(40, &piece), None);
+    same(
+        &rt,
+        &"gather_frame(&piece).map(|g| g.halves)",
+        &gather_frame(&piece).map(|g| g.halves),
+        &Some(121),
+    );
+    same(
+        &rt,
+        &"gather_frame_at(40, &piece)",
+        &gather_frame_at(40, &piece),
+        &None,
+    );
     // And one fewer.
     piece[2] = 0x11;
     let placed = gather_frame_at(40, &piece[2..]);
-    assert_eq!(rt; placed.map(|p| p.halves), Some(120));
-    assert_eq!(rt; placed.map(|p| p.behind[15]), Some(255));
+    same(
+        &rt,
+        &"placed.map(|p| p.halves)",
+        &placed.map(|p| p.halves),
+        &Some(120),
+    );
+    same(
+        &rt,
+        &"placed.map(|p| p.behind[15])",
+        &placed.map(|p| p.behind[15]),
+        &Some(255),
+    );
 }
 
 #[test]
@@ -264,14 +337,15 @@ fn takes_a_plain_frame(rt: HostRuntime) {
     ];
     for (piece, plain) in rows {
         let frame = plain_frame(piece).map(|frame| frame.as_slice());
-        assert_eq!(rt;
-            frame,
-            if plain {
+        same(
+            &rt,
+            &piece,
+            &frame,
+            &(if plain {
                 piece.get(..FRAME_BYTES)
             } else {
                 None
-            },
-            "{piece:?}"
+            }),
         );
     }
 }
@@ -289,12 +363,13 @@ fn expect_bytes(
         let mut into = [0xee; FRAME_BYTES];
         let source = SourceId::new(*number).unwrap();
         let copied = copy_source_bytes(frame, before.and_then(SourceId::new), source, &mut into);
-        assert_eq!(rt;
-            into.get(..copied.len),
-            Some(*bytes),
-            "{number} of {frame:?}"
+        same(
+            rt,
+            &(&number, &frame),
+            &into.get(..copied.len),
+            &Some(*bytes),
         );
-        assert_eq!(rt; copied.after, after.and_then(SourceId::new), "{frame:?}");
+        same(rt, &frame, &copied.after, &after.and_then(SourceId::new));
     }
 }
 

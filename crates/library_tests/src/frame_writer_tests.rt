@@ -1,5 +1,6 @@
 //! Captures of frames, written and read back.
 
+use crate::same::same;
 use arrayvec::ArrayVec;
 use frame_grammar::frame::cells_of;
 use frame_grammar::plain::plain_frame;
@@ -37,14 +38,14 @@ impl<'a> Case<'a> {
         let is_synced = self.every != 0 && number % self.every as u64 == 0;
         if is_synced {
             for byte in [0xFF, 0xFF, 0xFF, 0x7F] {
-                assert_eq!(rt; bytes.next(), Some(&byte), "frame {number}");
+                same(rt, &number, &bytes.next(), &Some(&byte));
             }
         }
         let mut frame = [0; 16];
         for k in 0..8 {
             for _ in 0..if k == 0 { 0 } else { self.halves } {
-                assert_eq!(rt; bytes.next(), Some(&0xFF), "frame {number}");
-                assert_eq!(rt; bytes.next(), Some(&0x7F), "frame {number}");
+                same(rt, &number, &bytes.next(), &Some(&0xFF));
+                same(rt, &number, &bytes.next(), &Some(&0x7F));
             }
             for index in [2 * k, 2 * k + 1] {
                 match bytes.next() {
@@ -53,7 +54,7 @@ impl<'a> Case<'a> {
                 }
             }
         }
-        assert_eq!(rt; bytes.next(), None, "frame {number}");
+        same(rt, &number, &bytes.next(), &None);
         frame
     }
 
@@ -71,7 +72,7 @@ impl<'a> Case<'a> {
                 assert!(rt; id.is_some(), "frame {number} has a byte of no source");
                 if id != Some(0) {
                     let tagged = (id.unwrap_or(0), cell.byte);
-                    assert_eq!(rt; self.bytes.get(self.count), Some(&tagged), "frame {number}");
+                    same(rt, &number, &self.bytes.get(self.count), &Some(&tagged));
                     self.count = self.count.wrapping_add(1);
                 }
             }
@@ -84,7 +85,7 @@ impl<'a> Case<'a> {
         if after == before {
             assert!(rt; out.is_empty());
         } else {
-            assert_eq!(rt; after, before.wrapping_add(1));
+            same(rt, &"after", &after, &before.wrapping_add(1));
             self.read(rt, before, out);
         }
     }
@@ -112,7 +113,7 @@ impl<'a> Case<'a> {
         let mut out = ArrayVec::new();
         let frames = writer.finish(&mut out);
         self.read_call(rt, before, frames, out.as_slice());
-        assert_eq!(rt; self.count, self.bytes.len());
+        same(rt, &"self.count", &self.count, &self.bytes.len());
         frames
     }
 }
@@ -138,11 +139,16 @@ fn expect(
         }
     }
     let mut out = ArrayVec::new();
-    assert_eq!(rt; writer.finish(&mut out), frames);
+    same(
+        rt,
+        &"writer.finish(&mut out)",
+        &writer.finish(&mut out),
+        &frames,
+    );
     assert!(rt; written.try_extend_from_slice(out.as_slice()).is_ok());
-    assert_eq!(rt; written.as_slice(), capture);
+    same(rt, &"written.as_slice()", &written.as_slice(), &capture);
     let mut case = Case::new(every, halves, bytes);
-    assert_eq!(rt; case.run(rt), frames);
+    same(rt, &"case.run(rt)", &case.run(rt), &frames);
 }
 
 #[test]
@@ -195,11 +201,11 @@ fn expect_deferral(rt: &impl Abort, lead: usize, pair: usize, frames: u64) {
     assert!(rt; lead < 32 && pair < 7);
     let bytes = bytes_but(lead, (2, 0x0E));
     let mut case = Case::new(0, 3, &bytes[..lead + 1]);
-    assert_eq!(rt; case.run(rt), frames);
+    same(rt, &"case.run(rt)", &case.run(rt), &frames);
     let last = case.last;
-    assert_eq!(rt; last[2 * pair], 5, "pair {pair}");
-    assert_eq!(rt; last[2 * pair + 1], 0xF1, "pair {pair}");
-    assert_eq!(rt; last[15] >> pair & 1, 1, "pair {pair}");
+    same(rt, &pair, &last[2 * pair], &5);
+    same(rt, &pair, &last[2 * pair + 1], &0xF1);
+    same(rt, &pair, &(last[15] >> pair & 1), &1);
 }
 
 #[test]
@@ -257,13 +263,13 @@ fn check_sure(rt: &impl Abort, bytes: &[(u8, u8)], sizes: &[usize], expected: &[
         assert!(rt; id.number() > 0 && writer.frames() < COUNT_ROOM);
         let mut out = ArrayVec::new();
         writer.put(id, *byte, &mut out);
-        assert_eq!(rt; Some(&out.len()), sizes.get(k), "byte {k}");
+        same(rt, &k, &Some(&out.len()), &sizes.get(k));
         assert!(rt; written.try_extend_from_slice(out.as_slice()).is_ok());
     }
     let mut out = ArrayVec::new();
     writer.copied().rest(&mut out);
     assert!(rt; written.try_extend_from_slice(out.as_slice()).is_ok());
-    assert_eq!(rt; written.as_slice(), expected);
+    same(rt, &"written.as_slice()", &written.as_slice(), &expected);
 }
 
 // A frame is sure once a byte is put after it, and not before: the capture of fourteen bytes of source 1 is one whole

@@ -5,6 +5,7 @@ ghost use Rattle.source_events.specs.declared.event.Event.{Event};
 ghost use Rattle.source_events.specs.declared.packet.Packet.{Packet};
 ghost use Rattle.item_tap.specs.Choices.{holds};
 
+use crate::same::same;
 use item_tap::{Bounds, Choice, Kind, Tap, Test, TestFn, Window};
 use itm_grammar::packet::{ItmPacket, Lateness, Size};
 use source_events::{Event, Packet, RunBytes, What};
@@ -53,8 +54,8 @@ fn passes(choice: &Choice, event: &Event<Packet>) -> bool
 /// The choice holds for the event exactly where its name is among these words.
 fn check_choice(rt: &impl Abort, event: &Event<Packet>, words: &str, name: &str, choice: &Choice) {
     let want = words.split(' ').any(|word| word == name);
-    assert_eq!(rt; choice.holds_for(event), want, "{event:?}, {name}");
-    assert_eq!(rt; passes(choice, event), want, "{event:?}, {name}, by a tap");
+    same(rt, &(&event, &name), &choice.holds_for(event), &want);
+    same(rt, &(&event, &name), &passes(choice, event), &want);
 }
 
 /// Those of some choices that are among these words hold for the event, and no other.
@@ -246,15 +247,17 @@ fn check_tests<F: Test + Drop, G: Test + Drop>(
     let mut chosen = bounds.window();
     let mut number = 1;
     for event in &some_events() {
-        assert_eq!(rt;
-            window.see(event),
-            want.contains(&number),
-            "{bounds:?}, {number}"
+        same(
+            rt,
+            &(&bounds, &number),
+            &window.see(event),
+            &want.contains(&number),
         );
-        assert_eq!(rt;
-            chosen.see(event),
-            want.contains(&number),
-            "{bounds:?}, {number}, by choices"
+        same(
+            rt,
+            &(&bounds, &number),
+            &chosen.see(event),
+            &want.contains(&number),
         );
         number = number.wrapping_add(1);
     }

@@ -1,5 +1,6 @@
 //! Packets as the bytes that the standard's formats give them, written and read.
 
+use crate::same::same;
 use arrayvec::ArrayVec;
 use itm_codec::{AHEAD, ItmDecoder, ItmFound, encode};
 use itm_grammar::packet::{ItmPacket, Lateness};
@@ -33,15 +34,15 @@ fn read(rt: &impl Abort, decoder: &mut ItmDecoder, at: u64, bytes: &[u8], packet
         let held = i as u64 + 1;
         assert!(rt; decoder.is_live());
         if i + 1 < bytes.len() {
-            assert_eq!(rt; step, Step::Quiet, "{packet:?} at {i}");
-            assert_eq!(rt; decoder.held(), held, "{packet:?} at {i}");
+            same(rt, &(&packet, &i), &step, &Step::Quiet);
+            same(rt, &(&packet, &i), &decoder.held(), &held);
         } else {
             let item = Step::Item {
                 half: 0,
                 item: packet,
             };
-            assert_eq!(rt; step, item, "{bytes:?}");
-            assert_eq!(rt; decoder.held(), 0, "{bytes:?}");
+            same(rt, &bytes, &step, &item);
+            same(rt, &bytes, &decoder.held(), &0);
         }
     }
 }
@@ -51,21 +52,31 @@ fn check(rt: &impl Abort, rows: &[ItmRow]) {
     let mut stream = ItmDecoder::aligned();
     let mut hunter = ItmDecoder::hunting();
     for zeros in 0..5 {
-        assert_eq!(rt; answer(rt, &mut hunter, zeros, 0), Step::Skipping);
+        same(
+            rt,
+            &"answer(rt, &mut hunter, zeros, 0)",
+            &answer(rt, &mut hunter, zeros, 0),
+            &Step::Skipping,
+        );
     }
     let locked = Step::Locked {
         skipped: 0,
         half: 0,
         item: ItmPacket::Sync,
     };
-    assert_eq!(rt; answer(rt, &mut hunter, 5, 0x80), locked);
+    same(
+        rt,
+        &"answer(rt, &mut hunter, 5, 0x80)",
+        &answer(rt, &mut hunter, 5, 0x80),
+        &locked,
+    );
     let mut at = 0;
     for row in rows {
         let packet = row.packet;
         assert!(rt; is_proper(&packet), "{packet:?}");
         let mut written = ArrayVec::new();
         encode(&packet, &mut written);
-        assert_eq!(rt; written.as_slice(), row.bytes, "{packet:?}");
+        same(rt, &packet, &written.as_slice(), &row.bytes);
         let mut alone = ItmDecoder::aligned();
         read(rt, &mut alone, 0, written.as_slice(), packet);
         read(rt, &mut stream, at, written.as_slice(), packet);
@@ -134,11 +145,11 @@ fn check_parts(rt: &impl Abort, rows: &[ItmRow], size: usize, behind: u8) {
         at += taken;
         if let Some(packet) = packet {
             assert!(rt; next < rows.len());
-            assert_eq!(rt; packet, rows[next].packet, "in runs of {size}");
+            same(rt, &size, &packet, &rows[next].packet);
             next += 1;
         }
     }
-    assert_eq!(rt; next, rows.len(), "in runs of {size}");
+    same(rt, &size, &next, &rows.len());
 }
 
 #[test]
@@ -184,10 +195,10 @@ fn hunts_for_the_first_sync(rt: HostRuntime) {
                 },
                 None => Step::Skipping,
             };
-            assert_eq!(rt; step, expected, "{bytes:?} at {i}");
-            assert_eq!(rt; decoder.is_locked(), lock.is_some(), "{bytes:?} at {i}");
-            assert_eq!(rt; decoder.skipped(), skipped, "{bytes:?} at {i}");
-            assert_eq!(rt; decoder.held(), 0, "{bytes:?} at {i}");
+            same(&rt, &(&bytes, &i), &step, &expected);
+            same(&rt, &(&bytes, &i), &decoder.is_locked(), &lock.is_some());
+            same(&rt, &(&bytes, &i), &decoder.skipped(), &skipped);
+            same(&rt, &(&bytes, &i), &decoder.held(), &0);
         }
     }
 }
@@ -218,10 +229,10 @@ fn reads_each_header_alone(rt: HostRuntime) {
     for header in 0..=255u8 {
         let mut decoder = ItmDecoder::aligned();
         let step = answer(&rt, &mut decoder, 9, header);
-        assert_eq!(rt; step, alone(header), "header {header}");
+        same(&rt, &header, &step, &alone(header));
         if decoder.is_live() {
             let held = if step == Step::Quiet { 1 } else { 0 };
-            assert_eq!(rt; decoder.held(), held, "header {header}");
+            same(&rt, &header, &decoder.held(), &held);
         }
     }
 }
@@ -255,8 +266,8 @@ fn ends_at_a_fault(rt: HostRuntime) {
                 reason,
             });
             let expected = if is_last { fault } else { Step::Quiet };
-            assert_eq!(rt; step, expected, "{bytes:?} at {i}");
-            assert_eq!(rt; decoder.is_live(), !is_last, "{bytes:?} at {i}");
+            same(&rt, &(&bytes, &i), &step, &expected);
+            same(&rt, &(&bytes, &i), &decoder.is_live(), &(!is_last));
         }
     }
 }

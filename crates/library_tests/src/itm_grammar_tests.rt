@@ -1,5 +1,6 @@
 //! Headers and whole packets, byte by byte, and the fewest bytes that say a packet.
 
+use crate::same::same;
 use itm_grammar::header::{Class, classify};
 use itm_grammar::packet::{ItmPacket, Lateness, Size};
 use itm_grammar::partial::Partial;
@@ -52,7 +53,7 @@ fn source_class(number: u8, hardware: bool, low: u8) -> Class {
 #[test]
 fn classifies_each_header(rt: HostRuntime) {
     for header in 0..=255u8 {
-        assert_eq!(rt; classify(header), expected_class(header), "header {header}");
+        same(&rt, &header, &classify(header), &expected_class(header));
     }
 }
 
@@ -100,19 +101,24 @@ fn check(
         match partial.with_byte(bytes[at]) {
             Next::Go(next) => partial = next,
             Next::End(packet) => {
-                assert_eq!(rt; packets.get(found), Some(&(at, packet)));
+                same(
+                    rt,
+                    &"packets.get(found)",
+                    &packets.get(found),
+                    &Some(&(at, packet)),
+                );
                 partial = Partial::Header;
                 found += 1;
             }
             Next::Fail(reason) => {
-                assert_eq!(rt; found, packets.len());
-                assert_eq!(rt; Err((at, reason)), end);
+                same(rt, &"found", &found, &packets.len());
+                same(rt, &"Err((at, reason))", &Err((at, reason)), &end);
                 return;
             }
         }
     }
-    assert_eq!(rt; found, packets.len());
-    assert_eq!(rt; Ok(partial.len()), end);
+    same(rt, &"found", &found, &packets.len());
+    same(rt, &"Ok(partial.len())", &Ok(partial.len()), &end);
 }
 
 #[test]
@@ -335,6 +341,6 @@ fn takes_as_few_bytes_as_it_can(rt: HostRuntime) {
         } else {
             None
         };
-        assert_eq!(rt; found, *len, "{packet:?}");
+        same(&rt, &packet, &found, len);
     }
 }

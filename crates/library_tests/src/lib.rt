@@ -27,6 +27,8 @@ mod port_reader_tests;
 #[cfg(test)]
 mod port_sync_tests;
 #[cfg(test)]
+mod same;
+#[cfg(test)]
 mod script_rebuild_tests;
 #[cfg(test)]
 mod script_text_tests;

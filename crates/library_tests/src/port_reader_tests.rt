@@ -1,5 +1,6 @@
 //! A reader in each mode, on small captures.
 
+use crate::same::same;
 use arrayvec::ArrayVec;
 use capture_plan::FramesMode;
 use port_reader::{PortReader, PortStep};
@@ -57,11 +58,11 @@ fn feed(
 /// The reader shows this after these bytes.
 fn expect_shown(rt: &impl Abort, port: &PortReader, want: &Shown, bytes: &[u8]) {
     let mode = port.mode();
-    assert_eq!(rt; port.is_live(), want.live, "{mode:?} {bytes:?}");
-    assert_eq!(rt; port.is_locked(), want.locked, "{mode:?} {bytes:?}");
+    same(rt, &(&mode, &bytes), &port.is_live(), &want.live);
+    same(rt, &(&mode, &bytes), &port.is_locked(), &want.locked);
     if port.is_live() {
-        assert_eq!(rt; port.tail(), want.tail, "{mode:?} {bytes:?}");
-        assert_eq!(rt; port.skipped(), want.skipped, "{mode:?} {bytes:?}");
+        same(rt, &(&mode, &bytes), &port.tail(), &want.tail);
+        same(rt, &(&mode, &bytes), &port.skipped(), &want.skipped);
     }
 }
 
@@ -86,21 +87,27 @@ fn expect(
             }
             _ => PortStep::Quiet,
         };
-        assert_eq!(rt; step, wanted, "{mode:?} {bytes:?} at {at}");
-        assert_eq!(rt;
-            out.is_empty(),
-            step != PortStep::Frame,
-            "{mode:?} {bytes:?} at {at}"
+        same(rt, &(&mode, &bytes, &at), &step, &wanted);
+        same(
+            rt,
+            &(&mode, &bytes, &at),
+            &out.is_empty(),
+            &(step != PortStep::Frame),
         );
     }
-    assert_eq!(rt; next, steps.len(), "{mode:?} {bytes:?}");
+    same(rt, &(&mode, &bytes), &next, &steps.len());
     expect_shown(rt, &port, want, bytes);
 }
 
 #[test]
 fn reads_in_each_mode(rt: HostRuntime) {
     for mode in MODES {
-        assert_eq!(rt; PortReader::new(mode).mode(), mode);
+        same(
+            &rt,
+            &"PortReader::new(mode).mode()",
+            &PortReader::new(mode).mode(),
+            &mode,
+        );
     }
     let in_frames = [
         (1, PortStep::Half),
@@ -161,12 +168,12 @@ fn gives_the_cells_of_each_frame(rt: HostRuntime) {
     let mut out = ArrayVec::new();
     for (at, byte) in CAPTURE.iter().enumerate() {
         feed(&rt, &mut port, at, *byte, &mut out);
-        assert_eq!(rt; out.len(), if at == 17 { 14 } else { 0 }, "{at}");
+        same(&rt, &at, &out.len(), &(if at == 17 { 14 } else { 0 }));
         for (index, cell) in out.iter().enumerate() {
-            assert_eq!(rt; cell.at, index as u64 + 3);
+            same(&rt, &"cell.at", &cell.at, &(index as u64 + 3));
             let id = if index == 0 { None } else { SourceId::new(16) };
-            assert_eq!(rt; cell.id, id, "{index}");
-            assert_eq!(rt; cell.byte, 0xFF, "{index}");
+            same(&rt, &index, &cell.id, &id);
+            same(&rt, &index, &cell.byte, &0xFF);
         }
     }
     let mut port = PortReader::new(FramesMode::Bare);
@@ -178,7 +185,7 @@ fn gives_the_cells_of_each_frame(rt: HostRuntime) {
             run: 0,
             byte: *byte,
         };
-        assert_eq!(rt; out.as_slice(), [cell].as_slice(), "{at}");
+        same(&rt, &at, &out.as_slice(), &([cell].as_slice()));
     }
 }
 

@@ -1,5 +1,6 @@
 //! Where halfwords and synchronisations end.
 
+use crate::same::same;
 use port_sync::{Aligner, Half, Hunter};
 use std::process::Abort;
 use trace_values::Reason;
@@ -14,7 +15,7 @@ fn expect(rt: &impl Abort, aligner: &mut Aligner, bytes: &[u8], last: Half) {
         } else {
             Half::Waiting
         };
-        assert_eq!(rt; answer, wanted, "{bytes:?} at {index}");
+        same(rt, &(&bytes, &index), &answer, &wanted);
     }
 }
 
@@ -76,9 +77,9 @@ fn counts_no_synchronisation_as_a_halfword(rt: HostRuntime) {
     }
     expect(&rt, &mut aligner, b"\xff\x7f", Half::HalfSync);
     expect(&rt, &mut aligner, b"\xff\xff\xff\x7f", Half::FullSync);
-    assert_eq!(rt; aligner.len(), 0);
+    same(&rt, &"aligner.len()", &aligner.len(), &0);
     expect(&rt, &mut aligner, b"\xff\xff\xff", Half::Waiting);
-    assert_eq!(rt; aligner.len(), 3);
+    same(&rt, &"aligner.len()", &aligner.len(), &3);
     expect(&rt, &mut aligner, b"\xff", Half::Bad(Reason::BadSync));
     assert!(rt; !aligner.is_live());
 }
@@ -90,6 +91,6 @@ fn finds_the_pattern_at_any_offset(rt: HostRuntime) {
     let mut hunter = Hunter::new();
     for (index, byte) in bytes.iter().enumerate() {
         let found = hunter.push(*byte);
-        assert_eq!(rt; found, index == 7 || index == 14, "at {index}");
+        same(&rt, &index, &found, &(index == 7 || index == 14));
     }
 }

@@ -1,5 +1,6 @@
 //! Scripts as they come, in pieces, with their faults and their captures.
 
+use crate::same::same;
 use capture_plan::{FramesMode, PacketsMode};
 use script_rebuild::{Rebuild, RebuildPlan, ScriptFault};
 use script_text::LineFault;
@@ -92,11 +93,16 @@ fn check(alloc: Global, rt: &impl Abort, row: &Row, pieces: &[usize]) -> Result<
     let mut input = MemorySource::new(row.script, pieces, &[]);
     let mut output = MemorySink::new(&mut room, &[5], &[]);
     let outcome = serve(&mut buffers, &mut action, 1 << 20, &mut input, &mut output);
-    assert_eq!(rt; outcome, row.outcome);
-    assert_eq!(rt; action.fault(), row.fault);
-    assert_eq!(rt; action.last_fault(), row.last_fault);
+    same(rt, &"outcome", &outcome, &row.outcome);
+    same(rt, &"action.fault()", &action.fault(), &row.fault);
+    same(
+        rt,
+        &"action.last_fault()",
+        &action.last_fault(),
+        &row.last_fault,
+    );
     let text = hex::encode(alloc, output.held())?;
-    assert_eq!(rt; text.as_str(), row.output);
+    same(rt, &"text.as_str()", &text.as_str(), &row.output);
     Ok(())
 }
 

@@ -1,5 +1,6 @@
 //! Lines, and what they say.
 
+use crate::same::same;
 use capture_plan::{FramesMode, PacketsMode};
 use dwt_packets::{DwtItem, meaning};
 use itm_grammar::packet::{ItmPacket, Lateness, Size};
@@ -53,37 +54,37 @@ fn said(rt: &impl Abort, text: &[u8]) -> (u8, Item) {
 
 fn check_itm(rt: &impl Abort, text: &str, expected: ItmPacket) {
     match said(rt, text.as_bytes()) {
-        (1, Item::Itm(packet)) => assert_eq!(rt; packet, expected, "{text}"),
+        (1, Item::Itm(packet)) => same(rt, &text, &packet, &expected),
         (id, item) => panic!(rt; "{text} is {item:?} of {id}"),
     }
 }
 
 fn check_dwt(rt: &impl Abort, text: &str, expected: DwtItem) {
     match said(rt, text.as_bytes()) {
-        (1, Item::Dwt(item)) => assert_eq!(rt; item, expected, "{text}"),
+        (1, Item::Dwt(item)) => same(rt, &text, &item, &expected),
         (id, item) => panic!(rt; "{text} is {item:?} of {id}"),
     }
 }
 
 fn check_stp(rt: &impl Abort, text: &str, expected: StpItem) {
     match said(rt, text.as_bytes()) {
-        (2, Item::Stp(item)) => assert_eq!(rt; item, expected, "{text}"),
+        (2, Item::Stp(item)) => same(rt, &text, &item, &expected),
         (id, item) => panic!(rt; "{text} is {item:?} of {id}"),
     }
 }
 
 fn check_raw(rt: &impl Abort, text: &[u8], number: u8, expected: &[u8]) {
     let (id, item) = said(rt, text);
-    assert_eq!(rt; id, number, "{text:?}");
+    same(rt, &text, &id, &number);
     match item {
-        Item::Raw(bytes) => assert_eq!(rt; bytes.as_slice(), expected, "{text:?}"),
+        Item::Raw(bytes) => same(rt, &text, &bytes.as_slice(), &expected),
         item => panic!(rt; "{text:?} is {item:?}"),
     }
 }
 
 fn check_fault(rt: &impl Abort, line: &[u8], expected: LineFault) {
     match read_line(line, &plan()) {
-        Err(fault) => assert_eq!(rt; fault, expected, "{line:?}"),
+        Err(fault) => same(rt, &line, &fault, &expected),
         Ok(line) => panic!(rt; "{line:?} for {expected:?}"),
     }
 }
@@ -118,9 +119,9 @@ fn packets_of_an_itm_source(rt: HostRuntime) -> Result<(), Fail> {
 fn check_first(rt: &impl Abort, piece: &[u8], number: u8, packet: ItmPacket, bytes: usize) {
     match packet_line(piece) {
         Some(line) => {
-            assert_eq!(rt; line.id.number(), number, "{piece:?}");
-            assert_eq!(rt; line.packet, packet, "{piece:?}");
-            assert_eq!(rt; line.bytes, bytes, "{piece:?}");
+            same(rt, &piece, &line.id.number(), &number);
+            same(rt, &piece, &line.packet, &packet);
+            same(rt, &piece, &line.bytes, &bytes);
         }
         None => panic!(rt; "{piece:?} begins with no packet"),
     }
@@ -152,7 +153,7 @@ fn packets_at_the_front_of_a_piece(rt: HostRuntime) {
         b"1 sync\n",
         b"\n",
     ] {
-        assert_eq!(rt; packet_line(piece), None, "{piece:?}");
+        same(&rt, &piece, &packet_line(piece), &None);
     }
 }
 
@@ -360,7 +361,7 @@ fn numbers_and_names_of_faults(rt: HostRuntime) {
         (LineFault::Unfit, 7, "Unfit"),
     ];
     for (fault, number, name) in rows {
-        assert_eq!(rt; fault.number(), number);
-        assert_eq!(rt; fault.name(), name);
+        same(&rt, &"fault.number()", &fault.number(), &number);
+        same(&rt, &"fault.name()", &fault.name(), &name);
     }
 }

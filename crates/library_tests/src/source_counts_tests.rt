@@ -4,6 +4,7 @@ ghost use Rattle.std.specs.Prelude.{◌≡◌, ◌+◌, ◌*◌, ◌≤◌, leng
 ghost use Rattle.source_counts.specs.Kept.{total_of};
 ghost use Rattle.trace_values.specs.declared.limits.TheConstants.{COUNT_ROOM};
 
+use crate::same::same;
 use arrayvec::ArrayVec;
 use frame_grammar::frame::cells_of;
 use frame_grammar::plain::plain_frame;
@@ -41,7 +42,7 @@ fn expect(rt: &impl Abort, frames: &[[u8; 16]], unattributed: u64, sources: &[(u
     for frame in frames {
         let after = by_bytes.add_frame_bytes(frame, id);
         id = add(rt, &mut by_cells, frame, id);
-        assert_eq!(rt; after, id, "{frame:?}");
+        same(rt, &frame, &after, &id);
     }
     expect_counts(rt, &by_cells, frames.len() as u64, unattributed, sources);
     expect_counts(rt, &by_bytes, frames.len() as u64, unattributed, sources);
@@ -55,8 +56,8 @@ fn expect_counts(
     unattributed: u64,
     sources: &[(u8, u64, u64)],
 ) {
-    assert_eq!(rt; counts.frames(), frames);
-    assert_eq!(rt; counts.unattributed(), unattributed, "{sources:?}");
+    same(rt, &"counts.frames()", &counts.frames(), &frames);
+    same(rt, &sources, &counts.unattributed(), &unattributed);
     for number in 0..127u8 {
         let mut want = Counts { bytes: 0, items: 0 };
         for (source, bytes, items) in sources {
@@ -68,7 +69,7 @@ fn expect_counts(
             }
         }
         let got = SourceId::new(number).map(|id| counts.of(id));
-        assert_eq!(rt; got, Some(want), "{number} of {sources:?}");
+        same(rt, &(&number, &sources), &got, &Some(want));
     }
 }
 
@@ -142,18 +143,23 @@ fn counts_each_source(rt: HostRuntime) {
             0 => Counts { bytes: 1, items: 0 },
             _ => Counts { bytes: 1, items: 1 },
         };
-        assert_eq!(rt; counts.of(id), want, "{number}");
-        assert_eq!(rt; counts.frames(), u64::from(number) + 1);
+        same(&rt, &number, &counts.of(id), &want);
+        same(
+            &rt,
+            &"counts.frames()",
+            &counts.frames(),
+            &(u64::from(number) + 1),
+        );
     }
-    assert_eq!(rt; counts.unattributed(), 0);
+    same(&rt, &"counts.unattributed()", &counts.unattributed(), &0);
 }
 
 #[test]
 fn counts_a_frame_without_cells(rt: HostRuntime) {
     let mut counts = SourceCounts::new();
     counts.add_frame(&[]);
-    assert_eq!(rt; counts.frames(), 1);
-    assert_eq!(rt; counts.unattributed(), 0);
+    same(&rt, &"counts.frames()", &counts.frames(), &1);
+    same(&rt, &"counts.unattributed()", &counts.unattributed(), &0);
 }
 
 #[test]
@@ -169,7 +175,7 @@ fn counts_bytes_of_any_runs(rt: HostRuntime) {
     cells[2].id = None;
     let mut counts = SourceCounts::new();
     counts.add_frame(&cells);
-    assert_eq!(rt; counts.of(id).bytes, 2);
-    assert_eq!(rt; counts.unattributed(), 1);
-    assert_eq!(rt; counts.frames(), 1);
+    same(&rt, &"counts.of(id).bytes", &counts.of(id).bytes, &2);
+    same(&rt, &"counts.unattributed()", &counts.unattributed(), &1);
+    same(&rt, &"counts.frames()", &counts.frames(), &1);
 }

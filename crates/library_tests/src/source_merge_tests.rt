@@ -1,5 +1,6 @@
 //! Captures whose events are worked out by hand, byte by byte and in pieces.
 
+use crate::same::same;
 use arrayvec::ArrayVec;
 use capture_plan::{FramesMode, PacketsMode};
 use itm_grammar::packet::{ItmPacket, Size};
@@ -162,13 +163,13 @@ fn expect_tails(rt: &impl Abort, tails: &Tails, bytes: usize, end: &End) {
     let End::Whole(mode, skipped, tail, unattributed, sources) = end else {
         panic!(rt; "a fault must come: {end:?}");
     };
-    assert_eq!(rt; tails.bytes, bytes as u64);
-    assert_eq!(rt; tails.mode, *mode, "{end:?}");
-    assert_eq!(rt; tails.skipped, *skipped, "{end:?}");
-    assert_eq!(rt; tails.tail, *tail, "{end:?}");
-    assert_eq!(rt; tails.unattributed, *unattributed, "{end:?}");
+    same(rt, &"tails.bytes", &tails.bytes, &(bytes as u64));
+    same(rt, &end, &tails.mode, mode);
+    same(rt, &end, &tails.skipped, skipped);
+    same(rt, &end, &tails.tail, tail);
+    same(rt, &end, &tails.unattributed, unattributed);
     let given = tails.sources.as_slice();
-    assert_eq!(rt; given.len(), sources.len(), "{end:?}");
+    same(rt, &end, &given.len(), &sources.len());
     for (source, wanted) in given.iter().zip(*sources) {
         let (number, kind, mode, skipped, tail) = wanted;
         let wanted = SourceTail {
@@ -178,7 +179,7 @@ fn expect_tails(rt: &impl Abort, tails: &Tails, bytes: usize, end: &End) {
             skipped: *skipped,
             tail: *tail,
         };
-        assert_eq!(rt; *source, wanted);
+        same(rt, &"*source", source, &wanted);
     }
 }
 
@@ -187,9 +188,9 @@ fn expect_stop(rt: &impl Abort, stop: &Stop, at: u64, end: &End) {
     let End::Fault(certain, source, fault) = end else {
         panic!(rt; "no fault must come: {stop:?}");
     };
-    assert_eq!(rt; at, *certain, "{stop:?}");
-    assert_eq!(rt; stop.fault, *fault);
-    assert_eq!(rt; number_of(stop.source), *source, "{stop:?}");
+    same(rt, &stop, &at, certain);
+    same(rt, &"stop.fault", &stop.fault, fault);
+    same(rt, &stop, &number_of(stop.source), source);
 }
 
 /// A capture that is fed in pieces of at most this many bytes must give these events and end so.
@@ -215,13 +216,13 @@ fn expect_by(rt: &impl Abort, how: &How, capture: &[u8], size: usize, rows: &[Ro
         }
         if let Flow::Stopped(stop) = flow {
             assert!(rt; !engine.is_live());
-            assert_eq!(rt; given, rows.len(), "{how:?} by {size}");
+            same(rt, &(&how, &size), &given, &rows.len());
             expect_stop(rt, &stop, (from as u64).wrapping_sub(1), end);
             return;
         }
     }
-    assert_eq!(rt; from, capture.len());
-    assert_eq!(rt; given, rows.len(), "{how:?} by {size}");
+    same(rt, &"from", &from, &capture.len());
+    same(rt, &(&how, &size), &given, &rows.len());
     assert!(rt; engine.is_live());
     expect_tails(rt, &engine.finish(), capture.len(), end);
 }
@@ -627,7 +628,7 @@ fn expect_counts(
         }
     }
     assert!(rt; engine.is_live());
-    assert_eq!(rt; engine.port_counts(), *port, "by {size}");
+    same(rt, &size, &engine.port_counts(), port);
     for number in 0..127u8 {
         let mut want = Counts { bytes: 0, items: 0 };
         for (source, bytes, items) in sources {
@@ -638,7 +639,7 @@ fn expect_counts(
                 };
             }
         }
-        assert_eq!(rt; engine.counts(id(number)), want, "{number} by {size}");
+        same(rt, &(&number, &size), &engine.counts(id(number)), &want);
     }
 }
 

@@ -1,5 +1,6 @@
 //! Captures and single packets, read by the bytes and by pieces.
 
+use crate::same::same;
 use std::process::Abort;
 use stp_codec::{PacketTaken, StpDecoder, StpFound, WINDOW};
 use stp_grammar::item::{Place, Stamp, StpItem};
@@ -75,14 +76,14 @@ fn check(
             Step::Skipping => assert!(rt; !by_bytes.is_locked()),
             _ => {
                 assert!(rt; next < told.len());
-                assert_eq!(rt; told[next], (index as u64, step), "{bytes:?}");
+                same(rt, &bytes, &told[next], &(index as u64, step));
                 next += 1;
             }
         }
     }
-    assert_eq!(rt; next, told.len(), "{bytes:?}");
-    assert_eq!(rt; by_bytes.held(), held, "{bytes:?}");
-    assert_eq!(rt; by_bytes.skipped(), skipped, "{bytes:?}");
+    same(rt, &bytes, &next, &told.len());
+    same(rt, &bytes, &by_bytes.held(), &held);
+    same(rt, &bytes, &by_bytes.skipped(), &skipped);
     for size in [1, 3, 5000] {
         check_pieces(rt, decoder(order, hunts), bytes, size, told);
     }
@@ -108,7 +109,12 @@ fn take_front(
         StpFound::Ends(parts) => {
             let taken = decoder.end_part(ahead, parts);
             let item = taken.said.item();
-            assert_eq!(rt; taken.said.has_item(), item.is_some());
+            same(
+                rt,
+                &"taken.said.has_item()",
+                &taken.said.has_item(),
+                &item.is_some(),
+            );
             Some(PacketTaken {
                 bytes: taken.bytes,
                 half: taken.half,
@@ -173,15 +179,11 @@ fn check_parts(
         };
         if !matches!(&step, Step::Quiet | Step::Skipping) {
             assert!(rt; next < told.len() && at > 0);
-            assert_eq!(rt;
-                told[next],
-                (at as u64 - 1, step),
-                "{bytes:?} in parts by {size}"
-            );
+            same(rt, &(&bytes, &size), &told[next], &(at as u64 - 1, step));
             next += 1;
         }
     }
-    assert_eq!(rt; next, told.len(), "{bytes:?} in parts by {size}");
+    same(rt, &(&bytes, &size), &next, &told.len());
 }
 
 /// The bytes in pieces of this size give these answers.
@@ -202,11 +204,11 @@ fn check_pieces(rt: &impl Abort, decoder: StpDecoder, bytes: &[u8], size: usize,
         at += block.bytes;
         if let Some(step) = block.step {
             assert!(rt; next < told.len() && at > 0);
-            assert_eq!(rt; told[next], (at as u64 - 1, step), "{bytes:?} by {size}");
+            same(rt, &(&bytes, &size), &told[next], &(at as u64 - 1, step));
             next += 1;
         }
     }
-    assert_eq!(rt; next, told.len(), "{bytes:?} by {size}");
+    same(rt, &(&bytes, &size), &next, &told.len());
 }
 
 /// Captures that begin with a packet or anywhere, with what is read of them, and the faults of the grammar.
@@ -404,15 +406,17 @@ fn reads_runs(rt: HostRuntime) {
         let mut decoder = decoder(Order::Msn, hunts);
         assert!(rt; decoder.is_live() && decoder.held() == 0 && decoder.skipped() == 0);
         let block = decoder.feed_piece(0, &all);
-        assert_eq!(rt;
-            block,
-            Block {
+        same(
+            &rt,
+            &"block",
+            &block,
+            &Block {
                 bytes: 4096,
-                step: None
-            }
+                step: None,
+            },
         );
-        assert_eq!(rt; decoder.held(), held);
-        assert_eq!(rt; decoder.skipped(), skipped);
+        same(&rt, &"decoder.held()", &decoder.held(), &held);
+        same(&rt, &"decoder.skipped()", &decoder.skipped(), &skipped);
     }
 }
 

@@ -2,6 +2,7 @@
 
 ghost use Rattle.std.specs.Prelude.{◌<◌};
 
+use crate::same::same;
 use arrayvec::ArrayVec;
 use std::process::Abort;
 use std::test::Fail;
@@ -54,13 +55,18 @@ fn check_bytes(rt: &impl Abort, order: Order, items: &[StpItem], bytes: &[u8]) {
     let mut written = ArrayVec::<u8, 200>::new();
     for item in items {
         let mut out = ArrayVec::new();
-        assert_eq!(rt; put(rt, &mut encoder, item, &mut out), Ok(()));
+        same(
+            rt,
+            &"put(rt, &mut encoder, item, &mut out)",
+            &put(rt, &mut encoder, item, &mut out),
+            &Ok(()),
+        );
         assert!(rt; written.try_extend_from_slice(out.as_slice()).is_ok());
     }
     let mut out = ArrayVec::new();
     encoder.finish(&mut out);
     assert!(rt; written.try_extend_from_slice(out.as_slice()).is_ok());
-    assert_eq!(rt; written.as_slice(), bytes, "{items:?}");
+    same(rt, &items, &written.as_slice(), &bytes);
 }
 
 #[test]
@@ -118,32 +124,55 @@ fn refuses_what_does_not_fit(rt: HostRuntime) -> Result<(), Fail> {
         channel: None,
     };
     let absent = byte(nowhere, 0, Stamp::None);
-    assert_eq!(rt;
-        put(&rt, &mut encoder, &absent, &mut out),
-        Err(Unfit { version: None })
+    same(
+        &rt,
+        &"put(&rt, &mut encoder, &absent, &mut out)",
+        &put(&rt, &mut encoder, &absent, &mut out),
+        &Err(Unfit { version: None }),
     );
-    assert_eq!(rt;
-        put(&rt, &mut encoder, &StpItem::Version(3), &mut out),
-        Ok(())
+    same(
+        &rt,
+        &"put(&rt, &mut encoder, &StpItem::Version(3), &mut out)",
+        &put(&rt, &mut encoder, &StpItem::Version(3), &mut out),
+        &Ok(()),
     );
-    assert_eq!(rt; out.as_slice(), [0x0F, 0x30].as_slice());
-    assert_eq!(rt; encoder.version(), Some(3));
+    same(
+        &rt,
+        &"out.as_slice()",
+        &out.as_slice(),
+        &([0x0F, 0x30].as_slice()),
+    );
+    same(&rt, &"encoder.version()", &encoder.version(), &Some(3));
 
     let mut out = ArrayVec::new();
     let unfit = Unfit { version: Some(3) };
-    assert_eq!(rt;
-        put(&rt, &mut encoder, &flag(Stamp::Gray(5)), &mut out),
-        Err(unfit)
+    same(
+        &rt,
+        &"put(&rt, &mut encoder, &flag(Stamp::Gray(5)), &mut out)",
+        &put(&rt, &mut encoder, &flag(Stamp::Gray(5)), &mut out),
+        &Err(unfit),
     );
     assert!(rt; out.is_empty());
-    assert_eq!(rt;
-        put(&rt, &mut encoder, &flag(Stamp::Natural(5)), &mut out),
-        Ok(())
+    same(
+        &rt,
+        &"put(&rt, &mut encoder, &flag(Stamp::Natural(5)), &mut out)",
+        &put(&rt, &mut encoder, &flag(Stamp::Natural(5)), &mut out),
+        &Ok(()),
     );
-    assert_eq!(rt; out.as_slice(), [0x1E].as_slice());
+    same(
+        &rt,
+        &"out.as_slice()",
+        &out.as_slice(),
+        &([0x1E].as_slice()),
+    );
     let mut end = ArrayVec::new();
     encoder.finish(&mut end);
-    assert_eq!(rt; end.as_slice(), [0x05].as_slice());
+    same(
+        &rt,
+        &"end.as_slice()",
+        &end.as_slice(),
+        &([0x05].as_slice()),
+    );
 
     let rows: [(Stamp, bool); 4] = [
         (Stamp::None, false),
@@ -155,16 +184,19 @@ fn refuses_what_does_not_fit(rt: HostRuntime) -> Result<(), Fail> {
         let mut copy = encoder;
         let mut out = ArrayVec::new();
         let item = StpItem::NullStamp { stamp };
-        assert_eq!(rt;
-            put(&rt, &mut copy, &item, &mut out).is_ok(),
-            fits,
-            "{stamp:?}"
+        same(
+            &rt,
+            &stamp,
+            &put(&rt, &mut copy, &item, &mut out).is_ok(),
+            &fits,
         );
     }
     let text = format!(in rt.alloc(); "{unfit}")?;
-    assert_eq!(rt;
-        text.as_str(),
-        "the item does not fit what was written before it"
+    same(
+        &rt,
+        &"text.as_str()",
+        &text.as_str(),
+        &"the item does not fit what was written before it",
     );
     Ok(())
 }
@@ -200,23 +232,24 @@ impl Bench {
             match self.decoder.feed(self.at, *byte) {
                 Step::Quiet => {}
                 Step::Item { item, .. } => {
-                    assert_eq!(rt; Some(item), wanted.0);
+                    same(rt, &"Some(item)", &Some(item), &wanted.0);
                     wanted = (wanted.1, None);
                 }
                 step => assert!(rt; false, "{step:?}"),
             }
             self.at = self.at.wrapping_add(1);
         }
-        assert_eq!(rt; wanted.1, None);
+        same(rt, &"wanted.1", &wanted.1, &None);
         self.waiting = wanted.0;
     }
 
     fn put(&mut self, rt: &impl Abort, item: StpItem) {
         let mut out = ArrayVec::new();
-        assert_eq!(rt;
-            put(rt, &mut self.encoder, &item, &mut out),
-            Ok(()),
-            "{item:?}"
+        same(
+            rt,
+            &item,
+            &put(rt, &mut self.encoder, &item, &mut out),
+            &Ok(()),
         );
         self.read(rt, out.as_slice(), Some(item));
     }
@@ -226,8 +259,8 @@ impl Bench {
         let mut out = ArrayVec::new();
         self.encoder.finish(&mut out);
         self.read(rt, out.as_slice(), None);
-        assert_eq!(rt; self.waiting, None);
-        assert_eq!(rt; self.decoder.held(), 0);
+        same(rt, &"self.waiting", &self.waiting, &None);
+        same(rt, &"self.decoder.held()", &self.decoder.held(), &0);
     }
 }
 

@@ -2,6 +2,7 @@
 
 ghost use Rattle.std.specs.Prelude.{◌<◌};
 
+use crate::same::same;
 use std::process::Abort;
 use stp_grammar::attribution::Attribution;
 use stp_grammar::item::{Place, Stamp, StpItem};
@@ -14,14 +15,34 @@ use trace_values::{Next, Reason};
 
 #[test]
 fn halves_bytes_and_joins_nibbles(rt: HostRuntime) {
-    assert_eq!(rt; nibbles(0x00), (0, 0));
-    assert_eq!(rt; nibbles(0x41), (1, 4));
-    assert_eq!(rt; nibbles(0xFE), (14, 15));
-    assert_eq!(rt; number_with(Order::Msn, 2, 0x41, 0xA), 0x41A);
-    assert_eq!(rt; number_with(Order::Lsn, 2, 0x41, 0xA), 0xA41);
+    same(&rt, &"nibbles(0x00)", &nibbles(0x00), &(0, 0));
+    same(&rt, &"nibbles(0x41)", &nibbles(0x41), &(1, 4));
+    same(&rt, &"nibbles(0xFE)", &nibbles(0xFE), &(14, 15));
+    same(
+        &rt,
+        &"number_with(Order::Msn, 2, 0x41, 0xA)",
+        &number_with(Order::Msn, 2, 0x41, 0xA),
+        &0x41A,
+    );
+    same(
+        &rt,
+        &"number_with(Order::Lsn, 2, 0x41, 0xA)",
+        &number_with(Order::Lsn, 2, 0x41, 0xA),
+        &0xA41,
+    );
     let low = 0x0FFF_FFFF_FFFF_FFFF;
-    assert_eq!(rt; number_with(Order::Msn, 15, low, 0), 0xFFFF_FFFF_FFFF_FFF0);
-    assert_eq!(rt; number_with(Order::Lsn, 15, low, 8), 0x8FFF_FFFF_FFFF_FFFF);
+    same(
+        &rt,
+        &"number_with(Order::Msn, 15, low, 0)",
+        &number_with(Order::Msn, 15, low, 0),
+        &0xFFFF_FFFF_FFFF_FFF0,
+    );
+    same(
+        &rt,
+        &"number_with(Order::Lsn, 15, low, 8)",
+        &number_with(Order::Lsn, 15, low, 8),
+        &0x8FFF_FFFF_FFFF_FFFF,
+    );
 }
 
 /// The opcodes in the order of their rows, with how many nibbles the payload has and whether a timestamp follows.
@@ -69,13 +90,14 @@ fn has_the_table(rt: HostRuntime) {
         let (first, second, third, payload, stamped) = TABLE[usize::from(number)];
         let row = row_at(number);
         let nibbles = 1 + u8::from(second.is_some()) + u8::from(third.is_some());
-        assert_eq!(rt; row.opcode_nibbles(), nibbles, "{row:?}");
-        assert_eq!(rt; row.payload_nibbles(), payload, "{row:?}");
-        assert_eq!(rt; row.is_stamped(), stamped, "{row:?}");
-        assert_eq!(rt;
-            opcode(&rt, first, second, third),
-            Head::Whole(number),
-            "{row:?}"
+        same(&rt, &row, &row.opcode_nibbles(), &nibbles);
+        same(&rt, &row, &row.payload_nibbles(), &payload);
+        same(&rt, &row, &row.is_stamped(), &stamped);
+        same(
+            &rt,
+            &row,
+            &opcode(&rt, first, second, third),
+            &Head::Whole(number),
         );
     }
 }
@@ -115,10 +137,11 @@ fn answers_what_nibbles_begin(rt: HostRuntime) {
         (0xF, Some(0x0), Some(0xF), Head::Refused),
     ];
     for (first, second, third, head) in rows {
-        assert_eq!(rt;
-            opcode(&rt, first, second, third),
-            head,
-            "{first} {second:?} {third:?}"
+        same(
+            &rt,
+            &(&first, &second, &third),
+            &opcode(&rt, first, second, third),
+            &head,
         );
     }
 }
@@ -144,7 +167,7 @@ fn read(rt: &impl Abort, order: Order, text: &[u8]) -> Next<Partial, StpPacket> 
             Next::Go(next) => partial = next,
             says => return says,
         }
-        assert_eq!(rt; partial.len(), at as u64 + 1);
+        same(rt, &"partial.len()", &partial.len(), &(at as u64 + 1));
     }
     partial.with_nibble(order, digit(text[last]))
 }
@@ -172,8 +195,18 @@ fn names_each_fault(rt: HostRuntime) {
         (b"FFFFFFFFFFFFFFFFFFFFFFE", Reason::BadAsync),
     ];
     for (text, reason) in rows {
-        assert_eq!(rt; read(&rt, Order::Msn, text), Next::Fail(reason), "{text:?}");
-        assert_eq!(rt; read(&rt, Order::Lsn, text), Next::Fail(reason), "{text:?}");
+        same(
+            &rt,
+            &text,
+            &read(&rt, Order::Msn, text),
+            &Next::Fail(reason),
+        );
+        same(
+            &rt,
+            &text,
+            &read(&rt, Order::Lsn, text),
+            &Next::Fail(reason),
+        );
     }
 }
 
@@ -186,18 +219,43 @@ fn after_run(rt: &impl Abort, count: u64) -> Next<Partial, StpPacket> {
             Next::Go(next) => partial = next,
             says => return says,
         }
-        assert_eq!(rt; partial.len(), fed + 1);
+        same(rt, &"partial.len()", &partial.len(), &(fed + 1));
     }
     partial.with_nibble(Order::Msn, 0)
 }
 
 #[test]
 fn reads_synchronisations(rt: HostRuntime) {
-    assert_eq!(rt; after_run(&rt, 2), Next::Fail(Reason::BadAsync));
-    assert_eq!(rt; after_run(&rt, 20), Next::Fail(Reason::BadAsync));
-    assert_eq!(rt; after_run(&rt, 21), Next::End(StpPacket::Async));
-    assert_eq!(rt; after_run(&rt, 22), Next::End(StpPacket::Async));
-    assert_eq!(rt; after_run(&rt, 1000), Next::End(StpPacket::Async));
+    same(
+        &rt,
+        &"after_run(&rt, 2)",
+        &after_run(&rt, 2),
+        &Next::Fail(Reason::BadAsync),
+    );
+    same(
+        &rt,
+        &"after_run(&rt, 20)",
+        &after_run(&rt, 20),
+        &Next::Fail(Reason::BadAsync),
+    );
+    same(
+        &rt,
+        &"after_run(&rt, 21)",
+        &after_run(&rt, 21),
+        &Next::End(StpPacket::Async),
+    );
+    same(
+        &rt,
+        &"after_run(&rt, 22)",
+        &after_run(&rt, 22),
+        &Next::End(StpPacket::Async),
+    );
+    same(
+        &rt,
+        &"after_run(&rt, 1000)",
+        &after_run(&rt, 1000),
+        &Next::End(StpPacket::Async),
+    );
 }
 
 #[test]
@@ -238,11 +296,31 @@ fn reads_stamps_of_each_size(rt: HostRuntime) {
             word,
         })
     };
-    assert_eq!(rt; read(&rt, Order::Msn, b"E0"), stamped(0, 0));
+    same(
+        &rt,
+        &"read(&rt, Order::Msn, b'E0')",
+        &read(&rt, Order::Msn, b"E0"),
+        &stamped(0, 0),
+    );
     for (greatest, one, size, word) in rows {
-        assert_eq!(rt; read(&rt, Order::Msn, greatest), stamped(size, word));
-        assert_eq!(rt; read(&rt, Order::Lsn, greatest), stamped(size, word));
-        assert_eq!(rt; read(&rt, Order::Msn, one), stamped(size, 1));
+        same(
+            &rt,
+            &"read(&rt, Order::Msn, greatest)",
+            &read(&rt, Order::Msn, greatest),
+            &stamped(size, word),
+        );
+        same(
+            &rt,
+            &"read(&rt, Order::Lsn, greatest)",
+            &read(&rt, Order::Lsn, greatest),
+            &stamped(size, word),
+        );
+        same(
+            &rt,
+            &"read(&rt, Order::Msn, one)",
+            &read(&rt, Order::Msn, one),
+            &stamped(size, 1),
+        );
     }
 }
 
@@ -377,7 +455,7 @@ fn tells_places(rt: HostRuntime) {
             marked: false,
             stamp: Stamp::None,
         };
-        assert_eq!(rt; last_item(&rt, packets), Some(item), "{packets:?}");
+        same(&rt, &packets, &last_item(&rt, packets), &Some(item));
     }
 }
 
@@ -439,7 +517,7 @@ fn tells_times(rt: HostRuntime) {
     ];
     for (packets, stamp) in rows {
         match last_item(&rt, packets) {
-            Some(StpItem::Flag { stamp: told, .. }) => assert_eq!(rt; told, stamp, "{packets:?}"),
+            Some(StpItem::Flag { stamp: told, .. }) => same(&rt, &packets, &told, &stamp),
             _ => assert!(rt; false, "{packets:?}"),
         }
     }
@@ -474,7 +552,7 @@ fn tests_packets(rt: HostRuntime) {
         (stamped(15, 0), false),
     ];
     for (packet, proper) in rows {
-        assert_eq!(rt; is_proper(&packet), proper, "{packet:?}");
+        same(&rt, &packet, &is_proper(&packet), &proper);
     }
 }
 
@@ -544,6 +622,6 @@ fn tests_items(rt: HostRuntime) {
         (StpItem::NullStamp { stamp: Stamp::None }, true),
     ];
     for (item, proper) in rows {
-        assert_eq!(rt; is_proper_stp(&item), proper, "{item:?}");
+        same(&rt, &item, &is_proper_stp(&item), &proper);
     }
 }

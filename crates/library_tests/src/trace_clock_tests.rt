@@ -1,5 +1,6 @@
 //! The times that timestamps tell.
 
+use crate::same::same;
 use std::process::Abort;
 use trace_clock::{
     GlobalClock, LocalClock, Stamps, from_gray, to_gray, word_after, word_fits, word_nibbles,
@@ -22,18 +23,23 @@ fn goes_to_and_fro(rt: HostRuntime) {
         (u64::MAX, 0x8000_0000_0000_0000),
     ];
     for (natural, gray) in rows {
-        assert_eq!(rt; to_gray(natural), gray, "{natural}");
-        assert_eq!(rt; from_gray(gray), natural, "{gray}");
+        same(&rt, &natural, &to_gray(natural), &gray);
+        same(&rt, &gray, &from_gray(gray), &natural);
     }
 }
 
 #[test]
 fn adds_up(rt: HostRuntime) {
     let mut clock = LocalClock::new();
-    assert_eq!(rt; clock.add(136), 136);
-    assert_eq!(rt; clock.add(2), 138);
-    assert_eq!(rt; clock.add(0), 138);
-    assert_eq!(rt; clock.add(0x0FFF_FFFF), 0x1000_0089);
+    same(&rt, &"clock.add(136)", &clock.add(136), &136);
+    same(&rt, &"clock.add(2)", &clock.add(2), &138);
+    same(&rt, &"clock.add(0)", &clock.add(0), &138);
+    same(
+        &rt,
+        &"clock.add(0x0FFF_FFFF)",
+        &clock.add(0x0FFF_FFFF),
+        &0x1000_0089,
+    );
 }
 
 #[derive(Clone, Copy, Debug)]
@@ -140,7 +146,7 @@ fn tells_the_time(rt: HostRuntime) {
         for stamp in stamps {
             take(&rt, &mut clock, *stamp);
         }
-        assert_eq!(rt; clock.now(), time, "{stamps:?}");
+        same(&rt, &stamps, &clock.now(), &time);
     }
 }
 
@@ -197,16 +203,17 @@ fn has_the_nibbles_of_its_size(rt: HostRuntime) {
     ];
     for size in 0..15u8 {
         let (nibbles, greatest, after_least, after_greatest) = rows[usize::from(size)];
-        assert_eq!(rt; word_nibbles(size), nibbles, "{size}");
+        same(&rt, &size, &word_nibbles(size), &nibbles);
         if size < 14 {
             assert!(rt; !word_fits(size, greatest.saturating_add(1)), "{size}");
             assert!(rt; !word_fits(size, u64::MAX), "{size}");
         }
-        assert_eq!(rt; after_word(&rt, last, size, 0), after_least, "{size}");
-        assert_eq!(rt;
-            after_word(&rt, last, size, greatest),
-            after_greatest,
-            "{size}"
+        same(&rt, &size, &after_word(&rt, last, size, 0), &after_least);
+        same(
+            &rt,
+            &size,
+            &after_word(&rt, last, size, greatest),
+            &after_greatest,
         );
     }
     assert!(rt; !word_fits(15, 0) && !word_fits(15, u64::MAX) && !word_fits(255, 0));
@@ -239,7 +246,12 @@ fn tells_natural_times(rt: HostRuntime) {
         (14, 3, 3),
     ];
     for (size, word, time) in rows {
-        assert_eq!(rt; apply(&rt, &mut stamps, size, word), time, "{size} {word}");
+        same(
+            &rt,
+            &(&size, &word),
+            &apply(&rt, &mut stamps, size, word),
+            &time,
+        );
     }
 }
 
@@ -257,7 +269,12 @@ fn tells_gray_times(rt: HostRuntime) {
         (0, 0, u64::MAX - 1),
     ];
     for (size, word, time) in rows {
-        assert_eq!(rt; apply(&rt, &mut stamps, size, word), time, "{size} {word}");
+        same(
+            &rt,
+            &(&size, &word),
+            &apply(&rt, &mut stamps, size, word),
+            &time,
+        );
     }
 }
 
@@ -280,7 +297,12 @@ fn finds_the_least(rt: HostRuntime) {
         (true, 8, 16, (2, 0x18)),
     ];
     for (gray, word, time, least) in rows {
-        assert_eq!(rt; after(&rt, gray, word).least(time), least, "{word} {time}");
+        same(
+            &rt,
+            &(&word, &time),
+            &after(&rt, gray, word).least(time),
+            &least,
+        );
     }
 }
 
@@ -323,16 +345,18 @@ fn finds_what_a_search_finds(rt: HostRuntime) {
     for shift in 0..64u32 {
         for near in [0, 1, 2, 3, 0x11, 0xF0F, 0x8001] {
             let whole = last ^ (near << shift);
-            assert_eq!(rt;
-                Some(natural.least(whole)),
-                search(&rt, natural, whole, whole),
-                "{whole}"
+            same(
+                &rt,
+                &whole,
+                &Some(natural.least(whole)),
+                &search(&rt, natural, whole, whole),
             );
             let time = from_gray(whole);
-            assert_eq!(rt;
-                Some(gray.least(time)),
-                search(&rt, gray, whole, time),
-                "{whole}"
+            same(
+                &rt,
+                &whole,
+                &Some(gray.least(time)),
+                &search(&rt, gray, whole, time),
             );
         }
     }

@@ -1,12 +1,13 @@
 //! Runs of an action over inputs and outputs in memory, which fail at each of their calls in turn.
 
-ghost use Rattle.std.specs.Prelude.{◌≡◌, true, not, refl};
+ghost use Rattle.std.specs.Prelude.{◌≡◌, true, false, not, refl};
 ghost use Rattle.library_tests.specs.Doubling.{has_fault, HasFault, doubled, last_line};
 ghost use Rattle.library_tests.specs.DoublingLaws.{none_at_first, fault_stays, doubled_stays, last_line_stays};
 ghost use Rattle.library_tests.specs.DoublingLaws.{doubled_grows};
 
 mod watched;
 
+use crate::same::same;
 use std::alloc::Global;
 use std::process::Abort;
 use std::test::Fail;
@@ -38,6 +39,8 @@ impl Action for Doubling {
     ghost text = { λ _. doubled };
 
     ghost ending = { λ _. last_line };
+
+    ghost due = { λ _. false };
 
     ghost never_at_first = { λ _. none_at_first };
 
@@ -76,6 +79,10 @@ impl Action for Doubling {
             "\nfault\n"
         };
         outlet.append(line.as_bytes());
+    }
+
+    fn is_due(&self) -> bool {
+        false
     }
 }
 
@@ -123,8 +130,8 @@ fn check(
         &mut input,
         &mut output,
     );
-    assert_eq!(rt; ended, outcome);
-    assert_eq!(rt; output.held(), text);
+    same(rt, &"ended", &ended, &outcome);
+    same(rt, &"output.held()", &output.held(), &text);
     Ok(())
 }
 
@@ -278,9 +285,9 @@ fn check_long(
     let mut input = MemorySource::new(&bytes, &[], read_fails);
     let mut output = MemorySink::new(&mut room, &[1000, 7], write_fails);
     let ended = serve(&mut buffers, &mut action, 1 << 24, &mut input, &mut output);
-    assert_eq!(rt; ended, outcome);
+    same(rt, &"ended", &ended, &outcome);
     assert!(rt; count <= text.len());
-    assert_eq!(rt; output.held(), &text[..count]);
+    same(rt, &"output.held()", &output.held(), &&text[..count]);
     Ok(())
 }
 
@@ -310,10 +317,10 @@ fn check_recent(
     let mut input = MemorySource::new(bytes, pieces, &[]);
     let mut output = MemorySink::new(&mut room, &[], &[]);
     let ended = serve(&mut buffers, &mut action, 1 << 24, &mut input, &mut output);
-    assert_eq!(rt; ended, Outcome::FaultFound);
+    same(rt, &"ended", &ended, &Outcome::FaultFound);
     let mut last = [0; RECENT_ROOM];
     let count = buffers.recent(&mut last);
-    assert_eq!(rt; &last[..count], recent);
+    same(rt, &"&last[..count]", &&last[..count], &recent);
     Ok(())
 }
 

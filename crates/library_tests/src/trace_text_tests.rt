@@ -1,11 +1,12 @@
 //! The texts of lines, with the least and the greatest numbers.
 
+use crate::same::same;
 use source_events::{PortMode, SourceKind, SourceTail, Stop};
 use std::process::Abort;
 use trace_stream::{TEXT_ROOM, Text};
 use trace_text::{
-    EndLine, FaultLine, LastLine, LimitLine, PortCountsLines, PortEndLine, ScriptFaultLine,
-    SourceEndLine,
+    BufferLine, EndLine, FaultLine, ImageLine, LastLine, LimitLine, PortCountsLines, PortEndLine,
+    ScriptFaultLine, SourceEndLine,
 };
 use trace_values::{Fault, Reason, SourceId};
 
@@ -16,7 +17,7 @@ fn check<T: Text>(rt: &impl Abort, text: &T, expected: &[u8])
 {
     let mut room = [b'.'; TEXT_ROOM];
     let end = text.put(&mut room, 0);
-    assert_eq!(rt; &room[..end], expected);
+    same(rt, &"&room[..end]", &&room[..end], &expected);
 }
 
 #[test]
@@ -88,6 +89,17 @@ fn lines_at_the_end(rt: HostRuntime) {
         b"full 18446744073709551615\nhalf 0\nframes 18446744073709551615\n",
     );
     check(&rt, &LimitLine { limit: 5 }, b"limit 5\n");
+    let buffer = BufferLine {
+        pointer: 4,
+        full: true,
+        dropped: u64::MAX,
+    };
+    check(
+        &rt,
+        &buffer,
+        b"pointer 4 full 1 dropped 18446744073709551615\n",
+    );
+    check(&rt, &ImageLine { size: 16 }, b"image isn't 16 bytes\n");
     let fault = ScriptFaultLine {
         line: 10,
         number: 4,

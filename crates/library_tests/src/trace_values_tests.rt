@@ -1,5 +1,6 @@
 //! Sources, reasons, patterns, and the pieces that a machine takes.
 
+use crate::same::same;
 use trace_values::{Block, Cell, Fault, Machine, Pattern, Reason, SourceId, Step, feed_block};
 
 #[test]
@@ -10,13 +11,18 @@ fn sources_are_0_to_126(rt: HostRuntime) {
             127..=255 => None,
             _ => Some(number),
         };
-        assert_eq!(rt; found, want, "{number}");
+        same(&rt, &number, &found, &want);
     }
 }
 
 #[test]
 fn the_default_source_is_the_null_source(rt: HostRuntime) {
-    assert_eq!(rt; SourceId::default().number(), 0);
+    same(
+        &rt,
+        &"SourceId::default().number()",
+        &SourceId::default().number(),
+        &0,
+    );
 }
 
 #[test]
@@ -27,7 +33,7 @@ fn a_default_cell_has_no_source(rt: HostRuntime) {
         run: 0,
         byte: 0,
     };
-    assert_eq!(rt; Cell::default(), cell);
+    same(&rt, &"Cell::default()", &Cell::default(), &cell);
 }
 
 #[test]
@@ -44,8 +50,8 @@ fn each_reason_has_its_number_and_name(rt: HostRuntime) {
         (Reason::BadAsync, 9, "BadAsync"),
     ];
     for (reason, number, name) in table {
-        assert_eq!(rt; reason.number(), number, "{reason:?}");
-        assert_eq!(rt; reason.name(), name, "{reason:?}");
+        same(&rt, &reason, &reason.number(), &number);
+        same(&rt, &reason, &reason.name(), &name);
     }
 }
 
@@ -103,7 +109,7 @@ fn finds_each_pattern(rt: HostRuntime) {
         ),
     ];
     for (pattern, units, found) in table {
-        assert_eq!(rt; ends(pattern, units), found, "{units:?}");
+        same(&rt, &units, &ends(pattern, units), &found);
     }
 }
 
@@ -218,11 +224,12 @@ fn takes_a_piece_up_to_the_first_byte_that_tells(rt: HostRuntime) {
     for (piece, bytes, step) in table {
         let mut machine = Scripted { live: true };
         let block = feed_block(&mut machine, 100, piece);
-        assert_eq!(rt; block, Block { bytes, step }, "{piece:?}");
-        assert_eq!(rt;
-            machine.is_live(),
-            !matches!(step, Some(Step::Fault(_))),
-            "{piece:?}"
+        same(&rt, &piece, &block, &Block { bytes, step });
+        same(
+            &rt,
+            &piece,
+            &machine.is_live(),
+            &(!matches!(step, Some(Step::Fault(_)))),
         );
     }
 }

@@ -1,5 +1,6 @@
 //! The items of the exercise, by their number.
 
+use crate::same::same;
 use itm_grammar::packet::{ItmPacket, Lateness, Size};
 use stp_grammar::item::{Place, Stamp, StpItem};
 use stp_grammar::packet::Width;
@@ -52,6 +53,6 @@ fn makes_the_items_of_the_table(rt: HostRuntime) {
         (999999, software(21, 333333)),
     ];
     for (k, want) in table {
-        assert_eq!(rt; item_at(k), want, "item {k}");
+        same(&rt, &k, &item_at(k), &want);
     }
 }

@@ -130,7 +130,7 @@ value_is One v = ap (λ d. codes "u8 " ++ d) (encoded 1 v)
 value_is Two v = ap (λ d. codes "u16 " ++ d) (encoded 2 v)
 value_is Four v = ap (λ d. codes "u32 " ++ d) (encoded 4 v)
 
-byte_is : (v : ℕ) → v < 256 → encode_lower (v ∷ []) ≡ hex_digits 2 v
+pub byte_is : (v : ℕ) → v < 256 → encode_lower (v ∷ []) ≡ hex_digits 2 v
 byte_is v h =
     let small : v ≡ v % 256 = omega arith in
     ap (λ b. encode_lower (b ∷ [])) small ∙ encoded 1 v

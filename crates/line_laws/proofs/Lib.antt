@@ -9,3 +9,4 @@ pub mod Fitting
 pub mod Lowering
 pub mod Saying
 pub mod LineLaw
+pub mod TriggerLaw

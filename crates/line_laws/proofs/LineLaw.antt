@@ -25,7 +25,7 @@ low_append : (a b : List ℕ) → map lowered (a ++ b) ≡ map lowered a ++ map 
 low_append [] b = refl
 low_append (x ∷ a) b = ap (λ (l : List ℕ). lowered x ∷ l) (low_append a b)
 
-joined_low : (words : List (List ℕ)) → map lowered (joined words) ≡ joined (low words)
+pub joined_low : (words : List (List ℕ)) → map lowered (joined words) ≡ joined (low words)
 joined_low [] = refl
 joined_low (word ∷ []) = refl
 joined_low (word ∷ (next ∷ words)) =

@@ -1,3 +1,6 @@
 pub mod Lines
 pub mod Puts
 pub mod Standing
+pub mod SoundSources
+pub mod OneVersion
+pub mod AllSegments

@@ -1,5 +1,5 @@
 -- Lines, for worked rows.
-use Rattle.std.specs.Prelude.{List, [], ◌∷◌, codes}
+use Rattle.std.specs.Prelude.{ℕ, List, [], ◌∷◌, ◌++◌, flat_map, codes}
 use Rattle.frame_grammar.specs.Rows.{hex}
 use Rattle.stp_grammar.specs.declared.item.Stamp.TheVariants.{None as NoStamp, Natural}
 use Rattle.stp_grammar.specs.declared.item.StpItem.TheVariants.{Async, Version}
@@ -10,6 +10,10 @@ use Rattle.dwt_packets.specs.declared.item.DwtItem.TheVariants.{Counters}
 use Rattle.script_text.specs.declared.items.Item.TheVariants.{Itm, Dwt, Stp, Raw}
 use Rattle.script_text.specs.declared.lines.Line.{Line}
 use Rattle.script_text.specs.declared.lines.Line.TheVariants.{Nothing, Of}
+use Rattle.script_text.specs.declared.version_two.Line2.{Line2}
+use Rattle.script_text.specs.declared.version_two.Line2.TheVariants.{One as OneLine, Flush, Trigger}
+use Rattle.source_events.specs.declared.plan.Plan.{Plan}
+use Rattle.script_text.specs.Rows.{both}
 
 -- `1 sync`, `2 async`, `2 version 3`, `16 raw a5`, `1 port 0 u8 41` and `2 data 1 0 u8 42 - n=5`
 abbrev pub three_sources : List Line
@@ -22,3 +26,21 @@ abbrev pub kept_over_a_line : List Line
 kept_over_a_line =
     Of 2 (Stp Async) ∷ (Of 2 (Stp (Version 3)) ∷ (Of 2 (Stp (byte_at (at 0 0) 0x41 NoStamp))
     ∷ (Of 1 (Dwt (Counters 1)) ∷ (Nothing ∷ (Of 2 (Stp (byte_at (at 0 0) 0x41 NoStamp)) ∷ [])))))
+
+-- a script of these lines, each with its line feed
+abbrev pub script : List (List ℕ) → List ℕ
+script lines = flat_map (λ line. line ++ 10 ∷ []) lines
+
+-- sources 3 and 2 send STP packets
+abbrev pub two_stp : Plan
+two_stp = record both { itm = []; stp = 3 ∷ (2 ∷ []) }
+
+-- `async`, `version 3` and `data 0 0 u8 41 -` of a source
+abbrev pub odd_nibbles : ℕ → List Line2
+odd_nibbles x = OneLine (Of x (Stp Async)) ∷ (OneLine (Of x (Stp (Version 3)))
+    ∷ (OneLine (Of x (Stp (byte_at (at 0 0) 0x41 NoStamp))) ∷ []))
+
+-- these lines of source 3 and of source 2, `flush`, `125 trigger 07` and `2 data 0 0 u8 41 -`
+abbrev pub flushed_lines : List Line2
+flushed_lines = odd_nibbles 3 ++ (odd_nibbles 2 ++ (Flush ∷ (Trigger 7
+    ∷ (OneLine (Of 2 (Stp (byte_at (at 0 0) 0x41 NoStamp))) ∷ []))))

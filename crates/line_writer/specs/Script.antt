@@ -10,6 +10,7 @@ use Rattle.dwt_packets.specs.Packet.{packet}
 use Rattle.stp_grammar.specs.declared.packet.Order.{Order}
 use Rattle.stp_grammar.specs.declared.item.StpItem.{StpItem}
 use Rattle.stp_encoder.specs.Fitting.{version_after, is_unfit}
+use Rattle.stp_encoder.specs.Puts.{Put, unmarked}
 use Rattle.stp_encoder.specs.Bytes.{put_bytes, end_bytes}
 use Rattle.frame_writer.specs.Written.{Tagged}
 use Rattle.source_events.specs.declared.plan.Plan.{Plan}
@@ -55,6 +56,10 @@ items_by x (Of id item) = if id == x then items_of item else []
 abbrev pub given_items : ℕ → List Line → List StpItem
 given_items x lines = flat_map (items_by x) lines
 
+-- and as they are put
+abbrev pub given_puts : ℕ → List Line → List Put
+given_puts x lines = unmarked (given_items x lines)
+
 -- the bytes of a source that is not mapped
 abbrev pub raw_of : Item → List ℕ
 raw_of (Itm p) = []
@@ -71,9 +76,9 @@ given_bytes x lines = flat_map (raw_by x) lines
 
 -- == What lines put
 
--- the bytes of an item of a source that was given these STP items before: the shortest bytes of its packet, the bytes
--- that the encoder adds, or the bytes themselves
-abbrev pub item_bytes : Order → List StpItem → Item → List ℕ
+-- the bytes of an item of a source that these STP items were put for before: the shortest bytes of its packet, the
+-- bytes that the encoder adds, or the bytes themselves
+abbrev pub item_bytes : Order → List Put → Item → List ℕ
 item_bytes order before (Itm p) = short p
 item_bytes order before (Dwt item) = short (hardware (packet item))
 item_bytes order before (Stp item) = put_bytes order before item
@@ -82,10 +87,18 @@ item_bytes order before (Raw bytes) = bytes
 abbrev pub tagged : ℕ → List ℕ → List Tagged
 tagged id bytes = map (λ byte. record { id = id; byte = byte }) bytes
 
+-- what a line puts where each source was given these STP items before
+abbrev pub bytes_with : Order → (ℕ → List Put) → Line → List Tagged
+bytes_with order given Nothing = []
+bytes_with order given (Of id item) = tagged id (item_bytes order (given id) item)
+
+-- of each of these STP sources the nibble that is kept then, with a NULL above it
+abbrev pub ends_with : Order → (ℕ → List Put) → List ℕ → List Tagged
+ends_with order given ids = flat_map (λ x. tagged x (end_bytes order (given x))) ids
+
 -- what a line puts after those before it
 abbrev pub put_by : Order → List Line → Line → List Tagged
-put_by order before Nothing = []
-put_by order before (Of id item) = tagged id (item_bytes order (given_items id before) item)
+put_by order before line = bytes_with order (λ x. given_puts x before) line
 
 abbrev pub put_after : Order → List Line → List Line → List Tagged
 put_after order before [] = []
@@ -97,7 +110,7 @@ put_of order lines = put_after order [] lines
 
 -- what is put after the last line: of each STP source the nibble that is kept, with a NULL above it
 abbrev pub ends_of : Order → List Line → List ℕ → List Tagged
-ends_of order lines ids = flat_map (λ x. tagged x (end_bytes order (given_items x lines))) ids
+ends_of order lines ids = ends_with order (λ x. given_puts x lines) ids
 
 -- all that the lines of a script put
 abbrev pub script_bytes : Plan → List Line → List Tagged
@@ -125,21 +138,24 @@ abbrev pub line_after : Plan → List Line → List ℕ → Result Line LineFaul
 line_after plan before text = line_of plan text >>= fitting before
 
 -- the lines up to the first fault, and that fault with the number of its line, from 1 on
-pub record Reading : Type 0 where
-  pub lines : List Line
+pub record Reading (L : Type 0) : Type 0 where
+  pub lines : List L
   pub fault : Option (ℕ × LineFault)
 
 -- what is read where a text has this answer after some lines
-abbrev pub read_on : (Line → Reading) → List Line → Result Line LineFault → Reading
+abbrev pub read_on : {L : Type 0} → (L → Reading L) → List L → Result L LineFault → Reading L
 read_on more before (Ok line) = more line
 read_on more before (Err fault) = record { lines = before; fault = Some (length before + 1, fault) }
 
--- what texts say after some lines
-abbrev pub read_after : Plan → List Line → List (List ℕ) → Reading
-read_after plan before [] = record { lines = before; fault = None }
-read_after plan before (text ∷ texts) =
-    read_on (λ line. read_after plan (before ++ line ∷ []) texts) before (line_after plan before text)
+-- what texts say after some lines, where this is what one says after those before it
+abbrev pub read_by : {L : Type 0} → (List L → List ℕ → Result L LineFault) → List L → List (List ℕ) → Reading L
+read_by says before [] = record { lines = before; fault = None }
+read_by says before (text ∷ texts) =
+    read_on (λ line. read_by says (before ++ line ∷ []) texts) before (says before text)
+
+abbrev pub read_after : Plan → List Line → List (List ℕ) → Reading Line
+read_after plan before texts = read_by (line_after plan) before texts
 
 -- the reading of a whole script
-abbrev pub script_of : Plan → List ℕ → Reading
+abbrev pub script_of : Plan → List ℕ → Reading Line
 script_of plan bytes = read_after plan [] (lines_in bytes)

@@ -1,5 +1,5 @@
 -- What a writer of lines stands for.
-use Rattle.std.specs.Prelude.{◌≡◌, ◌≤◌, ℕ, List, Option, Some}
+use Rattle.std.specs.Prelude.{◌≡◌, ◌≤◌, ℕ, List, [], Option, Some}
 use Rattle.stp_grammar.specs.declared.packet.Order.{Order}
 use Rattle.stp_encoder.specs.Encoder as encoders
 use Rattle.frame_writer.specs.Sure as sures
@@ -8,7 +8,7 @@ use Rattle.script_text.specs.declared.items.Item.TheVariants.{Stp}
 use Rattle.script_text.specs.declared.lines.Line.{Line}
 use Rattle.script_text.specs.declared.lines.Line.TheVariants.{Nothing, Of}
 use Rattle.script_text.specs.Said.{IsSayable}
-use Rattle.line_writer.specs.Script.{given_items, put_of}
+use Rattle.line_writer.specs.Script.{given_puts, put_of}
 use Rattle.line_writer.specs.declared.writer.LineWriter.{LineWriter}
 
 -- the source of the items of a system trace, the order of the nibbles of their numbers, and how many frames are whole
@@ -34,5 +34,5 @@ CanBePut stp (Of id item) = (1 ≤ id) × (id ≤ 126) × IsSayable item × IsOf
 -- It stands for these lines: its encoder for what they give the source of the system trace, and its writer of frames
 -- for all that they put.
 pub record Stands (w : LineWriter) (every halves : ℕ) (lines : List Line) : Type 0 where
-  pub items : (id : ℕ) → w.stp ≡ Some id → encoders.Stands w.encoder (given_items id lines)
-  pub frames : sures.IsSure w.frames every halves (put_of (order_of w) lines)
+  pub items : (id : ℕ) → w.stp ≡ Some id → encoders.Stands w.encoder (given_puts id lines)
+  pub frames : sures.IsSure w.frames every halves [] (put_of (order_of w) lines)

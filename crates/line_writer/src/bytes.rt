@@ -7,9 +7,9 @@ ghost use Rattle.arrayvec.specs.ArrayVec.{array_vec_len};
 ghost use Rattle.trace_values.specs.declared.limits.TheConstants.{COUNT_ROOM};
 ghost use Rattle.itm_grammar.specs.Proper.{IsProper};
 ghost use Rattle.itm_grammar.specs.Shortest.{short};
-ghost use Rattle.stp_grammar.specs.declared.item.StpItem.{StpItem};
 ghost use Rattle.stp_grammar.specs.Proper.{IsProperItem};
 ghost use Rattle.stp_encoder.specs.Fitting.{version_after, is_unfit};
+ghost use Rattle.stp_encoder.specs.Puts.{Put, Of, items_in, unmarked};
 ghost use Rattle.stp_encoder.specs.Bytes.{put_bytes as put_bytes_by};
 ghost use Rattle.stp_encoder.specs.Encoder.{Stands, order_of};
 ghost use Rattle.frame_writer.specs.Sure.{count_of};
@@ -86,14 +86,14 @@ fn put_stp(
     requires empty { out.old.items ≡ [] }
     requires room { count_of frames.old + 100 ≤ COUNT_ROOM }
     ensures order { order_of encoder.new ≡ order_of encoder.old }
-    ensures unfit { (before : List StpItem) → Stands encoder.old before →
-        is_err result ≡ is_unfit (version_after before) item.now }
+    ensures unfit { (before : List Put) → Stands encoder.old before →
+        is_err result ≡ is_unfit (version_after (items_in before)) item.now }
     ensures fault { IfErr result (λ f. f ≡ LineFault.Unfit) }
     ensures same { OnErr result
         ((encoder.new ≡ encoder.old) × (frames.new ≡ frames.old) × (out.new ≡ out.old)) }
-    ensures list { (before : List StpItem) → Stands encoder.old before →
-        OnOk result (Stands encoder.new (before ++ item.now ∷ [])) }
-    ensures put { (before : List StpItem) → Stands encoder.old before → OnOk result
+    ensures list { (before : List Put) → Stands encoder.old before →
+        OnOk result (Stands encoder.new (before ++ Of item.now ∷ [])) }
+    ensures put { (before : List Put) → Stands encoder.old before → OnOk result
         (Puts frames.old frames.new (tagged id (put_bytes_by (order_of encoder.old) before item.now)) out.new.items) }
     ensures count { count_of frames.new ≤ count_of frames.old + 100 }
 {
@@ -122,15 +122,15 @@ pub(crate) fn put_item(
     requires empty { out.old.items ≡ [] }
     requires room { count_of frames.old + 100 ≤ COUNT_ROOM }
     ensures order { order_of encoder.new ≡ order_of encoder.old }
-    ensures fits { (before : List StpItem) (line : Line) → StandsFor encoder.old before item.now →
-        OnOk result (fitting_item line before item.now ≡ Ok line) }
-    ensures unfit { (before : List StpItem) (line : Line) → StandsFor encoder.old before item.now →
-        IfErr result (λ fault. fitting_item line before item.now ≡ Err fault) }
+    ensures fits { (before : List Put) (line : Line) → StandsFor encoder.old before item.now →
+        OnOk result (fitting_item line (items_in before) item.now ≡ Ok line) }
+    ensures unfit { (before : List Put) (line : Line) → StandsFor encoder.old before item.now →
+        IfErr result (λ fault. fitting_item line (items_in before) item.now ≡ Err fault) }
     ensures same { OnErr result
         ((encoder.new ≡ encoder.old) × (frames.new ≡ frames.old) × (out.new ≡ out.old)) }
-    ensures list { (before : List StpItem) → Stands encoder.old before →
-        OnOk result (Stands encoder.new (before ++ items_of item.now)) }
-    ensures put { (before : List StpItem) → StandsFor encoder.old before item.now → OnOk result
+    ensures list { (before : List Put) → Stands encoder.old before →
+        OnOk result (Stands encoder.new (before ++ unmarked (items_of item.now))) }
+    ensures put { (before : List Put) → StandsFor encoder.old before item.now → OnOk result
         (Puts frames.old frames.new (tagged id (bytes_by (order_of encoder.old) before item.now)) out.new.items) }
     ensures count { count_of frames.new ≤ count_of frames.old + 100 }
 {

@@ -33,6 +33,15 @@ impl Hunter {
         Hunter { run: 0 }
     }
 
+    /// A hunter that has taken this many FF: a hunt may begin again at bytes that were read already.
+    #[inline]
+    pub fn after(run: u8) -> Hunter
+        requires { run ≤ 3 }
+        ensures { run_of result ≡ run }
+    {
+        Hunter { run }
+    }
+
     /// Takes the next byte. True exactly where the last four bytes are `FF FF FF 7F`.
     #[inline]
     pub fn push(&mut self, byte: u8) -> bool

@@ -9,12 +9,14 @@ use Rattle.trace_values.specs.Nibbles.{nibbles_of}
 use Rattle.capture_plan.specs.declared.frames.FramesMode.TheVariants.{Aligned}
 use Rattle.frame_writer.specs.Written.{Tagged, capture}
 use Rattle.frame_writer.specs.ReadBack as framed
-use Rattle.frame_writer.proofs.ReadingBack.{written_reads}
+use Rattle.frame_writer.proofs.ReadingBack.{capture_reads}
 use Rattle.itm_grammar.specs.declared.packet.ItmPacket.{ItmPacket}
 use Rattle.itm_codec.specs.Reading.{packets_in}
 use Rattle.stp_grammar.specs.declared.item.StpItem.{StpItem}
 use Rattle.stp_codec.specs.Reading.{items_in}
 use Rattle.stp_encoder.specs.ReadBack as encoded
+use Rattle.stp_encoder.specs.Fitting.{AreFitting}
+use Rattle.stp_encoder.proofs.Standing.{items_unmarked}
 use Rattle.stp_encoder.proofs.ReadingBack.{bytes_back}
 use Rattle.source_events.specs.declared.event.Event.{Event}
 use Rattle.source_events.specs.declared.event.What.{What}
@@ -34,9 +36,10 @@ use Rattle.source_events.proofs.Captures.{capture_rises}
 use Rattle.source_events.proofs.Lawful.{plan_lawful}
 use Rattle.source_events.proofs.Merging.{capture_merged}
 use Rattle.script_text.specs.declared.lines.Line.{Line}
-use Rattle.line_writer.specs.Script.{script_bytes, given_packets, given_items, given_bytes}
+use Rattle.line_writer.specs.Script.{script_bytes, given_packets, given_items, given_puts, given_bytes}
 use Rattle.rebuild_laws.specs.ReadBack.{aligned, rebuilt, port_of, report_of, said_of, bytes_in, SaysBytes, has_line, ReadsAsGiven}
-use Rattle.rebuild_laws.proofs.Said.{AreGood, all_fit}
+use Rattle.rebuild_laws.specs.Puts.{CanAllBePut}
+use Rattle.rebuild_laws.proofs.Said.{all_fit}
 use Rattle.rebuild_laws.proofs.MappedIds.{itm_one, stp_one, none_one, one_itm, one_stp, mapped_low}
 use Rattle.rebuild_laws.proofs.Bytes.{itm_bytes, stp_bytes, raw_bytes, none_items, none_packets, none_bytes, all_sources, all_proper}
 use Rattle.rebuild_laws.proofs.Sources.{list_bytes, no_cell}
@@ -55,7 +58,7 @@ no_whats : (es : List (Event Packet)) → map (λ (e : Event Packet). e.what) es
 no_whats [] e = refl
 no_whats (x ∷ es) e = cc
 
-module _ (every halves : ℕ) (plan : Plan) (lines : List Line) (sound : is_sound plan ≡ true) (good : AreGood plan [] lines) where
+module _ (every halves : ℕ) (plan : Plan) (lines : List Line) (sound : is_sound plan ≡ true) (good : CanAllBePut plan [] lines) where
   abbrev bytes : List Tagged
   bytes = script_bytes plan lines
 
@@ -68,8 +71,8 @@ module _ (every halves : ℕ) (plan : Plan) (lines : List Line) (sound : is_soun
   abbrev runs : List (List Cell)
   runs = runs_in (port_of u)
 
-  law : framed.ReadsBack every halves bytes
-  law = written_reads every halves bytes (all_sources plan lines sound good)
+  law : framed.ReadsBack (capture every halves bytes) bytes
+  law = capture_reads every halves bytes (all_sources plan lines sound good)
 
   -- mapped sources
   itm_reads : (x : ℕ) → kind_of plan x ≡ Some Itm → IsReadAs (list_of x runs) (given_packets x lines)
@@ -79,8 +82,10 @@ module _ (every halves : ℕ) (plan : Plan) (lines : List Line) (sound : is_soun
 
   stp_reads : (x : ℕ) → kind_of plan x ≡ Some Stp → encoded.ReadsBack plan.order (given_items x lines) (nibbles_of (list_of x runs))
   stp_reads x k =
-      bytes_back plan.order (given_items x lines) (all_fit plan x lines good) (list_of x runs)
-      (list_bytes every halves bytes law x (not_null x (mapped_low plan x Stp sound k)) ∙ stp_bytes plan x lines good sound k)
+      let same = items_unmarked (given_items x lines) in
+      subst (λ (items : List StpItem). encoded.ReadsBack plan.order items (nibbles_of (list_of x runs))) same
+      (bytes_back plan.order (given_puts x lines) (subst AreFitting (sym same) (all_fit plan x lines good)) (list_of x runs)
+      (list_bytes every halves bytes law x (not_null x (mapped_low plan x Stp sound k)) ∙ stp_bytes plan x lines good sound k))
 
   no_fault : stop_in sources (port_of u) ≡ None
   no_fault =

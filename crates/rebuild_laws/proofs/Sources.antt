@@ -48,7 +48,7 @@ pick_tagged : (x : ℕ) (t : List Tagged) → pick x (map as_seen t) ≡ bytes_f
 pick_tagged x [] = refl
 pick_tagged x (b ∷ t) = ap (λ (l : List ℕ). if b.id == x then b.byte ∷ l else l) (pick_tagged x t)
 
-module _ (every halves : ℕ) (t : List Tagged) (law : ReadsBack every halves t) where
+module _ (every halves : ℕ) (t : List Tagged) (law : ReadsBack (capture every halves t) t) where
   abbrev written : List Placed
   written = placed (capture every halves t)
 

@@ -20,7 +20,7 @@ EndsFrom plan before texts lines (Some found) =
     (found.0 ≡ length (before ++ lines) + 1) × (length lines + 1 ≤ length texts)
     × (line_after plan (before ++ lines) (text_at texts (length lines)) ≡ Err found.1)
 
-pub record IsReadFrom (plan : Plan) (before : List Line) (texts : List (List ℕ)) (r : Reading) : Type 0 where
+pub record IsReadFrom (plan : Plan) (before : List Line) (texts : List (List ℕ)) (r : Reading Line) : Type 0 where
   pub more : List Line
   pub lines_are : r.lines ≡ before ++ more
   pub all : AreFrom plan before texts more
@@ -99,7 +99,7 @@ ends_earlier plan before line text texts more (Some found) h = (
 abbrev Each : Plan → List Line → List (List ℕ) → List Line → Type 0
 Each plan before texts more = (k : ℕ) → k < length more → line_after plan (before ++ take k more) (text_at texts k) ≡ Ok (line_at more k)
 
-abbrev reading_of : List Line → Option (ℕ × LineFault) → Reading
+abbrev reading_of : List Line → Option (ℕ × LineFault) → Reading Line
 reading_of lines o = record { lines = lines; fault = o }
 
 only_from : (plan : Plan) (texts : List (List ℕ)) (before more : List Line) (o : Option (ℕ × LineFault)) → Each plan before texts more → EndsFrom plan before texts more o →

@@ -1,3 +1,4 @@
 pub mod Reading
+pub mod Puts
 pub mod ReadBack
 pub mod Rows

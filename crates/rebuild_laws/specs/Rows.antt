@@ -1,5 +1,5 @@
 -- Worked rows of scripts, in text.
-use Rattle.std.specs.Prelude.{ℕ, List, [], ◌∷◌, ◌++◌, flat_map, codes, Option}
+use Rattle.std.specs.Prelude.{ℕ, List, [], ◌∷◌, codes, Option}
 use Rattle.trace_values.specs.Placed.{placed}
 use Rattle.frame_writer.specs.Written.{capture}
 use Rattle.source_events.specs.declared.event.What.{What}
@@ -7,11 +7,8 @@ use Rattle.source_events.specs.declared.packet.Packet.{Packet}
 use Rattle.source_events.specs.declared.plan.Plan.{Plan}
 use Rattle.script_text.specs.declared.line_fault.LineFault.{LineFault}
 use Rattle.line_writer.specs.Script.{script_bytes, script_of}
+use Rattle.line_writer.specs.Rows.{script}
 use Rattle.rebuild_laws.specs.ReadBack.{said_of}
-
--- a script of these lines, each with its line feed
-abbrev pub script : List (List ℕ) → List ℕ
-script lines = flat_map (λ line. line ++ 10 ∷ []) lines
 
 -- lines of three sources
 abbrev pub several : List (List ℕ)

@@ -1,11 +1,12 @@
 //! Laws of scripts and of the captures that they are rebuilt to, over the definitions alone.
 
-ghost use Rattle.std.specs.Prelude.{◌≡◌, ℕ, List, true, Option};
+ghost use Rattle.std.specs.Prelude.{◌≡◌, ℕ, List, [], true, Option};
 ghost use Rattle.source_events.specs.declared.plan.Plan.{Plan};
 ghost use Rattle.source_events.specs.Plan.{is_sound};
 ghost use Rattle.script_text.specs.declared.lines.Line.{Line};
 ghost use Rattle.script_text.specs.declared.line_fault.LineFault.{LineFault};
 ghost use Rattle.line_writer.specs.Script.{lines_in, script_of};
+ghost use Rattle.rebuild_laws.specs.Puts.{CanAllBePut};
 ghost use Rattle.rebuild_laws.specs.Reading.{AreLinesOf, EndsWith};
 ghost use Rattle.rebuild_laws.specs.ReadBack.{rebuilt, ReadsAsGiven};
 
@@ -27,4 +28,10 @@ pub fn lines_law()
 pub fn rebuild_law()
     ensures { (every halves : ℕ) (plan : Plan) (script : List ℕ) → is_sound plan ≡ true →
         ReadsAsGiven plan (script_of plan script).lines (rebuilt every halves plan (script_of plan script).lines) }
+{}
+
+/// So does what any lines are rebuilt to that can be put, those of the trigger source too, which no script can say.
+pub fn put_law()
+    ensures { (every halves : ℕ) (plan : Plan) (lines : List Line) → is_sound plan ≡ true → CanAllBePut plan [] lines →
+        ReadsAsGiven plan lines (rebuilt every halves plan lines) }
 {}

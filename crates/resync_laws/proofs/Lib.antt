@@ -6,3 +6,4 @@ pub mod PlanTerms
 pub mod Mapped
 pub mod Looking
 pub mod ReportRest
+pub mod Skipping

@@ -151,7 +151,7 @@ module _ (plan : Plan) where
       (recipe.can_items (InUnits (stp.Spells plan.order)) (λ r. stp.why (units_of r)) (stp_rule.rule plan.order) Start stp_reading.pattern Async (stp_syncs plan.order) nibbles_of nibbles_are
       attribute IsByRow begins_master is_version_item Alike begins_anew (λ p r s. by_row plan.order p (units_of r) s) [] Stp h id (stp_lawful plan.order))
 
-  can_one : (s : ℕ × SourceKind) → CanResume (resumed_by plan s)
+  pub can_one : (s : ℕ × SourceKind) → CanResume (resumed_by plan s)
   can_one (id, Itm) = can_itm id
   can_one (id, Stp) = can_stp id
 

@@ -1,5 +1,5 @@
 -- The report of the rest of a capture, whose front is lost, against that of the whole.
-use Rattle.std.specs.Prelude.{◌≡◌, ℕ, List, ◌++◌, length, map, true, false, ◌==◌, Option, None, Some}
+use Rattle.std.specs.Prelude.{◌≡◌, ◌⊎◌, ℕ, ◌-◌, List, ◌++◌, length, map, true, false, ◌==◌, Option, None, Some}
 use Rattle.std.specs.List.{list_any}
 use Rattle.trace_values.specs.Nibbles.{nibbles_of}
 use Rattle.trace_values.specs.Placed.{Place, Placed, placed, placed_from}
@@ -14,11 +14,11 @@ use Rattle.source_events.specs.declared.plan.SourceKind.TheVariants.{Itm, Stp}
 use Rattle.source_events.specs.Merge.{part}
 use Rattle.source_events.specs.Plan.{kind_of, sources_by}
 use Rattle.source_events.specs.Report.{stop_in, report}
-use Rattle.resync_streams.specs.Fronts.{IsRest}
+use Rattle.resync_streams.specs.Fronts.{Hunting, IsSync, IsFirstSync, IsRest}
 use Rattle.resync_ports.specs.Port.{IsPortRest, rest_mode}
 use Rattle.resync_sources.specs.Capture.{source_bytes}
 use Rattle.resync_sources.specs.Itm as itm
-use Rattle.resync_sources.specs.Stp.{IsItemsRest}
+use Rattle.resync_sources.specs.Stp as stp
 use Rattle.resync_reports.specs.Moved.{later_reading, later_event}
 use Rattle.resync_laws.specs.Points.{point_of}
 use Rattle.resync_reports.specs.Points.{items_among, from_points}
@@ -56,7 +56,20 @@ points plan lost left x = point_of plan (left_reading plan lost left) x
 abbrev pub reads : Plan → SourceKind → List Placed → List Placed → Type 0
 reads plan Itm early rest = IsRest (itm.hunting (packets_hunt plan.packets)) early rest
 reads plan Stp early rest =
-    IsItemsRest plan.order (packets_hunt plan.packets) (nibbles_of early) (nibbles_of rest)
+    stp.IsItemsRest plan.order (packets_hunt plan.packets) (nibbles_of early) (nibbles_of rest)
+
+-- A hunt in the rest, where these units before it are lost, skips this many: all, where no sync has its last units, as
+-- many as the pattern has, all in the rest; or those before the last units of the first such one.
+abbrev pub Skips : {V : Type 0} → Hunting V → List Placed → List Placed → ℕ → Type 0
+Skips h lost rest skipped =
+    (((front : List Placed) → IsSync h lost rest front → ⊥) × (skipped ≡ length rest))
+    ⊎ ((front : List Placed) × IsFirstSync h lost rest front × (skipped ≡ length front - h.size))
+
+-- so in the bytes of an ITM source, and in the nibbles of an STP source
+abbrev pub skips : Plan → SourceKind → List Placed → List Placed → ℕ → Type 0
+skips plan Itm early rest skipped = Skips (itm.hunting (packets_hunt plan.packets)) early rest skipped
+skips plan Stp early rest skipped =
+    Skips (stp.hunting plan.order (packets_hunt plan.packets)) (nibbles_of early) (nibbles_of rest) skipped
 
 -- The bytes of a mapped source in the rest are the last of its bytes in the whole, and they read as its kind has it.
 pub record SourceFollows (plan : Plan) (kind : SourceKind) (whole rest : List Placed) : Type 0 where

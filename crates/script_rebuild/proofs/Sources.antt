@@ -18,20 +18,11 @@ use Rattle.script_text.specs.Said.{IsSaid}
 use Rattle.script_text.proofs.PacketLines.{line_says, item_is_said}
 use Rattle.script_text.specs.Lines.{◌>>=◌, line_of, taken_by}
 use Rattle.line_writer.specs.Script.{fitting, line_after}
-
-and_last : (a b c d : Bool) → (a && b && c && d) ≡ true → d ≡ true
-and_last true true true d h = h
-and_last true true false d h = cc
-and_last true false c d h = cc
-and_last false b c d h = cc
+use Rattle.line_writer.proofs.SoundSources.{later_sound}
 
 and_first : (a b c d : Bool) → (a && b && c && d) ≡ true → a ≡ true
 and_first true b c d h = refl
 and_first false b c d h = cc
-
-later_sound : (front ids : List ℕ) → are_sound (front ++ ids) ≡ true → are_sound ids ≡ true
-later_sound [] ids h = h
-later_sound (x ∷ front) ids h = later_sound front ids (and_last (nat_le 1 x) (nat_le x 111) (not (list_any (λ y. y == x) (front ++ ids))) (are_sound (front ++ ids)) h)
 
 first_named : (ids : List ℕ) (x : ℕ) → are_sound ids ≡ true → 1 ≤ length ids → x ≡ get_or ids 0 x → 0 < x
 first_named [] x h l e = absurd (omega arith)

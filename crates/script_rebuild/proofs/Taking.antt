@@ -30,14 +30,14 @@ sound_of r seen s live = sym s.fault ∙ ap (option_map told) live
 pub open_few : (r : Rebuild) (seen : List ℕ) (n : ℕ) → Stands r seen → r.fault ≡ None → length r.line.items ≤ n → length (open_line seen) ≤ n
 open_few r seen n s live h = omega (arith, ap length (s.open_bytes live))
 
-stands_as : (r : Rebuild) (seen : List ℕ) (reading : Reading) → read_so_far r.plan.plan seen ≡ reading → r.count ≡ length seen → option_map told r.fault ≡ reading.fault →
+stands_as : (r : Rebuild) (seen : List ℕ) (reading : Reading Line) → read_so_far r.plan.plan seen ≡ reading → r.count ≡ length seen → option_map told r.fault ≡ reading.fault →
     (r.fault ≡ None → r.line.items ≡ open_line seen) → (r.fault ≡ None → r.lines ≡ length reading.lines) → writers.Stands r.writer r.plan.every r.plan.halves reading.lines → Stands r seen
 stands_as r seen reading e count fault open_bytes lines writer = record {
   count = count;
-  fault = fault ∙ ap (λ (x : Reading). x.fault) (sym e);
+  fault = fault ∙ ap (λ (x : Reading Line). x.fault) (sym e);
   open_bytes = open_bytes;
-  lines = λ n. lines n ∙ ap (λ (x : Reading). length x.lines) (sym e);
-  writer = subst (λ (x : Reading). writers.Stands r.writer r.plan.every r.plan.halves x.lines) (sym e) writer;
+  lines = λ n. lines n ∙ ap (λ (x : Reading Line). length x.lines) (sym e);
+  writer = subst (λ (x : Reading Line). writers.Stands r.writer r.plan.every r.plan.halves x.lines) (sym e) writer;
 }
 
 count_more : (old new n : ℕ) (seen more : List ℕ) → new ≡ old + n → n ≡ length more → old ≡ length seen → new ≡ length (seen ++ more)
@@ -77,7 +77,7 @@ refused old new seen b fault outlet plan live found count writer read s =
           (subst (λ (p : RebuildPlan). writers.Stands old.writer p.every p.halves lines) (sym plan) s.writer));
       more = [];
       gained = sym (append-nil outlet);
-      grown = ap (λ (r : Reading). sure old.plan.every old.plan.halves (put_of old.plan.plan.order r.lines)) read ∙ sym (append-nil (text old.plan seen));
+      grown = ap (λ (r : Reading Line). sure old.plan.every old.plan.halves (put_of old.plan.plan.order r.lines)) read ∙ sym (append-nil (text old.plan seen));
     }
 
 -- a line that is put
@@ -98,7 +98,7 @@ line_ended old new seen words before after out plan live sound count lines empty
           (subst (λ (p : RebuildPlan). writers.Stands new.writer p.every p.halves (so_far ++ puts.line ∷ [])) (sym plan) puts.stands);
       more = out;
       gained = gained;
-      grown = ap (λ (r : Reading). sure old.plan.every old.plan.halves (put_of old.plan.plan.order r.lines)) read ∙ puts.grown;
+      grown = ap (λ (r : Reading Line). sure old.plan.every old.plan.halves (put_of old.plan.plan.order r.lines)) read ∙ puts.grown;
     }
 
 some_of : (f : Option ScriptFault) (o : Option (ℕ × LineFault)) → option_map told f ≡ o → is_some o ≡ is_some f
@@ -131,7 +131,7 @@ pub all_taken : (new : Rebuild) (p : RebuildPlan) (seen front outlet : List ℕ)
 all_taken new p seen front outlet plan live stands read = record {
   read = stands;
   more = [];
-  grown = ap (λ (r : Reading). sure p.every p.halves (put_of p.plan.order r.lines)) read ∙ sym (append-nil (text p seen));
+  grown = ap (λ (r : Reading Line). sure p.every p.halves (put_of p.plan.order r.lines)) read ∙ sym (append-nil (text p seen));
   gained = sym (append-nil outlet);
   goes_on = λ h. never new.fault (read_so_far new.plan.plan (seen ++ front)).fault live (is_faulty new (seen ++ front) stands)
       (subst (λ (q : RebuildPlan). is_some (read_so_far q.plan (seen ++ front)).fault ≡ true) (sym plan) h);
@@ -150,7 +150,7 @@ module _ (mid new : Rebuild) (p : RebuildPlan) (seen front piece : List ℕ) (b 
   grown =
       ap (text p) join
       ∙ subst (λ (q : RebuildPlan). text q ((seen ++ front) ++ b ∷ []) ≡ text q (seen ++ front) ++ takes.more) was takes.grown
-      ∙ ap (λ (r : Reading). sure p.every p.halves (put_of p.plan.order r.lines) ++ takes.more) read
+      ∙ ap (λ (r : Reading Line). sure p.every p.halves (put_of p.plan.order r.lines) ++ takes.more) read
 
   pub goes_on : new.fault ≡ None → HasTaken (Stands new) (rebuild_meaning p) (record { seen = seen; front = piece; before = before; after = after }) On
   goes_on none = record {
@@ -204,23 +204,23 @@ ends_whole r w seen words out rest s live few same puts order stp whole =
     let lines = (read_so_far p.plan seen).lines ++ puts.line ∷ [] in
     let with_stp = subst (λ (ids : List ℕ). capture p.every p.halves (put_of (writers.order_of w) lines ++ ends_of (writers.order_of w) lines ids) ≡ sure p.every p.halves (put_of (writers.order_of w) lines) ++ rest) stp whole in
     let all = subst (λ (o : Order). capture p.every p.halves (put_of o lines ++ ends_of o lines p.plan.stp) ≡ sure p.every p.halves (put_of o lines) ++ rest) order with_stp in
-    ap (λ (x : Reading). left_of (capture p.every p.halves (script_bytes p.plan x.lines)) (text p seen) x.fault) (last_says r seen words (Ok puts.line) s live few same puts.says)
+    ap (λ (x : Reading Line). left_of (capture p.every p.halves (script_bytes p.plan x.lines)) (text p seen) x.fault) (last_says r seen words (Ok puts.line) s live few same puts.says)
     ∙ behind_front (text p seen) (out ++ rest) (capture p.every p.halves (script_bytes p.plan lines)) (all ∙ ap (λ l. l ++ rest) puts.grown ∙ append_assoc (text p seen) out rest)
 
 -- nothing comes after the text of a script with a fault
 pub ends_at_fault : (r : Rebuild) (seen : List ℕ) → Stands r seen → is_some r.fault ≡ true → ending r.plan seen ≡ []
 ends_at_fault r seen s h =
     let here = is_faulty r seen s ∙ h in
-    nothing_left (script_capture r.plan seen) (text r.plan seen) (script_of r.plan.plan seen).fault (ap (λ (x : Reading). is_some x.fault) (whole_settled r.plan.plan seen here) ∙ here)
+    nothing_left (script_capture r.plan seen) (text r.plan seen) (script_of r.plan.plan seen).fault (ap (λ (x : Reading Line). is_some x.fault) (whole_settled r.plan.plan seen here) ∙ here)
 
 pub ends_at_last : (r : Rebuild) (seen words : List ℕ) (fault : LineFault) → Stands r seen → r.fault ≡ None → length r.line.items ≤ 256 → words ≡ r.line.items →
     line_after r.plan.plan (read_so_far r.plan.plan seen).lines words ≡ Err fault → ending r.plan seen ≡ []
 ends_at_last r seen words fault s live few same says =
     nothing_left (script_capture r.plan seen) (text r.plan seen) (script_of r.plan.plan seen).fault
-    (ap (λ (x : Reading). is_some x.fault) (last_says r seen words (Err fault) s live few same says))
+    (ap (λ (x : Reading Line). is_some x.fault) (last_says r seen words (Err fault) s live few same says))
 
 pub settled_fault : (r : Rebuild) (seen : List ℕ) → Stands r seen → is_some r.fault ≡ true → option_map told r.fault ≡ (script_of r.plan.plan seen).fault
-settled_fault r seen s h = s.fault ∙ ap (λ (x : Reading). x.fault) (sym (whole_settled r.plan.plan seen (is_faulty r seen s ∙ h)))
+settled_fault r seen s h = s.fault ∙ ap (λ (x : Reading Line). x.fault) (sym (whole_settled r.plan.plan seen (is_faulty r seen s ∙ h)))
 
 -- with a text as its open line
 unfoldable pub opened : (r : Rebuild) (line : List ℕ) (n : ℕ) → r.count + n ≤ GREATEST_CAPTURE → Rebuild

@@ -25,8 +25,8 @@ text_begins p bytes few =
     let t = put_of order so_far in
     let more = put_after order so_far longer.more in
     let ends = ends_of order lines p.plan.stp in
-    let grown = sure_grows p.every p.halves t (more ++ ends) in
-    let begins = sure_begins p.every p.halves (t ++ (more ++ ends)) few in (
+    let grown = sure_grows p.every p.halves [] t (more ++ ends) in
+    let begins = sure_begins p.every p.halves [] (t ++ (more ++ ends)) few in (
       grown.0 ++ begins.0,
       ap (λ l. capture p.every p.halves (put_of order l ++ ends)) longer.all
           ∙ ap (λ l. capture p.every p.halves (l ++ ends)) (put_after-append order [] so_far longer.more)

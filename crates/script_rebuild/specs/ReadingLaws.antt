@@ -34,7 +34,7 @@ use Rattle.script_text.specs.Lines.{◌>>=◌, line_of}
 use Rattle.line_writer.specs.Script.{Reading, read_after, line_after, fitting}
 
 -- what one line's answer makes of the lines after it
-abbrev pub with_answer : Plan → List Line → List (List ℕ) → Result Line LineFault → Reading
+abbrev pub with_answer : Plan → List Line → List (List ℕ) → Result Line LineFault → Reading Line
 with_answer plan before texts (Ok line) = read_after plan (before ++ line ∷ []) texts
 with_answer plan before texts (Err fault) = record { lines = before; fault = Some (length before + 1, fault) }
 
@@ -44,7 +44,7 @@ pub read_first : (plan : Plan) (before : List Line) (text : List ℕ) (texts : L
 read_first plan before text texts answer e = ap (λ r. with_answer plan before texts r) e
 
 -- the reading goes on where it has no fault
-abbrev pub go_on : Plan → Reading → List (List ℕ) → Option (ℕ × LineFault) → Reading
+abbrev pub go_on : Plan → Reading Line → List (List ℕ) → Option (ℕ × LineFault) → Reading Line
 go_on plan r texts None = read_after plan r.lines texts
 go_on plan r texts (Some fault) = r
 
@@ -85,12 +85,12 @@ read_extends plan before (text ∷ texts) =
     }
     by (Err fault) more = record { more = []; all = sym (append-nil before) }
 
-pub goes_extends : (plan : Plan) (r : Reading) (texts : List (List ℕ)) (fault : Option (ℕ × LineFault)) →
+pub goes_extends : (plan : Plan) (r : Reading Line) (texts : List (List ℕ)) (fault : Option (ℕ × LineFault)) →
     Extends r.lines (go_on plan r texts fault).lines
 goes_extends plan r texts None = read_extends plan r.lines texts
 goes_extends plan r texts (Some fault) = record { more = []; all = sym (append-nil r.lines) }
 
-pub stuck : (plan : Plan) (r : Reading) (texts : List (List ℕ)) (fault : Option (ℕ × LineFault)) →
+pub stuck : (plan : Plan) (r : Reading Line) (texts : List (List ℕ)) (fault : Option (ℕ × LineFault)) →
     is_some fault ≡ true → go_on plan r texts fault ≡ r
 stuck plan r texts None h = cc
 stuck plan r texts (Some fault) h = refl

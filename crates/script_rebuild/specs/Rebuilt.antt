@@ -1,10 +1,11 @@
 -- What a script becomes (this project's profile): its capture, of which the bytes so far make a front sure.
 use Rattle.std.specs.Prelude.{◌≡◌, ℕ, ◌+◌, List, [], ◌∷◌, ◌++◌, length, drop, true, nat_lt}
-use Rattle.std.specs.Prelude.{if◌then◌else◌, Option, None, Some, is_some, Err}
+use Rattle.std.specs.Prelude.{if◌then◌else◌, Option, None, Some, is_some, Err, false}
 use Rattle.trace_stream.specs.Served.{Meaning}
 use Rattle.source_events.specs.declared.plan.Plan.{Plan}
 use Rattle.frame_writer.specs.Written.{capture}
 use Rattle.frame_writer.specs.Fronts.{all_but_last, sure}
+use Rattle.script_text.specs.declared.lines.Line.{Line}
 use Rattle.script_text.specs.declared.line_fault.LineFault.{LineFault}
 use Rattle.line_writer.specs.Script.{lines_in, Reading, read_after, line_after, script_of, put_of, script_bytes}
 use Rattle.script_rebuild.specs.declared.plan.RebuildPlan.{RebuildPlan}
@@ -27,7 +28,7 @@ abbrev pub certain_lines : List ℕ → List (List ℕ)
 certain_lines bytes = all_but_last (lines_in bytes) ++ too_long (open_line bytes)
 
 -- what they say, up to the first fault
-abbrev pub read_so_far : Plan → List ℕ → Reading
+abbrev pub read_so_far : Plan → List ℕ → Reading Line
 read_so_far plan bytes = read_after plan [] (certain_lines bytes)
 
 -- one of them has a fault
@@ -52,7 +53,7 @@ abbrev pub ending : RebuildPlan → List ℕ → List ℕ
 ending p bytes = left_of (script_capture p bytes) (text p bytes) (script_of p.plan bytes).fault
 
 abbrev pub rebuild_meaning : RebuildPlan → Meaning
-rebuild_meaning p = record { faulty = IsFaulty p; text = text p; ending = ending p }
+rebuild_meaning p = record { faulty = IsFaulty p; text = text p; ending = ending p; due = false }
 
 -- The fault is that of one of these texts, whose number, from 1 on, is this; and those before it have none.
 pub record IsFirstFault (plan : Plan) (texts : List (List ℕ)) (number : ℕ) (fault : LineFault) : Type 0 where

@@ -1,6 +1,6 @@
 -- How what is written grows with the bytes of a script.
 use Rattle.std.specs.Prelude.{◌≡◌, ℕ, List, [], ◌++◌, refl, Option, None, Some, is_some, true}
-use Rattle.std.proofs.Common.{ap, sym, ◌∙◌, append-nil}
+use Rattle.std.proofs.Common.{[], ap, sym, ◌∙◌, append-nil}
 use Rattle.trace_stream.specs.Written.{GrowsOnly}
 use Rattle.frame_writer.specs.Fronts.{sure}
 use Rattle.frame_writer.proofs.Fronts.{sure_grows}
@@ -41,7 +41,7 @@ text_grows p xs ys =
     let order = p.plan.order in
     let lines = (read_so_far p.plan xs).lines in
     let longer = so_far_extends p.plan xs ys in
-    let grown = sure_grows p.every p.halves (put_of order lines) (put_after order lines longer.more) in (
+    let grown = sure_grows p.every p.halves [] (put_of order lines) (put_after order lines longer.more) in (
       grown.0,
       ap (λ l. sure p.every p.halves (put_of order l)) longer.all
           ∙ ap (sure p.every p.halves) (put_after-append order [] lines longer.more) ∙ grown.1,

@@ -354,6 +354,7 @@ impl Rebuild {
 }
 
 impl Action for Rebuild {
+    ghost use Rattle.std.specs.Prelude.{false};
     ghost use Rattle.script_rebuild.specs.Rebuilder.{plan_of, taken_by, IsLive, Stands};
     ghost use Rattle.script_rebuild.specs.Rebuilt.{IsFaulty, text, ending};
     ghost use Rattle.script_rebuild.specs.RebuiltLaws.{none_at_first, nothing_at_first, faulty_stays, text_stays};
@@ -374,6 +375,8 @@ impl Action for Rebuild {
     ghost text = { text };
 
     ghost ending = { ending };
+
+    ghost due = { λ _. false };
 
     ghost never_at_first = { none_at_first };
 
@@ -424,5 +427,9 @@ impl Action for Rebuild {
             }
             Err(_) => {}
         }
+    }
+
+    fn is_due(&self) -> bool {
+        false
     }
 }

@@ -8,4 +8,5 @@ pub mod DwtRanges
 pub mod StpRanges
 pub mod LineRanges
 pub mod PacketLines
+pub mod NewLines
 pub mod DatumLines

@@ -8,4 +8,5 @@ pub mod Items
 pub mod Lines
 pub mod Said
 pub mod Quick
+pub mod VersionTwo
 pub mod Rows

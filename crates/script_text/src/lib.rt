@@ -15,6 +15,7 @@ pub mod rows;
 mod shapes;
 mod stamps;
 mod stp_shapes;
+mod version_two;
 mod words;
 
 pub use items::Item;
@@ -22,3 +23,4 @@ pub use line_fault::LineFault;
 pub use lines::{LINE_BYTES, Line, read_into, read_line};
 pub use quick::{PacketLine, packet_line};
 pub use raw_bytes::{RAW_BYTES, RawBytes};
+pub use version_two::{Line2, read_line2};

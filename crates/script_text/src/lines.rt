@@ -36,7 +36,7 @@ pub enum Line {
 pub const LINE_BYTES: usize = 256;
 
 /// The source that is never raw: its bytes are triggers.
-const TRIGGER_SOURCE: u8 = 125;
+pub(crate) const TRIGGER_SOURCE: u8 = 125;
 
 /// Whether packets of an ITM source are its.
 fn takes_itm(kind: Option<SourceKind>) -> Result<(), LineFault>

@@ -12,7 +12,9 @@ ghost use Rattle.script_text.specs.declared.items.Item.TheVariants.{Itm, Dwt, St
 ghost use Rattle.script_text.specs.declared.lines.Line.TheVariants.{Nothing, Of};
 ghost use Rattle.script_text.specs.declared.line_fault.LineFault.TheVariants.{LongLine, BadLine, BadId, BadNumber};
 ghost use Rattle.script_text.specs.declared.line_fault.LineFault.TheVariants.{Unmapped, Mixed};
+ghost use Rattle.script_text.specs.declared.version_two.Line2.TheVariants.{One as OneLine, Flush, Trigger};
 ghost use Rattle.script_text.specs.Lines.{line_of};
+ghost use Rattle.script_text.specs.VersionTwo.{line2_of};
 ghost use Rattle.script_text.specs.Rows.{both, place};
 
 /// Each fault of a line alone.
@@ -51,4 +53,37 @@ pub fn items()
         Ok (Of 2 (Stp (Datum (place 1 2) Four 10 true (RawStamp 3 10)))) }
     ensures flag { line_of both (codes "2 flag 0 0 -") ≡ Ok (Of 2 (Stp (Flag (place 0 0) NoStamp))) }
     ensures raw { line_of both (codes "16 raw a5") ≡ Ok (Of 16 (Raw (0xA5 ∷ []))) }
+{}
+
+/// The lines of version 2 that version 1 has not, and what is like them.
+pub fn new_lines()
+    ensures flush { line2_of both (codes "flush") ≡ Ok Flush }
+    ensures flush_before { line_of both (codes "flush") ≡ Err BadLine }
+    ensures flush_space { line2_of both (codes "flush ") ≡ Err BadLine }
+    ensures flush_upper_case { line2_of both (codes "FLUSH") ≡ Err BadLine }
+    ensures flush_of_a_source { line2_of both (codes "16 flush") ≡ Err BadLine }
+    ensures trigger { line2_of both (codes "125 trigger 07") ≡ Ok (Trigger 7) }
+    ensures trigger_upper_case { line2_of both (codes "125 trigger Ff") ≡ Ok (Trigger 255) }
+    ensures trigger_before { line_of both (codes "125 trigger 07") ≡ Err BadLine }
+    ensures header { line2_of both (codes "trace-script 2") ≡ Err BadLine }
+    ensures empty { line2_of both [] ≡ Ok (OneLine Nothing) }
+    ensures remark { line2_of both (codes "#flush") ≡ Ok (OneLine Nothing) }
+    ensures sync { line2_of both (codes "1 sync") ≡ Ok (OneLine (Of 1 (Itm Sync))) }
+{}
+
+/// Each fault of a line of version 2: of several the first.
+pub fn new_faults()
+    ensures long { line2_of both (replicate 257 97) ≡ Err LongLine }
+    ensures no_code { line2_of both (codes "125 trigger") ≡ Err BadLine }
+    ensures two_codes { line2_of both (codes "125 trigger 07 08") ≡ Err BadLine }
+    ensures spaces { line2_of both (codes "125  trigger 07") ≡ Err BadLine }
+    ensures id { line2_of both (codes "127 trigger 07") ≡ Err BadId }
+    ensures id_first { line2_of both (codes "x trigger zz") ≡ Err BadId }
+    ensures one_digit { line2_of both (codes "125 trigger 7") ≡ Err BadNumber }
+    ensures three_digits { line2_of both (codes "125 trigger 007") ≡ Err BadNumber }
+    ensures number_first { line2_of both (codes "16 trigger zz") ≡ Err BadNumber }
+    ensures unmapped { line2_of both (codes "3 sync") ≡ Err Unmapped }
+    ensures other { line2_of both (codes "16 trigger 07") ≡ Err Mixed }
+    ensures mapped { line2_of both (codes "1 trigger 07") ≡ Err Mixed }
+    ensures raw { line2_of both (codes "125 raw 07") ≡ Err Mixed }
 {}

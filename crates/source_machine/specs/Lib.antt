@@ -2,3 +2,5 @@ pub mod Machine
 pub mod Seen
 pub mod SeenLaws
 pub mod MachineLaws
+pub mod Units
+pub mod UnitLaws

@@ -2,5 +2,6 @@
 #![tactic(auto)]
 
 mod machine;
+mod units;
 
 pub use machine::{AHEAD, SourceMachine};

@@ -27,7 +27,7 @@ pub enum SourceMachine {
 
 /// What an ITM decoder answers, as a machine of sources does.
 #[inline(always)]
-fn itm_step(step: Step<ItmPacket>) -> Step<Packet>
+pub(crate) fn itm_step(step: Step<ItmPacket>) -> Step<Packet>
     ensures { result ≡ step_as Itm step }
 {
     match step {
@@ -80,7 +80,7 @@ fn itm_part(part: PartTaken<ItmPacket>) -> PartTaken<Packet>
 
 /// What an STP decoder answers, as a machine of sources does.
 #[inline(always)]
-fn stp_step(step: Step<StpItem>) -> Step<Packet>
+pub(crate) fn stp_step(step: Step<StpItem>) -> Step<Packet>
     ensures { result ≡ step_as Stp step }
 {
     match step {
@@ -130,14 +130,20 @@ impl SourceMachine {
     ghost use Rattle.source_machine.specs.Machine.{reading_of, reading_by, Stands, is_live, is_stp, held_of};
     ghost use Rattle.source_machine.specs.Machine.{skipped_by};
     ghost use Rattle.source_machine.specs.Machine.{FinishesStp, Idles};
+    ghost use Rattle.source_machine.specs.Units.{StandsOn, kind_of, reading_on, reads_by, reads_on};
+    ghost use Rattle.capture_plan.specs.Modes.{packets_hunt};
     ghost use Rattle.stp_codec.specs.declared.decoder.StpFound.TheVariants.{Ends, Waits, Unknown};
 
-    /// The machine of a source of this kind before its first byte.
+    /// The machine of a source of this kind before its first byte and its first unit.
     pub fn new(kind: SourceKind, packets: PacketsMode, order: Order) -> SourceMachine
         ensures fresh { Stands result [] }
         ensures reading { reading_of result ≡ reading_by kind packets order }
         ensures live { is_live result ≡ true }
         ensures empty { (held_of result ≡ 0) × (skipped_by result ≡ 0) }
+        ensures kind { kind_of result ≡ kind }
+        ensures reads { reads_on result ≡ reads_by order kind }
+        ensures mode { reading_on result ≡ reads_on result (packets_hunt packets) }
+        ensures units { StandsOn result [] }
     {
         match (kind, packets) {
             (SourceKind::Itm, PacketsMode::Hunt) => SourceMachine::Itm(ItmDecoder::hunting()),
@@ -223,8 +229,8 @@ impl SourceMachine {
     /// are: it takes those up to the one that ends the packet, which it then gives, or all of them, where the packet
     /// ends after them. It is live, and has room for all of them. What the bytes behind them are is of no account.
     ///
-    /// It is quick: it answers `Unknown` in a hunt, of no bytes, of packets that are rare, and for an STP source. Then it
-    /// stands for what it stood for, and `take_itm` reads the bytes all the same.
+    /// It is quick: it answers `Unknown` in a hunt, of no bytes, of packets that are rare, and for an STP source. Then
+    /// it stands for what it stood for, and `take_itm` reads the bytes all the same.
     #[inline(always)]
     pub fn find_itm(&mut self, ahead: &[u8], count: usize) -> ItmFound
         requires live { is_live self.old ≡ true }
@@ -248,11 +254,10 @@ impl SourceMachine {
         }
     }
 
-    /// Takes these bytes of an ITM source, wherever they are: those within the unfinished packet up to the one that ends
-    /// it, or all of them. It is live, and has room for all of them.
+    /// Takes these bytes of an ITM source, wherever they are: those within the unfinished packet up to the one that
+    /// ends it, or all of them. It is live, and has room for all of them.
     ///
-    /// None in a hunt, where the first of them is a fault, of no bytes, and for an STP source: then it stands for what it
-    /// stood for.
+    /// None says nothing of the bytes: then it stands for what it stood for.
     #[inline(always)]
     pub fn take_itm(&mut self, bytes: &[u8]) -> Option<PartTaken<Packet>>
         requires live { is_live self.old ≡ true }
@@ -334,8 +339,7 @@ impl SourceMachine {
     /// ends, with all of that byte, or all of them. It is live, and has room for all their nibbles. Where `find_stp`
     /// knows what they are, that is faster.
     ///
-    /// None where the reading has not begun, where a nibble is a fault, of no bytes, and for an ITM source: then it
-    /// stands for what it stood for.
+    /// None says nothing of the bytes: then it stands for what it stood for.
     #[inline(always)]
     pub fn take_stp(&mut self, bytes: &[u8]) -> Option<PacketTaken>
         requires live { is_live self.old ≡ true }

@@ -37,3 +37,4 @@ pub mod Cuts
 pub mod Parts
 pub mod Moves
 pub mod InPlace
+pub mod Triggers

@@ -7,7 +7,8 @@ use Rattle.trace_values.specs.Stream.{Stream}
 use Rattle.source_merge.specs.declared.slot.Slot.{Slot}
 use Rattle.source_merge.specs.Routing.{mapped_of}
 
-refilled : {X : Type 0} → (old new : List X) → length new ≡ length old → refill (length old) old new ≡ new
+-- a list that is written over by one as long
+pub refilled : {X : Type 0} → (old new : List X) → length new ≡ length old → refill (length old) old new ≡ new
 refilled {X} old new e =
     ap (λ (l : List X). take (length old) (new ++ l)) (drop_all (length new) old (omega arith))
     ∙ ap (take (length old)) (append-nil new) ∙ take_all (length old) new (omega arith)

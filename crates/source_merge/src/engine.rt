@@ -323,7 +323,7 @@ impl Engine {
 
     /// Takes the whole frame that a piece begins with, the first byte of which is at this offset, with half
     /// synchronisations between its halfwords or without, and gives its events to what takes them. It leaves what
-    /// `feed_block` does. None where no whole frame is there, or no frame can begin: then it takes nothing.
+    /// `feed_block` does. None says nothing of the bytes, and takes none.
     ///
     /// The engine is live. The piece's first offset is at least `next()`, and its last one at most `GREATEST_OFFSET`.
     #[inline(always)]
@@ -475,7 +475,7 @@ impl Engine {
     /// Where there is no formatter and source 1 is mapped: takes its bytes from the front of a piece, the first of
     /// which is at this offset, up to the first one that ends a packet or is a fault, or to the piece's end, and gives
     /// the answer of the source's machine to the last of them. It leaves what `feed_block` does, which gives the events
-    /// of that answer (`note_bare`). None for every other plan: then it takes nothing.
+    /// of that answer (`note_bare`). None says nothing of the bytes, and takes none.
     ///
     /// The engine is live, and the piece has a byte. Its first offset is at least `next()`, and its last one at most
     /// `GREATEST_OFFSET`.
@@ -509,8 +509,8 @@ impl Engine {
     }
 
     /// Where no source is mapped: takes the whole frame that a piece begins with, whose first byte is at this offset,
-    /// and answers how many bytes that is. It leaves what `feed_block` does, whose events are not made here. None where
-    /// no whole frame is there, and for every other plan: then it takes nothing.
+    /// and answers how many bytes that is. It leaves what `feed_block` does, whose events are not made here. None says
+    /// nothing of the bytes, and takes none.
     ///
     /// The engine is live. The piece's first offset is at least `next()`, and its last one at most `GREATEST_OFFSET`.
     #[inline]

@@ -53,7 +53,8 @@ fn give_triggers<R: Run, V: Receiver>(
     }
 }
 
-/// Gives a run of a source that is not mapped. It stands by itself, since what gives the events takes many registers.
+/// Gives a run of a source that is not mapped. Kept out of line: put in line, it would take registers from the loop over
+/// runs.
 #[inline(never)]
 fn give_raw<R: Run, V: Receiver>(
     source: SourceId,

@@ -17,3 +17,4 @@ pub mod PacketPieces
 pub mod PartPieces
 pub mod Parts
 pub mod PartsPieces
+pub mod Pairs

@@ -19,7 +19,12 @@ use Rattle.stp_grammar.specs.Proper.{IsProper, IsProperItem}
 use Rattle.stp_grammar.specs.Rule.{rule, count_of}
 use Rattle.stp_grammar.proofs.Beginning.{start_never_fails}
 use Rattle.stp_grammar.proofs.Counting.{counts}
-use Rattle.stp_codec.specs.Reading.{items_in}
+use Rattle.stp_codec.specs.Reading.{items_in, items_at, pattern}
+use Rattle.trace_values.specs.Walk.{by_unit}
+use Rattle.trace_values.proofs.Modes as modes
+use Rattle.trace_values.proofs.Standings.{none_of}
+use Rattle.stp_grammar.specs.declared.packet.StpPacket.TheVariants.{Async}
+use Rattle.stp_grammar.proofs.Counting.{counts_placed}
 use Rattle.stp_codec.specs.Wholes.{nibbles_in, reached, Fronts, left_after, left_by, begun, Leaves, item_in, between, Ends}
 use Rattle.stp_codec.specs.Cuts.{Passes}
 use Rattle.stp_codec.specs.declared.flat.TheConstants.{WINDOW}
@@ -131,6 +136,9 @@ module _ (d e : StpDecoder) (s : Settles d e) where
   pub settles_reads : (u : List Placed) → Stands d u → Reads e u
   settles_reads u h = stands_as d e (partial_of d) e.partial s.order s.mode s.live s.attribution s.partial (nibbles_of u) h
 
+  pub settles_at : (n : List Placed) → StandsWith d (partial_of d) n → ReadsAt e n
+  settles_at n h = stands_as d e (partial_of d) e.partial s.order s.mode s.live s.attribution s.partial n h
+
   pub settles_read : read_of e ≡ held_of d
   settles_read = ap (λ (p : Partial). count_of p) s.partial
 
@@ -142,6 +150,13 @@ module _ (d e : StpDecoder) (s : Settles d e) where
 
   pub settles_idle : Idles d e
   settles_idle = (λ u h. to_stands e s.none (nibbles_of u) (settles_reads u h), held_read e s.none ∙ settles_read, settles_skipped)
+
+-- where it is live the reading has no fault
+pub sound_at : (d : StpDecoder) (n : List Placed) → is_live d ≡ true → StandsWith d (partial_of d) n →
+    (items_at d.order (hunts d.mode) n).fault ≡ None
+sound_at d n l h = none_of (items_at d.order (hunts d.mode) n).fault (sym l
+    ∙ (modes.shows pattern Async (by_unit (rule d.order)) Start count_of refl (counts_placed d.order) d.mode d.live
+    (partial_of d) n h.0).live_is)
 
 -- bytes that were copied
 module _ (d e : StpDecoder) (ahead : List ℕ) (c : Copies d e ahead) where

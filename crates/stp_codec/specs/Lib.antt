@@ -5,3 +5,4 @@ pub mod Wholes
 pub mod Parts
 pub mod Cuts
 pub mod FallingLaws
+pub mod Nibbles

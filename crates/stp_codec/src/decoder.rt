@@ -42,7 +42,7 @@ const ROOM: usize = 64;
 /// when the others come.
 #[derive(Debug, Drop)]
 pub struct StpDecoder {
-    order: Order,
+    pub(crate) order: Order,
     mode: Mode,
     /// The unfinished packet without the bytes that wait, where it has more than one nibble; else of no account.
     partial: Partial,
@@ -119,6 +119,7 @@ impl StpDecoder {
     ghost use Rattle.stp_codec.specs.Decoder.{TakesPart, Finds};
     ghost use Rattle.stp_codec.specs.declared.decoder.StpFound.TheVariants.{Ends, Waits, Unknown};
     ghost use Rattle.stp_codec.specs.Decoder.{held_of, skipped_by, nibble_at, EndsItem, Finishes, FinishesParts};
+    ghost use Rattle.stp_codec.specs.Nibbles.{IsHalf};
 
     /// A decoder of bytes that begin with a packet, whose numbers have their nibbles in this order.
     pub fn aligned(order: Order) -> StpDecoder
@@ -162,7 +163,7 @@ impl StpDecoder {
 
     /// Takes the next nibble, which is this half of the byte at this offset. It is settled.
     #[inline]
-    fn take_nibble(&mut self, at: u64, half: u8, nibble: u8) -> Step<StpItem>
+    pub(crate) fn take_nibble(&mut self, at: u64, half: u8, nibble: u8) -> Step<StpItem>
         requires live { is_live self.old ≡ true }
         requires room { read_of self.old ≤ COUNT_ROOM + 1 }
         requires count { skipped_by self.old ≤ COUNT_ROOM + 1 }
@@ -191,6 +192,7 @@ impl StpDecoder {
             (rest_in (order_of self.old) (is_hunter self.old) placed) }
         ensures quiet { self.old.partial ≡ Start → has_locked self.old ≡ true → result ≡ Quiet }
         ensures ends { EndsItem result self.new.partial (has_locked self.new) }
+        ensures half { IsHalf half result }
     {
         if let Mode::Hunting { run, skipped } = self.mode {
             if ASYNC.ends(run, nibble) {
@@ -371,7 +373,7 @@ impl StpDecoder {
     /// Settles it: the bytes that wait are read, and the state of the unfinished packet is kept also where it has one
     /// nibble or none. It has room for their nibbles.
     #[inline]
-    fn settle(&mut self)
+    pub(crate) fn settle(&mut self)
         requires room { held_of self.old ≤ COUNT_ROOM }
         ensures { Settles self.old self.new }
     {
@@ -587,7 +589,7 @@ impl StpDecoder {
     /// that byte, or all of them. It is live, and has room for the nibbles. The bytes that wait are read first. Where
     /// `find_part` knows what the bytes are, that is faster.
     ///
-    /// None where the reading has not begun, where a nibble is a fault, and of no bytes: then it stands as before.
+    /// None says nothing of the bytes: then it stands as before.
     #[inline(never)]
     pub fn take_part(&mut self, bytes: &[u8]) -> Option<PacketTaken>
         requires live { is_live self.old ≡ true }

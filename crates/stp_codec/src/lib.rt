@@ -7,6 +7,7 @@ mod decoder;
 mod flat;
 mod inside;
 pub mod laws;
+mod nibbles;
 mod waiting;
 mod whole;
 

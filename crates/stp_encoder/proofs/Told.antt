@@ -1,14 +1,17 @@
 -- The packets for fitting items tell exactly the items, and each has a spelling.
-use Rattle.std.proofs.Common.{◌≡◌, ℕ, List, [], ◌∷◌, ◌++◌, refl, sym, ◌∙◌, ap, append_assoc, append-nil, arith, true, false, ◌&&◌, Option, None, Some}
+use Rattle.std.proofs.Common.{◌≡◌, ℕ, List, [], ◌∷◌, ◌++◌, refl, sym, ◌∙◌, ap, append_assoc, append-nil, replicate, zero, suc, subst, arith, true, false, ◌&&◌, Option, None, Some}
 use Rattle.std.specs.Option.{option_to_list, is_some}
-use Rattle.stp_grammar.specs.declared.packet.Row.TheVariants.{MasterError, Datum, Flag, NullStamp, Trigger, Frequency, Master8, Master16, Channel8, Channel16}
+use Rattle.stp_grammar.specs.declared.packet.Row.TheVariants.{Null, MasterError, Datum, Flag, NullStamp, Trigger, Frequency, Master8, Master16, Channel8, Channel16}
 use Rattle.stp_grammar.specs.declared.packet.StpPacket.{StpPacket}
-use Rattle.stp_grammar.specs.declared.packet.StpPacket.TheVariants.{Plain}
+use Rattle.stp_grammar.specs.declared.packet.StpPacket.TheVariants.{Async, Plain, Stamped}
 use Rattle.stp_grammar.specs.declared.item.Place.{Place}
+use Rattle.stp_grammar.specs.declared.item.Stamp.TheVariants.{None as NoStamp}
 use Rattle.stp_grammar.specs.declared.item.StpItem.{StpItem}
 use Rattle.stp_grammar.specs.declared.item.StpItem.TheVariants.{Async as AsyncItem, Version as VersionItem, MasterError as MasterErrorItem, GlobalError as GlobalErrorItem, Datum as DatumItem, Flag as FlagItem, Trigger as TriggerItem, Frequency as FrequencyItem, NullStamp as NullStampItem}
-use Rattle.stp_grammar.specs.Proper.{IsProperPlace, IsProperItem}
-use Rattle.stp_grammar.specs.Attribution.{version_of, master_of, channel_of, place_of, item_of}
+use Rattle.stp_grammar.specs.Proper.{IsProper, IsProperPlace, IsProperItem}
+use Rattle.stp_grammar.specs.Attribution.{version_of, master_of, channel_of, last_word_of, stamp_by, place_of, stamp_of, item_with, item_of}
+use Rattle.stp_grammar.specs.NextState.{next_version, next_master, next_channel, next_last}
+use Rattle.stp_grammar.proofs.Attributing.{version_more, master_more, channel_more, last_more}
 use Rattle.stp_encoder.specs.Fitting.{item_place, item_stamp, is_of_version, is_named, is_unfit, AreFitting}
 use Rattle.stp_encoder.specs.Packets.{telling, telling_place, own_packet, packets_with, packets_after, packets_for}
 use Rattle.stp_encoder.proofs.Versions.{telling_cases, version_for, version_kept}
@@ -118,3 +121,72 @@ told_from all done (item ∷ items) h e =
 pub told_back : (items : List StpItem) → AreFitting items → told [] (packets_for items) ≡ items
 unfolding packets_for
 told_back items h = told_from items [] items h refl
+
+-- packets after which the same is in force
+pub record AreAlike (a b : List StpPacket) : Type 0 where
+  pub version : version_of a ≡ version_of b
+  pub master : master_of a ≡ master_of b
+  pub channel : channel_of a ≡ channel_of b
+  pub last : last_word_of a ≡ last_word_of b
+
+alike_more : (a b : List StpPacket) (p : StpPacket) → IsProper p → AreAlike a b → AreAlike (a ++ p ∷ []) (b ++ p ∷ [])
+alike_more a b p h k = record {
+  version = version_more a p ∙ ap (λ (o : Option ℕ). next_version o p) k.version ∙ sym (version_more b p);
+  master = master_more a p h ∙ ap (λ (o : Option ℕ). next_master o p) k.master ∙ sym (master_more b p h);
+  channel = channel_more a p h ∙ ap (λ (o : Option ℕ). next_channel o p) k.channel ∙ sym (channel_more b p h);
+  last = last_more a p h ∙ ap (λ (o : Option ℕ). next_last o (last_word_of a) p) k.version ∙ ap (λ (n : ℕ). next_last (version_of b) n p) k.last ∙ sym (last_more b p h);
+}
+
+abbrev place_by : Option ℕ → Option ℕ → Place
+place_by m c = record { master = m; channel = c }
+
+place_alike : (a b : List StpPacket) → AreAlike a b → place_of a ≡ place_of b
+place_alike a b k = ap (λ (m : Option ℕ). place_by m (channel_of a)) k.master ∙ ap (λ (c : Option ℕ). place_by (master_of b) c) k.channel
+
+item_alike : (a b : List StpPacket) (p : StpPacket) → AreAlike a b → item_of a p ≡ item_of b p
+item_alike a b Async k = refl
+item_alike a b (Plain row v) k = ap (λ (z : Place). item_with z NoStamp row v) (place_alike a b k)
+item_alike a b (Stamped row v size word) k =
+    ap (λ (z : Place). item_with z (stamp_of a size word) row v) (place_alike a b k)
+    ∙ ap (λ (o : Option ℕ). item_with (place_of b) (stamp_by o (last_word_of a) size word) row v) k.version
+    ∙ ap (λ (n : ℕ). item_with (place_of b) (stamp_by (version_of b) n size word) row v) k.last
+
+abbrev pub AreProper : List StpPacket → Type 0
+AreProper [] = Unit {0}
+AreProper (p ∷ packets) = IsProper p × AreProper packets
+
+-- they tell the same items, and the same is in force after them
+pub told_alike : (a b l : List StpPacket) → AreProper l → AreAlike a b → told a l ≡ told b l
+told_alike a b [] h k = refl
+told_alike a b (p ∷ l) h k =
+    let more = alike_more a b p h.0 k in
+    ap (λ (o : Option StpItem). option_to_list o ++ told (a ++ p ∷ []) l) (item_alike (a ++ p ∷ []) (b ++ p ∷ []) p more)
+    ∙ ap (λ (t : List StpItem). option_to_list (item_of (b ++ p ∷ []) p) ++ t) (told_alike (a ++ p ∷ []) (b ++ p ∷ []) l h.1 more)
+
+pub alike_append : (a b l : List StpPacket) → AreProper l → AreAlike a b → AreAlike (a ++ l) (b ++ l)
+alike_append a b [] h k = subst (λ (x : List StpPacket). AreAlike x (b ++ [])) (sym (append-nil a)) (subst (λ (x : List StpPacket). AreAlike a x) (sym (append-nil b)) k)
+alike_append a b (p ∷ l) h k =
+    subst (λ (x : List StpPacket). AreAlike x (b ++ (p ∷ l))) (append_assoc a (p ∷ []) l)
+    (subst (λ (x : List StpPacket). AreAlike ((a ++ p ∷ []) ++ l) x) (append_assoc b (p ∷ []) l) (alike_append (a ++ p ∷ []) (b ++ p ∷ []) l h.1 (alike_more a b p h.0 k)))
+
+-- a NULL tells nothing
+null_proper : IsProper (Plain Null 0)
+null_proper = omega arith
+
+alike_null : (a : List StpPacket) → AreAlike a (a ++ Plain Null 0 ∷ [])
+alike_null a = record {
+  version = sym (version_more a (Plain Null 0));
+  master = sym (master_more a (Plain Null 0) null_proper);
+  channel = sym (channel_more a (Plain Null 0) null_proper);
+  last = sym (last_more a (Plain Null 0) null_proper);
+}
+
+pub alike_nulls : (a b : List StpPacket) (count : ℕ) → AreAlike a b → AreAlike a (b ++ replicate count (Plain Null 0))
+alike_nulls a b zero k = subst (λ (x : List StpPacket). AreAlike a x) (sym (append-nil b)) k
+alike_nulls a b (suc count) k =
+    let n = alike_null b in
+    subst (λ (x : List StpPacket). AreAlike a x) (append_assoc b (Plain Null 0 ∷ []) (replicate count (Plain Null 0)))
+    (alike_nulls a (b ++ Plain Null 0 ∷ []) count (record { version = k.version ∙ n.version; master = k.master ∙ n.master; channel = k.channel ∙ n.channel; last = k.last ∙ n.last }))
+
+pub alike_none : AreAlike [] []
+alike_none = record { version = refl; master = refl; channel = refl; last = refl }

@@ -2,17 +2,18 @@
 use Rattle.std.specs.Prelude.{◌≡◌, ℕ, List, Option}
 use Rattle.stp_grammar.specs.declared.packet.Order.{Order}
 use Rattle.stp_grammar.specs.declared.packet.StpPacket.{StpPacket}
-use Rattle.stp_grammar.specs.declared.item.StpItem.{StpItem}
+use Rattle.stp_encoder.specs.Puts.{Put, items_in}
 use Rattle.stp_grammar.specs.Attributed as attributed
 use Rattle.stp_encoder.specs.declared.encoder.StpEncoder.{StpEncoder}
 use Rattle.stp_encoder.specs.Packets.{packets_for}
 use Rattle.stp_encoder.specs.Bytes.{odd_nibble, nibbles_for}
 use Rattle.stp_encoder.specs.Joined.{Joins, count_in}
 
--- It stands for these items: it keeps what the packets for them tell, and the odd last one of their nibbles.
-pub record Stands (encoder : StpEncoder) (items : List StpItem) : Type 0 where
-  pub attribution : attributed.Stands encoder.attribution (packets_for items)
-  pub nibble : encoder.joiner.low ≡ odd_nibble (nibbles_for encoder.order items)
+-- It stands for these items and flushes: it keeps what the packets for the items tell, and the odd last one of all
+-- nibbles.
+pub record Stands (encoder : StpEncoder) (puts : List Put) : Type 0 where
+  pub attribution : attributed.Stands encoder.attribution (packets_for (items_in puts))
+  pub nibble : encoder.joiner.low ≡ odd_nibble (nibbles_for encoder.order puts)
 
 -- the same part by part: it keeps what these packets tell, and of these nibbles these are the whole bytes, and it keeps
 -- the odd last one

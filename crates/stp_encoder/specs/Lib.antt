@@ -1,5 +1,6 @@
 pub mod Fitting
 pub mod Packets
+pub mod Puts
 pub mod Bytes
 pub mod Joined
 pub mod Encoder

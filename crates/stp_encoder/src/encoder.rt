@@ -43,6 +43,7 @@ impl StpEncoder {
     ghost use Rattle.stp_grammar.specs.Proper.{IsProper, IsProperItem, IsProperStamp};
     ghost use Rattle.stp_grammar.specs.Shortest.{short};
     ghost use Rattle.stp_encoder.specs.Fitting.{version_after, is_unfit};
+    ghost use Rattle.stp_encoder.specs.Puts.{Put, Of, Flush, items_in};
     ghost use Rattle.stp_encoder.specs.Packets.{telling_place, packets_with, shortest_stamp};
     ghost use Rattle.stp_encoder.specs.Packets.{packed_stamp, own_packet};
     ghost use Rattle.stp_encoder.specs.Bytes.{short_len, spelled, written, encoded, put_bytes, end_bytes};
@@ -63,7 +64,7 @@ impl StpEncoder {
     /// The version that the last VERSION named.
     pub fn version(&self) -> Option<u8>
         ensures kept { result ≡ version_in_force self.now }
-        ensures list { (items : List StpItem) → Stands self.now items → result ≡ version_after items }
+        ensures list { (puts : List Put) → Stands self.now puts → result ≡ version_after (items_in puts) }
     {
         self.attribution.version()
     }
@@ -225,16 +226,16 @@ impl StpEncoder {
         ensures order { order_of self.new ≡ order_of self.old }
         ensures cause { is_err result ≡ is_unfit (version_in_force self.old) item.now }
         ensures version { IfErr result (λ e. e.version ≡ version_in_force self.old) }
-        ensures fits { (items : List StpItem) → Stands self.old items →
-            is_err result ≡ is_unfit (version_after items) item.now }
+        ensures fits { (puts : List Put) → Stands self.old puts →
+            is_err result ≡ is_unfit (version_after (items_in puts)) item.now }
         ensures same { OnErr result ((self.new ≡ self.old) × (out.new ≡ out.old)) }
-        ensures list { (items : List StpItem) → Stands self.old items →
-            OnOk result (Stands self.new (items ++ item.now ∷ [])) }
-        ensures bytes { (items : List StpItem) → Stands self.old items →
-            OnOk result (out.new.items ≡ put_bytes (order_of self.old) items item.now) }
-        ensures written { (items : List StpItem) → Stands self.old items →
-            OnOk result (written (order_of self.old) (items ++ item.now ∷ []) ≡
-            written (order_of self.old) items ++ out.new.items) }
+        ensures list { (puts : List Put) → Stands self.old puts →
+            OnOk result (Stands self.new (puts ++ Of item.now ∷ [])) }
+        ensures bytes { (puts : List Put) → Stands self.old puts →
+            OnOk result (out.new.items ≡ put_bytes (order_of self.old) puts item.now) }
+        ensures written { (puts : List Put) → Stands self.old puts →
+            OnOk result (written (order_of self.old) (puts ++ Of item.now ∷ []) ≡
+            written (order_of self.old) puts ++ out.new.items) }
     {
         let version = self.version();
         if is_unfit(version, item) {
@@ -244,15 +245,31 @@ impl StpEncoder {
         Ok(())
     }
 
-    /// Writes the end of the bytes into `out`, which is empty: a kept nibble with a NULL above it, and else nothing.
-    pub fn finish(self, out: &mut ArrayVec<u8, 24>)
+    /// Makes the bytes so far whole: writes a kept nibble with a NULL above it into `out`, which is empty, or nothing
+    /// where none is kept. The version, the place and the last timestamp in force stay, so that the next item has
+    /// the packets that it would have without a flush.
+    pub fn flush(&mut self, out: &mut ArrayVec<u8, 24>)
         requires empty { out.old.items ≡ [] }
-        ensures bytes { (items : List StpItem) → Stands self items →
-            out.new.items ≡ end_bytes (order_of self) items }
-        ensures encoded { (items : List StpItem) → Stands self items →
-            encoded (order_of self) items ≡ written (order_of self) items ++ out.new.items }
+        ensures order { order_of self.new ≡ order_of self.old }
+        ensures version { version_in_force self.new ≡ version_in_force self.old }
+        ensures list { (puts : List Put) → Stands self.old puts → Stands self.new (puts ++ Flush ∷ []) }
+        ensures bytes { (puts : List Put) → Stands self.old puts →
+            out.new.items ≡ end_bytes (order_of self.old) puts }
+        ensures written { (puts : List Put) → Stands self.old puts →
+            written (order_of self.old) (puts ++ Flush ∷ []) ≡ written (order_of self.old) puts ++ out.new.items }
         ensures few { length out.new.items ≤ 1 }
     {
-        self.joiner.finish(out);
+        self.joiner.flush(out);
+    }
+
+    /// Writes the end of the bytes into `out`, which is empty: what `flush` would write.
+    pub fn finish(mut self, out: &mut ArrayVec<u8, 24>)
+        requires empty { out.old.items ≡ [] }
+        ensures bytes { (puts : List Put) → Stands self puts → out.new.items ≡ end_bytes (order_of self) puts }
+        ensures encoded { (puts : List Put) → Stands self puts →
+            encoded (order_of self) puts ≡ written (order_of self) puts ++ out.new.items }
+        ensures few { length out.new.items ≤ 1 }
+    {
+        self.flush(out);
     }
 }

@@ -26,7 +26,7 @@ pub(crate) struct Joiner {
 }
 
 impl Joiner {
-    ghost use Rattle.std.specs.Prelude.{List, ℕ, [], ◌∷◌, ◌++◌, replicate, option_to_list, All};
+    ghost use Rattle.std.specs.Prelude.{List, ℕ, [], ◌∷◌, ◌++◌, None, replicate, option_to_list, All};
     ghost use Rattle.stp_grammar.specs.Opcodes.{line_of};
     ghost use Rattle.stp_grammar.specs.Proper.{IsProper};
     ghost use Rattle.stp_grammar.specs.Shortest.{nibbles_of_number, short};
@@ -139,12 +139,14 @@ impl Joiner {
     }
 
     /// Appends the byte of a kept nibble, with a NULL above it, where there is one.
-    pub(crate) fn finish(self, out: &mut ArrayVec<u8, 24>)
+    pub(crate) fn flush(&mut self, out: &mut ArrayVec<u8, 24>)
         requires empty { out.old.items ≡ [] }
-        ensures bytes { out.new.items ≡ joined (filled (option_to_list self.low)) }
+        ensures bytes { out.new.items ≡ joined (filled (option_to_list self.old.low)) }
+        ensures none { self.new.low ≡ None }
     {
         if let Some(low) = self.low {
             out.push(low);
+            self.low = None;
         }
     }
 }

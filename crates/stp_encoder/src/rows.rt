@@ -9,22 +9,26 @@ ghost use Rattle.stp_grammar.specs.declared.item.Stamp.TheVariants.{None as NoSt
 ghost use Rattle.stp_grammar.specs.declared.item.StpItem.TheVariants.{Async, Version, Trigger, Flag, NullStamp};
 ghost use Rattle.trace_values.specs.Hex.{hex};
 ghost use Rattle.stp_encoder.specs.Fitting.{is_unfit};
+ghost use Rattle.stp_encoder.specs.Puts.{Of, Flush, unmarked};
 ghost use Rattle.stp_encoder.specs.Packets.{packets_for};
 ghost use Rattle.stp_encoder.specs.Bytes.{encoded, written};
 ghost use Rattle.stp_encoder.specs.Rows.{at, byte_at, flag_at};
 
 /// ASYNC, VERSION and data: with a place and a natural timestamp in both orders, and at the place that VERSION makes
-/// the one in force. An odd last nibble has a NULL above it.
+/// the one in force. An odd last nibble has a NULL above it, at the end and at a flush.
 #[tactic(auto, unfolding(crate::specs::Packets::packets_for, crate::specs::Packets::shortest_stamp, crate::specs::Bytes::nibbles_for, stp_grammar::specs::Attribution::version_of, stp_grammar::specs::Attribution::master_of, stp_grammar::specs::Attribution::channel_of, stp_grammar::specs::Attribution::last_word_of, trace_clock::specs::LastWord::last_word,))]
 pub fn captures()
-    ensures stamped { encoded Msn (Async ∷ (Version 3 ∷ (byte_at (at 1 0) 66 (Natural 5) ∷ []))) ≡
+    ensures stamped { encoded Msn (unmarked (Async ∷ (Version 3 ∷ (byte_at (at 1 0) 66 (Natural 5) ∷ [])))) ≡
         hex (codes "FF FF FF FF FF FF FF FF FF FF 0F 0F 30 01 F1 44 12 05") }
-    ensures other_order { encoded Lsn (Async ∷ (Version 3 ∷ (byte_at (at 1 0) 66 (Natural 5) ∷ []))) ≡
+    ensures other_order { encoded Lsn (unmarked (Async ∷ (Version 3 ∷ (byte_at (at 1 0) 66 (Natural 5) ∷ [])))) ≡
         hex (codes "FF FF FF FF FF FF FF FF FF FF 0F 0F 30 11 F0 24 14 05") }
-    ensures plain { encoded Msn (Async ∷ (Version 3 ∷ (byte_at (at 0 0) 65 NoStamp ∷ []))) ≡
+    ensures plain { encoded Msn (unmarked (Async ∷ (Version 3 ∷ (byte_at (at 0 0) 65 NoStamp ∷ [])))) ≡
         hex (codes "FF FF FF FF FF FF FF FF FF FF 0F 0F 30 44 01") }
-    ensures kept { written Msn (Async ∷ (Version 3 ∷ (byte_at (at 0 0) 65 NoStamp ∷ []))) ≡
+    ensures kept { written Msn (unmarked (Async ∷ (Version 3 ∷ (byte_at (at 0 0) 65 NoStamp ∷ [])))) ≡
         hex (codes "FF FF FF FF FF FF FF FF FF FF 0F 0F 30 44") }
+    ensures flushed { encoded Msn (Of Async ∷ (Of (Version 3) ∷ (Flush ∷ (Of (byte_at (at 0 0) 65 NoStamp)
+        ∷ (Flush ∷ (Of (byte_at (at 0 0) 65 NoStamp) ∷ [])))))) ≡
+        hex (codes "FF FF FF FF FF FF FF FF FF FF 0F 0F 30 44 01 44 01") }
 {}
 
 /// A master or a channel is told whole where it is unknown or its high 8 bits differ, by its low 8 bits where they
@@ -51,13 +55,13 @@ pub fn places()
 /// raw word in its own size.
 #[tactic(auto, unfolding(crate::specs::Packets::packets_for, crate::specs::Packets::shortest_stamp, crate::specs::Bytes::nibbles_for, stp_grammar::specs::Attribution::version_of, stp_grammar::specs::Attribution::master_of, stp_grammar::specs::Attribution::channel_of, stp_grammar::specs::Attribution::last_word_of, trace_clock::specs::LastWord::last_word, trace_clock::specs::GrayCode::gray_of,))]
 pub fn stamps()
-    ensures natural { encoded Msn (Version 3 ∷ (Flag (at 0 0) (Natural 4660) ∷ (Flag (at 0 0) (Natural 4660)
-        ∷ (Flag (at 0 0) (Natural 4661) ∷ (Flag (at 0 0) (Natural 0) ∷ []))))) ≡
+    ensures natural { encoded Msn (unmarked (Version 3 ∷ (Flag (at 0 0) (Natural 4660) ∷ (Flag (at 0 0) (Natural 4660)
+        ∷ (Flag (at 0 0) (Natural 4661) ∷ (Flag (at 0 0) (Natural 0) ∷ [])))))) ≡
         hex (codes "0F 30 4E 21 43 0E 1E E5 04 00 00") }
-    ensures gray { encoded Msn (Version 4 ∷ (Flag (at 0 0) (Gray 18446744073709551615)
-        ∷ (Flag (at 0 0) (Gray 18446744073709551615) ∷ (Flag (at 0 0) (Gray 18446744073709551614) ∷ [])))) ≡
+    ensures gray { encoded Msn (unmarked (Version 4 ∷ (Flag (at 0 0) (Gray 18446744073709551615)
+        ∷ (Flag (at 0 0) (Gray 18446744073709551615) ∷ (Flag (at 0 0) (Gray 18446744073709551614) ∷ []))))) ≡
         hex (codes "0F 40 EE 08 00 00 00 00 00 00 00 0E 1E 01") }
-    ensures raw { encoded Msn (Trigger 7 (Raw 3 5) ∷ (NullStamp (Raw 0 0) ∷ [])) ≡
+    ensures raw { encoded Msn (unmarked (Trigger 7 (Raw 3 5) ∷ (NullStamp (Raw 0 0) ∷ []))) ≡
         hex (codes "0F 07 37 00 F5 10 00") }
 {}
 

@@ -3,7 +3,6 @@ use Rattle.std.proofs.lemmas.List.{take-take, take-append-le, length-take}
 use Rattle.std.specs.declared.option.Option.{Option}
 use Rattle.std.specs.Io.KnownBytes.{Consumes}
 use Rattle.std.proofs.KnownBytes.{Consumes-trans}
-use Rattle.circular_buffer.specs.Buffer.{keep_last}
 use Rattle.trace_stream.proofs.Pieces.{all_fed, whole}
 use Rattle.trace_stream.proofs.Kept.{kept_more, kept_piece, kept_front}
 use Rattle.trace_stream.specs.BuffersState.{BuffersState}
@@ -12,7 +11,7 @@ use Rattle.trace_stream.specs.Pumped.{HasPumped}
 use Rattle.trace_stream.specs.Served.{Meaning, Ends}
 use Rattle.trace_stream.specs.declared.feeding.FeedEnd.TheVariants.{FaultFound, WriteFailed}
 use Rattle.trace_stream.specs.declared.outcome.Outcome.TheVariants as outcome
-use Rattle.trace_stream.specs.declared.recent.TheConstants.{RECENT_ROOM}
+use Rattle.trace_stream.specs.Recent.{last_sixteen}
 
 -- the way of the text between two moments
 abbrev pub writing : Ends → Ends → BuffersState → Writing
@@ -24,7 +23,7 @@ pub record IsPumping (stands : List ℕ → Type 0) (m : Meaning) (old new : End
   pub lost : Consumes old.left new.left seen
   pub after : StandsAfter stands m (writing old new buffers) seen
   pub counted : count ≡ length seen
-  pub kept : buffers.recent ≡ keep_last RECENT_ROOM seen
+  pub kept : buffers.recent ≡ last_sixteen seen
 
 -- what was read after the bytes seen, of which a front was fed
 parts_lost : (old mid new : Option (List ℕ)) (seen bytes piece beyond fed rest : List ℕ) → Consumes old mid seen → Consumes mid new bytes → bytes ≡ piece ++ beyond → piece ≡ fed ++ rest → Consumes old new ((seen ++ fed) ++ (rest ++ beyond))
@@ -35,7 +34,7 @@ parts_lost old mid new seen bytes piece beyond fed rest p q e f =
 -- a piece is the front of the bytes that were read next, as far as the limit goes; a front of it is fed
 module _ (was now : List ℕ → Type 0) (m : Meaning) (limit : ℕ) (old mid new : Ends) (kept after : BuffersState) (count : ℕ) (bytes piece beyond : List ℕ)
     (so_far : IsPumping was m old mid kept count) (read : Consumes mid.left new.left bytes) (parts : bytes ≡ piece ++ beyond) (fed_count : ℕ)
-    (keeps : after.recent ≡ keep_last RECENT_ROOM (kept.recent ++ take fed_count piece)) where
+    (keeps : after.recent ≡ last_sixteen (kept.recent ++ take fed_count piece)) where
   pub pump_stopped : count + length piece ≤ limit → count + length bytes ≤ limit + 1
       → HasFed now m (writing old new after) so_far.seen piece (record { bytes = fed_count; end = FaultFound }) → HasPumped now m limit old new after outcome.FaultFound
   pump_stopped within at_most fed = record {
@@ -75,7 +74,7 @@ module _ (was now : List ℕ → Type 0) (m : Meaning) (limit : ℕ) (old mid ne
 -- all that was read is fed
 pub pump_more : (was now : List ℕ → Type 0) (m : Meaning) (old mid new : Ends) (kept after : BuffersState) (count : ℕ) (piece : List ℕ)
     (so_far : IsPumping was m old mid kept count) → Consumes mid.left new.left piece
-    → (fed_count : ℕ) → HasFed now m (writing old new after) so_far.seen piece (whole fed_count) → after.recent ≡ keep_last RECENT_ROOM (kept.recent ++ take fed_count piece)
+    → (fed_count : ℕ) → HasFed now m (writing old new after) so_far.seen piece (whole fed_count) → after.recent ≡ last_sixteen (kept.recent ++ take fed_count piece)
     → IsPumping now m old new after (count + length piece)
 pump_more was now m old mid new kept after count piece so_far read fed_count fed keeps = record {
   seen = so_far.seen ++ piece;
@@ -94,8 +93,8 @@ cut_read buf rest got taken h k =
     sym (take-append-drop taken (take got buf)) ∙ ap (λ l. l ++ drop taken (take got buf)) same
 
 -- the front of the buffer that is kept is a front of the piece
-cut_kept : (all old new : List ℕ) (count taken : ℕ) → count ≤ taken → new ≡ keep_last RECENT_ROOM (old ++ take count all) → new ≡ keep_last RECENT_ROOM (old ++ take count (take taken all))
-cut_kept all old new count taken h e = e ∙ ap (λ l. keep_last RECENT_ROOM (old ++ l)) (sym (take-take count taken all h))
+cut_kept : (all old new : List ℕ) (count taken : ℕ) → count ≤ taken → new ≡ last_sixteen (old ++ take count all) → new ≡ last_sixteen (old ++ take count (take taken all))
+cut_kept all old new count taken h e = e ∙ ap (λ l. last_sixteen (old ++ l)) (sym (take-take count taken all h))
 
 -- Of a read that gave `got` bytes, at the front of a buffer that has `rest` after them, the first `taken` are the piece, and
 -- a front of that was fed and kept.
@@ -103,10 +102,10 @@ pub record IsCut (buf rest old new : List ℕ) (got taken fed : ℕ) : Type 0 wh
   pub parts : take got buf ≡ take taken (buf ++ rest) ++ drop taken (take got buf)
   pub piece : length (take taken (buf ++ rest)) ≡ taken
   pub read : length (take got buf) ≡ got
-  pub kept : new ≡ keep_last RECENT_ROOM (old ++ take fed (take taken (buf ++ rest)))
+  pub kept : new ≡ last_sixteen (old ++ take fed (take taken (buf ++ rest)))
 
 pub cut_of : (buf rest old new : List ℕ) (got taken fed : ℕ) → got ≤ length buf → taken ≤ got → fed ≤ length (take taken (buf ++ rest))
-    → new ≡ keep_last RECENT_ROOM (old ++ take fed (buf ++ rest)) → IsCut buf rest old new got taken fed
+    → new ≡ last_sixteen (old ++ take fed (buf ++ rest)) → IsCut buf rest old new got taken fed
 cut_of buf rest old new got taken fed h k front e =
     let piece : length (take taken (buf ++ rest)) ≡ taken = omega (arith, length-take taken (buf ++ rest), length-append buf rest) in
     record {

@@ -2,7 +2,7 @@ use Rattle.std.proofs.Common.{◌≡◌, ℕ, ◌+◌, ◌-◌, List, [], ◌++�
 use Rattle.std.proofs.lemmas.List.{drop-append-le}
 use Rattle.std.proofs.Math.Seq.{take-append_seam}
 use Rattle.circular_buffer.specs.Buffer.{keep_last}
-use Rattle.trace_stream.specs.declared.recent.TheConstants.{RECENT_ROOM}
+use Rattle.trace_stream.specs.Recent.{last_sixteen}
 
 -- the last of the last bytes and more are the last of all
 keep_last_again : (n : ℕ) (xs ys : List ℕ) → keep_last n (keep_last n xs ++ ys) ≡ keep_last n (xs ++ ys)
@@ -15,9 +15,9 @@ keep_last_again n xs ys =
     ap (drop rest) front ∙ drop-drop rest cut (xs ++ ys) ∙ ap (λ k. drop k (xs ++ ys)) all
 
 -- the ring goes on by what was fed
-pub kept_more : (recent recent' seen front fed : List ℕ) → recent ≡ keep_last RECENT_ROOM seen → recent' ≡ keep_last RECENT_ROOM (recent ++ front) → front ≡ fed → recent' ≡ keep_last RECENT_ROOM (seen ++ fed)
+pub kept_more : (recent recent' seen front fed : List ℕ) → recent ≡ last_sixteen seen → recent' ≡ last_sixteen (recent ++ front) → front ≡ fed → recent' ≡ last_sixteen (seen ++ fed)
 kept_more recent recent' seen front fed was now same =
-    now ∙ ap (λ l. keep_last RECENT_ROOM (recent ++ l)) same ∙ ap (λ l. keep_last RECENT_ROOM (l ++ fed)) was ∙ keep_last_again RECENT_ROOM seen fed
+    now ∙ ap (λ l. last_sixteen (recent ++ l)) same ∙ ap (λ l. last_sixteen (l ++ fed)) was ∙ keep_last_again 16 seen fed
 
 -- the first bytes of the piece, of this count, are those that were fed
 pub kept_front : (piece fed rest : List ℕ) (count : ℕ) → count ≡ length fed → piece ≡ fed ++ rest → take count piece ≡ fed

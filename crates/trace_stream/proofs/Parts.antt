@@ -1,16 +1,15 @@
-use Rattle.std.proofs.Common.{◌≡◌, inl, inr, ℕ, ◌+◌, ◌-◌, ◌≤◌, List, [], ◌++◌, ap, ◌∙◌, sym, subst, refl, append_assoc, append-nil, length, length-append, take, arith}
+use Rattle.std.proofs.Common.{◌≡◌, ◌⊎◌, true, inl, inr, ℕ, ◌+◌, ◌-◌, ◌≤◌, List, [], ◌++◌, ap, ◌∙◌, sym, subst, refl, append_assoc, append-nil, length, length-append, take, arith}
 use Rattle.std.proofs.lemmas.List.{take_all}
 use Rattle.std.proofs.Math.Seq.{take-append-add, take-append_seam}
 use Rattle.std.specs.declared.option.Option.{Option}
 use Rattle.std.specs.Io.KnownBytes.{Appends, Consumes, IsAtEnd}
 use Rattle.trace_io.specs.Bytes.{AppendsPrefix}
-use Rattle.trace_io.proofs.Writes.{front_all}
 use Rattle.trace_stream.specs.Written.{GrowsOnly}
 use Rattle.trace_stream.specs.declared.outcome.Outcome.{Outcome}
 use Rattle.trace_stream.specs.declared.outcome.Outcome.TheVariants.{AtEnd, FaultFound, ReadFailed, WriteFailed, OverLimit}
 use Rattle.trace_stream.specs.BuffersState.{BuffersState}
 use Rattle.trace_stream.specs.Pumped.{HasPumped}
-use Rattle.trace_stream.specs.Served.{Meaning, Ends, IsAllRead, HasServed, HasStopped, HasEnded}
+use Rattle.trace_stream.specs.Served.{Meaning, Ends, IsAllRead, HasServed, HasStopped, HasEnded, text_at_stop}
 
 -- the output went on after the reading
 abbrev pub written : Ends → Option (List ℕ) → Ends
@@ -66,30 +65,38 @@ served_stopped stands m limit old new buffers held stays pumped put =
     } in
     record { served = served; holds = pumped.outcome.read }
 
-pub served_read_failed : (stands : List ℕ → Type 0) (m : Meaning) (limit : ℕ) (old new : Ends) (buffers : BuffersState)
-    → HasPumped stands m limit old new buffers ReadFailed → HasServed m limit old new buffers.recent ReadFailed
-served_read_failed stands m limit old new buffers pumped = record {
+-- where a read failed, with what was due
+pub served_read_failed : (stands : List ℕ → Type 0) (m : Meaning) (limit : ℕ) (old new : Ends) (buffers : BuffersState) (held : Option (List ℕ))
+    (pumped : HasPumped stands m limit old new buffers ReadFailed) → Appends old.held held (text_at_stop m pumped.seen)
+    → HasServed m limit old (written new held) buffers.recent ReadFailed
+served_read_failed stands m limit old new buffers held pumped put = record {
   bytes = pumped.seen;
-  out = m.text pumped.seen;
+  out = text_at_stop m pumped.seen;
   lost = subst (Consumes old.left new.left) (ap (λ l. pumped.seen ++ l) pumped.outcome.1 ∙ append-nil pumped.seen) pumped.lost;
-  gained = front_all old.held new.held (m.text pumped.seen) buffers.pending pumped.outcome.0.written pumped.outcome.2;
+  gained = put;
   at_most = omega (arith, pumped.within);
   outcome = (pumped.outcome.0.sound, pumped.within, refl);
   ended = λ e. cc;
 }
 
-pub served_over_limit : (stands : List ℕ → Type 0) (m : Meaning) (limit : ℕ) (old new : Ends) (buffers : BuffersState)
-    → HasPumped stands m limit old new buffers OverLimit → HasServed m limit old new buffers.recent OverLimit
-served_over_limit stands m limit old new buffers pumped =
+-- the first bytes up to the limit are those seen, where they are as many
+limit_is : (limit : ℕ) (seen extra : List ℕ) → length seen ≡ limit → take limit (seen ++ extra) ≡ seen
+limit_is limit seen extra count = sym (ap (λ n. take n (seen ++ extra)) count) ∙ take-append_seam seen extra
+
+-- and where the limit was passed
+pub served_over_limit : (stands : List ℕ → Type 0) (m : Meaning) (limit : ℕ) (old new : Ends) (buffers : BuffersState) (held : Option (List ℕ))
+    (pumped : HasPumped stands m limit old new buffers OverLimit) → Appends old.held held (text_at_stop m pumped.seen)
+    → HasServed m limit old (written new held) buffers.recent OverLimit
+served_over_limit stands m limit old new buffers held pumped put =
     let count : length pumped.seen ≡ limit = pumped.outcome.1 in
-    let front : take limit (pumped.seen ++ pumped.extra) ≡ pumped.seen = sym (ap (λ n. take n (pumped.seen ++ pumped.extra)) count) ∙ take-append_seam pumped.seen pumped.extra in
+    let front = limit_is limit pumped.seen pumped.extra count in
     record {
       bytes = pumped.seen ++ pumped.extra;
-      out = m.text pumped.seen;
+      out = text_at_stop m pumped.seen;
       lost = pumped.lost;
-      gained = front_all old.held new.held (m.text pumped.seen) buffers.pending pumped.outcome.0.written pumped.outcome.3;
+      gained = put;
       at_most = omega (arith, pumped.at_most, length-append pumped.seen pumped.extra);
-      outcome = (subst (λ l. m.faulty l → ⊥) (sym front) pumped.outcome.0.sound, omega (arith, count, pumped.outcome.2, length-append pumped.seen pumped.extra), sym (ap m.text front));
+      outcome = (subst (λ l. m.faulty l → ⊥) (sym front) pumped.outcome.0.sound, omega (arith, count, pumped.outcome.2, length-append pumped.seen pumped.extra), sym (ap (text_at_stop m) front));
       ended = λ e. cc;
     }
 
@@ -108,10 +115,10 @@ served_in_part stands m limit old new buffers held how pumped part prefix grows 
   ended = λ e. cc;
 }
 
--- a write that failed once no more was to be read, where some prefix of the whole text was written
+-- a write that failed once what comes after the text was due, where some prefix of both was written
 pub served_to_end : (stands : List ℕ → Type 0) (m : Meaning) (limit : ℕ) (old new : Ends) (buffers : BuffersState) (held : Option (List ℕ)) (how : Outcome)
     (pumped : HasPumped stands m limit old new buffers how) (part : List ℕ) → AppendsPrefix old.held held part
-    → IsAllRead m.faulty limit new.left (pumped.seen ++ pumped.extra)
+    → IsAllRead m.faulty limit new.left (pumped.seen ++ pumped.extra) ⊎ (m.due ≡ true)
     → GrowsOnly part (m.text (take limit (pumped.seen ++ pumped.extra)) ++ m.ending (take limit (pumped.seen ++ pumped.extra)))
     → HasServed m limit old (written new held) buffers.recent WriteFailed
 served_to_end stands m limit old new buffers held how pumped part prefix all grows = record {
@@ -156,3 +163,8 @@ stopped_in_part m limit seen extra stays broken within =
     let same_text : m.text (take limit (seen ++ extra)) ≡ m.text seen = ap m.text front ∙ stays.text seen more broken in
     let same_ending : m.ending (take limit (seen ++ extra)) ≡ m.ending seen = ap m.ending front ∙ stays.ending seen more broken in
     ([], ap (λ l. l ++ m.ending (take limit (seen ++ extra))) same_text ∙ ap (λ l. m.text seen ++ l) same_ending ∙ sym (append-nil (m.text seen ++ m.ending seen)))
+
+pub over_in_part : (text ending : List ℕ → List ℕ) (limit : ℕ) (seen extra : List ℕ) → length seen ≡ limit
+    → GrowsOnly (text seen ++ ending seen) (text (take limit (seen ++ extra)) ++ ending (take limit (seen ++ extra)))
+over_in_part text ending limit seen extra count =
+    ([], ap (λ l. text l ++ ending l) (limit_is limit seen extra count) ∙ sym (append-nil (text seen ++ ending seen)))

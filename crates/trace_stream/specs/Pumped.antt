@@ -2,7 +2,6 @@
 use Rattle.std.specs.Prelude.{◌≡◌, ℕ, ◌+◌, ◌<◌, ◌≤◌, List, [], ◌++◌, length}
 use Rattle.std.specs.declared.option.Option.{Option}
 use Rattle.std.specs.Io.KnownBytes.{Consumes, IsAtEnd}
-use Rattle.circular_buffer.specs.Buffer.{keep_last}
 use Rattle.trace_io.specs.Bytes.{AppendsPrefix}
 use Rattle.trace_stream.specs.BuffersState.{BuffersState}
 use Rattle.trace_stream.specs.Fed.{Writing, StandsAfter, StopsAfter}
@@ -10,7 +9,7 @@ use Rattle.trace_stream.specs.Served.{Meaning, Ends}
 use Rattle.trace_stream.specs.declared.outcome.Outcome.{Outcome}
 use Rattle.trace_stream.specs.declared.outcome.Outcome.TheVariants.{AtEnd, FaultFound, ReadFailed, WriteFailed}
 use Rattle.trace_stream.specs.declared.outcome.Outcome.TheVariants.{OverLimit}
-use Rattle.trace_stream.specs.declared.recent.TheConstants.{RECENT_ROOM}
+use Rattle.trace_stream.specs.Recent.{last_sixteen}
 
 -- how far the reading of an input got: what the input has left, the way of the text, the bytes that were fed, and the
 -- extra bytes, which were read and not fed
@@ -39,7 +38,7 @@ pub record HasPumped (stands : List ℕ → Type 0) (m : Meaning) (limit : ℕ) 
   pub lost : Consumes old.left new.left (seen ++ extra)
   pub within : length seen ≤ limit
   pub at_most : length seen + length extra ≤ limit + 1
-  pub kept : buffers.recent ≡ keep_last RECENT_ROOM seen
+  pub kept : buffers.recent ≡ last_sixteen seen
   pub outcome : PumpOutcome stands m limit (record {
     left = new.left;
     writing = record { start = old.held; held = new.held; pending = buffers.pending };

@@ -1,20 +1,24 @@
 -- What a run read and wrote, by its outcome.
-use Rattle.std.specs.Prelude.{◌≡◌, ◌⊎◌, ℕ, ◌+◌, ◌<◌, ◌≤◌, List, ◌++◌, length, take}
+use Rattle.std.specs.Prelude.{◌≡◌, ◌⊎◌, ℕ, ◌+◌, ◌<◌, ◌≤◌, List, ◌++◌, length, take, Bool, true, if◌then◌else◌}
 use Rattle.std.specs.declared.option.Option.{Option}
 use Rattle.std.specs.Io.KnownBytes.{Appends, Consumes, IsAtEnd}
-use Rattle.circular_buffer.specs.Buffer.{keep_last}
 use Rattle.trace_stream.specs.Written.{GrowsOnly, IsCertainAt}
 use Rattle.trace_stream.specs.declared.outcome.Outcome.{Outcome}
 use Rattle.trace_stream.specs.declared.outcome.Outcome.TheVariants.{AtEnd, FaultFound, ReadFailed, WriteFailed}
 use Rattle.trace_stream.specs.declared.outcome.Outcome.TheVariants.{OverLimit}
-use Rattle.trace_stream.specs.declared.recent.TheConstants.{RECENT_ROOM}
+use Rattle.trace_stream.specs.Recent.{last_sixteen}
 
--- What an action makes of the bytes of a capture: which of them have a fault, what is written for those so far, and
--- what comes after it at the end or at a fault.
+-- What an action makes of the bytes of a capture: which of them have a fault, what is written for those so far, what
+-- comes after it at the end or at a fault, and whether that is due where a read failed or the limit was passed, too.
 pub record Meaning : Type 1 where
   pub faulty : List ℕ → Type 0
   pub text : List ℕ → List ℕ
   pub ending : List ℕ → List ℕ
+  pub due : Bool
+
+-- what is written for these bytes where more may come that is not read
+abbrev pub text_at_stop : Meaning → List ℕ → List ℕ
+text_at_stop m bytes = if m.due then m.text bytes ++ m.ending bytes else m.text bytes
 
 -- what the two ends of a run show at a moment: the bytes that are left in the input, and those that the output took
 pub record Ends : Type 0 where
@@ -35,21 +39,22 @@ IsAllRead faulty limit left bytes = faulty (take limit bytes) ⊎ ((length bytes
 
 -- What the bytes that were read are, what the input has left after them, and what went out for them, by the outcome.
 -- At a fault the recent bytes are the last sixteen up to the one at which the fault became certain. Where a write
--- failed, a front of the text went out; and of what comes after it only where no more was to be read.
+-- failed, a front of the text went out; and of what comes after it only where no more was to be read, or where it is
+-- due at each stop.
 abbrev pub ServedBy : Meaning → ℕ → Option (List ℕ) → Outcome → List ℕ → List ℕ → List ℕ → Type 0
 ServedBy m limit left AtEnd bytes out recent =
     (m.faulty bytes → ⊥) × (length bytes ≤ limit) × (out ≡ m.text bytes ++ m.ending bytes)
 ServedBy m limit left FaultFound bytes out recent =
     (stop : StopsWithin m.faulty (take limit bytes))
-    × (out ≡ m.text (take limit bytes) ++ m.ending (take limit bytes)) × (recent ≡ keep_last RECENT_ROOM stop.seen)
+    × (out ≡ m.text (take limit bytes) ++ m.ending (take limit bytes)) × (recent ≡ last_sixteen stop.seen)
 ServedBy m limit left ReadFailed bytes out recent =
-    (m.faulty bytes → ⊥) × (length bytes ≤ limit) × (out ≡ m.text bytes)
+    (m.faulty bytes → ⊥) × (length bytes ≤ limit) × (out ≡ text_at_stop m bytes)
 ServedBy m limit left WriteFailed bytes out recent =
     GrowsOnly out (m.text (take limit bytes))
-    ⊎ (IsAllRead m.faulty limit left bytes
+    ⊎ ((IsAllRead m.faulty limit left bytes ⊎ (m.due ≡ true))
     × GrowsOnly out (m.text (take limit bytes) ++ m.ending (take limit bytes)))
 ServedBy m limit left OverLimit bytes out recent =
-    (m.faulty (take limit bytes) → ⊥) × (limit < length bytes) × (out ≡ m.text (take limit bytes))
+    (m.faulty (take limit bytes) → ⊥) × (limit < length bytes) × (out ≡ text_at_stop m (take limit bytes))
 
 -- the bytes are those that the input lost, at most one past the limit, out is what the output gained, and
 -- recent is what the ring keeps after the run; at the end of a run to the input's end nothing is left in the input

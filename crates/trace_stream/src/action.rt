@@ -1,6 +1,6 @@
 //! What is done to the bytes of a capture as they come.
 
-ghost use Rattle.std.specs.Prelude.{◌≡◌, ℕ, ◌+◌, ◌<◌, ◌≤◌, List, [], ◌++◌, length, take};
+ghost use Rattle.std.specs.Prelude.{◌≡◌, ℕ, ◌+◌, ◌<◌, ◌≤◌, List, [], ◌++◌, length, take, Bool};
 ghost use Rattle.trace_io.specs.Bytes.{TakesSome};
 ghost use Rattle.trace_stream.specs.Written.{GrowsOnly};
 ghost use Rattle.trace_stream.specs.Served.{Meaning};
@@ -52,6 +52,8 @@ pub trait Action {
     ghost text: { Self.Plan → List ℕ → List ℕ };
     // what is written after it at the end or at a fault
     ghost ending: { Self.Plan → List ℕ → List ℕ };
+    // whether that is written at a failed read and at the limit, too
+    ghost due: { Self.Plan → Bool };
 
     /// Takes a front of the piece and puts its text into the outlet. It goes no further than the byte that
     /// makes a fault certain. Where it stops before that is its own affair, and only its speed depends on it:
@@ -65,7 +67,7 @@ pub trait Action {
         ensures front { TakesSome piece.now result.bytes }
         ensures count { taken self.new ≡ taken self.old + result.bytes }
         ensures fed { (seen : List ℕ) → stands self.old seen → let p = plan self.old in
-            let meaning : Meaning = record { faulty = faulty p; text = text p; ending = ending p } in
+            let meaning : Meaning = record { faulty = faulty p; text = text p; ending = ending p; due = due p } in
             let turn : Turn = record {
               seen = seen;
               front = take result.bytes piece.now;
@@ -79,6 +81,10 @@ pub trait Action {
     fn finish(&self, outlet: &mut Outlet)
         requires empty { outlet.old ≡ [] }
         ensures ended { (seen : List ℕ) → stands self.now seen → outlet.new ≡ ending (plan self.now) seen };
+
+    /// Whether what comes after the text is written at a failed read and at the limit, too.
+    fn is_due(&self) -> bool
+        ensures { result ≡ due (plan self.now) };
 
     // no bytes have no fault
     ghost never_at_first: { (p : Self.Plan) → faulty p [] → ⊥ };

@@ -56,7 +56,7 @@ fn feed_piece<A: Action, O: Sink>(
     ensures live { result.end ≡ FeedEnd.All → A.live action.new }
     ensures count { result.end ≡ FeedEnd.All → A.taken action.new ≡ A.taken action.old + length piece.now }
     ensures fed { (start : Option (List ℕ)) (seen : List ℕ) (p : A.Plan) → A.plan action.old ≡ p →
-        let meaning : Meaning = record { faulty = A.faulty p; text = A.text p; ending = A.ending p } in
+        let meaning : Meaning = record { faulty = A.faulty p; text = A.text p; ending = A.ending p; due = A.due p } in
         let before : Writing = record { start = start; held = O.held output.old; pending = outlet.old } in
         let after : Writing = record { start = start; held = O.held output.new; pending = outlet.new } in
         StandsAfter (A.stands action.old) meaning before seen →
@@ -104,7 +104,7 @@ pub fn feed_and_write<A: Action, O: Sink>(
     ensures live { result.end ≡ FeedEnd.All → A.live action.new }
     ensures count { result.end ≡ FeedEnd.All → A.taken action.new ≡ A.taken action.old + length piece.now }
     ensures fed { (start : Option (List ℕ)) (seen : List ℕ) (p : A.Plan) → A.plan action.old ≡ p →
-        let meaning : Meaning = record { faulty = A.faulty p; text = A.text p; ending = A.ending p } in
+        let meaning : Meaning = record { faulty = A.faulty p; text = A.text p; ending = A.ending p; due = A.due p } in
         let before : Writing = record { start = start; held = O.held output.old; pending = outlet.old } in
         let after : Writing = record { start = start; held = O.held output.new; pending = outlet.new } in
         StandsAfter (A.stands action.old) meaning before seen →

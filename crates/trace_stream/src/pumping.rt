@@ -47,7 +47,7 @@ pub fn pump<A: Action, I: Source, O: Sink>(
     requires small { limit ≤ GREATEST_CAPTURE }
     ensures same { A.plan action.new ≡ A.plan action.old }
     ensures pumped { let p = A.plan action.old in
-        let meaning : Meaning = record { faulty = A.faulty p; text = A.text p; ending = A.ending p } in
+        let meaning : Meaning = record { faulty = A.faulty p; text = A.text p; ending = A.ending p; due = A.due p } in
         let before : Ends = record { left = I.left input.old; held = O.held output.old } in
         let after : Ends = record { left = I.left input.new; held = O.held output.new } in
         let buffers : BuffersState = record { pending = outlet.new; recent = recent.new } in

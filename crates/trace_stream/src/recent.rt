@@ -1,14 +1,14 @@
 //! The last bytes that were fed.
 
 ghost use Rattle.std.specs.Prelude.{◌≡◌, ℕ, ◌≤◌, List, [], ◌++◌, length, take, IfOk};
-ghost use Rattle.circular_buffer.specs.Buffer.{keep_last};
+ghost use Rattle.trace_stream.specs.Recent.{last_sixteen};
 ghost use Rattle.trace_stream.specs.declared.recent.TheConstants.{RECENT_ROOM};
 
 use circular_buffer::HeapCircularBuffer;
 use std::alloc::{AllocError, Global};
 use std::marker::Model;
 
-/// How many of the last bytes are kept.
+/// How many of the last bytes are kept: `last_sixteen` in the definitions.
 pub const RECENT_ROOM: usize = 16;
 
 /// The last bytes that were fed, at most `RECENT_ROOM`, from the oldest to the newest.
@@ -37,7 +37,7 @@ impl Recent {
     /// Keeps the last of the bytes so far and these. Of a long piece only the last `RECENT_ROOM` bytes
     /// are touched.
     pub fn keep(&mut self, bytes: &[u8])
-        ensures { self.new ≡ keep_last RECENT_ROOM (self.old ++ bytes.now) }
+        ensures { self.new ≡ last_sixteen (self.old ++ bytes.now) }
     {
         self.bytes.extend_from_slice(bytes);
     }

@@ -1,12 +1,12 @@
 //! A whole run.
 
-ghost use Rattle.std.specs.Prelude.{◌≡◌, ◌≢◌, ℕ, ◌+◌, ◌<◌, ◌≤◌, List, [], ◌++◌, length, OnOk, OnErr};
+ghost use Rattle.std.specs.Prelude.{◌≡◌, ◌≢◌, ℕ, ◌+◌, ◌<◌, ◌≤◌, List, [], ◌++◌, length, OnOk, OnErr, true};
 ghost use Rattle.std.specs.declared.option.Option.{Option};
 ghost use Rattle.std.specs.Io.KnownBytes.{Appends};
 ghost use Rattle.trace_io.specs.Bytes.{TakesFront, AppendsPrefix};
 ghost use Rattle.trace_io.specs.Causes.{HasCause, Rose};
 ghost use Rattle.trace_stream.specs.Fresh.{IsFresh};
-ghost use Rattle.trace_stream.specs.Served.{Meaning, Ends, HasServed, HasStopped, HasEnded};
+ghost use Rattle.trace_stream.specs.Served.{Meaning, Ends, HasServed, HasStopped, HasEnded, text_at_stop};
 ghost use Rattle.trace_stream.specs.declared.limits.TheConstants.{GREATEST_CAPTURE};
 
 use crate::action::Action;
@@ -34,6 +34,33 @@ fn finish<A: Action, O: Sink>(action: &A, outlet: &mut Outlet, output: &mut O) -
     outlet.flush(output)
 }
 
+/// Ends a run that a failed read or the limit stops, where nothing is pending: writes what comes after the text if that
+/// is due.
+fn finish_if_due<A: Action, O: Sink>(
+    action: &A,
+    outlet: &mut Outlet,
+    output: &mut O,
+) -> Result<(), Failed>
+    requires emptied { outlet.old ≡ [] }
+    ensures ok { (start : Option (List ℕ)) (seen : List ℕ) (p : A.Plan) →
+        A.plan action.now ≡ p → A.stands action.now seen →
+        TakesFront start (O.held output.old) (A.text p seen) outlet.old →
+        let meaning : Meaning = record { faulty = A.faulty p; text = A.text p; ending = A.ending p; due = A.due p } in
+        OnOk result (Appends start (O.held output.new) (text_at_stop meaning seen)) }
+    ensures emptied { OnOk result (outlet.new ≡ []) }
+    ensures err { (start : Option (List ℕ)) (seen : List ℕ) (p : A.Plan) →
+        A.plan action.now ≡ p → A.stands action.now seen →
+        TakesFront start (O.held output.old) (A.text p seen) outlet.old →
+        OnErr result ((A.due p ≡ true) × AppendsPrefix start (O.held output.new) (A.text p seen ++ A.ending p seen)) }
+    ensures cause { HasCause (O.faults output.old) (O.faults output.new) result }
+{
+    if action.is_due() {
+        finish(action, outlet, output)
+    } else {
+        Ok(())
+    }
+}
+
 /// Serves the input by the action, from its first byte to its end, a fault or the limit of `limit`
 /// bytes, and writes what the action writes for it. It reads at most `limit` + 1 bytes, and not again once
 /// a read gave none.
@@ -50,18 +77,18 @@ pub fn serve<A: Action, I: Source, O: Sink>(
     requires fresh { IsFresh (A.live action.old) (A.stands action.old) (A.taken action.old) buffers.old }
     requires small { limit ≤ GREATEST_CAPTURE }
     ensures served { let p = A.plan action.old in
-        let meaning : Meaning = record { faulty = A.faulty p; text = A.text p; ending = A.ending p } in
+        let meaning : Meaning = record { faulty = A.faulty p; text = A.text p; ending = A.ending p; due = A.due p } in
         let before : Ends = record { left = I.left input.old; held = O.held output.old } in
         let after : Ends = record { left = I.left input.new; held = O.held output.new } in
         HasServed meaning limit before after buffers.new.recent result }
     ensures same { A.plan action.new ≡ A.plan action.old }
     ensures stopped { result ≡ Outcome.FaultFound → let p = A.plan action.old in
-        let meaning : Meaning = record { faulty = A.faulty p; text = A.text p; ending = A.ending p } in
+        let meaning : Meaning = record { faulty = A.faulty p; text = A.text p; ending = A.ending p; due = A.due p } in
         let before : Ends = record { left = I.left input.old; held = O.held output.old } in
         let after : Ends = record { left = I.left input.new; held = O.held output.new } in
         HasStopped (A.stands action.new) meaning limit before after buffers.new.recent }
     ensures ended { result ≡ Outcome.AtEnd → let p = A.plan action.old in
-        let meaning : Meaning = record { faulty = A.faulty p; text = A.text p; ending = A.ending p } in
+        let meaning : Meaning = record { faulty = A.faulty p; text = A.text p; ending = A.ending p; due = A.due p } in
         let before : Ends = record { left = I.left input.old; held = O.held output.old } in
         let after : Ends = record { left = I.left input.new; held = O.held output.new } in
         HasEnded (A.stands action.new) meaning limit before after buffers.new.recent }
@@ -86,8 +113,14 @@ pub fn serve<A: Action, I: Source, O: Sink>(
             Ok(()) => Outcome::FaultFound,
             Err(_) => Outcome::WriteFailed,
         },
-        Outcome::ReadFailed => Outcome::ReadFailed,
+        Outcome::ReadFailed => match finish_if_due(action, outlet, output) {
+            Ok(()) => Outcome::ReadFailed,
+            Err(_) => Outcome::WriteFailed,
+        },
+        Outcome::OverLimit => match finish_if_due(action, outlet, output) {
+            Ok(()) => Outcome::OverLimit,
+            Err(_) => Outcome::WriteFailed,
+        },
         Outcome::WriteFailed => Outcome::WriteFailed,
-        Outcome::OverLimit => Outcome::OverLimit,
     }
 }

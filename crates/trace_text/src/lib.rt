@@ -25,6 +25,6 @@ pub use digits::Digits;
 pub use ends::{EndLine, PortEndLine, SourceEndLine, TAILS_ROOM, print_tails};
 pub use faults::{FaultLine, print_fault};
 pub use lines::{EVENT_ROOM, print, put_line, put_raw_line, put_stp_line};
-pub use notes::{LastLine, LimitLine, ScriptFaultLine};
+pub use notes::{BufferLine, ImageLine, LastLine, LimitLine, ScriptFaultLine, SlippedLine};
 pub use remark::Remark;
 pub use said::put_said_line;

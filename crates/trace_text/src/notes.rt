@@ -2,7 +2,8 @@
 
 ghost use Rattle.std.specs.Prelude.{◌≡◌, ◌+◌, ◌≤◌, ◌++◌, length, take};
 ghost use Rattle.trace_stream.specs.declared.recent.TheConstants.{RECENT_ROOM};
-ghost use Rattle.trace_text.specs.NoteText.{last_line, limit_line, script_fault_line};
+ghost use Rattle.trace_text.specs.NoteText.{last_line, limit_line, script_fault_line, slipped_line};
+ghost use Rattle.trace_text.specs.NoteText.{buffer_line, image_line};
 
 use crate::room::{put_byte, put_bytes, put_digits, put_number, put_short, put_slice};
 use trace_stream::Text;
@@ -27,6 +28,34 @@ pub struct ScriptFaultLine<'a> {
 #[derive(Clone, Copy, Debug)]
 pub struct LimitLine {
     pub limit: u64,
+}
+
+/// What was not written of realigned bits: `skipped S dropped D patterns P`.
+#[derive(Clone, Copy, Debug)]
+pub struct SlippedLine {
+    /// The bits before the first pattern.
+    pub skipped: u64,
+    /// The bits at the ends of segments that fill no byte.
+    pub dropped: u64,
+    /// How many patterns there were.
+    pub patterns: u64,
+}
+
+/// A trace buffer after its last byte: `pointer P full F dropped D`.
+#[derive(Clone, Copy, Debug)]
+pub struct BufferLine {
+    /// Where the next byte would go.
+    pub pointer: u64,
+    /// Whether each place was written.
+    pub full: bool,
+    /// How many bytes were overwritten.
+    pub dropped: u64,
+}
+
+/// The size in bytes that an image does not have: `image isn't N bytes`.
+#[derive(Clone, Copy, Debug)]
+pub struct ImageLine {
+    pub size: u64,
 }
 
 impl Text for LastLine<'_> {
@@ -66,5 +95,49 @@ impl Text for LimitLine {
         let from = put_bytes(room, from, b"limit ");
         let from = put_number(room, from, self.limit);
         put_bytes(room, from, b"\n")
+    }
+}
+
+impl Text for SlippedLine {
+    ghost fits = { λ _. Unit {0} };
+
+    ghost text = { λ l. slipped_line l.skipped l.dropped l.patterns };
+
+    fn put(&self, room: &mut [u8], from: usize) -> usize {
+        let from = put_bytes(room, from, b"skipped ");
+        let from = put_number(room, from, self.skipped);
+        let from = put_bytes(room, from, b" dropped ");
+        let from = put_number(room, from, self.dropped);
+        let from = put_bytes(room, from, b" patterns ");
+        let from = put_number(room, from, self.patterns);
+        put_byte(room, from, b'\n')
+    }
+}
+
+impl Text for BufferLine {
+    ghost fits = { λ _. Unit {0} };
+
+    ghost text = { λ l. buffer_line l.pointer l.full l.dropped };
+
+    fn put(&self, room: &mut [u8], from: usize) -> usize {
+        let from = put_bytes(room, from, b"pointer ");
+        let from = put_number(room, from, self.pointer);
+        let from = put_bytes(room, from, b" full ");
+        let from = put_byte(room, from, if self.full { b'1' } else { b'0' });
+        let from = put_bytes(room, from, b" dropped ");
+        let from = put_number(room, from, self.dropped);
+        put_byte(room, from, b'\n')
+    }
+}
+
+impl Text for ImageLine {
+    ghost fits = { λ _. Unit {0} };
+
+    ghost text = { λ l. image_line l.size };
+
+    fn put(&self, room: &mut [u8], from: usize) -> usize {
+        let from = put_bytes(room, from, b"image isn't ");
+        let from = put_number(room, from, self.size);
+        put_bytes(room, from, b" bytes\n")
     }
 }

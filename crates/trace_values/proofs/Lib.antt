@@ -21,3 +21,4 @@ pub mod Rising
 pub mod Nibbling
 pub mod Decorating
 pub mod NibbleModes
+pub mod HexTexts

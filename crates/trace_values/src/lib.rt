@@ -5,6 +5,7 @@
 mod block;
 mod cell;
 mod fault;
+pub mod laws;
 mod limits;
 mod machine;
 mod mode;

@@ -1,8 +1,9 @@
-//! Captures of several sources in frames: which of two faults is told, and pieces and prefixes of such a capture.
+//! Captures of several sources in frames: pieces and prefixes of such a capture.
 
 use super::fronts::{items, tagged};
 use super::written::written;
-use super::{LONG_ROOM, answer, check, output_of};
+use super::{LONG_ROOM, answer, output_of};
+use crate::same::same;
 use capture_run::Status;
 use std::test::Fail;
 use trace_io::{MemorySink, MemorySource};
@@ -19,64 +20,6 @@ const ALIGNED: [&str; 9] = [
     "--stp",
     "2",
 ];
-
-#[test]
-fn the_fault_of_the_least_place_is_told(rt: HostRuntime) -> Result<(), Fail> {
-    // byte 15 is 0, so that each ID has what is after it
-    let table: [(&[u8], &str); 11] = [
-        // an ITM's before a system trace's in one frame, and after it
-        (
-            b"\x03\x80\x05\xfe\x01\0\0\0\0\0\0\0\0\0\0\0",
-            "fault 1 1 3 ReservedHeader\n",
-        ),
-        (
-            b"\x05\xfe\x03\x80\x01\0\0\0\0\0\0\0\0\0\0\0",
-            "fault 1.1 2 8 StampSize\n",
-        ),
-        // what began first ends last
-        (
-            b"\x05\xff\x03\x80\x05\x0f\x01\0\0\0\0\0\0\0\0\0",
-            "fault 3 1 3 ReservedHeader\n",
-        ),
-        (
-            b"\x03\0\x05\xfe\x03\x80\x01\0\0\0\0\0\0\0\0\0",
-            "fault 3.1 2 8 StampSize\n",
-        ),
-        // items before the fault, and none after it, of whichever source
-        (
-            b"\x03\x70\x05\xfe\x03\x70\x21\xa5\x01\0\0\0\0\0\0\0",
-            "1 1 overflow\nfault 3.1 2 8 StampSize\n",
-        ),
-        (
-            b"\x21\xa5\x05\xef\x03\x80\x05\xef\x21\xa6\x01\0\0\0\0\0",
-            "1 16 raw a5\n3.1 2 flag - - -\nfault 5 1 3 ReservedHeader\n",
-        ),
-        // the port's before the end of the frame, whose bytes are then of no source
-        (
-            b"\x03\x80\x05\xfe\x01\0\xff\xff",
-            "fault 7 port 2 SyncInFrame\n",
-        ),
-        (b"\x03\x70\x05\xfe\x01\0\xff\0", "fault 7 port 1 BadSync\n"),
-        // the port's right after the frame
-        (
-            b"\x03\x80\x05\xfe\x01\0\0\0\0\0\0\0\0\0\0\0\xff\0",
-            "fault 1 1 3 ReservedHeader\n",
-        ),
-        (
-            b"\x03\x70\x05\xef\x01\0\0\0\0\0\0\0\0\0\0\0\xff\0",
-            "1 1 overflow\n3.1 2 flag - - -\nfault 17 port 1 BadSync\n",
-        ),
-        // a packet over two frames, and a fault at the end of the second
-        (
-            b"\x03\x70\x70\0\0\0\0\0\x01\0\0\0\0\0\0\0\x03\x80\x05\xef\x05\xff\x05\x0f\x01\0\0\0\0\0\0\0",
-            "1 1 overflow\n2 1 overflow\n17 1 sync\n19.1 2 flag - - -\nfault 23.1 2 9 BadAsync\n",
-        ),
-    ];
-    for (bytes, text) in table {
-        check(rt.alloc(), &rt, &ALIGNED, bytes, Status::CaptureFault, text)?;
-    }
-    Ok(())
-}
 
 #[test]
 fn pieces_of_any_length_give_one_text(rt: HostRuntime) -> Result<(), Fail> {
@@ -96,8 +39,8 @@ fn pieces_of_any_length_give_one_text(rt: HostRuntime) -> Result<(), Fail> {
                 let mut output = MemorySink::new(&mut room, &[], &[]);
                 let mut notes = MemorySink::new(&mut [], &[], &[]);
                 let got = answer(rt.alloc(), words, &mut input, &mut output, &mut notes)?;
-                assert_eq!(rt; got, Status::Done, "pieces of {piece}");
-                assert_eq!(rt; output.held(), want.as_slice(), "pieces of {piece}");
+                same(&rt, &piece, &got, &Status::Done);
+                same(&rt, &piece, &output.held(), &want.as_slice());
             }
         }
     }
@@ -120,10 +63,10 @@ fn each_prefix_lists_what_its_whole_frames_have(rt: HostRuntime) -> Result<(), F
             assert!(rt; front.len() <= all.len(), "{source} of {count} bytes");
             for i in 0..all.len() {
                 let there = all[i].place < ended.wrapping_mul(2);
-                assert_eq!(rt; i < front.len(), there, "{source} of {count} bytes");
+                same(&rt, &(&source, &count), &(i < front.len()), &there);
                 if i < front.len() {
-                    assert_eq!(rt; front[i].place, all[i].place, "{source} of {count} bytes");
-                    assert_eq!(rt; front[i].text, all[i].text, "{source} of {count} bytes");
+                    same(&rt, &(&source, &count), &front[i].place, &all[i].place);
+                    same(&rt, &(&source, &count), &front[i].text, &all[i].text);
                 }
             }
         }

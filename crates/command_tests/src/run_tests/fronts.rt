@@ -1,12 +1,11 @@
 //! Captures whose front is lost: what is read after it is what the whole has there.
 
+use super::output_of;
 use super::written::written;
-use super::{check, output_of};
-use capture_run::Status;
+use crate::same::same;
 use std::alloc::{AllocError, Global};
 use std::process::Abort;
 use std::test::Fail;
-use trace_vectors::worked::TWICE;
 
 /// What an ITM wrote: values, stamps and events, and four synchronisations, some after bytes of zeros.
 const ITM: &[u8] = &[
@@ -203,10 +202,10 @@ pub(super) fn check_lines(
     for i in 0..left.len() {
         let (got, want) = (left[i], all[first + i]);
         let place = got.place.wrapping_add(lost.wrapping_mul(2));
-        assert_eq!(rt; place, want.place, "{source} without {lost} bytes");
+        same(rt, &(&source, &lost), &place, &want.place);
         known = known || got.text.starts_with(b"version");
         if known {
-            assert_eq!(rt; got.text, want.text, "{source} without {lost} bytes");
+            same(rt, &(&source, &lost), &got.text, &want.text);
         }
     }
 }
@@ -243,7 +242,7 @@ pub(super) fn check_synchronised(
         }
         assert!(rt; 0 < found, "{source} in {bytes:?}");
     }
-    assert_eq!(rt; found, count, "{source} in {bytes:?}");
+    same(rt, &(&source, &bytes), &found, &count);
 }
 
 /// Each front of a capture of one source without frames.
@@ -276,13 +275,13 @@ fn check_bare(
 
 #[test]
 fn an_itm_after_each_front_is_as_in_the_whole(rt: HostRuntime) -> Result<(), Fail> {
-    assert_eq!(rt; synchronisations(ITM), 4);
+    same(&rt, &"synchronisations(ITM)", &synchronisations(ITM), &4);
     check_bare(rt.alloc(), &rt, ITM, "--itm", Kind::Itm)
 }
 
 #[test]
 fn a_system_trace_after_each_front_is_as_in_the_whole(rt: HostRuntime) -> Result<(), Fail> {
-    assert_eq!(rt; asynchronous(STP), 4);
+    same(&rt, &"asynchronous(STP)", &asynchronous(STP), &4);
     check_bare(rt.alloc(), &rt, STP, "--stp", Kind::Stp)
 }
 
@@ -323,7 +322,7 @@ fn check_port(
                 after = after.wrapping_add(1);
             }
         }
-        assert_eq!(rt; count, after, "{source} without {lost} bytes");
+        same(rt, &(&source, &lost), &count, &after);
     }
     Ok(())
 }
@@ -379,56 +378,4 @@ fn check_frames(alloc: Global, rt: &impl Abort, every: u32, halves: u8) -> Resul
 fn frames_after_each_front_are_as_in_the_whole(rt: HostRuntime) -> Result<(), Fail> {
     check_frames(rt.alloc(), &rt, 1, 0)?;
     check_frames(rt.alloc(), &rt, 3, 1)
-}
-
-#[test]
-fn a_front_lost_in_data_of_nibbles_f_skips_the_rest_of_them(rt: HostRuntime) -> Result<(), Fail> {
-    let mut capture = [0xFF; 22];
-    capture[0] = 0xF7;
-    capture[19] = 0xF0;
-    capture[20] = 0x00;
-    capture[21] = 0x04;
-    let aligned = [
-        "show",
-        "--frames",
-        "bare",
-        "--packets",
-        "aligned",
-        "--stp",
-        "1",
-    ];
-    let whole = "8.0 1 data - - u64 ffffffffffffffff - -
-19.0 1 async
-21.0 1 version 4
-end 22
-port bare skipped 0 tail 0 unattributed 0
-1 stp aligned skipped 0 tail 0
-";
-    check(rt.alloc(), &rt, &aligned, &capture, Status::Done, whole)?;
-    let hunting = ["show", "--frames", "bare", "--stp", "1"];
-    let rest = "18.0 1 locked 15
-18.0 1 async
-20.0 1 version 4
-end 21
-port bare skipped 0 tail 0 unattributed 0
-1 stp locked skipped 15 tail 0
-";
-    check(rt.alloc(), &rt, &hunting, &capture[1..], Status::Done, rest)
-}
-
-/// The bytes of source 1 in the capture of two synchronisations with a frame after each.
-const SPLIT: &[u8] = b"\0\0\0\0\0\x80\x03\0\0\0\0\0\0\0\0\0\x80\x01\x41\0\0\0\0\0\x80";
-
-#[test]
-fn splits_after_each_front_what_the_port_has_there(rt: HostRuntime) -> Result<(), Fail> {
-    for lost in 0..=TWICE.len() {
-        let first = match lost {
-            0 => 0,
-            1..=20 => 14,
-            _ => SPLIT.len(),
-        };
-        let bytes = output_of(rt.alloc(), &rt, &["split", "--id", "1"], &TWICE[lost..])?;
-        assert_eq!(rt; bytes.as_slice(), &SPLIT[first..], "without {lost} bytes");
-    }
-    Ok(())
 }

@@ -1,6 +1,7 @@
 //! Every header with every number of payload bytes that it may have: all of them, and all but the last.
 
 use super::{ALIGNED, ROOM, answer};
+use crate::same::same;
 use capture_run::Status;
 use std::alloc::Global;
 use std::process::Abort;
@@ -59,20 +60,21 @@ fn check_spelling(alloc: Global, rt: &impl Abort, bytes: &[u8]) -> Result<(), Fa
         let mut output = MemorySink::new(&mut room, &[], &[]);
         let mut notes = MemorySink::new(&mut [], &[], &[]);
         let got = answer(alloc, &ALIGNED, &mut input, &mut output, &mut notes)?;
-        assert_eq!(rt; got, Status::Done, "{bytes:?}");
-        assert_eq!(rt; output.held(), TAILS[short - 1], "{bytes:?}");
+        same(rt, &bytes, &got, &Status::Done);
+        same(rt, &bytes, &output.held(), &TAILS[short - 1]);
     }
     let mut room = [0; ROOM];
     let mut input = MemorySource::new(bytes, &[], &[]);
     let mut output = MemorySink::new(&mut room, &[], &[]);
     let mut notes = MemorySink::new(&mut [], &[], &[]);
     let got = answer(alloc, &ALIGNED, &mut input, &mut output, &mut notes)?;
-    assert_eq!(rt; got, Status::Done, "{bytes:?}");
+    same(rt, &bytes, &got, &Status::Done);
     // the line of a packet at the last byte, and no tail
-    assert_eq!(rt;
-        output.held().first(),
-        Some(&(b'0' + short as u8)),
-        "{bytes:?}"
+    same(
+        rt,
+        &bytes,
+        &output.held().first(),
+        &Some(&(b'0' + short as u8)),
     );
     assert!(rt; output.held().ends_with(b" tail 0\n"), "{bytes:?}");
     Ok(())
@@ -92,6 +94,6 @@ fn each_header_takes_its_payload(rt: HostRuntime) -> Result<(), Fail> {
             check_spelling(rt.alloc(), &rt, &bytes[..*length + 1])?;
         }
     }
-    assert_eq!(rt; reserved, 18);
+    same(&rt, &"reserved", &reserved, &18);
     Ok(())
 }

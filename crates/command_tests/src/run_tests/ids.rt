@@ -1,6 +1,7 @@
 //! Each ID in each byte of a frame that can name one, at once or deferred.
 
 use super::answer;
+use crate::same::same;
 use arrayvec::ArrayVec;
 use capture_run::Status;
 use itoa::Buffer;
@@ -52,8 +53,8 @@ fn check_id(
     let mut output = MemorySink::new(&mut room, &[], &[]);
     let mut notes = MemorySink::new(&mut [], &[], &[]);
     let got = answer(alloc, &words, &mut input, &mut output, &mut notes)?;
-    assert_eq!(rt; got, Status::Done, "ID {id} at {index}");
-    assert_eq!(rt; output.held(), expected.as_slice(), "ID {id} at {index}");
+    same(rt, &(&id, &index), &got, &Status::Done);
+    same(rt, &(&id, &index), &output.held(), &expected.as_slice());
     Ok(())
 }
 

@@ -1,6 +1,7 @@
-//! Captures that are read from their first byte on: each packet's line, the end lines and the faults.
+//! Captures of one packet: each packet's line, and the faults.
 
 use super::{ALIGNED, ROOM, answer, check};
+use crate::same::same;
 use capture_run::Status;
 use std::alloc::Global;
 use std::process::Abort;
@@ -82,107 +83,6 @@ fn lists_each_packet(rt: HostRuntime) -> Result<(), Fail> {
     Ok(())
 }
 
-#[test]
-fn lists_worked_captures(rt: HostRuntime) -> Result<(), Fail> {
-    // The capture, its lines, and how many of its last bytes are an unfinished packet.
-    let table: [(&[u8], &str, usize); 9] = [
-        (&[], "", 0),
-        (
-            &[0, 0, 0, 0, 0, 0x80, 0x01, 0x41],
-            "5 1 sync\n7 1 port 0 u8 41\n",
-            0,
-        ),
-        (
-            &[0xFA, 0x34, 0x12, 0x13, 0xFF, 0xFF, 0xFF, 0xFF],
-            "2 1 port 31 u16 1234\n7 1 port 2 u32 ffffffff\n",
-            0,
-        ),
-        (
-            &[0xF9, 0x05, 0x02, 0xCD, 0xAB, 0xFB, 0x78, 0x56, 0x34, 0x12],
-            "1 1 port 31 u8 05\n4 1 port 0 u16 abcd\n9 1 port 31 u32 12345678\n",
-            0,
-        ),
-        (
-            &[0x03, 0, 0, 0, 0, 0, 0, 0, 0, 0, 0x80],
-            "4 1 port 0 u32 00000000\n10 1 sync\n",
-            0,
-        ),
-        (&[0x03, 0x01, 0x02], "", 3),
-        (&[0x01, 0x41, 0, 0], "1 1 port 0 u8 41\n", 2),
-        (
-            &[0xC0, 0x01, 0x41, 0x20, 0x70],
-            "1 1 local exact 1 clock=1\n3 1 port 8 u8 20\n4 1 overflow\n",
-            0,
-        ),
-        (
-            &[0x08, 0xB4, 0x82, 0x80, 0x80, 0x00, 0x94, 0x80],
-            "0 1 ext itm 00000000\n5 1 global2 48 2 time=?\n",
-            2,
-        ),
-    ];
-    for (bytes, lines, tail) in table {
-        check_lines(rt.alloc(), &rt, bytes, lines, tail)?;
-    }
-    Ok(())
-}
-
-#[test]
-fn a_fault_ends_the_listing(rt: HostRuntime) -> Result<(), Fail> {
-    let table: [(&[u8], &str); 20] = [
-        (&[0x80, 0x01], "fault 0 1 3 ReservedHeader\n"),
-        (&[0x80, 0x01, 0x41], "fault 0 1 3 ReservedHeader\n"),
-        (
-            &[0x01, 0x41, 0x01, 0x42, 0xF4],
-            "1 1 port 0 u8 41\n3 1 port 0 u8 42\nfault 4 1 3 ReservedHeader\n",
-        ),
-        (
-            &[0x03, 0, 0, 0, 0, 0x80],
-            "4 1 port 0 u32 00000000\nfault 5 1 3 ReservedHeader\n",
-        ),
-        (
-            &[0xFA, 0x34, 0x12, 0x80],
-            "2 1 port 31 u16 1234\nfault 3 1 3 ReservedHeader\n",
-        ),
-        (
-            &[0x70, 0x04, 0x70],
-            "0 1 overflow\nfault 1 1 3 ReservedHeader\n",
-        ),
-        (&[0, 0x01, 0x41], "fault 1 1 4 BadItmSync\n"),
-        (&[0, 0, 0x80], "fault 2 1 4 BadItmSync\n"),
-        (&[0, 0, 0, 0, 0x80], "fault 4 1 4 BadItmSync\n"),
-        (&[0, 0, 0, 0, 0, 0x81, 0x80], "fault 5 1 4 BadItmSync\n"),
-        (
-            &[0x03, 0, 0, 0, 0, 0, 0x80],
-            "4 1 port 0 u32 00000000\nfault 6 1 4 BadItmSync\n",
-        ),
-        (&[0xC0, 0xFF, 0xFF, 0xFF, 0xFF], "fault 4 1 5 LongStamp\n"),
-        (
-            &[0xF0, 0x80, 0x80, 0x80, 0x80, 0x00],
-            "fault 4 1 5 LongStamp\n",
-        ),
-        (&[0x94, 0x80, 0x80, 0x80, 0xC0], "fault 4 1 5 LongStamp\n"),
-        (
-            &[0x70, 0xB4, 0x82, 0x80, 0x80, 0x80, 0x80, 0x80, 0x70],
-            "0 1 overflow\nfault 7 1 5 LongStamp\n",
-        ),
-        (&[0xB4, 0x02], "fault 1 1 6 ShortStamp\n"),
-        (&[0xB4, 0x82, 0x00], "fault 2 1 6 ShortStamp\n"),
-        (&[0xB4, 0x82, 0x80, 0x00], "fault 3 1 6 ShortStamp\n"),
-        (
-            &[0xB4, 0x82, 0x80, 0x80, 0x80, 0x00],
-            "fault 5 1 6 ShortStamp\n",
-        ),
-        (
-            &[0x10, 0xB4, 0x02, 0x70],
-            "0 1 local exact 1 clock=1\nfault 2 1 6 ShortStamp\n",
-        ),
-    ];
-    for (bytes, text) in table {
-        check(rt.alloc(), &rt, &ALIGNED, bytes, Status::CaptureFault, text)?;
-    }
-    Ok(())
-}
-
 /// Runs over the one byte, and answers whether it ends with the fault of a reserved header and whether it
 /// is a whole packet, which is one line more.
 fn one_byte(alloc: Global, rt: &impl Abort, byte: u8) -> Result<(bool, bool), Fail> {
@@ -194,14 +94,15 @@ fn one_byte(alloc: Global, rt: &impl Abort, byte: u8) -> Result<(bool, bool), Fa
     let status = answer(alloc, &ALIGNED, &mut input, &mut output, &mut notes)?;
     let text = output.held();
     if status == Status::CaptureFault {
-        assert_eq!(rt;
-            text,
-            "fault 0 1 3 ReservedHeader\n".as_bytes(),
-            "{byte:02x}"
+        same(
+            rt,
+            &byte,
+            &text,
+            &("fault 0 1 3 ReservedHeader\n".as_bytes()),
         );
         return Ok((true, false));
     }
-    assert_eq!(rt; status, Status::Done, "{byte:02x}");
+    same(rt, &byte, &status, &Status::Done);
     let whole = text.starts_with(b"0 1 ");
     let tail = if whole { "0" } else { "1" };
     let ending = format!(in alloc;
@@ -219,7 +120,7 @@ fn one_byte_is_a_fault_exactly_where_it_is_reserved(rt: HostRuntime) -> Result<(
         // an overflow, a short timestamp, or an extension without payload
         let whole = matches!(nibbles, (1..=7, 0) | (0..=7, 8 | 12));
         let got = one_byte(rt.alloc(), &rt, byte)?;
-        assert_eq!(rt; got, (RESERVED.contains(&byte), whole), "{byte:02x}");
+        same(&rt, &byte, &got, &(RESERVED.contains(&byte), whole));
     }
     Ok(())
 }

@@ -2,6 +2,7 @@
 
 use super::exercise::{exercise_capture, long_text};
 use super::fronts::{Kind, Line, check_lines, check_synchronised, cut, full_synchronisation, item};
+use crate::same::same;
 use std::alloc::{AllocError, Global};
 use std::process::Abort;
 use std::test::Fail;
@@ -64,11 +65,7 @@ fn check_unmapped(
     source: usize,
 ) {
     check_lines(rt, (all, left), lost, (source, Kind::Port));
-    assert_eq!(rt;
-        left.len(),
-        count_after(all, lock),
-        "{source} without {lost} bytes"
-    );
+    same(rt, &(&source, &lost), &left.len(), &count_after(all, lock));
 }
 
 /// The capture without this many bytes of its front.
@@ -156,7 +153,7 @@ fn check_exercise(alloc: Global, rt: &impl Abort, fronts: (usize, usize)) -> Res
 fn check_halved(alloc: Global, rt: &impl Abort, fronts: (usize, usize)) -> Result<(), Fail> {
     let capture = exercise_capture(alloc, rt)?;
     let halved = with_halves(alloc, rt, &capture)?;
-    assert_eq!(rt; halved.len(), 64460 + 2 * 4013);
+    same(rt, &"halved.len()", &halved.len(), &(64460 + 2 * 4013));
     check_fronts(alloc, rt, &halved, fronts)
 }
 

@@ -1,132 +1,16 @@
-//! Scripts that become captures, their faults, and listings that become scripts again.
+//! Scripts that are cut, and listings that become scripts again.
 
 use super::fronts::{cut, item};
-use super::words::check_words;
 use super::written::written;
-use super::{Calls, LONG_ROOM, check_run, check_writes, pieces_of, run_over, text_before};
+use super::{Calls, LONG_ROOM, pieces_of, run_over, text_before};
+use crate::same::same;
 use capture_run::Status;
 use std::alloc::{AllocError, Global};
 use std::process::Abort;
 use std::test::Fail;
-use trace_vectors::worked::{
-    LETTER, LETTER_SCRIPT, LETTER_WITH_HALVES, RAW, RAW_SCRIPT, SOURCES, SOURCES_SCRIPT, TWICE,
-    TWICE_SCRIPT,
-};
-
-const TWICE_WORDS: [&str; 5] = ["rebuild", "--itm", "1", "--sync", "1"];
+use trace_vectors::worked::{SOURCES, SOURCES_SCRIPT};
 
 const ITM_AND_STP: [&str; 5] = ["rebuild", "--itm", "1", "--stp", "2"];
-
-/// A script that says nothing.
-const SILENT: &[u8] = b"# a script\n\n#\n\n# of comments\n";
-
-#[test]
-fn writes_the_captures_of_scripts(rt: HostRuntime) -> Result<(), Fail> {
-    let table: [(&[&str], &[u8], &[u8]); 8] = [
-        (&["rebuild", "--itm", "1"], LETTER_SCRIPT, LETTER),
-        (&["rebuild", "--sync", "0"], RAW_SCRIPT, RAW),
-        (
-            &["rebuild", "--itm", "1", "--half", "1"],
-            LETTER_SCRIPT,
-            LETTER_WITH_HALVES,
-        ),
-        (&ITM_AND_STP, SOURCES_SCRIPT, SOURCES),
-        (&TWICE_WORDS, TWICE_SCRIPT, TWICE),
-        (
-            &["rebuild", "--itm", "1"],
-            b"\n1 sync\n# 1 overflow\n\n1 port 0 u8 41\n#\n",
-            LETTER,
-        ),
-        (&["rebuild", "--half", "8"], SILENT, b""),
-        (&["rebuild"], b"", b""),
-    ];
-    for (words, script, capture) in table {
-        let want = (Status::Done, capture, "");
-        check_run(rt.alloc(), &rt, words, script, want)?;
-        // the last line without its line feed
-        let short = script.strip_suffix(b"\n").unwrap_or(script);
-        check_run(rt.alloc(), &rt, words, short, want)?;
-    }
-    Ok(())
-}
-
-#[test]
-fn notes_the_first_fault_of_a_script(rt: HostRuntime) -> Result<(), Fail> {
-    let table: [(&[u8], &str); 15] = [
-        (&[b'a'; 257], "line 1 1 LongLine\n"),
-        (&[b'#'; 257], "line 1 1 LongLine\n"),
-        (&[b'a'; 256], "line 1 2 BadLine\n"),
-        (b"1 prt 0 u8 41", "line 1 2 BadLine\n"),
-        (b"127 raw 00", "line 1 3 BadId\n"),
-        (b"1 port 32 u8 41", "line 1 4 BadNumber\n"),
-        (b"3 sync", "line 1 5 Unmapped\n"),
-        (b"1 raw 00", "line 1 6 Mixed\n"),
-        (b"2 version 3\n2 flag 0 0 g=5", "line 2 7 Unfit\n"),
-        // the first of several lines, of which one is too long
-        (b"3 sync\n1 raw 00\n", "line 1 5 Unmapped\n"),
-        (b"1 sync\n1 raw 00\n3 sync\n", "line 2 6 Mixed\n"),
-        // lines that say nothing count
-        (b"# 3 sync\n\n\n127 raw 00\n", "line 4 3 BadId\n"),
-        // a carriage return is a byte of its line
-        (b"1 sync\r\n", "line 1 2 BadLine\n"),
-        (b"125 trigger 07\n", "line 1 2 BadLine\n"),
-        (b"trace-script 2\n16 raw aa\n", "line 1 2 BadLine\n"),
-    ];
-    for (script, note) in table {
-        let want: (Status, &[u8], &str) = (Status::ScriptFault, b"", note);
-        check_run(rt.alloc(), &rt, &ITM_AND_STP, script, want)?;
-    }
-    Ok(())
-}
-
-#[test]
-fn a_line_is_too_long_with_its_257th_byte(rt: HostRuntime) -> Result<(), Fail> {
-    // A line that goes on, by the last byte that is read before a read fails.
-    let bytes = [b'#'; 300];
-    for (failing, status, note) in [
-        (256, Status::ReadFault, "read fault\n"),
-        (257, Status::ScriptFault, "line 1 1 LongLine\n"),
-    ] {
-        let reads = Calls { piece: 1, failing };
-        let calls = (reads, pieces_of(4096));
-        let got = run_over(rt.alloc(), &["rebuild"], &bytes, calls, LONG_ROOM)?;
-        assert_eq!(rt; got.status, status, "read {failing} fails");
-        assert_eq!(rt;
-            got.note.as_slice(),
-            note.as_bytes(),
-            "read {failing} fails"
-        );
-    }
-    // with a line feed after 256 bytes it is not
-    let mut lines = [b'#'; 300];
-    lines[256] = b'\n';
-    let want: (Status, &[u8], &str) = (Status::Done, b"", "");
-    check_run(rt.alloc(), &rt, &["rebuild"], &lines, want)
-}
-
-#[test]
-fn words_of_rebuild_that_are_no_call(rt: HostRuntime) -> Result<(), Fail> {
-    let table: [(&[&str], &str); 5] = [
-        (&["rebuild", "--half", "9"], "usage: bad value of --half\n"),
-        (&["show", "--half", "9"], "usage: bad value of --half\n"),
-        (
-            &["rebuild", "--sync", "1000001"],
-            "usage: bad value of --sync\n",
-        ),
-        (
-            &["rebuild", "--half", "9", "--sync", "01"],
-            "usage: bad value of --sync\n",
-        ),
-        (
-            &["rebuild", "--itm", "1", "--stp", "1"],
-            "usage: 1 is mapped twice\n",
-        ),
-    ];
-    for (words, note) in table {
-        check_words(rt.alloc(), &rt, words, (Status::Usage, 0, 2), note)?;
-    }
-    Ok(())
-}
 
 /// How many bytes of source 16 each line of a long script has, and how many bytes the line has.
 const LINE: usize = 100;
@@ -146,39 +30,6 @@ fn long_script(alloc: Global, count: usize) -> Result<(Vec<u8>, Vec<(u8, u8)>), 
         script.push(b'\n')?;
     }
     Ok((script, bytes))
-}
-
-/// Four long lines, and one whose last byte ends it with a fault.
-#[test]
-fn a_failed_write_before_a_fault_and_that_before_a_failed_read(
-    rt: HostRuntime,
-) -> Result<(), Fail> {
-    let (mut script, _) = long_script(rt.alloc(), 4)?;
-    script.extend_from_slice(b"127 raw 00\n")?;
-    // The second read and the first write fail or not; the limit, and what is answered and noted.
-    let table: [(u64, u64, &str, Status, &str); 6] = [
-        (9, 9, "843", Status::ScriptFault, "line 5 3 BadId\n"),
-        (9, 0, "843", Status::WriteFault, "write fault\n"),
-        (1, 9, "842", Status::ReadFault, "read fault\n"),
-        (1, 0, "842", Status::WriteFault, "write fault\n"),
-        (9, 9, "842", Status::Limit, "limit 842\n"),
-        (9, 0, "842", Status::WriteFault, "write fault\n"),
-    ];
-    for (read, write, limit, status, note) in table {
-        let words = ["rebuild", "--limit", limit];
-        let reads = Calls {
-            piece: 838,
-            failing: read,
-        };
-        let writes = Calls {
-            piece: 4096,
-            failing: write,
-        };
-        let got = run_over(rt.alloc(), &words, &script, (reads, writes), LONG_ROOM)?;
-        assert_eq!(rt; got.status, status, "{limit}, {note}");
-        assert_eq!(rt; got.note.as_slice(), note.as_bytes(), "{limit}, {note}");
-    }
-    Ok(())
 }
 
 /// What a run that ends within a long script has written: of the capture of the whole lines so far all but at most 264
@@ -201,8 +52,8 @@ fn a_prefix_of_the_capture_where_the_script_is_cut(rt: HostRuntime) -> Result<()
         let calls = (pieces_of(7), pieces_of(4096));
         let got = run_over(rt.alloc(), &words, &script, calls, LONG_ROOM)?;
         let note = format!(in rt.alloc(); "limit {read}\n")?;
-        assert_eq!(rt; got.status, Status::Limit, "{read} bytes");
-        assert_eq!(rt; got.note.as_slice(), note.as_bytes(), "{read} bytes");
+        same(&rt, &read, &got.status, &Status::Limit);
+        same(&rt, &read, &got.note.as_slice(), &note.as_bytes());
         check_front(rt.alloc(), &rt, read, &got.text)?;
         let reads = Calls {
             piece: read,
@@ -210,26 +61,6 @@ fn a_prefix_of_the_capture_where_the_script_is_cut(rt: HostRuntime) -> Result<()
         };
         let text = text_before(rt.alloc(), &rt, &["rebuild"], &script, reads)?;
         check_front(rt.alloc(), &rt, read, &text)?;
-    }
-    Ok(())
-}
-
-#[test]
-fn each_read_and_each_write_of_a_script_fails(rt: HostRuntime) -> Result<(), Fail> {
-    let table: [(&[&str], &[u8], &[u8]); 2] = [
-        (&TWICE_WORDS, TWICE_SCRIPT, TWICE),
-        (&ITM_AND_STP, SOURCES_SCRIPT, SOURCES),
-    ];
-    for (words, script, capture) in table {
-        for read in 0..=script.len() {
-            let reads = Calls {
-                piece: 1,
-                failing: read as u64,
-            };
-            let text = text_before(rt.alloc(), &rt, words, script, reads)?;
-            assert!(rt; capture.starts_with(&text), "read {read} fails");
-        }
-        check_writes(rt.alloc(), &rt, words, script, capture)?;
     }
     Ok(())
 }
@@ -244,11 +75,11 @@ fn each_prefix_of_a_script_ends(rt: HostRuntime) -> Result<(), Fail> {
         let got = run_over(rt.alloc(), &ITM_AND_STP, script, calls, LONG_ROOM)?;
         let at_end = count == SOURCES_SCRIPT.len() || SOURCES_SCRIPT[count] == b'\n';
         if at_end || count == begins {
-            assert_eq!(rt; got.status, Status::Done, "{count} bytes");
+            same(&rt, &count, &got.status, &Status::Done);
             assert!(rt; got.note.is_empty(), "{count} bytes");
         } else {
             let note = format!(in rt.alloc(); "line {line} ")?;
-            assert_eq!(rt; got.status, Status::ScriptFault, "{count} bytes");
+            same(&rt, &count, &got.status, &Status::ScriptFault);
             assert!(rt; got.note.starts_with(note.as_bytes()), "{count} bytes");
             assert!(rt; SOURCES.starts_with(&got.text), "{count} bytes");
         }
@@ -292,7 +123,7 @@ fn script_of(alloc: Global, listing: &[u8]) -> Result<Vec<u8>, AllocError> {
 fn text_of(alloc: Global, rt: &impl Abort, words: &[&str], bytes: &[u8]) -> Result<Vec<u8>, Fail> {
     let calls = (pieces_of(4096), pieces_of(4096));
     let got = run_over(alloc, words, bytes, calls, 8192)?;
-    assert_eq!(rt; got.status, Status::Done, "{words:?}");
+    same(rt, &words, &got.status, &Status::Done);
     Ok(got.text)
 }
 
@@ -306,7 +137,12 @@ fn check_listing(
     let capture = text_of(alloc, rt, rebuild, script.as_bytes())?;
     let listing = text_of(alloc, rt, show, &capture)?;
     let again = script_of(alloc, &listing)?;
-    assert_eq!(rt; again.as_slice(), script.as_bytes());
+    same(
+        rt,
+        &"again.as_slice()",
+        &again.as_slice(),
+        &script.as_bytes(),
+    );
     Ok(())
 }
 

@@ -1,7 +1,7 @@
-//! Each packet of a system trace, whole and cut short, in both orders of a value's nibbles, and each fault.
+//! Each packet of a system trace, whole and cut short, in both orders of a value's nibbles, and runs of nibbles F.
 
 use super::{check, output_of};
-use arrayvec::ArrayVec;
+use crate::same::same;
 use capture_run::Status;
 use std::alloc::Global;
 use std::process::Abort;
@@ -31,9 +31,6 @@ const LEAST_FIRST: [&str; 9] = [
     "--stp-order",
     "lsn",
 ];
-
-/// The call that lists a system trace from its first synchronisation on.
-const HUNTING: [&str; 5] = ["show", "--frames", "bare", "--stp", "1"];
 
 /// Nibbles that are read one after the other, the low one of a byte first.
 #[derive(Drop)]
@@ -112,7 +109,7 @@ fn check_packets(
         "{lines}end {length}\nport bare skipped 0 tail 0 unattributed 0\n1 stp aligned skipped 0 tail 0\n"
     )?;
     let got = output_of(alloc, rt, words, &nibbles.bytes[..length])?;
-    assert_eq!(rt; got.as_slice(), text.as_bytes(), "{packets:?}");
+    same(rt, &packets, &got.as_slice(), &text.as_bytes());
     Ok(())
 }
 
@@ -134,7 +131,7 @@ fn check_short(
         "end {length}\nport bare skipped 0 tail 0 unattributed 0\n1 stp aligned skipped 0 tail {tail}\n"
     )?;
     let got = output_of(alloc, rt, words, &nibbles.bytes[..length])?;
-    assert_eq!(rt; got.as_slice(), text.as_bytes(), "{digits}");
+    same(rt, &digits, &got.as_slice(), &text.as_bytes());
     Ok(())
 }
 
@@ -149,163 +146,6 @@ fn lists_each_packet_in_both_orders_and_halves(rt: HostRuntime) -> Result<(), Fa
             check_short(rt.alloc(), &rt, &MOST_FIRST, row.nibbles, shifted)?;
             check_short(rt.alloc(), &rt, &LEAST_FIRST, row.nibbles, shifted)?;
         }
-    }
-    Ok(())
-}
-
-#[test]
-fn masters_and_channels_hold_until_others_come(rt: HostRuntime) -> Result<(), Fail> {
-    let table: [&[(&str, &str)]; 15] = [
-        &[("F003", "version 3"), ("441", "data 0 0 u8 41 - -")],
-        &[("105", ""), ("441", "data - 0 u8 41 - -")],
-        &[("307", ""), ("441", "data - - u8 41 - -")],
-        &[
-            ("F10005", ""),
-            ("441", "data 5 0 u8 41 - -"),
-            ("105", ""),
-            ("FE", "flag 5 0 -"),
-        ],
-        &[
-            ("F30005", ""),
-            ("441", "data - 5 u8 41 - -"),
-            ("106", ""),
-            ("FE", "flag - 0 -"),
-        ],
-        &[
-            ("F003", "version 3"),
-            ("105", ""),
-            ("441", "data 5 0 u8 41 - -"),
-        ],
-        &[
-            ("F003", "version 3"),
-            ("F11234", ""),
-            ("1FF", ""),
-            ("C1", "data 4863 0 u4 1 - -"),
-        ],
-        &[
-            ("F003", "version 3"),
-            ("F31234", ""),
-            ("3FF", ""),
-            ("C1", "data 0 4863 u4 1 - -"),
-        ],
-        &[
-            ("F003", "version 3"),
-            ("307", ""),
-            ("105", ""),
-            ("FE", "flag 5 0 -"),
-        ],
-        &[
-            ("F003", "version 3"),
-            ("307", ""),
-            ("F1FFFF", ""),
-            ("FE", "flag 65535 0 -"),
-        ],
-        &[
-            ("F003", "version 3"),
-            ("105", ""),
-            ("307", ""),
-            ("25A", "merr 5 7 5a"),
-            ("FE", "flag 5 7 -"),
-        ],
-        &[
-            ("F003", "version 3"),
-            ("105", ""),
-            ("307", ""),
-            ("F25A", "gerr 5a"),
-            ("FE", "flag 5 7 -"),
-        ],
-        &[
-            ("F003", "version 3"),
-            ("105", ""),
-            ("307", ""),
-            ("FFFFFFFFFFFFFFFFFFFFF0", "async"),
-            ("FE", "flag 5 7 -"),
-        ],
-        &[
-            ("F003", "version 3"),
-            ("105", ""),
-            ("307", ""),
-            ("0", ""),
-            ("FE", "flag 5 7 -"),
-        ],
-        &[
-            ("F003", "version 3"),
-            ("105", ""),
-            ("307", ""),
-            ("F004", "version 4"),
-            ("FE", "flag 0 0 -"),
-        ],
-    ];
-    for packets in table {
-        check_packets(rt.alloc(), &rt, &MOST_FIRST, packets, false)?;
-        check_packets(rt.alloc(), &rt, &MOST_FIRST, packets, true)?;
-    }
-    let packets = [
-        ("F003", "version 3"),
-        ("F14321", ""),
-        ("3A0", ""),
-        ("441", "data 4660 10 u8 14 - -"),
-        ("E3321", "flag 4660 10 n=291"),
-        ("E14", "flag 4660 10 n=292"),
-    ];
-    check_packets(rt.alloc(), &rt, &LEAST_FIRST, &packets, false)
-}
-
-#[test]
-fn a_stamp_replaces_the_low_nibbles_of_the_last_word(rt: HostRuntime) -> Result<(), Fail> {
-    let table: [&[(&str, &str)]; 6] = [
-        &[
-            ("F004", "version 4"),
-            ("EE8000000000000000", "flag 0 0 g=18446744073709551615"),
-            ("E0", "flag 0 0 g=18446744073709551615"),
-            ("ED00000000000001", "flag 0 0 g=18446744073709551614"),
-        ],
-        &[
-            ("F004", "version 4"),
-            ("E11", "flag 0 0 g=1"),
-            ("E12", "flag 0 0 g=3"),
-            ("E13", "flag 0 0 g=2"),
-            ("E14", "flag 0 0 g=7"),
-            ("E210", "flag 0 0 g=31"),
-        ],
-        &[
-            ("F003", "version 3"),
-            ("E0", "flag 0 0 n=0"),
-            ("E3123", "flag 0 0 n=291"),
-            ("FC514", "data 0 0 u4 5 - n=292"),
-            ("E0", "flag 0 0 n=292"),
-            ("F01207", "nullts n=263"),
-        ],
-        &[
-            ("F003", "version 3"),
-            ("F070417", "trig 04 n=7"),
-            ("F090000000A18", "freq 10 n=8"),
-            ("84119", "data 0 0 u8 41 m n=9"),
-            ("EEFFFFFFFFFFFFFFFF", "flag 0 0 n=18446744073709551615"),
-            ("E10", "flag 0 0 n=18446744073709551600"),
-            ("F003", "version 3"),
-            ("E0", "flag 0 0 n=0"),
-        ],
-        &[
-            ("E15", "flag - - r=5"),
-            ("F003", "version 3"),
-            ("E0", "flag 0 0 n=0"),
-            ("E15", "flag 0 0 n=5"),
-            ("F004", "version 4"),
-            ("E0", "flag 0 0 g=0"),
-        ],
-        &[
-            ("F005", "version 5"),
-            ("E15", "flag 0 0 r=5"),
-            ("E207", "flag 0 0 r=07"),
-            ("E0", "flag 0 0 r="),
-            ("F003", "version 3"),
-            ("E0", "flag 0 0 n=0"),
-        ],
-    ];
-    for packets in table {
-        check_packets(rt.alloc(), &rt, &MOST_FIRST, packets, false)?;
-        check_packets(rt.alloc(), &rt, &MOST_FIRST, packets, true)?;
     }
     Ok(())
 }
@@ -333,49 +173,6 @@ fn check_fault(
 }
 
 #[test]
-fn each_fault_is_at_the_nibble_that_no_packet_has_there(rt: HostRuntime) -> Result<(), Fail> {
-    // codes that are not read, and stamps of size 15
-    let table: [(&[&str], &str); 2] = [
-        (
-            &[
-                "F02", "F03", "F04", "F05", "F0A", "F0B", "F0C", "F0D", "F0E", "F0F",
-            ],
-            "7 Unsupported",
-        ),
-        (
-            &[
-                "841F",
-                "91234F",
-                "A12345678F",
-                "B0123456789ABCDEFF",
-                "D5F",
-                "EF",
-                "F441F",
-                "F51234F",
-                "F612345678F",
-                "F70123456789ABCDEFF",
-                "FC5F",
-                "F01F",
-                "F0704F",
-                "F0900BC614EF",
-            ],
-            "8 StampSize",
-        ),
-    ];
-    for (rows, name) in table {
-        for digits in rows {
-            for shifted in [false, true] {
-                let mut nibbles = Nibbles::new(shifted);
-                nibbles.push_digits(digits);
-                check_fault(rt.alloc(), &rt, &MOST_FIRST, &nibbles, name)?;
-                check_fault(rt.alloc(), &rt, &LEAST_FIRST, &nibbles, name)?;
-            }
-        }
-    }
-    Ok(())
-}
-
-#[test]
 fn a_run_of_f_ends_with_0_after_21_or_more(rt: HostRuntime) -> Result<(), Fail> {
     for run in [2, 3, 19, 20, 21, 22, 40] {
         for shifted in [false, true] {
@@ -392,42 +189,4 @@ fn a_run_of_f_ends_with_0_after_21_or_more(rt: HostRuntime) -> Result<(), Fail> 
         }
     }
     Ok(())
-}
-
-#[test]
-fn a_synchronisation_has_any_number_of_f_from_21_on(rt: HostRuntime) -> Result<(), Fail> {
-    let bare = "port bare skipped 0 tail 0 unattributed 0";
-    let mut long = [0xFF; 501];
-    long[500] = 0x00;
-    let mut even = [0xFF; 12];
-    even[11] = 0x00;
-    // the bytes, the line where the first byte begins a packet, and how many nibbles are skipped before the lock
-    let table: [(&[u8], &str, usize); 3] = [
-        (&long, "500.0 1 async", 979),
-        (&even, "11.0 1 async", 1),
-        (
-            &[
-                0xFF, 0xFF, 0xFF, 0xFF, 0xFF, 0xFF, 0xFF, 0xFF, 0xFF, 0xFF, 0x0F,
-            ],
-            "10.1 1 async",
-            0,
-        ),
-    ];
-    for (bytes, line, skipped) in table {
-        let count = bytes.len();
-        let (place, _) = line.split_once(' ').unwrap_or((line, ""));
-        let text = format!(in rt.alloc();
-            "{line}\nend {count}\n{bare}\n1 stp aligned skipped 0 tail 0\n"
-        )?;
-        check(rt.alloc(), &rt, &MOST_FIRST, bytes, Status::Done, &text)?;
-        let text = format!(in rt.alloc();
-            "{place} 1 locked {skipped}\n{line}\nend {count}\n{bare}\n1 stp locked skipped {skipped} tail 0\n"
-        )?;
-        check(rt.alloc(), &rt, &HUNTING, bytes, Status::Done, &text)?;
-    }
-    let ones = [0xFF; 4096];
-    let text = format!(in rt.alloc(); "end 4096\n{bare}\n1 stp aligned skipped 0 tail 8192\n")?;
-    check(rt.alloc(), &rt, &MOST_FIRST, &ones, Status::Done, &text)?;
-    let text = format!(in rt.alloc(); "end 4096\n{bare}\n1 stp hunting skipped 8192 tail 0\n")?;
-    check(rt.alloc(), &rt, &HUNTING, &ones, Status::Done, &text)
 }

@@ -1,6 +1,7 @@
 //! What the frame writer writes, split again for each ID.
 
 use super::answer;
+use crate::same::same;
 use arrayvec::ArrayVec;
 use capture_run::Status;
 use frame_writer::FrameWriter;
@@ -74,8 +75,8 @@ fn check_id(
     let mut output = MemorySink::new(&mut room, &[], &[]);
     let mut notes = MemorySink::new(&mut [], &[], &[]);
     let got = answer(alloc, &words, &mut input, &mut output, &mut notes)?;
-    assert_eq!(rt; got, Status::Done, "ID {id}");
-    assert_eq!(rt; output.held(), expected.as_slice(), "ID {id}");
+    same(rt, &id, &got, &Status::Done);
+    same(rt, &id, &output.held(), &expected.as_slice());
     Ok(())
 }
 

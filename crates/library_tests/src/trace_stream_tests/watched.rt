@@ -3,6 +3,7 @@
 ghost use Rattle.std.specs.Prelude.{Some};
 
 use super::Doubling;
+use crate::same::same;
 use std::alloc::Global;
 use std::cell::Cell;
 use std::process::Abort;
@@ -115,8 +116,13 @@ fn check_watched(
         watch,
     };
     let ended = serve(&mut buffers, &mut action, 1 << 24, &mut input, &mut output);
-    assert_eq!(rt; ended, Outcome::AtEnd);
-    assert_eq!(rt; watch.bytes_written.get(), 18_005);
+    same(rt, &"ended", &ended, &Outcome::AtEnd);
+    same(
+        rt,
+        &"watch.bytes_written.get()",
+        &watch.bytes_written.get(),
+        &18_005,
+    );
     Ok(())
 }
 
@@ -126,8 +132,8 @@ fn text_is_written_before_each_read(rt: HostRuntime) -> Result<(), Fail> {
     for (piece, reads) in [(1, 9001), (7, 1287), (4095, 4), (4096, 4)] {
         let watch = Watch::new();
         check_watched(rt.alloc(), &rt, &[piece], &watch)?;
-        assert_eq!(rt; watch.reads.get(), reads, "pieces of {piece}");
-        assert_eq!(rt; watch.early_reads.get(), 0, "pieces of {piece}");
+        same(&rt, &piece, &watch.reads.get(), &reads);
+        same(&rt, &piece, &watch.early_reads.get(), &0);
     }
     Ok(())
 }
@@ -136,7 +142,12 @@ fn text_is_written_before_each_read(rt: HostRuntime) -> Result<(), Fail> {
 fn no_read_and_no_write_is_longer_than_its_buffer(rt: HostRuntime) -> Result<(), Fail> {
     let watch = Watch::new();
     check_watched(rt.alloc(), &rt, &[4096], &watch)?;
-    assert_eq!(rt; watch.longest_read.get(), 4096);
+    same(
+        &rt,
+        &"watch.longest_read.get()",
+        &watch.longest_read.get(),
+        &4096,
+    );
     assert!(rt; watch.longest_write.get() > OUTLET_ROOM / 2);
     assert!(rt; watch.longest_write.get() <= OUTLET_ROOM);
     Ok(())

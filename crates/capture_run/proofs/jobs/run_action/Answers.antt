@@ -1,4 +1,4 @@
-use Rattle.std.proofs.Common.{◌≡◌, sym, subst, ◌∙◌, ap, inl, inr, refl, true}
+use Rattle.std.proofs.Common.{◌≡◌, sym, subst, ◌∙◌, ap, inl, inr, refl, true, false}
 use Rattle.trace_stream.specs.Served.{Meaning, Ends, HasStopped, HasEnded}
 use Rattle.capture_run.specs.Notes.{text_of, status_of}
 use Rattle.capture_run.specs.Run.{HasRun, TaskMeaning, Streams}
@@ -10,10 +10,12 @@ returns-then-is_late-clause-ran g c =
     let before = g.A.Action.plan c.args.action.now in
     let after = g.A.Action.plan c.serve-outcome.new.action in
     let m : TaskMeaning = record {
-      action = record { faulty = g.A.Action.faulty before; text = g.A.Action.text before; ending = g.A.Action.ending before };
+      action = record { faulty = g.A.Action.faulty before; text = g.A.Action.text before; ending = g.A.Action.ending before; due = g.A.Action.due before };
       late = g.A.CommandAction.late before;
+      done_note = g.A.CommandAction.done before;
       fault_note = g.A.CommandAction.noted before;
       fault_status = g.A.CommandAction.faulted before;
+      exact = false;
     } in
     let same : after ≡ before = c.serve-outcome.ensures.same in
     let recent = c.serve-outcome.new.buffers.recent in
@@ -35,10 +37,12 @@ returns-in-FaultFound-clause-ran g c =
     let before = g.A.Action.plan c.args.action.now in
     let after = g.A.Action.plan c.serve-outcome.new.action in
     let m : TaskMeaning = record {
-      action = record { faulty = g.A.Action.faulty before; text = g.A.Action.text before; ending = g.A.Action.ending before };
+      action = record { faulty = g.A.Action.faulty before; text = g.A.Action.text before; ending = g.A.Action.ending before; due = g.A.Action.due before };
       late = g.A.CommandAction.late before;
+      done_note = g.A.CommandAction.done before;
       fault_note = g.A.CommandAction.noted before;
       fault_status = g.A.CommandAction.faulted before;
+      exact = false;
     } in
     let same : after ≡ before = c.serve-outcome.ensures.same in
     let recent = c.serve-outcome.new.buffers.recent in
@@ -56,7 +60,7 @@ returns-in-FaultFound-clause-ran g c =
 pub returns-in-FaultFound-clause-complete : goal.returns-in-FaultFound-clause-complete
 returns-in-FaultFound-clause-complete g c = λ bytes lost no_read no_write within sound not_late.
     let plan = g.A.Action.plan c.args.action.now in
-    let meaning : Meaning = record { faulty = g.A.Action.faulty plan; text = g.A.Action.text plan; ending = g.A.Action.ending plan } in
+    let meaning : Meaning = record { faulty = g.A.Action.faulty plan; text = g.A.Action.text plan; ending = g.A.Action.ending plan; due = g.A.Action.due plan } in
     let old : Ends = record { left = g.I.Source.left c.args.input.now; held = g.O.Sink.held c.args.output.now } in
     let new : Ends = record { left = g.I.Source.left c.serve-outcome.new.input; held = g.O.Sink.held c.serve-outcome.new.output } in
     absurd (never_stopped meaning c.args.limit old new c.serve-outcome.new.buffers.recent bytes c.in-FaultFound.ensures.served lost within sound)
@@ -64,7 +68,7 @@ returns-in-FaultFound-clause-complete g c = λ bytes lost no_read no_write withi
 pub returns-in-OverLimit-clause-complete : goal.returns-in-OverLimit-clause-complete
 returns-in-OverLimit-clause-complete g c = λ bytes lost no_read no_write within sound not_late.
     let plan = g.A.Action.plan c.args.action.now in
-    let meaning : Meaning = record { faulty = g.A.Action.faulty plan; text = g.A.Action.text plan; ending = g.A.Action.ending plan } in
+    let meaning : Meaning = record { faulty = g.A.Action.faulty plan; text = g.A.Action.text plan; ending = g.A.Action.ending plan; due = g.A.Action.due plan } in
     let old : Ends = record { left = g.I.Source.left c.args.input.now; held = g.O.Sink.held c.args.output.now } in
     let new : Ends = record { left = g.I.Source.left c.serve-outcome.new.input; held = g.O.Sink.held c.serve-outcome.new.output } in
     absurd (never_over meaning c.args.limit old new c.serve-outcome.new.buffers.recent bytes c.in-OverLimit.ensures.served lost within)

@@ -1,10 +1,10 @@
-use Rattle.std.proofs.Common.{sym, subst, refl}
+use Rattle.std.proofs.Common.{sym, subst, refl, length, ◌≤◌}
 use Rattle.capture_words.specs.declared.job.Task.{Task}
 use Rattle.capture_words.specs.declared.job.Task.TheVariants.{Show}
 use Rattle.capture_report.specs.ListingLaws.{Faulty}
 use Rattle.capture_report.specs.Listing.{show_meaning}
 use Rattle.capture_report.specs.declared.list_plan.ListPlan.{ListPlan}
-use Rattle.capture_run.specs.Actions.{of_capture, last_note, HasDone, IsSoundInput}
+use Rattle.capture_run.specs.Actions.{of_capture, last_note, HasDone, IsSoundInput, limit_of}
 use Rattle.capture_run.specs.Run.{HasRun, Streams}
 use Rattle.capture_run.proofs.jobs.run_job.Goals as goal
 
@@ -20,5 +20,6 @@ pub returns-in-Show-clause-complete : goal.returns-in-Show-clause-complete
 returns-in-Show-clause-complete g c = λ bytes lost no_read no_write within sound.
     let told : IsSoundInput (Show c.in-Show.plan c.in-Show.only c.in-Show.window) bytes =
     subst (λ (t : Task). IsSoundInput t bytes) c.in-Show.is sound in
-    c.run_action.ensures.complete bytes lost no_read no_write within
+    c.run_action.ensures.complete bytes lost no_read no_write
+    (subst (λ (t : Task). length bytes ≤ limit_of t c.args.job.limit) c.in-Show.is within)
     (subst (λ (p : ListPlan). Faulty p bytes → ⊥) (sym c.new-action.ensures.plan) told.sound) refl

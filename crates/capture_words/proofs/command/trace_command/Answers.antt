@@ -5,7 +5,7 @@ use Rattle.capture_words.specs.Command.{trace_app, option_rule}
 use Rattle.capture_words.specs.declared.option.CommandOption.{CommandOption}
 use Rattle.capture_words.specs.declared.option.CommandOption.TheVariants.{Frames, Packets, Itm, Stp, StpOrder, Id}
 use Rattle.capture_words.specs.declared.option.CommandOption.TheVariants.{Only, Window, Sync, Half, Limit, Items}
-use Rattle.capture_words.specs.declared.option.CommandOption.TheVariants.{Lose}
+use Rattle.capture_words.specs.declared.option.CommandOption.TheVariants.{Lose, Size, Pointer, Full}
 use Rattle.capture_words.proofs.command.trace_command.Goals as goal
 
 step : (a b : App) (option : CommandOption) → a ≡ b → with_rule a (option_rule option) ≡ with_rule b (option_rule option)
@@ -27,4 +27,7 @@ returns c =
     let e11 = c.in_ok-command-11.ensures ∙ step _ _ Half e10 in
     let e12 = c.in_ok-command-12.ensures ∙ step _ _ Limit e11 in
     let e13 = c.in_ok-command-13.ensures ∙ step _ _ Items e12 in
-    IfOk-weaker c.with_option-13.result _ _ (λ m h. h ∙ step _ _ Lose e13) c.with_option-13.ensures
+    let e14 = c.in_ok-command-14.ensures ∙ step _ _ Lose e13 in
+    let e15 = c.in_ok-command-15.ensures ∙ step _ _ Size e14 in
+    let e16 = c.in_ok-command-16.ensures ∙ step _ _ Pointer e15 in
+    IfOk-weaker c.with_option-16.result _ _ (λ m h. h ∙ step _ _ Full e16) c.with_option-16.ensures

@@ -26,6 +26,14 @@ returns c = record {
   items_over = record { call = refl; fault_is = refl };
   lose_over = record { call = refl; fault_is = refl };
   lose_wide = record { call = refl; fault_is = refl };
+  size_15 = record { call = refl; fault_is = refl };
+  size_over = record { call = refl; fault_is = refl };
+  pointer_over = record { call = refl; fault_is = refl };
+  pointer_sign = record { call = refl; fault_is = refl };
+  full_2 = record { call = refl; fault_is = refl };
+  full_zeros = record { call = refl; fault_is = refl };
+  full_word = record { call = refl; fault_is = refl };
+  limit_unused = record { call = refl; fault_is = refl };
   limit_0 = record { call = refl; fault_is = refl };
   limit_over = record { call = refl; fault_is = refl };
   limit_zeros = record { call = refl; fault_is = refl };

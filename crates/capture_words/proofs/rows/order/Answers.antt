@@ -19,10 +19,18 @@ returns c = record {
   half = record { call = refl; fault_is = refl };
   limit = record { call = refl; fault_is = refl };
   items = record { call = refl; fault_is = refl };
+  lose = record { call = refl; fault_is = refl };
+  size = record { call = refl; fault_is = refl };
+  pointer = record { call = refl; fault_is = refl };
+  full = record { call = refl; fault_is = refl };
   needs = record { call = refl; fault_is = refl };
   needs_last = record { call = refl; fault_is = refl };
   mapped = record { call = refl; fault_is = refl };
   rebuilt = record { call = refl; fault_is = refl };
   checked = record { call = refl; fault_is = refl };
   mapped_last = record { call = refl; fault_is = refl };
+  ring_needs = record { call = refl; fault_is = refl };
+  unring_needs = record { call = refl; fault_is = refl };
+  at_size = record { call = refl; fault_is = refl };
+  over_size = record { call = refl; fault_is = refl };
 }

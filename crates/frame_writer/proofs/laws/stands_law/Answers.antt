@@ -5,6 +5,6 @@ use Rattle.frame_writer.proofs.laws.stands_law.Goals as goal
 
 pub returns : goal.returns
 returns c = record {
-  finished = λ w every halves t so_far s. stands_now w every halves t so_far s;
-  front = λ w every halves t u so_far s. (concat (to_come w u), stands_front w every halves t u so_far s);
+  finished = λ w every halves closed t so_far s. stands_now w every halves closed t so_far s;
+  front = λ w every halves closed t u later so_far s. (concat (to_come w u later), stands_front w every halves closed t u later so_far s);
 }

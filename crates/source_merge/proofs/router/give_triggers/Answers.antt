@@ -1,32 +1,9 @@
-use Rattle.std.proofs.Common.{◌≡◌, ℕ, ◌+◌, ◌<◌, List, [], ◌∷◌, ◌++◌, length, get_or, take, refl, sym, ◌∙◌, ap, arith, Some}
-use Rattle.std.proofs.lemmas.List.{take_more}
-use Rattle.trace_values.specs.declared.cell.Cell.{Cell}
+use Rattle.std.proofs.Common.{◌+◌, ◌++◌, ◌∷◌, [], take, refl, arith}
 use Rattle.source_events.specs.declared.event.Event.{Event}
 use Rattle.source_events.specs.declared.packet.Packet.{Packet}
-use Rattle.source_events.specs.Merge.{told}
-use Rattle.source_events.specs.Report.{triggers}
-use Rattle.source_merge.specs.Receiver.{trigger_event}
 use Rattle.source_merge.proofs.Givings.{given_as, given_none, given_more}
+use Rattle.source_merge.proofs.Triggers.{told_by, trigger, one_more}
 use Rattle.source_merge.proofs.router.give_triggers.Goals as goal
-
--- what the bytes of a source tell
-abbrev told_by : ℕ → List Cell → List (Event Packet)
-told_by x run = told (Some x) (triggers run)
-
-abbrev trigger : ℕ → Cell → Event Packet
-trigger x c = trigger_event x c.at c.byte
-
-parts : (x : ℕ) (a b : List Cell) → told_by x (a ++ b) ≡ told_by x a ++ told_by x b
-parts x [] b = refl
-parts x (c ∷ a) b = ap (λ (l : List (Event Packet)). trigger x c ∷ l) (parts x a b)
-
--- one more of them
-one_more : (x : ℕ) (run : List Cell) (k : ℕ) (c : Cell) → k < length run → c ≡ get_or run k c →
-    told_by x (take k run) ++ trigger x c ∷ [] ≡ told_by x (take (k + 1) run)
-one_more x run k c h is =
-    ap (λ (y : Cell). told_by x (take k run) ++ trigger x y ∷ []) is
-    ∙ sym (parts x (take k run) (get_or run k c ∷ []))
-    ∙ ap (λ (l : List Cell). told_by x l) (sym (take_more run k c h))
 
 pub loop-index-init : goal.loop-index-init
 loop-index-init g c = record {
@@ -42,7 +19,7 @@ loop-index-preserved g c =
     let x = c.args.source in
     let run = g.R.Run.cells c.args.run.now in
     let k = c.loop-index.index in
-    let event = trigger x c.cell-cell.result in
+    let event : Event Packet = trigger x c.cell-cell.result in
     record {
       given =
           given_as gets (c.args.items.now, (c.args.out.now, c.args.to.now))

@@ -29,7 +29,7 @@ loop-rest-preserved g c = record {
   feeding = λ start seen p e after.
       let so_far = c.loop-rest.invariant.feeding start seen p e after in
       let room : TakesFront (g.O.Sink.held c.loop-rest.output) (g.O.Sink.held c.make_room.new.output) c.loop-rest.outlet c.make_room.new.outlet = search rules in
-      let taken = taken_at _ (λ q. record { faulty = g.A.Action.faulty q; text = g.A.Action.text q; ending = g.A.Action.ending q }) _ p _ _ _ (c.loop-rest.invariant.same ∙ e) c.in-On.is (c.feed-taken.ensures.fed _ so_far.after.read) in
+      let taken = taken_at _ (λ q. record { faulty = g.A.Action.faulty q; text = g.A.Action.text q; ending = g.A.Action.ending q; due = g.A.Action.due q }) _ p _ _ _ (c.loop-rest.invariant.same ∙ e) c.in-On.is (c.feed-taken.ensures.fed _ so_far.after.read) in
       rw take_rest (feeding_more _ _ _ _ _ _ _ _ _ _ _ so_far room taken);
   later = omega arith;
 }
@@ -38,7 +38,7 @@ pub returns-in-Stopped-clause-fed : goal.returns-in-Stopped-clause-fed
 returns-in-Stopped-clause-fed g c = λ start seen p e after.
     let so_far = c.loop-rest.invariant.feeding start seen p e after in
     let room : TakesFront (g.O.Sink.held c.loop-rest.output) (g.O.Sink.held c.make_room.new.output) c.loop-rest.outlet c.make_room.new.outlet = search rules in
-    let taken = taken_at _ (λ q. record { faulty = g.A.Action.faulty q; text = g.A.Action.text q; ending = g.A.Action.ending q }) _ p _ _ _ (c.loop-rest.invariant.same ∙ e) c.in-Stopped.is (c.feed-taken.ensures.fed _ so_far.after.read) in
+    let taken = taken_at _ (λ q. record { faulty = g.A.Action.faulty q; text = g.A.Action.text q; ending = g.A.Action.ending q; due = g.A.Action.due q }) _ p _ _ _ (c.loop-rest.invariant.same ∙ e) c.in-Stopped.is (c.feed-taken.ensures.fed _ so_far.after.read) in
     feeding_stopped _ _ _ _ _ _ _ _ _ _ _ so_far room taken c.feed-taken.ensures.front.at_most_all
 
 empty_from_test : (n : ℕ) → (n == 0) ≡ true → n ≡ 0

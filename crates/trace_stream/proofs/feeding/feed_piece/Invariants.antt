@@ -12,7 +12,7 @@ invariant-loop-rest g l = record {
   count : g.A.Action.taken l.action + length l.rest ≡ g.A.Action.taken l.initial.action + length l.piece;
   within : length l.rest ≤ length l.piece;
   feeding : (start : Option (List ℕ)) (seen : List ℕ) (p : _) → g.A.Action.plan l.initial.action ≡ p →
-      let meaning : Meaning = record { faulty = g.A.Action.faulty p; text = g.A.Action.text p; ending = g.A.Action.ending p } in
+      let meaning : Meaning = record { faulty = g.A.Action.faulty p; text = g.A.Action.text p; ending = g.A.Action.ending p; due = g.A.Action.due p } in
       let before : Writing = record { start = start; held = g.O.Sink.held l.initial.output; pending = l.initial.outlet } in
       let now : Writing = record { start = start; held = g.O.Sink.held l.output; pending = l.outlet } in
       StandsAfter (g.A.Action.stands l.initial.action) meaning before seen →

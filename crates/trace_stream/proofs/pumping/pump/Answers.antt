@@ -42,7 +42,7 @@ loop-got-preserved g c =
     let lost : Consumes (g.I.Source.left c.loop-got.input) (g.I.Source.left c.read_next.new.input) piece =
     subst (Consumes (g.I.Source.left c.loop-got.input) (g.I.Source.left c.read_next.new.input)) (cut.parts ∙ ap (λ l. piece ++ l) none ∙ append-nil piece) c.in-Ok.ensures.bytes.0 in
     let p = g.A.Action.plan c.args.action.now in
-    let meaning : Meaning = record { faulty = g.A.Action.faulty p; text = g.A.Action.text p; ending = g.A.Action.ending p } in
+    let meaning : Meaning = record { faulty = g.A.Action.faulty p; text = g.A.Action.text p; ending = g.A.Action.ending p; due = g.A.Action.due p } in
     let before : Ends = record { left = g.I.Source.left c.args.input.now; held = g.O.Sink.held c.args.output.now } in
     let now : Ends = record { left = g.I.Source.left c.read_next.new.input; held = g.O.Sink.held c.feed_and_write-fed.new.output } in
     let buffers : BuffersState = record { pending = c.feed_and_write-fed.new.outlet; recent = c.keep.new.self } in

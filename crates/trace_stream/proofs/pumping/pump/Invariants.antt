@@ -11,7 +11,7 @@ invariant-loop-got g l = record {
   taken : g.A.Action.taken l.action ≡ l.count;
   empty : l.outlet ≡ [];
   pumping : let p = g.A.Action.plan l.initial.action in
-      let meaning : Meaning = record { faulty = g.A.Action.faulty p; text = g.A.Action.text p; ending = g.A.Action.ending p } in
+      let meaning : Meaning = record { faulty = g.A.Action.faulty p; text = g.A.Action.text p; ending = g.A.Action.ending p; due = g.A.Action.due p } in
       let before : Ends = record { left = g.I.Source.left l.initial.input; held = g.O.Sink.held l.initial.output } in
       let now : Ends = record { left = g.I.Source.left l.input; held = g.O.Sink.held l.output } in
       let buffers : BuffersState = record { pending = l.outlet; recent = l.recent } in

@@ -1,4 +1,5 @@
-use Rattle.std.proofs.Common.{◌≡◌, ◌<◌, ◌-◌, length, [], None}
+use Rattle.std.proofs.Common.{◌≡◌, ◌<◌, ◌-◌, List, length, [], None}
+use Rattle.frame_writer.specs.Written.{Tagged}
 use Rattle.frame_writer.specs.Writer.{to_come}
 use Rattle.frame_writer.proofs.writer.FrameWriter.fill_pairs.Given as goal
 
@@ -7,7 +8,7 @@ decreases-loop-self l = 7 - length l.self.pairs.items
 
 abbrev pub invariant-loop-self : goal.invariant-loop-self
 invariant-loop-self l = record {
-  to_come : to_come l.fn.self [] ≡ to_come l.self [];
+  to_come : (later : List (List Tagged)) → to_come l.fn.self [] later ≡ to_come l.self [] later;
   held : l.self.held ≡ None;
   begun : 0 < length l.self.pairs.items;
   frames : l.self.frames ≡ l.fn.self.frames;

@@ -2,7 +2,7 @@ use Rattle.std.proofs.Common.{◌≡◌, ap, sym, ◌∙◌, List, Bool}
 use Rattle.capture_plan.specs.declared.packets.PacketsMode.{PacketsMode}
 use Rattle.trace_values.specs.Placed.{Placed}
 use Rattle.stp_grammar.specs.declared.packet.Order.{Order}
-use Rattle.stp_codec.specs.Reading.{items_in}
+use Rattle.stp_codec.specs.Reading.{items_in, items_at}
 use Rattle.stp_codec.specs.Decoder.{order_of, is_hunter}
 use Rattle.stp_codec.specs.declared.decoder.StpDecoder.{StpDecoder}
 use Rattle.source_events.specs.declared.packet.Packet.TheVariants.{Stp}
@@ -11,6 +11,7 @@ use Rattle.source_events.specs.declared.plan.SourceKind.TheVariants.{Stp as StpK
 use Rattle.source_events.specs.Packets.{stream_as}
 use Rattle.source_machine.specs.declared.machine.SourceMachine.TheVariants.{Stp as StpMachine}
 use Rattle.source_machine.specs.Machine.{reading_of, reading_by}
+use Rattle.source_machine.specs.Units.{reads_by}
 use Rattle.capture_plan.specs.declared.packets.PacketsMode.TheVariants.{Hunt, Aligned}
 use Rattle.capture_plan.specs.Modes.{packets_hunt}
 use Rattle.source_machine.proofs.machine.SourceMachine.new.Goals as goal
@@ -26,11 +27,23 @@ stp_reads d kind packets mode order o h k p =
 
 pub returns-in-Stp-Hunt-clause-reading : goal.returns-in-Stp-Hunt-clause-reading
 returns-in-Stp-Hunt-clause-reading c =
-    stp_reads c.hunting-in-Stp-Hunt.result c.args.kind c.args.packets Hunt c.args.order c.hunting-in-Stp-Hunt.ensures.order
-    c.hunting-in-Stp-Hunt.ensures.mode c.in-Stp-Hunt.is-0 c.in-Stp-Hunt.is-1
+    stp_reads c.hunting-in-Stp-Hunt.result c.args.kind c.args.packets Hunt c.args.order
+    c.hunting-in-Stp-Hunt.ensures.order c.hunting-in-Stp-Hunt.ensures.mode c.in-Stp-Hunt.is-0 c.in-Stp-Hunt.is-1
 
 pub returns-in-Stp-Aligned-clause-reading : goal.returns-in-Stp-Aligned-clause-reading
 returns-in-Stp-Aligned-clause-reading c =
     stp_reads c.aligned-in-Stp-Aligned.result c.args.kind c.args.packets Aligned c.args.order
     c.aligned-in-Stp-Aligned.ensures.order c.aligned-in-Stp-Aligned.ensures.mode c.in-Stp-Aligned.is-0
     c.in-Stp-Aligned.is-1
+
+pub returns-in-Stp-Hunt-clause-reads : goal.returns-in-Stp-Hunt-clause-reads
+returns-in-Stp-Hunt-clause-reads c =
+    ap (λ (o : Order). λ (h : Bool). λ (u : List Placed). stream_as Stp
+    (items_at o h u)) c.hunting-in-Stp-Hunt.ensures.order
+    ∙ ap (reads_by c.args.order) (sym c.in-Stp-Hunt.is-0)
+
+pub returns-in-Stp-Aligned-clause-reads : goal.returns-in-Stp-Aligned-clause-reads
+returns-in-Stp-Aligned-clause-reads c =
+    ap (λ (o : Order). λ (h : Bool). λ (u : List Placed). stream_as Stp
+    (items_at o h u)) c.aligned-in-Stp-Aligned.ensures.order
+    ∙ ap (reads_by c.args.order) (sym c.in-Stp-Aligned.is-0)

@@ -48,6 +48,7 @@ returns-in-Go c =
       stays = λ e. (e, refl);
       grammar = λ n s f. goes_answer d.order d.mode d.live d.partial d.attribution n b c.requires.live locked s c.in-Go.partial c.in-Go.ensures.next;
       ends = tt;
+      half = tt;
     }
 
 pub returns-in-Some : goal.returns-in-Some
@@ -71,6 +72,7 @@ returns-in-Some c =
       stays = λ e. (e, refl);
       grammar = λ n s f. ends_answer d.order d.mode d.live d.partial d.attribution n b c.requires.live locked s c.in-End.packet c.in-Some.item c.in-End.ensures.next c.in-Some.ensures.item;
       ends = (refl, locked);
+      half = tt;
     }
 
 pub returns-in-None : goal.returns-in-None
@@ -92,6 +94,7 @@ returns-in-None c =
       stays = λ e. (e, refl);
       grammar = λ n s f. silent_answer d.order d.mode d.live d.partial d.attribution n b c.requires.live locked s c.in-End.packet c.in-End.ensures.next c.in-None.ensures.item;
       ends = tt;
+      half = tt;
     }
 
 pub returns-in-Fail : goal.returns-in-Fail
@@ -113,4 +116,5 @@ returns-in-Fail c =
       stays = λ e. (e, refl);
       grammar = λ n s f. fails_answer d.order d.mode d.live d.partial d.attribution n b c.requires.live locked s c.in-Fail.reason c.in-Fail.ensures.next;
       ends = tt;
+      half = refl;
     }

@@ -1,0 +1,12 @@
+pub mod Bits
+pub mod Runs
+pub mod Cutting
+pub mod Table
+pub mod Windows
+pub mod Quiet
+pub mod Wide
+pub mod Steps
+pub mod Words
+pub mod Sureness
+pub mod Standing
+pub mod Taking

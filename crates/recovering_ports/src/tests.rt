@@ -1,0 +1,27 @@
+use crate::RecoveringPort;
+use arrayvec::ArrayVec;
+use deformatter::PortStep;
+
+/// A full synchronisation inside a frame, and then a frame of the trigger source: the fault is at the second FF, and
+/// the lock at the last byte of the synchronisation has the six bytes before it.
+#[test]
+fn sync_in_a_frame(rt: HostRuntime) {
+    let bytes = [
+        0x03, 0x00, 0x00, 0x00, 0x00, 0x00, 0xFF, 0xFF, 0xFF, 0x7F, 0xFB, 0x07, 0x01, 0x00, 0x00,
+        0x00, 0x00, 0x00, 0x00, 0x00, 0x00, 0x00, 0x00, 0x00, 0x00, 0x00,
+    ];
+    let mut port = RecoveringPort::aligned();
+    let mut out = ArrayVec::new();
+    for (at, byte) in bytes.iter().enumerate() {
+        out.clear();
+        match port.feed(at as u64, *byte, &mut out) {
+            PortStep::Fault(fault) => assert!(rt; at == 7 && fault.at == 7),
+            PortStep::Locked { skipped } => assert!(rt; at == 9 && skipped == 6),
+            PortStep::Frame => assert!(rt; at == 25 && out.len() == 13),
+            PortStep::Quiet | PortStep::Half | PortStep::Full => {
+                assert!(rt; at != 7 && at != 9 && at != 25);
+            }
+        }
+    }
+    assert!(rt; port.is_locked() && port.tail() == 0 && port.skipped() == 6);
+}

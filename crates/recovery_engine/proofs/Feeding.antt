@@ -1,0 +1,122 @@
+-- One more byte.
+use Rattle.std.proofs.Common.{◌≡◌, ◌≢◌, ℕ, ◌+◌, List, [], ◌∷◌, ◌++◌, refl, sym, ◌∙◌, ap, subst}
+use Rattle.std.proofs.Common.{append-nil, arith, None, map}
+use Rattle.std.proofs.lemmas.Grind.{flat_map-append}
+use Rattle.std.proofs.lemmas.List.{map-append}
+use Rattle.trace_values.specs.declared.cell.Cell.{Cell}
+use Rattle.trace_values.specs.Placed.{Placed, byte_at}
+use Rattle.capture_plan.specs.declared.frames.FramesMode.{FramesMode}
+use Rattle.capture_plan.specs.declared.frames.FramesMode.TheVariants.{Hunt, Aligned, Bare}
+use Rattle.deformatter.specs.declared.step.PortStep.{PortStep}
+use Rattle.deformatter.specs.declared.step.PortStep.TheVariants.{Quiet, Half, Full as FullEnds, Frame, Locked}
+use Rattle.deformatter.specs.declared.step.PortStep.TheVariants.{Fault as Faulty}
+use Rattle.deformatter.specs.Reading.{cells_in, port_stream}
+use Rattle.port_reader.specs.Modes.{hunts}
+use Rattle.port_reader.specs.Reading.{bare_cell}
+use Rattle.source_events.specs.declared.event.Event.{Event}
+use Rattle.source_events.specs.declared.packet.Packet.{Packet}
+use Rattle.source_events.specs.declared.plan.Plan.{Plan}
+use Rattle.source_events.specs.Runs.{all_runs, runs_of}
+use Rattle.stretch_readings.specs.declared.heard.Heard.{Heard}
+use Rattle.stretch_readings.proofs.StretchLaws.{from_append}
+use Rattle.stretch_readings.specs.Stretches.{One, Stretches, fed, fed_from, before}
+use Rattle.recovering_ports.specs.Port as ports
+use Rattle.recovering_ports.specs.Port.{items_by, from_halfword, raised, Answers}
+use Rattle.recovering_ports.specs.declared.port.RecoveringPort.{RecoveringPort}
+use Rattle.recovering_ports.proofs.Feeding.{none_before}
+use Rattle.recovery_report.specs.Port.{port_stretches, recovered, of_stretches}
+use Rattle.recovery_report.specs.Report.{Part, Run, Locks, parts_in, report, report_from}
+use Rattle.recovery_report.specs.Words.{parts_by}
+use Rattle.recovery_report.proofs.PortLaws as laws
+use Rattle.recovery_engine.specs.Port.{PortStands}
+use Rattle.recovery_engine.specs.Slots.{StandFor}
+use Rattle.recovery_engine.specs.Taking.{Takes}
+use Rattle.recovery_engine.specs.declared.slot.Slot.{Slot}
+
+-- the stretches of a port with one more byte
+port_push : (mode : FramesMode) (u : List Placed) (b : Placed) →
+    port_stretches mode (u ++ b ∷ []) ≡ fed items_by from_halfword (port_stretches mode u) (One b)
+port_push mode u b =
+    ap (λ l. fed_from items_by from_halfword (before items_by from_halfword (hunts mode)) l) (map-append One u (b ∷ []))
+    ∙ from_append items_by from_halfword (map One u) (One b ∷ []) (before items_by from_halfword (hunts mode))
+
+-- a step's parts, with its lock's count
+by_raised : (count at : ℕ) (own : PortStep) (cells : List Cell) →
+    parts_by count at own cells ≡ parts_by 0 at (raised count own) cells
+by_raised count at Quiet cells = refl
+by_raised count at Half cells = refl
+by_raised count at FullEnds cells = refl
+by_raised count at Frame cells = refl
+by_raised count at (Locked n) cells = ap (λ m. Locks m (record { at = at; half = 0 }) ∷ [])
+    (let e : count + n ≡ 0 + (count + n) = omega arith in e)
+by_raised count at (Faulty f) cells = refl
+
+module _ (old new : RecoveringPort) (u : List Placed) (at byte : ℕ) where
+  abbrev b : Placed
+  b = byte_at at byte
+
+  pub port_list : (mode : FramesMode) → ((r : Stretches) → ports.Stands old r →
+      ports.Stands new (fed items_by from_halfword r (One b))) → PortStands mode old u →
+      PortStands mode new (u ++ b ∷ [])
+  port_list Bare f k = tt
+  port_list Aligned f k = subst (λ r. ports.Stands new r) (sym (port_push Aligned u b)) (f (port_stretches Aligned u) k)
+  port_list Hunt f k = subst (λ r. ports.Stands new r) (sym (port_push Hunt u b)) (f (port_stretches Hunt u) k)
+
+  module _ (step : PortStep) (cells : List Cell) where
+    abbrev Grows : Stretches → Type 0
+    Grows r = parts_in (of_stretches (fed items_by from_halfword r (One b)))
+        ≡ parts_in (of_stretches r) ++ parts_by 0 at step cells
+
+    grows : ((r : Stretches) → ports.Stands old r → Answers r at byte step) →
+        ((r : Stretches) → ports.Stands old r →
+        cells_in (port_stream r.now.hunts (r.now.units ++ b ∷ [])) ≡ cells_in
+        (port_stream r.now.hunts r.now.units) ++ cells) →
+        (r : Stretches) → ports.Stands old r → Grows r
+    grows f c r k =
+        let a = f r k in
+        let none : (port_stream r.now.hunts r.now.units).fault ≡ None =
+        ap (λ h. (port_stream h r.now.units).fault) (sym k.mode) ∙ none_before old.port r.now.units k.stands old.live in
+        laws.port r at byte a.own cells none a.grows (c r k)
+        ∙ ap (λ l. parts_in (of_stretches r) ++ l) (by_raised r.now.count at a.own cells
+        ∙ ap (λ s. parts_by 0 at s cells) (sym a.is))
+
+    pub framed_parts : (mode : FramesMode) → mode ≢ Bare →
+        ((r : Stretches) → ports.Stands old r → Answers r at byte step) →
+        ((r : Stretches) → ports.Stands old r →
+        cells_in (port_stream r.now.hunts (r.now.units ++ b ∷ [])) ≡ cells_in
+        (port_stream r.now.hunts r.now.units) ++ cells) →
+        PortStands mode old u → parts_in (recovered mode (u ++ b ∷ []))
+        ≡ parts_in (recovered mode u) ++ parts_by 0 at step cells
+    framed_parts Bare n f c k = absurd (n refl)
+    framed_parts Aligned n f c k = ap (λ r. parts_in (of_stretches r)) (port_push Aligned u b)
+        ∙ grows f c (port_stretches Aligned u) k
+    framed_parts Hunt n f c k = ap (λ r. parts_in (of_stretches r)) (port_push Hunt u b)
+        ∙ grows f c (port_stretches Hunt u) k
+
+-- with no formatter
+abbrev bare_frames : List Placed → List (List Cell)
+bare_frames u = map (λ b. bare_cell b ∷ []) u
+
+bare_parts_are : (u : List Placed) → parts_in (recovered Bare u) ≡ map Run (all_runs (bare_frames u))
+bare_parts_are u = append-nil (map Run (all_runs (bare_frames u)) ++ [])
+    ∙ append-nil (map Run (all_runs (bare_frames u)))
+
+pub bare_parts : (u : List Placed) (b : Placed) →
+    parts_in (recovered Bare (u ++ b ∷ [])) ≡ parts_in (recovered Bare u) ++ map Run (runs_of (bare_cell b ∷ []))
+bare_parts u b =
+    bare_parts_are (u ++ b ∷ [])
+    ∙ ap (λ l. map Run (all_runs l)) (map-append (λ (x : Placed). bare_cell x ∷ []) u (b ∷ []))
+    ∙ ap (map Run) (flat_map-append runs_of (bare_frames u) ((bare_cell b ∷ []) ∷ []))
+    ∙ map-append Run (all_runs (bare_frames u)) (runs_of (bare_cell b ∷ []) ++ [])
+    ∙ ap (λ l. l ++ map Run (runs_of (bare_cell b ∷ []))) (sym (bare_parts_are u))
+
+-- what was taken is what the byte adds
+module _ {S : Type 0} (gets : S → List (Event (Heard Packet)) → S →
+    Type 0) (plan : Plan) (u w : List Placed) (more : List Part) (old new : List Slot × S)
+    (e : parts_in (recovered plan.frames w) ≡ parts_in (recovered plan.frames u) ++ more) (t : Takes gets more old new)
+    (k : StandFor plan (parts_in (recovered plan.frames u)) old.0) where
+  pub stands_more : StandFor plan (parts_in (recovered plan.frames w)) new.0
+  stands_more = subst (λ l. StandFor plan l new.0) (sym e) (t.2 plan (parts_in (recovered plan.frames u)) k).list
+
+  pub report_more : report plan w ≡ report plan u ++ t.0
+  report_more = ap (λ l. report_from plan [] l) e ∙ (t.2 plan (parts_in (recovered plan.frames u)) k).grew

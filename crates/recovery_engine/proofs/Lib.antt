@@ -1,0 +1,4 @@
+pub mod Adding
+pub mod Feeding
+pub mod Owning
+pub mod Parts

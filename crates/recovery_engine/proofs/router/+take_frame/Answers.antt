@@ -1,0 +1,27 @@
+use Rattle.std.proofs.Common.{◌≡◌, ◌<◌, ◌-◌, [], ◌∷◌, take, drop, length, map, sym, ◌∙◌, ap, subst, arith}
+use Rattle.std.proofs.lemmas.List.{length-drop, take_all}
+use Rattle.source_events.specs.Runs.{runs_of}
+use Rattle.source_merge.proofs.Framing.{cut_at}
+use Rattle.recovery_report.specs.Report.{Run}
+use Rattle.recovery_engine.specs.Taking.{Takes}
+use Rattle.recovery_engine.proofs.Parts.{takes_then}
+use Rattle.recovery_engine.proofs.router.+take_frame.Goals as goal
+
+pub returns-clause-takes : goal.returns-clause-takes
+returns-clause-takes g t c =
+    let cells = c.args.cells.now in
+    let n = c.run_length-n.result in
+    let some : 0 < length cells = (let x = c.run_length-n.ensures.some in let y =
+    c.run_length-n.ensures.within in omega (arith, x, y)) in
+    let rest = drop n cells in
+    let more = take (length cells - n) rest in
+    let left = length-drop n cells in
+    let tail : more ≡ rest = take_all (length cells - n) rest (omega (arith, left)) in
+    subst (λ l. Takes g.V.Hearer.gets (map Run l) (c.args.slots.now, c.args.out.now)
+    (c.take_frame.new.slots, c.take_frame.new.out))
+    (ap (λ l. take n cells ∷ runs_of l) tail ∙ sym (cut_at cells n c.run_length-n.ensures.value some))
+    (takes_then g.V.Hearer.gets g.met.V.Hearer.gets_more (c.args.slots.now, c.args.out.now) (
+      c.take_run.new.slots,
+      c.take_run.new.out,
+    ) (c.take_frame.new.slots, c.take_frame.new.out)
+    (Run (take n cells) ∷ []) (map Run (runs_of more)) c.take_run.ensures.takes c.take_frame.ensures.takes)

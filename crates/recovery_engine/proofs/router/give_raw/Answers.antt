@@ -1,0 +1,43 @@
+use Rattle.std.proofs.Common.{Some, sym, ◌∙◌, ap, subst, List, [], ◌∷◌, ℕ}
+use Rattle.trace_values.specs.declared.cell.Cell.{Cell}
+use Rattle.trace_values.specs.Placed.{Place}
+use Rattle.source_events.specs.declared.event.Event.{Event}
+use Rattle.source_events.specs.declared.event.What.{What}
+use Rattle.source_events.specs.declared.event.What.TheVariants.{Raw}
+use Rattle.source_events.specs.declared.packet.Packet.{Packet}
+use Rattle.source_events.specs.Merge.{told}
+use Rattle.source_events.specs.Report.{raw_events}
+use Rattle.source_events.specs.Runs.{last_at}
+use Rattle.source_events.proofs.Raws.{raw_is, last_is}
+use Rattle.stretch_readings.specs.declared.heard.Heard.{Heard}
+use Rattle.recovery_engine.proofs.router.give_raw.Goals as goal
+
+abbrev told_by : ℕ → ℕ → List Cell → List (Event (Heard Packet))
+told_by x n run = told (Some x) (raw_events n run)
+
+pub returns-then-number-eq-NULL-clause-given : goal.returns-then-number-eq-NULL-clause-given
+returns-then-number-eq-NULL-clause-given g c =
+    let x = c.args.id in
+    subst (λ n. g.V.Hearer.gets c.args.out.now (told_by x n c.args.cells.now) c.args.out.now)
+    (sym (sym c.number-number.ensures.value ∙ c.if-number-eq-NULL.true))
+    (g.met.V.Hearer.gets_none c.args.out.now)
+
+pub returns-then-number-eq-TRIGGER-clause-given : goal.returns-then-number-eq-TRIGGER-clause-given
+returns-then-number-eq-TRIGGER-clause-given g c =
+    let x = c.args.id in
+    subst (λ n. g.V.Hearer.gets c.args.out.now (told_by x n c.args.cells.now) c.give_triggers.new.out)
+    (sym (sym c.number-number.ensures.value ∙ c.if-number-eq-TRIGGER.true))
+    c.give_triggers.ensures.given
+
+pub returns-clause-given : goal.returns-clause-given
+returns-clause-given g c =
+    let run = c.args.cells.now in
+    let x = c.args.id in
+    let last = c.index-cells-cells.result in
+    subst (λ (l : List (What (Heard Packet) × Place)). g.V.Hearer.gets c.args.out.now (told (Some x) l) c.hear.new.self)
+    (ap (λ (n : ℕ). (Raw c.of.result, record { at = n; half = 0 }) ∷ [])
+    (last_is run last c.requires.some)
+    ∙ ap (λ (b : List ℕ). (Raw b, record { at = last_at run; half = 0 }) ∷ []) c.of.ensures
+    ∙ sym (raw_is (Heard Packet) x run (λ e. c.if-number-eq-NULL.false (c.number-number.ensures.value ∙ e))
+    (λ e. c.if-number-eq-TRIGGER.false (c.number-number.ensures.value ∙ e))))
+    c.hear.ensures.gets

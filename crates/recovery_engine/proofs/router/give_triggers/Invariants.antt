@@ -1,0 +1,11 @@
+use Rattle.std.proofs.Common.{◌+◌, ◌≤◌, take, Some}
+use Rattle.source_events.specs.Merge.{told}
+use Rattle.source_events.specs.Report.{triggers}
+use Rattle.recovery_engine.proofs.router.give_triggers.Given as goal
+
+-- the bytes so far are given
+abbrev pub invariant-loop-index : goal.invariant-loop-index
+invariant-loop-index g l = record {
+  given : g.V.Hearer.gets l.fn.out (told (Some l.id) (triggers (take l.index l.cells))) l.out;
+  space : g.V.Hearer.room l.fn.out ≤ g.V.Hearer.room l.out + l.index;
+}

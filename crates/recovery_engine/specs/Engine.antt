@@ -1,0 +1,22 @@
+-- What a recovering engine stands for.
+use Rattle.std.specs.Prelude.{◌≡◌, ℕ, List, length}
+use Rattle.trace_values.specs.Placed.{Placed}
+use Rattle.source_events.specs.declared.plan.Plan.{Plan}
+use Rattle.recovery_report.specs.Port.{recovered}
+use Rattle.recovery_report.specs.Report.{parts_in}
+use Rattle.recovery_engine.specs.Port.{PortStands}
+use Rattle.recovery_engine.specs.Slots.{StandFor}
+use Rattle.recovery_engine.specs.declared.engine.Recovery.{Recovery}
+
+-- what it reads by
+abbrev pub plan_of : Recovery → Plan
+plan_of e = e.plan
+
+abbrev pub count_of : Recovery → ℕ
+count_of e = e.count
+
+-- It has read these bytes: its port and its sources stand for what they are in the recovering report.
+pub record Stands (e : Recovery) (u : List Placed) : Type 0 where
+  pub port : PortStands e.plan.frames e.port u
+  pub sources : StandFor e.plan (parts_in (recovered e.plan.frames u)) e.slots.items
+  pub count : e.count ≡ length u

@@ -1,0 +1,92 @@
+//! The reading of a capture that goes on after each fault.
+
+ghost use Rattle.std.specs.Prelude.{◌≡◌, ◌+◌, ◌*◌, ◌≤◌};
+ghost use Rattle.recovering_ports.specs.Port.{total_of};
+ghost use Rattle.recovery_engine.specs.Slots.{total};
+ghost use Rattle.recovery_engine.specs.declared.engine.TheConstants.{GREATEST_OFFSET};
+
+use crate::port::feed_port;
+use crate::router::take_step;
+use crate::slot::{Slots, slots_of};
+use arrayvec::ArrayVec;
+use capture_plan::FramesMode;
+use recovering_ports::RecoveringPort;
+use recovering_sources::Hearer;
+use source_events::Plan;
+use trace_values::Cell;
+
+/// The greatest offset of a byte of a capture.
+pub const GREATEST_OFFSET: u64 = 1 << 36;
+
+/// Reads a capture byte by byte, its port and each mapped source, and gives the events of its recovering report in
+/// order.
+///
+/// It **stands for** a list of placed bytes if what it keeps is that of the list's report. Its clauses hold for every
+/// list that it stood for before the call; a new one stands for the empty list.
+#[derive(Drop)]
+pub struct Recovery {
+    plan: Plan,
+    port: RecoveringPort,
+    slots: Slots,
+    /// The cells of the frame that is taken.
+    cells: ArrayVec<Cell, 15>,
+    /// How many bytes were fed.
+    count: u64,
+    ghost port_few: { total_of port ≤ 8 * count },
+    ghost few: { total slots.items ≤ 60 * count },
+    ghost limit: { count ≤ GREATEST_OFFSET + 1 },
+}
+
+impl Recovery {
+    ghost use Rattle.std.specs.Prelude.{◌++◌, ◌∷◌, [], List};
+    ghost use Rattle.trace_values.specs.Placed.{Placed, byte_at};
+    ghost use Rattle.source_events.specs.declared.event.Event.{Event};
+    ghost use Rattle.source_events.specs.declared.packet.Packet.{Packet};
+    ghost use Rattle.stretch_readings.specs.declared.heard.Heard.{Heard};
+    ghost use Rattle.recovery_report.specs.Report.{report};
+    ghost use Rattle.recovery_engine.specs.Engine.{Stands, count_of, plan_of};
+
+    /// An engine before the first byte.
+    pub fn new(plan: Plan) -> Recovery
+        ensures plan { plan_of result ≡ plan }
+        ensures fresh { Stands result [] }
+        ensures count { count_of result ≡ 0 }
+    {
+        let slots = slots_of(&plan);
+        let port = match plan.frames {
+            FramesMode::Hunt => RecoveringPort::hunting(),
+            FramesMode::Aligned | FramesMode::Bare => RecoveringPort::aligned(),
+        };
+        Recovery {
+            plan,
+            port,
+            slots,
+            cells: ArrayVec::new(),
+            count: 0,
+        }
+    }
+
+    /// Takes the next byte, which is at this offset, and gives the events that the recovering report grows by.
+    pub fn feed<V: Hearer>(&mut self, at: u64, byte: u8, out: &mut V)
+        requires limit { count_of self.old ≤ GREATEST_OFFSET }
+        requires room { 30 ≤ V.room out.old }
+        ensures plan { plan_of self.new ≡ plan_of self.old }
+        ensures count { count_of self.new ≡ count_of self.old + 1 }
+        ensures list { (u : List Placed) → Stands self.old u → Stands self.new (u ++ byte_at at byte ∷ []) }
+        ensures given { (given : List (Event (Heard Packet))) × V.gets out.old given out.new
+            × ((u : List Placed) → Stands self.old u →
+            report (plan_of self.old) (u ++ byte_at at byte ∷ []) ≡ report (plan_of self.old) u ++ given) }
+        ensures room { V.room out.old ≤ V.room out.new + 30 }
+    {
+        self.cells.clear();
+        let step = feed_port(&mut self.port, self.plan.frames, at, byte, &mut self.cells);
+        take_step(
+            self.slots.as_mut_slice(),
+            at,
+            step,
+            self.cells.as_slice(),
+            out,
+        );
+        self.count += 1;
+    }
+}

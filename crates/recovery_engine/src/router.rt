@@ -1,0 +1,141 @@
+//! What a step of the port ends, part by part.
+
+ghost use Rattle.std.specs.Prelude.{◌≡◌, ◌+◌, ◌*◌, ◌<◌, ◌≤◌, ◌∷◌, [], length, map};
+ghost use Rattle.trace_values.specs.declared.limits.TheConstants.{COUNT_ROOM};
+ghost use Rattle.source_events.specs.Merge.{told};
+ghost use Rattle.source_events.specs.Report.{raw_events, triggers};
+ghost use Rattle.source_events.specs.Runs.{runs_of};
+ghost use Rattle.std.specs.Prelude.{Some};
+ghost use Rattle.recovery_report.specs.Report.{Run};
+ghost use Rattle.recovery_report.specs.Words.{parts_by};
+ghost use Rattle.recovery_engine.specs.Slots.{total};
+ghost use Rattle.recovery_engine.specs.Taking.{Takes};
+
+use crate::slot::{Slot, cut_all, take_own};
+use deformatter::PortStep;
+use recovering_sources::Hearer;
+use source_events::{Event, RunBytes, What, run_length};
+use stretch_readings::Heard;
+use trace_values::{Cell, SourceId};
+
+/// The null source, whose bytes only fill frames.
+const NULL: u8 = 0;
+
+/// The trigger source, each of whose bytes is an event.
+const TRIGGER: u8 = 125;
+
+/// Gives each byte of a run of the trigger source.
+fn give_triggers<V: Hearer>(id: SourceId, cells: &[Cell], out: &mut V)
+    requires room { 2 * length cells.now ≤ V.room out.old }
+    ensures given { V.gets out.old (told (Some id) (triggers cells.now)) out.new }
+    ensures room { V.room out.old ≤ V.room out.new + 2 * length cells.now }
+{
+    for index in 0..cells.len() {
+        let cell = cells[index];
+        out.hear(Event {
+            at: cell.at,
+            half: 0,
+            source: Some(id),
+            what: What::Trigger(cell.byte),
+        });
+    }
+}
+
+/// Gives a run of a source that is not mapped.
+fn give_raw<V: Hearer>(id: SourceId, cells: &[Cell], out: &mut V)
+    requires some { 0 < length cells.now }
+    requires size { length cells.now ≤ 15 }
+    requires room { 2 * length cells.now ≤ V.room out.old }
+    ensures given { V.gets out.old (told (Some id) (raw_events id cells.now)) out.new }
+    ensures room { V.room out.old ≤ V.room out.new + 2 * length cells.now }
+{
+    let number = id.number();
+    if number == NULL {
+        return;
+    }
+    if number == TRIGGER {
+        give_triggers(id, cells, out);
+        return;
+    }
+    out.hear(Event {
+        at: cells[cells.len() - 1].at,
+        half: 0,
+        source: Some(id),
+        what: What::Raw(RunBytes::of(cells)),
+    });
+}
+
+/// Takes a run of one source, or of none.
+fn take_run<V: Hearer>(slots: &mut [Slot], cells: &[Cell], out: &mut V)
+    requires some { 0 < length cells.now }
+    requires size { length cells.now ≤ 15 }
+    requires few { total slots.old + 4 * length cells.now ≤ COUNT_ROOM }
+    requires room { 2 * length cells.now ≤ V.room out.old }
+    ensures takes { Takes V.gets (Run cells.now ∷ []) (slots.old, out.old) (slots.new, out.new) }
+    ensures len { length slots.new ≡ length slots.old }
+    ensures few { total slots.new ≤ total slots.old + 4 * length cells.now }
+    ensures room { V.room out.old ≤ V.room out.new + 2 * length cells.now }
+{
+    let Some(id) = cells[0].id else {
+        return;
+    };
+    if !take_own(slots, id, cells, out) {
+        give_raw(id, cells, out);
+    }
+}
+
+/// Takes the cells of a frame, run by run.
+fn take_frame<V: Hearer>(slots: &mut [Slot], cells: &[Cell], out: &mut V)
+    requires size { length cells.now ≤ 15 }
+    requires few { total slots.old + 4 * length cells.now ≤ COUNT_ROOM }
+    requires room { 2 * length cells.now ≤ V.room out.old }
+    ensures takes { Takes V.gets (map Run (runs_of cells.now)) (slots.old, out.old) (slots.new, out.new) }
+    ensures len { length slots.new ≡ length slots.old }
+    ensures few { total slots.new ≤ total slots.old + 4 * length cells.now }
+    ensures room { V.room out.old ≤ V.room out.new + 2 * length cells.now }
+{
+    if cells.is_empty() {
+        return;
+    }
+    let n = run_length(cells);
+    take_run(slots, &cells[..n], out);
+    take_frame(slots, &cells[n..], out);
+}
+
+/// Takes what a step of the port at this offset ends: a frame of these cells, the bytes before a lock, or the lists of
+/// all sources.
+pub fn take_step<V: Hearer>(
+    slots: &mut [Slot],
+    at: u64,
+    step: PortStep,
+    cells: &[Cell],
+    out: &mut V,
+)
+    requires size { length cells.now ≤ 15 }
+    requires few { total slots.old + 60 ≤ COUNT_ROOM }
+    requires room { 30 ≤ V.room out.old }
+    ensures takes { Takes V.gets (parts_by 0 at step cells.now) (slots.old, out.old) (slots.new, out.new) }
+    ensures len { length slots.new ≡ length slots.old }
+    ensures few { total slots.new ≤ total slots.old + 60 }
+    ensures room { V.room out.old ≤ V.room out.new + 30 }
+{
+    match step {
+        PortStep::Quiet | PortStep::Half | PortStep::Full => {}
+        PortStep::Frame => take_frame(slots, cells, out),
+        PortStep::Locked { skipped } => out.hear(Event {
+            at,
+            half: 0,
+            source: None,
+            what: What::Locked(skipped),
+        }),
+        PortStep::Fault(fault) => {
+            out.hear(Event {
+                at: fault.at,
+                half: fault.half,
+                source: None,
+                what: What::Packet(Heard::Broken(fault.reason)),
+            });
+            cut_all(slots);
+        }
+    }
+}

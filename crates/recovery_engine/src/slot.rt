@@ -1,0 +1,98 @@
+//! The mapped sources of a recovering engine.
+
+ghost use Rattle.std.specs.Prelude.{◌≡◌, ◌+◌, ◌*◌, ◌≤◌, length, true, false, None};
+ghost use Rattle.trace_values.specs.declared.limits.TheConstants.{COUNT_ROOM};
+ghost use Rattle.std.specs.Prelude.{ℕ};
+ghost use Rattle.arrayvec.specs.ArrayVec.{array_vec_len};
+ghost use Rattle.source_events.specs.declared.plan.TheConstants.{MAPPED_SOURCES};
+ghost use Rattle.recovery_engine.specs.Fresh.{AreFresh, IsAdded};
+ghost use Rattle.recovery_engine.specs.Slots.{source_at, total};
+ghost use Rattle.recovery_engine.specs.Taking.{AreCut, TakesOwn};
+
+use arrayvec::ArrayVec;
+use capture_plan::PacketsMode;
+use recovering_sources::{Hearer, RecoveringSource, feed_run};
+use source_events::{MAPPED_SOURCES, Plan, SourceKind};
+use stp_grammar::packet::Order;
+use trace_values::{Cell, SourceId};
+
+/// A mapped source, and what reads its bytes.
+#[derive(Drop)]
+pub struct Slot {
+    pub id: SourceId,
+    pub source: RecoveringSource,
+}
+
+/// The default slot only fills the unused places of a buffer.
+impl Default for Slot {
+    fn default() -> Slot {
+        Slot {
+            id: SourceId::default(),
+            source: RecoveringSource::new(SourceKind::Itm, PacketsMode::Aligned, Order::Msn),
+        }
+    }
+}
+
+/// The mapped sources of a plan.
+pub type Slots = ArrayVec<Slot, MAPPED_SOURCES>;
+
+/// Those of a plan, each before its first byte.
+pub fn slots_of(plan: &Plan) -> Slots
+    ensures fresh { AreFresh plan.now result.items }
+    ensures few { total result.items ≤ 0 }
+{
+    let mut slots = ArrayVec::new();
+    add_slots(&mut slots, SourceKind::Itm, plan.itm.as_slice(), plan);
+    add_slots(&mut slots, SourceKind::Stp, plan.stp.as_slice(), plan);
+    slots
+}
+
+/// Adds the sources of these IDs, which are of one kind.
+fn add_slots(slots: &mut Slots, kind: SourceKind, ids: &[SourceId], plan: &Plan)
+    requires room { array_vec_len slots.old + length ids.now ≤ MAPPED_SOURCES }
+    ensures added { (x : ℕ) →
+        IsAdded plan.now kind ids.now x (source_at slots.old.items x) (source_at slots.new.items x) }
+    ensures count { array_vec_len slots.new ≡ array_vec_len slots.old + length ids.now }
+    ensures few { total slots.new.items ≤ total slots.old.items }
+{
+    for id in ids {
+        slots.push(Slot {
+            id: *id,
+            source: RecoveringSource::new(kind, plan.packets, plan.order),
+        });
+    }
+}
+
+/// Takes a run of the source of this ID, and gives its events. False where there is no such source.
+pub fn take_own<V: Hearer>(slots: &mut [Slot], id: SourceId, cells: &[Cell], out: &mut V) -> bool
+    requires few { total slots.old + 4 * length cells.now ≤ COUNT_ROOM }
+    requires room { 2 * length cells.now ≤ V.room out.old }
+    ensures own { result ≡ true → TakesOwn V.gets V.room id cells.now (slots.old, out.old) (slots.new, out.new) }
+    ensures other { result ≡ false → (slots.new ≡ slots.old) × (out.new ≡ out.old) × (source_at slots.old id ≡ None) }
+    ensures len { length slots.new ≡ length slots.old }
+    ensures few { total slots.new ≤ total slots.old + 4 * length cells.now }
+    ensures room { V.room out.old ≤ V.room out.new + 2 * length cells.now }
+{
+    let Some((slot, rest)) = slots.split_first_mut() else {
+        return false;
+    };
+    if slot.id == id {
+        feed_run(&mut slot.source, id, cells, out);
+        return true;
+    }
+    take_own(rest, id, cells, out)
+}
+
+/// Cuts the lists of all sources.
+pub fn cut_all(slots: &mut [Slot])
+    requires few { total slots.old ≤ COUNT_ROOM }
+    ensures cut { AreCut slots.old slots.new }
+    ensures len { length slots.new ≡ length slots.old }
+    ensures few { total slots.new ≤ total slots.old }
+{
+    let Some((slot, rest)) = slots.split_first_mut() else {
+        return;
+    };
+    slot.source.cut();
+    cut_all(rest);
+}

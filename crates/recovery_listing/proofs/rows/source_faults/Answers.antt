@@ -1,0 +1,12 @@
+use Rattle.std.proofs.Common.{refl}
+use Rattle.std.specs.Fmt.{digits}
+use Rattle.hex.proofs.OnLiterals.{hex_on_literals}
+use Rattle.recovery_listing.proofs.rows.source_faults.Goals as goal
+
+pub returns-clause-reserved : goal.returns-clause-reserved
+unfolding digits hex_on_literals
+returns-clause-reserved c = refl
+
+pub returns-clause-short : goal.returns-clause-short
+unfolding digits hex_on_literals
+returns-clause-short c = refl

@@ -1,0 +1,4 @@
+//! Listings of captures with faults, that go on after each.
+#![tactic(auto)]
+
+pub mod rows;

@@ -1,0 +1,88 @@
+-- One more part.
+use Rattle.std.proofs.Common.{◌≡◌, ℕ, List, [], ◌∷◌, ◌++◌, length, drop, refl, sym, ◌∙◌, ap, append_assoc}
+use Rattle.std.proofs.Common.{append-nil, Some, false}
+use Rattle.std.specs.Prelude.{map, if◌then◌else◌}
+use Rattle.std.proofs.lemmas.Grind.{flat_map-append}
+use Rattle.std.proofs.Math.Seq.{drop-append_seam}
+use Rattle.trace_values.specs.declared.cell.Cell.{Cell}
+use Rattle.trace_values.specs.declared.fault.Reason.{Reason}
+use Rattle.trace_values.specs.Placed.{Place}
+use Rattle.frame_grammar.specs.Reading.{is_source}
+use Rattle.capture_plan.specs.Modes.{packets_hunt}
+use Rattle.source_events.specs.declared.plan.Plan.{Plan}
+use Rattle.source_events.specs.declared.plan.SourceKind.{SourceKind}
+use Rattle.source_events.specs.Merge.{told}
+use Rattle.source_events.specs.Plan.{kind_of}
+use Rattle.source_events.specs.Report.{lifted}
+use Rattle.source_events.specs.Runs.{id_of}
+use Rattle.stretch_readings.proofs.StretchLaws.{from_append}
+use Rattle.stretch_readings.specs.Stretches.{One, fed_from, before, parted, from_fault}
+use Rattle.recovering_sources.specs.Run.{units_in}
+use Rattle.source_machine.specs.Units.{reads_by}
+use Rattle.source_events.proofs.Merges.{test_same}
+use Rattle.recovering_sources.proofs.Runs.{lifted_append}
+use Rattle.recovery_report.specs.Report.{Part, Run, Locks, Breaks, added, added_by, report_from, fed_by}
+use Rattle.recovery_report.specs.Report.{list_of, stretches_of, stream_of, events_of, events_by}
+use Rattle.recovery_report.specs.Words.{OwnRun}
+
+-- the report part by part
+from_push : (plan : Plan) (ms ahead : List Part) (m : Part) →
+    report_from plan ahead (ms ++ m ∷ []) ≡ report_from plan ahead ms ++ added plan (ahead ++ ms) m
+from_push plan [] ahead m = append-nil (added plan ahead m) ∙ ap (λ p. added plan p m) (sym (append-nil ahead))
+from_push plan (n ∷ ms) ahead m =
+    ap (λ l. added plan ahead n ++ l) (from_push plan ms (ahead ++ n ∷ []) m)
+    ∙ ap (λ p. added plan ahead n ++ (report_from plan (ahead ++ n ∷ []) ms ++ added plan p m))
+    (append_assoc ahead (n ∷ []) ms)
+    ∙ sym (append_assoc (added plan ahead n) (report_from plan (ahead ++ n ∷ []) ms) (added plan (ahead ++ (n ∷ ms)) m))
+
+pub growing : (plan : Plan) (parts : List Part) (m : Part) →
+    report_from plan [] (parts ++ m ∷ []) ≡ report_from plan [] parts ++ added plan parts m
+growing plan parts m = from_push plan parts [] m
+
+-- a source's list and stretches part by part
+module _ (plan : Plan) (kind : SourceKind) (x : ℕ) (parts : List Part) where
+  list_push : (m : Part) → list_of kind x (parts ++ m ∷ []) ≡ list_of kind x parts ++ fed_by kind x m
+  list_push m = flat_map-append (fed_by kind x) parts (m ∷ [])
+      ∙ ap (λ l. list_of kind x parts ++ l) (append-nil (fed_by kind x m))
+
+  push : (m : Part) → stretches_of plan kind x (parts ++ m ∷ []) ≡ fed_from (reads_by plan.order kind) from_fault
+      (stretches_of plan kind x parts) (fed_by kind x m)
+  push m =
+      ap (λ l. fed_from (reads_by plan.order kind) from_fault
+      (before (reads_by plan.order kind) from_fault (packets_hunt plan.packets)) l) (list_push m)
+      ∙ from_append (reads_by plan.order kind) from_fault (list_of kind x parts) (fed_by kind x m)
+      (before (reads_by plan.order kind) from_fault (packets_hunt plan.packets))
+
+  pub other : (run : List Cell) → is_source x (id_of run) ≡ false →
+      stretches_of plan kind x (parts ++ Run run ∷ []) ≡ stretches_of plan kind x parts
+  other run e =
+      push (Run run)
+      ∙ ap (λ t. fed_from (reads_by plan.order kind) from_fault (stretches_of plan kind x parts)
+      (if t then map One (units_in kind run) else [])) e
+
+  pub lock : (skipped : ℕ) (place : Place) →
+      stretches_of plan kind x (parts ++ Locks skipped place ∷ []) ≡ stretches_of plan kind x parts
+  lock skipped place = push (Locks skipped place)
+
+  pub cut : (reason : Reason) (place : Place) →
+      stretches_of plan kind x (parts ++ Breaks reason place ∷ []) ≡ parted (reads_by plan.order kind) from_fault
+      (stretches_of plan kind x parts)
+  cut reason place = push (Breaks reason place)
+
+pub own : (plan : Plan) (kind : SourceKind) (x : ℕ) (parts : List Part) (run : List Cell) →
+    kind_of plan x ≡ Some kind → id_of run ≡ Some x → OwnRun plan kind x parts run
+own plan kind x parts run k i = record {
+  list = push plan kind x parts (Run run)
+      ∙ ap (λ t. fed_from (reads_by plan.order kind) from_fault (stretches_of plan kind x parts)
+      (if t then map One (units_in kind run) else [])) (ap (is_source x) i ∙ test_same x x refl);
+  more = λ said e.
+      let was : events_of plan x parts ≡ lifted (stream_of plan kind x parts).given =
+      ap (λ o. events_by plan o x parts) k in
+      let is : events_of plan x (parts ++ Run run ∷ []) ≡ lifted (stream_of plan kind x parts).given ++ lifted said =
+      ap (λ o. events_by plan o x (parts ++ Run run ∷ [])) k ∙ ap lifted e
+      ∙ lifted_append (stream_of plan kind x parts).given said in
+      ap (λ o. added_by plan parts o (Run run)) i
+      ∙ ap (λ l. told (Some x) (drop (length l) (events_of plan x (parts ++ Run run ∷ [])))) was
+      ∙ ap (λ l. told (Some x) (drop (length (lifted (stream_of plan kind x parts).given)) l)) is
+      ∙ ap (told (Some x)) (drop-append_seam (lifted (stream_of plan kind x parts).given) (lifted said));
+}

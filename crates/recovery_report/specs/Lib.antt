@@ -1,0 +1,4 @@
+pub mod Port
+pub mod Report
+pub mod Rows
+pub mod Words

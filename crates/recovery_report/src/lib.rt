@@ -1,0 +1,5 @@
+//! Reports of captures with faults, that go on after each.
+#![tactic(auto)]
+
+pub mod laws;
+pub mod rows;

@@ -1,0 +1,160 @@
+//! Worked rows of recovering reports, which the checker computes.
+
+ghost use Rattle.std.specs.Prelude.{◌≡◌, [], ◌∷◌, ◌++◌, None, Some, codes};
+ghost use Rattle.capture_plan.specs.declared.frames.FramesMode.TheVariants.{Aligned as FramesAligned};
+ghost use Rattle.capture_plan.specs.declared.frames.FramesMode.TheVariants.{Bare as FramesBare};
+ghost use Rattle.capture_plan.specs.declared.packets.PacketsMode.TheVariants.{Aligned, Hunt};
+ghost use Rattle.trace_values.specs.declared.fault.Reason.TheVariants.{BadSync, SyncInFrame, ReservedHeader};
+ghost use Rattle.trace_values.specs.declared.fault.Reason.TheVariants.{BadItmSync, ShortStamp, StampSize};
+ghost use Rattle.trace_values.specs.Stream.{Kept};
+ghost use Rattle.itm_grammar.specs.declared.packet.ItmPacket.TheVariants.{Sync, Overflow, Software};
+ghost use Rattle.itm_grammar.specs.declared.packet.Size.TheVariants.{One, Four};
+ghost use Rattle.stp_grammar.specs.declared.item.StpItem.TheVariants.{Async};
+ghost use Rattle.source_events.specs.declared.event.What.TheVariants.{Locked, Packet, Trigger};
+ghost use Rattle.source_events.specs.declared.packet.Packet.TheVariants.{Itm, Stp};
+ghost use Rattle.source_events.specs.declared.plan.SourceKind.TheVariants.{Itm as ItmKind, Stp as StpKind};
+ghost use Rattle.source_events.specs.declared.port_mode.PortMode.TheVariants.{Bare, Locked as IsLocked};
+ghost use Rattle.stretch_readings.specs.declared.heard.Heard.TheVariants.{Read, Broken};
+ghost use Rattle.recovery_report.specs.Rows.{itm, raw, stp, row_of, said_at_next};
+
+/// A reserved header: the source hunts again from it on.
+pub fn reserved()
+    ensures { row_of (itm FramesBare Aligned) (codes "01 41 04 00 00 00 00 00 80 70") ≡ record {
+      events = (1, 0, Some 1, Packet (Read (Itm (Software 0 One 65))))
+          ∷ (2, 0, Some 1, Packet (Broken ReservedHeader)) ∷ (8, 0, Some 1, Locked 1)
+          ∷ (8, 0, Some 1, Packet (Read (Itm Sync))) ∷ (9, 0, Some 1, Packet (Read (Itm Overflow))) ∷ [];
+      end = record {
+        bytes = 10;
+        mode = Bare;
+        skipped = 0;
+        tail = 0;
+        unattributed = 0;
+        sources = record { id = 1; kind = ItmKind; mode = IsLocked; skipped = 1; tail = 0 } ∷ [];
+      };
+    } }
+{}
+
+/// A timestamp that ends too soon: its fault's byte begins the pattern.
+pub fn short_stamp()
+    ensures { row_of (itm FramesBare Aligned) (codes "B4 00 00 00 00 00 80") ≡ record {
+      events = (1, 0, Some 1, Packet (Broken ShortStamp)) ∷ (6, 0, Some 1, Locked 1)
+          ∷ (6, 0, Some 1, Packet (Read (Itm Sync))) ∷ [];
+      end = record {
+        bytes = 7;
+        mode = Bare;
+        skipped = 0;
+        tail = 0;
+        unattributed = 0;
+        sources = record { id = 1; kind = ItmKind; mode = IsLocked; skipped = 1; tail = 0 } ∷ [];
+      };
+    } }
+{}
+
+/// Five bytes 00 and 80, of which the first four are a payload: the fault is at the 80, and only from it on is the
+/// pattern hunted.
+pub fn fault_at_the_patterns_last_byte()
+    ensures { row_of (itm FramesBare Aligned) (codes "03 00 00 00 00 00 80 00 00 00 00 00 80 70") ≡ record {
+      events = (4, 0, Some 1, Packet (Read (Itm (Software 0 Four 0))))
+          ∷ (6, 0, Some 1, Packet (Broken BadItmSync)) ∷ (12, 0, Some 1, Locked 2)
+          ∷ (12, 0, Some 1, Packet (Read (Itm Sync))) ∷ (13, 0, Some 1, Packet (Read (Itm Overflow))) ∷ [];
+      end = record {
+        bytes = 14;
+        mode = Bare;
+        skipped = 0;
+        tail = 0;
+        unattributed = 0;
+        sources = record { id = 1; kind = ItmKind; mode = IsLocked; skipped = 2; tail = 0 } ∷ [];
+      };
+    } }
+{}
+
+/// A timestamp of the size F, in a high nibble: the hunt begins at that nibble. From it on there are twenty nibbles F
+/// and a 0, which is no ASYNC; with the payload before it they would be one.
+pub fn fault_in_a_high_nibble()
+    ensures { row_of stp (codes "D0 FF FF FF FF FF FF FF FF FF FF 0F " ++ codes "FF FF FF FF FF FF FF FF FF FF 0F")
+        ≡ record {
+          events = (1, 1, Some 1, Packet (Broken StampSize)) ∷ (22, 1, Some 1, Locked 23)
+              ∷ (22, 1, Some 1, Packet (Read (Stp Async))) ∷ [];
+          end = record {
+            bytes = 23;
+            mode = Bare;
+            skipped = 0;
+            tail = 0;
+            unattributed = 0;
+            sources = record { id = 1; kind = StpKind; mode = IsLocked; skipped = 23; tail = 0 } ∷ [];
+          };
+        } }
+{}
+
+/// A full synchronisation inside a frame: the port hunts again from its first byte on.
+pub fn sync_in_frame()
+    ensures { row_of (raw FramesAligned)
+        (codes "03 00 00 00 00 00 FF FF FF 7F " ++ codes "FB 07 01 00 00 00 00 00 00 00 00 00 00 00 00 00")
+        ≡ record {
+          events = (7, 0, None, Packet (Broken SyncInFrame)) ∷ (9, 0, None, Locked 6)
+              ∷ (11, 0, Some 125, Trigger 7) ∷ [];
+          end = record { bytes = 26; mode = IsLocked; skipped = 6; tail = 0; unattributed = 0; sources = [] };
+        } }
+{}
+
+/// Four FF: the fourth is a fault, and the last three begin a full synchronisation.
+pub fn four_ff()
+    ensures { row_of (raw FramesAligned) (codes "FF FF FF FF 7F") ≡ record {
+      events = (3, 0, None, Packet (Broken BadSync)) ∷ (4, 0, None, Locked 1) ∷ [];
+      end = record { bytes = 5; mode = IsLocked; skipped = 1; tail = 0; unattributed = 0; sources = [] };
+    } }
+{}
+
+/// A full synchronisation with another last byte, and then a whole one.
+pub fn other_last_byte()
+    ensures { row_of (raw FramesAligned) (codes "FF FF FF 00 FF FF FF 7F") ≡ record {
+      events = (3, 0, None, Packet (Broken BadSync)) ∷ (7, 0, None, Locked 4) ∷ [];
+      end = record { bytes = 8; mode = IsLocked; skipped = 4; tail = 0; unattributed = 0; sources = [] };
+    } }
+{}
+
+/// A fault of the port cuts the source inside a packet: the packet's bytes are skipped.
+pub fn cut_inside_a_packet()
+    ensures { row_of (itm FramesAligned Aligned) (codes "03 70 01 03 00 00 00 00 00 00 00 00 00 00 00 02 FF 00 "
+        ++ codes "FF FF FF 7F 03 00 00 00 00 00 80 01 01 41 00 00 00 00 00 10") ≡ record {
+          events = (1, 0, Some 1, Packet (Read (Itm Overflow))) ∷ (17, 0, None, Packet (Broken BadSync))
+              ∷ (21, 0, None, Locked 2) ∷ (28, 0, Some 1, Locked 0) ∷ (28, 0, Some 1, Packet (Read (Itm Sync)))
+              ∷ (31, 0, Some 1, Packet (Read (Itm (Software 0 One 65)))) ∷ [];
+          end = record {
+            bytes = 38;
+            mode = IsLocked;
+            skipped = 2;
+            tail = 0;
+            unattributed = 0;
+            sources = record { id = 1; kind = ItmKind; mode = IsLocked; skipped = 1; tail = 0 } ∷ [];
+          };
+        } }
+{}
+
+/// A fault of the port cuts the source in a hunt: what that hunt skipped counts, and the next one counts from 0.
+pub fn cut_in_a_hunt()
+    ensures { row_of (itm FramesAligned Hunt) (codes "03 70 01 03 00 00 00 00 00 00 00 00 00 00 00 02 FF 00 "
+        ++ codes "FF FF FF 7F 03 00 00 00 00 00 80 01 01 41 00 00 00 00 00 10") ≡ record {
+          events = (17, 0, None, Packet (Broken BadSync)) ∷ (21, 0, None, Locked 2) ∷ (28, 0, Some 1, Locked 0)
+              ∷ (28, 0, Some 1, Packet (Read (Itm Sync)))
+              ∷ (31, 0, Some 1, Packet (Read (Itm (Software 0 One 65)))) ∷ [];
+          end = record {
+            bytes = 38;
+            mode = IsLocked;
+            skipped = 2;
+            tail = 0;
+            unattributed = 0;
+            sources = record { id = 1; kind = ItmKind; mode = IsLocked; skipped = 2; tail = 0 } ∷ [];
+          };
+        } }
+{}
+
+/// Another way of going on is another resumption of the same definitions: here the byte after a fault begins a packet.
+pub fn read_on_at_the_next_byte()
+    ensures { said_at_next (codes "01 41 04 70") ≡ (
+      (Kept (Read (Itm (Software 0 One 65))), record { at = 1; half = 0 })
+          ∷ (Kept (Broken ReservedHeader), record { at = 2; half = 0 })
+          ∷ (Kept (Read (Itm Overflow)), record { at = 3; half = 0 }) ∷ [],
+      1,
+    ) }
+{}

@@ -1,0 +1,4 @@
+pub mod Lines
+pub mod Failing
+pub mod Slips
+pub mod Following

@@ -1,0 +1,63 @@
+-- What a decoder takes of a byte, as the machine of its source.
+use Rattle.std.proofs.Common.{◌≡◌, ℕ, List, [], ◌∷◌, ◌++◌, refl, sym, ◌∙◌, ap, subst, append-nil, None}
+use Rattle.trace_values.specs.Placed.{Placed, byte_at}
+use Rattle.trace_values.specs.Stream.{Grows}
+use Rattle.trace_values.specs.declared.step.Step.{Step}
+use Rattle.trace_values.specs.declared.step.Step.TheVariants.{Quiet, Skipping, Item, Locked, Fault as Faulty}
+use Rattle.itm_grammar.specs.declared.packet.ItmPacket.{ItmPacket}
+use Rattle.itm_codec.specs.Reading.{packets_in}
+use Rattle.itm_codec.specs.Decoder as itm
+use Rattle.itm_codec.specs.declared.decoder.ItmDecoder.{ItmDecoder}
+use Rattle.stp_grammar.specs.declared.item.StpItem.{StpItem}
+use Rattle.stp_codec.specs.Reading.{items_at}
+use Rattle.stp_codec.specs.Decoder as stp
+use Rattle.stp_codec.specs.Nibbles.{TakesNibbles, taken_by, before_by}
+use Rattle.stp_codec.specs.declared.decoder.StpDecoder.{StpDecoder}
+use Rattle.source_events.specs.declared.packet.Packet.{Packet}
+use Rattle.source_events.specs.declared.packet.Packet.TheVariants.{Itm as ItmOf, Stp as StpOf}
+use Rattle.source_events.specs.Packets.{stream_as}
+use Rattle.source_machine.specs.Seen.{step_as}
+use Rattle.source_machine.specs.SeenLaws.{grows_as}
+use Rattle.source_machine.specs.Units.{TakesUnits}
+use Rattle.source_machine.specs.declared.machine.SourceMachine.TheVariants.{Itm, Stp}
+
+pub itm_takes : (d e : ItmDecoder) (n : List Placed) (at byte : ℕ) (s : Step ItmPacket) (t : Step Packet) →
+    t ≡ step_as ItmOf s →
+    itm.Stands e (n ++ byte_at at byte ∷ []) →
+    Grows (packets_in (itm.is_hunter d) n) (packets_in (itm.is_hunter d) (n ++ byte_at at byte ∷ [])) at s →
+    (packets_in (itm.is_hunter d) n).fault ≡ None → TakesUnits (Itm d) (Itm e) n at byte t
+itm_takes d e n at byte s t is list g f = record {
+  list = list;
+  grows = subst (λ x. Grows (stream_as ItmOf (packets_in (itm.is_hunter d) n))
+      (stream_as ItmOf (packets_in (itm.is_hunter d) (n ++ byte_at at byte ∷ []))) at x) (sym is)
+      (grows_as ItmOf (packets_in (itm.is_hunter d) n)
+      (packets_in (itm.is_hunter d) (n ++ byte_at at byte ∷ [])) at s g);
+  sound = ap (λ w. (packets_in (itm.is_hunter d) w).fault) (append-nil n) ∙ f;
+}
+
+same_taken : (at byte : ℕ) (s : Step StpItem) → taken_by at byte (step_as StpOf s) ≡ taken_by at byte s
+same_taken at byte Quiet = refl
+same_taken at byte Skipping = refl
+same_taken at byte (Item half v) = refl
+same_taken at byte (Locked skipped half v) = refl
+same_taken at byte (Faulty f) = refl
+
+same_before : (at byte : ℕ) (s : Step StpItem) → before_by at byte (step_as StpOf s) ≡ before_by at byte s
+same_before at byte Quiet = refl
+same_before at byte Skipping = refl
+same_before at byte (Item half v) = refl
+same_before at byte (Locked skipped half v) = refl
+same_before at byte (Faulty f) = refl
+
+pub stp_takes : (d e : StpDecoder) (n : List Placed) (at byte : ℕ) (s : Step StpItem) (t : Step Packet) →
+    t ≡ step_as StpOf s → TakesNibbles d e n at byte s → TakesUnits (Stp d) (Stp e) n at byte t
+stp_takes d e n at byte s t is k = subst (λ x. TakesUnits (Stp d) (Stp e) n at byte x) (sym is) (record {
+  list = subst (λ w. stp.StandsAt e (n ++ w)) (sym (same_taken at byte s)) k.list;
+  grows = subst (λ w. Grows (stream_as StpOf (items_at (stp.order_of d) (stp.is_hunter d) n))
+      (stream_as StpOf (items_at (stp.order_of d) (stp.is_hunter d) (n ++ w))) at (step_as StpOf s))
+      (sym (same_taken at byte s))
+      (grows_as StpOf (items_at (stp.order_of d) (stp.is_hunter d) n)
+      (items_at (stp.order_of d) (stp.is_hunter d) (n ++ taken_by at byte s)) at s k.grows);
+  sound = subst (λ w. (items_at (stp.order_of d) (stp.is_hunter d) (n ++ w)).fault ≡ None)
+      (sym (same_before at byte s)) k.sound;
+})

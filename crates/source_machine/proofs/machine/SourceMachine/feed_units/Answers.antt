@@ -1,0 +1,56 @@
+use Rattle.std.proofs.Common.{ap, subst, sym, ◌∙◌, List, [], ◌∷◌, ◌++◌, append-nil, Bool}
+use Rattle.trace_values.specs.Placed.{Placed, byte_at}
+use Rattle.trace_values.specs.Stream.{Stream, Grows}
+use Rattle.itm_grammar.specs.declared.packet.ItmPacket.{ItmPacket}
+use Rattle.itm_codec.specs.Reading.{packets_in}
+use Rattle.itm_codec.specs.Decoder.{is_hunter}
+use Rattle.stp_grammar.specs.declared.item.StpItem.{StpItem}
+use Rattle.stp_grammar.specs.declared.packet.Order.{Order}
+use Rattle.stp_codec.specs.Reading.{items_at}
+use Rattle.stp_codec.specs.Decoder.{order_of, is_hunter as is_stp_hunter}
+use Rattle.source_events.specs.declared.packet.Packet.TheVariants.{Itm, Stp}
+use Rattle.source_events.specs.Packets.{stream_as}
+use Rattle.source_machine.specs.declared.machine.SourceMachine.{SourceMachine}
+use Rattle.source_machine.specs.declared.machine.SourceMachine.TheVariants.{Itm as ItmMachine, Stp as StpMachine}
+use Rattle.source_machine.specs.Units.{reading_on, reads_on, StandsOn, TakesUnits, kind_of}
+use Rattle.source_machine.specs.UnitLaws.{shows_units}
+use Rattle.source_machine.proofs.UnitTaking.{itm_takes, stp_takes}
+use Rattle.source_machine.proofs.machine.SourceMachine.feed_units.Goals as goal
+
+pub returns-in-Itm-clause-mode : goal.returns-in-Itm-clause-mode
+returns-in-Itm-clause-mode c =
+    ap (λ (r : List Placed → Stream ItmPacket). λ (u : List Placed). stream_as Itm (r u)) c.feed.ensures.same
+    ∙ ap reading_on (sym c.in-Itm.is)
+
+pub returns-in-Stp-clause-mode : goal.returns-in-Stp-clause-mode
+returns-in-Stp-clause-mode c =
+    ap (λ (o : Order). λ (u : List Placed). stream_as Stp (items_at o (is_stp_hunter c.feed_nibbles.new.self) u))
+    c.feed_nibbles.ensures.same.0
+    ∙ ap (λ (h : Bool). λ (u : List Placed). stream_as Stp (items_at c.in-Stp.decoder.order h u))
+    c.feed_nibbles.ensures.same.1
+    ∙ ap reading_on (sym c.in-Stp.is)
+
+pub returns-in-Stp-clause-reads : goal.returns-in-Stp-clause-reads
+returns-in-Stp-clause-reads c =
+    ap (λ (o : Order). λ (h : Bool). λ (u : List Placed). stream_as Stp (items_at o h u)) c.feed_nibbles.ensures.same.0
+    ∙ ap reads_on (sym c.in-Stp.is)
+
+pub returns-in-Itm-clause-takes : goal.returns-in-Itm-clause-takes
+returns-in-Itm-clause-takes c = λ n s.
+    let t = subst (λ (m : SourceMachine). StandsOn m n) c.in-Itm.is s in
+    subst (λ (m : SourceMachine). TakesUnits m (ItmMachine c.feed.new.self) n c.args.at c.args.byte c.itm_step.result)
+    (sym c.in-Itm.is)
+    (itm_takes c.in-Itm.decoder c.feed.new.self n c.args.at c.args.byte c.feed.result
+    c.itm_step.result c.itm_step.ensures
+    (c.feed.ensures.list n t) (c.feed.ensures.step n t)
+    (ap (λ (r : List Placed → Stream _). (r n).fault) (ap reading_on (sym c.in-Itm.is))
+    ∙ (shows_units c.args.self.now n s c.requires.live).0))
+
+pub returns-in-Stp-clause-takes : goal.returns-in-Stp-clause-takes
+returns-in-Stp-clause-takes c = λ n s.
+    let t = subst (λ (m : SourceMachine). StandsOn m n) c.in-Stp.is s in
+    subst (λ (m : SourceMachine). TakesUnits m
+    (StpMachine c.feed_nibbles.new.self) n c.args.at c.args.byte c.stp_step.result) (sym c.in-Stp.is)
+    (stp_takes c.in-Stp.decoder c.feed_nibbles.new.self n c.args.at c.args.byte c.feed_nibbles.result
+    c.stp_step.result c.stp_step.ensures
+    (c.feed_nibbles.ensures.takes n t))

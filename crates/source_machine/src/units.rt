@@ -1,0 +1,79 @@
+//! The machine of a source over its units: the bytes of an ITM source, the nibbles of an STP source. A list of them may
+//! begin in the middle of a byte.
+
+ghost use Rattle.std.specs.Prelude.{◌≡◌, ◌+◌, ◌≤◌, List, [], true};
+ghost use Rattle.source_events.specs.Fitting.{PacketFits};
+ghost use Rattle.source_machine.specs.Machine.{held_of, is_live, skipped_by};
+ghost use Rattle.source_machine.specs.Units.{StandsOn, TakesUnits, kind_of, reading_on, reads_on, units_from};
+ghost use Rattle.trace_values.specs.Placed.{Placed};
+ghost use Rattle.trace_values.specs.Stream.{LocksAfter, StepFits, goes_on};
+ghost use Rattle.trace_values.specs.declared.limits.TheConstants.{COUNT_ROOM};
+
+use crate::machine::{SourceMachine, itm_step, stp_step};
+use itm_codec::ItmDecoder;
+use source_events::Packet;
+use stp_codec::StpDecoder;
+use trace_values::{Machine, Step};
+
+impl SourceMachine {
+    /// Takes the next byte as `feed` does, after units that may begin in the middle of a byte. After a fault it stands
+    /// for the units up to the fault's.
+    pub fn feed_units(&mut self, at: u64, byte: u8) -> Step<Packet>
+        requires live { is_live self.old ≡ true }
+        requires room { held_of self.old ≤ COUNT_ROOM }
+        requires count { skipped_by self.old ≤ COUNT_ROOM }
+        ensures kind { kind_of self.new ≡ kind_of self.old }
+        ensures reads { reads_on self.new ≡ reads_on self.old }
+        ensures mode { reading_on self.new ≡ reading_on self.old }
+        ensures takes { (n : List Placed) → StandsOn self.old n → TakesUnits self.old self.new n at byte result }
+        ensures live { is_live self.new ≡ goes_on result }
+        ensures lock { LocksAfter (skipped_by self.new) result }
+        ensures fits { StepFits PacketFits result }
+        ensures few { held_of self.new + skipped_by self.new ≤ held_of self.old + skipped_by self.old + 2 }
+    {
+        match self {
+            SourceMachine::Itm(decoder) => itm_step(decoder.feed(at, byte)),
+            SourceMachine::Stp(decoder) => stp_step(decoder.feed_nibbles(at, byte)),
+        }
+    }
+
+    /// One of the same source that hunts, before its first unit.
+    pub fn hunting_again(&self) -> SourceMachine
+        ensures kind { kind_of result ≡ kind_of self.now }
+        ensures reads { reads_on result ≡ reads_on self.now }
+        ensures mode { reading_on result ≡ reads_on result true }
+        ensures list { StandsOn result [] }
+        ensures live { is_live result ≡ true }
+        ensures few { held_of result + skipped_by result ≤ 0 }
+    {
+        match self {
+            SourceMachine::Itm(_) => SourceMachine::Itm(ItmDecoder::hunting()),
+            SourceMachine::Stp(decoder) => SourceMachine::Stp(StpDecoder::hunting(decoder.order())),
+        }
+    }
+
+    /// One of the same source that hunts, and has taken the units of the byte at this offset from this half on. Those
+    /// of an ITM source are whole bytes, whatever the half.
+    pub fn hunting_from(&self, at: u64, half: u8, byte: u8) -> SourceMachine
+        ensures kind { kind_of result ≡ kind_of self.now }
+        ensures reads { reads_on result ≡ reads_on self.now }
+        ensures mode { reading_on result ≡ reads_on result true }
+        ensures list { StandsOn result (units_from (kind_of self.now) half at byte) }
+        ensures live { is_live result ≡ true }
+        ensures few { held_of result + skipped_by result ≤ 2 }
+    {
+        match self {
+            SourceMachine::Itm(_) => {
+                let mut decoder = ItmDecoder::hunting();
+                decoder.feed(at, byte);
+                SourceMachine::Itm(decoder)
+            }
+            SourceMachine::Stp(decoder) => SourceMachine::Stp(StpDecoder::hunting_from(
+                decoder.order(),
+                at,
+                half,
+                byte,
+            )),
+        }
+    }
+}

@@ -1,0 +1,3 @@
+pub mod Stretches
+pub mod Steps
+pub mod Words

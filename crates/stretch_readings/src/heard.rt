@@ -1,0 +1,12 @@
+//! What a recovering source says.
+
+use trace_values::Reason;
+
+/// What a recovering source says beside its notices of locks.
+#[derive(Debug, Drop)]
+pub enum Heard<T> {
+    /// An item.
+    Read(T),
+    /// A fault of the source, or of the port.
+    Broken(Reason),
+}
