@@ -16,12 +16,12 @@ pub fn overwritten()
 
 /// Twenty bytes in a buffer of thirty-two, of which twelve stay 00.
 pub fn room_left()
-    ensures image { image 32 (hex (codes "FF FF FF 7F 03 00 00 00 00 00 80 01 01 41 00 00 00 00 00 10"))
-        ≡ hex (codes "FF FF FF 7F 03 00 00 00 00 00 80 01 01 41 00 00 00 00 00 10 00 00 00 00 00 00 00 00 00 00 00 00") }
+    ensures image { image 32 (hex (codes "FF FF FF 7F 03 00 00 00 00 00 80 01 01 41 00 00 00 00 00 10")) ≡ hex
+        (codes "FF FF FF 7F 03 00 00 00 00 00 80 01 01 41 00 00 00 00 00 10 00 00 00 00 00 00 00 00 00 00 00 00") }
     ensures numbers { let u = hex (codes "FF FF FF 7F 03 00 00 00 00 00 80 01 01 41 00 00 00 00 00 10") in
         (pointer 32 u ≡ 20) × (is_full 32 u ≡ false) × (dropped 32 u ≡ 0) }
-    ensures ordered { ordered
-        (hex (codes "FF FF FF 7F 03 00 00 00 00 00 80 01 01 41 00 00 00 00 00 10 00 00 00 00 00 00 00 00 00 00 00 00")) 20
+    ensures ordered { ordered (hex
+        (codes "FF FF FF 7F 03 00 00 00 00 00 80 01 01 41 00 00 00 00 00 10 00 00 00 00 00 00 00 00 00 00 00 00")) 20
         false ≡ hex (codes "FF FF FF 7F 03 00 00 00 00 00 80 01 01 41 00 00 00 00 00 10") }
 {}
 

@@ -279,8 +279,8 @@ impl Lister {
         );
     }
 
-    /// The lines of ITM packets of this source are put from the packets' parts: all events are listed, and it sends no STP
-    /// packets.
+    /// The lines of ITM packets of this source are put from the packets' parts: all events are listed, and it sends no
+    /// STP packets.
     #[inline(always)]
     fn lists_itm(&self, source: SourceId) -> bool
         ensures { IsTrue result ↔ ListsItm self.now source }
@@ -296,8 +296,8 @@ impl Lister {
         self.filter.lists_all() && self.plan.sends_stp(source)
     }
 
-    /// Takes the next packet of this source, and puts its line from the packet's parts: the event itself goes nowhere, so
-    /// that it need not be in memory.
+    /// Takes the next packet of this source, and puts its line from the packet's parts: the event itself goes nowhere,
+    /// so that it need not be in memory.
     #[inline(always)]
     fn put_own_itm(&mut self, outlet: &mut Outlet, at: u64, source: SourceId, packet: ItmPacket)
         requires proper { IsProper packet }
