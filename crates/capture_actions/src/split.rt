@@ -11,7 +11,7 @@ use crate::port::{CapturePort, flow_after};
 use crate::split_plan::SplitPlan;
 use arrayvec::ArrayVec;
 use frame_grammar::frame::FRAME_BYTES;
-use frame_grammar::gather::gather_frame;
+use frame_grammar::gather::gather_frame_at;
 use frame_grammar::plain::plain_frame;
 use frame_grammar::source_bytes::copy_source_bytes;
 use trace_stream::{Action, Flow, Outlet, Taken};
@@ -177,7 +177,7 @@ impl Action for Split {
             if let Some(frame) = plain_frame(piece) {
                 return self.feed_frame(frame, 0, outlet);
             }
-            if let Some(gathered) = gather_frame(piece) {
+            if let Some(gathered) = gather_frame_at(0, piece) {
                 return self.feed_frame(&gathered.bytes, gathered.halves, outlet);
             }
         }

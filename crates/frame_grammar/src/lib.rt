@@ -6,7 +6,6 @@
 pub mod frame;
 pub mod gather;
 pub mod laws;
-pub mod placed;
 pub mod plain;
 pub mod rows;
 pub mod source_bytes;

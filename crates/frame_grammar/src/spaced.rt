@@ -10,7 +10,7 @@ ghost use Rattle.frame_grammar.specs.declared.frame.TheConstants.{FRAME_BYTES};
 ghost use Rattle.frame_grammar.specs.declared.spaced.TheConstants.{GAPS, SPACED_BYTES};
 
 use crate::frame::FRAME_BYTES;
-use crate::placed::PlacedFrame;
+use crate::gather::PlacedFrame;
 use crate::words::is_spaced_word;
 
 /// How many gaps are between the halfwords of a frame.

@@ -3,8 +3,7 @@
 use crate::same::same;
 use arrayvec::ArrayVec;
 use frame_grammar::frame::{FRAME_BYTES, cells_of};
-use frame_grammar::gather::gather_frame;
-use frame_grammar::placed::gather_frame_at;
+use frame_grammar::gather::gather_frame_at;
 use frame_grammar::plain::plain_frame;
 use frame_grammar::source_bytes::{NO_ID, copy_source_bytes};
 use std::process::Abort;
@@ -189,7 +188,7 @@ fn gathers_a_frame(rt: HostRuntime) {
         (b"\xffBCDEFGHIJKLMNOP", None),
     ];
     for (piece, halves) in rows {
-        let gathered = gather_frame(piece);
+        let gathered = gather_frame_at(0, piece);
         same(&rt, &piece, &gathered.map(|g| g.halves), &halves);
         same(
             &rt,
@@ -210,7 +209,7 @@ fn gathers_a_frame(rt: HostRuntime) {
 fn keeps_any_second_byte(rt: HostRuntime) {
     let piece = b"\x01\xff\xfe\x7f\xff\x7f\x7f\xff\0\xff\x02\xff\xff\x7f\x03\x7f\x04\xff\xfd\xff";
     let frame = *b"\x01\xff\xfe\x7f\x7f\xff\0\xff\x02\xff\x03\x7f\x04\xff\xfd\xff";
-    let gathered = gather_frame(piece);
+    let gathered = gather_frame_at(0, piece);
     same(
         &rt,
         &"gathered.map(|g| g.bytes)",
@@ -230,19 +229,19 @@ fn places_a_frame(rt: HostRuntime) {
     // The half synchronisations are at 44 and 52.
     let piece = b"\x01\xff\xfe\x7f\xff\x7f\x7f\xff\0\xff\x02\xff\xff\x7f\x03\x7f\x04\xff\xfd\xff";
     let behind = [0, 1, 2, 3, 6, 7, 8, 9, 10, 11, 14, 15, 16, 17, 18, 19];
-    let gathered = gather_frame(piece);
+    let frame = *b"\x01\xff\xfe\x7f\x7f\xff\0\xff\x02\xff\x03\x7f\x04\xff\xfd\xff";
     let placed = gather_frame_at(40, piece);
     same(
         &rt,
         &"placed.map(|p| p.bytes)",
         &placed.map(|p| p.bytes),
-        &gathered.map(|g| g.bytes),
+        &Some(frame),
     );
     same(
         &rt,
         &"placed.map(|p| p.halves)",
         &placed.map(|p| p.halves),
-        &gathered.map(|g| g.halves),
+        &Some(2),
     );
     same(
         &rt,
@@ -295,12 +294,6 @@ fn places_no_frame_of_more_than_256_bytes(rt: HostRuntime) {
     for word in 0..129 {
         piece[2 * word] = if word == 0 || word > 121 { 0x11 } else { 0xff };
     }
-    same(
-        &rt,
-        &"gather_frame(&piece).map(|g| g.halves)",
-        &gather_frame(&piece).map(|g| g.halves),
-        &Some(121),
-    );
     same(
         &rt,
         &"gather_frame_at(40, &piece)",

@@ -4,7 +4,7 @@ use Rattle.trace_values.specs.Placed.{placed_from}
 use Rattle.frame_grammar.specs.Placing.{places_of}
 use Rattle.frame_grammar.specs.Reading.{offsets_of}
 use Rattle.frame_grammar.specs.Whole.{IsWhole, without_halves}
-use Rattle.frame_grammar.specs.declared.placed.PlacedFrame.{PlacedFrame}
+use Rattle.frame_grammar.specs.declared.gather.PlacedFrame.{PlacedFrame}
 
 -- the offsets of its bytes
 abbrev pub frame_places : PlacedFrame → List ℕ

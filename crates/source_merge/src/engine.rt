@@ -27,8 +27,7 @@ use crate::tails::source_tails;
 use arrayvec::ArrayVec;
 use capture_plan::FramesMode;
 use frame_grammar::frame::FRAME_BYTES;
-use frame_grammar::gather::gather_frame;
-use frame_grammar::placed::PlacedFrame;
+use frame_grammar::gather::{PlacedFrame, gather_frame_at};
 use frame_grammar::plain::plain_frame;
 use port_reader::{PortReader, PortStep};
 use source_counts::Counts;
@@ -532,7 +531,7 @@ impl Engine {
             self.count_whole(at, frame, 0);
             return Some(FRAME_BYTES);
         }
-        match gather_frame(piece) {
+        match gather_frame_at(at, piece) {
             Some(gathered) => {
                 self.count_whole(at, &gathered.bytes, gathered.halves);
                 Some(gathered.size())

@@ -8,7 +8,7 @@ ghost use Rattle.frame_grammar.specs.declared.frame.TheConstants.{FRAME_BYTES};
 ghost use Rattle.source_merge.specs.Gathered.{frame_places};
 
 use frame_grammar::frame::FRAME_BYTES;
-use frame_grammar::placed::{PlacedFrame, gather_frame_at};
+use frame_grammar::gather::{PlacedFrame, gather_frame_at};
 use frame_grammar::plain::plain_frame;
 
 /// How far behind the first byte of a frame each of its bytes is, where no half synchronisation is between them.

@@ -14,7 +14,7 @@ use crate::router::take_run;
 use crate::run::{ROOM, Run};
 use crate::slot::Slot;
 use frame_grammar::frame::FRAME_BYTES;
-use frame_grammar::placed::PlacedFrame;
+use frame_grammar::gather::PlacedFrame;
 use source_events::Stop;
 use source_machine::SourceMachine;
 use trace_values::{Cell, SourceId};

@@ -28,7 +28,7 @@ use crate::named::after_frame;
 use crate::receiver::Receiver;
 use crate::slot::{Slot, give};
 use crate::split::SplitFrame;
-use frame_grammar::placed::PlacedFrame;
+use frame_grammar::gather::PlacedFrame;
 use port_reader::PortStep;
 use source_events::{Event, Packet, Stop, What};
 use source_machine::SourceMachine;

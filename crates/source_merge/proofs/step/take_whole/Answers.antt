@@ -2,7 +2,7 @@ use Rattle.std.proofs.Common.{◌≡◌, List, sym, ◌∙◌, ap, subst, ℕ, O
 use Rattle.trace_values.specs.declared.cell.Cell.{Cell}
 use Rattle.deformatter.specs.declared.step.PortStep.TheVariants.{Frame}
 use Rattle.frame_grammar.specs.Frame.{cells}
-use Rattle.frame_grammar.specs.declared.placed.PlacedFrame.{PlacedFrame}
+use Rattle.frame_grammar.specs.declared.gather.PlacedFrame.{PlacedFrame}
 use Rattle.frame_grammar.proofs.CellLaws.{few_cells}
 use Rattle.port_reader.specs.Growth.{Answers}
 use Rattle.source_merge.specs.Gathered.{frame_places}

@@ -13,10 +13,10 @@ returns-in-Some-clause-fed c = λ seen s.
     subst (λ (t : Taken). HasTaken (Stands c.feed_frame.new.self) (split_meaning plan) (record { seen = seen; front = take t.bytes piece; before = c.args.outlet.now; after = c.feed_frame.new.outlet }) t.flow) (sym c.feed_frame.ensures.taken)
     (c.feed_frame.ensures.fed seen (take 16 piece) s (plain_whole piece c.in-Some.frame.now c.in-Some.ensures.bytes c.in-Some.ensures.room c.in-Some.ensures.proper))
 
-pub returns-in-Some-gather_frame-clause-fed : goal.returns-in-Some-gather_frame-clause-fed
-returns-in-Some-gather_frame-clause-fed c = λ seen s.
+pub returns-in-Some-gather_frame_at-clause-fed : goal.returns-in-Some-gather_frame_at-clause-fed
+returns-in-Some-gather_frame_at-clause-fed c = λ seen s.
     let plan = plan_of c.args.self.now in
     let piece = c.args.piece.now in
-    let halves = c.in-Some-gather_frame.gathered.halves in
-    subst (λ (t : Taken). HasTaken (Stands c.feed_frame-in-Some-gather_frame.new.self) (split_meaning plan) (record { seen = seen; front = take t.bytes piece; before = c.args.outlet.now; after = c.feed_frame-in-Some-gather_frame.new.outlet }) t.flow) (sym c.feed_frame-in-Some-gather_frame.ensures.taken)
-    (c.feed_frame-in-Some-gather_frame.ensures.fed seen (take (16 + 2 * halves) piece) s c.in-Some-gather_frame.ensures.whole)
+    let halves = c.in-Some-gather_frame_at.gathered.halves in
+    subst (λ (t : Taken). HasTaken (Stands c.feed_frame-in-Some-gather_frame_at.new.self) (split_meaning plan) (record { seen = seen; front = take t.bytes piece; before = c.args.outlet.now; after = c.feed_frame-in-Some-gather_frame_at.new.outlet }) t.flow) (sym c.feed_frame-in-Some-gather_frame_at.ensures.taken)
+    (c.feed_frame-in-Some-gather_frame_at.ensures.fed seen (take (16 + 2 * halves) piece) s c.in-Some-gather_frame_at.ensures.whole)

@@ -1,8 +1,10 @@
-use Rattle.std.proofs.Common.{◌≡◌, ◌≤◌, List, ℕ, length, take, ◌∙◌, ap, subst}
+use Rattle.std.proofs.Common.{◌≡◌, ◌≤◌, List, ℕ, ◌++◌, length, take, sym, ◌∙◌, ap, subst}
 use Rattle.std.proofs.lemmas.List.{length-take-le}
+use Rattle.trace_values.specs.Placed.{placed_from}
 use Rattle.frame_grammar.specs.Frame.{IsProperFrame}
 use Rattle.frame_grammar.specs.Whole.{IsWhole}
 use Rattle.frame_grammar.proofs.Wholes.{plain_is_whole}
+use Rattle.source_merge.specs.Engine.{Stands}
 use Rattle.source_merge.proofs.engine.Engine.count_frame.Goals as goal
 
 plain_whole : (piece frame : List ℕ) → frame ≡ take 16 piece → 16 ≤ length piece → IsProperFrame frame → IsWhole (take 16 piece) frame 0
@@ -13,3 +15,10 @@ pub returns-in-Some-clause-list : goal.returns-in-Some-clause-list
 returns-in-Some-clause-list c = λ u h.
     c.count_whole.ensures.list u (take 16 c.args.piece.now) h
     (plain_whole c.args.piece.now c.in-Some.frame.now c.in-Some.ensures.bytes c.in-Some.ensures.room c.in-Some.ensures.proper)
+
+pub returns-in-Some-gather_frame_at-clause-list : goal.returns-in-Some-gather_frame_at-clause-list
+returns-in-Some-gather_frame_at-clause-list c = λ u h.
+    subst
+    (λ (n : ℕ). Stands c.count_whole-in-Some-gather_frame_at.new.self (u ++ placed_from c.args.at (take n c.args.piece.now)))
+    (sym c.size.ensures)
+    (c.count_whole-in-Some-gather_frame_at.ensures.list u _ h c.in-Some-gather_frame_at.ensures.whole)

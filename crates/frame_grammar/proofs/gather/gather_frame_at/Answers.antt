@@ -1,7 +1,7 @@
 use Rattle.std.proofs.Common.{◌≡◌, ◌≤◌, ℕ, List, length, take, arith, sym, subst}
 use Rattle.std.proofs.lemmas.List.{take-take, length-take-le}
 use Rattle.frame_grammar.specs.Whole.{IsWhole}
-use Rattle.frame_grammar.proofs.placed.gather_frame_at.Goals as goal
+use Rattle.frame_grammar.proofs.gather.gather_frame_at.Goals as goal
 
 pub returns-clause-only : goal.returns-clause-only
 returns-clause-only c = λ e n halves frame few l whole.
