@@ -1,5 +1,6 @@
 -- How the reading of a capture's port grows with one more byte.
-use Rattle.std.proofs.Common.{◌≡◌, ℕ, ◌+◌, ◌≤◌, take, List, [], ◌∷◌, ◌++◌, length, refl, sym, ◌∙◌, ap, subst, arith, append_assoc, append-nil, length-append, Option, Some, None, true}
+use Rattle.std.proofs.Common.{◌≡◌, ℕ, ◌+◌, ◌≤◌, take, List, [], ◌∷◌, ◌++◌, length, refl, sym, ◌∙◌, ap, subst, arith}
+use Rattle.std.proofs.Common.{append_assoc, append-nil, length-append, Option, Some, None, true}
 use Rattle.std.specs.Prelude.{is_none, option_map}
 use Rattle.std.specs.List.{flat_map}
 use Rattle.std.proofs.lemmas.List.Concat.{flat_map-append}
@@ -16,15 +17,15 @@ use Rattle.frame_grammar.proofs.Wholes.{plain_is_whole}
 use Rattle.std.proofs.lemmas.List.{length-take-le}
 use Rattle.deformatter.specs.declared.step.PortStep.{PortStep}
 use Rattle.deformatter.specs.declared.step.PortStep.TheVariants.{Quiet, Half, Full, Frame, Locked, Fault as Faulty}
-use Rattle.port_reader.specs.Reading.{PortReading, port_reading, cells_of}
-use Rattle.port_reader.specs.Growth.{Grows, GrowsByFrame, Answers, frames_by, CellsFit}
+use Rattle.deformatter.specs.PortReading.{PortReading, port_reading, cells_of}
+use Rattle.deformatter.specs.ReadingGrowth.{Grows, GrowsByFrame, Answers, frames_by, CellsFit}
 use Rattle.deformatter.specs.Block.{EachByte, FedAs}
 use Rattle.deformatter.specs.Growth.{fault_by}
 use Rattle.trace_stream.specs.Taken.{FlowAfter}
 use Rattle.capture_actions.specs.Flows.{flow_by}
-use Rattle.port_reader.proofs.ReadingLaws.{frames_have_runs}
-use Rattle.port_reader.specs.Runs.{HaveRuns}
-use Rattle.port_reader.proofs.RunLaws.{last_has_runs}
+use Rattle.deformatter.proofs.PortReadingLaws.{frames_have_runs}
+use Rattle.deformatter.specs.Runs.{HaveRuns}
+use Rattle.deformatter.proofs.RunLaws.{last_has_runs}
 use Rattle.frame_grammar.proofs.Runs.{none_has_runs}
 use Rattle.trace_text.specs.FaultText.{told}
 use Rattle.capture_actions.specs.Port.{port_of, IsPortFaulty}

@@ -2,8 +2,8 @@
 use Rattle.std.specs.Prelude.{◌≡◌, ℕ, List, length, true, option_map, Option}
 use Rattle.trace_values.specs.Placed.{placed}
 use Rattle.capture_plan.specs.declared.frames.FramesMode.{FramesMode}
-use Rattle.port_reader.specs.Reader as reader
-use Rattle.port_reader.specs.Reader.{is_live, mode_of}
+use Rattle.deformatter.specs.Reader as reader
+use Rattle.deformatter.specs.Reader.{is_live, mode_of}
 use Rattle.trace_text.specs.FaultText.{told}
 use Rattle.capture_actions.specs.Port.{port_of}
 use Rattle.capture_actions.specs.declared.port.CapturePort.{CapturePort}

@@ -2,7 +2,7 @@
 use Rattle.std.specs.Prelude.{◌≡◌, ℕ, List, is_none, false}
 use Rattle.trace_values.specs.Placed.{placed}
 use Rattle.capture_plan.specs.declared.frames.FramesMode.{FramesMode}
-use Rattle.port_reader.specs.Reading.{PortReading, port_reading}
+use Rattle.deformatter.specs.PortReading.{PortReading, port_reading}
 
 -- what the bytes of a capture read as at the port
 abbrev pub port_of : FramesMode → List ℕ → PortReading

@@ -7,8 +7,8 @@ use Rattle.frame_grammar.specs.Reading.{offsets_of}
 use Rattle.frame_grammar.specs.Whole.{without_halves}
 use Rattle.deformatter.specs.declared.step.PortStep.{PortStep}
 use Rattle.deformatter.specs.Growth.{fulls_by, halves_by, fault_by}
-use Rattle.port_reader.specs.Reading.{PortReading}
-use Rattle.port_reader.specs.Growth.{frames_by, CellsFit}
+use Rattle.deformatter.specs.PortReading.{PortReading}
+use Rattle.deformatter.specs.ReadingGrowth.{frames_by, CellsFit}
 
 -- With some bytes the reading grew from old to new by what the step of the last one says, since all before it were
 -- quiet.

@@ -6,9 +6,9 @@ use Rattle.trace_values.specs.declared.fault.Reason.{Reason}
 use Rattle.trace_values.specs.Placed.{Place, Placed, placed, placed_from}
 use Rattle.trace_values.proofs.Placing.{placed_append}
 use Rattle.capture_plan.specs.declared.frames.FramesMode.{FramesMode}
-use Rattle.port_reader.specs.Reading.{port_reading, cells_of}
-use Rattle.port_reader.specs.Growth.{Settled}
-use Rattle.port_reader.proofs.ReadingLaws.{none_read, settles, cells_grow}
+use Rattle.deformatter.specs.PortReading.{port_reading, cells_of}
+use Rattle.deformatter.specs.ReadingGrowth.{Settled}
+use Rattle.deformatter.proofs.PortReadingLaws.{none_read, settles, cells_grow}
 use Rattle.capture_actions.specs.Port.{port_of, IsPortFaulty}
 
 pub none_at_first : (mode : FramesMode) → IsPortFaulty mode [] → ⊥

@@ -7,8 +7,8 @@ use Rattle.std.proofs.lemmas.List.Elements.{filter-append}
 use Rattle.trace_stream.specs.Written.{GrowsOnly}
 use Rattle.trace_values.specs.declared.cell.Cell.{Cell}
 use Rattle.frame_grammar.specs.Reading.{is_source, source_list}
-use Rattle.port_reader.specs.Reading.{cells_of}
-use Rattle.port_reader.proofs.ReadingLaws.{none_read}
+use Rattle.deformatter.specs.PortReading.{cells_of}
+use Rattle.deformatter.proofs.PortReadingLaws.{none_read}
 use Rattle.capture_actions.specs.Port.{port_of}
 use Rattle.capture_actions.specs.PortLaws as port
 use Rattle.capture_actions.specs.declared.split_plan.SplitPlan.{SplitPlan}

@@ -6,8 +6,8 @@ ghost use Rattle.frame_grammar.specs.Frame.{id_after};
 ghost use Rattle.frame_grammar.specs.Whole.{IsWhole};
 ghost use Rattle.deformatter.specs.Growth.{goes_on, fault_by};
 ghost use Rattle.deformatter.specs.declared.step.PortStep.TheVariants.{Quiet};
-ghost use Rattle.port_reader.specs.Reader.{is_live, tail_of, skipped_by};
-ghost use Rattle.port_reader.specs.Growth.{GrowsByFrame};
+ghost use Rattle.deformatter.specs.Reader.{is_live, tail_of, skipped_by};
+ghost use Rattle.deformatter.specs.ReadingGrowth.{GrowsByFrame};
 ghost use Rattle.trace_text.specs.FaultText.{told};
 ghost use Rattle.trace_stream.specs.Taken.{FlowAfter};
 ghost use Rattle.capture_actions.specs.Port.{port_of, IsPortFaulty};
@@ -17,8 +17,7 @@ ghost use Rattle.trace_stream.specs.declared.limits.TheConstants.{GREATEST_CAPTU
 
 use arrayvec::ArrayVec;
 use capture_plan::FramesMode;
-use deformatter::PortStep;
-use port_reader::{PortReader, Taken};
+use deformatter::{PortReader, PortStep, Taken};
 use trace_stream::Flow;
 use trace_values::{Cell, Fault, SourceId};
 

@@ -1,5 +1,6 @@
 -- What a block of an engine is for the report of the capture.
-use Rattle.std.proofs.Common.{◌≡◌, ℕ, suc, ◌+◌, List, [], ◌∷◌, ◌++◌, length, refl, sym, ◌∙◌, ap, subst, append_assoc, append-nil, arith, Option, None, Some, true}
+use Rattle.std.proofs.Common.{◌≡◌, ℕ, suc, ◌+◌, List, [], ◌∷◌, ◌++◌, length, refl, sym, ◌∙◌, ap, subst, append_assoc}
+use Rattle.std.proofs.Common.{append-nil, arith, Option, None, Some, true}
 use Rattle.std.specs.Prelude.{is_none, option_map}
 use Rattle.trace_values.specs.declared.fault.Reason.{Reason}
 use Rattle.trace_values.specs.Placed.{Place, Placed, byte_at, placed_from, placed}
@@ -8,7 +9,7 @@ use Rattle.trace_stream.specs.Taken.{FlowAfter}
 use Rattle.trace_stream.specs.declared.action.Flow.TheVariants.{On, Stopped as Ended}
 use Rattle.deformatter.specs.Block.{EachByte, FedAs}
 use Rattle.frame_grammar.specs.Reading.{offsets_of}
-use Rattle.port_reader.specs.Rising.{end_at}
+use Rattle.deformatter.specs.Rising.{end_at}
 use Rattle.source_events.specs.declared.event.Event.{Event}
 use Rattle.source_events.specs.declared.event.Stop.{Stop}
 use Rattle.source_events.specs.declared.packet.Packet.{Packet}

@@ -1,5 +1,7 @@
 -- A source has no more ITM packets than the capture has bytes, and each tells less than 2^28 ticks.
-use Rattle.std.proofs.Common.{◌≡◌, ◌≤◌, ◌<◌, ℕ, suc, ◌+◌, ◌-◌, ◌*◌, ◌%◌, ◌^◌, List, [], ◌∷◌, ◌++◌, length, length-append, map, flat_map, refl, ◌∙◌, ap, inl, inr, arith, Bool, true, false, cond, Option, None, Some}
+use Rattle.std.proofs.Common.{◌≡◌, ◌≤◌, ◌<◌, ℕ, suc, ◌+◌, ◌-◌, ◌*◌, ◌%◌, ◌^◌, List, [], ◌∷◌, ◌++◌, length}
+use Rattle.std.proofs.Common.{length-append, map, flat_map, refl, ◌∙◌, ap, inl, inr, arith, Bool, true, false, cond}
+use Rattle.std.proofs.Common.{Option, None, Some}
 use Rattle.std.specs.Prelude.{◌==◌, ◌&&◌, nat_lt, nat_le, filter, sum}
 use Rattle.std.proofs.lemmas.List.{length-map}
 use Rattle.std.proofs.lemmas.Grind.{flat_map-append}
@@ -9,7 +11,9 @@ use Rattle.std.proofs.Math.Nat.{mod-eq_of_lt, mul-le-mul_right, suc-mul}
 use Rattle.capture_plan.specs.Modes.{packets_hunt}
 use Rattle.frame_grammar.specs.Reading.{is_source, source_list}
 use Rattle.itm_grammar.specs.declared.header.Class.{Class}
-use Rattle.itm_grammar.specs.declared.header.Class.TheVariants.{Zero, Overflow as Overflowed, Source, LocalShort, LocalLong, GlobalFirst as First, GlobalSecond as Second, Extension as Extended, Reserved}
+use Rattle.itm_grammar.specs.declared.header.Class.TheVariants.{Zero, Overflow as Overflowed, Source, LocalShort}
+use Rattle.itm_grammar.specs.declared.header.Class.TheVariants.{LocalLong, GlobalFirst as First}
+use Rattle.itm_grammar.specs.declared.header.Class.TheVariants.{GlobalSecond as Second, Extension as Extended, Reserved}
 use Rattle.itm_grammar.specs.declared.packet.ItmPacket.{ItmPacket}
 use Rattle.itm_grammar.specs.declared.packet.Size.{Size}
 use Rattle.itm_grammar.specs.declared.partial.Partial.{Partial}
@@ -22,10 +26,10 @@ use Rattle.itm_grammar.proofs.Headers.{header_is}
 use Rattle.itm_codec.specs.Reading.{packets_in}
 use Rattle.itm_codec.proofs.Answering.{hunt_is}
 use Rattle.stp_codec.specs.Reading.{items_in}
-use Rattle.port_reader.specs.Reading.{port_reading, cells_of}
-use Rattle.port_reader.specs.Rising.{Rise, offsets_in}
-use Rattle.port_reader.proofs.ReadingLaws.{frames_have_runs}
-use Rattle.port_reader.proofs.RisingLaws.{capture_rises as cells_rise}
+use Rattle.deformatter.specs.PortReading.{port_reading, cells_of}
+use Rattle.deformatter.specs.Rising.{Rise, offsets_in}
+use Rattle.deformatter.proofs.PortReadingLaws.{frames_have_runs}
+use Rattle.deformatter.proofs.RisingLaws.{capture_rises as cells_rise}
 use Rattle.stp_grammar.specs.declared.item.StpItem.{StpItem}
 use Rattle.trace_stream.specs.declared.limits.TheConstants.{GREATEST_CAPTURE}
 use Rattle.trace_values.specs.declared.cell.Cell.{Cell}
@@ -47,7 +51,8 @@ use Rattle.source_events.specs.declared.plan.SourceKind.TheVariants.{Itm, Stp}
 use Rattle.source_events.specs.Merge.{told, part, is_of, cut, is_before}
 use Rattle.source_events.specs.Packets.{given_as}
 use Rattle.source_events.specs.Plan.{mapped_ids, stream_of, sources_by}
-use Rattle.source_events.specs.Report.{Mapped, lifted, events, raws, raw_events, triggers, runs_in, stop_in, capture_events}
+use Rattle.source_events.specs.Report.{Mapped, lifted, events, raws, raw_events, triggers, runs_in, stop_in}
+use Rattle.source_events.specs.Report.{capture_events}
 use Rattle.source_events.specs.Runs.{id_of, bytes_of, last_at, list_of}
 use Rattle.source_events.proofs.Captures.{capture_rises}
 use Rattle.source_events.proofs.Lawful.{plan_lawful}

@@ -1,8 +1,10 @@
 -- The capture of the exercise reads as its lines give it, and what is left of it has no fault.
-use Rattle.std.proofs.Common.{◌≡◌, ℕ, zero, suc, ◌+◌, ◌/◌, ◌%◌, ◌^◌, ◌<◌, ◌≤◌, ◌==◌, List, [], take, drop, refl, sym, ◌∙◌, ap, subst, arith, Bool, true, false, cond, None, Some}
+use Rattle.std.proofs.Common.{◌≡◌, ℕ, zero, suc, ◌+◌, ◌/◌, ◌%◌, ◌^◌, ◌<◌, ◌≤◌, ◌==◌, List, [], take, drop, refl, sym}
+use Rattle.std.proofs.Common.{◌∙◌, ap, subst, arith, Bool, true, false, cond, None, Some}
 use Rattle.std.proofs.lemmas.List.{take-append-drop}
 use Rattle.capture_report.specs.Summary.{counts_text, summary, summary_by}
-use Rattle.exercise_source.specs.Exercise.{exercise_plan, exercise_lines, exercise_capture, exercise_rest, line_of_made, line_at}
+use Rattle.exercise_source.specs.Exercise.{exercise_plan, exercise_lines, exercise_capture, exercise_rest}
+use Rattle.exercise_source.specs.Exercise.{line_of_made, line_at}
 use Rattle.exercise_source.specs.declared.maker.TheConstants.{MOST_ITEMS}
 use Rattle.exercise_source.proofs.Fitting.{line_fits}
 use Rattle.exercise_source.proofs.Making.{lines_more}
@@ -12,7 +14,7 @@ use Rattle.itm_grammar.specs.declared.packet.Size.TheVariants.{Four}
 use Rattle.itm_grammar.specs.declared.packet.Lateness.TheVariants.{Exact}
 use Rattle.itm_grammar.specs.declared.packet.ItmPacket.TheVariants.{Sync, Software, Local}
 use Rattle.line_writer.specs.Writer.{CanBePut as IsPuttable}
-use Rattle.port_reader.specs.Reading.{port_reading}
+use Rattle.deformatter.specs.PortReading.{port_reading}
 use Rattle.rebuild_laws.specs.Puts.{SuitsPlan, CanAllBePut}
 use Rattle.rebuild_laws.specs.ReadBack.{aligned, ReadsAsGiven}
 use Rattle.rebuild_laws.proofs.Given.{reads_as_given}

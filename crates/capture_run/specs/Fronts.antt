@@ -5,7 +5,7 @@ use Rattle.capture_report.specs.Listing.{listed}
 use Rattle.capture_report.specs.declared.list_plan.ListPlan.{ListPlan}
 use Rattle.capture_words.specs.declared.job.Task.{Task}
 use Rattle.capture_words.specs.declared.job.Task.TheVariants.{Show}
-use Rattle.port_reader.specs.Reading.{port_reading}
+use Rattle.deformatter.specs.PortReading.{port_reading}
 use Rattle.resync_laws.specs.Report.{rest_plan, left_bytes, left_report, ReportFollows, skips}
 use Rattle.resync_ports.specs.Port.{rest_mode}
 use Rattle.resync_sources.specs.Capture.{source_bytes}

@@ -9,3 +9,8 @@ pub mod Frames
 pub mod Blocks
 pub mod BeforeFaults
 pub mod Resuming
+pub mod PortReadingLaws
+pub mod RisingLaws
+pub mod RunLaws
+pub mod Grammar
+pub mod ReaderFeeding

@@ -7,3 +7,11 @@ pub mod Deformatter
 pub mod Frames
 pub mod Block
 pub mod Resume
+pub mod Modes
+pub mod PortReading
+pub mod ReadingGrowth
+pub mod Reader
+pub mod Runs
+pub mod ByGrammar
+pub mod Rows
+pub mod Rising

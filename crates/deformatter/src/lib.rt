@@ -5,10 +5,14 @@
 mod block;
 mod deformatter;
 pub mod laws;
+mod reader;
+pub mod reading_laws;
 mod resume;
+pub mod rows;
 mod step;
 mod unfinished;
 
 pub use block::Taken;
 pub use deformatter::Deformatter;
+pub use reader::PortReader;
 pub use step::PortStep;

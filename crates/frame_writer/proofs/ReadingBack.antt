@@ -1,5 +1,7 @@
 -- The written capture reads as the tagged bytes.
-use Rattle.std.proofs.Common.{◌≡◌, ◌≢◌, ℕ, zero, suc, ◌+◌, ◌*◌, ◌/◌, ◌≤◌, List, [], ◌∷◌, ◌++◌, refl, sym, ◌∙◌, ap, subst, arith, length, Bool, true, false, cond, Option, None, Some, append_assoc, append-nil, map, replicate}
+use Rattle.std.proofs.Common.{◌≡◌, ◌≢◌, ℕ, zero, suc, ◌+◌, ◌*◌, ◌/◌, ◌≤◌, List, [], ◌∷◌, ◌++◌, refl, sym, ◌∙◌, ap}
+use Rattle.std.proofs.Common.{subst, arith, length, Bool, true, false, cond, Option, None, Some, append_assoc}
+use Rattle.std.proofs.Common.{append-nil, map, replicate}
 use Rattle.std.specs.Prelude.{◌==◌, not}
 use Rattle.std.specs.List.{All, concat, filter}
 use Rattle.std.proofs.lemmas.Bool.Decides.{nat_tests}
@@ -11,13 +13,17 @@ use Rattle.trace_values.specs.Reading.{Progress, progress_from, advance}
 use Rattle.trace_values.proofs.Placing.{placed_from_append}
 use Rattle.trace_values.proofs.Wholes.{spelled_reads}
 use Rattle.frame_grammar.specs.Frame.{cells, id_after}
-use Rattle.frame_grammar.specs.Port.{PortItem, Full, Frame, half_spelling, IsWords, IsFrame, Spells, why, State, start, rule}
-use Rattle.frame_grammar.specs.Reading.{port_progress, port_cells, cells_of_items, id_of_items, item_cells, item_id, offsets_of, is_source}
+use Rattle.frame_grammar.specs.Port.{PortItem, Full, Frame, half_spelling, IsWords, IsFrame, Spells, why, State, start}
+use Rattle.frame_grammar.specs.Port.{rule}
+use Rattle.frame_grammar.specs.Reading.{port_progress, port_cells, cells_of_items, id_of_items, item_cells, item_id}
+use Rattle.frame_grammar.specs.Reading.{offsets_of, is_source}
 use Rattle.frame_grammar.proofs.Deciding.{port_decided}
 use Rattle.frame_writer.specs.declared.pair.Pair.{Pair}
-use Rattle.frame_writer.specs.Written.{Tagged, first, after_first, is_id, paired, Paired, Closed, Filled, filled, spread, aux_byte, sync, is_due, known, frame_bytes, frames_by, Later, none_later, segments_then, joined, written_segments, capture}
-use Rattle.port_reader.specs.Reading.{cells_of}
-use Rattle.port_reader.proofs.Grammar.{aligned_cells}
+use Rattle.frame_writer.specs.Written.{Tagged, first, after_first, is_id, paired, Paired, Closed, Filled, filled}
+use Rattle.frame_writer.specs.Written.{spread, aux_byte, sync, is_due, known, frame_bytes, frames_by, Later}
+use Rattle.frame_writer.specs.Written.{none_later, segments_then, joined, written_segments, capture}
+use Rattle.deformatter.specs.PortReading.{cells_of}
+use Rattle.deformatter.proofs.Grammar.{aligned_cells}
 use Rattle.frame_writer.specs.ReadBack.{IsOfSource, seen, as_seen, source_cells, read_back, ReadsBack}
 use Rattle.frame_writer.proofs.Frames.{filled_zero, filled_suc, filled_less, by_some, by_nothing}
 use Rattle.frame_writer.proofs.Law.{flat, null, AllIds, Knows, frame_law, filled_length, first_id, behind_ids}

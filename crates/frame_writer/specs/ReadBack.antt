@@ -5,7 +5,7 @@ use Rattle.trace_values.specs.Placed.{placed}
 use Rattle.trace_values.specs.declared.cell.Cell.{Cell}
 use Rattle.capture_plan.specs.declared.frames.FramesMode.TheVariants.{Aligned}
 use Rattle.frame_grammar.specs.Reading.{is_source}
-use Rattle.port_reader.specs.Reading.{PortReading, port_reading, cells_of}
+use Rattle.deformatter.specs.PortReading.{PortReading, port_reading, cells_of}
 use Rattle.frame_writer.specs.Written.{Tagged}
 
 -- a byte of a source from 1 to 126

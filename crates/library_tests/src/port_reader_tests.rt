@@ -3,7 +3,7 @@
 use crate::same::same;
 use arrayvec::ArrayVec;
 use capture_plan::FramesMode;
-use port_reader::{PortReader, PortStep};
+use deformatter::{PortReader, PortStep};
 use std::process::Abort;
 use trace_values::{Cell, Fault, Reason, SourceId};
 

@@ -1,5 +1,6 @@
 -- The list of a source in a written capture is its bytes.
-use Rattle.std.proofs.Common.{◌≡◌, ◌≢◌, ℕ, List, [], ◌∷◌, refl, ◌∙◌, ap, arith, Bool, true, false, Option, Some, None, map, cond}
+use Rattle.std.proofs.Common.{◌≡◌, ◌≢◌, ℕ, List, [], ◌∷◌, refl, ◌∙◌, ap, arith, Bool, true, false, Option, Some, None}
+use Rattle.std.proofs.Common.{map, cond}
 use Rattle.std.specs.Prelude.{◌==◌, not, if◌then◌else◌}
 use Rattle.std.proofs.lemmas.Bool.Decides.{nat_tests}
 use Rattle.trace_values.specs.declared.cell.Cell.{Cell}
@@ -7,8 +8,8 @@ use Rattle.trace_values.specs.Placed.{Placed, units_of, placed}
 use Rattle.capture_plan.specs.declared.frames.FramesMode.TheVariants.{Aligned}
 use Rattle.frame_grammar.specs.Reading.{is_source, source_list}
 use Rattle.frame_grammar.specs.SourceBytes.{source_units}
-use Rattle.port_reader.specs.Reading.{cells_of}
-use Rattle.port_reader.proofs.ReadingLaws.{frames_have_runs}
+use Rattle.deformatter.specs.PortReading.{cells_of}
+use Rattle.deformatter.proofs.PortReadingLaws.{frames_have_runs}
 use Rattle.frame_writer.specs.Written.{Tagged, capture}
 use Rattle.frame_writer.specs.ReadBack.{ReadsBack, seen, as_seen, source_cells}
 use Rattle.source_events.specs.Runs.{list_of}

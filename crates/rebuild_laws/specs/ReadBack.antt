@@ -6,7 +6,7 @@ use Rattle.trace_values.specs.Placed.{Placed, placed}
 use Rattle.capture_plan.specs.declared.frames.FramesMode.TheVariants.{Aligned as FramesAligned}
 use Rattle.capture_plan.specs.declared.packets.PacketsMode.TheVariants.{Aligned as PacketsAligned}
 use Rattle.frame_grammar.specs.Reading.{source_list}
-use Rattle.port_reader.specs.Reading.{PortReading, port_reading, cells_of}
+use Rattle.deformatter.specs.PortReading.{PortReading, port_reading, cells_of}
 use Rattle.frame_writer.specs.Written.{capture}
 use Rattle.source_events.specs.declared.event.Event.{Event}
 use Rattle.source_events.specs.declared.event.What.{What}

@@ -11,8 +11,8 @@ use Rattle.deformatter.specs.declared.step.PortStep.{PortStep}
 use Rattle.deformatter.specs.declared.step.PortStep.TheVariants.{Quiet, Half, Full as FullEnds, Frame, Locked}
 use Rattle.deformatter.specs.declared.step.PortStep.TheVariants.{Fault as Faulty}
 use Rattle.deformatter.specs.Reading.{cells_in, port_stream}
-use Rattle.port_reader.specs.Modes.{hunts}
-use Rattle.port_reader.specs.Reading.{bare_cell}
+use Rattle.deformatter.specs.Modes.{hunts}
+use Rattle.deformatter.specs.PortReading.{bare_cell}
 use Rattle.source_events.specs.declared.event.Event.{Event}
 use Rattle.source_events.specs.declared.packet.Packet.{Packet}
 use Rattle.source_events.specs.declared.plan.Plan.{Plan}

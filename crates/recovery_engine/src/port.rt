@@ -3,7 +3,7 @@
 ghost use Rattle.std.specs.Prelude.{◌≡◌, ◌+◌, ◌≤◌, ◌++◌, ◌∷◌, [], List, Some};
 ghost use Rattle.trace_values.specs.Placed.{Placed, byte_at};
 ghost use Rattle.trace_values.specs.declared.limits.TheConstants.{COUNT_ROOM};
-ghost use Rattle.port_reader.specs.Reading.{bare_cell};
+ghost use Rattle.deformatter.specs.PortReading.{bare_cell};
 ghost use Rattle.recovering_ports.specs.Port.{total_of};
 ghost use Rattle.recovery_report.specs.Port.{recovered};
 ghost use Rattle.recovery_report.specs.Report.{parts_in};

@@ -18,9 +18,9 @@ use Rattle.deformatter.specs.declared.step.PortStep.TheVariants.{Quiet, Half, Fu
 use Rattle.deformatter.specs.declared.step.PortStep.TheVariants.{Fault as Faulty}
 use Rattle.deformatter.proofs.BeforeFaults.{seeked}
 use Rattle.deformatter.proofs.ReadingLaws.{rises}
-use Rattle.port_reader.specs.Growth.{frames_by}
-use Rattle.port_reader.specs.Reading.{framed, frames_of_items}
-use Rattle.port_reader.proofs.Feeding.{framed_grows}
+use Rattle.deformatter.specs.ReadingGrowth.{frames_by}
+use Rattle.deformatter.specs.PortReading.{framed, frames_of_items}
+use Rattle.deformatter.proofs.ReaderFeeding.{framed_grows}
 use Rattle.source_events.specs.Runs.{all_runs, runs_of}
 use Rattle.source_events.proofs.LockSteps.{unlocked, locked}
 use Rattle.stretch_readings.specs.Stretches.{Stretch, Stretches, One, fed, renewed, resumed_by, skipped_in}

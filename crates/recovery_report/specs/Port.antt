@@ -4,8 +4,8 @@ use Rattle.std.specs.List.{sum_by}
 use Rattle.trace_values.specs.declared.cell.Cell.{Cell}
 use Rattle.trace_values.specs.Placed.{Placed}
 use Rattle.deformatter.specs.Reading.{PortStream, port_stream}
-use Rattle.port_reader.specs.Reading.{PortReading, framed, port_reading}
-use Rattle.port_reader.specs.Modes.{hunts}
+use Rattle.deformatter.specs.PortReading.{PortReading, framed, port_reading}
+use Rattle.deformatter.specs.Modes.{hunts}
 use Rattle.capture_plan.specs.declared.frames.FramesMode.{FramesMode}
 use Rattle.capture_plan.specs.declared.frames.FramesMode.TheVariants.{Hunt, Aligned, Bare}
 use Rattle.recovering_ports.specs.Port.{items_by, from_halfword}

@@ -1,5 +1,6 @@
 -- What holds of the source of an ID, by what a plan maps.
-use Rattle.std.proofs.Common.{◌≡◌, ℕ, List, [], ◌∷◌, ◌++◌, map, refl, sym, ◌∙◌, ap, subst, append-nil, arith, Bool, true, false, cond}
+use Rattle.std.proofs.Common.{◌≡◌, ℕ, List, [], ◌∷◌, ◌++◌, map, refl, sym, ◌∙◌, ap, subst, append-nil, arith, Bool}
+use Rattle.std.proofs.Common.{true, false, cond}
 use Rattle.std.specs.Prelude.{Option, None, Some, ◌==◌, ◌||◌}
 use Rattle.std.specs.List.{list_any}
 use Rattle.std.proofs.lemmas.Bool.Decides.{nat_tests}
@@ -8,8 +9,8 @@ use Rattle.trace_values.specs.Placed.{Place, Placed}
 use Rattle.trace_values.specs.Stream.{Said, Notice, Kept}
 use Rattle.capture_plan.specs.declared.frames.FramesMode.{FramesMode}
 use Rattle.frame_grammar.specs.SourceBytes.{source_units}
-use Rattle.port_reader.specs.Reading.{port_reading, cells_of}
-use Rattle.port_reader.proofs.ReadingLaws.{frames_have_runs}
+use Rattle.deformatter.specs.PortReading.{port_reading, cells_of}
+use Rattle.deformatter.proofs.PortReadingLaws.{frames_have_runs}
 use Rattle.itm_codec.specs.Reading.{packets_in}
 use Rattle.stp_grammar.specs.declared.item.StpItem.{StpItem}
 use Rattle.stp_grammar.specs.declared.item.StpItem.TheVariants.{Version}

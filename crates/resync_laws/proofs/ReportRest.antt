@@ -7,8 +7,8 @@ use Rattle.capture_plan.specs.declared.frames.FramesMode.{FramesMode}
 use Rattle.capture_plan.specs.Modes.{packets_hunt}
 use Rattle.itm_codec.specs.Reading.{packets_in}
 use Rattle.stp_codec.specs.Reading.{items_in}
-use Rattle.port_reader.specs.Reading.{PortReading, port_reading}
-use Rattle.port_reader.proofs.RisingLaws.{placed_rise, reading_rises}
+use Rattle.deformatter.specs.PortReading.{PortReading, port_reading}
+use Rattle.deformatter.proofs.RisingLaws.{placed_rise, reading_rises}
 use Rattle.source_events.specs.declared.event.Event.{Event}
 use Rattle.source_events.specs.declared.packet.Packet.{Packet}
 use Rattle.source_events.specs.declared.plan.Plan.{Plan}
@@ -26,7 +26,8 @@ use Rattle.resync_sources.specs.Capture.{source_bytes}
 use Rattle.resync_sources.proofs.Captures.{itm_capture, stp_capture}
 use Rattle.resync_reports.specs.Moved.{later_event, later_reading}
 use Rattle.resync_reports.specs.Points.{items_among, from_points}
-use Rattle.resync_laws.specs.Report.{left_bytes, whole_reading, left_reading, whole_report, left_report, points, SourceFollows, ReportFollows}
+use Rattle.resync_laws.specs.Report.{left_bytes, whole_reading, left_reading, whole_report, left_report, points}
+use Rattle.resync_laws.specs.Report.{SourceFollows, ReportFollows}
 use Rattle.resync_reports.specs.Resumed.{wholes, points_in, port_of}
 use Rattle.resync_laws.proofs.PlanTerms.{sources_of, unit_reads}
 use Rattle.resync_laws.proofs.Mapped.{can_all, all_read, wholes_are, rests_are, quiet_at}

@@ -7,7 +7,7 @@ use Rattle.capture_plan.specs.Modes.{packets_hunt}
 use Rattle.stp_grammar.specs.declared.packet.Order.{Order}
 use Rattle.stp_grammar.specs.declared.item.StpItem.{StpItem}
 use Rattle.stp_codec.specs.Reading.{items_at}
-use Rattle.port_reader.specs.Reading.{PortReading, port_reading}
+use Rattle.deformatter.specs.PortReading.{PortReading, port_reading}
 use Rattle.source_events.specs.declared.packet.Packet.{Packet}
 use Rattle.source_events.specs.declared.plan.Plan.{Plan}
 use Rattle.source_events.specs.declared.plan.SourceKind.{SourceKind}

@@ -5,7 +5,7 @@ use Rattle.trace_values.specs.declared.cell.Cell.{Cell}
 use Rattle.trace_values.specs.Placed.{Place}
 use Rattle.trace_values.specs.Stream.{Said, Notice, Kept}
 use Rattle.frame_grammar.specs.SourceBytes.{source_units}
-use Rattle.port_reader.specs.Reading.{PortReading, cells_of}
+use Rattle.deformatter.specs.PortReading.{PortReading, cells_of}
 use Rattle.itm_codec.specs.Reading.{packets_in}
 use Rattle.stp_grammar.specs.declared.item.StpItem.{StpItem}
 use Rattle.stp_grammar.specs.declared.item.StpItem.TheVariants.{Version}

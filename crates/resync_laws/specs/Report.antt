@@ -5,7 +5,7 @@ use Rattle.trace_values.specs.Nibbles.{nibbles_of}
 use Rattle.trace_values.specs.Placed.{Place, Placed, placed, placed_from}
 use Rattle.capture_plan.specs.declared.packets.PacketsMode.TheVariants.{Hunt}
 use Rattle.capture_plan.specs.Modes.{packets_hunt}
-use Rattle.port_reader.specs.Reading.{PortReading, port_reading}
+use Rattle.deformatter.specs.PortReading.{PortReading, port_reading}
 use Rattle.source_events.specs.declared.event.Event.{Event}
 use Rattle.source_events.specs.declared.packet.Packet.{Packet}
 use Rattle.source_events.specs.declared.plan.Plan.{Plan}

@@ -3,7 +3,7 @@ use Rattle.std.specs.Prelude.{ℕ, List, [], ◌∷◌, take, drop, map, Option,
 use Rattle.trace_values.specs.Hex.{hex}
 use Rattle.trace_values.specs.Placed.{placed}
 use Rattle.trace_values.specs.declared.fault.Reason.{Reason}
-use Rattle.port_reader.specs.Reading.{port_reading}
+use Rattle.deformatter.specs.PortReading.{port_reading}
 use Rattle.capture_plan.specs.declared.frames.FramesMode.TheVariants.{Aligned as InFrames, Bare}
 use Rattle.capture_plan.specs.declared.packets.PacketsMode.TheVariants.{Aligned}
 use Rattle.stp_grammar.specs.declared.packet.Order.TheVariants.{Msn}

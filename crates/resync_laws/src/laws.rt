@@ -2,7 +2,7 @@
 
 ghost use Rattle.std.specs.Prelude.{◌≡◌, ℕ, List, ◌++◌, None};
 ghost use Rattle.trace_values.specs.Placed.{placed};
-ghost use Rattle.port_reader.specs.Reading.{port_reading};
+ghost use Rattle.deformatter.specs.PortReading.{port_reading};
 ghost use Rattle.source_events.specs.Plan.{sources_by};
 ghost use Rattle.source_events.specs.Report.{stop_in};
 ghost use Rattle.resync_laws.specs.Report.{ReportFollows};

@@ -1,5 +1,6 @@
 -- The rest of a capture in each mode.
-use Rattle.std.proofs.Common.{◌≡◌, List, [], ◌∷◌, ◌++◌, map, refl, sym, ◌∙◌, ap, inl, inr, append_assoc, append-nil, true, false, Bool, ℕ, None}
+use Rattle.std.proofs.Common.{◌≡◌, List, [], ◌∷◌, ◌++◌, map, refl, sym, ◌∙◌, ap, inl, inr, append_assoc, append-nil}
+use Rattle.std.proofs.Common.{true, false, Bool, ℕ, None}
 use Rattle.std.proofs.lemmas.List.{map-append}
 use Rattle.trace_values.specs.declared.cell.Cell.{Cell}
 use Rattle.trace_values.specs.Placed.{Placed}
@@ -9,8 +10,8 @@ use Rattle.frame_grammar.specs.Reading.{cells_of_items}
 use Rattle.frame_grammar.specs.SourceBytes.{source_units}
 use Rattle.frame_grammar.proofs.SourceBytes as sources
 use Rattle.deformatter.specs.Reading.{items_of, port_stream, cells_in}
-use Rattle.port_reader.specs.Reading.{bare_cell, port_reading, cells_of}
-use Rattle.port_reader.proofs.ReadingLaws.{framed_cells, bare_cells}
+use Rattle.deformatter.specs.PortReading.{bare_cell, port_reading, cells_of}
+use Rattle.deformatter.proofs.PortReadingLaws.{framed_cells, bare_cells}
 use Rattle.resync_ports.specs.Port.{unnamed, BeginsNamed, IsPortRest, rest_mode, CellsRest}
 use Rattle.resync_ports.proofs.Resting as framed
 

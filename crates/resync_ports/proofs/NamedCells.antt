@@ -1,5 +1,6 @@
 -- After the first cell of a port's reading that has an ID each cell has one.
-use Rattle.std.proofs.Common.{◌≡◌, ◌<◌, List, [], ◌∷◌, ◌++◌, length, map, refl, sym, ◌∙◌, ap, subst, inl, inr, Bool, true, false}
+use Rattle.std.proofs.Common.{◌≡◌, ◌<◌, List, [], ◌∷◌, ◌++◌, length, map, refl, sym, ◌∙◌, ap, subst, inl, inr, Bool}
+use Rattle.std.proofs.Common.{true, false}
 use Rattle.std.specs.List.{AllByRecursion}
 use Rattle.trace_values.specs.declared.cell.Cell.{Cell}
 use Rattle.trace_values.specs.Placed.{Placed}
@@ -11,8 +12,8 @@ use Rattle.port_sync.specs.Hunting.{pattern}
 use Rattle.deformatter.specs.Reading.{PortStream, items_of, port_stream, cells_in}
 use Rattle.capture_plan.specs.declared.frames.FramesMode.{FramesMode}
 use Rattle.capture_plan.specs.declared.frames.FramesMode.TheVariants.{Hunt, Aligned, Bare}
-use Rattle.port_reader.specs.Reading.{bare_cell, port_reading, cells_of}
-use Rattle.port_reader.proofs.ReadingLaws.{framed_cells, bare_cells}
+use Rattle.deformatter.specs.PortReading.{bare_cell, port_reading, cells_of}
+use Rattle.deformatter.proofs.PortReadingLaws.{framed_cells, bare_cells}
 use Rattle.resync_ports.specs.Port.{BeginsNamed, HasId}
 use Rattle.resync_streams.proofs.Locking as locking
 use Rattle.resync_ports.proofs.Syncing.{port_syncs}

@@ -10,7 +10,7 @@ use Rattle.frame_grammar.specs.Port.{PortItem, Full}
 use Rattle.frame_grammar.specs.Reading.{cells_of_items, halves_in}
 use Rattle.frame_grammar.specs.SourceBytes.{source_units}
 use Rattle.deformatter.specs.Reading.{PortStream, all_skipped, items_of, port_stream, cells_in}
-use Rattle.port_reader.specs.Reading.{bare_cell, port_reading, cells_of}
+use Rattle.deformatter.specs.PortReading.{bare_cell, port_reading, cells_of}
 
 -- a full synchronisation has just ended: it is the last item, and no bytes follow it
 pub record FullEnded (s : PortStream) : Type 0 where

@@ -4,7 +4,7 @@ use Rattle.trace_values.specs.declared.fault.Reason.{Reason}
 use Rattle.trace_values.specs.Hex.{hex}
 use Rattle.trace_values.specs.Placed.{placed}
 use Rattle.capture_plan.specs.declared.frames.FramesMode.TheVariants.{Hunt, Aligned}
-use Rattle.port_reader.specs.Reading.{PortReading, port_reading}
+use Rattle.deformatter.specs.PortReading.{PortReading, port_reading}
 
 -- a full synchronisation and a frame that names ID 1 at once, and the same with a frame that names ID 2 at its index 4
 abbrev pub two_frames : List ℕ

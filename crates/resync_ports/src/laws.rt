@@ -8,7 +8,7 @@ ghost use Rattle.trace_values.specs.Hunted.{pattern_of};
 ghost use Rattle.capture_plan.specs.declared.frames.FramesMode.{FramesMode};
 ghost use Rattle.frame_grammar.specs.Port.{Full, Spells, why};
 ghost use Rattle.port_sync.specs.Hunting.{pattern};
-ghost use Rattle.port_reader.specs.Reading.{port_reading, cells_of};
+ghost use Rattle.deformatter.specs.PortReading.{port_reading, cells_of};
 ghost use Rattle.resync_streams.specs.Fronts.{BeginsOnly, IsRestInWords};
 ghost use Rattle.resync_ports.specs.Port.{BeginsNamed, HasId, IsPortRest, rest_mode, CellsRest};
 

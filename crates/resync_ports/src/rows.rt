@@ -5,7 +5,7 @@ ghost use Rattle.std.specs.List.{list_any};
 ghost use Rattle.trace_values.specs.declared.cell.Cell.{Cell};
 ghost use Rattle.trace_values.specs.Placed.{Placed};
 ghost use Rattle.capture_plan.specs.declared.frames.FramesMode.TheVariants.{Hunt, Aligned};
-ghost use Rattle.port_reader.specs.Reading.{port_reading, cells_of};
+ghost use Rattle.deformatter.specs.PortReading.{port_reading, cells_of};
 ghost use Rattle.frame_grammar.specs.Port.{Full, Spells, why};
 ghost use Rattle.resync_streams.specs.Fronts.{BeginsOnly};
 ghost use Rattle.resync_ports.specs.Rows.{whole, left, frames_of, syncs_of, end_of};

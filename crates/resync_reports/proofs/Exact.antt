@@ -1,13 +1,14 @@
 -- Where no source has items before its point, the rest's items are the whole's from the points on.
-use Rattle.std.proofs.Common.{◌≡◌, ℕ, ◌+◌, ◌*◌, ◌≤◌, List, [], ◌∷◌, ◌++◌, length, refl, sym, ◌∙◌, ap, subst, inl, inr, arith, Bool, true, false, cond, Option, None, Some}
+use Rattle.std.proofs.Common.{◌≡◌, ℕ, ◌+◌, ◌*◌, ◌≤◌, List, [], ◌∷◌, ◌++◌, length, refl, sym, ◌∙◌, ap, subst, inl, inr}
+use Rattle.std.proofs.Common.{arith, Bool, true, false, cond, Option, None, Some}
 use Rattle.std.specs.Prelude.{◌==◌, is_none, nat_le}
 use Rattle.std.proofs.lemmas.Bool.Decides.{nat_tests}
 use Rattle.trace_values.specs.declared.cell.Cell.{Cell}
 use Rattle.trace_values.specs.Placed.{Place, Placed, placed, placed_from}
 use Rattle.trace_values.specs.Stream.{Said}
 use Rattle.frame_grammar.specs.Reading.{is_source}
-use Rattle.port_reader.specs.Reading.{PortReading, port_reading}
-use Rattle.port_reader.proofs.RisingLaws.{reading_rises}
+use Rattle.deformatter.specs.PortReading.{PortReading, port_reading}
+use Rattle.deformatter.proofs.RisingLaws.{reading_rises}
 use Rattle.source_events.specs.declared.event.Event.{Event}
 use Rattle.source_events.specs.declared.event.What.{What}
 use Rattle.source_events.specs.Runs.{id_of, list_of, end_of}

@@ -1,5 +1,6 @@
 -- The report of the same bytes at later offsets is the report, at later offsets.
-use Rattle.std.proofs.Common.{◌≡◌, ℕ, zero, suc, ◌+◌, ◌*◌, ◌<◌, ◌≤◌, List, [], ◌∷◌, ◌++◌, length, drop, map, refl, sym, ◌∙◌, ap, subst, inl, inr, arith, Bool, true, false, cond, Option, None, Some}
+use Rattle.std.proofs.Common.{◌≡◌, ℕ, zero, suc, ◌+◌, ◌*◌, ◌<◌, ◌≤◌, List, [], ◌∷◌, ◌++◌, length, drop, map, refl, sym}
+use Rattle.std.proofs.Common.{◌∙◌, ap, subst, inl, inr, arith, Bool, true, false, cond, Option, None, Some}
 use Rattle.std.specs.Prelude.{◌==◌, slice_index}
 use Rattle.std.specs.List.{sum_by}
 use Rattle.std.proofs.lemmas.List.{map-append, length-map}
@@ -18,7 +19,7 @@ use Rattle.frame_grammar.proofs.Deciding.{port_decided}
 use Rattle.frame_grammar.proofs.Items.{frame_bytes}
 use Rattle.deformatter.specs.Reading.{PortStream, port_stream, items_of}
 use Rattle.deformatter.proofs.Readings.{hunt_is}
-use Rattle.port_reader.specs.Reading.{frames_of_items, framed, bare_cell, bare, port_reading}
+use Rattle.deformatter.specs.PortReading.{frames_of_items, framed, bare_cell, bare, port_reading}
 use Rattle.source_events.specs.declared.event.Event.{Event}
 use Rattle.source_events.specs.declared.event.What.{What}
 use Rattle.source_events.specs.declared.event.What.TheVariants.{Raw, Trigger}

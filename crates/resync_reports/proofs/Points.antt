@@ -1,13 +1,14 @@
 -- The first run that has an ID begins with the first cell that has one.
-use Rattle.std.proofs.Common.{◌≡◌, ℕ, suc, ◌<◌, List, [], ◌∷◌, ◌++◌, length, refl, sym, ◌∙◌, ap, arith, Bool, true, false, cond, Option, None, Some}
+use Rattle.std.proofs.Common.{◌≡◌, ℕ, suc, ◌<◌, List, [], ◌∷◌, ◌++◌, length, refl, sym, ◌∙◌, ap, arith, Bool, true}
+use Rattle.std.proofs.Common.{false, cond, Option, None, Some}
 use Rattle.std.specs.Prelude.{◌==◌, is_none}
 use Rattle.std.specs.List.{flat_map, Contains}
 use Rattle.std.proofs.lemmas.Bool.Decides.{nat_tests}
 use Rattle.trace_values.specs.declared.cell.Cell.{Cell}
 use Rattle.trace_values.specs.Placed.{Place}
-use Rattle.port_reader.specs.Reading.{port_reading}
-use Rattle.port_reader.specs.Runs.{HaveRuns}
-use Rattle.port_reader.proofs.ReadingLaws.{frames_have_runs}
+use Rattle.deformatter.specs.PortReading.{port_reading}
+use Rattle.deformatter.specs.Runs.{HaveRuns}
+use Rattle.deformatter.proofs.PortReadingLaws.{frames_have_runs}
 use Rattle.source_events.specs.Runs.{joined, runs_of, all_runs}
 use Rattle.resync_reports.specs.Resumed.{first_named, PortPointLaw}
 use Rattle.resync_reports.specs.Points.{first_in}

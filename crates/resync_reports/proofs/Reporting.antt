@@ -1,5 +1,6 @@
 -- The report of the rest of a capture follows the whole's.
-use Rattle.std.proofs.Common.{◌≡◌, ℕ, List, [], ◌∷◌, ◌++◌, map, refl, sym, ◌∙◌, ap, subst, inl, inr, append_assoc, append-nil, Bool, true, false, cond, Option, None}
+use Rattle.std.proofs.Common.{◌≡◌, ℕ, List, [], ◌∷◌, ◌++◌, map, refl, sym, ◌∙◌, ap, subst, inl, inr, append_assoc}
+use Rattle.std.proofs.Common.{append-nil, Bool, true, false, cond, Option, None}
 use Rattle.std.specs.Prelude.{◌==◌}
 use Rattle.std.proofs.lemmas.List.{map-append}
 use Rattle.std.proofs.lemmas.List.Elements.{filter-append}
@@ -11,14 +12,15 @@ use Rattle.capture_plan.specs.declared.frames.FramesMode.TheVariants.{Hunt, Alig
 use Rattle.frame_grammar.specs.Port.{PortItem, Full}
 use Rattle.frame_grammar.specs.Reading.{id_of_items}
 use Rattle.deformatter.specs.Reading.{PortStream, items_of, port_stream}
-use Rattle.port_reader.specs.Reading.{frames_of_items, framed, bare_cell, bare, port_reading}
-use Rattle.port_reader.proofs.ReadingLaws.{frames_of_items-append}
-use Rattle.port_reader.specs.Rising.{BytesRise}
-use Rattle.port_reader.proofs.RisingLaws.{reading_rises}
+use Rattle.deformatter.specs.PortReading.{frames_of_items, framed, bare_cell, bare, port_reading}
+use Rattle.deformatter.proofs.PortReadingLaws.{frames_of_items-append}
+use Rattle.deformatter.specs.Rising.{BytesRise}
+use Rattle.deformatter.proofs.RisingLaws.{reading_rises}
 use Rattle.source_events.specs.declared.event.Event.{Event}
 use Rattle.source_events.specs.Runs.{id_of, all_runs, list_of}
 use Rattle.source_events.specs.Merge.{told, cut}
-use Rattle.source_events.specs.Report.{Mapped, AreLawful, lifted, events, lesser, of_source, least_fault, all_events, capture_events, port_events, lock_at, is_item}
+use Rattle.source_events.specs.Report.{Mapped, AreLawful, lifted, events, lesser, of_source, least_fault, all_events}
+use Rattle.source_events.specs.Report.{capture_events, port_events, lock_at, is_item}
 use Rattle.source_events.proofs.Placing.{RunsBetween}
 use Rattle.source_events.proofs.Least.{AreSound}
 use Rattle.source_events.specs.Report.{runs_in, stop_in, report}

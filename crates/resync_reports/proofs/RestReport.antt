@@ -1,5 +1,6 @@
 -- The report of what is left of a capture follows the whole's, with each offset taken greater by how many bytes were lost.
-use Rattle.std.proofs.Common.{◌≡◌, ℕ, ◌+◌, ◌≤◌, List, [], ◌∷◌, ◌++◌, length, map, refl, sym, ◌∙◌, ap, subst, arith, inl, inr, true, false, Option, None, Some}
+use Rattle.std.proofs.Common.{◌≡◌, ℕ, ◌+◌, ◌≤◌, List, [], ◌∷◌, ◌++◌, length, map, refl, sym, ◌∙◌, ap, subst, arith}
+use Rattle.std.proofs.Common.{inl, inr, true, false, Option, None, Some}
 use Rattle.trace_values.specs.declared.cell.Cell.{Cell}
 use Rattle.trace_values.specs.declared.fault.Reason.{Reason}
 use Rattle.trace_values.specs.Placed.{Place, Placed, placed, placed_from}
@@ -10,9 +11,9 @@ use Rattle.frame_grammar.specs.Port.{PortItem}
 use Rattle.deformatter.specs.Reading.{PortStream, port_stream}
 use Rattle.capture_plan.specs.declared.frames.FramesMode.{FramesMode}
 use Rattle.capture_plan.specs.declared.frames.FramesMode.TheVariants.{Hunt, Aligned, Bare}
-use Rattle.port_reader.specs.Reading.{PortReading, port_reading}
-use Rattle.port_reader.specs.Rising.{BytesRise}
-use Rattle.port_reader.proofs.RisingLaws.{placed_rise}
+use Rattle.deformatter.specs.PortReading.{PortReading, port_reading}
+use Rattle.deformatter.specs.Rising.{BytesRise}
+use Rattle.deformatter.proofs.RisingLaws.{placed_rise}
 use Rattle.source_events.specs.declared.event.Event.{Event}
 use Rattle.source_events.specs.Runs.{list_of}
 use Rattle.source_events.specs.declared.event.What.{What}

@@ -1,5 +1,6 @@
 -- No run is cut where IDs become known.
-use Rattle.std.proofs.Common.{◌≡◌, ◌≢◌, ℕ, suc, ◌<◌, length, List, [], ◌∷◌, ◌++◌, map, refl, sym, ◌∙◌, ap, subst, inl, inr, arith, append_assoc, append-nil, Bool, true, false, cond, Option, None}
+use Rattle.std.proofs.Common.{◌≡◌, ◌≢◌, ℕ, suc, ◌<◌, length, List, [], ◌∷◌, ◌++◌, map, refl, sym, ◌∙◌, ap, subst, inl}
+use Rattle.std.proofs.Common.{inr, arith, append_assoc, append-nil, Bool, true, false, cond, Option, None}
 use Rattle.std.specs.Prelude.{◌==◌, is_none}
 use Rattle.std.specs.List.{Contains}
 use Rattle.std.proofs.lemmas.List.{map-append}
@@ -11,7 +12,7 @@ use Rattle.frame_grammar.specs.Frame.{cells, id_after}
 use Rattle.frame_grammar.specs.Port.{PortItem, Full, Half, Frame}
 use Rattle.frame_grammar.specs.Reading.{offsets_of}
 use Rattle.frame_grammar.proofs.CellLaws.{one_id}
-use Rattle.port_reader.specs.Reading.{frames_of_items}
+use Rattle.deformatter.specs.PortReading.{frames_of_items}
 use Rattle.resync_ports.specs.Port.{unnamed, BeginsNamed, AreNamedLater}
 use Rattle.source_events.specs.Runs.{joined, runs_of, all_runs}
 use Rattle.resync_reports.proofs.RunTerms.{unnamed_run, RunsLater}

@@ -2,7 +2,7 @@
 use Rattle.std.specs.Prelude.{ℕ, ◌+◌, List, map}
 use Rattle.resync_points.specs.Moved.{later_fault}
 use Rattle.trace_values.specs.declared.cell.Cell.{Cell}
-use Rattle.port_reader.specs.Reading.{PortReading}
+use Rattle.deformatter.specs.PortReading.{PortReading}
 use Rattle.source_events.specs.declared.event.Event.{Event}
 
 -- the cells, the reading and the events there

@@ -5,7 +5,7 @@ use Rattle.trace_values.specs.declared.cell.Cell.{Cell}
 use Rattle.trace_values.specs.Placed.{Place, Placed, placed}
 use Rattle.trace_values.specs.Stream.{Stream}
 use Rattle.capture_plan.specs.declared.frames.FramesMode.{FramesMode}
-use Rattle.port_reader.specs.Reading.{PortReading, port_reading, cells_of}
+use Rattle.deformatter.specs.PortReading.{PortReading, port_reading, cells_of}
 use Rattle.source_events.specs.Merge.{part}
 use Rattle.source_events.specs.Runs.{list_of}
 use Rattle.source_events.specs.Report.{Mapped, IsLawful, runs_in, stop_in, report}

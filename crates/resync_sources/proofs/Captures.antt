@@ -13,7 +13,7 @@ use Rattle.itm_grammar.specs.Rule.{rule}
 use Rattle.itm_codec.specs.Reading.{pattern, packets_in}
 use Rattle.stp_grammar.specs.declared.packet.Order.{Order}
 use Rattle.stp_codec.specs.Reading.{items_at, items_in}
-use Rattle.port_reader.specs.Reading.{port_reading}
+use Rattle.deformatter.specs.PortReading.{port_reading}
 use Rattle.resync_streams.specs.Fronts.{IsRest}
 use Rattle.resync_streams.proofs.Resting as resting
 use Rattle.resync_ports.specs.Port.{rest_mode}

@@ -3,7 +3,7 @@ use Rattle.std.specs.Prelude.{ℕ, List}
 use Rattle.trace_values.specs.Placed.{Placed}
 use Rattle.capture_plan.specs.declared.frames.FramesMode.{FramesMode}
 use Rattle.frame_grammar.specs.SourceBytes.{source_units}
-use Rattle.port_reader.specs.Reading.{port_reading, cells_of}
+use Rattle.deformatter.specs.PortReading.{port_reading, cells_of}
 
 -- those that a port's bytes give in a mode, each at its place
 abbrev pub source_bytes : FramesMode → ℕ → List Placed → List Placed

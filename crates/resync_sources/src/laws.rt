@@ -6,7 +6,7 @@ ghost use Rattle.trace_values.specs.Grammar.{InUnits};
 ghost use Rattle.trace_values.specs.Nibbles.{nibbles_of};
 ghost use Rattle.trace_values.specs.Hunted.{pattern_of};
 ghost use Rattle.capture_plan.specs.declared.frames.FramesMode.{FramesMode};
-ghost use Rattle.port_reader.specs.Reading.{port_reading};
+ghost use Rattle.deformatter.specs.PortReading.{port_reading};
 ghost use Rattle.itm_grammar.specs.declared.packet.ItmPacket.TheVariants.{Sync};
 ghost use Rattle.itm_grammar.specs.Spelling as itm_spelling;
 ghost use Rattle.itm_codec.specs.Reading as itm_reading;

@@ -1,5 +1,7 @@
 -- What a hunt reads of realigned bytes follows the capture.
-use Rattle.std.proofs.Common.{◌≡◌, ℕ, suc, ◌+◌, ◌-◌, ◌*◌, ◌/◌, ◌<◌, ◌≤◌, List, [], ◌∷◌, ◌++◌, length, length-append, take, drop, map, Bool, true, Option, None, Some, refl, sym, ◌∙◌, ap, subst, ◌⊎◌, inl, inr, arith, append-nil}
+use Rattle.std.proofs.Common.{◌≡◌, ℕ, suc, ◌+◌, ◌-◌, ◌*◌, ◌/◌, ◌<◌, ◌≤◌, List, [], ◌∷◌, ◌++◌, length, length-append}
+use Rattle.std.proofs.Common.{take, drop, map, Bool, true, Option, None, Some, refl, sym, ◌∙◌, ap, subst, ◌⊎◌, inl}
+use Rattle.std.proofs.Common.{inr, arith, append-nil}
 use Rattle.std.specs.List.{AllByRecursion, flat_map}
 use Rattle.std.proofs.lemmas.List.{take-append-drop, map-append}
 use Rattle.std.proofs.Math.Seq.{take-append-add}
@@ -19,7 +21,7 @@ use Rattle.deformatter.proofs.Readings.{hunt_is}
 use Rattle.frame_grammar.specs.Reading.{port_reading as reading_of}
 use Rattle.frame_grammar.proofs.Deciding.{port_decided}
 use Rattle.frame_grammar.proofs.Wholes.{units_from}
-use Rattle.port_reader.specs.Reading.{port_reading, cells_of}
+use Rattle.deformatter.specs.PortReading.{port_reading, cells_of}
 use Rattle.port_slip.specs.Bits.{bits_of}
 use Rattle.port_slip.specs.Segments.{Realigned, realigned}
 use Rattle.source_events.specs.declared.plan.Plan.{Plan}

@@ -6,7 +6,7 @@ use Rattle.trace_values.specs.Reading.{Reading}
 use Rattle.capture_plan.specs.declared.frames.FramesMode.TheVariants.{Hunt, Aligned}
 use Rattle.frame_grammar.specs.Port.{PortItem}
 use Rattle.frame_grammar.specs.Reading.{port_reading as reading_of}
-use Rattle.port_reader.specs.Reading.{port_reading, cells_of}
+use Rattle.deformatter.specs.PortReading.{port_reading, cells_of}
 use Rattle.port_slip.specs.Bits.{bits_of}
 use Rattle.port_slip.specs.Segments.{realigned}
 use Rattle.source_events.specs.declared.plan.Plan.{Plan}

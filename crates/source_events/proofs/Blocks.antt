@@ -1,9 +1,10 @@
 -- Many parts of one source at once, as the bytes of a capture with no formatter.
-use Rattle.std.proofs.Common.{◌≡◌, ℕ, List, [], ◌∷◌, ◌++◌, map, refl, sym, ◌∙◌, ap, append_assoc, append-nil, Option, Some}
+use Rattle.std.proofs.Common.{◌≡◌, ℕ, List, [], ◌∷◌, ◌++◌, map, refl, sym, ◌∙◌, ap, append_assoc, append-nil, Option}
+use Rattle.std.proofs.Common.{Some}
 use Rattle.std.proofs.lemmas.List.{append_cancel_left}
 use Rattle.trace_values.specs.declared.cell.Cell.{Cell}
 use Rattle.trace_values.specs.Placed.{Place, Placed}
-use Rattle.port_reader.specs.Reading.{bare_cell}
+use Rattle.deformatter.specs.PortReading.{bare_cell}
 use Rattle.source_events.specs.declared.event.What.{What}
 use Rattle.source_events.specs.Runs.{all_runs}
 use Rattle.source_events.specs.Merge.{told, grown, merged_from, InOrder}

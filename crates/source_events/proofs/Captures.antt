@@ -1,5 +1,6 @@
 -- How the report of a whole capture grows with its bytes.
-use Rattle.std.proofs.Common.{◌≡◌, ℕ, ◌+◌, ◌≤◌, List, [], ◌++◌, length, refl, sym, ◌∙◌, ap, subst, append-nil, arith, Option, None, Some, Bool, false}
+use Rattle.std.proofs.Common.{◌≡◌, ℕ, ◌+◌, ◌≤◌, List, [], ◌++◌, length, refl, sym, ◌∙◌, ap, subst, append-nil, arith}
+use Rattle.std.proofs.Common.{Option, None, Some, Bool, false}
 use Rattle.std.specs.Prelude.{is_none}
 use Rattle.trace_values.specs.declared.cell.Cell.{Cell}
 use Rattle.trace_values.specs.declared.fault.Reason.{Reason}
@@ -7,15 +8,16 @@ use Rattle.trace_values.specs.Placed.{Place, Placed, placed, placed_from}
 use Rattle.trace_values.proofs.Placing.{placed_append}
 use Rattle.capture_plan.specs.declared.frames.FramesMode.{FramesMode}
 use Rattle.capture_plan.specs.declared.frames.FramesMode.TheVariants.{Hunt, Aligned, Bare}
-use Rattle.port_reader.specs.Rising.{BytesRise}
-use Rattle.port_reader.specs.Reading.{port_reading}
-use Rattle.port_reader.proofs.ReadingLaws.{none_read}
-use Rattle.port_reader.proofs.RisingLaws.{placed_rise}
+use Rattle.deformatter.specs.Rising.{BytesRise}
+use Rattle.deformatter.specs.PortReading.{port_reading}
+use Rattle.deformatter.proofs.PortReadingLaws.{none_read}
+use Rattle.deformatter.proofs.RisingLaws.{placed_rise}
 use Rattle.source_events.specs.declared.event.Event.{Event}
 use Rattle.source_events.specs.declared.event.What.{What}
 use Rattle.source_events.specs.Runs.{all_runs}
 use Rattle.source_events.specs.Merge.{told, cut}
-use Rattle.source_events.specs.Report.{Mapped, AreLawful, lesser, of_source, least_fault, all_events, port_events, runs_in, stop_in, capture_events, report}
+use Rattle.source_events.specs.Report.{Mapped, AreLawful, lesser, of_source, least_fault, all_events, port_events}
+use Rattle.source_events.specs.Report.{runs_in, stop_in, capture_events, report}
 use Rattle.source_events.proofs.Growth as growth
 use Rattle.source_events.proofs.Least.{Full}
 

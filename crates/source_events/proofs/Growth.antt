@@ -1,5 +1,7 @@
 -- Further bytes mend no fault of a capture, and take nothing of its report back.
-use Rattle.std.proofs.Common.{◌≡◌, ℕ, suc, ◌+◌, ◌<◌, ◌≤◌, List, [], ◌∷◌, ◌++◌, length, refl, sym, ◌∙◌, ap, subst, append_assoc, append-nil, ◌⊎◌, inl, inr, arith, Option, None, Some, Bool, true, false, cond}
+use Rattle.std.proofs.Common.{◌≡◌, ℕ, suc, ◌+◌, ◌<◌, ◌≤◌, List, [], ◌∷◌, ◌++◌, length, refl, sym, ◌∙◌, ap, subst}
+use Rattle.std.proofs.Common.{append_assoc, append-nil, ◌⊎◌, inl, inr, arith, Option, None, Some, Bool, true, false}
+use Rattle.std.proofs.Common.{cond}
 use Rattle.std.specs.Prelude.{is_none}
 use Rattle.std.proofs.lemmas.List.{map-append}
 use Rattle.std.proofs.lemmas.Grind.{flat_map-append}
@@ -14,21 +16,23 @@ use Rattle.frame_grammar.specs.Reading.{offsets_of}
 use Rattle.deformatter.specs.Reading.{PortStream, port_stream, read_after}
 use Rattle.deformatter.proofs.Readings.{hunt_is, by_mode, IsRead, seeks_old, port_hunt}
 use Rattle.deformatter.proofs.ReadingLaws.{settles as port_settles, rises as port_rises}
-use Rattle.port_reader.specs.Reading.{PortReading, framed, port_reading}
-use Rattle.port_reader.specs.Rising.{Rise, BytesRise}
-use Rattle.port_reader.proofs.ReadingLaws as port
-use Rattle.port_reader.proofs.RisingLaws.{rise_le, rise_join, placed_rise}
+use Rattle.deformatter.specs.PortReading.{PortReading, framed, port_reading}
+use Rattle.deformatter.specs.Rising.{Rise, BytesRise}
+use Rattle.deformatter.proofs.PortReadingLaws as port
+use Rattle.deformatter.proofs.RisingLaws.{rise_le, rise_join, placed_rise}
 use Rattle.source_events.specs.declared.event.Event.{Event}
 use Rattle.source_events.specs.declared.event.What.{What}
 use Rattle.source_events.specs.Runs.{id_of, runs_of, all_runs, IsRunFrom, end_of}
 use Rattle.source_events.specs.Merge.{told, start_of, AllIn, merged_from, cut, InOrder, Below}
-use Rattle.source_events.specs.Report.{Mapped, AreLawful, events, lesser, is_less, of_source, least_fault, all_events, lock_at, port_events, runs_in, stop_in, capture_events, report}
+use Rattle.source_events.specs.Report.{Mapped, AreLawful, events, lesser, is_less, of_source, least_fault, all_events}
+use Rattle.source_events.specs.Report.{lock_at, port_events, runs_in, stop_in, capture_events, report}
 use Rattle.source_events.proofs.Merges.{cut_append, cut_below, below_told, below_weaker}
 use Rattle.source_events.proofs.Running.{end_within, rises_weaker}
 use Rattle.source_events.proofs.Placing.{RunsBetween, runs_between, between_order}
 use Rattle.source_events.proofs.Locking.{first_end, port_first, runs_first}
 use Rattle.source_events.proofs.LockSteps.{unlocked, locked, same_notice}
-use Rattle.source_events.proofs.Least.{Full, Later, later_weaker, later_of, later_both, second_wins, others_later, least_none}
+use Rattle.source_events.proofs.Least.{Full, Later, later_weaker, later_of, later_both, second_wins, others_later}
+use Rattle.source_events.proofs.Least.{least_none}
 use Rattle.source_events.proofs.Settling.{all_sound, least_stays, least_below, cut_stays, cut_grows}
 
 -- where the report has no fault, the port has none

@@ -1,6 +1,8 @@
 -- Where no source is mapped, the events of a source are counted by the runs of its frames.
 use Rattle.std.specs.Prelude.{◌==◌, ◌&&◌, ◌||◌, is_none}
-use Rattle.std.proofs.Common.{◌≡◌, ◌≢◌, ℕ, zero, suc, ◌+◌, ◌<◌, ◌≤◌, List, [], ◌∷◌, ◌++◌, length, map, filter, take, drop, flat_map, refl, sym, ◌∙◌, ap, subst, ◌⊎◌, inl, inr, arith, Option, None, Some, Bool, true, false, cond}
+use Rattle.std.proofs.Common.{◌≡◌, ◌≢◌, ℕ, zero, suc, ◌+◌, ◌<◌, ◌≤◌, List, [], ◌∷◌, ◌++◌, length, map, filter, take}
+use Rattle.std.proofs.Common.{drop, flat_map, refl, sym, ◌∙◌, ap, subst, ◌⊎◌, inl, inr, arith, Option, None, Some}
+use Rattle.std.proofs.Common.{Bool, true, false, cond}
 use Rattle.std.specs.List.{All, count_by, sum_by, list_any, range_with_len}
 use Rattle.std.proofs.lemmas.List.{length-append}
 use Rattle.std.proofs.lemmas.List.Sums.{sum_by-cons}
@@ -9,7 +11,7 @@ use Rattle.trace_values.specs.declared.cell.Cell.{Cell}
 use Rattle.trace_values.specs.Placed.{Place, Placed, byte_at}
 use Rattle.frame_grammar.specs.Reading.{is_source, source_list}
 use Rattle.frame_grammar.specs.Runs.{HasRuns}
-use Rattle.port_reader.specs.Runs.{HaveRuns}
+use Rattle.deformatter.specs.Runs.{HaveRuns}
 use Rattle.source_counts.specs.Counts.{has_run, runs_of as run_count, frame_items, items_of}
 use Rattle.source_counts.proofs.Counting.{count_same, count_more}
 use Rattle.source_events.specs.declared.event.Event.{Event}

@@ -1,5 +1,6 @@
 -- What the port gives grows by the notice of its lock alone, at the byte with which it locks.
-use Rattle.std.proofs.Common.{◌≡◌, ℕ, ◌+◌, ◌<◌, ◌≤◌, List, [], ◌∷◌, ◌++◌, length, refl, sym, ◌∙◌, ap, subst, inl, inr, arith, append-nil, Bool, true, false, cond}
+use Rattle.std.proofs.Common.{◌≡◌, ℕ, ◌+◌, ◌<◌, ◌≤◌, List, [], ◌∷◌, ◌++◌, length, refl, sym, ◌∙◌, ap, subst, inl, inr}
+use Rattle.std.proofs.Common.{arith, append-nil, Bool, true, false, cond}
 use Rattle.std.proofs.lemmas.List.{append_cancel_left}
 use Rattle.trace_values.specs.Placed.{Place, Placed, byte_at, units_of}
 use Rattle.trace_values.proofs.Readings as readings
@@ -11,12 +12,13 @@ use Rattle.frame_grammar.proofs.Deciding.{port_decided}
 use Rattle.deformatter.specs.Growth.{place_at, AllEndAt}
 use Rattle.deformatter.specs.Reading.{PortStream, port_stream}
 use Rattle.deformatter.specs.declared.step.PortStep.{PortStep}
-use Rattle.deformatter.specs.declared.step.PortStep.TheVariants.{Quiet, Half, Full as FullEnds, Frame, Locked as PortLocked, Fault}
+use Rattle.deformatter.specs.declared.step.PortStep.TheVariants.{Quiet, Half, Full as FullEnds, Frame}
+use Rattle.deformatter.specs.declared.step.PortStep.TheVariants.{Locked as PortLocked, Fault}
 use Rattle.deformatter.proofs.Readings.{hunt_is}
 use Rattle.deformatter.proofs.ReadingLaws.{rises}
-use Rattle.port_reader.specs.ByGrammar.{full_sync}
-use Rattle.port_reader.specs.Growth.{HuntBy}
-use Rattle.port_reader.specs.Reading.{PortReading, port_reading}
+use Rattle.deformatter.specs.ByGrammar.{full_sync}
+use Rattle.deformatter.specs.ReadingGrowth.{HuntBy}
+use Rattle.deformatter.specs.PortReading.{PortReading, port_reading}
 use Rattle.source_events.specs.declared.event.What.{What}
 use Rattle.source_events.specs.Report.{lock_at, port_events, notice_by}
 use Rattle.source_events.proofs.Locking.{units_append, front_of}

@@ -1,5 +1,6 @@
 -- The notice of the port's lock is before all cells: a hunted reading begins with a full synchronisation.
-use Rattle.std.proofs.Common.{◌≡◌, ℕ, zero, suc, ◌+◌, ◌<◌, ◌≤◌, List, [], ◌∷◌, ◌++◌, length, refl, sym, ◌∙◌, ap, subst, inl, inr, arith, append_assoc, true, Option, None}
+use Rattle.std.proofs.Common.{◌≡◌, ℕ, zero, suc, ◌+◌, ◌<◌, ◌≤◌, List, [], ◌∷◌, ◌++◌, length, refl, sym, ◌∙◌, ap, subst}
+use Rattle.std.proofs.Common.{inl, inr, arith, append_assoc, true, Option, None}
 use Rattle.std.proofs.lemmas.List.{map-append, append_cancel_left}
 use Rattle.trace_values.specs.declared.cell.Cell.{Cell}
 use Rattle.trace_values.specs.Placed.{Place, Placed, units_of}
@@ -14,11 +15,11 @@ use Rattle.frame_grammar.specs.Reading.{offsets_of, port_progress, cells_of_item
 use Rattle.frame_grammar.proofs.Deciding.{port_decided}
 use Rattle.deformatter.specs.Reading.{PortStream, port_stream, read_after, items_of, cells_in}
 use Rattle.deformatter.proofs.Readings.{hunt_is}
-use Rattle.port_reader.specs.Reading.{PortReading, framed, port_reading, cells_of}
-use Rattle.port_reader.specs.ByGrammar.{full_sync}
-use Rattle.port_reader.specs.Rising.{Rise, offsets_in, BytesRise, CellsRise, end_at}
-use Rattle.port_reader.proofs.ReadingLaws.{framed_cells}
-use Rattle.port_reader.proofs.RisingLaws.{rise_le, rise_split, items_rise, reading_rises}
+use Rattle.deformatter.specs.PortReading.{PortReading, framed, port_reading, cells_of}
+use Rattle.deformatter.specs.ByGrammar.{full_sync}
+use Rattle.deformatter.specs.Rising.{Rise, offsets_in, BytesRise, CellsRise, end_at}
+use Rattle.deformatter.proofs.PortReadingLaws.{framed_cells}
+use Rattle.deformatter.proofs.RisingLaws.{rise_le, rise_split, items_rise, reading_rises}
 use Rattle.source_events.specs.declared.event.What.{What}
 use Rattle.source_events.specs.Merge.{IsAtMost, start_of, AllIn}
 use Rattle.source_events.specs.Report.{lock_at, port_events, runs_in}

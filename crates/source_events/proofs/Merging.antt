@@ -2,8 +2,8 @@
 use Rattle.std.proofs.Common.{◌↔◌, ◌≡◌, ℕ, List, subst, sym}
 use Rattle.trace_values.specs.Placed.{Placed}
 use Rattle.capture_plan.specs.declared.frames.FramesMode.{FramesMode}
-use Rattle.port_reader.specs.Reading.{port_reading}
-use Rattle.port_reader.specs.Rising.{BytesRise}
+use Rattle.deformatter.specs.PortReading.{port_reading}
+use Rattle.deformatter.specs.Rising.{BytesRise}
 use Rattle.source_events.specs.declared.event.Event.{Event}
 use Rattle.source_events.specs.Runs.{id_of, IsRunFrom, end_of}
 use Rattle.source_events.specs.Merge.{IsMerged}

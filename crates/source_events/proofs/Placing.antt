@@ -1,5 +1,6 @@
 -- The runs of frames whose cells rise in offset are in order, after the notice of the port's lock.
-use Rattle.std.proofs.Common.{◌≡◌, ℕ, zero, suc, ◌+◌, ◌≤◌, List, [], ◌∷◌, ◌++◌, length, take, drop, flat_map, refl, sym, ◌∙◌, ap, subst, inl, inr, arith, append_assoc}
+use Rattle.std.proofs.Common.{◌≡◌, ℕ, zero, suc, ◌+◌, ◌≤◌, List, [], ◌∷◌, ◌++◌, length, take, drop, flat_map, refl}
+use Rattle.std.proofs.Common.{sym, ◌∙◌, ap, subst, inl, inr, arith, append_assoc}
 use Rattle.std.proofs.lemmas.List.{map-append}
 use Rattle.std.proofs.lemmas.Grind.{flat_map-append}
 use Rattle.trace_values.specs.declared.cell.Cell.{Cell}
@@ -8,9 +9,9 @@ use Rattle.trace_values.specs.Reading.{Splits}
 use Rattle.capture_plan.specs.declared.frames.FramesMode.{FramesMode}
 use Rattle.capture_plan.specs.declared.frames.FramesMode.TheVariants.{Hunt, Aligned, Bare}
 use Rattle.frame_grammar.specs.Reading.{offsets_of}
-use Rattle.port_reader.specs.Reading.{PortReading, port_reading, cells_of}
-use Rattle.port_reader.specs.Rising.{Rise, offsets_in, BytesRise, CellsRise, end_at}
-use Rattle.port_reader.proofs.RisingLaws.{rise_split, reading_rises}
+use Rattle.deformatter.specs.PortReading.{PortReading, port_reading, cells_of}
+use Rattle.deformatter.specs.Rising.{Rise, offsets_in, BytesRise, CellsRise, end_at}
+use Rattle.deformatter.proofs.RisingLaws.{rise_split, reading_rises}
 use Rattle.source_events.specs.Runs.{runs_of, all_runs, RisesFrom, IsRunFrom, end_of, more_of}
 use Rattle.source_events.specs.Merge.{Between, InOrder}
 use Rattle.source_events.specs.Report.{runs_in}

@@ -1,6 +1,7 @@
 -- The runs of a frame, one after the other, are its cells, and each is all the cells of its number.
 use Rattle.std.specs.Prelude.{◌==◌}
-use Rattle.std.proofs.Common.{◌≡◌, ◌≢◌, ℕ, zero, suc, ◌+◌, ◌<◌, ◌≤◌, List, [], ◌∷◌, ◌++◌, length, map, flat_map, refl, sym, ◌∙◌, ap, subst, append_assoc, inl, inr, arith, Option, Some, Bool, true, false, cond}
+use Rattle.std.proofs.Common.{◌≡◌, ◌≢◌, ℕ, zero, suc, ◌+◌, ◌<◌, ◌≤◌, List, [], ◌∷◌, ◌++◌, length, map, flat_map, refl}
+use Rattle.std.proofs.Common.{sym, ◌∙◌, ap, subst, append_assoc, inl, inr, arith, Option, Some, Bool, true, false, cond}
 use Rattle.std.specs.List.{filter, Contains}
 use Rattle.std.specs.List.Sorted.{IsNonDecreasingBy}
 use Rattle.std.proofs.lemmas.List.{map-append}
@@ -11,7 +12,7 @@ use Rattle.trace_values.specs.Placed.{Placed, byte_at}
 use Rattle.frame_grammar.specs.Reading.{is_source, source_list}
 use Rattle.frame_grammar.specs.Runs.{HasRuns}
 use Rattle.frame_grammar.specs.SourceBytes.{source_units}
-use Rattle.port_reader.specs.Runs.{HaveRuns}
+use Rattle.deformatter.specs.Runs.{HaveRuns}
 use Rattle.source_events.specs.Runs.{joined, runs_of, all_runs, id_of, placed_run, list_of, AreWhole}
 use Rattle.source_events.proofs.Merges.{test_same, test_other, same_or_not}
 

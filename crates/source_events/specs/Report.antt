@@ -14,7 +14,7 @@ use Rattle.capture_plan.specs.declared.frames.FramesMode.TheVariants.{Hunt, Alig
 use Rattle.deformatter.specs.Reading.{PortStream, port_stream}
 use Rattle.deformatter.specs.declared.step.PortStep.{PortStep}
 use Rattle.deformatter.specs.declared.step.PortStep.TheVariants.{Locked as PortLocked}
-use Rattle.port_reader.specs.Reading.{PortReading, port_reading}
+use Rattle.deformatter.specs.PortReading.{PortReading, port_reading}
 use Rattle.source_events.specs.declared.event.Event.{Event}
 use Rattle.source_events.specs.declared.event.Stop.{Stop}
 use Rattle.source_events.specs.declared.event.What.{What}

@@ -8,7 +8,7 @@ use Rattle.capture_plan.specs.declared.frames.FramesMode.TheVariants.{Hunt as Fr
 use Rattle.capture_plan.specs.declared.frames.FramesMode.TheVariants.{Bare as FramesBare}
 use Rattle.capture_plan.specs.declared.packets.PacketsMode.{PacketsMode}
 use Rattle.capture_plan.specs.declared.packets.PacketsMode.TheVariants.{Hunt as PacketsHunt, Aligned as PacketsAligned}
-use Rattle.port_reader.specs.Reading.{PortReading, port_reading}
+use Rattle.deformatter.specs.PortReading.{PortReading, port_reading}
 use Rattle.source_counts.specs.Counts.{bytes_of, unattributed_of}
 use Rattle.source_counts.specs.declared.counts.Counts.{Counts}
 use Rattle.source_events.specs.declared.plan.Plan.{Plan}

@@ -1,5 +1,6 @@
 -- Counts of bytes, in the words of runs and in those of cells.
-use Rattle.std.proofs.Common.{◌≡◌, ℕ, suc, ◌+◌, List, [], ◌∷◌, length, flat_map, refl, sym, ◌∙◌, ap, arith, inl, inr, Bool, true, false, cond, Option}
+use Rattle.std.proofs.Common.{◌≡◌, ℕ, suc, ◌+◌, List, [], ◌∷◌, length, flat_map, refl, sym, ◌∙◌, ap, arith, inl, inr}
+use Rattle.std.proofs.Common.{Bool, true, false, cond, Option}
 use Rattle.std.specs.Prelude.{is_none}
 use Rattle.std.specs.List.{count_by}
 use Rattle.std.proofs.lemmas.List.{length-map}
@@ -8,9 +9,9 @@ use Rattle.trace_values.specs.declared.cell.Cell.{Cell}
 use Rattle.trace_values.specs.Placed.{Placed, byte_at}
 use Rattle.capture_plan.specs.declared.frames.FramesMode.{FramesMode}
 use Rattle.frame_grammar.specs.Reading.{source_list}
-use Rattle.port_reader.specs.Reading.{port_reading}
-use Rattle.port_reader.specs.Runs.{HaveRuns}
-use Rattle.port_reader.proofs.ReadingLaws.{frames_have_runs}
+use Rattle.deformatter.specs.PortReading.{port_reading}
+use Rattle.deformatter.specs.Runs.{HaveRuns}
+use Rattle.deformatter.proofs.PortReadingLaws.{frames_have_runs}
 use Rattle.source_counts.specs.Counts.{bytes_of, unattributed_of}
 use Rattle.source_events.specs.Runs.{runs_of, all_runs, id_of, joined}
 use Rattle.source_events.specs.Report.{runs_in}

@@ -1,5 +1,6 @@
 -- What a byte of a capture with no formatter adds to the report, where source 1 is mapped.
-use Rattle.std.proofs.Common.{◌≡◌, ◌≢◌, ℕ, ◌+◌, ◌≤◌, List, [], ◌∷◌, ◌++◌, refl, sym, ◌∙◌, ap, subst, append-nil, arith, None, Some, true}
+use Rattle.std.proofs.Common.{◌≡◌, ◌≢◌, ℕ, ◌+◌, ◌≤◌, List, [], ◌∷◌, ◌++◌, refl, sym, ◌∙◌, ap, subst, append-nil, arith}
+use Rattle.std.proofs.Common.{None, Some, true}
 use Rattle.std.proofs.lemmas.List.{map-append}
 use Rattle.trace_values.specs.declared.cell.Cell.{Cell}
 use Rattle.trace_values.specs.declared.fault.Fault.{Fault}
@@ -7,8 +8,8 @@ use Rattle.trace_values.specs.Placed.{Place, Placed, byte_at}
 use Rattle.trace_values.specs.Stream.{Said}
 use Rattle.capture_plan.specs.declared.frames.FramesMode.TheVariants.{Bare}
 use Rattle.frame_grammar.specs.Reading.{is_source}
-use Rattle.port_reader.specs.Reading.{bare_cell, port_reading}
-use Rattle.port_reader.specs.Rising.{BytesRise}
+use Rattle.deformatter.specs.PortReading.{bare_cell, port_reading}
+use Rattle.deformatter.specs.Rising.{BytesRise}
 use Rattle.source_events.specs.declared.event.Event.{Event}
 use Rattle.std.proofs.lemmas.Grind.{flat_map-append}
 use Rattle.source_events.specs.Runs.{all_runs, runs_of, id_of, IsRunFrom, list_of}

@@ -1,11 +1,12 @@
 -- What is counted of a capture with no formatter.
-use Rattle.std.proofs.Common.{◌≡◌, ℕ, ◌+◌, List, [], ◌∷◌, ◌++◌, length, map, refl, sym, ◌∙◌, ap, arith, Bool, true, false, cond, inl, inr, length-append}
+use Rattle.std.proofs.Common.{◌≡◌, ℕ, ◌+◌, List, [], ◌∷◌, ◌++◌, length, map, refl, sym, ◌∙◌, ap, arith, Bool, true}
+use Rattle.std.proofs.Common.{false, cond, inl, inr, length-append}
 use Rattle.std.specs.Prelude.{◌==◌}
 use Rattle.std.proofs.lemmas.List.{length-map}
 use Rattle.trace_values.specs.declared.cell.Cell.{Cell}
 use Rattle.trace_values.specs.Placed.{Placed, byte_at}
 use Rattle.capture_plan.specs.declared.frames.FramesMode.TheVariants.{Bare}
-use Rattle.port_reader.specs.Reading.{bare_cell, port_reading}
+use Rattle.deformatter.specs.PortReading.{bare_cell, port_reading}
 use Rattle.source_events.specs.Runs.{list_of}
 use Rattle.source_events.specs.Report.{runs_in}
 use Rattle.source_events.proofs.Blocks.{bare_runs}

@@ -1,5 +1,6 @@
 -- What an engine keeps, as it goes on with the front of a piece of a capture with no formatter.
-use Rattle.std.proofs.Common.{◌≡◌, ◌≢◌, ℕ, ◌+◌, ◌-◌, ◌<◌, ◌≤◌, List, [], ◌∷◌, ◌++◌, length, take, get_or, refl, sym, ◌∙◌, ap, subst, append_assoc, append-nil, arith, Option, None, Some}
+use Rattle.std.proofs.Common.{◌≡◌, ◌≢◌, ℕ, ◌+◌, ◌-◌, ◌<◌, ◌≤◌, List, [], ◌∷◌, ◌++◌, length, take, get_or, refl, sym}
+use Rattle.std.proofs.Common.{◌∙◌, ap, subst, append_assoc, append-nil, arith, Option, None, Some}
 use Rattle.std.specs.Option.{option_map}
 use Rattle.std.proofs.lemmas.List.{take_more, length-take-le}
 use Rattle.trace_values.specs.declared.block.Block.{Block}
@@ -10,8 +11,8 @@ use Rattle.trace_values.proofs.Placing.{placed_from_push, length-placed_from}
 use Rattle.capture_plan.specs.declared.frames.FramesMode.{FramesMode}
 use Rattle.capture_plan.specs.declared.frames.FramesMode.TheVariants.{Bare}
 use Rattle.deformatter.specs.Block.{EachByte}
-use Rattle.port_reader.specs.Reading.{port_reading}
-use Rattle.port_reader.specs.Rising.{BytesRise}
+use Rattle.deformatter.specs.PortReading.{port_reading}
+use Rattle.deformatter.specs.Rising.{BytesRise}
 use Rattle.source_events.specs.declared.event.Event.{Event}
 use Rattle.source_events.specs.declared.event.Stop.{Stop}
 use Rattle.source_events.specs.declared.packet.Packet.{Packet}

@@ -1,5 +1,6 @@
 -- The slots after the machine of one of them took the front of a piece.
-use Rattle.std.proofs.Common.{◌≡◌, ℕ, ◌+◌, ◌*◌, ◌<◌, List, ◌∷◌, ◌++◌, get_or, take, drop, length, refl, sym, ◌∙◌, ap, subst, Option, None, Some, true}
+use Rattle.std.proofs.Common.{◌≡◌, ℕ, ◌+◌, ◌*◌, ◌<◌, List, ◌∷◌, ◌++◌, get_or, take, drop, length, refl, sym, ◌∙◌, ap}
+use Rattle.std.proofs.Common.{subst, Option, None, Some, true}
 use Rattle.std.proofs.lemmas.List.{take-append-drop, drop_more}
 use Rattle.std.specs.Option.{option_map}
 use Rattle.trace_values.specs.declared.block.Block.{Block}
@@ -9,8 +10,8 @@ use Rattle.trace_values.specs.Block.{goes_on_after}
 use Rattle.trace_values.specs.Placed.{Placed}
 use Rattle.capture_plan.specs.declared.frames.FramesMode.{FramesMode}
 use Rattle.capture_plan.specs.declared.frames.FramesMode.TheVariants.{Bare}
-use Rattle.port_reader.specs.declared.reader.PortReader.{PortReader}
-use Rattle.port_reader.specs.Reader.{Stands as PortStands, StandsByMode, mode_of}
+use Rattle.deformatter.specs.declared.reader.PortReader.{PortReader}
+use Rattle.deformatter.specs.Reader.{Stands as PortStands, StandsByMode, mode_of}
 use Rattle.source_events.specs.declared.event.Stop.{Stop}
 use Rattle.source_events.specs.declared.packet.Packet.{Packet}
 use Rattle.source_events.specs.Report.{Mapped}

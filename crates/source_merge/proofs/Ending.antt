@@ -1,5 +1,6 @@
 -- The tails of the mapped sources.
-use Rattle.std.proofs.Common.{◌≡◌, ℕ, zero, suc, ◌+◌, ◌≤◌, List, [], ◌∷◌, ◌++◌, length, map, flat_map, get_or, refl, sym, ◌∙◌, ap, subst, arith, Option, None, Some, Bool, true, false, cond, append-nil}
+use Rattle.std.proofs.Common.{◌≡◌, ℕ, zero, suc, ◌+◌, ◌≤◌, List, [], ◌∷◌, ◌++◌, length, map, flat_map, get_or, refl}
+use Rattle.std.proofs.Common.{sym, ◌∙◌, ap, subst, arith, Option, None, Some, Bool, true, false, cond, append-nil}
 use Rattle.std.specs.Prelude.{◌==◌, ◌||◌, position, nat_lt, not}
 use Rattle.std.specs.Option.{option_map}
 use Rattle.std.specs.List.{position_or_len, list_any, count_by, range_with_len}
@@ -16,7 +17,7 @@ use Rattle.source_events.specs.declared.plan.Plan.{Plan}
 use Rattle.source_events.specs.declared.plan.SourceKind.{SourceKind}
 use Rattle.source_events.specs.declared.plan.SourceKind.TheVariants.{Itm, Stp}
 use Rattle.source_events.specs.Plan.{stream_of, sources_by, kind_of}
-use Rattle.port_reader.specs.Reading.{PortReading}
+use Rattle.deformatter.specs.PortReading.{PortReading}
 use Rattle.source_events.specs.declared.tails.SourceTail.{SourceTail}
 use Rattle.source_events.specs.Report.{Mapped}
 use Rattle.source_events.specs.Tails.{source_tails, tail_by}

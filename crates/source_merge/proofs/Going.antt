@@ -1,5 +1,6 @@
 -- What an engine keeps, as it goes on with bytes that end nothing and with one that does.
-use Rattle.std.proofs.Common.{◌≡◌, ℕ, ◌+◌, ◌<◌, ◌≤◌, List, [], ◌∷◌, ◌++◌, length, refl, sym, ◌∙◌, ap, subst, append_assoc, append-nil, arith, Option, None, inl, inr, length-append}
+use Rattle.std.proofs.Common.{◌≡◌, ℕ, ◌+◌, ◌<◌, ◌≤◌, List, [], ◌∷◌, ◌++◌, length, refl, sym, ◌∙◌, ap, subst}
+use Rattle.std.proofs.Common.{append_assoc, append-nil, arith, Option, None, inl, inr, length-append}
 use Rattle.std.specs.Option.{option_map}
 use Rattle.std.proofs.lemmas.List.{map-append}
 use Rattle.trace_values.specs.declared.cell.Cell.{Cell}
@@ -11,10 +12,10 @@ use Rattle.capture_plan.specs.declared.frames.FramesMode.{FramesMode}
 use Rattle.deformatter.specs.declared.step.PortStep.{PortStep}
 use Rattle.deformatter.specs.declared.step.PortStep.TheVariants.{Quiet, Half}
 use Rattle.deformatter.specs.Growth.{fulls_by}
-use Rattle.port_reader.specs.Growth.{Answers as PortAnswers, IsInside, FedFrame, GrowsByFrame}
-use Rattle.port_reader.specs.Reading.{port_reading}
-use Rattle.port_reader.specs.Rising.{Rise, BytesRise, end_at}
-use Rattle.port_reader.proofs.RisingLaws.{rise_join, placed_rise}
+use Rattle.deformatter.specs.ReadingGrowth.{Answers as PortAnswers, IsInside, FedFrame, GrowsByFrame}
+use Rattle.deformatter.specs.PortReading.{port_reading}
+use Rattle.deformatter.specs.Rising.{Rise, BytesRise, end_at}
+use Rattle.deformatter.proofs.RisingLaws.{rise_join, placed_rise}
 use Rattle.source_events.specs.declared.event.Event.{Event}
 use Rattle.source_events.specs.declared.packet.Packet.{Packet}
 use Rattle.source_events.specs.declared.event.Stop.{Stop}

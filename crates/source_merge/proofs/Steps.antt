@@ -1,5 +1,6 @@
 -- What a step of the port adds to the report.
-use Rattle.std.proofs.Common.{◌≡◌, ℕ, ◌+◌, ◌≤◌, List, [], ◌∷◌, ◌++◌, refl, sym, ◌∙◌, ap, subst, append_assoc, append-nil, arith, Option, None, Some, inl, inr, ◌⊎◌, false, flat_map}
+use Rattle.std.proofs.Common.{◌≡◌, ℕ, ◌+◌, ◌≤◌, List, [], ◌∷◌, ◌++◌, refl, sym, ◌∙◌, ap, subst, append_assoc}
+use Rattle.std.proofs.Common.{append-nil, arith, Option, None, Some, inl, inr, ◌⊎◌, false, flat_map}
 use Rattle.std.proofs.lemmas.List.{map-append}
 use Rattle.std.proofs.lemmas.Grind.{flat_map-append}
 use Rattle.trace_values.specs.declared.cell.Cell.{Cell}
@@ -14,21 +15,23 @@ use Rattle.deformatter.specs.Reading.{items_of}
 use Rattle.deformatter.specs.declared.step.PortStep.{PortStep}
 use Rattle.deformatter.specs.declared.step.PortStep.TheVariants.{Quiet, Half, Full as FullEnds, Locked}
 use Rattle.deformatter.specs.Growth.{fault_by}
-use Rattle.port_reader.specs.Growth.{frames_by}
-use Rattle.port_reader.specs.Reading.{PortReading, port_reading, frames_of_items, cells_of}
-use Rattle.port_reader.specs.Rising.{Rise, offsets_in, BytesRise, end_at}
-use Rattle.port_reader.proofs.RisingLaws.{rise_split, rise_join}
+use Rattle.deformatter.specs.ReadingGrowth.{frames_by}
+use Rattle.deformatter.specs.PortReading.{PortReading, port_reading, frames_of_items, cells_of}
+use Rattle.deformatter.specs.Rising.{Rise, offsets_in, BytesRise, end_at}
+use Rattle.deformatter.proofs.RisingLaws.{rise_split, rise_join}
 use Rattle.source_events.specs.declared.event.Event.{Event}
 use Rattle.source_events.specs.declared.event.Stop.{Stop}
 use Rattle.source_events.specs.declared.event.What.{What}
 use Rattle.source_events.specs.Runs.{runs_of, all_runs, id_of, IsRunFrom, end_of, RisesFrom}
 use Rattle.source_events.specs.Merge.{told, cut, Below, AllIn, start_of}
-use Rattle.source_events.specs.Report.{Mapped, AreLawful, events, all_events, reported, lesser, of_source, least_fault, report, runs_in, stop_in, stop_of, capture_events, port_events, notice_by}
+use Rattle.source_events.specs.Report.{Mapped, AreLawful, events, all_events, reported, lesser, of_source, least_fault}
+use Rattle.source_events.specs.Report.{report, runs_in, stop_in, stop_of, capture_events, port_events, notice_by}
 use Rattle.source_events.proofs.Family.{adds}
 use Rattle.source_events.proofs.Least.{AreSound, Later, least_none, others_later}
 use Rattle.source_events.proofs.Locking.{first_end, port_first}
 use Rattle.source_events.proofs.LockSteps.{unlocked}
-use Rattle.source_events.proofs.Merges.{told_append, below_told, below, below_append, below_weaker, cut_below, cut_append}
+use Rattle.source_events.proofs.Merges.{told_append, below_told, below, below_append, below_weaker, cut_below}
+use Rattle.source_events.proofs.Merges.{cut_append}
 use Rattle.source_events.proofs.Placing.{frames_between, rises_from}
 use Rattle.source_events.proofs.Running.{end_within}
 use Rattle.source_merge.specs.declared.slot.Slot.{Slot}

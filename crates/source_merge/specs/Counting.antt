@@ -2,7 +2,7 @@
 use Rattle.std.specs.Prelude.{◌≡◌, ℕ, ◌+◌, ◌≤◌, List, length, slice_index, sum, if◌then◌else◌, is_none}
 use Rattle.std.specs.List.{sum_by}
 use Rattle.trace_values.specs.declared.cell.Cell.{Cell}
-use Rattle.port_reader.specs.Reading.{PortReading}
+use Rattle.deformatter.specs.PortReading.{PortReading}
 use Rattle.source_counts.specs.Counts.{bytes_of, items_of, unattributed_of}
 use Rattle.source_counts.specs.Kept as kept
 use Rattle.source_events.specs.declared.event.Event.{Event}

@@ -2,8 +2,8 @@
 use Rattle.std.specs.Prelude.{◌≡◌, ℕ, List, length, Bool, true, is_none}
 use Rattle.trace_values.specs.Placed.{Placed}
 use Rattle.frame_grammar.specs.Reading.{offsets_of}
-use Rattle.port_reader.specs.Reader as reader
-use Rattle.port_reader.specs.Rising.{BytesRise, end_at}
+use Rattle.deformatter.specs.Reader as reader
+use Rattle.deformatter.specs.Rising.{BytesRise, end_at}
 use Rattle.source_events.specs.declared.plan.Plan.{Plan}
 use Rattle.source_events.specs.Plan.{sources_by}
 use Rattle.source_events.specs.Report.{runs_in}

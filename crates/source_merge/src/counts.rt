@@ -2,14 +2,14 @@
 
 ghost use Rattle.std.specs.Prelude.{◌≡◌, ◌≤◌, ◌<◌, ◌+◌, ◌^◌, ℕ, List};
 ghost use Rattle.trace_values.specs.declared.cell.Cell.{Cell};
-ghost use Rattle.port_reader.specs.Growth.{Grows};
-ghost use Rattle.port_reader.specs.Reading.{PortReading};
+ghost use Rattle.deformatter.specs.ReadingGrowth.{Grows};
+ghost use Rattle.deformatter.specs.PortReading.{PortReading};
 ghost use Rattle.source_merge.specs.Counting.{HasPort, port_total};
 ghost use Rattle.trace_values.specs.declared.limits.TheConstants.{COUNT_ROOM};
 
 use crate::bare::{bare_source, ends_packet};
 use frame_grammar::frame::FRAME_BYTES;
-use port_reader::PortStep;
+use deformatter::PortStep;
 use source_counts::{Counts, SourceCounts};
 use source_events::{Event, Packet, PortCounts, What};
 use trace_values::{Cell, ID_COUNT, SourceId, Step};
@@ -147,7 +147,7 @@ impl ByteCounts {
     ghost use Rattle.trace_values.specs.declared.cell.Cell.{Cell};
     ghost use Rattle.trace_values.specs.Placed.{Placed};
     ghost use Rattle.capture_plan.specs.declared.frames.FramesMode.TheVariants.{Bare};
-    ghost use Rattle.port_reader.specs.Reading.{port_reading};
+    ghost use Rattle.deformatter.specs.PortReading.{port_reading};
     ghost use Rattle.std.specs.Prelude.{Some};
     ghost use Rattle.source_events.specs.Runs.{id_of};
     ghost use Rattle.source_events.specs.Report.{runs_in};
@@ -231,15 +231,15 @@ impl Counters {
     ghost use Rattle.source_machine.specs.Seen.{packet_in};
     ghost use Rattle.std.specs.Prelude.{◌+◌, ◌*◌, ◌^◌, ◌++◌, ℕ, List, [], length, Some};
     ghost use Rattle.frame_grammar.specs.Frame.{cells, id_after};
-    ghost use Rattle.port_reader.specs.Growth.{GrowsByFrame};
-    ghost use Rattle.port_reader.specs.Reading.{PortReading};
+    ghost use Rattle.deformatter.specs.ReadingGrowth.{GrowsByFrame};
+    ghost use Rattle.deformatter.specs.PortReading.{PortReading};
     ghost use Rattle.capture_plan.specs.declared.frames.FramesMode.{FramesMode};
     ghost use Rattle.source_counts.specs.Kept as kept;
     ghost use Rattle.trace_values.specs.declared.step.Step.TheVariants.{Item};
     ghost use Rattle.trace_values.specs.declared.cell.Cell.{Cell};
     ghost use Rattle.trace_values.specs.Placed.{Placed};
     ghost use Rattle.capture_plan.specs.declared.frames.FramesMode.TheVariants.{Bare};
-    ghost use Rattle.port_reader.specs.Reading.{port_reading};
+    ghost use Rattle.deformatter.specs.PortReading.{port_reading};
     ghost use Rattle.source_merge.specs.Bare.{bare_events};
     ghost use Rattle.source_merge.specs.Counting.{AreItems, HasBytes, HasCounted, HasItems, bytes_in, size_of};
     ghost use Rattle.source_merge.specs.Counting.{unattributed_in, whole_of};

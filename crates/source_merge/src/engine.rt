@@ -1,7 +1,7 @@
 //! The reading of a capture with all its sources.
 
 ghost use Rattle.std.specs.Prelude.{◌≡◌, ◌+◌, ◌*◌, ◌≤◌, true};
-ghost use Rattle.port_reader.specs.Reader.{is_live as is_port_live, skipped_by as skipped_by_port, tail_of};
+ghost use Rattle.deformatter.specs.Reader.{is_live as is_port_live, skipped_by as skipped_by_port, tail_of};
 ghost use Rattle.source_events.specs.Plan.{is_sound};
 ghost use Rattle.source_events.specs.declared.tails.TheConstants.{GREATEST_COUNT};
 ghost use Rattle.source_machine.specs.Machine.{held_of, is_live as is_machine_live, skipped_by};
@@ -29,7 +29,7 @@ use capture_plan::FramesMode;
 use frame_grammar::frame::FRAME_BYTES;
 use frame_grammar::gather::{PlacedFrame, gather_frame_at};
 use frame_grammar::plain::plain_frame;
-use port_reader::{PortReader, PortStep};
+use deformatter::{PortReader, PortStep};
 use source_counts::Counts;
 use source_events::{Packet, Plan, PortCounts, PortMode, Tails};
 use stp_codec::PacketTaken;
@@ -79,8 +79,8 @@ impl Engine {
     ghost use Rattle.frame_grammar.specs.Frame.{IsProperFrame};
     ghost use Rattle.frame_grammar.specs.Whole.{IsWhole};
     ghost use Rattle.frame_grammar.specs.declared.frame.TheConstants.{FRAME_BYTES};
-    ghost use Rattle.port_reader.specs.Modes.{is_bare};
-    ghost use Rattle.port_reader.specs.Reader.{IsBetween};
+    ghost use Rattle.deformatter.specs.Modes.{is_bare};
+    ghost use Rattle.deformatter.specs.Reader.{IsBetween};
     ghost use Rattle.source_events.specs.Fitting.{AllFit, PacketFits};
     ghost use Rattle.source_events.specs.Tails.{port_counts_of, source_counts_of, tails_of};
     ghost use Rattle.source_machine.specs.Seen.{packet_in};

@@ -3,7 +3,7 @@
 ghost use Rattle.std.specs.Prelude.{◌≡◌, ◌≤◌, ◌==◌, length, IfSome, true};
 ghost use Rattle.std.specs.List.{list_any};
 ghost use Rattle.trace_values.specs.declared.limits.TheConstants.{ID_COUNT};
-ghost use Rattle.port_reader.specs.Reading.{PortReading};
+ghost use Rattle.deformatter.specs.PortReading.{PortReading};
 ghost use Rattle.source_events.specs.declared.plan.TheConstants.{MAPPED_SOURCES};
 ghost use Rattle.source_events.specs.Plan.{kind_of, sources_by};
 ghost use Rattle.source_events.specs.Report.{runs_in};

@@ -5,7 +5,7 @@ use Rattle.std.proofs.lemmas.List.Folds.{list_any-append}
 use Rattle.trace_values.specs.declared.cell.Cell.{Cell}
 use Rattle.trace_values.specs.Placed.{Placed, placed}
 use Rattle.capture_plan.specs.declared.frames.FramesMode.TheVariants.{Hunt}
-use Rattle.port_reader.specs.Reading.{port_reading, cells_of}
+use Rattle.deformatter.specs.PortReading.{port_reading, cells_of}
 use Rattle.resync_ports.specs.Rows.{two_frames, whole}
 use Rattle.resync_ports.proofs.rows.ids_are_not_known_at_once.Goals as goal
 

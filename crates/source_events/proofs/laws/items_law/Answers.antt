@@ -1,6 +1,6 @@
 use Rattle.std.proofs.Common.{◌≡◌, ℕ, List, [], length, sym, subst, None}
 use Rattle.trace_values.specs.Placed.{placed}
-use Rattle.port_reader.specs.Reading.{port_reading}
+use Rattle.deformatter.specs.PortReading.{port_reading}
 use Rattle.source_counts.specs.Counts.{items_of}
 use Rattle.source_events.specs.declared.packet.Packet.{Packet}
 use Rattle.source_events.specs.Report.{Mapped, stop_in, report}

@@ -1,5 +1,5 @@
-use Rattle.port_reader.specs.Reading.{port_reading}
-use Rattle.port_reader.proofs.ReadingLaws.{frames_have_runs}
+use Rattle.deformatter.specs.PortReading.{port_reading}
+use Rattle.deformatter.proofs.PortReadingLaws.{frames_have_runs}
 use Rattle.source_events.proofs.RunNumbers.{lists_are}
 use Rattle.source_events.proofs.laws.list_law.Goals as goal
 

@@ -4,8 +4,8 @@ use Rattle.trace_values.specs.Placed.{byte_at}
 use Rattle.deformatter.specs.declared.step.PortStep.{PortStep}
 use Rattle.deformatter.specs.declared.step.PortStep.TheVariants.{Frame, Locked, Fault}
 use Rattle.deformatter.specs.Growth.{fault_by}
-use Rattle.port_reader.specs.Growth.{HuntBy, frames_by}
-use Rattle.port_reader.specs.Reading.{port_reading}
+use Rattle.deformatter.specs.ReadingGrowth.{HuntBy, frames_by}
+use Rattle.deformatter.specs.PortReading.{port_reading}
 use Rattle.source_events.specs.declared.event.What.{What}
 use Rattle.source_events.specs.declared.packet.Packet.{Packet}
 use Rattle.trace_values.specs.Placed.{Place}

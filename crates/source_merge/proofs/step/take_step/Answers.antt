@@ -1,6 +1,6 @@
 use Rattle.std.proofs.Common.{◌∷◌, ◌++◌, []}
 use Rattle.trace_values.specs.Placed.{byte_at}
-use Rattle.port_reader.specs.Reading.{port_reading}
+use Rattle.deformatter.specs.PortReading.{port_reading}
 use Rattle.source_merge.proofs.step.take_step.Goals as goal
 
 -- what was given is counted beside the bytes and the step of the port

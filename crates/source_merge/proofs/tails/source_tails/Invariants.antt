@@ -1,5 +1,5 @@
 use Rattle.std.proofs.Common.{◌≡◌, ◌≤◌, length}
-use Rattle.port_reader.specs.Reading.{PortReading}
+use Rattle.deformatter.specs.PortReading.{PortReading}
 use Rattle.source_events.specs.Plan.{sources_by}
 use Rattle.source_events.specs.Report.{runs_in}
 use Rattle.source_events.specs.Tails.{source_tails}

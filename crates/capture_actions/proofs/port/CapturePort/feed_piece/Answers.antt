@@ -2,8 +2,8 @@ use Rattle.std.proofs.Common.{◌++◌, List, ℕ, take, sym, ◌∙◌, ap, sub
 use Rattle.std.proofs.lemmas.List.{length-take-le}
 use Rattle.trace_values.specs.Placed.{placed}
 use Rattle.capture_plan.specs.declared.frames.FramesMode.{FramesMode}
-use Rattle.port_reader.specs.Reader as reader
-use Rattle.port_reader.specs.Reader.{mode_of, is_live}
+use Rattle.deformatter.specs.Reader as reader
+use Rattle.deformatter.specs.Reader.{mode_of, is_live}
 use Rattle.capture_actions.specs.CapturePort.{Stands}
 use Rattle.capture_actions.specs.Port.{port_of}
 use Rattle.capture_actions.specs.declared.port.CapturePort.{CapturePort}

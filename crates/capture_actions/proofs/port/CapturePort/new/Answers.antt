@@ -1,5 +1,5 @@
 use Rattle.std.proofs.Common.{refl, sym}
-use Rattle.port_reader.proofs.ReadingLaws.{none_read}
+use Rattle.deformatter.proofs.PortReadingLaws.{none_read}
 use Rattle.capture_actions.proofs.port.CapturePort.new.Goals as goal
 
 pub returns-clause-read : goal.returns-clause-read

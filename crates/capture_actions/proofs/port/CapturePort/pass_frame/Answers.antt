@@ -4,9 +4,9 @@ use Rattle.capture_plan.specs.declared.frames.FramesMode.{FramesMode}
 use Rattle.frame_grammar.specs.Frame.{cells, id_after}
 use Rattle.frame_grammar.specs.Reading.{offsets_of}
 use Rattle.frame_grammar.specs.Whole.{without_halves, IsWhole}
-use Rattle.port_reader.specs.Reader.{Stands, mode_of, id_of}
-use Rattle.port_reader.specs.Reading.{port_reading}
-use Rattle.port_reader.specs.Growth.{GrowsByFrame}
+use Rattle.deformatter.specs.Reader.{Stands, mode_of, id_of}
+use Rattle.deformatter.specs.PortReading.{port_reading}
+use Rattle.deformatter.specs.ReadingGrowth.{GrowsByFrame}
 use Rattle.capture_actions.specs.Port.{port_of}
 use Rattle.capture_actions.specs.PortGrowth.{whole_cells}
 use Rattle.capture_actions.proofs.Ports.{next_bytes, counted_next, fault_none}

@@ -5,7 +5,7 @@ use Rattle.frame_grammar.specs.Frame.{id_after}
 use Rattle.frame_grammar.specs.Reading.{offsets_of}
 use Rattle.frame_grammar.specs.Whole.{without_halves}
 use Rattle.frame_grammar.proofs.Wholes.{whole_size}
-use Rattle.port_reader.specs.Reading.{cells_of}
+use Rattle.deformatter.specs.PortReading.{cells_of}
 use Rattle.capture_actions.specs.CapturePort.{frames_mode, id_of}
 use Rattle.capture_actions.specs.Port.{port_of}
 use Rattle.capture_actions.specs.PortGrowth.{whole_cells}

@@ -1,4 +1,5 @@
-use Rattle.std.proofs.Common.{◌≡◌, ℕ, ◌+◌, ◌*◌, List, [], ◌++◌, length, sym, ◌∙◌, ap, subst, arith, Option, length-append}
+use Rattle.std.proofs.Common.{◌≡◌, ℕ, ◌+◌, ◌*◌, List, [], ◌++◌, length, sym, ◌∙◌, ap, subst, arith, Option}
+use Rattle.std.proofs.Common.{length-append}
 use Rattle.std.specs.Prelude.{is_none}
 use Rattle.trace_values.specs.Placed.{placed_from, units_of}
 use Rattle.trace_values.proofs.Placing.{length-placed_from}
@@ -7,9 +8,9 @@ use Rattle.frame_grammar.specs.Frame.{cells, id_after}
 use Rattle.frame_grammar.specs.Reading.{offsets_of}
 use Rattle.frame_grammar.specs.Whole.{without_halves}
 use Rattle.frame_grammar.proofs.Wholes.{whole_size}
-use Rattle.port_reader.specs.Growth.{GrowsByFrame}
-use Rattle.port_reader.specs.Reading.{port_reading}
-use Rattle.port_reader.specs.Rising.{BytesRise}
+use Rattle.deformatter.specs.ReadingGrowth.{GrowsByFrame}
+use Rattle.deformatter.specs.PortReading.{port_reading}
+use Rattle.deformatter.specs.Rising.{BytesRise}
 use Rattle.source_events.specs.Plan.{sources_by}
 use Rattle.source_events.specs.Report.{runs_in}
 use Rattle.source_machine.specs.declared.machine.SourceMachine.{SourceMachine}

@@ -1,4 +1,5 @@
-use Rattle.std.proofs.Common.{◌≡◌, ℕ, ◌+◌, ◌-◌, ◌*◌, ◌^◌, List, [], ◌∷◌, ◌++◌, length, take, sym, ◌∙◌, ap, subst, arith, None, length-append}
+use Rattle.std.proofs.Common.{◌≡◌, ℕ, ◌+◌, ◌-◌, ◌*◌, ◌^◌, List, [], ◌∷◌, ◌++◌, length, take, sym, ◌∙◌, ap, subst}
+use Rattle.std.proofs.Common.{arith, None, length-append}
 use Rattle.std.specs.Prelude.{is_none}
 use Rattle.std.proofs.lemmas.List.{length-take-le}
 use Rattle.trace_values.specs.declared.cell.Cell.{Cell}
@@ -7,9 +8,9 @@ use Rattle.trace_values.proofs.Placing.{length-placed_from}
 use Rattle.capture_plan.specs.declared.frames.FramesMode.{FramesMode}
 use Rattle.deformatter.specs.declared.step.PortStep.TheVariants.{Quiet}
 use Rattle.deformatter.specs.Block.{FedAs}
-use Rattle.port_reader.specs.Growth.{Answers as PortAnswers}
-use Rattle.port_reader.specs.Reading.{port_reading}
-use Rattle.port_reader.specs.Rising.{BytesRise}
+use Rattle.deformatter.specs.ReadingGrowth.{Answers as PortAnswers}
+use Rattle.deformatter.specs.PortReading.{port_reading}
+use Rattle.deformatter.specs.Rising.{BytesRise}
 use Rattle.source_events.specs.Report.{Mapped, runs_in}
 use Rattle.source_events.specs.Fitting.{AllFit, PacketFits}
 use Rattle.source_events.specs.declared.event.Event.{Event}

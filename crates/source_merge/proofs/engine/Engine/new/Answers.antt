@@ -1,7 +1,7 @@
 use Rattle.std.proofs.Common.{List, [], length, refl, sym, ◌∙◌, ap, subst, arith}
 use Rattle.std.specs.Prelude.{is_none}
 use Rattle.trace_values.specs.declared.cell.Cell.{Cell}
-use Rattle.port_reader.proofs.ReadingLaws.{none_read}
+use Rattle.deformatter.proofs.PortReadingLaws.{none_read}
 use Rattle.source_events.specs.declared.tails.PortCounts.{PortCounts}
 use Rattle.source_events.specs.Plan.{sources_by}
 use Rattle.source_events.specs.Runs.{all_runs}
