@@ -1,2 +1,12 @@
 pub mod Ports
 pub mod Pushing
+pub mod Timing
+pub mod Feeding
+pub mod Feeds
+pub mod Printing
+pub mod Sources
+pub mod Counting
+pub mod Shown
+pub mod Filtering
+pub mod Choosing
+pub mod Few

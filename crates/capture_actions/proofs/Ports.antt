@@ -9,7 +9,7 @@ use Rattle.trace_values.specs.declared.fault.Fault.{Fault}
 use Rattle.trace_values.specs.declared.fault.Reason.{Reason}
 use Rattle.trace_values.specs.Placed.{Place, Placed, byte_at, placed_from, placed}
 use Rattle.trace_values.proofs.Placing.{placed_from_push, placed_append}
-use Rattle.capture_plan.specs.declared.frames.FramesMode.{FramesMode}
+use Rattle.trace_values.specs.declared.reading_modes.FramesMode.{FramesMode}
 use Rattle.frame_grammar.specs.Frame.{IsProperFrame}
 use Rattle.frame_grammar.specs.Runs.{HasRuns}
 use Rattle.frame_grammar.specs.Whole.{IsWhole}

@@ -1,7 +1,7 @@
 -- What the reading of a capture's port stands for.
 use Rattle.std.specs.Prelude.{◌≡◌, ℕ, List, length, true, option_map, Option}
 use Rattle.trace_values.specs.Placed.{placed}
-use Rattle.capture_plan.specs.declared.frames.FramesMode.{FramesMode}
+use Rattle.trace_values.specs.declared.reading_modes.FramesMode.{FramesMode}
 use Rattle.deformatter.specs.Reader as reader
 use Rattle.deformatter.specs.Reader.{is_live, mode_of}
 use Rattle.trace_text.specs.FaultText.{told}

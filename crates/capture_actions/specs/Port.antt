@@ -1,7 +1,7 @@
 -- The reading of a whole capture's port.
 use Rattle.std.specs.Prelude.{◌≡◌, ℕ, List, is_none, false}
 use Rattle.trace_values.specs.Placed.{placed}
-use Rattle.capture_plan.specs.declared.frames.FramesMode.{FramesMode}
+use Rattle.trace_values.specs.declared.reading_modes.FramesMode.{FramesMode}
 use Rattle.deformatter.specs.PortReading.{PortReading, port_reading}
 
 -- what the bytes of a capture read as at the port

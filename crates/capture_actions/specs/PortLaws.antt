@@ -5,7 +5,7 @@ use Rattle.trace_values.specs.declared.cell.Cell.{Cell}
 use Rattle.trace_values.specs.declared.fault.Reason.{Reason}
 use Rattle.trace_values.specs.Placed.{Place, Placed, placed, placed_from}
 use Rattle.trace_values.proofs.Placing.{placed_append}
-use Rattle.capture_plan.specs.declared.frames.FramesMode.{FramesMode}
+use Rattle.trace_values.specs.declared.reading_modes.FramesMode.{FramesMode}
 use Rattle.deformatter.specs.PortReading.{port_reading, cells_of}
 use Rattle.deformatter.specs.ReadingGrowth.{Settled}
 use Rattle.deformatter.proofs.PortReadingLaws.{none_read, settles, cells_grow}

@@ -1,15 +1,29 @@
-//! What the command does with a capture's bytes as they come, where it reads no packets: it takes the bytes of one
-//! source out of those of a port, realigns them where the port's line loses bits, or puts all into a trace buffer. Each
-//! is an action that `trace_stream` serves.
+//! What the command does with a capture's bytes as they come: it lists or counts what all sources sent, takes out the
+//! bytes of one source, realigns those of a port whose line loses bits, or puts all into a trace buffer. Each is an
+//! action that `trace_stream` serves.
 #![tactic(auto)]
 
 mod buffer;
+mod check;
+mod clocks;
+mod filter;
+pub mod laws;
+mod list_plan;
+mod lister;
+mod plan_table;
 mod port;
 mod realign;
+pub mod rows;
+mod show;
+mod source_clocks;
 mod split;
 mod split_plan;
+mod stopping;
 
 pub use buffer::BufferAction;
+pub use check::{Check, SUMMARY_ROOM};
+pub use list_plan::ListPlan;
 pub use realign::{Realign, realign_law};
+pub use show::Show;
 pub use split::Split;
 pub use split_plan::SplitPlan;

@@ -1,7 +1,6 @@
 //! What `split` is asked for.
 
-use capture_plan::FramesMode;
-use trace_values::SourceId;
+use trace_values::{FramesMode, SourceId};
 
 /// How the port is read, and whose bytes are written.
 #[derive(Clone, Copy, Debug, PartialEq, Eq, Drop)]

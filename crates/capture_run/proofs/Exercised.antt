@@ -11,11 +11,11 @@ use Rattle.trace_stream.specs.Written.{GrowsOnly}
 use Rattle.source_events.specs.declared.plan.Plan.{Plan}
 use Rattle.trace_stream.specs.declared.outcome.Outcome.{Outcome}
 use Rattle.trace_stream.specs.declared.outcome.Outcome.TheVariants.{AtEnd, FaultFound, WriteFailed, OverLimit}
-use Rattle.exercise_source.specs.declared.maker.TheConstants.{MOST_BYTES}
-use Rattle.exercise_source.specs.Exercise.{exercise_plan, exercise_capture, exercise_rest}
-use Rattle.exercise_report.specs.Summary.{IsFaulty, exercise_meaning, exercise_ending, exercise_summary}
-use Rattle.exercise_report.specs.SummaryLaws.{ending_stays}
-use Rattle.exercise_report.specs.declared.plans.ExercisePlan.{ExercisePlan}
+use Rattle.capture_exercise.specs.declared.maker.TheConstants.{MOST_BYTES}
+use Rattle.capture_exercise.specs.Exercise.{exercise_plan, exercise_capture, exercise_rest}
+use Rattle.capture_exercise.specs.Summary.{IsFaulty, exercise_meaning, exercise_ending, exercise_summary}
+use Rattle.capture_exercise.specs.SummaryLaws.{ending_stays}
+use Rattle.capture_exercise.specs.declared.plans.ExercisePlan.{ExercisePlan}
 use Rattle.capture_run.specs.Notes.{Notes}
 use Rattle.capture_run.specs.Run.{HasMade, Streams}
 use Rattle.capture_run.specs.declared.status.Status.TheVariants.{Done, WriteFault}

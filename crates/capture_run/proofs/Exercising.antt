@@ -2,23 +2,23 @@
 use Rattle.std.proofs.Common.{◌≡◌, ℕ, zero, suc, ◌+◌, ◌/◌, ◌%◌, ◌^◌, ◌<◌, ◌≤◌, ◌==◌, List, [], take, drop, refl, sym}
 use Rattle.std.proofs.Common.{◌∙◌, ap, subst, arith, Bool, true, false, cond, None, Some}
 use Rattle.std.proofs.lemmas.List.{take-append-drop}
-use Rattle.capture_report.specs.Summary.{counts_text, summary, summary_by}
-use Rattle.exercise_source.specs.Exercise.{exercise_plan, exercise_lines, exercise_capture, exercise_rest}
-use Rattle.exercise_source.specs.Exercise.{line_of_made, line_at}
-use Rattle.exercise_source.specs.declared.maker.TheConstants.{MOST_ITEMS}
-use Rattle.exercise_source.proofs.Fitting.{line_fits}
-use Rattle.exercise_source.proofs.Making.{lines_more}
-use Rattle.exercise_source.proofs.Saying.{line_said}
+use Rattle.capture_actions.specs.Summary.{counts_text, summary, summary_by}
+use Rattle.capture_exercise.specs.Exercise.{exercise_plan, exercise_lines, exercise_capture, exercise_rest}
+use Rattle.capture_exercise.specs.Exercise.{line_of_made, line_at}
+use Rattle.capture_exercise.specs.declared.maker.TheConstants.{MOST_ITEMS}
+use Rattle.capture_exercise.proofs.Fitting.{line_fits}
+use Rattle.capture_exercise.proofs.Making.{lines_more}
+use Rattle.capture_exercise.proofs.Saying.{line_said}
 use Rattle.itm_grammar.specs.Proper.{IsProper}
 use Rattle.itm_grammar.specs.declared.packet.Size.TheVariants.{Four}
 use Rattle.itm_grammar.specs.declared.packet.Lateness.TheVariants.{Exact}
 use Rattle.itm_grammar.specs.declared.packet.ItmPacket.TheVariants.{Sync, Software, Local}
-use Rattle.line_writer.specs.Writer.{CanBePut as IsPuttable}
+use Rattle.script_rebuild.specs.Writer.{CanBePut as IsPuttable}
 use Rattle.deformatter.specs.PortReading.{port_reading}
-use Rattle.rebuild_laws.specs.Puts.{SuitsPlan, CanAllBePut}
-use Rattle.rebuild_laws.specs.ReadBack.{aligned, ReadsAsGiven}
-use Rattle.rebuild_laws.proofs.Given.{reads_as_given}
-use Rattle.rebuild_laws.proofs.Said.{put_more}
+use Rattle.script_laws.specs.Puts.{SuitsPlan, CanAllBePut}
+use Rattle.script_laws.specs.ReadBack.{aligned, ReadsAsGiven}
+use Rattle.script_laws.proofs.Given.{reads_as_given}
+use Rattle.script_laws.proofs.Said.{put_more}
 use Rattle.resync_laws.proofs.ReportRest.{report_follows}
 use Rattle.script_text.specs.declared.lines.Line.{Line}
 use Rattle.source_events.specs.Plan.{sources_by}

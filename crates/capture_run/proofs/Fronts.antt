@@ -1,8 +1,8 @@
 -- What a run of `show` wrote follows the whole capture, whose front may be lost.
 use Rattle.std.proofs.Common.{◌≡◌, ℕ, List, ◌++◌, ap, sym, ◌∙◌, subst, None}
 use Rattle.std.specs.Prelude.{Result, Ok, Err}
-use Rattle.capture_report.specs.Listing.{listing, listed, ending_by}
-use Rattle.capture_report.specs.declared.list_plan.ListPlan.{ListPlan}
+use Rattle.capture_actions.specs.Listing.{listing, listed, ending_by}
+use Rattle.capture_actions.specs.declared.list_plan.ListPlan.{ListPlan}
 use Rattle.capture_words.specs.Calls.{AsksFor}
 use Rattle.capture_words.specs.declared.job.Job.{Job}
 use Rattle.capture_words.specs.declared.job.Task.{Task}

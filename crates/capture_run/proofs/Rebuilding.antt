@@ -2,9 +2,9 @@
 use Rattle.std.proofs.Common.{◌≡◌, ◌≤◌, ℕ, List, ◌++◌, true, false, Option, None, Some, ap, sym, ◌∙◌, subst, refl}
 use Rattle.std.specs.Prelude.{is_some}
 use Rattle.std.specs.Io.KnownBytes.{Appends}
-use Rattle.line_writer.specs.Script.{script_of}
-use Rattle.rebuild_laws.proofs.Given.{reads_as_given}
-use Rattle.rebuild_laws.proofs.Said.{script_good}
+use Rattle.script_rebuild.specs.Script.{script_of}
+use Rattle.script_laws.proofs.Given.{reads_as_given}
+use Rattle.script_laws.proofs.Said.{script_good}
 use Rattle.script_rebuild.proofs.Whole.{text_and_ending}
 use Rattle.script_rebuild.specs.Rebuilt.{text, ending}
 use Rattle.script_rebuild.specs.declared.plan.RebuildPlan.{RebuildPlan}

@@ -9,11 +9,11 @@ use Rattle.capture_actions.specs.Port.{port_of}
 use Rattle.capture_actions.specs.Realigned.{realign_meaning}
 use Rattle.capture_actions.specs.Split.{split_meaning}
 use Rattle.capture_actions.specs.declared.split_plan.SplitPlan.{SplitPlan}
-use Rattle.capture_report.specs.Listing.{show_meaning}
-use Rattle.capture_report.specs.Summary.{check_meaning}
-use Rattle.capture_report.specs.declared.list_plan.ListPlan.{ListPlan}
-use Rattle.exercise_report.specs.Summary.{exercise_summary}
-use Rattle.line_writer.specs.Script.{script_of}
+use Rattle.capture_actions.specs.Listing.{show_meaning}
+use Rattle.capture_actions.specs.Summary.{check_meaning}
+use Rattle.capture_actions.specs.declared.list_plan.ListPlan.{ListPlan}
+use Rattle.capture_exercise.specs.Summary.{exercise_summary}
+use Rattle.script_rebuild.specs.Script.{script_of}
 use Rattle.port_slip.specs.Segments.{realigned}
 use Rattle.script_rebuild.specs.Rebuilt.{rebuild_meaning}
 use Rattle.script_rebuild.specs.declared.plan.RebuildPlan.{RebuildPlan}

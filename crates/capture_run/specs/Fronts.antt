@@ -1,15 +1,15 @@
 -- What `show` wrote of a capture whose front may be lost, against the whole capture.
 use Rattle.std.specs.Prelude.{◌≡◌, ℕ, List, ◌++◌, length, map, Option, Some, None}
 use Rattle.std.specs.Io.KnownBytes.{Appends}
-use Rattle.capture_report.specs.Listing.{listed}
-use Rattle.capture_report.specs.declared.list_plan.ListPlan.{ListPlan}
+use Rattle.capture_actions.specs.Listing.{listed}
+use Rattle.capture_actions.specs.declared.list_plan.ListPlan.{ListPlan}
 use Rattle.capture_words.specs.declared.job.Task.{Task}
 use Rattle.capture_words.specs.declared.job.Task.TheVariants.{Show}
 use Rattle.deformatter.specs.PortReading.{port_reading}
 use Rattle.resync_laws.specs.Report.{rest_plan, left_bytes, left_report, ReportFollows, skips}
-use Rattle.resync_ports.specs.Port.{rest_mode}
-use Rattle.resync_sources.specs.Capture.{source_bytes}
-use Rattle.resync_reports.specs.Moved.{later_event}
+use Rattle.resync_grammars.specs.Port.{rest_mode}
+use Rattle.resync_grammars.specs.Capture.{source_bytes}
+use Rattle.resync_laws.specs.Moved.{later_event}
 use Rattle.source_events.specs.Plan.{kind_of}
 use Rattle.source_events.specs.Tails.{tail_of, tails_of}
 use Rattle.source_events.specs.declared.plan.Plan.{Plan}

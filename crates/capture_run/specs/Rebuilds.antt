@@ -3,8 +3,8 @@ use Rattle.std.specs.Prelude.{◌≡◌, ℕ, List, None}
 use Rattle.std.specs.declared.option.Option.{Option}
 use Rattle.std.specs.Io.KnownBytes.{Appends}
 use Rattle.frame_writer.specs.Written.{capture}
-use Rattle.line_writer.specs.Script.{script_of, script_bytes}
-use Rattle.rebuild_laws.specs.ReadBack.{rebuilt, ReadsAsGiven}
+use Rattle.script_rebuild.specs.Script.{script_of, script_bytes}
+use Rattle.script_laws.specs.ReadBack.{rebuilt, ReadsAsGiven}
 use Rattle.source_events.specs.declared.plan.Plan.{Plan}
 
 -- Of a script without a fault the output gained the capture: the frames of what its lines put, with these

@@ -6,8 +6,7 @@ ghost use Rattle.capture_run.specs.Notes.{text_of, done_text, status_of};
 ghost use Rattle.capture_run.specs.declared.status.Status.{Status};
 
 use crate::status::Status;
-use capture_actions::{Realign, Split};
-use capture_report::{Check, Show};
+use capture_actions::{Check, Realign, Show, Split};
 use port_slip::Slipped;
 use script_rebuild::{Rebuild, ScriptFault};
 use trace_stream::Action;

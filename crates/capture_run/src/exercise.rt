@@ -3,15 +3,14 @@
 ghost use Rattle.std.specs.Prelude.{◌≡◌, ◌≢◌, ◌≤◌, List, ℕ, [], length};
 ghost use Rattle.std.specs.declared.option.Option.{Option};
 ghost use Rattle.trace_io.specs.Causes.{Rose};
-ghost use Rattle.exercise_source.specs.Exercise.{exercise_capture};
-ghost use Rattle.exercise_source.specs.declared.maker.TheConstants.{MOST_ITEMS, MOST_BYTES};
-ghost use Rattle.exercise_report.specs.Summary.{exercise_summary};
+ghost use Rattle.capture_exercise.specs.Exercise.{exercise_capture};
+ghost use Rattle.capture_exercise.specs.declared.maker.TheConstants.{MOST_ITEMS, MOST_BYTES};
+ghost use Rattle.capture_exercise.specs.Summary.{exercise_summary};
 ghost use Rattle.capture_run.specs.Run.{HasMade, streams, IsDoneOrNoMemory};
 
 use crate::notes::note;
 use crate::status::Status;
-use exercise_report::{Exercise, ExercisePlan, exercise_plan};
-use exercise_source::{ExerciseSource, write_exercise};
+use capture_exercise::{Exercise, ExercisePlan, ExerciseSource, exercise_plan, write_exercise};
 use trace_io::{Sink, SureSink};
 use trace_stream::{Buffers, GREATEST_CAPTURE, Outcome, serve};
 

@@ -2,10 +2,10 @@
 
 ghost use Rattle.std.specs.Prelude.{◌≡◌, ◌≤◌, ◌<◌, ℕ, List, None};
 ghost use Rattle.trace_values.specs.Placed.{placed};
-ghost use Rattle.capture_report.specs.Summary.{counts_text, summary};
-ghost use Rattle.exercise_source.specs.Exercise.{exercise_plan, exercise_lines, exercise_capture, exercise_rest};
-ghost use Rattle.exercise_source.specs.declared.maker.TheConstants.{MOST_ITEMS};
-ghost use Rattle.rebuild_laws.specs.ReadBack.{ReadsAsGiven};
+ghost use Rattle.capture_actions.specs.Summary.{counts_text, summary};
+ghost use Rattle.capture_exercise.specs.Exercise.{exercise_plan, exercise_lines, exercise_capture, exercise_rest};
+ghost use Rattle.capture_exercise.specs.declared.maker.TheConstants.{MOST_ITEMS};
+ghost use Rattle.script_laws.specs.ReadBack.{ReadsAsGiven};
 ghost use Rattle.source_merge.specs.Answering.{fault_of};
 ghost use Rattle.capture_run.specs.Rings.{RingFollows};
 

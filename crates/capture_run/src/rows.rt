@@ -1,9 +1,9 @@
 //! Worked rows of a capture whose front is lost, which the checker computes: what is beside its timestamps.
 
 ghost use Rattle.std.specs.Prelude.{◌≡◌, codes};
-ghost use Rattle.capture_plan.specs.declared.frames.FramesMode.TheVariants.{Bare};
-ghost use Rattle.capture_plan.specs.declared.packets.PacketsMode.TheVariants.{Hunt, Aligned};
-ghost use Rattle.capture_report.specs.Rows.{itm, listing_row};
+ghost use Rattle.trace_values.specs.declared.reading_modes.FramesMode.TheVariants.{Bare};
+ghost use Rattle.trace_values.specs.declared.reading_modes.PacketsMode.TheVariants.{Hunt, Aligned};
+ghost use Rattle.capture_actions.specs.Rows.{itm, listing_row};
 
 /// A remark on the time is made of the packets from the source's point on. Without the first three bytes the local time
 /// begins anew, and the remark is not the whole's.

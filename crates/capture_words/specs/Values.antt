@@ -4,11 +4,11 @@ use Rattle.std.specs.Prelude.{ok_or, option_and_then, option_map}
 use Rattle.std.specs.Str.{bytes_eq}
 use Rattle.std.specs.List.{before_first, after_first}
 use Rattle.clap.specs.Words.{Text, Row, first_of}
-use Rattle.capture_plan.specs.Modes.{frames_named, packets_named}
-use Rattle.capture_plan.specs.declared.frames.FramesMode.{FramesMode}
-use Rattle.capture_plan.specs.declared.frames.FramesMode.TheVariants.{Hunt as FramesHunt}
-use Rattle.capture_plan.specs.declared.packets.PacketsMode.{PacketsMode}
-use Rattle.capture_plan.specs.declared.packets.PacketsMode.TheVariants.{Hunt as PacketsHunt}
+use Rattle.trace_values.specs.ReadingModes.{frames_named, packets_named}
+use Rattle.trace_values.specs.declared.reading_modes.FramesMode.{FramesMode}
+use Rattle.trace_values.specs.declared.reading_modes.FramesMode.TheVariants.{Hunt as FramesHunt}
+use Rattle.trace_values.specs.declared.reading_modes.PacketsMode.{PacketsMode}
+use Rattle.trace_values.specs.declared.reading_modes.PacketsMode.TheVariants.{Hunt as PacketsHunt}
 use Rattle.stp_grammar.specs.declared.packet.Order.{Order}
 use Rattle.stp_grammar.specs.declared.packet.Order.TheVariants.{Msn, Lsn}
 use Rattle.item_tap.specs.declared.bounds.Bounds.{Bounds}

@@ -3,10 +3,10 @@
 ghost use Rattle.std.specs.Prelude.{codes, [], ◌∷◌, None, Some, true, false};
 ghost use Rattle.clap.specs.declared.error.kind.ErrorKind.TheVariants.{ArgumentConflict, DisplayHelp, InvalidValue};
 ghost use Rattle.clap.specs.declared.error.kind.ErrorKind.TheVariants.{MissingRequiredArgument, UnknownArgument};
-ghost use Rattle.capture_plan.specs.declared.frames.FramesMode.TheVariants.{Hunt as FramesHunt};
-ghost use Rattle.capture_plan.specs.declared.frames.FramesMode.TheVariants.{Aligned as FramesAligned, Bare};
-ghost use Rattle.capture_plan.specs.declared.packets.PacketsMode.TheVariants.{Hunt as PacketsHunt};
-ghost use Rattle.capture_plan.specs.declared.packets.PacketsMode.TheVariants.{Aligned as PacketsAligned};
+ghost use Rattle.trace_values.specs.declared.reading_modes.FramesMode.TheVariants.{Hunt as FramesHunt};
+ghost use Rattle.trace_values.specs.declared.reading_modes.FramesMode.TheVariants.{Aligned as FramesAligned, Bare};
+ghost use Rattle.trace_values.specs.declared.reading_modes.PacketsMode.TheVariants.{Hunt as PacketsHunt};
+ghost use Rattle.trace_values.specs.declared.reading_modes.PacketsMode.TheVariants.{Aligned as PacketsAligned};
 ghost use Rattle.stp_grammar.specs.declared.packet.Order.TheVariants.{Msn, Lsn};
 ghost use Rattle.item_tap.specs.declared.choice.Choice.TheVariants.{OfKind, Source, Port};
 ghost use Rattle.item_tap.specs.declared.choice.Kind.TheVariants.{Itm as ItmKind, Dwt as DwtKind, Stp as StpKind};

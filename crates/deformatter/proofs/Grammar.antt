@@ -10,8 +10,8 @@ use Rattle.trace_values.specs.Hunt.{IsFirst}
 use Rattle.trace_values.specs.Reading.{Reading, reading}
 use Rattle.trace_values.proofs.Lists.{same_fronts}
 use Rattle.trace_values.proofs.Readings as readings
-use Rattle.capture_plan.specs.declared.frames.FramesMode.{FramesMode}
-use Rattle.capture_plan.specs.declared.frames.FramesMode.TheVariants.{Hunt, Aligned, Bare}
+use Rattle.trace_values.specs.declared.reading_modes.FramesMode.{FramesMode}
+use Rattle.trace_values.specs.declared.reading_modes.FramesMode.TheVariants.{Hunt, Aligned, Bare}
 use Rattle.frame_grammar.specs.Port.{PortItem, Full, Half, Frame, Spells, why, half_words, start, rule}
 use Rattle.frame_grammar.specs.Reading.{port_progress, port_cells, item_id, halves_in, frames_in}
 use Rattle.frame_grammar.proofs.Deciding.{port_decided}

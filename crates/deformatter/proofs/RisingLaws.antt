@@ -7,8 +7,8 @@ use Rattle.trace_values.specs.declared.cell.Cell.{Cell}
 use Rattle.trace_values.specs.Placed.{Place, Placed, placed_from, placed, units_of}
 use Rattle.trace_values.specs.Reading.{Splits}
 use Rattle.trace_values.proofs.Readings as readings
-use Rattle.capture_plan.specs.declared.frames.FramesMode.{FramesMode}
-use Rattle.capture_plan.specs.declared.frames.FramesMode.TheVariants.{Hunt, Aligned, Bare}
+use Rattle.trace_values.specs.declared.reading_modes.FramesMode.{FramesMode}
+use Rattle.trace_values.specs.declared.reading_modes.FramesMode.TheVariants.{Hunt, Aligned, Bare}
 use Rattle.frame_grammar.specs.Frame.{names, cell, even_data, even_cells, odd_cells, cells_below, cells}
 use Rattle.frame_grammar.specs.Port.{PortItem, Full, Half, Frame, IsWord, IsWords, IsFrame, Spells, why, rule, start}
 use Rattle.frame_grammar.specs.Reading.{offsets_of, item_cells, item_id, cells_of_items}

@@ -7,8 +7,8 @@ use Rattle.trace_values.specs.declared.fault.Reason.{Reason}
 use Rattle.trace_values.specs.Placed.{Place, Placed, units_of}
 use Rattle.trace_values.specs.Hunt.{IsNowhere, IsFirst}
 use Rattle.trace_values.specs.Reading.{Reading, IsFirstFault, IsReading}
-use Rattle.capture_plan.specs.declared.frames.FramesMode.{FramesMode}
-use Rattle.capture_plan.specs.declared.frames.FramesMode.TheVariants.{Hunt, Aligned, Bare}
+use Rattle.trace_values.specs.declared.reading_modes.FramesMode.{FramesMode}
+use Rattle.trace_values.specs.declared.reading_modes.FramesMode.TheVariants.{Hunt, Aligned, Bare}
 use Rattle.frame_grammar.specs.Port.{PortItem, Spells, why, half_words}
 use Rattle.frame_grammar.specs.Reading.{fulls_in, halves_in}
 use Rattle.deformatter.specs.PortReading.{PortReading, frames_of_items}

@@ -1,7 +1,7 @@
 -- The modes of a port: which has no formatter, and which hunts.
 use Rattle.std.specs.Prelude.{Bool, true, false}
-use Rattle.capture_plan.specs.declared.frames.FramesMode.{FramesMode}
-use Rattle.capture_plan.specs.declared.frames.FramesMode.TheVariants.{Hunt, Aligned, Bare}
+use Rattle.trace_values.specs.declared.reading_modes.FramesMode.{FramesMode}
+use Rattle.trace_values.specs.declared.reading_modes.FramesMode.TheVariants.{Hunt, Aligned, Bare}
 
 -- there is no formatter
 abbrev pub is_bare : FramesMode → Bool

@@ -6,7 +6,7 @@ use Rattle.deformatter.specs.declared.step.PortStep.{PortStep}
 use Rattle.deformatter.specs.declared.step.PortStep.TheVariants.{Quiet, Half, Frame, Locked, Fault as Faulty}
 use Rattle.deformatter.specs.Block.{FedAs}
 use Rattle.deformatter.specs.Growth.{fulls_by, halves_by, fault_by}
-use Rattle.capture_plan.specs.declared.frames.FramesMode.{FramesMode}
+use Rattle.trace_values.specs.declared.reading_modes.FramesMode.{FramesMode}
 use Rattle.trace_values.specs.Placed.{Placed, byte_at}
 use Rattle.deformatter.specs.PortReading.{PortReading, port_reading}
 

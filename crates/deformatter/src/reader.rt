@@ -8,9 +8,8 @@ ghost use Rattle.deformatter.specs.Modes.{hunts};
 ghost use Rattle.trace_values.specs.declared.limits.TheConstants.{COUNT_ROOM, PART_ROOM};
 
 use arrayvec::ArrayVec;
-use capture_plan::FramesMode;
+use trace_values::{Cell, FramesMode, SourceId};
 use crate::{Deformatter, PortStep, Taken};
-use trace_values::{Cell, SourceId};
 
 /// Reads the bytes of a port one by one, in one mode.
 #[derive(Debug, Drop)]

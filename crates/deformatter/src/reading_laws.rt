@@ -4,8 +4,8 @@ ghost use Rattle.std.specs.Prelude.{◌≡◌, ◌↔◌, ℕ, List, [], ◌∷�
 ghost use Rattle.std.specs.List.{flat_map};
 ghost use Rattle.trace_values.specs.declared.cell.Cell.{Cell};
 ghost use Rattle.trace_values.specs.Placed.{Placed, byte_at, placed_from, placed};
-ghost use Rattle.capture_plan.specs.declared.frames.FramesMode.{FramesMode};
-ghost use Rattle.capture_plan.specs.declared.frames.FramesMode.TheVariants.{Hunt, Aligned, Bare};
+ghost use Rattle.trace_values.specs.declared.reading_modes.FramesMode.{FramesMode};
+ghost use Rattle.trace_values.specs.declared.reading_modes.FramesMode.TheVariants.{Hunt, Aligned, Bare};
 ghost use Rattle.frame_grammar.specs.Port.{PortItem};
 ghost use Rattle.frame_grammar.specs.Reading.{cells_of_items, port_cells, full_count, half_count, frame_count};
 ghost use Rattle.frame_grammar.specs.Reading.{port_reading as grammar_reading};

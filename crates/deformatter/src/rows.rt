@@ -2,7 +2,7 @@
 
 ghost use Rattle.std.specs.Prelude.{◌≡◌, [], ◌∷◌, None, Some, codes, true, false};
 ghost use Rattle.trace_values.specs.declared.fault.Reason.TheVariants.{BadSync};
-ghost use Rattle.capture_plan.specs.declared.frames.FramesMode.TheVariants.{Hunt, Aligned, Bare};
+ghost use Rattle.trace_values.specs.declared.reading_modes.FramesMode.TheVariants.{Hunt, Aligned, Bare};
 ghost use Rattle.deformatter.specs.Rows.{frame_row, sync_row, end_row};
 
 /// A half synchronisation, a frame whose ID 16 is deferred by one byte, and a full synchronisation, in frames

@@ -3,7 +3,7 @@ use Rattle.std.specs.Prelude.{◌≡◌, ◌≢◌, ◌≤◌, ℕ, List, map, n
 use Rattle.std.specs.List.{All, filter}
 use Rattle.trace_values.specs.Placed.{placed}
 use Rattle.trace_values.specs.declared.cell.Cell.{Cell}
-use Rattle.capture_plan.specs.declared.frames.FramesMode.TheVariants.{Aligned}
+use Rattle.trace_values.specs.declared.reading_modes.FramesMode.TheVariants.{Aligned}
 use Rattle.frame_grammar.specs.Reading.{is_source}
 use Rattle.deformatter.specs.PortReading.{PortReading, port_reading, cells_of}
 use Rattle.frame_writer.specs.Written.{Tagged}

@@ -1,7 +1,7 @@
 //! Names, and the modes that they name.
 
 use crate::same::same;
-use capture_plan::{FramesMode, PacketsMode};
+use trace_values::{FramesMode, PacketsMode};
 
 #[test]
 fn three_names_are_modes(rt: HostRuntime) {

@@ -3,7 +3,7 @@
 ghost use Rattle.std.specs.Prelude.{◌<◌, length};
 
 use crate::same::same;
-use exercise_source::{ExerciseSource, write_exercise};
+use capture_exercise::{ExerciseSource, write_exercise};
 use trace_io::{Failed, MemorySink, Source, SureSink};
 
 /// The capture of three items: a full synchronisation and two frames.

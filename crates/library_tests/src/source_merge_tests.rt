@@ -2,7 +2,7 @@
 
 use crate::same::same;
 use arrayvec::ArrayVec;
-use capture_plan::{FramesMode, PacketsMode};
+use trace_values::{FramesMode, PacketsMode};
 use itm_grammar::packet::{ItmPacket, Size};
 use source_counts::Counts;
 use source_events::{

@@ -9,8 +9,8 @@ use Rattle.source_events.specs.declared.plan.SourceKind.{SourceKind}
 use Rattle.source_events.specs.declared.plan.SourceKind.TheVariants.{Itm, Stp}
 use Rattle.source_events.specs.Plan as plans
 use Rattle.source_machine.specs.Units.{reads_by}
-use Rattle.recovering_sources.specs.Source.{total_of}
-use Rattle.recovering_sources.specs.declared.source.RecoveringSource.{RecoveringSource}
+use Rattle.recovering_machines.specs.Source.{total_of}
+use Rattle.recovering_machines.specs.declared.source.RecoveringSource.{RecoveringSource}
 use Rattle.recovery_engine.specs.Fresh.{FreshIf, IsAdded, IsFresh}
 use Rattle.recovery_engine.specs.Slots.{IsSource, StandsAt, source_at, total}
 use Rattle.recovery_engine.specs.declared.slot.Slot.{Slot}

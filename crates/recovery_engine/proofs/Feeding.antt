@@ -5,8 +5,8 @@ use Rattle.std.proofs.lemmas.Grind.{flat_map-append}
 use Rattle.std.proofs.lemmas.List.{map-append}
 use Rattle.trace_values.specs.declared.cell.Cell.{Cell}
 use Rattle.trace_values.specs.Placed.{Placed, byte_at}
-use Rattle.capture_plan.specs.declared.frames.FramesMode.{FramesMode}
-use Rattle.capture_plan.specs.declared.frames.FramesMode.TheVariants.{Hunt, Aligned, Bare}
+use Rattle.trace_values.specs.declared.reading_modes.FramesMode.{FramesMode}
+use Rattle.trace_values.specs.declared.reading_modes.FramesMode.TheVariants.{Hunt, Aligned, Bare}
 use Rattle.deformatter.specs.declared.step.PortStep.{PortStep}
 use Rattle.deformatter.specs.declared.step.PortStep.TheVariants.{Quiet, Half, Full as FullEnds, Frame, Locked}
 use Rattle.deformatter.specs.declared.step.PortStep.TheVariants.{Fault as Faulty}
@@ -20,10 +20,10 @@ use Rattle.source_events.specs.Runs.{all_runs, runs_of}
 use Rattle.stretch_readings.specs.declared.heard.Heard.{Heard}
 use Rattle.stretch_readings.proofs.StretchLaws.{from_append}
 use Rattle.stretch_readings.specs.Stretches.{One, Stretches, fed, fed_from, before}
-use Rattle.recovering_ports.specs.Port as ports
-use Rattle.recovering_ports.specs.Port.{items_by, from_halfword, raised, Answers}
-use Rattle.recovering_ports.specs.declared.port.RecoveringPort.{RecoveringPort}
-use Rattle.recovering_ports.proofs.Feeding.{none_before}
+use Rattle.recovering_machines.specs.Port as ports
+use Rattle.recovering_machines.specs.Port.{items_by, from_halfword, raised, Answers}
+use Rattle.recovering_machines.specs.declared.port.RecoveringPort.{RecoveringPort}
+use Rattle.recovering_machines.proofs.Feeding.{none_before}
 use Rattle.recovery_report.specs.Port.{port_stretches, recovered, of_stretches}
 use Rattle.recovery_report.specs.Report.{Part, Run, Locks, parts_in, report, report_from}
 use Rattle.recovery_report.specs.Words.{parts_by}

@@ -7,8 +7,8 @@ use Rattle.source_events.specs.declared.event.Event.{Event}
 use Rattle.source_events.specs.declared.packet.Packet.{Packet}
 use Rattle.source_events.proofs.Merges.{test_same, test_other}
 use Rattle.stretch_readings.specs.declared.heard.Heard.{Heard}
-use Rattle.recovering_sources.specs.Run.{TakesRun}
-use Rattle.recovering_sources.specs.declared.source.RecoveringSource.{RecoveringSource}
+use Rattle.recovering_machines.specs.Run.{TakesRun}
+use Rattle.recovering_machines.specs.declared.source.RecoveringSource.{RecoveringSource}
 use Rattle.recovery_engine.specs.Slots.{source_at}
 use Rattle.recovery_engine.specs.Taking.{TakesOwn}
 use Rattle.recovery_engine.specs.declared.slot.Slot.{Slot}

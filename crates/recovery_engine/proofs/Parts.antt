@@ -23,9 +23,9 @@ use Rattle.source_events.proofs.Merges.{same_or_not, test_same, test_other}
 use Rattle.source_machine.specs.Units.{reads_by}
 use Rattle.stretch_readings.specs.declared.heard.Heard.{Heard}
 use Rattle.stretch_readings.specs.Stretches.{One, fed_from, heard_of, from_fault, parted}
-use Rattle.recovering_sources.specs.Run.{units_in, with_run}
-use Rattle.recovering_sources.specs.Source.{Stands, kind_of}
-use Rattle.recovering_sources.specs.declared.source.RecoveringSource.{RecoveringSource}
+use Rattle.recovering_machines.specs.Run.{units_in, with_run}
+use Rattle.recovering_machines.specs.Source.{Stands, kind_of}
+use Rattle.recovering_machines.specs.declared.source.RecoveringSource.{RecoveringSource}
 use Rattle.recovery_report.specs.Report.{Part, Run, Locks, Breaks, added, added_by, report_from, run_in, events_of}
 use Rattle.recovery_report.specs.Report.{events_by, stretches_of}
 use Rattle.recovery_report.proofs.PartLaws as laws

@@ -1,13 +1,13 @@
 -- Sources before their first byte.
 use Rattle.std.specs.Prelude.{◌≡◌, ℕ, List, [], Bool, true, false, Option, None, Some, ◌==◌}
 use Rattle.std.specs.List.{list_any}
-use Rattle.capture_plan.specs.Modes.{packets_hunt}
+use Rattle.trace_values.specs.ReadingModes.{packets_hunt}
 use Rattle.source_events.specs.declared.plan.Plan.{Plan}
 use Rattle.source_events.specs.declared.plan.SourceKind.{SourceKind}
 use Rattle.source_machine.specs.Units.{reads_by}
 use Rattle.stretch_readings.specs.Stretches.{before, from_fault}
-use Rattle.recovering_sources.specs.Source.{Stands, kind_of, reads_of}
-use Rattle.recovering_sources.specs.declared.source.RecoveringSource.{RecoveringSource}
+use Rattle.recovering_machines.specs.Source.{Stands, kind_of, reads_of}
+use Rattle.recovering_machines.specs.declared.source.RecoveringSource.{RecoveringSource}
 use Rattle.recovery_engine.specs.Slots.{StandFor}
 use Rattle.recovery_engine.specs.declared.slot.Slot.{Slot}
 

@@ -1,10 +1,10 @@
 -- What a recovering port stands for in a mode.
 use Rattle.std.specs.Prelude.{List}
 use Rattle.trace_values.specs.Placed.{Placed}
-use Rattle.capture_plan.specs.declared.frames.FramesMode.{FramesMode}
-use Rattle.capture_plan.specs.declared.frames.FramesMode.TheVariants.{Hunt, Aligned, Bare}
-use Rattle.recovering_ports.specs.Port as ports
-use Rattle.recovering_ports.specs.declared.port.RecoveringPort.{RecoveringPort}
+use Rattle.trace_values.specs.declared.reading_modes.FramesMode.{FramesMode}
+use Rattle.trace_values.specs.declared.reading_modes.FramesMode.TheVariants.{Hunt, Aligned, Bare}
+use Rattle.recovering_machines.specs.Port as ports
+use Rattle.recovering_machines.specs.declared.port.RecoveringPort.{RecoveringPort}
 use Rattle.recovery_report.specs.Port.{port_stretches}
 
 -- with a formatter, for the stretches of these bytes; with none it is not used

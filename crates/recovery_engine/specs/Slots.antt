@@ -3,8 +3,8 @@ use Rattle.std.specs.Prelude.{◌≡◌, ℕ, ◌+◌, List, [], ◌∷◌, Opti
 use Rattle.source_events.specs.declared.plan.Plan.{Plan}
 use Rattle.source_events.specs.Plan as plans
 use Rattle.source_machine.specs.Units.{reads_by}
-use Rattle.recovering_sources.specs.Source.{Stands, kind_of, reads_of, total_of}
-use Rattle.recovering_sources.specs.declared.source.RecoveringSource.{RecoveringSource}
+use Rattle.recovering_machines.specs.Source.{Stands, kind_of, reads_of, total_of}
+use Rattle.recovering_machines.specs.declared.source.RecoveringSource.{RecoveringSource}
 use Rattle.recovery_report.specs.Report.{Part, stretches_of}
 use Rattle.recovery_engine.specs.declared.slot.Slot.{Slot}
 

@@ -6,9 +6,9 @@ use Rattle.source_events.specs.declared.packet.Packet.{Packet}
 use Rattle.source_events.specs.declared.plan.Plan.{Plan}
 use Rattle.stretch_readings.specs.declared.heard.Heard.{Heard}
 use Rattle.stretch_readings.specs.Stretches.{Stretches, from_fault, parted}
-use Rattle.recovering_sources.specs.Run.{TakesRun}
-use Rattle.recovering_sources.specs.Source.{Stands, kind_of, reads_of}
-use Rattle.recovering_sources.specs.declared.source.RecoveringSource.{RecoveringSource}
+use Rattle.recovering_machines.specs.Run.{TakesRun}
+use Rattle.recovering_machines.specs.Source.{Stands, kind_of, reads_of}
+use Rattle.recovering_machines.specs.declared.source.RecoveringSource.{RecoveringSource}
 use Rattle.recovery_report.specs.Report.{Part, report_from}
 use Rattle.recovery_engine.specs.Slots.{StandFor, source_at}
 use Rattle.recovery_engine.specs.declared.slot.Slot.{Slot}

@@ -1,7 +1,7 @@
 //! The reading of a capture that goes on after each fault.
 
 ghost use Rattle.std.specs.Prelude.{◌≡◌, ◌+◌, ◌*◌, ◌≤◌};
-ghost use Rattle.recovering_ports.specs.Port.{total_of};
+ghost use Rattle.recovering_machines.specs.Port.{total_of};
 ghost use Rattle.recovery_engine.specs.Slots.{total};
 ghost use Rattle.recovery_engine.specs.declared.engine.TheConstants.{GREATEST_OFFSET};
 
@@ -9,11 +9,9 @@ use crate::port::feed_port;
 use crate::router::take_step;
 use crate::slot::{Slots, slots_of};
 use arrayvec::ArrayVec;
-use capture_plan::FramesMode;
-use recovering_ports::RecoveringPort;
-use recovering_sources::Hearer;
+use trace_values::{Cell, FramesMode};
+use recovering_machines::{Hearer, RecoveringPort};
 use source_events::Plan;
-use trace_values::Cell;
 
 /// The greatest offset of a byte of a capture.
 pub const GREATEST_OFFSET: u64 = 1 << 36;

@@ -4,17 +4,16 @@ ghost use Rattle.std.specs.Prelude.{◌≡◌, ◌+◌, ◌≤◌, ◌++◌, ◌
 ghost use Rattle.trace_values.specs.Placed.{Placed, byte_at};
 ghost use Rattle.trace_values.specs.declared.limits.TheConstants.{COUNT_ROOM};
 ghost use Rattle.deformatter.specs.PortReading.{bare_cell};
-ghost use Rattle.recovering_ports.specs.Port.{total_of};
+ghost use Rattle.recovering_machines.specs.Port.{total_of};
 ghost use Rattle.recovery_report.specs.Port.{recovered};
 ghost use Rattle.recovery_report.specs.Report.{parts_in};
 ghost use Rattle.recovery_report.specs.Words.{parts_by};
 ghost use Rattle.recovery_engine.specs.Port.{PortStands};
 
 use arrayvec::ArrayVec;
-use capture_plan::FramesMode;
+use trace_values::{Cell, FramesMode, SourceId};
 use deformatter::PortStep;
-use recovering_ports::RecoveringPort;
-use trace_values::{Cell, SourceId};
+use recovering_machines::RecoveringPort;
 
 /// The source of all bytes where there is no formatter.
 fn bare_source() -> Option<SourceId>

@@ -13,7 +13,7 @@ ghost use Rattle.recovery_engine.specs.Taking.{Takes};
 
 use crate::slot::{Slot, cut_all, take_own};
 use deformatter::PortStep;
-use recovering_sources::Hearer;
+use recovering_machines::Hearer;
 use source_events::{Event, RunBytes, What, run_length};
 use stretch_readings::Heard;
 use trace_values::{Cell, SourceId};

@@ -11,8 +11,8 @@ use Rattle.source_events.specs.Merge.{is_of, place_of}
 use Rattle.trace_text.specs.LineText.{event_line}
 use Rattle.trace_text.specs.FaultText.{fault_line}
 use Rattle.trace_text.specs.EndText.{tails_text}
-use Rattle.capture_report.specs.Faulty.{is_stp}
-use Rattle.capture_report.specs.Listing.{itm_packet, remark_of}
+use Rattle.capture_actions.specs.Faulty.{is_stp}
+use Rattle.capture_actions.specs.Listing.{itm_packet, remark_of}
 use Rattle.stretch_readings.specs.declared.heard.Heard.{Heard}
 use Rattle.stretch_readings.specs.declared.heard.Heard.TheVariants.{Read, Broken}
 use Rattle.recovery_report.specs.Report.{report, tails_of}

@@ -1,8 +1,8 @@
 //! Worked rows of recovering listings, which the checker computes.
 
 ghost use Rattle.std.specs.Prelude.{◌≡◌, ◌++◌, codes};
-ghost use Rattle.capture_plan.specs.declared.frames.FramesMode.TheVariants.{Aligned as FramesAligned, Bare};
-ghost use Rattle.capture_plan.specs.declared.packets.PacketsMode.TheVariants.{Aligned};
+ghost use Rattle.trace_values.specs.declared.reading_modes.FramesMode.TheVariants.{Aligned as FramesAligned, Bare};
+ghost use Rattle.trace_values.specs.declared.reading_modes.PacketsMode.TheVariants.{Aligned};
 ghost use Rattle.trace_values.specs.Hex.{hex};
 ghost use Rattle.recovery_report.specs.Rows.{itm, raw};
 ghost use Rattle.recovery_listing.specs.Listing.{listing};

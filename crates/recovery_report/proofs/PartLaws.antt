@@ -8,7 +8,7 @@ use Rattle.trace_values.specs.declared.cell.Cell.{Cell}
 use Rattle.trace_values.specs.declared.fault.Reason.{Reason}
 use Rattle.trace_values.specs.Placed.{Place}
 use Rattle.frame_grammar.specs.Reading.{is_source}
-use Rattle.capture_plan.specs.Modes.{packets_hunt}
+use Rattle.trace_values.specs.ReadingModes.{packets_hunt}
 use Rattle.source_events.specs.declared.plan.Plan.{Plan}
 use Rattle.source_events.specs.declared.plan.SourceKind.{SourceKind}
 use Rattle.source_events.specs.Merge.{told}
@@ -17,10 +17,10 @@ use Rattle.source_events.specs.Report.{lifted}
 use Rattle.source_events.specs.Runs.{id_of}
 use Rattle.stretch_readings.proofs.StretchLaws.{from_append}
 use Rattle.stretch_readings.specs.Stretches.{One, fed_from, before, parted, from_fault}
-use Rattle.recovering_sources.specs.Run.{units_in}
+use Rattle.recovering_machines.specs.Run.{units_in}
 use Rattle.source_machine.specs.Units.{reads_by}
 use Rattle.source_events.proofs.Merges.{test_same}
-use Rattle.recovering_sources.proofs.Runs.{lifted_append}
+use Rattle.recovering_machines.proofs.Runs.{lifted_append}
 use Rattle.recovery_report.specs.Report.{Part, Run, Locks, Breaks, added, added_by, report_from, fed_by}
 use Rattle.recovery_report.specs.Report.{list_of, stretches_of, stream_of, events_of, events_by}
 use Rattle.recovery_report.specs.Words.{OwnRun}

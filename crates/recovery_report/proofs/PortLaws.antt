@@ -24,8 +24,8 @@ use Rattle.deformatter.proofs.ReaderFeeding.{framed_grows}
 use Rattle.source_events.specs.Runs.{all_runs, runs_of}
 use Rattle.source_events.proofs.LockSteps.{unlocked, locked}
 use Rattle.stretch_readings.specs.Stretches.{Stretch, Stretches, One, fed, renewed, resumed_by, skipped_in}
-use Rattle.recovering_ports.specs.Port.{items_by, from_halfword}
-use Rattle.recovering_ports.proofs.Feeding.{same}
+use Rattle.recovering_machines.specs.Port.{items_by, from_halfword}
+use Rattle.recovering_machines.proofs.Feeding.{same}
 use Rattle.recovery_report.specs.Port.{of_stretches, stretch_of}
 use Rattle.recovery_report.specs.Report.{Part, Run, Locks, lock_of, break_of, parts_of, parts_in}
 use Rattle.recovery_report.specs.Words.{parts_by}

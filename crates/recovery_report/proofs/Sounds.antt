@@ -30,8 +30,8 @@ use Rattle.source_machine.specs.Units.{reads_by}
 use Rattle.stretch_readings.specs.Stretches.{from_fault}
 use Rattle.stretch_readings.specs.Words.{IsSound, IsSettling}
 use Rattle.stretch_readings.proofs.Feeding.{last_unit}
-use Rattle.recovering_ports.specs.Port.{items_by, from_halfword}
-use Rattle.recovering_ports.proofs.Feeding.{same}
+use Rattle.recovering_machines.specs.Port.{items_by, from_halfword}
+use Rattle.recovering_machines.proofs.Feeding.{same}
 
 one_sound : (order : Order) (kind : SourceKind) (b : Placed) → (reads_by order kind true (b ∷ [])).fault ≡ None
 one_sound order Itm b = (quieting.quiet pattern Sync (by_unit rule) Header (b ∷ []) (omega arith)).fault

@@ -6,9 +6,9 @@ use Rattle.trace_values.specs.Placed.{Placed}
 use Rattle.deformatter.specs.Reading.{PortStream, port_stream}
 use Rattle.deformatter.specs.PortReading.{PortReading, framed, port_reading}
 use Rattle.deformatter.specs.Modes.{hunts}
-use Rattle.capture_plan.specs.declared.frames.FramesMode.{FramesMode}
-use Rattle.capture_plan.specs.declared.frames.FramesMode.TheVariants.{Hunt, Aligned, Bare}
-use Rattle.recovering_ports.specs.Port.{items_by, from_halfword}
+use Rattle.trace_values.specs.declared.reading_modes.FramesMode.{FramesMode}
+use Rattle.trace_values.specs.declared.reading_modes.FramesMode.TheVariants.{Hunt, Aligned, Bare}
+use Rattle.recovering_machines.specs.Port.{items_by, from_halfword}
 use Rattle.stretch_readings.specs.Stretches.{One, Stretch, Stretches, stretches, lost_in, skipped_in}
 
 abbrev pub port_stretches : FramesMode → List Placed → Stretches

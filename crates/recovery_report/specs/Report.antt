@@ -9,9 +9,9 @@ use Rattle.trace_values.specs.Placed.{Place, Placed}
 use Rattle.trace_values.specs.Stream.{Stream}
 use Rattle.frame_grammar.specs.Port.{PortItem}
 use Rattle.frame_grammar.specs.Reading.{is_source}
-use Rattle.capture_plan.specs.Modes.{packets_hunt}
-use Rattle.capture_plan.specs.declared.frames.FramesMode.{FramesMode}
-use Rattle.capture_plan.specs.declared.frames.FramesMode.TheVariants.{Bare as FramesBare}
+use Rattle.trace_values.specs.ReadingModes.{packets_hunt}
+use Rattle.trace_values.specs.declared.reading_modes.FramesMode.{FramesMode}
+use Rattle.trace_values.specs.declared.reading_modes.FramesMode.TheVariants.{Bare as FramesBare}
 use Rattle.source_counts.specs.Counts.{unattributed_of}
 use Rattle.source_events.specs.declared.event.Event.{Event}
 use Rattle.source_events.specs.declared.event.What.{What}
@@ -29,7 +29,7 @@ use Rattle.source_events.specs.Report.{lifted, raws}
 use Rattle.source_events.specs.Runs.{id_of, all_runs}
 use Rattle.stretch_readings.specs.declared.heard.Heard.{Heard}
 use Rattle.stretch_readings.specs.declared.heard.Heard.TheVariants.{Broken}
-use Rattle.recovering_sources.specs.Run.{units_in}
+use Rattle.recovering_machines.specs.Run.{units_in}
 use Rattle.source_machine.specs.Units.{reads_by}
 use Rattle.stretch_readings.specs.Stretches.{Fed, One, Mark, Stretches, stretches, from_fault, heard_of}
 use Rattle.recovery_report.specs.Port.{PortStretch, PortStretches, recovered, all_of, frames_of, skipped_of}

@@ -1,9 +1,9 @@
 -- Worked rows of recovering reports, in text.
 use Rattle.std.specs.Prelude.{ℕ, List, [], ◌∷◌, map, false, Option}
-use Rattle.capture_plan.specs.declared.frames.FramesMode.{FramesMode}
-use Rattle.capture_plan.specs.declared.frames.FramesMode.TheVariants.{Bare}
-use Rattle.capture_plan.specs.declared.packets.PacketsMode.{PacketsMode}
-use Rattle.capture_plan.specs.declared.packets.PacketsMode.TheVariants.{Aligned}
+use Rattle.trace_values.specs.declared.reading_modes.FramesMode.{FramesMode}
+use Rattle.trace_values.specs.declared.reading_modes.FramesMode.TheVariants.{Bare}
+use Rattle.trace_values.specs.declared.reading_modes.PacketsMode.{PacketsMode}
+use Rattle.trace_values.specs.declared.reading_modes.PacketsMode.TheVariants.{Aligned}
 use Rattle.stp_grammar.specs.declared.packet.Order.TheVariants.{Msn}
 use Rattle.trace_values.specs.Placed.{Place, placed}
 use Rattle.trace_values.specs.Hex.{hex}

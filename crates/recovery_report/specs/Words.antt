@@ -14,7 +14,7 @@ use Rattle.source_events.specs.Report.{lifted}
 use Rattle.source_events.specs.Runs.{runs_of}
 use Rattle.stretch_readings.specs.declared.heard.Heard.{Heard}
 use Rattle.stretch_readings.specs.Stretches.{One, fed_from, from_fault}
-use Rattle.recovering_sources.specs.Run.{units_in}
+use Rattle.recovering_machines.specs.Run.{units_in}
 use Rattle.source_machine.specs.Units.{reads_by}
 use Rattle.recovery_report.specs.Report.{Part, Run, Locks, Breaks, added, stretches_of, stream_of}
 

@@ -9,7 +9,7 @@ ghost use Rattle.trace_values.specs.Stream.{Said, Kept};
 ghost use Rattle.deformatter.specs.declared.step.PortStep.{PortStep};
 ghost use Rattle.deformatter.specs.Growth.{PortGrows};
 ghost use Rattle.deformatter.specs.Reading.{cells_in, port_stream};
-ghost use Rattle.recovering_ports.specs.Port.{items_by, from_halfword};
+ghost use Rattle.recovering_machines.specs.Port.{items_by, from_halfword};
 ghost use Rattle.source_events.specs.declared.packet.Packet.{Packet};
 ghost use Rattle.source_events.specs.declared.plan.Plan.{Plan};
 ghost use Rattle.source_events.specs.declared.plan.SourceKind.{SourceKind};

@@ -1,9 +1,9 @@
 //! Worked rows of recovering reports, which the checker computes.
 
 ghost use Rattle.std.specs.Prelude.{◌≡◌, [], ◌∷◌, ◌++◌, None, Some, codes};
-ghost use Rattle.capture_plan.specs.declared.frames.FramesMode.TheVariants.{Aligned as FramesAligned};
-ghost use Rattle.capture_plan.specs.declared.frames.FramesMode.TheVariants.{Bare as FramesBare};
-ghost use Rattle.capture_plan.specs.declared.packets.PacketsMode.TheVariants.{Aligned, Hunt};
+ghost use Rattle.trace_values.specs.declared.reading_modes.FramesMode.TheVariants.{Aligned as FramesAligned};
+ghost use Rattle.trace_values.specs.declared.reading_modes.FramesMode.TheVariants.{Bare as FramesBare};
+ghost use Rattle.trace_values.specs.declared.reading_modes.PacketsMode.TheVariants.{Aligned, Hunt};
 ghost use Rattle.trace_values.specs.declared.fault.Reason.TheVariants.{BadSync, SyncInFrame, ReservedHeader};
 ghost use Rattle.trace_values.specs.declared.fault.Reason.TheVariants.{BadItmSync, ShortStamp, StampSize};
 ghost use Rattle.trace_values.specs.Stream.{Kept};

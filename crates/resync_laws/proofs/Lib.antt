@@ -7,3 +7,17 @@ pub mod Mapped
 pub mod Looking
 pub mod ReportRest
 pub mod Skipping
+pub mod RunTerms
+pub mod EventTerms
+pub mod ReportTerms
+pub mod Merging
+pub mod RunsLater
+pub mod Sources
+pub mod Listing
+pub mod Reporting
+pub mod MovedTerms
+pub mod MovedPort
+pub mod MovedReport
+pub mod RestReport
+pub mod Exact
+pub mod Points

@@ -4,13 +4,13 @@ use Rattle.std.proofs.lemmas.List.{map-append}
 use Rattle.trace_values.specs.Placed.{Place, Placed}
 use Rattle.trace_values.specs.Stream.{Stream, Said, Notice, Kept, kept, AllAt}
 use Rattle.source_events.specs.Report.{IsLawful}
-use Rattle.resync_points.specs.Points.{items_of, from_point}
-use Rattle.resync_points.specs.Points.{is_from}
-use Rattle.resync_points.specs.Moved.{later_place}
-use Rattle.resync_points.specs.Moved.{later_stream}
+use Rattle.resync_rules.specs.Points.{items_of, from_point}
+use Rattle.resync_rules.specs.Points.{is_from}
+use Rattle.resync_rules.specs.Moved.{later_place}
+use Rattle.resync_rules.specs.Moved.{later_stream}
 use Rattle.source_events.specs.Packets.{said_as, given_as, stream_as}
 use Rattle.resync_laws.proofs.LiftTerms.{resumed_as}
-use Rattle.resync_reports.specs.Resumed.{Resumed, CanResume}
+use Rattle.resync_laws.specs.Resumed.{Resumed, CanResume}
 
 module _ {V W : Type 0} (f : V → W) where
   all_as : (at half : ℕ) (xs : List (Said V × Place)) → AllAt at half xs → AllAt at half (given_as f xs)

@@ -7,7 +7,7 @@ use Rattle.std.proofs.lemmas.Bool.Decides.{nat_tests}
 use Rattle.trace_values.specs.declared.cell.Cell.{Cell}
 use Rattle.trace_values.specs.Placed.{Place, Placed}
 use Rattle.trace_values.specs.Stream.{Said, Notice, Kept}
-use Rattle.capture_plan.specs.declared.frames.FramesMode.{FramesMode}
+use Rattle.trace_values.specs.declared.reading_modes.FramesMode.{FramesMode}
 use Rattle.frame_grammar.specs.SourceBytes.{source_units}
 use Rattle.deformatter.specs.PortReading.{port_reading, cells_of}
 use Rattle.deformatter.proofs.PortReadingLaws.{frames_have_runs}
@@ -28,14 +28,14 @@ use Rattle.source_events.specs.Report.{Mapped, runs_in}
 use Rattle.source_events.specs.Runs.{list_of}
 use Rattle.source_events.proofs.Least.{AreSound}
 use Rattle.source_events.proofs.RunNumbers.{lists_are}
-use Rattle.resync_points.specs.Points.{point_in, is_from}
+use Rattle.resync_rules.specs.Points.{point_in, is_from}
 use Rattle.resync_laws.specs.Points.{first_version, point_by, point_of}
-use Rattle.resync_reports.specs.Points.{first_in, point_at, from_points}
-use Rattle.resync_points.proofs.ItemTerms.{first_item}
-use Rattle.resync_reports.specs.Resumed.{points_in}
+use Rattle.resync_laws.specs.FromPoints.{first_in, point_at, from_points}
+use Rattle.resync_rules.proofs.ItemTerms.{first_item}
+use Rattle.resync_laws.specs.Resumed.{points_in}
 use Rattle.resync_laws.proofs.PlanTerms.{is_version, resumed_by, sources_of}
 use Rattle.resync_laws.proofs.Mapped.{point_as}
-use Rattle.resync_reports.proofs.Points.{port_point}
+use Rattle.resync_laws.proofs.Points.{port_point}
 
 other_way : (a b : ℕ) → (a == b) ≡ (b == a)
 other_way a b = grind (arith, nat_tests)

@@ -7,7 +7,7 @@ use Rattle.trace_values.specs.Placed.{Place, Placed, units_of}
 use Rattle.trace_values.specs.Grammar.{InUnits}
 use Rattle.trace_values.specs.Nibbles.{nibbles_of}
 use Rattle.trace_values.specs.Stream.{Said, Notice, Kept}
-use Rattle.capture_plan.specs.Modes.{packets_hunt}
+use Rattle.trace_values.specs.ReadingModes.{packets_hunt}
 use Rattle.itm_grammar.specs.declared.packet.ItmPacket.TheVariants.{Sync}
 use Rattle.itm_grammar.specs.declared.partial.Partial.TheVariants.{Header}
 use Rattle.itm_grammar.specs.Spelling as itm
@@ -39,17 +39,17 @@ use Rattle.source_events.specs.Plan.{mapped_ids, stream_of, sources_by}
 use Rattle.source_events.specs.Report.{Mapped}
 use Rattle.source_events.proofs.Merges.{test_same}
 use Rattle.source_events.proofs.Lawful.{itm_lawful, stp_lawful}
-use Rattle.resync_sources.proofs.ItmSyncing.{itm_syncs}
-use Rattle.resync_sources.proofs.StpSyncing.{stp_syncs}
-use Rattle.resync_sources.proofs.StpItems.{Alike, alike_push, alike_anew, item_alike, version_cases}
-use Rattle.resync_sources.proofs.Captures.{itm_rest}
-use Rattle.resync_sources.proofs.StpResting.{is_items_rest}
-use Rattle.resync_points.specs.Points.{items_of, point_of}
-use Rattle.resync_points.specs.Points.{point_in}
-use Rattle.resync_points.specs.Points.{AllFrom}
-use Rattle.resync_points.proofs.ItemTerms.{first_item, IsMarked, BeginsAnew}
-use Rattle.resync_reports.specs.Resumed.{wholes, rests, CanResume, CanAll, IsQuiet, IsQuietAt}
-use Rattle.resync_reports.proofs.ReportTerms.{AllRead}
+use Rattle.resync_grammars.proofs.ItmSyncing.{itm_syncs}
+use Rattle.resync_grammars.proofs.StpSyncing.{stp_syncs}
+use Rattle.resync_grammars.proofs.StpItems.{Alike, alike_push, alike_anew, item_alike, version_cases}
+use Rattle.resync_grammars.proofs.Captures.{itm_rest}
+use Rattle.resync_grammars.proofs.StpResting.{is_items_rest}
+use Rattle.resync_rules.specs.Points.{items_of, point_of}
+use Rattle.resync_rules.specs.Points.{point_in}
+use Rattle.resync_rules.specs.Points.{AllFrom}
+use Rattle.resync_rules.proofs.ItemTerms.{first_item, IsMarked, BeginsAnew}
+use Rattle.resync_laws.specs.Resumed.{wholes, rests, CanResume, CanAll, IsQuiet, IsQuietAt}
+use Rattle.resync_laws.proofs.ReportTerms.{AllRead}
 use Rattle.resync_laws.proofs.PlanTerms.{is_version_item, is_version, resumed_by, sources_of, unit_reads}
 use Rattle.resync_laws.specs.Report.{rest_plan}
 use Rattle.resync_laws.proofs.Lifting.{can_as}

@@ -2,10 +2,10 @@
 use Rattle.std.proofs.Common.{◌≡◌, ℕ, suc, ◌+◌, ◌*◌, ◌≤◌, List, [], ◌∷◌, ◌++◌, map, refl, ap, arith}
 use Rattle.std.specs.Prelude.{◌/◌, ◌%◌}
 use Rattle.trace_values.specs.Placed.{Placed}
-use Rattle.resync_points.specs.Points.{Between, IsRising}
-use Rattle.resync_points.specs.Points.{key}
-use Rattle.resync_points.specs.Moved.{later}
-use Rattle.resync_reports.specs.Resumed.{AreBytes}
+use Rattle.resync_rules.specs.Points.{Between, IsRising}
+use Rattle.resync_rules.specs.Points.{key}
+use Rattle.resync_rules.specs.Moved.{later}
+use Rattle.resync_laws.specs.Resumed.{AreBytes}
 use Rattle.trace_values.specs.Nibbles.{nibbles_of}
 
 abbrev low : Placed → Placed

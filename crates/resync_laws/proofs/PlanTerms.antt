@@ -2,7 +2,7 @@
 use Rattle.std.specs.Prelude.{ℕ, List, map, Bool, true, false}
 use Rattle.trace_values.specs.Placed.{Placed}
 use Rattle.trace_values.specs.Nibbles.{nibbles_of}
-use Rattle.capture_plan.specs.Modes.{packets_hunt}
+use Rattle.trace_values.specs.ReadingModes.{packets_hunt}
 use Rattle.itm_codec.specs.Reading.{packets_in}
 use Rattle.stp_grammar.specs.declared.item.StpItem.{StpItem}
 use Rattle.stp_grammar.specs.declared.item.StpItem.TheVariants.{Version}
@@ -14,12 +14,12 @@ use Rattle.source_events.specs.declared.plan.SourceKind.{SourceKind}
 use Rattle.source_events.specs.declared.plan.SourceKind.TheVariants.{Itm, Stp}
 use Rattle.source_events.specs.Packets.{stream_as}
 use Rattle.source_events.specs.Plan.{mapped_ids}
-use Rattle.resync_streams.specs.Fronts.{IsRest}
-use Rattle.resync_sources.specs.Itm as itm
-use Rattle.resync_sources.specs.Stp.{IsItemsRest}
-use Rattle.resync_points.specs.Points.{point_of}
-use Rattle.resync_points.proofs.ItemTerms.{first_item}
-use Rattle.resync_reports.specs.Resumed.{Resumed}
+use Rattle.resync_rules.specs.Fronts.{IsRest}
+use Rattle.resync_grammars.specs.Itm as itm
+use Rattle.resync_grammars.specs.Stp.{IsItemsRest}
+use Rattle.resync_rules.specs.Points.{point_of}
+use Rattle.resync_rules.proofs.ItemTerms.{first_item}
+use Rattle.resync_laws.specs.Resumed.{Resumed}
 
 -- the item of a VERSION
 abbrev pub is_version_item : StpItem → Bool

@@ -11,21 +11,21 @@ use Rattle.trace_values.specs.Decorated.{decorated}
 use Rattle.trace_values.specs.Stream.{Stream, Said, kept}
 use Rattle.trace_values.proofs.Readings as readings
 use Rattle.source_events.specs.Report.{IsLawful}
-use Rattle.resync_streams.specs.Fronts.{Hunting, IsRest}
-use Rattle.resync_streams.specs.Syncing.{Syncs}
-use Rattle.resync_points.specs.Points.{IsRising, items_of, point_of, from_point, Follows}
-use Rattle.resync_points.specs.Points.{AllFrom}
-use Rattle.resync_points.specs.Moved.{later, later_stream}
-use Rattle.resync_reports.specs.Resumed.{Resumed, AreBytes, CanResume, IsQuiet}
-use Rattle.resync_points.proofs.ItemTerms.{AllFit, BeginsAnew}
+use Rattle.resync_rules.specs.Fronts.{Hunting, IsRest}
+use Rattle.resync_rules.specs.Syncing.{Syncs}
+use Rattle.resync_rules.specs.Points.{IsRising, items_of, point_of, from_point, Follows}
+use Rattle.resync_rules.specs.Points.{AllFrom}
+use Rattle.resync_rules.specs.Moved.{later, later_stream}
+use Rattle.resync_laws.specs.Resumed.{Resumed, AreBytes, CanResume, IsQuiet}
+use Rattle.resync_rules.proofs.ItemTerms.{AllFit, BeginsAnew}
 use Rattle.resync_laws.proofs.LiftTerms.{resumed_made}
-use Rattle.resync_streams.proofs.Locking as locking
-use Rattle.resync_streams.proofs.Resting as resting
-use Rattle.resync_points.proofs.Following as following
-use Rattle.resync_points.proofs.Moving.{stream_later}
-use Rattle.resync_reports.proofs.RestReport.{from_follows, rest_fault, rest_tail}
-use Rattle.resync_points.proofs.Decorating.{from_all, follows_from}
-use Rattle.resync_points.proofs.Making.{made_later}
+use Rattle.resync_rules.proofs.Locking as locking
+use Rattle.resync_rules.proofs.Resting as resting
+use Rattle.resync_rules.proofs.Following as following
+use Rattle.resync_rules.proofs.Moving.{stream_later}
+use Rattle.resync_laws.proofs.RestReport.{from_follows, rest_fault, rest_tail}
+use Rattle.resync_rules.proofs.Decorating.{from_all, follows_from}
+use Rattle.resync_rules.proofs.Making.{made_later}
 
 -- what a source's bytes are as units
 pub record AreUnits (units : List Placed → List Placed) : Type 0 where

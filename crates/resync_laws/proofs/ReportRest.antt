@@ -3,8 +3,8 @@ use Rattle.std.proofs.Common.{◌≡◌, ℕ, ◌+◌, List, [], ◌++◌, lengt
 use Rattle.std.specs.Prelude.{Option, Some}
 use Rattle.trace_values.specs.Placed.{Place, Placed, placed}
 use Rattle.trace_values.proofs.Placing.{placed_append}
-use Rattle.capture_plan.specs.declared.frames.FramesMode.{FramesMode}
-use Rattle.capture_plan.specs.Modes.{packets_hunt}
+use Rattle.trace_values.specs.declared.reading_modes.FramesMode.{FramesMode}
+use Rattle.trace_values.specs.ReadingModes.{packets_hunt}
 use Rattle.itm_codec.specs.Reading.{packets_in}
 use Rattle.stp_codec.specs.Reading.{items_in}
 use Rattle.deformatter.specs.PortReading.{PortReading, port_reading}
@@ -21,19 +21,19 @@ use Rattle.source_events.proofs.Growth.{no_stop}
 use Rattle.source_events.proofs.Least.{AreSound}
 use Rattle.source_events.proofs.Placing.{frames_between}
 use Rattle.source_events.proofs.Settling.{all_sound}
-use Rattle.resync_ports.specs.Port.{rest_mode}
-use Rattle.resync_sources.specs.Capture.{source_bytes}
-use Rattle.resync_sources.proofs.Captures.{itm_capture, stp_capture}
-use Rattle.resync_reports.specs.Moved.{later_event, later_reading}
-use Rattle.resync_reports.specs.Points.{items_among, from_points}
+use Rattle.resync_grammars.specs.Port.{rest_mode}
+use Rattle.resync_grammars.specs.Capture.{source_bytes}
+use Rattle.resync_grammars.proofs.Captures.{itm_capture, stp_capture}
+use Rattle.resync_laws.specs.Moved.{later_event, later_reading}
+use Rattle.resync_laws.specs.FromPoints.{items_among, from_points}
 use Rattle.resync_laws.specs.Report.{left_bytes, whole_reading, left_reading, whole_report, left_report, points}
 use Rattle.resync_laws.specs.Report.{SourceFollows, ReportFollows}
-use Rattle.resync_reports.specs.Resumed.{wholes, points_in, port_of}
+use Rattle.resync_laws.specs.Resumed.{wholes, points_in, port_of}
 use Rattle.resync_laws.proofs.PlanTerms.{sources_of, unit_reads}
 use Rattle.resync_laws.proofs.Mapped.{can_all, all_read, wholes_are, rests_are, quiet_at}
 use Rattle.resync_laws.proofs.Looking.{bytes_are, point_is, same_points, sound_at}
-use Rattle.resync_reports.proofs.RestReport.{rest_law}
-use Rattle.resync_reports.proofs.Exact.{part_law}
+use Rattle.resync_laws.proofs.RestReport.{rest_law}
+use Rattle.resync_laws.proofs.Exact.{part_law}
 
 module _ (plan : Plan) (lost left : List ℕ) (e : stop_in (sources_by plan) (whole_reading plan lost left) ≡ None) where
   abbrev mode : FramesMode

@@ -3,7 +3,7 @@ use Rattle.std.proofs.Common.{◌≡◌, ℕ, List, length, map, sym, ◌∙◌,
 use Rattle.trace_values.specs.Placed.{Placed, placed}
 use Rattle.trace_values.specs.Nibbles.{nibbles_of}
 use Rattle.trace_values.specs.Stream.{Stream}
-use Rattle.capture_plan.specs.Modes.{packets_hunt}
+use Rattle.trace_values.specs.ReadingModes.{packets_hunt}
 use Rattle.stp_grammar.specs.declared.packet.Order.{Order}
 use Rattle.stp_grammar.specs.declared.item.StpItem.{StpItem}
 use Rattle.stp_codec.specs.Reading.{items_at}
@@ -16,13 +16,13 @@ use Rattle.source_events.specs.Plan.{stream_of}
 use Rattle.source_events.specs.Report.{runs_in}
 use Rattle.source_events.specs.Runs.{list_of}
 use Rattle.source_events.specs.Tails.{tail_of}
-use Rattle.resync_streams.specs.Fronts.{Hunting, IsRest}
-use Rattle.resync_points.specs.Moved.{later}
-use Rattle.resync_ports.specs.Port.{rest_mode}
-use Rattle.resync_sources.specs.Capture.{source_bytes}
-use Rattle.resync_sources.specs.Stp.{hunting, IsItemsRest}
-use Rattle.resync_reports.specs.Moved.{later_reading}
-use Rattle.resync_reports.proofs.MovedReport.{all_later, list_later}
+use Rattle.resync_rules.specs.Fronts.{Hunting, IsRest}
+use Rattle.resync_rules.specs.Moved.{later}
+use Rattle.resync_grammars.specs.Port.{rest_mode}
+use Rattle.resync_grammars.specs.Capture.{source_bytes}
+use Rattle.resync_grammars.specs.Stp.{hunting, IsItemsRest}
+use Rattle.resync_laws.specs.Moved.{later_reading}
+use Rattle.resync_laws.proofs.MovedReport.{all_later, list_later}
 use Rattle.resync_laws.specs.Report.{rest_plan, left_bytes, left_reading, reads, Skips, skips}
 use Rattle.resync_laws.proofs.PlanTerms.{resumed_by}
 use Rattle.resync_laws.proofs.Mapped.{can_one}

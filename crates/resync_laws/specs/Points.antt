@@ -14,8 +14,8 @@ use Rattle.source_events.specs.declared.plan.Plan.{Plan}
 use Rattle.source_events.specs.declared.plan.SourceKind.{SourceKind}
 use Rattle.source_events.specs.declared.plan.SourceKind.TheVariants.{Itm, Stp}
 use Rattle.source_events.specs.Plan.{kind_of}
-use Rattle.resync_points.specs.Points.{point_in}
-use Rattle.resync_reports.specs.Points.{first_in}
+use Rattle.resync_rules.specs.Points.{point_in}
+use Rattle.resync_laws.specs.FromPoints.{first_in}
 
 -- the place of the first item of a VERSION
 abbrev pub first_version : List (Said StpItem × Place) → Option Place

@@ -3,8 +3,8 @@ use Rattle.std.specs.Prelude.{◌≡◌, ◌⊎◌, ℕ, ◌-◌, List, ◌++◌
 use Rattle.std.specs.List.{list_any}
 use Rattle.trace_values.specs.Nibbles.{nibbles_of}
 use Rattle.trace_values.specs.Placed.{Place, Placed, placed, placed_from}
-use Rattle.capture_plan.specs.declared.packets.PacketsMode.TheVariants.{Hunt}
-use Rattle.capture_plan.specs.Modes.{packets_hunt}
+use Rattle.trace_values.specs.declared.reading_modes.PacketsMode.TheVariants.{Hunt}
+use Rattle.trace_values.specs.ReadingModes.{packets_hunt}
 use Rattle.deformatter.specs.PortReading.{PortReading, port_reading}
 use Rattle.source_events.specs.declared.event.Event.{Event}
 use Rattle.source_events.specs.declared.packet.Packet.{Packet}
@@ -14,14 +14,14 @@ use Rattle.source_events.specs.declared.plan.SourceKind.TheVariants.{Itm, Stp}
 use Rattle.source_events.specs.Merge.{part}
 use Rattle.source_events.specs.Plan.{kind_of, sources_by}
 use Rattle.source_events.specs.Report.{stop_in, report}
-use Rattle.resync_streams.specs.Fronts.{Hunting, IsSync, IsFirstSync, IsRest}
-use Rattle.resync_ports.specs.Port.{IsPortRest, rest_mode}
-use Rattle.resync_sources.specs.Capture.{source_bytes}
-use Rattle.resync_sources.specs.Itm as itm
-use Rattle.resync_sources.specs.Stp as stp
-use Rattle.resync_reports.specs.Moved.{later_reading, later_event}
+use Rattle.resync_rules.specs.Fronts.{Hunting, IsSync, IsFirstSync, IsRest}
+use Rattle.resync_grammars.specs.Port.{IsPortRest, rest_mode}
+use Rattle.resync_grammars.specs.Capture.{source_bytes}
+use Rattle.resync_grammars.specs.Itm as itm
+use Rattle.resync_grammars.specs.Stp as stp
+use Rattle.resync_laws.specs.Moved.{later_reading, later_event}
 use Rattle.resync_laws.specs.Points.{point_of}
-use Rattle.resync_reports.specs.Points.{items_among, from_points}
+use Rattle.resync_laws.specs.FromPoints.{items_among, from_points}
 
 -- how the rest of a capture is read that this plan reads whole: by hunts
 abbrev pub rest_plan : Plan → Plan

@@ -4,8 +4,8 @@ use Rattle.trace_values.specs.Hex.{hex}
 use Rattle.trace_values.specs.Placed.{placed}
 use Rattle.trace_values.specs.declared.fault.Reason.{Reason}
 use Rattle.deformatter.specs.PortReading.{port_reading}
-use Rattle.capture_plan.specs.declared.frames.FramesMode.TheVariants.{Aligned as InFrames, Bare}
-use Rattle.capture_plan.specs.declared.packets.PacketsMode.TheVariants.{Aligned}
+use Rattle.trace_values.specs.declared.reading_modes.FramesMode.TheVariants.{Aligned as InFrames, Bare}
+use Rattle.trace_values.specs.declared.reading_modes.PacketsMode.TheVariants.{Aligned}
 use Rattle.stp_grammar.specs.declared.packet.Order.TheVariants.{Msn}
 use Rattle.source_events.specs.declared.event.Event.{Event}
 use Rattle.source_events.specs.declared.event.What.{What}
@@ -13,8 +13,8 @@ use Rattle.source_events.specs.declared.packet.Packet.{Packet}
 use Rattle.source_events.specs.declared.plan.Plan.{Plan}
 use Rattle.source_events.specs.Plan.{sources_by}
 use Rattle.source_events.specs.Report.{stop_in}
-use Rattle.resync_sources.specs.Rows as rows
-use Rattle.resync_reports.specs.Points.{items_among, from_points}
+use Rattle.resync_grammars.specs.SourceRows as rows
+use Rattle.resync_laws.specs.FromPoints.{items_among, from_points}
 use Rattle.resync_laws.specs.Report.{points, whole_report, left_report}
 
 -- source 1 sends ITM packets in frames; or STP packets in a capture without a formatter

@@ -9,7 +9,7 @@ ghost use Rattle.stp_grammar.specs.declared.item.StpItem.TheVariants.{Async, Ver
 ghost use Rattle.trace_values.specs.declared.fault.Reason.TheVariants.{BadSync};
 ghost use Rattle.source_events.specs.declared.event.What.TheVariants.{Locked, Packet};
 ghost use Rattle.source_events.specs.declared.packet.Packet.TheVariants.{Itm, Stp};
-ghost use Rattle.resync_ports.specs.Rows.{packets_in_frames};
+ghost use Rattle.resync_grammars.specs.PortRows.{packets_in_frames};
 ghost use Rattle.resync_laws.specs.Rows.{itm_plan, stp_plan, whole, left, from, from_port, stop_of, two_versions};
 
 /// Two frames with packets of one source, each after a full synchronisation. Without the first byte the port locks at

@@ -3,3 +3,9 @@ pub mod Taking
 pub mod Sources
 pub mod Whole
 pub mod FirstLines
+pub mod Lines
+pub mod Puts
+pub mod Standing
+pub mod SoundSources
+pub mod OneVersion
+pub mod AllSegments

@@ -17,8 +17,8 @@ use Rattle.script_text.specs.Quick.{IsPacketOf}
 use Rattle.script_text.specs.Said.{IsSaid}
 use Rattle.script_text.proofs.PacketLines.{line_says, item_is_said}
 use Rattle.script_text.specs.Lines.{◌>>=◌, line_of, taken_by}
-use Rattle.line_writer.specs.Script.{fitting, line_after}
-use Rattle.line_writer.proofs.SoundSources.{later_sound}
+use Rattle.script_rebuild.specs.Script.{fitting, line_after}
+use Rattle.script_rebuild.proofs.SoundSources.{later_sound}
 
 and_first : (a b c d : Bool) → (a && b && c && d) ≡ true → a ≡ true
 and_first true b c d h = refl

@@ -8,7 +8,7 @@ use Rattle.script_text.specs.declared.lines.Line.{Line}
 use Rattle.script_text.specs.declared.line_fault.LineFault.{LineFault}
 use Rattle.script_text.specs.declared.line_fault.LineFault.TheVariants.{LongLine}
 use Rattle.script_text.specs.Lines.{◌>>=◌}
-use Rattle.line_writer.specs.Script.{lines_in, read_after, line_after, fitting, script_of}
+use Rattle.script_rebuild.specs.Script.{lines_in, read_after, line_after, fitting, script_of}
 use Rattle.script_rebuild.specs.Rebuilt.{open_line, too_long, certain_lines, read_so_far}
 use Rattle.script_rebuild.specs.SplitLaws.{plain_ended, plain_open, fed_ended, fed_open, lines_open}
 use Rattle.script_rebuild.specs.ReadingLaws.{with_answer, read_first, go_on, read_append, long_line}

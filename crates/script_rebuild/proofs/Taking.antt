@@ -9,9 +9,9 @@ use Rattle.frame_writer.specs.Written.{capture}
 use Rattle.frame_writer.specs.Fronts.{sure}
 use Rattle.script_text.specs.declared.lines.Line.{Line}
 use Rattle.script_text.specs.declared.line_fault.LineFault.{LineFault}
-use Rattle.line_writer.specs.Script.{Reading, line_after, put_of, ends_of, script_of, script_bytes}
-use Rattle.line_writer.specs.Writer as writers
-use Rattle.line_writer.specs.declared.writer.LineWriter.{LineWriter}
+use Rattle.script_rebuild.specs.Script.{Reading, line_after, put_of, ends_of, script_of, script_bytes}
+use Rattle.script_rebuild.specs.Writer as writers
+use Rattle.script_rebuild.specs.declared.writer.LineWriter.{LineWriter}
 use Rattle.script_rebuild.specs.declared.plan.RebuildPlan.{RebuildPlan}
 use Rattle.script_rebuild.specs.declared.plan.ScriptFault.{ScriptFault}
 use Rattle.script_rebuild.specs.declared.rebuild.Rebuild.{Rebuild}

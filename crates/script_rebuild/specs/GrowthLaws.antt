@@ -21,7 +21,7 @@ use Rattle.std.proofs.Common.{
 use Rattle.std.specs.Prelude.{nat_lt, is_some, if◌then◌else◌}
 use Rattle.source_events.specs.declared.plan.Plan.{Plan}
 use Rattle.frame_writer.specs.Fronts.{all_but_last}
-use Rattle.line_writer.specs.Script.{lines_in, read_after, script_of}
+use Rattle.script_rebuild.specs.Script.{lines_in, read_after, script_of}
 use Rattle.script_rebuild.specs.Rebuilt.{last_of, open_line, too_long, certain_lines, read_so_far}
 use Rattle.script_rebuild.specs.SplitLaws.{onto_line, some_line, but_last_more, last_more, lines_append}
 use Rattle.script_rebuild.specs.ReadingLaws.{go_on, read_append, Extends, goes_extends, stuck, long_more, same_long}

@@ -5,3 +5,9 @@ pub mod GrowthLaws
 pub mod RebuiltLaws
 pub mod PutLine
 pub mod Rebuilder
+pub mod Script
+pub mod Versions
+pub mod Putting
+pub mod Encoding
+pub mod Writer
+pub mod Rows

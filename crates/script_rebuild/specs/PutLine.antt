@@ -3,9 +3,9 @@ use Rattle.std.specs.Prelude.{◌≡◌, ℕ, List, [], ◌∷◌, ◌++◌, Ok}
 use Rattle.source_events.specs.declared.plan.Plan.{Plan}
 use Rattle.frame_writer.specs.Fronts.{sure}
 use Rattle.script_text.specs.declared.lines.Line.{Line}
-use Rattle.line_writer.specs.Script.{line_after, put_of}
-use Rattle.line_writer.specs.Writer.{Stands}
-use Rattle.line_writer.specs.declared.writer.LineWriter.{LineWriter}
+use Rattle.script_rebuild.specs.Script.{line_after, put_of}
+use Rattle.script_rebuild.specs.Writer.{Stands}
+use Rattle.script_rebuild.specs.declared.writer.LineWriter.{LineWriter}
 
 -- the text says a line after these, the writer stands for it too, and this is what became sure with it
 pub record PutsLine (plan : Plan) (text : List ℕ) (new : LineWriter) (every halves : ℕ) (lines : List Line)

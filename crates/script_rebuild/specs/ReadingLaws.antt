@@ -31,7 +31,7 @@ use Rattle.script_text.specs.declared.lines.Line.{Line}
 use Rattle.script_text.specs.declared.line_fault.LineFault.{LineFault}
 use Rattle.script_text.specs.declared.line_fault.LineFault.TheVariants.{LongLine}
 use Rattle.script_text.specs.Lines.{◌>>=◌, line_of}
-use Rattle.line_writer.specs.Script.{Reading, read_after, line_after, fitting}
+use Rattle.script_rebuild.specs.Script.{Reading, read_after, line_after, fitting}
 
 -- what one line's answer makes of the lines after it
 abbrev pub with_answer : Plan → List Line → List (List ℕ) → Result Line LineFault → Reading Line

@@ -1,6 +1,6 @@
 -- What the action stands for.
 use Rattle.std.specs.Prelude.{◌≡◌, ℕ, List, [], ◌∷◌, ◌++◌, length, None, option_map}
-use Rattle.line_writer.specs.Writer as writers
+use Rattle.script_rebuild.specs.Writer as writers
 use Rattle.script_text.specs.declared.line_fault.LineFault.{LineFault}
 use Rattle.script_rebuild.specs.declared.plan.RebuildPlan.{RebuildPlan}
 use Rattle.script_rebuild.specs.declared.plan.ScriptFault.{ScriptFault}

@@ -7,7 +7,7 @@ use Rattle.frame_writer.specs.Written.{capture}
 use Rattle.frame_writer.specs.Fronts.{all_but_last, sure}
 use Rattle.script_text.specs.declared.lines.Line.{Line}
 use Rattle.script_text.specs.declared.line_fault.LineFault.{LineFault}
-use Rattle.line_writer.specs.Script.{lines_in, Reading, read_after, line_after, script_of, put_of, script_bytes}
+use Rattle.script_rebuild.specs.Script.{lines_in, Reading, read_after, line_after, script_of, put_of, script_bytes}
 use Rattle.script_rebuild.specs.declared.plan.RebuildPlan.{RebuildPlan}
 
 abbrev pub last_of : List (List ℕ) → List ℕ

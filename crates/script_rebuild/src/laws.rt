@@ -4,7 +4,7 @@ ghost use Rattle.std.specs.Prelude.{◌≡◌, ◌≤◌, ◌++◌, ℕ, List, N
 ghost use Rattle.source_events.specs.declared.plan.Plan.{Plan};
 ghost use Rattle.frame_writer.specs.Written.{capture};
 ghost use Rattle.script_text.specs.declared.line_fault.LineFault.{LineFault};
-ghost use Rattle.line_writer.specs.Script.{lines_in, script_of, script_bytes};
+ghost use Rattle.script_rebuild.specs.Script.{lines_in, script_of, script_bytes};
 ghost use Rattle.script_rebuild.specs.declared.plan.RebuildPlan.{RebuildPlan};
 ghost use Rattle.script_rebuild.specs.Rebuilt.{read_so_far, IsFaulty, text, ending, IsFirstFault};
 

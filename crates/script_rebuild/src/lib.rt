@@ -1,9 +1,16 @@
-//! The action `rebuild`: a script, byte by byte, becomes a capture.
+//! Scripts become captures: each line's item as the bytes of its source, those in frames, and the action `rebuild`, which
+//! does it as the script's bytes come.
 #![tactic(auto)]
 
+mod bytes;
 pub mod laws;
 mod plan;
 mod rebuild;
+pub mod rows;
+mod writer;
+pub mod writer_laws;
 
+pub use bytes::{LINE_ROOM, LineBytes};
 pub use plan::{RebuildPlan, ScriptFault};
 pub use rebuild::Rebuild;
+pub use writer::LineWriter;

@@ -11,14 +11,14 @@ ghost use Rattle.trace_stream.specs.declared.action.TheConstants.{ACTION_ROOM};
 ghost use Rattle.source_events.specs.Plan.{is_sound};
 ghost use Rattle.script_text.specs.declared.lines.Line.{Line};
 ghost use Rattle.script_text.specs.Quick.{IsPacketOf};
-ghost use Rattle.line_writer.specs.Script.{line_after};
-ghost use Rattle.line_writer.specs.Writer.{stp_of, order_of, count_of};
-ghost use Rattle.line_writer.specs.Writer.{Stands as StandsForLines};
+ghost use Rattle.script_rebuild.specs.Script.{line_after};
+ghost use Rattle.script_rebuild.specs.Writer.{stp_of, order_of, count_of};
+ghost use Rattle.script_rebuild.specs.Writer.{Stands as StandsForLines};
 ghost use Rattle.script_rebuild.specs.PutLine.{PutsLine};
 
 use crate::plan::{RebuildPlan, ScriptFault};
 use arrayvec::ArrayVec;
-use line_writer::{LineBytes, LineWriter};
+use crate::{LineBytes, LineWriter};
 use memchr::memchr;
 use script_text::{Item, LINE_BYTES, Line, LineFault, PacketLine, packet_line, read_into};
 use source_events::{Plan, SourceKind};
@@ -138,7 +138,7 @@ fn give(sure: &mut LineBytes, outlet: &mut Outlet)
 
 impl Rebuild {
     ghost use Rattle.std.specs.Prelude.{◌∷◌};
-    ghost use Rattle.line_writer.specs.Script.{script_of};
+    ghost use Rattle.script_rebuild.specs.Script.{script_of};
     ghost use Rattle.script_rebuild.specs.Rebuilt.{read_so_far};
     ghost use Rattle.trace_io.specs.Bytes.{TakesSome};
     ghost use Rattle.script_rebuild.specs.Rebuilder.{told, plan_of, taken_by, open_len, IsLive, Stands, TakesByte};

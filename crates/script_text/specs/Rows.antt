@@ -1,7 +1,7 @@
 -- A plan, for worked rows.
 use Rattle.std.specs.Prelude.{[], ◌∷◌, Some, ℕ}
-use Rattle.capture_plan.specs.declared.frames.FramesMode.TheVariants.{Hunt as FramesHunt}
-use Rattle.capture_plan.specs.declared.packets.PacketsMode.TheVariants.{Hunt as PacketsHunt}
+use Rattle.trace_values.specs.declared.reading_modes.FramesMode.TheVariants.{Hunt as FramesHunt}
+use Rattle.trace_values.specs.declared.reading_modes.PacketsMode.TheVariants.{Hunt as PacketsHunt}
 use Rattle.stp_grammar.specs.declared.packet.Order.TheVariants.{Msn}
 use Rattle.stp_grammar.specs.declared.item.Place.{Place}
 use Rattle.source_events.specs.declared.plan.Plan.{Plan}

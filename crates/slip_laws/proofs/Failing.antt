@@ -13,10 +13,10 @@ use Rattle.trace_values.proofs.Standings.{from_append}
 use Rattle.frame_grammar.specs.Port.{PortItem, Full, Spells, why, Part, Between, First, One, Two, Three, State, start, word_ended, rule}
 use Rattle.frame_grammar.proofs.Deciding.{port_decided}
 use Rattle.port_sync.specs.Hunting.{pattern}
-use Rattle.resync_streams.specs.Syncing.{said_last}
-use Rattle.resync_streams.proofs.Continuing.{Alive, alive_from}
-use Rattle.resync_streams.proofs.Syncing.{parts_of, ends_only, no_fault_before}
-use Rattle.resync_ports.proofs.Syncing.{port_syncs}
+use Rattle.resync_rules.specs.Syncing.{said_last}
+use Rattle.resync_rules.proofs.Continuing.{Alive, alive_from}
+use Rattle.resync_rules.proofs.Syncing.{parts_of, ends_only, no_fault_before}
+use Rattle.resync_grammars.proofs.Syncing.{port_syncs}
 use Rattle.port_slip.specs.Bits.{bits, bits_of, ones}
 use Rattle.port_slip.specs.Words.{sync}
 use Rattle.port_slip.proofs.Bits.{AreBytes, bits_join, bits_length, ones_length}

@@ -10,8 +10,8 @@ use Rattle.trace_values.specs.Placed.{Placed, placed, placed_from, units_of}
 use Rattle.trace_values.specs.Reading.{Reading, IsReading}
 use Rattle.trace_values.proofs.Placing.{placed_append}
 use Rattle.trace_values.proofs.Readings as readings
-use Rattle.capture_plan.specs.declared.frames.FramesMode.{FramesMode}
-use Rattle.capture_plan.specs.declared.frames.FramesMode.TheVariants.{Hunt}
+use Rattle.trace_values.specs.declared.reading_modes.FramesMode.{FramesMode}
+use Rattle.trace_values.specs.declared.reading_modes.FramesMode.TheVariants.{Hunt}
 use Rattle.trace_values.specs.Hunt.{IsAfter}
 use Rattle.trace_values.specs.Hunted.{pattern_of}
 use Rattle.frame_grammar.specs.Port.{PortItem, Full, Spells, why, start, rule}
@@ -31,11 +31,11 @@ use Rattle.source_events.proofs.Captures as captures
 use Rattle.source_events.proofs.Growth.{no_stop}
 use Rattle.source_events.proofs.Lawful.{plan_lawful}
 use Rattle.source_events.proofs.Least.{Full as FullFault}
-use Rattle.resync_streams.proofs.Syncing.{units_append, units_length}
-use Rattle.resync_ports.specs.Port.{CellsRest, rest_mode}
-use Rattle.resync_ports.proofs.Modes.{cells_rest}
-use Rattle.resync_ports.proofs.Syncing.{port_syncs, begins_only}
-use Rattle.resync_reports.specs.Moved.{later_cell, later_run}
+use Rattle.resync_rules.proofs.Syncing.{units_append, units_length}
+use Rattle.resync_grammars.specs.Port.{CellsRest, rest_mode}
+use Rattle.resync_grammars.proofs.Modes.{cells_rest}
+use Rattle.resync_grammars.proofs.Syncing.{port_syncs, begins_only}
+use Rattle.resync_laws.specs.Moved.{later_cell, later_run}
 use Rattle.resync_laws.specs.Report.{ReportFollows}
 use Rattle.resync_laws.proofs.ReportRest.{report_follows}
 use Rattle.slip_laws.specs.Slips.{FromFirst, whole_until, IsSlip}

@@ -8,8 +8,8 @@ use Rattle.trace_values.specs.Placed.{Placed, units_of}
 use Rattle.trace_values.specs.Reading.{Reading, IsReading, Splits}
 use Rattle.frame_grammar.specs.Port.{PortItem, Full, Spells, why, start, rule}
 use Rattle.port_sync.specs.Hunting.{pattern}
-use Rattle.resync_streams.proofs.Syncing.{units_append, units_length, splits_last}
-use Rattle.resync_ports.proofs.Syncing.{port_syncs, begins_only}
+use Rattle.resync_rules.proofs.Syncing.{units_append, units_length, splits_last}
+use Rattle.resync_grammars.proofs.Syncing.{port_syncs, begins_only}
 use Rattle.port_slip.specs.Bits.{bits, bits_of, ones, whole_bytes}
 use Rattle.port_slip.specs.Segments.{Cut, begins, with_bit, cut, of_cut}
 use Rattle.port_slip.specs.Words.{sync, BeginsWithSync, in_order}

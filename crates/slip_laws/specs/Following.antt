@@ -3,7 +3,7 @@ use Rattle.std.specs.Prelude.{◌≡◌, ◌⊎◌, ℕ, ◌+◌, ◌*◌, ◌/�
 use Rattle.std.specs.List.{AllByRecursion}
 use Rattle.trace_values.specs.Placed.{Placed, placed, units_of}
 use Rattle.trace_values.specs.Reading.{Reading}
-use Rattle.capture_plan.specs.declared.frames.FramesMode.TheVariants.{Hunt, Aligned}
+use Rattle.trace_values.specs.declared.reading_modes.FramesMode.TheVariants.{Hunt, Aligned}
 use Rattle.frame_grammar.specs.Port.{PortItem}
 use Rattle.frame_grammar.specs.Reading.{port_reading as reading_of}
 use Rattle.deformatter.specs.PortReading.{port_reading, cells_of}
@@ -12,8 +12,8 @@ use Rattle.port_slip.specs.Segments.{realigned}
 use Rattle.source_events.specs.declared.plan.Plan.{Plan}
 use Rattle.source_events.specs.Plan.{sources_by}
 use Rattle.source_events.specs.Report.{stop_in}
-use Rattle.resync_ports.specs.Port.{CellsRest}
-use Rattle.resync_reports.specs.Moved.{later_cell}
+use Rattle.resync_grammars.specs.Port.{CellsRest}
+use Rattle.resync_laws.specs.Moved.{later_cell}
 use Rattle.resync_laws.specs.Report.{ReportFollows}
 use Rattle.slip_laws.specs.Slips.{IsFullWithin, IsFirstWithin}
 

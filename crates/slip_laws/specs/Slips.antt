@@ -3,7 +3,7 @@ use Rattle.std.specs.Prelude.{◌≡◌, ◌⊎◌, ℕ, ◌+◌, ◌-◌, ◌/�
 use Rattle.trace_values.specs.Placed.{Placed, units_of}
 use Rattle.trace_values.specs.Reading.{Reading}
 use Rattle.frame_grammar.specs.Port.{PortItem, Full, Spells}
-use Rattle.resync_streams.specs.Fronts.{BeginsAt}
+use Rattle.resync_rules.specs.Fronts.{BeginsAt}
 use Rattle.port_slip.specs.Bits.{bits_of}
 use Rattle.port_slip.specs.Segments.{Realigned, realigned}
 

@@ -7,7 +7,7 @@ use Rattle.trace_values.specs.Walk.{by_unit}
 use Rattle.trace_values.specs.declared.pattern.Pattern.{Pattern}
 use Rattle.trace_values.proofs.Modes as modes
 use Rattle.trace_values.proofs.NibbleModes as nibbles
-use Rattle.capture_plan.specs.Modes.{packets_hunt}
+use Rattle.trace_values.specs.ReadingModes.{packets_hunt}
 use Rattle.itm_grammar.specs.declared.packet.ItmPacket.TheVariants.{Sync}
 use Rattle.itm_grammar.specs.declared.partial.Partial.TheVariants.{Header}
 use Rattle.itm_grammar.specs.Rule.{rule}

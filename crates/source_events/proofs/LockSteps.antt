@@ -4,8 +4,8 @@ use Rattle.std.proofs.Common.{arith, append-nil, Bool, true, false, cond}
 use Rattle.std.proofs.lemmas.List.{append_cancel_left}
 use Rattle.trace_values.specs.Placed.{Place, Placed, byte_at, units_of}
 use Rattle.trace_values.proofs.Readings as readings
-use Rattle.capture_plan.specs.declared.frames.FramesMode.{FramesMode}
-use Rattle.capture_plan.specs.declared.frames.FramesMode.TheVariants.{Hunt, Aligned, Bare}
+use Rattle.trace_values.specs.declared.reading_modes.FramesMode.{FramesMode}
+use Rattle.trace_values.specs.declared.reading_modes.FramesMode.TheVariants.{Hunt, Aligned, Bare}
 use Rattle.frame_grammar.specs.Port.{PortItem, Full, Spells, why, start, rule}
 use Rattle.frame_grammar.specs.Reading.{port_reading as grammar_reading}
 use Rattle.frame_grammar.proofs.Deciding.{port_decided}

@@ -8,8 +8,8 @@ use Rattle.trace_values.specs.Hunt.{IsFirst}
 use Rattle.trace_values.specs.Reading.{Splits}
 use Rattle.trace_values.proofs.Readings as readings
 use Rattle.trace_values.proofs.Walks as walks
-use Rattle.capture_plan.specs.declared.frames.FramesMode.{FramesMode}
-use Rattle.capture_plan.specs.declared.frames.FramesMode.TheVariants.{Hunt, Aligned, Bare}
+use Rattle.trace_values.specs.declared.reading_modes.FramesMode.{FramesMode}
+use Rattle.trace_values.specs.declared.reading_modes.FramesMode.TheVariants.{Hunt, Aligned, Bare}
 use Rattle.frame_grammar.specs.Port.{PortItem, Full, Half, Frame, Spells, why, start, rule}
 use Rattle.frame_grammar.specs.Reading.{offsets_of, port_progress, cells_of_items, port_reading as grammar_reading}
 use Rattle.frame_grammar.proofs.Deciding.{port_decided}

@@ -1,7 +1,7 @@
 -- The merged list of a capture is the only one.
 use Rattle.std.proofs.Common.{◌↔◌, ◌≡◌, ℕ, List, subst, sym}
 use Rattle.trace_values.specs.Placed.{Placed}
-use Rattle.capture_plan.specs.declared.frames.FramesMode.{FramesMode}
+use Rattle.trace_values.specs.declared.reading_modes.FramesMode.{FramesMode}
 use Rattle.deformatter.specs.PortReading.{port_reading}
 use Rattle.deformatter.specs.Rising.{BytesRise}
 use Rattle.source_events.specs.declared.event.Event.{Event}

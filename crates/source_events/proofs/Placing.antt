@@ -6,8 +6,8 @@ use Rattle.std.proofs.lemmas.Grind.{flat_map-append}
 use Rattle.trace_values.specs.declared.cell.Cell.{Cell}
 use Rattle.trace_values.specs.Placed.{Place, Placed}
 use Rattle.trace_values.specs.Reading.{Splits}
-use Rattle.capture_plan.specs.declared.frames.FramesMode.{FramesMode}
-use Rattle.capture_plan.specs.declared.frames.FramesMode.TheVariants.{Hunt, Aligned, Bare}
+use Rattle.trace_values.specs.declared.reading_modes.FramesMode.{FramesMode}
+use Rattle.trace_values.specs.declared.reading_modes.FramesMode.TheVariants.{Hunt, Aligned, Bare}
 use Rattle.frame_grammar.specs.Reading.{offsets_of}
 use Rattle.deformatter.specs.PortReading.{PortReading, port_reading, cells_of}
 use Rattle.deformatter.specs.Rising.{Rise, offsets_in, BytesRise, CellsRise, end_at}

@@ -7,7 +7,7 @@ use Rattle.std.proofs.lemmas.List.Sums.{sum_by-cons}
 use Rattle.trace_values.specs.declared.cell.Cell.{Cell}
 use Rattle.trace_values.specs.Placed.{Place, Placed}
 use Rattle.frame_grammar.specs.Reading.{is_source}
-use Rattle.capture_plan.specs.declared.frames.FramesMode.{FramesMode}
+use Rattle.trace_values.specs.declared.reading_modes.FramesMode.{FramesMode}
 use Rattle.deformatter.specs.PortReading.{port_reading}
 use Rattle.deformatter.specs.Rising.{BytesRise}
 use Rattle.deformatter.proofs.PortReadingLaws.{frames_have_runs}

@@ -9,8 +9,8 @@ use Rattle.trace_values.specs.Placed.{Place, Placed, byte_at}
 use Rattle.trace_values.specs.Stream.{Said, Notice, Kept, Stream, Rises, Settled}
 use Rattle.frame_grammar.specs.Port.{PortItem}
 use Rattle.frame_grammar.specs.Reading.{is_source}
-use Rattle.capture_plan.specs.declared.frames.FramesMode.{FramesMode}
-use Rattle.capture_plan.specs.declared.frames.FramesMode.TheVariants.{Hunt, Aligned, Bare}
+use Rattle.trace_values.specs.declared.reading_modes.FramesMode.{FramesMode}
+use Rattle.trace_values.specs.declared.reading_modes.FramesMode.TheVariants.{Hunt, Aligned, Bare}
 use Rattle.deformatter.specs.Reading.{PortStream, port_stream}
 use Rattle.deformatter.specs.declared.step.PortStep.{PortStep}
 use Rattle.deformatter.specs.declared.step.PortStep.TheVariants.{Locked as PortLocked}

@@ -6,7 +6,7 @@ ghost use Rattle.trace_values.specs.declared.cell.Cell.{Cell};
 ghost use Rattle.frame_grammar.specs.Runs.{HasRuns};
 ghost use Rattle.frame_grammar.specs.SourceBytes.{source_units};
 ghost use Rattle.trace_values.specs.Placed.{Placed, placed};
-ghost use Rattle.capture_plan.specs.declared.frames.FramesMode.{FramesMode};
+ghost use Rattle.trace_values.specs.declared.reading_modes.FramesMode.{FramesMode};
 ghost use Rattle.source_events.specs.declared.packet.Packet.{Packet};
 ghost use Rattle.deformatter.specs.PortReading.{port_reading, cells_of};
 ghost use Rattle.deformatter.specs.Rising.{BytesRise};

@@ -3,7 +3,7 @@
 ghost use Rattle.std.specs.Prelude.{◌≡◌};
 ghost use Rattle.source_events.specs.Tails.{port_mode, packets_mode};
 
-use capture_plan::{FramesMode, PacketsMode};
+use trace_values::{FramesMode, PacketsMode};
 
 /// How a port or a source was read, up to the end of the capture.
 #[derive(Clone, Copy, Debug, PartialEq, Eq, Drop)]

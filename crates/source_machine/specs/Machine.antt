@@ -2,8 +2,8 @@
 use Rattle.std.specs.Prelude.{◌≡◌, ℕ, List, Bool, true, false}
 use Rattle.trace_values.specs.Placed.{Placed}
 use Rattle.trace_values.specs.Stream.{Stream}
-use Rattle.capture_plan.specs.declared.packets.PacketsMode.{PacketsMode}
-use Rattle.capture_plan.specs.Modes.{packets_hunt}
+use Rattle.trace_values.specs.declared.reading_modes.PacketsMode.{PacketsMode}
+use Rattle.trace_values.specs.ReadingModes.{packets_hunt}
 use Rattle.itm_codec.specs.Reading.{packets_in}
 use Rattle.itm_codec.specs.Decoder as itm
 use Rattle.stp_grammar.specs.declared.packet.Order.{Order}

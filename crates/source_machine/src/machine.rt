@@ -6,14 +6,13 @@ ghost use Rattle.source_machine.specs.Seen.{block_as, itm_found, part_as, step_a
 ghost use Rattle.stp_grammar.specs.Said.{said_item, IsProperSaid};
 ghost use Rattle.trace_values.specs.declared.limits.TheConstants.{COUNT_ROOM};
 
-use capture_plan::PacketsMode;
+use trace_values::{Block, Machine, PacketsMode, Step};
 use itm_codec::{ItmDecoder, ItmFound, PartTaken};
 use itm_grammar::packet::ItmPacket;
 use source_events::{Packet, SourceKind};
 use stp_codec::{PacketParts, PacketTaken, SaidTaken, StpDecoder, StpFound};
 use stp_grammar::item::StpItem;
 use stp_grammar::packet::Order;
-use trace_values::{Block, Machine, Step};
 
 /// How many bytes are there behind those of a part that is taken at once, whatever they are.
 pub const AHEAD: usize = 24;
@@ -131,7 +130,7 @@ impl SourceMachine {
     ghost use Rattle.source_machine.specs.Machine.{skipped_by};
     ghost use Rattle.source_machine.specs.Machine.{FinishesStp, Idles};
     ghost use Rattle.source_machine.specs.Units.{StandsOn, kind_of, reading_on, reads_by, reads_on};
-    ghost use Rattle.capture_plan.specs.Modes.{packets_hunt};
+    ghost use Rattle.trace_values.specs.ReadingModes.{packets_hunt};
     ghost use Rattle.stp_codec.specs.declared.decoder.StpFound.TheVariants.{Ends, Waits, Unknown};
 
     /// The machine of a source of this kind before its first byte and its first unit.

@@ -6,7 +6,7 @@ use Rattle.trace_values.specs.declared.cell.Cell.{Cell}
 use Rattle.trace_values.specs.declared.fault.Fault.{Fault}
 use Rattle.trace_values.specs.Placed.{Place, Placed, byte_at}
 use Rattle.trace_values.specs.Stream.{Said}
-use Rattle.capture_plan.specs.declared.frames.FramesMode.TheVariants.{Bare}
+use Rattle.trace_values.specs.declared.reading_modes.FramesMode.TheVariants.{Bare}
 use Rattle.frame_grammar.specs.Reading.{is_source}
 use Rattle.deformatter.specs.PortReading.{bare_cell, port_reading}
 use Rattle.deformatter.specs.Rising.{BytesRise}

@@ -8,8 +8,8 @@ use Rattle.trace_values.specs.Placed.{Placed, byte_at, placed_from}
 use Rattle.trace_values.specs.Stream.{Stream}
 use Rattle.trace_values.specs.Block.{given_after, fault_after, StandsAt, Takes}
 use Rattle.trace_values.proofs.Placing.{placed_from_push, length-placed_from}
-use Rattle.capture_plan.specs.declared.frames.FramesMode.{FramesMode}
-use Rattle.capture_plan.specs.declared.frames.FramesMode.TheVariants.{Bare}
+use Rattle.trace_values.specs.declared.reading_modes.FramesMode.{FramesMode}
+use Rattle.trace_values.specs.declared.reading_modes.FramesMode.TheVariants.{Bare}
 use Rattle.deformatter.specs.Block.{EachByte}
 use Rattle.deformatter.specs.PortReading.{port_reading}
 use Rattle.deformatter.specs.Rising.{BytesRise}

@@ -8,8 +8,8 @@ use Rattle.trace_values.specs.declared.step.Step.{Step}
 use Rattle.trace_values.specs.declared.step.Step.TheVariants.{Quiet, Skipping, Item, Locked, Fault as Faulty}
 use Rattle.trace_values.specs.Block.{goes_on_after}
 use Rattle.trace_values.specs.Placed.{Placed}
-use Rattle.capture_plan.specs.declared.frames.FramesMode.{FramesMode}
-use Rattle.capture_plan.specs.declared.frames.FramesMode.TheVariants.{Bare}
+use Rattle.trace_values.specs.declared.reading_modes.FramesMode.{FramesMode}
+use Rattle.trace_values.specs.declared.reading_modes.FramesMode.TheVariants.{Bare}
 use Rattle.deformatter.specs.declared.reader.PortReader.{PortReader}
 use Rattle.deformatter.specs.Reader.{Stands as PortStands, StandsByMode, mode_of}
 use Rattle.source_events.specs.declared.event.Stop.{Stop}

@@ -6,7 +6,7 @@ use Rattle.trace_values.specs.declared.step.Step.{Step}
 use Rattle.trace_values.specs.declared.step.Step.TheVariants.{Quiet, Skipping, Item, Locked, Fault as Faulty}
 use Rattle.trace_values.specs.Placed.{Placed, byte_at, placed_from}
 use Rattle.trace_values.specs.Block.{given_after, fault_after, StandsAt}
-use Rattle.capture_plan.specs.declared.frames.FramesMode.TheVariants.{Bare}
+use Rattle.trace_values.specs.declared.reading_modes.FramesMode.TheVariants.{Bare}
 use Rattle.deformatter.specs.Block.{EachByte}
 use Rattle.deformatter.specs.PortReading.{port_reading}
 use Rattle.deformatter.specs.Rising.{BytesRise}

@@ -9,7 +9,7 @@ use Rattle.source_events.specs.declared.event.Stop.{Stop}
 use Rattle.source_events.specs.Report.{Mapped}
 use Rattle.source_merge.specs.declared.slot.Slot.{Slot}
 use Rattle.source_merge.specs.Feeding.{Feeds}
-use Rattle.capture_plan.specs.declared.frames.FramesMode.{FramesMode}
+use Rattle.trace_values.specs.declared.reading_modes.FramesMode.{FramesMode}
 use Rattle.source_merge.specs.Routing.{SlotFed, Took}
 use Rattle.source_merge.specs.Stepping.{StepTaken}
 

@@ -5,13 +5,13 @@ use Rattle.std.proofs.lemmas.Bool.Decides.{nat_tests}
 use Rattle.std.proofs.lemmas.Bool.{cases_lt, true≢false}
 use Rattle.trace_values.specs.Cells.{source_id}
 use Rattle.frame_grammar.specs.Frame.{aux_bit, cells, names}
-use Rattle.source_merge.specs.Gathered.{frame_places}
-use Rattle.source_merge.specs.Pairs.{end_at, ends_from, ends_left, is_end}
+use Rattle.frame_runs.specs.Gathered.{frame_places}
+use Rattle.frame_runs.specs.Pairs.{end_at, ends_from, ends_left, is_end}
 use Rattle.source_merge.specs.Split.{AreInPlace, IsSplit, split_places}
 use Rattle.source_merge.specs.declared.split.Begun.{Begun}
 use Rattle.source_merge.specs.declared.split.SplitFrame.{SplitFrame}
 use Rattle.source_merge.proofs.Parts.{Next, next as next_part}
-use Rattle.source_merge.proofs.RunEnds.{next_end, no_end}
+use Rattle.frame_runs.proofs.Ends.{next_end, no_end}
 use Rattle.source_merge.proofs.Splitting.{Part, AreParts, IsCut, all_cells, all_parts, cells_of_parts, divided, ended, part_to, passed_to, places_long, starts_cut}
 
 -- what begins at the end of a run

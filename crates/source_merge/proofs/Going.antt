@@ -8,7 +8,7 @@ use Rattle.trace_values.specs.Placed.{Place, Placed, byte_at, placed_from}
 use Rattle.trace_values.proofs.Placing.{placed_from_push}
 use Rattle.frame_grammar.specs.Reading.{offsets_of}
 use Rattle.deformatter.specs.Block.{EachByte, FedAs}
-use Rattle.capture_plan.specs.declared.frames.FramesMode.{FramesMode}
+use Rattle.trace_values.specs.declared.reading_modes.FramesMode.{FramesMode}
 use Rattle.deformatter.specs.declared.step.PortStep.{PortStep}
 use Rattle.deformatter.specs.declared.step.PortStep.TheVariants.{Quiet, Half}
 use Rattle.deformatter.specs.Growth.{fulls_by}

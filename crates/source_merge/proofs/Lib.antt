@@ -1,5 +1,4 @@
 pub mod Givings
-pub mod Plainly
 pub mod DataCells
 pub mod RunCells
 pub mod Filling
@@ -29,12 +28,7 @@ pub mod BareSlots
 pub mod Packets
 pub mod Placing
 pub mod FedRuns
-pub mod Halfwords
-pub mod RunEnds
-pub mod After
 pub mod Splitting
 pub mod Cuts
 pub mod Parts
-pub mod Moves
-pub mod InPlace
 pub mod Triggers

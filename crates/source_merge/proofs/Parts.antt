@@ -6,7 +6,7 @@ use Rattle.trace_values.specs.declared.cell.Cell.{Cell}
 use Rattle.frame_grammar.proofs.Pairs.{made}
 use Rattle.source_events.specs.Runs.{runs_of, run_length, more_of, id_of, RisesFrom, IsRunFrom, end_of}
 use Rattle.source_events.proofs.Merges.{test_same, test_other}
-use Rattle.source_merge.specs.Data.{run_cells}
+use Rattle.frame_runs.specs.Data.{run_cells}
 use Rattle.source_merge.proofs.DataCells.{cells_length, cells_id}
 use Rattle.source_merge.proofs.Framing.{cut_at, first_at}
 use Rattle.source_merge.proofs.Splitting.{Part, AreParts, cells_of_parts, part_cells}

@@ -9,7 +9,7 @@ use Rattle.trace_values.specs.Cells.{source_id}
 use Rattle.frame_grammar.specs.Frame.{names, aux_bit, even_data, cells_below, cells, IsInForce}
 use Rattle.frame_grammar.proofs.Looks.{starts, passes, names_now, defers, names_next}
 use Rattle.frame_grammar.proofs.Pairs.{made, plain, named, more_cells, whole_plain, whole_named, even_plain}
-use Rattle.source_merge.specs.Data.{run_cells, is_late, byte_in, place_in}
+use Rattle.frame_runs.specs.Data.{run_cells, is_late, byte_in, place_in}
 use Rattle.source_merge.specs.Split.{begun_cells, split_places, AreInPlace}
 use Rattle.source_merge.specs.declared.split.Begun.{Begun}
 use Rattle.source_merge.specs.declared.split.SplitFrame.{SplitFrame}

@@ -1,5 +1,4 @@
 pub mod Feeding
-pub mod Data
 pub mod Run
 pub mod Frame
 pub mod Routing
@@ -15,6 +14,4 @@ pub mod Stepping
 pub mod Ending
 pub mod Bare
 pub mod Engine
-pub mod Gathered
 pub mod Split
-pub mod Pairs

@@ -4,9 +4,9 @@ use Rattle.trace_values.specs.declared.cell.Cell.{Cell}
 use Rattle.frame_grammar.specs.Frame.{cells}
 use Rattle.frame_grammar.specs.Placing.{places_of}
 use Rattle.source_machine.specs.declared.machine.SourceMachine.{SourceMachine}
-use Rattle.source_merge.specs.Data.{run_cells, byte_in, place_in}
-use Rattle.source_merge.specs.Gathered.{frame_places}
-use Rattle.source_merge.specs.Pairs.{end_at, ends_from, ends_left}
+use Rattle.frame_runs.specs.Data.{run_cells, byte_in, place_in}
+use Rattle.frame_runs.specs.Gathered.{frame_places}
+use Rattle.frame_runs.specs.Pairs.{end_at, ends_from, ends_left}
 use Rattle.source_merge.specs.declared.slot.Slot.{Slot}
 use Rattle.source_merge.specs.declared.split.Begun.{Begun}
 use Rattle.source_merge.specs.declared.split.SplitFrame.{SplitFrame}

@@ -2,7 +2,7 @@
 use Rattle.std.specs.Prelude.{◌≡◌, ◌++◌, List, Option, None}
 use Rattle.std.specs.Option.{option_map}
 use Rattle.trace_values.specs.Placed.{Placed}
-use Rattle.capture_plan.specs.declared.frames.FramesMode.{FramesMode}
+use Rattle.trace_values.specs.declared.reading_modes.FramesMode.{FramesMode}
 use Rattle.deformatter.specs.PortReading.{port_reading}
 use Rattle.source_events.specs.declared.event.Event.{Event}
 use Rattle.source_events.specs.declared.event.Stop.{Stop}

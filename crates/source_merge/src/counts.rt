@@ -146,7 +146,7 @@ impl ByteCounts {
     ghost use Rattle.std.specs.Prelude.{◌+◌, ◌^◌, ◌<◌, ◌++◌, ◌∷◌, [], ℕ, List, length};
     ghost use Rattle.trace_values.specs.declared.cell.Cell.{Cell};
     ghost use Rattle.trace_values.specs.Placed.{Placed};
-    ghost use Rattle.capture_plan.specs.declared.frames.FramesMode.TheVariants.{Bare};
+    ghost use Rattle.trace_values.specs.declared.reading_modes.FramesMode.TheVariants.{Bare};
     ghost use Rattle.deformatter.specs.PortReading.{port_reading};
     ghost use Rattle.std.specs.Prelude.{Some};
     ghost use Rattle.source_events.specs.Runs.{id_of};
@@ -233,12 +233,12 @@ impl Counters {
     ghost use Rattle.frame_grammar.specs.Frame.{cells, id_after};
     ghost use Rattle.deformatter.specs.ReadingGrowth.{GrowsByFrame};
     ghost use Rattle.deformatter.specs.PortReading.{PortReading};
-    ghost use Rattle.capture_plan.specs.declared.frames.FramesMode.{FramesMode};
+    ghost use Rattle.trace_values.specs.declared.reading_modes.FramesMode.{FramesMode};
     ghost use Rattle.source_counts.specs.Kept as kept;
     ghost use Rattle.trace_values.specs.declared.step.Step.TheVariants.{Item};
     ghost use Rattle.trace_values.specs.declared.cell.Cell.{Cell};
     ghost use Rattle.trace_values.specs.Placed.{Placed};
-    ghost use Rattle.capture_plan.specs.declared.frames.FramesMode.TheVariants.{Bare};
+    ghost use Rattle.trace_values.specs.declared.reading_modes.FramesMode.TheVariants.{Bare};
     ghost use Rattle.deformatter.specs.PortReading.{port_reading};
     ghost use Rattle.source_merge.specs.Bare.{bare_events};
     ghost use Rattle.source_merge.specs.Counting.{AreItems, HasBytes, HasCounted, HasItems, bytes_in, size_of};

@@ -18,14 +18,14 @@ use crate::counts::Counters;
 use crate::flow::{Fed, Flow, flow_of};
 use crate::frame::AnyFrame;
 use crate::mapped::{Slots, slots_of};
-use crate::placed::place_frame;
+use frame_runs::place_frame;
 use crate::receiver::Receiver;
 use crate::router::find;
 use crate::slot::Events;
 use crate::step::{take_step, take_whole};
 use crate::tails::source_tails;
 use arrayvec::ArrayVec;
-use capture_plan::FramesMode;
+use trace_values::{Block, Cell, FramesMode, SourceId};
 use frame_grammar::frame::FRAME_BYTES;
 use frame_grammar::gather::{PlacedFrame, gather_frame_at};
 use frame_grammar::plain::plain_frame;
@@ -33,7 +33,6 @@ use deformatter::{PortReader, PortStep};
 use source_counts::Counts;
 use source_events::{Packet, Plan, PortCounts, PortMode, Tails};
 use stp_codec::PacketTaken;
-use trace_values::{Block, Cell, SourceId};
 
 /// The greatest offset of a byte of a capture.
 pub const GREATEST_OFFSET: u64 = 1 << 36;
@@ -69,7 +68,7 @@ pub struct Engine {
 impl Engine {
     ghost use Rattle.std.specs.Prelude.{ℕ, ◌<◌, ◌-◌, ◌++◌, ◌∷◌, [], List, length, take, is_none, position, ◌==◌, None};
     ghost use Rattle.std.specs.Prelude.{Some, IfSome};
-    ghost use Rattle.capture_plan.specs.declared.frames.FramesMode.TheVariants.{Bare};
+    ghost use Rattle.trace_values.specs.declared.reading_modes.FramesMode.TheVariants.{Bare};
     ghost use Rattle.arrayvec.specs.ArrayVec.{array_vec_len};
     ghost use Rattle.trace_values.specs.Placed.{Placed, byte_at, placed_from};
     ghost use Rattle.trace_values.specs.Block.{StopsFor, goes_on_after};
@@ -86,7 +85,7 @@ impl Engine {
     ghost use Rattle.source_machine.specs.Seen.{packet_in};
     ghost use Rattle.source_merge.specs.Answering.{Answers, fault_of, goes_on};
     ghost use Rattle.source_merge.specs.Bare.{bare_events, bare_flow};
-    ghost use Rattle.source_merge.specs.Gathered.{IsGathered};
+    ghost use Rattle.frame_runs.specs.Gathered.{IsGathered};
     ghost use Rattle.source_merge.specs.Giving.{GivesTo};
     ghost use Rattle.source_merge.specs.declared.flow.Flow.TheVariants.{Going};
     ghost use Rattle.source_merge.specs.Engine.{Stands, is_live, next_of, plan_of};

@@ -3,14 +3,10 @@
 
 mod bare;
 mod counts;
-mod data;
 mod engine;
 mod flow;
 mod frame;
 mod mapped;
-mod named;
-mod pairs;
-mod placed;
 mod receiver;
 mod router;
 mod run;

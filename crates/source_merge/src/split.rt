@@ -5,10 +5,8 @@ ghost use Rattle.source_merge.specs.declared.split.TheConstants.{DATA_BYTES};
 ghost use Rattle.source_merge.specs.declared.run.TheConstants.{ROOM};
 
 use crate::counts::{ByteCounts, PerSource};
-use crate::data::data_in_place;
+use frame_runs::{RunEnds, data_in_place, late_ends};
 use crate::frame::FrameCells;
-use crate::named::late_ends;
-use crate::pairs::RunEnds;
 use crate::receiver::Receiver;
 use crate::router::take_run;
 use crate::run::{ROOM, Run};

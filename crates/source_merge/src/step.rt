@@ -4,7 +4,7 @@ ghost use Rattle.source_merge.specs.declared.slot.TheConstants.{FRAME_ROOM};
 ghost use Rattle.std.specs.Prelude.{◌≡◌, ◌+◌, ◌^◌, ◌<◌, ◌≤◌, ◌++◌, ◌∷◌, [], ℕ, List, length, None, true};
 ghost use Rattle.trace_values.specs.Placed.{Placed, byte_at};
 ghost use Rattle.deformatter.specs.Growth.{goes_on};
-ghost use Rattle.capture_plan.specs.declared.frames.FramesMode.{FramesMode};
+ghost use Rattle.trace_values.specs.declared.reading_modes.FramesMode.{FramesMode};
 ghost use Rattle.deformatter.specs.ReadingGrowth.{Answers};
 ghost use Rattle.deformatter.specs.PortReading.{port_reading};
 ghost use Rattle.deformatter.specs.Rising.{BytesRise};
@@ -17,14 +17,14 @@ ghost use Rattle.source_merge.specs.Counting.{HasBytes, HasCounted, bytes_counte
 ghost use Rattle.source_merge.specs.Giving.{Gives, GivesTo};
 ghost use Rattle.trace_values.specs.declared.limits.TheConstants.{COUNT_ROOM};
 ghost use Rattle.trace_values.specs.declared.cell.Cell.{Cell};
-ghost use Rattle.source_merge.specs.Gathered.{frame_places};
+ghost use Rattle.frame_runs.specs.Gathered.{frame_places};
 ghost use Rattle.source_merge.specs.Stepping.{StepTaken};
 ghost use Rattle.frame_grammar.specs.Frame.{IsProperFrame, cells, id_after};
 ghost use Rattle.deformatter.specs.declared.step.PortStep.TheVariants.{Frame};
 
 use crate::counts::{ByteCounts, Counters, PerSource, add_step};
 use crate::frame::FrameCells;
-use crate::named::after_frame;
+use frame_runs::after_frame;
 use crate::receiver::Receiver;
 use crate::slot::{Slot, give};
 use crate::split::SplitFrame;

@@ -14,3 +14,4 @@ pub mod Nibbles
 pub mod Decorated
 pub mod Rows
 pub mod Hex
+pub mod ReadingModes

@@ -11,6 +11,7 @@ mod machine;
 mod mode;
 mod next;
 mod pattern;
+mod reading_modes;
 pub mod rows;
 mod step;
 
@@ -22,4 +23,5 @@ pub use machine::Machine;
 pub use mode::Mode;
 pub use next::Next;
 pub use pattern::Pattern;
+pub use reading_modes::{FramesMode, PacketsMode};
 pub use step::Step;

@@ -3,7 +3,7 @@
 use super::{pieces_of, run_over};
 use crate::same::same;
 use capture_run::Status;
-use exercise_source::write_exercise;
+use capture_exercise::write_exercise;
 use std::alloc::Global;
 use std::process::Abort;
 use std::test::Fail;

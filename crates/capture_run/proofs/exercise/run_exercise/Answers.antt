@@ -1,8 +1,8 @@
 use Rattle.std.proofs.Common.{arith, refl}
 use Rattle.trace_stream.specs.declared.limits.TheConstants.{GREATEST_CAPTURE}
 use Rattle.trace_stream.specs.declared.outcome.Outcome.TheVariants.{AtEnd, FaultFound, WriteFailed, OverLimit}
-use Rattle.exercise_report.specs.Exercise.{plan_of}
-use Rattle.exercise_source.specs.Source.{left_of}
+use Rattle.capture_exercise.specs.Exerciser.{plan_of}
+use Rattle.capture_exercise.specs.Source.{left_of}
 use Rattle.capture_run.specs.Run.{Streams}
 use Rattle.capture_run.proofs.Exercised.{served_for, made_done, made_stopped, made_failed, never_over as made_within, same_notes, few_left}
 use Rattle.capture_run.proofs.exercise.run_exercise.Goals as goal

@@ -1,9 +1,9 @@
 use Rattle.std.proofs.Common.{sym, subst, refl, length, ◌≤◌}
 use Rattle.capture_words.specs.declared.job.Task.{Task}
 use Rattle.capture_words.specs.declared.job.Task.TheVariants.{Show}
-use Rattle.capture_report.specs.ListingLaws.{Faulty}
-use Rattle.capture_report.specs.Listing.{show_meaning}
-use Rattle.capture_report.specs.declared.list_plan.ListPlan.{ListPlan}
+use Rattle.capture_actions.specs.ListingLaws.{Faulty}
+use Rattle.capture_actions.specs.Listing.{show_meaning}
+use Rattle.capture_actions.specs.declared.list_plan.ListPlan.{ListPlan}
 use Rattle.capture_run.specs.Actions.{of_capture, last_note, HasDone, IsSoundInput, limit_of}
 use Rattle.capture_run.specs.Run.{HasRun, Streams}
 use Rattle.capture_run.proofs.jobs.run_job.Goals as goal

@@ -1,6 +1,6 @@
 use Rattle.std.proofs.Common.{◌≡◌, ◌+◌, [], ◌∷◌, ◌++◌, take, sym, ◌∙◌, ap, subst, arith, Option}
 use Rattle.std.specs.Prelude.{◌==◌}
-use Rattle.recovering_sources.specs.declared.source.RecoveringSource.{RecoveringSource}
+use Rattle.recovering_machines.specs.declared.source.RecoveringSource.{RecoveringSource}
 use Rattle.recovery_engine.specs.declared.slot.Slot.{Slot}
 use Rattle.recovery_engine.specs.Fresh.{IsAdded, IsFresh}
 use Rattle.recovery_engine.specs.Slots.{source_at, total}

@@ -1,7 +1,7 @@
 use Rattle.stretch_readings.specs.Stretches.{from_fault}
 use Rattle.source_machine.specs.Units.{reads_by}
 use Rattle.stretch_readings.proofs.StretchLaws as stretches
-use Rattle.recovering_ports.specs.Port.{items_by, from_halfword}
+use Rattle.recovering_machines.specs.Port.{items_by, from_halfword}
 use Rattle.recovery_report.proofs.Sounds.{sources_sound, sources_begin, sources_settle}
 use Rattle.recovery_report.proofs.Sounds.{port_sound, port_begins, port_settles}
 use Rattle.recovery_report.proofs.laws.strict_law.Goals as goal

@@ -7,7 +7,7 @@ use Rattle.stp_grammar.specs.declared.packet.Order.{Order}
 use Rattle.frame_writer.specs.Fronts.{sure}
 use Rattle.script_text.specs.declared.line_fault.LineFault.{LineFault}
 use Rattle.script_text.specs.Lines.{answer}
-use Rattle.line_writer.specs.Script.{line_after, fitting, put_of}
+use Rattle.script_rebuild.specs.Script.{line_after, fitting, put_of}
 use Rattle.script_rebuild.proofs.Sources.{says_line, all_ok, err_weaker, packet_read, packet_said, there}
 use Rattle.script_rebuild.proofs.rebuild.put_line.Goals as goal
 

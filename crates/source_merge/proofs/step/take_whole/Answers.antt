@@ -5,7 +5,7 @@ use Rattle.frame_grammar.specs.Frame.{cells}
 use Rattle.frame_grammar.specs.declared.gather.PlacedFrame.{PlacedFrame}
 use Rattle.frame_grammar.proofs.CellLaws.{few_cells}
 use Rattle.deformatter.specs.ReadingGrowth.{Answers}
-use Rattle.source_merge.specs.Gathered.{frame_places}
+use Rattle.frame_runs.specs.Gathered.{frame_places}
 use Rattle.source_merge.specs.Split.{split_cells}
 use Rattle.source_merge.proofs.step.take_whole.Goals as goal
 

@@ -1,7 +1,7 @@
 use Rattle.std.proofs.Common.{◌≡◌, ◌≤◌, ◌∙◌, ◌+◌, ℕ, sym, ap, subst, length, arith, Some, Err}
-use Rattle.line_writer.specs.Script.{line_after}
-use Rattle.line_writer.specs.Writer as writers
-use Rattle.line_writer.specs.declared.writer.LineWriter.{LineWriter}
+use Rattle.script_rebuild.specs.Script.{line_after}
+use Rattle.script_rebuild.specs.Writer as writers
+use Rattle.script_rebuild.specs.declared.writer.LineWriter.{LineWriter}
 use Rattle.script_rebuild.specs.declared.plan.RebuildPlan.{RebuildPlan}
 use Rattle.script_rebuild.specs.PutLine.{PutsLine}
 use Rattle.script_rebuild.specs.Rebuilt.{read_so_far}

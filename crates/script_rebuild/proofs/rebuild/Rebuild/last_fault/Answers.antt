@@ -1,6 +1,6 @@
 use Rattle.std.proofs.Common.{◌≤◌, ◌+◌, ◌∙◌, ℕ, sym, ap, length, arith, Some, Ok, Err}
 use Rattle.script_text.specs.declared.lines.Line.{Line}
-use Rattle.line_writer.specs.Script.{Reading}
+use Rattle.script_rebuild.specs.Script.{Reading}
 use Rattle.script_rebuild.specs.Rebuilt.{read_so_far}
 use Rattle.script_rebuild.proofs.Taking.{fault_none, last_says, settled_fault}
 use Rattle.script_rebuild.proofs.rebuild.Rebuild.last_fault.Goals as goal

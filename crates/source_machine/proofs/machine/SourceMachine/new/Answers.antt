@@ -1,5 +1,5 @@
 use Rattle.std.proofs.Common.{◌≡◌, ap, sym, ◌∙◌, List, Bool}
-use Rattle.capture_plan.specs.declared.packets.PacketsMode.{PacketsMode}
+use Rattle.trace_values.specs.declared.reading_modes.PacketsMode.{PacketsMode}
 use Rattle.trace_values.specs.Placed.{Placed}
 use Rattle.stp_grammar.specs.declared.packet.Order.{Order}
 use Rattle.stp_codec.specs.Reading.{items_in, items_at}
@@ -12,8 +12,8 @@ use Rattle.source_events.specs.Packets.{stream_as}
 use Rattle.source_machine.specs.declared.machine.SourceMachine.TheVariants.{Stp as StpMachine}
 use Rattle.source_machine.specs.Machine.{reading_of, reading_by}
 use Rattle.source_machine.specs.Units.{reads_by}
-use Rattle.capture_plan.specs.declared.packets.PacketsMode.TheVariants.{Hunt, Aligned}
-use Rattle.capture_plan.specs.Modes.{packets_hunt}
+use Rattle.trace_values.specs.declared.reading_modes.PacketsMode.TheVariants.{Hunt, Aligned}
+use Rattle.trace_values.specs.ReadingModes.{packets_hunt}
 use Rattle.source_machine.proofs.machine.SourceMachine.new.Goals as goal
 
 stp_reads : (d : StpDecoder) (kind : SourceKind) (packets mode : PacketsMode) (order : Order) → order_of d ≡ order →

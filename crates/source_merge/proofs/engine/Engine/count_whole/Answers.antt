@@ -3,7 +3,7 @@ use Rattle.std.proofs.Common.{length-append}
 use Rattle.std.specs.Prelude.{is_none}
 use Rattle.trace_values.specs.Placed.{placed_from, units_of}
 use Rattle.trace_values.proofs.Placing.{length-placed_from}
-use Rattle.capture_plan.specs.declared.frames.FramesMode.{FramesMode}
+use Rattle.trace_values.specs.declared.reading_modes.FramesMode.{FramesMode}
 use Rattle.frame_grammar.specs.Frame.{cells, id_after}
 use Rattle.frame_grammar.specs.Reading.{offsets_of}
 use Rattle.frame_grammar.specs.Whole.{without_halves}

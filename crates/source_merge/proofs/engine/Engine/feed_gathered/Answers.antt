@@ -4,7 +4,7 @@ use Rattle.std.specs.Prelude.{is_none}
 use Rattle.trace_values.specs.declared.cell.Cell.{Cell}
 use Rattle.trace_values.specs.Placed.{Placed, byte_at, placed_from, units_of}
 use Rattle.trace_values.proofs.Placing.{length-placed_from}
-use Rattle.capture_plan.specs.declared.frames.FramesMode.{FramesMode}
+use Rattle.trace_values.specs.declared.reading_modes.FramesMode.{FramesMode}
 use Rattle.frame_grammar.specs.Frame.{cells, id_after}
 use Rattle.frame_grammar.specs.Reading.{offsets_of}
 use Rattle.frame_grammar.specs.Whole.{without_halves}
@@ -21,7 +21,7 @@ use Rattle.source_machine.specs.Machine.{reading_of, Stands as MachineStands, is
 use Rattle.source_machine.specs.declared.machine.SourceMachine.{SourceMachine}
 use Rattle.source_merge.specs.declared.slot.Slot.{Slot}
 use Rattle.source_merge.specs.Engine.{Stands, Keeps}
-use Rattle.source_merge.specs.Gathered.{IsGathered, frame_places}
+use Rattle.frame_runs.specs.Gathered.{IsGathered, frame_places}
 use Rattle.source_merge.specs.Answering.{port_of, fault_of}
 use Rattle.source_merge.specs.Routing.{mapped_of, AllLive, AllStand, HaveRoom, LiveIf, AreDistinct}
 use Rattle.source_merge.proofs.Slots.{room_more}

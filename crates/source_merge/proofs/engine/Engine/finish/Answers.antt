@@ -1,5 +1,5 @@
 use Rattle.std.proofs.Common.{◌≡◌, ℕ, List, sym, ◌∙◌, ap, subst}
-use Rattle.capture_plan.specs.declared.frames.FramesMode.{FramesMode}
+use Rattle.trace_values.specs.declared.reading_modes.FramesMode.{FramesMode}
 use Rattle.deformatter.specs.PortReading.{port_reading}
 use Rattle.source_events.specs.declared.port_mode.PortMode.{PortMode}
 use Rattle.source_events.specs.declared.tails.SourceTail.{SourceTail}

@@ -7,8 +7,8 @@ use Rattle.trace_values.specs.Placed.{Placed, placed_from}
 use Rattle.trace_values.specs.declared.step.Step.{Step}
 use Rattle.trace_values.specs.declared.step.Step.TheVariants.{Item}
 use Rattle.trace_values.proofs.Placing.{length-placed_from}
-use Rattle.capture_plan.specs.declared.frames.FramesMode.{FramesMode}
-use Rattle.capture_plan.specs.declared.frames.FramesMode.TheVariants.{Bare}
+use Rattle.trace_values.specs.declared.reading_modes.FramesMode.{FramesMode}
+use Rattle.trace_values.specs.declared.reading_modes.FramesMode.TheVariants.{Bare}
 use Rattle.deformatter.specs.Rising.{BytesRise}
 use Rattle.source_events.specs.declared.packet.Packet.{Packet}
 use Rattle.source_events.specs.declared.plan.Plan.{Plan}

@@ -7,7 +7,7 @@ use Rattle.source_events.proofs.Least.{AreSound}
 use Rattle.source_machine.specs.Machine.{Stands, has_locked, held_of, is_live, reading_of, skipped_by}
 use Rattle.source_machine.specs.MachineLaws as laws
 use Rattle.source_merge.specs.Counting.{HasBytes}
-use Rattle.source_merge.specs.Pairs.{ends_left}
+use Rattle.frame_runs.specs.Pairs.{ends_left}
 use Rattle.source_merge.specs.Routing.{mapped_of, AreDistinct, Fed}
 use Rattle.source_merge.specs.Split.{split_cells, split_places}
 use Rattle.source_merge.specs.declared.split.Begun.{Begun}
@@ -16,7 +16,7 @@ use Rattle.source_merge.proofs.Cuts.{all_here, begun_after, cut_here, end_is, no
 use Rattle.source_merge.proofs.Filling.{Filled}
 use Rattle.source_merge.proofs.Givings.{given_none, given_more}
 use Rattle.source_merge.proofs.Framing.{done_all, took_as, rest_in_order, filled_none, filled_more, fed_all, fed_stopped}
-use Rattle.source_merge.proofs.RunEnds.{next_end}
+use Rattle.frame_runs.proofs.Ends.{next_end}
 use Rattle.source_merge.proofs.Slots.{room_more}
 use Rattle.source_merge.proofs.Splitting.{AreParts, Part, cells_of_parts, part_cells, part_to}
 use Rattle.source_merge.proofs.Taking.{lawful, sound}

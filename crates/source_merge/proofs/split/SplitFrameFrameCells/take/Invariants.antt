@@ -6,7 +6,7 @@ use Rattle.source_events.specs.Runs.{RisesFrom, runs_of}
 use Rattle.source_machine.specs.Machine.{Stands, held_of, is_live, reading_of, skipped_by}
 use Rattle.source_merge.specs.Counting.{HasBytes, bytes_counted, total_of}
 use Rattle.source_merge.specs.Giving.{Given}
-use Rattle.source_merge.specs.Pairs.{ends_from, ends_left}
+use Rattle.frame_runs.specs.Pairs.{ends_from, ends_left}
 use Rattle.source_merge.specs.Routing.{mapped_of, AllLive, AllStand, HaveRoom, AreDistinct, RunsBetween}
 use Rattle.source_merge.specs.Split.{split_cells, split_places}
 use Rattle.source_merge.proofs.Cuts.{parts_from}

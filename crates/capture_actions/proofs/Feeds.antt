@@ -1,0 +1,155 @@
+-- What a call of `show` made of the front of a piece, from what the engine took and what was put.
+use Rattle.std.proofs.Common.{◌≡◌, ◌∙◌, ℕ, ◌+◌, ◌-◌, [], List, ◌++◌, length, take, drop, sym, ap, subst, append_assoc, length-append, arith}
+use Rattle.std.specs.Prelude.{option_map, Option}
+use Rattle.std.proofs.lemmas.List.{take_all, length-drop}
+use Rattle.std.proofs.Math.Seq.{take-add}
+use Rattle.trace_values.specs.Placed.{Placed, placed, placed_from}
+use Rattle.deformatter.specs.Block.{FedAs}
+use Rattle.trace_stream.specs.Served.{Meaning}
+use Rattle.trace_stream.specs.Taken.{HasTaken, FlowAfter}
+use Rattle.trace_stream.specs.declared.action.Flow.{Flow}
+use Rattle.trace_stream.specs.declared.action.Flow.TheVariants.{On}
+use Rattle.source_events.specs.declared.event.Event.{Event}
+use Rattle.source_events.specs.declared.event.Stop.{Stop}
+use Rattle.source_events.specs.declared.packet.Packet.{Packet}
+use Rattle.source_events.specs.declared.plan.Plan.{Plan}
+use Rattle.source_events.specs.Report.{stop_of}
+use Rattle.source_merge.specs.Answering.{Answers, report_of, goes_on}
+use Rattle.source_merge.specs.declared.engine.Engine.{Engine}
+use Rattle.source_merge.specs.declared.flow.Flow.{Flow as Reading}
+use Rattle.source_merge.specs.declared.flow.Flow.TheVariants.{Going, Stopped}
+use Rattle.source_merge.specs.Engine as engine
+use Rattle.capture_actions.specs.declared.list_plan.ListPlan.{ListPlan}
+use Rattle.capture_actions.specs.declared.lister.Lister.{Lister}
+use Rattle.capture_actions.specs.declared.show.Show.{Show}
+use Rattle.capture_actions.specs.Stopping.{flow_by, stop_by}
+use Rattle.capture_actions.specs.Filter.{plan_by, HasSeen}
+use Rattle.capture_actions.specs.Lister.{ListerGets}
+use Rattle.capture_actions.specs.LineLaws.{lines_append}
+use Rattle.capture_actions.specs.Listing.{lines_after, show_meaning}
+use Rattle.capture_actions.specs.Show.{plan_of, IsLive, Stands}
+use Rattle.capture_actions.specs.Feeding.{HasFed}
+use Rattle.capture_actions.specs.SourceClocks.{AllStand}
+use Rattle.capture_actions.proofs.Feeding.{stands_after, report_after, report_here, stop_after, flow_after}
+
+-- what the engine took, and the fault that was kept
+pub record Took (old new : Engine) (was now : Option Stop) (at : ℕ) (bytes : List ℕ) (given : List (Event Packet))
+    (flow : Reading) : Type 0 where
+  pub at_is : at ≡ engine.next_of old
+  pub count : engine.next_of new ≡ at + length bytes
+  pub live : engine.is_live new ≡ goes_on flow
+  pub same : engine.plan_of new ≡ engine.plan_of old
+  pub list : (u : List Placed) → engine.Stands old u → engine.Stands new (u ++ placed_from at bytes)
+  pub fed : (u : List Placed) → engine.Stands old u →
+      FedAs (Answers (engine.plan_of old) [] Going) (Answers (engine.plan_of old) given flow) u at bytes
+  pub stop : now ≡ stop_by flow was
+
+-- what was put for these events of a capture that is read by this plan
+pub record Put (plan : Plan) (old new : Lister) (given : List (Event Packet)) (before after : List ℕ) : Type 0 where
+  pub kept : new.plan ≡ old.plan
+  pub asked : plan_by plan new.filter ≡ plan_by plan old.filter
+  pub clocks : (es : List (Event Packet)) → AllStand old.clocks es → AllStand new.clocks (es ++ given)
+  pub seen : (es : List (Event Packet)) → HasSeen old.filter es → HasSeen new.filter (es ++ given)
+  pub text : old.plan ≡ plan → (es : List (Event Packet)) → AllStand old.clocks es → HasSeen old.filter es →
+      after ≡ before ++ lines_after (plan_by plan old.filter) es given
+
+-- what a lister was given, it put
+pub given_put : (plan : Plan) (old new : Lister) (given : List (Event Packet)) (before after : List ℕ) →
+    ListerGets (old, before) given (new, after) → Put plan old new given before after
+given_put plan old new given before after g = record {
+  kept = g.kept;
+  asked = ap (λ (p : ListPlan). record { plan = plan; only = p.only; window = p.window }) g.asked;
+  clocks = g.clocks;
+  seen = g.seen;
+  text = λ e es h f.
+      g.text es h f ∙ ap (λ (p : Plan). before ++ lines_after (plan_by p old.filter) es given) e;
+}
+
+module _ (old new : Show) (at : ℕ) (bytes : List ℕ) (given : List (Event Packet)) (flow : Reading)
+    (before after : List ℕ) (live : IsLive old)
+    (took : Took old.engine new.engine old.stop new.stop at bytes given flow)
+    (put : Put (engine.plan_of old.engine) old.lister new.lister given before after) where
+  taken : (seen : List ℕ) → Stands old seen → HasTaken (Stands new) (show_meaning (plan_of old))
+      (record { seen = seen; front = bytes; before = before; after = after }) (flow_by flow)
+  taken seen s =
+      let e = old.engine in
+      let k = new.engine in
+      let list = took.list (placed seen) s.engine in
+      let fed = took.fed (placed seen) s.engine in
+      let p = plan_of old in
+      let report = report_of p.plan (placed seen) in
+      let grew = report_after e k seen bytes at given flow s.engine live took.at_is took.same list fed in
+      record {
+        read = record {
+          engine = stands_after e k seen bytes at given flow s.engine live took.at_is took.same list fed;
+          plan = put.kept ∙ s.plan ∙ sym took.same;
+          clocks = subst (λ (es : List (Event Packet)). AllStand new.lister.clocks es) (sym grew) (put.clocks report s.clocks);
+          filter = subst (λ (es : List (Event Packet)). HasSeen new.lister.filter es) (sym grew) (put.seen report s.filter);
+          stop = ap (option_map stop_of) took.stop
+              ∙ stop_after e k seen bytes at given flow s.engine live took.at_is took.same list fed old.stop
+              (sym old.alive ∙ live);
+        };
+        more = lines_after p report given;
+        grown = ap (lines_after p []) (report_here e k seen bytes at given flow s.engine live took.at_is took.same list fed)
+            ∙ lines_append p [] report given;
+        gained = put.text s.plan report s.clocks s.filter;
+        goes_on = flow_after e k seen bytes at given flow s.engine live took.at_is took.same list fed;
+      }
+
+  on_live : (flow : Reading) → engine.is_live new.engine ≡ goes_on flow → flow_by flow ≡ On → IsLive new
+  on_live Going h on = h
+  on_live (Stopped stop) h on = cc
+
+  pub has_fed : HasFed old new bytes (flow_by flow) before after
+  has_fed = record {
+    same = ap (λ (p : Plan). plan_by p new.lister.filter) took.same ∙ put.asked;
+    count = took.count ∙ ap (λ (n : ℕ). n + length bytes) took.at_is;
+    live = on_live flow took.live;
+    fed = taken;
+  }
+
+  pub has_fed_by : (f : Flow) → f ≡ flow_by flow → HasFed old new bytes f before after
+  has_fed_by f e = subst (λ (x : Flow). HasFed old new bytes x before after) (sym e) has_fed
+
+-- two calls, one after the other
+module _ (old mid new : Show) (front next : List ℕ) (flow : Flow) (before between after : List ℕ)
+    (first : HasFed old mid front On before between) (second : HasFed mid new next flow between after) where
+  both : (seen : List ℕ) → Stands old seen → HasTaken (Stands new) (show_meaning (plan_of old))
+      (record { seen = seen; front = front ++ next; before = before; after = after }) flow
+  both seen s =
+      let p = plan_of old in
+      let one = first.fed seen s in
+      let two = subst (λ (plan : ListPlan). HasTaken (Stands new) (show_meaning plan)
+      (record { seen = seen ++ front; front = next; before = between; after = after }) flow)
+      first.same (second.fed (seen ++ front) one.read) in
+      let here : (seen ++ front) ++ next ≡ seen ++ (front ++ next) = append_assoc seen front next in
+      let meaning : Meaning = show_meaning p in
+      record {
+        read = subst (λ (l : List ℕ). Stands new l) here two.read;
+        more = one.more ++ two.more;
+        grown = ap meaning.text (sym here) ∙ two.grown ∙ ap (λ (l : List ℕ). l ++ two.more) one.grown
+            ∙ append_assoc (meaning.text seen) one.more two.more;
+        gained = two.gained ∙ ap (λ (l : List ℕ). l ++ two.more) one.gained ∙ append_assoc before one.more two.more;
+        goes_on = subst (λ (l : List ℕ). FlowAfter meaning.faulty l flow) here two.goes_on;
+      }
+
+  pub fed_on : HasFed old new (front ++ next) flow before after
+  fed_on = record {
+    same = second.same ∙ first.same;
+    count = second.count ∙ (let k = first.count in let l = length-append front next in omega (arith, k, l));
+    live = second.live;
+    fed = both;
+  }
+
+pub rest_of : (n : ℕ) (piece : List ℕ) → take (length piece - n) (drop n piece) ≡ drop n piece
+rest_of n piece = take_all (length piece - n) (drop n piece) (let k = length-drop n piece in omega arith)
+
+-- the front of a piece, and then some of its rest
+pub fed_next : (old mid new : Show) (piece : List ℕ) (done bytes : ℕ) (flow : Flow) (before between after : List ℕ) →
+    HasFed old mid (take done piece) On before between →
+    HasFed mid new (take bytes (take (length piece - done) (drop done piece))) flow between after →
+    HasFed old new (take (done + bytes) piece) flow before after
+fed_next old mid new piece done bytes flow before between after first second =
+    subst (λ (l : List ℕ). HasFed old new l flow before after) (sym (take-add done bytes piece))
+    (fed_on old mid new (take done piece) (take bytes (drop done piece)) flow before between after first
+    (subst (λ (l : List ℕ). HasFed mid new (take bytes l) flow between after) (rest_of done piece) second))

@@ -1,0 +1,77 @@
+-- The clocks of all sources after one more packet of one of them.
+use Rattle.std.proofs.Common.{◌≡◌, ◌≢◌, ℕ, ◌<◌, inl, inr, List, [], ◌∷◌, ◌++◌, length, get_or, set, sym, ◌∙◌, ap, subst, append-nil, refl, arith, Option, Some, Bool, true, false, cond}
+use Rattle.std.specs.Prelude.{◌==◌}
+use Rattle.std.proofs.lemmas.Bool.{cases_eq}
+use Rattle.std.proofs.lemmas.Bool.Decides.{nat_tests}
+use Rattle.std.proofs.lemmas.List.{get_or-set_same, get_or-set_other}
+use Rattle.itm_grammar.specs.declared.packet.ItmPacket.{ItmPacket}
+use Rattle.source_events.specs.declared.event.Event.{Event}
+use Rattle.source_events.specs.declared.packet.Packet.{Packet}
+use Rattle.source_events.specs.Merge.{is_of}
+use Rattle.capture_actions.specs.declared.clocks.Clocks.{Clocks}
+use Rattle.capture_actions.specs.Clocks.{Stands}
+use Rattle.capture_actions.specs.Listing.{itm_packet, itm_packets}
+use Rattle.capture_actions.specs.LineLaws.{packets_push}
+use Rattle.capture_actions.specs.Remarks.{is_stamp}
+use Rattle.capture_actions.proofs.Timing.{after_other, no_deltas, no_stamps}
+
+same_number : (id x : ℕ) → x ≡ id → (id == x) ≡ true
+same_number id x h = grind (arith, nat_tests)
+
+other_number : (id x : ℕ) → x ≢ id → (id == x) ≡ false
+other_number id x h = grind (arith, nat_tests)
+
+module _ (es : List (Event Packet)) (e : Event Packet) (packet : ItmPacket) (id : ℕ) (source : e.source ≡ Some id)
+    (what : itm_packet e.what ≡ packet ∷ []) where
+  own : (x : ℕ) → x ≡ id → itm_packets (Some x) (es ++ e ∷ []) ≡ itm_packets (Some x) es ++ packet ∷ []
+  own x h =
+      packets_push (Some x) es e
+      ∙ ap (λ (o : Option ℕ). itm_packets (Some x) es ++ cond (is_of (Some x) o) (itm_packet e.what) []) source
+      ∙ ap (λ (b : Bool). itm_packets (Some x) es ++ cond b (itm_packet e.what) []) (same_number id x h)
+      ∙ ap (λ (l : List ItmPacket). itm_packets (Some x) es ++ l) what
+
+  another : (x : ℕ) → x ≢ id → itm_packets (Some x) (es ++ e ∷ []) ≡ itm_packets (Some x) es
+  another x h =
+      packets_push (Some x) es e
+      ∙ ap (λ (o : Option ℕ). itm_packets (Some x) es ++ cond (is_of (Some x) o) (itm_packet e.what) []) source
+      ∙ ap (λ (b : Bool). itm_packets (Some x) es ++ cond b (itm_packet e.what) []) (other_number id x h)
+      ∙ append-nil (itm_packets (Some x) es)
+
+  -- those of its source took it, and all others stay
+  pub stand_after : (old : List Clocks) (new : Clocks) → id < length old →
+      ((packets : List ItmPacket) → Stands (get_or old id new) packets → Stands new (packets ++ packet ∷ [])) →
+      (x : ℕ) (d : Clocks) → ((f : Clocks) → Stands (get_or old x f) (itm_packets (Some x) es)) →
+      Stands (get_or (set old id new) x d) (itm_packets (Some x) (es ++ e ∷ []))
+  stand_after old new within after x d stands = elim (cases_eq x id) [
+    | inl h ↦ (
+        let there : get_or (set old id new) x d ≡ new = ap (λ (n : ℕ). get_or (set old id new) n d) h ∙ get_or-set_same old id new d within in
+        let before : Stands (get_or old id new) (itm_packets (Some x) es) =
+        subst (λ (n : ℕ). Stands (get_or old n new) (itm_packets (Some x) es)) h (stands new) in
+        subst (λ (k : Clocks). Stands k (itm_packets (Some x) (es ++ e ∷ []))) (sym there)
+        (subst (Stands new) (sym (own x h)) (after (itm_packets (Some x) es) before))
+        )
+    | inr h ↦ (
+        subst (λ (k : Clocks). Stands k (itm_packets (Some x) (es ++ e ∷ []))) (sym (get_or-set_other old id x new d h))
+        (subst (Stands (get_or old x d)) (sym (another x h)) (stands d))
+        )
+  ]
+
+  -- a packet that is no timestamp leaves those of any source as they are
+  pub stand_same : is_stamp packet ≡ false → (x : ℕ) (k : Clocks) → Stands k (itm_packets (Some x) es) →
+      Stands k (itm_packets (Some x) (es ++ e ∷ []))
+  stand_same other x k stands = elim (cases_eq x id) [
+    | inl h ↦ subst (Stands k) (sym (own x h))
+        (after_other k (itm_packets (Some x) es) packet (no_deltas packet other) (no_stamps packet other) stands)
+    | inr h ↦ subst (Stands k) (sym (another x h)) stands
+  ]
+
+-- what is no ITM packet is none of the clocks
+pub other_stays : (source : Option ℕ) (es : List (Event Packet)) (e : Event Packet) → itm_packet e.what ≡ [] →
+    itm_packets source (es ++ e ∷ []) ≡ itm_packets source es
+other_stays source es e other =
+    packets_push source es e
+    ∙ ap (λ (l : List ItmPacket). itm_packets source es ++ cond (is_of source e.source) l []) other
+    ∙ ap (λ (l : List ItmPacket). itm_packets source es ++ l) (none (is_of source e.source)) ∙ append-nil (itm_packets source es) where
+      none : (b : Bool) → ◌≡◌ {A = List ItmPacket} (cond b [] []) []
+      none true = refl
+      none false = refl

@@ -1,0 +1,33 @@
+-- What is asked of a listing, and what its window has seen.
+use Rattle.std.specs.Prelude.{List, Option, Some, None, ⊤}
+use Rattle.source_events.specs.declared.event.Event.{Event}
+use Rattle.source_events.specs.declared.packet.Packet.{Packet}
+use Rattle.source_events.specs.declared.plan.Plan.{Plan}
+use Rattle.item_tap.specs.declared.bounds.Bounds.{Bounds}
+use Rattle.item_tap.specs.declared.choice.Choice.{Choice}
+use Rattle.item_tap.specs.declared.window.Window.{Window}
+use Rattle.item_tap.specs.Choices.{holds}
+use Rattle.item_tap.specs.Seen as seen
+use Rattle.capture_actions.specs.declared.filter.Filter.{Filter}
+use Rattle.capture_actions.specs.declared.list_plan.ListPlan.{ListPlan}
+use Rattle.capture_actions.specs.Listing.{items_in}
+
+abbrev pub ChoiceWindow : Type 0
+ChoiceWindow = Window Choice Choice Choice Choice
+
+-- the choices of a window, if there is one
+abbrev pub bounds_in : Option ChoiceWindow → Option Bounds
+bounds_in None = None
+bounds_in (Some window) = Some (seen.bounds_of window)
+
+-- it has seen these events, all but the notices of locks
+abbrev pub SawAll : Option ChoiceWindow → List (Event Packet) → Type 0
+SawAll None es = ⊤
+SawAll (Some window) es = seen.HasSeen holds holds window (items_in es)
+
+-- what is asked of the listing of a capture that is read by this plan
+abbrev pub plan_by : Plan → Filter → ListPlan
+plan_by plan filter = record { plan = plan; only = filter.only; window = bounds_in filter.window }
+
+abbrev pub HasSeen : Filter → List (Event Packet) → Type 0
+HasSeen filter es = SawAll filter.window es

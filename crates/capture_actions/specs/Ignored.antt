@@ -1,0 +1,18 @@
+-- What `check` does with the events of whole frames: nothing, for any number of them.
+use Rattle.std.specs.Prelude.{ℕ, List, [], ◌++◌, ⊤}
+use Rattle.source_events.specs.declared.event.Event.{Event}
+use Rattle.source_events.specs.declared.packet.Packet.{Packet}
+use Rattle.capture_actions.specs.declared.check.Ignored.{Ignored}
+
+abbrev pub gets : Ignored × Unit {0} → List (Event Packet) → Ignored × Unit {0} → Type 0
+gets old es new = ⊤
+
+abbrev pub room : Ignored × Unit {0} → ℕ
+room s = 32
+
+pub gets_none : (s : Ignored × Unit {0}) → gets s [] s
+gets_none s = tt
+
+pub gets_more : (a b c : Ignored × Unit {0}) (es fs : List (Event Packet)) → gets a es b → gets b fs c →
+    gets a (es ++ fs) c
+gets_more a b c es fs h k = tt

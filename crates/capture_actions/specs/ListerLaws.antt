@@ -1,0 +1,41 @@
+-- What the receiver of `show` is given adds up: proofs that its `impl` cites.
+use Rattle.std.proofs.Common.{◌∙◌, ℕ, ◌++◌, [], List, sym, ap, subst, append_assoc, append-nil, refl}
+use Rattle.source_events.specs.declared.event.Event.{Event}
+use Rattle.source_events.specs.declared.packet.Packet.{Packet}
+use Rattle.capture_actions.specs.declared.list_plan.ListPlan.{ListPlan}
+use Rattle.capture_actions.specs.declared.lister.Lister.{Lister}
+use Rattle.capture_actions.specs.Filter.{plan_by, HasSeen}
+use Rattle.capture_actions.specs.LineLaws.{lines_append}
+use Rattle.capture_actions.specs.Lister.{gets}
+use Rattle.capture_actions.specs.Listing.{lines_after}
+use Rattle.capture_actions.specs.SourceClocks.{AllStand}
+
+pub gets_none : (s : Lister × List ℕ) → gets s [] s
+gets_none s = record {
+  kept = refl;
+  asked = refl;
+  clocks = λ before h. subst (λ (es : List (Event Packet)). AllStand s.0.clocks es) (sym (append-nil before)) h;
+  seen = λ before f. subst (λ (es : List (Event Packet)). HasSeen s.0.filter es) (sym (append-nil before)) f;
+  text = λ before h f. sym (append-nil s.1);
+}
+
+pub gets_more : (a b c : Lister × List ℕ) (es fs : List (Event Packet)) → gets a es b → gets b fs c →
+    gets a (es ++ fs) c
+gets_more a b c es fs g h =
+    let p = plan_by a.0.plan a.0.filter in
+    record {
+      kept = h.kept ∙ g.kept;
+      asked = h.asked ∙ g.asked;
+      clocks = λ before k.
+          subst (λ (l : List (Event Packet)). AllStand c.0.clocks l) (append_assoc before es fs)
+          (h.clocks (before ++ es) (g.clocks before k));
+      seen = λ before f.
+          subst (λ (l : List (Event Packet)). HasSeen c.0.filter l) (append_assoc before es fs)
+          (h.seen (before ++ es) (g.seen before f));
+      text = λ before k f.
+          h.text (before ++ es) (g.clocks before k) (g.seen before f)
+          ∙ ap (λ (q : ListPlan). b.1 ++ lines_after q (before ++ es) fs) g.asked
+          ∙ ap (λ (l : List ℕ). l ++ lines_after p (before ++ es) fs) (g.text before k f)
+          ∙ append_assoc a.1 (lines_after p before es) (lines_after p (before ++ es) fs)
+          ∙ ap (λ (l : List ℕ). a.1 ++ l) (sym (lines_append p before es fs));
+    }

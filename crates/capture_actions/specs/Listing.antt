@@ -1,0 +1,93 @@
+-- What `show` writes: the lines of the events of a capture's report, and the end lines or the line of its fault.
+use Rattle.std.specs.Prelude.{ℕ, List, [], ◌∷◌, ◌++◌, flat_map, filter, Option, Some, None, Bool, true, not, ◌&&◌, ◌||◌}
+use Rattle.std.specs.Prelude.{if◌then◌else◌, false}
+use Rattle.trace_values.specs.declared.fault.Reason.{Reason}
+use Rattle.trace_values.specs.Placed.{Place, Placed, placed}
+use Rattle.trace_stream.specs.Served.{Meaning}
+use Rattle.itm_grammar.specs.declared.packet.ItmPacket.{ItmPacket}
+use Rattle.source_events.specs.declared.event.Event.{Event}
+use Rattle.source_events.specs.declared.event.What.{What}
+use Rattle.source_events.specs.declared.event.What.TheVariants.{Packet as Said}
+use Rattle.source_events.specs.declared.packet.Packet.{Packet}
+use Rattle.source_events.specs.declared.packet.Packet.TheVariants.{Itm}
+use Rattle.source_events.specs.declared.plan.Plan.{Plan}
+use Rattle.source_events.specs.Merge.{is_of}
+use Rattle.source_events.specs.Report.{is_item}
+use Rattle.source_events.specs.Tails.{tails_of}
+use Rattle.source_merge.specs.Answering.{report_of, fault_of}
+use Rattle.item_tap.specs.declared.bounds.Bounds.{Bounds}
+use Rattle.item_tap.specs.declared.choice.Choice.{Choice}
+use Rattle.item_tap.specs.Choices.{holds}
+use Rattle.item_tap.specs.Windows.{passes}
+use Rattle.trace_text.specs.declared.remark.Remark.{Remark}
+use Rattle.trace_text.specs.declared.remark.Remark.TheVariants.{None as NoRemark}
+use Rattle.trace_text.specs.LineText.{event_line}
+use Rattle.trace_text.specs.FaultText.{fault_line}
+use Rattle.trace_text.specs.EndText.{tails_text}
+use Rattle.capture_actions.specs.declared.list_plan.ListPlan.{ListPlan}
+use Rattle.capture_actions.specs.Faulty.{is_stp, IsFaulty}
+use Rattle.capture_actions.specs.Remarks.{remark_by}
+
+-- the ITM packet that an event is
+abbrev pub itm_packet : What Packet → List ItmPacket
+itm_packet (Said (Itm packet)) = packet ∷ []
+itm_packet what = []
+
+-- the ITM packets of a source among some events, in order
+abbrev pub itm_packets : Option ℕ → List (Event Packet) → List ItmPacket
+itm_packets source es = flat_map (λ e. if is_of source e.source then itm_packet e.what else []) es
+
+-- what is beside an event, after these packets of its source: the times that its own packets up to it tell
+abbrev pub remark_of : List ItmPacket → What Packet → Remark
+remark_of before (Said (Itm packet)) = remark_by (before ++ packet ∷ []) packet
+remark_of before what = NoRemark
+
+-- the events that are no notices of locks
+abbrev pub items_in : List (Event Packet) → List (Event Packet)
+items_in es = filter (λ e. is_item e.what) es
+
+-- an event meets the choice, if there is one
+abbrev pub meets : Option Choice → Event Packet → Bool
+meets None e = true
+meets (Some choice) e = holds choice e
+
+-- an event after these is within the window, if there is one; a window does not see notices
+abbrev pub is_within : Option Bounds → List (Event Packet) → Event Packet → Bool
+is_within None before e = true
+is_within (Some bounds) before e = passes (holds bounds.first) (holds bounds.last) (items_in before) e
+
+-- an event is listed where it is within the window and meets the choice; the notice of a lock always is
+abbrev pub is_listed : Option Choice → Option Bounds → List (Event Packet) → Event Packet → Bool
+is_listed only window before e = is_within window before e && meets only e || not (is_item e.what)
+
+-- the line of an event after those before it; none where it is not listed
+abbrev pub line_after : ListPlan → List (Event Packet) → Event Packet → List ℕ
+line_after p before e =
+    if is_listed p.only p.window before e
+    then event_line (is_stp p.plan e.source) e (remark_of (itm_packets e.source before) e.what)
+    else []
+
+-- the lines of events after those before them, in order
+abbrev pub lines_after : ListPlan → List (Event Packet) → List (Event Packet) → List ℕ
+lines_after p before [] = []
+lines_after p before (e ∷ es) = line_after p before e ++ lines_after p (before ++ e ∷ []) es
+
+-- the lines of the events of the report
+abbrev pub listed : ListPlan → List ℕ → List ℕ
+listed p bytes = lines_after p [] (report_of p.plan (placed bytes))
+
+-- what comes after them: the end lines, or the line of the fault alone in their place
+abbrev pub ending_by : Plan → List Placed → Option (Place × (Reason × Option ℕ)) → List ℕ
+ending_by plan u None = tails_text (tails_of plan u)
+ending_by plan u (Some fault) = fault_line (is_stp plan fault.1.1) fault
+
+abbrev pub ending : ListPlan → List ℕ → List ℕ
+ending p bytes = ending_by p.plan (placed bytes) (fault_of p.plan (placed bytes))
+
+-- the whole listing
+abbrev pub listing : ListPlan → List ℕ → List ℕ
+listing p bytes = listed p bytes ++ ending p bytes
+
+-- all that `show` makes of the bytes of a capture
+abbrev pub show_meaning : ListPlan → Meaning
+show_meaning p = record { faulty = IsFaulty p.plan; text = listed p; ending = ending p; due = false }

@@ -1,0 +1,46 @@
+-- What `check` writes: how many synchronisations and frames a port has, how much each source sent, and the end lines.
+use Rattle.std.specs.Prelude.{ℕ, List, [], ◌++◌, flat_map, Option, Some, None, ◌==◌, if◌then◌else◌, false}
+use Rattle.std.specs.List.{range_with_len}
+use Rattle.trace_values.specs.declared.fault.Reason.{Reason}
+use Rattle.trace_values.specs.declared.limits.TheConstants.{ID_COUNT}
+use Rattle.trace_values.specs.Placed.{Place, Placed, placed}
+use Rattle.trace_stream.specs.Served.{Meaning}
+use Rattle.source_counts.specs.declared.counts.Counts.{Counts}
+use Rattle.source_events.specs.declared.plan.Plan.{Plan}
+use Rattle.source_events.specs.Tails.{port_counts_of, source_counts_of, tails_of}
+use Rattle.source_merge.specs.Answering.{fault_of}
+use Rattle.trace_text.specs.CountText.{port_counts_text, source_counts_line}
+use Rattle.trace_text.specs.EndText.{tails_text}
+use Rattle.trace_text.specs.FaultText.{fault_line}
+use Rattle.capture_actions.specs.Faulty.{is_stp, IsFaulty}
+
+-- the line of a source that sent a byte
+abbrev pub source_text : ℕ → Counts → List ℕ
+source_text id counts = if counts.bytes == 0 then [] else source_counts_line id counts.bytes counts.items
+
+-- the lines of the first IDs, as many as this
+unfoldable pub sources_text : Plan → List Placed → ℕ → List ℕ
+sources_text plan u ids = flat_map (λ id. source_text id (source_counts_of plan u id)) (range_with_len 0 ids)
+
+-- the counts of all, 0 to 126, and the end lines
+abbrev pub counts_text : Plan → List Placed → List ℕ
+counts_text plan u =
+    let port = port_counts_of plan u in
+    port_counts_text port.fulls port.halves port.frames
+    ++ (sources_text plan u ID_COUNT ++ tails_text (tails_of plan u))
+
+abbrev pub summary_by : Plan → List Placed → Option (Place × (Reason × Option ℕ)) → List ℕ
+summary_by plan u None = counts_text plan u
+summary_by plan u (Some fault) = fault_line (is_stp plan fault.1.1) fault
+
+-- nothing is written before the end
+abbrev pub check_text : Plan → List ℕ → List ℕ
+check_text plan bytes = []
+
+-- the summary: the counts and the end lines, or the line of the fault alone in their place
+abbrev pub summary : Plan → List ℕ → List ℕ
+summary plan bytes = summary_by plan (placed bytes) (fault_of plan (placed bytes))
+
+-- all that `check` makes of the bytes of a capture
+abbrev pub check_meaning : Plan → Meaning
+check_meaning plan = record { faulty = IsFaulty plan; text = check_text plan; ending = summary plan; due = false }

@@ -1,0 +1,299 @@
+//! `check`: how many synchronisations and frames a port has, how much each source sent, and how the capture ends.
+
+ghost use Rattle.source_events.specs.declared.tails.TheConstants.{GREATEST_COUNT};
+ghost use Rattle.std.specs.Prelude.{◌≡◌, ◌+◌, ◌*◌, ◌<◌, ◌≤◌, ◌++◌, [], ℕ, List, length, is_none, take, true};
+ghost use Rattle.trace_values.specs.Placed.{Placed, placed_from};
+ghost use Rattle.source_events.specs.Plan.{is_sound};
+ghost use Rattle.source_events.specs.Tails.{source_counts_of};
+ghost use Rattle.source_merge.specs.Engine as engine;
+ghost use Rattle.source_merge.specs.Engine.{is_live};
+ghost use Rattle.source_merge.specs.declared.engine.TheConstants.{GREATEST_OFFSET};
+ghost use Rattle.capture_actions.specs.Summary.{source_text, sources_text};
+
+use crate::plan_table::sends_stp;
+use crate::stopping::keep_stop;
+use itm_grammar::packet::ItmPacket;
+use source_counts::Counts;
+use source_events::{Event, Packet, Plan, Stop};
+use source_merge::{Engine, Events, Receiver, flow_after};
+use stp_grammar::said::Said;
+use trace_stream::{Action, Flow, OUTLET_ROOM, Outlet, TEXT_ROOM, Taken};
+use trace_text::{PortCountsLines, TAILS_ROOM, print_fault, print_tails, put_source_counts};
+use trace_values::{ID_COUNT, SourceId};
+
+/// The most bytes of the line of what a source sent, in a capture.
+const SOURCE_ROOM: usize = 44;
+
+/// Bytes of room that a summary is given: more than any has.
+pub const SUMMARY_ROOM: usize = ID_COUNT * SOURCE_ROOM + TAILS_ROOM + 2 * TEXT_ROOM;
+
+/// The reading of a capture.
+#[derive(Drop)]
+pub struct Check {
+    engine: Engine,
+    /// The events of the bytes that were taken last.
+    events: Events,
+    stop: Option<Stop>,
+    ghost alive: { is_live engine ≡ is_none stop },
+}
+
+/// Takes the events of whole frames. Events are only counted, which the engine does.
+#[derive(Drop)]
+struct Ignored;
+
+/// Nothing is done with an event.
+impl Receiver for Ignored {
+    ghost use Rattle.capture_actions.specs.Ignored.{gets, room, gets_none, gets_more};
+    ghost use Rattle.std.specs.Prelude.{⊤};
+
+    type To = ();
+
+    ghost gets = { gets };
+
+    ghost room = { room };
+
+    ghost itm = { λ ignored source. ⊤ };
+
+    ghost stp = { λ ignored source. ⊤ };
+
+    ghost gets_none = { gets_none };
+
+    ghost gets_more = { gets_more };
+
+    #[inline(always)]
+    fn give(&mut self, _to: &mut (), _event: Event<Packet>) {}
+
+    #[inline(always)]
+    fn takes_itm(&self, _source: SourceId) -> bool {
+        true
+    }
+
+    #[inline(always)]
+    fn takes_stp(&self, _source: SourceId) -> bool {
+        true
+    }
+
+    #[inline(always)]
+    fn give_itm(&mut self, _to: &mut (), _at: u64, _source: SourceId, _packet: ItmPacket) {}
+
+    #[inline(always)]
+    fn give_stp(&mut self, _to: &mut (), _at: u64, _half: u8, _source: SourceId, _said: Said) {}
+
+    #[inline(always)]
+    fn give_raw(&mut self, _to: &mut (), _at: u64, _source: SourceId, _bytes: &[u8]) {}
+
+    #[inline(always)]
+    fn give_trigger(&mut self, _to: &mut (), _at: u64, _source: SourceId, _byte: u8) {}
+}
+
+/// Takes whole frames from the front of the piece, the first byte of which is at this offset, where no source is
+/// mapped. Answers how many bytes they have.
+fn count_frames(reading: &mut Engine, at: u64, piece: &[u8]) -> usize
+    requires live { is_live reading.old ≡ true }
+    requires offsets { (engine.next_of reading.old ≤ at) × (at + length piece.now ≤ GREATEST_OFFSET + 1) }
+    ensures few { result ≤ length piece.now }
+    ensures none { result ≡ 0 → reading.new ≡ reading.old }
+    ensures same { engine.plan_of reading.new ≡ engine.plan_of reading.old }
+    ensures next { 0 < result → engine.next_of reading.new ≡ at + result }
+    ensures live { is_live reading.new ≡ true }
+    ensures list { (u : List Placed) → engine.Stands reading.old u →
+        engine.Stands reading.new (u ++ placed_from at (take result piece.now)) }
+{
+    let mut done = 0;
+    while done < piece.len() {
+        let Some(bytes) = reading.count_frame(at + done as u64, &piece[done..]) else {
+            return done;
+        };
+        done += bytes;
+    }
+    done
+}
+
+/// The line of what a source sent, if it sent a byte.
+fn put_counts(outlet: &mut Outlet, id: SourceId, counts: Counts)
+    requires bytes { counts.bytes ≤ GREATEST_COUNT }
+    requires items { counts.items ≤ GREATEST_COUNT }
+    requires room { length outlet.old + TEXT_ROOM ≤ OUTLET_ROOM }
+    ensures text { outlet.new ≡ outlet.old ++ source_text id counts }
+    ensures bound { length outlet.new ≤ length outlet.old + SOURCE_ROOM }
+{
+    if counts.bytes != 0 {
+        put_source_counts(outlet, id, counts.bytes, counts.items);
+    }
+}
+
+/// The same of the source of this number.
+fn put_source(outlet: &mut Outlet, number: u8, reading: &Engine)
+    requires live { is_live reading.now ≡ true }
+    requires source { number ≤ 126 }
+    requires room { length outlet.old + TEXT_ROOM ≤ OUTLET_ROOM }
+    ensures text { (u : List Placed) → engine.Stands reading.now u →
+        outlet.new ≡ outlet.old ++ source_text number (source_counts_of (engine.plan_of reading.now) u number) }
+    ensures bound { length outlet.new ≤ length outlet.old + SOURCE_ROOM }
+{
+    match SourceId::new(number) {
+        Some(id) => put_counts(outlet, id, reading.counts(id)),
+        None => {}
+    }
+}
+
+/// The lines of all sources that sent a byte, in the order of their IDs.
+fn put_sources(outlet: &mut Outlet, reading: &Engine)
+    requires live { is_live reading.now ≡ true }
+    requires room { length outlet.old + ID_COUNT * SOURCE_ROOM + TEXT_ROOM ≤ OUTLET_ROOM }
+    ensures text { (u : List Placed) → engine.Stands reading.now u →
+        outlet.new ≡ outlet.old ++ sources_text (engine.plan_of reading.now) u ID_COUNT }
+    ensures bound { length outlet.new ≤ length outlet.old + ID_COUNT * SOURCE_ROOM }
+{
+    for number in 0..ID_COUNT as u8 {
+        put_source(outlet, number, reading);
+    }
+}
+
+/// How many bytes of a piece are fed at once: a halfword that FF begins alone, since a frame that may be counted whole
+/// can come after a synchronisation.
+#[inline]
+fn front_length(piece: &[u8]) -> usize
+    requires { 0 < length piece.now }
+    ensures { (0 < result) × (result ≤ length piece.now) }
+{
+    if piece[0] == 0xFF && piece.len() > 2 {
+        2
+    } else {
+        piece.len()
+    }
+}
+
+impl Check {
+    ghost use Rattle.source_events.specs.declared.plan.Plan.{Plan};
+    ghost use Rattle.capture_actions.specs.Summary.{counts_text, summary};
+    ghost use Rattle.capture_actions.specs.Check.{Stands, plan_of, taken_by, IsLive};
+
+    /// Nothing is read yet. The plan is sound.
+    pub fn new(plan: Plan) -> Check
+        requires sound { is_sound plan ≡ true }
+        ensures plan { plan_of result ≡ plan }
+        ensures stands { Stands result [] }
+        ensures count { taken_by result ≡ 0 }
+        ensures live { IsLive result }
+    {
+        Check {
+            engine: Engine::new(plan),
+            events: Events::new(),
+            stop: None,
+        }
+    }
+
+    /// The counts of all, and the end lines.
+    fn put_counts(&self, outlet: &mut Outlet)
+        requires room { length outlet.old + SUMMARY_ROOM ≤ OUTLET_ROOM }
+        requires live { IsLive self.now }
+        ensures { (u : List Placed) → engine.Stands self.now.engine u →
+            outlet.new ≡ outlet.old ++ counts_text (plan_of self.now) u }
+    {
+        let counts = self.engine.port_counts();
+        outlet.put(&PortCountsLines {
+            fulls: counts.fulls,
+            halves: counts.halves,
+            frames: counts.frames,
+        });
+        put_sources(outlet, &self.engine);
+        print_tails(outlet, &self.engine.finish());
+    }
+
+    /// Puts the summary of the bytes that were taken: the counts and the end lines, or the line of the fault alone.
+    pub fn put_summary(&self, outlet: &mut Outlet)
+        requires room { length outlet.old + SUMMARY_ROOM ≤ OUTLET_ROOM }
+        ensures { (seen : List ℕ) → Stands self.now seen → outlet.new ≡ outlet.old ++ summary (plan_of self.now) seen }
+    {
+        match &self.stop {
+            None => self.put_counts(outlet),
+            Some(stop) => print_fault(outlet, stop, sends_stp(self.engine.plan(), stop.source)),
+        }
+    }
+}
+
+impl Action for Check {
+    ghost use Rattle.std.specs.Prelude.{false};
+    ghost use Rattle.source_events.specs.declared.plan.Plan.{Plan};
+    ghost use Rattle.capture_actions.specs.Faulty.{IsFaulty};
+    ghost use Rattle.capture_actions.specs.Summary.{check_text, summary};
+    ghost use Rattle.capture_actions.specs.CheckLaws.{none_at_first, nothing_at_first, faulty_stays, text_stays};
+    ghost use Rattle.capture_actions.specs.CheckLaws.{summary_stays, text_grows};
+    ghost use Rattle.capture_actions.specs.Check.{Stands, plan_of, taken_by, IsLive};
+
+    type Plan = Plan;
+
+    ghost plan = { plan_of };
+
+    ghost live = { IsLive };
+
+    ghost taken = { taken_by };
+
+    ghost stands = { Stands };
+
+    ghost faulty = { IsFaulty };
+
+    ghost text = { check_text };
+
+    ghost ending = { summary };
+
+    ghost due = { λ _. false };
+
+    ghost never_at_first = { none_at_first };
+
+    ghost nothing_at_first = { nothing_at_first };
+
+    ghost faulty_stays = { faulty_stays };
+
+    ghost text_stays = { text_stays };
+
+    ghost ending_stays = { summary_stays };
+
+    ghost text_grows = { text_grows };
+
+    /// A whole frame is counted at once where no source is mapped, and is taken at once where one is.
+    fn feed(&mut self, piece: &[u8], _outlet: &mut Outlet) -> Taken {
+        let at = self.engine.next();
+        let bytes = count_frames(&mut self.engine, at, piece);
+        if bytes > 0 {
+            return Taken {
+                bytes,
+                flow: Flow::On,
+            };
+        }
+        if let Some(block) = self.engine.feed_bare(at, piece) {
+            let flow = keep_stop(&mut self.stop, flow_after(&block.step));
+            return Taken {
+                bytes: block.bytes,
+                flow,
+            };
+        }
+        let framed = self.engine.feed_frame(at, piece, &mut Ignored, &mut ());
+        if let Some(fed) = framed {
+            let flow = keep_stop(&mut self.stop, fed.flow);
+            return Taken {
+                bytes: fed.bytes,
+                flow,
+            };
+        }
+        self.events.clear();
+        let front = front_length(piece);
+        let fed = self
+            .engine
+            .feed_block(at, &piece[..front], &mut self.events);
+        let flow = keep_stop(&mut self.stop, fed.flow);
+        Taken {
+            bytes: fed.bytes,
+            flow,
+        }
+    }
+
+    fn finish(&self, outlet: &mut Outlet) {
+        self.put_summary(outlet);
+    }
+
+    fn is_due(&self) -> bool {
+        false
+    }
+}

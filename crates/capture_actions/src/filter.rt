@@ -1,0 +1,94 @@
+//! Which events of a capture are listed.
+
+ghost use Rattle.std.specs.Prelude.{◌≡◌, ◌↔◌, ◌++◌, ◌∷◌, [], List, IsTrue, not, ◌||◌, ◌&&◌, is_none};
+ghost use Rattle.source_events.specs.declared.event.Event.{Event};
+ghost use Rattle.source_events.specs.declared.packet.Packet.{Packet};
+ghost use Rattle.source_events.specs.Report.{is_item};
+ghost use Rattle.capture_actions.specs.Listing.{meets, is_within, is_listed};
+
+use item_tap::{Bounds, Choice, ChoiceWindow};
+use source_events::{Event, Packet, What};
+
+/// Which events are listed: those that meet a choice, if there is one, and are within a window, if there is one.
+#[derive(Drop)]
+pub struct Filter {
+    only: Option<Choice>,
+    window: Option<ChoiceWindow>,
+    /// There is neither, and all events are listed.
+    all: bool,
+    ghost neither: { all ≡ (is_none only && is_none window) },
+}
+
+/// Whether an event meets the choice, if there is one, or is the notice of a lock.
+#[inline]
+fn meets(only: &Option<Choice>, event: &Event<Packet>) -> bool
+    ensures { result ≡ (meets only.now event.now || not (is_item event.now.what)) }
+{
+    match only {
+        None => true,
+        Some(choice) => match event.what {
+            What::Locked(_) => true,
+            What::Packet(_) | What::Raw(_) | What::Trigger(_) => choice.holds_for(event),
+        },
+    }
+}
+
+impl Filter {
+    ghost use Rattle.capture_actions.specs.Filter.{bounds_in, SawAll, HasSeen};
+
+    /// What is asked of the events, none of which is seen yet.
+    pub fn new(only: Option<Choice>, bounds: Option<Bounds>) -> Filter
+        ensures only { result.only ≡ only }
+        ensures bounds { bounds_in result.window ≡ bounds }
+        ensures seen { HasSeen result [] }
+    {
+        let window = match bounds {
+            None => None,
+            Some(bounds) => Some(bounds.window()),
+        };
+        let all = only.is_none() && window.is_none();
+        Filter { only, window, all }
+    }
+
+    /// All events are listed: there is no choice and no window.
+    #[inline]
+    pub fn lists_all(&self) -> bool
+        ensures { IsTrue result ↔ ((self.now.only ≡ None) × (self.now.window ≡ None)) }
+    {
+        self.all
+    }
+
+    /// Whether an event is within the window, which takes it, if there is one, or is the notice of a lock, which the
+    /// window does not see.
+    #[inline]
+    fn sees(window: &mut Option<ChoiceWindow>, event: &Event<Packet>) -> bool
+        ensures same { is_none window.new ≡ is_none window.old }
+        ensures bounds { bounds_in window.new ≡ bounds_in window.old }
+        ensures seen { (es : List (Event Packet)) → SawAll window.old es → SawAll window.new (es ++ event.now ∷ []) }
+        ensures answer { (es : List (Event Packet)) → SawAll window.old es →
+            result ≡ (is_within (bounds_in window.old) es event.now || not (is_item event.now.what)) }
+    {
+        match window {
+            None => true,
+            Some(window) => match event.what {
+                What::Locked(_) => true,
+                What::Packet(_) | What::Raw(_) | What::Trigger(_) => window.see(event),
+            },
+        }
+    }
+
+    /// Takes the next event, and answers whether it is listed. Notices of locks are, and the window does not see them;
+    /// it sees all other events, also those that do not meet the choice.
+    #[tactic(auto, using(crate::proofs::Filtering::listed_where_met))]
+    #[inline(always)]
+    pub fn lists(&mut self, event: &Event<Packet>) -> bool
+        ensures only { self.new.only ≡ self.old.only }
+        ensures bounds { bounds_in self.new.window ≡ bounds_in self.old.window }
+        ensures seen { (es : List (Event Packet)) → HasSeen self.old es → HasSeen self.new (es ++ event.now ∷ []) }
+        ensures answer { (es : List (Event Packet)) → HasSeen self.old es →
+            result ≡ is_listed self.old.only (bounds_in self.old.window) es event.now }
+    {
+        let is_within = Filter::sees(&mut self.window, event);
+        is_within && meets(&self.only, event)
+    }
+}

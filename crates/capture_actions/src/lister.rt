@@ -1,0 +1,527 @@
+//! What puts the lines of events into an outlet, as they come.
+
+ghost use Rattle.std.specs.Prelude.{◌≡◌, ◌+◌, ◌≤◌, ◌++◌, ◌∷◌, [], List, Some, false, length};
+ghost use Rattle.std.specs.Prelude.{if◌then◌else◌};
+ghost use Rattle.itm_grammar.specs.Proper.{IsProper};
+ghost use Rattle.source_events.specs.declared.event.Event.{Event};
+ghost use Rattle.source_events.specs.declared.event.What.TheVariants.{Packet as GivenPacket};
+ghost use Rattle.source_events.specs.declared.packet.Packet.{Packet};
+ghost use Rattle.source_events.specs.declared.packet.Packet.TheVariants.{Itm};
+ghost use Rattle.source_events.specs.Fitting.{EventFits, PacketFits};
+ghost use Rattle.std.specs.Option.{is_some};
+ghost use Rattle.std.specs.Prelude.{true};
+ghost use Rattle.source_merge.specs.Receiver.{trigger_event};
+ghost use Rattle.stp_grammar.specs.Proper.{IsProperItem};
+ghost use Rattle.stp_grammar.specs.Said.{said_item, IsProperSaid};
+ghost use Rattle.stp_grammar.specs.declared.item.StpItem.{StpItem};
+ghost use Rattle.trace_text.specs.LineText.{event_line, itm_event, raw_event, stp_event};
+ghost use Rattle.trace_text.specs.Printable.{Suits};
+ghost use Rattle.trace_stream.specs.declared.outlet.TheConstants.{TEXT_ROOM, OUTLET_ROOM};
+ghost use Rattle.capture_actions.specs.Faulty.{is_stp};
+ghost use Rattle.capture_actions.specs.Filter.{plan_by, HasSeen};
+ghost use Rattle.capture_actions.specs.Listing.{is_listed, itm_packets, line_after, remark_of};
+ghost use Rattle.capture_actions.specs.SourceClocks.{AllStand};
+
+use crate::clocks::is_stamp;
+use crate::filter::Filter;
+use crate::plan_table::{PlanTable, sends_stp};
+use crate::source_clocks::SourceClocks;
+use item_tap::{Bounds, Choice};
+use itm_grammar::packet::ItmPacket;
+use source_events::{Event, Packet, Plan, RunBytes, What};
+use source_merge::{Receiver, bare_source};
+use stp_grammar::item::StpItem;
+use stp_grammar::said::Said;
+use trace_stream::{OUTLET_ROOM, Outlet};
+use trace_text::{
+    Digits, EVENT_ROOM, Remark, print, put_line, put_raw_line, put_said_line, put_stp_line,
+};
+use trace_values::SourceId;
+
+/// What puts the lines of events, and what it needs of the events before them.
+#[derive(Drop)]
+pub struct Lister {
+    /// How the capture is read.
+    pub plan: PlanTable,
+    /// Which events are listed.
+    pub filter: Filter,
+    pub clocks: SourceClocks,
+    pub digits: Digits,
+}
+
+/// Puts the line of the next event with what the clocks say beside it, if it is listed.
+#[inline(always)]
+fn put_event(
+    outlet: &mut Outlet,
+    digits: &mut Digits,
+    filter: &mut Filter,
+    plan: &Plan,
+    event: &Event<Packet>,
+    remark: Remark,
+)
+    requires fits { EventFits PacketFits event.now }
+    requires suits { Suits event.now.what remark }
+    requires room { length outlet.old + TEXT_ROOM ≤ OUTLET_ROOM }
+    ensures text { (before : List (Event Packet)) → HasSeen filter.old before →
+        let p = plan_by plan.now filter.old in
+        let line = event_line (is_stp p.plan event.now.source) event.now remark in
+        outlet.new ≡ outlet.old ++ (if is_listed p.only p.window before event.now then line else []) }
+    ensures seen { (before : List (Event Packet)) → HasSeen filter.old before →
+        HasSeen filter.new (before ++ event.now ∷ []) }
+    ensures same { plan_by plan.now filter.new ≡ plan_by plan.now filter.old }
+    ensures bound { length outlet.new ≤ length outlet.old + EVENT_ROOM }
+{
+    if filter.lists(event) {
+        print(outlet, digits, event, sends_stp(plan, event.source), remark);
+    }
+}
+
+/// Takes the next event, and puts its line if it is listed.
+#[inline(always)]
+pub(crate) fn put_next(
+    outlet: &mut Outlet,
+    digits: &mut Digits,
+    clocks: &mut SourceClocks,
+    filter: &mut Filter,
+    plan: &Plan,
+    event: &Event<Packet>,
+)
+    requires fits { EventFits PacketFits event.now }
+    requires room { length outlet.old + TEXT_ROOM ≤ OUTLET_ROOM }
+    ensures text { (before : List (Event Packet)) → AllStand clocks.old before → HasSeen filter.old before →
+        outlet.new ≡ outlet.old ++ line_after (plan_by plan.now filter.old) before event.now }
+    ensures clocks { (before : List (Event Packet)) → AllStand clocks.old before →
+        AllStand clocks.new (before ++ event.now ∷ []) }
+    ensures seen { (before : List (Event Packet)) → HasSeen filter.old before →
+        HasSeen filter.new (before ++ event.now ∷ []) }
+    ensures same { plan_by plan.now filter.new ≡ plan_by plan.now filter.old }
+    ensures bound { length outlet.new ≤ length outlet.old + EVENT_ROOM }
+{
+    let remark = clocks.remark(event);
+    put_event(outlet, digits, filter, plan, event, remark);
+}
+
+/// Takes the next packet of this ITM source, whose last byte is at this offset, and puts its line. The clocks are asked
+/// only for a timestamp.
+#[inline(always)]
+fn put_itm_line(
+    outlet: &mut Outlet,
+    digits: &mut Digits,
+    clocks: &mut SourceClocks,
+    at: u64,
+    id: SourceId,
+    packet: &ItmPacket,
+)
+    requires proper { IsProper packet.now }
+    requires room { length outlet.old + TEXT_ROOM ≤ OUTLET_ROOM }
+    ensures text { (before : List (Event Packet)) → AllStand clocks.old before →
+        outlet.new ≡ outlet.old ++ event_line false (itm_event at id packet.now)
+        (remark_of (itm_packets (Some id) before) (GivenPacket (Itm packet.now))) }
+    ensures clocks { (before : List (Event Packet)) (event : Event Packet) → event.source ≡ Some id →
+        event.what ≡ GivenPacket (Itm packet.now) → AllStand clocks.old before →
+        AllStand clocks.new (before ++ event ∷ []) }
+    ensures bound { length outlet.new ≤ length outlet.old + EVENT_ROOM }
+{
+    if is_stamp(packet) {
+        let remark = clocks.packet_remark(id, packet);
+        put_line(outlet, digits, at, id, packet, remark);
+    } else {
+        clocks.pass_other(packet);
+        put_line(outlet, digits, at, id, packet, Remark::None);
+    }
+}
+
+/// The same of an event that comes seldom, out of line.
+#[inline(never)]
+pub(crate) fn put_whole(
+    outlet: &mut Outlet,
+    digits: &mut Digits,
+    clocks: &mut SourceClocks,
+    filter: &mut Filter,
+    plan: &Plan,
+    event: Event<Packet>,
+)
+    requires fits { EventFits PacketFits event }
+    requires room { length outlet.old + TEXT_ROOM ≤ OUTLET_ROOM }
+    ensures text { (before : List (Event Packet)) → AllStand clocks.old before → HasSeen filter.old before →
+        outlet.new ≡ outlet.old ++ line_after (plan_by plan.now filter.old) before event }
+    ensures clocks { (before : List (Event Packet)) → AllStand clocks.old before →
+        AllStand clocks.new (before ++ event ∷ []) }
+    ensures seen { (before : List (Event Packet)) → HasSeen filter.old before →
+        HasSeen filter.new (before ++ event ∷ []) }
+    ensures same { plan_by plan.now filter.new ≡ plan_by plan.now filter.old }
+    ensures bound { length outlet.new ≤ length outlet.old + EVENT_ROOM }
+{
+    put_next(outlet, digits, clocks, filter, plan, &event);
+}
+
+impl Lister {
+    ghost use Rattle.capture_actions.specs.Filter.{bounds_in};
+    ghost use Rattle.capture_actions.specs.Lister.{gets, ListsItm, ListsStp};
+    ghost use Rattle.std.specs.Prelude.{[], ◌<◌, ◌↔◌, IfSome, IsTrue, true, false};
+    ghost use Rattle.trace_values.specs.declared.step.Step.TheVariants.{Item};
+    ghost use Rattle.trace_values.specs.Stream.{StepFits};
+    ghost use Rattle.source_machine.specs.Seen.{packet_in};
+    ghost use Rattle.source_merge.specs.Bare.{bare_events};
+
+    /// No event came yet. It lists those of a capture that is read so which meet a choice, if there is one, and are
+    /// within a window, if there is one.
+    pub fn new(plan: &Plan, only: Option<Choice>, window: Option<Bounds>) -> Lister
+        ensures plan { result.plan ≡ plan.now }
+        ensures only { result.filter.only ≡ only }
+        ensures window { bounds_in result.filter.window ≡ window }
+        ensures clocks { AllStand result.clocks [] }
+        ensures seen { HasSeen result.filter [] }
+    {
+        Lister {
+            plan: PlanTable::new(plan),
+            filter: Filter::new(only, window),
+            clocks: SourceClocks::new(),
+            digits: Digits::new(),
+        }
+    }
+
+    /// Takes the next packet of this source by its event, which is made here, and puts its line if it is listed.
+    #[inline(always)]
+    fn give_itm_event(&mut self, outlet: &mut Outlet, at: u64, source: SourceId, packet: ItmPacket)
+        requires proper { IsProper packet }
+        requires room { length outlet.old + TEXT_ROOM ≤ OUTLET_ROOM }
+        ensures gets { gets (self.old, outlet.old) (itm_event at source packet ∷ []) (self.new, outlet.new) }
+        ensures bound { length outlet.new ≤ length outlet.old + EVENT_ROOM }
+    {
+        let event = Event {
+            at,
+            half: 0,
+            source: Some(source),
+            what: What::Packet(Packet::Itm(packet)),
+        };
+        put_whole(
+            outlet,
+            &mut self.digits,
+            &mut self.clocks,
+            &mut self.filter,
+            self.plan.plan(),
+            event,
+        );
+    }
+
+    /// The same of the next item of this source, which ends in this half of the byte.
+    #[inline(always)]
+    fn give_stp_event(
+        &mut self,
+        outlet: &mut Outlet,
+        at: u64,
+        half: u8,
+        source: SourceId,
+        item: StpItem,
+    )
+        requires proper { IsProperItem item }
+        requires room { length outlet.old + TEXT_ROOM ≤ OUTLET_ROOM }
+        ensures gets { gets (self.old, outlet.old) (stp_event at half source item ∷ []) (self.new, outlet.new) }
+        ensures bound { length outlet.new ≤ length outlet.old + EVENT_ROOM }
+    {
+        let event = Event {
+            at,
+            half,
+            source: Some(source),
+            what: What::Packet(Packet::Stp(item)),
+        };
+        put_whole(
+            outlet,
+            &mut self.digits,
+            &mut self.clocks,
+            &mut self.filter,
+            self.plan.plan(),
+            event,
+        );
+    }
+
+    /// The same of the byte of the trigger source at this offset.
+    #[inline(never)]
+    fn give_trigger_event(&mut self, outlet: &mut Outlet, at: u64, source: SourceId, byte: u8)
+        requires room { length outlet.old + TEXT_ROOM ≤ OUTLET_ROOM }
+        ensures gets { gets (self.old, outlet.old) (trigger_event source at byte ∷ []) (self.new, outlet.new) }
+        ensures bound { length outlet.new ≤ length outlet.old + EVENT_ROOM }
+    {
+        let event = trigger_of(at, source, byte);
+        put_next(
+            outlet,
+            &mut self.digits,
+            &mut self.clocks,
+            &mut self.filter,
+            self.plan.plan(),
+            &event,
+        );
+    }
+
+    /// The same of the next run of bytes of this source.
+    #[inline(never)]
+    fn give_raw_event(&mut self, outlet: &mut Outlet, at: u64, source: SourceId, bytes: &[u8])
+        requires some { 0 < length bytes.now }
+        requires few { length bytes.now ≤ 15 }
+        requires room { length outlet.old + TEXT_ROOM ≤ OUTLET_ROOM }
+        ensures gets { gets (self.old, outlet.old) (raw_event at source bytes.now ∷ []) (self.new, outlet.new) }
+        ensures bound { length outlet.new ≤ length outlet.old + EVENT_ROOM }
+    {
+        let event = Event {
+            at,
+            half: 0,
+            source: Some(source),
+            what: What::Raw(RunBytes::new(bytes)),
+        };
+        put_next(
+            outlet,
+            &mut self.digits,
+            &mut self.clocks,
+            &mut self.filter,
+            self.plan.plan(),
+            &event,
+        );
+    }
+
+    /// The lines of ITM packets of this source are put from the packets' parts: all events are listed, and it sends no
+    /// STP packets.
+    #[inline(always)]
+    fn lists_itm(&self, source: SourceId) -> bool
+        ensures { IsTrue result ↔ ListsItm self.now source }
+    {
+        self.filter.lists_all() && !self.plan.sends_stp(source)
+    }
+
+    /// The same of an STP source.
+    #[inline(always)]
+    fn lists_stp(&self, source: SourceId) -> bool
+        ensures { IsTrue result ↔ ListsStp self.now source }
+    {
+        self.filter.lists_all() && self.plan.sends_stp(source)
+    }
+
+    /// Takes the next packet of this source, and puts its line from the packet's parts: the event itself goes nowhere,
+    /// so that it need not be in memory.
+    #[inline(always)]
+    fn put_own_itm(&mut self, outlet: &mut Outlet, at: u64, source: SourceId, packet: ItmPacket)
+        requires proper { IsProper packet }
+        requires own { ListsItm self.old source }
+        requires room { length outlet.old + TEXT_ROOM ≤ OUTLET_ROOM }
+        ensures gets { gets (self.old, outlet.old) (itm_event at source packet ∷ []) (self.new, outlet.new) }
+        ensures bound { length outlet.new ≤ length outlet.old + EVENT_ROOM }
+    {
+        put_itm_line(
+            outlet,
+            &mut self.digits,
+            &mut self.clocks,
+            at,
+            source,
+            &packet,
+        );
+    }
+
+    /// The same of the next item of this source, which ends in this half of the byte.
+    #[inline(always)]
+    fn put_own_stp(
+        &mut self,
+        outlet: &mut Outlet,
+        at: u64,
+        half: u8,
+        source: SourceId,
+        item: StpItem,
+    )
+        requires proper { IsProperItem item }
+        requires own { ListsStp self.old source }
+        requires room { length outlet.old + TEXT_ROOM ≤ OUTLET_ROOM }
+        ensures gets { gets (self.old, outlet.old) (stp_event at half source item ∷ []) (self.new, outlet.new) }
+        ensures bound { length outlet.new ≤ length outlet.old + EVENT_ROOM }
+    {
+        self.clocks.pass();
+        put_stp_line(outlet, &mut self.digits, at, half, source, item);
+    }
+
+    /// The same of the item of what a packet of this source says, which has one.
+    #[inline(always)]
+    fn put_said(&mut self, outlet: &mut Outlet, at: u64, half: u8, source: SourceId, said: Said)
+        requires proper { IsProperSaid said }
+        requires some { is_some (said_item said) ≡ true }
+        requires own { ListsStp self.old source }
+        requires room { length outlet.old + TEXT_ROOM ≤ OUTLET_ROOM }
+        ensures gets { (item : StpItem) → said_item said ≡ Some item →
+            gets (self.old, outlet.old) (stp_event at half source item ∷ []) (self.new, outlet.new) }
+        ensures bound { length outlet.new ≤ length outlet.old + EVENT_ROOM }
+    {
+        self.clocks.pass();
+        put_said_line(outlet, &mut self.digits, at, half, source, said);
+    }
+
+    /// Takes the next packet of this source, and puts its line if it is listed.
+    #[inline(always)]
+    fn put_itm(&mut self, outlet: &mut Outlet, at: u64, source: SourceId, packet: ItmPacket)
+        requires proper { IsProper packet }
+        requires room { length outlet.old + TEXT_ROOM ≤ OUTLET_ROOM }
+        ensures gets { gets (self.old, outlet.old) (itm_event at source packet ∷ []) (self.new, outlet.new) }
+        ensures bound { length outlet.new ≤ length outlet.old + EVENT_ROOM }
+    {
+        if self.lists_itm(source) {
+            self.put_own_itm(outlet, at, source, packet);
+        } else {
+            self.give_itm_event(outlet, at, source, packet);
+        }
+    }
+
+    /// The same of the next item of this source, which ends in this half of the byte.
+    #[inline(always)]
+    fn put_stp(&mut self, outlet: &mut Outlet, at: u64, half: u8, source: SourceId, item: StpItem)
+        requires proper { IsProperItem item }
+        requires room { length outlet.old + TEXT_ROOM ≤ OUTLET_ROOM }
+        ensures gets { gets (self.old, outlet.old) (stp_event at half source item ∷ []) (self.new, outlet.new) }
+        ensures bound { length outlet.new ≤ length outlet.old + EVENT_ROOM }
+    {
+        if self.lists_stp(source) {
+            self.put_own_stp(outlet, at, half, source, item);
+        } else {
+            self.give_stp_event(outlet, at, half, source, item);
+        }
+    }
+
+    /// The same of the next run of bytes of this source.
+    #[inline(always)]
+    pub(crate) fn put_raw(&mut self, outlet: &mut Outlet, at: u64, source: SourceId, bytes: &[u8])
+        requires some { 0 < length bytes.now }
+        requires few { length bytes.now ≤ 15 }
+        requires room { length outlet.old + TEXT_ROOM ≤ OUTLET_ROOM }
+        ensures gets { gets (self.old, outlet.old) (raw_event at source bytes.now ∷ []) (self.new, outlet.new) }
+        ensures bound { length outlet.new ≤ length outlet.old + EVENT_ROOM }
+    {
+        if self.lists_itm(source) {
+            self.clocks.pass();
+            put_raw_line(outlet, &mut self.digits, at, source, bytes);
+        } else {
+            self.give_raw_event(outlet, at, source, bytes);
+        }
+    }
+
+    /// The same of a byte of the trigger source, which is this one.
+    #[inline(always)]
+    fn put_trigger(&mut self, outlet: &mut Outlet, at: u64, source: SourceId, byte: u8)
+        requires room { length outlet.old + TEXT_ROOM ≤ OUTLET_ROOM }
+        ensures gets { gets (self.old, outlet.old) (trigger_event source at byte ∷ []) (self.new, outlet.new) }
+        ensures bound { length outlet.new ≤ length outlet.old + EVENT_ROOM }
+    {
+        if self.lists_itm(source) {
+            self.clocks.pass();
+            let event = trigger_of(at, source, byte);
+            print(outlet, &mut self.digits, &event, false, Remark::None);
+        } else {
+            self.give_trigger_event(outlet, at, source, byte);
+        }
+    }
+
+    /// Takes the next packet of a capture with no formatter. Its last byte is at this offset.
+    #[inline(always)]
+    pub(crate) fn put_bare(&mut self, outlet: &mut Outlet, at: u64, packet: Packet)
+        requires fits { PacketFits packet }
+        requires room { length outlet.old + TEXT_ROOM ≤ OUTLET_ROOM }
+        ensures gets { gets (self.old, outlet.old) (bare_events at (Some (Item 0 packet))) (self.new, outlet.new) }
+        ensures bound { length outlet.new ≤ length outlet.old + EVENT_ROOM }
+    {
+        match packet {
+            Packet::Itm(packet) => self.put_itm(outlet, at, bare_source(), packet),
+            Packet::Stp(item) => self.put_stp(outlet, at, 0, bare_source(), item),
+        }
+    }
+
+    /// Takes the item of an STP packet of a capture with no formatter, if it has one. The packet ends in this half of
+    /// the byte at this offset.
+    #[inline(always)]
+    pub(crate) fn put_bare_stp(
+        &mut self,
+        outlet: &mut Outlet,
+        at: u64,
+        half: u8,
+        item: Option<StpItem>,
+    )
+        requires fits { IfSome (packet_in half item) (StepFits PacketFits) }
+        requires room { length outlet.old + TEXT_ROOM ≤ OUTLET_ROOM }
+        ensures gets { gets (self.old, outlet.old) (bare_events at (packet_in half item)) (self.new, outlet.new) }
+        ensures bound { length outlet.new ≤ length outlet.old + EVENT_ROOM }
+    {
+        match item {
+            None => {}
+            Some(item) => self.put_stp(outlet, at, half, bare_source(), item),
+        }
+    }
+}
+
+/// The event of the byte of the trigger source at this offset.
+#[inline(always)]
+fn trigger_of(at: u64, source: SourceId, byte: u8) -> Event<Packet>
+    ensures { result ≡ trigger_event source at byte }
+{
+    Event {
+        at,
+        half: 0,
+        source: Some(source),
+        what: What::Trigger(byte),
+    }
+}
+
+/// An event goes to the outlet as its line, if it is listed.
+impl Receiver for Lister {
+    ghost use Rattle.capture_actions.specs.Lister.{gets, room, ListsItm, ListsStp};
+    ghost use Rattle.capture_actions.specs.ListerLaws.{gets_none, gets_more};
+
+    type To = Outlet;
+
+    ghost gets = { gets };
+
+    ghost room = { room };
+
+    ghost itm = { ListsItm };
+
+    ghost stp = { ListsStp };
+
+    ghost gets_none = { gets_none };
+
+    ghost gets_more = { gets_more };
+
+    /// What comes so is seldom: the notice of a lock.
+    #[inline(always)]
+    fn give(&mut self, outlet: &mut Outlet, event: Event<Packet>) {
+        put_whole(
+            outlet,
+            &mut self.digits,
+            &mut self.clocks,
+            &mut self.filter,
+            self.plan.plan(),
+            event,
+        );
+    }
+
+    #[inline(always)]
+    fn takes_itm(&self, source: SourceId) -> bool {
+        self.lists_itm(source)
+    }
+
+    #[inline(always)]
+    fn takes_stp(&self, source: SourceId) -> bool {
+        self.lists_stp(source)
+    }
+
+    #[inline(always)]
+    fn give_itm(&mut self, outlet: &mut Outlet, at: u64, source: SourceId, packet: ItmPacket) {
+        self.put_own_itm(outlet, at, source, packet);
+    }
+
+    #[inline(always)]
+    fn give_stp(&mut self, outlet: &mut Outlet, at: u64, half: u8, source: SourceId, said: Said) {
+        self.put_said(outlet, at, half, source, said);
+    }
+
+    #[inline(always)]
+    fn give_raw(&mut self, outlet: &mut Outlet, at: u64, source: SourceId, bytes: &[u8]) {
+        self.put_raw(outlet, at, source, bytes);
+    }
+
+    #[inline(always)]
+    fn give_trigger(&mut self, outlet: &mut Outlet, at: u64, source: SourceId, byte: u8) {
+        self.put_trigger(outlet, at, source, byte);
+    }
+}

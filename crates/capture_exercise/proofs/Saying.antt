@@ -1,0 +1,44 @@
+-- Each line of the exercise says what it may: its numbers are in their ranges, and it is of a source for it.
+use Rattle.std.proofs.Common.{ℕ, zero, suc, ◌+◌, ◌/◌, ◌%◌, ◌<◌, ◌==◌, [], ◌∷◌, refl, arith, rules, Bool, true, false, cond}
+use Rattle.std.specs.Prelude.{Some, slice_index}
+use Rattle.itm_grammar.specs.declared.packet.Size.TheVariants.{Four}
+use Rattle.itm_grammar.specs.declared.packet.Lateness.TheVariants.{Exact}
+use Rattle.itm_grammar.specs.declared.packet.ItmPacket.TheVariants.{Sync, Software, Local}
+use Rattle.stp_grammar.specs.declared.packet.Width.TheVariants.{Sixteen}
+use Rattle.stp_grammar.specs.declared.item.Stamp.TheVariants.{Natural}
+use Rattle.stp_grammar.specs.declared.item.StpItem.TheVariants.{Async, Version, Datum}
+use Rattle.script_rebuild.specs.Writer.{CanBePut}
+use Rattle.trace_vectors.specs.declared.made.Made.{Made}
+use Rattle.trace_vectors.specs.declared.made.Made.TheVariants.{Itm, Stp, Raw, Trigger}
+use Rattle.trace_vectors.specs.Items.{itm_packet, stp_item, byte_item, item_of, place, IsProperMade}
+use Rattle.capture_exercise.specs.Exercise.{line_of_made, line_at}
+
+abbrev IsSaid : Made → Type 0
+IsSaid made = IsProperMade made → CanBePut (Some 2) (line_of_made made)
+
+itm_said : (s t : Bool) (m : ℕ) → IsSaid (Itm (cond s Sync (cond t (Software (m % 32) Four m) (Local Exact (m % 1000 + 1)))))
+itm_said true t m p = (omega arith, omega arith, (p, tt), tt)
+itm_said false true m p = (omega arith, omega arith, (p, tt), tt)
+itm_said false false m p = (omega arith, omega arith, (p, tt), tt)
+
+stp_said : (s t : Bool) (m : ℕ) → IsSaid (Stp (cond s Async (cond t (Version 3) (Datum (place m) Sixteen (m % 65536) false (Natural m)))))
+stp_said true t m p = (omega arith, omega arith, (p, tt), refl)
+stp_said false true m p = (omega arith, omega arith, (p, tt), refl)
+stp_said false false m p = (omega arith, omega arith, (p, (search rules, search rules)), refl)
+
+bytes_said : (b : ℕ) → b < 256 → (i : ℕ) → slice_index (b ∷ []) i < 256
+bytes_said b p zero = p
+bytes_said b p (suc i) = omega arith
+
+byte_said : (s : Bool) (b : ℕ) → IsSaid (cond s (Trigger b) (Raw b))
+byte_said true b p = (omega arith, omega arith, (omega arith, omega arith, bytes_said b p), tt)
+byte_said false b p = (omega arith, omega arith, (omega arith, omega arith, bytes_said b p), tt)
+
+kind_said : (a b : Bool) (m : ℕ) → IsSaid (cond a (Itm (itm_packet m)) (cond b (Stp (stp_item m)) (byte_item m)))
+kind_said true b m = itm_said (m % 16 == 0) (m % 2 == 1) m
+kind_said false true m = stp_said (m % 16 == 0) (m % 16 == 1) m
+kind_said false false m = byte_said (m % 16 == 15) (m % 256)
+
+pub line_said : (k : ℕ) → IsProperMade (item_of k) → CanBePut (Some 2) (line_at k)
+unfolding item_of
+line_said k = kind_said (k % 3 == 0) (k % 3 == 1) (k / 3)

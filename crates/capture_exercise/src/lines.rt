@@ -1,0 +1,43 @@
+//! The items as lines of a script.
+
+ghost use Rattle.std.specs.Prelude.{◌≡◌, ◌≤◌, Some};
+ghost use Rattle.script_text.specs.declared.lines.Line.TheVariants.{Of};
+ghost use Rattle.script_rebuild.specs.Writer.{CanBePut};
+ghost use Rattle.trace_vectors.specs.Items.{IsProperMade};
+ghost use Rattle.capture_exercise.specs.Exercise.{line_of_made, line_at};
+
+use script_text::{Item, Line, RawBytes};
+use trace_values::SourceId;
+use trace_vectors::{Made, item_at};
+
+/// The item of the source of this number.
+fn of_source(number: u8, item: Item) -> Line
+    requires source { number ≤ 126 }
+    ensures { result ≡ Of number item }
+{
+    match SourceId::new(number) {
+        Some(id) => Line::Of { id, item },
+        None => Line::Nothing,
+    }
+}
+
+/// An item as a line of its source: 1 for ITM packets, 2 for STP items, 125 for trigger bytes and 16 for other ones.
+fn line_of(made: Made) -> Line
+    requires proper { IsProperMade made }
+    ensures { result ≡ line_of_made made }
+{
+    match made {
+        Made::Itm(packet) => of_source(1, Item::Itm(packet)),
+        Made::Stp(item) => of_source(2, Item::Stp(item)),
+        Made::Raw(byte) => of_source(16, Item::Raw(RawBytes::of_byte(byte))),
+        Made::Trigger(byte) => of_source(125, Item::Raw(RawBytes::of_byte(byte))),
+    }
+}
+
+/// The line of the item of this number.
+pub(crate) fn line_at(k: u32) -> Line
+    ensures value { result ≡ line_at k }
+    ensures said { CanBePut (Some 2) result }
+{
+    line_of(item_at(k))
+}

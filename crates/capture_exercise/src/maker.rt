@@ -1,0 +1,81 @@
+//! The capture, piece by piece.
+
+ghost use Rattle.std.specs.Prelude.{◌≡◌, ◌↔◌, ◌≤◌, ◌<◌, ◌+◌, ◌*◌, ◌++◌, [], Some, IsTrue};
+ghost use Rattle.stp_grammar.specs.declared.packet.Order.TheVariants.{Msn};
+ghost use Rattle.script_rebuild.specs.Writer.{Stands, stp_of, order_of, count_of};
+ghost use Rattle.script_text.specs.declared.raw_bytes.TheConstants.{RAW_BYTES};
+ghost use Rattle.capture_exercise.specs.declared.maker.TheConstants.{MOST_ITEMS};
+ghost use Rattle.capture_exercise.specs.Exercise.{exercise_lines, exercise_capture};
+
+use crate::lines::line_at;
+use script_rebuild::{LineBytes, LineWriter};
+use stp_grammar::packet::Order;
+use trace_values::SourceId;
+
+/// The most items of an exercise.
+pub const MOST_ITEMS: u32 = 1_000_000;
+
+/// The most bytes of the capture of an exercise: no more than any capture may have.
+pub const MOST_BYTES: u64 = 1 << 36;
+
+/// Makes the capture of the exercise: the lines of its items, one at a time, and then its rest.
+#[derive(Drop)]
+pub(crate) struct CaptureMaker {
+    items: u32,
+    /// How many of them are put.
+    next: u32,
+    writer: LineWriter,
+    /// Nothing more comes.
+    is_whole: bool,
+    ghost few: { items ≤ MOST_ITEMS },
+    ghost within: { next ≤ items },
+    ghost stands: { ∥ Stands writer 64 0 (exercise_lines next) ∥₁ },
+    ghost stp: { stp_of writer ≡ Some 2 },
+    ghost order: { order_of writer ≡ Msn },
+    ghost count: { count_of writer ≤ RAW_BYTES * next },
+}
+
+impl CaptureMaker {
+    ghost use Rattle.capture_exercise.specs.Maker.{items_of, to_come, pieces_left};
+
+    /// Nothing is made yet.
+    pub(crate) fn new(items: u32) -> CaptureMaker
+        requires few { items ≤ MOST_ITEMS }
+        ensures items { items_of result ≡ items }
+        ensures bytes { to_come result ≡ exercise_capture items }
+        ensures pieces { pieces_left result ≡ items + 1 }
+    {
+        CaptureMaker {
+            items,
+            next: 0,
+            writer: LineWriter::new(SourceId::new(2), Order::Msn, 64, 0),
+            is_whole: false,
+        }
+    }
+
+    /// The whole capture is made.
+    pub(crate) fn is_whole(&self) -> bool
+        ensures whole { IsTrue result ↔ (pieces_left self.now ≡ 0) }
+        ensures bytes { IsTrue result → to_come self.now ≡ [] }
+    {
+        self.is_whole
+    }
+
+    /// Makes the next piece: what becomes sure with the next line, or the rest.
+    pub(crate) fn make(&mut self, out: &mut LineBytes)
+        requires empty { out.old.items ≡ [] }
+        requires more { 0 < pieces_left self.old }
+        ensures items { items_of self.new ≡ items_of self.old }
+        ensures bytes { to_come self.old ≡ out.new.items ++ to_come self.new }
+        ensures pieces { pieces_left self.new + 1 ≡ pieces_left self.old }
+    {
+        if self.next == self.items {
+            self.writer.rest(out);
+            self.is_whole = true;
+        } else {
+            let line = line_at(self.next);
+            let _ = self.writer.put(&line, out);
+            self.next += 1;
+        }
+    }
+}

@@ -1,8 +1,0 @@
-use Rattle.capture_report.proofs.Choosing.{all_listed, some_listed}
-use Rattle.capture_report.proofs.laws.filter_law.Goals as goal
-
-pub returns-clause-all : goal.returns-clause-all
-returns-clause-all c = all_listed
-
-pub returns-clause-some : goal.returns-clause-some
-returns-clause-some c = some_listed

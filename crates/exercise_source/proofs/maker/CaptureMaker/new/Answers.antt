@@ -1,5 +1,0 @@
-use Rattle.exercise_source.proofs.Making.{later_first}
-use Rattle.exercise_source.proofs.maker.CaptureMaker.new.Goals as goal
-
-pub returns-clause-bytes : goal.returns-clause-bytes
-returns-clause-bytes c = later_first c.args.items

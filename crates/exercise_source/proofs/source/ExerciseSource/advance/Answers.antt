@@ -1,8 +1,0 @@
-use Rattle.exercise_source.specs.Maker.{to_come}
-use Rattle.exercise_source.proofs.Giving.{told}
-use Rattle.exercise_source.proofs.source.ExerciseSource.advance.Goals as goal
-
-pub returns-clause-given : goal.returns-clause-given
-returns-clause-given c =
-    let self = c.args.self.now in
-    told self.piece.items (to_come self.maker) self.given c.args.count

@@ -1,4 +1,0 @@
-pub mod Exercise
-pub mod Making
-pub mod Maker
-pub mod Source

@@ -1,6 +1,0 @@
-pub mod Lines
-pub mod Puts
-pub mod Standing
-pub mod SoundSources
-pub mod OneVersion
-pub mod AllSegments

@@ -1,6 +1,0 @@
-pub mod Script
-pub mod Versions
-pub mod Putting
-pub mod Encoding
-pub mod Writer
-pub mod Rows

@@ -1,8 +1,0 @@
-pub mod Texts
-pub mod Said
-pub mod MappedIds
-pub mod Bytes
-pub mod Sources
-pub mod Packets
-pub mod Events
-pub mod Given

@@ -1,8 +1,0 @@
-use Rattle.line_writer.specs.Script.{script_of}
-use Rattle.rebuild_laws.proofs.Said.{script_good}
-use Rattle.rebuild_laws.proofs.Given.{reads_as_given}
-use Rattle.rebuild_laws.proofs.laws.rebuild_law.Goals as goal
-
-pub returns : goal.returns
-returns c = λ every halves plan script sound.
-    reads_as_given every halves plan (script_of plan script).lines sound (script_good plan script)

@@ -1,4 +1,0 @@
-pub mod Reading
-pub mod Puts
-pub mod ReadBack
-pub mod Rows

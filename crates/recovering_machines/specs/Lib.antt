@@ -1,0 +1,3 @@
+pub mod Port
+pub mod Source
+pub mod Run

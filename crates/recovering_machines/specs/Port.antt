@@ -1,0 +1,60 @@
+-- What a recovering port keeps (CoreSight Architecture Specification, Arm IHI 0029E (version 3.0), chapter 'Trace
+-- Formatter', its section on frames; how it goes on after a fault is this project's profile).
+use Rattle.std.specs.Prelude.{◌≡◌, ℕ, ◌+◌, List, [], ◌∷◌, ◌++◌, Bool, true}
+use Rattle.std.specs.List.{sum_by}
+use Rattle.trace_values.specs.Placed.{Placed, byte_at}
+use Rattle.trace_values.specs.Stream.{Stream}
+use Rattle.trace_values.specs.Moded.{stream_in}
+use Rattle.frame_grammar.specs.Port.{PortItem, Full, start, rule}
+use Rattle.port_sync.specs.Hunting.{pattern}
+use Rattle.deformatter.specs.Deformatter as deformatter
+use Rattle.deformatter.specs.Growth.{PortGrows}
+use Rattle.deformatter.specs.Reading.{port_stream}
+use Rattle.deformatter.specs.Resume.{again}
+use Rattle.deformatter.specs.declared.deformatter.Deformatter.{Deformatter}
+use Rattle.deformatter.specs.declared.step.PortStep.{PortStep}
+use Rattle.deformatter.specs.declared.step.PortStep.TheVariants.{Quiet, Half, Full as FullEnds, Frame, Locked}
+use Rattle.deformatter.specs.declared.step.PortStep.TheVariants.{Fault as Faulty}
+use Rattle.stretch_readings.specs.Stretches.{Resumption, Stretches, lost_in}
+use Rattle.recovering_machines.specs.declared.port.RecoveringPort.{RecoveringPort}
+
+-- the items of a port's bytes, from the first one on or in a hunt
+abbrev pub items_by : Bool → List Placed → Stream PortItem
+items_by hunts u = stream_in pattern Full rule start hunts u
+
+-- after a fault it hunts from the first byte of the halfword or synchronisation in which the fault is
+abbrev pub from_halfword : Resumption
+from_halfword = record { hunts = true; again = again }
+
+-- Its deformatter stands for the bytes of the last stretch, in that one's mode, and it has counted what was skipped
+-- before.
+pub record Keeps (d : Deformatter) (past count : ℕ) (r : Stretches) : Type 0 where
+  pub stands : deformatter.Stands d r.now.units
+  pub mode : deformatter.is_hunter d ≡ r.now.hunts
+  pub past_is : past ≡ sum_by (lost_in items_by from_halfword) r.past
+  pub count_is : count ≡ r.now.count
+
+-- it stands for these stretches
+abbrev pub Stands : RecoveringPort → Stretches → Type 0
+Stands p r = Keeps p.port p.past p.count r
+
+-- how many bytes it holds and skipped
+abbrev pub total_of : RecoveringPort → ℕ
+total_of p = p.past + p.count + deformatter.tail_of p.port + deformatter.skipped_by p.port
+
+-- an answer with its lock's count raised
+abbrev pub raised : ℕ → PortStep → PortStep
+raised count Quiet = Quiet
+raised count Half = Half
+raised count FullEnds = FullEnds
+raised count Frame = Frame
+raised count (Locked skipped) = Locked (count + skipped)
+raised count (Faulty f) = Faulty f
+
+-- The answer to a byte: with it the reading of the present stretch grew by this step, whose lock has that one's count
+-- besides.
+pub record Answers (r : Stretches) (at byte : ℕ) (step : PortStep) : Type 0 where
+  pub own : PortStep
+  pub is : step ≡ raised r.now.count own
+  pub grows : PortGrows (port_stream r.now.hunts r.now.units)
+      (port_stream r.now.hunts (r.now.units ++ byte_at at byte ∷ [])) at own

@@ -1,0 +1,116 @@
+//! The reading of a port that goes on after a fault.
+//!
+//! Frames, halfwords and synchronisations are those of the CoreSight Architecture Specification, Arm IHI 0029E (version
+//! 3.0), chapter 'Trace Formatter', its section on frames. Which bytes are faults, and how a reading goes on after one,
+//! is this project's profile.
+
+ghost use Rattle.std.specs.Prelude.{◌≡◌, true, false};
+ghost use Rattle.deformatter.specs.Deformatter.{is_live};
+ghost use Rattle.trace_values.specs.declared.limits.TheConstants.{COUNT_ROOM};
+
+use arrayvec::ArrayVec;
+use deformatter::{Deformatter, PortStep};
+use trace_values::Cell;
+
+/// Reads the bytes of a port with a formatter. After a fault it hunts again, from the first byte of the halfword or
+/// synchronisation in which the fault is. It keeps no byte for that, and it is live always.
+///
+/// It **stands for** the stretches of a list of bytes. Its clauses hold for all stretches that it stood for before the
+/// call; a new one stands for those of the empty list.
+#[derive(Drop)]
+pub struct RecoveringPort {
+    port: Deformatter,
+    /// How many bytes the stretches before the present one skipped.
+    past: u64,
+    /// How many bytes the present one counts before its own.
+    count: u64,
+    ghost live: { is_live port ≡ true },
+}
+
+impl RecoveringPort {
+    ghost use Rattle.std.specs.Prelude.{◌+◌, ◌≤◌, ◌++◌, ◌∷◌, []};
+    ghost use Rattle.stretch_readings.specs.Stretches.{before, lost_in, skipped_in};
+    ghost use Rattle.std.specs.List.{sum_by};
+    ghost use Rattle.trace_values.specs.Placed.{byte_at};
+    ghost use Rattle.deformatter.specs.Reading.{cells_in, port_stream};
+    ghost use Rattle.stretch_readings.specs.Stretches.{One, Stretches, fed};
+    ghost use Rattle.recovering_machines.specs.Port.{Answers, Stands, items_by, from_halfword, total_of};
+
+    /// One of bytes that begin with a frame or a synchronisation, before the first of them.
+    pub fn aligned() -> RecoveringPort
+        ensures fresh { Stands result (before items_by from_halfword false) }
+        ensures few { total_of result ≤ 0 }
+    {
+        RecoveringPort {
+            port: Deformatter::aligned(),
+            past: 0,
+            count: 0,
+        }
+    }
+
+    /// One of bytes that may begin anywhere, before the first of them: it skips them up to the first full
+    /// synchronisation.
+    pub fn hunting() -> RecoveringPort
+        ensures fresh { Stands result (before items_by from_halfword true) }
+        ensures few { total_of result ≤ 0 }
+    {
+        RecoveringPort {
+            port: Deformatter::hunting(),
+            past: 0,
+            count: 0,
+        }
+    }
+
+    /// Takes the next byte, which is at this offset. Where it ends a frame, `out` has the frame's cells afterwards, and
+    /// else nothing; the first frame after a lock has no ID before it. After `Fault` it hunts already, and has taken
+    /// again what it takes again. `Locked` has the bytes that the present hunt skipped, and those that it counts from
+    /// the fault before it.
+    pub fn feed(&mut self, at: u64, byte: u8, out: &mut ArrayVec<Cell, 15>) -> PortStep
+        requires out { out.old.items ≡ [] }
+        requires room { total_of self.old ≤ COUNT_ROOM }
+        ensures list { (r : Stretches) → Stands self.old r →
+            Stands self.new (fed items_by from_halfword r (One (byte_at at byte))) }
+        ensures step { (r : Stretches) → Stands self.old r → Answers r at byte result }
+        ensures cells { (r : Stretches) → Stands self.old r →
+            cells_in (port_stream r.now.hunts (r.now.units ++ byte_at at byte ∷ []))
+            ≡ cells_in (port_stream r.now.hunts r.now.units) ++ out.new.items }
+        ensures few { total_of self.new ≤ total_of self.old + 8 }
+    {
+        match self.port.feed(at, byte, out) {
+            PortStep::Fault(fault) => {
+                self.past += self.count + self.port.passed_over();
+                self.count = self.port.left_over();
+                self.port = self.port.hunting_from(byte);
+                PortStep::Fault(fault)
+            }
+            PortStep::Locked { .. } => PortStep::Locked {
+                skipped: self.count + self.port.skipped(),
+            },
+            step => step,
+        }
+    }
+
+    /// False in a hunt: before the first lock, where it was made to hunt, and from a fault to the next lock.
+    pub fn is_locked(&self) -> bool
+        ensures { (r : Stretches) → Stands self.now r → result ≡ (port_stream r.now.hunts r.now.units).locked }
+    {
+        self.port.is_locked()
+    }
+
+    /// How many bytes of an unfinished frame or synchronisation it holds.
+    pub fn tail(&self) -> u64
+        ensures { (r : Stretches) → Stands self.now r → result ≡ (port_stream r.now.hunts r.now.units).tail }
+    {
+        self.port.tail()
+    }
+
+    /// How many bytes all stretches so far skipped: their hunts, and of an item that a fault broke what was not taken
+    /// again.
+    pub fn skipped(&self) -> u64
+        requires room { total_of self.now ≤ COUNT_ROOM }
+        ensures { (r : Stretches) → Stands self.now r →
+            result ≡ sum_by (lost_in items_by from_halfword) r.past + skipped_in items_by from_halfword r.now }
+    {
+        self.past + self.count + self.port.skipped()
+    }
+}

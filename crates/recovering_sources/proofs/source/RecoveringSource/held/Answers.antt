@@ -1,6 +1,0 @@
-use Rattle.std.proofs.Common.{◌∙◌}
-use Rattle.recovering_sources.proofs.Bytes.{shows}
-use Rattle.recovering_sources.proofs.source.RecoveringSource.held.Goals as goal
-
-pub returns : goal.returns
-returns c = λ r k. let s = c.args.self.now in c.held.ensures ∙ (shows s.machine s.past s.count r k s.live).1

@@ -1,7 +1,0 @@
-use Rattle.std.proofs.Common.{◌∙◌, ◌+◌, ap}
-use Rattle.recovering_sources.proofs.Bytes.{shows}
-use Rattle.recovering_sources.proofs.source.RecoveringSource.skipped.Goals as goal
-
-pub returns : goal.returns
-returns c = λ r k. let s = c.args.self.now in ap (λ n. s.past + s.count + n) c.skipped.ensures
-    ∙ (shows s.machine s.past s.count r k s.live).0

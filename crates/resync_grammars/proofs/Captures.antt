@@ -1,0 +1,51 @@
+-- Sources inside a capture.
+use Rattle.std.proofs.Common.{◌≡◌, ℕ, List, [], ◌∷◌, ◌++◌, sym, ◌∙◌, ap, Bool, None}
+use Rattle.std.proofs.lemmas.List.Concat.{flat_map-append}
+use Rattle.trace_values.specs.Grammar.{InUnits}
+use Rattle.trace_values.specs.Nibbles.{low_of, high_of, nibbles_of}
+use Rattle.trace_values.specs.Placed.{Placed, units_of}
+use Rattle.trace_values.specs.Walk.{by_unit}
+use Rattle.trace_values.specs.declared.reading_modes.FramesMode.{FramesMode}
+use Rattle.itm_grammar.specs.declared.partial.Partial.TheVariants.{Header}
+use Rattle.itm_grammar.specs.declared.packet.ItmPacket.TheVariants.{Sync}
+use Rattle.itm_grammar.specs.Spelling.{Spells, why}
+use Rattle.itm_grammar.specs.Rule.{rule}
+use Rattle.itm_codec.specs.Reading.{pattern, packets_in}
+use Rattle.stp_grammar.specs.declared.packet.Order.{Order}
+use Rattle.stp_codec.specs.Reading.{items_at, items_in}
+use Rattle.deformatter.specs.PortReading.{port_reading}
+use Rattle.resync_rules.specs.Fronts.{IsRest}
+use Rattle.resync_rules.proofs.Resting as resting
+use Rattle.resync_grammars.specs.Port.{rest_mode}
+use Rattle.resync_grammars.proofs.Modes.{bytes_rest}
+use Rattle.resync_grammars.specs.Itm as itm
+use Rattle.resync_grammars.specs.Stp.{IsItemsRest}
+use Rattle.resync_grammars.specs.Capture.{source_bytes}
+use Rattle.resync_grammars.proofs.ItmSyncing.{itm_syncs}
+use Rattle.resync_grammars.proofs.StpResting.{is_items_rest}
+
+pub itm_rest : (hunts : Bool) (lost rest : List Placed) → (packets_in hunts (lost ++ rest)).fault ≡ None → IsRest (itm.hunting hunts) lost rest
+itm_rest hunts lost rest e = resting.is_rest (InUnits Spells) (λ r. why (units_of r)) (by_unit rule) Header pattern Sync itm_syncs hunts lost rest e
+
+pub itm_capture : (mode : FramesMode) (hunts : Bool) (id : ℕ) (lost rest : List Placed) → (port_reading mode (lost ++ rest)).fault ≡ None →
+    (packets_in hunts (source_bytes mode id (lost ++ rest))).fault ≡ None →
+    (early : List Placed) × (source_bytes mode id (lost ++ rest) ≡ early ++ source_bytes (rest_mode mode) id rest)
+    × IsRest (itm.hunting hunts) early (source_bytes (rest_mode mode) id rest)
+itm_capture mode hunts id lost rest e f =
+    let b = bytes_rest mode id lost rest e in
+    (b.0, b.1, itm_rest hunts b.0 (source_bytes (rest_mode mode) id rest) (ap (λ l. (packets_in hunts l).fault) (sym b.1) ∙ f))
+
+nibbles_append : (a b : List Placed) → nibbles_of (a ++ b) ≡ nibbles_of a ++ nibbles_of b
+nibbles_append a b = flat_map-append (λ (x : Placed). low_of x.place.at x.unit ∷ (high_of x.place.at x.unit ∷ [])) a b
+
+pub stp_capture : (order : Order) (mode : FramesMode) (hunts : Bool) (id : ℕ) (lost rest : List Placed) → (port_reading mode (lost ++ rest)).fault ≡ None →
+    (items_in order hunts (source_bytes mode id (lost ++ rest))).fault ≡ None →
+    (early : List Placed) × (source_bytes mode id (lost ++ rest) ≡ early ++ source_bytes (rest_mode mode) id rest)
+    × IsItemsRest order hunts (nibbles_of early) (nibbles_of (source_bytes (rest_mode mode) id rest))
+stp_capture order mode hunts id lost rest e f =
+    let b = bytes_rest mode id lost rest e in (
+      b.0,
+      b.1,
+      is_items_rest order hunts (nibbles_of b.0) (nibbles_of (source_bytes (rest_mode mode) id rest))
+          (ap (λ l. (items_at order hunts l).fault) (sym (nibbles_append b.0 (source_bytes (rest_mode mode) id rest))) ∙ ap (λ l. (items_in order hunts l).fault) (sym b.1) ∙ f),
+    )

@@ -1,0 +1,11 @@
+pub mod Syncing
+pub mod Naming
+pub mod Resting
+pub mod Names
+pub mod NamedCells
+pub mod Modes
+pub mod ItmSyncing
+pub mod StpSyncing
+pub mod StpItems
+pub mod StpResting
+pub mod Captures

@@ -1,0 +1,6 @@
+pub mod Port
+pub mod PortRows
+pub mod Itm
+pub mod Stp
+pub mod Capture
+pub mod SourceRows

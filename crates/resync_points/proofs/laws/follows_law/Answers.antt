@@ -1,6 +1,0 @@
-use Rattle.resync_streams.specs.Syncing.{SpelledBy}
-use Rattle.resync_points.proofs.Following.{follows}
-use Rattle.resync_points.proofs.laws.follows_law.Goals as goal
-
-pub returns : goal.returns
-returns g c = λ why rule start p v k hunts. follows (SpelledBy rule start) why rule start p v k hunts

@@ -1,7 +1,0 @@
-use Rattle.frame_grammar.specs.Port.{Full, Spells, why, start, rule}
-use Rattle.port_sync.specs.Hunting.{pattern}
-use Rattle.resync_ports.proofs.Syncing.{port_syncs, begins_only}
-use Rattle.resync_ports.proofs.laws.port_pattern_law.Goals as goal
-
-pub returns : goal.returns
-returns c = begins_only Spells why rule start pattern Full port_syncs (λ w s. s)

@@ -1,3 +1,0 @@
-pub mod Points
-pub mod Moved
-pub mod Resumed

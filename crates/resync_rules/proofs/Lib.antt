@@ -1,0 +1,12 @@
+pub mod Continuing
+pub mod Syncing
+pub mod Locking
+pub mod Resting
+pub mod Running
+pub mod Neighbours
+pub mod Words
+pub mod Following
+pub mod ItemTerms
+pub mod Decorating
+pub mod Moving
+pub mod Making

@@ -1,0 +1,4 @@
+pub mod Fronts
+pub mod Syncing
+pub mod Points
+pub mod Moved

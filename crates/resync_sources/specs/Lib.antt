@@ -1,4 +1,0 @@
-pub mod Itm
-pub mod Stp
-pub mod Capture
-pub mod Rows

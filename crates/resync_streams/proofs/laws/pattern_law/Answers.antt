@@ -1,6 +1,0 @@
-use Rattle.resync_streams.specs.Syncing.{SpelledBy}
-use Rattle.resync_streams.proofs.Syncing.{ends_only}
-use Rattle.resync_streams.proofs.laws.pattern_law.Goals as goal
-
-pub returns : goal.returns
-returns g c = λ why rule start p v k. ends_only (SpelledBy rule start) why rule start p v k

@@ -1,0 +1,169 @@
+-- What the lines of a script are rebuilt to reads back as what they give.
+use Rattle.std.proofs.Common.{◌≡◌, ◌≢◌, ℕ, zero, suc, ◌≤◌, List, [], ◌∷◌, length, refl, sym, ◌∙◌, ap, subst, arith, true, false, Option, None, Some, map}
+use Rattle.std.specs.Prelude.{flat_map}
+use Rattle.std.specs.List.{All}
+use Rattle.trace_values.specs.declared.cell.Cell.{Cell}
+use Rattle.trace_values.specs.declared.fault.Reason.{Reason}
+use Rattle.trace_values.specs.Placed.{Place, Placed, units_of}
+use Rattle.trace_values.specs.Nibbles.{nibbles_of}
+use Rattle.trace_values.specs.declared.reading_modes.FramesMode.TheVariants.{Aligned}
+use Rattle.frame_writer.specs.Written.{Tagged, capture}
+use Rattle.frame_writer.specs.ReadBack as framed
+use Rattle.frame_writer.proofs.ReadingBack.{capture_reads}
+use Rattle.itm_grammar.specs.declared.packet.ItmPacket.{ItmPacket}
+use Rattle.itm_codec.specs.Reading.{packets_in}
+use Rattle.stp_grammar.specs.declared.item.StpItem.{StpItem}
+use Rattle.stp_codec.specs.Reading.{items_in}
+use Rattle.stp_encoder.specs.ReadBack as encoded
+use Rattle.stp_encoder.specs.Fitting.{AreFitting}
+use Rattle.stp_encoder.proofs.Standing.{items_unmarked}
+use Rattle.stp_encoder.proofs.ReadingBack.{bytes_back}
+use Rattle.source_events.specs.declared.event.Event.{Event}
+use Rattle.source_events.specs.declared.event.What.{What}
+use Rattle.source_events.specs.declared.event.What.TheVariants.{Packet as PacketEvent}
+use Rattle.source_events.specs.declared.packet.Packet.{Packet}
+use Rattle.source_events.specs.declared.packet.Packet.TheVariants.{Itm as ItmPacket_, Stp as StpPacket_}
+use Rattle.source_events.specs.declared.plan.Plan.{Plan}
+use Rattle.source_events.specs.declared.plan.SourceKind.{SourceKind}
+use Rattle.source_events.specs.declared.plan.SourceKind.TheVariants.{Itm, Stp}
+use Rattle.source_events.specs.Merge.{IsMerged, told, part, cut}
+use Rattle.source_events.specs.Plan.{kind_of, sources_by, is_sound}
+use Rattle.source_events.specs.Report.{Mapped, events, raws, lesser, of_source, least_fault, port_events, runs_in, stop_in, capture_events}
+use Rattle.source_events.specs.Runs.{list_of}
+use Rattle.source_events.specs.Tails.{tail_of}
+use Rattle.source_events.proofs.Least.{Full, least_none}
+use Rattle.source_events.proofs.Captures.{capture_rises}
+use Rattle.source_events.proofs.Lawful.{plan_lawful}
+use Rattle.source_events.proofs.Merging.{capture_merged}
+use Rattle.script_text.specs.declared.lines.Line.{Line}
+use Rattle.script_rebuild.specs.Script.{script_bytes, given_packets, given_items, given_puts, given_bytes}
+use Rattle.script_laws.specs.ReadBack.{aligned, rebuilt, port_of, report_of, said_of, bytes_in, SaysBytes, has_line, ReadsAsGiven}
+use Rattle.script_laws.specs.Puts.{CanAllBePut}
+use Rattle.script_laws.proofs.Said.{all_fit}
+use Rattle.script_laws.proofs.MappedIds.{itm_one, stp_one, none_one, one_itm, one_stp, mapped_low}
+use Rattle.script_laws.proofs.Bytes.{itm_bytes, stp_bytes, raw_bytes, none_items, none_packets, none_bytes, all_sources, all_proper}
+use Rattle.script_laws.proofs.Sources.{list_bytes, no_cell}
+use Rattle.script_laws.proofs.Packets.{IsReadAs, read_as}
+use Rattle.script_laws.proofs.Events.{whats, told_whats, itm_events, stp_events, other_events, no_faults, lifted_whats, raws_bytes, raws_plain, raws_none, raws_null}
+
+not_null : (x : ℕ) → 1 ≤ x → x ≢ 0
+not_null zero l = absurd (omega arith)
+not_null (suc x) l = λ e. (let k : suc x ≡ 0 = e in cc)
+
+no_units : (u : List Placed) → units_of u ≡ [] → u ≡ []
+no_units [] e = refl
+no_units (p ∷ u) e = cc
+
+no_whats : (es : List (Event Packet)) → map (λ (e : Event Packet). e.what) es ≡ [] → es ≡ []
+no_whats [] e = refl
+no_whats (x ∷ es) e = cc
+
+module _ (every halves : ℕ) (plan : Plan) (lines : List Line) (sound : is_sound plan ≡ true) (good : CanAllBePut plan [] lines) where
+  abbrev bytes : List Tagged
+  bytes = script_bytes plan lines
+
+  abbrev u : List Placed
+  u = rebuilt every halves plan lines
+
+  abbrev sources : List (Mapped Packet)
+  sources = sources_by (aligned plan)
+
+  abbrev runs : List (List Cell)
+  runs = runs_in (port_of u)
+
+  law : framed.ReadsBack (capture every halves bytes) bytes
+  law = capture_reads every halves bytes (all_sources plan lines sound good)
+
+  -- mapped sources
+  itm_reads : (x : ℕ) → kind_of plan x ≡ Some Itm → IsReadAs (list_of x runs) (given_packets x lines)
+  itm_reads x k =
+      read_as (given_packets x lines) (all_proper plan x [] lines good) (list_of x runs)
+      (list_bytes every halves bytes law x (not_null x (mapped_low plan x Itm sound k)) ∙ itm_bytes plan x lines good k)
+
+  stp_reads : (x : ℕ) → kind_of plan x ≡ Some Stp → encoded.ReadsBack plan.order (given_items x lines) (nibbles_of (list_of x runs))
+  stp_reads x k =
+      let same = items_unmarked (given_items x lines) in
+      subst (λ (items : List StpItem). encoded.ReadsBack plan.order items (nibbles_of (list_of x runs))) same
+      (bytes_back plan.order (given_puts x lines) (subst AreFitting (sym same) (all_fit plan x lines good)) (list_of x runs)
+      (list_bytes every halves bytes law x (not_null x (mapped_low plan x Stp sound k)) ∙ stp_bytes plan x lines good sound k))
+
+  no_fault : stop_in sources (port_of u) ≡ None
+  no_fault =
+      ap (λ (o : Option (Place × Reason)). lesser (of_source None o) (least_fault sources runs)) law.no_fault
+      ∙ least_none sources runs (no_faults (aligned plan) runs
+      (λ x e. (itm_reads x (one_itm plan x e)).fault)
+      (λ x e. (stp_reads x (one_stp plan x sound e)).no_fault))
+
+  -- the report
+  report_is : report_of plan u ≡ capture_events sources Aligned u
+  report_is = ap (λ (o : Option Full). cut o (capture_events sources Aligned u)) no_fault
+
+  merged : IsMerged (port_events Aligned u) (events sources) runs (capture_events sources Aligned u)
+  merged =
+      (capture_merged Packet sources (plan_lawful (aligned plan)) Aligned u 0 (length (capture every halves bytes)) (capture_rises (capture every halves bytes))
+      (capture_events sources Aligned u)).1 refl
+
+  part_is : (x : ℕ) → part (Some x) (report_of plan u) ≡ told (Some x) (events sources x runs)
+  part_is x = ap (λ (es : List (Event Packet)). part (Some x) es) report_is ∙ merged.of_source x
+
+  said_is : (x : ℕ) → said_of plan u x ≡ whats (events sources x runs)
+  said_is x = ap (λ (es : List (Event Packet)). map (λ (e : Event Packet). e.what) es) (part_is x) ∙ told_whats (Some x) (events sources x runs)
+
+  itm_said : (x : ℕ) → kind_of plan x ≡ Some Itm → said_of plan u x ≡ map (λ (p : ItmPacket). PacketEvent (ItmPacket_ p)) (given_packets x lines)
+  itm_said x k =
+      said_is x ∙ ap whats (itm_events (aligned plan) runs x (itm_one plan x k))
+      ∙ lifted_whats ItmPacket_ (packets_in false (list_of x runs)).given (given_packets x lines) (itm_reads x k).given
+
+  stp_said : (x : ℕ) → kind_of plan x ≡ Some Stp → said_of plan u x ≡ map (λ (i : StpItem). PacketEvent (StpPacket_ i)) (given_items x lines)
+  stp_said x k =
+      let one = stp_one plan x k in
+      said_is x ∙ ap whats (stp_events (aligned plan) runs x one.0 one.1)
+      ∙ lifted_whats StpPacket_ (items_in plan.order false (list_of x runs)).given (given_items x lines) (stp_reads x k).given
+
+  no_rest : (x : ℕ) (kind : SourceKind) → kind_of plan x ≡ Some kind → (tail_of (aligned plan) (port_of u) x kind).tail ≡ 0
+  no_rest x Itm k = (itm_reads x k).tail
+  no_rest x Stp k = (stp_reads x k).no_tail
+
+  -- other sources
+  other_said : (x : ℕ) → kind_of plan x ≡ None → said_of plan u x ≡ whats (raws x runs)
+  other_said x k =
+      let one = none_one plan x k in
+      said_is x ∙ ap whats (other_events (aligned plan) runs x one.0 one.1)
+
+  other_plain : (x : ℕ) → kind_of plan x ≡ None → All SaysBytes (said_of plan u x)
+  other_plain x k = subst (λ (said : List (What Packet)). All SaysBytes said) (sym (other_said x k)) (raws_plain x runs)
+
+  other_bytes : (x : ℕ) → 1 ≤ x → kind_of plan x ≡ None → flat_map bytes_in (said_of plan u x) ≡ given_bytes x lines
+  other_bytes x l k =
+      ap (λ (said : List (What Packet)). flat_map bytes_in said) (other_said x k) ∙ raws_bytes x runs (not_null x l)
+      ∙ list_bytes every halves bytes law x (not_null x l) ∙ raw_bytes plan x lines good k
+
+  no_list : (x : ℕ) → 1 ≤ x → has_line x lines ≡ false → list_of x runs ≡ []
+  no_list x l e = no_units (list_of x runs) (list_bytes every halves bytes law x (not_null x l) ∙ none_bytes plan x lines e)
+
+  unsaid : (x : ℕ) → has_line x lines ≡ false → said_of plan u x ≡ []
+  unsaid x e = by (kind_of plan x) refl
+    where
+      by_number : (y : ℕ) → kind_of plan y ≡ None → has_line y lines ≡ false → said_of plan u y ≡ []
+      by_number zero k f = other_said zero k ∙ ap whats (raws_null runs)
+      by_number (suc y) k f = other_said (suc y) k ∙ ap whats (raws_none (suc y) runs (no_list (suc y) (omega arith) f))
+
+      by : (o : Option SourceKind) → kind_of plan x ≡ o → said_of plan u x ≡ []
+      by None k = by_number x k e
+      by (Some Itm) k = itm_said x k ∙ ap (λ (l : List ItmPacket). map (λ (p : ItmPacket). PacketEvent (ItmPacket_ p)) l) (none_packets plan x lines e)
+      by (Some Stp) k = stp_said x k ∙ ap (λ (l : List StpItem). map (λ (i : StpItem). PacketEvent (StpPacket_ i)) l) (none_items plan x lines e)
+
+  pub reads_as_given : ReadsAsGiven plan lines u
+  reads_as_given = record {
+    no_fault = no_fault;
+    no_tail = law.no_tail;
+    attributed = law.attributed;
+    packets = itm_said;
+    items = stp_said;
+    no_rest = no_rest;
+    plain = other_plain;
+    bytes = λ x l h k. other_bytes x l k;
+    silent = λ x e. no_whats (part (Some x) (report_of plan u)) (unsaid x e);
+    absent = λ x l e. no_cell every halves bytes law x (not_null x l) (none_bytes plan x lines e);
+    no_notice = ap (λ (es : List (Event Packet)). part None es) report_is ∙ merged.of_port;
+  }

@@ -1,0 +1,5 @@
+pub mod Lowered
+pub mod Reading
+pub mod Puts
+pub mod ReadBack
+pub mod Rows

@@ -1,0 +1,95 @@
+-- What the lines of a script write, read again: the report of the written capture.
+use Rattle.std.specs.Prelude.{◌≡◌, ◌≢◌, ◌≤◌, ℕ, List, [], ◌∷◌, map, flat_map, Bool, false, ◌==◌}
+use Rattle.std.specs.Prelude.{None, Some}
+use Rattle.std.specs.List.{All, list_any}
+use Rattle.trace_values.specs.Placed.{Placed, placed}
+use Rattle.trace_values.specs.declared.reading_modes.FramesMode.TheVariants.{Aligned as FramesAligned}
+use Rattle.trace_values.specs.declared.reading_modes.PacketsMode.TheVariants.{Aligned as PacketsAligned}
+use Rattle.frame_grammar.specs.Reading.{source_list}
+use Rattle.deformatter.specs.PortReading.{PortReading, port_reading, cells_of}
+use Rattle.frame_writer.specs.Written.{capture}
+use Rattle.source_events.specs.declared.event.Event.{Event}
+use Rattle.source_events.specs.declared.event.What.{What}
+use Rattle.source_events.specs.declared.event.What.TheVariants.{Locked, Packet as PacketEvent, Raw, Trigger}
+use Rattle.source_events.specs.declared.packet.Packet.{Packet}
+use Rattle.source_events.specs.declared.packet.Packet.TheVariants.{Itm as ItmPacket, Stp as StpPacket}
+use Rattle.source_events.specs.declared.plan.Plan.{Plan}
+use Rattle.source_events.specs.declared.plan.SourceKind.{SourceKind}
+use Rattle.source_events.specs.declared.plan.SourceKind.TheVariants.{Itm, Stp}
+use Rattle.source_events.specs.Merge.{part}
+use Rattle.source_events.specs.Plan.{sources_by, kind_of}
+use Rattle.source_events.specs.Report.{stop_in, report}
+use Rattle.source_events.specs.Tails.{tail_of}
+use Rattle.script_text.specs.declared.lines.Line.{Line}
+use Rattle.script_text.specs.declared.lines.Line.TheVariants.{Nothing, Of}
+use Rattle.script_rebuild.specs.Script.{script_bytes, given_packets, given_items, given_bytes}
+
+-- the plan that a rebuilt capture is read by: the same sources and order, and all from the first byte on
+abbrev pub aligned : Plan → Plan
+aligned plan = record {
+  frames = FramesAligned;
+  packets = PacketsAligned;
+  itm = plan.itm;
+  stp = plan.stp;
+  order = plan.order;
+}
+
+-- the capture that lines are rebuilt to, with a full synchronisation before each frame whose number is a multiple of
+-- `every`, if that isn't 0, and with `halves` half synchronisations in each gap of a frame
+abbrev pub rebuilt : ℕ → ℕ → Plan → List Line → List Placed
+rebuilt every halves plan lines = placed (capture every halves (script_bytes plan lines))
+
+-- what the port reads there, and the report
+abbrev pub port_of : List Placed → PortReading
+port_of u = port_reading FramesAligned u
+
+abbrev pub report_of : Plan → List Placed → List (Event Packet)
+report_of plan u = report (sources_by (aligned plan)) FramesAligned u
+
+-- what the events of a source say in it, in order
+abbrev pub said_of : Plan → List Placed → ℕ → List (What Packet)
+said_of plan u x = map (λ e. e.what) (part (Some x) (report_of plan u))
+
+-- the bytes that raw and trigger events have
+abbrev pub bytes_in : What Packet → List ℕ
+bytes_in (Locked skipped) = []
+bytes_in (PacketEvent packet) = []
+bytes_in (Raw bytes) = bytes
+bytes_in (Trigger byte) = byte ∷ []
+
+-- it is such an event
+abbrev pub SaysBytes : What Packet → Type 0
+SaysBytes (Locked skipped) = ⊥
+SaysBytes (PacketEvent packet) = ⊥
+SaysBytes (Raw bytes) = Unit {0}
+SaysBytes (Trigger byte) = Unit {0}
+
+-- some line is of this source
+abbrev pub is_line_of : ℕ → Line → Bool
+is_line_of x Nothing = false
+is_line_of x (Of id item) = id == x
+
+abbrev pub has_line : ℕ → List Line → Bool
+has_line x lines = list_any (is_line_of x) lines
+
+-- The report of these bytes has no fault, the port has no tail, and each cell has an ID. What an ITM source says is
+-- exactly the packets that the lines give it, and what an STP source says is exactly its items, with their places and
+-- timestamps; no byte and no nibble of theirs is left. Each other source says bytes alone, and those of a source from
+-- 1 to 126 are the ones that the lines give it. A source without a line says nothing, and has no cell unless it is the
+-- null source; and the port says nothing.
+pub record ReadsAsGiven (plan : Plan) (lines : List Line) (u : List Placed) : Type 0 where
+  pub no_fault : stop_in (sources_by (aligned plan)) (port_of u) ≡ None
+  pub no_tail : (port_of u).tail ≡ 0
+  pub attributed : All (λ c. c.id ≢ None) (cells_of (port_of u))
+  pub packets : (x : ℕ) → kind_of plan x ≡ Some Itm →
+      said_of plan u x ≡ map (λ packet. PacketEvent (ItmPacket packet)) (given_packets x lines)
+  pub items : (x : ℕ) → kind_of plan x ≡ Some Stp →
+      said_of plan u x ≡ map (λ item. PacketEvent (StpPacket item)) (given_items x lines)
+  pub no_rest : (x : ℕ) (kind : SourceKind) → kind_of plan x ≡ Some kind →
+      (tail_of (aligned plan) (port_of u) x kind).tail ≡ 0
+  pub plain : (x : ℕ) → kind_of plan x ≡ None → All SaysBytes (said_of plan u x)
+  pub bytes : (x : ℕ) → 1 ≤ x → x ≤ 126 → kind_of plan x ≡ None →
+      flat_map bytes_in (said_of plan u x) ≡ given_bytes x lines
+  pub silent : (x : ℕ) → has_line x lines ≡ false → part (Some x) (report_of plan u) ≡ []
+  pub absent : (x : ℕ) → 1 ≤ x → has_line x lines ≡ false → source_list x (cells_of (port_of u)) ≡ []
+  pub no_notice : part None (report_of plan u) ≡ []

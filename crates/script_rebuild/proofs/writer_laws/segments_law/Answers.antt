@@ -1,0 +1,11 @@
+use Rattle.script_rebuild.proofs.AllSegments.{segments_more, joined_more, items_put}
+use Rattle.script_rebuild.proofs.writer_laws.segments_law.Goals as goal
+
+pub returns-clause-more : goal.returns-clause-more
+returns-clause-more c = segments_more
+
+pub returns-clause-joined : goal.returns-clause-joined
+returns-clause-joined c = joined_more
+
+pub returns-clause-items : goal.returns-clause-items
+returns-clause-items c = items_put
