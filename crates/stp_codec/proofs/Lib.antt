@@ -7,7 +7,6 @@ pub mod Holding
 pub mod Between
 pub mod Words
 pub mod AtOnce
-pub mod Insides
 pub mod RowTables
 pub mod Finishing
 pub mod ByBytes

@@ -71,11 +71,6 @@ Leaves (Go t) partial = t ≡ partial
 Leaves (End packet) partial = partial ≡ Start
 Leaves (Fail reason) partial = ⊥
 
--- with both nibbles of a byte this is unfinished, as after the first
-abbrev pub GoesTwice : Order → Partial → ℕ → Partial → Type 0
-GoesTwice order s byte t =
-    (first : Partial) × (rule order s (byte % 16) ≡ Go first) × (rule order first (byte / 16) ≡ Go t)
-
 -- what such a nibble leaves of a packet that it begins, and what stands where none came: nothing
 abbrev pub left_after : Next Partial StpPacket → Partial
 left_after (Go t) = t

@@ -12,9 +12,8 @@ ghost use Rattle.stp_codec.specs.declared.decoder.TheConstants.{ROOM};
 
 use crate::cut::{Cut, cut_packet};
 use crate::flat::{PacketParts, WINDOW, parts_from_first};
-use crate::inside::inside;
 use crate::waiting::with_bytes;
-use crate::whole::{after_first, whole_packet};
+use crate::whole::after_first;
 use stp_grammar::attribution::Attribution;
 use stp_grammar::item::StpItem;
 use stp_grammar::packet::{Order, StpPacket};
@@ -107,7 +106,7 @@ impl StpDecoder {
     ghost use Rattle.stp_grammar.specs.Said.{said_item, IsProperSaid};
     ghost use Rattle.stp_grammar.specs.declared.partial.Partial.TheVariants.{Start};
     ghost use Rattle.stp_codec.specs.Reading.{packets_of, rest_in, items_at, items_in};
-    ghost use Rattle.stp_codec.specs.Wholes.{left_of, IsQuiet, GoesTwice};
+    ghost use Rattle.stp_codec.specs.Wholes.{left_of, IsQuiet};
     ghost use Rattle.stp_codec.specs.Cuts.{Passes};
     ghost use Rattle.stp_grammar.specs.Rule.{count_of};
     ghost use Rattle.stp_codec.specs.Answers.{AnswersNibble, AnswersByte};
@@ -274,32 +273,19 @@ impl StpDecoder {
     }
 
     /// The packet that these bytes finish, and how many of their nibbles it takes, where the reading has begun and no
-    /// bytes wait.
+    /// bytes wait. It has room for all their nibbles.
     #[inline(always)]
     fn next_packet(&self, piece: &[u8]) -> Option<(usize, StpPacket)>
+        requires room { held_of self.now + 2 * length piece.now ≤ COUNT_ROOM }
         ensures { IfSome result (λ x. Finishes self.now piece.now x.0 x.1) }
     {
-        if self.waiting == 0 && self.mode.is_locked() {
-            whole_packet(self.order, self.unfinished(), piece)
-        } else {
-            None
-        }
-    }
-
-    /// The unfinished packet with this byte, where the reading has begun and both nibbles are inside a payload or a
-    /// timestamp's word. It is settled.
-    #[inline(always)]
-    fn next_inside(&self, byte: u8) -> Option<Partial>
-        requires settled { IsSettled self.now }
-        ensures locked { IfSome result (λ t. has_locked self.now ≡ true) }
-        ensures goes { IfSome result (λ t. GoesTwice (order_of self.now) self.now.partial byte t) }
-        ensures sound { IfSome result (λ t. is_sound t ≡ true) }
-        ensures held { IfSome result (λ t. count_of t ≡ read_of self.now + 2) }
-    {
-        if !self.mode.is_locked() {
+        if self.waiting > 0 || !self.mode.is_locked() {
             return None;
         }
-        inside(self.order, self.partial, byte)
+        match cut_packet(self.order, self.unfinished(), piece)? {
+            Cut::Ended { nibbles, packet } => Some((nibbles, packet)),
+            Cut::Inside(_) => None,
+        }
     }
 
     /// Takes what is left of a byte in whose half a packet ended: the high nibble, where it ended in the low one. A
@@ -655,11 +641,6 @@ impl StpDecoder {
             AnswersByte (order_of self.old) (packets_of (order_of self.old) (is_hunter self.old) (nibbles_of u))
             (rest_in (order_of self.old) (is_hunter self.old) (nibbles_of u)) at byte result }
     {
-        if let Some(partial) = self.next_inside(byte) {
-            self.partial = partial;
-            self.first = MANY;
-            return Step::Quiet;
-        }
         let low = self.take_nibble(at, 0, byte % 16);
         match low {
             Step::Quiet | Step::Skipping => self.take_nibble(at, 1, byte / 16),

@@ -5,7 +5,6 @@
 mod cut;
 mod decoder;
 mod flat;
-mod inside;
 pub mod laws;
 mod nibbles;
 mod waiting;

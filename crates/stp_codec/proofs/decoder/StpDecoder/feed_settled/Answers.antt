@@ -3,7 +3,6 @@ use Rattle.trace_values.specs.Nibbles.{nibbles_of, low_of}
 use Rattle.trace_values.specs.Stream.{LocksAfter}
 use Rattle.stp_codec.specs.Decoder.{is_hunter}
 use Rattle.stp_codec.proofs.Bytes.{of_byte, grows_high, grows_low, grows_faulty, faulty_list, ended, high_answer, low_answer, fault_answer}
-use Rattle.stp_codec.proofs.Insides.{inside_list, inside_step, inside_answer}
 use Rattle.stp_codec.proofs.decoder.StpDecoder.feed_settled.Goals as goal
 
 pub take_nibble-requires-clause-room : goal.take_nibble-requires-clause-room
@@ -67,18 +66,3 @@ pub returns-in-Item-clause-lock : goal.returns-in-Item-clause-lock
 returns-in-Item-clause-lock c =
     let e = ended c.take_nibble-low.result c.take_nibble-low.new.self.partial _ c.in-Item.is c.take_nibble-low.ensures.ends in
     subst (λ k. LocksAfter k c.take_nibble-low.result) (sym (c.take_nibble-in-Item.ensures.stays e.1).1) c.take_nibble-low.ensures.lock
-
-pub returns-in-Some-clause-list : goal.returns-in-Some-clause-list
-returns-in-Some-clause-list c = λ u s.
-    let d = c.args.self.now in
-    inside_list d.order d.mode d.live d.partial d.attribution u c.args.at c.args.byte c.requires.live c.in-Some.ensures.locked (omega (arith, c.ranges.byte)) c.in-Some.partial c.in-Some.ensures.goes s
-
-pub returns-in-Some-clause-step : goal.returns-in-Some-clause-step
-returns-in-Some-clause-step c = λ u s.
-    let d = c.args.self.now in
-    inside_step d.order d.mode d.live d.partial d.attribution u c.args.at c.args.byte c.requires.live c.in-Some.ensures.locked (omega (arith, c.ranges.byte)) c.in-Some.partial c.in-Some.ensures.goes s
-
-pub returns-in-Some-clause-grammar : goal.returns-in-Some-clause-grammar
-returns-in-Some-clause-grammar c = λ u s k.
-    let d = c.args.self.now in
-    inside_answer d.order d.mode d.live d.partial d.attribution u c.args.at c.args.byte c.requires.live c.in-Some.ensures.locked (omega (arith, c.ranges.byte)) c.in-Some.partial c.in-Some.ensures.goes s
