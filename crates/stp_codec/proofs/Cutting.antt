@@ -29,9 +29,6 @@ from_none row n v h = let t : ((line_of row).payload == n) ≡ false = grind (ar
 from_all : (row : Row) (n v : ℕ) → n ≡ (line_of row).payload → payload_from row n v ≡ after_payload row v
 from_all row n v h = let t : ((line_of row).payload == n) ≡ true = grind (arith, nat_tests) in rw t refl
 
-pub payload_begun : (row : Row) (n v : ℕ) → n < (line_of row).payload → Go (Payload row n v) ≡ payload_from row n v
-payload_begun row n v h = sym (from_none row n v h)
-
 pub stamped_next : (row : Row) (v : ℕ) → (line_of row).stamped ≡ true → after_payload row v ≡ Go (Size row v)
 stamped_next row v t = rw t refl
 

@@ -1,5 +1,5 @@
 -- Nibbles that end a packet, from each of its parts on.
-use Rattle.std.proofs.Common.{◌≡◌, ℕ, suc, replicate, ◌+◌, ◌-◌, ◌<◌, ◌≤◌, List, [], ◌∷◌, ◌++◌, length, get_or, refl, sym, ◌∙◌, ap, subst, arith, Bool, true, false, cond}
+use Rattle.std.proofs.Common.{◌≡◌, ℕ, suc, ◌+◌, ◌-◌, ◌<◌, ◌≤◌, List, [], ◌∷◌, ◌++◌, length, get_or, refl, sym, ◌∙◌, ap, subst, arith, Bool, true, false, cond}
 use Rattle.std.specs.Prelude.{nat_lt, ◌==◌, ◌&&◌, ◌^◌, Option, None, Some, IfSome}
 use Rattle.std.proofs.lemmas.Bool.Decides.{nat_tests}
 use Rattle.std.proofs.lemmas.List.{append-nil}
@@ -10,13 +10,12 @@ use Rattle.trace_clock.specs.LastWord.{nibble_count}
 use Rattle.stp_grammar.specs.declared.packet.Order.{Order}
 use Rattle.stp_grammar.specs.declared.packet.Row.{Row}
 use Rattle.stp_grammar.specs.declared.packet.StpPacket.{StpPacket}
-use Rattle.stp_grammar.specs.declared.packet.StpPacket.TheVariants.{Async, Stamped}
+use Rattle.stp_grammar.specs.declared.packet.StpPacket.TheVariants.{Stamped}
 use Rattle.stp_grammar.specs.declared.partial.Partial.{Partial}
-use Rattle.stp_grammar.specs.declared.partial.Partial.TheVariants.{Start, Second, Third, Run, Payload, Size, Word}
+use Rattle.stp_grammar.specs.declared.partial.Partial.TheVariants.{Second, Third, Payload, Size, Word}
 use Rattle.stp_grammar.specs.Opcodes.{line_of, row_at, Opening, Whole as Opened}
 use Rattle.stp_grammar.specs.Rule.{rule, number_with, begin, after_payload, opened, size_with, is_sound, first_opening, second_opening, third_opening}
 use Rattle.stp_grammar.proofs.Digits.{value_from, stage_whole}
-use Rattle.stp_grammar.proofs.Runs.{run_complete}
 use Rattle.stp_codec.specs.Wholes.{between, number_from, Ends}
 use Rattle.stp_codec.proofs.Between.{between_first, between_parts, length-between}
 
@@ -82,9 +81,6 @@ module _ (order : Order) where
   pub not_f : (b : ℕ) → b < 15 → (b == 15) ≡ false
   not_f b h = grind (arith, nat_tests)
 
-  pub ends_start : (b : ℕ) (w : List ℕ) (packet : StpPacket) → b < 15 → Ends order (begin (row_at b)) w packet → Ends order (Go Start) (b ∷ w) packet
-  ends_start b w packet h k = ap (λ (z : Opening). after (opened z Second) (λ t. walk (rule order) t w) w) (first_is b h) ∙ k
-
   pub ends_second : (b : ℕ) (w : List ℕ) (packet : StpPacket) → 0 < b → b < 15 → Ends order (begin (row_at (14 + b))) w packet → Ends order (Go Second) (b ∷ w) packet
   ends_second b w packet h l k =
       ap (λ x. after x (λ t. walk (rule order) t w) w) (goes b h l) ∙ k
@@ -108,15 +104,9 @@ module _ (order : Order) where
   pub ends_late_third : (c : ℕ) (w : List ℕ) (packet : StpPacket) → 6 ≤ c → c < 10 → Ends order (begin (row_at (25 + c))) w packet → Ends order (Go Third) (c ∷ w) packet
   ends_late_third c w packet h l k = ap (λ (z : Opening). after (opened z Third) (λ t. walk (rule order) t w) w) (late_third_is c h l) ∙ k
 
-  pub ends_run : (k n : ℕ) → 21 ≤ n + k → Ends order (Go (Run n)) (replicate k 15 ++ 0 ∷ []) Async
-  ends_run k n h = run_complete order k n h
-
   -- a second nibble that goes on
   pub ends_second_zero : (w : List ℕ) (packet : StpPacket) → Ends order (Go Third) w packet → Ends order (Go Second) (0 ∷ w) packet
   ends_second_zero w packet k = k
-
-  pub ends_second_f : (w : List ℕ) (packet : StpPacket) → Ends order (Go (Run 2)) w packet → Ends order (Go Second) (15 ∷ w) packet
-  ends_second_f w packet k = k
 
   -- among the nibbles of bytes
   module _ (xs : List ℕ) (start end : ℕ) where
@@ -131,13 +121,6 @@ module _ (order : Order) where
     ends_word_at row payload size n v word h e l k =
         let p = parts_of (nibble_count size - n) end e (omega arith) l in
         ends_word row payload size n v (between xs start end) h (let q = p.0 in omega (arith, q, h)) ∙ ap (λ w. Whole (Stamped row payload size w)) (sym k)
-
-    pub ends_payload_at : (row : Row) (n v value last : ℕ) (packet : StpPacket) → n < (line_of row).payload → end ≡ start + ((line_of row).payload - n) → end ≤ last → end ≤ length xs →
-        value ≡ number_from order n v (between xs start end) → Ends order (after_payload row value) (between xs end last) packet → Ends order (Go (Payload row n v)) (between xs start last) packet
-    ends_payload_at row n v value last packet h e m l k r =
-        let p = parts_of ((line_of row).payload - n) last e m l in
-        ap (walk (rule order) (Payload row n v)) p.1
-        ∙ ends_payload row n v (between xs start end) (between xs end last) packet h (let q = p.0 in omega (arith, q, h)) (subst (λ z. Ends order (after_payload row z) (between xs end last) packet) k r)
 
     pub ends_begin_at : (row : Row) (value last : ℕ) (packet : StpPacket) → end ≡ start + ((line_of row).payload - 0) → end ≤ last → end ≤ length xs →
         value ≡ number_from order 0 0 (between xs start end) → Ends order (after_payload row value) (between xs end last) packet → Ends order (begin row) (between xs start last) packet
@@ -163,9 +146,6 @@ both_some (Some x) a b h = h x a b
 -- what a sound state says
 under : (n m : ℕ) (t : Bool) → (nat_lt n m && t) ≡ true → (n < m) × (t ≡ true)
 under n m t e = grind (arith, nat_tests)
-
-pub sound_payload : (s : Partial) (row : Row) (n v : ℕ) → s ≡ Payload row n v → is_sound s ≡ true → n < (line_of row).payload
-sound_payload s row n v e h = (under n (line_of row).payload (nat_lt v (16 ^ n)) (sym (ap is_sound e) ∙ h)).0
 
 pub sound_word : (s : Partial) (row : Row) (payload size n v : ℕ) → s ≡ Word row payload size n v → is_sound s ≡ true → n < nibble_count size
 sound_word s row payload size n v e h =

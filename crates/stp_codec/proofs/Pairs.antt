@@ -1,5 +1,5 @@
 -- A byte after a list of nibbles, by its two nibbles.
-use Rattle.std.proofs.Common.{◌≡◌, ℕ, zero, suc, ◌/◌, ◌<◌, ◌≤◌, arith, List, [], ◌∷◌, ◌++◌, refl, sym, ◌∙◌, ap, subst}
+use Rattle.std.proofs.Common.{◌≡◌, ℕ, zero, suc, ◌/◌, ◌<◌, List, [], ◌∷◌, ◌++◌, refl, sym, ◌∙◌, ap, subst}
 use Rattle.std.proofs.Common.{append_assoc, append-nil, ◌⊎◌, inl, inr, Bool, true, false, None}
 use Rattle.trace_values.specs.declared.fault.Fault.{Fault}
 use Rattle.trace_values.specs.declared.step.Step.{Step}

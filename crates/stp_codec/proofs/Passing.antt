@@ -1,5 +1,5 @@
 -- Nibbles that end a packet, in what a decoder keeps and in what it reads.
-use Rattle.std.proofs.Common.{◌≡◌, ℕ, ◌/◌, ◌%◌, ◌<◌, ◌≤◌, List, [], ◌∷◌, ◌++◌, refl, sym, ◌∙◌, ap, subst, append_assoc, append-nil, arith, Option, None, Some, Bool, true}
+use Rattle.std.proofs.Common.{◌≡◌, ℕ, ◌/◌, ◌%◌, ◌<◌, List, [], ◌∷◌, ◌++◌, refl, sym, ◌∙◌, ap, subst, append_assoc, append-nil, arith, Option, None, Some, Bool, true}
 use Rattle.std.specs.Prelude.{is_none}
 use Rattle.trace_values.specs.declared.next.Next.{Next}
 use Rattle.trace_values.specs.declared.next.Next.TheVariants.{Go, End, Fail}
@@ -20,7 +20,7 @@ use Rattle.stp_grammar.specs.declared.partial.Partial.TheVariants.{Start}
 use Rattle.stp_grammar.specs.Rule.{rule, count_of}
 use Rattle.stp_grammar.specs.Attribution.{item_of}
 use Rattle.stp_grammar.specs.Attributed.{Stands as Attributes}
-use Rattle.stp_grammar.proofs.Counting.{counts, counts_placed}
+use Rattle.stp_grammar.proofs.Counting.{counts_placed}
 use Rattle.stp_grammar.specs.declared.packet.Row.TheVariants.{Null}
 use Rattle.stp_grammar.proofs.Attributing.{stands_with}
 use Rattle.stp_grammar.proofs.Beginning.{start_ends}
@@ -139,11 +139,3 @@ module _ (order : Order) (m : Mode) (live : Bool) (s : Partial) (a : Attribution
     by (Go r) e k = left_goes_quiet t (ap Go (sym k) ∙ sym e)
     by (End v) e k = ends_quiet v (sym e)
     by (Fail r) e k = absurd k
-
--- and it is at most one nibble
-pub left_few : (order : Order) (b : ℕ) (t : Partial) → Leaves (rule order Start b) t → count_of t ≤ 1
-left_few order b t k = by (rule order Start b) refl k where
-  by : (x : Next Partial StpPacket) → rule order Start b ≡ x → Leaves x t → count_of t ≤ 1
-  by (Go r) e k = (let n = counts order Start t b (e ∙ ap Go k) in omega (arith, n))
-  by (End v) e k = (let n : count_of t ≡ 0 = ap count_of k in omega (arith, n))
-  by (Fail r) e k = absurd k

@@ -58,9 +58,6 @@ settled d e = reached_none d.order (begun_of d) d.held d.waiting e
 pub filled : (d : StpDecoder) → IsSettled d → partial_of d ≡ d.partial
 filled d e = settled d e.0 ∙ e.1
 
-pub to_reads : (d : StpDecoder) → IsSettled d → (u : List Placed) → Stands d u → Reads d u
-to_reads d e u h = subst (λ (p : Partial). StandsWith d p (nibbles_of u)) (filled d e) h
-
 pub to_stands : (d : StpDecoder) → IsSettled d → (n : List Placed) → ReadsAt d n → StandsWith d (partial_of d) n
 to_stands d e n h = subst (λ (p : Partial). StandsWith d p n) (sym (filled d e)) h
 
@@ -76,9 +73,6 @@ held_begun d e = ap (λ (p : Partial). count_of p) (settled d e)
 -- the first nibble, or more
 pub begun_first : (order : Order) (first : ℕ) (partial : Partial) → first < 16 → begun order first partial ≡ left_by order first
 begun_first order first partial h = ap (λ (t : Bool). cond t (left_by order first) partial) (let e : nat_lt first 16 ≡ true = grind (arith, nat_tests) in e)
-
-pub begun_more : (order : Order) (first : ℕ) (partial : Partial) → (first < 16 → ⊥) → begun order first partial ≡ partial
-begun_more order first partial h = ap (λ (t : Bool). cond t (left_by order first) partial) (let e : nat_lt first 16 ≡ false = grind (arith, nat_tests) in e)
 
 pub begun_again : (order : Order) (first : ℕ) (partial t : Partial) → t ≡ begun order first partial → begun order first t ≡ t
 begun_again order first partial t e = by (nat_lt first 16) e where

@@ -1,5 +1,5 @@
 -- Nibbles that end nothing, and what comes after them.
-use Rattle.std.proofs.Common.{◌≡◌, ℕ, zero, suc, ◌+◌, ◌-◌, ◌*◌, ◌/◌, ◌%◌, ◌<◌, ◌≤◌, List, [], ◌∷◌, ◌++◌, length, take, drop, get_or, refl, sym, ◌∙◌, ap, subst, append-nil, arith, Bool, true, false}
+use Rattle.std.proofs.Common.{◌≡◌, ℕ, zero, suc, ◌+◌, ◌-◌, ◌*◌, ◌/◌, ◌%◌, ◌<◌, ◌≤◌, List, [], ◌∷◌, ◌++◌, length, take, drop, get_or, refl, sym, ◌∙◌, ap, append-nil, arith, Bool, true, false}
 use Rattle.std.specs.Prelude.{nat_lt}
 use Rattle.std.proofs.lemmas.Bool.Decides.{nat_tests}
 use Rattle.std.proofs.lemmas.List.{take_all, take-append-drop, take-append-le, length-take-le}
@@ -85,9 +85,6 @@ module _ (order : Order) where
 
   pub reached_none : (s : Partial) (held : List ℕ) (n : ℕ) → n ≡ 0 → reached order s (nibbles_in (take n held)) ≡ s
   reached_none s held n e = ap (λ (k : ℕ). reached order s (nibbles_in (take k held))) e
-
-  pub fronts_none : (s : Partial) (held : List ℕ) (n : ℕ) → n ≡ 0 → Fronts order s (nibbles_in (take n held))
-  fronts_none s held n e = subst (λ (k : ℕ). Fronts order s (nibbles_in (take k held))) (sym e) refl
 
   whole_within : (s t : Partial) (a b : List ℕ) (v : StpPacket) → walk (rule order) s a ≡ Whole v → walk (rule order) s (a ++ b) ≡ Within t → ⊥
   whole_within s t a [] v e f = (let g = sym e ∙ ap (walk (rule order) s) (sym (append-nil a)) ∙ f in cc)

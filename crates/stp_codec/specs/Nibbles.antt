@@ -1,6 +1,6 @@
 -- A byte after a list of nibbles, which may begin with the high one of a byte (MIPI System Trace Protocol, version 2;
 -- that the low nibble of a byte comes first is this project's profile).
-use Rattle.std.specs.Prelude.{◌≡◌, ℕ, zero, suc, ◌≤◌, List, [], ◌∷◌, ◌++◌, None}
+use Rattle.std.specs.Prelude.{◌≡◌, ℕ, zero, suc, List, [], ◌∷◌, ◌++◌, None}
 use Rattle.trace_values.specs.declared.step.Step.{Step}
 use Rattle.trace_values.specs.declared.step.Step.TheVariants.{Fault as Faulty}
 use Rattle.trace_values.specs.Nibbles.{low_of, high_of}

@@ -5,13 +5,14 @@
 ghost use Rattle.std.specs.Prelude.{◌≡◌, ◌+◌, ◌*◌, ◌^◌, ◌<◌, ◌≤◌, true, length, IfSome};
 ghost use Rattle.trace_values.specs.declared.next.Next.TheVariants.{Go};
 ghost use Rattle.stp_grammar.specs.declared.partial.Partial.TheVariants.{Start, Second, Third, Run, Size, Word};
-ghost use Rattle.stp_grammar.specs.Opcodes.{line_of, row_at, Whole};
-ghost use Rattle.stp_grammar.specs.Rule.{is_sound, count_of, begin, third_opening};
+ghost use Rattle.stp_grammar.specs.Opcodes.{line_of, row_at};
+ghost use Rattle.stp_grammar.specs.Rule.{is_sound, count_of, begin};
 ghost use Rattle.stp_codec.specs.Wholes.{nibbles_in, between};
 ghost use Rattle.stp_codec.specs.Cuts.{Leads, CutsInto, IsProperCut, payload_from};
 ghost use Rattle.trace_values.specs.declared.limits.TheConstants.{COUNT_ROOM};
 
-use crate::whole::{nibble_of, number_from, payload_at, row_of, stamped_at};
+use crate::whole::{nibble_of, number_from};
+use stp_grammar::opcode::{Head, opcode_of, payload_at, row_at, stamped_at};
 use stp_grammar::packet::{Order, Row, StpPacket};
 use stp_grammar::partial::Partial;
 use trace_clock::word_nibbles;
@@ -166,7 +167,7 @@ fn cut_opcode(order: Order, number: u8, bytes: &[u8], start: usize) -> Option<Cu
 {
     cut_payload(
         order,
-        row_of(number),
+        row_at(number),
         payload_at(number),
         stamped_at(number),
         0,
@@ -203,19 +204,6 @@ fn cut_run(before: u64, bytes: &[u8], start: usize) -> Option<Cut>
     Some(Cut::Inside(Partial::Run(count)))
 }
 
-/// The number of the row whose opcode has F, 0 and this nibble.
-#[inline(always)]
-fn third_row(nibble: u8) -> Option<u8>
-    ensures few { IfSome result (λ number. number < 35) }
-    ensures row { IfSome result (λ number. third_opening nibble ≡ Whole (row_at number)) }
-{
-    match nibble {
-        0..=1 => Some(29 + nibble),
-        6..=9 => Some(25 + nibble),
-        _ => None,
-    }
-}
-
 /// From the nibble after F and 0, which begin an opcode. None where it is a fault.
 #[inline(always)]
 fn cut_third(order: Order, bytes: &[u8], start: usize) -> Option<Cut>
@@ -227,8 +215,10 @@ fn cut_third(order: Order, bytes: &[u8], start: usize) -> Option<Cut>
     if start >= 2 * bytes.len() {
         return Some(Cut::Inside(Partial::Third));
     }
-    let number = third_row(nibble_of(bytes, start))?;
-    cut_opcode(order, number, bytes, start + 1)
+    match opcode_of(15, Some(0), Some(nibble_of(bytes, start))) {
+        Head::Whole(number) => cut_opcode(order, number, bytes, start + 1),
+        Head::More | Head::Refused => None,
+    }
 }
 
 /// From the nibble after F, which begins an opcode or ASYNC. None where one is a fault.

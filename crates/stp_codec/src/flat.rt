@@ -16,8 +16,8 @@ ghost use Rattle.stp_codec.specs.Wholes.{nibbles_in, between, Ends, left_by};
 ghost use Rattle.stp_codec.specs.Parts.{packet_of};
 ghost use Rattle.stp_codec.specs.declared.flat.TheConstants.{WINDOW};
 
-use crate::whole::{nibble_of, number_at_once, payload_at, stamped_at};
-use stp_grammar::opcode::row_at;
+use crate::whole::{nibble_of, number_at_once};
+use stp_grammar::opcode::{payload_at, row_at, stamped_at};
 use stp_grammar::packet::StpPacket;
 use trace_clock::word_nibbles;
 
@@ -63,7 +63,7 @@ impl PacketParts {
         ensures { result ≡ packet_of self.now }
     {
         let row = row_at(self.number);
-        if row.is_stamped() {
+        if stamped_at(self.number) {
             StpPacket::Stamped {
                 row,
                 payload: self.payload,

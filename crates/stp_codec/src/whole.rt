@@ -5,177 +5,15 @@
 
 ghost use Rattle.std.specs.Prelude.{◌≡◌, ℕ, ◌+◌, ◌-◌, ◌*◌, ◌/◌, ◌%◌, ◌^◌, ◌<◌, ◌≤◌, List, true, length, get_or};
 ghost use Rattle.stp_grammar.specs.declared.partial.Partial.TheVariants.{Start};
-ghost use Rattle.stp_grammar.specs.Opcodes.{line_of, row_at};
 ghost use Rattle.stp_grammar.specs.Rule.{rule, is_sound, number_with};
 ghost use Rattle.stp_grammar.specs.Spelling.{number};
 ghost use Rattle.stp_grammar.specs.declared.packet.Order.TheVariants.{Lsn, Msn};
 ghost use Rattle.stp_codec.specs.Wholes.{nibbles_in, between, number_from, Leaves};
 
 use stp_grammar::nibble::number_with;
-use stp_grammar::packet::{Order, Row, Width};
+use stp_grammar::opcode::{payload_at, row_at, stamped_at};
+use stp_grammar::packet::Order;
 use stp_grammar::partial::Partial;
-
-/// How many nibbles the payload of each row of the table of opcodes has, by the row's number.
-const PAYLOADS: &[u8] = &[
-    0, 2, 2, 2, 2, 4, 8, 16, 2, 4, 8, 16, 1, 1, 0, 4, 2, 4, 2, 4, 8, 16, 2, 4, 8, 16, 1, 1, 0, 1,
-    0, 2, 2, 8, 8,
-];
-
-/// 1 for each row whose payload a timestamp follows, and 0 for each other one.
-const STAMPS: &[u8] = &[
-    0, 0, 0, 0, 0, 0, 0, 0, 1, 1, 1, 1, 0, 1, 1, 0, 0, 0, 1, 1, 1, 1, 0, 0, 0, 0, 1, 0, 0, 0, 1, 0,
-    1, 0, 1,
-];
-
-/// The rows of the table of opcodes, by their numbers.
-const ROWS: &[Row] = &[
-    Row::Null,
-    Row::Master8,
-    Row::MasterError,
-    Row::Channel8,
-    Row::Datum {
-        width: Width::Eight,
-        marked: false,
-        stamped: false,
-    },
-    Row::Datum {
-        width: Width::Sixteen,
-        marked: false,
-        stamped: false,
-    },
-    Row::Datum {
-        width: Width::ThirtyTwo,
-        marked: false,
-        stamped: false,
-    },
-    Row::Datum {
-        width: Width::SixtyFour,
-        marked: false,
-        stamped: false,
-    },
-    Row::Datum {
-        width: Width::Eight,
-        marked: true,
-        stamped: true,
-    },
-    Row::Datum {
-        width: Width::Sixteen,
-        marked: true,
-        stamped: true,
-    },
-    Row::Datum {
-        width: Width::ThirtyTwo,
-        marked: true,
-        stamped: true,
-    },
-    Row::Datum {
-        width: Width::SixtyFour,
-        marked: true,
-        stamped: true,
-    },
-    Row::Datum {
-        width: Width::Four,
-        marked: false,
-        stamped: false,
-    },
-    Row::Datum {
-        width: Width::Four,
-        marked: true,
-        stamped: true,
-    },
-    Row::Flag { stamped: true },
-    Row::Master16,
-    Row::GlobalError,
-    Row::Channel16,
-    Row::Datum {
-        width: Width::Eight,
-        marked: false,
-        stamped: true,
-    },
-    Row::Datum {
-        width: Width::Sixteen,
-        marked: false,
-        stamped: true,
-    },
-    Row::Datum {
-        width: Width::ThirtyTwo,
-        marked: false,
-        stamped: true,
-    },
-    Row::Datum {
-        width: Width::SixtyFour,
-        marked: false,
-        stamped: true,
-    },
-    Row::Datum {
-        width: Width::Eight,
-        marked: true,
-        stamped: false,
-    },
-    Row::Datum {
-        width: Width::Sixteen,
-        marked: true,
-        stamped: false,
-    },
-    Row::Datum {
-        width: Width::ThirtyTwo,
-        marked: true,
-        stamped: false,
-    },
-    Row::Datum {
-        width: Width::SixtyFour,
-        marked: true,
-        stamped: false,
-    },
-    Row::Datum {
-        width: Width::Four,
-        marked: false,
-        stamped: true,
-    },
-    Row::Datum {
-        width: Width::Four,
-        marked: true,
-        stamped: false,
-    },
-    Row::Flag { stamped: false },
-    Row::Version,
-    Row::NullStamp,
-    Row::Trigger { stamped: false },
-    Row::Trigger { stamped: true },
-    Row::Frequency { stamped: false },
-    Row::Frequency { stamped: true },
-];
-
-/// The row with this number.
-#[inline(always)]
-pub fn row_of(number: u8) -> Row
-    requires { number < 35 }
-    ensures { result ≡ row_at number }
-{
-    let rows = ROWS;
-    rows[number as usize]
-}
-
-/// How many nibbles the payload of the row with this number has.
-#[inline(always)]
-pub fn payload_at(number: u8) -> u8
-    requires { number < 35 }
-    ensures count { result ≡ (line_of (row_at number)).payload }
-    ensures few { result ≤ 16 }
-{
-    let payloads = PAYLOADS;
-    payloads[number as usize]
-}
-
-/// Whether a timestamp follows the payload of the row with this number.
-#[inline(always)]
-pub fn stamped_at(number: u8) -> bool
-    requires { number < 35 }
-    ensures { result ≡ (line_of (row_at number)).stamped }
-{
-    let stamps = STAMPS;
-    stamps[number as usize] == 1
-}
 
 /// One of the nibbles of these bytes.
 #[inline(always)]
@@ -350,7 +188,7 @@ pub fn after_first(nibble: u8) -> Partial
     if nibble == 15 {
         return Partial::Second;
     }
-    let row = row_of(nibble);
+    let row = row_at(nibble);
     if payload_at(nibble) > 0 {
         Partial::Payload {
             row,

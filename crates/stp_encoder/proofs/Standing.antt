@@ -18,11 +18,6 @@ pub spelled_append : (order : Order) (a b : List StpPacket) → spelled order (a
 spelled_append order a b = flat_map-append (short order) a b
 
 module _ (encoder : StpEncoder) (bytes : List ℕ) (order : Order) (packets : List StpPacket) (n : List ℕ) where
-  pub at_none : IsAt encoder bytes packets n → IsAt encoder bytes (packets ++ []) (n ++ spelled order [])
-  at_none h =
-      subst (λ (l : List StpPacket). IsAt encoder bytes l (n ++ [])) (sym (append-nil packets))
-      (subst (λ (l : List ℕ). IsAt encoder bytes packets l) (sym (append-nil n)) h)
-
   pub at_one : (packet : StpPacket) → IsAt encoder bytes (packets ++ packet ∷ []) (n ++ short order packet) →
       IsAt encoder bytes (packets ++ packet ∷ []) (n ++ spelled order (packet ∷ []))
   at_one packet h = subst (λ (l : List ℕ). IsAt encoder bytes (packets ++ packet ∷ []) (n ++ l)) (sym (append-nil (short order packet))) h

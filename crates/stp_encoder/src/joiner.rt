@@ -4,7 +4,6 @@ ghost use Rattle.std.specs.Prelude.{◌≡◌, ◌<◌, ◌≤◌, ◌+◌, ◌*
 ghost use Rattle.std.specs.Option.{ForSome};
 ghost use Rattle.trace_clock.specs.LastWord.{nibble_at};
 
-use crate::opcode::opcode;
 use arrayvec::ArrayVec;
 use stp_grammar::packet::{Order, Row, StpPacket};
 use trace_clock::word_nibbles;
@@ -110,7 +109,7 @@ impl Joiner {
         ensures count { count_in self.new out.new.items ≡
             count_in self.old out.old.items + length (line_of row).opcode + (line_of row).payload }
     {
-        self.put_all(opcode(row), out);
+        self.put_all(row.opcode(), out);
         self.put_number(order, row.payload_nibbles(), payload, out);
     }
 

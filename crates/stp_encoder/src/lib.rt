@@ -6,7 +6,6 @@ mod encoder;
 mod fit;
 mod joiner;
 pub mod laws;
-mod opcode;
 mod packet;
 pub mod rows;
 mod telling;

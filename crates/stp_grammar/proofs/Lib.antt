@@ -1,6 +1,8 @@
 pub mod Choices
 pub mod Digits
 pub mod EachRow
+pub mod Tables
+pub mod Lines
 pub mod Openings
 pub mod Walking
 pub mod Runs

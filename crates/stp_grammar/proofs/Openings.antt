@@ -216,10 +216,14 @@ third_is c = elim (third_cases c) [
 ]
 
 -- the row whose number `opcode_of` answers
-pub head_row : (n : ℕ) (o : Opening) → HeadWhole n ≡ head_of o → (n < 35) × (o ≡ Opened (row_at n))
+head_row : (n : ℕ) (o : Opening) → HeadWhole n ≡ head_of o → (n < 35) × (o ≡ Opened (row_at n))
 head_row n (Opened row) e = (let k : n ≡ (line_of row).number = cc in let w = numbered row in (omega (arith, k, w.0), ap Opened (sym w.1 ∙ ap row_at (sym k))))
 head_row n More e = cc
 head_row n Refused e = cc
+
+pub third_whole : (c n : ℕ) → HeadWhole n ≡ head_of (opening_of (15 ∷ (0 ∷ (c ∷ [])))) →
+    (n < 35) × (third_opening c ≡ Opened (row_at n))
+third_whole c n e = head_row n (third_opening c) (e ∙ ap head_of (third_is c))
 
 pub first_fault : (a : ℕ) → first_opening a ≡ Refused → opening_fault (opening_of (a ∷ [])) ≡ Unsupported
 first_fault a e = elim (first_cases a) [

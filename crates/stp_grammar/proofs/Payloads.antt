@@ -1,5 +1,5 @@
 -- The walk over a payload, and what follows it.
-use Rattle.std.proofs.Common.{◌≡◌, ℕ, ◌+◌, ◌<◌, List, [], ◌++◌, length, append-nil, false, cond, refl, sym, ◌∙◌, ap, subst, inl, inr, arith}
+use Rattle.std.proofs.Common.{◌≡◌, ℕ, ◌+◌, List, [], ◌++◌, length, append-nil, cond, refl, sym, ◌∙◌, ap, subst, inl, inr, arith}
 use Rattle.std.specs.Prelude.{◌==◌}
 use Rattle.trace_values.specs.declared.next.Next.TheVariants.{Go, End}
 use Rattle.trace_values.specs.Walk.{Walked, Whole, after, walk}
@@ -63,12 +63,4 @@ module _ (order : Order) where
         ∙ stage_whole order (line_of row).payload (Payload row) (after_payload row) (payload_same row) 0 0 p w (not_zero (line_of row).payload m) (omega arith)
         ∙ ap (λ (z : ℕ). after (after_payload row z) (λ t. from t w) w) (value_whole order p)
   ]
-
-  -- a whole payload of a packet without a timestamp
-  pub payload_walk : (row : Row) (d : List ℕ) → (line_of row).stamped ≡ false → 0 < (line_of row).payload → length d ≡ (line_of row).payload → from (Payload row 0 0) d ≡ Whole (Plain row (number order d))
-  payload_walk row d m h l =
-      ap (from (Payload row 0 0)) (sym (append-nil d))
-      ∙ stage_whole order (line_of row).payload (Payload row) (after_payload row) (payload_same row) 0 0 d [] h (omega arith)
-      ∙ says order (after_payload row (value_from order 0 0 d)) (End (Plain row (value_from order 0 0 d))) [] (rw m refl)
-      ∙ ap (λ (z : ℕ). Whole (Plain row z)) (value_whole order d)
   -- an opcode walks to its row

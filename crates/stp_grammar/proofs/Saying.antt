@@ -1,5 +1,5 @@
 -- What a packet of a row says.
-use Rattle.std.proofs.Common.{◌≡◌, ℕ, ◌^◌, ◌<◌, List, Bool, true, false, cond, refl, ◌∙◌, ap}
+use Rattle.std.proofs.Common.{◌≡◌, ℕ, List, Bool, true, false, cond, refl, ◌∙◌, ap}
 use Rattle.stp_grammar.specs.declared.packet.Row.{Row}
 use Rattle.stp_grammar.specs.declared.packet.StpPacket.{StpPacket}
 use Rattle.stp_grammar.specs.declared.packet.StpPacket.TheVariants.{Plain, Stamped}
@@ -8,8 +8,8 @@ use Rattle.stp_grammar.specs.declared.item.Stamp.{Stamp}
 use Rattle.stp_grammar.specs.declared.item.Stamp.TheVariants.{None as NoStamp}
 use Rattle.stp_grammar.specs.declared.attribution.Attribution.{Attribution}
 use Rattle.std.specs.Option.{ForSome}
-use Rattle.stp_grammar.specs.Opcodes.{line_of, row_at}
-use Rattle.stp_grammar.specs.Proper.{IsProper, IsProperItem}
+use Rattle.stp_grammar.specs.Opcodes.{row_at}
+use Rattle.stp_grammar.specs.Proper.{IsProperItem}
 use Rattle.stp_grammar.specs.Attribution.{item_with, item_of, place_of, stamp_of, stamp_by}
 use Rattle.stp_grammar.specs.Attributed.{Stands, kept_place}
 use Rattle.stp_grammar.specs.declared.said.Said.{Said}
@@ -21,10 +21,6 @@ module _ (row : Row) (v size word : ℕ) where
   -- its packet, with a timestamp or without
   abbrev pub packet_by : Bool → StpPacket
   packet_by stamped = cond stamped (Stamped row v size word) (Plain row v)
-
-  pub payload_of : (stamped : Bool) → IsProper (packet_by stamped) → v < 16 ^ (line_of row).payload
-  payload_of true h = h.0
-  payload_of false h = h
 
   pub plain_of : (stamped : Bool) → stamped ≡ false → packet_by stamped ≡ Plain row v
   plain_of stamped e = ap packet_by e

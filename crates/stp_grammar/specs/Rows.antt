@@ -1,5 +1,5 @@
 -- Worked rows of the grammar and of attribution, in text.
-use Rattle.std.specs.Prelude.{ℕ, ◌+◌, List, [], ◌∷◌, length, map, Bool, Option, None, Some, option_map}
+use Rattle.std.specs.Prelude.{ℕ, List, [], ◌∷◌, length, map, Bool, Option, None, Some, option_map}
 use Rattle.trace_values.specs.Hex.{digit, hex}
 use Rattle.trace_values.specs.declared.fault.Reason.{Reason}
 use Rattle.trace_values.specs.Placed.{Place, placed}

@@ -9,9 +9,9 @@ ghost use Rattle.stp_grammar.specs.Proper.{IsProperStamp, IsProperItem};
 ghost use Rattle.stp_grammar.specs.Attribution.{item_with};
 
 use crate::item::{Place, Stamp, StpItem};
-use crate::opcode::row_at;
+use crate::opcode::{row_at, stamped_at};
 use crate::packet::{Row, StpPacket};
-use crate::said::{Said, is_stamped_at, tells_at};
+use crate::said::{Said, tells_at};
 use trace_clock::{from_gray, word_after};
 
 /// What is kept of the packets so far: the version of the protocol, and the master and the channel in force, as far as
@@ -247,7 +247,7 @@ impl Attribution {
             then stamp_by self.new.version self.new.last size word else NoStamp) }
         ensures fits { IsProperStamp result }
     {
-        if is_stamped_at(number) {
+        if stamped_at(number) {
             self.stamp(row_at(number), payload, size, word)
         } else {
             self.note_at(number, payload);

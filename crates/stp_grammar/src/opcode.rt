@@ -9,60 +9,155 @@ ghost use Rattle.stp_grammar.specs.Opcodes.{line_of, row_at, head_of, opening_of
 
 use crate::packet::{Row, Width};
 
-#[inline]
-fn datum(width: Width, marked: bool, stamped: bool) -> Row
-    ensures { result ≡ Datum width marked stamped }
-{
-    Row::Datum {
-        width,
-        marked,
-        stamped,
-    }
+macro_rules! datum {
+    ($width:ident, $marked:literal, $stamped:literal) => {
+        Row::Datum {
+            width: Width::$width,
+            marked: $marked,
+            stamped: $stamped,
+        }
+    };
 }
 
+/// The table, with the standard's names beside it: what `of!` takes from each line, in their order. A line is a row, the
+/// nibbles of its opcode, how many its payload has, and whether a timestamp follows.
+macro_rules! each_line {
+    ($of:ident) => {
+        &[
+            $of!(Row::Null, [0x0], 0, false), // NULL
+            $of!(Row::Master8, [0x1], 2, false), // M8
+            $of!(Row::MasterError, [0x2], 2, false), // MERR
+            $of!(Row::Channel8, [0x3], 2, false), // C8
+            $of!(datum!(Eight, false, false), [0x4], 2, false), // D8
+            $of!(datum!(Sixteen, false, false), [0x5], 4, false), // D16
+            $of!(datum!(ThirtyTwo, false, false), [0x6], 8, false), // D32
+            $of!(datum!(SixtyFour, false, false), [0x7], 16, false), // D64
+            $of!(datum!(Eight, true, true), [0x8], 2, true), // D8MTS
+            $of!(datum!(Sixteen, true, true), [0x9], 4, true), // D16MTS
+            $of!(datum!(ThirtyTwo, true, true), [0xA], 8, true), // D32MTS
+            $of!(datum!(SixtyFour, true, true), [0xB], 16, true), // D64MTS
+            $of!(datum!(Four, false, false), [0xC], 1, false), // D4
+            $of!(datum!(Four, true, true), [0xD], 1, true), // D4MTS
+            $of!(Row::Flag { stamped: true }, [0xE], 0, true), // FLAG_TS
+            $of!(Row::Master16, [0xF, 0x1], 4, false), // M16
+            $of!(Row::GlobalError, [0xF, 0x2], 2, false), // GERR
+            $of!(Row::Channel16, [0xF, 0x3], 4, false), // C16
+            $of!(datum!(Eight, false, true), [0xF, 0x4], 2, true), // D8TS
+            $of!(datum!(Sixteen, false, true), [0xF, 0x5], 4, true), // D16TS
+            $of!(datum!(ThirtyTwo, false, true), [0xF, 0x6], 8, true), // D32TS
+            $of!(datum!(SixtyFour, false, true), [0xF, 0x7], 16, true), // D64TS
+            $of!(datum!(Eight, true, false), [0xF, 0x8], 2, false), // D8M
+            $of!(datum!(Sixteen, true, false), [0xF, 0x9], 4, false), // D16M
+            $of!(datum!(ThirtyTwo, true, false), [0xF, 0xA], 8, false), // D32M
+            $of!(datum!(SixtyFour, true, false), [0xF, 0xB], 16, false), // D64M
+            $of!(datum!(Four, false, true), [0xF, 0xC], 1, true), // D4TS
+            $of!(datum!(Four, true, false), [0xF, 0xD], 1, false), // D4M
+            $of!(Row::Flag { stamped: false }, [0xF, 0xE], 0, false), // FLAG
+            $of!(Row::Version, [0xF, 0x0, 0x0], 1, false), // VERSION
+            $of!(Row::NullStamp, [0xF, 0x0, 0x1], 0, true), // NULL_TS
+            $of!(Row::Trigger { stamped: false }, [0xF, 0x0, 0x6], 2, false), // TRIG
+            $of!(Row::Trigger { stamped: true }, [0xF, 0x0, 0x7], 2, true), // TRIG_TS
+            $of!(Row::Frequency { stamped: false }, [0xF, 0x0, 0x8], 8, false), // FREQ
+            $of!(Row::Frequency { stamped: true }, [0xF, 0x0, 0x9], 8, true), // FREQ_TS
+        ]
+    };
+}
+
+macro_rules! row {
+    ($row:expr, $opcode:tt, $payload:literal, $stamped:literal) => {
+        $row
+    };
+}
+
+macro_rules! opcode {
+    ($row:expr, [$first:literal], $payload:literal, $stamped:literal) => {
+        [$first, 0, 0]
+    };
+    ($row:expr, [$first:literal, $second:literal], $payload:literal, $stamped:literal) => {
+        [$first, $second, 0]
+    };
+    ($row:expr, $opcode:expr, $payload:literal, $stamped:literal) => {
+        $opcode
+    };
+}
+
+macro_rules! nibbles {
+    ($row:expr, [$first:literal], $payload:literal, $stamped:literal) => {
+        1
+    };
+    ($row:expr, [$first:literal, $second:literal], $payload:literal, $stamped:literal) => {
+        2
+    };
+    ($row:expr, $opcode:expr, $payload:literal, $stamped:literal) => {
+        3
+    };
+}
+
+macro_rules! payload {
+    ($row:expr, $opcode:tt, $payload:literal, $stamped:literal) => {
+        $payload
+    };
+}
+
+macro_rules! stamped {
+    ($row:expr, $opcode:tt, $payload:literal, $stamped:literal) => {
+        $stamped
+    };
+}
+
+/// The table's columns: the rows, by their numbers.
+const ROWS: &[Row] = each_line!(row);
+
+/// The nibbles of the opcodes, with zeros after them, and how many they are.
+const OPCODES: &[[u8; 3]] = each_line!(opcode);
+
+const NIBBLES: &[u8] = each_line!(nibbles);
+
+/// How many nibbles the payloads have, and whether a timestamp follows.
+const PAYLOADS: &[u8] = each_line!(payload);
+
+const STAMPS: &[bool] = each_line!(stamped);
+
 /// The row of this number, 0 to 34.
-#[inline]
+#[inline(always)]
 pub fn row_at(number: u8) -> Row
     requires { number < 35 }
     ensures { result ≡ row_at number }
 {
-    match number {
-        0 => Row::Null,
-        1 => Row::Master8,
-        2 => Row::MasterError,
-        3 => Row::Channel8,
-        4 => datum(Width::Eight, false, false),
-        5 => datum(Width::Sixteen, false, false),
-        6 => datum(Width::ThirtyTwo, false, false),
-        7 => datum(Width::SixtyFour, false, false),
-        8 => datum(Width::Eight, true, true),
-        9 => datum(Width::Sixteen, true, true),
-        10 => datum(Width::ThirtyTwo, true, true),
-        11 => datum(Width::SixtyFour, true, true),
-        12 => datum(Width::Four, false, false),
-        13 => datum(Width::Four, true, true),
-        14 => Row::Flag { stamped: true },
-        15 => Row::Master16,
-        16 => Row::GlobalError,
-        17 => Row::Channel16,
-        18 => datum(Width::Eight, false, true),
-        19 => datum(Width::Sixteen, false, true),
-        20 => datum(Width::ThirtyTwo, false, true),
-        21 => datum(Width::SixtyFour, false, true),
-        22 => datum(Width::Eight, true, false),
-        23 => datum(Width::Sixteen, true, false),
-        24 => datum(Width::ThirtyTwo, true, false),
-        25 => datum(Width::SixtyFour, true, false),
-        26 => datum(Width::Four, false, true),
-        27 => datum(Width::Four, true, false),
-        28 => Row::Flag { stamped: false },
-        29 => Row::Version,
-        30 => Row::NullStamp,
-        31 => Row::Trigger { stamped: false },
-        32 => Row::Trigger { stamped: true },
-        33 => Row::Frequency { stamped: false },
-        _ => Row::Frequency { stamped: true },
-    }
+    let rows = ROWS;
+    rows[number as usize]
+}
+
+/// How many nibbles the payload of the row of this number has.
+#[inline(always)]
+pub fn payload_at(number: u8) -> u8
+    requires { number < 35 }
+    ensures count { result ≡ (line_of (row_at number)).payload }
+    ensures few { result ≤ 16 }
+{
+    let payloads = PAYLOADS;
+    payloads[number as usize]
+}
+
+/// Whether a timestamp follows the payload of the row of this number.
+#[inline(always)]
+pub fn stamped_at(number: u8) -> bool
+    requires { number < 35 }
+    ensures { result ≡ (line_of (row_at number)).stamped }
+{
+    let stamps = STAMPS;
+    stamps[number as usize]
+}
+
+/// How many nibbles the opcode of the row of this number has.
+#[inline(always)]
+fn nibbles_at(number: u8) -> u8
+    requires { number < 35 }
+    ensures count { result ≡ length (line_of (row_at number)).opcode }
+    ensures few { result ≤ 3 }
+{
+    let nibbles = NIBBLES;
+    nibbles[number as usize]
 }
 
 /// What the first nibbles of a packet begin.
@@ -134,24 +229,80 @@ pub fn opcode_of(first: u8, second: Option<u8>, third: Option<u8>) -> Head
     }
 }
 
+/// The number of the row of a datum.
+fn datum_number(width: Width, marked: bool, stamped: bool) -> u8
+    ensures number { result ≡ (line_of (Datum width marked stamped)).number }
+    ensures few { result < 35 }
+{
+    match (width, marked, stamped) {
+        (Width::Four, false, false) => 12,
+        (Width::Four, false, true) => 26,
+        (Width::Four, true, false) => 27,
+        (Width::Four, true, true) => 13,
+        (Width::Eight, false, false) => 4,
+        (Width::Eight, false, true) => 18,
+        (Width::Eight, true, false) => 22,
+        (Width::Eight, true, true) => 8,
+        (Width::Sixteen, false, false) => 5,
+        (Width::Sixteen, false, true) => 19,
+        (Width::Sixteen, true, false) => 23,
+        (Width::Sixteen, true, true) => 9,
+        (Width::ThirtyTwo, false, false) => 6,
+        (Width::ThirtyTwo, false, true) => 20,
+        (Width::ThirtyTwo, true, false) => 24,
+        (Width::ThirtyTwo, true, true) => 10,
+        (Width::SixtyFour, false, false) => 7,
+        (Width::SixtyFour, false, true) => 21,
+        (Width::SixtyFour, true, false) => 25,
+        (Width::SixtyFour, true, true) => 11,
+    }
+}
+
 impl Row {
+    /// The number of the row.
+    #[inline]
+    fn number(self) -> u8
+        ensures number { result ≡ (line_of self).number }
+        ensures few { result < 35 }
+    {
+        match self {
+            Row::Null => 0,
+            Row::Master8 => 1,
+            Row::MasterError => 2,
+            Row::Channel8 => 3,
+            Row::Datum {
+                width,
+                marked,
+                stamped,
+            } => datum_number(width, marked, stamped),
+            Row::Flag { stamped } => if stamped { 14 } else { 28 },
+            Row::Master16 => 15,
+            Row::GlobalError => 16,
+            Row::Channel16 => 17,
+            Row::Version => 29,
+            Row::NullStamp => 30,
+            Row::Trigger { stamped } => 31 + stamped as u8,
+            Row::Frequency { stamped } => 33 + stamped as u8,
+        }
+    }
+
+    /// The nibbles of the opcode.
+    #[inline]
+    pub fn opcode(self) -> &'static [u8]
+        ensures { result.now ≡ (line_of self).opcode }
+    {
+        let opcodes = OPCODES;
+        let index = self.number();
+        &opcodes[index as usize][..nibbles_at(index) as usize]
+    }
+
     /// How many nibbles the opcode has.
     #[inline]
     pub fn opcode_nibbles(self) -> u8
         ensures count { result ≡ length (line_of self).opcode }
         ensures few { result ≤ 3 }
     {
-        match self {
-            Row::Null | Row::Master8 | Row::MasterError | Row::Channel8 => 1,
-            Row::Datum {
-                marked,
-                stamped,
-                ..
-            } => if marked == stamped { 1 } else { 2 },
-            Row::Flag { stamped: true } => 1,
-            Row::Flag { stamped: false } | Row::Master16 | Row::GlobalError | Row::Channel16 => 2,
-            Row::Version | Row::NullStamp | Row::Trigger { .. } | Row::Frequency { .. } => 3,
-        }
+        nibbles_at(self.number())
     }
 
     /// How many nibbles the payload has.
@@ -160,24 +311,7 @@ impl Row {
         ensures count { result ≡ (line_of self).payload }
         ensures few { result ≤ 16 }
     {
-        match self {
-            Row::Null | Row::Flag { .. } | Row::NullStamp => 0,
-            Row::Version => 1,
-            Row::Master8
-            | Row::MasterError
-            | Row::Channel8
-            | Row::GlobalError
-            | Row::Trigger { .. } => 2,
-            Row::Master16 | Row::Channel16 => 4,
-            Row::Frequency { .. } => 8,
-            Row::Datum { width, .. } => match width {
-                Width::Four => 1,
-                Width::Eight => 2,
-                Width::Sixteen => 4,
-                Width::ThirtyTwo => 8,
-                Width::SixtyFour => 16,
-            },
-        }
+        payload_at(self.number())
     }
 
     /// A timestamp follows the payload.
@@ -185,20 +319,6 @@ impl Row {
     pub fn is_stamped(self) -> bool
         ensures { result ≡ (line_of self).stamped }
     {
-        match self {
-            Row::Null
-            | Row::Master8
-            | Row::MasterError
-            | Row::Channel8
-            | Row::Master16
-            | Row::GlobalError
-            | Row::Channel16
-            | Row::Version => false,
-            Row::NullStamp => true,
-            Row::Datum { stamped, .. }
-            | Row::Flag { stamped }
-            | Row::Trigger { stamped }
-            | Row::Frequency { stamped } => stamped,
-        }
+        stamped_at(self.number())
     }
 }

@@ -2,7 +2,7 @@
 
 ghost use Rattle.std.specs.Prelude.{◌≡◌, ◌<◌, ◌/◌, ◌%◌, ◌^◌, ◌==◌};
 ghost use Rattle.std.specs.Option.{ForSome, is_some};
-ghost use Rattle.stp_grammar.specs.Opcodes.{line_of, row_at};
+ghost use Rattle.stp_grammar.specs.Opcodes.{row_at};
 ghost use Rattle.stp_grammar.specs.Proper.{IsProperItem};
 ghost use Rattle.stp_grammar.specs.Said.{said_item, tells, IsProperSaid};
 
@@ -30,9 +30,6 @@ const SILENT: u64 = 0b10_1000_0000_0000_1011;
 /// The rows whose packets tell what is kept, and no time: M8, C8, M16, C16 and VERSION.
 const TELLING: u64 = 0b10_0000_0000_0010_1000_0000_0000_1010;
 
-/// The rows whose packets have a timestamp.
-const STAMPED: u64 = 0b101_0100_0100_0011_1100_0110_1111_0000_0000;
-
 /// The bit of this number.
 #[inline(always)]
 fn bit_of(bits: u64, number: u8) -> bool
@@ -40,15 +37,6 @@ fn bit_of(bits: u64, number: u8) -> bool
     ensures { result ≡ (bits / 2 ^ number % 2 == 1) }
 {
     (bits >> number) % 2 == 1
-}
-
-/// The packets of the row of this number have a timestamp.
-#[inline(always)]
-pub(crate) fn is_stamped_at(number: u8) -> bool
-    requires { number < 35 }
-    ensures { result ≡ (line_of (row_at number)).stamped }
-{
-    bit_of(STAMPED, number)
 }
 
 /// The packets of the row of this number tell a master, a channel or a version.
