@@ -25,7 +25,7 @@ use Rattle.deformatter.specs.declared.step.PortStep.TheVariants.{Quiet, Half as 
 use Rattle.deformatter.specs.declared.step.PortStep.TheVariants.{Frame as FrameEnds, Locked, Fault as Faulty}
 use Rattle.deformatter.specs.Modes.{is_bare, hunts}
 use Rattle.deformatter.specs.PortReading.{item_frames, frames_of_items, framed, bare_cell, bare, port_reading}
-use Rattle.deformatter.specs.ReadingGrowth.{frames_by, CellsFit, Reads, HuntBy, Grows, Answers, IsInside, FedFrame}
+use Rattle.deformatter.specs.ReadingGrowth.{frames_by, CellsFit, Grows, Answers, IsInside, FedFrame}
 use Rattle.deformatter.specs.ReadingGrowth.{GrowsByFrame}
 use Rattle.deformatter.specs.Reader.{StandsByMode}
 use Rattle.deformatter.proofs.PortReadingLaws.{frames_of_items-append}
@@ -77,17 +77,6 @@ module _ (a b : PortStream) (at : ℕ) (cells : List Cell) (given : cells_in b �
   gained (Locked skipped) e = record { frames = frames_push a b Full (place_at at) e; fit = cells_are Full e }
   gained (Faulty f) e = record { frames = same_frames e; fit = no_cells e }
 
-reads : (a b : PortStream) → port.Reads a b → Reads (framed a) (framed b)
-reads a b r = record { before = r.before; after = r.after; skipped = r.skipped }
-
-hunt_by : (a b : PortStream) (at : ℕ) (step : PortStep) → port.HuntBy a b at step → HuntBy (framed a) (framed b) at step
-hunt_by a b at Quiet h = h
-hunt_by a b at HalfEnds h = reads a b h
-hunt_by a b at FullEnds h = reads a b h
-hunt_by a b at FrameEnds h = reads a b h
-hunt_by a b at (Locked skipped) h = h
-hunt_by a b at (Faulty f) h = (h.0, h.1, reads a b h.2)
-
 -- as a deformatter's reading grows, so do the frames
 pub framed_grows : (a b : PortStream) (at : ℕ) (step : PortStep) (cells : List Cell) → PortGrows a b at step → cells_in b ≡ cells_in a ++ cells →
     Grows (framed a) (framed b) at step cells
@@ -99,7 +88,7 @@ framed_grows a b at step cells g given =
       fulls = g.fulls;
       halves = g.halves;
       fault = g.fault;
-      hunt = hunt_by a b at step g.hunt;
+      hunt = g.hunt;
     }
 
 -- a mode with a formatter
@@ -141,7 +130,7 @@ framed_frame a b w f inner id g = record {
   fulls = g.fulls;
   halves = g.halves;
   fault = g.fault;
-  hunt = reads a b g.hunt;
+  hunt = g.hunt;
 }
 
 pub reading_frame : (mode : FramesMode) → is_bare mode ≡ false → (h : Bool) → h ≡ hunts mode → (u w f : List Placed) (inner : ℕ) (id : Option ℕ) →

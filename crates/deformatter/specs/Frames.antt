@@ -5,7 +5,7 @@ use Rattle.frame_grammar.specs.Frame.{cells}
 use Rattle.frame_grammar.specs.Port.{Frame, start}
 use Rattle.frame_grammar.specs.Reading.{offsets_of}
 use Rattle.deformatter.specs.Reading.{PortStream, cells_in, fulls_of, frames_of}
-use Rattle.deformatter.specs.Growth.{Reads}
+use Rattle.deformatter.specs.Growth.{Reads, hunting}
 use Rattle.deformatter.specs.Deformatter.{has_locked, state_of}
 use Rattle.deformatter.specs.declared.deformatter.Deformatter.{Deformatter}
 
@@ -28,4 +28,4 @@ pub record GrowsByFrame (old new : PortStream) (w f : List Placed) (inner : ℕ)
   pub fulls : fulls_of new ≡ fulls_of old
   pub frames : frames_of new ≡ frames_of old + 1
   pub fault : new.fault ≡ None
-  pub hunt : Reads old new
+  pub hunt : Reads (hunting old) (hunting new)

@@ -49,15 +49,23 @@ abbrev pub goes_on : PortStep → Bool
 goes_on (Faulty f) = false
 goes_on step = true
 
+-- where a reading is in its hunt: whether it reads, and how many bytes it skipped
+pub record Hunting : Type 0 where
+  pub locked : Bool
+  pub skipped : ℕ
+
+abbrev pub hunting : PortStream → Hunting
+hunting s = record { locked = s.locked; skipped = s.skipped }
+
 -- it reads, and has skipped as much as before
-pub record Reads (old new : PortStream) : Type 0 where
+pub record Reads (old new : Hunting) : Type 0 where
   pub before : old.locked ≡ true
   pub after : new.locked ≡ true
   pub skipped : new.skipped ≡ old.skipped
 
 -- What a step says of the hunt: before the lock each byte is skipped, and at the lock the pattern's own three are no
 -- longer.
-abbrev pub HuntBy : PortStream → PortStream → ℕ → PortStep → Type 0
+abbrev pub HuntBy : Hunting → Hunting → ℕ → PortStep → Type 0
 HuntBy old new at Quiet =
     (new.locked ≡ old.locked) × (new.skipped ≡ (if old.locked then old.skipped else (old.skipped + 1)))
 HuntBy old new at (Locked skipped) =
@@ -72,7 +80,7 @@ pub record PortGrows (old new : PortStream) (at : ℕ) (step : PortStep) : Type 
   pub fulls : fulls_of new ≡ fulls_of old + fulls_by step
   pub frames : frames_of new ≡ frames_of old + frames_by step
   pub fault : new.fault ≡ fault_by step
-  pub hunt : HuntBy old new at step
+  pub hunt : HuntBy (hunting old) (hunting new) at step
 
 -- after a fault nothing is read
 pub record PortSettled (old new : PortStream) : Type 0 where

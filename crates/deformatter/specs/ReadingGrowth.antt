@@ -1,11 +1,11 @@
 -- How the reading of a port's bytes grows with one more byte, and what a step says of it.
-use Rattle.std.specs.Prelude.{◌≡◌, ◌⊎◌, ℕ, ◌+◌, ◌≤◌, List, [], ◌∷◌, ◌++◌, true, false, if◌then◌else◌, None}
+use Rattle.std.specs.Prelude.{◌≡◌, ◌⊎◌, ℕ, ◌+◌, ◌≤◌, List, [], ◌∷◌, ◌++◌, None}
 use Rattle.trace_values.specs.declared.cell.Cell.{Cell}
 use Rattle.trace_values.specs.Stream.{FaultAt}
 use Rattle.deformatter.specs.declared.step.PortStep.{PortStep}
-use Rattle.deformatter.specs.declared.step.PortStep.TheVariants.{Quiet, Half, Frame, Locked, Fault as Faulty}
+use Rattle.deformatter.specs.declared.step.PortStep.TheVariants.{Quiet, Half, Frame}
 use Rattle.deformatter.specs.Block.{FedAs}
-use Rattle.deformatter.specs.Growth.{fulls_by, halves_by, fault_by}
+use Rattle.deformatter.specs.Growth.{Hunting, Reads, HuntBy, fulls_by, halves_by, fault_by}
 use Rattle.trace_values.specs.declared.reading_modes.FramesMode.{FramesMode}
 use Rattle.trace_values.specs.Placed.{Placed, byte_at}
 use Rattle.deformatter.specs.PortReading.{PortReading, port_reading}
@@ -20,21 +20,9 @@ abbrev pub CellsFit : PortStep → List Cell → Type 0
 CellsFit Frame cells = Unit {0}
 CellsFit step cells = cells ≡ []
 
--- it reads, and has skipped as much as before
-pub record Reads (old new : PortReading) : Type 0 where
-  pub before : old.locked ≡ true
-  pub after : new.locked ≡ true
-  pub skipped : new.skipped ≡ old.skipped
-
--- What a step says of the hunt: before the lock each byte is skipped, and at the lock the pattern's own three are no
--- longer.
-abbrev pub HuntBy : PortReading → PortReading → ℕ → PortStep → Type 0
-HuntBy old new at Quiet =
-    (new.locked ≡ old.locked) × (new.skipped ≡ (if old.locked then old.skipped else (old.skipped + 1)))
-HuntBy old new at (Locked skipped) =
-    (old.locked ≡ false) × (new.locked ≡ true) × (new.skipped ≡ skipped) × (old.skipped ≡ skipped + 3)
-HuntBy old new at (Faulty f) = (f.at ≡ at) × (f.half ≡ 0) × Reads old new
-HuntBy old new at step = Reads old new
+-- where a reading is in its hunt
+abbrev pub hunting : PortReading → Hunting
+hunting r = record { locked = r.locked; skipped = r.skipped }
 
 -- With one more byte, at this offset, the reading grew from old to new, and the step says by what: by these cells where
 -- it ends a frame.
@@ -44,7 +32,7 @@ pub record Grows (old new : PortReading) (at : ℕ) (step : PortStep) (cells : L
   pub fulls : new.fulls ≡ old.fulls + fulls_by step
   pub halves : new.halves ≡ old.halves + halves_by step
   pub fault : new.fault ≡ fault_by step
-  pub hunt : HuntBy old new at step
+  pub hunt : HuntBy (hunting old) (hunting new) at step
 
 -- the answer to this byte, which follows u at this offset, is this step with these cells
 abbrev pub Answers : FramesMode → PortStep → List Cell → List Placed → ℕ → ℕ → Type 0
@@ -67,7 +55,7 @@ pub record GrowsByFrame (old new : PortReading) (inner : ℕ) (cells : List Cell
   pub fulls : new.fulls ≡ old.fulls
   pub halves : new.halves ≡ old.halves + inner
   pub fault : new.fault ≡ None
-  pub hunt : Reads old new
+  pub hunt : Reads (hunting old) (hunting new)
 
 -- after a fault nothing is read
 pub record Settled (old new : PortReading) : Type 0 where

@@ -9,7 +9,7 @@ use Rattle.trace_values.specs.declared.reading_modes.FramesMode.TheVariants.{Hun
 use Rattle.frame_grammar.specs.Port.{PortItem, Full, Spells, why, start, rule}
 use Rattle.frame_grammar.specs.Reading.{port_reading as grammar_reading}
 use Rattle.frame_grammar.proofs.Deciding.{port_decided}
-use Rattle.deformatter.specs.Growth.{place_at, AllEndAt}
+use Rattle.deformatter.specs.Growth.{HuntBy, place_at, AllEndAt}
 use Rattle.deformatter.specs.Reading.{PortStream, port_stream}
 use Rattle.deformatter.specs.declared.step.PortStep.{PortStep}
 use Rattle.deformatter.specs.declared.step.PortStep.TheVariants.{Quiet, Half, Full as FullEnds, Frame}
@@ -17,7 +17,7 @@ use Rattle.deformatter.specs.declared.step.PortStep.TheVariants.{Locked as PortL
 use Rattle.deformatter.proofs.Readings.{hunt_is}
 use Rattle.deformatter.proofs.ReadingLaws.{rises}
 use Rattle.deformatter.specs.ByGrammar.{full_sync}
-use Rattle.deformatter.specs.ReadingGrowth.{HuntBy}
+use Rattle.deformatter.specs.ReadingGrowth.{hunting}
 use Rattle.deformatter.specs.PortReading.{PortReading, port_reading}
 use Rattle.source_events.specs.declared.event.What.{What}
 use Rattle.source_events.specs.Report.{lock_at, port_events, notice_by}
@@ -97,7 +97,7 @@ module _ {V : Type 0} where
 
     -- what the port gives grows by what its step says
     pub port_grows : (mode : FramesMode) (step : PortStep) →
-        HuntBy (port_reading mode u) (port_reading mode (one_more u at byte)) at step →
+        HuntBy (hunting (port_reading mode u)) (hunting (port_reading mode (one_more u at byte))) at step →
         port_events {V = V} mode (one_more u at byte) ≡ port_events mode u ++ notice_by at step
     port_grows Hunt Quiet h =
         by_lock (port_stream true u).locked refl h.0 h.1

@@ -3,8 +3,8 @@ use Rattle.trace_values.specs.declared.cell.Cell.{Cell}
 use Rattle.trace_values.specs.Placed.{byte_at}
 use Rattle.deformatter.specs.declared.step.PortStep.{PortStep}
 use Rattle.deformatter.specs.declared.step.PortStep.TheVariants.{Frame, Locked, Fault}
-use Rattle.deformatter.specs.Growth.{fault_by}
-use Rattle.deformatter.specs.ReadingGrowth.{HuntBy, frames_by}
+use Rattle.deformatter.specs.Growth.{HuntBy, fault_by}
+use Rattle.deformatter.specs.ReadingGrowth.{frames_by, hunting}
 use Rattle.deformatter.specs.PortReading.{port_reading}
 use Rattle.source_events.specs.declared.event.What.{What}
 use Rattle.source_events.specs.declared.packet.Packet.{Packet}
@@ -43,7 +43,7 @@ returns-in-Frame-clause-taken g c =
           let good = sound reading_of Stands is_live has_locked held_of skipped_by laws.shows laws.begins laws.settles laws.rises slots (runs_in r) c.requires.live a in
           let frames = step.frames ∙ ap (λ (x : PortStep). r.frames ++ frames_by x cells) c.in-Frame.is in
           let notice = port_grows {V = Packet} u at byte mode Frame
-          (subst (λ (x : PortStep). HuntBy r (port_reading mode (u ++ byte_at at byte ∷ [])) at x) c.in-Frame.is step.hunt)
+          (subst (λ (x : PortStep). HuntBy (hunting r) (hunting (port_reading mode (u ++ byte_at at byte ∷ []))) at x) c.in-Frame.is step.hunt)
           ∙ append-nil (port_events mode u) in
           let places = after Stands ss law mode u at byte rise e good cells frames notice in
           taken_frame Stands ss law mode u at byte rise e good cells frames (step.fault ∙ ap fault_by c.in-Frame.is) notice places
@@ -76,8 +76,8 @@ returns-in-Locked-clause-taken g c = (
       let law = lawful reading_of Stands is_live has_locked held_of skipped_by laws.shows laws.begins laws.settles laws.rises slots in
       let good = sound reading_of Stands is_live has_locked held_of skipped_by laws.shows laws.begins laws.settles laws.rises slots (runs_in r) c.requires.live a in
       let next = port_reading mode (u ++ byte_at at byte ∷ []) in
-      let hunt : HuntBy r next at (Locked c.in-Locked.skipped) =
-      subst (λ (x : PortStep). HuntBy r next at x) c.in-Locked.is step.hunt in
+      let hunt : HuntBy (hunting r) (hunting next) at (Locked c.in-Locked.skipped) =
+      subst (λ (x : PortStep). HuntBy (hunting r) (hunting next) at x) c.in-Locked.is step.hunt in
       taken_lock Stands ss law mode u at byte rise e good slots c.in-Locked.skipped (told None (notice_by at (Locked c.in-Locked.skipped))) refl
       hunt.0 (step.frames ∙ ap (λ (x : PortStep). r.frames ++ frames_by x cells) c.in-Locked.is)
       (step.fault ∙ ap fault_by c.in-Locked.is) (port_grows {V = Packet} u at byte mode (Locked c.in-Locked.skipped) hunt) a,
@@ -96,7 +96,7 @@ returns-in-Fault-clause-taken g c = (
       let law = lawful reading_of Stands is_live has_locked held_of skipped_by laws.shows laws.begins laws.settles laws.rises slots in
       let good = sound reading_of Stands is_live has_locked held_of skipped_by laws.shows laws.begins laws.settles laws.rises slots (runs_in r) c.requires.live a in
       let next = port_reading mode (u ++ byte_at at byte ∷ []) in
-      let hunt : HuntBy r next at (Fault c.in-Fault.fault) = subst (λ (x : PortStep). HuntBy r next at x) c.in-Fault.is step.hunt in
+      let hunt : HuntBy (hunting r) (hunting next) at (Fault c.in-Fault.fault) = subst (λ (x : PortStep). HuntBy (hunting r) (hunting next) at x) c.in-Fault.is step.hunt in
       taken_fault Stands ss law mode u at byte rise e good slots c.in-Fault.fault [] refl
       hunt.0 (step.frames ∙ ap (λ (x : PortStep). r.frames ++ frames_by x cells) c.in-Fault.is)
       (step.fault ∙ ap fault_by c.in-Fault.is) (port_grows {V = Packet} u at byte mode (Fault c.in-Fault.fault) hunt),
