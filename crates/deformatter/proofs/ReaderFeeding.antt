@@ -116,9 +116,9 @@ reading_grows Aligned e h m u v at step cells g k = framed_grows (port_stream fa
     (subst (λ (b : Bool). cells_in (port_stream b v) ≡ cells_in (port_stream b u) ++ cells) m k)
 reading_grows Bare e h m u v at step cells g k = absurd (let k : true ≡ false = e in cc)
 
-pub few_more : (b : Bool) (x y z w : ℕ) → b ≡ false → x + y ≤ z + w + 1 → cond b 0 x + cond b 0 y ≤ cond b 0 z + cond b 0 w + 1
-few_more true x y z w e h = absurd (let k : true ≡ false = e in cc)
-few_more false x y z w e h = h
+pub few_more : (b : Bool) (x y z w n : ℕ) → b ≡ false → x + y ≤ z + w + n → cond b 0 x + cond b 0 y ≤ cond b 0 z + cond b 0 w + n
+few_more true x y z w n e h = absurd (let k : true ≡ false = e in cc)
+few_more false x y z w n e h = h
 
 -- as a deformatter's reading grows by a frame, so do the frames
 framed_frame : (a b : PortStream) (w f : List Placed) (inner : ℕ) (id : Option ℕ) → port_frames.GrowsByFrame a b w f inner id →

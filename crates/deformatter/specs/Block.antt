@@ -1,10 +1,11 @@
 -- The bytes of a piece, fed one by one.
-use Rattle.std.specs.Prelude.{◌≡◌, ◌⊎◌, ℕ, ◌+◌, List, [], ◌∷◌, ◌++◌, length, Bool}
+use Rattle.std.specs.Prelude.{◌≡◌, ◌⊎◌, ℕ, ◌+◌, ◌<◌, ◌≤◌, List, [], ◌∷◌, ◌++◌, length, take, Bool}
 use Rattle.trace_values.specs.Placed.{Placed, byte_at, placed_from}
 use Rattle.trace_values.specs.declared.cell.Cell.{Cell}
-use Rattle.deformatter.specs.Deformatter.{Stands, is_hunter}
+use Rattle.deformatter.specs.Deformatter.{Stands, is_hunter, is_live, tail_of, skipped_by}
 use Rattle.deformatter.specs.Reading.{port_stream, cells_in}
-use Rattle.deformatter.specs.Growth.{PortGrows}
+use Rattle.deformatter.specs.Growth.{PortGrows, goes_on}
+use Rattle.deformatter.specs.declared.block.Taken.{Taken}
 use Rattle.deformatter.specs.declared.deformatter.Deformatter.{Deformatter}
 use Rattle.deformatter.specs.declared.step.PortStep.{PortStep}
 use Rattle.deformatter.specs.declared.step.PortStep.TheVariants.{Quiet, Half, Frame}
@@ -35,12 +36,41 @@ IsInside hunts u at byte = Answers hunts Quiet u at byte ⊎ Answers hunts Half 
 abbrev pub FedFrame : Bool → List Placed → ℕ → List ℕ → Type 0
 FedFrame hunts u at bytes = FedAs (IsInside hunts) (Answers hunts Frame) u at bytes
 
--- A deformatter took these bytes, which follow u from this offset on. It stands for u and them, its answers were quiet
--- but for the last, and the reading of the port gained the cells that were given.
-pub record TakesBlock
-    (old new : Deformatter) (u : List Placed) (at : ℕ) (bytes : List ℕ) (step : PortStep) (given : List Cell)
+-- bytes from this offset on, the answer to the last of them, and the cells that were given with it
+pub record Block : Type 0 where
+  pub at : ℕ
+  pub bytes : List ℕ
+  pub step : PortStep
+  pub given : List Cell
+
+-- A deformatter took the bytes of this block after u. It stands for u and them, its answers were quiet but for the
+-- last, and the reading of the port gained the cells that were given.
+pub record TakesBlock (old new : Deformatter) (u : List Placed) (block : Block) : Type 0 where
+  pub list : Stands new (u ++ placed_from block.at block.bytes)
+  pub fed : FedAs (Answers (is_hunter old) Quiet) (Answers (is_hunter old) block.step) u block.at block.bytes
+  pub cells : cells_in (port_stream (is_hunter old) (u ++ placed_from block.at block.bytes))
+      ≡ cells_in (port_stream (is_hunter old) u) ++ block.given
+
+-- It took so many bytes from the front of a piece: up to the first to which the answer is not quiet, or all.
+pub record TakesPiece (old new : Deformatter) (at : ℕ) (piece : List ℕ) (taken : Taken) (given : List Cell)
     : Type 0 where
-  pub list : Stands new (u ++ placed_from at bytes)
-  pub fed : FedAs (Answers (is_hunter old) Quiet) (Answers (is_hunter old) step) u at bytes
-  pub cells : cells_in (port_stream (is_hunter old) (u ++ placed_from at bytes))
+  pub same : is_hunter new ≡ is_hunter old
+  pub bytes : (0 < taken.bytes) × (taken.bytes ≤ length piece)
+  pub stops : taken.step ≡ Quiet → taken.bytes ≡ length piece
+  pub takes : (u : List Placed) → Stands old u → TakesBlock old new u
+      (record { at = at; bytes = take taken.bytes piece; step = taken.step; given = given })
+  pub live : is_live new ≡ goes_on taken.step
+  pub few : tail_of new + skipped_by new ≤ tail_of old + skipped_by old + taken.bytes
+
+-- It took one byte, which is at this offset. The cells of a frame are given with the byte that ends it.
+pub record TakesByte (old new : Deformatter) (at byte : ℕ) (answer : PortStep) (given : List Cell) : Type 0 where
+  pub same : is_hunter new ≡ is_hunter old
+  pub list : (u : List Placed) → Stands old u → Stands new (u ++ byte_at at byte ∷ [])
+  pub step : (u : List Placed) → Stands old u → Answers (is_hunter old) answer u at byte
+  pub cells : (u : List Placed) → Stands old u →
+      cells_in (port_stream (is_hunter old) (u ++ byte_at at byte ∷ []))
       ≡ cells_in (port_stream (is_hunter old) u) ++ given
+  pub live : is_live new ≡ goes_on answer
+  pub few : tail_of new + skipped_by new ≤ tail_of old + skipped_by old + 1
+  pub each : (tail_of new ≤ tail_of old + 1) × (skipped_by new ≤ skipped_by old + 1)
+  pub quiet : answer ≡ Quiet → given ≡ []

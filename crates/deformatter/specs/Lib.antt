@@ -11,6 +11,7 @@ pub mod Modes
 pub mod PortReading
 pub mod ReadingGrowth
 pub mod Reader
+pub mod Piece
 pub mod Runs
 pub mod ByGrammar
 pub mod Rows

@@ -5,9 +5,8 @@ ghost use Rattle.std.specs.Prelude.{slice_index};
 ghost use Rattle.std.specs.List.{range_with_len};
 ghost use Rattle.trace_values.specs.Placed.{Placed, placed_from};
 ghost use Rattle.frame_grammar.specs.Frame.{IsProperFrame};
-ghost use Rattle.deformatter.specs.declared.step.PortStep.TheVariants.{Quiet, Frame};
-ghost use Rattle.deformatter.specs.Growth.{goes_on};
-ghost use Rattle.deformatter.specs.Block.{TakesBlock};
+ghost use Rattle.deformatter.specs.declared.step.PortStep.TheVariants.{Frame};
+ghost use Rattle.deformatter.specs.Block.{TakesBlock, TakesPiece};
 ghost use Rattle.deformatter.specs.Frames.{IsBetween};
 ghost use Rattle.deformatter.specs.Deformatter.{Stands, is_hunter, is_live, tail_of, skipped_by};
 ghost use Rattle.trace_values.specs.declared.limits.TheConstants.{COUNT_ROOM, PART_ROOM};
@@ -58,13 +57,7 @@ impl Deformatter {
         requires length { length piece.now ≤ PART_ROOM }
         requires room { tail_of self.old ≤ PART_ROOM }
         requires count { skipped_by self.old ≤ PART_ROOM }
-        ensures same { is_hunter self.new ≡ is_hunter self.old }
-        ensures bytes { (0 < result.bytes) × (result.bytes ≤ length piece.now) }
-        ensures stops { result.step ≡ Quiet → result.bytes ≡ length piece.now }
-        ensures takes { (u : List Placed) → Stands self.old u →
-            TakesBlock self.old self.new u at (take result.bytes piece.now) result.step out.new.items }
-        ensures live { is_live self.new ≡ goes_on result.step }
-        ensures few { tail_of self.new + skipped_by self.new ≤ tail_of self.old + skipped_by self.old + result.bytes }
+        ensures { TakesPiece self.old self.new at piece.now result out.new.items }
     {
         match self.next_frame(piece) {
             Some(frame) => {
@@ -104,7 +97,8 @@ impl Deformatter {
         requires offset { at ≤ PART_ROOM }
         ensures same { is_hunter self.new ≡ is_hunter self.old }
         ensures takes { (u : List Placed) → Stands self.old u →
-            TakesBlock self.old self.new u at frame.now Frame out.new.items }
+            TakesBlock self.old self.new u
+            (record { at = at; bytes = frame.now; step = Frame; given = out.new.items }) }
         ensures live { is_live self.new ≡ true }
         ensures few { tail_of self.new + skipped_by self.new ≡ tail_of self.old + skipped_by self.old }
     {
@@ -121,13 +115,7 @@ impl Deformatter {
         requires length { length piece.now ≤ PART_ROOM }
         requires room { tail_of self.old ≤ PART_ROOM }
         requires count { skipped_by self.old ≤ PART_ROOM }
-        ensures same { is_hunter self.new ≡ is_hunter self.old }
-        ensures bytes { (0 < result.bytes) × (result.bytes ≤ length piece.now) }
-        ensures stops { result.step ≡ Quiet → result.bytes ≡ length piece.now }
-        ensures takes { (u : List Placed) → Stands self.old u →
-            TakesBlock self.old self.new u at (take result.bytes piece.now) result.step out.new.items }
-        ensures live { is_live self.new ≡ goes_on result.step }
-        ensures few { tail_of self.new + skipped_by self.new ≤ tail_of self.old + skipped_by self.old + result.bytes }
+        ensures { TakesPiece self.old self.new at piece.now result out.new.items }
     {
         for (index, byte) in piece.iter().enumerate() {
             match self.feed(at + index as u64, *byte, out) {

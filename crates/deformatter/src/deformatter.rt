@@ -45,7 +45,7 @@ impl Deformatter {
     ghost use Rattle.std.specs.Prelude.{IsTrue};
     ghost use Rattle.trace_values.specs.Placed.{Placed, units_of, byte_at, placed_from};
     ghost use Rattle.frame_grammar.specs.Frame.{id_after};
-    ghost use Rattle.deformatter.specs.Block.{FedFrame};
+    ghost use Rattle.deformatter.specs.Block.{FedFrame, TakesByte};
     ghost use Rattle.deformatter.specs.Frames.{IsBetween, GrowsByFrame};
     ghost use Rattle.deformatter.specs.declared.step.PortStep.TheVariants.{Quiet};
     ghost use Rattle.trace_values.specs.Standing.{live_after, state_after};
@@ -186,18 +186,7 @@ impl Deformatter {
         requires out { out.old.items ≡ [] }
         requires room { tail_of self.old ≤ COUNT_ROOM }
         requires count { skipped_by self.old ≤ COUNT_ROOM }
-        ensures same { is_hunter self.new ≡ is_hunter self.old }
-        ensures list { (u : List Placed) → Stands self.old u → Stands self.new (u ++ byte_at at byte ∷ []) }
-        ensures step { (u : List Placed) → Stands self.old u →
-            PortGrows (port_stream (is_hunter self.old) u)
-            (port_stream (is_hunter self.old) (u ++ byte_at at byte ∷ [])) at result }
-        ensures cells { (u : List Placed) → Stands self.old u →
-            cells_in (port_stream (is_hunter self.old) (u ++ byte_at at byte ∷ []))
-            ≡ cells_in (port_stream (is_hunter self.old) u) ++ out.new.items }
-        ensures live { is_live self.new ≡ goes_on result }
-        ensures few { tail_of self.new + skipped_by self.new ≤ tail_of self.old + skipped_by self.old + 1 }
-        ensures each { (tail_of self.new ≤ tail_of self.old + 1) × (skipped_by self.new ≤ skipped_by self.old + 1) }
-        ensures quiet { result ≡ Quiet → out.new.items ≡ [] }
+        ensures { TakesByte self.old self.new at byte result out.new.items }
     {
         if let Phase::Hunting = self.phase {
             if self.hunter.push(byte) {

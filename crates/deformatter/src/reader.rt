@@ -40,11 +40,10 @@ impl PortReader {
     ghost use Rattle.frame_grammar.specs.Frame.{cells, id_after};
     ghost use Rattle.frame_grammar.specs.Port.{Frame, Spells};
     ghost use Rattle.frame_grammar.specs.Reading.{offsets_of};
-    ghost use Rattle.deformatter.specs.Block.{FedAs};
-    ghost use Rattle.deformatter.specs.declared.step.PortStep.TheVariants.{Quiet};
     ghost use Rattle.deformatter.specs.Growth.{goes_on};
     ghost use Rattle.deformatter.specs.PortReading.{port_reading};
-    ghost use Rattle.deformatter.specs.ReadingGrowth.{Answers, FedFrame, Grows, GrowsByFrame};
+    ghost use Rattle.deformatter.specs.Piece.{ReadsPiece};
+    ghost use Rattle.deformatter.specs.ReadingGrowth.{FedFrame, Grows, GrowsByFrame};
     ghost use Rattle.deformatter.specs.Reader.{Stands, IsBetween, mode_of, id_of, is_live, has_locked, tail_of};
     ghost use Rattle.deformatter.specs.Reader.{skipped_by};
 
@@ -173,16 +172,7 @@ impl PortReader {
         requires length { length piece.now ≤ PART_ROOM }
         requires room { tail_of self.old ≤ PART_ROOM }
         requires count { skipped_by self.old ≤ PART_ROOM }
-        ensures same { mode_of self.new ≡ mode_of self.old }
-        ensures bytes { (0 < result.bytes) × (result.bytes ≤ length piece.now) }
-        ensures stops { result.step ≡ Quiet → result.bytes ≡ length piece.now }
-        ensures list { (u : List Placed) → Stands self.old u →
-            Stands self.new (u ++ placed_from at (take result.bytes piece.now)) }
-        ensures fed { (u : List Placed) → Stands self.old u →
-            FedAs (Answers (mode_of self.old) Quiet []) (Answers (mode_of self.old) result.step out.new.items) u at
-            (take result.bytes piece.now) }
-        ensures live { is_live self.new ≡ goes_on result.step }
-        ensures few { tail_of self.new + skipped_by self.new ≤ tail_of self.old + skipped_by self.old + result.bytes }
+        ensures { ReadsPiece self.old self.new at piece.now result out.new.items }
     {
         match self.mode {
             FramesMode::Bare => {

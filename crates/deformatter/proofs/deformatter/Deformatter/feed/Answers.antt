@@ -1,4 +1,4 @@
-use Rattle.std.proofs.Common.{◌≡◌, ◌≤◌, ℕ, ◌+◌, List, [], ◌∷◌, ◌++◌, refl, sym, ◌∙◌, ap, subst, arith, true, false, Option}
+use Rattle.std.proofs.Common.{rules, ◌≡◌, ◌≤◌, ℕ, ◌+◌, List, [], ◌∷◌, ◌++◌, refl, sym, ◌∙◌, ap, subst, arith, true, false, Option}
 use Rattle.std.specs.Prelude.{◌==◌, ◌&&◌}
 use Rattle.trace_values.specs.declared.cell.Cell.{Cell}
 use Rattle.trace_values.specs.declared.mode.Mode.{Mode}
@@ -26,56 +26,60 @@ use Rattle.deformatter.proofs.deformatter.Deformatter.feed.Goals as goal
 hunts_in : (d : Deformatter) → d.phase ≡ PhaseHunting → mode_of d ≡ Hunting (run_of d.hunter) d.skipped
 hunts_in d e = ap (λ (p : Phase). mode_in p d.hunter d.skipped) e
 
-pub returns-then-push-clause-list : goal.returns-then-push-clause-list
-returns-then-push-clause-list c = λ u s.
+pub returns-then-push : goal.returns-then-push
+returns-then-push c =
     let d = c.args.self.now in
+    let m = mode_of d in
+    let run = run_of d.hunter in
+    let at = c.args.at in
+    let byte = c.args.byte in
+    let live = is_live d in
     let e = hunts_in d c.in-Hunting.is in
-    let f : (c.args.byte == 127 && run_of d.hunter == 3) ≡ true = sym c.push.ensures.ends ∙ c.if-push.true in
+    let f : (byte == 127 && run == 3) ≡ true = sym c.push.ensures.ends ∙ c.if-push.true in
+    let long = long_enough run d.skipped byte (sym (ap (λ (p : Phase). is_counted pattern (mode_in p d.hunter d.skipped)) c.in-Hunting.is) ∙ d.counted) f in
     record {
-      reads = laws.locks-list pattern Full rule start (mode_of d) (run_of d.hunter) d.skipped (byte_at c.args.at c.args.byte) (is_live d) (state_of d) u e f s.reads;
-      id = λ l. s.id l ∙ locks-id (mode_of d) (run_of d.hunter) d.skipped u c.args.at c.args.byte (is_live d) (state_of d) e s.reads f
-          ∙ ap (λ (m : Mode). id_in (port_stream (hunts m) (u ++ byte_at c.args.at c.args.byte ∷ []))) e;
+      same = search rules;
+      list = λ u s. record {
+        reads = laws.locks-list pattern Full rule start m run d.skipped (byte_at at byte) live (state_of d) u e f s.reads;
+        id = λ l. s.id l ∙ locks-id m run d.skipped u at byte live (state_of d) e s.reads f
+            ∙ ap (λ (x : Mode). id_in (port_stream (hunts x) (u ++ byte_at at byte ∷ []))) e;
+      };
+      step = λ u s. locks-step m run d.skipped u at byte live (state_of d) e s.reads f long;
+      cells = λ u s. locks-cells m run d.skipped u at byte live (state_of d) e s.reads f c.args.out.now.items c.requires.out;
+      live = search rules;
+      few = search rules;
+      each = search rules;
+      quiet = search rules;
     }
 
-pub returns-then-push-clause-step : goal.returns-then-push-clause-step
-returns-then-push-clause-step c = λ u s.
+pub returns-else-push : goal.returns-else-push
+returns-else-push c =
     let d = c.args.self.now in
-    let f : (c.args.byte == 127 && run_of d.hunter == 3) ≡ true = sym c.push.ensures.ends ∙ c.if-push.true in
-    locks-step (mode_of d) (run_of d.hunter) d.skipped u c.args.at c.args.byte (is_live d) (state_of d) (hunts_in d c.in-Hunting.is) s.reads f
-    (long_enough (run_of d.hunter) d.skipped c.args.byte (sym (ap (λ (p : Phase). is_counted pattern (mode_in p d.hunter d.skipped)) c.in-Hunting.is) ∙ d.counted) f)
-
-pub returns-then-push-clause-cells : goal.returns-then-push-clause-cells
-returns-then-push-clause-cells c = λ u s.
-    let d = c.args.self.now in
-    let f : (c.args.byte == 127 && run_of d.hunter == 3) ≡ true = sym c.push.ensures.ends ∙ c.if-push.true in
-    locks-cells (mode_of d) (run_of d.hunter) d.skipped u c.args.at c.args.byte (is_live d) (state_of d) (hunts_in d c.in-Hunting.is) s.reads f c.args.out.now.items c.requires.out
-
-pub returns-else-push-clause-list : goal.returns-else-push-clause-list
-returns-else-push-clause-list c = λ u s.
-    let d = c.args.self.now in
+    let m = mode_of d in
+    let run = run_of d.hunter in
+    let at = c.args.at in
+    let byte = c.args.byte in
+    let live = is_live d in
     let e = hunts_in d c.in-Hunting.is in
-    let f : (c.args.byte == 127 && run_of d.hunter == 3) ≡ false = sym c.push.ensures.ends ∙ c.if-push.false in
+    let f : (byte == 127 && run == 3) ≡ false = sym c.push.ensures.ends ∙ c.if-push.false in
     let now : mode_in d.phase c.push.new.self (d.skipped + 1) ≡ Hunting (run_of c.push.new.self) (d.skipped + 1) = ap (λ (p : Phase). mode_in p c.push.new.self (d.skipped + 1)) c.in-Hunting.is in
     record {
-      reads = subst (λ (m : Mode). StandsIn pattern Full rule start m (is_live d) (state_of d) (u ++ byte_at c.args.at c.args.byte ∷ [])) (sym now)
-          (subst (λ (n : ℕ). StandsIn pattern Full rule start (Hunting n (d.skipped + 1)) (is_live d) (state_of d) (u ++ byte_at c.args.at c.args.byte ∷ [])) (sym c.push.ensures.run)
-          (laws.skips-list pattern Full rule start (mode_of d) (run_of d.hunter) d.skipped (byte_at c.args.at c.args.byte) (is_live d) (state_of d) u e f s.reads));
-      id = λ l. s.id l ∙ skips-id (mode_of d) (run_of d.hunter) d.skipped u c.args.at c.args.byte (is_live d) (state_of d) e s.reads f
-          ∙ ap (λ (m : Mode). id_in (port_stream (hunts m) (u ++ byte_at c.args.at c.args.byte ∷ []))) e
-          ∙ sym (ap (λ (m : Mode). id_in (port_stream (hunts m) (u ++ byte_at c.args.at c.args.byte ∷ []))) now);
+      same = search rules;
+      list = λ u s. record {
+        reads = subst (λ (x : Mode). StandsIn pattern Full rule start x live (state_of d) (u ++ byte_at at byte ∷ [])) (sym now)
+            (subst (λ (n : ℕ). StandsIn pattern Full rule start (Hunting n (d.skipped + 1)) live (state_of d) (u ++ byte_at at byte ∷ [])) (sym c.push.ensures.run)
+            (laws.skips-list pattern Full rule start m run d.skipped (byte_at at byte) live (state_of d) u e f s.reads));
+        id = λ l. s.id l ∙ skips-id m run d.skipped u at byte live (state_of d) e s.reads f
+            ∙ ap (λ (x : Mode). id_in (port_stream (hunts x) (u ++ byte_at at byte ∷ []))) e
+            ∙ sym (ap (λ (x : Mode). id_in (port_stream (hunts x) (u ++ byte_at at byte ∷ []))) now);
+      };
+      step = λ u s. skips-step m run d.skipped u at byte live (state_of d) e s.reads f;
+      cells = λ u s. skips-cells m run d.skipped u at byte live (state_of d) e s.reads f c.args.out.now.items c.requires.out;
+      live = search rules;
+      few = search rules;
+      each = search rules;
+      quiet = search rules;
     }
-
-pub returns-else-push-clause-step : goal.returns-else-push-clause-step
-returns-else-push-clause-step c = λ u s.
-    let d = c.args.self.now in
-    let f : (c.args.byte == 127 && run_of d.hunter == 3) ≡ false = sym c.push.ensures.ends ∙ c.if-push.false in
-    skips-step (mode_of d) (run_of d.hunter) d.skipped u c.args.at c.args.byte (is_live d) (state_of d) (hunts_in d c.in-Hunting.is) s.reads f
-
-pub returns-else-push-clause-cells : goal.returns-else-push-clause-cells
-returns-else-push-clause-cells c = λ u s.
-    let d = c.args.self.now in
-    let f : (c.args.byte == 127 && run_of d.hunter == 3) ≡ false = sym c.push.ensures.ends ∙ c.if-push.false in
-    skips-cells (mode_of d) (run_of d.hunter) d.skipped u c.args.at c.args.byte (is_live d) (state_of d) (hunts_in d c.in-Hunting.is) s.reads f c.args.out.now.items c.requires.out
 
 -- a byte of the reading
 reading : (c : goal.After-read) (u : List Placed) → Stands c.args.self.now u →

@@ -1,4 +1,4 @@
-use Rattle.std.proofs.Common.{◌≡◌, ◌<◌, ◌+◌, ◌∷◌, [], ◌++◌, ℕ, List, length, take, get_or, sym, ◌∙◌, ap, subst, arith, append-nil, Bool}
+use Rattle.std.proofs.Common.{◌≡◌, ◌<◌, ◌+◌, ◌∷◌, [], ◌++◌, ℕ, List, length, take, get_or, refl, sym, ◌∙◌, ap, subst, arith, append-nil, Bool}
 use Rattle.std.proofs.lemmas.List.{take_all}
 use Rattle.trace_values.specs.declared.cell.Cell.{Cell}
 use Rattle.trace_values.specs.Placed.{Placed, byte_at, placed_from}
@@ -57,29 +57,46 @@ loop-index-preserved c = record {
       };
 }
 
-pub returns-in_default-clause-takes : goal.returns-in_default-clause-takes
-returns-in_default-clause-takes c = λ u s.
+pub returns-in_default : goal.returns-in_default
+returns-in_default c =
     let i = c.loop-index.index in
-    let q = c.loop-index.invariant.quiet u s in
-    let m = more c.args.self.now c.loop-index.self c.feed.new.self u c.args.at c.args.piece.now i c.loop-index-test.true c.feed.result c.feed.new.out.items
-    c.loop-index.invariant.same q (c.feed.ensures.list _ q.list) (c.feed.ensures.step _ q.list) (c.feed.ensures.cells _ q.list) in
+    let within = c.loop-index-test.true in
     record {
-      list = m.list;
-      fed = ended_by (is_hunter c.args.self.now) u c.args.at c.args.piece.now i c.loop-index-test.true c.feed.result q.quiet m.grown;
-      cells = m.cells;
+      same = c.feed.ensures.same ∙ c.loop-index.invariant.same;
+      bytes = (omega arith, omega (arith, within));
+      stops = λ q. absurd (c.in_default.not-Quiet q);
+      takes = λ u s.
+          let q = c.loop-index.invariant.quiet u s in
+          let m = more c.args.self.now c.loop-index.self c.feed.new.self u c.args.at c.args.piece.now i within c.feed.result c.feed.new.out.items
+          c.loop-index.invariant.same q (c.feed.ensures.list _ q.list) (c.feed.ensures.step _ q.list) (c.feed.ensures.cells _ q.list) in
+          record {
+            list = m.list;
+            fed = ended_by (is_hunter c.args.self.now) u c.args.at c.args.piece.now i within c.feed.result q.quiet m.grown;
+            cells = m.cells;
+          };
+      live = c.feed.ensures.live;
+      few = omega (arith, c.feed.ensures.few, c.loop-index.invariant.few);
     }
 
-pub returns-clause-takes : goal.returns-clause-takes
-returns-clause-takes c = λ u s.
+pub returns : goal.returns
+returns c =
     let h = is_hunter c.args.self.now in
     let piece = c.args.piece.now in
-    let q = c.loop-index.invariant.quiet u s in
     let front : take c.loop-index.index piece ≡ piece = take_all c.loop-index.index piece (omega arith) in
     let all : take c.loop-index.index piece ≡ take (length piece) piece = front ∙ sym (take_all (length piece) piece (omega arith)) in
     record {
-      list = subst (λ (l : List ℕ). Stands c.loop-index.self (u ++ placed_from c.args.at l)) all q.list;
-      fed = subst (λ (l : List ℕ). FedAs (Answers h Quiet) (Answers h Quiet) u c.args.at l) (sym (take_all (length piece) piece (omega arith)))
-          (whole_fed (Answers h Quiet) u c.args.at piece c.requires.some (subst (λ (l : List ℕ). EachByte (Answers h Quiet) u c.args.at l) front q.quiet));
-      cells = ap (λ (l : List ℕ). cells_in (port_stream h (u ++ placed_from c.args.at l))) (sym all) ∙ q.cells
-          ∙ sym (append-nil (cells_in (port_stream h u))) ∙ ap (λ (l : List Cell). cells_in (port_stream h u) ++ l) (sym c.loop-index.invariant.none);
+      same = c.loop-index.invariant.same;
+      bytes = (c.requires.some, omega arith);
+      stops = λ q. refl;
+      takes = λ u s.
+          let q = c.loop-index.invariant.quiet u s in
+          record {
+            list = subst (λ (l : List ℕ). Stands c.loop-index.self (u ++ placed_from c.args.at l)) all q.list;
+            fed = subst (λ (l : List ℕ). FedAs (Answers h Quiet) (Answers h Quiet) u c.args.at l) (sym (take_all (length piece) piece (omega arith)))
+                (whole_fed (Answers h Quiet) u c.args.at piece c.requires.some (subst (λ (l : List ℕ). EachByte (Answers h Quiet) u c.args.at l) front q.quiet));
+            cells = ap (λ (l : List ℕ). cells_in (port_stream h (u ++ placed_from c.args.at l))) (sym all) ∙ q.cells
+                ∙ sym (append-nil (cells_in (port_stream h u))) ∙ ap (λ (l : List Cell). cells_in (port_stream h u) ++ l) (sym c.loop-index.invariant.none);
+          };
+      live = c.loop-index.invariant.live;
+      few = omega (arith, c.loop-index.invariant.few);
     }

@@ -19,5 +19,5 @@ returns-in-Hunt c =
           reading_grows mode e (deformatter.is_hunter old) c.args.self.now.moded u (u ++ byte_at c.args.at c.args.byte ∷ []) c.args.at c.feed.result c.feed.new.out.items
           (c.feed.ensures.step u port) (c.feed.ensures.cells u port);
       live = ap (λ (b : Bool). cond b true (deformatter.is_live new)) e ∙ c.feed.ensures.live;
-      few = few_more (is_bare mode) (deformatter.tail_of new) (deformatter.skipped_by new) (deformatter.tail_of old) (deformatter.skipped_by old) e c.feed.ensures.few;
+      few = few_more (is_bare mode) (deformatter.tail_of new) (deformatter.skipped_by new) (deformatter.tail_of old) (deformatter.skipped_by old) 1 e c.feed.ensures.few;
     }

@@ -1,14 +1,10 @@
-use Rattle.std.proofs.Common.{◌≡◌, ◌++◌, true, false, cond, refl, ◌∙◌, ap, Bool, ℕ, ◌+◌, ◌≤◌, List, [], ◌∷◌, take}
+use Rattle.std.proofs.Common.{arith, rules, ◌≡◌, ◌++◌, true, false, cond, refl, ◌∙◌, ap, Bool, List, [], ◌∷◌, take}
 use Rattle.trace_values.specs.declared.cell.Cell.{Cell}
 use Rattle.trace_values.specs.Placed.{placed_from}
 use Rattle.deformatter.specs.Deformatter as deformatter
 use Rattle.deformatter.specs.Modes.{is_bare}
-use Rattle.deformatter.proofs.ReaderFeeding.{has_formatter, port_of, is_of_port, reading_fed, bare_taken}
+use Rattle.deformatter.proofs.ReaderFeeding.{has_formatter, port_of, is_of_port, reading_fed, bare_taken, few_more}
 use Rattle.deformatter.proofs.reader.PortReader.feed_block.Goals as goal
-
-few_more : (b : Bool) (x y z w n : ℕ) → b ≡ false → x + y ≤ z + w + n → cond b 0 x + cond b 0 y ≤ cond b 0 z + cond b 0 w + n
-few_more true x y z w n e h = absurd (let k : true ≡ false = e in cc)
-few_more false x y z w n e h = h
 
 pub returns-in-Hunt : goal.returns-in-Hunt
 returns-in-Hunt c =
@@ -30,6 +26,14 @@ returns-in-Hunt c =
       few = few_more (is_bare mode) (deformatter.tail_of new) (deformatter.skipped_by new) (deformatter.tail_of old) (deformatter.skipped_by old) c.feed_block.result.bytes e c.feed_block.ensures.few;
     }
 
-pub returns-in-Bare-clause-fed : goal.returns-in-Bare-clause-fed
-returns-in-Bare-clause-fed c = λ u s. bare_taken c.args.self.now.mode c.in-Bare.is u c.args.at c.args.piece.now _ c.requires.some
-    (c.push.ensures.items ∙ ap (λ (l : List Cell). l ++ c.bare_cell_of.result ∷ []) c.requires.out ∙ ap (λ (x : Cell). x ∷ []) c.bare_cell_of.ensures)
+pub returns-in-Bare : goal.returns-in-Bare
+returns-in-Bare c = record {
+  same = refl;
+  bytes = (omega arith, c.requires.some);
+  stops = λ q. cc;
+  list = search rules;
+  fed = λ u s. bare_taken c.args.self.now.mode c.in-Bare.is u c.args.at c.args.piece.now _ c.requires.some
+      (c.push.ensures.items ∙ ap (λ (l : List Cell). l ++ c.bare_cell_of.result ∷ []) c.requires.out ∙ ap (λ (x : Cell). x ∷ []) c.bare_cell_of.ensures);
+  live = search rules;
+  few = search rules;
+}
