@@ -87,13 +87,25 @@ placed_part Three at = port.Three
 abbrev pub state : ℕ → List Placed → ℕ → Part → ℕ → State
 state left bytes halves part at = record { left = left; bytes = bytes; halves = halves; part = placed_part part at }
 
+-- what is there of an item: the halfwords left, the frame's bytes, the half synchronisations between them, the part, and
+-- the offset of its first byte
+pub record Begun : Type 0 where
+  pub left : ℕ
+  pub bytes : List Placed
+  pub halves : ℕ
+  pub part : Part
+  pub at : ℕ
+
+abbrev pub state_in : Begun → State
+state_in b = state b.left b.bytes b.halves b.part b.at
+
 -- what the grammar's rule says of a byte at the offset here, by what the byte ends
-abbrev pub outcome : ℕ → List Placed → ℕ → Part → ℕ → ℕ → ℕ → Half → Next State PortItem
-outcome left bytes halves part at here byte (Pair a b) =
-    word_ended left (bytes ++ (byte_at at a ∷ (byte_at here b ∷ []))) halves
-outcome left bytes halves part at here byte HalfSync =
-    if left == 7 then End port.Half
-    else Go (record { left = left; bytes = bytes; halves = halves + 1; part = port.Between })
-outcome left bytes halves part at here byte FullSync = End port.Full
-outcome left bytes halves part at here byte Waiting = Go (state left bytes halves (longer part byte) here)
-outcome left bytes halves part at here byte (Bad e) = Fail e
+abbrev pub outcome : Begun → ℕ → ℕ → Half → Next State PortItem
+outcome b here byte (Pair first second) =
+    word_ended b.left (b.bytes ++ (byte_at b.at first ∷ (byte_at here second ∷ []))) b.halves
+outcome b here byte HalfSync =
+    if b.left == 7 then End port.Half
+    else Go (record { left = b.left; bytes = b.bytes; halves = b.halves + 1; part = port.Between })
+outcome b here byte FullSync = End port.Full
+outcome b here byte Waiting = Go (state b.left b.bytes b.halves (longer b.part byte) here)
+outcome b here byte (Bad e) = Fail e
