@@ -1,36 +1,18 @@
 -- A decoder's answer to a nibble is the grammar's, and its hunt is one for the pattern.
-use Rattle.std.proofs.Common.{◌≡◌, ◌≢◌, ℕ, List, [], ◌∷◌, ◌++◌, refl, sym, ◌∙◌, ap, subst, inl, inr, arith, Option, None, Some, Bool, true, false}
-use Rattle.trace_values.specs.declared.fault.Reason.{Reason}
-use Rattle.trace_values.specs.declared.next.Next.{Next}
-use Rattle.trace_values.specs.declared.next.Next.TheVariants.{Go, End, Fail}
-use Rattle.trace_values.specs.declared.step.Step.TheVariants.{Quiet, Item, Fault as Faulty}
-use Rattle.trace_values.specs.declared.mode.Mode.{Mode}
-use Rattle.trace_values.specs.declared.mode.Mode.TheVariants.{Aligned, Hunting, Locked}
-use Rattle.trace_values.specs.Placed.{Placed, units_of}
-use Rattle.trace_values.specs.Grammar.{InUnits}
-use Rattle.trace_values.specs.Walk.{by_unit, Decides}
-use Rattle.trace_values.specs.Reading.{Progress, with_unit, advance, progress}
-use Rattle.trace_values.specs.Stream.{Notice, shown}
-use Rattle.trace_values.specs.Hunted.{pattern_of, Found, Hunt, hunt_on, hunt, hunted_by}
-use Rattle.trace_values.specs.Moded.{StandsIn, hunts, is_locked}
-use Rattle.trace_values.specs.Standing.{Keeps}
+use Rattle.std.proofs.Common.{◌≡◌, ◌≢◌, ℕ, List, [], ◌∷◌, ◌++◌, refl, sym, ◌∙◌, ap, subst, inl, inr, arith, Option}
+use Rattle.std.proofs.Common.{None, Some, Bool, true, false}
+use Rattle.stp_codec.specs.Names.{Reason, Next, Go, End, Fail, Quiet, Item, Fault as Faulty, Mode, Aligned, Hunting}
+use Rattle.stp_codec.specs.Names.{Placed, units_of, InUnits, by_unit, Decides, Progress, with_unit, advance, progress}
+use Rattle.stp_codec.specs.Names.{Notice, shown, pattern_of, Found, Hunt, hunt_on, hunt, hunted_by, StandsIn, hunts}
+use Rattle.stp_codec.specs.Names.{is_locked, Keeps, Order, StpPacket, Async, StpItem, Attribution, Partial, Start}
+use Rattle.stp_codec.specs.Names.{item_of, Stands as Attributes, Spells, why, rule}
+use Rattle.trace_values.specs.declared.mode.Mode.TheVariants.{Locked}
 use Rattle.trace_values.proofs.Placing.{on_units}
 use Rattle.trace_values.proofs.OneUnit.{Says}
 use Rattle.trace_values.proofs.Answering.{says}
 use Rattle.trace_values.proofs.Standings as lemmas
 use Rattle.trace_values.proofs.HuntSteps as steps
 use Rattle.trace_values.proofs.HuntedLemmas as hunting
-use Rattle.stp_grammar.specs.declared.packet.Order.{Order}
-use Rattle.stp_grammar.specs.declared.packet.StpPacket.{StpPacket}
-use Rattle.stp_grammar.specs.declared.packet.StpPacket.TheVariants.{Async}
-use Rattle.stp_grammar.specs.declared.item.StpItem.{StpItem}
-use Rattle.stp_grammar.specs.declared.attribution.Attribution.{Attribution}
-use Rattle.stp_grammar.specs.declared.partial.Partial.{Partial}
-use Rattle.stp_grammar.specs.declared.partial.Partial.TheVariants.{Start}
-use Rattle.stp_grammar.specs.Attribution.{item_of}
-use Rattle.stp_grammar.specs.Attributed.{Stands as Attributes}
-use Rattle.stp_grammar.specs.Spelling.{Spells, why}
-use Rattle.stp_grammar.specs.Rule.{rule}
 use Rattle.stp_grammar.proofs.Deciding.{decided}
 use Rattle.stp_codec.specs.Reading.{pattern, packets_in, packets_of, rest_found, rest_in, IsHunt}
 use Rattle.stp_codec.specs.Answers.{AnswersNibble}

@@ -1,9 +1,9 @@
 -- The number that nibbles make, two of a byte at a time.
 use Rattle.std.proofs.Common.{◌≡◌, ℕ, ◌+◌, ◌*◌, ◌/◌, ◌%◌, ◌<◌, List, length, get_or, sym, ◌∙◌, ap, arith}
-use Rattle.stp_grammar.specs.declared.packet.Order.{Order}
-use Rattle.stp_grammar.specs.Rule.{number_with}
+use Rattle.stp_codec.specs.Names.{Order, number_with}
 use Rattle.stp_codec.specs.Wholes.{nibbles_in, between, number_from}
-use Rattle.stp_codec.proofs.Between.{length-nibbles, length-between, between_push, between_first, low_nibble, high_nibble}
+use Rattle.stp_codec.proofs.Between.{length-nibbles, length-between, between_push, between_first, low_nibble}
+use Rattle.stp_codec.proofs.Between.{high_nibble}
 use Rattle.stp_codec.proofs.Finishing.{number_push}
 
 module _ (order : Order) (n v : ℕ) (bytes : List ℕ) (first : ℕ) where

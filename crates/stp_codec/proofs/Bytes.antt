@@ -1,28 +1,16 @@
 -- A byte by its two nibbles.
-use Rattle.std.proofs.Common.{◌≡◌, ℕ, ◌%◌, ◌/◌, ◌<◌, arith, List, [], ◌∷◌, ◌++◌, refl, sym, ◌∙◌, ap, subst, ◌⊎◌, inl, inr, Bool, true, false}
+use Rattle.std.proofs.Common.{◌≡◌, ℕ, ◌%◌, ◌/◌, ◌<◌, arith, List, [], ◌∷◌, ◌++◌, refl, sym, ◌∙◌, ap, subst, ◌⊎◌, inl}
+use Rattle.std.proofs.Common.{inr, Bool, true, false}
 use Rattle.std.specs.Prelude.{is_none}
 use Rattle.trace_values.specs.declared.fault.Fault.{Fault}
-use Rattle.trace_values.specs.declared.step.Step.{Step}
-use Rattle.trace_values.specs.declared.step.Step.TheVariants.{Quiet, Skipping, Item, Locked, Fault as Faulty}
-use Rattle.trace_values.specs.Placed.{Placed, byte_at}
-use Rattle.trace_values.specs.Nibbles.{nibbles_of, low_of, high_of}
-use Rattle.trace_values.specs.Walk.{by_unit}
-use Rattle.trace_values.specs.Stream.{Grows}
-use Rattle.trace_values.specs.Moded.{hunts}
-use Rattle.trace_values.specs.Decorated.{carried}
+use Rattle.stp_codec.specs.Names.{Step, Quiet, Skipping, Item, Locked, Fault as Faulty, Placed, byte_at, nibbles_of}
+use Rattle.stp_codec.specs.Names.{low_of, high_of, by_unit, Grows, hunts, carried, Order, Async, StpItem, Partial}
+use Rattle.stp_codec.specs.Names.{Start, rule, count_of, attribute, Stands as Attributes}
 use Rattle.trace_values.proofs.Modes as modes
 use Rattle.trace_values.proofs.NibbleModes as laws
 use Rattle.trace_values.proofs.Nibbling.{both, IsPair, nibbles_push}
-use Rattle.stp_grammar.specs.declared.packet.Order.{Order}
-use Rattle.stp_grammar.specs.declared.packet.StpPacket.TheVariants.{Async}
-use Rattle.stp_grammar.specs.declared.item.StpItem.{StpItem}
-use Rattle.stp_grammar.specs.declared.partial.Partial.{Partial}
-use Rattle.stp_grammar.specs.declared.partial.Partial.TheVariants.{Start}
-use Rattle.stp_grammar.specs.Rule.{rule, count_of}
 use Rattle.stp_grammar.proofs.Counting.{counts_placed}
-use Rattle.stp_grammar.specs.Attribution.{attribute}
 use Rattle.stp_codec.specs.declared.decoder.StpDecoder.{StpDecoder}
-use Rattle.stp_grammar.specs.Attributed.{Stands as Attributes}
 use Rattle.stp_codec.specs.Reading.{pattern, packets_in, packets_of, items_at, items_in, rest_in}
 use Rattle.stp_codec.specs.Answers.{AnswersNibble, AnswersByte}
 use Rattle.stp_codec.specs.Wholes.{left_of}

@@ -1,21 +1,14 @@
 -- A part of a packet, as many nibbles as there are.
-use Rattle.std.proofs.Common.{◌≡◌, ℕ, ◌+◌, ◌-◌, ◌*◌, ◌<◌, ◌≤◌, List, [], ◌∷◌, ◌++◌, length, get_or, refl, sym, ◌∙◌, ap, subst, arith, Bool, true, false, cond}
+use Rattle.std.proofs.Common.{◌≡◌, ℕ, ◌+◌, ◌-◌, ◌*◌, ◌<◌, ◌≤◌, List, [], ◌∷◌, ◌++◌, length, get_or, refl, sym, ◌∙◌}
+use Rattle.std.proofs.Common.{ap, subst, arith, Bool, true, false, cond}
 use Rattle.std.specs.Prelude.{◌==◌, nat_lt, nat_le}
 use Rattle.std.proofs.lemmas.Bool.Decides.{nat_tests}
 use Rattle.std.proofs.lemmas.List.{append-nil, take_all}
-use Rattle.trace_values.specs.declared.next.Next.{Next}
-use Rattle.trace_values.specs.declared.next.Next.TheVariants.{Go, End}
-use Rattle.trace_values.specs.Walk.{Whole, Within, after, walk}
+use Rattle.stp_codec.specs.Names.{Next, Go, End, Whole, Within, after, walk, nibble_count, Order, Row, StpPacket}
+use Rattle.stp_codec.specs.Names.{Async, Plain, Stamped, Partial, Start, Second, Third, Run, Payload, Size, Word}
+use Rattle.stp_codec.specs.Names.{line_of, row_at, rule, after_payload, begin, opened, third_opening}
 use Rattle.trace_values.proofs.Walks.{walk_more}
-use Rattle.trace_clock.specs.LastWord.{nibble_count}
-use Rattle.stp_grammar.specs.declared.packet.Order.{Order}
-use Rattle.stp_grammar.specs.declared.packet.Row.{Row}
-use Rattle.stp_grammar.specs.declared.packet.StpPacket.{StpPacket}
-use Rattle.stp_grammar.specs.declared.packet.StpPacket.TheVariants.{Async, Plain, Stamped}
-use Rattle.stp_grammar.specs.declared.partial.Partial.{Partial}
-use Rattle.stp_grammar.specs.declared.partial.Partial.TheVariants.{Start, Second, Third, Run, Payload, Size, Word}
-use Rattle.stp_grammar.specs.Opcodes.{line_of, row_at, Whole as Opened}
-use Rattle.stp_grammar.specs.Rule.{rule, after_payload, begin, opened, third_opening}
+use Rattle.stp_grammar.specs.Opcodes.{Whole as Opened}
 use Rattle.stp_grammar.proofs.Digits.{stage_whole, stage_within, value_from}
 use Rattle.stp_codec.specs.Wholes.{nibbles_in, between, number_from}
 use Rattle.stp_codec.specs.Cuts.{Leads, payload_from}

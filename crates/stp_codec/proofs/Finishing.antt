@@ -1,20 +1,14 @@
 -- Nibbles that end a packet, from each of its parts on.
-use Rattle.std.proofs.Common.{◌≡◌, ℕ, suc, ◌+◌, ◌-◌, ◌<◌, ◌≤◌, List, [], ◌∷◌, ◌++◌, length, get_or, refl, sym, ◌∙◌, ap, subst, arith, Bool, true, false, cond}
+use Rattle.std.proofs.Common.{◌≡◌, ℕ, suc, ◌+◌, ◌-◌, ◌<◌, ◌≤◌, List, [], ◌∷◌, ◌++◌, length, get_or, refl, sym, ◌∙◌}
+use Rattle.std.proofs.Common.{ap, subst, arith, Bool, true, false, cond}
 use Rattle.std.specs.Prelude.{nat_lt, ◌==◌, ◌&&◌, ◌^◌, Option, None, Some, IfSome}
 use Rattle.std.proofs.lemmas.Bool.Decides.{nat_tests}
 use Rattle.std.proofs.lemmas.List.{append-nil}
-use Rattle.trace_values.specs.declared.next.Next.{Next}
-use Rattle.trace_values.specs.declared.next.Next.TheVariants.{Go, End}
-use Rattle.trace_values.specs.Walk.{Whole, after, walk}
-use Rattle.trace_clock.specs.LastWord.{nibble_count}
-use Rattle.stp_grammar.specs.declared.packet.Order.{Order}
-use Rattle.stp_grammar.specs.declared.packet.Row.{Row}
-use Rattle.stp_grammar.specs.declared.packet.StpPacket.{StpPacket}
-use Rattle.stp_grammar.specs.declared.packet.StpPacket.TheVariants.{Stamped}
-use Rattle.stp_grammar.specs.declared.partial.Partial.{Partial}
-use Rattle.stp_grammar.specs.declared.partial.Partial.TheVariants.{Second, Third, Payload, Size, Word}
-use Rattle.stp_grammar.specs.Opcodes.{line_of, row_at, Opening, Whole as Opened}
-use Rattle.stp_grammar.specs.Rule.{rule, number_with, begin, after_payload, opened, size_with, is_sound, first_opening, second_opening, third_opening}
+use Rattle.stp_codec.specs.Names.{Next, Go, End, Whole, after, walk, nibble_count, Order, Row, StpPacket, Stamped}
+use Rattle.stp_codec.specs.Names.{Partial, Second, Third, Payload, Size, Word, line_of, row_at, Opening, rule}
+use Rattle.stp_codec.specs.Names.{number_with, begin, after_payload, opened, size_with, is_sound, first_opening}
+use Rattle.stp_codec.specs.Names.{second_opening, third_opening}
+use Rattle.stp_grammar.specs.Opcodes.{Whole as Opened}
 use Rattle.stp_grammar.proofs.Digits.{value_from, stage_whole}
 use Rattle.stp_codec.specs.Wholes.{between, number_from, Ends}
 use Rattle.stp_codec.proofs.Between.{between_first, between_parts, length-between}

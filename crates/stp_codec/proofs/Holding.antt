@@ -2,20 +2,11 @@
 use Rattle.std.proofs.Common.{◌≡◌, ℕ, ◌≤◌, List, length, take, All, sym, ◌∙◌, ap, subst, arith, ◌⊎◌, inl, inr, Bool}
 use Rattle.std.proofs.Math.Seq.{take-append_seam}
 use Rattle.std.proofs.lemmas.List.{map-append}
-use Rattle.trace_values.specs.declared.mode.Mode.{Mode}
-use Rattle.trace_values.specs.declared.mode.Mode.TheVariants.{Aligned, Hunting, Locked}
-use Rattle.trace_values.specs.Placed.{Placed, units_of}
-use Rattle.trace_values.specs.Walk.{Within, walk, by_unit}
-use Rattle.trace_values.specs.Reading.{Progress, progress}
-use Rattle.trace_values.specs.Moded.{StandsIn, hunts}
+use Rattle.stp_codec.specs.Names.{Mode, Aligned, Hunting, Placed, units_of, Within, walk, by_unit, Progress, progress}
+use Rattle.stp_codec.specs.Names.{StandsIn, hunts, Order, StpPacket, Async, Partial, Start, rule, count_of}
+use Rattle.trace_values.specs.declared.mode.Mode.TheVariants.{Locked}
 use Rattle.trace_values.proofs.Placing.{walk_units}
 use Rattle.trace_values.proofs.Fronts.{Leaves, leaves}
-use Rattle.stp_grammar.specs.declared.packet.Order.{Order}
-use Rattle.stp_grammar.specs.declared.packet.StpPacket.{StpPacket}
-use Rattle.stp_grammar.specs.declared.packet.StpPacket.TheVariants.{Async}
-use Rattle.stp_grammar.specs.declared.partial.Partial.{Partial}
-use Rattle.stp_grammar.specs.declared.partial.Partial.TheVariants.{Start}
-use Rattle.stp_grammar.specs.Rule.{rule, count_of}
 use Rattle.stp_grammar.proofs.Counting.{counted_nibbles}
 use Rattle.stp_grammar.proofs.Holding.{holds_few}
 use Rattle.stp_codec.specs.Reading.{pattern, rest_found, rest_in}

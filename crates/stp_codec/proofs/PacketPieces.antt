@@ -1,30 +1,17 @@
 -- Bytes that end a packet are taken at once, wherever they are.
-use Rattle.std.proofs.Common.{◌≡◌, ℕ, zero, suc, ◌+◌, ◌-◌, ◌*◌, ◌/◌, ◌%◌, ◌<◌, ◌≤◌, List, [], ◌∷◌, ◌++◌, length, take, get_or, refl, sym, ◌∙◌, ap, subst, append_assoc, append-nil, arith, Option, None, Some, Bool, true, ◌⊎◌, inl, inr}
+use Rattle.std.proofs.Common.{◌≡◌, ℕ, zero, suc, ◌+◌, ◌-◌, ◌*◌, ◌/◌, ◌%◌, ◌<◌, ◌≤◌, List, [], ◌∷◌, ◌++◌, length, take}
+use Rattle.std.proofs.Common.{get_or, refl, sym, ◌∙◌, ap, subst, append_assoc, append-nil, arith, Option, None, Some}
+use Rattle.std.proofs.Common.{Bool, true, ◌⊎◌, inl, inr}
 use Rattle.std.specs.Prelude.{is_none}
 use Rattle.std.proofs.lemmas.List.{take_more}
-use Rattle.trace_values.specs.declared.fault.Reason.{Reason}
-use Rattle.trace_values.specs.declared.mode.Mode.{Mode}
-use Rattle.trace_values.specs.Placed.{Place, Placed, units_of, byte_at, placed_from}
-use Rattle.trace_values.specs.Nibbles.{nibbles_of, low_of, high_of}
-use Rattle.trace_values.specs.Walk.{Whole, walk, by_unit}
-use Rattle.trace_values.specs.declared.next.Next.TheVariants.{Go}
-use Rattle.trace_values.specs.Stream.{Stream, given_by}
-use Rattle.trace_values.specs.Block.{Takes, StandsAt, given_after, fault_after}
-use Rattle.trace_values.specs.Moded.{hunts, is_locked}
+use Rattle.stp_codec.specs.Names.{Reason, Mode, Place, Placed, units_of, byte_at, placed_from, nibbles_of, low_of}
+use Rattle.stp_codec.specs.Names.{high_of, Whole, walk, by_unit, Go, Stream, given_by, Takes, StandsAt, given_after}
+use Rattle.stp_codec.specs.Names.{fault_after, hunts, is_locked, Order, StpPacket, Async, StpItem, Attribution}
+use Rattle.stp_codec.specs.Names.{Partial, Start, rule, attribute, item_of, Stands as Attributes}
 use Rattle.trace_values.proofs.Blocks.{next_placed}
 use Rattle.trace_values.proofs.Decorating.{item_step}
 use Rattle.trace_values.proofs.NibbleModes as laws
 use Rattle.trace_values.proofs.Placing.{units_push}
-use Rattle.stp_grammar.specs.declared.packet.Order.{Order}
-use Rattle.stp_grammar.specs.declared.packet.StpPacket.{StpPacket}
-use Rattle.stp_grammar.specs.declared.packet.StpPacket.TheVariants.{Async}
-use Rattle.stp_grammar.specs.declared.item.StpItem.{StpItem}
-use Rattle.stp_grammar.specs.declared.attribution.Attribution.{Attribution}
-use Rattle.stp_grammar.specs.declared.partial.Partial.{Partial}
-use Rattle.stp_grammar.specs.declared.partial.Partial.TheVariants.{Start}
-use Rattle.stp_grammar.specs.Rule.{rule}
-use Rattle.stp_grammar.specs.Attribution.{attribute, item_of}
-use Rattle.stp_grammar.specs.Attributed.{Stands as Attributes}
 use Rattle.stp_codec.specs.Reading.{pattern, items_at, items_in}
 use Rattle.stp_codec.specs.Wholes.{nibbles_in, between, Ends, left_of, item_in, IsQuiet}
 use Rattle.stp_codec.specs.Cuts.{Passes}

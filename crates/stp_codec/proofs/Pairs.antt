@@ -2,14 +2,9 @@
 use Rattle.std.proofs.Common.{◌≡◌, ℕ, zero, suc, ◌/◌, ◌<◌, List, [], ◌∷◌, ◌++◌, refl, sym, ◌∙◌, ap, subst}
 use Rattle.std.proofs.Common.{append_assoc, append-nil, ◌⊎◌, inl, inr, Bool, true, false, None}
 use Rattle.trace_values.specs.declared.fault.Fault.{Fault}
-use Rattle.trace_values.specs.declared.step.Step.{Step}
-use Rattle.trace_values.specs.declared.step.Step.TheVariants.{Quiet, Skipping, Item, Locked, Fault as Faulty}
-use Rattle.trace_values.specs.Placed.{Placed}
-use Rattle.trace_values.specs.Nibbles.{low_of, high_of}
-use Rattle.trace_values.specs.Stream.{Grows, fault_by, goes_on}
+use Rattle.stp_codec.specs.Names.{Step, Quiet, Skipping, Item, Locked, Fault as Faulty, Placed, low_of, high_of}
+use Rattle.stp_codec.specs.Names.{Grows, fault_by, goes_on, Order, StpItem}
 use Rattle.trace_values.proofs.Nibbling.{both, IsPair, grows_both}
-use Rattle.stp_grammar.specs.declared.packet.Order.{Order}
-use Rattle.stp_grammar.specs.declared.item.StpItem.{StpItem}
 use Rattle.stp_codec.specs.declared.decoder.StpDecoder.{StpDecoder}
 use Rattle.stp_codec.specs.Reading.{items_at}
 use Rattle.stp_codec.specs.Decoder.{StandsAt, ReadsAt, IsSettled, order_of, is_hunter, nibble_at}

@@ -1,21 +1,11 @@
 -- Bytes inside a packet are taken at once, wherever they are.
-use Rattle.std.proofs.Common.{◌≡◌, ℕ, ◌+◌, ◌*◌, List, [], ◌∷◌, ◌++◌, length, take, refl, sym, ◌∙◌, ap, subst, append_assoc, append-nil, arith, None, true}
+use Rattle.std.proofs.Common.{◌≡◌, ℕ, ◌+◌, ◌*◌, List, [], ◌∷◌, ◌++◌, length, take, refl, sym, ◌∙◌, ap, subst}
+use Rattle.std.proofs.Common.{append_assoc, append-nil, arith, None, true}
 use Rattle.std.proofs.lemmas.List.{take_all}
-use Rattle.trace_values.specs.declared.next.Next.{Next}
-use Rattle.trace_values.specs.declared.next.Next.TheVariants.{Go, End, Fail}
-use Rattle.trace_values.specs.declared.mode.Mode.{Mode}
-use Rattle.trace_values.specs.Placed.{Placed, units_of}
-use Rattle.trace_values.specs.Nibbles.{nibbles_of}
-use Rattle.trace_values.specs.Walk.{Walked, Within, after, walk}
-use Rattle.trace_values.specs.Stream.{Stream}
-use Rattle.trace_values.specs.Moded.{hunts, is_locked}
+use Rattle.stp_codec.specs.Names.{Next, Go, End, Fail, Mode, Placed, units_of, nibbles_of, Walked, Within, after}
+use Rattle.stp_codec.specs.Names.{walk, Stream, hunts, is_locked, Order, StpPacket, StpItem, Attribution, Partial}
+use Rattle.stp_codec.specs.Names.{rule, count_of}
 use Rattle.trace_values.proofs.NibbleModes as laws
-use Rattle.stp_grammar.specs.declared.packet.Order.{Order}
-use Rattle.stp_grammar.specs.declared.packet.StpPacket.{StpPacket}
-use Rattle.stp_grammar.specs.declared.item.StpItem.{StpItem}
-use Rattle.stp_grammar.specs.declared.attribution.Attribution.{Attribution}
-use Rattle.stp_grammar.specs.declared.partial.Partial.{Partial}
-use Rattle.stp_grammar.specs.Rule.{rule, count_of}
 use Rattle.stp_grammar.proofs.Counting.{counted_nibbles}
 use Rattle.stp_codec.specs.Reading.{items_at, items_in}
 use Rattle.stp_codec.specs.Wholes.{nibbles_in}

@@ -1,15 +1,12 @@
 -- A piece in two parts, of which the first was quiet.
-use Rattle.std.proofs.Common.{◌≡◌, ℕ, ◌+◌, ◌-◌, ◌<◌, ◌≤◌, List, ◌++◌, length, take, drop, sym, ◌∙◌, ap, subst, append_assoc, append-nil, arith, None, Option, Bool}
+use Rattle.std.proofs.Common.{◌≡◌, ℕ, ◌+◌, ◌-◌, ◌<◌, ◌≤◌, List, ◌++◌, length, take, drop, sym, ◌∙◌, ap, subst}
+use Rattle.std.proofs.Common.{append_assoc, append-nil, arith, None, Option, Bool}
 use Rattle.std.proofs.lemmas.List.{length-take-le, take_all, length-drop}
 use Rattle.std.proofs.Math.Seq.{take-add}
-use Rattle.trace_values.specs.declared.step.Step.{Step}
-use Rattle.trace_values.specs.Placed.{Placed, placed_from}
-use Rattle.trace_values.specs.Stream.{Stream}
-use Rattle.trace_values.specs.Block.{Takes, StandsAt, given_after, fault_after}
+use Rattle.stp_codec.specs.Names.{Step, Placed, placed_from, Stream, Takes, StandsAt, given_after, fault_after, Order}
+use Rattle.stp_codec.specs.Names.{StpItem}
 use Rattle.trace_values.proofs.Blocks.{IsTaking}
 use Rattle.trace_values.proofs.Placing.{placed_from_append}
-use Rattle.stp_grammar.specs.declared.packet.Order.{Order}
-use Rattle.stp_grammar.specs.declared.item.StpItem.{StpItem}
 use Rattle.stp_codec.specs.Reading.{items_in}
 use Rattle.stp_codec.proofs.PacketPieces.{sound_before}
 

@@ -1,23 +1,15 @@
 -- Nibbles that end a packet, read as numbers.
-use Rattle.std.proofs.Common.{◌≡◌, ℕ, zero, suc, ◌+◌, ◌-◌, ◌*◌, ◌/◌, ◌%◌, ◌^◌, ◌⊎◌, inl, inr, ◌<◌, ◌≤◌, List, [], ◌∷◌, length, get_or, refl, sym, ◌∙◌, ap, subst, arith, Bool, true, false, cond}
+use Rattle.std.proofs.Common.{◌≡◌, ℕ, zero, suc, ◌+◌, ◌-◌, ◌*◌, ◌/◌, ◌%◌, ◌^◌, ◌⊎◌, inl, inr, ◌<◌, ◌≤◌, List, [], ◌∷◌}
+use Rattle.std.proofs.Common.{length, get_or, refl, sym, ◌∙◌, ap, subst, arith, Bool, true, false, cond}
 use Rattle.std.specs.Prelude.{◌==◌}
 use Rattle.std.proofs.lemmas.Bool.Decides.{nat_tests}
-use Rattle.trace_values.specs.declared.next.Next.{Next}
-use Rattle.trace_values.specs.declared.next.Next.TheVariants.{Go, End, Fail}
-use Rattle.trace_values.specs.Walk.{Whole, walk}
-use Rattle.trace_clock.specs.LastWord.{nibble_count}
-use Rattle.stp_grammar.specs.declared.packet.Order.TheVariants.{Msn}
-use Rattle.stp_grammar.specs.declared.packet.Row.{Row}
-use Rattle.stp_grammar.specs.declared.packet.StpPacket.{StpPacket}
-use Rattle.stp_grammar.specs.declared.packet.StpPacket.TheVariants.{Stamped}
-use Rattle.stp_grammar.specs.declared.partial.Partial.{Partial}
-use Rattle.stp_grammar.specs.declared.partial.Partial.TheVariants.{Start, Second, Third, Size}
-use Rattle.stp_grammar.specs.Opcodes.{Opening, row_at}
-use Rattle.stp_grammar.specs.Rule.{rule, begin, opened}
+use Rattle.stp_codec.specs.Names.{Next, Go, End, Fail, Whole, walk, nibble_count, Msn, Row, StpPacket, Stamped}
+use Rattle.stp_codec.specs.Names.{Partial, Start, Second, Third, Size, Opening, row_at, rule, begin, opened}
 use Rattle.stp_codec.specs.Wholes.{between, number_from, Ends, Leaves, left_after, left_by}
 use Rattle.stp_codec.specs.declared.flat.TheConstants.{OPCODES}
 use Rattle.stp_codec.proofs.Between.{between_first, between_none}
-use Rattle.stp_codec.proofs.Finishing.{ends_size, ends_word_at, ends_second, ends_second_zero, ends_third, ends_late_third, first_is, next_at, some_word}
+use Rattle.stp_codec.proofs.Finishing.{ends_size, ends_word_at, ends_second, ends_second_zero, ends_third}
+use Rattle.stp_codec.proofs.Finishing.{ends_late_third, first_is, next_at, some_word}
 use Rattle.stp_codec.proofs.RowTables.{goes, row_goes, number_of_one, number_of_two, number_of_three}
 
 -- what is left of a packet's first nibble

@@ -1,31 +1,17 @@
 -- Nibbles that end a packet, in what a decoder keeps and in what it reads.
-use Rattle.std.proofs.Common.{◌≡◌, ℕ, ◌/◌, ◌%◌, ◌<◌, List, [], ◌∷◌, ◌++◌, refl, sym, ◌∙◌, ap, subst, append_assoc, append-nil, arith, Option, None, Some, Bool, true}
+use Rattle.std.proofs.Common.{◌≡◌, ℕ, ◌/◌, ◌%◌, ◌<◌, List, [], ◌∷◌, ◌++◌, refl, sym, ◌∙◌, ap, subst, append_assoc}
+use Rattle.std.proofs.Common.{append-nil, arith, Option, None, Some, Bool, true}
 use Rattle.std.specs.Prelude.{is_none}
-use Rattle.trace_values.specs.declared.next.Next.{Next}
-use Rattle.trace_values.specs.declared.next.Next.TheVariants.{Go, End, Fail}
-use Rattle.trace_values.specs.declared.mode.Mode.{Mode}
-use Rattle.trace_values.specs.Placed.{Placed, units_of}
-use Rattle.trace_values.specs.Walk.{Walked, Whole, Within, after, walk, by_unit}
-use Rattle.trace_values.specs.Stream.{Stream, Grows, given_by}
-use Rattle.trace_values.specs.Moded.{hunts, is_locked}
+use Rattle.stp_codec.specs.Names.{Next, Go, End, Fail, Mode, Placed, units_of, Walked, Whole, Within, after, walk}
+use Rattle.stp_codec.specs.Names.{by_unit, Stream, Grows, given_by, hunts, is_locked, Order, StpPacket, Async, Plain}
+use Rattle.stp_codec.specs.Names.{StpItem, Attribution, Partial, Start, rule, count_of, item_of, Stands as Attributes}
+use Rattle.stp_codec.specs.Names.{Null, high_of}
 use Rattle.trace_values.proofs.Decorating.{item_step}
 use Rattle.trace_values.proofs.Modes as modes
-use Rattle.stp_grammar.specs.declared.packet.Order.{Order}
-use Rattle.stp_grammar.specs.declared.packet.StpPacket.{StpPacket}
-use Rattle.stp_grammar.specs.declared.packet.StpPacket.TheVariants.{Async, Plain}
-use Rattle.stp_grammar.specs.declared.item.StpItem.{StpItem}
-use Rattle.stp_grammar.specs.declared.attribution.Attribution.{Attribution}
-use Rattle.stp_grammar.specs.declared.partial.Partial.{Partial}
-use Rattle.stp_grammar.specs.declared.partial.Partial.TheVariants.{Start}
-use Rattle.stp_grammar.specs.Rule.{rule, count_of}
-use Rattle.stp_grammar.specs.Attribution.{item_of}
-use Rattle.stp_grammar.specs.Attributed.{Stands as Attributes}
 use Rattle.stp_grammar.proofs.Counting.{counts_placed}
-use Rattle.stp_grammar.specs.declared.packet.Row.TheVariants.{Null}
 use Rattle.stp_grammar.proofs.Attributing.{stands_with}
 use Rattle.stp_grammar.proofs.Beginning.{start_ends}
 use Rattle.stp_codec.specs.Wholes.{left_of, IsQuiet, Leaves}
-use Rattle.trace_values.specs.Nibbles.{high_of}
 use Rattle.stp_codec.specs.Reading.{pattern, items_at}
 use Rattle.stp_codec.proofs.Taking.{At, goes_list, goes_step, stops_list, stops_step}
 

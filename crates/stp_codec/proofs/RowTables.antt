@@ -1,15 +1,10 @@
 -- The table by opcodes' nibbles holds what the table of opcodes says.
-use Rattle.std.proofs.Common.{◌≡◌, ℕ, ◌+◌, ◌*◌, ◌%◌, ◌⊎◌, ◌<◌, ◌≤◌, get_or, Bool, true, false, cond, refl, sym, ◌∙◌, ap, arith}
+use Rattle.std.proofs.Common.{◌≡◌, ℕ, ◌+◌, ◌*◌, ◌%◌, ◌⊎◌, ◌<◌, ◌≤◌, get_or, Bool, true, false, cond, refl, sym, ◌∙◌}
+use Rattle.std.proofs.Common.{ap, arith}
 use Rattle.std.specs.Prelude.{◌==◌, ◌&&◌, ◌||◌, nat_le, nat_lt}
 use Rattle.std.proofs.lemmas.Bool.Decides.{nat_tests}
-use Rattle.trace_values.specs.declared.next.Next.{Next}
-use Rattle.trace_values.specs.declared.next.Next.TheVariants.{Go, End, Fail}
-use Rattle.stp_grammar.specs.declared.packet.StpPacket.{StpPacket}
-use Rattle.stp_grammar.specs.declared.partial.Partial.{Partial}
-use Rattle.stp_grammar.specs.Opcodes.{row_at}
-use Rattle.stp_grammar.specs.declared.packet.Order.{Order}
+use Rattle.stp_codec.specs.Names.{Next, Go, End, Fail, StpPacket, Partial, row_at, Order, begin, is_sound}
 use Rattle.stp_codec.specs.Wholes.{left_by}
-use Rattle.stp_grammar.specs.Rule.{begin, is_sound}
 use Rattle.stp_grammar.proofs.Tables.{under, below, equal, at_most}
 use Rattle.stp_codec.specs.declared.flat.TheConstants.{OPCODES}
 

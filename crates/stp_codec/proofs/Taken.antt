@@ -1,31 +1,20 @@
 -- What a decoder stands for while bytes wait in it.
-use Rattle.std.proofs.Common.{◌≡◌, ℕ, zero, suc, ◌+◌, ◌-◌, ◌*◌, ◌/◌, ◌<◌, ◌≤◌, List, [], ◌∷◌, ◌++◌, length, take, refl, sym, ◌∙◌, ap, subst, arith, Option, None, Some, Bool, true, false, cond}
+use Rattle.std.proofs.Common.{◌≡◌, ℕ, zero, suc, ◌+◌, ◌-◌, ◌*◌, ◌/◌, ◌<◌, ◌≤◌, List, [], ◌∷◌, ◌++◌, length, take}
+use Rattle.std.proofs.Common.{refl, sym, ◌∙◌, ap, subst, arith, Option, None, Some, Bool, true, false, cond}
 use Rattle.std.specs.Prelude.{IfSome, nat_lt}
 use Rattle.std.proofs.lemmas.Bool.Decides.{nat_tests}
 use Rattle.std.proofs.lemmas.List.{take_all, length-take-le}
-use Rattle.trace_values.specs.declared.next.Next.TheVariants.{Go, End, Fail}
-use Rattle.trace_values.specs.declared.next.Next.{Next}
-use Rattle.trace_values.specs.declared.mode.Mode.{Mode}
-use Rattle.trace_values.specs.Placed.{Placed, units_of}
-use Rattle.trace_values.specs.Nibbles.{nibbles_of}
-use Rattle.trace_values.specs.Moded.{hunts, is_locked, skipped_of}
-use Rattle.stp_grammar.specs.declared.packet.Order.{Order}
-use Rattle.stp_grammar.specs.declared.packet.Order.TheVariants.{Msn}
-use Rattle.stp_grammar.specs.declared.packet.StpPacket.{StpPacket}
-use Rattle.stp_grammar.specs.declared.attribution.Attribution.{Attribution}
-use Rattle.stp_grammar.specs.declared.partial.Partial.{Partial}
-use Rattle.stp_grammar.specs.declared.partial.Partial.TheVariants.{Start}
-use Rattle.stp_grammar.specs.Proper.{IsProper, IsProperItem}
-use Rattle.stp_grammar.specs.Rule.{rule, count_of}
+use Rattle.stp_codec.specs.Names.{Go, End, Fail, Next, Mode, Placed, units_of, nibbles_of, hunts, is_locked}
+use Rattle.stp_codec.specs.Names.{skipped_of, Order, Msn, StpPacket, Attribution, Partial, Start, IsProper}
+use Rattle.stp_codec.specs.Names.{IsProperItem, rule, count_of, by_unit, Async}
 use Rattle.stp_grammar.proofs.Beginning.{start_never_fails}
 use Rattle.stp_grammar.proofs.Counting.{counts}
 use Rattle.stp_codec.specs.Reading.{items_in, items_at, pattern}
-use Rattle.trace_values.specs.Walk.{by_unit}
 use Rattle.trace_values.proofs.Modes as modes
 use Rattle.trace_values.proofs.Standings.{none_of}
-use Rattle.stp_grammar.specs.declared.packet.StpPacket.TheVariants.{Async}
 use Rattle.stp_grammar.proofs.Counting.{counts_placed}
-use Rattle.stp_codec.specs.Wholes.{nibbles_in, reached, Fronts, left_after, left_by, begun, Leaves, item_in, between, Ends}
+use Rattle.stp_codec.specs.Wholes.{nibbles_in, reached, Fronts, left_after, left_by, begun, Leaves, item_in, between}
+use Rattle.stp_codec.specs.Wholes.{Ends}
 use Rattle.stp_codec.specs.Cuts.{Passes}
 use Rattle.stp_codec.specs.declared.flat.TheConstants.{WINDOW}
 use Rattle.stp_codec.specs.declared.decoder.PacketTaken.{PacketTaken}
@@ -34,12 +23,15 @@ use Rattle.stp_codec.specs.declared.decoder.StpFound.{StpFound}
 use Rattle.stp_codec.specs.declared.decoder.StpFound.TheVariants.{Ends as EndsIn, Waits, Unknown}
 use Rattle.stp_codec.specs.declared.flat.PacketParts.{PacketParts}
 use Rattle.stp_codec.specs.Parts.{packet_of}
-use Rattle.stp_codec.specs.Decoder.{waiting_in, partial_of, begun_of, BegunAt, IsSettled, StandsWith, Stands, Reads, ReadsAt, order_of, is_hunter, held_of, skipped_by, read_of, is_live, has_locked, Finishes, IsReady, Settles, HoldsAhead, Copies, Idles, TakesPart, Finds}
+use Rattle.stp_codec.specs.Decoder.{waiting_in, partial_of, begun_of, BegunAt, IsSettled, StandsWith, Stands, Reads}
+use Rattle.stp_codec.specs.Decoder.{ReadsAt, order_of, is_hunter, held_of, skipped_by, read_of, is_live, has_locked}
+use Rattle.stp_codec.specs.Decoder.{Finishes, IsReady, Settles, HoldsAhead, Copies, Idles, TakesPart, Finds}
 use Rattle.stp_codec.proofs.Taking.{At}
 use Rattle.stp_codec.proofs.Between.{length-nibbles}
 use Rattle.stp_codec.proofs.PacketPieces.{take_nibbles}
 use Rattle.stp_codec.proofs.PartPieces.{inside_count, inside_passes}
-use Rattle.stp_codec.proofs.Unread.{nibbles_append, reached_on, fronts_on, reached_none, fewer_front, some_behind, ends_behind}
+use Rattle.stp_codec.proofs.Unread.{nibbles_append, reached_on, fronts_on, reached_none, fewer_front, some_behind}
+use Rattle.stp_codec.proofs.Unread.{ends_behind}
 
 -- the same in all parts
 stands_as : (d e : StpDecoder) (s t : Partial) → e.order ≡ d.order → e.mode ≡ d.mode → e.live ≡ d.live → e.attribution ≡ d.attribution → t ≡ s →

@@ -1,34 +1,17 @@
 -- One more nibble, in what a decoder keeps and in what it answers.
-use Rattle.std.proofs.Common.{◌≡◌, ℕ, ◌+◌, ◌-◌, List, [], ◌∷◌, ◌++◌, refl, sym, ◌∙◌, ap, subst, Option, Bool, true, false}
+use Rattle.std.proofs.Common.{◌≡◌, ℕ, ◌+◌, ◌-◌, List, [], ◌∷◌, ◌++◌, refl, sym, ◌∙◌, ap, subst, Option, Bool, true}
+use Rattle.std.proofs.Common.{false}
 use Rattle.std.specs.Prelude.{◌==◌, ◌&&◌}
-use Rattle.trace_values.specs.declared.fault.Reason.{Reason}
-use Rattle.trace_values.specs.declared.next.Next.{Next}
-use Rattle.trace_values.specs.declared.next.Next.TheVariants.{Go, End, Fail}
-use Rattle.trace_values.specs.declared.mode.Mode.{Mode}
-use Rattle.trace_values.specs.declared.mode.Mode.TheVariants.{Hunting, Locked}
-use Rattle.trace_values.specs.declared.step.Step.{Step}
-use Rattle.trace_values.specs.declared.step.Step.TheVariants.{Quiet, Skipping, Item, Locked as StepLocked, Fault as Faulty}
-use Rattle.trace_values.specs.Placed.{Placed}
-use Rattle.trace_values.specs.Walk.{by_unit}
-use Rattle.trace_values.specs.Stream.{Grows}
-use Rattle.trace_values.specs.Hunted.{run_after}
-use Rattle.trace_values.specs.Moded.{StandsIn, hunts, is_locked}
-use Rattle.trace_values.specs.Standing.{live_after, state_after}
+use Rattle.stp_codec.specs.Names.{Reason, Next, Go, End, Fail, Mode, Hunting, Step, Quiet, Skipping, Item}
+use Rattle.stp_codec.specs.Names.{Locked as StepLocked, Fault as Faulty, Placed, by_unit, Grows, run_after, StandsIn}
+use Rattle.stp_codec.specs.Names.{hunts, is_locked, live_after, state_after, Order, StpPacket, Async, StpItem}
+use Rattle.stp_codec.specs.Names.{Partial, Start, rule, Attribution, attribute, item_of, Stands as Attributes}
+use Rattle.trace_values.specs.declared.mode.Mode.TheVariants.{Locked}
 use Rattle.trace_values.proofs.OneUnit.{step_on}
 use Rattle.trace_values.proofs.Decorating.{item_step, step_with, GivesAtLock}
 use Rattle.trace_values.proofs.Modes as laws
 use Rattle.trace_values.proofs.Decorating as decorating
-use Rattle.stp_grammar.specs.declared.packet.Order.{Order}
-use Rattle.stp_grammar.specs.declared.packet.StpPacket.{StpPacket}
-use Rattle.stp_grammar.specs.declared.packet.StpPacket.TheVariants.{Async}
-use Rattle.stp_grammar.specs.declared.item.StpItem.{StpItem}
 use Rattle.stp_grammar.specs.declared.item.StpItem.TheVariants.{Async as AsyncItem}
-use Rattle.stp_grammar.specs.declared.partial.Partial.{Partial}
-use Rattle.stp_grammar.specs.declared.partial.Partial.TheVariants.{Start}
-use Rattle.stp_grammar.specs.Rule.{rule}
-use Rattle.stp_grammar.specs.declared.attribution.Attribution.{Attribution}
-use Rattle.stp_grammar.specs.Attribution.{attribute, item_of}
-use Rattle.stp_grammar.specs.Attributed.{Stands as Attributes}
 use Rattle.stp_grammar.proofs.Attributing.{stands_with}
 use Rattle.stp_codec.specs.Reading.{pattern, packets_in, packets_of, items_at}
 

@@ -1,18 +1,14 @@
 -- Nibbles that end nothing, and what comes after them.
-use Rattle.std.proofs.Common.{◌≡◌, ℕ, zero, suc, ◌+◌, ◌-◌, ◌*◌, ◌/◌, ◌%◌, ◌<◌, ◌≤◌, List, [], ◌∷◌, ◌++◌, length, take, drop, get_or, refl, sym, ◌∙◌, ap, append-nil, arith, Bool, true, false}
+use Rattle.std.proofs.Common.{◌≡◌, ℕ, zero, suc, ◌+◌, ◌-◌, ◌*◌, ◌/◌, ◌%◌, ◌<◌, ◌≤◌, List, [], ◌∷◌, ◌++◌, length, take}
+use Rattle.std.proofs.Common.{drop, get_or, refl, sym, ◌∙◌, ap, append-nil, arith, Bool, true, false}
 use Rattle.std.specs.Prelude.{nat_lt}
 use Rattle.std.proofs.lemmas.Bool.Decides.{nat_tests}
 use Rattle.std.proofs.lemmas.List.{take_all, take-append-drop, take-append-le, length-take-le}
 use Rattle.std.proofs.Math.Seq.{take-append-add, take-append_seam}
 use Rattle.std.proofs.lemmas.Grind.{flat_map-append}
-use Rattle.trace_values.specs.declared.next.Next.{Next}
-use Rattle.trace_values.specs.declared.next.Next.TheVariants.{Go, End, Fail}
-use Rattle.trace_values.specs.Walk.{Walked, Within, Whole, after, walk}
+use Rattle.stp_codec.specs.Names.{Next, Go, End, Fail, Walked, Within, Whole, after, walk, Order, StpPacket, Partial}
+use Rattle.stp_codec.specs.Names.{rule}
 use Rattle.trace_values.proofs.Walks.{walk_more, walk_beyond}
-use Rattle.stp_grammar.specs.declared.packet.Order.{Order}
-use Rattle.stp_grammar.specs.declared.packet.StpPacket.{StpPacket}
-use Rattle.stp_grammar.specs.declared.partial.Partial.{Partial}
-use Rattle.stp_grammar.specs.Rule.{rule}
 use Rattle.stp_codec.specs.Wholes.{nibbles_in, between, state_of, reached, Ends, Fronts, GoesOn}
 use Rattle.stp_codec.specs.Cuts.{Leads}
 use Rattle.stp_codec.proofs.Between.{length-nibbles, between_first, between_parts}

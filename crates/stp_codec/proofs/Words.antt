@@ -1,12 +1,12 @@
 -- Nibbles of words of eight bytes.
-use Rattle.std.proofs.Common.{◌≡◌, ℕ, zero, suc, ◌+◌, ◌-◌, ◌*◌, ◌/◌, ◌%◌, ◌^◌, ◌<◌, ◌≤◌, List, [], ◌∷◌, ◌++◌, length, take, drop, get_or, refl, sym, ◌∙◌, ap, subst, arith}
+use Rattle.std.proofs.Common.{◌≡◌, ℕ, zero, suc, ◌+◌, ◌-◌, ◌*◌, ◌/◌, ◌%◌, ◌^◌, ◌<◌, ◌≤◌, List, [], ◌∷◌, ◌++◌, length}
+use Rattle.std.proofs.Common.{take, drop, get_or, refl, sym, ◌∙◌, ap, subst, arith}
 use Rattle.std.specs.Prelude.{bit_and, MatchOption, Option, Some}
 use Rattle.std.specs.Int.{w64, from_le_bytes, from_be_bytes, to_le_bytes}
 use Rattle.std.proofs.Math.Seq.{drop-nil, take-length}
 use Rattle.std.proofs.lemmas.List.{get_or-drop, length-drop}
 use Rattle.std.proofs.lemmas.Nat.{and_block, and_mask, le_bytes_8}
-use Rattle.stp_grammar.specs.declared.packet.Order.TheVariants.{Lsn, Msn}
-use Rattle.stp_grammar.specs.Spelling.{number}
+use Rattle.stp_codec.specs.Names.{Lsn, Msn, number}
 use Rattle.stp_codec.specs.Wholes.{nibbles_in, between}
 
 -- the first numbers of a list, one by one

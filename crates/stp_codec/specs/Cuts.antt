@@ -1,36 +1,8 @@
 -- Packets of which the bytes at hand are only a part.
-use Rattle.std.specs.Prelude.{
-  ◌≡◌,
-  ℕ,
-  ◌*◌,
-  ◌<◌,
-  ◌≤◌,
-  List,
-  [],
-  ◌∷◌,
-  ◌++◌,
-  length,
-  Option,
-  None,
-  true,
-  ◌==◌,
-  if◌then◌else◌,
-}
-use Rattle.trace_values.specs.declared.next.Next.{Next}
-use Rattle.trace_values.specs.declared.next.Next.TheVariants.{Go, End}
-use Rattle.trace_values.specs.declared.step.Step.{Step}
-use Rattle.trace_values.specs.Placed.{Placed}
-use Rattle.trace_values.specs.Stream.{Stream}
-use Rattle.trace_values.specs.Block.{given_after}
-use Rattle.trace_values.specs.Walk.{Within, after, walk}
-use Rattle.stp_grammar.specs.declared.packet.Order.{Order}
-use Rattle.stp_grammar.specs.declared.packet.Row.{Row}
-use Rattle.stp_grammar.specs.declared.packet.StpPacket.{StpPacket}
-use Rattle.stp_grammar.specs.declared.partial.Partial.{Partial}
-use Rattle.stp_grammar.specs.declared.partial.Partial.TheVariants.{Payload}
-use Rattle.stp_grammar.specs.Opcodes.{line_of}
-use Rattle.stp_grammar.specs.Proper.{IsProper}
-use Rattle.stp_grammar.specs.Rule.{rule, after_payload, is_sound}
+use Rattle.std.specs.Prelude.{◌≡◌, ℕ, ◌*◌, ◌<◌, ◌≤◌, List, [], ◌∷◌, ◌++◌, length, Option, None, true, ◌==◌}
+use Rattle.std.specs.Prelude.{if◌then◌else◌}
+use Rattle.stp_codec.specs.Names.{Next, Go, End, Step, Placed, Stream, given_after, Within, after, walk, Order, Row}
+use Rattle.stp_codec.specs.Names.{StpPacket, Partial, Payload, line_of, IsProper, rule, after_payload, is_sound}
 use Rattle.stp_codec.specs.Wholes.{nibbles_in, between}
 use Rattle.stp_codec.specs.declared.cut.Cut.{Cut}
 use Rattle.stp_codec.specs.declared.cut.Cut.TheVariants.{Inside, Ended}

@@ -1,21 +1,8 @@
 -- What a decoder stands for, and what it shows.
 use Rattle.std.specs.Prelude.{◌≡◌, ℕ, ◌+◌, ◌*◌, ◌<◌, ◌≤◌, List, [], ◌∷◌, ◌++◌, length, take, Bool, true, None, IfSome}
-use Rattle.trace_values.specs.declared.next.Next.TheVariants.{Go}
-use Rattle.trace_values.specs.declared.step.Step.{Step}
-use Rattle.trace_values.specs.declared.step.Step.TheVariants.{Item, Locked}
-use Rattle.trace_values.specs.Placed.{Placed, units_of}
-use Rattle.trace_values.specs.Nibbles.{nibbles_of}
-use Rattle.trace_values.specs.Walk.{by_unit}
-use Rattle.trace_values.specs.Moded.{StandsIn, hunts, is_locked, skipped_of}
-use Rattle.stp_grammar.specs.declared.packet.Order.{Order}
-use Rattle.stp_grammar.specs.declared.packet.Order.TheVariants.{Msn}
-use Rattle.stp_grammar.specs.declared.packet.StpPacket.{StpPacket}
-use Rattle.stp_grammar.specs.declared.packet.StpPacket.TheVariants.{Async}
-use Rattle.stp_grammar.specs.declared.item.StpItem.{StpItem}
-use Rattle.stp_grammar.specs.declared.partial.Partial.{Partial}
-use Rattle.stp_grammar.specs.declared.partial.Partial.TheVariants.{Start}
-use Rattle.stp_grammar.specs.Proper.{IsProper, IsProperItem}
-use Rattle.stp_grammar.specs.Rule.{rule, count_of}
+use Rattle.stp_codec.specs.Names.{Go, Step, Item, Locked, Placed, units_of, nibbles_of, by_unit, StandsIn, hunts}
+use Rattle.stp_codec.specs.Names.{is_locked, skipped_of, Order, Msn, StpPacket, Async, StpItem, Partial, Start}
+use Rattle.stp_codec.specs.Names.{IsProper, IsProperItem, rule, count_of}
 use Rattle.stp_grammar.specs.Attributed as attributed
 use Rattle.stp_codec.specs.Reading.{pattern, packets_of, items_in}
 use Rattle.stp_codec.specs.Wholes.{Ends, between, nibbles_in, reached, item_in, begun}

@@ -1,12 +1,7 @@
 -- A byte after a list of nibbles, which may begin with the high one of a byte (MIPI System Trace Protocol, version 2;
 -- that the low nibble of a byte comes first is this project's profile).
 use Rattle.std.specs.Prelude.{◌≡◌, ℕ, zero, suc, List, [], ◌∷◌, ◌++◌, None}
-use Rattle.trace_values.specs.declared.step.Step.{Step}
-use Rattle.trace_values.specs.declared.step.Step.TheVariants.{Fault as Faulty}
-use Rattle.trace_values.specs.Nibbles.{low_of, high_of}
-use Rattle.trace_values.specs.Placed.{Placed}
-use Rattle.trace_values.specs.Stream.{Grows}
-use Rattle.stp_grammar.specs.declared.item.StpItem.{StpItem}
+use Rattle.stp_codec.specs.Names.{Step, Fault as Faulty, low_of, high_of, Placed, Grows, StpItem}
 use Rattle.stp_codec.specs.Decoder.{StandsAt, order_of, is_hunter}
 use Rattle.stp_codec.specs.Reading.{items_at}
 use Rattle.stp_codec.specs.declared.decoder.StpDecoder.{StpDecoder}

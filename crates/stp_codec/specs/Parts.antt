@@ -1,6 +1,5 @@
 -- A packet as numbers.
-use Rattle.stp_grammar.specs.declared.packet.StpPacket.{StpPacket}
-use Rattle.stp_grammar.specs.Said.{packet_at}
+use Rattle.stp_codec.specs.Names.{StpPacket, packet_at}
 use Rattle.stp_codec.specs.declared.flat.PacketParts.{PacketParts}
 
 -- the packet of these parts

@@ -1,23 +1,8 @@
 -- The packets and the items that a source's list of bytes is.
 use Rattle.std.specs.Prelude.{◌≡◌, ◌⊎◌, List, [], ◌∷◌, ◌++◌, length, Bool, true, false, Option, None, Some}
-use Rattle.trace_values.specs.Placed.{Place, Placed, units_of}
-use Rattle.trace_values.specs.Nibbles.{nibbles_of}
-use Rattle.trace_values.specs.Walk.{by_unit}
-use Rattle.trace_values.specs.Hunt.{IsNowhere, IsFirst}
-use Rattle.trace_values.specs.declared.pattern.Pattern.{Pattern}
-use Rattle.trace_values.specs.Hunted.{pattern_of, Found, hunt}
-use Rattle.trace_values.specs.Reading.{progress}
-use Rattle.trace_values.specs.Moded.{stream_in}
-use Rattle.trace_values.specs.Stream.{Stream, Notice, shown}
-use Rattle.trace_values.specs.Decorated.{decorated, carried}
-use Rattle.stp_grammar.specs.declared.packet.Order.{Order}
-use Rattle.stp_grammar.specs.declared.packet.StpPacket.{StpPacket}
-use Rattle.stp_grammar.specs.declared.packet.StpPacket.TheVariants.{Async}
-use Rattle.stp_grammar.specs.declared.item.StpItem.{StpItem}
-use Rattle.stp_grammar.specs.declared.partial.Partial.{Partial}
-use Rattle.stp_grammar.specs.declared.partial.Partial.TheVariants.{Start}
-use Rattle.stp_grammar.specs.Rule.{rule}
-use Rattle.stp_grammar.specs.Attribution.{attribute}
+use Rattle.stp_codec.specs.Names.{Place, Placed, units_of, nibbles_of, by_unit, IsNowhere, IsFirst, Pattern}
+use Rattle.stp_codec.specs.Names.{pattern_of, Found, hunt, progress, stream_in, Stream, Notice, shown, decorated}
+use Rattle.stp_codec.specs.Names.{carried, Order, StpPacket, Async, StpItem, Partial, Start, rule, attribute}
 
 -- what a decoder hunts for: 21 nibbles F and a nibble 0, which spell an ASYNC
 abbrev pub pattern : Pattern

@@ -1,20 +1,10 @@
 -- Nibbles of a piece that end a packet.
-use Rattle.std.specs.Prelude.{◌≡◌, ℕ, nat_lt, ◌-◌, ◌/◌, ◌%◌, ◌+◌, List, [], ◌∷◌, take, drop, flat_map, ◌==◌, if◌then◌else◌}
+use Rattle.std.specs.Prelude.{◌≡◌, ℕ, nat_lt, ◌-◌, ◌/◌, ◌%◌, ◌+◌, List, [], ◌∷◌, take, drop, flat_map, ◌==◌}
+use Rattle.std.specs.Prelude.{if◌then◌else◌}
 use Rattle.std.specs.Prelude.{Option, None, Some}
-use Rattle.trace_values.specs.declared.next.Next.{Next}
-use Rattle.trace_values.specs.declared.next.Next.TheVariants.{Go, End, Fail}
-use Rattle.trace_values.specs.declared.step.Step.{Step}
-use Rattle.trace_values.specs.declared.step.Step.TheVariants.{Item}
-use Rattle.trace_values.specs.Placed.{Placed}
-use Rattle.trace_values.specs.Stream.{Stream}
-use Rattle.trace_values.specs.Nibbles.{high_of}
-use Rattle.trace_values.specs.Walk.{Walked, Within, Whole, Beyond, Broken, after, walk}
-use Rattle.stp_grammar.specs.declared.packet.Order.{Order}
-use Rattle.stp_grammar.specs.declared.packet.StpPacket.{StpPacket}
-use Rattle.stp_grammar.specs.declared.item.StpItem.{StpItem}
-use Rattle.stp_grammar.specs.declared.partial.Partial.{Partial}
-use Rattle.stp_grammar.specs.declared.partial.Partial.TheVariants.{Start}
-use Rattle.stp_grammar.specs.Rule.{rule, number_with}
+use Rattle.stp_codec.specs.Names.{Next, Go, End, Fail, Step, Item, Placed, Stream, high_of, Walked, Within, Whole}
+use Rattle.stp_codec.specs.Names.{Beyond, Broken, after, walk, Order, StpPacket, StpItem, Partial, Start, rule}
+use Rattle.stp_codec.specs.Names.{number_with}
 
 -- the nibbles of bytes, the low one of each first
 abbrev pub nibbles_in : List ℕ → List ℕ

@@ -3,15 +3,12 @@
 //! They are read so for speed alone: the decoder reads nibble by nibble what is not found here.
 
 ghost use Rattle.std.specs.Prelude.{◌≡◌, ◌+◌, ◌*◌, ◌^◌, ◌<◌, ◌≤◌, true, length, IfSome};
-ghost use Rattle.trace_values.specs.declared.next.Next.TheVariants.{Go};
-ghost use Rattle.stp_grammar.specs.declared.partial.Partial.TheVariants.{Start, Second, Third, Run, Size, Word};
-ghost use Rattle.stp_grammar.specs.Opcodes.{line_of, row_at};
-ghost use Rattle.stp_grammar.specs.Rule.{is_sound, count_of, begin};
+ghost use Rattle.stp_codec.specs.Names.{Go, Start, Second, Third, Run, Size, Word, line_of, row_at, is_sound};
+ghost use Rattle.stp_codec.specs.Names.{count_of, begin, COUNT_ROOM};
 ghost use Rattle.stp_codec.specs.Wholes.{nibbles_in, between};
 ghost use Rattle.stp_codec.specs.Cuts.{Leads, CutsInto, IsProperCut, payload_from};
-ghost use Rattle.trace_values.specs.declared.limits.TheConstants.{COUNT_ROOM};
 
-use crate::whole::{nibble_of, number_from};
+use crate::numbers::{nibble_of, number_from};
 use stp_grammar::opcode::{Head, opcode_of, payload_at, row_at, stamped_at};
 use stp_grammar::packet::{Order, Row, StpPacket};
 use stp_grammar::partial::Partial;

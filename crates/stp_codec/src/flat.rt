@@ -3,20 +3,15 @@
 //!
 //! They are read so for speed alone: what is not found here is read otherwise.
 
-ghost use Rattle.std.specs.Prelude.{◌≡◌, ℕ, ◌+◌, ◌-◌, ◌*◌, ◌/◌, ◌%◌, ◌^◌, ◌<◌, ◌≤◌, ◌==◌, List, true, length, get_or, IfSome};
+ghost use Rattle.std.specs.Prelude.{◌≡◌, ℕ, ◌+◌, ◌-◌, ◌*◌, ◌/◌, ◌%◌, ◌^◌, ◌<◌, ◌≤◌, ◌==◌, List, true, length, get_or};
+ghost use Rattle.std.specs.Prelude.{IfSome};
 ghost use Rattle.std.specs.Prelude.{if◌then◌else◌};
-ghost use Rattle.trace_values.specs.declared.next.Next.TheVariants.{Go};
-ghost use Rattle.stp_grammar.specs.declared.packet.StpPacket.{StpPacket};
-ghost use Rattle.stp_grammar.specs.declared.packet.Order.TheVariants.{Msn};
-ghost use Rattle.stp_grammar.specs.declared.partial.Partial.TheVariants.{Start, Size};
-ghost use Rattle.stp_grammar.specs.Opcodes.{line_of, row_at};
-ghost use Rattle.stp_grammar.specs.Proper.{IsProper};
-ghost use Rattle.stp_grammar.specs.Rule.{rule, begin};
+ghost use Rattle.stp_codec.specs.Names.{Go, StpPacket, Msn, Start, Size, line_of, row_at, IsProper, rule, begin};
 ghost use Rattle.stp_codec.specs.Wholes.{nibbles_in, between, Ends, left_by};
 ghost use Rattle.stp_codec.specs.Parts.{packet_of};
 ghost use Rattle.stp_codec.specs.declared.flat.TheConstants.{WINDOW};
 
-use crate::whole::{nibble_of, number_at_once};
+use crate::numbers::{nibble_of, number_at_once};
 use stp_grammar::opcode::{payload_at, row_at, stamped_at};
 use stp_grammar::packet::StpPacket;
 use trace_clock::word_nibbles;

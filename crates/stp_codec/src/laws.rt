@@ -1,8 +1,7 @@
 //! Laws of the reading of a source's bytes, over its definitions alone.
 
 ghost use Rattle.std.specs.Prelude.{List, true};
-ghost use Rattle.trace_values.specs.Placed.{Placed};
-ghost use Rattle.stp_grammar.specs.declared.packet.Order.{Order};
+ghost use Rattle.stp_codec.specs.Names.{Placed, Order};
 ghost use Rattle.stp_codec.specs.Reading.{packets_in, IsHunt};
 
 /// In a hunt the nibbles before the least place of 21 nibbles F and a nibble 0 are skipped, and the reading begins

@@ -4,11 +4,14 @@
 
 mod cut;
 mod decoder;
+mod find;
 mod flat;
 pub mod laws;
 mod nibbles;
+mod numbers;
+mod piece;
+mod take;
 mod waiting;
-mod whole;
 
 pub use decoder::{PacketTaken, SaidTaken, StpDecoder, StpFound};
 pub use flat::{PacketParts, WINDOW};

@@ -1,12 +1,10 @@
 //! Bytes that were taken of an unfinished packet and are read only later.
 
 ghost use Rattle.std.specs.Prelude.{◌≡◌, ◌+◌, ◌*◌, ◌<◌, ◌≤◌, true, length};
-ghost use Rattle.trace_values.specs.declared.limits.TheConstants.{COUNT_ROOM};
-ghost use Rattle.trace_values.specs.declared.next.Next.TheVariants.{Go};
-ghost use Rattle.stp_grammar.specs.Rule.{rule, is_sound, count_of};
+ghost use Rattle.stp_codec.specs.Names.{COUNT_ROOM, Go, rule, is_sound, count_of};
 ghost use Rattle.stp_codec.specs.Wholes.{nibbles_in, reached, Fronts, GoesOn};
 
-use crate::whole::nibble_of;
+use crate::numbers::nibble_of;
 use stp_grammar::packet::Order;
 use stp_grammar::partial::Partial;
 use trace_values::Next;

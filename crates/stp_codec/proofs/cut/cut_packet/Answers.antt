@@ -1,6 +1,6 @@
 use Rattle.std.proofs.Common.{sym, subst}
 use Rattle.std.specs.Prelude.{IfSome}
-use Rattle.stp_grammar.specs.declared.partial.Partial.TheVariants.{Run}
+use Rattle.stp_codec.specs.Names.{Run}
 use Rattle.stp_codec.specs.Wholes.{nibbles_in}
 use Rattle.stp_codec.specs.Cuts.{CutsInto}
 use Rattle.stp_codec.proofs.Cutting.{none_leads}

@@ -1,6 +1,5 @@
 use Rattle.std.proofs.Common.{◌≡◌, ℕ, zero, suc, ◌+◌, ◌<◌, ◌≤◌, sym, ◌∙◌, subst, arith}
-use Rattle.trace_values.specs.declared.next.Next.TheVariants.{Go}
-use Rattle.stp_grammar.specs.declared.partial.Partial.TheVariants.{Payload}
+use Rattle.stp_codec.specs.Names.{Go, Payload}
 use Rattle.stp_codec.specs.Wholes.{nibbles_in, between}
 use Rattle.stp_codec.specs.Cuts.{Leads}
 use Rattle.stp_codec.proofs.Between.{length-nibbles}

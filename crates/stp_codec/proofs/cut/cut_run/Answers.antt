@@ -1,7 +1,5 @@
 use Rattle.std.proofs.Common.{◌+◌, refl, sym, ◌∙◌, arith}
-use Rattle.trace_values.specs.declared.next.Next.TheVariants.{Go, End}
-use Rattle.stp_grammar.specs.declared.packet.StpPacket.TheVariants.{Async}
-use Rattle.stp_grammar.specs.declared.partial.Partial.TheVariants.{Run}
+use Rattle.stp_codec.specs.Names.{Go, End, Async, Run}
 use Rattle.stp_codec.specs.Wholes.{nibbles_in}
 use Rattle.stp_codec.proofs.Between.{length-nibbles}
 use Rattle.stp_codec.proofs.Cutting.{all_leads, nibble_leads, run_ends}

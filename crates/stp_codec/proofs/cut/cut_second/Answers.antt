@@ -1,8 +1,5 @@
 use Rattle.std.proofs.Common.{◌+◌, refl, sym, ◌∙◌, arith}
-use Rattle.trace_values.specs.declared.next.Next.TheVariants.{Go}
-use Rattle.stp_grammar.specs.declared.partial.Partial.TheVariants.{Second, Third, Run}
-use Rattle.stp_grammar.specs.Opcodes.{row_at}
-use Rattle.stp_grammar.specs.Rule.{begin}
+use Rattle.stp_codec.specs.Names.{Go, Second, Third, Run, row_at, begin}
 use Rattle.stp_codec.specs.Wholes.{nibbles_in}
 use Rattle.stp_codec.proofs.Between.{length-nibbles}
 use Rattle.stp_codec.proofs.Cutting.{all_leads, nibble_leads, second_opens}

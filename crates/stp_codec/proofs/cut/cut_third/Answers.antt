@@ -1,8 +1,5 @@
 use Rattle.std.proofs.Common.{sym, ◌∙◌, arith}
-use Rattle.trace_values.specs.declared.next.Next.TheVariants.{Go}
-use Rattle.stp_grammar.specs.declared.partial.Partial.TheVariants.{Third}
-use Rattle.stp_grammar.specs.Opcodes.{row_at}
-use Rattle.stp_grammar.specs.Rule.{begin}
+use Rattle.stp_codec.specs.Names.{Go, Third, row_at, begin}
 use Rattle.stp_grammar.proofs.Openings.{third_whole}
 use Rattle.stp_codec.specs.Wholes.{nibbles_in}
 use Rattle.stp_codec.proofs.Between.{length-nibbles}

@@ -1,6 +1,5 @@
 use Rattle.std.proofs.Common.{◌+◌, refl, arith}
-use Rattle.trace_values.specs.declared.next.Next.TheVariants.{Go}
-use Rattle.stp_grammar.specs.declared.partial.Partial.TheVariants.{Word}
+use Rattle.stp_codec.specs.Names.{Go, Word}
 use Rattle.stp_codec.specs.Wholes.{nibbles_in}
 use Rattle.stp_codec.proofs.Between.{length-nibbles}
 use Rattle.stp_codec.proofs.Finishing.{sound_word}

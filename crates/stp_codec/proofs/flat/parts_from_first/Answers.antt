@@ -1,10 +1,6 @@
 use Rattle.std.proofs.Common.{ℕ, ◌<◌, get_or, cond, refl, sym, subst, rules, arith}
 use Rattle.std.specs.Prelude.{◌==◌, IfSome}
-use Rattle.trace_values.specs.declared.next.Next.TheVariants.{Go}
-use Rattle.stp_grammar.specs.declared.packet.Order.TheVariants.{Msn}
-use Rattle.stp_grammar.specs.declared.partial.Partial.TheVariants.{Start}
-use Rattle.stp_grammar.specs.Opcodes.{row_at}
-use Rattle.stp_grammar.specs.Rule.{rule, begin}
+use Rattle.stp_codec.specs.Names.{Go, Msn, Start, row_at, rule, begin}
 use Rattle.stp_codec.specs.Parts.{packet_of}
 use Rattle.stp_codec.specs.Wholes.{nibbles_in, between, Ends, left_by}
 use Rattle.stp_codec.proofs.Between.{length-nibbles}

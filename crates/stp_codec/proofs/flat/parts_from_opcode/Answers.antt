@@ -1,9 +1,5 @@
 use Rattle.std.proofs.Common.{◌+◌, ◌∙◌, refl, sym, subst, arith, Bool, List, ℕ, cond}
-use Rattle.trace_values.specs.declared.next.Next.TheVariants.{Go, End}
-use Rattle.stp_grammar.specs.declared.packet.Order.TheVariants.{Msn}
-use Rattle.stp_grammar.specs.declared.packet.StpPacket.TheVariants.{Plain, Stamped}
-use Rattle.stp_grammar.specs.declared.partial.Partial.TheVariants.{Size}
-use Rattle.stp_grammar.specs.Opcodes.{row_at}
+use Rattle.stp_codec.specs.Names.{Go, End, Msn, Plain, Stamped, Size, row_at}
 use Rattle.stp_codec.specs.Parts.{packet_of}
 use Rattle.stp_codec.specs.Wholes.{nibbles_in, between, Ends}
 use Rattle.stp_codec.proofs.Between.{length-nibbles, between_none}

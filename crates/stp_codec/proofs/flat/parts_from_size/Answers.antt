@@ -1,9 +1,5 @@
 use Rattle.std.proofs.Common.{◌≡◌, ◌+◌, ◌<◌, sym, subst, arith, Bool, cond, ℕ}
-use Rattle.trace_values.specs.declared.next.Next.TheVariants.{Go}
-use Rattle.stp_grammar.specs.declared.packet.Order.TheVariants.{Msn}
-use Rattle.stp_grammar.specs.declared.packet.StpPacket.TheVariants.{Plain, Stamped}
-use Rattle.stp_grammar.specs.declared.partial.Partial.TheVariants.{Size}
-use Rattle.stp_grammar.specs.Opcodes.{row_at}
+use Rattle.stp_codec.specs.Names.{Go, Msn, Plain, Stamped, Size, row_at}
 use Rattle.stp_codec.specs.Wholes.{nibbles_in, between, Ends, number_from}
 use Rattle.stp_codec.proofs.Between.{length-nibbles}
 use Rattle.stp_codec.proofs.PartsPieces.{ends_stamp, few_word}

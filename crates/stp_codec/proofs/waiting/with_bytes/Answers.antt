@@ -1,6 +1,5 @@
 use Rattle.std.proofs.Common.{sym, ap, subst, arith}
-use Rattle.trace_values.specs.declared.next.Next.TheVariants.{Go}
-use Rattle.stp_grammar.specs.Rule.{rule}
+use Rattle.stp_codec.specs.Names.{Go, rule}
 use Rattle.stp_grammar.proofs.Counting.{counts}
 use Rattle.stp_codec.specs.Wholes.{nibbles_in, state_of, GoesOn}
 use Rattle.stp_codec.proofs.Between.{length-nibbles}

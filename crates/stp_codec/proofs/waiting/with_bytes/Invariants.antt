@@ -1,6 +1,5 @@
 use Rattle.std.proofs.Common.{◌≡◌, ◌+◌, true}
-use Rattle.trace_values.specs.declared.next.Next.TheVariants.{Go}
-use Rattle.stp_grammar.specs.Rule.{is_sound, count_of}
+use Rattle.stp_codec.specs.Names.{Go, is_sound, count_of}
 use Rattle.stp_codec.specs.Wholes.{nibbles_in, between}
 use Rattle.stp_codec.specs.Cuts.{Leads}
 use Rattle.stp_codec.proofs.waiting.with_bytes.Given as goal

@@ -1,6 +1,5 @@
 use Rattle.std.proofs.Common.{[], ◌∷◌, ◌++◌, ◌∙◌, arith}
-use Rattle.trace_values.specs.Nibbles.{low_of}
-use Rattle.trace_values.specs.Stream.{Grows}
+use Rattle.stp_codec.specs.Names.{low_of, Grows}
 use Rattle.stp_codec.specs.Reading.{items_at}
 use Rattle.stp_codec.proofs.Bytes.{ended}
 use Rattle.stp_codec.proofs.Pairs.{by_high, by_low, by_fault}

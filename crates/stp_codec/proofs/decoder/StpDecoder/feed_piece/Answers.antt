@@ -1,7 +1,5 @@
 use Rattle.std.proofs.Common.{◌≡◌, ◌+◌, ◌-◌, ◌++◌, length, take, drop, Some, refl, sym, ◌∙◌, ap, subst, arith}
-use Rattle.trace_values.specs.Placed.{placed_from}
-use Rattle.trace_values.specs.Block.{Takes}
-use Rattle.trace_values.specs.declared.step.Step.TheVariants.{Item}
+use Rattle.stp_codec.specs.Names.{placed_from, Takes, Item}
 use Rattle.stp_codec.specs.Reading.{items_in}
 use Rattle.stp_codec.specs.Wholes.{item_in}
 use Rattle.stp_codec.specs.Decoder.{Stands, order_of, is_hunter, held_of, skipped_by}

@@ -1,5 +1,5 @@
 use Rattle.std.proofs.Common.{◌≡◌, ◌+◌, ◌-◌, ◌*◌, ◌≤◌, List, length, true}
-use Rattle.trace_values.specs.Placed.{Placed}
+use Rattle.stp_codec.specs.Names.{Placed}
 use Rattle.trace_values.proofs.Blocks.{IsTaking}
 use Rattle.stp_codec.specs.Reading.{items_in}
 use Rattle.stp_codec.specs.Decoder.{Stands, order_of, is_hunter, is_live, held_of, skipped_by}

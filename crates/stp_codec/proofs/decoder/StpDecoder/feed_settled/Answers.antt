@@ -1,8 +1,8 @@
 use Rattle.std.proofs.Common.{[], ◌∷◌, ◌++◌, sym, subst, arith}
-use Rattle.trace_values.specs.Nibbles.{nibbles_of, low_of}
-use Rattle.trace_values.specs.Stream.{LocksAfter}
+use Rattle.stp_codec.specs.Names.{nibbles_of, low_of, LocksAfter}
 use Rattle.stp_codec.specs.Decoder.{is_hunter}
-use Rattle.stp_codec.proofs.Bytes.{of_byte, grows_high, grows_low, grows_faulty, faulty_list, ended, high_answer, low_answer, fault_answer}
+use Rattle.stp_codec.proofs.Bytes.{of_byte, grows_high, grows_low, grows_faulty, faulty_list, ended, high_answer}
+use Rattle.stp_codec.proofs.Bytes.{low_answer, fault_answer}
 use Rattle.stp_codec.proofs.decoder.StpDecoder.feed_settled.Goals as goal
 
 pub take_nibble-requires-clause-room : goal.take_nibble-requires-clause-room

@@ -1,7 +1,5 @@
 use Rattle.std.proofs.Common.{List, sym, subst, arith, true}
-use Rattle.trace_values.specs.Placed.{Placed}
-use Rattle.trace_values.specs.Nibbles.{nibbles_of}
-use Rattle.stp_grammar.specs.declared.partial.Partial.TheVariants.{Start}
+use Rattle.stp_codec.specs.Names.{Placed, nibbles_of, Start}
 use Rattle.stp_codec.specs.Decoder.{StandsAt, partial_of}
 use Rattle.stp_codec.proofs.Taking.{At}
 use Rattle.stp_codec.proofs.PacketPieces.{packet_passes}

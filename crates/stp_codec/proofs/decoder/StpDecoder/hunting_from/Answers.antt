@@ -1,5 +1,5 @@
 use Rattle.std.proofs.Common.{[], ◌∷◌, ◌≡◌, ◌∙◌, arith, subst, true, refl, ◌/◌}
-use Rattle.trace_values.specs.Stream.{Grows}
+use Rattle.stp_codec.specs.Names.{Grows}
 use Rattle.stp_codec.specs.Decoder.{is_hunter, nibble_at}
 use Rattle.stp_codec.specs.Reading.{items_at}
 use Rattle.stp_codec.proofs.Pairs.{hunts_pair, hunts_high, no_fault}

@@ -1,6 +1,5 @@
 use Rattle.std.proofs.Common.{◌≡◌, ap, arith}
-use Rattle.stp_grammar.specs.declared.partial.Partial.{Partial}
-use Rattle.stp_grammar.specs.Rule.{count_of}
+use Rattle.stp_codec.specs.Names.{Partial, count_of}
 use Rattle.stp_codec.specs.Decoder.{begun_of}
 use Rattle.stp_codec.proofs.Unread.{reached_none}
 use Rattle.stp_codec.proofs.decoder.StpDecoder.next_packet.Goals as goal

@@ -1,7 +1,5 @@
 use Rattle.std.proofs.Common.{◌≡◌, ℕ, ◌≤◌, ◌/◌, ◌++◌, true, refl, sym, subst, ap, append-nil, arith}
-use Rattle.stp_grammar.specs.declared.partial.Partial.{Partial}
-use Rattle.stp_grammar.specs.declared.partial.Partial.TheVariants.{Start}
-use Rattle.stp_grammar.specs.Rule.{count_of, is_sound}
+use Rattle.stp_codec.specs.Names.{Partial, Start, count_of, is_sound}
 use Rattle.stp_codec.specs.Reading.{items_at}
 use Rattle.stp_codec.specs.Wholes.{left_by, left_of, begun, IsQuiet}
 use Rattle.stp_codec.specs.Decoder.{StandsWith, begun_of, is_hunter}

@@ -1,10 +1,11 @@
 use Rattle.std.proofs.Common.{refl, sym, ◌∙◌, ap, arith}
 use Rattle.trace_values.proofs.Modes.{reads_on}
-use Rattle.stp_grammar.specs.Rule.{rule}
+use Rattle.stp_codec.specs.Names.{rule}
 use Rattle.stp_grammar.proofs.Beginning.{start_ends, start_never_fails}
 use Rattle.stp_grammar.proofs.Counting.{counts}
 use Rattle.stp_codec.specs.Decoder.{nibble_at}
-use Rattle.stp_codec.proofs.Taking.{locks_list, locks_step, skips_list, skips_step, goes_list, goes_step, stops_list, stops_step, fails_list, fails_step}
+use Rattle.stp_codec.proofs.Taking.{locks_list, locks_step, skips_list, skips_step, goes_list, goes_step, stops_list}
+use Rattle.stp_codec.proofs.Taking.{stops_step, fails_list, fails_step}
 use Rattle.stp_codec.proofs.Answering.{goes_answer, ends_answer, silent_answer, fails_answer}
 use Rattle.stp_codec.proofs.decoder.StpDecoder.take_nibble.Goals as goal
 

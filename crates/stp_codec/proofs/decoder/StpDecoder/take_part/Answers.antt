@@ -1,6 +1,7 @@
 use Rattle.std.proofs.Common.{length, IfSome}
 use Rattle.stp_codec.specs.Decoder.{TakesPart}
-use Rattle.stp_codec.proofs.Taken.{settles_same, settles_idle, idle_idle, idle_parts, part_bytes, part_passes, part_fits, part_few}
+use Rattle.stp_codec.proofs.Taken.{settles_same, settles_idle, idle_idle, idle_parts, part_bytes, part_passes}
+use Rattle.stp_codec.proofs.Taken.{part_fits, part_few}
 use Rattle.stp_codec.proofs.decoder.StpDecoder.take_part.Goals as goal
 
 part : (c : goal.After-take_settled) → IfSome c.take_settled.result (TakesPart c.args.self.now c.take_settled.new.self c.args.bytes.now (length c.args.bytes.now))

@@ -1,6 +1,5 @@
 use Rattle.std.proofs.Common.{sym, ◌∙◌}
-use Rattle.stp_grammar.specs.declared.partial.Partial.TheVariants.{Start}
-use Rattle.stp_grammar.specs.Rule.{rule}
+use Rattle.stp_codec.specs.Names.{Start, rule}
 use Rattle.stp_codec.proofs.PartsPieces.{leaves_is}
 use Rattle.stp_codec.proofs.Taken.{begun_first}
 use Rattle.stp_codec.proofs.decoder.StpDecoder.unfinished.Goals as goal

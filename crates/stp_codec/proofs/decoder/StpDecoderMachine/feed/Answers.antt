@@ -1,8 +1,5 @@
 use Rattle.std.proofs.Common.{[], ◌∷◌, ◌++◌, ◌∙◌, ap}
-use Rattle.trace_values.specs.Placed.{byte_at}
-use Rattle.trace_values.specs.Nibbles.{nibbles_of}
-use Rattle.trace_values.specs.Stream.{Grows}
-use Rattle.trace_values.specs.Moded.{is_locked}
+use Rattle.stp_codec.specs.Names.{byte_at, nibbles_of, Grows, is_locked}
 use Rattle.stp_codec.specs.Reading.{items_in, packets_of, rest_in}
 use Rattle.stp_codec.specs.Answers.{AnswersByte}
 use Rattle.stp_codec.proofs.Taken.{to_stands, settles_reads, settles_same, same_order}

@@ -1,7 +1,5 @@
 use Rattle.std.proofs.Common.{◌≡◌, ℕ, ◌≤◌, ◌⊎◌, ◌<◌, All, take, sym, ◌∙◌, ap, subst, arith}
-use Rattle.trace_values.specs.Placed.{units_of}
-use Rattle.trace_values.specs.Nibbles.{nibbles_of}
-use Rattle.stp_grammar.specs.Rule.{count_of}
+use Rattle.stp_codec.specs.Names.{units_of, nibbles_of, count_of}
 use Rattle.stp_codec.specs.Reading.{rest_in}
 use Rattle.stp_codec.specs.Decoder.{is_hunter, partial_of}
 use Rattle.stp_codec.proofs.Holding as holding

@@ -1,12 +1,11 @@
 use Rattle.std.proofs.Common.{◌≡◌, ◌+◌, ◌-◌, ◌*◌, ◌/◌, ◌^◌, ◌<◌, ◌≤◌, length, sym, ◌∙◌, ap, subst, arith}
-use Rattle.stp_grammar.specs.declared.packet.Order.TheVariants.{Msn}
-use Rattle.stp_grammar.specs.Spelling.{number}
+use Rattle.stp_codec.specs.Names.{Msn, number}
 use Rattle.stp_grammar.proofs.Digits.{value_whole}
 use Rattle.stp_codec.specs.Wholes.{nibbles_in, between}
 use Rattle.stp_codec.proofs.Between.{length-nibbles, length-between}
 use Rattle.stp_codec.proofs.AtOnce.{first_ones, between_fits, nibbles_fit}
 use Rattle.stp_codec.proofs.Finishing.{value_is}
-use Rattle.stp_codec.proofs.whole.number_at_once.Goals as goal
+use Rattle.stp_codec.proofs.numbers.number_at_once.Goals as goal
 
 -- the first of the nibbles that are turned
 first : (c : goal.After-from) → c.turned-number.result / 2 ^ (64 - 4 * c.from.result) ≡ number Msn (between (nibbles_in c.args.bytes.now) c.args.start (c.args.start + c.args.more))

@@ -1,7 +1,7 @@
 use Rattle.std.proofs.Common.{◌≡◌, ◌+◌, ◌*◌, ◌/◌, ◌%◌, ◌^◌, ◌<◌, get_or, ◌∙◌, ap, subst, arith}
-use Rattle.stp_grammar.specs.Rule.{number_with}
+use Rattle.stp_codec.specs.Names.{number_with}
 use Rattle.stp_codec.proofs.ByBytes.{byte_made}
-use Rattle.stp_codec.proofs.whole.number_by_bytes.Goals as goal
+use Rattle.stp_codec.proofs.numbers.number_by_bytes.Goals as goal
 
 pub loop-index-preserved : goal.loop-index-preserved
 loop-index-preserved c =

@@ -2,7 +2,7 @@ use Rattle.std.proofs.Common.{◌≡◌, ◌+◌, ◌-◌, ◌*◌, ◌/◌, ◌
 use Rattle.stp_codec.specs.Wholes.{nibbles_in, between, number_from}
 use Rattle.stp_codec.proofs.Between.{length-nibbles, odd_nibble}
 use Rattle.stp_codec.proofs.ByBytes.{from_high}
-use Rattle.stp_codec.proofs.whole.number_bytewise.Goals as goal
+use Rattle.stp_codec.proofs.numbers.number_bytewise.Goals as goal
 
 pub returns-else-more-eq0-clause-value : goal.returns-else-more-eq0-clause-value
 returns-else-more-eq0-clause-value c =

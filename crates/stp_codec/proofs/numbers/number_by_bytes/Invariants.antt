@@ -1,6 +1,6 @@
 use Rattle.std.proofs.Common.{◌≡◌, ◌+◌, ◌*◌, ◌^◌, ◌<◌}
 use Rattle.stp_codec.specs.Wholes.{nibbles_in, between, number_from}
-use Rattle.stp_codec.proofs.whole.number_by_bytes.Given as goal
+use Rattle.stp_codec.proofs.numbers.number_by_bytes.Given as goal
 
 abbrev pub invariant-loop-index : goal.invariant-loop-index
 invariant-loop-index l = record {

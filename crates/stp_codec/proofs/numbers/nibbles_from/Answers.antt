@@ -1,9 +1,8 @@
 use Rattle.std.proofs.Common.{◌≡◌, ◌+◌, ◌*◌, ◌/◌, ◌%◌, ◌∙◌, ap, arith}
-use Rattle.stp_grammar.specs.declared.packet.Order.TheVariants.{Lsn}
-use Rattle.stp_grammar.specs.Spelling.{number}
+use Rattle.stp_codec.specs.Names.{Lsn, number}
 use Rattle.stp_codec.specs.Wholes.{nibbles_in, between}
 use Rattle.stp_codec.proofs.Words.{nibbles_are}
-use Rattle.stp_codec.proofs.whole.nibbles_from.Goals as goal
+use Rattle.stp_codec.proofs.numbers.nibbles_from.Goals as goal
 
 pub returns : goal.returns
 returns c =

@@ -1,19 +1,11 @@
-//! Packets whose nibbles are all there, read at once (MIPI System Trace Protocol, version 2, in this project's profile
-//! of it).
-//!
-//! They are read so for speed alone: the decoder reads nibble by nibble what is not found here.
+//! Numbers that nibbles of bytes make, the nibbles read at once or byte by byte (MIPI System Trace Protocol, version 2).
 
-ghost use Rattle.std.specs.Prelude.{◌≡◌, ℕ, ◌+◌, ◌-◌, ◌*◌, ◌/◌, ◌%◌, ◌^◌, ◌<◌, ◌≤◌, List, true, length, get_or};
-ghost use Rattle.stp_grammar.specs.declared.partial.Partial.TheVariants.{Start};
-ghost use Rattle.stp_grammar.specs.Rule.{rule, is_sound, number_with};
-ghost use Rattle.stp_grammar.specs.Spelling.{number};
-ghost use Rattle.stp_grammar.specs.declared.packet.Order.TheVariants.{Lsn, Msn};
-ghost use Rattle.stp_codec.specs.Wholes.{nibbles_in, between, number_from, Leaves};
+ghost use Rattle.std.specs.Prelude.{◌≡◌, ℕ, ◌+◌, ◌-◌, ◌*◌, ◌/◌, ◌%◌, ◌^◌, ◌<◌, ◌≤◌, List, length, get_or};
+ghost use Rattle.stp_codec.specs.Names.{number_with, number, Lsn, Msn};
+ghost use Rattle.stp_codec.specs.Wholes.{nibbles_in, between, number_from};
 
 use stp_grammar::nibble::number_with;
-use stp_grammar::opcode::{payload_at, row_at, stamped_at};
 use stp_grammar::packet::Order;
-use stp_grammar::partial::Partial;
 
 /// One of the nibbles of these bytes.
 #[inline(always)]
@@ -175,29 +167,5 @@ pub fn number_from(order: Order, count: u8, value: u64, bytes: &[u8], start: usi
             number_at_once(bytes, start, more)
         }
         _ => number_bytewise(order, count, value, bytes, start, more),
-    }
-}
-
-/// What a packet's first nibble leaves unfinished: nothing after a NULL.
-#[inline(always)]
-pub fn after_first(nibble: u8) -> Partial
-    requires { nibble < 16 }
-    ensures sound { is_sound result ≡ true }
-    ensures next { (order : Order) → Leaves (rule order Start nibble) result }
-{
-    if nibble == 15 {
-        return Partial::Second;
-    }
-    let row = row_at(nibble);
-    if payload_at(nibble) > 0 {
-        Partial::Payload {
-            row,
-            count: 0,
-            value: 0,
-        }
-    } else if stamped_at(nibble) {
-        Partial::Size { row, payload: 0 }
-    } else {
-        Partial::Start
     }
 }

@@ -1,7 +1,7 @@
 use Rattle.std.proofs.Common.{◌∙◌, ap, take, rules}
 use Rattle.std.specs.Int.{w64, from_le_bytes}
 use Rattle.stp_codec.proofs.Words.{of_some, all_from, word_is}
-use Rattle.stp_codec.proofs.whole.word_from.Goals as goal
+use Rattle.stp_codec.proofs.numbers.word_from.Goals as goal
 
 pub returns : goal.returns
 returns c =

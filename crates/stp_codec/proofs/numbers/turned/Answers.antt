@@ -1,7 +1,7 @@
 use Rattle.std.proofs.Common.{◌∙◌, ap, refl}
 use Rattle.std.specs.Int.{w64, from_be_bytes}
 use Rattle.stp_codec.proofs.Words.{turned_is}
-use Rattle.stp_codec.proofs.whole.turned.Goals as goal
+use Rattle.stp_codec.proofs.numbers.turned.Goals as goal
 
 pub returns : goal.returns
 returns c = λ r l h e.

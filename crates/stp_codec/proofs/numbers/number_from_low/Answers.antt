@@ -1,9 +1,9 @@
 use Rattle.std.proofs.Common.{◌≡◌, ◌+◌, ◌*◌, ◌/◌, ◌%◌, get_or, sym, ◌∙◌, ap, arith}
-use Rattle.stp_grammar.specs.Rule.{number_with}
+use Rattle.stp_codec.specs.Names.{number_with}
 use Rattle.stp_codec.specs.Wholes.{nibbles_in}
 use Rattle.stp_codec.proofs.Between.{length-nibbles, low_nibble}
 use Rattle.stp_codec.proofs.ByBytes.{made, one_made}
-use Rattle.stp_codec.proofs.whole.number_from_low.Goals as goal
+use Rattle.stp_codec.proofs.numbers.number_from_low.Goals as goal
 
 pub returns-else-more-eq0-clause-value : goal.returns-else-more-eq0-clause-value
 returns-else-more-eq0-clause-value c =

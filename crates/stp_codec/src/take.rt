@@ -1,0 +1,168 @@
+//! Packets and parts of them, taken at once.
+
+ghost use Rattle.std.specs.Prelude.{◌≡◌, ◌<◌, ◌≤◌, true, length, take, [], ◌∷◌, ◌++◌, ℕ, ◌+◌, ◌-◌, ◌*◌, ◌/◌, List};
+ghost use Rattle.std.specs.Prelude.{IfSome, None};
+ghost use Rattle.stp_codec.specs.Wholes.{item_in, left_of, IsQuiet};
+ghost use Rattle.stp_codec.specs.Names.{COUNT_ROOM, Placed, units_of, IsProperItem, said_item, IsProperSaid};
+ghost use Rattle.stp_codec.specs.Names.{count_of};
+ghost use Rattle.stp_codec.specs.Reading.{items_at, items_in};
+ghost use Rattle.stp_codec.specs.Cuts.{Passes};
+ghost use Rattle.stp_codec.specs.Decoder.{Stands, order_of, is_hunter, is_live, has_locked, begun_of, BegunAt};
+ghost use Rattle.stp_codec.specs.Decoder.{IsSettled, Idles, TakesPart, held_of, skipped_by, Finishes, FinishesParts};
+
+use crate::cut::{Cut, cut_packet};
+use crate::decoder::{MANY, PacketTaken, SaidTaken, StpDecoder};
+use crate::flat::PacketParts;
+use stp_grammar::packet::StpPacket;
+
+impl StpDecoder {
+    /// Takes what is left of a byte in whose half a packet ended: the high nibble, where it ended in the low one. A
+    /// packet begins there, and no bytes wait.
+    #[inline(always)]
+    fn pass_left(&mut self, half: u8, byte: u8)
+        requires live { is_live self.old ≡ true }
+        requires locked { has_locked self.old ≡ true }
+        requires settled { self.old.waiting ≡ 0 }
+        requires half { half ≤ 1 }
+        requires start { self.old.first ≡ 0 }
+        requires count { skipped_by self.old ≤ COUNT_ROOM }
+        ensures same { (order_of self.new ≡ order_of self.old) × (is_hunter self.new ≡ is_hunter self.old) }
+        ensures settled { self.new.waiting ≡ 0 }
+        ensures list { (at : ℕ) (n : List Placed) → BegunAt self.old n →
+            BegunAt self.new (n ++ left_of half at byte) }
+        ensures quiet { (at : ℕ) (n : List Placed) → BegunAt self.old n →
+            IsQuiet (items_at (order_of self.old) (is_hunter self.old) n)
+            (items_at (order_of self.old) (is_hunter self.old) (n ++ left_of half at byte)) }
+        ensures live { is_live self.new ≡ true }
+        ensures few { (count_of (begun_of self.new) ≤ 1) × (skipped_by self.new ≡ skipped_by self.old) }
+    {
+        self.first = byte / 16 * (1 - half);
+    }
+
+    /// Takes the packet that these bytes finish with so many of their nibbles, wherever they are, and what is left of
+    /// the byte in which it ends. It is live.
+    #[inline(always)]
+    pub(crate) fn finish_packet(
+        &mut self,
+        bytes: &[u8],
+        nibbles: usize,
+        packet: StpPacket,
+    ) -> PacketTaken
+        requires live { is_live self.old ≡ true }
+        requires count { skipped_by self.old ≤ COUNT_ROOM }
+        requires next { Finishes self.old bytes.now nibbles packet }
+        ensures same { (order_of self.new ≡ order_of self.old) × (is_hunter self.new ≡ is_hunter self.old) }
+        ensures last { result.bytes ≡ (nibbles - 1) / 2 + 1 }
+        ensures bytes { (0 < result.bytes) × (result.bytes ≤ length bytes.now) }
+        ensures passes { (u front : List Placed) (last : Placed) → Stands self.old u →
+            units_of (front ++ last ∷ []) ≡ take result.bytes bytes.now →
+            Passes (items_in (order_of self.old) (is_hunter self.old)) (Stands self.new) u front last
+            (item_in result.half result.item) }
+        ensures live { is_live self.new ≡ true }
+        ensures fits { IfSome result.item IsProperItem }
+        ensures few { held_of self.new + skipped_by self.new ≤
+            held_of self.old + skipped_by self.old + 2 * result.bytes }
+    {
+        let last = (nibbles - 1) / 2;
+        let half = ((nibbles - 1) % 2) as u8;
+        self.first = 0;
+        self.waiting = 0;
+        let item = self.attribution.take(packet);
+        self.pass_left(half, bytes[last]);
+        PacketTaken {
+            bytes: last + 1,
+            half,
+            item,
+        }
+    }
+
+    /// Takes bytes at once, wherever they are: those within the unfinished packet up to the one in which it ends, with
+    /// all of that byte, or all of them. It is live, has room for all their nibbles, and is settled.
+    ///
+    /// None where the reading has not begun, where a nibble is a fault, and of no bytes.
+    #[inline(always)]
+    fn take_settled(&mut self, bytes: &[u8]) -> Option<PacketTaken>
+        requires live { is_live self.old ≡ true }
+        requires room { held_of self.old + skipped_by self.old + 2 * length bytes.now ≤ COUNT_ROOM }
+        requires settled { IsSettled self.old }
+        ensures same { (order_of self.new ≡ order_of self.old) × (is_hunter self.new ≡ is_hunter self.old) }
+        ensures live { is_live self.new ≡ true }
+        ensures some { IfSome result (TakesPart self.old self.new bytes.now (length bytes.now)) }
+        ensures none { result ≡ None → Idles self.old self.new }
+    {
+        if bytes.is_empty() || !self.mode.is_locked() {
+            return None;
+        }
+        match cut_packet(self.order, self.partial, bytes)? {
+            Cut::Inside(partial) => {
+                self.partial = partial;
+                self.first = MANY;
+                Some(PacketTaken {
+                    bytes: bytes.len(),
+                    half: 1,
+                    item: None,
+                })
+            }
+            Cut::Ended { nibbles, packet } => Some(self.finish_packet(bytes, nibbles, packet)),
+        }
+    }
+
+    /// Takes bytes, wherever they are: those within the unfinished packet up to the one in which it ends, with all of
+    /// that byte, or all of them. It is live, and has room for the nibbles. The bytes that wait are read first. Where
+    /// `find_part` knows what the bytes are, that is faster.
+    ///
+    /// None says nothing of the bytes: then it stands as before.
+    #[inline(never)]
+    pub fn take_part(&mut self, bytes: &[u8]) -> Option<PacketTaken>
+        requires live { is_live self.old ≡ true }
+        requires room { held_of self.old + skipped_by self.old + 2 * length bytes.now ≤ COUNT_ROOM }
+        ensures same { (order_of self.new ≡ order_of self.old) × (is_hunter self.new ≡ is_hunter self.old) }
+        ensures bytes { IfSome result (λ taken. (0 < taken.bytes) × (taken.bytes ≤ length bytes.now)) }
+        ensures passes { (u front : List Placed) (last : Placed) → Stands self.old u →
+            IfSome result (λ taken. units_of (front ++ last ∷ []) ≡ take taken.bytes bytes.now →
+            Passes (items_in (order_of self.old) (is_hunter self.old)) (Stands self.new) u front last
+            (item_in taken.half taken.item)) }
+        ensures live { is_live self.new ≡ true }
+        ensures fits { IfSome result (λ taken. IfSome taken.item IsProperItem) }
+        ensures few { IfSome result (λ taken. held_of self.new + skipped_by self.new ≤
+            held_of self.old + skipped_by self.old + 2 * taken.bytes) }
+        ensures none { result ≡ None → ((u : List Placed) → Stands self.old u → Stands self.new u)
+            × (held_of self.new ≡ held_of self.old) × (skipped_by self.new ≡ skipped_by self.old) }
+    {
+        self.settle();
+        self.take_settled(bytes)
+    }
+
+    /// Takes the packet of these parts that `find_part` found in these bytes, with all of the byte in which it ends. It
+    /// is live. What the packet says is answered, from which its item can be made.
+    #[inline(always)]
+    pub fn end_part(&mut self, ahead: &[u8], parts: PacketParts) -> SaidTaken
+        requires live { is_live self.old ≡ true }
+        requires room { skipped_by self.old ≤ COUNT_ROOM }
+        requires next { FinishesParts self.old ahead.now parts }
+        ensures same { (order_of self.new ≡ order_of self.old) × (is_hunter self.new ≡ is_hunter self.old) }
+        ensures bytes { (0 < result.bytes) × (2 * result.bytes ≤ parts.nibbles + 1) }
+        ensures passes { (u front : List Placed) (last : Placed) → Stands self.old u →
+            units_of (front ++ last ∷ []) ≡ take result.bytes ahead.now →
+            Passes (items_in (order_of self.old) (is_hunter self.old)) (Stands self.new) u front last
+            (item_in result.half (said_item result.said)) }
+        ensures live { is_live self.new ≡ true }
+        ensures fits { IsProperSaid result.said }
+        ensures few { held_of self.new + skipped_by self.new ≤
+            held_of self.old + skipped_by self.old + 2 * result.bytes }
+    {
+        let last = (parts.nibbles - 1) / 2;
+        let half = ((parts.nibbles - 1) % 2) as u8;
+        self.first = 0;
+        self.waiting = 0;
+        let said = self
+            .attribution
+            .say(parts.number, parts.payload, parts.size, parts.word);
+        self.pass_left(half, ahead[last]);
+        SaidTaken {
+            bytes: last + 1,
+            half,
+            said,
+        }
+    }
+}
