@@ -10,7 +10,7 @@ use Rattle.stp_codec.specs.Reading.{items_at}
 use Rattle.stp_codec.specs.Decoder.{StandsAt, ReadsAt, IsSettled, order_of, is_hunter, nibble_at}
 use Rattle.stp_codec.specs.Nibbles.{IsHalf, TakesNibbles, taken_by, before_by, nibbles_to, nibbles_before, nibbles_from}
 use Rattle.stp_codec.proofs.Bytes.{high_is, IsGiven}
-use Rattle.stp_codec.proofs.Taken.{to_stands}
+use Rattle.stp_codec.proofs.Taken.{same_order, to_stands}
 
 taken_high : (at byte : ℕ) (s : Step StpItem) → IsHalf 1 s →
     taken_by at byte s ≡ low_of at byte ∷ (high_of at byte ∷ [])
@@ -122,6 +122,16 @@ by_fault d e n at byte s f is h settled list none g = subst (λ x. TakesNibbles 
 }) where
   zero_is : f.half ≡ 0
   zero_is = subst (λ x. IsHalf 0 x) is h
+
+-- a decoder in this order, which hunts where this one does, takes them as it does
+pub takes_same : (d q e : StpDecoder) (n : List Placed) (at byte : ℕ) (s : Step StpItem) →
+    (order_of q ≡ order_of d) × (is_hunter q ≡ is_hunter d) → TakesNibbles q e n at byte s →
+    TakesNibbles d e n at byte s
+takes_same d q e n at byte s same t = record {
+  list = t.list;
+  grows = same_order d q same (λ o h. Grows (items_at o h n) (items_at o h (n ++ taken_by at byte s)) at s) t.grows;
+  sound = same_order d q same (λ o h. (items_at o h (n ++ before_by at byte s)).fault ≡ None) t.sound;
+}
 
 -- In a hunt that has not locked no answer is a fault.
 pub no_fault : (order : Order) (n w : List Placed) (at : ℕ) (s : Step StpItem) →

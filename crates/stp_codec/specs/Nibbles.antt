@@ -1,9 +1,12 @@
 -- A byte after a list of nibbles, which may begin with the high one of a byte (MIPI System Trace Protocol, version 2;
 -- that the low nibble of a byte comes first is this project's profile).
-use Rattle.std.specs.Prelude.{◌≡◌, ℕ, zero, suc, List, [], ◌∷◌, ◌++◌, None}
-use Rattle.stp_codec.specs.Names.{Step, Fault as Faulty, low_of, high_of, Placed, Grows, StpItem}
-use Rattle.stp_codec.specs.Decoder.{StandsAt, order_of, is_hunter}
-use Rattle.stp_codec.specs.Reading.{items_at}
+use Rattle.std.specs.Prelude.{◌≡◌, ℕ, zero, suc, ◌+◌, ◌≤◌, List, [], ◌∷◌, ◌++◌, None, true}
+use Rattle.stp_codec.specs.Names.{Step, Quiet, Fault as Faulty, low_of, high_of, Placed, Grows, LocksAfter, StepFits}
+use Rattle.stp_codec.specs.Names.{goes_on, StpItem, IsProperItem, Start}
+use Rattle.stp_codec.specs.Answers.{AnswersNibble}
+use Rattle.stp_codec.specs.Decoder.{EndsItem, IsSettled, ReadsAt, StandsAt, has_locked, is_hunter, is_live, nibble_at}
+use Rattle.stp_codec.specs.Decoder.{order_of, read_of, skipped_by}
+use Rattle.stp_codec.specs.Reading.{items_at, packets_of, rest_in}
 use Rattle.stp_codec.specs.declared.decoder.StpDecoder.{StpDecoder}
 
 -- its nibbles from a half on
@@ -40,3 +43,26 @@ pub record TakesNibbles (old new : StpDecoder) (n : List Placed) (at byte : ℕ)
 abbrev pub IsHalf : {V : Type 0} → ℕ → Step V → Type 0
 IsHalf half (Faulty f) = f.half ≡ half
 IsHalf half step = Unit {0}
+
+-- What a nibble, which is this half of the byte at this offset, makes of a decoder that is settled: what it then stands
+-- for, what is answered to it, and how many nibbles it holds and has skipped.
+pub record TakesNibble (old new : StpDecoder) (at side nibble : ℕ) (answer : Step StpItem) : Type 0 where
+  pub same : (order_of new ≡ order_of old) × (is_hunter new ≡ is_hunter old)
+  pub settled : IsSettled new
+  pub list : (n : List Placed) → ReadsAt old n → ReadsAt new (n ++ nibble_at at side nibble ∷ [])
+  pub step : (n : List Placed) → ReadsAt old n → Grows (items_at (order_of old) (is_hunter old) n)
+      (items_at (order_of old) (is_hunter old) (n ++ nibble_at at side nibble ∷ [])) at answer
+  pub live : is_live new ≡ goes_on answer
+  pub lock : LocksAfter (skipped_by new) answer
+  pub fits : StepFits IsProperItem answer
+  pub few : read_of new + skipped_by new ≤ read_of old + skipped_by old + 1
+  pub more : (read_of new ≤ read_of old + 1) × (skipped_by new ≤ skipped_by old + 1)
+  pub stays : has_locked old ≡ true → (has_locked new ≡ true) × (skipped_by new ≡ skipped_by old)
+  pub grammar : (n : List Placed) → ReadsAt old n → has_locked old ≡ true →
+      AnswersNibble (order_of old) (packets_of (order_of old) (is_hunter old) n)
+      (rest_in (order_of old) (is_hunter old) n ++ nibble_at at side nibble ∷ []) (nibble_at at side nibble).place answer
+      (packets_of (order_of old) (is_hunter old) (n ++ nibble_at at side nibble ∷ []))
+      (rest_in (order_of old) (is_hunter old) (n ++ nibble_at at side nibble ∷ []))
+  pub quiet : old.partial ≡ Start → has_locked old ≡ true → answer ≡ Quiet
+  pub ends : EndsItem answer new.partial (has_locked new)
+  pub half : IsHalf side answer

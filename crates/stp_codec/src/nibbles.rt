@@ -3,14 +3,14 @@
 //! Packets and their nibbles are those of the MIPI System Trace Protocol, version 2. That the low nibble of a byte
 //! comes first, and that a hunt begins at a fault's nibble, is this project's profile.
 
-ghost use Rattle.std.specs.Prelude.{◌≡◌, ◌+◌, ◌≤◌, List, true, ◌<◌, [], ◌∷◌, ◌++◌};
+ghost use Rattle.std.specs.Prelude.{◌≡◌, ℕ, ◌+◌, ◌<◌, ◌≤◌, List, [], ◌∷◌, ◌++◌, true};
 ghost use Rattle.stp_codec.specs.Names.{Placed, byte_at, LocksAfter, StepFits, goes_on, Grows, COUNT_ROOM};
-ghost use Rattle.stp_codec.specs.Names.{IsProperItem, Quiet, Start, nibbles_of};
-ghost use Rattle.stp_codec.specs.Decoder.{StandsAt, held_of, is_hunter, is_live, order_of, skipped_by, ReadsAt};
-ghost use Rattle.stp_codec.specs.Decoder.{Reads, has_locked, read_of, IsSettled, nibble_at, EndsItem};
-ghost use Rattle.stp_codec.specs.Nibbles.{TakesNibbles, nibbles_from, IsHalf};
-ghost use Rattle.stp_codec.specs.Reading.{packets_of, rest_in, items_at, items_in};
-ghost use Rattle.stp_codec.specs.Answers.{AnswersNibble, AnswersByte};
+ghost use Rattle.stp_codec.specs.Names.{Hunting, IsProperItem, nibbles_of};
+ghost use Rattle.stp_codec.specs.Decoder.{IsSettled, Reads, ReadsAt, StandsAt, has_locked, held_of, is_hunter, is_live};
+ghost use Rattle.stp_codec.specs.Decoder.{order_of, read_of, skipped_by};
+ghost use Rattle.stp_codec.specs.Nibbles.{TakesNibble, TakesNibbles, nibbles_from};
+ghost use Rattle.stp_codec.specs.Reading.{packets_of, rest_in, items_in};
+ghost use Rattle.stp_codec.specs.Answers.{AnswersByte};
 
 use crate::decoder::{MANY, StpDecoder};
 use stp_grammar::item::StpItem;
@@ -26,6 +26,65 @@ const ASYNC: Pattern = Pattern {
 };
 
 impl StpDecoder {
+    /// Takes a nibble in a hunt, which is this half of its byte: it may end the pattern.
+    #[inline]
+    fn hunt_nibble(&mut self, run: u8, skipped: u64, half: u8, nibble: u8) -> Step<StpItem>
+        requires mode { self.old.mode ≡ Hunting run skipped }
+        requires live { is_live self.old ≡ true }
+        requires count { skipped_by self.old ≤ COUNT_ROOM + 1 }
+        requires settled { IsSettled self.old }
+        ensures { (at : ℕ) → TakesNibble self.old self.new at half nibble result }
+    {
+        if ASYNC.ends(run, nibble) {
+            let before = skipped - ASYNC.most as u64;
+            self.mode = Mode::Locked { skipped: before };
+            self.partial = Partial::Start;
+            self.first = 0;
+            Step::Locked {
+                skipped: before,
+                half,
+                item: StpItem::Async,
+            }
+        } else {
+            self.mode = Mode::Hunting {
+                run: ASYNC.run_after(run, nibble),
+                skipped: skipped + 1,
+            };
+            Step::Skipping
+        }
+    }
+
+    /// Takes a nibble where the reading has begun, which is this half of the byte at this offset.
+    #[inline]
+    fn read_nibble(&mut self, at: u64, half: u8, nibble: u8) -> Step<StpItem>
+        requires live { is_live self.old ≡ true }
+        requires room { read_of self.old ≤ COUNT_ROOM + 1 }
+        requires nibble { nibble < 16 }
+        requires settled { IsSettled self.old }
+        requires locked { has_locked self.old ≡ true }
+        ensures { TakesNibble self.old self.new at half nibble result }
+    {
+        match self.partial.with_nibble(self.order, nibble) {
+            Next::Go(partial) => {
+                self.partial = partial;
+                self.first = MANY;
+                Step::Quiet
+            }
+            Next::End(packet) => {
+                self.partial = Partial::Start;
+                self.first = 0;
+                match self.attribution.take(packet) {
+                    Some(item) => Step::Item { half, item },
+                    None => Step::Quiet,
+                }
+            }
+            Next::Fail(reason) => {
+                self.live = false;
+                Step::Fault(Fault { at, half, reason })
+            }
+        }
+    }
+
     /// Takes the next nibble, which is this half of the byte at this offset. It is settled.
     #[inline]
     pub(crate) fn take_nibble(&mut self, at: u64, half: u8, nibble: u8) -> Step<StpItem>
@@ -34,69 +93,12 @@ impl StpDecoder {
         requires count { skipped_by self.old ≤ COUNT_ROOM + 1 }
         requires nibble { nibble < 16 }
         requires settled { IsSettled self.old }
-        ensures same { (order_of self.new ≡ order_of self.old) × (is_hunter self.new ≡ is_hunter self.old) }
-        ensures settled { IsSettled self.new }
-        ensures list { (n : List Placed) → ReadsAt self.old n →
-            ReadsAt self.new (n ++ nibble_at at half nibble ∷ []) }
-        ensures step { (n : List Placed) → ReadsAt self.old n →
-            Grows (items_at (order_of self.old) (is_hunter self.old) n)
-            (items_at (order_of self.old) (is_hunter self.old) (n ++ nibble_at at half nibble ∷ [])) at result }
-        ensures live { is_live self.new ≡ goes_on result }
-        ensures lock { LocksAfter (skipped_by self.new) result }
-        ensures fits { StepFits IsProperItem result }
-        ensures few { read_of self.new + skipped_by self.new ≤ read_of self.old + skipped_by self.old + 1 }
-        ensures more { (read_of self.new ≤ read_of self.old + 1) × (skipped_by self.new ≤ skipped_by self.old + 1) }
-        ensures stays { has_locked self.old ≡ true →
-            (has_locked self.new ≡ true) × (skipped_by self.new ≡ skipped_by self.old) }
-        ensures grammar { (n : List Placed) → ReadsAt self.old n → has_locked self.old ≡ true →
-            let placed = n ++ nibble_at at half nibble ∷ [] in
-            AnswersNibble (order_of self.old) (packets_of (order_of self.old) (is_hunter self.old) n)
-            (rest_in (order_of self.old) (is_hunter self.old) n ++ nibble_at at half nibble ∷ [])
-            (nibble_at at half nibble).place result
-            (packets_of (order_of self.old) (is_hunter self.old) placed)
-            (rest_in (order_of self.old) (is_hunter self.old) placed) }
-        ensures quiet { self.old.partial ≡ Start → has_locked self.old ≡ true → result ≡ Quiet }
-        ensures ends { EndsItem result self.new.partial (has_locked self.new) }
-        ensures half { IsHalf half result }
+        ensures { TakesNibble self.old self.new at half nibble result }
     {
         if let Mode::Hunting { run, skipped } = self.mode {
-            if ASYNC.ends(run, nibble) {
-                let before = skipped - ASYNC.most as u64;
-                self.mode = Mode::Locked { skipped: before };
-                self.partial = Partial::Start;
-                self.first = 0;
-                Step::Locked {
-                    skipped: before,
-                    half,
-                    item: StpItem::Async,
-                }
-            } else {
-                self.mode = Mode::Hunting {
-                    run: ASYNC.run_after(run, nibble),
-                    skipped: skipped + 1,
-                };
-                Step::Skipping
-            }
+            self.hunt_nibble(run, skipped, half, nibble)
         } else {
-            match self.partial.with_nibble(self.order, nibble) {
-                Next::Go(partial) => {
-                    self.partial = partial;
-                    self.first = MANY;
-                    Step::Quiet
-                }
-                Next::End(packet) => {
-                    self.partial = Partial::Start;
-                    self.first = 0;
-                    match self.attribution.take(packet) {
-                        Some(item) => Step::Item { half, item },
-                        None => Step::Quiet,
-                    }
-                }
-                Next::Fail(reason) => {
-                    self.live = false;
-                    Step::Fault(Fault { at, half, reason })
-                }
-            }
+            self.read_nibble(at, half, nibble)
         }
     }
 
@@ -107,12 +109,12 @@ impl StpDecoder {
         requires live { is_live self.old ≡ true }
         requires room { read_of self.old ≤ COUNT_ROOM }
         requires count { skipped_by self.old ≤ COUNT_ROOM }
-        ensures same { items_in (order_of self.new) (is_hunter self.new) ≡
-            items_in (order_of self.old) (is_hunter self.old) }
+        ensures same { (order_of self.new ≡ order_of self.old) × (is_hunter self.new ≡ is_hunter self.old) }
         ensures list { (u : List Placed) → Reads self.old u → Reads self.new (u ++ byte_at at byte ∷ []) }
         ensures step { (u : List Placed) → Reads self.old u →
             Grows (items_in (order_of self.old) (is_hunter self.old) u)
             (items_in (order_of self.old) (is_hunter self.old) (u ++ byte_at at byte ∷ [])) at result }
+        ensures takes { (n : List Placed) → ReadsAt self.old n → TakesNibbles self.old self.new n at byte result }
         ensures settled { IsSettled self.new }
         ensures live { is_live self.new ≡ goes_on result }
         ensures lock { LocksAfter (skipped_by self.new) result }
@@ -147,15 +149,7 @@ impl StpDecoder {
         ensures few { held_of self.new + skipped_by self.new ≤ held_of self.old + skipped_by self.old + 2 }
     {
         self.settle();
-        let low = self.take_nibble(at, 0, byte % 16);
-        match low {
-            Step::Quiet | Step::Skipping => self.take_nibble(at, 1, byte / 16),
-            Step::Fault(_) => low,
-            Step::Item { .. } | Step::Locked { .. } => {
-                self.take_nibble(at, 1, byte / 16);
-                low
-            }
-        }
+        self.feed_settled(at, byte)
     }
 
     /// The order of the nibbles of its numbers.

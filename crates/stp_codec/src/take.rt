@@ -52,16 +52,8 @@ impl StpDecoder {
         requires count { skipped_by self.old ≤ COUNT_ROOM }
         requires next { Finishes self.old bytes.now nibbles packet }
         ensures same { (order_of self.new ≡ order_of self.old) × (is_hunter self.new ≡ is_hunter self.old) }
-        ensures last { result.bytes ≡ (nibbles - 1) / 2 + 1 }
-        ensures bytes { (0 < result.bytes) × (result.bytes ≤ length bytes.now) }
-        ensures passes { (u front : List Placed) (last : Placed) → Stands self.old u →
-            units_of (front ++ last ∷ []) ≡ take result.bytes bytes.now →
-            Passes (items_in (order_of self.old) (is_hunter self.old)) (Stands self.new) u front last
-            (item_in result.half result.item) }
         ensures live { is_live self.new ≡ true }
-        ensures fits { IfSome result.item IsProperItem }
-        ensures few { held_of self.new + skipped_by self.new ≤
-            held_of self.old + skipped_by self.old + 2 * result.bytes }
+        ensures taken { TakesPart self.old self.new bytes.now (length bytes.now) result }
     {
         let last = (nibbles - 1) / 2;
         let half = ((nibbles - 1) % 2) as u8;

@@ -3,6 +3,8 @@ use Rattle.stp_codec.specs.Names.{nibbles_of, low_of, LocksAfter}
 use Rattle.stp_codec.specs.Decoder.{is_hunter}
 use Rattle.stp_codec.proofs.Bytes.{of_byte, grows_high, grows_low, grows_faulty, faulty_list, ended, high_answer}
 use Rattle.stp_codec.proofs.Bytes.{low_answer, fault_answer}
+use Rattle.stp_codec.proofs.Pairs.{by_high, by_low, by_fault}
+use Rattle.stp_codec.proofs.Taken.{sound_at, to_stands}
 use Rattle.stp_codec.proofs.decoder.StpDecoder.feed_settled.Goals as goal
 
 pub take_nibble-requires-clause-room : goal.take_nibble-requires-clause-room
@@ -66,3 +68,33 @@ pub returns-in-Item-clause-lock : goal.returns-in-Item-clause-lock
 returns-in-Item-clause-lock c =
     let e = ended c.take_nibble-low.result c.take_nibble-low.new.self.partial _ c.in-Item.is c.take_nibble-low.ensures.ends in
     subst (λ k. LocksAfter k c.take_nibble-low.result) (sym (c.take_nibble-in-Item.ensures.stays e.1).1) c.take_nibble-low.ensures.lock
+
+pub returns-in-Quiet-clause-takes : goal.returns-in-Quiet-clause-takes
+returns-in-Quiet-clause-takes c = λ n s.
+    let first = c.take_nibble-low in
+    let second = c.take_nibble in
+    let mid = n ++ low_of c.args.at c.args.byte ∷ [] in
+    let low = first.ensures.list n s in
+    by_high c.args.self.now first.new.self second.new.self n c.args.at c.args.byte (omega (arith, c.ranges.byte))
+    first.ensures.same first.result second.result second.ensures.settled (second.ensures.list mid low)
+    (first.ensures.step n s) (second.ensures.step mid low) c.in-Quiet.is second.ensures.half
+
+pub returns-in-Item-clause-takes : goal.returns-in-Item-clause-takes
+returns-in-Item-clause-takes c = λ n s.
+    let first = c.take_nibble-low in
+    let second = c.take_nibble-in-Item in
+    let mid = n ++ low_of c.args.at c.args.byte ∷ [] in
+    let low = first.ensures.list n s in
+    by_low c.args.self.now first.new.self second.new.self n c.args.at c.args.byte (omega (arith, c.ranges.byte))
+    first.ensures.same first.result second.result second.ensures.settled (second.ensures.list mid low)
+    (first.ensures.step n s) (second.ensures.step mid low) c.in-Item.is
+    (let e = ended first.result first.new.self.partial _ c.in-Item.is first.ensures.ends in
+    second.ensures.quiet e.0 e.1)
+
+pub returns-in-Fault-clause-takes : goal.returns-in-Fault-clause-takes
+returns-in-Fault-clause-takes c = λ n s.
+    let d = c.args.self.now in
+    let first = c.take_nibble-low in
+    by_fault d first.new.self n c.args.at c.args.byte first.result c.in-Fault.field-0 c.in-Fault.is
+    first.ensures.half first.ensures.settled (first.ensures.list n s)
+    (sound_at d n c.requires.live (to_stands d c.requires.settled n s)) (first.ensures.step n s)

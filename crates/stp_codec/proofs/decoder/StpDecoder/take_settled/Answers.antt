@@ -49,11 +49,3 @@ finish_packet-requires-clause-next c =
       whole = subst (λ (p : Partial). Ends d.order (Go p) (between (nibbles_in c.args.bytes.now) 0 c.in-Ended.nibbles) c.in-Ended.packet) (sym (filled d c.requires.settled)) cut.2;
       proper = subst IsProperCut c.in-Ended.is c.in_ok-partial.ensures.proper;
     }
-
-pub returns-in-Ended-clause-some : goal.returns-in-Ended-clause-some
-returns-in-Ended-clause-some c = record {
-  bytes = c.finish_packet.ensures.bytes;
-  passes = λ u front last s e. c.finish_packet.ensures.passes u front last s e;
-  fits = c.finish_packet.ensures.fits;
-  few = c.finish_packet.ensures.few;
-}
