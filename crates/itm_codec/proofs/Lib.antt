@@ -10,3 +10,4 @@ pub mod Waiting
 pub mod Wholes
 pub mod Windows
 pub mod Zeros
+mod Looking

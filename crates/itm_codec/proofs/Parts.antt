@@ -1,10 +1,10 @@
 -- What a decoder says of a part that it took.
-use Rattle.std.proofs.Common.{◌≡◌, ℕ, ◌+◌, ◌<◌, ◌≤◌, List, [], ◌∷◌, ◌++◌, length, take, IfSome, Option, Some, None, Bool, true, sym, ◌∙◌, ap, subst, arith}
+use Rattle.std.proofs.Common.{◌≡◌, refl, ℕ, ◌+◌, ◌<◌, ◌≤◌, List, [], ◌∷◌, ◌++◌, length, take, IfSome, Option, Some, None, Bool, true, sym, ◌∙◌, ap, subst, arith}
 use Rattle.std.proofs.lemmas.List.{length-take-le}
 use Rattle.trace_values.specs.declared.mode.Mode.{Mode}
 use Rattle.trace_values.specs.Placed.{Placed, units_of}
 use Rattle.trace_values.specs.Walk.{Within, Whole, by_unit, walk}
-use Rattle.trace_values.specs.Moded.{StandsIn, is_locked}
+use Rattle.trace_values.specs.Moded.{StandsIn, is_locked, skipped_of}
 use Rattle.itm_grammar.specs.declared.packet.ItmPacket.{ItmPacket}
 use Rattle.itm_grammar.specs.declared.packet.ItmPacket.TheVariants.{Sync}
 use Rattle.itm_grammar.specs.declared.partial.Partial.{Partial}
@@ -13,11 +13,17 @@ use Rattle.itm_grammar.specs.Rule.{rule, count_of}
 use Rattle.itm_grammar.specs.Proper.{IsProper}
 use Rattle.itm_grammar.proofs.Deciding.{counted_bytes}
 use Rattle.itm_codec.specs.declared.decoder.ItmDecoder.{ItmDecoder}
-use Rattle.itm_codec.specs.declared.decoder.PartTaken.{PartTaken}
+use Rattle.itm_codec.specs.declared.decoder.ItmEnd.{ItmEnd}
+use Rattle.trace_values.specs.declared.taking.Found.{Found}
+use Rattle.trace_values.specs.declared.taking.Found.TheVariants.{Ends, Waits, Unknown}
+use Rattle.trace_values.specs.declared.taking.Taken.{Taken}
+use Rattle.trace_values.specs.Block.{given_after}
+use Rattle.trace_values.specs.Stream.{Stream}
+use Rattle.trace_values.specs.Taking.{Passes, item_at}
 use Rattle.itm_codec.specs.Reading.{pattern, packets_in}
 use Rattle.itm_codec.specs.Decoder.{Stands, partial_of, is_hunter, is_live, held_of}
-use Rattle.itm_codec.specs.Parts.{Reads, Took}
-use Rattle.itm_codec.specs.Wholes.{Cuts}
+use Rattle.itm_codec.specs.Parts.{EndsPart, Idles, Looked, Reads, Took}
+use Rattle.itm_codec.specs.Wholes.{Cuts, kept_at}
 use Rattle.itm_codec.proofs.Wholes.{cut_goes}
 
 -- the packet of a part is proper
@@ -34,45 +40,119 @@ reads_as : (s t : Partial) (units : List ℕ) (packet : Option ItmPacket) → Re
 reads_as s t units None r = (λ e. r, λ p e. cc)
 reads_as s t units (Some q) r = (λ e. cc, λ p e. (let same : q ≡ p = cc in (r.0 ∙ ap Whole same, r.1)))
 
-cuts_by : (old new : ItmDecoder) (front : List Placed) (last : Placed) (u : List Placed) (packet : Option ItmPacket) →
+given_kept : {V : Type 0} → (last : Placed) (packet : Option V) → kept_at last.place packet ≡ given_after last.place.at (item_at last.place.half packet)
+given_kept last None = refl
+given_kept last (Some packet) = refl
+
+-- the packet of a part is an answer to its last byte
+passes_of : {V : Type 0} → (reading : List Placed → Stream V) (stands : List Placed → Type 0) (u front : List Placed) (last : Placed) (packet : Option V) →
+    Cuts reading stands u front last packet → Passes reading stands u front last (item_at last.place.half packet)
+passes_of reading stands u front last packet c = record {
+  list = c.list;
+  given = c.given ∙ ap (λ l. (reading u).given ++ l) (given_kept last packet);
+  sound = c.sound;
+}
+
+pub cuts_of : {V : Type 0} → (reading : List Placed → Stream V) (stands : List Placed → Type 0) (u front : List Placed) (last : Placed) (packet : Option V) →
+    Passes reading stands u front last (item_at last.place.half packet) → Cuts reading stands u front last packet
+cuts_of reading stands u front last packet c = record {
+  list = c.list;
+  given = c.given ∙ ap (λ l. (reading u).given ++ l) (sym (given_kept last packet));
+  sound = c.sound;
+}
+
+passes_by : (old new : ItmDecoder) (front : List Placed) (last : Placed) (u : List Placed) (packet : Option ItmPacket) →
     is_live old ≡ true → is_locked old.mode ≡ true → new.mode ≡ old.mode → new.live ≡ old.live →
     Reads (partial_of old) (partial_of new) (units_of (front ++ last ∷ [])) packet → Stands old u →
-    Cuts (packets_in (is_hunter old)) (Stands new) u front last packet
-cuts_by old new front last u packet live locked mode lives r h =
+    Passes (packets_in (is_hunter old)) (Stands new) u front last (item_at last.place.half packet)
+passes_by old new front last u packet live locked mode lives r h =
     let both = reads_as (partial_of old) (partial_of new) (units_of (front ++ last ∷ [])) packet r in
-    subst (λ (l : Bool). Cuts (packets_in (is_hunter old)) (λ v. StandsIn pattern Sync (by_unit rule) Header new.mode l (partial_of new) v) u front last packet) (sym (lives ∙ live))
+    passes_of (packets_in (is_hunter old)) (Stands new) u front last packet
+    (subst (λ (l : Bool). Cuts (packets_in (is_hunter old)) (λ v. StandsIn pattern Sync (by_unit rule) Header new.mode l (partial_of new) v) u front last packet) (sym (lives ∙ live))
     (subst (λ (m : Mode). Cuts (packets_in (is_hunter old)) (λ v. StandsIn pattern Sync (by_unit rule) Header m true (partial_of new) v) u front last packet) (sym mode)
     (cut_goes pattern Sync rule Header old.mode locked front last u (partial_of old) (partial_of new) packet both.0 both.1
-    (subst (λ (l : Bool). StandsIn pattern Sync (by_unit rule) Header old.mode l (partial_of old) u) live h)))
+    (subst (λ (l : Bool). StandsIn pattern Sync (by_unit rule) Header old.mode l (partial_of old) u) live h))))
+
+-- with the same unfinished packet it stands for what it stood for
+pub idles : (old new : ItmDecoder) → new.mode ≡ old.mode → new.live ≡ old.live → partial_of new ≡ partial_of old → Idles old new
+idles old new mode live partial = (
+  λ u h. subst (λ (m : Mode). StandsIn pattern Sync (by_unit rule) Header m new.live (partial_of new) u) (sym mode)
+      (subst (λ (l : Bool). StandsIn pattern Sync (by_unit rule) Header old.mode l (partial_of new) u) (sym live)
+      (subst (λ (p : Partial). StandsIn pattern Sync (by_unit rule) Header old.mode old.live p u) (sym partial) h)),
+  ap count_of partial,
+  ap skipped_of mode,
+)
 
 module _ (old new : ItmDecoder) (bytes : List ℕ) (most : ℕ) where
-  pub took_bytes : (x : Option (PartTaken ItmPacket)) → Took old new bytes most x → IfSome x (λ x. (0 < x.bytes) × (x.bytes ≤ most))
+  pub took_bytes : (x : Option (Taken ItmPacket)) → Took old new bytes most x → IfSome x (λ x. (0 < x.bytes) × (x.bytes ≤ most) × (x.half ≡ 0))
   took_bytes None t = tt
-  took_bytes (Some x) t = (t.part.1, t.part.2)
+  took_bytes (Some x) t = (t.part.1, t.part.2, t.part.3)
 
-  pub took_fits : (x : Option (PartTaken ItmPacket)) → Took old new bytes most x → IfSome x (λ x. IfSome x.packet IsProper)
+  pub took_fits : (x : Option (Taken ItmPacket)) → Took old new bytes most x → IfSome x (λ x. IfSome x.item IsProper)
   took_fits None t = tt
-  took_fits (Some x) t = fits (partial_of old) (partial_of new) (take x.bytes bytes) x.packet t.part.3
+  took_fits (Some x) t = fits (partial_of old) (partial_of new) (take x.bytes bytes) x.item t.part.4
 
-  pub took_few : (x : Option (PartTaken ItmPacket)) → most ≤ length bytes → Took old new bytes most x → IfSome x (λ x. held_of new ≤ held_of old + x.bytes)
+  pub took_few : (x : Option (Taken ItmPacket)) → most ≤ length bytes → Took old new bytes most x →
+      IfSome x (λ x. held_of new ≤ held_of old + x.bytes)
   took_few None l t = tt
   took_few (Some x) l t = (
-      let k = few_by (partial_of old) (partial_of new) (take x.bytes bytes) x.packet t.part.3 in
+      let k = few_by (partial_of old) (partial_of new) (take x.bytes bytes) x.item t.part.4 in
       let m = t.part.2 in
       let n : length (take x.bytes bytes) ≡ x.bytes = length-take-le x.bytes bytes (omega arith) in
       omega (arith, k, n))
 
-  pub took_cuts : (x : Option (PartTaken ItmPacket)) → is_live old ≡ true → Took old new bytes most x → (u front : List Placed) (last : Placed) → Stands old u →
-      IfSome x (λ x. units_of (front ++ last ∷ []) ≡ take x.bytes bytes → Cuts (packets_in (is_hunter old)) (Stands new) u front last x.packet)
-  took_cuts None live t u front last h = tt
-  took_cuts (Some x) live t u front last h = λ e.
-      cuts_by old new front last u x.packet live t.part.0 t.mode t.live
-      (subst (λ (units : List ℕ). Reads (partial_of old) (partial_of new) units x.packet) (sym e) t.part.3) h
+  pub took_passes : (x : Option (Taken ItmPacket)) → is_live old ≡ true → Took old new bytes most x → (u front : List Placed) (last : Placed) → Stands old u →
+      IfSome x (λ x. units_of (front ++ last ∷ []) ≡ take x.bytes bytes → Passes (packets_in (is_hunter old)) (Stands new) u front last (item_at last.place.half x.item))
+  took_passes None live t u front last h = tt
+  took_passes (Some x) live t u front last h = λ e.
+      passes_by old new front last u x.item live t.part.0 t.mode t.live
+      (subst (λ (units : List ℕ). Reads (partial_of old) (partial_of new) units x.item) (sym e) t.part.4) h
 
-  pub took_none : Took old new bytes most None → ((u : List Placed) → Stands old u → Stands new u) × (held_of new ≡ held_of old)
-  took_none t = (
-    λ u h. subst (λ (m : Mode). StandsIn pattern Sync (by_unit rule) Header m new.live (partial_of new) u) (sym t.mode)
-        (subst (λ (l : Bool). StandsIn pattern Sync (by_unit rule) Header old.mode l (partial_of new) u) (sym t.live)
-        (subst (λ (p : Partial). StandsIn pattern Sync (by_unit rule) Header old.mode old.live p u) (sym t.part) h)),
-    ap count_of t.part,
+  pub took_none : (x : Option (Taken ItmPacket)) → Took old new bytes most x → x ≡ None → Idles old new
+  took_none None t e = idles old new t.mode t.live t.part
+  took_none (Some x) t e = cc
+
+  -- what a look says
+  pub looked_ends : (x : Found ItmEnd) → Looked old new bytes most x → (end : ItmEnd) → x ≡ Ends end →
+      EndsPart new bytes end × (end.bytes ≤ most)
+  looked_ends (Ends y) t end e =
+      let same : y ≡ end = cc in
+      subst (λ (z : ItmEnd). EndsPart new bytes z × (z.bytes ≤ most)) same (t.part.0, t.part.1)
+  looked_ends Waits t end e = cc
+  looked_ends Unknown t end e = cc
+
+  pub looked_idles : (x : Found ItmEnd) → Looked old new bytes most x → (end : ItmEnd) → x ≡ Ends end → Idles old new
+  looked_idles (Ends y) t end e = idles old new t.mode t.live t.part.2
+  looked_idles Waits t end e = cc
+  looked_idles Unknown t end e = cc
+
+  pub looked_waits : (x : Found ItmEnd) → most ≤ length bytes → Looked old new bytes most x → x ≡ Waits →
+      (0 < most) × (held_of new ≤ held_of old + most)
+  looked_waits Waits l t e = (
+    t.part.1,
+    (let k = counted_bytes (partial_of old) (partial_of new) (take most bytes) t.part.2 in
+        let n : length (take most bytes) ≡ most = length-take-le most bytes l in
+        omega (arith, k, n)),
   )
+  looked_waits (Ends y) l t e = cc
+  looked_waits Unknown l t e = cc
+
+  pub looked_passes : (x : Found ItmEnd) → is_live old ≡ true → Looked old new bytes most x → (u front : List Placed) (last : Placed) → Stands old u → x ≡ Waits →
+      units_of (front ++ last ∷ []) ≡ take most bytes → Passes (packets_in (is_hunter old)) (Stands new) u front last None
+  looked_passes Waits live t u front last h w e =
+      passes_by old new front last u None live t.part.0 t.mode t.live (ap (walk rule (partial_of old)) e ∙ t.part.2) h
+  looked_passes (Ends y) live t u front last h w e = cc
+  looked_passes Unknown live t u front last h w e = cc
+
+  pub looked_unknown : (x : Found ItmEnd) → Looked old new bytes most x → x ≡ Unknown → Idles old new
+  looked_unknown Unknown t e = idles old new t.mode t.live t.part
+  looked_unknown (Ends y) t e = cc
+  looked_unknown Waits t e = cc
+
+-- what the end of a packet gives
+pub ended_passes : (old new : ItmDecoder) (bytes : List ℕ) (end : ItmEnd) → is_live old ≡ true → EndsPart old bytes end → new.mode ≡ old.mode → new.live ≡ old.live →
+    partial_of new ≡ Header → (u front : List Placed) (last : Placed) → Stands old u → units_of (front ++ last ∷ []) ≡ take end.bytes bytes →
+    Passes (packets_in (is_hunter old)) (Stands new) u front last (item_at last.place.half (Some end.packet))
+ended_passes old new bytes end live t mode lives none u front last h e =
+    passes_by old new front last u (Some end.packet) live t.locked mode lives
+    (ap (walk rule (partial_of old)) e ∙ t.whole, none, t.proper) h

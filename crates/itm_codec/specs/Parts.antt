@@ -1,5 +1,9 @@
 -- What a decoder does that takes a part of bytes.
 use Rattle.std.specs.Prelude.{◌≡◌, ◌<◌, ◌≤◌, ℕ, List, take, Option, None, Some, true}
+use Rattle.trace_values.specs.declared.taking.Found.{Found}
+use Rattle.trace_values.specs.declared.taking.Found.TheVariants.{Ends, Waits, Unknown}
+use Rattle.trace_values.specs.declared.taking.Taken.{Taken}
+use Rattle.trace_values.specs.Placed.{Placed}
 use Rattle.trace_values.specs.Walk.{Within, Whole, walk}
 use Rattle.itm_grammar.specs.declared.packet.ItmPacket.{ItmPacket}
 use Rattle.itm_grammar.specs.declared.partial.Partial.{Partial}
@@ -7,10 +11,15 @@ use Rattle.itm_grammar.specs.declared.partial.Partial.TheVariants.{Header}
 use Rattle.itm_grammar.specs.Rule.{rule}
 use Rattle.itm_grammar.specs.Proper.{IsProper}
 use Rattle.itm_codec.specs.declared.decoder.ItmDecoder.{ItmDecoder}
+use Rattle.itm_codec.specs.declared.decoder.ItmEnd.{ItmEnd}
 use Rattle.itm_codec.specs.declared.decoder.PartTaken.{PartTaken}
 use Rattle.itm_codec.specs.declared.decoder.ItmFound.{ItmFound}
-use Rattle.itm_codec.specs.declared.decoder.ItmFound.TheVariants.{Ends, Waits, Unknown}
-use Rattle.itm_codec.specs.Decoder.{partial_of, has_locked}
+use Rattle.itm_codec.specs.declared.decoder.ItmFound.TheVariants.{
+  Ends as OldEnds,
+  Waits as OldWaits,
+  Unknown as OldUnknown,
+}
+use Rattle.itm_codec.specs.Decoder.{Stands, partial_of, has_locked, held_of, skipped_by}
 
 -- these bytes leave t unfinished of s, or end it as this packet
 abbrev pub Reads : Partial → Partial → List ℕ → Option ItmPacket → Type 0
@@ -18,20 +27,49 @@ Reads s t bytes None = walk rule s bytes ≡ Within t
 Reads s t bytes (Some packet) = (walk rule s bytes ≡ Whole packet) × (t ≡ Header) × IsProper packet
 
 -- in its reading it took some of these bytes, at most so many; where it took none, what is unfinished is the same
-abbrev pub TookPart : ItmDecoder → ItmDecoder → List ℕ → ℕ → Option (PartTaken ItmPacket) → Type 0
+abbrev pub TookPart : ItmDecoder → ItmDecoder → List ℕ → ℕ → Option (Taken ItmPacket) → Type 0
 TookPart old new bytes most None = partial_of new ≡ partial_of old
 TookPart old new bytes most (Some part) =
-    (has_locked old ≡ true) × (0 < part.bytes) × (part.bytes ≤ most)
-    × Reads (partial_of old) (partial_of new) (take part.bytes bytes) part.packet
+    (has_locked old ≡ true) × (0 < part.bytes) × (part.bytes ≤ most) × (part.half ≡ 0)
+    × Reads (partial_of old) (partial_of new) (take part.bytes bytes) part.item
 
 -- and it stayed in its mode, and as live
-pub record Took (old new : ItmDecoder) (bytes : List ℕ) (most : ℕ) (taken : Option (PartTaken ItmPacket)) : Type 0 where
+pub record Took (old new : ItmDecoder) (bytes : List ℕ) (most : ℕ) (taken : Option (Taken ItmPacket)) : Type 0 where
   pub mode : new.mode ≡ old.mode
   pub live : new.live ≡ old.live
   pub part : TookPart old new bytes most taken
 
+-- Nothing was taken.
+abbrev pub Idles : ItmDecoder → ItmDecoder → Type 0
+Idles old new =
+    ((u : List Placed) → Stands old u → Stands new u)
+    × (held_of new ≡ held_of old) × (skipped_by new ≡ skipped_by old)
+
+-- The front of these bytes ends the unfinished packet as this one, of which no more is read than the bytes that wait.
+pub record EndsPart (decoder : ItmDecoder) (bytes : List ℕ) (end : ItmEnd) : Type 0 where
+  pub locked : has_locked decoder ≡ true
+  pub header : decoder.partial ≡ Header
+  pub some : 0 < end.bytes
+  pub whole : walk rule (partial_of decoder) (take end.bytes bytes) ≡ Whole end.packet
+  pub proper : IsProper end.packet
+
+-- of the first `count` of these bytes it found: a packet that ends in them, and took none; or that they are all within
+-- one, and took them; or nothing, and took none
+abbrev pub Saw : ItmDecoder → ItmDecoder → List ℕ → ℕ → Found ItmEnd → Type 0
+Saw old new bytes count (Ends end) =
+    EndsPart new bytes end × (end.bytes ≤ count) × (partial_of new ≡ partial_of old)
+Saw old new bytes count Waits =
+    (has_locked old ≡ true) × (0 < count) × (walk rule (partial_of old) (take count bytes) ≡ Within (partial_of new))
+Saw old new bytes count Unknown = partial_of new ≡ partial_of old
+
+-- and it stayed in its mode, and as live
+pub record Looked (old new : ItmDecoder) (bytes : List ℕ) (count : ℕ) (found : Found ItmEnd) : Type 0 where
+  pub mode : new.mode ≡ old.mode
+  pub live : new.live ≡ old.live
+  pub part : Saw old new bytes count found
+
 -- the part that was taken of so many bytes, by what they are to the unfinished packet
 abbrev pub part_found : ℕ → ItmFound → Option (PartTaken ItmPacket)
-part_found count (Ends bytes packet) = Some (record { bytes = bytes; packet = Some packet })
-part_found count Waits = Some (record { bytes = count; packet = None })
-part_found count Unknown = None
+part_found count (OldEnds bytes packet) = Some (record { bytes = bytes; packet = Some packet })
+part_found count OldWaits = Some (record { bytes = count; packet = None })
+part_found count OldUnknown = None

@@ -6,8 +6,9 @@ use Rattle.itm_grammar.specs.Rule.{rule}
 use Rattle.itm_grammar.specs.Spelling.{Spells}
 use Rattle.itm_grammar.specs.Proper.{IsProper}
 use Rattle.itm_codec.specs.Reached.{reached}
-use Rattle.itm_codec.specs.declared.decoder.ItmFound.{ItmFound}
-use Rattle.itm_codec.specs.declared.decoder.ItmFound.TheVariants.{Ends, Waits, Unknown}
+use Rattle.trace_values.specs.declared.taking.Found.{Found}
+use Rattle.trace_values.specs.declared.taking.Found.TheVariants.{Ends, Waits, Unknown}
+use Rattle.itm_codec.specs.declared.decoder.ItmEnd.{ItmEnd}
 use Rattle.itm_codec.specs.declared.whole.InWindow.{InWindow}
 use Rattle.itm_codec.specs.declared.whole.InWindow.TheVariants.{Packet, Other}
 
@@ -26,8 +27,9 @@ abbrev pub IsFrontOf : List ℕ → ℕ → Type 0
 IsFrontOf window count = walk rule Header (take count window) ≡ Within (reached Header (take count window))
 
 -- what the first so many of these bytes are to a packet that begins there
-abbrev pub IsSeen : List ℕ → ℕ → ItmFound → Type 0
-IsSeen window count (Ends bytes packet) =
-    (0 < bytes) × (bytes ≤ count) × (bytes ≤ length window) × Spells packet (take bytes window) × IsProper packet
+abbrev pub IsSeen : List ℕ → ℕ → Found ItmEnd → Type 0
+IsSeen window count (Ends end) =
+    (0 < end.bytes) × (end.bytes ≤ count) × (end.bytes ≤ length window)
+    × Spells end.packet (take end.bytes window) × IsProper end.packet
 IsSeen window count Waits = (count < 8) × IsFrontOf window count
 IsSeen window count Unknown = Unit {0}

@@ -19,7 +19,7 @@ use crate::sync::{sync_at, zeros_in};
 use crate::whole::{InWindow, WINDOW, packet_in};
 use itm_grammar::packet::ItmPacket;
 use itm_grammar::partial::Partial;
-use trace_values::{Block, Fault, Machine, Mode, Next, Pattern, Step, feed_block};
+use trace_values::{Block, Fault, Found, Machine, Mode, Next, Pattern, Step, Taken, feed_block};
 
 /// A synchronisation packet, `00 00 00 00 00 80`.
 const SYNC: Pattern = Pattern {
@@ -38,6 +38,14 @@ pub struct PartTaken<T> {
     pub bytes: usize,
     /// The packet that the last of them ends, if it ends one.
     pub packet: Option<T>,
+}
+
+/// A packet that ends in bytes that are there.
+#[derive(Clone, Copy, Debug, PartialEq, Eq, Drop)]
+pub struct ItmEnd {
+    /// The last of how many of them ends it.
+    pub bytes: usize,
+    pub packet: ItmPacket,
 }
 
 /// What bytes are to the unfinished packet, as a quick look at them says.
@@ -73,7 +81,7 @@ pub struct ItmDecoder {
 }
 
 impl ItmDecoder {
-    ghost use Rattle.std.specs.Prelude.{[], ◌∷◌, ◌++◌, false, ℕ, ◌+◌, ◌*◌, List, IfSome, None};
+    ghost use Rattle.std.specs.Prelude.{[], ◌∷◌, ◌++◌, false, ℕ, ◌+◌, ◌*◌, List, IfSome, None, Some};
     ghost use Rattle.std.specs.Int.{w64, to_le_bytes};
     ghost use Rattle.trace_values.specs.Placed.{Placed, units_of};
     ghost use Rattle.trace_values.specs.Stream.{StepFits, LocksAfter};
@@ -82,8 +90,11 @@ impl ItmDecoder {
     ghost use Rattle.itm_codec.specs.Reading.{packets_in};
     ghost use Rattle.itm_codec.specs.Decoder.{Stands, partial_of, is_hunter, is_live, has_locked, held_of, skipped_by};
     ghost use Rattle.itm_codec.specs.Decoder.{waiting_in};
-    ghost use Rattle.itm_codec.specs.Parts.{Took, part_found};
+    ghost use Rattle.itm_codec.specs.Parts.{EndsPart, Idles, Looked, Took, part_found};
+    ghost use Rattle.itm_codec.specs.Windows.{IsFrontOf};
     ghost use Rattle.itm_codec.specs.Wholes.{Cuts, Gives};
+    ghost use Rattle.trace_values.specs.Taking.{Passes, item_at};
+    ghost use Rattle.trace_values.specs.declared.taking.Found.TheVariants.{Ends, Waits, Unknown};
 
     /// A decoder of bytes that begin with a packet.
     pub fn aligned() -> ItmDecoder
@@ -164,14 +175,148 @@ impl ItmDecoder {
         cut_packet(self.partial, &self.held.to_le_bytes()[..self.waiting]).partial
     }
 
-    /// Looks for the end of the unfinished packet in the first `count` of these bytes, wherever they are: it takes those
-    /// up to the one that ends the packet, which it then gives, or all of them, where the packet ends after them. What
+    /// Looks for the end of the unfinished packet in the first `count` of these bytes, wherever they are. A packet that
+    /// ends is not taken: `end_part` does that, given the same bytes. Where it ends after them, they are all taken. What
     /// the bytes after the first `count` are is of no account.
     ///
     /// It is quick: it answers `Unknown` in a hunt, of no bytes, and of packets that are rare. This says nothing of the
     /// bytes, and the decoder stands for what it stood for: `take_part` reads them all the same.
+    ///
+    /// The answer is the same whether the bytes are a piece or not. In a piece mostly no bytes wait, and it is faster
+    /// where that is asked first.
     #[inline(always)]
-    pub fn find_part(&mut self, ahead: &[u8], count: usize) -> ItmFound
+    pub fn find_part(&mut self, ahead: &[u8], count: usize, is_piece: bool) -> Found<ItmEnd>
+        requires live { is_live self.old ≡ true }
+        requires ahead { count + AHEAD ≤ length ahead.now }
+        ensures same { packets_in (is_hunter self.new) ≡ packets_in (is_hunter self.old) }
+        ensures live { is_live self.new ≡ true }
+        ensures skipped { skipped_by self.new ≡ skipped_by self.old }
+        ensures ends { (end : ItmEnd) → result ≡ Ends end → EndsPart self.new ahead.now end × (end.bytes ≤ count) }
+        ensures idles { (end : ItmEnd) → result ≡ Ends end → Idles self.old self.new }
+        ensures waits { result ≡ Waits → (0 < count) × (held_of self.new ≤ held_of self.old + count) }
+        ensures passes { (u front : List Placed) (last : Placed) → Stands self.old u → result ≡ Waits →
+            units_of (front ++ last ∷ []) ≡ take count ahead.now →
+            Passes (packets_in (is_hunter self.old)) (Stands self.new) u front last None }
+        ensures unknown { result ≡ Unknown → Idles self.old self.new }
+    {
+        self.find_at_once(ahead, count, is_piece)
+    }
+
+    /// What `find_part` does, said of what the decoder keeps.
+    #[inline(always)]
+    fn find_at_once(&mut self, ahead: &[u8], count: usize, is_piece: bool) -> Found<ItmEnd>
+        requires ahead { count + AHEAD ≤ length ahead.now }
+        ensures { Looked self.old self.new ahead.now count result }
+    {
+        match self.partial {
+            Partial::Header if count > 0 && Mode::is_locked(self.mode) => {
+                self.find_next(ahead, count, is_piece)
+            }
+            _ => Found::Unknown,
+        }
+    }
+
+    /// Looks in the bytes that wait and those after them. Where they do not end a packet, they all wait.
+    #[inline(always)]
+    fn find_next(&mut self, ahead: &[u8], count: usize, is_piece: bool) -> Found<ItmEnd>
+        requires some { 0 < count }
+        requires ahead { count + AHEAD ≤ length ahead.now }
+        requires header { self.old.partial ≡ Header }
+        requires locked { has_locked self.old ≡ true }
+        ensures { Looked self.old self.new ahead.now count result }
+    {
+        let Some(next) = ahead.first_chunk::<AHEAD>() else {
+            return Found::Unknown;
+        };
+        if is_piece && self.waiting == 0 {
+            return self.find_fresh(ahead, next, count);
+        }
+        let waiting = self.waiting;
+        let word = self.word_with(next);
+        match look_in(&word.to_le_bytes(), waiting + count) {
+            Found::Ends(end) => Found::Ends(ItmEnd {
+                bytes: end.bytes - waiting,
+                packet: end.packet,
+            }),
+            Found::Waits => {
+                self.wait(word, waiting + count);
+                Found::Waits
+            }
+            Found::Unknown => Found::Unknown,
+        }
+    }
+
+    /// Looks in these bytes, of which `next` are the first, where none wait.
+    #[inline(always)]
+    fn find_fresh(&mut self, _ahead: &[u8], next: &[u8; AHEAD], count: usize) -> Found<ItmEnd>
+        requires some { 0 < count }
+        requires ahead { AHEAD ≤ length _ahead.now }
+        requires next { next.now ≡ take AHEAD _ahead.now }
+        requires header { self.old.partial ≡ Header }
+        requires locked { has_locked self.old ≡ true }
+        requires fresh { self.old.waiting ≡ 0 }
+        ensures { Looked self.old self.new _ahead.now count result }
+    {
+        match look_in(next, count) {
+            Found::Ends(end) => Found::Ends(end),
+            Found::Waits => {
+                let word = self.word_with(next);
+                self.wait(word, count);
+                Found::Waits
+            }
+            Found::Unknown => Found::Unknown,
+        }
+    }
+
+    /// Lets the first `count` bytes of this word wait, in place of those that waited. They are within a packet.
+    #[inline(always)]
+    fn wait(&mut self, word: u64, count: usize)
+        requires few { count < 8 }
+        requires front { IsFrontOf (to_le_bytes w64 word) count }
+        requires header { self.old.partial ≡ Header }
+        requires locked { has_locked self.old ≡ true }
+        ensures part { partial_of self.new ≡ reached Header (take count (to_le_bytes w64 word)) }
+        ensures same { (self.new.mode ≡ self.old.mode) × (self.new.live ≡ self.old.live) }
+    {
+        self.waiting = count;
+        self.held = word & first_bits(count);
+    }
+
+    /// Forgets the bytes that wait.
+    #[inline(always)]
+    fn forget(&mut self)
+        ensures part { partial_of self.new ≡ self.old.partial }
+        ensures same { (self.new.mode ≡ self.old.mode) × (self.new.live ≡ self.old.live) }
+    {
+        self.waiting = 0;
+        self.held = 0;
+    }
+
+    /// Takes the packet that `find_part` found in these bytes, up to the one that ends it. It is live.
+    #[inline(always)]
+    pub fn end_part(&mut self, _ahead: &[u8], end: ItmEnd) -> Taken<ItmPacket>
+        requires live { is_live self.old ≡ true }
+        requires ends { EndsPart self.old _ahead.now end }
+        ensures taken { result ≡ record { bytes = end.bytes; half = 0; item = Some end.packet } }
+        ensures same { packets_in (is_hunter self.new) ≡ packets_in (is_hunter self.old) }
+        ensures live { is_live self.new ≡ true }
+        ensures passes { (u front : List Placed) (last : Placed) → Stands self.old u →
+            units_of (front ++ last ∷ []) ≡ take end.bytes _ahead.now →
+            Passes (packets_in (is_hunter self.old)) (Stands self.new) u front last
+            (item_at last.place.half (Some end.packet)) }
+        ensures few { (held_of self.new ≡ 0) × (skipped_by self.new ≡ skipped_by self.old) }
+    {
+        self.forget();
+        Taken {
+            bytes: end.bytes,
+            half: 0,
+            item: Some(end.packet),
+        }
+    }
+
+    /// Looks for the end of the unfinished packet in the first `count` of these bytes, and takes it where they end it.
+    #[inline(always)]
+    pub fn cut_part(&mut self, ahead: &[u8], count: usize) -> ItmFound
         requires live { is_live self.old ≡ true }
         requires room { held_of self.old + count ≤ COUNT_ROOM }
         requires ahead { count + AHEAD ≤ length ahead.now }
@@ -187,52 +332,16 @@ impl ItmDecoder {
         ensures none { part_found count result ≡ None → ((u : List Placed) → Stands self.old u → Stands self.new u)
             × (held_of self.new ≡ held_of self.old) }
     {
-        self.find_at_once(ahead, count)
-    }
-
-    /// The same, said of what the decoder keeps.
-    #[inline(always)]
-    fn find_at_once(&mut self, ahead: &[u8], count: usize) -> ItmFound
-        requires ahead { count + AHEAD ≤ length ahead.now }
-        ensures { Took self.old self.new ahead.now count (part_found count result) }
-    {
-        match self.partial {
-            Partial::Header if count > 0 && Mode::is_locked(self.mode) => {
-                self.find_next(ahead, count)
-            }
-            _ => ItmFound::Unknown,
-        }
-    }
-
-    /// Looks in the bytes that wait and those after them. Where they do not end a packet, they all wait.
-    #[inline(always)]
-    fn find_next(&mut self, ahead: &[u8], count: usize) -> ItmFound
-        requires some { 0 < count }
-        requires ahead { count + AHEAD ≤ length ahead.now }
-        requires header { self.old.partial ≡ Header }
-        requires locked { has_locked self.old ≡ true }
-        ensures { Took self.old self.new ahead.now count (part_found count result) }
-    {
-        let Some(next) = ahead.first_chunk::<AHEAD>() else {
-            return ItmFound::Unknown;
-        };
-        let waiting = self.waiting;
-        let word = self.word_with(next);
-        match look_in(&word.to_le_bytes(), waiting + count) {
-            ItmFound::Ends { bytes, packet } => {
-                self.waiting = 0;
-                self.held = 0;
+        match self.find_part(ahead, count, false) {
+            Found::Ends(end) => {
+                self.end_part(ahead, end);
                 ItmFound::Ends {
-                    bytes: bytes - waiting,
-                    packet,
+                    bytes: end.bytes,
+                    packet: end.packet,
                 }
             }
-            ItmFound::Waits => {
-                self.waiting = waiting + count;
-                self.held = word & first_bits(waiting + count);
-                ItmFound::Waits
-            }
-            ItmFound::Unknown => ItmFound::Unknown,
+            Found::Waits => ItmFound::Waits,
+            Found::Unknown => ItmFound::Unknown,
         }
     }
 
@@ -250,27 +359,27 @@ impl ItmDecoder {
     /// None says nothing of the bytes: in a hunt, of no bytes, and where the first of them is a fault. Then the decoder
     /// stands for what it stood for.
     #[inline(never)]
-    pub fn take_part(&mut self, bytes: &[u8]) -> Option<PartTaken<ItmPacket>>
+    pub fn take_part(&mut self, bytes: &[u8]) -> Option<Taken<ItmPacket>>
         requires live { is_live self.old ≡ true }
         requires room { held_of self.old + length bytes.now ≤ COUNT_ROOM }
         ensures same { packets_in (is_hunter self.new) ≡ packets_in (is_hunter self.old) }
-        ensures bytes { IfSome result (λ x. (0 < x.bytes) × (x.bytes ≤ length bytes.now)) }
-        ensures fits { IfSome result (λ x. IfSome x.packet IsProper) }
+        ensures live { is_live self.new ≡ true }
+        ensures bytes { IfSome result (λ x. (0 < x.bytes) × (x.bytes ≤ length bytes.now) × (x.half ≡ 0)) }
+        ensures passes { (u front : List Placed) (last : Placed) → Stands self.old u →
+            IfSome result (λ x. units_of (front ++ last ∷ []) ≡ take x.bytes bytes.now →
+            Passes (packets_in (is_hunter self.old)) (Stands self.new) u front last
+            (item_at last.place.half x.item)) }
+        ensures fits { IfSome result (λ x. IfSome x.item IsProper) }
         ensures few { IfSome result (λ x. held_of self.new ≤ held_of self.old + x.bytes) }
         ensures skipped { skipped_by self.new ≡ skipped_by self.old }
-        ensures live { is_live self.new ≡ true }
-        ensures cuts { (u front : List Placed) (last : Placed) → Stands self.old u →
-            IfSome result (λ x. units_of (front ++ last ∷ []) ≡ take x.bytes bytes.now →
-            Cuts (packets_in (is_hunter self.old)) (Stands self.new) u front last x.packet) }
-        ensures none { result ≡ None → ((u : List Placed) → Stands self.old u → Stands self.new u)
-            × (held_of self.new ≡ held_of self.old) }
+        ensures none { result ≡ None → Idles self.old self.new }
     {
         self.take_slowly(bytes)
     }
 
     /// Takes these bytes one by one, or those of a synchronisation all at once.
     #[inline(always)]
-    fn take_slowly(&mut self, bytes: &[u8]) -> Option<PartTaken<ItmPacket>>
+    fn take_slowly(&mut self, bytes: &[u8]) -> Option<Taken<ItmPacket>>
         requires room { held_of self.old + length bytes.now ≤ COUNT_ROOM }
         ensures { Took self.old self.new bytes.now (length bytes.now) result }
     {
@@ -286,7 +395,7 @@ impl ItmDecoder {
 
     /// Takes these bytes after this many bytes 00, which are all that was taken of a packet.
     #[inline(always)]
-    fn take_zeros(&mut self, taken: u64, bytes: &[u8]) -> Option<PartTaken<ItmPacket>>
+    fn take_zeros(&mut self, taken: u64, bytes: &[u8]) -> Option<Taken<ItmPacket>>
         requires locked { has_locked self.old ≡ true }
         requires room { held_of self.old + length bytes.now ≤ COUNT_ROOM }
         requires zeros { walk rule Header (replicate taken 0) ≡ Within (partial_of self.old) }
@@ -296,15 +405,17 @@ impl ItmDecoder {
         let zeros = taken + more as u64;
         if more == bytes.len() && more > 0 {
             self.keep(Partial::Zeros(zeros));
-            Some(PartTaken {
+            Some(Taken {
                 bytes: more,
-                packet: None,
+                half: 0,
+                item: None,
             })
         } else if more < bytes.len() && bytes[more] == 0x80 && zeros >= 5 {
             self.keep(Partial::Header);
-            Some(PartTaken {
+            Some(Taken {
                 bytes: more + 1,
-                packet: Some(ItmPacket::Sync),
+                half: 0,
+                item: Some(ItmPacket::Sync),
             })
         } else {
             self.take_others(bytes)
@@ -313,7 +424,7 @@ impl ItmDecoder {
 
     /// Takes these bytes one by one.
     #[inline(never)]
-    fn take_others(&mut self, bytes: &[u8]) -> Option<PartTaken<ItmPacket>>
+    fn take_others(&mut self, bytes: &[u8]) -> Option<Taken<ItmPacket>>
         requires locked { has_locked self.old ≡ true }
         requires room { held_of self.old + length bytes.now ≤ COUNT_ROOM }
         ensures { Took self.old self.new bytes.now (length bytes.now) result }
@@ -323,9 +434,10 @@ impl ItmDecoder {
             return None;
         }
         self.keep(cut.partial);
-        Some(PartTaken {
+        Some(Taken {
             bytes: cut.bytes,
-            packet: cut.packet,
+            half: 0,
+            item: cut.packet,
         })
     }
 
@@ -377,17 +489,20 @@ impl ItmDecoder {
 /// What the first `count` of these bytes are to a packet whose first byte is the first of them. What the bytes after the
 /// first `count` are is of no account.
 #[inline(always)]
-fn look_in(window: &[u8; WINDOW], count: usize) -> ItmFound
+fn look_in(window: &[u8; WINDOW], count: usize) -> Found<ItmEnd>
     ensures { IsSeen window.now count result }
 {
     match packet_in(window) {
-        InWindow::Packet { bytes, packet } if bytes <= count => ItmFound::Ends { bytes, packet },
-        InWindow::Packet { .. } => ItmFound::Waits,
+        InWindow::Packet { bytes, packet } if bytes <= count => Found::Ends(ItmEnd {
+            bytes,
+            packet,
+        }),
+        InWindow::Packet { .. } => Found::Waits,
         InWindow::Other => {
             if is_front(window, count) {
-                ItmFound::Waits
+                Found::Waits
             } else {
-                ItmFound::Unknown
+                Found::Unknown
             }
         }
     }

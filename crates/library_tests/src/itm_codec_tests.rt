@@ -2,11 +2,11 @@
 
 use crate::same::same;
 use arrayvec::ArrayVec;
-use itm_codec::{AHEAD, ItmDecoder, ItmFound, encode};
+use itm_codec::{AHEAD, ItmDecoder, encode};
 use itm_grammar::packet::{ItmPacket, Lateness};
 use itm_grammar::proper::is_proper;
 use std::process::Abort;
-use trace_values::{Fault, Machine, Reason, Step};
+use trace_values::{Fault, Found, Machine, Reason, Step};
 use trace_vectors::itm::{EXTENSIONS, HARDWARE_PACKETS, ItmRow, SOURCE_PACKETS, TIMESTAMPS};
 
 fn local(lateness: Lateness, delta: u32) -> ItmPacket {
@@ -104,13 +104,16 @@ fn take(
 ) -> (usize, Option<ItmPacket>) {
     assert!(rt; count < 1000 && count + AHEAD <= ahead.len());
     assert!(rt; decoder.is_live() && decoder.held() < 1000);
-    match decoder.find_part(ahead, count) {
-        ItmFound::Ends { bytes, packet } => (bytes, Some(packet)),
-        ItmFound::Waits => (count, None),
-        ItmFound::Unknown => {
+    match decoder.find_part(ahead, count, count % 2 == 0) {
+        Found::Ends(end) => {
+            let taken = decoder.end_part(ahead, end);
+            (taken.bytes, taken.item)
+        }
+        Found::Waits => (count, None),
+        Found::Unknown => {
             assert!(rt; decoder.is_live() && decoder.held() < 1000);
             match decoder.take_part(&ahead[..count]) {
-                Some(part) => (part.bytes, part.packet),
+                Some(part) => (part.bytes, part.item),
                 None => panic!(rt; "no byte of {ahead:?} is taken"),
             }
         }

@@ -1,9 +1,14 @@
--- What the machine of an STP source reads its bytes as.
+-- What the machine of a source reads its bytes as.
 use Rattle.std.proofs.Common.{◌≡◌, ◌∙◌, ℕ, List, [], ◌∷◌, ◌++◌, take, Bool, Option, None, Some, refl, ap, sym, subst}
 use Rattle.std.specs.Prelude.{IfSome}
 use Rattle.std.proofs.lemmas.List.{map-append}
 use Rattle.trace_values.specs.Placed.{Placed, units_of}
+use Rattle.trace_values.specs.Stream.{Stream}
 use Rattle.trace_values.specs.Block.{given_after}
+use Rattle.itm_grammar.specs.declared.packet.ItmPacket.{ItmPacket}
+use Rattle.itm_codec.specs.declared.decoder.ItmDecoder.{ItmDecoder}
+use Rattle.itm_codec.specs.Decoder as itm
+use Rattle.itm_codec.specs.Reading.{packets_in}
 use Rattle.stp_codec.specs.Reading.{items_in}
 use Rattle.stp_codec.specs.Wholes.{item_in}
 use Rattle.stp_codec.specs.Cuts.{Passes}
@@ -12,10 +17,10 @@ use Rattle.stp_codec.specs.declared.decoder.PacketTaken.{PacketTaken}
 use Rattle.stp_codec.specs.declared.decoder.StpDecoder.{StpDecoder}
 use Rattle.stp_grammar.specs.declared.item.StpItem.{StpItem}
 use Rattle.stp_grammar.specs.declared.packet.Order.{Order}
-use Rattle.source_events.specs.declared.packet.Packet.TheVariants.{Stp as StpKind}
+use Rattle.source_events.specs.declared.packet.Packet.TheVariants.{Itm as ItmKind, Stp as StpKind}
 use Rattle.source_events.specs.Packets.{given_as, stream_as}
 use Rattle.source_machine.specs.declared.machine.SourceMachine.{SourceMachine}
-use Rattle.source_machine.specs.declared.machine.SourceMachine.TheVariants.{Stp}
+use Rattle.source_machine.specs.declared.machine.SourceMachine.TheVariants.{Itm, Stp}
 use Rattle.source_machine.specs.Machine.{Stands, reading_of}
 use Rattle.source_machine.specs.Seen.{packet_in}
 
@@ -52,3 +57,12 @@ module _ (machine : SourceMachine) (old new : StpDecoder) (is : machine ≡ Stp 
   taken_as bytes None h u front last s = tt
   taken_as bytes (Some taken) h u front last s = λ e.
       passes_as u front last taken.half taken.item (h u front last (subst (λ (m : SourceMachine). Stands m u) is s) e)
+
+-- a source reads the same while its decoder does
+pub itm_same : (old new : ItmDecoder) → packets_in (itm.is_hunter new) ≡ packets_in (itm.is_hunter old) →
+    reading_of (Itm new) ≡ reading_of (Itm old)
+itm_same old new e = ap (λ (r : List Placed → Stream ItmPacket). λ (u : List Placed). stream_as ItmKind (r u)) e
+
+pub stp_same : (old new : StpDecoder) → (stp.order_of new ≡ stp.order_of old) × (stp.is_hunter new ≡ stp.is_hunter old) →
+    reading_of (Stp new) ≡ reading_of (Stp old)
+stp_same old new e = same_reading (Stp old) old new refl e

@@ -4,3 +4,4 @@ pub mod SeenLaws
 pub mod MachineLaws
 pub mod Units
 pub mod UnitLaws
+pub mod Finding

@@ -3,6 +3,7 @@ use Rattle.std.specs.Prelude.{ℕ, Option, None, Some}
 use Rattle.trace_values.specs.declared.step.Step.{Step}
 use Rattle.trace_values.specs.declared.step.Step.TheVariants.{Quiet, Skipping, Item, Locked, Fault}
 use Rattle.trace_values.specs.declared.block.Block.{Block}
+use Rattle.trace_values.specs.declared.taking.Taken.{Taken}
 use Rattle.stp_grammar.specs.declared.item.StpItem.{StpItem}
 use Rattle.source_events.specs.declared.packet.Packet.{Packet}
 use Rattle.source_events.specs.declared.packet.Packet.TheVariants.{Itm, Stp}
@@ -32,9 +33,12 @@ packet_in half None = None
 packet_in half (Some item) = Some (Item half (Stp item))
 
 -- of a part of a packet
-abbrev pub part_as : {V W : Type 0} → (V → W) → PartTaken V → PartTaken W
-part_as f part = record { bytes = part.bytes; packet = option_map f part.packet }
+abbrev pub part_as : {V W : Type 0} → (V → W) → Taken V → PartTaken W
+part_as f part = record { bytes = part.bytes; packet = option_map f part.item }
+
+abbrev pub cut_as : {V W : Type 0} → (V → W) → PartTaken V → PartTaken W
+cut_as f part = record { bytes = part.bytes; packet = option_map f part.packet }
 
 -- of the part of so many bytes that a quick look found
 abbrev pub itm_found : ℕ → ItmFound → Option (PartTaken Packet)
-itm_found count found = option_map (part_as Itm) (part_found count found)
+itm_found count found = option_map (cut_as Itm) (part_found count found)

@@ -2,6 +2,8 @@
 #![tactic(auto)]
 
 mod machine;
+mod packets;
 mod units;
 
 pub use machine::{AHEAD, SourceMachine};
+pub use packets::{Finds, Told};

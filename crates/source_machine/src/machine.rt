@@ -6,7 +6,7 @@ ghost use Rattle.source_machine.specs.Seen.{block_as, itm_found, part_as, step_a
 ghost use Rattle.stp_grammar.specs.Said.{said_item, IsProperSaid};
 ghost use Rattle.trace_values.specs.declared.limits.TheConstants.{COUNT_ROOM};
 
-use trace_values::{Block, Machine, PacketsMode, Step};
+use trace_values::{Block, Machine, PacketsMode, Step, Taken};
 use itm_codec::{ItmDecoder, ItmFound, PartTaken};
 use itm_grammar::packet::ItmPacket;
 use source_events::{Packet, SourceKind};
@@ -65,12 +65,12 @@ fn itm_block(block: Block<ItmPacket>) -> Block<Packet>
 
 /// The same of a part of a packet.
 #[inline(always)]
-fn itm_part(part: PartTaken<ItmPacket>) -> PartTaken<Packet>
+fn itm_part(part: Taken<ItmPacket>) -> PartTaken<Packet>
     ensures { result ≡ part_as Itm part }
 {
     PartTaken {
         bytes: part.bytes,
-        packet: match part.packet {
+        packet: match part.item {
             None => None,
             Some(packet) => Some(Packet::Itm(packet)),
         },
@@ -248,7 +248,7 @@ impl SourceMachine {
             × (held_of self.new ≡ held_of self.old) × (skipped_by self.new ≡ skipped_by self.old) }
     {
         match self {
-            SourceMachine::Itm(decoder) => decoder.find_part(ahead, count),
+            SourceMachine::Itm(decoder) => decoder.cut_part(ahead, count),
             SourceMachine::Stp(_) => ItmFound::Unknown,
         }
     }

@@ -1,7 +1,7 @@
 -- Packets of which the bytes at hand are only a part.
-use Rattle.std.specs.Prelude.{◌≡◌, ℕ, ◌*◌, ◌<◌, ◌≤◌, List, [], ◌∷◌, ◌++◌, length, Option, None, true, ◌==◌}
-use Rattle.std.specs.Prelude.{if◌then◌else◌}
-use Rattle.stp_codec.specs.Names.{Next, Go, End, Step, Placed, Stream, given_after, Within, after, walk, Order, Row}
+use Rattle.std.specs.Prelude.{◌≡◌, ℕ, ◌*◌, ◌<◌, ◌≤◌, List, [], length, true, ◌==◌, if◌then◌else◌}
+pub use Rattle.trace_values.specs.Taking.{Passes}
+use Rattle.stp_codec.specs.Names.{Next, Go, End, Within, after, walk, Order, Row}
 use Rattle.stp_codec.specs.Names.{StpPacket, Partial, Payload, line_of, IsProper, rule, after_payload, is_sound}
 use Rattle.stp_codec.specs.Wholes.{nibbles_in, between}
 use Rattle.stp_codec.specs.declared.cut.Cut.{Cut}
@@ -27,11 +27,3 @@ CutsInto order s bytes (Ended nibbles packet) =
 abbrev pub IsProperCut : Cut → Type 0
 IsProperCut (Inside t) = is_sound t ≡ true
 IsProperCut (Ended nibbles packet) = IsProper packet
-
--- After u these bytes give what this answer to the last of them says, and nothing else, and the reading goes on.
-pub record Passes {V : Type 0} (reading : List Placed → Stream V) (stands : List Placed → Type 0)
-    (u front : List Placed)
-    (last : Placed) (step : Option (Step V)) : Type 0 where
-  pub list : stands (u ++ (front ++ last ∷ []))
-  pub given : (reading (u ++ (front ++ last ∷ []))).given ≡ (reading u).given ++ given_after last.place.at step
-  pub sound : (reading (u ++ (front ++ last ∷ []))).fault ≡ None

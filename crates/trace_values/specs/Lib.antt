@@ -14,4 +14,5 @@ pub mod Nibbles
 pub mod Decorated
 pub mod Rows
 pub mod Hex
+pub mod Taking
 pub mod ReadingModes

@@ -14,6 +14,7 @@ mod pattern;
 mod reading_modes;
 pub mod rows;
 mod step;
+mod taking;
 
 pub use block::{Block, feed_block};
 pub use cell::{Cell, SourceId};
@@ -25,3 +26,4 @@ pub use next::Next;
 pub use pattern::Pattern;
 pub use reading_modes::{FramesMode, PacketsMode};
 pub use step::Step;
+pub use taking::{Found, Taken};

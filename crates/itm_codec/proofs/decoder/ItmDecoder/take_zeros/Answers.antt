@@ -1,4 +1,4 @@
-use Rattle.std.proofs.Common.{ℕ, ◌∙◌, replicate, sym, ap, arith}
+use Rattle.std.proofs.Common.{ℕ, ◌∙◌, replicate, refl, sym, ap, arith}
 use Rattle.std.proofs.lemmas.List.{length-replicate}
 use Rattle.trace_values.specs.Walk.{Within}
 use Rattle.itm_grammar.specs.declared.partial.Partial.TheVariants.{Header}
@@ -26,6 +26,7 @@ returns-then-more-gt0 c =
         c.requires.locked,
         c.if-more-gt0.true,
         z.0,
+        refl,
         more_zeros (partial_of d) c.args.taken c.zeros_in-more.result c.args.bytes.now c.requires.zeros z.1 c.if-more-gt0.true ∙ ap Within (sym c.keep.ensures.part),
       );
     }
@@ -43,6 +44,7 @@ returns-then-zeros-ge5 c =
         c.requires.locked,
         omega arith,
         omega (arith, l),
+        refl,
         (
           sync_ends (partial_of d) c.args.taken c.zeros_in-more.result c.args.bytes.now c.requires.zeros z.1 l c.if-bytes-more.true c.if-zeros-ge5.true,
           k.part,
