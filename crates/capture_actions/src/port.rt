@@ -16,9 +16,9 @@ ghost use Rattle.capture_actions.specs.Flows.{flow_by};
 ghost use Rattle.trace_stream.specs.declared.limits.TheConstants.{GREATEST_CAPTURE};
 
 use arrayvec::ArrayVec;
-use trace_values::{Cell, Fault, FramesMode, SourceId};
 use deformatter::{PortReader, PortStep, Taken};
 use trace_stream::Flow;
+use trace_values::{Cell, Fault, FramesMode, SourceId};
 
 /// Reads the bytes of a capture's port, the first of which is at offset 0, and keeps its fault.
 #[derive(Drop)]

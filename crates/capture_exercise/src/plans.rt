@@ -4,9 +4,9 @@ ghost use Rattle.std.specs.Prelude.{◌≡◌, ◌≤◌, ◌∷◌, [], true};
 ghost use Rattle.source_events.specs.Plan.{is_sound};
 ghost use Rattle.capture_exercise.specs.Exercise.{exercise_plan};
 
-use trace_values::{FramesMode, PacketsMode, SourceId};
 use source_events::{Plan, SourceIds};
 use stp_grammar::packet::Order;
+use trace_values::{FramesMode, PacketsMode, SourceId};
 
 /// How many items the exercise has, how many bytes its whole capture, and how what is left of that is read.
 #[derive(Debug, Drop)]

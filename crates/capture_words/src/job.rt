@@ -11,10 +11,10 @@ ghost use Rattle.capture_words.specs.Jobs.{task_with, job_of, IsSoundTask};
 use crate::settings::{Settings, settings_in};
 use crate::usage::UsageFault;
 use crate::values::{ActionName, action_in};
-use trace_values::{FramesMode, SourceId};
 use clap::ArgMatches;
 use item_tap::{Bounds, Choice};
 use source_events::{Plan, SourceIds};
+use trace_values::{FramesMode, SourceId};
 
 /// What is done with a capture.
 #[derive(Debug, Drop)]

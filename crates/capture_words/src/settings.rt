@@ -12,10 +12,10 @@ use crate::values::{
     frames_in, full_in, half_in, id_in, items_in, itm_in, limit_in, lose_in, only_in, order_in,
     packets_in, pointer_in, size_in, stp_in, sync_in, window_in,
 };
-use trace_values::{FramesMode, PacketsMode, SourceId};
 use clap::ArgMatches;
 use item_tap::{Bounds, Choice};
 use stp_grammar::packet::Order;
+use trace_values::{FramesMode, PacketsMode, SourceId};
 
 /// What the options say, each with its default where it is absent.
 #[derive(Debug, Drop)]

@@ -11,11 +11,11 @@ ghost use Rattle.capture_words.specs.Values.{pointer_in, full_in};
 use crate::choices::{choice_named, window_named};
 use crate::option::CommandOption;
 use crate::usage::UsageFault;
-use trace_values::{FramesMode, PacketsMode, SourceId};
 use clap::ArgMatches;
 use decimal_words::{id_named, number_named};
 use item_tap::{Bounds, Choice};
 use stp_grammar::packet::Order;
+use trace_values::{FramesMode, PacketsMode, SourceId};
 
 /// The greatest limit, and the limit where none is given: how many bytes of a capture are read at most.
 pub const GREATEST_LIMIT: u64 = 1 << 36;

@@ -1,7 +1,6 @@
 //! Words, and what they ask for.
 
 use crate::same::same;
-use trace_values::{FramesMode, PacketsMode, SourceId};
 use capture_words::{Asked, Task, read_words};
 use item_tap::{Choice, Kind};
 use source_events::Plan;
@@ -9,6 +8,7 @@ use std::alloc::{AllocError, Global};
 use std::process::Abort;
 use std::test::Fail;
 use stp_grammar::packet::Order;
+use trace_values::{FramesMode, PacketsMode, SourceId};
 
 /// The greatest limit, which is the default.
 const MOST: u64 = 68719476736;

@@ -7,9 +7,9 @@ ghost use Rattle.deformatter.specs.PortReading.{bare_cell};
 ghost use Rattle.deformatter.specs.Modes.{hunts};
 ghost use Rattle.trace_values.specs.declared.limits.TheConstants.{COUNT_ROOM, PART_ROOM};
 
+use crate::{Deformatter, PortStep, Taken};
 use arrayvec::ArrayVec;
 use trace_values::{Cell, FramesMode, SourceId};
-use crate::{Deformatter, PortStep, Taken};
 
 /// Reads the bytes of a port one by one, in one mode.
 #[derive(Debug, Drop)]

@@ -2,9 +2,9 @@
 
 use crate::same::same;
 use arrayvec::ArrayVec;
-use trace_values::{Cell, Fault, FramesMode, Reason, SourceId};
 use deformatter::{PortReader, PortStep};
 use std::process::Abort;
+use trace_values::{Cell, Fault, FramesMode, Reason, SourceId};
 
 /// More bytes than any test has.
 const MANY: u64 = 1 << 20;

@@ -1,7 +1,6 @@
 //! Scripts as they come, in pieces, with their faults and their captures.
 
 use crate::same::same;
-use trace_values::{FramesMode, PacketsMode, SourceId};
 use script_rebuild::{Rebuild, RebuildPlan, ScriptFault};
 use script_text::LineFault;
 use source_events::{Plan, SourceIds};
@@ -11,6 +10,7 @@ use std::test::Fail;
 use stp_grammar::packet::Order;
 use trace_io::{MemorySink, MemorySource};
 use trace_stream::{Buffers, Outcome, serve};
+use trace_values::{FramesMode, PacketsMode, SourceId};
 
 // Source 1 sends ITM packets, and source 2 STP packets.
 fn plan() -> Plan {

@@ -1,7 +1,6 @@
 //! Lines, and what they say.
 
 use crate::same::same;
-use trace_values::{FramesMode, PacketsMode, SourceId};
 use dwt_packets::{DwtItem, meaning};
 use itm_grammar::packet::{ItmPacket, Lateness, Size};
 use itm_grammar::proper::is_proper;
@@ -12,6 +11,7 @@ use std::process::Abort;
 use std::test::Fail;
 use stp_grammar::item::{Place, Stamp, StpItem};
 use stp_grammar::packet::{Order, Width};
+use trace_values::{FramesMode, PacketsMode, SourceId};
 use trace_vectors::itm::{EXTENSIONS, HARDWARE_PACKETS, SOURCE_PACKETS, TIMESTAMPS};
 use trace_vectors::stp::STP_ITEMS;
 

@@ -2,7 +2,6 @@
 
 use crate::same::same;
 use arrayvec::ArrayVec;
-use trace_values::{FramesMode, PacketsMode};
 use itm_grammar::packet::{ItmPacket, Size};
 use source_counts::Counts;
 use source_events::{
@@ -13,7 +12,7 @@ use std::process::Abort;
 use std::test::Fail;
 use stp_grammar::item::{Place, Stamp, StpItem};
 use stp_grammar::packet::{Order, Width};
-use trace_values::{Fault, Reason, SourceId};
+use trace_values::{Fault, FramesMode, PacketsMode, Reason, SourceId};
 
 /// How many bytes the pieces have in which a capture is fed; 0 stands for feeding byte by byte.
 const PIECES: [usize; 5] = [0, 1, 7, 16, 100];

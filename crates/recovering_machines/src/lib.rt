@@ -13,6 +13,5 @@ pub use source::RecoveringSource;
 
 #[cfg(test)]
 mod port_tests;
-
 #[cfg(test)]
 mod source_tests;

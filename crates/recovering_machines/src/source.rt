@@ -11,10 +11,10 @@ ghost use Rattle.trace_values.specs.Stream.{LocksAfter, StepFits};
 ghost use Rattle.source_machine.specs.Machine.{is_live};
 ghost use Rattle.trace_values.specs.declared.limits.TheConstants.{COUNT_ROOM};
 
-use trace_values::{Machine, PacketsMode, Step};
 use source_events::{Packet, SourceKind};
 use source_machine::SourceMachine;
 use stp_grammar::packet::Order;
+use trace_values::{Machine, PacketsMode, Step};
 
 /// Reads the bytes of a mapped source. After a fault it hunts again from the fault's byte or nibble on, and after a cut
 /// from the next byte on. It is live always.

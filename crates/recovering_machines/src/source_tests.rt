@@ -1,10 +1,10 @@
 //! Rows of recovering sources whose first unit begins a packet: where their fault is, and where they lock.
 
 use crate::RecoveringSource;
-use trace_values::{PacketsMode, Step};
 use source_events::SourceKind;
 use std::process::Abort;
 use stp_grammar::packet::Order;
+use trace_values::{PacketsMode, Step};
 
 /// A row: the bytes of a source, the offset and half of its only fault, those of its lock, and the units skipped.
 struct Row {

@@ -9,9 +9,9 @@ use crate::port::feed_port;
 use crate::router::take_step;
 use crate::slot::{Slots, slots_of};
 use arrayvec::ArrayVec;
-use trace_values::{Cell, FramesMode};
 use recovering_machines::{Hearer, RecoveringPort};
 use source_events::Plan;
+use trace_values::{Cell, FramesMode};
 
 /// The greatest offset of a byte of a capture.
 pub const GREATEST_OFFSET: u64 = 1 << 36;

@@ -11,9 +11,9 @@ ghost use Rattle.recovery_report.specs.Words.{parts_by};
 ghost use Rattle.recovery_engine.specs.Port.{PortStands};
 
 use arrayvec::ArrayVec;
-use trace_values::{Cell, FramesMode, SourceId};
 use deformatter::PortStep;
 use recovering_machines::RecoveringPort;
+use trace_values::{Cell, FramesMode, SourceId};
 
 /// The source of all bytes where there is no formatter.
 fn bare_source() -> Option<SourceId>

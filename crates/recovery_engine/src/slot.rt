@@ -10,10 +10,10 @@ ghost use Rattle.recovery_engine.specs.Slots.{source_at, total};
 ghost use Rattle.recovery_engine.specs.Taking.{AreCut, TakesOwn};
 
 use arrayvec::ArrayVec;
-use trace_values::{Cell, PacketsMode, SourceId};
 use recovering_machines::{Hearer, RecoveringSource, feed_run};
 use source_events::{MAPPED_SOURCES, Plan, SourceKind};
 use stp_grammar::packet::Order;
+use trace_values::{Cell, PacketsMode, SourceId};
 
 /// A mapped source, and what reads its bytes.
 #[derive(Drop)]

@@ -8,7 +8,9 @@ ghost use Rattle.source_events.specs.Report.{stop_in};
 ghost use Rattle.resync_laws.specs.Report.{ReportFollows};
 
 pub use resync_grammars::port_laws::{port_pattern_law, port_rest_law};
-pub use resync_grammars::source_laws::{itm_pattern_law, itm_rest_law, stp_pattern_law, stp_rest_law};
+pub use resync_grammars::source_laws::{
+    itm_pattern_law, itm_rest_law, stp_pattern_law, stp_rest_law,
+};
 use source_events::Plan;
 
 /// Where this plan reads a whole capture without a fault, the report of any rest of it, read with hunts, follows the

@@ -17,8 +17,8 @@ ghost use Rattle.script_rebuild.specs.Writer.{Stands as StandsForLines};
 ghost use Rattle.script_rebuild.specs.PutLine.{PutsLine};
 
 use crate::plan::{RebuildPlan, ScriptFault};
-use arrayvec::ArrayVec;
 use crate::{LineBytes, LineWriter};
+use arrayvec::ArrayVec;
 use memchr::memchr;
 use script_text::{Item, LINE_BYTES, Line, LineFault, PacketLine, packet_line, read_into};
 use source_events::{Plan, SourceKind};

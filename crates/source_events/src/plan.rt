@@ -6,8 +6,8 @@ ghost use Rattle.source_events.specs.Plan.{are_sound, is_sound, kind_of};
 
 use crate::source_ids::SourceIds;
 use arrayvec::ArrayVec;
-use trace_values::{FramesMode, PacketsMode, SourceId};
 use stp_grammar::packet::Order;
+use trace_values::{FramesMode, PacketsMode, SourceId};
 
 /// What a mapped source sends.
 #[derive(Clone, Copy, Debug, PartialEq, Eq, Drop)]

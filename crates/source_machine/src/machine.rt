@@ -6,13 +6,13 @@ ghost use Rattle.source_machine.specs.Seen.{block_as, itm_found, part_as, step_a
 ghost use Rattle.stp_grammar.specs.Said.{said_item, IsProperSaid};
 ghost use Rattle.trace_values.specs.declared.limits.TheConstants.{COUNT_ROOM};
 
-use trace_values::{Block, Machine, PacketsMode, Step, Taken};
 use itm_codec::{ItmDecoder, ItmFound, PartTaken};
 use itm_grammar::packet::ItmPacket;
 use source_events::{Packet, SourceKind};
 use stp_codec::{PacketParts, PacketTaken, SaidTaken, StpDecoder, StpFound};
 use stp_grammar::item::StpItem;
 use stp_grammar::packet::Order;
+use trace_values::{Block, Machine, PacketsMode, Step, Taken};
 
 /// How many bytes are there behind those of a part that is taken at once, whatever they are.
 pub const AHEAD: usize = 24;

@@ -8,8 +8,8 @@ ghost use Rattle.source_merge.specs.Counting.{HasPort, port_total};
 ghost use Rattle.trace_values.specs.declared.limits.TheConstants.{COUNT_ROOM};
 
 use crate::bare::{bare_source, ends_packet};
-use frame_grammar::frame::FRAME_BYTES;
 use deformatter::PortStep;
+use frame_grammar::frame::FRAME_BYTES;
 use source_counts::{Counts, SourceCounts};
 use source_events::{Event, Packet, PortCounts, What};
 use trace_values::{Cell, ID_COUNT, SourceId, Step};

@@ -18,21 +18,21 @@ use crate::counts::Counters;
 use crate::flow::{Fed, Flow, flow_of};
 use crate::frame::AnyFrame;
 use crate::mapped::{Slots, slots_of};
-use frame_runs::place_frame;
 use crate::receiver::Receiver;
 use crate::router::find;
 use crate::slot::Events;
 use crate::step::{take_step, take_whole};
 use crate::tails::source_tails;
 use arrayvec::ArrayVec;
-use trace_values::{Block, Cell, FramesMode, SourceId};
+use deformatter::{PortReader, PortStep};
 use frame_grammar::frame::FRAME_BYTES;
 use frame_grammar::gather::{PlacedFrame, gather_frame_at};
 use frame_grammar::plain::plain_frame;
-use deformatter::{PortReader, PortStep};
+use frame_runs::place_frame;
 use source_counts::Counts;
 use source_events::{Packet, Plan, PortCounts, PortMode, Tails};
 use stp_codec::PacketTaken;
+use trace_values::{Block, Cell, FramesMode, SourceId};
 
 /// The greatest offset of a byte of a capture.
 pub const GREATEST_OFFSET: u64 = 1 << 36;

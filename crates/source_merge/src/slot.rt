@@ -30,13 +30,13 @@ use crate::counts::PerSource;
 use crate::receiver::Receiver;
 use crate::run::Run;
 use arrayvec::ArrayVec;
-use trace_values::{Fault, Machine, PART_ROOM, PacketsMode, SourceId, Step};
 use itm_codec::ItmFound;
 use itm_grammar::packet::ItmPacket;
 use source_events::{Event, Packet, SourceKind, What};
 use source_machine::SourceMachine;
 use stp_codec::{PacketTaken, SaidTaken, StpFound};
 use stp_grammar::packet::Order;
+use trace_values::{Fault, Machine, PART_ROOM, PacketsMode, SourceId, Step};
 
 /// How many events a list of them has room for. One byte of a capture ends at most one frame, of 15 cells, with at most
 /// two events for each.

@@ -5,7 +5,6 @@ ghost use Rattle.source_merge.specs.declared.split.TheConstants.{DATA_BYTES};
 ghost use Rattle.source_merge.specs.declared.run.TheConstants.{ROOM};
 
 use crate::counts::{ByteCounts, PerSource};
-use frame_runs::{RunEnds, data_in_place, late_ends};
 use crate::frame::FrameCells;
 use crate::receiver::Receiver;
 use crate::router::take_run;
@@ -13,6 +12,7 @@ use crate::run::{ROOM, Run};
 use crate::slot::Slot;
 use frame_grammar::frame::FRAME_BYTES;
 use frame_grammar::gather::PlacedFrame;
+use frame_runs::{RunEnds, data_in_place, late_ends};
 use source_events::Stop;
 use source_machine::SourceMachine;
 use trace_values::{Cell, SourceId};

@@ -24,12 +24,12 @@ ghost use Rattle.deformatter.specs.declared.step.PortStep.TheVariants.{Frame};
 
 use crate::counts::{ByteCounts, Counters, PerSource, add_step};
 use crate::frame::FrameCells;
-use frame_runs::after_frame;
 use crate::receiver::Receiver;
 use crate::slot::{Slot, give};
 use crate::split::SplitFrame;
-use frame_grammar::gather::PlacedFrame;
 use deformatter::PortStep;
+use frame_grammar::gather::PlacedFrame;
+use frame_runs::after_frame;
 use source_events::{Event, Packet, Stop, What};
 use source_machine::SourceMachine;
 use trace_values::SourceId;

@@ -2,8 +2,8 @@
 
 use super::{pieces_of, run_over};
 use crate::same::same;
-use capture_run::Status;
 use capture_exercise::write_exercise;
+use capture_run::Status;
 use std::alloc::Global;
 use std::process::Abort;
 use std::test::Fail;
