@@ -1,9 +1,8 @@
 -- A reading with one more byte of which the rule says this.
-use Rattle.std.proofs.Common.{◌≡◌, ℕ, ◌+◌, ◌≤◌, List, [], ◌∷◌, ◌++◌, refl, sym, ◌∙◌, ap, inl, inr, arith, subst, append_assoc, append-nil, Option, None, Some}
+use Rattle.std.proofs.Common.{◌≡◌, ℕ, ◌+◌, ◌≤◌, List, [], ◌∷◌, ◌++◌, refl, sym, ◌∙◌, ap, inl, inr, arith, subst, append-nil, Option, None, Some}
 use Rattle.std.specs.List.{sum_by}
 use Rattle.std.proofs.lemmas.List.{map-append}
 use Rattle.std.proofs.lemmas.List.Sums.{sum_by_push, sum_by-append}
-use Rattle.trace_values.specs.declared.cell.Cell.{Cell}
 use Rattle.trace_values.specs.declared.fault.Reason.{Reason}
 use Rattle.trace_values.specs.declared.next.Next.{Next}
 use Rattle.trace_values.specs.declared.next.Next.TheVariants.{Go, End, Fail}
@@ -11,24 +10,15 @@ use Rattle.trace_values.specs.Placed.{Place, Placed, byte_at}
 use Rattle.trace_values.specs.Reading.{Progress, with_unit}
 use Rattle.trace_values.specs.Stream.{FaultAt}
 use Rattle.frame_grammar.specs.Port.{PortItem, Full, Half, Frame, State, start}
-use Rattle.frame_grammar.specs.Reading.{item_cells, item_id, cells_of_items, id_of_items, fulls_in, halves_in, frames_in}
+use Rattle.frame_grammar.specs.Reading.{item_cells, cells_of_items, id_of_items, fulls_in, halves_in, frames_in}
+use Rattle.frame_grammar.proofs.Items.{id_of_items-push, cells_of_items-push}
 use Rattle.deformatter.specs.Reading.{items_of, read_after, cells_in, id_in}
 use Rattle.deformatter.specs.Growth.{place_at, PortGrows, PortSettled, PortRises}
 use Rattle.deformatter.specs.Rule.{step_by, cells_by, id_by}
 use Rattle.deformatter.proofs.Lawful.{Lawful}
 use Rattle.deformatter.proofs.Parts.{quiet_step, half_step}
 
-pub id_push : (id : Option ℕ) (l : List PortItem) (p : PortItem) → id_of_items id (l ++ p ∷ []) ≡ item_id (id_of_items id l) p
-id_push id [] p = refl
-id_push id (q ∷ l) p = id_push (item_id id q) l p
-
-pub cells_push : (id : Option ℕ) (l : List PortItem) (p : PortItem) → cells_of_items id (l ++ p ∷ []) ≡ cells_of_items id l ++ item_cells (id_of_items id l) p
-cells_push id [] p = append-nil (item_cells id p)
-cells_push id (q ∷ l) p =
-    ap (λ (c : List Cell). item_cells id q ++ c) (cells_push (item_id id q) l p)
-    ∙ sym (append_assoc (item_cells id q) (cells_of_items (item_id id q) l) (item_cells (id_of_items (item_id id q) l) p))
-
-items_push : (l : List (PortItem × Place)) (v : PortItem) (place : Place) → items_of (l ++ (v, place) ∷ []) ≡ items_of l ++ v ∷ []
+pub items_push : (l : List (PortItem × Place)) (v : PortItem) (place : Place) → items_of (l ++ (v, place) ∷ []) ≡ items_of l ++ v ∷ []
 items_push l v place = map-append (λ (x : PortItem × Place). x.0) l ((v, place) ∷ [])
 
 pub sum_push : (f : PortItem → ℕ) (l : List (PortItem × Place)) (v : PortItem) (place : Place) → sum_by f (items_of (l ++ (v, place) ∷ [])) ≡ sum_by f (items_of l) + f v
@@ -38,13 +28,13 @@ sum_push f l v place = ap (sum_by f) (items_push l v place) ∙ sum_by_push f (i
 pub cells_fed : (skipped : ℕ) (p : Progress State PortItem) (b : Placed) (n : Next State PortItem) →
     cells_in (read_after skipped (with_unit start p b n None)) ≡ cells_in (read_after skipped p) ++ cells_by (id_in (read_after skipped p)) n
 cells_fed skipped p b (Go t) = sym (append-nil (cells_in (read_after skipped p)))
-cells_fed skipped p b (End v) = ap (cells_of_items None) (items_push p.items v b.place) ∙ cells_push None (items_of p.items) v
+cells_fed skipped p b (End v) = ap (cells_of_items None) (items_push p.items v b.place) ∙ cells_of_items-push None (items_of p.items) v
 cells_fed skipped p b (Fail e) = sym (append-nil (cells_in (read_after skipped p)))
 
 pub id_fed : (skipped : ℕ) (p : Progress State PortItem) (b : Placed) (n : Next State PortItem) →
     id_in (read_after skipped (with_unit start p b n None)) ≡ id_by (id_in (read_after skipped p)) n
 id_fed skipped p b (Go t) = refl
-id_fed skipped p b (End v) = ap (id_of_items None) (items_push p.items v b.place) ∙ id_push None (items_of p.items) v
+id_fed skipped p b (End v) = ap (id_of_items None) (items_push p.items v b.place) ∙ id_of_items-push None (items_of p.items) v
 id_fed skipped p b (Fail e) = refl
 
 module _ (skipped : ℕ) (p : Progress State PortItem) (at byte : ℕ) where

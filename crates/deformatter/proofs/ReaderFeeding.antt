@@ -10,7 +10,7 @@ use Rattle.trace_values.specs.declared.reading_modes.FramesMode.TheVariants.{Hun
 use Rattle.frame_grammar.specs.Port.{PortItem, Full, Half, Frame}
 use Rattle.frame_grammar.specs.Frame.{cells}
 use Rattle.frame_grammar.specs.Reading.{offsets_of, item_cells, cells_of_items}
-use Rattle.frame_grammar.proofs.Items.{cells_of_items-append}
+use Rattle.frame_grammar.proofs.Items.{cells_of_items-push}
 use Rattle.deformatter.specs.Reading.{PortStream, port_stream, items_of, cells_in, id_in}
 use Rattle.deformatter.specs.Growth as port
 use Rattle.deformatter.specs.Frames as port_frames
@@ -24,10 +24,11 @@ use Rattle.deformatter.specs.declared.step.PortStep.{PortStep}
 use Rattle.deformatter.specs.declared.step.PortStep.TheVariants.{Quiet, Half as HalfEnds, Full as FullEnds}
 use Rattle.deformatter.specs.declared.step.PortStep.TheVariants.{Frame as FrameEnds, Locked, Fault as Faulty}
 use Rattle.deformatter.specs.Modes.{is_bare, hunts}
-use Rattle.deformatter.specs.PortReading.{item_frames, frames_of_items, framed, bare_cell, bare, port_reading}
+use Rattle.deformatter.specs.PortReading.{PortReading, item_frames, frames_of_items, framed, bare_cell, bare, port_reading}
 use Rattle.deformatter.specs.ReadingGrowth.{frames_by, CellsFit, Grows, Answers, IsInside, FedFrame}
 use Rattle.deformatter.specs.ReadingGrowth.{GrowsByFrame}
 use Rattle.deformatter.specs.Reader.{StandsByMode}
+use Rattle.deformatter.proofs.Growing.{items_push}
 use Rattle.deformatter.proofs.PortReadingLaws.{frames_of_items-append}
 
 -- the frames that a step ends, and its cells
@@ -39,16 +40,14 @@ record Gained (a b : PortStream) (step : PortStep) (cells : List Cell) : Type 0 
 frames_push : (a b : PortStream) (p : PortItem) (place : Place) → b.items ≡ a.items ++ (p, place) ∷ [] → (framed b).frames ≡ (framed a).frames ++ item_frames (id_in a) p
 frames_push a b p place e =
     ap (λ (l : List (PortItem × Place)). frames_of_items None (items_of l)) e
-    ∙ ap (frames_of_items None) (map-append (λ (x : PortItem × Place). x.0) a.items ((p, place) ∷ []))
+    ∙ ap (frames_of_items None) (items_push a.items p place)
     ∙ frames_of_items-append None (items_of a.items) (p ∷ [])
     ∙ ap (λ (l : List (List Cell)). (framed a).frames ++ l) (append-nil (item_frames (id_in a) p))
 
 cells_push : (a b : PortStream) (p : PortItem) (place : Place) → b.items ≡ a.items ++ (p, place) ∷ [] → cells_in b ≡ cells_in a ++ item_cells (id_in a) p
 cells_push a b p place e =
     ap (λ (l : List (PortItem × Place)). cells_of_items None (items_of l)) e
-    ∙ ap (cells_of_items None) (map-append (λ (x : PortItem × Place). x.0) a.items ((p, place) ∷ []))
-    ∙ cells_of_items-append None (items_of a.items) (p ∷ [])
-    ∙ ap (λ (l : List Cell). cells_in a ++ l) (append-nil (item_cells (id_in a) p))
+    ∙ ap (cells_of_items None) (items_push a.items p place) ∙ cells_of_items-push None (items_of a.items) p
 
 module _ (a b : PortStream) (at : ℕ) (cells : List Cell) (given : cells_in b ≡ cells_in a ++ cells) where
   -- the cells are those of the piece that was ended
@@ -105,16 +104,19 @@ is_of_port Hunt port u e s = s
 is_of_port Aligned port u e s = s
 is_of_port Bare port u e s = tt
 
+-- with a formatter the reading is that of the frames
+reads_as : (mode : FramesMode) → is_bare mode ≡ false → (h : Bool) → h ≡ hunts mode → (u : List Placed) → framed (port_stream h u) ≡ port_reading mode u
+reads_as Hunt e h m u = ap (λ (b : Bool). framed (port_stream b u)) m
+reads_as Aligned e h m u = ap (λ (b : Bool). framed (port_stream b u)) m
+reads_as Bare e h m u = absurd (let k : true ≡ false = e in cc)
+
 pub reading_grows : (mode : FramesMode) → is_bare mode ≡ false → (h : Bool) → h ≡ hunts mode → (u v : List Placed) (at : ℕ) (step : PortStep) (cells : List Cell) →
     PortGrows (port_stream h u) (port_stream h v) at step → cells_in (port_stream h v) ≡ cells_in (port_stream h u) ++ cells →
     Grows (port_reading mode u) (port_reading mode v) at step cells
-reading_grows Hunt e h m u v at step cells g k = framed_grows (port_stream true u) (port_stream true v) at step cells
-    (subst (λ (b : Bool). PortGrows (port_stream b u) (port_stream b v) at step) m g)
-    (subst (λ (b : Bool). cells_in (port_stream b v) ≡ cells_in (port_stream b u) ++ cells) m k)
-reading_grows Aligned e h m u v at step cells g k = framed_grows (port_stream false u) (port_stream false v) at step cells
-    (subst (λ (b : Bool). PortGrows (port_stream b u) (port_stream b v) at step) m g)
-    (subst (λ (b : Bool). cells_in (port_stream b v) ≡ cells_in (port_stream b u) ++ cells) m k)
-reading_grows Bare e h m u v at step cells g k = absurd (let k : true ≡ false = e in cc)
+reading_grows mode e h m u v at step cells g k =
+    subst (λ (r : PortReading). Grows r (port_reading mode v) at step cells) (reads_as mode e h m u)
+    (subst (λ (r : PortReading). Grows (framed (port_stream h u)) r at step cells) (reads_as mode e h m v)
+    (framed_grows (port_stream h u) (port_stream h v) at step cells g k))
 
 pub few_more : (b : Bool) (x y z w n : ℕ) → b ≡ false → x + y ≤ z + w + n → cond b 0 x + cond b 0 y ≤ cond b 0 z + cond b 0 w + n
 few_more true x y z w n e h = absurd (let k : true ≡ false = e in cc)
@@ -136,11 +138,10 @@ framed_frame a b w f inner id g = record {
 pub reading_frame : (mode : FramesMode) → is_bare mode ≡ false → (h : Bool) → h ≡ hunts mode → (u w f : List Placed) (inner : ℕ) (id : Option ℕ) →
     port_frames.GrowsByFrame (port_stream h u) (port_stream h (u ++ w)) w f inner id →
     GrowsByFrame (port_reading mode u) (port_reading mode (u ++ w)) inner (cells (units_of f) (offsets_of f) id)
-reading_frame Hunt e h m u w f inner id g = framed_frame (port_stream true u) (port_stream true (u ++ w)) w f inner id
-    (subst (λ (b : Bool). port_frames.GrowsByFrame (port_stream b u) (port_stream b (u ++ w)) w f inner id) m g)
-reading_frame Aligned e h m u w f inner id g = framed_frame (port_stream false u) (port_stream false (u ++ w)) w f inner id
-    (subst (λ (b : Bool). port_frames.GrowsByFrame (port_stream b u) (port_stream b (u ++ w)) w f inner id) m g)
-reading_frame Bare e h m u w f inner id g = absurd (let k : true ≡ false = e in cc)
+reading_frame mode e h m u w f inner id g =
+    subst (λ (r : PortReading). GrowsByFrame r (port_reading mode (u ++ w)) inner (cells (units_of f) (offsets_of f) id)) (reads_as mode e h m u)
+    (subst (λ (r : PortReading). GrowsByFrame (framed (port_stream h u)) r inner (cells (units_of f) (offsets_of f) id)) (reads_as mode e h m (u ++ w))
+    (framed_frame (port_stream h u) (port_stream h (u ++ w)) w f inner id g))
 
 -- bytes of each of which one thing is so, and so the other
 each_map : (P Q : List Placed → ℕ → ℕ → Type 0) → ((u : List Placed) (at byte : ℕ) → P u at byte → Q u at byte) → (u : List Placed) (at : ℕ) (bytes : List ℕ) → EachByte P u at bytes → EachByte Q u at bytes

@@ -34,10 +34,6 @@ rise_join [] [] lo mid hi r s = (let a : lo ≤ mid = r in let b : mid ≤ hi = 
 rise_join [] (y ∷ ys) lo mid hi r s = ((let a : lo ≤ mid = r in let b = s.0 in omega arith), s.1)
 rise_join (x ∷ xs) ys lo mid hi r s = (r.0, rise_join xs ys (x + 1) mid hi r.1 s)
 
-pub rise_end : (xs : List ℕ) (lo hi : ℕ) → Rise lo hi xs → Rise lo (end_at lo xs) xs × (end_at lo xs ≤ hi)
-rise_end [] lo hi r = ((let k : lo ≤ lo = omega arith in k), r)
-rise_end (x ∷ xs) lo hi r = let k = rise_end xs (x + 1) hi r.1 in ((r.0, k.0), k.1)
-
 -- numbers at neighbouring indexes, the first, and the last
 rise_next : (xs : List ℕ) (lo hi i : ℕ) → Rise lo hi xs → i + 1 < length xs → slice_index xs i + 1 ≤ slice_index xs (i + 1)
 rise_next [] lo hi i r l = absurd (omega arith)

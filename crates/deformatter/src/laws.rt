@@ -1,4 +1,4 @@
-//! Laws of the reading of a port's bytes, over its definitions alone.
+//! Laws of the reading of a port's bytes item by item, over its definitions alone.
 
 ghost use Rattle.std.specs.Prelude.{◌≡◌, ◌++◌, ◌∷◌, [], ℕ, List, Bool, true, false, is_none};
 ghost use Rattle.trace_values.specs.Placed.{Placed, byte_at};

@@ -1,4 +1,4 @@
-//! Laws of the reading of a port's bytes, over its definitions alone.
+//! Laws of the reading of a port's bytes frame by frame, in each mode, over its definitions alone.
 
 ghost use Rattle.std.specs.Prelude.{◌≡◌, ◌↔◌, ℕ, List, [], ◌∷◌, ◌++◌, length, map, true, false, is_none, Option};
 ghost use Rattle.std.specs.List.{flat_map};

@@ -1,8 +1,7 @@
 -- Items one after the other, the bytes of a frame, and the half synchronisations in it.
 use Rattle.std.proofs.Common.{◌≡◌, ◌≢◌, ℕ, zero, suc, ◌+◌, ◌*◌, ◌<◌, ◌≤◌, List, [], ◌∷◌, ◌++◌, length, refl, sym, ◌∙◌, ap, arith, Bool, true, false, cond, Option, None, Some, append_assoc, append-nil, ◌⊎◌, inl, inr}
 use Rattle.std.specs.Prelude.{◌==◌, ◌&&◌, slice_index}
-use Rattle.std.proofs.lemmas.List.{length-append, length_push, get_or_append_left}
-use Rattle.std.proofs.Math.Seq.{get_or-append_seam}
+use Rattle.std.proofs.lemmas.List.{length-append}
 use Rattle.trace_values.specs.declared.cell.Cell.{Cell}
 use Rattle.trace_values.specs.declared.fault.Reason.{Reason}
 use Rattle.trace_values.specs.declared.next.Next.{Next}
@@ -14,7 +13,6 @@ use Rattle.trace_values.proofs.Walks.{walk_push, walked}
 use Rattle.frame_grammar.specs.Frame.{IsProperBelow, IsProperFrame}
 use Rattle.frame_grammar.specs.Port.{PortItem, Full, Half, Frame, half_spelling, IsWord, IsWords, Spells, half_words, Between, First, One, Two, Three, State, start, word_ended, rule}
 use Rattle.frame_grammar.specs.Reading.{item_cells, item_id, cells_of_items, id_of_items}
-use Rattle.frame_grammar.proofs.CellLaws.{at_end}
 use Rattle.frame_grammar.proofs.Deciding.{yes, no, is_yes, is_no, at, on}
 
 -- items after items
@@ -47,15 +45,6 @@ proper_more n a b f g h e p (suc k) l = λ q. p k (omega arith) (
     let d : 2 * suc k ≡ suc (suc (2 * k)) = omega arith in
     let i : slice_index (units_of f) (2 * suc k) ≡ slice_index (units_of g) (2 * k) = ap (λ (u : List Placed). slice_index (units_of u) (2 * suc k)) e ∙ ap (λ (m : ℕ). slice_index (units_of (a ∷ (b ∷ g))) m) d in
     sym i ∙ q)
-
--- a frame with one more halfword is proper so far
-pub proper_push : (n : ℕ) (f : List ℕ) (a b : ℕ) → length f ≡ 2 * n → a ≢ 255 → IsProperBelow n f → IsProperBelow (suc n) ((f ++ a ∷ []) ++ b ∷ [])
-proper_push n f a b l h p k q = elim (at_end k n q) [
-  | inl m ↦ (λ e. h (sym (ap (slice_index (f ++ a ∷ [])) (let d : 2 * k ≡ length f = omega arith in d) ∙ get_or-append_seam f a [] 0) ∙ sym (front (omega arith)) ∙ e))
-  | inr m ↦ (λ e. p k m (sym (front (omega arith) ∙ get_or_append_left f (a ∷ []) 0 (2 * k) (omega arith)) ∙ e))
-] where
-  front : 2 * k ≤ length f → slice_index ((f ++ a ∷ []) ++ b ∷ []) (2 * k) ≡ slice_index (f ++ a ∷ []) (2 * k)
-  front d = get_or_append_left (f ++ a ∷ []) (b ∷ []) 0 (2 * k) (let e = length_push f a in omega arith)
 
 words_proper : (n k : ℕ) (f r : List Placed) → IsWords n k f r → IsProperBelow n (units_of f)
 words_proper zero k f r w = λ j l. absurd (let d : j < 0 = l in omega arith)

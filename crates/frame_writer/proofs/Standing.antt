@@ -42,10 +42,6 @@ pub as_bytes : (out : List ℕ) → out ≡ concat (as_frame out)
 as_bytes [] = refl
 as_bytes (b ∷ out) = sym (append-nil (b ∷ out))
 
-pub stands_fresh : (w : FrameWriter) (every halves : ℕ) → appended w ≡ 0 → ((t : List Tagged) (later : List (List Tagged)) → to_come w t later ≡ segment_frames every halves (t ∷ later)) →
-    Stands w every halves [] [] []
-stands_fresh w every halves e f = record { done = []; bytes = refl; count = e; completes = λ u later. sym (f u later) }
-
 -- the same of segments that go on from others, where one frame at most was completed
 stands_on : (v : FrameWriter) (every halves : ℕ) (closed : List (List Tagged)) (t : List Tagged) (out so_far : List ℕ)
     (done : List (List ℕ)) (count : ℕ) → so_far ≡ concat done → count ≡ length done →
