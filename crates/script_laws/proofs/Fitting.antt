@@ -1,79 +1,108 @@
--- Words that fit a shape are its fixed words and numbers, after the word of its items.
+-- Each shape's row can be written and read, and is found by its words; and words that have a shape begin with its word.
 use Rattle.std.proofs.Common.{◌≡◌, ℕ, List, [], ◌∷◌, refl, sym, subst, Bool, true, false, Some}
 use Rattle.std.specs.Prelude.{codes, if◌then◌else◌}
 use Rattle.std.specs.Str.{bytes_eq}
 use Rattle.std.proofs.lemmas.Slice.Eq.{bytes_eq-Decides}
+use Rattle.itm_grammar.specs.declared.packet.Size.TheVariants.{One, Two, Four as FourBytes}
+use Rattle.itm_grammar.specs.declared.packet.Lateness.TheVariants.{Exact, StampLate, PacketLate, BothLate}
+use Rattle.dwt_packets.specs.declared.item.Change.TheVariants.{Enter, Exit, Return}
+use Rattle.stp_grammar.specs.declared.packet.Width.TheVariants.{Four, Eight, Sixteen, ThirtyTwo, SixtyFour}
 use Rattle.script_text.specs.declared.shapes.Shape.{Shape}
 use Rattle.script_text.specs.declared.shapes.Shape.TheVariants.{Itm, Dwt, Stp, Raw}
 use Rattle.script_text.specs.declared.itm_shapes.ItmShape.{ItmShape}
-use Rattle.script_text.specs.declared.itm_shapes.ItmShape.TheVariants.{Sync, Overflow, Software, Local, GlobalFirst, GlobalSecond, Extension}
+use Rattle.script_text.specs.declared.itm_shapes.ItmShape.TheVariants.{Sync, Overflow, Software, Local, GlobalFirst}
+use Rattle.script_text.specs.declared.itm_shapes.ItmShape.TheVariants.{GlobalSecond, Extension}
 use Rattle.script_text.specs.declared.dwt_shapes.DwtShape.{DwtShape}
-use Rattle.script_text.specs.declared.dwt_shapes.DwtShape.TheVariants.{Counters, Exception, Sample, Asleep, MatchPc, MatchAddress, Read, Written, Other}
+use Rattle.script_text.specs.declared.dwt_shapes.DwtShape.TheVariants.{Counters, Exception, Sample, Asleep, MatchPc}
+use Rattle.script_text.specs.declared.dwt_shapes.DwtShape.TheVariants.{MatchAddress, Read, Written, Other}
 use Rattle.script_text.specs.declared.stp_shapes.StpShape.{StpShape}
-use Rattle.script_text.specs.declared.stp_shapes.StpShape.TheVariants.{Async, Version, MasterError, GlobalError, Datum, Flag, Trigger, Frequency, NullStamp}
-use Rattle.script_text.specs.Shapes.{Field, Word, Number, fields_of, fits, first_fitting, shapes_named, shape_named}
-use Rattle.script_laws.proofs.Digits.{and_left, and_right}
+use Rattle.script_text.specs.declared.stp_shapes.StpShape.TheVariants.{Async, Version, MasterError, GlobalError, Datum}
+use Rattle.script_text.specs.declared.stp_shapes.StpShape.TheVariants.{Flag, Trigger, Frequency, NullStamp}
+use Rattle.script_text.specs.Shapes.{fields_of, fits, first_fitting, shapes_named, shape_named}
+use Rattle.script_text.specs.Table.{Row, Values, word_in, fields_in, itm_row, dwt_row, stp_row, raw_row}
+use Rattle.script_laws.proofs.Fields.{row_sound, row_words}
 
--- what holds of a field's words with any words for the numbers
-abbrev pub Given : List Field → (List (List ℕ) → Type 0) → Type 0
-Given [] P = P []
-Given (Word x ∷ fields) P = Given fields (λ words. P (x ∷ words))
-Given (Number ∷ fields) P = (word : List ℕ) → Given fields (λ words. P (word ∷ words))
+-- a row can be written and read, and its words have its shape
+abbrev pub Checked : {A : Type 0} → Shape → Row A → Type 0
+Checked shape r =
+    (row_sound r ≡ true) × ((values : Values (fields_in r)) → shape_named (row_words r values) ≡ Some shape)
 
--- holds of all words that fit
-pub by_fields : (fields : List Field) (P : List (List ℕ) → Type 0) → Given fields P → (words : List (List ℕ)) → fits fields words ≡ true → P words
-by_fields [] P g [] h = g
-by_fields [] P g (word ∷ words) h = cc
-by_fields (field ∷ fields) P g [] h = cc
-by_fields (Word x ∷ fields) P g (word ∷ words) h =
-    let same = (bytes_eq-Decides x word).0 (and_left (bytes_eq x word) (fits fields words) h) in
-    subst (λ (w : List ℕ). P (w ∷ words)) same (by_fields fields (λ words. P (x ∷ words)) g words (and_right (bytes_eq x word) (fits fields words) h))
-by_fields (Number ∷ fields) P g (word ∷ words) h = by_fields fields (λ words. P (word ∷ words)) (g word) words h
+pub itm_checked : (shape : ItmShape) → Checked (Itm shape) (itm_row shape)
+unfolding shape_named
+itm_checked Sync = (refl, λ v. refl)
+itm_checked Overflow = (refl, λ v. refl)
+itm_checked (Software One) = (refl, λ v. refl)
+itm_checked (Software Two) = (refl, λ v. refl)
+itm_checked (Software FourBytes) = (refl, λ v. refl)
+itm_checked (Local Exact) = (refl, λ v. refl)
+itm_checked (Local StampLate) = (refl, λ v. refl)
+itm_checked (Local PacketLate) = (refl, λ v. refl)
+itm_checked (Local BothLate) = (refl, λ v. refl)
+itm_checked GlobalFirst = (refl, λ v. refl)
+itm_checked (GlobalSecond false) = (refl, λ v. refl)
+itm_checked (GlobalSecond true) = (refl, λ v. refl)
+itm_checked (Extension false) = (refl, λ v. refl)
+itm_checked (Extension true) = (refl, λ v. refl)
+
+pub dwt_checked : (shape : DwtShape) → Checked (Dwt shape) (dwt_row shape)
+unfolding shape_named
+dwt_checked Counters = (refl, λ v. refl)
+dwt_checked (Exception Enter) = (refl, λ v. refl)
+dwt_checked (Exception Exit) = (refl, λ v. refl)
+dwt_checked (Exception Return) = (refl, λ v. refl)
+dwt_checked Sample = (refl, λ v. refl)
+dwt_checked Asleep = (refl, λ v. refl)
+dwt_checked MatchPc = (refl, λ v. refl)
+dwt_checked MatchAddress = (refl, λ v. refl)
+dwt_checked (Read One) = (refl, λ v. refl)
+dwt_checked (Read Two) = (refl, λ v. refl)
+dwt_checked (Read FourBytes) = (refl, λ v. refl)
+dwt_checked (Written One) = (refl, λ v. refl)
+dwt_checked (Written Two) = (refl, λ v. refl)
+dwt_checked (Written FourBytes) = (refl, λ v. refl)
+dwt_checked (Other One) = (refl, λ v. refl)
+dwt_checked (Other Two) = (refl, λ v. refl)
+dwt_checked (Other FourBytes) = (refl, λ v. refl)
+
+pub stp_checked : (shape : StpShape) → Checked (Stp shape) (stp_row shape)
+unfolding shape_named
+stp_checked Async = (refl, λ v. refl)
+stp_checked Version = (refl, λ v. refl)
+stp_checked MasterError = (refl, λ v. refl)
+stp_checked GlobalError = (refl, λ v. refl)
+stp_checked (Datum Four false) = (refl, λ v. refl)
+stp_checked (Datum Four true) = (refl, λ v. refl)
+stp_checked (Datum Eight false) = (refl, λ v. refl)
+stp_checked (Datum Eight true) = (refl, λ v. refl)
+stp_checked (Datum Sixteen false) = (refl, λ v. refl)
+stp_checked (Datum Sixteen true) = (refl, λ v. refl)
+stp_checked (Datum ThirtyTwo false) = (refl, λ v. refl)
+stp_checked (Datum ThirtyTwo true) = (refl, λ v. refl)
+stp_checked (Datum SixtyFour false) = (refl, λ v. refl)
+stp_checked (Datum SixtyFour true) = (refl, λ v. refl)
+stp_checked Flag = (refl, λ v. refl)
+stp_checked Trigger = (refl, λ v. refl)
+stp_checked Frequency = (refl, λ v. refl)
+stp_checked NullStamp = (refl, λ v. refl)
+
+pub raw_checked : Checked Raw raw_row
+unfolding shape_named
+raw_checked = (refl, λ v. refl)
 
 -- the word of a shape's items
-abbrev pub itm_word : ItmShape → List ℕ
-itm_word Sync = codes "sync"
-itm_word Overflow = codes "overflow"
-itm_word (Software size) = codes "port"
-itm_word (Local lateness) = codes "local"
-itm_word GlobalFirst = codes "global1"
-itm_word (GlobalSecond wide) = codes "global2"
-itm_word (Extension dwt) = codes "ext"
-
-abbrev pub dwt_word : DwtShape → List ℕ
-dwt_word Counters = codes "counters"
-dwt_word (Exception change) = codes "exception"
-dwt_word Sample = codes "pc"
-dwt_word Asleep = codes "asleep"
-dwt_word MatchPc = codes "cmp"
-dwt_word MatchAddress = codes "cmp"
-dwt_word (Read size) = codes "cmp"
-dwt_word (Written size) = codes "cmp"
-dwt_word (Other size) = codes "hw"
-
-abbrev pub stp_word : StpShape → List ℕ
-stp_word Async = codes "async"
-stp_word Version = codes "version"
-stp_word MasterError = codes "merr"
-stp_word GlobalError = codes "gerr"
-stp_word (Datum width marked) = codes "data"
-stp_word Flag = codes "flag"
-stp_word Trigger = codes "trig"
-stp_word Frequency = codes "freq"
-stp_word NullStamp = codes "nullts"
-
 abbrev pub word_of_shape : Shape → List ℕ
-word_of_shape (Itm shape) = itm_word shape
-word_of_shape (Dwt shape) = dwt_word shape
-word_of_shape (Stp shape) = stp_word shape
-word_of_shape Raw = codes "raw"
+word_of_shape (Itm shape) = word_in (itm_row shape)
+word_of_shape (Dwt shape) = word_in (dwt_row shape)
+word_of_shape (Stp shape) = word_in (stp_row shape)
+word_of_shape Raw = word_in raw_row
 
 -- all of these shapes have this word
 abbrev OfWord : List ℕ → List Shape → Type 0
 OfWord word [] = Unit {0}
 OfWord word (shape ∷ shapes) = (word ≡ word_of_shape shape) × OfWord word shapes
 
-by_word : (word name : List ℕ) (shapes rest : List Shape) → OfWord name shapes → OfWord word rest → OfWord word (if bytes_eq word name then shapes else rest)
+by_word : (word name : List ℕ) (shapes rest : List Shape) → OfWord name shapes → OfWord word rest →
+    OfWord word (if bytes_eq word name then shapes else rest)
 by_word word name shapes rest own more = go (bytes_eq word name) refl
   where
     go : (v : Bool) → bytes_eq word name ≡ v → OfWord word (if v then shapes else rest)
@@ -110,15 +139,19 @@ shapes_have word =
 abbrev Fits : List ℕ → List (List ℕ) → Shape → Type 0
 Fits word words shape = (word ≡ word_of_shape shape) × (fits (fields_of shape) words ≡ true)
 
-first_is : (word : List ℕ) (shapes : List Shape) (words : List (List ℕ)) (shape : Shape) → OfWord word shapes → first_fitting shapes words ≡ Some shape → Fits word words shape
+first_is : (word : List ℕ) (shapes : List Shape) (words : List (List ℕ)) (shape : Shape) → OfWord word shapes →
+    first_fitting shapes words ≡ Some shape → Fits word words shape
 first_is word [] words shape own e = cc
-first_is word (first ∷ shapes) words shape own e = go (fits (fields_of first) words) refl e (first_is word shapes words shape own.1)
+first_is word (first ∷ shapes) words shape own e =
+    go (fits (fields_of first) words) refl e (first_is word shapes words shape own.1)
   where
-    go : (v : Bool) → fits (fields_of first) words ≡ v → (if v then Some first else first_fitting shapes words) ≡ Some shape →
+    go : (v : Bool) → fits (fields_of first) words ≡ v →
+        (if v then Some first else first_fitting shapes words) ≡ Some shape →
         (first_fitting shapes words ≡ Some shape → Fits word words shape) → Fits word words shape
     go true f e more = (let same : first ≡ shape = cc in subst (Fits word words) same (own.0, f))
     go false f e more = more e
 
-pub shape_fits : (word : List ℕ) (words : List (List ℕ)) (shape : Shape) → shape_named (word ∷ words) ≡ Some shape → Fits word words shape
+pub shape_fits : (word : List ℕ) (words : List (List ℕ)) (shape : Shape) → shape_named (word ∷ words) ≡ Some shape →
+    Fits word words shape
 unfolding shape_named
 shape_fits word words shape e = first_is word (shapes_named word) words shape (shapes_have word) e

@@ -1,14 +1,12 @@
-pub mod Digits
-pub mod Joining
-pub mod ItemWords
-pub mod AllWords
-pub mod Naming
-pub mod Reading
-pub mod TextLaw
-pub mod Fitting
-pub mod Lowering
-pub mod Saying
-pub mod LineLaw
+mod Digits
+mod Joining
+mod Lowering
+mod Fields
+mod Fitting
+mod Items
+mod AllItems
+mod TextLaw
+mod LineLaw
 pub mod TriggerLaw
 pub mod Texts
 pub mod Said

@@ -15,10 +15,11 @@ use Rattle.script_text.specs.Said.{text_of, IsSayable}
 use Rattle.script_text.proofs.LineRanges.{words_are, item_said}
 use Rattle.script_laws.specs.Lowered.{lowered}
 use Rattle.script_laws.proofs.Joining.{joined}
-use Rattle.script_laws.proofs.ItemWords.{words_of}
+use Rattle.script_laws.proofs.Items.{words_of}
 use Rattle.script_laws.proofs.Fitting.{shape_fits, word_of_shape}
 use Rattle.script_laws.proofs.Lowering.{number_lowered}
-use Rattle.script_laws.proofs.Saying.{low, item_says}
+use Rattle.script_laws.proofs.Fields.{low}
+use Rattle.script_laws.proofs.AllItems.{item_says}
 use Rattle.script_laws.proofs.TextLaw.{whole_text}
 
 low_append : (a b : List ℕ) → map lowered (a ++ b) ≡ map lowered a ++ map lowered b

@@ -22,11 +22,10 @@ use Rattle.decimal_words.proofs.Numbers.{number_is}
 use Rattle.script_text.specs.Steps.{◌>>=◌}
 use Rattle.script_text.specs.Numbers.{hexadecimal_named}
 use Rattle.script_text.specs.Stamps.{size_with, raw_named, time_named, stamp_named}
-use Rattle.script_text.specs.Items.{decoded, bytes_named}
+use Rattle.script_text.specs.Bytes.{decoded, bytes_named}
 use Rattle.script_text.proofs.Hexadecimals.{hexadecimal_is}
 use Rattle.script_text.proofs.Options.{bind_some, some_of, map_some}
-use Rattle.script_text.proofs.StpRanges.{size_is}
-use Rattle.script_text.proofs.LineRanges.{decoded_ok}
+use Rattle.script_text.proofs.Fields.{size_is, decoded_ok}
 use Rattle.script_laws.specs.Lowered.{lowered}
 use Rattle.script_laws.proofs.Digits.{and_left, and_right, below_holds, same_number, lowered_digits}
 

@@ -36,10 +36,8 @@ use Rattle.script_text.specs.Lines.{taken_by, line_of_words, line_of_printable, 
 use Rattle.script_text.specs.Said.{text_of, IsSayable}
 use Rattle.script_laws.proofs.Digits.{both}
 use Rattle.script_laws.proofs.Joining.{joined, is_word, are_all, decimal_word, words_joined, enough_room, printable_joined}
-use Rattle.script_laws.proofs.ItemWords.{words_of, shape_of, text_joined}
-use Rattle.script_laws.proofs.AllWords.{words_all, few_words}
-use Rattle.script_laws.proofs.Naming.{named}
-use Rattle.script_laws.proofs.Reading.{item_reads}
+use Rattle.script_laws.proofs.Items.{words_of, shape_of, text_joined}
+use Rattle.script_laws.proofs.AllItems.{words_all, few_words, named, item_reads}
 
 -- words of a shape, under a number and on a source for it, are a line
 words_line : (plan : Plan) (id : ℕ) (text : List ℕ) (words : List (List ℕ)) (shape : Shape) (item : Item) →
@@ -110,7 +108,7 @@ line_short id item h say =
 -- the text after an ID is words, joined by spaces
 pub whole_text : (id : ℕ) (item : Item) → IsSayable item → decimal id ++ (32 ∷ text_of item) ≡ joined (decimal id ∷ words_of item)
 whole_text id item say =
-    ap (λ (l : List ℕ). decimal id ++ (32 ∷ l)) (text_joined item say) ∙ sym (joined_more (decimal id) (words_of item) (few_words item say).0)
+    ap (λ (l : List ℕ). decimal id ++ (32 ∷ l)) (text_joined item say) ∙ sym (joined_more (decimal id) (words_of item) (few_words item).0)
 
 -- the line of an item, under a source's number, is that item, where the source is one for it
 pub text_reads : (plan : Plan) (id : ℕ) (item : Item) → 1 ≤ id → id ≤ 126 → IsSayable item →
@@ -118,7 +116,7 @@ pub text_reads : (plan : Plan) (id : ℕ) (item : Item) → 1 ≤ id → id ≤ 
 text_reads plan id item low high say =
     let words = words_of item in
     let small : id < 2 ^ 64 = omega arith in
-    let few = few_words item say in
+    let few = few_words item in
     let d = decimal_word id small in
     let all = both (is_word (decimal id)) (are_all words) d (words_all item say) in
     let whole : decimal id ++ (32 ∷ text_of item) ≡ joined (decimal id ∷ words) = whole_text id item say in
@@ -129,5 +127,5 @@ text_reads plan id item low high say =
     let len : length (joined (decimal id ∷ words)) ≤ 256 = subst (λ (l : List ℕ). length l ≤ 256) whole (omega arith) in
     ap (line_of plan) whole
     ∙ printable_line plan (decimal id) words all few.1 len some
-    ∙ words_line plan id (decimal id) words (shape_of item) item (named item say)
+    ∙ words_line plan id (decimal id) words (shape_of item) item (named item)
     (names_number 1 126 id (decimal id) (omega arith) low high refl) (item_reads item say)

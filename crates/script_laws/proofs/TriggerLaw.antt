@@ -23,9 +23,9 @@ use Rattle.script_text.proofs.NewLines.{two_by, too_many}
 use Rattle.script_laws.specs.Lowered.{lowered}
 use Rattle.script_laws.proofs.Digits.{below, below_holds, same_number}
 use Rattle.script_laws.proofs.Joining.{joined}
-use Rattle.script_laws.proofs.ItemWords.{byte_is}
+use Rattle.script_laws.proofs.Items.{byte_is}
 use Rattle.script_laws.proofs.Lowering.{number_lowered, hexadecimal_lowered}
-use Rattle.script_laws.proofs.Saying.{low}
+use Rattle.script_laws.proofs.Fields.{low}
 use Rattle.script_laws.proofs.LineLaw.{joined_low}
 
 -- each trigger is read: all 256 of them

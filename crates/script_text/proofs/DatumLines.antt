@@ -1,12 +1,10 @@
 -- Lines of data that are read from their bytes: their words, and what they say.
-use Rattle.std.proofs.Common.{◌≡◌, ℕ, ◌+◌, ◌-◌, ◌/◌, ◌<◌, ◌≤◌, ◌^◌, List, [], ◌∷◌, ◌++◌, length, take, drop, refl, sym, ◌∙◌, ap, subst, arith, Bool, true, false, Some, Option}
+use Rattle.std.proofs.Common.{◌≡◌, ℕ, ◌+◌, ◌-◌, ◌/◌, ◌<◌, ◌≤◌, ◌^◌, List, [], ◌∷◌, ◌++◌, length, take, drop, refl, sym, ◌∙◌, ap, subst, arith, Bool, true, false, Some}
 use Rattle.std.specs.Prelude.{slice_index, codes, decimal, option_map}
 use Rattle.std.specs.Str.Parse.{AllDigits}
-use Rattle.decimal_words.specs.Numbers.{number_named}
 use Rattle.decimal_words.proofs.Numbers.{decimal_digits, names_number}
 use Rattle.stp_grammar.specs.declared.packet.Width.{Width}
 use Rattle.stp_grammar.specs.declared.packet.Width.TheVariants.{Four, Eight, Sixteen, ThirtyTwo, SixtyFour}
-use Rattle.stp_grammar.specs.declared.item.Place.{Place}
 use Rattle.stp_grammar.specs.declared.item.Stamp.{Stamp}
 use Rattle.stp_grammar.specs.declared.item.Stamp.TheVariants.{Natural}
 use Rattle.stp_grammar.specs.declared.item.StpItem.{StpItem}
@@ -15,14 +13,12 @@ use Rattle.stp_grammar.specs.Proper.{bits_of}
 use Rattle.trace_text.specs.StpText.{width_text, mark_text}
 use Rattle.script_text.specs.declared.shapes.Shape.TheVariants as shapes
 use Rattle.script_text.specs.declared.stp_shapes.StpShape.TheVariants as stp_shapes
-use Rattle.script_text.specs.declared.items.Item.{Item}
 use Rattle.script_text.specs.declared.items.Item.TheVariants as items
 use Rattle.script_text.specs.Words.{words_in, are_words}
 use Rattle.script_text.specs.Numbers.{hexadecimal_named}
 use Rattle.script_text.specs.Stamps.{stamp_named}
 use Rattle.script_text.specs.Shapes.{shape_named}
-use Rattle.script_text.specs.Items.{item_of, stp_of, datum_of, place_of}
-use Rattle.script_text.specs.Steps.{◌>>=◌}
+use Rattle.script_text.specs.Items.{item_of, stp_of}
 use Rattle.script_text.specs.Lines.{line_of_words}
 use Rattle.script_text.specs.Quick.{BeginsWith, BeginsWithNumber, BeginsWithDigits, IsStamp, SaysItem}
 use Rattle.script_text.proofs.Hexadecimals.{hexadecimal_is}
@@ -77,15 +73,11 @@ datum_item : (master channel value : ℕ) (digits word : List ℕ) (width : Widt
     hexadecimal_named (bits_of width / 4) digits ≡ Some value → stamp_named word ≡ Some stamp →
     item_of (shapes.Stp (stp_shapes.Datum width marked)) (words_of (decimal master) (decimal channel) width digits marked word) ≡
     Some (items.Stp (datum master channel width value marked stamp))
-unfolding stp_of datum_of place_of
+unfolding stp_of
 datum_item master channel value digits word width marked stamp h l e s =
-    let rest : Option Place → Option Item = λ place. option_map items.Stp (place >>= λ place. hexadecimal_named (bits_of width / 4) digits >>= λ value. stamp_named word >>= λ stamp. Some (stp.Datum place width value marked stamp)) in
-    ap (λ (o : Option ℕ). rest (o >>= λ master. number_named 0 (2 ^ 16 - 1) (decimal channel) >>= λ channel. Some (record { master = Some master; channel = Some channel })))
-    (names_number 0 (2 ^ 16 - 1) master (decimal master) (omega arith) (omega arith) h refl)
-    ∙ ap (λ (o : Option ℕ). rest (o >>= λ channel. Some (record { master = Some master; channel = Some channel })))
-    (names_number 0 (2 ^ 16 - 1) channel (decimal channel) (omega arith) (omega arith) l refl)
-    ∙ ap (λ (o : Option ℕ). option_map items.Stp (o >>= λ value. stamp_named word >>= λ stamp. Some (datum master channel width value marked stamp))) e
-    ∙ ap (λ (o : Option Stamp). option_map items.Stp (o >>= λ stamp. Some (datum master channel width value marked stamp))) s
+    let m = names_number 0 (2 ^ 16 - 1) master (decimal master) (omega arith) (omega arith) h refl in
+    let c = names_number 0 (2 ^ 16 - 1) channel (decimal channel) (omega arith) (omega arith) l refl in
+    rw (m, c, e, s) refl
 
 width_some : (width : Width) → 0 < length (width_text width)
 width_some Four = omega arith

@@ -3,9 +3,8 @@ pub mod Unnamed
 pub mod Hexadecimals
 pub mod DigitTable
 pub mod Options
-pub mod ItmRanges
-pub mod DwtRanges
-pub mod StpRanges
+pub mod Fields
+pub mod Ranges
 pub mod LineRanges
 pub mod PacketLines
 pub mod NewLines

@@ -1,11 +1,7 @@
 -- What lines say can be said.
-use Rattle.std.proofs.Common.{◌≡◌, ℕ, ◌*◌, ◌≤◌, List, [], ◌∷◌, length, refl, sym, ◌∙◌, ap, arith, subst, Bool, true, false, Some, None, Option, Ok, Err, Result}
-use Rattle.std.specs.Prelude.{◌==◌, ◌||◌, nat_lt, ok_or, IfOk, OnOk, if◌then◌else◌}
-use Rattle.std.specs.List.{AllPass}
-use Rattle.std.proofs.lemmas.Bool.Decides.{nat_tests}
-use Rattle.hex.specs.Hex.{decode_of, is_hex_digit, IsBytes}
-use Rattle.hex.specs.declared.error.FromHexError.{FromHexError}
-use Rattle.hex.proofs.HexLemmas.{decode_of-ok}
+use Rattle.std.proofs.Common.{◌≡◌, ℕ, List, [], ◌∷◌, refl, sym, ◌∙◌, ap, subst, Bool, true, false, Some, None, Option}
+use Rattle.std.proofs.Common.{Ok, Err, Result}
+use Rattle.std.specs.Prelude.{◌==◌, ok_or, IfOk, OnOk, if◌then◌else◌}
 use Rattle.decimal_words.specs.Numbers.{number_named}
 use Rattle.decimal_words.proofs.Numbers.{number_is}
 use Rattle.source_events.specs.declared.plan.Plan.{Plan}
@@ -20,51 +16,23 @@ use Rattle.script_text.specs.declared.lines.Line.{Line}
 use Rattle.script_text.specs.declared.lines.Line.TheVariants.{Of}
 use Rattle.script_text.specs.declared.line_fault.LineFault.{LineFault}
 use Rattle.script_text.specs.declared.line_fault.LineFault.TheVariants.{BadLine, BadId, BadNumber, Mixed}
-use Rattle.script_text.specs.Words.{word_of}
 use Rattle.script_text.specs.Shapes.{shape_named}
-use Rattle.script_text.specs.Items.{itm_of, dwt_of, stp_of, decoded, bytes_named, raw_of, item_of}
+use Rattle.script_text.specs.Items.{itm_of, dwt_of, stp_of, raw_of, item_of}
 use Rattle.script_text.specs.Lines.{by_itm, by_stp, by_raw, taken_by, line_of_words, answer, ◌>>=◌ as ◌>>ₗ◌}
 use Rattle.script_text.specs.Said.{IsSayable, IsSaid}
 use Rattle.script_text.proofs.Options.{map_some}
-use Rattle.script_text.proofs.ItmRanges.{itm_said}
-use Rattle.script_text.proofs.DwtRanges.{dwt_said}
-use Rattle.script_text.proofs.StpRanges.{stp_said}
-
--- bytes
-pub decoded_ok : (r : Result (List ℕ) FromHexError) (bytes : List ℕ) → decoded r ≡ Some bytes → r ≡ Ok bytes
-decoded_ok (Ok x) bytes e = let same : x ≡ bytes = cc in ap Ok same
-decoded_ok (Err x) bytes e = cc
-
-bytes_said : (text bytes : List ℕ) → bytes_named text ≡ Some bytes → (1 ≤ length bytes) × (length bytes ≤ 100) × IsBytes bytes
-bytes_said text bytes e = by (nat_lt (length text) 2) (nat_lt 200 (length text)) refl refl e
-  where
-    by : (v w : Bool) → nat_lt (length text) 2 ≡ v → nat_lt 200 (length text) ≡ w → (if v || w then None else decoded (decode_of text)) ≡ Some bytes → (1 ≤ length bytes) × (length bytes ≤ 100) × IsBytes bytes
-    by true w a b e = cc
-    by false true a b e = cc
-    by false false a b e =
-        let d = decode_of-ok text bytes (decoded_ok (decode_of text) bytes e) in
-        let len : length text ≡ 2 * length bytes = d.2 in
-        let low : 2 ≤ length text = grind (arith, nat_tests) in
-        let high : length text ≤ 200 = grind (arith, nat_tests) in
-        (omega arith, omega arith, d.3)
-
--- what is read is digits
-pub bytes_are : (text bytes : List ℕ) → bytes_named text ≡ Some bytes → (2 ≤ length text) × AllPass is_hex_digit text
-bytes_are text bytes e = by (nat_lt (length text) 2) (nat_lt 200 (length text)) refl e
-  where
-    by : (v w : Bool) → nat_lt (length text) 2 ≡ v → (if v || w then None else decoded (decode_of text)) ≡ Some bytes → (2 ≤ length text) × AllPass is_hex_digit text
-    by true w a e = cc
-    by false true a e = cc
-    by false false a e =
-        let d = decode_of-ok text bytes (decoded_ok (decode_of text) bytes e) in
-        (grind (arith, nat_tests), d.1)
+use Rattle.script_text.proofs.Ranges.{itm_said, dwt_said, stp_said, raw_said}
 
 -- items
 pub item_said : (shape : Shape) (words : List (List ℕ)) (item : Item) → item_of shape words ≡ Some item → IsSayable item
-item_said (Itm shape) words item e = let m = map_some items.Itm (itm_of shape words) item e in subst IsSayable m.2 (itm_said shape words m.0 m.1)
-item_said (Dwt shape) words item e = let m = map_some items.Dwt (dwt_of shape words) item e in subst IsSayable m.2 (dwt_said shape words m.0 m.1)
-item_said (Stp shape) words item e = let m = map_some items.Stp (stp_of shape words) item e in subst IsSayable m.2 (stp_said shape words m.0 m.1)
-item_said Raw words item e = let m = map_some items.Raw (raw_of words) item e in subst IsSayable m.2 (bytes_said (word_of words 1) m.0 m.1)
+item_said (Itm shape) words item e = let m = map_some items.Itm (itm_of shape words) item e in
+    subst IsSayable m.2 (itm_said shape words m.0 m.1)
+item_said (Dwt shape) words item e = let m = map_some items.Dwt (dwt_of shape words) item e in
+    subst IsSayable m.2 (dwt_said shape words m.0 m.1)
+item_said (Stp shape) words item e = let m = map_some items.Stp (stp_of shape words) item e in
+    subst IsSayable m.2 (stp_said shape words m.0 m.1)
+item_said Raw words item e = let m = map_some items.Raw (raw_of words) item e in
+    subst IsSayable m.2 (raw_said words m.0 m.1)
 
 -- a line that is taken is its item's
 pub ok_of : {A : Type 0} (x y : A) → (let r : Result A LineFault = Ok x in r ≡ Ok y) → x ≡ y
@@ -88,13 +56,15 @@ by_raw_is None id given line e = by (id == 125) e
     by true e = cc
     by false e = ok_of given line e
 
-pub taken_is : (kind : Option SourceKind) (id : ℕ) (item : Item) (line : Line) → taken_by kind id item ≡ Ok line → Of id item ≡ line
+pub taken_is : (kind : Option SourceKind) (id : ℕ) (item : Item) (line : Line) → taken_by kind id item ≡ Ok line →
+    Of id item ≡ line
 taken_is kind id (items.Itm p) line e = by_itm_is kind (Of id (items.Itm p)) line e
 taken_is kind id (items.Dwt d) line e = by_itm_is kind (Of id (items.Dwt d)) line e
 taken_is kind id (items.Stp s) line e = by_stp_is kind (Of id (items.Stp s)) line e
 taken_is kind id (items.Raw bytes) line e = by_raw_is kind id (Of id (items.Raw bytes)) line e
 
-bind_ok : {A B : Type 0} (o : Option A) (f : LineFault) (g : A → Result B LineFault) (y : B) → (ok_or o f >>ₗ g) ≡ Ok y → (x : A) × (o ≡ Some x) × (g x ≡ Ok y)
+bind_ok : {A B : Type 0} (o : Option A) (f : LineFault) (g : A → Result B LineFault) (y : B) →
+    (ok_or o f >>ₗ g) ≡ Ok y → (x : A) × (o ≡ Some x) × (g x ≡ Ok y)
 bind_ok None f g y e = cc
 bind_ok (Some x) f g y e = (x, refl, e)
 
@@ -109,13 +79,28 @@ pub record HasWords (plan : Plan) (id : List ℕ) (words : List (List ℕ)) (lin
   pub is : Of number item ≡ line
   pub taken : taken_by (kind_of plan number) number item ≡ Ok line
 
-pub words_are : (plan : Plan) (id : List ℕ) (words : List (List ℕ)) (line : Line) → line_of_words plan (id ∷ words) ≡ Ok line → HasWords plan id words line
+pub words_are : (plan : Plan) (id : List ℕ) (words : List (List ℕ)) (line : Line) →
+    line_of_words plan (id ∷ words) ≡ Ok line → HasWords plan id words line
 unfolding line_of_words
 words_are plan id words line e =
-    let a = bind_ok (shape_named words) BadLine (λ shape. ok_or (number_named 1 126 id) BadId >>ₗ λ number. ok_or (item_of shape words) BadNumber >>ₗ λ item. taken_by (kind_of plan number) number item) line e in
-    let b = bind_ok (number_named 1 126 id) BadId (λ number. ok_or (item_of a.0 words) BadNumber >>ₗ λ item. taken_by (kind_of plan number) number item) line a.2 in
+    let a = bind_ok (shape_named words) BadLine
+    (λ shape. ok_or (number_named 1 126 id) BadId >>ₗ λ number. ok_or (item_of shape words) BadNumber >>ₗ λ item.
+    taken_by (kind_of plan number) number item) line e in
+    let b = bind_ok (number_named 1 126 id) BadId
+    (λ number. ok_or (item_of a.0 words) BadNumber >>ₗ λ item.
+    taken_by (kind_of plan number) number item) line a.2 in
     let c = bind_ok (item_of a.0 words) BadNumber (λ item. taken_by (kind_of plan b.0) b.0 item) line b.2 in
-    record { shape = a.0; number = b.0; item = c.0; shaped = a.1; numbered = b.1; said = c.1; is = taken_is (kind_of plan b.0) b.0 c.0 line c.2; taken = c.2 }
+    record {
+      shape = a.0;
+      number = b.0;
+      item = c.0;
+      shaped = a.1;
+      numbered = b.1;
+      said = c.1;
+      is =
+          taken_is (kind_of plan b.0) b.0 c.0 line c.2;
+      taken = c.2;
+    }
 
 words_said : (plan : Plan) (words : List (List ℕ)) (line : Line) → line_of_words plan words ≡ Ok line → IsSaid plan line
 unfolding line_of_words
@@ -125,11 +110,13 @@ words_said plan (id ∷ words) line e =
     let n = number_is 1 126 w.number id w.numbered in
     subst (IsSaid plan) w.is (n.0, n.1, item_said w.shape words w.item w.said, w.taken ∙ ap Ok (sym w.is))
 
-pub words_said_if : (plan : Plan) (words : List (List ℕ)) (r : Result Line LineFault) → r ≡ line_of_words plan words → IfOk r (IsSaid plan)
+pub words_said_if : (plan : Plan) (words : List (List ℕ)) (r : Result Line LineFault) → r ≡ line_of_words plan words →
+    IfOk r (IsSaid plan)
 words_said_if plan words (Ok line) e = words_said plan words line (sym e)
 words_said_if plan words (Err f) e = tt
 
 -- the same of what is put in a place
-pub words_said_on : (plan : Plan) (words : List (List ℕ)) (r : Result (Unit {0}) LineFault) (line : Line) → line_of_words plan words ≡ answer r line → OnOk r (IsSaid plan line)
+pub words_said_on : (plan : Plan) (words : List (List ℕ)) (r : Result (Unit {0}) LineFault) (line : Line) →
+    line_of_words plan words ≡ answer r line → OnOk r (IsSaid plan line)
 words_said_on plan words (Ok done) line e = words_said plan words line e
 words_said_on plan words (Err f) line e = tt

@@ -1,6 +1,6 @@
 -- Lines that are read from their bytes: their words, and what they say.
 use Rattle.std.proofs.Common.{◌≡◌, ℕ, zero, suc, append_assoc, length-append, ◌+◌, ◌-◌, ◌*◌, ◌<◌, ◌≤◌, ◌^◌, List, [], ◌∷◌, ◌++◌, length, take, drop, refl, sym, ◌∙◌, ap, subst, arith, Bool, true, false, Some, None, Option, Ok, Err, Result}
-use Rattle.std.specs.Prelude.{slice_index, ◌==◌, ◌&&◌, nat_lt, nat_le, codes, decimal, ok_or, option_map, OnOk, if◌then◌else◌}
+use Rattle.std.specs.Prelude.{slice_index, ◌==◌, ◌&&◌, nat_lt, nat_le, codes, decimal, ok_or, OnOk, if◌then◌else◌}
 use Rattle.std.specs.List.{list_all, AllPass}
 use Rattle.std.proofs.lemmas.List.Elements.{All-head, All-tail}
 use Rattle.hex.specs.Hex.{is_hex_digit}
@@ -29,13 +29,14 @@ use Rattle.script_text.specs.declared.line_fault.LineFault.TheVariants.{LongLine
 use Rattle.script_text.specs.Words.{is_graphic, are_printable, words_in, are_words}
 use Rattle.script_text.specs.Numbers.{hexadecimal_named}
 use Rattle.script_text.specs.Shapes.{shape_named}
-use Rattle.script_text.specs.Items.{itm_of, item_of, bytes_named}
-use Rattle.script_text.specs.Steps.{◌>>=◌}
+use Rattle.script_text.specs.Items.{itm_of, item_of}
+use Rattle.script_text.specs.Bytes.{bytes_named}
 use Rattle.script_text.specs.Lines.{taken_by, is_nothing, line_of_words, line_of_printable, line_of, answer, ◌>>=◌ as ◌>>ₗ◌}
 use Rattle.script_text.specs.Quick.{BeginsWith, BeginsWithNumber, BeginsWithDigits, SaysPacket, SaysItem, SaysFirst, IsItemOf, IsFirstLine, size_word}
 use Rattle.script_text.specs.declared.quick.PacketLine.{PacketLine}
 use Rattle.script_text.specs.Said.{IsSaid}
-use Rattle.script_text.proofs.LineRanges.{words_said_on, bytes_are}
+use Rattle.script_text.proofs.LineRanges.{words_said_on}
+use Rattle.script_text.proofs.Fields.{bytes_are}
 use Rattle.script_text.proofs.Hexadecimals.{and_left, and_right, hexadecimal_is, hexadecimal_small}
 use Rattle.script_text.proofs.Splitting.{IsWord, more_word, no_space, printable, end_of}
 
@@ -182,10 +183,7 @@ port_shape port digits Four = refl
 port_item : (size : Size) (port v : ℕ) (digits : List ℕ) → port ≤ 31 → hexadecimal_named (2 * byte_count size) digits ≡ Some v →
     item_of (shapes.Itm (itm_shapes.Software size)) (codes "port" ∷ (decimal port ∷ (size_word size ∷ (digits ∷ [])))) ≡ Some (items.Itm (itm.Software port size v))
 unfolding itm_of
-port_item size port v digits h e =
-    ap (λ (o : Option ℕ). option_map items.Itm (o >>= λ port. hexadecimal_named (2 * byte_count size) digits >>= λ value. Some (itm.Software port size value)))
-    (names_number 0 31 port (decimal port) (omega arith) (omega arith) h refl)
-    ∙ ap (λ (o : Option ℕ). option_map items.Itm (o >>= λ value. Some (itm.Software port size value))) e
+port_item size port v digits h e = let n = names_number 0 31 port (decimal port) (omega arith) (omega arith) h refl in rw (n, e) refl
 
 size_some : (size : Size) → 0 < length (size_word size)
 size_some One = omega arith
@@ -247,9 +245,7 @@ local_shape digits = refl
 local_item : (delta : ℕ) (digits : List ℕ) → delta ≤ 2 ^ 28 - 1 → digits ≡ decimal delta →
     item_of (shapes.Itm (itm_shapes.Local Exact)) (codes "local" ∷ (codes "exact" ∷ (digits ∷ []))) ≡ Some (items.Itm (itm.Local Exact delta))
 unfolding itm_of
-local_item delta digits h e =
-    ap (λ (o : Option ℕ). option_map items.Itm (o >>= λ delta. Some (itm.Local Exact delta)))
-    (names_number 0 (2 ^ 28 - 1) delta digits (omega arith) (omega arith) h e)
+local_item delta digits h e = let n = names_number 0 (2 ^ 28 - 1) delta digits (omega arith) (omega arith) h e in rw n refl
 
 exact_says : (digits : List ℕ) (delta : ℕ) → delta ≤ 2 ^ 28 - 1 → digits ≡ decimal delta → SaysPacket (codes "local exact " ++ digits) (itm.Local Exact delta)
 exact_says digits delta h e =
@@ -297,7 +293,7 @@ raw_says line digits bytes is e =
       printable = w.printable;
       words = ap (are_words 1) words ∙ few;
       said = λ plan id. ap (λ (l : List (List ℕ)). line_of_words plan (id ∷ l)) words
-          ∙ words_say plan id (codes "raw" ∷ (digits ∷ [])) shapes.Raw (items.Raw bytes) (raw_shape digits) (ap (option_map items.Raw) e);
+          ∙ words_say plan id (codes "raw" ∷ (digits ∷ [])) shapes.Raw (items.Raw bytes) (raw_shape digits) (rw e refl);
     })
 
 -- a whole line

@@ -1,25 +1,19 @@
 -- The words of items' texts: the table of item words, and after each the words that an item's text has there.
-use Rattle.std.specs.Prelude.{ℕ, List, [], ◌∷◌, Bool, true, false, ◌&&◌, Option, Some, None, if◌then◌else◌, codes}
+use Rattle.std.specs.Prelude.{ℕ, List, [], ◌∷◌, Bool, true, false, map, ◌&&◌, Option, Some, None, if◌then◌else◌, codes}
 use Rattle.std.specs.Str.{bytes_eq}
-use Rattle.itm_grammar.specs.declared.packet.Size.{Size}
 use Rattle.itm_grammar.specs.declared.packet.Size.TheVariants.{One, Two, Four as FourBytes}
 use Rattle.itm_grammar.specs.declared.packet.Lateness.TheVariants.{Exact, StampLate, PacketLate, BothLate}
-use Rattle.dwt_packets.specs.declared.item.Change.{Change}
 use Rattle.dwt_packets.specs.declared.item.Change.TheVariants.{Enter, Exit, Return}
 use Rattle.stp_grammar.specs.declared.packet.Width.TheVariants.{Four, Eight, Sixteen, ThirtyTwo, SixtyFour}
-use Rattle.trace_text.specs.ItemText.{lateness_text, bits_text, owner_text}
-use Rattle.trace_text.specs.StpText.{width_text, mark_text}
+use Rattle.script_text.specs.Table as table
 use Rattle.script_text.specs.declared.shapes.Field.{Field as Coded}
 use Rattle.script_text.specs.declared.shapes.Field.TheVariants.{Word as CodedWord, Number as CodedNumber}
 use Rattle.script_text.specs.declared.shapes.Shape.{Shape}
 use Rattle.script_text.specs.declared.shapes.Shape.TheVariants.{Itm, Dwt, Stp, Raw}
-use Rattle.script_text.specs.declared.itm_shapes.ItmShape.{ItmShape}
 use Rattle.script_text.specs.declared.itm_shapes.ItmShape.TheVariants.{Sync, Overflow, Software, Local, GlobalFirst}
 use Rattle.script_text.specs.declared.itm_shapes.ItmShape.TheVariants.{GlobalSecond, Extension}
-use Rattle.script_text.specs.declared.dwt_shapes.DwtShape.{DwtShape}
 use Rattle.script_text.specs.declared.dwt_shapes.DwtShape.TheVariants.{Counters, Exception, Sample, Asleep, MatchPc}
 use Rattle.script_text.specs.declared.dwt_shapes.DwtShape.TheVariants.{MatchAddress, Read, Written, Other}
-use Rattle.script_text.specs.declared.stp_shapes.StpShape.{StpShape}
 use Rattle.script_text.specs.declared.stp_shapes.StpShape.TheVariants.{Async, Version, MasterError, GlobalError}
 use Rattle.script_text.specs.declared.stp_shapes.StpShape.TheVariants.{Datum, Flag, Trigger, Frequency, NullStamp}
 
@@ -70,55 +64,13 @@ shapes_named word =
     else if bytes_eq word (codes "raw") then Raw ∷ []
     else []
 
--- the word of a width, and the value
-abbrev pub value_fields : Size → List Field
-value_fields One = Word (codes "u8") ∷ (Number ∷ [])
-value_fields Two = Word (codes "u16") ∷ (Number ∷ [])
-value_fields FourBytes = Word (codes "u32") ∷ (Number ∷ [])
-
-abbrev pub change_word : Change → List ℕ
-change_word Enter = codes "enter"
-change_word Exit = codes "exit"
-change_word Return = codes "return"
-
--- the words after the first of each shape's text
-abbrev pub itm_fields : ItmShape → List Field
-itm_fields Sync = []
-itm_fields Overflow = []
-itm_fields (Software size) = Number ∷ value_fields size
-itm_fields (Local lateness) = Word (lateness_text lateness) ∷ (Number ∷ [])
-itm_fields GlobalFirst = Number ∷ (Number ∷ (Number ∷ (Number ∷ [])))
-itm_fields (GlobalSecond wide) = Word (bits_text wide) ∷ (Number ∷ [])
-itm_fields (Extension dwt) = Word (owner_text dwt) ∷ (Number ∷ [])
-
-abbrev pub dwt_fields : DwtShape → List Field
-dwt_fields Counters = Number ∷ []
-dwt_fields (Exception change) = Number ∷ (Word (change_word change) ∷ [])
-dwt_fields Sample = Number ∷ []
-dwt_fields Asleep = []
-dwt_fields MatchPc = Number ∷ (Word (codes "pc") ∷ (Number ∷ []))
-dwt_fields MatchAddress = Number ∷ (Word (codes "addr") ∷ (Number ∷ []))
-dwt_fields (Read size) = Number ∷ (Word (codes "read") ∷ value_fields size)
-dwt_fields (Written size) = Number ∷ (Word (codes "write") ∷ value_fields size)
-dwt_fields (Other size) = Number ∷ value_fields size
-
-abbrev pub stp_fields : StpShape → List Field
-stp_fields Async = []
-stp_fields Version = Number ∷ []
-stp_fields MasterError = Number ∷ (Number ∷ (Number ∷ []))
-stp_fields GlobalError = Number ∷ []
-stp_fields (Datum width marked) =
-    Number ∷ (Number ∷ (Word (width_text width) ∷ (Number ∷ (Word (mark_text marked) ∷ (Number ∷ [])))))
-stp_fields Flag = Number ∷ (Number ∷ (Number ∷ []))
-stp_fields Trigger = Number ∷ (Number ∷ [])
-stp_fields Frequency = Number ∷ (Number ∷ [])
-stp_fields NullStamp = Number ∷ []
+-- the words of a shape's texts after the first
+abbrev pub plain : table.Field → Field
+plain (table.Word word) = Word word
+plain (table.Says kind) = Number
 
 abbrev pub fields_of : Shape → List Field
-fields_of (Itm shape) = itm_fields shape
-fields_of (Dwt shape) = dwt_fields shape
-fields_of (Stp shape) = stp_fields shape
-fields_of Raw = Number ∷ []
+fields_of shape = map plain (table.fields_of shape)
 
 -- it may be this word
 abbrev pub allows : Field → List ℕ → Bool

@@ -2,11 +2,12 @@
 
 ghost use Rattle.std.specs.Prelude.{◌≡◌, map};
 ghost use Rattle.script_text.specs.Words.{texts};
-ghost use Rattle.script_text.specs.Shapes.{seen, dwt_fields};
-ghost use Rattle.script_text.specs.Items.{dwt_of as dwt_in, counters_within, unnamed as unnamed_in};
+ghost use Rattle.script_text.specs.Shapes.{seen, fields_of};
+ghost use Rattle.script_text.specs.Items.{dwt_of as dwt_in};
+ghost use Rattle.script_text.specs.Table.{counters_within, unnamed as unnamed_in};
 
 use crate::numbers::{byte_at, decimal_at, value_at};
-use crate::shapes::Field;
+use crate::shapes::{Field, Shape};
 use dwt_packets::{Change, DwtItem, meaning};
 use itm_grammar::packet::Size;
 
@@ -27,7 +28,7 @@ pub enum DwtShape {
 impl DwtShape {
     /// The words after the first.
     pub fn fields(&self) -> &'static [Field]
-        ensures { map seen result.now ≡ dwt_fields self.now }
+        ensures { map seen result.now ≡ fields_of (Shape.Dwt self.now) }
     {
         match self {
             DwtShape::Counters | DwtShape::Sample => &[Field::Number],

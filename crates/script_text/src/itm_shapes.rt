@@ -2,11 +2,12 @@
 
 ghost use Rattle.std.specs.Prelude.{◌≡◌, map};
 ghost use Rattle.script_text.specs.Words.{texts};
-ghost use Rattle.script_text.specs.Shapes.{seen, itm_fields};
-ghost use Rattle.script_text.specs.Items.{itm_of as itm_in, first_stamp as first_in, first_checked as checked_by};
+ghost use Rattle.script_text.specs.Shapes.{seen, fields_of};
+ghost use Rattle.script_text.specs.Items.{itm_of as itm_in};
+ghost use Rattle.script_text.specs.Table.{first_checked as checked_by};
 
 use crate::numbers::{decimal_at, value_at};
-use crate::shapes::Field;
+use crate::shapes::{Field, Shape};
 use itm_grammar::packet::{ItmPacket, Lateness, Size};
 use itm_grammar::proper::is_proper;
 
@@ -27,7 +28,7 @@ pub enum ItmShape {
 impl ItmShape {
     /// The words after the first.
     pub fn fields(&self) -> &'static [Field]
-        ensures { map seen result.now ≡ itm_fields self.now }
+        ensures { map seen result.now ≡ fields_of (Shape.Itm self.now) }
     {
         match self {
             ItmShape::Sync | ItmShape::Overflow => &[],
@@ -65,9 +66,9 @@ fn first_checked(len: u8, value: u32, change: bool, wrap: bool) -> Option<ItmPac
 }
 
 /// A first global timestamp: its low bits fit its bytes, and only four bytes have clock change and wrap.
-#[tactic(auto, unfolding(crate::specs::Items::first_stamp))]
+#[tactic(auto, unfolding(crate::specs::Items::itm_of))]
 fn first_stamp(words: &[&[u8]]) -> Option<ItmPacket>
-    ensures { result ≡ first_in (texts words.now) }
+    ensures { result ≡ itm_in ItmShape.GlobalFirst (texts words.now) }
 {
     let len = decimal_at(4, words, 1)? as u8;
     let value = decimal_at(0x3FF_FFFF, words, 2)? as u32;

@@ -2,7 +2,8 @@
 
 ghost use Rattle.std.specs.Prelude.{◌≡◌, ◌≤◌, ◌∷◌, [], length};
 ghost use Rattle.script_text.specs.Words.{texts};
-ghost use Rattle.script_text.specs.Items.{raw_of as raw_in, bytes_named as named};
+ghost use Rattle.script_text.specs.Items.{raw_of as raw_in};
+ghost use Rattle.script_text.specs.Bytes.{bytes_named as named};
 
 use crate::words::word_of;
 use arrayvec::ArrayVec;

@@ -4,14 +4,15 @@ ghost use Rattle.std.specs.Prelude.{◌≡◌, ◌/◌, map, true, false};
 ghost use Rattle.stp_grammar.specs.Proper.{bits_of};
 ghost use Rattle.script_text.specs.Words.{texts};
 ghost use Rattle.script_text.specs.Numbers.{hexadecimal_at as hexadecimal_in};
-ghost use Rattle.script_text.specs.Shapes.{seen, stp_fields};
-ghost use Rattle.script_text.specs.Items.{stp_of as stp_in, null_stamp as null_in, datum_of as datum_in};
+ghost use Rattle.script_text.specs.Shapes.{seen, fields_of};
+ghost use Rattle.script_text.specs.Items.{stp_of as stp_in};
+ghost use Rattle.script_text.specs.Table.{null_stamp as null_in};
 
 use crate::numbers::{byte_at, decimal_at, hexadecimal_at};
-use crate::places::place_of;
-use crate::shapes::Field;
+use crate::places::known_at;
+use crate::shapes::{Field, Shape};
 use crate::stamps::stamp_at;
-use stp_grammar::item::{Stamp, StpItem};
+use stp_grammar::item::{Place, Stamp, StpItem};
 use stp_grammar::packet::Width;
 
 /// What the fixed words of an STP item's text tell.
@@ -29,106 +30,41 @@ pub enum StpShape {
     NullStamp,
 }
 
-/// The words of a datum that is not marked, after the first.
-fn plain_fields(width: Width) -> &'static [Field]
-    ensures { map seen result.now ≡ stp_fields (StpShape.Datum width false) }
-{
-    match width {
-        Width::Four => &[
+macro_rules! datum {
+    ($width:literal, $mark:literal) => {
+        &[
             Field::Number,
             Field::Number,
-            Field::Word("u4"),
+            Field::Word($width),
             Field::Number,
-            Field::Word("-"),
+            Field::Word($mark),
             Field::Number,
-        ],
-        Width::Eight => &[
-            Field::Number,
-            Field::Number,
-            Field::Word("u8"),
-            Field::Number,
-            Field::Word("-"),
-            Field::Number,
-        ],
-        Width::Sixteen => &[
-            Field::Number,
-            Field::Number,
-            Field::Word("u16"),
-            Field::Number,
-            Field::Word("-"),
-            Field::Number,
-        ],
-        Width::ThirtyTwo => &[
-            Field::Number,
-            Field::Number,
-            Field::Word("u32"),
-            Field::Number,
-            Field::Word("-"),
-            Field::Number,
-        ],
-        Width::SixtyFour => &[
-            Field::Number,
-            Field::Number,
-            Field::Word("u64"),
-            Field::Number,
-            Field::Word("-"),
-            Field::Number,
-        ],
-    }
+        ]
+    };
 }
 
-/// The words of a marked datum after the first.
-fn marked_fields(width: Width) -> &'static [Field]
-    ensures { map seen result.now ≡ stp_fields (StpShape.Datum width true) }
+/// The words of a datum after the first.
+fn datum_fields(width: Width, marked: bool) -> &'static [Field]
+    ensures { map seen result.now ≡ fields_of (Shape.Stp (StpShape.Datum width marked)) }
 {
-    match width {
-        Width::Four => &[
-            Field::Number,
-            Field::Number,
-            Field::Word("u4"),
-            Field::Number,
-            Field::Word("m"),
-            Field::Number,
-        ],
-        Width::Eight => &[
-            Field::Number,
-            Field::Number,
-            Field::Word("u8"),
-            Field::Number,
-            Field::Word("m"),
-            Field::Number,
-        ],
-        Width::Sixteen => &[
-            Field::Number,
-            Field::Number,
-            Field::Word("u16"),
-            Field::Number,
-            Field::Word("m"),
-            Field::Number,
-        ],
-        Width::ThirtyTwo => &[
-            Field::Number,
-            Field::Number,
-            Field::Word("u32"),
-            Field::Number,
-            Field::Word("m"),
-            Field::Number,
-        ],
-        Width::SixtyFour => &[
-            Field::Number,
-            Field::Number,
-            Field::Word("u64"),
-            Field::Number,
-            Field::Word("m"),
-            Field::Number,
-        ],
+    match (width, marked) {
+        (Width::Four, false) => datum!("u4", "-"),
+        (Width::Four, true) => datum!("u4", "m"),
+        (Width::Eight, false) => datum!("u8", "-"),
+        (Width::Eight, true) => datum!("u8", "m"),
+        (Width::Sixteen, false) => datum!("u16", "-"),
+        (Width::Sixteen, true) => datum!("u16", "m"),
+        (Width::ThirtyTwo, false) => datum!("u32", "-"),
+        (Width::ThirtyTwo, true) => datum!("u32", "m"),
+        (Width::SixtyFour, false) => datum!("u64", "-"),
+        (Width::SixtyFour, true) => datum!("u64", "m"),
     }
 }
 
 impl StpShape {
     /// The words after the first.
     pub fn fields(&self) -> &'static [Field]
-        ensures { map seen result.now ≡ stp_fields self.now }
+        ensures { map seen result.now ≡ fields_of (Shape.Stp self.now) }
     {
         match *self {
             StpShape::Async => &[],
@@ -138,8 +74,7 @@ impl StpShape {
                 Field::Number,
                 Field::Number,
             ],
-            StpShape::Datum(width, false) => plain_fields(width),
-            StpShape::Datum(width, true) => marked_fields(width),
+            StpShape::Datum(width, marked) => datum_fields(width, marked),
             StpShape::Trigger | StpShape::Frequency => &[Field::Number, Field::Number],
         }
     }
@@ -160,15 +95,16 @@ fn datum_at(width: Width, words: &[&[u8]], k: usize) -> Option<u64>
 }
 
 /// What was written, with its place and its timestamp.
-#[tactic(auto, unfolding(crate::specs::Items::datum_of))]
+#[tactic(auto, unfolding(crate::specs::Items::stp_of))]
 fn datum_of(width: Width, marked: bool, words: &[&[u8]]) -> Option<StpItem>
-    ensures { result ≡ datum_in width marked (texts words.now) }
+    ensures { result ≡ stp_in (StpShape.Datum width marked) (texts words.now) }
 {
-    let place = place_of(words)?;
+    let master = known_at(words, 1)?;
+    let channel = known_at(words, 2)?;
     let value = datum_at(width, words, 4)?;
     let stamp = stamp_at(words, 6)?;
     Some(StpItem::Datum {
-        place,
+        place: Place { master, channel },
         width,
         value,
         marked,
@@ -201,9 +137,13 @@ pub fn stp_of(shape: StpShape, words: &[&[u8]]) -> Option<StpItem>
             Some(StpItem::Version(version))
         }
         StpShape::MasterError => {
-            let place = place_of(words)?;
+            let master = known_at(words, 1)?;
+            let channel = known_at(words, 2)?;
             let code = byte_at(words, 3)?;
-            Some(StpItem::MasterError { place, code })
+            Some(StpItem::MasterError {
+                place: Place { master, channel },
+                code,
+            })
         }
         StpShape::GlobalError => {
             let code = byte_at(words, 1)?;
@@ -211,9 +151,13 @@ pub fn stp_of(shape: StpShape, words: &[&[u8]]) -> Option<StpItem>
         }
         StpShape::Datum(width, marked) => datum_of(width, marked, words),
         StpShape::Flag => {
-            let place = place_of(words)?;
+            let master = known_at(words, 1)?;
+            let channel = known_at(words, 2)?;
             let stamp = stamp_at(words, 3)?;
-            Some(StpItem::Flag { place, stamp })
+            Some(StpItem::Flag {
+                place: Place { master, channel },
+                stamp,
+            })
         }
         StpShape::Trigger => {
             let code = byte_at(words, 1)?;

@@ -5,7 +5,7 @@ use Rattle.dwt_packets.specs.Table.{name}
 use Rattle.script_text.specs.Numbers.{hexadecimal_named}
 use Rattle.script_text.specs.Stamps.{raw_named}
 use Rattle.script_text.specs.Shapes.{shape_named}
-use Rattle.script_text.specs.Items.{first_stamp, itm_of, dwt_of, place_of, datum_of, stp_of}
+use Rattle.script_text.specs.Items.{itm_of, dwt_of, stp_of}
 use Rattle.script_text.specs.Lines.{line_of_words, line_of}
 use Rattle.trace_clock.specs.LastWord.{last_word}
 use Rattle.stp_grammar.specs.Attribution.{version_of, master_of, channel_of, last_word_of}
@@ -15,5 +15,5 @@ use Rattle.frame_writer.specs.Written.{filled, frame_bytes, frames_by}
 use Rattle.script_laws.proofs.rows.one_source.Goals as goal
 
 pub returns : goal.returns
-unfolding line_of line_of_words shape_named first_stamp itm_of dwt_of name place_of datum_of stp_of raw_named hexadecimal_named digits decode_pairs last_word version_of master_of channel_of last_word_of packets_for shortest_stamp nibbles_for filled frame_bytes frames_by
+unfolding line_of line_of_words shape_named itm_of dwt_of name stp_of raw_named hexadecimal_named digits decode_pairs last_word version_of master_of channel_of last_word_of packets_for shortest_stamp nibbles_for filled frame_bytes frames_by
 returns c = refl
