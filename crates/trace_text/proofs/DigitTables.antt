@@ -74,13 +74,13 @@ are_digits n false true t u l =
 are_digits n true false t u l = sym (decimal_two n (grind (arith, nat_tests)) (grind (arith, nat_tests)))
 are_digits n false false t u l = sym (decimal_digit n (grind (arith, nat_tests)))
 
-tabled : (n : ℕ) → n < 256 → take (count n) (take 4 (drop (4 * n) NUMBERS.now)) ≡ digits (leb 10 n) (leb 100 n) n
+tabled : (n : ℕ) → n < 256 → take (count n) (drop (4 * n) NUMBERS.now) ≡ digits (leb 10 n) (leb 100 n) n
 unfolding under same digits count
 tabled n l =
-    is_same _ _ (below (λ k. same (take (count k) (take 4 (drop (4 * k) NUMBERS.now))) (digits (leb 10 k) (leb 100 k) k)) 256 n l refl)
+    is_same _ _ (below (λ k. same (take (count k) (drop (4 * k) NUMBERS.now)) (digits (leb 10 k) (leb 100 k) k)) 256 n l refl)
 
 pub short : (n : ℕ) → n < 256 →
-    take (1 + bool_byte (leb 10 n) + bool_byte (leb 100 n)) (take 4 (drop (4 * n) NUMBERS.now)) ≡ decimal n
+    take (1 + bool_byte (leb 10 n) + bool_byte (leb 100 n)) (drop (4 * n) NUMBERS.now) ≡ decimal n
 unfolding count
 short n l = tabled n l ∙ are_digits n (leb 10 n) (leb 100 n) refl refl l
 
@@ -94,13 +94,13 @@ pub most_of_port : (a : Bool) → 7 + bool_byte a ≤ 8
 most_of_port a = elim a as (λ t. 7 + bool_byte t ≤ 8) [ true ↦ omega arith | false ↦ omega arith ]
 
 tabled_port : (n : ℕ) → n < 32 →
-    take (7 + bool_byte (leb 10 n)) (take 8 (drop (8 * n) PORTS.now)) ≡ codes "port " ++ (digits (leb 10 n) false n ++ codes " ")
+    take (7 + bool_byte (leb 10 n)) (drop (8 * n) PORTS.now) ≡ codes "port " ++ (digits (leb 10 n) false n ++ codes " ")
 unfolding under same digits
 tabled_port n l =
-    is_same _ _ (below (λ k. same (take (7 + bool_byte (leb 10 k)) (take 8 (drop (8 * k) PORTS.now))) (codes "port " ++ (digits (leb 10 k) false k ++ codes " "))) 32 n l refl)
+    is_same _ _ (below (λ k. same (take (7 + bool_byte (leb 10 k)) (drop (8 * k) PORTS.now)) (codes "port " ++ (digits (leb 10 k) false k ++ codes " "))) 32 n l refl)
 
 pub port : (n : ℕ) → n < 32 →
-    take (7 + bool_byte (leb 10 n)) (take 8 (drop (8 * n) PORTS.now)) ≡ codes "port " ++ (decimal n ++ codes " ")
+    take (7 + bool_byte (leb 10 n)) (drop (8 * n) PORTS.now) ≡ codes "port " ++ (decimal n ++ codes " ")
 port n l =
     let small : leb 100 n ≡ false = grind (arith, nat_tests) in
     tabled_port n l ∙ ap (λ (ds : List ℕ). codes "port " ++ (ds ++ codes " ")) (are_digits n (leb 10 n) false refl small (omega arith))

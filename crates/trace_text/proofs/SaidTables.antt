@@ -63,17 +63,17 @@ pub mark_few : (n : ℕ) → n < 35 → length (mark_at (row_at n)) ≤ 4
 unfolding under
 mark_few n l = at_most _ _ (below (λ k. nat_le (length (mark_at (row_at k))) 4) 35 n l refl)
 
-pub word_is : (n : ℕ) → n < 35 → is_written (row_at n) ≡ true → take (length (word_at (row_at n))) (take 8 (drop (8 * n) WORDS.now)) ≡ word_at (row_at n)
+pub word_is : (n : ℕ) → n < 35 → is_written (row_at n) ≡ true → take (length (word_at (row_at n))) (drop (8 * n) WORDS.now) ≡ word_at (row_at n)
 unfolding under same_list
 word_is n l w =
-    is_same_list _ _ (asked _ _ w (below (λ k. not (is_written (row_at k)) || same_list (take (length (word_at (row_at k))) (take 8 (drop (8 * k) WORDS.now))) (word_at (row_at k))) 35 n l refl))
+    is_same_list _ _ (asked _ _ w (below (λ k. not (is_written (row_at k)) || same_list (take (length (word_at (row_at k))) (drop (8 * k) WORDS.now)) (word_at (row_at k))) 35 n l refl))
 
-pub width_is : (n : ℕ) → n < 35 → is_written (row_at n) ≡ true → take (length (width_at (row_at n))) (take 8 (drop (8 * n) WIDTHS.now)) ≡ width_at (row_at n)
+pub width_is : (n : ℕ) → n < 35 → is_written (row_at n) ≡ true → take (length (width_at (row_at n))) (drop (8 * n) WIDTHS.now) ≡ width_at (row_at n)
 unfolding under same_list
 width_is n l w =
-    is_same_list _ _ (asked _ _ w (below (λ k. not (is_written (row_at k)) || same_list (take (length (width_at (row_at k))) (take 8 (drop (8 * k) WIDTHS.now))) (width_at (row_at k))) 35 n l refl))
+    is_same_list _ _ (asked _ _ w (below (λ k. not (is_written (row_at k)) || same_list (take (length (width_at (row_at k))) (drop (8 * k) WIDTHS.now)) (width_at (row_at k))) 35 n l refl))
 
-pub mark_is : (n : ℕ) → n < 35 → is_written (row_at n) ≡ true → take (length (mark_at (row_at n))) (take 4 (drop (4 * n) MARKS.now)) ≡ mark_at (row_at n)
+pub mark_is : (n : ℕ) → n < 35 → is_written (row_at n) ≡ true → take (length (mark_at (row_at n))) (drop (4 * n) MARKS.now) ≡ mark_at (row_at n)
 unfolding under same_list
 mark_is n l w =
-    is_same_list _ _ (asked _ _ w (below (λ k. not (is_written (row_at k)) || same_list (take (length (mark_at (row_at k))) (take 4 (drop (4 * k) MARKS.now))) (mark_at (row_at k))) 35 n l refl))
+    is_same_list _ _ (asked _ _ w (below (λ k. not (is_written (row_at k)) || same_list (take (length (mark_at (row_at k))) (drop (4 * k) MARKS.now)) (mark_at (row_at k))) 35 n l refl))

@@ -8,10 +8,10 @@ ghost use Rattle.trace_text.specs.ItemText.{lateness_text, flag_text, bits_text,
 
 use crate::hardware::put_hardware;
 use crate::room::{
-    ITEM_ROOM, PART_ROOM, WORD_ROOM, put_bytes, put_digits, put_four_of, put_number, put_port,
-    put_short, put_slice, put_twelve_of, put_value,
+    ITEM_ROOM, PART_ROOM, WORD_ROOM, put_bytes, put_digits, put_entry, put_number, put_port,
+    put_short, put_slice, put_value,
 };
-use crate::tables::{BITS, FLAGS, LATENESSES};
+use crate::tables::{BITS, FLAGS, LATENESS_LENS, LATENESSES};
 use dwt_packets::meaning;
 use itm_grammar::packet::{ItmPacket, Lateness, Size};
 
@@ -23,14 +23,9 @@ fn put_lateness(room: &mut [u8], from: usize, lateness: Lateness) -> usize
     ensures same { length room.new ≡ length room.old }
     ensures end { result ≤ from + WORD_ROOM }
 {
-    let (start, len) = match lateness {
-        Lateness::Exact => (0, 6),
-        Lateness::StampLate => (12, 11),
-        Lateness::PacketLate => (24, 12),
-        Lateness::BothLate => (36, 10),
-    };
-    let _all = put_twelve_of(room, from, LATENESSES, start);
-    from + len
+    let lens = LATENESS_LENS;
+    let number = lateness as usize;
+    put_entry(room, from, LATENESSES, 12, number, lens[number] as usize)
 }
 
 #[inline]
@@ -54,7 +49,7 @@ fn put_flags(room: &mut [u8], from: usize, change: bool, wrap: bool) -> usize
     ensures same { length room.new ≡ length room.old }
     ensures end { result ≡ from + 4 }
 {
-    put_four_of(room, from, FLAGS, 8 * change as usize + 4 * wrap as usize)
+    put_entry(room, from, FLAGS, 4, 2 * change as usize + wrap as usize, 4)
 }
 
 #[inline]
@@ -86,8 +81,7 @@ fn put_bits(room: &mut [u8], from: usize, wide: bool) -> usize
     ensures same { length room.new ≡ length room.old }
     ensures end { result ≡ from + 3 }
 {
-    let _all = put_four_of(room, from, BITS, 4 * wide as usize);
-    from + 3
+    put_entry(room, from, BITS, 4, wide as usize, 3)
 }
 
 #[inline]

@@ -8,7 +8,9 @@ ghost use Rattle.trace_text.specs.Pairs.{pair, four, eight};
 ghost use Rattle.itm_grammar.specs.Spelling.{byte_count};
 ghost use Rattle.trace_text.specs.Values.{bytes_of_value, value_text, width_text};
 
-use crate::tables::{HEX_PAIRS, NUMBERS, PAIRS, PORTS, WIDTHS};
+use crate::tables::{
+    HEX_PAIRS, NUMBERS, PAIRS, PORTS, VALUE_LENS, VALUE_SHIFTS, WIDTH_LENS, WIDTHS,
+};
 use itm_grammar::packet::Size;
 
 /// Bytes that a number or a value is given: more than any has.
@@ -71,56 +73,27 @@ pub(crate) fn put_byte(room: &mut [u8], from: usize, byte: u8) -> usize
     from + 1
 }
 
-/// Puts two bytes of a table. They are put one by one, since a copy of a slice asks first whether the two overlap.
+/// Puts the first `len` bytes of the entry of this number in a table, whose entries have `size` bytes each, a constant.
+/// There is room for the whole entry, so that no branch depends on `len`; what is after the text's end is of no account.
 #[inline(always)]
-fn put_two_of(room: &mut [u8], from: usize, table: &[u8], start: usize) -> usize
-    requires table { start + 2 ≤ length table.now }
-    requires room { from + 2 ≤ length room.old }
-    ensures text { take result room.new ≡ take from room.old ++ take 2 (drop start table.now) }
+pub(crate) fn put_entry(
+    room: &mut [u8],
+    from: usize,
+    table: &[u8],
+    size: usize,
+    number: usize,
+    len: usize,
+) -> usize
+    requires table { size * number + size ≤ length table.now }
+    requires few { len ≤ size }
+    requires room { from + size ≤ length room.old }
+    ensures text { take result room.new ≡ take from room.old ++ take len (drop (size * number) table.now) }
     ensures same { length room.new ≡ length room.old }
-    ensures end { result ≡ from + 2 }
+    ensures end { result ≡ from + len }
 {
-    let from = put_byte(room, from, table[start]);
-    put_byte(room, from, table[start + 1])
-}
-
-/// Puts four bytes of a table.
-#[inline(always)]
-pub(crate) fn put_four_of(room: &mut [u8], from: usize, table: &[u8], start: usize) -> usize
-    requires table { start + 4 ≤ length table.now }
-    requires room { from + 4 ≤ length room.old }
-    ensures text { take result room.new ≡ take from room.old ++ take 4 (drop start table.now) }
-    ensures same { length room.new ≡ length room.old }
-    ensures end { result ≡ from + 4 }
-{
-    let from = put_two_of(room, from, table, start);
-    put_two_of(room, from, table, start + 2)
-}
-
-/// Puts eight bytes of a table.
-#[inline(always)]
-pub(crate) fn put_eight_of(room: &mut [u8], from: usize, table: &[u8], start: usize) -> usize
-    requires table { start + 8 ≤ length table.now }
-    requires room { from + 8 ≤ length room.old }
-    ensures text { take result room.new ≡ take from room.old ++ take 8 (drop start table.now) }
-    ensures same { length room.new ≡ length room.old }
-    ensures end { result ≡ from + 8 }
-{
-    let from = put_four_of(room, from, table, start);
-    put_four_of(room, from, table, start + 4)
-}
-
-/// Puts twelve bytes of a table.
-#[inline(always)]
-pub(crate) fn put_twelve_of(room: &mut [u8], from: usize, table: &[u8], start: usize) -> usize
-    requires table { start + 12 ≤ length table.now }
-    requires room { from + 12 ≤ length room.old }
-    ensures text { take result room.new ≡ take from room.old ++ take 12 (drop start table.now) }
-    ensures same { length room.new ≡ length room.old }
-    ensures end { result ≡ from + 12 }
-{
-    let from = put_eight_of(room, from, table, start);
-    put_four_of(room, from, table, start + 8)
+    let start = size * number;
+    let _all = put_bytes(room, from, &table[start..start + size]);
+    from + len
 }
 
 /// Puts the tens and the ones of a number below 100.
@@ -132,11 +105,11 @@ pub(crate) fn put_two(room: &mut [u8], from: usize, number: u8) -> usize
     ensures same { length room.new ≡ length room.old }
     ensures end { result ≡ from + 2 }
 {
-    put_two_of(room, from, PAIRS, 2 * number as usize)
+    put_entry(room, from, PAIRS, 2, number as usize, 2)
 }
 
-/// Puts the first `len` of the bytes. There is room for all of them, so that where their number is a constant no branch
-/// depends on `len`. What is after the text's end is of no account.
+/// Puts the first `len` of the bytes, which are copied as a whole, so that where their number is a constant no branch
+/// depends on `len`. There is room for all of them. What is after the text's end is of no account.
 #[inline(always)]
 pub(crate) fn put_front(room: &mut [u8], from: usize, bytes: &[u8], len: usize) -> usize
     requires few { len ≤ length bytes.now }
@@ -160,8 +133,7 @@ pub(crate) fn put_short(room: &mut [u8], from: usize, number: u8) -> usize
     let has_two = number >= 10;
     let has_three = number >= 100;
     let len = 1 + has_two as usize + has_three as usize;
-    let _all = put_four_of(room, from, NUMBERS, 4 * number as usize);
-    from + len
+    put_entry(room, from, NUMBERS, 4, number as usize, len)
 }
 
 /// Puts `port`, the number of a stimulus port, and a space after it.
@@ -175,8 +147,7 @@ pub(crate) fn put_port(room: &mut [u8], from: usize, port: u8) -> usize
 {
     let has_two = port >= 10;
     let len = 7 + has_two as usize;
-    let _all = put_eight_of(room, from, PORTS, 8 * port as usize);
-    from + len
+    put_entry(room, from, PORTS, 8, port as usize, len)
 }
 
 /// Puts the four digits of a number below 10,000, also those that are leading zeros.
@@ -306,7 +277,7 @@ fn put_hex_pair(room: &mut [u8], from: usize, byte: u8) -> usize
     ensures same { length room.new ≡ length room.old }
     ensures end { result ≡ from + 2 }
 {
-    put_two_of(room, from, HEX_PAIRS, 2 * byte as usize)
+    put_entry(room, from, HEX_PAIRS, 2, byte as usize, 2)
 }
 
 /// Puts the hexadecimal digits of the first `count` of four bytes. No branch depends on how many they are.
@@ -325,7 +296,8 @@ fn put_hex_front(room: &mut [u8], from: usize, bytes: &[u8; 4], count: usize) ->
     from + 2 * count
 }
 
-/// Puts the word of a width and a space after it. No branch depends on which it is.
+/// Puts the word of a width and a space after it. What depends on the size is read from tables by its number: a `match`
+/// of it would become a branch.
 #[inline(always)]
 fn put_width(room: &mut [u8], from: usize, size: Size) -> usize
     requires room { from + 4 ≤ length room.old }
@@ -333,11 +305,9 @@ fn put_width(room: &mut [u8], from: usize, size: Size) -> usize
     ensures same { length room.new ≡ length room.old }
     ensures end { result ≤ from + 4 }
 {
-    let count = size.byte_count() as usize;
-    let is_long = count >= 2;
-    let len = 3 + is_long as usize;
-    let _all = put_four_of(room, from, WIDTHS, 4 * (count / 2));
-    from + len
+    let lens = WIDTH_LENS;
+    let number = size as usize;
+    put_entry(room, from, WIDTHS, 4, number, lens[number] as usize)
 }
 
 /// The bytes of a value of this size, the most significant first, and then others. No branch depends on the size.
@@ -345,7 +315,17 @@ fn put_width(room: &mut [u8], from: usize, size: Size) -> usize
 fn value_bytes(size: Size, value: u32) -> [u8; 4]
     ensures { take (byte_count size) result ≡ bytes_of_value size value }
 {
-    (value << (32 - 8 * size.byte_count() as u32)).to_be_bytes()
+    let shifts = VALUE_SHIFTS;
+    (value << shifts[size as usize]).to_be_bytes()
+}
+
+/// How many bytes a value of this size has. No branch depends on the size.
+#[inline(always)]
+fn value_len(size: Size) -> usize
+    ensures { result ≡ byte_count size }
+{
+    let lens = VALUE_LENS;
+    lens[size as usize] as usize
 }
 
 /// Puts the word of a width, and the value in hexadecimal with as many digits as its bytes have.
@@ -357,10 +337,5 @@ pub(crate) fn put_value(room: &mut [u8], from: usize, size: Size, value: u32) ->
     ensures end { result ≤ from + NUMBER_ROOM }
 {
     let from = put_width(room, from, size);
-    put_hex_front(
-        room,
-        from,
-        &value_bytes(size, value),
-        size.byte_count() as usize,
-    )
+    put_hex_front(room, from, &value_bytes(size, value), value_len(size))
 }

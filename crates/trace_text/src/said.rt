@@ -15,7 +15,7 @@ ghost use Rattle.trace_text.specs.declared.remark.Remark.TheVariants.{None as No
 use crate::digits::Digits;
 use crate::lengths::{few_digits, few_half_digits, few_id_digits};
 use crate::lines::{EVENT_ROOM, put_half, put_source, put_stp_line};
-use crate::room::{ITEM_ROOM, put_byte, put_digits, put_eight_of, put_four_of};
+use crate::room::{ITEM_ROOM, put_byte, put_digits, put_entry};
 use crate::said_tables::{
     DIGIT_COUNTS, MARK_LENS, MARKS, PLACE_COUNTS, WIDTH_LENS, WIDTHS, WORD_LENS, WORDS, WRITTEN,
 };
@@ -99,8 +99,7 @@ fn put_word(room: &mut [u8], from: usize, number: u8) -> usize
     ensures same { length room.new ≡ length room.old }
     ensures end { result ≤ from + 8 }
 {
-    let _all = put_eight_of(room, from, WORDS, 8 * number as usize);
-    from + word_len(number)
+    put_entry(room, from, WORDS, 8, number as usize, word_len(number))
 }
 
 /// Puts what is after the place.
@@ -113,8 +112,7 @@ fn put_width(room: &mut [u8], from: usize, number: u8) -> usize
     ensures same { length room.new ≡ length room.old }
     ensures end { result ≤ from + 8 }
 {
-    let _all = put_eight_of(room, from, WIDTHS, 8 * number as usize);
-    from + width_len(number)
+    put_entry(room, from, WIDTHS, 8, number as usize, width_len(number))
 }
 
 /// Puts the value, as hexadecimal digits. No branch depends on how many they are, also where there are none.
@@ -145,8 +143,7 @@ fn put_mark(room: &mut [u8], from: usize, number: u8) -> usize
     ensures same { length room.new ≡ length room.old }
     ensures end { result ≤ from + 4 }
 {
-    let _all = put_four_of(room, from, MARKS, 4 * number as usize);
-    from + mark_len(number)
+    put_entry(room, from, MARKS, 4, number as usize, mark_len(number))
 }
 
 /// Puts a datum, a flag, a trigger or a NULL_TS, whose place is kept.

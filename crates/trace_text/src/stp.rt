@@ -10,10 +10,10 @@ ghost use Rattle.trace_text.specs.StpText.{known_text, place_text, datum_text, m
 
 use crate::digits::Digits;
 use crate::room::{
-    ITEM_ROOM, MEDIUM_ROOM, NUMBER_ROOM, PART_ROOM, put_byte, put_bytes, put_digits, put_four_of,
+    ITEM_ROOM, MEDIUM_ROOM, NUMBER_ROOM, PART_ROOM, put_byte, put_bytes, put_digits, put_entry,
     put_medium, put_number, put_short,
 };
-use crate::tables::{DATUM_WIDTHS, MARKS};
+use crate::tables::{DATUM_DIGITS, DATUM_WIDTH_LENS, DATUM_WIDTHS, MARKS};
 use stp_grammar::item::{Place, Stamp, StpItem};
 use stp_grammar::packet::Width;
 use trace_clock::word_nibbles;
@@ -81,15 +81,11 @@ fn put_datum(room: &mut [u8], from: usize, width: Width, value: u64) -> usize
     ensures same { length room.new ≡ length room.old }
     ensures end { result ≤ from + VALUE_ROOM }
 {
-    let (start, len, count) = match width {
-        Width::Four => (0, 3, 1),
-        Width::Eight => (4, 3, 2),
-        Width::Sixteen => (8, 4, 4),
-        Width::ThirtyTwo => (12, 4, 8),
-        Width::SixtyFour => (16, 4, 16),
-    };
-    let _all = put_four_of(room, from, DATUM_WIDTHS, start);
-    put_nibbles(room, from + len, count, value)
+    let lens = DATUM_WIDTH_LENS;
+    let counts = DATUM_DIGITS;
+    let number = width as usize;
+    let from = put_entry(room, from, DATUM_WIDTHS, 4, number, lens[number] as usize);
+    put_nibbles(room, from, counts[number], value)
 }
 
 /// Puts a timestamp: `-`, `n=N`, `g=N`, or `r=` and its word's nibbles.
@@ -126,8 +122,7 @@ fn put_mark(room: &mut [u8], from: usize, marked: bool) -> usize
     ensures same { length room.new ≡ length room.old }
     ensures end { result ≡ from + 3 }
 {
-    let _all = put_four_of(room, from, MARKS, 4 * marked as usize);
-    from + 3
+    put_entry(room, from, MARKS, 4, marked as usize, 3)
 }
 
 /// Puts what was written, with its place and its timestamp: `data M C uB V K T`.

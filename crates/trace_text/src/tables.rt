@@ -40,16 +40,34 @@ pub(crate) const HEX_PAIRS: &[u8] = b"\
     c8c9cacbcccdcecfd0d1d2d3d4d5d6d7d8d9dadbdcdddedfe0e1e2e3e4e5e6e7e8e9eaebecedeeef\
     f0f1f2f3f4f5f6f7f8f9fafbfcfdfeff";
 
-/// The word of each width with a space after it: of one byte, of two, and of four. The bytes after it are of no
-/// account.
+/// The word of each width with a space after it, in four bytes: of one byte, of two, and of four. The bytes after it are
+/// of no account.
 pub(crate) const WIDTHS: &[u8] = b"u8  u16 u32 ";
+
+/// How many of these bytes there are.
+pub(crate) const WIDTH_LENS: &[u8] = &[3, 4, 4];
+
+/// How many bytes a value of each of these widths has.
+pub(crate) const VALUE_LENS: &[u8] = &[1, 2, 4];
+
+/// By how many bits a value of each of these widths is moved up, so that its bytes are the first of four.
+pub(crate) const VALUE_SHIFTS: &[u8] = &[24, 16, 0];
 
 /// The words of the widths of data, each with a space after it, in four bytes: those of 4, 8, 16, 32 and 64 bits.
 pub(crate) const DATUM_WIDTHS: &[u8] = b"u4  u8  u16 u32 u64 ";
 
+/// How many of these bytes there are.
+pub(crate) const DATUM_WIDTH_LENS: &[u8] = &[3, 3, 4, 4, 4];
+
+/// How many hexadecimal digits a datum of each of these widths has.
+pub(crate) const DATUM_DIGITS: &[u8] = &[1, 2, 4, 8, 16];
+
 /// How late a local timestamp is, with a space after it, in twelve bytes: exact, then by its stamp, by its packet, and by
 /// both. The bytes after it are of no account.
 pub(crate) const LATENESSES: &[u8] = b"exact       stamp-late  packet-late both-late   ";
+
+/// How many of these bytes there are.
+pub(crate) const LATENESS_LENS: &[u8] = &[6, 11, 12, 10];
 
 /// The flags of a first global timestamp, each with a space before it, in four bytes: first by whether the clock changed,
 /// then by whether the time wrapped.

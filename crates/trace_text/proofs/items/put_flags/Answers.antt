@@ -4,5 +4,5 @@ use Rattle.trace_text.proofs.items.put_flags.Goals as goal
 
 pub returns-clause-text : goal.returns-clause-text
 returns-clause-text c =
-    c.put_four_of.ensures.text
+    c.put_entry.ensures.text
     ∙ ap (λ (l : List ℕ). take c.args.from c.args.room.now ++ l) (flags c.args.change c.args.wrap)

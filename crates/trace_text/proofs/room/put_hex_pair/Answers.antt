@@ -4,5 +4,5 @@ use Rattle.trace_text.proofs.room.put_hex_pair.Goals as goal
 
 pub returns-clause-text : goal.returns-clause-text
 returns-clause-text c =
-    c.put_two_of.ensures.text
+    c.put_entry.ensures.text
     ∙ ap (λ (l : List ℕ). take c.args.from c.args.room.now ++ l) (hex_pairs c.args.byte c.ranges.byte.fits)

@@ -1,26 +1,18 @@
-use Rattle.std.proofs.Common.{List, ℕ, ◌+◌, ◌*◌, ◌++◌, length, take, drop, sym, ◌∙◌, ap, arith}
-use Rattle.stp_grammar.specs.Opcodes.{row_at}
+use Rattle.std.proofs.Common.{List, ℕ, ◌*◌, ◌++◌, take, drop, ◌∙◌, ap, arith}
 use Rattle.trace_text.specs.declared.said_tables.TheConstants.{MARKS}
-use Rattle.trace_text.specs.SaidText.{mark_at}
-use Rattle.trace_text.proofs.Fronts.{part}
 use Rattle.trace_text.proofs.SaidTables.{mark_is, mark_few}
 use Rattle.trace_text.proofs.said.put_mark.Goals as goal
+
+pub put_entry-requires-clause-few : goal.put_entry-requires-clause-few
+put_entry-requires-clause-few c =
+    let few = mark_few c.args.number c.requires.number in
+    let e = c.mark_len.ensures in
+    omega arith
 
 pub returns-clause-text : goal.returns-clause-text
 returns-clause-text c =
     let n = c.args.number in
-    let room = c.requires.room in
-    let all = c.put_four_of-all.ensures in
-    let same = all.same in
-    let len = length (mark_at (row_at n)) in
-    ap (λ (k : ℕ). take (c.args.from + k) c.put_four_of-all.new.room) c.mark_len.ensures
-    ∙ part c.args.from len 4 c.args.room.now c.put_four_of-all.new.room
-    (take 4 (drop (4 * n) MARKS.now)) (omega arith)
-    (ap (λ (k : ℕ). take k c.put_four_of-all.new.room) (sym all.end) ∙ all.text) (mark_few n c.requires.number) (omega arith)
-    ∙ ap (λ (l : List ℕ). take c.args.from c.args.room.now ++ l) (mark_is n c.requires.number c.requires.written)
-
-pub returns-clause-end : goal.returns-clause-end
-returns-clause-end c =
-    let few = mark_few c.args.number c.requires.number in
-    let e = c.mark_len.ensures in
-    omega arith
+    let old = take c.args.from c.args.room.now in
+    c.put_entry.ensures.text
+    ∙ ap (λ (k : ℕ). old ++ take k (drop (4 * n) MARKS.now)) c.mark_len.ensures
+    ∙ ap (λ (l : List ℕ). old ++ l) (mark_is n c.requires.number c.requires.written)

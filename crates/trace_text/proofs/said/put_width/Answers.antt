@@ -1,26 +1,18 @@
-use Rattle.std.proofs.Common.{List, ℕ, ◌+◌, ◌*◌, ◌++◌, length, take, drop, sym, ◌∙◌, ap, arith}
-use Rattle.stp_grammar.specs.Opcodes.{row_at}
+use Rattle.std.proofs.Common.{List, ℕ, ◌*◌, ◌++◌, take, drop, ◌∙◌, ap, arith}
 use Rattle.trace_text.specs.declared.said_tables.TheConstants.{WIDTHS}
-use Rattle.trace_text.specs.SaidText.{width_at}
-use Rattle.trace_text.proofs.Fronts.{part}
 use Rattle.trace_text.proofs.SaidTables.{width_is, width_few}
 use Rattle.trace_text.proofs.said.put_width.Goals as goal
+
+pub put_entry-requires-clause-few : goal.put_entry-requires-clause-few
+put_entry-requires-clause-few c =
+    let few = width_few c.args.number c.requires.number in
+    let e = c.width_len.ensures in
+    omega arith
 
 pub returns-clause-text : goal.returns-clause-text
 returns-clause-text c =
     let n = c.args.number in
-    let room = c.requires.room in
-    let all = c.put_eight_of-all.ensures in
-    let same = all.same in
-    let len = length (width_at (row_at n)) in
-    ap (λ (k : ℕ). take (c.args.from + k) c.put_eight_of-all.new.room) c.width_len.ensures
-    ∙ part c.args.from len 8 c.args.room.now c.put_eight_of-all.new.room
-    (take 8 (drop (8 * n) WIDTHS.now)) (omega arith)
-    (ap (λ (k : ℕ). take k c.put_eight_of-all.new.room) (sym all.end) ∙ all.text) (width_few n c.requires.number) (omega arith)
-    ∙ ap (λ (l : List ℕ). take c.args.from c.args.room.now ++ l) (width_is n c.requires.number c.requires.written)
-
-pub returns-clause-end : goal.returns-clause-end
-returns-clause-end c =
-    let few = width_few c.args.number c.requires.number in
-    let e = c.width_len.ensures in
-    omega arith
+    let old = take c.args.from c.args.room.now in
+    c.put_entry.ensures.text
+    ∙ ap (λ (k : ℕ). old ++ take k (drop (8 * n) WIDTHS.now)) c.width_len.ensures
+    ∙ ap (λ (l : List ℕ). old ++ l) (width_is n c.requires.number c.requires.written)
