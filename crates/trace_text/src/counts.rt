@@ -12,7 +12,7 @@ use trace_values::SourceId;
 pub const SOURCE_COUNTS_ROOM: usize = 58;
 
 /// How many full and half synchronisations and frames a port has: `full N`, `half N`, `frames N`.
-#[derive(Clone, Copy, Debug)]
+#[derive(Clone, Copy)]
 pub struct PortCountsLines {
     pub fulls: u64,
     pub halves: u64,
@@ -36,7 +36,7 @@ impl Text for PortCountsLines {
 }
 
 /// How many items an exercise has, and how many bytes its capture: `items N`, `capture N`.
-#[derive(Clone, Copy, Debug)]
+#[derive(Clone, Copy)]
 pub struct ExerciseLines {
     pub items: u32,
     pub capture: u64,

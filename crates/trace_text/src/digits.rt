@@ -10,7 +10,7 @@ use stp_grammar::item::{Place, StpItem};
 
 /// The digits of a number but for its last two, and the text of a place, which are the same in most lines that follow
 /// one another.
-#[derive(Debug, Drop)]
+#[derive(Drop)]
 pub struct Digits {
     hundreds: u64,
     digits: [u8; 20],

@@ -10,13 +10,13 @@ use source_events::{PortMode, SourceKind, SourceTail, Tails};
 use trace_stream::{OUTLET_ROOM, Outlet, TEXT_ROOM, Text};
 
 /// How many bytes were read: `end N`.
-#[derive(Clone, Copy, Debug)]
+#[derive(Clone, Copy)]
 pub struct EndLine {
     pub bytes: u64,
 }
 
 /// How the port was read: `port MODE skipped S tail T unattributed U`.
-#[derive(Clone, Copy, Debug)]
+#[derive(Clone, Copy)]
 pub struct PortEndLine {
     pub mode: PortMode,
     /// Bytes before the first full synchronisation.
@@ -28,7 +28,7 @@ pub struct PortEndLine {
 }
 
 /// How a mapped source was read: `ID itm MODE skipped S tail T`, or `ID stp MODE skipped S tail T`.
-#[derive(Clone, Copy, Debug)]
+#[derive(Clone, Copy)]
 pub struct SourceEndLine {
     pub source: SourceTail,
 }

@@ -12,7 +12,7 @@ use trace_values::Reason;
 
 /// The line of a fault of the port, `fault AT port R NAME`, or of a source, `fault AT ID R NAME`, with `AT.H` for an
 /// STP source.
-#[derive(Clone, Copy, Debug)]
+#[derive(Clone, Copy)]
 pub struct FaultLine {
     pub stop: Stop,
     /// Its source is an STP source.

@@ -9,13 +9,13 @@ use crate::room::{put_byte, put_bytes, put_digits, put_number, put_short, put_sl
 use trace_stream::Text;
 
 /// The last bytes up to a fault, at most `RECENT_ROOM`, in hexadecimal: `last H`.
-#[derive(Clone, Copy, Debug)]
+#[derive(Clone, Copy)]
 pub struct LastLine<'a> {
     pub bytes: &'a [u8],
 }
 
 /// The first fault of a script: `line N R NAME`, with the line's number, and the fault's number and name.
-#[derive(Clone, Copy, Debug)]
+#[derive(Clone, Copy)]
 pub struct ScriptFaultLine<'a> {
     /// From 1 on.
     pub line: u64,
@@ -25,13 +25,13 @@ pub struct ScriptFaultLine<'a> {
 }
 
 /// The most bytes of input, of which the capture has more: `limit N`.
-#[derive(Clone, Copy, Debug)]
+#[derive(Clone, Copy)]
 pub struct LimitLine {
     pub limit: u64,
 }
 
 /// What was not written of realigned bits: `skipped S dropped D patterns P`.
-#[derive(Clone, Copy, Debug)]
+#[derive(Clone, Copy)]
 pub struct SlippedLine {
     /// The bits before the first pattern.
     pub skipped: u64,
@@ -42,7 +42,7 @@ pub struct SlippedLine {
 }
 
 /// A trace buffer after its last byte: `pointer P full F dropped D`.
-#[derive(Clone, Copy, Debug)]
+#[derive(Clone, Copy)]
 pub struct BufferLine {
     /// Where the next byte would go.
     pub pointer: u64,
@@ -53,7 +53,7 @@ pub struct BufferLine {
 }
 
 /// The size in bytes that an image does not have: `image isn't N bytes`.
-#[derive(Clone, Copy, Debug)]
+#[derive(Clone, Copy)]
 pub struct ImageLine {
     pub size: u64,
 }

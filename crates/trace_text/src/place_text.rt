@@ -11,7 +11,7 @@ use stp_grammar::item::Place;
 pub(crate) const PLACE_COPY: usize = 16;
 
 /// The text of the last place, which is that of most items that follow.
-#[derive(Debug, Drop)]
+#[derive(Drop)]
 pub(crate) struct PlaceText {
     place: Place,
     text: [u8; PLACE_COPY],

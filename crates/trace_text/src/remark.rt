@@ -1,7 +1,7 @@
 //! What a line says beside its packet.
 
 /// What is beside a packet in its line: the time that it makes known.
-#[derive(Clone, Copy, Debug, PartialEq, Eq, Drop)]
+#[derive(Clone, Copy, Drop)]
 pub enum Remark {
     /// Nothing.
     None,
