@@ -3,7 +3,7 @@
 use itm_grammar::packet::{ItmPacket, Lateness, Size};
 
 /// A packet in its three forms.
-#[derive(Clone, Copy, Debug, Drop)]
+#[derive(Clone, Copy, Drop)]
 pub struct ItmRow {
     pub packet: ItmPacket,
     /// Its shortest spelling.

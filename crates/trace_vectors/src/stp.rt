@@ -4,7 +4,7 @@ use stp_grammar::item::{Place, Stamp, StpItem};
 use stp_grammar::packet::Width;
 
 /// A packet, alone, before any version and any master.
-#[derive(Clone, Copy, Debug, Drop)]
+#[derive(Clone, Copy, Drop)]
 pub struct StpRow {
     /// Its nibbles in the order in which they are sent, as hexadecimal digits.
     pub nibbles: &'static str,
@@ -130,7 +130,7 @@ pub const STP_PACKETS: [StpRow; 37] = [
 ];
 
 /// An item and its text.
-#[derive(Clone, Copy, Debug, Drop)]
+#[derive(Clone, Copy, Drop)]
 pub struct StpItemRow {
     pub item: StpItem,
     pub text: &'static str,
