@@ -167,45 +167,6 @@ fn reads_each_packet_in_parts(rt: HostRuntime) {
     }
 }
 
-/// Bytes that end with the first pattern, or have none, and the bytes before the pattern.
-#[test]
-fn hunts_for_the_first_sync(rt: HostRuntime) {
-    let rows: [(&[u8], Option<u64>); 7] = [
-        (b"\0\0\0\0\0\x80", Some(0)),
-        (b"\x01\x41\0\0\0\0\0\x80", Some(2)),
-        (b"\0\0\0\0\0\0\0\x80", Some(2)),
-        (b"\0\0\0\0\x80\0\0\0\0\0\x80", Some(5)),
-        (b"\0\0\0\0\0\x81\0\0\0\0\0\x80", Some(6)),
-        (b"\0\0\0\0\x80\0\0\0\0", None),
-        (b"\x03\xff\x80\x80\0\x70", None),
-    ];
-    for (bytes, before) in rows {
-        let mut decoder = ItmDecoder::hunting();
-        assert!(rt; bytes.len() < 100);
-        for i in 0..bytes.len() {
-            let step = answer(&rt, &mut decoder, i as u64, bytes[i]);
-            assert!(rt; decoder.is_live());
-            let lock = match before {
-                Some(skipped) if i + 1 == bytes.len() => Some(skipped),
-                _ => None,
-            };
-            let skipped = lock.unwrap_or(i as u64 + 1);
-            let expected = match lock {
-                Some(skipped) => Step::Locked {
-                    skipped,
-                    half: 0,
-                    item: ItmPacket::Sync,
-                },
-                None => Step::Skipping,
-            };
-            same(&rt, &(&bytes, &i), &step, &expected);
-            same(&rt, &(&bytes, &i), &decoder.is_locked(), &lock.is_some());
-            same(&rt, &(&bytes, &i), &decoder.skipped(), &skipped);
-            same(&rt, &(&bytes, &i), &decoder.held(), &0);
-        }
-    }
-}
-
 /// What a header alone is, by its high and its low nibble: a packet, no packet, or the beginning of one.
 fn alone(header: u8) -> Step<ItmPacket> {
     let high = header >> 4;
@@ -236,41 +197,6 @@ fn reads_each_header_alone(rt: HostRuntime) {
         if decoder.is_live() {
             let held = if step == Step::Quiet { 1 } else { 0 };
             same(&rt, &header, &decoder.held(), &held);
-        }
-    }
-}
-
-/// Bytes of which the last breaks the grammar.
-#[test]
-fn ends_at_a_fault(rt: HostRuntime) {
-    let rows: [(&[u8], Reason); 11] = [
-        (b"\x80", Reason::ReservedHeader),
-        (b"\x04", Reason::ReservedHeader),
-        (b"\0\0\0\0\x80", Reason::BadItmSync),
-        (b"\0\0\0\0\0\0\x01", Reason::BadItmSync),
-        (b"\xc0\x80\x80\x80\x80", Reason::LongStamp),
-        (b"\x94\x80\x80\x80\xc0", Reason::LongStamp),
-        (b"\xb4\x82\x80\x80\x80\x80\x80", Reason::LongStamp),
-        (b"\xb4\x02", Reason::ShortStamp),
-        (b"\xb4\x82\x80\x02", Reason::ShortStamp),
-        (b"\xb4\x82\x80\x80\x80\0", Reason::ShortStamp),
-        (b"\0\x70", Reason::BadItmSync),
-    ];
-    for (bytes, reason) in rows {
-        let mut decoder = ItmDecoder::aligned();
-        assert!(rt; bytes.len() < 100);
-        for i in 0..bytes.len() {
-            let at = i as u64;
-            let step = answer(&rt, &mut decoder, at, bytes[i]);
-            let is_last = i + 1 == bytes.len();
-            let fault = Step::Fault(Fault {
-                at,
-                half: 0,
-                reason,
-            });
-            let expected = if is_last { fault } else { Step::Quiet };
-            same(&rt, &(&bytes, &i), &step, &expected);
-            same(&rt, &(&bytes, &i), &decoder.is_live(), &(!is_last));
         }
     }
 }

@@ -29,8 +29,6 @@ mod port_sync_tests;
 #[cfg(test)]
 mod same;
 #[cfg(test)]
-mod script_rebuild_tests;
-#[cfg(test)]
 mod script_text_tests;
 #[cfg(test)]
 mod source_counts_tests;

@@ -173,154 +173,19 @@ fn read(rt: &impl Abort, order: Order, text: &[u8]) -> Next<Partial, StpPacket> 
 }
 
 #[test]
-fn names_each_fault(rt: HostRuntime) {
-    let rows: [(&[u8], Reason); 18] = [
-        (b"F02", Reason::Unsupported),
-        (b"F03", Reason::Unsupported),
-        (b"F04", Reason::Unsupported),
-        (b"F05", Reason::Unsupported),
-        (b"F0A", Reason::Unsupported),
-        (b"F0B", Reason::Unsupported),
-        (b"F0C", Reason::Unsupported),
-        (b"F0D", Reason::Unsupported),
-        (b"F0E", Reason::Unsupported),
-        (b"F0F", Reason::Unsupported),
-        (b"EF", Reason::StampSize),
-        (b"F01F", Reason::StampSize),
-        (b"841F", Reason::StampSize),
-        (b"FF0", Reason::BadAsync),
-        (b"FF1", Reason::BadAsync),
-        (b"FFFFFFFFFFFFFFFFFFFF0", Reason::BadAsync),
-        (b"FFFFFFFFFFFFFFFFFFFFF1", Reason::BadAsync),
-        (b"FFFFFFFFFFFFFFFFFFFFFFE", Reason::BadAsync),
+fn reads_packets_nibble_by_nibble(rt: HostRuntime) {
+    let flag = stamped(Row::Flag { stamped: true }, 0, 2, 0xFF);
+    let rows: [(&[u8], Next<Partial, StpPacket>); 6] = [
+        (b"FFFFFFFFFFFFFFFFFFFFF0", Next::End(StpPacket::Async)),
+        (b"E2FF", Next::End(flag)),
+        (b"444", Next::End(plain(byte(false, false), 0x44))),
+        (b"F02", Next::Fail(Reason::Unsupported)),
+        (b"841F", Next::Fail(Reason::StampSize)),
+        (b"FF1", Next::Fail(Reason::BadAsync)),
     ];
-    for (text, reason) in rows {
-        same(
-            &rt,
-            &text,
-            &read(&rt, Order::Msn, text),
-            &Next::Fail(reason),
-        );
-        same(
-            &rt,
-            &text,
-            &read(&rt, Order::Lsn, text),
-            &Next::Fail(reason),
-        );
-    }
-}
-
-/// What a nibble 0 says after this many nibbles F, at most 1000, with which the packet must go on.
-fn after_run(rt: &impl Abort, count: u64) -> Next<Partial, StpPacket> {
-    assert!(rt; count <= 1000);
-    let mut partial = Partial::Start;
-    for fed in 0..count {
-        match partial.with_nibble(Order::Msn, 15) {
-            Next::Go(next) => partial = next,
-            says => return says,
-        }
-        same(rt, &"partial.len()", &partial.len(), &(fed + 1));
-    }
-    partial.with_nibble(Order::Msn, 0)
-}
-
-#[test]
-fn reads_synchronisations(rt: HostRuntime) {
-    same(
-        &rt,
-        &"after_run(&rt, 2)",
-        &after_run(&rt, 2),
-        &Next::Fail(Reason::BadAsync),
-    );
-    same(
-        &rt,
-        &"after_run(&rt, 20)",
-        &after_run(&rt, 20),
-        &Next::Fail(Reason::BadAsync),
-    );
-    same(
-        &rt,
-        &"after_run(&rt, 21)",
-        &after_run(&rt, 21),
-        &Next::End(StpPacket::Async),
-    );
-    same(
-        &rt,
-        &"after_run(&rt, 22)",
-        &after_run(&rt, 22),
-        &Next::End(StpPacket::Async),
-    );
-    same(
-        &rt,
-        &"after_run(&rt, 1000)",
-        &after_run(&rt, 1000),
-        &Next::End(StpPacket::Async),
-    );
-}
-
-#[test]
-fn reads_stamps_of_each_size(rt: HostRuntime) {
-    let row = Row::Flag { stamped: true };
-    // The greatest words, least significant nibble first and last alike; 1 with the least significant nibble last.
-    let rows: [(&[u8], &[u8], u8, u64); 14] = [
-        (b"E1F", b"E11", 1, 0xF),
-        (b"E2FF", b"E201", 2, 0xFF),
-        (b"E3FFF", b"E3001", 3, 0xFFF),
-        (b"E4FFFF", b"E40001", 4, 0xFFFF),
-        (b"E5FFFFF", b"E500001", 5, 0xF_FFFF),
-        (b"E6FFFFFF", b"E6000001", 6, 0xFF_FFFF),
-        (b"E7FFFFFFF", b"E70000001", 7, 0xFFF_FFFF),
-        (b"E8FFFFFFFF", b"E800000001", 8, 0xFFFF_FFFF),
-        (b"E9FFFFFFFFF", b"E9000000001", 9, 0xF_FFFF_FFFF),
-        (b"EAFFFFFFFFFF", b"EA0000000001", 10, 0xFF_FFFF_FFFF),
-        (b"EBFFFFFFFFFFF", b"EB00000000001", 11, 0xFFF_FFFF_FFFF),
-        (b"ECFFFFFFFFFFFF", b"EC000000000001", 12, 0xFFFF_FFFF_FFFF),
-        (
-            b"EDFFFFFFFFFFFFFF",
-            b"ED00000000000001",
-            13,
-            0xFF_FFFF_FFFF_FFFF,
-        ),
-        (
-            b"EEFFFFFFFFFFFFFFFF",
-            b"EE0000000000000001",
-            14,
-            0xFFFF_FFFF_FFFF_FFFF,
-        ),
-    ];
-    let stamped = |size, word| {
-        Next::End(StpPacket::Stamped {
-            row,
-            payload: 0,
-            size,
-            word,
-        })
-    };
-    same(
-        &rt,
-        &"read(&rt, Order::Msn, b'E0')",
-        &read(&rt, Order::Msn, b"E0"),
-        &stamped(0, 0),
-    );
-    for (greatest, one, size, word) in rows {
-        same(
-            &rt,
-            &"read(&rt, Order::Msn, greatest)",
-            &read(&rt, Order::Msn, greatest),
-            &stamped(size, word),
-        );
-        same(
-            &rt,
-            &"read(&rt, Order::Lsn, greatest)",
-            &read(&rt, Order::Lsn, greatest),
-            &stamped(size, word),
-        );
-        same(
-            &rt,
-            &"read(&rt, Order::Msn, one)",
-            &read(&rt, Order::Msn, one),
-            &stamped(size, 1),
-        );
+    for (text, says) in rows {
+        same(&rt, &text, &read(&rt, Order::Msn, text), &says);
+        same(&rt, &text, &read(&rt, Order::Lsn, text), &says);
     }
 }
 
@@ -337,20 +202,12 @@ fn stamped(row: Row, payload: u64, size: u8, word: u64) -> StpPacket {
     }
 }
 
-fn flag(size: u8, word: u64) -> StpPacket {
-    stamped(Row::Flag { stamped: true }, 0, size, word)
-}
-
 fn byte(marked: bool, stamped: bool) -> Row {
     Row::Datum {
         width: Width::Eight,
         marked,
         stamped,
     }
-}
-
-fn place(master: Option<u16>, channel: Option<u16>) -> Place {
-    Place { master, channel }
 }
 
 /// The item of the last of these packets.
@@ -365,162 +222,25 @@ fn last_item(rt: &impl Abort, packets: &[StpPacket]) -> Option<StpItem> {
 }
 
 #[test]
-fn tells_places(rt: HostRuntime) {
-    let datum = plain(byte(false, false), 0x41);
-    let version = plain(Row::Version, 3);
-    let rows: [(&[StpPacket], Place); 13] = [
-        (&[datum], place(None, None)),
-        (&[version, datum], place(Some(0), Some(0))),
-        // M8 and C8 tell nothing of what is unknown, but M8 makes the channel 0.
-        (&[plain(Row::Master8, 5), datum], place(None, Some(0))),
-        (&[plain(Row::Channel8, 5), datum], place(None, None)),
-        (
-            &[plain(Row::Master16, 0x1234), datum],
-            place(Some(0x1234), Some(0)),
-        ),
-        (
-            &[plain(Row::Channel16, 0x1234), datum],
-            place(None, Some(0x1234)),
-        ),
-        (
-            &[
-                plain(Row::Master16, 0x1234),
-                plain(Row::Master8, 0x56),
-                datum,
-            ],
-            place(Some(0x1256), Some(0)),
-        ),
-        (
-            &[
-                plain(Row::Channel16, 0x1234),
-                plain(Row::Channel8, 0x56),
-                datum,
-            ],
-            place(None, Some(0x1256)),
-        ),
-        (
-            &[
-                version,
-                plain(Row::Master8, 7),
-                plain(Row::Channel8, 9),
-                datum,
-            ],
-            place(Some(7), Some(9)),
-        ),
-        // A master begins a channel anew, and a version both.
-        (
-            &[
-                plain(Row::Master16, 1),
-                plain(Row::Channel16, 2),
-                plain(Row::Master8, 3),
-                datum,
-            ],
-            place(Some(3), Some(0)),
-        ),
-        (
-            &[
-                plain(Row::Channel16, 2),
-                plain(Row::Master16, 0xFFFF),
-                datum,
-            ],
-            place(Some(0xFFFF), Some(0)),
-        ),
-        (
-            &[
-                plain(Row::Master16, 1),
-                plain(Row::Channel16, 2),
-                version,
-                datum,
-            ],
-            place(Some(0), Some(0)),
-        ),
-        // Errors and synchronisations change nothing.
-        (
-            &[
-                plain(Row::Master16, 1),
-                plain(Row::Channel16, 2),
-                plain(Row::MasterError, 9),
-                plain(Row::GlobalError, 9),
-                StpPacket::Async,
-                datum,
-            ],
-            place(Some(1), Some(2)),
-        ),
+fn tells_the_place_and_the_time(rt: HostRuntime) {
+    let packets = [
+        plain(Row::Version, 3),
+        plain(Row::Master8, 7),
+        plain(Row::Channel8, 9),
+        stamped(Row::NullStamp, 0, 4, 0x1234),
+        stamped(byte(true, true), 0x41, 1, 5),
     ];
-    for (packets, place) in rows {
-        let item = StpItem::Datum {
-            place,
-            width: Width::Eight,
-            value: 0x41,
-            marked: false,
-            stamp: Stamp::None,
-        };
-        same(&rt, &packets, &last_item(&rt, packets), &Some(item));
-    }
-}
-
-#[test]
-fn tells_times(rt: HostRuntime) {
-    let version = |number| plain(Row::Version, number);
-    let rows: [(&[StpPacket], Stamp); 13] = [
-        (
-            &[flag(2, 0xAB)],
-            Stamp::Raw {
-                size: 2,
-                word: 0xAB,
-            },
-        ),
-        (&[flag(0, 0)], Stamp::Raw { size: 0, word: 0 }),
-        (
-            &[version(5), flag(14, u64::MAX), flag(1, 5)],
-            Stamp::Raw { size: 1, word: 5 },
-        ),
-        (&[version(3), flag(0, 0)], Stamp::Natural(0)),
-        (&[version(3), flag(14, u64::MAX)], Stamp::Natural(u64::MAX)),
-        (
-            &[version(3), flag(4, 0x1234), flag(1, 5)],
-            Stamp::Natural(0x1235),
-        ),
-        (
-            &[version(3), flag(14, u64::MAX), flag(13, 0)],
-            Stamp::Natural(0xFF << 56),
-        ),
-        // A version begins the times anew, and a time before it counts for nothing.
-        (
-            &[version(3), flag(4, 0x1234), version(3), flag(1, 5)],
-            Stamp::Natural(5),
-        ),
-        (
-            &[flag(4, 0x1234), version(3), flag(1, 5)],
-            Stamp::Natural(5),
-        ),
-        (&[version(4), flag(14, 1 << 63)], Stamp::Gray(u64::MAX)),
-        (
-            &[version(4), flag(14, 1 << 63), flag(0, 0)],
-            Stamp::Gray(u64::MAX),
-        ),
-        (
-            &[version(4), flag(14, 1 << 63), flag(13, 1)],
-            Stamp::Gray(u64::MAX - 1),
-        ),
-        // Timestamps of all packets count.
-        (
-            &[
-                version(3),
-                stamped(byte(true, true), 0x41, 3, 0xABC),
-                stamped(Row::NullStamp, 0, 2, 0x12),
-                stamped(Row::Frequency { stamped: true }, 7, 1, 0xF),
-                flag(0, 0),
-            ],
-            Stamp::Natural(0xA1F),
-        ),
-    ];
-    for (packets, stamp) in rows {
-        match last_item(&rt, packets) {
-            Some(StpItem::Flag { stamp: told, .. }) => same(&rt, &packets, &told, &stamp),
-            _ => assert!(rt; false, "{packets:?}"),
-        }
-    }
+    let item = StpItem::Datum {
+        place: Place {
+            master: Some(7),
+            channel: Some(9),
+        },
+        width: Width::Eight,
+        value: 0x41,
+        marked: true,
+        stamp: Stamp::Natural(0x1235),
+    };
+    same(&rt, &packets, &last_item(&rt, &packets), &Some(item));
 }
 
 #[test]
