@@ -11,20 +11,8 @@ use Rattle.std.proofs.Math.Nat.{pow-zero, pow-suc, mul_comm, mul_assoc, add-mul,
 use Rattle.hex.specs.Hex.{lower_digits}
 use Rattle.trace_clock.specs.LastWord.{nibble_at}
 use Rattle.trace_text.specs.HexDigits.{hex_digits}
-use Rattle.script_text.proofs.Hexadecimals.{all_digits}
+use Rattle.script_text.proofs.Hexadecimals.{all_digits, and_left, and_right, both}
 use Rattle.script_laws.specs.Lowered.{lowered}
-
-pub and_left : (a b : Bool) → (a && b) ≡ true → a ≡ true
-and_left true b h = refl
-and_left false b h = cc
-
-pub and_right : (a b : Bool) → (a && b) ≡ true → b ≡ true
-and_right true b h = h
-and_right false b h = cc
-
-pub both : (a b : Bool) → a ≡ true → b ≡ true → (a && b) ≡ true
-both true b p q = q
-both false b p q = cc
 
 -- what holds of the digits 0 to 15, as a test, holds of each
 abbrev pub below : (ℕ → Bool) → ℕ → Bool

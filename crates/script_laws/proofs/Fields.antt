@@ -19,7 +19,7 @@ use Rattle.trace_text.specs.StpText.{known_text, stamp_text}
 use Rattle.decimal_words.specs.Numbers.{number_named}
 use Rattle.decimal_words.proofs.Numbers.{names_number}
 use Rattle.script_text.specs.Steps.{◌>>=◌}
-use Rattle.script_text.specs.Words.{word_of}
+use Rattle.script_text.specs.Words.{is_word, word_of}
 use Rattle.script_text.specs.Numbers.{hexadecimal_named}
 use Rattle.script_text.specs.Stamps.{size_with, raw_named, time_named, stamp_named}
 use Rattle.script_text.specs.Bytes.{decoded, bytes_named}
@@ -31,10 +31,10 @@ use Rattle.script_text.proofs.Hexadecimals.{said_is}
 use Rattle.script_text.proofs.Fields.{values_fit}
 use Rattle.script_text.proofs.Options.{bind_some, some_of, map_some}
 use Rattle.script_laws.specs.Lowered.{lowered}
-use Rattle.script_laws.proofs.Digits.{and_left, and_right, both, digits_length, digits_hexadecimal, digits_say}
+use Rattle.script_text.proofs.Hexadecimals.{and_left, and_right, both}
+use Rattle.script_laws.proofs.Digits.{digits_length, digits_hexadecimal, digits_say}
 use Rattle.script_laws.proofs.Digits.{digit_hexadecimal}
-use Rattle.script_laws.proofs.Joining.{is_word, are_all, decimal_word, hexadecimal_word, word_graphic, graphic_word}
-use Rattle.script_laws.proofs.Joining.{digits_graphic}
+use Rattle.script_text.proofs.Joining.{are_all, decimal_word, word_graphic, graphic_word, digits_graphic}
 use Rattle.script_laws.proofs.Lowering.{number_lowered, hexadecimal_lowered, stamp_lowered, bytes_lowered}
 
 -- the numbers of a kind are some that a word can say, and a fixed word is one in lower case
@@ -112,6 +112,11 @@ value_read Time stamp s h = stamp_read stamp h
 value_read Bytes bytes s h = bytes_read bytes h.0 h.1 h.2
 
 -- a text is one word
+hexadecimal_word : (n v : ℕ) → 0 < n → is_word (hex_digits n v) ≡ true
+hexadecimal_word n v h =
+    let len = digits_length n v in
+    graphic_word (hex_digits n v) (omega arith) (digits_graphic (hex_digits n v) (digits_hexadecimal n v))
+
 stamp_word : (stamp : Stamp) → IsProperStamp stamp → is_word (stamp_text stamp) ≡ true
 stamp_word NoStamp h = refl
 stamp_word (Natural time) h = word_graphic (decimal time) (decimal_word time h)

@@ -35,7 +35,7 @@ use Rattle.script_text.specs.declared.stp_shapes.StpShape.{StpShape}
 use Rattle.script_text.specs.declared.stp_shapes.StpShape.TheVariants as stp_shapes
 use Rattle.script_text.specs.declared.items.Item.{Item}
 use Rattle.script_text.specs.declared.items.Item.TheVariants.{Itm, Dwt, Stp, Raw}
-use Rattle.script_laws.proofs.Joining.{joined}
+use Rattle.script_text.proofs.Joining.{joined}
 use Rattle.std.specs.Prelude.{◌==◌, nat_le, IsSome}
 use Rattle.std.specs.Option.{ForSome}
 use Rattle.std.proofs.lemmas.Bool.Decides.{nat_tests}

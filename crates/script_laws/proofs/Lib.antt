@@ -1,5 +1,4 @@
 mod Digits
-mod Joining
 mod Lowering
 mod Fields
 mod Fitting

@@ -22,7 +22,7 @@ use Rattle.script_text.specs.VersionTwo.{flush_line, is_trigger, trigger_said, a
 use Rattle.script_text.proofs.NewLines.{two_by, too_many}
 use Rattle.script_laws.specs.Lowered.{lowered}
 use Rattle.script_laws.proofs.Digits.{below, below_holds, same_number}
-use Rattle.script_laws.proofs.Joining.{joined}
+use Rattle.script_text.proofs.Joining.{joined}
 use Rattle.script_laws.proofs.Items.{byte_is}
 use Rattle.script_laws.proofs.Lowering.{number_lowered, hexadecimal_lowered}
 use Rattle.script_laws.proofs.Fields.{low}

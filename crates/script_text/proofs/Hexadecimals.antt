@@ -22,6 +22,10 @@ pub and_right : (a b : Bool) → (a && b) ≡ true → b ≡ true
 and_right true b h = h
 and_right false b h = cc
 
+pub both : (a b : Bool) → a ≡ true → b ≡ true → (a && b) ≡ true
+both true b p q = q
+both false b p q = cc
+
 and_last : (a : Bool) → (a && true) ≡ a
 and_last true = refl
 and_last false = refl

@@ -1,6 +1,7 @@
 pub mod Splitting
 pub mod Unnamed
 pub mod Hexadecimals
+pub mod Joining
 pub mod DigitTable
 pub mod Options
 pub mod Fields

@@ -1,10 +1,12 @@
 -- Lines that are read from their bytes: their words, and what they say.
-use Rattle.std.proofs.Common.{◌≡◌, ℕ, zero, suc, append_assoc, length-append, ◌+◌, ◌-◌, ◌*◌, ◌<◌, ◌≤◌, ◌^◌, List, [], ◌∷◌, ◌++◌, length, take, drop, refl, sym, ◌∙◌, ap, subst, arith, Bool, true, false, Some, None, Option, Ok, Err, Result}
+use Rattle.std.proofs.Common.{◌≡◌, ℕ, zero, suc, append_assoc, length-append, ◌+◌, ◌-◌, ◌*◌, ◌<◌, ◌≤◌, ◌^◌, List, []}
+use Rattle.std.proofs.Common.{◌∷◌, ◌++◌, length, take, drop, refl, sym, ◌∙◌, ap, subst, arith, Bool, true, false, Some}
+use Rattle.std.proofs.Common.{None, Option, Ok, Err, Result}
 use Rattle.std.specs.Prelude.{slice_index, ◌==◌, ◌&&◌, nat_lt, nat_le, codes, decimal, ok_or, OnOk, if◌then◌else◌}
 use Rattle.std.specs.List.{list_all, AllPass}
 use Rattle.std.proofs.lemmas.List.Elements.{All-head, All-tail}
 use Rattle.hex.specs.Hex.{is_hex_digit}
-use Rattle.std.specs.Char.{is_ascii_hexdigit, digit_value}
+use Rattle.std.specs.Char.{digit_value}
 use Rattle.std.specs.Str.Parse.{AllDigits}
 use Rattle.std.proofs.lemmas.Bool.Decides.{nat_tests}
 use Rattle.std.proofs.lemmas.Str.{digit_value_digit}
@@ -26,59 +28,38 @@ use Rattle.script_text.specs.declared.lines.Line.{Line}
 use Rattle.script_text.specs.declared.lines.Line.TheVariants.{Nothing}
 use Rattle.script_text.specs.declared.line_fault.LineFault.{LineFault}
 use Rattle.script_text.specs.declared.line_fault.LineFault.TheVariants.{LongLine, BadLine, BadId, BadNumber}
-use Rattle.script_text.specs.Words.{is_graphic, are_printable, words_in, are_words}
+use Rattle.script_text.specs.Words.{is_graphic, is_word, are_printable, words_in, are_words}
 use Rattle.script_text.specs.Numbers.{hexadecimal_named}
 use Rattle.script_text.specs.Shapes.{shape_named}
 use Rattle.script_text.specs.Items.{itm_of, item_of}
 use Rattle.script_text.specs.Bytes.{bytes_named}
-use Rattle.script_text.specs.Lines.{taken_by, is_nothing, line_of_words, line_of_printable, line_of, answer, ◌>>=◌ as ◌>>ₗ◌}
-use Rattle.script_text.specs.Quick.{BeginsWith, BeginsWithNumber, BeginsWithDigits, SaysPacket, SaysItem, SaysFirst, IsItemOf, IsFirstLine, size_word}
+use Rattle.script_text.specs.Lines.{taken_by, is_nothing, line_of_words, line_of_printable, line_of, answer}
+use Rattle.script_text.specs.Lines.{◌>>=◌ as ◌>>ₗ◌}
+use Rattle.script_text.specs.Quick.{BeginsWith, BeginsWithNumber, BeginsWithDigits, SaysPacket, SaysItem, SaysFirst}
+use Rattle.script_text.specs.Quick.{IsItemOf, IsFirstLine}
+use Rattle.script_text.specs.Table.{size_word}
 use Rattle.script_text.specs.declared.quick.PacketLine.{PacketLine}
 use Rattle.script_text.specs.Said.{IsSaid}
 use Rattle.script_text.proofs.LineRanges.{words_said_on}
 use Rattle.script_text.proofs.Fields.{bytes_are}
-use Rattle.script_text.proofs.Hexadecimals.{and_left, and_right, hexadecimal_is, hexadecimal_small}
-use Rattle.script_text.proofs.Splitting.{IsWord, more_word, no_space, printable, end_of}
-
-both : (a b : Bool) → a ≡ true → b ≡ true → (a && b) ≡ true
-both true b p q = q
-both false b p q = cc
-
--- the words of a line with a word at its front
-pub record IsParted (line word rest : List ℕ) : Type 0 where
-  pub printable : are_printable line ≡ are_printable rest
-  pub words : words_in line ≡ word ∷ words_in rest
-
-parted_at : (word rest : List ℕ) → list_all is_graphic word ≡ true → IsParted (word ++ 32 ∷ rest) word rest
-parted_at [] rest h = record { printable = refl; words = refl }
-parted_at (c ∷ word) rest h =
-    let g = and_left (is_graphic c) (list_all is_graphic word) h in
-    let p = printable c g in
-    let s = no_space c g in
-    let more = parted_at word rest (and_right (is_graphic c) (list_all is_graphic word) h) in
-    let printed = more.printable in
-    let words = more.words in
-    record { printable = rw (p, printed) refl; words = rw (s, words) refl }
+use Rattle.script_text.proofs.Hexadecimals.{both, hexadecimal_is, hexadecimal_small}
+use Rattle.script_text.proofs.Joining.{are_all, joined, graphic_word, IsParted, parted_at, words_joined}
+use Rattle.script_text.proofs.Joining.{printable_joined, enough_room, decimal_graphic, decimal_word, digits_graphic}
+use Rattle.script_text.proofs.Splitting.{end_of}
 
 pub parted : (line word rest : List ℕ) → BeginsWith line word rest → IsParted line word rest
 parted line word rest b = subst (λ (l : List ℕ). IsParted l word rest) (sym b.all) (parted_at word rest b.graphic)
 
 -- what is before a byte, that byte, and what is after it
-pub split_at : (n : ℕ) (line : List ℕ) (end : ℕ) → n < length line → slice_index line n ≡ end → line ≡ take n line ++ end ∷ drop (suc n) line
+pub split_at : (n : ℕ) (line : List ℕ) (end : ℕ) → n < length line → slice_index line n ≡ end → line ≡ take n line
+    ++ end ∷ drop (suc n) line
 split_at n [] end l e = absurd (omega arith)
 split_at zero (b ∷ line) end l e = ap (λ (b : ℕ). b ∷ line) e
 split_at (suc n) (b ∷ line) end l e = ap (λ (l : List ℕ). b ∷ l) (split_at n line end (omega arith) e)
 
--- digits are printable
-graphic_decimal : (c : ℕ) → digit_value c < 10 → is_graphic c ≡ true
-graphic_decimal c h = grind (arith, nat_tests)
-
-decimal_graphic : (text : List ℕ) → AllDigits 10 text → list_all is_graphic text ≡ true
-decimal_graphic [] h = refl
-decimal_graphic (c ∷ text) h = both (is_graphic c) (list_all is_graphic text) (graphic_decimal c h.0) (decimal_graphic text h.1)
-
 -- numbers of at most three digits at the front
-number_begins : (line word rest : List ℕ) (n : ℕ) → n < 2 ^ 64 → line ≡ word ++ 32 ∷ rest → word ≡ decimal n → BeginsWithNumber line n rest
+number_begins : (line word rest : List ℕ) (n : ℕ) → n < 2 ^ 64 → line ≡ word ++ 32 ∷ rest → word ≡ decimal n →
+    BeginsWithNumber line n rest
 number_begins line word rest n h all e = record {
   all = all ∙ ap (λ (w : List ℕ). w ++ 32 ∷ rest) e;
   graphic = decimal_graphic (decimal n) (decimal_digits n h);
@@ -87,16 +68,20 @@ number_begins line word rest n h all e = record {
 one : (a s : ℕ) (rest : List ℕ) → 48 ≤ a → a ≤ 57 → s ≡ 32 → BeginsWithNumber (a ∷ (s ∷ rest)) (a - 48) rest
 one a s rest l h e =
     let d : digit_value a + 48 ≡ a = digit_value_digit a (l, h) in
-    let text : (a ∷ []) ≡ decimal (a - 48) = is_decimal (a ∷ []) (a - 48) (omega arith, λ z. refl) (omega arith) ((omega arith, tt), omega arith) in
+    let text : (a ∷ []) ≡ decimal (a - 48) =
+    is_decimal (a ∷ []) (a - 48) (omega arith, λ z. refl) (omega arith) ((omega arith, tt), omega arith) in
     number_begins (a ∷ (s ∷ rest)) (a ∷ []) rest (a - 48) (omega arith) (ap (λ (s : ℕ). a ∷ (s ∷ rest)) e) text
 
-two : (a b s : ℕ) (rest : List ℕ) → 49 ≤ a → a ≤ 57 → 48 ≤ b → b ≤ 57 → s ≡ 32 → BeginsWithNumber (a ∷ (b ∷ (s ∷ rest))) (10 * (a - 48) + (b - 48)) rest
+two : (a b s : ℕ) (rest : List ℕ) → 49 ≤ a → a ≤ 57 → 48 ≤ b → b ≤ 57 → s ≡ 32 →
+    BeginsWithNumber (a ∷ (b ∷ (s ∷ rest))) (10 * (a - 48) + (b - 48)) rest
 two a b s rest la ha lb hb e =
     let n = 10 * (a - 48) + (b - 48) in
     let da : digit_value a + 48 ≡ a = digit_value_digit a (omega arith, ha) in
     let db : digit_value b + 48 ≡ b = digit_value_digit b (lb, hb) in
-    let text : (a ∷ (b ∷ [])) ≡ decimal n = is_decimal (a ∷ (b ∷ [])) n (omega arith, λ z. absurd (omega arith)) (omega arith) ((omega arith, (omega arith, tt)), omega arith) in
-    number_begins (a ∷ (b ∷ (s ∷ rest))) (a ∷ (b ∷ [])) rest n (omega arith) (ap (λ (s : ℕ). a ∷ (b ∷ (s ∷ rest))) e) text
+    let text : (a ∷ (b ∷ [])) ≡ decimal n = is_decimal (a ∷ (b ∷ [])) n (omega arith, λ z. absurd (omega arith))
+    (omega arith) ((omega arith, (omega arith, tt)), omega arith) in
+    number_begins (a ∷ (b ∷ (s ∷ rest))) (a ∷ (b ∷ [])) rest n (omega arith)
+    (ap (λ (s : ℕ). a ∷ (b ∷ (s ∷ rest))) e) text
 
 three : (a b c s : ℕ) (rest : List ℕ) → 49 ≤ a → a ≤ 57 → 48 ≤ b → b ≤ 57 → 48 ≤ c → c ≤ 57 → s ≡ 32 →
     BeginsWithNumber (a ∷ (b ∷ (c ∷ (s ∷ rest)))) (10 * (10 * (a - 48) + (b - 48)) + (c - 48)) rest
@@ -105,126 +90,129 @@ three a b c s rest la ha lb hb lc hc e =
     let da : digit_value a + 48 ≡ a = digit_value_digit a (omega arith, ha) in
     let db : digit_value b + 48 ≡ b = digit_value_digit b (lb, hb) in
     let dc : digit_value c + 48 ≡ c = digit_value_digit c (lc, hc) in
-    let text : (a ∷ (b ∷ (c ∷ []))) ≡ decimal n = is_decimal (a ∷ (b ∷ (c ∷ []))) n (omega arith, λ z. absurd (omega arith)) (omega arith) ((omega arith, (omega arith, (omega arith, tt))), omega arith) in
-    number_begins (a ∷ (b ∷ (c ∷ (s ∷ rest)))) (a ∷ (b ∷ (c ∷ []))) rest n (omega arith) (ap (λ (s : ℕ). a ∷ (b ∷ (c ∷ (s ∷ rest)))) e) text
+    let text : (a ∷ (b ∷ (c ∷ []))) ≡ decimal n =
+    is_decimal (a ∷ (b ∷ (c ∷ []))) n (omega arith, λ z. absurd (omega arith)) (omega arith)
+    ((omega arith, (omega arith, (omega arith, tt))), omega arith) in
+    number_begins (a ∷ (b ∷ (c ∷ (s ∷ rest)))) (a ∷ (b ∷ (c ∷ []))) rest n (omega arith)
+    (ap (λ (s : ℕ). a ∷ (b ∷ (c ∷ (s ∷ rest)))) e) text
 
-pub one_digit : (line : List ℕ) (n : ℕ) → 4 ≤ length line → 48 ≤ slice_index line 0 → slice_index line 0 ≤ 57 → slice_index line 1 ≡ 32 →
+pub one_digit : (line : List ℕ) (n : ℕ) → 4 ≤ length line → 48 ≤ slice_index line 0 → slice_index line 0 ≤ 57 →
+    slice_index line 1 ≡ 32 →
     n ≡ slice_index line 0 - 48 → BeginsWithNumber line n (take (length line - 2) (drop 2 line))
 one_digit [] n len l h e is = absurd (omega arith)
 one_digit (a ∷ []) n len l h e is = absurd (omega arith)
 one_digit (a ∷ (s ∷ rest)) n len l h e is =
     let line = a ∷ (s ∷ rest) in
-    subst (BeginsWithNumber line n) (sym (end_of line 1)) (subst (λ (n : ℕ). BeginsWithNumber line n rest) (sym is) (one a s rest l h e))
+    subst (BeginsWithNumber line n) (sym (end_of line 1))
+    (subst (λ (n : ℕ). BeginsWithNumber line n rest) (sym is) (one a s rest l h e))
 
-pub two_digits : (line : List ℕ) (n : ℕ) → 4 ≤ length line → 49 ≤ slice_index line 0 → slice_index line 0 ≤ 57 → 48 ≤ slice_index line 1 → slice_index line 1 ≤ 57 →
-    slice_index line 2 ≡ 32 → n ≡ 10 * (slice_index line 0 - 48) + (slice_index line 1 - 48) → BeginsWithNumber line n (take (length line - 3) (drop 3 line))
+pub two_digits : (line : List ℕ) (n : ℕ) → 4 ≤ length line → 49 ≤ slice_index line 0 → slice_index line 0 ≤ 57 →
+    48 ≤ slice_index line 1 → slice_index line 1 ≤ 57 →
+    slice_index line 2 ≡ 32 → n ≡ 10 * (slice_index line 0 - 48) + (slice_index line 1 - 48) →
+    BeginsWithNumber line n (take (length line - 3) (drop 3 line))
 two_digits [] n len la ha lb hb e is = absurd (omega arith)
 two_digits (a ∷ []) n len la ha lb hb e is = absurd (omega arith)
 two_digits (a ∷ (b ∷ [])) n len la ha lb hb e is = absurd (omega arith)
 two_digits (a ∷ (b ∷ (s ∷ rest))) n len la ha lb hb e is =
     let line = a ∷ (b ∷ (s ∷ rest)) in
-    subst (BeginsWithNumber line n) (sym (end_of line 2)) (subst (λ (n : ℕ). BeginsWithNumber line n rest) (sym is) (two a b s rest la ha lb hb e))
+    subst (BeginsWithNumber line n) (sym (end_of line 2))
+    (subst (λ (n : ℕ). BeginsWithNumber line n rest) (sym is) (two a b s rest la ha lb hb e))
 
-pub three_digits : (line : List ℕ) (n : ℕ) → 4 ≤ length line → 49 ≤ slice_index line 0 → slice_index line 0 ≤ 57 → 48 ≤ slice_index line 1 → slice_index line 1 ≤ 57 →
+pub three_digits : (line : List ℕ) (n : ℕ) → 4 ≤ length line → 49 ≤ slice_index line 0 → slice_index line 0 ≤ 57 →
+    48 ≤ slice_index line 1 → slice_index line 1 ≤ 57 →
     48 ≤ slice_index line 2 → slice_index line 2 ≤ 57 → slice_index line 3 ≡ 32 →
-    n ≡ 10 * (10 * (slice_index line 0 - 48) + (slice_index line 1 - 48)) + (slice_index line 2 - 48) → BeginsWithNumber line n (take (length line - 4) (drop 4 line))
+    n ≡ 10 * (10 * (slice_index line 0 - 48) + (slice_index line 1 - 48)) + (slice_index line 2 - 48) →
+    BeginsWithNumber line n (take (length line - 4) (drop 4 line))
 three_digits [] n len la ha lb hb lc hc e is = absurd (omega arith)
 three_digits (a ∷ []) n len la ha lb hb lc hc e is = absurd (omega arith)
 three_digits (a ∷ (b ∷ [])) n len la ha lb hb lc hc e is = absurd (omega arith)
 three_digits (a ∷ (b ∷ (c ∷ []))) n len la ha lb hb lc hc e is = absurd (omega arith)
 three_digits (a ∷ (b ∷ (c ∷ (s ∷ rest)))) n len la ha lb hb lc hc e is =
     let line = a ∷ (b ∷ (c ∷ (s ∷ rest))) in
-    subst (BeginsWithNumber line n) (sym (end_of line 3)) (subst (λ (n : ℕ). BeginsWithNumber line n rest) (sym is) (three a b c s rest la ha lb hb lc hc e))
-
--- digits alone are a word
-pub graphic_hexadecimal : (c : ℕ) → is_ascii_hexdigit c ≡ true → is_graphic c ≡ true
-graphic_hexadecimal c h = grind (arith, nat_tests)
-
-pub hexadecimal_graphic : (text : List ℕ) → list_all is_ascii_hexdigit text ≡ true → list_all is_graphic text ≡ true
-hexadecimal_graphic [] h = refl
-hexadecimal_graphic (c ∷ text) h =
-    both (is_graphic c) (list_all is_graphic text) (graphic_hexadecimal c (and_left (is_ascii_hexdigit c) (list_all is_ascii_hexdigit text) h))
-    (hexadecimal_graphic text (and_right (is_ascii_hexdigit c) (list_all is_ascii_hexdigit text) h))
-
-hexadecimal_word : (text : List ℕ) → list_all is_ascii_hexdigit text ≡ true → IsWord text
-hexadecimal_word [] h = record { printable = refl; one = refl }
-hexadecimal_word (c ∷ text) h =
-    more_word c text (graphic_hexadecimal c (and_left (is_ascii_hexdigit c) (list_all is_ascii_hexdigit text) h))
-    (hexadecimal_word text (and_right (is_ascii_hexdigit c) (list_all is_ascii_hexdigit text) h))
-
-pub decimal_word : (text : List ℕ) → AllDigits 10 text → IsWord text
-decimal_word [] h = record { printable = refl; one = refl }
-decimal_word (c ∷ text) h = more_word c text (graphic_decimal c h.0) (decimal_word text h.1)
-
--- one more word
-pub some_words : (n : ℕ) (word : List ℕ) (words : List (List ℕ)) → 0 < length word → nat_lt n 8 ≡ true → are_words (n + 1) words ≡ true → are_words n (word ∷ words) ≡ true
-some_words n word words l h m =
-    let a : nat_lt 0 (length word) ≡ true = grind (arith, nat_tests) in
-    both (nat_lt 0 (length word) && nat_lt n 8) (are_words (n + 1) words) (both (nat_lt 0 (length word)) (nat_lt n 8) a h) m
-
-pub decimal_some : (n : ℕ) → n < 2 ^ 64 → 0 < length (decimal n)
-decimal_some n h = (decimal_has n (decimal n) h refl).0
+    subst (BeginsWithNumber line n) (sym (end_of line 3))
+    (subst (λ (n : ℕ). BeginsWithNumber line n rest) (sym is) (three a b c s rest la ha lb hb lc hc e))
 
 -- what words after an ID say, by their shape and item
-pub words_say : (plan : Plan) (id : List ℕ) (words : List (List ℕ)) (shape : Shape) (item : Item) → shape_named words ≡ Some shape → item_of shape words ≡ Some item →
+pub words_say : (plan : Plan) (id : List ℕ) (words : List (List ℕ)) (shape : Shape) (item : Item) →
+    shape_named words ≡ Some shape → item_of shape words ≡ Some item →
     line_of_words plan (id ∷ words) ≡ (ok_or (number_named 1 126 id) BadId >>ₗ λ n. taken_by (kind_of plan n) n item)
 unfolding line_of_words
 words_say plan id words shape item e f =
-    ap (λ (o : Option Shape). ok_or o BadLine >>ₗ λ shape. ok_or (number_named 1 126 id) BadId >>ₗ λ n. ok_or (item_of shape words) BadNumber >>ₗ λ item. taken_by (kind_of plan n) n item) e
-    ∙ ap (λ (o : Option Item). ok_or (number_named 1 126 id) BadId >>ₗ λ n. ok_or o BadNumber >>ₗ λ item. taken_by (kind_of plan n) n item) f
+    ap (λ (o : Option Shape). ok_or o BadLine >>ₗ λ shape. ok_or (number_named 1 126 id) BadId >>ₗ λ n.
+    ok_or (item_of shape words) BadNumber >>ₗ λ item. taken_by (kind_of plan n) n item) e
+    ∙ ap (λ (o : Option Item). ok_or (number_named 1 126 id) BadId >>ₗ λ n. ok_or o BadNumber >>ₗ λ item.
+    taken_by (kind_of plan n) n item) f
+
+-- and what they say, joined by spaces
+pub joined_says : (words : List (List ℕ)) (shape : Shape) (item : Item) → 0 < length words → length words ≤ 7 →
+    are_all words ≡ true → shape_named words ≡ Some shape → item_of shape words ≡ Some item →
+    SaysItem (joined words) item
+joined_says [] shape item some few all e f = absurd (omega arith)
+joined_says (word ∷ words) shape item some few all e f =
+    let is = words_joined word words all in
+    record {
+      printable = printable_joined word words all;
+      words = ap (are_words 1) is ∙ enough_room 1 (word ∷ words) all (omega arith);
+      said = λ plan id. ap (λ (l : List (List ℕ)). line_of_words plan (id ∷ l)) is
+          ∙ words_say plan id (word ∷ words) shape item e f;
+    }
 
 -- a software packet
-port_shape : (port digits : List ℕ) (size : Size) → shape_named (codes "port" ∷ (port ∷ (size_word size ∷ (digits ∷ [])))) ≡ Some (shapes.Itm (itm_shapes.Software size))
+abbrev port_words : ℕ → Size → List ℕ → List (List ℕ)
+port_words port size digits = codes "port" ∷ (decimal port ∷ (size_word size ∷ (digits ∷ [])))
+
+port_shape : (port : ℕ) (size : Size) (digits : List ℕ) →
+    shape_named (port_words port size digits) ≡ Some (shapes.Itm (itm_shapes.Software size))
 unfolding shape_named
-port_shape port digits One = refl
-port_shape port digits Two = refl
-port_shape port digits Four = refl
+port_shape port One digits = refl
+port_shape port Two digits = refl
+port_shape port Four digits = refl
 
-port_item : (size : Size) (port v : ℕ) (digits : List ℕ) → port ≤ 31 → hexadecimal_named (2 * byte_count size) digits ≡ Some v →
-    item_of (shapes.Itm (itm_shapes.Software size)) (codes "port" ∷ (decimal port ∷ (size_word size ∷ (digits ∷ [])))) ≡ Some (items.Itm (itm.Software port size v))
+port_item : (size : Size) (port v : ℕ) (digits : List ℕ) → port ≤ 31 →
+    hexadecimal_named (2 * byte_count size) digits ≡ Some v →
+    item_of (shapes.Itm (itm_shapes.Software size)) (port_words port size digits) ≡
+    Some (items.Itm (itm.Software port size v))
 unfolding itm_of
-port_item size port v digits h e = let n = names_number 0 31 port (decimal port) (omega arith) (omega arith) h refl in rw (n, e) refl
+port_item size port v digits h e =
+    let n = names_number 0 31 port (decimal port) (omega arith) (omega arith) h refl in
+    rw (n, e) refl
 
-size_some : (size : Size) → 0 < length (size_word size)
-size_some One = omega arith
-size_some Two = omega arith
-size_some Four = omega arith
+size_is_word : (size : Size) → is_word (size_word size) ≡ true
+size_is_word One = refl
+size_is_word Two = refl
+size_is_word Four = refl
 
 digits_some : (size : Size) (digits : List ℕ) → length digits ≡ 2 * byte_count size → 0 < length digits
 digits_some One digits e = omega arith
 digits_some Two digits e = omega arith
 digits_some Four digits e = omega arith
 
-software_says : (line rest digits : List ℕ) (port : ℕ) (size : Size) (v : ℕ) → port ≤ 31 → BeginsWithNumber line port rest → BeginsWith rest (size_word size) digits →
-    hexadecimal_named (2 * byte_count size) digits ≡ Some v → SaysPacket (codes "port " ++ line) (itm.Software port size v)
+software_says : (line rest digits : List ℕ) (port : ℕ) (size : Size) (v : ℕ) → port ≤ 31 →
+    BeginsWithNumber line port rest → BeginsWith rest (size_word size) digits →
+    hexadecimal_named (2 * byte_count size) digits ≡ Some v →
+    SaysPacket (codes "port " ++ line) (itm.Software port size v)
 software_says line rest digits port size v h p q e =
     let is = hexadecimal_is (2 * byte_count size) digits v e in
-    let w = hexadecimal_word digits is.1 in
-    let first = parted line (decimal port) rest p in
-    let second = parted rest (size_word size) digits q in
-    let few = some_words 1 (codes "port") (decimal port ∷ (size_word size ∷ (digits ∷ []))) (omega arith) refl
-    (some_words 2 (decimal port) (size_word size ∷ (digits ∷ [])) (decimal_some port (omega arith)) refl
-    (some_words 3 (size_word size) (digits ∷ []) (size_some size) refl
-    (some_words 4 digits [] (digits_some size digits is.0) refl refl))) in
-    let words : words_in (codes "port " ++ line) ≡ codes "port" ∷ (decimal port ∷ (size_word size ∷ (digits ∷ []))) =
-    ap (λ (l : List (List ℕ)). codes "port" ∷ l) (first.words
-    ∙ ap (λ (l : List (List ℕ)). decimal port ∷ l) (second.words ∙ ap (λ (l : List (List ℕ)). size_word size ∷ l) w.one)) in
-    record {
-      printable = first.printable ∙ second.printable ∙ w.printable;
-      words = ap (are_words 1) words ∙ few;
-      said = λ plan id. ap (λ (l : List (List ℕ)). line_of_words plan (id ∷ l)) words
-          ∙ words_say plan id (codes "port" ∷ (decimal port ∷ (size_word size ∷ (digits ∷ [])))) (shapes.Itm (itm_shapes.Software size))
-          (items.Itm (itm.Software port size v)) (port_shape (decimal port) digits size) (port_item size port v digits h e);
-    }
+    let digit_word = graphic_word digits (digits_some size digits is.0) (digits_graphic digits is.1) in
+    let all : are_all (port_words port size digits) ≡ true =
+    both _ _ (decimal_word port (omega arith)) (both _ _ (size_is_word size) (both _ _ digit_word refl)) in
+    subst (λ (l : List ℕ). SaysPacket (codes "port " ++ l) (itm.Software port size v))
+    (sym (p.all ∙ ap (λ (l : List ℕ). decimal port ++ 32 ∷ l) q.all))
+    (joined_says (port_words port size digits) (shapes.Itm (itm_shapes.Software size))
+    (items.Itm (itm.Software port size v)) (omega arith) (omega arith) all (port_shape port size digits)
+    (port_item size port v digits h e))
 
-pub value_fits : (size : Size) (v : ℕ) (word : List ℕ) → hexadecimal_named (2 * byte_count size) word ≡ Some v → v < 2 ^ 32
+pub value_fits : (size : Size) (v : ℕ) (word : List ℕ) → hexadecimal_named (2 * byte_count size) word ≡ Some v →
+    v < 2 ^ 32
 value_fits One v word e = (let h = hexadecimal_small 2 word v e in omega arith)
 value_fits Two v word e = (let h = hexadecimal_small 4 word v e in omega arith)
 value_fits Four v word e = (let h = hexadecimal_small 8 word v e in omega arith)
 
 -- one with a line feed
-pub software_first : (line rest other after : List ℕ) (port : ℕ) (size : Size) (v : ℕ) → port ≤ 31 → BeginsWithNumber line port rest → BeginsWith rest (size_word size) other →
-    BeginsWithDigits other (2 * byte_count size) v 10 after → SaysFirst (codes "port " ++ line) (itm.Software port size v) after
+pub software_first : (line rest other after : List ℕ) (port : ℕ) (size : Size) (v : ℕ) → port ≤ 31 →
+    BeginsWithNumber line port rest → BeginsWith rest (size_word size) other →
+    BeginsWithDigits other (2 * byte_count size) v 10 after →
+    SaysFirst (codes "port " ++ line) (itm.Software port size v) after
 software_first line rest other after port size v h p q d =
     let value = size_word size ++ 32 ∷ d.word in
     let text = decimal port ++ 32 ∷ value in
@@ -232,42 +220,41 @@ software_first line rest other after port size v h p q d =
       text = codes "port " ++ text;
       all = ap (λ (l : List ℕ). codes "port " ++ l) (p.all
           ∙ ap (λ (l : List ℕ). decimal port ++ 32 ∷ l)
-          (q.all ∙ ap (λ (l : List ℕ). size_word size ++ 32 ∷ l) d.all ∙ sym (append_assoc (size_word size) (32 ∷ d.word) (10 ∷ after)))
+          (q.all ∙ ap (λ (l : List ℕ). size_word size ++ 32 ∷ l) d.all
+          ∙ sym (append_assoc (size_word size) (32 ∷ d.word) (10 ∷ after)))
           ∙ sym (append_assoc (decimal port) (32 ∷ value) (10 ∷ after)));
-      says = software_says text value d.word port size v h (record { all = refl; graphic = p.graphic }) (record { all = refl; graphic = q.graphic }) d.named;
+      says = software_says text value d.word port size v h (record { all = refl; graphic = p.graphic })
+          (record { all = refl; graphic = q.graphic }) d.named;
     }
 
 -- an exact local timestamp
-local_shape : (digits : List ℕ) → shape_named (codes "local" ∷ (codes "exact" ∷ (digits ∷ []))) ≡ Some (shapes.Itm (itm_shapes.Local Exact))
+local_shape : (digits : List ℕ) → shape_named (codes "local" ∷ (codes "exact" ∷ (digits ∷ []))) ≡ Some
+    (shapes.Itm (itm_shapes.Local Exact))
 unfolding shape_named
 local_shape digits = refl
 
 local_item : (delta : ℕ) (digits : List ℕ) → delta ≤ 2 ^ 28 - 1 → digits ≡ decimal delta →
-    item_of (shapes.Itm (itm_shapes.Local Exact)) (codes "local" ∷ (codes "exact" ∷ (digits ∷ []))) ≡ Some (items.Itm (itm.Local Exact delta))
+    item_of (shapes.Itm (itm_shapes.Local Exact)) (codes "local" ∷ (codes "exact" ∷ (digits ∷ []))) ≡ Some
+    (items.Itm (itm.Local Exact delta))
 unfolding itm_of
-local_item delta digits h e = let n = names_number 0 (2 ^ 28 - 1) delta digits (omega arith) (omega arith) h e in rw n refl
+local_item delta digits h e = let n = names_number 0 (2 ^ 28 - 1) delta digits (omega arith) (omega arith) h e in
+    rw n refl
 
-exact_says : (digits : List ℕ) (delta : ℕ) → delta ≤ 2 ^ 28 - 1 → digits ≡ decimal delta → SaysPacket (codes "local exact " ++ digits) (itm.Local Exact delta)
+exact_says : (digits : List ℕ) (delta : ℕ) → delta ≤ 2 ^ 28 - 1 → digits ≡ decimal delta →
+    SaysPacket (codes "local exact " ++ digits) (itm.Local Exact delta)
 exact_says digits delta h e =
-    let w = decimal_word digits (subst (AllDigits 10) (sym e) (decimal_digits delta (omega arith))) in
-    let some : 0 < length digits = subst (λ (d : List ℕ). 0 < length d) (sym e) (decimal_some delta (omega arith)) in
-    let few = some_words 1 (codes "local") (codes "exact" ∷ (digits ∷ [])) (omega arith) refl
-    (some_words 2 (codes "exact") (digits ∷ []) (omega arith) refl (some_words 3 digits [] some refl refl)) in
-    let words : words_in (codes "local exact " ++ digits) ≡ codes "local" ∷ (codes "exact" ∷ (digits ∷ [])) =
-    ap (λ (l : List (List ℕ)). codes "local" ∷ (codes "exact" ∷ l)) w.one in
-    record {
-      printable = w.printable;
-      words = ap (are_words 1) words ∙ few;
-      said = λ plan id. ap (λ (l : List (List ℕ)). line_of_words plan (id ∷ l)) words
-          ∙ words_say plan id (codes "local" ∷ (codes "exact" ∷ (digits ∷ []))) (shapes.Itm (itm_shapes.Local Exact))
-          (items.Itm (itm.Local Exact delta)) (local_shape digits) (local_item delta digits h e);
-    }
+    let word = subst (λ (d : List ℕ). is_word d ≡ true) (sym e) (decimal_word delta (omega arith)) in
+    joined_says (codes "local" ∷ (codes "exact" ∷ (digits ∷ []))) (shapes.Itm (itm_shapes.Local Exact))
+    (items.Itm (itm.Local Exact delta)) (omega arith) (omega arith) (both _ _ word refl) (local_shape digits)
+    (local_item delta digits h e)
 
-pub exact_first : (line rest digits after : List ℕ) (delta : ℕ) → line ≡ codes "local exact " ++ rest → rest ≡ digits ++ 10 ∷ after → delta ≤ 2 ^ 28 - 1 → digits ≡ decimal delta →
+pub exact_first : (line rest digits after : List ℕ) (delta : ℕ) → line ≡ codes "local exact " ++ rest → rest ≡ digits
+    ++ 10 ∷ after → delta ≤ 2 ^ 28 - 1 → digits ≡ decimal delta →
     SaysFirst line (itm.Local Exact delta) after
 exact_first line rest digits after delta e f h d = record {
   text = codes "local exact " ++ digits;
-  all = e ∙ ap (λ (l : List ℕ). codes "local exact " ++ l) f ∙ sym (append_assoc (codes "local exact ") digits (10 ∷ after));
+  all = e ∙ ap (λ (l : List ℕ). codes "local exact " ++ l) f
+      ∙ sym (append_assoc (codes "local exact ") digits (10 ∷ after));
   says = exact_says digits delta h d;
 }
 
@@ -275,26 +262,24 @@ exact_first line rest digits after delta e f h d = record {
 graphic_hex : (c : ℕ) → is_hex_digit c ≡ true → is_graphic c ≡ true
 graphic_hex c h = grind (arith, nat_tests)
 
-hex_word : (text : List ℕ) → AllPass is_hex_digit text → IsWord text
-hex_word [] h = record { printable = refl; one = refl }
-hex_word (c ∷ text) h = more_word c text (graphic_hex c (All-head (λ c. is_hex_digit c ≡ true) c text h)) (hex_word text (All-tail (λ c. is_hex_digit c ≡ true) c text h))
+hex_graphic : (text : List ℕ) → AllPass is_hex_digit text → list_all is_graphic text ≡ true
+hex_graphic [] h = refl
+hex_graphic (c ∷ text) h =
+    both (is_graphic c) (list_all is_graphic text) (graphic_hex c (All-head (λ c. is_hex_digit c ≡ true) c text h))
+    (hex_graphic text (All-tail (λ c. is_hex_digit c ≡ true) c text h))
 
 raw_shape : (digits : List ℕ) → shape_named (codes "raw" ∷ (digits ∷ [])) ≡ Some shapes.Raw
 unfolding shape_named
 raw_shape digits = refl
 
-pub raw_says : (line digits bytes : List ℕ) → line ≡ codes "raw " ++ digits → bytes_named digits ≡ Some bytes → SaysItem line (items.Raw bytes)
+pub raw_says : (line digits bytes : List ℕ) → line ≡ codes "raw " ++ digits → bytes_named digits ≡ Some bytes →
+    SaysItem line (items.Raw bytes)
 raw_says line digits bytes is e =
     let named = bytes_are digits bytes e in
-    let w = hex_word digits named.1 in
-    let few = some_words 1 (codes "raw") (digits ∷ []) (omega arith) refl (some_words 2 digits [] (omega (arith, named.0)) refl refl) in
-    let words : words_in (codes "raw " ++ digits) ≡ codes "raw" ∷ (digits ∷ []) = ap (λ (l : List (List ℕ)). codes "raw" ∷ l) w.one in
-    subst (λ (line : List ℕ). SaysItem line (items.Raw bytes)) (sym is) (record {
-      printable = w.printable;
-      words = ap (are_words 1) words ∙ few;
-      said = λ plan id. ap (λ (l : List (List ℕ)). line_of_words plan (id ∷ l)) words
-          ∙ words_say plan id (codes "raw" ∷ (digits ∷ [])) shapes.Raw (items.Raw bytes) (raw_shape digits) (rw e refl);
-    })
+    let word = graphic_word digits (omega (arith, named.0)) (hex_graphic digits named.1) in
+    subst (λ (line : List ℕ). SaysItem line (items.Raw bytes)) (sym is)
+    (joined_says (codes "raw" ∷ (digits ∷ [])) shapes.Raw (items.Raw bytes) (omega arith) (omega arith)
+    (both _ _ word refl) (raw_shape digits) (rw e refl))
 
 -- a whole line
 named_is : (number id : ℕ) → Some id ≡ (if nat_le number 126 then Some number else None) → id ≡ number
@@ -307,30 +292,45 @@ named_is number id e = by (nat_le number 126) e
 other_than_remark : (c : ℕ) → digit_value c < 10 → (c == 35) ≡ false
 other_than_remark c h = grind (arith, nat_tests)
 
+decimal_some : (n : ℕ) → n < 2 ^ 64 → 0 < length (decimal n)
+decimal_some n h = (decimal_has n (decimal n) h refl).0
+
 no_remark : (word rest : List ℕ) → AllDigits 10 word → 0 < length word → is_nothing (word ++ rest) ≡ false
 no_remark [] rest h l = absurd (omega arith)
 no_remark (c ∷ word) rest h l = other_than_remark c h.0
 
 some_line : (line rest : List ℕ) (n : ℕ) → n < 2 ^ 64 → BeginsWithNumber line n rest → is_nothing line ≡ false
-some_line line rest n h b = ap is_nothing b.all ∙ no_remark (decimal n) (32 ∷ rest) (decimal_digits n h) (decimal_some n h)
+some_line line rest n h b = ap is_nothing b.all
+    ∙ no_remark (decimal n) (32 ∷ rest) (decimal_digits n h) (decimal_some n h)
 
-pub item_of_line : (line rest : List ℕ) (number id : ℕ) (item : Item) → 1 ≤ number → number ≤ 126 → BeginsWithNumber line number rest →
+first_word : (word : List ℕ) (words : List (List ℕ)) → 0 < length word → are_words 1 words ≡ true →
+    are_words 0 (word ∷ words) ≡ true
+first_word word words l m = let a : nat_lt 0 (length word) ≡ true = grind (arith, nat_tests) in rw a m
+
+pub item_of_line : (line rest : List ℕ) (number id : ℕ) (item : Item) → 1 ≤ number → number ≤ 126 →
+    BeginsWithNumber line number rest →
     Some id ≡ (if nat_le number 126 then Some number else None) → SaysItem rest item → IsItemOf line id item
-item_of_line line rest number id item l h b e s = subst (λ (id : ℕ). IsItemOf line id item) (sym (named_is number id e)) (record {
-  some = some_line line rest number (omega arith) b;
-  printable = (parted line (decimal number) rest b).printable ∙ s.printable;
-  words = ap (are_words 0) (parted line (decimal number) rest b).words ∙ some_words 0 (decimal number) (words_in rest) (decimal_some number (omega arith)) refl s.words;
-  said = λ plan. ap (line_of_words plan) (parted line (decimal number) rest b).words ∙ s.said plan (decimal number)
-      ∙ ap (λ (o : Option ℕ). ok_or o BadId >>ₗ λ n. taken_by (kind_of plan n) n item) (names_number 1 126 number (decimal number) (omega arith) l h refl);
-})
+item_of_line line rest number id item l h b e s =
+    subst (λ (id : ℕ). IsItemOf line id item) (sym (named_is number id e)) (record {
+      some = some_line line rest number (omega arith) b;
+      printable = (parted line (decimal number) rest b).printable ∙ s.printable;
+      words = ap (are_words 0) (parted line (decimal number) rest b).words
+          ∙ first_word (decimal number) (words_in rest) (decimal_some number (omega arith)) s.words;
+      said = λ plan. ap (line_of_words plan) (parted line (decimal number) rest b).words ∙ s.said plan (decimal number)
+          ∙ ap (λ (o : Option ℕ). ok_or o BadId >>ₗ λ n. taken_by (kind_of plan n) n item)
+          (names_number 1 126 number (decimal number) (omega arith) l h refl);
+    })
 
 -- and the first line of a piece
-pub first_line : (piece rest after : List ℕ) (number : ℕ) (line : PacketLine) → 1 ≤ number → number ≤ 126 → BeginsWithNumber piece number rest →
-    Some line.id ≡ (if nat_le number 126 then Some number else None) → SaysFirst rest line.packet after → line.bytes ≡ length piece - length after - 1 → line.bytes ≤ 256 →
+pub first_line : (piece rest after : List ℕ) (number : ℕ) (line : PacketLine) → 1 ≤ number → number ≤ 126 →
+    BeginsWithNumber piece number rest →
+    Some line.id ≡ (if nat_le number 126 then Some number else None) → SaysFirst rest line.packet after →
+    line.bytes ≡ length piece - length after - 1 → line.bytes ≤ 256 →
     IsFirstLine piece line
 first_line piece rest after number line l h b e s n few =
     let text = decimal number ++ 32 ∷ s.text in
-    let all : piece ≡ text ++ 10 ∷ after = b.all ∙ ap (λ (r : List ℕ). decimal number ++ 32 ∷ r) s.all ∙ sym (append_assoc (decimal number) (32 ∷ s.text) (10 ∷ after)) in
+    let all : piece ≡ text ++ 10 ∷ after = b.all ∙ ap (λ (r : List ℕ). decimal number ++ 32 ∷ r) s.all
+    ∙ sym (append_assoc (decimal number) (32 ∷ s.text) (10 ∷ after)) in
     let long : length piece ≡ length text + length (10 ∷ after) = ap length all ∙ length-append text (10 ∷ after) in
     let bytes : line.bytes ≡ length text = omega arith in
     record {
@@ -339,21 +339,27 @@ first_line piece rest after number line l h b e s n few =
       all = all;
       bytes = bytes;
       few = omega arith;
-      says = item_of_line text s.text number line.id (items.Itm line.packet) l h (record { all = refl; graphic = b.graphic }) e s.says;
+      says = item_of_line text s.text number line.id (items.Itm line.packet) l h
+          (record { all = refl; graphic = b.graphic }) e s.says;
     }
 
 -- and its reading
-pub printable_says : (plan : Plan) (line : List ℕ) (id : ℕ) (item : Item) (r : Result Line LineFault) → IsItemOf line id item →
-    taken_by (kind_of plan id) id item ≡ r → (if are_printable line then line_of_printable plan line else Err BadLine) ≡ r
-printable_says plan line id item r p e = by (are_printable line) (are_words 0 (words_in line)) p.printable p.words ∙ p.said plan ∙ e
+pub printable_says : (plan : Plan) (line : List ℕ) (id : ℕ) (item : Item) (r : Result Line LineFault) →
+    IsItemOf line id item →
+    taken_by (kind_of plan id) id item ≡ r →
+    (if are_printable line then line_of_printable plan line else Err BadLine) ≡ r
+printable_says plan line id item r p e = by (are_printable line) (are_words 0 (words_in line)) p.printable p.words
+    ∙ p.said plan ∙ e
   where
     by : (c d : Bool) → c ≡ true → d ≡ true →
-        (if c then (if d then line_of_words plan (words_in line) else Err BadLine) else Err BadLine) ≡ line_of_words plan (words_in line)
+        (if c then (if d then line_of_words plan (words_in line) else Err BadLine) else Err BadLine) ≡ line_of_words
+        plan (words_in line)
     by false d g h = cc
     by true false g h = cc
     by true true g h = refl
 
-pub line_says : (plan : Plan) (line : List ℕ) (id : ℕ) (item : Item) (r : Result Line LineFault) → length line ≤ 256 → IsItemOf line id item →
+pub line_says : (plan : Plan) (line : List ℕ) (id : ℕ) (item : Item) (r : Result Line LineFault) → length line ≤ 256 →
+    IsItemOf line id item →
     taken_by (kind_of plan id) id item ≡ r → line_of plan line ≡ r
 unfolding line_of
 line_says plan line id item r few p e =
@@ -363,12 +369,14 @@ line_says plan line id item r few p e =
     printable : Result Line LineFault
     printable = if are_printable line then line_of_printable plan line else Err BadLine
 
-    by : (a b : Bool) → a ≡ false → b ≡ false → (if a then Err LongLine else (if b then Ok Nothing else printable)) ≡ printable
+    by : (a b : Bool) → a ≡ false → b ≡ false →
+        (if a then Err LongLine else (if b then Ok Nothing else printable)) ≡ printable
     by true b e f = cc
     by false true e f = cc
     by false false e f = refl
 
 -- so it can be said
-pub item_is_said : (plan : Plan) (line : List ℕ) (id : ℕ) (item : Item) (r : Result (Unit {0}) LineFault) (said : Line) →
+pub item_is_said : (plan : Plan) (line : List ℕ) (id : ℕ) (item : Item) (r : Result (Unit {0}) LineFault)
+    (said : Line) →
     IsItemOf line id item → taken_by (kind_of plan id) id item ≡ answer r said → OnOk r (IsSaid plan said)
 item_is_said plan line id item r said p e = words_said_on plan (words_in line) r said (p.said plan ∙ e)

@@ -1,9 +1,7 @@
 -- Lines that are read from their bytes: the words at the front of a line, its last word, and what such a line says.
-use Rattle.std.specs.Prelude.{◌≡◌, ◌<◌, ◌≤◌, ℕ, List, [], ◌∷◌, ◌++◌, length, true, false, codes, decimal, ok_or, Some}
+use Rattle.std.specs.Prelude.{◌≡◌, ◌≤◌, ℕ, List, ◌∷◌, ◌++◌, length, true, false, decimal, ok_or, Some}
 use Rattle.std.specs.List.{list_all}
 use Rattle.decimal_words.specs.Numbers.{number_named}
-use Rattle.itm_grammar.specs.declared.packet.Size.{Size}
-use Rattle.itm_grammar.specs.declared.packet.Size.TheVariants.{One, Two, Four}
 use Rattle.itm_grammar.specs.declared.packet.ItmPacket.{ItmPacket}
 use Rattle.source_events.specs.declared.plan.Plan.{Plan}
 use Rattle.source_events.specs.Plan.{kind_of}
@@ -12,7 +10,7 @@ use Rattle.script_text.specs.declared.items.Item.{Item}
 use Rattle.script_text.specs.declared.items.Item.TheVariants.{Itm}
 use Rattle.script_text.specs.declared.line_fault.LineFault.TheVariants.{BadId}
 use Rattle.script_text.specs.declared.quick.PacketLine.{PacketLine}
-use Rattle.script_text.specs.Words.{is_graphic, are_printable, words_in, are_words}
+use Rattle.script_text.specs.Words.{is_graphic, is_word, are_printable, words_in, are_words}
 use Rattle.script_text.specs.Numbers.{hexadecimal_named}
 use Rattle.script_text.specs.Stamps.{stamp_named}
 use Rattle.script_text.specs.Lines.{◌>>=◌, is_nothing, taken_by, line_of_words}
@@ -34,16 +32,8 @@ pub record BeginsWithDigits (line : List ℕ) (count value end : ℕ) (rest : Li
 
 -- a line is one word, which is a timestamp
 pub record IsStamp (line : List ℕ) (stamp : Stamp) : Type 0 where
-  pub printable : are_printable line ≡ true
-  pub words : words_in line ≡ line ∷ []
-  pub some : 0 < length line
+  pub word : is_word line ≡ true
   pub named : stamp_named line ≡ Some stamp
-
--- the word of a size
-abbrev pub size_word : Size → List ℕ
-size_word One = codes "u8"
-size_word Two = codes "u16"
-size_word Four = codes "u32"
 
 -- what is after the ID of a line says an item, whatever the ID is
 pub record SaysItem (line : List ℕ) (item : Item) : Type 0 where

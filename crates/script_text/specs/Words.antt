@@ -1,12 +1,17 @@
 -- The words of a line.
 use Rattle.std.specs.Prelude.{slice_index_or, map, ℕ, ◌+◌, List, [], ◌∷◌, length}
-use Rattle.std.specs.Prelude.{Bool, true, ◌&&◌, ◌==◌, nat_lt, nat_le}
+use Rattle.std.specs.Prelude.{Bool, true, false, ◌&&◌, ◌==◌, nat_lt, nat_le}
 use Rattle.std.specs.Borrow.{Bor}
-use Rattle.std.specs.List.{slice_split}
+use Rattle.std.specs.List.{slice_split, list_all}
 
 -- a printable byte other than a space: 21 to 7E
 abbrev pub is_graphic : ℕ → Bool
 is_graphic b = nat_lt 32 b && nat_le b 126
+
+-- a word: at least one of these, and nothing else
+abbrev pub is_word : List ℕ → Bool
+is_word [] = false
+is_word (b ∷ word) = list_all is_graphic (b ∷ word)
 
 -- the bytes 20 to 7E
 abbrev pub are_printable : List ℕ → Bool

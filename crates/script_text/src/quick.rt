@@ -5,7 +5,7 @@ ghost use Rattle.itm_grammar.specs.Spelling.{byte_count};
 ghost use Rattle.script_text.specs.Quick.{BeginsWith, BeginsWithNumber, BeginsWithDigits, IsItemOf, SaysFirst};
 ghost use Rattle.script_text.specs.Quick.{IsFirstLine};
 ghost use Rattle.script_text.specs.declared.items.Item.TheVariants.{Raw};
-ghost use Rattle.script_text.specs.Quick.{size_word as word_of_size};
+ghost use Rattle.script_text.specs.Table.{size_word as word_of_size};
 
 use crate::lines::LINE_BYTES;
 use crate::numbers::hexadecimal_named;
