@@ -105,7 +105,7 @@ module _ (order : Order) (s : Partial) (xs : List ℕ) where
           ∙ stage_whole order (line_of row).payload (Payload row) (after_payload row) (λ n v b. refl) n v part [] some (omega (arith, e, size))
           ∙ ap (λ z. after {U = ℕ} (after_payload row z) (λ t. Within t) []) (value_is order n v part ∙ sym is))
 
-    -- the same of a word
+    -- and a word
     pub word_inside : (payload size_ n v word : ℕ) → n + more < nibble_count size_ → word ≡ number_from order n v part →
         Leads order s (between xs 0 start) (Go (Word row payload size_ n v)) →
         Leads order s (between xs 0 (start + more)) (Go (Word row payload size_ (n + more) word))

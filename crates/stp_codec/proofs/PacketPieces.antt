@@ -180,7 +180,7 @@ units_from : (from : ℕ) (bytes : List ℕ) → units_of (placed_from from byte
 units_from from [] = refl
 units_from from (b ∷ bytes) = ap (λ l. b ∷ l) (units_from (from + 1) bytes)
 
--- the same of bytes at adjacent offsets
+-- so too where the bytes are at adjacent offsets
 module _ (order : Order) (h : Bool) (now : List Placed → Type 0) (u : List Placed) (at : ℕ) (piece : List ℕ) (k half : ℕ) (o : Option StpItem) (within : k < length piece) where
   abbrev front : List Placed
   front = placed_from at (take k piece)

@@ -60,7 +60,8 @@ pub record TakesNibble (old new : StpDecoder) (at side nibble : ℕ) (answer : S
   pub stays : has_locked old ≡ true → (has_locked new ≡ true) × (skipped_by new ≡ skipped_by old)
   pub grammar : (n : List Placed) → ReadsAt old n → has_locked old ≡ true →
       AnswersNibble (order_of old) (packets_of (order_of old) (is_hunter old) n)
-      (rest_in (order_of old) (is_hunter old) n ++ nibble_at at side nibble ∷ []) (nibble_at at side nibble).place answer
+      (rest_in (order_of old) (is_hunter old) n ++ nibble_at at side nibble ∷ [])
+      (nibble_at at side nibble).place answer
       (packets_of (order_of old) (is_hunter old) (n ++ nibble_at at side nibble ∷ []))
       (rest_in (order_of old) (is_hunter old) (n ++ nibble_at at side nibble ∷ []))
   pub quiet : old.partial ≡ Start → has_locked old ≡ true → answer ≡ Quiet

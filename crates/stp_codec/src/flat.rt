@@ -130,8 +130,8 @@ fn parts_from_opcode(number: u8, bytes: &[u8], start: usize) -> Option<PacketPar
     }
 }
 
-/// The numbers of the rows by the last nibbles of their opcodes: those of one nibble, of F and one, and of F, 0 and one.
-/// `NONE` where there is none.
+/// The numbers of the rows by the last nibbles of their opcodes: those of one nibble, of F and one, and of F, 0 and
+/// one. `NONE` where there is none.
 const OPCODES: &[u8] = &[
     0, 1, 2, 3, 4, 5, 6, 7, 8, 9, 10, 11, 12, 13, 14, 35, 35, 15, 16, 17, 18, 19, 20, 21, 22, 23,
     24, 25, 26, 27, 28, 35, 29, 30, 35, 35, 35, 35, 31, 32, 33, 34, 35, 35, 35, 35, 35, 35,

@@ -1,4 +1,4 @@
-//! Numbers that nibbles of bytes make, the nibbles read at once or byte by byte (MIPI System Trace Protocol, version 2).
+//! The numbers that nibbles of bytes make (MIPI System Trace Protocol, version 2).
 
 ghost use Rattle.std.specs.Prelude.{◌≡◌, ℕ, ◌+◌, ◌-◌, ◌*◌, ◌/◌, ◌%◌, ◌^◌, ◌<◌, ◌≤◌, List, length, get_or};
 ghost use Rattle.stp_codec.specs.Names.{number_with, number, Lsn, Msn};

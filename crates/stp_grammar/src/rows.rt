@@ -37,7 +37,7 @@ pub fn short_opcodes()
     ensures flag_ts { line_row (codes "E") ≡ Some (14, 0, true) }
 {}
 
-/// The same of the opcodes of two nibbles.
+/// The opcodes of F and one nibble, by the same numbers.
 #[tactic(auto, unfolding(crate::specs::Opcodes::opening_of))]
 pub fn opcodes_after_f()
     ensures m16 { line_row (codes "F1") ≡ Some (15, 4, false) }
@@ -56,7 +56,7 @@ pub fn opcodes_after_f()
     ensures flag { line_row (codes "FE") ≡ Some (28, 0, false) }
 {}
 
-/// The same of the opcodes of three nibbles.
+/// The opcodes of F, 0 and one nibble, by the same numbers.
 #[tactic(auto, unfolding(crate::specs::Opcodes::opening_of))]
 pub fn opcodes_after_f0()
     ensures version { line_row (codes "F00") ≡ Some (29, 1, false) }
