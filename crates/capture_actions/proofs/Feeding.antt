@@ -3,11 +3,10 @@ use Rattle.std.proofs.Common.{◌≡◌, ℕ, suc, ◌+◌, List, [], ◌∷◌,
 use Rattle.std.proofs.Common.{append-nil, arith, Option, None, Some, true}
 use Rattle.std.specs.Prelude.{is_none, option_map}
 use Rattle.trace_values.specs.declared.fault.Reason.{Reason}
-use Rattle.trace_values.specs.Placed.{Place, Placed, byte_at, placed_from, placed}
-use Rattle.trace_values.proofs.Placing.{placed_from_push, placed_append}
+use Rattle.trace_values.specs.Placed.{Place, Placed, placed_from, placed}
+use Rattle.trace_values.proofs.Placing.{placed_append}
 use Rattle.trace_stream.specs.Taken.{FlowAfter}
 use Rattle.trace_stream.specs.declared.action.Flow.TheVariants.{On, Stopped as Ended}
-use Rattle.deformatter.specs.Block.{EachByte, FedAs}
 use Rattle.frame_grammar.specs.Reading.{offsets_of}
 use Rattle.deformatter.specs.Rising.{end_at}
 use Rattle.source_events.specs.declared.event.Event.{Event}
@@ -15,48 +14,17 @@ use Rattle.source_events.specs.declared.event.Stop.{Stop}
 use Rattle.source_events.specs.declared.packet.Packet.{Packet}
 use Rattle.source_events.specs.declared.plan.Plan.{Plan}
 use Rattle.source_events.specs.Report.{stop_of}
-use Rattle.source_merge.specs.Answering.{report_of, fault_of, fault_by, Answers}
+use Rattle.source_merge.specs.Answering.{report_of, fault_of, fault_by}
 use Rattle.source_merge.specs.declared.flow.Flow.{Flow}
 use Rattle.source_merge.specs.declared.flow.Flow.TheVariants.{Going, Stopped}
 use Rattle.source_merge.specs.declared.engine.Engine.{Engine}
 use Rattle.source_merge.specs.Engine.{Stands, is_live, next_of, plan_of}
+use Rattle.source_merge.specs.Front.{Reads}
 use Rattle.capture_actions.specs.Faulty.{IsFaulty}
 use Rattle.capture_actions.specs.Stopping.{flow_by, stop_by}
 
 abbrev pub Fault : Type 0
 Fault = Option (Place × (Reason × Option ℕ))
-
--- after bytes of which none gives or ends anything
-quiet_report : (plan : Plan) (u : List Placed) (at : ℕ) (front : List ℕ) → EachByte (Answers plan [] Going) u at front →
-    report_of plan (u ++ placed_from at front) ≡ report_of plan u
-quiet_report plan u at [] q = ap (report_of plan) (append-nil u)
-quiet_report plan u at (b ∷ front) q =
-    ap (report_of plan) (sym (append_assoc u (byte_at at b ∷ []) (placed_from (at + 1) front)))
-    ∙ quiet_report plan (u ++ byte_at at b ∷ []) (at + 1) front q.1 ∙ q.0.events ∙ append-nil (report_of plan u)
-
-quiet_fault : (plan : Plan) (u : List Placed) (at : ℕ) (front : List ℕ) → EachByte (Answers plan [] Going) u at front →
-    fault_of plan u ≡ None → fault_of plan (u ++ placed_from at front) ≡ None
-quiet_fault plan u at [] q none = ap (fault_of plan) (append-nil u) ∙ none
-quiet_fault plan u at (b ∷ front) q none =
-    ap (fault_of plan) (sym (append_assoc u (byte_at at b ∷ []) (placed_from (at + 1) front)))
-    ∙ quiet_fault plan (u ++ byte_at at b ∷ []) (at + 1) front q.1 q.0.fault
-
-module _ (plan : Plan) (u : List Placed) (at : ℕ) (bytes : List ℕ) (given : List (Event Packet)) (flow : Flow)
-    (fed : FedAs (Answers plan [] Going) (Answers plan given flow) u at bytes) where
-  all_bytes : u ++ placed_from at bytes ≡
-      (u ++ placed_from at fed.front) ++ byte_at (at + length fed.front) fed.last ∷ []
-  all_bytes =
-      ap (λ (l : List ℕ). u ++ placed_from at l) fed.parts
-      ∙ ap (λ (l : List Placed). u ++ l) (placed_from_push at fed.front fed.last)
-      ∙ sym (append_assoc u (placed_from at fed.front) (byte_at (at + length fed.front) fed.last ∷ []))
-
-  pub fed_report : report_of plan (u ++ placed_from at bytes) ≡ report_of plan u ++ given
-  fed_report =
-      ap (report_of plan) all_bytes ∙ fed.ends.events
-      ∙ ap (λ (l : List (Event Packet)). l ++ given) (quiet_report plan u at fed.front fed.quiet)
-
-  pub fed_fault : fault_of plan (u ++ placed_from at bytes) ≡ fault_by flow
-  fed_fault = ap (fault_of plan) all_bytes ∙ fed.ends.fault
 
 -- offsets of a capture
 pub next_bytes : (seen bytes : List ℕ) (at : ℕ) → at ≡ length seen →
@@ -72,37 +40,33 @@ capture_end bytes = end_from 0 bytes ∙ (let k : 0 + length bytes ≡ length by
 
 -- how an action goes on
 module _ (plan : Plan) (seen bytes : List ℕ) (at : ℕ) (given : List (Event Packet)) (flow : Flow) (e : at ≡ length seen)
-    (fed : FedAs (Answers plan [] Going) (Answers plan given flow) (placed seen) at bytes) where
+    (reads : Reads plan (placed seen) at bytes given flow) where
   pub report_grew : report_of plan (placed (seen ++ bytes)) ≡ report_of plan (placed seen) ++ given
-  report_grew =
-      ap (report_of plan) (sym (next_bytes seen bytes at e)) ∙ fed_report plan (placed seen) at bytes given flow fed
+  report_grew = ap (report_of plan) (sym (next_bytes seen bytes at e)) ∙ reads.grew
 
   pub fault_after : fault_of plan (placed (seen ++ bytes)) ≡ fault_by flow
-  fault_after =
-      ap (fault_of plan) (sym (next_bytes seen bytes at e)) ∙ fed_fault plan (placed seen) at bytes given flow fed
+  fault_after = ap (fault_of plan) (sym (next_bytes seen bytes at e)) ∙ reads.fault
 
   pub goes_on : flow ≡ Going → FlowAfter (IsFaulty plan) (seen ++ bytes) On
   goes_on g h = (let k : fault_of plan (placed (seen ++ bytes)) ≡ None = fault_after ∙ ap fault_by g in
       let l = ap (λ (o : Fault). is_none o) k in let m = h in cc)
 
-  pub ends : (stop : Stop) → flow ≡ Stopped stop → fault_of plan (placed seen) ≡ None →
-      FlowAfter (IsFaulty plan) (seen ++ bytes) Ended
-  ends stop g none = record {
-    front = seen ++ fed.front;
-    last = fed.last;
-    all = ap (λ (l : List ℕ). seen ++ l) fed.parts ∙ sym (append_assoc seen fed.front (fed.last ∷ []));
+  pub ends : (stop : Stop) → flow ≡ Stopped stop → FlowAfter (IsFaulty plan) (seen ++ bytes) Ended
+  ends stop g = record {
+    front = seen ++ reads.front;
+    last = reads.last;
+    all = ap (λ (l : List ℕ). seen ++ l) reads.parts ∙ sym (append_assoc seen reads.front (reads.last ∷ []));
     sound = λ h.
-        (let k : fault_of plan (placed (seen ++ fed.front)) ≡ None =
-        ap (fault_of plan) (sym (next_bytes seen fed.front at e)) ∙ quiet_fault plan (placed seen) at fed.front fed.quiet none in
+        (let k : fault_of plan (placed (seen ++ reads.front)) ≡ None =
+        ap (fault_of plan) (sym (next_bytes seen reads.front at e)) ∙ reads.sound in
         let l = ap (λ (o : Fault). is_none o) k in let m = h in cc);
     broken = ap (λ (o : Fault). is_none o) (fault_after ∙ ap fault_by g);
   }
 
 flows : (plan : Plan) (seen bytes : List ℕ) (at : ℕ) (given : List (Event Packet)) (flow : Flow) (e : at ≡ length seen) →
-    FedAs (Answers plan [] Going) (Answers plan given flow) (placed seen) at bytes → fault_of plan (placed seen) ≡ None →
-    FlowAfter (IsFaulty plan) (seen ++ bytes) (flow_by flow)
-flows plan seen bytes at given Going e fed none = goes_on plan seen bytes at given Going e fed refl
-flows plan seen bytes at given (Stopped stop) e fed none = ends plan seen bytes at given (Stopped stop) e fed stop refl none
+    Reads plan (placed seen) at bytes given flow → FlowAfter (IsFaulty plan) (seen ++ bytes) (flow_by flow)
+flows plan seen bytes at given Going e reads = goes_on plan seen bytes at given Going e reads refl
+flows plan seen bytes at given (Stopped stop) e reads = ends plan seen bytes at given (Stopped stop) e reads stop refl
 
 kept : (flow : Flow) (stop : Option Stop) → is_none stop ≡ true → option_map stop_of (stop_by flow stop) ≡ fault_by flow
 kept Going None h = refl
@@ -115,20 +79,17 @@ is_nothing (Some fault) h = cc
 
 -- an engine after a block, and what an action keeps of it
 module _ (old new : Engine) (seen bytes : List ℕ) (at : ℕ) (given : List (Event Packet)) (flow : Flow)
-    (stands : Stands old (placed seen)) (live : is_live old ≡ true) (next : at ≡ next_of old)
+    (stands : Stands old (placed seen)) (next : at ≡ next_of old)
     (same : plan_of new ≡ plan_of old) (list : Stands new (placed seen ++ placed_from at bytes))
-    (fed : FedAs (Answers (plan_of old) [] Going) (Answers (plan_of old) given flow) (placed seen) at bytes) where
+    (reads : Reads (plan_of old) (placed seen) at bytes given flow) where
   here : at ≡ length seen
   here = next ∙ stands.next ∙ capture_end seen
-
-  none : fault_of (plan_of old) (placed seen) ≡ None
-  none = is_nothing (fault_of (plan_of old) (placed seen)) (sym live ∙ stands.live)
 
   pub stands_after : Stands new (placed (seen ++ bytes))
   stands_after = subst (λ (u : List Placed). Stands new u) (next_bytes seen bytes at here) list
 
   pub report_here : report_of (plan_of old) (placed (seen ++ bytes)) ≡ report_of (plan_of old) (placed seen) ++ given
-  report_here = report_grew (plan_of old) seen bytes at given flow here fed
+  report_here = report_grew (plan_of old) seen bytes at given flow here reads
 
   pub report_after : report_of (plan_of new) (placed (seen ++ bytes)) ≡ report_of (plan_of old) (placed seen) ++ given
   report_after =
@@ -137,11 +98,11 @@ module _ (old new : Engine) (seen bytes : List ℕ) (at : ℕ) (given : List (Ev
   pub stop_after : (stop : Option Stop) → is_none stop ≡ true →
       option_map stop_of (stop_by flow stop) ≡ fault_of (plan_of new) (placed (seen ++ bytes))
   stop_after stop h =
-      kept flow stop h ∙ sym (fault_after (plan_of old) seen bytes at given flow here fed)
+      kept flow stop h ∙ sym (fault_after (plan_of old) seen bytes at given flow here reads)
       ∙ sym (ap (λ (plan : Plan). fault_of plan (placed (seen ++ bytes))) same)
 
   pub flow_after : FlowAfter (IsFaulty (plan_of old)) (seen ++ bytes) (flow_by flow)
-  flow_after = flows (plan_of old) seen bytes at given flow here fed none
+  flow_after = flows (plan_of old) seen bytes at given flow here reads
 
 -- an engine after a whole frame that it counted, and what an action keeps of it
 module _ (old new : Engine) (seen bytes : List ℕ) (at : ℕ) (stands : Stands old (placed seen)) (next : at ≡ next_of old)

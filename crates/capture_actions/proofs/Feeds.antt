@@ -4,7 +4,6 @@ use Rattle.std.specs.Prelude.{option_map, Option}
 use Rattle.std.proofs.lemmas.List.{take_all, length-drop}
 use Rattle.std.proofs.Math.Seq.{take-add}
 use Rattle.trace_values.specs.Placed.{Placed, placed, placed_from}
-use Rattle.deformatter.specs.Block.{FedAs}
 use Rattle.trace_stream.specs.Served.{Meaning}
 use Rattle.trace_stream.specs.Taken.{HasTaken, FlowAfter}
 use Rattle.trace_stream.specs.declared.action.Flow.{Flow}
@@ -14,11 +13,12 @@ use Rattle.source_events.specs.declared.event.Stop.{Stop}
 use Rattle.source_events.specs.declared.packet.Packet.{Packet}
 use Rattle.source_events.specs.declared.plan.Plan.{Plan}
 use Rattle.source_events.specs.Report.{stop_of}
-use Rattle.source_merge.specs.Answering.{Answers, report_of, goes_on}
+use Rattle.source_merge.specs.Answering.{report_of, goes_on}
 use Rattle.source_merge.specs.declared.engine.Engine.{Engine}
 use Rattle.source_merge.specs.declared.flow.Flow.{Flow as Reading}
 use Rattle.source_merge.specs.declared.flow.Flow.TheVariants.{Going, Stopped}
 use Rattle.source_merge.specs.Engine as engine
+use Rattle.source_merge.specs.Front.{ReadsTo}
 use Rattle.capture_actions.specs.declared.list_plan.ListPlan.{ListPlan}
 use Rattle.capture_actions.specs.declared.lister.Lister.{Lister}
 use Rattle.capture_actions.specs.declared.show.Show.{Show}
@@ -40,8 +40,7 @@ pub record Took (old new : Engine) (was now : Option Stop) (at : ℕ) (bytes : L
   pub live : engine.is_live new ≡ goes_on flow
   pub same : engine.plan_of new ≡ engine.plan_of old
   pub list : (u : List Placed) → engine.Stands old u → engine.Stands new (u ++ placed_from at bytes)
-  pub fed : (u : List Placed) → engine.Stands old u →
-      FedAs (Answers (engine.plan_of old) [] Going) (Answers (engine.plan_of old) given flow) u at bytes
+  pub reads : ReadsTo old at bytes flow given
   pub stop : now ≡ stop_by flow was
 
 -- what was put for these events of a capture that is read by this plan
@@ -75,25 +74,25 @@ module _ (old new : Show) (at : ℕ) (bytes : List ℕ) (given : List (Event Pac
       let e = old.engine in
       let k = new.engine in
       let list = took.list (placed seen) s.engine in
-      let fed = took.fed (placed seen) s.engine in
+      let reads = took.reads (placed seen) s.engine in
       let p = plan_of old in
       let report = report_of p.plan (placed seen) in
-      let grew = report_after e k seen bytes at given flow s.engine live took.at_is took.same list fed in
+      let grew = report_after e k seen bytes at given flow s.engine took.at_is took.same list reads in
       record {
         read = record {
-          engine = stands_after e k seen bytes at given flow s.engine live took.at_is took.same list fed;
+          engine = stands_after e k seen bytes at given flow s.engine took.at_is took.same list reads;
           plan = put.kept ∙ s.plan ∙ sym took.same;
           clocks = subst (λ (es : List (Event Packet)). AllStand new.lister.clocks es) (sym grew) (put.clocks report s.clocks);
           filter = subst (λ (es : List (Event Packet)). HasSeen new.lister.filter es) (sym grew) (put.seen report s.filter);
           stop = ap (option_map stop_of) took.stop
-              ∙ stop_after e k seen bytes at given flow s.engine live took.at_is took.same list fed old.stop
+              ∙ stop_after e k seen bytes at given flow s.engine took.at_is took.same list reads old.stop
               (sym old.alive ∙ live);
         };
         more = lines_after p report given;
-        grown = ap (lines_after p []) (report_here e k seen bytes at given flow s.engine live took.at_is took.same list fed)
+        grown = ap (lines_after p []) (report_here e k seen bytes at given flow s.engine took.at_is took.same list reads)
             ∙ lines_append p [] report given;
         gained = put.text s.plan report s.clocks s.filter;
-        goes_on = flow_after e k seen bytes at given flow s.engine live took.at_is took.same list fed;
+        goes_on = flow_after e k seen bytes at given flow s.engine took.at_is took.same list reads;
       }
 
   on_live : (flow : Reading) → engine.is_live new.engine ≡ goes_on flow → flow_by flow ≡ On → IsLive new

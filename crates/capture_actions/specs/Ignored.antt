@@ -1,14 +1,15 @@
--- What `check` does with the events of whole frames: nothing, for any number of them.
+-- What `check` does with events: nothing, for any number of them.
 use Rattle.std.specs.Prelude.{ℕ, List, [], ◌++◌, ⊤}
 use Rattle.source_events.specs.declared.event.Event.{Event}
 use Rattle.source_events.specs.declared.packet.Packet.{Packet}
 use Rattle.capture_actions.specs.declared.check.Ignored.{Ignored}
+use Rattle.capture_actions.specs.declared.check.TheConstants.{MANY}
 
 abbrev pub gets : Ignored × Unit {0} → List (Event Packet) → Ignored × Unit {0} → Type 0
 gets old es new = ⊤
 
 abbrev pub room : Ignored × Unit {0} → ℕ
-room s = 32
+room s = MANY
 
 pub gets_none : (s : Ignored × Unit {0}) → gets s [] s
 gets_none s = tt

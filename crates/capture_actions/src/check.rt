@@ -15,7 +15,7 @@ use crate::stopping::keep_stop;
 use itm_grammar::packet::ItmPacket;
 use source_counts::Counts;
 use source_events::{Event, Packet, Plan, Stop};
-use source_merge::{Engine, Events, Receiver, flow_after};
+use source_merge::{Engine, Receiver};
 use stp_grammar::said::Said;
 use trace_stream::{Action, Flow, OUTLET_ROOM, Outlet, TEXT_ROOM, Taken};
 use trace_text::{PortCountsLines, TAILS_ROOM, print_fault, print_tails, put_source_counts};
@@ -27,17 +27,18 @@ const SOURCE_ROOM: usize = 44;
 /// Bytes of room that a summary is given: more than any has.
 pub const SUMMARY_ROOM: usize = ID_COUNT * SOURCE_ROOM + TAILS_ROOM + 2 * TEXT_ROOM;
 
+/// Events that are only counted need no room: more than those of any piece.
+const MANY: usize = 1 << 40;
+
 /// The reading of a capture.
 #[derive(Drop)]
 pub struct Check {
     engine: Engine,
-    /// The events of the bytes that were taken last.
-    events: Events,
     stop: Option<Stop>,
     ghost alive: { is_live engine ≡ is_none stop },
 }
 
-/// Takes the events of whole frames. Events are only counted, which the engine does.
+/// Takes events. They are only counted, which the engine does.
 #[derive(Drop)]
 struct Ignored;
 
@@ -62,6 +63,11 @@ impl Receiver for Ignored {
 
     #[inline(always)]
     fn give(&mut self, _to: &mut (), _event: Event<Packet>) {}
+
+    #[inline(always)]
+    fn events_left(&self, _to: &()) -> usize {
+        MANY
+    }
 
     #[inline(always)]
     fn takes_itm(&self, _source: SourceId) -> bool {
@@ -150,20 +156,6 @@ fn put_sources(outlet: &mut Outlet, reading: &Engine)
     }
 }
 
-/// How many bytes of a piece are fed at once: a halfword that FF begins alone, since a frame that may be counted whole
-/// can come after a synchronisation.
-#[inline]
-fn front_length(piece: &[u8]) -> usize
-    requires { 0 < length piece.now }
-    ensures { (0 < result) × (result ≤ length piece.now) }
-{
-    if piece[0] == 0xFF && piece.len() > 2 {
-        2
-    } else {
-        piece.len()
-    }
-}
-
 impl Check {
     ghost use Rattle.source_events.specs.declared.plan.Plan.{Plan};
     ghost use Rattle.capture_actions.specs.Summary.{counts_text, summary};
@@ -179,7 +171,6 @@ impl Check {
     {
         Check {
             engine: Engine::new(plan),
-            events: Events::new(),
             stop: None,
         }
     }
@@ -252,7 +243,7 @@ impl Action for Check {
 
     ghost text_grows = { text_grows };
 
-    /// A whole frame is counted at once where no source is mapped, and is taken at once where one is.
+    /// A whole frame is counted at once where no source is mapped.
     fn feed(&mut self, piece: &[u8], _outlet: &mut Outlet) -> Taken {
         let at = self.engine.next();
         let bytes = count_frames(&mut self.engine, at, piece);
@@ -262,26 +253,7 @@ impl Action for Check {
                 flow: Flow::On,
             };
         }
-        if let Some(block) = self.engine.feed_bare(at, piece) {
-            let flow = keep_stop(&mut self.stop, flow_after(&block.step));
-            return Taken {
-                bytes: block.bytes,
-                flow,
-            };
-        }
-        let framed = self.engine.feed_frame(at, piece, &mut Ignored, &mut ());
-        if let Some(fed) = framed {
-            let flow = keep_stop(&mut self.stop, fed.flow);
-            return Taken {
-                bytes: fed.bytes,
-                flow,
-            };
-        }
-        self.events.clear();
-        let front = front_length(piece);
-        let fed = self
-            .engine
-            .feed_block(at, &piece[..front], &mut self.events);
+        let fed = self.engine.take(at, piece, &mut Ignored, &mut ());
         let flow = keep_stop(&mut self.stop, fed.flow);
         Taken {
             bytes: fed.bytes,

@@ -11,7 +11,6 @@ ghost use Rattle.source_events.specs.Fitting.{EventFits, PacketFits};
 ghost use Rattle.std.specs.Option.{is_some};
 ghost use Rattle.std.specs.Prelude.{true};
 ghost use Rattle.source_merge.specs.Receiver.{trigger_event};
-ghost use Rattle.stp_grammar.specs.Proper.{IsProperItem};
 ghost use Rattle.stp_grammar.specs.Said.{said_item, IsProperSaid};
 ghost use Rattle.stp_grammar.specs.declared.item.StpItem.{StpItem};
 ghost use Rattle.trace_text.specs.LineText.{event_line, itm_event, raw_event, stp_event};
@@ -29,13 +28,10 @@ use crate::source_clocks::SourceClocks;
 use item_tap::{Bounds, Choice};
 use itm_grammar::packet::ItmPacket;
 use source_events::{Event, Packet, Plan, RunBytes, What};
-use source_merge::{Receiver, bare_source};
-use stp_grammar::item::StpItem;
+use source_merge::Receiver;
 use stp_grammar::said::Said;
-use trace_stream::{OUTLET_ROOM, Outlet};
-use trace_text::{
-    Digits, EVENT_ROOM, Remark, print, put_line, put_raw_line, put_said_line, put_stp_line,
-};
+use trace_stream::{OUTLET_ROOM, Outlet, TEXT_ROOM};
+use trace_text::{Digits, EVENT_ROOM, Remark, print, put_line, put_raw_line, put_said_line};
 use trace_values::SourceId;
 
 /// What puts the lines of events, and what it needs of the events before them.
@@ -76,31 +72,6 @@ fn put_event(
     }
 }
 
-/// Takes the next event, and puts its line if it is listed.
-#[inline(always)]
-pub(crate) fn put_next(
-    outlet: &mut Outlet,
-    digits: &mut Digits,
-    clocks: &mut SourceClocks,
-    filter: &mut Filter,
-    plan: &Plan,
-    event: &Event<Packet>,
-)
-    requires fits { EventFits PacketFits event.now }
-    requires room { length outlet.old + TEXT_ROOM ≤ OUTLET_ROOM }
-    ensures text { (before : List (Event Packet)) → AllStand clocks.old before → HasSeen filter.old before →
-        outlet.new ≡ outlet.old ++ line_after (plan_by plan.now filter.old) before event.now }
-    ensures clocks { (before : List (Event Packet)) → AllStand clocks.old before →
-        AllStand clocks.new (before ++ event.now ∷ []) }
-    ensures seen { (before : List (Event Packet)) → HasSeen filter.old before →
-        HasSeen filter.new (before ++ event.now ∷ []) }
-    ensures same { plan_by plan.now filter.new ≡ plan_by plan.now filter.old }
-    ensures bound { length outlet.new ≤ length outlet.old + EVENT_ROOM }
-{
-    let remark = clocks.remark(event);
-    put_event(outlet, digits, filter, plan, event, remark);
-}
-
 /// Takes the next packet of this ITM source, whose last byte is at this offset, and puts its line. The clocks are asked
 /// only for a timestamp.
 #[inline(always)]
@@ -131,38 +102,10 @@ fn put_itm_line(
     }
 }
 
-/// The same of an event that comes seldom, out of line.
-#[inline(never)]
-pub(crate) fn put_whole(
-    outlet: &mut Outlet,
-    digits: &mut Digits,
-    clocks: &mut SourceClocks,
-    filter: &mut Filter,
-    plan: &Plan,
-    event: Event<Packet>,
-)
-    requires fits { EventFits PacketFits event }
-    requires room { length outlet.old + TEXT_ROOM ≤ OUTLET_ROOM }
-    ensures text { (before : List (Event Packet)) → AllStand clocks.old before → HasSeen filter.old before →
-        outlet.new ≡ outlet.old ++ line_after (plan_by plan.now filter.old) before event }
-    ensures clocks { (before : List (Event Packet)) → AllStand clocks.old before →
-        AllStand clocks.new (before ++ event ∷ []) }
-    ensures seen { (before : List (Event Packet)) → HasSeen filter.old before →
-        HasSeen filter.new (before ++ event ∷ []) }
-    ensures same { plan_by plan.now filter.new ≡ plan_by plan.now filter.old }
-    ensures bound { length outlet.new ≤ length outlet.old + EVENT_ROOM }
-{
-    put_next(outlet, digits, clocks, filter, plan, &event);
-}
-
 impl Lister {
     ghost use Rattle.capture_actions.specs.Filter.{bounds_in};
     ghost use Rattle.capture_actions.specs.Lister.{gets, ListsItm, ListsStp};
     ghost use Rattle.std.specs.Prelude.{[], ◌<◌, ◌↔◌, IfSome, IsTrue, true, false};
-    ghost use Rattle.trace_values.specs.declared.step.Step.TheVariants.{Item};
-    ghost use Rattle.trace_values.specs.Stream.{StepFits};
-    ghost use Rattle.source_machine.specs.Seen.{packet_in};
-    ghost use Rattle.source_merge.specs.Bare.{bare_events};
 
     /// No event came yet. It lists those of a capture that is read so which meet a choice, if there is one, and are
     /// within a window, if there is one.
@@ -181,62 +124,38 @@ impl Lister {
         }
     }
 
-    /// Takes the next packet of this source by its event, which is made here, and puts its line if it is listed.
+    /// Takes the next event, and puts its line if it is listed.
     #[inline(always)]
-    fn give_itm_event(&mut self, outlet: &mut Outlet, at: u64, source: SourceId, packet: ItmPacket)
-        requires proper { IsProper packet }
+    fn put_next(&mut self, outlet: &mut Outlet, event: &Event<Packet>)
+        requires fits { EventFits PacketFits event.now }
         requires room { length outlet.old + TEXT_ROOM ≤ OUTLET_ROOM }
-        ensures gets { gets (self.old, outlet.old) (itm_event at source packet ∷ []) (self.new, outlet.new) }
+        ensures gets { gets (self.old, outlet.old) (event.now ∷ []) (self.new, outlet.new) }
         ensures bound { length outlet.new ≤ length outlet.old + EVENT_ROOM }
     {
-        let event = Event {
-            at,
-            half: 0,
-            source: Some(source),
-            what: What::Packet(Packet::Itm(packet)),
-        };
-        put_whole(
+        let remark = self.clocks.remark(event);
+        put_event(
             outlet,
             &mut self.digits,
-            &mut self.clocks,
             &mut self.filter,
             self.plan.plan(),
             event,
+            remark,
         );
     }
 
-    /// The same of the next item of this source, which ends in this half of the byte.
-    #[inline(always)]
-    fn give_stp_event(
-        &mut self,
-        outlet: &mut Outlet,
-        at: u64,
-        half: u8,
-        source: SourceId,
-        item: StpItem,
-    )
-        requires proper { IsProperItem item }
+    /// Takes the next event, which is one that comes seldom.
+    #[inline(never)]
+    fn put_seldom(&mut self, outlet: &mut Outlet, event: Event<Packet>)
+        requires fits { EventFits PacketFits event }
         requires room { length outlet.old + TEXT_ROOM ≤ OUTLET_ROOM }
-        ensures gets { gets (self.old, outlet.old) (stp_event at half source item ∷ []) (self.new, outlet.new) }
+        ensures gets { gets (self.old, outlet.old) (event ∷ []) (self.new, outlet.new) }
         ensures bound { length outlet.new ≤ length outlet.old + EVENT_ROOM }
     {
-        let event = Event {
-            at,
-            half,
-            source: Some(source),
-            what: What::Packet(Packet::Stp(item)),
-        };
-        put_whole(
-            outlet,
-            &mut self.digits,
-            &mut self.clocks,
-            &mut self.filter,
-            self.plan.plan(),
-            event,
-        );
+        self.put_next(outlet, &event);
     }
 
-    /// The same of the byte of the trigger source at this offset.
+    /// Takes the byte of the trigger source at this offset by its event, which is made here, and puts its line if it is
+    /// listed.
     #[inline(never)]
     fn give_trigger_event(&mut self, outlet: &mut Outlet, at: u64, source: SourceId, byte: u8)
         requires room { length outlet.old + TEXT_ROOM ≤ OUTLET_ROOM }
@@ -244,17 +163,10 @@ impl Lister {
         ensures bound { length outlet.new ≤ length outlet.old + EVENT_ROOM }
     {
         let event = trigger_of(at, source, byte);
-        put_next(
-            outlet,
-            &mut self.digits,
-            &mut self.clocks,
-            &mut self.filter,
-            self.plan.plan(),
-            &event,
-        );
+        self.put_next(outlet, &event);
     }
 
-    /// The same of the next run of bytes of this source.
+    /// Takes the next run of bytes of this source by its event, which is made here, and puts its line if it is listed.
     #[inline(never)]
     fn give_raw_event(&mut self, outlet: &mut Outlet, at: u64, source: SourceId, bytes: &[u8])
         requires some { 0 < length bytes.now }
@@ -269,14 +181,7 @@ impl Lister {
             source: Some(source),
             what: What::Raw(RunBytes::new(bytes)),
         };
-        put_next(
-            outlet,
-            &mut self.digits,
-            &mut self.clocks,
-            &mut self.filter,
-            self.plan.plan(),
-            &event,
-        );
+        self.put_next(outlet, &event);
     }
 
     /// The lines of ITM packets of this source are put from the packets' parts: all events are listed, and it sends no
@@ -288,7 +193,7 @@ impl Lister {
         self.filter.lists_all() && !self.plan.sends_stp(source)
     }
 
-    /// The same of an STP source.
+    /// The lines of items of this source are put from their parts: all events are listed, and it sends STP packets.
     #[inline(always)]
     fn lists_stp(&self, source: SourceId) -> bool
         ensures { IsTrue result ↔ ListsStp self.now source }
@@ -316,27 +221,7 @@ impl Lister {
         );
     }
 
-    /// The same of the next item of this source, which ends in this half of the byte.
-    #[inline(always)]
-    fn put_own_stp(
-        &mut self,
-        outlet: &mut Outlet,
-        at: u64,
-        half: u8,
-        source: SourceId,
-        item: StpItem,
-    )
-        requires proper { IsProperItem item }
-        requires own { ListsStp self.old source }
-        requires room { length outlet.old + TEXT_ROOM ≤ OUTLET_ROOM }
-        ensures gets { gets (self.old, outlet.old) (stp_event at half source item ∷ []) (self.new, outlet.new) }
-        ensures bound { length outlet.new ≤ length outlet.old + EVENT_ROOM }
-    {
-        self.clocks.pass();
-        put_stp_line(outlet, &mut self.digits, at, half, source, item);
-    }
-
-    /// The same of the item of what a packet of this source says, which has one.
+    /// Takes the next item of this source, which is that of what a packet says, and puts its line from its parts.
     #[inline(always)]
     fn put_said(&mut self, outlet: &mut Outlet, at: u64, half: u8, source: SourceId, said: Said)
         requires proper { IsProperSaid said }
@@ -351,39 +236,9 @@ impl Lister {
         put_said_line(outlet, &mut self.digits, at, half, source, said);
     }
 
-    /// Takes the next packet of this source, and puts its line if it is listed.
+    /// Takes the next run of bytes of this source, and puts its line if it is listed.
     #[inline(always)]
-    fn put_itm(&mut self, outlet: &mut Outlet, at: u64, source: SourceId, packet: ItmPacket)
-        requires proper { IsProper packet }
-        requires room { length outlet.old + TEXT_ROOM ≤ OUTLET_ROOM }
-        ensures gets { gets (self.old, outlet.old) (itm_event at source packet ∷ []) (self.new, outlet.new) }
-        ensures bound { length outlet.new ≤ length outlet.old + EVENT_ROOM }
-    {
-        if self.lists_itm(source) {
-            self.put_own_itm(outlet, at, source, packet);
-        } else {
-            self.give_itm_event(outlet, at, source, packet);
-        }
-    }
-
-    /// The same of the next item of this source, which ends in this half of the byte.
-    #[inline(always)]
-    fn put_stp(&mut self, outlet: &mut Outlet, at: u64, half: u8, source: SourceId, item: StpItem)
-        requires proper { IsProperItem item }
-        requires room { length outlet.old + TEXT_ROOM ≤ OUTLET_ROOM }
-        ensures gets { gets (self.old, outlet.old) (stp_event at half source item ∷ []) (self.new, outlet.new) }
-        ensures bound { length outlet.new ≤ length outlet.old + EVENT_ROOM }
-    {
-        if self.lists_stp(source) {
-            self.put_own_stp(outlet, at, half, source, item);
-        } else {
-            self.give_stp_event(outlet, at, half, source, item);
-        }
-    }
-
-    /// The same of the next run of bytes of this source.
-    #[inline(always)]
-    pub(crate) fn put_raw(&mut self, outlet: &mut Outlet, at: u64, source: SourceId, bytes: &[u8])
+    fn put_raw(&mut self, outlet: &mut Outlet, at: u64, source: SourceId, bytes: &[u8])
         requires some { 0 < length bytes.now }
         requires few { length bytes.now ≤ 15 }
         requires room { length outlet.old + TEXT_ROOM ≤ OUTLET_ROOM }
@@ -398,7 +253,7 @@ impl Lister {
         }
     }
 
-    /// The same of a byte of the trigger source, which is this one.
+    /// Takes the next byte of the trigger source, and puts its line if it is listed.
     #[inline(always)]
     fn put_trigger(&mut self, outlet: &mut Outlet, at: u64, source: SourceId, byte: u8)
         requires room { length outlet.old + TEXT_ROOM ≤ OUTLET_ROOM }
@@ -411,41 +266,6 @@ impl Lister {
             print(outlet, &mut self.digits, &event, false, Remark::None);
         } else {
             self.give_trigger_event(outlet, at, source, byte);
-        }
-    }
-
-    /// Takes the next packet of a capture with no formatter. Its last byte is at this offset.
-    #[inline(always)]
-    pub(crate) fn put_bare(&mut self, outlet: &mut Outlet, at: u64, packet: Packet)
-        requires fits { PacketFits packet }
-        requires room { length outlet.old + TEXT_ROOM ≤ OUTLET_ROOM }
-        ensures gets { gets (self.old, outlet.old) (bare_events at (Some (Item 0 packet))) (self.new, outlet.new) }
-        ensures bound { length outlet.new ≤ length outlet.old + EVENT_ROOM }
-    {
-        match packet {
-            Packet::Itm(packet) => self.put_itm(outlet, at, bare_source(), packet),
-            Packet::Stp(item) => self.put_stp(outlet, at, 0, bare_source(), item),
-        }
-    }
-
-    /// Takes the item of an STP packet of a capture with no formatter, if it has one. The packet ends in this half of
-    /// the byte at this offset.
-    #[inline(always)]
-    pub(crate) fn put_bare_stp(
-        &mut self,
-        outlet: &mut Outlet,
-        at: u64,
-        half: u8,
-        item: Option<StpItem>,
-    )
-        requires fits { IfSome (packet_in half item) (StepFits PacketFits) }
-        requires room { length outlet.old + TEXT_ROOM ≤ OUTLET_ROOM }
-        ensures gets { gets (self.old, outlet.old) (bare_events at (packet_in half item)) (self.new, outlet.new) }
-        ensures bound { length outlet.new ≤ length outlet.old + EVENT_ROOM }
-    {
-        match item {
-            None => {}
-            Some(item) => self.put_stp(outlet, at, half, bare_source(), item),
         }
     }
 }
@@ -485,14 +305,12 @@ impl Receiver for Lister {
     /// What comes so is seldom: the notice of a lock.
     #[inline(always)]
     fn give(&mut self, outlet: &mut Outlet, event: Event<Packet>) {
-        put_whole(
-            outlet,
-            &mut self.digits,
-            &mut self.clocks,
-            &mut self.filter,
-            self.plan.plan(),
-            event,
-        );
+        self.put_seldom(outlet, event);
+    }
+
+    #[inline(always)]
+    fn events_left(&self, outlet: &Outlet) -> usize {
+        (OUTLET_ROOM + EVENT_ROOM - TEXT_ROOM).saturating_sub(outlet.len()) / EVENT_ROOM
     }
 
     #[inline(always)]

@@ -13,7 +13,7 @@ use Rattle.source_events.specs.declared.plan.SourceKind.TheVariants.{Itm, Stp}
 use Rattle.source_events.specs.Plan.{mapped_ids, stream_of, sources_by, are_sound, is_sound}
 use Rattle.source_events.specs.Report.{Mapped, stop_of}
 use Rattle.source_merge.specs.declared.slot.Slot.{Slot}
-use Rattle.source_merge.specs.Routing.{HasNot, AreDistinct, AllLive, LiveIf}
+use Rattle.source_merge.specs.Routing.{AllLive, HaveRoom, LiveIf, RoomIf, HasNot, AreDistinct}
 
 -- the IDs of the mapped sources
 ids_of : List (Mapped Packet) → List ℕ
@@ -81,6 +81,16 @@ pub live_if : {M : Type 0} → (live : M → Bool) (so : Bool) (slots : List (Sl
     LiveIf live so slots
 live_if live true slots h = h refl
 live_if live false slots h = tt
+
+pub room_now : {M : Type 0} → (held skipped : M → ℕ) (so : Bool) (n : ℕ) (slots : List (Slot M)) → so ≡ true →
+    RoomIf held skipped so n slots → HaveRoom held skipped n slots
+room_now held skipped true n slots e h = h
+room_now held skipped false n slots e h = cc
+
+pub room_if : {M : Type 0} → (held skipped : M → ℕ) (so : Bool) (n : ℕ) (slots : List (Slot M)) →
+    (so ≡ true → HaveRoom held skipped n slots) → RoomIf held skipped so n slots
+room_if held skipped true n slots h = h refl
+room_if held skipped false n slots h = tt
 
 -- what a test of an option says
 pub tested : {X : Type 0} → (x : Option X) (t : Bool) → is_some x ≡ not t → t ≡ is_none x

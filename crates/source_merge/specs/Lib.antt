@@ -1,5 +1,6 @@
 pub mod Feeding
 pub mod Run
+pub mod Piece
 pub mod Frame
 pub mod Routing
 pub mod Machines
@@ -12,6 +13,6 @@ pub mod Receiver
 pub mod ReceiverLaws
 pub mod Stepping
 pub mod Ending
-pub mod Bare
 pub mod Engine
+pub mod Front
 pub mod Split

@@ -105,6 +105,11 @@ pub record Fed {M V : Type 0} (stands : M → List Placed → Type 0) (mapped : 
   pub fault_is : least_fault mapped (runs ++ more) ≡ option_map stop_of stop
   pub list : stop ≡ None → AllStand stands slots (runs ++ more)
 
+-- where it is so, all machines have this room
+abbrev pub RoomIf : {M : Type 0} → (M → ℕ) → (M → ℕ) → Bool → ℕ → List (Slot M) → Type 0
+RoomIf held skipped true n slots = HaveRoom held skipped n slots
+RoomIf held skipped false n slots = Unit {0}
+
 -- where it is so, all machines are live
 abbrev pub LiveIf : {M : Type 0} → (M → Bool) → Bool → List (Slot M) → Type 0
 LiveIf live true slots = AllLive live slots

@@ -3,12 +3,17 @@ use Rattle.std.specs.Prelude.{ℕ, List, [], ◌∷◌, Bool, true, false}
 use Rattle.std.specs.Coded.{×_prop, Unit-prop, le_prop}
 use Rattle.std.proofs.Math.Bool.{Bool-set}
 use Rattle.source_merge.specs.declared.slot.Slot.{Slot}
-use Rattle.source_merge.specs.Routing.{AllLive, HaveRoom, LiveIf}
+use Rattle.source_merge.specs.Routing.{AllLive, HaveRoom, LiveIf, RoomIf}
 
 pub HaveRoom-prop : {M : Type 0} → (held skipped : M → ℕ) (n : ℕ) (slots : List (Slot M)) →
     IsProp (HaveRoom held skipped n slots)
 HaveRoom-prop held skipped n [] = Unit-prop
 HaveRoom-prop held skipped n (s ∷ slots) = ×_prop le_prop (HaveRoom-prop held skipped n slots)
+
+pub RoomIf-prop : {M : Type 0} → (held skipped : M → ℕ) (so : Bool) (n : ℕ) (slots : List (Slot M)) →
+    IsProp (RoomIf held skipped so n slots)
+RoomIf-prop held skipped true n slots = HaveRoom-prop held skipped n slots
+RoomIf-prop held skipped false n slots = Unit-prop
 
 pub AllLive-prop : {M : Type 0} → (live : M → Bool) (slots : List (Slot M)) → IsProp (AllLive live slots)
 AllLive-prop live [] = Unit-prop

@@ -7,12 +7,12 @@ ghost use Rattle.deformatter.specs.PortReading.{PortReading};
 ghost use Rattle.source_merge.specs.Counting.{HasPort, port_total};
 ghost use Rattle.trace_values.specs.declared.limits.TheConstants.{COUNT_ROOM};
 
-use crate::bare::{bare_source, ends_packet};
+use crate::bare::bare_source;
 use deformatter::PortStep;
 use frame_grammar::frame::FRAME_BYTES;
 use source_counts::{Counts, SourceCounts};
 use source_events::{Event, Packet, PortCounts, What};
-use trace_values::{Cell, ID_COUNT, SourceId, Step};
+use trace_values::{Cell, ID_COUNT, SourceId};
 
 /// The most that is counted of frames that are counted whole: more than a capture has bytes.
 const MOST_WHOLE: u64 = 1 << 37;
@@ -24,17 +24,11 @@ pub struct PerSource {
 }
 
 impl PerSource {
-    ghost use Rattle.std.specs.Prelude.{Option};
-    ghost use Rattle.std.specs.Option.{is_some};
-    ghost use Rattle.stp_grammar.specs.declared.item.StpItem.{StpItem};
-    ghost use Rattle.source_machine.specs.Seen.{packet_in};
     ghost use Rattle.std.specs.Prelude.{◌+◌, ◌^◌, ◌≤◌, ◌++◌, ◌∷◌, [], ℕ, List, if◌then◌else◌, ◌==◌, true};
     ghost use Rattle.source_events.specs.Report.{is_item};
     ghost use Rattle.source_events.specs.declared.event.Event.{Event};
     ghost use Rattle.source_events.specs.declared.packet.Packet.{Packet};
     ghost use Rattle.std.specs.Prelude.{Some};
-    ghost use Rattle.trace_values.specs.declared.step.Step.TheVariants.{Item};
-    ghost use Rattle.source_merge.specs.Bare.{bare_events};
     ghost use Rattle.source_merge.specs.Counting.{HasItems, number_of, total_of};
     ghost use Rattle.trace_values.specs.declared.cell.Cell.{Cell};
 
@@ -65,43 +59,6 @@ impl PerSource {
     {
         let number: &mut u64 = &mut self.numbers[usize::from(id.number())];
         *number += more;
-    }
-
-    /// Counts the packet of source 1, `source`, that the last answer to a piece gives, if it gives one.
-    #[inline]
-    fn add_answer(&mut self, source: SourceId, step: &Option<Step<Packet>>)
-        requires own { source ≡ 1 }
-        requires room { total_of self.old + 1 ≤ COUNT_ROOM }
-        ensures items { (whole : List (List Cell)) (es : List (Event Packet)) (at : ℕ) → HasItems self.old whole es →
-            HasItems self.new whole (es ++ bare_events at step.now) }
-        ensures total { total_of self.new ≤ total_of self.old + 1 }
-    {
-        self.add(source, u64::from(ends_packet(step)));
-    }
-
-    /// Counts a packet of source 1, `source`.
-    #[inline(always)]
-    fn add_one(&mut self, source: SourceId)
-        requires own { source ≡ 1 }
-        requires room { total_of self.old + 1 ≤ COUNT_ROOM }
-        ensures items { (whole : List (List Cell)) (es : List (Event Packet)) (at : ℕ) (packet : Packet) →
-            HasItems self.old whole es → HasItems self.new whole (es ++ bare_events at (Some (Item 0 packet))) }
-        ensures total { total_of self.new ≤ total_of self.old + 1 }
-    {
-        self.add(source, 1);
-    }
-
-    /// Counts the item of an STP packet of source 1, `source`, if it has one.
-    #[inline(always)]
-    fn add_stp(&mut self, source: SourceId, has_item: bool)
-        requires own { source ≡ 1 }
-        requires room { total_of self.old + 1 ≤ COUNT_ROOM }
-        ensures items { (whole : List (List Cell)) (es : List (Event Packet)) (at half : ℕ) (item : Option StpItem) →
-            has_item ≡ is_some item → HasItems self.old whole es →
-            HasItems self.new whole (es ++ bare_events at (packet_in half item)) }
-        ensures total { total_of self.new ≤ total_of self.old + 1 }
-    {
-        self.add(source, u64::from(has_item));
     }
 
     /// Counts an event of this source, which is no notice.
@@ -225,22 +182,16 @@ pub struct Counters {
 }
 
 impl Counters {
-    ghost use Rattle.std.specs.Prelude.{Option};
-    ghost use Rattle.std.specs.Option.{is_some};
-    ghost use Rattle.stp_grammar.specs.declared.item.StpItem.{StpItem};
-    ghost use Rattle.source_machine.specs.Seen.{packet_in};
     ghost use Rattle.std.specs.Prelude.{◌+◌, ◌*◌, ◌^◌, ◌++◌, ℕ, List, [], length, Some};
     ghost use Rattle.frame_grammar.specs.Frame.{cells, id_after};
     ghost use Rattle.deformatter.specs.ReadingGrowth.{GrowsByFrame};
     ghost use Rattle.deformatter.specs.PortReading.{PortReading};
     ghost use Rattle.trace_values.specs.declared.reading_modes.FramesMode.{FramesMode};
     ghost use Rattle.source_counts.specs.Kept as kept;
-    ghost use Rattle.trace_values.specs.declared.step.Step.TheVariants.{Item};
     ghost use Rattle.trace_values.specs.declared.cell.Cell.{Cell};
     ghost use Rattle.trace_values.specs.Placed.{Placed};
     ghost use Rattle.trace_values.specs.declared.reading_modes.FramesMode.TheVariants.{Bare};
     ghost use Rattle.deformatter.specs.PortReading.{port_reading};
-    ghost use Rattle.source_merge.specs.Bare.{bare_events};
     ghost use Rattle.source_merge.specs.Counting.{AreItems, HasBytes, HasCounted, HasItems, bytes_in, size_of};
     ghost use Rattle.source_merge.specs.Counting.{unattributed_in, whole_of};
     ghost use Rattle.source_events.specs.Report.{runs_in};
@@ -268,50 +219,17 @@ impl Counters {
         }
     }
 
-    /// Counts this many bytes of a capture with no formatter, each of which is a frame of one byte of source 1, and
-    /// what the answer to the last of them gave.
+    /// Counts this many bytes of a capture with no formatter, each of which is a frame of one byte of source 1.
     #[inline]
-    pub fn add_bare(&mut self, bytes: usize, step: &Option<Step<Packet>>)
-        requires { size_of self.old + 2 * bytes + 1 ≤ COUNT_ROOM }
-        ensures counted { (u w : List Placed) (es : List (Event Packet)) (at : ℕ) → length w ≡ bytes →
-            HasCounted self.old (port_reading Bare u) es →
-            HasCounted self.new (port_reading Bare (u ++ w)) (es ++ bare_events at step.now) }
-        ensures size { size_of self.new ≤ size_of self.old + 2 * bytes + 1 }
+    pub fn add_bare(&mut self, bytes: usize)
+        requires { size_of self.old + 2 * bytes ≤ COUNT_ROOM }
+        ensures counted { (u w : List Placed) (es : List (Event Packet)) → length w ≡ bytes →
+            HasCounted self.old (port_reading Bare u) es → HasCounted self.new (port_reading Bare (u ++ w)) es }
+        ensures size { size_of self.new ≤ size_of self.old + 2 * bytes }
         ensures same { whole_of self.new ≡ whole_of self.old }
     {
         self.bytes.add_bare(bytes as u64);
         self.port.frames += bytes as u64;
-        self.items.add_answer(bare_source(), step);
-    }
-
-    /// The same of the bytes of one packet.
-    #[inline(always)]
-    pub fn add_packet(&mut self, bytes: usize)
-        requires { size_of self.old + 2 * bytes + 1 ≤ COUNT_ROOM }
-        ensures counted { (u w : List Placed) (es : List (Event Packet)) (at : ℕ) (packet : Packet) → length w ≡ bytes →
-            HasCounted self.old (port_reading Bare u) es →
-            HasCounted self.new (port_reading Bare (u ++ w)) (es ++ bare_events at (Some (Item 0 packet))) }
-        ensures size { size_of self.new ≤ size_of self.old + 2 * bytes + 1 }
-        ensures same { whole_of self.new ≡ whole_of self.old }
-    {
-        self.bytes.add_bare(bytes as u64);
-        self.port.frames += bytes as u64;
-        self.items.add_one(bare_source());
-    }
-
-    /// The same of the bytes of one STP packet, which may have an item.
-    #[inline(always)]
-    pub fn add_stp(&mut self, bytes: usize, has_item: bool)
-        requires { size_of self.old + 2 * bytes + 1 ≤ COUNT_ROOM }
-        ensures counted { (u w : List Placed) (es : List (Event Packet)) (at half : ℕ) (item : Option StpItem) →
-            has_item ≡ is_some item → length w ≡ bytes → HasCounted self.old (port_reading Bare u) es →
-            HasCounted self.new (port_reading Bare (u ++ w)) (es ++ bare_events at (packet_in half item)) }
-        ensures size { size_of self.new ≤ size_of self.old + 2 * bytes + 1 }
-        ensures same { whole_of self.new ≡ whole_of self.old }
-    {
-        self.bytes.add_bare(bytes as u64);
-        self.port.frames += bytes as u64;
-        self.items.add_stp(bare_source(), has_item);
     }
 
     /// Counts a frame by its bytes, with this many half synchronisations between its halfwords, where no source is

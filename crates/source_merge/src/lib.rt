@@ -7,6 +7,7 @@ mod engine;
 mod flow;
 mod frame;
 mod mapped;
+mod piece;
 mod receiver;
 mod router;
 mod run;
@@ -15,7 +16,6 @@ mod split;
 mod step;
 mod tails;
 
-pub use bare::{bare_source, flow_after, note_bare};
 pub use engine::{Engine, GREATEST_OFFSET};
 pub use flow::{Fed, Flow};
 pub use receiver::Receiver;

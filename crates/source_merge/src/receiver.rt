@@ -11,7 +11,7 @@ ghost use Rattle.stp_grammar.specs.Said.{said_item, IsProperSaid};
 ghost use Rattle.stp_grammar.specs.declared.item.StpItem.{StpItem};
 ghost use Rattle.source_merge.specs.Receiver.{itm_event, raw_event, stp_event, trigger_event};
 
-use crate::slot::{Events, event_at};
+use crate::slot::{EVENTS, Events, event_at};
 use itm_grammar::packet::ItmPacket;
 use source_events::{Event, Packet, RunBytes, What};
 use stp_grammar::said::Said;
@@ -37,6 +37,10 @@ pub trait Receiver {
         requires room { 0 < room (self.old, to.old) }
         ensures gets { gets (self.old, to.old) (event ∷ []) (self.new, to.new) }
         ensures room { room (self.old, to.old) ≤ room (self.new, to.new) + 1 };
+
+    /// How many more events it has room for.
+    fn events_left(&self, to: &Self::To) -> usize
+        ensures { result ≡ room (self.now, to.now) };
 
     /// Packets of this ITM source may be given by their parts. It is asked before the packet is read: so what is read
     /// goes straight into what is made of it.
@@ -113,6 +117,11 @@ impl Receiver for Events {
     #[inline(always)]
     fn give(&mut self, _to: &mut (), event: Event<Packet>) {
         self.push(event);
+    }
+
+    #[inline(always)]
+    fn events_left(&self, _to: &()) -> usize {
+        EVENTS - self.len()
     }
 
     #[inline(always)]

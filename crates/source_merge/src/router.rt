@@ -4,6 +4,7 @@ ghost use Rattle.trace_values.specs.declared.limits.TheConstants.{COUNT_ROOM, PA
 ghost use Rattle.source_merge.specs.declared.slot.TheConstants.{FRAME_ROOM};
 ghost use Rattle.std.specs.Prelude.{◌≡◌, ◌+◌, ◌*◌, ◌<◌, ◌≤◌, ◌++◌, ◌∷◌, [], ℕ, List, length, None};
 ghost use Rattle.std.specs.Prelude.{Some, position, ◌==◌};
+ghost use Rattle.std.specs.Option.{option_map};
 ghost use Rattle.trace_values.specs.declared.cell.Cell.{Cell};
 ghost use Rattle.source_events.specs.Runs.{RisesFrom, IsRunFrom, runs_of, id_of};
 ghost use Rattle.source_events.specs.Merge.{told};
@@ -93,9 +94,23 @@ pub fn find(slots: &[Slot<SourceMachine>], id: SourceId) -> Option<usize>
     slots.iter().position(|slot| slot.id == id)
 }
 
+/// The fault with which a source stops the report, if it has this one.
+#[inline]
+pub fn stop_by(source: SourceId, fault: Option<Fault>) -> Option<Stop>
+    ensures { result ≡ option_map (λ f. record { fault = f; source = Some source }) fault }
+{
+    match fault {
+        None => None,
+        Some(fault) => Some(Stop {
+            fault,
+            source: Some(source),
+        }),
+    }
+}
+
 /// Feeds a run to the machine of one slot.
 #[inline(always)]
-fn feed_slot<R: Run, V: Receiver>(
+pub fn feed_slot<R: Run, V: Receiver>(
     slots: &mut [Slot<SourceMachine>],
     index: usize,
     id: SourceId,
@@ -106,7 +121,7 @@ fn feed_slot<R: Run, V: Receiver>(
 ) -> Option<Fault>
     requires index { index < length slots.old }
     requires live { AllLive is_live slots.old }
-    requires size { length (R.cells run.now) ≤ 15 }
+    requires size { length (R.cells run.now) ≤ FRAME_ROOM }
     requires room { HaveRoom held_of skipped_by PART_ROOM slots.old }
     requires space { 2 * length (R.cells run.now) ≤ V.room (out.old, to.old) }
     requires count { total_of items.old + 2 * length (R.cells run.now) ≤ COUNT_ROOM }
@@ -165,13 +180,7 @@ pub fn take_own<R: Run, V: Receiver>(
           stop = result;
         })) }
 {
-    match feed_slot(slots, index, id, run, items, out, to) {
-        Some(fault) => Some(Stop {
-            fault,
-            source: Some(id),
-        }),
-        None => None,
-    }
+    stop_by(id, feed_slot(slots, index, id, run, items, out, to))
 }
 
 /// Takes a run of this source, or of none.

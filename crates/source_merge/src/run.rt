@@ -9,18 +9,14 @@ ghost use Rattle.source_events.specs.Runs.{bytes_of};
 use source_events::RunBytes;
 use trace_values::Cell;
 
-/// The greatest offset at which bytes are fed as a piece: more than any of a capture.
-pub const FAR: u64 = 1 << 58;
-
-/// A run of a source's bytes in a frame.
+/// A run of a source's bytes: in a frame, or a piece of a capture with no formatter.
 pub trait Run {
     // its cells
     ghost cells: { Self → List Cell };
 
-    /// How many bytes it has, at most 15.
+    /// How many bytes it has.
     fn len(&self) -> usize
-        ensures value { result ≡ length (cells self.now) }
-        ensures few { result ≤ 15 };
+        ensures { result ≡ length (cells self.now) };
 
     /// Its bytes, with `AHEAD` more behind them, whatever these are.
     fn ahead(&self) -> &[u8]

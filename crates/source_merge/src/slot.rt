@@ -18,6 +18,7 @@ ghost use Rattle.source_events.specs.Report.{lifted};
 ghost use Rattle.source_events.specs.Fitting.{EventFits, PacketFits};
 ghost use Rattle.source_machine.specs.Seen.{itm_found, packet_in};
 ghost use Rattle.source_machine.specs.Machine.{FinishesStp, Idles, Stands, held_of, is_live, reading_of, skipped_by};
+ghost use Rattle.source_merge.specs.declared.slot.TheConstants.{FRAME_ROOM};
 ghost use Rattle.source_merge.specs.Counting.{total_of};
 ghost use Rattle.itm_grammar.specs.Proper.{IsProper};
 ghost use Rattle.source_merge.specs.Feeding.{Feeds, IsEarly, IsEarlyFrom, step_fault};
@@ -382,7 +383,7 @@ pub fn feed_itm<R: Run, V: Receiver>(
     to: &mut V::To,
 ) -> Option<Fault>
     requires live { is_live machine.old ≡ true }
-    requires size { length (R.cells run.now) ≤ 15 }
+    requires size { length (R.cells run.now) ≤ FRAME_ROOM }
     requires room { held_of machine.old + skipped_by machine.old + 2 * length (R.cells run.now) ≤ COUNT_ROOM }
     requires space { 2 * length (R.cells run.now) ≤ V.room (out.old, to.old) }
     requires count { total_of items.old + 2 * length (R.cells run.now) ≤ COUNT_ROOM }
@@ -434,7 +435,7 @@ pub fn feed_stp<R: Run, V: Receiver>(
     to: &mut V::To,
 ) -> Option<Fault>
     requires live { is_live machine.old ≡ true }
-    requires size { length (R.cells run.now) ≤ 15 }
+    requires size { length (R.cells run.now) ≤ FRAME_ROOM }
     requires room { held_of machine.old + skipped_by machine.old + 2 * length (R.cells run.now) ≤ COUNT_ROOM }
     requires space { 2 * length (R.cells run.now) ≤ V.room (out.old, to.old) }
     requires count { total_of items.old + 2 * length (R.cells run.now) ≤ COUNT_ROOM }

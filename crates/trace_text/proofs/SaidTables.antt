@@ -3,7 +3,7 @@ use Rattle.std.proofs.Common.{◌≡◌, ℕ, ◌*◌, ◌/◌, ◌%◌, ◌^◌
 use Rattle.std.specs.Prelude.{◌==◌, ◌||◌, nat_le}
 use Rattle.std.proofs.lemmas.Bool.Decides.{nat_tests}
 use Rattle.stp_grammar.specs.Opcodes.{line_of, row_at}
-use Rattle.stp_grammar.proofs.RowBits.{under, below, same, is_same}
+use Rattle.stp_grammar.proofs.Tables.{under, below, same, is_same}
 use Rattle.trace_text.specs.declared.said_tables.TheConstants.{WRITTEN, PLACE_COUNTS, WORDS, WORD_LENS, WIDTHS, WIDTH_LENS, DIGIT_COUNTS, MARKS, MARK_LENS}
 use Rattle.trace_text.specs.SaidText.{is_written, is_placed, word_at, width_at, mark_at}
 use Rattle.trace_text.proofs.DigitTables.{same as same_list, is_same as is_same_list}

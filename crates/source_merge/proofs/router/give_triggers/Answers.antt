@@ -25,7 +25,7 @@ loop-index-preserved g c =
           given_as gets (c.args.items.now, (c.args.out.now, c.args.to.now))
           (c.add_event.new.self, (c.give_trigger.new.self, c.give_trigger.new.to)) (told_by x (take k run) ++ event ∷ []) (told_by x (take (k + 1) run))
           (one_more x run k c.cell-cell.result
-          (let n = c.len-index-end.ensures.value in let h = c.loop-index-test.true in omega arith) c.cell-cell.ensures)
+          (let n = c.len-index-end.ensures in let h = c.loop-index-test.true in omega arith) c.cell-cell.ensures)
           (given_more gets g.met.V.Receiver.gets_more (c.args.items.now, (c.args.out.now, c.args.to.now))
           (c.loop-index.items, (c.loop-index.out, c.loop-index.to)) (c.add_event.new.self, (c.give_trigger.new.self, c.give_trigger.new.to))
           (told_by x (take k run)) (event ∷ []) i.given

@@ -28,7 +28,7 @@ loop-done-preserved-in-Ends g c =
     let last = c.cell.result in
     let ahead = c.ahead-ahead.result.now in
     let within : done + c.in-Ends.bytes ≤ length run =
-    (let k = found.bytes.1 in let h = c.loop-done-test.true in let e = c.len-in-loop-done.ensures.value in omega arith) in
+    (let k = found.bytes.1 in let h = c.loop-done-test.true in let e = c.len-in-loop-done.ensures in omega arith) in
     fed_on g.V.Receiver.gets g.V.Receiver.room c.args.machine.now (c.args.items.now, (c.args.out.now, c.args.to.now)) run
     c.args.source g.met.V.Receiver.gets_more done c.in-Ends.bytes c.loop-done.machine c.look_itm.new.machine
     (c.loop-done.items, (c.loop-done.out, c.loop-done.to)) (c.give_itm.new.items, (c.give_itm.new.out, c.give_itm.new.to))
@@ -53,15 +53,15 @@ loop-done-preserved-in-Waits g c =
     let done = c.loop-done.done in
     let count = c.len-in-loop-done.result - done in
     let ahead = c.ahead-ahead.result.now in
-    let length_is = c.len-in-loop-done.ensures.value in
+    let length_is = c.len-in-loop-done.ensures in
     let h = c.loop-done-test.true in
-    let first_length = c.len.ensures.value in
+    let first_length = c.len.ensures in
     let some : 0 < count = omega (arith, h, length_is, first_length) in
     let within : done + count ≤ length run = omega (arith, length_is, i.within) in
     let now : PerSource × (_ × _) = (c.loop-done.items, (c.loop-done.out, c.loop-done.to)) in
     subst (λ (n : ℕ). FedSoFar g.V.Receiver.gets g.V.Receiver.room c.args.machine.now (c.args.items.now, (c.args.out.now, c.args.to.now)) run
     c.args.source n c.look_itm.new.machine now)
-    (let e = c.len-done.ensures.value in omega (arith, e, length_is, i.within))
+    (let e = c.len-done.ensures in omega (arith, e, length_is, i.within))
     (fed_on g.V.Receiver.gets g.V.Receiver.room c.args.machine.now (c.args.items.now, (c.args.out.now, c.args.to.now)) run
     c.args.source g.met.V.Receiver.gets_more done count c.loop-done.machine c.look_itm.new.machine now now [] i
     (record {

@@ -44,7 +44,7 @@ returns-in-Some-clause-feeds g c =
     let reading = reading_of c.args.machine.now in
     let now = Stands c.take_itm.new.self in
     let ahead = c.ahead.result.now in
-    let bound = c.len.ensures.value in
+    let bound = c.len.ensures in
     let long : length run ≤ length ahead = (let k = c.ahead.ensures.room in omega arith) in
     let some : 0 < part.bytes = found.bytes.0 in
     let within : done + part.bytes ≤ length run = rest_length run done c.len.result ahead bound c.requires.done long part.bytes found.bytes.1 in
@@ -77,7 +77,7 @@ returns-in-Some-take_stp-clause-feeds g c =
     let was = Stands c.take_itm.new.self in
     let now = Stands c.take_stp.new.self in
     let ahead = c.ahead.result.now in
-    let bound = c.len.ensures.value in
+    let bound = c.len.ensures in
     let long : length run ≤ length ahead = (let k = c.ahead.ensures.room in omega arith) in
     let some : 0 < taken.bytes = found.bytes.0 in
     let within : done + taken.bytes ≤ length run = rest_length run done c.len.result ahead bound c.requires.done long taken.bytes found.bytes.1 in

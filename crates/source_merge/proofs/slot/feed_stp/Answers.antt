@@ -34,7 +34,7 @@ loop-done-preserved-in-Ends g c =
     let ahead = c.ahead-ahead.result.now in
     let was : PerSource × (_ × _) = (c.loop-done.items, (c.loop-done.out, c.loop-done.to)) in
     let within : done + taken.bytes ≤ length run =
-    (let a = found.bytes.1 in let b = few.1 in let h = c.loop-done-test.true in let e = c.len-in-loop-done.ensures.value in let f = c.len.ensures.value in omega arith) in
+    (let a = found.bytes.1 in let b = few.1 in let h = c.loop-done-test.true in let e = c.len-in-loop-done.ensures in let f = c.len.ensures in omega arith) in
     let step = packet_in taken.half (said_item taken.said) in
     fed_on g.V.Receiver.gets g.V.Receiver.room c.args.machine.now (c.args.items.now, (c.args.out.now, c.args.to.now)) run
     c.args.source g.met.V.Receiver.gets_more done taken.bytes c.look_stp.new.machine c.end_stp-taken.new.self
@@ -62,15 +62,15 @@ loop-done-preserved-in-Waits g c =
     let done = c.loop-done.done in
     let count = c.len-in-loop-done.result - done in
     let ahead = c.ahead-ahead.result.now in
-    let length_is = c.len-in-loop-done.ensures.value in
+    let length_is = c.len-in-loop-done.ensures in
     let h = c.loop-done-test.true in
-    let first_length = c.len.ensures.value in
+    let first_length = c.len.ensures in
     let some : 0 < count = omega (arith, h, length_is, first_length) in
     let within : done + count ≤ length run = omega (arith, length_is, i.within) in
     let now : PerSource × (_ × _) = (c.loop-done.items, (c.loop-done.out, c.loop-done.to)) in
     subst (λ (n : ℕ). FedSoFar g.V.Receiver.gets g.V.Receiver.room c.args.machine.now (c.args.items.now, (c.args.out.now, c.args.to.now)) run
     c.args.source n c.look_stp.new.machine now)
-    (let e = c.len-done.ensures.value in omega (arith, e, length_is, i.within))
+    (let e = c.len-done.ensures in omega (arith, e, length_is, i.within))
     (fed_on g.V.Receiver.gets g.V.Receiver.room c.args.machine.now (c.args.items.now, (c.args.out.now, c.args.to.now)) run
     c.args.source g.met.V.Receiver.gets_more done count c.loop-done.machine c.look_stp.new.machine now now [] i
     (record {

@@ -11,6 +11,8 @@ use Rattle.source_merge.specs.declared.engine.Engine.{Engine}
 use Rattle.source_merge.specs.declared.flow.Flow.{Flow as Reading}
 use Rattle.source_merge.specs.declared.flow.Flow.TheVariants.{Going}
 use Rattle.source_merge.specs.Engine as engine
+use Rattle.source_merge.specs.Front.{ReadsTo}
+use Rattle.source_merge.proofs.Growing.{fed_reads, no_fault}
 use Rattle.capture_actions.specs.Stopping.{flow_by, stop_by}
 use Rattle.trace_stream.specs.Taken.{FlowAfter}
 use Rattle.trace_stream.specs.declared.action.Flow.{Flow}
@@ -44,40 +46,30 @@ returns-then-bytes-gt0-clause-fed c = λ seen s.
 pub returns-clause-fed : goal.returns-clause-fed
 returns-clause-fed c = λ seen s.
     let old = c.args.self.now in
-    let block = c.feed_block-fed in
-    let bytes = take block.result.bytes c.args.piece.now in
-    let front = c.front_length-front in
-    let few : block.result.bytes ≤ front.result =
-    (let a = block.ensures.bytes.1 in let b = length-take-le front.result c.args.piece.now front.ensures.1 in omega arith) in
-    let cut : take block.result.bytes (take front.result c.args.piece.now) ≡ bytes =
-    take-take block.result.bytes front.result c.args.piece.now few in
+    let p = plan_of old in
     let at = c.next-at.result in
-    let is = (c.feed_frame-framed.ensures.none c.in_default-framed.is).0
-    ∙ c.feed_bare.ensures.none c.in_default.is ∙ c.count_frames-bytes.ensures.none (let z = c.if-bytes-gt0.false in omega arith) in
-    let same = subst (λ (k : Engine). engine.plan_of block.new.self ≡ engine.plan_of k) is block.ensures.same in
-    let list = subst (λ (l : List ℕ). engine.Stands block.new.self (placed seen ++ placed_from at l)) cut
-    (subst (λ (k : Engine). (u : List Placed) → engine.Stands k u →
-    engine.Stands block.new.self (u ++ placed_from at (take block.result.bytes (take front.result c.args.piece.now))))
-    is block.ensures.list (placed seen) s.engine) in
-    let fed = subst (λ (l : List ℕ). FedAs (Answers (plan_of old) [] Going) (Answers (plan_of old) block.new.out.items block.result.flow) (placed seen) at l) cut
-    (subst (λ (k : Engine). (u : List Placed) → engine.Stands k u →
-    FedAs (Answers (engine.plan_of k) [] Going) (Answers (engine.plan_of k) block.new.out.items block.result.flow) u at
-    (take block.result.bytes (take front.result c.args.piece.now)))
-    is block.ensures.fed (placed seen) s.engine) in
+    let one = c.take-fed in
+    let fed = one.result in
+    let new = one.new.self in
+    let bytes = take fed.bytes c.args.piece.now in
+    let given = one.ensures.reads.0 in
+    let is = c.feed_bare.ensures.none c.in_default.is ∙ c.count_frames-bytes.ensures.none (let z = c.if-bytes-gt0.false in omega arith) in
+    let list = subst (λ (k : Engine). (u : List Placed) → engine.Stands k u → engine.Stands new (u ++ placed_from at bytes))
+    is one.ensures.takes.list (placed seen) s.engine in
+    let reads = subst (λ (k : Engine). ReadsTo k at bytes fed.flow given) is one.ensures.reads.2 (placed seen) s.engine in
+    let same = one.ensures.takes.same ∙ ap (λ (k : Engine). engine.plan_of k) is in
     record {
       read = record {
-        engine = stands_after old.engine block.new.self seen bytes c.next-at.result block.new.out.items block.result.flow s.engine
-            c.requires.live c.next-at.ensures same list fed;
+        engine = stands_after old.engine new seen bytes at given fed.flow s.engine c.next-at.ensures same list reads;
         stop = ap (option_map stop_of) c.keep_stop-flow-2.ensures.kept
-            ∙ stop_after old.engine block.new.self seen bytes c.next-at.result block.new.out.items block.result.flow s.engine
-            c.requires.live c.next-at.ensures same list fed old.stop (sym old.alive ∙ c.requires.live);
+            ∙ stop_after old.engine new seen bytes at given fed.flow s.engine c.next-at.ensures same list reads
+            old.stop (sym old.alive ∙ c.requires.live);
       };
       more = [];
       grown = refl;
       gained = sym (append-nil c.args._outlet.now);
-      goes_on = subst (λ (f : Flow). FlowAfter (IsFaulty (plan_of old)) (seen ++ bytes) f) (sym c.keep_stop-flow-2.ensures.flow)
-          (flow_after old.engine block.new.self seen bytes c.next-at.result block.new.out.items block.result.flow s.engine
-          c.requires.live c.next-at.ensures same list fed);
+      goes_on = subst (λ (f : Flow). FlowAfter (IsFaulty p) (seen ++ bytes) f) (sym c.keep_stop-flow-2.ensures.flow)
+          (flow_after old.engine new seen bytes at given fed.flow s.engine c.next-at.ensures same list reads);
     }
 
 pub returns-in-Some-clause-fed : goal.returns-in-Some-clause-fed
@@ -100,13 +92,14 @@ returns-in-Some-clause-fed c = λ seen s.
     c.in-Some.is (c.feed_bare.ensures.fed (placed seen) s1) in
     let fed = subst (λ (k : Engine). FedAs (Answers (engine.plan_of k) [] Going) (Answers (engine.plan_of k) events flow) (placed seen) at bytes)
     is fed1 in
+    let reads = fed_reads p (placed seen) at bytes events flow (no_fault old.engine c.requires.live (placed seen) s.engine) fed in
     let same = c.feed_bare.ensures.same ∙ ap (λ (k : Engine). engine.plan_of k) is in
     record {
       read = record {
-        engine = stands_after old.engine new seen bytes at events flow s.engine c.requires.live c.next-at.ensures same list fed;
+        engine = stands_after old.engine new seen bytes at events flow s.engine c.next-at.ensures same list reads;
         stop = ap (option_map stop_of) (c.keep_stop-flow.ensures.kept
             ∙ ap (λ (r : Reading). stop_by r old.stop) c.flow_after.ensures)
-            ∙ stop_after old.engine new seen bytes at events flow s.engine c.requires.live c.next-at.ensures same list fed
+            ∙ stop_after old.engine new seen bytes at events flow s.engine c.next-at.ensures same list reads
             old.stop (sym old.alive ∙ c.requires.live);
       };
       more = [];
@@ -114,37 +107,5 @@ returns-in-Some-clause-fed c = λ seen s.
       gained = sym (append-nil c.args._outlet.now);
       goes_on = subst (λ (f : Flow). FlowAfter (IsFaulty p) (seen ++ bytes) f)
           (sym (c.keep_stop-flow.ensures.flow ∙ ap flow_by c.flow_after.ensures))
-          (flow_after old.engine new seen bytes at events flow s.engine c.requires.live c.next-at.ensures same list fed);
-    }
-
-pub returns-in-Some-framed-clause-fed : goal.returns-in-Some-framed-clause-fed
-returns-in-Some-framed-clause-fed c = λ seen s.
-    let old = c.args.self.now in
-    let p = plan_of old in
-    let at = c.next-at.result in
-    let frame = c.feed_frame-framed in
-    let some = c.in-Some-framed.ensures in
-    let fed = c.in-Some-framed.fed in
-    let new = frame.new.self in
-    let bytes = take fed.bytes c.args.piece.now in
-    let given = some.fed.0 in
-    let is = c.feed_bare.ensures.none c.in_default.is ∙ c.count_frames-bytes.ensures.none (let z = c.if-bytes-gt0.false in omega arith) in
-    let list = subst (λ (k : Engine). (u : List Placed) → engine.Stands k u → engine.Stands new (u ++ placed_from at bytes))
-    is some.list (placed seen) s.engine in
-    let taken = subst (λ (k : Engine). (u : List Placed) → engine.Stands k u →
-    FedAs (Answers (engine.plan_of k) [] Going) (Answers (engine.plan_of k) given fed.flow) u at bytes)
-    is some.fed.2 (placed seen) s.engine in
-    let same = some.same ∙ ap (λ (k : Engine). engine.plan_of k) is in
-    record {
-      read = record {
-        engine = stands_after old.engine new seen bytes at given fed.flow s.engine c.requires.live c.next-at.ensures same list taken;
-        stop = ap (option_map stop_of) c.keep_stop-flow-in-Some-framed.ensures.kept
-            ∙ stop_after old.engine new seen bytes at given fed.flow s.engine c.requires.live c.next-at.ensures same list taken
-            old.stop (sym old.alive ∙ c.requires.live);
-      };
-      more = [];
-      grown = refl;
-      gained = sym (append-nil c.args._outlet.now);
-      goes_on = subst (λ (f : Flow). FlowAfter (IsFaulty p) (seen ++ bytes) f) (sym c.keep_stop-flow-in-Some-framed.ensures.flow)
-          (flow_after old.engine new seen bytes at given fed.flow s.engine c.requires.live c.next-at.ensures same list taken);
+          (flow_after old.engine new seen bytes at events flow s.engine c.next-at.ensures same list reads);
     }

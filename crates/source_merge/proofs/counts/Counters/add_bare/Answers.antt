@@ -3,11 +3,11 @@ use Rattle.source_merge.proofs.BareCounts.{frames_more}
 use Rattle.source_merge.proofs.counts.Counters.add_bare.Goals as goal
 
 pub returns-clause-counted : goal.returns-clause-counted
-returns-clause-counted c = λ u w es at l h. record {
+returns-clause-counted c = λ u w es l h. record {
   whole = h.whole;
   frames = h.frames;
   bytes = c.add_bare.ensures.counted h.whole u w l h.bytes;
-  items = c.add_answer.ensures.items h.whole es at h.items;
+  items = h.items;
   port = record {
     fulls = h.port.fulls;
     halves = h.port.halves;

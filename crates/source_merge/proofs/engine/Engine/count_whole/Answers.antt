@@ -21,7 +21,7 @@ use Rattle.source_merge.specs.Routing.{mapped_of, AllStand}
 use Rattle.source_merge.proofs.FrameCounts.{no_fault, are_items}
 use Rattle.source_merge.proofs.Going.{rise_to, rise_block, end_block}
 use Rattle.source_merge.proofs.Slots.{room_more}
-use Rattle.source_merge.proofs.Standing.{none_there}
+use Rattle.source_merge.proofs.Standing.{none_there, room_if, room_now}
 use Rattle.source_merge.proofs.engine.Engine.count_whole.Goals as goal
 
 pub invariant_of-self : goal.invariant_of-self
@@ -32,8 +32,11 @@ invariant_of-self c =
     record {
       sound = self.sound;
       few = (let a = self.few in let b = c.pass_frame.ensures.few in omega arith);
-      room = room_more held_of skipped_by (30 * n) (30 * (n + bytes)) self.slots.items (omega arith) self.room;
-      size = (let a = self.size in let b = c.add_frame-after.ensures.size in omega arith);
+      room =
+          room_if held_of skipped_by self.live (30 * (n + bytes)) self.slots.items
+          (λ k. room_more held_of skipped_by (30 * n) (30 * (n + bytes)) self.slots.items (omega arith)
+          (room_now held_of skipped_by self.live (30 * n) self.slots.items k self.room));
+      size = λ k. (let a = self.size k in let b = c.add_frame-after.ensures.size in omega arith);
       whole = (let a = self.whole in let b = c.add_frame-after.ensures.whole in omega arith);
       within = (let a = self.within in let b = c.requires.offsets.0 in omega arith);
       limit = (let a = c.requires.offsets.1 in omega arith);

@@ -1,16 +1,46 @@
-use Rattle.std.proofs.Common.{ℕ, List, [], ◌∷◌, subst, arith}
-use Rattle.std.proofs.lemmas.List.{take_all}
+use Rattle.std.proofs.Common.{◌≡◌, ℕ, ◌+◌, List, [], ◌∷◌, ◌++◌, take, sym, ap, subst, arith, ◌∙◌}
+use Rattle.trace_values.specs.Placed.{Placed, placed_from}
 use Rattle.deformatter.specs.Block.{FedAs}
+use Rattle.source_events.specs.declared.event.Event.{Event}
+use Rattle.source_events.specs.declared.packet.Packet.{Packet}
+use Rattle.source_events.specs.Fitting.{AllFit, PacketFits}
 use Rattle.source_merge.specs.Answering.{Answers}
+use Rattle.source_merge.specs.Engine.{Stands}
 use Rattle.source_merge.specs.declared.flow.Flow.TheVariants.{Going}
 use Rattle.source_merge.proofs.Feds.{fed_one}
+use Rattle.source_merge.proofs.engine.Engine.feed.Goals.{After-take_step}
 use Rattle.source_merge.proofs.engine.Engine.feed.Goals as goal
+
+-- it takes the byte
+one : (c : After-take_step) → c.take_step.result.bytes ≡ 1
+one c = (let a = c.take_step.ensures.takes.bytes in omega arith)
+
+-- the list has what was given, and nothing else
+given : (c : After-take_step) → c.take_step.new.out.items ≡ c.take_step.ensures.fed.0
+given c =
+    c.take_step.ensures.fed.1.0 ∙ ap (λ (l : List (Event Packet)). l ++ c.take_step.ensures.fed.0) c.requires.empty
+
+pub returns-clause-takes : goal.returns-clause-takes
+returns-clause-takes c =
+    let some = c.take_step.ensures.takes in
+    record {
+      same = some.same;
+      bytes = (omega arith, omega arith);
+      next = some.next ∙ ap (λ (n : ℕ). c.args.at + n) (one c);
+      live = some.live;
+      list = λ u h.
+          subst (λ (n : ℕ). Stands c.take_step.new.self (u ++ placed_from c.args.at (take n (c.args.byte ∷ [])))) (one c) (some.list u h);
+    }
+
+pub returns-clause-fits : goal.returns-clause-fits
+returns-clause-fits c =
+    subst (λ (l : List (Event Packet)). AllFit PacketFits l) (sym (given c)) c.take_step.ensures.fed.1.1
 
 pub returns-clause-fed : goal.returns-clause-fed
 returns-clause-fed c = λ u h.
-    let quiet = Answers c.args.self.now.plan [] Going in
-    let last = Answers c.args.self.now.plan c.feed_step.new.out.items c.feed_step.result.flow in
-    fed_one quiet last c.args.byte u c.args.at
-    (subst (λ (l : List ℕ). FedAs quiet last u c.args.at l)
-    (take_all c.feed_step.result.bytes (c.args.byte ∷ []) (let a = c.feed_step.ensures.bytes.0 in omega arith))
-    (c.feed_step.ensures.fed u h))
+    let plan = c.args.self.now.plan in
+    let flow = c.take_step.result.flow in
+    subst (λ (l : List (Event Packet)). Answers plan l flow u c.args.at c.args.byte) (sym (given c))
+    (fed_one (Answers plan [] Going) (Answers plan c.take_step.ensures.fed.0 flow) c.args.byte u c.args.at
+    (subst (λ (n : ℕ). FedAs (Answers plan [] Going) (Answers plan c.take_step.ensures.fed.0 flow) u c.args.at (take n (c.args.byte ∷ []))) (one c)
+    (c.take_step.ensures.fed.2 u h)))

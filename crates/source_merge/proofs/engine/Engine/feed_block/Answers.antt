@@ -1,70 +1,112 @@
-use Rattle.std.proofs.Common.{◌+◌, ◌-◌, List, [], ◌++◌, length, take, drop, refl, sym, ◌∙◌, ap, subst, arith}
+use Rattle.std.proofs.Common.{◌≡◌, ℕ, ◌+◌, ◌-◌, ◌≤◌, List, [], ◌++◌, length, take, drop, refl, sym, ◌∙◌, ap, subst, arith}
 use Rattle.std.proofs.lemmas.List.{length-take-le, length-drop}
 use Rattle.trace_values.specs.Placed.{Placed, placed_from}
-use Rattle.deformatter.specs.Block.{FedAs}
+use Rattle.deformatter.specs.Block.{EachByte, FedAs}
 use Rattle.deformatter.proofs.Blocks.{whole_fed}
 use Rattle.source_events.specs.declared.event.Event.{Event}
 use Rattle.source_events.specs.declared.packet.Packet.{Packet}
+use Rattle.source_events.specs.declared.plan.Plan.{Plan}
+use Rattle.source_events.specs.Fitting.{AllFit, PacketFits}
+use Rattle.arrayvec.specs.ArrayVec.{array_vec_len}
 use Rattle.source_merge.specs.Answering.{Answers}
+use Rattle.source_merge.specs.declared.engine.Engine.{Engine}
+use Rattle.source_merge.specs.declared.flow.Fed.{Fed}
 use Rattle.source_merge.specs.declared.flow.Flow.{Flow}
 use Rattle.source_merge.specs.declared.flow.Flow.TheVariants.{Going}
-use Rattle.arrayvec.specs.ArrayVec.{array_vec_len}
-use Rattle.source_events.specs.declared.plan.Plan.{Plan}
-use Rattle.source_merge.specs.Engine.{Stands}
+use Rattle.source_merge.specs.Engine.{Stands, plan_of}
+use Rattle.source_merge.specs.Front.{GivesLast, TakesFront}
 use Rattle.source_merge.proofs.Feds.{fed_each, tail_of, going_on, none_in, more_list, more_fed}
 use Rattle.source_merge.proofs.engine.Engine.feed_block.Goals as goal
 
-pub returns-then-not-is_empty-clause-list : goal.returns-then-not-is_empty-clause-list
-returns-then-not-is_empty-clause-list c = λ u h.
+-- what one more call takes of the piece, after bytes that gave nothing
+module _ (first old new : Engine) (at n : ℕ) (piece : List ℕ) (taken : Fed) (es : List (Event Packet)) (within : n ≤ length piece)
+    (same : plan_of old ≡ plan_of first)
+    (before : (u : List Placed) → Stands first u → Stands old (u ++ placed_from at (take n piece)))
+    (quiet : (u : List Placed) → Stands first u → EachByte (Answers (plan_of first) [] Going) u at (take n piece))
+    (takes : TakesFront old new (at + n) (take (length piece - n) (drop n piece)) taken)
+    (gave : GivesLast old (at + n) (take taken.bytes (take (length piece - n) (drop n piece))) taken.flow es) where
+  list : (u : List Placed) → Stands first u → Stands new (u ++ placed_from at (take (n + taken.bytes) piece))
+  list u h =
+      more_list piece n taken.bytes at within u (λ (v : List Placed). Stands new v)
+      (takes.list (u ++ placed_from at (take n piece)) (before u h))
+
+  fed : GivesLast first at (take (n + taken.bytes) piece) taken.flow es
+  fed u h =
+      more_fed piece n taken.bytes at within u (Answers (plan_of first) [] Going) (Answers (plan_of first) es taken.flow) (quiet u h)
+      (subst (λ (p : Plan). FedAs (Answers p [] Going) (Answers p es taken.flow) (u ++ placed_from at (take n piece)) (at + n) (take taken.bytes (take (length piece - n) (drop n piece)))) same
+      (gave (u ++ placed_from at (take n piece)) (before u h)))
+
+pub returns-then-not-is_empty-clause-takes : goal.returns-then-not-is_empty-clause-takes
+returns-then-not-is_empty-clause-takes c =
+    let one = c.take_framed-fed.ensures.takes in
     let i = c.loop-bytes.invariant in
-    let n = c.loop-bytes.bytes in
-    more_list c.args.piece.now n c.feed_part-fed.result.bytes c.args.at i.within u (λ (v : List Placed). Stands c.feed_part-fed.new.self v)
-    (c.feed_part-fed.ensures.list (u ++ placed_from c.args.at (take n c.args.piece.now)) (i.list u h))
+    record {
+      same = one.same ∙ i.same;
+      bytes = (let a = one.bytes in let b = i.within in let d = length-drop c.loop-bytes.bytes c.args.piece.now in omega (arith, a, b, d), omega arith);
+      next = (let a = one.next in omega arith);
+      live = one.live;
+      list = list c.args.self.now c.loop-bytes.self c.take_framed-fed.new.self c.args.at c.loop-bytes.bytes c.args.piece.now c.take_framed-fed.result c.take_framed-fed.ensures.fed.0
+          i.within i.same i.list i.quiet one c.take_framed-fed.ensures.fed.2;
+    }
+
+pub returns-then-not-is_empty-clause-fits : goal.returns-then-not-is_empty-clause-fits
+returns-then-not-is_empty-clause-fits c =
+    let t = c.take_framed-fed.ensures.fed in
+    subst (λ (l : List (Event Packet)). AllFit PacketFits l)
+    (sym (t.1.0 ∙ ap (λ (l : List (Event Packet)). l ++ t.0) c.loop-bytes.invariant.empty)) t.1.1
 
 pub returns-then-not-is_empty-clause-fed : goal.returns-then-not-is_empty-clause-fed
-returns-then-not-is_empty-clause-fed c = λ u h.
+returns-then-not-is_empty-clause-fed c =
     let i = c.loop-bytes.invariant in
-    let n = c.loop-bytes.bytes in
-    let plan = c.args.self.now.plan in
-    let piece = c.args.piece.now in
-    let m = c.feed_part-fed.result.bytes in
-    let out = c.feed_part-fed.new.out.items in
-    let flow = c.feed_part-fed.result.flow in
-    more_fed piece n m c.args.at i.within u (Answers plan [] Going) (Answers plan out flow) (i.quiet u h)
-    (subst (λ (p : Plan). FedAs (Answers p [] Going) (Answers p out flow) (u ++ placed_from c.args.at (take n piece)) (c.args.at + n) (take m (take (length piece - n) (drop n piece)))) i.same
-    (c.feed_part-fed.ensures.fed (u ++ placed_from c.args.at (take n piece)) (i.list u h)))
+    let t = c.take_framed-fed.ensures.fed in
+    subst (λ (l : List (Event Packet)). GivesLast c.args.self.now c.args.at (take (c.loop-bytes.bytes + c.take_framed-fed.result.bytes) c.args.piece.now) c.take_framed-fed.result.flow l)
+    (sym (t.1.0 ∙ ap (λ (l : List (Event Packet)). l ++ t.0) i.empty))
+    (fed c.args.self.now c.loop-bytes.self c.take_framed-fed.new.self c.args.at c.loop-bytes.bytes c.args.piece.now c.take_framed-fed.result t.0
+    i.within i.same i.list i.quiet c.take_framed-fed.ensures.takes t.2)
 
 pub loop-bytes-preserved : goal.loop-bytes-preserved
 loop-bytes-preserved c =
     let i = c.loop-bytes.invariant in
     let n = c.loop-bytes.bytes in
-    let plan = c.args.self.now.plan in
     let piece = c.args.piece.now in
-    let m = c.feed_part-fed.result.bytes in
-    let out = c.feed_part-fed.new.out.items in
-    let flow = c.feed_part-fed.result.flow in
-    let empty = none_in out (array_vec_len c.feed_part-fed.new.out) refl (sym c.is_empty.ensures ∙ c.if-not-is_empty.false) in
-    let going = going_on flow (sym c.feed_part-fed.ensures.live ∙ c.if-not-self.false) in
+    let one = c.take_framed-fed.ensures.takes in
+    let t = c.take_framed-fed.ensures.fed in
+    let m = c.take_framed-fed.result.bytes in
+    let quiet = Answers c.args.self.now.plan [] Going in
+    let empty = none_in c.take_framed-fed.new.out.items (array_vec_len c.take_framed-fed.new.out) refl (sym c.is_empty.ensures ∙ c.if-not-is_empty.false) in
+    let none : t.0 ≡ [] = sym (t.1.0 ∙ ap (λ (l : List (Event Packet)). l ++ t.0) i.empty) ∙ empty in
+    let going = going_on c.take_framed-fed.result.flow (sym one.live ∙ c.if-not-self.false) in
     let rest = length-drop n piece in
     let tail = tail_of n piece in
     let left = ap length tail in
     record {
-      within = (let a = c.feed_part-fed.ensures.bytes.1 in let b = i.within in omega arith);
+      within = (let a = one.bytes.1 in let b = i.within in omega arith);
       live = c.if-not-self.false;
       empty = empty;
-      same = c.feed_part-fed.ensures.same ∙ i.same;
-      next = (let a = c.feed_part-fed.ensures.next in omega arith);
-      next_is = λ k. (let a = c.feed_part-fed.ensures.next in omega arith);
-      list = λ u h.
-          more_list piece n m c.args.at i.within u (λ (v : List Placed). Stands c.feed_part-fed.new.self v)
-          (c.feed_part-fed.ensures.list (u ++ placed_from c.args.at (take n piece)) (i.list u h));
+      same = one.same ∙ i.same;
+      next = (let a = one.next in omega arith);
+      next_is = λ k. (let a = one.next in omega arith);
+      list = list c.args.self.now c.loop-bytes.self c.take_framed-fed.new.self c.args.at n piece c.take_framed-fed.result t.0
+          i.within i.same i.list i.quiet one t.2;
       quiet = λ u h.
-          fed_each (Answers plan [] Going) (take (n + m) piece) u c.args.at
-          (more_fed piece n m c.args.at i.within u (Answers plan [] Going) (Answers plan [] Going) (i.quiet u h)
-          (subst (λ (es : List (Event Packet)). FedAs (Answers plan [] Going) (Answers plan es Going) (u ++ placed_from c.args.at (take n piece)) (c.args.at + n) (take m (take (length piece - n) (drop n piece)))) empty
-          (subst (λ (f : Flow). FedAs (Answers plan [] Going) (Answers plan out f) (u ++ placed_from c.args.at (take n piece)) (c.args.at + n) (take m (take (length piece - n) (drop n piece)))) going
-          (subst (λ (p : Plan). FedAs (Answers p [] Going) (Answers p out flow) (u ++ placed_from c.args.at (take n piece)) (c.args.at + n) (take m (take (length piece - n) (drop n piece)))) i.same
-          (c.feed_part-fed.ensures.fed (u ++ placed_from c.args.at (take n piece)) (i.list u h))))));
+          fed_each quiet (take (n + m) piece) u c.args.at
+          (subst (λ (es : List (Event Packet)). FedAs quiet (Answers c.args.self.now.plan es Going) u c.args.at (take (n + m) piece)) none
+          (subst (λ (f : Flow). FedAs quiet (Answers c.args.self.now.plan t.0 f) u c.args.at (take (n + m) piece)) going
+          (fed c.args.self.now c.loop-bytes.self c.take_framed-fed.new.self c.args.at n piece c.take_framed-fed.result t.0
+          i.within i.same i.list i.quiet one t.2 u h)));
+    }
+
+pub returns-clause-takes : goal.returns-clause-takes
+returns-clause-takes c =
+    let i = c.loop-bytes.invariant in
+    let some = c.requires.some in
+    let end = c.loop-bytes-test.false in
+    record {
+      same = i.same;
+      bytes = (omega arith, i.within);
+      next = i.next_is (omega arith);
+      live = i.live;
+      list = i.list;
     }
 
 pub returns-clause-fed : goal.returns-clause-fed

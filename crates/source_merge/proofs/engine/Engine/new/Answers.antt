@@ -17,7 +17,7 @@ invariant_of-result c = record {
   sound = c.requires.sound;
   few = (let a = c.new-port.ensures.empty.0 in let b = c.new-port.ensures.empty.1 in omega arith);
   room = fresh_room 0 c.slots_of-slots.result.items c.slots_of-slots.ensures.fresh;
-  size = (let a = c.new-2.ensures.none.0 in omega arith);
+  size = λ k. (let a = c.new-2.ensures.none.0 in omega arith);
   whole = (let a = c.new-2.ensures.none.1 in omega arith);
   within = omega arith;
   limit = omega arith;

@@ -1,0 +1,26 @@
+use Rattle.std.proofs.Common.{◌≡◌, ℕ, List, [], ◌++◌, ◌∙◌, ap, subst, refl, cond}
+use Rattle.source_events.specs.declared.plan.Plan.{Plan}
+use Rattle.trace_text.specs.declared.remark.Remark.{Remark}
+use Rattle.trace_text.specs.LineText.{event_line}
+use Rattle.capture_actions.specs.Faulty.{is_stp}
+use Rattle.capture_actions.specs.Filter.{plan_by}
+use Rattle.capture_actions.specs.Listing.{is_listed, line_after, lines_after}
+use Rattle.capture_actions.proofs.lister.Lister.put_next.Goals as goal
+
+pub returns-clause-gets : goal.returns-clause-gets
+returns-clause-gets c =
+    let old = c.args.self.now in
+    let e = c.args.event.now in
+    let at = c.args.outlet.now in
+    record {
+      kept = refl;
+      asked = subst (λ (p : Plan). plan_by p c.put_event.new.filter ≡ plan_by p old.filter) c.plan.ensures c.put_event.ensures.same;
+      clocks = c.remark-remark.ensures.clocks;
+      seen = c.put_event.ensures.seen;
+      text = λ before h f.
+          let p = plan_by old.plan old.filter in
+          subst (λ (q : Plan). c.put_event.new.outlet ≡ at ++ cond (is_listed old.filter.only (plan_by q old.filter).window before e)
+          (event_line (is_stp q e.source) e c.remark-remark.result) []) c.plan.ensures (c.put_event.ensures.text before f)
+          ∙ ap (λ (r : Remark). at ++ cond (is_listed p.only p.window before e) (event_line (is_stp p.plan e.source) e r) [])
+          (c.remark-remark.ensures.remark before h);
+    }

@@ -1,0 +1,39 @@
+use Rattle.std.proofs.Common.{◌≡◌, ◌∙◌, ℕ, ◌+◌, true, ap, subst, arith, take, rules}
+use Rattle.std.proofs.lemmas.List.{length-take-le}
+use Rattle.trace_stream.specs.declared.action.Flow.{Flow}
+use Rattle.trace_stream.specs.declared.action.Flow.TheVariants.{On}
+use Rattle.capture_actions.specs.Feeding.{HasFed}
+use Rattle.capture_actions.specs.Show.{taken_by}
+use Rattle.capture_actions.proofs.Feeds.{fed_next}
+use Rattle.capture_actions.proofs.show.ShowAction.feed.Goals as goal
+
+-- one turn more
+fed : (c : goal.After-take-taken) → HasFed c.args.self.now c.take-taken.new.self (take (c.loop-turn.done + c.take-taken.result.bytes) c.args.piece.now)
+    c.take-taken.result.flow c.args.outlet.now c.take-taken.new.outlet
+fed c =
+    fed_next c.args.self.now c.loop-turn.self c.take-taken.new.self c.args.piece.now c.loop-turn.done
+    c.take-taken.result.bytes c.take-taken.result.flow c.args.outlet.now c.loop-turn.outlet c.take-taken.new.outlet
+    c.loop-turn.invariant.fed c.take-taken.ensures.fed
+
+pub loop-turn-preserved : goal.loop-turn-preserved
+loop-turn-preserved c =
+    let kept = c.loop-turn.invariant in
+    let one = c.take-taken.ensures in
+    let more = c.has_more.ensures in
+    let so : c.has_more.result ≡ true = search rules in
+    record {
+      within = more.some so;
+      some = (let k = one.front in let l = kept.some in omega (arith, k.some, l));
+      fed = subst (λ (f : Flow). HasFed c.args.self.now c.take-taken.new.self (take (c.loop-turn.done + c.take-taken.result.bytes) c.args.piece.now) f
+          c.args.outlet.now c.take-taken.new.outlet) (more.flow so) (fed c);
+      room = more.room so;
+    }
+
+pub returns-then-not-has_more-clause-same : goal.returns-then-not-has_more-clause-same
+returns-then-not-has_more-clause-same c = (fed c).same
+
+pub returns-then-not-has_more-clause-fed : goal.returns-then-not-has_more-clause-fed
+returns-then-not-has_more-clause-fed c = (fed c).fed
+
+pub returns-then-not-has_more-clause-live : goal.returns-then-not-has_more-clause-live
+returns-then-not-has_more-clause-live c = (fed c).live

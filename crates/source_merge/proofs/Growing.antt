@@ -1,0 +1,59 @@
+-- What events with the last of some bytes are for the report of the capture.
+use Rattle.std.proofs.Common.{◌≡◌, ℕ, ◌+◌, List, [], ◌∷◌, ◌++◌, length, sym, ◌∙◌, ap, append_assoc, append-nil, None, true}
+use Rattle.trace_values.specs.Placed.{Placed, byte_at, placed_from}
+use Rattle.trace_values.proofs.Placing.{placed_from_push}
+use Rattle.deformatter.specs.Block.{EachByte, FedAs}
+use Rattle.source_events.specs.declared.event.Event.{Event}
+use Rattle.source_events.specs.declared.packet.Packet.{Packet}
+use Rattle.source_events.specs.declared.plan.Plan.{Plan}
+use Rattle.source_merge.specs.Answering.{Answers, fault_by, fault_of, report_of}
+use Rattle.source_merge.specs.declared.engine.Engine.{Engine}
+use Rattle.source_merge.specs.declared.flow.Flow.{Flow}
+use Rattle.source_merge.specs.declared.flow.Flow.TheVariants.{Going}
+use Rattle.source_merge.specs.Engine.{Stands, is_live}
+use Rattle.source_merge.specs.Front.{GivesLast, Reads, ReadsTo}
+use Rattle.source_merge.proofs.Standing.{none_there}
+
+-- after bytes of which none gives or ends anything
+quiet_report : (plan : Plan) (u : List Placed) (at : ℕ) (front : List ℕ) → EachByte (Answers plan [] Going) u at front →
+    report_of plan (u ++ placed_from at front) ≡ report_of plan u
+quiet_report plan u at [] q = ap (report_of plan) (append-nil u)
+quiet_report plan u at (b ∷ front) q =
+    ap (report_of plan) (sym (append_assoc u (byte_at at b ∷ []) (placed_from (at + 1) front)))
+    ∙ quiet_report plan (u ++ byte_at at b ∷ []) (at + 1) front q.1 ∙ q.0.events ∙ append-nil (report_of plan u)
+
+quiet_fault : (plan : Plan) (u : List Placed) (at : ℕ) (front : List ℕ) → EachByte (Answers plan [] Going) u at front →
+    fault_of plan u ≡ None → fault_of plan (u ++ placed_from at front) ≡ None
+quiet_fault plan u at [] q none = ap (fault_of plan) (append-nil u) ∙ none
+quiet_fault plan u at (b ∷ front) q none =
+    ap (fault_of plan) (sym (append_assoc u (byte_at at b ∷ []) (placed_from (at + 1) front)))
+    ∙ quiet_fault plan (u ++ byte_at at b ∷ []) (at + 1) front q.1 q.0.fault
+
+fed_reads : (plan : Plan) (u : List Placed) (at : ℕ) (bytes : List ℕ) (given : List (Event Packet)) (flow : Flow) →
+    fault_of plan u ≡ None → FedAs (Answers plan [] Going) (Answers plan given flow) u at bytes → Reads plan u at bytes given flow
+fed_reads plan u at bytes given flow none fed =
+    let all : u ++ placed_from at bytes ≡ (u ++ placed_from at fed.front) ++ byte_at (at + length fed.front) fed.last ∷ [] =
+    ap (λ (l : List ℕ). u ++ placed_from at l) fed.parts
+    ∙ ap (λ (l : List Placed). u ++ l) (placed_from_push at fed.front fed.last)
+    ∙ sym (append_assoc u (placed_from at fed.front) (byte_at (at + length fed.front) fed.last ∷ [])) in
+    record {
+      grew =
+          ap (report_of plan) all ∙ fed.ends.events
+          ∙ ap (λ (l : List (Event Packet)). l ++ given) (quiet_report plan u at fed.front fed.quiet);
+      fault = ap (fault_of plan) all ∙ fed.ends.fault;
+      certain = λ e. record {
+        front = fed.front;
+        last = fed.last;
+        parts = fed.parts;
+        sound = quiet_fault plan u at fed.front fed.quiet none;
+      };
+    }
+
+-- an engine that is live stands for bytes whose report has no fault
+pub no_fault : (engine : Engine) → is_live engine ≡ true → (u : List Placed) → Stands engine u → fault_of engine.plan u ≡ None
+no_fault engine live u h = none_there (fault_of engine.plan u) (sym h.live ∙ live)
+
+pub last_reads : (engine : Engine) (at : ℕ) (bytes : List ℕ) (given : List (Event Packet)) (flow : Flow) →
+    is_live engine ≡ true → GivesLast engine at bytes flow given → ReadsTo engine at bytes flow given
+last_reads engine at bytes given flow live fed u h =
+    fed_reads engine.plan u at bytes given flow (no_fault engine live u h) (fed u h)

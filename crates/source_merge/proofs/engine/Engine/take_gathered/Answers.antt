@@ -1,0 +1,189 @@
+use Rattle.std.proofs.Common.{◌≡◌, ℕ, ◌+◌, ◌-◌, ◌*◌, ◌^◌, List, [], ◌∷◌, ◌++◌, length, refl, sym, ◌∙◌, ap, subst}
+use Rattle.std.proofs.Common.{arith, Option, None, length-append}
+use Rattle.std.specs.Prelude.{is_none}
+use Rattle.trace_values.specs.declared.cell.Cell.{Cell}
+use Rattle.trace_values.specs.Placed.{Placed, byte_at, placed_from, units_of}
+use Rattle.trace_values.proofs.Placing.{length-placed_from}
+use Rattle.trace_values.specs.declared.reading_modes.FramesMode.{FramesMode}
+use Rattle.frame_grammar.specs.Frame.{cells, id_after}
+use Rattle.frame_grammar.specs.Reading.{offsets_of}
+use Rattle.frame_grammar.specs.Whole.{without_halves}
+use Rattle.frame_grammar.proofs.Wholes.{whole_size}
+use Rattle.deformatter.specs.declared.step.PortStep.TheVariants.{Frame}
+use Rattle.deformatter.specs.ReadingGrowth.{Answers as PortAnswers, FedFrame, GrowsByFrame}
+use Rattle.deformatter.specs.PortReading.{port_reading}
+use Rattle.deformatter.specs.Rising.{BytesRise}
+use Rattle.source_events.specs.Report.{Mapped, runs_in}
+use Rattle.source_events.specs.declared.event.Event.{Event}
+use Rattle.source_events.specs.declared.packet.Packet.{Packet}
+use Rattle.source_events.specs.declared.plan.Plan.{Plan}
+use Rattle.source_machine.specs.Machine.{reading_of, Stands as MachineStands, is_live, held_of, skipped_by}
+use Rattle.source_machine.specs.declared.machine.SourceMachine.{SourceMachine}
+use Rattle.source_merge.specs.declared.slot.Slot.{Slot}
+use Rattle.source_merge.specs.Engine.{Stands, Keeps}
+use Rattle.frame_runs.specs.Gathered.{IsGathered, frame_places}
+use Rattle.source_merge.specs.Answering.{port_of, fault_of}
+use Rattle.source_merge.specs.Routing.{mapped_of, AllLive, AllStand, HaveRoom, LiveIf, RoomIf, AreDistinct}
+use Rattle.source_merge.proofs.Slots.{room_more}
+use Rattle.source_merge.proofs.Standing.{distinct, none_there, live_now, live_if, room_now, room_if, tested, none_of}
+use Rattle.source_merge.proofs.Going.{Stepped, stepped, halves_inside, rise_to, rise_block, end_block}
+use Rattle.source_merge.proofs.Refilled.{slots_are}
+use Rattle.source_merge.proofs.ByParts.{StepTakenBy}
+use Rattle.source_merge.proofs.engine.Engine.take_gathered.Given as bound
+use Rattle.source_merge.proofs.engine.Engine.take_gathered.Goals as goal
+
+pub take_whole-taken-requires-clause-room : goal.take_whole-taken-requires-clause-room
+take_whole-taken-requires-clause-room g c =
+    room_more held_of skipped_by (30 * c.args.self.now.count) (2 ^ 58) c.as_mut_slice.result.now
+    (let a = c.args.self.now.within in let b = c.args.self.now.limit in omega arith)
+    (subst (λ (l : List (Slot SourceMachine)). HaveRoom held_of skipped_by (30 * c.args.self.now.count) l)
+    (sym c.as_mut_slice.ensures.value)
+    (room_now held_of skipped_by c.args.self.now.live (30 * c.args.self.now.count) c.args.self.now.slots.items c.requires.live c.args.self.now.room))
+
+pub invariant_of-self : goal.invariant_of-self
+invariant_of-self g c =
+    let self = c.args.self.now in
+    let old = self.slots.items in
+    let new = c.take_whole-taken.new.slots in
+    let value = c.as_mut_slice.ensures.value in
+    let all = slots_are reading_of old new (c.take_whole-taken.ensures.same ∙ ap (mapped_of reading_of) value) in
+    let n = self.count in
+    let bytes = c.size-bytes.result in
+    let made = c.size-bytes.ensures in
+    let room = subst (λ (l : List (Slot SourceMachine)). HaveRoom held_of skipped_by (30 * n) l) (sym value)
+    (room_now held_of skipped_by self.live (30 * n) old c.requires.live self.room) in
+    let gone = tested c.take_whole-taken.result.stop c.is_none-self.result c.is_none-self.ensures in
+    record {
+      sound = self.sound;
+      few = (let a = self.few in let b = c.pass_frame.ensures.few in omega arith);
+      room =
+          subst (λ (l : List (Slot SourceMachine)). RoomIf held_of skipped_by c.is_none-self.result (30 * (n + bytes)) l) (sym all)
+          (room_if held_of skipped_by c.is_none-self.result (30 * (n + bytes)) new
+          (λ k. room_more held_of skipped_by (30 * n + 30) (30 * (n + bytes)) new (omega arith)
+          (c.take_whole-taken.ensures.room (30 * n) room)));
+      size = λ k. (let a = self.size c.requires.live in let b = c.take_whole-taken.ensures.size in omega arith);
+      whole = (let a = self.whole in let b = c.take_whole-taken.ensures.whole in omega arith);
+      within = (let a = self.within in let b = c.requires.offsets.0 in omega arith);
+      limit = (let a = c.requires.offsets.1 in omega arith);
+      port_live = λ k. c.pass_frame.ensures.live;
+      lives =
+          subst (λ (l : List (Slot SourceMachine)). LiveIf is_live c.is_none-self.result l) (sym all)
+          (live_if is_live c.is_none-self.result new (λ k. c.take_whole-taken.ensures.live (none_there c.take_whole-taken.result.stop (sym gone ∙ k))));
+    }
+
+-- what the frame makes of a list that the engine stood for
+module _ (g : bound.Over) (c : goal.After-flow_of g) (u : List Placed) (w : List ℕ) (h : Stands c.args.self.now u)
+    (q : IsGathered c.args.frame.now.at w c.args.frame.now) where
+  abbrev plan : Plan
+  plan = c.args.self.now.plan
+
+  abbrev slots : List (Slot SourceMachine)
+  slots = c.args.self.now.slots.items
+
+  abbrev f : List Placed
+  f = without_halves (placed_from c.args.frame.now.at w)
+
+  abbrev next : List Placed
+  next = u ++ placed_from c.args.frame.now.at w
+
+  abbrev got : List Cell
+  got = cells c.args.frame.now.bytes (frame_places c.args.frame.now) c.id.result
+
+  abbrev es : List (Event Packet)
+  es = c.take_whole-taken.ensures.taken.0
+
+  abbrev last : ℕ
+  last = c.args.frame.now.at + (c.size-bytes.result - 1)
+
+  size : length w ≡ c.size-bytes.result
+  size = whole_size w c.args.frame.now.bytes c.args.frame.now.halves q.whole ∙ sym c.size-bytes.ensures
+
+  live : AllLive is_live slots
+  live = live_now is_live c.args.self.now.live slots c.requires.live c.args.self.now.lives
+
+  given : cells (units_of f) (offsets_of f) c.args.self.now.port.port.id ≡ got
+  given =
+      ap (λ (l : List ℕ). cells l (offsets_of f) c.args.self.now.port.port.id) (q.whole.frame_is c.args.frame.now.at)
+      ∙ ap (λ (l : List ℕ). cells c.args.frame.now.bytes l c.args.self.now.port.port.id) (sym q.offsets)
+      ∙ ap (λ (i : Option ℕ). cells c.args.frame.now.bytes (frame_places c.args.frame.now) i) (sym c.id.ensures)
+
+  fed : FedFrame plan.frames got u c.args.frame.now.at w
+  fed =
+      subst (λ (m : FramesMode). FedFrame m got u c.args.frame.now.at w) h.mode
+      (subst (λ (l : List Cell). FedFrame c.args.self.now.port.mode l u c.args.frame.now.at w) given
+      (c.pass_frame.ensures.fed u f c.args.frame.now.halves c.args.frame.now.at w h.port (q.whole.spelled c.args.frame.now.at)))
+
+  grows : GrowsByFrame (port_of plan u) (port_of plan next) c.args.frame.now.halves got
+  grows =
+      subst (λ (m : FramesMode). GrowsByFrame (port_reading m u) (port_reading m next) c.args.frame.now.halves got) h.mode
+      (subst (λ (l : List Cell). GrowsByFrame (port_reading c.args.self.now.port.mode u) (port_reading c.args.self.now.port.mode next) c.args.frame.now.halves l) given
+      (c.pass_frame.ensures.grows u (placed_from c.args.frame.now.at w) f c.args.frame.now.halves h.port (q.whole.spelled c.args.frame.now.at)))
+
+  abbrev Taken : List (Slot SourceMachine) → List Cell → Type 0
+  Taken before cs =
+      (mode : FramesMode) (v : List Placed) (byte : ℕ) → BytesRise 0 last v → PortAnswers mode Frame cs v last byte →
+      (port_reading mode v).fault ≡ None → AreDistinct (mapped_of reading_of before) →
+      AllStand MachineStands before (runs_in (port_reading mode v)) →
+      StepTakenBy MachineStands (mapped_of reading_of before) c.take_whole-taken.new.slots mode v
+      (v ++ byte_at last byte ∷ []) es c.take_whole-taken.result.stop
+
+  the_step : Stepped plan slots h.sources live c.take_whole-taken.new.slots c.take_whole-taken.new.counters u c.args.frame.now.at w
+      es c.take_whole-taken.result.stop c.flow_of.result
+  the_step =
+      let keeps = h.going c.requires.live in
+      let halves = c.args.self.now.counters.port.halves + c.args.frame.now.halves in
+      stepped plan slots h.sources live c.take_whole-taken.new.slots c.args.self.now.counters c.take_whole-taken.new.counters
+      halves Frame got last
+      es c.take_whole-taken.result.stop c.flow_of.result u c.args.frame.now.at w
+      (rise_to u c.args.self.now.next c.args.frame.now.at (subst (λ (k : ℕ). BytesRise 0 k u) (sym h.next) h.rising) c.requires.offsets.0)
+      (none_there (fault_of plan u) (sym h.live ∙ c.requires.live)) keeps
+      (subst (λ (ss : List (Mapped Packet)). AreDistinct ss) (sym h.sources) (distinct plan c.args.self.now.sound))
+      fed
+      (ap (λ (k : ℕ). k + c.args.frame.now.halves) keeps.counted.port.halves ∙ sym (halves_inside plan.frames got u c.args.frame.now.at w c.args.frame.now.halves fed grows))
+      (λ k e. (let a = size in omega arith))
+      (subst (λ (l : List (Slot SourceMachine)). Taken l got) c.as_mut_slice.ensures.value c.take_whole-taken.ensures.taken.2.0)
+      c.take_whole-taken.ensures.taken.2.1
+      c.flow_of.ensures.fault
+
+pub returns-clause-fed : goal.returns-clause-fed
+returns-clause-fed g c =
+    let t = c.take_whole-taken.ensures.taken in
+    (t.0, t.1, λ u w h q. (the_step g c u w h q).fed)
+
+pub returns-clause-takes : goal.returns-clause-takes
+returns-clause-takes g c =
+    let gone = tested c.take_whole-taken.result.stop c.is_none-self.result c.is_none-self.ensures in
+    record {
+      same = refl;
+      next = ap (λ (n : ℕ). c.args.frame.now.at + n) c.size-bytes.ensures;
+      live = gone ∙ sym c.flow_of.ensures.going;
+      list = λ u w h q.
+          let self = c.args.self.now in
+          let new = c.take_whole-taken.new.slots in
+          let at = c.args.frame.now.at in
+          let all = slots_are reading_of self.slots.items new (c.take_whole-taken.ensures.same ∙ ap (mapped_of reading_of) c.as_mut_slice.ensures.value) in
+          let step = the_step g c u w h q in
+          let long = size g c u w h q in
+          let rise = rise_to u self.next at (subst (λ (k : ℕ). BytesRise 0 k u) (sym h.next) h.rising) c.requires.offsets.0 in
+          let end = end_block w u at (let a = long in let b = c.size-bytes.ensures in omega arith) in
+          let frame = c.args.frame.now in
+          record {
+            port =
+                c.pass_frame.ensures.list u (placed_from at w) (f g c u w h q) frame.halves h.port (q.whole.spelled at)
+                (c.take_whole-taken.ensures.after ∙ ap (id_after frame.bytes) c.id.ensures
+                ∙ ap (λ (l : List ℕ). id_after l self.port.port.id) (sym (q.whole.frame_is at)));
+            mode = c.pass_frame.ensures.same ∙ h.mode;
+            sources =
+                ap (mapped_of reading_of) all ∙ c.take_whole-taken.ensures.same ∙ ap (mapped_of reading_of) c.as_mut_slice.ensures.value
+                ∙ h.sources;
+            rising = subst (λ (k : ℕ). BytesRise 0 k (u ++ placed_from at w)) (sym end) (rise_block u at w rise);
+            next = ap (λ (k : ℕ). at + k) (sym long) ∙ sym end;
+            count =
+                (let a = h.count in let b = length-append u (placed_from at w) in
+                let d = length-placed_from at w in omega arith);
+            live = gone ∙ none_of c.take_whole-taken.result.stop ∙ ap is_none (sym step.fault);
+            going = λ k.
+                subst (λ (l : List (Slot SourceMachine)). Keeps self.plan l c.take_whole-taken.new.counters (u ++ placed_from at w))
+                (sym all) (step.keeps (none_there c.take_whole-taken.result.stop (sym gone ∙ k)));
+          };
+    }
