@@ -4,7 +4,7 @@ use Rattle.trace_values.specs.Placed.{Placed, placed_from}
 use Rattle.trace_values.specs.declared.reading_modes.FramesMode.TheVariants.{Bare}
 use Rattle.deformatter.specs.Block.{FedAs}
 use Rattle.frame_grammar.specs.declared.frame.TheConstants.{FRAME_BYTES}
-use Rattle.frame_grammar.specs.declared.placed.PlacedFrame.{PlacedFrame}
+use Rattle.frame_grammar.specs.declared.gather.PlacedFrame.{PlacedFrame}
 use Rattle.source_events.specs.declared.event.Event.{Event}
 use Rattle.source_events.specs.declared.packet.Packet.{Packet}
 use Rattle.source_events.specs.declared.plan.Plan.{Plan}

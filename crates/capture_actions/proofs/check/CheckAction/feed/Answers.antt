@@ -6,7 +6,6 @@ use Rattle.trace_values.specs.Placed.{Placed, placed, placed_from}
 use Rattle.deformatter.specs.Block.{FedAs}
 use Rattle.source_events.specs.declared.packet.Packet.{Packet}
 use Rattle.source_merge.specs.Answering.{Answers}
-use Rattle.source_merge.specs.Bare.{bare_events, bare_flow}
 use Rattle.source_merge.specs.declared.engine.Engine.{Engine}
 use Rattle.source_merge.specs.declared.flow.Flow.{Flow as Reading}
 use Rattle.source_merge.specs.declared.flow.Flow.TheVariants.{Going}
