@@ -6,7 +6,7 @@ ghost use Rattle.std.specs.Option.{ForSome};
 ghost use Rattle.trace_clock.specs.GlobalTime.{GlobalStamp, First, first_bits, known_low};
 
 /// The global time, as far as the global timestamps so far tell it.
-#[derive(Clone, Copy, Debug, PartialEq, Eq, Drop)]
+#[derive(Clone, Copy, Debug, Drop)]
 pub struct GlobalClock {
     /// Bits 25 to 0 of the time, once a first timestamp has told them all.
     low: Option<u32>,

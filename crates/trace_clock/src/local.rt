@@ -6,7 +6,7 @@ ghost use Rattle.std.specs.Prelude.{ℕ};
 use std::marker::Model;
 
 /// The local time: the ticks of all local timestamps so far. Contracts see it as that number.
-#[derive(Clone, Copy, Debug, PartialEq, Eq, Drop)]
+#[derive(Clone, Copy, Debug, Drop)]
 pub struct LocalClock {
     ticks: u64,
 }

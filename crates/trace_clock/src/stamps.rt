@@ -7,7 +7,7 @@ use crate::gray::{from_gray, to_gray};
 use crate::words::{least_stamp, word_after};
 
 /// What the timestamps so far leave for the next one, which may carry only the low nibbles of its time.
-#[derive(Clone, Copy, Debug, PartialEq, Eq, Drop)]
+#[derive(Clone, Copy, Drop)]
 pub struct Stamps {
     /// Words are Gray numbers, as under version 4, and natural ones under version 3.
     gray: bool,
