@@ -13,7 +13,7 @@ use trace_stream::Action;
 use trace_values::Fault;
 
 /// What is noted at a fault.
-#[derive(Clone, Copy, Debug, PartialEq, Eq, Drop)]
+#[derive(Clone, Copy, Drop)]
 pub enum FaultNote {
     /// The last bytes up to the fault of a capture, and before them the line of the port's fault, if the output has no
     /// line of it.
@@ -35,7 +35,7 @@ impl FaultNote {
 }
 
 /// What is noted where a run is done.
-#[derive(Clone, Copy, Debug, PartialEq, Eq, Drop)]
+#[derive(Clone, Copy, Drop)]
 pub enum DoneNote {
     Nothing,
     /// What realigning did not write.

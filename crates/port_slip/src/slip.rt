@@ -10,7 +10,7 @@ use arrayvec::ArrayVec;
 
 /// What was not written: how many bits before the first pattern, and how many at the ends of segments that were no
 /// whole bytes; and how many patterns there were.
-#[derive(Clone, Copy, Debug, PartialEq, Eq, Drop)]
+#[derive(Clone, Copy, Drop)]
 pub struct Slipped {
     pub skipped: u64,
     pub dropped: u64,
