@@ -3,7 +3,7 @@
 use trace_values::{FramesMode, SourceId};
 
 /// How the port is read, and whose bytes are written.
-#[derive(Clone, Copy, Debug, PartialEq, Eq, Drop)]
+#[derive(Clone, Copy, Drop)]
 pub struct SplitPlan {
     pub frames: FramesMode,
     pub id: SourceId,

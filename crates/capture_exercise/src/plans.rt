@@ -9,7 +9,7 @@ use stp_grammar::packet::Order;
 use trace_values::{FramesMode, PacketsMode, SourceId};
 
 /// How many items the exercise has, how many bytes its whole capture, and how what is left of that is read.
-#[derive(Debug, Drop)]
+#[derive(Drop)]
 pub struct ExercisePlan {
     pub items: u32,
     pub capture: u64,

@@ -18,7 +18,7 @@ use stp_grammar::packet::Order;
 use trace_values::{FramesMode, PacketsMode, SourceId};
 
 /// What the options say, each with its default where it is absent.
-#[derive(Debug, Drop)]
+#[derive(Drop)]
 pub struct Settings {
     /// Where the reading of the port begins.
     pub frames: FramesMode,

@@ -40,7 +40,7 @@ pub const GREATEST_SIZE: u32 = 1 << 24;
 pub const GREATEST_POINTER: u32 = (1 << 24) - 1;
 
 /// The action that a word names.
-#[derive(Clone, Copy, Debug, PartialEq, Eq, Drop)]
+#[derive(Clone, Copy, Drop)]
 pub enum ActionName {
     /// `show`
     Show,

@@ -4,7 +4,7 @@ use script_text::LineFault;
 use source_events::Plan;
 
 /// What the sources of a script send, and which synchronisations are written.
-#[derive(Debug, Drop)]
+#[derive(Drop)]
 pub struct RebuildPlan {
     /// What is mapped: of system traces at most one source. Its modes make no difference.
     pub plan: Plan,
@@ -16,7 +16,7 @@ pub struct RebuildPlan {
 }
 
 /// The first fault of a script.
-#[derive(Clone, Copy, Debug, PartialEq, Eq, Drop)]
+#[derive(Clone, Copy, Drop)]
 pub struct ScriptFault {
     /// The number of its line, from 1 on.
     pub line: u64,

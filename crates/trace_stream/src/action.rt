@@ -13,7 +13,7 @@ use crate::outlet::{OUTLET_ROOM, Outlet};
 pub const ACTION_ROOM: usize = 4096;
 
 /// Whether an action goes on after the bytes that it took.
-#[derive(Clone, Copy, Debug, PartialEq, Eq)]
+#[derive(Clone, Copy)]
 pub enum Flow {
     /// No fault so far.
     On,
@@ -22,7 +22,7 @@ pub enum Flow {
 }
 
 /// What an action took of a piece.
-#[derive(Clone, Copy, Debug, PartialEq, Eq)]
+#[derive(Clone, Copy)]
 pub struct Taken {
     /// How many of the piece's first bytes it took, at least one.
     pub bytes: usize,

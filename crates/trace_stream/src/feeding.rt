@@ -13,7 +13,7 @@ use crate::outlet::{OUTLET_ROOM, Outlet};
 use trace_io::{Failed, Sink};
 
 /// How the feeding of a piece ended.
-#[derive(Clone, Copy, Debug, PartialEq, Eq)]
+#[derive(Clone, Copy)]
 pub enum FeedEnd {
     All,
     FaultFound,
@@ -21,7 +21,7 @@ pub enum FeedEnd {
 }
 
 /// What was fed of a piece.
-#[derive(Clone, Copy, Debug, PartialEq, Eq)]
+#[derive(Clone, Copy)]
 pub struct Fed {
     /// How many of the piece's first bytes were fed: at a fault those up to the one at which it became
     /// certain.
