@@ -11,16 +11,7 @@ use Rattle.script_text.specs.declared.lines.Line.{Line}
 use Rattle.script_text.specs.declared.lines.Line.TheVariants.{Of}
 use Rattle.script_rebuild.specs.Script.{items_of, items_by, given_items, put_by, put_after, put_of}
 use Rattle.script_rebuild.specs.Writer.{IsOfSource}
-
-pub put_after-append : (order : Order) (before lines more : List Line) →
-    put_after order before (lines ++ more) ≡ put_after order before lines ++ put_after order (before ++ lines) more
-put_after-append order before [] more = ap (λ l. put_after order l more) (sym (append-nil before))
-put_after-append order before (line ∷ lines) more =
-    let first = put_by order before line in
-    let here = before ++ line ∷ [] in
-    ap (λ l. first ++ l) (put_after-append order here lines more)
-    ∙ sym (append_assoc first (put_after order here lines) (put_after order (here ++ lines) more))
-    ∙ ap (λ l. (first ++ put_after order here lines) ++ put_after order l more) (append_assoc before (line ∷ []) lines)
+use Rattle.script_rebuild.specs.ScriptLaws.{put_after-append}
 
 -- one more line puts its bytes after all others
 pub put_more : (order : Order) (lines : List Line) (line : Line) →

@@ -8,7 +8,7 @@ use Rattle.script_text.specs.declared.lines.Line.{Line}
 use Rattle.script_text.specs.declared.line_fault.LineFault.{LineFault}
 use Rattle.script_text.specs.declared.line_fault.LineFault.TheVariants.{LongLine}
 use Rattle.script_rebuild.specs.Script.{read_after, line_after, script_of, put_of, put_after, ends_of}
-use Rattle.script_rebuild.proofs.Lines.{put_after-append}
+use Rattle.script_rebuild.specs.ScriptLaws.{put_after-append}
 use Rattle.script_rebuild.specs.declared.plan.RebuildPlan.{RebuildPlan}
 use Rattle.script_rebuild.specs.Rebuilt.{read_so_far, text, ending, left_of, script_capture, IsFirstFault}
 use Rattle.script_rebuild.specs.ReadingLaws.{with_answer, read_first}

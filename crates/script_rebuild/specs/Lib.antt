@@ -1,3 +1,10 @@
+pub mod Script
+pub mod Versions
+pub mod Putting
+pub mod Encoding
+pub mod Writer
+pub mod ScriptLaws
+pub mod Rows
 pub mod Rebuilt
 pub mod SplitLaws
 pub mod ReadingLaws
@@ -5,9 +12,3 @@ pub mod GrowthLaws
 pub mod RebuiltLaws
 pub mod PutLine
 pub mod Rebuilder
-pub mod Script
-pub mod Versions
-pub mod Putting
-pub mod Encoding
-pub mod Writer
-pub mod Rows

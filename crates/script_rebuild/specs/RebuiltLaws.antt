@@ -7,7 +7,7 @@ use Rattle.frame_writer.proofs.Fronts.{sure_grows}
 use Rattle.frame_writer.proofs.Sureness.{nothing_sure}
 use Rattle.script_text.specs.declared.line_fault.LineFault.{LineFault}
 use Rattle.script_rebuild.specs.Script.{put_of, put_after, script_of}
-use Rattle.script_rebuild.proofs.Lines.{put_after-append}
+use Rattle.script_rebuild.specs.ScriptLaws.{put_after-append}
 use Rattle.script_rebuild.specs.declared.plan.RebuildPlan.{RebuildPlan}
 use Rattle.script_rebuild.specs.Rebuilt.{read_so_far, IsFaulty, text, left_of, script_capture, ending}
 use Rattle.script_rebuild.specs.GrowthLaws.{settled, so_far_extends, whole_settled}
