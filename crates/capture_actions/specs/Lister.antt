@@ -2,6 +2,8 @@
 use Rattle.std.specs.Prelude.{◌≡◌, ℕ, ◌+◌, ◌-◌, ◌/◌, List, ◌++◌, length, None, Some, true, false}
 use Rattle.source_events.specs.declared.event.Event.{Event}
 use Rattle.source_events.specs.declared.packet.Packet.{Packet}
+use Rattle.source_events.specs.declared.plan.SourceKind.{SourceKind}
+use Rattle.source_events.specs.declared.plan.SourceKind.TheVariants.{Itm, Stp}
 use Rattle.trace_stream.specs.declared.outlet.TheConstants.{TEXT_ROOM, OUTLET_ROOM}
 use Rattle.trace_text.specs.declared.lines.TheConstants.{EVENT_ROOM}
 use Rattle.capture_actions.specs.Faulty.{is_stp}
@@ -32,6 +34,11 @@ ListsItm lister source =
 abbrev pub ListsStp : Lister → ℕ → Type 0
 ListsStp lister source =
     (lister.filter.only ≡ None) × (lister.filter.window ≡ None) × (is_stp lister.plan (Some source) ≡ true)
+
+-- of this kind
+abbrev pub Lists : Lister → ℕ → SourceKind → Type 0
+Lists lister source Itm = ListsItm lister source
+Lists lister source Stp = ListsStp lister source
 
 -- A line takes at most the room of an event, and is put where a text has room.
 abbrev pub room : Lister × List ℕ → ℕ

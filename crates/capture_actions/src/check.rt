@@ -12,11 +12,10 @@ ghost use Rattle.capture_actions.specs.Summary.{source_text, sources_text};
 
 use crate::plan_table::sends_stp;
 use crate::stopping::keep_stop;
-use itm_grammar::packet::ItmPacket;
 use source_counts::Counts;
-use source_events::{Event, Packet, Plan, Stop};
+use source_events::{Event, Packet, Plan, SourceKind, Stop};
+use source_machine::Told;
 use source_merge::{Engine, Receiver};
-use stp_grammar::said::Said;
 use trace_stream::{Action, Flow, OUTLET_ROOM, Outlet, TEXT_ROOM, Taken};
 use trace_text::{PortCountsLines, TAILS_ROOM, print_fault, print_tails, put_source_counts};
 use trace_values::{ID_COUNT, SourceId};
@@ -53,9 +52,7 @@ impl Receiver for Ignored {
 
     ghost room = { room };
 
-    ghost itm = { λ ignored source. ⊤ };
-
-    ghost stp = { λ ignored source. ⊤ };
+    ghost takes = { λ ignored source kind. ⊤ };
 
     ghost gets_none = { gets_none };
 
@@ -70,20 +67,12 @@ impl Receiver for Ignored {
     }
 
     #[inline(always)]
-    fn takes_itm(&self, _source: SourceId) -> bool {
+    fn takes_told(&self, _source: SourceId, _kind: SourceKind) -> bool {
         true
     }
 
     #[inline(always)]
-    fn takes_stp(&self, _source: SourceId) -> bool {
-        true
-    }
-
-    #[inline(always)]
-    fn give_itm(&mut self, _to: &mut (), _at: u64, _source: SourceId, _packet: ItmPacket) {}
-
-    #[inline(always)]
-    fn give_stp(&mut self, _to: &mut (), _at: u64, _half: u8, _source: SourceId, _said: Said) {}
+    fn give_told(&mut self, _to: &mut (), _at: u64, _half: u8, _source: SourceId, _told: Told) {}
 
     #[inline(always)]
     fn give_raw(&mut self, _to: &mut (), _at: u64, _source: SourceId, _bytes: &[u8]) {}

@@ -10,7 +10,7 @@ ghost use Rattle.source_events.specs.declared.packet.Packet.TheVariants.{Itm};
 ghost use Rattle.source_events.specs.Fitting.{EventFits, PacketFits};
 ghost use Rattle.std.specs.Option.{is_some};
 ghost use Rattle.std.specs.Prelude.{true};
-ghost use Rattle.source_merge.specs.Receiver.{trigger_event};
+ghost use Rattle.source_merge.specs.Receiver.{packet_event, trigger_event};
 ghost use Rattle.stp_grammar.specs.Said.{said_item, IsProperSaid};
 ghost use Rattle.stp_grammar.specs.declared.item.StpItem.{StpItem};
 ghost use Rattle.trace_text.specs.LineText.{event_line, itm_event, raw_event, stp_event};
@@ -27,7 +27,8 @@ use crate::plan_table::{PlanTable, sends_stp};
 use crate::source_clocks::SourceClocks;
 use item_tap::{Bounds, Choice};
 use itm_grammar::packet::ItmPacket;
-use source_events::{Event, Packet, Plan, RunBytes, What};
+use source_events::{Event, Packet, Plan, RunBytes, SourceKind, What};
+use source_machine::Told;
 use source_merge::Receiver;
 use stp_grammar::said::Said;
 use trace_stream::{OUTLET_ROOM, Outlet, TEXT_ROOM};
@@ -202,13 +203,20 @@ impl Lister {
     }
 
     /// Takes the next packet of this source, and puts its line from the packet's parts: the event itself goes nowhere,
-    /// so that it need not be in memory.
+    /// so that it need not be in memory. In which half of the byte it ends is not in the line.
     #[inline(always)]
-    fn put_own_itm(&mut self, outlet: &mut Outlet, at: u64, source: SourceId, packet: ItmPacket)
+    fn put_own_itm(
+        &mut self,
+        outlet: &mut Outlet,
+        at: u64,
+        half: u8,
+        source: SourceId,
+        packet: ItmPacket,
+    )
         requires proper { IsProper packet }
         requires own { ListsItm self.old source }
         requires room { length outlet.old + TEXT_ROOM ≤ OUTLET_ROOM }
-        ensures gets { gets (self.old, outlet.old) (itm_event at source packet ∷ []) (self.new, outlet.new) }
+        ensures gets { gets (self.old, outlet.old) (packet_event source at half (Itm packet) ∷ []) (self.new, outlet.new) }
         ensures bound { length outlet.new ≤ length outlet.old + EVENT_ROOM }
     {
         put_itm_line(
@@ -285,7 +293,7 @@ fn trigger_of(at: u64, source: SourceId, byte: u8) -> Event<Packet>
 
 /// An event goes to the outlet as its line, if it is listed.
 impl Receiver for Lister {
-    ghost use Rattle.capture_actions.specs.Lister.{gets, room, ListsItm, ListsStp};
+    ghost use Rattle.capture_actions.specs.Lister.{gets, room, Lists};
     ghost use Rattle.capture_actions.specs.ListerLaws.{gets_none, gets_more};
 
     type To = Outlet;
@@ -294,9 +302,7 @@ impl Receiver for Lister {
 
     ghost room = { room };
 
-    ghost itm = { ListsItm };
-
-    ghost stp = { ListsStp };
+    ghost takes = { Lists };
 
     ghost gets_none = { gets_none };
 
@@ -314,23 +320,19 @@ impl Receiver for Lister {
     }
 
     #[inline(always)]
-    fn takes_itm(&self, source: SourceId) -> bool {
-        self.lists_itm(source)
+    fn takes_told(&self, source: SourceId, kind: SourceKind) -> bool {
+        match kind {
+            SourceKind::Itm => self.lists_itm(source),
+            SourceKind::Stp => self.lists_stp(source),
+        }
     }
 
     #[inline(always)]
-    fn takes_stp(&self, source: SourceId) -> bool {
-        self.lists_stp(source)
-    }
-
-    #[inline(always)]
-    fn give_itm(&mut self, outlet: &mut Outlet, at: u64, source: SourceId, packet: ItmPacket) {
-        self.put_own_itm(outlet, at, source, packet);
-    }
-
-    #[inline(always)]
-    fn give_stp(&mut self, outlet: &mut Outlet, at: u64, half: u8, source: SourceId, said: Said) {
-        self.put_said(outlet, at, half, source, said);
+    fn give_told(&mut self, outlet: &mut Outlet, at: u64, half: u8, source: SourceId, told: Told) {
+        match told {
+            Told::Itm(packet) => self.put_own_itm(outlet, at, half, source, packet),
+            Told::Stp(said) => self.put_said(outlet, at, half, source, said),
+        }
     }
 
     #[inline(always)]

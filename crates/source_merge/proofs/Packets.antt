@@ -1,19 +1,13 @@
 -- A packet whose bytes are all in a run.
-use Rattle.std.proofs.Common.{◌≡◌, ℕ, ◌+◌, ◌-◌, ◌<◌, ◌≤◌, List, [], ◌∷◌, ◌++◌, length, take, drop, get_or, refl, sym, ◌∙◌, ap, subst, append_assoc, arith, Option, Some, None, false}
-use Rattle.std.specs.Prelude.{is_none}
+use Rattle.std.proofs.Common.{◌≡◌, ℕ, ◌+◌, ◌-◌, ◌<◌, ◌≤◌, List, [], ◌∷◌, ◌++◌, length, take, drop, get_or, refl, sym, ◌∙◌, ap, subst, append_assoc, arith, Option, Some, None}
 use Rattle.std.proofs.lemmas.List.{take_more, take-append-drop, take-map, drop-map, drop-take, take-take, take_rest, get_or-drop, length-drop, length-take-le}
 use Rattle.std.proofs.Math.Seq.{take-append-add}
 use Rattle.trace_values.specs.declared.cell.Cell.{Cell}
-use Rattle.trace_values.specs.declared.fault.Reason.{Reason}
-use Rattle.trace_values.specs.declared.step.Step.TheVariants.{Item}
 use Rattle.trace_values.specs.declared.step.Step.{Step}
-use Rattle.trace_values.specs.Block.{Takes, given_after}
-use Rattle.trace_values.specs.Placed.{Place, Placed, byte_at, placed_from, units_of}
-use Rattle.trace_values.specs.Stream.{Said, Stream, Settled}
-use Rattle.trace_values.proofs.Blocks.{next_placed}
-use Rattle.trace_values.proofs.Placing.{units_push}
-use Rattle.itm_codec.specs.Wholes.{Cuts, Gives, kept_at}
-use Rattle.stp_codec.specs.Cuts.{Passes}
+use Rattle.trace_values.specs.Block.{given_after}
+use Rattle.trace_values.specs.Placed.{Place, Placed, byte_at, units_of}
+use Rattle.trace_values.specs.Stream.{Said, Stream}
+use Rattle.trace_values.specs.Taking.{Passes}
 use Rattle.source_events.specs.declared.event.Event.{Event}
 use Rattle.source_events.specs.Runs.{placed_run, bytes_of}
 use Rattle.source_events.specs.Merge.{told}
@@ -42,15 +36,6 @@ feeds_given {V} reading u id was now done front last more old mid new f gives n 
       fault_is = ap (λ (l : List Placed). (reading l).fault) (sym all) ∙ g.2;
       list = λ k. subst now all g.0;
     }
-
--- cells of which the last one ends a packet, if it ends one
-pub feeds_cut : {V : Type 0} (reading : List Placed → Stream V) (u : List Placed) (id : ℕ) (was now : List Placed → Type 0) (done front : List Cell) (last : Cell)
-    (packet : Option V) (old mid new : List (Event V)) → FeedsBy reading was u done id old mid None →
-    ((w : List Placed) → was w → Cuts reading now w (placed_run front) (byte_at last.at last.byte) packet) →
-    new ≡ mid ++ told (Some id) (lifted (kept_at (record { at = last.at; half = 0 }) packet)) → FeedsBy reading now u (done ++ (front ++ last ∷ [])) id old new None
-feeds_cut reading u id was now done front last packet old mid new f cuts n =
-    feeds_given reading u id was now done front last (kept_at (record { at = last.at; half = 0 }) packet) old mid new f
-    (λ w k. let g = cuts w k in (g.list, g.given, g.sound)) n
 
 -- cells to the last of which this is the answer
 pub feeds_part : {V : Type 0} (reading : List Placed → Stream V) (u : List Placed) (id : ℕ) (was now : List Placed → Type 0) (done front : List Cell) (last : Cell)
@@ -103,41 +88,3 @@ module _ (run : List Cell) (done count : ℕ) (last : Cell) (some : 0 < count) (
       packet_units ahead e long
       ∙ take-take count (length ahead - done) (drop done ahead) (omega arith)
       ∙ sym (take-take count (length run - done) (drop done ahead) (omega arith))
-
--- bytes of a piece that give a packet
-module _ {V : Type 0} (reading : List Placed → Stream V) (stands : List Placed → Type 0) (u : List Placed) (at : ℕ) (piece : List ℕ) (bytes : ℕ) (some : 0 < bytes) (within : bytes ≤ length piece) where
-  abbrev pub piece_front : List Placed
-  piece_front = placed_from at (take (bytes - 1) piece)
-
-  abbrev pub piece_last : Placed
-  piece_last = byte_at (at + (bytes - 1)) (get_or piece (bytes - 1) 0)
-
-  units_from : (n : ℕ) (bs : List ℕ) → units_of (placed_from n bs) ≡ bs
-  units_from n [] = refl
-  units_from n (b ∷ bs) = ap (λ l. b ∷ l) (units_from (n + 1) bs)
-
-  count_is : bytes - 1 + 1 ≡ bytes
-  count_is = omega arith
-
-  pub piece_units : units_of (piece_front ++ piece_last ∷ []) ≡ take bytes piece
-  piece_units =
-      units_push piece_front piece_last ∙ ap (λ l. l ++ get_or piece (bytes - 1) 0 ∷ []) (units_from at (take (bytes - 1) piece))
-      ∙ sym (take_more piece (bytes - 1) 0 (omega arith)) ∙ ap (λ n. take n piece) count_is
-
-  pub takes_packet : ((v w : List Placed) → is_none (reading v).fault ≡ false → Settled (reading v) (reading (v ++ w))) → (packet : V) →
-      Gives reading stands u piece_front piece_last packet → Takes reading stands u at piece bytes (Some (Item 0 packet))
-  takes_packet settle packet g =
-      let all : u ++ (piece_front ++ piece_last ∷ []) ≡ u ++ placed_from at (take bytes piece) =
-      sym (append_assoc u piece_front (piece_last ∷ [])) ∙ next_placed u at piece (bytes - 1) (omega arith) ∙ ap (λ n. u ++ placed_from at (take n piece)) count_is in
-      record {
-        list = subst stands all g.list;
-        given = ap (λ (l : List Placed). (reading l).given) (sym all) ∙ g.given;
-        fault = ap (λ (l : List Placed). (reading l).fault) (sym all) ∙ g.sound;
-        place = tt;
-        sound = by (reading (u ++ piece_front)).fault refl (ap (λ (l : List Placed). (reading l).fault) (append_assoc u piece_front (piece_last ∷ [])) ∙ g.sound);
-      } where
-        by : (o : Option (Place × Reason)) → (reading (u ++ piece_front)).fault ≡ o → (reading ((u ++ piece_front) ++ piece_last ∷ [])).fault ≡ None → (reading (u ++ piece_front)).fault ≡ None
-        by None k e = k
-        by (Some x) k e =
-            (let s = (settle (u ++ piece_front) (piece_last ∷ []) (ap (λ (o : Option (Place × Reason)). is_none o) k)).fault in
-            let q : None ≡ Some x = sym e ∙ s ∙ k in cc)

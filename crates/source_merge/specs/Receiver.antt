@@ -1,22 +1,15 @@
 -- What receives events, by their parts, and a list of events that takes more of them.
 use Rattle.std.specs.Prelude.{◌≡◌, ℕ, ◌-◌, ◌++◌, List, Some}
 use Rattle.arrayvec.specs.ArrayVec.{ArrayVec, array_vec_len}
-use Rattle.itm_grammar.specs.declared.packet.ItmPacket.{ItmPacket}
-use Rattle.stp_grammar.specs.declared.item.StpItem.{StpItem}
 use Rattle.source_events.specs.declared.event.Event.{Event}
 use Rattle.source_events.specs.declared.event.What.TheVariants.{Packet as Said, Raw, Trigger}
 use Rattle.source_events.specs.declared.packet.Packet.{Packet}
-use Rattle.source_events.specs.declared.packet.Packet.TheVariants.{Itm, Stp}
 use Rattle.source_events.specs.Fitting.{AllFit, PacketFits}
 use Rattle.source_merge.specs.declared.slot.TheConstants.{EVENTS}
 
--- a packet of this ITM source, which ends here; an item of this STP source, which ends in this half of the byte here; and
--- bytes of this source that are not read, which end here
-abbrev pub itm_event : ℕ → ℕ → ItmPacket → Event Packet
-itm_event source at packet = record { at = at; half = 0; source = Some source; what = Said (Itm packet) }
-
-abbrev pub stp_event : ℕ → ℕ → ℕ → StpItem → Event Packet
-stp_event source at half item = record { at = at; half = half; source = Some source; what = Said (Stp item) }
+-- a packet of this source, which ends in this half of the byte here; and bytes of it that are not read, which end here
+abbrev pub packet_event : ℕ → ℕ → ℕ → Packet → Event Packet
+packet_event source at half packet = record { at = at; half = half; source = Some source; what = Said packet }
 
 abbrev pub raw_event : ℕ → ℕ → List ℕ → Event Packet
 raw_event source at bytes = record { at = at; half = 0; source = Some source; what = Raw bytes }

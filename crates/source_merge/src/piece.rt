@@ -31,6 +31,11 @@ impl Run for PieceRun<'_> {
     }
 
     #[inline(always)]
+    fn is_piece(&self) -> bool {
+        true
+    }
+
+    #[inline(always)]
     fn ahead(&self) -> &[u8] {
         self.ahead
     }

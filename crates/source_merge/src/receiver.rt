@@ -1,20 +1,22 @@
 //! What takes the events of a report as they come.
 
-ghost use Rattle.std.specs.Option.{is_some};
-ghost use Rattle.std.specs.Prelude.{◌≡◌, true, Some};
-ghost use Rattle.std.specs.Prelude.{◌↔◌, ◌+◌, ◌<◌, ◌≤◌, ◌++◌, ◌∷◌, [], ℕ, List, length, IsTrue};
-ghost use Rattle.itm_grammar.specs.Proper.{IsProper};
+ghost use Rattle.std.specs.Prelude.{◌≡◌, ◌↔◌, ◌+◌, ◌<◌, ◌≤◌, ◌++◌, ◌∷◌, [], ℕ, List, Some, length, IsTrue};
 ghost use Rattle.source_events.specs.declared.event.Event.{Event};
 ghost use Rattle.source_events.specs.declared.packet.Packet.{Packet};
+ghost use Rattle.source_events.specs.declared.plan.SourceKind.{SourceKind};
 ghost use Rattle.source_events.specs.Fitting.{EventFits, PacketFits};
-ghost use Rattle.stp_grammar.specs.Said.{said_item, IsProperSaid};
+ghost use Rattle.source_machine.specs.Finding.{ToldFits, told_by};
+ghost use Rattle.source_machine.specs.declared.packets.Told.TheVariants.{Itm as SaysItm, Stp as SaysStp};
+ghost use Rattle.source_events.specs.declared.packet.Packet.TheVariants.{Itm, Stp};
+ghost use Rattle.itm_grammar.specs.declared.packet.ItmPacket.{ItmPacket};
+ghost use Rattle.stp_grammar.specs.Said.{said_item};
+ghost use Rattle.stp_grammar.specs.declared.said.Said.{Said};
 ghost use Rattle.stp_grammar.specs.declared.item.StpItem.{StpItem};
-ghost use Rattle.source_merge.specs.Receiver.{itm_event, raw_event, stp_event, trigger_event};
+ghost use Rattle.source_merge.specs.Receiver.{packet_event, raw_event, trigger_event};
 
 use crate::slot::{EVENTS, Events, event_at};
-use itm_grammar::packet::ItmPacket;
-use source_events::{Event, Packet, RunBytes, What};
-use stp_grammar::said::Said;
+use source_events::{Event, Packet, RunBytes, SourceKind, What};
+use source_machine::Told;
 use trace_values::SourceId;
 
 /// What takes the events of a report, one after the other.
@@ -26,10 +28,8 @@ pub trait Receiver {
     ghost gets: { (Self × Self.To) → List (Event Packet) → (Self × Self.To) → Type 0 };
     // how many more it has room for
     ghost room: { (Self × Self.To) → ℕ };
-    // of which ITM sources, and of which STP sources, it may be given packets by their parts
-    ghost itm: { Self → ℕ → Type 0 };
-
-    ghost stp: { Self → ℕ → Type 0 };
+    // of which sources of which kind it may be given packets as what they say
+    ghost takes: { Self → ℕ → SourceKind → Type 0 };
 
     /// Takes the next event.
     fn give(&mut self, to: &mut Self::To, event: Event<Packet>)
@@ -42,34 +42,23 @@ pub trait Receiver {
     fn events_left(&self, to: &Self::To) -> usize
         ensures { result ≡ room (self.now, to.now) };
 
-    /// Packets of this ITM source may be given by their parts. It is asked before the packet is read: so what is read
-    /// goes straight into what is made of it.
-    fn takes_itm(&self, source: SourceId) -> bool
-        ensures { IsTrue result ↔ itm self.now source };
+    /// Packets of this source, which is of this kind, may be given as what they say. It is asked before a packet is
+    /// read: so what is read goes straight into what is made of it.
+    fn takes_told(&self, source: SourceId, kind: SourceKind) -> bool
+        ensures { IsTrue result ↔ takes self.now source kind };
 
-    /// Items of this STP source may be given by their parts.
-    fn takes_stp(&self, source: SourceId) -> bool
-        ensures { IsTrue result ↔ stp self.now source };
-
-    /// Takes the next event, which is an ITM packet of this source. Its last byte is at this offset.
+    /// Takes the next event, which is what a packet of this source says. It ends in this half of the byte at this
+    /// offset.
     ///
     /// It is what `give` makes of that event, which need not be in memory; so are those below.
-    fn give_itm(&mut self, to: &mut Self::To, at: u64, source: SourceId, packet: ItmPacket)
-        requires fits { IsProper packet }
-        requires own { itm self.old source }
+    fn give_told(&mut self, to: &mut Self::To, at: u64, half: u8, source: SourceId, told: Told)
+        requires fits { ToldFits told }
+        requires own { takes self.old source (told_by told) }
         requires room { 0 < room (self.old, to.old) }
-        ensures gets { gets (self.old, to.old) (itm_event source at packet ∷ []) (self.new, to.new) }
-        ensures room { room (self.old, to.old) ≤ room (self.new, to.new) + 1 };
-
-    /// Takes the next event, which is the item of what a packet of this STP source says, which has one. It ends in this
-    /// half of the byte at this offset.
-    fn give_stp(&mut self, to: &mut Self::To, at: u64, half: u8, source: SourceId, said: Said)
-        requires fits { IsProperSaid said }
-        requires some { is_some (said_item said) ≡ true }
-        requires own { stp self.old source }
-        requires room { 0 < room (self.old, to.old) }
-        ensures gets { (item : StpItem) → said_item said ≡ Some item →
-            gets (self.old, to.old) (stp_event source at half item ∷ []) (self.new, to.new) }
+        ensures itm { (packet : ItmPacket) → told ≡ SaysItm packet →
+            gets (self.old, to.old) (packet_event source at half (Itm packet) ∷ []) (self.new, to.new) }
+        ensures stp { (said : Said) (item : StpItem) → told ≡ SaysStp said → said_item said ≡ Some item →
+            gets (self.old, to.old) (packet_event source at half (Stp item) ∷ []) (self.new, to.new) }
         ensures room { room (self.old, to.old) ≤ room (self.new, to.new) + 1 };
 
     /// Takes the next event, which is a run of this source, 1 to 15 bytes that are not read. The last of them is at this
@@ -106,18 +95,11 @@ impl Receiver for Events {
 
     ghost room = { list_room };
 
-    ghost itm = { λ events source. ⊤ };
-
-    ghost stp = { λ events source. ⊤ };
+    ghost takes = { λ events source kind. ⊤ };
 
     ghost gets_none = { list_gets_none };
 
     ghost gets_more = { list_gets_more };
-
-    #[inline(always)]
-    fn give(&mut self, _to: &mut (), event: Event<Packet>) {
-        self.push(event);
-    }
 
     #[inline(always)]
     fn events_left(&self, _to: &()) -> usize {
@@ -125,24 +107,26 @@ impl Receiver for Events {
     }
 
     #[inline(always)]
-    fn takes_itm(&self, _source: SourceId) -> bool {
+    fn give(&mut self, _to: &mut (), event: Event<Packet>) {
+        self.push(event);
+    }
+
+    #[inline(always)]
+    fn takes_told(&self, _source: SourceId, _kind: SourceKind) -> bool {
         true
     }
 
     #[inline(always)]
-    fn takes_stp(&self, _source: SourceId) -> bool {
-        true
-    }
-
-    #[inline(always)]
-    fn give_itm(&mut self, _to: &mut (), at: u64, source: SourceId, packet: ItmPacket) {
-        self.push(event_at(source, at, 0, What::Packet(Packet::Itm(packet))));
-    }
-
-    #[inline(always)]
-    fn give_stp(&mut self, _to: &mut (), at: u64, half: u8, source: SourceId, said: Said) {
-        if let Some(item) = said.item() {
-            self.push(event_at(source, at, half, What::Packet(Packet::Stp(item))));
+    fn give_told(&mut self, _to: &mut (), at: u64, half: u8, source: SourceId, told: Told) {
+        match told {
+            Told::Itm(packet) => {
+                self.push(event_at(source, at, half, What::Packet(Packet::Itm(packet))));
+            }
+            Told::Stp(said) => {
+                if let Some(item) = said.item() {
+                    self.push(event_at(source, at, half, What::Packet(Packet::Stp(item))));
+                }
+            }
         }
     }
 

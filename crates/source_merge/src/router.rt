@@ -21,7 +21,7 @@ ghost use Rattle.source_merge.specs.declared.slot.Slot.{Slot};
 use crate::counts::{ByteCounts, PerSource};
 use crate::receiver::Receiver;
 use crate::run::{CellRun, Run};
-use crate::slot::{Slot, feed_itm, feed_stp};
+use crate::slot::{Slot, feed_run};
 use source_events::{Packet, Stop, run_length};
 use source_machine::SourceMachine;
 use trace_values::{Cell, Fault, SourceId};
@@ -138,11 +138,9 @@ pub fn feed_slot<R: Run, V: Receiver>(
     ensures space { V.room (out.old, to.old) ≤ V.room (out.new, to.new) + 2 * length (R.cells run.now) }
     ensures count { total_of items.new ≤ total_of items.old + 2 * length (R.cells run.now) }
 {
-    let machine = &mut slots[index].machine;
-    if machine.is_stp() {
-        feed_stp(machine, id, run, items, out, to)
-    } else {
-        feed_itm(machine, id, run, items, out, to)
+    match &mut slots[index].machine {
+        SourceMachine::Itm(decoder) => feed_run(decoder, id, run, items, out, to),
+        SourceMachine::Stp(decoder) => feed_run(decoder, id, run, items, out, to),
     }
 }
 

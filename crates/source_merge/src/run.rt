@@ -23,6 +23,9 @@ pub trait Run {
         ensures bytes { take (length (cells self.now)) result.now ≡ bytes_of (cells self.now) }
         ensures room { length (cells self.now) + AHEAD ≤ length result.now };
 
+    /// It is a piece of a capture with no formatter, of which mostly no packet's bytes wait. Only speed depends on it.
+    fn is_piece(&self) -> bool;
+
     /// The cell at an index.
     fn cell(&self, index: usize) -> Cell
         requires { index < length (cells self.now) }
@@ -66,6 +69,11 @@ impl Run for CellRun<'_> {
     #[inline(always)]
     fn len(&self) -> usize {
         self.cells.len()
+    }
+
+    #[inline(always)]
+    fn is_piece(&self) -> bool {
+        false
     }
 
     #[inline(always)]

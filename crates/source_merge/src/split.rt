@@ -125,6 +125,11 @@ impl Run for SplitRun<'_, '_> {
     }
 
     #[inline(always)]
+    fn is_piece(&self) -> bool {
+        false
+    }
+
+    #[inline(always)]
     fn ahead(&self) -> &[u8] {
         self.frame.bytes_from(self.begun.from)
     }

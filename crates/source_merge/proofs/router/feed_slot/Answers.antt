@@ -14,6 +14,7 @@ use Rattle.source_merge.specs.Routing.{AllLive, HaveRoom}
 use Rattle.source_merge.proofs.Slots.{live_at, room_at, get_seam}
 use Rattle.source_machine.specs.Machine.{Stands, held_of, is_live, reading_of, skipped_by}
 use Rattle.source_machine.specs.declared.machine.SourceMachine.{SourceMachine}
+use Rattle.source_machine.specs.declared.machine.SourceMachine.TheVariants.{Itm, Stp}
 use Rattle.source_merge.proofs.ByParts.{FeedsBy, SlotFedBy}
 use Rattle.source_merge.proofs.router.feed_slot.Goals as goal
 
@@ -55,34 +56,51 @@ module _ (cells : List Cell) (id : ℕ) (slots : List (Slot SourceMachine)) (k :
         early = early;
       })
 
-pub feed_stp-requires-clause-live : goal.feed_stp-requires-clause-live
-feed_stp-requires-clause-live g c = is_on c.args.slots.now c.args.index c.index-slots-index.result c.requires.index c.requires.live
+  -- by what its machine was
+  fed_as : (was : SourceMachine) → x.machine ≡ was → reading_of machine ≡ reading_of was → is_live machine ≡ is_none fault →
+      held_of machine + skipped_by machine ≤ held_of was + skipped_by was + 2 * length cells →
+      ((u : List Placed) → Stands was u → FeedsBy (reading_of was) (Stands machine) u cells id [] given fault) →
+      IsEarly (reading_of was) (Stands was) cells fault →
+      (front : List (Slot SourceMachine)) (s : Slot SourceMachine) (back : List (Slot SourceMachine)) → slots ≡ front ++ (s ∷ back) → length front ≡ k →
+      SlotFedBy reading_of Stands is_live held_of skipped_by front s back (set slots k (record { id = x.id; machine = machine })) cells id [] given fault
+  fed_as was is same live few feeds early =
+      fed (subst (λ (m : SourceMachine). reading_of machine ≡ reading_of m) (sym is) same) live
+      (subst (λ (m : SourceMachine). held_of machine + skipped_by machine ≤ held_of m + skipped_by m + 2 * length cells) (sym is) few)
+      (subst (λ (m : SourceMachine). (u : List Placed) → Stands m u → FeedsBy (reading_of m) (Stands machine) u cells id [] given fault) (sym is) feeds)
+      (subst (λ (m : SourceMachine). IsEarly (reading_of m) (Stands m) cells fault) (sym is) early)
 
-pub feed_stp-requires-clause-room : goal.feed_stp-requires-clause-room
-feed_stp-requires-clause-room g c =
-    (let r = has_room c.args.slots.now c.args.index c.index-slots-index.result c.requires.index c.requires.room in let s = c.requires.size in omega arith)
+pub feed_run-requires-clause-live : goal.feed_run-requires-clause-live
+feed_run-requires-clause-live g c =
+    ap is_live (sym c.in-Itm.is) ∙ is_on c.args.slots.now c.args.index c.index-slots-index.result c.requires.index c.requires.live
 
-pub returns-then-is_stp-clause-fed : goal.returns-then-is_stp-clause-fed
-returns-then-is_stp-clause-fed g c =
-    let e = c.feed_stp.ensures in (
+pub feed_run-requires-clause-room : goal.feed_run-requires-clause-room
+feed_run-requires-clause-room g c =
+    (let r = has_room c.args.slots.now c.args.index c.index-slots-index.result c.requires.index c.requires.room in let s = c.requires.size in
+    let h = ap held_of c.in-Itm.is in let k = ap skipped_by c.in-Itm.is in omega (arith, r, s, h, k))
+
+pub feed_run-requires-in-Stp-clause-live : goal.feed_run-requires-in-Stp-clause-live
+feed_run-requires-in-Stp-clause-live g c =
+    ap is_live (sym c.in-Stp.is) ∙ is_on c.args.slots.now c.args.index c.index-slots-index.result c.requires.index c.requires.live
+
+pub feed_run-requires-in-Stp-clause-room : goal.feed_run-requires-in-Stp-clause-room
+feed_run-requires-in-Stp-clause-room g c =
+    (let r = has_room c.args.slots.now c.args.index c.index-slots-index.result c.requires.index c.requires.room in let s = c.requires.size in
+    let h = ap held_of c.in-Stp.is in let k = ap skipped_by c.in-Stp.is in omega (arith, r, s, h, k))
+
+pub returns-in-Itm-clause-fed : goal.returns-in-Itm-clause-fed
+returns-in-Itm-clause-fed g c =
+    let e = c.feed_run.ensures in (
       e.feeds.0,
       e.feeds.1,
-      fed (g.R.Run.cells c.args.run.now) c.args.id c.args.slots.now c.args.index c.index-slots-index.result c.feed_stp.new.machine
-          c.feed_stp.result e.feeds.0 e.same e.live e.few e.feeds.2 e.early,
+      fed_as (g.R.Run.cells c.args.run.now) c.args.id c.args.slots.now c.args.index c.index-slots-index.result (Itm c.feed_run.new.machine)
+          c.feed_run.result e.feeds.0 _ c.in-Itm.is e.same e.live e.few e.feeds.2 e.early,
     )
 
-pub feed_itm-requires-clause-live : goal.feed_itm-requires-clause-live
-feed_itm-requires-clause-live g c = is_on c.args.slots.now c.args.index c.index-slots-index.result c.requires.index c.requires.live
-
-pub feed_itm-requires-clause-room : goal.feed_itm-requires-clause-room
-feed_itm-requires-clause-room g c =
-    (let r = has_room c.args.slots.now c.args.index c.index-slots-index.result c.requires.index c.requires.room in let s = c.requires.size in omega arith)
-
-pub returns-else-is_stp-clause-fed : goal.returns-else-is_stp-clause-fed
-returns-else-is_stp-clause-fed g c =
-    let e = c.feed_itm.ensures in (
+pub returns-in-Stp-clause-fed : goal.returns-in-Stp-clause-fed
+returns-in-Stp-clause-fed g c =
+    let e = c.feed_run-in-Stp.ensures in (
       e.feeds.0,
       e.feeds.1,
-      fed (g.R.Run.cells c.args.run.now) c.args.id c.args.slots.now c.args.index c.index-slots-index.result c.feed_itm.new.machine
-          c.feed_itm.result e.feeds.0 e.same e.live e.few e.feeds.2 e.early,
+      fed_as (g.R.Run.cells c.args.run.now) c.args.id c.args.slots.now c.args.index c.index-slots-index.result (Stp c.feed_run-in-Stp.new.machine)
+          c.feed_run-in-Stp.result e.feeds.0 _ c.in-Stp.is e.same e.live e.few e.feeds.2 e.early,
     )

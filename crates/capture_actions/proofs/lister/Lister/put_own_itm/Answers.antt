@@ -1,5 +1,6 @@
 use Rattle.std.proofs.Common.{rules, refl}
-use Rattle.trace_text.specs.LineText.{itm_event}
+use Rattle.source_events.specs.declared.packet.Packet.TheVariants.{Itm}
+use Rattle.source_merge.specs.Receiver.{packet_event}
 use Rattle.capture_actions.proofs.lister.Lister.put_own_itm.Goals as goal
 
 pub returns-clause-gets : goal.returns-clause-gets
@@ -7,7 +8,7 @@ returns-clause-gets c = record {
   kept = refl;
   asked = refl;
   clocks = λ before h.
-      c.put_itm_line.ensures.clocks before (itm_event c.args.at c.args.source c.args.packet) refl refl h;
+      c.put_itm_line.ensures.clocks before (packet_event c.args.source c.args.at c.args.half (Itm c.args.packet)) refl refl h;
   seen = λ before f. search rules;
   text = λ before h f. search rules;
 }

@@ -276,12 +276,15 @@ module _ (g : bound.Over) (c : goal.After-flow_of g) where
 
 pub returns-clause-reads : goal.returns-clause-reads
 returns-clause-reads g c =
-    let t = c.feed_slot-fault.ensures.fed in
-    (t.0, t.1.received, λ u h. record {
-      grew = grew g c u h c.feed_slot-fault.result refl;
-      fault = fault_now g c u h c.feed_slot-fault.result refl ∙ sym (flow_is g c u h);
-      certain = λ k. certain g c u h c.feed_slot-fault.result refl (sym (goes g c) ∙ k);
-    })
+    let t = c.feed_slot-fault.ensures.fed in (
+      t.0,
+      t.1.received,
+      λ u h. record {
+        grew = grew g c u h c.feed_slot-fault.result refl;
+        fault = fault_now g c u h c.feed_slot-fault.result refl ∙ sym (flow_is g c u h);
+        certain = λ k. certain g c u h c.feed_slot-fault.result refl (sym (goes g c) ∙ k);
+      },
+    )
 
 pub returns-clause-takes : goal.returns-clause-takes
 returns-clause-takes g c =
