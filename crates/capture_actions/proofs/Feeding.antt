@@ -1,6 +1,6 @@
 -- What a block of an engine is for the report of the capture.
 use Rattle.std.proofs.Common.{◌≡◌, ℕ, suc, ◌+◌, List, [], ◌∷◌, ◌++◌, length, refl, sym, ◌∙◌, ap, subst, append_assoc}
-use Rattle.std.proofs.Common.{append-nil, arith, Option, None, Some, true}
+use Rattle.std.proofs.Common.{arith, Option, None, Some, true}
 use Rattle.std.specs.Prelude.{is_none, option_map}
 use Rattle.trace_values.specs.declared.fault.Reason.{Reason}
 use Rattle.trace_values.specs.Placed.{Place, Placed, placed_from, placed}

@@ -1,6 +1,6 @@
 -- What a piece of a capture with no formatter adds to the report, where source 1 is mapped: all that its machine gives.
 use Rattle.std.proofs.Common.{◌≡◌, ℕ, ◌+◌, List, [], ◌∷◌, ◌++◌, length, sym, ◌∙◌, ap, subst, append_assoc, append-nil}
-use Rattle.std.proofs.Common.{Option, None, Some}
+use Rattle.std.proofs.Common.{None, Some}
 use Rattle.std.proofs.lemmas.List.{append_cancel_left}
 use Rattle.trace_values.specs.declared.fault.Fault.{Fault}
 use Rattle.trace_values.specs.Placed.{Place, Placed, byte_at, placed_from}
@@ -15,7 +15,6 @@ use Rattle.source_events.specs.Report.{Mapped, AreLawful, lifted, report, runs_i
 use Rattle.source_events.proofs.Least.{AreSound}
 use Rattle.source_events.proofs.Merges.{told_append}
 use Rattle.std.specs.Option.{option_map}
-use Rattle.source_events.specs.declared.event.Stop.{Stop}
 use Rattle.source_merge.specs.Feeding.{place_and_reason}
 use Rattle.source_merge.specs.Routing.{HasNot}
 use Rattle.source_merge.proofs.Going.{rise_block}

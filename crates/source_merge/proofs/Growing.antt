@@ -6,7 +6,7 @@ use Rattle.deformatter.specs.Block.{EachByte, FedAs}
 use Rattle.source_events.specs.declared.event.Event.{Event}
 use Rattle.source_events.specs.declared.packet.Packet.{Packet}
 use Rattle.source_events.specs.declared.plan.Plan.{Plan}
-use Rattle.source_merge.specs.Answering.{Answers, fault_by, fault_of, report_of}
+use Rattle.source_merge.specs.Answering.{Answers, fault_of, report_of}
 use Rattle.source_merge.specs.declared.engine.Engine.{Engine}
 use Rattle.source_merge.specs.declared.flow.Flow.{Flow}
 use Rattle.source_merge.specs.declared.flow.Flow.TheVariants.{Going}

@@ -1,12 +1,10 @@
 -- What an engine keeps, as it goes on with a piece of a capture with no formatter that is fed as a run of source 1.
-use Rattle.std.proofs.Common.{◌≡◌, ◌≢◌, ℕ, ◌+◌, ◌-◌, ◌<◌, ◌≤◌, List, [], ◌∷◌, ◌++◌, length, take, get_or, refl, sym}
-use Rattle.std.proofs.Common.{◌∙◌, ap, subst, append_assoc, append-nil, arith, Option, None, Some, true}
+use Rattle.std.proofs.Common.{◌≡◌, ℕ, ◌+◌, List, [], ◌∷◌, ◌++◌, length, sym, ◌∙◌, ap, subst, append_assoc, Option}
+use Rattle.std.proofs.Common.{None, Some, true}
 use Rattle.std.specs.Option.{option_map}
-use Rattle.std.proofs.lemmas.List.{take_more, length-take-le}
 use Rattle.trace_values.specs.declared.fault.Fault.{Fault}
 use Rattle.trace_values.specs.Placed.{Placed, byte_at, placed_from}
-use Rattle.trace_values.specs.Stream.{Stream}
-use Rattle.trace_values.proofs.Placing.{placed_from_push, length-placed_from}
+use Rattle.trace_values.proofs.Placing.{placed_from_push}
 use Rattle.trace_values.specs.declared.reading_modes.FramesMode.{FramesMode}
 use Rattle.trace_values.specs.declared.reading_modes.FramesMode.TheVariants.{Bare}
 use Rattle.deformatter.specs.PortReading.{port_reading}

@@ -1,4 +1,4 @@
-use Rattle.std.proofs.Common.{◌≡◌, ◌+◌, ◌<◌, ◌≤◌, length, take}
+use Rattle.std.proofs.Common.{◌+◌, ◌<◌, ◌≤◌, length, take}
 use Rattle.trace_stream.specs.declared.action.Flow.TheVariants.{On}
 use Rattle.trace_stream.specs.declared.action.TheConstants.{ACTION_ROOM}
 use Rattle.trace_stream.specs.declared.outlet.TheConstants.{OUTLET_ROOM}

@@ -1,5 +1,5 @@
 use Rattle.std.proofs.Common.{◌≡◌, ℕ, ◌+◌, List, [], ◌∷◌, ◌++◌, take, sym, ap, subst, arith, ◌∙◌}
-use Rattle.trace_values.specs.Placed.{Placed, placed_from}
+use Rattle.trace_values.specs.Placed.{placed_from}
 use Rattle.deformatter.specs.Block.{FedAs}
 use Rattle.source_events.specs.declared.event.Event.{Event}
 use Rattle.source_events.specs.declared.packet.Packet.{Packet}

@@ -19,8 +19,7 @@ use Rattle.source_machine.specs.Machine.{reading_of, Stands as MachineStands, is
 use Rattle.source_machine.specs.declared.machine.SourceMachine.{SourceMachine}
 use Rattle.source_merge.specs.declared.slot.Slot.{Slot}
 use Rattle.source_merge.specs.Engine.{Stands, Keeps}
-use Rattle.source_merge.specs.Answering.{Answers, fault_of}
-use Rattle.source_merge.specs.declared.flow.Flow.TheVariants.{Going}
+use Rattle.source_merge.specs.Answering.{fault_of}
 use Rattle.source_merge.specs.Routing.{mapped_of, AllLive, AllStand, HaveRoom, LiveIf, RoomIf, AreDistinct}
 use Rattle.source_merge.proofs.Slots.{room_more}
 use Rattle.source_merge.proofs.Standing.{distinct, none_there, live_now, live_if, room_now, room_if, tested, none_of}

@@ -1,5 +1,4 @@
-use Rattle.std.proofs.Common.{◌≡◌, get_or, ℕ, ◌+◌, ◌∙◌, Some, sym, ap, arith}
-use Rattle.trace_values.specs.declared.cell.Cell.{Cell}
+use Rattle.std.proofs.Common.{get_or, ℕ, ◌+◌, ◌∙◌, Some, sym, ap, arith}
 use Rattle.source_merge.proofs.PieceCells.{piece_length, cells_at}
 use Rattle.source_merge.proofs.piece.PieceRunRun.cell.Goals as goal
 
