@@ -5,7 +5,7 @@ use std::process::Abort;
 use stp_codec::{PacketTaken, StpDecoder, StpFound, WINDOW};
 use stp_grammar::item::{Place, Stamp, StpItem};
 use stp_grammar::packet::{Order, Width};
-use trace_values::{Block, Fault, Machine, Reason, Step};
+use trace_values::{Block, Fault, Machine, Reason, Step, feed_block};
 
 const NOWHERE: Place = Place {
     master: None,
@@ -200,7 +200,7 @@ fn check_pieces(rt: &impl Abort, decoder: StpDecoder, bytes: &[u8], size: usize,
         let left = bytes.len() - at;
         let piece = &bytes[at..at + if size < left { size } else { left }];
         assert!(rt; !piece.is_empty() && piece.len() < 5000);
-        let block = by_pieces.feed_piece(at as u64, piece);
+        let block = feed_block(&mut by_pieces, at as u64, piece);
         at += block.bytes;
         if let Some(step) = block.step {
             assert!(rt; next < told.len() && at > 0);
@@ -405,7 +405,7 @@ fn reads_runs(rt: HostRuntime) {
     for (hunts, held, skipped) in [(false, 8192, 0), (true, 0, 8192)] {
         let mut decoder = decoder(Order::Msn, hunts);
         assert!(rt; decoder.is_live() && decoder.held() == 0 && decoder.skipped() == 0);
-        let block = decoder.feed_piece(0, &all);
+        let block = feed_block(&mut decoder, 0, &all);
         same(
             &rt,
             &"block",

@@ -14,6 +14,5 @@ pub mod Cutting
 pub mod Passing
 pub mod PacketPieces
 pub mod PartPieces
-pub mod Parts
 pub mod PartsPieces
 pub mod Pairs

@@ -1,30 +1,21 @@
 -- Bytes that end a packet are taken at once, wherever they are.
 use Rattle.std.proofs.Common.{◌≡◌, ℕ, zero, suc, ◌+◌, ◌-◌, ◌*◌, ◌/◌, ◌%◌, ◌<◌, ◌≤◌, List, [], ◌∷◌, ◌++◌, length, take}
 use Rattle.std.proofs.Common.{get_or, refl, sym, ◌∙◌, ap, subst, append_assoc, append-nil, arith, Option, None, Some}
-use Rattle.std.proofs.Common.{Bool, true, ◌⊎◌, inl, inr}
-use Rattle.std.specs.Prelude.{is_none}
+use Rattle.std.proofs.Common.{true, ◌⊎◌, inl, inr}
 use Rattle.std.proofs.lemmas.List.{take_more}
-use Rattle.stp_codec.specs.Names.{Reason, Mode, Place, Placed, units_of, byte_at, placed_from, nibbles_of, low_of}
-use Rattle.stp_codec.specs.Names.{high_of, Whole, walk, by_unit, Go, Stream, given_by, Takes, StandsAt, given_after}
-use Rattle.stp_codec.specs.Names.{fault_after, hunts, is_locked, Order, StpPacket, Async, StpItem, Attribution}
-use Rattle.stp_codec.specs.Names.{Partial, Start, rule, attribute, item_of, Stands as Attributes}
-use Rattle.trace_values.proofs.Blocks.{next_placed}
+use Rattle.stp_codec.specs.Names.{Mode, Placed, units_of, nibbles_of, low_of}
+use Rattle.stp_codec.specs.Names.{high_of, Whole, walk, Go, Stream, given_by, given_after}
+use Rattle.stp_codec.specs.Names.{hunts, is_locked, Order, StpPacket, StpItem, Attribution}
+use Rattle.stp_codec.specs.Names.{Partial, Start, rule, item_of, Stands as Attributes}
 use Rattle.trace_values.proofs.Decorating.{item_step}
 use Rattle.trace_values.proofs.NibbleModes as laws
 use Rattle.trace_values.proofs.Placing.{units_push}
-use Rattle.stp_codec.specs.Reading.{pattern, items_at, items_in}
+use Rattle.stp_codec.specs.Reading.{items_at, items_in}
 use Rattle.stp_codec.specs.Wholes.{nibbles_in, between, Ends, left_of, item_in, IsQuiet}
 use Rattle.stp_codec.specs.Cuts.{Passes}
 use Rattle.stp_codec.proofs.Between.{length-nibbles, low_nibble, high_nibble}
 use Rattle.stp_codec.proofs.Taking.{At}
 use Rattle.stp_codec.proofs.Passing.{passed}
-
--- a list with no fault has none before its end
-pub sound_before : (order : Order) (h : Bool) (u w : List Placed) → (items_in order h (u ++ w)).fault ≡ None → (items_in order h u).fault ≡ None
-sound_before order h u w e = by (items_in order h u).fault refl where
-  by : (o : Option (Place × Reason)) → (items_in order h u).fault ≡ o → o ≡ None
-  by None f = refl
-  by (Some x) f = let s = laws.settles pattern Async (by_unit (rule order)) Start attribute [] h u w (ap is_none f) in let k = sym e ∙ s.fault ∙ f in cc
 
 pub units_nibbles : (u : List Placed) → units_of (nibbles_of u) ≡ nibbles_in (units_of u)
 units_nibbles [] = refl
@@ -40,14 +31,6 @@ take_nibbles (suc k) (b ∷ bytes) =
 given_item : (at half : ℕ) (o : Option StpItem) → given_by at (item_step half o) ≡ given_after at (item_in half o)
 given_item at half None = refl
 given_item at half (Some item) = refl
-
-no_fault : (at half : ℕ) (o : Option StpItem) → None ≡ fault_after at (item_in half o)
-no_fault at half None = refl
-no_fault at half (Some item) = refl
-
-no_place : (at half : ℕ) (o : Option StpItem) → StandsAt at (item_in half o)
-no_place at half None = tt
-no_place at half (Some item) = tt
 
 -- the nibbles of bytes of which this is the last
 pub nibbles_last : (u front : List Placed) (last : Placed) →
@@ -175,43 +158,3 @@ module _ (order : Order) (m : Mode) (a : Attribution) (locked : is_locked m ≡ 
             subst (λ half. Passes (items_in order (hunts m)) (λ w. now (nibbles_of w)) u front last (item_in half o)) (sym c.0)
             (high_passes k h p.0 p.1 (ap (λ i. walk (rule order) s (take i (nibbles_in piece))) c.1 ∙ whole) (λ w t. subst (λ half. now (w ++ left_of half at last.unit)) c.0 (lists w t)))
       ]
-
-units_from : (from : ℕ) (bytes : List ℕ) → units_of (placed_from from bytes) ≡ bytes
-units_from from [] = refl
-units_from from (b ∷ bytes) = ap (λ l. b ∷ l) (units_from (from + 1) bytes)
-
--- so too where the bytes are at adjacent offsets
-module _ (order : Order) (h : Bool) (now : List Placed → Type 0) (u : List Placed) (at : ℕ) (piece : List ℕ) (k half : ℕ) (o : Option StpItem) (within : k < length piece) where
-  abbrev front : List Placed
-  front = placed_from at (take k piece)
-
-  abbrev last : Placed
-  last = byte_at (at + k) (get_or piece k 0)
-
-  pub adjacent_units : units_of (front ++ last ∷ []) ≡ take (k + 1) piece
-  adjacent_units =
-      units_push front last ∙ ap (λ l. l ++ get_or piece k 0 ∷ []) (units_from at (take k piece)) ∙ sym (take_more piece k 0 within)
-
-  pub adjacent_takes : Passes (items_in order h) now u front last (item_in half o) → Takes (items_in order h) now u at piece (k + 1) (item_in half o)
-  adjacent_takes p =
-      let one : k + 1 - 1 ≡ k = omega arith in
-      let all : u ++ (front ++ last ∷ []) ≡ u ++ placed_from at (take (k + 1) piece) = sym (append_assoc u front (last ∷ [])) ∙ next_placed u at piece k within in
-      record {
-        list = subst now all p.list;
-        given = ap (λ l. (items_in order h l).given) (sym all) ∙ p.given ∙ ap (λ n. (items_in order h u).given ++ given_after (at + n) (item_in half o)) (sym one);
-        fault = ap (λ l. (items_in order h l).fault) (sym all) ∙ p.sound ∙ no_fault (at + (k + 1 - 1)) half o;
-        place = no_place (at + (k + 1 - 1)) half o;
-        sound = ap (λ n. (items_in order h (u ++ placed_from at (take n piece))).fault) one
-            ∙ sound_before order h (u ++ front) (last ∷ []) (ap (λ l. (items_in order h l).fault) (append_assoc u front (last ∷ [])) ∙ p.sound);
-      }
-
-pub part_takes : (order : Order) (h : Bool) (now : List Placed → Type 0) (u : List Placed) (at : ℕ) (piece : List ℕ) (n half : ℕ) (o : Option StpItem) → 0 < n → n ≤ length piece →
-    ((front : List Placed) (last : Placed) → units_of (front ++ last ∷ []) ≡ take n piece → Passes (items_in order h) now u front last (item_in half o)) →
-    Takes (items_in order h) now u at piece n (item_in half o)
-part_takes order h now u at piece n half o some most passes =
-    let k = n - 1 in
-    let one : k + 1 ≡ n = omega arith in
-    let within : k < length piece = omega arith in
-    subst (λ i. Takes (items_in order h) now u at piece i (item_in half o)) one
-    (adjacent_takes order h now u at piece k half o within
-    (passes (placed_from at (take k piece)) (byte_at (at + k) (get_or piece k 0)) (adjacent_units order h now u at piece k half o within ∙ ap (λ i. take i piece) one)))

@@ -12,8 +12,7 @@ ghost use Rattle.stp_codec.specs.Parts.{packet_of};
 ghost use Rattle.stp_codec.specs.declared.flat.TheConstants.{WINDOW};
 
 use crate::numbers::{nibble_of, number_at_once};
-use stp_grammar::opcode::{payload_at, row_at, stamped_at};
-use stp_grammar::packet::StpPacket;
+use stp_grammar::opcode::{payload_at, stamped_at};
 use trace_clock::word_nibbles;
 
 /// Bytes that are there where a packet is read so, and behind those of which `find_part` finds what they are: more than
@@ -48,28 +47,6 @@ impl PacketParts {
             payload: self.payload,
             size: self.size,
             word: self.word,
-        }
-    }
-
-    /// The packet.
-    #[inline(always)]
-    pub fn packet(&self) -> StpPacket
-        requires { self.now.number < 35 }
-        ensures { result ≡ packet_of self.now }
-    {
-        let row = row_at(self.number);
-        if stamped_at(self.number) {
-            StpPacket::Stamped {
-                row,
-                payload: self.payload,
-                size: self.size,
-                word: self.word,
-            }
-        } else {
-            StpPacket::Plain {
-                row,
-                payload: self.payload,
-            }
         }
     }
 }

@@ -9,7 +9,6 @@ mod flat;
 pub mod laws;
 mod nibbles;
 mod numbers;
-mod piece;
 mod take;
 mod waiting;
 
