@@ -23,7 +23,6 @@ use Rattle.trace_values.specs.Taking.{Passes, item_at}
 use Rattle.itm_codec.specs.Reading.{pattern, packets_in}
 use Rattle.itm_codec.specs.Decoder.{Stands, partial_of, is_hunter, is_live, held_of}
 use Rattle.itm_codec.specs.Parts.{EndsPart, Idles, Looked, Reads, Took}
-use Rattle.itm_codec.specs.Wholes.{Cuts, kept_at}
 use Rattle.itm_codec.proofs.Wholes.{cut_goes}
 
 -- the packet of a part is proper
@@ -40,38 +39,16 @@ reads_as : (s t : Partial) (units : List ℕ) (packet : Option ItmPacket) → Re
 reads_as s t units None r = (λ e. r, λ p e. cc)
 reads_as s t units (Some q) r = (λ e. cc, λ p e. (let same : q ≡ p = cc in (r.0 ∙ ap Whole same, r.1)))
 
-given_kept : {V : Type 0} → (last : Placed) (packet : Option V) → kept_at last.place packet ≡ given_after last.place.at (item_at last.place.half packet)
-given_kept last None = refl
-given_kept last (Some packet) = refl
-
--- the packet of a part is an answer to its last byte
-passes_of : {V : Type 0} → (reading : List Placed → Stream V) (stands : List Placed → Type 0) (u front : List Placed) (last : Placed) (packet : Option V) →
-    Cuts reading stands u front last packet → Passes reading stands u front last (item_at last.place.half packet)
-passes_of reading stands u front last packet c = record {
-  list = c.list;
-  given = c.given ∙ ap (λ l. (reading u).given ++ l) (given_kept last packet);
-  sound = c.sound;
-}
-
-pub cuts_of : {V : Type 0} → (reading : List Placed → Stream V) (stands : List Placed → Type 0) (u front : List Placed) (last : Placed) (packet : Option V) →
-    Passes reading stands u front last (item_at last.place.half packet) → Cuts reading stands u front last packet
-cuts_of reading stands u front last packet c = record {
-  list = c.list;
-  given = c.given ∙ ap (λ l. (reading u).given ++ l) (sym (given_kept last packet));
-  sound = c.sound;
-}
-
 passes_by : (old new : ItmDecoder) (front : List Placed) (last : Placed) (u : List Placed) (packet : Option ItmPacket) →
     is_live old ≡ true → is_locked old.mode ≡ true → new.mode ≡ old.mode → new.live ≡ old.live →
     Reads (partial_of old) (partial_of new) (units_of (front ++ last ∷ [])) packet → Stands old u →
     Passes (packets_in (is_hunter old)) (Stands new) u front last (item_at last.place.half packet)
 passes_by old new front last u packet live locked mode lives r h =
     let both = reads_as (partial_of old) (partial_of new) (units_of (front ++ last ∷ [])) packet r in
-    passes_of (packets_in (is_hunter old)) (Stands new) u front last packet
-    (subst (λ (l : Bool). Cuts (packets_in (is_hunter old)) (λ v. StandsIn pattern Sync (by_unit rule) Header new.mode l (partial_of new) v) u front last packet) (sym (lives ∙ live))
-    (subst (λ (m : Mode). Cuts (packets_in (is_hunter old)) (λ v. StandsIn pattern Sync (by_unit rule) Header m true (partial_of new) v) u front last packet) (sym mode)
+    subst (λ (l : Bool). Passes (packets_in (is_hunter old)) (λ v. StandsIn pattern Sync (by_unit rule) Header new.mode l (partial_of new) v) u front last (item_at last.place.half packet)) (sym (lives ∙ live))
+    (subst (λ (m : Mode). Passes (packets_in (is_hunter old)) (λ v. StandsIn pattern Sync (by_unit rule) Header m true (partial_of new) v) u front last (item_at last.place.half packet)) (sym mode)
     (cut_goes pattern Sync rule Header old.mode locked front last u (partial_of old) (partial_of new) packet both.0 both.1
-    (subst (λ (l : Bool). StandsIn pattern Sync (by_unit rule) Header old.mode l (partial_of old) u) live h))))
+    (subst (λ (l : Bool). StandsIn pattern Sync (by_unit rule) Header old.mode l (partial_of old) u) live h)))
 
 -- with the same unfinished packet it stands for what it stood for
 pub idles : (old new : ItmDecoder) → new.mode ≡ old.mode → new.live ≡ old.live → partial_of new ≡ partial_of old → Idles old new

@@ -9,7 +9,7 @@ use Rattle.trace_values.specs.Stream.{Stream, Kept}
 use Rattle.trace_values.specs.declared.pattern.Pattern.{Pattern}
 use Rattle.trace_values.specs.Moded.{stream_in, hunts, is_locked, StandsIn}
 use Rattle.trace_values.proofs.Modes.{reads-list, reads-step}
-use Rattle.itm_codec.specs.Wholes.{Cuts, Gives}
+use Rattle.trace_values.specs.Taking.{Passes, item_at}
 
 -- a list that ends with a unit is not empty
 not_empty : (front : List Placed) (last : Placed) → units_of (front ++ last ∷ []) ≡ [] → ⊥
@@ -34,7 +34,7 @@ module _ {S V : Type 0} (p : Pattern) (z : V) (rule : S → ℕ → Next S V) (s
   stands s w = StandsIn p z (by_unit rule) start m true s w
 
   last_gives : (last : Placed) (u : List Placed) (s : S) (v : V) (x : Next S V) → rule s last.unit ≡ x →
-      after {U = ℕ} x (λ r. walk rule r []) [] ≡ Whole v → stands s u → Gives reading (stands start) u [] last v
+      after {U = ℕ} x (λ r. walk rule r []) [] ≡ Whole v → stands s u → Passes reading (stands start) u [] last (item_at last.place.half (Some v))
   last_gives last u s v (Go r) k e t = cc
   last_gives last u s v (End w) k e t =
       let same : w ≡ v = cc in
@@ -47,7 +47,7 @@ module _ {S V : Type 0} (p : Pattern) (z : V) (rule : S → ℕ → Next S V) (s
   last_gives last u s v (Fail r) k e t = cc
 
   pub whole_gives : (front : List Placed) (last : Placed) (u : List Placed) (s : S) (v : V) →
-      walk rule s (units_of (front ++ last ∷ [])) ≡ Whole v → stands s u → Gives reading (stands start) u front last v
+      walk rule s (units_of (front ++ last ∷ [])) ≡ Whole v → stands s u → Passes reading (stands start) u front last (item_at last.place.half (Some v))
   whole_gives [] last u s v e t = last_gives last u s v (rule s last.unit) refl e t
   whole_gives (b ∷ front) last u s v e t = by (rule s b.unit) refl e (λ r f k. whole_gives front last (u ++ b ∷ []) r v f k) where
     rest : List Placed
@@ -55,7 +55,8 @@ module _ {S V : Type 0} (p : Pattern) (z : V) (rule : S → ℕ → Next S V) (s
 
     by : (x : Next S V) → rule s b.unit ≡ x → after x (λ r. walk rule r (units_of rest)) (units_of rest) ≡ Whole v →
         ((r : S) → walk rule r (units_of rest) ≡ Whole v → stands r (u ++ b ∷ []) →
-        Gives reading (stands start) (u ++ b ∷ []) front last v) → Gives reading (stands start) u (b ∷ front) last v
+        Passes reading (stands start) (u ++ b ∷ []) front last (item_at last.place.half (Some v))) →
+        Passes reading (stands start) u (b ∷ front) last (item_at last.place.half (Some v))
     by (Go r) k f next =
         let step = reads-step p z (by_unit rule) start m true s u b (Go r) refl locked (sym k) t in
         let more = next r f (reads-list p z (by_unit rule) start m true s u b true r (Go r) refl locked (sym k) refl refl t) in
@@ -70,7 +71,7 @@ module _ {S V : Type 0} (p : Pattern) (z : V) (rule : S → ℕ → Next S V) (s
     by (Fail r) k f next = cc
 
   last_goes : (last : Placed) (u : List Placed) (s t : S) (x : Next S V) → rule s last.unit ≡ x →
-      after {U = ℕ} x (λ r. walk rule r []) [] ≡ Within t → stands s u → Cuts reading (stands t) u [] last None
+      after {U = ℕ} x (λ r. walk rule r []) [] ≡ Within t → stands s u → Passes reading (stands t) u [] last None
   last_goes last u s t (Go r) k e h =
       let same : r ≡ t = cc in
       let step = reads-step p z (by_unit rule) start m true s u last (Go r) refl locked (sym k) h in
@@ -85,7 +86,7 @@ module _ {S V : Type 0} (p : Pattern) (z : V) (rule : S → ℕ → Next S V) (s
 
   -- units that are a front of a value give nothing
   pub part_goes : (front : List Placed) (last : Placed) (u : List Placed) (s t : S) →
-      walk rule s (units_of (front ++ last ∷ [])) ≡ Within t → stands s u → Cuts reading (stands t) u front last None
+      walk rule s (units_of (front ++ last ∷ [])) ≡ Within t → stands s u → Passes reading (stands t) u front last None
   part_goes [] last u s t e h = last_goes last u s t (rule s last.unit) refl e h
   part_goes (b ∷ front) last u s t e h = by (rule s b.unit) refl e (λ r f k. part_goes front last (u ++ b ∷ []) r t f k) where
     rest : List Placed
@@ -93,7 +94,7 @@ module _ {S V : Type 0} (p : Pattern) (z : V) (rule : S → ℕ → Next S V) (s
 
     by : (x : Next S V) → rule s b.unit ≡ x → after x (λ r. walk rule r (units_of rest)) (units_of rest) ≡ Within t →
         ((r : S) → walk rule r (units_of rest) ≡ Within t → stands r (u ++ b ∷ []) →
-        Cuts reading (stands t) (u ++ b ∷ []) front last None) → Cuts reading (stands t) u (b ∷ front) last None
+        Passes reading (stands t) (u ++ b ∷ []) front last None) → Passes reading (stands t) u (b ∷ front) last None
     by (Go r) k f next =
         let step = reads-step p z (by_unit rule) start m true s u b (Go r) refl locked (sym k) h in
         let more = next r f (reads-list p z (by_unit rule) start m true s u b true r (Go r) refl locked (sym k) refl refl h) in
@@ -111,7 +112,7 @@ module _ {S V : Type 0} (p : Pattern) (z : V) (rule : S → ℕ → Next S V) (s
   pub cut_goes : (front : List Placed) (last : Placed) (u : List Placed) (s t : S) (o : Option V) →
       (o ≡ None → walk rule s (units_of (front ++ last ∷ [])) ≡ Within t) →
       ((v : V) → o ≡ Some v → (walk rule s (units_of (front ++ last ∷ [])) ≡ Whole v) × (t ≡ start)) →
-      stands s u → Cuts reading (stands t) u front last o
+      stands s u → Passes reading (stands t) u front last (item_at last.place.half o)
   cut_goes front last u s t None part whole h = part_goes front last u s t (part refl) h
   cut_goes front last u s t (Some v) part whole h =
       let w = whole v refl in

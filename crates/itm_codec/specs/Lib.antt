@@ -3,5 +3,4 @@ pub mod Reached
 pub mod Decoder
 pub mod Parts
 pub mod Answers
-pub mod Wholes
 pub mod Windows

@@ -12,13 +12,6 @@ use Rattle.itm_grammar.specs.Rule.{rule}
 use Rattle.itm_grammar.specs.Proper.{IsProper}
 use Rattle.itm_codec.specs.declared.decoder.ItmDecoder.{ItmDecoder}
 use Rattle.itm_codec.specs.declared.decoder.ItmEnd.{ItmEnd}
-use Rattle.itm_codec.specs.declared.decoder.PartTaken.{PartTaken}
-use Rattle.itm_codec.specs.declared.decoder.ItmFound.{ItmFound}
-use Rattle.itm_codec.specs.declared.decoder.ItmFound.TheVariants.{
-  Ends as OldEnds,
-  Waits as OldWaits,
-  Unknown as OldUnknown,
-}
 use Rattle.itm_codec.specs.Decoder.{Stands, partial_of, has_locked, held_of, skipped_by}
 
 -- these bytes leave t unfinished of s, or end it as this packet
@@ -67,9 +60,3 @@ pub record Looked (old new : ItmDecoder) (bytes : List ℕ) (count : ℕ) (found
   pub mode : new.mode ≡ old.mode
   pub live : new.live ≡ old.live
   pub part : Saw old new bytes count found
-
--- the part that was taken of so many bytes, by what they are to the unfinished packet
-abbrev pub part_found : ℕ → ItmFound → Option (PartTaken ItmPacket)
-part_found count (OldEnds bytes packet) = Some (record { bytes = bytes; packet = Some packet })
-part_found count OldWaits = Some (record { bytes = count; packet = None })
-part_found count OldUnknown = None

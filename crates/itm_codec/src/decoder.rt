@@ -4,7 +4,6 @@ ghost use Rattle.std.specs.Prelude.{◌≡◌, ◌^◌, ◌<◌, ◌≤◌, leng
 ghost use Rattle.trace_values.specs.Moded.{is_counted, is_locked};
 ghost use Rattle.trace_values.specs.Walk.{walk, Within};
 ghost use Rattle.itm_grammar.specs.Rule.{rule, is_sound};
-ghost use Rattle.itm_grammar.specs.Spelling.{Spells};
 ghost use Rattle.itm_grammar.specs.Shortest.{bytes_of};
 ghost use Rattle.itm_grammar.specs.Proper.{IsProper};
 ghost use Rattle.itm_grammar.specs.declared.partial.Partial.TheVariants.{Header};
@@ -15,11 +14,11 @@ ghost use Rattle.trace_values.specs.declared.limits.TheConstants.{COUNT_ROOM};
 
 use crate::cut::cut_packet;
 use crate::front::{first_bits, is_front};
-use crate::sync::{sync_at, zeros_in};
+use crate::sync::zeros_in;
 use crate::whole::{InWindow, WINDOW, packet_in};
 use itm_grammar::packet::ItmPacket;
 use itm_grammar::partial::Partial;
-use trace_values::{Block, Fault, Found, Machine, Mode, Next, Pattern, Step, Taken, feed_block};
+use trace_values::{Fault, Found, Machine, Mode, Next, Pattern, Step, Taken};
 
 /// A synchronisation packet, `00 00 00 00 00 80`.
 const SYNC: Pattern = Pattern {
@@ -31,32 +30,12 @@ const SYNC: Pattern = Pattern {
 /// How many bytes are there behind those that are taken: more than the longest packet has that is read at once.
 pub const AHEAD: usize = 8;
 
-/// What was taken of a packet at once.
-#[derive(Clone, Copy, Debug, PartialEq, Eq, Drop)]
-pub struct PartTaken<T> {
-    /// How many bytes, at least one.
-    pub bytes: usize,
-    /// The packet that the last of them ends, if it ends one.
-    pub packet: Option<T>,
-}
-
 /// A packet that ends in bytes that are there.
 #[derive(Clone, Copy, Debug, PartialEq, Eq, Drop)]
 pub struct ItmEnd {
     /// The last of how many of them ends it.
     pub bytes: usize,
     pub packet: ItmPacket,
-}
-
-/// What bytes are to the unfinished packet, as a quick look at them says.
-#[derive(Clone, Copy, Debug, PartialEq, Eq, Drop)]
-pub enum ItmFound {
-    /// So many of them end it as this packet.
-    Ends { bytes: usize, packet: ItmPacket },
-    /// They are all within it, and wait.
-    Waits,
-    /// The look does not tell.
-    Unknown,
 }
 
 /// A decoder of ITM packets. It keeps what it needs of the one unfinished packet.
@@ -84,15 +63,12 @@ impl ItmDecoder {
     ghost use Rattle.std.specs.Prelude.{[], ◌∷◌, ◌++◌, false, ℕ, ◌+◌, ◌*◌, List, IfSome, None, Some};
     ghost use Rattle.std.specs.Int.{w64, to_le_bytes};
     ghost use Rattle.trace_values.specs.Placed.{Placed, units_of};
-    ghost use Rattle.trace_values.specs.Stream.{StepFits, LocksAfter};
-    ghost use Rattle.trace_values.specs.Block.{Takes, StopsFor, goes_on_after};
     ghost use Rattle.itm_grammar.specs.declared.partial.Partial.TheVariants.{Header};
     ghost use Rattle.itm_codec.specs.Reading.{packets_in};
     ghost use Rattle.itm_codec.specs.Decoder.{Stands, partial_of, is_hunter, is_live, has_locked, held_of, skipped_by};
     ghost use Rattle.itm_codec.specs.Decoder.{waiting_in};
-    ghost use Rattle.itm_codec.specs.Parts.{EndsPart, Idles, Looked, Took, part_found};
+    ghost use Rattle.itm_codec.specs.Parts.{EndsPart, Idles, Looked, Took};
     ghost use Rattle.itm_codec.specs.Windows.{IsFrontOf};
-    ghost use Rattle.itm_codec.specs.Wholes.{Cuts, Gives};
     ghost use Rattle.trace_values.specs.Taking.{Passes, item_at};
     ghost use Rattle.trace_values.specs.declared.taking.Found.TheVariants.{Ends, Waits, Unknown};
 
@@ -125,30 +101,6 @@ impl ItmDecoder {
             live: true,
             waiting: 0,
             held: 0,
-        }
-    }
-
-    /// The whole packet that these bytes begin with, where the next byte is a header, and how many of them it takes.
-    /// Wherever they are, a decoder that takes them gives this packet at the last of them and nothing else, and is as
-    /// it was before them.
-    ///
-    /// None says nothing of the bytes: some packets are read byte by byte alone, and all where fewer than eight bytes
-    /// are there.
-    #[inline(always)]
-    pub fn next_packet(&self, piece: &[u8]) -> Option<(usize, ItmPacket)>
-        requires { is_live self.now ≡ true }
-        ensures header { IfSome result (λ x. (has_locked self.now ≡ true) × (partial_of self.now ≡ Header)) }
-        ensures whole { IfSome result (λ x. (0 < x.0) × (x.0 ≤ length piece.now) × Spells x.1 (take x.0 piece.now)) }
-        ensures proper { IfSome result (λ x. IsProper x.1) }
-        ensures gives { (u front : List Placed) (last : Placed) → Stands self.now u →
-            IfSome result (λ x. units_of (front ++ last ∷ []) ≡ take x.0 piece.now →
-            Gives (packets_in (is_hunter self.now)) (Stands self.now) u front last x.1) }
-    {
-        match self.partial {
-            Partial::Header if self.waiting == 0 && Mode::is_locked(self.mode) => {
-                front_packet(piece)
-            }
-            _ => None,
         }
     }
 
@@ -314,37 +266,6 @@ impl ItmDecoder {
         }
     }
 
-    /// Looks for the end of the unfinished packet in the first `count` of these bytes, and takes it where they end it.
-    #[inline(always)]
-    pub fn cut_part(&mut self, ahead: &[u8], count: usize) -> ItmFound
-        requires live { is_live self.old ≡ true }
-        requires room { held_of self.old + count ≤ COUNT_ROOM }
-        requires ahead { count + AHEAD ≤ length ahead.now }
-        ensures same { packets_in (is_hunter self.new) ≡ packets_in (is_hunter self.old) }
-        ensures bytes { IfSome (part_found count result) (λ x. (0 < x.bytes) × (x.bytes ≤ count)) }
-        ensures fits { IfSome (part_found count result) (λ x. IfSome x.packet IsProper) }
-        ensures few { IfSome (part_found count result) (λ x. held_of self.new ≤ held_of self.old + x.bytes) }
-        ensures skipped { skipped_by self.new ≡ skipped_by self.old }
-        ensures live { is_live self.new ≡ true }
-        ensures cuts { (u front : List Placed) (last : Placed) → Stands self.old u →
-            IfSome (part_found count result) (λ x. units_of (front ++ last ∷ []) ≡ take x.bytes ahead.now →
-            Cuts (packets_in (is_hunter self.old)) (Stands self.new) u front last x.packet) }
-        ensures none { part_found count result ≡ None → ((u : List Placed) → Stands self.old u → Stands self.new u)
-            × (held_of self.new ≡ held_of self.old) }
-    {
-        match self.find_part(ahead, count, false) {
-            Found::Ends(end) => {
-                self.end_part(ahead, end);
-                ItmFound::Ends {
-                    bytes: end.bytes,
-                    packet: end.packet,
-                }
-            }
-            Found::Waits => ItmFound::Waits,
-            Found::Unknown => ItmFound::Unknown,
-        }
-    }
-
     /// The bytes that wait and those after them, as a word of eight bytes.
     #[inline(always)]
     fn word_with(&self, next: &[u8; AHEAD]) -> u64
@@ -452,38 +373,6 @@ impl ItmDecoder {
         self.waiting = 0;
         self.held = 0;
     }
-
-    /// Feeds a piece, whose first byte is at this offset, up to the first byte to which the answer is
-    /// neither `Quiet` nor `Skipping`, or to the piece's end. It takes a packet at once where eight bytes
-    /// or more are there that begin with it.
-    #[inline]
-    pub fn feed_piece(&mut self, at: u64, piece: &[u8]) -> Block<ItmPacket>
-        requires live { is_live self.old ≡ true }
-        requires room { held_of self.old + skipped_by self.old + 2 * length piece.now ≤ COUNT_ROOM }
-        requires offsets { at + length piece.now < COUNT_ROOM }
-        requires some { 0 < length piece.now }
-        ensures same { packets_in (is_hunter self.new) ≡ packets_in (is_hunter self.old) }
-        ensures bytes { (0 < result.bytes) × (result.bytes ≤ length piece.now) }
-        ensures stops { StopsFor result.bytes (length piece.now) result.step }
-        ensures takes { (u : List Placed) → Stands self.old u →
-            Takes (packets_in (is_hunter self.old)) (Stands self.new) u at piece.now result.bytes result.step }
-        ensures live { is_live self.new ≡ goes_on_after result.step }
-        ensures lock { IfSome result.step (LocksAfter (skipped_by self.new)) }
-        ensures fits { IfSome result.step (StepFits IsProper) }
-        ensures few { held_of self.new + skipped_by self.new ≤
-            held_of self.old + skipped_by self.old + 2 * result.bytes }
-    {
-        if let Some((bytes, packet)) = self.next_packet(piece) {
-            return Block {
-                bytes,
-                step: Some(Step::Item {
-                    half: 0,
-                    item: packet,
-                }),
-            };
-        }
-        feed_block(self, at, piece)
-    }
 }
 
 /// What the first `count` of these bytes are to a packet whose first byte is the first of them. What the bytes after the
@@ -505,20 +394,6 @@ fn look_in(window: &[u8; WINDOW], count: usize) -> Found<ItmEnd>
                 Found::Unknown
             }
         }
-    }
-}
-
-/// The packet that these bytes begin with, where they are a word or more.
-#[inline(always)]
-fn front_packet(piece: &[u8]) -> Option<(usize, ItmPacket)>
-    ensures whole { IfSome result (λ x. (0 < x.0) × (x.0 ≤ length piece.now) × Spells x.1 (take x.0 piece.now)) }
-    ensures proper { IfSome result (λ x. IsProper x.1) }
-{
-    let window = piece.first_chunk::<WINDOW>()?;
-    match packet_in(window) {
-        InWindow::Packet { bytes, packet } => Some((bytes, packet)),
-        InWindow::Other if window[0] == 0 => Some((sync_at(piece)?, ItmPacket::Sync)),
-        InWindow::Other => None,
     }
 }
 

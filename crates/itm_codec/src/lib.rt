@@ -10,5 +10,5 @@ pub mod laws;
 mod sync;
 mod whole;
 
-pub use decoder::{AHEAD, ItmDecoder, ItmEnd, ItmFound, PartTaken};
+pub use decoder::{AHEAD, ItmDecoder, ItmEnd};
 pub use encoder::encode;

@@ -1,5 +1,5 @@
 -- What the machine of a source stands for, and what it shows.
-use Rattle.std.specs.Prelude.{◌≡◌, ℕ, List, Bool, true, false}
+use Rattle.std.specs.Prelude.{ℕ, List, Bool}
 use Rattle.trace_values.specs.Placed.{Placed}
 use Rattle.trace_values.specs.Stream.{Stream}
 use Rattle.trace_values.specs.declared.reading_modes.PacketsMode.{PacketsMode}
@@ -8,7 +8,6 @@ use Rattle.itm_codec.specs.Reading.{packets_in}
 use Rattle.itm_codec.specs.Decoder as itm
 use Rattle.stp_grammar.specs.declared.packet.Order.{Order}
 use Rattle.stp_codec.specs.Reading.{items_in}
-use Rattle.stp_codec.specs.declared.flat.PacketParts.{PacketParts}
 use Rattle.stp_codec.specs.Decoder as stp
 use Rattle.source_events.specs.declared.packet.Packet.{Packet}
 use Rattle.source_events.specs.declared.packet.Packet.TheVariants.{Itm as ItmPacket, Stp as StpPacket}
@@ -52,23 +51,7 @@ abbrev pub skipped_by : SourceMachine → ℕ
 skipped_by (Itm decoder) = itm.skipped_by decoder
 skipped_by (Stp decoder) = stp.skipped_by decoder
 
--- it reads an STP source
-abbrev pub is_stp : SourceMachine → Bool
-is_stp (Itm decoder) = false
-is_stp (Stp decoder) = true
-
 -- its units are bytes, or nibbles
 abbrev pub units_by : SourceMachine → ℕ
 units_by (Itm decoder) = 1
 units_by (Stp decoder) = 2
-
--- it is an STP source, and the front of these bytes finishes the packet of these parts
-abbrev pub FinishesStp : SourceMachine → List ℕ → PacketParts → Type 0
-FinishesStp (Itm decoder) bytes parts = ⊥
-FinishesStp (Stp decoder) bytes parts = stp.FinishesParts decoder bytes parts
-
--- it stands for what it stood for
-abbrev pub Idles : SourceMachine → SourceMachine → Type 0
-Idles old new =
-    ((u : List Placed) → Stands old u → Stands new u)
-    × (held_of new ≡ held_of old) × (skipped_by new ≡ skipped_by old)

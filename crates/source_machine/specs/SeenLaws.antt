@@ -21,10 +21,8 @@ use Rattle.trace_values.specs.Stream.{
   fault_by,
   goes_on,
 }
-use Rattle.trace_values.specs.Block.{given_after, fault_after, goes_on_after, StandsAt, StopsFor, Takes}
-use Rattle.itm_codec.specs.Wholes.{Cuts, Gives, kept_at}
-use Rattle.stp_codec.specs.Cuts.{Passes}
-use Rattle.std.specs.Option.{option_map}
+use Rattle.trace_values.specs.Block.{given_after}
+use Rattle.trace_values.specs.Taking.{Passes}
 use Rattle.source_events.specs.Packets.{said_as, given_as, stream_as}
 use Rattle.source_machine.specs.Seen.{step_as, last_as}
 
@@ -120,61 +118,11 @@ module _ {V W : Type 0} (f : V → W) where
     fault = r.fault;
   }
 
-  -- of a piece
   given_block : (at : ℕ) (step : Option (Step V)) → given_as f (given_after at step) ≡ given_after at (last_as f step)
   given_block at None = refl
   given_block at (Some step) = given_step at step
 
-  fault_block : (at : ℕ) (step : Option (Step V)) → fault_after at step ≡ fault_after at (last_as f step)
-  fault_block at None = refl
-  fault_block at (Some step) = fault_step at step
-
-  pub goes_after : (step : Option (Step V)) → goes_on_after step ≡ goes_on_after (last_as f step)
-  goes_after None = refl
-  goes_after (Some step) = goes_as step
-
-  place_block : (at : ℕ) (step : Option (Step V)) → StandsAt at step → StandsAt at (last_as f step)
-  place_block at None h = h
-  place_block at (Some Quiet) h = h
-  place_block at (Some Skipping) h = h
-  place_block at (Some (Item half v)) h = h
-  place_block at (Some (Locked n half v)) h = h
-  place_block at (Some (Fault x)) h = h
-
-  pub stops_as : (bytes length : ℕ) (step : Option (Step V)) → StopsFor bytes length step →
-      StopsFor bytes length (last_as f step)
-  stops_as bytes length None h = h
-  stops_as bytes length (Some Quiet) h = h
-  stops_as bytes length (Some Skipping) h = h
-  stops_as bytes length (Some (Item half v)) h = h
-  stops_as bytes length (Some (Locked n half v)) h = h
-  stops_as bytes length (Some (Fault x)) h = h
-
-  pub takes_as : (reading : List Placed → Stream V) (stands : List Placed → Type 0)
-      (u : List Placed) (at : ℕ) (piece : List ℕ)
-      (bytes : ℕ) (step : Option (Step V)) → Takes reading stands u at piece bytes step →
-      Takes (λ w. stream_as f (reading w)) stands u at piece bytes (last_as f step)
-  takes_as reading stands u at piece bytes step t = record {
-    list = t.list;
-    given = ap (given_as f) t.given ∙ given_append _ _
-        ∙ ap (λ l. given_as f (reading u).given ++ l) (given_block _ step);
-    fault = t.fault ∙ fault_block _ step;
-    place = place_block _ step t.place;
-    sound = t.sound;
-  }
-
-  -- of a whole packet
-  pub gives_as : (reading : List Placed → Stream V) (stands : List Placed → Type 0)
-      (u front : List Placed) (last : Placed)
-      (packet : V) → Gives reading stands u front last packet →
-      Gives (λ w. stream_as f (reading w)) stands u front last (f packet)
-  gives_as reading stands u front last packet g = record {
-    list = g.list;
-    given = ap (given_as f) g.given ∙ given_append _ _;
-    sound = g.sound;
-  }
-
-  -- of a part of an STP packet
+  -- of bytes that are taken at once
   pub passes_as : (reading : List Placed → Stream V) (stands : List Placed → Type 0)
       (u front : List Placed) (last : Placed)
       (step : Option (Step V)) → Passes reading stands u front last step →
@@ -184,21 +132,4 @@ module _ {V W : Type 0} (f : V → W) where
     given = ap (given_as f) p.given ∙ given_append _ _
         ∙ ap (λ l. given_as f (reading u).given ++ l) (given_block _ step);
     sound = p.sound;
-  }
-
-  -- of a part of a packet
-  kept_as : (place : Place) (packet : Option V) →
-      given_as f (kept_at place packet) ≡ kept_at place (option_map f packet)
-  kept_as place None = refl
-  kept_as place (Some packet) = refl
-
-  pub cuts_as : (reading : List Placed → Stream V) (stands : List Placed → Type 0)
-      (u front : List Placed) (last : Placed)
-      (packet : Option V) → Cuts reading stands u front last packet →
-      Cuts (λ w. stream_as f (reading w)) stands u front last (option_map f packet)
-  cuts_as reading stands u front last packet c = record {
-    list = c.list;
-    given = ap (given_as f) c.given ∙ given_append _ _
-        ∙ ap (λ l. given_as f (reading u).given ++ l) (kept_as last.place packet);
-    sound = c.sound;
   }
