@@ -2,10 +2,10 @@
 
 use crate::same::same;
 use std::process::Abort;
-use stp_codec::{PacketTaken, StpDecoder, StpFound, WINDOW};
+use stp_codec::{StpDecoder, WINDOW};
 use stp_grammar::item::{Place, Stamp, StpItem};
 use stp_grammar::packet::{Order, Width};
-use trace_values::{Block, Fault, Machine, Reason, Step, feed_block};
+use trace_values::{Block, Fault, Found, Machine, Reason, Step, Taken, feed_block};
 
 const NOWHERE: Place = Place {
     master: None,
@@ -102,11 +102,11 @@ fn take_front(
     decoder: &mut StpDecoder,
     ahead: &[u8],
     count: usize,
-) -> Option<PacketTaken> {
+) -> Option<Taken<StpItem>> {
     assert!(rt; count < 5000 && count + WINDOW <= ahead.len());
     assert!(rt; decoder.is_live() && decoder.held() < 10000 && decoder.skipped() < 10000);
     match decoder.find_part(ahead, count) {
-        StpFound::Ends(parts) => {
+        Found::Ends(parts) => {
             let taken = decoder.end_part(ahead, parts);
             let item = taken.said.item();
             same(
@@ -115,18 +115,18 @@ fn take_front(
                 &taken.said.has_item(),
                 &item.is_some(),
             );
-            Some(PacketTaken {
+            Some(Taken {
                 bytes: taken.bytes,
                 half: taken.half,
                 item,
             })
         }
-        StpFound::Waits => Some(PacketTaken {
+        Found::Waits => Some(Taken {
             bytes: count,
             half: 1,
             item: None,
         }),
-        StpFound::Unknown => decoder.take_part(&ahead[..count]),
+        Found::Unknown => decoder.take_part(&ahead[..count]),
     }
 }
 

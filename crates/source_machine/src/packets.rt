@@ -17,7 +17,7 @@ use crate::machine::{AHEAD, itm_step, stp_step};
 use itm_codec::{ItmDecoder, ItmEnd};
 use itm_grammar::packet::ItmPacket;
 use source_events::{Packet, SourceKind};
-use stp_codec::{PacketParts, StpDecoder, StpFound};
+use stp_codec::{PacketParts, StpDecoder};
 use stp_grammar::said::Said;
 use trace_values::{Found, Machine, Step, Taken};
 
@@ -229,11 +229,7 @@ impl Finds for StpDecoder {
 
     #[inline(always)]
     fn find(&mut self, ahead: &[u8], count: usize, _is_piece: bool) -> Found<PacketParts> {
-        match self.find_part(ahead, count) {
-            StpFound::Ends(parts) => Found::Ends(parts),
-            StpFound::Waits => Found::Waits,
-            StpFound::Unknown => Found::Unknown,
-        }
+        self.find_part(ahead, count)
     }
 
     #[inline(always)]

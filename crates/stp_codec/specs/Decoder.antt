@@ -10,10 +10,10 @@ use Rattle.stp_codec.specs.Cuts.{Passes}
 use Rattle.stp_codec.specs.Parts.{packet_of}
 use Rattle.stp_codec.specs.declared.flat.PacketParts.{PacketParts}
 use Rattle.stp_codec.specs.declared.flat.TheConstants.{WINDOW}
-use Rattle.stp_codec.specs.declared.decoder.PacketTaken.{PacketTaken}
+use Rattle.trace_values.specs.declared.taking.Taken.{Taken}
 use Rattle.stp_codec.specs.declared.decoder.StpDecoder.{StpDecoder}
-use Rattle.stp_codec.specs.declared.decoder.StpFound.{StpFound}
-use Rattle.stp_codec.specs.declared.decoder.StpFound.TheVariants.{Ends as EndsIn, Waits, Unknown}
+use Rattle.trace_values.specs.declared.taking.Found.{Found}
+use Rattle.trace_values.specs.declared.taking.Found.TheVariants.{Ends as EndsIn, Waits, Unknown}
 
 -- the bytes that it took and has not read
 abbrev pub waiting_in : StpDecoder → List ℕ
@@ -147,7 +147,7 @@ Idles old new =
     × (held_of new ≡ held_of old) × (skipped_by new ≡ skipped_by old)
 
 -- Of the first `count` of these bytes this was taken.
-pub record TakesPart (old new : StpDecoder) (ahead : List ℕ) (count : ℕ) (taken : PacketTaken) : Type 0 where
+pub record TakesPart (old new : StpDecoder) (ahead : List ℕ) (count : ℕ) (taken : Taken StpItem) : Type 0 where
   pub bytes : (0 < taken.bytes) × (taken.bytes ≤ count)
   pub passes : (u front : List Placed) (last : Placed) → Stands old u →
       units_of (front ++ last ∷ []) ≡ take taken.bytes ahead →
@@ -157,7 +157,7 @@ pub record TakesPart (old new : StpDecoder) (ahead : List ℕ) (count : ℕ) (ta
 
 -- What was found of the first `count` of these bytes: a packet that ends in them, and nothing was taken; or all of them
 -- were taken, which are within one; or nothing is known of them, and nothing was taken.
-abbrev pub Finds : StpDecoder → StpDecoder → List ℕ → ℕ → StpFound → Type 0
+abbrev pub Finds : StpDecoder → StpDecoder → List ℕ → ℕ → Found PacketParts → Type 0
 Finds old new ahead count (EndsIn parts) =
     (0 < parts.nibbles) × (parts.nibbles ≤ 2 * count) × FinishesParts new ahead parts × Idles old new
 Finds old new ahead count Waits = TakesPart old new ahead count (record { bytes = count; half = 1; item = None })

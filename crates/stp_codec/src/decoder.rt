@@ -7,7 +7,6 @@ ghost use Rattle.stp_codec.specs.Wholes.{Fronts, Leaves, begun, nibbles_in};
 ghost use Rattle.stp_codec.specs.declared.flat.TheConstants.{WINDOW};
 ghost use Rattle.stp_codec.specs.declared.decoder.TheConstants.{ROOM};
 
-use crate::flat::PacketParts;
 use crate::waiting::with_bytes;
 use stp_grammar::attribution::Attribution;
 use stp_grammar::item::StpItem;
@@ -49,28 +48,6 @@ pub struct StpDecoder {
     ghost ready: { 0 < waiting → (order ≡ Msn) × (first < 16) × (is_locked mode ≡ true) },
     ghost fronts: { 0 < waiting →
         Fronts order (begun order first partial) (nibbles_in (take waiting held)) },
-}
-
-/// What the front of bytes is to the unfinished packet.
-#[derive(Clone, Copy, Debug, PartialEq, Eq, Drop)]
-pub enum StpFound {
-    /// They end a packet of these parts.
-    Ends(PacketParts),
-    /// All of them were taken: they are within a packet.
-    Waits,
-    /// Nothing is known of them: they are read another way.
-    Unknown,
-}
-
-/// What was taken of a packet at once.
-#[derive(Clone, Copy, Debug, PartialEq, Eq, Drop)]
-pub struct PacketTaken {
-    /// How many bytes, at least one. The packet ends in the last of them.
-    pub bytes: usize,
-    /// The half of that byte in which it ends: 0 for the low nibble, 1 for the high one.
-    pub half: u8,
-    /// Its item, which masters, channels and NULL do not have.
-    pub item: Option<StpItem>,
 }
 
 /// What was taken of a packet that was read as numbers.

@@ -9,12 +9,13 @@ ghost use Rattle.stp_codec.specs.Reading.{items_in};
 ghost use Rattle.stp_codec.specs.Cuts.{Passes};
 ghost use Rattle.stp_codec.specs.Decoder.{Stands, order_of, is_hunter, is_live, partial_of, Copies, HoldsAhead};
 ghost use Rattle.stp_codec.specs.Decoder.{IsReady, Idles, Finds, held_of, skipped_by, FinishesParts};
-ghost use Rattle.stp_codec.specs.declared.decoder.StpFound.TheVariants.{Ends, Waits, Unknown};
+ghost use Rattle.trace_values.specs.declared.taking.Found.TheVariants.{Ends, Waits, Unknown};
 ghost use Rattle.stp_codec.specs.declared.flat.PacketParts.{PacketParts};
 
-use crate::decoder::{MANY, StpDecoder, StpFound};
-use crate::flat::{WINDOW, parts_from_first};
+use crate::decoder::{MANY, StpDecoder};
+use crate::flat::{PacketParts, WINDOW, parts_from_first};
 use stp_grammar::packet::Order;
+use trace_values::Found;
 
 impl StpDecoder {
     /// A packet that begins or has begun can be read as numbers: most significant nibbles come first, at most one of
@@ -41,7 +42,7 @@ impl StpDecoder {
 
     /// Lets the first `count` of these bytes wait. They are behind those that wait already, and within the packet.
     #[inline(always)]
-    fn wait(&mut self, _ahead: &[u8], count: usize) -> StpFound
+    fn wait(&mut self, _ahead: &[u8], count: usize) -> Found<PacketParts>
         requires live { is_live self.old ≡ true }
         requires ready { IsReady self.old }
         requires some { 0 < count }
@@ -54,12 +55,12 @@ impl StpDecoder {
         ensures found { Finds self.old self.new _ahead.now count result }
     {
         self.waiting += count;
-        StpFound::Waits
+        Found::Waits
     }
 
     /// Finds what the first `count` of these bytes are, where no bytes wait.
     #[inline(always)]
-    fn find_fresh(&mut self, ahead: &[u8], count: usize) -> StpFound
+    fn find_fresh(&mut self, ahead: &[u8], count: usize) -> Found<PacketParts>
         requires live { is_live self.old ≡ true }
         requires ready { IsReady self.old }
         requires settled { self.old.waiting ≡ 0 }
@@ -70,13 +71,13 @@ impl StpDecoder {
         ensures found { Finds self.old self.new ahead.now count result }
     {
         let Some(parts) = parts_from_first(self.first, ahead) else {
-            return StpFound::Unknown;
+            return Found::Unknown;
         };
         if parts.nibbles <= 2 * count {
-            return StpFound::Ends(parts);
+            return Found::Ends(parts);
         }
         if count >= WINDOW {
-            return StpFound::Unknown;
+            return Found::Unknown;
         }
         self.hold(ahead);
         self.wait(ahead, count)
@@ -84,7 +85,7 @@ impl StpDecoder {
 
     /// Finds what the first `count` of these bytes are, which are behind those that wait.
     #[inline(always)]
-    fn find_held(&mut self, ahead: &[u8], count: usize) -> StpFound
+    fn find_held(&mut self, ahead: &[u8], count: usize) -> Found<PacketParts>
         requires live { is_live self.old ≡ true }
         requires ready { IsReady self.old }
         requires some { 0 < count }
@@ -95,18 +96,18 @@ impl StpDecoder {
         ensures found { Finds self.old self.new ahead.now count result }
     {
         let Some(parts) = parts_from_first(self.first, &self.held[..WINDOW]) else {
-            return StpFound::Unknown;
+            return Found::Unknown;
         };
         let before = 2 * self.waiting;
         if parts.nibbles <= before + 2 * count {
-            return StpFound::Ends(parts.after(before));
+            return Found::Ends(parts.after(before));
         }
         self.wait(ahead, count)
     }
 
     /// Finds what the first `count` of these bytes are, where a packet that begins or has begun can be read as numbers.
     #[inline(always)]
-    fn find_ready(&mut self, ahead: &[u8], count: usize) -> StpFound
+    fn find_ready(&mut self, ahead: &[u8], count: usize) -> Found<PacketParts>
         requires live { is_live self.old ≡ true }
         requires ready { IsReady self.old }
         requires some { 0 < count }
@@ -129,7 +130,7 @@ impl StpDecoder {
     /// A packet that ends is not taken: `end_part` does that, given the same bytes. `Unknown` says nothing of them, and
     /// it stands as before: `take_part` reads them.
     #[inline(always)]
-    pub fn find_part(&mut self, ahead: &[u8], count: usize) -> StpFound
+    pub fn find_part(&mut self, ahead: &[u8], count: usize) -> Found<PacketParts>
         requires live { is_live self.old ≡ true }
         requires ahead { count + WINDOW ≤ length ahead.now }
         ensures same { (order_of self.new ≡ order_of self.old) × (is_hunter self.new ≡ is_hunter self.old) }
@@ -148,7 +149,7 @@ impl StpDecoder {
         if count > 0 && self.is_ready() {
             self.find_ready(ahead, count)
         } else {
-            StpFound::Unknown
+            Found::Unknown
         }
     }
 }

@@ -12,5 +12,5 @@ mod numbers;
 mod take;
 mod waiting;
 
-pub use decoder::{PacketTaken, SaidTaken, StpDecoder, StpFound};
+pub use decoder::{SaidTaken, StpDecoder};
 pub use flat::{PacketParts, WINDOW};

@@ -11,9 +11,11 @@ ghost use Rattle.stp_codec.specs.Decoder.{Stands, order_of, is_hunter, is_live, 
 ghost use Rattle.stp_codec.specs.Decoder.{IsSettled, Idles, TakesPart, held_of, skipped_by, Finishes, FinishesParts};
 
 use crate::cut::{Cut, cut_packet};
-use crate::decoder::{MANY, PacketTaken, SaidTaken, StpDecoder};
+use crate::decoder::{MANY, SaidTaken, StpDecoder};
 use crate::flat::PacketParts;
+use stp_grammar::item::StpItem;
 use stp_grammar::packet::StpPacket;
+use trace_values::Taken;
 
 impl StpDecoder {
     /// Takes what is left of a byte in whose half a packet ended: the high nibble, where it ended in the low one. A
@@ -47,7 +49,7 @@ impl StpDecoder {
         bytes: &[u8],
         nibbles: usize,
         packet: StpPacket,
-    ) -> PacketTaken
+    ) -> Taken<StpItem>
         requires live { is_live self.old ≡ true }
         requires count { skipped_by self.old ≤ COUNT_ROOM }
         requires next { Finishes self.old bytes.now nibbles packet }
@@ -61,7 +63,7 @@ impl StpDecoder {
         self.waiting = 0;
         let item = self.attribution.take(packet);
         self.pass_left(half, bytes[last]);
-        PacketTaken {
+        Taken {
             bytes: last + 1,
             half,
             item,
@@ -73,7 +75,7 @@ impl StpDecoder {
     ///
     /// None where the reading has not begun, where a nibble is a fault, and of no bytes.
     #[inline(always)]
-    fn take_settled(&mut self, bytes: &[u8]) -> Option<PacketTaken>
+    fn take_settled(&mut self, bytes: &[u8]) -> Option<Taken<StpItem>>
         requires live { is_live self.old ≡ true }
         requires room { held_of self.old + skipped_by self.old + 2 * length bytes.now ≤ COUNT_ROOM }
         requires settled { IsSettled self.old }
@@ -89,7 +91,7 @@ impl StpDecoder {
             Cut::Inside(partial) => {
                 self.partial = partial;
                 self.first = MANY;
-                Some(PacketTaken {
+                Some(Taken {
                     bytes: bytes.len(),
                     half: 1,
                     item: None,
@@ -105,7 +107,7 @@ impl StpDecoder {
     ///
     /// None says nothing of the bytes: then it stands as before.
     #[inline(never)]
-    pub fn take_part(&mut self, bytes: &[u8]) -> Option<PacketTaken>
+    pub fn take_part(&mut self, bytes: &[u8]) -> Option<Taken<StpItem>>
         requires live { is_live self.old ≡ true }
         requires room { held_of self.old + skipped_by self.old + 2 * length bytes.now ≤ COUNT_ROOM }
         ensures same { (order_of self.new ≡ order_of self.old) × (is_hunter self.new ≡ is_hunter self.old) }

@@ -1,5 +1,5 @@
 use Rattle.std.proofs.Common.{◌-◌, ◌*◌, arith, subst, sym}
-use Rattle.stp_codec.specs.declared.decoder.StpFound.TheVariants.{Ends}
+use Rattle.trace_values.specs.declared.taking.Found.TheVariants.{Ends}
 use Rattle.stp_codec.specs.declared.flat.PacketParts.{PacketParts}
 use Rattle.stp_codec.specs.Decoder.{Finds}
 use Rattle.stp_codec.specs.Parts.{packet_of}
