@@ -128,8 +128,8 @@ impl ItmDecoder {
     }
 
     /// Looks for the end of the unfinished packet in the first `count` of these bytes, wherever they are. A packet that
-    /// ends is not taken: `end_part` does that, given the same bytes. Where it ends after them, they are all taken. What
-    /// the bytes after the first `count` are is of no account.
+    /// ends is not taken: `end_part` does that, given the same bytes. Where it ends after them, they are all taken. It
+    /// makes no difference what the bytes after the first `count` are.
     ///
     /// It is quick: it answers `Unknown` in a hunt, of no bytes, and of packets that are rare. This says nothing of the
     /// bytes, and the decoder stands for what it stood for: `take_part` reads them all the same.

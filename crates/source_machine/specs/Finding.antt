@@ -34,8 +34,8 @@ abbrev pub told_by : Told → SourceKind
 told_by (Itm packet) = ItmKind
 told_by (Stp said) = StpKind
 
--- Wherever these bytes are after a list that the machine stood for, they give what this answer to the last of them says,
--- and nothing else, and the machine goes on.
+-- Wherever these bytes are, after a list that the machine stood for they give what this answer to the last of them
+-- says, and nothing else, and the machine goes on.
 abbrev pub PassesOver : {V : Type 0} → (List Placed → Stream V) → (List Placed → Type 0) → (List Placed → Type 0)
     → List ℕ → Option (Step V) → Type 0
 PassesOver reading was now bytes step =
