@@ -1,5 +1,5 @@
 -- What the code makes of a step of the port.
-use Rattle.std.specs.Prelude.{◌≡◌, ◌++◌, List, Option, None}
+use Rattle.std.specs.Prelude.{◌≡◌, ◌≤◌, ℕ, ◌+◌, ◌++◌, List, Option, None}
 use Rattle.std.specs.Option.{option_map}
 use Rattle.trace_values.specs.Placed.{Placed}
 use Rattle.trace_values.specs.declared.reading_modes.FramesMode.{FramesMode}
@@ -8,7 +8,15 @@ use Rattle.source_events.specs.declared.event.Event.{Event}
 use Rattle.source_events.specs.declared.event.Stop.{Stop}
 use Rattle.source_events.specs.Report.{Mapped, report, runs_in, stop_in, stop_of}
 use Rattle.source_merge.specs.declared.slot.Slot.{Slot}
-use Rattle.source_merge.specs.Routing.{AllStand}
+use Rattle.trace_values.specs.declared.limits.TheConstants.{COUNT_ROOM}
+use Rattle.source_machine.specs.declared.machine.SourceMachine.{SourceMachine}
+use Rattle.source_machine.specs.Machine.{held_of, is_live, reading_of, skipped_by}
+use Rattle.source_merge.specs.declared.counts.ByteCounts.{ByteCounts}
+use Rattle.source_merge.specs.declared.counts.Counters.{Counters}
+use Rattle.source_merge.specs.declared.counts.PerSource.{PerSource}
+use Rattle.source_merge.specs.declared.slot.TheConstants.{FRAME_ROOM}
+use Rattle.source_merge.specs.Counting.{bytes_counted, size_of, total_of}
+use Rattle.source_merge.specs.Routing.{AllLive, AllStand, HaveRoom, mapped_of}
 
 -- A step of the port: the bytes before it and those with it, the events that were given, and the fault with which the
 -- report stops.
@@ -17,6 +25,25 @@ pub record StepGiven (V : Type 0) : Type 0 where
   pub after : List Placed
   pub given : List (Event V)
   pub stop : Option Stop
+
+-- Machines that may take a frame, and counters that may count it.
+pub record IsReady (slots : List (Slot SourceMachine)) (counters : Counters) : Type 0 where
+  pub live : AllLive is_live slots
+  pub room : HaveRoom held_of skipped_by FRAME_ROOM slots
+  pub size : size_of counters ≤ FRAME_ROOM
+
+-- in parts
+pub record MayTake (slots : List (Slot SourceMachine)) (counts : ByteCounts) (items : PerSource) : Type 0 where
+  pub live : AllLive is_live slots
+  pub room : HaveRoom held_of skipped_by FRAME_ROOM slots
+  pub bytes : bytes_counted counts ≤ FRAME_ROOM
+  pub total : total_of items + 30 ≤ COUNT_ROOM
+
+-- Machines after a frame: they read as they did, and are live where nothing stops the report.
+pub record TookFrame (old new : List (Slot SourceMachine)) (stop : Option Stop) : Type 0 where
+  pub same : mapped_of reading_of new ≡ mapped_of reading_of old
+  pub live : stop ≡ None → AllLive is_live new
+  pub room : (n : ℕ) → HaveRoom held_of skipped_by n old → HaveRoom held_of skipped_by (n + 30) new
 
 -- With the step's byte the report grew by what was given, and this is its fault.
 pub record StepTaken {M V : Type 0} (stands : M → List Placed → Type 0) (ss : List (Mapped V)) (slots : List (Slot M))

@@ -18,7 +18,7 @@ ghost use Rattle.source_merge.specs.Giving.{Gives, GivesTo};
 ghost use Rattle.trace_values.specs.declared.limits.TheConstants.{COUNT_ROOM};
 ghost use Rattle.trace_values.specs.declared.cell.Cell.{Cell};
 ghost use Rattle.frame_runs.specs.Gathered.{frame_places};
-ghost use Rattle.source_merge.specs.Stepping.{StepTaken};
+ghost use Rattle.source_merge.specs.Stepping.{IsReady, MayTake, StepTaken, TookFrame};
 ghost use Rattle.frame_grammar.specs.Frame.{IsProperFrame, cells, id_after};
 ghost use Rattle.deformatter.specs.declared.step.PortStep.TheVariants.{Frame};
 
@@ -47,20 +47,14 @@ fn take_ended<F: FrameCells, V: Receiver>(
     to: &mut V::To,
 ) -> Option<Stop>
     requires suits { F.suits frame.now slots.old }
-    requires live { AllLive is_live slots.old }
-    requires room { HaveRoom held_of skipped_by FRAME_ROOM slots.old }
-    requires count { bytes_counted counts.old ≤ FRAME_ROOM }
+    requires ready { MayTake slots.old counts.old items.old }
     requires cells { length (F.cells frame.now) ≤ 15 }
     requires space { 30 ≤ V.room (out.old, to.old) }
-    requires items { total_of items.old + 30 ≤ COUNT_ROOM }
-    ensures same { mapped_of reading_of slots.new ≡ mapped_of reading_of slots.old }
-    ensures live { result ≡ None → AllLive is_live slots.new }
+    ensures slots { TookFrame slots.old slots.new result }
     ensures going { result ≡ None → goes_on step ≡ true }
-    ensures room { (n : ℕ) → HaveRoom held_of skipped_by n slots.old →
-        HaveRoom held_of skipped_by (n + 30) slots.new }
-    ensures count { bytes_counted counts.new ≤ bytes_counted counts.old + 15 }
     ensures space { V.room (out.old, to.old) ≤ V.room (out.new, to.new) + 30 }
-    ensures items { total_of items.new ≤ total_of items.old + 30 }
+    ensures counts { (bytes_counted counts.new ≤ bytes_counted counts.old + 15)
+        × (total_of items.new ≤ total_of items.old + 30) }
     ensures taken { Gives V.gets (items.old, (out.old, to.old)) (items.new, (out.new, to.new)) (λ given.
         (mode : FramesMode) (u : List Placed) (byte : ℕ) → BytesRise 0 at u →
         Answers mode step (F.cells frame.now) u at byte → (port_reading mode u).fault ≡ None →
@@ -104,18 +98,13 @@ pub fn take_step<F: FrameCells, V: Receiver>(
     to: &mut V::To,
 ) -> Option<Stop>
     requires suits { F.suits frame.now slots.old }
-    requires live { AllLive is_live slots.old }
-    requires room { HaveRoom held_of skipped_by FRAME_ROOM slots.old }
-    requires size { size_of counters.old ≤ FRAME_ROOM }
+    requires ready { IsReady slots.old counters.old }
     requires cells { length (F.cells frame.now) ≤ 15 }
     requires space { 30 ≤ V.room (out.old, to.old) }
-    ensures same { mapped_of reading_of slots.new ≡ mapped_of reading_of slots.old }
-    ensures live { result ≡ None → AllLive is_live slots.new }
+    ensures slots { TookFrame slots.old slots.new result }
     ensures going { result ≡ None → goes_on step ≡ true }
-    ensures room { (n : ℕ) → HaveRoom held_of skipped_by n slots.old →
-        HaveRoom held_of skipped_by (n + 30) slots.new }
-    ensures size { size_of counters.new ≤ size_of counters.old + 46 }
-    ensures whole { whole_of counters.new ≡ whole_of counters.old }
+    ensures counters { (size_of counters.new ≤ size_of counters.old + 46)
+        × (whole_of counters.new ≡ whole_of counters.old) }
     ensures space { V.room (out.old, to.old) ≤ V.room (out.new, to.new) + 30 }
     ensures taken { GivesTo V.gets (out.old, to.old) (out.new, to.new) (λ given.
         ((mode : FramesMode) (u : List Placed) (byte : ℕ) → BytesRise 0 at u →
@@ -162,17 +151,12 @@ pub fn take_whole<V: Receiver>(
 ) -> FrameTaken
     requires proper { IsProperFrame frame.now.bytes }
     requires near { frame.now.at + 255 < 2 ^ 64 }
-    requires live { AllLive is_live slots.old }
-    requires room { HaveRoom held_of skipped_by FRAME_ROOM slots.old }
-    requires size { size_of counters.old ≤ FRAME_ROOM }
+    requires ready { IsReady slots.old counters.old }
     requires space { 30 ≤ V.room (out.old, to.old) }
     ensures after { result.after ≡ id_after frame.now.bytes id.now }
-    ensures same { mapped_of reading_of slots.new ≡ mapped_of reading_of slots.old }
-    ensures live { result.stop ≡ None → AllLive is_live slots.new }
-    ensures room { (n : ℕ) → HaveRoom held_of skipped_by n slots.old →
-        HaveRoom held_of skipped_by (n + 30) slots.new }
-    ensures size { size_of counters.new ≤ size_of counters.old + 46 }
-    ensures whole { whole_of counters.new ≡ whole_of counters.old }
+    ensures slots { TookFrame slots.old slots.new result.stop }
+    ensures counters { (size_of counters.new ≤ size_of counters.old + 46)
+        × (whole_of counters.new ≡ whole_of counters.old) }
     ensures space { V.room (out.old, to.old) ≤ V.room (out.new, to.new) + 30 }
     ensures taken { GivesTo V.gets (out.old, to.old) (out.new, to.new) (λ given.
         ((mode : FramesMode) (u : List Placed) (byte : ℕ) → BytesRise 0 at u →

@@ -1,4 +1,4 @@
-use Rattle.std.proofs.Common.{◌+◌, List, [], ◌∷◌, ◌++◌, sym, ◌∙◌, ap, subst, append-nil, refl, arith, None}
+use Rattle.std.proofs.Common.{◌+◌, List, [], ◌∷◌, ◌++◌, sym, ◌∙◌, ap, subst, append-nil, refl, arith, None, Option}
 use Rattle.trace_values.specs.declared.cell.Cell.{Cell}
 use Rattle.trace_values.specs.Placed.{byte_at}
 use Rattle.deformatter.specs.declared.step.PortStep.{PortStep}
@@ -13,7 +13,11 @@ use Rattle.source_events.specs.Report.{runs_in, port_events, notice_by}
 use Rattle.source_events.specs.Merge.{told}
 use Rattle.source_events.proofs.LockSteps.{port_grows}
 use Rattle.source_merge.specs.Counting.{HasBytes}
-use Rattle.source_merge.specs.Routing.{mapped_of}
+use Rattle.source_events.specs.declared.event.Stop.{Stop}
+use Rattle.source_machine.specs.declared.machine.SourceMachine.{SourceMachine}
+use Rattle.source_merge.specs.declared.slot.Slot.{Slot}
+use Rattle.source_merge.specs.Routing.{AllLive, mapped_of}
+use Rattle.source_merge.specs.Stepping.{TookFrame}
 use Rattle.source_merge.proofs.FrameCounts.{runs_with}
 use Rattle.source_merge.proofs.Givings.{given_none}
 use Rattle.source_merge.proofs.Slots.{room_more}
@@ -23,10 +27,20 @@ use Rattle.source_machine.specs.Machine.{Stands, has_locked, held_of, is_live, r
 use Rattle.source_machine.specs.MachineLaws as laws
 use Rattle.source_merge.proofs.step.take_ended.Goals as goal
 
-pub returns-in-Frame-clause-room : goal.returns-in-Frame-clause-room
-returns-in-Frame-clause-room g c = λ n r.
-    room_more held_of skipped_by _ (n + 30) c.take.new.slots (let a = c.requires.cells in omega arith)
-    (c.take.ensures.room n r)
+unchanged : (slots : List (Slot SourceMachine)) (stop : Option Stop) → AllLive is_live slots → TookFrame slots slots stop
+unchanged slots stop live = record {
+  same = refl;
+  live = λ e. live;
+  room = λ n r. room_more held_of skipped_by n (n + 30) slots (omega arith) r;
+}
+
+pub returns-in-Frame-clause-slots : goal.returns-in-Frame-clause-slots
+returns-in-Frame-clause-slots g c = record {
+  same = c.take.ensures.same;
+  live = c.take.ensures.live;
+  room = λ n r.
+      room_more held_of skipped_by _ (n + 30) c.take.new.slots (let a = c.requires.cells in omega arith) (c.take.ensures.room n r);
+}
 
 pub returns-in-Frame-clause-taken : goal.returns-in-Frame-clause-taken
 returns-in-Frame-clause-taken g c =
@@ -40,7 +54,7 @@ returns-in-Frame-clause-taken g c =
           let at = c.args.at in
           let cells = g.F.FrameCells.cells c.args.frame.now in
           let law = lawful reading_of Stands is_live has_locked held_of skipped_by laws.shows laws.begins laws.settles laws.rises slots in
-          let good = sound reading_of Stands is_live has_locked held_of skipped_by laws.shows laws.begins laws.settles laws.rises slots (runs_in r) c.requires.live a in
+          let good = sound reading_of Stands is_live has_locked held_of skipped_by laws.shows laws.begins laws.settles laws.rises slots (runs_in r) c.requires.ready.live a in
           let frames = step.frames ∙ ap (λ (x : PortStep). r.frames ++ frames_by x cells) c.in-Frame.is in
           let notice = port_grows {V = Packet} u at byte mode Frame
           (subst (λ (x : PortStep). HuntBy (hunting r) (hunting (port_reading mode (u ++ byte_at at byte ∷ []))) at x) c.in-Frame.is step.hunt)
@@ -51,17 +65,14 @@ returns-in-Frame-clause-taken g c =
           (t.2 (runs_in r) places.end d a places.between places.rises),
     )
 
-pub returns-in-Locked-clause-room : goal.returns-in-Locked-clause-room
-returns-in-Locked-clause-room g c = λ n r.
-    room_more held_of skipped_by n (n + 30) c.args.slots.now (omega arith) r
+pub returns-in-Locked-clause-slots : goal.returns-in-Locked-clause-slots
+returns-in-Locked-clause-slots g c = unchanged c.args.slots.now _ c.requires.ready.live
 
-pub returns-in-Fault-clause-room : goal.returns-in-Fault-clause-room
-returns-in-Fault-clause-room g c = λ n r.
-    room_more held_of skipped_by n (n + 30) c.args.slots.now (omega arith) r
+pub returns-in-Fault-clause-slots : goal.returns-in-Fault-clause-slots
+returns-in-Fault-clause-slots g c = unchanged c.args.slots.now _ c.requires.ready.live
 
-pub returns-in-Quiet-clause-room : goal.returns-in-Quiet-clause-room
-returns-in-Quiet-clause-room g c = λ n r.
-    room_more held_of skipped_by n (n + 30) c.args.slots.now (omega arith) r
+pub returns-in-Quiet-clause-slots : goal.returns-in-Quiet-clause-slots
+returns-in-Quiet-clause-slots g c = unchanged c.args.slots.now _ c.requires.ready.live
 
 pub returns-in-Locked-clause-taken : goal.returns-in-Locked-clause-taken
 returns-in-Locked-clause-taken g c = (
@@ -74,7 +85,7 @@ returns-in-Locked-clause-taken g c = (
       let at = c.args.at in
       let cells = g.F.FrameCells.cells c.args.frame.now in
       let law = lawful reading_of Stands is_live has_locked held_of skipped_by laws.shows laws.begins laws.settles laws.rises slots in
-      let good = sound reading_of Stands is_live has_locked held_of skipped_by laws.shows laws.begins laws.settles laws.rises slots (runs_in r) c.requires.live a in
+      let good = sound reading_of Stands is_live has_locked held_of skipped_by laws.shows laws.begins laws.settles laws.rises slots (runs_in r) c.requires.ready.live a in
       let next = port_reading mode (u ++ byte_at at byte ∷ []) in
       let hunt : HuntBy (hunting r) (hunting next) at (Locked c.in-Locked.skipped) =
       subst (λ (x : PortStep). HuntBy (hunting r) (hunting next) at x) c.in-Locked.is step.hunt in
@@ -94,7 +105,7 @@ returns-in-Fault-clause-taken g c = (
       let at = c.args.at in
       let cells = g.F.FrameCells.cells c.args.frame.now in
       let law = lawful reading_of Stands is_live has_locked held_of skipped_by laws.shows laws.begins laws.settles laws.rises slots in
-      let good = sound reading_of Stands is_live has_locked held_of skipped_by laws.shows laws.begins laws.settles laws.rises slots (runs_in r) c.requires.live a in
+      let good = sound reading_of Stands is_live has_locked held_of skipped_by laws.shows laws.begins laws.settles laws.rises slots (runs_in r) c.requires.ready.live a in
       let next = port_reading mode (u ++ byte_at at byte ∷ []) in
       let hunt : HuntBy (hunting r) (hunting next) at (Fault c.in-Fault.fault) = subst (λ (x : PortStep). HuntBy (hunting r) (hunting next) at x) c.in-Fault.is step.hunt in
       taken_fault Stands ss law mode u at byte rise e good slots c.in-Fault.fault [] refl
@@ -113,7 +124,7 @@ returns-in-Quiet-clause-taken g c = (
       let at = c.args.at in
       let cells = g.F.FrameCells.cells c.args.frame.now in
       let law = lawful reading_of Stands is_live has_locked held_of skipped_by laws.shows laws.begins laws.settles laws.rises slots in
-      let good = sound reading_of Stands is_live has_locked held_of skipped_by laws.shows laws.begins laws.settles laws.rises slots (runs_in r) c.requires.live a in
+      let good = sound reading_of Stands is_live has_locked held_of skipped_by laws.shows laws.begins laws.settles laws.rises slots (runs_in r) c.requires.ready.live a in
       let next = port_reading mode (u ++ byte_at at byte ∷ []) in
       let q = nothing_is Packet c.args.step cells at c.in-Quiet.is in
       taken_none Stands ss law mode u at byte rise e good slots [] refl

@@ -29,13 +29,21 @@ use Rattle.source_merge.proofs.ByParts.{StepTakenBy}
 use Rattle.source_merge.proofs.engine.Engine.take_step.Given as bound
 use Rattle.source_merge.proofs.engine.Engine.take_step.Goals as goal
 
-pub take_step-stop-requires-clause-room : goal.take_step-stop-requires-clause-room
-take_step-stop-requires-clause-room g c =
-    room_more held_of skipped_by (30 * c.args.self.now.count) (2 ^ 58) c.as_mut_slice.result.now
-    (let a = c.args.self.now.within in let b = c.args.self.now.limit in omega arith)
-    (subst (λ (l : List (Slot SourceMachine)). HaveRoom held_of skipped_by (30 * c.args.self.now.count) l)
-    (sym c.as_mut_slice.ensures.value)
-    (room_now held_of skipped_by c.args.self.now.live (30 * c.args.self.now.count) c.args.self.now.slots.items c.requires.live c.args.self.now.room))
+pub take_step-stop-requires-clause-ready : goal.take_step-stop-requires-clause-ready
+take_step-stop-requires-clause-ready g c =
+    let self = c.args.self.now in
+    record {
+      live =
+          subst (λ (l : List (Slot SourceMachine)). AllLive is_live l) (sym c.as_mut_slice.ensures.value)
+          (live_now is_live self.live self.slots.items c.requires.live self.lives);
+      room =
+          room_more held_of skipped_by (30 * c.args.self.now.count) (2 ^ 58) c.as_mut_slice.result.now
+          (let a = c.args.self.now.within in let b = c.args.self.now.limit in omega arith)
+          (subst (λ (l : List (Slot SourceMachine)). HaveRoom held_of skipped_by (30 * c.args.self.now.count) l)
+          (sym c.as_mut_slice.ensures.value)
+          (room_now held_of skipped_by c.args.self.now.live (30 * c.args.self.now.count) c.args.self.now.slots.items c.requires.live c.args.self.now.room));
+      size = (let a = self.size c.requires.live in let b = self.within in let d = self.limit in let e = c.requires.offsets in omega (arith, a, b, d, e.0, e.1));
+    }
 
 pub invariant_of-self : goal.invariant_of-self
 invariant_of-self g c =
@@ -43,7 +51,7 @@ invariant_of-self g c =
     let old = self.slots.items in
     let new = c.take_step-stop.new.slots in
     let value = c.as_mut_slice.ensures.value in
-    let all = slots_are reading_of old new (c.take_step-stop.ensures.same ∙ ap (mapped_of reading_of) value) in
+    let all = slots_are reading_of old new (c.take_step-stop.ensures.slots.same ∙ ap (mapped_of reading_of) value) in
     let n = self.count in
     let some = c.feed_block-taken.ensures.bytes.0 in
     let within = c.feed_block-taken.ensures.bytes.1 in
@@ -56,15 +64,15 @@ invariant_of-self g c =
       room =
           subst (λ (l : List (Slot SourceMachine)). RoomIf held_of skipped_by c.is_none-self.result (30 * (n + c.feed_block-taken.result.bytes)) l) (sym all)
           (room_if held_of skipped_by c.is_none-self.result (30 * (n + c.feed_block-taken.result.bytes)) new
-          (λ k. room_more held_of skipped_by (30 * n + 30) (30 * (n + c.feed_block-taken.result.bytes)) new (omega arith) (c.take_step-stop.ensures.room (30 * n) room)));
-      size = λ k. (let a = self.size c.requires.live in let b = c.take_step-stop.ensures.size in omega arith);
-      whole = (let a = self.whole in let b = c.take_step-stop.ensures.whole in omega arith);
+          (λ k. room_more held_of skipped_by (30 * n + 30) (30 * (n + c.feed_block-taken.result.bytes)) new (omega arith) (c.take_step-stop.ensures.slots.room (30 * n) room)));
+      size = λ k. (let a = self.size c.requires.live in let b = c.take_step-stop.ensures.counters.0 in omega arith);
+      whole = (let a = self.whole in let b = c.take_step-stop.ensures.counters.1 in omega arith);
       within = (let a = self.within in let b = c.requires.offsets.0 in omega arith);
       limit = (let a = c.requires.offsets.1 in omega arith);
       port_live = λ k. c.feed_block-taken.ensures.live ∙ c.take_step-stop.ensures.going (none_there c.take_step-stop.result (sym gone ∙ k));
       lives =
           subst (λ (l : List (Slot SourceMachine)). LiveIf is_live c.is_none-self.result l) (sym all)
-          (live_if is_live c.is_none-self.result new (λ k. c.take_step-stop.ensures.live (none_there c.take_step-stop.result (sym gone ∙ k))));
+          (live_if is_live c.is_none-self.result new (λ k. c.take_step-stop.ensures.slots.live (none_there c.take_step-stop.result (sym gone ∙ k))));
     }
 
 -- what the step makes of a list that the engine stood for
@@ -134,7 +142,7 @@ returns-clause-takes g c =
           let self = c.args.self.now in
           let new = c.take_step-stop.new.slots in
           let bytes = take c.feed_block-taken.result.bytes c.args.piece.now in
-          let all = slots_are reading_of self.slots.items new (c.take_step-stop.ensures.same ∙ ap (mapped_of reading_of) c.as_mut_slice.ensures.value) in
+          let all = slots_are reading_of self.slots.items new (c.take_step-stop.ensures.slots.same ∙ ap (mapped_of reading_of) c.as_mut_slice.ensures.value) in
           let step = the_step g c u h in
           let long = size g c u h in
           let rise = rise_to u self.next c.args.at (subst (λ (k : ℕ). BytesRise 0 k u) (sym h.next) h.rising) c.requires.offsets.0 in
@@ -143,7 +151,7 @@ returns-clause-takes g c =
             port = c.feed_block-taken.ensures.list u h.port;
             mode = c.feed_block-taken.ensures.same ∙ h.mode;
             sources =
-                ap (mapped_of reading_of) all ∙ c.take_step-stop.ensures.same ∙ ap (mapped_of reading_of) c.as_mut_slice.ensures.value
+                ap (mapped_of reading_of) all ∙ c.take_step-stop.ensures.slots.same ∙ ap (mapped_of reading_of) c.as_mut_slice.ensures.value
                 ∙ h.sources;
             rising =
                 subst (λ (k : ℕ). BytesRise 0 k (u ++ placed_from c.args.at bytes)) (sym end) (rise_block u c.args.at bytes rise);
