@@ -39,11 +39,12 @@ pub record MayTake (slots : List (Slot SourceMachine)) (counts : ByteCounts) (it
   pub bytes : bytes_counted counts ≤ FRAME_ROOM
   pub total : total_of items + 30 ≤ COUNT_ROOM
 
--- Machines after a frame: they read as they did, and are live where nothing stops the report.
-pub record TookFrame (old new : List (Slot SourceMachine)) (stop : Option Stop) : Type 0 where
+-- Machines after cells of which each makes at most so many units more: they read as they did, and are live where nothing
+-- stops the report.
+pub record TookCells (more : ℕ) (old new : List (Slot SourceMachine)) (stop : Option Stop) : Type 0 where
   pub same : mapped_of reading_of new ≡ mapped_of reading_of old
   pub live : stop ≡ None → AllLive is_live new
-  pub room : (n : ℕ) → HaveRoom held_of skipped_by n old → HaveRoom held_of skipped_by (n + 30) new
+  pub room : (n : ℕ) → HaveRoom held_of skipped_by n old → HaveRoom held_of skipped_by (n + more) new
 
 -- With the step's byte the report grew by what was given, and this is its fault.
 pub record StepTaken {M V : Type 0} (stands : M → List Placed → Type 0) (ss : List (Mapped V)) (slots : List (Slot M))

@@ -16,6 +16,7 @@ ghost use Rattle.source_merge.specs.Routing.{RunsBetween, SlotFed};
 ghost use Rattle.source_merge.specs.Machines.{source_machines};
 ghost use Rattle.source_merge.specs.Counting.{HasBytes, bytes_counted, total_of};
 ghost use Rattle.source_merge.specs.Giving.{Given, Gives};
+ghost use Rattle.source_merge.specs.Stepping.{TookCells};
 ghost use Rattle.source_merge.specs.declared.slot.Slot.{Slot};
 
 use crate::counts::{ByteCounts, PerSource};
@@ -144,43 +145,6 @@ pub fn feed_slot<R: Run, V: Receiver>(
     }
 }
 
-/// Takes a run of the mapped source whose slot has this index.
-#[inline(always)]
-pub fn take_own<R: Run, V: Receiver>(
-    slots: &mut [Slot<SourceMachine>],
-    index: usize,
-    id: SourceId,
-    run: &R,
-    items: &mut PerSource,
-    out: &mut V,
-    to: &mut V::To,
-) -> Option<Stop>
-    requires found { position (λ s. s.id == id) slots.old ≡ Some index }
-    requires own { id_of (R.cells run.now) ≡ Some id }
-    requires size { length (R.cells run.now) ≤ 15 }
-    requires live { AllLive is_live slots.old }
-    requires room { HaveRoom held_of skipped_by PART_ROOM slots.old }
-    requires space { 2 * length (R.cells run.now) ≤ V.room (out.old, to.old) }
-    requires count { total_of items.old + 2 * length (R.cells run.now) ≤ COUNT_ROOM }
-    ensures same { mapped_of reading_of slots.new ≡ mapped_of reading_of slots.old }
-    ensures live { result ≡ None → AllLive is_live slots.new }
-    ensures room { (n : ℕ) → HaveRoom held_of skipped_by n slots.old →
-        HaveRoom held_of skipped_by (n + 2 * length (R.cells run.now)) slots.new }
-    ensures space { V.room (out.old, to.old) ≤ V.room (out.new, to.new) + 2 * length (R.cells run.now) }
-    ensures count { total_of items.new ≤ total_of items.old + 2 * length (R.cells run.now) }
-    ensures took { Gives V.gets (items.old, (out.old, to.old)) (items.new, (out.new, to.new)) (λ given.
-        (runs : List (List Cell)) (n : ℕ) → AreDistinct (mapped_of reading_of slots.old) →
-        AllStand Stands slots.old runs → IsRunFrom n (R.cells run.now) →
-        Took Stands (mapped_of reading_of slots.old) slots.new runs n (record {
-          run = R.cells run.now;
-          before = [];
-          after = given;
-          stop = result;
-        })) }
-{
-    stop_by(id, feed_slot(slots, index, id, run, items, out, to))
-}
-
 /// Takes a run of this source, or of none.
 pub fn take_run<R: Run, V: Receiver>(
     slots: &mut [Slot<SourceMachine>],
@@ -197,10 +161,7 @@ pub fn take_run<R: Run, V: Receiver>(
     requires room { HaveRoom held_of skipped_by PART_ROOM slots.old }
     requires space { 2 * length (R.cells run.now) ≤ V.room (out.old, to.old) }
     requires count { total_of items.old + 2 * length (R.cells run.now) ≤ COUNT_ROOM }
-    ensures same { mapped_of reading_of slots.new ≡ mapped_of reading_of slots.old }
-    ensures live { result ≡ None → AllLive is_live slots.new }
-    ensures room { (n : ℕ) → HaveRoom held_of skipped_by n slots.old →
-        HaveRoom held_of skipped_by (n + 2 * length (R.cells run.now)) slots.new }
+    ensures slots { TookCells (2 * length (R.cells run.now)) slots.old slots.new result }
     ensures space { V.room (out.old, to.old) ≤ V.room (out.new, to.new) + 2 * length (R.cells run.now) }
     ensures count { total_of items.new ≤ total_of items.old + 2 * length (R.cells run.now) }
     ensures took { Gives V.gets (items.old, (out.old, to.old)) (items.new, (out.new, to.new)) (λ given.
@@ -220,7 +181,7 @@ pub fn take_run<R: Run, V: Receiver>(
         give_raw(id, run, items, out, to);
         return None;
     };
-    take_own(slots, index, id, run, items, out, to)
+    stop_by(id, feed_slot(slots, index, id, run, items, out, to))
 }
 
 /// Takes the cells of a frame, each run to its source, up to a fault, and gives their events.

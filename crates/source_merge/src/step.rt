@@ -18,7 +18,7 @@ ghost use Rattle.source_merge.specs.Giving.{Gives, GivesTo};
 ghost use Rattle.trace_values.specs.declared.limits.TheConstants.{COUNT_ROOM};
 ghost use Rattle.trace_values.specs.declared.cell.Cell.{Cell};
 ghost use Rattle.frame_runs.specs.Gathered.{frame_places};
-ghost use Rattle.source_merge.specs.Stepping.{IsReady, MayTake, StepTaken, TookFrame};
+ghost use Rattle.source_merge.specs.Stepping.{IsReady, MayTake, StepTaken, TookCells};
 ghost use Rattle.frame_grammar.specs.Frame.{IsProperFrame, cells, id_after};
 ghost use Rattle.deformatter.specs.declared.step.PortStep.TheVariants.{Frame};
 
@@ -50,7 +50,7 @@ fn take_ended<F: FrameCells, V: Receiver>(
     requires ready { MayTake slots.old counts.old items.old }
     requires cells { length (F.cells frame.now) ≤ 15 }
     requires space { 30 ≤ V.room (out.old, to.old) }
-    ensures slots { TookFrame slots.old slots.new result }
+    ensures slots { TookCells 30 slots.old slots.new result }
     ensures going { result ≡ None → goes_on step ≡ true }
     ensures space { V.room (out.old, to.old) ≤ V.room (out.new, to.new) + 30 }
     ensures counts { (bytes_counted counts.new ≤ bytes_counted counts.old + 15)
@@ -101,7 +101,7 @@ pub fn take_step<F: FrameCells, V: Receiver>(
     requires ready { IsReady slots.old counters.old }
     requires cells { length (F.cells frame.now) ≤ 15 }
     requires space { 30 ≤ V.room (out.old, to.old) }
-    ensures slots { TookFrame slots.old slots.new result }
+    ensures slots { TookCells 30 slots.old slots.new result }
     ensures going { result ≡ None → goes_on step ≡ true }
     ensures counters { (size_of counters.new ≤ size_of counters.old + 46)
         × (whole_of counters.new ≡ whole_of counters.old) }
@@ -154,7 +154,7 @@ pub fn take_whole<V: Receiver>(
     requires ready { IsReady slots.old counters.old }
     requires space { 30 ≤ V.room (out.old, to.old) }
     ensures after { result.after ≡ id_after frame.now.bytes id.now }
-    ensures slots { TookFrame slots.old slots.new result.stop }
+    ensures slots { TookCells 30 slots.old slots.new result.stop }
     ensures counters { (size_of counters.new ≤ size_of counters.old + 46)
         × (whole_of counters.new ≡ whole_of counters.old) }
     ensures space { V.room (out.old, to.old) ≤ V.room (out.new, to.new) + 30 }

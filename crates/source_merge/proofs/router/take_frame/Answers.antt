@@ -56,10 +56,10 @@ loop-rest-preserved g c =
     record {
       done = i.done ++ take k rest ∷ [];
       parts = done_more (runs_of c.args.cells.now) i.done rest k i.parts is some ∙ ap (λ (l : List Cell). (i.done ++ take k rest ∷ []) ++ runs_of l) (sym tail);
-      same = c.take_run-stop.ensures.same ∙ i.same;
-      live = c.take_run-stop.ensures.live c.in_default.is;
+      same = c.take_run-stop.ensures.slots.same ∙ i.same;
+      live = c.take_run-stop.ensures.slots.live c.in_default.is;
       size = (let s = i.size in omega arith);
-      room = λ n r. room_more held_of skipped_by _ _ c.take_run-stop.new.slots (let s = i.size in let x = c.run_length-n.ensures.within in let w = whole_run in omega arith) (c.take_run-stop.ensures.room _ (i.room n r));
+      room = λ n r. room_more held_of skipped_by _ _ c.take_run-stop.new.slots (let s = i.size in let x = c.run_length-n.ensures.within in let w = whole_run in omega arith) (c.take_run-stop.ensures.slots.room _ (i.room n r));
       given = i.given ++ t.0;
       to_receiver =
           given_more g.V.Receiver.gets g.met.V.Receiver.gets_more (c.args.items.now, (c.args.out.now, c.args.to.now))
@@ -94,7 +94,7 @@ returns-in-Some-clause-room g c = λ n r.
     let k = c.run_length-n.result in
     let taken = length-take-le k rest c.run_length-n.ensures.within in
     let whole_run : length (cells_of c.of.result) ≡ length (take k rest) = ap length c.of.ensures in
-    room_more held_of skipped_by _ _ c.take_run-stop.new.slots (let s = i.size in let x = c.run_length-n.ensures.within in let w = whole_run in omega arith) (c.take_run-stop.ensures.room _ (i.room n r))
+    room_more held_of skipped_by _ _ c.take_run-stop.new.slots (let s = i.size in let x = c.run_length-n.ensures.within in let w = whole_run in omega arith) (c.take_run-stop.ensures.slots.room _ (i.room n r))
 
 pub returns-in-Some-clause-fed : goal.returns-in-Some-clause-fed
 returns-in-Some-clause-fed g c =

@@ -1,18 +1,37 @@
-use Rattle.std.proofs.Common.{◌+◌, ◌*◌, [], length, refl, sym, ◌∙◌, arith, Some}
+use Rattle.std.proofs.Common.{◌≡◌, ℕ, ◌+◌, ◌*◌, List, [], length, refl, sym, ◌∙◌, arith, Option, Some, None}
+use Rattle.std.specs.Option.{option_map}
+use Rattle.trace_values.specs.declared.fault.Fault.{Fault}
+use Rattle.source_events.specs.declared.event.Stop.{Stop}
+use Rattle.source_machine.specs.declared.machine.SourceMachine.{SourceMachine}
+use Rattle.source_merge.specs.declared.slot.Slot.{Slot}
+use Rattle.source_merge.specs.Routing.{AllLive}
+use Rattle.source_merge.specs.Stepping.{TookCells}
 use Rattle.source_merge.proofs.Givings.{given_none}
-use Rattle.source_merge.proofs.Slots.{room_more, not_found}
-use Rattle.source_merge.proofs.Taking.{took_none, took_raw}
+use Rattle.source_merge.proofs.Slots.{IsAt, found_at, room_more, not_found}
+use Rattle.source_merge.proofs.Taking.{took_none, took_own, took_raw, live_on, room_on, same_mapped}
 use Rattle.source_events.specs.Merge.{told}
 use Rattle.source_events.specs.Report.{raw_events}
 use Rattle.source_machine.specs.Machine.{Stands, has_locked, held_of, is_live, reading_of, skipped_by}
 use Rattle.source_machine.specs.MachineLaws as laws
 use Rattle.source_merge.proofs.router.take_run.Goals as goal
 
-pub returns-in_default-clause-room : goal.returns-in_default-clause-room
-returns-in_default-clause-room g c = λ n r. room_more held_of skipped_by n (n + 2 * length (g.R.Run.cells c.args.run.now)) c.args.slots.now (omega arith) r
+unchanged : (more : ℕ) (slots : List (Slot SourceMachine)) (stop : Option Stop) → AllLive is_live slots → TookCells more slots slots stop
+unchanged more slots stop live = record {
+  same = refl;
+  live = λ e. live;
+  room = λ n r. room_more held_of skipped_by n (n + more) slots (omega arith) r;
+}
 
-pub returns-in_default-find-clause-room : goal.returns-in_default-find-clause-room
-returns-in_default-find-clause-room g c = λ n r. room_more held_of skipped_by n (n + 2 * length (g.R.Run.cells c.args.run.now)) c.args.slots.now (omega arith) r
+pub returns-in_default-clause-slots : goal.returns-in_default-clause-slots
+returns-in_default-clause-slots g c = unchanged (2 * length (g.R.Run.cells c.args.run.now)) c.args.slots.now _ c.requires.live
+
+pub returns-in_default-find-clause-slots : goal.returns-in_default-find-clause-slots
+returns-in_default-find-clause-slots g c = unchanged (2 * length (g.R.Run.cells c.args.run.now)) c.args.slots.now _ c.requires.live
+
+-- no fault stops nothing
+not_stopped : (x : ℕ) (o : Option Fault) → option_map (λ (f : Fault). (let s : Stop = record { fault = f; source = Some x } in s)) o ≡ None → o ≡ None
+not_stopped x None e = refl
+not_stopped x (Some f) e = cc
 
 pub returns-in_default-clause-took : goal.returns-in_default-clause-took
 returns-in_default-clause-took g c = (
@@ -32,4 +51,33 @@ returns-in_default-find-clause-took g c =
           took_raw reading_of Stands is_live has_locked held_of skipped_by laws.shows laws.begins laws.settles laws.rises c.args.slots.now runs n run x [] (told (Some x) (raw_events x run))
           (not_found reading_of x c.args.slots.now (sym c.find.ensures ∙ c.in_default-find.is))
           (c.requires.own ∙ c.in-Some.is) refl a,
+    )
+
+pub returns-clause-slots : goal.returns-clause-slots
+returns-clause-slots g c =
+    let slots = c.args.slots.now in
+    let x = c.in-Some.id in
+    let at : IsAt x slots c.in-Some-find.index = found_at x slots c.in-Some-find.index (sym c.find.ensures ∙ c.in-Some-find.is) in
+    let given = c.feed_slot.ensures.fed in
+    let fed = given.2 at.front at.slot at.back at.parts at.count in
+    record {
+      same = same_mapped reading_of Stands is_live has_locked held_of skipped_by laws.shows laws.begins laws.settles laws.rises at.front at.slot at.back slots c.feed_slot.new.slots at.parts (g.R.Run.cells c.args.run.now) x [] given.0 c.feed_slot.result fed;
+      live = λ e.
+          live_on reading_of Stands is_live has_locked held_of skipped_by laws.shows laws.begins laws.settles laws.rises at.front at.slot at.back slots c.feed_slot.new.slots at.parts (g.R.Run.cells c.args.run.now) x [] given.0 c.feed_slot.result fed
+          (not_stopped x c.feed_slot.result (sym c.stop_by.ensures ∙ e)) c.requires.live;
+      room = room_on reading_of Stands is_live has_locked held_of skipped_by laws.shows laws.begins laws.settles laws.rises at.front at.slot at.back slots c.feed_slot.new.slots at.parts (g.R.Run.cells c.args.run.now) x [] given.0 c.feed_slot.result fed;
+    }
+
+pub returns-clause-took : goal.returns-clause-took
+returns-clause-took g c =
+    let slots = c.args.slots.now in
+    let x = c.in-Some.id in
+    let at : IsAt x slots c.in-Some-find.index = found_at x slots c.in-Some-find.index (sym c.find.ensures ∙ c.in-Some-find.is) in
+    let given = c.feed_slot.ensures.fed in
+    let fed = given.2 at.front at.slot at.back at.parts at.count in (
+      given.0,
+      given.1,
+      λ runs n d a r.
+          took_own reading_of Stands is_live has_locked held_of skipped_by laws.shows laws.begins laws.settles laws.rises at.front at.slot at.back slots c.feed_slot.new.slots at.parts (g.R.Run.cells c.args.run.now) x [] given.0 c.feed_slot.result fed runs n _
+          c.stop_by.ensures (c.requires.own ∙ c.in-Some.is) at.id_is c.requires.live d a r,
     )

@@ -17,7 +17,7 @@ use Rattle.source_events.specs.declared.event.Stop.{Stop}
 use Rattle.source_machine.specs.declared.machine.SourceMachine.{SourceMachine}
 use Rattle.source_merge.specs.declared.slot.Slot.{Slot}
 use Rattle.source_merge.specs.Routing.{AllLive, mapped_of}
-use Rattle.source_merge.specs.Stepping.{TookFrame}
+use Rattle.source_merge.specs.Stepping.{TookCells}
 use Rattle.source_merge.proofs.FrameCounts.{runs_with}
 use Rattle.source_merge.proofs.Givings.{given_none}
 use Rattle.source_merge.proofs.Slots.{room_more}
@@ -27,7 +27,7 @@ use Rattle.source_machine.specs.Machine.{Stands, has_locked, held_of, is_live, r
 use Rattle.source_machine.specs.MachineLaws as laws
 use Rattle.source_merge.proofs.step.take_ended.Goals as goal
 
-unchanged : (slots : List (Slot SourceMachine)) (stop : Option Stop) → AllLive is_live slots → TookFrame slots slots stop
+unchanged : (slots : List (Slot SourceMachine)) (stop : Option Stop) → AllLive is_live slots → TookCells 30 slots slots stop
 unchanged slots stop live = record {
   same = refl;
   live = λ e. live;

@@ -206,7 +206,7 @@ returns-in-Some-take_run-clause-room g c = λ n r.
     let x = cut_here split begun (begun_after split.frame.now.bytes begun k) k end i.low left ends c.in-Some.ensures.some e.is refl c.if-begun-end.true i.left in
     let t = x.total in
     let s = i.size in
-    room_more held_of skipped_by _ _ c.take_run.new.slots (omega (arith, t, s)) (c.take_run.ensures.room _ (i.room n r))
+    room_more held_of skipped_by _ _ c.take_run.new.slots (omega (arith, t, s)) (c.take_run.ensures.slots.room _ (i.room n r))
 
 pub returns-in-Some-take_run-clause-space : goal.returns-in-Some-take_run-clause-space
 returns-in-Some-take_run-clause-space g c =
@@ -333,10 +333,10 @@ loop-pair-preserved g c =
             parts = i.parts ∙ ap (λ (l : List (List Cell)). i.done ++ l) x.cut ∙ sym (append_assoc i.done (xs ∷ []) (runs_of ys));
             low = begun.run + 1;
             left = x.are;
-            same = w.take_run.ensures.same ∙ i.same;
-            live = w.take_run.ensures.live w.in_default-take_run.is;
+            same = w.take_run.ensures.slots.same ∙ i.same;
+            live = w.take_run.ensures.slots.live w.in_default-take_run.is;
             size = omega (arith, total, size);
-            room = λ n r. room_more held_of skipped_by _ _ w.take_run.new.slots (omega (arith, total, size)) (w.take_run.ensures.room _ (i.room n r));
+            room = λ n r. room_more held_of skipped_by _ _ w.take_run.new.slots (omega (arith, total, size)) (w.take_run.ensures.slots.room _ (i.room n r));
             given = i.given ++ t.0;
             to_receiver =
                 given_more g.V.Receiver.gets g.met.V.Receiver.gets_more (c.args.items.now, (c.args.out.now, c.args.to.now))
