@@ -16,8 +16,8 @@ pub enum Found<P> {
 pub struct Taken<T> {
     /// How many bytes, at least one.
     pub bytes: usize,
-    /// The half of the last of them in which the packet ends, if one does: 0 for the low nibble, 1 for the high one, and
-    /// 0 where the units are bytes.
+    /// The half of the last of them in which the packet ends, if one does: 0 for the low nibble of an STP source or for a
+    /// byte of an ITM source, 1 for the high nibble.
     pub half: u8,
     /// The item that it gives, if it gives one.
     pub item: Option<T>,
