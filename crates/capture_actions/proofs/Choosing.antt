@@ -1,9 +1,6 @@
 -- The lines with a choice or a window are those without, but for those of events that are not listed.
 use Rattle.std.proofs.Common.{◌≡◌, ℕ, List, [], ◌∷◌, ◌++◌, refl, ◌∙◌, ap, Bool, true, false, cond}
-use Rattle.source_events.specs.declared.event.Event.{Event}
-use Rattle.source_events.specs.declared.packet.Packet.{Packet}
-use Rattle.trace_values.specs.Placed.{placed}
-use Rattle.source_merge.specs.Answering.{report_of}
+use Rattle.capture_actions.specs.Names.{Event, Packet, placed, report_of}
 use Rattle.capture_actions.specs.declared.list_plan.ListPlan.{ListPlan}
 use Rattle.capture_actions.specs.Filtered.{unfiltered, marked_lines, marked, all_lines, listed_lines}
 use Rattle.capture_actions.specs.Listing.{is_listed, line_after, lines_after, listed}

@@ -2,14 +2,10 @@
 use Rattle.std.proofs.Common.{◌≡◌, ℕ, zero, suc, ◌+◌, List, [], ◌∷◌, ◌++◌, flat_map, append-nil, append_assoc, sym, ◌∙◌, ap, arith}
 use Rattle.std.specs.List.{range_with_len}
 use Rattle.std.proofs.lemmas.Grind.{flat_map-append}
-use Rattle.trace_values.specs.Placed.{Placed}
-use Rattle.source_events.specs.declared.plan.Plan.{Plan}
-use Rattle.source_events.specs.Tails.{port_counts_of, source_counts_of, tails_of}
+use Rattle.capture_actions.specs.Names.{Placed, Plan, port_counts_of, source_counts_of, tails_of, port_counts_text}
+use Rattle.capture_actions.specs.Names.{tails_text, ID_COUNT}
 use Rattle.source_events.specs.declared.tails.PortCounts.{PortCounts}
 use Rattle.source_events.specs.declared.tails.Tails.{Tails}
-use Rattle.trace_text.specs.CountText.{port_counts_text}
-use Rattle.trace_text.specs.EndText.{tails_text}
-use Rattle.trace_values.specs.declared.limits.TheConstants.{ID_COUNT}
 use Rattle.capture_actions.specs.Summary.{source_text, sources_text, counts_text}
 
 range_more : (a n : ℕ) → range_with_len a (suc n) ≡ range_with_len a n ++ (a + n) ∷ []

@@ -2,23 +2,15 @@
 use Rattle.std.proofs.Common.{◌≡◌, ℕ, suc, ◌+◌, List, [], ◌∷◌, ◌++◌, length, refl, sym, ◌∙◌, ap, subst, append_assoc}
 use Rattle.std.proofs.Common.{arith, Option, None, Some, true}
 use Rattle.std.specs.Prelude.{is_none, option_map}
-use Rattle.trace_values.specs.declared.fault.Reason.{Reason}
-use Rattle.trace_values.specs.Placed.{Place, Placed, placed_from, placed}
+use Rattle.capture_actions.specs.Names.{Reason, Place, Placed, placed_from, placed, FlowAfter, On, Stopped as Ended}
+use Rattle.capture_actions.specs.Names.{offsets_of, Event, Stop, Packet, Plan, stop_of, report_of, fault_of, Going}
+use Rattle.capture_actions.specs.Names.{Engine, Stands, is_live, plan_of}
 use Rattle.trace_values.proofs.Placing.{placed_append}
-use Rattle.trace_stream.specs.Taken.{FlowAfter}
-use Rattle.trace_stream.specs.declared.action.Flow.TheVariants.{On, Stopped as Ended}
-use Rattle.frame_grammar.specs.Reading.{offsets_of}
 use Rattle.deformatter.specs.Rising.{end_at}
-use Rattle.source_events.specs.declared.event.Event.{Event}
-use Rattle.source_events.specs.declared.event.Stop.{Stop}
-use Rattle.source_events.specs.declared.packet.Packet.{Packet}
-use Rattle.source_events.specs.declared.plan.Plan.{Plan}
-use Rattle.source_events.specs.Report.{stop_of}
-use Rattle.source_merge.specs.Answering.{report_of, fault_of, fault_by}
+use Rattle.source_merge.specs.Answering.{fault_by}
 use Rattle.source_merge.specs.declared.flow.Flow.{Flow}
-use Rattle.source_merge.specs.declared.flow.Flow.TheVariants.{Going, Stopped}
-use Rattle.source_merge.specs.declared.engine.Engine.{Engine}
-use Rattle.source_merge.specs.Engine.{Stands, is_live, next_of, plan_of}
+use Rattle.source_merge.specs.declared.flow.Flow.TheVariants.{Stopped}
+use Rattle.source_merge.specs.Engine.{next_of}
 use Rattle.source_merge.specs.Front.{Reads}
 use Rattle.capture_actions.specs.Faulty.{IsFaulty}
 use Rattle.capture_actions.specs.Stopping.{flow_by, stop_by}

@@ -3,22 +3,12 @@ use Rattle.std.proofs.Common.{◌≡◌, ◌∙◌, ℕ, ◌+◌, ◌-◌, [], L
 use Rattle.std.specs.Prelude.{option_map, Option}
 use Rattle.std.proofs.lemmas.List.{take_all, length-drop}
 use Rattle.std.proofs.Math.Seq.{take-add}
-use Rattle.trace_values.specs.Placed.{Placed, placed, placed_from}
-use Rattle.trace_stream.specs.Served.{Meaning}
-use Rattle.trace_stream.specs.Taken.{HasTaken, FlowAfter}
-use Rattle.trace_stream.specs.declared.action.Flow.{Flow}
-use Rattle.trace_stream.specs.declared.action.Flow.TheVariants.{On}
-use Rattle.source_events.specs.declared.event.Event.{Event}
-use Rattle.source_events.specs.declared.event.Stop.{Stop}
-use Rattle.source_events.specs.declared.packet.Packet.{Packet}
-use Rattle.source_events.specs.declared.plan.Plan.{Plan}
-use Rattle.source_events.specs.Report.{stop_of}
-use Rattle.source_merge.specs.Answering.{report_of, goes_on}
-use Rattle.source_merge.specs.declared.engine.Engine.{Engine}
+use Rattle.capture_actions.specs.Names.{Placed, placed, placed_from, Meaning, HasTaken, FlowAfter, Flow, On, Event}
+use Rattle.capture_actions.specs.Names.{Stop, Packet, Plan, stop_of, report_of, Engine, Going, ReadsTo}
+use Rattle.source_merge.specs.Answering.{goes_on}
 use Rattle.source_merge.specs.declared.flow.Flow.{Flow as Reading}
-use Rattle.source_merge.specs.declared.flow.Flow.TheVariants.{Going, Stopped}
+use Rattle.source_merge.specs.declared.flow.Flow.TheVariants.{Stopped}
 use Rattle.source_merge.specs.Engine as engine
-use Rattle.source_merge.specs.Front.{ReadsTo}
 use Rattle.capture_actions.specs.declared.list_plan.ListPlan.{ListPlan}
 use Rattle.capture_actions.specs.declared.lister.Lister.{Lister}
 use Rattle.capture_actions.specs.declared.show.Show.{Show}

@@ -9,12 +9,13 @@ use Rattle.std.proofs.lemmas.List.Sums.{sum_by-append}
 use Rattle.std.proofs.lemmas.Bool.Decides.{nat_tests}
 use Rattle.std.proofs.Math.Nat.{mod-eq_of_lt, mul-le-mul_right, suc-mul}
 use Rattle.trace_values.specs.ReadingModes.{packets_hunt}
-use Rattle.frame_grammar.specs.Reading.{is_source, source_list}
+use Rattle.capture_actions.specs.Names.{is_source, source_list, ItmPacket, port_reading, cells_of, StpItem}
+use Rattle.capture_actions.specs.Names.{GREATEST_CAPTURE, Cell, Reason, Place, Placed, placed, byte_at, Event, What}
+use Rattle.capture_actions.specs.Names.{Raw, Packet, Itm as ItmOf, Plan, SourceKind, Stp, is_of, sources_by, report_of}
 use Rattle.itm_grammar.specs.declared.header.Class.{Class}
 use Rattle.itm_grammar.specs.declared.header.Class.TheVariants.{Zero, Overflow as Overflowed, Source, LocalShort}
 use Rattle.itm_grammar.specs.declared.header.Class.TheVariants.{LocalLong, GlobalFirst as First}
 use Rattle.itm_grammar.specs.declared.header.Class.TheVariants.{GlobalSecond as Second, Extension as Extended, Reserved}
-use Rattle.itm_grammar.specs.declared.packet.ItmPacket.{ItmPacket}
 use Rattle.itm_grammar.specs.declared.packet.Size.{Size}
 use Rattle.itm_grammar.specs.declared.partial.Partial.{Partial}
 use Rattle.itm_grammar.specs.declared.partial.Partial.TheVariants.{Header, Zeros, Payload}
@@ -26,31 +27,19 @@ use Rattle.itm_grammar.proofs.Headers.{header_is}
 use Rattle.itm_codec.specs.Reading.{packets_in}
 use Rattle.itm_codec.proofs.Answering.{hunt_is}
 use Rattle.stp_codec.specs.Reading.{items_in}
-use Rattle.deformatter.specs.PortReading.{port_reading, cells_of}
 use Rattle.deformatter.specs.Rising.{Rise, offsets_in}
 use Rattle.deformatter.proofs.PortReadingLaws.{frames_have_runs}
 use Rattle.deformatter.proofs.RisingLaws.{capture_rises as cells_rise}
-use Rattle.stp_grammar.specs.declared.item.StpItem.{StpItem}
-use Rattle.trace_stream.specs.declared.limits.TheConstants.{GREATEST_CAPTURE}
-use Rattle.trace_values.specs.declared.cell.Cell.{Cell}
-use Rattle.trace_values.specs.declared.fault.Reason.{Reason}
 use Rattle.trace_values.specs.declared.next.Next.{Next}
 use Rattle.trace_values.specs.declared.next.Next.TheVariants.{Go, End, Fail}
-use Rattle.trace_values.specs.Placed.{Place, Placed, placed, byte_at}
 use Rattle.trace_values.specs.Reading.{Progress, with_unit, advance, progress_from, progress, unread}
 use Rattle.trace_values.specs.Stream.{Said, Notice, Kept, Stream, kept}
 use Rattle.trace_values.specs.Walk.{by_unit}
-use Rattle.source_events.specs.declared.event.Event.{Event}
-use Rattle.source_events.specs.declared.event.What.{What}
-use Rattle.source_events.specs.declared.event.What.TheVariants.{Raw}
-use Rattle.source_events.specs.declared.packet.Packet.{Packet}
-use Rattle.source_events.specs.declared.packet.Packet.TheVariants.{Itm as ItmOf, Stp as StpOf}
-use Rattle.source_events.specs.declared.plan.Plan.{Plan}
-use Rattle.source_events.specs.declared.plan.SourceKind.{SourceKind}
-use Rattle.source_events.specs.declared.plan.SourceKind.TheVariants.{Itm, Stp}
-use Rattle.source_events.specs.Merge.{told, part, is_of, cut, is_before}
+use Rattle.source_events.specs.declared.packet.Packet.TheVariants.{Stp as StpOf}
+use Rattle.source_events.specs.declared.plan.SourceKind.TheVariants.{Itm}
+use Rattle.source_events.specs.Merge.{told, part, cut, is_before}
 use Rattle.source_events.specs.Packets.{given_as}
-use Rattle.source_events.specs.Plan.{mapped_ids, stream_of, sources_by}
+use Rattle.source_events.specs.Plan.{mapped_ids, stream_of}
 use Rattle.source_events.specs.Report.{Mapped, lifted, events, raws, raw_events, triggers, runs_in, stop_in}
 use Rattle.source_events.specs.Report.{capture_events}
 use Rattle.source_events.specs.Runs.{id_of, bytes_of, last_at, list_of}
@@ -58,7 +47,6 @@ use Rattle.source_events.proofs.Captures.{capture_rises}
 use Rattle.source_events.proofs.Lawful.{plan_lawful}
 use Rattle.source_events.proofs.Merging.{capture_merged}
 use Rattle.source_events.proofs.RunNumbers.{lists_are}
-use Rattle.source_merge.specs.Answering.{report_of}
 use Rattle.capture_actions.specs.Listing.{itm_packet, itm_packets}
 use Rattle.capture_actions.specs.Remarks.{deltas_in, local_after}
 

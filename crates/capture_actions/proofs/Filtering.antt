@@ -1,11 +1,7 @@
 -- What is listed after one more event.
 use Rattle.std.proofs.Common.{◌≡◌, Bool, true, false, ◌&&◌, ◌||◌, List, [], ◌∷◌, ◌++◌, refl, sym, ◌∙◌, ap, append-nil, cond, Option, not}
 use Rattle.std.proofs.lemmas.List.Elements.{filter-append}
-use Rattle.source_events.specs.declared.event.Event.{Event}
-use Rattle.source_events.specs.declared.packet.Packet.{Packet}
-use Rattle.source_events.specs.Report.{is_item}
-use Rattle.item_tap.specs.declared.bounds.Bounds.{Bounds}
-use Rattle.item_tap.specs.declared.choice.Choice.{Choice}
+use Rattle.capture_actions.specs.Names.{Event, Packet, is_item, Bounds, Choice}
 use Rattle.capture_actions.specs.Listing.{items_in, meets, is_within, is_listed}
 
 or_true : (b : Bool) → (b || true) ≡ true

@@ -4,30 +4,23 @@ use Rattle.std.proofs.Common.{append_assoc, append-nil, length-append, Option, S
 use Rattle.std.specs.Prelude.{is_none, option_map}
 use Rattle.std.specs.List.{flat_map}
 use Rattle.std.proofs.lemmas.List.Concat.{flat_map-append}
-use Rattle.trace_values.specs.declared.cell.Cell.{Cell}
+use Rattle.capture_actions.specs.Names.{Cell, Reason, Place, Placed, byte_at, placed_from, placed, FramesMode, IsWhole}
+use Rattle.capture_actions.specs.Names.{PortStep, Quiet, Fault as Faulty, PortReading, port_reading, cells_of}
+use Rattle.capture_actions.specs.Names.{GrowsByFrame, frames_by, CellsFit, fault_by, FlowAfter, told}
 use Rattle.trace_values.specs.declared.fault.Fault.{Fault}
-use Rattle.trace_values.specs.declared.fault.Reason.{Reason}
-use Rattle.trace_values.specs.Placed.{Place, Placed, byte_at, placed_from, placed}
 use Rattle.trace_values.proofs.Placing.{placed_from_push, placed_append}
-use Rattle.trace_values.specs.declared.reading_modes.FramesMode.{FramesMode}
 use Rattle.frame_grammar.specs.Frame.{IsProperFrame}
 use Rattle.frame_grammar.specs.Runs.{HasRuns}
-use Rattle.frame_grammar.specs.Whole.{IsWhole}
 use Rattle.frame_grammar.proofs.Wholes.{plain_is_whole}
 use Rattle.std.proofs.lemmas.List.{length-take-le}
-use Rattle.deformatter.specs.declared.step.PortStep.{PortStep}
-use Rattle.deformatter.specs.declared.step.PortStep.TheVariants.{Quiet, Half, Full, Frame, Locked, Fault as Faulty}
-use Rattle.deformatter.specs.PortReading.{PortReading, port_reading, cells_of}
-use Rattle.deformatter.specs.ReadingGrowth.{Grows, GrowsByFrame, Answers, frames_by, CellsFit}
+use Rattle.deformatter.specs.declared.step.PortStep.TheVariants.{Half, Full, Frame, Locked}
+use Rattle.deformatter.specs.ReadingGrowth.{Grows, Answers}
 use Rattle.deformatter.specs.Block.{EachByte, FedAs}
-use Rattle.deformatter.specs.Growth.{fault_by}
-use Rattle.trace_stream.specs.Taken.{FlowAfter}
 use Rattle.capture_actions.specs.Flows.{flow_by}
 use Rattle.deformatter.proofs.PortReadingLaws.{frames_have_runs}
 use Rattle.deformatter.specs.Runs.{HaveRuns}
 use Rattle.deformatter.proofs.RunLaws.{last_has_runs}
 use Rattle.frame_grammar.proofs.Runs.{none_has_runs}
-use Rattle.trace_text.specs.FaultText.{told}
 use Rattle.capture_actions.specs.Port.{port_of, IsPortFaulty}
 use Rattle.capture_actions.specs.PortGrowth.{Grew}
 

@@ -1,13 +1,10 @@
 -- An event that fits has a line with the remark that suits it.
 use Rattle.std.specs.Prelude.{◌≡◌, ℕ, Option, None, Some, IsSome, is_none, false, refl}
-use Rattle.source_events.specs.declared.event.Event.{Event}
-use Rattle.source_events.specs.declared.event.What.{What}
-use Rattle.source_events.specs.declared.event.What.TheVariants.{Locked, Packet as Said, Raw, Trigger}
-use Rattle.source_events.specs.declared.packet.Packet.{Packet}
-use Rattle.source_events.specs.declared.packet.Packet.TheVariants.{Itm, Stp}
-use Rattle.source_events.specs.Fitting.{WhatFits, EventFits, PacketFits}
-use Rattle.trace_text.specs.declared.remark.Remark.{Remark}
-use Rattle.trace_text.specs.Printable.{IsProperWhat, HasSource, Suits, IsPrintable}
+use Rattle.capture_actions.specs.Names.{Event, What, Raw, Packet, Itm, EventFits, PacketFits, Remark, Suits}
+use Rattle.source_events.specs.declared.event.What.TheVariants.{Locked, Packet as Said, Trigger}
+use Rattle.source_events.specs.declared.packet.Packet.TheVariants.{Stp}
+use Rattle.source_events.specs.Fitting.{WhatFits}
+use Rattle.trace_text.specs.Printable.{IsProperWhat, HasSource, IsPrintable}
 
 there : (source : Option ℕ) → is_none source ≡ false → IsSome source
 there None e = cc

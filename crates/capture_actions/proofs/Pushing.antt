@@ -1,6 +1,6 @@
 -- What is taken and added, one after the other.
 use Rattle.std.proofs.Common.{◌≡◌, List, ℕ, [], ◌++◌, refl, sym, ◌∙◌, ap, subst, append_assoc, append-nil}
-use Rattle.port_slip.specs.declared.slip.Slip.{Slip}
+use Rattle.capture_actions.specs.Names.{Slip}
 use Rattle.port_slip.proofs.Taking.{takes_none, takes_more}
 use Rattle.capture_actions.specs.Realigner.{Pushes}
 

@@ -4,10 +4,7 @@ use Rattle.std.specs.Prelude.{◌==◌}
 use Rattle.std.proofs.lemmas.Bool.{cases_eq}
 use Rattle.std.proofs.lemmas.Bool.Decides.{nat_tests}
 use Rattle.std.proofs.lemmas.List.{get_or-set_same, get_or-set_other}
-use Rattle.itm_grammar.specs.declared.packet.ItmPacket.{ItmPacket}
-use Rattle.source_events.specs.declared.event.Event.{Event}
-use Rattle.source_events.specs.declared.packet.Packet.{Packet}
-use Rattle.source_events.specs.Merge.{is_of}
+use Rattle.capture_actions.specs.Names.{ItmPacket, Event, Packet, is_of}
 use Rattle.capture_actions.specs.declared.clocks.Clocks.{Clocks}
 use Rattle.capture_actions.specs.Clocks.{Stands}
 use Rattle.capture_actions.specs.Listing.{itm_packet, itm_packets}

@@ -1,12 +1,9 @@
 -- How the times grow with one more packet.
 use Rattle.std.proofs.Common.{◌≡◌, ℕ, List, [], ◌∷◌, ◌++◌, flat_map, append-nil, refl, sym, ◌∙◌, ap, subst, false}
 use Rattle.std.proofs.lemmas.Grind.{flat_map-append}
-use Rattle.itm_grammar.specs.declared.packet.ItmPacket.{ItmPacket}
-use Rattle.itm_grammar.specs.declared.packet.ItmPacket.TheVariants.{Sync, Overflow, Software, Hardware, Local, GlobalFirst, GlobalSecond, Extension}
-use Rattle.trace_text.specs.declared.remark.Remark.TheVariants.{None as NoRemark}
-use Rattle.trace_text.specs.Printable.{SuitsPacket}
-use Rattle.trace_clock.specs.LocalTime.{local_time}
-use Rattle.trace_clock.specs.GlobalTime.{GlobalStamp}
+use Rattle.capture_actions.specs.Names.{ItmPacket, Local, GlobalFirst, GlobalSecond, None as NoRemark, SuitsPacket}
+use Rattle.capture_actions.specs.Names.{local_time, GlobalStamp}
+use Rattle.itm_grammar.specs.declared.packet.ItmPacket.TheVariants.{Sync, Overflow, Software, Hardware, Extension}
 use Rattle.trace_clock.specs.GlobalClock as clock
 use Rattle.capture_actions.specs.declared.clocks.Clocks.{Clocks}
 use Rattle.capture_actions.specs.Remarks.{is_stamp, deltas_in, stamps_in, remark_by}

@@ -3,7 +3,7 @@ use Rattle.std.specs.Prelude.{ℕ, List, [], false}
 use Rattle.buffer_ring.specs.Buffer as buffers
 use Rattle.buffer_ring.specs.Buffer.{size_of, pushed_by}
 use Rattle.buffer_ring.specs.declared.buffer.TraceBuffer.{TraceBuffer}
-use Rattle.trace_stream.specs.Served.{Meaning}
+use Rattle.capture_actions.specs.Names.{Meaning}
 use Rattle.capture_actions.specs.declared.buffer.BufferAction.{BufferAction}
 
 -- its buffer

@@ -1,6 +1,6 @@
 -- What a run asks of the meaning of the taking into a trace buffer.
 use Rattle.std.specs.Prelude.{◌≡◌, ℕ, List, [], ◌++◌, refl}
-use Rattle.trace_stream.specs.Written.{GrowsOnly}
+use Rattle.capture_actions.specs.Names.{GrowsOnly}
 use Rattle.capture_actions.specs.BufferAction.{buffer_faulty, buffer_text, buffer_ending}
 
 pub none_at_first : (p : ℕ) → buffer_faulty p [] → ⊥

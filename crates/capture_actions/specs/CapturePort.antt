@@ -1,10 +1,8 @@
 -- What the reading of a capture's port stands for.
 use Rattle.std.specs.Prelude.{◌≡◌, ℕ, List, length, true, option_map, Option}
-use Rattle.trace_values.specs.Placed.{placed}
-use Rattle.trace_values.specs.declared.reading_modes.FramesMode.{FramesMode}
+use Rattle.capture_actions.specs.Names.{placed, FramesMode, mode_of, told}
 use Rattle.deformatter.specs.Reader as reader
-use Rattle.deformatter.specs.Reader.{is_live, mode_of}
-use Rattle.trace_text.specs.FaultText.{told}
+use Rattle.deformatter.specs.Reader.{is_live}
 use Rattle.capture_actions.specs.Port.{port_of}
 use Rattle.capture_actions.specs.declared.port.CapturePort.{CapturePort}
 

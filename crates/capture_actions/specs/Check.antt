@@ -1,9 +1,6 @@
 -- What the action of `check` stands for.
 use Rattle.std.specs.Prelude.{◌≡◌, ℕ, List, true, option_map}
-use Rattle.trace_values.specs.Placed.{placed}
-use Rattle.source_events.specs.declared.plan.Plan.{Plan}
-use Rattle.source_events.specs.Report.{stop_of}
-use Rattle.source_merge.specs.Answering.{fault_of}
+use Rattle.capture_actions.specs.Names.{placed, Plan, stop_of, fault_of}
 use Rattle.source_merge.specs.Engine as reading
 use Rattle.capture_actions.specs.declared.check.Check.{Check}
 

@@ -1,11 +1,7 @@
 -- How the summary stays after a fault.
 use Rattle.std.specs.Prelude.{◌≡◌, ℕ, List, [], ◌++◌, refl, Option, Some, None, is_none, false}
 use Rattle.std.proofs.Common.{ap}
-use Rattle.trace_stream.specs.Written.{GrowsOnly}
-use Rattle.trace_values.specs.declared.fault.Reason.{Reason}
-use Rattle.trace_values.specs.Placed.{Place, Placed, placed}
-use Rattle.source_events.specs.declared.plan.Plan.{Plan}
-use Rattle.source_merge.specs.Answering.{fault_of}
+use Rattle.capture_actions.specs.Names.{GrowsOnly, Reason, Place, Placed, placed, Plan, fault_of}
 use Rattle.capture_actions.specs.Faulty.{IsFaulty}
 use Rattle.capture_actions.specs.FaultyLaws as laws
 use Rattle.capture_actions.specs.Summary.{check_text, summary_by, summary}

@@ -1,6 +1,6 @@
 -- What the clocks of a source stand for.
 use Rattle.std.specs.Prelude.{◌≡◌, List, flat_map}
-use Rattle.itm_grammar.specs.declared.packet.ItmPacket.{ItmPacket}
+use Rattle.capture_actions.specs.Names.{ItmPacket}
 use Rattle.trace_clock.specs.GlobalClock as clock
 use Rattle.capture_actions.specs.Remarks.{stamps_in, local_after}
 use Rattle.capture_actions.specs.declared.clocks.Clocks.{Clocks}

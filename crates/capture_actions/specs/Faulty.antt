@@ -1,10 +1,7 @@
 -- Faults of the report of a capture, and the line that stands for one.
 use Rattle.std.specs.Prelude.{◌≡◌, ℕ, ◌<◌, List, ◌==◌, Option, Some, None, is_none, get_or, Bool, false}
 use Rattle.std.specs.List.{list_any}
-use Rattle.trace_values.specs.Placed.{placed}
-use Rattle.trace_values.specs.declared.limits.TheConstants.{ID_COUNT}
-use Rattle.source_events.specs.declared.plan.Plan.{Plan}
-use Rattle.source_merge.specs.Answering.{fault_of}
+use Rattle.capture_actions.specs.Names.{placed, ID_COUNT, Plan, fault_of}
 
 -- the source sends STP packets
 abbrev pub is_stp : Plan → Option ℕ → Bool

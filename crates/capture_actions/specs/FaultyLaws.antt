@@ -1,13 +1,9 @@
 -- A fault of a report stays.
 use Rattle.std.specs.Prelude.{◌≡◌, ℕ, List, [], ◌++◌, Option, is_none}
 use Rattle.std.proofs.Common.{ap, ◌∙◌}
-use Rattle.trace_values.specs.declared.fault.Reason.{Reason}
-use Rattle.trace_values.specs.Placed.{Place, placed}
-use Rattle.source_events.specs.declared.plan.Plan.{Plan}
-use Rattle.source_events.specs.Plan.{sources_by}
+use Rattle.capture_actions.specs.Names.{Reason, Place, placed, Plan, sources_by, report_of, fault_of}
 use Rattle.source_events.proofs.Captures as captures
 use Rattle.source_events.proofs.Lawful.{plan_lawful}
-use Rattle.source_merge.specs.Answering.{report_of, fault_of}
 use Rattle.capture_actions.specs.Faulty.{IsFaulty}
 
 pub none_at_first : (plan : Plan) → IsFaulty plan [] → ⊥

@@ -1,8 +1,6 @@
 -- What a call of `show` made of the front of a piece.
 use Rattle.std.specs.Prelude.{◌≡◌, ℕ, ◌+◌, List, length}
-use Rattle.trace_stream.specs.Taken.{HasTaken}
-use Rattle.trace_stream.specs.declared.action.Flow.{Flow}
-use Rattle.trace_stream.specs.declared.action.Flow.TheVariants.{On}
+use Rattle.capture_actions.specs.Names.{HasTaken, Flow, On}
 use Rattle.capture_actions.specs.declared.show.Show.{Show}
 use Rattle.capture_actions.specs.Listing.{show_meaning}
 use Rattle.capture_actions.specs.Show.{plan_of, taken_by, IsLive, Stands}

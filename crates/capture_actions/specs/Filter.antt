@@ -1,12 +1,7 @@
 -- What is asked of a listing, and what its window has seen.
 use Rattle.std.specs.Prelude.{List, Option, Some, None, ⊤}
-use Rattle.source_events.specs.declared.event.Event.{Event}
-use Rattle.source_events.specs.declared.packet.Packet.{Packet}
-use Rattle.source_events.specs.declared.plan.Plan.{Plan}
-use Rattle.item_tap.specs.declared.bounds.Bounds.{Bounds}
-use Rattle.item_tap.specs.declared.choice.Choice.{Choice}
+use Rattle.capture_actions.specs.Names.{Event, Packet, Plan, Bounds, Choice, holds}
 use Rattle.item_tap.specs.declared.window.Window.{Window}
-use Rattle.item_tap.specs.Choices.{holds}
 use Rattle.item_tap.specs.Seen as seen
 use Rattle.capture_actions.specs.declared.filter.Filter.{Filter}
 use Rattle.capture_actions.specs.declared.list_plan.ListPlan.{ListPlan}

@@ -1,9 +1,6 @@
 -- The listing with a choice or a window, beside the one without.
 use Rattle.std.specs.Prelude.{ℕ, List, [], ◌∷◌, ◌++◌, flat_map, filter, None, Bool}
-use Rattle.source_events.specs.declared.event.Event.{Event}
-use Rattle.source_events.specs.declared.packet.Packet.{Packet}
-use Rattle.trace_values.specs.Placed.{placed}
-use Rattle.source_merge.specs.Answering.{report_of}
+use Rattle.capture_actions.specs.Names.{Event, Packet, placed, report_of}
 use Rattle.capture_actions.specs.declared.list_plan.ListPlan.{ListPlan}
 use Rattle.capture_actions.specs.Listing.{is_listed, line_after}
 

@@ -1,7 +1,6 @@
 -- What `check` does with events: nothing, for any number of them.
 use Rattle.std.specs.Prelude.{ℕ, List, [], ◌++◌, ⊤}
-use Rattle.source_events.specs.declared.event.Event.{Event}
-use Rattle.source_events.specs.declared.packet.Packet.{Packet}
+use Rattle.capture_actions.specs.Names.{Event, Packet}
 use Rattle.capture_actions.specs.declared.check.Ignored.{Ignored}
 use Rattle.capture_actions.specs.declared.check.TheConstants.{MANY}
 

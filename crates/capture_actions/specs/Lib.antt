@@ -1,3 +1,4 @@
+pub mod Names
 pub mod BufferAction
 pub mod BufferLaws
 pub mod CapturePort

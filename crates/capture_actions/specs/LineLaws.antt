@@ -1,10 +1,7 @@
 -- The lines of events that follow others.
 use Rattle.std.proofs.Common.{◌≡◌, ℕ, List, [], ◌∷◌, ◌++◌, sym, ◌∙◌, ap, append_assoc, append-nil, Option, cond}
 use Rattle.std.proofs.lemmas.Grind.{flat_map-append}
-use Rattle.itm_grammar.specs.declared.packet.ItmPacket.{ItmPacket}
-use Rattle.source_events.specs.declared.event.Event.{Event}
-use Rattle.source_events.specs.declared.packet.Packet.{Packet}
-use Rattle.source_events.specs.Merge.{is_of}
+use Rattle.capture_actions.specs.Names.{ItmPacket, Event, Packet, is_of}
 use Rattle.capture_actions.specs.declared.list_plan.ListPlan.{ListPlan}
 use Rattle.capture_actions.specs.Listing.{itm_packet, itm_packets, line_after, lines_after}
 

@@ -1,10 +1,7 @@
 -- What the receiver of `show` was given, and how much more it has room for.
 use Rattle.std.specs.Prelude.{◌≡◌, ℕ, ◌+◌, ◌-◌, ◌/◌, List, ◌++◌, length, None, Some, true, false}
-use Rattle.source_events.specs.declared.event.Event.{Event}
-use Rattle.source_events.specs.declared.packet.Packet.{Packet}
-use Rattle.source_events.specs.declared.plan.SourceKind.{SourceKind}
-use Rattle.source_events.specs.declared.plan.SourceKind.TheVariants.{Itm, Stp}
-use Rattle.trace_stream.specs.declared.outlet.TheConstants.{TEXT_ROOM, OUTLET_ROOM}
+use Rattle.capture_actions.specs.Names.{Event, Packet, SourceKind, Stp, TEXT_ROOM, OUTLET_ROOM}
+use Rattle.source_events.specs.declared.plan.SourceKind.TheVariants.{Itm}
 use Rattle.trace_text.specs.declared.lines.TheConstants.{EVENT_ROOM}
 use Rattle.capture_actions.specs.Faulty.{is_stp}
 use Rattle.capture_actions.specs.Filter.{plan_by, HasSeen}

@@ -1,7 +1,6 @@
 -- What the receiver of `show` is given adds up: proofs that its `impl` cites.
 use Rattle.std.proofs.Common.{◌∙◌, ℕ, ◌++◌, [], List, sym, ap, subst, append_assoc, append-nil, refl}
-use Rattle.source_events.specs.declared.event.Event.{Event}
-use Rattle.source_events.specs.declared.packet.Packet.{Packet}
+use Rattle.capture_actions.specs.Names.{Event, Packet}
 use Rattle.capture_actions.specs.declared.list_plan.ListPlan.{ListPlan}
 use Rattle.capture_actions.specs.declared.lister.Lister.{Lister}
 use Rattle.capture_actions.specs.Filter.{plan_by, HasSeen}

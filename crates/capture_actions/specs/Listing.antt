@@ -1,29 +1,11 @@
 -- What `show` writes: the lines of the events of a capture's report, and the end lines or the line of its fault.
 use Rattle.std.specs.Prelude.{ℕ, List, [], ◌∷◌, ◌++◌, flat_map, filter, Option, Some, None, Bool, true, not, ◌&&◌, ◌||◌}
 use Rattle.std.specs.Prelude.{if◌then◌else◌, false}
-use Rattle.trace_values.specs.declared.fault.Reason.{Reason}
-use Rattle.trace_values.specs.Placed.{Place, Placed, placed}
-use Rattle.trace_stream.specs.Served.{Meaning}
-use Rattle.itm_grammar.specs.declared.packet.ItmPacket.{ItmPacket}
-use Rattle.source_events.specs.declared.event.Event.{Event}
-use Rattle.source_events.specs.declared.event.What.{What}
+use Rattle.capture_actions.specs.Names.{Reason, Place, Placed, placed, Meaning, ItmPacket, Event, What, Packet, Itm}
+use Rattle.capture_actions.specs.Names.{Plan, is_of, is_item, tails_of, report_of, fault_of, Bounds, Choice, holds}
+use Rattle.capture_actions.specs.Names.{Remark, None as NoRemark, event_line, fault_line, tails_text}
 use Rattle.source_events.specs.declared.event.What.TheVariants.{Packet as Said}
-use Rattle.source_events.specs.declared.packet.Packet.{Packet}
-use Rattle.source_events.specs.declared.packet.Packet.TheVariants.{Itm}
-use Rattle.source_events.specs.declared.plan.Plan.{Plan}
-use Rattle.source_events.specs.Merge.{is_of}
-use Rattle.source_events.specs.Report.{is_item}
-use Rattle.source_events.specs.Tails.{tails_of}
-use Rattle.source_merge.specs.Answering.{report_of, fault_of}
-use Rattle.item_tap.specs.declared.bounds.Bounds.{Bounds}
-use Rattle.item_tap.specs.declared.choice.Choice.{Choice}
-use Rattle.item_tap.specs.Choices.{holds}
 use Rattle.item_tap.specs.Windows.{passes}
-use Rattle.trace_text.specs.declared.remark.Remark.{Remark}
-use Rattle.trace_text.specs.declared.remark.Remark.TheVariants.{None as NoRemark}
-use Rattle.trace_text.specs.LineText.{event_line}
-use Rattle.trace_text.specs.FaultText.{fault_line}
-use Rattle.trace_text.specs.EndText.{tails_text}
 use Rattle.capture_actions.specs.declared.list_plan.ListPlan.{ListPlan}
 use Rattle.capture_actions.specs.Faulty.{is_stp, IsFaulty}
 use Rattle.capture_actions.specs.Remarks.{remark_by}

@@ -1,14 +1,10 @@
 -- How the listing grows with the bytes.
 use Rattle.std.specs.Prelude.{◌≡◌, ℕ, List, [], ◌++◌, Option, Some, None, is_none, false}
 use Rattle.std.proofs.Common.{ap, ◌∙◌}
-use Rattle.trace_stream.specs.Written.{GrowsOnly}
-use Rattle.trace_values.specs.declared.fault.Reason.{Reason}
-use Rattle.trace_values.specs.Placed.{Place, Placed, placed}
-use Rattle.source_events.specs.declared.plan.Plan.{Plan}
-use Rattle.source_events.specs.Plan.{sources_by}
+use Rattle.capture_actions.specs.Names.{GrowsOnly, Reason, Place, Placed, placed, Plan, sources_by, report_of}
+use Rattle.capture_actions.specs.Names.{fault_of}
 use Rattle.source_events.proofs.Captures as captures
 use Rattle.source_events.proofs.Lawful.{plan_lawful}
-use Rattle.source_merge.specs.Answering.{report_of, fault_of}
 use Rattle.capture_actions.specs.declared.list_plan.ListPlan.{ListPlan}
 use Rattle.capture_actions.specs.Faulty.{IsFaulty}
 use Rattle.capture_actions.specs.FaultyLaws as laws

@@ -1,8 +1,6 @@
 -- The reading of a whole capture's port.
 use Rattle.std.specs.Prelude.{◌≡◌, ℕ, List, is_none, false}
-use Rattle.trace_values.specs.Placed.{placed}
-use Rattle.trace_values.specs.declared.reading_modes.FramesMode.{FramesMode}
-use Rattle.deformatter.specs.PortReading.{PortReading, port_reading}
+use Rattle.capture_actions.specs.Names.{placed, FramesMode, PortReading, port_reading}
 
 -- what the bytes of a capture read as at the port
 abbrev pub port_of : FramesMode → List ℕ → PortReading

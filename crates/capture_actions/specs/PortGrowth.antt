@@ -1,14 +1,8 @@
 -- How the reading of a port grows with bytes of a piece.
 use Rattle.std.specs.Prelude.{◌≡◌, ℕ, ◌+◌, ◌++◌, List, Option}
-use Rattle.trace_values.specs.declared.cell.Cell.{Cell}
-use Rattle.trace_values.specs.Placed.{placed_from}
-use Rattle.frame_grammar.specs.Frame.{cells}
-use Rattle.frame_grammar.specs.Reading.{offsets_of}
-use Rattle.frame_grammar.specs.Whole.{without_halves}
-use Rattle.deformatter.specs.declared.step.PortStep.{PortStep}
-use Rattle.deformatter.specs.Growth.{fulls_by, halves_by, fault_by}
-use Rattle.deformatter.specs.PortReading.{PortReading}
-use Rattle.deformatter.specs.ReadingGrowth.{frames_by, CellsFit}
+use Rattle.capture_actions.specs.Names.{Cell, placed_from, cells, offsets_of, without_halves, PortStep, fault_by}
+use Rattle.capture_actions.specs.Names.{PortReading, frames_by, CellsFit}
+use Rattle.deformatter.specs.Growth.{fulls_by, halves_by}
 
 -- With some bytes the reading grew from old to new by what the step of the last one says, since all before it were
 -- quiet.

@@ -1,12 +1,9 @@
 -- How the reading of a capture's port grows with the bytes.
 use Rattle.std.specs.Prelude.{◌≡◌, ℕ, List, [], ◌++◌, length, Option, is_none}
 use Rattle.std.proofs.Common.{ap, subst, sym, ◌∙◌}
-use Rattle.trace_values.specs.declared.cell.Cell.{Cell}
-use Rattle.trace_values.specs.declared.fault.Reason.{Reason}
-use Rattle.trace_values.specs.Placed.{Place, Placed, placed, placed_from}
+use Rattle.capture_actions.specs.Names.{Cell, Reason, Place, Placed, placed, placed_from, FramesMode, port_reading}
+use Rattle.capture_actions.specs.Names.{cells_of}
 use Rattle.trace_values.proofs.Placing.{placed_append}
-use Rattle.trace_values.specs.declared.reading_modes.FramesMode.{FramesMode}
-use Rattle.deformatter.specs.PortReading.{port_reading, cells_of}
 use Rattle.deformatter.specs.ReadingGrowth.{Settled}
 use Rattle.deformatter.proofs.PortReadingLaws.{none_read, settles, cells_grow}
 use Rattle.capture_actions.specs.Port.{port_of, IsPortFaulty}

@@ -1,6 +1,6 @@
 -- What the run asks of the meaning of `realign`.
 use Rattle.std.specs.Prelude.{◌≡◌, ℕ, List, [], ◌++◌}
-use Rattle.trace_stream.specs.Written.{GrowsOnly}
+use Rattle.capture_actions.specs.Names.{GrowsOnly}
 use Rattle.port_slip.proofs.Sureness.{sure_grows}
 use Rattle.capture_actions.specs.Realigned.{realign_faulty, realign_text, realign_ending}
 

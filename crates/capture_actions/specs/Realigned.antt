@@ -1,9 +1,7 @@
 -- What `realign` writes: the realigned bytes. What is sure of them is written as it comes, and the last ones at the
 -- end, and where a read failed or the limit was passed, too.
 use Rattle.std.specs.Prelude.{ℕ, ◌-◌, List, length, drop, true}
-use Rattle.trace_stream.specs.Served.{Meaning}
-use Rattle.port_slip.specs.Segments.{realigned}
-use Rattle.port_slip.specs.Sure.{sure}
+use Rattle.capture_actions.specs.Names.{Meaning, realigned, sure}
 
 -- no bytes have a fault
 abbrev pub realign_faulty : Unit {0} → List ℕ → Type 0

@@ -1,9 +1,8 @@
 -- What the action `realign` stands for.
 use Rattle.std.specs.Prelude.{◌≡◌, ℕ, List, ◌++◌}
-use Rattle.port_slip.specs.declared.slip.Slip.{Slip}
+use Rattle.capture_actions.specs.Names.{Slip, pushed_by, sure}
 use Rattle.port_slip.specs.Slip as slips
-use Rattle.port_slip.specs.Slip.{pushed_by, Takes}
-use Rattle.port_slip.specs.Sure.{sure}
+use Rattle.port_slip.specs.Slip.{Takes}
 use Rattle.capture_actions.specs.declared.realign.Realign.{Realign}
 
 abbrev pub plan_of : Realign → Unit {0}

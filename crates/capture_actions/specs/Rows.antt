@@ -1,11 +1,9 @@
 -- Worked rows of listings and summaries, in text.
 use Rattle.std.specs.Prelude.{ℕ, List, [], ◌∷◌, None, Some, codes}
-use Rattle.trace_values.specs.declared.reading_modes.FramesMode.{FramesMode}
+use Rattle.capture_actions.specs.Names.{FramesMode, Plan, Choice}
 use Rattle.trace_values.specs.declared.reading_modes.PacketsMode.{PacketsMode}
 use Rattle.stp_grammar.specs.declared.packet.Order.TheVariants.{Msn, Lsn}
 use Rattle.trace_values.specs.Hex.{hex}
-use Rattle.source_events.specs.declared.plan.Plan.{Plan}
-use Rattle.item_tap.specs.declared.choice.Choice.{Choice}
 use Rattle.capture_actions.specs.Listing.{listing}
 use Rattle.capture_actions.specs.Summary.{summary}
 

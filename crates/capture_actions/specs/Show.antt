@@ -1,8 +1,6 @@
 -- What the action of `show` stands for.
 use Rattle.std.specs.Prelude.{◌≡◌, ℕ, List, true, option_map}
-use Rattle.trace_values.specs.Placed.{placed}
-use Rattle.source_events.specs.Report.{stop_of}
-use Rattle.source_merge.specs.Answering.{report_of, fault_of}
+use Rattle.capture_actions.specs.Names.{placed, stop_of, report_of, fault_of}
 use Rattle.source_merge.specs.Engine as reading
 use Rattle.capture_actions.specs.Filter.{plan_by, HasSeen}
 use Rattle.capture_actions.specs.SourceClocks.{AllStand}

@@ -1,8 +1,6 @@
 -- What the clocks of all sources stand for.
 use Rattle.std.specs.Prelude.{ℕ, ◌<◌, List, Some, get_or}
-use Rattle.trace_values.specs.declared.limits.TheConstants.{ID_COUNT}
-use Rattle.source_events.specs.declared.event.Event.{Event}
-use Rattle.source_events.specs.declared.packet.Packet.{Packet}
+use Rattle.capture_actions.specs.Names.{ID_COUNT, Event, Packet}
 use Rattle.capture_actions.specs.Clocks.{Stands}
 use Rattle.capture_actions.specs.Listing.{itm_packets}
 use Rattle.capture_actions.specs.declared.clocks.Clocks.{Clocks}

@@ -1,9 +1,6 @@
 -- What `split` writes: the bytes of one ID in the cells of a port.
 use Rattle.std.specs.Prelude.{ℕ, List, [], map, false}
-use Rattle.trace_values.specs.declared.cell.Cell.{Cell}
-use Rattle.frame_grammar.specs.Reading.{source_list}
-use Rattle.deformatter.specs.PortReading.{cells_of}
-use Rattle.trace_stream.specs.Served.{Meaning}
+use Rattle.capture_actions.specs.Names.{Cell, source_list, cells_of, Meaning}
 use Rattle.capture_actions.specs.Port.{port_of, IsPortFaulty}
 use Rattle.capture_actions.specs.declared.split_plan.SplitPlan.{SplitPlan}
 

@@ -4,10 +4,7 @@ use Rattle.std.specs.List.{flat_map}
 use Rattle.std.proofs.Common.{ap, ◌∙◌}
 use Rattle.std.proofs.lemmas.List.{map-append}
 use Rattle.std.proofs.lemmas.List.Elements.{filter-append}
-use Rattle.trace_stream.specs.Written.{GrowsOnly}
-use Rattle.trace_values.specs.declared.cell.Cell.{Cell}
-use Rattle.frame_grammar.specs.Reading.{is_source, source_list}
-use Rattle.deformatter.specs.PortReading.{cells_of}
+use Rattle.capture_actions.specs.Names.{GrowsOnly, Cell, is_source, source_list, cells_of}
 use Rattle.deformatter.proofs.PortReadingLaws.{none_read}
 use Rattle.capture_actions.specs.Port.{port_of}
 use Rattle.capture_actions.specs.PortLaws as port

@@ -1,10 +1,8 @@
 -- How an action goes on after a block of the engine.
 use Rattle.std.specs.Prelude.{Option, Some}
-use Rattle.trace_stream.specs.declared.action.Flow.{Flow}
-use Rattle.trace_stream.specs.declared.action.Flow.TheVariants.{On, Stopped as Ended}
-use Rattle.source_events.specs.declared.event.Stop.{Stop}
+use Rattle.capture_actions.specs.Names.{Flow, On, Stopped as Ended, Stop, Going}
 use Rattle.source_merge.specs.declared.flow.Flow.{Flow as Reading}
-use Rattle.source_merge.specs.declared.flow.Flow.TheVariants.{Going, Stopped}
+use Rattle.source_merge.specs.declared.flow.Flow.TheVariants.{Stopped}
 
 abbrev pub flow_by : Reading → Flow
 flow_by Going = On

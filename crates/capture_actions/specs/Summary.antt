@@ -1,17 +1,10 @@
 -- What `check` writes: how many synchronisations and frames a port has, how much each source sent, and the end lines.
 use Rattle.std.specs.Prelude.{ℕ, List, [], ◌++◌, flat_map, Option, Some, None, ◌==◌, if◌then◌else◌, false}
 use Rattle.std.specs.List.{range_with_len}
-use Rattle.trace_values.specs.declared.fault.Reason.{Reason}
-use Rattle.trace_values.specs.declared.limits.TheConstants.{ID_COUNT}
-use Rattle.trace_values.specs.Placed.{Place, Placed, placed}
-use Rattle.trace_stream.specs.Served.{Meaning}
+use Rattle.capture_actions.specs.Names.{Reason, ID_COUNT, Place, Placed, placed, Meaning, Plan, port_counts_of}
+use Rattle.capture_actions.specs.Names.{source_counts_of, tails_of, fault_of, port_counts_text, tails_text, fault_line}
 use Rattle.source_counts.specs.declared.counts.Counts.{Counts}
-use Rattle.source_events.specs.declared.plan.Plan.{Plan}
-use Rattle.source_events.specs.Tails.{port_counts_of, source_counts_of, tails_of}
-use Rattle.source_merge.specs.Answering.{fault_of}
-use Rattle.trace_text.specs.CountText.{port_counts_text, source_counts_line}
-use Rattle.trace_text.specs.EndText.{tails_text}
-use Rattle.trace_text.specs.FaultText.{fault_line}
+use Rattle.trace_text.specs.CountText.{source_counts_line}
 use Rattle.capture_actions.specs.Faulty.{is_stp, IsFaulty}
 
 -- the line of a source that sent a byte

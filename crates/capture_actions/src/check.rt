@@ -2,11 +2,8 @@
 
 ghost use Rattle.source_events.specs.declared.tails.TheConstants.{GREATEST_COUNT};
 ghost use Rattle.std.specs.Prelude.{◌≡◌, ◌+◌, ◌*◌, ◌<◌, ◌≤◌, ◌++◌, [], ℕ, List, length, is_none, take, true};
-ghost use Rattle.trace_values.specs.Placed.{Placed, placed_from};
-ghost use Rattle.source_events.specs.Plan.{is_sound};
-ghost use Rattle.source_events.specs.Tails.{source_counts_of};
+ghost use Rattle.capture_actions.specs.Names.{Placed, placed_from, is_sound, source_counts_of, is_live};
 ghost use Rattle.source_merge.specs.Engine as engine;
-ghost use Rattle.source_merge.specs.Engine.{is_live};
 ghost use Rattle.source_merge.specs.declared.engine.TheConstants.{GREATEST_OFFSET};
 ghost use Rattle.capture_actions.specs.Summary.{source_text, sources_text};
 

@@ -1,9 +1,7 @@
 //! The clocks of an ITM source, and what they say beside its timestamps.
 
 ghost use Rattle.std.specs.Prelude.{◌≡◌, ◌++◌, ◌∷◌, [], List};
-ghost use Rattle.itm_grammar.specs.Proper.{IsProper};
-ghost use Rattle.itm_grammar.specs.declared.packet.ItmPacket.{ItmPacket};
-ghost use Rattle.trace_text.specs.Printable.{SuitsPacket};
+ghost use Rattle.capture_actions.specs.Names.{IsProper, ItmPacket, SuitsPacket};
 ghost use Rattle.capture_actions.specs.Remarks.{is_stamp, remark_by};
 ghost use Rattle.capture_actions.specs.Clocks.{Stands};
 

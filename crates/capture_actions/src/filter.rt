@@ -1,9 +1,7 @@
 //! Which events of a capture are listed.
 
 ghost use Rattle.std.specs.Prelude.{◌≡◌, ◌↔◌, ◌++◌, ◌∷◌, [], List, IsTrue, not, ◌||◌, ◌&&◌, is_none};
-ghost use Rattle.source_events.specs.declared.event.Event.{Event};
-ghost use Rattle.source_events.specs.declared.packet.Packet.{Packet};
-ghost use Rattle.source_events.specs.Report.{is_item};
+ghost use Rattle.capture_actions.specs.Names.{Event, Packet, is_item};
 ghost use Rattle.capture_actions.specs.Listing.{meets, is_within, is_listed};
 
 use item_tap::{Bounds, Choice, ChoiceWindow};

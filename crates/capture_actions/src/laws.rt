@@ -1,12 +1,7 @@
 //! Laws of listings, over their definitions alone.
 
 ghost use Rattle.std.specs.Prelude.{◌≡◌, ◌<◌, ◌≤◌, ◌^◌, ℕ, List, ◌++◌, length, flat_map, sum, Some};
-ghost use Rattle.trace_values.specs.Placed.{placed};
-ghost use Rattle.trace_stream.specs.declared.limits.TheConstants.{GREATEST_CAPTURE};
-ghost use Rattle.source_events.specs.declared.event.Event.{Event};
-ghost use Rattle.source_events.specs.declared.packet.Packet.{Packet};
-ghost use Rattle.source_events.specs.declared.plan.Plan.{Plan};
-ghost use Rattle.source_merge.specs.Answering.{report_of};
+ghost use Rattle.capture_actions.specs.Names.{placed, GREATEST_CAPTURE, Event, Packet, Plan, report_of};
 ghost use Rattle.capture_actions.specs.declared.list_plan.ListPlan.{ListPlan};
 ghost use Rattle.capture_actions.specs.Filtered.{unfiltered, marked, all_lines, listed_lines};
 ghost use Rattle.capture_actions.specs.Listing.{ending, itm_packets, listed};

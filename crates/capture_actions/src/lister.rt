@@ -2,20 +2,14 @@
 
 ghost use Rattle.std.specs.Prelude.{◌≡◌, ◌+◌, ◌≤◌, ◌++◌, ◌∷◌, [], List, Some, false, length};
 ghost use Rattle.std.specs.Prelude.{if◌then◌else◌};
-ghost use Rattle.itm_grammar.specs.Proper.{IsProper};
-ghost use Rattle.source_events.specs.declared.event.Event.{Event};
+ghost use Rattle.capture_actions.specs.Names.{IsProper, Event, Packet, Itm, EventFits, PacketFits, packet_event};
+ghost use Rattle.capture_actions.specs.Names.{StpItem, event_line, Suits, TEXT_ROOM, OUTLET_ROOM};
 ghost use Rattle.source_events.specs.declared.event.What.TheVariants.{Packet as GivenPacket};
-ghost use Rattle.source_events.specs.declared.packet.Packet.{Packet};
-ghost use Rattle.source_events.specs.declared.packet.Packet.TheVariants.{Itm};
-ghost use Rattle.source_events.specs.Fitting.{EventFits, PacketFits};
 ghost use Rattle.std.specs.Option.{is_some};
 ghost use Rattle.std.specs.Prelude.{true};
-ghost use Rattle.source_merge.specs.Receiver.{packet_event, trigger_event};
+ghost use Rattle.source_merge.specs.Receiver.{trigger_event};
 ghost use Rattle.stp_grammar.specs.Said.{said_item, IsProperSaid};
-ghost use Rattle.stp_grammar.specs.declared.item.StpItem.{StpItem};
-ghost use Rattle.trace_text.specs.LineText.{event_line, itm_event, raw_event, stp_event};
-ghost use Rattle.trace_text.specs.Printable.{Suits};
-ghost use Rattle.trace_stream.specs.declared.outlet.TheConstants.{TEXT_ROOM, OUTLET_ROOM};
+ghost use Rattle.trace_text.specs.LineText.{itm_event, raw_event, stp_event};
 ghost use Rattle.capture_actions.specs.Faulty.{is_stp};
 ghost use Rattle.capture_actions.specs.Filter.{plan_by, HasSeen};
 ghost use Rattle.capture_actions.specs.Listing.{is_listed, itm_packets, line_after, remark_of};

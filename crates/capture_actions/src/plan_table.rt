@@ -1,7 +1,7 @@
 //! The plan of a capture, with a table of the sources that send STP packets.
 
 ghost use Rattle.std.specs.Prelude.{◌≡◌, Some};
-ghost use Rattle.source_events.specs.declared.plan.Plan.{Plan};
+ghost use Rattle.capture_actions.specs.Names.{Plan};
 ghost use Rattle.capture_actions.specs.Faulty.{is_stp, IsTable};
 
 use source_events::{Plan, SourceIds};

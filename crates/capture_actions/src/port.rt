@@ -2,18 +2,13 @@
 
 ghost use Rattle.std.specs.Prelude.{◌≡◌, ◌+◌, ◌<◌, ◌≤◌, ◌++◌, [], ℕ, List, length, take, true, is_none};
 ghost use Rattle.std.specs.Prelude.{option_map, Option, IsTrue};
-ghost use Rattle.frame_grammar.specs.Frame.{id_after};
-ghost use Rattle.frame_grammar.specs.Whole.{IsWhole};
-ghost use Rattle.deformatter.specs.Growth.{goes_on, fault_by};
-ghost use Rattle.deformatter.specs.declared.step.PortStep.TheVariants.{Quiet};
+ghost use Rattle.capture_actions.specs.Names.{id_after, IsWhole, fault_by, Quiet, GrowsByFrame, told, FlowAfter};
+ghost use Rattle.capture_actions.specs.Names.{GREATEST_CAPTURE};
+ghost use Rattle.deformatter.specs.Growth.{goes_on};
 ghost use Rattle.deformatter.specs.Reader.{is_live, tail_of, skipped_by};
-ghost use Rattle.deformatter.specs.ReadingGrowth.{GrowsByFrame};
-ghost use Rattle.trace_text.specs.FaultText.{told};
-ghost use Rattle.trace_stream.specs.Taken.{FlowAfter};
 ghost use Rattle.capture_actions.specs.Port.{port_of, IsPortFaulty};
 ghost use Rattle.capture_actions.specs.PortGrowth.{Grew, whole_cells};
 ghost use Rattle.capture_actions.specs.Flows.{flow_by};
-ghost use Rattle.trace_stream.specs.declared.limits.TheConstants.{GREATEST_CAPTURE};
 
 use arrayvec::ArrayVec;
 use deformatter::{PortReader, PortStep, Taken};

@@ -1,11 +1,7 @@
 //! The action `realign`.
 
 ghost use Rattle.std.specs.Prelude.{◌≡◌, ◌+◌, ◌≤◌, ◌++◌, ◌∷◌, [], ℕ, List, length, take};
-ghost use Rattle.trace_stream.specs.declared.outlet.TheConstants.{OUTLET_ROOM};
-ghost use Rattle.trace_stream.specs.declared.action.TheConstants.{ACTION_ROOM};
-ghost use Rattle.trace_stream.specs.declared.limits.TheConstants.{GREATEST_CAPTURE};
-ghost use Rattle.port_slip.specs.Slip.{pushed_by};
-ghost use Rattle.port_slip.specs.Segments.{realigned};
+ghost use Rattle.capture_actions.specs.Names.{OUTLET_ROOM, ACTION_ROOM, GREATEST_CAPTURE, pushed_by, realigned};
 ghost use Rattle.capture_actions.specs.Realigned.{realign_text, realign_ending};
 ghost use Rattle.capture_actions.specs.Realigner.{Pushes};
 

@@ -1,11 +1,7 @@
 //! `show`: the listing of the events of a capture.
 
 ghost use Rattle.std.specs.Prelude.{◌≡◌, ◌+◌, ◌<◌, ◌≤◌, [], List, length, is_none, true};
-ghost use Rattle.trace_stream.specs.declared.action.Flow.TheVariants.{On};
-ghost use Rattle.trace_stream.specs.declared.action.TheConstants.{ACTION_ROOM};
-ghost use Rattle.source_events.specs.Plan.{is_sound};
-ghost use Rattle.source_merge.specs.Engine.{is_live};
-ghost use Rattle.trace_stream.specs.declared.outlet.TheConstants.{OUTLET_ROOM};
+ghost use Rattle.capture_actions.specs.Names.{On, ACTION_ROOM, is_sound, is_live, OUTLET_ROOM};
 
 use crate::list_plan::ListPlan;
 use crate::lister::Lister;

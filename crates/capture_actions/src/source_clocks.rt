@@ -1,15 +1,9 @@
 //! The clocks of all sources.
 
 ghost use Rattle.std.specs.Prelude.{◌≡◌, ◌<◌, ◌++◌, ◌∷◌, [], ℕ, List, Some, false, get_or};
-ghost use Rattle.itm_grammar.specs.declared.packet.ItmPacket.{ItmPacket};
-ghost use Rattle.itm_grammar.specs.Proper.{IsProper};
-ghost use Rattle.source_events.specs.declared.event.Event.{Event};
+ghost use Rattle.capture_actions.specs.Names.{ItmPacket, IsProper, Event, Packet, Itm, EventFits, PacketFits, Suits};
+ghost use Rattle.capture_actions.specs.Names.{SuitsPacket, None as NoRemark};
 ghost use Rattle.source_events.specs.declared.event.What.TheVariants.{Packet as Said};
-ghost use Rattle.source_events.specs.declared.packet.Packet.{Packet};
-ghost use Rattle.source_events.specs.declared.packet.Packet.TheVariants.{Itm};
-ghost use Rattle.source_events.specs.Fitting.{EventFits, PacketFits};
-ghost use Rattle.trace_text.specs.Printable.{Suits, SuitsPacket};
-ghost use Rattle.trace_text.specs.declared.remark.Remark.TheVariants.{None as NoRemark};
 ghost use Rattle.capture_actions.specs.Remarks.{is_stamp};
 ghost use Rattle.capture_actions.specs.Listing.{itm_packet, itm_packets, remark_of};
 ghost use Rattle.capture_actions.specs.SourceClocks.{AllStand};

@@ -1,9 +1,7 @@
 //! `split`: the bytes of one ID in the cells of a port.
 
 ghost use Rattle.std.specs.Prelude.{◌≡◌, ◌+◌, ◌≤◌, ◌++◌, length, option_map};
-ghost use Rattle.trace_stream.specs.declared.outlet.TheConstants.{OUTLET_ROOM};
-ghost use Rattle.frame_grammar.specs.Reading.{is_source};
-ghost use Rattle.trace_text.specs.FaultText.{told};
+ghost use Rattle.capture_actions.specs.Names.{OUTLET_ROOM, is_source, told};
 ghost use Rattle.capture_actions.specs.CapturePort.{frames_mode};
 ghost use Rattle.capture_actions.specs.Split.{bytes_of_id};
 

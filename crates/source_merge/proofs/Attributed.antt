@@ -5,16 +5,12 @@ use Rattle.std.specs.Prelude.{is_none}
 use Rattle.std.specs.List.{count_by}
 use Rattle.std.proofs.lemmas.List.{length-map}
 use Rattle.std.proofs.lemmas.List.Sums.{sum_by-append}
-use Rattle.trace_values.specs.declared.cell.Cell.{Cell}
-use Rattle.trace_values.specs.Placed.{Placed, byte_at}
-use Rattle.trace_values.specs.declared.reading_modes.FramesMode.{FramesMode}
-use Rattle.frame_grammar.specs.Reading.{source_list}
-use Rattle.deformatter.specs.PortReading.{port_reading}
+use Rattle.source_merge.specs.Names.{Cell, Placed, byte_at, FramesMode, source_list, port_reading, unattributed_of}
+use Rattle.source_merge.specs.Names.{runs_of, all_runs, id_of, runs_in}
 use Rattle.deformatter.specs.Runs.{HaveRuns}
 use Rattle.deformatter.proofs.PortReadingLaws.{frames_have_runs}
-use Rattle.source_counts.specs.Counts.{bytes_of, unattributed_of}
-use Rattle.source_events.specs.Runs.{runs_of, all_runs, id_of, joined}
-use Rattle.source_events.specs.Report.{runs_in}
+use Rattle.source_counts.specs.Counts.{bytes_of}
+use Rattle.source_events.specs.Runs.{joined}
 use Rattle.source_events.proofs.Merges.{same_or_not, test_same, test_other}
 use Rattle.source_events.proofs.RunNumbers.{SameIds, same_ids, all_cells, lists_are}
 use Rattle.source_merge.specs.Counting.{bytes_in, unattributed_in}

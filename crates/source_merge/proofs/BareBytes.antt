@@ -2,19 +2,11 @@
 use Rattle.std.proofs.Common.{◌≡◌, ◌≢◌, ℕ, ◌+◌, ◌≤◌, List, [], ◌∷◌, ◌++◌, refl, sym, ◌∙◌, ap, subst, append-nil, arith}
 use Rattle.std.proofs.Common.{None, Some, true}
 use Rattle.std.proofs.lemmas.List.{map-append}
-use Rattle.trace_values.specs.declared.cell.Cell.{Cell}
-use Rattle.trace_values.specs.declared.fault.Fault.{Fault}
-use Rattle.trace_values.specs.Placed.{Place, Placed, byte_at}
-use Rattle.trace_values.specs.Stream.{Said}
-use Rattle.trace_values.specs.declared.reading_modes.FramesMode.TheVariants.{Bare}
-use Rattle.frame_grammar.specs.Reading.{is_source}
-use Rattle.deformatter.specs.PortReading.{bare_cell, port_reading}
-use Rattle.deformatter.specs.Rising.{BytesRise}
-use Rattle.source_events.specs.declared.event.Event.{Event}
+use Rattle.source_merge.specs.Names.{Cell, Fault, Place, Placed, byte_at, Said, Bare, is_source, bare_cell}
+use Rattle.source_merge.specs.Names.{port_reading, BytesRise, Event, all_runs, runs_of, id_of, IsRunFrom, list_of}
+use Rattle.source_merge.specs.Names.{told, grown, merged_from, Below, Mapped, IsLawful, AreLawful, lifted, events}
+use Rattle.source_merge.specs.Names.{runs_in}
 use Rattle.std.proofs.lemmas.Grind.{flat_map-append}
-use Rattle.source_events.specs.Runs.{all_runs, runs_of, id_of, IsRunFrom, list_of}
-use Rattle.source_events.specs.Merge.{told, grown, merged_from, Below}
-use Rattle.source_events.specs.Report.{Mapped, IsLawful, AreLawful, lifted, events, runs_in}
 use Rattle.source_events.proofs.Family.{list_own, list_other}
 use Rattle.source_events.proofs.Least.{AreSound, least_at}
 use Rattle.source_events.proofs.Merges.{test_same, test_other}

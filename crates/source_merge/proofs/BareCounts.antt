@@ -3,12 +3,7 @@ use Rattle.std.proofs.Common.{◌≡◌, ℕ, ◌+◌, List, [], ◌∷◌, ◌+
 use Rattle.std.proofs.Common.{false, cond, inl, inr, length-append}
 use Rattle.std.specs.Prelude.{◌==◌}
 use Rattle.std.proofs.lemmas.List.{length-map}
-use Rattle.trace_values.specs.declared.cell.Cell.{Cell}
-use Rattle.trace_values.specs.Placed.{Placed, byte_at}
-use Rattle.trace_values.specs.declared.reading_modes.FramesMode.TheVariants.{Bare}
-use Rattle.deformatter.specs.PortReading.{bare_cell, port_reading}
-use Rattle.source_events.specs.Runs.{list_of}
-use Rattle.source_events.specs.Report.{runs_in}
+use Rattle.source_merge.specs.Names.{Cell, Placed, byte_at, Bare, bare_cell, port_reading, list_of, runs_in}
 use Rattle.source_events.proofs.Blocks.{bare_runs}
 use Rattle.source_events.proofs.Merges.{same_or_not, test_same, test_other}
 use Rattle.source_merge.specs.Counting.{bytes_in, unattributed_in}

@@ -2,16 +2,9 @@
 use Rattle.std.proofs.Common.{◌≡◌, ℕ, ◌+◌, List, [], ◌∷◌, ◌++◌, length, sym, ◌∙◌, ap, subst, append_assoc, append-nil}
 use Rattle.std.proofs.Common.{None, Some}
 use Rattle.std.proofs.lemmas.List.{append_cancel_left}
-use Rattle.trace_values.specs.declared.fault.Fault.{Fault}
-use Rattle.trace_values.specs.Placed.{Place, Placed, byte_at, placed_from}
-use Rattle.trace_values.specs.Stream.{Said}
-use Rattle.trace_values.specs.declared.reading_modes.FramesMode.TheVariants.{Bare}
-use Rattle.deformatter.specs.PortReading.{port_reading}
-use Rattle.deformatter.specs.Rising.{BytesRise}
-use Rattle.source_events.specs.declared.event.Event.{Event}
-use Rattle.source_events.specs.Merge.{told}
-use Rattle.source_events.specs.Runs.{list_of}
-use Rattle.source_events.specs.Report.{Mapped, AreLawful, lifted, report, runs_in, stop_in, stop_of}
+use Rattle.source_merge.specs.Names.{Fault, Place, Placed, byte_at, placed_from, Said, Bare, port_reading, BytesRise}
+use Rattle.source_merge.specs.Names.{Event, told, list_of, Mapped, AreLawful, lifted, report, runs_in, stop_in}
+use Rattle.source_merge.specs.Names.{stop_of}
 use Rattle.source_events.proofs.Least.{AreSound}
 use Rattle.source_events.proofs.Merges.{told_append}
 use Rattle.std.specs.Option.{option_map}

@@ -1,15 +1,9 @@
 -- The bytes of each source of a capture with no formatter, as more of them come.
 use Rattle.std.proofs.Common.{◌≡◌, ◌≢◌, ℕ, ◌+◌, List, [], ◌∷◌, ◌++◌, sym, ◌∙◌, ap, subst, append_assoc, append-nil}
-use Rattle.trace_values.specs.Placed.{Placed, byte_at, placed_from}
-use Rattle.trace_values.specs.declared.reading_modes.FramesMode.{FramesMode}
-use Rattle.trace_values.specs.declared.reading_modes.FramesMode.TheVariants.{Bare}
+use Rattle.source_merge.specs.Names.{Placed, byte_at, placed_from, FramesMode, Bare, port_reading, runs_in, list_of}
+use Rattle.source_merge.specs.Names.{SourceMachine, reading_of, Stands}
 use Rattle.deformatter.specs.declared.reader.PortReader.{PortReader}
 use Rattle.deformatter.specs.Reader.{Stands as PortStands, StandsByMode, mode_of}
-use Rattle.deformatter.specs.PortReading.{port_reading}
-use Rattle.source_events.specs.Report.{runs_in}
-use Rattle.source_events.specs.Runs.{list_of}
-use Rattle.source_machine.specs.declared.machine.SourceMachine.{SourceMachine}
-use Rattle.source_machine.specs.Machine.{reading_of, Stands}
 use Rattle.source_merge.specs.declared.slot.Slot.{Slot}
 use Rattle.source_merge.specs.Routing.{mapped_of, AllStand, HasNot}
 use Rattle.source_merge.proofs.BareBytes.{lists_other, lists_push}

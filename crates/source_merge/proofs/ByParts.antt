@@ -1,15 +1,8 @@
 -- What is said of runs that are fed and taken, by their parts.
 use Rattle.std.proofs.Common.{ℕ, Bool, List, Option}
-use Rattle.trace_values.specs.declared.cell.Cell.{Cell}
-use Rattle.trace_values.specs.declared.fault.Fault.{Fault}
-use Rattle.trace_values.specs.Placed.{Placed}
-use Rattle.trace_values.specs.Stream.{Stream}
-use Rattle.source_events.specs.declared.event.Event.{Event}
-use Rattle.source_events.specs.declared.event.Stop.{Stop}
-use Rattle.source_events.specs.Report.{Mapped}
+use Rattle.source_merge.specs.Names.{Cell, Fault, Placed, Stream, Event, Stop, Mapped, FramesMode}
 use Rattle.source_merge.specs.declared.slot.Slot.{Slot}
 use Rattle.source_merge.specs.Feeding.{Feeds}
-use Rattle.trace_values.specs.declared.reading_modes.FramesMode.{FramesMode}
 use Rattle.source_merge.specs.Routing.{SlotFed, Took}
 use Rattle.source_merge.specs.Stepping.{StepTaken}
 

@@ -1,10 +1,7 @@
 -- What is counted of each source.
 use Rattle.std.proofs.Common.{◌≡◌, ℕ, ◌+◌, List, [], ◌∷◌, ◌++◌, length, refl, ◌∙◌, ap, arith, Bool, true, false, cond, length-append}
 use Rattle.std.proofs.lemmas.List.{length-map}
-use Rattle.trace_values.specs.declared.cell.Cell.{Cell}
-use Rattle.trace_values.specs.Placed.{byte_at}
-use Rattle.frame_grammar.specs.Reading.{is_source}
-use Rattle.source_events.specs.Runs.{id_of, placed_run, list_of}
+use Rattle.source_merge.specs.Names.{Cell, byte_at, is_source, id_of, placed_run, list_of}
 use Rattle.source_merge.specs.Counting.{bytes_in}
 use Rattle.source_events.proofs.Family.{list_own, list_other}
 

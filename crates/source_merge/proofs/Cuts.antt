@@ -3,10 +3,8 @@ use Rattle.std.proofs.Common.{◌≡◌, ℕ, ◌+◌, ◌-◌, ◌*◌, ◌/◌
 use Rattle.std.specs.Prelude.{slice_index, nat_lt, if◌then◌else◌, ◌==◌}
 use Rattle.std.proofs.lemmas.Bool.Decides.{nat_tests}
 use Rattle.std.proofs.lemmas.Bool.{cases_lt, true≢false}
-use Rattle.trace_values.specs.Cells.{source_id}
-use Rattle.frame_grammar.specs.Frame.{aux_bit, cells, names}
-use Rattle.frame_runs.specs.Gathered.{frame_places}
-use Rattle.frame_runs.specs.Pairs.{end_at, ends_from, ends_left, is_end}
+use Rattle.source_merge.specs.Names.{source_id, aux_bit, cells, names, frame_places, ends_from, ends_left}
+use Rattle.frame_runs.specs.Pairs.{end_at, is_end}
 use Rattle.source_merge.specs.Split.{AreInPlace, IsSplit, split_places}
 use Rattle.source_merge.specs.declared.split.Begun.{Begun}
 use Rattle.source_merge.specs.declared.split.SplitFrame.{SplitFrame}

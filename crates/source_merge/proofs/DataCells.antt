@@ -1,8 +1,6 @@
 -- The cells of bytes of one source.
 use Rattle.std.proofs.Common.{◌≡◌, ℕ, zero, suc, ◌<◌, ◌≤◌, List, [], ◌∷◌, length, take, get_or, refl, ap, arith, Option}
-use Rattle.trace_values.specs.declared.cell.Cell.{Cell}
-use Rattle.source_events.specs.Runs.{bytes_of, id_of}
-use Rattle.frame_runs.specs.Data.{run_cells}
+use Rattle.source_merge.specs.Names.{Cell, bytes_of, id_of, run_cells}
 
 pub cells_length : (offsets : List ℕ) (id : Option ℕ) (run : ℕ) (bytes : List ℕ) → length bytes ≤ length offsets →
     length (run_cells offsets id run bytes) ≡ length bytes

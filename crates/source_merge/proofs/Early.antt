@@ -2,15 +2,9 @@
 use Rattle.std.proofs.Common.{◌≡◌, ℕ, ◌+◌, ◌≤◌, List, [], ◌∷◌, ◌++◌, sym, ◌∙◌, ap, subst, append_assoc, append-nil, arith, Option, Some, false}
 use Rattle.std.specs.Prelude.{is_none}
 use Rattle.std.proofs.lemmas.List.{append_cancel_left}
-use Rattle.trace_values.specs.declared.cell.Cell.{Cell}
-use Rattle.trace_values.specs.declared.fault.Fault.{Fault}
-use Rattle.trace_values.specs.declared.fault.Reason.{Reason}
-use Rattle.trace_values.specs.declared.step.Step.{Step}
-use Rattle.trace_values.specs.declared.step.Step.TheVariants.{Quiet, Skipping, Item, Locked, Fault as Faulty}
-use Rattle.trace_values.specs.Placed.{Place, Placed, byte_at}
-use Rattle.trace_values.specs.Stream.{Said, Stream, Grows, Rises, Settled}
-use Rattle.source_events.specs.Runs.{placed_run, RisesFrom}
-use Rattle.source_events.specs.Merge.{start_of, AllIn}
+use Rattle.source_merge.specs.Names.{Cell, Fault, Reason, Step, Quiet, Skipping, Item, Locked, Place, Placed, byte_at}
+use Rattle.source_merge.specs.Names.{Said, Stream, Grows, Rises, Settled, placed_run, RisesFrom, start_of, AllIn}
+use Rattle.trace_values.specs.declared.step.Step.TheVariants.{Fault as Faulty}
 use Rattle.source_merge.specs.Feeding.{step_fault}
 use Rattle.source_events.proofs.Merges.{at_most_self}
 use Rattle.source_events.proofs.Family.{Within, run_more}

@@ -9,19 +9,8 @@ use Rattle.std.proofs.lemmas.Bool.Decides.{nat_tests}
 use Rattle.std.proofs.lemmas.Grind.{flat_map-append}
 use Rattle.std.proofs.lemmas.List.{map-append}
 use Rattle.std.proofs.lemmas.List.Sums.{sum_by-append, count_by-le-length}
-use Rattle.trace_values.specs.declared.cell.Cell.{Cell}
-use Rattle.trace_values.specs.Placed.{Placed}
-use Rattle.trace_values.specs.Stream.{Stream}
-use Rattle.source_events.specs.declared.packet.Packet.{Packet}
-use Rattle.source_events.specs.declared.plan.Plan.{Plan}
-use Rattle.source_events.specs.declared.plan.SourceKind.{SourceKind}
-use Rattle.source_events.specs.declared.plan.SourceKind.TheVariants.{Itm, Stp}
-use Rattle.source_events.specs.Plan.{stream_of, sources_by, kind_of}
-use Rattle.deformatter.specs.PortReading.{PortReading}
-use Rattle.source_events.specs.declared.tails.SourceTail.{SourceTail}
-use Rattle.source_events.specs.Report.{Mapped}
-use Rattle.source_events.specs.Tails.{source_tails, tail_by}
-use Rattle.source_events.specs.Runs.{list_of}
+use Rattle.source_merge.specs.Names.{Cell, Placed, Stream, Packet, Plan, SourceKind, Itm, Stp, stream_of, sources_by}
+use Rattle.source_merge.specs.Names.{kind_of, PortReading, SourceTail, Mapped, source_tails, tail_by, list_of}
 use Rattle.source_events.proofs.Merges.{test_same, test_other}
 use Rattle.source_merge.specs.declared.slot.Slot.{Slot}
 use Rattle.source_merge.specs.Routing.{mapped_of, AllStand, HasNot}

@@ -2,18 +2,8 @@
 use Rattle.std.proofs.Common.{◌≡◌, ℕ, zero, suc, ◌+◌, ◌-◌, ◌*◌, ◌<◌, ◌≤◌, ◌++◌, List, [], ◌∷◌, length, take, drop, get_or, refl, sym, ◌∙◌, subst, arith, true, false, Option, None, Some}
 use Rattle.std.specs.Prelude.{is_none}
 use Rattle.std.proofs.lemmas.List.{take-append-drop}
-use Rattle.trace_values.specs.declared.cell.Cell.{Cell}
-use Rattle.trace_values.specs.declared.fault.Fault.{Fault}
-use Rattle.trace_values.specs.Placed.{Placed}
-use Rattle.trace_values.specs.Stream.{Said, Settled, Stream}
-use Rattle.trace_values.specs.Block.{given_after}
-use Rattle.trace_values.specs.declared.step.Step.{Step}
-use Rattle.source_events.specs.declared.event.Event.{Event}
-use Rattle.source_events.specs.declared.packet.Packet.{Packet}
-use Rattle.source_events.specs.Merge.{told, start_of, AllIn}
-use Rattle.source_events.specs.Report.{lifted}
-use Rattle.source_events.specs.Runs.{placed_run, bytes_of, RisesFrom}
-use Rattle.source_machine.specs.Finding.{PassesOver}
+use Rattle.source_merge.specs.Names.{Cell, Fault, Placed, Said, Settled, Stream, given_after, Step, Event, Packet}
+use Rattle.source_merge.specs.Names.{told, start_of, AllIn, lifted, placed_run, bytes_of, RisesFrom, PassesOver}
 use Rattle.source_merge.specs.declared.counts.PerSource.{PerSource}
 use Rattle.source_merge.specs.Counting.{total_of}
 use Rattle.source_merge.specs.Feeding.{IsEarly, IsEarlyFrom}

@@ -1,11 +1,6 @@
 -- A frame of which some runs are taken.
 use Rattle.std.proofs.Common.{◌≡◌, ℕ, List, ◌++◌}
-use Rattle.trace_values.specs.declared.cell.Cell.{Cell}
-use Rattle.trace_values.specs.Placed.{Placed}
-use Rattle.source_events.specs.declared.event.Event.{Event}
-use Rattle.source_events.specs.Runs.{RisesFrom, id_of}
-use Rattle.source_events.specs.Merge.{merged_from}
-use Rattle.source_events.specs.Report.{Mapped, events}
+use Rattle.source_merge.specs.Names.{Cell, Placed, Event, RisesFrom, id_of, merged_from, Mapped, events}
 use Rattle.source_merge.specs.declared.slot.Slot.{Slot}
 use Rattle.source_merge.specs.Routing.{AllStand, RunsBetween}
 

@@ -1,14 +1,11 @@
 -- What the events of a run tell is in its range.
 use Rattle.std.proofs.Common.{◌≡◌, ℕ, List, [], ◌∷◌, ◌++◌, refl, Some}
 use Rattle.std.proofs.lemmas.List.Elements.{All-append, All-cons, All-nil, All-same}
-use Rattle.trace_values.specs.declared.step.Step.{Step}
-use Rattle.trace_values.specs.declared.step.Step.TheVariants.{Quiet, Skipping, Item, Locked, Fault}
-use Rattle.trace_values.specs.Stream.{StepFits, given_by}
-use Rattle.source_events.specs.declared.event.Event.{Event}
-use Rattle.source_events.specs.Merge.{told}
-use Rattle.source_events.specs.Report.{lifted}
+use Rattle.source_merge.specs.Names.{Step, Quiet, Skipping, Item, Locked, StepFits, given_by, Event, told, lifted}
+use Rattle.source_merge.specs.Names.{AllFit}
+use Rattle.trace_values.specs.declared.step.Step.TheVariants.{Fault}
 use Rattle.source_events.specs.declared.event.What.TheVariants.{Packet, Locked as LockedAt}
-use Rattle.source_events.specs.Fitting.{WhatFits, AllFit}
+use Rattle.source_events.specs.Fitting.{WhatFits}
 
 module _ {V : Type 0} (fits : V → Type 0) where
   abbrev EventFits : Event V → Type 0

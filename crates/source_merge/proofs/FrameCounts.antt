@@ -7,22 +7,11 @@ use Rattle.std.proofs.lemmas.List.{length-append}
 use Rattle.std.proofs.lemmas.List.Elements.{filter-append}
 use Rattle.std.proofs.lemmas.List.Sums.{sum_by_push, sum_by-append}
 use Rattle.std.proofs.lemmas.List.Concat.{flat_map-append}
-use Rattle.trace_values.specs.declared.cell.Cell.{Cell}
-use Rattle.trace_values.specs.declared.fault.Reason.{Reason}
-use Rattle.trace_values.specs.Placed.{Place, Placed}
-use Rattle.trace_values.specs.declared.reading_modes.FramesMode.{FramesMode}
-use Rattle.frame_grammar.specs.Reading.{is_source, source_list}
-use Rattle.deformatter.specs.ReadingGrowth.{GrowsByFrame}
-use Rattle.deformatter.specs.PortReading.{port_reading}
-use Rattle.deformatter.specs.Rising.{BytesRise}
-use Rattle.source_counts.specs.Counts.{all_cells, bytes_of, items_of, unattributed_of, frame_items}
-use Rattle.source_events.specs.declared.event.Event.{Event}
-use Rattle.source_events.specs.declared.packet.Packet.{Packet}
-use Rattle.source_events.specs.declared.plan.Plan.{Plan}
-use Rattle.source_events.specs.Plan.{sources_by}
-use Rattle.source_events.specs.Report.{Mapped, lesser, of_source, report, runs_in, stop_in}
-use Rattle.source_events.specs.Runs.{all_runs, runs_of}
-use Rattle.source_events.specs.Tails.{items_in}
+use Rattle.source_merge.specs.Names.{Cell, Reason, Place, Placed, FramesMode, is_source, source_list, GrowsByFrame}
+use Rattle.source_merge.specs.Names.{port_reading, BytesRise, items_of, unattributed_of, Event, Packet, Plan}
+use Rattle.source_merge.specs.Names.{sources_by, Mapped, lesser, of_source, report, runs_in, stop_in, all_runs}
+use Rattle.source_merge.specs.Names.{runs_of, items_in}
+use Rattle.source_counts.specs.Counts.{all_cells, bytes_of, frame_items}
 use Rattle.source_events.proofs.ReportCounts.{items_counted}
 use Rattle.source_merge.specs.declared.counts.ByteCounts.{ByteCounts}
 use Rattle.source_merge.specs.declared.counts.PerSource.{PerSource}

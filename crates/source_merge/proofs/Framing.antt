@@ -1,17 +1,12 @@
 -- A frame that is taken run by run, and what it adds to the report.
 use Rattle.std.proofs.Common.{◌≡◌, ℕ, ◌+◌, ◌<◌, ◌≤◌, List, [], ◌∷◌, ◌++◌, length, take, drop, refl, sym, ◌∙◌, ap, subst, append_assoc, append-nil, arith, Option, None, Some}
-use Rattle.trace_values.specs.declared.cell.Cell.{Cell}
-use Rattle.trace_values.specs.declared.fault.Reason.{Reason}
-use Rattle.trace_values.specs.Placed.{Place, Placed}
-use Rattle.source_events.specs.declared.event.Event.{Event}
-use Rattle.source_events.specs.declared.event.Stop.{Stop}
+use Rattle.source_merge.specs.Names.{Cell, Reason, Place, Placed, Event, Stop, id_of, runs_of, run_length, RisesFrom}
+use Rattle.source_merge.specs.Names.{IsRunFrom, end_of, more_of, grown, merged_from, InOrder, cut, Below, Mapped}
+use Rattle.source_merge.specs.Names.{AreLawful, events, least_fault, all_events, reported, stop_of}
 use Rattle.source_merge.specs.declared.slot.Slot.{Slot}
-use Rattle.source_events.specs.Runs.{id_of, runs_of, run_length, RisesFrom, IsRunFrom, end_of, more_of}
-use Rattle.source_events.specs.Merge.{grown, merged_from, InOrder, cut, Below, From}
-use Rattle.source_events.specs.Report.{Mapped, AreLawful, events, least_fault, all_events, reported}
+use Rattle.source_events.specs.Merge.{From}
 use Rattle.source_merge.specs.Routing.{AllStand, RunsBetween, Stops, Fed}
 use Rattle.source_events.proofs.Least.{AreSound}
-use Rattle.source_events.specs.Report.{stop_of}
 use Rattle.source_events.proofs.Merges.{merged_append, cut_below, cut_behind, cut_append, below, below_append, below_weaker, from, from_weaker, between_end}
 use Rattle.source_events.proofs.Family.{adds}
 use Rattle.source_events.proofs.Running.{runs_cut, runs_in_order, end_within, rises_take, rises_behind}

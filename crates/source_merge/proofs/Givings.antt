@@ -1,7 +1,6 @@
 -- Events that are given one after the other.
 use Rattle.std.proofs.Common.{◌≡◌, ◌++◌, [], List, sym, subst, append_assoc, append-nil}
-use Rattle.source_events.specs.declared.event.Event.{Event}
-use Rattle.source_events.specs.declared.packet.Packet.{Packet}
+use Rattle.source_merge.specs.Names.{Event, Packet}
 use Rattle.source_merge.specs.declared.counts.PerSource.{PerSource}
 use Rattle.source_merge.specs.Counting.{HasItems}
 use Rattle.source_merge.specs.Giving.{Given}

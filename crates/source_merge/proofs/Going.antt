@@ -3,33 +3,20 @@ use Rattle.std.proofs.Common.{◌≡◌, ℕ, ◌+◌, ◌<◌, ◌≤◌, List,
 use Rattle.std.proofs.Common.{append_assoc, append-nil, arith, Option, None, inl, inr, length-append}
 use Rattle.std.specs.Option.{option_map}
 use Rattle.std.proofs.lemmas.List.{map-append}
-use Rattle.trace_values.specs.declared.cell.Cell.{Cell}
-use Rattle.trace_values.specs.Placed.{Place, Placed, byte_at, placed_from}
+use Rattle.source_merge.specs.Names.{Cell, Place, Placed, byte_at, placed_from, offsets_of, EachByte, FedAs}
+use Rattle.source_merge.specs.Names.{FramesMode, PortStep, Half, Answers as PortAnswers, FedFrame, GrowsByFrame}
+use Rattle.source_merge.specs.Names.{port_reading, Rise, BytesRise, end_at, Event, Packet, Stop, What, Plan, all_runs}
+use Rattle.source_merge.specs.Names.{sources_by, Mapped, AreLawful, report, runs_in, stop_in, stop_of, port_events}
+use Rattle.source_merge.specs.Names.{reading_of, Stands, is_live, has_locked, held_of, skipped_by, SourceMachine}
 use Rattle.trace_values.proofs.Placing.{placed_from_push}
-use Rattle.frame_grammar.specs.Reading.{offsets_of}
-use Rattle.deformatter.specs.Block.{EachByte, FedAs}
-use Rattle.trace_values.specs.declared.reading_modes.FramesMode.{FramesMode}
-use Rattle.deformatter.specs.declared.step.PortStep.{PortStep}
-use Rattle.deformatter.specs.declared.step.PortStep.TheVariants.{Quiet, Half}
+use Rattle.deformatter.specs.declared.step.PortStep.TheVariants.{Quiet}
 use Rattle.deformatter.specs.Growth.{fulls_by}
-use Rattle.deformatter.specs.ReadingGrowth.{Answers as PortAnswers, IsInside, FedFrame, GrowsByFrame}
-use Rattle.deformatter.specs.PortReading.{port_reading}
-use Rattle.deformatter.specs.Rising.{Rise, BytesRise, end_at}
+use Rattle.deformatter.specs.ReadingGrowth.{IsInside}
 use Rattle.deformatter.proofs.RisingLaws.{rise_join, placed_rise}
-use Rattle.source_events.specs.declared.event.Event.{Event}
-use Rattle.source_events.specs.declared.packet.Packet.{Packet}
-use Rattle.source_events.specs.declared.event.Stop.{Stop}
-use Rattle.source_events.specs.declared.event.What.{What}
-use Rattle.source_events.specs.declared.plan.Plan.{Plan}
-use Rattle.source_events.specs.Runs.{all_runs}
-use Rattle.source_events.specs.Plan.{sources_by}
-use Rattle.source_events.specs.Report.{Mapped, AreLawful, report, runs_in, stop_in, stop_of, port_events}
 use Rattle.source_events.proofs.Growth.{no_stop}
 use Rattle.source_events.proofs.Least.{AreSound}
 use Rattle.source_events.proofs.LockSteps.{port_grows}
-use Rattle.source_machine.specs.Machine.{reading_of, Stands, is_live, has_locked, held_of, skipped_by}
 use Rattle.source_machine.specs.MachineLaws as laws
-use Rattle.source_machine.specs.declared.machine.SourceMachine.{SourceMachine}
 use Rattle.source_merge.specs.declared.counts.Counters.{Counters}
 use Rattle.source_merge.specs.declared.flow.Flow.{Flow}
 use Rattle.source_merge.specs.declared.flow.Flow.TheVariants.{Going}

@@ -1,11 +1,7 @@
 -- What events with the last of some bytes are for the report of the capture.
 use Rattle.std.proofs.Common.{◌≡◌, ℕ, ◌+◌, List, [], ◌∷◌, ◌++◌, length, sym, ◌∙◌, ap, append_assoc, append-nil, None, true}
-use Rattle.trace_values.specs.Placed.{Placed, byte_at, placed_from}
+use Rattle.source_merge.specs.Names.{Placed, byte_at, placed_from, EachByte, FedAs, Event, Packet, Plan}
 use Rattle.trace_values.proofs.Placing.{placed_from_push}
-use Rattle.deformatter.specs.Block.{EachByte, FedAs}
-use Rattle.source_events.specs.declared.event.Event.{Event}
-use Rattle.source_events.specs.declared.packet.Packet.{Packet}
-use Rattle.source_events.specs.declared.plan.Plan.{Plan}
 use Rattle.source_merge.specs.Answering.{Answers, fault_of, report_of}
 use Rattle.source_merge.specs.declared.engine.Engine.{Engine}
 use Rattle.source_merge.specs.declared.flow.Flow.{Flow}

@@ -1,14 +1,9 @@
 -- The slots of a plan's sources before their first byte.
 use Rattle.std.proofs.Common.{◌≡◌, ℕ, ◌+◌, ◌<◌, List, [], ◌∷◌, ◌++◌, length, map, get_or, take, refl, sym, ◌∙◌, ap, subst, append_assoc, arith, true}
 use Rattle.std.proofs.lemmas.List.{map-append, take_more}
-use Rattle.source_events.specs.declared.packet.Packet.{Packet}
-use Rattle.source_events.specs.declared.plan.Plan.{Plan}
-use Rattle.source_events.specs.declared.plan.SourceKind.{SourceKind}
-use Rattle.source_events.specs.declared.plan.SourceKind.TheVariants.{Itm, Stp}
-use Rattle.source_events.specs.Plan.{stream_of, sources_by}
-use Rattle.source_events.specs.Report.{Mapped, AreLawful}
-use Rattle.source_machine.specs.declared.machine.SourceMachine.{SourceMachine}
-use Rattle.source_machine.specs.Machine.{reading_of, reading_by, Stands, is_live, has_locked, held_of, skipped_by}
+use Rattle.source_merge.specs.Names.{Packet, Plan, SourceKind, Itm, Stp, stream_of, sources_by, Mapped, AreLawful}
+use Rattle.source_merge.specs.Names.{SourceMachine, reading_of, reading_by, Stands, is_live, has_locked, held_of}
+use Rattle.source_merge.specs.Names.{skipped_by}
 use Rattle.source_machine.specs.MachineLaws as laws
 use Rattle.source_merge.specs.declared.slot.Slot.{Slot}
 use Rattle.source_merge.specs.Mapping.{AreFresh}

@@ -2,16 +2,9 @@
 use Rattle.std.proofs.Common.{◌≡◌, ℕ, ◌+◌, ◌-◌, ◌<◌, ◌≤◌, List, [], ◌∷◌, ◌++◌, length, take, drop, get_or, refl, sym, ◌∙◌, ap, subst, append_assoc, arith, Option, Some, None}
 use Rattle.std.proofs.lemmas.List.{take_more, take-append-drop, take-map, drop-map, drop-take, take-take, take_rest, get_or-drop, length-drop, length-take-le}
 use Rattle.std.proofs.Math.Seq.{take-append-add}
-use Rattle.trace_values.specs.declared.cell.Cell.{Cell}
-use Rattle.trace_values.specs.declared.step.Step.{Step}
-use Rattle.trace_values.specs.Block.{given_after}
-use Rattle.trace_values.specs.Placed.{Place, Placed, byte_at, units_of}
-use Rattle.trace_values.specs.Stream.{Said, Stream}
+use Rattle.source_merge.specs.Names.{Cell, Step, given_after, Place, Placed, byte_at, units_of, Said, Stream, Event}
+use Rattle.source_merge.specs.Names.{placed_run, bytes_of, told, lifted}
 use Rattle.trace_values.specs.Taking.{Passes}
-use Rattle.source_events.specs.declared.event.Event.{Event}
-use Rattle.source_events.specs.Runs.{placed_run, bytes_of}
-use Rattle.source_events.specs.Merge.{told}
-use Rattle.source_events.specs.Report.{lifted}
 use Rattle.source_events.proofs.Merges.{told_append}
 use Rattle.source_merge.proofs.ByParts.{FeedsBy}
 use Rattle.source_merge.proofs.RunSteps.{placed_more, lifted_append}

@@ -2,11 +2,10 @@
 use Rattle.std.proofs.Common.{◌≡◌, ℕ, suc, ◌+◌, ◌-◌, ◌<◌, ◌≤◌, List, [], ◌∷◌, ◌++◌, length, take, drop, refl, sym, ◌∙◌, ap, subst, arith, Bool, cond, Option}
 use Rattle.std.proofs.Math.Seq.{drop-append_seam}
 use Rattle.std.proofs.lemmas.List.{length-drop, length-take-le, length-append}
-use Rattle.trace_values.specs.declared.cell.Cell.{Cell}
+use Rattle.source_merge.specs.Names.{Cell, runs_of, run_length, more_of, id_of, RisesFrom, IsRunFrom, end_of}
+use Rattle.source_merge.specs.Names.{run_cells}
 use Rattle.frame_grammar.proofs.Pairs.{made}
-use Rattle.source_events.specs.Runs.{runs_of, run_length, more_of, id_of, RisesFrom, IsRunFrom, end_of}
 use Rattle.source_events.proofs.Merges.{test_same, test_other}
-use Rattle.frame_runs.specs.Data.{run_cells}
 use Rattle.source_merge.proofs.DataCells.{cells_length, cells_id}
 use Rattle.source_merge.proofs.Framing.{cut_at, first_at}
 use Rattle.source_merge.proofs.Splitting.{Part, AreParts, cells_of_parts, part_cells}

@@ -1,9 +1,7 @@
 -- The cells of the front of a piece.
 use Rattle.std.proofs.Common.{◌≡◌, ℕ, zero, suc, ◌+◌, ◌<◌, ◌≤◌, List, [], ◌∷◌, length, take, get_or, refl, sym, ◌∙◌, ap, arith, Some}
 use Rattle.std.proofs.lemmas.List.{length-take-le}
-use Rattle.trace_values.specs.declared.cell.Cell.{Cell}
-use Rattle.trace_values.specs.Placed.{Placed, byte_at, placed_from}
-use Rattle.source_events.specs.Runs.{RisesFrom, bytes_of, placed_run}
+use Rattle.source_merge.specs.Names.{Cell, Placed, byte_at, placed_from, RisesFrom, bytes_of, placed_run}
 use Rattle.source_merge.specs.Piece.{bytes_in, cells_from, piece_cells}
 use Rattle.source_merge.specs.declared.piece.PieceRun.{PieceRun}
 

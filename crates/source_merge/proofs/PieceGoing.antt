@@ -2,24 +2,12 @@
 use Rattle.std.proofs.Common.{◌≡◌, ℕ, ◌+◌, List, [], ◌∷◌, ◌++◌, length, sym, ◌∙◌, ap, subst, append_assoc, Option}
 use Rattle.std.proofs.Common.{None, Some, true}
 use Rattle.std.specs.Option.{option_map}
-use Rattle.trace_values.specs.declared.fault.Fault.{Fault}
-use Rattle.trace_values.specs.Placed.{Placed, byte_at, placed_from}
+use Rattle.source_merge.specs.Names.{Fault, Placed, byte_at, placed_from, FramesMode, Bare, port_reading, BytesRise}
+use Rattle.source_merge.specs.Names.{Event, Stop, Packet, Plan, told, start_of, sources_by, Mapped, AreLawful, lifted}
+use Rattle.source_merge.specs.Names.{report, runs_in, stop_in, stop_of, list_of, SourceMachine, reading_of, Stands}
+use Rattle.source_merge.specs.Names.{is_live, has_locked, held_of, skipped_by, placed_run}
 use Rattle.trace_values.proofs.Placing.{placed_from_push}
-use Rattle.trace_values.specs.declared.reading_modes.FramesMode.{FramesMode}
-use Rattle.trace_values.specs.declared.reading_modes.FramesMode.TheVariants.{Bare}
-use Rattle.deformatter.specs.PortReading.{port_reading}
-use Rattle.deformatter.specs.Rising.{BytesRise}
-use Rattle.source_events.specs.declared.event.Event.{Event}
-use Rattle.source_events.specs.declared.event.Stop.{Stop}
-use Rattle.source_events.specs.declared.packet.Packet.{Packet}
-use Rattle.source_events.specs.declared.plan.Plan.{Plan}
-use Rattle.source_events.specs.Merge.{told, start_of}
-use Rattle.source_events.specs.Plan.{sources_by}
-use Rattle.source_events.specs.Report.{Mapped, AreLawful, lifted, report, runs_in, stop_in, stop_of}
-use Rattle.source_events.specs.Runs.{list_of}
 use Rattle.source_events.proofs.Least.{AreSound}
-use Rattle.source_machine.specs.declared.machine.SourceMachine.{SourceMachine}
-use Rattle.source_machine.specs.Machine.{reading_of, Stands, is_live, has_locked, held_of, skipped_by}
 use Rattle.source_machine.specs.MachineLaws as laws
 use Rattle.source_merge.specs.declared.counts.Counters.{Counters}
 use Rattle.source_merge.specs.declared.slot.Slot.{Slot}
@@ -34,7 +22,6 @@ use Rattle.source_merge.proofs.PieceStops.{PieceStops, piece_stopped}
 use Rattle.source_merge.proofs.ByParts.{SlotFedBy}
 use Rattle.source_merge.proofs.PieceCells.{cells_placed, cells_rise}
 use Rattle.source_merge.specs.Piece.{cells_from}
-use Rattle.source_events.specs.Runs.{placed_run}
 use Rattle.source_merge.proofs.Ending.{FirstAt}
 use Rattle.source_merge.proofs.RunSteps.{none_of}
 use Rattle.source_merge.proofs.Slots.{lawful_at, live_at, mapped_parts, not_before, not_behind, stand_split, stand_join}

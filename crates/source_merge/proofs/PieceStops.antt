@@ -2,12 +2,9 @@
 use Rattle.std.proofs.Common.{◌≡◌, ℕ, ◌+◌, ◌<◌, List, [], ◌∷◌, ◌++◌, length, refl, sym, ◌∙◌, ap, subst, append_assoc, append-nil, arith, Option, None, Some}
 use Rattle.std.specs.Prelude.{is_none}
 use Rattle.std.proofs.lemmas.List.{append_cancel_left}
-use Rattle.trace_values.specs.declared.fault.Reason.{Reason}
-use Rattle.trace_values.specs.Placed.{Place, Placed, byte_at, placed_from}
-use Rattle.trace_values.specs.Stream.{Said, Stream, AllAt, FaultAt}
+use Rattle.source_merge.specs.Names.{Reason, Place, Placed, byte_at, placed_from, Said, Stream, AllIn, IsLawful}
+use Rattle.trace_values.specs.Stream.{AllAt, FaultAt}
 use Rattle.trace_values.proofs.Placing.{placed_from_append}
-use Rattle.source_events.specs.Merge.{AllIn}
-use Rattle.source_events.specs.Report.{IsLawful}
 
 -- a new fault is at the byte
 place_in : Option (Place × Reason) → ℕ

@@ -2,8 +2,7 @@
 use Rattle.std.proofs.Common.{◌≡◌, ℕ, ◌+◌, ◌*◌, ◌<◌, List, length, take, sym, ◌∙◌, ap, arith, Bool, true, false, cond}
 use Rattle.std.specs.Prelude.{slice_index}
 use Rattle.std.proofs.lemmas.List.{get_or-map, get_or-take}
-use Rattle.frame_grammar.specs.Placing.{places_of}
-use Rattle.frame_runs.specs.Data.{is_late, byte_in, place_in}
+use Rattle.source_merge.specs.Names.{places_of, is_late, byte_in, place_in}
 use Rattle.source_merge.specs.Split.{AreInPlace}
 
 -- the offset of a byte

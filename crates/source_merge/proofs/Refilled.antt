@@ -2,8 +2,7 @@
 use Rattle.std.proofs.Common.{◌≡◌, List, ◌++◌, length, take, sym, ◌∙◌, ap, append-nil, arith}
 use Rattle.std.specs.List.{refill}
 use Rattle.std.proofs.lemmas.List.{length-map, take_all, drop_all}
-use Rattle.trace_values.specs.Placed.{Placed}
-use Rattle.trace_values.specs.Stream.{Stream}
+use Rattle.source_merge.specs.Names.{Placed, Stream}
 use Rattle.source_merge.specs.declared.slot.Slot.{Slot}
 use Rattle.source_merge.specs.Routing.{mapped_of}
 

@@ -1,8 +1,7 @@
 -- A run of a frame, whose bytes have others behind them.
 use Rattle.std.proofs.Common.{◌≡◌, ℕ, ◌+◌, ◌-◌, ◌<◌, List, length, take, drop, get_or, ◌∙◌, sym, ap, arith}
 use Rattle.std.proofs.lemmas.List.{drop-take, get_or-drop, get_or-take}
-use Rattle.trace_values.specs.declared.cell.Cell.{Cell}
-use Rattle.source_events.specs.Runs.{bytes_of}
+use Rattle.source_merge.specs.Names.{Cell, bytes_of}
 use Rattle.source_merge.specs.declared.split.SplitRun.{SplitRun}
 use Rattle.source_merge.specs.Split.{run_in, split_places}
 use Rattle.source_merge.proofs.DataCells.{cells_bytes, cells_cell}

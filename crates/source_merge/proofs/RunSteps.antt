@@ -3,17 +3,11 @@ use Rattle.std.proofs.Common.{◌≡◌, ℕ, List, [], ◌∷◌, ◌++◌, ref
 use Rattle.std.specs.Prelude.{is_none}
 use Rattle.std.specs.Option.{option_map}
 use Rattle.std.proofs.lemmas.List.{map-append}
-use Rattle.trace_values.specs.declared.cell.Cell.{Cell}
-use Rattle.trace_values.specs.declared.fault.Fault.{Fault}
-use Rattle.trace_values.specs.declared.fault.Reason.{Reason}
-use Rattle.trace_values.specs.declared.step.Step.{Step}
-use Rattle.trace_values.specs.declared.step.Step.TheVariants.{Quiet, Skipping, Item, Locked, Fault as Faulty}
-use Rattle.trace_values.specs.Placed.{Place, Placed, byte_at}
-use Rattle.trace_values.specs.Stream.{Said, Stream, Grows, HuntBy, Settled, given_by, fault_by, goes_on}
-use Rattle.source_events.specs.declared.event.Event.{Event}
-use Rattle.source_events.specs.Runs.{placed_run}
-use Rattle.source_events.specs.Merge.{told}
-use Rattle.source_events.specs.Report.{what_of, lifted}
+use Rattle.source_merge.specs.Names.{Cell, Fault, Reason, Step, Quiet, Skipping, Item, Locked, Place, Placed, byte_at}
+use Rattle.source_merge.specs.Names.{Said, Stream, Grows, Settled, given_by, Event, placed_run, told, lifted}
+use Rattle.trace_values.specs.declared.step.Step.TheVariants.{Fault as Faulty}
+use Rattle.trace_values.specs.Stream.{HuntBy, fault_by, goes_on}
+use Rattle.source_events.specs.Report.{what_of}
 use Rattle.source_merge.specs.Feeding.{step_fault, place_and_reason}
 use Rattle.source_merge.proofs.ByParts.{FeedsBy}
 use Rattle.source_events.proofs.Merges.{told_append}

@@ -5,14 +5,10 @@ use Rattle.std.specs.List.{position_or_len}
 use Rattle.std.proofs.lemmas.Bool.Decides.{nat_tests}
 use Rattle.std.proofs.lemmas.List.{map-append, take-append-drop, drop_more, length-take-le}
 use Rattle.std.proofs.lemmas.List.Quantifiers.{position-Some}
-use Rattle.trace_values.specs.declared.cell.Cell.{Cell}
-use Rattle.trace_values.specs.Placed.{Place, Placed}
-use Rattle.trace_values.specs.Stream.{Said, Stream}
-use Rattle.frame_grammar.specs.Reading.{is_source}
+use Rattle.source_merge.specs.Names.{Cell, Place, Placed, Said, Stream, is_source, id_of, placed_run, list_of, told}
+use Rattle.source_merge.specs.Names.{grown, Mapped, IsLawful, AreLawful, lifted, raw_events, events}
 use Rattle.source_merge.specs.declared.slot.Slot.{Slot}
-use Rattle.source_events.specs.Runs.{id_of, placed_run, list_of}
-use Rattle.source_events.specs.Merge.{told, grown}
-use Rattle.source_events.specs.Report.{Mapped, IsLawful, AreLawful, lifted, raws, raw_events, events}
+use Rattle.source_events.specs.Report.{raws}
 use Rattle.source_merge.specs.Routing.{mapped_of, AllLive, AllStand, HaveRoom, HasNot, AreDistinct}
 use Rattle.source_events.proofs.Least.{AreSound}
 use Rattle.source_events.proofs.Merges.{test_same, test_other, grown_by}

@@ -4,12 +4,10 @@ use Rattle.std.specs.Prelude.{slice_index, nat_lt, if◌then◌else◌, ◌==◌
 use Rattle.std.proofs.lemmas.Bool.Decides.{nat_tests}
 use Rattle.std.proofs.lemmas.Grind.{flat_map-append}
 use Rattle.std.proofs.lemmas.List.{take_more, drop-append-le, drop_all, length-drop, length-take-le, length-map}
-use Rattle.trace_values.specs.declared.cell.Cell.{Cell}
-use Rattle.trace_values.specs.Cells.{source_id}
-use Rattle.frame_grammar.specs.Frame.{names, aux_bit, even_data, cells_below, cells, IsInForce}
+use Rattle.source_merge.specs.Names.{Cell, source_id, names, aux_bit, cells, run_cells, is_late, byte_in, place_in}
+use Rattle.frame_grammar.specs.Frame.{even_data, cells_below, IsInForce}
 use Rattle.frame_grammar.proofs.Looks.{starts, passes, names_now, defers, names_next}
 use Rattle.frame_grammar.proofs.Pairs.{made, plain, named, more_cells, whole_plain, whole_named, even_plain}
-use Rattle.frame_runs.specs.Data.{run_cells, is_late, byte_in, place_in}
 use Rattle.source_merge.specs.Split.{begun_cells, split_places, AreInPlace}
 use Rattle.source_merge.specs.declared.split.Begun.{Begun}
 use Rattle.source_merge.specs.declared.split.SplitFrame.{SplitFrame}

@@ -5,13 +5,9 @@ use Rattle.std.specs.Option.{option_map, is_some}
 use Rattle.std.specs.List.{list_any}
 use Rattle.std.proofs.lemmas.List.{map-append}
 use Rattle.std.proofs.lemmas.Bool.Decides.{nat_tests}
-use Rattle.source_events.specs.declared.event.Stop.{Stop}
-use Rattle.source_events.specs.declared.packet.Packet.{Packet}
-use Rattle.source_events.specs.declared.plan.Plan.{Plan}
-use Rattle.source_events.specs.declared.plan.SourceKind.{SourceKind}
-use Rattle.source_events.specs.declared.plan.SourceKind.TheVariants.{Itm, Stp}
-use Rattle.source_events.specs.Plan.{mapped_ids, stream_of, sources_by, are_sound, is_sound}
-use Rattle.source_events.specs.Report.{Mapped, stop_of}
+use Rattle.source_merge.specs.Names.{Stop, Packet, Plan, SourceKind, Itm, Stp, stream_of, sources_by, is_sound, Mapped}
+use Rattle.source_merge.specs.Names.{stop_of}
+use Rattle.source_events.specs.Plan.{mapped_ids, are_sound}
 use Rattle.source_merge.specs.declared.slot.Slot.{Slot}
 use Rattle.source_merge.specs.Routing.{AllLive, HaveRoom, LiveIf, RoomIf, HasNot, AreDistinct}
 

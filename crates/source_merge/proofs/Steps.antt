@@ -3,29 +3,20 @@ use Rattle.std.proofs.Common.{◌≡◌, ℕ, ◌+◌, ◌≤◌, List, [], ◌�
 use Rattle.std.proofs.Common.{append-nil, arith, Option, None, Some, inl, inr, ◌⊎◌, false, flat_map}
 use Rattle.std.proofs.lemmas.List.{map-append}
 use Rattle.std.proofs.lemmas.Grind.{flat_map-append}
-use Rattle.trace_values.specs.declared.cell.Cell.{Cell}
-use Rattle.trace_values.specs.declared.fault.Fault.{Fault}
-use Rattle.trace_values.specs.declared.fault.Reason.{Reason}
-use Rattle.trace_values.specs.Placed.{Place, Placed, byte_at}
-use Rattle.trace_values.specs.declared.reading_modes.FramesMode.{FramesMode}
-use Rattle.trace_values.specs.declared.reading_modes.FramesMode.TheVariants.{Hunt, Aligned, Bare}
+use Rattle.source_merge.specs.Names.{Cell, Fault, Reason, Place, Placed, byte_at, FramesMode, Bare, offsets_of}
+use Rattle.source_merge.specs.Names.{PortStep, Half, fault_by, frames_by, PortReading, port_reading, Rise, BytesRise}
+use Rattle.source_merge.specs.Names.{end_at, Event, Stop, What, runs_of, all_runs, id_of, IsRunFrom, end_of, RisesFrom}
+use Rattle.source_merge.specs.Names.{told, cut, Below, AllIn, start_of, Mapped, AreLawful, events, all_events}
+use Rattle.source_merge.specs.Names.{reported, lesser, of_source, least_fault, report, runs_in, stop_in, stop_of}
+use Rattle.source_merge.specs.Names.{port_events, notice_by}
+use Rattle.trace_values.specs.declared.reading_modes.FramesMode.TheVariants.{Hunt, Aligned}
 use Rattle.frame_grammar.specs.Port.{PortItem}
-use Rattle.frame_grammar.specs.Reading.{offsets_of}
 use Rattle.deformatter.specs.Reading.{items_of}
-use Rattle.deformatter.specs.declared.step.PortStep.{PortStep}
-use Rattle.deformatter.specs.declared.step.PortStep.TheVariants.{Quiet, Half, Full as FullEnds, Locked}
-use Rattle.deformatter.specs.Growth.{fault_by}
-use Rattle.deformatter.specs.ReadingGrowth.{frames_by}
-use Rattle.deformatter.specs.PortReading.{PortReading, port_reading, frames_of_items, cells_of}
-use Rattle.deformatter.specs.Rising.{Rise, offsets_in, BytesRise, end_at}
+use Rattle.deformatter.specs.declared.step.PortStep.TheVariants.{Quiet, Full as FullEnds, Locked}
+use Rattle.deformatter.specs.PortReading.{frames_of_items, cells_of}
+use Rattle.deformatter.specs.Rising.{offsets_in}
 use Rattle.deformatter.proofs.RisingLaws.{rise_split, rise_join}
-use Rattle.source_events.specs.declared.event.Event.{Event}
-use Rattle.source_events.specs.declared.event.Stop.{Stop}
-use Rattle.source_events.specs.declared.event.What.{What}
-use Rattle.source_events.specs.Runs.{runs_of, all_runs, id_of, IsRunFrom, end_of, RisesFrom}
-use Rattle.source_events.specs.Merge.{told, cut, Below, AllIn, start_of}
-use Rattle.source_events.specs.Report.{Mapped, AreLawful, events, all_events, reported, lesser, of_source, least_fault}
-use Rattle.source_events.specs.Report.{report, runs_in, stop_in, stop_of, capture_events, port_events, notice_by}
+use Rattle.source_events.specs.Report.{capture_events}
 use Rattle.source_events.proofs.Family.{adds}
 use Rattle.source_events.proofs.Least.{AreSound, Later, least_none, others_later}
 use Rattle.source_events.proofs.Locking.{first_end, port_first}

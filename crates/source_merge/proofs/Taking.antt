@@ -2,17 +2,11 @@
 use Rattle.std.proofs.Common.{◌≡◌, ℕ, ◌+◌, ◌*◌, ◌<◌, ◌≤◌, List, [], ◌∷◌, ◌++◌, length, get_or, refl, sym, ◌∙◌, ap, subst, append-nil, arith, Option, None, Some, Bool, true, false}
 use Rattle.std.specs.Prelude.{is_none}
 use Rattle.std.specs.Option.{option_map}
-use Rattle.trace_values.specs.declared.cell.Cell.{Cell}
-use Rattle.trace_values.specs.declared.fault.Fault.{Fault}
-use Rattle.trace_values.specs.Placed.{Placed, byte_at}
-use Rattle.trace_values.specs.Stream.{Stream, Rises, Settled, Shows}
-use Rattle.frame_grammar.specs.Reading.{is_source}
-use Rattle.source_events.specs.declared.event.Event.{Event}
-use Rattle.source_events.specs.declared.event.Stop.{Stop}
+use Rattle.source_merge.specs.Names.{Cell, Fault, Placed, byte_at, Stream, Rises, Settled, is_source, Event, Stop}
+use Rattle.source_merge.specs.Names.{id_of, placed_run, RisesFrom, IsRunFrom, end_of, list_of, told, grown, start_of}
+use Rattle.source_merge.specs.Names.{Below, Mapped, IsLawful, AreLawful, lifted, raw_events, events, least_fault}
+use Rattle.trace_values.specs.Stream.{Shows}
 use Rattle.source_merge.specs.declared.slot.Slot.{Slot}
-use Rattle.source_events.specs.Runs.{id_of, placed_run, RisesFrom, IsRunFrom, end_of, list_of}
-use Rattle.source_events.specs.Merge.{told, grown, start_of, Below}
-use Rattle.source_events.specs.Report.{Mapped, IsLawful, AreLawful, lifted, raw_events, events, least_fault}
 use Rattle.source_merge.specs.Feeding.{place_and_reason, IsEarly}
 use Rattle.source_merge.specs.Routing.{mapped_of, AllLive, AllStand, HaveRoom, HasNot, AreDistinct, Stops, StopsBy}
 use Rattle.source_events.proofs.Least.{AreSound}

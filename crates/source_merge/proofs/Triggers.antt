@@ -1,11 +1,7 @@
 -- What the bytes of the trigger source tell, byte by byte.
 use Rattle.std.proofs.Common.{◌≡◌, ℕ, ◌+◌, ◌<◌, List, [], ◌∷◌, ◌++◌, length, get_or, take, refl, sym, ◌∙◌, ap, Some}
 use Rattle.std.proofs.lemmas.List.{take_more}
-use Rattle.trace_values.specs.declared.cell.Cell.{Cell}
-use Rattle.source_events.specs.declared.event.Event.{Event}
-use Rattle.source_events.specs.declared.event.What.TheVariants.{Trigger}
-use Rattle.source_events.specs.Merge.{told}
-use Rattle.source_events.specs.Report.{triggers}
+use Rattle.source_merge.specs.Names.{Cell, Event, Trigger, told, triggers}
 
 module _ {V : Type 0} where
   -- what the bytes of a source tell

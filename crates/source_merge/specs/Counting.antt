@@ -1,16 +1,10 @@
 -- What is counted of a capture.
 use Rattle.std.specs.Prelude.{◌≡◌, ℕ, ◌+◌, ◌≤◌, List, length, slice_index, sum, if◌then◌else◌, is_none}
 use Rattle.std.specs.List.{sum_by}
-use Rattle.trace_values.specs.declared.cell.Cell.{Cell}
-use Rattle.deformatter.specs.PortReading.{PortReading}
-use Rattle.source_counts.specs.Counts.{bytes_of, items_of, unattributed_of}
+use Rattle.source_merge.specs.Names.{Cell, PortReading, items_of, unattributed_of, Event, Packet, PortCounts, id_of}
+use Rattle.source_merge.specs.Names.{list_of, runs_in, items_in}
+use Rattle.source_counts.specs.Counts.{bytes_of}
 use Rattle.source_counts.specs.Kept as kept
-use Rattle.source_events.specs.declared.event.Event.{Event}
-use Rattle.source_events.specs.declared.packet.Packet.{Packet}
-use Rattle.source_events.specs.declared.tails.PortCounts.{PortCounts}
-use Rattle.source_events.specs.Runs.{id_of, list_of}
-use Rattle.source_events.specs.Report.{runs_in}
-use Rattle.source_events.specs.Tails.{items_in}
 use Rattle.source_merge.specs.declared.counts.PerSource.{PerSource}
 use Rattle.source_merge.specs.declared.counts.ByteCounts.{ByteCounts}
 use Rattle.source_merge.specs.declared.counts.Counters.{Counters}

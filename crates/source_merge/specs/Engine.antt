@@ -1,14 +1,8 @@
 -- What an engine stands for, and what it shows.
 use Rattle.std.specs.Prelude.{◌≡◌, ℕ, List, length, Bool, true, is_none}
-use Rattle.trace_values.specs.Placed.{Placed}
-use Rattle.frame_grammar.specs.Reading.{offsets_of}
+use Rattle.source_merge.specs.Names.{Placed, offsets_of, BytesRise, end_at, Plan, sources_by, runs_in, SourceMachine}
 use Rattle.deformatter.specs.Reader as reader
-use Rattle.deformatter.specs.Rising.{BytesRise, end_at}
-use Rattle.source_events.specs.declared.plan.Plan.{Plan}
-use Rattle.source_events.specs.Plan.{sources_by}
-use Rattle.source_events.specs.Report.{runs_in}
 use Rattle.source_machine.specs.Machine as machine
-use Rattle.source_machine.specs.declared.machine.SourceMachine.{SourceMachine}
 use Rattle.source_merge.specs.declared.slot.Slot.{Slot}
 use Rattle.source_merge.specs.declared.counts.Counters.{Counters}
 use Rattle.source_merge.specs.declared.engine.Engine.{Engine}

@@ -1,17 +1,9 @@
 -- What a machine makes of a run.
 use Rattle.std.specs.Prelude.{◌≡◌, ℕ, List, ◌++◌, take, Option, None, Some}
 use Rattle.std.specs.Option.{option_map}
-use Rattle.trace_values.specs.declared.cell.Cell.{Cell}
-use Rattle.trace_values.specs.declared.fault.Fault.{Fault}
-use Rattle.trace_values.specs.declared.fault.Reason.{Reason}
-use Rattle.trace_values.specs.declared.step.Step.{Step}
+use Rattle.source_merge.specs.Names.{Cell, Fault, Reason, Step, Place, Placed, Said, Stream, Event, placed_run}
+use Rattle.source_merge.specs.Names.{RisesFrom, told, start_of, AllIn, lifted}
 use Rattle.trace_values.specs.declared.step.Step.TheVariants.{Fault as Faulty}
-use Rattle.trace_values.specs.Placed.{Place, Placed}
-use Rattle.trace_values.specs.Stream.{Said, Stream}
-use Rattle.source_events.specs.declared.event.Event.{Event}
-use Rattle.source_events.specs.Runs.{placed_run, RisesFrom}
-use Rattle.source_events.specs.Merge.{told, start_of, AllIn}
-use Rattle.source_events.specs.Report.{lifted}
 
 -- the fault that a step tells
 abbrev pub step_fault : {V : Type 0} → Step V → Option Fault

@@ -1,7 +1,6 @@
 -- The cells of a frame.
 use Rattle.std.specs.Prelude.{List}
-use Rattle.trace_values.specs.declared.cell.Cell.{Cell}
-use Rattle.source_machine.specs.declared.machine.SourceMachine.{SourceMachine}
+use Rattle.source_merge.specs.Names.{Cell, SourceMachine}
 use Rattle.source_merge.specs.declared.frame.AnyFrame.{AnyFrame}
 use Rattle.source_merge.specs.declared.slot.Slot.{Slot}
 

@@ -1,20 +1,13 @@
 -- What an engine takes of the front of a piece.
 use Rattle.std.specs.Prelude.{◌≡◌, ◌<◌, ◌≤◌, ℕ, ◌+◌, ◌*◌, List, [], ◌∷◌, ◌++◌, length, take, None, Some, position, ◌==◌, false}
-use Rattle.trace_values.specs.Placed.{Placed, placed_from}
-use Rattle.trace_values.specs.declared.reading_modes.FramesMode.TheVariants.{Bare}
-use Rattle.deformatter.specs.Block.{FedAs}
+use Rattle.source_merge.specs.Names.{Placed, placed_from, Bare, FedAs, PlacedFrame, Event, Packet, Plan, IsGathered}
 use Rattle.frame_grammar.specs.declared.frame.TheConstants.{FRAME_BYTES}
-use Rattle.frame_grammar.specs.declared.gather.PlacedFrame.{PlacedFrame}
-use Rattle.source_events.specs.declared.event.Event.{Event}
-use Rattle.source_events.specs.declared.packet.Packet.{Packet}
-use Rattle.source_events.specs.declared.plan.Plan.{Plan}
 use Rattle.source_merge.specs.declared.flow.Fed.{Fed}
 use Rattle.source_merge.specs.declared.flow.Flow.{Flow}
 use Rattle.source_merge.specs.declared.flow.Flow.TheVariants.{Going}
 use Rattle.source_merge.specs.declared.engine.Engine.{Engine}
 use Rattle.source_merge.specs.Answering.{Answers, fault_by, fault_of, goes_on, report_of}
 use Rattle.source_merge.specs.Engine.{Stands, is_live, next_of, plan_of}
-use Rattle.frame_runs.specs.Gathered.{IsGathered}
 
 -- there is no formatter, and the slot of source 1 has this index
 abbrev pub IsBare : Engine → ℕ → Type 0

@@ -1,8 +1,6 @@
 -- Events that are given to a receiver, and the counts of them.
 use Rattle.std.specs.Prelude.{List, ◌++◌}
-use Rattle.trace_values.specs.declared.cell.Cell.{Cell}
-use Rattle.source_events.specs.declared.event.Event.{Event}
-use Rattle.source_events.specs.declared.packet.Packet.{Packet}
+use Rattle.source_merge.specs.Names.{Cell, Event, Packet}
 use Rattle.source_merge.specs.declared.counts.PerSource.{PerSource}
 use Rattle.source_merge.specs.Counting.{HasItems}
 

@@ -1,3 +1,4 @@
+pub mod Names
 pub mod Feeding
 pub mod Run
 pub mod Piece

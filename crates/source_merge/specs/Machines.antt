@@ -1,7 +1,5 @@
 -- The machines of the mapped sources, as a router sees them.
-use Rattle.source_events.specs.declared.packet.Packet.{Packet}
-use Rattle.source_machine.specs.Machine.{Stands, held_of, is_live, reading_of, skipped_by}
-use Rattle.source_machine.specs.declared.machine.SourceMachine.{SourceMachine}
+use Rattle.source_merge.specs.Names.{Packet, Stands, held_of, is_live, reading_of, skipped_by, SourceMachine}
 use Rattle.source_merge.specs.Routing.{MachineKind}
 
 abbrev pub source_machines : MachineKind SourceMachine Packet

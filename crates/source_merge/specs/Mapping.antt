@@ -1,7 +1,6 @@
 -- Machines before their first byte.
 use Rattle.std.specs.Prelude.{◌≡◌, List, [], ◌∷◌, true}
-use Rattle.source_machine.specs.declared.machine.SourceMachine.{SourceMachine}
-use Rattle.source_machine.specs.Machine.{Stands, is_live, held_of, skipped_by}
+use Rattle.source_merge.specs.Names.{SourceMachine, Stands, is_live, held_of, skipped_by}
 use Rattle.source_merge.specs.declared.slot.Slot.{Slot}
 
 -- each stands for no bytes

@@ -1,6 +1,6 @@
 -- The front of a piece of a capture with no formatter, as a run of source 1.
 use Rattle.std.specs.Prelude.{ℕ, ◌+◌, List, [], ◌∷◌, take, Some}
-use Rattle.trace_values.specs.declared.cell.Cell.{Cell}
+use Rattle.source_merge.specs.Names.{Cell}
 use Rattle.source_merge.specs.declared.piece.PieceRun.{PieceRun}
 
 -- the cells of these bytes from this offset on, as those of one run

@@ -2,14 +2,9 @@
 use Rattle.std.specs.Prelude.{◌≡◌, ◌≢◌, ℕ, ◌+◌, ◌*◌, ◌<◌, ◌≤◌, List, [], ◌∷◌, ◌++◌, map, length}
 use Rattle.std.specs.Prelude.{Bool, true, false, Option, None, Some, is_none}
 use Rattle.std.specs.Option.{option_map}
-use Rattle.trace_values.specs.declared.cell.Cell.{Cell}
-use Rattle.trace_values.specs.Placed.{Placed}
-use Rattle.trace_values.specs.Stream.{Stream}
-use Rattle.source_events.specs.declared.event.Event.{Event}
-use Rattle.source_events.specs.declared.event.Stop.{Stop}
-use Rattle.source_events.specs.Runs.{IsRunFrom, end_of, list_of, id_of}
-use Rattle.source_events.specs.Merge.{grown, InOrder, Between, Below}
-use Rattle.source_events.specs.Report.{Mapped, events, reported, least_fault, stop_of}
+use Rattle.source_merge.specs.Names.{Cell, Placed, Stream, Event, Stop, IsRunFrom, end_of, list_of, id_of, grown}
+use Rattle.source_merge.specs.Names.{InOrder, Below, Mapped, events, reported, least_fault, stop_of}
+use Rattle.source_events.specs.Merge.{Between}
 use Rattle.source_merge.specs.declared.slot.Slot.{Slot}
 use Rattle.source_merge.specs.Feeding.{Feeds, RunFed, IsEarly}
 

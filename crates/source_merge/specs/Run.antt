@@ -1,6 +1,6 @@
 -- The cells of a run.
 use Rattle.std.specs.Prelude.{List}
-use Rattle.trace_values.specs.declared.cell.Cell.{Cell}
+use Rattle.source_merge.specs.Names.{Cell}
 use Rattle.source_merge.specs.declared.run.CellRun.{CellRun}
 
 abbrev pub cells_of : CellRun → List Cell

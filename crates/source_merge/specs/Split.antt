@@ -1,12 +1,8 @@
 -- A frame that is taken apart into the runs of its sources.
 use Rattle.std.specs.Prelude.{◌≡◌, ℕ, ◌+◌, ◌*◌, ◌/◌, ◌%◌, ◌^◌, ◌<◌, List, take, drop, slice_index}
-use Rattle.trace_values.specs.declared.cell.Cell.{Cell}
-use Rattle.frame_grammar.specs.Frame.{cells}
-use Rattle.frame_grammar.specs.Placing.{places_of}
-use Rattle.source_machine.specs.declared.machine.SourceMachine.{SourceMachine}
-use Rattle.frame_runs.specs.Data.{run_cells, byte_in, place_in}
-use Rattle.frame_runs.specs.Gathered.{frame_places}
-use Rattle.frame_runs.specs.Pairs.{end_at, ends_from, ends_left}
+use Rattle.source_merge.specs.Names.{Cell, cells, places_of, SourceMachine, run_cells, byte_in, place_in, frame_places}
+use Rattle.source_merge.specs.Names.{ends_from, ends_left}
+use Rattle.frame_runs.specs.Pairs.{end_at}
 use Rattle.source_merge.specs.declared.slot.Slot.{Slot}
 use Rattle.source_merge.specs.declared.split.Begun.{Begun}
 use Rattle.source_merge.specs.declared.split.SplitFrame.{SplitFrame}

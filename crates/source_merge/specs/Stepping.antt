@@ -1,16 +1,9 @@
 -- What the code makes of a step of the port.
 use Rattle.std.specs.Prelude.{◌≡◌, ◌≤◌, ℕ, ◌+◌, ◌++◌, List, Option, None}
 use Rattle.std.specs.Option.{option_map}
-use Rattle.trace_values.specs.Placed.{Placed}
-use Rattle.trace_values.specs.declared.reading_modes.FramesMode.{FramesMode}
-use Rattle.deformatter.specs.PortReading.{port_reading}
-use Rattle.source_events.specs.declared.event.Event.{Event}
-use Rattle.source_events.specs.declared.event.Stop.{Stop}
-use Rattle.source_events.specs.Report.{Mapped, report, runs_in, stop_in, stop_of}
+use Rattle.source_merge.specs.Names.{Placed, FramesMode, port_reading, Event, Stop, Mapped, report, runs_in, stop_in}
+use Rattle.source_merge.specs.Names.{stop_of, COUNT_ROOM, SourceMachine, held_of, is_live, reading_of, skipped_by}
 use Rattle.source_merge.specs.declared.slot.Slot.{Slot}
-use Rattle.trace_values.specs.declared.limits.TheConstants.{COUNT_ROOM}
-use Rattle.source_machine.specs.declared.machine.SourceMachine.{SourceMachine}
-use Rattle.source_machine.specs.Machine.{held_of, is_live, reading_of, skipped_by}
 use Rattle.source_merge.specs.declared.counts.ByteCounts.{ByteCounts}
 use Rattle.source_merge.specs.declared.counts.Counters.{Counters}
 use Rattle.source_merge.specs.declared.counts.PerSource.{PerSource}

@@ -1,7 +1,7 @@
 //! A capture with no formatter, whose bytes are those of source 1.
 
 ghost use Rattle.std.specs.Prelude.{◌≡◌, ◌+◌, ◌<◌, ◌≤◌, ℕ, Some, None};
-ghost use Rattle.trace_values.specs.declared.fault.Fault.{Fault};
+ghost use Rattle.source_merge.specs.Names.{Fault};
 
 use crate::piece::PieceRun;
 use trace_values::{Fault, SourceId};

@@ -1,11 +1,9 @@
 //! What is counted of a capture.
 
 ghost use Rattle.std.specs.Prelude.{◌≡◌, ◌≤◌, ◌<◌, ◌+◌, ◌^◌, ℕ, List};
-ghost use Rattle.trace_values.specs.declared.cell.Cell.{Cell};
+ghost use Rattle.source_merge.specs.Names.{Cell, PortReading, COUNT_ROOM};
 ghost use Rattle.deformatter.specs.ReadingGrowth.{Grows};
-ghost use Rattle.deformatter.specs.PortReading.{PortReading};
 ghost use Rattle.source_merge.specs.Counting.{HasPort, port_total};
-ghost use Rattle.trace_values.specs.declared.limits.TheConstants.{COUNT_ROOM};
 
 use crate::bare::bare_source;
 use deformatter::PortStep;

@@ -2,9 +2,8 @@
 
 ghost use Rattle.std.specs.Prelude.{◌≡◌, ◌+◌, ◌*◌, ◌≤◌, true};
 ghost use Rattle.deformatter.specs.Reader.{is_live as is_port_live, skipped_by as skipped_by_port, tail_of};
-ghost use Rattle.source_events.specs.Plan.{is_sound};
+ghost use Rattle.source_merge.specs.Names.{is_sound, held_of, is_live as is_machine_live, skipped_by};
 ghost use Rattle.source_events.specs.declared.tails.TheConstants.{GREATEST_COUNT};
-ghost use Rattle.source_machine.specs.Machine.{held_of, is_live as is_machine_live, skipped_by};
 ghost use Rattle.source_merge.specs.declared.engine.TheConstants.{GREATEST_OFFSET};
 ghost use Rattle.source_merge.specs.Counting.{size_of, whole_of};
 ghost use Rattle.source_merge.specs.Routing.{LiveIf, RoomIf};

@@ -2,7 +2,7 @@
 
 ghost use Rattle.std.specs.Prelude.{◌≡◌, is_none};
 ghost use Rattle.std.specs.Option.{option_map};
-ghost use Rattle.source_events.specs.Report.{stop_of};
+ghost use Rattle.source_merge.specs.Names.{stop_of};
 ghost use Rattle.source_merge.specs.Answering.{fault_by, goes_on};
 
 use source_events::Stop;

@@ -2,13 +2,10 @@
 
 ghost use Rattle.source_merge.specs.declared.slot.TheConstants.{FRAME_ROOM};
 ghost use Rattle.std.specs.Prelude.{◌≡◌, ◌+◌, ◌*◌, ◌≤◌, ◌++◌, ℕ, List, length, None};
-ghost use Rattle.trace_values.specs.declared.cell.Cell.{Cell};
-ghost use Rattle.source_events.specs.Runs.{RisesFrom, runs_of};
-ghost use Rattle.source_machine.specs.declared.machine.SourceMachine.{SourceMachine};
-ghost use Rattle.source_machine.specs.Machine.{Stands, held_of, is_live, reading_of, skipped_by};
+ghost use Rattle.source_merge.specs.Names.{Cell, RisesFrom, runs_of, SourceMachine, Stands, held_of, is_live};
+ghost use Rattle.source_merge.specs.Names.{reading_of, skipped_by, COUNT_ROOM};
 ghost use Rattle.source_merge.specs.Counting.{HasBytes, bytes_counted, total_of};
 ghost use Rattle.source_merge.specs.Giving.{Gives};
-ghost use Rattle.trace_values.specs.declared.limits.TheConstants.{COUNT_ROOM};
 ghost use Rattle.source_merge.specs.Routing.{mapped_of, AllLive, AllStand, HaveRoom, AreDistinct, Fed, RunsBetween};
 ghost use Rattle.source_merge.specs.declared.slot.Slot.{Slot};
 

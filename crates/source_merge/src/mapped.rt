@@ -2,8 +2,7 @@
 
 ghost use Rattle.std.specs.Prelude.{◌≡◌, ◌+◌, ◌≤◌, ◌++◌, [], length, map, true};
 ghost use Rattle.arrayvec.specs.ArrayVec.{array_vec_len};
-ghost use Rattle.source_events.specs.Plan.{sources_by};
-ghost use Rattle.source_machine.specs.Machine.{reading_by, reading_of};
+ghost use Rattle.source_merge.specs.Names.{sources_by, reading_by, reading_of};
 ghost use Rattle.source_merge.specs.Mapping.{AreFresh};
 ghost use Rattle.source_merge.specs.Routing.{mapped_of};
 

@@ -1,7 +1,7 @@
 //! A piece of a capture with no formatter, whose bytes are those of source 1.
 
 ghost use Rattle.std.specs.Prelude.{◌≡◌, ◌+◌, ◌^◌, ◌<◌, ◌≤◌, length};
-ghost use Rattle.source_machine.specs.declared.machine.TheConstants.{AHEAD};
+ghost use Rattle.source_merge.specs.Names.{AHEAD};
 
 use crate::bare::bare_source;
 use crate::run::Run;

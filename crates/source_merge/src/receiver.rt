@@ -1,11 +1,7 @@
 //! What takes the events of a report as they come.
 
 ghost use Rattle.std.specs.Prelude.{◌≡◌, ◌↔◌, ◌+◌, ◌<◌, ◌≤◌, ◌++◌, ◌∷◌, [], ℕ, List, Some, length, IsTrue};
-ghost use Rattle.source_events.specs.declared.event.Event.{Event};
-ghost use Rattle.source_events.specs.declared.packet.Packet.{Packet};
-ghost use Rattle.source_events.specs.declared.plan.SourceKind.{SourceKind};
-ghost use Rattle.source_events.specs.Fitting.{EventFits, PacketFits};
-ghost use Rattle.source_machine.specs.Finding.{ToldFits, told_by};
+ghost use Rattle.source_merge.specs.Names.{Event, Packet, SourceKind, EventFits, PacketFits, ToldFits, told_by};
 ghost use Rattle.source_machine.specs.declared.packets.Told.TheVariants.{Itm as SaysItm, Stp as SaysStp};
 ghost use Rattle.source_events.specs.declared.packet.Packet.TheVariants.{Itm, Stp};
 ghost use Rattle.itm_grammar.specs.declared.packet.ItmPacket.{ItmPacket};

@@ -1,16 +1,12 @@
 //! The runs of a frame, each to its source.
 
-ghost use Rattle.trace_values.specs.declared.limits.TheConstants.{COUNT_ROOM, PART_ROOM};
+ghost use Rattle.source_merge.specs.Names.{COUNT_ROOM, Cell, RisesFrom, IsRunFrom, runs_of, id_of, told, raw_events};
+ghost use Rattle.source_merge.specs.Names.{triggers, SourceMachine, Stands, held_of, is_live, reading_of, skipped_by};
+ghost use Rattle.trace_values.specs.declared.limits.TheConstants.{PART_ROOM};
 ghost use Rattle.source_merge.specs.declared.slot.TheConstants.{FRAME_ROOM};
 ghost use Rattle.std.specs.Prelude.{◌≡◌, ◌+◌, ◌*◌, ◌<◌, ◌≤◌, ◌++◌, ◌∷◌, [], ℕ, List, length, None};
 ghost use Rattle.std.specs.Prelude.{Some, position, ◌==◌};
 ghost use Rattle.std.specs.Option.{option_map};
-ghost use Rattle.trace_values.specs.declared.cell.Cell.{Cell};
-ghost use Rattle.source_events.specs.Runs.{RisesFrom, IsRunFrom, runs_of, id_of};
-ghost use Rattle.source_events.specs.Merge.{told};
-ghost use Rattle.source_events.specs.Report.{raw_events, triggers};
-ghost use Rattle.source_machine.specs.declared.machine.SourceMachine.{SourceMachine};
-ghost use Rattle.source_machine.specs.Machine.{Stands, held_of, is_live, reading_of, skipped_by};
 ghost use Rattle.source_merge.specs.Routing.{mapped_of, AllLive, AllStand, HaveRoom, AreDistinct, Took, Fed};
 ghost use Rattle.source_merge.specs.Routing.{RunsBetween, SlotFed};
 ghost use Rattle.source_merge.specs.Machines.{source_machines};

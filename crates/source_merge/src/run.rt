@@ -1,10 +1,8 @@
 //! The bytes of a run, and where they are.
 
 ghost use Rattle.std.specs.Prelude.{◌≡◌, ◌+◌, ◌≤◌, ◌<◌, List, length, take, get_or};
-ghost use Rattle.source_machine.specs.declared.machine.TheConstants.{AHEAD};
+ghost use Rattle.source_merge.specs.Names.{AHEAD, Cell, bytes_of};
 ghost use Rattle.source_merge.specs.declared.run.TheConstants.{ROOM};
-ghost use Rattle.trace_values.specs.declared.cell.Cell.{Cell};
-ghost use Rattle.source_events.specs.Runs.{bytes_of};
 
 use source_events::RunBytes;
 use trace_values::Cell;

@@ -2,17 +2,10 @@
 
 ghost use Rattle.std.specs.Prelude.{◌≡◌, ◌+◌, ◌*◌, ◌<◌, ◌≤◌, ◌++◌, ◌∷◌, [], List, length, take, is_none, true, None, Some};
 ghost use Rattle.std.specs.Prelude.{ℕ, IfSome};
-ghost use Rattle.source_machine.specs.Finding.{PassesOver, ToldFits, told_by, told_in};
-ghost use Rattle.source_machine.specs.declared.machine.TheConstants.{AHEAD};
-ghost use Rattle.trace_values.specs.Placed.{Placed};
-ghost use Rattle.trace_values.specs.Block.{given_after};
-ghost use Rattle.trace_values.specs.Stream.{StepFits, given_by};
-ghost use Rattle.trace_values.specs.Taking.{item_at};
-ghost use Rattle.trace_values.specs.declared.limits.TheConstants.{COUNT_ROOM};
+ghost use Rattle.source_merge.specs.Names.{PassesOver, ToldFits, told_by, told_in, AHEAD, Placed, given_after};
+ghost use Rattle.source_merge.specs.Names.{StepFits, given_by, item_at, COUNT_ROOM, told, lifted, EventFits};
+ghost use Rattle.source_merge.specs.Names.{PacketFits};
 ghost use Rattle.trace_values.specs.declared.taking.Found.TheVariants.{Ends, Waits};
-ghost use Rattle.source_events.specs.Merge.{told};
-ghost use Rattle.source_events.specs.Report.{lifted};
-ghost use Rattle.source_events.specs.Fitting.{EventFits, PacketFits};
 ghost use Rattle.source_merge.specs.declared.slot.TheConstants.{FRAME_ROOM};
 ghost use Rattle.source_merge.specs.Counting.{total_of};
 ghost use Rattle.source_merge.specs.Feeding.{Feeds, IsEarly, IsEarlyFrom, step_fault};

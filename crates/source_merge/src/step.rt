@@ -2,25 +2,14 @@
 
 ghost use Rattle.source_merge.specs.declared.slot.TheConstants.{FRAME_ROOM};
 ghost use Rattle.std.specs.Prelude.{◌≡◌, ◌+◌, ◌^◌, ◌<◌, ◌≤◌, ◌++◌, ◌∷◌, [], ℕ, List, length, None, true};
-ghost use Rattle.trace_values.specs.Placed.{Placed, byte_at};
+ghost use Rattle.source_merge.specs.Names.{Placed, byte_at, FramesMode, Answers, port_reading, BytesRise, Event};
+ghost use Rattle.source_merge.specs.Names.{Packet, Stands, held_of, is_live, reading_of, skipped_by, runs_in};
+ghost use Rattle.source_merge.specs.Names.{COUNT_ROOM, Cell, frame_places, IsProperFrame, cells, id_after, Frame};
 ghost use Rattle.deformatter.specs.Growth.{goes_on};
-ghost use Rattle.trace_values.specs.declared.reading_modes.FramesMode.{FramesMode};
-ghost use Rattle.deformatter.specs.ReadingGrowth.{Answers};
-ghost use Rattle.deformatter.specs.PortReading.{port_reading};
-ghost use Rattle.deformatter.specs.Rising.{BytesRise};
-ghost use Rattle.source_events.specs.declared.event.Event.{Event};
-ghost use Rattle.source_events.specs.declared.packet.Packet.{Packet};
-ghost use Rattle.source_machine.specs.Machine.{Stands, held_of, is_live, reading_of, skipped_by};
-ghost use Rattle.source_events.specs.Report.{runs_in};
 ghost use Rattle.source_merge.specs.Routing.{mapped_of, AllLive, AllStand, HaveRoom, AreDistinct};
 ghost use Rattle.source_merge.specs.Counting.{HasBytes, HasCounted, bytes_counted, size_of, total_of, whole_of};
 ghost use Rattle.source_merge.specs.Giving.{Gives, GivesTo};
-ghost use Rattle.trace_values.specs.declared.limits.TheConstants.{COUNT_ROOM};
-ghost use Rattle.trace_values.specs.declared.cell.Cell.{Cell};
-ghost use Rattle.frame_runs.specs.Gathered.{frame_places};
 ghost use Rattle.source_merge.specs.Stepping.{IsReady, MayTake, StepTaken, TookCells};
-ghost use Rattle.frame_grammar.specs.Frame.{IsProperFrame, cells, id_after};
-ghost use Rattle.deformatter.specs.declared.step.PortStep.TheVariants.{Frame};
 
 use crate::counts::{ByteCounts, Counters, PerSource, add_step};
 use crate::frame::FrameCells;

@@ -3,12 +3,9 @@
 ghost use Rattle.std.specs.Prelude.{◌≡◌, ◌≤◌, ◌==◌, length, IfSome, true};
 ghost use Rattle.std.specs.List.{list_any};
 ghost use Rattle.trace_values.specs.declared.limits.TheConstants.{ID_COUNT};
-ghost use Rattle.deformatter.specs.PortReading.{PortReading};
+ghost use Rattle.source_merge.specs.Names.{PortReading, kind_of, sources_by, runs_in, source_tails, tail_by, Stands};
+ghost use Rattle.source_merge.specs.Names.{is_live, reading_of};
 ghost use Rattle.source_events.specs.declared.plan.TheConstants.{MAPPED_SOURCES};
-ghost use Rattle.source_events.specs.Plan.{kind_of, sources_by};
-ghost use Rattle.source_events.specs.Report.{runs_in};
-ghost use Rattle.source_events.specs.Tails.{source_tails, tail_by};
-ghost use Rattle.source_machine.specs.Machine.{Stands, is_live, reading_of};
 ghost use Rattle.source_merge.specs.Ending.{all_of};
 ghost use Rattle.source_merge.specs.Routing.{AllLive, AllStand, mapped_of};
 

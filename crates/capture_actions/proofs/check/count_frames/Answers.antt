@@ -1,6 +1,6 @@
 use Rattle.std.proofs.Common.{◌∙◌, ◌+◌, ◌++◌, ℕ, List, take, drop, subst, sym, append_assoc, take-add, arith, rules}
 use Rattle.std.proofs.lemmas.List.{length-take-le}
-use Rattle.trace_values.specs.Placed.{Placed, placed_from}
+use Rattle.capture_actions.specs.Names.{Placed, placed_from}
 use Rattle.trace_values.proofs.Placing.{placed_from_append}
 use Rattle.source_merge.specs.Engine as engine
 use Rattle.capture_actions.proofs.Feeds.{rest_of}

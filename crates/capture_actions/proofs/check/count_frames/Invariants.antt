@@ -1,5 +1,5 @@
 use Rattle.std.proofs.Common.{◌≡◌, ◌+◌, ◌-◌, ◌<◌, ◌≤◌, ◌++◌, List, length, take, true}
-use Rattle.trace_values.specs.Placed.{Placed, placed_from}
+use Rattle.capture_actions.specs.Names.{Placed, placed_from}
 use Rattle.source_merge.specs.Engine as engine
 use Rattle.capture_actions.proofs.check.count_frames.Given as goal
 

@@ -1,5 +1,5 @@
 use Rattle.std.proofs.Common.{arith}
-use Rattle.source_merge.specs.Engine.{plan_of}
+use Rattle.capture_actions.specs.Names.{plan_of}
 use Rattle.capture_actions.proofs.Counting.{no_lines, lines_more}
 use Rattle.capture_actions.proofs.check.put_sources.Goals as goal
 

@@ -1,6 +1,5 @@
 use Rattle.std.proofs.Common.{◌≡◌, ◌+◌, ◌*◌, ◌≤◌, ◌++◌, List, length}
-use Rattle.trace_values.specs.Placed.{Placed}
-use Rattle.source_merge.specs.Engine.{Stands, plan_of}
+use Rattle.capture_actions.specs.Names.{Placed, Stands, plan_of}
 use Rattle.capture_actions.specs.Summary.{sources_text}
 use Rattle.capture_actions.specs.declared.check.TheConstants.{SOURCE_ROOM}
 use Rattle.capture_actions.proofs.check.put_sources.Given as goal

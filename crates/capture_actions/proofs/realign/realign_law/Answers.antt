@@ -1,6 +1,6 @@
 use Rattle.std.proofs.Common.{◌-◌, length}
 use Rattle.std.proofs.lemmas.List.{take-append-drop}
-use Rattle.port_slip.specs.Segments.{realigned}
+use Rattle.capture_actions.specs.Names.{realigned}
 use Rattle.capture_actions.proofs.realign.realign_law.Goals as goal
 
 pub returns : goal.returns

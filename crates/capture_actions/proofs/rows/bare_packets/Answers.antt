@@ -3,7 +3,7 @@ use Rattle.std.specs.Fmt.{digits}
 use Rattle.hex.proofs.OnLiterals.{hex_on_literals}
 use Rattle.dwt_packets.specs.Table.{name}
 use Rattle.trace_clock.specs.GlobalTime.{low_part, high_part}
-use Rattle.source_events.specs.Tails.{source_tails}
+use Rattle.capture_actions.specs.Names.{source_tails}
 use Rattle.capture_actions.specs.Summary.{sources_text}
 use Rattle.capture_actions.proofs.rows.bare_packets.Goals as goal
 

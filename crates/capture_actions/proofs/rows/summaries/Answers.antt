@@ -1,7 +1,7 @@
 use Rattle.std.proofs.Common.{refl}
 use Rattle.std.specs.Fmt.{digits}
 use Rattle.hex.proofs.OnLiterals.{hex_on_literals}
-use Rattle.source_events.specs.Tails.{source_tails}
+use Rattle.capture_actions.specs.Names.{source_tails}
 use Rattle.capture_actions.specs.Summary.{sources_text}
 use Rattle.capture_actions.proofs.rows.summaries.Goals as goal
 

@@ -4,7 +4,7 @@ use Rattle.hex.proofs.OnLiterals.{hex_on_literals}
 use Rattle.stp_grammar.specs.Attribution.{version_of, master_of, channel_of, last_word_of}
 use Rattle.trace_clock.specs.LastWord.{last_word}
 use Rattle.trace_text.specs.HexDigits.{hex_digits}
-use Rattle.source_events.specs.Tails.{source_tails}
+use Rattle.capture_actions.specs.Names.{source_tails}
 use Rattle.capture_actions.specs.Summary.{sources_text}
 use Rattle.capture_actions.proofs.rows.windows.Goals as goal
 

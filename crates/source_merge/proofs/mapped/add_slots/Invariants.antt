@@ -1,6 +1,6 @@
 use Rattle.std.proofs.Common.{◌≡◌, ◌+◌, ◌++◌, map, take}
 use Rattle.arrayvec.specs.ArrayVec.{array_vec_len}
-use Rattle.source_machine.specs.Machine.{reading_by, reading_of}
+use Rattle.source_merge.specs.Names.{reading_by, reading_of}
 use Rattle.source_merge.specs.Mapping.{AreFresh}
 use Rattle.source_merge.specs.Routing.{mapped_of}
 use Rattle.source_merge.proofs.mapped.add_slots.Given as goal

@@ -1,9 +1,5 @@
 use Rattle.std.proofs.Common.{ℕ, List, ◌++◌, map, ◌∙◌, ap}
-use Rattle.source_events.specs.declared.packet.Packet.{Packet}
-use Rattle.source_events.specs.declared.plan.SourceKind.TheVariants.{Itm, Stp}
-use Rattle.source_events.specs.Report.{Mapped}
-use Rattle.source_machine.specs.Machine.{reading_of}
-use Rattle.source_machine.specs.declared.machine.SourceMachine.{SourceMachine}
+use Rattle.source_merge.specs.Names.{Packet, Itm, Stp, Mapped, reading_of, SourceMachine}
 use Rattle.source_merge.specs.declared.slot.Slot.{Slot}
 use Rattle.source_merge.specs.Routing.{mapped_of}
 use Rattle.source_merge.proofs.Mapping.{mapped_by, of_both}

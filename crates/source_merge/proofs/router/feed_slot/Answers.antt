@@ -3,17 +3,12 @@ use Rattle.std.specs.Prelude.{is_none}
 use Rattle.std.proofs.lemmas.List.{take-append-drop, drop_more}
 use Rattle.std.proofs.Math.Seq.{set-append_seam}
 use Rattle.std.proofs.Math.ListN.{set}
-use Rattle.trace_values.specs.declared.cell.Cell.{Cell}
-use Rattle.trace_values.specs.declared.fault.Fault.{Fault}
-use Rattle.trace_values.specs.Placed.{Placed}
-use Rattle.source_events.specs.declared.event.Event.{Event}
-use Rattle.source_events.specs.declared.packet.Packet.{Packet}
+use Rattle.source_merge.specs.Names.{Cell, Fault, Placed, Event, Packet, Stands, held_of, is_live, reading_of}
+use Rattle.source_merge.specs.Names.{skipped_by, SourceMachine}
 use Rattle.source_merge.specs.declared.slot.Slot.{Slot}
 use Rattle.source_merge.specs.Feeding.{IsEarly}
 use Rattle.source_merge.specs.Routing.{AllLive, HaveRoom}
 use Rattle.source_merge.proofs.Slots.{live_at, room_at, get_seam}
-use Rattle.source_machine.specs.Machine.{Stands, held_of, is_live, reading_of, skipped_by}
-use Rattle.source_machine.specs.declared.machine.SourceMachine.{SourceMachine}
 use Rattle.source_machine.specs.declared.machine.SourceMachine.TheVariants.{Itm, Stp}
 use Rattle.source_merge.proofs.ByParts.{FeedsBy, SlotFedBy}
 use Rattle.source_merge.proofs.router.feed_slot.Goals as goal

@@ -1,11 +1,5 @@
 use Rattle.std.proofs.Common.{Some, take, refl, ◌-◌, ◌≡◌, get_or, sym, ◌∙◌, ap, List, [], ◌∷◌, ℕ}
-use Rattle.trace_values.specs.declared.cell.Cell.{Cell}
-use Rattle.source_events.specs.declared.packet.Packet.{Packet}
-use Rattle.trace_values.specs.Placed.{Place}
-use Rattle.source_events.specs.declared.event.What.{What}
-use Rattle.source_events.specs.declared.event.What.TheVariants.{Raw}
-use Rattle.source_events.specs.Merge.{told}
-use Rattle.source_events.specs.Report.{raw_events, triggers}
+use Rattle.source_merge.specs.Names.{Cell, Packet, Place, What, Raw, told, raw_events, triggers}
 use Rattle.source_events.specs.Runs.{last_at}
 use Rattle.source_events.proofs.Raws.{raw_is, last_is}
 use Rattle.source_merge.proofs.Givings.{given_as, given_none}

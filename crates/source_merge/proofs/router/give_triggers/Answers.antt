@@ -1,6 +1,5 @@
 use Rattle.std.proofs.Common.{◌+◌, ◌++◌, ◌∷◌, [], take, refl, arith}
-use Rattle.source_events.specs.declared.event.Event.{Event}
-use Rattle.source_events.specs.declared.packet.Packet.{Packet}
+use Rattle.source_merge.specs.Names.{Event, Packet}
 use Rattle.source_merge.proofs.Givings.{given_as, given_none, given_more}
 use Rattle.source_merge.proofs.Triggers.{told_by, trigger, one_more}
 use Rattle.source_merge.proofs.router.give_triggers.Goals as goal

@@ -1,6 +1,5 @@
 use Rattle.std.proofs.Common.{◌+◌, ◌≤◌, take, Some}
-use Rattle.source_events.specs.Merge.{told}
-use Rattle.source_events.specs.Report.{triggers}
+use Rattle.source_merge.specs.Names.{told, triggers}
 use Rattle.source_merge.specs.Counting.{total_of}
 use Rattle.source_merge.specs.Giving.{Given}
 use Rattle.source_merge.proofs.router.give_triggers.Given as goal

@@ -1,20 +1,17 @@
 use Rattle.std.proofs.Common.{append-nil, append_assoc, ◌≡◌, ◌-◌, ◌^◌, ◌<◌, List, [], ◌∷◌, ◌++◌, length, take, drop, refl, sym, ◌∙◌, ap, subst, arith, Some, None}
 use Rattle.std.proofs.lemmas.List.{length-drop, length-take-le, take_all}
 use Rattle.std.proofs.lemmas.Bool.Decides.{nat_tests}
-use Rattle.trace_values.specs.declared.cell.Cell.{Cell}
-use Rattle.source_events.specs.Runs.{IsRunFrom, runs_of}
+use Rattle.source_merge.specs.Names.{Cell, IsRunFrom, runs_of, Mapped, Packet, Stands, has_locked, held_of, is_live}
+use Rattle.source_merge.specs.Names.{reading_of, skipped_by}
 use Rattle.source_merge.specs.Run.{cells_of}
 use Rattle.source_merge.proofs.ByParts.{TookBy}
 use Rattle.source_merge.specs.Routing.{mapped_of, AreDistinct, Fed}
 use Rattle.source_events.proofs.Least.{AreSound}
-use Rattle.source_events.specs.Report.{Mapped}
-use Rattle.source_events.specs.declared.packet.Packet.{Packet}
 use Rattle.source_merge.proofs.Slots.{room_more}
 use Rattle.source_merge.proofs.Taking.{first_id, lawful, sound}
 use Rattle.source_merge.proofs.Framing.{cut_at, first_at, done_more, done_all, took_as, rest_in_order, filled_none, filled_more, fed_all, fed_stopped}
 use Rattle.source_merge.specs.Counting.{HasBytes}
 use Rattle.source_merge.proofs.Givings.{given_none, given_more}
-use Rattle.source_machine.specs.Machine.{Stands, has_locked, held_of, is_live, reading_of, skipped_by}
 use Rattle.source_machine.specs.MachineLaws as laws
 use Rattle.source_merge.proofs.Filling.{Filled}
 use Rattle.source_merge.proofs.router.take_frame.Goals as goal

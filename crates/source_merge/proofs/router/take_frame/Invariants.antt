@@ -1,12 +1,9 @@
 use Rattle.std.proofs.Common.{◌≡◌, ℕ, ◌+◌, ◌-◌, ◌*◌, ◌≤◌, List, ◌++◌, length}
-use Rattle.trace_values.specs.declared.cell.Cell.{Cell}
-use Rattle.source_events.specs.declared.event.Event.{Event}
-use Rattle.source_events.specs.declared.packet.Packet.{Packet}
-use Rattle.source_events.specs.Runs.{RisesFrom, runs_of}
+use Rattle.source_merge.specs.Names.{Cell, Event, Packet, RisesFrom, runs_of, Stands, held_of, is_live, reading_of}
+use Rattle.source_merge.specs.Names.{skipped_by}
 use Rattle.source_merge.specs.Routing.{mapped_of, AllLive, AllStand, HaveRoom, AreDistinct, RunsBetween}
 use Rattle.source_merge.specs.Counting.{HasBytes, bytes_counted, total_of}
 use Rattle.source_merge.specs.Giving.{Given}
-use Rattle.source_machine.specs.Machine.{Stands, held_of, is_live, reading_of, skipped_by}
 use Rattle.source_merge.proofs.Filling.{Filled}
 use Rattle.source_merge.proofs.router.take_frame.Given as goal
 

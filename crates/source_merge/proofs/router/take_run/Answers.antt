@@ -1,17 +1,13 @@
 use Rattle.std.proofs.Common.{◌≡◌, ℕ, ◌+◌, ◌*◌, List, [], length, refl, sym, ◌∙◌, arith, Option, Some, None}
 use Rattle.std.specs.Option.{option_map}
-use Rattle.trace_values.specs.declared.fault.Fault.{Fault}
-use Rattle.source_events.specs.declared.event.Stop.{Stop}
-use Rattle.source_machine.specs.declared.machine.SourceMachine.{SourceMachine}
+use Rattle.source_merge.specs.Names.{Fault, Stop, SourceMachine, told, raw_events, Stands, has_locked, held_of}
+use Rattle.source_merge.specs.Names.{is_live, reading_of, skipped_by}
 use Rattle.source_merge.specs.declared.slot.Slot.{Slot}
 use Rattle.source_merge.specs.Routing.{AllLive}
 use Rattle.source_merge.specs.Stepping.{TookCells}
 use Rattle.source_merge.proofs.Givings.{given_none}
 use Rattle.source_merge.proofs.Slots.{IsAt, found_at, room_more, not_found}
 use Rattle.source_merge.proofs.Taking.{took_none, took_own, took_raw, live_on, room_on, same_mapped}
-use Rattle.source_events.specs.Merge.{told}
-use Rattle.source_events.specs.Report.{raw_events}
-use Rattle.source_machine.specs.Machine.{Stands, has_locked, held_of, is_live, reading_of, skipped_by}
 use Rattle.source_machine.specs.MachineLaws as laws
 use Rattle.source_merge.proofs.router.take_run.Goals as goal
 

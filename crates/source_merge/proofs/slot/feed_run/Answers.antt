@@ -1,10 +1,6 @@
 use Rattle.std.proofs.Common.{ℕ, ◌+◌, ◌-◌, ◌<◌, ◌≤◌, ◌++◌, [], length, take, ◌∙◌, ap, subst, arith, Some, None, Option}
 use Rattle.std.specs.Prelude.{is_none}
-use Rattle.trace_values.specs.declared.fault.Fault.{Fault}
-use Rattle.trace_values.specs.Block.{given_after}
-use Rattle.source_events.specs.Merge.{told}
-use Rattle.source_events.specs.Report.{lifted}
-use Rattle.source_machine.specs.Finding.{told_in}
+use Rattle.source_merge.specs.Names.{Fault, given_after, told, lifted, told_in}
 use Rattle.source_merge.specs.declared.counts.PerSource.{PerSource}
 use Rattle.source_merge.specs.Feeding.{IsEarlyFrom}
 use Rattle.source_merge.proofs.ByParts.{FeedsBy}

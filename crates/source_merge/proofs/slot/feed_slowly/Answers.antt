@@ -1,13 +1,6 @@
 use Rattle.std.proofs.Common.{◌≡◌, ℕ, ◌+◌, ◌-◌, ◌<◌, ◌≤◌, ◌++◌, [], ◌∷◌, List, length, take, drop, get_or, refl, sym, ◌∙◌, ap, subst, arith, Some, None, Option}
 use Rattle.std.proofs.lemmas.List.{drop_more, take_more, take-append-drop, length-drop, length-take-le}
-use Rattle.trace_values.specs.declared.cell.Cell.{Cell}
-use Rattle.trace_values.specs.declared.fault.Fault.{Fault}
-use Rattle.trace_values.specs.Stream.{given_by}
-use Rattle.trace_values.specs.Block.{given_after}
-use Rattle.trace_values.specs.Taking.{item_at}
-use Rattle.source_events.specs.Merge.{told}
-use Rattle.source_events.specs.Report.{lifted}
-use Rattle.source_events.specs.Runs.{placed_run, RisesFrom}
+use Rattle.source_merge.specs.Names.{Cell, Fault, given_by, given_after, item_at, told, lifted, placed_run, RisesFrom}
 use Rattle.source_merge.specs.Feeding.{IsEarlyFrom}
 use Rattle.source_merge.proofs.RunSteps.{feeds_more, feeds_kept, grown_as}
 use Rattle.source_merge.proofs.Packets.{feeds_part, front, packet_parts, packet_bytes}

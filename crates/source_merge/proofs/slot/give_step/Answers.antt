@@ -1,9 +1,5 @@
 use Rattle.std.proofs.Common.{◌≡◌, ◌∷◌, [], ap, Some}
-use Rattle.trace_values.specs.declared.step.Step.{Step}
-use Rattle.trace_values.specs.Stream.{given_by}
-use Rattle.source_events.specs.Merge.{told}
-use Rattle.source_events.specs.Report.{lifted}
-use Rattle.source_events.specs.declared.packet.Packet.{Packet}
+use Rattle.source_merge.specs.Names.{Step, given_by, told, lifted, Packet}
 use Rattle.source_merge.proofs.Givings.{given_as, given_more}
 use Rattle.source_merge.proofs.slot.give_step.Goals as goal
 

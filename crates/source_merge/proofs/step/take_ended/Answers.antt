@@ -1,20 +1,12 @@
 use Rattle.std.proofs.Common.{◌+◌, List, [], ◌∷◌, ◌++◌, sym, ◌∙◌, ap, subst, append-nil, refl, arith, None, Option}
-use Rattle.trace_values.specs.declared.cell.Cell.{Cell}
-use Rattle.trace_values.specs.Placed.{byte_at}
-use Rattle.deformatter.specs.declared.step.PortStep.{PortStep}
-use Rattle.deformatter.specs.declared.step.PortStep.TheVariants.{Frame, Locked, Fault}
-use Rattle.deformatter.specs.Growth.{HuntBy, fault_by}
-use Rattle.deformatter.specs.ReadingGrowth.{frames_by, hunting}
-use Rattle.deformatter.specs.PortReading.{port_reading}
-use Rattle.source_events.specs.declared.event.What.{What}
-use Rattle.source_events.specs.declared.packet.Packet.{Packet}
-use Rattle.trace_values.specs.Placed.{Place}
-use Rattle.source_events.specs.Report.{runs_in, port_events, notice_by}
-use Rattle.source_events.specs.Merge.{told}
+use Rattle.source_merge.specs.Names.{Cell, byte_at, PortStep, Frame, fault_by, frames_by, port_reading, What, Packet}
+use Rattle.source_merge.specs.Names.{Place, runs_in, port_events, notice_by, told, Stop, SourceMachine, Stands}
+use Rattle.source_merge.specs.Names.{has_locked, held_of, is_live, reading_of, skipped_by}
+use Rattle.deformatter.specs.declared.step.PortStep.TheVariants.{Locked, Fault}
+use Rattle.deformatter.specs.Growth.{HuntBy}
+use Rattle.deformatter.specs.ReadingGrowth.{hunting}
 use Rattle.source_events.proofs.LockSteps.{port_grows}
 use Rattle.source_merge.specs.Counting.{HasBytes}
-use Rattle.source_events.specs.declared.event.Stop.{Stop}
-use Rattle.source_machine.specs.declared.machine.SourceMachine.{SourceMachine}
 use Rattle.source_merge.specs.declared.slot.Slot.{Slot}
 use Rattle.source_merge.specs.Routing.{AllLive, mapped_of}
 use Rattle.source_merge.specs.Stepping.{TookCells}
@@ -23,7 +15,6 @@ use Rattle.source_merge.proofs.Givings.{given_none}
 use Rattle.source_merge.proofs.Slots.{room_more}
 use Rattle.source_merge.proofs.Taking.{lawful, sound}
 use Rattle.source_merge.proofs.Steps.{after, taken_frame, taken_none, taken_lock, taken_fault, nothing_is}
-use Rattle.source_machine.specs.Machine.{Stands, has_locked, held_of, is_live, reading_of, skipped_by}
 use Rattle.source_machine.specs.MachineLaws as laws
 use Rattle.source_merge.proofs.step.take_ended.Goals as goal
 

@@ -1,6 +1,5 @@
 use Rattle.std.proofs.Common.{◌∷◌, ◌++◌, []}
-use Rattle.trace_values.specs.Placed.{byte_at}
-use Rattle.deformatter.specs.PortReading.{port_reading}
+use Rattle.source_merge.specs.Names.{byte_at, port_reading}
 use Rattle.source_merge.proofs.step.take_step.Goals as goal
 
 -- what was given is counted beside the bytes and the step of the port

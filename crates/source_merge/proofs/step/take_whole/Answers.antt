@@ -1,11 +1,6 @@
 use Rattle.std.proofs.Common.{◌≡◌, List, sym, ◌∙◌, ap, subst, ℕ, Option}
-use Rattle.trace_values.specs.declared.cell.Cell.{Cell}
-use Rattle.deformatter.specs.declared.step.PortStep.TheVariants.{Frame}
-use Rattle.frame_grammar.specs.Frame.{cells}
-use Rattle.frame_grammar.specs.declared.gather.PlacedFrame.{PlacedFrame}
+use Rattle.source_merge.specs.Names.{Cell, Frame, cells, PlacedFrame, Answers, frame_places}
 use Rattle.frame_grammar.proofs.CellLaws.{few_cells}
-use Rattle.deformatter.specs.ReadingGrowth.{Answers}
-use Rattle.frame_runs.specs.Gathered.{frame_places}
 use Rattle.source_merge.specs.Split.{split_cells}
 use Rattle.source_merge.proofs.step.take_whole.Goals as goal
 

@@ -1,18 +1,10 @@
 use Rattle.std.proofs.Common.{◌≡◌, ℕ, List, [], ◌∷◌, get_or, sym, ◌∙◌, ap, subst, Some, None}
 use Rattle.std.specs.Option.{option_map}
-use Rattle.trace_values.specs.Placed.{Placed}
-use Rattle.trace_values.specs.Stream.{Stream}
-use Rattle.source_events.specs.declared.packet.Packet.{Packet}
-use Rattle.source_events.specs.declared.plan.SourceKind.{SourceKind}
-use Rattle.source_events.specs.declared.port_mode.PortMode.{PortMode}
-use Rattle.source_events.specs.declared.tails.SourceTail.{SourceTail}
-use Rattle.source_events.specs.Plan.{stream_of, kind_of}
-use Rattle.source_events.specs.Report.{runs_in}
-use Rattle.source_events.specs.Runs.{list_of}
-use Rattle.source_events.specs.Tails.{packets_mode, tail_by}
-use Rattle.source_machine.specs.Machine.{reading_of, Stands, is_live, has_locked, held_of, skipped_by}
+use Rattle.source_merge.specs.Names.{Placed, Stream, Packet, SourceKind, PortMode, SourceTail, stream_of, kind_of}
+use Rattle.source_merge.specs.Names.{runs_in, list_of, tail_by, reading_of, Stands, is_live, has_locked, held_of}
+use Rattle.source_merge.specs.Names.{skipped_by, SourceMachine}
+use Rattle.source_events.specs.Tails.{packets_mode}
 use Rattle.source_machine.specs.MachineLaws.{shows}
-use Rattle.source_machine.specs.declared.machine.SourceMachine.{SourceMachine}
 use Rattle.source_merge.proofs.Ending.{first_at, slot_at, stands_at, any_at, plan_at, reading_at, nothing_at}
 use Rattle.source_merge.specs.declared.slot.Slot.{Slot}
 use Rattle.source_merge.specs.Routing.{mapped_of, AllLive}

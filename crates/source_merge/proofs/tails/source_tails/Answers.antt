@@ -1,5 +1,5 @@
 use Rattle.std.proofs.Common.{◌+◌, [], ◌∷◌, ◌++◌, length, sym, ◌∙◌, ap, append-nil, arith, length-append}
-use Rattle.source_events.specs.Tails.{source_tails}
+use Rattle.source_merge.specs.Names.{source_tails}
 use Rattle.source_merge.proofs.Ending.{below_all, below_more, below_found, tails_more, no_tails}
 use Rattle.source_merge.proofs.tails.source_tails.Goals as goal
 use Rattle.source_merge.proofs.tails.source_tails.Goals.{in-Some, in_default}

@@ -1,9 +1,5 @@
 use Rattle.std.proofs.Common.{◌≡◌, ◌≤◌, length}
-use Rattle.deformatter.specs.PortReading.{PortReading}
-use Rattle.source_events.specs.Plan.{sources_by}
-use Rattle.source_events.specs.Report.{runs_in}
-use Rattle.source_events.specs.Tails.{source_tails}
-use Rattle.source_machine.specs.Machine.{Stands, reading_of}
+use Rattle.source_merge.specs.Names.{PortReading, sources_by, runs_in, source_tails, Stands, reading_of}
 use Rattle.source_merge.specs.Routing.{AllStand, mapped_of}
 use Rattle.source_merge.proofs.Ending.{below}
 use Rattle.source_merge.proofs.tails.source_tails.Given as goal

@@ -1,12 +1,7 @@
 use Rattle.std.proofs.Common.{◌∙◌, ◌++◌, [], List, refl, sym, ap, subst, append-nil, take, arith}
 use Rattle.std.specs.Prelude.{option_map}
-use Rattle.trace_values.specs.Placed.{Placed, placed, placed_from}
-use Rattle.source_merge.specs.declared.engine.Engine.{Engine}
+use Rattle.capture_actions.specs.Names.{Placed, placed, placed_from, Engine, ReadsTo, FlowAfter, Flow, stop_of}
 use Rattle.source_merge.specs.Engine as engine
-use Rattle.source_merge.specs.Front.{ReadsTo}
-use Rattle.trace_stream.specs.Taken.{FlowAfter}
-use Rattle.trace_stream.specs.declared.action.Flow.{Flow}
-use Rattle.source_events.specs.Report.{stop_of}
 use Rattle.capture_actions.specs.Check.{plan_of}
 use Rattle.capture_actions.specs.Faulty.{IsFaulty}
 use Rattle.capture_actions.proofs.Feeding.{stands_after, stop_after, flow_after, counted_stands, counted_stop, counted_on}

@@ -1,7 +1,5 @@
 use Rattle.std.proofs.Common.{◌≡◌, ℕ, List, [], ◌++◌, ◌∙◌, ap, subst, refl, cond}
-use Rattle.source_events.specs.declared.plan.Plan.{Plan}
-use Rattle.trace_text.specs.declared.remark.Remark.{Remark}
-use Rattle.trace_text.specs.LineText.{event_line}
+use Rattle.capture_actions.specs.Names.{Plan, Remark, event_line}
 use Rattle.capture_actions.specs.Faulty.{is_stp}
 use Rattle.capture_actions.specs.Filter.{plan_by}
 use Rattle.capture_actions.specs.Listing.{is_listed, line_after, lines_after}

@@ -1,6 +1,5 @@
 use Rattle.std.proofs.Common.{rules, refl}
-use Rattle.source_events.specs.declared.packet.Packet.TheVariants.{Itm}
-use Rattle.source_merge.specs.Receiver.{packet_event}
+use Rattle.capture_actions.specs.Names.{Itm, packet_event}
 use Rattle.capture_actions.proofs.lister.Lister.put_own_itm.Goals as goal
 
 pub returns-clause-gets : goal.returns-clause-gets

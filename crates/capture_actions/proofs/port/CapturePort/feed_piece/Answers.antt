@@ -1,9 +1,8 @@
 use Rattle.std.proofs.Common.{◌++◌, List, ℕ, take, sym, ◌∙◌, ap, subst, ◌≡◌, true, None}
 use Rattle.std.proofs.lemmas.List.{length-take-le}
-use Rattle.trace_values.specs.Placed.{placed}
-use Rattle.trace_values.specs.declared.reading_modes.FramesMode.{FramesMode}
+use Rattle.capture_actions.specs.Names.{placed, FramesMode, mode_of}
 use Rattle.deformatter.specs.Reader as reader
-use Rattle.deformatter.specs.Reader.{mode_of, is_live}
+use Rattle.deformatter.specs.Reader.{is_live}
 use Rattle.capture_actions.specs.CapturePort.{Stands}
 use Rattle.capture_actions.specs.Port.{port_of}
 use Rattle.capture_actions.specs.declared.port.CapturePort.{CapturePort}

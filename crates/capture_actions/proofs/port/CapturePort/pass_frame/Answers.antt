@@ -1,12 +1,8 @@
 use Rattle.std.proofs.Common.{◌≡◌, ℕ, List, ◌++◌, length, sym, ◌∙◌, ap, subst, Option}
-use Rattle.trace_values.specs.Placed.{Placed, placed, placed_from, units_of}
-use Rattle.trace_values.specs.declared.reading_modes.FramesMode.{FramesMode}
-use Rattle.frame_grammar.specs.Frame.{cells, id_after}
-use Rattle.frame_grammar.specs.Reading.{offsets_of}
-use Rattle.frame_grammar.specs.Whole.{without_halves, IsWhole}
-use Rattle.deformatter.specs.Reader.{Stands, mode_of, id_of}
-use Rattle.deformatter.specs.PortReading.{port_reading}
-use Rattle.deformatter.specs.ReadingGrowth.{GrowsByFrame}
+use Rattle.capture_actions.specs.Names.{Placed, placed, placed_from, FramesMode, cells, id_after, offsets_of}
+use Rattle.capture_actions.specs.Names.{without_halves, IsWhole, mode_of, port_reading, GrowsByFrame}
+use Rattle.trace_values.specs.Placed.{units_of}
+use Rattle.deformatter.specs.Reader.{Stands, id_of}
 use Rattle.capture_actions.specs.Port.{port_of}
 use Rattle.capture_actions.specs.PortGrowth.{whole_cells}
 use Rattle.capture_actions.proofs.Ports.{next_bytes, counted_next, fault_none}

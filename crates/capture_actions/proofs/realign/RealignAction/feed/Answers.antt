@@ -1,6 +1,6 @@
 use Rattle.std.proofs.Common.{◌≡◌, ◌++◌, List, ℕ, take, sym, subst}
 use Rattle.port_slip.specs.Slip as slips
-use Rattle.port_slip.specs.Sure.{sure}
+use Rattle.capture_actions.specs.Names.{sure}
 use Rattle.port_slip.proofs.Standing.{stands_sure}
 use Rattle.capture_actions.proofs.realign.RealignAction.feed.Goals as goal
 

@@ -1,7 +1,7 @@
 use Rattle.std.proofs.Common.{◌≡◌, ◌-◌, ◌++◌, ℕ, List, [], length, take, drop, sym, ◌∙◌, ap}
 use Rattle.std.proofs.lemmas.List.{take-append-drop, append_cancel_left}
-use Rattle.port_slip.specs.Segments.{Realigned, realigned}
-use Rattle.port_slip.specs.Sure.{sure}
+use Rattle.capture_actions.specs.Names.{realigned, sure}
+use Rattle.port_slip.specs.Segments.{Realigned}
 use Rattle.capture_actions.proofs.realign.RealignAction.finish.Goals as goal
 
 pub returns : goal.returns

@@ -1,7 +1,6 @@
 use Rattle.std.proofs.Common.{◌≡◌, ◌∙◌, ℕ, ◌+◌, true, ap, subst, arith, take, rules}
 use Rattle.std.proofs.lemmas.List.{length-take-le}
-use Rattle.trace_stream.specs.declared.action.Flow.{Flow}
-use Rattle.trace_stream.specs.declared.action.Flow.TheVariants.{On}
+use Rattle.capture_actions.specs.Names.{Flow, On}
 use Rattle.capture_actions.specs.Feeding.{HasFed}
 use Rattle.capture_actions.specs.Show.{taken_by}
 use Rattle.capture_actions.proofs.Feeds.{fed_next}

@@ -1,7 +1,5 @@
 use Rattle.std.proofs.Common.{◌+◌, ◌<◌, ◌≤◌, length, take}
-use Rattle.trace_stream.specs.declared.action.Flow.TheVariants.{On}
-use Rattle.trace_stream.specs.declared.action.TheConstants.{ACTION_ROOM}
-use Rattle.trace_stream.specs.declared.outlet.TheConstants.{OUTLET_ROOM}
+use Rattle.capture_actions.specs.Names.{On, ACTION_ROOM, OUTLET_ROOM}
 use Rattle.capture_actions.specs.Feeding.{HasFed}
 use Rattle.capture_actions.proofs.show.ShowAction.feed.Given as goal
 

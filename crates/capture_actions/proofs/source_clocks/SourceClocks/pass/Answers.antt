@@ -1,5 +1,5 @@
 use Rattle.std.proofs.Common.{get_or, List, Some, subst, sym}
-use Rattle.itm_grammar.specs.declared.packet.ItmPacket.{ItmPacket}
+use Rattle.capture_actions.specs.Names.{ItmPacket}
 use Rattle.capture_actions.specs.Clocks.{Stands}
 use Rattle.capture_actions.proofs.Sources.{other_stays}
 use Rattle.capture_actions.proofs.source_clocks.SourceClocks.pass.Goals as goal

@@ -1,9 +1,5 @@
 use Rattle.std.proofs.Common.{List, ◌++◌, take, sym, ◌∙◌, ap, subst}
-use Rattle.trace_stream.specs.declared.action.Flow.{Flow}
-use Rattle.trace_stream.specs.Taken.{FlowAfter}
-use Rattle.trace_values.specs.declared.cell.Cell.{Cell}
-use Rattle.trace_values.specs.declared.reading_modes.FramesMode.{FramesMode}
-use Rattle.deformatter.specs.PortReading.{cells_of}
+use Rattle.capture_actions.specs.Names.{Flow, FlowAfter, Cell, FramesMode, cells_of}
 use Rattle.capture_actions.specs.CapturePort.{frames_mode}
 use Rattle.capture_actions.specs.Port.{port_of, IsPortFaulty}
 use Rattle.capture_actions.specs.Split.{bytes_of_id}

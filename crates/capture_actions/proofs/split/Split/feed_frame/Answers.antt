@@ -1,11 +1,6 @@
 use Rattle.std.proofs.Common.{ℕ, List, ◌++◌, length, sym, ◌∙◌, ap, Option}
-use Rattle.trace_values.specs.Placed.{placed_from}
-use Rattle.trace_values.specs.declared.reading_modes.FramesMode.{FramesMode}
-use Rattle.frame_grammar.specs.Frame.{id_after}
-use Rattle.frame_grammar.specs.Reading.{offsets_of}
-use Rattle.frame_grammar.specs.Whole.{without_halves}
+use Rattle.capture_actions.specs.Names.{placed_from, FramesMode, id_after, offsets_of, without_halves, cells_of}
 use Rattle.frame_grammar.proofs.Wholes.{whole_size}
-use Rattle.deformatter.specs.PortReading.{cells_of}
 use Rattle.capture_actions.specs.CapturePort.{frames_mode, id_of}
 use Rattle.capture_actions.specs.Port.{port_of}
 use Rattle.capture_actions.specs.PortGrowth.{whole_cells}

@@ -1,6 +1,6 @@
 use Rattle.std.proofs.Common.{take, sym, subst, ◌+◌, ◌*◌}
 use Rattle.trace_stream.specs.declared.action.Taken.{Taken}
-use Rattle.trace_stream.specs.Taken.{HasTaken}
+use Rattle.capture_actions.specs.Names.{HasTaken}
 use Rattle.capture_actions.specs.Split.{split_meaning}
 use Rattle.capture_actions.specs.Splitter.{Stands, plan_of}
 use Rattle.capture_actions.proofs.Ports.{plain_whole}

@@ -1,7 +1,6 @@
 use Rattle.std.proofs.Common.{[], ◌∷◌, ◌++◌, length, ap, arith, ◌∙◌}
 use Rattle.std.proofs.lemmas.List.{length_push}
-use Rattle.frame_grammar.specs.Frame.{cells}
-use Rattle.deformatter.specs.PortReading.{port_reading}
+use Rattle.source_merge.specs.Names.{cells, port_reading}
 use Rattle.source_merge.proofs.FrameCounts.{bytes_kept, items_kept}
 use Rattle.source_merge.proofs.counts.Counters.add_frame.Goals as goal
 

@@ -1,7 +1,6 @@
 use Rattle.std.proofs.Common.{◌≡◌, ◌≤◌, List, ℕ, ◌++◌, length, take, sym, ◌∙◌, ap, subst}
 use Rattle.std.proofs.lemmas.List.{length-take-le}
-use Rattle.trace_values.specs.Placed.{placed_from}
-use Rattle.frame_grammar.specs.Frame.{IsProperFrame}
+use Rattle.source_merge.specs.Names.{placed_from, IsProperFrame}
 use Rattle.frame_grammar.specs.Whole.{IsWhole}
 use Rattle.frame_grammar.proofs.Wholes.{plain_is_whole}
 use Rattle.source_merge.specs.Engine.{Stands}

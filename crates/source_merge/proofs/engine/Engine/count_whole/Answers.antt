@@ -1,20 +1,11 @@
 use Rattle.std.proofs.Common.{◌≡◌, ℕ, ◌+◌, ◌*◌, List, [], ◌++◌, length, sym, ◌∙◌, ap, subst, arith, Option}
 use Rattle.std.proofs.Common.{length-append}
 use Rattle.std.specs.Prelude.{is_none}
-use Rattle.trace_values.specs.Placed.{placed_from, units_of}
+use Rattle.source_merge.specs.Names.{placed_from, units_of, FramesMode, cells, id_after, offsets_of, without_halves}
+use Rattle.source_merge.specs.Names.{GrowsByFrame, port_reading, BytesRise, sources_by, runs_in, SourceMachine}
+use Rattle.source_merge.specs.Names.{reading_of, Stands as MachineStands, held_of, skipped_by}
 use Rattle.trace_values.proofs.Placing.{length-placed_from}
-use Rattle.trace_values.specs.declared.reading_modes.FramesMode.{FramesMode}
-use Rattle.frame_grammar.specs.Frame.{cells, id_after}
-use Rattle.frame_grammar.specs.Reading.{offsets_of}
-use Rattle.frame_grammar.specs.Whole.{without_halves}
 use Rattle.frame_grammar.proofs.Wholes.{whole_size}
-use Rattle.deformatter.specs.ReadingGrowth.{GrowsByFrame}
-use Rattle.deformatter.specs.PortReading.{port_reading}
-use Rattle.deformatter.specs.Rising.{BytesRise}
-use Rattle.source_events.specs.Plan.{sources_by}
-use Rattle.source_events.specs.Report.{runs_in}
-use Rattle.source_machine.specs.declared.machine.SourceMachine.{SourceMachine}
-use Rattle.source_machine.specs.Machine.{reading_of, Stands as MachineStands, held_of, skipped_by}
 use Rattle.source_merge.specs.declared.slot.Slot.{Slot}
 use Rattle.source_merge.specs.Answering.{port_of, report_of, fault_of}
 use Rattle.source_merge.specs.Routing.{mapped_of, AllStand}

@@ -1,6 +1,6 @@
 use Rattle.std.proofs.Common.{ap, ◌∙◌, ℕ}
 use Rattle.source_counts.specs.declared.counts.Counts.{Counts}
-use Rattle.source_events.specs.Tails.{items_in}
+use Rattle.source_merge.specs.Names.{items_in}
 use Rattle.source_merge.specs.Answering.{port_of, report_of}
 use Rattle.source_merge.proofs.Attributed.{bytes_are}
 use Rattle.source_merge.proofs.engine.Engine.counts.Goals as goal

@@ -1,9 +1,5 @@
 use Rattle.std.proofs.Common.{◌≡◌, ℕ, ◌+◌, List, [], ◌∷◌, ◌++◌, take, sym, ap, subst, arith, ◌∙◌}
-use Rattle.trace_values.specs.Placed.{placed_from}
-use Rattle.deformatter.specs.Block.{FedAs}
-use Rattle.source_events.specs.declared.event.Event.{Event}
-use Rattle.source_events.specs.declared.packet.Packet.{Packet}
-use Rattle.source_events.specs.Fitting.{AllFit, PacketFits}
+use Rattle.source_merge.specs.Names.{placed_from, FedAs, Event, Packet, AllFit, PacketFits}
 use Rattle.source_merge.specs.Answering.{Answers}
 use Rattle.source_merge.specs.Engine.{Stands}
 use Rattle.source_merge.specs.declared.flow.Flow.TheVariants.{Going}

@@ -1,12 +1,7 @@
 use Rattle.std.proofs.Common.{◌≡◌, ℕ, ◌+◌, ◌-◌, ◌≤◌, List, [], ◌++◌, length, take, drop, refl, sym, ◌∙◌, ap, subst, arith}
 use Rattle.std.proofs.lemmas.List.{length-take-le, length-drop}
-use Rattle.trace_values.specs.Placed.{Placed, placed_from}
-use Rattle.deformatter.specs.Block.{EachByte, FedAs}
+use Rattle.source_merge.specs.Names.{Placed, placed_from, EachByte, FedAs, Event, Packet, Plan, AllFit, PacketFits}
 use Rattle.deformatter.proofs.Blocks.{whole_fed}
-use Rattle.source_events.specs.declared.event.Event.{Event}
-use Rattle.source_events.specs.declared.packet.Packet.{Packet}
-use Rattle.source_events.specs.declared.plan.Plan.{Plan}
-use Rattle.source_events.specs.Fitting.{AllFit, PacketFits}
 use Rattle.arrayvec.specs.ArrayVec.{array_vec_len}
 use Rattle.source_merge.specs.Answering.{Answers}
 use Rattle.source_merge.specs.declared.engine.Engine.{Engine}

@@ -1,14 +1,8 @@
 use Rattle.std.proofs.Common.{◌≡◌, ℕ, List, sym, ◌∙◌, ap, subst}
-use Rattle.trace_values.specs.declared.reading_modes.FramesMode.{FramesMode}
-use Rattle.deformatter.specs.PortReading.{port_reading}
-use Rattle.source_events.specs.declared.port_mode.PortMode.{PortMode}
-use Rattle.source_events.specs.declared.tails.SourceTail.{SourceTail}
+use Rattle.source_merge.specs.Names.{FramesMode, port_reading, PortMode, SourceTail, runs_in, sources_by, reading_of}
+use Rattle.source_merge.specs.Names.{Stands, SourceMachine}
 use Rattle.source_events.specs.declared.tails.Tails.{Tails}
-use Rattle.source_events.specs.Report.{runs_in}
 use Rattle.source_events.specs.Tails.{port_mode, tails_of}
-use Rattle.source_events.specs.Plan.{sources_by}
-use Rattle.source_machine.specs.Machine.{reading_of, Stands}
-use Rattle.source_machine.specs.declared.machine.SourceMachine.{SourceMachine}
 use Rattle.source_merge.specs.declared.slot.Slot.{Slot}
 use Rattle.source_merge.specs.Routing.{mapped_of, AllStand}
 use Rattle.source_merge.specs.Answering.{port_of, report_of}

@@ -1,12 +1,8 @@
 use Rattle.std.proofs.Common.{List, [], length, refl, sym, ◌∙◌, ap, subst, arith}
 use Rattle.std.specs.Prelude.{is_none}
-use Rattle.trace_values.specs.declared.cell.Cell.{Cell}
+use Rattle.source_merge.specs.Names.{Cell, PortCounts, sources_by, all_runs, Stands as MachineStands}
 use Rattle.deformatter.proofs.PortReadingLaws.{none_read}
-use Rattle.source_events.specs.declared.tails.PortCounts.{PortCounts}
-use Rattle.source_events.specs.Plan.{sources_by}
-use Rattle.source_events.specs.Runs.{all_runs}
 use Rattle.source_events.proofs.Captures.{no_fault_first, no_event_first}
-use Rattle.source_machine.specs.Machine.{Stands as MachineStands}
 use Rattle.source_merge.specs.Counting.{HasBytes, HasItems}
 use Rattle.source_merge.specs.Routing.{AllStand}
 use Rattle.source_merge.proofs.Mapping.{fresh_stand, fresh_live, fresh_room, sources_lawful}

@@ -1,27 +1,15 @@
 use Rattle.std.proofs.Common.{◌≡◌, ℕ, ◌+◌, ◌-◌, ◌*◌, ◌^◌, List, [], ◌∷◌, ◌++◌, length, refl, sym, ◌∙◌, ap, subst}
 use Rattle.std.proofs.Common.{arith, Option, None, length-append}
 use Rattle.std.specs.Prelude.{is_none}
-use Rattle.trace_values.specs.declared.cell.Cell.{Cell}
-use Rattle.trace_values.specs.Placed.{Placed, byte_at, placed_from, units_of}
+use Rattle.source_merge.specs.Names.{Cell, Placed, byte_at, placed_from, units_of, FramesMode, cells, id_after}
+use Rattle.source_merge.specs.Names.{offsets_of, without_halves, Frame, Answers as PortAnswers, FedFrame, GrowsByFrame}
+use Rattle.source_merge.specs.Names.{port_reading, BytesRise, Mapped, runs_in, Event, Packet, Plan, reading_of}
+use Rattle.source_merge.specs.Names.{Stands as MachineStands, is_live, held_of, skipped_by, SourceMachine, IsGathered}
+use Rattle.source_merge.specs.Names.{frame_places}
 use Rattle.trace_values.proofs.Placing.{length-placed_from}
-use Rattle.trace_values.specs.declared.reading_modes.FramesMode.{FramesMode}
-use Rattle.frame_grammar.specs.Frame.{cells, id_after}
-use Rattle.frame_grammar.specs.Reading.{offsets_of}
-use Rattle.frame_grammar.specs.Whole.{without_halves}
 use Rattle.frame_grammar.proofs.Wholes.{whole_size}
-use Rattle.deformatter.specs.declared.step.PortStep.TheVariants.{Frame}
-use Rattle.deformatter.specs.ReadingGrowth.{Answers as PortAnswers, FedFrame, GrowsByFrame}
-use Rattle.deformatter.specs.PortReading.{port_reading}
-use Rattle.deformatter.specs.Rising.{BytesRise}
-use Rattle.source_events.specs.Report.{Mapped, runs_in}
-use Rattle.source_events.specs.declared.event.Event.{Event}
-use Rattle.source_events.specs.declared.packet.Packet.{Packet}
-use Rattle.source_events.specs.declared.plan.Plan.{Plan}
-use Rattle.source_machine.specs.Machine.{reading_of, Stands as MachineStands, is_live, held_of, skipped_by}
-use Rattle.source_machine.specs.declared.machine.SourceMachine.{SourceMachine}
 use Rattle.source_merge.specs.declared.slot.Slot.{Slot}
 use Rattle.source_merge.specs.Engine.{Stands, Keeps}
-use Rattle.frame_runs.specs.Gathered.{IsGathered, frame_places}
 use Rattle.source_merge.specs.Answering.{port_of, fault_of}
 use Rattle.source_merge.specs.Routing.{mapped_of, AllLive, AllStand, HaveRoom, LiveIf, RoomIf, AreDistinct}
 use Rattle.source_merge.proofs.Slots.{room_more}

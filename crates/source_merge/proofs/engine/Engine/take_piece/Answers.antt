@@ -3,21 +3,11 @@ use Rattle.std.proofs.Common.{arith, true, false, Option, Some, None, length-app
 use Rattle.std.specs.Prelude.{is_none}
 use Rattle.std.specs.Option.{option_map}
 use Rattle.std.proofs.lemmas.List.{take_all, length-take-le}
-use Rattle.trace_values.specs.declared.fault.Fault.{Fault}
-use Rattle.trace_values.specs.Placed.{Placed, placed_from}
+use Rattle.source_merge.specs.Names.{Fault, Placed, placed_from, FramesMode, Bare, port_reading, BytesRise, Event}
+use Rattle.source_merge.specs.Names.{Stop, Packet, Plan, Mapped, stop_of, reading_of, Stands as MachineStands}
+use Rattle.source_merge.specs.Names.{has_locked, is_live, held_of, skipped_by, SourceMachine}
 use Rattle.trace_values.proofs.Placing.{length-placed_from}
-use Rattle.trace_values.specs.declared.reading_modes.FramesMode.{FramesMode}
-use Rattle.trace_values.specs.declared.reading_modes.FramesMode.TheVariants.{Bare}
-use Rattle.deformatter.specs.PortReading.{port_reading}
-use Rattle.deformatter.specs.Rising.{BytesRise}
-use Rattle.source_events.specs.declared.event.Event.{Event}
-use Rattle.source_events.specs.declared.event.Stop.{Stop}
-use Rattle.source_events.specs.declared.packet.Packet.{Packet}
-use Rattle.source_events.specs.declared.plan.Plan.{Plan}
-use Rattle.source_events.specs.Report.{Mapped, stop_of}
-use Rattle.source_machine.specs.Machine.{reading_of, Stands as MachineStands, has_locked, is_live, held_of, skipped_by}
 use Rattle.source_machine.specs.MachineLaws as laws
-use Rattle.source_machine.specs.declared.machine.SourceMachine.{SourceMachine}
 use Rattle.source_merge.specs.declared.slot.Slot.{Slot}
 use Rattle.source_merge.specs.declared.engine.Engine.{Engine}
 use Rattle.source_merge.specs.declared.piece.PieceRun.{PieceRun}

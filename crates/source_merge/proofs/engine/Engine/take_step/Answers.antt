@@ -2,21 +2,11 @@ use Rattle.std.proofs.Common.{◌≡◌, ℕ, ◌+◌, ◌-◌, ◌*◌, ◌^◌
 use Rattle.std.proofs.Common.{arith, None, length-append}
 use Rattle.std.specs.Prelude.{is_none}
 use Rattle.std.proofs.lemmas.List.{length-take-le}
-use Rattle.trace_values.specs.declared.cell.Cell.{Cell}
-use Rattle.trace_values.specs.Placed.{Placed, byte_at, placed_from}
+use Rattle.source_merge.specs.Names.{Cell, Placed, byte_at, placed_from, FramesMode, FedAs, Answers as PortAnswers}
+use Rattle.source_merge.specs.Names.{port_reading, BytesRise, Mapped, runs_in, Event, Packet, Plan, reading_of}
+use Rattle.source_merge.specs.Names.{Stands as MachineStands, is_live, held_of, skipped_by, SourceMachine}
 use Rattle.trace_values.proofs.Placing.{length-placed_from}
-use Rattle.trace_values.specs.declared.reading_modes.FramesMode.{FramesMode}
 use Rattle.deformatter.specs.declared.step.PortStep.TheVariants.{Quiet}
-use Rattle.deformatter.specs.Block.{FedAs}
-use Rattle.deformatter.specs.ReadingGrowth.{Answers as PortAnswers}
-use Rattle.deformatter.specs.PortReading.{port_reading}
-use Rattle.deformatter.specs.Rising.{BytesRise}
-use Rattle.source_events.specs.Report.{Mapped, runs_in}
-use Rattle.source_events.specs.declared.event.Event.{Event}
-use Rattle.source_events.specs.declared.packet.Packet.{Packet}
-use Rattle.source_events.specs.declared.plan.Plan.{Plan}
-use Rattle.source_machine.specs.Machine.{reading_of, Stands as MachineStands, is_live, held_of, skipped_by}
-use Rattle.source_machine.specs.declared.machine.SourceMachine.{SourceMachine}
 use Rattle.source_merge.specs.declared.slot.Slot.{Slot}
 use Rattle.source_merge.specs.Engine.{Stands, Keeps}
 use Rattle.source_merge.specs.Answering.{fault_of}

@@ -1,13 +1,9 @@
 use Rattle.std.proofs.Common.{append-nil, append_assoc, ◌≡◌, ◌+◌, ◌*◌, ◌^◌, List, [], ◌∷◌, ◌++◌, length, refl, sym, ◌∙◌, ap, ap₂, subst, arith, Some, None, Option, ℕ}
-use Rattle.trace_values.specs.declared.cell.Cell.{Cell}
-use Rattle.source_events.specs.Runs.{RisesFrom, runs_of}
-use Rattle.source_events.specs.Report.{Mapped}
-use Rattle.source_events.specs.declared.packet.Packet.{Packet}
+use Rattle.source_merge.specs.Names.{Cell, RisesFrom, runs_of, Mapped, Packet, Stands, has_locked, held_of, is_live}
+use Rattle.source_merge.specs.Names.{reading_of, skipped_by, ends_left}
 use Rattle.source_events.proofs.Least.{AreSound}
-use Rattle.source_machine.specs.Machine.{Stands, has_locked, held_of, is_live, reading_of, skipped_by}
 use Rattle.source_machine.specs.MachineLaws as laws
 use Rattle.source_merge.specs.Counting.{HasBytes}
-use Rattle.frame_runs.specs.Pairs.{ends_left}
 use Rattle.source_merge.specs.Routing.{mapped_of, AreDistinct, Fed}
 use Rattle.source_merge.specs.Split.{split_cells, split_places}
 use Rattle.source_merge.specs.declared.split.Begun.{Begun}

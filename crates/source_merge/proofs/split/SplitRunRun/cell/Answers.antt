@@ -1,6 +1,6 @@
 use Rattle.std.proofs.Common.{◌<◌, ◌+◌, ◌-◌, ℕ, sym, ◌∙◌, ap, arith}
 use Rattle.std.specs.Prelude.{slice_index}
-use Rattle.trace_values.specs.declared.cell.Cell.{Cell}
+use Rattle.source_merge.specs.Names.{Cell}
 use Rattle.source_merge.proofs.Placing.{offset_is}
 use Rattle.source_merge.proofs.RunCells.{run_length, run_cell}
 use Rattle.source_merge.proofs.split.SplitRunRun.cell.Goals as goal
