@@ -22,7 +22,8 @@ pub use Rattle.source_events.specs.Fitting.{EventFits, PacketFits}
 pub use Rattle.source_events.specs.Merge.{is_of}
 pub use Rattle.source_events.specs.Plan.{is_sound, sources_by}
 pub use Rattle.source_events.specs.Report.{is_item, stop_of}
-pub use Rattle.source_events.specs.Tails.{port_counts_of, source_counts_of, source_tails, tails_of}
+pub use Rattle.source_events.specs.Tails.{port_counts_of, source_counts_of, tails_of}
+unfoldable pub use Rattle.source_events.specs.Tails.{source_tails}
 pub use Rattle.source_events.specs.declared.event.Event.{Event}
 pub use Rattle.source_events.specs.declared.event.Stop.{Stop}
 pub use Rattle.source_events.specs.declared.event.What.{What}

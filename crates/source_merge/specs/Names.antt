@@ -13,7 +13,8 @@ pub use Rattle.frame_grammar.specs.Whole.{without_halves}
 pub use Rattle.frame_grammar.specs.declared.gather.PlacedFrame.{PlacedFrame}
 pub use Rattle.frame_runs.specs.Data.{byte_in, is_late, place_in, run_cells}
 pub use Rattle.frame_runs.specs.Gathered.{IsGathered, frame_places}
-pub use Rattle.frame_runs.specs.Pairs.{ends_from, ends_left}
+pub use Rattle.frame_runs.specs.Pairs.{ends_left}
+unfoldable pub use Rattle.frame_runs.specs.Pairs.{ends_from}
 pub use Rattle.source_counts.specs.Counts.{items_of, unattributed_of}
 pub use Rattle.source_events.specs.Fitting.{AllFit, EventFits, PacketFits}
 pub use Rattle.source_events.specs.Merge.{AllIn, Below, InOrder, cut, grown, merged_from, start_of, told}
@@ -23,7 +24,8 @@ pub use Rattle.source_events.specs.Report.{lifted, notice_by, of_source, port_ev
 pub use Rattle.source_events.specs.Report.{runs_in, stop_in, stop_of, triggers}
 pub use Rattle.source_events.specs.Runs.{IsRunFrom, RisesFrom, all_runs, bytes_of, end_of, id_of, list_of, more_of}
 pub use Rattle.source_events.specs.Runs.{placed_run, run_length, runs_of}
-pub use Rattle.source_events.specs.Tails.{items_in, source_tails, tail_by}
+pub use Rattle.source_events.specs.Tails.{items_in, tail_by}
+unfoldable pub use Rattle.source_events.specs.Tails.{source_tails}
 pub use Rattle.source_events.specs.declared.event.Event.{Event}
 pub use Rattle.source_events.specs.declared.event.Stop.{Stop}
 pub use Rattle.source_events.specs.declared.event.What.{What}
