@@ -3,8 +3,6 @@
 #![tactic(auto)]
 
 #[cfg(test)]
-mod capture_plan_tests;
-#[cfg(test)]
 mod decimal_words_tests;
 #[cfg(test)]
 mod deformatter_tests;
@@ -26,6 +24,8 @@ mod itm_grammar_tests;
 mod port_reader_tests;
 #[cfg(test)]
 mod port_sync_tests;
+#[cfg(test)]
+mod reading_modes_tests;
 #[cfg(test)]
 mod same;
 #[cfg(test)]
