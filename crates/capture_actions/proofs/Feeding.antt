@@ -7,7 +7,7 @@ use Rattle.capture_actions.specs.Names.{offsets_of, Event, Stop, Packet, Plan, s
 use Rattle.capture_actions.specs.Names.{Engine, Stands, is_live, plan_of}
 use Rattle.trace_values.proofs.Placing.{placed_append}
 use Rattle.deformatter.specs.Rising.{end_at}
-use Rattle.source_merge.specs.Answering.{fault_by}
+use Rattle.source_merge.specs.Answering.{fault_by, goes_on as is_on}
 use Rattle.source_merge.specs.declared.flow.Flow.{Flow}
 use Rattle.source_merge.specs.declared.flow.Flow.TheVariants.{Stopped}
 use Rattle.source_merge.specs.Engine.{next_of}
@@ -44,13 +44,13 @@ module _ (plan : Plan) (seen bytes : List ℕ) (at : ℕ) (given : List (Event P
       let l = ap (λ (o : Fault). is_none o) k in let m = h in cc)
 
   pub ends : (stop : Stop) → flow ≡ Stopped stop → FlowAfter (IsFaulty plan) (seen ++ bytes) Ended
-  ends stop g = record {
-    front = seen ++ reads.front;
-    last = reads.last;
-    all = ap (λ (l : List ℕ). seen ++ l) reads.parts ∙ sym (append_assoc seen reads.front (reads.last ∷ []));
+  ends stop g = let certain = reads.certain (ap is_on g) in record {
+    front = seen ++ certain.front;
+    last = certain.last;
+    all = ap (λ (l : List ℕ). seen ++ l) certain.parts ∙ sym (append_assoc seen certain.front (certain.last ∷ []));
     sound = λ h.
-        (let k : fault_of plan (placed (seen ++ reads.front)) ≡ None =
-        ap (fault_of plan) (sym (next_bytes seen reads.front at e)) ∙ reads.sound in
+        (let k : fault_of plan (placed (seen ++ certain.front)) ≡ None =
+        ap (fault_of plan) (sym (next_bytes seen certain.front at e)) ∙ certain.sound in
         let l = ap (λ (o : Fault). is_none o) k in let m = h in cc);
     broken = ap (λ (o : Fault). is_none o) (fault_after ∙ ap fault_by g);
   }

@@ -1,8 +1,8 @@
-use Rattle.std.proofs.Common.{◌≡◌, ℕ, List, [], ◌++◌, ◌∙◌, ap, subst, refl, cond}
+use Rattle.std.proofs.Common.{◌≡◌, ℕ, List, [], ◌++◌, ◌∙◌, ap, sym, subst, refl, cond, append-nil}
 use Rattle.capture_actions.specs.Names.{Plan, Remark, event_line}
 use Rattle.capture_actions.specs.Faulty.{is_stp}
 use Rattle.capture_actions.specs.Filter.{plan_by}
-use Rattle.capture_actions.specs.Listing.{is_listed, line_after, lines_after}
+use Rattle.capture_actions.specs.Listing.{is_listed, line_after}
 use Rattle.capture_actions.proofs.lister.Lister.put_next.Goals as goal
 
 pub returns-clause-gets : goal.returns-clause-gets
@@ -13,12 +13,13 @@ returns-clause-gets c =
     record {
       kept = refl;
       asked = subst (λ (p : Plan). plan_by p c.put_event.new.filter ≡ plan_by p old.filter) c.plan.ensures c.put_event.ensures.same;
-      clocks = c.remark-remark.ensures.clocks;
+      clocks = c.remark-remark.ensures.stand;
       seen = c.put_event.ensures.seen;
       text = λ before h f.
           let p = plan_by old.plan old.filter in
           subst (λ (q : Plan). c.put_event.new.outlet ≡ at ++ cond (is_listed old.filter.only (plan_by q old.filter).window before e)
           (event_line (is_stp q e.source) e c.remark-remark.result) []) c.plan.ensures (c.put_event.ensures.text before f)
           ∙ ap (λ (r : Remark). at ++ cond (is_listed p.only p.window before e) (event_line (is_stp p.plan e.source) e r) [])
-          (c.remark-remark.ensures.remark before h);
+          (c.remark-remark.ensures.remark before h)
+          ∙ ap (λ (l : List ℕ). at ++ l) (sym (append-nil (line_after p before e)));
     }

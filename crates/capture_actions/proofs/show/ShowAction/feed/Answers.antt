@@ -1,18 +1,10 @@
-use Rattle.std.proofs.Common.{◌≡◌, ◌∙◌, ℕ, ◌+◌, true, ap, subst, arith, take, rules}
-use Rattle.std.proofs.lemmas.List.{length-take-le}
-use Rattle.capture_actions.specs.Names.{Flow, On}
+use Rattle.std.proofs.Common.{◌≡◌, ◌∙◌, ◌+◌, ◌-◌, ℕ, true, ap, drop, length, subst, arith, take, rules}
+use Rattle.std.proofs.lemmas.List.{length-drop, length-take-le}
+use Rattle.capture_actions.specs.Names.{Flow}
 use Rattle.capture_actions.specs.Feeding.{HasFed}
 use Rattle.capture_actions.specs.Show.{taken_by}
 use Rattle.capture_actions.proofs.Feeds.{fed_next}
 use Rattle.capture_actions.proofs.show.ShowAction.feed.Goals as goal
-
--- one turn more
-fed : (c : goal.After-take-taken) → HasFed c.args.self.now c.take-taken.new.self (take (c.loop-turn.done + c.take-taken.result.bytes) c.args.piece.now)
-    c.take-taken.result.flow c.args.outlet.now c.take-taken.new.outlet
-fed c =
-    fed_next c.args.self.now c.loop-turn.self c.take-taken.new.self c.args.piece.now c.loop-turn.done
-    c.take-taken.result.bytes c.take-taken.result.flow c.args.outlet.now c.loop-turn.outlet c.take-taken.new.outlet
-    c.loop-turn.invariant.fed c.take-taken.ensures.fed
 
 pub loop-turn-preserved : goal.loop-turn-preserved
 loop-turn-preserved c =
@@ -24,15 +16,36 @@ loop-turn-preserved c =
       within = more.some so;
       some = (let k = one.front in let l = kept.some in omega (arith, k.some, l));
       fed = subst (λ (f : Flow). HasFed c.args.self.now c.take-taken.new.self (take (c.loop-turn.done + c.take-taken.result.bytes) c.args.piece.now) f
-          c.args.outlet.now c.take-taken.new.outlet) (more.flow so) (fed c);
+          c.args.outlet.now c.take-taken.new.outlet) (more.flow so)
+          (fed_next c.args.self.now c.loop-turn.self c.take-taken.new.self c.args.piece.now c.loop-turn.done
+          c.take-taken.result.bytes c.take-taken.result.flow c.args.outlet.now c.loop-turn.outlet c.take-taken.new.outlet kept.fed one.fed);
       room = more.room so;
     }
 
 pub returns-then-not-has_more-clause-same : goal.returns-then-not-has_more-clause-same
-returns-then-not-has_more-clause-same c = (fed c).same
+returns-then-not-has_more-clause-same c =
+    (fed_next c.args.self.now c.loop-turn.self c.take-taken.new.self c.args.piece.now c.loop-turn.done
+    c.take-taken.result.bytes c.take-taken.result.flow c.args.outlet.now c.loop-turn.outlet c.take-taken.new.outlet
+    c.loop-turn.invariant.fed c.take-taken.ensures.fed).same
 
 pub returns-then-not-has_more-clause-fed : goal.returns-then-not-has_more-clause-fed
-returns-then-not-has_more-clause-fed c = (fed c).fed
+returns-then-not-has_more-clause-fed c =
+    (fed_next c.args.self.now c.loop-turn.self c.take-taken.new.self c.args.piece.now c.loop-turn.done
+    c.take-taken.result.bytes c.take-taken.result.flow c.args.outlet.now c.loop-turn.outlet c.take-taken.new.outlet
+    c.loop-turn.invariant.fed c.take-taken.ensures.fed).fed
 
 pub returns-then-not-has_more-clause-live : goal.returns-then-not-has_more-clause-live
-returns-then-not-has_more-clause-live c = (fed c).live
+returns-then-not-has_more-clause-live c =
+    (fed_next c.args.self.now c.loop-turn.self c.take-taken.new.self c.args.piece.now c.loop-turn.done
+    c.take-taken.result.bytes c.take-taken.result.flow c.args.outlet.now c.loop-turn.outlet c.take-taken.new.outlet
+    c.loop-turn.invariant.fed c.take-taken.ensures.fed).live
+
+pub returns-then-not-has_more-clause-count : goal.returns-then-not-has_more-clause-count
+returns-then-not-has_more-clause-count c =
+    (fed_next c.args.self.now c.loop-turn.self c.take-taken.new.self c.args.piece.now c.loop-turn.done
+    c.take-taken.result.bytes c.take-taken.result.flow c.args.outlet.now c.loop-turn.outlet c.take-taken.new.outlet
+    c.loop-turn.invariant.fed c.take-taken.ensures.fed).count
+    ∙ ap (λ (n : ℕ). taken_by c.args.self.now + n)
+    (length-take-le (c.loop-turn.done + c.take-taken.result.bytes) c.args.piece.now
+    (let w = c.loop-turn.invariant.within in let k = c.take-taken.ensures.front in let d = length-drop c.loop-turn.done c.args.piece.now in
+    let t = length-take-le (length c.args.piece.now - c.loop-turn.done) (drop c.loop-turn.done c.args.piece.now) (omega (arith, d)) in omega (arith, w, k.at_most_all, d, t)))
