@@ -2,11 +2,11 @@
 
 use crate::same::same;
 use arrayvec::ArrayVec;
-use itm_codec::{AHEAD, ItmDecoder, encode};
+use itm_codec::{ItmDecoder, encode};
 use itm_grammar::packet::{ItmPacket, Lateness};
 use itm_grammar::proper::is_proper;
 use std::process::Abort;
-use trace_values::{Fault, Found, Machine, Reason, Step};
+use trace_values::{Fault, Machine, Reason, Step};
 use trace_vectors::itm::{EXTENSIONS, HARDWARE_PACKETS, ItmRow, SOURCE_PACKETS, TIMESTAMPS};
 
 fn local(lateness: Lateness, delta: u32) -> ItmPacket {
@@ -92,79 +92,6 @@ fn writes_and_reads_each_packet(rt: HostRuntime) {
     check(&rt, &HARDWARE_PACKETS);
     check(&rt, &TIMESTAMPS);
     check(&rt, &EXTENSIONS);
-}
-
-/// The packet that the first `count` of these bytes end, if they end one, and how many of them were taken: by a look, and
-/// where that does not tell, by reading them.
-fn take(
-    rt: &impl Abort,
-    decoder: &mut ItmDecoder,
-    ahead: &[u8],
-    count: usize,
-) -> (usize, Option<ItmPacket>) {
-    assert!(rt; count < 1000 && count + AHEAD <= ahead.len());
-    assert!(rt; decoder.is_live() && decoder.held() < 1000);
-    match decoder.find_part(ahead, count, count % 2 == 0) {
-        Found::Ends(end) => {
-            let taken = decoder.end_part(ahead, end);
-            (taken.bytes, taken.item)
-        }
-        Found::Waits => (count, None),
-        Found::Unknown => {
-            assert!(rt; decoder.is_live() && decoder.held() < 1000);
-            match decoder.take_part(&ahead[..count]) {
-                Some(part) => (part.bytes, part.item),
-                None => panic!(rt; "no byte of {ahead:?} is taken"),
-            }
-        }
-    }
-}
-
-/// The bytes of these packets, in runs of this size with other bytes behind each, are read as these packets.
-fn check_parts(rt: &impl Abort, rows: &[ItmRow], size: usize, behind: u8) {
-    let mut bytes = [0; 600];
-    let mut all = 0;
-    for row in rows {
-        for byte in row.bytes {
-            assert!(rt; all < bytes.len());
-            bytes[all] = *byte;
-            all += 1;
-        }
-    }
-    let mut decoder = ItmDecoder::aligned();
-    let mut next = 0;
-    let mut at = 0;
-    for _ in 0..600 {
-        if at >= all {
-            break;
-        }
-        assert!(rt; all <= bytes.len() && 0 < size && size <= 16);
-        let left = size - at % size;
-        let count = if left < all - at { left } else { all - at };
-        let mut ahead = [behind; 24];
-        ahead[..count].copy_from_slice(&bytes[at..at + count]);
-        let (taken, packet) = take(rt, &mut decoder, &ahead, count);
-        assert!(rt; taken <= count);
-        at += taken;
-        if let Some(packet) = packet {
-            assert!(rt; next < rows.len());
-            same(rt, &size, &packet, &rows[next].packet);
-            next += 1;
-        }
-    }
-    same(rt, &size, &next, &rows.len());
-}
-
-#[test]
-fn reads_each_packet_in_parts(rt: HostRuntime) {
-    for size in 1..=9 {
-        for behind in [0, 0x55, 0x80, 0xFF] {
-            check_parts(&rt, &SOURCE_PACKETS, size, behind);
-            check_parts(&rt, &HARDWARE_PACKETS, size, behind);
-            check_parts(&rt, &TIMESTAMPS, size, behind);
-            check_parts(&rt, &EXTENSIONS, size, behind);
-        }
-    }
 }
 
 /// What a header alone is, by its high and its low nibble: a packet, no packet, or the beginning of one.
