@@ -11,7 +11,7 @@ use Rattle.trace_values.specs.Placed.{Placed, byte_at, placed_from}
 use Rattle.trace_values.specs.Walk.{Walked, Whole, after, walk}
 use Rattle.trace_values.specs.Moded.{StandsIn, hunts, is_locked}
 use Rattle.trace_values.proofs.Modes as laws
-use Rattle.trace_values.proofs.Blocks.{next_placed}
+use Rattle.trace_values.proofs.Placing.{next_placed}
 use Rattle.frame_grammar.specs.Frame.{IsProperBelow}
 use Rattle.frame_grammar.specs.Port.{PortItem, Full, Half, Frame, Between, First, One, State, start, rule}
 use Rattle.frame_grammar.specs.Reading.{offsets_of}

@@ -16,10 +16,9 @@ use Rattle.itm_codec.specs.declared.decoder.ItmDecoder.{ItmDecoder}
 use Rattle.itm_codec.specs.declared.decoder.ItmEnd.{ItmEnd}
 use Rattle.trace_values.specs.declared.taking.Found.{Found}
 use Rattle.trace_values.specs.declared.taking.Found.TheVariants.{Ends, Waits, Unknown}
-use Rattle.trace_values.specs.declared.taking.Taken.{Taken}
-use Rattle.trace_values.specs.Block.{given_after}
+use Rattle.trace_values.specs.declared.taking.TakenAtOnce.{TakenAtOnce}
 use Rattle.trace_values.specs.Stream.{Stream}
-use Rattle.trace_values.specs.Taking.{Passes, item_at}
+use Rattle.trace_values.specs.Taking.{Passes, given_after, item_at}
 use Rattle.itm_codec.specs.Reading.{pattern, packets_in}
 use Rattle.itm_codec.specs.Decoder.{Stands, partial_of, is_hunter, is_live, held_of}
 use Rattle.itm_codec.specs.Parts.{EndsPart, Idles, Looked, Reads, Took}
@@ -61,15 +60,15 @@ idles old new mode live partial = (
 )
 
 module _ (old new : ItmDecoder) (bytes : List ℕ) (most : ℕ) where
-  pub took_bytes : (x : Option (Taken ItmPacket)) → Took old new bytes most x → IfSome x (λ x. (0 < x.bytes) × (x.bytes ≤ most) × (x.half ≡ 0))
+  pub took_bytes : (x : Option (TakenAtOnce ItmPacket)) → Took old new bytes most x → IfSome x (λ x. (0 < x.bytes) × (x.bytes ≤ most) × (x.half ≡ 0))
   took_bytes None t = tt
   took_bytes (Some x) t = (t.part.1, t.part.2, t.part.3)
 
-  pub took_fits : (x : Option (Taken ItmPacket)) → Took old new bytes most x → IfSome x (λ x. IfSome x.item IsProper)
+  pub took_fits : (x : Option (TakenAtOnce ItmPacket)) → Took old new bytes most x → IfSome x (λ x. IfSome x.item IsProper)
   took_fits None t = tt
   took_fits (Some x) t = fits (partial_of old) (partial_of new) (take x.bytes bytes) x.item t.part.4
 
-  pub took_few : (x : Option (Taken ItmPacket)) → most ≤ length bytes → Took old new bytes most x →
+  pub took_few : (x : Option (TakenAtOnce ItmPacket)) → most ≤ length bytes → Took old new bytes most x →
       IfSome x (λ x. held_of new ≤ held_of old + x.bytes)
   took_few None l t = tt
   took_few (Some x) l t = (
@@ -78,14 +77,14 @@ module _ (old new : ItmDecoder) (bytes : List ℕ) (most : ℕ) where
       let n : length (take x.bytes bytes) ≡ x.bytes = length-take-le x.bytes bytes (omega arith) in
       omega (arith, k, n))
 
-  pub took_passes : (x : Option (Taken ItmPacket)) → is_live old ≡ true → Took old new bytes most x → (u front : List Placed) (last : Placed) → Stands old u →
+  pub took_passes : (x : Option (TakenAtOnce ItmPacket)) → is_live old ≡ true → Took old new bytes most x → (u front : List Placed) (last : Placed) → Stands old u →
       IfSome x (λ x. units_of (front ++ last ∷ []) ≡ take x.bytes bytes → Passes (packets_in (is_hunter old)) (Stands new) u front last (item_at last.place.half x.item))
   took_passes None live t u front last h = tt
   took_passes (Some x) live t u front last h = λ e.
       passes_by old new front last u x.item live t.part.0 t.mode t.live
       (subst (λ (units : List ℕ). Reads (partial_of old) (partial_of new) units x.item) (sym e) t.part.4) h
 
-  pub took_none : (x : Option (Taken ItmPacket)) → Took old new bytes most x → x ≡ None → Idles old new
+  pub took_none : (x : Option (TakenAtOnce ItmPacket)) → Took old new bytes most x → x ≡ None → Idles old new
   took_none None t e = idles old new t.mode t.live t.part
   took_none (Some x) t e = cc
 

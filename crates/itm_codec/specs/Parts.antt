@@ -2,7 +2,7 @@
 use Rattle.std.specs.Prelude.{◌≡◌, ◌<◌, ◌≤◌, ℕ, List, take, Option, None, Some, true}
 use Rattle.trace_values.specs.declared.taking.Found.{Found}
 use Rattle.trace_values.specs.declared.taking.Found.TheVariants.{Ends, Waits, Unknown}
-use Rattle.trace_values.specs.declared.taking.Taken.{Taken}
+use Rattle.trace_values.specs.declared.taking.TakenAtOnce.{TakenAtOnce}
 use Rattle.trace_values.specs.Placed.{Placed}
 use Rattle.trace_values.specs.Walk.{Within, Whole, walk}
 use Rattle.itm_grammar.specs.declared.packet.ItmPacket.{ItmPacket}
@@ -20,14 +20,14 @@ Reads s t bytes None = walk rule s bytes ≡ Within t
 Reads s t bytes (Some packet) = (walk rule s bytes ≡ Whole packet) × (t ≡ Header) × IsProper packet
 
 -- in its reading it took some of these bytes, at most so many; where it took none, what is unfinished is the same
-abbrev pub TookPart : ItmDecoder → ItmDecoder → List ℕ → ℕ → Option (Taken ItmPacket) → Type 0
+abbrev pub TookPart : ItmDecoder → ItmDecoder → List ℕ → ℕ → Option (TakenAtOnce ItmPacket) → Type 0
 TookPart old new bytes most None = partial_of new ≡ partial_of old
 TookPart old new bytes most (Some part) =
     (has_locked old ≡ true) × (0 < part.bytes) × (part.bytes ≤ most) × (part.half ≡ 0)
     × Reads (partial_of old) (partial_of new) (take part.bytes bytes) part.item
 
 -- and it stayed in its mode, and as live
-pub record Took (old new : ItmDecoder) (bytes : List ℕ) (most : ℕ) (taken : Option (Taken ItmPacket)) : Type 0 where
+pub record Took (old new : ItmDecoder) (bytes : List ℕ) (most : ℕ) (taken : Option (TakenAtOnce ItmPacket)) : Type 0 where
   pub mode : new.mode ≡ old.mode
   pub live : new.live ≡ old.live
   pub part : TookPart old new bytes most taken

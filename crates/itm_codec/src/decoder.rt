@@ -18,7 +18,7 @@ use crate::sync::zeros_in;
 use crate::whole::{InWindow, WINDOW, packet_in};
 use itm_grammar::packet::ItmPacket;
 use itm_grammar::partial::Partial;
-use trace_values::{Fault, Found, Machine, Mode, Next, Pattern, Step, Taken};
+use trace_values::{Fault, Found, Machine, Mode, Next, Pattern, Step, TakenAtOnce};
 
 /// A synchronisation packet, `00 00 00 00 00 80`.
 const SYNC: Pattern = Pattern {
@@ -246,7 +246,7 @@ impl ItmDecoder {
 
     /// Takes the packet that `find_part` found in these bytes, up to the one that ends it. It is live.
     #[inline(always)]
-    pub fn end_part(&mut self, _ahead: &[u8], end: ItmEnd) -> Taken<ItmPacket>
+    pub fn end_part(&mut self, _ahead: &[u8], end: ItmEnd) -> TakenAtOnce<ItmPacket>
         requires live { is_live self.old ≡ true }
         requires ends { EndsPart self.old _ahead.now end }
         ensures taken { result ≡ record { bytes = end.bytes; half = 0; item = Some end.packet } }
@@ -259,7 +259,7 @@ impl ItmDecoder {
         ensures few { (held_of self.new ≡ 0) × (skipped_by self.new ≡ skipped_by self.old) }
     {
         self.forget();
-        Taken {
+        TakenAtOnce {
             bytes: end.bytes,
             half: 0,
             item: Some(end.packet),
@@ -280,7 +280,7 @@ impl ItmDecoder {
     /// None says nothing of the bytes: in a hunt, of no bytes, and where the first of them is a fault. Then the decoder
     /// stands for what it stood for.
     #[inline(never)]
-    pub fn take_part(&mut self, bytes: &[u8]) -> Option<Taken<ItmPacket>>
+    pub fn take_part(&mut self, bytes: &[u8]) -> Option<TakenAtOnce<ItmPacket>>
         requires live { is_live self.old ≡ true }
         requires room { held_of self.old + length bytes.now ≤ COUNT_ROOM }
         ensures same { packets_in (is_hunter self.new) ≡ packets_in (is_hunter self.old) }
@@ -300,7 +300,7 @@ impl ItmDecoder {
 
     /// Takes these bytes one by one, or those of a synchronisation all at once.
     #[inline(always)]
-    fn take_slowly(&mut self, bytes: &[u8]) -> Option<Taken<ItmPacket>>
+    fn take_slowly(&mut self, bytes: &[u8]) -> Option<TakenAtOnce<ItmPacket>>
         requires room { held_of self.old + length bytes.now ≤ COUNT_ROOM }
         ensures { Took self.old self.new bytes.now (length bytes.now) result }
     {
@@ -316,7 +316,7 @@ impl ItmDecoder {
 
     /// Takes these bytes after this many bytes 00, which are all that was taken of a packet.
     #[inline(always)]
-    fn take_zeros(&mut self, taken: u64, bytes: &[u8]) -> Option<Taken<ItmPacket>>
+    fn take_zeros(&mut self, taken: u64, bytes: &[u8]) -> Option<TakenAtOnce<ItmPacket>>
         requires locked { has_locked self.old ≡ true }
         requires room { held_of self.old + length bytes.now ≤ COUNT_ROOM }
         requires zeros { walk rule Header (replicate taken 0) ≡ Within (partial_of self.old) }
@@ -326,14 +326,14 @@ impl ItmDecoder {
         let zeros = taken + more as u64;
         if more == bytes.len() && more > 0 {
             self.keep(Partial::Zeros(zeros));
-            Some(Taken {
+            Some(TakenAtOnce {
                 bytes: more,
                 half: 0,
                 item: None,
             })
         } else if more < bytes.len() && bytes[more] == 0x80 && zeros >= 5 {
             self.keep(Partial::Header);
-            Some(Taken {
+            Some(TakenAtOnce {
                 bytes: more + 1,
                 half: 0,
                 item: Some(ItmPacket::Sync),
@@ -345,7 +345,7 @@ impl ItmDecoder {
 
     /// Takes these bytes one by one.
     #[inline(never)]
-    fn take_others(&mut self, bytes: &[u8]) -> Option<Taken<ItmPacket>>
+    fn take_others(&mut self, bytes: &[u8]) -> Option<TakenAtOnce<ItmPacket>>
         requires locked { has_locked self.old ≡ true }
         requires room { held_of self.old + length bytes.now ≤ COUNT_ROOM }
         ensures { Took self.old self.new bytes.now (length bytes.now) result }
@@ -355,7 +355,7 @@ impl ItmDecoder {
             return None;
         }
         self.keep(cut.partial);
-        Some(Taken {
+        Some(TakenAtOnce {
             bytes: cut.bytes,
             half: 0,
             item: cut.packet,

@@ -5,7 +5,7 @@ use std::process::Abort;
 use stp_codec::{StpDecoder, WINDOW};
 use stp_grammar::item::{Place, Stamp, StpItem};
 use stp_grammar::packet::{Order, Width};
-use trace_values::{Block, Fault, Found, Machine, Reason, Step, Taken, feed_block};
+use trace_values::{Fault, Found, Machine, Reason, Step, TakenAtOnce};
 
 const NOWHERE: Place = Place {
     master: None,
@@ -54,7 +54,7 @@ fn decoder(order: Order, hunts: bool) -> StpDecoder {
     }
 }
 
-/// The bytes one by one, and in pieces of this many, give these answers beside quiet and skipping ones, and in the
+/// The bytes one by one, and in runs, give these answers beside quiet and skipping ones, and in the
 /// end so many nibbles are held and skipped.
 fn check(
     rt: &impl Abort,
@@ -84,9 +84,6 @@ fn check(
     same(rt, &bytes, &next, &told.len());
     same(rt, &bytes, &by_bytes.held(), &held);
     same(rt, &bytes, &by_bytes.skipped(), &skipped);
-    for size in [1, 3, 5000] {
-        check_pieces(rt, decoder(order, hunts), bytes, size, told);
-    }
     let mut zeros = [0; 5000 + WINDOW];
     let mut ones = [255; 5000 + WINDOW];
     for size in [1, 2, 3, 5, 8, 5000] {
@@ -102,7 +99,7 @@ fn take_front(
     decoder: &mut StpDecoder,
     ahead: &[u8],
     count: usize,
-) -> Option<Taken<StpItem>> {
+) -> Option<TakenAtOnce<StpItem>> {
     assert!(rt; count < 5000 && count + WINDOW <= ahead.len());
     assert!(rt; decoder.is_live() && decoder.held() < 10000 && decoder.skipped() < 10000);
     match decoder.find_part(ahead, count) {
@@ -115,13 +112,13 @@ fn take_front(
                 &taken.said.has_item(),
                 &item.is_some(),
             );
-            Some(Taken {
+            Some(TakenAtOnce {
                 bytes: taken.bytes,
                 half: taken.half,
                 item,
             })
         }
-        Found::Waits => Some(Taken {
+        Found::Waits => Some(TakenAtOnce {
             bytes: count,
             half: 1,
             item: None,
@@ -178,31 +175,6 @@ fn check_parts(
             }
         };
         if !matches!(&step, Step::Quiet | Step::Skipping) {
-            assert!(rt; next < told.len() && at > 0);
-            same(rt, &(&bytes, &size), &told[next], &(at as u64 - 1, step));
-            next += 1;
-        }
-    }
-    same(rt, &(&bytes, &size), &next, &told.len());
-}
-
-/// The bytes in pieces of this size give these answers.
-fn check_pieces(rt: &impl Abort, decoder: StpDecoder, bytes: &[u8], size: usize, told: &[Told]) {
-    let mut by_pieces = decoder;
-    let mut next = 0;
-    let mut at = 0;
-    for _ in 0..bytes.len() {
-        if at >= bytes.len() {
-            break;
-        }
-        assert!(rt; bytes.len() < 5000 && size < 10000);
-        assert!(rt; by_pieces.is_live() && by_pieces.held() < 10000 && by_pieces.skipped() < 10000);
-        let left = bytes.len() - at;
-        let piece = &bytes[at..at + if size < left { size } else { left }];
-        assert!(rt; !piece.is_empty() && piece.len() < 5000);
-        let block = feed_block(&mut by_pieces, at as u64, piece);
-        at += block.bytes;
-        if let Some(step) = block.step {
             assert!(rt; next < told.len() && at > 0);
             same(rt, &(&bytes, &size), &told[next], &(at as u64 - 1, step));
             next += 1;
@@ -405,16 +377,11 @@ fn reads_runs(rt: HostRuntime) {
     for (hunts, held, skipped) in [(false, 8192, 0), (true, 0, 8192)] {
         let mut decoder = decoder(Order::Msn, hunts);
         assert!(rt; decoder.is_live() && decoder.held() == 0 && decoder.skipped() == 0);
-        let block = feed_block(&mut decoder, 0, &all);
-        same(
-            &rt,
-            &"block",
-            &block,
-            &Block {
-                bytes: 4096,
-                step: None,
-            },
-        );
+        for (index, byte) in all.iter().enumerate() {
+            assert!(rt; decoder.is_live() && decoder.held() < 10000 && decoder.skipped() < 10000);
+            let step = decoder.feed(index as u64, *byte);
+            assert!(rt; matches!(step, Step::Quiet | Step::Skipping));
+        }
         same(&rt, &"decoder.held()", &decoder.held(), &held);
         same(&rt, &"decoder.skipped()", &decoder.skipped(), &skipped);
     }

@@ -21,8 +21,8 @@ use Rattle.trace_values.specs.Stream.{
   fault_by,
   goes_on,
 }
-use Rattle.trace_values.specs.Block.{given_after}
-use Rattle.trace_values.specs.Taking.{Passes}
+
+use Rattle.trace_values.specs.Taking.{Passes, given_after}
 use Rattle.source_events.specs.Packets.{said_as, given_as, stream_as}
 use Rattle.source_machine.specs.Seen.{step_as, last_as}
 

@@ -19,7 +19,7 @@ use itm_grammar::packet::ItmPacket;
 use source_events::{Packet, SourceKind};
 use stp_codec::{PacketParts, StpDecoder};
 use stp_grammar::said::Said;
-use trace_values::{Found, Machine, Step, Taken};
+use trace_values::{Found, Machine, Step, TakenAtOnce};
 
 /// What a packet says.
 #[derive(Clone, Copy, Debug, PartialEq, Eq, Drop)]
@@ -75,7 +75,7 @@ pub trait Finds: Machine {
             × (Self.skipped_units self.new ≡ Self.skipped_units self.old) };
 
     /// Takes the packet that `find` found in these bytes, up to the one in which it ends, with all of that byte.
-    fn end(&mut self, ahead: &[u8], parts: Self::Parts) -> Taken<Told>
+    fn end(&mut self, ahead: &[u8], parts: Self::Parts) -> TakenAtOnce<Told>
         requires live { Self.live self.old ≡ true }
         requires room { Self.skipped_units self.old ≤ COUNT_ROOM }
         requires ends { ends self.old ahead.now parts }
@@ -92,7 +92,7 @@ pub trait Finds: Machine {
     /// them. Where `find` knows what they are, that is faster.
     ///
     /// None says nothing of the bytes: then it stands for what it stood for.
-    fn take(&mut self, bytes: &[u8]) -> Option<Taken<Packet>>
+    fn take(&mut self, bytes: &[u8]) -> Option<TakenAtOnce<Packet>>
         requires live { Self.live self.old ≡ true }
         requires room { Self.held_units self.old + Self.skipped_units self.old + 2 * length bytes.now ≤ COUNT_ROOM }
         ensures same { reads self.new ≡ reads self.old }
@@ -170,9 +170,9 @@ impl Finds for ItmDecoder {
     }
 
     #[inline(always)]
-    fn end(&mut self, ahead: &[u8], parts: ItmEnd) -> Taken<Told> {
+    fn end(&mut self, ahead: &[u8], parts: ItmEnd) -> TakenAtOnce<Told> {
         let taken = self.end_part(ahead, parts);
-        Taken {
+        TakenAtOnce {
             bytes: taken.bytes,
             half: taken.half,
             item: Some(Told::Itm(parts.packet)),
@@ -180,9 +180,9 @@ impl Finds for ItmDecoder {
     }
 
     #[inline(always)]
-    fn take(&mut self, bytes: &[u8]) -> Option<Taken<Packet>> {
+    fn take(&mut self, bytes: &[u8]) -> Option<TakenAtOnce<Packet>> {
         let taken = self.take_part(bytes)?;
-        Some(Taken {
+        Some(TakenAtOnce {
             bytes: taken.bytes,
             half: taken.half,
             item: match taken.item {
@@ -233,9 +233,9 @@ impl Finds for StpDecoder {
     }
 
     #[inline(always)]
-    fn end(&mut self, ahead: &[u8], parts: PacketParts) -> Taken<Told> {
+    fn end(&mut self, ahead: &[u8], parts: PacketParts) -> TakenAtOnce<Told> {
         let taken = self.end_part(ahead, parts);
-        Taken {
+        TakenAtOnce {
             bytes: taken.bytes,
             half: taken.half,
             item: if taken.said.has_item() {
@@ -247,9 +247,9 @@ impl Finds for StpDecoder {
     }
 
     #[inline(always)]
-    fn take(&mut self, bytes: &[u8]) -> Option<Taken<Packet>> {
+    fn take(&mut self, bytes: &[u8]) -> Option<TakenAtOnce<Packet>> {
         let taken = self.take_part(bytes)?;
-        Some(Taken {
+        Some(TakenAtOnce {
             bytes: taken.bytes,
             half: taken.half,
             item: match taken.item {

@@ -41,11 +41,10 @@ pub use Rattle.source_machine.specs.Finding.{PassesOver, ToldFits, told_by, told
 pub use Rattle.source_machine.specs.Machine.{Stands, has_locked, held_of, is_live, reading_by, reading_of, skipped_by}
 pub use Rattle.source_machine.specs.declared.machine.SourceMachine.{SourceMachine}
 pub use Rattle.source_machine.specs.declared.machine.TheConstants.{AHEAD}
-pub use Rattle.trace_values.specs.Block.{given_after}
 pub use Rattle.trace_values.specs.Cells.{source_id}
 pub use Rattle.trace_values.specs.Placed.{Place, Placed, byte_at, placed_from, units_of}
 pub use Rattle.trace_values.specs.Stream.{Grows, Rises, Said, Settled, StepFits, Stream, given_by}
-pub use Rattle.trace_values.specs.Taking.{item_at}
+pub use Rattle.trace_values.specs.Taking.{given_after, item_at}
 pub use Rattle.trace_values.specs.declared.cell.Cell.{Cell}
 pub use Rattle.trace_values.specs.declared.fault.Fault.{Fault}
 pub use Rattle.trace_values.specs.declared.fault.Reason.{Reason}

@@ -18,7 +18,7 @@ use arrayvec::ArrayVec;
 use source_events::{Event, Packet, SourceKind, What};
 use source_machine::{Finds, SourceMachine, Told};
 use stp_grammar::packet::Order;
-use trace_values::{Fault, Found, PART_ROOM, PacketsMode, SourceId, Step, Taken};
+use trace_values::{Fault, Found, PART_ROOM, PacketsMode, SourceId, Step, TakenAtOnce};
 
 /// How many events a list of them has room for. One byte of a capture ends at most one frame, of 15 cells, with at most
 /// two events for each.
@@ -124,7 +124,7 @@ fn give_packet<V: Receiver>(
     to: &mut V::To,
     source: SourceId,
     at: u64,
-    taken: Taken<Packet>,
+    taken: TakenAtOnce<Packet>,
 )
     requires fits { IfSome taken.item PacketFits }
     requires space { 1 ≤ V.room (out.old, to.old) }
@@ -148,7 +148,7 @@ fn give_told<V: Receiver>(
     to: &mut V::To,
     source: SourceId,
     at: u64,
-    taken: Taken<Told>,
+    taken: TakenAtOnce<Told>,
 )
     requires fits { IfSome taken.item (λ t. ToldFits t × V.takes out.old source (told_by t)) }
     requires space { 1 ≤ V.room (out.old, to.old) }

@@ -17,7 +17,7 @@ use Rattle.stp_codec.specs.Wholes.{nibbles_in, reached, Fronts, left_after, left
 use Rattle.stp_codec.specs.Wholes.{Ends}
 use Rattle.stp_codec.specs.Cuts.{Passes}
 use Rattle.stp_codec.specs.declared.flat.TheConstants.{WINDOW}
-use Rattle.trace_values.specs.declared.taking.Taken.{Taken}
+use Rattle.trace_values.specs.declared.taking.TakenAtOnce.{TakenAtOnce}
 use Rattle.stp_codec.specs.declared.decoder.StpDecoder.{StpDecoder}
 use Rattle.trace_values.specs.declared.taking.Found.{Found}
 use Rattle.trace_values.specs.declared.taking.Found.TheVariants.{Ends as EndsIn, Waits, Unknown}
@@ -178,7 +178,7 @@ module _ (d e f : StpDecoder) (same : (order_of e ≡ order_of d) × (is_hunter 
   pub idle_idle : Idles e f → Idles d f
   idle_idle j = (λ u h. j.0 u (i.0 u h), j.1 ∙ i.1, j.2 ∙ i.2)
 
-  pub idle_part : (ahead : List ℕ) (count : ℕ) (taken : Taken StpItem) → TakesPart e f ahead count taken → TakesPart d f ahead count taken
+  pub idle_part : (ahead : List ℕ) (count : ℕ) (taken : TakenAtOnce StpItem) → TakesPart e f ahead count taken → TakesPart d f ahead count taken
   idle_part ahead count taken t = record {
     bytes = t.bytes;
     passes = λ u front last h units.
@@ -189,7 +189,7 @@ module _ (d e f : StpDecoder) (same : (order_of e ≡ order_of d) × (is_hunter 
     few = (let k = t.few in let l = i.1 in let m = i.2 in omega (arith, k, l, m));
   }
 
-  pub idle_parts : (ahead : List ℕ) (count : ℕ) (o : Option (Taken StpItem)) → IfSome o (TakesPart e f ahead count) → IfSome o (TakesPart d f ahead count)
+  pub idle_parts : (ahead : List ℕ) (count : ℕ) (o : Option (TakenAtOnce StpItem)) → IfSome o (TakesPart e f ahead count) → IfSome o (TakesPart d f ahead count)
   idle_parts ahead count None t = tt
   idle_parts ahead count (Some taken) t = idle_part ahead count taken t
 
@@ -204,21 +204,21 @@ finds_packet d ahead count x number within p = (p.some, within, record { number 
 
 -- what was taken, if anything
 module _ (d f : StpDecoder) (bytes : List ℕ) (count : ℕ) where
-  pub part_bytes : (o : Option (Taken StpItem)) → IfSome o (TakesPart d f bytes count) → IfSome o (λ taken. (0 < taken.bytes) × (taken.bytes ≤ count))
+  pub part_bytes : (o : Option (TakenAtOnce StpItem)) → IfSome o (TakesPart d f bytes count) → IfSome o (λ taken. (0 < taken.bytes) × (taken.bytes ≤ count))
   part_bytes None t = tt
   part_bytes (Some taken) t = t.bytes
 
-  pub part_passes : (o : Option (Taken StpItem)) → IfSome o (TakesPart d f bytes count) → (u front : List Placed) (last : Placed) → Stands d u →
+  pub part_passes : (o : Option (TakenAtOnce StpItem)) → IfSome o (TakesPart d f bytes count) → (u front : List Placed) (last : Placed) → Stands d u →
       IfSome o (λ taken. units_of (front ++ last ∷ []) ≡ take taken.bytes bytes →
       Passes (items_in (order_of d) (is_hunter d)) (Stands f) u front last (item_in taken.half taken.item))
   part_passes None t u front last s = tt
   part_passes (Some taken) t u front last s = λ e. t.passes u front last s e
 
-  pub part_fits : (o : Option (Taken StpItem)) → IfSome o (TakesPart d f bytes count) → IfSome o (λ taken. IfSome taken.item IsProperItem)
+  pub part_fits : (o : Option (TakenAtOnce StpItem)) → IfSome o (TakesPart d f bytes count) → IfSome o (λ taken. IfSome taken.item IsProperItem)
   part_fits None t = tt
   part_fits (Some taken) t = t.fits
 
-  pub part_few : (o : Option (Taken StpItem)) → IfSome o (TakesPart d f bytes count) →
+  pub part_few : (o : Option (TakenAtOnce StpItem)) → IfSome o (TakesPart d f bytes count) →
       IfSome o (λ taken. held_of f + skipped_by f ≤ held_of d + skipped_by d + 2 * taken.bytes)
   part_few None t = tt
   part_few (Some taken) t = t.few

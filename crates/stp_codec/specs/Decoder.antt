@@ -10,7 +10,7 @@ use Rattle.stp_codec.specs.Cuts.{Passes}
 use Rattle.stp_codec.specs.Parts.{packet_of}
 use Rattle.stp_codec.specs.declared.flat.PacketParts.{PacketParts}
 use Rattle.stp_codec.specs.declared.flat.TheConstants.{WINDOW}
-use Rattle.trace_values.specs.declared.taking.Taken.{Taken}
+use Rattle.trace_values.specs.declared.taking.TakenAtOnce.{TakenAtOnce}
 use Rattle.stp_codec.specs.declared.decoder.StpDecoder.{StpDecoder}
 use Rattle.trace_values.specs.declared.taking.Found.{Found}
 use Rattle.trace_values.specs.declared.taking.Found.TheVariants.{Ends as EndsIn, Waits, Unknown}
@@ -147,7 +147,7 @@ Idles old new =
     × (held_of new ≡ held_of old) × (skipped_by new ≡ skipped_by old)
 
 -- Of the first `count` of these bytes this was taken.
-pub record TakesPart (old new : StpDecoder) (ahead : List ℕ) (count : ℕ) (taken : Taken StpItem) : Type 0 where
+pub record TakesPart (old new : StpDecoder) (ahead : List ℕ) (count : ℕ) (taken : TakenAtOnce StpItem) : Type 0 where
   pub bytes : (0 < taken.bytes) × (taken.bytes ≤ count)
   pub passes : (u front : List Placed) (last : Placed) → Stands old u →
       units_of (front ++ last ∷ []) ≡ take taken.bytes ahead →

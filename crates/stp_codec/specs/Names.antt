@@ -18,7 +18,6 @@ pub use Rattle.stp_grammar.specs.declared.packet.StpPacket.TheVariants.{Async, P
 pub use Rattle.stp_grammar.specs.declared.partial.Partial.{Partial}
 pub use Rattle.stp_grammar.specs.declared.partial.Partial.TheVariants.{Payload, Run, Second, Size, Start, Third, Word}
 pub use Rattle.trace_clock.specs.LastWord.{nibble_count}
-pub use Rattle.trace_values.specs.Block.{StandsAt, StopsFor, Takes, fault_after, given_after, goes_on_after}
 pub use Rattle.trace_values.specs.Decorated.{carried, decorated}
 pub use Rattle.trace_values.specs.Grammar.{InUnits, IsFront}
 pub use Rattle.trace_values.specs.Hunt.{IsFirst, IsNowhere}
@@ -30,6 +29,7 @@ pub use Rattle.trace_values.specs.Reading.{Progress, advance, progress, with_uni
 pub use Rattle.trace_values.specs.Standing.{Keeps, live_after, state_after}
 pub use Rattle.trace_values.specs.Stream.{Grows, LocksAfter, Notice, StepFits, Stream, fault_by, given_by, goes_on}
 pub use Rattle.trace_values.specs.Stream.{shown}
+pub use Rattle.trace_values.specs.Taking.{given_after}
 pub use Rattle.trace_values.specs.Walk.{Beyond, Broken, Decides, Walked, Whole, Within, after, by_unit, walk}
 pub use Rattle.trace_values.specs.declared.fault.Reason.{Reason}
 pub use Rattle.trace_values.specs.declared.limits.TheConstants.{COUNT_ROOM}

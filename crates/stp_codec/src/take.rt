@@ -15,7 +15,7 @@ use crate::decoder::{MANY, SaidTaken, StpDecoder};
 use crate::flat::PacketParts;
 use stp_grammar::item::StpItem;
 use stp_grammar::packet::StpPacket;
-use trace_values::Taken;
+use trace_values::TakenAtOnce;
 
 impl StpDecoder {
     /// Takes what is left of a byte in whose half a packet ended: the high nibble, where it ended in the low one. A
@@ -49,7 +49,7 @@ impl StpDecoder {
         bytes: &[u8],
         nibbles: usize,
         packet: StpPacket,
-    ) -> Taken<StpItem>
+    ) -> TakenAtOnce<StpItem>
         requires live { is_live self.old ≡ true }
         requires count { skipped_by self.old ≤ COUNT_ROOM }
         requires next { Finishes self.old bytes.now nibbles packet }
@@ -63,7 +63,7 @@ impl StpDecoder {
         self.waiting = 0;
         let item = self.attribution.take(packet);
         self.pass_left(half, bytes[last]);
-        Taken {
+        TakenAtOnce {
             bytes: last + 1,
             half,
             item,
@@ -75,7 +75,7 @@ impl StpDecoder {
     ///
     /// None where the reading has not begun, where a nibble is a fault, and of no bytes.
     #[inline(always)]
-    fn take_settled(&mut self, bytes: &[u8]) -> Option<Taken<StpItem>>
+    fn take_settled(&mut self, bytes: &[u8]) -> Option<TakenAtOnce<StpItem>>
         requires live { is_live self.old ≡ true }
         requires room { held_of self.old + skipped_by self.old + 2 * length bytes.now ≤ COUNT_ROOM }
         requires settled { IsSettled self.old }
@@ -91,7 +91,7 @@ impl StpDecoder {
             Cut::Inside(partial) => {
                 self.partial = partial;
                 self.first = MANY;
-                Some(Taken {
+                Some(TakenAtOnce {
                     bytes: bytes.len(),
                     half: 1,
                     item: None,
@@ -107,7 +107,7 @@ impl StpDecoder {
     ///
     /// None says nothing of the bytes: then it stands as before.
     #[inline(never)]
-    pub fn take_part(&mut self, bytes: &[u8]) -> Option<Taken<StpItem>>
+    pub fn take_part(&mut self, bytes: &[u8]) -> Option<TakenAtOnce<StpItem>>
         requires live { is_live self.old ≡ true }
         requires room { held_of self.old + skipped_by self.old + 2 * length bytes.now ≤ COUNT_ROOM }
         ensures same { (order_of self.new ≡ order_of self.old) × (is_hunter self.new ≡ is_hunter self.old) }

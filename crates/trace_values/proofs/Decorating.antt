@@ -1,9 +1,9 @@
 -- A stream whose items are made of those of another grows as that one does.
-use Rattle.std.proofs.Common.{◌≡◌, ℕ, ◌≤◌, List, [], ◌∷◌, ◌++◌, refl, ◌∙◌, ap, arith, Option, None, Some}
+use Rattle.std.proofs.Common.{◌≡◌, ℕ, List, [], ◌∷◌, ◌++◌, refl, ◌∙◌, ap, Option, None, Some}
 use Rattle.trace_values.specs.Placed.{Place}
 use Rattle.trace_values.specs.declared.step.Step.{Step}
 use Rattle.trace_values.specs.declared.step.Step.TheVariants.{Quiet, Skipping, Item, Locked, Fault as Faulty}
-use Rattle.trace_values.specs.Stream.{Said, Notice, Kept, Stream, AllAt, Rises, Settled, Holds, Grows, given_by}
+use Rattle.trace_values.specs.Stream.{Said, Notice, Kept, Stream, Settled, Holds, Grows, given_by}
 use Rattle.trace_values.specs.Decorated.{kept_if, decorate, carried, decorated}
 use Rattle.trace_values.proofs.OneUnit.{AllOn, RisesOn}
 
@@ -44,27 +44,6 @@ module _ {V W T : Type 0} (make : T → V → Option W × T) where
   carried_append [] ys t = refl
   carried_append ((Notice n, p) ∷ xs) ys t = carried_append xs ys t
   carried_append ((Kept v, p) ∷ xs) ys t = carried_append xs ys (make t v).1
-
-  all_weaker : (at h k : ℕ) (xs : List (Said W × Place)) → k ≤ h → AllAt at h xs → AllAt at k xs
-  all_weaker at h k [] l a = tt
-  all_weaker at h k (x ∷ xs) l a = (a.0, (let z = a.1 in omega arith), a.2)
-
-  all_kept : (at h : ℕ) (o : Option W) (p : Place) (xs : List (Said W × Place)) → p.at ≡ at → h ≤ p.half → AllAt at p.half xs → AllAt at h (kept_if o p xs)
-  all_kept at h None p xs e l a = all_weaker at p.half h xs l a
-  all_kept at h (Some w) p xs e l a = (e, l, a)
-
-  pub all_decorated : (xs : List (Said V × Place)) (at h : ℕ) (t : T) → AllAt at h xs → AllAt at h (decorate make t xs)
-  all_decorated [] at h t a = tt
-  all_decorated ((Notice n, p) ∷ xs) at h t a = (a.0, a.1, all_decorated xs at p.half t a.2)
-  all_decorated ((Kept v, p) ∷ xs) at h t a = all_kept at h (make t v).0 p (decorate make (make t v).1 xs) a.0 a.1 (all_decorated xs at p.half (make t v).1 a.2)
-
-  pub rises : (t : T) (old new : Stream V) (at : ℕ) → Rises old new at → Rises (decorated make t old) (decorated make t new) at
-  rises t old new at r = record {
-    more = decorate make (carried make t old.given) r.more;
-    given = ap (λ l. decorate make t l) r.given ∙ decorate_append old.given r.more t;
-    all = all_decorated r.more at 0 (carried make t old.given) r.all;
-    fault = r.fault;
-  }
 
   pub holds : (t : T) (units : ℕ) (old new : Stream V) → Holds units old new → Holds units (decorated make t old) (decorated make t new)
   holds t units old new h = record { given = ap (λ l. decorate make t l) h.given; held = h.held; skipped = h.skipped; locked = h.locked }

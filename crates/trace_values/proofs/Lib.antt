@@ -4,9 +4,7 @@ pub mod Readings
 pub mod Placing
 pub mod OneUnit
 pub mod Standings
-pub mod Streams
 pub mod Answering
-pub mod Blocks
 pub mod Hunts
 pub mod Runs
 pub mod Wholes
@@ -15,7 +13,6 @@ pub mod Fronts
 pub mod Quiet
 pub mod Falls
 pub mod Modes
-pub mod Pieces
 pub mod HuntedLemmas
 pub mod Rising
 pub mod Nibbling

@@ -1,7 +1,5 @@
 -- Lists with a common front, and placed units.
 use Rattle.std.proofs.Common.{◌≡◌, List, [], ◌∷◌, ◌++◌, length, refl, arith, ◌⊎◌, inl, inr}
-use Rattle.std.proofs.lemmas.List.{map-append}
-use Rattle.trace_values.specs.Placed.{Placed, units_of}
 
 -- of two fronts of one list one is a front of the other
 pub fronts_meet : {A : Type 0} → (a b x y : List A) → a ++ x ≡ b ++ y →
@@ -26,6 +24,3 @@ same_fronts (h ∷ a) (g ∷ b) x y n e =
     let tails : a ++ x ≡ b ++ y = cc in
     let more = same_fronts a b x y (omega arith) tails in
     let k : a ≡ b = more.0 in (cc, more.1)
-
-pub units_push : (r : List Placed) (b : Placed) → units_of (r ++ b ∷ []) ≡ units_of r ++ b.unit ∷ []
-units_push r b = map-append (λ (p : Placed). p.unit) r (b ∷ [])

@@ -1,6 +1,6 @@
 -- Units with their places, and grammars that look at the units alone.
-use Rattle.std.proofs.Common.{◌≡◌, ℕ, suc, ◌+◌, List, [], ◌∷◌, ◌++◌, length, map, refl, sym, ◌∙◌, ap, subst, arith}
-use Rattle.std.proofs.lemmas.List.{map-append}
+use Rattle.std.proofs.Common.{◌≡◌, ℕ, suc, ◌+◌, ◌<◌, List, [], ◌∷◌, ◌++◌, length, map, take, get_or, refl, sym, ◌∙◌, ap, subst, append_assoc, arith}
+use Rattle.std.proofs.lemmas.List.{map-append, take_more, length-take-le}
 use Rattle.trace_values.specs.declared.fault.Reason.{Reason}
 use Rattle.trace_values.specs.declared.next.Next.{Next}
 use Rattle.trace_values.specs.declared.next.Next.TheVariants.{Go, End, Fail}
@@ -17,9 +17,14 @@ placed_from_push at (c ∷ bytes) b =
     ap (λ (l : List Placed). byte_at at c ∷ l) (placed_from_push (at + 1) bytes b
     ∙ ap (λ (n : ℕ). placed_from (at + 1) bytes ++ byte_at n b ∷ []) (let k : at + 1 + length bytes ≡ at + suc (length bytes) = omega arith in k))
 
--- a capture with one more byte
-pub placed_push : (bytes : List ℕ) (b : ℕ) → placed (bytes ++ b ∷ []) ≡ placed bytes ++ byte_at (length bytes) b ∷ []
-placed_push bytes b = placed_from_push 0 bytes b ∙ ap (λ (n : ℕ). placed bytes ++ byte_at n b ∷ []) (let k : 0 + length bytes ≡ length bytes = omega arith in k)
+-- one more byte of the piece, at its offset
+pub next_placed : (u : List Placed) (at : ℕ) (piece : List ℕ) (i : ℕ) → i < length piece →
+    (u ++ placed_from at (take i piece)) ++ byte_at (at + i) (get_or piece i 0) ∷ [] ≡ u ++ placed_from at (take (i + 1) piece)
+next_placed u at piece i h =
+    append_assoc u (placed_from at (take i piece)) (byte_at (at + i) (get_or piece i 0) ∷ [])
+    ∙ ap (λ (l : List Placed). u ++ l)
+    (ap (λ (n : ℕ). placed_from at (take i piece) ++ byte_at (at + n) (get_or piece i 0) ∷ []) (sym (length-take-le i piece (omega arith)))
+    ∙ sym (placed_from_push at (take i piece) (get_or piece i 0)) ∙ ap (placed_from at) (sym (take_more piece i 0 h)))
 
 pub placed_from_append : (at : ℕ) (xs ys : List ℕ) → placed_from at (xs ++ ys) ≡ placed_from at xs ++ placed_from (at + length xs) ys
 placed_from_append at [] ys = ap (λ (n : ℕ). placed_from n ys) (let k : at ≡ at + 0 = omega arith in k)

@@ -27,9 +27,6 @@ module _ {S V : Type 0} (rule : S → Placed → Next S V) (start : S) where
   pub progress_push : (u : List Placed) (b : Placed) → progress rule start (u ++ b ∷ []) ≡ advance rule start (progress rule start u) b
   progress_push u b = from_append u (b ∷ []) (unread start)
 
-  pub Keeps-unread : Keeps true start (unread {S = S} {V = V} start)
-  Keeps-unread = record { live_is = refl; state_is = refl }
-
   module _ (p : Progress S V) (state : S) (b : Placed) (s : Keeps true state p) where
     -- with one more unit a reading goes by the rule at the kept state
     pub grown : advance rule start p b ≡ with_unit start p b (rule state b) None

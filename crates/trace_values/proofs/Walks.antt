@@ -1,5 +1,5 @@
 -- Laws of every walk, and what a grammar owes so that its rule decides it.
-use Rattle.std.proofs.Common.{◌≡◌, List, [], ◌∷◌, ◌++◌, refl, sym, ◌∙◌, ap, subst, inl, inr, append_assoc, append-nil}
+use Rattle.std.proofs.Common.{◌≡◌, List, [], ◌∷◌, ◌++◌, refl, sym, ◌∙◌, ap, subst, inl, inr, append-nil}
 use Rattle.trace_values.specs.declared.fault.Reason.{Reason}
 use Rattle.trace_values.specs.declared.next.Next.{Next}
 use Rattle.trace_values.specs.declared.next.Next.TheVariants.{Go, End, Fail}
@@ -82,13 +82,6 @@ module _ {U S V : Type 0} (Spells : V → List U → Type 0) (why : List U → R
   not_broken : (v : V) (f : Reason) → (let p : Walked S V = Whole v in let q : Walked S V = Broken f in p ≡ q) → ⊥
   not_broken v f e = cc
 
-  not_within : (v : V) (s : S) → (let p : Walked S V = Whole v in let q : Walked S V = Within s in p ≡ q) → ⊥
-  not_within v s e = cc
-
-  -- no spelling is empty
-  pub none_empty : (v : V) → Spells v [] → ⊥
-  none_empty v s = not_within v start (sym (d.complete v [] s))
-
   -- after a spelling no spelling goes on
   pub none_beyond : (v w : V) (r : List U) (b : U) (u : List U) → Spells v r → Spells w (r ++ (b ∷ u)) → ⊥
   none_beyond v w r b u s t = not_beyond w (sym (d.complete w (r ++ (b ∷ u)) t) ∙ walk_beyond rule start v r b u (d.complete v r s))
@@ -96,10 +89,6 @@ module _ {U S V : Type 0} (Spells : V → List U → Type 0) (why : List U → R
   -- after a fault there is no front
   pub no_front : (f : Reason) (r : List U) → walk rule start r ≡ Broken f → IsFront Spells r → ⊥
   no_front f r e (v, w, s) = not_broken v f (sym (d.complete v (r ++ w) s) ∙ walk_broken rule start f r w e)
-
-  -- nor is there one after a whole spelling with more units
-  pub no_front_beyond : (v : V) (r : List U) (b : U) (u : List U) → walk rule start r ≡ Whole v → IsFront Spells (r ++ (b ∷ u)) → ⊥
-  no_front_beyond v r b u e (w, x, s) = none_beyond v w r b (u ++ x) (d.sound v r e) (subst (λ (l : List U). Spells w l) (append_assoc r (b ∷ u) x) s)
 
   -- a spelling that begins another is that one
   alike : (v w : V) (a b c : List U) → Spells v a → Spells w b → b ≡ a ++ c → a ≡ b

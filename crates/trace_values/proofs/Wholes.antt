@@ -1,5 +1,5 @@
--- A whole spelling is read as its value, and the front of one as a rest.
-use Rattle.std.proofs.Common.{◌≡◌, List, [], ◌∷◌, ◌++◌, refl, sym, ◌∙◌, ap, append_assoc, append-nil, None}
+-- A whole spelling is read as its value.
+use Rattle.std.proofs.Common.{◌≡◌, List, [], ◌∷◌, ◌++◌, refl, ◌∙◌, ap, None}
 use Rattle.trace_values.specs.declared.fault.Reason.{Reason}
 use Rattle.trace_values.specs.declared.next.Next.{Next}
 use Rattle.trace_values.specs.declared.next.Next.TheVariants.{Go, End, Fail}
@@ -17,29 +17,9 @@ module _ {S V : Type 0} (rule : S → Placed → Next S V) (start : S) where
   not_whole : (s : S) (v : V) → (let p : Walked S V = Within s in let q : Walked S V = Whole v in p ≡ q) → ⊥
   not_whole s v e = cc
 
-  never_within : (v : V) (w : List Placed) (t : S) (more : S → Walked S V) → after (End v) more w ≡ Within t → ⊥
-  never_within v [] t more h = cc
-  never_within v (c ∷ w) t more h = cc
-
   never_whole : (z v : V) (w : List Placed) (l : Placed) (more : S → Walked S V) → after (End z) more (w ++ l ∷ []) ≡ Whole v → ⊥
   never_whole z v [] l more h = cc
   never_whole z v (c ∷ w) l more h = cc
-
-  -- units that leave the rule in a state join the rest
-  pub within_reads : (w : List Placed) (items : List (V × Place)) (r : List Placed) (s t : S) → walk rule s w ≡ Within t →
-      progress_from rule start (at_state items r s) w ≡ at_state items (r ++ w) t
-  within_reads [] items r s t e =
-      let k : s ≡ t = cc in
-      ap (λ (l : List Placed). at_state items l s) (sym (append-nil r)) ∙ ap (λ (x : S). at_state items (r ++ []) x) k
-  within_reads (b ∷ w) items r s t e = by (rule s b) refl e (λ x h. within_reads w items (r ++ b ∷ []) x t h) where
-    by : (n : Next S V) → rule s b ≡ n → after n (λ x. walk rule x w) w ≡ Within t →
-        ((x : S) → walk rule x w ≡ Within t → progress_from rule start (at_state items (r ++ b ∷ []) x) w ≡ at_state items ((r ++ b ∷ []) ++ w) t) →
-        progress_from rule start (with_unit start (at_state items r s) b (rule s b) None) w ≡ at_state items (r ++ (b ∷ w)) t
-    by (Go x) k h more =
-        ap (λ (n : Next S V). progress_from rule start (with_unit start (at_state items r s) b n None) w) k
-        ∙ more x h ∙ ap (λ (l : List Placed). at_state items l t) (append_assoc r (b ∷ []) w)
-    by (End v) k h more = absurd (never_within v w t (λ x. walk rule x w) h)
-    by (Fail f) k h more = cc
 
   -- units that end a value do so with the last of them
   pub whole_reads : (w : List Placed) (l : Placed) (items : List (V × Place)) (r : List Placed) (s : S) (v : V) → walk rule s (w ++ l ∷ []) ≡ Whole v →

@@ -6,7 +6,6 @@ pub mod Walk
 pub mod Reading
 pub mod Stream
 pub mod Standing
-pub mod Block
 pub mod Hunt
 pub mod Hunted
 pub mod Moded

@@ -2,9 +2,13 @@
 use Rattle.std.specs.Prelude.{◌≡◌, ℕ, List, [], ◌∷◌, ◌++◌, Option, None, Some}
 use Rattle.trace_values.specs.declared.step.Step.{Step}
 use Rattle.trace_values.specs.declared.step.Step.TheVariants.{Item}
-use Rattle.trace_values.specs.Placed.{Placed}
-use Rattle.trace_values.specs.Stream.{Stream}
-use Rattle.trace_values.specs.Block.{given_after}
+use Rattle.trace_values.specs.Placed.{Place, Placed}
+use Rattle.trace_values.specs.Stream.{Said, Stream, given_by}
+
+-- what the answer to the last byte gives, where there is one
+abbrev pub given_after : {V : Type 0} → ℕ → Option (Step V) → List (Said V × Place)
+given_after at None = []
+given_after at (Some step) = given_by at step
 
 -- After u these bytes give what this answer to the last of them says, and nothing else, and the reading goes on.
 pub record Passes {V : Type 0} (reading : List Placed → Stream V) (stands : List Placed → Type 0)

@@ -2,7 +2,6 @@
 //! machines.
 #![tactic(auto)]
 
-mod block;
 mod cell;
 mod fault;
 pub mod laws;
@@ -16,7 +15,6 @@ pub mod rows;
 mod step;
 mod taking;
 
-pub use block::{Block, feed_block};
 pub use cell::{Cell, SourceId};
 pub use fault::{Fault, Reason};
 pub use limits::{COUNT_ROOM, ID_COUNT, NIBBLE_ROOM, PART_ROOM};
@@ -26,4 +24,4 @@ pub use next::Next;
 pub use pattern::Pattern;
 pub use reading_modes::{FramesMode, PacketsMode};
 pub use step::Step;
-pub use taking::{Found, Taken};
+pub use taking::{Found, TakenAtOnce};

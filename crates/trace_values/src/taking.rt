@@ -13,11 +13,11 @@ pub enum Found<P> {
 
 /// What was taken at once.
 #[derive(Clone, Copy, Debug, PartialEq, Eq, Drop)]
-pub struct Taken<T> {
+pub struct TakenAtOnce<T> {
     /// How many bytes, at least one.
     pub bytes: usize,
-    /// The half of the last of them in which the packet ends, if one does: 0 for the low nibble of an STP source or for a
-    /// byte of an ITM source, 1 for the high nibble.
+    /// The half of the last of them in which the packet ends, if one does: 0 for the low nibble of an STP source or for
+    /// a byte of an ITM source, 1 for the high nibble.
     pub half: u8,
     /// The item that it gives, if it gives one.
     pub item: Option<T>,

@@ -2,7 +2,7 @@ use Rattle.std.proofs.Common.{◌≡◌, ◌<◌, ◌+◌, ◌∷◌, [], ◌++�
 use Rattle.std.proofs.lemmas.List.{take_all}
 use Rattle.trace_values.specs.declared.cell.Cell.{Cell}
 use Rattle.trace_values.specs.Placed.{Placed, byte_at, placed_from}
-use Rattle.trace_values.proofs.Blocks.{next_placed}
+use Rattle.trace_values.proofs.Placing.{next_placed}
 use Rattle.deformatter.specs.Block.{Answers, EachByte, FedAs}
 use Rattle.deformatter.specs.Reading.{port_stream, cells_in}
 use Rattle.deformatter.specs.Growth.{PortGrows, goes_on}
