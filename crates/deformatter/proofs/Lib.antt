@@ -11,6 +11,5 @@ pub mod BeforeFaults
 pub mod Resuming
 pub mod PortReadingLaws
 pub mod RisingLaws
-pub mod RunLaws
 pub mod Grammar
 pub mod ReaderFeeding

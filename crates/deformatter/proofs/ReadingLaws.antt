@@ -1,9 +1,8 @@
 -- Laws of the reading of a port's bytes.
 use Rattle.std.proofs.Common.{◌≡◌, ℕ, ◌+◌, List, [], ◌∷◌, ◌++◌, refl, sym, ◌∙◌, ap, inl, inr, arith, subst, append_assoc, append-nil, Bool, true, false, Option, None, Some}
 use Rattle.std.specs.Prelude.{is_none}
-use Rattle.trace_values.specs.declared.cell.Cell.{Cell}
 use Rattle.trace_values.specs.declared.fault.Reason.{Reason}
-use Rattle.trace_values.specs.Placed.{Place, Placed, byte_at, placed_from}
+use Rattle.trace_values.specs.Placed.{Place, Placed, byte_at}
 use Rattle.trace_values.specs.Reading.{with_unit, advance}
 use Rattle.trace_values.specs.Stream.{FaultAt}
 use Rattle.trace_values.proofs.Standings.{some_of}
@@ -89,15 +88,3 @@ rises h u at byte = elim (by_mode h u) [
   | inl r ↦ rises_read h u at byte r r.progress.fault refl
   | inr m ↦ subst (λ (x : Bool). PortRises (port_stream x u) (port_stream x (u ++ byte_at at byte ∷ [])) at) (sym m.0) (rises_seeking u at byte m.1)
 ]
-
--- with more bytes there are more cells, and none is taken back
-pub cells_grow : (h : Bool) (u : List Placed) (at : ℕ) (bytes : List ℕ) →
-    (more : List Cell) × (cells_in (port_stream h (u ++ placed_from at bytes)) ≡ cells_in (port_stream h u) ++ more)
-cells_grow h u at [] = ([], ap (λ (l : List Placed). cells_in (port_stream h l)) (append-nil u) ∙ sym (append-nil (cells_in (port_stream h u))))
-cells_grow h u at (b ∷ bytes) =
-    let one = rises h u at b in
-    let rest = cells_grow h (u ++ byte_at at b ∷ []) (at + 1) bytes in (
-      one.more_cells ++ rest.0,
-      ap (λ (l : List Placed). cells_in (port_stream h l)) (sym (append_assoc u (byte_at at b ∷ []) (placed_from (at + 1) bytes)))
-          ∙ rest.1 ∙ ap (λ (l : List Cell). l ++ rest.0) one.cells ∙ append_assoc (cells_in (port_stream h u)) one.more_cells rest.0,
-    )

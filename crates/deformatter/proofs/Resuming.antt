@@ -14,7 +14,7 @@ use Rattle.deformatter.specs.declared.deformatter.Phase.TheVariants.{Hunting as 
 use Rattle.deformatter.proofs.Lawful.{counted}
 use Rattle.trace_values.specs.declared.mode.Mode.{Mode}
 use Rattle.trace_values.specs.declared.mode.Mode.TheVariants.{Aligned, Hunting, Locked}
-use Rattle.trace_values.specs.Moded.{StandsIn, hunts, skipped_of}
+use Rattle.trace_values.specs.Moded.{StandsIn, hunts}
 use Rattle.trace_values.specs.Hunted.{Found, Hunt, hunt, hunt_on, run_after, Seeks}
 use Rattle.trace_values.specs.Placed.{Place, Placed}
 use Rattle.trace_values.specs.Reading.{Progress, with_unit}
@@ -25,7 +25,7 @@ use Rattle.port_sync.specs.Aligner as aligner
 use Rattle.deformatter.specs.Reading.{port_stream, id_in, port_hunted}
 use Rattle.deformatter.specs.Resume.{state_by, state_found, again, taken_again}
 use Rattle.deformatter.specs.Rule.{count_of, part_size}
-use Rattle.deformatter.specs.Deformatter.{Stands, mode_of, state_of, id_of, is_live, is_hunter, skipped_by, tail_of}
+use Rattle.deformatter.specs.Deformatter.{Stands, mode_of, state_of, id_of, is_live, is_hunter, tail_of}
 use Rattle.deformatter.specs.declared.deformatter.Deformatter.{Deformatter}
 use Rattle.deformatter.proofs.BeforeFaults.{Seeked, seeked, sound_seek}
 use Rattle.deformatter.proofs.Parts.{size_is}
@@ -126,15 +126,3 @@ left_is d u x s l f =
     let p : part_size (state_by h (u ++ x ∷ [])).part ≡ part_size (state_of d).part =
     ap (λ (z : State). part_size z.part) e in
     omega (arith, t, c, p)
-
-skipped_in : (m : Mode) (live : Bool) (s : State) (w : List Placed) → StandsIn pattern Full rule start m live s w →
-    live ≡ false → skipped_of m ≡ (port_stream (hunts m) w).skipped
-skipped_in Aligned live s w k l = refl
-skipped_in (Hunting run skipped) live s w k l = (let e : true ≡ false = sym k.1 ∙ l in cc)
-skipped_in (Locked skipped) live s w k l =
-    sym k.skipped_is ∙ sym (ap (λ (o : Option (Found State PortItem)).
-    (port_hunted (hunt pattern Full rule start w).units o).skipped) k.some)
-
-pub passed : (d : Deformatter) (w : List Placed) → Stands d w → is_live d ≡ false →
-    skipped_by d ≡ (port_stream (is_hunter d) w).skipped
-passed d w s l = skipped_in (mode_of d) (is_live d) (state_of d) w s.reads l

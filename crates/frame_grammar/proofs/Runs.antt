@@ -24,14 +24,6 @@ take_has_runs n cs h = record {
   few = All-take (λ c. c.run ≤ 8) n cs h.few;
 }
 
--- none
-pub none_has_runs : HasRuns []
-none_has_runs = record {
-  in_order = IsNonDecreasingBy-short (λ c. c.run) [] (omega arith);
-  one_id = λ c d p q. absurd (let l = p.1 in omega arith);
-  few = All-nil (λ c. c.run ≤ 8);
-}
-
 only_one : (x c : Cell) → Contains (x ∷ []) c → x ≡ c
 only_one x c h = elim (Contains-push_cases [] x c h) [ inl n ↦ absurd (let l = n.1 in omega arith) | inr e ↦ e ]
 

@@ -58,9 +58,6 @@ odd_not : (e : ℕ) → (e % 2 == 0) ≡ false → (e % 2 == 1) ≡ true
 odd_not e h = let k : e % 2 ≢ 0 = (λ q. (let z : (e % 2 == 0) ≡ true = grind (arith, nat_tests) in cc)) in let m : e % 2 ≡ 1 = omega (arith, k) in grind (arith, nat_tests)
 
 module _ (frame offsets : List ℕ) (before : Option ℕ) (s : ℕ) (few : s ≤ 126) where
-  in_force : (i : ℕ) (id : Option ℕ) → id ≡ id_at frame before i → IsInForce frame before i id (run_at frame i)
-  in_force i id e = record { id_is = e; run_is = refl }
-
   even_by : (k code e : ℕ) (t : Bool) → (slice_index frame (2 * k) % 2 == 0) ≡ t → source_id code ≡ id_at frame before (2 * k) → (t ≡ true → e ≡ even_data frame k) →
       bytes_of_source s (even_cells frame offsets before k) ≡ cond (t && code == s) (e ∷ []) []
   even_by k code e true n i d =

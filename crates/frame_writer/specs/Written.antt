@@ -156,9 +156,5 @@ segment_frames every halves segments = segments_then every halves none_later seg
 abbrev pub written_segments : ℕ → ℕ → List (List Tagged) → List ℕ
 written_segments every halves segments = concat (segment_frames every halves segments)
 
--- the frames of one segment, and the written capture
-abbrev pub frames : ℕ → ℕ → List Tagged → List (List ℕ)
-frames every halves t = segment_frames every halves (t ∷ [])
-
 abbrev pub capture : ℕ → ℕ → List Tagged → List ℕ
 capture every halves t = written_segments every halves (t ∷ [])

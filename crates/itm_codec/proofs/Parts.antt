@@ -1,5 +1,5 @@
 -- What a decoder says of a part that it took.
-use Rattle.std.proofs.Common.{◌≡◌, refl, ℕ, ◌+◌, ◌<◌, ◌≤◌, List, [], ◌∷◌, ◌++◌, length, take, IfSome, Option, Some, None, Bool, true, sym, ◌∙◌, ap, subst, arith}
+use Rattle.std.proofs.Common.{◌≡◌, ℕ, ◌+◌, ◌<◌, ◌≤◌, List, [], ◌∷◌, ◌++◌, length, take, IfSome, Option, Some, None, Bool, true, sym, ◌∙◌, ap, subst, arith}
 use Rattle.std.proofs.lemmas.List.{length-take-le}
 use Rattle.trace_values.specs.declared.mode.Mode.{Mode}
 use Rattle.trace_values.specs.Placed.{Placed, units_of}
@@ -10,24 +10,17 @@ use Rattle.itm_grammar.specs.declared.packet.ItmPacket.TheVariants.{Sync}
 use Rattle.itm_grammar.specs.declared.partial.Partial.{Partial}
 use Rattle.itm_grammar.specs.declared.partial.Partial.TheVariants.{Header}
 use Rattle.itm_grammar.specs.Rule.{rule, count_of}
-use Rattle.itm_grammar.specs.Proper.{IsProper}
 use Rattle.itm_grammar.proofs.Deciding.{counted_bytes}
 use Rattle.itm_codec.specs.declared.decoder.ItmDecoder.{ItmDecoder}
 use Rattle.itm_codec.specs.declared.decoder.ItmEnd.{ItmEnd}
 use Rattle.trace_values.specs.declared.taking.Found.{Found}
 use Rattle.trace_values.specs.declared.taking.Found.TheVariants.{Ends, Waits, Unknown}
 use Rattle.trace_values.specs.declared.taking.TakenAtOnce.{TakenAtOnce}
-use Rattle.trace_values.specs.Stream.{Stream}
-use Rattle.trace_values.specs.Taking.{Passes, given_after, item_at}
+use Rattle.trace_values.specs.Taking.{Passes, item_at}
 use Rattle.itm_codec.specs.Reading.{pattern, packets_in}
 use Rattle.itm_codec.specs.Decoder.{Stands, partial_of, is_hunter, is_live, held_of}
 use Rattle.itm_codec.specs.Parts.{EndsPart, Idles, Looked, Reads, Took}
 use Rattle.itm_codec.proofs.Wholes.{cut_goes}
-
--- the packet of a part is proper
-pub fits : (s t : Partial) (bytes : List ℕ) (packet : Option ItmPacket) → Reads s t bytes packet → IfSome packet IsProper
-fits s t bytes None r = tt
-fits s t bytes (Some p) r = r.2
 
 few_by : (s t : Partial) (bytes : List ℕ) (packet : Option ItmPacket) → Reads s t bytes packet → count_of t ≤ count_of s + length bytes
 few_by s t bytes None r = (let k = counted_bytes s t bytes r in omega arith)
@@ -60,14 +53,6 @@ idles old new mode live partial = (
 )
 
 module _ (old new : ItmDecoder) (bytes : List ℕ) (most : ℕ) where
-  pub took_bytes : (x : Option (TakenAtOnce ItmPacket)) → Took old new bytes most x → IfSome x (λ x. (0 < x.bytes) × (x.bytes ≤ most) × (x.half ≡ 0))
-  took_bytes None t = tt
-  took_bytes (Some x) t = (t.part.1, t.part.2, t.part.3)
-
-  pub took_fits : (x : Option (TakenAtOnce ItmPacket)) → Took old new bytes most x → IfSome x (λ x. IfSome x.item IsProper)
-  took_fits None t = tt
-  took_fits (Some x) t = fits (partial_of old) (partial_of new) (take x.bytes bytes) x.item t.part.4
-
   pub took_few : (x : Option (TakenAtOnce ItmPacket)) → most ≤ length bytes → Took old new bytes most x →
       IfSome x (λ x. held_of new ≤ held_of old + x.bytes)
   took_few None l t = tt

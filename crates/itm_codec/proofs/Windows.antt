@@ -305,10 +305,3 @@ extends (suc (suc zero)) v word h l c e = extends_two (word % 256) (word / 256 %
 extends (suc (suc (suc zero))) v word h l c e = extends_three (word % 256) (word / 256 % 256) (word / 65536 % 256) v c e
 extends (suc (suc (suc (suc zero)))) v word h l c e = extends_four (word % 256) (word / 256 % 256) (word / 65536 % 256) (word / 16777216 % 256) v c e
 extends (suc (suc (suc (suc (suc n))))) v word h l c e = absurd (omega arith)
-
--- a fourth byte has eight bits
-pub extends_long : (v word : ℕ) → All (λ byte. 128 ≤ byte) (four_bytes word) → v ≡ groups (four_bytes word) → Extends (v + 268435456) (four_bytes word)
-extends_long v word all e =
-    let d : ℕ = word / 16777216 % 256 in
-    let h : 128 ≤ d = all 3 0 (omega arith) in
-    ((all 0 0 (omega arith), all 1 0 (omega arith), all 2 0 (omega arith), refl), omega (arith, e, h))

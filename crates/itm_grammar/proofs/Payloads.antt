@@ -181,14 +181,6 @@ pub value_groups : (n v : ℕ) (p : List ℕ) → value_from (λ i b. b % 128 * 
 value_groups n v [] = omega arith
 value_groups n v (b ∷ p) = value_groups (n + 1) (v + b % 128 * 128 ^ n) p ∙ weigh 128 v n (b % 128) (groups p)
 
--- groups fit their bits
-pub groups_fit : (p : List ℕ) → groups p < 128 ^ length p
-groups_fit [] = omega arith
-groups_fit (b ∷ p) =
-    let k = groups_fit p in
-    let e : 128 ^ suc (length p) ≡ 128 ^ length p * 128 = pow-suc 128 (length p) in
-    rw e (omega arith)
-
 -- an extension packet's payload
 ends_at : (b : ℕ) → (nat_le 128 b && true) ≡ false → b < 128
 ends_at b e = grind (arith, nat_tests)

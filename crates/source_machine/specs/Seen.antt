@@ -13,11 +13,6 @@ step_as f (Item half v) = Item half (f v)
 step_as f (Locked skipped half v) = Locked skipped half (f v)
 step_as f (Fault fault) = Fault fault
 
--- the last answer to a piece, where there is one
-abbrev pub last_as : {V W : Type 0} → (V → W) → Option (Step V) → Option (Step W)
-last_as f None = None
-last_as f (Some step) = Some (step_as f step)
-
 -- the answer to the byte in this half of which an STP packet ends: its item, if it has one
 abbrev pub packet_in : ℕ → Option StpItem → Option (Step Packet)
 packet_in half None = None

@@ -1,30 +1,13 @@
 -- A reading whose items are seen as packets grows, settles and shows as it did.
-use Rattle.std.specs.Prelude.{◌≡◌, ℕ, List, [], ◌∷◌, ◌++◌, Bool, Option, None, Some, refl}
+use Rattle.std.specs.Prelude.{◌≡◌, ℕ, List, [], ◌∷◌, ◌++◌, Bool, refl}
 use Rattle.std.proofs.Common.{ap, ◌∙◌}
 use Rattle.std.proofs.lemmas.List.{map-append}
 use Rattle.trace_values.specs.declared.step.Step.{Step}
 use Rattle.trace_values.specs.declared.step.Step.TheVariants.{Quiet, Skipping, Item, Locked, Fault}
-use Rattle.trace_values.specs.Placed.{Place, Placed}
-use Rattle.trace_values.specs.Stream.{
-  Said,
-  Stream,
-  Grows,
-  HuntBy,
-  Shows,
-  Settled,
-  Holds,
-  Rises,
-  AllAt,
-  StepFits,
-  LocksAfter,
-  given_by,
-  fault_by,
-  goes_on,
-}
-
-use Rattle.trace_values.specs.Taking.{Passes, given_after}
+use Rattle.trace_values.specs.Placed.{Place}
+use Rattle.trace_values.specs.Stream.{Said, Stream, Grows, HuntBy, Shows, Settled, Holds, Rises, AllAt, given_by, fault_by}
 use Rattle.source_events.specs.Packets.{said_as, given_as, stream_as}
-use Rattle.source_machine.specs.Seen.{step_as, last_as}
+use Rattle.source_machine.specs.Seen.{step_as}
 
 module _ {V W : Type 0} (f : V → W) where
   pub given_append : (xs ys : List (Said V × Place)) → given_as f (xs ++ ys) ≡ given_as f xs ++ given_as f ys
@@ -62,28 +45,6 @@ module _ {V W : Type 0} (f : V → W) where
     hunt = hunt_step old new at step g.hunt;
   }
 
-  pub goes_as : (step : Step V) → goes_on step ≡ goes_on (step_as f step)
-  goes_as Quiet = refl
-  goes_as Skipping = refl
-  goes_as (Item half v) = refl
-  goes_as (Locked n half v) = refl
-  goes_as (Fault x) = refl
-
-  pub locks_as : (n : ℕ) (step : Step V) → LocksAfter n step → LocksAfter n (step_as f step)
-  locks_as n Quiet h = h
-  locks_as n Skipping h = h
-  locks_as n (Item half v) h = h
-  locks_as n (Locked m half v) h = h
-  locks_as n (Fault x) h = h
-
-  pub fits_as : (P : V → Type 0) (Q : W → Type 0) → ((v : V) → P v → Q (f v)) → (step : Step V) → StepFits P step →
-      StepFits Q (step_as f step)
-  fits_as P Q each Quiet h = h
-  fits_as P Q each Skipping h = h
-  fits_as P Q each (Item half v) h = each v h
-  fits_as P Q each (Locked m half v) h = each v h
-  fits_as P Q each (Fault x) h = h
-
   pub shows_as : (live locked : Bool) (held skipped bytes : ℕ) (s : Stream V) → Shows live locked held skipped bytes s →
       Shows live locked held skipped bytes (stream_as f s)
   shows_as live locked held skipped bytes s h = record {
@@ -116,20 +77,4 @@ module _ {V W : Type 0} (f : V → W) where
     given = ap (given_as f) r.given ∙ given_append old.given r.more;
     all = all_as at 0 r.more r.all;
     fault = r.fault;
-  }
-
-  given_block : (at : ℕ) (step : Option (Step V)) → given_as f (given_after at step) ≡ given_after at (last_as f step)
-  given_block at None = refl
-  given_block at (Some step) = given_step at step
-
-  -- of bytes that are taken at once
-  pub passes_as : (reading : List Placed → Stream V) (stands : List Placed → Type 0)
-      (u front : List Placed) (last : Placed)
-      (step : Option (Step V)) → Passes reading stands u front last step →
-      Passes (λ w. stream_as f (reading w)) stands u front last (last_as f step)
-  passes_as reading stands u front last step p = record {
-    list = p.list;
-    given = ap (given_as f) p.given ∙ given_append _ _
-        ∙ ap (λ l. given_as f (reading u).given ++ l) (given_block _ step);
-    sound = p.sound;
   }

@@ -13,7 +13,6 @@ use Rattle.stp_grammar.proofs.Counting.{counts_placed}
 use Rattle.stp_codec.specs.declared.decoder.StpDecoder.{StpDecoder}
 use Rattle.stp_codec.specs.Reading.{pattern, packets_in, packets_of, items_at, items_in, rest_in}
 use Rattle.stp_codec.specs.Answers.{AnswersNibble, AnswersByte}
-use Rattle.stp_codec.specs.Wholes.{left_of}
 use Rattle.stp_codec.specs.Decoder.{ReadsAt, Reads, nibble_at, EndsItem}
 
 -- the high nibble of a byte
@@ -128,7 +127,3 @@ module _ (order : Order) (h : Bool) (n : List Placed) (at byte : ℕ) where
 
   pub fault_answer : (s : Step StpItem) (f : Fault) → s ≡ Faulty f → Low s → Byte s
   fault_answer s f e a = (Faulty f, packets_of order h (n ++ low_of at byte ∷ []), rest_in order h (n ++ low_of at byte ∷ []), subst Low e a, e)
-
--- what is left of a byte after its low nibble
-pub left_is : (half at byte : ℕ) → half ≡ 0 → left_of half at byte ≡ high_of at byte ∷ []
-left_is half at byte e = ap (λ h. left_of h at byte) e
