@@ -2,17 +2,12 @@
 use Rattle.std.proofs.Common.{◌≡◌, ℕ, zero, suc, ◌+◌, ◌-◌, List, [], ◌∷◌, ◌++◌, length, drop, refl, sym, ◌∙◌, ap, arith}
 use Rattle.std.proofs.Common.{subst, append_assoc, append-nil, Option, None, Some, Bool, true, false, cond}
 use Rattle.std.specs.Prelude.{is_none, ◌==◌, ◌&&◌, if◌then◌else◌}
-use Rattle.trace_values.specs.declared.next.Next.{Next}
-use Rattle.trace_values.specs.declared.next.Next.TheVariants.{Go, End, Fail}
-use Rattle.trace_values.specs.Placed.{Place, Placed}
-use Rattle.trace_values.specs.declared.fault.Reason.{Reason}
-use Rattle.trace_values.specs.declared.fault.Reason.TheVariants.{BadSync, SyncInFrame}
-use Rattle.trace_values.specs.Reading.{Progress, with_unit, advance, progress_from, unread}
-use Rattle.trace_values.specs.Hunted.{Found, Hunt, hunt, hunt_on, hunt_from, no_hunt, run_after, begun, Seeks}
-use Rattle.frame_grammar.specs.Reading.{port_progress}
-use Rattle.frame_grammar.specs.Port.{PortItem, Full, Half, State, Part, Between, First, One, Two, Three, start, rule}
-use Rattle.frame_grammar.specs.Port.{part_rule, word_ended, half_ended, full_begun, with_part}
-use Rattle.port_sync.specs.Hunting.{pattern}
+use Rattle.deformatter.specs.Names.{Next, Go, End, Fail, Place, Placed, Reason, BadSync, SyncInFrame, Progress}
+use Rattle.deformatter.specs.Names.{with_unit, advance, progress_from, unread, Found, hunt, hunt_on, hunt_from, no_hunt}
+use Rattle.deformatter.specs.Names.{run_after, begun, Seeks, port_progress, PortItem, Full, Half, State, Part, Between}
+use Rattle.deformatter.specs.Names.{First, One, Two, Three, start, rule, part_rule, word_ended, half_ended, full_begun}
+use Rattle.deformatter.specs.Names.{with_part, pattern}
+use Rattle.trace_values.specs.Hunted.{Hunt}
 use Rattle.std.proofs.lemmas.List.{length-append}
 use Rattle.std.proofs.Math.Seq.{drop-append_seam}
 use Rattle.trace_values.proofs.Standings.{progress_push}

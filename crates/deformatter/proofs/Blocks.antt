@@ -3,20 +3,12 @@ use Rattle.std.proofs.Common.{◌≡◌, ◌≢◌, ℕ, zero, suc, ◌+◌, ◌
 use Rattle.std.specs.Prelude.{◌==◌}
 use Rattle.std.specs.List.{range_with_len}
 use Rattle.std.proofs.lemmas.List.{take_more, length-take-le}
-use Rattle.trace_values.specs.declared.mode.Mode.{Mode}
-use Rattle.trace_values.specs.declared.next.Next.{Next}
-use Rattle.trace_values.specs.declared.cell.Cell.{Cell}
-use Rattle.trace_values.specs.declared.next.Next.TheVariants.{Go, End, Fail}
-use Rattle.trace_values.specs.Placed.{Placed, byte_at, placed_from}
-use Rattle.trace_values.specs.Walk.{Walked, Whole, after, walk}
-use Rattle.trace_values.specs.Moded.{StandsIn, hunts, is_locked}
+use Rattle.deformatter.specs.Names.{Mode, Next, Cell, Go, End, Fail, Placed, byte_at, placed_from, Walked, Whole, after}
+use Rattle.deformatter.specs.Names.{walk, StandsIn, hunts, is_locked, IsProperBelow, PortItem, Full, Half, Frame}
+use Rattle.deformatter.specs.Names.{Between, First, One, State, start, rule, offsets_of, pattern}
 use Rattle.trace_values.proofs.Modes as laws
 use Rattle.trace_values.proofs.Placing.{next_placed}
-use Rattle.frame_grammar.specs.Frame.{IsProperBelow}
-use Rattle.frame_grammar.specs.Port.{PortItem, Full, Half, Frame, Between, First, One, State, start, rule}
-use Rattle.frame_grammar.specs.Reading.{offsets_of}
 use Rattle.frame_grammar.proofs.Deciding.{at, no}
-use Rattle.port_sync.specs.Hunting.{pattern}
 use Rattle.deformatter.specs.Reading.{port_stream, cells_in}
 use Rattle.deformatter.specs.Growth.{PortGrows}
 use Rattle.deformatter.specs.Rule.{step_by, item_step, cells_by}

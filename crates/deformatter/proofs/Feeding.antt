@@ -2,26 +2,14 @@
 use Rattle.std.proofs.Common.{◌≡◌, ℕ, suc, ◌+◌, ◌-◌, ◌*◌, ◌≤◌, List, [], ◌∷◌, ◌++◌, refl, sym, ◌∙◌, ap, arith, subst, Bool, true, false, cond, Option, None}
 use Rattle.std.specs.Prelude.{◌==◌, ◌&&◌, nat_le}
 use Rattle.std.proofs.lemmas.Bool.Decides.{nat_tests}
-use Rattle.trace_values.specs.declared.cell.Cell.{Cell}
-use Rattle.trace_values.specs.declared.fault.Reason.{Reason}
-use Rattle.trace_values.specs.declared.next.Next.{Next}
-use Rattle.trace_values.specs.declared.next.Next.TheVariants.{Go, End, Fail}
-use Rattle.trace_values.specs.declared.mode.Mode.{Mode}
-use Rattle.trace_values.specs.declared.mode.Mode.TheVariants.{Hunting}
-use Rattle.trace_values.specs.Placed.{Place, Placed, byte_at}
-use Rattle.trace_values.specs.Reading.{with_unit}
-use Rattle.trace_values.specs.Hunted.{Seeks}
-use Rattle.trace_values.specs.Moded.{StandsIn, hunts, is_locked}
-use Rattle.trace_values.specs.Standing.{live_after, state_after}
+use Rattle.deformatter.specs.Names.{Cell, Reason, Next, Go, End, Fail, Mode, Hunting, Place, Placed, byte_at, with_unit}
+use Rattle.deformatter.specs.Names.{Seeks, StandsIn, hunts, is_locked, live_after, state_after, PortItem, Full, State}
+use Rattle.deformatter.specs.Names.{start, rule, pattern, Hunter, placed_part, is_fit, state}
 use Rattle.frame_grammar.specs.Port as port
-use Rattle.frame_grammar.specs.Port.{PortItem, Full, State, start, rule}
-use Rattle.port_sync.specs.Hunting.{pattern}
 use Rattle.deformatter.specs.Reading.{PortStream, read_after, all_skipped, port_stream, cells_in, id_in}
 use Rattle.deformatter.specs.Growth.{PortGrows, goes_on}
 use Rattle.port_sync.specs.declared.aligner.Part.{Part}
 use Rattle.port_sync.specs.declared.aligner.Part.TheVariants.{Between, First, One, Two, Three}
-use Rattle.port_sync.specs.declared.hunter.Hunter.{Hunter}
-use Rattle.port_sync.specs.Aligned.{placed_part, is_fit, state}
 use Rattle.deformatter.specs.Phase.{mode_in}
 use Rattle.deformatter.specs.Rule.{count_of, step_by, cells_by, id_by}
 use Rattle.deformatter.specs.declared.deformatter.Phase.{Phase}

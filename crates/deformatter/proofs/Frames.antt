@@ -1,22 +1,15 @@
 -- A frame that is taken at once, in what a deformatter stands for.
 use Rattle.std.proofs.Common.{◌≡◌, ℕ, List, [], ◌∷◌, ◌++◌, refl, sym, ◌∙◌, ap, subst, arith, true, Option, Some, None}
 use Rattle.std.specs.Prelude.{is_none}
-use Rattle.trace_values.specs.declared.fault.Reason.{Reason}
-use Rattle.trace_values.specs.declared.mode.Mode.{Mode}
-use Rattle.trace_values.specs.declared.mode.Mode.TheVariants.{Aligned, Hunting, Locked}
-use Rattle.trace_values.specs.declared.next.Next.TheVariants.{End}
-use Rattle.trace_values.specs.Placed.{Place, Placed, units_of}
-use Rattle.trace_values.specs.Walk.{walk}
-use Rattle.trace_values.specs.Reading.{Progress, advance, progress_from, unread}
-use Rattle.trace_values.specs.Hunted.{Found, Hunt, hunt_on, hunt_from, no_hunt}
-use Rattle.trace_values.specs.Moded.{StandsIn, hunts, is_locked}
+use Rattle.deformatter.specs.Names.{Reason, Mode, Hunting, Locked, End, Place, Placed, units_of, walk, Progress}
+use Rattle.deformatter.specs.Names.{advance, progress_from, unread, Found, hunt_on, hunt_from, no_hunt, StandsIn, hunts}
+use Rattle.deformatter.specs.Names.{is_locked, id_after, PortItem, Full, Frame, State, Spells, start, rule}
+use Rattle.deformatter.specs.Names.{port_progress, fulls_in, halves_in, frames_in, pattern}
+use Rattle.trace_values.specs.declared.mode.Mode.TheVariants.{Aligned}
+use Rattle.trace_values.specs.Hunted.{Hunt}
 use Rattle.trace_values.proofs.Standings as standings
 use Rattle.trace_values.proofs.Wholes.{whole_reads}
-use Rattle.frame_grammar.specs.Frame.{id_after}
-use Rattle.frame_grammar.specs.Port.{PortItem, Full, Frame, State, Spells, start, rule}
-use Rattle.frame_grammar.specs.Reading.{port_progress, fulls_in, halves_in, frames_in}
 use Rattle.frame_grammar.proofs.Deciding.{port_decided}
-use Rattle.port_sync.specs.Hunting.{pattern}
 use Rattle.deformatter.specs.Reading.{PortStream, read_after, port_hunted, port_stream, id_in}
 use Rattle.deformatter.specs.Frames.{last_place, GrowsByFrame}
 use Rattle.deformatter.specs.Rule.{id_by}

@@ -3,17 +3,11 @@ use Rattle.std.proofs.Common.{◌≡◌, ℕ, suc, ◌+◌, List, [], ◌∷◌,
 use Rattle.std.proofs.Common.{arith, Bool, true, false, Option, None, Some, ◌↔◌}
 use Rattle.std.specs.List.{sum_by}
 use Rattle.std.proofs.lemmas.List.Sums.{sum_by-cons}
-use Rattle.trace_values.specs.declared.cell.Cell.{Cell}
-use Rattle.trace_values.specs.declared.fault.Reason.{Reason}
-use Rattle.trace_values.specs.Placed.{Place, Placed, units_of}
-use Rattle.trace_values.specs.Hunt.{IsFirst}
-use Rattle.trace_values.specs.Reading.{Reading, reading}
+use Rattle.deformatter.specs.Names.{Cell, Reason, Place, Placed, units_of, IsFirst, Reading, reading, FramesMode, Hunt}
+use Rattle.deformatter.specs.Names.{Aligned, Bare, PortItem, Full, Half, Frame, Spells, why, half_words, start, rule}
+use Rattle.deformatter.specs.Names.{port_progress, port_cells, item_id, halves_in, frames_in}
 use Rattle.trace_values.proofs.Lists.{same_fronts}
 use Rattle.trace_values.proofs.Readings as readings
-use Rattle.trace_values.specs.declared.reading_modes.FramesMode.{FramesMode}
-use Rattle.trace_values.specs.declared.reading_modes.FramesMode.TheVariants.{Hunt, Aligned, Bare}
-use Rattle.frame_grammar.specs.Port.{PortItem, Full, Half, Frame, Spells, why, half_words, start, rule}
-use Rattle.frame_grammar.specs.Reading.{port_progress, port_cells, item_id, halves_in, frames_in}
 use Rattle.frame_grammar.proofs.Deciding.{port_decided}
 use Rattle.frame_grammar.proofs.Items.{unfinished_halves}
 use Rattle.frame_grammar.proofs.Broken.{broken_halves, same_before}

@@ -3,14 +3,9 @@ use Rattle.std.proofs.Common.{◌≡◌, ℕ, ◌+◌, ◌≤◌, List, [], ◌�
 use Rattle.std.specs.List.{sum_by}
 use Rattle.std.proofs.lemmas.List.{map-append}
 use Rattle.std.proofs.lemmas.List.Sums.{sum_by_push, sum_by-append}
-use Rattle.trace_values.specs.declared.fault.Reason.{Reason}
-use Rattle.trace_values.specs.declared.next.Next.{Next}
-use Rattle.trace_values.specs.declared.next.Next.TheVariants.{Go, End, Fail}
-use Rattle.trace_values.specs.Placed.{Place, Placed, byte_at}
-use Rattle.trace_values.specs.Reading.{Progress, with_unit}
-use Rattle.trace_values.specs.Stream.{FaultAt}
-use Rattle.frame_grammar.specs.Port.{PortItem, Full, Half, Frame, State, start}
-use Rattle.frame_grammar.specs.Reading.{item_cells, cells_of_items, id_of_items, fulls_in, halves_in, frames_in}
+use Rattle.deformatter.specs.Names.{Reason, Next, Go, End, Fail, Place, Placed, byte_at, Progress, with_unit, FaultAt}
+use Rattle.deformatter.specs.Names.{PortItem, Full, Half, Frame, State, start, item_cells, cells_of_items, id_of_items}
+use Rattle.deformatter.specs.Names.{fulls_in, halves_in, frames_in}
 use Rattle.frame_grammar.proofs.Items.{id_of_items-push, cells_of_items-push}
 use Rattle.deformatter.specs.Reading.{items_of, read_after, cells_in, id_in}
 use Rattle.deformatter.specs.Growth.{place_at, PortGrows, PortSettled, PortRises}

@@ -3,13 +3,9 @@ use Rattle.std.proofs.Common.{◌≡◌, ◌≢◌, ℕ, zero, suc, ◌+◌, ◌
 use Rattle.std.specs.Prelude.{◌==◌}
 use Rattle.std.proofs.lemmas.Bool.Decides.{nat_tests}
 use Rattle.std.proofs.lemmas.List.{length_push}
-use Rattle.trace_values.specs.declared.fault.Reason.{Reason}
-use Rattle.trace_values.specs.declared.fault.Reason.TheVariants.{BadSync, SyncInFrame}
-use Rattle.trace_values.specs.declared.next.Next.{Next}
-use Rattle.trace_values.specs.declared.next.Next.TheVariants.{Go, End, Fail}
-use Rattle.trace_values.specs.Placed.{Place, Placed}
-use Rattle.trace_values.specs.Reading.{Progress, with_unit, advance, progress_from, unread, progress}
-use Rattle.frame_grammar.specs.Port.{PortItem, Full, Half, Frame, Part, Between, First, One, Two, Three, State, start, word_ended, part_rule, rule}
+use Rattle.deformatter.specs.Names.{Reason, BadSync, SyncInFrame, Next, Go, End, Fail, Place, Placed, Progress}
+use Rattle.deformatter.specs.Names.{with_unit, advance, progress_from, unread, progress, PortItem, Full, Half, Frame}
+use Rattle.deformatter.specs.Names.{Part, Between, First, One, Two, Three, State, start, word_ended, part_rule, rule}
 use Rattle.deformatter.specs.Rule.{part_size, count_of}
 
 abbrev pub Fits : Part → ℕ → Type 0

@@ -2,9 +2,7 @@
 use Rattle.std.proofs.Common.{◌≡◌, ◌≢◌, ℕ, ◌+◌, refl, sym, ap, arith, Bool, true, false, cond}
 use Rattle.std.specs.Prelude.{◌==◌}
 use Rattle.std.proofs.lemmas.Bool.Decides.{nat_tests}
-use Rattle.trace_values.specs.declared.next.Next.TheVariants.{Go}
-use Rattle.frame_grammar.specs.Port.{State}
-use Rattle.port_sync.specs.Aligned.{size_of, placed_part}
+use Rattle.deformatter.specs.Names.{Go, State, size_of, placed_part}
 use Rattle.port_sync.specs.declared.aligner.Part.{Part}
 use Rattle.port_sync.specs.declared.aligner.Part.TheVariants.{Between, First, One, Two, Three}
 use Rattle.deformatter.specs.Rule.{part_size, step_by}

@@ -4,12 +4,9 @@ use Rattle.std.specs.List.{flat_map, sum_by}
 use Rattle.std.proofs.Common.{ap, sym, ◌∙◌, arith, append_assoc, append-nil}
 use Rattle.std.proofs.lemmas.List.{map-append}
 use Rattle.std.proofs.lemmas.List.Concat.{flat_map-append}
-use Rattle.trace_values.specs.declared.cell.Cell.{Cell}
-use Rattle.trace_values.specs.Placed.{Place, Placed, byte_at, placed_from, units_of}
-use Rattle.trace_values.specs.declared.reading_modes.FramesMode.{FramesMode}
-use Rattle.trace_values.specs.declared.reading_modes.FramesMode.TheVariants.{Hunt, Aligned, Bare}
-use Rattle.frame_grammar.specs.Port.{PortItem, Full, Half, Frame}
-use Rattle.frame_grammar.specs.Reading.{offsets_of, cells_of_items, id_of_items, item_cells, item_id, fulls_in}
+use Rattle.deformatter.specs.Names.{Cell, Place, Placed, byte_at, placed_from, units_of, FramesMode, Hunt, Aligned}
+use Rattle.deformatter.specs.Names.{Bare, PortItem, Full, Half, Frame, offsets_of, cells_of_items, id_of_items}
+use Rattle.deformatter.specs.Names.{item_cells, item_id, fulls_in}
 use Rattle.deformatter.specs.Reading.{PortStream, port_stream, items_of, cells_in}
 use Rattle.deformatter.specs.Growth.{PortSettled, PortRises}
 use Rattle.deformatter.proofs.ReadingLaws as port

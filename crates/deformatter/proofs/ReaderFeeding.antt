@@ -2,14 +2,9 @@
 use Rattle.std.proofs.Common.{◌≡◌, ℕ, ◌+◌, ◌<◌, ◌≤◌, refl, arith, take, get_or, List, [], ◌∷◌, ◌++◌, length, sym, ◌∙◌}
 use Rattle.std.proofs.Common.{ap, subst, ◌⊎◌, inl, inr, append_assoc, append-nil, Bool, true, false, cond, Option, None}
 use Rattle.std.proofs.lemmas.List.{map-append, append_cancel_left}
-use Rattle.trace_values.specs.declared.cell.Cell.{Cell}
-use Rattle.trace_values.specs.Placed.{Place, Placed, units_of, byte_at, placed_from}
+use Rattle.deformatter.specs.Names.{Cell, Place, Placed, units_of, byte_at, placed_from, FramesMode, Hunt, Aligned}
+use Rattle.deformatter.specs.Names.{Bare, PortItem, Full, Half, Frame, cells, offsets_of, item_cells, cells_of_items}
 use Rattle.trace_values.proofs.Placing.{placed_from_push}
-use Rattle.trace_values.specs.declared.reading_modes.FramesMode.{FramesMode}
-use Rattle.trace_values.specs.declared.reading_modes.FramesMode.TheVariants.{Hunt, Aligned, Bare}
-use Rattle.frame_grammar.specs.Port.{PortItem, Full, Half, Frame}
-use Rattle.frame_grammar.specs.Frame.{cells}
-use Rattle.frame_grammar.specs.Reading.{offsets_of, item_cells, cells_of_items}
 use Rattle.frame_grammar.proofs.Items.{cells_of_items-push}
 use Rattle.deformatter.specs.Reading.{PortStream, port_stream, items_of, cells_in, id_in}
 use Rattle.deformatter.specs.Growth as port

@@ -1,13 +1,9 @@
 -- Laws of the reading of a port's bytes.
 use Rattle.std.proofs.Common.{◌≡◌, ℕ, ◌+◌, List, [], ◌∷◌, ◌++◌, refl, sym, ◌∙◌, ap, inl, inr, arith, subst, append_assoc, append-nil, Bool, true, false, Option, None, Some}
 use Rattle.std.specs.Prelude.{is_none}
-use Rattle.trace_values.specs.declared.fault.Reason.{Reason}
-use Rattle.trace_values.specs.Placed.{Place, Placed, byte_at}
-use Rattle.trace_values.specs.Reading.{with_unit, advance}
-use Rattle.trace_values.specs.Stream.{FaultAt}
+use Rattle.deformatter.specs.Names.{Reason, Place, Placed, byte_at, with_unit, advance, FaultAt, PortItem, Full, start}
+use Rattle.deformatter.specs.Names.{rule, fulls_in, frames_in}
 use Rattle.trace_values.proofs.Standings.{some_of}
-use Rattle.frame_grammar.specs.Port.{PortItem, Full, start, rule}
-use Rattle.frame_grammar.specs.Reading.{fulls_in, frames_in}
 use Rattle.deformatter.specs.Reading.{PortStream, read_after, all_skipped, port_stream, cells_in}
 use Rattle.deformatter.specs.Growth.{place_at, PortSettled, PortRises}
 use Rattle.deformatter.proofs.Lawful.{lawful}

@@ -1,19 +1,15 @@
 -- The reading of a port's bytes, in each mode.
 use Rattle.std.proofs.Common.{◌≡◌, ◌≢◌, ℕ, suc, ◌-◌, List, [], ◌∷◌, ◌++◌, length, refl, sym, ◌∙◌, ap, ◌⊎◌, inl, inr, arith, subst, Bool, true, false, cond, Option, None, Some}
 use Rattle.std.specs.Prelude.{is_none, ◌==◌, ◌&&◌}
-use Rattle.trace_values.specs.declared.fault.Reason.{Reason}
-use Rattle.trace_values.specs.declared.mode.Mode.{Mode}
-use Rattle.trace_values.specs.declared.mode.Mode.TheVariants.{Aligned, Hunting, Locked}
-use Rattle.trace_values.specs.Placed.{Place, Placed, units_of, byte_at}
-use Rattle.trace_values.specs.Reading.{Progress, advance}
-use Rattle.trace_values.specs.Hunted.{pattern_of, Found, Hunt, run_after, begun, hunt_on, hunt_from, no_hunt, hunt}
-use Rattle.trace_values.specs.Moded.{StandsIn, hunts, is_locked, skipped_of}
+use Rattle.deformatter.specs.Names.{Reason, Mode, Hunting, Locked, Place, Placed, units_of, byte_at, Progress, advance}
+use Rattle.deformatter.specs.Names.{pattern_of, Found, run_after, begun, hunt_on, hunt_from, no_hunt, hunt, StandsIn}
+use Rattle.deformatter.specs.Names.{hunts, is_locked, skipped_of, PortItem, Full, State, Spells, why, start, rule}
+use Rattle.deformatter.specs.Names.{port_progress, pattern}
+use Rattle.trace_values.specs.declared.mode.Mode.TheVariants.{Aligned}
+use Rattle.trace_values.specs.Hunted.{Hunt}
 use Rattle.trace_values.proofs.Standings.{progress_push, none_of}
 use Rattle.trace_values.proofs.HuntedLemmas as hunting
-use Rattle.frame_grammar.specs.Port.{PortItem, Full, State, Spells, why, start, rule}
-use Rattle.frame_grammar.specs.Reading.{port_progress}
 use Rattle.frame_grammar.proofs.Deciding.{port_decided}
-use Rattle.port_sync.specs.Hunting.{pattern}
 use Rattle.deformatter.specs.Rule.{count_of}
 use Rattle.deformatter.specs.Reading.{PortStream, read_after, all_skipped, port_hunted, port_stream, IsHunt}
 use Rattle.deformatter.proofs.Lawful.{Sound, sound, counted}

@@ -3,24 +3,16 @@ use Rattle.std.proofs.Common.{◌≡◌, ℕ, ◌+◌, ◌-◌, List, [], ◌∷
 use Rattle.std.proofs.Common.{None, Some, Bool, true, false}
 use Rattle.std.specs.Prelude.{is_none, ◌==◌, ◌&&◌}
 use Rattle.std.proofs.lemmas.List.{length_push}
-use Rattle.trace_values.specs.declared.next.Next.{Next}
-use Rattle.trace_values.specs.declared.next.Next.TheVariants.{Go, End, Fail}
-use Rattle.trace_values.specs.declared.fault.Reason.{Reason}
+use Rattle.deformatter.specs.Names.{Next, Go, End, Fail, Reason, port_progress, Mode, Hunting, Locked, StandsIn, hunts}
+use Rattle.deformatter.specs.Names.{Found, hunt, hunt_on, run_after, Seeks, Place, Placed, Progress, with_unit}
+use Rattle.deformatter.specs.Names.{PortItem, Full, State, start, rule, pattern, run_of, size_of}
 use Rattle.trace_values.proofs.Standings.{progress_push}
-use Rattle.frame_grammar.specs.Reading.{port_progress}
 use Rattle.deformatter.specs.Phase.{mode_in}
 use Rattle.deformatter.specs.declared.deformatter.Phase.{Phase}
 use Rattle.deformatter.specs.declared.deformatter.Phase.TheVariants.{Hunting as PhaseHunting}
 use Rattle.deformatter.proofs.Lawful.{counted}
-use Rattle.trace_values.specs.declared.mode.Mode.{Mode}
-use Rattle.trace_values.specs.declared.mode.Mode.TheVariants.{Aligned, Hunting, Locked}
-use Rattle.trace_values.specs.Moded.{StandsIn, hunts}
-use Rattle.trace_values.specs.Hunted.{Found, Hunt, hunt, hunt_on, run_after, Seeks}
-use Rattle.trace_values.specs.Placed.{Place, Placed}
-use Rattle.trace_values.specs.Reading.{Progress, with_unit}
-use Rattle.frame_grammar.specs.Port.{PortItem, Full, State, start, rule}
-use Rattle.port_sync.specs.Hunting.{pattern, run_of}
-use Rattle.port_sync.specs.Aligned.{size_of}
+use Rattle.trace_values.specs.declared.mode.Mode.TheVariants.{Aligned}
+use Rattle.trace_values.specs.Hunted.{Hunt}
 use Rattle.port_sync.specs.Aligner as aligner
 use Rattle.deformatter.specs.Reading.{port_stream, id_in, port_hunted}
 use Rattle.deformatter.specs.Resume.{state_by, state_found, again, taken_again}

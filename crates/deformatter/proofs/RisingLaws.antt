@@ -3,16 +3,11 @@ use Rattle.std.proofs.Common.{◌≡◌, ℕ, zero, suc, ◌+◌, ◌*◌, ◌<�
 use Rattle.std.proofs.Common.{ap, subst, append_assoc, inl, inr, arith, Bool, true, false, cond, Option, None}
 use Rattle.std.specs.Prelude.{slice_index}
 use Rattle.std.proofs.lemmas.List.{map-append}
-use Rattle.trace_values.specs.declared.cell.Cell.{Cell}
-use Rattle.trace_values.specs.Placed.{Place, Placed, placed_from, placed, units_of}
-use Rattle.trace_values.specs.Reading.{Splits}
+use Rattle.deformatter.specs.Names.{Cell, Place, Placed, placed_from, placed, units_of, Splits, FramesMode, Hunt}
+use Rattle.deformatter.specs.Names.{Aligned, Bare, names, cell, even_data, even_cells, odd_cells, cells_below, cells}
+use Rattle.deformatter.specs.Names.{PortItem, Full, Half, Frame, IsWord, IsWords, IsFrame, Spells, why, rule, start}
+use Rattle.deformatter.specs.Names.{offsets_of, item_cells, item_id, cells_of_items, port_reading as grammar_reading}
 use Rattle.trace_values.proofs.Readings as readings
-use Rattle.trace_values.specs.declared.reading_modes.FramesMode.{FramesMode}
-use Rattle.trace_values.specs.declared.reading_modes.FramesMode.TheVariants.{Hunt, Aligned, Bare}
-use Rattle.frame_grammar.specs.Frame.{names, cell, even_data, even_cells, odd_cells, cells_below, cells}
-use Rattle.frame_grammar.specs.Port.{PortItem, Full, Half, Frame, IsWord, IsWords, IsFrame, Spells, why, rule, start}
-use Rattle.frame_grammar.specs.Reading.{offsets_of, item_cells, item_id, cells_of_items}
-use Rattle.frame_grammar.specs.Reading.{port_reading as grammar_reading}
 use Rattle.frame_grammar.proofs.Deciding.{port_decided}
 use Rattle.frame_grammar.proofs.Items.{frame_bytes}
 use Rattle.deformatter.specs.Reading.{PortStream, port_stream, items_of, cells_in}

@@ -2,8 +2,7 @@
 use Rattle.std.proofs.Common.{◌≡◌, ℕ, suc, ◌+◌, ◌<◌, ◌≤◌, List, [], ◌∷◌, ◌++◌, length, take, refl, ◌∙◌, ap, arith}
 use Rattle.std.proofs.Math.ListN.{set, length-set}
 use Rattle.std.proofs.lemmas.List.{take_more_set, take_all, length-take-le}
-use Rattle.trace_values.specs.Placed.{Placed, byte_at, units_of}
-use Rattle.frame_grammar.specs.Reading.{offsets_of}
+use Rattle.deformatter.specs.Names.{Placed, byte_at, units_of, offsets_of}
 use Rattle.deformatter.specs.Unfinished.{zipped}
 
 pub zipped_two : (a b : List ℕ) (p q c d : ℕ) → length a ≡ length b →

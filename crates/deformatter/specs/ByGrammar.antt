@@ -3,14 +3,9 @@
 -- with no rule, no state and no hunt byte by byte.
 use Rattle.std.specs.Prelude.{◌≡◌, ◌⊎◌, ℕ, ◌+◌, List, [], ◌∷◌, ◌++◌, length, map, true, false, Option, None, Some}
 use Rattle.std.specs.List.{sum_by}
-use Rattle.trace_values.specs.declared.fault.Reason.{Reason}
-use Rattle.trace_values.specs.Placed.{Place, Placed, units_of}
-use Rattle.trace_values.specs.Hunt.{IsNowhere, IsFirst}
-use Rattle.trace_values.specs.Reading.{Reading, IsFirstFault, IsReading}
-use Rattle.trace_values.specs.declared.reading_modes.FramesMode.{FramesMode}
-use Rattle.trace_values.specs.declared.reading_modes.FramesMode.TheVariants.{Hunt, Aligned, Bare}
-use Rattle.frame_grammar.specs.Port.{PortItem, Spells, why, half_words}
-use Rattle.frame_grammar.specs.Reading.{fulls_in, halves_in}
+use Rattle.deformatter.specs.Names.{Reason, Place, Placed, units_of, IsNowhere, IsFirst, Reading, IsFirstFault}
+use Rattle.deformatter.specs.Names.{IsReading, FramesMode, Hunt, Aligned, Bare, PortItem, Spells, why, half_words}
+use Rattle.deformatter.specs.Names.{fulls_in, halves_in}
 use Rattle.deformatter.specs.PortReading.{PortReading, frames_of_items}
 
 -- the bytes of a full synchronisation

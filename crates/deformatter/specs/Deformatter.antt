@@ -1,12 +1,8 @@
 -- What a deformatter stands for, and what it shows.
 use Rattle.std.specs.Prelude.{◌≡◌, ℕ, List, Bool, true, Option}
-use Rattle.trace_values.specs.declared.mode.Mode.{Mode}
-use Rattle.trace_values.specs.Placed.{Placed}
-use Rattle.trace_values.specs.Moded.{StandsIn, hunts, is_locked, skipped_of}
-use Rattle.frame_grammar.specs.Port.{Full, State, start, rule}
-use Rattle.port_sync.specs.Aligned.{state}
+use Rattle.deformatter.specs.Names.{Mode, Placed, StandsIn, hunts, is_locked, skipped_of, Full, State, start, rule}
+use Rattle.deformatter.specs.Names.{state, pattern}
 use Rattle.port_sync.specs.Aligner as aligner
-use Rattle.port_sync.specs.Hunting.{pattern}
 use Rattle.deformatter.specs.Phase.{mode_in}
 use Rattle.deformatter.specs.Reading.{port_stream, id_in}
 use Rattle.deformatter.specs.Rule.{count_of}

@@ -1,9 +1,6 @@
 -- A frame that is taken at once.
 use Rattle.std.specs.Prelude.{◌≡◌, ℕ, ◌+◌, List, [], ◌∷◌, ◌++◌, true, Option, None}
-use Rattle.trace_values.specs.Placed.{Place, Placed, units_of}
-use Rattle.frame_grammar.specs.Frame.{cells}
-use Rattle.frame_grammar.specs.Port.{Frame, start}
-use Rattle.frame_grammar.specs.Reading.{offsets_of}
+use Rattle.deformatter.specs.Names.{Place, Placed, units_of, cells, Frame, start, offsets_of}
 use Rattle.deformatter.specs.Reading.{PortStream, cells_in, fulls_of, frames_of}
 use Rattle.deformatter.specs.Growth.{Reads, hunting}
 use Rattle.deformatter.specs.Deformatter.{has_locked, state_of}

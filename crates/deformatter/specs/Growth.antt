@@ -1,11 +1,7 @@
 -- How the reading of a port's bytes grows with one more byte, and what a step says of it.
 use Rattle.std.specs.Prelude.{◌≡◌, ◌⊎◌, ℕ, ◌+◌, ◌≤◌, List, [], ◌∷◌, ◌++◌, Bool, true, false, if◌then◌else◌, Option}
 use Rattle.std.specs.Prelude.{None, Some}
-use Rattle.trace_values.specs.declared.cell.Cell.{Cell}
-use Rattle.trace_values.specs.declared.fault.Reason.{Reason}
-use Rattle.trace_values.specs.Placed.{Place, Placed}
-use Rattle.trace_values.specs.Stream.{FaultAt}
-use Rattle.frame_grammar.specs.Port.{PortItem, Full, Half, Frame}
+use Rattle.deformatter.specs.Names.{Cell, Reason, Place, Placed, FaultAt, PortItem, Full, Half, Frame}
 use Rattle.deformatter.specs.Reading.{PortStream, cells_in, fulls_of, frames_of}
 use Rattle.deformatter.specs.declared.step.PortStep.{PortStep}
 use Rattle.deformatter.specs.declared.step.PortStep.TheVariants.{Quiet, Half as HalfEnds, Full as FullEnds}

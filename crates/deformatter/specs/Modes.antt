@@ -1,7 +1,6 @@
 -- The modes of a port: which has no formatter, and which hunts.
 use Rattle.std.specs.Prelude.{Bool, true, false}
-use Rattle.trace_values.specs.declared.reading_modes.FramesMode.{FramesMode}
-use Rattle.trace_values.specs.declared.reading_modes.FramesMode.TheVariants.{Hunt, Aligned, Bare}
+use Rattle.deformatter.specs.Names.{FramesMode, Hunt, Aligned, Bare}
 
 -- there is no formatter
 abbrev pub is_bare : FramesMode → Bool

@@ -1,10 +1,7 @@
 -- Where a deformatter is in its hunt.
 use Rattle.std.specs.Prelude.{ℕ}
-use Rattle.trace_values.specs.declared.mode.Mode.{Mode}
-use Rattle.trace_values.specs.declared.mode.Mode.TheVariants.{Aligned as ModeAligned, Hunting as ModeHunting}
-use Rattle.trace_values.specs.declared.mode.Mode.TheVariants.{Locked as ModeLocked}
-use Rattle.port_sync.specs.declared.hunter.Hunter.{Hunter}
-use Rattle.port_sync.specs.Hunting.{run_of}
+use Rattle.deformatter.specs.Names.{Mode, Hunting as ModeHunting, Locked as ModeLocked, Hunter, run_of}
+use Rattle.trace_values.specs.declared.mode.Mode.TheVariants.{Aligned as ModeAligned}
 use Rattle.deformatter.specs.declared.deformatter.Phase.{Phase}
 use Rattle.deformatter.specs.declared.deformatter.Phase.TheVariants.{Aligned, Hunting, Locked}
 

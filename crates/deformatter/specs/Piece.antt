@@ -1,7 +1,6 @@
 -- A piece of the bytes of a port, given to its reader.
 use Rattle.std.specs.Prelude.{◌≡◌, ℕ, ◌+◌, ◌<◌, ◌≤◌, List, [], ◌++◌, length, take}
-use Rattle.trace_values.specs.declared.cell.Cell.{Cell}
-use Rattle.trace_values.specs.Placed.{Placed, placed_from}
+use Rattle.deformatter.specs.Names.{Cell, Placed, placed_from}
 use Rattle.deformatter.specs.Block.{FedAs}
 use Rattle.deformatter.specs.Growth.{goes_on}
 use Rattle.deformatter.specs.Reader.{Stands, mode_of, is_live, tail_of, skipped_by}

@@ -3,13 +3,8 @@
 -- formatter (this project's profile).
 use Rattle.std.specs.Prelude.{ℕ, List, [], ◌∷◌, ◌++◌, map, Bool, true, false, Option, None, Some}
 use Rattle.std.specs.List.{flat_map}
-use Rattle.trace_values.specs.declared.cell.Cell.{Cell}
-use Rattle.trace_values.specs.declared.fault.Reason.{Reason}
-use Rattle.trace_values.specs.Placed.{Place, Placed}
-use Rattle.trace_values.specs.declared.reading_modes.FramesMode.{FramesMode}
-use Rattle.trace_values.specs.declared.reading_modes.FramesMode.TheVariants.{Hunt, Aligned, Bare}
-use Rattle.frame_grammar.specs.Port.{PortItem, Full, Half, Frame}
-use Rattle.frame_grammar.specs.Reading.{item_cells, item_id}
+use Rattle.deformatter.specs.Names.{Cell, Reason, Place, Placed, FramesMode, Hunt, Aligned, Bare, PortItem, Full, Half}
+use Rattle.deformatter.specs.Names.{Frame, item_cells, item_id}
 use Rattle.deformatter.specs.Reading.{PortStream, port_stream, items_of, fulls_of}
 
 -- What a port's bytes read as: the cells of each frame, in order; how many full and half synchronisations, a half one

@@ -1,8 +1,6 @@
 -- What a port reader stands for, and what it shows.
 use Rattle.std.specs.Prelude.{◌≡◌, ℕ, List, Bool, true, false, if◌then◌else◌, Option}
-use Rattle.trace_values.specs.Placed.{Placed}
-use Rattle.trace_values.specs.declared.reading_modes.FramesMode.{FramesMode}
-use Rattle.trace_values.specs.declared.reading_modes.FramesMode.TheVariants.{Hunt, Aligned, Bare}
+use Rattle.deformatter.specs.Names.{Placed, FramesMode, Hunt, Aligned, Bare}
 use Rattle.deformatter.specs.Deformatter as deformatter
 use Rattle.deformatter.specs.Frames as frames
 use Rattle.deformatter.specs.declared.deformatter.Deformatter.{Deformatter}

@@ -2,15 +2,9 @@
 -- Formatter', its section on frames), from the first one on or in a hunt for a full synchronisation.
 use Rattle.std.specs.Prelude.{◌≡◌, ◌⊎◌, ℕ, ◌+◌, List, [], ◌++◌, length, map, Bool, true, false, Option, None, Some}
 use Rattle.std.specs.List.{sum_by}
-use Rattle.trace_values.specs.declared.cell.Cell.{Cell}
-use Rattle.trace_values.specs.declared.fault.Reason.{Reason}
-use Rattle.trace_values.specs.Placed.{Place, Placed, units_of}
-use Rattle.trace_values.specs.Hunt.{IsNowhere, IsFirst}
-use Rattle.trace_values.specs.Hunted.{pattern_of, Found, hunt}
-use Rattle.trace_values.specs.Reading.{Progress}
-use Rattle.frame_grammar.specs.Port.{PortItem, Full, State, start, rule}
-use Rattle.frame_grammar.specs.Reading.{port_progress, cells_of_items, id_of_items, fulls_in, halves_in, frames_in}
-use Rattle.port_sync.specs.Hunting.{pattern}
+use Rattle.deformatter.specs.Names.{Cell, Reason, Place, Placed, units_of, IsNowhere, IsFirst, pattern_of, Found, hunt}
+use Rattle.deformatter.specs.Names.{Progress, PortItem, Full, State, start, rule, port_progress, cells_of_items}
+use Rattle.deformatter.specs.Names.{id_of_items, fulls_in, halves_in, frames_in, pattern}
 
 -- What a port's bytes read as: the items, each with the place of its last byte; how many half synchronisations, those
 -- in an unfinished frame too; the fault; how many bytes are after the last whole item; how many were skipped; and

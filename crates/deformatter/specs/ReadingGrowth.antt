@@ -1,13 +1,10 @@
 -- How the reading of a port's bytes grows with one more byte, and what a step says of it.
 use Rattle.std.specs.Prelude.{◌≡◌, ◌⊎◌, ℕ, ◌+◌, ◌≤◌, List, [], ◌∷◌, ◌++◌, None}
-use Rattle.trace_values.specs.declared.cell.Cell.{Cell}
-use Rattle.trace_values.specs.Stream.{FaultAt}
+use Rattle.deformatter.specs.Names.{Cell, FaultAt, FramesMode, Placed, byte_at}
 use Rattle.deformatter.specs.declared.step.PortStep.{PortStep}
 use Rattle.deformatter.specs.declared.step.PortStep.TheVariants.{Quiet, Half, Frame}
 use Rattle.deformatter.specs.Block.{FedAs}
 use Rattle.deformatter.specs.Growth.{Hunting, Reads, HuntBy, fulls_by, halves_by, fault_by}
-use Rattle.trace_values.specs.declared.reading_modes.FramesMode.{FramesMode}
-use Rattle.trace_values.specs.Placed.{Placed, byte_at}
 use Rattle.deformatter.specs.PortReading.{PortReading, port_reading}
 
 -- the frames that a step ends: one of these cells, or none

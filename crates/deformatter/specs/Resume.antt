@@ -2,11 +2,7 @@
 -- (this project's profile; the halfwords and synchronisations are those of CoreSight Architecture Specification, Arm
 -- IHI 0029E (version 3.0), chapter 'Trace Formatter', its section on frames).
 use Rattle.std.specs.Prelude.{ℕ, ◌+◌, ◌-◌, List, drop, length, Bool, true, false, Option, None, Some}
-use Rattle.trace_values.specs.Placed.{Placed}
-use Rattle.trace_values.specs.Hunted.{Found, hunt}
-use Rattle.frame_grammar.specs.Port.{PortItem, Full, State, start, rule}
-use Rattle.frame_grammar.specs.Reading.{port_progress}
-use Rattle.port_sync.specs.Hunting.{pattern}
+use Rattle.deformatter.specs.Names.{Placed, Found, hunt, PortItem, Full, State, start, rule, port_progress, pattern}
 use Rattle.deformatter.specs.Rule.{part_size}
 
 -- the state of the grammar's rule after these bytes; at a fault, the one before it

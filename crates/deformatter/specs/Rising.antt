@@ -1,8 +1,6 @@
 -- Offsets that rise.
 use Rattle.std.specs.Prelude.{ℕ, ◌+◌, ◌≤◌, List, [], ◌∷◌, map}
-use Rattle.trace_values.specs.declared.cell.Cell.{Cell}
-use Rattle.trace_values.specs.Placed.{Placed}
-use Rattle.frame_grammar.specs.Reading.{offsets_of}
+use Rattle.deformatter.specs.Names.{Cell, Placed, offsets_of}
 
 -- these numbers rise, from lo on and below hi
 abbrev pub Rise : ℕ → ℕ → List ℕ → Type 0

@@ -1,8 +1,6 @@
 -- Worked rows of captures, in text.
 use Rattle.std.specs.Prelude.{ℕ, List, map, Bool, Option, option_map}
-use Rattle.trace_values.specs.declared.fault.Reason.{Reason}
-use Rattle.trace_values.specs.Placed.{placed}
-use Rattle.trace_values.specs.declared.reading_modes.FramesMode.{FramesMode}
+use Rattle.deformatter.specs.Names.{Reason, placed, FramesMode}
 use Rattle.frame_grammar.specs.Rows.{hex}
 use Rattle.deformatter.specs.PortReading.{PortReading, port_reading}
 

@@ -1,10 +1,7 @@
 -- What a deformatter does by what the port's grammar says of a byte.
 use Rattle.std.specs.Prelude.{ℕ, ◌+◌, ◌*◌, List, [], length, ◌==◌, if◌then◌else◌, Option}
-use Rattle.trace_values.specs.declared.cell.Cell.{Cell}
-use Rattle.trace_values.specs.declared.next.Next.{Next}
-use Rattle.trace_values.specs.declared.next.Next.TheVariants.{Go, End, Fail}
-use Rattle.frame_grammar.specs.Port.{PortItem, Full, Half, Frame, Part, Between, First, One, Two, Three, State}
-use Rattle.frame_grammar.specs.Reading.{item_cells, item_id}
+use Rattle.deformatter.specs.Names.{Cell, Next, Go, End, Fail, PortItem, Full, Half, Frame, Part, Between, First, One}
+use Rattle.deformatter.specs.Names.{Two, Three, State, item_cells, item_id}
 use Rattle.deformatter.specs.declared.step.PortStep.{PortStep}
 use Rattle.deformatter.specs.declared.step.PortStep.TheVariants.{Quiet, Half as HalfEnds, Full as FullEnds}
 use Rattle.deformatter.specs.declared.step.PortStep.TheVariants.{Frame as FrameEnds, Fault as Faulty}

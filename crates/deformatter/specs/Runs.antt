@@ -1,6 +1,6 @@
 -- The runs of the cells of each frame.
 use Rattle.std.specs.Prelude.{List, [], ◌∷◌}
-use Rattle.trace_values.specs.declared.cell.Cell.{Cell}
+use Rattle.deformatter.specs.Names.{Cell}
 use Rattle.frame_grammar.specs.Runs.{HasRuns}
 
 -- the cells of each of these frames have runs that never fall, and one ID in a run

@@ -1,6 +1,6 @@
 -- The frame whose halfwords aren't all there yet.
 use Rattle.std.specs.Prelude.{ℕ, List, [], ◌∷◌, take}
-use Rattle.trace_values.specs.Placed.{Placed, byte_at}
+use Rattle.deformatter.specs.Names.{Placed, byte_at}
 use Rattle.deformatter.specs.declared.unfinished.Unfinished.{Unfinished}
 
 -- bytes with their offsets

@@ -3,14 +3,11 @@
 ghost use Rattle.std.specs.Prelude.{◌≡◌, ◌<◌, ◌≤◌, ◌+◌, ◌++◌, [], ℕ, List, length, take, true, IfSome};
 ghost use Rattle.std.specs.Prelude.{slice_index};
 ghost use Rattle.std.specs.List.{range_with_len};
-ghost use Rattle.trace_values.specs.Placed.{Placed, placed_from};
-ghost use Rattle.frame_grammar.specs.Frame.{IsProperFrame};
+ghost use Rattle.deformatter.specs.Names.{Placed, placed_from, IsProperFrame, COUNT_ROOM, PART_ROOM, FRAME_BYTES};
 ghost use Rattle.deformatter.specs.declared.step.PortStep.TheVariants.{Frame};
 ghost use Rattle.deformatter.specs.Block.{TakesBlock, TakesPiece};
 ghost use Rattle.deformatter.specs.Frames.{IsBetween};
 ghost use Rattle.deformatter.specs.Deformatter.{Stands, is_hunter, is_live, tail_of, skipped_by};
-ghost use Rattle.trace_values.specs.declared.limits.TheConstants.{COUNT_ROOM, PART_ROOM};
-ghost use Rattle.frame_grammar.specs.declared.frame.TheConstants.{FRAME_BYTES};
 
 use crate::deformatter::Deformatter;
 use crate::step::PortStep;

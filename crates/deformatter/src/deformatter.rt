@@ -1,12 +1,10 @@
 //! The deformatter.
 
 ghost use Rattle.std.specs.Prelude.{◌≡◌, ◌≤◌, ◌+◌, ◌*◌, true};
-ghost use Rattle.trace_values.specs.Moded.{is_counted};
+ghost use Rattle.deformatter.specs.Names.{is_counted, pattern, COUNT_ROOM};
 ghost use Rattle.port_sync.specs.Aligner.{left_of};
-ghost use Rattle.port_sync.specs.Hunting.{pattern};
 ghost use Rattle.deformatter.specs.Phase.{mode_in};
 ghost use Rattle.deformatter.specs.Unfinished.{len_of, halves_of};
-ghost use Rattle.trace_values.specs.declared.limits.TheConstants.{COUNT_ROOM};
 
 use crate::step::PortStep;
 use crate::unfinished::Unfinished;
@@ -41,15 +39,12 @@ pub struct Deformatter {
 
 impl Deformatter {
     ghost use Rattle.std.specs.Prelude.{◌++◌, [], ◌∷◌, ℕ, List, false, is_none};
-    ghost use Rattle.port_sync.specs.Hunting.{run_of};
+    ghost use Rattle.deformatter.specs.Names.{run_of, Placed, units_of, byte_at, placed_from, id_after, live_after};
+    ghost use Rattle.deformatter.specs.Names.{state_after, Frame, Spells, start, rule};
     ghost use Rattle.std.specs.Prelude.{IsTrue};
-    ghost use Rattle.trace_values.specs.Placed.{Placed, units_of, byte_at, placed_from};
-    ghost use Rattle.frame_grammar.specs.Frame.{id_after};
     ghost use Rattle.deformatter.specs.Block.{FedFrame, TakesByte};
     ghost use Rattle.deformatter.specs.Frames.{IsBetween, GrowsByFrame};
     ghost use Rattle.deformatter.specs.declared.step.PortStep.TheVariants.{Quiet};
-    ghost use Rattle.trace_values.specs.Standing.{live_after, state_after};
-    ghost use Rattle.frame_grammar.specs.Port.{Frame, Spells, start, rule};
     ghost use Rattle.deformatter.specs.Reading.{port_stream, cells_in};
     ghost use Rattle.deformatter.specs.Growth.{PortGrows, goes_on};
     ghost use Rattle.deformatter.specs.Rule.{step_by, cells_by, id_by};

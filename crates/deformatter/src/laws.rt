@@ -1,7 +1,7 @@
 //! Laws of the reading of a port's bytes item by item, over its definitions alone.
 
 ghost use Rattle.std.specs.Prelude.{◌≡◌, ◌++◌, ◌∷◌, [], ℕ, List, Bool, true, false, is_none};
-ghost use Rattle.trace_values.specs.Placed.{Placed, byte_at};
+ghost use Rattle.deformatter.specs.Names.{Placed, byte_at};
 ghost use Rattle.deformatter.specs.Reading.{port_stream, IsHunt};
 ghost use Rattle.deformatter.specs.Growth.{PortSettled, PortRises};
 

@@ -2,10 +2,9 @@
 
 ghost use Rattle.std.specs.Prelude.{◌≡◌, ◌≤◌, ◌+◌};
 ghost use Rattle.deformatter.specs.Deformatter.{is_hunter};
-ghost use Rattle.trace_values.specs.Placed.{byte_at};
+ghost use Rattle.deformatter.specs.Names.{byte_at, COUNT_ROOM, PART_ROOM};
 ghost use Rattle.deformatter.specs.PortReading.{bare_cell};
 ghost use Rattle.deformatter.specs.Modes.{hunts};
-ghost use Rattle.trace_values.specs.declared.limits.TheConstants.{COUNT_ROOM, PART_ROOM};
 
 use crate::{Deformatter, PortStep, Taken};
 use arrayvec::ArrayVec;
@@ -36,10 +35,8 @@ fn bare_cell_of(at: u64, byte: u8) -> Cell
 impl PortReader {
     ghost use Rattle.std.specs.Prelude.{◌++◌, [], ◌∷◌, List, true, is_none};
     ghost use Rattle.std.specs.Prelude.{IsTrue, ℕ, ◌<◌, length, take};
-    ghost use Rattle.trace_values.specs.Placed.{Placed, units_of, placed_from};
-    ghost use Rattle.frame_grammar.specs.Frame.{cells, id_after};
-    ghost use Rattle.frame_grammar.specs.Port.{Frame, Spells};
-    ghost use Rattle.frame_grammar.specs.Reading.{offsets_of};
+    ghost use Rattle.deformatter.specs.Names.{Placed, units_of, placed_from, cells, id_after, Frame, Spells};
+    ghost use Rattle.deformatter.specs.Names.{offsets_of};
     ghost use Rattle.deformatter.specs.Growth.{goes_on};
     ghost use Rattle.deformatter.specs.PortReading.{port_reading};
     ghost use Rattle.deformatter.specs.Piece.{ReadsPiece};

@@ -2,13 +2,9 @@
 
 ghost use Rattle.std.specs.Prelude.{◌≡◌, ◌↔◌, ℕ, List, [], ◌∷◌, ◌++◌, length, map, true, false, is_none, Option};
 ghost use Rattle.std.specs.List.{flat_map};
-ghost use Rattle.trace_values.specs.declared.cell.Cell.{Cell};
-ghost use Rattle.trace_values.specs.Placed.{Placed, byte_at, placed_from, placed};
-ghost use Rattle.trace_values.specs.declared.reading_modes.FramesMode.{FramesMode};
-ghost use Rattle.trace_values.specs.declared.reading_modes.FramesMode.TheVariants.{Hunt, Aligned, Bare};
-ghost use Rattle.frame_grammar.specs.Port.{PortItem};
-ghost use Rattle.frame_grammar.specs.Reading.{cells_of_items, port_cells, full_count, half_count, frame_count};
-ghost use Rattle.frame_grammar.specs.Reading.{port_reading as grammar_reading};
+ghost use Rattle.deformatter.specs.Names.{Cell, Placed, byte_at, placed_from, placed, FramesMode, Hunt, Aligned, Bare};
+ghost use Rattle.deformatter.specs.Names.{PortItem, cells_of_items, port_cells, full_count, half_count, frame_count};
+ghost use Rattle.deformatter.specs.Names.{port_reading as grammar_reading};
 ghost use Rattle.deformatter.specs.Reading.{port_stream, cells_in};
 ghost use Rattle.deformatter.specs.PortReading.{PortReading, frames_of_items, port_reading, cells_of};
 ghost use Rattle.deformatter.specs.ByGrammar.{IsPortReading};

@@ -4,8 +4,7 @@
 //! 3.0), chapter 'Trace Formatter', its section on frames. Where a hunt begins again is this project's profile.
 
 ghost use Rattle.std.specs.Prelude.{◌≡◌, ◌-◌, ◌+◌, ◌≤◌, ◌++◌, ◌∷◌, [], List, None, true, false};
-ghost use Rattle.trace_values.specs.Placed.{Placed};
-ghost use Rattle.trace_values.specs.declared.limits.TheConstants.{COUNT_ROOM};
+ghost use Rattle.deformatter.specs.Names.{Placed, COUNT_ROOM};
 ghost use Rattle.deformatter.specs.Reading.{port_stream};
 ghost use Rattle.deformatter.specs.Deformatter.{Stands, is_hunter, is_live, skipped_by, tail_of};
 ghost use Rattle.deformatter.specs.Resume.{again, taken_again};

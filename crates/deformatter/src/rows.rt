@@ -1,8 +1,7 @@
 //! Worked rows of captures, which the checker computes.
 
 ghost use Rattle.std.specs.Prelude.{◌≡◌, [], ◌∷◌, None, Some, codes, true, false};
-ghost use Rattle.trace_values.specs.declared.fault.Reason.TheVariants.{BadSync};
-ghost use Rattle.trace_values.specs.declared.reading_modes.FramesMode.TheVariants.{Hunt, Aligned, Bare};
+ghost use Rattle.deformatter.specs.Names.{BadSync, Hunt, Aligned, Bare};
 ghost use Rattle.deformatter.specs.Rows.{frame_row, sync_row, end_row};
 
 /// A half synchronisation, a frame whose ID 16 is deferred by one byte, and a full synchronisation, in frames

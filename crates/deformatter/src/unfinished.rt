@@ -1,8 +1,7 @@
 //! The frame whose halfwords are not all there yet.
 
 ghost use Rattle.std.specs.Prelude.{◌≡◌, ◌≢◌, ℕ, ◌+◌, ◌*◌, ◌<◌, ◌≤◌, length, slice_index};
-ghost use Rattle.trace_values.specs.declared.limits.TheConstants.{COUNT_ROOM};
-ghost use Rattle.frame_grammar.specs.declared.frame.TheConstants.{FRAME_BYTES};
+ghost use Rattle.deformatter.specs.Names.{COUNT_ROOM, FRAME_BYTES};
 
 use arrayvec::ArrayVec;
 use frame_grammar::frame::{FRAME_BYTES, cells_of};
@@ -24,9 +23,7 @@ pub struct Unfinished {
 
 impl Unfinished {
     ghost use Rattle.std.specs.Prelude.{[], ◌∷◌, ◌++◌, ◌==◌, ◌%◌};
-    ghost use Rattle.trace_values.specs.Placed.{byte_at, units_of};
-    ghost use Rattle.frame_grammar.specs.Frame.{cells, id_after};
-    ghost use Rattle.frame_grammar.specs.Reading.{offsets_of};
+    ghost use Rattle.deformatter.specs.Names.{byte_at, units_of, cells, id_after, offsets_of};
     ghost use Rattle.deformatter.specs.Unfinished.{placed_of, len_of, halves_of};
 
     /// A frame of no bytes.

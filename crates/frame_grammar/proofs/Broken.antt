@@ -1,13 +1,8 @@
 -- The reading up to a fault: the bytes before the one that breaks the item leave the rule in the kept state.
 use Rattle.std.proofs.Common.{◌≡◌, List, [], ◌∷◌, ◌++◌, refl, sym, ◌∙◌, ap, subst, append_assoc, append-nil, Option, None, Some, inl, inr}
 use Rattle.std.proofs.lemmas.List.{append_cancel_left}
-use Rattle.trace_values.specs.declared.fault.Reason.{Reason}
-use Rattle.trace_values.specs.declared.next.Next.{Next}
-use Rattle.trace_values.specs.declared.next.Next.TheVariants.{Go, End, Fail}
-use Rattle.trace_values.specs.Placed.{Place, Placed}
-use Rattle.trace_values.specs.Grammar.{IsFront}
-use Rattle.trace_values.specs.Walk.{Within, walk}
-use Rattle.trace_values.specs.Reading.{IsFirstFault, Progress, with_unit, advance, progress_from, unread, progress}
+use Rattle.frame_grammar.specs.Names.{Reason, Next, Go, End, Fail, Place, Placed, IsFront, Within, walk, IsFirstFault}
+use Rattle.frame_grammar.specs.Names.{Progress, with_unit, advance, progress_from, unread, progress}
 use Rattle.trace_values.proofs.Lists.{fronts_meet}
 use Rattle.trace_values.proofs.Walks.{walk_push, walked, no_front}
 use Rattle.frame_grammar.specs.Port.{PortItem, Spells, why, half_words, State, start, rule}

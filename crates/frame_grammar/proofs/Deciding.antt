@@ -2,12 +2,8 @@
 use Rattle.std.proofs.Common.{◌≡◌, ◌≢◌, ℕ, zero, suc, ◌+◌, ◌<◌, ◌≤◌, List, [], ◌∷◌, ◌++◌, refl, sym, ◌∙◌, ap, ◌⊎◌, inl, inr, arith, subst, Bool, true, false, cond, append_assoc}
 use Rattle.std.specs.Prelude.{◌==◌}
 use Rattle.std.proofs.lemmas.Bool.Decides.{nat_tests}
-use Rattle.trace_values.specs.declared.fault.Reason.{Reason}
-use Rattle.trace_values.specs.declared.fault.Reason.TheVariants.{BadSync, SyncInFrame}
-use Rattle.trace_values.specs.declared.next.Next.{Next}
-use Rattle.trace_values.specs.declared.next.Next.TheVariants.{Go, End, Fail}
-use Rattle.trace_values.specs.Placed.{Placed, byte_at, units_of}
-use Rattle.trace_values.specs.Walk.{Walked, Within, Whole, after, walk, Decides}
+use Rattle.frame_grammar.specs.Names.{Reason, BadSync, SyncInFrame, Next, Go, End, Fail, Placed, byte_at, units_of}
+use Rattle.frame_grammar.specs.Names.{Walked, Within, Whole, after, walk, Decides}
 use Rattle.trace_values.proofs.Walks as walks
 use Rattle.frame_grammar.specs.Port.{PortItem, Full, Half, Frame, half_spelling, IsWord, IsWords, Spells, last_unit, why, Part, Between, First, One, Two, Three, State, start, word_ended, half_ended, full_begun, rule}
 

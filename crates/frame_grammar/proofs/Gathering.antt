@@ -6,7 +6,7 @@ use Rattle.std.specs.Array.{IsFirstChunk}
 use Rattle.std.proofs.lemmas.List.{map-append, take-append-drop, length-append, length-drop, length-set, length-take-le, take_rest, take_more_set}
 use Rattle.std.proofs.lemmas.Grind.{take-set_at}
 use Rattle.std.proofs.Math.Seq.{take-append_seam, drop-cons}
-use Rattle.trace_values.specs.Placed.{Placed, units_of, byte_at, placed_from}
+use Rattle.frame_grammar.specs.Names.{Placed, units_of, byte_at, placed_from}
 use Rattle.trace_values.proofs.Placing.{placed_from_append, length-placed_from}
 use Rattle.frame_grammar.specs.Port.{half_spelling, IsWord, IsWords, IsFrame}
 use Rattle.frame_grammar.specs.Reading.{offsets_of}

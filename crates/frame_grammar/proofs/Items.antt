@@ -2,13 +2,8 @@
 use Rattle.std.proofs.Common.{◌≡◌, ◌≢◌, ℕ, zero, suc, ◌+◌, ◌*◌, ◌<◌, ◌≤◌, List, [], ◌∷◌, ◌++◌, length, refl, sym, ◌∙◌, ap, arith, Bool, true, false, cond, Option, None, Some, append_assoc, append-nil, ◌⊎◌, inl, inr}
 use Rattle.std.specs.Prelude.{◌==◌, ◌&&◌, slice_index}
 use Rattle.std.proofs.lemmas.List.{length-append}
-use Rattle.trace_values.specs.declared.cell.Cell.{Cell}
-use Rattle.trace_values.specs.declared.fault.Reason.{Reason}
-use Rattle.trace_values.specs.declared.next.Next.{Next}
-use Rattle.trace_values.specs.declared.next.Next.TheVariants.{Go, End, Fail}
-use Rattle.trace_values.specs.Placed.{Place, Placed, units_of}
-use Rattle.trace_values.specs.Walk.{Walked, Within, after, walk}
-use Rattle.trace_values.specs.Reading.{Progress, with_unit, advance, progress_from, unread, progress}
+use Rattle.frame_grammar.specs.Names.{Cell, Reason, Next, Go, End, Fail, Place, Placed, units_of, Walked, Within, after}
+use Rattle.frame_grammar.specs.Names.{walk, Progress, with_unit, advance, progress_from, unread, progress}
 use Rattle.trace_values.proofs.Walks.{walk_push, walked}
 use Rattle.frame_grammar.specs.Frame.{IsProperBelow, IsProperFrame}
 use Rattle.frame_grammar.specs.Port.{PortItem, Full, Half, Frame, half_spelling, IsWord, IsWords, Spells, half_words, Between, First, One, Two, Three, State, start, word_ended, rule}

@@ -2,7 +2,7 @@
 use Rattle.std.proofs.Common.{◌≡◌, ℕ, zero, suc, ◌+◌, ◌<◌, List, [], ◌∷◌, length, sym, ◌∙◌, ap, arith, get_or, Bool, true, false, cond}
 use Rattle.std.specs.Prelude.{◌==◌, ◌&&◌}
 use Rattle.std.proofs.lemmas.List.{length-map, get_or-map}
-use Rattle.trace_values.specs.Placed.{byte_at, placed_from}
+use Rattle.frame_grammar.specs.Names.{byte_at, placed_from}
 use Rattle.frame_grammar.specs.Placing.{places_of}
 use Rattle.frame_grammar.specs.Reading.{offsets_of}
 use Rattle.frame_grammar.specs.Whole.{without_halves}

@@ -4,7 +4,7 @@ use Rattle.std.specs.List.{Contains}
 use Rattle.std.proofs.lemmas.List.{take-append-drop}
 use Rattle.std.proofs.lemmas.List.Elements.{All-nil, All-cons, All-take, Contains-append_left, Contains-push_cases}
 use Rattle.std.proofs.lemmas.List.Sorted.{IsNonDecreasingBy-short, IsNonDecreasingBy-take}
-use Rattle.trace_values.specs.declared.cell.Cell.{Cell}
+use Rattle.frame_grammar.specs.Names.{Cell}
 use Rattle.frame_grammar.specs.Frame.{cells}
 use Rattle.frame_grammar.specs.Runs.{HasRuns}
 use Rattle.frame_grammar.proofs.CellLaws.{rising, one_id, few_runs}

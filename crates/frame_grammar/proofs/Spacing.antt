@@ -3,7 +3,7 @@ use Rattle.std.proofs.Common.{◌≡◌, ◌≢◌, ℕ, zero, suc, ◌+◌, ◌
 use Rattle.std.specs.Option.{option_map}
 use Rattle.std.specs.Array.{IsFirstChunk}
 use Rattle.std.proofs.lemmas.List.{take_rest, get_or-take, get_or-drop}
-use Rattle.trace_values.specs.Placed.{Placed, byte_at, placed_from}
+use Rattle.frame_grammar.specs.Names.{Placed, byte_at, placed_from}
 use Rattle.frame_grammar.specs.Reading.{offsets_of}
 use Rattle.frame_grammar.specs.Whole.{without_halves}
 use Rattle.frame_grammar.specs.Placing.{places_of}

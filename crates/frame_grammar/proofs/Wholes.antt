@@ -2,7 +2,7 @@
 use Rattle.std.proofs.Common.{◌≡◌, ◌≢◌, ℕ, zero, suc, ◌+◌, ◌*◌, List, [], ◌∷◌, length, refl, sym, ◌∙◌, ap, subst, arith, Bool, cond}
 use Rattle.std.specs.Prelude.{◌==◌, ◌&&◌, slice_index}
 use Rattle.std.proofs.lemmas.List.{length-map}
-use Rattle.trace_values.specs.Placed.{Placed, units_of, byte_at, placed_from}
+use Rattle.frame_grammar.specs.Names.{Placed, units_of, byte_at, placed_from}
 use Rattle.frame_grammar.specs.Frame.{IsProperBelow, IsProperFrame}
 use Rattle.frame_grammar.specs.Port.{Frame, IsWord, IsWords, Spells}
 use Rattle.frame_grammar.specs.Whole.{without_halves, IsWhole}

@@ -4,8 +4,7 @@
 use Rattle.std.specs.Prelude.{◌≡◌, ◌≢◌, ℕ, zero, suc, ◌+◌, ◌*◌, ◌/◌, ◌%◌, ◌^◌, ◌<◌, List, [], ◌∷◌, ◌++◌, slice_index}
 use Rattle.std.specs.Prelude.{Bool, nat_lt, ◌==◌, ◌&&◌, ◌||◌, not, if◌then◌else◌, Option}
 use Rattle.std.specs.List.{filter, range_with_len}
-use Rattle.trace_values.specs.declared.cell.Cell.{Cell}
-use Rattle.trace_values.specs.Cells.{source_id}
+use Rattle.frame_grammar.specs.Names.{Cell, source_id}
 
 -- none of the mixed-use bytes below 2n, those at even indexes, is FF: the ID 127 is never used
 abbrev pub IsProperBelow : ℕ → List ℕ → Type 0

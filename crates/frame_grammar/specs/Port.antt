@@ -2,11 +2,7 @@
 -- section on frames): full synchronisations ('frame synchronization packet', FF FF FF 7F), half ones ('halfword
 -- synchronization packet', FF 7F), and frames of eight halfwords.
 use Rattle.std.specs.Prelude.{◌≡◌, ◌≢◌, ℕ, zero, suc, ◌+◌, List, [], ◌∷◌, ◌++◌, ◌==◌, ◌&&◌, if◌then◌else◌}
-use Rattle.trace_values.specs.declared.fault.Reason.{Reason}
-use Rattle.trace_values.specs.declared.fault.Reason.TheVariants.{BadSync, SyncInFrame}
-use Rattle.trace_values.specs.declared.next.Next.{Next}
-use Rattle.trace_values.specs.declared.next.Next.TheVariants.{Go, End, Fail}
-use Rattle.trace_values.specs.Placed.{Placed, units_of}
+use Rattle.frame_grammar.specs.Names.{Reason, BadSync, SyncInFrame, Next, Go, End, Fail, Placed, units_of}
 
 -- a full synchronisation, a half one between frames, or a frame: its 16 bytes, and how many half synchronisations are
 -- between them

@@ -3,9 +3,7 @@
 -- chapter 'Trace Formatter', its section on frames.
 use Rattle.std.specs.Prelude.{ℕ, ◌+◌, List, [], ◌∷◌, ◌++◌, map, Bool, false, ◌==◌, Option, None, Some}
 use Rattle.std.specs.List.{filter, sum_by}
-use Rattle.trace_values.specs.declared.cell.Cell.{Cell}
-use Rattle.trace_values.specs.Placed.{Placed, units_of}
-use Rattle.trace_values.specs.Reading.{Reading, Progress, progress, reading}
+use Rattle.frame_grammar.specs.Names.{Cell, Placed, units_of, Reading, Progress, progress, reading}
 use Rattle.frame_grammar.specs.Frame.{cells, id_after}
 use Rattle.frame_grammar.specs.Port.{PortItem, Full, Half, Frame, State, start, rule}
 

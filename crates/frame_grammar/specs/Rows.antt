@@ -1,8 +1,7 @@
 -- Worked rows of captures, in text.
 use Rattle.std.specs.Prelude.{ℕ, List, length, map, Option, option_map}
 pub use Rattle.trace_values.specs.Hex.{hex}
-use Rattle.trace_values.specs.declared.fault.Reason.{Reason}
-use Rattle.trace_values.specs.Placed.{placed}
+use Rattle.frame_grammar.specs.Names.{Reason, placed}
 use Rattle.frame_grammar.specs.Reading.{port_reading, port_cells, full_count, half_count, frame_count, source_list}
 
 -- the cells of a capture: the offset, the ID, the run and the byte of each

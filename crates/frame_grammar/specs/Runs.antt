@@ -3,7 +3,7 @@
 use Rattle.std.specs.Prelude.{◌≡◌, ◌≤◌, List}
 use Rattle.std.specs.List.{All, Contains}
 use Rattle.std.specs.List.Sorted.{IsNonDecreasingBy}
-use Rattle.trace_values.specs.declared.cell.Cell.{Cell}
+use Rattle.frame_grammar.specs.Names.{Cell}
 
 -- The runs never fall along the list, cells of one run have one ID, and no run is above 8.
 pub record HasRuns (cs : List Cell) : Type 0 where

@@ -1,7 +1,6 @@
 -- The bytes of one source in cells: those of a frame, or of all frames in order.
 use Rattle.std.specs.Prelude.{ℕ, List, map}
-use Rattle.trace_values.specs.declared.cell.Cell.{Cell}
-use Rattle.trace_values.specs.Placed.{Placed, byte_at}
+use Rattle.frame_grammar.specs.Names.{Cell, Placed, byte_at}
 use Rattle.frame_grammar.specs.Reading.{source_list}
 
 -- the bytes of an ID's cells, in order

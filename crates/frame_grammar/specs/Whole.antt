@@ -1,7 +1,7 @@
 -- The bytes of one whole frame, with half synchronisations between its halfwords or without (CoreSight Architecture
 -- Specification, Arm IHI 0029E (version 3.0), chapter 'Trace Formatter', its section on frames).
 use Rattle.std.specs.Prelude.{◌≡◌, ℕ, List, [], ◌∷◌, ◌==◌, ◌&&◌, if◌then◌else◌}
-use Rattle.trace_values.specs.Placed.{Placed, units_of, placed_from}
+use Rattle.frame_grammar.specs.Names.{Placed, units_of, placed_from}
 use Rattle.frame_grammar.specs.Port.{Frame, Spells}
 
 -- the halfwords that are no half synchronisations, from the first byte on

@@ -1,7 +1,7 @@
 //! A frame whose bytes are all in a piece, with half synchronisations between its halfwords, and where its bytes are.
 
 ghost use Rattle.std.specs.Prelude.{◌≡◌, ◌≤◌, ◌<◌, ◌+◌, ◌*◌, ◌^◌, ℕ, List, length, take, IfSome, IsNone, slice_index};
-ghost use Rattle.trace_values.specs.Placed.{placed_from};
+ghost use Rattle.frame_grammar.specs.Names.{placed_from};
 ghost use Rattle.frame_grammar.specs.Placing.{places_of};
 ghost use Rattle.frame_grammar.specs.Reading.{offsets_of};
 ghost use Rattle.frame_grammar.specs.Whole.{IsWhole, without_halves};

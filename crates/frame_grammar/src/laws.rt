@@ -3,13 +3,8 @@
 ghost use Rattle.std.specs.Prelude.{◌≡◌, ◌↔◌, ◌<◌, ◌≤◌, ℕ, ◌+◌, ◌*◌, ◌/◌, true, false, List, ◌++◌, Option, None, Some};
 ghost use Rattle.std.specs.Prelude.{map, length, slice_index};
 ghost use Rattle.std.specs.List.{Contains, count_by, range_with_len};
-ghost use Rattle.trace_values.specs.declared.cell.Cell.{Cell};
-ghost use Rattle.trace_values.specs.Cells.{source_id};
-ghost use Rattle.trace_values.specs.Placed.{Place, Placed, units_of};
-ghost use Rattle.trace_values.specs.Grammar.{PrefixLaw};
-ghost use Rattle.trace_values.specs.Walk.{Decides};
-ghost use Rattle.trace_values.specs.Reading.{Reading, IsReading, IsFirstFault};
-ghost use Rattle.trace_values.specs.declared.fault.Reason.{Reason};
+ghost use Rattle.frame_grammar.specs.Names.{Cell, source_id, Place, Placed, units_of, PrefixLaw, Decides, Reading};
+ghost use Rattle.frame_grammar.specs.Names.{IsReading, IsFirstFault, Reason};
 ghost use Rattle.frame_grammar.specs.Frame.{IsProperFrame, in_effect, id_at, run_at, cell, cells, data_indexes};
 ghost use Rattle.frame_grammar.specs.Frame.{data_at};
 ghost use Rattle.frame_grammar.specs.Runs.{HasRuns};

@@ -1,7 +1,7 @@
 //! Worked rows of the grammar, which the checker computes.
 
 ghost use Rattle.std.specs.Prelude.{◌≡◌, [], ◌∷◌, None, Some, codes};
-ghost use Rattle.trace_values.specs.declared.fault.Reason.TheVariants.{BadSync, SyncInFrame};
+ghost use Rattle.frame_grammar.specs.Names.{BadSync, SyncInFrame};
 ghost use Rattle.frame_grammar.specs.Rows.{cell_row, source_row, count_row, end_row};
 
 /// Captures of one frame, and its cells: the offset, the ID, the run and the byte of each.

@@ -4,7 +4,7 @@
 
 ghost use Rattle.std.specs.Prelude.{◌≡◌, ℕ, ◌≤◌, ◌<◌, ◌+◌, ◌*◌, ◌++◌, ◌∷◌, [], ◌==◌, ◌%◌, ◌/◌, take, List, Option};
 ghost use Rattle.std.specs.Prelude.{if◌then◌else◌};
-ghost use Rattle.trace_values.specs.Cells.{source_id};
+ghost use Rattle.frame_grammar.specs.Names.{source_id};
 ghost use Rattle.frame_grammar.specs.Frame.{cells, id_after};
 ghost use Rattle.frame_grammar.specs.SourceBytes.{bytes_of_source};
 ghost use Rattle.frame_grammar.specs.declared.frame.TheConstants.{FRAME_BYTES};

@@ -2,7 +2,7 @@
 
 ghost use Rattle.std.specs.Prelude.{◌≡◌, ◌≢◌, ◌≤◌, ◌<◌, ◌+◌, ◌*◌, ◌^◌, ℕ, length, take, IfSome};
 ghost use Rattle.std.specs.Prelude.{IsTrue, slice_index};
-ghost use Rattle.trace_values.specs.Placed.{placed_from};
+ghost use Rattle.frame_grammar.specs.Names.{placed_from};
 ghost use Rattle.frame_grammar.specs.Placing.{places_of};
 ghost use Rattle.frame_grammar.specs.Reading.{offsets_of};
 ghost use Rattle.frame_grammar.specs.Whole.{IsWhole, without_halves};

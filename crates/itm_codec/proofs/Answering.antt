@@ -1,27 +1,15 @@
 -- The decoder's answer is the grammar's, and its hunt is one for the pattern.
 use Rattle.std.proofs.Common.{◌≡◌, ◌≢◌, ℕ, List, [], ◌∷◌, ◌++◌, refl, sym, ◌∙◌, ap, subst, inl, inr, arith, Option, None, Some, Bool, true, false}
-use Rattle.trace_values.specs.declared.next.Next.{Next}
-use Rattle.trace_values.specs.declared.next.Next.TheVariants.{Go, End, Fail}
-use Rattle.trace_values.specs.declared.mode.Mode.{Mode}
-use Rattle.trace_values.specs.declared.mode.Mode.TheVariants.{Aligned, Hunting, Locked}
-use Rattle.trace_values.specs.Placed.{Place, Placed, units_of, byte_at}
-use Rattle.trace_values.specs.Grammar.{InUnits}
-use Rattle.trace_values.specs.Walk.{by_unit, Decides}
-use Rattle.trace_values.specs.Reading.{Progress, progress}
-use Rattle.trace_values.specs.Stream.{Notice, shown}
-use Rattle.trace_values.specs.Hunted.{pattern_of, Found, hunt, hunted_by}
-use Rattle.trace_values.specs.Moded.{StandsIn, hunts, is_locked}
+use Rattle.itm_codec.specs.Names.{Next, Go, End, Fail, Mode, Aligned, Hunting, Locked, Place, Placed, units_of, byte_at}
+use Rattle.itm_codec.specs.Names.{InUnits, by_unit, Decides, Progress, progress, Notice, shown, pattern_of, hunt}
+use Rattle.itm_codec.specs.Names.{hunted_by, StandsIn, hunts, is_locked, ItmPacket, Sync, Partial, Header, Spells, why}
+use Rattle.itm_codec.specs.Names.{rule}
+use Rattle.trace_values.specs.Hunted.{Found}
 use Rattle.trace_values.specs.Standing.{Keeps}
 use Rattle.trace_values.proofs.Placing.{on_units}
 use Rattle.trace_values.proofs.OneUnit.{Says, step_on}
 use Rattle.trace_values.proofs.Answering.{says}
 use Rattle.trace_values.proofs.HuntedLemmas as hunting
-use Rattle.itm_grammar.specs.declared.packet.ItmPacket.{ItmPacket}
-use Rattle.itm_grammar.specs.declared.packet.ItmPacket.TheVariants.{Sync}
-use Rattle.itm_grammar.specs.declared.partial.Partial.{Partial}
-use Rattle.itm_grammar.specs.declared.partial.Partial.TheVariants.{Header}
-use Rattle.itm_grammar.specs.Spelling.{Spells, why}
-use Rattle.itm_grammar.specs.Rule.{rule}
 use Rattle.itm_grammar.proofs.Deciding.{decided}
 use Rattle.itm_codec.specs.Reading.{pattern, packets_in, rest_found, rest_in, IsHunt}
 use Rattle.itm_codec.specs.Answers.{AnswersBy}

@@ -1,6 +1,6 @@
 -- Groups one by one.
 use Rattle.std.proofs.Common.{◌≡◌, ℕ, zero, suc, ◌+◌, ◌-◌, ◌/◌, ◌%◌, ◌<◌, List, [], ◌∷◌, ◌++◌, append_assoc, arith}
-use Rattle.itm_grammar.specs.Shortest.{groups_of}
+use Rattle.itm_codec.specs.Names.{groups_of}
 
 -- the lowest group goes before the others, and says that another follows
 pub group_out : (left rest : ℕ) (o : List ℕ) → 1 < left → (o ++ (128 + rest % 128) ∷ []) ++ groups_of (left - 1) (rest / 128) ≡ o ++ groups_of left rest

@@ -3,13 +3,8 @@ use Rattle.std.proofs.Common.{◌≡◌, ℕ, zero, suc, ◌+◌, ◌-◌, ◌*�
 use Rattle.std.specs.Int.{w64, from_le_bytes}
 use Rattle.std.specs.Int.Bits.{and_zero_r}
 use Rattle.std.proofs.lemmas.Nat.{and_block, and_mask}
-use Rattle.trace_values.specs.Walk.{Within, walk}
-use Rattle.itm_grammar.specs.declared.packet.ItmPacket.{ItmPacket}
-use Rattle.itm_grammar.specs.declared.packet.ItmPacket.TheVariants.{GlobalSecond}
-use Rattle.itm_grammar.specs.declared.partial.Partial.{Partial}
-use Rattle.itm_grammar.specs.declared.partial.Partial.TheVariants.{Header}
-use Rattle.itm_grammar.specs.Rule.{rule}
-use Rattle.itm_grammar.specs.Spelling.{Spells, IsContinued, groups, number}
+use Rattle.itm_codec.specs.Names.{Within, walk, ItmPacket, GlobalSecond, Partial, Header, rule, Spells, IsContinued}
+use Rattle.itm_codec.specs.Names.{groups, number}
 use Rattle.itm_grammar.proofs.Deciding.{decided}
 use Rattle.itm_codec.specs.Reached.{reached}
 use Rattle.itm_codec.specs.Windows.{IsFrontOf}

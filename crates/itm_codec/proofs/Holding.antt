@@ -2,19 +2,10 @@
 use Rattle.std.proofs.Common.{◌≡◌, ℕ, ◌≤◌, List, length, take, All, sym, ◌∙◌, ap, subst, arith, ◌⊎◌, inl, inr, Bool}
 use Rattle.std.proofs.Math.Seq.{take-append_seam}
 use Rattle.std.proofs.lemmas.List.{map-append}
-use Rattle.trace_values.specs.declared.mode.Mode.{Mode}
-use Rattle.trace_values.specs.declared.mode.Mode.TheVariants.{Aligned, Hunting, Locked}
-use Rattle.trace_values.specs.Placed.{Placed, units_of}
-use Rattle.trace_values.specs.Walk.{Within, walk, by_unit}
-use Rattle.trace_values.specs.Reading.{Progress, progress}
-use Rattle.trace_values.specs.Moded.{StandsIn, hunts}
+use Rattle.itm_codec.specs.Names.{Mode, Aligned, Hunting, Locked, Placed, units_of, Within, walk, by_unit, Progress}
+use Rattle.itm_codec.specs.Names.{progress, StandsIn, hunts, ItmPacket, Sync, Partial, Header, rule, count_of}
 use Rattle.trace_values.proofs.Placing.{walk_units}
 use Rattle.trace_values.proofs.Fronts.{Leaves, leaves}
-use Rattle.itm_grammar.specs.declared.packet.ItmPacket.{ItmPacket}
-use Rattle.itm_grammar.specs.declared.packet.ItmPacket.TheVariants.{Sync}
-use Rattle.itm_grammar.specs.declared.partial.Partial.{Partial}
-use Rattle.itm_grammar.specs.declared.partial.Partial.TheVariants.{Header}
-use Rattle.itm_grammar.specs.Rule.{rule, count_of}
 use Rattle.itm_grammar.proofs.Deciding.{counted_bytes}
 use Rattle.itm_grammar.proofs.Holding.{holds_few}
 use Rattle.itm_codec.specs.Reading.{pattern, rest_found, rest_in}

@@ -4,14 +4,8 @@ use Rattle.std.specs.Int.{w64, to_le_bytes}
 use Rattle.std.proofs.Math.Nat.{mod-lt}
 use Rattle.std.proofs.Math.Seq.{take-append-add}
 use Rattle.std.proofs.lemmas.List.{length-take-le, take_all}
-use Rattle.trace_values.specs.Walk.{Within, Whole, walk}
+use Rattle.itm_codec.specs.Names.{Within, Whole, walk, ItmPacket, Partial, Header, rule, bytes_of, Spells}
 use Rattle.trace_values.proofs.Walks.{walk_more}
-use Rattle.itm_grammar.specs.declared.packet.ItmPacket.{ItmPacket}
-use Rattle.itm_grammar.specs.declared.partial.Partial.{Partial}
-use Rattle.itm_grammar.specs.declared.partial.Partial.TheVariants.{Header}
-use Rattle.itm_grammar.specs.Rule.{rule}
-use Rattle.itm_grammar.specs.Shortest.{bytes_of}
-use Rattle.itm_grammar.specs.Spelling.{Spells}
 use Rattle.itm_grammar.proofs.Deciding.{decided}
 use Rattle.itm_codec.specs.declared.decoder.ItmDecoder.{ItmDecoder}
 use Rattle.itm_codec.specs.Reached.{reached}

@@ -1,22 +1,12 @@
 -- What a decoder says of a part that it took.
 use Rattle.std.proofs.Common.{◌≡◌, ℕ, ◌+◌, ◌<◌, ◌≤◌, List, [], ◌∷◌, ◌++◌, length, take, IfSome, Option, Some, None, Bool, true, sym, ◌∙◌, ap, subst, arith}
 use Rattle.std.proofs.lemmas.List.{length-take-le}
-use Rattle.trace_values.specs.declared.mode.Mode.{Mode}
-use Rattle.trace_values.specs.Placed.{Placed, units_of}
-use Rattle.trace_values.specs.Walk.{Within, Whole, by_unit, walk}
-use Rattle.trace_values.specs.Moded.{StandsIn, is_locked, skipped_of}
-use Rattle.itm_grammar.specs.declared.packet.ItmPacket.{ItmPacket}
-use Rattle.itm_grammar.specs.declared.packet.ItmPacket.TheVariants.{Sync}
-use Rattle.itm_grammar.specs.declared.partial.Partial.{Partial}
-use Rattle.itm_grammar.specs.declared.partial.Partial.TheVariants.{Header}
-use Rattle.itm_grammar.specs.Rule.{rule, count_of}
+use Rattle.itm_codec.specs.Names.{Mode, Placed, units_of, Within, Whole, by_unit, walk, StandsIn, is_locked, skipped_of}
+use Rattle.itm_codec.specs.Names.{ItmPacket, Sync, Partial, Header, rule, count_of, Found, Ends, Waits, Unknown}
+use Rattle.itm_codec.specs.Names.{TakenAtOnce, Passes, item_at}
 use Rattle.itm_grammar.proofs.Deciding.{counted_bytes}
 use Rattle.itm_codec.specs.declared.decoder.ItmDecoder.{ItmDecoder}
 use Rattle.itm_codec.specs.declared.decoder.ItmEnd.{ItmEnd}
-use Rattle.trace_values.specs.declared.taking.Found.{Found}
-use Rattle.trace_values.specs.declared.taking.Found.TheVariants.{Ends, Waits, Unknown}
-use Rattle.trace_values.specs.declared.taking.TakenAtOnce.{TakenAtOnce}
-use Rattle.trace_values.specs.Taking.{Passes, item_at}
 use Rattle.itm_codec.specs.Reading.{pattern, packets_in}
 use Rattle.itm_codec.specs.Decoder.{Stands, partial_of, is_hunter, is_live, held_of}
 use Rattle.itm_codec.specs.Parts.{EndsPart, Idles, Looked, Reads, Took}

@@ -3,7 +3,7 @@ use Rattle.std.proofs.Common.{◌≡◌, ℕ, ◌+◌, ◌*◌, ◌/◌, ◌%◌
 use Rattle.std.specs.Int.{w64, from_le_bytes}
 use Rattle.std.specs.Int.Bits.{and_zero_r}
 use Rattle.std.proofs.lemmas.Nat.{and_block}
-use Rattle.itm_grammar.specs.Spelling.{IsContinued, groups}
+use Rattle.itm_codec.specs.Names.{IsContinued, groups}
 use Rattle.itm_codec.specs.Windows.{four_bytes}
 use Rattle.itm_codec.proofs.Windows.{sevens_step}
 

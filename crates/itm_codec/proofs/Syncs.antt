@@ -3,13 +3,8 @@ use Rattle.std.proofs.Common.{◌≡◌, ℕ, zero, suc, ◌+◌, ◌<◌, ◌�
 use Rattle.std.specs.Prelude.{nat_lt}
 use Rattle.std.proofs.lemmas.Bool.Decides.{nat_tests}
 use Rattle.std.proofs.lemmas.List.{replicate-append-replicate, take_more}
-use Rattle.trace_values.specs.Walk.{Within, Whole, walk}
+use Rattle.itm_codec.specs.Names.{Within, Whole, walk, Sync, Partial, Header, Zeros, rule, is_sound, bytes_of}
 use Rattle.trace_values.proofs.Walks.{walk_more}
-use Rattle.itm_grammar.specs.declared.packet.ItmPacket.TheVariants.{Sync}
-use Rattle.itm_grammar.specs.declared.partial.Partial.{Partial}
-use Rattle.itm_grammar.specs.declared.partial.Partial.TheVariants.{Header, Zeros}
-use Rattle.itm_grammar.specs.Rule.{rule, is_sound}
-use Rattle.itm_grammar.specs.Shortest.{bytes_of}
 use Rattle.itm_grammar.proofs.Deciding.{decided, walk_zeros}
 use Rattle.itm_codec.specs.declared.decoder.ItmDecoder.{ItmDecoder}
 use Rattle.itm_codec.specs.Decoder.{partial_of}

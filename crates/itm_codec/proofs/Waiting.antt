@@ -3,15 +3,11 @@ use Rattle.std.proofs.Common.{◌≡◌, ℕ, ◌+◌, ◌-◌, ◌<◌, ◌≤�
 use Rattle.std.proofs.Math.Seq.{take-append-add}
 use Rattle.std.proofs.lemmas.List.{take-append-drop, take-append-le, length-take-le}
 use Rattle.trace_values.specs.declared.fault.Reason.{Reason}
-use Rattle.trace_values.specs.declared.next.Next.{Next}
-use Rattle.trace_values.specs.declared.next.Next.TheVariants.{Go, End, Fail}
-use Rattle.trace_values.specs.Walk.{Walked, Within, Whole, Broken, after, walk}
+use Rattle.itm_codec.specs.Names.{Next, Go, End, Fail, Walked, Within, Whole, Broken, after, walk, Partial, rule}
+use Rattle.itm_codec.specs.Names.{count_of, bytes_of}
 use Rattle.trace_values.proofs.Walks.{walk_more, walk_beyond, walk_broken}
-use Rattle.itm_grammar.specs.declared.partial.Partial.{Partial}
-use Rattle.itm_grammar.specs.Rule.{rule, count_of}
 use Rattle.itm_grammar.proofs.Deciding.{counted_bytes}
 use Rattle.itm_codec.specs.declared.decoder.ItmDecoder.{ItmDecoder}
-use Rattle.itm_grammar.specs.Shortest.{bytes_of}
 use Rattle.itm_codec.specs.Decoder.{partial_of, held_of, waiting_in}
 use Rattle.itm_codec.specs.Reached.{reached, left_by}
 use Rattle.itm_codec.proofs.Joining.{count_of_bytes}

@@ -1,15 +1,9 @@
 -- Bytes that spell a whole value give it at the last of them.
 use Rattle.std.proofs.Common.{◌≡◌, ℕ, List, [], ◌∷◌, ◌++◌, refl, sym, ◌∙◌, ap, subst, append_assoc, append-nil, true, Option, None, Some}
-use Rattle.trace_values.specs.declared.next.Next.{Next}
-use Rattle.trace_values.specs.declared.next.Next.TheVariants.{Go, End, Fail}
-use Rattle.trace_values.specs.declared.mode.Mode.{Mode}
-use Rattle.trace_values.specs.Placed.{Placed, units_of}
-use Rattle.trace_values.specs.Walk.{Walked, Whole, Within, after, walk, by_unit}
-use Rattle.trace_values.specs.Stream.{Stream, Kept}
-use Rattle.trace_values.specs.declared.pattern.Pattern.{Pattern}
-use Rattle.trace_values.specs.Moded.{stream_in, hunts, is_locked, StandsIn}
+use Rattle.itm_codec.specs.Names.{Next, Go, End, Fail, Mode, Placed, units_of, Walked, Whole, Within, after, walk}
+use Rattle.itm_codec.specs.Names.{by_unit, Stream, Kept, Pattern, stream_in, hunts, is_locked, StandsIn, Passes}
+use Rattle.itm_codec.specs.Names.{item_at}
 use Rattle.trace_values.proofs.Modes.{reads-list, reads-step}
-use Rattle.trace_values.specs.Taking.{Passes, item_at}
 
 -- a list that ends with a unit is not empty
 not_empty : (front : List Placed) (last : Placed) → units_of (front ++ last ∷ []) ≡ [] → ⊥

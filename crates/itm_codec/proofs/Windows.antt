@@ -6,7 +6,7 @@ use Rattle.std.specs.Int.Bits.{and_zero_r}
 use Rattle.std.proofs.lemmas.Bool.{agree_below_at, eqb-true}
 use Rattle.std.proofs.lemmas.List.{length-take-le}
 use Rattle.std.proofs.lemmas.Nat.{and_block, and_mask}
-use Rattle.itm_grammar.specs.Spelling.{Spells, IsContinued, IsExtended, groups, extended}
+use Rattle.itm_codec.specs.Names.{Spells, IsContinued, IsExtended, groups, extended}
 use Rattle.itm_codec.specs.declared.whole.InWindow.{InWindow}
 use Rattle.itm_codec.specs.declared.whole.InWindow.TheVariants.{Packet, Other}
 use Rattle.itm_codec.specs.Windows.{IsFound, four_bytes}

@@ -2,8 +2,7 @@
 use Rattle.std.proofs.Common.{◌≡◌, ℕ, zero, suc, ◌+◌, ◌*◌, ◌/◌, ◌%◌, ◌^◌, ◌<◌, ◌≤◌, List, [], ◌∷◌, ◌++◌, length, take, replicate, get_or, refl, sym, ◌∙◌, ap, subst, arith}
 use Rattle.std.specs.Int.{w64, from_le_bytes}
 use Rattle.std.proofs.Math.Arith.{mod-mul}
-use Rattle.itm_grammar.specs.declared.packet.ItmPacket.TheVariants.{Sync}
-use Rattle.itm_grammar.specs.Spelling.{Spells, number}
+use Rattle.itm_codec.specs.Names.{Sync, Spells, number}
 use Rattle.itm_codec.specs.declared.whole.InWindow.{InWindow}
 use Rattle.itm_codec.specs.declared.whole.InWindow.TheVariants.{Packet}
 use Rattle.itm_codec.specs.Windows.{IsFound}

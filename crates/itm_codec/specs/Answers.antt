@@ -2,10 +2,7 @@
 use Rattle.std.specs.Prelude.{◌≡◌, ℕ, List}
 use Rattle.trace_values.specs.declared.step.Step.{Step}
 use Rattle.trace_values.specs.declared.step.Step.TheVariants.{Quiet, Skipping, Item, Locked, Fault as Faulty}
-use Rattle.trace_values.specs.Placed.{Placed, units_of}
-use Rattle.trace_values.specs.Grammar.{IsFront, InUnits}
-use Rattle.itm_grammar.specs.declared.packet.ItmPacket.{ItmPacket}
-use Rattle.itm_grammar.specs.Spelling.{Spells, why}
+use Rattle.itm_codec.specs.Names.{Placed, units_of, IsFront, InUnits, ItmPacket, Spells, why}
 
 -- an item exactly where the rest spells a packet, a fault exactly where it is the front of no spelling, and quiet in
 -- every other case

@@ -1,13 +1,7 @@
 -- What a decoder stands for, and what it shows.
 use Rattle.std.specs.Prelude.{ℕ, List, Bool}
-use Rattle.trace_values.specs.Placed.{Placed}
-use Rattle.trace_values.specs.Walk.{by_unit}
-use Rattle.trace_values.specs.Moded.{StandsIn, hunts, is_locked, skipped_of}
-use Rattle.itm_grammar.specs.declared.packet.ItmPacket.TheVariants.{Sync}
-use Rattle.itm_grammar.specs.declared.partial.Partial.{Partial}
-use Rattle.itm_grammar.specs.declared.partial.Partial.TheVariants.{Header}
-use Rattle.itm_grammar.specs.Rule.{rule, count_of}
-use Rattle.itm_grammar.specs.Shortest.{bytes_of}
+use Rattle.itm_codec.specs.Names.{Placed, by_unit, StandsIn, hunts, is_locked, skipped_of, Sync, Partial, Header, rule}
+use Rattle.itm_codec.specs.Names.{count_of, bytes_of}
 use Rattle.itm_codec.specs.Reading.{pattern}
 use Rattle.itm_codec.specs.Reached.{reached}
 use Rattle.itm_codec.specs.declared.decoder.ItmDecoder.{ItmDecoder}

@@ -1,15 +1,7 @@
 -- What a decoder does that takes a part of bytes.
 use Rattle.std.specs.Prelude.{◌≡◌, ◌<◌, ◌≤◌, ℕ, List, take, Option, None, Some, true}
-use Rattle.trace_values.specs.declared.taking.Found.{Found}
-use Rattle.trace_values.specs.declared.taking.Found.TheVariants.{Ends, Waits, Unknown}
-use Rattle.trace_values.specs.declared.taking.TakenAtOnce.{TakenAtOnce}
-use Rattle.trace_values.specs.Placed.{Placed}
-use Rattle.trace_values.specs.Walk.{Within, Whole, walk}
-use Rattle.itm_grammar.specs.declared.packet.ItmPacket.{ItmPacket}
-use Rattle.itm_grammar.specs.declared.partial.Partial.{Partial}
-use Rattle.itm_grammar.specs.declared.partial.Partial.TheVariants.{Header}
-use Rattle.itm_grammar.specs.Rule.{rule}
-use Rattle.itm_grammar.specs.Proper.{IsProper}
+use Rattle.itm_codec.specs.Names.{Found, Ends, Waits, Unknown, TakenAtOnce, Placed, Within, Whole, walk, ItmPacket}
+use Rattle.itm_codec.specs.Names.{Partial, Header, rule, IsProper}
 use Rattle.itm_codec.specs.declared.decoder.ItmDecoder.{ItmDecoder}
 use Rattle.itm_codec.specs.declared.decoder.ItmEnd.{ItmEnd}
 use Rattle.itm_codec.specs.Decoder.{Stands, partial_of, has_locked, held_of, skipped_by}

@@ -1,9 +1,6 @@
 -- The unfinished packet that bytes leave.
 use Rattle.std.specs.Prelude.{ℕ, List}
-use Rattle.trace_values.specs.Walk.{Walked, Within, walk}
-use Rattle.itm_grammar.specs.declared.packet.ItmPacket.{ItmPacket}
-use Rattle.itm_grammar.specs.declared.partial.Partial.{Partial}
-use Rattle.itm_grammar.specs.Rule.{rule}
+use Rattle.itm_codec.specs.Names.{Walked, Within, walk, ItmPacket, Partial, rule}
 
 -- what a walk leaves unfinished; where it leaves nothing, this
 abbrev pub left_by : Partial → Walked Partial ItmPacket → Partial

@@ -2,19 +2,10 @@
 -- Reference Manual, Arm DDI 0403E, appendix D4 'Debug ITM and DWT Packet Protocol', section D4.2 'Packet descriptions',
 -- 'Synchronization packet').
 use Rattle.std.specs.Prelude.{◌≡◌, ◌⊎◌, List, [], ◌∷◌, ◌++◌, length, Bool, true, false, Option, None, Some}
-use Rattle.trace_values.specs.Placed.{Place, Placed, units_of}
-use Rattle.trace_values.specs.Walk.{by_unit}
+use Rattle.itm_codec.specs.Names.{Place, Placed, units_of, by_unit, Pattern, pattern_of, hunt, progress, stream_in}
+use Rattle.itm_codec.specs.Names.{Stream, Notice, shown, ItmPacket, Sync, Partial, Header, rule}
 use Rattle.trace_values.specs.Hunt.{IsNowhere, IsFirst}
-use Rattle.trace_values.specs.declared.pattern.Pattern.{Pattern}
-use Rattle.trace_values.specs.Hunted.{pattern_of, Found, hunt}
-use Rattle.trace_values.specs.Reading.{progress}
-use Rattle.trace_values.specs.Moded.{stream_in}
-use Rattle.trace_values.specs.Stream.{Stream, Notice, shown}
-use Rattle.itm_grammar.specs.declared.packet.ItmPacket.{ItmPacket}
-use Rattle.itm_grammar.specs.declared.packet.ItmPacket.TheVariants.{Sync}
-use Rattle.itm_grammar.specs.declared.partial.Partial.{Partial}
-use Rattle.itm_grammar.specs.declared.partial.Partial.TheVariants.{Header}
-use Rattle.itm_grammar.specs.Rule.{rule}
+use Rattle.trace_values.specs.Hunted.{Found}
 
 -- what a decoder hunts for: 00 00 00 00 00 80, which spells a synchronisation packet
 abbrev pub pattern : Pattern

@@ -1,13 +1,7 @@
 -- What eight bytes begin with.
 use Rattle.std.specs.Prelude.{◌≡◌, ◌<◌, ◌≤◌, ◌/◌, ◌%◌, ℕ, List, [], ◌∷◌, length, take}
-use Rattle.trace_values.specs.Walk.{Within, walk}
-use Rattle.itm_grammar.specs.declared.partial.Partial.TheVariants.{Header}
-use Rattle.itm_grammar.specs.Rule.{rule}
-use Rattle.itm_grammar.specs.Spelling.{Spells}
-use Rattle.itm_grammar.specs.Proper.{IsProper}
+use Rattle.itm_codec.specs.Names.{Within, walk, Header, rule, Spells, IsProper, Found, Ends, Waits, Unknown}
 use Rattle.itm_codec.specs.Reached.{reached}
-use Rattle.trace_values.specs.declared.taking.Found.{Found}
-use Rattle.trace_values.specs.declared.taking.Found.TheVariants.{Ends, Waits, Unknown}
 use Rattle.itm_codec.specs.declared.decoder.ItmEnd.{ItmEnd}
 use Rattle.itm_codec.specs.declared.whole.InWindow.{InWindow}
 use Rattle.itm_codec.specs.declared.whole.InWindow.TheVariants.{Packet, Other}

@@ -1,12 +1,8 @@
 //! What bytes make of an unfinished packet, read one by one.
 
 ghost use Rattle.std.specs.Prelude.{◌≡◌, ◌+◌, ◌<◌, ◌≤◌, length, take, IfSome, None, true};
-ghost use Rattle.trace_values.specs.Walk.{walk, Within, Whole};
-ghost use Rattle.itm_grammar.specs.declared.partial.Partial.{Partial};
-ghost use Rattle.itm_grammar.specs.declared.partial.Partial.TheVariants.{Header};
-ghost use Rattle.itm_grammar.specs.Rule.{rule, is_sound, count_of};
-ghost use Rattle.itm_grammar.specs.Proper.{IsProper};
-ghost use Rattle.trace_values.specs.declared.limits.TheConstants.{COUNT_ROOM};
+ghost use Rattle.itm_codec.specs.Names.{walk, Within, Whole, Partial, Header, rule, is_sound, count_of, IsProper};
+ghost use Rattle.itm_codec.specs.Names.{COUNT_ROOM};
 
 use itm_grammar::packet::ItmPacket;
 use itm_grammar::partial::Partial;

@@ -1,16 +1,11 @@
 //! The decoder of ITM packets.
 
 ghost use Rattle.std.specs.Prelude.{◌≡◌, ◌^◌, ◌<◌, ◌≤◌, length, replicate, take, true, IfSome};
-ghost use Rattle.trace_values.specs.Moded.{is_counted, is_locked};
-ghost use Rattle.trace_values.specs.Walk.{walk, Within};
-ghost use Rattle.itm_grammar.specs.Rule.{rule, is_sound};
-ghost use Rattle.itm_grammar.specs.Shortest.{bytes_of};
-ghost use Rattle.itm_grammar.specs.Proper.{IsProper};
-ghost use Rattle.itm_grammar.specs.declared.partial.Partial.TheVariants.{Header};
+ghost use Rattle.itm_codec.specs.Names.{is_counted, is_locked, walk, Within, rule, is_sound, bytes_of, IsProper};
+ghost use Rattle.itm_codec.specs.Names.{Header, COUNT_ROOM};
 ghost use Rattle.itm_codec.specs.Reading.{pattern};
 ghost use Rattle.itm_codec.specs.Reached.{reached};
 ghost use Rattle.itm_codec.specs.Windows.{IsSeen};
-ghost use Rattle.trace_values.specs.declared.limits.TheConstants.{COUNT_ROOM};
 
 use crate::cut::cut_packet;
 use crate::front::{first_bits, is_front};
@@ -62,15 +57,12 @@ pub struct ItmDecoder {
 impl ItmDecoder {
     ghost use Rattle.std.specs.Prelude.{[], ◌∷◌, ◌++◌, false, ℕ, ◌+◌, ◌*◌, List, IfSome, None, Some};
     ghost use Rattle.std.specs.Int.{w64, to_le_bytes};
-    ghost use Rattle.trace_values.specs.Placed.{Placed, units_of};
-    ghost use Rattle.itm_grammar.specs.declared.partial.Partial.TheVariants.{Header};
+    ghost use Rattle.itm_codec.specs.Names.{Placed, units_of, Header, Passes, item_at, Ends, Waits, Unknown};
     ghost use Rattle.itm_codec.specs.Reading.{packets_in};
     ghost use Rattle.itm_codec.specs.Decoder.{Stands, partial_of, is_hunter, is_live, has_locked, held_of, skipped_by};
     ghost use Rattle.itm_codec.specs.Decoder.{waiting_in};
     ghost use Rattle.itm_codec.specs.Parts.{EndsPart, Idles, Looked, Took};
     ghost use Rattle.itm_codec.specs.Windows.{IsFrontOf};
-    ghost use Rattle.trace_values.specs.Taking.{Passes, item_at};
-    ghost use Rattle.trace_values.specs.declared.taking.Found.TheVariants.{Ends, Waits, Unknown};
 
     /// A decoder of bytes that begin with a packet.
     pub fn aligned() -> ItmDecoder
@@ -399,13 +391,9 @@ fn look_in(window: &[u8; WINDOW], count: usize) -> Found<ItmEnd>
 
 impl Machine for ItmDecoder {
     ghost use Rattle.std.specs.Prelude.{refl, ◌+◌, ◌≤◌, ◌⊎◌, ◌∷◌, ◌++◌, [], List, All, take};
-    ghost use Rattle.trace_values.specs.Placed.{Placed, byte_at, units_of};
-    ghost use Rattle.trace_values.specs.Stream.{Grows, StepFits, LocksAfter, goes_on};
+    ghost use Rattle.itm_codec.specs.Names.{Placed, byte_at, units_of, Grows, StepFits, LocksAfter, goes_on, rule};
+    ghost use Rattle.itm_codec.specs.Names.{count_of, Sync, Header, by_unit};
     ghost use Rattle.itm_codec.specs.Answers.{AnswersBy};
-    ghost use Rattle.itm_grammar.specs.Rule.{rule, count_of};
-    ghost use Rattle.itm_grammar.specs.declared.packet.ItmPacket.TheVariants.{Sync};
-    ghost use Rattle.itm_grammar.specs.declared.partial.Partial.TheVariants.{Header};
-    ghost use Rattle.trace_values.specs.Walk.{by_unit};
     ghost use Rattle.itm_codec.specs.Reading.{pattern, packets_in, rest_in};
     ghost use Rattle.itm_codec.specs.Decoder.{Stands, partial_of, is_hunter, is_live, has_locked, held_of, skipped_by};
     ghost use Rattle.trace_values.proofs.Modes as laws;

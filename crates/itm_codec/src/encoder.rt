@@ -1,12 +1,8 @@
 //! The encoder of ITM packets.
 
 ghost use Rattle.std.specs.Prelude.{◌≡◌, ℕ, ◌+◌, ◌*◌, ◌/◌, ◌%◌, ◌^◌, ◌<◌, ◌≤◌, ◌∷◌, ◌++◌, [], List, length};
-ghost use Rattle.trace_values.specs.Walk.{walk, Whole};
-ghost use Rattle.itm_grammar.specs.declared.partial.Partial.TheVariants.{Header};
-ghost use Rattle.itm_grammar.specs.Proper.{IsProper};
-ghost use Rattle.itm_grammar.specs.Rule.{rule};
-ghost use Rattle.itm_grammar.specs.Shortest.{bytes_of, groups_of, short, shortest_len};
-ghost use Rattle.itm_grammar.specs.Spelling.{Spells, bit_of, late_bits, size_bits, byte_count};
+ghost use Rattle.itm_codec.specs.Names.{walk, Whole, Header, IsProper, rule, bytes_of, groups_of, short, shortest_len};
+ghost use Rattle.itm_codec.specs.Names.{Spells, bit_of, late_bits, size_bits, byte_count};
 
 use arrayvec::ArrayVec;
 use itm_grammar::packet::{ItmPacket, Lateness, Size};

@@ -1,7 +1,7 @@
 //! Laws of the reading of a source's bytes, over its definitions alone.
 
 ghost use Rattle.std.specs.Prelude.{List, true};
-ghost use Rattle.trace_values.specs.Placed.{Placed};
+ghost use Rattle.itm_codec.specs.Names.{Placed};
 ghost use Rattle.itm_codec.specs.Reading.{packets_in, IsHunt};
 
 /// In a hunt the bytes before the least place of `00 00 00 00 00 80` are skipped, and the reading begins

@@ -5,10 +5,8 @@
 
 ghost use Rattle.std.specs.Prelude.{◌≡◌, [], ◌+◌, ◌*◌, ◌/◌, ◌%◌, ◌^◌, ◌<◌, ◌≤◌, ◌∷◌, ℕ, List, length, take, drop};
 ghost use Rattle.std.specs.Prelude.{slice_index, IfSome, All, None};
-ghost use Rattle.itm_grammar.specs.Spelling.{Spells, IsExtended, extended, IsContinued, groups, late_bits};
-ghost use Rattle.itm_grammar.specs.Spelling.{byte_count, size_bits, number};
-ghost use Rattle.itm_grammar.specs.Proper.{IsProper};
-ghost use Rattle.itm_grammar.specs.declared.packet.ItmPacket.TheVariants.{Sync};
+ghost use Rattle.itm_codec.specs.Names.{Spells, IsExtended, extended, IsContinued, groups, late_bits, byte_count};
+ghost use Rattle.itm_codec.specs.Names.{size_bits, number, IsProper, Sync};
 ghost use Rattle.itm_codec.specs.Windows.{IsFound, four_bytes};
 ghost use Rattle.itm_codec.specs.declared.whole.InWindow.TheVariants.{Packet};
 

@@ -1,17 +1,9 @@
 -- What the machine of a source reads its bytes as.
 use Rattle.std.proofs.Common.{◌≡◌, ◌∙◌, List, Bool, ap}
-use Rattle.trace_values.specs.Placed.{Placed}
-use Rattle.trace_values.specs.Stream.{Stream}
-use Rattle.itm_grammar.specs.declared.packet.ItmPacket.{ItmPacket}
-use Rattle.itm_codec.specs.declared.decoder.ItmDecoder.{ItmDecoder}
+use Rattle.source_machine.specs.Names.{Placed, Stream, ItmPacket, ItmDecoder, packets_in, Order, StpDecoder, items_in}
+use Rattle.source_machine.specs.Names.{Itm as ItmKind, Stp as StpKind, stream_as}
 use Rattle.itm_codec.specs.Decoder as itm
-use Rattle.itm_codec.specs.Reading.{packets_in}
-use Rattle.stp_grammar.specs.declared.packet.Order.{Order}
-use Rattle.stp_codec.specs.declared.decoder.StpDecoder.{StpDecoder}
 use Rattle.stp_codec.specs.Decoder as stp
-use Rattle.stp_codec.specs.Reading.{items_in}
-use Rattle.source_events.specs.declared.packet.Packet.TheVariants.{Itm as ItmKind, Stp as StpKind}
-use Rattle.source_events.specs.Packets.{stream_as}
 use Rattle.source_machine.specs.declared.machine.SourceMachine.TheVariants.{Itm, Stp}
 use Rattle.source_machine.specs.Machine.{reading_of}
 

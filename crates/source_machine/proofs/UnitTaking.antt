@@ -1,21 +1,10 @@
 -- What a decoder takes of a byte, as the machine of its source.
 use Rattle.std.proofs.Common.{◌≡◌, ℕ, List, [], ◌∷◌, ◌++◌, refl, sym, ◌∙◌, ap, subst, append-nil, None}
-use Rattle.trace_values.specs.Placed.{Placed, byte_at}
-use Rattle.trace_values.specs.Stream.{Grows}
-use Rattle.trace_values.specs.declared.step.Step.{Step}
-use Rattle.trace_values.specs.declared.step.Step.TheVariants.{Quiet, Skipping, Item, Locked, Fault as Faulty}
-use Rattle.itm_grammar.specs.declared.packet.ItmPacket.{ItmPacket}
-use Rattle.itm_codec.specs.Reading.{packets_in}
+use Rattle.source_machine.specs.Names.{Placed, byte_at, Grows, Step, Quiet, Skipping, Item, Locked, Fault as Faulty}
+use Rattle.source_machine.specs.Names.{ItmPacket, packets_in, ItmDecoder, StpItem, items_at, TakesNibbles, taken_by}
+use Rattle.source_machine.specs.Names.{before_by, StpDecoder, Packet, Itm as ItmOf, Stp as StpOf, stream_as}
 use Rattle.itm_codec.specs.Decoder as itm
-use Rattle.itm_codec.specs.declared.decoder.ItmDecoder.{ItmDecoder}
-use Rattle.stp_grammar.specs.declared.item.StpItem.{StpItem}
-use Rattle.stp_codec.specs.Reading.{items_at}
 use Rattle.stp_codec.specs.Decoder as stp
-use Rattle.stp_codec.specs.Nibbles.{TakesNibbles, taken_by, before_by}
-use Rattle.stp_codec.specs.declared.decoder.StpDecoder.{StpDecoder}
-use Rattle.source_events.specs.declared.packet.Packet.{Packet}
-use Rattle.source_events.specs.declared.packet.Packet.TheVariants.{Itm as ItmOf, Stp as StpOf}
-use Rattle.source_events.specs.Packets.{stream_as}
 use Rattle.source_machine.specs.Seen.{step_as}
 use Rattle.source_machine.specs.SeenLaws.{grows_as}
 use Rattle.source_machine.specs.Units.{TakesUnits}

@@ -1,18 +1,12 @@
 -- What is found and taken of the bytes of a source at once.
 use Rattle.std.specs.Prelude.{◌≡◌, ℕ, ◌+◌, ◌/◌, List, [], ◌∷◌, ◌++◌, Option, None, Some, true}
 use Rattle.std.specs.Option.{is_some}
-use Rattle.trace_values.specs.declared.step.Step.{Step}
-use Rattle.trace_values.specs.declared.step.Step.TheVariants.{Item}
-use Rattle.trace_values.specs.Placed.{Placed, byte_at, units_of}
-use Rattle.trace_values.specs.Stream.{Stream}
-use Rattle.trace_values.specs.Taking.{Passes}
+use Rattle.source_machine.specs.Names.{Step, Item, Placed, byte_at, units_of, Stream, Passes, Packet, Itm as ItmPacket}
+use Rattle.source_machine.specs.Names.{SourceKind}
 use Rattle.itm_grammar.specs.Proper.{IsProper}
 use Rattle.itm_codec.specs.declared.decoder.ItmEnd.{ItmEnd}
 use Rattle.stp_grammar.specs.Said.{said_item, IsProperSaid}
 use Rattle.stp_codec.specs.declared.flat.PacketParts.{PacketParts}
-use Rattle.source_events.specs.declared.packet.Packet.{Packet}
-use Rattle.source_events.specs.declared.packet.Packet.TheVariants.{Itm as ItmPacket}
-use Rattle.source_events.specs.declared.plan.SourceKind.{SourceKind}
 use Rattle.source_events.specs.declared.plan.SourceKind.TheVariants.{Itm as ItmKind, Stp as StpKind}
 use Rattle.source_machine.specs.Seen.{packet_in}
 use Rattle.source_machine.specs.declared.packets.Told.{Told}

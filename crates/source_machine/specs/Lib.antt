@@ -1,3 +1,4 @@
+pub mod Names
 pub mod Machine
 pub mod Seen
 pub mod SeenLaws

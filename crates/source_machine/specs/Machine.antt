@@ -1,19 +1,10 @@
 -- What the machine of a source stands for, and what it shows.
 use Rattle.std.specs.Prelude.{ℕ, List, Bool}
-use Rattle.trace_values.specs.Placed.{Placed}
-use Rattle.trace_values.specs.Stream.{Stream}
-use Rattle.trace_values.specs.declared.reading_modes.PacketsMode.{PacketsMode}
-use Rattle.trace_values.specs.ReadingModes.{packets_hunt}
-use Rattle.itm_codec.specs.Reading.{packets_in}
+use Rattle.source_machine.specs.Names.{Placed, Stream, PacketsMode, packets_hunt, packets_in, Order, items_in, Packet}
+use Rattle.source_machine.specs.Names.{Itm as ItmPacket, Stp as StpPacket, SourceKind, stream_as}
 use Rattle.itm_codec.specs.Decoder as itm
-use Rattle.stp_grammar.specs.declared.packet.Order.{Order}
-use Rattle.stp_codec.specs.Reading.{items_in}
 use Rattle.stp_codec.specs.Decoder as stp
-use Rattle.source_events.specs.declared.packet.Packet.{Packet}
-use Rattle.source_events.specs.declared.packet.Packet.TheVariants.{Itm as ItmPacket, Stp as StpPacket}
-use Rattle.source_events.specs.declared.plan.SourceKind.{SourceKind}
 use Rattle.source_events.specs.declared.plan.SourceKind.TheVariants.{Itm as ItmKind, Stp as StpKind}
-use Rattle.source_events.specs.Packets.{stream_as}
 use Rattle.source_machine.specs.declared.machine.SourceMachine.{SourceMachine}
 use Rattle.source_machine.specs.declared.machine.SourceMachine.TheVariants.{Itm, Stp}
 

@@ -1,28 +1,19 @@
 -- The laws of the machine of a source, by those of its decoder.
 use Rattle.std.specs.Prelude.{◌≡◌, ℕ, ◌+◌, ◌<◌, ◌≤◌, List, [], ◌∷◌, ◌++◌, length, refl, None, is_none, false}
 use Rattle.std.proofs.Common.{ap}
-use Rattle.trace_values.specs.Placed.{Placed, byte_at}
-use Rattle.trace_values.specs.Stream.{Shows, Settled, Rises, Holds}
-use Rattle.trace_values.specs.Walk.{by_unit}
+use Rattle.source_machine.specs.Names.{Placed, byte_at, Shows, Settled, Rises, Holds, by_unit, Sync, Header, rule}
+use Rattle.source_machine.specs.Names.{count_of, pattern, Async, Start, attribute, Itm as ItmPacket, Stp as StpPacket}
+use Rattle.source_machine.specs.Names.{given_as}
 use Rattle.trace_values.proofs.Modes as modes
 use Rattle.trace_values.proofs.Falls as falling
-use Rattle.itm_grammar.specs.declared.packet.ItmPacket.TheVariants.{Sync}
-use Rattle.itm_grammar.specs.declared.partial.Partial.TheVariants.{Header}
-use Rattle.itm_grammar.specs.Rule.{rule, count_of}
 use Rattle.itm_grammar.proofs.Counting as counting
-use Rattle.itm_codec.specs.Reading.{pattern}
 use Rattle.itm_codec.specs.Decoder as itm
 use Rattle.trace_values.proofs.NibbleModes as nibbles
-use Rattle.stp_grammar.specs.declared.packet.StpPacket.TheVariants.{Async}
-use Rattle.stp_grammar.specs.declared.partial.Partial.TheVariants.{Start}
-use Rattle.stp_grammar.specs.Attribution.{attribute}
 use Rattle.stp_grammar.specs.Rule.{rule as stp_rule, count_of as stp_count}
 use Rattle.stp_grammar.proofs.Counting as stp_counting
 use Rattle.stp_codec.specs.Reading.{pattern as stp_pattern}
 use Rattle.stp_codec.specs.Decoder as stp
 use Rattle.stp_codec.specs.FallingLaws as stp_falling
-use Rattle.source_events.specs.declared.packet.Packet.TheVariants.{Itm as ItmPacket, Stp as StpPacket}
-use Rattle.source_events.specs.Packets.{given_as}
 use Rattle.source_machine.specs.SeenLaws.{shows_as, settled_as, rises_as, holds_as}
 use Rattle.source_machine.specs.declared.machine.SourceMachine.{SourceMachine}
 use Rattle.source_machine.specs.declared.machine.SourceMachine.TheVariants.{Itm, Stp}

@@ -1,10 +1,6 @@
 -- The answers of a decoder with its items seen as packets.
 use Rattle.std.specs.Prelude.{ℕ, Option, None, Some}
-use Rattle.trace_values.specs.declared.step.Step.{Step}
-use Rattle.trace_values.specs.declared.step.Step.TheVariants.{Quiet, Skipping, Item, Locked, Fault}
-use Rattle.stp_grammar.specs.declared.item.StpItem.{StpItem}
-use Rattle.source_events.specs.declared.packet.Packet.{Packet}
-use Rattle.source_events.specs.declared.packet.Packet.TheVariants.{Stp}
+use Rattle.source_machine.specs.Names.{Step, Quiet, Skipping, Item, Locked, Fault, StpItem, Packet, Stp}
 
 abbrev pub step_as : {V W : Type 0} → (V → W) → Step V → Step W
 step_as f Quiet = Quiet

@@ -2,11 +2,9 @@
 use Rattle.std.specs.Prelude.{◌≡◌, ℕ, List, [], ◌∷◌, ◌++◌, Bool, refl}
 use Rattle.std.proofs.Common.{ap, ◌∙◌}
 use Rattle.std.proofs.lemmas.List.{map-append}
-use Rattle.trace_values.specs.declared.step.Step.{Step}
-use Rattle.trace_values.specs.declared.step.Step.TheVariants.{Quiet, Skipping, Item, Locked, Fault}
-use Rattle.trace_values.specs.Placed.{Place}
-use Rattle.trace_values.specs.Stream.{Said, Stream, Grows, HuntBy, Shows, Settled, Holds, Rises, AllAt, given_by, fault_by}
-use Rattle.source_events.specs.Packets.{said_as, given_as, stream_as}
+use Rattle.source_machine.specs.Names.{Step, Quiet, Skipping, Item, Locked, Fault, Place, Said, Stream, Grows, HuntBy}
+use Rattle.source_machine.specs.Names.{Shows, Settled, Holds, Rises, AllAt, given_by, fault_by, said_as, given_as}
+use Rattle.source_machine.specs.Names.{stream_as}
 use Rattle.source_machine.specs.Seen.{step_as}
 
 module _ {V W : Type 0} (f : V → W) where

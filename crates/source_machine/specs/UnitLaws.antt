@@ -2,37 +2,22 @@
 use Rattle.std.proofs.Common.{◌≡◌, ℕ, ◌+◌, ◌≤◌, List, [], ◌∷◌, ◌++◌, length, refl, sym, ◌∙◌, ap, subst, arith}
 use Rattle.std.proofs.Common.{append_assoc, append-nil, Bool, true, false, None}
 use Rattle.std.specs.Prelude.{is_none}
-use Rattle.trace_values.specs.Placed.{Placed, byte_at}
-use Rattle.trace_values.specs.Nibbles.{low_of, high_of}
-use Rattle.trace_values.specs.Stream.{Stream, Grows, Settled, Holds}
-use Rattle.trace_values.specs.declared.step.Step.{Step}
-use Rattle.trace_values.specs.declared.step.Step.TheVariants.{Quiet, Skipping, Item, Locked, Fault as Faulty}
-use Rattle.trace_values.specs.Walk.{by_unit}
+use Rattle.source_machine.specs.Names.{Placed, byte_at, low_of, high_of, Stream, Grows, Settled, Holds, Step, Quiet}
+use Rattle.source_machine.specs.Names.{Skipping, Item, Locked, Fault as Faulty, by_unit, ItmPacket, Sync, Header, rule}
+use Rattle.source_machine.specs.Names.{count_of, pattern, packets_in, ItmDecoder, Order, Async, Start, attribute}
+use Rattle.source_machine.specs.Names.{items_at, StpDecoder, Packet, Itm as ItmPacketOf, Stp as StpPacketOf, stream_as}
+use Rattle.source_machine.specs.Names.{given_as}
 use Rattle.trace_values.proofs.Modes as modes
 use Rattle.trace_values.proofs.Falls as falling
 use Rattle.trace_values.proofs.Quiet as quieting
 use Rattle.trace_values.specs.Decorated.{decorate}
 use Rattle.trace_values.proofs.Standings.{none_of}
-use Rattle.itm_grammar.specs.declared.packet.ItmPacket.{ItmPacket}
-use Rattle.itm_grammar.specs.declared.packet.ItmPacket.TheVariants.{Sync}
-use Rattle.itm_grammar.specs.declared.partial.Partial.TheVariants.{Header}
-use Rattle.itm_grammar.specs.Rule.{rule, count_of}
 use Rattle.itm_grammar.proofs.Counting as counting
-use Rattle.itm_codec.specs.Reading.{pattern, packets_in}
 use Rattle.itm_codec.specs.Decoder as itm
-use Rattle.itm_codec.specs.declared.decoder.ItmDecoder.{ItmDecoder}
-use Rattle.stp_grammar.specs.declared.packet.Order.{Order}
-use Rattle.stp_grammar.specs.declared.packet.StpPacket.TheVariants.{Async}
-use Rattle.stp_grammar.specs.declared.partial.Partial.TheVariants.{Start}
-use Rattle.stp_grammar.specs.Attribution.{attribute}
 use Rattle.stp_grammar.specs.Rule.{rule as stp_rule, count_of as stp_count}
 use Rattle.stp_grammar.proofs.Counting as stp_counting
-use Rattle.stp_codec.specs.Reading.{pattern as stp_pattern, packets_in as stp_packets_in, items_at}
+use Rattle.stp_codec.specs.Reading.{pattern as stp_pattern, packets_in as stp_packets_in}
 use Rattle.stp_codec.specs.Decoder as stp
-use Rattle.stp_codec.specs.declared.decoder.StpDecoder.{StpDecoder}
-use Rattle.source_events.specs.declared.packet.Packet.{Packet}
-use Rattle.source_events.specs.declared.packet.Packet.TheVariants.{Itm as ItmPacketOf, Stp as StpPacketOf}
-use Rattle.source_events.specs.Packets.{stream_as, given_as}
 use Rattle.source_machine.specs.Machine.{is_live, has_locked, held_of, skipped_by}
 use Rattle.source_machine.specs.Units.{reads_on, reading_on, StandsOn, Falls}
 use Rattle.source_machine.specs.declared.machine.SourceMachine.{SourceMachine}

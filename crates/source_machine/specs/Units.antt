@@ -1,20 +1,11 @@
 -- The machine of a source over its units, of which the first may be in the middle of a byte.
 use Rattle.std.specs.Prelude.{◌≡◌, ℕ, ◌+◌, List, [], ◌∷◌, ◌++◌, Bool, false, None, is_none}
-use Rattle.trace_values.specs.Placed.{Placed, byte_at}
-use Rattle.trace_values.specs.Nibbles.{low_of, high_of}
-use Rattle.trace_values.specs.Stream.{Stream, Grows}
-use Rattle.trace_values.specs.declared.step.Step.{Step}
-use Rattle.itm_codec.specs.Reading.{packets_in}
+use Rattle.source_machine.specs.Names.{Placed, byte_at, low_of, high_of, Stream, Grows, Step, packets_in, Order}
+use Rattle.source_machine.specs.Names.{items_at, nibbles_from, taken_by, before_by, Packet, Itm as ItmPacket}
+use Rattle.source_machine.specs.Names.{Stp as StpPacket, SourceKind, stream_as}
 use Rattle.itm_codec.specs.Decoder as itm
-use Rattle.stp_grammar.specs.declared.packet.Order.{Order}
-use Rattle.stp_codec.specs.Reading.{items_at}
 use Rattle.stp_codec.specs.Decoder as stp
-use Rattle.stp_codec.specs.Nibbles.{nibbles_from, taken_by, before_by}
-use Rattle.source_events.specs.declared.packet.Packet.{Packet}
-use Rattle.source_events.specs.declared.packet.Packet.TheVariants.{Itm as ItmPacket, Stp as StpPacket}
-use Rattle.source_events.specs.declared.plan.SourceKind.{SourceKind}
 use Rattle.source_events.specs.declared.plan.SourceKind.TheVariants.{Itm as ItmKind, Stp as StpKind}
-use Rattle.source_events.specs.Packets.{stream_as}
 use Rattle.source_machine.specs.Machine.{held_of, skipped_by}
 use Rattle.source_machine.specs.declared.machine.SourceMachine.{SourceMachine}
 use Rattle.source_machine.specs.declared.machine.SourceMachine.TheVariants.{Itm, Stp}

@@ -1,7 +1,7 @@
 //! The machine of a source.
 
 ghost use Rattle.std.specs.Prelude.{◌≡◌};
-ghost use Rattle.source_events.specs.declared.packet.Packet.TheVariants.{Itm, Stp};
+ghost use Rattle.source_machine.specs.Names.{Itm, Stp};
 ghost use Rattle.source_machine.specs.Seen.{step_as};
 
 use itm_codec::ItmDecoder;
@@ -74,7 +74,7 @@ pub(crate) fn stp_step(step: Step<StpItem>) -> Step<Packet>
 
 impl SourceMachine {
     ghost use Rattle.std.specs.Prelude.{[], true};
-    ghost use Rattle.trace_values.specs.ReadingModes.{packets_hunt};
+    ghost use Rattle.source_machine.specs.Names.{packets_hunt};
     ghost use Rattle.source_machine.specs.Machine.{held_of, is_live, reading_by, reading_of, skipped_by, Stands};
     ghost use Rattle.source_machine.specs.Units.{StandsOn, kind_of, reading_on, reads_by, reads_on};
 
@@ -101,7 +101,7 @@ impl SourceMachine {
 }
 
 impl Machine for SourceMachine {
-    ghost use Rattle.source_events.specs.Fitting.{PacketFits};
+    ghost use Rattle.source_machine.specs.Names.{PacketFits};
     ghost use Rattle.source_machine.specs.Machine.{reading_of, Stands, is_live, has_locked, held_of, skipped_by};
     ghost use Rattle.source_machine.specs.Machine.{units_by};
     ghost use Rattle.source_machine.specs.MachineLaws as laws;

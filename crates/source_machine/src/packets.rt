@@ -2,15 +2,10 @@
 
 ghost use Rattle.std.specs.Prelude.{◌≡◌, ◌+◌, ◌*◌, ◌<◌, ◌≤◌, ◌++◌, ◌∷◌, [], ℕ, List, IfSome, length, take, true, false};
 ghost use Rattle.std.specs.Prelude.{None, is_none};
-ghost use Rattle.source_events.specs.Fitting.{PacketFits};
-ghost use Rattle.source_events.specs.declared.packet.Packet.{Packet};
-ghost use Rattle.source_events.specs.declared.plan.SourceKind.{SourceKind};
+ghost use Rattle.source_machine.specs.Names.{PacketFits, Packet, SourceKind, Placed, byte_at, Stream, Grows};
+ghost use Rattle.source_machine.specs.Names.{LocksAfter, Rises, Settled, Shows, StepFits, goes_on, item_at, COUNT_ROOM};
 ghost use Rattle.source_machine.specs.Finding.{PassesOver, ToldFits, told_by, told_in};
 ghost use Rattle.source_machine.specs.declared.machine.TheConstants.{AHEAD};
-ghost use Rattle.trace_values.specs.Placed.{Placed, byte_at};
-ghost use Rattle.trace_values.specs.Stream.{Stream, Grows, LocksAfter, Rises, Settled, Shows, StepFits, goes_on};
-ghost use Rattle.trace_values.specs.Taking.{item_at};
-ghost use Rattle.trace_values.specs.declared.limits.TheConstants.{COUNT_ROOM};
 ghost use Rattle.trace_values.specs.declared.taking.Found.TheVariants.{Ends, Waits, Unknown};
 
 use crate::machine::{AHEAD, itm_step, stp_step};
@@ -204,7 +199,7 @@ impl Finds for StpDecoder {
     ghost use Rattle.source_machine.specs.Machine.{reading_of};
     ghost use Rattle.source_machine.specs.MachineLaws as laws;
     ghost use Rattle.source_machine.specs.declared.machine.SourceMachine.TheVariants.{Stp as StpSource};
-    ghost use Rattle.stp_codec.specs.Decoder.{FinishesParts};
+    ghost use Rattle.source_machine.specs.Names.{FinishesParts};
 
     type Parts = PacketParts;
 

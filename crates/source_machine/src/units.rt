@@ -2,12 +2,9 @@
 //! begin in the middle of a byte.
 
 ghost use Rattle.std.specs.Prelude.{◌≡◌, ◌+◌, ◌≤◌, List, [], true};
-ghost use Rattle.source_events.specs.Fitting.{PacketFits};
+ghost use Rattle.source_machine.specs.Names.{PacketFits, Placed, LocksAfter, StepFits, goes_on, COUNT_ROOM};
 ghost use Rattle.source_machine.specs.Machine.{held_of, is_live, skipped_by};
 ghost use Rattle.source_machine.specs.Units.{StandsOn, TakesUnits, kind_of, reading_on, reads_on, units_from};
-ghost use Rattle.trace_values.specs.Placed.{Placed};
-ghost use Rattle.trace_values.specs.Stream.{LocksAfter, StepFits, goes_on};
-ghost use Rattle.trace_values.specs.declared.limits.TheConstants.{COUNT_ROOM};
 
 use crate::machine::{SourceMachine, itm_step, stp_step};
 use itm_codec::ItmDecoder;

@@ -24,7 +24,7 @@ pub use Rattle.trace_values.specs.Hunt.{IsFirst, IsNowhere}
 pub use Rattle.trace_values.specs.Hunted.{Found, Hunt, hunt, hunt_on, hunted_by, pattern_of, run_after}
 pub use Rattle.trace_values.specs.Moded.{StandsIn, hunts, is_counted, is_locked, skipped_of, stream_in}
 pub use Rattle.trace_values.specs.Nibbles.{high_of, low_of, nibbles_of}
-pub use Rattle.trace_values.specs.Placed.{Place, Placed, byte_at, placed_from, units_of}
+pub use Rattle.trace_values.specs.Placed.{Place, Placed, byte_at, units_of}
 pub use Rattle.trace_values.specs.Reading.{Progress, advance, progress, with_unit}
 pub use Rattle.trace_values.specs.Standing.{Keeps, live_after, state_after}
 pub use Rattle.trace_values.specs.Stream.{Grows, LocksAfter, Notice, StepFits, Stream, fault_by, given_by, goes_on}

@@ -2,10 +2,7 @@
 use Rattle.std.proofs.Common.{◌≡◌, ℕ, zero, suc, ◌+◌, ◌-◌, ◌/◌, ◌%◌, ◌^◌, ◌<◌, List, [], ◌∷◌, ◌++◌, length, get_or, take, sym, ◌∙◌, ap, subst, arith, append_assoc}
 use Rattle.std.proofs.Math.Nat.{pow-succ', div-div-eq-div-mul}
 use Rattle.std.proofs.lemmas.List.{take_more, take_all, get_or-reverse}
-use Rattle.trace_clock.specs.LastWord.{nibble_at}
-use Rattle.stp_grammar.specs.declared.packet.Order.{Order}
-use Rattle.stp_grammar.specs.declared.packet.Order.TheVariants.{Msn, Lsn}
-use Rattle.stp_grammar.specs.Shortest.{digits, nibbles_of_number}
+use Rattle.stp_encoder.specs.Names.{nibble_at, Order, Msn, Lsn, digits, nibbles_of_number}
 use Rattle.stp_grammar.proofs.ShortSpellings.{number_spelled}
 
 digits_at : (count value i : ℕ) → i < count → get_or (digits count value) i 0 ≡ nibble_at value i

@@ -1,7 +1,6 @@
 -- One more item after fitting ones.
 use Rattle.std.proofs.Common.{append_assoc, ◌≡◌, List, [], ◌∷◌, ◌++◌, refl, sym, ◌∙◌, ap, subst, false, ◌⊎◌, inl, inr}
-use Rattle.stp_grammar.specs.declared.item.StpItem.{StpItem}
-use Rattle.stp_grammar.specs.Proper.{IsProperItem}
+use Rattle.stp_encoder.specs.Names.{StpItem, IsProperItem}
 use Rattle.stp_encoder.specs.Fitting.{version_after, is_unfit, AreFitting}
 
 pub none_fit : AreFitting []

@@ -5,8 +5,8 @@ use Rattle.std.proofs.lemmas.Nat.{mod-mul-add, mod_below}
 use Rattle.std.proofs.lemmas.Bool.{cases_lt}
 use Rattle.std.proofs.lemmas.Bool.Decides.{nat_tests}
 use Rattle.std.proofs.Math.Nat.{pow-le-pow_right}
-use Rattle.trace_clock.specs.GrayCode.{natural_of, gray_of}
-use Rattle.trace_clock.specs.LastWord.{SizedWord, sized, nibble_count, WordFits, last_word, next_word, IsLeast}
+use Rattle.stp_encoder.specs.Names.{natural_of, gray_of, SizedWord, sized, nibble_count, WordFits, last_word, next_word}
+use Rattle.stp_encoder.specs.Names.{IsLeast}
 use Rattle.trace_clock.proofs.GrayCodes.{to_and_fro, fro_and_to}
 use Rattle.trace_clock.proofs.LastWords.{word_none, word_more, word_lt}
 use Rattle.stp_encoder.specs.Packets.{low_nibbles, shortest_stamp}

@@ -1,12 +1,9 @@
 -- A packed time is the least timestamp that tells it.
 use Rattle.std.proofs.Common.{◌≡◌, ℕ, ◌<◌, ◌^◌, List, refl, sym, ap, ◌∙◌, subst, true, false, cond, Option, Some}
-use Rattle.trace_clock.specs.GrayCode.{gray_of}
-use Rattle.trace_clock.specs.LastWord.{SizedWord, last_word, IsLeast}
+use Rattle.stp_encoder.specs.Names.{gray_of, SizedWord, last_word, IsLeast, StpPacket, Natural, Gray, version_of}
+use Rattle.stp_encoder.specs.Names.{last_word_of, keeps_word}
 use Rattle.trace_clock.proofs.GrayCodes.{gray_lt}
 use Rattle.trace_clock.proofs.LastWords as words
-use Rattle.stp_grammar.specs.declared.packet.StpPacket.{StpPacket}
-use Rattle.stp_grammar.specs.declared.item.Stamp.TheVariants.{Natural, Gray}
-use Rattle.stp_grammar.specs.Attribution.{version_of, last_word_of, keeps_word}
 use Rattle.stp_encoder.specs.Packets.{stamps_since, shortest_stamp, packed_stamp}
 use Rattle.stp_encoder.proofs.Least.{shortest_least}
 

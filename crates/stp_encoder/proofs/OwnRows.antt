@@ -1,12 +1,8 @@
 -- The rows of items' own packets, and what it says of an item that it fits.
 use Rattle.std.proofs.Common.{◌≡◌, ℕ, ◌^◌, ◌<◌, refl, subst, arith, ◌==◌, Bool, true, false, not, ◌||◌, Option}
-use Rattle.stp_grammar.specs.declared.packet.Width.{Width}
-use Rattle.stp_grammar.specs.declared.packet.Row.{Row}
+use Rattle.stp_encoder.specs.Names.{Width, Row, StpItem, Datum as DatumItem, Flag as FlagItem, Trigger as TriggerItem}
+use Rattle.stp_encoder.specs.Names.{Frequency as FrequencyItem, NullStamp as NullStampItem, line_of, bits_of}
 use Rattle.stp_grammar.specs.declared.packet.Row.TheVariants.{Datum, Flag, NullStamp, Trigger, Frequency}
-use Rattle.stp_grammar.specs.declared.item.StpItem.{StpItem}
-use Rattle.stp_grammar.specs.declared.item.StpItem.TheVariants.{Datum as DatumItem, Flag as FlagItem, Trigger as TriggerItem, Frequency as FrequencyItem, NullStamp as NullStampItem}
-use Rattle.stp_grammar.specs.Opcodes.{line_of}
-use Rattle.stp_grammar.specs.Proper.{bits_of}
 use Rattle.stp_grammar.proofs.EachRow.{each_test}
 use Rattle.stp_encoder.specs.Fitting.{item_place, item_stamp, is_of_version, is_named, has_content, is_unfit}
 use Rattle.stp_encoder.proofs.Places.{are_same}

@@ -2,14 +2,8 @@
 use Rattle.std.proofs.Common.{◌≡◌, ℕ, ◌+◌, ◌*◌, ◌/◌, ◌%◌, ◌^◌, ◌<◌, ◌==◌, List, [], ◌∷◌, ◌++◌, refl, sym, ◌∙◌, ap, subst, append_assoc, append-nil, arith, Bool, true, false, cond, Option, None, Some}
 use Rattle.std.specs.Option.{ForSome}
 use Rattle.std.proofs.lemmas.Bool.Decides.{nat_tests}
-use Rattle.stp_grammar.specs.declared.packet.Row.{Row}
-use Rattle.stp_grammar.specs.declared.packet.Row.TheVariants.{Master8, Channel8, Master16, Channel16}
-use Rattle.stp_grammar.specs.declared.packet.StpPacket.{StpPacket}
-use Rattle.stp_grammar.specs.declared.packet.StpPacket.TheVariants.{Plain}
-use Rattle.stp_grammar.specs.declared.item.Place.{Place}
-use Rattle.stp_grammar.specs.Proper.{IsProper}
-use Rattle.stp_grammar.specs.Attribution.{master_of, channel_of, place_of}
-use Rattle.stp_grammar.specs.NextState.{next_number, next_master, next_channel}
+use Rattle.stp_encoder.specs.Names.{Row, Master8, Channel8, Master16, Channel16, StpPacket, Plain, Place, IsProper}
+use Rattle.stp_encoder.specs.Names.{master_of, channel_of, place_of, next_number, next_master, next_channel}
 use Rattle.stp_grammar.proofs.Attributing.{master_more, channel_more}
 use Rattle.stp_encoder.specs.Packets.{telling, telling_place}
 

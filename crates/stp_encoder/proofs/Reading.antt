@@ -1,16 +1,13 @@
 -- The shortest nibbles of packets, one after the other, read as these packets.
 use Rattle.std.proofs.Common.{◌≡◌, ℕ, List, [], ◌∷◌, ◌++◌, refl, sym, ◌∙◌, ap, None, map, append_assoc, append-nil}
-use Rattle.trace_values.specs.Placed.{Place, Placed, units_of}
+use Rattle.stp_encoder.specs.Names.{Placed, units_of, Progress, progress_from, advance, Order, StpPacket, Partial}
+use Rattle.stp_encoder.specs.Names.{short}
+use Rattle.trace_values.specs.Placed.{Place}
 use Rattle.trace_values.specs.Walk.{Whole, walk, by_unit}
-use Rattle.trace_values.specs.Reading.{Progress, progress_from, advance}
 use Rattle.trace_values.proofs.Placing.{walk_units}
 use Rattle.trace_values.proofs.Wholes.{whole_reads}
-use Rattle.stp_grammar.specs.declared.packet.Order.{Order}
-use Rattle.stp_grammar.specs.declared.packet.StpPacket.{StpPacket}
-use Rattle.stp_grammar.specs.declared.partial.Partial.{Partial}
 use Rattle.stp_grammar.specs.declared.partial.Partial.TheVariants.{Start}
 use Rattle.stp_grammar.specs.Rule.{rule}
-use Rattle.stp_grammar.specs.Shortest.{short}
 use Rattle.stp_grammar.proofs.Deciding.{decided}
 use Rattle.stp_grammar.proofs.ShortSpellings.{shortest}
 use Rattle.stp_encoder.specs.Bytes.{spelled}

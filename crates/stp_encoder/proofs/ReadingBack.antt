@@ -3,19 +3,10 @@ use Rattle.std.proofs.Common.{◌≡◌, ℕ, zero, suc, ◌+◌, ◌*◌, ◌/�
 use Rattle.std.specs.Option.{option_to_list}
 use Rattle.std.specs.List.{All, flat_map}
 use Rattle.std.proofs.lemmas.List.Elements.{All-nil, All-cons, All-append}
-use Rattle.trace_values.specs.Placed.{Place, Placed, units_of}
-use Rattle.trace_values.specs.Nibbles.{nibbles_of}
-use Rattle.trace_values.specs.Reading.{Progress}
-use Rattle.trace_values.specs.Stream.{Said, Kept, kept}
+use Rattle.stp_encoder.specs.Names.{Placed, units_of, nibbles_of, Progress, Said, Kept, kept, Order, Msn, Lsn, Null}
+use Rattle.stp_encoder.specs.Names.{StpPacket, Plain, Partial, StpItem, attribute, item_of}
+use Rattle.trace_values.specs.Placed.{Place}
 use Rattle.trace_values.specs.Decorated.{kept_if, decorate}
-use Rattle.stp_grammar.specs.declared.packet.Order.{Order}
-use Rattle.stp_grammar.specs.declared.packet.Order.TheVariants.{Msn, Lsn}
-use Rattle.stp_grammar.specs.declared.packet.Row.TheVariants.{Null}
-use Rattle.stp_grammar.specs.declared.packet.StpPacket.{StpPacket}
-use Rattle.stp_grammar.specs.declared.packet.StpPacket.TheVariants.{Plain}
-use Rattle.stp_grammar.specs.declared.partial.Partial.{Partial}
-use Rattle.stp_grammar.specs.declared.item.StpItem.{StpItem}
-use Rattle.stp_grammar.specs.Attribution.{attribute, item_of}
 use Rattle.stp_encoder.specs.Fitting.{AreFitting}
 use Rattle.stp_encoder.specs.Puts.{Put, Of, Flush, items_in}
 use Rattle.stp_encoder.specs.Packets.{packets_with, packets_after, packets_for}

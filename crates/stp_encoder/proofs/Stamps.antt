@@ -2,21 +2,13 @@
 use Rattle.std.proofs.Common.{◌≡◌, ℕ, ◌^◌, ◌<◌, ◌==◌, List, [], ◌∷◌, ◌++◌, refl, sym, ◌∙◌, ap, subst, arith, Bool, true, false, cond, not, ◌||◌, Option, None, Some}
 use Rattle.std.specs.List.{filter_map, after_last}
 use Rattle.std.proofs.lemmas.Bool.Decides.{nat_tests}
-use Rattle.trace_clock.specs.GrayCode.{natural_of, gray_of}
-use Rattle.trace_clock.specs.LastWord.{SizedWord, WordFits, sized, last_word, next_word}
+use Rattle.stp_encoder.specs.Names.{natural_of, gray_of, SizedWord, WordFits, sized, last_word, next_word, Row}
+use Rattle.stp_encoder.specs.Names.{StpPacket, Plain, Stamped, Place, Stamp, None as NoStamp, Natural, Gray, Raw}
+use Rattle.stp_encoder.specs.Names.{StpItem, line_of, IsProper, IsProperStamp, next_master, next_channel, version_of}
+use Rattle.stp_encoder.specs.Names.{last_word_of, place_of, stamp_of, stamp_by, keeps_word, item_with, item_of}
+use Rattle.stp_encoder.specs.Names.{stamp_in, begins_master}
 use Rattle.trace_clock.proofs.GrayCodes.{to_and_fro, gray_lt}
 use Rattle.trace_clock.proofs.LastWords.{word_lt}
-use Rattle.stp_grammar.specs.declared.packet.Row.{Row}
-use Rattle.stp_grammar.specs.declared.packet.StpPacket.{StpPacket}
-use Rattle.stp_grammar.specs.declared.packet.StpPacket.TheVariants.{Plain, Stamped}
-use Rattle.stp_grammar.specs.declared.item.Place.{Place}
-use Rattle.stp_grammar.specs.declared.item.Stamp.{Stamp}
-use Rattle.stp_grammar.specs.declared.item.Stamp.TheVariants.{None as NoStamp, Natural, Gray, Raw}
-use Rattle.stp_grammar.specs.declared.item.StpItem.{StpItem}
-use Rattle.stp_grammar.specs.Opcodes.{line_of}
-use Rattle.stp_grammar.specs.Proper.{IsProper, IsProperStamp}
-use Rattle.stp_grammar.specs.NextState.{next_master, next_channel}
-use Rattle.stp_grammar.specs.Attribution.{version_of, last_word_of, place_of, stamp_of, stamp_by, keeps_word, item_with, item_of, stamp_in, begins_master}
 use Rattle.stp_grammar.proofs.Attributing.{version_more, last_more}
 use Rattle.stp_encoder.specs.Fitting.{is_version, is_of_version}
 use Rattle.stp_encoder.specs.Packets.{shortest_stamp, packed_stamp, with_stamp}

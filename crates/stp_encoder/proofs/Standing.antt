@@ -2,10 +2,7 @@
 use Rattle.std.proofs.Common.{◌≡◌, ℕ, List, [], ◌∷◌, ◌++◌, refl, sym, ◌∙◌, ap, subst, append_assoc, append-nil, replicate, Option, None, Some}
 use Rattle.std.specs.Option.{option_to_list}
 use Rattle.std.proofs.lemmas.List.Concat.{flat_map-append}
-use Rattle.stp_grammar.specs.declared.packet.Order.{Order}
-use Rattle.stp_grammar.specs.declared.packet.StpPacket.{StpPacket}
-use Rattle.stp_grammar.specs.declared.item.StpItem.{StpItem}
-use Rattle.stp_grammar.specs.Shortest.{short}
+use Rattle.stp_encoder.specs.Names.{Order, StpPacket, StpItem, short}
 use Rattle.stp_grammar.specs.Attributed as attributed
 use Rattle.stp_encoder.specs.declared.encoder.StpEncoder.{StpEncoder}
 use Rattle.stp_encoder.specs.Puts.{Put, Of, Flush, items_in, unmarked}

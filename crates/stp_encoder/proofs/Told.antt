@@ -1,16 +1,15 @@
 -- The packets for fitting items tell exactly the items, and each has a spelling.
 use Rattle.std.proofs.Common.{◌≡◌, ℕ, List, [], ◌∷◌, ◌++◌, refl, sym, ◌∙◌, ap, append_assoc, append-nil, replicate, zero, suc, subst, arith, true, false, ◌&&◌, Option, None, Some}
 use Rattle.std.specs.Option.{option_to_list, is_some}
-use Rattle.stp_grammar.specs.declared.packet.Row.TheVariants.{Null, MasterError, Datum, Flag, NullStamp, Trigger, Frequency, Master8, Master16, Channel8, Channel16}
-use Rattle.stp_grammar.specs.declared.packet.StpPacket.{StpPacket}
-use Rattle.stp_grammar.specs.declared.packet.StpPacket.TheVariants.{Async, Plain, Stamped}
-use Rattle.stp_grammar.specs.declared.item.Place.{Place}
-use Rattle.stp_grammar.specs.declared.item.Stamp.TheVariants.{None as NoStamp}
-use Rattle.stp_grammar.specs.declared.item.StpItem.{StpItem}
-use Rattle.stp_grammar.specs.declared.item.StpItem.TheVariants.{Async as AsyncItem, Version as VersionItem, MasterError as MasterErrorItem, GlobalError as GlobalErrorItem, Datum as DatumItem, Flag as FlagItem, Trigger as TriggerItem, Frequency as FrequencyItem, NullStamp as NullStampItem}
-use Rattle.stp_grammar.specs.Proper.{IsProper, IsProperPlace, IsProperItem}
-use Rattle.stp_grammar.specs.Attribution.{version_of, master_of, channel_of, last_word_of, stamp_by, place_of, stamp_of, item_with, item_of}
-use Rattle.stp_grammar.specs.NextState.{next_version, next_master, next_channel, next_last}
+use Rattle.stp_encoder.specs.Names.{Null, Master8, Master16, Channel8, Channel16, StpPacket, Plain, Stamped, Place}
+use Rattle.stp_encoder.specs.Names.{None as NoStamp, StpItem, Async as AsyncItem, Version as VersionItem}
+use Rattle.stp_encoder.specs.Names.{MasterError as MasterErrorItem, GlobalError as GlobalErrorItem, Datum as DatumItem}
+use Rattle.stp_encoder.specs.Names.{Flag as FlagItem, Trigger as TriggerItem, Frequency as FrequencyItem}
+use Rattle.stp_encoder.specs.Names.{NullStamp as NullStampItem, IsProper, IsProperPlace, IsProperItem, version_of}
+use Rattle.stp_encoder.specs.Names.{master_of, channel_of, last_word_of, stamp_by, place_of, stamp_of, item_with}
+use Rattle.stp_encoder.specs.Names.{item_of, next_version, next_master, next_channel, next_last}
+use Rattle.stp_grammar.specs.declared.packet.Row.TheVariants.{MasterError, Datum, Flag, NullStamp, Trigger, Frequency}
+use Rattle.stp_grammar.specs.declared.packet.StpPacket.TheVariants.{Async}
 use Rattle.stp_grammar.proofs.Attributing.{version_more, master_more, channel_more, last_more}
 use Rattle.stp_encoder.specs.Fitting.{item_place, item_stamp, is_of_version, is_named, is_unfit, AreFitting}
 use Rattle.stp_encoder.specs.Packets.{telling, telling_place, own_packet, packets_with, packets_after, packets_for}

@@ -2,15 +2,12 @@
 use Rattle.std.proofs.Common.{◌≡◌, ℕ, ◌/◌, ◌%◌, ◌==◌, List, [], ◌∷◌, ◌++◌, refl, sym, ◌∙◌, ap, Bool, true, false, cond, Option, None, Some}
 use Rattle.std.specs.List.{filter_map, last_or}
 use Rattle.std.proofs.lemmas.List.Elements.{filter_map-append}
-use Rattle.trace_clock.specs.LastWord.{SizedWord}
-use Rattle.stp_grammar.specs.declared.packet.Row.{Row}
-use Rattle.stp_grammar.specs.declared.packet.Row.TheVariants.{Master8, Channel8, Master16, Channel16, Datum, Flag, NullStamp, Trigger, Frequency}
-use Rattle.stp_grammar.specs.declared.packet.StpPacket.{StpPacket}
-use Rattle.stp_grammar.specs.declared.packet.StpPacket.TheVariants.{Plain}
-use Rattle.stp_grammar.specs.declared.item.Place.{Place}
-use Rattle.stp_grammar.specs.declared.item.StpItem.{StpItem}
-use Rattle.stp_grammar.specs.declared.item.StpItem.TheVariants.{Async as AsyncItem, Version as VersionItem, MasterError as MasterErrorItem, GlobalError as GlobalErrorItem, Datum as DatumItem, Flag as FlagItem, Trigger as TriggerItem, Frequency as FrequencyItem, NullStamp as NullStampItem}
-use Rattle.stp_grammar.specs.Attribution.{version_in, version_of, master_of, channel_of}
+use Rattle.stp_encoder.specs.Names.{SizedWord, Row, Master8, Channel8, Master16, Channel16, StpPacket, Plain, Place}
+use Rattle.stp_encoder.specs.Names.{StpItem, Async as AsyncItem, Version as VersionItem, MasterError as MasterErrorItem}
+use Rattle.stp_encoder.specs.Names.{GlobalError as GlobalErrorItem, Datum as DatumItem, Flag as FlagItem}
+use Rattle.stp_encoder.specs.Names.{Trigger as TriggerItem, Frequency as FrequencyItem, NullStamp as NullStampItem}
+use Rattle.stp_encoder.specs.Names.{version_in, version_of, master_of, channel_of}
+use Rattle.stp_grammar.specs.declared.packet.Row.TheVariants.{Datum, Flag, NullStamp, Trigger, Frequency}
 use Rattle.stp_grammar.proofs.Attributing.{none_known}
 use Rattle.stp_encoder.specs.Fitting.{version_named, version_after, item_place}
 use Rattle.stp_encoder.specs.Packets.{telling, telling_place, with_stamp, packed_stamp, own_packet, packets_with, packets_after, packets_for}

@@ -3,21 +3,14 @@ use Rattle.std.proofs.Common.{◌≡◌, ℕ, ◌^◌, ◌<◌, List, [], ◌∷
 use Rattle.std.proofs.lemmas.List.Elements.{All-nil, All-append}
 use Rattle.std.specs.Option.{ForSome}
 use Rattle.std.specs.List.{All}
-use Rattle.trace_clock.specs.LastWord.{SizedWord}
-use Rattle.stp_grammar.specs.declared.packet.Order.{Order}
-use Rattle.stp_grammar.specs.declared.packet.Width.{Width}
-use Rattle.stp_grammar.specs.declared.packet.Row.{Row}
-use Rattle.stp_grammar.specs.declared.packet.Row.TheVariants.{Datum, Flag, NullStamp, Trigger, Frequency, Master8, Master16, Channel8, Channel16}
-use Rattle.stp_grammar.specs.declared.packet.StpPacket.{StpPacket}
-use Rattle.stp_grammar.specs.declared.item.Place.{Place}
-use Rattle.stp_grammar.specs.declared.item.Stamp.{Stamp}
-use Rattle.stp_grammar.specs.declared.item.Stamp.TheVariants.{None as NoStamp, Natural, Gray, Raw}
-use Rattle.stp_grammar.specs.declared.item.StpItem.{StpItem}
-use Rattle.stp_grammar.specs.declared.item.StpItem.TheVariants.{Async as AsyncItem, Version as VersionItem, MasterError as MasterErrorItem, GlobalError as GlobalErrorItem, Datum as DatumItem, Flag as FlagItem, Trigger as TriggerItem, Frequency as FrequencyItem, NullStamp as NullStampItem}
-use Rattle.stp_grammar.specs.Opcodes.{line_of}
-use Rattle.stp_grammar.specs.Proper.{IsProper, IsProperItem, IsProperPlace, IsProperStamp}
-use Rattle.stp_grammar.specs.Shortest.{short, IsByRow}
-use Rattle.stp_grammar.specs.Attribution.{master_of, channel_of}
+use Rattle.stp_encoder.specs.Names.{SizedWord, Order, Width, Row, Master8, Master16, Channel8, Channel16, StpPacket}
+use Rattle.stp_encoder.specs.Names.{Place, Stamp, None as NoStamp, Natural, Gray, Raw, StpItem, Async as AsyncItem}
+use Rattle.stp_encoder.specs.Names.{Version as VersionItem, MasterError as MasterErrorItem}
+use Rattle.stp_encoder.specs.Names.{GlobalError as GlobalErrorItem, Datum as DatumItem, Flag as FlagItem}
+use Rattle.stp_encoder.specs.Names.{Trigger as TriggerItem, Frequency as FrequencyItem, NullStamp as NullStampItem}
+use Rattle.stp_encoder.specs.Names.{line_of, IsProper, IsProperItem, IsProperPlace, IsProperStamp, short, IsByRow}
+use Rattle.stp_encoder.specs.Names.{master_of, channel_of}
+use Rattle.stp_grammar.specs.declared.packet.Row.TheVariants.{Datum, Flag, NullStamp, Trigger, Frequency}
 use Rattle.stp_grammar.proofs.EachRow.{each_test}
 use Rattle.stp_grammar.proofs.ShortSpellings.{shortest}
 use Rattle.stp_encoder.specs.Fitting.{item_place, has_content, version_after, AreFitting}

@@ -2,13 +2,8 @@
 -- (MIPI System Trace Protocol, version 2, in this project's profile).
 use Rattle.std.specs.Prelude.{ℕ, ◌+◌, ◌*◌, ◌%◌, List, [], ◌∷◌, ◌++◌, length, flat_map, ◌==◌, if◌then◌else◌, Option}
 use Rattle.std.specs.Prelude.{None, Some, option_to_list}
-use Rattle.trace_clock.specs.LastWord.{nibble_count}
-use Rattle.stp_grammar.specs.declared.packet.Order.{Order}
-use Rattle.stp_grammar.specs.declared.packet.StpPacket.{StpPacket}
-use Rattle.stp_grammar.specs.declared.packet.StpPacket.TheVariants.{Async, Plain, Stamped}
-use Rattle.stp_grammar.specs.declared.item.StpItem.{StpItem}
-use Rattle.stp_grammar.specs.Opcodes.{line_of}
-use Rattle.stp_grammar.specs.Shortest.{short}
+use Rattle.stp_encoder.specs.Names.{nibble_count, Order, StpPacket, Plain, Stamped, StpItem, line_of, short}
+use Rattle.stp_grammar.specs.declared.packet.StpPacket.TheVariants.{Async}
 use Rattle.stp_encoder.specs.Puts.{Put, Of, Flush, items_in}
 use Rattle.stp_encoder.specs.Packets.{packets_with, packets_for}
 

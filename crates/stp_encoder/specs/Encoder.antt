@@ -1,7 +1,6 @@
 -- What an encoder stands for.
 use Rattle.std.specs.Prelude.{◌≡◌, ℕ, List, Option}
-use Rattle.stp_grammar.specs.declared.packet.Order.{Order}
-use Rattle.stp_grammar.specs.declared.packet.StpPacket.{StpPacket}
+use Rattle.stp_encoder.specs.Names.{Order, StpPacket}
 use Rattle.stp_encoder.specs.Puts.{Put, items_in}
 use Rattle.stp_grammar.specs.Attributed as attributed
 use Rattle.stp_encoder.specs.declared.encoder.StpEncoder.{StpEncoder}

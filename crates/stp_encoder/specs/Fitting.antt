@@ -3,14 +3,8 @@
 use Rattle.std.specs.Prelude.{◌≡◌, ℕ, List, ◌∷◌, ◌++◌, Bool, true, false, not, ◌==◌, ◌&&◌, ◌||◌, Option, None, Some}
 use Rattle.std.specs.Option.{is_some}
 use Rattle.std.specs.List.{filter_map, last_or}
-use Rattle.stp_grammar.specs.declared.item.Place.{Place}
-use Rattle.stp_grammar.specs.declared.item.Stamp.{Stamp}
-use Rattle.stp_grammar.specs.declared.item.Stamp.TheVariants.{None as NoStamp, Natural, Gray, Raw}
-use Rattle.stp_grammar.specs.declared.item.StpItem.{StpItem}
-use Rattle.stp_grammar.specs.declared.item.StpItem.TheVariants.{Version, MasterError, Datum, Flag, Trigger, Frequency}
-use Rattle.stp_grammar.specs.declared.item.StpItem.TheVariants.{NullStamp}
-use Rattle.stp_grammar.specs.Attribution.{keeps_word}
-use Rattle.stp_grammar.specs.Proper.{IsProperItem}
+use Rattle.stp_encoder.specs.Names.{Place, Stamp, None as NoStamp, Natural, Gray, Raw, StpItem, Version, MasterError}
+use Rattle.stp_encoder.specs.Names.{Datum, Flag, Trigger, Frequency, NullStamp, keeps_word, IsProperItem}
 
 -- the version that an item names
 abbrev pub version_named : StpItem → Option ℕ

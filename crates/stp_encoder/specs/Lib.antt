@@ -1,3 +1,4 @@
+pub mod Names
 pub mod Fitting
 pub mod Packets
 pub mod Puts

@@ -3,24 +3,17 @@
 use Rattle.std.specs.Prelude.{ℕ, ◌/◌, ◌%◌, ◌^◌, List, [], ◌∷◌, ◌++◌, true, false, ◌==◌, if◌then◌else◌, Option, None}
 use Rattle.std.specs.Prelude.{Some, unwrap_or}
 use Rattle.std.specs.List.{find, filter_map, after_last, range_with_len}
-use Rattle.trace_clock.specs.GrayCode.{gray_of}
-use Rattle.trace_clock.specs.LastWord.{SizedWord, sized, nibble_count, next_word}
-use Rattle.stp_grammar.specs.declared.packet.Row.{Row}
-use Rattle.stp_grammar.specs.declared.packet.Row.TheVariants.{Master8, MasterError, Channel8, Datum, Flag, Master16}
-use Rattle.stp_grammar.specs.declared.packet.Row.TheVariants.{GlobalError, Channel16, Version, NullStamp, Trigger}
+use Rattle.stp_encoder.specs.Names.{gray_of, SizedWord, sized, nibble_count, next_word, Row, Master8, Channel8}
+use Rattle.stp_encoder.specs.Names.{Master16, Channel16, StpPacket, Plain, Stamped, Place, Stamp, None as NoStamp}
+use Rattle.stp_encoder.specs.Names.{Natural, Gray, Raw, StpItem, Async as AsyncItem, Version as VersionItem}
+use Rattle.stp_encoder.specs.Names.{MasterError as MasterErrorItem, GlobalError as GlobalErrorItem, Datum as DatumItem}
+use Rattle.stp_encoder.specs.Names.{Flag as FlagItem, Trigger as TriggerItem, Frequency as FrequencyItem}
+use Rattle.stp_encoder.specs.Names.{NullStamp as NullStampItem, stamp_in, begins_master, master_of, channel_of}
+use Rattle.stp_encoder.specs.Names.{last_word_of}
+use Rattle.stp_grammar.specs.declared.packet.Row.TheVariants.{MasterError, Datum, Flag}
+use Rattle.stp_grammar.specs.declared.packet.Row.TheVariants.{GlobalError, Version, NullStamp, Trigger}
 use Rattle.stp_grammar.specs.declared.packet.Row.TheVariants.{Frequency}
-use Rattle.stp_grammar.specs.declared.packet.StpPacket.{StpPacket}
-use Rattle.stp_grammar.specs.declared.packet.StpPacket.TheVariants.{Async, Plain, Stamped}
-use Rattle.stp_grammar.specs.declared.item.Place.{Place}
-use Rattle.stp_grammar.specs.declared.item.Stamp.{Stamp}
-use Rattle.stp_grammar.specs.declared.item.Stamp.TheVariants.{None as NoStamp, Natural, Gray, Raw}
-use Rattle.stp_grammar.specs.declared.item.StpItem.{StpItem}
-use Rattle.stp_grammar.specs.declared.item.StpItem.TheVariants.{Async as AsyncItem, Version as VersionItem}
-use Rattle.stp_grammar.specs.declared.item.StpItem.TheVariants.{MasterError as MasterErrorItem}
-use Rattle.stp_grammar.specs.declared.item.StpItem.TheVariants.{GlobalError as GlobalErrorItem, Datum as DatumItem}
-use Rattle.stp_grammar.specs.declared.item.StpItem.TheVariants.{Flag as FlagItem, Trigger as TriggerItem}
-use Rattle.stp_grammar.specs.declared.item.StpItem.TheVariants.{Frequency as FrequencyItem, NullStamp as NullStampItem}
-use Rattle.stp_grammar.specs.Attribution.{stamp_in, begins_master, master_of, channel_of, last_word_of}
+use Rattle.stp_grammar.specs.declared.packet.StpPacket.TheVariants.{Async}
 use Rattle.stp_encoder.specs.Fitting.{item_place}
 
 -- The packet that tells a number of 16 bits, where this one is in force: none where it is the same, the low 8 bits

@@ -1,6 +1,6 @@
 -- Items as they are put, with marks where the bytes are flushed.
 use Rattle.std.specs.Prelude.{List, [], ◌∷◌}
-use Rattle.stp_grammar.specs.declared.item.StpItem.{StpItem}
+use Rattle.stp_encoder.specs.Names.{StpItem}
 
 -- an item, or a flush
 pub data Put : Type 0 where

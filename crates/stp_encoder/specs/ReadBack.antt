@@ -1,9 +1,6 @@
 -- What is written, read again.
 use Rattle.std.specs.Prelude.{◌≡◌, List, map, false, None}
-use Rattle.trace_values.specs.Placed.{Placed}
-use Rattle.trace_values.specs.Stream.{Kept}
-use Rattle.stp_grammar.specs.declared.packet.Order.{Order}
-use Rattle.stp_grammar.specs.declared.item.StpItem.{StpItem}
+use Rattle.stp_encoder.specs.Names.{Placed, Kept, Order, StpItem}
 use Rattle.stp_codec.specs.Reading.{items_at}
 
 -- These nibbles, read from the first on, are exactly the items, each with its place and its timestamp: there is no

@@ -1,11 +1,7 @@
 -- Worked rows of what is written, in text.
 use Rattle.std.specs.Prelude.{ℕ, false, Some}
 use Rattle.stp_grammar.specs.declared.packet.Width.TheVariants.{Eight}
-use Rattle.stp_grammar.specs.declared.item.Place.{Place}
-use Rattle.stp_grammar.specs.declared.item.Stamp.{Stamp}
-use Rattle.stp_grammar.specs.declared.item.Stamp.TheVariants.{None as NoStamp}
-use Rattle.stp_grammar.specs.declared.item.StpItem.{StpItem}
-use Rattle.stp_grammar.specs.declared.item.StpItem.TheVariants.{Datum, Flag}
+use Rattle.stp_encoder.specs.Names.{Place, Stamp, None as NoStamp, StpItem, Datum, Flag}
 
 -- a place
 abbrev pub at : ℕ → ℕ → Place

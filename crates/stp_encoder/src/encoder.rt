@@ -34,14 +34,9 @@ impl StpEncoder {
     ghost use Rattle.std.specs.Prelude.{option_map, option_to_list, is_err};
     ghost use Rattle.std.specs.Option.{ForSome};
     ghost use Rattle.std.specs.Result.{IfErr, OnErr, OnOk};
-    ghost use Rattle.trace_clock.specs.GrayCode.{gray_of};
-    ghost use Rattle.trace_clock.specs.LastWord.{sized, WordFits};
-    ghost use Rattle.stp_grammar.specs.declared.packet.StpPacket.{StpPacket};
-    ghost use Rattle.stp_grammar.specs.declared.item.StpItem.{StpItem};
-    ghost use Rattle.stp_grammar.specs.Attribution.{last_word_of};
+    ghost use Rattle.stp_encoder.specs.Names.{gray_of, sized, WordFits, StpPacket, StpItem, last_word_of, IsProper};
+    ghost use Rattle.stp_encoder.specs.Names.{IsProperItem, IsProperStamp, short};
     ghost use Rattle.stp_grammar.specs.Attributed as attributed;
-    ghost use Rattle.stp_grammar.specs.Proper.{IsProper, IsProperItem, IsProperStamp};
-    ghost use Rattle.stp_grammar.specs.Shortest.{short};
     ghost use Rattle.stp_encoder.specs.Fitting.{version_after, is_unfit};
     ghost use Rattle.stp_encoder.specs.Puts.{Put, Of, Flush, items_in};
     ghost use Rattle.stp_encoder.specs.Packets.{telling_place, packets_with, shortest_stamp};

@@ -2,7 +2,7 @@
 
 ghost use Rattle.std.specs.Prelude.{◌≡◌, ◌<◌, ◌≤◌, ◌+◌, ◌*◌, ◌/◌, ◌%◌, ◌^◌, length};
 ghost use Rattle.std.specs.Option.{ForSome};
-ghost use Rattle.trace_clock.specs.LastWord.{nibble_at};
+ghost use Rattle.stp_encoder.specs.Names.{nibble_at};
 
 use arrayvec::ArrayVec;
 use stp_grammar::packet::{Order, Row, StpPacket};
@@ -26,9 +26,7 @@ pub(crate) struct Joiner {
 
 impl Joiner {
     ghost use Rattle.std.specs.Prelude.{List, ℕ, [], ◌∷◌, ◌++◌, None, replicate, option_to_list, All};
-    ghost use Rattle.stp_grammar.specs.Opcodes.{line_of};
-    ghost use Rattle.stp_grammar.specs.Proper.{IsProper};
-    ghost use Rattle.stp_grammar.specs.Shortest.{nibbles_of_number, short};
+    ghost use Rattle.stp_encoder.specs.Names.{line_of, IsProper, nibbles_of_number, short};
     ghost use Rattle.stp_encoder.specs.Bytes.{joined, filled, short_len};
     ghost use Rattle.stp_encoder.specs.Joined.{Joins, count_in};
 

@@ -1,15 +1,8 @@
 //! Laws of what is written, over its definitions alone.
 
 ghost use Rattle.std.specs.Prelude.{◌≡◌, ◌<◌, ◌^◌, ℕ, List, [], ◌∷◌, ◌++◌, replicate, All, Some, false, true};
-ghost use Rattle.trace_values.specs.Placed.{Placed, units_of};
-ghost use Rattle.trace_values.specs.Nibbles.{nibbles_of};
-ghost use Rattle.trace_clock.specs.LastWord.{SizedWord, IsLeast};
-ghost use Rattle.stp_grammar.specs.declared.packet.Order.{Order};
-ghost use Rattle.stp_grammar.specs.declared.packet.StpPacket.{StpPacket};
-ghost use Rattle.stp_grammar.specs.declared.item.Stamp.TheVariants.{Natural, Gray};
-ghost use Rattle.stp_grammar.specs.declared.item.StpItem.{StpItem};
-ghost use Rattle.stp_grammar.specs.Attribution.{version_of};
-ghost use Rattle.stp_grammar.specs.Proper.{IsProperItem};
+ghost use Rattle.stp_encoder.specs.Names.{Placed, units_of, nibbles_of, SizedWord, IsLeast, Order, StpPacket, Natural};
+ghost use Rattle.stp_encoder.specs.Names.{Gray, StpItem, version_of, IsProperItem};
 ghost use Rattle.stp_encoder.specs.Fitting.{version_after, is_unfit, AreFitting};
 ghost use Rattle.stp_encoder.specs.Puts.{Put, Of, Flush, items_in};
 ghost use Rattle.stp_encoder.specs.Packets.{stamps_since, packed_stamp, packets_with, packets_for};

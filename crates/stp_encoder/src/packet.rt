@@ -2,11 +2,8 @@
 
 ghost use Rattle.std.specs.Prelude.{◌≡◌, ◌<◌, ◌^◌, option_map, Bool};
 ghost use Rattle.std.specs.Option.{ForSome};
-ghost use Rattle.trace_clock.specs.LastWord.{sized, WordFits};
+ghost use Rattle.stp_encoder.specs.Names.{sized, WordFits, Plain, line_of, IsProper};
 ghost use Rattle.stp_grammar.specs.declared.packet.Row.TheVariants.{Datum};
-ghost use Rattle.stp_grammar.specs.declared.packet.StpPacket.TheVariants.{Plain};
-ghost use Rattle.stp_grammar.specs.Opcodes.{line_of};
-ghost use Rattle.stp_grammar.specs.Proper.{IsProper};
 ghost use Rattle.stp_encoder.specs.Packets.{with_stamp};
 
 use stp_grammar::packet::{Row, StpPacket, Width};

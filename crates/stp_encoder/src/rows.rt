@@ -1,12 +1,10 @@
 //! Worked rows of what is written, which the checker computes.
 
 ghost use Rattle.std.specs.Prelude.{◌≡◌, [], ◌∷◌, None, Some, codes, true, false};
-ghost use Rattle.stp_grammar.specs.declared.packet.Order.TheVariants.{Msn, Lsn};
-ghost use Rattle.stp_grammar.specs.declared.packet.Row.TheVariants.{Master8, Master16, Channel8, Channel16};
+ghost use Rattle.stp_encoder.specs.Names.{Msn, Lsn, Master8, Master16, Channel8, Channel16, Plain, Stamped};
+ghost use Rattle.stp_encoder.specs.Names.{None as NoStamp, Natural, Gray, Raw, Async, Version, Trigger, Flag};
+ghost use Rattle.stp_encoder.specs.Names.{NullStamp};
 ghost use Rattle.stp_grammar.specs.declared.packet.Row.TheVariants.{Flag as FlagRow};
-ghost use Rattle.stp_grammar.specs.declared.packet.StpPacket.TheVariants.{Plain, Stamped};
-ghost use Rattle.stp_grammar.specs.declared.item.Stamp.TheVariants.{None as NoStamp, Natural, Gray, Raw};
-ghost use Rattle.stp_grammar.specs.declared.item.StpItem.TheVariants.{Async, Version, Trigger, Flag, NullStamp};
 ghost use Rattle.trace_values.specs.Hex.{hex};
 ghost use Rattle.stp_encoder.specs.Fitting.{is_unfit};
 ghost use Rattle.stp_encoder.specs.Puts.{Of, Flush, unmarked};

@@ -2,8 +2,7 @@
 
 ghost use Rattle.std.specs.Prelude.{◌≡◌, ◌<◌, ◌≤◌, ◌^◌, option_to_list, length};
 ghost use Rattle.std.specs.Option.{ForSome};
-ghost use Rattle.stp_grammar.specs.Opcodes.{line_of};
-ghost use Rattle.stp_grammar.specs.Proper.{IsProper};
+ghost use Rattle.stp_encoder.specs.Names.{line_of, IsProper};
 ghost use Rattle.stp_encoder.specs.Bytes.{short_len};
 ghost use Rattle.stp_encoder.specs.Packets.{telling};
 

@@ -6,7 +6,7 @@ use Rattle.std.specs.List.{list_any, after_last, filter_map, cons_option}
 use Rattle.std.proofs.lemmas.List.{append-nil}
 use Rattle.std.proofs.lemmas.List.Folds.{list_any-append}
 use Rattle.std.proofs.lemmas.List.Elements.{filter_map-append}
-use Rattle.trace_clock.specs.LastWord.{SizedWord, WordFits, last_word}
+use Rattle.stp_grammar.specs.Names.{SizedWord, WordFits, last_word}
 use Rattle.trace_clock.proofs.LastStamps.{given, not_given, after_itself, after_same}
 use Rattle.trace_clock.proofs.LastWords.{word_more, word_none}
 use Rattle.stp_grammar.specs.declared.packet.Row.TheVariants.{Master8, Channel8}

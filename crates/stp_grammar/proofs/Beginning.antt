@@ -1,7 +1,6 @@
 -- A packet's first nibble: it ends no packet but a NULL, and is no fault.
 use Rattle.std.proofs.Common.{◌≡◌, ℕ, ◌<◌, [], ◌∷◌, length, Bool, true, not, cond, ◌==◌, ◌&&◌, refl, sym, ◌∙◌, ap, inl, inr, arith}
-use Rattle.trace_values.specs.declared.fault.Reason.{Reason}
-use Rattle.trace_values.specs.declared.next.Next.TheVariants.{End, Fail}
+use Rattle.stp_grammar.specs.Names.{Reason, End, Fail}
 use Rattle.stp_grammar.specs.declared.packet.Order.{Order}
 use Rattle.stp_grammar.specs.declared.packet.Row.{Row}
 use Rattle.stp_grammar.specs.declared.packet.Row.TheVariants.{Null}

@@ -1,17 +1,13 @@
 -- Each fault has its reason.
 use Rattle.std.proofs.Common.{◌≡◌, ℕ, zero, suc, ◌+◌, ◌≤◌, List, [], ◌∷◌, ◌++◌, replicate, Bool, true, false, cond, refl, sym, ◌∙◌, ap, subst, inl, inr, arith}
 use Rattle.std.specs.Prelude.{nat_lt, ◌==◌, ◌&&◌}
-use Rattle.trace_values.specs.declared.fault.Reason.{Reason}
-use Rattle.trace_values.specs.declared.fault.Reason.TheVariants.{Unsupported, StampSize, BadAsync}
-use Rattle.trace_values.specs.declared.next.Next.TheVariants.{Fail}
-use Rattle.trace_values.specs.Walk.{Walked, Within, walk}
+use Rattle.stp_grammar.specs.Names.{Reason, Unsupported, StampSize, BadAsync, Fail, Walked, Within, walk, nibble_count}
 use Rattle.stp_grammar.specs.declared.packet.Order.{Order}
 use Rattle.stp_grammar.specs.declared.packet.Row.{Row}
 use Rattle.stp_grammar.specs.declared.packet.StpPacket.{StpPacket}
 use Rattle.stp_grammar.specs.declared.partial.Partial.{Partial}
 use Rattle.stp_grammar.specs.declared.partial.Partial.TheVariants.{Start, Second, Third, Run, Payload, Size, Word}
 use Rattle.stp_grammar.specs.Opcodes.{line_of, Opening, Whole as Opened, More, Refused, opening_of}
-use Rattle.trace_clock.specs.LastWord.{nibble_count}
 use Rattle.stp_grammar.specs.Spelling.{opening_fault, why}
 use Rattle.stp_grammar.specs.Rule.{rule, first_opening, second_opening, third_opening, begin, opened, after_payload}
 use Rattle.stp_grammar.proofs.Openings.{row_why, first_fault, second_fault, third_fault}

@@ -1,8 +1,7 @@
 -- Each state that is reached can be finished.
 use Rattle.std.proofs.Common.{◌≡◌, ℕ, ◌-◌, List, [], ◌∷◌, ◌++◌, replicate, false, refl, ◌∙◌, inl, inr, arith}
 use Rattle.std.proofs.lemmas.List.{length-replicate}
-use Rattle.trace_values.specs.declared.next.Next.TheVariants.{Go, End}
-use Rattle.trace_values.specs.Walk.{Walked, Within, Whole, after, walk}
+use Rattle.stp_grammar.specs.Names.{Go, End, Walked, Within, Whole, after, walk, nibble_count}
 use Rattle.stp_grammar.specs.declared.packet.Order.{Order}
 use Rattle.stp_grammar.specs.declared.packet.Order.TheVariants.{Msn, Lsn}
 use Rattle.stp_grammar.specs.declared.packet.Row.{Row}
@@ -12,7 +11,6 @@ use Rattle.stp_grammar.specs.declared.packet.StpPacket.TheVariants.{Async, Plain
 use Rattle.stp_grammar.specs.declared.partial.Partial.{Partial}
 use Rattle.stp_grammar.specs.declared.partial.Partial.TheVariants.{Start, Second, Third, Run, Payload, Size, Word}
 use Rattle.stp_grammar.specs.Opcodes.{line_of}
-use Rattle.trace_clock.specs.LastWord.{nibble_count}
 use Rattle.stp_grammar.specs.Rule.{rule, after_payload}
 use Rattle.stp_grammar.proofs.Digits.{value_from, stage_whole}
 use Rattle.stp_grammar.proofs.Choices.{tested}

@@ -3,7 +3,7 @@ use Rattle.std.proofs.Common.{◌≡◌, ℕ, suc, ◌*◌, ◌^◌, ◌<◌, �
 use Rattle.std.proofs.Math.Nat.{pow-suc, mul-le-mul_left, mul_comm}
 use Rattle.std.proofs.Math.Seq.{drop-append_seam}
 use Rattle.std.proofs.lemmas.List.Elements.{All-drop, All-cons}
-use Rattle.trace_clock.specs.LastWord.{nibble_count}
+use Rattle.stp_grammar.specs.Names.{nibble_count}
 use Rattle.stp_grammar.specs.declared.packet.Order.{Order}
 use Rattle.stp_grammar.specs.declared.packet.Order.TheVariants.{Msn, Lsn}
 use Rattle.stp_grammar.specs.declared.packet.StpPacket.{StpPacket}

@@ -3,13 +3,12 @@ use Rattle.std.proofs.Common.{◌≡◌, ℕ, zero, suc, ◌+◌, ◌<◌, ◌�
 use Rattle.std.specs.Prelude.{nat_le}
 use Rattle.std.proofs.lemmas.List.Elements.{All-nil, All-cons}
 use Rattle.std.proofs.lemmas.Bool.Decides.{nat_tests}
-use Rattle.trace_values.specs.Walk.{Within, walk}
+use Rattle.stp_grammar.specs.Names.{Within, walk, nibble_count}
 use Rattle.stp_grammar.specs.declared.packet.Order.{Order}
 use Rattle.stp_grammar.specs.declared.packet.Row.{Row}
 use Rattle.stp_grammar.specs.declared.partial.Partial.{Partial}
 use Rattle.stp_grammar.specs.declared.partial.Partial.TheVariants.{Start, Second, Third, Run, Payload, Size, Word}
 use Rattle.stp_grammar.specs.Opcodes.{line_of}
-use Rattle.trace_clock.specs.LastWord.{nibble_count}
 use Rattle.stp_grammar.specs.Rule.{rule, count_of}
 use Rattle.stp_grammar.proofs.EachRow.{each_test}
 use Rattle.stp_grammar.proofs.Counting.{counted_nibbles}

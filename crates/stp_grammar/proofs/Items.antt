@@ -4,8 +4,7 @@ use Rattle.std.specs.Prelude.{◌||◌, Option, None, Some, unwrap_or}
 use Rattle.std.specs.Option.{ForSome, is_some, option_or}
 use Rattle.std.specs.List.{filter_map, last_or, cons_option, after_last, list_any, suffix_len}
 use Rattle.std.proofs.lemmas.List.Elements.{All-drop}
-use Rattle.trace_clock.specs.LastWord.{SizedWord, WordFits, last_word}
-use Rattle.trace_clock.specs.GrayCode.{natural_of}
+use Rattle.stp_grammar.specs.Names.{SizedWord, WordFits, last_word, natural_of}
 use Rattle.trace_clock.proofs.LastWords.{word_lt}
 use Rattle.trace_clock.proofs.GrayCodes.{natural_lt}
 use Rattle.stp_grammar.specs.declared.packet.Width.{Width}

@@ -3,7 +3,7 @@ use Rattle.std.proofs.Common.{◌≡◌, ℕ, zero, suc, ◌+◌, ◌-◌, ◌<�
 use Rattle.std.specs.Prelude.{None}
 use Rattle.std.proofs.lemmas.List.{append-nil}
 use Rattle.std.proofs.lemmas.Bool.Decides.{nat_tests}
-use Rattle.trace_values.specs.declared.fault.Reason.TheVariants.{Unsupported, StampSize}
+use Rattle.stp_grammar.specs.Names.{Unsupported, StampSize}
 use Rattle.stp_grammar.specs.declared.opcode.Head.TheVariants.{Whole as HeadWhole, More as HeadMore, Refused as HeadRefused}
 use Rattle.stp_grammar.specs.declared.packet.Row.{Row}
 use Rattle.stp_grammar.specs.Opcodes.{rows, row_at, line_of, row_of, is_front, Opening, Whole as Opened, More, Refused, opening_by, opening_of, head_of}

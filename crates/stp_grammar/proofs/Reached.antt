@@ -3,10 +3,7 @@ use Rattle.std.proofs.Common.{◌≡◌, ℕ, ◌+◌, ◌<◌, ◌≤◌, List,
 use Rattle.std.proofs.lemmas.List.{replicate_more}
 use Rattle.std.specs.Prelude.{◌==◌}
 use Rattle.std.proofs.lemmas.Bool.Decides.{nat_tests}
-use Rattle.trace_values.specs.declared.fault.Reason.TheVariants.{StampSize, BadAsync}
-use Rattle.trace_values.specs.declared.next.Next.{Next}
-use Rattle.trace_values.specs.declared.next.Next.TheVariants.{Go, End, Fail}
-use Rattle.trace_values.specs.Walk.{Walked, Within, after, walk}
+use Rattle.stp_grammar.specs.Names.{StampSize, BadAsync, Next, Go, End, Fail, Walked, Within, after, walk, nibble_count}
 use Rattle.stp_grammar.specs.declared.packet.Order.{Order}
 use Rattle.stp_grammar.specs.declared.packet.Row.{Row}
 use Rattle.stp_grammar.specs.declared.packet.StpPacket.{StpPacket}
@@ -14,7 +11,6 @@ use Rattle.stp_grammar.specs.declared.packet.StpPacket.TheVariants.{Async, Plain
 use Rattle.stp_grammar.specs.declared.partial.Partial.{Partial}
 use Rattle.stp_grammar.specs.declared.partial.Partial.TheVariants.{Start, Second, Third, Run, Payload, Size, Word}
 use Rattle.stp_grammar.specs.Opcodes.{line_of, Opening, More, Refused}
-use Rattle.trace_clock.specs.LastWord.{nibble_count}
 use Rattle.stp_grammar.specs.Rule.{rule, first_opening, second_opening, third_opening, number_with, begin, opened, run_with, after_payload, size_with}
 use Rattle.stp_grammar.proofs.Openings.{IsRow, first_cases, second_cases, third_cases}
 use Rattle.stp_grammar.proofs.Choices.{not_zero, still_under, some_word}

@@ -2,16 +2,13 @@
 use Rattle.std.proofs.Common.{◌≡◌, ℕ, ◌+◌, ◌<◌, List, [], ◌∷◌, ◌++◌, length, append-nil, true, cond, refl, sym, ◌∙◌, ap, ◌⊎◌, inl, inr, arith}
 use Rattle.std.specs.Prelude.{nat_lt, ◌==◌}
 use Rattle.std.proofs.lemmas.Bool.Decides.{nat_tests}
-use Rattle.trace_values.specs.declared.fault.Reason.TheVariants.{StampSize}
-use Rattle.trace_values.specs.declared.next.Next.TheVariants.{Go, End, Fail}
-use Rattle.trace_values.specs.Walk.{Walked, Whole, after, walk}
+use Rattle.stp_grammar.specs.Names.{StampSize, Go, End, Fail, Walked, Whole, after, walk, nibble_count}
 use Rattle.stp_grammar.specs.declared.packet.Order.{Order}
 use Rattle.stp_grammar.specs.declared.packet.Row.{Row}
 use Rattle.stp_grammar.specs.declared.packet.StpPacket.{StpPacket}
 use Rattle.stp_grammar.specs.declared.packet.StpPacket.TheVariants.{Stamped}
 use Rattle.stp_grammar.specs.declared.partial.Partial.{Partial}
 use Rattle.stp_grammar.specs.declared.partial.Partial.TheVariants.{Size, Word}
-use Rattle.trace_clock.specs.LastWord.{nibble_count}
 use Rattle.stp_grammar.specs.Spelling.{IsNumber, number}
 use Rattle.stp_grammar.specs.Rule.{rule, number_with, size_with}
 use Rattle.stp_grammar.proofs.Digits.{number_none, value_from, value_whole, stage_whole, stage_sound}

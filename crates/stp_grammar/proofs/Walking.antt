@@ -1,8 +1,6 @@
 -- The walk of the rule over a list of nibbles.
 use Rattle.std.proofs.Common.{◌≡◌, ℕ, List, [], ◌∷◌, refl, ap}
-use Rattle.trace_values.specs.declared.next.Next.{Next}
-use Rattle.trace_values.specs.declared.next.Next.TheVariants.{End}
-use Rattle.trace_values.specs.Walk.{Walked, Whole, after, walk}
+use Rattle.stp_grammar.specs.Names.{Next, End, Walked, Whole, after, walk}
 use Rattle.stp_grammar.specs.declared.packet.Order.{Order}
 use Rattle.stp_grammar.specs.declared.packet.StpPacket.{StpPacket}
 use Rattle.stp_grammar.specs.declared.partial.Partial.{Partial}

@@ -5,8 +5,7 @@ use Rattle.std.specs.Prelude.{ℕ, ◌+◌, ◌*◌, ◌/◌, ◌%◌, List, [],
 use Rattle.std.specs.Prelude.{Option, None, Some, unwrap_or}
 use Rattle.std.specs.Option.{is_some, option_or}
 use Rattle.std.specs.List.{list_any, filter_map, last_or, after_last}
-use Rattle.trace_clock.specs.GrayCode.{natural_of}
-use Rattle.trace_clock.specs.LastWord.{SizedWord, sized, last_word}
+use Rattle.stp_grammar.specs.Names.{natural_of, SizedWord, sized, last_word}
 use Rattle.stp_grammar.specs.declared.packet.Row.{Row}
 use Rattle.stp_grammar.specs.declared.packet.Row.TheVariants.{Null, Master8, MasterError, Channel8, Datum, Flag}
 use Rattle.stp_grammar.specs.declared.packet.Row.TheVariants.{Master16, GlobalError, Channel16, Version, NullStamp}

@@ -1,3 +1,4 @@
+pub mod Names
 pub mod Opcodes
 pub mod Spelling
 pub mod Proper

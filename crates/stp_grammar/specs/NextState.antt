@@ -1,7 +1,7 @@
 -- What version, master, channel and last word become with one more packet (this project's profile).
 use Rattle.std.specs.Prelude.{ℕ, ◌+◌, ◌*◌, ◌/◌, Bool, Option, None, Some, option_map, if◌then◌else◌}
 use Rattle.std.specs.Option.{option_or}
-use Rattle.trace_clock.specs.LastWord.{SizedWord, next_word}
+use Rattle.stp_grammar.specs.Names.{SizedWord, next_word}
 use Rattle.stp_grammar.specs.declared.packet.StpPacket.{StpPacket}
 use Rattle.stp_grammar.specs.Attribution.{version_in, master8_in, master16_in, channel8_in, channel16_in, stamp_in}
 use Rattle.stp_grammar.specs.Attribution.{begins_master, begins_channel, keeps_word}

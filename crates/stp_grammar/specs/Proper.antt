@@ -2,7 +2,7 @@
 -- project's profile).
 use Rattle.std.specs.Prelude.{ℕ, ◌^◌, ◌<◌}
 use Rattle.std.specs.Option.{ForSome}
-use Rattle.trace_clock.specs.LastWord.{WordFits}
+use Rattle.stp_grammar.specs.Names.{WordFits}
 use Rattle.stp_grammar.specs.declared.packet.Width.{Width}
 use Rattle.stp_grammar.specs.declared.packet.Width.TheVariants.{Four, Eight, Sixteen, ThirtyTwo, SixtyFour}
 use Rattle.stp_grammar.specs.declared.packet.StpPacket.{StpPacket}

@@ -1,11 +1,8 @@
 -- Worked rows of the grammar and of attribution, in text.
 use Rattle.std.specs.Prelude.{ℕ, List, [], ◌∷◌, length, map, Bool, Option, None, Some, option_map}
 use Rattle.trace_values.specs.Hex.{digit, hex}
-use Rattle.trace_values.specs.declared.fault.Reason.{Reason}
-use Rattle.trace_values.specs.Placed.{Place, placed}
+use Rattle.stp_grammar.specs.Names.{Reason, Place, placed, Walked, walk, by_unit, Reading, reading}
 use Rattle.trace_values.specs.Nibbles.{nibbles_of}
-use Rattle.trace_values.specs.Walk.{Walked, walk, by_unit}
-use Rattle.trace_values.specs.Reading.{Reading, reading}
 use Rattle.stp_grammar.specs.declared.packet.Order.{Order}
 use Rattle.stp_grammar.specs.declared.packet.StpPacket.{StpPacket}
 use Rattle.stp_grammar.specs.declared.partial.Partial.{Partial}

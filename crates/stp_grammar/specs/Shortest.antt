@@ -1,7 +1,7 @@
 -- The shortest spelling of a packet (MIPI System Trace Protocol, version 2, in this project's profile).
 use Rattle.std.specs.Prelude.{◌≡◌, ℕ, zero, suc, ◌/◌, ◌%◌, ◌<◌, ◌≤◌, List, [], ◌∷◌, ◌++◌, length, replicate, reverse}
 use Rattle.std.specs.Prelude.{All, true, false}
-use Rattle.trace_clock.specs.LastWord.{nibble_count}
+use Rattle.stp_grammar.specs.Names.{nibble_count}
 use Rattle.stp_grammar.specs.declared.packet.Order.{Order}
 use Rattle.stp_grammar.specs.declared.packet.Order.TheVariants.{Msn, Lsn}
 use Rattle.stp_grammar.specs.declared.packet.StpPacket.{StpPacket}

@@ -1,7 +1,7 @@
 //! What the packets so far say of the next item: its place and its timestamp.
 
 ghost use Rattle.std.specs.Prelude.{◌≡◌, ◌<◌, ◌+◌, ◌*◌, ◌/◌, ◌^◌, option_map, if◌then◌else◌};
-ghost use Rattle.trace_clock.specs.LastWord.{WordFits};
+ghost use Rattle.stp_grammar.specs.Names.{WordFits};
 ghost use Rattle.stp_grammar.specs.declared.packet.StpPacket.TheVariants.{Plain, Stamped};
 ghost use Rattle.stp_grammar.specs.Opcodes.{line_of, row_at};
 ghost use Rattle.std.specs.Option.{ForSome};

@@ -2,11 +2,8 @@
 
 ghost use Rattle.std.specs.Prelude.{◌≡◌, ◌↔◌, ◌⊎◌, ◌≤◌, ℕ, ◌+◌, ◌<◌, All, length, List, [], ◌∷◌, ◌++◌, None};
 ghost use Rattle.std.specs.Option.{ForSome};
-ghost use Rattle.trace_values.specs.Placed.{Placed, units_of};
-ghost use Rattle.trace_values.specs.Grammar.{PrefixLaw, InUnits};
-ghost use Rattle.trace_values.specs.Walk.{Decides, Within, walk, by_unit};
-ghost use Rattle.trace_values.specs.Reading.{Reading, IsReading, reading};
-ghost use Rattle.trace_values.specs.declared.next.Next.TheVariants.{Go};
+ghost use Rattle.stp_grammar.specs.Names.{Placed, units_of, PrefixLaw, InUnits, Decides, Within, walk, by_unit};
+ghost use Rattle.stp_grammar.specs.Names.{Reading, IsReading, reading, Go};
 ghost use Rattle.stp_grammar.specs.declared.packet.Order.{Order};
 ghost use Rattle.stp_grammar.specs.declared.packet.StpPacket.{StpPacket};
 ghost use Rattle.stp_grammar.specs.declared.partial.Partial.{Partial};

@@ -4,7 +4,7 @@ ghost use Rattle.std.specs.Prelude.{◌≡◌, ◌<◌, ◌≤◌, ◌+◌, ◌*
 ghost use Rattle.stp_grammar.specs.declared.packet.Order.TheVariants.{Msn};
 ghost use Rattle.stp_grammar.specs.declared.partial.Partial.TheVariants.{Start, Second, Third};
 ghost use Rattle.stp_grammar.specs.Opcodes.{line_of, Opening, head_of};
-ghost use Rattle.trace_clock.specs.LastWord.{nibble_count};
+ghost use Rattle.stp_grammar.specs.Names.{nibble_count};
 ghost use Rattle.trace_values.specs.declared.limits.TheConstants.{NIBBLE_ROOM};
 ghost use Rattle.stp_grammar.specs.Rule.{rule, begin, after_payload, opened};
 ghost use Rattle.stp_grammar.specs.Rule.{run_with, payload_with, size_with};

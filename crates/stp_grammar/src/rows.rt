@@ -1,8 +1,7 @@
 //! Worked rows of the grammar and of attribution, which the checker computes.
 
 ghost use Rattle.std.specs.Prelude.{◌≡◌, [], ◌∷◌, None, Some, codes, true, false, map};
-ghost use Rattle.trace_values.specs.declared.fault.Reason.TheVariants.{Unsupported, StampSize, BadAsync};
-ghost use Rattle.trace_values.specs.Walk.{Whole, Within};
+ghost use Rattle.stp_grammar.specs.Names.{Unsupported, StampSize, BadAsync, Whole, Within};
 ghost use Rattle.stp_grammar.specs.declared.packet.Width.TheVariants.{Four, Eight, Sixteen, ThirtyTwo, SixtyFour};
 ghost use Rattle.stp_grammar.specs.declared.packet.Order.TheVariants.{Msn, Lsn};
 ghost use Rattle.stp_grammar.specs.declared.packet.Row.TheVariants.{Null, Datum, Flag, Master16};

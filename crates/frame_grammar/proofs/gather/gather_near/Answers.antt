@@ -2,7 +2,7 @@ use Rattle.std.proofs.Common.{◌+◌, ◌*◌, ℕ, List, [], ◌∷◌, ◌++�
 use Rattle.std.specs.Option.{option_map}
 use Rattle.std.proofs.lemmas.List.{take_rest, length-drop, length-set, length-take-le, map-append}
 use Rattle.std.proofs.Math.Seq.{take-length}
-use Rattle.trace_values.specs.Placed.{placed_from}
+use Rattle.frame_grammar.specs.Names.{placed_from}
 use Rattle.frame_grammar.specs.Reading.{offsets_of}
 use Rattle.frame_grammar.specs.Placing.{places_of}
 use Rattle.frame_grammar.specs.Whole.{without_halves}

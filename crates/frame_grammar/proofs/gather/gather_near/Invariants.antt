@@ -1,6 +1,6 @@
 use Rattle.std.proofs.Common.{◌-◌, ◌≤◌, ◌*◌, ◌/◌, ◌%◌, ℕ, List, length, take, drop, ◌≡◌, ◌≢◌, ◌∷◌}
 use Rattle.std.specs.Option.{option_map}
-use Rattle.trace_values.specs.Placed.{placed_from}
+use Rattle.frame_grammar.specs.Names.{placed_from}
 use Rattle.frame_grammar.specs.Reading.{offsets_of}
 use Rattle.frame_grammar.specs.Placing.{places_of}
 use Rattle.frame_grammar.specs.Whole.{without_halves}

@@ -1,6 +1,6 @@
 use Rattle.std.proofs.Common.{◌≡◌, ℕ, ◌+◌, ◌-◌, ◌*◌, ◌/◌, ◌%◌, refl, sym, ◌∙◌, ap, arith, subst, cond, take}
 use Rattle.std.specs.Prelude.{slice_index, ◌==◌}
-use Rattle.trace_values.specs.Cells.{source_id}
+use Rattle.frame_grammar.specs.Names.{source_id}
 use Rattle.frame_grammar.specs.Frame.{aux_bit, cells_below, cells}
 use Rattle.frame_grammar.specs.SourceBytes.{bytes_of_source}
 use Rattle.frame_grammar.proofs.Looks.{starts}

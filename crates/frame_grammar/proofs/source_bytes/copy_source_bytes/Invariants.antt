@@ -1,5 +1,5 @@
 use Rattle.std.proofs.Common.{◌≡◌, ◌≤◌, ◌*◌, ℕ, List, take}
-use Rattle.trace_values.specs.Cells.{source_id}
+use Rattle.frame_grammar.specs.Names.{source_id}
 use Rattle.frame_grammar.specs.Frame.{cells_below, id_at}
 use Rattle.frame_grammar.specs.SourceBytes.{bytes_of_source}
 use Rattle.frame_grammar.proofs.source_bytes.copy_source_bytes.Given as goal

@@ -1,12 +1,7 @@
 use Rattle.std.proofs.Common.{◌≡◌, ℕ, ◌+◌, ◌<◌, List, [], ◌∷◌, length, take, get_or, drop, refl, sym, ◌∙◌, ap, arith}
 use Rattle.std.proofs.lemmas.List.{take_more, take-append-drop}
-use Rattle.trace_values.specs.declared.next.Next.{Next}
-use Rattle.trace_values.specs.declared.next.Next.TheVariants.{Go, End, Fail}
-use Rattle.trace_values.specs.Walk.{after, walk, Within}
+use Rattle.itm_codec.specs.Names.{Next, Go, End, Fail, after, walk, Within, ItmPacket, Partial, rule}
 use Rattle.trace_values.proofs.Walks.{walk_more}
-use Rattle.itm_grammar.specs.declared.packet.ItmPacket.{ItmPacket}
-use Rattle.itm_grammar.specs.declared.partial.Partial.{Partial}
-use Rattle.itm_grammar.specs.Rule.{rule}
 use Rattle.itm_codec.proofs.Waiting.{whole_within, broken_within}
 use Rattle.itm_codec.proofs.cut.cut_packet.Goals as goal
 

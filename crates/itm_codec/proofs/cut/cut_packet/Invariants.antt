@@ -1,6 +1,5 @@
 use Rattle.std.proofs.Common.{◌≡◌, ◌+◌, ◌≤◌, take, true}
-use Rattle.trace_values.specs.Walk.{walk, Within}
-use Rattle.itm_grammar.specs.Rule.{rule, is_sound, count_of}
+use Rattle.itm_codec.specs.Names.{walk, Within, rule, is_sound, count_of}
 use Rattle.itm_codec.proofs.cut.cut_packet.Given as goal
 
 -- the bytes so far are within the packet

@@ -1,5 +1,5 @@
 use Rattle.std.proofs.Common.{List, ℕ, subst, sym}
-use Rattle.itm_grammar.specs.Spelling.{Spells}
+use Rattle.itm_codec.specs.Names.{Spells}
 use Rattle.itm_grammar.proofs.Deciding.{decided}
 use Rattle.itm_codec.proofs.encoder.encode.Goals as goal
 

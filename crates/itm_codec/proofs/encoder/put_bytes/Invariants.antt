@@ -1,5 +1,5 @@
 use Rattle.std.proofs.Common.{◌≡◌, ◌+◌, ◌≤◌, ◌++◌, length}
-use Rattle.itm_grammar.specs.Shortest.{bytes_of}
+use Rattle.itm_codec.specs.Names.{bytes_of}
 use Rattle.itm_codec.proofs.encoder.put_bytes.Given as goal
 
 abbrev pub invariant-bytes : goal.invariant-bytes

@@ -1,5 +1,5 @@
 use Rattle.std.proofs.Common.{arith, ap, ◌∙◌, ◌++◌, ◌-◌, ◌/◌, List, ℕ}
-use Rattle.itm_grammar.specs.Shortest.{groups_of}
+use Rattle.itm_codec.specs.Names.{groups_of}
 use Rattle.itm_codec.proofs.Encoding.{group_out}
 use Rattle.itm_codec.proofs.encoder.put_groups.Goals as goal
 

@@ -1,5 +1,5 @@
 use Rattle.std.proofs.Common.{◌≡◌, ◌+◌, ◌<◌, ◌≤◌, ◌++◌, length}
-use Rattle.itm_grammar.specs.Shortest.{groups_of}
+use Rattle.itm_codec.specs.Names.{groups_of}
 use Rattle.itm_codec.proofs.encoder.put_groups.Given as goal
 
 abbrev pub invariant-groups : goal.invariant-groups

@@ -2,8 +2,7 @@ use Rattle.std.proofs.Common.{◌≡◌, ℕ, ◌+◌, ◌*◌, ◌/◌, ◌%◌
 use Rattle.std.specs.Prelude.{◌==◌}
 use Rattle.std.proofs.lemmas.Bool.Decides.{nat_tests}
 use Rattle.std.proofs.lemmas.List.{length-take-le}
-use Rattle.itm_grammar.specs.Spelling.{bit_of}
-use Rattle.itm_grammar.specs.Proper.{first_bits}
+use Rattle.itm_codec.specs.Names.{bit_of, first_bits}
 use Rattle.itm_codec.specs.Windows.{four_bytes}
 use Rattle.itm_codec.proofs.Windows.{one_more, sizes, small, under}
 use Rattle.itm_codec.proofs.whole.first_global.Goals as goal

@@ -1,7 +1,7 @@
 use Rattle.std.proofs.Common.{◌≡◌, ℕ, ◌<◌, false, cond, sym, ◌∙◌, ap, arith}
 use Rattle.std.specs.Prelude.{◌==◌}
 use Rattle.std.proofs.lemmas.Bool.Decides.{nat_tests}
-use Rattle.trace_values.specs.declared.next.Next.TheVariants.{Go}
+use Rattle.stp_grammar.specs.Names.{Go}
 use Rattle.stp_grammar.specs.declared.partial.Partial.TheVariants.{Third, Run}
 use Rattle.stp_grammar.specs.Opcodes.{head_of}
 use Rattle.stp_grammar.specs.Rule.{second_opening, opened}

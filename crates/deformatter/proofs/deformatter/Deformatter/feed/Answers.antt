@@ -1,14 +1,8 @@
 use Rattle.std.proofs.Common.{rules, ◌≡◌, ◌≤◌, ℕ, ◌+◌, List, [], ◌∷◌, ◌++◌, refl, sym, ◌∙◌, ap, subst, arith, true, false, Option}
 use Rattle.std.specs.Prelude.{◌==◌, ◌&&◌}
-use Rattle.trace_values.specs.declared.cell.Cell.{Cell}
-use Rattle.trace_values.specs.declared.mode.Mode.{Mode}
-use Rattle.trace_values.specs.declared.mode.Mode.TheVariants.{Hunting}
-use Rattle.trace_values.specs.Placed.{Placed, byte_at}
-use Rattle.trace_values.specs.Moded.{StandsIn, hunts, skipped_of, is_counted}
-use Rattle.trace_values.specs.Standing.{state_after}
+use Rattle.deformatter.specs.Names.{Cell, Mode, Hunting, Placed, byte_at, StandsIn, hunts, skipped_of, is_counted}
+use Rattle.deformatter.specs.Names.{state_after, Full, start, rule, pattern, run_of}
 use Rattle.trace_values.proofs.Modes as laws
-use Rattle.frame_grammar.specs.Port.{Full, start, rule}
-use Rattle.port_sync.specs.Hunting.{pattern, run_of}
 use Rattle.deformatter.specs.Phase.{mode_in}
 use Rattle.deformatter.specs.Reading.{port_stream, cells_in, id_in}
 use Rattle.deformatter.specs.Growth.{PortGrows, goes_on}

@@ -1,7 +1,6 @@
 use Rattle.std.proofs.Common.{◌≡◌, ◌<◌, ◌+◌, ◌∷◌, [], ◌++◌, ℕ, List, length, take, get_or, refl, sym, ◌∙◌, ap, subst, arith, append-nil, Bool}
 use Rattle.std.proofs.lemmas.List.{take_all}
-use Rattle.trace_values.specs.declared.cell.Cell.{Cell}
-use Rattle.trace_values.specs.Placed.{Placed, byte_at, placed_from}
+use Rattle.deformatter.specs.Names.{Cell, Placed, byte_at, placed_from}
 use Rattle.trace_values.proofs.Placing.{next_placed}
 use Rattle.deformatter.specs.Block.{Answers, EachByte, FedAs}
 use Rattle.deformatter.specs.Reading.{port_stream, cells_in}

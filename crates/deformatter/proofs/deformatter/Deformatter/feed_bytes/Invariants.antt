@@ -1,5 +1,5 @@
 use Rattle.std.proofs.Common.{◌≡◌, ◌+◌, ◌≤◌, ◌++◌, [], ℕ, List, take, true}
-use Rattle.trace_values.specs.Placed.{Placed, placed_from}
+use Rattle.deformatter.specs.Names.{Placed, placed_from}
 use Rattle.deformatter.specs.Block.{Answers, EachByte}
 use Rattle.deformatter.specs.Reading.{port_stream, cells_in}
 use Rattle.deformatter.specs.Deformatter.{Stands, is_hunter, is_live, tail_of, skipped_by}

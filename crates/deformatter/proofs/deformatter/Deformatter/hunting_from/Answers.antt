@@ -1,6 +1,5 @@
 use Rattle.std.proofs.Common.{◌+◌, ◌∙◌, ap}
-use Rattle.port_sync.specs.Hunting.{pattern}
-use Rattle.trace_values.specs.Hunted.{run_after}
+use Rattle.deformatter.specs.Names.{pattern, run_after}
 use Rattle.deformatter.proofs.Resuming.{seeks_again, seeks_as, stands_hunting}
 use Rattle.deformatter.proofs.deformatter.Deformatter.hunting_from.Goals as goal
 

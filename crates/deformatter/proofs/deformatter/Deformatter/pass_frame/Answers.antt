@@ -1,10 +1,7 @@
 use Rattle.std.proofs.Common.{◌≡◌, ℕ, List, ◌++◌, sym, ◌∙◌, ap, subst, Bool, true, Option}
-use Rattle.trace_values.specs.Placed.{Placed, units_of, placed_from}
-use Rattle.trace_values.specs.Moded.{StandsIn}
-use Rattle.frame_grammar.specs.Frame.{id_after}
-use Rattle.frame_grammar.specs.Port.{Full, Frame, State, Spells, start, rule}
+use Rattle.deformatter.specs.Names.{Placed, units_of, placed_from, StandsIn, id_after, Full, Frame, State, Spells}
+use Rattle.deformatter.specs.Names.{start, rule, pattern}
 use Rattle.frame_grammar.proofs.Deciding.{port_decided}
-use Rattle.port_sync.specs.Hunting.{pattern}
 use Rattle.deformatter.specs.Reading.{port_stream}
 use Rattle.deformatter.specs.Frames.{IsBetween, GrowsByFrame}
 use Rattle.deformatter.specs.Deformatter.{Stands, mode_of, state_of, is_live, is_hunter}

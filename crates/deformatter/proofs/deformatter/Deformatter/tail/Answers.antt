@@ -1,5 +1,5 @@
 use Rattle.std.proofs.Common.{◌≡◌, length, arith, ◌∙◌}
-use Rattle.port_sync.specs.Aligned.{size_of, placed_part}
+use Rattle.deformatter.specs.Names.{size_of, placed_part}
 use Rattle.deformatter.specs.Rule.{part_size}
 use Rattle.deformatter.specs.Unfinished.{placed_of}
 use Rattle.deformatter.proofs.Zipping.{size}

@@ -1,12 +1,7 @@
 use Rattle.std.proofs.Common.{◌≡◌, ◌++◌, ℕ, List, length, sym, ◌∙◌, ap, subst, arith, Bool, Option}
 use Rattle.std.specs.List.{range_with_len}
-use Rattle.trace_values.specs.declared.cell.Cell.{Cell}
-use Rattle.trace_values.specs.Placed.{placed_from}
-use Rattle.trace_values.specs.Moded.{StandsIn}
-use Rattle.frame_grammar.specs.Frame.{id_after, cells}
-use Rattle.frame_grammar.specs.Port.{Full, State, start, rule}
-use Rattle.frame_grammar.specs.Reading.{offsets_of}
-use Rattle.port_sync.specs.Hunting.{pattern}
+use Rattle.deformatter.specs.Names.{Cell, placed_from, StandsIn, id_after, cells, Full, State, start, rule, offsets_of}
+use Rattle.deformatter.specs.Names.{pattern}
 use Rattle.deformatter.specs.Reading.{port_stream, cells_in}
 use Rattle.deformatter.specs.Deformatter.{mode_of, id_of, is_live, is_hunter}
 use Rattle.deformatter.proofs.Blocks.{offsets_are, words_fed}

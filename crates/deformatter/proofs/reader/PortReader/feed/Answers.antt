@@ -1,5 +1,5 @@
 use Rattle.std.proofs.Common.{◌≡◌, ◌∷◌, [], ◌++◌, true, false, cond, refl, ◌∙◌, ap, Bool}
-use Rattle.trace_values.specs.Placed.{byte_at}
+use Rattle.deformatter.specs.Names.{byte_at}
 use Rattle.deformatter.specs.Deformatter as deformatter
 use Rattle.deformatter.specs.Modes.{is_bare}
 use Rattle.deformatter.proofs.ReaderFeeding.{has_formatter, port_of, is_of_port, reading_grows, few_more}

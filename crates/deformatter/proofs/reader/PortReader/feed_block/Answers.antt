@@ -1,6 +1,5 @@
 use Rattle.std.proofs.Common.{arith, rules, ◌≡◌, ◌++◌, true, false, cond, refl, ◌∙◌, ap, Bool, List, [], ◌∷◌, take}
-use Rattle.trace_values.specs.declared.cell.Cell.{Cell}
-use Rattle.trace_values.specs.Placed.{placed_from}
+use Rattle.deformatter.specs.Names.{Cell, placed_from}
 use Rattle.deformatter.specs.Deformatter as deformatter
 use Rattle.deformatter.specs.Modes.{is_bare}
 use Rattle.deformatter.proofs.ReaderFeeding.{has_formatter, port_of, is_of_port, reading_fed, bare_taken, few_more}

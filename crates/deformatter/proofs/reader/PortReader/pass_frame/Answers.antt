@@ -1,7 +1,5 @@
 use Rattle.std.proofs.Common.{◌≡◌, ◌++◌, true, false, cond, ◌∙◌, ap, Bool, ℕ, ◌+◌}
-use Rattle.trace_values.specs.Placed.{placed_from, units_of}
-use Rattle.frame_grammar.specs.Frame.{cells}
-use Rattle.frame_grammar.specs.Reading.{offsets_of}
+use Rattle.deformatter.specs.Names.{placed_from, units_of, cells, offsets_of}
 use Rattle.deformatter.specs.Deformatter as deformatter
 use Rattle.deformatter.specs.Modes.{is_bare}
 use Rattle.deformatter.proofs.ReaderFeeding.{port_of, is_of_port, reading_frame, reading_fed_frame}

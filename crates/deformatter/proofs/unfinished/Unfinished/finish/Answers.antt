@@ -1,6 +1,5 @@
 use Rattle.std.proofs.Common.{ℕ, List, sym, ◌∙◌, ap}
-use Rattle.trace_values.specs.Placed.{units_of}
-use Rattle.frame_grammar.specs.Frame.{cells, id_after}
+use Rattle.deformatter.specs.Names.{units_of, cells, id_after}
 use Rattle.deformatter.specs.Unfinished.{placed_of}
 use Rattle.deformatter.proofs.Zipping.{whole_units, whole_offsets}
 use Rattle.deformatter.proofs.unfinished.Unfinished.finish.Goals as goal

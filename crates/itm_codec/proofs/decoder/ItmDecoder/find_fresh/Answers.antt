@@ -1,7 +1,5 @@
 use Rattle.std.proofs.Common.{◌≡◌, ℕ, ◌-◌, ◌+◌, List, length, take, refl, sym, ◌∙◌, ap, subst, arith, rules}
-use Rattle.trace_values.specs.Walk.{Within, Whole, walk}
-use Rattle.itm_grammar.specs.declared.partial.Partial.TheVariants.{Header}
-use Rattle.itm_grammar.specs.Rule.{rule}
+use Rattle.itm_codec.specs.Names.{Within, Whole, walk, Header, rule}
 use Rattle.itm_codec.specs.Reached.{reached}
 use Rattle.itm_codec.specs.Decoder.{partial_of}
 use Rattle.itm_codec.specs.Windows.{IsFrontOf}

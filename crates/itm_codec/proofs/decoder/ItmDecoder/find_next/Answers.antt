@@ -1,6 +1,5 @@
 use Rattle.std.proofs.Common.{ℕ, ◌+◌, List, take, refl, sym, ◌∙◌, ap, subst, arith}
-use Rattle.trace_values.specs.Walk.{Within}
-use Rattle.itm_grammar.specs.declared.partial.Partial.TheVariants.{Header}
+use Rattle.itm_codec.specs.Names.{Within, Header}
 use Rattle.itm_codec.specs.Reached.{reached}
 use Rattle.itm_codec.specs.Windows.{IsFrontOf}
 use Rattle.itm_codec.proofs.Looking.{ends, within, window_is}

@@ -1,7 +1,6 @@
 use Rattle.std.proofs.Common.{ℕ, ◌∙◌, replicate, refl, sym, ap, arith}
 use Rattle.std.proofs.lemmas.List.{length-replicate}
-use Rattle.trace_values.specs.Walk.{Within}
-use Rattle.itm_grammar.specs.declared.partial.Partial.TheVariants.{Header}
+use Rattle.itm_codec.specs.Names.{Within, Header}
 use Rattle.itm_grammar.proofs.Deciding.{counted_bytes}
 use Rattle.itm_codec.specs.Decoder.{partial_of}
 use Rattle.itm_codec.proofs.Syncs.{more_zeros, sync_ends}

@@ -1,9 +1,5 @@
 use Rattle.std.proofs.Common.{◌≡◌, ℕ, List, bit_and, sym, ◌∙◌, ap, subst, arith}
-use Rattle.trace_values.specs.Walk.{Within, walk}
-use Rattle.itm_grammar.specs.declared.partial.Partial.{Partial}
-use Rattle.itm_grammar.specs.declared.partial.Partial.TheVariants.{Header}
-use Rattle.itm_grammar.specs.Rule.{rule}
-use Rattle.itm_grammar.specs.Shortest.{bytes_of}
+use Rattle.itm_codec.specs.Names.{Within, walk, Partial, Header, rule, bytes_of}
 use Rattle.itm_codec.specs.Reached.{reached}
 use Rattle.itm_codec.proofs.Looking.{held, small}
 use Rattle.itm_codec.proofs.decoder.ItmDecoder.wait.Goals as goal

@@ -1,8 +1,6 @@
 use Rattle.std.proofs.Common.{take, ◌∙◌, ap, arith}
 use Rattle.std.proofs.Math.Nat.{mod-eq_of_lt}
-use Rattle.trace_values.specs.Walk.{walk}
-use Rattle.itm_grammar.specs.Rule.{rule}
-use Rattle.itm_grammar.specs.Shortest.{bytes_of}
+use Rattle.itm_codec.specs.Names.{walk, rule, bytes_of}
 use Rattle.itm_codec.specs.Decoder.{partial_of}
 use Rattle.itm_codec.proofs.Joining.{word_front}
 use Rattle.itm_codec.proofs.decoder.ItmDecoder.with_waiting.Goals as goal

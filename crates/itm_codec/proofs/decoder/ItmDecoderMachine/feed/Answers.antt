@@ -1,15 +1,7 @@
 use Rattle.std.proofs.Common.{arith, ℕ, ◌+◌, ◌++◌, [], ◌∷◌, refl, ◌≡◌, sym, ◌∙◌, ap, subst}
-use Rattle.trace_values.specs.declared.next.Next.TheVariants.{Go, End, Fail}
-use Rattle.trace_values.specs.Placed.{byte_at}
-use Rattle.trace_values.specs.Walk.{by_unit}
-use Rattle.trace_values.specs.Hunted.{Seeks}
+use Rattle.itm_codec.specs.Names.{Go, End, Fail, byte_at, by_unit, Seeks, Sync, Header, rule, count_of, Partial}
+use Rattle.itm_codec.specs.Names.{ItmPacket, Next}
 use Rattle.trace_values.proofs.Modes as laws
-use Rattle.itm_grammar.specs.declared.packet.ItmPacket.TheVariants.{Sync}
-use Rattle.itm_grammar.specs.declared.partial.Partial.TheVariants.{Header}
-use Rattle.itm_grammar.specs.Rule.{rule, count_of}
-use Rattle.itm_grammar.specs.declared.partial.Partial.{Partial}
-use Rattle.itm_grammar.specs.declared.packet.ItmPacket.{ItmPacket}
-use Rattle.trace_values.specs.declared.next.Next.{Next}
 use Rattle.itm_codec.specs.declared.decoder.ItmDecoder.{ItmDecoder}
 use Rattle.itm_codec.specs.Decoder.{partial_of}
 use Rattle.itm_grammar.proofs.Counting.{counts}

@@ -1,6 +1,5 @@
 use Rattle.std.proofs.Common.{◌≡◌, ℕ, ◌≤◌, ◌⊎◌, List, All, take, sym, ◌∙◌, ap, subst, arith}
-use Rattle.trace_values.specs.Placed.{Placed, units_of}
-use Rattle.itm_grammar.specs.Rule.{count_of}
+use Rattle.itm_codec.specs.Names.{Placed, units_of, count_of}
 use Rattle.itm_codec.specs.declared.decoder.ItmDecoder.{ItmDecoder}
 use Rattle.itm_codec.specs.Reading.{rest_in}
 use Rattle.itm_codec.specs.Decoder.{Stands, partial_of, is_hunter, held_of}

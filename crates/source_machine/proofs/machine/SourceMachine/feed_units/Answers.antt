@@ -1,15 +1,7 @@
 use Rattle.std.proofs.Common.{ap, subst, sym, ◌∙◌, List, [], ◌∷◌, ◌++◌, append-nil, Bool}
-use Rattle.trace_values.specs.Placed.{Placed, byte_at}
-use Rattle.trace_values.specs.Stream.{Stream, Grows}
-use Rattle.itm_grammar.specs.declared.packet.ItmPacket.{ItmPacket}
-use Rattle.itm_codec.specs.Reading.{packets_in}
-use Rattle.itm_codec.specs.Decoder.{is_hunter}
-use Rattle.stp_grammar.specs.declared.item.StpItem.{StpItem}
-use Rattle.stp_grammar.specs.declared.packet.Order.{Order}
-use Rattle.stp_codec.specs.Reading.{items_at}
-use Rattle.stp_codec.specs.Decoder.{order_of, is_hunter as is_stp_hunter}
-use Rattle.source_events.specs.declared.packet.Packet.TheVariants.{Itm, Stp}
-use Rattle.source_events.specs.Packets.{stream_as}
+use Rattle.source_machine.specs.Names.{Placed, byte_at, Stream, Grows, ItmPacket, packets_in, is_hunter, StpItem, Order}
+use Rattle.source_machine.specs.Names.{items_at, order_of, Itm, Stp, stream_as}
+use Rattle.stp_codec.specs.Decoder.{is_hunter as is_stp_hunter}
 use Rattle.source_machine.specs.declared.machine.SourceMachine.{SourceMachine}
 use Rattle.source_machine.specs.declared.machine.SourceMachine.TheVariants.{Itm as ItmMachine, Stp as StpMachine}
 use Rattle.source_machine.specs.Units.{reading_on, reads_on, StandsOn, TakesUnits, kind_of}

@@ -1,10 +1,5 @@
 use Rattle.std.proofs.Common.{ap, sym, ◌∙◌, List, Bool}
-use Rattle.trace_values.specs.Placed.{Placed}
-use Rattle.stp_grammar.specs.declared.packet.Order.{Order}
-use Rattle.stp_codec.specs.Reading.{items_at}
-use Rattle.source_events.specs.declared.packet.Packet.TheVariants.{Itm, Stp}
-use Rattle.source_events.specs.Packets.{stream_as}
-use Rattle.itm_codec.specs.Reading.{packets_in}
+use Rattle.source_machine.specs.Names.{Placed, Order, items_at, Itm, Stp, stream_as, packets_in}
 use Rattle.source_machine.specs.Units.{reads_on}
 use Rattle.source_machine.proofs.machine.SourceMachine.hunting_again.Goals as goal
 

@@ -1,19 +1,12 @@
 use Rattle.std.proofs.Common.{◌≡◌, ap, sym, ◌∙◌, List, Bool}
-use Rattle.trace_values.specs.declared.reading_modes.PacketsMode.{PacketsMode}
-use Rattle.trace_values.specs.Placed.{Placed}
-use Rattle.stp_grammar.specs.declared.packet.Order.{Order}
-use Rattle.stp_codec.specs.Reading.{items_in, items_at}
-use Rattle.stp_codec.specs.Decoder.{order_of, is_hunter}
-use Rattle.stp_codec.specs.declared.decoder.StpDecoder.{StpDecoder}
-use Rattle.source_events.specs.declared.packet.Packet.TheVariants.{Stp}
-use Rattle.source_events.specs.declared.plan.SourceKind.{SourceKind}
+use Rattle.source_machine.specs.Names.{PacketsMode, Placed, Order, items_in, items_at, order_of, StpDecoder, Stp}
+use Rattle.source_machine.specs.Names.{SourceKind, stream_as, packets_hunt}
+use Rattle.stp_codec.specs.Decoder.{is_hunter}
 use Rattle.source_events.specs.declared.plan.SourceKind.TheVariants.{Stp as StpKind}
-use Rattle.source_events.specs.Packets.{stream_as}
 use Rattle.source_machine.specs.declared.machine.SourceMachine.TheVariants.{Stp as StpMachine}
 use Rattle.source_machine.specs.Machine.{reading_of, reading_by}
 use Rattle.source_machine.specs.Units.{reads_by}
 use Rattle.trace_values.specs.declared.reading_modes.PacketsMode.TheVariants.{Hunt, Aligned}
-use Rattle.trace_values.specs.ReadingModes.{packets_hunt}
 use Rattle.source_machine.proofs.machine.SourceMachine.new.Goals as goal
 
 stp_reads : (d : StpDecoder) (kind : SourceKind) (packets mode : PacketsMode) (order : Order) → order_of d ≡ order →

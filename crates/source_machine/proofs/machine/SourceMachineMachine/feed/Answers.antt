@@ -1,12 +1,6 @@
 use Rattle.std.proofs.Common.{ap, subst, sym, ◌∙◌, List, [], ◌∷◌, ◌++◌}
-use Rattle.trace_values.specs.Placed.{Placed, byte_at}
-use Rattle.trace_values.specs.Stream.{Stream, Grows}
-use Rattle.itm_grammar.specs.declared.packet.ItmPacket.{ItmPacket}
-use Rattle.itm_codec.specs.Reading.{packets_in}
-use Rattle.itm_codec.specs.Decoder.{is_hunter}
-use Rattle.stp_grammar.specs.declared.item.StpItem.{StpItem}
-use Rattle.source_events.specs.declared.packet.Packet.TheVariants.{Itm, Stp}
-use Rattle.source_events.specs.Packets.{stream_as}
+use Rattle.source_machine.specs.Names.{Placed, byte_at, Stream, Grows, ItmPacket, packets_in, is_hunter, StpItem, Itm}
+use Rattle.source_machine.specs.Names.{Stp, stream_as}
 use Rattle.source_machine.specs.declared.machine.SourceMachine.{SourceMachine}
 use Rattle.source_machine.specs.Machine.{reading_of, Stands}
 use Rattle.source_machine.specs.SeenLaws.{grows_as}

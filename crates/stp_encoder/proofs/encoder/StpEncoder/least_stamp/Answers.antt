@@ -1,6 +1,5 @@
 use Rattle.std.proofs.Common.{◌≡◌, ℕ, [], ◌∷◌, ◌∙◌, ap, subst, Bool, cond, arith}
-use Rattle.trace_clock.specs.GrayCode.{gray_of}
-use Rattle.trace_clock.specs.LastWord.{sized, IsLeast}
+use Rattle.stp_encoder.specs.Names.{gray_of, sized, IsLeast}
 use Rattle.stp_encoder.specs.Packets.{shortest_stamp}
 use Rattle.stp_encoder.proofs.Least.{least_is}
 use Rattle.stp_encoder.proofs.encoder.StpEncoder.least_stamp.Goals as goal

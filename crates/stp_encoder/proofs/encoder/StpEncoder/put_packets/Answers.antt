@@ -1,8 +1,5 @@
 use Rattle.std.proofs.Common.{[], ◌∷◌, ◌++◌, subst, Option}
-use Rattle.stp_grammar.specs.declared.packet.Order.{Order}
-use Rattle.stp_grammar.specs.declared.packet.StpPacket.{StpPacket}
-use Rattle.stp_grammar.specs.declared.item.Place.{Place}
-use Rattle.stp_grammar.specs.Shortest.{short}
+use Rattle.stp_encoder.specs.Names.{Order, StpPacket, Place, short}
 use Rattle.stp_encoder.specs.Fitting.{item_place}
 use Rattle.stp_encoder.specs.Packets.{telling_place, own_packet}
 use Rattle.stp_encoder.specs.Bytes.{spelled}

@@ -1,10 +1,7 @@
 use Rattle.std.proofs.Common.{◌≡◌, List, ◌++◌, ◌∙◌, ap, subst, sym, Option}
 use Rattle.std.specs.Option.{option_to_list}
-use Rattle.stp_grammar.specs.declared.packet.Order.{Order}
-use Rattle.stp_grammar.specs.declared.packet.Row.TheVariants.{Master8, Master16, Channel8, Channel16}
-use Rattle.stp_grammar.specs.declared.packet.StpPacket.{StpPacket}
-use Rattle.stp_grammar.specs.declared.item.Place.{Place}
-use Rattle.stp_grammar.specs.Attribution.{master_of, channel_of}
+use Rattle.stp_encoder.specs.Names.{Order, Master8, Master16, Channel8, Channel16, StpPacket, Place, master_of}
+use Rattle.stp_encoder.specs.Names.{channel_of}
 use Rattle.stp_encoder.specs.Packets.{telling, telling_place}
 use Rattle.stp_encoder.specs.Bytes.{spelled}
 use Rattle.stp_encoder.specs.Encoder.{IsAt}

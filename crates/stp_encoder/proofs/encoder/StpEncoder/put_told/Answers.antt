@@ -1,6 +1,6 @@
 use Rattle.std.proofs.Common.{◌++◌, sym, subst, Option}
 use Rattle.std.specs.Option.{option_to_list}
-use Rattle.stp_grammar.specs.declared.packet.StpPacket.{StpPacket}
+use Rattle.stp_encoder.specs.Names.{StpPacket}
 use Rattle.stp_encoder.specs.Bytes.{spelled}
 use Rattle.stp_encoder.specs.Encoder.{IsAt}
 use Rattle.stp_encoder.proofs.Standing.{at_one}

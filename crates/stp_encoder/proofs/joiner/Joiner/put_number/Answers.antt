@@ -1,6 +1,5 @@
 use Rattle.std.proofs.Common.{◌≡◌, ℕ, [], ◌∷◌, ◌++◌, take, sym, ◌∙◌, ap, subst, arith}
-use Rattle.trace_clock.specs.LastWord.{nibble_at}
-use Rattle.stp_grammar.specs.Shortest.{nibbles_of_number}
+use Rattle.stp_encoder.specs.Names.{nibble_at, nibbles_of_number}
 use Rattle.stp_encoder.specs.Joined.{Joins}
 use Rattle.stp_encoder.proofs.Digits.{place_in, number_more, number_all, more_taken, all_taken}
 use Rattle.stp_encoder.proofs.joiner.Joiner.put_number.Goals as goal

@@ -1,5 +1,5 @@
 use Rattle.std.proofs.Common.{◌≡◌, ℕ, ◌+◌, List, ◌++◌, take}
-use Rattle.stp_grammar.specs.Shortest.{nibbles_of_number}
+use Rattle.stp_encoder.specs.Names.{nibbles_of_number}
 use Rattle.stp_encoder.specs.Joined.{Joins, count_in}
 use Rattle.stp_encoder.proofs.joiner.Joiner.put_number.Given as goal
 
