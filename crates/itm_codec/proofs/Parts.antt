@@ -1,15 +1,15 @@
 -- What a decoder says of a part that it took.
-use Rattle.std.proofs.Common.{◌≡◌, ℕ, ◌+◌, ◌<◌, ◌≤◌, List, [], ◌∷◌, ◌++◌, length, take, IfSome, Option, Some, None, Bool, true, sym, ◌∙◌, ap, subst, arith}
+use Rattle.std.proofs.Common.{◌≡◌, ℕ, ◌+◌, ◌<◌, ◌≤◌, List, [], ◌∷◌, ◌++◌, length, take, IfSome, Option, Some, None, Bool, true, refl, sym, ◌∙◌, ap, subst, arith}
 use Rattle.std.proofs.lemmas.List.{length-take-le}
 use Rattle.itm_codec.specs.Names.{Mode, Placed, units_of, Within, Whole, by_unit, walk, StandsIn, is_locked, skipped_of}
-use Rattle.itm_codec.specs.Names.{ItmPacket, Sync, Partial, Header, rule, count_of, Found, Ends, Waits, Unknown}
-use Rattle.itm_codec.specs.Names.{TakenAtOnce, Passes, item_at}
+use Rattle.itm_codec.specs.Names.{ItmPacket, Sync, Partial, Header, rule, count_of, IsProper, Found, Ends, Waits}
+use Rattle.itm_codec.specs.Names.{Unknown, TakenAtOnce, Passes, item_at}
 use Rattle.itm_grammar.proofs.Deciding.{counted_bytes}
 use Rattle.itm_codec.specs.declared.decoder.ItmDecoder.{ItmDecoder}
 use Rattle.itm_codec.specs.declared.decoder.ItmEnd.{ItmEnd}
 use Rattle.itm_codec.specs.Reading.{pattern, packets_in}
 use Rattle.itm_codec.specs.Decoder.{Stands, partial_of, is_hunter, is_live, held_of}
-use Rattle.itm_codec.specs.Parts.{EndsPart, Idles, Looked, Reads, Took}
+use Rattle.itm_codec.specs.Parts.{EndsPart, Idles, Looked, Reads, TakesPart, Took}
 use Rattle.itm_codec.proofs.Wholes.{cut_goes}
 
 few_by : (s t : Partial) (bytes : List ℕ) (packet : Option ItmPacket) → Reads s t bytes packet → count_of t ≤ count_of s + length bytes
@@ -42,23 +42,27 @@ idles old new mode live partial = (
   ap skipped_of mode,
 )
 
+-- the packet of a part is proper
+fits_by : (s t : Partial) (bytes : List ℕ) (packet : Option ItmPacket) → Reads s t bytes packet → IfSome packet IsProper
+fits_by s t bytes None r = tt
+fits_by s t bytes (Some p) r = r.2
+
+module _ (old new : ItmDecoder) (bytes : List ℕ) where
+  pub took_part : (x : Option (TakenAtOnce ItmPacket)) → is_live old ≡ true → Took old new bytes (length bytes) x → IfSome x (TakesPart old new bytes)
+  took_part None live t = tt
+  took_part (Some x) live t = record {
+    bytes = (t.part.1, t.part.2, t.part.3);
+    passes = λ u front last h e.
+        passes_by old new front last u x.item live t.part.0 t.mode t.live
+        (subst (λ (units : List ℕ). Reads (partial_of old) (partial_of new) units x.item) (sym e) t.part.4) h;
+    fits = fits_by (partial_of old) (partial_of new) (take x.bytes bytes) x.item t.part.4;
+    few =
+        let k = few_by (partial_of old) (partial_of new) (take x.bytes bytes) x.item t.part.4 in
+        let n = length-take-le x.bytes bytes t.part.2 in
+        omega (arith, k, n);
+  }
+
 module _ (old new : ItmDecoder) (bytes : List ℕ) (most : ℕ) where
-  pub took_few : (x : Option (TakenAtOnce ItmPacket)) → most ≤ length bytes → Took old new bytes most x →
-      IfSome x (λ x. held_of new ≤ held_of old + x.bytes)
-  took_few None l t = tt
-  took_few (Some x) l t = (
-      let k = few_by (partial_of old) (partial_of new) (take x.bytes bytes) x.item t.part.4 in
-      let m = t.part.2 in
-      let n : length (take x.bytes bytes) ≡ x.bytes = length-take-le x.bytes bytes (omega arith) in
-      omega (arith, k, n))
-
-  pub took_passes : (x : Option (TakenAtOnce ItmPacket)) → is_live old ≡ true → Took old new bytes most x → (u front : List Placed) (last : Placed) → Stands old u →
-      IfSome x (λ x. units_of (front ++ last ∷ []) ≡ take x.bytes bytes → Passes (packets_in (is_hunter old)) (Stands new) u front last (item_at last.place.half x.item))
-  took_passes None live t u front last h = tt
-  took_passes (Some x) live t u front last h = λ e.
-      passes_by old new front last u x.item live t.part.0 t.mode t.live
-      (subst (λ (units : List ℕ). Reads (partial_of old) (partial_of new) units x.item) (sym e) t.part.4) h
-
   pub took_none : (x : Option (TakenAtOnce ItmPacket)) → Took old new bytes most x → x ≡ None → Idles old new
   took_none None t e = idles old new t.mode t.live t.part
   took_none (Some x) t e = cc
@@ -72,10 +76,10 @@ module _ (old new : ItmDecoder) (bytes : List ℕ) (most : ℕ) where
   looked_ends Waits t end e = cc
   looked_ends Unknown t end e = cc
 
-  pub looked_idles : (x : Found ItmEnd) → Looked old new bytes most x → (end : ItmEnd) → x ≡ Ends end → Idles old new
-  looked_idles (Ends y) t end e = idles old new t.mode t.live t.part.2
-  looked_idles Waits t end e = cc
-  looked_idles Unknown t end e = cc
+  pub looked_idles : (x : Found ItmEnd) → Looked old new bytes most x → (x ≡ Waits → ⊥) → Idles old new
+  looked_idles (Ends y) t e = idles old new t.mode t.live t.part.2
+  looked_idles Waits t e = absurd (e refl)
+  looked_idles Unknown t e = idles old new t.mode t.live t.part
 
   pub looked_waits : (x : Found ItmEnd) → most ≤ length bytes → Looked old new bytes most x → x ≡ Waits →
       (0 < most) × (held_of new ≤ held_of old + most)
@@ -94,11 +98,6 @@ module _ (old new : ItmDecoder) (bytes : List ℕ) (most : ℕ) where
       passes_by old new front last u None live t.part.0 t.mode t.live (ap (walk rule (partial_of old)) e ∙ t.part.2) h
   looked_passes (Ends y) live t u front last h w e = cc
   looked_passes Unknown live t u front last h w e = cc
-
-  pub looked_unknown : (x : Found ItmEnd) → Looked old new bytes most x → x ≡ Unknown → Idles old new
-  looked_unknown Unknown t e = idles old new t.mode t.live t.part
-  looked_unknown (Ends y) t e = cc
-  looked_unknown Waits t e = cc
 
 -- what the end of a packet gives
 pub ended_passes : (old new : ItmDecoder) (bytes : List ℕ) (end : ItmEnd) → is_live old ≡ true → EndsPart old bytes end → new.mode ≡ old.mode → new.live ≡ old.live →

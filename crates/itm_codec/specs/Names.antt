@@ -13,8 +13,8 @@ pub use Rattle.trace_values.specs.Hunted.{Seeks, hunt, hunted_by, pattern_of}
 pub use Rattle.trace_values.specs.Moded.{StandsIn, hunts, is_counted, is_locked, skipped_of, stream_in}
 pub use Rattle.trace_values.specs.Placed.{Place, Placed, byte_at, units_of}
 pub use Rattle.trace_values.specs.Reading.{Progress, progress}
-pub use Rattle.trace_values.specs.Stream.{Grows, Kept, LocksAfter, Notice, StepFits, Stream, goes_on, shown}
-pub use Rattle.trace_values.specs.Taking.{Passes, item_at}
+pub use Rattle.trace_values.specs.Stream.{Grows, HasRoom, Kept, Notice, Stream, Tells, shown}
+pub use Rattle.trace_values.specs.Taking.{Passes, TakesNone, item_at}
 pub use Rattle.trace_values.specs.Walk.{Broken, Decides, Walked, Whole, Within, after, by_unit, walk}
 pub use Rattle.trace_values.specs.declared.limits.TheConstants.{COUNT_ROOM}
 pub use Rattle.trace_values.specs.declared.mode.Mode.{Mode}

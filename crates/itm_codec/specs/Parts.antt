@@ -1,10 +1,11 @@
 -- What a decoder does that takes a part of bytes.
-use Rattle.std.specs.Prelude.{◌≡◌, ◌<◌, ◌≤◌, ℕ, List, take, Option, None, Some, true}
+use Rattle.std.specs.Prelude.{◌≡◌, ◌+◌, ◌<◌, ◌≤◌, ℕ, List, [], ◌∷◌, ◌++◌, length, take, Option, None, Some, IfSome, true}
 use Rattle.itm_codec.specs.Names.{Found, Ends, Waits, Unknown, TakenAtOnce, Placed, Within, Whole, walk, ItmPacket}
-use Rattle.itm_codec.specs.Names.{Partial, Header, rule, IsProper}
+use Rattle.itm_codec.specs.Names.{Partial, Header, rule, IsProper, Passes, TakesNone, item_at, units_of}
 use Rattle.itm_codec.specs.declared.decoder.ItmDecoder.{ItmDecoder}
 use Rattle.itm_codec.specs.declared.decoder.ItmEnd.{ItmEnd}
-use Rattle.itm_codec.specs.Decoder.{Stands, partial_of, has_locked, held_of, skipped_by}
+use Rattle.itm_codec.specs.Reading.{packets_in}
+use Rattle.itm_codec.specs.Decoder.{Stands, partial_of, has_locked, held_of, is_hunter, is_live, skipped_by}
 
 -- these bytes leave t unfinished of s, or end it as this packet
 abbrev pub Reads : Partial → Partial → List ℕ → Option ItmPacket → Type 0
@@ -19,16 +20,29 @@ TookPart old new bytes most (Some part) =
     × Reads (partial_of old) (partial_of new) (take part.bytes bytes) part.item
 
 -- and it stayed in its mode, and as live
-pub record Took (old new : ItmDecoder) (bytes : List ℕ) (most : ℕ) (taken : Option (TakenAtOnce ItmPacket)) : Type 0 where
+pub record Took (old new : ItmDecoder) (bytes : List ℕ) (most : ℕ) (taken : Option (TakenAtOnce ItmPacket))
+    : Type 0 where
   pub mode : new.mode ≡ old.mode
   pub live : new.live ≡ old.live
   pub part : TookPart old new bytes most taken
 
 -- Nothing was taken.
 abbrev pub Idles : ItmDecoder → ItmDecoder → Type 0
-Idles old new =
-    ((u : List Placed) → Stands old u → Stands new u)
-    × (held_of new ≡ held_of old) × (skipped_by new ≡ skipped_by old)
+Idles = TakesNone Stands held_of skipped_by
+
+-- It has the same reading, is live, and has skipped as many bytes.
+abbrev pub Stays : ItmDecoder → ItmDecoder → Type 0
+Stays old new =
+    (packets_in (is_hunter new) ≡ packets_in (is_hunter old)) × (is_live new ≡ true) × (skipped_by new ≡ skipped_by old)
+
+-- Of these bytes this was taken.
+pub record TakesPart (old new : ItmDecoder) (ahead : List ℕ) (taken : TakenAtOnce ItmPacket) : Type 0 where
+  pub bytes : (0 < taken.bytes) × (taken.bytes ≤ length ahead) × (taken.half ≡ 0)
+  pub passes : (u front : List Placed) (last : Placed) → Stands old u →
+      units_of (front ++ last ∷ []) ≡ take taken.bytes ahead →
+      Passes (packets_in (is_hunter old)) (Stands new) u front last (item_at last.place.half taken.item)
+  pub fits : IfSome taken.item IsProper
+  pub few : held_of new ≤ held_of old + taken.bytes
 
 -- The front of these bytes ends the unfinished packet as this one, of which no more is read than the bytes that wait.
 pub record EndsPart (decoder : ItmDecoder) (bytes : List ℕ) (end : ItmEnd) : Type 0 where

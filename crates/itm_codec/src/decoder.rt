@@ -55,13 +55,13 @@ pub struct ItmDecoder {
 }
 
 impl ItmDecoder {
-    ghost use Rattle.std.specs.Prelude.{[], ◌∷◌, ◌++◌, false, ℕ, ◌+◌, ◌*◌, List, IfSome, None, Some};
+    ghost use Rattle.std.specs.Prelude.{[], ◌∷◌, ◌++◌, false, ◌+◌, ◌*◌, List, IfSome, None, Some};
     ghost use Rattle.std.specs.Int.{w64, to_le_bytes};
-    ghost use Rattle.itm_codec.specs.Names.{Placed, units_of, Header, Passes, item_at, Ends, Waits, Unknown};
+    ghost use Rattle.itm_codec.specs.Names.{Placed, units_of, Header, Passes, item_at, Ends, Waits};
     ghost use Rattle.itm_codec.specs.Reading.{packets_in};
     ghost use Rattle.itm_codec.specs.Decoder.{Stands, partial_of, is_hunter, is_live, has_locked, held_of, skipped_by};
     ghost use Rattle.itm_codec.specs.Decoder.{waiting_in};
-    ghost use Rattle.itm_codec.specs.Parts.{EndsPart, Idles, Looked, Took};
+    ghost use Rattle.itm_codec.specs.Parts.{EndsPart, Idles, Looked, Stays, TakesPart, Took};
     ghost use Rattle.itm_codec.specs.Windows.{IsFrontOf};
 
     /// A decoder of bytes that begin with a packet.
@@ -132,16 +132,13 @@ impl ItmDecoder {
     pub fn find_part(&mut self, ahead: &[u8], count: usize, is_piece: bool) -> Found<ItmEnd>
         requires live { is_live self.old ≡ true }
         requires ahead { count + AHEAD ≤ length ahead.now }
-        ensures same { packets_in (is_hunter self.new) ≡ packets_in (is_hunter self.old) }
-        ensures live { is_live self.new ≡ true }
-        ensures skipped { skipped_by self.new ≡ skipped_by self.old }
+        ensures stays { Stays self.old self.new }
         ensures ends { (end : ItmEnd) → result ≡ Ends end → EndsPart self.new ahead.now end × (end.bytes ≤ count) }
-        ensures idles { (end : ItmEnd) → result ≡ Ends end → Idles self.old self.new }
+        ensures idles { (result ≡ Waits → ⊥) → Idles self.old self.new }
         ensures waits { result ≡ Waits → (0 < count) × (held_of self.new ≤ held_of self.old + count) }
         ensures passes { (u front : List Placed) (last : Placed) → Stands self.old u → result ≡ Waits →
             units_of (front ++ last ∷ []) ≡ take count ahead.now →
             Passes (packets_in (is_hunter self.old)) (Stands self.new) u front last None }
-        ensures unknown { result ≡ Unknown → Idles self.old self.new }
     {
         self.find_at_once(ahead, count, is_piece)
     }
@@ -242,13 +239,12 @@ impl ItmDecoder {
         requires live { is_live self.old ≡ true }
         requires ends { EndsPart self.old _ahead.now end }
         ensures taken { result ≡ record { bytes = end.bytes; half = 0; item = Some end.packet } }
-        ensures same { packets_in (is_hunter self.new) ≡ packets_in (is_hunter self.old) }
-        ensures live { is_live self.new ≡ true }
+        ensures stays { Stays self.old self.new }
         ensures passes { (u front : List Placed) (last : Placed) → Stands self.old u →
             units_of (front ++ last ∷ []) ≡ take end.bytes _ahead.now →
             Passes (packets_in (is_hunter self.old)) (Stands self.new) u front last
             (item_at last.place.half (Some end.packet)) }
-        ensures few { (held_of self.new ≡ 0) × (skipped_by self.new ≡ skipped_by self.old) }
+        ensures few { held_of self.new ≡ 0 }
     {
         self.forget();
         TakenAtOnce {
@@ -275,16 +271,8 @@ impl ItmDecoder {
     pub fn take_part(&mut self, bytes: &[u8]) -> Option<TakenAtOnce<ItmPacket>>
         requires live { is_live self.old ≡ true }
         requires room { held_of self.old + length bytes.now ≤ COUNT_ROOM }
-        ensures same { packets_in (is_hunter self.new) ≡ packets_in (is_hunter self.old) }
-        ensures live { is_live self.new ≡ true }
-        ensures bytes { IfSome result (λ x. (0 < x.bytes) × (x.bytes ≤ length bytes.now) × (x.half ≡ 0)) }
-        ensures passes { (u front : List Placed) (last : Placed) → Stands self.old u →
-            IfSome result (λ x. units_of (front ++ last ∷ []) ≡ take x.bytes bytes.now →
-            Passes (packets_in (is_hunter self.old)) (Stands self.new) u front last
-            (item_at last.place.half x.item)) }
-        ensures fits { IfSome result (λ x. IfSome x.item IsProper) }
-        ensures few { IfSome result (λ x. held_of self.new ≤ held_of self.old + x.bytes) }
-        ensures skipped { skipped_by self.new ≡ skipped_by self.old }
+        ensures stays { Stays self.old self.new }
+        ensures takes { IfSome result (TakesPart self.old self.new bytes.now) }
         ensures none { result ≡ None → Idles self.old self.new }
     {
         self.take_slowly(bytes)
@@ -367,8 +355,8 @@ impl ItmDecoder {
     }
 }
 
-/// What the first `count` of these bytes are to a packet whose first byte is the first of them. What the bytes after the
-/// first `count` are is of no account.
+/// What the first `count` of these bytes are to a packet whose first byte is the first of them. What the bytes after
+/// the first `count` are is of no account.
 #[inline(always)]
 fn look_in(window: &[u8; WINDOW], count: usize) -> Found<ItmEnd>
     ensures { IsSeen window.now count result }
@@ -391,8 +379,8 @@ fn look_in(window: &[u8; WINDOW], count: usize) -> Found<ItmEnd>
 
 impl Machine for ItmDecoder {
     ghost use Rattle.std.specs.Prelude.{refl, ◌+◌, ◌≤◌, ◌⊎◌, ◌∷◌, ◌++◌, [], List, All, take};
-    ghost use Rattle.itm_codec.specs.Names.{Placed, byte_at, units_of, Grows, StepFits, LocksAfter, goes_on, rule};
-    ghost use Rattle.itm_codec.specs.Names.{count_of, Sync, Header, by_unit};
+    ghost use Rattle.itm_codec.specs.Names.{Placed, byte_at, units_of, Grows, HasRoom, Tells, rule, count_of, Sync};
+    ghost use Rattle.itm_codec.specs.Names.{Header, by_unit};
     ghost use Rattle.itm_codec.specs.Answers.{AnswersBy};
     ghost use Rattle.itm_codec.specs.Reading.{pattern, packets_in, rest_in};
     ghost use Rattle.itm_codec.specs.Decoder.{Stands, partial_of, is_hunter, is_live, has_locked, held_of, skipped_by};
@@ -441,16 +429,13 @@ impl Machine for ItmDecoder {
     #[inline]
     fn feed(&mut self, at: u64, byte: u8) -> Step<ItmPacket>
         requires live { is_live self.old ≡ true }
-        requires room { held_of self.old ≤ COUNT_ROOM }
-        requires count { skipped_by self.old ≤ COUNT_ROOM }
+        requires room { HasRoom (held_of self.old) (skipped_by self.old) }
         ensures same { packets_in (is_hunter self.new) ≡ packets_in (is_hunter self.old) }
         ensures list { (u : List Placed) → Stands self.old u → Stands self.new (u ++ byte_at at byte ∷ []) }
         ensures step { (u : List Placed) → Stands self.old u →
             Grows (packets_in (is_hunter self.old) u)
             (packets_in (is_hunter self.old) (u ++ byte_at at byte ∷ [])) at result }
-        ensures live { is_live self.new ≡ goes_on result }
-        ensures lock { LocksAfter (skipped_by self.new) result }
-        ensures fits { StepFits IsProper result }
+        ensures tells { Tells (is_live self.new) (skipped_by self.new) IsProper result }
         ensures few { held_of self.new + skipped_by self.new ≤ held_of self.old + skipped_by self.old + 2 }
         ensures grammar { (u : List Placed) → Stands self.old u → has_locked self.old ≡ true →
             AnswersBy result at (rest_in (is_hunter self.old) u ++ byte_at at byte ∷ []) }

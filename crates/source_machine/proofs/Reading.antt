@@ -13,8 +13,7 @@ pub itm_same : (old new : ItmDecoder) → packets_in (itm.is_hunter new) ≡ pac
 itm_same old new e = ap (λ (r : List Placed → Stream ItmPacket). λ (u : List Placed). stream_as ItmKind (r u)) e
 
 -- an STP source while its decoder's order and mode are the same
-pub stp_same : (old new : StpDecoder) → (stp.order_of new ≡ stp.order_of old) × (stp.is_hunter new ≡ stp.is_hunter old) →
-    reading_of (Stp new) ≡ reading_of (Stp old)
+pub stp_same : (old new : StpDecoder) → stp.Stays old new → reading_of (Stp new) ≡ reading_of (Stp old)
 stp_same old new e =
     ap (λ (o : Order). λ (u : List Placed). stream_as StpKind (items_in o (stp.is_hunter new) u)) e.0
     ∙ ap (λ (h : Bool). λ (u : List Placed). stream_as StpKind (items_in (stp.order_of old) h u)) e.1

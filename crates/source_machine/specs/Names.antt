@@ -23,9 +23,9 @@ pub use Rattle.stp_grammar.specs.declared.partial.Partial.TheVariants.{Start}
 pub use Rattle.trace_values.specs.Nibbles.{high_of, low_of}
 pub use Rattle.trace_values.specs.Placed.{Place, Placed, byte_at, units_of}
 pub use Rattle.trace_values.specs.ReadingModes.{packets_hunt}
-pub use Rattle.trace_values.specs.Stream.{AllAt, Grows, Holds, HuntBy, LocksAfter, Rises, Said, Settled, Shows}
-pub use Rattle.trace_values.specs.Stream.{StepFits, Stream, fault_by, given_by, goes_on}
-pub use Rattle.trace_values.specs.Taking.{Passes, item_at}
+pub use Rattle.trace_values.specs.Stream.{AllAt, Grows, HasRoom, Holds, HuntBy, Rises, Said, Settled, Shows, Stream}
+pub use Rattle.trace_values.specs.Stream.{Tells, fault_by, given_by}
+pub use Rattle.trace_values.specs.Taking.{Passes, TakesNone, item_at}
 pub use Rattle.trace_values.specs.Walk.{by_unit}
 pub use Rattle.trace_values.specs.declared.limits.TheConstants.{COUNT_ROOM}
 pub use Rattle.trace_values.specs.declared.reading_modes.PacketsMode.{PacketsMode}

@@ -2,8 +2,8 @@
 
 ghost use Rattle.std.specs.Prelude.{◌≡◌, ◌+◌, ◌*◌, ◌<◌, ◌≤◌, ◌++◌, ◌∷◌, [], ℕ, List, IfSome, length, take, true, false};
 ghost use Rattle.std.specs.Prelude.{None, is_none};
-ghost use Rattle.source_machine.specs.Names.{PacketFits, Packet, SourceKind, Placed, byte_at, Stream, Grows};
-ghost use Rattle.source_machine.specs.Names.{LocksAfter, Rises, Settled, Shows, StepFits, goes_on, item_at, COUNT_ROOM};
+ghost use Rattle.source_machine.specs.Names.{PacketFits, Packet, SourceKind, Placed, byte_at, Stream, Grows, HasRoom};
+ghost use Rattle.source_machine.specs.Names.{Rises, Settled, Shows, TakesNone, Tells, item_at, COUNT_ROOM};
 ghost use Rattle.source_machine.specs.Finding.{PassesOver, ToldFits, told_by, told_in};
 ghost use Rattle.source_machine.specs.declared.machine.TheConstants.{AHEAD};
 ghost use Rattle.trace_values.specs.declared.taking.Found.TheVariants.{Ends, Waits, Unknown};
@@ -65,14 +65,12 @@ pub trait Finds: Machine {
             PassesOver (reads self.old) (Self.stands self.old) (Self.stands self.new) (take count ahead.now) None }
         ensures few { result ≡ Waits → (0 < count) × (Self.held_units self.new + Self.skipped_units self.new ≤
             Self.held_units self.old + Self.skipped_units self.old + 2 * count) }
-        ensures list { (u : List Placed) → (result ≡ Waits → ⊥) → Self.stands self.old u → Self.stands self.new u }
-        ensures idles { (result ≡ Waits → ⊥) → (Self.held_units self.new ≡ Self.held_units self.old)
-            × (Self.skipped_units self.new ≡ Self.skipped_units self.old) };
+        ensures idles { (result ≡ Waits → ⊥) →
+            TakesNone Self.stands Self.held_units Self.skipped_units self.old self.new };
 
     /// Takes the packet that `find` found in these bytes, up to the one in which it ends, with all of that byte.
     fn end(&mut self, ahead: &[u8], parts: Self::Parts) -> TakenAtOnce<Told>
         requires live { Self.live self.old ≡ true }
-        requires room { Self.skipped_units self.old ≤ COUNT_ROOM }
         requires ends { ends self.old ahead.now parts }
         ensures same { reads self.new ≡ reads self.old }
         ensures live { Self.live self.new ≡ true }
@@ -98,22 +96,18 @@ pub trait Finds: Machine {
         ensures fits { IfSome result (λ taken. IfSome taken.item PacketFits) }
         ensures few { IfSome result (λ taken. Self.held_units self.new + Self.skipped_units self.new ≤
             Self.held_units self.old + Self.skipped_units self.old + 2 * taken.bytes) }
-        ensures list { (u : List Placed) → result ≡ None → Self.stands self.old u → Self.stands self.new u }
-        ensures idles { result ≡ None → (Self.held_units self.new ≡ Self.held_units self.old)
-            × (Self.skipped_units self.new ≡ Self.skipped_units self.old) };
+        ensures none { result ≡ None →
+            TakesNone Self.stands Self.held_units Self.skipped_units self.old self.new };
 
     /// Takes the next byte, as `feed` does, with its item as a packet.
     fn step(&mut self, at: u64, byte: u8) -> Step<Packet>
         requires live { Self.live self.old ≡ true }
-        requires room { Self.held_units self.old ≤ COUNT_ROOM }
-        requires count { Self.skipped_units self.old ≤ COUNT_ROOM }
+        requires room { HasRoom (Self.held_units self.old) (Self.skipped_units self.old) }
         ensures same { reads self.new ≡ reads self.old }
         ensures list { (u : List Placed) → Self.stands self.old u → Self.stands self.new (u ++ byte_at at byte ∷ []) }
         ensures step { (u : List Placed) → Self.stands self.old u →
             Grows (reads self.old u) (reads self.old (u ++ byte_at at byte ∷ [])) at result }
-        ensures live { Self.live self.new ≡ goes_on result }
-        ensures lock { LocksAfter (Self.skipped_units self.new) result }
-        ensures fits { StepFits PacketFits result }
+        ensures tells { Tells (Self.live self.new) (Self.skipped_units self.new) PacketFits result }
         ensures few { Self.held_units self.new + Self.skipped_units self.new ≤
             Self.held_units self.old + Self.skipped_units self.old + 2 };
 

@@ -2,7 +2,7 @@
 //! begin in the middle of a byte.
 
 ghost use Rattle.std.specs.Prelude.{◌≡◌, ◌+◌, ◌≤◌, List, [], true};
-ghost use Rattle.source_machine.specs.Names.{PacketFits, Placed, LocksAfter, StepFits, goes_on, COUNT_ROOM};
+ghost use Rattle.source_machine.specs.Names.{PacketFits, Placed, HasRoom, Tells};
 ghost use Rattle.source_machine.specs.Machine.{held_of, is_live, skipped_by};
 ghost use Rattle.source_machine.specs.Units.{StandsOn, TakesUnits, kind_of, reading_on, reads_on, units_from};
 
@@ -17,15 +17,12 @@ impl SourceMachine {
     /// for the units up to the fault's.
     pub fn feed_units(&mut self, at: u64, byte: u8) -> Step<Packet>
         requires live { is_live self.old ≡ true }
-        requires room { held_of self.old ≤ COUNT_ROOM }
-        requires count { skipped_by self.old ≤ COUNT_ROOM }
+        requires room { HasRoom (held_of self.old) (skipped_by self.old) }
         ensures kind { kind_of self.new ≡ kind_of self.old }
         ensures reads { reads_on self.new ≡ reads_on self.old }
         ensures mode { reading_on self.new ≡ reading_on self.old }
         ensures takes { (n : List Placed) → StandsOn self.old n → TakesUnits self.old self.new n at byte result }
-        ensures live { is_live self.new ≡ goes_on result }
-        ensures lock { LocksAfter (skipped_by self.new) result }
-        ensures fits { StepFits PacketFits result }
+        ensures tells { Tells (is_live self.new) (skipped_by self.new) PacketFits result }
         ensures few { held_of self.new + skipped_by self.new ≤ held_of self.old + skipped_by self.old + 2 }
     {
         match self {

@@ -44,7 +44,7 @@ pub use Rattle.source_machine.specs.declared.machine.TheConstants.{AHEAD}
 pub use Rattle.trace_values.specs.Cells.{source_id}
 pub use Rattle.trace_values.specs.Placed.{Place, Placed, byte_at, placed_from, units_of}
 pub use Rattle.trace_values.specs.Stream.{Grows, Rises, Said, Settled, StepFits, Stream, given_by}
-pub use Rattle.trace_values.specs.Taking.{given_after, item_at}
+pub use Rattle.trace_values.specs.Taking.{TakesNone, given_after, item_at}
 pub use Rattle.trace_values.specs.declared.cell.Cell.{Cell}
 pub use Rattle.trace_values.specs.declared.fault.Fault.{Fault}
 pub use Rattle.trace_values.specs.declared.fault.Reason.{Reason}

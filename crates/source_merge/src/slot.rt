@@ -4,7 +4,7 @@ ghost use Rattle.std.specs.Prelude.{◌≡◌, ◌+◌, ◌*◌, ◌<◌, ◌≤
 ghost use Rattle.std.specs.Prelude.{ℕ, IfSome};
 ghost use Rattle.source_merge.specs.Names.{PassesOver, ToldFits, told_by, told_in, AHEAD, Placed, given_after};
 ghost use Rattle.source_merge.specs.Names.{StepFits, given_by, item_at, COUNT_ROOM, told, lifted, EventFits};
-ghost use Rattle.source_merge.specs.Names.{PacketFits};
+ghost use Rattle.source_merge.specs.Names.{PacketFits, TakesNone};
 ghost use Rattle.trace_values.specs.declared.taking.Found.TheVariants.{Ends, Waits};
 ghost use Rattle.source_merge.specs.declared.slot.TheConstants.{FRAME_ROOM};
 ghost use Rattle.source_merge.specs.Counting.{total_of};
@@ -186,9 +186,8 @@ fn look<M: Finds, V: Receiver>(
         PassesOver (M.reads machine.old) (M.stands machine.old) (M.stands machine.new) (take count ahead.now) None }
     ensures few { result ≡ Waits → M.held_units machine.new + M.skipped_units machine.new ≤
         M.held_units machine.old + M.skipped_units machine.old + 2 * count }
-    ensures idles { (result ≡ Waits → ⊥) → ((u : List Placed) → M.stands machine.old u → M.stands machine.new u)
-        × (M.held_units machine.new ≡ M.held_units machine.old)
-        × (M.skipped_units machine.new ≡ M.skipped_units machine.old) }
+    ensures idles { (result ≡ Waits → ⊥) →
+        TakesNone M.stands M.held_units M.skipped_units machine.old machine.new }
 {
     if out.takes_told(source, machine.kind()) {
         machine.find(ahead, count, is_piece)

@@ -5,7 +5,7 @@ use Rattle.std.specs.Prelude.{is_none}
 use Rattle.trace_values.specs.declared.fault.Fault.{Fault}
 use Rattle.stp_codec.specs.Names.{Step, Quiet, Skipping, Item, Locked, Fault as Faulty, Placed, byte_at, nibbles_of}
 use Rattle.stp_codec.specs.Names.{low_of, high_of, by_unit, Grows, hunts, carried, Order, Async, StpItem, Partial}
-use Rattle.stp_codec.specs.Names.{Start, rule, count_of, attribute, Stands as Attributes}
+use Rattle.stp_codec.specs.Names.{Start, rule, count_of, attribute, goes_on, Stands as Attributes}
 use Rattle.trace_values.proofs.Modes as modes
 use Rattle.trace_values.proofs.NibbleModes as laws
 use Rattle.trace_values.proofs.Nibbling.{both, IsPair, nibbles_push}
@@ -31,6 +31,10 @@ IsGiven s = ((half : ℕ) × (v : StpItem) × (s ≡ Item half v)) ⊎ ((skipped
 pub ended : (s : Step StpItem) (p : Partial) (l : Bool) → IsGiven s → EndsItem s p l → (p ≡ Start) × (l ≡ true)
 ended s p l (inl g) e = subst (λ x. EndsItem x p l) g.2 e
 ended s p l (inr g) e = subst (λ x. EndsItem x p l) g.3 e
+
+pub given_goes : (s : Step StpItem) → IsGiven s → goes_on s ≡ true
+given_goes s (inl g) = ap goes_on g.2
+given_goes s (inr g) = ap goes_on g.3
 
 module _ (order order' : Order) (h h' : Bool) (u : List Placed) (at byte : ℕ) (same : (order' ≡ order) × (h' ≡ h)) (s t : Step StpItem)
     (low : Grows (items_at order h (nibbles_of u)) (items_at order h (nibbles_of u ++ low_of at byte ∷ [])) at s)

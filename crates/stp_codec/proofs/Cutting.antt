@@ -4,9 +4,9 @@ use Rattle.std.proofs.Common.{ap, subst, arith, Bool, true, false, cond}
 use Rattle.std.specs.Prelude.{◌==◌, nat_lt, nat_le}
 use Rattle.std.proofs.lemmas.Bool.Decides.{nat_tests}
 use Rattle.std.proofs.lemmas.List.{append-nil, take_all}
-use Rattle.stp_codec.specs.Names.{Next, Go, End, Whole, Within, after, walk, nibble_count, Order, Row, StpPacket}
-use Rattle.stp_codec.specs.Names.{Async, Plain, Stamped, Partial, Start, Second, Third, Run, Payload, Size, Word}
-use Rattle.stp_codec.specs.Names.{line_of, row_at, rule, after_payload, begin, opened, third_opening}
+use Rattle.stp_codec.specs.Names.{Next, Go, End, Whole, Within, after, walk, nibble_count, Order, Row, StpPacket, Async}
+use Rattle.stp_codec.specs.Names.{Plain, Stamped, Partial, Start, Second, Third, Run, Payload, Size, Word, line_of}
+use Rattle.stp_codec.specs.Names.{row_at, rule, after_payload, begin, opened, third_opening}
 use Rattle.trace_values.proofs.Walks.{walk_more}
 use Rattle.stp_grammar.specs.Opcodes.{Whole as Opened}
 use Rattle.stp_grammar.proofs.Digits.{stage_whole, stage_within, value_from}

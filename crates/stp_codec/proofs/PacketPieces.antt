@@ -3,16 +3,14 @@ use Rattle.std.proofs.Common.{◌≡◌, ℕ, zero, suc, ◌+◌, ◌-◌, ◌*�
 use Rattle.std.proofs.Common.{get_or, refl, sym, ◌∙◌, ap, subst, append_assoc, append-nil, arith, Option, None, Some}
 use Rattle.std.proofs.Common.{true, ◌⊎◌, inl, inr}
 use Rattle.std.proofs.lemmas.List.{take_more}
-use Rattle.stp_codec.specs.Names.{Mode, Placed, units_of, nibbles_of, low_of}
-use Rattle.stp_codec.specs.Names.{high_of, Whole, walk, Go, Stream, given_by, given_after}
-use Rattle.stp_codec.specs.Names.{hunts, is_locked, Order, StpPacket, StpItem, Attribution}
-use Rattle.stp_codec.specs.Names.{Partial, Start, rule, item_of, Stands as Attributes}
+use Rattle.stp_codec.specs.Names.{item_at, Mode, Placed, units_of, nibbles_of, low_of, high_of, Whole, walk, Go, Stream}
+use Rattle.stp_codec.specs.Names.{given_by, given_after, hunts, is_locked, Order, StpPacket, StpItem, Attribution}
+use Rattle.stp_codec.specs.Names.{Partial, Start, rule, item_of, Stands as Attributes, Passes}
 use Rattle.trace_values.proofs.Decorating.{item_step}
 use Rattle.trace_values.proofs.NibbleModes as laws
 use Rattle.trace_values.proofs.Placing.{units_push}
 use Rattle.stp_codec.specs.Reading.{items_at, items_in}
-use Rattle.stp_codec.specs.Wholes.{nibbles_in, between, Ends, left_of, item_in, IsQuiet}
-use Rattle.stp_codec.specs.Cuts.{Passes}
+use Rattle.stp_codec.specs.Wholes.{nibbles_in, between, Ends, left_of, IsQuiet}
 use Rattle.stp_codec.proofs.Between.{length-nibbles, low_nibble, high_nibble}
 use Rattle.stp_codec.proofs.Taking.{At}
 use Rattle.stp_codec.proofs.Passing.{passed}
@@ -28,7 +26,7 @@ take_nibbles (suc k) (b ∷ bytes) =
     ap (λ l. b % 16 ∷ (b / 16 % 16 ∷ l)) (take_nibbles k bytes)
     ∙ ap (λ n. take n (b % 16 ∷ (b / 16 % 16 ∷ nibbles_in bytes))) (let e : suc (suc (2 * k)) ≡ 2 * suc k = omega arith in e)
 
-given_item : (at half : ℕ) (o : Option StpItem) → given_by at (item_step half o) ≡ given_after at (item_in half o)
+given_item : (at half : ℕ) (o : Option StpItem) → given_by at (item_step half o) ≡ given_after at (item_at half o)
 given_item at half None = refl
 given_item at half (Some item) = refl
 
@@ -85,7 +83,7 @@ module _ (order : Order) (m : Mode) (a : Attribution) (locked : is_locked m ≡ 
 
   -- all bytes up to this one, where they are taken
   taken : (half : ℕ) → now all → (reading all).given ≡ (reading (nibbles_of u)).given ++ given_by at (item_step half o) → (reading all).fault ≡ None →
-      Passes (items_in order (hunts m)) (λ w. now (nibbles_of w)) u front last (item_in half o)
+      Passes (items_in order (hunts m)) (λ w. now (nibbles_of w)) u front last (item_at half o)
   taken half list given fault = record {
     list = list;
     given = given ∙ ap (λ l. (reading (nibbles_of u)).given ++ l) (given_item at half o);
@@ -115,7 +113,7 @@ module _ (order : Order) (m : Mode) (a : Attribution) (locked : is_locked m ≡ 
     -- a packet that ends in the low nibble of its last byte
     low_passes : walk (rule order) s (take (2 * k + 1) (nibbles_in piece)) ≡ Whole v →
         ((n : List Placed) → At order m true Start b n → now (n ++ high ∷ [])) → ((n : List Placed) → At order m true Start b n → IsQuiet (reading n) (reading (n ++ high ∷ []))) →
-        Passes (items_in order (hunts m)) (λ w. now (nibbles_of w)) u front last (item_in 0 o)
+        Passes (items_in order (hunts m)) (λ w. now (nibbles_of w)) u front last (item_at 0 o)
     low_passes e list quiet =
         let p = passed order m a locked v o b keeps is early (nibbles_of u) low s (ap (walk (rule order) s) low_units ∙ e) stands in
         let q = quiet low_end p.list in
@@ -124,7 +122,7 @@ module _ (order : Order) (m : Mode) (a : Attribution) (locked : is_locked m ≡ 
 
     -- and one that ends in the high one
     high_passes : walk (rule order) s (take (2 * k + 2) (nibbles_in piece)) ≡ Whole v → ((n : List Placed) → At order m true Start b n → now (n ++ [])) →
-        Passes (items_in order (hunts m)) (λ w. now (nibbles_of w)) u front last (item_in 1 o)
+        Passes (items_in order (hunts m)) (λ w. now (nibbles_of w)) u front last (item_at 1 o)
     high_passes e list =
         let p = passed order m a locked v o b keeps is (early ++ low ∷ []) (nibbles_of u) high s (ap (walk (rule order) s) high_units ∙ e) stands in
         let whole : List Placed = (nibbles_of u ++ (early ++ low ∷ [])) ++ high ∷ [] in
@@ -140,7 +138,7 @@ module _ (order : Order) (m : Mode) (a : Attribution) (locked : is_locked m ≡ 
   pub packet_passes : (n : ℕ) → 0 < n → n ≤ 2 * length piece → Ends order (Go s) (between (nibbles_in piece) 0 n) v → units_of (front ++ last ∷ []) ≡ take ((n - 1) / 2 + 1) piece →
       ((at : ℕ) (w : List Placed) → At order m true Start b w → now (w ++ left_of ((n - 1) % 2) at (get_or piece ((n - 1) / 2) 0))) →
       ((at : ℕ) (w : List Placed) → At order m true Start b w → IsQuiet (reading w) (reading (w ++ left_of ((n - 1) % 2) at (get_or piece ((n - 1) / 2) 0)))) →
-      Passes (items_in order (hunts m)) (λ w. now (nibbles_of w)) u front last (item_in ((n - 1) % 2) o)
+      Passes (items_in order (hunts m)) (λ w. now (nibbles_of w)) u front last (item_at ((n - 1) % 2) o)
   packet_passes n some most e units list quiet =
       let k = (n - 1) / 2 in
       let h : k < length piece = omega arith in
@@ -151,10 +149,10 @@ module _ (order : Order) (m : Mode) (a : Attribution) (locked : is_locked m ≡ 
       λ w t. subst (λ x. IsQuiet (reading w) (reading (w ++ left_of ((n - 1) % 2) at x))) (sym p.1) (quiet at w t) in
       elim (halves n some) [
         | inl c ↦
-            subst (λ half. Passes (items_in order (hunts m)) (λ w. now (nibbles_of w)) u front last (item_in half o)) (sym c.0)
+            subst (λ half. Passes (items_in order (hunts m)) (λ w. now (nibbles_of w)) u front last (item_at half o)) (sym c.0)
             (low_passes k h p.0 p.1 (ap (λ i. walk (rule order) s (take i (nibbles_in piece))) c.1 ∙ whole)
             (λ w t. subst (λ half. now (w ++ left_of half at last.unit)) c.0 (lists w t)) (λ w t. subst (λ half. IsQuiet (reading w) (reading (w ++ left_of half at last.unit))) c.0 (quiets w t)))
         | inr c ↦
-            subst (λ half. Passes (items_in order (hunts m)) (λ w. now (nibbles_of w)) u front last (item_in half o)) (sym c.0)
+            subst (λ half. Passes (items_in order (hunts m)) (λ w. now (nibbles_of w)) u front last (item_at half o)) (sym c.0)
             (high_passes k h p.0 p.1 (ap (λ i. walk (rule order) s (take i (nibbles_in piece))) c.1 ∙ whole) (λ w t. subst (λ half. now (w ++ left_of half at last.unit)) c.0 (lists w t)))
       ]

@@ -2,8 +2,8 @@
 use Rattle.std.proofs.Common.{◌≡◌, ℕ, zero, suc, ◌/◌, ◌<◌, List, [], ◌∷◌, ◌++◌, refl, sym, ◌∙◌, ap, subst}
 use Rattle.std.proofs.Common.{append_assoc, append-nil, ◌⊎◌, inl, inr, Bool, true, false, None}
 use Rattle.trace_values.specs.declared.fault.Fault.{Fault}
-use Rattle.stp_codec.specs.Names.{Step, Quiet, Skipping, Item, Locked, Fault as Faulty, Placed, low_of, high_of}
-use Rattle.stp_codec.specs.Names.{Grows, fault_by, goes_on, Order, StpItem}
+use Rattle.stp_codec.specs.Names.{Step, Quiet, Skipping, Item, Locked, Fault as Faulty, Placed, low_of, high_of, Grows}
+use Rattle.stp_codec.specs.Names.{fault_by, goes_on, Order, StpItem}
 use Rattle.trace_values.proofs.Nibbling.{both, IsPair, grows_both}
 use Rattle.stp_codec.specs.declared.decoder.StpDecoder.{StpDecoder}
 use Rattle.stp_codec.specs.Reading.{items_at}

@@ -2,14 +2,13 @@
 use Rattle.std.proofs.Common.{◌≡◌, ℕ, ◌+◌, ◌*◌, List, [], ◌∷◌, ◌++◌, length, take, refl, sym, ◌∙◌, ap, subst}
 use Rattle.std.proofs.Common.{append_assoc, append-nil, arith, None, true}
 use Rattle.std.proofs.lemmas.List.{take_all}
-use Rattle.stp_codec.specs.Names.{Next, Go, End, Fail, Mode, Placed, units_of, nibbles_of, Walked, Within, after}
-use Rattle.stp_codec.specs.Names.{walk, Stream, hunts, is_locked, Order, StpPacket, StpItem, Attribution, Partial}
-use Rattle.stp_codec.specs.Names.{rule, count_of}
+use Rattle.stp_codec.specs.Names.{Next, Go, End, Fail, Mode, Placed, units_of, nibbles_of, Walked, Within, after, walk}
+use Rattle.stp_codec.specs.Names.{Stream, hunts, is_locked, Order, StpPacket, StpItem, Attribution, Partial, rule}
+use Rattle.stp_codec.specs.Names.{count_of, Passes}
 use Rattle.trace_values.proofs.NibbleModes as laws
 use Rattle.stp_grammar.proofs.Counting.{counted_nibbles}
 use Rattle.stp_codec.specs.Reading.{items_at, items_in}
 use Rattle.stp_codec.specs.Wholes.{nibbles_in}
-use Rattle.stp_codec.specs.Cuts.{Passes}
 use Rattle.stp_codec.proofs.Between.{length-nibbles}
 use Rattle.stp_codec.proofs.Passing.{sound_at}
 use Rattle.stp_codec.proofs.PacketPieces.{units_nibbles}

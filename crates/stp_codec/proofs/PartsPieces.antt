@@ -3,8 +3,8 @@ use Rattle.std.proofs.Common.{◌≡◌, ℕ, zero, suc, ◌+◌, ◌-◌, ◌*�
 use Rattle.std.proofs.Common.{length, get_or, refl, sym, ◌∙◌, ap, subst, arith, Bool, true, false, cond}
 use Rattle.std.specs.Prelude.{◌==◌}
 use Rattle.std.proofs.lemmas.Bool.Decides.{nat_tests}
-use Rattle.stp_codec.specs.Names.{Next, Go, End, Fail, Whole, walk, nibble_count, Msn, Row, StpPacket, Stamped}
-use Rattle.stp_codec.specs.Names.{Partial, Start, Second, Third, Size, Opening, row_at, rule, begin, opened}
+use Rattle.stp_codec.specs.Names.{Next, Go, End, Fail, Whole, walk, nibble_count, Msn, Row, StpPacket, Stamped, Partial}
+use Rattle.stp_codec.specs.Names.{Start, Second, Third, Size, Opening, row_at, rule, begin, opened}
 use Rattle.stp_codec.specs.Wholes.{between, number_from, Ends, Leaves, left_after, left_by}
 use Rattle.stp_codec.specs.declared.flat.TheConstants.{OPCODES}
 use Rattle.stp_codec.proofs.Between.{between_first, between_none}

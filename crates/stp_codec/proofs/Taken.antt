@@ -4,18 +4,17 @@ use Rattle.std.proofs.Common.{refl, sym, ◌∙◌, ap, subst, arith, Option, No
 use Rattle.std.specs.Prelude.{IfSome, nat_lt}
 use Rattle.std.proofs.lemmas.Bool.Decides.{nat_tests}
 use Rattle.std.proofs.lemmas.List.{take_all, length-take-le}
-use Rattle.stp_codec.specs.Names.{StpItem, Go, End, Fail, Next, Mode, Placed, units_of, nibbles_of, hunts, is_locked}
-use Rattle.stp_codec.specs.Names.{skipped_of, Order, Msn, StpPacket, Attribution, Partial, Start, IsProper}
-use Rattle.stp_codec.specs.Names.{IsProperItem, rule, count_of, by_unit, Async}
+use Rattle.stp_codec.specs.Names.{item_at, StpItem, Go, End, Fail, Next, Mode, Placed, units_of, nibbles_of, hunts}
+use Rattle.stp_codec.specs.Names.{is_locked, skipped_of, Order, Msn, StpPacket, Attribution, Partial, Start, IsProper}
+use Rattle.stp_codec.specs.Names.{rule, count_of, by_unit, Async, Passes}
 use Rattle.stp_grammar.proofs.Beginning.{start_never_fails}
 use Rattle.stp_grammar.proofs.Counting.{counts}
 use Rattle.stp_codec.specs.Reading.{items_in, items_at, pattern}
 use Rattle.trace_values.proofs.Modes as modes
 use Rattle.trace_values.proofs.Standings.{none_of}
 use Rattle.stp_grammar.proofs.Counting.{counts_placed}
-use Rattle.stp_codec.specs.Wholes.{nibbles_in, reached, Fronts, left_after, left_by, begun, Leaves, item_in, between}
+use Rattle.stp_codec.specs.Wholes.{nibbles_in, reached, Fronts, left_after, left_by, begun, Leaves, between}
 use Rattle.stp_codec.specs.Wholes.{Ends}
-use Rattle.stp_codec.specs.Cuts.{Passes}
 use Rattle.stp_codec.specs.declared.flat.TheConstants.{WINDOW}
 use Rattle.trace_values.specs.declared.taking.TakenAtOnce.{TakenAtOnce}
 use Rattle.stp_codec.specs.declared.decoder.StpDecoder.{StpDecoder}
@@ -165,6 +164,7 @@ module _ (d e : StpDecoder) (ahead : List ℕ) (c : Copies d e ahead) where
 
   pub copies_ready : IsReady d → IsReady e
   copies_ready r = record {
+    live = c.live ∙ r.live;
     order = c.order ∙ r.order;
     first = subst (λ (n : ℕ). n < 16) (sym c.first) r.first;
     locked = ap (λ (m : Mode). is_locked m) c.mode ∙ r.locked;
@@ -182,8 +182,8 @@ module _ (d e f : StpDecoder) (same : (order_of e ≡ order_of d) × (is_hunter 
   idle_part ahead count taken t = record {
     bytes = t.bytes;
     passes = λ u front last h units.
-        subst (λ (o : Order). Passes (items_in o (is_hunter d)) (Stands f) u front last (item_in taken.half taken.item)) same.0
-        (subst (λ (b : Bool). Passes (items_in (order_of e) b) (Stands f) u front last (item_in taken.half taken.item)) same.1
+        subst (λ (o : Order). Passes (items_in o (is_hunter d)) (Stands f) u front last (item_at taken.half taken.item)) same.0
+        (subst (λ (b : Bool). Passes (items_in (order_of e) b) (Stands f) u front last (item_at taken.half taken.item)) same.1
         (t.passes u front last (i.0 u h) units));
     fits = t.fits;
     few = (let k = t.few in let l = i.1 in let m = i.2 in omega (arith, k, l, m));
@@ -201,27 +201,6 @@ module _ (d e f : StpDecoder) (same : (order_of e ≡ order_of d) × (is_hunter 
 -- a packet was found, and nothing was taken
 pub finds_packet : (d : StpDecoder) (ahead : List ℕ) (count : ℕ) (x : PacketParts) → x.number < 35 → x.nibbles ≤ 2 * count → Finishes d ahead x.nibbles (packet_of x) → Finds d d ahead count (EndsIn x)
 finds_packet d ahead count x number within p = (p.some, within, record { number = number; packet = p }, (λ u h. h, refl, refl))
-
--- what was taken, if anything
-module _ (d f : StpDecoder) (bytes : List ℕ) (count : ℕ) where
-  pub part_bytes : (o : Option (TakenAtOnce StpItem)) → IfSome o (TakesPart d f bytes count) → IfSome o (λ taken. (0 < taken.bytes) × (taken.bytes ≤ count))
-  part_bytes None t = tt
-  part_bytes (Some taken) t = t.bytes
-
-  pub part_passes : (o : Option (TakenAtOnce StpItem)) → IfSome o (TakesPart d f bytes count) → (u front : List Placed) (last : Placed) → Stands d u →
-      IfSome o (λ taken. units_of (front ++ last ∷ []) ≡ take taken.bytes bytes →
-      Passes (items_in (order_of d) (is_hunter d)) (Stands f) u front last (item_in taken.half taken.item))
-  part_passes None t u front last s = tt
-  part_passes (Some taken) t u front last s = λ e. t.passes u front last s e
-
-  pub part_fits : (o : Option (TakenAtOnce StpItem)) → IfSome o (TakesPart d f bytes count) → IfSome o (λ taken. IfSome taken.item IsProperItem)
-  part_fits None t = tt
-  part_fits (Some taken) t = t.fits
-
-  pub part_few : (o : Option (TakenAtOnce StpItem)) → IfSome o (TakesPart d f bytes count) →
-      IfSome o (λ taken. held_of f + skipped_by f ≤ held_of d + skipped_by d + 2 * taken.bytes)
-  part_few None t = tt
-  part_few (Some taken) t = t.few
 
 pub same_order : (d e : StpDecoder) → (order_of e ≡ order_of d) × (is_hunter e ≡ is_hunter d) → (P : Order → Bool → Type 0) → P (order_of e) (is_hunter e) → P (order_of d) (is_hunter d)
 same_order d e same P h = subst (λ (o : Order). P o (is_hunter d)) same.0 (subst (λ (b : Bool). P (order_of e) b) same.1 h)

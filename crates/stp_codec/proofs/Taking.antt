@@ -4,8 +4,8 @@ use Rattle.std.proofs.Common.{false}
 use Rattle.std.specs.Prelude.{◌==◌, ◌&&◌}
 use Rattle.stp_codec.specs.Names.{Reason, Next, Go, End, Fail, Mode, Hunting, Step, Quiet, Skipping, Item}
 use Rattle.stp_codec.specs.Names.{Locked as StepLocked, Fault as Faulty, Placed, by_unit, Grows, run_after, StandsIn}
-use Rattle.stp_codec.specs.Names.{hunts, is_locked, live_after, state_after, Order, StpPacket, Async, StpItem}
-use Rattle.stp_codec.specs.Names.{Partial, Start, rule, Attribution, attribute, item_of, Stands as Attributes}
+use Rattle.stp_codec.specs.Names.{hunts, is_locked, live_after, state_after, Order, StpPacket, Async, StpItem, Partial}
+use Rattle.stp_codec.specs.Names.{Start, rule, Attribution, attribute, item_of, Stands as Attributes}
 use Rattle.trace_values.specs.declared.mode.Mode.TheVariants.{Locked}
 use Rattle.trace_values.proofs.OneUnit.{step_on}
 use Rattle.trace_values.proofs.Decorating.{item_step, step_with, GivesAtLock}

@@ -1,7 +1,7 @@
 -- What a decoder answers to a nibble and to a byte, by what the grammar says of the rest with it.
 use Rattle.std.specs.Prelude.{◌≡◌, ◌⊎◌, ℕ, List, [], ◌∷◌, ◌++◌, Some, None}
-use Rattle.stp_codec.specs.Names.{Step, Quiet, Skipping, Item, Locked, Fault as Faulty, Place, Placed, units_of}
-use Rattle.stp_codec.specs.Names.{low_of, high_of, IsFront, InUnits, Order, StpPacket, StpItem, Spells, why, item_of}
+use Rattle.stp_codec.specs.Names.{Step, Quiet, Skipping, Item, Locked, Fault as Faulty, Place, Placed, units_of, low_of}
+use Rattle.stp_codec.specs.Names.{high_of, IsFront, InUnits, Order, StpPacket, StpItem, Spells, why, item_of}
 
 -- The answer to a nibble at this place, where these packets are before it, and r is the rest with it: an item exactly
 -- where the rest spells a packet that has one, a fault exactly where it is the front of no spelling, and quiet in every

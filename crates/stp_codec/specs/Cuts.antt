@@ -1,8 +1,7 @@
 -- Packets of which the bytes at hand are only a part.
 use Rattle.std.specs.Prelude.{◌≡◌, ℕ, ◌*◌, ◌<◌, ◌≤◌, List, [], length, true, ◌==◌, if◌then◌else◌}
-pub use Rattle.trace_values.specs.Taking.{Passes}
-use Rattle.stp_codec.specs.Names.{Next, Go, End, Within, after, walk, Order, Row}
-use Rattle.stp_codec.specs.Names.{StpPacket, Partial, Payload, line_of, IsProper, rule, after_payload, is_sound}
+use Rattle.stp_codec.specs.Names.{Next, Go, End, Within, after, walk, Order, Row, StpPacket, Partial, Payload, line_of}
+use Rattle.stp_codec.specs.Names.{IsProper, rule, after_payload, is_sound}
 use Rattle.stp_codec.specs.Wholes.{nibbles_in, between}
 use Rattle.stp_codec.specs.declared.cut.Cut.{Cut}
 use Rattle.stp_codec.specs.declared.cut.Cut.TheVariants.{Inside, Ended}

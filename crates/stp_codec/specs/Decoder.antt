@@ -2,11 +2,10 @@
 use Rattle.std.specs.Prelude.{◌≡◌, ℕ, ◌+◌, ◌*◌, ◌<◌, ◌≤◌, List, [], ◌∷◌, ◌++◌, length, take, Bool, true, None, IfSome}
 use Rattle.stp_codec.specs.Names.{Go, Step, Item, Locked, Placed, units_of, nibbles_of, by_unit, StandsIn, hunts}
 use Rattle.stp_codec.specs.Names.{is_locked, skipped_of, Order, Msn, StpPacket, Async, StpItem, Partial, Start}
-use Rattle.stp_codec.specs.Names.{IsProper, IsProperItem, rule, count_of}
+use Rattle.stp_codec.specs.Names.{IsProper, IsProperItem, rule, count_of, Passes, TakesNone, item_at}
 use Rattle.stp_grammar.specs.Attributed as attributed
 use Rattle.stp_codec.specs.Reading.{pattern, packets_of, items_in}
-use Rattle.stp_codec.specs.Wholes.{Ends, between, nibbles_in, reached, item_in, begun}
-use Rattle.stp_codec.specs.Cuts.{Passes}
+use Rattle.stp_codec.specs.Wholes.{Ends, between, nibbles_in, reached, begun}
 use Rattle.stp_codec.specs.Parts.{packet_of}
 use Rattle.stp_codec.specs.declared.flat.PacketParts.{PacketParts}
 use Rattle.stp_codec.specs.declared.flat.TheConstants.{WINDOW}
@@ -109,6 +108,11 @@ pub record FinishesParts (decoder : StpDecoder) (bytes : List ℕ) (parts : Pack
   pub number : parts.number < 35
   pub packet : Finishes decoder bytes parts.nibbles (packet_of parts)
 
+-- It is live, its reading has begun, no bytes wait, and a packet begins.
+abbrev pub IsFresh : StpDecoder → Type 0
+IsFresh decoder =
+    (is_live decoder ≡ true) × (has_locked decoder ≡ true) × (decoder.waiting ≡ 0) × (decoder.first ≡ 0)
+
 -- It has read the bytes that waited.
 pub record Settles (old new : StpDecoder) : Type 0 where
   pub order : new.order ≡ old.order
@@ -134,24 +138,27 @@ pub record Copies (old new : StpDecoder) (ahead : List ℕ) : Type 0 where
   pub bytes : waiting_in new ≡ waiting_in old
   pub behind : (more : ℕ) → more ≤ WINDOW → HoldsAhead new ahead more
 
--- A packet that began can be read at once.
+-- It is live, and a packet that began can be read at once.
 pub record IsReady (decoder : StpDecoder) : Type 0 where
+  pub live : is_live decoder ≡ true
   pub order : decoder.order ≡ Msn
   pub first : decoder.first < 16
   pub locked : has_locked decoder ≡ true
 
 -- Nothing was taken.
 abbrev pub Idles : StpDecoder → StpDecoder → Type 0
-Idles old new =
-    ((u : List Placed) → Stands old u → Stands new u)
-    × (held_of new ≡ held_of old) × (skipped_by new ≡ skipped_by old)
+Idles = TakesNone Stands held_of skipped_by
+
+-- It has the same order of nibbles and the same mode, and is live.
+abbrev pub Stays : StpDecoder → StpDecoder → Type 0
+Stays old new = (order_of new ≡ order_of old) × (is_hunter new ≡ is_hunter old) × (is_live new ≡ true)
 
 -- Of the first `count` of these bytes this was taken.
 pub record TakesPart (old new : StpDecoder) (ahead : List ℕ) (count : ℕ) (taken : TakenAtOnce StpItem) : Type 0 where
   pub bytes : (0 < taken.bytes) × (taken.bytes ≤ count)
   pub passes : (u front : List Placed) (last : Placed) → Stands old u →
       units_of (front ++ last ∷ []) ≡ take taken.bytes ahead →
-      Passes (items_in (order_of old) (is_hunter old)) (Stands new) u front last (item_in taken.half taken.item)
+      Passes (items_in (order_of old) (is_hunter old)) (Stands new) u front last (item_at taken.half taken.item)
   pub fits : IfSome taken.item IsProperItem
   pub few : held_of new + skipped_by new ≤ held_of old + skipped_by old + 2 * taken.bytes
 

@@ -2,11 +2,11 @@
 -- that the low nibble of a byte comes first is this project's profile).
 use Rattle.std.specs.Prelude.{◌≡◌, ℕ, zero, suc, ◌+◌, ◌≤◌, List, [], ◌∷◌, ◌++◌, None, true}
 use Rattle.stp_codec.specs.Names.{Step, Quiet, Fault as Faulty, low_of, high_of, Placed, Grows, LocksAfter, StepFits}
-use Rattle.stp_codec.specs.Names.{goes_on, StpItem, IsProperItem, Start}
-use Rattle.stp_codec.specs.Answers.{AnswersNibble}
-use Rattle.stp_codec.specs.Decoder.{EndsItem, IsSettled, ReadsAt, StandsAt, has_locked, is_hunter, is_live, nibble_at}
-use Rattle.stp_codec.specs.Decoder.{order_of, read_of, skipped_by}
-use Rattle.stp_codec.specs.Reading.{items_at, packets_of, rest_in}
+use Rattle.stp_codec.specs.Names.{byte_at, nibbles_of, goes_on, StpItem, IsProperItem, Start}
+use Rattle.stp_codec.specs.Answers.{AnswersByte, AnswersNibble}
+use Rattle.stp_codec.specs.Decoder.{EndsItem, IsSettled, Reads, ReadsAt, StandsAt, has_locked, is_hunter, is_live}
+use Rattle.stp_codec.specs.Decoder.{nibble_at, order_of, read_of, skipped_by}
+use Rattle.stp_codec.specs.Reading.{items_at, items_in, packets_of, rest_in}
 use Rattle.stp_codec.specs.declared.decoder.StpDecoder.{StpDecoder}
 
 -- its nibbles from a half on
@@ -38,6 +38,15 @@ pub record TakesNibbles (old new : StpDecoder) (n : List Placed) (at byte : ℕ)
   pub grows : Grows (items_at (order_of old) (is_hunter old) n)
       (items_at (order_of old) (is_hunter old) (n ++ taken_by at byte step)) at step
   pub sound : (items_at (order_of old) (is_hunter old) (n ++ before_by at byte step)).fault ≡ None
+
+-- After this list of bytes, for which it stood by its state, it took one more.
+pub record ReadsByte (old new : StpDecoder) (u : List Placed) (at byte : ℕ) (step : Step StpItem) : Type 0 where
+  pub list : Reads new (u ++ byte_at at byte ∷ [])
+  pub grows : Grows (items_in (order_of old) (is_hunter old) u)
+      (items_in (order_of old) (is_hunter old) (u ++ byte_at at byte ∷ [])) at step
+  pub grammar : has_locked old ≡ true →
+      AnswersByte (order_of old) (packets_of (order_of old) (is_hunter old) (nibbles_of u))
+      (rest_in (order_of old) (is_hunter old) (nibbles_of u)) at byte step
 
 -- a fault is in this half of its byte
 abbrev pub IsHalf : {V : Type 0} → ℕ → Step V → Type 0

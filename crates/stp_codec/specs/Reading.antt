@@ -1,8 +1,8 @@
 -- The packets and the items that a source's list of bytes is.
 use Rattle.std.specs.Prelude.{◌≡◌, ◌⊎◌, List, [], ◌∷◌, ◌++◌, length, Bool, true, false, Option, None, Some}
-use Rattle.stp_codec.specs.Names.{Place, Placed, units_of, nibbles_of, by_unit, IsNowhere, IsFirst, Pattern}
-use Rattle.stp_codec.specs.Names.{pattern_of, Found, hunt, progress, stream_in, Stream, Notice, shown, decorated}
-use Rattle.stp_codec.specs.Names.{carried, Order, StpPacket, Async, StpItem, Partial, Start, rule, attribute}
+use Rattle.stp_codec.specs.Names.{Place, Placed, units_of, nibbles_of, by_unit, IsNowhere, IsFirst, Pattern, pattern_of}
+use Rattle.stp_codec.specs.Names.{Found, hunt, progress, stream_in, Stream, Notice, shown, decorated, carried, Order}
+use Rattle.stp_codec.specs.Names.{StpPacket, Async, StpItem, Partial, Start, rule, attribute}
 
 -- what a decoder hunts for: 21 nibbles F and a nibble 0, which spell an ASYNC
 abbrev pub pattern : Pattern

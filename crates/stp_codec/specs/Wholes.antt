@@ -1,8 +1,8 @@
 -- Nibbles of a piece that end a packet.
 use Rattle.std.specs.Prelude.{◌≡◌, ℕ, nat_lt, ◌-◌, ◌/◌, ◌%◌, ◌+◌, List, [], ◌∷◌, take, drop, flat_map, ◌==◌}
 use Rattle.std.specs.Prelude.{if◌then◌else◌}
-use Rattle.std.specs.Prelude.{Option, None, Some}
-use Rattle.stp_codec.specs.Names.{Next, Go, End, Fail, Step, Item, Placed, Stream, high_of, Walked, Within, Whole}
+use Rattle.std.specs.Prelude.{None}
+use Rattle.stp_codec.specs.Names.{Next, Go, End, Fail, Placed, Stream, high_of, Walked, Within, Whole}
 use Rattle.stp_codec.specs.Names.{Beyond, Broken, after, walk, Order, StpPacket, StpItem, Partial, Start, rule}
 use Rattle.stp_codec.specs.Names.{number_with}
 
@@ -45,11 +45,6 @@ GoesOn next = (t : Partial) × (next ≡ Go t)
 -- what is left of a byte after this half of it: its high nibble after the low one, and else nothing
 abbrev pub left_of : ℕ → ℕ → ℕ → List Placed
 left_of half at byte = if half == 0 then high_of at byte ∷ [] else []
-
--- an item that ends in this half
-abbrev pub item_in : ℕ → Option StpItem → Option (Step StpItem)
-item_in half None = None
-item_in half (Some item) = Some (Item half item)
 
 -- nothing is given, and there is no fault
 abbrev pub IsQuiet : Stream StpItem → Stream StpItem → Type 0

@@ -3,8 +3,8 @@
 //! They are read so for speed alone: the decoder reads nibble by nibble what is not found here.
 
 ghost use Rattle.std.specs.Prelude.{◌≡◌, ◌+◌, ◌*◌, ◌^◌, ◌<◌, ◌≤◌, true, length, IfSome};
-ghost use Rattle.stp_codec.specs.Names.{Go, Start, Second, Third, Run, Size, Word, line_of, row_at, is_sound};
-ghost use Rattle.stp_codec.specs.Names.{count_of, begin, COUNT_ROOM};
+ghost use Rattle.stp_codec.specs.Names.{Go, Start, Second, Third, Run, Size, Word, line_of, row_at, is_sound, count_of};
+ghost use Rattle.stp_codec.specs.Names.{begin, COUNT_ROOM};
 ghost use Rattle.stp_codec.specs.Wholes.{nibbles_in, between};
 ghost use Rattle.stp_codec.specs.Cuts.{Leads, CutsInto, IsProperCut, payload_from};
 

@@ -178,16 +178,9 @@ impl Default for StpDecoder {
 }
 
 impl Machine for StpDecoder {
-    ghost use Rattle.std.specs.Prelude.{refl, ◌+◌, ◌^◌, ◌≤◌, ◌⊎◌, ◌∷◌, ◌++◌, [], List, All, take};
-    ghost use Rattle.trace_values.specs.Placed.{Placed, byte_at, units_of};
-    ghost use Rattle.trace_values.specs.Nibbles.{nibbles_of};
-    ghost use Rattle.trace_values.specs.Stream.{Grows, StepFits, LocksAfter, goes_on};
-    ghost use Rattle.trace_values.specs.Walk.{by_unit};
-    ghost use Rattle.stp_grammar.specs.Rule.{rule, count_of};
-    ghost use Rattle.stp_grammar.specs.Attribution.{attribute};
-    ghost use Rattle.stp_grammar.specs.Proper.{IsProperItem};
-    ghost use Rattle.stp_grammar.specs.declared.packet.StpPacket.TheVariants.{Async};
-    ghost use Rattle.stp_grammar.specs.declared.partial.Partial.TheVariants.{Start};
+    ghost use Rattle.std.specs.Prelude.{refl, ◌+◌, ◌≤◌, ◌⊎◌, ◌∷◌, ◌++◌, [], List, All, take};
+    ghost use Rattle.stp_codec.specs.Names.{Placed, byte_at, units_of, nibbles_of, Grows, HasRoom, Tells, by_unit};
+    ghost use Rattle.stp_codec.specs.Names.{rule, count_of, attribute, IsProperItem, Async, Start};
     ghost use Rattle.stp_codec.specs.Reading.{pattern, packets_of, items_in, rest_in};
     ghost use Rattle.stp_codec.specs.Answers.{AnswersByte};
     ghost use Rattle.stp_codec.specs.Decoder.{Stands, order_of, is_hunter, is_live, has_locked, held_of, skipped_by};
@@ -237,17 +230,14 @@ impl Machine for StpDecoder {
     /// fault exactly where no packet begins with the rest up to a nibble.
     fn feed(&mut self, at: u64, byte: u8) -> Step<StpItem>
         requires live { is_live self.old ≡ true }
-        requires room { held_of self.old ≤ COUNT_ROOM }
-        requires count { skipped_by self.old ≤ COUNT_ROOM }
+        requires room { HasRoom (held_of self.old) (skipped_by self.old) }
         ensures same { items_in (order_of self.new) (is_hunter self.new) ≡
             items_in (order_of self.old) (is_hunter self.old) }
         ensures list { (u : List Placed) → Stands self.old u → Stands self.new (u ++ byte_at at byte ∷ []) }
         ensures step { (u : List Placed) → Stands self.old u →
             Grows (items_in (order_of self.old) (is_hunter self.old) u)
             (items_in (order_of self.old) (is_hunter self.old) (u ++ byte_at at byte ∷ [])) at result }
-        ensures live { is_live self.new ≡ goes_on result }
-        ensures lock { LocksAfter (skipped_by self.new) result }
-        ensures fits { StepFits IsProperItem result }
+        ensures tells { Tells (is_live self.new) (skipped_by self.new) IsProperItem result }
         ensures few { held_of self.new + skipped_by self.new ≤ held_of self.old + skipped_by self.old + 2 }
         ensures grammar { (u : List Placed) → Stands self.old u → has_locked self.old ≡ true →
             AnswersByte (order_of self.old) (packets_of (order_of self.old) (is_hunter self.old) (nibbles_of u))

@@ -4,12 +4,11 @@
 ghost use Rattle.std.specs.Prelude.{◌≡◌, ◌<◌, ◌≤◌, true, length, take, [], ◌∷◌, ◌++◌, ℕ, ◌+◌, ◌*◌, List, None};
 ghost use Rattle.stp_codec.specs.Wholes.{nibbles_in, Fronts};
 ghost use Rattle.stp_codec.specs.declared.flat.TheConstants.{WINDOW};
-ghost use Rattle.stp_codec.specs.Names.{Placed, units_of};
+ghost use Rattle.stp_codec.specs.Names.{Placed, units_of, Passes};
 ghost use Rattle.stp_codec.specs.Reading.{items_in};
-ghost use Rattle.stp_codec.specs.Cuts.{Passes};
 ghost use Rattle.stp_codec.specs.Decoder.{Stands, order_of, is_hunter, is_live, partial_of, Copies, HoldsAhead};
-ghost use Rattle.stp_codec.specs.Decoder.{IsReady, Idles, Finds, held_of, skipped_by, FinishesParts};
-ghost use Rattle.trace_values.specs.declared.taking.Found.TheVariants.{Ends, Waits, Unknown};
+ghost use Rattle.stp_codec.specs.Decoder.{IsReady, Idles, Finds, Stays, held_of, skipped_by, FinishesParts};
+ghost use Rattle.trace_values.specs.declared.taking.Found.TheVariants.{Ends, Waits};
 ghost use Rattle.stp_codec.specs.declared.flat.PacketParts.{PacketParts};
 
 use crate::decoder::{MANY, StpDecoder};
@@ -19,9 +18,10 @@ use trace_values::Found;
 
 impl StpDecoder {
     /// A packet that begins or has begun can be read as numbers: most significant nibbles come first, at most one of
-    /// its nibbles is read, and the reading has begun.
+    /// its nibbles is read, and the reading has begun. It is live.
     #[inline(always)]
     fn is_ready(&self) -> bool
+        requires { is_live self.now ≡ true }
         ensures { result ≡ true → IsReady self.now }
     {
         match self.order {
@@ -43,15 +43,13 @@ impl StpDecoder {
     /// Lets the first `count` of these bytes wait. They are behind those that wait already, and within the packet.
     #[inline(always)]
     fn wait(&mut self, _ahead: &[u8], count: usize) -> Found<PacketParts>
-        requires live { is_live self.old ≡ true }
         requires ready { IsReady self.old }
         requires some { 0 < count }
         requires few { self.old.waiting + count ≤ WINDOW }
         requires ahead { count ≤ length _ahead.now }
         requires held { HoldsAhead self.old _ahead.now count }
         requires fronts { Fronts (order_of self.old) (partial_of self.old) (nibbles_in (take count _ahead.now)) }
-        ensures same { (order_of self.new ≡ order_of self.old) × (is_hunter self.new ≡ is_hunter self.old) }
-        ensures live { is_live self.new ≡ true }
+        ensures stays { Stays self.old self.new }
         ensures found { Finds self.old self.new _ahead.now count result }
     {
         self.waiting += count;
@@ -61,13 +59,11 @@ impl StpDecoder {
     /// Finds what the first `count` of these bytes are, where no bytes wait.
     #[inline(always)]
     fn find_fresh(&mut self, ahead: &[u8], count: usize) -> Found<PacketParts>
-        requires live { is_live self.old ≡ true }
         requires ready { IsReady self.old }
         requires settled { self.old.waiting ≡ 0 }
         requires some { 0 < count }
         requires ahead { count + WINDOW ≤ length ahead.now }
-        ensures same { (order_of self.new ≡ order_of self.old) × (is_hunter self.new ≡ is_hunter self.old) }
-        ensures live { is_live self.new ≡ true }
+        ensures stays { Stays self.old self.new }
         ensures found { Finds self.old self.new ahead.now count result }
     {
         let Some(parts) = parts_from_first(self.first, ahead) else {
@@ -86,13 +82,11 @@ impl StpDecoder {
     /// Finds what the first `count` of these bytes are, which are behind those that wait.
     #[inline(always)]
     fn find_held(&mut self, ahead: &[u8], count: usize) -> Found<PacketParts>
-        requires live { is_live self.old ≡ true }
         requires ready { IsReady self.old }
         requires some { 0 < count }
         requires ahead { count + WINDOW ≤ length ahead.now }
         requires held { (more : ℕ) → more ≤ WINDOW → HoldsAhead self.old ahead.now more }
-        ensures same { (order_of self.new ≡ order_of self.old) × (is_hunter self.new ≡ is_hunter self.old) }
-        ensures live { is_live self.new ≡ true }
+        ensures stays { Stays self.old self.new }
         ensures found { Finds self.old self.new ahead.now count result }
     {
         let Some(parts) = parts_from_first(self.first, &self.held[..WINDOW]) else {
@@ -108,12 +102,10 @@ impl StpDecoder {
     /// Finds what the first `count` of these bytes are, where a packet that begins or has begun can be read as numbers.
     #[inline(always)]
     fn find_ready(&mut self, ahead: &[u8], count: usize) -> Found<PacketParts>
-        requires live { is_live self.old ≡ true }
         requires ready { IsReady self.old }
         requires some { 0 < count }
         requires ahead { count + WINDOW ≤ length ahead.now }
-        ensures same { (order_of self.new ≡ order_of self.old) × (is_hunter self.new ≡ is_hunter self.old) }
-        ensures live { is_live self.new ≡ true }
+        ensures stays { Stays self.old self.new }
         ensures found { Finds self.old self.new ahead.now count result }
     {
         if self.waiting == 0 {
@@ -133,18 +125,15 @@ impl StpDecoder {
     pub fn find_part(&mut self, ahead: &[u8], count: usize) -> Found<PacketParts>
         requires live { is_live self.old ≡ true }
         requires ahead { count + WINDOW ≤ length ahead.now }
-        ensures same { (order_of self.new ≡ order_of self.old) × (is_hunter self.new ≡ is_hunter self.old) }
-        ensures live { is_live self.new ≡ true }
-        ensures nibbles { (parts : PacketParts) → result ≡ Ends parts →
-            (0 < parts.nibbles) × (parts.nibbles ≤ 2 * count) }
-        ensures ends { (parts : PacketParts) → result ≡ Ends parts → FinishesParts self.new ahead.now parts }
-        ensures idles { (parts : PacketParts) → result ≡ Ends parts → Idles self.old self.new }
+        ensures stays { Stays self.old self.new }
+        ensures ends { (parts : PacketParts) → result ≡ Ends parts →
+            FinishesParts self.new ahead.now parts × (0 < parts.nibbles) × (parts.nibbles ≤ 2 * count) }
+        ensures idles { (result ≡ Waits → ⊥) → Idles self.old self.new }
         ensures waits { result ≡ Waits → (0 < count) × (held_of self.new + skipped_by self.new ≤
             held_of self.old + skipped_by self.old + 2 * count) }
         ensures passes { (u front : List Placed) (last : Placed) → Stands self.old u → result ≡ Waits →
             units_of (front ++ last ∷ []) ≡ take count ahead.now →
             Passes (items_in (order_of self.old) (is_hunter self.old)) (Stands self.new) u front last None }
-        ensures unknown { result ≡ Unknown → Idles self.old self.new }
     {
         if count > 0 && self.is_ready() {
             self.find_ready(ahead, count)

@@ -3,14 +3,11 @@
 //! Packets and their nibbles are those of the MIPI System Trace Protocol, version 2. That the low nibble of a byte
 //! comes first, and that a hunt begins at a fault's nibble, is this project's profile.
 
-ghost use Rattle.std.specs.Prelude.{◌≡◌, ℕ, ◌+◌, ◌<◌, ◌≤◌, List, [], ◌∷◌, ◌++◌, true};
-ghost use Rattle.stp_codec.specs.Names.{Placed, byte_at, LocksAfter, StepFits, goes_on, Grows, COUNT_ROOM};
-ghost use Rattle.stp_codec.specs.Names.{Hunting, IsProperItem, nibbles_of};
+ghost use Rattle.std.specs.Prelude.{◌≡◌, ℕ, ◌+◌, ◌<◌, ◌≤◌, List, true};
+ghost use Rattle.stp_codec.specs.Names.{Placed, HasRoom, Tells, COUNT_ROOM, Hunting, IsProperItem};
 ghost use Rattle.stp_codec.specs.Decoder.{IsSettled, Reads, ReadsAt, StandsAt, has_locked, held_of, is_hunter, is_live};
 ghost use Rattle.stp_codec.specs.Decoder.{order_of, read_of, skipped_by};
-ghost use Rattle.stp_codec.specs.Nibbles.{TakesNibble, TakesNibbles, nibbles_from};
-ghost use Rattle.stp_codec.specs.Reading.{packets_of, rest_in, items_in};
-ghost use Rattle.stp_codec.specs.Answers.{AnswersByte};
+ghost use Rattle.stp_codec.specs.Nibbles.{ReadsByte, TakesNibble, TakesNibbles, nibbles_from};
 
 use crate::decoder::{MANY, StpDecoder};
 use stp_grammar::item::StpItem;
@@ -107,22 +104,13 @@ impl StpDecoder {
     pub(crate) fn feed_settled(&mut self, at: u64, byte: u8) -> Step<StpItem>
         requires settled { IsSettled self.old }
         requires live { is_live self.old ≡ true }
-        requires room { read_of self.old ≤ COUNT_ROOM }
-        requires count { skipped_by self.old ≤ COUNT_ROOM }
+        requires room { HasRoom (read_of self.old) (skipped_by self.old) }
         ensures same { (order_of self.new ≡ order_of self.old) × (is_hunter self.new ≡ is_hunter self.old) }
-        ensures list { (u : List Placed) → Reads self.old u → Reads self.new (u ++ byte_at at byte ∷ []) }
-        ensures step { (u : List Placed) → Reads self.old u →
-            Grows (items_in (order_of self.old) (is_hunter self.old) u)
-            (items_in (order_of self.old) (is_hunter self.old) (u ++ byte_at at byte ∷ [])) at result }
+        ensures reads { (u : List Placed) → Reads self.old u → ReadsByte self.old self.new u at byte result }
         ensures takes { (n : List Placed) → ReadsAt self.old n → TakesNibbles self.old self.new n at byte result }
         ensures settled { IsSettled self.new }
-        ensures live { is_live self.new ≡ goes_on result }
-        ensures lock { LocksAfter (skipped_by self.new) result }
-        ensures fits { StepFits IsProperItem result }
+        ensures tells { Tells (is_live self.new) (skipped_by self.new) IsProperItem result }
         ensures few { read_of self.new + skipped_by self.new ≤ read_of self.old + skipped_by self.old + 2 }
-        ensures grammar { (u : List Placed) → Reads self.old u → has_locked self.old ≡ true →
-            AnswersByte (order_of self.old) (packets_of (order_of self.old) (is_hunter self.old) (nibbles_of u))
-            (rest_in (order_of self.old) (is_hunter self.old) (nibbles_of u)) at byte result }
     {
         let low = self.take_nibble(at, 0, byte % 16);
         match low {
@@ -139,13 +127,10 @@ impl StpDecoder {
     /// fault it stands for the list up to the fault's nibble.
     pub fn feed_nibbles(&mut self, at: u64, byte: u8) -> Step<StpItem>
         requires live { is_live self.old ≡ true }
-        requires room { held_of self.old ≤ COUNT_ROOM }
-        requires count { skipped_by self.old ≤ COUNT_ROOM }
+        requires room { HasRoom (held_of self.old) (skipped_by self.old) }
         ensures same { (order_of self.new ≡ order_of self.old) × (is_hunter self.new ≡ is_hunter self.old) }
         ensures takes { (n : List Placed) → StandsAt self.old n → TakesNibbles self.old self.new n at byte result }
-        ensures live { is_live self.new ≡ goes_on result }
-        ensures lock { LocksAfter (skipped_by self.new) result }
-        ensures fits { StepFits IsProperItem result }
+        ensures tells { Tells (is_live self.new) (skipped_by self.new) IsProperItem result }
         ensures few { held_of self.new + skipped_by self.new ≤ held_of self.old + skipped_by self.old + 2 }
     {
         self.settle();

@@ -2,13 +2,13 @@
 
 ghost use Rattle.std.specs.Prelude.{◌≡◌, ◌<◌, ◌≤◌, true, length, take, [], ◌∷◌, ◌++◌, ℕ, ◌+◌, ◌-◌, ◌*◌, ◌/◌, List};
 ghost use Rattle.std.specs.Prelude.{IfSome, None};
-ghost use Rattle.stp_codec.specs.Wholes.{item_in, left_of, IsQuiet};
-ghost use Rattle.stp_codec.specs.Names.{COUNT_ROOM, Placed, units_of, IsProperItem, said_item, IsProperSaid};
-ghost use Rattle.stp_codec.specs.Names.{count_of};
+ghost use Rattle.stp_codec.specs.Wholes.{left_of, IsQuiet};
+ghost use Rattle.stp_codec.specs.Names.{COUNT_ROOM, Placed, units_of, said_item, IsProperSaid, count_of};
+ghost use Rattle.stp_codec.specs.Names.{Passes, item_at};
 ghost use Rattle.stp_codec.specs.Reading.{items_at, items_in};
-ghost use Rattle.stp_codec.specs.Cuts.{Passes};
-ghost use Rattle.stp_codec.specs.Decoder.{Stands, order_of, is_hunter, is_live, has_locked, begun_of, BegunAt};
-ghost use Rattle.stp_codec.specs.Decoder.{IsSettled, Idles, TakesPart, held_of, skipped_by, Finishes, FinishesParts};
+ghost use Rattle.stp_codec.specs.Decoder.{Stands, order_of, is_hunter, is_live, begun_of, BegunAt};
+ghost use Rattle.stp_codec.specs.Decoder.{IsFresh, IsSettled, Idles, Stays, TakesPart, held_of, skipped_by, Finishes};
+ghost use Rattle.stp_codec.specs.Decoder.{FinishesParts};
 
 use crate::cut::{Cut, cut_packet};
 use crate::decoder::{MANY, SaidTaken, StpDecoder};
@@ -18,24 +18,18 @@ use stp_grammar::packet::StpPacket;
 use trace_values::TakenAtOnce;
 
 impl StpDecoder {
-    /// Takes what is left of a byte in whose half a packet ended: the high nibble, where it ended in the low one. A
-    /// packet begins there, and no bytes wait.
+    /// Takes what is left of a byte in whose half a packet ended: the high nibble, where it ended in the low one.
     #[inline(always)]
     fn pass_left(&mut self, half: u8, byte: u8)
-        requires live { is_live self.old ≡ true }
-        requires locked { has_locked self.old ≡ true }
-        requires settled { self.old.waiting ≡ 0 }
+        requires fresh { IsFresh self.old }
         requires half { half ≤ 1 }
-        requires start { self.old.first ≡ 0 }
-        requires count { skipped_by self.old ≤ COUNT_ROOM }
-        ensures same { (order_of self.new ≡ order_of self.old) × (is_hunter self.new ≡ is_hunter self.old) }
+        ensures stays { Stays self.old self.new }
         ensures settled { self.new.waiting ≡ 0 }
         ensures list { (at : ℕ) (n : List Placed) → BegunAt self.old n →
             BegunAt self.new (n ++ left_of half at byte) }
         ensures quiet { (at : ℕ) (n : List Placed) → BegunAt self.old n →
             IsQuiet (items_at (order_of self.old) (is_hunter self.old) n)
             (items_at (order_of self.old) (is_hunter self.old) (n ++ left_of half at byte)) }
-        ensures live { is_live self.new ≡ true }
         ensures few { (count_of (begun_of self.new) ≤ 1) × (skipped_by self.new ≡ skipped_by self.old) }
     {
         self.first = byte / 16 * (1 - half);
@@ -51,10 +45,8 @@ impl StpDecoder {
         packet: StpPacket,
     ) -> TakenAtOnce<StpItem>
         requires live { is_live self.old ≡ true }
-        requires count { skipped_by self.old ≤ COUNT_ROOM }
         requires next { Finishes self.old bytes.now nibbles packet }
-        ensures same { (order_of self.new ≡ order_of self.old) × (is_hunter self.new ≡ is_hunter self.old) }
-        ensures live { is_live self.new ≡ true }
+        ensures stays { Stays self.old self.new }
         ensures taken { TakesPart self.old self.new bytes.now (length bytes.now) result }
     {
         let last = (nibbles - 1) / 2;
@@ -79,8 +71,7 @@ impl StpDecoder {
         requires live { is_live self.old ≡ true }
         requires room { held_of self.old + skipped_by self.old + 2 * length bytes.now ≤ COUNT_ROOM }
         requires settled { IsSettled self.old }
-        ensures same { (order_of self.new ≡ order_of self.old) × (is_hunter self.new ≡ is_hunter self.old) }
-        ensures live { is_live self.new ≡ true }
+        ensures stays { Stays self.old self.new }
         ensures some { IfSome result (TakesPart self.old self.new bytes.now (length bytes.now)) }
         ensures none { result ≡ None → Idles self.old self.new }
     {
@@ -110,18 +101,9 @@ impl StpDecoder {
     pub fn take_part(&mut self, bytes: &[u8]) -> Option<TakenAtOnce<StpItem>>
         requires live { is_live self.old ≡ true }
         requires room { held_of self.old + skipped_by self.old + 2 * length bytes.now ≤ COUNT_ROOM }
-        ensures same { (order_of self.new ≡ order_of self.old) × (is_hunter self.new ≡ is_hunter self.old) }
-        ensures bytes { IfSome result (λ taken. (0 < taken.bytes) × (taken.bytes ≤ length bytes.now)) }
-        ensures passes { (u front : List Placed) (last : Placed) → Stands self.old u →
-            IfSome result (λ taken. units_of (front ++ last ∷ []) ≡ take taken.bytes bytes.now →
-            Passes (items_in (order_of self.old) (is_hunter self.old)) (Stands self.new) u front last
-            (item_in taken.half taken.item)) }
-        ensures live { is_live self.new ≡ true }
-        ensures fits { IfSome result (λ taken. IfSome taken.item IsProperItem) }
-        ensures few { IfSome result (λ taken. held_of self.new + skipped_by self.new ≤
-            held_of self.old + skipped_by self.old + 2 * taken.bytes) }
-        ensures none { result ≡ None → ((u : List Placed) → Stands self.old u → Stands self.new u)
-            × (held_of self.new ≡ held_of self.old) × (skipped_by self.new ≡ skipped_by self.old) }
+        ensures stays { Stays self.old self.new }
+        ensures takes { IfSome result (TakesPart self.old self.new bytes.now (length bytes.now)) }
+        ensures none { result ≡ None → Idles self.old self.new }
     {
         self.settle();
         self.take_settled(bytes)
@@ -132,15 +114,13 @@ impl StpDecoder {
     #[inline(always)]
     pub fn end_part(&mut self, ahead: &[u8], parts: PacketParts) -> SaidTaken
         requires live { is_live self.old ≡ true }
-        requires room { skipped_by self.old ≤ COUNT_ROOM }
         requires next { FinishesParts self.old ahead.now parts }
-        ensures same { (order_of self.new ≡ order_of self.old) × (is_hunter self.new ≡ is_hunter self.old) }
+        ensures stays { Stays self.old self.new }
         ensures bytes { (0 < result.bytes) × (2 * result.bytes ≤ parts.nibbles + 1) }
         ensures passes { (u front : List Placed) (last : Placed) → Stands self.old u →
             units_of (front ++ last ∷ []) ≡ take result.bytes ahead.now →
             Passes (items_in (order_of self.old) (is_hunter self.old)) (Stands self.new) u front last
-            (item_in result.half (said_item result.said)) }
-        ensures live { is_live self.new ≡ true }
+            (item_at result.half (said_item result.said)) }
         ensures fits { IsProperSaid result.said }
         ensures few { held_of self.new + skipped_by self.new ≤
             held_of self.old + skipped_by self.old + 2 * result.bytes }

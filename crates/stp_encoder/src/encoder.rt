@@ -33,7 +33,7 @@ impl StpEncoder {
     ghost use Rattle.std.specs.Prelude.{◌≡◌, ◌≤◌, ◌+◌, ℕ, List, [], ◌∷◌, ◌++◌, length, if◌then◌else◌};
     ghost use Rattle.std.specs.Prelude.{option_map, option_to_list, is_err};
     ghost use Rattle.std.specs.Option.{ForSome};
-    ghost use Rattle.std.specs.Result.{IfErr, OnErr, OnOk};
+    ghost use Rattle.std.specs.Result.{IfErr, OnOk};
     ghost use Rattle.stp_encoder.specs.Names.{gray_of, sized, WordFits, StpPacket, StpItem, last_word_of, IsProper};
     ghost use Rattle.stp_encoder.specs.Names.{IsProperItem, IsProperStamp, short};
     ghost use Rattle.stp_grammar.specs.Attributed as attributed;
@@ -220,10 +220,10 @@ impl StpEncoder {
         requires empty { out.old.items ≡ [] }
         ensures order { order_of self.new ≡ order_of self.old }
         ensures cause { is_err result ≡ is_unfit (version_in_force self.old) item.now }
-        ensures version { IfErr result (λ e. e.version ≡ version_in_force self.old) }
         ensures fits { (puts : List Put) → Stands self.old puts →
             is_err result ≡ is_unfit (version_after (items_in puts)) item.now }
-        ensures same { OnErr result ((self.new ≡ self.old) × (out.new ≡ out.old)) }
+        ensures same { IfErr result (λ e. (self.new ≡ self.old) × (out.new ≡ out.old)
+            × (e.version ≡ version_in_force self.old)) }
         ensures list { (puts : List Put) → Stands self.old puts →
             OnOk result (Stands self.new (puts ++ Of item.now ∷ [])) }
         ensures bytes { (puts : List Put) → Stands self.old puts →

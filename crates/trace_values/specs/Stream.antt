@@ -2,6 +2,7 @@
 use Rattle.std.specs.Prelude.{◌≡◌, ℕ, ◌+◌, ◌*◌, ◌≤◌, List, [], ◌∷◌, ◌++◌, Bool, true, false, Option, None, Some}
 use Rattle.std.specs.Prelude.{is_none, length, map}
 use Rattle.trace_values.specs.declared.fault.Reason.{Reason}
+use Rattle.trace_values.specs.declared.limits.TheConstants.{COUNT_ROOM}
 use Rattle.trace_values.specs.declared.step.Step.{Step}
 use Rattle.trace_values.specs.declared.step.Step.TheVariants.{Quiet, Skipping, Item, Locked, Fault as Faulty}
 use Rattle.trace_values.specs.Placed.{Place}
@@ -65,6 +66,14 @@ StepFits fits (Faulty f) = Unit {0}
 abbrev pub LocksAfter : {V : Type 0} → ℕ → Step V → Type 0
 LocksAfter count (Locked skipped half v) = skipped ≡ count
 LocksAfter count s = Unit {0}
+
+-- after this step, of such an item, a machine is so live, and has skipped so many units
+abbrev pub Tells : {V : Type 0} → Bool → ℕ → (V → Type 0) → Step V → Type 0
+Tells live skipped fits step = (live ≡ goes_on step) × LocksAfter skipped step × StepFits fits step
+
+-- a machine that holds and skipped so many units has room for those of one more byte
+abbrev pub HasRoom : ℕ → ℕ → Type 0
+HasRoom held skipped = (held ≤ COUNT_ROOM) × (skipped ≤ COUNT_ROOM)
 
 -- what a step says of the hunt, and a fault of its offset
 abbrev pub HuntBy : {V : Type 0} → Stream V → Stream V → ℕ → Step V → Type 0

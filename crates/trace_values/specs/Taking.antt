@@ -22,3 +22,8 @@ pub record Passes {V : Type 0} (reading : List Placed → Stream V) (stands : Li
 abbrev pub item_at : {V : Type 0} → ℕ → Option V → Option (Step V)
 item_at half None = None
 item_at half (Some item) = Some (Item half item)
+
+-- nothing was taken: it stands for what it stood for, holds as many units, and has skipped as many
+abbrev pub TakesNone : {M : Type 0} → (M → List Placed → Type 0) → (held skipped : M → ℕ) → M → M → Type 0
+TakesNone stands held skipped old new =
+    ((u : List Placed) → stands old u → stands new u) × (held new ≡ held old) × (skipped new ≡ skipped old)

@@ -1,10 +1,8 @@
 //! What reads a source's bytes one by one.
 
-ghost use Rattle.std.specs.Prelude.{◌≡◌, ℕ, ◌+◌, ◌<◌, ◌≤◌, ◌++◌, ◌∷◌, [], List, Bool, true, false, None, is_none};
-ghost use Rattle.std.specs.Prelude.{length};
+ghost use Rattle.std.specs.Prelude.{◌≡◌, ℕ, ◌+◌, ◌<◌, ◌≤◌, ◌++◌, ◌∷◌, [], List, Bool, true, false, None, is_none, length};
 ghost use Rattle.trace_values.specs.Placed.{Placed, byte_at};
-ghost use Rattle.trace_values.specs.Stream.{Stream, Grows, Shows, Settled, Holds, Rises, StepFits, LocksAfter, goes_on};
-ghost use Rattle.trace_values.specs.declared.limits.TheConstants.{COUNT_ROOM};
+ghost use Rattle.trace_values.specs.Stream.{Stream, Grows, HasRoom, Holds, Rises, Settled, Shows, Tells};
 
 use crate::step::Step;
 
@@ -48,15 +46,12 @@ pub trait Machine {
     /// skipped at most `COUNT_ROOM` units.
     fn feed(&mut self, at: u64, byte: u8) -> Step<Self::Item>
         requires live { live self.old ≡ true }
-        requires room { held_units self.old ≤ COUNT_ROOM }
-        requires count { skipped_units self.old ≤ COUNT_ROOM }
+        requires room { HasRoom (held_units self.old) (skipped_units self.old) }
         ensures same { reading self.new ≡ reading self.old }
         ensures list { (u : List Placed) → stands self.old u → stands self.new (u ++ byte_at at byte ∷ []) }
         ensures step { (u : List Placed) → stands self.old u →
             Grows (reading self.old u) (reading self.old (u ++ byte_at at byte ∷ [])) at result }
-        ensures live { live self.new ≡ goes_on result }
-        ensures lock { LocksAfter (skipped_units self.new) result }
-        ensures fits { StepFits fits result }
+        ensures tells { Tells (live self.new) (skipped_units self.new) fits result }
         ensures few { held_units self.new + skipped_units self.new ≤
             held_units self.old + skipped_units self.old + 2 };
 

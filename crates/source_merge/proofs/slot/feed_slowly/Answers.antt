@@ -68,7 +68,7 @@ returns-clause-feeds g c =
           (sym (next_cell run done cell c.requires.done c.cell-cell.ensures))
           (feeds_more reading u c.args.source was now (take done run) cell c.step-step.result c.give_step.result
           [] old (old ++ es)
-          (feeds_kept reading u c.args.source (g.M.Machine.stands c.args.machine.now) was (take done run) [] old None (λ w k. c.take.ensures.list w none k) h)
+          (feeds_kept reading u c.args.source (g.M.Machine.stands c.args.machine.now) was (take done run) [] old None (c.take.ensures.none none).0 h)
           (λ w k. c.step-step.ensures.list w k)
           (λ w k. grown_as (g.M.Finds.reads c.take.new.self) reading c.take.ensures.same w cell c.step-step.result (c.step-step.ensures.step w k))
           c.give_step.ensures.fault refl),
@@ -88,7 +88,7 @@ early_at g c (Some f) e = λ u s n r given h.
     early reading (g.met.M.Finds.reads_rises c.args.machine.now) (g.met.M.Finds.reads_settles c.args.machine.now) u (take done run) d (drop (done + 1) run) c.step-step.result f
     (sym c.give_step.ensures.fault ∙ e)
     (grown_as (g.M.Finds.reads c.take.new.self) reading c.take.ensures.same _ d c.step-step.result
-    (c.step-step.ensures.step _ (c.take.ensures.list (u ++ placed_run (take done run)) c.in_default.is s)))
+    (c.step-step.ensures.step _ ((c.take.ensures.none c.in_default.is).0 (u ++ placed_run (take done run)) s)))
     n (subst (λ (l : List Cell). RisesFrom n l) parts r) given (ap (λ (l : List Cell). (reading (u ++ placed_run l)).given) (sym parts) ∙ h)
 
 pub returns-clause-early : goal.returns-clause-early

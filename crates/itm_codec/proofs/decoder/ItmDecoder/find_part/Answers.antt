@@ -1,5 +1,5 @@
 use Rattle.std.proofs.Common.{arith}
-use Rattle.itm_codec.proofs.Parts.{looked_ends, looked_idles, looked_waits, looked_passes, looked_unknown}
+use Rattle.itm_codec.proofs.Parts.{looked_ends, looked_idles, looked_waits, looked_passes}
 use Rattle.itm_codec.proofs.decoder.ItmDecoder.find_part.Goals as goal
 
 pub returns-clause-ends : goal.returns-clause-ends
@@ -19,7 +19,3 @@ pub returns-clause-passes : goal.returns-clause-passes
 returns-clause-passes c =
     looked_passes c.args.self.now c.find_at_once.new.self c.args.ahead.now c.args.count c.find_at_once.result
     c.requires.live c.find_at_once.ensures
-
-pub returns-clause-unknown : goal.returns-clause-unknown
-returns-clause-unknown c =
-    looked_unknown c.args.self.now c.find_at_once.new.self c.args.ahead.now c.args.count c.find_at_once.result c.find_at_once.ensures

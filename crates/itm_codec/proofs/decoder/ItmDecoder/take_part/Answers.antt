@@ -1,14 +1,9 @@
-use Rattle.std.proofs.Common.{arith, length}
-use Rattle.itm_codec.proofs.Parts.{took_few, took_none, took_passes}
+use Rattle.std.proofs.Common.{length}
+use Rattle.itm_codec.proofs.Parts.{took_none, took_part}
 use Rattle.itm_codec.proofs.decoder.ItmDecoder.take_part.Goals as goal
 
-pub returns-clause-few : goal.returns-clause-few
-returns-clause-few c =
-    took_few c.args.self.now c.take_slowly.new.self c.args.bytes.now (length c.args.bytes.now) c.take_slowly.result (omega arith) c.take_slowly.ensures
-
-pub returns-clause-passes : goal.returns-clause-passes
-returns-clause-passes c =
-    took_passes c.args.self.now c.take_slowly.new.self c.args.bytes.now (length c.args.bytes.now) c.take_slowly.result c.requires.live c.take_slowly.ensures
+pub returns-clause-takes : goal.returns-clause-takes
+returns-clause-takes c = took_part c.args.self.now c.take_slowly.new.self c.args.bytes.now c.take_slowly.result c.requires.live c.take_slowly.ensures
 
 pub returns-clause-none : goal.returns-clause-none
 returns-clause-none c =

@@ -14,7 +14,7 @@ returns-in-Fault-clause-list c = λ r k.
     keeps_falls s.machine e s.past s.count r k s.live c.args.at c.args.byte c.feed_units.ensures.reads
     c.feed_units.ensures.mode
     c.in-Fault.fault (subst (λ x. TakesUnits s.machine e r.now.units c.args.at c.args.byte x) c.in-Fault.is
-    (c.feed_units.ensures.takes r.now.units k.stands)) c.in-Fault.ensures.live
+    (c.feed_units.ensures.takes r.now.units k.stands)) c.in-Fault.ensures.tells.0
     z.result c.skipped.result c.held-self.result c.skipped.ensures c.held-self.ensures (z.ensures.reads
     ∙ c.feed_units.ensures.reads) z.ensures.mode
     (subst (λ kind. StandsOn z.result (units_from kind c.in-Fault.fault.half c.args.at c.args.byte))
@@ -40,7 +40,7 @@ returns-in-Fault-clause-given c = λ r k.
     given_falls s.machine e s.past s.count r k s.live c.args.at c.args.byte c.feed_units.ensures.reads
     c.feed_units.ensures.mode
     c.in-Fault.fault (subst (λ x. TakesUnits s.machine e r.now.units c.args.at c.args.byte x) c.in-Fault.is
-    (c.feed_units.ensures.takes r.now.units k.stands)) c.in-Fault.ensures.live
+    (c.feed_units.ensures.takes r.now.units k.stands)) c.in-Fault.ensures.tells.0
 
 pub returns-in_default : goal.returns-in_default
 returns-in_default c =

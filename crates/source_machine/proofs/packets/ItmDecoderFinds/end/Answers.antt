@@ -2,4 +2,4 @@ use Rattle.source_machine.proofs.Reading.{itm_same}
 use Rattle.source_machine.proofs.packets.ItmDecoderFinds.end.Goals as goal
 
 pub returns-clause-same : goal.returns-clause-same
-returns-clause-same c = itm_same c.args.self.now c.end_part-taken.new.self c.end_part-taken.ensures.same
+returns-clause-same c = itm_same c.args.self.now c.end_part-taken.new.self c.end_part-taken.ensures.stays.0

@@ -2,10 +2,10 @@ use Rattle.source_machine.proofs.Reading.{itm_same}
 use Rattle.source_machine.proofs.packets.ItmDecoderFinds.take.Goals as goal
 
 pub returns-in_err-taken-clause-same : goal.returns-in_err-taken-clause-same
-returns-in_err-taken-clause-same c = itm_same c.args.self.now c.take_part.new.self c.take_part.ensures.same
+returns-in_err-taken-clause-same c = itm_same c.args.self.now c.take_part.new.self c.take_part.ensures.stays.0
 
 pub returns-in-None-clause-same : goal.returns-in-None-clause-same
-returns-in-None-clause-same c = itm_same c.args.self.now c.take_part.new.self c.take_part.ensures.same
+returns-in-None-clause-same c = itm_same c.args.self.now c.take_part.new.self c.take_part.ensures.stays.0
 
 pub returns-in-Some-clause-same : goal.returns-in-Some-clause-same
-returns-in-Some-clause-same c = itm_same c.args.self.now c.take_part.new.self c.take_part.ensures.same
+returns-in-Some-clause-same c = itm_same c.args.self.now c.take_part.new.self c.take_part.ensures.stays.0

@@ -2,10 +2,10 @@ use Rattle.source_machine.proofs.Reading.{stp_same}
 use Rattle.source_machine.proofs.packets.StpDecoderFinds.take.Goals as goal
 
 pub returns-in_err-taken-clause-same : goal.returns-in_err-taken-clause-same
-returns-in_err-taken-clause-same c = stp_same c.args.self.now c.take_part.new.self c.take_part.ensures.same
+returns-in_err-taken-clause-same c = stp_same c.args.self.now c.take_part.new.self c.take_part.ensures.stays
 
 pub returns-in-None-clause-same : goal.returns-in-None-clause-same
-returns-in-None-clause-same c = stp_same c.args.self.now c.take_part.new.self c.take_part.ensures.same
+returns-in-None-clause-same c = stp_same c.args.self.now c.take_part.new.self c.take_part.ensures.stays
 
 pub returns-in-Some-clause-same : goal.returns-in-Some-clause-same
-returns-in-Some-clause-same c = stp_same c.args.self.now c.take_part.new.self c.take_part.ensures.same
+returns-in-Some-clause-same c = stp_same c.args.self.now c.take_part.new.self c.take_part.ensures.stays

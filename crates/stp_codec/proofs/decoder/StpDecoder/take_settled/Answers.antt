@@ -1,11 +1,11 @@
 use Rattle.std.proofs.Common.{◌≡◌, ◌<◌, length, sym, ◌∙◌, subst, ap, arith, None, true, false}
 use Rattle.std.specs.Prelude.{◌==◌}
 use Rattle.std.proofs.lemmas.Bool.Decides.{nat_tests}
-use Rattle.stp_codec.specs.Names.{nibbles_of, Go, Partial, count_of}
+use Rattle.stp_codec.specs.Names.{nibbles_of, Go, Partial, Passes, count_of}
 use Rattle.stp_codec.specs.Reading.{items_in}
 use Rattle.stp_codec.specs.Wholes.{Ends, between, nibbles_in}
 use Rattle.stp_codec.specs.Decoder.{is_hunter, has_locked}
-use Rattle.stp_codec.specs.Cuts.{Passes, CutsInto, IsProperCut}
+use Rattle.stp_codec.specs.Cuts.{CutsInto, IsProperCut}
 use Rattle.stp_codec.proofs.Taking.{At}
 use Rattle.stp_codec.proofs.Taken.{filled}
 use Rattle.stp_codec.proofs.Unread.{reached_none}

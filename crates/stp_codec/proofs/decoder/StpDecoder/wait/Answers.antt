@@ -11,7 +11,7 @@ returns-clause-found c =
     let k = more_count d c.args._ahead.now c.args.count c.requires.held c.requires.fronts c.requires.ahead in
     record {
       bytes = (c.requires.some, omega arith);
-      passes = λ u front last s e. more_passes d c.args._ahead.now c.args.count c.requires.held c.requires.fronts c.requires.live c.requires.ready.locked u front last s e;
+      passes = λ u front last s e. more_passes d c.args._ahead.now c.args.count c.requires.held c.requires.fronts c.requires.ready.live c.requires.ready.locked u front last s e;
       fits = tt;
       few = omega (arith, k);
     }
