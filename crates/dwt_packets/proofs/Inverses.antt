@@ -122,38 +122,30 @@ inverse d s v g h = by_table (Inverse d s v) d s v
         let z = is_one s f.1 in
         let n = same v 0 f.2 in of_row d 2 s One v Asleep (rw n refl) f.0 z tt
 
+-- what holds of each comparator
+each_of_four : (P : ℕ → Type 0) → P 0 × P 1 × P 2 × P 3 → (c : ℕ) → c < 4 → P c
+each_of_four P p zero h = p.0
+each_of_four P p (suc zero) h = p.1
+each_of_four P p (suc (suc zero)) h = p.2
+each_of_four P p (suc (suc (suc zero))) h = p.3
+each_of_four P p (suc (suc (suc (suc c)))) h = absurd (omega arith)
+
 -- the item of a comparator's packet
-match_pc : (c v : ℕ) → c < 4 → name (8 + 2 * c) Four v ≡ MatchPc c v
+match_pc : (v c : ℕ) → c < 4 → name (8 + 2 * c) Four v ≡ MatchPc c v
 unfolding name
-match_pc zero v k = refl
-match_pc (suc zero) v k = refl
-match_pc (suc (suc zero)) v k = refl
-match_pc (suc (suc (suc zero))) v k = refl
-match_pc (suc (suc (suc (suc c)))) v k = absurd (omega arith)
+match_pc v = each_of_four (λ c. name (8 + 2 * c) Four v ≡ MatchPc c v) (refl, refl, refl, refl)
 
-match_address : (c v : ℕ) → c < 4 → name (9 + 2 * c) Two v ≡ MatchAddress c v
+match_address : (v c : ℕ) → c < 4 → name (9 + 2 * c) Two v ≡ MatchAddress c v
 unfolding name
-match_address zero v k = refl
-match_address (suc zero) v k = refl
-match_address (suc (suc zero)) v k = refl
-match_address (suc (suc (suc zero))) v k = refl
-match_address (suc (suc (suc (suc c)))) v k = absurd (omega arith)
+match_address v = each_of_four (λ c. name (9 + 2 * c) Two v ≡ MatchAddress c v) (refl, refl, refl, refl)
 
-read : (c : ℕ) (s : Size) (v : ℕ) → c < 4 → name (16 + 2 * c) s v ≡ Read c s v
+read : (s : Size) (v c : ℕ) → c < 4 → name (16 + 2 * c) s v ≡ Read c s v
 unfolding name
-read zero s v k = refl
-read (suc zero) s v k = refl
-read (suc (suc zero)) s v k = refl
-read (suc (suc (suc zero))) s v k = refl
-read (suc (suc (suc (suc c)))) s v k = absurd (omega arith)
+read s v = each_of_four (λ c. name (16 + 2 * c) s v ≡ Read c s v) (refl, refl, refl, refl)
 
-written : (c : ℕ) (s : Size) (v : ℕ) → c < 4 → name (17 + 2 * c) s v ≡ Written c s v
+written : (s : Size) (v c : ℕ) → c < 4 → name (17 + 2 * c) s v ≡ Written c s v
 unfolding name
-written zero s v k = refl
-written (suc zero) s v k = refl
-written (suc (suc zero)) s v k = refl
-written (suc (suc (suc zero))) s v k = refl
-written (suc (suc (suc (suc c)))) s v k = absurd (omega arith)
+written s v = each_of_four (λ c. name (17 + 2 * c) s v ≡ Written c s v) (refl, refl, refl, refl)
 
 counters_of : (v : ℕ) → v < 2 ^ 6 → name 0 One v ≡ Counters v
 unfolding name
@@ -181,10 +173,10 @@ name_of_packet (Exception n Exit) r = (omega arith, omega arith, exception_of n 
 name_of_packet (Exception n Return) r = (omega arith, omega arith, exception_of n Return r)
 name_of_packet (Sample v) r = (omega arith, r, sample_of v)
 name_of_packet Asleep r = (omega arith, omega arith, asleep_of)
-name_of_packet (MatchPc c v) r = (omega arith, r.1, match_pc c v r.0)
-name_of_packet (MatchAddress c v) r = (omega arith, r.1, match_address c v r.0)
-name_of_packet (Read c s v) r = (omega arith, r.1, read c s v r.0)
-name_of_packet (Written c s v) r = (omega arith, r.1, written c s v r.0)
+name_of_packet (MatchPc c v) r = (omega arith, r.1, match_pc v c r.0)
+name_of_packet (MatchAddress c v) r = (omega arith, r.1, match_address v c r.0)
+name_of_packet (Read c s v) r = (omega arith, r.1, read s v c r.0)
+name_of_packet (Written c s v) r = (omega arith, r.1, written s v c r.0)
 name_of_packet (Other d s v) r = (r.0.0, r.0.1, no_row d s v r.1)
 
 -- the proper items are those in their ranges

@@ -27,40 +27,30 @@ cut_front window count bytes p h l s =
     let more = longer count bytes window h l in
     front_of (take count window) more.0 more.1 p (subst (λ (x : List ℕ). Spells p x) more.2 s)
 
+-- what holds of each number up to 7
+up_to_seven : (P : ℕ → Type 0) → P 0 × P 1 × P 2 × P 3 × P 4 × P 5 × P 6 × P 7 → (n : ℕ) → n ≤ 7 → P n
+up_to_seven P p zero h = p.0
+up_to_seven P p (suc zero) h = p.1
+up_to_seven P p (suc (suc zero)) h = p.2
+up_to_seven P p (suc (suc (suc zero))) h = p.3
+up_to_seven P p (suc (suc (suc (suc zero)))) h = p.4
+up_to_seven P p (suc (suc (suc (suc (suc zero))))) h = p.5
+up_to_seven P p (suc (suc (suc (suc (suc (suc zero)))))) h = p.6
+up_to_seven P p (suc (suc (suc (suc (suc (suc (suc zero))))))) h = p.7
+up_to_seven P p (suc (suc (suc (suc (suc (suc (suc (suc n)))))))) h = absurd (omega arith)
+
 -- all bits of the first bytes
 pub bits_are : (n : ℕ) → n ≤ 7 → 1 * 2 ^ (8 * n) % 18446744073709551616 - 1 ≡ 256 ^ n - 1
-bits_are zero h = refl
-bits_are (suc zero) h = refl
-bits_are (suc (suc zero)) h = refl
-bits_are (suc (suc (suc zero))) h = refl
-bits_are (suc (suc (suc (suc zero)))) h = refl
-bits_are (suc (suc (suc (suc (suc zero))))) h = refl
-bits_are (suc (suc (suc (suc (suc (suc zero)))))) h = refl
-bits_are (suc (suc (suc (suc (suc (suc (suc zero))))))) h = refl
-bits_are (suc (suc (suc (suc (suc (suc (suc (suc n)))))))) h = absurd (omega arith)
+bits_are = up_to_seven (λ n. 1 * 2 ^ (8 * n) % 18446744073709551616 - 1 ≡ 256 ^ n - 1) (refl, refl, refl, refl, refl, refl, refl, refl)
 
 pub low_bits : (word n : ℕ) → n ≤ 7 → bit_and word (256 ^ n - 1) ≡ word % 256 ^ n
-low_bits word zero h = and_mask word 0
-low_bits word (suc zero) h = and_mask word 8
-low_bits word (suc (suc zero)) h = and_mask word 16
-low_bits word (suc (suc (suc zero))) h = and_mask word 24
-low_bits word (suc (suc (suc (suc zero)))) h = and_mask word 32
-low_bits word (suc (suc (suc (suc (suc zero))))) h = and_mask word 40
-low_bits word (suc (suc (suc (suc (suc (suc zero)))))) h = and_mask word 48
-low_bits word (suc (suc (suc (suc (suc (suc (suc zero))))))) h = and_mask word 56
-low_bits word (suc (suc (suc (suc (suc (suc (suc (suc n)))))))) h = absurd (omega arith)
+low_bits word =
+    let mask = and_mask word in
+    up_to_seven (λ n. bit_and word (256 ^ n - 1) ≡ word % 256 ^ n) (mask 0, mask 8, mask 16, mask 24, mask 32, mask 40, mask 48, mask 56)
 
 -- bytes 00 are within a synchronisation
 zeros_front : (n : ℕ) → n ≤ 7 → Front (replicate n 0)
-zeros_front zero h = refl
-zeros_front (suc zero) h = refl
-zeros_front (suc (suc zero)) h = refl
-zeros_front (suc (suc (suc zero))) h = refl
-zeros_front (suc (suc (suc (suc zero)))) h = refl
-zeros_front (suc (suc (suc (suc (suc zero))))) h = refl
-zeros_front (suc (suc (suc (suc (suc (suc zero)))))) h = refl
-zeros_front (suc (suc (suc (suc (suc (suc (suc zero))))))) h = refl
-zeros_front (suc (suc (suc (suc (suc (suc (suc (suc n)))))))) h = absurd (omega arith)
+zeros_front = up_to_seven (λ n. Front (replicate n 0)) (refl, refl, refl, refl, refl, refl, refl, refl)
 
 pub zero_front : (window : List ℕ) (word bits n : ℕ) → length window ≡ 8 → ((i : ℕ) → get_or window i 0 < 256) → word ≡ from_le_bytes w64 window → n ≤ 7 → bits ≡ 256 ^ n - 1 →
     bit_and word bits ≡ 0 → IsFrontOf window n

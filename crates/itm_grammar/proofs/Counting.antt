@@ -1,9 +1,6 @@
 -- A state counts the bytes of the unfinished packet.
 use Rattle.std.proofs.Common.{◌≡◌, ℕ, ◌+◌, ◌==◌, ◌&&◌, nat_le, Bool, true, false, cond, refl}
-use Rattle.trace_values.specs.declared.fault.Reason.TheVariants.{BadItmSync}
-use Rattle.trace_values.specs.declared.next.Next.{Next}
-use Rattle.trace_values.specs.declared.next.Next.TheVariants.{Go, End, Fail}
-use Rattle.trace_values.specs.Placed.{Placed}
+use Rattle.itm_grammar.specs.Names.{BadItmSync, Next, Go, End, Fail, Placed}
 use Rattle.itm_grammar.specs.declared.packet.ItmPacket.{ItmPacket}
 use Rattle.itm_grammar.specs.declared.packet.ItmPacket.TheVariants.{Sync}
 use Rattle.itm_grammar.specs.declared.header.Class.{Class}

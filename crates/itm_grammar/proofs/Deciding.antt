@@ -4,11 +4,8 @@ use Rattle.std.proofs.lemmas.List.{length-replicate}
 use Rattle.std.proofs.Math.Nat.{pow-suc}
 use Rattle.std.specs.Prelude.{nat_lt, ◌==◌, ◌&&◌}
 use Rattle.std.proofs.lemmas.Bool.Decides.{nat_tests}
-use Rattle.trace_values.specs.declared.fault.Reason.{Reason}
-use Rattle.trace_values.specs.declared.fault.Reason.TheVariants.{BadItmSync, LongStamp, ShortStamp}
-use Rattle.trace_values.specs.declared.next.Next.{Next}
-use Rattle.trace_values.specs.declared.next.Next.TheVariants.{Go, End, Fail}
-use Rattle.trace_values.specs.Walk.{Walked, Within, Whole, after, Decides}
+use Rattle.itm_grammar.specs.Names.{Reason, BadItmSync, LongStamp, ShortStamp, Next, Go, End, Fail, Walked, Within}
+use Rattle.itm_grammar.specs.Names.{Whole, after, Decides}
 use Rattle.trace_values.proofs.Walks as walks
 use Rattle.itm_grammar.specs.declared.packet.Size.{Size}
 use Rattle.itm_grammar.specs.declared.packet.Size.TheVariants.{One, Two, Four}
@@ -84,9 +81,8 @@ parts g h =
 joined : (n g value : ℕ) (change wrap : Bool) → value < 2 ^ 26 → g ≡ value + 2 ^ 26 * bit_of change + 2 ^ 27 * bit_of wrap → first_stamp n g ≡ GlobalFirst n value change wrap
 joined n g value change wrap h e =
     let a : g % 2 ^ 26 ≡ value = low change wrap e in
-    let b : ((g / 2 ^ 26) % 2 == 1) ≡ change = high change wrap e in
-    let c : ((g / 2 ^ 27) % 2 == 1) ≡ wrap = highest change wrap e in
-    rw (a, b, c) refl
+    let b = bits change wrap e in
+    rw (a, b.0, b.1) refl
   where
     one : (k : ℕ) (b : Bool) → k ≡ bit_of b → (k == 1) ≡ b
     one k true e = rw e refl
@@ -98,17 +94,11 @@ joined n g value change wrap h e =
     low false true e = omega arith
     low false false e = omega arith
 
-    high : (change wrap : Bool) → g ≡ value + 2 ^ 26 * bit_of change + 2 ^ 27 * bit_of wrap → ((g / 2 ^ 26) % 2 == 1) ≡ change
-    high true true e = one ((g / 2 ^ 26) % 2) true (omega arith)
-    high true false e = one ((g / 2 ^ 26) % 2) true (omega arith)
-    high false true e = one ((g / 2 ^ 26) % 2) false (omega arith)
-    high false false e = one ((g / 2 ^ 26) % 2) false (omega arith)
-
-    highest : (change wrap : Bool) → g ≡ value + 2 ^ 26 * bit_of change + 2 ^ 27 * bit_of wrap → ((g / 2 ^ 27) % 2 == 1) ≡ wrap
-    highest true true e = one ((g / 2 ^ 27) % 2) true (omega arith)
-    highest true false e = one ((g / 2 ^ 27) % 2) false (omega arith)
-    highest false true e = one ((g / 2 ^ 27) % 2) true (omega arith)
-    highest false false e = one ((g / 2 ^ 27) % 2) false (omega arith)
+    bits : (change wrap : Bool) → g ≡ value + 2 ^ 26 * bit_of change + 2 ^ 27 * bit_of wrap → (((g / 2 ^ 26) % 2 == 1) ≡ change) × (((g / 2 ^ 27) % 2 == 1) ≡ wrap)
+    bits true true e = (one ((g / 2 ^ 26) % 2) true (omega arith), one ((g / 2 ^ 27) % 2) true (omega arith))
+    bits true false e = (one ((g / 2 ^ 26) % 2) true (omega arith), one ((g / 2 ^ 27) % 2) false (omega arith))
+    bits false true e = (one ((g / 2 ^ 26) % 2) false (omega arith), one ((g / 2 ^ 27) % 2) true (omega arith))
+    bits false false e = (one ((g / 2 ^ 26) % 2) false (omega arith), one ((g / 2 ^ 27) % 2) false (omega arith))
 
 -- groups of no more than this many bytes fit their bits
 positive : (n : ℕ) → 0 < 128 ^ n

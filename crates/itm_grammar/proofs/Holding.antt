@@ -1,10 +1,8 @@
 -- But for a run of bytes 00, the bytes of an unfinished packet are few.
 use Rattle.std.proofs.Common.{◌≡◌, ℕ, ◌+◌, ◌≤◌, ◌⊎◌, inl, inr, List, [], ◌∷◌, length, All, true, false, sym, ◌∙◌, ap, arith}
 use Rattle.std.proofs.lemmas.List.Elements.{All-nil, All-cons}
-use Rattle.trace_values.specs.declared.next.Next.TheVariants.{Go, End, Fail}
-use Rattle.trace_values.specs.Walk.{Within, after, walk}
+use Rattle.itm_grammar.specs.Names.{Go, End, Fail, Within, after, walk, BadItmSync}
 use Rattle.itm_grammar.specs.declared.packet.Size.TheVariants.{One, Two, Four}
-use Rattle.trace_values.specs.declared.fault.Reason.TheVariants.{BadItmSync}
 use Rattle.itm_grammar.specs.declared.packet.ItmPacket.TheVariants.{Sync}
 use Rattle.itm_grammar.specs.declared.header.Class.{Class}
 use Rattle.itm_grammar.specs.declared.header.Class.TheVariants.{Zero, Overflow as Overflowed, Source, LocalShort, LocalLong, GlobalFirst as First, GlobalSecond as Second, Extension as Extended, Reserved}

@@ -1,3 +1,4 @@
+pub mod Names
 pub mod Header
 pub mod Spelling
 pub mod Rule

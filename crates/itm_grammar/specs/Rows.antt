@@ -1,10 +1,7 @@
 -- Worked rows of the grammar, in text.
 use Rattle.std.specs.Prelude.{ℕ, List, length, map, Option, option_map}
 pub use Rattle.trace_values.specs.Hex.{hex}
-use Rattle.trace_values.specs.declared.fault.Reason.{Reason}
-use Rattle.trace_values.specs.Placed.{placed}
-use Rattle.trace_values.specs.Walk.{by_unit}
-use Rattle.trace_values.specs.Reading.{Reading, reading}
+use Rattle.itm_grammar.specs.Names.{Reason, placed, by_unit, Reading, reading}
 use Rattle.itm_grammar.specs.declared.packet.ItmPacket.{ItmPacket}
 use Rattle.itm_grammar.specs.declared.partial.Partial.TheVariants.{Header}
 use Rattle.itm_grammar.specs.Rule.{rule}

@@ -2,8 +2,7 @@
 -- DWT Packet Protocol', section D4.2 'Packet descriptions'). Titles in quotes are those of its parts.
 use Rattle.std.specs.Prelude.{◌≡◌, ℕ, ◌+◌, ◌*◌, ◌^◌, ◌%◌, ◌<◌, ◌≤◌, List, [], ◌∷◌, ◌++◌, length, replicate, Bool, true}
 use Rattle.std.specs.Prelude.{false, ◌==◌, if◌then◌else◌, ◌⊎◌}
-use Rattle.trace_values.specs.declared.fault.Reason.{Reason}
-use Rattle.trace_values.specs.declared.fault.Reason.TheVariants.{ReservedHeader, BadItmSync, LongStamp, ShortStamp}
+use Rattle.itm_grammar.specs.Names.{Reason, ReservedHeader, BadItmSync, LongStamp, ShortStamp}
 use Rattle.itm_grammar.specs.declared.packet.Size.{Size}
 use Rattle.itm_grammar.specs.declared.packet.Size.TheVariants.{One, Two, Four}
 use Rattle.itm_grammar.specs.declared.packet.Lateness.{Lateness}

@@ -1,10 +1,8 @@
 //! Laws of the grammar, over its definitions alone.
 
 ghost use Rattle.std.specs.Prelude.{◌≡◌, ◌↔◌, ◌⊎◌, ℕ, ◌<◌, ◌≤◌, List, All, length};
-ghost use Rattle.trace_values.specs.Placed.{Placed, units_of};
-ghost use Rattle.trace_values.specs.Grammar.{PrefixLaw, InUnits};
-ghost use Rattle.trace_values.specs.Walk.{Decides, Within, walk, by_unit};
-ghost use Rattle.trace_values.specs.Reading.{Reading, IsReading, reading};
+ghost use Rattle.itm_grammar.specs.Names.{Placed, units_of, PrefixLaw, InUnits, Decides, Within, walk, by_unit};
+ghost use Rattle.itm_grammar.specs.Names.{Reading, IsReading, reading};
 ghost use Rattle.itm_grammar.specs.declared.packet.ItmPacket.{ItmPacket};
 ghost use Rattle.itm_grammar.specs.declared.partial.Partial.{Partial};
 ghost use Rattle.itm_grammar.specs.declared.partial.Partial.TheVariants.{Header};

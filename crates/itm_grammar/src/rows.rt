@@ -1,8 +1,7 @@
 //! Worked rows of the grammar, which the checker computes.
 
 ghost use Rattle.std.specs.Prelude.{◌≡◌, [], ◌∷◌, None, Some, codes, true, false};
-ghost use Rattle.trace_values.specs.declared.fault.Reason.TheVariants.{ReservedHeader, BadItmSync, LongStamp};
-ghost use Rattle.trace_values.specs.declared.fault.Reason.TheVariants.{ShortStamp};
+ghost use Rattle.itm_grammar.specs.Names.{ReservedHeader, BadItmSync, LongStamp, ShortStamp};
 ghost use Rattle.itm_grammar.specs.declared.packet.Size.TheVariants.{One, Two, Four};
 ghost use Rattle.itm_grammar.specs.declared.packet.Lateness.TheVariants.{Exact, BothLate};
 ghost use Rattle.itm_grammar.specs.declared.packet.ItmPacket.TheVariants.{Sync, Overflow, Software, Hardware, Local};

@@ -14,37 +14,28 @@ are_same a b e = grind (arith, nat_tests)
 low_told : (k n : ℕ) → k / 256 ≡ n / 256 → k / 256 * 256 + n % 256 ≡ n
 low_told k n e = omega (arith, e)
 
-master_told : (before : List StpPacket) (n : ℕ) → n < 2 ^ 16 → master_of (before ++ telling Master8 Master16 (master_of before) (Some n)) ≡ Some n
-master_told before n h = by (master_of before) refl where
-  whole : master_of (before ++ Plain Master16 n ∷ []) ≡ Some n
-  whole = master_more before (Plain Master16 n) (omega (arith, h))
-
-  by : (o : Option ℕ) → master_of before ≡ o → master_of (before ++ telling Master8 Master16 o (Some n)) ≡ Some n
-  by None e = whole
-  by (Some k) e = choose (k == n) (k / 256 == n / 256) refl refl where
-    choose : (s t : Bool) → (k == n) ≡ s → (k / 256 == n / 256) ≡ t → master_of (before ++ cond s [] (cond t (Plain Master8 (n % 256) ∷ []) (Plain Master16 n ∷ []))) ≡ Some n
-    choose true t f g = ap (λ (l : List StpPacket). master_of l) (append-nil before) ∙ e ∙ ap Some (are_same k n f)
+-- a number is in force after the packet that tells it, where either row's packet makes it so
+module _ (of : List StpPacket → Option ℕ) (low whole : Row) (before : List StpPacket) (n : ℕ) (all : of (before ++ Plain whole n ∷ []) ≡ Some n)
+    (part : of (before ++ Plain low (n % 256) ∷ []) ≡ next_number (of before) None (Some (n % 256))) where
+  by_known : (o : Option ℕ) → of before ≡ o → of (before ++ telling low whole o (Some n)) ≡ Some n
+  by_known None e = all
+  by_known (Some k) e = choose (k == n) (k / 256 == n / 256) refl refl where
+    choose : (s t : Bool) → (k == n) ≡ s → (k / 256 == n / 256) ≡ t → of (before ++ cond s [] (cond t (Plain low (n % 256) ∷ []) (Plain whole n ∷ []))) ≡ Some n
+    choose true t f g = ap of (append-nil before) ∙ e ∙ ap Some (are_same k n f)
     choose false true f g =
-        master_more before (Plain Master8 (n % 256)) (omega (arith))
-        ∙ ap (λ (o : Option ℕ). next_number o None (Some (n % 256))) e
+        part ∙ ap (λ (o : Option ℕ). next_number o None (Some (n % 256))) e
         ∙ ap Some (low_told k n (are_same (k / 256) (n / 256) g))
-    choose false false f g = whole
+    choose false false f g = all
+
+master_told : (before : List StpPacket) (n : ℕ) → n < 2 ^ 16 → master_of (before ++ telling Master8 Master16 (master_of before) (Some n)) ≡ Some n
+master_told before n h =
+    by_known (λ l. master_of l) Master8 Master16 before n (master_more before (Plain Master16 n) (omega (arith, h)))
+    (master_more before (Plain Master8 (n % 256)) (omega arith)) (master_of before) refl
 
 channel_told : (before : List StpPacket) (n : ℕ) → n < 2 ^ 16 → channel_of (before ++ telling Channel8 Channel16 (channel_of before) (Some n)) ≡ Some n
-channel_told before n h = by (channel_of before) refl where
-  whole : channel_of (before ++ Plain Channel16 n ∷ []) ≡ Some n
-  whole = channel_more before (Plain Channel16 n) (omega (arith, h))
-
-  by : (o : Option ℕ) → channel_of before ≡ o → channel_of (before ++ telling Channel8 Channel16 o (Some n)) ≡ Some n
-  by None e = whole
-  by (Some k) e = choose (k == n) (k / 256 == n / 256) refl refl where
-    choose : (s t : Bool) → (k == n) ≡ s → (k / 256 == n / 256) ≡ t → channel_of (before ++ cond s [] (cond t (Plain Channel8 (n % 256) ∷ []) (Plain Channel16 n ∷ []))) ≡ Some n
-    choose true t f g = ap (λ (l : List StpPacket). channel_of l) (append-nil before) ∙ e ∙ ap Some (are_same k n f)
-    choose false true f g =
-        channel_more before (Plain Channel8 (n % 256)) (omega (arith))
-        ∙ ap (λ (o : Option ℕ). next_number o None (Some (n % 256))) e
-        ∙ ap Some (low_told k n (are_same (k / 256) (n / 256) g))
-    choose false false f g = whole
+channel_told before n h =
+    by_known (λ l. channel_of l) Channel8 Channel16 before n (channel_more before (Plain Channel16 n) (omega (arith, h)))
+    (channel_more before (Plain Channel8 (n % 256)) (omega arith)) (channel_of before) refl
 
 -- what holds of no packet, and of one of either row whose payload fits it, holds of the packet that tells a number
 pub telling_within : (P : List StpPacket → Type 0) (low whole : Row) (known number : Option ℕ) → ForSome number (λ n. n < 2 ^ 16) →

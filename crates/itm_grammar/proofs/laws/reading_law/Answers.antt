@@ -1,6 +1,4 @@
-use Rattle.trace_values.specs.Placed.{units_of}
-use Rattle.trace_values.specs.Grammar.{InUnits}
-use Rattle.trace_values.specs.Walk.{by_unit}
+use Rattle.itm_grammar.specs.Names.{units_of, InUnits, by_unit}
 use Rattle.trace_values.proofs.Placing as placing
 use Rattle.trace_values.proofs.Readings as readings
 use Rattle.itm_grammar.specs.declared.partial.Partial.TheVariants.{Header}
