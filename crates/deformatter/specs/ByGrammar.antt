@@ -6,7 +6,7 @@ use Rattle.std.specs.List.{sum_by}
 use Rattle.deformatter.specs.Names.{Reason, Place, Placed, units_of, IsNowhere, IsFirst, Reading, IsFirstFault}
 use Rattle.deformatter.specs.Names.{IsReading, FramesMode, Hunt, Aligned, Bare, PortItem, Spells, why, half_words}
 use Rattle.deformatter.specs.Names.{fulls_in, halves_in}
-use Rattle.deformatter.specs.PortReading.{PortReading, frames_of_items}
+use Rattle.deformatter.specs.PortReading.{PortReading, bare, frames_of_items}
 
 -- the bytes of a full synchronisation
 abbrev pub full_sync : List ℕ
@@ -58,12 +58,4 @@ IsPortReading Hunt u r =
     ⊎ ((before : List Placed) × (after : List Placed) × (u ≡ before ++ after)
     × IsFirst full_sync (units_of u) (units_of before)
     × IsByGrammar (length before) after r)
-IsPortReading Bare u r = r ≡ record {
-  frames = map (λ b. record { at = b.place.at; id = Some 1; run = 0; byte = b.unit } ∷ []) u;
-  fulls = 0;
-  halves = 0;
-  fault = None;
-  tail = 0;
-  skipped = 0;
-  locked = true;
-}
+IsPortReading Bare u r = r ≡ bare u

@@ -27,7 +27,7 @@ pub use Rattle.trace_values.specs.Nibbles.{high_of, low_of, nibbles_of}
 pub use Rattle.trace_values.specs.Placed.{Place, Placed, byte_at, units_of}
 pub use Rattle.trace_values.specs.Reading.{Progress, advance, progress, with_unit}
 pub use Rattle.trace_values.specs.Standing.{Keeps, live_after, state_after}
-pub use Rattle.trace_values.specs.Stream.{Grows, HasRoom, LocksAfter, Notice, StepFits, Stream, Tells, fault_by, given_by}
+pub use Rattle.trace_values.specs.Stream.{Grows, HasRoom, LocksAfter, Notice, Stream, Tells, fault_by, given_by}
 pub use Rattle.trace_values.specs.Stream.{goes_on, shown}
 pub use Rattle.trace_values.specs.Taking.{Passes, TakesNone, given_after, item_at}
 pub use Rattle.trace_values.specs.Walk.{Beyond, Broken, Decides, Walked, Whole, Within, after, by_unit, walk}

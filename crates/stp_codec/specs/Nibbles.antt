@@ -1,8 +1,8 @@
 -- A byte after a list of nibbles, which may begin with the high one of a byte (MIPI System Trace Protocol, version 2;
 -- that the low nibble of a byte comes first is this project's profile).
 use Rattle.std.specs.Prelude.{◌≡◌, ℕ, zero, suc, ◌+◌, ◌≤◌, List, [], ◌∷◌, ◌++◌, None, true}
-use Rattle.stp_codec.specs.Names.{Step, Quiet, Fault as Faulty, low_of, high_of, Placed, Grows, LocksAfter, StepFits}
-use Rattle.stp_codec.specs.Names.{byte_at, nibbles_of, goes_on, StpItem, IsProperItem, Start}
+use Rattle.stp_codec.specs.Names.{Step, Quiet, Fault as Faulty, low_of, high_of, Placed, Grows, Tells}
+use Rattle.stp_codec.specs.Names.{byte_at, nibbles_of, StpItem, IsProperItem, Start}
 use Rattle.stp_codec.specs.Answers.{AnswersByte, AnswersNibble}
 use Rattle.stp_codec.specs.Decoder.{EndsItem, IsSettled, Reads, ReadsAt, StandsAt, has_locked, is_hunter, is_live}
 use Rattle.stp_codec.specs.Decoder.{nibble_at, order_of, read_of, skipped_by}
@@ -61,9 +61,7 @@ pub record TakesNibble (old new : StpDecoder) (at side nibble : ℕ) (answer : S
   pub list : (n : List Placed) → ReadsAt old n → ReadsAt new (n ++ nibble_at at side nibble ∷ [])
   pub step : (n : List Placed) → ReadsAt old n → Grows (items_at (order_of old) (is_hunter old) n)
       (items_at (order_of old) (is_hunter old) (n ++ nibble_at at side nibble ∷ [])) at answer
-  pub live : is_live new ≡ goes_on answer
-  pub lock : LocksAfter (skipped_by new) answer
-  pub fits : StepFits IsProperItem answer
+  pub tells : Tells (is_live new) (skipped_by new) IsProperItem answer
   pub few : read_of new + skipped_by new ≤ read_of old + skipped_by old + 1
   pub more : (read_of new ≤ read_of old + 1) × (skipped_by new ≤ skipped_by old + 1)
   pub stays : has_locked old ≡ true → (has_locked new ≡ true) × (skipped_by new ≡ skipped_by old)

@@ -4,7 +4,7 @@ use Rattle.std.specs.List.{list_all}
 use Rattle.std.specs.Prelude.{get_or}
 use Rattle.stp_grammar.specs.declared.packet.Width.TheVariants.{Four, Eight, Sixteen, ThirtyTwo, SixtyFour}
 use Rattle.stp_grammar.specs.declared.packet.Row.{Row}
-use Rattle.stp_grammar.specs.declared.packet.Row.TheVariants.{Null, Master8, MasterError, Channel8, Datum, Flag, Master16, GlobalError, Channel16, Version, NullStamp, Trigger, Frequency}
+use Rattle.stp_grammar.specs.declared.packet.Row.TheVariants.{Null, Datum, Flag, Trigger, Frequency}
 use Rattle.stp_grammar.specs.Opcodes.{rows, row_at, line_of}
 
 -- each row is at its number
@@ -12,41 +12,20 @@ abbrev IsNumbered : Row → Type 0
 IsNumbered row = ((line_of row).number < 35) × (row_at (line_of row).number ≡ row)
 
 pub numbered : (row : Row) → IsNumbered row
-numbered Null = (omega arith, refl)
-numbered Master8 = (omega arith, refl)
-numbered MasterError = (omega arith, refl)
-numbered Channel8 = (omega arith, refl)
-numbered (Datum Eight false false) = (omega arith, refl)
-numbered (Datum Sixteen false false) = (omega arith, refl)
-numbered (Datum ThirtyTwo false false) = (omega arith, refl)
-numbered (Datum SixtyFour false false) = (omega arith, refl)
-numbered (Datum Eight true true) = (omega arith, refl)
-numbered (Datum Sixteen true true) = (omega arith, refl)
-numbered (Datum ThirtyTwo true true) = (omega arith, refl)
-numbered (Datum SixtyFour true true) = (omega arith, refl)
 numbered (Datum Four false false) = (omega arith, refl)
-numbered (Datum Four true true) = (omega arith, refl)
-numbered (Flag true) = (omega arith, refl)
-numbered Master16 = (omega arith, refl)
-numbered GlobalError = (omega arith, refl)
-numbered Channel16 = (omega arith, refl)
-numbered (Datum Eight false true) = (omega arith, refl)
-numbered (Datum Sixteen false true) = (omega arith, refl)
-numbered (Datum ThirtyTwo false true) = (omega arith, refl)
-numbered (Datum SixtyFour false true) = (omega arith, refl)
-numbered (Datum Eight true false) = (omega arith, refl)
-numbered (Datum Sixteen true false) = (omega arith, refl)
-numbered (Datum ThirtyTwo true false) = (omega arith, refl)
-numbered (Datum SixtyFour true false) = (omega arith, refl)
-numbered (Datum Four false true) = (omega arith, refl)
 numbered (Datum Four true false) = (omega arith, refl)
+numbered (Datum Eight false false) = (omega arith, refl)
+numbered (Datum Eight true false) = (omega arith, refl)
+numbered (Datum Sixteen false false) = (omega arith, refl)
+numbered (Datum Sixteen true false) = (omega arith, refl)
+numbered (Datum ThirtyTwo false false) = (omega arith, refl)
+numbered (Datum ThirtyTwo true false) = (omega arith, refl)
+numbered (Datum SixtyFour false false) = (omega arith, refl)
+numbered (Datum SixtyFour true false) = (omega arith, refl)
 numbered (Flag false) = (omega arith, refl)
-numbered Version = (omega arith, refl)
-numbered NullStamp = (omega arith, refl)
 numbered (Trigger false) = (omega arith, refl)
-numbered (Trigger true) = (omega arith, refl)
 numbered (Frequency false) = (omega arith, refl)
-numbered (Frequency true) = (omega arith, refl)
+numbered row = (omega arith, refl)
 
 -- a fact of each of these rows
 abbrev pub AllOf : (Row → Type 0) → List Row → Type 0

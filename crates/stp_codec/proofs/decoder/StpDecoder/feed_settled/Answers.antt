@@ -60,7 +60,7 @@ returns-in-Fault-clause-reads c = λ u s.
     let first = c.take_nibble-low in
     let n = nibbles_of u in
     record {
-      list = faulty_list first.new.self u c.args.at c.args.byte c.in-Fault.ensures.live (first.ensures.list n s);
+      list = faulty_list first.new.self u c.args.at c.args.byte c.in-Fault.ensures.tells.0 (first.ensures.list n s);
       grows = grows_faulty d.order (is_hunter d) u c.args.at c.args.byte first.result c.in-Fault.field-0 c.in-Fault.is (first.ensures.step n s);
       grammar = λ k. fault_answer d.order (is_hunter d) n c.args.at c.args.byte first.result c.in-Fault.field-0 c.in-Fault.is (first.ensures.grammar n s k);
     }
@@ -70,9 +70,9 @@ returns-in-Item-clause-tells c =
     let first = c.take_nibble-low in
     let second = c.take_nibble-in-Item in
     let e = ended first.result first.new.self.partial _ c.in-Item.is first.ensures.ends in (
-      second.ensures.live ∙ ap goes_on (second.ensures.quiet e.0 e.1) ∙ sym (given_goes first.result c.in-Item.is),
-      subst (λ k. LocksAfter k first.result) (sym (second.ensures.stays e.1).1) first.ensures.lock,
-      first.ensures.fits,
+      second.ensures.tells.0 ∙ ap goes_on (second.ensures.quiet e.0 e.1) ∙ sym (given_goes first.result c.in-Item.is),
+      subst (λ k. LocksAfter k first.result) (sym (second.ensures.stays e.1).1) first.ensures.tells.1,
+      first.ensures.tells.2,
     )
 
 pub returns-in-Quiet-clause-takes : goal.returns-in-Quiet-clause-takes

@@ -16,9 +16,7 @@ returns-then-ends c = λ at.
       settled = (c.requires.settled.0, refl);
       list = λ n s. locks_list d.order d.mode d.live d.partial d.attribution n b c.args.run c.args.skipped mode ends s;
       step = λ n s. locks_step d.order d.mode d.live d.partial d.attribution n b c.args.run c.args.skipped mode ends s;
-      live = c.requires.live;
-      lock = refl;
-      fits = tt;
+      tells = (c.requires.live, refl, tt);
       few = omega (arith, count);
       more = (omega arith, omega (arith, count));
       stays = λ e. (let k = sym (ap is_locked mode) ∙ e in cc);
@@ -41,9 +39,7 @@ returns-else-ends c = λ at.
       list = λ n s. skips_list d.order d.mode d.live d.partial d.attribution n b c.args.run c.args.skipped mode _
           c.run_after.ensures.value ends s;
       step = λ n s. skips_step d.order d.mode d.live d.partial d.attribution n b c.args.run c.args.skipped mode ends s;
-      live = c.requires.live;
-      lock = tt;
-      fits = tt;
+      tells = (c.requires.live, tt, tt);
       few = omega (arith, count);
       more = (omega arith, omega (arith, count));
       stays = λ e. (let k = sym (ap is_locked mode) ∙ e in cc);

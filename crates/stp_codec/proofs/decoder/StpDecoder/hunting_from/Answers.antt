@@ -25,7 +25,7 @@ returns-clause-live c =
     let q = c.settle.new.self in
     let b = nibble_at c.args.at 1 (c.args.byte / 16) in
     let hunts : is_hunter q ≡ true = (settles_same d q c.settle.ensures).1 ∙ c.hunting-decoder.ensures.mode in
-    c.take_nibble.ensures.live
+    c.take_nibble.ensures.tells.0
     ∙ no_fault q.order [] (b ∷ []) c.args.at c.take_nibble.result refl
     (subst (λ x. Grows (items_at q.order x []) (items_at q.order x (b ∷ [])) c.args.at c.take_nibble.result) hunts
     (c.take_nibble.ensures.step [] (settles_at d q c.settle.ensures [] c.hunting-decoder.ensures.fresh)))
