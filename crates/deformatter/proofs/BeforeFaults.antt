@@ -10,6 +10,7 @@ use Rattle.deformatter.specs.Names.{with_part, pattern}
 use Rattle.trace_values.specs.Hunted.{Hunt}
 use Rattle.std.proofs.lemmas.List.{length-append}
 use Rattle.std.proofs.Math.Seq.{drop-append_seam}
+use Rattle.frame_grammar.proofs.Deciding.{ended_never}
 use Rattle.trace_values.proofs.Standings.{progress_push}
 use Rattle.trace_values.proofs.HuntSteps.{Seeks-empty, Seeks-fed}
 use Rattle.deformatter.proofs.Readings.{hunt_push}
@@ -206,10 +207,6 @@ no_begin : (s : State) (x : Placed) (e : Reason) (t : Bool) →
 no_begin s x e true k = cc
 no_begin s x e false k = cc
 
-no_word : (n : ℕ) (f : List Placed) (h : ℕ) (e : Reason) → word_ended n f h ≡ Fail e → ⊥
-no_word zero f h e k = cc
-no_word (suc n) f h e k = cc
-
 no_full : (x : Placed) (e : Reason) (b : Bool) → (x.unit == 127) ≡ b →
     cond {A = Next State PortItem} b (End Full) (Fail BadSync) ≡ Fail e → (x.unit == 127) ≡ false
 no_full x e true q k = cc
@@ -217,7 +214,7 @@ no_full x e false q k = q
 
 pub failing : (part : Part) (s : State) (x : Placed) (e : Reason) → part_rule part s x ≡ Fail e → Failing part x
 failing Between s x e k = no_begin s x e (x.unit == 255) k
-failing (First a) s x e k = no_word s.left (s.bytes ++ (a ∷ (x ∷ []))) s.halves e k
+failing (First a) s x e k = ended_never s.left (s.bytes ++ (a ∷ (x ∷ []))) s.halves e k
 failing One s x e k = tt
 failing Two s x e k = tt
 failing Three s x e k = no_full x e (x.unit == 127) refl k

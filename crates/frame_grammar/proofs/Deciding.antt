@@ -314,7 +314,7 @@ inside b = cond (b == 255) SyncInFrame BadSync
 failed : (d e g : Reason) → (let x : Next State PortItem = Fail d in let y : Next State PortItem = Fail e in x ≡ y) → d ≡ g → e ≡ g
 failed d e g k h = let s : d ≡ e = cc in sym s ∙ h
 
-ended_never : (n : ℕ) (f : List Placed) (h : ℕ) (e : Reason) → word_ended n f h ≡ Fail e → ⊥
+pub ended_never : (n : ℕ) (f : List Placed) (h : ℕ) (e : Reason) → word_ended n f h ≡ Fail e → ⊥
 ended_never zero f h e k = cc
 ended_never (suc n) f h e k = cc
 

@@ -13,7 +13,7 @@ use Rattle.frame_grammar.specs.Reading.{offsets_of}
 use Rattle.frame_grammar.specs.Whole.{without_halves, IsWhole}
 use Rattle.frame_grammar.proofs.Deciding.{yes, no, is_yes, is_no, none_before}
 use Rattle.frame_grammar.proofs.Items.{spelled_length}
-use Rattle.frame_grammar.proofs.Wholes.{units_from, size_from, word, word_stays}
+use Rattle.frame_grammar.proofs.Wholes.{units_from, word, word_stays}
 
 -- halfwords without their half synchronisations, how many of these there were, and the bytes after them
 pub record Gathered : Type 0 where
@@ -166,7 +166,7 @@ pub gathers_whole : (p : List ℕ) (g : Gathered) → ((x : ℕ) (l : List ℕ) 
     (16 + 2 * g.halves ≤ length p) × IsWhole (take (16 + 2 * g.halves) p) g.frame g.halves
 gathers_whole p g first e =
     let s = is_gathered 8 p g e in
-    let size : length s.bytes ≡ 16 + 2 * g.halves = sym (size_from 0 s.bytes) ∙ spelled_length 8 g.halves (without_halves (placed_from 0 s.bytes)) (placed_from 0 s.bytes) (s.words 0) in
+    let size : length s.bytes ≡ 16 + 2 * g.halves = sym (length-placed_from 0 s.bytes) ∙ spelled_length 8 g.halves (without_halves (placed_from 0 s.bytes)) (placed_from 0 s.bytes) (s.words 0) in
     let front : take (16 + 2 * g.halves) p ≡ s.bytes =
     ap (take (16 + 2 * g.halves)) s.parts ∙ ap (λ (n : ℕ). take n (s.bytes ++ g.rest)) (sym size) ∙ take-append_seam s.bytes g.rest in (
       (let d : length p ≡ length s.bytes + length g.rest = ap length s.parts ∙ length-append s.bytes g.rest in omega arith),

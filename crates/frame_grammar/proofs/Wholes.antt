@@ -3,6 +3,7 @@ use Rattle.std.proofs.Common.{◌≡◌, ◌≢◌, ℕ, zero, suc, ◌+◌, ◌
 use Rattle.std.specs.Prelude.{◌==◌, ◌&&◌, slice_index}
 use Rattle.std.proofs.lemmas.List.{length-map}
 use Rattle.frame_grammar.specs.Names.{Placed, units_of, byte_at, placed_from}
+use Rattle.trace_values.proofs.Placing.{length-placed_from}
 use Rattle.frame_grammar.specs.Frame.{IsProperBelow, IsProperFrame}
 use Rattle.frame_grammar.specs.Port.{Frame, IsWord, IsWords, Spells}
 use Rattle.frame_grammar.specs.Whole.{without_halves, IsWhole}
@@ -12,10 +13,6 @@ use Rattle.frame_grammar.proofs.Items.{frame_bytes, frame_proper, frame_spelling
 pub units_from : (at : ℕ) (bytes : List ℕ) → units_of (placed_from at bytes) ≡ bytes
 units_from at [] = refl
 units_from at (b ∷ bytes) = ap (λ (l : List ℕ). b ∷ l) (units_from (at + 1) bytes)
-
-pub size_from : (at : ℕ) (bytes : List ℕ) → length (placed_from at bytes) ≡ length bytes
-size_from at [] = refl
-size_from at (b ∷ bytes) = ap suc (size_from (at + 1) bytes)
 
 pub proper_first : (n a b : ℕ) (bytes : List ℕ) → IsProperBelow (suc n) (a ∷ (b ∷ bytes)) → a ≢ 255
 proper_first n a b bytes p = p 0 (omega arith)
@@ -64,7 +61,7 @@ spells at (a ∷ (b ∷ bytes)) e p = (
 pub word_stays : (a b : Placed) (w : List Placed) → a.unit ≢ 255 → without_halves (a ∷ (b ∷ w)) ≡ a ∷ (b ∷ without_halves w)
 word_stays a b w h = ap (λ (t : Bool). cond (t && b.unit == 127) (without_halves w) (a ∷ (b ∷ without_halves w))) (no a.unit 255 h)
 
-nothing_goes : (n at : ℕ) (bytes : List ℕ) → length bytes ≡ 2 * n → IsProperBelow n bytes → without_halves (placed_from at bytes) ≡ placed_from at bytes
+pub nothing_goes : (n at : ℕ) (bytes : List ℕ) → length bytes ≡ 2 * n → IsProperBelow n bytes → without_halves (placed_from at bytes) ≡ placed_from at bytes
 nothing_goes zero at [] e p = refl
 nothing_goes zero at (a ∷ bytes) e p = absurd (omega arith)
 nothing_goes (suc n) at [] e p = absurd (omega arith)
@@ -83,7 +80,7 @@ plain_is_whole bytes e p = record {
 module _ (bytes frame : List ℕ) (halves : ℕ) (whole : IsWhole bytes frame halves) where
   -- how many bytes there are
   pub whole_size : length bytes ≡ 16 + 2 * halves
-  whole_size = sym (size_from 0 bytes) ∙ frame_spelling (without_halves (placed_from 0 bytes)) (placed_from 0 bytes) halves (whole.spelled 0)
+  whole_size = sym (length-placed_from 0 bytes) ∙ frame_spelling (without_halves (placed_from 0 bytes)) (placed_from 0 bytes) halves (whole.spelled 0)
 
   -- and the frame has
   pub whole_frame_size : length frame ≡ 16

@@ -1,9 +1,9 @@
 -- The number of some nibbles, taken out of that of 16.
 use Rattle.std.proofs.Common.{◌≡◌, ℕ, zero, suc, ◌+◌, ◌-◌, ◌*◌, ◌/◌, ◌^◌, ◌<◌, ◌≤◌, List, [], ◌∷◌, ◌++◌, length}
-use Rattle.std.proofs.Common.{length-append, take, drop, get_or, refl, sym, ◌∙◌, ap, subst, arith}
+use Rattle.std.proofs.Common.{length-append, take, drop, get_or, sym, ◌∙◌, ap, subst, arith}
 use Rattle.std.proofs.Math.Nat.{pow-suc, mul-le-mul_right}
 use Rattle.std.proofs.lemmas.Nat.{div-mul-add, pow-add}
-use Rattle.std.proofs.lemmas.Grind.{pow_more}
+use Rattle.stp_grammar.proofs.Numbers.{pow_of}
 use Rattle.stp_codec.specs.Names.{Msn, number}
 use Rattle.stp_codec.specs.Wholes.{nibbles_in, between}
 use Rattle.stp_codec.proofs.Between.{length-nibbles, between_parts, length-between}
@@ -59,13 +59,6 @@ between_fits bytes start more h =
     let xs = nibbles_in bytes in
     subst (λ n. number Msn (between xs start (start + more)) < 16 ^ n) (length-between xs more start (let l = length-nibbles bytes in omega (arith, h, l)))
     (number_fits (between xs start (start + more)) (between_nibbles bytes start (start + more)))
-
-pow_of : (n : ℕ) → 2 ^ (4 * n) ≡ 16 ^ n
-pow_of zero = refl
-pow_of (suc n) =
-    let e : 4 * suc n ≡ 4 * n + 4 = omega arith in
-    let f : suc n ≡ n + 1 = omega arith in
-    ap (λ k. 2 ^ k) e ∙ pow-add 2 (4 * n) 4 ∙ ap (λ x. x * 16) (pow_of n) ∙ sym (pow_more 16 n) ∙ ap (λ k. 16 ^ k) (sym f)
 
 -- the first of 16
 pub first_ones : (bytes : List ℕ) (start more : ℕ) → more ≤ 16 → start + 16 ≤ 2 * length bytes →

@@ -25,5 +25,5 @@ pub use Rattle.trace_clock.specs.LastWord.{IsLeast, SizedWord, WordFits, last_wo
 pub use Rattle.trace_clock.specs.LastWord.{sized}
 pub use Rattle.trace_values.specs.Nibbles.{nibbles_of}
 pub use Rattle.trace_values.specs.Placed.{Placed, units_of}
-pub use Rattle.trace_values.specs.Reading.{Progress, advance, progress_from}
+pub use Rattle.trace_values.specs.Reading.{Progress, progress_from}
 pub use Rattle.trace_values.specs.Stream.{Kept, Said, kept}

@@ -19,7 +19,7 @@ lsn_fits n v b h k l =
     let q : 16 ^ n * b ≤ 16 ^ n * 15 = mul-le-mul_left (16 ^ n) (omega arith) in
     (omega (arith, p, q), most n h)
 
-pow_of : (n : ℕ) → 2 ^ (4 * n) ≡ 16 ^ n
+pub pow_of : (n : ℕ) → 2 ^ (4 * n) ≡ 16 ^ n
 pow_of zero = refl
 pow_of (suc n) =
     let e : 4 * suc n ≡ 4 * n + 4 = omega arith in

@@ -12,7 +12,7 @@ use Rattle.trace_values.specs.Reading.{Progress, with_unit, advance, progress}
 use Rattle.trace_values.specs.Hunt.{IsNowhere, IsFirst, EndsInRun}
 use Rattle.trace_values.specs.declared.pattern.Pattern.{Pattern}
 use Rattle.trace_values.specs.Hunted.{pattern_of, Found, Hunt, run_after, begun, hunt_on, hunt_from, no_hunt, hunt}
-use Rattle.trace_values.proofs.Placing.{units_push}
+use Rattle.trace_values.proofs.Placing.{parts_of, units_push}
 use Rattle.trace_values.proofs.Hunts.{at_end_or_before, still_nowhere, now_first, ends_here, not_here}
 use Rattle.trace_values.proofs.Runs.{no_run, run_on}
 use Rattle.trace_values.proofs.Standings.{progress_push}
@@ -20,17 +20,6 @@ use Rattle.trace_values.proofs.Wholes.{spelled_reads}
 
 tested : (x b r m : ℕ) → (((x == b && r == m) ≡ true) × (x ≡ b) × (r ≡ m)) ⊎ (((x == b && r == m) ≡ false) × ((x ≢ b) ⊎ (r ≢ m)))
 tested x b r m = grind (arith, nat_tests)
-
--- a list whose units are those of two is two lists
-parts_of : (u : List Placed) (a b : List ℕ) → units_of u ≡ a ++ b → (v : List Placed) × (w : List Placed) × (u ≡ v ++ w) × (units_of v ≡ a) × (units_of w ≡ b)
-parts_of u [] b e = ([], u, refl, refl, e)
-parts_of [] (x ∷ a) b e = cc
-parts_of (p ∷ u) (x ∷ a) b e =
-    let here : p.unit ≡ x = cc in
-    let there : units_of u ≡ a ++ b = cc in
-    let more = parts_of u a b there in
-    let k : units_of more.0 ≡ a = more.3 in
-    ((p ∷ more.0), more.1, ap (λ l. p ∷ l) more.2, cc, more.4)
 
 module _ {S V : Type 0} (Spells : V → List Placed → Type 0) (why : List Placed → Reason) (rule : S → Placed → Next S V) (start : S) (d : Decides Spells why rule start) (p : Pattern) (v : V)
     (apart : p.unit ≢ p.last) (spelled : (w : List Placed) → units_of w ≡ pattern_of p → Spells v w) where

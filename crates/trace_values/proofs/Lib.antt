@@ -19,3 +19,4 @@ pub mod Nibbling
 pub mod Decorating
 pub mod NibbleModes
 pub mod HexTexts
+pub mod Sequences

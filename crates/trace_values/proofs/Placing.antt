@@ -11,6 +11,17 @@ use Rattle.trace_values.specs.Walk.{Walked, Within, after, walk, Decides, by_uni
 pub units_push : (r : List Placed) (b : Placed) → units_of (r ++ b ∷ []) ≡ units_of r ++ b.unit ∷ []
 units_push r b = map-append (λ (p : Placed). p.unit) r (b ∷ [])
 
+-- a list whose units are those of two is two lists
+pub parts_of : (u : List Placed) (a b : List ℕ) → units_of u ≡ a ++ b → (v : List Placed) × (w : List Placed) × (u ≡ v ++ w) × (units_of v ≡ a) × (units_of w ≡ b)
+parts_of u [] b e = ([], u, refl, refl, e)
+parts_of [] (x ∷ a) b e = cc
+parts_of (p ∷ u) (x ∷ a) b e =
+    let here : p.unit ≡ x = cc in
+    let there : units_of u ≡ a ++ b = cc in
+    let more = parts_of u a b there in
+    let k : units_of more.0 ≡ a = more.3 in
+    ((p ∷ more.0), more.1, ap (λ l. p ∷ l) more.2, cc, more.4)
+
 pub placed_from_push : (at : ℕ) (bytes : List ℕ) (b : ℕ) → placed_from at (bytes ++ b ∷ []) ≡ placed_from at bytes ++ byte_at (at + length bytes) b ∷ []
 placed_from_push at [] b = ap (λ (n : ℕ). byte_at n b ∷ []) (let k : at ≡ at + 0 = omega arith in k)
 placed_from_push at (c ∷ bytes) b =
