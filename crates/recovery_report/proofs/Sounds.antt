@@ -25,7 +25,7 @@ use Rattle.stp_codec.specs.Reading.{pattern as stp_pattern, packets_in as stp_pa
 use Rattle.source_events.specs.declared.packet.Packet.TheVariants.{Itm as ItmOf, Stp as StpOf}
 use Rattle.source_events.specs.declared.plan.SourceKind.{SourceKind}
 use Rattle.source_events.specs.declared.plan.SourceKind.TheVariants.{Itm, Stp}
-use Rattle.source_machine.specs.SeenLaws.{settled_as}
+use Rattle.source_events.proofs.Lawful.{settled_as}
 use Rattle.source_machine.specs.Units.{reads_by}
 use Rattle.stretch_readings.specs.Stretches.{from_fault}
 use Rattle.stretch_readings.specs.Words.{IsSound, IsSettling}

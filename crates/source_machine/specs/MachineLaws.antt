@@ -14,7 +14,8 @@ use Rattle.stp_grammar.proofs.Counting as stp_counting
 use Rattle.stp_codec.specs.Reading.{pattern as stp_pattern}
 use Rattle.stp_codec.specs.Decoder as stp
 use Rattle.stp_codec.specs.FallingLaws as stp_falling
-use Rattle.source_machine.specs.SeenLaws.{shows_as, settled_as, rises_as, holds_as}
+use Rattle.source_events.proofs.Lawful.{rises_as, settled_as}
+use Rattle.source_machine.specs.SeenLaws.{shows_as, holds_as}
 use Rattle.source_machine.specs.declared.machine.SourceMachine.{SourceMachine}
 use Rattle.source_machine.specs.declared.machine.SourceMachine.TheVariants.{Itm, Stp}
 use Rattle.source_machine.specs.Machine.{reading_of, Stands, is_live, has_locked, held_of, skipped_by, units_by}
@@ -23,7 +24,8 @@ pub shows : (m : SourceMachine) (u : List Placed) → Stands m u →
     Shows (is_live m) (has_locked m) (held_of m) (skipped_by m) (length u) (reading_of m u)
 shows (Itm d) u s =
     shows_as ItmPacket _ _ _ _ _ _
-    (modes.shows pattern Sync (by_unit rule) Header count_of refl counting.counts_placed d.mode d.live (itm.partial_of d) u s)
+    (modes.shows pattern Sync (by_unit rule) Header count_of refl counting.counts_placed d.mode d.live
+    (itm.partial_of d) u s)
 shows (Stp d) u s =
     shows_as StpPacket _ _ _ _ _ _
     (nibbles.shows stp_pattern Async (by_unit (stp_rule d.order)) Start attribute [] stp_count refl
@@ -66,8 +68,8 @@ pub keeps : (m : SourceMachine) (u : List Placed) (at byte : ℕ) → Stands m (
     is_live m ≡ false → (reading_of m u).fault ≡ None →
     ((reading_of m u).held ≤ held_of m) × (held_of m < (reading_of m u).held + units_by m)
 keeps (Itm d) u at byte s l f =
-    falling.keeps_one pattern Sync (by_unit rule) Header count_of refl counting.counts_placed d.mode d.live (itm.partial_of d) u
-    (byte_at at byte) s l f
+    falling.keeps_one pattern Sync (by_unit rule) Header count_of refl counting.counts_placed d.mode d.live
+    (itm.partial_of d) u (byte_at at byte) s l f
 keeps (Stp d) u at byte s l f =
     nibbles.keeps stp_pattern Async (by_unit (stp_rule d.order)) Start attribute []
     (stp_falling.begins d.order) stp_count refl

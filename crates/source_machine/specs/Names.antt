@@ -7,7 +7,7 @@ pub use Rattle.itm_grammar.specs.declared.packet.ItmPacket.{ItmPacket}
 pub use Rattle.itm_grammar.specs.declared.packet.ItmPacket.TheVariants.{Sync}
 pub use Rattle.itm_grammar.specs.declared.partial.Partial.TheVariants.{Header}
 pub use Rattle.source_events.specs.Fitting.{PacketFits}
-pub use Rattle.source_events.specs.Packets.{given_as, said_as, stream_as}
+pub use Rattle.source_events.specs.Packets.{given_as, stream_as}
 pub use Rattle.source_events.specs.declared.packet.Packet.{Packet}
 pub use Rattle.source_events.specs.declared.packet.Packet.TheVariants.{Itm, Stp}
 pub use Rattle.source_events.specs.declared.plan.SourceKind.{SourceKind}
@@ -21,9 +21,9 @@ pub use Rattle.stp_grammar.specs.declared.packet.Order.{Order}
 pub use Rattle.stp_grammar.specs.declared.packet.StpPacket.TheVariants.{Async}
 pub use Rattle.stp_grammar.specs.declared.partial.Partial.TheVariants.{Start}
 pub use Rattle.trace_values.specs.Nibbles.{high_of, low_of}
-pub use Rattle.trace_values.specs.Placed.{Place, Placed, byte_at, units_of}
+pub use Rattle.trace_values.specs.Placed.{Placed, byte_at, units_of}
 pub use Rattle.trace_values.specs.ReadingModes.{packets_hunt}
-pub use Rattle.trace_values.specs.Stream.{AllAt, Grows, HasRoom, Holds, HuntBy, Rises, Said, Settled, Shows, Stream}
+pub use Rattle.trace_values.specs.Stream.{Grows, HasRoom, Holds, HuntBy, Rises, Settled, Shows, Stream}
 pub use Rattle.trace_values.specs.Stream.{Tells, fault_by, given_by}
 pub use Rattle.trace_values.specs.Taking.{Passes, TakesNone, item_at}
 pub use Rattle.trace_values.specs.Walk.{by_unit}

@@ -1,16 +1,13 @@
 -- A reading whose items are seen as packets grows, settles and shows as it did.
-use Rattle.std.specs.Prelude.{◌≡◌, ℕ, List, [], ◌∷◌, ◌++◌, Bool, refl}
+use Rattle.std.specs.Prelude.{◌≡◌, ℕ, ◌++◌, Bool, refl}
 use Rattle.std.proofs.Common.{ap, ◌∙◌}
-use Rattle.std.proofs.lemmas.List.{map-append}
-use Rattle.source_machine.specs.Names.{Step, Quiet, Skipping, Item, Locked, Fault, Place, Said, Stream, Grows, HuntBy}
-use Rattle.source_machine.specs.Names.{Shows, Settled, Holds, Rises, AllAt, given_by, fault_by, said_as, given_as}
+use Rattle.source_machine.specs.Names.{Step, Quiet, Skipping, Item, Locked, Fault, Stream, Grows, HuntBy}
+use Rattle.source_machine.specs.Names.{Shows, Holds, given_by, fault_by, given_as}
 use Rattle.source_machine.specs.Names.{stream_as}
+use Rattle.source_events.proofs.Lawful.{given_append}
 use Rattle.source_machine.specs.Seen.{step_as}
 
 module _ {V W : Type 0} (f : V → W) where
-  pub given_append : (xs ys : List (Said V × Place)) → given_as f (xs ++ ys) ≡ given_as f xs ++ given_as f ys
-  given_append xs ys = map-append (λ (e : Said V × Place). (said_as f e.0, e.1)) xs ys
-
   given_step : (at : ℕ) (step : Step V) → given_as f (given_by at step) ≡ given_by at (step_as f step)
   given_step at Quiet = refl
   given_step at Skipping = refl
@@ -37,7 +34,7 @@ module _ {V W : Type 0} (f : V → W) where
       Grows (stream_as f old) (stream_as f new) at (step_as f step)
   grows_as old new at step g = record {
     given =
-        ap (given_as f) g.given ∙ given_append old.given (given_by at step)
+        ap (given_as f) g.given ∙ given_append f old.given (given_by at step)
         ∙ ap (λ l. given_as f old.given ++ l) (given_step at step);
     fault = g.fault ∙ fault_step at step;
     hunt = hunt_step old new at step g.hunt;
@@ -53,9 +50,6 @@ module _ {V W : Type 0} (f : V → W) where
     room = h.room;
   }
 
-  pub settled_as : (old new : Stream V) → Settled old new → Settled (stream_as f old) (stream_as f new)
-  settled_as old new s = record { given = ap (given_as f) s.given; fault = s.fault }
-
   pub holds_as : (units : ℕ) (old new : Stream V) → Holds units old new →
       Holds units (stream_as f old) (stream_as f new)
   holds_as units old new h = record {
@@ -63,16 +57,4 @@ module _ {V W : Type 0} (f : V → W) where
     held = h.held;
     skipped = h.skipped;
     locked = h.locked;
-  }
-
-  all_as : (at half : ℕ) (xs : List (Said V × Place)) → AllAt at half xs → AllAt at half (given_as f xs)
-  all_as at half [] a = tt
-  all_as at half (x ∷ xs) a = (a.0, a.1, all_as at x.1.half xs a.2)
-
-  pub rises_as : (old new : Stream V) (at : ℕ) → Rises old new at → Rises (stream_as f old) (stream_as f new) at
-  rises_as old new at r = record {
-    more = given_as f r.more;
-    given = ap (given_as f) r.given ∙ given_append old.given r.more;
-    all = all_as at 0 r.more r.all;
-    fault = r.fault;
   }
