@@ -1,16 +1,18 @@
 -- What a look at the bytes that wait and those after them tells.
-use Rattle.std.proofs.Common.{◌≡◌, ℕ, ◌+◌, ◌-◌, ◌^◌, ◌%◌, ◌<◌, ◌≤◌, ◌++◌, List, length, length-append, take, bit_and, sym, ◌∙◌, ap, subst, arith}
+use Rattle.std.proofs.Common.{◌≡◌, ℕ, ◌+◌, ◌-◌, ◌^◌, ◌%◌, ◌<◌, ◌≤◌, ◌++◌, List, length, length-append, take, bit_and, true, refl, sym, ◌∙◌, ap, subst, arith}
 use Rattle.std.specs.Int.{w64, to_le_bytes}
 use Rattle.std.proofs.Math.Nat.{mod-lt}
 use Rattle.std.proofs.Math.Seq.{take-append-add}
 use Rattle.std.proofs.lemmas.List.{length-take-le, take_all}
-use Rattle.itm_codec.specs.Names.{Within, Whole, walk, ItmPacket, Partial, Header, rule, bytes_of, Spells}
+use Rattle.itm_codec.specs.Names.{Within, Whole, walk, ItmPacket, Partial, Header, rule, bytes_of, Spells, Ends, Waits}
 use Rattle.trace_values.proofs.Walks.{walk_more}
 use Rattle.itm_grammar.proofs.Deciding.{decided}
 use Rattle.itm_codec.specs.declared.decoder.ItmDecoder.{ItmDecoder}
 use Rattle.itm_codec.specs.Reached.{reached}
-use Rattle.itm_codec.specs.Decoder.{partial_of, waiting_in}
-use Rattle.itm_codec.specs.Windows.{IsFrontOf}
+use Rattle.itm_codec.specs.declared.decoder.ItmEnd.{ItmEnd}
+use Rattle.itm_codec.specs.Decoder.{has_locked, partial_of, waiting_in}
+use Rattle.itm_codec.specs.Parts.{Looked}
+use Rattle.itm_codec.specs.Windows.{IsFrontOf, IsSeen}
 use Rattle.itm_codec.proofs.Fronts.{low_bits}
 use Rattle.itm_codec.proofs.Joining.{word_front}
 use Rattle.itm_codec.proofs.Zeros.{positive}
@@ -18,7 +20,7 @@ use Rattle.itm_codec.proofs.Waiting.{count_is, seen, ends_value, take_take}
 
 module _ (d : ItmDecoder) (window ahead : List ℕ) (header : d.partial ≡ Header) (e : window ≡ take 8 (waiting_in d ++ ahead)) (l : 8 ≤ length ahead) where
   -- where the packet ends among the bytes ahead
-  pub ends : (n : ℕ) (p : ItmPacket) → n ≤ length window → Spells p (take n window) →
+  ends : (n : ℕ) (p : ItmPacket) → n ≤ length window → Spells p (take n window) →
       (d.waiting < n) × (walk rule (partial_of d) (take (n - d.waiting) ahead) ≡ Whole p)
   ends n p h s =
       let long : 8 ≤ length (waiting_in d ++ ahead) = omega (arith, length-append (waiting_in d) ahead) in
@@ -29,7 +31,7 @@ module _ (d : ItmDecoder) (window ahead : List ℕ) (header : d.partial ≡ Head
       subst (λ (i : ℕ). (i < n) × (walk rule (partial_of d) (take (n - i) ahead) ≡ Whole p)) (count_is d) found
 
   -- where all of them are within it
-  pub within : (count : ℕ) → d.waiting + count < 8 → IsFrontOf window (d.waiting + count) →
+  within : (count : ℕ) → d.waiting + count < 8 → IsFrontOf window (d.waiting + count) →
       walk rule (partial_of d) (take count ahead) ≡ Within (reached Header (take (d.waiting + count) window))
   within count h f =
       let a = waiting_in d in
@@ -39,6 +41,34 @@ module _ (d : ItmDecoder) (window ahead : List ℕ) (header : d.partial ≡ Head
       let parts : take (d.waiting + count) (a ++ ahead) ≡ a ++ take count ahead = ap (λ (i : ℕ). take (i + count) (a ++ ahead)) (sym (count_is d)) ∙ take-append-add a ahead count in
       sym (walk_more rule d.partial (partial_of d) a (take count ahead) d.within) ∙ ap (λ (x : Partial). walk rule x (a ++ take count ahead)) header
       ∙ ap (walk rule Header) (sym (known ∙ parts)) ∙ f
+
+  -- what is found then
+  module _ (locked : has_locked d ≡ true) (count : ℕ) where
+    pub found_end : (end : ItmEnd) → IsSeen window (d.waiting + count) (Ends end) →
+        (d.waiting < end.bytes) × Looked d d ahead count (Ends (record { bytes = end.bytes - d.waiting; packet = end.packet }))
+    found_end end w =
+        let k = ends end.bytes end.packet w.2 w.3 in
+        let m = k.0 in
+        let n = w.1 in (
+          m,
+          record {
+            mode = refl;
+            live = refl;
+            part = (
+              record { locked = locked; header = header; some = omega (arith, m); whole = k.1; proper = w.4 },
+              omega (arith, n),
+              refl,
+            );
+          },
+        )
+
+    pub found_front : (e : ItmDecoder) → 0 < count → IsSeen window (d.waiting + count) Waits → (e.mode ≡ d.mode) × (e.live ≡ d.live) →
+        partial_of e ≡ reached Header (take (d.waiting + count) window) → Looked d e ahead count Waits
+    found_front e some w same part = record {
+      mode = same.0;
+      live = same.1;
+      part = (locked, some, within count w.0 w.1 ∙ ap Within (sym part));
+    }
 
 -- the bytes that the decoder sees
 pub window_is : (d : ItmDecoder) (window next ahead : List ℕ) (word : ℕ) → window ≡ to_le_bytes w64 word → to_le_bytes w64 word ≡ take 8 (waiting_in d ++ next) → next ≡ take 8 ahead → 8 ≤ length ahead →

@@ -1,7 +1,7 @@
 -- What a decoder says of a part that it took.
 use Rattle.std.proofs.Common.{◌≡◌, ℕ, ◌+◌, ◌<◌, ◌≤◌, List, [], ◌∷◌, ◌++◌, length, take, IfSome, Option, Some, None, Bool, true, refl, sym, ◌∙◌, ap, subst, arith}
 use Rattle.std.proofs.lemmas.List.{length-take-le}
-use Rattle.itm_codec.specs.Names.{Mode, Placed, units_of, Within, Whole, by_unit, walk, StandsIn, is_locked, skipped_of}
+use Rattle.itm_codec.specs.Names.{Mode, Placed, units_of, by_unit, walk, StandsIn, is_locked, skipped_of}
 use Rattle.itm_codec.specs.Names.{ItmPacket, Sync, Partial, Header, rule, count_of, IsProper, Found, Ends, Waits}
 use Rattle.itm_codec.specs.Names.{Unknown, TakenAtOnce, Passes, item_at}
 use Rattle.itm_grammar.proofs.Deciding.{counted_bytes}
@@ -10,16 +10,16 @@ use Rattle.itm_codec.specs.declared.decoder.ItmEnd.{ItmEnd}
 use Rattle.itm_codec.specs.Reading.{pattern, packets_in}
 use Rattle.itm_codec.specs.Decoder.{Stands, partial_of, is_hunter, is_live, held_of}
 use Rattle.itm_codec.specs.Parts.{EndsPart, Idles, Looked, Reads, TakesPart, Took}
-use Rattle.itm_codec.proofs.Wholes.{cut_goes}
+use Rattle.itm_codec.proofs.Wholes.{cut_goes, walked}
 
 few_by : (s t : Partial) (bytes : List ℕ) (packet : Option ItmPacket) → Reads s t bytes packet → count_of t ≤ count_of s + length bytes
 few_by s t bytes None r = (let k = counted_bytes s t bytes r in omega arith)
 few_by s t bytes (Some p) r = (let k : count_of t ≡ 0 = ap count_of r.1 in omega arith)
 
 reads_as : (s t : Partial) (units : List ℕ) (packet : Option ItmPacket) → Reads s t units packet →
-    (packet ≡ None → walk rule s units ≡ Within t) × ((p : ItmPacket) → packet ≡ Some p → (walk rule s units ≡ Whole p) × (t ≡ Header))
-reads_as s t units None r = (λ e. r, λ p e. cc)
-reads_as s t units (Some q) r = (λ e. cc, λ p e. (let same : q ≡ p = cc in (r.0 ∙ ap Whole same, r.1)))
+    (walk rule s units ≡ walked packet t) × ((p : ItmPacket) → packet ≡ Some p → t ≡ Header)
+reads_as s t units None r = (r, λ p e. cc)
+reads_as s t units (Some q) r = (r.0, λ p e. r.1)
 
 passes_by : (old new : ItmDecoder) (front : List Placed) (last : Placed) (u : List Placed) (packet : Option ItmPacket) →
     is_live old ≡ true → is_locked old.mode ≡ true → new.mode ≡ old.mode → new.live ≡ old.live →

@@ -14,7 +14,7 @@ pub use Rattle.trace_values.specs.Moded.{StandsIn, hunts, is_counted, is_locked,
 pub use Rattle.trace_values.specs.Placed.{Place, Placed, byte_at, units_of}
 pub use Rattle.trace_values.specs.Reading.{Progress, progress}
 pub use Rattle.trace_values.specs.Stream.{Grows, HasRoom, Kept, Notice, Stream, Tells, shown}
-pub use Rattle.trace_values.specs.Taking.{Passes, TakesNone, item_at}
+pub use Rattle.trace_values.specs.Taking.{Passes, TakesNone, given_after, item_at}
 pub use Rattle.trace_values.specs.Walk.{Broken, Decides, Walked, Whole, Within, after, by_unit, walk}
 pub use Rattle.trace_values.specs.declared.limits.TheConstants.{COUNT_ROOM}
 pub use Rattle.trace_values.specs.declared.mode.Mode.{Mode}
