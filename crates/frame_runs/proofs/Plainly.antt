@@ -1,24 +1,12 @@
 -- Frames with no half synchronisation between their halfwords, and where their bytes are.
-use Rattle.std.proofs.Common.{◌≡◌, ℕ, zero, suc, ◌+◌, ◌*◌, ◌<◌, ◌≤◌, List, [], ◌∷◌, ◌++◌, length, take, get_or, set, refl, sym, ◌∙◌, ap, subst, arith}
+use Rattle.std.proofs.Common.{◌≡◌, ℕ, ◌+◌, ◌<◌, ◌≤◌, List, [], ◌∷◌, ◌++◌, length, take, get_or, set, sym, ◌∙◌, ap, subst, arith}
 use Rattle.std.proofs.lemmas.List.{length-take-le, map_push, take_more, take_more_set}
 use Rattle.trace_values.specs.Placed.{Placed, byte_at, placed_from}
 use Rattle.trace_values.proofs.Placing.{placed_from_push}
-use Rattle.frame_grammar.specs.Frame.{IsProperBelow, IsProperFrame}
+use Rattle.frame_grammar.specs.Frame.{IsProperFrame}
 use Rattle.frame_grammar.specs.Reading.{offsets_of}
 use Rattle.frame_grammar.specs.Whole.{IsWhole, without_halves}
-use Rattle.frame_grammar.proofs.Wholes.{plain_is_whole, proper_first, proper_rest, word_stays}
-
--- nothing goes from them without half synchronisations
-nothing_goes : (n at : ℕ) (bytes : List ℕ) → length bytes ≡ 2 * n → IsProperBelow n bytes →
-    without_halves (placed_from at bytes) ≡ placed_from at bytes
-nothing_goes zero at [] e p = refl
-nothing_goes zero at (a ∷ bytes) e p = absurd (omega arith)
-nothing_goes (suc n) at [] e p = absurd (omega arith)
-nothing_goes (suc n) at (a ∷ []) e p = absurd (omega arith)
-nothing_goes (suc n) at (a ∷ (b ∷ bytes)) e p =
-    word_stays (byte_at at a) (byte_at (at + 1) b) (placed_from (at + 1 + 1) bytes) (proper_first n a b bytes p)
-    ∙ ap (λ (l : List Placed). byte_at at a ∷ (byte_at (at + 1) b ∷ l))
-    (nothing_goes n (at + 1 + 1) bytes (omega arith) (proper_rest n a b bytes p))
+use Rattle.frame_grammar.proofs.Wholes.{nothing_goes, plain_is_whole}
 
 module _ (piece frame : List ℕ) (is : frame ≡ take 16 piece) (room : 16 ≤ length piece) (proper : IsProperFrame frame) where
   size : length frame ≡ 16

@@ -12,6 +12,7 @@ use Rattle.trace_values.specs.Hunted.{pattern_of}
 use Rattle.trace_values.proofs.Lists.{fronts_meet}
 use Rattle.trace_values.proofs.Standings.{from_append}
 use Rattle.trace_values.proofs.Readings as readings
+pub use Rattle.trace_values.proofs.Placing.{parts_of}
 use Rattle.trace_values.proofs.Wholes.{spelled_reads}
 use Rattle.resync_rules.specs.Fronts.{EndsAt, EndsOnly}
 use Rattle.resync_rules.specs.Syncing.{said_last, EndsOrFails, Syncs}
@@ -22,17 +23,6 @@ units_append a b = map-append (λ (x : Placed). x.unit) a b
 
 pub units_length : (a : List Placed) → length (units_of a) ≡ length a
 units_length a = length-map a (λ (x : Placed). x.unit)
-
--- a list whose units are those of two is two lists
-pub parts_of : (u : List Placed) (a b : List ℕ) → units_of u ≡ a ++ b → (v : List Placed) × (w : List Placed) × (u ≡ v ++ w) × (units_of v ≡ a) × (units_of w ≡ b)
-parts_of u [] b e = ([], u, refl, refl, e)
-parts_of [] (x ∷ a) b e = cc
-parts_of (p ∷ u) (x ∷ a) b e =
-    let here : p.unit ≡ x = cc in
-    let there : units_of u ≡ a ++ b = cc in
-    let more = parts_of u a b there in
-    let k : units_of more.0 ≡ a = more.3 in
-    ((p ∷ more.0), more.1, ap (λ l. p ∷ l) more.2, cc, more.4)
 
 -- units that are a front and one more
 pub push_of : (m : List Placed) (front : List ℕ) (x : ℕ) → units_of m ≡ front ++ x ∷ [] → (m' : List Placed) × (l : Placed) × (m ≡ m' ++ l ∷ []) × (units_of m' ≡ front) × (l.unit ≡ x)
