@@ -1,15 +1,13 @@
 -- The shortest bytes of packets, one after the other, read as these packets.
-use Rattle.std.proofs.Common.{◌≡◌, ℕ, List, [], ◌∷◌, ◌++◌, length, refl, sym, ◌∙◌, ap, false, None, map, append_assoc, append-nil}
+use Rattle.std.proofs.Common.{◌≡◌, List, [], ◌∷◌, ◌++◌, length, refl, ◌∙◌, ap, false, None, map}
 use Rattle.trace_values.specs.Placed.{Place, Placed, units_of}
-use Rattle.trace_values.specs.Walk.{Whole, walk, by_unit}
-use Rattle.trace_values.specs.Reading.{Progress, progress_from, advance}
+use Rattle.trace_values.specs.Walk.{by_unit}
+use Rattle.trace_values.specs.Reading.{Progress, progress_from}
 use Rattle.trace_values.specs.Stream.{Said, Kept, kept}
-use Rattle.trace_values.proofs.Placing.{walk_units}
-use Rattle.trace_values.proofs.Wholes.{whole_reads}
+use Rattle.trace_values.proofs.Sequences.{all_read, plain}
 use Rattle.itm_grammar.specs.declared.packet.ItmPacket.{ItmPacket}
 use Rattle.itm_grammar.specs.declared.partial.Partial.{Partial}
 use Rattle.itm_grammar.specs.declared.partial.Partial.TheVariants.{Header}
-use Rattle.itm_grammar.specs.Proper.{IsProper}
 use Rattle.itm_grammar.specs.Rule.{rule}
 use Rattle.itm_grammar.specs.Shortest.{short}
 use Rattle.itm_grammar.proofs.Deciding.{decided}
@@ -17,58 +15,10 @@ use Rattle.itm_grammar.proofs.ShortSpellings.{shortest}
 use Rattle.itm_codec.specs.Reading.{packets_in}
 use Rattle.script_laws.proofs.Bytes.{spelled, AreProper}
 
--- placed units whose units are two lists, one after the other
-parts_of : (u : List Placed) (a b : List ℕ) → units_of u ≡ a ++ b → (v : List Placed) × (w : List Placed) × (u ≡ v ++ w) × (units_of v ≡ a) × (units_of w ≡ b)
-parts_of u [] b e = ([], u, refl, refl, e)
-parts_of [] (x ∷ a) b e = absurd cc
-parts_of (p ∷ u) (x ∷ a) b e =
-    let head : p.unit ≡ x = cc in
-    let tail : units_of u ≡ a ++ b = cc in
-    let more = parts_of u a b tail in
-    (p ∷ more.0, more.1, ap (λ (l : List Placed). p ∷ l) more.2, ap (λ (l : List ℕ). p.unit ∷ l) more.3 ∙ ap (λ (y : ℕ). y ∷ a) head, more.4)
-
--- a list that is not empty has a last element
-last_of : (p : Placed) (u : List Placed) → (w : List Placed) × (l : Placed) × (p ∷ u ≡ w ++ l ∷ [])
-last_of p [] = ([], p, refl)
-last_of p (q ∷ u) = let more = last_of q u in (p ∷ more.0, more.1, ap (λ (l : List Placed). p ∷ l) more.2)
-
--- a reading goes on after a front
-from_append : (p : Progress Partial ItmPacket) (u w : List Placed) → progress_from (by_unit rule) Header p (u ++ w) ≡ progress_from (by_unit rule) Header (progress_from (by_unit rule) Header p u) w
-from_append p [] w = refl
-from_append p (b ∷ u) w = from_append (advance (by_unit rule) Header p b) u w
-
-abbrev plain : List (ItmPacket × Place) → Progress Partial ItmPacket
-plain items = record { items = items; rest = []; fault = None; state = Header }
-
--- the shortest bytes of a packet walk to it
-walks : (packet : ItmPacket) → IsProper packet → (v : List Placed) → units_of v ≡ short packet → walk (by_unit rule) Header v ≡ Whole packet
-walks packet h v e =
-    walk_units rule Header v ∙ ap (λ (r : List ℕ). walk rule Header r) e ∙ decided.complete packet (short packet) (shortest packet h).spells
-
-one_reads : (packet : ItmPacket) → IsProper packet → (v : List Placed) → units_of v ≡ short packet → (items : List (ItmPacket × Place)) →
-    (place : Place) × (progress_from (by_unit rule) Header (plain items) v ≡ plain (items ++ (packet, place) ∷ []))
-one_reads packet h [] e items =
-    let w : walk (by_unit rule) Header [] ≡ Whole packet = walks packet h [] e in
-    absurd cc
-one_reads packet h (q ∷ v) e items =
-    let parts = last_of q v in
-    let w : walk (by_unit rule) Header (parts.0 ++ parts.1 ∷ []) ≡ Whole packet = ap (λ (u : List Placed). walk (by_unit rule) Header u) (sym parts.2) ∙ walks packet h (q ∷ v) e in
-    (parts.1.place, ap (progress_from (by_unit rule) Header (plain items)) parts.2 ∙ whole_reads (by_unit rule) Header parts.0 parts.1 items [] Header packet w)
-
 reads_packets : (packets : List ItmPacket) → AreProper packets → (u : List Placed) → units_of u ≡ spelled packets → (items : List (ItmPacket × Place)) →
-    (more : List (ItmPacket × Place)) × (map (λ (x : ItmPacket × Place). x.0) more ≡ packets) × (progress_from (by_unit rule) Header (plain items) u ≡ plain (items ++ more))
-reads_packets [] h [] e items = ([], refl, ap plain (sym (append-nil items)))
-reads_packets [] h (q ∷ u) e items = absurd cc
-reads_packets (packet ∷ packets) h u e items =
-    let parts = parts_of u (short packet) (spelled packets) e in
-    let one = one_reads packet h.0 parts.0 parts.3 items in
-    let rest = reads_packets packets h.1 parts.1 parts.4 (items ++ (packet, one.0) ∷ []) in (
-      (packet, one.0) ∷ rest.0,
-      ap (λ (l : List ItmPacket). packet ∷ l) rest.1,
-      ap (progress_from (by_unit rule) Header (plain items)) parts.2 ∙ from_append (plain items) parts.0 parts.1
-          ∙ ap (λ (p : Progress Partial ItmPacket). progress_from (by_unit rule) Header p parts.1) one.1 ∙ rest.2
-          ∙ ap plain (append_assoc items ((packet, one.0) ∷ []) rest.0),
-    )
+    (more : List (ItmPacket × Place)) × (map (λ (x : ItmPacket × Place). x.0) more ≡ packets)
+    × (progress_from (by_unit rule) Header (plain rule Header short items) u ≡ plain rule Header short (items ++ more))
+reads_packets = all_read rule Header short AreProper (λ p packets h. (decided.complete p (short p) (shortest p h.0).spells, h.1))
 
 -- what packets in a row are read as: these packets, with no fault and no rest
 pub record IsReadAs (u : List Placed) (packets : List ItmPacket) : Type 0 where
