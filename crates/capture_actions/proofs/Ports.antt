@@ -10,17 +10,12 @@ use Rattle.capture_actions.specs.Names.{GrowsByFrame, frames_by, CellsFit, fault
 use Rattle.trace_values.specs.declared.fault.Fault.{Fault}
 use Rattle.trace_values.proofs.Placing.{placed_from_push, placed_append}
 use Rattle.frame_grammar.specs.Frame.{IsProperFrame}
-use Rattle.frame_grammar.specs.Runs.{HasRuns}
 use Rattle.frame_grammar.proofs.Wholes.{plain_is_whole}
 use Rattle.std.proofs.lemmas.List.{length-take-le}
 use Rattle.deformatter.specs.declared.step.PortStep.TheVariants.{Half, Full, Frame, Locked}
 use Rattle.deformatter.specs.ReadingGrowth.{Grows, Answers}
 use Rattle.deformatter.specs.Block.{EachByte, FedAs}
 use Rattle.capture_actions.specs.Flows.{flow_by}
-use Rattle.deformatter.proofs.PortReadingLaws.{frames_have_runs}
-use Rattle.deformatter.specs.Runs.{HaveRuns}
-use Rattle.deformatter.proofs.RunLaws.{last_has_runs}
-use Rattle.frame_grammar.proofs.Runs.{none_has_runs}
 use Rattle.capture_actions.specs.Port.{port_of, IsPortFaulty}
 use Rattle.capture_actions.specs.PortGrowth.{Grew}
 
@@ -60,18 +55,6 @@ frame_cells_more old new inner cells g =
     ap (flat_map (λ (frame : List Cell). frame)) g.frames
     ∙ flat_map-append (λ (frame : List Cell). frame) old.frames (cells ∷ [])
     ∙ ap (λ (l : List Cell). cells_of old ++ l) (append-nil cells)
-
--- and their runs are those of a frame
-runs_by_step : (old new : List (List Cell)) (step : PortStep) (cells : List Cell) → new ≡ old ++ frames_by step cells → CellsFit step cells → HaveRuns new → HasRuns cells
-runs_by_step old new Quiet cells e fit runs = subst HasRuns (sym fit) none_has_runs
-runs_by_step old new Half cells e fit runs = subst HasRuns (sym fit) none_has_runs
-runs_by_step old new Full cells e fit runs = subst HasRuns (sym fit) none_has_runs
-runs_by_step old new Frame cells e fit runs = last_has_runs old cells (subst HaveRuns e runs)
-runs_by_step old new (Locked skipped) cells e fit runs = subst HasRuns (sym fit) none_has_runs
-runs_by_step old new (Faulty f) cells e fit runs = subst HasRuns (sym fit) none_has_runs
-
-pub cells_have_runs : (mode : FramesMode) (seen next : List ℕ) (step : PortStep) (cells : List Cell) → Grew (port_of mode seen) (port_of mode next) step cells → HasRuns cells
-cells_have_runs mode seen next step cells g = runs_by_step (port_of mode seen).frames (port_of mode next).frames step cells g.frames g.fit (frames_have_runs mode (placed next))
 
 -- quiet bytes leave the reading as it is, without a fault
 pub record IsStill (old new : PortReading) : Type 0 where
