@@ -1,5 +1,6 @@
 -- What a decoder does that takes a part of bytes.
-use Rattle.std.specs.Prelude.{◌≡◌, ◌+◌, ◌<◌, ◌≤◌, ℕ, List, [], ◌∷◌, ◌++◌, length, take, Option, None, Some, IfSome, true}
+use Rattle.std.specs.Prelude.{◌≡◌, ◌+◌, ◌<◌, ◌≤◌, ℕ, List, [], ◌∷◌, ◌++◌, length, take, Option, None, Some, true}
+use Rattle.std.specs.Prelude.{IfSome}
 use Rattle.itm_codec.specs.Names.{Found, Ends, Waits, Unknown, TakenAtOnce, Placed, Within, Whole, walk, ItmPacket}
 use Rattle.itm_codec.specs.Names.{Partial, Header, rule, IsProper, Passes, TakesNone, item_at, units_of}
 use Rattle.itm_codec.specs.declared.decoder.ItmDecoder.{ItmDecoder}

@@ -1,5 +1,5 @@
-//! Packets whose bytes are all there, read as one word (ARMv7-M Architecture Reference Manual, Arm DDI 0403E, appendix D4
-//! 'Debug ITM and DWT Packet Protocol', section D4.2 'Packet descriptions').
+//! Packets whose bytes are all there, read as one word (ARMv7-M Architecture Reference Manual, Arm DDI 0403E, appendix
+//! D4 'Debug ITM and DWT Packet Protocol', section D4.2 'Packet descriptions').
 //!
 //! They are read so for speed alone: the decoder reads byte by byte what is not found here.
 
