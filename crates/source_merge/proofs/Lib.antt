@@ -8,6 +8,7 @@ pub mod Early
 pub mod Slots
 pub mod Taking
 pub mod Framing
+pub mod FrameTaking
 pub mod Fits
 pub mod Counting
 pub mod Steps

@@ -1,5 +1,6 @@
 -- What an engine takes of the front of a piece.
-use Rattle.std.specs.Prelude.{◌≡◌, ◌<◌, ◌≤◌, ℕ, ◌+◌, ◌*◌, List, [], ◌∷◌, ◌++◌, length, take, None, Some, position, ◌==◌, false}
+use Rattle.std.specs.Prelude.{◌≡◌, ◌<◌, ◌≤◌, ℕ, ◌+◌, ◌*◌, List, [], ◌∷◌, ◌++◌, length, take, None, Some, false}
+use Rattle.std.specs.Prelude.{position, ◌==◌}
 use Rattle.source_merge.specs.Names.{Placed, placed_from, Bare, FedAs, PlacedFrame, Event, Packet, Plan, IsGathered}
 use Rattle.frame_grammar.specs.declared.frame.TheConstants.{FRAME_BYTES}
 use Rattle.source_merge.specs.declared.flow.Fed.{Fed}
@@ -41,8 +42,8 @@ pub record IsCertain (plan : Plan) (u : List Placed) (at : ℕ) (bytes : List �
   pub parts : bytes ≡ front ++ last ∷ []
   pub sound : fault_of plan (u ++ placed_from at front) ≡ None
 
--- With these bytes, which follow u from this offset on, the report of a capture grows by these events, and has the fault
--- of this flow, which is certain with the last of them.
+-- With these bytes, which follow u from this offset on, the report of a capture grows by these events, and has the
+-- fault of this flow, which is certain with the last of them.
 pub record Reads (plan : Plan) (u : List Placed) (at : ℕ) (bytes : List ℕ) (given : List (Event Packet)) (flow : Flow)
     : Type 0 where
   pub grew : report_of plan (u ++ placed_from at bytes) ≡ report_of plan u ++ given

@@ -2,12 +2,12 @@
 
 ghost use Rattle.std.specs.Prelude.{◌≡◌, ◌+◌, ◌*◌, ◌≤◌, true};
 ghost use Rattle.deformatter.specs.Reader.{is_live as is_port_live, skipped_by as skipped_by_port, tail_of};
-ghost use Rattle.source_merge.specs.Names.{is_sound, held_of, is_live as is_machine_live, skipped_by};
+ghost use Rattle.source_merge.specs.Names.{is_sound};
 ghost use Rattle.source_events.specs.declared.tails.TheConstants.{GREATEST_COUNT};
 ghost use Rattle.source_merge.specs.declared.engine.TheConstants.{GREATEST_OFFSET};
 ghost use Rattle.source_merge.specs.Counting.{size_of, whole_of};
-ghost use Rattle.source_merge.specs.Routing.{LiveIf, RoomIf};
-ghost use Rattle.source_merge.specs.RoutingLaws.{LiveIf-prop, RoomIf-prop};
+ghost use Rattle.source_merge.specs.Routing.{AreReady};
+ghost use Rattle.source_merge.specs.RoutingLaws.{ready-prop};
 
 use crate::bare::{bare_source, taken_of};
 use crate::counts::Counters;
@@ -56,13 +56,12 @@ pub struct Engine {
     live: bool,
     ghost sound: { is_sound plan ≡ true },
     ghost few: { tail_of port + skipped_by_port port ≤ count },
-    ghost room: { RoomIf held_of skipped_by live (30 * count) slots.items } by { RoomIf-prop held_of skipped_by live (30 * count) slots.items },
+    ghost ready: { live ≡ true → AreReady (30 * count) slots.items } by { ready-prop live (30 * count) slots.items },
     ghost size: { live ≡ true → size_of counters ≤ 46 * count },
     ghost whole: { whole_of counters ≤ count },
     ghost within: { count ≤ next },
     ghost limit: { next ≤ GREATEST_OFFSET + 1 },
     ghost port_live: { live ≡ true → is_port_live port ≡ true },
-    ghost lives: { LiveIf is_machine_live live slots.items } by { LiveIf-prop is_machine_live live slots.items },
 }
 
 impl Engine {
@@ -182,12 +181,13 @@ impl Engine {
         }
     }
 
-    /// Takes bytes from the front of a piece, the first of which is at this offset, and gives their events to what takes
-    /// them: a whole frame, or else bytes up to the first one that ends a frame or a synchronisation, or is a fault, or
-    /// to the piece's end. With no formatter it takes bytes for whose events there is room. It leaves what `feed` does.
+    /// Takes bytes from the front of a piece, the first of which is at this offset, and gives their events to what
+    /// takes them: a whole frame, or else bytes up to the first one that ends a frame or a synchronisation, or is a
+    /// fault, or to the piece's end. With no formatter it takes bytes for whose events there is room. It leaves what
+    /// `feed` does.
     ///
-    /// The engine is live, there is room for 30 events, and the piece has a byte. Its first offset is at least `next()`,
-    /// and its last one at most `GREATEST_OFFSET`.
+    /// The engine is live, there is room for 30 events, and the piece has a byte. Its first offset is at least
+    /// `next()`, and its last one at most `GREATEST_OFFSET`.
     #[inline(always)]
     pub fn take<V: Receiver>(&mut self, at: u64, piece: &[u8], out: &mut V, to: &mut V::To) -> Fed
         requires live { is_live self.old ≡ true }
