@@ -14,22 +14,15 @@ use Rattle.source_merge.specs.Routing.{AreDistinct}
 use Rattle.source_merge.specs.Stepping.{StepAt, TakesStep}
 use Rattle.source_merge.proofs.Standing.{distinct, none_there, tested, none_of}
 use Rattle.source_merge.proofs.Going.{Stepped, stepped, halves_inside}
-use Rattle.source_merge.proofs.Growing.{Longer, longer}
-use Rattle.source_merge.proofs.Refilled.{ready_after, ready_as, same_after, written}
+use Rattle.source_merge.proofs.Growing.{Longer, frame_ready, longer}
+use Rattle.source_merge.proofs.Refilled.{ready_after, same_after, written}
 use Rattle.source_merge.proofs.engine.Engine.take_gathered.Given as bound
 use Rattle.source_merge.proofs.engine.Engine.take_gathered.Goals as goal
 
 pub take_whole-taken-requires-clause-ready : goal.take_whole-taken-requires-clause-ready
 take_whole-taken-requires-clause-ready g c =
-    let self = c.args.self.now in
-    let b = self.within in
-    let d = self.limit in
-    record {
-      slots_are =
-          ready_as self.slots.items c.as_mut_slice.result.now c.as_mut_slice.ensures.value (30 * self.count) (2 ^ 58) (omega arith)
-          (self.ready c.requires.live);
-      size = (let a = self.size c.requires.live in let e = c.requires.offsets in omega (arith, a, b, d, e.0, e.1));
-    }
+    frame_ready c.args.self.now c.as_mut_slice.result.now _ c.args.frame.now.halves c.requires.live c.as_mut_slice.ensures.value (omega arith)
+    (let a = c.requires.offsets.1 in omega arith)
 
 pub invariant_of-self : goal.invariant_of-self
 invariant_of-self g c =
