@@ -81,7 +81,7 @@ impl Engine {
     ghost use Rattle.source_merge.specs.Giving.{GivesTo};
     ghost use Rattle.source_merge.specs.declared.flow.Flow.TheVariants.{Going};
     ghost use Rattle.source_merge.specs.Engine.{Stands, is_live, next_of, plan_of};
-    ghost use Rattle.source_merge.specs.Front.{GivesLast, IsBare, ReadsTo, TakesFront, TakesGathered};
+    ghost use Rattle.source_merge.specs.Front.{GivesLast, IsBare, IsNext, ReadsTo, TakesFront, TakesGathered};
     ghost use Rattle.source_merge.specs.Piece.{bytes_in};
 
     /// An engine before the first byte. Its plan is sound.
@@ -219,10 +219,8 @@ impl Engine {
         to: &mut V::To,
     ) -> Fed
         requires own { IsBare self.old index }
-        requires live { is_live self.old ≡ true }
+        requires next { IsNext self.old at (length piece.now) }
         requires space { 30 ≤ V.room (out.old, to.old) }
-        requires some { 0 < length piece.now }
-        requires offsets { (next_of self.old ≤ at) × (at + length piece.now ≤ GREATEST_OFFSET + 1) }
         ensures takes { TakesFront self.old self.new at piece.now result }
         ensures reads { GivesTo V.gets (out.old, to.old) (out.new, to.new)
             (ReadsTo self.old at (take result.bytes piece.now) result.flow) }
@@ -266,10 +264,8 @@ impl Engine {
         to: &mut V::To,
     ) -> Fed
         requires own { IsBare self.old index }
-        requires live { is_live self.old ≡ true }
+        requires next { IsNext self.old run.now.at run.now.count }
         requires space { 2 * run.now.count ≤ V.room (out.old, to.old) }
-        requires some { 0 < run.now.count }
-        requires offsets { (next_of self.old ≤ run.now.at) × (run.now.at + run.now.count ≤ GREATEST_OFFSET + 1) }
         ensures takes { TakesFront self.old self.new run.now.at (bytes_in run.now) result }
         ensures reads { GivesTo V.gets (out.old, to.old) (out.new, to.new)
             (ReadsTo self.old run.now.at (take result.bytes (bytes_in run.now)) result.flow) }
@@ -305,10 +301,8 @@ impl Engine {
         out: &mut V,
         to: &mut V::To,
     ) -> Fed
-        requires live { is_live self.old ≡ true }
+        requires next { IsNext self.old at (length piece.now) }
         requires space { 30 ≤ V.room (out.old, to.old) }
-        requires some { 0 < length piece.now }
-        requires offsets { (next_of self.old ≤ at) × (at + length piece.now ≤ GREATEST_OFFSET + 1) }
         ensures takes { TakesFront self.old self.new at piece.now result }
         ensures space { V.room (out.old, to.old) ≤ V.room (out.new, to.new) + 30 }
         ensures fed { GivesTo V.gets (out.old, to.old) (out.new, to.new)
@@ -330,10 +324,8 @@ impl Engine {
     /// or to the piece's end. With no formatter it takes one byte.
     #[inline(never)]
     fn take_step<V: Receiver>(&mut self, at: u64, piece: &[u8], out: &mut V, to: &mut V::To) -> Fed
-        requires live { is_live self.old ≡ true }
+        requires next { IsNext self.old at (length piece.now) }
         requires space { 30 ≤ V.room (out.old, to.old) }
-        requires some { 0 < length piece.now }
-        requires offsets { (next_of self.old ≤ at) × (at + length piece.now ≤ GREATEST_OFFSET + 1) }
         ensures takes { TakesFront self.old self.new at piece.now result }
         ensures space { V.room (out.old, to.old) ≤ V.room (out.new, to.new) + 30 }
         ensures fed { GivesTo V.gets (out.old, to.old) (out.new, to.new)

@@ -49,24 +49,24 @@ pub feed_slot-fault-requires-clause-ready : goal.feed_slot-fault-requires-clause
 feed_slot-fault-requires-clause-ready g c =
     let self = c.args.self.now in
     ready_as self.slots.items c.as_mut_slice.result.now c.as_mut_slice.ensures.value (30 * self.count) (2 ^ 59)
-    (let a = self.within in let b = self.limit in omega arith) (self.ready c.requires.live)
+    (let a = self.within in let b = self.limit in omega arith) (self.ready c.requires.next.live)
 
 pub feed_slot-fault-requires-clause-size : goal.feed_slot-fault-requires-clause-size
 feed_slot-fault-requires-clause-size g c =
-    (let l = piece_length c.args.run.now in let o = c.requires.offsets.1 in omega (arith, l, o))
+    (let l = piece_length c.args.run.now in let o = c.requires.next.within in omega (arith, l, o))
 
 pub feed_slot-fault-requires-clause-room : goal.feed_slot-fault-requires-clause-room
 feed_slot-fault-requires-clause-room g c =
     let l = piece_length c.args.run.now in record {
       space = (let s = c.requires.space in omega (arith, l, s));
       count =
-          (let o = c.requires.offsets.1 in let a = c.args.self.now.size c.requires.live in let w = c.args.self.now.within in
+          (let o = c.requires.next.within in let a = c.args.self.now.size c.requires.next.live in let w = c.args.self.now.within in
           let m = c.args.self.now.limit in omega (arith, l, o, a, w, m));
     }
 
 pub add_bare-requires : goal.add_bare-requires
 add_bare-requires g c =
-    (let l = piece_length c.args.run.now in let o = c.requires.offsets.1 in let a = c.args.self.now.size c.requires.live in
+    (let l = piece_length c.args.run.now in let o = c.requires.next.within in let a = c.args.self.now.size c.requires.next.live in
     let w = c.args.self.now.within in let m = c.args.self.now.limit in let f = c.feed_slot-fault.ensures.1.total in
     let b = c.taken_of-bytes.ensures.bytes.1 in omega (arith, l, o, a, w, m, f, b))
 
@@ -105,7 +105,7 @@ invariant_of-self g c =
     let feeds : Feeds self.slots.items index after run 1 given fault =
     subst (λ (l : List Slot). Feeds l index after run 1 given fault) c.as_mut_slice.ensures.value
     (subst (λ (x : ℕ). Feeds c.as_mut_slice.result.now index after run x given fault) c.bare_source-source.ensures c.feed_slot-fault.ensures.2) in
-    let all = slots_are self.slots.items after (same self run index c.requires.own c.requires.live after given fault feeds) in
+    let all = slots_are self.slots.items after (same self run index c.requires.own c.requires.next.live after given fault feeds) in
     let n = self.count in
     let bytes = c.taken_of-bytes.result in
     let some = c.taken_of-bytes.ensures.bytes in
@@ -119,14 +119,14 @@ invariant_of-self g c =
           subst (λ (l : List Slot). AreReady (30 * (n + bytes)) l) (sym all)
           (ready_more (30 * n + 2 * length (piece_cells run)) (30 * (n + bytes)) after
           (let w = whole (none_there fault (sym gone ∙ k)) in omega (arith, w, long))
-          (ready self run index c.requires.own c.requires.live after given fault feeds (none_there fault (sym gone ∙ k))));
+          (ready self run index c.requires.own c.requires.next.live after given fault feeds (none_there fault (sym gone ∙ k))));
       size = λ k.
-          (let a = self.size c.requires.live in let b = c.add_bare.ensures.size in let d = c.feed_slot-fault.ensures.1.total in
+          (let a = self.size c.requires.next.live in let b = c.add_bare.ensures.size in let d = c.feed_slot-fault.ensures.1.total in
           let w = whole (none_there fault (sym gone ∙ k)) in omega (arith, a, b, d, w, long));
       whole = (let a = self.whole in let b = c.add_bare.ensures.same in omega arith);
-      within = (let a = self.within in let b = c.requires.offsets.0 in omega arith);
-      limit = (let a = c.requires.offsets.1 in omega arith);
-      port_live = λ k. self.port_live c.requires.live;
+      within = (let a = self.within in let b = c.requires.next.after in omega arith);
+      limit = (let a = c.requires.next.within in omega arith);
+      port_live = λ k. self.port_live c.requires.next.live;
     }
 
 -- what the run makes of a list that the engine stood for
@@ -153,7 +153,7 @@ module _ (g : bound.Over) (c : goal.After-flow_of g) where
       c.feed_slot-fault.ensures.2)
 
   same_after : mapped_of after ≡ mapped_of self.slots.items
-  same_after = same self run c.args.index c.requires.own c.requires.live after given fault feeds
+  same_after = same self run c.args.index c.requires.own c.requires.next.live after given fault feeds
 
   module _ (u : List Placed) (h : Stands self u) where
     abbrev plan : Plan
@@ -163,23 +163,23 @@ module _ (g : bound.Over) (c : goal.After-flow_of g) where
     taken = take c.taken_of-bytes.result (bytes_in run)
 
     none : fault_of plan u ≡ None
-    none = no_fault self c.requires.live u h
+    none = no_fault self c.requires.next.live u h
 
     keeps : Keeps plan self.slots.items self.counters u
-    keeps = h.going c.requires.live
+    keeps = h.going c.requires.next.live
 
     long : length taken ≡ c.taken_of-bytes.result
     long = length-take-le c.taken_of-bytes.result (bytes_in run) (let a = bytes_length run in let b = c.taken_of-bytes.ensures.bytes.1 in omega (arith, a, b))
 
     more : Longer self u run.at taken
-    more = longer self u h run.at c.requires.offsets.0 taken (let a = long in let b = c.taken_of-bytes.ensures.bytes.0 in omega (arith, a, b))
+    more = longer self u h run.at c.requires.next.after taken (let a = long in let b = c.taken_of-bytes.ensures.bytes.0 in omega (arith, a, b))
 
     made : Made plan u run.at (bytes_in run) after given fault
     made =
-        made_of plan self.slots.items h.sources (30 * self.count) (self.ready c.requires.live) c.requires.own.0 c.args.index
+        made_of plan self.slots.items h.sources (30 * self.count) (self.ready c.requires.next.live) c.requires.own.0 c.args.index
         (first_at 1 self.slots.items c.args.index c.requires.own.1)
         (subst (λ (ss : List (Mapped Packet)). AreDistinct ss) (sym h.sources) (distinct plan self.sound)) after u run.at (bytes_in run) given fault
-        (fed self run c.args.index c.requires.own c.requires.live after given fault feeds) more.rise none keeps.stand
+        (fed self run c.args.index c.requires.own c.requires.next.live after given fault feeds) more.rise none keeps.stand
 
     -- with no fault all is taken
     all : fault ≡ None → taken ≡ bytes_in run

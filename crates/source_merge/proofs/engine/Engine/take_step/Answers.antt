@@ -1,4 +1,4 @@
-use Rattle.std.proofs.Common.{◌≡◌, ℕ, ◌+◌, ◌-◌, ◌*◌, ◌^◌, List, [], ◌++◌, length, take, refl, sym, ◌∙◌, ap, subst}
+use Rattle.std.proofs.Common.{◌≡◌, ℕ, ◌+◌, ◌-◌, ◌*◌, List, [], ◌++◌, length, take, refl, sym, ◌∙◌, ap, subst}
 use Rattle.std.proofs.Common.{arith}
 use Rattle.std.specs.Prelude.{is_none}
 use Rattle.std.proofs.lemmas.List.{length-take-le}
@@ -19,7 +19,7 @@ use Rattle.source_merge.proofs.engine.Engine.take_step.Goals as goal
 
 pub take_step-stop-requires-clause-ready : goal.take_step-stop-requires-clause-ready
 take_step-stop-requires-clause-ready g c =
-    frame_ready c.args.self.now c.as_mut_slice.result.now c.args.self.now.counters 0 c.requires.live c.as_mut_slice.ensures.value (omega arith)
+    frame_ready c.args.self.now c.as_mut_slice.result.now c.args.self.now.counters 0 c.requires.next.live c.as_mut_slice.ensures.value (omega arith)
     (omega arith)
 
 pub invariant_of-self : goal.invariant_of-self
@@ -36,11 +36,11 @@ invariant_of-self g c =
       ready = λ k.
           ready_after 30 self.slots.items c.as_mut_slice.result.now c.take_step-stop.new.slots c.as_mut_slice.ensures.value stop
           c.take_step-stop.ensures.slots (none_there stop (sym gone ∙ k)) (30 * n) (30 * (n + c.feed_block-taken.result.bytes)) (omega arith)
-          (self.ready c.requires.live);
-      size = λ k. (let a = self.size c.requires.live in let b = c.take_step-stop.ensures.counters.size in omega arith);
+          (self.ready c.requires.next.live);
+      size = λ k. (let a = self.size c.requires.next.live in let b = c.take_step-stop.ensures.counters.size in omega arith);
       whole = (let a = self.whole in let b = c.take_step-stop.ensures.counters.whole in omega arith);
-      within = (let a = self.within in let b = c.requires.offsets.0 in omega arith);
-      limit = (let a = c.requires.offsets.1 in omega arith);
+      within = (let a = self.within in let b = c.requires.next.after in omega arith);
+      limit = (let a = c.requires.next.within in omega arith);
       port_live = λ k. c.feed_block-taken.ensures.live ∙ c.take_step-stop.ensures.going (none_there stop (sym gone ∙ k));
     }
 
@@ -62,21 +62,21 @@ module _ (g : bound.Over) (c : goal.After-flow_of g) (u : List Placed) (h : Stan
   size = length-take-le c.feed_block-taken.result.bytes c.args.piece.now c.feed_block-taken.ensures.bytes.1
 
   on : Longer c.args.self.now u c.args.at bytes
-  on = longer c.args.self.now u h c.args.at c.requires.offsets.0 bytes (let a = size in let b = c.feed_block-taken.ensures.bytes.0 in omega arith)
+  on = longer c.args.self.now u h c.args.at c.requires.next.after bytes (let a = size in let b = c.feed_block-taken.ensures.bytes.0 in omega arith)
 
   abbrev step : List Cell → StepAt
   step cells = record { at = c.args.at + (c.feed_block-taken.result.bytes - 1); step = c.feed_block-taken.result.step; cells = cells }
 
-  the_step : Stepped plan slots h.sources (30 * c.args.self.now.count) (c.args.self.now.ready c.requires.live) c.take_step-stop.new.slots c.take_step-stop.new.counters u c.args.at bytes
+  the_step : Stepped plan slots h.sources (30 * c.args.self.now.count) (c.args.self.now.ready c.requires.next.live) c.take_step-stop.new.slots c.take_step-stop.new.counters u c.args.at bytes
       es c.take_step-stop.result c.flow_of.result
   the_step =
-      let keeps = h.going c.requires.live in
+      let keeps = h.going c.requires.next.live in
       let inside = quiet_inside plan.frames (PortAnswers plan.frames c.feed_block-taken.result.step c.feed_block-taken.new.out.items) u c.args.at bytes
       (subst (λ (mode : FramesMode). FedAs (PortAnswers mode Quiet []) (PortAnswers mode c.feed_block-taken.result.step c.feed_block-taken.new.out.items) u c.args.at bytes)
       h.mode (c.feed_block-taken.ensures.fed u h.port)) in
-      stepped plan slots h.sources (30 * c.args.self.now.count) (c.args.self.now.ready c.requires.live) c.take_step-stop.new.slots c.args.self.now.counters c.take_step-stop.new.counters
+      stepped plan slots h.sources (30 * c.args.self.now.count) (c.args.self.now.ready c.requires.next.live) c.take_step-stop.new.slots c.args.self.now.counters c.take_step-stop.new.counters
       c.args.self.now.counters.port.halves (step c.feed_block-taken.new.out.items) es c.take_step-stop.result c.flow_of.result u c.args.at bytes
-      on.rise (none_there (fault_of plan u) (sym h.live ∙ c.requires.live)) keeps
+      on.rise (none_there (fault_of plan u) (sym h.live ∙ c.requires.next.live)) keeps
       (subst (λ (ss : List (Mapped Packet)). AreDistinct ss) (sym h.sources) (distinct plan c.args.self.now.sound))
       inside.0 (keeps.counted.port.halves ∙ sym inside.1)
       (λ k e. (let a = size in omega arith))
