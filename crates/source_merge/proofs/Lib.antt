@@ -9,8 +9,6 @@ pub mod Slots
 pub mod Taking
 pub mod Framing
 pub mod FrameTaking
-pub mod Fits
-pub mod Counting
 pub mod Steps
 pub mod Standing
 pub mod Going

@@ -21,9 +21,6 @@ pub id_is : (run : List Cell) (d : Cell) → 0 < length run → (get_or run 0 d)
 id_is [] d h = absurd (omega arith)
 id_is (c ∷ run) d h = refl
 
-pub first_id : (run : List Cell) (d : Cell) → 0 < length run → d ≡ get_or run 0 d → id_of run ≡ d.id
-first_id run d h e = sym (id_is run d h) ∙ ap (λ (c : Cell). c.id) (sym e)
-
 run_rises : (n : ℕ) (run : List Cell) → IsRunFrom n run → RisesFrom n run
 run_rises n [] r = tt
 run_rises n (c ∷ run) r = r
