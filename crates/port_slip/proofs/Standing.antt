@@ -3,8 +3,8 @@ use Rattle.std.proofs.Common.{◌≡◌, ℕ, ◌+◌, ◌-◌, List, [], ◌∷
 use Rattle.std.specs.Prelude.{flat_map}
 use Rattle.std.proofs.lemmas.Bool.{eqb-true}
 use Rattle.port_slip.specs.declared.slip.Slip.{Slip}
-use Rattle.port_slip.specs.declared.phase.Phase.{Phase}
-use Rattle.port_slip.specs.declared.phase.Phase.TheVariants.{Hunting, Open}
+use Rattle.port_slip.specs.declared.phase.SlipPhase.{SlipPhase}
+use Rattle.port_slip.specs.declared.phase.SlipPhase.TheVariants.{Hunting, Open}
 use Rattle.port_slip.specs.Bits.{bits_of, whole_bytes}
 use Rattle.port_slip.specs.Segments.{Realigned, cut, realigned}
 use Rattle.port_slip.specs.Coming.{coming, kept_bits, none_found}
@@ -28,10 +28,10 @@ stands_sure s bytes so_far h = by s.phase refl where
   }
   all = ap realigned (sym (append-nil bytes)) ∙ h.completes []
 
-  by : (p : Phase) → s.phase ≡ p → so_far ≡ sure bytes
+  by : (p : SlipPhase) → s.phase ≡ p → so_far ≡ sure bytes
   by (Hunting run) e =
-      let c = ap (λ (q : Phase). coming q []) e ∙ hunt_over run in
-      let zero : s.patterns ≡ 0 = eqb-true s.patterns 0 (ap (λ (q : Phase). none_found q s.patterns) (sym e) ∙ s.none) in
+      let c = ap (λ (q : SlipPhase). coming q []) e ∙ hunt_over run in
+      let zero : s.patterns ≡ 0 = eqb-true s.patterns 0 (ap (λ (q : SlipPhase). none_found q s.patterns) (sym e) ∙ s.none) in
       let n : length (cut (bits_of bytes)).segments ≡ 0 = ap (λ (r : Realigned). r.patterns) all ∙ (let p = ap (λ (r : Realigned). r.patterns) c in omega (arith, p, zero)) in
       let empty : (realigned bytes).bytes ≡ [] = ap (flat_map whole_bytes) (none (cut (bits_of bytes)).segments n) in
       let b : (realigned bytes).bytes ≡ so_far = ap (λ (r : Realigned). r.bytes) all ∙ ap (λ (r : Realigned). so_far ++ r.bytes) c ∙ append-nil so_far in
@@ -40,7 +40,7 @@ stands_sure s bytes so_far h = by s.phase refl where
       let l = w.sound.long in
       let k = bits_length w.held w.kept in
       let m = w.most in
-      let c = ap (λ (q : Phase). coming q []) e ∙ pass_over w.run (kept_bits w) w.sound (omega (arith, k, m)) in
+      let c = ap (λ (q : SlipPhase). coming q []) e ∙ pass_over w.run (kept_bits w) w.sound (omega (arith, k, m)) in
       let b : (realigned bytes).bytes ≡ so_far ++ whole_bytes (kept_bits w) = ap (λ (r : Realigned). r.bytes) all ∙ ap (λ (r : Realigned). so_far ++ r.bytes) c in
       let four = whole_length 4 (kept_bits w) (omega (arith, l)) (omega (arith, k, m)) in
       let n : length (so_far ++ whole_bytes (kept_bits w)) - 4 ≡ length so_far = (let a = length-append so_far (whole_bytes (kept_bits w)) in omega (arith, a, four)) in

@@ -4,8 +4,8 @@ ghost use Rattle.std.specs.Prelude.{◌≡◌, ◌≤◌, ◌<◌, ◌+◌, ◌*
 ghost use Rattle.port_slip.specs.Coming.{is_hunt, none_found, run_in};
 
 use crate::byte::{pattern_in, run_over, run_over_word};
-use crate::phase::Phase;
-use crate::window::Window;
+use crate::phase::SlipPhase;
+use crate::window::BitWindow;
 use arrayvec::ArrayVec;
 
 /// What was not written: how many bits before the first pattern, and how many at the ends of segments that were no
@@ -24,7 +24,7 @@ pub struct Slip {
     skipped: u64,
     dropped: u64,
     patterns: u64,
-    phase: Phase,
+    phase: SlipPhase,
     ghost few: { pushed ≤ 2 ^ 36 },
     ghost skips: { skipped + run_in phase ≤ 8 * pushed },
     ghost drops: { dropped ≤ 7 * patterns },
@@ -38,7 +38,7 @@ impl Slip {
     ghost use Rattle.arrayvec.specs.ArrayVec.{array_vec_len};
     ghost use Rattle.port_slip.specs.Segments.{realigned};
     ghost use Rattle.port_slip.specs.Slip.{Stands, Takes, held_by, joined, pushed_by, to_come};
-    ghost use Rattle.port_slip.specs.declared.phase.Phase.TheVariants.{Hunting, Open};
+    ghost use Rattle.port_slip.specs.declared.phase.SlipPhase.TheVariants.{Hunting, Open};
 
     /// A realigner of no bytes.
     pub fn new() -> Slip
@@ -51,7 +51,7 @@ impl Slip {
             skipped: 0,
             dropped: 0,
             patterns: 0,
-            phase: Phase::Hunting(0),
+            phase: SlipPhase::Hunting(0),
         }
     }
 
@@ -68,8 +68,8 @@ impl Slip {
         ensures few { result ≤ 47 }
     {
         match self.phase {
-            Phase::Hunting(_) => 0,
-            Phase::Open(window) => window.held,
+            SlipPhase::Hunting(_) => 0,
+            SlipPhase::Open(window) => window.held,
         }
     }
 
@@ -81,11 +81,11 @@ impl Slip {
     {
         self.pushed += 1;
         match self.phase {
-            Phase::Hunting(run) => {
+            SlipPhase::Hunting(run) => {
                 self.hunt(run, byte);
                 None
             }
-            Phase::Open(window) => self.pass(window, byte),
+            SlipPhase::Open(window) => self.pass(window, byte),
         }
     }
 
@@ -98,12 +98,12 @@ impl Slip {
         ensures taken { IfSome result (λ sure. Takes self.old self.new word.now sure) }
         ensures left { IfNone result (self.new ≡ self.old) }
     {
-        let Phase::Open(window) = self.phase else {
+        let SlipPhase::Open(window) = self.phase else {
             return None;
         };
         let run = run_over_word(window.run, word)?;
         self.pushed += 8;
-        self.phase = Phase::Open(window.passed_word(word, run));
+        self.phase = SlipPhase::Open(window.passed_word(word, run));
         Some(window.first_word(word))
     }
 
@@ -132,19 +132,19 @@ impl Slip {
             Some(count) => {
                 self.skipped += u64::from(run + count - 31);
                 self.patterns += 1;
-                self.phase = Phase::Open(Window::begun(byte, count));
+                self.phase = SlipPhase::Open(BitWindow::begun(byte, count));
             }
             None => {
                 let next = run_over(run, byte);
                 self.skipped += u64::from(run + 8 - next);
-                self.phase = Phase::Hunting(next);
+                self.phase = SlipPhase::Hunting(next);
             }
         }
     }
 
     /// Takes a byte in a segment, and answers what has become sure.
     #[inline]
-    fn pass(&mut self, window: Window, byte: u8) -> Option<u8>
+    fn pass(&mut self, window: BitWindow, byte: u8) -> Option<u8>
         requires open { self.old.phase ≡ Open window }
         requires finds { self.old.patterns + 1 ≤ self.old.pushed }
         ensures to_come { (more : List ℕ) → joined [] self.old (to_come self.old (byte ∷ more))
@@ -161,11 +161,11 @@ impl Slip {
                 };
                 self.dropped += u64::from(closed % 8);
                 self.patterns += 1;
-                self.phase = Phase::Open(Window::begun(byte, count));
+                self.phase = SlipPhase::Open(BitWindow::begun(byte, count));
                 sure
             }
             None => {
-                self.phase = Phase::Open(window.passed(byte));
+                self.phase = SlipPhase::Open(window.passed(byte));
                 Some(window.first())
             }
         }
@@ -188,8 +188,8 @@ impl Slip {
             patterns: self.patterns,
         };
         match self.phase {
-            Phase::Hunting(run) => slipped.skipped += u64::from(run),
-            Phase::Open(window) => {
+            SlipPhase::Hunting(run) => slipped.skipped += u64::from(run),
+            SlipPhase::Open(window) => {
                 window.give_whole(out);
                 slipped.dropped += u64::from(window.held - 32);
             }

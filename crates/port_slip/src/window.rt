@@ -10,7 +10,7 @@ use arrayvec::ArrayVec;
 /// The bits of an open segment that are not written: 32 to 39 of them, so that the beginning of the next segment would
 /// be among them.
 #[derive(Clone, Copy, Drop)]
-pub struct Window {
+pub struct BitWindow {
     /// How many bits there are.
     pub held: u8,
     /// The bits, the first of them as bit 0.
@@ -22,7 +22,7 @@ pub struct Window {
     ghost sound: { IsWindow run (bits held kept) },
 }
 
-impl Window {
+impl BitWindow {
     ghost use Rattle.std.specs.Prelude.{◌≢◌, ◌+◌, ◌-◌, ◌/◌, ◌∷◌, ◌++◌, [], List, ℕ, Bool, take, drop, true, false};
     ghost use Rattle.port_slip.specs.Bits.{ones, whole_bytes};
     ghost use Rattle.port_slip.specs.Runs.{is_quiet};
@@ -30,14 +30,14 @@ impl Window {
     ghost use Rattle.arrayvec.specs.ArrayVec.{array_vec_len};
 
     /// The bits from the first of the pattern on that ends in this byte, after so many ones of it.
-    pub(crate) fn begun(byte: u8, count: u8) -> Window
+    pub(crate) fn begun(byte: u8, count: u8) -> BitWindow
         requires byte { byte ≢ 255 }
         requires few { count ≤ 7 }
         requires parts { bits 8 byte ≡ ones count ++ (false ∷ bits (7 - count) (byte / 2 ^ (count + 1))) }
         ensures held { result.held ≡ 39 - count }
         ensures bits { kept_bits result ≡ ones 31 ++ (false ∷ bits (7 - count) (byte / 2 ^ (count + 1))) }
     {
-        Window {
+        BitWindow {
             held: 39 - count,
             kept: 0x7FFF_FFFF + (u64::from(byte) >> (count + 1) << 32u32),
             run: ones_last(byte),
@@ -54,12 +54,12 @@ impl Window {
 
     /// The bits after that byte, with one more byte, in which no pattern ends.
     #[inline]
-    pub(crate) fn passed(self, byte: u8) -> Window
+    pub(crate) fn passed(self, byte: u8) -> BitWindow
         requires { is_quiet self.run (bits 8 byte) ≡ true }
         ensures held { result.held ≡ self.held }
         ensures bits { kept_bits result ≡ drop 8 (kept_bits self ++ bits 8 byte) }
     {
-        Window {
+        BitWindow {
             held: self.held,
             kept: (self.kept + (u64::from(byte) << self.held)) / 256,
             run: run_over(self.run, byte),
@@ -77,12 +77,12 @@ impl Window {
 
     /// The bits after those, where no pattern ends in the eight bytes and this is the run at their end.
     #[inline]
-    pub(crate) fn passed_word(self, word: &[u8; 8], run: u8) -> Window
+    pub(crate) fn passed_word(self, word: &[u8; 8], run: u8) -> BitWindow
         requires { RunsOn self.run (bits_of word.now) run }
         ensures held { result.held ≡ self.held }
         ensures bits { kept_bits result ≡ drop 64 (kept_bits self ++ bits_of word.now) }
     {
-        Window {
+        BitWindow {
             held: self.held,
             kept: u64::from_le_bytes(*word) >> (64 - self.held),
             run,

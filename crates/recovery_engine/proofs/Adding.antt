@@ -13,14 +13,14 @@ use Rattle.recovering_machines.specs.Source.{total_of}
 use Rattle.recovering_machines.specs.declared.source.RecoveringSource.{RecoveringSource}
 use Rattle.recovery_engine.specs.Fresh.{FreshIf, IsAdded, IsFresh}
 use Rattle.recovery_engine.specs.Slots.{IsSource, StandsAt, source_at, total}
-use Rattle.recovery_engine.specs.declared.slot.Slot.{Slot}
+use Rattle.recovery_engine.specs.declared.slot.RecoveringSlot.{RecoveringSlot}
 
 -- one more slot
 abbrev pub pushed : Option RecoveringSource → Bool → RecoveringSource → Option RecoveringSource
 pushed None own s = cond own (Some s) None
 pushed (Some t) own s = Some t
 
-pub source_push : (slots : List Slot) (s : Slot) (x : ℕ) →
+pub source_push : (slots : List RecoveringSlot) (s : RecoveringSlot) (x : ℕ) →
     source_at (slots ++ s ∷ []) x ≡ pushed (source_at slots x) (s.id == x) s.source
 source_push [] s x = refl
 source_push (t ∷ slots) s x = by (t.id == x) (source_push slots s x) where
@@ -30,7 +30,7 @@ source_push (t ∷ slots) s x = by (t.id == x) (source_push slots s x) where
   by true e = refl
   by false e = e
 
-pub total_push : (slots : List Slot) (s : Slot) → total (slots ++ s ∷ []) ≡ total slots + total_of s.source
+pub total_push : (slots : List RecoveringSlot) (s : RecoveringSlot) → total (slots ++ s ∷ []) ≡ total slots + total_of s.source
 total_push [] s = (let e : total_of s.source + 0 ≡ 0 + total_of s.source = omega arith in e)
 total_push (t ∷ slots) s = (let k = total_push slots s in omega (arith, k))
 

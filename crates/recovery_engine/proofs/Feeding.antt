@@ -31,7 +31,7 @@ use Rattle.recovery_report.proofs.PortLaws as laws
 use Rattle.recovery_engine.specs.Port.{PortStands}
 use Rattle.recovery_engine.specs.Slots.{StandFor}
 use Rattle.recovery_engine.specs.Taking.{Takes}
-use Rattle.recovery_engine.specs.declared.slot.Slot.{Slot}
+use Rattle.recovery_engine.specs.declared.slot.RecoveringSlot.{RecoveringSlot}
 
 -- the stretches of a port with one more byte
 port_push : (mode : FramesMode) (u : List Placed) (b : Placed) →
@@ -112,7 +112,7 @@ bare_parts u b =
 
 -- what was taken is what the byte adds
 module _ {S : Type 0} (gets : S → List (Event (Heard Packet)) → S →
-    Type 0) (plan : Plan) (u w : List Placed) (more : List Part) (old new : List Slot × S)
+    Type 0) (plan : Plan) (u w : List Placed) (more : List Part) (old new : List RecoveringSlot × S)
     (e : parts_in (recovered plan.frames w) ≡ parts_in (recovered plan.frames u) ++ more) (t : Takes gets more old new)
     (k : StandFor plan (parts_in (recovered plan.frames u)) old.0) where
   pub stands_more : StandFor plan (parts_in (recovered plan.frames w)) new.0

@@ -11,10 +11,10 @@ use Rattle.recovering_machines.specs.Run.{TakesRun}
 use Rattle.recovering_machines.specs.declared.source.RecoveringSource.{RecoveringSource}
 use Rattle.recovery_engine.specs.Slots.{source_at}
 use Rattle.recovery_engine.specs.Taking.{TakesOwn}
-use Rattle.recovery_engine.specs.declared.slot.Slot.{Slot}
+use Rattle.recovery_engine.specs.declared.slot.RecoveringSlot.{RecoveringSlot}
 
 module _ {S : Type 0} (gets : S → List (Event (Heard Packet)) → S → Type 0) (room : S →
-    ℕ) (id : ℕ) (cells : List Cell) (s : Slot) (rest slots : List Slot) (p : slots ≡ s ∷ rest) (a b : S) where
+    ℕ) (id : ℕ) (cells : List Cell) (s : RecoveringSlot) (rest slots : List RecoveringSlot) (p : slots ≡ s ∷ rest) (a b : S) where
   pub own_first : (after : RecoveringSource) → s.id ≡ id → TakesRun gets room id cells s.source after a b →
       TakesOwn gets room id cells (slots, a) (record { id = s.id; source = after } ∷ rest, b)
   own_first after e t = record {
@@ -29,7 +29,7 @@ module _ {S : Type 0} (gets : S → List (Event (Heard Packet)) → S → Type 0
     takes = t;
   }
 
-  pub own_rest : (new : List Slot) → (s.id == id) ≡ false → TakesOwn gets room id cells (rest, a) (new, b) →
+  pub own_rest : (new : List RecoveringSlot) → (s.id == id) ≡ false → TakesOwn gets room id cells (rest, a) (new, b) →
       TakesOwn gets room id cells (slots, a) (s ∷ new, b)
   own_rest new f t = record {
     before = t.before;

@@ -31,14 +31,14 @@ use Rattle.recovery_report.specs.Report.{events_by, stretches_of}
 use Rattle.recovery_report.proofs.PartLaws as laws
 use Rattle.recovery_engine.specs.Slots.{IsSource, StandsAt, StandFor, source_at}
 use Rattle.recovery_engine.specs.Taking.{Grown, Takes, TakesOwn, IsCut, AreCut}
-use Rattle.recovery_engine.specs.declared.slot.Slot.{Slot}
+use Rattle.recovery_engine.specs.declared.slot.RecoveringSlot.{RecoveringSlot}
 
 abbrev Heards : Type 0
 Heards = List (Event (Heard Packet))
 
 -- nothing, and some parts after others
 module _ {S : Type 0} (gets : S → Heards → S → Type 0) where
-  pub takes_none : ((s : S) → gets s [] s) → (a : List Slot × S) → Takes gets [] a a
+  pub takes_none : ((s : S) → gets s [] s) → (a : List RecoveringSlot × S) → Takes gets [] a a
   takes_none none a = (
     [],
     none a.1,
@@ -49,7 +49,7 @@ module _ {S : Type 0} (gets : S → Heards → S → Type 0) where
   )
 
   pub takes_then : ((a b c : S) (es fs : Heards) → gets a es b → gets b fs c → gets a (es ++ fs) c) →
-      (a b c : List Slot × S) (ms ns : List Part) →
+      (a b c : List RecoveringSlot × S) (ms ns : List Part) →
       Takes gets ms a b → Takes gets ns b c → Takes gets (ms ++ ns) a c
   takes_then more a b c ms ns t s = (
     t.0 ++ s.0,
@@ -65,7 +65,7 @@ module _ {S : Type 0} (gets : S → Heards → S → Type 0) where
   )
 
 -- one part: what it is to each source, and what it adds
-pub grown_by : (plan : Plan) (parts : List Part) (m : Part) (slots : List Slot) (given : Heards) →
+pub grown_by : (plan : Plan) (parts : List Part) (m : Part) (slots : List RecoveringSlot) (given : Heards) →
     StandFor plan (parts ++ m ∷ []) slots → added plan parts m ≡ given → Grown plan parts (m ∷ []) slots given
 grown_by plan parts m slots given k e = record {
   list = k;
@@ -86,7 +86,7 @@ same_at plan parts m x (Some s) e k = record {
 }
 
 -- a run of no source
-pub grown_none : (plan : Plan) (parts : List Part) (run : List Cell) (slots : List Slot) → id_of run ≡ None →
+pub grown_none : (plan : Plan) (parts : List Part) (run : List Cell) (slots : List RecoveringSlot) → id_of run ≡ None →
     StandFor plan parts slots → Grown plan parts (Run run ∷ []) slots []
 grown_none plan parts run slots e k =
     grown_by plan parts (Run run) slots [] (λ x. same_at plan parts (Run run) x (source_at slots x)
@@ -100,7 +100,7 @@ other_run x y run e n = ap (is_source y) e ∙ test_other x y (λ q. n (sym q))
 runs_push : (parts : List Part) (m : Part) → flat_map run_in (parts ++ m ∷ []) ≡ flat_map run_in parts ++ run_in m
 runs_push parts m = flat_map-append run_in parts (m ∷ []) ∙ ap (λ l. flat_map run_in parts ++ l) (append-nil (run_in m))
 
-pub grown_raw : (plan : Plan) (parts : List Part) (run : List Cell) (x : ℕ) (slots : List Slot) → id_of run ≡ Some x →
+pub grown_raw : (plan : Plan) (parts : List Part) (run : List Cell) (x : ℕ) (slots : List RecoveringSlot) → id_of run ≡ Some x →
     source_at slots x ≡ None → StandFor plan parts slots →
     Grown plan parts (Run run ∷ []) slots (told (Some x) (raw_events x run))
 grown_raw plan parts run x slots e n k =
@@ -123,7 +123,7 @@ grown_raw plan parts run x slots e n k =
 
 -- one of a source of its own
 module _ {S : Type 0} (gets : S → Heards → S → Type 0) (room : S →
-    ℕ) (plan : Plan) (parts : List Part) (run : List Cell) (x : ℕ) (old new : List Slot × S) (e : id_of run ≡ Some x)
+    ℕ) (plan : Plan) (parts : List Part) (run : List Cell) (x : ℕ) (old new : List RecoveringSlot × S) (e : id_of run ≡ Some x)
     (k : StandFor plan parts old.0) (t : TakesOwn gets room x run old new) where
   abbrev a : RecoveringSource
   a = t.before
@@ -172,7 +172,7 @@ module _ {S : Type 0} (gets : S → Heards → S → Type 0) (room : S →
       adds
 
 pub takes_own : {S : Type 0} (gets : S → Heards → S → Type 0) (room : S →
-    ℕ) (run : List Cell) (x : ℕ) (old new : List Slot × S) → id_of run ≡ Some x → TakesOwn gets room x run old new →
+    ℕ) (run : List Cell) (x : ℕ) (old new : List RecoveringSlot × S) → id_of run ≡ Some x → TakesOwn gets room x run old new →
     Takes gets (Run run ∷ []) old new
 takes_own gets room run x old new e t = (
   told (Some x) (lifted t.takes.said),
@@ -181,7 +181,7 @@ takes_own gets room run x old new e t = (
 )
 
 -- a lock and a fault of the port
-pub grown_lock : (plan : Plan) (parts : List Part) (n skipped : ℕ) (place : Place) (slots : List Slot) → skipped ≡ n →
+pub grown_lock : (plan : Plan) (parts : List Part) (n skipped : ℕ) (place : Place) (slots : List RecoveringSlot) → skipped ≡ n →
     StandFor plan parts slots →
     Grown plan parts (Locks n place ∷ []) slots (told None ((Locked skipped, place) ∷ []))
 grown_lock plan parts n skipped place slots e k =
@@ -204,7 +204,7 @@ cut_at plan parts reason place x (Some s) (Some t) c k = record {
 cut_at plan parts reason place x None (Some t) c k = absurd c
 cut_at plan parts reason place x (Some s) None c k = absurd c
 
-pub grown_break : (plan : Plan) (parts : List Part) (reason : Reason) (place : Place) (old new : List Slot) →
+pub grown_break : (plan : Plan) (parts : List Part) (reason : Reason) (place : Place) (old new : List RecoveringSlot) →
     AreCut old new → StandFor plan parts old →
     Grown plan parts (Breaks reason place ∷ []) new (added plan parts (Breaks reason place))
 grown_break plan parts reason place old new c k =

@@ -9,7 +9,7 @@ use Rattle.stretch_readings.specs.Stretches.{before, from_fault}
 use Rattle.recovering_machines.specs.Source.{Stands, kind_of, reads_of}
 use Rattle.recovering_machines.specs.declared.source.RecoveringSource.{RecoveringSource}
 use Rattle.recovery_engine.specs.Slots.{StandFor}
-use Rattle.recovery_engine.specs.declared.slot.Slot.{Slot}
+use Rattle.recovery_engine.specs.declared.slot.RecoveringSlot.{RecoveringSlot}
 
 -- a source of this kind that has read nothing
 pub record IsFresh (plan : Plan) (kind : SourceKind) (s : RecoveringSource) : Type 0 where
@@ -28,5 +28,5 @@ IsAdded plan kind ids x None new = FreshIf plan kind (list_any (λ y. y == x) id
 IsAdded plan kind ids x (Some s) new = new ≡ Some s
 
 -- those of a plan
-abbrev pub AreFresh : Plan → List Slot → Type 0
+abbrev pub AreFresh : Plan → List RecoveringSlot → Type 0
 AreFresh plan slots = StandFor plan [] slots

@@ -6,10 +6,10 @@ use Rattle.source_machine.specs.Units.{reads_by}
 use Rattle.recovering_machines.specs.Source.{Stands, kind_of, reads_of, total_of}
 use Rattle.recovering_machines.specs.declared.source.RecoveringSource.{RecoveringSource}
 use Rattle.recovery_report.specs.Report.{Part, stretches_of}
-use Rattle.recovery_engine.specs.declared.slot.Slot.{Slot}
+use Rattle.recovery_engine.specs.declared.slot.RecoveringSlot.{RecoveringSlot}
 
 -- the source of this ID
-abbrev pub source_at : List Slot → ℕ → Option RecoveringSource
+abbrev pub source_at : List RecoveringSlot → ℕ → Option RecoveringSource
 source_at [] x = None
 source_at (s ∷ slots) x = if s.id == x then Some s.source else source_at slots x
 
@@ -24,10 +24,10 @@ StandsAt plan parts x None = plans.kind_of plan x ≡ None
 StandsAt plan parts x (Some s) = IsSource plan parts x s
 
 -- these are the plan's sources, and stand for their stretches in these parts
-abbrev pub StandFor : Plan → List Part → List Slot → Type 0
+abbrev pub StandFor : Plan → List Part → List RecoveringSlot → Type 0
 StandFor plan parts slots = (x : ℕ) → StandsAt plan parts x (source_at slots x)
 
 -- how many units all of them hold and skipped
-abbrev pub total : List Slot → ℕ
+abbrev pub total : List RecoveringSlot → ℕ
 total [] = 0
 total (s ∷ slots) = total_of s.source + total slots

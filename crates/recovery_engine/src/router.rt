@@ -11,7 +11,7 @@ ghost use Rattle.recovery_report.specs.Words.{parts_by};
 ghost use Rattle.recovery_engine.specs.Slots.{total};
 ghost use Rattle.recovery_engine.specs.Taking.{Takes};
 
-use crate::slot::{Slot, cut_all, take_own};
+use crate::slot::{RecoveringSlot, cut_all, take_own};
 use deformatter::PortStep;
 use recovering_machines::Hearer;
 use source_events::{Event, RunBytes, What, run_length};
@@ -66,7 +66,7 @@ fn give_raw<V: Hearer>(id: SourceId, cells: &[Cell], out: &mut V)
 }
 
 /// Takes a run of one source, or of none.
-fn take_run<V: Hearer>(slots: &mut [Slot], cells: &[Cell], out: &mut V)
+fn take_run<V: Hearer>(slots: &mut [RecoveringSlot], cells: &[Cell], out: &mut V)
     requires some { 0 < length cells.now }
     requires size { length cells.now ≤ 15 }
     requires few { total slots.old + 4 * length cells.now ≤ COUNT_ROOM }
@@ -85,7 +85,7 @@ fn take_run<V: Hearer>(slots: &mut [Slot], cells: &[Cell], out: &mut V)
 }
 
 /// Takes the cells of a frame, run by run.
-fn take_frame<V: Hearer>(slots: &mut [Slot], cells: &[Cell], out: &mut V)
+fn take_frame<V: Hearer>(slots: &mut [RecoveringSlot], cells: &[Cell], out: &mut V)
     requires size { length cells.now ≤ 15 }
     requires few { total slots.old + 4 * length cells.now ≤ COUNT_ROOM }
     requires room { 2 * length cells.now ≤ V.room out.old }
@@ -105,7 +105,7 @@ fn take_frame<V: Hearer>(slots: &mut [Slot], cells: &[Cell], out: &mut V)
 /// Takes what a step of the port at this offset ends: a frame of these cells, the bytes before a lock, or the lists of
 /// all sources.
 pub fn take_step<V: Hearer>(
-    slots: &mut [Slot],
+    slots: &mut [RecoveringSlot],
     at: u64,
     step: PortStep,
     cells: &[Cell],

@@ -17,15 +17,15 @@ use trace_values::{Cell, PacketsMode, SourceId};
 
 /// A mapped source, and what reads its bytes.
 #[derive(Drop)]
-pub struct Slot {
+pub struct RecoveringSlot {
     pub id: SourceId,
     pub source: RecoveringSource,
 }
 
 /// The default slot only fills the unused places of a buffer.
-impl Default for Slot {
-    fn default() -> Slot {
-        Slot {
+impl Default for RecoveringSlot {
+    fn default() -> RecoveringSlot {
+        RecoveringSlot {
             id: SourceId::default(),
             source: RecoveringSource::new(SourceKind::Itm, PacketsMode::Aligned, Order::Msn),
         }
@@ -33,7 +33,7 @@ impl Default for Slot {
 }
 
 /// The mapped sources of a plan.
-pub type Slots = ArrayVec<Slot, MAPPED_SOURCES>;
+pub type Slots = ArrayVec<RecoveringSlot, MAPPED_SOURCES>;
 
 /// Those of a plan, each before its first byte.
 pub fn slots_of(plan: &Plan) -> Slots
@@ -55,7 +55,7 @@ fn add_slots(slots: &mut Slots, kind: SourceKind, ids: &[SourceId], plan: &Plan)
     ensures few { total slots.new.items ≤ total slots.old.items }
 {
     for id in ids {
-        slots.push(Slot {
+        slots.push(RecoveringSlot {
             id: *id,
             source: RecoveringSource::new(kind, plan.packets, plan.order),
         });
@@ -63,7 +63,12 @@ fn add_slots(slots: &mut Slots, kind: SourceKind, ids: &[SourceId], plan: &Plan)
 }
 
 /// Takes a run of the source of this ID, and gives its events. False where there is no such source.
-pub fn take_own<V: Hearer>(slots: &mut [Slot], id: SourceId, cells: &[Cell], out: &mut V) -> bool
+pub fn take_own<V: Hearer>(
+    slots: &mut [RecoveringSlot],
+    id: SourceId,
+    cells: &[Cell],
+    out: &mut V,
+) -> bool
     requires few { total slots.old + 4 * length cells.now ≤ COUNT_ROOM }
     requires room { 2 * length cells.now ≤ V.room out.old }
     ensures own { result ≡ true → TakesOwn V.gets V.room id cells.now (slots.old, out.old) (slots.new, out.new) }
@@ -83,7 +88,7 @@ pub fn take_own<V: Hearer>(slots: &mut [Slot], id: SourceId, cells: &[Cell], out
 }
 
 /// Cuts the lists of all sources.
-pub fn cut_all(slots: &mut [Slot])
+pub fn cut_all(slots: &mut [RecoveringSlot])
     requires few { total slots.old ≤ COUNT_ROOM }
     ensures cut { AreCut slots.old slots.new }
     ensures len { length slots.new ≡ length slots.old }

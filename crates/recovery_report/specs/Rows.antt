@@ -11,7 +11,11 @@ use Rattle.trace_values.specs.Stream.{Said}
 use Rattle.source_events.specs.declared.event.What.{What}
 use Rattle.source_events.specs.declared.packet.Packet.{Packet}
 use Rattle.source_events.specs.declared.plan.Plan.{Plan}
+use Rattle.source_events.specs.declared.plan.SourceKind.{SourceKind}
 use Rattle.source_events.specs.declared.plan.SourceKind.TheVariants.{Itm}
+use Rattle.source_events.specs.declared.port_mode.PortMode.{PortMode}
+use Rattle.source_events.specs.declared.port_mode.PortMode.TheVariants.{Locked}
+use Rattle.source_events.specs.declared.tails.SourceTail.{SourceTail}
 use Rattle.source_events.specs.declared.tails.Tails.{Tails}
 use Rattle.source_machine.specs.Units.{reads_by}
 use Rattle.stretch_readings.specs.declared.heard.Heard.{Heard}
@@ -41,6 +45,14 @@ row_of plan text = record {
   events = map (λ e. (e.at, e.half, e.source, e.what)) (report plan (placed (hex text)));
   end = tails_of plan (placed (hex text));
 }
+
+-- how a capture ends with nothing left over, and each byte with its source; and source 1 of this kind, locked
+abbrev pub ends : ℕ → PortMode → ℕ → List SourceTail → Tails
+ends bytes mode skipped sources =
+    record { bytes = bytes; mode = mode; skipped = skipped; tail = 0; unattributed = 0; sources = sources }
+
+abbrev pub source_one : SourceKind → ℕ → List SourceTail
+source_one kind skipped = record { id = 1; kind = kind; mode = Locked; skipped = skipped; tail = 0 } ∷ []
 
 -- the next unit begins a packet
 abbrev pub at_next : Resumption

@@ -15,7 +15,7 @@ ghost use Rattle.source_events.specs.declared.packet.Packet.TheVariants.{Itm, St
 ghost use Rattle.source_events.specs.declared.plan.SourceKind.TheVariants.{Itm as ItmKind, Stp as StpKind};
 ghost use Rattle.source_events.specs.declared.port_mode.PortMode.TheVariants.{Bare, Locked as IsLocked};
 ghost use Rattle.stretch_readings.specs.declared.heard.Heard.TheVariants.{Read, Broken};
-ghost use Rattle.recovery_report.specs.Rows.{itm, raw, stp, row_of, said_at_next};
+ghost use Rattle.recovery_report.specs.Rows.{ends, itm, raw, source_one, stp, row_of, said_at_next};
 
 /// A reserved header: the source hunts again from it on.
 pub fn reserved()
@@ -23,14 +23,7 @@ pub fn reserved()
       events = (1, 0, Some 1, Packet (Read (Itm (Software 0 One 65))))
           ∷ (2, 0, Some 1, Packet (Broken ReservedHeader)) ∷ (8, 0, Some 1, Locked 1)
           ∷ (8, 0, Some 1, Packet (Read (Itm Sync))) ∷ (9, 0, Some 1, Packet (Read (Itm Overflow))) ∷ [];
-      end = record {
-        bytes = 10;
-        mode = Bare;
-        skipped = 0;
-        tail = 0;
-        unattributed = 0;
-        sources = record { id = 1; kind = ItmKind; mode = IsLocked; skipped = 1; tail = 0 } ∷ [];
-      };
+      end = ends 10 Bare 0 (source_one ItmKind 1);
     } }
 {}
 
@@ -39,14 +32,7 @@ pub fn short_stamp()
     ensures { row_of (itm FramesBare Aligned) (codes "B4 00 00 00 00 00 80") ≡ record {
       events = (1, 0, Some 1, Packet (Broken ShortStamp)) ∷ (6, 0, Some 1, Locked 1)
           ∷ (6, 0, Some 1, Packet (Read (Itm Sync))) ∷ [];
-      end = record {
-        bytes = 7;
-        mode = Bare;
-        skipped = 0;
-        tail = 0;
-        unattributed = 0;
-        sources = record { id = 1; kind = ItmKind; mode = IsLocked; skipped = 1; tail = 0 } ∷ [];
-      };
+      end = ends 7 Bare 0 (source_one ItmKind 1);
     } }
 {}
 
@@ -57,14 +43,7 @@ pub fn fault_at_the_patterns_last_byte()
       events = (4, 0, Some 1, Packet (Read (Itm (Software 0 Four 0))))
           ∷ (6, 0, Some 1, Packet (Broken BadItmSync)) ∷ (12, 0, Some 1, Locked 2)
           ∷ (12, 0, Some 1, Packet (Read (Itm Sync))) ∷ (13, 0, Some 1, Packet (Read (Itm Overflow))) ∷ [];
-      end = record {
-        bytes = 14;
-        mode = Bare;
-        skipped = 0;
-        tail = 0;
-        unattributed = 0;
-        sources = record { id = 1; kind = ItmKind; mode = IsLocked; skipped = 2; tail = 0 } ∷ [];
-      };
+      end = ends 14 Bare 0 (source_one ItmKind 2);
     } }
 {}
 
@@ -75,14 +54,7 @@ pub fn fault_in_a_high_nibble()
         ≡ record {
           events = (1, 1, Some 1, Packet (Broken StampSize)) ∷ (22, 1, Some 1, Locked 23)
               ∷ (22, 1, Some 1, Packet (Read (Stp Async))) ∷ [];
-          end = record {
-            bytes = 23;
-            mode = Bare;
-            skipped = 0;
-            tail = 0;
-            unattributed = 0;
-            sources = record { id = 1; kind = StpKind; mode = IsLocked; skipped = 23; tail = 0 } ∷ [];
-          };
+          end = ends 23 Bare 0 (source_one StpKind 23);
         } }
 {}
 
@@ -93,7 +65,7 @@ pub fn sync_in_frame()
         ≡ record {
           events = (7, 0, None, Packet (Broken SyncInFrame)) ∷ (9, 0, None, Locked 6)
               ∷ (11, 0, Some 125, Trigger 7) ∷ [];
-          end = record { bytes = 26; mode = IsLocked; skipped = 6; tail = 0; unattributed = 0; sources = [] };
+          end = ends 26 IsLocked 6 [];
         } }
 {}
 
@@ -101,7 +73,7 @@ pub fn sync_in_frame()
 pub fn four_ff()
     ensures { row_of (raw FramesAligned) (codes "FF FF FF FF 7F") ≡ record {
       events = (3, 0, None, Packet (Broken BadSync)) ∷ (4, 0, None, Locked 1) ∷ [];
-      end = record { bytes = 5; mode = IsLocked; skipped = 1; tail = 0; unattributed = 0; sources = [] };
+      end = ends 5 IsLocked 1 [];
     } }
 {}
 
@@ -109,7 +81,7 @@ pub fn four_ff()
 pub fn other_last_byte()
     ensures { row_of (raw FramesAligned) (codes "FF FF FF 00 FF FF FF 7F") ≡ record {
       events = (3, 0, None, Packet (Broken BadSync)) ∷ (7, 0, None, Locked 4) ∷ [];
-      end = record { bytes = 8; mode = IsLocked; skipped = 4; tail = 0; unattributed = 0; sources = [] };
+      end = ends 8 IsLocked 4 [];
     } }
 {}
 
@@ -120,14 +92,7 @@ pub fn cut_inside_a_packet()
           events = (1, 0, Some 1, Packet (Read (Itm Overflow))) ∷ (17, 0, None, Packet (Broken BadSync))
               ∷ (21, 0, None, Locked 2) ∷ (28, 0, Some 1, Locked 0) ∷ (28, 0, Some 1, Packet (Read (Itm Sync)))
               ∷ (31, 0, Some 1, Packet (Read (Itm (Software 0 One 65)))) ∷ [];
-          end = record {
-            bytes = 38;
-            mode = IsLocked;
-            skipped = 2;
-            tail = 0;
-            unattributed = 0;
-            sources = record { id = 1; kind = ItmKind; mode = IsLocked; skipped = 1; tail = 0 } ∷ [];
-          };
+          end = ends 38 IsLocked 2 (source_one ItmKind 1);
         } }
 {}
 
@@ -138,14 +103,7 @@ pub fn cut_in_a_hunt()
           events = (17, 0, None, Packet (Broken BadSync)) ∷ (21, 0, None, Locked 2) ∷ (28, 0, Some 1, Locked 0)
               ∷ (28, 0, Some 1, Packet (Read (Itm Sync)))
               ∷ (31, 0, Some 1, Packet (Read (Itm (Software 0 One 65)))) ∷ [];
-          end = record {
-            bytes = 38;
-            mode = IsLocked;
-            skipped = 2;
-            tail = 0;
-            unattributed = 0;
-            sources = record { id = 1; kind = ItmKind; mode = IsLocked; skipped = 2; tail = 0 } ∷ [];
-          };
+          end = ends 38 IsLocked 2 (source_one ItmKind 2);
         } }
 {}
 

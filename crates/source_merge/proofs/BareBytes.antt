@@ -15,13 +15,11 @@ use Rattle.source_merge.specs.Feeding.{place_and_reason}
 use Rattle.source_merge.specs.Routing.{HasNot, RunsBetween, Stops}
 use Rattle.source_merge.proofs.Framing.{fed_all, fed_stopped}
 use Rattle.source_merge.proofs.Slots.{grown_own, sound_other, sound_front, sound_back, lawful_at}
-use Rattle.source_merge.proofs.ByParts.{StepTakenBy}
+use Rattle.source_merge.proofs.ByParts.{StepTakenBy, TookBy}
 use Rattle.source_merge.proofs.Filling.{Filled}
 use Rattle.source_merge.proofs.Steps.{taken_frame, IsAfter, after}
 
 -- of the machines nothing is said
-abbrev pub Nothing : Unit {0} → List Placed → Type 0
-Nothing m u = Unit {0}
 
 -- the bytes of source 1: all
 abbrev pub bytes_one : List Placed → List Placed
@@ -80,8 +78,8 @@ module _ {V : Type 0} (a : List (Mapped V)) (one : Mapped V) (b : List (Mapped V
   here : IsRunFrom at run
   here = ((let z : at ≤ at = omega arith in z), tt)
 
-  places : IsAfter {M = Unit {0}} Nothing ss law Bare u at byte rise refl sound run
-  places = after {M = Unit {0}} Nothing ss law Bare u at byte rise refl sound run (frames_push u at byte) refl
+  places : IsAfter ss law Bare u at byte rise refl sound run
+  places = after ss law Bare u at byte rise refl sound run (frames_push u at byte) refl
 
   runs_next : runs_in (port_reading Bare next) ≡ runs ++ run ∷ []
   runs_next =
@@ -107,7 +105,7 @@ module _ {V : Type 0} (a : List (Mapped V)) (one : Mapped V) (b : List (Mapped V
         ∙ sym (grown_own a one b runs run more before named grew)
         ∙ sym (append-nil (grown (events ss) runs run (id_of run)))
 
-    filled : Filled {M = Unit {0}} Nothing ss [] runs at (run ∷ []) [] (told (Some 1) (lifted more))
+    filled : Filled ss [] runs at (run ∷ []) [] (told (Some 1) (lifted more))
     filled = record {
       at = at + 1;
       between = (here, (let z : at + 1 ≤ at + 1 = omega arith in z));
@@ -116,20 +114,20 @@ module _ {V : Type 0} (a : List (Mapped V)) (one : Mapped V) (b : List (Mapped V
       list = tt;
     }
 
-    pub bare_more : StepTakenBy {M = Unit {0}} Nothing ss [] Bare u next (told (Some 1) (lifted more)) None
+    pub bare_more : StepTakenBy ss [] Bare u next (told (Some 1) (lifted more)) None
     bare_more =
-        taken_frame {M = Unit {0}} Nothing ss law Bare u at byte rise refl sound run (frames_push u at byte) refl refl places []
+        taken_frame ss law Bare u at byte rise refl sound run (frames_push u at byte) refl refl places []
         (told (Some 1) (lifted more)) None
-        (fed_all {M = Unit {0}} Nothing ss runs at [] (run ∷ []) [] (told (Some 1) (lifted more)) sound filled sound_next)
+        (fed_all ss runs at [] (run ∷ []) [] (told (Some 1) (lifted more)) sound filled sound_next)
 
   pub bare_fault : (f : Fault) → f.at ≡ at →
       (one.stream (list_of one.id runs ++ byte_at at byte ∷ [])).given ≡ (one.stream (list_of one.id runs)).given ++ [] →
       (one.stream (list_of one.id runs ++ byte_at at byte ∷ [])).fault ≡ Some (place_and_reason f) →
-      StepTakenBy {M = Unit {0}} Nothing ss [] Bare u next [] (Some (record { fault = f; source = Some 1 }))
+      StepTakenBy ss [] Bare u next [] (Some (record { fault = f; source = Some 1 }))
   bare_fault f place grew fault =
-      taken_frame {M = Unit {0}} Nothing ss law Bare u at byte rise refl sound run (frames_push u at byte) refl refl places [] []
+      taken_frame ss law Bare u at byte rise refl sound run (frames_push u at byte) refl refl places [] []
       (Some (record { fault = f; source = Some 1 }))
-      (fed_stopped {M = Unit {0}} Nothing ss runs at law [] [] [] [] [] run [] [] (record { fault = f; source = Some 1 }) sound between
+      (fed_stopped ss runs at law [] [] [] [] [] run [] [] (record { fault = f; source = Some 1 }) sound between
       (record {
         at = at;
         between = (let z : at ≤ at = omega arith in z);
@@ -137,8 +135,8 @@ module _ {V : Type 0} (a : List (Mapped V)) (one : Mapped V) (b : List (Mapped V
         given_is = refl;
         list = tt;
       }) here tt
-      (subst (λ (l : List (List Cell)). [] ≡ grown (events ss) l run (id_of run)) (sym (append-nil runs)) (sym nothing))
-      (subst (λ (l : List (List Cell)). Stops ss l at run (record { fault = f; source = Some 1 })) (sym (append-nil runs)) stops)) where
+      (subst (λ (l : List (List Cell)). TookBy ss [] l at run [] (Some (record { fault = f; source = Some 1 }))) (sym (append-nil runs))
+      (record { given = sym nothing; list = λ k. (let q = k in cc); stops = stops }))) where
         nothing : grown (events ss) runs run (id_of run) ≡ []
         nothing = grown_own a one b runs run [] before named grew
 

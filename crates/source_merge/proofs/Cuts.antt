@@ -3,7 +3,7 @@ use Rattle.std.proofs.Common.{◌≡◌, ℕ, ◌+◌, ◌-◌, ◌*◌, ◌/◌
 use Rattle.std.specs.Prelude.{slice_index, nat_lt, if◌then◌else◌, ◌==◌}
 use Rattle.std.proofs.lemmas.Bool.Decides.{nat_tests}
 use Rattle.std.proofs.lemmas.Bool.{cases_lt, true≢false}
-use Rattle.source_merge.specs.Names.{source_id, aux_bit, cells, names, frame_places, ends_from, ends_left}
+use Rattle.source_merge.specs.Names.{Cell, source_id, aux_bit, cells, names, frame_places, ends_from, ends_left}
 use Rattle.frame_runs.specs.Pairs.{end_at, is_end}
 use Rattle.source_merge.specs.Split.{AreInPlace, IsSplit, split_places}
 use Rattle.source_merge.specs.declared.split.Begun.{Begun}
@@ -134,50 +134,78 @@ module _ (split : SplitFrame) where
   abbrev named : List ℕ
   named = split.frame.now.bytes
 
+  -- the cells that are still to come, where a run has begun and these ends are left
+  abbrev pub rest_of : Begun → List ℕ → List Cell
+  rest_of begun ends = cells_of_parts (split_places split) split.bytes (parts_from named begun ends)
+
+  -- they are those from a pair on
+  pub record IsAt (begun : Begun) (left : List ℕ) : Type 0 where
+    pub pair : ℕ
+    pub last : pair ≤ 8
+    pub ends : left ≡ ends_from named pair
+    pub run : begun.run ≤ pair
+    pub from : begun.from ≤ 2 * pair
+    pub low : ℕ
+    pub are : AreParts low 8 15 (parts_from named begun left)
+
   -- the next end of a run
-  pub record IsEnd (pair k end : ℕ) (ends : List ℕ) : Type 0 where
+  pub record IsEnd (pair k end : ℕ) : Type 0 where
     pub first : pair ≤ k
     pub below : k < 8
     pub is : end ≡ end_at named k
     pub near : end ≤ 2 * k + 1
     pub within : end ≤ 15
-    pub rest : ends ≡ ends_from named (k + 1)
 
-  pub end_is : IsSplit split → (pair k bit : ℕ) (left ends : List ℕ) → pair ≤ 8 → left ≡ ends_from named pair → left ≡ k ∷ ends →
-      bit ≡ split.late / 2 ^ k % 2 → IsEnd pair k (2 * k + bit) ends
-  end_is s pair k bit left ends low e some b =
-      let n = next_end named pair k ends low (sym e ∙ some) in
-      let is : 2 * k + bit ≡ end_at named k = ap (λ (x : ℕ). 2 * k + x) b ∙ s.late k n.1 in
-      let near = end_near named k n.1 in
-      record {
-        first = n.0;
-        below = n.1;
-        is = is;
-        near = (let h = near.0 in omega (arith, is, h));
-        within = (let h = near.1 in omega (arith, is, h));
-        rest = n.4;
-      }
+  module _ (s : IsSplit split) (begun : Begun) (k bit : ℕ) (left ends : List ℕ) (i : IsAt begun left) (some : left ≡ k ∷ ends) where
+    pub pair_below : k < 8
+    pair_below = (next_end named i.pair k ends i.last (sym i.ends ∙ some)).1
 
-  left_is : (begun next : Begun) (k end : ℕ) (left ends : List ℕ) → left ≡ k ∷ ends → end ≡ end_at named k → next ≡ begun_after named begun k →
-      parts_from named begun left ≡ ended_before begun end (parts_from named next ends)
-  left_is begun next k end left ends some e n =
-      ap (λ (l : List ℕ). parts_from named begun l) some
-      ∙ ap (λ (m : ℕ). ended_before begun m (parts_from named (begun_after named begun k) ends)) (sym e)
-      ∙ ap (λ (b : Begun). ended_before begun end (parts_from named b ends)) (sym n)
+    module _ (b : bit ≡ split.late / 2 ^ k % 2) where
+      pub end_is : IsEnd i.pair k (2 * k + bit)
+      end_is =
+          let n = next_end named i.pair k ends i.last (sym i.ends ∙ some) in
+          let is : 2 * k + bit ≡ end_at named k = ap (λ (x : ℕ). 2 * k + x) b ∙ s.late k n.1 in
+          let near = end_near named k n.1 in
+          record {
+            first = n.0;
+            below = n.1;
+            is = is;
+            near = (let h = near.0 in omega (arith, is, h));
+            within = (let h = near.1 in omega (arith, is, h));
+          }
 
-  -- a run ends there
-  pub cut_here : (begun next : Begun) (k end low : ℕ) (left ends : List ℕ) → left ≡ k ∷ ends → end ≡ end_at named k →
-      next ≡ begun_after named begun k → begun.from < end → AreParts low 8 15 (parts_from named begun left) →
-      Next (split_places split) split.bytes (part_to begun end) (parts_from named begun left) (parts_from named next ends)
-  cut_here begun next k end low left ends some e n h are =
-      next_part (split_places split) split.bytes (places_long split) split.sized low (part_to begun end) (parts_from named begun left)
-      (parts_from named next ends) (left_is begun next k end left ends some e n ∙ some_before begun end (parts_from named next ends) h) are
+      module _ (next : Begun) (n : next ≡ begun_after named begun k) where
+        left_is : parts_from named begun left ≡ ended_before begun (2 * k + bit) (parts_from named next ends)
+        left_is =
+            ap (λ (l : List ℕ). parts_from named begun l) some
+            ∙ ap (λ (m : ℕ). ended_before begun m (parts_from named (begun_after named begun k) ends)) (sym end_is.is)
+            ∙ ap (λ (x : Begun). ended_before begun (2 * k + bit) (parts_from named x ends)) (sym n)
 
-  -- or it had no byte
-  pub none_here : (begun next : Begun) (k end : ℕ) (left ends : List ℕ) → left ≡ k ∷ ends → end ≡ end_at named k →
-      next ≡ begun_after named begun k → end ≤ begun.from → parts_from named begun left ≡ parts_from named next ends
-  none_here begun next k end left ends some e n h =
-      left_is begun next k end left ends some e n ∙ none_before begun end (parts_from named next ends) h
+        -- a run ends there
+        pub cut_here : begun.from < 2 * k + bit →
+            Next (split_places split) split.bytes (part_to begun (2 * k + bit)) (parts_from named begun left) (parts_from named next ends)
+        cut_here h =
+            next_part (split_places split) split.bytes (places_long split) split.sized i.low (part_to begun (2 * k + bit)) (parts_from named begun left)
+            (parts_from named next ends) (left_is ∙ some_before begun (2 * k + bit) (parts_from named next ends) h) i.are
+
+        -- or it had no byte
+        pub none_here : 2 * k + bit ≤ begun.from → parts_from named begun left ≡ parts_from named next ends
+        none_here h = left_is ∙ none_before begun (2 * k + bit) (parts_from named next ends) h
+
+        -- the cells from the next pair on
+        pub next_at : (low : ℕ) → AreParts low 8 15 (parts_from named next ends) → IsAt next ends
+        next_at low are =
+            let run = ap (λ (x : Begun). x.run) n in
+            let from = ap (λ (x : Begun). x.from) n in
+            let e = end_is in record {
+              pair = k + 1;
+              last = (let h = pair_below in omega arith);
+              ends = (next_end named i.pair k ends i.last (sym i.ends ∙ some)).4;
+              run = (let a = i.run in let b' = e.first in omega (arith, run, a, b'));
+              from = (let a = e.near in let b' = e.is in omega (arith, from, a, b'));
+              low = low;
+              are = are;
+            }
 
   -- before the first of them
   pub all_here : (s : IsSplit split) (begun : Begun) → begun.source ≡ split.id → begun.run ≡ 0 → begun.from ≡ 0 →
@@ -186,3 +214,19 @@ module _ (split : SplitFrame) where
   all_here s begun source run from =
       all_of named (frame_places split.frame.now) split.id (split_places split) split.bytes (places_long split) split.sized s.placed
       begun (ends_left split.ends) source run from s.ends
+
+  pub starts_at : (s : IsSplit split) (begun : Begun) → begun.source ≡ split.id → begun.run ≡ 0 → begun.from ≡ 0 →
+      IsAt begun (ends_left split.ends)
+  starts_at s begun source run from = record {
+    pair = 0;
+    last = omega arith;
+    ends = s.ends;
+    run = omega arith;
+    from = omega arith;
+    low = 0;
+    are = (all_here s begun source run from).are;
+  }
+
+  -- after the last
+  pub none_left : (begun : Begun) (left : List ℕ) → left ≡ [] → length (rest_of begun left) ≡ 0
+  none_left begun left e = ap (λ (l : List ℕ). length (rest_of begun l)) e

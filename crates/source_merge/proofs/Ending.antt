@@ -9,7 +9,7 @@ use Rattle.std.proofs.lemmas.Bool.Decides.{nat_tests}
 use Rattle.std.proofs.lemmas.Grind.{flat_map-append}
 use Rattle.std.proofs.lemmas.List.{map-append}
 use Rattle.std.proofs.lemmas.List.Sums.{sum_by-append, count_by-le-length}
-use Rattle.source_merge.specs.Names.{Cell, Placed, Stream, Packet, Plan, SourceKind, Itm, Stp, stream_of, sources_by}
+use Rattle.source_merge.specs.Names.{Cell, Placed, Stream, Stands, reading_of, Packet, Plan, SourceKind, Itm, Stp, stream_of, sources_by}
 use Rattle.source_merge.specs.Names.{kind_of, PortReading, SourceTail, Mapped, source_tails, tail_by, list_of}
 use Rattle.source_events.proofs.Merges.{test_same, test_other}
 use Rattle.source_merge.specs.declared.slot.Slot.{Slot}
@@ -30,13 +30,13 @@ nothing_at x (s ∷ ss) h =
     ap (λ (t : Bool). cond t (Some s.stream) (reading_at x ss)) (test_other s.id x (λ e. h.0 (sym e))) ∙ nothing_at x ss h.1
 
 -- the first slot of an ID
-pub record FirstAt {M V : Type 0} (reading : M → List Placed → Stream V) (x : ℕ) (slots : List (Slot M)) (k : ℕ) : Type 0 where
-  pub front : List (Slot M)
-  pub slot : Slot M
-  pub back : List (Slot M)
+pub record FirstAt (x : ℕ) (slots : List Slot) (k : ℕ) : Type 0 where
+  pub front : List Slot
+  pub slot : Slot
+  pub back : List Slot
   pub parts : slots ≡ front ++ (slot ∷ back)
   pub count : length front ≡ k
-  pub own : reading_at x (mapped_of reading slots) ≡ Some (reading slot.machine)
+  pub own : reading_at x (mapped_of slots) ≡ Some (reading_of slot.machine)
   pub id_is : slot.id ≡ x
 
 at_zero : (n k : ℕ) → cond (nat_lt 0 (suc n)) (Some 0) None ≡ Some k → 0 ≡ k
@@ -59,58 +59,58 @@ after_one p n k e = by (nat_lt (1 + p) (suc n)) refl e where
 test_is : (a b : ℕ) → (a == b) ≡ true → a ≡ b
 test_is a b e = grind (arith, nat_tests)
 
-module _ {M V : Type 0} (reading : M → List Placed → Stream V) (x : ℕ) where
-  pub first_at : (slots : List (Slot M)) (k : ℕ) → position (λ (s : Slot M). s.id == x) slots ≡ Some k →
-      FirstAt reading x slots k
+module _ (x : ℕ) where
+  pub first_at : (slots : List Slot) (k : ℕ) → position (λ (s : Slot). s.id == x) slots ≡ Some k →
+      FirstAt x slots k
   first_at [] k e = cc
   first_at (s ∷ slots) k e = by (s.id == x) refl e (λ j h. first_at slots j h) where
     by : (t : Bool) → (s.id == x) ≡ t →
-        cond (nat_lt (cond (not t) (1 + position_or_len (λ (s : Slot M). s.id == x) slots) 0) (suc (length slots)))
-        (Some (cond (not t) (1 + position_or_len (λ (s : Slot M). s.id == x) slots) 0)) None ≡ Some k →
-        ((j : ℕ) → position (λ (s : Slot M). s.id == x) slots ≡ Some j → FirstAt reading x slots j) →
-        FirstAt reading x (s ∷ slots) k
+        cond (nat_lt (cond (not t) (1 + position_or_len (λ (s : Slot). s.id == x) slots) 0) (suc (length slots)))
+        (Some (cond (not t) (1 + position_or_len (λ (s : Slot). s.id == x) slots) 0)) None ≡ Some k →
+        ((j : ℕ) → position (λ (s : Slot). s.id == x) slots ≡ Some j → FirstAt x slots j) →
+        FirstAt x (s ∷ slots) k
     by true q h rest = record {
       front = [];
       slot = s;
       back = slots;
       parts = refl;
       count = at_zero (length slots) k h;
-      own = ap (λ (t : Bool). cond t (Some (reading s.machine)) (reading_at x (mapped_of reading slots))) q;
+      own = ap (λ (t : Bool). cond t (Some (reading_of s.machine)) (reading_at x (mapped_of slots))) q;
       id_is = test_is s.id x q;
     }
     by false q h rest =
-        let p = position_or_len (λ (s : Slot M). s.id == x) slots in
+        let p = position_or_len (λ (s : Slot). s.id == x) slots in
         let a = after_one p (length slots) k h in
         let f = rest p a.0 in
         record {
           front = s ∷ f.front;
           slot = f.slot;
           back = f.back;
-          parts = ap (λ (l : List (Slot M)). s ∷ l) f.parts;
+          parts = ap (λ (l : List Slot). s ∷ l) f.parts;
           count = ap suc f.count ∙ (let z = a.1 in let y : suc p ≡ k = omega arith in y);
-          own = ap (λ (t : Bool). cond t (Some (reading s.machine)) (reading_at x (mapped_of reading slots))) q ∙ f.own;
+          own = ap (λ (t : Bool). cond t (Some (reading_of s.machine)) (reading_at x (mapped_of slots))) q ∙ f.own;
           id_is = f.id_is;
         }
 
   -- it is the one at its index
-  pub slot_at : (slots : List (Slot M)) (k : ℕ) (d : Slot M) (f : FirstAt reading x slots k) → get_or slots k d ≡ f.slot
+  pub slot_at : (slots : List Slot) (k : ℕ) (d : Slot) (f : FirstAt x slots k) → get_or slots k d ≡ f.slot
   slot_at slots k d f =
-      ap (λ (l : List (Slot M)). get_or l k d) f.parts ∙ ap (λ (n : ℕ). get_or (f.front ++ (f.slot ∷ f.back)) n d) (sym f.count)
+      ap (λ (l : List Slot). get_or l k d) f.parts ∙ ap (λ (n : ℕ). get_or (f.front ++ (f.slot ∷ f.back)) n d) (sym f.count)
       ∙ get_or-append_seam f.front f.slot f.back d
 
-  pub stands_at : (stands : M → List Placed → Type 0) (slots : List (Slot M)) (k : ℕ) (f : FirstAt reading x slots k)
-      (runs : List (List Cell)) → AllStand stands slots runs → stands f.slot.machine (list_of x runs)
-  stands_at stands slots k f runs a =
-      subst (λ (i : ℕ). stands f.slot.machine (list_of i runs)) f.id_is
-      (at f.front (subst (λ (l : List (Slot M)). AllStand stands l runs) f.parts a)) where
-        at : (front : List (Slot M)) → AllStand stands (front ++ (f.slot ∷ f.back)) runs → stands f.slot.machine (list_of f.slot.id runs)
+  pub stands_at : (slots : List Slot) (k : ℕ) (f : FirstAt x slots k)
+      (runs : List (List Cell)) → AllStand slots runs → Stands f.slot.machine (list_of x runs)
+  stands_at slots k f runs a =
+      subst (λ (i : ℕ). Stands f.slot.machine (list_of i runs)) f.id_is
+      (at f.front (subst (λ (l : List Slot). AllStand l runs) f.parts a)) where
+        at : (front : List Slot) → AllStand (front ++ (f.slot ∷ f.back)) runs → Stands f.slot.machine (list_of f.slot.id runs)
         at [] h = h.0
         at (s ∷ front) h = at front h.1
 
-  pub any_at : (slots : List (Slot M)) (k : ℕ) → FirstAt reading x slots k → list_any (λ (s : Slot M). s.id == x) slots ≡ true
-  any_at slots k f = ap (list_any (λ (s : Slot M). s.id == x)) f.parts ∙ at f.front where
-    at : (front : List (Slot M)) → list_any (λ (s : Slot M). s.id == x) (front ++ (f.slot ∷ f.back)) ≡ true
-    at [] = ap (λ (t : Bool). t || list_any (λ (s : Slot M). s.id == x) f.back) (test_same f.slot.id x f.id_is)
+  pub any_at : (slots : List Slot) (k : ℕ) → FirstAt x slots k → list_any (λ (s : Slot). s.id == x) slots ≡ true
+  any_at slots k f = ap (list_any (λ (s : Slot). s.id == x)) f.parts ∙ at f.front where
+    at : (front : List Slot) → list_any (λ (s : Slot). s.id == x) (front ++ (f.slot ∷ f.back)) ≡ true
+    at [] = ap (λ (t : Bool). t || list_any (λ (s : Slot). s.id == x) f.back) (test_same f.slot.id x f.id_is)
     at (s ∷ front) = or_right (s.id == x) _ (at front)
 
 -- the sources of a plan
@@ -148,14 +148,14 @@ module _ (plan : Plan) (x : ℕ) where
         both false false = refl
 
 -- how many slots have an ID below this number
-pub below : {M : Type 0} → ℕ → List (Slot M) → ℕ
+pub below : ℕ → List Slot → ℕ
 below n slots = count_by (λ s. nat_lt s.id n) slots
 
-below_cons : {M : Type 0} (n : ℕ) (s : Slot M) (slots : List (Slot M)) →
+below_cons : (n : ℕ) (s : Slot) (slots : List Slot) →
     below n (s ∷ slots) ≡ cond (nat_lt s.id n) 1 0 + below n slots
 unfolding below
-below_cons {M} n s slots =
-    sum_by-append (λ (t : Slot M). cond (nat_lt t.id n) 1 0) (s ∷ []) slots
+below_cons n s slots =
+    sum_by-append (λ (t : Slot). cond (nat_lt t.id n) 1 0) (s ∷ []) slots
     ∙ (let z : 0 + cond (nat_lt s.id n) 1 0 + below n slots ≡ cond (nat_lt s.id n) 1 0 + below n slots = omega arith in z)
 
 one_more : (i n : ℕ) → cond (nat_lt i n) 1 0 ≤ cond (nat_lt i (n + 1)) 1 0
@@ -173,20 +173,20 @@ one_found i n e = by (nat_lt i n) refl (nat_lt i (n + 1)) refl where
   by false p true q = omega arith
   by false p false q = absurd (grind (arith, nat_tests))
 
-pub below_more : {M : Type 0} → (n : ℕ) (slots : List (Slot M)) → below n slots ≤ below (n + 1) slots
+pub below_more : (n : ℕ) (slots : List Slot) → below n slots ≤ below (n + 1) slots
 unfolding below
 below_more n [] = omega arith
 below_more n (s ∷ slots) =
     (let a = below_cons n s slots in let b = below_cons (n + 1) s slots in
     let d = one_more s.id n in let f = below_more n slots in omega arith)
 
-pub below_found : {M : Type 0} → (n : ℕ) (slots : List (Slot M)) → list_any (λ s. s.id == n) slots ≡ true →
+pub below_found : (n : ℕ) (slots : List Slot) → list_any (λ s. s.id == n) slots ≡ true →
     below n slots + 1 ≤ below (n + 1) slots
 unfolding below
 below_found n [] e = cc
-below_found {M} n (s ∷ slots) e = by (s.id == n) refl e (λ h. below_found n slots h) where
-  by : (t : Bool) → (s.id == n) ≡ t → (t || list_any (λ (r : Slot M). r.id == n) slots) ≡ true →
-      (list_any (λ (r : Slot M). r.id == n) slots ≡ true → below n slots + 1 ≤ below (n + 1) slots) →
+below_found n (s ∷ slots) e = by (s.id == n) refl e (λ h. below_found n slots h) where
+  by : (t : Bool) → (s.id == n) ≡ t → (t || list_any (λ (r : Slot). r.id == n) slots) ≡ true →
+      (list_any (λ (r : Slot). r.id == n) slots ≡ true → below n slots + 1 ≤ below (n + 1) slots) →
       below n (s ∷ slots) + 1 ≤ below (n + 1) (s ∷ slots)
   by true p h rest =
       (let a = below_cons n s slots in let b = below_cons (n + 1) s slots in
@@ -195,9 +195,9 @@ below_found {M} n (s ∷ slots) e = by (s.id == n) refl e (λ h. below_found n s
       (let a = below_cons n s slots in let b = below_cons (n + 1) s slots in
       let d = one_more s.id n in let f = rest h in omega arith)
 
-pub below_all : {M : Type 0} → (n : ℕ) (slots : List (Slot M)) → below n slots ≤ length slots
+pub below_all : (n : ℕ) (slots : List Slot) → below n slots ≤ length slots
 unfolding below
-below_all {M} n slots = count_by-le-length (λ (s : Slot M). nat_lt s.id n) slots
+below_all n slots = count_by-le-length (λ (s : Slot). nat_lt s.id n) slots
 
 range_more : (a n : ℕ) → range_with_len a (suc n) ≡ range_with_len a n ++ (a + n) ∷ []
 range_more a zero = ap (λ (x : ℕ). x ∷ []) (let e : a ≡ a + 0 = omega arith in e)

@@ -7,7 +7,6 @@ use Rattle.source_merge.specs.Names.{Cell, Place, Placed, byte_at, placed_from, 
 use Rattle.source_merge.specs.Names.{FramesMode, PortStep, Half, Answers as PortAnswers, FedFrame, GrowsByFrame}
 use Rattle.source_merge.specs.Names.{port_reading, Rise, BytesRise, end_at, Event, Packet, Stop, What, Plan, all_runs}
 use Rattle.source_merge.specs.Names.{sources_by, Mapped, AreLawful, report, runs_in, stop_in, stop_of, port_events}
-use Rattle.source_merge.specs.Names.{reading_of, Stands, is_live, has_locked, held_of, skipped_by, SourceMachine}
 use Rattle.trace_values.proofs.Placing.{placed_from_push}
 use Rattle.deformatter.specs.declared.step.PortStep.TheVariants.{Quiet}
 use Rattle.deformatter.specs.Growth.{fulls_by}
@@ -16,7 +15,6 @@ use Rattle.deformatter.proofs.RisingLaws.{rise_join, placed_rise}
 use Rattle.source_events.proofs.Growth.{no_stop}
 use Rattle.source_events.proofs.Least.{AreSound}
 use Rattle.source_events.proofs.LockSteps.{port_grows}
-use Rattle.source_machine.specs.MachineLaws as laws
 use Rattle.source_merge.specs.declared.counts.Counters.{Counters}
 use Rattle.source_merge.specs.declared.flow.Flow.{Flow}
 use Rattle.source_merge.specs.declared.flow.Flow.TheVariants.{Going}
@@ -24,7 +22,8 @@ use Rattle.source_merge.specs.declared.slot.Slot.{Slot}
 use Rattle.source_merge.specs.Answering.{Answers, port_of, report_of, fault_of, fault_by}
 use Rattle.source_merge.specs.Counting.{HasBytes, HasItems, HasCounted}
 use Rattle.source_merge.specs.Engine.{Keeps}
-use Rattle.source_merge.specs.Routing.{mapped_of, AllLive, AllStand, AreDistinct}
+use Rattle.source_merge.specs.Routing.{mapped_of, AreReady, AllStand, AreDistinct}
+use Rattle.source_merge.specs.Stepping.{CountsStep, StepAt, TakesStep}
 use Rattle.source_merge.proofs.Steps.{IsNothing, taken_none, rise_push}
 use Rattle.source_merge.proofs.ByParts.{StepTakenBy}
 use Rattle.source_merge.proofs.Taking.{lawful, sound}
@@ -63,26 +62,23 @@ end_block (byte ∷ (next ∷ bytes)) u at some =
     ∙ (let z : at + 1 + length (next ∷ bytes) ≡ at + length (byte ∷ (next ∷ bytes)) = omega arith in z)
 
 -- machines that stand for the lists of their sources
-module _ (plan : Plan) (slots : List (Slot SourceMachine)) (sources : mapped_of reading_of slots ≡ sources_by plan)
-    (live : AllLive is_live slots) where
+module _ (plan : Plan) (slots : List Slot) (sources : mapped_of slots ≡ sources_by plan)
+    (most : ℕ) (ready : AreReady most slots) where
   abbrev mapped : List (Mapped Packet)
-  mapped = mapped_of reading_of slots
+  mapped = mapped_of slots
 
   law : AreLawful mapped
-  law =
-      lawful reading_of Stands is_live has_locked held_of skipped_by laws.shows laws.begins laws.settles laws.rises slots
+  law = lawful slots
 
-  good : (u : List Placed) → AllStand Stands slots (runs_in (port_of plan u)) → AreSound mapped (runs_in (port_of plan u))
-  good u s =
-      sound reading_of Stands is_live has_locked held_of skipped_by laws.shows laws.begins laws.settles laws.rises slots
-      (runs_in (port_of plan u)) live s
+  good : (u : List Placed) → AllStand slots (runs_in (port_of plan u)) → AreSound mapped (runs_in (port_of plan u))
+  good u s = sound most slots (runs_in (port_of plan u)) ready s
 
   pub port_sound : (u : List Placed) → fault_of plan u ≡ None → (port_of plan u).fault ≡ None
   port_sound u e = no_stop (sources_by plan) (port_of plan u) e
 
   -- with more bytes the report is as it was, and so are the frames and the full synchronisations
   pub record Unchanged (u w : List Placed) : Type 0 where
-    pub stand : AllStand Stands slots (runs_in (port_of plan w))
+    pub stand : AllStand slots (runs_in (port_of plan w))
     pub frames : (port_of plan w).frames ≡ (port_of plan u).frames
     pub fulls : (port_of plan w).fulls ≡ (port_of plan u).fulls
     pub report : report_of plan w ≡ report_of plan u
@@ -94,7 +90,7 @@ module _ (plan : Plan) (slots : List (Slot SourceMachine)) (sources : mapped_of 
     answer : Answers plan [] Going u at byte
 
   module _ (u : List Placed) (at byte : ℕ) (rise : BytesRise 0 at u) (e : fault_of plan u ≡ None)
-      (stand : AllStand Stands slots (runs_in (port_of plan u))) where
+      (stand : AllStand slots (runs_in (port_of plan u))) where
     still : (step : PortStep) → IsNothing Packet step [] at → fulls_by step ≡ 0 → PortAnswers plan.frames step [] u at byte → Quieter u at byte
     still step n z q = record {
       unchanged = record {
@@ -109,9 +105,9 @@ module _ (plan : Plan) (slots : List (Slot SourceMachine)) (sources : mapped_of 
       frames : (port_of plan (u ++ byte_at at byte ∷ [])).frames ≡ (port_of plan u).frames ++ []
       frames = q.frames ∙ ap (λ (l : List (List Cell)). (port_of plan u).frames ++ l) n.0
 
-      taken : StepTakenBy Stands mapped slots plan.frames u (u ++ byte_at at byte ∷ []) [] None
+      taken : StepTakenBy mapped slots plan.frames u (u ++ byte_at at byte ∷ []) [] None
       taken =
-          taken_none Stands mapped law plan.frames u at byte rise (port_sound u e) (good u stand) slots [] refl frames (q.fault ∙ n.1)
+          taken_none mapped law plan.frames u at byte rise (port_sound u e) (good u stand) slots [] refl frames (q.fault ∙ n.1)
           (port_grows {V = Packet} u at byte plan.frames step q.hunt
           ∙ ap (λ (l : List (What Packet × Place)). port_events plan.frames u ++ l) n.2) stand
 
@@ -136,7 +132,7 @@ module _ (plan : Plan) (slots : List (Slot SourceMachine)) (sources : mapped_of 
     answers : EachByte (Answers plan [] Going) u at bytes
 
   all_inside : (bytes : List ℕ) (u : List Placed) (at : ℕ) → BytesRise 0 at u → fault_of plan u ≡ None →
-      AllStand Stands slots (runs_in (port_of plan u)) → EachByte (IsInside plan.frames) u at bytes → Quiets u at bytes
+      AllStand slots (runs_in (port_of plan u)) → EachByte (IsInside plan.frames) u at bytes → Quiets u at bytes
   all_inside [] u at rise e k q = record {
     unchanged = subst (λ (l : List Placed). Unchanged u l) (sym (append-nil u))
         (record { stand = k; frames = refl; fulls = refl; report = refl; none = e });
@@ -178,33 +174,21 @@ module _ (plan : Plan) (slots : List (Slot SourceMachine)) (sources : mapped_of 
   }
 
   -- and then one that may end something, with other machines and counters after it
-  pub record Stepped (now : List (Slot SourceMachine)) (counters : Counters) (u : List Placed) (at : ℕ) (bytes : List ℕ)
+  pub record Stepped (now : List Slot) (counters : Counters) (u : List Placed) (at : ℕ) (bytes : List ℕ)
       (given : List (Event Packet)) (stop : Option Stop) (flow : Flow) : Type 0 where
     pub fed : FedAs (Answers plan [] Going) (Answers plan given flow) u at bytes
     pub fault : fault_of plan (u ++ placed_from at bytes) ≡ option_map stop_of stop
     pub keeps : stop ≡ None → Keeps plan now counters (u ++ placed_from at bytes)
 
-  abbrev pub IsTaken : List (Slot SourceMachine) → PortStep → List Cell → ℕ → List (Event Packet) → Option Stop → Type 0
-  IsTaken now step cells at given stop =
-      (mode : FramesMode) (u : List Placed) (byte : ℕ) → BytesRise 0 at u → PortAnswers mode step cells u at byte →
-      (port_reading mode u).fault ≡ None → AreDistinct mapped → AllStand Stands slots (runs_in (port_reading mode u)) →
-      StepTakenBy Stands mapped now mode u (u ++ byte_at at byte ∷ []) given stop
-
-  abbrev pub IsCounted : Counters → Counters → PortStep → List Cell → ℕ → List (Event Packet) → Option Stop → Type 0
-  IsCounted counters new step cells at given stop =
-      (mode : FramesMode) (u : List Placed) (byte : ℕ) (es : List (Event Packet)) → stop ≡ None →
-      PortAnswers mode step cells u at byte → HasCounted counters (port_reading mode u) es →
-      HasCounted new (port_reading mode (u ++ byte_at at byte ∷ [])) (es ++ given)
-
-  pub stepped : (now : List (Slot SourceMachine)) (counters new : Counters) (halves : ℕ) (step : PortStep) (cells : List Cell) (last : ℕ)
+  pub stepped : (now : List Slot) (counters new : Counters) (halves : ℕ) (step : StepAt)
       (given : List (Event Packet)) (stop : Option Stop) (flow : Flow) (u : List Placed) (at : ℕ) (bytes : List ℕ) →
       BytesRise 0 at u → fault_of plan u ≡ None → Keeps plan slots counters u → AreDistinct mapped →
-      (f : FedAs (IsInside plan.frames) (PortAnswers plan.frames step cells) u at bytes) →
+      (f : FedAs (IsInside plan.frames) (PortAnswers plan.frames step.step step.cells) u at bytes) →
       halves ≡ (port_of plan (u ++ placed_from at f.front)).halves →
-      ((k : ℕ) → length bytes ≡ k + 1 → last ≡ at + k) → IsTaken now step cells last given stop →
-      IsCounted (with_halves counters halves) new step cells last given stop → fault_by flow ≡ option_map stop_of stop →
+      ((k : ℕ) → length bytes ≡ k + 1 → step.at ≡ at + k) → TakesStep step slots now stop given →
+      CountsStep step (with_halves counters halves) new stop given → fault_by flow ≡ option_map stop_of stop →
       Stepped now new u at bytes given stop flow
-  stepped now counters new halves step cells last given stop flow u at bytes rise e k d f more place taken counted flow_is = record {
+  stepped now counters new halves step given stop flow u at bytes rise e k d f more place taken counted flow_is = record {
     fed = record {
       front = f.front;
       last = f.last;
@@ -219,7 +203,7 @@ module _ (plan : Plan) (slots : List (Slot SourceMachine)) (sources : mapped_of 
           stand = t.list n;
           counted =
               subst (λ (es : List (Event Packet)). HasCounted new (port_of plan next) es) (sym grew)
-              (subst (λ (i : ℕ). IsCounted (with_halves counters halves) new step cells i given stop) here counted plan.frames w f.last (report_of plan w) n f.ends
+              (subst (λ (i : ℕ). CountsStep (record { at = i; step = step.step; cells = step.cells }) (with_halves counters halves) new stop given) here counted plan.frames w f.last (report_of plan w) n f.ends
               (counted_on counters halves u w k.counted q.unchanged more));
         });
   } where
@@ -234,15 +218,15 @@ module _ (plan : Plan) (slots : List (Slot SourceMachine)) (sources : mapped_of 
         append_assoc u (placed_from at f.front) (byte_at (at + length f.front) f.last ∷ [])
         ∙ ap (λ (l : List Placed). u ++ l) (sym (placed_from_push at f.front f.last) ∙ ap (placed_from at) (sym f.parts))
 
-    here : last ≡ at + length f.front
+    here : step.at ≡ at + length f.front
     here = place (length f.front) (ap length f.parts ∙ length-append f.front (f.last ∷ []))
 
     q : Quiets u at f.front
     q = all_inside f.front u at rise e k.stand f.quiet
 
-    t : StepTakenBy Stands mapped now plan.frames (u ++ placed_from at f.front) ((u ++ placed_from at f.front) ++ byte_at (at + length f.front) f.last ∷ []) given stop
+    t : StepTakenBy mapped now plan.frames (u ++ placed_from at f.front) ((u ++ placed_from at f.front) ++ byte_at (at + length f.front) f.last ∷ []) given stop
     t =
-        subst (λ (i : ℕ). IsTaken now step cells i given stop) here taken plan.frames (u ++ placed_from at f.front) f.last
+        subst (λ (i : ℕ). TakesStep (record { at = i; step = step.step; cells = step.cells }) slots now stop given) here taken plan.frames (u ++ placed_from at f.front) f.last
         (rise_block u at f.front rise) f.ends (port_sound (u ++ placed_from at f.front) q.unchanged.none) d q.unchanged.stand
 
     grew : report_of plan ((u ++ placed_from at f.front) ++ byte_at (at + length f.front) f.last ∷ []) ≡ report_of plan (u ++ placed_from at f.front) ++ given

@@ -1,13 +1,19 @@
 -- What events with the last of some bytes are for the report of the capture.
-use Rattle.std.proofs.Common.{◌≡◌, ℕ, ◌+◌, List, [], ◌∷◌, ◌++◌, length, sym, ◌∙◌, ap, append_assoc, append-nil, None, true}
-use Rattle.source_merge.specs.Names.{Placed, byte_at, placed_from, EachByte, FedAs, Event, Packet, Plan}
-use Rattle.trace_values.proofs.Placing.{placed_from_push}
+use Rattle.std.proofs.Common.{◌≡◌, ℕ, ◌*◌, ◌^◌, ◌+◌, List, [], ◌∷◌, ◌++◌, ◌<◌, ◌≤◌, length, sym, ◌∙◌, ap, subst, append_assoc, append-nil, arith, length-append, None, true}
+use Rattle.source_merge.specs.Names.{Placed, byte_at, placed_from, offsets_of, BytesRise, end_at, EachByte, FedAs, Event, Packet, Plan}
+use Rattle.trace_values.proofs.Placing.{length-placed_from, placed_from_push}
 use Rattle.source_merge.specs.Answering.{Answers, fault_of, report_of}
+use Rattle.source_merge.specs.declared.counts.Counters.{Counters}
 use Rattle.source_merge.specs.declared.engine.Engine.{Engine}
 use Rattle.source_merge.specs.declared.flow.Flow.{Flow}
 use Rattle.source_merge.specs.declared.flow.Flow.TheVariants.{Going}
+use Rattle.source_merge.specs.declared.slot.Slot.{Slot}
+use Rattle.source_merge.specs.Counting.{size_of}
+use Rattle.source_merge.specs.Stepping.{IsReady}
 use Rattle.source_merge.specs.Engine.{Stands, is_live}
 use Rattle.source_merge.specs.Front.{GivesLast, Reads, ReadsTo}
+use Rattle.source_merge.proofs.Going.{rise_to, rise_block, end_block}
+use Rattle.source_merge.proofs.Refilled.{ready_as}
 use Rattle.source_merge.proofs.Standing.{none_there}
 
 -- after bytes of which none gives or ends anything
@@ -53,3 +59,33 @@ pub last_reads : (engine : Engine) (at : ℕ) (bytes : List ℕ) (given : List (
     is_live engine ≡ true → GivesLast engine at bytes flow given → ReadsTo engine at bytes flow given
 last_reads engine at bytes given flow live fed u h =
     fed_reads engine.plan u at bytes given flow (no_fault engine live u h) (fed u h)
+
+-- what its report is over goes on with bytes that come after
+pub record Longer (engine : Engine) (u : List Placed) (at : ℕ) (w : List ℕ) : Type 0 where
+  pub rise : BytesRise 0 at u
+  pub rises : BytesRise 0 (at + length w) (u ++ placed_from at w)
+  pub rising : BytesRise 0 (end_at 0 (offsets_of (u ++ placed_from at w))) (u ++ placed_from at w)
+  pub next : at + length w ≡ end_at 0 (offsets_of (u ++ placed_from at w))
+  pub count : engine.count + length w ≡ length (u ++ placed_from at w)
+
+pub longer : (engine : Engine) (u : List Placed) → Stands engine u → (at : ℕ) → engine.next ≤ at → (w : List ℕ) → 0 < length w →
+    Longer engine u at w
+longer engine u h at after w some =
+    let rise = rise_to u engine.next at (subst (λ (k : ℕ). BytesRise 0 k u) (sym h.next) h.rising) after in
+    let end = end_block w u at some in record {
+      rise = rise;
+      rises = rise_block u at w rise;
+      rising = subst (λ (k : ℕ). BytesRise 0 k (u ++ placed_from at w)) (sym end) (rise_block u at w rise);
+      next = sym end;
+      count = (let a = h.count in let b = length-append u (placed_from at w) in let d = length-placed_from at w in omega arith);
+    }
+
+-- while it is live it may take a frame
+pub frame_ready : (engine : Engine) (given : List Slot) (counters : Counters) (more : ℕ) → engine.live ≡ true →
+    given ≡ engine.slots.items → size_of counters ≤ size_of engine.counters + more → more ≤ 2 ^ 40 → IsReady given counters
+frame_ready engine given counters more on value size few =
+    let b = engine.within in
+    let d = engine.limit in record {
+      slots_are = ready_as engine.slots.items given value (30 * engine.count) (2 ^ 58) (omega arith) (engine.ready on);
+      size = (let a = engine.size on in omega (arith, a, b, d, size, few));
+    }

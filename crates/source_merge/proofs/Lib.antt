@@ -8,8 +8,7 @@ pub mod Early
 pub mod Slots
 pub mod Taking
 pub mod Framing
-pub mod Fits
-pub mod Counting
+pub mod FrameTaking
 pub mod Steps
 pub mod Standing
 pub mod Going

@@ -2,38 +2,34 @@
 use Rattle.std.proofs.Common.{◌≡◌, ℕ, ◌+◌, ◌<◌, List, [], ◌∷◌, ◌++◌, length, map, get_or, take, refl, sym, ◌∙◌, ap, subst, append_assoc, arith, true}
 use Rattle.std.proofs.lemmas.List.{map-append, take_more}
 use Rattle.source_merge.specs.Names.{Packet, Plan, SourceKind, Itm, Stp, stream_of, sources_by, Mapped, AreLawful}
-use Rattle.source_merge.specs.Names.{SourceMachine, reading_of, reading_by, Stands, is_live, has_locked, held_of}
+use Rattle.source_merge.specs.Names.{SourceMachine, reading_of, reading_by, Stands, is_live, held_of}
 use Rattle.source_merge.specs.Names.{skipped_by}
-use Rattle.source_machine.specs.MachineLaws as laws
 use Rattle.source_merge.specs.declared.slot.Slot.{Slot}
 use Rattle.source_merge.specs.Mapping.{AreFresh}
-use Rattle.source_merge.specs.Routing.{mapped_of, AllLive, AllStand, HaveRoom}
+use Rattle.source_merge.specs.Routing.{mapped_of, AllStand, AreReady}
 use Rattle.source_merge.proofs.Taking.{lawful}
-
-abbrev Slots : Type 0
-Slots = List (Slot SourceMachine)
 
 -- the source of an ID and a kind
 abbrev pub mapped_by : Plan → SourceKind → ℕ → Mapped Packet
 mapped_by plan kind id = record { id = id; stream = reading_by kind plan.packets plan.order }
 
 -- one more
-pub mapped_push : (plan : Plan) (kind : SourceKind) (before slots : Slots) (ids : List ℕ) (i : ℕ) (d : ℕ) (machine : SourceMachine)
-    (new : Slots) → i < length ids → d ≡ get_or ids i d → reading_of machine ≡ reading_by kind plan.packets plan.order →
-    mapped_of reading_of slots ≡ mapped_of reading_of before ++ map (mapped_by plan kind) (take i ids) →
+pub mapped_push : (plan : Plan) (kind : SourceKind) (before slots : List Slot) (ids : List ℕ) (i : ℕ) (d : ℕ) (machine : SourceMachine)
+    (new : List Slot) → i < length ids → d ≡ get_or ids i d → reading_of machine ≡ reading_by kind plan.packets plan.order →
+    mapped_of slots ≡ mapped_of before ++ map (mapped_by plan kind) (take i ids) →
     new ≡ slots ++ record { id = d; machine = machine } ∷ [] →
-    mapped_of reading_of new ≡ mapped_of reading_of before ++ map (mapped_by plan kind) (take (i + 1) ids)
+    mapped_of new ≡ mapped_of before ++ map (mapped_by plan kind) (take (i + 1) ids)
 mapped_push plan kind before slots ids i d machine new l e r h n =
-    ap (mapped_of reading_of) n
-    ∙ map-append (λ (s : Slot SourceMachine). record { id = s.id; stream = reading_of s.machine }) slots (record { id = d; machine = machine } ∷ [])
+    ap mapped_of n
+    ∙ map-append (λ (s : Slot). record { id = s.id; stream = reading_of s.machine }) slots (record { id = d; machine = machine } ∷ [])
     ∙ ap (λ (x : List (Mapped Packet)). x ++ record { id = d; stream = reading_of machine } ∷ []) h
-    ∙ append_assoc (mapped_of reading_of before) (map (mapped_by plan kind) (take i ids)) (record { id = d; stream = reading_of machine } ∷ [])
-    ∙ ap (λ f. mapped_of reading_of before ++ (map (mapped_by plan kind) (take i ids) ++ record { id = d; stream = f } ∷ [])) r
-    ∙ ap (λ (x : List (Mapped Packet)). mapped_of reading_of before ++ x)
+    ∙ append_assoc (mapped_of before) (map (mapped_by plan kind) (take i ids)) (record { id = d; stream = reading_of machine } ∷ [])
+    ∙ ap (λ f. mapped_of before ++ (map (mapped_by plan kind) (take i ids) ++ record { id = d; stream = f } ∷ [])) r
+    ∙ ap (λ (x : List (Mapped Packet)). mapped_of before ++ x)
     (sym (map-append (mapped_by plan kind) (take i ids) (d ∷ []))
     ∙ ap (map (mapped_by plan kind)) (sym (take_more ids i d l ∙ ap (λ (x : ℕ). take i ids ++ x ∷ []) (sym e))))
 
-pub fresh_push : (slots : Slots) (s : Slot SourceMachine) → AreFresh slots → Stands s.machine [] → is_live s.machine ≡ true →
+pub fresh_push : (slots : List Slot) (s : Slot) → AreFresh slots → Stands s.machine [] → is_live s.machine ≡ true →
     (held_of s.machine ≡ 0) × (skipped_by s.machine ≡ 0) → AreFresh (slots ++ s ∷ [])
 fresh_push [] s a f l e = (f, l, e.0, e.1, tt)
 fresh_push (t ∷ slots) s a f l e = (a.0, a.1, a.2, a.3, fresh_push slots s a.4 f l e)
@@ -56,19 +52,14 @@ of_both plan =
     ∙ sym (map-append one (map (λ (x : ℕ). (x, Itm)) plan.itm) (map (λ (x : ℕ). (x, Stp)) plan.stp))
 
 -- what fresh slots are
-pub fresh_stand : (slots : Slots) → AreFresh slots → AllStand Stands slots []
+pub fresh_stand : (slots : List Slot) → AreFresh slots → AllStand slots []
 fresh_stand [] a = tt
 fresh_stand (s ∷ slots) a = (a.0, fresh_stand slots a.4)
 
-pub fresh_live : (slots : Slots) → AreFresh slots → AllLive is_live slots
-fresh_live [] a = tt
-fresh_live (s ∷ slots) a = (a.1, fresh_live slots a.4)
+pub fresh_ready : (n : ℕ) (slots : List Slot) → AreFresh slots → AreReady n slots
+fresh_ready n [] a = tt
+fresh_ready n (s ∷ slots) a = ((a.1, (let h = a.2 in let k = a.3 in omega arith)), fresh_ready n slots a.4)
 
-pub fresh_room : (n : ℕ) (slots : Slots) → AreFresh slots → HaveRoom held_of skipped_by n slots
-fresh_room n [] a = tt
-fresh_room n (s ∷ slots) a = ((let h = a.2 in let k = a.3 in omega arith), fresh_room n slots a.4)
-
-pub sources_lawful : (plan : Plan) (slots : Slots) → mapped_of reading_of slots ≡ sources_by plan → AreLawful (sources_by plan)
+pub sources_lawful : (plan : Plan) (slots : List Slot) → mapped_of slots ≡ sources_by plan → AreLawful (sources_by plan)
 sources_lawful plan slots e =
-    subst (λ (ss : List (Mapped Packet)). AreLawful ss) e
-    (lawful reading_of Stands is_live has_locked held_of skipped_by laws.shows laws.begins laws.settles laws.rises slots)
+    subst (λ (ss : List (Mapped Packet)). AreLawful ss) e (lawful slots)

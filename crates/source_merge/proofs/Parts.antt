@@ -2,12 +2,13 @@
 use Rattle.std.proofs.Common.{◌≡◌, ℕ, suc, ◌+◌, ◌-◌, ◌<◌, ◌≤◌, List, [], ◌∷◌, ◌++◌, length, take, drop, refl, sym, ◌∙◌, ap, subst, arith, Bool, cond, Option}
 use Rattle.std.proofs.Math.Seq.{drop-append_seam}
 use Rattle.std.proofs.lemmas.List.{length-drop, length-take-le, length-append}
-use Rattle.source_merge.specs.Names.{Cell, runs_of, run_length, more_of, id_of, RisesFrom, IsRunFrom, end_of}
+use Rattle.source_merge.specs.Names.{Cell, runs_of, run_length, more_of, RisesFrom, IsRunFrom, end_of}
 use Rattle.source_merge.specs.Names.{run_cells}
 use Rattle.frame_grammar.proofs.Pairs.{made}
 use Rattle.source_events.proofs.Merges.{test_same, test_other}
 use Rattle.source_merge.proofs.DataCells.{cells_length, cells_id}
-use Rattle.source_merge.proofs.Framing.{cut_at, first_at}
+use Rattle.source_merge.proofs.Framing.{FirstRun, cut_at, first_at}
+use Rattle.source_merge.specs.Routing.{IsRunOf}
 use Rattle.source_merge.proofs.Splitting.{Part, AreParts, cells_of_parts, part_cells}
 
 -- the first of these cells, if there is one, has a later run
@@ -100,14 +101,9 @@ module _ (offsets bytes : List ℕ) (places : length offsets ≡ 16) (sized : le
 
 -- parts of a frame, the first of them, and those that come after it
 pub record Next (offsets bytes : List ℕ) (p : Part) (left more : List Part) : Type 0 where
-  pub own : id_of (part_cells offsets bytes p) ≡ p.source
-  pub some : 0 < length (part_cells offsets bytes p)
-  pub few : length (part_cells offsets bytes p) ≤ 15
+  pub run : IsRunOf p.source (part_cells offsets bytes p)
   pub count : length (part_cells offsets bytes p) ≡ p.end - p.from
-  pub total : length (cells_of_parts offsets bytes left) ≡ length (part_cells offsets bytes p) + length (cells_of_parts offsets bytes more)
-  pub cut : runs_of (cells_of_parts offsets bytes left) ≡ part_cells offsets bytes p ∷ runs_of (cells_of_parts offsets bytes more)
-  pub rises : (n : ℕ) → RisesFrom n (cells_of_parts offsets bytes left) →
-      IsRunFrom n (part_cells offsets bytes p) × RisesFrom (end_of (part_cells offsets bytes p)) (cells_of_parts offsets bytes more)
+  pub first : FirstRun (cells_of_parts offsets bytes left) (part_cells offsets bytes p) (cells_of_parts offsets bytes more)
   pub are : AreParts (p.run + 1) 8 15 more
 
 pub next : (offsets bytes : List ℕ) → length offsets ≡ 16 → length bytes ≡ 40 → (low : ℕ) (p : Part) (left more : List Part) →
@@ -126,12 +122,16 @@ next offsets bytes long wide low p left more at h =
     let one : length xs ≡ run_length (xs ++ ys) = part_run offsets bytes long wide low 8 15 p more (omega arith) are in
     let some : 0 < length (xs ++ ys) = omega arith in
     record {
-      own = cells_id (drop p.from (take p.end offsets)) p.source p.run (drop p.from (take p.end bytes)) (omega arith) (omega arith);
-      some = omega arith;
-      few = omega arith;
+      run = record {
+        own = cells_id (drop p.from (take p.end offsets)) p.source p.run (drop p.from (take p.end bytes)) (omega arith) (omega arith);
+        some = omega arith;
+        few = omega arith;
+      };
       count = count;
-      total = ap length is ∙ sum;
-      cut = ap runs_of is ∙ run_then xs ys one some;
-      rises = λ n r. run_at xs ys one some n (subst (λ (l : List Cell). RisesFrom n l) is r);
+      first = record {
+        cut = ap runs_of is ∙ run_then xs ys one some;
+        total = ap length is ∙ sum;
+        rises = λ n r. run_at xs ys one some n (subst (λ (l : List Cell). RisesFrom n l) is r);
+      };
       are = are.3;
     }

@@ -4,8 +4,8 @@ use Rattle.std.proofs.Common.{None, Some, true}
 use Rattle.std.specs.Option.{option_map}
 use Rattle.source_merge.specs.Names.{Fault, Placed, byte_at, placed_from, FramesMode, Bare, port_reading, BytesRise}
 use Rattle.source_merge.specs.Names.{Event, Stop, Packet, Plan, told, start_of, sources_by, Mapped, AreLawful, lifted}
-use Rattle.source_merge.specs.Names.{report, runs_in, stop_in, stop_of, list_of, SourceMachine, reading_of, Stands}
-use Rattle.source_merge.specs.Names.{is_live, has_locked, held_of, skipped_by, placed_run}
+use Rattle.source_merge.specs.Names.{report, runs_in, stop_in, stop_of, list_of, reading_of, Stands}
+use Rattle.source_merge.specs.Names.{is_live, placed_run}
 use Rattle.trace_values.proofs.Placing.{placed_from_push}
 use Rattle.source_events.proofs.Least.{AreSound}
 use Rattle.source_machine.specs.MachineLaws as laws
@@ -15,16 +15,15 @@ use Rattle.source_merge.specs.Answering.{port_of, report_of, fault_of}
 use Rattle.source_merge.specs.Feeding.{Feeds, IsEarly, place_and_reason}
 use Rattle.source_merge.specs.Counting.{HasCounted}
 use Rattle.source_merge.specs.Engine.{Keeps}
-use Rattle.source_merge.specs.Routing.{mapped_of, AllLive, AllStand, AreDistinct, HasNot}
+use Rattle.source_merge.specs.Routing.{mapped_of, AreReady, AllStand, AreDistinct, HasNot, SlotFed}
 use Rattle.source_merge.proofs.BareLists.{list_from, others_stand}
 use Rattle.source_merge.proofs.BareGrown.{Grown, piece_grows, piece_stops}
 use Rattle.source_merge.proofs.PieceStops.{PieceStops, piece_stopped}
-use Rattle.source_merge.proofs.ByParts.{SlotFedBy}
 use Rattle.source_merge.proofs.PieceCells.{cells_placed, cells_rise}
 use Rattle.source_merge.specs.Piece.{cells_from}
 use Rattle.source_merge.proofs.Ending.{FirstAt}
 use Rattle.source_merge.proofs.RunSteps.{none_of}
-use Rattle.source_merge.proofs.Slots.{lawful_at, live_at, mapped_parts, not_before, not_behind, stand_split, stand_join}
+use Rattle.source_merge.proofs.Slots.{lawful_at, ready_at, mapped_parts, not_before, not_behind, stand_split, stand_join}
 use Rattle.source_merge.proofs.Taking.{lawful, sound}
 
 -- a fault is certain with one of these bytes
@@ -40,7 +39,7 @@ pub record Stopped (plan : Plan) (u : List Placed) (at : ℕ) (bs : List ℕ) (g
 
 -- What the machine of source 1 made of these bytes: the report grows by all that it gave. With no fault the machines and
 -- the counters are those of the longer list.
-pub record Made (plan : Plan) (u : List Placed) (at : ℕ) (bs : List ℕ) (now : List (Slot SourceMachine)) (given : List (Event Packet))
+pub record Made (plan : Plan) (u : List Placed) (at : ℕ) (bs : List ℕ) (now : List Slot) (given : List (Event Packet))
     (fault : Option Fault) : Type 0 where
   pub grew : fault ≡ None → report_of plan (u ++ placed_from at bs) ≡ report_of plan u ++ given
   pub sound : fault ≡ None → fault_of plan (u ++ placed_from at bs) ≡ None
@@ -48,20 +47,20 @@ pub record Made (plan : Plan) (u : List Placed) (at : ℕ) (bs : List ℕ) (now 
       Keeps plan now new (u ++ placed_from at bs)
   pub stops : (x : Fault) → fault ≡ Some x → Stopped plan u at bs given x
 
-module _ (plan : Plan) (slots : List (Slot SourceMachine)) (sources : mapped_of reading_of slots ≡ sources_by plan)
-    (live : AllLive is_live slots) (bare : plan.frames ≡ Bare) (k : ℕ) (f : FirstAt reading_of 1 slots k)
-    (distinct : AreDistinct (mapped_of reading_of slots)) where
+module _ (plan : Plan) (slots : List Slot) (sources : mapped_of slots ≡ sources_by plan)
+    (most : ℕ) (ready : AreReady most slots) (bare : plan.frames ≡ Bare) (k : ℕ) (f : FirstAt 1 slots k)
+    (distinct : AreDistinct (mapped_of slots)) where
   abbrev one : Mapped Packet
   one = record { id = f.slot.id; stream = reading_of f.slot.machine }
 
   abbrev fronts : List (Mapped Packet)
-  fronts = mapped_of reading_of f.front
+  fronts = mapped_of f.front
 
   abbrev backs : List (Mapped Packet)
-  backs = mapped_of reading_of f.back
+  backs = mapped_of f.back
 
-  parts : mapped_of reading_of slots ≡ fronts ++ (one ∷ backs)
-  parts = ap (mapped_of reading_of) f.parts ∙ mapped_parts reading_of Stands f.front f.slot f.back
+  parts : mapped_of slots ≡ fronts ++ (one ∷ backs)
+  parts = ap mapped_of f.parts ∙ mapped_parts f.front f.slot f.back
 
   apart : AreDistinct (fronts ++ (one ∷ backs))
   apart = subst (λ (ss : List (Mapped Packet)). AreDistinct ss) parts distinct
@@ -73,29 +72,28 @@ module _ (plan : Plan) (slots : List (Slot SourceMachine)) (sources : mapped_of 
   behind = not_behind fronts one backs apart
 
   law : AreLawful (fronts ++ (one ∷ backs))
-  law =
-      subst (λ (ss : List (Mapped Packet)). AreLawful ss) parts
-      (lawful reading_of Stands is_live has_locked held_of skipped_by laws.shows laws.begins laws.settles laws.rises slots)
+  law = subst (λ (ss : List (Mapped Packet)). AreLawful ss) parts (lawful slots)
 
   -- what the machine made of the cells of these bytes
-  module _ (now : List (Slot SourceMachine)) (u : List Placed) (at : ℕ) (bs : List ℕ) (given : List (Event Packet)) (fault : Option Fault)
-      (fed : SlotFedBy reading_of Stands is_live held_of skipped_by f.front f.slot f.back now (cells_from at bs) 1 [] given fault)
-      (rise : BytesRise 0 at u) (none : fault_of plan u ≡ None) (stand : AllStand Stands slots (runs_in (port_of plan u))) where
+  module _ (now : List Slot) (u : List Placed) (at : ℕ) (bs : List ℕ) (given : List (Event Packet)) (fault : Option Fault)
+      (fed : SlotFed (record { front = f.front; slot = f.slot; back = f.back }) now
+      (record { run = cells_from at bs; source = 1; events = given; fault = fault }))
+      (rise : BytesRise 0 at u) (none : fault_of plan u ≡ None) (stand : AllStand slots (runs_in (port_of plan u))) where
     abbrev list : List Placed
     list = list_of f.slot.id (runs_in (port_reading Bare u))
 
-    stand_bare : AllStand Stands slots (runs_in (port_reading Bare u))
-    stand_bare = subst (λ (m : FramesMode). AllStand Stands slots (runs_in (port_reading m u))) bare stand
+    stand_bare : AllStand slots (runs_in (port_reading Bare u))
+    stand_bare = subst (λ (m : FramesMode). AllStand slots (runs_in (port_reading m u))) bare stand
 
-    split : AllStand Stands f.front (runs_in (port_reading Bare u)) × Stands f.slot.machine list
-        × AllStand Stands f.back (runs_in (port_reading Bare u))
+    split : AllStand f.front (runs_in (port_reading Bare u)) × Stands f.slot.machine list
+        × AllStand f.back (runs_in (port_reading Bare u))
     split =
-        stand_split reading_of Stands f.front f.slot f.back (runs_in (port_reading Bare u))
-        (subst (λ (l : List (Slot SourceMachine)). AllStand Stands l (runs_in (port_reading Bare u))) f.parts stand_bare)
+        stand_split f.front f.slot f.back (runs_in (port_reading Bare u))
+        (subst (λ (l : List Slot). AllStand l (runs_in (port_reading Bare u))) f.parts stand_bare)
 
     feeds : Feeds (reading_of f.slot.machine) (Stands fed.slot.machine) list
-        (record { run = cells_from at bs; source = 1; before = []; after = given; fault = fault })
-    feeds = fed.feeds list split.1
+        (record { run = cells_from at bs; source = 1; events = given; fault = fault })
+    feeds = fed.machine.feeds list split.1
 
     placed : list ++ placed_run (cells_from at bs) ≡ list ++ placed_from at bs
     placed = ap (λ (l : List Placed). list ++ l) (cells_placed at bs)
@@ -109,8 +107,7 @@ module _ (plan : Plan) (slots : List (Slot SourceMachine)) (sources : mapped_of 
     sound_u : AreSound (fronts ++ (one ∷ backs)) (runs_in (port_reading Bare u))
     sound_u =
         subst (λ (ss : List (Mapped Packet)). AreSound ss (runs_in (port_reading Bare u))) parts
-        (sound reading_of Stands is_live has_locked held_of skipped_by laws.shows laws.begins laws.settles laws.rises slots
-        (runs_in (port_reading Bare u)) live stand_bare)
+        (sound most slots (runs_in (port_reading Bare u)) ready stand_bare)
 
     by_parts : sources_by plan ≡ fronts ++ (one ∷ backs)
     by_parts = sym sources ∙ parts
@@ -153,10 +150,10 @@ module _ (plan : Plan) (slots : List (Slot SourceMachine)) (sources : mapped_of 
       goes_on : fault_of plan next ≡ None
       goes_on = stop_is next None grown.stop_is
 
-      stand_now : AllStand Stands now (runs_in (port_reading Bare next))
+      stand_now : AllStand now (runs_in (port_reading Bare next))
       stand_now =
-          subst (λ (l : List (Slot SourceMachine)). AllStand Stands l (runs_in (port_reading Bare next))) (sym fed.parts)
-          (stand_join reading_of Stands f.front fed.slot f.back (runs_in (port_reading Bare next))
+          subst (λ (l : List Slot). AllStand l (runs_in (port_reading Bare next))) (sym fed.parts)
+          (stand_join f.front fed.slot f.back (runs_in (port_reading Bare next))
           (others_stand f.front one.id f.id_is before bs at u split.0)
           (subst (λ (i : ℕ). Stands fed.slot.machine (list_of i (runs_in (port_reading Bare next)))) (sym fed.id_is)
           (subst (λ (l : List Placed). Stands fed.slot.machine l)
@@ -166,7 +163,7 @@ module _ (plan : Plan) (slots : List (Slot SourceMachine)) (sources : mapped_of 
       -- the machines and the counters are those of the longer list
       keeps_on : (new : Counters) → HasCounted new (port_reading Bare next) (report_of plan u ++ given) → Keeps plan now new next
       keeps_on new counted = record {
-        stand = subst (λ (m : FramesMode). AllStand Stands now (runs_in (port_reading m next))) (sym bare) stand_now;
+        stand = subst (λ (m : FramesMode). AllStand now (runs_in (port_reading m next))) (sym bare) stand_now;
         counted =
             subst (λ (es : List (Event Packet)). HasCounted new (port_of plan next) es) (sym grew)
             (subst (λ (m : FramesMode). HasCounted new (port_reading m next) (report_of plan u ++ given)) (sym bare) counted);
@@ -176,11 +173,11 @@ module _ (plan : Plan) (slots : List (Slot SourceMachine)) (sources : mapped_of 
       stream_none : (reading_of f.slot.machine list).fault ≡ None
       stream_none = none_of _ (sym live_one ∙ (laws.shows f.slot.machine list split.1).live_is) where
         live_one : is_live f.slot.machine ≡ true
-        live_one = live_at is_live f.front f.slot f.back (subst (λ (l : List (Slot SourceMachine)). AllLive is_live l) f.parts live)
+        live_one = (ready_at most f.front f.slot f.back (subst (λ (l : List Slot). AreReady most l) f.parts ready)).0
 
       early : IsEarly (reading_of f.slot.machine) (Stands f.slot.machine) (cells_from at bs) (Some x)
       early =
-          subst (λ (o : Option Fault). IsEarly (reading_of f.slot.machine) (Stands f.slot.machine) (cells_from at bs) o) is fed.early
+          subst (λ (o : Option Fault). IsEarly (reading_of f.slot.machine) (Stands f.slot.machine) (cells_from at bs) o) is fed.machine.early
 
       ends : PieceStops (reading_of f.slot.machine) (lawful_at fronts one backs law).1 list at bs (place_and_reason x) feeds.given
       ends =

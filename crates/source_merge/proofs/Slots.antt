@@ -1,49 +1,20 @@
 -- Slots of mapped sources, of which one takes a run.
-use Rattle.std.proofs.Common.{◌≡◌, ◌≢◌, ℕ, suc, ◌+◌, ◌≤◌, List, [], ◌∷◌, ◌++◌, length, take, drop, get_or, refl, sym, ◌∙◌, ap, subst, arith, Option, None, Some, Bool, true, false, cond}
+use Rattle.std.proofs.Common.{◌≡◌, ◌≢◌, ℕ, suc, ◌+◌, ◌≤◌, List, [], ◌∷◌, ◌++◌, length, get_or, refl, sym, ◌∙◌, ap, subst, arith, Option, None, Some, Bool, true, false, cond}
 use Rattle.std.specs.Prelude.{◌==◌, position, nat_lt, not}
 use Rattle.std.specs.List.{position_or_len}
 use Rattle.std.proofs.lemmas.Bool.Decides.{nat_tests}
-use Rattle.std.proofs.lemmas.List.{map-append, take-append-drop, drop_more, length-take-le}
-use Rattle.std.proofs.lemmas.List.Quantifiers.{position-Some}
-use Rattle.source_merge.specs.Names.{Cell, Place, Placed, Said, Stream, is_source, id_of, placed_run, list_of, told}
-use Rattle.source_merge.specs.Names.{grown, Mapped, IsLawful, AreLawful, lifted, raw_events, events}
+use Rattle.std.proofs.lemmas.List.{map-append}
+use Rattle.source_merge.specs.Names.{Cell, Place, Placed, Said, is_source, id_of, placed_run, list_of, told}
+use Rattle.source_merge.specs.Names.{grown, Mapped, Stands, Stop, held_of, is_live, reading_of, skipped_by, IsLawful, AreLawful, lifted, raw_events, events}
 use Rattle.source_merge.specs.declared.slot.Slot.{Slot}
 use Rattle.source_events.specs.Report.{raws}
-use Rattle.source_merge.specs.Routing.{mapped_of, AllLive, AllStand, HaveRoom, HasNot, AreDistinct}
+use Rattle.source_merge.specs.Routing.{mapped_of, AllStand, AreReady, HasNot, AreDistinct, TookCells}
 use Rattle.source_events.proofs.Least.{AreSound}
 use Rattle.source_events.proofs.Merges.{test_same, test_other, grown_by}
 use Rattle.source_events.proofs.Family.{list_other, raws_own, events_other, own_push}
 
--- where a source stands
-pub record IsAt {M : Type 0} (x : ℕ) (slots : List (Slot M)) (k : ℕ) : Type 0 where
-  pub front : List (Slot M)
-  pub slot : Slot M
-  pub back : List (Slot M)
-  pub parts : slots ≡ front ++ (slot ∷ back)
-  pub count : length front ≡ k
-  pub id_is : x ≡ slot.id
-
-test_is : (a b : ℕ) → (a == b) ≡ true → a ≡ b
-test_is a b e = grind (arith, nat_tests)
-
 test_not : (a b : ℕ) → (a == b) ≡ false → a ≢ b
 test_not a b e = grind (arith, nat_tests)
-
-pub found : {M : Type 0} → (x : ℕ) (slots : List (Slot M)) (k : ℕ) (d : Slot M) → position (λ s. s.id == x) slots ≡ Some k → IsAt x slots k
-found {M} x slots k d e =
-    let p = position-Some (λ (s : Slot M). s.id == x) slots k d e in
-    record {
-      front = take k slots;
-      slot = get_or slots k d;
-      back = drop (k + 1) slots;
-      parts = sym (take-append-drop k slots) ∙ ap (λ (l : List (Slot M)). take k slots ++ l) (drop_more slots k d p.0);
-      count = length-take-le k slots (let l = p.0 in omega arith);
-      id_is = sym (test_is (get_or slots k d).id x p.1);
-    }
-
-pub found_at : {M : Type 0} → (x : ℕ) (slots : List (Slot M)) (k : ℕ) → position (λ s. s.id == x) slots ≡ Some k → IsAt x slots k
-found_at x [] k e = cc
-found_at x (s ∷ slots) k e = found x (s ∷ slots) k s e
 
 -- a source that is not there
 cond_none : (t : Bool) (a : ℕ) → cond t (Some a) None ≡ None → t ≡ false
@@ -63,19 +34,16 @@ none_behind {X} p x xs e = by (p x) e where
       let k = lt_false (position_or_len p xs) (length xs) (cond_none (nat_lt (1 + position_or_len p xs) (suc (length xs))) (1 + position_or_len p xs) h) in
       (refl, ap (λ (t : Bool). cond t (Some (position_or_len p xs)) None) k)
 
-pub not_found : {M V : Type 0} → (reading : M → List Placed → Stream V) (x : ℕ) (slots : List (Slot M)) → position (λ s. s.id == x) slots ≡ None → HasNot x (mapped_of reading slots)
-not_found reading x [] e = tt
-not_found {M} reading x (s ∷ slots) e =
-    let k = none_behind (λ (t : Slot M). t.id == x) s slots e in
-    ((λ h. test_not s.id x k.0 (sym h)), not_found reading x slots k.1)
+pub not_found : (x : ℕ) (slots : List Slot) → position (λ s. s.id == x) slots ≡ None → HasNot x (mapped_of slots)
+not_found x [] e = tt
+not_found x (s ∷ slots) e =
+    let k = none_behind (λ (t : Slot). t.id == x) s slots e in
+    ((λ h. test_not s.id x k.0 (sym h)), not_found x slots k.1)
 
-pub live_at : {M : Type 0} → (live : M → Bool) (front : List (Slot M)) (s : Slot M) (back : List (Slot M)) → AllLive live (front ++ (s ∷ back)) → live s.machine ≡ true
-live_at live [] s back a = a.0
-live_at live (t ∷ front) s back a = live_at live front s back a.1
-
-pub room_at : {M : Type 0} → (held skipped : M → ℕ) (n : ℕ) (front : List (Slot M)) (s : Slot M) (back : List (Slot M)) → HaveRoom held skipped n (front ++ (s ∷ back)) → held s.machine + skipped s.machine ≤ n
-room_at held skipped n [] s back a = a.0
-room_at held skipped n (t ∷ front) s back a = room_at held skipped n front s back a.1
+pub ready_at : (n : ℕ) (front : List Slot) (s : Slot) (back : List Slot) → AreReady n (front ++ (s ∷ back)) →
+    (is_live s.machine ≡ true) × (held_of s.machine + skipped_by s.machine ≤ n)
+ready_at n [] s back a = a.0
+ready_at n (t ∷ front) s back a = ready_at n front s back a.1
 
 other_source : (x y : ℕ) (run : List Cell) → id_of run ≡ Some x → x ≢ y → is_source y (id_of run) ≡ false
 other_source x y run e n = ap (is_source y) e ∙ test_other x y n
@@ -141,39 +109,37 @@ module _ {V : Type 0} where
   lawful_at [] s b h = (tt, h.0, h.1)
   lawful_at (t ∷ a) s b h = let k = lawful_at a s b h.1 in ((h.0, k.0), k.1, k.2)
 
--- the same of the slots
-module _ {M V : Type 0} (reading : M → List Placed → Stream V) (stands : M → List Placed → Type 0) where
-  pub stand_other : (slots : List (Slot M)) (runs : List (List Cell)) (run : List Cell) (x : ℕ) → HasNot x (mapped_of reading slots) → id_of run ≡ Some x → AllStand stands slots runs → AllStand stands slots (runs ++ run ∷ [])
-  stand_other [] runs run x h e a = tt
-  stand_other (s ∷ slots) runs run x h e a =
-      (subst (λ (l : List Placed). stands s.machine l) (sym (list_other s.id runs run (other_run x s.id run e h.0))) a.0, stand_other slots runs run x h.1 e a.1) where
-        other_run : (x y : ℕ) (run : List Cell) → id_of run ≡ Some x → x ≢ y → is_source y (id_of run) ≡ false
-        other_run x y run e n = ap (is_source y) e ∙ test_other x y n
+-- what slots stand for
+pub stand_other : (slots : List Slot) (runs : List (List Cell)) (run : List Cell) (x : ℕ) → HasNot x (mapped_of slots) → id_of run ≡ Some x → AllStand slots runs → AllStand slots (runs ++ run ∷ [])
+stand_other [] runs run x h e a = tt
+stand_other (s ∷ slots) runs run x h e a =
+    (subst (λ (l : List Placed). Stands s.machine l) (sym (list_other s.id runs run (other_source x s.id run e h.0))) a.0, stand_other slots runs run x h.1 e a.1)
 
-  pub stand_none : (slots : List (Slot M)) (runs : List (List Cell)) (run : List Cell) → id_of run ≡ None → AllStand stands slots runs → AllStand stands slots (runs ++ run ∷ [])
-  stand_none [] runs run e a = tt
-  stand_none (s ∷ slots) runs run e a = (subst (λ (l : List Placed). stands s.machine l) (sym (list_other s.id runs run (ap (is_source s.id) e))) a.0, stand_none slots runs run e a.1)
+pub stand_none : (slots : List Slot) (runs : List (List Cell)) (run : List Cell) → id_of run ≡ None → AllStand slots runs → AllStand slots (runs ++ run ∷ [])
+stand_none [] runs run e a = tt
+stand_none (s ∷ slots) runs run e a = (subst (λ (l : List Placed). Stands s.machine l) (sym (list_other s.id runs run (ap (is_source s.id) e))) a.0, stand_none slots runs run e a.1)
 
-  pub stand_split : (a : List (Slot M)) (s : Slot M) (b : List (Slot M)) (runs : List (List Cell)) → AllStand stands (a ++ (s ∷ b)) runs → AllStand stands a runs × stands s.machine (list_of s.id runs) × AllStand stands b runs
-  stand_split [] s b runs h = (tt, h.0, h.1)
-  stand_split (t ∷ a) s b runs h = let k = stand_split a s b runs h.1 in ((h.0, k.0), k.1, k.2)
+pub stand_split : (a : List Slot) (s : Slot) (b : List Slot) (runs : List (List Cell)) → AllStand (a ++ (s ∷ b)) runs → AllStand a runs × Stands s.machine (list_of s.id runs) × AllStand b runs
+stand_split [] s b runs h = (tt, h.0, h.1)
+stand_split (t ∷ a) s b runs h = let k = stand_split a s b runs h.1 in ((h.0, k.0), k.1, k.2)
 
-  pub stand_join : (a : List (Slot M)) (s : Slot M) (b : List (Slot M)) (runs : List (List Cell)) → AllStand stands a runs → stands s.machine (list_of s.id runs) → AllStand stands b runs → AllStand stands (a ++ (s ∷ b)) runs
-  stand_join [] s b runs h k l = (k, l)
-  stand_join (t ∷ a) s b runs h k l = (h.0, stand_join a s b runs h.1 k l)
+pub stand_join : (a : List Slot) (s : Slot) (b : List Slot) (runs : List (List Cell)) → AllStand a runs → Stands s.machine (list_of s.id runs) → AllStand b runs → AllStand (a ++ (s ∷ b)) runs
+stand_join [] s b runs h k l = (k, l)
+stand_join (t ∷ a) s b runs h k l = (h.0, stand_join a s b runs h.1 k l)
 
-  pub mapped_parts : (a : List (Slot M)) (s : Slot M) (b : List (Slot M)) → mapped_of reading (a ++ (s ∷ b)) ≡ mapped_of reading a ++ ((record { id = s.id; stream = reading s.machine }) ∷ mapped_of reading b)
-  mapped_parts a s b = map-append (λ (t : Slot M). record { id = t.id; stream = reading t.machine }) a (s ∷ b)
+pub mapped_parts : (a : List Slot) (s : Slot) (b : List Slot) → mapped_of (a ++ (s ∷ b)) ≡ mapped_of a ++ ((record { id = s.id; stream = reading_of s.machine }) ∷ mapped_of b)
+mapped_parts a s b = map-append (λ (t : Slot). record { id = t.id; stream = reading_of t.machine }) a (s ∷ b)
 
-pub live_join : {M : Type 0} → (live : M → Bool) (a : List (Slot M)) (s t : Slot M) (b : List (Slot M)) → AllLive live (a ++ (s ∷ b)) → live t.machine ≡ true → AllLive live (a ++ (t ∷ b))
-live_join live [] s t b h k = (k, h.1)
-live_join live (u ∷ a) s t b h k = (h.0, live_join live a s t b h.1 k)
+pub ready_more : (n k : ℕ) (slots : List Slot) → n ≤ k → AreReady n slots → AreReady k slots
+ready_more n k [] l h = tt
+ready_more n k (s ∷ slots) l h = ((h.0.0, (let a = h.0.1 in omega arith)), ready_more n k slots l h.1)
 
-pub room_more : {M : Type 0} → (held skipped : M → ℕ) (n k : ℕ) (slots : List (Slot M)) → n ≤ k → HaveRoom held skipped n slots → HaveRoom held skipped k slots
-room_more held skipped n k [] l h = tt
-room_more held skipped n k (s ∷ slots) l h = ((let a = h.0 in omega arith), room_more held skipped n k slots l h.1)
+-- one of them made at most so many units more
+pub ready_join : (n more : ℕ) (a : List Slot) (s t : Slot) (b : List Slot) → AreReady n (a ++ (s ∷ b)) → is_live t.machine ≡ true →
+    held_of t.machine + skipped_by t.machine ≤ held_of s.machine + skipped_by s.machine + more → AreReady (n + more) (a ++ (t ∷ b))
+ready_join n more [] s t b h l k = ((l, (let a = h.0.1 in omega arith)), ready_more n (n + more) b (omega arith) h.1)
+ready_join n more (u ∷ a) s t b h l k = ((h.0.0, (let c = h.0.1 in omega arith)), ready_join n more a s t b h.1 l k)
 
-pub room_join : {M : Type 0} → (held skipped : M → ℕ) (n m : ℕ) (a : List (Slot M)) (s t : Slot M) (b : List (Slot M)) → HaveRoom held skipped n (a ++ (s ∷ b)) → held t.machine + skipped t.machine ≤ held s.machine + skipped s.machine + m →
-    HaveRoom held skipped (n + m) (a ++ (t ∷ b))
-room_join held skipped n m [] s t b h k = ((let a = h.0 in omega arith), room_more held skipped n (n + m) b (omega arith) h.1)
-room_join held skipped n m (u ∷ a) s t b h k = ((let c = h.0 in omega arith), room_join held skipped n m a s t b h.1 k)
+-- with no cells they stay ready
+pub unchanged : (more : ℕ) (slots : List Slot) (stop : Option Stop) → TookCells more slots slots stop
+unchanged more slots stop = record { same = refl; ready = λ e n r. ready_more n (n + more) slots (omega arith) r }

@@ -8,8 +8,7 @@ use Rattle.std.proofs.lemmas.Bool.Decides.{nat_tests}
 use Rattle.source_merge.specs.Names.{Stop, Packet, Plan, SourceKind, Itm, Stp, stream_of, sources_by, is_sound, Mapped}
 use Rattle.source_merge.specs.Names.{stop_of}
 use Rattle.source_events.specs.Plan.{mapped_ids, are_sound}
-use Rattle.source_merge.specs.declared.slot.Slot.{Slot}
-use Rattle.source_merge.specs.Routing.{AllLive, HaveRoom, LiveIf, RoomIf, HasNot, AreDistinct}
+use Rattle.source_merge.specs.Routing.{HasNot, AreDistinct}
 
 -- the IDs of the mapped sources
 ids_of : List (Mapped Packet) → List ℕ
@@ -67,26 +66,6 @@ distinct plan e = distinct_are (sources_by plan) (ap are_sound (ids_are plan) �
 pub none_there : {X : Type 0} → (x : Option X) → is_none x ≡ true → x ≡ None
 none_there None e = refl
 none_there (Some y) e = cc
-
-pub live_now : {M : Type 0} → (live : M → Bool) (so : Bool) (slots : List (Slot M)) → so ≡ true → LiveIf live so slots →
-    AllLive live slots
-live_now live true slots e h = h
-live_now live false slots e h = cc
-
-pub live_if : {M : Type 0} → (live : M → Bool) (so : Bool) (slots : List (Slot M)) → (so ≡ true → AllLive live slots) →
-    LiveIf live so slots
-live_if live true slots h = h refl
-live_if live false slots h = tt
-
-pub room_now : {M : Type 0} → (held skipped : M → ℕ) (so : Bool) (n : ℕ) (slots : List (Slot M)) → so ≡ true →
-    RoomIf held skipped so n slots → HaveRoom held skipped n slots
-room_now held skipped true n slots e h = h
-room_now held skipped false n slots e h = cc
-
-pub room_if : {M : Type 0} → (held skipped : M → ℕ) (so : Bool) (n : ℕ) (slots : List (Slot M)) →
-    (so ≡ true → HaveRoom held skipped n slots) → RoomIf held skipped so n slots
-room_if held skipped true n slots h = h refl
-room_if held skipped false n slots h = tt
 
 -- what a test of an option says
 pub tested : {X : Type 0} → (x : Option X) (t : Bool) → is_some x ≡ not t → t ≡ is_none x

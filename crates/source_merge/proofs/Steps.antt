@@ -48,7 +48,7 @@ rise_push u at byte r =
     (rise_join (offsets_of u) (at ∷ []) 0 at (at + 1) r
     ((let z : at ≤ at = omega arith in z), (let z : at + 1 ≤ at + 1 = omega arith in z)))
 
-module _ {M V : Type 0} (stands : M → List Placed → Type 0) (ss : List (Mapped V)) where
+module _ {V : Type 0} (ss : List (Mapped V)) where
   -- where the port has no fault, the report is that of its runs after its notice
   stop_sound : (r : PortReading) → r.fault ≡ None → stop_in ss r ≡ least_fault ss (runs_in r)
   stop_sound r e = ap (λ (o : Option (Place × Reason)). lesser (of_source None o) (least_fault ss (runs_in r))) e
@@ -122,9 +122,9 @@ module _ {M V : Type 0} (stands : M → List Placed → Type 0) (ss : List (Mapp
         }
 
     pub taken_frame : (cells : List Cell) → (e : new.frames ≡ old.frames ++ cells ∷ []) → new.fault ≡ None →
-        port_events {V = V} mode next ≡ port_events mode u → (a : IsAfter cells) → (slots : List (Slot M))
-        (given : List (Event V)) (stop : Option Stop) → Fed stands ss slots (runs_in old) (runs_of cells) given stop →
-        StepTakenBy stands ss slots mode u next given stop
+        port_events {V = V} mode next ≡ port_events mode u → (a : IsAfter cells) → (slots : List Slot)
+        (given : List (Event V)) (stop : Option Stop) → Fed ss slots (runs_in old) (runs_of cells) given stop →
+        StepTakenBy ss slots mode u next given stop
     taken_frame cells e f p a slots given stop fed = record {
       grew =
           ap (λ (o : Found). cut o (capture_events ss mode next)) stop_new
@@ -135,7 +135,7 @@ module _ {M V : Type 0} (stands : M → List Placed → Type 0) (ss : List (Mapp
           ∙ sym (append_assoc front (all_events ss (runs_in old)) given)
           ∙ ap (λ l. l ++ given) (sym (report_whole mode u fault sound));
       stop_is = stop_new ∙ fed.fault_is;
-      list = λ k. subst (λ (l : List (List Cell)). AllStand stands slots l) (sym runs) (fed.list k);
+      list = λ k. subst (λ (l : List (List Cell)). AllStand slots l) (sym runs) (fed.list k);
     } where
       runs : runs_in new ≡ runs_in old ++ runs_of cells
       runs = frame_runs cells e
@@ -162,9 +162,9 @@ module _ {M V : Type 0} (stands : M → List Placed → Type 0) (ss : List (Mapp
     sound_new : new.frames ≡ old.frames ++ [] → AreSound ss (runs_in new)
     sound_new e = subst (λ (l : List (List Cell)). AreSound ss l) (sym (same_runs e)) sound
 
-    pub taken_none : (slots : List (Slot M)) (given : List (Event V)) → given ≡ [] → new.frames ≡ old.frames ++ [] →
-        new.fault ≡ None → port_events {V = V} mode next ≡ port_events mode u ++ [] → AllStand stands slots (runs_in old) →
-        StepTakenBy stands ss slots mode u next given None
+    pub taken_none : (slots : List Slot) (given : List (Event V)) → given ≡ [] → new.frames ≡ old.frames ++ [] →
+        new.fault ≡ None → port_events {V = V} mode next ≡ port_events mode u ++ [] → AllStand slots (runs_in old) →
+        StepTakenBy ss slots mode u next given None
     taken_none slots given g e f p s = record {
       grew =
           report_whole mode next f (sound_new e)
@@ -173,7 +173,7 @@ module _ {M V : Type 0} (stands : M → List Placed → Type 0) (ss : List (Mapp
           ∙ sym (report_whole mode u fault sound) ∙ sym (append-nil (report ss mode u))
           ∙ ap (λ l. report ss mode u ++ l) (sym g);
       stop_is = stop_sound new f ∙ least_none ss (runs_in new) (sound_new e);
-      list = λ k. subst (λ (l : List (List Cell)). AllStand stands slots l) (sym (same_runs e)) s;
+      list = λ k. subst (λ (l : List (List Cell)). AllStand slots l) (sym (same_runs e)) s;
     }
 
     -- before the lock there is no frame
@@ -182,10 +182,10 @@ module _ {M V : Type 0} (stands : M → List Placed → Type 0) (ss : List (Mapp
     no_runs Aligned e = cc
     no_runs Bare e = cc
 
-    pub taken_lock : (slots : List (Slot M)) (n : ℕ) (given : List (Event V)) → given ≡ told None (notice_by at (Locked n)) →
+    pub taken_lock : (slots : List Slot) (n : ℕ) (given : List (Event V)) → given ≡ told None (notice_by at (Locked n)) →
         old.locked ≡ false → new.frames ≡ old.frames ++ [] → new.fault ≡ None →
-        port_events {V = V} mode next ≡ port_events mode u ++ notice_by at (Locked n) → AllStand stands slots (runs_in old) →
-        StepTakenBy stands ss slots mode u next given None
+        port_events {V = V} mode next ≡ port_events mode u ++ notice_by at (Locked n) → AllStand slots (runs_in old) →
+        StepTakenBy ss slots mode u next given None
     taken_lock slots n given g l e f p s = record {
       grew =
           report_whole mode next f (sound_new e)
@@ -200,7 +200,7 @@ module _ {M V : Type 0} (stands : M → List Placed → Type 0) (ss : List (Mapp
           ∙ ap (λ x. x ++ told None (notice_by at (Locked n))) (sym (report_whole mode u fault sound))
           ∙ ap (λ x. report ss mode u ++ x) (sym g);
       stop_is = stop_sound new f ∙ least_none ss (runs_in new) (sound_new e);
-      list = λ k. subst (λ (x : List (List Cell)). AllStand stands slots x) (sym (same_runs e)) s;
+      list = λ k. subst (λ (x : List (List Cell)). AllStand slots x) (sym (same_runs e)) s;
     } where
       none : runs_in old ≡ []
       none = no_runs mode l
@@ -215,10 +215,10 @@ module _ {M V : Type 0} (stands : M → List Placed → Type 0) (ss : List (Mapp
         (notices_below (port_events mode u) start at f.first (between_le (runs_in old) start at between))
         (below IsRunFrom end_of end_within id_of (events ss) (adds ss law) (runs_in old) [] start at between)
 
-    pub taken_fault : (slots : List (Slot M)) (x : Fault) (given : List (Event V)) → given ≡ [] →
+    pub taken_fault : (slots : List Slot) (x : Fault) (given : List (Event V)) → given ≡ [] →
         x.at ≡ at → new.frames ≡ old.frames ++ [] → new.fault ≡ Some (record { at = x.at; half = x.half }, x.reason) →
         port_events {V = V} mode next ≡ port_events mode u ++ [] →
-        StepTakenBy stands ss slots mode u next given (Some (record { fault = x; source = None }))
+        StepTakenBy ss slots mode u next given (Some (record { fault = x; source = None }))
     taken_fault slots x given g i e f p = record {
       grew =
           ap (λ (o : Found). cut o (capture_events ss mode next)) is

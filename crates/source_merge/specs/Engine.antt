@@ -1,8 +1,7 @@
 -- What an engine stands for, and what it shows.
 use Rattle.std.specs.Prelude.{◌≡◌, ℕ, List, length, Bool, true, is_none}
-use Rattle.source_merge.specs.Names.{Placed, offsets_of, BytesRise, end_at, Plan, sources_by, runs_in, SourceMachine}
+use Rattle.source_merge.specs.Names.{Placed, offsets_of, BytesRise, end_at, Plan, sources_by, runs_in}
 use Rattle.deformatter.specs.Reader as reader
-use Rattle.source_machine.specs.Machine as machine
 use Rattle.source_merge.specs.declared.slot.Slot.{Slot}
 use Rattle.source_merge.specs.declared.counts.Counters.{Counters}
 use Rattle.source_merge.specs.declared.engine.Engine.{Engine}
@@ -23,9 +22,8 @@ abbrev pub next_of : Engine → ℕ
 next_of engine = engine.next
 
 -- these machines stand for the lists of their sources, and these counters have counted what came
-pub record Keeps (plan : Plan) (slots : List (Slot SourceMachine)) (counters : Counters) (u : List Placed)
-    : Type 0 where
-  pub stand : AllStand machine.Stands slots (runs_in (port_of plan u))
+pub record Keeps (plan : Plan) (slots : List Slot) (counters : Counters) (u : List Placed) : Type 0 where
+  pub stand : AllStand slots (runs_in (port_of plan u))
   pub counted : HasCounted counters (port_of plan u) (report_of plan u)
 
 -- It has read these bytes, whose offsets rise: its port stands for them, it is live exactly where their report has no
@@ -33,7 +31,7 @@ pub record Keeps (plan : Plan) (slots : List (Slot SourceMachine)) (counters : C
 pub record Stands (engine : Engine) (u : List Placed) : Type 0 where
   pub port : reader.Stands engine.port u
   pub mode : reader.mode_of engine.port ≡ engine.plan.frames
-  pub sources : mapped_of machine.reading_of engine.slots.items ≡ sources_by engine.plan
+  pub sources : mapped_of engine.slots.items ≡ sources_by engine.plan
   pub rising : BytesRise 0 (end_at 0 (offsets_of u)) u
   pub next : engine.next ≡ end_at 0 (offsets_of u)
   pub count : engine.count ≡ length u

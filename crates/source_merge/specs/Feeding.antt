@@ -1,5 +1,5 @@
 -- What a machine makes of a run.
-use Rattle.std.specs.Prelude.{◌≡◌, ℕ, List, ◌++◌, take, Option, None, Some}
+use Rattle.std.specs.Prelude.{◌≡◌, ℕ, ◌+◌, ◌*◌, ◌≤◌, List, ◌++◌, length, take, Bool, Option, None, Some, is_none}
 use Rattle.std.specs.Option.{option_map}
 use Rattle.source_merge.specs.Names.{Cell, Fault, Reason, Step, Place, Placed, Said, Stream, Event, placed_run}
 use Rattle.source_merge.specs.Names.{RisesFrom, told, start_of, AllIn, lifted}
@@ -19,19 +19,18 @@ last_fault (Some step) = step_fault step
 abbrev pub place_and_reason : Fault → Place × Reason
 place_and_reason f = (record { at = f.at; half = f.half }, f.reason)
 
--- A run that was fed to the machine of this source: the events before and after it, and the fault that was told.
+-- A run that was fed to the machine of this source: the events that were given, and the fault that was told.
 pub record RunFed (V : Type 0) : Type 0 where
   pub run : List Cell
   pub source : ℕ
-  pub before : List (Event V)
-  pub after : List (Event V)
+  pub events : List (Event V)
   pub fault : Option Fault
 
 -- After u a machine took a run. Its reading grew by what was given as events of this source, and has this fault.
 pub record Feeds {V : Type 0} (reading : List Placed → Stream V) (stands : List Placed → Type 0) (u : List Placed)
     (fed : RunFed V) : Type 0 where
   pub given : List (Said V × Place)
-  pub events : fed.after ≡ fed.before ++ told (Some fed.source) (lifted given)
+  pub events : fed.events ≡ told (Some fed.source) (lifted given)
   pub grew : (reading (u ++ placed_run fed.run)).given ≡ (reading u).given ++ given
   pub fault_is : (reading (u ++ placed_run fed.run)).fault ≡ option_map place_and_reason fed.fault
   pub list : fed.fault ≡ None → stands (u ++ placed_run fed.run)
@@ -51,3 +50,37 @@ IsEarly reading stands run None = Unit {0}
 IsEarly {V} reading stands run (Some f) =
     (u : List Placed) → stands u → (n : ℕ) → RisesFrom n run → (given : List (Said V × Place)) →
     (reading (u ++ placed_run run)).given ≡ (reading u).given ++ given → AllIn (start_of n) f.at given
+
+-- What a kind of machine reads a list as, and which lists it stands for; whether it is live, and how many units it
+-- holds and has skipped.
+pub record MachineKind (M V : Type 0) : Type 1 where
+  pub reading : M → List Placed → Stream V
+  pub stands : M → List Placed → Type 0
+  pub live : M → Bool
+  pub held : M → ℕ
+  pub skipped : M → ℕ
+
+-- A machine took a run.
+pub record MachineFed {M V : Type 0} (kind : MachineKind M V) (old new : M) (fed : RunFed V) : Type 0 where
+  pub same : kind.reading new ≡ kind.reading old
+  pub live : kind.live new ≡ is_none fed.fault
+  pub few : kind.held new + kind.skipped new ≤ kind.held old + kind.skipped old + 2 * length fed.run
+  pub feeds : (u : List Placed) → kind.stands old u → Feeds (kind.reading old) (kind.stands new) u fed
+  pub early : IsEarly (kind.reading old) (kind.stands old) fed.run fed.fault
+
+-- A machine took so many cells more of a run, after those that are done.
+pub record PartFed {M V : Type 0} (kind : MachineKind M V) (old new : M) (done count : ℕ) (fed : RunFed V)
+    : Type 0 where
+  pub same : kind.reading new ≡ kind.reading old
+  pub live : kind.live new ≡ is_none fed.fault
+  pub few : kind.held new + kind.skipped new ≤ kind.held old + kind.skipped old + 2 * count
+  pub feeds : (u : List Placed) (before : List (Event V)) →
+      Feeds (kind.reading old) (kind.stands old) u
+      (record { run = take done fed.run; source = fed.source; events = before; fault = None }) →
+      Feeds (kind.reading old) (kind.stands new) u (record {
+        run = take (done + count) fed.run;
+        source = fed.source;
+        events = before ++ fed.events;
+        fault = fed.fault;
+      })
+  pub early : IsEarlyFrom done (kind.reading old) (kind.stands old) fed.run fed.fault

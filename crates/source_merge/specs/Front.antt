@@ -1,17 +1,26 @@
 -- What an engine takes of the front of a piece.
-use Rattle.std.specs.Prelude.{◌≡◌, ◌<◌, ◌≤◌, ℕ, ◌+◌, ◌*◌, List, [], ◌∷◌, ◌++◌, length, take, None, Some, position, ◌==◌, false}
+use Rattle.std.specs.Prelude.{◌≡◌, ◌<◌, ◌≤◌, ℕ, ◌+◌, ◌*◌, List, [], ◌∷◌, ◌++◌, length, take, None, Some, false}
+use Rattle.std.specs.Prelude.{position, true, ◌==◌}
 use Rattle.source_merge.specs.Names.{Placed, placed_from, Bare, FedAs, PlacedFrame, Event, Packet, Plan, IsGathered}
 use Rattle.frame_grammar.specs.declared.frame.TheConstants.{FRAME_BYTES}
 use Rattle.source_merge.specs.declared.flow.Fed.{Fed}
 use Rattle.source_merge.specs.declared.flow.Flow.{Flow}
 use Rattle.source_merge.specs.declared.flow.Flow.TheVariants.{Going}
 use Rattle.source_merge.specs.declared.engine.Engine.{Engine}
+use Rattle.source_merge.specs.declared.engine.TheConstants.{GREATEST_OFFSET}
 use Rattle.source_merge.specs.Answering.{Answers, fault_by, fault_of, goes_on, report_of}
 use Rattle.source_merge.specs.Engine.{Stands, is_live, next_of, plan_of}
 
 -- there is no formatter, and the slot of source 1 has this index
 abbrev pub IsBare : Engine → ℕ → Type 0
 IsBare engine index = ((plan_of engine).frames ≡ Bare) × (position (λ s. s.id == 1) engine.slots.items ≡ Some index)
+
+-- It is live, and so many bytes from this offset on come next.
+pub record IsNext (engine : Engine) (at count : ℕ) : Type 0 where
+  pub live : is_live engine ≡ true
+  pub some : 0 < count
+  pub after : next_of engine ≤ at
+  pub within : at + count ≤ GREATEST_OFFSET + 1
 
 -- It took these bytes of the piece, whose first is at this offset, and stands for them after what it stood for.
 pub record TakesFront (old new : Engine) (at : ℕ) (piece : List ℕ) (taken : Fed) : Type 0 where
@@ -41,8 +50,8 @@ pub record IsCertain (plan : Plan) (u : List Placed) (at : ℕ) (bytes : List �
   pub parts : bytes ≡ front ++ last ∷ []
   pub sound : fault_of plan (u ++ placed_from at front) ≡ None
 
--- With these bytes, which follow u from this offset on, the report of a capture grows by these events, and has the fault
--- of this flow, which is certain with the last of them.
+-- With these bytes, which follow u from this offset on, the report of a capture grows by these events, and has the
+-- fault of this flow, which is certain with the last of them.
 pub record Reads (plan : Plan) (u : List Placed) (at : ℕ) (bytes : List ℕ) (given : List (Event Packet)) (flow : Flow)
     : Type 0 where
   pub grew : report_of plan (u ++ placed_from at bytes) ≡ report_of plan u ++ given

@@ -4,7 +4,6 @@ pub mod Run
 pub mod Piece
 pub mod Frame
 pub mod Routing
-pub mod Machines
 pub mod RoutingLaws
 pub mod Mapping
 pub mod Counting

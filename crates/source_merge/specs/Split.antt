@@ -1,6 +1,6 @@
 -- A frame that is taken apart into the runs of its sources.
 use Rattle.std.specs.Prelude.{◌≡◌, ℕ, ◌+◌, ◌*◌, ◌/◌, ◌%◌, ◌^◌, ◌<◌, List, take, drop, slice_index}
-use Rattle.source_merge.specs.Names.{Cell, cells, places_of, SourceMachine, run_cells, byte_in, place_in, frame_places}
+use Rattle.source_merge.specs.Names.{Cell, cells, places_of, run_cells, byte_in, place_in, frame_places}
 use Rattle.source_merge.specs.Names.{ends_from, ends_left}
 use Rattle.frame_runs.specs.Pairs.{end_at}
 use Rattle.source_merge.specs.declared.slot.Slot.{Slot}
@@ -39,5 +39,5 @@ pub record IsSplit (split : SplitFrame) : Type 0 where
   pub late : (k : ℕ) → k < 8 → 2 * k + split.late / 2 ^ k % 2 ≡ end_at split.frame.now.bytes k
 
 -- it can be taken to any slots
-abbrev pub suits_split : SplitFrame → List (Slot SourceMachine) → Type 0
+abbrev pub suits_split : SplitFrame → List Slot → Type 0
 suits_split split slots = IsSplit split

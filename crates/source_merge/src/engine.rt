@@ -2,12 +2,12 @@
 
 ghost use Rattle.std.specs.Prelude.{◌≡◌, ◌+◌, ◌*◌, ◌≤◌, true};
 ghost use Rattle.deformatter.specs.Reader.{is_live as is_port_live, skipped_by as skipped_by_port, tail_of};
-ghost use Rattle.source_merge.specs.Names.{is_sound, held_of, is_live as is_machine_live, skipped_by};
+ghost use Rattle.source_merge.specs.Names.{is_sound};
 ghost use Rattle.source_events.specs.declared.tails.TheConstants.{GREATEST_COUNT};
 ghost use Rattle.source_merge.specs.declared.engine.TheConstants.{GREATEST_OFFSET};
 ghost use Rattle.source_merge.specs.Counting.{size_of, whole_of};
-ghost use Rattle.source_merge.specs.Routing.{LiveIf, RoomIf};
-ghost use Rattle.source_merge.specs.RoutingLaws.{LiveIf-prop, RoomIf-prop};
+ghost use Rattle.source_merge.specs.Routing.{AreReady};
+ghost use Rattle.source_merge.specs.RoutingLaws.{ready-prop};
 
 use crate::bare::{bare_source, taken_of};
 use crate::counts::Counters;
@@ -56,13 +56,12 @@ pub struct Engine {
     live: bool,
     ghost sound: { is_sound plan ≡ true },
     ghost few: { tail_of port + skipped_by_port port ≤ count },
-    ghost room: { RoomIf held_of skipped_by live (30 * count) slots.items } by { RoomIf-prop held_of skipped_by live (30 * count) slots.items },
+    ghost ready: { live ≡ true → AreReady (30 * count) slots.items } by { ready-prop live (30 * count) slots.items },
     ghost size: { live ≡ true → size_of counters ≤ 46 * count },
     ghost whole: { whole_of counters ≤ count },
     ghost within: { count ≤ next },
     ghost limit: { next ≤ GREATEST_OFFSET + 1 },
     ghost port_live: { live ≡ true → is_port_live port ≡ true },
-    ghost lives: { LiveIf is_machine_live live slots.items } by { LiveIf-prop is_machine_live live slots.items },
 }
 
 impl Engine {
@@ -82,7 +81,7 @@ impl Engine {
     ghost use Rattle.source_merge.specs.Giving.{GivesTo};
     ghost use Rattle.source_merge.specs.declared.flow.Flow.TheVariants.{Going};
     ghost use Rattle.source_merge.specs.Engine.{Stands, is_live, next_of, plan_of};
-    ghost use Rattle.source_merge.specs.Front.{GivesLast, IsBare, ReadsTo, TakesFront, TakesGathered};
+    ghost use Rattle.source_merge.specs.Front.{GivesLast, IsBare, IsNext, ReadsTo, TakesFront, TakesGathered};
     ghost use Rattle.source_merge.specs.Piece.{bytes_in};
 
     /// An engine before the first byte. Its plan is sound.
@@ -182,12 +181,13 @@ impl Engine {
         }
     }
 
-    /// Takes bytes from the front of a piece, the first of which is at this offset, and gives their events to what takes
-    /// them: a whole frame, or else bytes up to the first one that ends a frame or a synchronisation, or is a fault, or
-    /// to the piece's end. With no formatter it takes bytes for whose events there is room. It leaves what `feed` does.
+    /// Takes bytes from the front of a piece, the first of which is at this offset, and gives their events to what
+    /// takes them: a whole frame, or else bytes up to the first one that ends a frame or a synchronisation, or is a
+    /// fault, or to the piece's end. With no formatter it takes bytes for whose events there is room. It leaves what
+    /// `feed` does.
     ///
-    /// The engine is live, there is room for 30 events, and the piece has a byte. Its first offset is at least `next()`,
-    /// and its last one at most `GREATEST_OFFSET`.
+    /// The engine is live, there is room for 30 events, and the piece has a byte. Its first offset is at least
+    /// `next()`, and its last one at most `GREATEST_OFFSET`.
     #[inline(always)]
     pub fn take<V: Receiver>(&mut self, at: u64, piece: &[u8], out: &mut V, to: &mut V::To) -> Fed
         requires live { is_live self.old ≡ true }
@@ -219,10 +219,8 @@ impl Engine {
         to: &mut V::To,
     ) -> Fed
         requires own { IsBare self.old index }
-        requires live { is_live self.old ≡ true }
+        requires next { IsNext self.old at (length piece.now) }
         requires space { 30 ≤ V.room (out.old, to.old) }
-        requires some { 0 < length piece.now }
-        requires offsets { (next_of self.old ≤ at) × (at + length piece.now ≤ GREATEST_OFFSET + 1) }
         ensures takes { TakesFront self.old self.new at piece.now result }
         ensures reads { GivesTo V.gets (out.old, to.old) (out.new, to.new)
             (ReadsTo self.old at (take result.bytes piece.now) result.flow) }
@@ -266,10 +264,8 @@ impl Engine {
         to: &mut V::To,
     ) -> Fed
         requires own { IsBare self.old index }
-        requires live { is_live self.old ≡ true }
+        requires next { IsNext self.old run.now.at run.now.count }
         requires space { 2 * run.now.count ≤ V.room (out.old, to.old) }
-        requires some { 0 < run.now.count }
-        requires offsets { (next_of self.old ≤ run.now.at) × (run.now.at + run.now.count ≤ GREATEST_OFFSET + 1) }
         ensures takes { TakesFront self.old self.new run.now.at (bytes_in run.now) result }
         ensures reads { GivesTo V.gets (out.old, to.old) (out.new, to.new)
             (ReadsTo self.old run.now.at (take result.bytes (bytes_in run.now)) result.flow) }
@@ -305,10 +301,8 @@ impl Engine {
         out: &mut V,
         to: &mut V::To,
     ) -> Fed
-        requires live { is_live self.old ≡ true }
+        requires next { IsNext self.old at (length piece.now) }
         requires space { 30 ≤ V.room (out.old, to.old) }
-        requires some { 0 < length piece.now }
-        requires offsets { (next_of self.old ≤ at) × (at + length piece.now ≤ GREATEST_OFFSET + 1) }
         ensures takes { TakesFront self.old self.new at piece.now result }
         ensures space { V.room (out.old, to.old) ≤ V.room (out.new, to.new) + 30 }
         ensures fed { GivesTo V.gets (out.old, to.old) (out.new, to.new)
@@ -330,10 +324,8 @@ impl Engine {
     /// or to the piece's end. With no formatter it takes one byte.
     #[inline(never)]
     fn take_step<V: Receiver>(&mut self, at: u64, piece: &[u8], out: &mut V, to: &mut V::To) -> Fed
-        requires live { is_live self.old ≡ true }
+        requires next { IsNext self.old at (length piece.now) }
         requires space { 30 ≤ V.room (out.old, to.old) }
-        requires some { 0 < length piece.now }
-        requires offsets { (next_of self.old ≤ at) × (at + length piece.now ≤ GREATEST_OFFSET + 1) }
         ensures takes { TakesFront self.old self.new at piece.now result }
         ensures space { V.room (out.old, to.old) ≤ V.room (out.new, to.new) + 30 }
         ensures fed { GivesTo V.gets (out.old, to.old) (out.new, to.new)

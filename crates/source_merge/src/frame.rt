@@ -1,12 +1,10 @@
 //! The cells of a frame, and how they are taken.
 
-ghost use Rattle.source_merge.specs.declared.slot.TheConstants.{FRAME_ROOM};
-ghost use Rattle.std.specs.Prelude.{◌≡◌, ◌+◌, ◌*◌, ◌≤◌, ◌++◌, ℕ, List, length, None};
-ghost use Rattle.source_merge.specs.Names.{Cell, RisesFrom, runs_of, SourceMachine, Stands, held_of, is_live};
-ghost use Rattle.source_merge.specs.Names.{reading_of, skipped_by, COUNT_ROOM};
-ghost use Rattle.source_merge.specs.Counting.{HasBytes, bytes_counted, total_of};
-ghost use Rattle.source_merge.specs.Giving.{Gives};
-ghost use Rattle.source_merge.specs.Routing.{mapped_of, AllLive, AllStand, HaveRoom, AreDistinct, Fed, RunsBetween};
+ghost use Rattle.std.specs.Prelude.{◌*◌, ◌≤◌, List, length};
+ghost use Rattle.source_merge.specs.Names.{Cell};
+ghost use Rattle.source_merge.specs.Giving.{Gives, HasRoom};
+ghost use Rattle.source_merge.specs.Routing.{TakesFrame, TookCells};
+ghost use Rattle.source_merge.specs.Stepping.{CountsFrame, MayTake};
 ghost use Rattle.source_merge.specs.declared.slot.Slot.{Slot};
 
 use crate::counts::{ByteCounts, PerSource};
@@ -22,12 +20,12 @@ pub trait FrameCells {
     // they themselves
     ghost cells: { Self → List Cell };
     // slots that they can be taken to
-    ghost suits: { Self → List (Slot SourceMachine) → Type 0 };
+    ghost suits: { Self → List Slot → Type 0 };
 
     /// Takes the cells, each run to its source, up to a fault, and gives their events.
     fn take<V: Receiver>(
         &self,
-        slots: &mut [Slot<SourceMachine>],
+        slots: &mut [Slot],
         counts: &mut ByteCounts,
         items: &mut PerSource,
         out: &mut V,
@@ -35,24 +33,12 @@ pub trait FrameCells {
     ) -> Option<Stop>
         requires suits { suits self.now slots.old }
         requires size { length (cells self.now) ≤ 15 }
-        requires live { AllLive is_live slots.old }
-        requires room { HaveRoom held_of skipped_by FRAME_ROOM slots.old }
-        requires count { bytes_counted counts.old ≤ FRAME_ROOM }
-        requires space { 2 * length (cells self.now) ≤ V.room (out.old, to.old) }
-        requires items { total_of items.old + 2 * length (cells self.now) ≤ COUNT_ROOM }
-        ensures same { mapped_of reading_of slots.new ≡ mapped_of reading_of slots.old }
-        ensures live { result ≡ None → AllLive is_live slots.new }
-        ensures room { (n : ℕ) → HaveRoom held_of skipped_by n slots.old →
-            HaveRoom held_of skipped_by (n + 2 * length (cells self.now)) slots.new }
-        ensures space { V.room (out.old, to.old) ≤ V.room (out.new, to.new) + 2 * length (cells self.now) }
-        ensures items { total_of items.new ≤ total_of items.old + 2 * length (cells self.now) }
-        ensures fed { Gives V.gets (items.old, (out.old, to.old)) (items.new, (out.new, to.new)) (λ given.
-            (runs : List (List Cell)) (n : ℕ) → AreDistinct (mapped_of reading_of slots.old) →
-            AllStand Stands slots.old runs → RunsBetween 0 n runs → RisesFrom n (cells self.now) →
-            Fed Stands (mapped_of reading_of slots.old) slots.new runs (runs_of (cells self.now)) given result) }
-        ensures counted { (whole runs : List (List Cell)) → result ≡ None → HasBytes counts.old whole runs →
-            HasBytes counts.new whole (runs ++ runs_of (cells self.now)) }
-        ensures count { bytes_counted counts.new ≤ bytes_counted counts.old + length (cells self.now) };
+        requires ready { MayTake slots.old counts.old }
+        requires room { HasRoom V.room (2 * length (cells self.now)) (items.old, (out.old, to.old)) }
+        ensures slots { TookCells (2 * length (cells self.now)) slots.old slots.new result }
+        ensures fed { Gives V.gets V.room (2 * length (cells self.now)) (items.old, (out.old, to.old))
+            (items.new, (out.new, to.new)) (TakesFrame slots.old slots.new (cells self.now) result) }
+        ensures counts { CountsFrame counts.old counts.new (cells self.now) result };
 }
 
 /// The cells of any frame.
@@ -71,7 +57,7 @@ impl FrameCells for AnyFrame<'_> {
     #[inline(always)]
     fn take<V: Receiver>(
         &self,
-        slots: &mut [Slot<SourceMachine>],
+        slots: &mut [Slot],
         counts: &mut ByteCounts,
         items: &mut PerSource,
         out: &mut V,

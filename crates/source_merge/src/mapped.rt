@@ -13,11 +13,11 @@ use source_machine::SourceMachine;
 use trace_values::SourceId;
 
 /// The mapped sources of a plan.
-pub type Slots = ArrayVec<Slot<SourceMachine>, MAPPED_SOURCES>;
+pub type Slots = ArrayVec<Slot, MAPPED_SOURCES>;
 
 /// Those of a plan, each before its first byte.
 pub fn slots_of(plan: &Plan) -> Slots
-    ensures sources { mapped_of reading_of result.items ≡ sources_by plan.now }
+    ensures sources { mapped_of result.items ≡ sources_by plan.now }
     ensures fresh { AreFresh result.items }
 {
     let mut slots = ArrayVec::new();
@@ -29,7 +29,7 @@ pub fn slots_of(plan: &Plan) -> Slots
 /// Adds the slots of these sources, which are of one kind.
 fn add_slots(slots: &mut Slots, kind: SourceKind, ids: &[SourceId], plan: &Plan)
     requires room { array_vec_len slots.old + length ids.now ≤ MAPPED_SOURCES }
-    ensures sources { mapped_of reading_of slots.new.items ≡ mapped_of reading_of slots.old.items
+    ensures sources { mapped_of slots.new.items ≡ mapped_of slots.old.items
         ++ map (λ id. record { id = id; stream = reading_by kind plan.now.packets plan.now.order }) ids.now }
     ensures fresh { AreFresh slots.old.items → AreFresh slots.new.items }
     ensures count { array_vec_len slots.new ≡ array_vec_len slots.old + length ids.now }

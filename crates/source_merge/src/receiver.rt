@@ -57,8 +57,8 @@ pub trait Receiver {
             gets (self.old, to.old) (packet_event source at half (Stp item) ∷ []) (self.new, to.new) }
         ensures room { room (self.old, to.old) ≤ room (self.new, to.new) + 1 };
 
-    /// Takes the next event, which is a run of this source, 1 to 15 bytes that are not read. The last of them is at this
-    /// offset.
+    /// Takes the next event, which is a run of this source, 1 to 15 bytes that are not read. The last of them is at
+    /// this offset.
     fn give_raw(&mut self, to: &mut Self::To, at: u64, source: SourceId, bytes: &[u8])
         requires some { 0 < length bytes.now }
         requires few { length bytes.now ≤ 15 }

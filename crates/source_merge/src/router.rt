@@ -1,19 +1,13 @@
 //! The runs of a frame, each to its source.
 
-ghost use Rattle.source_merge.specs.Names.{COUNT_ROOM, Cell, RisesFrom, IsRunFrom, runs_of, id_of, told, raw_events};
-ghost use Rattle.source_merge.specs.Names.{triggers, SourceMachine, Stands, held_of, is_live, reading_of, skipped_by};
+ghost use Rattle.source_merge.specs.Names.{told, raw_events, triggers, SourceMachine};
 ghost use Rattle.trace_values.specs.declared.limits.TheConstants.{PART_ROOM};
 ghost use Rattle.source_merge.specs.declared.slot.TheConstants.{FRAME_ROOM};
-ghost use Rattle.std.specs.Prelude.{◌≡◌, ◌+◌, ◌*◌, ◌<◌, ◌≤◌, ◌++◌, ◌∷◌, [], ℕ, List, length, None};
-ghost use Rattle.std.specs.Prelude.{Some, position, ◌==◌};
+ghost use Rattle.std.specs.Prelude.{◌≡◌, ◌+◌, ◌*◌, ◌<◌, ◌≤◌, ◌++◌, ◌∷◌, length, None, Some, position, ◌==◌};
 ghost use Rattle.std.specs.Option.{option_map};
-ghost use Rattle.source_merge.specs.Routing.{mapped_of, AllLive, AllStand, HaveRoom, AreDistinct, Took, Fed};
-ghost use Rattle.source_merge.specs.Routing.{RunsBetween, SlotFed};
-ghost use Rattle.source_merge.specs.Machines.{source_machines};
-ghost use Rattle.source_merge.specs.Counting.{HasBytes, bytes_counted, total_of};
-ghost use Rattle.source_merge.specs.Giving.{Given, Gives};
-ghost use Rattle.source_merge.specs.Stepping.{TookCells};
-ghost use Rattle.source_merge.specs.declared.slot.Slot.{Slot};
+ghost use Rattle.source_merge.specs.Routing.{AreReady, IsRunOf, SlotFed, SlotPlace, TakesFrame, TakesRun, TookCells};
+ghost use Rattle.source_merge.specs.Giving.{Given, Gives, HasRoom};
+ghost use Rattle.source_merge.specs.Stepping.{CountsFrame, MayTake};
 
 use crate::counts::{ByteCounts, PerSource};
 use crate::receiver::Receiver;
@@ -37,12 +31,9 @@ fn give_triggers<R: Run, V: Receiver>(
     out: &mut V,
     to: &mut V::To,
 )
-    requires space { 2 * length (R.cells run.now) ≤ V.room (out.old, to.old) }
-    requires count { total_of items.old + 2 * length (R.cells run.now) ≤ COUNT_ROOM }
-    ensures given { Given V.gets (items.old, (out.old, to.old)) (items.new, (out.new, to.new))
-        (told (Some source) (triggers (R.cells run.now))) }
-    ensures space { V.room (out.old, to.old) ≤ V.room (out.new, to.new) + 2 * length (R.cells run.now) }
-    ensures count { total_of items.new ≤ total_of items.old + 2 * length (R.cells run.now) }
+    requires room { HasRoom V.room (2 * length (R.cells run.now)) (items.old, (out.old, to.old)) }
+    ensures { Given V.gets V.room (2 * length (R.cells run.now)) (items.old, (out.old, to.old))
+        (items.new, (out.new, to.new)) (told (Some source) (triggers (R.cells run.now))) }
 {
     for index in 0..run.len() {
         let cell = run.cell(index);
@@ -51,8 +42,8 @@ fn give_triggers<R: Run, V: Receiver>(
     }
 }
 
-/// Gives a run of a source that is not mapped. Kept out of line: put in line, it would take registers from the loop over
-/// runs.
+/// Gives a run of a source that is not mapped. Kept out of line: put in line, it would take registers from the loop
+/// over runs.
 #[inline(never)]
 fn give_raw<R: Run, V: Receiver>(
     source: SourceId,
@@ -63,12 +54,9 @@ fn give_raw<R: Run, V: Receiver>(
 )
     requires some { 0 < length (R.cells run.now) }
     requires size { length (R.cells run.now) ≤ 15 }
-    requires space { 2 * length (R.cells run.now) ≤ V.room (out.old, to.old) }
-    requires count { total_of items.old + 2 * length (R.cells run.now) ≤ COUNT_ROOM }
-    ensures given { Given V.gets (items.old, (out.old, to.old)) (items.new, (out.new, to.new))
-        (told (Some source) (raw_events source (R.cells run.now))) }
-    ensures space { V.room (out.old, to.old) ≤ V.room (out.new, to.new) + 2 * length (R.cells run.now) }
-    ensures count { total_of items.new ≤ total_of items.old + 2 * length (R.cells run.now) }
+    requires room { HasRoom V.room (2 * length (R.cells run.now)) (items.old, (out.old, to.old)) }
+    ensures { Given V.gets V.room (2 * length (R.cells run.now)) (items.old, (out.old, to.old))
+        (items.new, (out.new, to.new)) (told (Some source) (raw_events source (R.cells run.now))) }
 {
     let number = source.number();
     if number == NULL {
@@ -85,7 +73,7 @@ fn give_raw<R: Run, V: Receiver>(
 }
 
 /// The index of the source of this ID among the mapped ones.
-pub fn find(slots: &[Slot<SourceMachine>], id: SourceId) -> Option<usize>
+pub fn find(slots: &[Slot], id: SourceId) -> Option<usize>
     ensures { result ≡ position (λ s. s.id == id) slots.now }
 {
     slots.iter().position(|slot| slot.id == id)
@@ -108,7 +96,7 @@ pub fn stop_by(source: SourceId, fault: Option<Fault>) -> Option<Stop>
 /// Feeds a run to the machine of one slot.
 #[inline(always)]
 pub fn feed_slot<R: Run, V: Receiver>(
-    slots: &mut [Slot<SourceMachine>],
+    slots: &mut [Slot],
     index: usize,
     id: SourceId,
     run: &R,
@@ -117,23 +105,13 @@ pub fn feed_slot<R: Run, V: Receiver>(
     to: &mut V::To,
 ) -> Option<Fault>
     requires index { index < length slots.old }
-    requires live { AllLive is_live slots.old }
+    requires ready { AreReady PART_ROOM slots.old }
     requires size { length (R.cells run.now) ≤ FRAME_ROOM }
-    requires room { HaveRoom held_of skipped_by PART_ROOM slots.old }
-    requires space { 2 * length (R.cells run.now) ≤ V.room (out.old, to.old) }
-    requires count { total_of items.old + 2 * length (R.cells run.now) ≤ COUNT_ROOM }
-    ensures fed { Gives V.gets (items.old, (out.old, to.old)) (items.new, (out.new, to.new)) (λ given.
-        (front : List (Slot SourceMachine)) (s : Slot SourceMachine) (back : List (Slot SourceMachine)) →
-        slots.old ≡ front ++ (s ∷ back) → length front ≡ index →
-        SlotFed source_machines (record { front = front; slot = s; back = back }) slots.new (record {
-          run = R.cells run.now;
-          source = id;
-          before = [];
-          after = given;
-          fault = result;
-        })) }
-    ensures space { V.room (out.old, to.old) ≤ V.room (out.new, to.new) + 2 * length (R.cells run.now) }
-    ensures count { total_of items.new ≤ total_of items.old + 2 * length (R.cells run.now) }
+    requires room { HasRoom V.room (2 * length (R.cells run.now)) (items.old, (out.old, to.old)) }
+    ensures { Gives V.gets V.room (2 * length (R.cells run.now)) (items.old, (out.old, to.old))
+        (items.new, (out.new, to.new)) (λ given. (place : SlotPlace) →
+        slots.old ≡ place.front ++ (place.slot ∷ place.back) → length place.front ≡ index →
+        SlotFed place slots.new (record { run = R.cells run.now; source = id; events = given; fault = result })) }
 {
     match &mut slots[index].machine {
         SourceMachine::Itm(decoder) => feed_run(decoder, id, run, items, out, to),
@@ -143,32 +121,19 @@ pub fn feed_slot<R: Run, V: Receiver>(
 
 /// Takes a run of this source, or of none.
 pub fn take_run<R: Run, V: Receiver>(
-    slots: &mut [Slot<SourceMachine>],
+    slots: &mut [Slot],
     source: &Option<SourceId>,
     run: &R,
     items: &mut PerSource,
     out: &mut V,
     to: &mut V::To,
 ) -> Option<Stop>
-    requires own { id_of (R.cells run.now) ≡ source.now }
-    requires some { 0 < length (R.cells run.now) }
-    requires size { length (R.cells run.now) ≤ 15 }
-    requires live { AllLive is_live slots.old }
-    requires room { HaveRoom held_of skipped_by PART_ROOM slots.old }
-    requires space { 2 * length (R.cells run.now) ≤ V.room (out.old, to.old) }
-    requires count { total_of items.old + 2 * length (R.cells run.now) ≤ COUNT_ROOM }
+    requires own { IsRunOf source.now (R.cells run.now) }
+    requires ready { AreReady PART_ROOM slots.old }
+    requires room { HasRoom V.room (2 * length (R.cells run.now)) (items.old, (out.old, to.old)) }
     ensures slots { TookCells (2 * length (R.cells run.now)) slots.old slots.new result }
-    ensures space { V.room (out.old, to.old) ≤ V.room (out.new, to.new) + 2 * length (R.cells run.now) }
-    ensures count { total_of items.new ≤ total_of items.old + 2 * length (R.cells run.now) }
-    ensures took { Gives V.gets (items.old, (out.old, to.old)) (items.new, (out.new, to.new)) (λ given.
-        (runs : List (List Cell)) (n : ℕ) → AreDistinct (mapped_of reading_of slots.old) →
-        AllStand Stands slots.old runs → IsRunFrom n (R.cells run.now) →
-        Took Stands (mapped_of reading_of slots.old) slots.new runs n (record {
-          run = R.cells run.now;
-          before = [];
-          after = given;
-          stop = result;
-        })) }
+    ensures took { Gives V.gets V.room (2 * length (R.cells run.now)) (items.old, (out.old, to.old))
+        (items.new, (out.new, to.new)) (TakesRun slots.old slots.new (R.cells run.now) result) }
 {
     let Some(id) = *source else {
         return None;
@@ -182,7 +147,7 @@ pub fn take_run<R: Run, V: Receiver>(
 
 /// Takes the cells of a frame, each run to its source, up to a fault, and gives their events.
 pub fn take_frame<V: Receiver>(
-    slots: &mut [Slot<SourceMachine>],
+    slots: &mut [Slot],
     cells: &[Cell],
     counts: &mut ByteCounts,
     items: &mut PerSource,
@@ -190,24 +155,12 @@ pub fn take_frame<V: Receiver>(
     to: &mut V::To,
 ) -> Option<Stop>
     requires size { length cells.now ≤ 15 }
-    requires live { AllLive is_live slots.old }
-    requires room { HaveRoom held_of skipped_by FRAME_ROOM slots.old }
-    requires count { bytes_counted counts.old ≤ FRAME_ROOM }
-    requires space { 2 * length cells.now ≤ V.room (out.old, to.old) }
-    requires items { total_of items.old + 2 * length cells.now ≤ COUNT_ROOM }
-    ensures same { mapped_of reading_of slots.new ≡ mapped_of reading_of slots.old }
-    ensures live { result ≡ None → AllLive is_live slots.new }
-    ensures room { (n : ℕ) → HaveRoom held_of skipped_by n slots.old →
-        HaveRoom held_of skipped_by (n + 2 * length cells.now) slots.new }
-    ensures space { V.room (out.old, to.old) ≤ V.room (out.new, to.new) + 2 * length cells.now }
-    ensures items { total_of items.new ≤ total_of items.old + 2 * length cells.now }
-    ensures fed { Gives V.gets (items.old, (out.old, to.old)) (items.new, (out.new, to.new)) (λ given.
-        (runs : List (List Cell)) (n : ℕ) → AreDistinct (mapped_of reading_of slots.old) →
-        AllStand Stands slots.old runs → RunsBetween 0 n runs → RisesFrom n cells.now →
-        Fed Stands (mapped_of reading_of slots.old) slots.new runs (runs_of cells.now) given result) }
-    ensures counted { (whole runs : List (List Cell)) → result ≡ None → HasBytes counts.old whole runs →
-        HasBytes counts.new whole (runs ++ runs_of cells.now) }
-    ensures count { bytes_counted counts.new ≤ bytes_counted counts.old + length cells.now }
+    requires ready { MayTake slots.old counts.old }
+    requires room { HasRoom V.room (2 * length cells.now) (items.old, (out.old, to.old)) }
+    ensures slots { TookCells (2 * length cells.now) slots.old slots.new result }
+    ensures fed { Gives V.gets V.room (2 * length cells.now) (items.old, (out.old, to.old))
+        (items.new, (out.new, to.new)) (TakesFrame slots.old slots.new cells.now result) }
+    ensures counts { CountsFrame counts.old counts.new cells.now result }
 {
     let mut rest = cells;
     while !rest.is_empty() {

@@ -1,15 +1,14 @@
 //! A mapped source, and a run of its bytes.
 
-ghost use Rattle.std.specs.Prelude.{◌≡◌, ◌+◌, ◌*◌, ◌<◌, ◌≤◌, ◌++◌, ◌∷◌, [], List, length, take, is_none, true, None, Some};
+ghost use Rattle.std.specs.Prelude.{◌≡◌, ◌+◌, ◌-◌, ◌*◌, ◌<◌, ◌≤◌, ◌∷◌, [], List, length, take, true, None, Some};
 ghost use Rattle.std.specs.Prelude.{ℕ, IfSome};
 ghost use Rattle.source_merge.specs.Names.{PassesOver, ToldFits, told_by, told_in, AHEAD, Placed, given_after};
 ghost use Rattle.source_merge.specs.Names.{StepFits, given_by, item_at, COUNT_ROOM, told, lifted, EventFits};
 ghost use Rattle.source_merge.specs.Names.{PacketFits, TakesNone};
 ghost use Rattle.trace_values.specs.declared.taking.Found.TheVariants.{Ends, Waits};
 ghost use Rattle.source_merge.specs.declared.slot.TheConstants.{FRAME_ROOM};
-ghost use Rattle.source_merge.specs.Counting.{total_of};
-ghost use Rattle.source_merge.specs.Feeding.{Feeds, IsEarly, IsEarlyFrom, step_fault};
-ghost use Rattle.source_merge.specs.Giving.{Given, Gives};
+ghost use Rattle.source_merge.specs.Feeding.{MachineFed, PartFed, step_fault};
+ghost use Rattle.source_merge.specs.Giving.{Given, Gives, HasRoom};
 
 use crate::counts::PerSource;
 use crate::receiver::Receiver;
@@ -33,14 +32,14 @@ pub type Events = ArrayVec<Event<Packet>, EVENTS>;
 
 /// A mapped source, and what reads its bytes.
 #[derive(Drop)]
-pub struct Slot<M> {
+pub struct Slot {
     pub id: SourceId,
-    pub machine: M,
+    pub machine: SourceMachine,
 }
 
 /// The default slot only fills the unused places of a buffer.
-impl Default for Slot<SourceMachine> {
-    fn default() -> Slot<SourceMachine> {
+impl Default for Slot {
+    fn default() -> Slot {
         Slot {
             id: SourceId::default(),
             machine: SourceMachine::new(SourceKind::Itm, PacketsMode::Aligned, Order::Msn),
@@ -52,11 +51,9 @@ impl Default for Slot<SourceMachine> {
 #[inline(always)]
 pub fn give<V: Receiver>(items: &mut PerSource, out: &mut V, to: &mut V::To, event: Event<Packet>)
     requires fits { EventFits PacketFits event }
-    requires space { 1 ≤ V.room (out.old, to.old) }
-    requires count { total_of items.old + 1 ≤ COUNT_ROOM }
-    ensures given { Given V.gets (items.old, (out.old, to.old)) (items.new, (out.new, to.new)) (event ∷ []) }
-    ensures space { V.room (out.old, to.old) ≤ V.room (out.new, to.new) + 1 }
-    ensures count { total_of items.new ≤ total_of items.old + 1 }
+    requires room { HasRoom V.room 1 (items.old, (out.old, to.old)) }
+    ensures { Given V.gets V.room 1 (items.old, (out.old, to.old)) (items.new, (out.new, to.new))
+        (event ∷ []) }
 {
     items.add_item(&event);
     out.give(to, event);
@@ -73,12 +70,9 @@ fn give_step<V: Receiver>(
     step: Step<Packet>,
 ) -> Option<Fault>
     requires fits { StepFits PacketFits step }
-    requires space { 2 ≤ V.room (out.old, to.old) }
-    requires count { total_of items.old + 2 ≤ COUNT_ROOM }
-    ensures given { Given V.gets (items.old, (out.old, to.old)) (items.new, (out.new, to.new))
+    requires room { HasRoom V.room 2 (items.old, (out.old, to.old)) }
+    ensures given { Given V.gets V.room 2 (items.old, (out.old, to.old)) (items.new, (out.new, to.new))
         (told (Some source) (lifted (given_by at step))) }
-    ensures space { V.room (out.old, to.old) ≤ V.room (out.new, to.new) + 2 }
-    ensures count { total_of items.new ≤ total_of items.old + 2 }
     ensures fault { result ≡ step_fault step }
 {
     match step {
@@ -127,12 +121,9 @@ fn give_packet<V: Receiver>(
     taken: TakenAtOnce<Packet>,
 )
     requires fits { IfSome taken.item PacketFits }
-    requires space { 1 ≤ V.room (out.old, to.old) }
-    requires count { total_of items.old + 1 ≤ COUNT_ROOM }
-    ensures given { Given V.gets (items.old, (out.old, to.old)) (items.new, (out.new, to.new))
+    requires room { HasRoom V.room 1 (items.old, (out.old, to.old)) }
+    ensures { Given V.gets V.room 1 (items.old, (out.old, to.old)) (items.new, (out.new, to.new))
         (told (Some source) (lifted (given_after at (item_at taken.half taken.item)))) }
-    ensures space { V.room (out.old, to.old) ≤ V.room (out.new, to.new) + 1 }
-    ensures count { total_of items.new ≤ total_of items.old + 1 }
 {
     if let Some(packet) = taken.item {
         let what = What::Packet(packet);
@@ -151,12 +142,9 @@ fn give_told<V: Receiver>(
     taken: TakenAtOnce<Told>,
 )
     requires fits { IfSome taken.item (λ t. ToldFits t × V.takes out.old source (told_by t)) }
-    requires space { 1 ≤ V.room (out.old, to.old) }
-    requires count { total_of items.old + 1 ≤ COUNT_ROOM }
-    ensures given { Given V.gets (items.old, (out.old, to.old)) (items.new, (out.new, to.new))
+    requires room { HasRoom V.room 1 (items.old, (out.old, to.old)) }
+    ensures { Given V.gets V.room 1 (items.old, (out.old, to.old)) (items.new, (out.new, to.new))
         (told (Some source) (lifted (given_after at (told_in taken.half taken.item)))) }
-    ensures space { V.room (out.old, to.old) ≤ V.room (out.new, to.new) + 1 }
-    ensures count { total_of items.new ≤ total_of items.old + 1 }
 {
     if let Some(said) = taken.item {
         items.add_event(source);
@@ -219,33 +207,19 @@ fn feed_slowly<M: Finds, R: Run, V: Receiver>(
 ) -> RunStep
     requires live { M.live machine.old ≡ true }
     requires done { done < length (R.cells run.now) }
-    requires room { M.held_units machine.old + M.skipped_units machine.old + 2 * length (R.cells run.now) ≤
+    requires units { M.held_units machine.old + M.skipped_units machine.old + 2 * length (R.cells run.now) ≤
         COUNT_ROOM + 2 * done }
-    requires space { 2 * length (R.cells run.now) ≤ V.room (out.old, to.old) + 2 * done }
-    requires count { total_of items.old + 2 * length (R.cells run.now) ≤ COUNT_ROOM + 2 * done }
-    ensures same { M.reads machine.new ≡ M.reads machine.old }
+    requires room { HasRoom V.room (2 * (length (R.cells run.now) - done)) (items.old, (out.old, to.old)) }
     ensures bytes { (0 < result.bytes) × (done + result.bytes ≤ length (R.cells run.now)) }
-    ensures feeds { Gives V.gets (items.old, (out.old, to.old)) (items.new, (out.new, to.new)) (λ given.
-        (u : List Placed) (before : List (Event Packet)) →
-        Feeds (M.reads machine.old) (M.stands machine.old) u (record {
-          run = take done (R.cells run.now);
-          source = source;
-          before = [];
-          after = before;
-          fault = None;
-        }) → Feeds (M.reads machine.old) (M.stands machine.new) u (record {
-          run = take (done + result.bytes) (R.cells run.now);
-          source = source;
-          before = [];
-          after = before ++ given;
-          fault = result.fault;
-        })) }
-    ensures early { IsEarlyFrom done (M.reads machine.old) (M.stands machine.old) (R.cells run.now) result.fault }
-    ensures live { M.live machine.new ≡ is_none result.fault }
-    ensures few { M.held_units machine.new + M.skipped_units machine.new ≤
-        M.held_units machine.old + M.skipped_units machine.old + 2 * result.bytes }
-    ensures space { V.room (out.old, to.old) ≤ V.room (out.new, to.new) + 2 * result.bytes }
-    ensures count { total_of items.new ≤ total_of items.old + 2 * result.bytes }
+    ensures fed { Gives V.gets V.room (2 * result.bytes) (items.old, (out.old, to.old)) (items.new, (out.new, to.new))
+        (λ given. PartFed (record {
+          reading = M.reads;
+          stands = M.stands;
+          live = M.live;
+          held = M.held_units;
+          skipped = M.skipped_units;
+        }) machine.old machine.new done result.bytes
+        (record { run = R.cells run.now; source = source; events = given; fault = result.fault })) }
 {
     let bytes = &run.ahead()[done..run.len()];
     if let Some(taken) = machine.take(bytes) {
@@ -275,24 +249,18 @@ pub fn feed_run<M: Finds, R: Run, V: Receiver>(
 ) -> Option<Fault>
     requires live { M.live machine.old ≡ true }
     requires size { length (R.cells run.now) ≤ FRAME_ROOM }
-    requires room { M.held_units machine.old + M.skipped_units machine.old + 2 * length (R.cells run.now) ≤ COUNT_ROOM }
-    requires space { 2 * length (R.cells run.now) ≤ V.room (out.old, to.old) }
-    requires count { total_of items.old + 2 * length (R.cells run.now) ≤ COUNT_ROOM }
-    ensures same { M.reads machine.new ≡ M.reads machine.old }
-    ensures feeds { Gives V.gets (items.old, (out.old, to.old)) (items.new, (out.new, to.new)) (λ given.
-        (u : List Placed) → M.stands machine.old u → Feeds (M.reads machine.old) (M.stands machine.new) u (record {
-          run = R.cells run.now;
-          source = source;
-          before = [];
-          after = given;
-          fault = result;
-        })) }
-    ensures early { IsEarly (M.reads machine.old) (M.stands machine.old) (R.cells run.now) result }
-    ensures live { M.live machine.new ≡ is_none result }
-    ensures few { M.held_units machine.new + M.skipped_units machine.new ≤
-        M.held_units machine.old + M.skipped_units machine.old + 2 * length (R.cells run.now) }
-    ensures space { V.room (out.old, to.old) ≤ V.room (out.new, to.new) + 2 * length (R.cells run.now) }
-    ensures count { total_of items.new ≤ total_of items.old + 2 * length (R.cells run.now) }
+    requires units { M.held_units machine.old + M.skipped_units machine.old + 2 * length (R.cells run.now) ≤
+        COUNT_ROOM }
+    requires room { HasRoom V.room (2 * length (R.cells run.now)) (items.old, (out.old, to.old)) }
+    ensures { Gives V.gets V.room (2 * length (R.cells run.now)) (items.old, (out.old, to.old))
+        (items.new, (out.new, to.new)) (λ given. MachineFed (record {
+          reading = M.reads;
+          stands = M.stands;
+          live = M.live;
+          held = M.held_units;
+          skipped = M.skipped_units;
+        }) machine.old machine.new
+        (record { run = R.cells run.now; source = source; events = given; fault = result })) }
 {
     let ahead = run.ahead();
     let mut done = 0;

@@ -156,7 +156,7 @@ impl FrameCells for SplitFrame<'_> {
     #[inline(always)]
     fn take<V: Receiver>(
         &self,
-        slots: &mut [Slot<SourceMachine>],
+        slots: &mut [Slot],
         counts: &mut ByteCounts,
         items: &mut PerSource,
         out: &mut V,

@@ -1,7 +1,7 @@
 use Rattle.std.proofs.Common.{◌≡◌, ◌+◌, [], ◌∷◌, ◌++◌, take, sym, ◌∙◌, ap, subst, arith, Option}
 use Rattle.std.specs.Prelude.{◌==◌}
 use Rattle.recovering_machines.specs.declared.source.RecoveringSource.{RecoveringSource}
-use Rattle.recovery_engine.specs.declared.slot.Slot.{Slot}
+use Rattle.recovery_engine.specs.declared.slot.RecoveringSlot.{RecoveringSlot}
 use Rattle.recovery_engine.specs.Fresh.{IsAdded, IsFresh}
 use Rattle.recovery_engine.specs.Slots.{source_at, total}
 use Rattle.recovery_engine.proofs.Adding.{added_push, none_yet, source_push, total_push, pushed}
@@ -17,7 +17,7 @@ loop-id-init c = record {
 pub loop-id-preserved : goal.loop-id-preserved
 loop-id-preserved c =
     let i = c.loop-id.invariant in
-    let slot : Slot = record { id = c.id-item.result; source = c.new.result } in
+    let slot : RecoveringSlot = record { id = c.id-item.result; source = c.new.result } in
     let all : c.push.new.self.items ≡ c.loop-id.slots.items ++ slot ∷ [] = c.push.ensures.items in
     let fresh : IsFresh c.args.plan.now c.args.kind c.new.result = record {
       kind_is = c.new.ensures.kind;

@@ -1,10 +1,12 @@
-use Rattle.std.proofs.Common.{◌≡◌, ℕ, ◌+◌, ◌-◌, ◌<◌, ◌≤◌, ◌++◌, [], ◌∷◌, List, length, take, drop, get_or, refl, sym, ◌∙◌, ap, subst, arith, Some, None, Option}
+use Rattle.std.proofs.Common.{◌≡◌, ℕ, ◌+◌, ◌-◌, ◌*◌, ◌<◌, ◌≤◌, ◌++◌, [], ◌∷◌, List, length, take, drop, get_or, refl, sym, ◌∙◌, ap, subst, arith, Some, None, Option}
+use Rattle.std.specs.Prelude.{is_none}
 use Rattle.std.proofs.lemmas.List.{drop_more, take_more, take-append-drop, length-drop, length-take-le}
 use Rattle.source_merge.specs.Names.{Cell, Fault, given_by, given_after, item_at, told, lifted, placed_run, RisesFrom}
 use Rattle.source_merge.specs.Feeding.{IsEarlyFrom}
-use Rattle.source_merge.proofs.RunSteps.{feeds_more, feeds_kept, grown_as}
+use Rattle.source_merge.proofs.RunSteps.{goes_as, feeds_more, feeds_kept, grown_as}
 use Rattle.source_merge.proofs.Packets.{feeds_part, front, packet_parts, packet_bytes}
 use Rattle.source_merge.proofs.Early.{early}
+use Rattle.source_merge.proofs.Givings.{given_within}
 use Rattle.source_merge.proofs.ByParts.{FeedsBy}
 use Rattle.source_merge.proofs.slot.feed_slowly.Given as given
 use Rattle.source_merge.proofs.slot.feed_slowly.Goals as goal
@@ -20,8 +22,8 @@ rest_length run done n ahead e l long count h =
     let t = length-take-le (n - done) (drop done ahead) (omega (arith, d, e, l, long)) in
     omega (arith, h, t, e, l)
 
-pub returns-in-Some-clause-feeds : goal.returns-in-Some-clause-feeds
-returns-in-Some-clause-feeds g c =
+pub returns-in-Some-clause-fed : goal.returns-in-Some-clause-fed
+returns-in-Some-clause-fed g c =
     let run = g.R.Run.cells c.args.run.now in
     let done = c.args.done in
     let taken = c.in-Some.taken in
@@ -40,38 +42,20 @@ returns-in-Some-clause-feeds g c =
     let step = item_at taken.half taken.item in
     let es = told (Some c.args.source) (lifted (given_after last.at step)) in (
       es,
-      c.give_packet.ensures.given,
-      λ u old h.
-          subst (λ (l : List Cell). FeedsBy reading now u l c.args.source [] (old ++ es) None)
-          (sym (packet_parts run done taken.bytes last some within is))
-          (feeds_part reading u c.args.source was now (take done run) before last step [] old (old ++ es) h
-          (λ w k. found.passes w (placed_run before) last.at last.byte k
-          (packet_bytes run done taken.bytes last some within is ahead c.ahead.ensures.bytes long
-          ∙ ap (λ (n : ℕ). take taken.bytes (take (n - done) (drop done ahead))) (sym bound)))
-          refl),
-    )
-
-pub returns-clause-feeds : goal.returns-clause-feeds
-returns-clause-feeds g c =
-    let reading = g.M.Finds.reads c.args.machine.now in
-    let run = g.R.Run.cells c.args.run.now in
-    let done = c.args.done in
-    let cell = c.cell-cell.result in
-    let was = g.M.Machine.stands c.take.new.self in
-    let now = g.M.Machine.stands c.step-step.new.self in
-    let none = c.in_default.is in
-    let es = told (Some c.args.source) (lifted (given_by cell.at c.step-step.result)) in (
-      es,
-      c.give_step.ensures.given,
-      λ u old h.
-          subst (λ (l : List Cell). FeedsBy reading now u l c.args.source [] (old ++ es) c.give_step.result)
-          (sym (next_cell run done cell c.requires.done c.cell-cell.ensures))
-          (feeds_more reading u c.args.source was now (take done run) cell c.step-step.result c.give_step.result
-          [] old (old ++ es)
-          (feeds_kept reading u c.args.source (g.M.Machine.stands c.args.machine.now) was (take done run) [] old None (c.take.ensures.none none).0 h)
-          (λ w k. c.step-step.ensures.list w k)
-          (λ w k. grown_as (g.M.Finds.reads c.take.new.self) reading c.take.ensures.same w cell c.step-step.result (c.step-step.ensures.step w k))
-          c.give_step.ensures.fault refl),
+      given_within g.V.Receiver.gets g.V.Receiver.room 1 (2 * taken.bytes) _ _ es (omega arith) c.give_packet.ensures,
+      record {
+        same = c.take.ensures.same;
+        live = c.take.ensures.live;
+        few = found.few;
+        feeds = λ u old h.
+            subst (λ (l : List Cell). FeedsBy reading now u l c.args.source (old ++ es) None)
+            (sym (packet_parts run done taken.bytes last some within is))
+            (feeds_part reading u c.args.source was now (take done run) before last step old h
+            (λ w k. found.passes w (placed_run before) last.at last.byte k
+            (packet_bytes run done taken.bytes last some within is ahead c.ahead.ensures.bytes long
+            ∙ ap (λ (n : ℕ). take taken.bytes (take (n - done) (drop done ahead))) (sym bound))));
+        early = tt;
+      },
     )
 
 -- before a fault that was told
@@ -91,5 +75,30 @@ early_at g c (Some f) e = λ u s n r given h.
     (c.step-step.ensures.step _ ((c.take.ensures.none c.in_default.is).0 (u ++ placed_run (take done run)) s)))
     n (subst (λ (l : List Cell). RisesFrom n l) parts r) given (ap (λ (l : List Cell). (reading (u ++ placed_run l)).given) (sym parts) ∙ h)
 
-pub returns-clause-early : goal.returns-clause-early
-returns-clause-early g c = early_at g c c.give_step.result refl
+pub returns-clause-fed : goal.returns-clause-fed
+returns-clause-fed g c =
+    let reading = g.M.Finds.reads c.args.machine.now in
+    let run = g.R.Run.cells c.args.run.now in
+    let done = c.args.done in
+    let cell = c.cell-cell.result in
+    let was = g.M.Machine.stands c.take.new.self in
+    let now = g.M.Machine.stands c.step-step.new.self in
+    let none = c.in_default.is in
+    let es = told (Some c.args.source) (lifted (given_by cell.at c.step-step.result)) in (
+      es,
+      c.give_step.ensures.given,
+      record {
+        same = c.step-step.ensures.same ∙ c.take.ensures.same;
+        live = c.step-step.ensures.tells.0 ∙ goes_as c.step-step.result ∙ sym (ap (λ (o : Option Fault). is_none o) c.give_step.ensures.fault);
+        few = (let a = c.step-step.ensures.few in let b = (c.take.ensures.none none).1 in omega (arith, a, b));
+        feeds = λ u old h.
+            subst (λ (l : List Cell). FeedsBy reading now u l c.args.source (old ++ es) c.give_step.result)
+            (sym (next_cell run done cell c.requires.done c.cell-cell.ensures))
+            (feeds_more reading u c.args.source was now (take done run) cell c.step-step.result c.give_step.result old
+            (feeds_kept reading u c.args.source (g.M.Machine.stands c.args.machine.now) was (take done run) old None (c.take.ensures.none none).0 h)
+            (λ w k. c.step-step.ensures.list w k)
+            (λ w k. grown_as (g.M.Finds.reads c.take.new.self) reading c.take.ensures.same w cell c.step-step.result (c.step-step.ensures.step w k))
+            c.give_step.ensures.fault);
+        early = early_at g c c.give_step.result refl;
+      },
+    )

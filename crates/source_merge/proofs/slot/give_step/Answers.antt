@@ -1,4 +1,4 @@
-use Rattle.std.proofs.Common.{◌≡◌, ◌∷◌, [], ap, Some}
+use Rattle.std.proofs.Common.{◌≡◌, ◌∷◌, [], ap, arith, Some}
 use Rattle.source_merge.specs.Names.{Step, given_by, told, lifted, Packet}
 use Rattle.source_merge.proofs.Givings.{given_as, given_more}
 use Rattle.source_merge.proofs.slot.give_step.Goals as goal
@@ -12,6 +12,6 @@ returns-in-Locked-clause-given g c =
     let whole = ap (λ (s : Step Packet). told (Some c.args.source) (lifted (given_by c.args.at s))) c.in-Locked.is in
     let events : c.event_at-in-Locked.result ∷ c.event_at-in-Locked-2.result ∷ []
     ≡ told (Some c.args.source) (lifted (given_by c.args.at c.args.step)) = cc in
-    given_as gets _ _ _ _ events
-    (given_more gets g.met.V.Receiver.gets_more _ _ _ _ _ c.give-in-Locked.ensures.given
-    c.give-in-Locked-2.ensures.given)
+    given_as gets g.V.Receiver.room 2 _ _ _ _ events
+    (given_more gets g.V.Receiver.room g.met.V.Receiver.gets_more 1 1 2 _ _ _ _ _ (omega arith) c.give-in-Locked.ensures
+    c.give-in-Locked-2.ensures)

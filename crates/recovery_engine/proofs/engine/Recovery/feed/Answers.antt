@@ -6,7 +6,7 @@ use Rattle.recovery_report.specs.Words.{parts_by}
 use Rattle.recovery_report.specs.Port.{recovered}
 use Rattle.recovery_report.specs.Report.{parts_in}
 use Rattle.recovery_engine.specs.Slots.{StandFor}
-use Rattle.recovery_engine.specs.declared.slot.Slot.{Slot}
+use Rattle.recovery_engine.specs.declared.slot.RecoveringSlot.{RecoveringSlot}
 use Rattle.source_merge.proofs.Refilled.{refilled}
 use Rattle.recovery_engine.proofs.Feeding.{stands_more}
 use Rattle.recovery_engine.proofs.engine.Recovery.feed.Goals as goal
@@ -23,7 +23,7 @@ returns-clause-list g c = λ u k.
     record {
       port = c.feed_port-step.ensures.list u k.port;
       sources =
-          subst (λ (l : List Slot). StandFor plan (parts_in (recovered plan.frames (u ++ b ∷ []))) l) (sym all)
+          subst (λ (l : List RecoveringSlot). StandFor plan (parts_in (recovered plan.frames (u ++ b ∷ []))) l) (sym all)
           (stands_more g.V.Hearer.gets plan u (u ++ b ∷ [])
           (parts_by 0 c.args.at c.feed_port-step.result c.as_slice.result.now)
           (c.as_mut_slice.result.now, c.args.out.now) (new, c.take_step.new.out)
@@ -31,7 +31,7 @@ returns-clause-list g c = λ u k.
           ∙ ap (λ l. parts_in (recovered plan.frames u) ++ parts_by 0 c.args.at c.feed_port-step.result l)
           (sym c.as_slice.ensures.value))
           c.take_step.ensures.takes
-          (subst (λ (l : List Slot). StandFor plan (parts_in (recovered plan.frames u)) l)
+          (subst (λ (l : List RecoveringSlot). StandFor plan (parts_in (recovered plan.frames u)) l)
           (sym c.as_mut_slice.ensures.value) k.sources));
       count = (let e = k.count in let l = length_push u b in omega (arith, e, l));
     }

@@ -1,7 +1,7 @@
-use Rattle.std.proofs.Common.{ℕ, ◌+◌, ◌*◌, ◌/◌, sym, ◌∙◌, arith, subst}
+use Rattle.std.proofs.Common.{List, None, ℕ, ◌+◌, ◌*◌, ◌/◌, sym, ◌∙◌, arith, subst}
 use Rattle.std.specs.Prelude.{slice_index}
 use Rattle.trace_values.specs.Cells.{source_id}
-use Rattle.frame_grammar.specs.Frame.{cells, cells_below}
+use Rattle.frame_grammar.specs.Frame.{cells, cells_below, run_at}
 use Rattle.frame_grammar.proofs.Looks.{starts}
 use Rattle.frame_grammar.proofs.Pairs.{even_named, even_plain}
 use Rattle.source_counts.specs.declared.source_counts.SourceCounts.{SourceCounts}
@@ -44,50 +44,45 @@ loop-pair-preserved c =
           (even_named (slice_index frame (2 * k)) w.if-mixed-eq0.false) (c.fits-frame (2 * k)) w.from-deferred.ensures (let h = w.from-deferred.ensures in omega arith) run c.loop-pair.invariant)))
     ]
 
-pub returns-then-last-eq0-clause-bytes : goal.returns-then-last-eq0-clause-bytes
-returns-then-last-eq0-clause-bytes c = λ frames at s.
-    let frame = c.args.frame.now in
+-- with its last run all of the frame is counted
+plain : (c : goal.After-new) → (at : List ℕ) → IsLazy c.args.self.now c.add_run-then-last-eq0.new.self
+    (cells c.args.frame.now at c.args.before) None (run_at c.args.frame.now 14 + 1) 0
+plain c at =
     let e = c.add_run-then-last-eq0.ensures in
     let run : IsRun c.loop-pair.self c.add_run-then-last-eq0.new.self (source_id c.loop-pair.id) (c.loop-pair.pending + 1) =
     record { bytes = e.bytes; items = e.items; unattributed = e.unattributed; frames = e.frames; total = e.total } in
-    let l = last_plain frame at c.args.before c.args.self.now c.loop-pair.self c.add_run-then-last-eq0.new.self (source_id c.loop-pair.id) c.loop-pair.pair c.loop-pair.pending (omega arith)
-    (even_plain (slice_index frame 14) c.if-last-eq0.true) c.loop-pair.invariant.id run (c.loop-pair.invariant.part at) in
-    record {
-      bytes = bytes_counted _ _ frames (cells frame at c.args.before) _ l s;
-      unattributed = unattributed_counted _ _ frames (cells frame at c.args.before) _ l s;
-      frames = frames_counted _ _ frames (cells frame at c.args.before) _ l s;
-    }
+    last_plain c.args.frame.now at c.args.before c.args.self.now c.loop-pair.self c.add_run-then-last-eq0.new.self (source_id c.loop-pair.id)
+    c.loop-pair.pair c.loop-pair.pending (omega arith) (even_plain (slice_index c.args.frame.now 14) c.if-last-eq0.true)
+    c.loop-pair.invariant.id run (c.loop-pair.invariant.part at)
+
+named : (c : goal.After-new-else-last-eq0) → (at : List ℕ) → IsLazy c.args.self.now c.add_run-else-last-eq0.new.self
+    (cells c.args.frame.now at c.args.before) None (run_at c.args.frame.now 14 + 1) 0
+named c at =
+    let e = c.add_run-else-last-eq0.ensures in
+    let run : IsRun c.loop-pair.self c.add_run-else-last-eq0.new.self (source_id c.loop-pair.id) c.loop-pair.pending =
+    record { bytes = e.bytes; items = e.items; unattributed = e.unattributed; frames = e.frames; total = e.total } in
+    last_named c.args.frame.now at c.args.before c.args.self.now c.loop-pair.self c.add_run-else-last-eq0.new.self (source_id c.loop-pair.id)
+    c.loop-pair.pair c.loop-pair.pending (omega arith) (even_named (slice_index c.args.frame.now 14) c.if-last-eq0.false) run
+    (c.loop-pair.invariant.part at)
+
+pub returns-then-last-eq0-clause-bytes : goal.returns-then-last-eq0-clause-bytes
+returns-then-last-eq0-clause-bytes c = λ frames at s. record {
+  bytes = bytes_counted _ _ frames (cells c.args.frame.now at c.args.before) _ (plain c at) s;
+  unattributed = unattributed_counted _ _ frames (cells c.args.frame.now at c.args.before) _ (plain c at) s;
+  frames = frames_counted _ _ frames (cells c.args.frame.now at c.args.before) _ (plain c at) s;
+}
 
 pub returns-then-last-eq0-clause-items : goal.returns-then-last-eq0-clause-items
 returns-then-last-eq0-clause-items c = λ frames at s.
-    let frame = c.args.frame.now in
-    let e = c.add_run-then-last-eq0.ensures in
-    let run : IsRun c.loop-pair.self c.add_run-then-last-eq0.new.self (source_id c.loop-pair.id) (c.loop-pair.pending + 1) =
-    record { bytes = e.bytes; items = e.items; unattributed = e.unattributed; frames = e.frames; total = e.total } in
-    let l = last_plain frame at c.args.before c.args.self.now c.loop-pair.self c.add_run-then-last-eq0.new.self (source_id c.loop-pair.id) c.loop-pair.pair c.loop-pair.pending (omega arith)
-    (even_plain (slice_index frame 14) c.if-last-eq0.true) c.loop-pair.invariant.id run (c.loop-pair.invariant.part at) in
-    items_counted _ _ frames (cells frame at c.args.before) _ l s
+    items_counted _ _ frames (cells c.args.frame.now at c.args.before) _ (plain c at) s
 
 pub returns-else-last-eq0-clause-bytes : goal.returns-else-last-eq0-clause-bytes
-returns-else-last-eq0-clause-bytes c = λ frames at s.
-    let frame = c.args.frame.now in
-    let e = c.add_run-else-last-eq0.ensures in
-    let run : IsRun c.loop-pair.self c.add_run-else-last-eq0.new.self (source_id c.loop-pair.id) c.loop-pair.pending =
-    record { bytes = e.bytes; items = e.items; unattributed = e.unattributed; frames = e.frames; total = e.total } in
-    let l = last_named frame at c.args.before c.args.self.now c.loop-pair.self c.add_run-else-last-eq0.new.self (source_id c.loop-pair.id) c.loop-pair.pair c.loop-pair.pending (omega arith)
-    (even_named (slice_index frame 14) c.if-last-eq0.false) run (c.loop-pair.invariant.part at) in
-    record {
-      bytes = bytes_counted _ _ frames (cells frame at c.args.before) _ l s;
-      unattributed = unattributed_counted _ _ frames (cells frame at c.args.before) _ l s;
-      frames = frames_counted _ _ frames (cells frame at c.args.before) _ l s;
-    }
+returns-else-last-eq0-clause-bytes c = λ frames at s. record {
+  bytes = bytes_counted _ _ frames (cells c.args.frame.now at c.args.before) _ (named c at) s;
+  unattributed = unattributed_counted _ _ frames (cells c.args.frame.now at c.args.before) _ (named c at) s;
+  frames = frames_counted _ _ frames (cells c.args.frame.now at c.args.before) _ (named c at) s;
+}
 
 pub returns-else-last-eq0-clause-items : goal.returns-else-last-eq0-clause-items
 returns-else-last-eq0-clause-items c = λ frames at s.
-    let frame = c.args.frame.now in
-    let e = c.add_run-else-last-eq0.ensures in
-    let run : IsRun c.loop-pair.self c.add_run-else-last-eq0.new.self (source_id c.loop-pair.id) c.loop-pair.pending =
-    record { bytes = e.bytes; items = e.items; unattributed = e.unattributed; frames = e.frames; total = e.total } in
-    let l = last_named frame at c.args.before c.args.self.now c.loop-pair.self c.add_run-else-last-eq0.new.self (source_id c.loop-pair.id) c.loop-pair.pair c.loop-pair.pending (omega arith)
-    (even_named (slice_index frame 14) c.if-last-eq0.false) run (c.loop-pair.invariant.part at) in
-    items_counted _ _ frames (cells frame at c.args.before) _ l s
+    items_counted _ _ frames (cells c.args.frame.now at c.args.before) _ (named c at) s

@@ -1,18 +1,15 @@
 use Rattle.std.proofs.Common.{◌≡◌, ℕ, ◌+◌, ◌*◌, List, [], ◌++◌, length, sym, ◌∙◌, ap, subst, arith, Option}
-use Rattle.std.proofs.Common.{length-append}
 use Rattle.std.specs.Prelude.{is_none}
 use Rattle.source_merge.specs.Names.{placed_from, units_of, FramesMode, cells, id_after, offsets_of, without_halves}
-use Rattle.source_merge.specs.Names.{GrowsByFrame, port_reading, BytesRise, sources_by, runs_in, SourceMachine}
-use Rattle.source_merge.specs.Names.{reading_of, Stands as MachineStands, held_of, skipped_by}
-use Rattle.trace_values.proofs.Placing.{length-placed_from}
+use Rattle.source_merge.specs.Names.{GrowsByFrame, port_reading, sources_by, runs_in}
 use Rattle.frame_grammar.proofs.Wholes.{whole_size}
 use Rattle.source_merge.specs.declared.slot.Slot.{Slot}
 use Rattle.source_merge.specs.Answering.{port_of, report_of, fault_of}
 use Rattle.source_merge.specs.Routing.{mapped_of, AllStand}
 use Rattle.source_merge.proofs.FrameCounts.{no_fault, are_items}
-use Rattle.source_merge.proofs.Going.{rise_to, rise_block, end_block}
-use Rattle.source_merge.proofs.Slots.{room_more}
-use Rattle.source_merge.proofs.Standing.{none_there, room_if, room_now}
+use Rattle.source_merge.proofs.Growing.{longer}
+use Rattle.source_merge.proofs.Slots.{ready_more}
+use Rattle.source_merge.proofs.Standing.{none_there}
 use Rattle.source_merge.proofs.engine.Engine.count_whole.Goals as goal
 
 pub invariant_of-self : goal.invariant_of-self
@@ -23,16 +20,12 @@ invariant_of-self c =
     record {
       sound = self.sound;
       few = (let a = self.few in let b = c.pass_frame.ensures.few in omega arith);
-      room =
-          room_if held_of skipped_by self.live (30 * (n + bytes)) self.slots.items
-          (λ k. room_more held_of skipped_by (30 * n) (30 * (n + bytes)) self.slots.items (omega arith)
-          (room_now held_of skipped_by self.live (30 * n) self.slots.items k self.room));
+      ready = λ k. ready_more (30 * n) (30 * (n + bytes)) self.slots.items (omega arith) (self.ready k);
       size = λ k. (let a = self.size k in let b = c.add_frame-after.ensures.size in omega arith);
       whole = (let a = self.whole in let b = c.add_frame-after.ensures.whole in omega arith);
       within = (let a = self.within in let b = c.requires.offsets.0 in omega arith);
       limit = (let a = c.requires.offsets.1 in omega arith);
       port_live = λ k. c.pass_frame.ensures.live;
-      lives = self.lives;
     }
 
 pub returns-clause-list : goal.returns-clause-list
@@ -47,10 +40,8 @@ returns-clause-list c = λ u w h whole.
     let next = u ++ placed_from at w in
     let spelled = whole.spelled at in
     let long : length w ≡ 16 + 2 * halves = whole_size w frame halves whole in
-    let rise = rise_to u self.next at (subst (λ (k : ℕ). BytesRise 0 k u) (sym h.next) h.rising) c.requires.offsets.0 in
-    let rises = rise_block u at w rise in
-    let end = end_block w u at (let a = long in omega arith) in
-    let none : sources_by plan ≡ [] = sym h.sources ∙ ap (λ (l : List (Slot SourceMachine)). mapped_of reading_of l) c.requires.none in
+    let on = longer self u h at c.requires.offsets.0 w (let a = long in omega arith) in
+    let none : sources_by plan ≡ [] = sym h.sources ∙ ap (λ (l : List Slot). mapped_of l) c.requires.none in
     let grows : GrowsByFrame (port_of plan u) (port_of plan next) halves (cells frame (offsets_of f) id) =
     subst (λ (m : FramesMode). GrowsByFrame (port_reading m u) (port_reading m next) halves (cells frame (offsets_of f) id)) h.mode
     (subst (λ (l : List ℕ). GrowsByFrame (port_reading self.port.mode u) (port_reading self.port.mode next) halves (cells l (offsets_of f) id))
@@ -66,16 +57,15 @@ returns-clause-list c = λ u w h whole.
           ∙ ap (λ (l : List ℕ). id_after l self.port.port.id) (sym (whole.frame_is at)));
       mode = c.pass_frame.ensures.same ∙ h.mode;
       sources = h.sources;
-      rising = subst (λ (k : ℕ). BytesRise 0 k next) (sym end) rises;
-      next = ap (λ (k : ℕ). at + k) (sym long) ∙ sym end;
-      count =
-          (let a = h.count in let b = length-append u (placed_from at w) in let d = length-placed_from at w in omega arith);
+      rising = on.rising;
+      next = ap (λ (k : ℕ). at + k) (sym long) ∙ on.next;
+      count = (let a = on.count in omega arith);
       live = c.requires.live ∙ ap is_none (sym sound);
       going = λ k. record {
-        stand = subst (λ (l : List (Slot SourceMachine)). AllStand MachineStands l (runs_in (port_of plan next))) (sym c.requires.none) tt;
+        stand = subst (λ (l : List Slot). AllStand l (runs_in (port_of plan next))) (sym c.requires.none) tt;
         counted =
             c.add_frame-after.ensures.counted plan.frames u next (offsets_of f) (report_of plan u) (report_of plan next) grows
-            (are_items plan none u at rise before) (are_items plan none next (at + length w) rises sound)
+            (are_items plan none u at on.rise before) (are_items plan none next (at + length w) on.rises sound)
             (h.going c.requires.live).counted;
       };
     }

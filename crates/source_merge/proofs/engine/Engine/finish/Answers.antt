@@ -1,12 +1,12 @@
-use Rattle.std.proofs.Common.{◌≡◌, ℕ, List, sym, ◌∙◌, ap, subst}
-use Rattle.source_merge.specs.Names.{FramesMode, port_reading, PortMode, SourceTail, runs_in, sources_by, reading_of}
-use Rattle.source_merge.specs.Names.{Stands, SourceMachine}
+use Rattle.std.proofs.Common.{◌≡◌, ℕ, ◌*◌, ◌^◌, arith, List, sym, ◌∙◌, ap, subst}
+use Rattle.source_merge.specs.Names.{FramesMode, port_reading, PortMode, SourceTail, runs_in, sources_by}
 use Rattle.source_events.specs.declared.tails.Tails.{Tails}
 use Rattle.source_events.specs.Tails.{port_mode, tails_of}
 use Rattle.source_merge.specs.declared.slot.Slot.{Slot}
 use Rattle.source_merge.specs.Routing.{mapped_of, AllStand}
 use Rattle.source_merge.specs.Answering.{port_of, report_of}
 use Rattle.source_merge.proofs.Attributed.{unattributed_are}
+use Rattle.source_merge.proofs.Refilled.{ready_as}
 use Rattle.source_merge.proofs.engine.Engine.finish.Goals as goal
 
 same_tails : (n bytes : ℕ) (m mode : PortMode) (s skipped t tail a unattributed : ℕ) (l sources : List SourceTail) →
@@ -35,5 +35,11 @@ returns c = λ u h.
     (c.tail.ensures.list u h.port ∙ ap (λ (m : FramesMode). (port_reading m u).tail) h.mode)
     (c.unattributed.ensures r (report_of plan u) k.counted ∙ unattributed_are plan.frames u)
     (c.source_tails.ensures r
-    (subst (λ (l : List (Slot SourceMachine)). mapped_of reading_of l ≡ sources_by plan) (sym c.as_slice.ensures.value) h.sources)
-    (subst (λ (l : List (Slot SourceMachine)). AllStand Stands l (runs_in r)) (sym c.as_slice.ensures.value) k.stand))
+    (subst (λ (l : List Slot). mapped_of l ≡ sources_by plan) (sym c.as_slice.ensures.value) h.sources)
+    (subst (λ (l : List Slot). AllStand l (runs_in r)) (sym c.as_slice.ensures.value) k.stand))
+
+pub source_tails-requires-clause-ready : goal.source_tails-requires-clause-ready
+source_tails-requires-clause-ready c =
+    let self = c.args.self.now in
+    ready_as self.slots.items c.as_slice.result.now c.as_slice.ensures.value (30 * self.count) (2 ^ 59)
+    (let a = self.within in let b = self.limit in omega arith) (self.ready c.requires)

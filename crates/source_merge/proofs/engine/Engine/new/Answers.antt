@@ -1,24 +1,23 @@
 use Rattle.std.proofs.Common.{List, [], length, refl, sym, ◌∙◌, ap, subst, arith}
 use Rattle.std.specs.Prelude.{is_none}
-use Rattle.source_merge.specs.Names.{Cell, PortCounts, sources_by, all_runs, Stands as MachineStands}
+use Rattle.source_merge.specs.Names.{Cell, PortCounts, sources_by, all_runs}
 use Rattle.deformatter.proofs.PortReadingLaws.{none_read}
 use Rattle.source_events.proofs.Captures.{no_fault_first, no_event_first}
 use Rattle.source_merge.specs.Counting.{HasBytes, HasItems}
 use Rattle.source_merge.specs.Routing.{AllStand}
-use Rattle.source_merge.proofs.Mapping.{fresh_stand, fresh_live, fresh_room, sources_lawful}
+use Rattle.source_merge.proofs.Mapping.{fresh_stand, fresh_ready, sources_lawful}
 use Rattle.source_merge.proofs.engine.Engine.new.Goals as goal
 
 pub invariant_of-result : goal.invariant_of-result
 invariant_of-result c = record {
   sound = c.requires.sound;
   few = (let a = c.new-port.ensures.empty.0 in let b = c.new-port.ensures.empty.1 in omega arith);
-  room = fresh_room 0 c.slots_of-slots.result.items c.slots_of-slots.ensures.fresh;
+  ready = λ k. fresh_ready 0 c.slots_of-slots.result.items c.slots_of-slots.ensures.fresh;
   size = λ k. (let a = c.new-2.ensures.none.0 in omega arith);
   whole = (let a = c.new-2.ensures.none.1 in omega arith);
   within = omega arith;
   limit = omega arith;
   port_live = λ k. c.new-port.ensures.live;
-  lives = fresh_live c.slots_of-slots.result.items c.slots_of-slots.ensures.fresh;
 }
 
 pub returns-clause-fresh : goal.returns-clause-fresh
@@ -37,7 +36,7 @@ returns-clause-fresh c =
       count = refl;
       live = sym (ap is_none (no_fault_first (sources_by plan) law plan.frames));
       going = λ k. record {
-        stand = subst (λ (l : List (List Cell)). AllStand MachineStands slots l) (sym runs) (fresh_stand slots c.slots_of-slots.ensures.fresh);
+        stand = subst (λ (l : List (List Cell)). AllStand slots l) (sym runs) (fresh_stand slots c.slots_of-slots.ensures.fresh);
         counted = record {
           whole = [];
           frames = c.new-2.ensures.frames;

@@ -1,70 +1,48 @@
-use Rattle.std.proofs.Common.{◌≡◌, ℕ, ◌+◌, ◌-◌, ◌*◌, ◌^◌, List, [], ◌∷◌, ◌++◌, length, refl, sym, ◌∙◌, ap, subst}
-use Rattle.std.proofs.Common.{arith, Option, None, length-append}
+use Rattle.std.proofs.Common.{◌≡◌, ℕ, ◌+◌, ◌-◌, ◌*◌, List, ◌++◌, length, refl, sym, ◌∙◌, ap, subst}
+use Rattle.std.proofs.Common.{arith, Option}
 use Rattle.std.specs.Prelude.{is_none}
-use Rattle.source_merge.specs.Names.{Cell, Placed, byte_at, placed_from, units_of, FramesMode, cells, id_after}
-use Rattle.source_merge.specs.Names.{offsets_of, without_halves, Frame, Answers as PortAnswers, FedFrame, GrowsByFrame}
-use Rattle.source_merge.specs.Names.{port_reading, BytesRise, Mapped, runs_in, Event, Packet, Plan, reading_of}
-use Rattle.source_merge.specs.Names.{Stands as MachineStands, is_live, held_of, skipped_by, SourceMachine, IsGathered}
+use Rattle.source_merge.specs.Names.{Cell, Placed, placed_from, units_of, FramesMode, cells, id_after}
+use Rattle.source_merge.specs.Names.{offsets_of, without_halves, Frame, FedFrame, GrowsByFrame}
+use Rattle.source_merge.specs.Names.{port_reading, Mapped, Event, Packet, Plan}
+use Rattle.source_merge.specs.Names.{IsGathered}
 use Rattle.source_merge.specs.Names.{frame_places}
-use Rattle.trace_values.proofs.Placing.{length-placed_from}
 use Rattle.frame_grammar.proofs.Wholes.{whole_size}
 use Rattle.source_merge.specs.declared.slot.Slot.{Slot}
 use Rattle.source_merge.specs.Engine.{Stands, Keeps}
 use Rattle.source_merge.specs.Answering.{port_of, fault_of}
-use Rattle.source_merge.specs.Routing.{mapped_of, AllLive, AllStand, HaveRoom, LiveIf, RoomIf, AreDistinct}
-use Rattle.source_merge.proofs.Slots.{room_more}
-use Rattle.source_merge.proofs.Standing.{distinct, none_there, live_now, live_if, room_now, room_if, tested, none_of}
-use Rattle.source_merge.proofs.Going.{Stepped, stepped, halves_inside, rise_to, rise_block, end_block}
-use Rattle.source_merge.proofs.Refilled.{slots_are}
-use Rattle.source_merge.proofs.ByParts.{StepTakenBy}
+use Rattle.source_merge.specs.Routing.{AreDistinct}
+use Rattle.source_merge.specs.Stepping.{StepAt, TakesStep}
+use Rattle.source_merge.proofs.Standing.{distinct, none_there, tested, none_of}
+use Rattle.source_merge.proofs.Going.{Stepped, stepped, halves_inside}
+use Rattle.source_merge.proofs.Growing.{Longer, frame_ready, longer}
+use Rattle.source_merge.proofs.Refilled.{ready_after, same_after, written}
 use Rattle.source_merge.proofs.engine.Engine.take_gathered.Given as bound
 use Rattle.source_merge.proofs.engine.Engine.take_gathered.Goals as goal
 
 pub take_whole-taken-requires-clause-ready : goal.take_whole-taken-requires-clause-ready
 take_whole-taken-requires-clause-ready g c =
-    let self = c.args.self.now in
-    record {
-      live =
-          subst (λ (l : List (Slot SourceMachine)). AllLive is_live l) (sym c.as_mut_slice.ensures.value)
-          (live_now is_live self.live self.slots.items c.requires.live self.lives);
-      room =
-          room_more held_of skipped_by (30 * c.args.self.now.count) (2 ^ 58) c.as_mut_slice.result.now
-          (let a = c.args.self.now.within in let b = c.args.self.now.limit in omega arith)
-          (subst (λ (l : List (Slot SourceMachine)). HaveRoom held_of skipped_by (30 * c.args.self.now.count) l)
-          (sym c.as_mut_slice.ensures.value)
-          (room_now held_of skipped_by c.args.self.now.live (30 * c.args.self.now.count) c.args.self.now.slots.items c.requires.live c.args.self.now.room));
-      size = (let a = self.size c.requires.live in let b = self.within in let d = self.limit in let e = c.requires.offsets in omega (arith, a, b, d, e.0, e.1));
-    }
+    frame_ready c.args.self.now c.as_mut_slice.result.now _ c.args.frame.now.halves c.requires.live c.as_mut_slice.ensures.value (omega arith)
+    (let a = c.requires.offsets.1 in omega arith)
 
 pub invariant_of-self : goal.invariant_of-self
 invariant_of-self g c =
     let self = c.args.self.now in
-    let old = self.slots.items in
-    let new = c.take_whole-taken.new.slots in
-    let value = c.as_mut_slice.ensures.value in
-    let all = slots_are reading_of old new (c.take_whole-taken.ensures.slots.same ∙ ap (mapped_of reading_of) value) in
     let n = self.count in
     let bytes = c.size-bytes.result in
     let made = c.size-bytes.ensures in
-    let room = subst (λ (l : List (Slot SourceMachine)). HaveRoom held_of skipped_by (30 * n) l) (sym value)
-    (room_now held_of skipped_by self.live (30 * n) old c.requires.live self.room) in
-    let gone = tested c.take_whole-taken.result.stop c.is_none-self.result c.is_none-self.ensures in
+    let stop = c.take_whole-taken.result.stop in
+    let gone = tested stop c.is_none-self.result c.is_none-self.ensures in
     record {
       sound = self.sound;
       few = (let a = self.few in let b = c.pass_frame.ensures.few in omega arith);
-      room =
-          subst (λ (l : List (Slot SourceMachine)). RoomIf held_of skipped_by c.is_none-self.result (30 * (n + bytes)) l) (sym all)
-          (room_if held_of skipped_by c.is_none-self.result (30 * (n + bytes)) new
-          (λ k. room_more held_of skipped_by (30 * n + 30) (30 * (n + bytes)) new (omega arith)
-          (c.take_whole-taken.ensures.slots.room (30 * n) room)));
-      size = λ k. (let a = self.size c.requires.live in let b = c.take_whole-taken.ensures.counters.0 in omega arith);
-      whole = (let a = self.whole in let b = c.take_whole-taken.ensures.counters.1 in omega arith);
+      ready = λ k.
+          ready_after 30 self.slots.items c.as_mut_slice.result.now c.take_whole-taken.new.slots c.as_mut_slice.ensures.value stop
+          c.take_whole-taken.ensures.slots (none_there stop (sym gone ∙ k)) (30 * n) (30 * (n + bytes)) (omega arith) (self.ready c.requires.live);
+      size = λ k. (let a = self.size c.requires.live in let b = c.take_whole-taken.ensures.counters.size in omega arith);
+      whole = (let a = self.whole in let b = c.take_whole-taken.ensures.counters.whole in omega arith);
       within = (let a = self.within in let b = c.requires.offsets.0 in omega arith);
       limit = (let a = c.requires.offsets.1 in omega arith);
       port_live = λ k. c.pass_frame.ensures.live;
-      lives =
-          subst (λ (l : List (Slot SourceMachine)). LiveIf is_live c.is_none-self.result l) (sym all)
-          (live_if is_live c.is_none-self.result new (λ k. c.take_whole-taken.ensures.slots.live (none_there c.take_whole-taken.result.stop (sym gone ∙ k))));
     }
 
 -- what the frame makes of a list that the engine stood for
@@ -73,7 +51,7 @@ module _ (g : bound.Over) (c : goal.After-flow_of g) (u : List Placed) (w : List
   abbrev plan : Plan
   plan = c.args.self.now.plan
 
-  abbrev slots : List (Slot SourceMachine)
+  abbrev slots : List Slot
   slots = c.args.self.now.slots.items
 
   abbrev f : List Placed
@@ -94,8 +72,8 @@ module _ (g : bound.Over) (c : goal.After-flow_of g) (u : List Placed) (w : List
   size : length w ≡ c.size-bytes.result
   size = whole_size w c.args.frame.now.bytes c.args.frame.now.halves q.whole ∙ sym c.size-bytes.ensures
 
-  live : AllLive is_live slots
-  live = live_now is_live c.args.self.now.live slots c.requires.live c.args.self.now.lives
+  on : Longer c.args.self.now u c.args.frame.now.at w
+  on = longer c.args.self.now u h c.args.frame.now.at c.requires.offsets.0 w (let a = size in let b = c.size-bytes.ensures in omega arith)
 
   given : cells (units_of f) (offsets_of f) c.args.self.now.port.port.id ≡ got
   given =
@@ -115,29 +93,23 @@ module _ (g : bound.Over) (c : goal.After-flow_of g) (u : List Placed) (w : List
       (subst (λ (l : List Cell). GrowsByFrame (port_reading c.args.self.now.port.mode u) (port_reading c.args.self.now.port.mode next) c.args.frame.now.halves l) given
       (c.pass_frame.ensures.grows u (placed_from c.args.frame.now.at w) f c.args.frame.now.halves h.port (q.whole.spelled c.args.frame.now.at)))
 
-  abbrev Taken : List (Slot SourceMachine) → List Cell → Type 0
-  Taken before cs =
-      (mode : FramesMode) (v : List Placed) (byte : ℕ) → BytesRise 0 last v → PortAnswers mode Frame cs v last byte →
-      (port_reading mode v).fault ≡ None → AreDistinct (mapped_of reading_of before) →
-      AllStand MachineStands before (runs_in (port_reading mode v)) →
-      StepTakenBy MachineStands (mapped_of reading_of before) c.take_whole-taken.new.slots mode v
-      (v ++ byte_at last byte ∷ []) es c.take_whole-taken.result.stop
+  abbrev step : StepAt
+  step = record { at = last; step = Frame; cells = got }
 
-  the_step : Stepped plan slots h.sources live c.take_whole-taken.new.slots c.take_whole-taken.new.counters u c.args.frame.now.at w
+  the_step : Stepped plan slots h.sources (30 * c.args.self.now.count) (c.args.self.now.ready c.requires.live) c.take_whole-taken.new.slots c.take_whole-taken.new.counters u c.args.frame.now.at w
       es c.take_whole-taken.result.stop c.flow_of.result
   the_step =
       let keeps = h.going c.requires.live in
       let halves = c.args.self.now.counters.port.halves + c.args.frame.now.halves in
-      stepped plan slots h.sources live c.take_whole-taken.new.slots c.args.self.now.counters c.take_whole-taken.new.counters
-      halves Frame got last
-      es c.take_whole-taken.result.stop c.flow_of.result u c.args.frame.now.at w
-      (rise_to u c.args.self.now.next c.args.frame.now.at (subst (λ (k : ℕ). BytesRise 0 k u) (sym h.next) h.rising) c.requires.offsets.0)
-      (none_there (fault_of plan u) (sym h.live ∙ c.requires.live)) keeps
+      stepped plan slots h.sources (30 * c.args.self.now.count) (c.args.self.now.ready c.requires.live) c.take_whole-taken.new.slots c.args.self.now.counters c.take_whole-taken.new.counters
+      halves step es c.take_whole-taken.result.stop c.flow_of.result u c.args.frame.now.at w
+      on.rise (none_there (fault_of plan u) (sym h.live ∙ c.requires.live)) keeps
       (subst (λ (ss : List (Mapped Packet)). AreDistinct ss) (sym h.sources) (distinct plan c.args.self.now.sound))
       fed
       (ap (λ (k : ℕ). k + c.args.frame.now.halves) keeps.counted.port.halves ∙ sym (halves_inside plan.frames got u c.args.frame.now.at w c.args.frame.now.halves fed grows))
       (λ k e. (let a = size in omega arith))
-      (subst (λ (l : List (Slot SourceMachine)). Taken l got) c.as_mut_slice.ensures.value c.take_whole-taken.ensures.taken.2.0)
+      (subst (λ (l : List Slot). TakesStep step l c.take_whole-taken.new.slots c.take_whole-taken.result.stop es) c.as_mut_slice.ensures.value
+      c.take_whole-taken.ensures.taken.2.0)
       c.take_whole-taken.ensures.taken.2.1
       c.flow_of.ensures.fault
 
@@ -155,13 +127,11 @@ returns-clause-takes g c =
       live = gone ∙ sym c.flow_of.ensures.going;
       list = λ u w h q.
           let self = c.args.self.now in
-          let new = c.take_whole-taken.new.slots in
           let at = c.args.frame.now.at in
-          let all = slots_are reading_of self.slots.items new (c.take_whole-taken.ensures.slots.same ∙ ap (mapped_of reading_of) c.as_mut_slice.ensures.value) in
-          let step = the_step g c u w h q in
-          let long = size g c u w h q in
-          let rise = rise_to u self.next at (subst (λ (k : ℕ). BytesRise 0 k u) (sym h.next) h.rising) c.requires.offsets.0 in
-          let end = end_block w u at (let a = long in let b = c.size-bytes.ensures in omega arith) in
+          let value = c.as_mut_slice.ensures.value in
+          let took = c.take_whole-taken.ensures.slots in
+          let last = the_step g c u w h q in
+          let more = on g c u w h q in
           let frame = c.args.frame.now in
           record {
             port =
@@ -170,16 +140,15 @@ returns-clause-takes g c =
                 ∙ ap (λ (l : List ℕ). id_after l self.port.port.id) (sym (q.whole.frame_is at)));
             mode = c.pass_frame.ensures.same ∙ h.mode;
             sources =
-                ap (mapped_of reading_of) all ∙ c.take_whole-taken.ensures.slots.same ∙ ap (mapped_of reading_of) c.as_mut_slice.ensures.value
+                same_after 30 self.slots.items c.as_mut_slice.result.now c.take_whole-taken.new.slots value c.take_whole-taken.result.stop took
                 ∙ h.sources;
-            rising = subst (λ (k : ℕ). BytesRise 0 k (u ++ placed_from at w)) (sym end) (rise_block u at w rise);
-            next = ap (λ (k : ℕ). at + k) (sym long) ∙ sym end;
-            count =
-                (let a = h.count in let b = length-append u (placed_from at w) in
-                let d = length-placed_from at w in omega arith);
-            live = gone ∙ none_of c.take_whole-taken.result.stop ∙ ap is_none (sym step.fault);
+            rising = more.rising;
+            next = ap (λ (k : ℕ). at + k) (sym (size g c u w h q)) ∙ more.next;
+            count = (let a = more.count in let b = size g c u w h q in omega arith);
+            live = gone ∙ none_of c.take_whole-taken.result.stop ∙ ap is_none (sym last.fault);
             going = λ k.
-                subst (λ (l : List (Slot SourceMachine)). Keeps self.plan l c.take_whole-taken.new.counters (u ++ placed_from at w))
-                (sym all) (step.keeps (none_there c.take_whole-taken.result.stop (sym gone ∙ k)));
+                subst (λ (l : List Slot). Keeps self.plan l c.take_whole-taken.new.counters (u ++ placed_from at w))
+                (sym (written 30 self.slots.items c.as_mut_slice.result.now c.take_whole-taken.new.slots value c.take_whole-taken.result.stop took))
+                (last.keeps (none_there c.take_whole-taken.result.stop (sym gone ∙ k)));
           };
     }

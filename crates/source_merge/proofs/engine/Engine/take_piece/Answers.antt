@@ -3,11 +3,9 @@ use Rattle.std.proofs.Common.{arith, true, false, Option, Some, None, length-app
 use Rattle.std.specs.Prelude.{is_none}
 use Rattle.std.specs.Option.{option_map}
 use Rattle.std.proofs.lemmas.List.{take_all, length-take-le}
-use Rattle.source_merge.specs.Names.{Fault, Placed, placed_from, FramesMode, Bare, port_reading, BytesRise, Event}
-use Rattle.source_merge.specs.Names.{Stop, Packet, Plan, Mapped, stop_of, reading_of, Stands as MachineStands}
-use Rattle.source_merge.specs.Names.{has_locked, is_live, held_of, skipped_by, SourceMachine}
+use Rattle.source_merge.specs.Names.{Fault, Placed, placed_from, FramesMode, Bare, port_reading, Event}
+use Rattle.source_merge.specs.Names.{Stop, Packet, Plan, Mapped, stop_of}
 use Rattle.trace_values.proofs.Placing.{length-placed_from}
-use Rattle.source_machine.specs.MachineLaws as laws
 use Rattle.source_merge.specs.declared.slot.Slot.{Slot}
 use Rattle.source_merge.specs.declared.engine.Engine.{Engine}
 use Rattle.source_merge.specs.declared.piece.PieceRun.{PieceRun}
@@ -16,18 +14,16 @@ use Rattle.source_merge.specs.Front.{IsBare, IsCertain}
 use Rattle.source_merge.specs.Answering.{fault_by, fault_of, goes_on, report_of}
 use Rattle.source_merge.specs.Counting.{HasCounted}
 use Rattle.source_merge.specs.Piece.{bytes_in, piece_cells}
-use Rattle.source_merge.specs.Routing.{mapped_of, AllLive, HaveRoom, LiveIf, RoomIf, AreDistinct}
+use Rattle.source_merge.specs.Routing.{mapped_of, AreReady, AreDistinct, SlotFed, SlotPlace}
 use Rattle.source_merge.proofs.BareLists.{bare_port}
-use Rattle.source_merge.proofs.ByParts.{SlotFedBy}
 use Rattle.source_merge.proofs.Ending.{FirstAt, first_at}
-use Rattle.source_merge.proofs.Going.{rise_to, rise_block, end_block}
-use Rattle.source_merge.proofs.Growing.{no_fault}
+use Rattle.source_merge.proofs.Growing.{Longer, longer, no_fault}
 use Rattle.source_merge.proofs.PieceCells.{bytes_length, piece_length}
 use Rattle.source_merge.proofs.PieceGoing.{Made, made_of}
-use Rattle.source_merge.proofs.Refilled.{slots_are}
-use Rattle.source_merge.proofs.Slots.{room_more}
-use Rattle.source_merge.proofs.Standing.{distinct, live_now, live_if, none_there, room_now, room_if, tested}
-use Rattle.source_merge.proofs.Taking.{same_mapped, live_on, room_on}
+use Rattle.source_merge.proofs.Refilled.{ready_as, slots_are}
+use Rattle.source_merge.proofs.Slots.{ready_more}
+use Rattle.source_merge.proofs.Standing.{distinct, none_there, tested}
+use Rattle.source_merge.proofs.Taking.{same_mapped, ready_on}
 use Rattle.source_merge.proofs.engine.Engine.take_piece.Given as bound
 use Rattle.source_merge.proofs.engine.Engine.take_piece.Goals as goal
 
@@ -49,69 +45,54 @@ take_front (x ∷ front) last rest =
     ap (λ (n : ℕ). take n (x ∷ (front ++ (last ∷ rest)))) (let z : length (x ∷ front) + 1 ≡ suc (length front + 1) = omega arith in z)
     ∙ ap (λ (l : List ℕ). x ∷ l) (take_front front last rest)
 
-pub feed_slot-fault-requires-clause-room : goal.feed_slot-fault-requires-clause-room
-feed_slot-fault-requires-clause-room g c =
-    room_more held_of skipped_by (30 * c.args.self.now.count) (2 ^ 59) c.as_mut_slice.result.now
-    (let a = c.args.self.now.within in let b = c.args.self.now.limit in omega arith)
-    (subst (λ (l : List (Slot SourceMachine)). HaveRoom held_of skipped_by (30 * c.args.self.now.count) l)
-    (sym c.as_mut_slice.ensures.value)
-    (room_now held_of skipped_by c.args.self.now.live (30 * c.args.self.now.count) c.args.self.now.slots.items c.requires.live c.args.self.now.room))
+pub feed_slot-fault-requires-clause-ready : goal.feed_slot-fault-requires-clause-ready
+feed_slot-fault-requires-clause-ready g c =
+    let self = c.args.self.now in
+    ready_as self.slots.items c.as_mut_slice.result.now c.as_mut_slice.ensures.value (30 * self.count) (2 ^ 59)
+    (let a = self.within in let b = self.limit in omega arith) (self.ready c.requires.next.live)
 
 pub feed_slot-fault-requires-clause-size : goal.feed_slot-fault-requires-clause-size
 feed_slot-fault-requires-clause-size g c =
-    (let l = piece_length c.args.run.now in let o = c.requires.offsets.1 in omega (arith, l, o))
+    (let l = piece_length c.args.run.now in let o = c.requires.next.within in omega (arith, l, o))
 
-pub feed_slot-fault-requires-clause-space : goal.feed_slot-fault-requires-clause-space
-feed_slot-fault-requires-clause-space g c =
-    (let l = piece_length c.args.run.now in let s = c.requires.space in omega (arith, l, s))
-
-pub feed_slot-fault-requires-clause-count : goal.feed_slot-fault-requires-clause-count
-feed_slot-fault-requires-clause-count g c =
-    (let l = piece_length c.args.run.now in let o = c.requires.offsets.1 in let a = c.args.self.now.size c.requires.live in
-    let w = c.args.self.now.within in let m = c.args.self.now.limit in omega (arith, l, o, a, w, m))
+pub feed_slot-fault-requires-clause-room : goal.feed_slot-fault-requires-clause-room
+feed_slot-fault-requires-clause-room g c =
+    let l = piece_length c.args.run.now in record {
+      space = (let s = c.requires.space in omega (arith, l, s));
+      count =
+          (let o = c.requires.next.within in let a = c.args.self.now.size c.requires.next.live in let w = c.args.self.now.within in
+          let m = c.args.self.now.limit in omega (arith, l, o, a, w, m));
+    }
 
 pub add_bare-requires : goal.add_bare-requires
 add_bare-requires g c =
-    (let l = piece_length c.args.run.now in let o = c.requires.offsets.1 in let a = c.args.self.now.size c.requires.live in
-    let w = c.args.self.now.within in let m = c.args.self.now.limit in let f = c.feed_slot-fault.ensures.count in
+    (let l = piece_length c.args.run.now in let o = c.requires.next.within in let a = c.args.self.now.size c.requires.next.live in
+    let w = c.args.self.now.within in let m = c.args.self.now.limit in let f = c.feed_slot-fault.ensures.1.total in
     let b = c.taken_of-bytes.ensures.bytes.1 in omega (arith, l, o, a, w, m, f, b))
 
--- its slot, as the slots stand
-feds_of : (self : Engine) (run : PieceRun) (index : ℕ) (after : List (Slot SourceMachine)) (given : List (Event Packet)) (fault : Option Fault)
-    (source : ℕ) → source ≡ 1 → (slots : List (Slot SourceMachine)) → slots ≡ self.slots.items →
-    ((front : List (Slot SourceMachine)) (s : Slot SourceMachine) (back : List (Slot SourceMachine)) → slots ≡ front ++ (s ∷ back) → length front ≡ index →
-    SlotFedBy reading_of MachineStands is_live held_of skipped_by front s back after (piece_cells run) source [] given fault) →
-    (front : List (Slot SourceMachine)) (s : Slot SourceMachine) (back : List (Slot SourceMachine)) → self.slots.items ≡ front ++ (s ∷ back) → length front ≡ index →
-    SlotFedBy reading_of MachineStands is_live held_of skipped_by front s back after (piece_cells run) 1 [] given fault
-feds_of self run index after given fault source one slots value feds front s back parts count =
-    subst (λ (x : ℕ). SlotFedBy reading_of MachineStands is_live held_of skipped_by front s back after (piece_cells run) x [] given fault) one
-    (feds front s back (value ∙ parts) count)
+-- what a slot makes of the run
+abbrev Feeds : List Slot → ℕ → List Slot → PieceRun → ℕ → List (Event Packet) → Option Fault → Type 0
+Feeds slots index after run source given fault =
+    (place : SlotPlace) → slots ≡ place.front ++ (place.slot ∷ place.back) → length place.front ≡ index →
+    SlotFed place after (record { run = piece_cells run; source = source; events = given; fault = fault })
 
 -- what the machine of its slot made of the run
-module _ (self : Engine) (run : PieceRun) (index : ℕ) (own : IsBare self index) (on : self.live ≡ true) (now : List (Slot SourceMachine))
-    (given : List (Event Packet)) (fault : Option Fault)
-    (feds : (front : List (Slot SourceMachine)) (s : Slot SourceMachine) (back : List (Slot SourceMachine)) →
-    self.slots.items ≡ front ++ (s ∷ back) → length front ≡ index →
-    SlotFedBy reading_of MachineStands is_live held_of skipped_by front s back now (piece_cells run) 1 [] given fault) where
-  abbrev first : FirstAt reading_of 1 self.slots.items index
-  first = first_at reading_of 1 self.slots.items index own.1
+module _ (self : Engine) (run : PieceRun) (index : ℕ) (own : IsBare self index) (on : self.live ≡ true) (now : List Slot)
+    (given : List (Event Packet)) (fault : Option Fault) (feeds : Feeds self.slots.items index now run 1 given fault) where
+  abbrev first : FirstAt 1 self.slots.items index
+  first = first_at 1 self.slots.items index own.1
 
-  fed : SlotFedBy reading_of MachineStands is_live held_of skipped_by first.front first.slot first.back now (piece_cells run) 1 [] given fault
-  fed = feds first.front first.slot first.back first.parts first.count
+  abbrev place : SlotPlace
+  place = record { front = first.front; slot = first.slot; back = first.back }
 
-  same : mapped_of reading_of now ≡ mapped_of reading_of self.slots.items
-  same = same_mapped reading_of MachineStands is_live has_locked held_of skipped_by laws.shows laws.begins laws.settles laws.rises first.front first.slot first.back self.slots.items now first.parts (piece_cells run) 1 [] given fault fed
+  fed : SlotFed place now (record { run = piece_cells run; source = 1; events = given; fault = fault })
+  fed = feeds place first.parts first.count
 
-  live : AllLive is_live self.slots.items
-  live = live_now is_live self.live self.slots.items on self.lives
+  same : mapped_of now ≡ mapped_of self.slots.items
+  same = same_mapped place self.slots.items now first.parts (piece_cells run) 1 given fault fed
 
-  live_after : fault ≡ None → AllLive is_live now
-  live_after e = live_on reading_of MachineStands is_live has_locked held_of skipped_by laws.shows laws.begins laws.settles laws.rises first.front first.slot first.back self.slots.items now first.parts (piece_cells run) 1 [] given fault fed e live
-
-  room_after : HaveRoom held_of skipped_by (30 * self.count + 2 * length (piece_cells run)) now
-  room_after =
-      room_on reading_of MachineStands is_live has_locked held_of skipped_by laws.shows laws.begins laws.settles laws.rises first.front first.slot first.back self.slots.items now first.parts (piece_cells run) 1 [] given fault fed
-      (30 * self.count) (room_now held_of skipped_by self.live (30 * self.count) self.slots.items on self.room)
+  ready : fault ≡ None → AreReady (30 * self.count + 2 * length (piece_cells run)) now
+  ready e = ready_on place self.slots.items now first.parts (piece_cells run) 1 given fault fed e (30 * self.count) (self.ready on)
 
 pub invariant_of-self : goal.invariant_of-self
 invariant_of-self g c =
@@ -120,9 +101,11 @@ invariant_of-self g c =
     let index = c.args.index in
     let after = c.feed_slot-fault.new.slots in
     let fault = c.feed_slot-fault.result in
-    let given = c.feed_slot-fault.ensures.fed.0 in
-    let feds = feds_of self run index after given fault c.bare_source-source.result c.bare_source-source.ensures c.as_mut_slice.result.now c.as_mut_slice.ensures.value c.feed_slot-fault.ensures.fed.2 in
-    let all = slots_are reading_of self.slots.items after (same self run index c.requires.own c.requires.live after given fault feds) in
+    let given = c.feed_slot-fault.ensures.0 in
+    let feeds : Feeds self.slots.items index after run 1 given fault =
+    subst (λ (l : List Slot). Feeds l index after run 1 given fault) c.as_mut_slice.ensures.value
+    (subst (λ (x : ℕ). Feeds c.as_mut_slice.result.now index after run x given fault) c.bare_source-source.ensures c.feed_slot-fault.ensures.2) in
+    let all = slots_are self.slots.items after (same self run index c.requires.own c.requires.next.live after given fault feeds) in
     let n = self.count in
     let bytes = c.taken_of-bytes.result in
     let some = c.taken_of-bytes.ensures.bytes in
@@ -132,21 +115,18 @@ invariant_of-self g c =
     record {
       sound = self.sound;
       few = (let a = self.few in omega arith);
-      room =
-          subst (λ (l : List (Slot SourceMachine)). RoomIf held_of skipped_by c.is_none-self.result (30 * (n + bytes)) l) (sym all)
-          (room_if held_of skipped_by c.is_none-self.result (30 * (n + bytes)) after
-          (λ k. room_more held_of skipped_by (30 * n + 2 * length (piece_cells run)) (30 * (n + bytes)) after
-          (let w = whole (none_there fault (sym gone ∙ k)) in omega (arith, w, long)) (room_after self run index c.requires.own c.requires.live after given fault feds)));
+      ready = λ k.
+          subst (λ (l : List Slot). AreReady (30 * (n + bytes)) l) (sym all)
+          (ready_more (30 * n + 2 * length (piece_cells run)) (30 * (n + bytes)) after
+          (let w = whole (none_there fault (sym gone ∙ k)) in omega (arith, w, long))
+          (ready self run index c.requires.own c.requires.next.live after given fault feeds (none_there fault (sym gone ∙ k))));
       size = λ k.
-          (let a = self.size c.requires.live in let b = c.add_bare.ensures.size in let d = c.feed_slot-fault.ensures.count in
+          (let a = self.size c.requires.next.live in let b = c.add_bare.ensures.size in let d = c.feed_slot-fault.ensures.1.total in
           let w = whole (none_there fault (sym gone ∙ k)) in omega (arith, a, b, d, w, long));
       whole = (let a = self.whole in let b = c.add_bare.ensures.same in omega arith);
-      within = (let a = self.within in let b = c.requires.offsets.0 in omega arith);
-      limit = (let a = c.requires.offsets.1 in omega arith);
-      port_live = λ k. self.port_live c.requires.live;
-      lives =
-          subst (λ (l : List (Slot SourceMachine)). LiveIf is_live c.is_none-self.result l) (sym all)
-          (live_if is_live c.is_none-self.result after (λ k. live_after self run index c.requires.own c.requires.live after given fault feds (none_there fault (sym gone ∙ k))));
+      within = (let a = self.within in let b = c.requires.next.after in omega arith);
+      limit = (let a = c.requires.next.within in omega arith);
+      port_live = λ k. self.port_live c.requires.next.live;
     }
 
 -- what the run makes of a list that the engine stood for
@@ -157,22 +137,23 @@ module _ (g : bound.Over) (c : goal.After-flow_of g) where
   abbrev run : PieceRun
   run = c.args.run.now
 
-  abbrev after : List (Slot SourceMachine)
+  abbrev after : List Slot
   after = c.feed_slot-fault.new.slots
 
   abbrev given : List (Event Packet)
-  given = c.feed_slot-fault.ensures.fed.0
+  given = c.feed_slot-fault.ensures.0
 
   abbrev fault : Option Fault
   fault = c.feed_slot-fault.result
 
-  feds : (front : List (Slot SourceMachine)) (s : Slot SourceMachine) (back : List (Slot SourceMachine)) →
-      self.slots.items ≡ front ++ (s ∷ back) → length front ≡ c.args.index →
-      SlotFedBy reading_of MachineStands is_live held_of skipped_by front s back after (piece_cells run) 1 [] given fault
-  feds = feds_of self run c.args.index after given fault c.bare_source-source.result c.bare_source-source.ensures c.as_mut_slice.result.now c.as_mut_slice.ensures.value c.feed_slot-fault.ensures.fed.2
+  feeds : Feeds self.slots.items c.args.index after run 1 given fault
+  feeds =
+      subst (λ (l : List Slot). Feeds l c.args.index after run 1 given fault) c.as_mut_slice.ensures.value
+      (subst (λ (x : ℕ). Feeds c.as_mut_slice.result.now c.args.index after run x given fault) c.bare_source-source.ensures
+      c.feed_slot-fault.ensures.2)
 
-  same_after : mapped_of reading_of after ≡ mapped_of reading_of self.slots.items
-  same_after = same self run c.args.index c.requires.own c.requires.live after given fault feds
+  same_after : mapped_of after ≡ mapped_of self.slots.items
+  same_after = same self run c.args.index c.requires.own c.requires.next.live after given fault feeds
 
   module _ (u : List Placed) (h : Stands self u) where
     abbrev plan : Plan
@@ -181,24 +162,24 @@ module _ (g : bound.Over) (c : goal.After-flow_of g) where
     abbrev taken : List ℕ
     taken = take c.taken_of-bytes.result (bytes_in run)
 
-    rise : BytesRise 0 run.at u
-    rise = rise_to u self.next run.at (subst (λ (k : ℕ). BytesRise 0 k u) (sym h.next) h.rising) c.requires.offsets.0
-
     none : fault_of plan u ≡ None
-    none = no_fault self c.requires.live u h
+    none = no_fault self c.requires.next.live u h
 
     keeps : Keeps plan self.slots.items self.counters u
-    keeps = h.going c.requires.live
+    keeps = h.going c.requires.next.live
 
     long : length taken ≡ c.taken_of-bytes.result
     long = length-take-le c.taken_of-bytes.result (bytes_in run) (let a = bytes_length run in let b = c.taken_of-bytes.ensures.bytes.1 in omega (arith, a, b))
 
+    more : Longer self u run.at taken
+    more = longer self u h run.at c.requires.next.after taken (let a = long in let b = c.taken_of-bytes.ensures.bytes.0 in omega (arith, a, b))
+
     made : Made plan u run.at (bytes_in run) after given fault
     made =
-        made_of plan self.slots.items h.sources (live self run c.args.index c.requires.own c.requires.live after given fault feds) c.requires.own.0 c.args.index
-        (first_at reading_of 1 self.slots.items c.args.index c.requires.own.1)
+        made_of plan self.slots.items h.sources (30 * self.count) (self.ready c.requires.next.live) c.requires.own.0 c.args.index
+        (first_at 1 self.slots.items c.args.index c.requires.own.1)
         (subst (λ (ss : List (Mapped Packet)). AreDistinct ss) (sym h.sources) (distinct plan self.sound)) after u run.at (bytes_in run) given fault
-        (fed self run c.args.index c.requires.own c.requires.live after given fault feds) rise none keeps.stand
+        (fed self run c.args.index c.requires.own c.requires.next.live after given fault feeds) more.rise none keeps.stand
 
     -- with no fault all is taken
     all : fault ≡ None → taken ≡ bytes_in run
@@ -225,7 +206,7 @@ module _ (g : bound.Over) (c : goal.After-flow_of g) where
           whole = k.whole;
           frames = k.frames;
           bytes = k.bytes;
-          items = c.feed_slot-fault.ensures.fed.1.counted k.whole (report_of plan u) k.items;
+          items = c.feed_slot-fault.ensures.1.counted k.whole (report_of plan u) k.items;
           port = k.port;
         })
 
@@ -266,7 +247,7 @@ module _ (g : bound.Over) (c : goal.After-flow_of g) where
 
 pub returns-clause-reads : goal.returns-clause-reads
 returns-clause-reads g c =
-    let t = c.feed_slot-fault.ensures.fed in (
+    let t = c.feed_slot-fault.ensures in (
       t.0,
       t.1.received,
       λ u h. record {
@@ -288,20 +269,17 @@ returns-clause-takes g c =
           let self = c.args.self.now in
           let at = c.args.run.now.at in
           let bytes = taken g c u h in
-          let all = slots_are reading_of self.slots.items c.feed_slot-fault.new.slots (same_after g c) in
-          let end = end_block bytes u at (let a = long g c u h in let b = c.taken_of-bytes.ensures.bytes.0 in omega (arith, a, b)) in
+          let all = slots_are self.slots.items c.feed_slot-fault.new.slots (same_after g c) in
           record {
             port = bare_port self.port self.plan.frames c.requires.own.0 h.mode (u ++ placed_from at bytes);
             mode = h.mode;
-            sources = ap (mapped_of reading_of) all ∙ same_after g c ∙ h.sources;
-            rising = subst (λ (k : ℕ). BytesRise 0 k (u ++ placed_from at bytes)) (sym end) (rise_block u at bytes (rise g c u h));
-            next = ap (λ (k : ℕ). at + k) (sym (long g c u h)) ∙ sym end;
-            count =
-                (let a = h.count in let b = length-append u (placed_from at bytes) in
-                let d = length-placed_from at bytes in let i = long g c u h in omega (arith, a, b, d, i));
+            sources = ap mapped_of all ∙ same_after g c ∙ h.sources;
+            rising = (more g c u h).rising;
+            next = ap (λ (k : ℕ). at + k) (sym (long g c u h)) ∙ (more g c u h).next;
+            count = (let a = (more g c u h).count in let i = long g c u h in omega (arith, a, i));
             live = gone ∙ sym (none_fault c.feed_slot-fault.result) ∙ sym (ap is_none (fault_now g c u h c.feed_slot-fault.result refl));
             going = λ k.
-                subst (λ (l : List (Slot SourceMachine)). Keeps self.plan l c.add_bare.new.self (u ++ placed_from at bytes))
+                subst (λ (l : List Slot). Keeps self.plan l c.add_bare.new.self (u ++ placed_from at bytes))
                 (sym all) (kept g c u h (none_there c.feed_slot-fault.result (sym gone ∙ k)));
           };
     }

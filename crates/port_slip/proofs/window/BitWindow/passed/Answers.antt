@@ -3,7 +3,7 @@ use Rattle.port_slip.specs.Bits.{bits}
 use Rattle.port_slip.specs.Runs.{IsWindow}
 use Rattle.port_slip.proofs.Bits.{bits_length}
 use Rattle.port_slip.proofs.Windows.{passed_bits, passed_fits, passed_window, passed_room}
-use Rattle.port_slip.proofs.window.Window.passed.Goals as goal
+use Rattle.port_slip.proofs.window.BitWindow.passed.Goals as goal
 
 pub overflow_add-result : goal.overflow_add-result
 overflow_add-result c =

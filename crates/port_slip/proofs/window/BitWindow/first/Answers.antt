@@ -1,7 +1,7 @@
 use Rattle.std.proofs.Common.{arith}
 use Rattle.port_slip.proofs.Bits.{bits_length}
 use Rattle.port_slip.proofs.Windows.{first_byte}
-use Rattle.port_slip.proofs.window.Window.first.Goals as goal
+use Rattle.port_slip.proofs.window.BitWindow.first.Goals as goal
 
 pub returns : goal.returns
 returns c = λ s. first_byte c.args.self.held c.args.self.kept s

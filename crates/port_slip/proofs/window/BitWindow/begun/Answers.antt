@@ -3,7 +3,7 @@ use Rattle.port_slip.specs.Bits.{bits}
 use Rattle.port_slip.specs.Runs.{IsWindow, run_after}
 use Rattle.port_slip.proofs.Bits.{bits_length}
 use Rattle.port_slip.proofs.Windows.{begun_bits, begun_fits, begun_window, begun_run}
-use Rattle.port_slip.proofs.window.Window.begun.Goals as goal
+use Rattle.port_slip.proofs.window.BitWindow.begun.Goals as goal
 
 pub invariant_of-result : goal.invariant_of-result
 invariant_of-result c =

@@ -1,7 +1,7 @@
 use Rattle.std.proofs.Common.{◌/◌, ◌%◌, List, [], ◌∷◌, ◌++◌, ℕ, arith, ap, sym, ◌∙◌}
 use Rattle.port_slip.proofs.Bits.{bits_length}
 use Rattle.port_slip.proofs.Windows.{four_bytes}
-use Rattle.port_slip.proofs.window.Window.give_whole.Goals as goal
+use Rattle.port_slip.proofs.window.BitWindow.give_whole.Goals as goal
 
 pub returns-clause-bytes : goal.returns-clause-bytes
 returns-clause-bytes c =

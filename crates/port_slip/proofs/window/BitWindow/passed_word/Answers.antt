@@ -4,7 +4,7 @@ use Rattle.port_slip.specs.Runs.{IsWindow, is_quiet, run_after}
 use Rattle.port_slip.proofs.Bits.{bits_length}
 use Rattle.port_slip.proofs.Windows.{passed_window}
 use Rattle.port_slip.proofs.Wide.{are_bytes, eight_bits, wide_kept, wide_fits}
-use Rattle.port_slip.proofs.window.Window.passed_word.Goals as goal
+use Rattle.port_slip.proofs.window.BitWindow.passed_word.Goals as goal
 
 pub overflow_shr-result : goal.overflow_shr-result
 overflow_shr-result c =

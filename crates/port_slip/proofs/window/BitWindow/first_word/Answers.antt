@@ -1,7 +1,7 @@
 use Rattle.std.proofs.Common.{◌≡◌, ◌+◌, ◌*◌, ◌%◌, ◌^◌, ◌++◌, List, ℕ, Bool, take, rules, sym, ◌∙◌, ap, arith}
 use Rattle.port_slip.specs.Bits.{bits, bits_of, whole_bytes}
 use Rattle.port_slip.proofs.Wide.{are_bytes, eight_bits, wide_room, wide_bits, wide_bytes}
-use Rattle.port_slip.proofs.window.Window.first_word.Goals as goal
+use Rattle.port_slip.proofs.window.BitWindow.first_word.Goals as goal
 
 pub overflow_add-self : goal.overflow_add-self
 overflow_add-self c =
