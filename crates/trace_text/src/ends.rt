@@ -3,6 +3,7 @@
 ghost use Rattle.std.specs.Prelude.{◌≡◌, ◌+◌, ◌*◌, ◌≤◌, ◌++◌, length, take};
 ghost use Rattle.trace_text.specs.EndText.{mode_text, kind_text, rest_text, end_line, port_line, source_line};
 ghost use Rattle.trace_text.specs.EndText.{tails_text};
+ghost use Rattle.trace_text.specs.Puts.{Puts};
 
 use crate::lengths::{few_digits, few_id_digits};
 use crate::room::{ITEM_ROOM, WORD_ROOM, put_byte, put_bytes, put_number, put_short, put_slice};
@@ -60,9 +61,7 @@ fn kind_word(kind: SourceKind) -> &'static str
 /// Puts the skipped bytes and the tail.
 fn put_rest(room: &mut [u8], from: usize, skipped: u64, tail: u64) -> usize
     requires room { from + ITEM_ROOM ≤ length room.old }
-    ensures text { take result room.new ≡ take from room.old ++ rest_text skipped tail }
-    ensures same { length room.new ≡ length room.old }
-    ensures end { result ≤ from + ITEM_ROOM }
+    ensures { Puts room.old room.new from result ITEM_ROOM (rest_text skipped tail) }
 {
     let from = put_bytes(room, from, b" skipped ");
     let from = put_number(room, from, skipped);

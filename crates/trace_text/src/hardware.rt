@@ -2,6 +2,7 @@
 
 ghost use Rattle.std.specs.Prelude.{◌≡◌, ◌+◌, ◌≤◌, ◌++◌, length, take, codes, decimal};
 ghost use Rattle.trace_text.specs.HardwareText.{change_text, comparator_text, hardware_text};
+ghost use Rattle.trace_text.specs.Puts.{Puts};
 
 use crate::items::put_source;
 use crate::room::{
@@ -26,9 +27,7 @@ fn change_word(change: Change) -> &'static str
 fn put_comparator(room: &mut [u8], from: usize, comparator: u8, word: &str) -> usize
     requires few { length word.now ≤ WORD_ROOM }
     requires room { from + PART_ROOM ≤ length room.old }
-    ensures text { take result room.new ≡ take from room.old ++ comparator_text comparator word.now }
-    ensures same { length room.new ≡ length room.old }
-    ensures end { result ≤ from + PART_ROOM }
+    ensures { Puts room.old room.new from result PART_ROOM (comparator_text comparator word.now) }
 {
     let from = put_bytes(room, from, b"cmp ");
     let from = put_short(room, from, comparator);
@@ -39,10 +38,8 @@ fn put_comparator(room: &mut [u8], from: usize, comparator: u8, word: &str) -> u
 #[inline]
 fn put_exception(room: &mut [u8], from: usize, number: u16, change: Change) -> usize
     requires room { from + PART_ROOM ≤ length room.old }
-    ensures text { take result room.new ≡
-        take from room.old ++ (codes "exception " ++ (decimal number ++ change_text change)) }
-    ensures same { length room.new ≡ length room.old }
-    ensures end { result ≤ from + PART_ROOM }
+    ensures { Puts room.old room.new from result PART_ROOM
+        (codes "exception " ++ (decimal number ++ change_text change)) }
 {
     let from = put_bytes(room, from, b"exception ");
     let from = put_number(room, from, u64::from(number));
@@ -53,9 +50,7 @@ fn put_exception(room: &mut [u8], from: usize, number: u16, change: Change) -> u
 #[inline]
 pub(crate) fn put_hardware(room: &mut [u8], from: usize, item: &DwtItem) -> usize
     requires room { from + ITEM_ROOM ≤ length room.old }
-    ensures text { take result room.new ≡ take from room.old ++ hardware_text item.now }
-    ensures same { length room.new ≡ length room.old }
-    ensures end { result ≤ from + ITEM_ROOM }
+    ensures { Puts room.old room.new from result ITEM_ROOM (hardware_text item.now) }
 {
     match *item {
         DwtItem::Counters(counters) => {
