@@ -1,6 +1,6 @@
 //! What is kept of one line for the next: the digits of its offset, and the text of its place.
 
-ghost use Rattle.std.specs.Prelude.{◌≡◌, ◌+◌, ◌≤◌, ◌<◌, ◌^◌, ◌/◌, ◌%◌, ◌++◌, length, take, decimal};
+ghost use Rattle.std.specs.Prelude.{◌≡◌, ◌+◌, ◌≤◌, ◌<◌, ◌^◌, ◌/◌, ◌%◌, length, take, decimal};
 ghost use Rattle.trace_text.specs.Puts.{Puts};
 
 use crate::place_text::PlaceText;

@@ -1,12 +1,12 @@
 //! The texts of hardware packets, by what they mean.
 
-ghost use Rattle.std.specs.Prelude.{◌≡◌, ◌+◌, ◌≤◌, ◌++◌, length, take, codes, decimal};
+ghost use Rattle.std.specs.Prelude.{◌≡◌, ◌+◌, ◌≤◌, ◌++◌, length, codes, decimal};
 ghost use Rattle.trace_text.specs.HardwareText.{change_text, comparator_text, hardware_text};
 ghost use Rattle.trace_text.specs.Puts.{Puts};
 
 use crate::items::put_source;
 use crate::room::{
-    ITEM_ROOM, PART_ROOM, WORD_ROOM, put_bytes, put_digits, put_number, put_short, put_slice,
+    ITEM_ROOM, PART_ROOM, WORD_ROOM, put_bytes, put_count, put_digits, put_short, put_slice,
     put_value,
 };
 use dwt_packets::{Change, DwtItem};
@@ -41,8 +41,7 @@ fn put_exception(room: &mut [u8], from: usize, number: u16, change: Change) -> u
     ensures { Puts room.old room.new from result PART_ROOM
         (codes "exception " ++ (decimal number ++ change_text change)) }
 {
-    let from = put_bytes(room, from, b"exception ");
-    let from = put_number(room, from, u64::from(number));
+    let from = put_count(room, from, b"exception ", u64::from(number));
     put_slice(room, from, change_word(change).as_bytes())
 }
 

@@ -1,6 +1,6 @@
 //! The texts of ITM packets.
 
-ghost use Rattle.std.specs.Prelude.{◌≡◌, ◌+◌, ◌≤◌, ◌<◌, ◌^◌, ◌∷◌, [], ◌++◌, length, take, codes, decimal};
+ghost use Rattle.std.specs.Prelude.{◌≡◌, ◌+◌, ◌≤◌, ◌<◌, ◌^◌, ◌∷◌, [], ◌++◌, length, codes, decimal};
 ghost use Rattle.itm_grammar.specs.Proper.{IsProper};
 ghost use Rattle.itm_grammar.specs.declared.packet.ItmPacket.TheVariants.{Local, GlobalFirst, GlobalSecond, Extension};
 ghost use Rattle.trace_text.specs.Values.{value_text};
@@ -9,8 +9,8 @@ ghost use Rattle.trace_text.specs.Puts.{Puts, PutsAll};
 
 use crate::hardware::put_hardware;
 use crate::room::{
-    ITEM_ROOM, PART_ROOM, WORD_ROOM, put_bytes, put_digits, put_entry, put_number, put_port,
-    put_short, put_slice, put_value,
+    ITEM_ROOM, PART_ROOM, WORD_ROOM, put_bytes, put_count, put_digits, put_entry, put_number,
+    put_port, put_short, put_slice, put_value,
 };
 use crate::tables::{BITS, FLAGS, LATENESS_LENS, LATENESSES};
 use dwt_packets::meaning;
@@ -61,8 +61,7 @@ fn put_first_stamp(
 {
     let from = put_bytes(room, from, b"global1 ");
     let from = put_short(room, from, len);
-    let from = put_bytes(room, from, b" ");
-    let from = put_number(room, from, u64::from(value));
+    let from = put_count(room, from, b" ", u64::from(value));
     put_flags(room, from, change, wrap)
 }
 

@@ -1,6 +1,6 @@
 //! The lines of what the sources and the port gave.
 
-ghost use Rattle.std.specs.Prelude.{◌≡◌, ◌+◌, ◌≤◌, ◌++◌, ◌/◌, false, true, length, take, codes, decimal};
+ghost use Rattle.std.specs.Prelude.{◌≡◌, ◌+◌, ◌≤◌, ◌++◌, ◌/◌, false, true, length, codes, decimal};
 ghost use Rattle.hex.specs.Hex.{encode_lower};
 ghost use Rattle.source_events.specs.declared.event.What.TheVariants.{Packet as GivenPacket};
 ghost use Rattle.itm_grammar.specs.Proper.{IsProper};
@@ -16,7 +16,7 @@ use crate::digits::Digits;
 use crate::items::put_item;
 use crate::lengths::{few_digits, few_half_digits, few_id_digits, short_event, short_remark};
 use crate::remark::Remark;
-use crate::room::{ITEM_ROOM, NUMBER_ROOM, put_byte, put_bytes, put_digits, put_number, put_short};
+use crate::room::{ITEM_ROOM, NUMBER_ROOM, put_byte, put_bytes, put_count, put_digits, put_short};
 use crate::stp::put_stp;
 use itm_grammar::packet::ItmPacket;
 use source_events::{Event, Packet, What};
@@ -102,10 +102,7 @@ fn put_what(room: &mut [u8], from: usize, digits: &Digits, what: &What<Packet>) 
 {
     match what {
         What::Packet(packet) => put_packet(room, from, digits, packet),
-        What::Locked(skipped) => {
-            let from = put_bytes(room, from, b"locked ");
-            put_number(room, from, *skipped)
-        }
+        What::Locked(skipped) => put_count(room, from, b"locked ", *skipped),
         What::Raw(bytes) => put_raw(room, from, bytes.as_slice()),
         What::Trigger(byte) => {
             let from = put_bytes(room, from, b"trigger ");
@@ -122,14 +119,8 @@ fn put_remark(room: &mut [u8], from: usize, remark: Remark) -> usize
 {
     match remark {
         Remark::None => from,
-        Remark::Clock(ticks) => {
-            let from = put_bytes(room, from, b" clock=");
-            put_number(room, from, ticks)
-        }
-        Remark::Time(Some(time)) => {
-            let from = put_bytes(room, from, b" time=");
-            put_number(room, from, time)
-        }
+        Remark::Clock(ticks) => put_count(room, from, b" clock=", ticks),
+        Remark::Time(Some(time)) => put_count(room, from, b" time=", time),
         Remark::Time(None) => put_bytes(room, from, b" time=?"),
     }
 }

@@ -1,6 +1,6 @@
 //! The text of a place that is kept from one line to the next.
 
-ghost use Rattle.std.specs.Prelude.{◌≡◌, ◌+◌, ◌≤◌, ◌++◌, [], length, take, ◌==◌, if◌then◌else◌};
+ghost use Rattle.std.specs.Prelude.{◌≡◌, ◌+◌, ◌≤◌, [], length, take, ◌==◌, if◌then◌else◌};
 ghost use Rattle.trace_text.specs.StpText.{place_text};
 ghost use Rattle.trace_text.specs.Puts.{Puts};
 

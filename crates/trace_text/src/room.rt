@@ -212,6 +212,16 @@ pub(crate) fn put_number(room: &mut [u8], from: usize, number: u64) -> usize
     put_eight(room, from, (number % 100_000_000) as u32)
 }
 
+/// Puts a word, and a number after it.
+#[inline(always)]
+pub(crate) fn put_count(room: &mut [u8], from: usize, word: &[u8], number: u64) -> usize
+    requires room { from + length word.now + NUMBER_ROOM ≤ length room.old }
+    ensures { Puts room.old room.new from result (length word.now + NUMBER_ROOM) (word.now ++ decimal number) }
+{
+    let from = put_bytes(room, from, word);
+    put_number(room, from, number)
+}
+
 /// Puts a number of at most five digits in decimal.
 #[inline]
 pub(crate) fn put_medium(room: &mut [u8], from: usize, number: u16) -> usize

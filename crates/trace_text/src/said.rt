@@ -1,15 +1,14 @@
 //! The lines of what STP packets say, from their parts. Those of data, flags, triggers and NULL_TS, which are most, are
 //! put with no branch by what the packet is.
 
-ghost use Rattle.std.specs.Prelude.{◌≡◌, ◌+◌, ◌*◌, ◌/◌, ◌^◌, ◌≤◌, ◌<◌, ◌++◌, ◌==◌, true, length, take, drop, slice_index, Some};
+ghost use Rattle.std.specs.Prelude.{◌≡◌, ◌+◌, ◌*◌, ◌/◌, ◌≤◌, ◌<◌, ◌++◌, ◌==◌, true, length, take, drop, slice_index, Some};
 ghost use Rattle.std.specs.Option.{is_some};
 ghost use Rattle.stp_grammar.specs.Opcodes.{line_of, row_at};
 ghost use Rattle.stp_grammar.specs.Said.{said_item, IsProperSaid};
 ghost use Rattle.stp_grammar.specs.declared.item.StpItem.{StpItem};
-ghost use Rattle.trace_text.specs.HexDigits.{hex_digits};
 ghost use Rattle.trace_text.specs.Digits.{hundreds_of, place_of};
 ghost use Rattle.trace_text.specs.LineText.{event_line, stp_event};
-ghost use Rattle.trace_text.specs.SaidText.{is_written, is_placed, word_at, width_at, mark_at, said_text, said_line};
+ghost use Rattle.trace_text.specs.SaidText.{is_written, is_placed, said_text, said_line};
 ghost use Rattle.trace_text.specs.declared.remark.Remark.TheVariants.{None as NoRemark};
 ghost use Rattle.trace_text.specs.Puts.{Puts};
 

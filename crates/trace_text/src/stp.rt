@@ -1,9 +1,9 @@
 //! The texts of the items of a system trace.
 
-ghost use Rattle.std.specs.Prelude.{◌≡◌, ◌+◌, ◌/◌, ◌^◌, ◌≤◌, ◌<◌, ◌++◌, ◌∷◌, [], length, take, codes, decimal};
+ghost use Rattle.std.specs.Prelude.{◌≡◌, ◌+◌, ◌/◌, ◌^◌, ◌≤◌, ◌<◌, ◌++◌, ◌∷◌, [], length, codes, decimal};
 ghost use Rattle.hex.specs.Hex.{encode_lower};
 ghost use Rattle.stp_grammar.specs.Proper.{bits_of, IsProperItem, IsProperStamp};
-ghost use Rattle.stp_grammar.specs.declared.item.StpItem.TheVariants.{MasterError, Flag, Trigger, Frequency};
+ghost use Rattle.stp_grammar.specs.declared.item.StpItem.TheVariants.{Trigger};
 ghost use Rattle.trace_text.specs.HexDigits.{hex_digits};
 ghost use Rattle.trace_text.specs.Digits.{KeepsPlace, place_of};
 ghost use Rattle.trace_text.specs.StpText.{known_text, place_text, datum_text, mark_text, stamp_text, stp_text};
@@ -11,8 +11,8 @@ ghost use Rattle.trace_text.specs.Puts.{Puts, PutsAll};
 
 use crate::digits::Digits;
 use crate::room::{
-    ITEM_ROOM, MEDIUM_ROOM, NUMBER_ROOM, PART_ROOM, put_byte, put_bytes, put_digits, put_entry,
-    put_medium, put_number, put_short,
+    ITEM_ROOM, MEDIUM_ROOM, NUMBER_ROOM, put_byte, put_bytes, put_count, put_digits, put_entry,
+    put_medium, put_short,
 };
 use crate::tables::{DATUM_DIGITS, DATUM_WIDTH_LENS, DATUM_WIDTHS, MARKS};
 use stp_grammar::item::{Place, Stamp, StpItem};
@@ -88,14 +88,8 @@ pub(crate) fn put_stamp(room: &mut [u8], from: usize, stamp: Stamp) -> usize
 {
     match stamp {
         Stamp::None => put_byte(room, from, b'-'),
-        Stamp::Natural(time) => {
-            let from = put_bytes(room, from, b"n=");
-            put_number(room, from, time)
-        }
-        Stamp::Gray(time) => {
-            let from = put_bytes(room, from, b"g=");
-            put_number(room, from, time)
-        }
+        Stamp::Natural(time) => put_count(room, from, b"n=", time),
+        Stamp::Gray(time) => put_count(room, from, b"g=", time),
         Stamp::Raw { size, word } => {
             let from = put_bytes(room, from, b"r=");
             put_nibbles(room, from, word_nibbles(size), word)
@@ -110,6 +104,19 @@ fn put_mark(room: &mut [u8], from: usize, marked: bool) -> usize
     ensures { PutsAll room.old room.new from result 3 (codes " " ++ (mark_text marked ++ codes " ")) }
 {
     put_entry(room, from, MARKS, 4, marked as usize, 3)
+}
+
+/// Puts a word, a place, which is kept, and a space after it.
+#[inline(always)]
+fn put_placed(room: &mut [u8], from: usize, digits: &Digits, word: &[u8], place: Place) -> usize
+    requires few { length word.now ≤ 5 }
+    requires kept { place_of digits.now.place ≡ place }
+    requires room { from + 22 ≤ length room.old }
+    ensures { Puts room.old room.new from result 21 (word.now ++ (place_text place ++ codes " ")) }
+{
+    let from = put_bytes(room, from, word);
+    let from = digits.place.put(room, from, place);
+    put_byte(room, from, b' ')
 }
 
 /// Puts what was written, with its place and its timestamp: `data M C uB V K T`.
@@ -132,38 +139,9 @@ fn put_data(
         (codes "data " ++ (place_text place ++ (codes " " ++ (datum_text width value
         ++ (codes " " ++ (mark_text marked ++ (codes " " ++ stamp_text stamp))))))) }
 {
-    let from = put_bytes(room, from, b"data ");
-    let from = digits.place.put(room, from, place);
-    let from = put_byte(room, from, b' ');
+    let from = put_placed(room, from, digits, b"data ", place);
     let from = put_datum(room, from, width, value);
     let from = put_mark(room, from, marked);
-    put_stamp(room, from, stamp)
-}
-
-/// Puts an error of a master, whose place is kept: `merr M C HH`.
-#[inline(always)]
-fn put_master_error(room: &mut [u8], from: usize, digits: &Digits, place: Place, code: u8) -> usize
-    requires kept { place_of digits.now.place ≡ place }
-    requires room { from + ITEM_ROOM ≤ length room.old }
-    ensures { Puts room.old room.new from result ITEM_ROOM (stp_text (MasterError place code)) }
-{
-    let from = put_bytes(room, from, b"merr ");
-    let from = digits.place.put(room, from, place);
-    let from = put_byte(room, from, b' ');
-    put_digits(room, from, &[code])
-}
-
-/// Puts a flag, whose place is kept: `flag M C T`.
-#[inline(always)]
-fn put_flag(room: &mut [u8], from: usize, digits: &Digits, place: Place, stamp: Stamp) -> usize
-    requires kept { place_of digits.now.place ≡ place }
-    requires proper { IsProperStamp stamp }
-    requires room { from + ITEM_ROOM ≤ length room.old }
-    ensures { Puts room.old room.new from result ITEM_ROOM (stp_text (Flag place stamp)) }
-{
-    let from = put_bytes(room, from, b"flag ");
-    let from = digits.place.put(room, from, place);
-    let from = put_byte(room, from, b' ');
     put_stamp(room, from, stamp)
 }
 
@@ -176,19 +154,6 @@ fn put_trigger(room: &mut [u8], from: usize, code: u8, stamp: Stamp) -> usize
 {
     let from = put_bytes(room, from, b"trig ");
     let from = put_digits(room, from, &[code]);
-    let from = put_byte(room, from, b' ');
-    put_stamp(room, from, stamp)
-}
-
-/// Puts a frequency: `freq N T`.
-#[inline(always)]
-fn put_frequency(room: &mut [u8], from: usize, hertz: u32, stamp: Stamp) -> usize
-    requires proper { IsProperStamp stamp }
-    requires room { from + ITEM_ROOM ≤ length room.old }
-    ensures { Puts room.old room.new from result ITEM_ROOM (stp_text (Frequency hertz stamp)) }
-{
-    let from = put_bytes(room, from, b"freq ");
-    let from = put_number(room, from, u64::from(hertz));
     let from = put_byte(room, from, b' ');
     put_stamp(room, from, stamp)
 }
@@ -207,7 +172,10 @@ pub(crate) fn put_stp(room: &mut [u8], from: usize, digits: &Digits, item: &StpI
             let from = put_bytes(room, from, b"version ");
             put_short(room, from, version)
         }
-        StpItem::MasterError { place, code } => put_master_error(room, from, digits, place, code),
+        StpItem::MasterError { place, code } => {
+            let from = put_placed(room, from, digits, b"merr ", place);
+            put_digits(room, from, &[code])
+        }
         StpItem::GlobalError { code } => {
             let from = put_bytes(room, from, b"gerr ");
             put_digits(room, from, &[code])
@@ -219,9 +187,16 @@ pub(crate) fn put_stp(room: &mut [u8], from: usize, digits: &Digits, item: &StpI
             marked,
             stamp,
         } => put_data(room, from, digits, place, width, value, marked, stamp),
-        StpItem::Flag { place, stamp } => put_flag(room, from, digits, place, stamp),
+        StpItem::Flag { place, stamp } => {
+            let from = put_placed(room, from, digits, b"flag ", place);
+            put_stamp(room, from, stamp)
+        }
         StpItem::Trigger { code, stamp } => put_trigger(room, from, code, stamp),
-        StpItem::Frequency { hertz, stamp } => put_frequency(room, from, hertz, stamp),
+        StpItem::Frequency { hertz, stamp } => {
+            let from = put_count(room, from, b"freq ", u64::from(hertz));
+            let from = put_byte(room, from, b' ');
+            put_stamp(room, from, stamp)
+        }
         StpItem::NullStamp { stamp } => {
             let from = put_bytes(room, from, b"nullts ");
             put_stamp(room, from, stamp)
