@@ -60,8 +60,7 @@ value Four v = omega (arith, length-append (codes "u32 ") (encode_lower (to_be_b
 
 change : (c : Change) → length (change_text c) ≤ 7
 change Enter = omega arith
-change Exit = omega arith
-change Return = omega arith
+change c = omega arith
 
 hardware : (item : DwtItem) → IsInRange item → length (hardware_text item) ≤ 27
 hardware (Counters counters) h = omega (arith, length-encode_with lower_digits (counters ∷ []))
@@ -94,9 +93,7 @@ hardware (Other disc size v) h =
 
 lateness : (l : Lateness) → length (lateness_text l) ≤ 11
 lateness Exact = omega arith
-lateness StampLate = omega arith
-lateness PacketLate = omega arith
-lateness BothLate = omega arith
+lateness l = omega arith
 
 flag : (b : Bool) → length (flag_text b) ≤ 1
 flag true = omega arith
@@ -305,9 +302,7 @@ raw_run at id bytes few a b =
 
 mode : (m : PortMode) → length (mode_text m) ≤ 7
 mode Bare = omega arith
-mode Aligned = omega arith
-mode Locked_mode = omega arith
-mode Hunting = omega arith
+mode m = omega arith
 
 kind : (k : SourceKind) → length (kind_text k) ≤ 3
 kind Itm_kind = omega arith

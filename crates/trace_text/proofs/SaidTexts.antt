@@ -38,39 +38,22 @@ pub written_text : (place : Place) (stamp : Stamp) (row : Row) (v : ℕ) → is_
     by_parts place stamp row v ≡ said_text (item_with place stamp row v)
 unfolding hex_digits
 written_text place stamp (Datum Four true true) v e h = refl
-written_text place stamp (Datum Four true false) v e h = refl
 written_text place stamp (Datum Four false true) v e h = refl
-written_text place stamp (Datum Four false false) v e h = refl
 written_text place stamp (Datum Eight true true) v e h = refl
-written_text place stamp (Datum Eight true false) v e h = refl
 written_text place stamp (Datum Eight false true) v e h = refl
-written_text place stamp (Datum Eight false false) v e h = refl
 written_text place stamp (Datum Sixteen true true) v e h = refl
-written_text place stamp (Datum Sixteen true false) v e h = refl
 written_text place stamp (Datum Sixteen false true) v e h = refl
-written_text place stamp (Datum Sixteen false false) v e h = refl
 written_text place stamp (Datum ThirtyTwo true true) v e h = refl
-written_text place stamp (Datum ThirtyTwo true false) v e h = refl
 written_text place stamp (Datum ThirtyTwo false true) v e h = refl
-written_text place stamp (Datum ThirtyTwo false false) v e h = refl
 written_text place stamp (Datum SixtyFour true true) v e h = refl
-written_text place stamp (Datum SixtyFour true false) v e h = refl
 written_text place stamp (Datum SixtyFour false true) v e h = refl
-written_text place stamp (Datum SixtyFour false false) v e h = refl
+written_text place stamp (Datum width marked stamped) v e h = refl
 written_text place stamp (Flag true) v e h = refl
 written_text place stamp (Flag false) v e h = refl
 written_text place stamp NullStamp v e h = refl
 written_text place stamp (Trigger true) v e h = ap (λ (l : List ℕ). codes "trig " ++ (l ++ (codes " " ++ stamp_text stamp))) (byte_digits v h)
 written_text place stamp (Trigger false) v e h = ap (λ (l : List ℕ). codes "trig " ++ (l ++ (codes " " ++ stamp_text stamp))) (byte_digits v h)
-written_text place stamp Null v e h = cc
-written_text place stamp Master8 v e h = cc
-written_text place stamp MasterError v e h = cc
-written_text place stamp Channel8 v e h = cc
-written_text place stamp Master16 v e h = cc
-written_text place stamp GlobalError v e h = cc
-written_text place stamp Channel16 v e h = cc
-written_text place stamp Version v e h = cc
-written_text place stamp (Frequency stamped) v e h = cc
+written_text place stamp row v e h = cc
 
 -- a line by its parts
 pub line_by : (at half id : ℕ) (o : Option StpItem) → is_some o ≡ true →
