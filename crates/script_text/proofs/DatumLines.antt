@@ -53,15 +53,11 @@ datum_shape : (master channel digits stamp : List ℕ) (width : Width) (marked :
     shape_named (words_of master channel width digits marked stamp) ≡ Some (shapes.Stp (stp_shapes.Datum width marked))
 unfolding shape_named
 datum_shape master channel digits stamp Four true = refl
-datum_shape master channel digits stamp Four false = refl
 datum_shape master channel digits stamp Eight true = refl
-datum_shape master channel digits stamp Eight false = refl
 datum_shape master channel digits stamp Sixteen true = refl
-datum_shape master channel digits stamp Sixteen false = refl
 datum_shape master channel digits stamp ThirtyTwo true = refl
-datum_shape master channel digits stamp ThirtyTwo false = refl
 datum_shape master channel digits stamp SixtyFour true = refl
-datum_shape master channel digits stamp SixtyFour false = refl
+datum_shape master channel digits stamp width marked = refl
 
 abbrev datum : ℕ → ℕ → Width → ℕ → Bool → Stamp → StpItem
 datum master channel width value marked stamp =

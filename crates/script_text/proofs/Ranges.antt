@@ -107,14 +107,7 @@ itm_said shape words packet e = let w = values_of (itm_row shape) words packet e
 -- hardware packets
 pub unnamed_is : (item given : DwtItem) → unnamed item ≡ Some given → item ≡ given
 unnamed_is (dwt.Other disc size value) given e = some_of (dwt.Other disc size value) given e
-unnamed_is (dwt.Counters n) given e = cc
-unnamed_is (dwt.Exception n change) given e = cc
-unnamed_is (dwt.Sample pc) given e = cc
-unnamed_is dwt.Asleep given e = cc
-unnamed_is (dwt.MatchPc n pc) given e = cc
-unnamed_is (dwt.MatchAddress n low) given e = cc
-unnamed_is (dwt.Read n size value) given e = cc
-unnamed_is (dwt.Written n size value) given e = cc
+unnamed_is item given e = cc
 
 -- an item in its range is one of a packet
 in_range : (item given : DwtItem) → Some item ≡ Some given → IsInRange item → IsProperDwt given
