@@ -15,22 +15,8 @@ use Rattle.itm_grammar.specs.Shortest.{short}
 use Rattle.itm_grammar.proofs.Deciding.{decided}
 use Rattle.itm_grammar.proofs.ShortSpellings.{shortest}
 use Rattle.itm_codec.specs.Reading.{packets_in}
+use Rattle.stp_encoder.proofs.Reading.{parts_of, last_of}
 use Rattle.script_laws.proofs.Bytes.{spelled, AreProper}
-
--- placed units whose units are two lists, one after the other
-parts_of : (u : List Placed) (a b : List ℕ) → units_of u ≡ a ++ b → (v : List Placed) × (w : List Placed) × (u ≡ v ++ w) × (units_of v ≡ a) × (units_of w ≡ b)
-parts_of u [] b e = ([], u, refl, refl, e)
-parts_of [] (x ∷ a) b e = absurd cc
-parts_of (p ∷ u) (x ∷ a) b e =
-    let head : p.unit ≡ x = cc in
-    let tail : units_of u ≡ a ++ b = cc in
-    let more = parts_of u a b tail in
-    (p ∷ more.0, more.1, ap (λ (l : List Placed). p ∷ l) more.2, ap (λ (l : List ℕ). p.unit ∷ l) more.3 ∙ ap (λ (y : ℕ). y ∷ a) head, more.4)
-
--- a list that is not empty has a last element
-last_of : (p : Placed) (u : List Placed) → (w : List Placed) × (l : Placed) × (p ∷ u ≡ w ++ l ∷ [])
-last_of p [] = ([], p, refl)
-last_of p (q ∷ u) = let more = last_of q u in (p ∷ more.0, more.1, ap (λ (l : List Placed). p ∷ l) more.2)
 
 -- a reading goes on after a front
 from_append : (p : Progress Partial ItmPacket) (u w : List Placed) → progress_from (by_unit rule) Header p (u ++ w) ≡ progress_from (by_unit rule) Header (progress_from (by_unit rule) Header p u) w

@@ -17,7 +17,7 @@ use Rattle.stp_encoder.specs.Bytes.{spelled}
 use Rattle.stp_encoder.proofs.Wholes.{IsWhole, AreWhole}
 
 -- placed units whose units are two lists, one after the other
-parts_of : (u : List Placed) (a b : List ℕ) → units_of u ≡ a ++ b → (v : List Placed) × (w : List Placed) × (u ≡ v ++ w) × (units_of v ≡ a) × (units_of w ≡ b)
+pub parts_of : (u : List Placed) (a b : List ℕ) → units_of u ≡ a ++ b → (v : List Placed) × (w : List Placed) × (u ≡ v ++ w) × (units_of v ≡ a) × (units_of w ≡ b)
 parts_of u [] b e = ([], u, refl, refl, e)
 parts_of [] (x ∷ a) b e = absurd cc
 parts_of (p ∷ u) (x ∷ a) b e =
@@ -27,7 +27,7 @@ parts_of (p ∷ u) (x ∷ a) b e =
     (p ∷ more.0, more.1, ap (λ (l : List Placed). p ∷ l) more.2, ap (λ (l : List ℕ). p.unit ∷ l) more.3 ∙ ap (λ (y : ℕ). y ∷ a) head, more.4)
 
 -- a list that is not empty has a last element
-last_of : (p : Placed) (u : List Placed) → (w : List Placed) × (l : Placed) × (p ∷ u ≡ w ++ l ∷ [])
+pub last_of : (p : Placed) (u : List Placed) → (w : List Placed) × (l : Placed) × (p ∷ u ≡ w ++ l ∷ [])
 last_of p [] = ([], p, refl)
 last_of p (q ∷ u) = let more = last_of q u in (p ∷ more.0, more.1, ap (λ (l : List Placed). p ∷ l) more.2)
 
