@@ -106,12 +106,8 @@ pub digits_of_four : (bytes : List ℕ) → length bytes ≡ 4 →
     ((encode_lower (get_or bytes 0 0 ∷ []) ++ encode_lower (get_or bytes 1 0 ∷ [])) ++ encode_lower (get_or bytes 2 0 ∷ []))
     ++ encode_lower (get_or bytes 3 0 ∷ []) ≡ encode_lower bytes
 unfolding encode_with
-digits_of_four [] e = absurd (omega arith)
-digits_of_four (a ∷ []) e = absurd (omega arith)
-digits_of_four (a ∷ (b ∷ [])) e = absurd (omega arith)
-digits_of_four (a ∷ (b ∷ (c ∷ []))) e = absurd (omega arith)
 digits_of_four (a ∷ (b ∷ (c ∷ (d ∷ [])))) e = refl
-digits_of_four (a ∷ (b ∷ (c ∷ (d ∷ (f ∷ bytes))))) e = absurd (omega arith)
+digits_of_four bytes e = absurd (omega arith)
 
 -- no bytes, and one byte more
 pub encode_none : encode_lower [] ≡ []
