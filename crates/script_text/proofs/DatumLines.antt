@@ -77,10 +77,8 @@ datum_item master channel value digits word width marked stamp h l e s =
 
 width_is_word : (width : Width) → is_word (width_text width) ≡ true
 width_is_word Four = refl
-width_is_word Eight = refl
-width_is_word Sixteen = refl
-width_is_word ThirtyTwo = refl
 width_is_word SixtyFour = refl
+width_is_word width = refl
 
 mark_is_word : (marked : Bool) → is_word (mark_text marked) ≡ true
 mark_is_word true = refl
