@@ -1,7 +1,8 @@
 //! The lines of what STP packets say, from their parts. Those of data, flags, triggers and NULL_TS, which are most, are
 //! put with no branch by what the packet is.
 
-ghost use Rattle.std.specs.Prelude.{◌≡◌, ◌+◌, ◌*◌, ◌/◌, ◌≤◌, ◌<◌, ◌++◌, ◌==◌, true, length, take, drop, slice_index, Some};
+ghost use Rattle.std.specs.Prelude.{◌≡◌, ◌+◌, ◌*◌, ◌/◌, ◌≤◌, ◌<◌, ◌++◌, ◌==◌, true, length, Some};
+ghost use Rattle.std.specs.Prelude.{take, drop, slice_index};
 ghost use Rattle.std.specs.Option.{is_some};
 ghost use Rattle.stp_grammar.specs.Opcodes.{line_of, row_at};
 ghost use Rattle.stp_grammar.specs.Said.{said_item, IsProperSaid};
