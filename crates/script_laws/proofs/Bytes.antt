@@ -289,25 +289,24 @@ module _ (plan : Plan) (x : ℕ) where
       ∙ none_put order (before ++ line ∷ []) lines k.1
 
   -- and nothing is given
-  pub none_items : (lines : List Line) → has_line x lines ≡ false → given_items x lines ≡ []
-  none_items [] e = refl
-  none_items (line ∷ lines) e =
+  none_of : {A : Type 0} (given : Line → List A) → ((line : Line) → is_line_of x line ≡ false → given line ≡ []) →
+      (lines : List Line) → has_line x lines ≡ false → flat_map given lines ≡ []
+  none_of given none [] e = refl
+  none_of {A = A} given none (line ∷ lines) e =
       let k = either (is_line_of x line) (has_line x lines) e in
-      ap (λ (l : List StpItem). l ++ given_items x lines) (by line k.0) ∙ none_items lines k.1
-    where
-      by : (line : Line) → is_line_of x line ≡ false → items_by x line ≡ []
-      by Nothing e = refl
-      by (Of id item) e = ap (λ (v : Bool). if v then items_of item else []) e
+      ap (λ (l : List A). l ++ flat_map given lines) (none line k.0) ∙ none_of given none lines k.1
+
+  none_by : {A : Type 0} (given : Line → List A) (of : Item → List A) → given Nothing ≡ [] →
+      ((id : ℕ) (item : Item) → given (Of id item) ≡ (if id == x then of item else [])) →
+      (line : Line) → is_line_of x line ≡ false → given line ≡ []
+  none_by given of n f Nothing e = n
+  none_by {A = A} given of n f (Of id item) e = f id item ∙ ap (λ (v : Bool). let r : List A = if v then of item else [] in r) e
+
+  pub none_items : (lines : List Line) → has_line x lines ≡ false → given_items x lines ≡ []
+  none_items lines e = none_of (items_by x) (none_by (items_by x) items_of refl (λ id item. refl)) lines e
 
   pub none_packets : (lines : List Line) → has_line x lines ≡ false → given_packets x lines ≡ []
-  none_packets [] e = refl
-  none_packets (line ∷ lines) e =
-      let k = either (is_line_of x line) (has_line x lines) e in
-      ap (λ (l : List ItmPacket). l ++ given_packets x lines) (by line k.0) ∙ none_packets lines k.1
-    where
-      by : (line : Line) → is_line_of x line ≡ false → packets_by x line ≡ []
-      by Nothing e = refl
-      by (Of id item) e = ap (λ (v : Bool). if v then packets_of item else []) e
+  none_packets lines e = none_of (packets_by x) (none_by (packets_by x) packets_of refl (λ id item. refl)) lines e
 
   pub none_bytes : (lines : List Line) → has_line x lines ≡ false → bytes_for x (script_bytes plan lines) ≡ []
   none_bytes lines e =

@@ -153,24 +153,16 @@ bit_small true = omega arith
 bit_small false = omega arith
 
 pub value_small : (len value : ℕ) → len ≤ 4 → value < 2 ^ first_bits len → value < 2 ^ 26
-value_small zero value l h = omega arith
-value_small (suc zero) value l h = omega arith
-value_small (suc (suc zero)) value l h = omega arith
-value_small (suc (suc (suc zero))) value l h = omega arith
-value_small (suc (suc (suc (suc zero)))) value l h = omega arith
 value_small (suc (suc (suc (suc (suc n))))) value l h = absurd (omega arith)
+value_small len value l h = omega arith
 
 size_fits : (size : Size) (value : ℕ) → value < 256 ^ byte_count size → value < 16 ^ (2 * byte_count size)
 size_fits One value h = omega arith
-size_fits Two value h = omega arith
-size_fits Four value h = omega arith
+size_fits size value h = omega arith
 
 width_fits : (width : Width) (value : ℕ) → value < 2 ^ bits_of width → value < 16 ^ (bits_of width / 4)
 width_fits widths.Four value h = omega arith
-width_fits widths.Eight value h = omega arith
-width_fits widths.Sixteen value h = omega arith
-width_fits widths.ThirtyTwo value h = omega arith
-width_fits widths.SixtyFour value h = omega arith
+width_fits width value h = omega arith
 
 second_small : (wide : Bool) (value : ℕ) → value < 2 ^ second_bits wide → value ≤ 2 ^ second_bits wide - 1
 second_small true value h = omega arith
@@ -238,44 +230,23 @@ first_fits (suc (suc (suc (suc (suc n))))) value change wrap h = absurd (let k =
 
 pub itm_made : (packet : ItmPacket) → IsProper packet → IsSaidItm packet →
     made_in (itm_row (itm_shape packet)) (itm_values packet) ≡ Some packet
-itm_made itm.Sync h n = refl
-itm_made itm.Overflow h n = refl
-itm_made (itm.Software port size value) h n = refl
 itm_made (itm.Hardware disc size value) h n = absurd n
-itm_made (itm.Local lateness delta) h n = refl
 itm_made (itm.GlobalFirst len value change wrap) h n =
     let c = bit_back change in
     let w = bit_back wrap in
     let f = first_fits len value change wrap h in
     rw (c, w, f) refl
-itm_made (itm.GlobalSecond wide value) h n = refl
-itm_made (itm.Extension dwt value) h n = refl
+itm_made packet h n = refl
 
 pub dwt_made : (item : DwtItem) → IsInRange item → made_in (dwt_row (dwt_shape item)) (dwt_values item) ≡ Some item
 dwt_made (dwt.Counters counters) h = let e : nat_le counters 63 ≡ true =
     (let k : counters < 64 = h in grind (arith, nat_tests)) in rw e refl
-dwt_made (dwt.Exception number change) h = refl
-dwt_made (dwt.Sample pc) h = refl
-dwt_made dwt.Asleep h = refl
-dwt_made (dwt.MatchPc comparator pc) h = refl
-dwt_made (dwt.MatchAddress comparator low) h = refl
-dwt_made (dwt.Read comparator size value) h = refl
-dwt_made (dwt.Written comparator size value) h = refl
 dwt_made (dwt.Other disc size value) h = ap unnamed (no_row disc size value h.1)
+dwt_made item h = refl
 
 pub stp_made : (item : StpItem) → IsSaidStp item → made_in (stp_row (stp_shape item)) (stp_values item) ≡ Some item
-stp_made stp.Async k = refl
-stp_made (stp.Version version) k = refl
-stp_made (stp.MasterError place code) k = refl
-stp_made (stp.GlobalError code) k = refl
-stp_made (stp.Datum place width value marked stamp) k = refl
-stp_made (stp.Flag place stamp) k = refl
-stp_made (stp.Trigger code stamp) k = refl
-stp_made (stp.Frequency hertz stamp) k = refl
 stp_made (stp.NullStamp NoStamp) k = absurd k
-stp_made (stp.NullStamp (Natural time)) k = refl
-stp_made (stp.NullStamp (Gray time)) k = refl
-stp_made (stp.NullStamp (RawStamp size word)) k = refl
+stp_made item k = refl
 
 -- and makes no other
 bit_of : (n : ℕ) → n ≤ 1 → bit (n == 1) ≡ n
@@ -286,10 +257,6 @@ bit_of (suc (suc n)) h = absurd (omega arith)
 pub itm_back : (shape : ItmShape) (values : Values (fields_in (itm_row shape))) (packet : ItmPacket) →
     AllFit (fields_in (itm_row shape)) values →
     made_in (itm_row shape) values ≡ Some packet → row_words (itm_row shape) values ≡ itm_words packet
-itm_back itm_shapes.Sync v packet h e = ap itm_words (some_of _ packet e)
-itm_back itm_shapes.Overflow v packet h e = ap itm_words (some_of _ packet e)
-itm_back (itm_shapes.Software size) v packet h e = ap itm_words (some_of _ packet e)
-itm_back (itm_shapes.Local lateness) v packet h e = ap itm_words (some_of _ packet e)
 itm_back itm_shapes.GlobalFirst (len, (value, (change, (wrap, end)))) packet h e =
     let f = chosen_some (is_first len value (change == 1) (wrap == 1))
     (itm.GlobalFirst len value (change == 1) (wrap == 1)) packet e in
@@ -299,44 +266,29 @@ itm_back itm_shapes.GlobalFirst (len, (value, (change, (wrap, end)))) packet h e
     ∙ ap (λ n. codes "global1" ∷ (decimal len ∷ (decimal value ∷ (decimal (bit (change == 1)) ∷ (decimal n ∷ [])))))
     (sym w)
     ∙ ap itm_words f.1
-itm_back (itm_shapes.GlobalSecond wide) v packet h e = ap itm_words (some_of _ packet e)
-itm_back (itm_shapes.Extension dwt) v packet h e = ap itm_words (some_of _ packet e)
+itm_back shape v packet h e = ap itm_words (some_of _ packet e)
 
 other_words : (item : DwtItem) (d : ℕ) (s : Size) (v : ℕ) → unnamed item ≡ Some item → packet item ≡ (d, s, v) →
     row_words (dwt_row (dwt_shapes.Other s)) (d, (v, tt)) ≡ dwt_words item
 other_words (dwt.Other disc size value) d s v u e =
     ap (λ (p : ℕ × Size × ℕ). row_words (dwt_row (dwt_shapes.Other p.1)) (p.0, (p.2, tt))) (sym e)
-other_words (dwt.Counters n) d s v u e = cc
-other_words (dwt.Exception n change) d s v u e = cc
-other_words (dwt.Sample pc) d s v u e = cc
-other_words dwt.Asleep d s v u e = cc
-other_words (dwt.MatchPc n pc) d s v u e = cc
-other_words (dwt.MatchAddress n address) d s v u e = cc
-other_words (dwt.Read n size value) d s v u e = cc
-other_words (dwt.Written n size value) d s v u e = cc
+other_words item d s v u e = cc
 
 size_small : (size : Size) (value : ℕ) → value < 16 ^ (2 * byte_count size) → value < 256 ^ byte_count size
 size_small One value h = omega arith
-size_small Two value h = omega arith
-size_small Four value h = omega arith
+size_small size value h = omega arith
 
 pub dwt_back : (shape : DwtShape) (values : Values (fields_in (dwt_row shape))) (item : DwtItem) →
     AllFit (fields_in (dwt_row shape)) values →
     made_in (dwt_row shape) values ≡ Some item → row_words (dwt_row shape) values ≡ dwt_words item
 dwt_back dwt_shapes.Counters (bits, end) item h e =
     ap dwt_words (chosen_some (nat_le bits 63) (dwt.Counters bits) item e).1
-dwt_back (dwt_shapes.Exception change) v item h e = ap dwt_words (some_of _ item e)
-dwt_back dwt_shapes.Sample v item h e = ap dwt_words (some_of _ item e)
-dwt_back dwt_shapes.Asleep v item h e = ap dwt_words (some_of _ item e)
-dwt_back dwt_shapes.MatchPc v item h e = ap dwt_words (some_of _ item e)
-dwt_back dwt_shapes.MatchAddress v item h e = ap dwt_words (some_of _ item e)
-dwt_back (dwt_shapes.Read size) v item h e = ap dwt_words (some_of _ item e)
-dwt_back (dwt_shapes.Written size) v item h e = ap dwt_words (some_of _ item e)
 dwt_back (dwt_shapes.Other size) (disc, (value, end)) item h e =
     let named = unnamed_is (name disc size value) item e in
     let back : packet item ≡ (disc, size, value) = ap packet (sym named)
     ∙ (inverse disc size value (let k = h.0 in omega arith) (size_small size value h.1.0)).0 in
     other_words item disc size value (ap unnamed (sym named) ∙ e) back
+dwt_back shape v item h e = ap dwt_words (some_of _ item e)
 
 null_is : (stamp : Stamp) (item : StpItem) → null_stamp stamp ≡ Some item → stp.NullStamp stamp ≡ item
 null_is NoStamp item e = cc
@@ -346,15 +298,8 @@ null_is (RawStamp size word) item e = some_of (stp.NullStamp (RawStamp size word
 
 pub stp_back : (shape : StpShape) (values : Values (fields_in (stp_row shape))) (item : StpItem) →
     made_in (stp_row shape) values ≡ Some item → row_words (stp_row shape) values ≡ stp_words item
-stp_back stp_shapes.Async v item e = ap stp_words (some_of _ item e)
-stp_back stp_shapes.Version v item e = ap stp_words (some_of _ item e)
-stp_back stp_shapes.MasterError v item e = ap stp_words (some_of _ item e)
-stp_back stp_shapes.GlobalError v item e = ap stp_words (some_of _ item e)
-stp_back (stp_shapes.Datum width marked) v item e = ap stp_words (some_of _ item e)
-stp_back stp_shapes.Flag v item e = ap stp_words (some_of _ item e)
-stp_back stp_shapes.Trigger v item e = ap stp_words (some_of _ item e)
-stp_back stp_shapes.Frequency v item e = ap stp_words (some_of _ item e)
 stp_back stp_shapes.NullStamp (stamp, end) item e = ap stp_words (null_is stamp item e)
+stp_back shape v item e = ap stp_words (some_of _ item e)
 
 flag_is : (flag : Bool) → flag_text flag ≡ decimal (bit flag)
 flag_is true = sym (decimal_digit 1 (omega arith))
@@ -377,8 +322,7 @@ value_joined : (front : List ℕ) (size : Size) (n v : ℕ) → front
     ++ (32 ∷ (decimal n ++ (32 ∷ value_text size v))) ≡ joined (front
     ∷ (decimal n ∷ size_word size ∷ (hex_digits (2 * byte_count size) v ∷ [])))
 value_joined front One n v = ap (λ d. front ++ (32 ∷ (decimal n ++ (32 ∷ d)))) (value_is One v)
-value_joined front Two n v = ap (λ d. front ++ (32 ∷ (decimal n ++ (32 ∷ d)))) (value_is Two v)
-value_joined front Four n v = ap (λ d. front ++ (32 ∷ (decimal n ++ (32 ∷ d)))) (value_is Four v)
+value_joined front size n v = ap (λ d. front ++ (32 ∷ (decimal n ++ (32 ∷ d)))) (value_is size v)
 
 compared : (n : ℕ) (word rest : List ℕ) → (codes "cmp " ++ (decimal n ++ (32 ∷ (word ++ (32 ∷ [])))))
     ++ rest ≡ codes "cmp " ++ (decimal n ++ (32 ∷ (word ++ (32 ∷ rest))))
@@ -393,35 +337,27 @@ accessed : (n : ℕ) (word : List ℕ) (size : Size) (v : ℕ) →
     ∷ (decimal n ∷ (word ∷ size_word size ∷ (hex_digits (2 * byte_count size) v ∷ []))))
 accessed n word One v = compared n word (value_text One v)
     ∙ ap (λ d. codes "cmp " ++ (decimal n ++ (32 ∷ (word ++ (32 ∷ d))))) (value_is One v)
-accessed n word Two v = compared n word (value_text Two v)
-    ∙ ap (λ d. codes "cmp " ++ (decimal n ++ (32 ∷ (word ++ (32 ∷ d))))) (value_is Two v)
-accessed n word Four v = compared n word (value_text Four v)
-    ∙ ap (λ d. codes "cmp " ++ (decimal n ++ (32 ∷ (word ++ (32 ∷ d))))) (value_is Four v)
+accessed n word size v = compared n word (value_text size v)
+    ∙ ap (λ d. codes "cmp " ++ (decimal n ++ (32 ∷ (word ++ (32 ∷ d))))) (value_is size v)
 
 pub itm_joined : (packet : ItmPacket) → IsSaidItm packet → item_text packet ≡ joined (itm_words packet)
-itm_joined itm.Sync h = refl
-itm_joined itm.Overflow h = refl
 itm_joined (itm.Software port size value) h = value_joined (codes "port") size port value
 itm_joined (itm.Hardware disc size value) h = absurd h
-itm_joined (itm.Local lateness delta) h = refl
 itm_joined (itm.GlobalFirst len value change wrap) h =
     ap (λ d. codes "global1 " ++ (decimal len ++ (32 ∷ (decimal value ++ (32 ∷ (d ++ (32 ∷ flag_text wrap)))))))
     (flag_is change)
     ∙ ap (λ d. codes "global1 " ++ (decimal len ++ (32 ∷ (decimal value ++ (32 ∷ (decimal (bit change) ++ (32 ∷ d)))))))
     (flag_is wrap)
-itm_joined (itm.GlobalSecond wide value) h = refl
 itm_joined (itm.Extension dwt value) h =
     ap (λ d. codes "ext " ++ (owner_text dwt ++ (codes " " ++ d))) (encoded 4 value)
+itm_joined packet h = refl
 
 pub dwt_joined : (item : DwtItem) → IsInRange item → hardware_text item ≡ joined (dwt_words item)
 dwt_joined (dwt.Counters counters) h =
     let k : counters < 64 = h in
     ap (λ d. codes "counters " ++ d) (byte_is counters (omega arith))
 dwt_joined (dwt.Exception number Enter) h = refl
-dwt_joined (dwt.Exception number Exit) h = refl
-dwt_joined (dwt.Exception number Return) h = refl
 dwt_joined (dwt.Sample pc) h = ap (λ d. codes "pc " ++ d) (encoded 4 pc)
-dwt_joined dwt.Asleep h = refl
 dwt_joined (dwt.MatchPc comparator pc) h =
     compared comparator (codes "pc") (encode_lower (to_be_bytes w32 pc))
     ∙ ap (λ d. codes "cmp " ++ (decimal comparator ++ (32 ∷ (codes "pc" ++ (32 ∷ d))))) (encoded 4 pc)
@@ -431,6 +367,7 @@ dwt_joined (dwt.MatchAddress comparator low) h =
 dwt_joined (dwt.Read comparator size value) h = accessed comparator (codes "read") size value
 dwt_joined (dwt.Written comparator size value) h = accessed comparator (codes "write") size value
 dwt_joined (dwt.Other disc size value) h = value_joined (codes "hw") size disc value
+dwt_joined item h = refl
 
 place_joined : (place : Place) (rest : List ℕ) → place_text place ++ (32 ∷ rest) ≡ known_text place.master
     ++ (32 ∷ (known_text place.channel ++ (32 ∷ rest)))
@@ -441,8 +378,6 @@ datum_joined : (width : Width) (value : ℕ) (rest : List ℕ) → datum_text wi
 datum_joined width value rest = append_assoc (width_text width) (32 ∷ hex_digits (bits_of width / 4) value) (32 ∷ rest)
 
 pub stp_joined : (item : StpItem) → IsProperItem item → stp_text item ≡ joined (stp_words item)
-stp_joined stp.Async h = refl
-stp_joined (stp.Version version) h = refl
 stp_joined (stp.MasterError place code) h =
     ap (λ d. codes "merr " ++ (place_text place ++ (32 ∷ d))) (byte_is code h.1)
     ∙ ap (λ d. codes "merr " ++ d) (place_joined place (hex_digits 2 code))
@@ -454,8 +389,7 @@ stp_joined (stp.Datum place width value marked stamp) h =
     ++ (32 ∷ (hex_digits (bits_of width / 4) value ++ (32 ∷ (mark_text marked ++ (32 ∷ stamp_text stamp)))))))
 stp_joined (stp.Flag place stamp) h = ap (λ d. codes "flag " ++ d) (place_joined place (stamp_text stamp))
 stp_joined (stp.Trigger code stamp) h = ap (λ d. codes "trig " ++ (d ++ (32 ∷ stamp_text stamp))) (byte_is code h.0)
-stp_joined (stp.Frequency hertz stamp) h = refl
-stp_joined (stp.NullStamp stamp) h = refl
+stp_joined item h = refl
 
 pub text_joined : (item : Item) → IsSayable item → text_of item ≡ joined (words_of item)
 text_joined (Itm packet) h = itm_joined packet h.1

@@ -54,16 +54,9 @@ fit_same before (Of id item) other e = item_same (Of id item) other (given_items
 taken_kind : (kind : Option SourceKind) (id : ℕ) (item : Item) (line : Line) → taken_by kind id item ≡ Ok line → HasKind kind item
 taken_kind (Some kinds.Itm) id (Itm p) line e = tt
 taken_kind (Some kinds.Itm) id (Dwt d) line e = tt
-taken_kind (Some kinds.Itm) id (Stp item) line e = cc
-taken_kind (Some kinds.Itm) id (Raw bytes) line e = cc
-taken_kind (Some kinds.Stp) id (Itm p) line e = cc
-taken_kind (Some kinds.Stp) id (Dwt d) line e = cc
 taken_kind (Some kinds.Stp) id (Stp item) line e = tt
-taken_kind (Some kinds.Stp) id (Raw bytes) line e = cc
-taken_kind None id (Itm p) line e = cc
-taken_kind None id (Dwt d) line e = cc
-taken_kind None id (Stp item) line e = cc
 taken_kind None id (Raw bytes) line e = tt
+taken_kind kind id item line e = cc
 
 line_suits : (plan : Plan) (line : Line) → IsSaid plan line → SuitsPlan plan line
 line_suits plan Nothing s = tt

@@ -103,13 +103,9 @@ trigger_by : (long flush nothing printable words trigger : Bool) (said : Result 
     (new : Result Line2 LineFault) (byte : ℕ) →
     two_by long flush nothing printable words trigger said new ≡ Ok (Trigger byte) →
     (trigger ≡ true) × (new ≡ Ok (Trigger byte))
-trigger_by true flush nothing printable words trigger said new byte e = cc
-trigger_by false true nothing printable words trigger said new byte e = cc
-trigger_by false false true printable words trigger said new byte e = cc
-trigger_by false false false false words trigger said new byte e = cc
-trigger_by false false false true false trigger said new byte e = cc
 trigger_by false false false true true true said new byte e = (refl, e)
 trigger_by false false false true true false said new byte e = absurd (no_one said byte e)
+trigger_by long flush nothing printable words trigger said new byte e = cc
 
 trigger_line : (plan : Plan) (line : List ℕ) (byte : ℕ) → line2_of plan line ≡ Ok (Trigger byte) →
     (is_trigger (words_in line) ≡ true) × (trigger_said (words_in line) ≡ Ok (Trigger byte))
@@ -146,14 +142,9 @@ one_by : (long flush nothing printable words trigger : Bool) (said : Result Line
     (new : Result Line2 LineFault) (line : Line) → ((l : Line) → new ≡ Ok (One l) → ⊥) →
     two_by long flush nothing printable words trigger said new ≡ Ok (One line) →
     (if long then Err LongLine else if nothing then Ok Nothing else if printable then (if words then said else Err BadLine) else Err BadLine) ≡ Ok line
-one_by true flush nothing printable words trigger said new line none e = cc
-one_by false true nothing printable words trigger said new line none e = cc
-one_by false false true printable words trigger said new line none e = cc
-one_by false false false false words trigger said new line none e = cc
-one_by false false false true false trigger said new line none e = cc
 one_by false false false true true true said new line none e = absurd (none line e)
 one_by false false false true true false (Ok found) new line none e = cc
-one_by false false false true true false (Err fault) new line none e = cc
+one_by long flush nothing printable words trigger said new line none e = cc
 
 no_one_said : (words : List (List ℕ)) (line : Line) → trigger_said words ≡ Ok (One line) → ⊥
 unfolding trigger_said

@@ -53,15 +53,11 @@ datum_shape : (master channel digits stamp : List ℕ) (width : Width) (marked :
     shape_named (words_of master channel width digits marked stamp) ≡ Some (shapes.Stp (stp_shapes.Datum width marked))
 unfolding shape_named
 datum_shape master channel digits stamp Four true = refl
-datum_shape master channel digits stamp Four false = refl
 datum_shape master channel digits stamp Eight true = refl
-datum_shape master channel digits stamp Eight false = refl
 datum_shape master channel digits stamp Sixteen true = refl
-datum_shape master channel digits stamp Sixteen false = refl
 datum_shape master channel digits stamp ThirtyTwo true = refl
-datum_shape master channel digits stamp ThirtyTwo false = refl
 datum_shape master channel digits stamp SixtyFour true = refl
-datum_shape master channel digits stamp SixtyFour false = refl
+datum_shape master channel digits stamp width marked = refl
 
 abbrev datum : ℕ → ℕ → Width → ℕ → Bool → Stamp → StpItem
 datum master channel width value marked stamp =
@@ -81,10 +77,8 @@ datum_item master channel value digits word width marked stamp h l e s =
 
 width_is_word : (width : Width) → is_word (width_text width) ≡ true
 width_is_word Four = refl
-width_is_word Eight = refl
-width_is_word Sixteen = refl
-width_is_word ThirtyTwo = refl
 width_is_word SixtyFour = refl
+width_is_word width = refl
 
 mark_is_word : (marked : Bool) → is_word (mark_text marked) ≡ true
 mark_is_word true = refl

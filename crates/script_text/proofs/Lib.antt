@@ -1,3 +1,4 @@
+pub mod Computed
 pub mod Splitting
 pub mod Unnamed
 pub mod Hexadecimals

@@ -52,12 +52,9 @@ new_by : (long flush nothing printable words trigger : Bool) (said : Result Line
     two_by long flush nothing printable words trigger said new
     ≡ (if flush then Ok Flush else if printable && words then (if trigger then new else Err BadLine) else Err BadLine)
 new_by true flush nothing printable words trigger said new e = cc
-new_by false true nothing printable words trigger said new e = refl
 new_by false false true printable words trigger said new e = cc
-new_by false false false false words trigger said new e = refl
-new_by false false false true false trigger said new e = refl
-new_by false false false true true true said new e = refl
 new_by false false false true true false said new e = ap as_one e
+new_by long flush nothing printable words trigger said new e = refl
 
 pub too_many : (n : ℕ) (v : Bool) → (suc (suc (suc (suc n))) == 3 && v) ≡ true → ⊥
 too_many n v h = grind (arith, nat_tests)

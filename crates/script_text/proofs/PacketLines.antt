@@ -2,7 +2,7 @@
 use Rattle.std.proofs.Common.{◌≡◌, ℕ, zero, suc, append_assoc, length-append, ◌+◌, ◌-◌, ◌*◌, ◌<◌, ◌≤◌, ◌^◌, List, []}
 use Rattle.std.proofs.Common.{◌∷◌, ◌++◌, length, take, drop, refl, sym, ◌∙◌, ap, subst, arith, Bool, true, false, Some}
 use Rattle.std.proofs.Common.{None, Option, Ok, Err, Result}
-use Rattle.std.specs.Prelude.{slice_index, ◌==◌, ◌&&◌, nat_lt, nat_le, codes, decimal, ok_or, OnOk, if◌then◌else◌}
+use Rattle.std.specs.Prelude.{slice_index, ◌==◌, nat_lt, nat_le, codes, decimal, ok_or, OnOk, if◌then◌else◌}
 use Rattle.std.specs.List.{list_all, AllPass}
 use Rattle.std.proofs.lemmas.List.Elements.{All-head, All-tail}
 use Rattle.hex.specs.Hex.{is_hex_digit}
@@ -99,38 +99,32 @@ three a b c s rest la ha lb hb lc hc e =
 pub one_digit : (line : List ℕ) (n : ℕ) → 4 ≤ length line → 48 ≤ slice_index line 0 → slice_index line 0 ≤ 57 →
     slice_index line 1 ≡ 32 →
     n ≡ slice_index line 0 - 48 → BeginsWithNumber line n (take (length line - 2) (drop 2 line))
-one_digit [] n len l h e is = absurd (omega arith)
-one_digit (a ∷ []) n len l h e is = absurd (omega arith)
 one_digit (a ∷ (s ∷ rest)) n len l h e is =
     let line = a ∷ (s ∷ rest) in
     subst (BeginsWithNumber line n) (sym (end_of line 1))
     (subst (λ (n : ℕ). BeginsWithNumber line n rest) (sym is) (one a s rest l h e))
+one_digit line n len l h e is = absurd (omega arith)
 
 pub two_digits : (line : List ℕ) (n : ℕ) → 4 ≤ length line → 49 ≤ slice_index line 0 → slice_index line 0 ≤ 57 →
     48 ≤ slice_index line 1 → slice_index line 1 ≤ 57 →
     slice_index line 2 ≡ 32 → n ≡ 10 * (slice_index line 0 - 48) + (slice_index line 1 - 48) →
     BeginsWithNumber line n (take (length line - 3) (drop 3 line))
-two_digits [] n len la ha lb hb e is = absurd (omega arith)
-two_digits (a ∷ []) n len la ha lb hb e is = absurd (omega arith)
-two_digits (a ∷ (b ∷ [])) n len la ha lb hb e is = absurd (omega arith)
 two_digits (a ∷ (b ∷ (s ∷ rest))) n len la ha lb hb e is =
     let line = a ∷ (b ∷ (s ∷ rest)) in
     subst (BeginsWithNumber line n) (sym (end_of line 2))
     (subst (λ (n : ℕ). BeginsWithNumber line n rest) (sym is) (two a b s rest la ha lb hb e))
+two_digits line n len la ha lb hb e is = absurd (omega arith)
 
 pub three_digits : (line : List ℕ) (n : ℕ) → 4 ≤ length line → 49 ≤ slice_index line 0 → slice_index line 0 ≤ 57 →
     48 ≤ slice_index line 1 → slice_index line 1 ≤ 57 →
     48 ≤ slice_index line 2 → slice_index line 2 ≤ 57 → slice_index line 3 ≡ 32 →
     n ≡ 10 * (10 * (slice_index line 0 - 48) + (slice_index line 1 - 48)) + (slice_index line 2 - 48) →
     BeginsWithNumber line n (take (length line - 4) (drop 4 line))
-three_digits [] n len la ha lb hb lc hc e is = absurd (omega arith)
-three_digits (a ∷ []) n len la ha lb hb lc hc e is = absurd (omega arith)
-three_digits (a ∷ (b ∷ [])) n len la ha lb hb lc hc e is = absurd (omega arith)
-three_digits (a ∷ (b ∷ (c ∷ []))) n len la ha lb hb lc hc e is = absurd (omega arith)
 three_digits (a ∷ (b ∷ (c ∷ (s ∷ rest)))) n len la ha lb hb lc hc e is =
     let line = a ∷ (b ∷ (c ∷ (s ∷ rest))) in
     subst (BeginsWithNumber line n) (sym (end_of line 3))
     (subst (λ (n : ℕ). BeginsWithNumber line n rest) (sym is) (three a b c s rest la ha lb hb lc hc e))
+three_digits line n len la ha lb hb lc hc e is = absurd (omega arith)
 
 -- what words after an ID say, by their shape and item
 pub words_say : (plan : Plan) (id : List ℕ) (words : List (List ℕ)) (shape : Shape) (item : Item) →
@@ -165,8 +159,7 @@ port_shape : (port : ℕ) (size : Size) (digits : List ℕ) →
     shape_named (port_words port size digits) ≡ Some (shapes.Itm (itm_shapes.Software size))
 unfolding shape_named
 port_shape port One digits = refl
-port_shape port Two digits = refl
-port_shape port Four digits = refl
+port_shape port size digits = refl
 
 port_item : (size : Size) (port v : ℕ) (digits : List ℕ) → port ≤ 31 →
     hexadecimal_named (2 * byte_count size) digits ≡ Some v →
@@ -179,13 +172,11 @@ port_item size port v digits h e =
 
 size_is_word : (size : Size) → is_word (size_word size) ≡ true
 size_is_word One = refl
-size_is_word Two = refl
-size_is_word Four = refl
+size_is_word size = refl
 
 digits_some : (size : Size) (digits : List ℕ) → length digits ≡ 2 * byte_count size → 0 < length digits
 digits_some One digits e = omega arith
-digits_some Two digits e = omega arith
-digits_some Four digits e = omega arith
+digits_some size digits e = omega arith
 
 software_says : (line rest digits : List ℕ) (port : ℕ) (size : Size) (v : ℕ) → port ≤ 31 →
     BeginsWithNumber line port rest → BeginsWith rest (size_word size) digits →

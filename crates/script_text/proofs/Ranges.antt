@@ -7,7 +7,7 @@ use Rattle.std.proofs.lemmas.Bool.Decides.{nat_tests}
 use Rattle.itm_grammar.specs.Proper.{IsProper, first_bits, second_bits}
 use Rattle.itm_grammar.specs.Spelling.{byte_count}
 use Rattle.itm_grammar.specs.declared.packet.Size.{Size}
-use Rattle.itm_grammar.specs.declared.packet.Size.TheVariants.{One, Two, Four}
+use Rattle.itm_grammar.specs.declared.packet.Size.TheVariants.{One}
 use Rattle.itm_grammar.specs.declared.packet.ItmPacket.{ItmPacket}
 use Rattle.itm_grammar.specs.declared.packet.ItmPacket.TheVariants as itm
 use Rattle.dwt_packets.specs.Packet.{IsInRange, IsProperItem as IsProperDwt}
@@ -40,15 +40,11 @@ use Rattle.script_text.proofs.Fields.{values_fit}
 
 pub value_small : (size : Size) (v : ℕ) → v < 16 ^ (2 * byte_count size) → v < 256 ^ byte_count size
 value_small One v h = omega arith
-value_small Two v h = omega arith
-value_small Four v h = omega arith
+value_small size v h = omega arith
 
 width_small : (width : Width) (v : ℕ) → v < 16 ^ (bits_of width / 4) → v < 2 ^ bits_of width
 width_small widths.Four v h = omega arith
-width_small widths.Eight v h = omega arith
-width_small widths.Sixteen v h = omega arith
-width_small widths.ThirtyTwo v h = omega arith
-width_small widths.SixtyFour v h = omega arith
+width_small width v h = omega arith
 
 second_proper : (wide : Bool) (value : ℕ) → value ≤ 2 ^ second_bits wide - 1 → value < 2 ^ second_bits wide
 second_proper true value h = omega arith
@@ -107,14 +103,7 @@ itm_said shape words packet e = let w = values_of (itm_row shape) words packet e
 -- hardware packets
 pub unnamed_is : (item given : DwtItem) → unnamed item ≡ Some given → item ≡ given
 unnamed_is (dwt.Other disc size value) given e = some_of (dwt.Other disc size value) given e
-unnamed_is (dwt.Counters n) given e = cc
-unnamed_is (dwt.Exception n change) given e = cc
-unnamed_is (dwt.Sample pc) given e = cc
-unnamed_is dwt.Asleep given e = cc
-unnamed_is (dwt.MatchPc n pc) given e = cc
-unnamed_is (dwt.MatchAddress n low) given e = cc
-unnamed_is (dwt.Read n size value) given e = cc
-unnamed_is (dwt.Written n size value) given e = cc
+unnamed_is item given e = cc
 
 -- an item in its range is one of a packet
 in_range : (item given : DwtItem) → Some item ≡ Some given → IsInRange item → IsProperDwt given

@@ -92,10 +92,6 @@ and_last : (a : Bool) → a ≡ (a && true)
 and_last true = refl
 and_last false = refl
 
-and_first_false : (a b c : Bool) → b ≡ false → false ≡ (a && (b && c))
-and_first_false true b c e = sym (and_false b c e)
-and_first_false false b c e = refl
-
 and_swap : (p a r : Bool) → a ≡ true → (p && r) ≡ (p && (a && r))
 and_swap p true r e = refl
 and_swap p false r e = cc
@@ -112,12 +108,6 @@ cut_told n m line rest word v p w told count e =
     e ∙ ap (λ (m : ℕ). are_printable rest && are_words m (words_in rest)) count
     ∙ and_swap (are_printable rest) (nat_lt 0 (length word) && nat_lt n 8) (are_words (n + 1) (words_in rest)) told
     ∙ ap (λ (p : Bool). p && are_words n (word ∷ words_in rest)) (sym p)
-    ∙ ap (λ (l : List (List ℕ)). are_printable line && are_words n l) (sym w)
-
-pub cut_untold : (n : ℕ) (line rest word : List ℕ) → words_in line ≡ word ∷ words_in rest →
-    (nat_lt 0 (length word) && nat_lt n 8) ≡ false → false ≡ (are_printable line && are_words n (words_in line))
-cut_untold n line rest word w told =
-    and_first_false (are_printable line) (nat_lt 0 (length word) && nat_lt n 8) (are_words (n + 1) (words_in rest)) told
     ∙ ap (λ (l : List (List ℕ)). are_printable line && are_words n l) (sym w)
 
 pub bad_told : (n : ℕ) (line : List ℕ) → are_printable line ≡ false → false ≡ (are_printable line && are_words n (words_in line))

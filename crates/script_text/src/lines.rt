@@ -3,7 +3,7 @@
 ghost use Rattle.std.specs.Prelude.{◌≡◌, Err, IfOk, OnErr, OnOk, if◌then◌else◌};
 ghost use Rattle.source_events.specs.Plan.{kind_of};
 ghost use Rattle.script_text.specs.Words.{texts, are_printable};
-ghost use Rattle.script_text.specs.Lines.{by_itm, by_stp, by_raw, taken_by, line_of_shape, line_of_words as line_in};
+ghost use Rattle.script_text.specs.Lines.{taken_by, line_of_shape, line_of_words as line_in};
 ghost use Rattle.script_text.specs.Lines.{line_of, line_of_printable, answer};
 ghost use Rattle.script_text.specs.Said.{IsSaid};
 
@@ -13,14 +13,12 @@ use crate::itm_shapes::itm_of;
 use crate::line_fault::LineFault;
 use crate::quick::quick_raw;
 use crate::quick_datum::quick_datum;
-use crate::raw_bytes::{RawBytes, raw_of};
+use crate::raw_bytes::raw_of;
 use crate::shapes::{Shape, shape_of};
 use crate::stp_shapes::stp_of;
 use crate::words::{Words, put_words};
 use decimal_words::id_in;
-use itm_grammar::packet::ItmPacket;
 use source_events::{Plan, SourceKind};
-use stp_grammar::item::StpItem;
 use trace_values::SourceId;
 
 /// A line of a script.
@@ -38,37 +36,41 @@ pub const LINE_BYTES: usize = 256;
 /// The source that is never raw: its bytes are triggers.
 pub(crate) const TRIGGER_SOURCE: u8 = 125;
 
-/// Whether packets of an ITM source are its.
-fn takes_itm(kind: Option<SourceKind>) -> Result<(), LineFault>
-    ensures { (line : Line) → by_itm kind line ≡ answer result line }
+/// Whether an item is one that its source can have, by what the source sends; bytes are of a source that is not mapped.
+#[inline(always)]
+fn takes(kind: Option<SourceKind>, id: SourceId, item: &Item) -> Result<(), LineFault>
+    ensures { taken_by kind id item.now ≡ answer result (Line.Of id item.now) }
 {
-    match kind {
-        Some(SourceKind::Itm) => Ok(()),
-        Some(SourceKind::Stp) => Err(LineFault::Mixed),
-        None => Err(LineFault::Unmapped),
+    match item {
+        Item::Itm(_) | Item::Dwt(_) => match kind {
+            Some(SourceKind::Itm) => Ok(()),
+            Some(SourceKind::Stp) => Err(LineFault::Mixed),
+            None => Err(LineFault::Unmapped),
+        },
+        Item::Stp(_) => match kind {
+            Some(SourceKind::Stp) => Ok(()),
+            Some(SourceKind::Itm) => Err(LineFault::Mixed),
+            None => Err(LineFault::Unmapped),
+        },
+        Item::Raw(_) if kind.is_some() || id.number() == TRIGGER_SOURCE => Err(LineFault::Mixed),
+        Item::Raw(_) => Ok(()),
     }
 }
 
-/// Whether STP items are a source's.
-fn takes_stp(kind: Option<SourceKind>) -> Result<(), LineFault>
-    ensures { (line : Line) → by_stp kind line ≡ answer result line }
+/// The item of a source, where the source is one for it. At a fault `said` is as before.
+#[inline(always)]
+fn take_item(
+    kind: Option<SourceKind>,
+    id: SourceId,
+    item: Item,
+    said: &mut Line,
+) -> Result<(), LineFault>
+    ensures value { taken_by kind id item ≡ answer result said.new }
+    ensures same { OnErr result (said.new ≡ said.old) }
 {
-    match kind {
-        Some(SourceKind::Stp) => Ok(()),
-        Some(SourceKind::Itm) => Err(LineFault::Mixed),
-        None => Err(LineFault::Unmapped),
-    }
-}
-
-/// Whether bytes are a source's: one that is not mapped.
-fn takes_raw(kind: Option<SourceKind>, id: SourceId) -> Result<(), LineFault>
-    ensures { (line : Line) → by_raw kind id line ≡ answer result line }
-{
-    if kind.is_some() || id.number() == TRIGGER_SOURCE {
-        Err(LineFault::Mixed)
-    } else {
-        Ok(())
-    }
+    takes(kind, id, &item)?;
+    *said = Line::Of { id, item };
+    Ok(())
 }
 
 /// The item of this shape and of these words, where its source is one for it. At a fault `said` is as before.
@@ -85,54 +87,21 @@ fn read_shape(
     match shape {
         Shape::Itm(shape) => {
             let packet = itm_of(shape, words).ok_or(LineFault::BadNumber)?;
-            takes_itm(kind)?;
-            let item = Item::Itm(packet);
-            *said = Line::Of { id, item };
+            take_item(kind, id, Item::Itm(packet), said)
         }
         Shape::Dwt(shape) => {
             let packet = dwt_of(shape, words).ok_or(LineFault::BadNumber)?;
-            takes_itm(kind)?;
-            let item = Item::Dwt(packet);
-            *said = Line::Of { id, item };
+            take_item(kind, id, Item::Dwt(packet), said)
         }
         Shape::Stp(shape) => {
-            let stp_item = stp_of(shape, words).ok_or(LineFault::BadNumber)?;
-            takes_stp(kind)?;
-            let item = Item::Stp(stp_item);
-            *said = Line::Of { id, item };
+            let item = stp_of(shape, words).ok_or(LineFault::BadNumber)?;
+            take_item(kind, id, Item::Stp(item), said)
         }
         Shape::Raw => {
             let bytes = raw_of(words).ok_or(LineFault::BadNumber)?;
-            takes_raw(kind, id)?;
-            let item = Item::Raw(bytes);
-            *said = Line::Of { id, item };
+            take_item(kind, id, Item::Raw(bytes), said)
         }
     }
-    Ok(())
-}
-
-/// Bytes of this source, where the source is one for them. At a fault `said` is as before.
-fn take_raw(plan: &Plan, found: (SourceId, RawBytes), said: &mut Line) -> Result<(), LineFault>
-    ensures value { taken_by (kind_of plan.now found.0) found.0 (Item.Raw found.1) ≡ answer result said.new }
-    ensures same { OnErr result (said.new ≡ said.old) }
-{
-    let (id, bytes) = found;
-    takes_raw(plan.kind_of(id), id)?;
-    let item = Item::Raw(bytes);
-    *said = Line::Of { id, item };
-    Ok(())
-}
-
-/// A datum of this source, where the source is one for it. At a fault `said` is as before.
-fn take_datum(plan: &Plan, found: (SourceId, StpItem), said: &mut Line) -> Result<(), LineFault>
-    ensures value { taken_by (kind_of plan.now found.0) found.0 (Item.Stp found.1) ≡ answer result said.new }
-    ensures same { OnErr result (said.new ≡ said.old) }
-{
-    let (id, stp_item) = found;
-    takes_stp(plan.kind_of(id))?;
-    let item = Item::Stp(stp_item);
-    *said = Line::Of { id, item };
-    Ok(())
 }
 
 /// What the words of a line say.
@@ -160,10 +129,12 @@ fn read_printable(line: &[u8], plan: &Plan, said: &mut Line) -> Result<(), LineF
     ensures same { OnErr result (said.new ≡ said.old) }
 {
     if let Some(found) = quick_raw(line) {
-        return take_raw(plan, found, said);
+        let (id, bytes) = found;
+        return take_item(plan.kind_of(id), id, Item::Raw(bytes), said);
     }
     if let Some(found) = quick_datum(line) {
-        return take_datum(plan, found, said);
+        let (id, item) = found;
+        return take_item(plan.kind_of(id), id, Item::Stp(item), said);
     }
     let mut words = Words::new();
     if !put_words(line, &mut words) {

@@ -1,56 +1,25 @@
 -- The tables hold the digits of their numbers.
-use Rattle.std.proofs.Common.{◌≡◌, ℕ, zero, suc, ◌+◌, ◌*◌, ◌<◌, ◌≤◌, List, [], ◌∷◌, ◌++◌, take, drop, Bool, true, false, refl, sym, ◌∙◌, ap, arith}
-use Rattle.std.specs.Prelude.{◌==◌, ◌&&◌, ◌/◌, ◌%◌, codes, decimal}
+use Rattle.std.proofs.Common.{◌≡◌, ℕ, ◌+◌, ◌*◌, ◌<◌, ◌≤◌, List, [], ◌∷◌, ◌++◌, take, drop, Bool, true, false, refl, sym, ◌∙◌, ap, arith}
+use Rattle.std.specs.Prelude.{◌/◌, ◌%◌, codes, decimal}
 use Rattle.hex.specs.Hex.{encode_with, encode_lower}
 use Rattle.std.proofs.lemmas.Bool.Decides.{nat_tests}
 use Rattle.std.proofs.lemmas.Fmt.{decimal_digit}
 use Rattle.itoa.proofs.Decimal.{decimal_two, decimal_pair}
 use Rattle.trace_text.specs.Pairs.{pair}
-use Rattle.std.proofs.lemmas.Bool.{false≢true}
+use Rattle.std.specs.Str.{bytes_eq}
+use Rattle.std.proofs.lemmas.Slice.Eq.{bytes_eq-Decides}
+use Rattle.stp_grammar.proofs.Tables.{under, below}
 use lib.Dec.{leb}
 use mir.Val.{bool_byte}
 use Rattle.trace_text.specs.declared.tables.TheConstants.{HEX_PAIRS, NUMBERS, PAIRS, PORTS}
 
-front : (a b : Bool) → (a && b) ≡ true → a ≡ true
-front true b e = refl
-front false b e = cc
-
-rest : (a b : Bool) → (a && b) ≡ true → b ≡ true
-rest true b e = e
-rest false b e = cc
-
-unfoldable pub same : List ℕ → List ℕ → Bool
-same [] [] = true
-same [] (y ∷ ys) = false
-same (x ∷ xs) [] = false
-same (x ∷ xs) (y ∷ ys) = (x == y) && same xs ys
-
-pub is_same : (xs ys : List ℕ) → same xs ys ≡ true → xs ≡ ys
-unfolding same
-is_same [] [] e = refl
-is_same [] (y ∷ ys) e = absurd (false≢true e)
-is_same (x ∷ xs) [] e = absurd (false≢true e)
-is_same (x ∷ xs) (y ∷ ys) e =
-    let h : x ≡ y = (let f = front (x == y) (same xs ys) e in grind (arith, nat_tests)) in
-    let t : xs ≡ ys = is_same xs ys (rest (x == y) (same xs ys) e) in
-    ap (λ (k : ℕ). k ∷ xs) h ∙ ap (λ (l : List ℕ). y ∷ l) t
-
--- this is so of all numbers below n
-under : (ℕ → Bool) → ℕ → Bool
-under p zero = true
-under p (suc n) = p n && under p n
-
-below : (p : ℕ → Bool) (n k : ℕ) → k < n → under p n ≡ true → p k ≡ true
-unfolding under
-below p zero k l e = absurd (omega arith)
-below p (suc n) k l e = by (λ (h : k < n). below p n k h (rest (p n) (under p n) e)) (k == n) refl where
-  by : (k < n → p k ≡ true) → (t : Bool) → (k == n) ≡ t → p k ≡ true
-  by f true h = ap p (grind (arith, nat_tests)) ∙ front (p n) (under p n) e
-  by f false h = f (grind (arith, nat_tests))
+-- the same bytes, where a test says so
+pub same_bytes : (xs ys : List ℕ) → bytes_eq xs ys ≡ true → xs ≡ ys
+same_bytes xs ys e = (bytes_eq-Decides xs ys).0 e
 
 pub pairs : (n : ℕ) → n < 100 → take 2 (drop (2 * n) PAIRS.now) ≡ pair n
-unfolding under same
-pairs n l = is_same _ _ (below (λ k. same (take 2 (drop (2 * k) PAIRS.now)) (pair k)) 100 n l refl)
+unfolding under
+pairs n l = same_bytes _ _ (below (λ k. bytes_eq (take 2 (drop (2 * k) PAIRS.now)) (pair k)) 100 n l refl)
 
 -- how many digits a number below 256 has, by the tests that the code makes
 count : ℕ → ℕ
@@ -75,19 +44,19 @@ are_digits n true false t u l = sym (decimal_two n (grind (arith, nat_tests)) (g
 are_digits n false false t u l = sym (decimal_digit n (grind (arith, nat_tests)))
 
 tabled : (n : ℕ) → n < 256 → take (count n) (drop (4 * n) NUMBERS.now) ≡ digits (leb 10 n) (leb 100 n) n
-unfolding under same digits count
+unfolding under digits count
 tabled n l =
-    is_same _ _ (below (λ k. same (take (count k) (drop (4 * k) NUMBERS.now)) (digits (leb 10 k) (leb 100 k) k)) 256 n l refl)
+    same_bytes _ _ (below (λ k. bytes_eq (take (count k) (drop (4 * k) NUMBERS.now)) (digits (leb 10 k) (leb 100 k) k)) 256 n l refl)
 
 pub short : (n : ℕ) → n < 256 →
     take (1 + bool_byte (leb 10 n) + bool_byte (leb 100 n)) (drop (4 * n) NUMBERS.now) ≡ decimal n
 unfolding count
 short n l = tabled n l ∙ are_digits n (leb 10 n) (leb 100 n) refl refl l
 
-pub most : (a b : Bool) → 1 + bool_byte a + bool_byte b ≤ 4
-most a b = elim a as (λ t. 1 + bool_byte t + bool_byte b ≤ 4) [
-  | true ↦ elim b as (λ t. 1 + bool_byte true + bool_byte t ≤ 4) [ true ↦ omega arith | false ↦ omega arith ]
-  | false ↦ elim b as (λ t. 1 + bool_byte false + bool_byte t ≤ 4) [ true ↦ omega arith | false ↦ omega arith ]
+pub most : (a b : Bool) → 1 + bool_byte a + bool_byte b ≤ 3
+most a b = elim a as (λ t. 1 + bool_byte t + bool_byte b ≤ 3) [
+  | true ↦ elim b as (λ t. 1 + bool_byte true + bool_byte t ≤ 3) [ true ↦ omega arith | false ↦ omega arith ]
+  | false ↦ elim b as (λ t. 1 + bool_byte false + bool_byte t ≤ 3) [ true ↦ omega arith | false ↦ omega arith ]
 ]
 
 pub most_of_port : (a : Bool) → 7 + bool_byte a ≤ 8
@@ -95,9 +64,9 @@ most_of_port a = elim a as (λ t. 7 + bool_byte t ≤ 8) [ true ↦ omega arith 
 
 tabled_port : (n : ℕ) → n < 32 →
     take (7 + bool_byte (leb 10 n)) (drop (8 * n) PORTS.now) ≡ codes "port " ++ (digits (leb 10 n) false n ++ codes " ")
-unfolding under same digits
+unfolding under digits
 tabled_port n l =
-    is_same _ _ (below (λ k. same (take (7 + bool_byte (leb 10 k)) (drop (8 * k) PORTS.now)) (codes "port " ++ (digits (leb 10 k) false k ++ codes " "))) 32 n l refl)
+    same_bytes _ _ (below (λ k. bytes_eq (take (7 + bool_byte (leb 10 k)) (drop (8 * k) PORTS.now)) (codes "port " ++ (digits (leb 10 k) false k ++ codes " "))) 32 n l refl)
 
 pub port : (n : ℕ) → n < 32 →
     take (7 + bool_byte (leb 10 n)) (drop (8 * n) PORTS.now) ≡ codes "port " ++ (decimal n ++ codes " ")
@@ -106,5 +75,5 @@ port n l =
     tabled_port n l ∙ ap (λ (ds : List ℕ). codes "port " ++ (ds ++ codes " ")) (are_digits n (leb 10 n) false refl small (omega arith))
 
 pub hex_pairs : (n : ℕ) → n < 256 → take 2 (drop (2 * n) HEX_PAIRS.now) ≡ encode_lower (n ∷ [])
-unfolding under same encode_with
-hex_pairs n l = is_same _ _ (below (λ k. same (take 2 (drop (2 * k) HEX_PAIRS.now)) (encode_lower (k ∷ []))) 256 n l refl)
+unfolding under encode_with
+hex_pairs n l = same_bytes _ _ (below (λ k. bytes_eq (take 2 (drop (2 * k) HEX_PAIRS.now)) (encode_lower (k ∷ []))) 256 n l refl)

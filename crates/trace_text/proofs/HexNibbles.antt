@@ -80,13 +80,17 @@ moved count number few fits =
     let least : number * 16 ^ (16 - count) < 2 ^ 64 = omega arith in
     ap (λ x. number * x % 2 ^ 64) p ∙ mod-eq_of_lt least
 
--- the first digits of the bytes of a word, moved so, are those of the number
+-- the first digits of the bytes of a word, moved so, are those of the number; or none
 pub moved_digits : (count number : ℕ) → count ≤ 16 → number < 16 ^ count →
-    take count (encode_lower (bytes_high_first 8 (number * 2 ^ (64 - 4 * count) % 2 ^ 64))) ≡ hex_digits count number
-moved_digits count number few fits =
-    ap (take count) (encoded 8 (number * 2 ^ (64 - 4 * count) % 2 ^ 64))
-    ∙ ap (λ x. take count (hex_digits 16 x)) (moved count number few fits)
-    ∙ first count 16 (16 - count) number (omega arith)
+    take count (encode_lower (bytes_high_first 8 (number * 2 ^ ((64 - 4 * count) % 64) % 2 ^ 64))) ≡ hex_digits count number
+unfolding hex_digits
+moved_digits zero number few fits = refl
+moved_digits (suc n) number few fits =
+    let e : (64 - 4 * suc n) % 64 ≡ 64 - 4 * suc n = omega arith in
+    ap (λ k. take (suc n) (encode_lower (bytes_high_first 8 (number * 2 ^ k % 2 ^ 64)))) e
+    ∙ ap (take (suc n)) (encoded 8 (number * 2 ^ (64 - 4 * suc n) % 2 ^ 64))
+    ∙ ap (λ x. take (suc n) (hex_digits 16 x)) (moved (suc n) number few fits)
+    ∙ first (suc n) 16 (16 - suc n) number (omega arith)
 
 -- the digits of the first bytes
 pub front_digits : (n : ℕ) (bytes : List ℕ) → take (2 * n) (encode_lower bytes) ≡ encode_lower (take n bytes)
@@ -102,12 +106,8 @@ pub digits_of_four : (bytes : List ℕ) → length bytes ≡ 4 →
     ((encode_lower (get_or bytes 0 0 ∷ []) ++ encode_lower (get_or bytes 1 0 ∷ [])) ++ encode_lower (get_or bytes 2 0 ∷ []))
     ++ encode_lower (get_or bytes 3 0 ∷ []) ≡ encode_lower bytes
 unfolding encode_with
-digits_of_four [] e = absurd (omega arith)
-digits_of_four (a ∷ []) e = absurd (omega arith)
-digits_of_four (a ∷ (b ∷ [])) e = absurd (omega arith)
-digits_of_four (a ∷ (b ∷ (c ∷ []))) e = absurd (omega arith)
 digits_of_four (a ∷ (b ∷ (c ∷ (d ∷ [])))) e = refl
-digits_of_four (a ∷ (b ∷ (c ∷ (d ∷ (f ∷ bytes))))) e = absurd (omega arith)
+digits_of_four bytes e = absurd (omega arith)
 
 -- no bytes, and one byte more
 pub encode_none : encode_lower [] ≡ []

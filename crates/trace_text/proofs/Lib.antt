@@ -1,4 +1,5 @@
 pub mod Fronts
+pub mod Putting
 pub mod Fours
 pub mod DigitTables
 pub mod HexNibbles

@@ -60,43 +60,24 @@ value Four v = omega (arith, length-append (codes "u32 ") (encode_lower (to_be_b
 
 change : (c : Change) → length (change_text c) ≤ 7
 change Enter = omega arith
-change Exit = omega arith
-change Return = omega arith
+change c = omega arith
 
 hardware : (item : DwtItem) → IsInRange item → length (hardware_text item) ≤ 27
 hardware (Counters counters) h = omega (arith, length-encode_with lower_digits (counters ∷ []))
-hardware (Exception number c) h =
-    let a = length-decimal-le 3 number (omega arith) (omega arith) (omega arith) in
-    let b = change c in
-    simp length-append (omega arith)
+hardware (Exception number c) h = simp length-append (omega (arith, length-decimal-le 3 number (omega arith) (omega arith) (omega arith), change c))
 hardware (Sample pc) h = omega (arith, length-encode_with lower_digits (to_be_bytes w32 pc))
 hardware Asleep h = omega arith
 hardware (MatchPc comparator pc) h =
-    let a = length-decimal-le 1 comparator (omega arith) (omega arith) (omega arith) in
-    let b = length-encode_with lower_digits (to_be_bytes w32 pc) in
-    simp length-append (omega arith)
+    simp length-append (omega (arith, length-decimal-le 1 comparator (omega arith) (omega arith) (omega arith), length-encode_with lower_digits (to_be_bytes w32 pc)))
 hardware (MatchAddress comparator low) h =
-    let a = length-decimal-le 1 comparator (omega arith) (omega arith) (omega arith) in
-    let b = length-encode_with lower_digits (to_be_bytes w16 low) in
-    simp length-append (omega arith)
-hardware (Read comparator size v) h =
-    let a = length-decimal-le 1 comparator (omega arith) (omega arith) (omega arith) in
-    let b = value size v in
-    simp length-append (omega arith)
-hardware (Written comparator size v) h =
-    let a = length-decimal-le 1 comparator (omega arith) (omega arith) (omega arith) in
-    let b = value size v in
-    simp length-append (omega arith)
-hardware (Other disc size v) h =
-    let a = length-decimal-le 2 disc (omega arith) (omega arith) (omega arith) in
-    let b = value size v in
-    simp length-append (omega arith)
+    simp length-append (omega (arith, length-decimal-le 1 comparator (omega arith) (omega arith) (omega arith), length-encode_with lower_digits (to_be_bytes w16 low)))
+hardware (Read comparator size v) h = simp length-append (omega (arith, length-decimal-le 1 comparator (omega arith) (omega arith) (omega arith), value size v))
+hardware (Written comparator size v) h = simp length-append (omega (arith, length-decimal-le 1 comparator (omega arith) (omega arith) (omega arith), value size v))
+hardware (Other disc size v) h = simp length-append (omega (arith, length-decimal-le 2 disc (omega arith) (omega arith) (omega arith), value size v))
 
 lateness : (l : Lateness) → length (lateness_text l) ≤ 11
 lateness Exact = omega arith
-lateness StampLate = omega arith
-lateness PacketLate = omega arith
-lateness BothLate = omega arith
+lateness l = omega arith
 
 flag : (b : Bool) → length (flag_text b) ≤ 1
 flag true = omega arith
@@ -129,15 +110,9 @@ second_value false v h = omega arith
 pub item : (p : ItmPacket) → IsProper p → length (item_text p) ≤ 27
 item Sync h = omega arith
 item Overflow h = omega arith
-item (Software port size v) h =
-    let a = length-decimal-le 2 port (omega arith) (omega arith) (omega arith) in
-    let b = value size v in
-    simp length-append (omega arith)
+item (Software port size v) h = simp length-append (omega (arith, length-decimal-le 2 port (omega arith) (omega arith) (omega arith), value size v))
 item (Hardware disc size v) h = hardware (name disc size v) (in_range (name disc size v) (disc, size, v, (h.0, h.1), refl))
-item (Local l delta) h =
-    let a = length-decimal-le 9 delta (omega arith) (omega arith) (omega arith) in
-    let b = lateness l in
-    simp length-append (omega arith)
+item (Local l delta) h = simp length-append (omega (arith, length-decimal-le 9 delta (omega arith) (omega arith) (omega arith), lateness l))
 item (GlobalFirst len v c w) h =
     let a = length-decimal-le 1 len (omega arith) (omega arith) (omega arith) in
     let r = first_value len v h.1 h.2 in
@@ -147,13 +122,8 @@ item (GlobalFirst len v c w) h =
     simp length-append (omega arith)
 item (GlobalSecond wide v) h =
     let r = second_value wide v h in
-    let a = length-decimal-le 12 v (omega arith) (omega arith) (omega arith) in
-    let b = bits wide in
-    simp length-append (omega arith)
-item (Extension dwt v) h =
-    let a = length-encode_with lower_digits (to_be_bytes w32 v) in
-    let b = owner dwt in
-    simp length-append (omega arith)
+    simp length-append (omega (arith, length-decimal-le 12 v (omega arith) (omega arith) (omega arith), bits wide))
+item (Extension dwt v) h = simp length-append (omega (arith, length-encode_with lower_digits (to_be_bytes w32 v), owner dwt))
 
 digits : (count v : ℕ) → length (hex_digits count v) ≡ count
 unfolding hex_digits
@@ -182,10 +152,7 @@ stamp : (s : Stamp) → IsProperStamp s → length (stamp_text s) ≤ 22
 stamp NoStamp h = omega arith
 stamp (Natural time) h = let a = length-decimal-le 20 time (omega arith) (omega arith) h in omega arith
 stamp (Gray time) h = let a = length-decimal-le 20 time (omega arith) (omega arith) h in omega arith
-stamp (RawStamp size word) h =
-    let a = digits (nibble_count size) word in
-    let b = nibbles size in
-    omega arith
+stamp (RawStamp size word) h = omega (arith, digits (nibble_count size) word, nibbles size)
 
 mark : (m : Bool) → length (mark_text m) ≤ 1
 mark true = omega arith
@@ -197,32 +164,12 @@ code n = length-encode_with lower_digits (n ∷ [])
 stp : (i : StpItem) → IsProperItem i → length (stp_text i) ≤ 62
 stp Async h = omega arith
 stp (Version n) h = let a = length-decimal-le 2 n (omega arith) (omega arith) (omega arith) in omega arith
-stp (MasterError p n) h =
-    let a = known p.master h.0.0 in
-    let o = known p.channel h.0.1 in
-    let b = code n in
-    simp length-append (omega arith)
+stp (MasterError p n) h = simp length-append (omega (arith, known p.master h.0.0, known p.channel h.0.1, code n))
 stp (GlobalError n) h = let b = code n in omega arith
-stp (Datum p w v m s) h =
-    let a = known p.master h.0.0 in
-    let o = known p.channel h.0.1 in
-    let b = datum w v in
-    let d = mark m in
-    let e = stamp s h.2 in
-    simp length-append (omega arith)
-stp (Flag p s) h =
-    let a = known p.master h.0.0 in
-    let o = known p.channel h.0.1 in
-    let e = stamp s h.1 in
-    simp length-append (omega arith)
-stp (StpTrigger n s) h =
-    let b = code n in
-    let e = stamp s h.1 in
-    simp length-append (omega arith)
-stp (Frequency hertz s) h =
-    let a = length-decimal-le 10 hertz (omega arith) (omega arith) (omega arith) in
-    let e = stamp s h.1 in
-    simp length-append (omega arith)
+stp (Datum p w v m s) h = simp length-append (omega (arith, known p.master h.0.0, known p.channel h.0.1, datum w v, mark m, stamp s h.2))
+stp (Flag p s) h = simp length-append (omega (arith, known p.master h.0.0, known p.channel h.0.1, stamp s h.1))
+stp (StpTrigger n s) h = simp length-append (omega (arith, code n, stamp s h.1))
+stp (Frequency hertz s) h = simp length-append (omega (arith, length-decimal-le 10 hertz (omega arith) (omega arith) (omega arith), stamp s h.1))
 stp (NullStamp s) h = let e = stamp s h in omega arith
 
 source : (s : Option ℕ) → IsShortSource s → length (source_text s) ≤ 4
@@ -243,30 +190,12 @@ nothing (Time time) h = absurd h
 -- a source, what it gives, and what is beside it
 rest : (w : What Packet) (s : Option ℕ) (r : Remark) → IsProperWhat w → Suits w r → HasSource w s →
     IsShortWhat w → IsShortSource s → IsShortRemark r → length (source_text s) + (length (what_text w) + length (remark_text r)) ≤ 65
-rest (Locked skipped) s r p u e a b c =
-    let x = source s b in
-    let y = nothing r u in
-    omega arith
-rest (Said (Itm packet)) s r p u e a b c =
-    let x = source s b in
-    let y = item packet p in
-    let z = beside r c in
-    omega arith
+rest (Locked skipped) s r p u e a b c = omega (arith, source s b, nothing r u)
+rest (Said (Itm packet)) s r p u e a b c = omega (arith, source s b, item packet p, beside r c)
 rest (Said (Stp i)) None r p u e a b c = absurd (false≢true e)
-rest (Said (Stp i)) (Some id) r p u e a b c =
-    let y = stp i p in
-    let z = nothing r u in
-    omega arith
-rest (Raw bytes) s r p u e a b c =
-    let x = source s b in
-    let y = length-encode_with lower_digits bytes in
-    let z = nothing r u in
-    omega arith
-rest (Trigger byte) s r p u e a b c =
-    let x = source s b in
-    let y = code byte in
-    let z = nothing r u in
-    omega arith
+rest (Said (Stp i)) (Some id) r p u e a b c = omega (arith, stp i p, nothing r u)
+rest (Raw bytes) s r p u e a b c = omega (arith, source s b, length-encode_with lower_digits bytes, nothing r u)
+rest (Trigger byte) s r p u e a b c = omega (arith, source s b, code byte, nothing r u)
 
 half : (s : Bool) (h : ℕ) → HasDigits 3 h → length (half_text s h) ≤ 4
 half true h l = omega arith
@@ -274,11 +203,7 @@ half false h l = omega arith
 
 -- the line of an event
 pub event : (s : Bool) (e : Event Packet) (r : Remark) → IsPrintable e r → IsShort e → IsShortRemark r → length (event_line s e r) ≤ 92
-event s e r p a b =
-    let x = half s e.half a.half in
-    let y = rest e.what e.source r p.proper p.suits p.source a.what a.source b in
-    let z = a.at in
-    simp length-append (omega arith)
+event s e r p a b = simp length-append (omega (arith, half s e.half a.half, rest e.what e.source r p.proper p.suits p.source a.what a.source b, a.at))
 
 -- and that of an ITM packet
 pub packet : (at id : ℕ) (p : ItmPacket) (r : Remark) → IsProper p → SuitsPacket p r → HasDigits 20 at → HasDigits 3 id → IsShortRemark r →
@@ -299,15 +224,11 @@ stp_item at half id i proper a b c =
 -- and that of a run of bytes
 pub raw_run : (at id : ℕ) (bytes : List ℕ) → length bytes ≤ 15 → HasDigits 20 at → HasDigits 3 id →
     length (event_line false (raw_event at id bytes) NoRemark) ≤ 92
-raw_run at id bytes few a b =
-    let y = length-encode_with lower_digits bytes in
-    simp length-append (omega arith)
+raw_run at id bytes few a b = simp length-append (omega (arith, length-encode_with lower_digits bytes))
 
 mode : (m : PortMode) → length (mode_text m) ≤ 7
 mode Bare = omega arith
-mode Aligned = omega arith
-mode Locked_mode = omega arith
-mode Hunting = omega arith
+mode m = omega arith
 
 kind : (k : SourceKind) → length (kind_text k) ≤ 3
 kind Itm_kind = omega arith
@@ -315,10 +236,7 @@ kind Stp_kind = omega arith
 
 -- the line at the end of a source
 pub source_end : (s : SourceTail) → HasDigits 3 s.id → HasDigits 20 s.skipped → HasDigits 20 s.tail → length (source_line s) ≤ 71
-source_end s a b c =
-    let x = kind s.kind in
-    let y = mode s.mode in
-    simp length-append (omega arith)
+source_end s a b c = simp length-append (omega (arith, kind s.kind, mode s.mode))
 
 -- what a line adds
 pub longer : (n : ℕ) (old new line : List ℕ) → new ≡ old ++ line → length line ≤ n → length new ≤ length old + n

@@ -1,8 +1,8 @@
 -- The texts of what packets say, by their rows.
-use Rattle.std.proofs.Common.{◌≡◌, ℕ, zero, suc, ◌-◌, ◌*◌, ◌/◌, ◌%◌, ◌^◌, ◌<◌, ◌≤◌, List, [], ◌∷◌, ◌++◌, length, take, true, false, Option, refl, sym, ◌∙◌, ap, append_assoc, arith}
+use Rattle.std.proofs.Common.{◌≡◌, ℕ, ◌/◌, ◌^◌, ◌<◌, ◌≤◌, List, [], ◌∷◌, ◌++◌, length, true, false, Option, refl, sym, ◌∙◌, ap, append_assoc, arith}
 use Rattle.std.specs.Prelude.{codes, decimal, None, Some}
 use Rattle.std.specs.Option.{ForSome, is_some}
-use Rattle.std.specs.Int.{bytes_high_first, byte_at}
+use Rattle.std.specs.Int.{byte_at}
 use Rattle.std.proofs.Math.Nat.{pow-zero}
 use Rattle.hex.specs.Hex.{encode_lower}
 use Rattle.stp_grammar.specs.declared.packet.Width.TheVariants.{Four, Eight, Sixteen, ThirtyTwo, SixtyFour}
@@ -19,21 +19,8 @@ use Rattle.trace_text.specs.Lengths.{HasDigits}
 use Rattle.trace_text.specs.LineText.{half_text, source_text}
 use Rattle.trace_text.specs.StpText.{stamp_text, stp_text}
 use Rattle.trace_text.specs.SaidText.{is_written, word_at, place_at, width_at, mark_at, said_text, said_line}
-use Rattle.trace_text.proofs.HexNibbles.{encoded, moved_digits}
+use Rattle.trace_text.proofs.HexNibbles.{encoded}
 use Rattle.trace_text.proofs.LongestLines.{stp_item}
-
--- one part after another
-pub after : (old x y a r : List ℕ) → x ≡ old ++ a → y ≡ x ++ r → y ≡ old ++ (a ++ r)
-after old x y a r e f = f ∙ ap (λ (l : List ℕ). l ++ r) e ∙ append_assoc old a r
-
--- the first digits of the bytes of a word into whose top a number was moved, or of none
-pub value_digits : (count number : ℕ) → count ≤ 16 → number < 16 ^ count →
-    take count (encode_lower (bytes_high_first 8 (number * 2 ^ ((64 - 4 * count) % 64) % 2 ^ 64))) ≡ hex_digits count number
-unfolding hex_digits
-value_digits zero number few fits = refl
-value_digits (suc n) number few fits =
-    let e : (64 - 4 * suc n) % 64 ≡ 64 - 4 * suc n = omega arith in
-    ap (λ k. take (suc n) (encode_lower (bytes_high_first 8 (number * 2 ^ k % 2 ^ 64)))) e ∙ moved_digits (suc n) number few fits
 
 -- a byte's two digits
 pub byte_digits : (v : ℕ) → v < 16 ^ 2 → hex_digits 2 v ≡ encode_lower (v ∷ [])
@@ -51,39 +38,22 @@ pub written_text : (place : Place) (stamp : Stamp) (row : Row) (v : ℕ) → is_
     by_parts place stamp row v ≡ said_text (item_with place stamp row v)
 unfolding hex_digits
 written_text place stamp (Datum Four true true) v e h = refl
-written_text place stamp (Datum Four true false) v e h = refl
 written_text place stamp (Datum Four false true) v e h = refl
-written_text place stamp (Datum Four false false) v e h = refl
 written_text place stamp (Datum Eight true true) v e h = refl
-written_text place stamp (Datum Eight true false) v e h = refl
 written_text place stamp (Datum Eight false true) v e h = refl
-written_text place stamp (Datum Eight false false) v e h = refl
 written_text place stamp (Datum Sixteen true true) v e h = refl
-written_text place stamp (Datum Sixteen true false) v e h = refl
 written_text place stamp (Datum Sixteen false true) v e h = refl
-written_text place stamp (Datum Sixteen false false) v e h = refl
 written_text place stamp (Datum ThirtyTwo true true) v e h = refl
-written_text place stamp (Datum ThirtyTwo true false) v e h = refl
 written_text place stamp (Datum ThirtyTwo false true) v e h = refl
-written_text place stamp (Datum ThirtyTwo false false) v e h = refl
 written_text place stamp (Datum SixtyFour true true) v e h = refl
-written_text place stamp (Datum SixtyFour true false) v e h = refl
 written_text place stamp (Datum SixtyFour false true) v e h = refl
-written_text place stamp (Datum SixtyFour false false) v e h = refl
+written_text place stamp (Datum width marked stamped) v e h = refl
 written_text place stamp (Flag true) v e h = refl
 written_text place stamp (Flag false) v e h = refl
 written_text place stamp NullStamp v e h = refl
 written_text place stamp (Trigger true) v e h = ap (λ (l : List ℕ). codes "trig " ++ (l ++ (codes " " ++ stamp_text stamp))) (byte_digits v h)
 written_text place stamp (Trigger false) v e h = ap (λ (l : List ℕ). codes "trig " ++ (l ++ (codes " " ++ stamp_text stamp))) (byte_digits v h)
-written_text place stamp Null v e h = cc
-written_text place stamp Master8 v e h = cc
-written_text place stamp MasterError v e h = cc
-written_text place stamp Channel8 v e h = cc
-written_text place stamp Master16 v e h = cc
-written_text place stamp GlobalError v e h = cc
-written_text place stamp Channel16 v e h = cc
-written_text place stamp Version v e h = cc
-written_text place stamp (Frequency stamped) v e h = cc
+written_text place stamp row v e h = cc
 
 -- a line by its parts
 pub line_by : (at half id : ℕ) (o : Option StpItem) → is_some o ≡ true →

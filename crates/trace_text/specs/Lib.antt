@@ -13,4 +13,5 @@ pub mod CountText
 pub mod NoteText
 pub mod Digits
 pub mod Pairs
+pub mod Puts
 pub mod Rows

@@ -1,5 +1,6 @@
 -- The events of worked rows.
 use Rattle.std.specs.Prelude.{ℕ, List, Option, None, Some}
+unfoldable pub use Rattle.std.specs.Fmt.{digits}
 use Rattle.stp_grammar.specs.declared.item.Place.{Place}
 use Rattle.stp_grammar.specs.declared.item.StpItem.{StpItem}
 use Rattle.trace_values.specs.declared.fault.Reason.{Reason}

@@ -4,7 +4,7 @@ ghost use Rattle.source_events.specs.declared.tails.TheConstants.{GREATEST_COUNT
 ghost use Rattle.std.specs.Prelude.{◌≡◌, ◌+◌, ◌≤◌, ◌^◌, ◌++◌, length};
 ghost use Rattle.trace_text.specs.CountText.{port_counts_text, exercise_lines, source_counts_line};
 
-use crate::room::{put_bytes, put_number, put_short};
+use crate::room::{put_bytes, put_count, put_short};
 use trace_stream::{OUTLET_ROOM, Outlet, TEXT_ROOM, Text};
 use trace_values::SourceId;
 
@@ -25,12 +25,9 @@ impl Text for PortCountsLines {
     ghost text = { λ l. port_counts_text l.fulls l.halves l.frames };
 
     fn put(&self, room: &mut [u8], from: usize) -> usize {
-        let from = put_bytes(room, from, b"full ");
-        let from = put_number(room, from, self.fulls);
-        let from = put_bytes(room, from, b"\nhalf ");
-        let from = put_number(room, from, self.halves);
-        let from = put_bytes(room, from, b"\nframes ");
-        let from = put_number(room, from, self.frames);
+        let from = put_count(room, from, b"full ", self.fulls);
+        let from = put_count(room, from, b"\nhalf ", self.halves);
+        let from = put_count(room, from, b"\nframes ", self.frames);
         put_bytes(room, from, b"\n")
     }
 }
@@ -48,10 +45,8 @@ impl Text for ExerciseLines {
     ghost text = { λ l. exercise_lines l.items l.capture };
 
     fn put(&self, room: &mut [u8], from: usize) -> usize {
-        let from = put_bytes(room, from, b"items ");
-        let from = put_number(room, from, u64::from(self.items));
-        let from = put_bytes(room, from, b"\ncapture ");
-        let from = put_number(room, from, self.capture);
+        let from = put_count(room, from, b"items ", u64::from(self.items));
+        let from = put_count(room, from, b"\ncapture ", self.capture);
         put_bytes(room, from, b"\n")
     }
 }
@@ -71,10 +66,8 @@ impl Text for SourceCountsLine {
 
     fn put(&self, room: &mut [u8], from: usize) -> usize {
         let from = put_short(room, from, self.id);
-        let from = put_bytes(room, from, b" bytes ");
-        let from = put_number(room, from, self.bytes);
-        let from = put_bytes(room, from, b" items ");
-        let from = put_number(room, from, self.items);
+        let from = put_count(room, from, b" bytes ", self.bytes);
+        let from = put_count(room, from, b" items ", self.items);
         put_bytes(room, from, b"\n")
     }
 }

@@ -1,6 +1,7 @@
 //! What is kept of one line for the next: the digits of its offset, and the text of its place.
 
-ghost use Rattle.std.specs.Prelude.{◌≡◌, ◌+◌, ◌≤◌, ◌<◌, ◌^◌, ◌/◌, ◌%◌, ◌++◌, length, take, decimal};
+ghost use Rattle.std.specs.Prelude.{◌≡◌, ◌+◌, ◌≤◌, ◌<◌, ◌^◌, ◌/◌, ◌%◌, length, take, decimal};
+ghost use Rattle.trace_text.specs.Puts.{Puts};
 
 use crate::place_text::PlaceText;
 use crate::room::{NUMBER_ROOM, put_front, put_number, put_two};
@@ -110,9 +111,7 @@ impl Digits {
     pub(crate) fn put(&self, room: &mut [u8], from: usize, number: u64) -> usize
         requires kept { hundreds_of self.now ≡ number / 100 }
         requires room { from + NUMBER_ROOM ≤ length room.old }
-        ensures text { take result room.new ≡ take from room.old ++ decimal number }
-        ensures same { length room.new ≡ length room.old }
-        ensures end { result ≤ from + NUMBER_ROOM }
+        ensures { Puts room.old room.new from result NUMBER_ROOM (decimal number) }
     {
         if number < 100 {
             return put_number(room, from, number);

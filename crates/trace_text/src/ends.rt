@@ -1,11 +1,12 @@
 //! The lines at the end.
 
-ghost use Rattle.std.specs.Prelude.{◌≡◌, ◌+◌, ◌*◌, ◌≤◌, ◌++◌, length, take};
+ghost use Rattle.std.specs.Prelude.{◌≡◌, ◌+◌, ◌*◌, ◌≤◌, ◌++◌, length};
 ghost use Rattle.trace_text.specs.EndText.{mode_text, kind_text, rest_text, end_line, port_line, source_line};
 ghost use Rattle.trace_text.specs.EndText.{tails_text};
+ghost use Rattle.trace_text.specs.Puts.{Puts};
 
 use crate::lengths::{few_digits, few_id_digits};
-use crate::room::{ITEM_ROOM, WORD_ROOM, put_byte, put_bytes, put_number, put_short, put_slice};
+use crate::room::{ITEM_ROOM, WORD_ROOM, put_byte, put_bytes, put_count, put_short, put_slice};
 use source_events::{PortMode, SourceKind, SourceTail, Tails};
 use trace_stream::{OUTLET_ROOM, Outlet, TEXT_ROOM, Text};
 
@@ -60,14 +61,10 @@ fn kind_word(kind: SourceKind) -> &'static str
 /// Puts the skipped bytes and the tail.
 fn put_rest(room: &mut [u8], from: usize, skipped: u64, tail: u64) -> usize
     requires room { from + ITEM_ROOM ≤ length room.old }
-    ensures text { take result room.new ≡ take from room.old ++ rest_text skipped tail }
-    ensures same { length room.new ≡ length room.old }
-    ensures end { result ≤ from + ITEM_ROOM }
+    ensures { Puts room.old room.new from result ITEM_ROOM (rest_text skipped tail) }
 {
-    let from = put_bytes(room, from, b" skipped ");
-    let from = put_number(room, from, skipped);
-    let from = put_bytes(room, from, b" tail ");
-    put_number(room, from, tail)
+    let from = put_count(room, from, b" skipped ", skipped);
+    put_count(room, from, b" tail ", tail)
 }
 
 impl Text for EndLine {
@@ -76,8 +73,7 @@ impl Text for EndLine {
     ghost text = { λ l. end_line l.bytes };
 
     fn put(&self, room: &mut [u8], from: usize) -> usize {
-        let from = put_bytes(room, from, b"end ");
-        let from = put_number(room, from, self.bytes);
+        let from = put_count(room, from, b"end ", self.bytes);
         put_bytes(room, from, b"\n")
     }
 }
@@ -91,8 +87,7 @@ impl Text for PortEndLine {
         let from = put_bytes(room, from, b"port ");
         let from = put_slice(room, from, mode_word(self.mode).as_bytes());
         let from = put_rest(room, from, self.skipped, self.tail);
-        let from = put_bytes(room, from, b" unattributed ");
-        let from = put_number(room, from, self.unattributed);
+        let from = put_count(room, from, b" unattributed ", self.unattributed);
         put_bytes(room, from, b"\n")
     }
 }

@@ -1,11 +1,12 @@
 //! The line of a fault.
 
-ghost use Rattle.std.specs.Prelude.{◌≡◌, ◌+◌, ◌≤◌, ◌++◌, length, take};
+ghost use Rattle.std.specs.Prelude.{◌≡◌, ◌+◌, ◌≤◌, ◌++◌, length};
 ghost use Rattle.source_events.specs.Report.{stop_of};
 ghost use Rattle.trace_text.specs.FaultText.{reason_text, fault_line};
+ghost use Rattle.trace_text.specs.Puts.{Puts};
 
 use crate::lines::{put_half, put_source};
-use crate::room::{PART_ROOM, put_byte, put_bytes, put_number, put_short, put_slice};
+use crate::room::{PART_ROOM, put_byte, put_count, put_short, put_slice};
 use source_events::Stop;
 use trace_stream::{OUTLET_ROOM, Outlet, TEXT_ROOM, Text};
 use trace_values::Reason;
@@ -22,9 +23,7 @@ pub struct FaultLine {
 /// Puts the reason's number and name, and the line's end: `R NAME`.
 fn put_reason(room: &mut [u8], from: usize, reason: Reason) -> usize
     requires room { from + PART_ROOM ≤ length room.old }
-    ensures text { take result room.new ≡ take from room.old ++ reason_text reason }
-    ensures same { length room.new ≡ length room.old }
-    ensures end { result ≤ from + PART_ROOM }
+    ensures { Puts room.old room.new from result PART_ROOM (reason_text reason) }
 {
     let from = put_short(room, from, reason.number());
     let from = put_byte(room, from, b' ');
@@ -39,8 +38,7 @@ impl Text for FaultLine {
 
     fn put(&self, room: &mut [u8], from: usize) -> usize {
         let fault = self.stop.fault;
-        let from = put_bytes(room, from, b"fault ");
-        let from = put_number(room, from, fault.at);
+        let from = put_count(room, from, b"fault ", fault.at);
         let from = put_half(room, from, self.stp, fault.half);
         let from = put_source(room, from, self.stop.source);
         put_reason(room, from, fault.reason)

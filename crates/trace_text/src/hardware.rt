@@ -1,11 +1,12 @@
 //! The texts of hardware packets, by what they mean.
 
-ghost use Rattle.std.specs.Prelude.{◌≡◌, ◌+◌, ◌≤◌, ◌++◌, length, take, codes, decimal};
+ghost use Rattle.std.specs.Prelude.{◌≡◌, ◌+◌, ◌≤◌, ◌++◌, length, codes, decimal};
 ghost use Rattle.trace_text.specs.HardwareText.{change_text, comparator_text, hardware_text};
+ghost use Rattle.trace_text.specs.Puts.{Puts};
 
 use crate::items::put_source;
 use crate::room::{
-    ITEM_ROOM, PART_ROOM, WORD_ROOM, put_bytes, put_digits, put_number, put_short, put_slice,
+    ITEM_ROOM, PART_ROOM, WORD_ROOM, put_bytes, put_count, put_digits, put_short, put_slice,
     put_value,
 };
 use dwt_packets::{Change, DwtItem};
@@ -26,9 +27,7 @@ fn change_word(change: Change) -> &'static str
 fn put_comparator(room: &mut [u8], from: usize, comparator: u8, word: &str) -> usize
     requires few { length word.now ≤ WORD_ROOM }
     requires room { from + PART_ROOM ≤ length room.old }
-    ensures text { take result room.new ≡ take from room.old ++ comparator_text comparator word.now }
-    ensures same { length room.new ≡ length room.old }
-    ensures end { result ≤ from + PART_ROOM }
+    ensures { Puts room.old room.new from result PART_ROOM (comparator_text comparator word.now) }
 {
     let from = put_bytes(room, from, b"cmp ");
     let from = put_short(room, from, comparator);
@@ -39,13 +38,10 @@ fn put_comparator(room: &mut [u8], from: usize, comparator: u8, word: &str) -> u
 #[inline]
 fn put_exception(room: &mut [u8], from: usize, number: u16, change: Change) -> usize
     requires room { from + PART_ROOM ≤ length room.old }
-    ensures text { take result room.new ≡
-        take from room.old ++ (codes "exception " ++ (decimal number ++ change_text change)) }
-    ensures same { length room.new ≡ length room.old }
-    ensures end { result ≤ from + PART_ROOM }
+    ensures { Puts room.old room.new from result PART_ROOM
+        (codes "exception " ++ (decimal number ++ change_text change)) }
 {
-    let from = put_bytes(room, from, b"exception ");
-    let from = put_number(room, from, u64::from(number));
+    let from = put_count(room, from, b"exception ", u64::from(number));
     put_slice(room, from, change_word(change).as_bytes())
 }
 
@@ -53,9 +49,7 @@ fn put_exception(room: &mut [u8], from: usize, number: u16, change: Change) -> u
 #[inline]
 pub(crate) fn put_hardware(room: &mut [u8], from: usize, item: &DwtItem) -> usize
     requires room { from + ITEM_ROOM ≤ length room.old }
-    ensures text { take result room.new ≡ take from room.old ++ hardware_text item.now }
-    ensures same { length room.new ≡ length room.old }
-    ensures end { result ≤ from + ITEM_ROOM }
+    ensures { Puts room.old room.new from result ITEM_ROOM (hardware_text item.now) }
 {
     match *item {
         DwtItem::Counters(counters) => {

@@ -1,15 +1,16 @@
 //! The texts of ITM packets.
 
-ghost use Rattle.std.specs.Prelude.{◌≡◌, ◌+◌, ◌≤◌, ◌<◌, ◌^◌, ◌∷◌, [], ◌++◌, length, take, codes, decimal};
+ghost use Rattle.std.specs.Prelude.{◌≡◌, ◌+◌, ◌≤◌, ◌<◌, ◌^◌, ◌∷◌, [], ◌++◌, length, codes, decimal};
 ghost use Rattle.itm_grammar.specs.Proper.{IsProper};
 ghost use Rattle.itm_grammar.specs.declared.packet.ItmPacket.TheVariants.{Local, GlobalFirst, GlobalSecond, Extension};
 ghost use Rattle.trace_text.specs.Values.{value_text};
 ghost use Rattle.trace_text.specs.ItemText.{lateness_text, flag_text, bits_text, owner_text, item_text};
+ghost use Rattle.trace_text.specs.Puts.{Puts, PutsAll};
 
 use crate::hardware::put_hardware;
 use crate::room::{
-    ITEM_ROOM, PART_ROOM, WORD_ROOM, put_bytes, put_digits, put_entry, put_number, put_port,
-    put_short, put_slice, put_value,
+    ITEM_ROOM, PART_ROOM, WORD_ROOM, put_bytes, put_count, put_digits, put_entry, put_number,
+    put_port, put_short, put_slice, put_value,
 };
 use crate::tables::{BITS, FLAGS, LATENESS_LENS, LATENESSES};
 use dwt_packets::meaning;
@@ -19,9 +20,7 @@ use itm_grammar::packet::{ItmPacket, Lateness, Size};
 #[inline(always)]
 fn put_lateness(room: &mut [u8], from: usize, lateness: Lateness) -> usize
     requires room { from + WORD_ROOM ≤ length room.old }
-    ensures text { take result room.new ≡ take from room.old ++ (lateness_text lateness ++ codes " ") }
-    ensures same { length room.new ≡ length room.old }
-    ensures end { result ≤ from + WORD_ROOM }
+    ensures { Puts room.old room.new from result WORD_ROOM (lateness_text lateness ++ codes " ") }
 {
     let lens = LATENESS_LENS;
     let number = lateness as usize;
@@ -31,9 +30,7 @@ fn put_lateness(room: &mut [u8], from: usize, lateness: Lateness) -> usize
 #[inline]
 fn put_local(room: &mut [u8], from: usize, lateness: Lateness, delta: u32) -> usize
     requires room { from + PART_ROOM ≤ length room.old }
-    ensures text { take result room.new ≡ take from room.old ++ item_text (Local lateness delta) }
-    ensures same { length room.new ≡ length room.old }
-    ensures end { result ≤ from + PART_ROOM }
+    ensures { Puts room.old room.new from result PART_ROOM (item_text (Local lateness delta)) }
 {
     let from = put_bytes(room, from, b"local ");
     let from = put_lateness(room, from, lateness);
@@ -44,10 +41,8 @@ fn put_local(room: &mut [u8], from: usize, lateness: Lateness, delta: u32) -> us
 #[inline(always)]
 fn put_flags(room: &mut [u8], from: usize, change: bool, wrap: bool) -> usize
     requires room { from + 4 ≤ length room.old }
-    ensures text { take result room.new ≡
-        take from room.old ++ (codes " " ++ (flag_text change ++ (codes " " ++ flag_text wrap))) }
-    ensures same { length room.new ≡ length room.old }
-    ensures end { result ≡ from + 4 }
+    ensures { PutsAll room.old room.new from result 4
+        (codes " " ++ (flag_text change ++ (codes " " ++ flag_text wrap))) }
 {
     put_entry(room, from, FLAGS, 4, 2 * change as usize + wrap as usize, 4)
 }
@@ -62,14 +57,11 @@ fn put_first_stamp(
     wrap: bool,
 ) -> usize
     requires room { from + ITEM_ROOM ≤ length room.old }
-    ensures text { take result room.new ≡ take from room.old ++ item_text (GlobalFirst len value change wrap) }
-    ensures same { length room.new ≡ length room.old }
-    ensures end { result ≤ from + ITEM_ROOM }
+    ensures { Puts room.old room.new from result ITEM_ROOM (item_text (GlobalFirst len value change wrap)) }
 {
     let from = put_bytes(room, from, b"global1 ");
     let from = put_short(room, from, len);
-    let from = put_bytes(room, from, b" ");
-    let from = put_number(room, from, u64::from(value));
+    let from = put_count(room, from, b" ", u64::from(value));
     put_flags(room, from, change, wrap)
 }
 
@@ -77,9 +69,7 @@ fn put_first_stamp(
 #[inline(always)]
 fn put_bits(room: &mut [u8], from: usize, wide: bool) -> usize
     requires room { from + 4 ≤ length room.old }
-    ensures text { take result room.new ≡ take from room.old ++ (bits_text wide ++ codes " ") }
-    ensures same { length room.new ≡ length room.old }
-    ensures end { result ≡ from + 3 }
+    ensures { PutsAll room.old room.new from result 3 (bits_text wide ++ codes " ") }
 {
     put_entry(room, from, BITS, 4, wide as usize, 3)
 }
@@ -87,9 +77,7 @@ fn put_bits(room: &mut [u8], from: usize, wide: bool) -> usize
 #[inline]
 fn put_second_stamp(room: &mut [u8], from: usize, wide: bool, value: u64) -> usize
     requires room { from + PART_ROOM ≤ length room.old }
-    ensures text { take result room.new ≡ take from room.old ++ item_text (GlobalSecond wide value) }
-    ensures same { length room.new ≡ length room.old }
-    ensures end { result ≤ from + PART_ROOM }
+    ensures { Puts room.old room.new from result PART_ROOM (item_text (GlobalSecond wide value)) }
 {
     let from = put_bytes(room, from, b"global2 ");
     let from = put_bits(room, from, wide);
@@ -106,9 +94,7 @@ fn extension_words(dwt: bool) -> &'static str
 #[inline]
 fn put_extension(room: &mut [u8], from: usize, dwt: bool, value: u32) -> usize
     requires room { from + PART_ROOM ≤ length room.old }
-    ensures text { take result room.new ≡ take from room.old ++ item_text (Extension dwt value) }
-    ensures same { length room.new ≡ length room.old }
-    ensures end { result ≤ from + PART_ROOM }
+    ensures { Puts room.old room.new from result PART_ROOM (item_text (Extension dwt value)) }
 {
     let from = put_slice(room, from, extension_words(dwt).as_bytes());
     put_digits(room, from, &value.to_be_bytes())
@@ -118,10 +104,7 @@ fn put_extension(room: &mut [u8], from: usize, dwt: bool, value: u32) -> usize
 #[inline(always)]
 pub(crate) fn put_source(room: &mut [u8], from: usize, number: u8, size: Size, value: u32) -> usize
     requires room { from + PART_ROOM ≤ length room.old }
-    ensures text { take result room.new ≡
-        take from room.old ++ (decimal number ++ (codes " " ++ value_text size value)) }
-    ensures same { length room.new ≡ length room.old }
-    ensures end { result ≤ from + PART_ROOM }
+    ensures { Puts room.old room.new from result PART_ROOM (decimal number ++ (codes " " ++ value_text size value)) }
 {
     let from = put_short(room, from, number);
     let from = put_bytes(room, from, b" ");
@@ -133,9 +116,7 @@ pub(crate) fn put_source(room: &mut [u8], from: usize, number: u8, size: Size, v
 pub(crate) fn put_item(room: &mut [u8], from: usize, packet: &ItmPacket) -> usize
     requires proper { IsProper packet.now }
     requires room { from + ITEM_ROOM ≤ length room.old }
-    ensures text { take result room.new ≡ take from room.old ++ item_text packet.now }
-    ensures same { length room.new ≡ length room.old }
-    ensures end { result ≤ from + ITEM_ROOM }
+    ensures { Puts room.old room.new from result ITEM_ROOM (item_text packet.now) }
 {
     match *packet {
         ItmPacket::Sync => put_bytes(room, from, b"sync"),

@@ -1,6 +1,6 @@
 //! The lines of what the sources and the port gave.
 
-ghost use Rattle.std.specs.Prelude.{◌≡◌, ◌+◌, ◌≤◌, ◌++◌, ◌/◌, false, true, length, take, codes, decimal};
+ghost use Rattle.std.specs.Prelude.{◌≡◌, ◌+◌, ◌≤◌, ◌++◌, ◌/◌, false, true, length, codes, decimal};
 ghost use Rattle.hex.specs.Hex.{encode_lower};
 ghost use Rattle.source_events.specs.declared.event.What.TheVariants.{Packet as GivenPacket};
 ghost use Rattle.itm_grammar.specs.Proper.{IsProper};
@@ -10,12 +10,13 @@ ghost use Rattle.trace_text.specs.Printable.{IsProperPacket, IsProperWhat, Suits
 ghost use Rattle.trace_text.specs.LineText.{half_text, source_text, packet_text, what_text, remark_text, event_line};
 ghost use Rattle.trace_text.specs.LineText.{itm_event, stp_event, raw_event};
 ghost use Rattle.trace_text.specs.declared.remark.Remark.TheVariants.{None as NoRemark};
+ghost use Rattle.trace_text.specs.Puts.{Puts};
 
 use crate::digits::Digits;
 use crate::items::put_item;
 use crate::lengths::{few_digits, few_half_digits, few_id_digits, short_event, short_remark};
 use crate::remark::Remark;
-use crate::room::{ITEM_ROOM, NUMBER_ROOM, put_byte, put_bytes, put_digits, put_number, put_short};
+use crate::room::{ITEM_ROOM, NUMBER_ROOM, put_byte, put_bytes, put_count, put_digits, put_short};
 use crate::stp::put_stp;
 use itm_grammar::packet::ItmPacket;
 use source_events::{Event, Packet, What};
@@ -40,9 +41,7 @@ const SOURCE_ROOM: usize = 6;
 #[inline]
 pub(crate) fn put_half(room: &mut [u8], from: usize, stp: bool, half: u8) -> usize
     requires room { from + HALF_ROOM ≤ length room.old }
-    ensures text { take result room.new ≡ take from room.old ++ half_text stp half }
-    ensures same { length room.new ≡ length room.old }
-    ensures end { result ≤ from + HALF_ROOM }
+    ensures { Puts room.old room.new from result HALF_ROOM (half_text stp half) }
 {
     if stp {
         let from = put_byte(room, from, b'.');
@@ -56,9 +55,7 @@ pub(crate) fn put_half(room: &mut [u8], from: usize, stp: bool, half: u8) -> usi
 #[inline]
 pub(crate) fn put_source(room: &mut [u8], from: usize, source: Option<SourceId>) -> usize
     requires room { from + SOURCE_ROOM ≤ length room.old }
-    ensures text { take result room.new ≡ take from room.old ++ (codes " " ++ (source_text source ++ codes " ")) }
-    ensures same { length room.new ≡ length room.old }
-    ensures end { result ≤ from + SOURCE_ROOM }
+    ensures { Puts room.old room.new from result SOURCE_ROOM (codes " " ++ (source_text source ++ codes " ")) }
 {
     match source {
         None => put_bytes(room, from, b" port "),
@@ -76,9 +73,7 @@ fn put_packet(room: &mut [u8], from: usize, digits: &Digits, packet: &Packet) ->
     requires kept { KeepsPlaceOf digits.now (GivenPacket packet.now) }
     requires proper { IsProperPacket packet.now }
     requires room { from + ITEM_ROOM ≤ length room.old }
-    ensures text { take result room.new ≡ take from room.old ++ packet_text packet.now }
-    ensures same { length room.new ≡ length room.old }
-    ensures end { result ≤ from + ITEM_ROOM }
+    ensures { Puts room.old room.new from result ITEM_ROOM (packet_text packet.now) }
 {
     match packet {
         Packet::Itm(packet) => put_item(room, from, packet),
@@ -91,9 +86,7 @@ fn put_packet(room: &mut [u8], from: usize, digits: &Digits, packet: &Packet) ->
 fn put_raw(room: &mut [u8], from: usize, bytes: &[u8]) -> usize
     requires few { length bytes.now ≤ 15 }
     requires room { from + ITEM_ROOM ≤ length room.old }
-    ensures text { take result room.new ≡ take from room.old ++ (codes "raw " ++ encode_lower bytes.now) }
-    ensures same { length room.new ≡ length room.old }
-    ensures end { result ≤ from + ITEM_ROOM }
+    ensures { Puts room.old room.new from result ITEM_ROOM (codes "raw " ++ encode_lower bytes.now) }
 {
     let from = put_bytes(room, from, b"raw ");
     put_digits(room, from, bytes)
@@ -105,16 +98,11 @@ fn put_what(room: &mut [u8], from: usize, digits: &Digits, what: &What<Packet>) 
     requires kept { KeepsPlaceOf digits.now what.now }
     requires proper { IsProperWhat what.now }
     requires room { from + ITEM_ROOM ≤ length room.old }
-    ensures text { take result room.new ≡ take from room.old ++ what_text what.now }
-    ensures same { length room.new ≡ length room.old }
-    ensures end { result ≤ from + ITEM_ROOM }
+    ensures { Puts room.old room.new from result ITEM_ROOM (what_text what.now) }
 {
     match what {
         What::Packet(packet) => put_packet(room, from, digits, packet),
-        What::Locked(skipped) => {
-            let from = put_bytes(room, from, b"locked ");
-            put_number(room, from, *skipped)
-        }
+        What::Locked(skipped) => put_count(room, from, b"locked ", *skipped),
         What::Raw(bytes) => put_raw(room, from, bytes.as_slice()),
         What::Trigger(byte) => {
             let from = put_bytes(room, from, b"trigger ");
@@ -127,20 +115,12 @@ fn put_what(room: &mut [u8], from: usize, digits: &Digits, what: &What<Packet>) 
 #[inline]
 fn put_remark(room: &mut [u8], from: usize, remark: Remark) -> usize
     requires room { from + REMARK_ROOM ≤ length room.old }
-    ensures text { take result room.new ≡ take from room.old ++ remark_text remark }
-    ensures same { length room.new ≡ length room.old }
-    ensures end { result ≤ from + REMARK_ROOM }
+    ensures { Puts room.old room.new from result REMARK_ROOM (remark_text remark) }
 {
     match remark {
         Remark::None => from,
-        Remark::Clock(ticks) => {
-            let from = put_bytes(room, from, b" clock=");
-            put_number(room, from, ticks)
-        }
-        Remark::Time(Some(time)) => {
-            let from = put_bytes(room, from, b" time=");
-            put_number(room, from, time)
-        }
+        Remark::Clock(ticks) => put_count(room, from, b" clock=", ticks),
+        Remark::Time(Some(time)) => put_count(room, from, b" time=", time),
         Remark::Time(None) => put_bytes(room, from, b" time=?"),
     }
 }

@@ -5,7 +5,7 @@ ghost use Rattle.trace_stream.specs.declared.recent.TheConstants.{RECENT_ROOM};
 ghost use Rattle.trace_text.specs.NoteText.{last_line, limit_line, script_fault_line, slipped_line};
 ghost use Rattle.trace_text.specs.NoteText.{buffer_line, image_line};
 
-use crate::room::{put_byte, put_bytes, put_digits, put_number, put_short, put_slice};
+use crate::room::{put_byte, put_bytes, put_count, put_digits, put_short, put_slice};
 use trace_stream::Text;
 
 /// The last bytes up to a fault, at most `RECENT_ROOM`, in hexadecimal: `last H`.
@@ -76,8 +76,7 @@ impl Text for ScriptFaultLine<'_> {
     ghost text = { λ l. script_fault_line l.line l.number l.name.now };
 
     fn put(&self, room: &mut [u8], from: usize) -> usize {
-        let from = put_bytes(room, from, b"line ");
-        let from = put_number(room, from, self.line);
+        let from = put_count(room, from, b"line ", self.line);
         let from = put_byte(room, from, b' ');
         let from = put_short(room, from, self.number);
         let from = put_byte(room, from, b' ');
@@ -92,8 +91,7 @@ impl Text for LimitLine {
     ghost text = { λ l. limit_line l.limit };
 
     fn put(&self, room: &mut [u8], from: usize) -> usize {
-        let from = put_bytes(room, from, b"limit ");
-        let from = put_number(room, from, self.limit);
+        let from = put_count(room, from, b"limit ", self.limit);
         put_bytes(room, from, b"\n")
     }
 }
@@ -104,12 +102,9 @@ impl Text for SlippedLine {
     ghost text = { λ l. slipped_line l.skipped l.dropped l.patterns };
 
     fn put(&self, room: &mut [u8], from: usize) -> usize {
-        let from = put_bytes(room, from, b"skipped ");
-        let from = put_number(room, from, self.skipped);
-        let from = put_bytes(room, from, b" dropped ");
-        let from = put_number(room, from, self.dropped);
-        let from = put_bytes(room, from, b" patterns ");
-        let from = put_number(room, from, self.patterns);
+        let from = put_count(room, from, b"skipped ", self.skipped);
+        let from = put_count(room, from, b" dropped ", self.dropped);
+        let from = put_count(room, from, b" patterns ", self.patterns);
         put_byte(room, from, b'\n')
     }
 }
@@ -120,12 +115,10 @@ impl Text for BufferLine {
     ghost text = { λ l. buffer_line l.pointer l.full l.dropped };
 
     fn put(&self, room: &mut [u8], from: usize) -> usize {
-        let from = put_bytes(room, from, b"pointer ");
-        let from = put_number(room, from, self.pointer);
+        let from = put_count(room, from, b"pointer ", self.pointer);
         let from = put_bytes(room, from, b" full ");
         let from = put_byte(room, from, if self.full { b'1' } else { b'0' });
-        let from = put_bytes(room, from, b" dropped ");
-        let from = put_number(room, from, self.dropped);
+        let from = put_count(room, from, b" dropped ", self.dropped);
         put_byte(room, from, b'\n')
     }
 }
@@ -136,8 +129,7 @@ impl Text for ImageLine {
     ghost text = { λ l. image_line l.size };
 
     fn put(&self, room: &mut [u8], from: usize) -> usize {
-        let from = put_bytes(room, from, b"image isn't ");
-        let from = put_number(room, from, self.size);
+        let from = put_count(room, from, b"image isn't ", self.size);
         put_bytes(room, from, b" bytes\n")
     }
 }

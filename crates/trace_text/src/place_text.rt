@@ -1,7 +1,8 @@
 //! The text of a place that is kept from one line to the next.
 
-ghost use Rattle.std.specs.Prelude.{◌≡◌, ◌+◌, ◌≤◌, ◌++◌, [], length, take, ◌==◌, if◌then◌else◌};
+ghost use Rattle.std.specs.Prelude.{◌≡◌, ◌+◌, ◌≤◌, [], length, take, ◌==◌, if◌then◌else◌};
 ghost use Rattle.trace_text.specs.StpText.{place_text};
+ghost use Rattle.trace_text.specs.Puts.{Puts};
 
 use crate::room::put_front;
 use crate::stp::{PLACE_ROOM, put_place};
@@ -48,9 +49,7 @@ impl PlaceText {
     pub(crate) fn put(&self, room: &mut [u8], from: usize, place: Place) -> usize
         requires kept { place_of self.now ≡ place }
         requires room { from + PLACE_COPY ≤ length room.old }
-        ensures text { take result room.new ≡ take from room.old ++ place_text place }
-        ensures same { length room.new ≡ length room.old }
-        ensures end { result ≤ from + PLACE_ROOM }
+        ensures { Puts room.old room.new from result PLACE_ROOM (place_text place) }
     {
         put_front(room, from, &self.text, self.len)
     }
@@ -67,9 +66,7 @@ impl PlaceText {
         requires kept { place_of self.now ≡ place }
         requires times { times ≤ 1 }
         requires room { from + PLACE_COPY ≤ length room.old }
-        ensures text { take result room.new ≡ take from room.old ++ (if times == 1 then place_text place else []) }
-        ensures same { length room.new ≡ length room.old }
-        ensures end { result ≤ from + PLACE_ROOM }
+        ensures { Puts room.old room.new from result PLACE_ROOM (if times == 1 then place_text place else []) }
     {
         put_front(room, from, &self.text, self.len * times)
     }

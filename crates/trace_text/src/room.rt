@@ -7,6 +7,7 @@ ghost use Rattle.hex.specs.Hex.{encode_lower};
 ghost use Rattle.trace_text.specs.Pairs.{pair, four, eight};
 ghost use Rattle.itm_grammar.specs.Spelling.{byte_count};
 ghost use Rattle.trace_text.specs.Values.{bytes_of_value, value_text, width_text};
+ghost use Rattle.trace_text.specs.Puts.{Puts, PutsAll};
 
 use crate::tables::{
     HEX_PAIRS, NUMBERS, PAIRS, PORTS, VALUE_LENS, VALUE_SHIFTS, WIDTH_LENS, WIDTHS,
@@ -36,9 +37,7 @@ pub(crate) const ITEM_ROOM: usize = 80;
 #[inline(always)]
 pub(crate) fn put_bytes(room: &mut [u8], from: usize, piece: &[u8]) -> usize
     requires room { from + length piece.now ≤ length room.old }
-    ensures text { take result room.new ≡ take from room.old ++ piece.now }
-    ensures same { length room.new ≡ length room.old }
-    ensures end { result ≡ from + length piece.now }
+    ensures { PutsAll room.old room.new from result (length piece.now) piece.now }
 {
     let mut end = from;
     for index in 0..piece.len() {
@@ -52,9 +51,7 @@ pub(crate) fn put_bytes(room: &mut [u8], from: usize, piece: &[u8]) -> usize
 #[inline(always)]
 pub(crate) fn put_slice(room: &mut [u8], from: usize, piece: &[u8]) -> usize
     requires room { from + length piece.now ≤ length room.old }
-    ensures text { take result room.new ≡ take from room.old ++ piece.now }
-    ensures same { length room.new ≡ length room.old }
-    ensures end { result ≡ from + length piece.now }
+    ensures { PutsAll room.old room.new from result (length piece.now) piece.now }
 {
     let end = from + piece.len();
     room[from..end].copy_from_slice(piece);
@@ -65,9 +62,7 @@ pub(crate) fn put_slice(room: &mut [u8], from: usize, piece: &[u8]) -> usize
 #[inline(always)]
 pub(crate) fn put_byte(room: &mut [u8], from: usize, byte: u8) -> usize
     requires room { from + 1 ≤ length room.old }
-    ensures text { take result room.new ≡ take from room.old ++ byte ∷ [] }
-    ensures same { length room.new ≡ length room.old }
-    ensures end { result ≡ from + 1 }
+    ensures { PutsAll room.old room.new from result 1 (byte ∷ []) }
 {
     room[from] = byte;
     from + 1
@@ -87,9 +82,7 @@ pub(crate) fn put_entry(
     requires table { size * number + size ≤ length table.now }
     requires few { len ≤ size }
     requires room { from + size ≤ length room.old }
-    ensures text { take result room.new ≡ take from room.old ++ take len (drop (size * number) table.now) }
-    ensures same { length room.new ≡ length room.old }
-    ensures end { result ≡ from + len }
+    ensures { PutsAll room.old room.new from result len (take len (drop (size * number) table.now)) }
 {
     let start = size * number;
     let _all = put_bytes(room, from, &table[start..start + size]);
@@ -101,9 +94,7 @@ pub(crate) fn put_entry(
 pub(crate) fn put_two(room: &mut [u8], from: usize, number: u8) -> usize
     requires room { from + 2 ≤ length room.old }
     requires two { number < 100 }
-    ensures text { take result room.new ≡ take from room.old ++ pair number }
-    ensures same { length room.new ≡ length room.old }
-    ensures end { result ≡ from + 2 }
+    ensures { PutsAll room.old room.new from result 2 (pair number) }
 {
     put_entry(room, from, PAIRS, 2, number as usize, 2)
 }
@@ -114,9 +105,7 @@ pub(crate) fn put_two(room: &mut [u8], from: usize, number: u8) -> usize
 pub(crate) fn put_front(room: &mut [u8], from: usize, bytes: &[u8], len: usize) -> usize
     requires few { len ≤ length bytes.now }
     requires room { from + length bytes.now ≤ length room.old }
-    ensures text { take result room.new ≡ take from room.old ++ take len bytes.now }
-    ensures same { length room.new ≡ length room.old }
-    ensures end { result ≡ from + len }
+    ensures { PutsAll room.old room.new from result len (take len bytes.now) }
 {
     let _all = put_slice(room, from, bytes);
     from + len
@@ -126,9 +115,7 @@ pub(crate) fn put_front(room: &mut [u8], from: usize, bytes: &[u8], len: usize) 
 #[inline]
 pub(crate) fn put_short(room: &mut [u8], from: usize, number: u8) -> usize
     requires room { from + SHORT_ROOM ≤ length room.old }
-    ensures text { take result room.new ≡ take from room.old ++ decimal number }
-    ensures same { length room.new ≡ length room.old }
-    ensures end { result ≤ from + 3 }
+    ensures { Puts room.old room.new from result 3 (decimal number) }
 {
     let has_two = number >= 10;
     let has_three = number >= 100;
@@ -141,9 +128,7 @@ pub(crate) fn put_short(room: &mut [u8], from: usize, number: u8) -> usize
 pub(crate) fn put_port(room: &mut [u8], from: usize, port: u8) -> usize
     requires port { port < 32 }
     requires room { from + 8 ≤ length room.old }
-    ensures text { take result room.new ≡ take from room.old ++ (codes "port " ++ (decimal port ++ codes " ")) }
-    ensures same { length room.new ≡ length room.old }
-    ensures end { result ≤ from + 8 }
+    ensures { Puts room.old room.new from result 8 (codes "port " ++ (decimal port ++ codes " ")) }
 {
     let has_two = port >= 10;
     let len = 7 + has_two as usize;
@@ -155,9 +140,7 @@ pub(crate) fn put_port(room: &mut [u8], from: usize, port: u8) -> usize
 fn put_four(room: &mut [u8], from: usize, number: u16) -> usize
     requires room { from + 4 ≤ length room.old }
     requires four { number < 10000 }
-    ensures text { take result room.new ≡ take from room.old ++ four number }
-    ensures same { length room.new ≡ length room.old }
-    ensures end { result ≡ from + 4 }
+    ensures { PutsAll room.old room.new from result 4 (four number) }
 {
     let from = put_two(room, from, (number / 100) as u8);
     put_two(room, from, (number % 100) as u8)
@@ -168,9 +151,7 @@ fn put_four(room: &mut [u8], from: usize, number: u16) -> usize
 fn put_eight(room: &mut [u8], from: usize, number: u32) -> usize
     requires room { from + 8 ≤ length room.old }
     requires eight { number < 100000000 }
-    ensures text { take result room.new ≡ take from room.old ++ eight number }
-    ensures same { length room.new ≡ length room.old }
-    ensures end { result ≡ from + 8 }
+    ensures { PutsAll room.old room.new from result 8 (eight number) }
 {
     let from = put_four(room, from, (number / 10_000) as u16);
     put_four(room, from, (number % 10_000) as u16)
@@ -181,9 +162,7 @@ fn put_eight(room: &mut [u8], from: usize, number: u32) -> usize
 fn put_up_to_four(room: &mut [u8], from: usize, number: u16) -> usize
     requires room { from + 5 ≤ length room.old }
     requires few { number < 10000 }
-    ensures text { take result room.new ≡ take from room.old ++ decimal number }
-    ensures same { length room.new ≡ length room.old }
-    ensures end { result ≤ from + 5 }
+    ensures { Puts room.old room.new from result 5 (decimal number) }
 {
     if number < 100 {
         return put_short(room, from, number as u8);
@@ -197,9 +176,7 @@ fn put_up_to_four(room: &mut [u8], from: usize, number: u16) -> usize
 fn put_up_to_eight(room: &mut [u8], from: usize, number: u32) -> usize
     requires room { from + 9 ≤ length room.old }
     requires few { number < 100000000 }
-    ensures text { take result room.new ≡ take from room.old ++ decimal number }
-    ensures same { length room.new ≡ length room.old }
-    ensures end { result ≤ from + 9 }
+    ensures { Puts room.old room.new from result 9 (decimal number) }
 {
     if number < 10_000 {
         return put_up_to_four(room, from, number as u16);
@@ -213,9 +190,7 @@ fn put_up_to_eight(room: &mut [u8], from: usize, number: u32) -> usize
 fn put_up_to_twelve(room: &mut [u8], from: usize, number: u64) -> usize
     requires room { from + 13 ≤ length room.old }
     requires few { number < 1000000000000 }
-    ensures text { take result room.new ≡ take from room.old ++ decimal number }
-    ensures same { length room.new ≡ length room.old }
-    ensures end { result ≤ from + 13 }
+    ensures { Puts room.old room.new from result 13 (decimal number) }
 {
     if number < 100_000_000 {
         return put_up_to_eight(room, from, number as u32);
@@ -228,9 +203,7 @@ fn put_up_to_twelve(room: &mut [u8], from: usize, number: u64) -> usize
 #[inline]
 pub(crate) fn put_number(room: &mut [u8], from: usize, number: u64) -> usize
     requires room { from + NUMBER_ROOM ≤ length room.old }
-    ensures text { take result room.new ≡ take from room.old ++ decimal number }
-    ensures same { length room.new ≡ length room.old }
-    ensures end { result ≤ from + NUMBER_ROOM }
+    ensures { Puts room.old room.new from result NUMBER_ROOM (decimal number) }
 {
     if number < 100_000_000 {
         return put_up_to_eight(room, from, number as u32);
@@ -239,13 +212,21 @@ pub(crate) fn put_number(room: &mut [u8], from: usize, number: u64) -> usize
     put_eight(room, from, (number % 100_000_000) as u32)
 }
 
+/// Puts a word, and a number after it.
+#[inline(always)]
+pub(crate) fn put_count(room: &mut [u8], from: usize, word: &[u8], number: u64) -> usize
+    requires room { from + length word.now + NUMBER_ROOM ≤ length room.old }
+    ensures { Puts room.old room.new from result (length word.now + NUMBER_ROOM) (word.now ++ decimal number) }
+{
+    let from = put_bytes(room, from, word);
+    put_number(room, from, number)
+}
+
 /// Puts a number of at most five digits in decimal.
 #[inline]
 pub(crate) fn put_medium(room: &mut [u8], from: usize, number: u16) -> usize
     requires room { from + MEDIUM_ROOM ≤ length room.old }
-    ensures text { take result room.new ≡ take from room.old ++ decimal number }
-    ensures same { length room.new ≡ length room.old }
-    ensures end { result ≤ from + MEDIUM_ROOM }
+    ensures { Puts room.old room.new from result MEDIUM_ROOM (decimal number) }
 {
     if number < 10_000 {
         return put_up_to_four(room, from, number);
@@ -258,9 +239,7 @@ pub(crate) fn put_medium(room: &mut [u8], from: usize, number: u16) -> usize
 #[inline(always)]
 pub(crate) fn put_digits(room: &mut [u8], from: usize, bytes: &[u8]) -> usize
     requires { from + 2 * length bytes.now ≤ length room.old }
-    ensures text { take result room.new ≡ take from room.old ++ encode_lower bytes.now }
-    ensures same { length room.new ≡ length room.old }
-    ensures end { result ≡ from + 2 * length bytes.now }
+    ensures { PutsAll room.old room.new from result (2 * length bytes.now) (encode_lower bytes.now) }
 {
     let mut end = from;
     for index in 0..bytes.len() {
@@ -273,9 +252,7 @@ pub(crate) fn put_digits(room: &mut [u8], from: usize, bytes: &[u8]) -> usize
 #[inline(always)]
 fn put_hex_pair(room: &mut [u8], from: usize, byte: u8) -> usize
     requires room { from + 2 ≤ length room.old }
-    ensures text { take result room.new ≡ take from room.old ++ encode_lower (byte ∷ []) }
-    ensures same { length room.new ≡ length room.old }
-    ensures end { result ≡ from + 2 }
+    ensures { PutsAll room.old room.new from result 2 (encode_lower (byte ∷ [])) }
 {
     put_entry(room, from, HEX_PAIRS, 2, byte as usize, 2)
 }
@@ -285,9 +262,7 @@ fn put_hex_pair(room: &mut [u8], from: usize, byte: u8) -> usize
 fn put_hex_front(room: &mut [u8], from: usize, bytes: &[u8; 4], count: usize) -> usize
     requires few { count ≤ 4 }
     requires room { from + 8 ≤ length room.old }
-    ensures text { take result room.new ≡ take from room.old ++ encode_lower (take count bytes.now) }
-    ensures same { length room.new ≡ length room.old }
-    ensures end { result ≡ from + 2 * count }
+    ensures { PutsAll room.old room.new from result (2 * count) (encode_lower (take count bytes.now)) }
 {
     let end = put_hex_pair(room, from, bytes[0]);
     let end = put_hex_pair(room, end, bytes[1]);
@@ -301,9 +276,7 @@ fn put_hex_front(room: &mut [u8], from: usize, bytes: &[u8; 4], count: usize) ->
 #[inline(always)]
 fn put_width(room: &mut [u8], from: usize, size: Size) -> usize
     requires room { from + 4 ≤ length room.old }
-    ensures text { take result room.new ≡ take from room.old ++ width_text size }
-    ensures same { length room.new ≡ length room.old }
-    ensures end { result ≤ from + 4 }
+    ensures { Puts room.old room.new from result 4 (width_text size) }
 {
     let lens = WIDTH_LENS;
     let number = size as usize;
@@ -332,9 +305,7 @@ fn value_len(size: Size) -> usize
 #[inline(always)]
 pub(crate) fn put_value(room: &mut [u8], from: usize, size: Size, value: u32) -> usize
     requires room { from + NUMBER_ROOM ≤ length room.old }
-    ensures text { take result room.new ≡ take from room.old ++ value_text size value }
-    ensures same { length room.new ≡ length room.old }
-    ensures end { result ≤ from + NUMBER_ROOM }
+    ensures { Puts room.old room.new from result NUMBER_ROOM (value_text size value) }
 {
     let from = put_width(room, from, size);
     put_hex_front(room, from, &value_bytes(size, value), value_len(size))

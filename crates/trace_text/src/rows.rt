@@ -17,6 +17,7 @@ ghost use Rattle.trace_text.specs.EndText.{end_line, port_line, source_line};
 ghost use Rattle.trace_text.specs.Rows.{port_lock, lock, half_lock, item, raw, trigger, written, nowhere, fault};
 
 /// Packets of an ITM source, with what is beside them.
+#[tactic(auto, unfolding(crate::specs::Rows::digits, hex::specs::Hex::encode_with, dwt_packets::specs::Table::name))]
 pub fn packets()
     ensures sync { event_line false (itm_event 5 1 Sync) NoRemark ≡ codes "5 1 sync\n" }
     ensures port { event_line false (itm_event 7 1 (Software 2 FourBytes 0xFFFFFFFF)) NoRemark ≡
@@ -34,6 +35,7 @@ pub fn packets()
 {}
 
 /// Items of an STP source.
+#[tactic(auto, unfolding(crate::specs::Rows::digits, crate::specs::HexDigits::hex_digits))]
 pub fn items()
     ensures sync { event_line true (item 10 1 1 Async) NoRemark ≡ codes "10.1 1 async\n" }
     ensures version { event_line true (item 12 1 1 (Version 3)) NoRemark ≡ codes "12.1 1 version 3\n" }
@@ -52,6 +54,7 @@ pub fn items()
 {}
 
 /// Locks, bytes of sources that are not mapped, and triggers.
+#[tactic(auto, unfolding(crate::specs::Rows::digits, hex::specs::Hex::encode_with))]
 pub fn others()
     ensures port { event_line false (port_lock 21 18) NoRemark ≡ codes "21 port locked 18\n" }
     ensures itm { event_line false (lock 9 1 4) NoRemark ≡ codes "9 1 locked 4\n" }
@@ -63,6 +66,7 @@ pub fn others()
 {}
 
 /// Faults, each reason at its layer.
+#[tactic(auto, unfolding(crate::specs::Rows::digits))]
 pub fn faults()
     ensures bad_sync { fault_line false (fault 1 0 None BadSync) ≡ codes "fault 1 port 1 BadSync\n" }
     ensures sync_in_frame { fault_line false (fault 7 0 None SyncInFrame) ≡ codes "fault 7 port 2 SyncInFrame\n" }
@@ -76,6 +80,7 @@ pub fn faults()
 {}
 
 /// The lines at the end.
+#[tactic(auto, unfolding(crate::specs::Rows::digits))]
 pub fn ends()
     ensures end { end_line 52 ≡ codes "end 52\n" }
     ensures port { port_line Hunting 17 0 0 ≡ codes "port hunting skipped 17 tail 0 unattributed 0\n" }

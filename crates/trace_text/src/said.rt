@@ -1,25 +1,26 @@
 //! The lines of what STP packets say, from their parts. Those of data, flags, triggers and NULL_TS, which are most, are
 //! put with no branch by what the packet is.
 
-ghost use Rattle.std.specs.Prelude.{◌≡◌, ◌+◌, ◌*◌, ◌/◌, ◌^◌, ◌≤◌, ◌<◌, ◌++◌, ◌==◌, true, length, take, Some};
+ghost use Rattle.std.specs.Prelude.{◌≡◌, ◌+◌, ◌*◌, ◌/◌, ◌≤◌, ◌<◌, ◌++◌, ◌==◌, true, length, Some};
+ghost use Rattle.std.specs.Prelude.{take, drop, slice_index};
 ghost use Rattle.std.specs.Option.{is_some};
 ghost use Rattle.stp_grammar.specs.Opcodes.{line_of, row_at};
 ghost use Rattle.stp_grammar.specs.Said.{said_item, IsProperSaid};
 ghost use Rattle.stp_grammar.specs.declared.item.StpItem.{StpItem};
-ghost use Rattle.trace_text.specs.HexDigits.{hex_digits};
 ghost use Rattle.trace_text.specs.Digits.{hundreds_of, place_of};
 ghost use Rattle.trace_text.specs.LineText.{event_line, stp_event};
-ghost use Rattle.trace_text.specs.SaidText.{is_written, is_placed, word_at, width_at, mark_at, said_text, said_line};
+ghost use Rattle.trace_text.specs.SaidText.{is_written, is_placed, said_text, said_line};
 ghost use Rattle.trace_text.specs.declared.remark.Remark.TheVariants.{None as NoRemark};
+ghost use Rattle.trace_text.specs.Puts.{Puts};
 
 use crate::digits::Digits;
 use crate::lengths::{few_digits, few_half_digits, few_id_digits};
 use crate::lines::{EVENT_ROOM, put_half, put_source, put_stp_line};
-use crate::room::{ITEM_ROOM, put_byte, put_digits, put_entry};
+use crate::room::{ITEM_ROOM, put_byte, put_entry};
 use crate::said_tables::{
     DIGIT_COUNTS, MARK_LENS, MARKS, PLACE_COUNTS, WIDTH_LENS, WIDTHS, WORD_LENS, WORDS, WRITTEN,
 };
-use crate::stp::put_stamp;
+use crate::stp::{put_nibbles, put_stamp};
 use stp_grammar::said::Said;
 use trace_stream::{OUTLET_ROOM, Outlet, TEXT_ROOM, Text};
 use trace_values::SourceId;
@@ -44,28 +45,6 @@ fn place_count(number: u8) -> usize
     counts[number as usize] as usize
 }
 
-/// How many bytes the word of a row has.
-#[inline(always)]
-fn word_len(number: u8) -> usize
-    requires number { number < 35 }
-    requires written { is_written (row_at number) ≡ true }
-    ensures { result ≡ length (word_at (row_at number)) }
-{
-    let lens = WORD_LENS;
-    lens[number as usize] as usize
-}
-
-/// How many bytes what is after the place has.
-#[inline(always)]
-fn width_len(number: u8) -> usize
-    requires number { number < 35 }
-    requires written { is_written (row_at number) ≡ true }
-    ensures { result ≡ length (width_at (row_at number)) }
-{
-    let lens = WIDTH_LENS;
-    lens[number as usize] as usize
-}
-
 /// How many hexadecimal digits the value has.
 #[inline(always)]
 fn digit_count(number: u8) -> u8
@@ -78,72 +57,26 @@ fn digit_count(number: u8) -> u8
     counts[number as usize]
 }
 
-/// How many bytes what is between the value and the timestamp has.
+/// Puts a part of the text of the row of this number: what a table of entries of `size` bytes has there, as many bytes
+/// as the table beside it says.
 #[inline(always)]
-fn mark_len(number: u8) -> usize
-    requires number { number < 35 }
-    requires written { is_written (row_at number) ≡ true }
-    ensures { result ≡ length (mark_at (row_at number)) }
+fn put_part(
+    room: &mut [u8],
+    from: usize,
+    table: &[u8],
+    size: usize,
+    lens: &[u8],
+    number: u8,
+) -> usize
+    requires number { number < length lens.now }
+    requires table { size * number + size ≤ length table.now }
+    requires few { slice_index lens.now number ≤ size }
+    requires room { from + size ≤ length room.old }
+    ensures { Puts room.old room.new from result size
+        (take (slice_index lens.now number) (drop (size * number) table.now)) }
 {
-    let lens = MARK_LENS;
-    lens[number as usize] as usize
-}
-
-/// Puts the word of a row.
-#[inline(always)]
-fn put_word(room: &mut [u8], from: usize, number: u8) -> usize
-    requires number { number < 35 }
-    requires written { is_written (row_at number) ≡ true }
-    requires room { from + 8 ≤ length room.old }
-    ensures text { take result room.new ≡ take from room.old ++ word_at (row_at number) }
-    ensures same { length room.new ≡ length room.old }
-    ensures end { result ≤ from + 8 }
-{
-    put_entry(room, from, WORDS, 8, number as usize, word_len(number))
-}
-
-/// Puts what is after the place.
-#[inline(always)]
-fn put_width(room: &mut [u8], from: usize, number: u8) -> usize
-    requires number { number < 35 }
-    requires written { is_written (row_at number) ≡ true }
-    requires room { from + 8 ≤ length room.old }
-    ensures text { take result room.new ≡ take from room.old ++ width_at (row_at number) }
-    ensures same { length room.new ≡ length room.old }
-    ensures end { result ≤ from + 8 }
-{
-    put_entry(room, from, WIDTHS, 8, number as usize, width_len(number))
-}
-
-/// Puts the value, as hexadecimal digits. No branch depends on how many they are, also where there are none.
-#[inline(always)]
-fn put_value(room: &mut [u8], from: usize, number: u8, value: u64) -> usize
-    requires number { number < 35 }
-    requires written { is_written (row_at number) ≡ true }
-    requires fits { value < 16 ^ (line_of (row_at number)).payload }
-    requires room { from + 16 ≤ length room.old }
-    ensures text { take result room.new ≡
-        take from room.old ++ hex_digits (line_of (row_at number)).payload value }
-    ensures same { length room.new ≡ length room.old }
-    ensures end { result ≤ from + 16 }
-{
-    let count = digit_count(number);
-    let first = value << ((64 - 4 * count) % 64);
-    let _all = put_digits(room, from, &first.to_be_bytes());
-    from + usize::from(count)
-}
-
-/// Puts what is between the value and the timestamp.
-#[inline(always)]
-fn put_mark(room: &mut [u8], from: usize, number: u8) -> usize
-    requires number { number < 35 }
-    requires written { is_written (row_at number) ≡ true }
-    requires room { from + 4 ≤ length room.old }
-    ensures text { take result room.new ≡ take from room.old ++ mark_at (row_at number) }
-    ensures same { length room.new ≡ length room.old }
-    ensures end { result ≤ from + 4 }
-{
-    put_entry(room, from, MARKS, 4, number as usize, mark_len(number))
+    let number = number as usize;
+    put_entry(room, from, table, size, number, lens[number] as usize)
 }
 
 /// Puts a datum, a flag, a trigger or a NULL_TS, whose place is kept.
@@ -153,17 +86,16 @@ fn put_said(room: &mut [u8], from: usize, digits: &Digits, said: Said) -> usize
     requires written { is_written (row_at said.number) ≡ true }
     requires kept { place_of digits.now.place ≡ said.place }
     requires room { from + ITEM_ROOM ≤ length room.old }
-    ensures text { take result room.new ≡ take from room.old ++ said_text (said_item said) }
-    ensures same { length room.new ≡ length room.old }
-    ensures end { result ≤ from + ITEM_ROOM }
+    ensures { Puts room.old room.new from result ITEM_ROOM (said_text (said_item said)) }
 {
-    let from = put_word(room, from, said.number);
+    let number = said.number;
+    let from = put_part(room, from, WORDS, 8, WORD_LENS, number);
     let from = digits
         .place
-        .put_times(room, from, said.place, place_count(said.number));
-    let from = put_width(room, from, said.number);
-    let from = put_value(room, from, said.number, said.payload);
-    let from = put_mark(room, from, said.number);
+        .put_times(room, from, said.place, place_count(number));
+    let from = put_part(room, from, WIDTHS, 8, WIDTH_LENS, number);
+    let from = put_nibbles(room, from, digit_count(number), said.payload);
+    let from = put_part(room, from, MARKS, 4, MARK_LENS, number);
     put_stamp(room, from, said.stamp)
 }
 

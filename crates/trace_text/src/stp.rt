@@ -1,17 +1,18 @@
 //! The texts of the items of a system trace.
 
-ghost use Rattle.std.specs.Prelude.{◌≡◌, ◌+◌, ◌/◌, ◌^◌, ◌≤◌, ◌<◌, ◌++◌, ◌∷◌, [], length, take, codes, decimal};
+ghost use Rattle.std.specs.Prelude.{◌≡◌, ◌+◌, ◌/◌, ◌^◌, ◌≤◌, ◌<◌, ◌++◌, ◌∷◌, [], length, codes, decimal};
 ghost use Rattle.hex.specs.Hex.{encode_lower};
 ghost use Rattle.stp_grammar.specs.Proper.{bits_of, IsProperItem, IsProperStamp};
-ghost use Rattle.stp_grammar.specs.declared.item.StpItem.TheVariants.{MasterError, Flag, Trigger, Frequency};
+ghost use Rattle.stp_grammar.specs.declared.item.StpItem.TheVariants.{Trigger};
 ghost use Rattle.trace_text.specs.HexDigits.{hex_digits};
 ghost use Rattle.trace_text.specs.Digits.{KeepsPlace, place_of};
 ghost use Rattle.trace_text.specs.StpText.{known_text, place_text, datum_text, mark_text, stamp_text, stp_text};
+ghost use Rattle.trace_text.specs.Puts.{Puts, PutsAll};
 
 use crate::digits::Digits;
 use crate::room::{
-    ITEM_ROOM, MEDIUM_ROOM, NUMBER_ROOM, PART_ROOM, put_byte, put_bytes, put_digits, put_entry,
-    put_medium, put_number, put_short,
+    ITEM_ROOM, MEDIUM_ROOM, NUMBER_ROOM, put_byte, put_bytes, put_count, put_digits, put_entry,
+    put_medium, put_short,
 };
 use crate::tables::{DATUM_DIGITS, DATUM_WIDTH_LENS, DATUM_WIDTHS, MARKS};
 use stp_grammar::item::{Place, Stamp, StpItem};
@@ -31,9 +32,7 @@ const STAMP_ROOM: usize = 2 + NUMBER_ROOM;
 #[inline(always)]
 fn put_known(room: &mut [u8], from: usize, number: Option<u16>) -> usize
     requires room { from + MEDIUM_ROOM ≤ length room.old }
-    ensures text { take result room.new ≡ take from room.old ++ known_text number }
-    ensures same { length room.new ≡ length room.old }
-    ensures end { result ≤ from + MEDIUM_ROOM }
+    ensures { Puts room.old room.new from result MEDIUM_ROOM (known_text number) }
 {
     match number {
         None => put_byte(room, from, b'-'),
@@ -45,29 +44,23 @@ fn put_known(room: &mut [u8], from: usize, number: Option<u16>) -> usize
 #[inline]
 pub(crate) fn put_place(room: &mut [u8], from: usize, place: Place) -> usize
     requires room { from + PLACE_ROOM ≤ length room.old }
-    ensures text { take result room.new ≡ take from room.old ++ place_text place }
-    ensures same { length room.new ≡ length room.old }
-    ensures end { result ≤ from + PLACE_ROOM }
+    ensures { Puts room.old room.new from result PLACE_ROOM (place_text place) }
 {
     let from = put_known(room, from, place.master);
     let from = put_byte(room, from, b' ');
     put_known(room, from, place.channel)
 }
 
-/// Puts the last `count` nibbles of a number, which has no more, as hexadecimal digits. There is room for sixteen.
+/// Puts the last `count` nibbles of a number, which has no more, as hexadecimal digits. There is room for sixteen, so
+/// that no branch depends on how many they are, also where there are none.
 #[inline(always)]
-fn put_nibbles(room: &mut [u8], from: usize, count: u8, number: u64) -> usize
+pub(crate) fn put_nibbles(room: &mut [u8], from: usize, count: u8, number: u64) -> usize
     requires few { count ≤ 16 }
     requires fits { number < 16 ^ count }
     requires room { from + 16 ≤ length room.old }
-    ensures text { take result room.new ≡ take from room.old ++ hex_digits count number }
-    ensures same { length room.new ≡ length room.old }
-    ensures end { result ≡ from + count }
+    ensures { PutsAll room.old room.new from result count (hex_digits count number) }
 {
-    if count == 0 {
-        return from;
-    }
-    let first = number << (64 - 4 * count);
+    let first = number << ((64 - 4 * count) % 64);
     let _all = put_digits(room, from, &first.to_be_bytes());
     from + usize::from(count)
 }
@@ -77,9 +70,7 @@ fn put_nibbles(room: &mut [u8], from: usize, count: u8, number: u64) -> usize
 fn put_datum(room: &mut [u8], from: usize, width: Width, value: u64) -> usize
     requires fits { value < 2 ^ bits_of width }
     requires room { from + VALUE_ROOM ≤ length room.old }
-    ensures text { take result room.new ≡ take from room.old ++ datum_text width value }
-    ensures same { length room.new ≡ length room.old }
-    ensures end { result ≤ from + VALUE_ROOM }
+    ensures { Puts room.old room.new from result VALUE_ROOM (datum_text width value) }
 {
     let lens = DATUM_WIDTH_LENS;
     let counts = DATUM_DIGITS;
@@ -93,20 +84,12 @@ fn put_datum(room: &mut [u8], from: usize, width: Width, value: u64) -> usize
 pub(crate) fn put_stamp(room: &mut [u8], from: usize, stamp: Stamp) -> usize
     requires proper { IsProperStamp stamp }
     requires room { from + STAMP_ROOM ≤ length room.old }
-    ensures text { take result room.new ≡ take from room.old ++ stamp_text stamp }
-    ensures same { length room.new ≡ length room.old }
-    ensures end { result ≤ from + STAMP_ROOM }
+    ensures { Puts room.old room.new from result STAMP_ROOM (stamp_text stamp) }
 {
     match stamp {
         Stamp::None => put_byte(room, from, b'-'),
-        Stamp::Natural(time) => {
-            let from = put_bytes(room, from, b"n=");
-            put_number(room, from, time)
-        }
-        Stamp::Gray(time) => {
-            let from = put_bytes(room, from, b"g=");
-            put_number(room, from, time)
-        }
+        Stamp::Natural(time) => put_count(room, from, b"n=", time),
+        Stamp::Gray(time) => put_count(room, from, b"g=", time),
         Stamp::Raw { size, word } => {
             let from = put_bytes(room, from, b"r=");
             put_nibbles(room, from, word_nibbles(size), word)
@@ -118,11 +101,22 @@ pub(crate) fn put_stamp(room: &mut [u8], from: usize, stamp: Stamp) -> usize
 #[inline(always)]
 fn put_mark(room: &mut [u8], from: usize, marked: bool) -> usize
     requires room { from + 4 ≤ length room.old }
-    ensures text { take result room.new ≡ take from room.old ++ (codes " " ++ (mark_text marked ++ codes " ")) }
-    ensures same { length room.new ≡ length room.old }
-    ensures end { result ≡ from + 3 }
+    ensures { PutsAll room.old room.new from result 3 (codes " " ++ (mark_text marked ++ codes " ")) }
 {
     put_entry(room, from, MARKS, 4, marked as usize, 3)
+}
+
+/// Puts a word, a place, which is kept, and a space after it.
+#[inline(always)]
+fn put_placed(room: &mut [u8], from: usize, digits: &Digits, word: &[u8], place: Place) -> usize
+    requires few { length word.now ≤ 5 }
+    requires kept { place_of digits.now.place ≡ place }
+    requires room { from + 22 ≤ length room.old }
+    ensures { Puts room.old room.new from result 21 (word.now ++ (place_text place ++ codes " ")) }
+{
+    let from = put_bytes(room, from, word);
+    let from = digits.place.put(room, from, place);
+    put_byte(room, from, b' ')
 }
 
 /// Puts what was written, with its place and its timestamp: `data M C uB V K T`.
@@ -141,48 +135,13 @@ fn put_data(
     requires kept { place_of digits.now.place ≡ place }
     requires proper { IsProperStamp stamp }
     requires room { from + ITEM_ROOM ≤ length room.old }
-    ensures text { take result room.new ≡
-        take from room.old ++ (codes "data " ++ (place_text place ++ (codes " " ++ (datum_text width value
+    ensures { Puts room.old room.new from result ITEM_ROOM
+        (codes "data " ++ (place_text place ++ (codes " " ++ (datum_text width value
         ++ (codes " " ++ (mark_text marked ++ (codes " " ++ stamp_text stamp))))))) }
-    ensures same { length room.new ≡ length room.old }
-    ensures end { result ≤ from + ITEM_ROOM }
 {
-    let from = put_bytes(room, from, b"data ");
-    let from = digits.place.put(room, from, place);
-    let from = put_byte(room, from, b' ');
+    let from = put_placed(room, from, digits, b"data ", place);
     let from = put_datum(room, from, width, value);
     let from = put_mark(room, from, marked);
-    put_stamp(room, from, stamp)
-}
-
-/// Puts an error of a master, whose place is kept: `merr M C HH`.
-#[inline(always)]
-fn put_master_error(room: &mut [u8], from: usize, digits: &Digits, place: Place, code: u8) -> usize
-    requires kept { place_of digits.now.place ≡ place }
-    requires room { from + ITEM_ROOM ≤ length room.old }
-    ensures text { take result room.new ≡ take from room.old ++ stp_text (MasterError place code) }
-    ensures same { length room.new ≡ length room.old }
-    ensures end { result ≤ from + ITEM_ROOM }
-{
-    let from = put_bytes(room, from, b"merr ");
-    let from = digits.place.put(room, from, place);
-    let from = put_byte(room, from, b' ');
-    put_digits(room, from, &[code])
-}
-
-/// Puts a flag, whose place is kept: `flag M C T`.
-#[inline(always)]
-fn put_flag(room: &mut [u8], from: usize, digits: &Digits, place: Place, stamp: Stamp) -> usize
-    requires kept { place_of digits.now.place ≡ place }
-    requires proper { IsProperStamp stamp }
-    requires room { from + ITEM_ROOM ≤ length room.old }
-    ensures text { take result room.new ≡ take from room.old ++ stp_text (Flag place stamp) }
-    ensures same { length room.new ≡ length room.old }
-    ensures end { result ≤ from + ITEM_ROOM }
-{
-    let from = put_bytes(room, from, b"flag ");
-    let from = digits.place.put(room, from, place);
-    let from = put_byte(room, from, b' ');
     put_stamp(room, from, stamp)
 }
 
@@ -191,27 +150,10 @@ fn put_flag(room: &mut [u8], from: usize, digits: &Digits, place: Place, stamp: 
 fn put_trigger(room: &mut [u8], from: usize, code: u8, stamp: Stamp) -> usize
     requires proper { IsProperStamp stamp }
     requires room { from + ITEM_ROOM ≤ length room.old }
-    ensures text { take result room.new ≡ take from room.old ++ stp_text (Trigger code stamp) }
-    ensures same { length room.new ≡ length room.old }
-    ensures end { result ≤ from + ITEM_ROOM }
+    ensures { Puts room.old room.new from result ITEM_ROOM (stp_text (Trigger code stamp)) }
 {
     let from = put_bytes(room, from, b"trig ");
     let from = put_digits(room, from, &[code]);
-    let from = put_byte(room, from, b' ');
-    put_stamp(room, from, stamp)
-}
-
-/// Puts a frequency: `freq N T`.
-#[inline(always)]
-fn put_frequency(room: &mut [u8], from: usize, hertz: u32, stamp: Stamp) -> usize
-    requires proper { IsProperStamp stamp }
-    requires room { from + ITEM_ROOM ≤ length room.old }
-    ensures text { take result room.new ≡ take from room.old ++ stp_text (Frequency hertz stamp) }
-    ensures same { length room.new ≡ length room.old }
-    ensures end { result ≤ from + ITEM_ROOM }
-{
-    let from = put_bytes(room, from, b"freq ");
-    let from = put_number(room, from, u64::from(hertz));
     let from = put_byte(room, from, b' ');
     put_stamp(room, from, stamp)
 }
@@ -222,9 +164,7 @@ pub(crate) fn put_stp(room: &mut [u8], from: usize, digits: &Digits, item: &StpI
     requires proper { IsProperItem item.now }
     requires kept { KeepsPlace digits.now item.now }
     requires room { from + ITEM_ROOM ≤ length room.old }
-    ensures text { take result room.new ≡ take from room.old ++ stp_text item.now }
-    ensures same { length room.new ≡ length room.old }
-    ensures end { result ≤ from + ITEM_ROOM }
+    ensures { Puts room.old room.new from result ITEM_ROOM (stp_text item.now) }
 {
     match *item {
         StpItem::Async => put_bytes(room, from, b"async"),
@@ -232,7 +172,10 @@ pub(crate) fn put_stp(room: &mut [u8], from: usize, digits: &Digits, item: &StpI
             let from = put_bytes(room, from, b"version ");
             put_short(room, from, version)
         }
-        StpItem::MasterError { place, code } => put_master_error(room, from, digits, place, code),
+        StpItem::MasterError { place, code } => {
+            let from = put_placed(room, from, digits, b"merr ", place);
+            put_digits(room, from, &[code])
+        }
         StpItem::GlobalError { code } => {
             let from = put_bytes(room, from, b"gerr ");
             put_digits(room, from, &[code])
@@ -244,9 +187,16 @@ pub(crate) fn put_stp(room: &mut [u8], from: usize, digits: &Digits, item: &StpI
             marked,
             stamp,
         } => put_data(room, from, digits, place, width, value, marked, stamp),
-        StpItem::Flag { place, stamp } => put_flag(room, from, digits, place, stamp),
+        StpItem::Flag { place, stamp } => {
+            let from = put_placed(room, from, digits, b"flag ", place);
+            put_stamp(room, from, stamp)
+        }
         StpItem::Trigger { code, stamp } => put_trigger(room, from, code, stamp),
-        StpItem::Frequency { hertz, stamp } => put_frequency(room, from, hertz, stamp),
+        StpItem::Frequency { hertz, stamp } => {
+            let from = put_count(room, from, b"freq ", u64::from(hertz));
+            let from = put_byte(room, from, b' ');
+            put_stamp(room, from, stamp)
+        }
         StpItem::NullStamp { stamp } => {
             let from = put_bytes(room, from, b"nullts ");
             put_stamp(room, from, stamp)

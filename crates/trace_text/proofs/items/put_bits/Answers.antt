@@ -1,8 +1,7 @@
-use Rattle.std.proofs.Common.{List, ℕ, ◌++◌, take, ◌∙◌, ap}
+use Rattle.std.proofs.Common.{refl}
+use Rattle.trace_text.proofs.Putting.{said_as}
 use Rattle.trace_text.proofs.Widths.{bits}
 use Rattle.trace_text.proofs.items.put_bits.Goals as goal
 
-pub returns-clause-text : goal.returns-clause-text
-returns-clause-text c =
-    c.put_entry.ensures.text
-    ∙ ap (λ (l : List ℕ). take c.args.from c.args.room.now ++ l) (bits c.args.wide)
+pub returns : goal.returns
+returns c = said_as c.put_entry.ensures refl (bits c.args.wide)

@@ -1,4 +1,5 @@
-use Rattle.std.proofs.Common.{◌∙◌, refl, arith}
+use Rattle.std.proofs.Common.{refl, arith}
+use Rattle.trace_text.proofs.Putting.{within, loose}
 use Rattle.trace_text.proofs.Widths.{lateness, is_exact, is_stamp, is_packet, is_both}
 use Rattle.trace_text.proofs.items.put_lateness.Goals as goal
 
@@ -11,12 +12,12 @@ put_entry-requires-clause-few c =
       | is_both e ↦ rw e (omega arith)
     ]
 
-pub returns-clause-text : goal.returns-clause-text
-returns-clause-text c =
-    let put = c.put_entry.ensures.text in
+pub returns : goal.returns
+returns c =
+    let put = loose c.put_entry.ensures in
     elim (lateness c.args.lateness) [
-      | is_exact e ↦ put ∙ rw e refl
-      | is_stamp e ↦ put ∙ rw e refl
-      | is_packet e ↦ put ∙ rw e refl
-      | is_both e ↦ put ∙ rw e refl
+      | is_exact e ↦ within put (rw e (omega arith)) (rw e refl)
+      | is_stamp e ↦ within put (rw e (omega arith)) (rw e refl)
+      | is_packet e ↦ within put (rw e (omega arith)) (rw e refl)
+      | is_both e ↦ within put (rw e (omega arith)) (rw e refl)
     ]

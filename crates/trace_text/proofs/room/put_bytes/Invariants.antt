@@ -1,10 +1,7 @@
-use Rattle.std.proofs.Common.{◌≡◌, ◌+◌, ◌++◌, length, take}
+use Rattle.std.proofs.Common.{take}
+use Rattle.trace_text.specs.Puts.{PutsAll}
 use Rattle.trace_text.proofs.room.put_bytes.Given as goal
 
 -- the bytes so far
 abbrev pub invariant-loop-index : goal.invariant-loop-index
-invariant-loop-index l = record {
-  text : take l.end l.room ≡ take l.from l.fn.room ++ take l.index l.piece;
-  same : length l.room ≡ length l.fn.room;
-  end : l.end ≡ l.from + l.index;
-}
+invariant-loop-index l = PutsAll l.fn.room l.room l.from l.end l.index (take l.index l.piece)

@@ -1,8 +1,6 @@
-use Rattle.std.proofs.Common.{List, ℕ, ◌++◌, take, ◌∙◌, ap}
-use Rattle.trace_text.proofs.DigitTables.{port}
+use Rattle.trace_text.proofs.Putting.{within, loose}
+use Rattle.trace_text.proofs.DigitTables.{port, most_of_port}
 use Rattle.trace_text.proofs.room.put_port.Goals as goal
 
-pub returns-clause-text : goal.returns-clause-text
-returns-clause-text c =
-    c.put_entry.ensures.text
-    ∙ ap (λ (l : List ℕ). take c.args.from c.args.room.now ++ l) (port c.args.port c.requires.port)
+pub returns : goal.returns
+returns c = within (loose c.put_entry.ensures) (most_of_port _) (port c.args.port c.requires.port)

@@ -1,8 +1,6 @@
-use Rattle.std.proofs.Common.{List, ℕ, ◌++◌, take, ◌∙◌, ap}
-use Rattle.trace_text.proofs.DigitTables.{short}
+use Rattle.trace_text.proofs.Putting.{within, loose}
+use Rattle.trace_text.proofs.DigitTables.{short, most}
 use Rattle.trace_text.proofs.room.put_short.Goals as goal
 
-pub returns-clause-text : goal.returns-clause-text
-returns-clause-text c =
-    c.put_entry.ensures.text
-    ∙ ap (λ (l : List ℕ). take c.args.from c.args.room.now ++ l) (short c.args.number c.ranges.number.fits)
+pub returns : goal.returns
+returns c = within (loose c.put_entry.ensures) (most _ _) (short c.args.number c.ranges.number.fits)

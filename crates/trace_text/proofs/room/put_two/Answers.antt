@@ -1,8 +1,7 @@
-use Rattle.std.proofs.Common.{List, ℕ, ◌++◌, take, ◌∙◌, ap}
+use Rattle.std.proofs.Common.{refl}
+use Rattle.trace_text.proofs.Putting.{said_as}
 use Rattle.trace_text.proofs.DigitTables.{pairs}
 use Rattle.trace_text.proofs.room.put_two.Goals as goal
 
-pub returns-clause-text : goal.returns-clause-text
-returns-clause-text c =
-    c.put_entry.ensures.text
-    ∙ ap (λ (l : List ℕ). take c.args.from c.args.room.now ++ l) (pairs c.args.number c.requires.two)
+pub returns : goal.returns
+returns c = said_as c.put_entry.ensures refl (pairs c.args.number c.requires.two)

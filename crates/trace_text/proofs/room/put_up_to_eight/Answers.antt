@@ -1,8 +1,11 @@
-use Rattle.std.proofs.Common.{◌++◌, take, sym, ◌∙◌, ap, arith}
-use Rattle.trace_text.proofs.Fours.{joined, decimal_four}
+use Rattle.std.proofs.Common.{sym, arith}
+use Rattle.trace_text.proofs.Fours.{decimal_four}
+use Rattle.trace_text.proofs.Putting.{within, loose, then}
 use Rattle.trace_text.proofs.room.put_up_to_eight.Goals as goal
 
-pub returns-clause-text : goal.returns-clause-text
-returns-clause-text c =
-    joined _ _ _ _ _ c.put_four.ensures.text c.put_up_to_four-from.ensures.text
-    ∙ ap (λ l. take c.args.from c.args.room.now ++ l) (sym (decimal_four c.args.number (let h = c.if-number-lt10000.false in omega (arith, h)) (let h = c.ranges.number.fits in omega (arith, h))))
+pub returns : goal.returns
+returns c =
+    let big = c.if-number-lt10000.false in
+    let fits = c.ranges.number.fits in
+    within (then c.put_up_to_four-from.ensures (loose c.put_four.ensures)) (omega arith)
+    (sym (decimal_four c.args.number (omega (arith, big)) (omega (arith, fits))))

@@ -1,13 +1,15 @@
-use Rattle.std.proofs.Common.{ℕ, ◌/◌, ◌%◌, List, ◌++◌, take, sym, ◌∙◌, ap, append_assoc, arith}
+use Rattle.std.proofs.Common.{◌++◌, ◌%◌, sym, ◌∙◌, ap, arith}
 use Rattle.std.specs.Prelude.{decimal}
 use Rattle.itoa.proofs.Decimal.{decimal_pair}
 use Rattle.trace_text.specs.Pairs.{pair}
+use Rattle.trace_text.proofs.Putting.{both, within, loose}
 use Rattle.trace_text.proofs.digits.Digits.put.Goals as goal
 
-pub returns-clause-text : goal.returns-clause-text
-returns-clause-text c =
-    let d = c.args.self.now in
+pub returns : goal.returns
+returns c =
     let n = c.args.number in
-    let old = take c.args.from c.args.room.now in
-    c.put_two.ensures.text ∙ ap (λ (l : List ℕ). l ++ pair (n % 100)) (c.put_front-from.ensures.text ∙ ap (λ (l : List ℕ). old ++ l) (d.kept ∙ ap decimal c.requires.kept))
-    ∙ append_assoc old (decimal (n / 100)) (pair (n % 100)) ∙ ap (λ (l : List ℕ). old ++ l) (sym (decimal_pair n (let h = c.if-number-lt100.false in omega arith) (let h = c.ranges.number.fits in omega arith)))
+    let big = c.if-number-lt100.false in
+    let fits = c.ranges.number.fits in
+    let few = c.args.self.now.few in
+    within (loose (both c.put_front-from.ensures c.put_two.ensures)) (omega arith)
+    (ap (λ l. l ++ pair (n % 100)) (c.args.self.now.kept ∙ ap decimal c.requires.kept) ∙ sym (decimal_pair n (omega (arith, big)) (omega (arith, fits))))
