@@ -1,5 +1,5 @@
 -- The rows, computed.
-use Rattle.std.proofs.Common.{◌≡◌, List, [], ◌∷◌, Result, Ok, Err, map, ap, head_of, tail_of}
+use Rattle.std.proofs.Common.{◌≡◌, List, [], ◌∷◌, Result, Ok, Err, map}
 use Rattle.clap.specs.Words.{Text}
 use Rattle.capture_words.specs.Calls.{AsksFor, Misuses}
 use Rattle.capture_words.specs.Command.{refusals, rows_of_words}
