@@ -73,7 +73,12 @@ impl Split {
 
     /// Takes a whole frame with this many half synchronisations between its halfwords.
     #[inline]
-    fn feed_frame(&mut self, frame: &[u8; FRAME_BYTES], halves: usize, outlet: &mut Outlet) -> Progress
+    fn feed_frame(
+        &mut self,
+        frame: &[u8; FRAME_BYTES],
+        halves: usize,
+        outlet: &mut Outlet,
+    ) -> Progress
         requires live { IsLive self.old }
         requires between { IsBetween self.old.port }
         requires room { length outlet.old + ACTION_ROOM ≤ OUTLET_ROOM }
