@@ -27,15 +27,6 @@ same_lost (Some a) (Some b) xs ys p q = append_cancel_right xs ys b (sym p ∙ q
 abbrev pub ends : Streams → Ends
 ends s = record { left = s.left; held = s.held }
 
--- at the end of the input, where it has no fault
-pub run_done : (m : TaskMeaning) (limit : ℕ) (old new : Streams) (recent : List ℕ) (there : List ℕ → Type 0)
-    → (k : HasEnded there m.action limit (ends old) (ends new) recent) → m.late k.served.bytes ≡ false
-    → (note : List ℕ) → note ≡ m.done_note k.served.bytes
-    → Notes old.noted new.noted old.note_faults new.note_faults note → HasRun m limit old new Done
-run_done m limit old new recent there k late note noted n =
-    let s = k.served in
-    record { bytes = s.bytes; out = s.out; note = note; lost = s.lost; gained = s.gained; noted = n; at_most = s.at_most; writes = (s.outcome, s.ended refl, late, noted) }
-
 -- a fault by its note
 writes_fault : (fault : FaultNote) (m : TaskMeaning) (limit : ℕ) (left : Option (List ℕ)) (bytes out note : List ℕ) → status_of fault ≡ m.fault_status
     → Stops m limit left bytes out note ⊎ EndsLate m limit left bytes out note → WritesBy m limit left (status_of fault) bytes out note
@@ -78,24 +69,6 @@ run_stopped fault m limit old new recent note there e k noted n =
       writes = writes_fault fault m limit new.left s.bytes s.out note e (inl (recent, s.outcome, noted));
     }
 
-pub run_read_failed : (m : TaskMeaning) (limit : ℕ) (old new : Streams) (recent : List ℕ)
-    → HasServed m.action limit (ends old) (ends new) recent ReadFailed
-    → Notes old.noted new.noted old.note_faults new.note_faults (codes "read fault\n") → HasRun m limit old new ReadFault
-run_read_failed m limit old new recent s n =
-    record { bytes = s.bytes; out = s.out; note = codes "read fault\n"; lost = s.lost; gained = s.gained; noted = n; at_most = s.at_most; writes = (s.outcome, refl) }
-
-pub run_write_failed : (m : TaskMeaning) (limit : ℕ) (old new : Streams) (recent : List ℕ)
-    → HasServed m.action limit (ends old) (ends new) recent WriteFailed
-    → Notes old.noted new.noted old.note_faults new.note_faults (codes "write fault\n") → HasRun m limit old new WriteFault
-run_write_failed m limit old new recent s n =
-    record { bytes = s.bytes; out = s.out; note = codes "write fault\n"; lost = s.lost; gained = s.gained; noted = n; at_most = s.at_most; writes = (s.outcome, refl) }
-
-pub run_over_limit : (m : TaskMeaning) (limit : ℕ) (old new : Streams) (recent : List ℕ) → m.exact ≡ false
-    → HasServed m.action limit (ends old) (ends new) recent OverLimit
-    → Notes old.noted new.noted old.note_faults new.note_faults (limit_line limit) → HasRun m limit old new Limit
-run_over_limit m limit old new recent exact s n =
-    record { bytes = s.bytes; out = s.out; note = limit_line limit; lost = s.lost; gained = s.gained; noted = n; at_most = s.at_most; writes = (exact, s.outcome, refl) }
-
 -- no fault became certain, since all bytes that were read have none
 pub never_stopped : (m : Meaning) (limit : ℕ) (old new : Ends) (recent bytes : List ℕ)
     → HasServed m limit old new recent FaultFound → Loses old.left new.left bytes → length bytes ≤ limit → (m.faulty bytes → ⊥) → ⊥
@@ -103,32 +76,12 @@ never_stopped m limit old new recent bytes served lost within sound =
     let same = same_lost old.left new.left served.bytes bytes served.lost lost in
     sound (subst m.faulty (ap (take limit) same ∙ take_all limit bytes within) served.outcome.0.broken)
 
--- they have none as all of the input
-pub never_late : (m : TaskMeaning) (limit : ℕ) (old new : Ends) (recent bytes : List ℕ)
-    → (s : HasServed m.action limit old new recent AtEnd) → Loses old.left new.left bytes → m.late s.bytes ≡ true → m.late bytes ≡ false → ⊥
-never_late m limit old new recent bytes served lost late sound =
-    let same = same_lost old.left new.left served.bytes bytes served.lost lost in
-    let both = sym late ∙ ap m.late same ∙ sound in cc
-
 -- and they are within the limit
 pub never_over : (m : Meaning) (limit : ℕ) (old new : Ends) (recent bytes : List ℕ)
     → HasServed m limit old new recent OverLimit → Loses old.left new.left bytes → length bytes ≤ limit → ⊥
 never_over m limit old new recent bytes served lost within =
     let same = same_lost old.left new.left served.bytes bytes served.lost lost in
     omega (arith, ap length same, served.outcome.1)
-
--- how a run ends at a fault is none of these
-pub not_no_memory : (fault : FaultNote) → status_of fault ≡ NoMemory → ⊥
-not_no_memory (Capture fault) e = cc
-not_no_memory (Script fault) e = cc
-
-pub not_read_fault : (fault : FaultNote) → status_of fault ≡ ReadFault → ⊥
-not_read_fault (Capture fault) e = cc
-not_read_fault (Script fault) e = cc
-
-pub not_write_fault : (fault : FaultNote) → status_of fault ≡ WriteFault → ⊥
-not_write_fault (Capture fault) e = cc
-not_write_fault (Script fault) e = cc
 
 -- with no memory to begin with nothing is read or written, whatever the task
 keeps : (left : Option (List ℕ)) → Keeps left left

@@ -134,15 +134,7 @@ limit_of task limit = limit
 -- What was read, written and noted, by the status. `exercise` reads nothing.
 abbrev pub HasDone : Task → ℕ → Streams → Streams → Status → Type 0
 HasDone (Exercise items lose) limit old new status = HasMade (exercise_summary items lose) old new status
-HasDone (Show plan only window) limit old new status =
-    HasRun (meaning_of (Show plan only window)) limit old new status
-HasDone (Split frames id) limit old new status = HasRun (meaning_of (Split frames id)) limit old new status
-HasDone (Check plan) limit old new status = HasRun (meaning_of (Check plan)) limit old new status
-HasDone (Rebuild plan sync half) limit old new status =
-    HasRun (meaning_of (Rebuild plan sync half)) limit old new status
-HasDone Realign limit old new status = HasRun (meaning_of Realign) limit old new status
-HasDone (Ring size) limit old new status = HasRun (meaning_of (Ring size)) limit old new status
-HasDone (Unring size at full) limit old new status = HasRun (meaning_of (Unring size at full)) size old new status
+HasDone task limit old new status = HasRun (meaning_of task) (limit_of task limit) old new status
 
 -- these bytes, as all of the input, have no fault
 pub record IsSoundInput (task : Task) (bytes : List ℕ) : Type 0 where

@@ -36,7 +36,7 @@ fn run_action<A: CommandAction, I: Source, O: Sink, N: Sink>(
     requires small { limit ≤ GREATEST_CAPTURE }
     ensures ran { let p = A.plan action.old in
         let meaning : TaskMeaning = record {
-          action = record { faulty = A.faulty p; text = A.text p; ending = A.ending p; due = A.due p };
+          action = A.meaning p;
           late = A.late p;
           done_note = A.done p;
           fault_note = A.noted p;
@@ -53,7 +53,7 @@ fn run_action<A: CommandAction, I: Source, O: Sink, N: Sink>(
     ensures complete { (bytes : List ℕ) → Loses (I.left input.old) (I.left input.new) bytes →
         (Rose (I.faults input.old) (I.faults input.new) → ⊥) →
         (Rose (O.faults output.old) (O.faults output.new) → ⊥) →
-        length bytes ≤ limit → (A.faulty (A.plan action.old) bytes → ⊥) →
+        length bytes ≤ limit → ((A.meaning (A.plan action.old)).faulty bytes → ⊥) →
         A.late (A.plan action.old) bytes ≡ false → IsDoneOrNoMemory result }
 {
     let outcome = serve(buffers, action, limit, input, output);

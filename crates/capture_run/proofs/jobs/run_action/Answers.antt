@@ -1,5 +1,5 @@
 use Rattle.std.proofs.Common.{◌≡◌, sym, subst, ◌∙◌, ap, inl, inr, refl, true, false}
-use Rattle.trace_stream.specs.Served.{Meaning, Ends, HasStopped, HasEnded}
+use Rattle.trace_stream.specs.Served.{Ends, HasStopped, HasEnded}
 use Rattle.capture_run.specs.Notes.{text_of, status_of}
 use Rattle.capture_run.specs.Run.{HasRun, TaskMeaning, Streams}
 use Rattle.capture_run.proofs.Running.{ends, run_late, run_stopped, never_stopped, never_over}
@@ -10,7 +10,7 @@ returns-then-is_late-clause-ran g c =
     let before = g.A.Action.plan c.args.action.now in
     let after = g.A.Action.plan c.serve-outcome.new.action in
     let m : TaskMeaning = record {
-      action = record { faulty = g.A.Action.faulty before; text = g.A.Action.text before; ending = g.A.Action.ending before; due = g.A.Action.due before };
+      action = g.A.Action.meaning before;
       late = g.A.CommandAction.late before;
       done_note = g.A.CommandAction.done before;
       fault_note = g.A.CommandAction.noted before;
@@ -37,7 +37,7 @@ returns-in-FaultFound-clause-ran g c =
     let before = g.A.Action.plan c.args.action.now in
     let after = g.A.Action.plan c.serve-outcome.new.action in
     let m : TaskMeaning = record {
-      action = record { faulty = g.A.Action.faulty before; text = g.A.Action.text before; ending = g.A.Action.ending before; due = g.A.Action.due before };
+      action = g.A.Action.meaning before;
       late = g.A.CommandAction.late before;
       done_note = g.A.CommandAction.done before;
       fault_note = g.A.CommandAction.noted before;
@@ -59,16 +59,14 @@ returns-in-FaultFound-clause-ran g c =
 
 pub returns-in-FaultFound-clause-complete : goal.returns-in-FaultFound-clause-complete
 returns-in-FaultFound-clause-complete g c = λ bytes lost no_read no_write within sound not_late.
-    let plan = g.A.Action.plan c.args.action.now in
-    let meaning : Meaning = record { faulty = g.A.Action.faulty plan; text = g.A.Action.text plan; ending = g.A.Action.ending plan; due = g.A.Action.due plan } in
+    let meaning = g.A.Action.meaning (g.A.Action.plan c.args.action.now) in
     let old : Ends = record { left = g.I.Source.left c.args.input.now; held = g.O.Sink.held c.args.output.now } in
     let new : Ends = record { left = g.I.Source.left c.serve-outcome.new.input; held = g.O.Sink.held c.serve-outcome.new.output } in
     absurd (never_stopped meaning c.args.limit old new c.serve-outcome.new.buffers.recent bytes c.in-FaultFound.ensures.served lost within sound)
 
 pub returns-in-OverLimit-clause-complete : goal.returns-in-OverLimit-clause-complete
 returns-in-OverLimit-clause-complete g c = λ bytes lost no_read no_write within sound not_late.
-    let plan = g.A.Action.plan c.args.action.now in
-    let meaning : Meaning = record { faulty = g.A.Action.faulty plan; text = g.A.Action.text plan; ending = g.A.Action.ending plan; due = g.A.Action.due plan } in
+    let meaning = g.A.Action.meaning (g.A.Action.plan c.args.action.now) in
     let old : Ends = record { left = g.I.Source.left c.args.input.now; held = g.O.Sink.held c.args.output.now } in
     let new : Ends = record { left = g.I.Source.left c.serve-outcome.new.input; held = g.O.Sink.held c.serve-outcome.new.output } in
     absurd (never_over meaning c.args.limit old new c.serve-outcome.new.buffers.recent bytes c.in-OverLimit.ensures.served lost within)

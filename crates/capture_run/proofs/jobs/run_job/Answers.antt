@@ -1,7 +1,7 @@
 use Rattle.std.proofs.Common.{sym, subst, refl, length, ◌≤◌}
 use Rattle.capture_words.specs.declared.job.Task.{Task}
 use Rattle.capture_words.specs.declared.job.Task.TheVariants.{Show}
-use Rattle.capture_actions.specs.ListingLaws.{Faulty}
+use Rattle.capture_actions.specs.Faulty.{IsFaulty}
 use Rattle.capture_actions.specs.Listing.{show_meaning}
 use Rattle.capture_actions.specs.declared.list_plan.ListPlan.{ListPlan}
 use Rattle.capture_run.specs.Actions.{of_capture, last_note, HasDone, IsSoundInput, limit_of}
@@ -22,4 +22,4 @@ returns-in-Show-clause-complete g c = λ bytes lost no_read no_write within soun
     subst (λ (t : Task). IsSoundInput t bytes) c.in-Show.is sound in
     c.run_action.ensures.complete bytes lost no_read no_write
     (subst (λ (t : Task). length bytes ≤ limit_of t c.args.job.limit) c.in-Show.is within)
-    (subst (λ (p : ListPlan). Faulty p bytes → ⊥) (sym c.new-action.ensures.plan) told.sound) refl
+    (subst (λ (p : ListPlan). IsFaulty p.plan bytes → ⊥) (sym c.new-action.ensures.plan) told.sound) refl
