@@ -6,15 +6,17 @@ use Rattle.std.specs.Prelude.{codes}
 use Rattle.std.specs.Io.KnownBytes.{Consumes, Keeps}
 use Rattle.std.proofs.KnownBytes.{Consumes-nil, Appends-nil}
 use Rattle.trace_stream.specs.Served.{Meaning, Ends, HasServed, HasStopped, HasEnded}
+use Rattle.trace_stream.specs.declared.outcome.Outcome.{Outcome}
 use Rattle.trace_stream.specs.declared.outcome.Outcome.TheVariants.{AtEnd, FaultFound, ReadFailed, WriteFailed, OverLimit}
 use Rattle.trace_text.specs.NoteText.{limit_line}
 use Rattle.capture_words.specs.declared.job.Task.{Task}
 use Rattle.capture_words.specs.declared.job.Task.TheVariants as tasks
 use Rattle.capture_run.specs.Actions.{HasDone, meaning_of}
-use Rattle.capture_run.specs.Notes.{Notes, status_of}
-use Rattle.capture_run.specs.Run.{HasRun, TaskMeaning, Streams, Stops, EndsLate, WritesBy, Loses}
+use Rattle.capture_run.specs.Notes.{Notes, text_of, status_of}
+use Rattle.capture_run.specs.Run.{HasRun, TaskMeaning, TaskNotes, task_of, Streams, Stops, EndsLate, WritesBy, Loses}
 use Rattle.capture_run.specs.declared.actions.FaultNote.{FaultNote}
 use Rattle.capture_run.specs.declared.actions.FaultNote.TheVariants.{Capture, Script}
+use Rattle.capture_run.specs.declared.status.Status.{Status}
 use Rattle.capture_run.specs.declared.status.Status.TheVariants.{Done, ReadFault, WriteFault, NoMemory, Limit}
 
 -- the bytes that were lost are told by what was left
@@ -33,41 +35,38 @@ writes_fault : (fault : FaultNote) (m : TaskMeaning) (limit : ℕ) (left : Optio
 writes_fault (Capture fault) m limit left bytes out note e w = (sym e, w)
 writes_fault (Script fault) m limit left bytes out note e w = (sym e, w)
 
--- at the end of the input, where it has one
-pub run_late : (fault : FaultNote) (m : TaskMeaning) (limit : ℕ) (old new : Streams) (recent note : List ℕ) (there : List ℕ → Type 0)
-    → status_of fault ≡ m.fault_status
-    → (k : HasEnded there m.action limit (ends old) (ends new) recent) → m.late k.served.bytes ≡ true → note ≡ m.fault_note k.served.bytes
-    → Notes old.noted new.noted old.note_faults new.note_faults note → HasRun m limit old new (status_of fault)
-run_late fault m limit old new recent note there e k late noted n =
-    let s = k.served in
-    record {
-      bytes = s.bytes;
-      out = s.out;
-      note = note;
-      lost = s.lost;
-      gained = s.gained;
-      noted = n;
-      at_most = s.at_most;
-      writes = writes_fault fault m limit new.left s.bytes s.out note e (inr (s.outcome, s.ended refl, late, noted));
-    }
+-- A fault is noted, by a plan that is that of the run.
+module _ {Plan : Type 0} (notes : Plan → TaskNotes) (plan now : Plan) (same : now ≡ plan) (action : Meaning) (limit : ℕ) (old new : Streams) (recent : List ℕ)
+    (there : List ℕ → Type 0) (fault : FaultNote) (status : Status) (status_is : status ≡ status_of fault) (ends_so : status_of fault ≡ (notes now).fault_status)
+    (noted : Notes old.noted new.noted old.note_faults new.note_faults (text_of fault recent)) where
+  abbrev m : TaskMeaning
+  m = task_of action (notes now)
 
--- where one became certain before
-pub run_stopped : (fault : FaultNote) (m : TaskMeaning) (limit : ℕ) (old new : Streams) (recent note : List ℕ) (there : List ℕ → Type 0)
-    → status_of fault ≡ m.fault_status
-    → (k : HasStopped there m.action limit (ends old) (ends new) recent) → note ≡ m.fault_note k.served.outcome.0.seen
-    → Notes old.noted new.noted old.note_faults new.note_faults note → HasRun m limit old new (status_of fault)
-run_stopped fault m limit old new recent note there e k noted n =
-    let s = k.served in
-    record {
-      bytes = s.bytes;
-      out = s.out;
-      note = note;
-      lost = s.lost;
-      gained = s.gained;
-      noted = n;
-      at_most = s.at_most;
-      writes = writes_fault fault m limit new.left s.bytes s.out note e (inl (recent, s.outcome, noted));
-    }
+  ran : (outcome : Outcome) (s : HasServed action limit (ends old) (ends new) recent outcome)
+      → Stops m limit new.left s.bytes s.out (text_of fault recent) ⊎ EndsLate m limit new.left s.bytes s.out (text_of fault recent)
+      → HasRun (task_of action (notes plan)) limit old new status
+  ran outcome s w =
+      subst (λ p. HasRun (task_of action (notes p)) limit old new status) same
+      (subst (HasRun m limit old new) (sym status_is) (record {
+        bytes = s.bytes;
+        out = s.out;
+        note = text_of fault recent;
+        lost = s.lost;
+        gained = s.gained;
+        noted = noted;
+        at_most = s.at_most;
+        writes = writes_fault fault m limit new.left s.bytes s.out (text_of fault recent) ends_so w;
+      }))
+
+  -- at the end of the input
+  pub run_late : (k : HasEnded there action limit (ends old) (ends new) recent) → (notes now).late k.served.bytes ≡ true
+      → text_of fault recent ≡ (notes now).fault_note k.served.bytes → HasRun (task_of action (notes plan)) limit old new status
+  run_late k late text = ran AtEnd k.served (inr (k.served.outcome, k.served.ended refl, late, text))
+
+  -- where it became certain before
+  pub run_stopped : (k : HasStopped there action limit (ends old) (ends new) recent) → text_of fault recent ≡ (notes now).fault_note k.served.outcome.0.seen
+      → HasRun (task_of action (notes plan)) limit old new status
+  run_stopped k text = ran FaultFound k.served (inl (recent, k.served.outcome, text))
 
 -- no fault became certain, since all bytes that were read have none
 pub never_stopped : (m : Meaning) (limit : ℕ) (old new : Ends) (recent bytes : List ℕ)
