@@ -14,7 +14,7 @@ use Rattle.trace_stream.specs.declared.outcome.Outcome.TheVariants.{AtEnd, Fault
 use Rattle.capture_exercise.specs.declared.maker.TheConstants.{MOST_BYTES}
 use Rattle.capture_exercise.specs.Exercise.{exercise_plan, exercise_capture, exercise_rest}
 use Rattle.capture_exercise.specs.Summary.{IsFaulty, exercise_meaning, exercise_ending, exercise_summary}
-use Rattle.capture_exercise.specs.SummaryLaws.{ending_stays}
+use Rattle.capture_exercise.specs.SummaryLaws.{exercise_lawful}
 use Rattle.capture_exercise.specs.declared.plans.ExercisePlan.{ExercisePlan}
 use Rattle.capture_run.specs.Notes.{Notes}
 use Rattle.capture_run.specs.Run.{HasMade, Streams}
@@ -91,7 +91,7 @@ module _ (items lose limit : ℕ) (left : Option (List ℕ)) (old new : Streams)
       let front = front_of (exercise_rest items lose) rest_left bytes lost in
       let parts : exercise_rest items lose ≡ take limit bytes ++ (drop limit bytes ++ front.0) =
       front.1 ∙ ap (λ (l : List ℕ). l ++ front.0) (sym (take-append-drop limit bytes)) ∙ append_assoc (take limit bytes) (drop limit bytes) front.0 in
-      sym (ap (exercise_ending (plan_for items)) parts ∙ ending_stays (plan_for items) (take limit bytes) (drop limit bytes ++ front.0) broken)
+      sym (ap (exercise_ending (plan_for items)) parts ∙ (exercise_lawful (plan_for items)).ending_stays (take limit bytes) (drop limit bytes ++ front.0) broken)
 
   pub made_stopped : HasServed (exercise_meaning (plan_for items)) limit before after recent FaultFound →
       Notes old.noted new.noted old.note_faults new.note_faults [] → HasMade (exercise_summary items lose) started over Done

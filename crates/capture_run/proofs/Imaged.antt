@@ -18,10 +18,6 @@ use Rattle.capture_run.specs.declared.status.Status.{Status}
 use Rattle.capture_run.specs.declared.status.Status.TheVariants.{Done, ReadFault, WriteFault, Limit, BadImage}
 use Rattle.capture_run.proofs.Running.{ends}
 
--- no bytes have a fault
-pub never_stopped : (size limit : ℕ) (old new : Ends) (recent : List ℕ) → HasServed (buffer_meaning size) limit old new recent FaultFound → ⊥
-never_stopped size limit old new recent s = s.outcome.0.broken
-
 -- what is written of an image, and which bytes are none
 abbrev pub in_order : ℕ → ℕ → Bool → List ℕ → List ℕ
 in_order size at full bytes = if length bytes == size then ordered bytes at full else []
@@ -110,47 +106,4 @@ module _ (ending : List ℕ → List ℕ) (late : List ℕ → Bool) (done_note 
       noted = n;
       at_most = s.at_most;
       writes = (e, inr ((λ f. f, s.outcome.1, s.outcome.2), refl));
-    }
-
-    pub run_over_limit : HasServed (buffer_meaning size) limit (ends old) (ends new) recent OverLimit → exact ≡ false
-        → Noted (limit_line limit) → HasRun task limit old new Limit
-    run_over_limit s e n = record {
-      bytes = s.bytes;
-      out = s.out;
-      note = limit_line limit;
-      lost = s.lost;
-      gained = s.gained;
-      noted = n;
-      at_most = s.at_most;
-      writes = (e, (λ f. f, s.outcome.1, s.outcome.2), refl);
-    }
-
-    pub run_read_failed : HasServed (buffer_meaning size) limit (ends old) (ends new) recent ReadFailed
-        → Noted (codes "read fault\n") → HasRun task limit old new ReadFault
-    run_read_failed s n = record {
-      bytes = s.bytes;
-      out = s.out;
-      note = codes "read fault\n";
-      lost = s.lost;
-      gained = s.gained;
-      noted = n;
-      at_most = s.at_most;
-      writes = ((λ f. f, s.outcome.1, s.outcome.2), refl);
-    }
-
-    nothing : (out bytes : List ℕ) → GrowsOnly out [] ⊎ ((IsAllRead (λ b. ⊥) limit new.left bytes ⊎ (false ≡ true)) × GrowsOnly out []) → GrowsOnly out []
-    nothing out bytes (inl front) = front
-    nothing out bytes (inr both) = both.1
-
-    pub run_write_failed : HasServed (buffer_meaning size) limit (ends old) (ends new) recent WriteFailed
-        → Noted (codes "write fault\n") → HasRun task limit old new WriteFault
-    run_write_failed s n = record {
-      bytes = s.bytes;
-      out = s.out;
-      note = codes "write fault\n";
-      lost = s.lost;
-      gained = s.gained;
-      noted = n;
-      at_most = s.at_most;
-      writes = (inl (nothing s.out s.bytes s.outcome), refl);
     }

@@ -6,15 +6,17 @@ use Rattle.std.specs.Prelude.{codes}
 use Rattle.std.specs.Io.KnownBytes.{Consumes, Keeps}
 use Rattle.std.proofs.KnownBytes.{Consumes-nil, Appends-nil}
 use Rattle.trace_stream.specs.Served.{Meaning, Ends, HasServed, HasStopped, HasEnded}
+use Rattle.trace_stream.specs.declared.outcome.Outcome.{Outcome}
 use Rattle.trace_stream.specs.declared.outcome.Outcome.TheVariants.{AtEnd, FaultFound, ReadFailed, WriteFailed, OverLimit}
 use Rattle.trace_text.specs.NoteText.{limit_line}
 use Rattle.capture_words.specs.declared.job.Task.{Task}
 use Rattle.capture_words.specs.declared.job.Task.TheVariants as tasks
 use Rattle.capture_run.specs.Actions.{HasDone, meaning_of}
-use Rattle.capture_run.specs.Notes.{Notes, status_of}
-use Rattle.capture_run.specs.Run.{HasRun, TaskMeaning, Streams, Stops, EndsLate, WritesBy, Loses}
+use Rattle.capture_run.specs.Notes.{Notes, text_of, status_of}
+use Rattle.capture_run.specs.Run.{HasRun, TaskMeaning, TaskNotes, task_of, Streams, Stops, EndsLate, WritesBy, Loses}
 use Rattle.capture_run.specs.declared.actions.FaultNote.{FaultNote}
 use Rattle.capture_run.specs.declared.actions.FaultNote.TheVariants.{Capture, Script}
+use Rattle.capture_run.specs.declared.status.Status.{Status}
 use Rattle.capture_run.specs.declared.status.Status.TheVariants.{Done, ReadFault, WriteFault, NoMemory, Limit}
 
 -- the bytes that were lost are told by what was left
@@ -27,74 +29,44 @@ same_lost (Some a) (Some b) xs ys p q = append_cancel_right xs ys b (sym p ∙ q
 abbrev pub ends : Streams → Ends
 ends s = record { left = s.left; held = s.held }
 
--- at the end of the input, where it has no fault
-pub run_done : (m : TaskMeaning) (limit : ℕ) (old new : Streams) (recent : List ℕ) (there : List ℕ → Type 0)
-    → (k : HasEnded there m.action limit (ends old) (ends new) recent) → m.late k.served.bytes ≡ false
-    → (note : List ℕ) → note ≡ m.done_note k.served.bytes
-    → Notes old.noted new.noted old.note_faults new.note_faults note → HasRun m limit old new Done
-run_done m limit old new recent there k late note noted n =
-    let s = k.served in
-    record { bytes = s.bytes; out = s.out; note = note; lost = s.lost; gained = s.gained; noted = n; at_most = s.at_most; writes = (s.outcome, s.ended refl, late, noted) }
-
 -- a fault by its note
 writes_fault : (fault : FaultNote) (m : TaskMeaning) (limit : ℕ) (left : Option (List ℕ)) (bytes out note : List ℕ) → status_of fault ≡ m.fault_status
     → Stops m limit left bytes out note ⊎ EndsLate m limit left bytes out note → WritesBy m limit left (status_of fault) bytes out note
 writes_fault (Capture fault) m limit left bytes out note e w = (sym e, w)
 writes_fault (Script fault) m limit left bytes out note e w = (sym e, w)
 
--- at the end of the input, where it has one
-pub run_late : (fault : FaultNote) (m : TaskMeaning) (limit : ℕ) (old new : Streams) (recent note : List ℕ) (there : List ℕ → Type 0)
-    → status_of fault ≡ m.fault_status
-    → (k : HasEnded there m.action limit (ends old) (ends new) recent) → m.late k.served.bytes ≡ true → note ≡ m.fault_note k.served.bytes
-    → Notes old.noted new.noted old.note_faults new.note_faults note → HasRun m limit old new (status_of fault)
-run_late fault m limit old new recent note there e k late noted n =
-    let s = k.served in
-    record {
-      bytes = s.bytes;
-      out = s.out;
-      note = note;
-      lost = s.lost;
-      gained = s.gained;
-      noted = n;
-      at_most = s.at_most;
-      writes = writes_fault fault m limit new.left s.bytes s.out note e (inr (s.outcome, s.ended refl, late, noted));
-    }
+-- A fault is noted, by a plan that is that of the run.
+module _ {Plan : Type 0} (notes : Plan → TaskNotes) (plan now : Plan) (same : now ≡ plan) (action : Meaning) (limit : ℕ) (old new : Streams) (recent : List ℕ)
+    (there : List ℕ → Type 0) (fault : FaultNote) (status : Status) (status_is : status ≡ status_of fault) (ends_so : status_of fault ≡ (notes now).fault_status)
+    (noted : Notes old.noted new.noted old.note_faults new.note_faults (text_of fault recent)) where
+  abbrev m : TaskMeaning
+  m = task_of action (notes now)
 
--- where one became certain before
-pub run_stopped : (fault : FaultNote) (m : TaskMeaning) (limit : ℕ) (old new : Streams) (recent note : List ℕ) (there : List ℕ → Type 0)
-    → status_of fault ≡ m.fault_status
-    → (k : HasStopped there m.action limit (ends old) (ends new) recent) → note ≡ m.fault_note k.served.outcome.0.seen
-    → Notes old.noted new.noted old.note_faults new.note_faults note → HasRun m limit old new (status_of fault)
-run_stopped fault m limit old new recent note there e k noted n =
-    let s = k.served in
-    record {
-      bytes = s.bytes;
-      out = s.out;
-      note = note;
-      lost = s.lost;
-      gained = s.gained;
-      noted = n;
-      at_most = s.at_most;
-      writes = writes_fault fault m limit new.left s.bytes s.out note e (inl (recent, s.outcome, noted));
-    }
+  ran : (outcome : Outcome) (s : HasServed action limit (ends old) (ends new) recent outcome)
+      → Stops m limit new.left s.bytes s.out (text_of fault recent) ⊎ EndsLate m limit new.left s.bytes s.out (text_of fault recent)
+      → HasRun (task_of action (notes plan)) limit old new status
+  ran outcome s w =
+      subst (λ p. HasRun (task_of action (notes p)) limit old new status) same
+      (subst (HasRun m limit old new) (sym status_is) (record {
+        bytes = s.bytes;
+        out = s.out;
+        note = text_of fault recent;
+        lost = s.lost;
+        gained = s.gained;
+        noted = noted;
+        at_most = s.at_most;
+        writes = writes_fault fault m limit new.left s.bytes s.out (text_of fault recent) ends_so w;
+      }))
 
-pub run_read_failed : (m : TaskMeaning) (limit : ℕ) (old new : Streams) (recent : List ℕ)
-    → HasServed m.action limit (ends old) (ends new) recent ReadFailed
-    → Notes old.noted new.noted old.note_faults new.note_faults (codes "read fault\n") → HasRun m limit old new ReadFault
-run_read_failed m limit old new recent s n =
-    record { bytes = s.bytes; out = s.out; note = codes "read fault\n"; lost = s.lost; gained = s.gained; noted = n; at_most = s.at_most; writes = (s.outcome, refl) }
+  -- at the end of the input
+  pub run_late : (k : HasEnded there action limit (ends old) (ends new) recent) → (notes now).late k.served.bytes ≡ true
+      → text_of fault recent ≡ (notes now).fault_note k.served.bytes → HasRun (task_of action (notes plan)) limit old new status
+  run_late k late text = ran AtEnd k.served (inr (k.served.outcome, k.served.ended refl, late, text))
 
-pub run_write_failed : (m : TaskMeaning) (limit : ℕ) (old new : Streams) (recent : List ℕ)
-    → HasServed m.action limit (ends old) (ends new) recent WriteFailed
-    → Notes old.noted new.noted old.note_faults new.note_faults (codes "write fault\n") → HasRun m limit old new WriteFault
-run_write_failed m limit old new recent s n =
-    record { bytes = s.bytes; out = s.out; note = codes "write fault\n"; lost = s.lost; gained = s.gained; noted = n; at_most = s.at_most; writes = (s.outcome, refl) }
-
-pub run_over_limit : (m : TaskMeaning) (limit : ℕ) (old new : Streams) (recent : List ℕ) → m.exact ≡ false
-    → HasServed m.action limit (ends old) (ends new) recent OverLimit
-    → Notes old.noted new.noted old.note_faults new.note_faults (limit_line limit) → HasRun m limit old new Limit
-run_over_limit m limit old new recent exact s n =
-    record { bytes = s.bytes; out = s.out; note = limit_line limit; lost = s.lost; gained = s.gained; noted = n; at_most = s.at_most; writes = (exact, s.outcome, refl) }
+  -- where it became certain before
+  pub run_stopped : (k : HasStopped there action limit (ends old) (ends new) recent) → text_of fault recent ≡ (notes now).fault_note k.served.outcome.0.seen
+      → HasRun (task_of action (notes plan)) limit old new status
+  run_stopped k text = ran FaultFound k.served (inl (recent, k.served.outcome, text))
 
 -- no fault became certain, since all bytes that were read have none
 pub never_stopped : (m : Meaning) (limit : ℕ) (old new : Ends) (recent bytes : List ℕ)
@@ -103,32 +75,12 @@ never_stopped m limit old new recent bytes served lost within sound =
     let same = same_lost old.left new.left served.bytes bytes served.lost lost in
     sound (subst m.faulty (ap (take limit) same ∙ take_all limit bytes within) served.outcome.0.broken)
 
--- they have none as all of the input
-pub never_late : (m : TaskMeaning) (limit : ℕ) (old new : Ends) (recent bytes : List ℕ)
-    → (s : HasServed m.action limit old new recent AtEnd) → Loses old.left new.left bytes → m.late s.bytes ≡ true → m.late bytes ≡ false → ⊥
-never_late m limit old new recent bytes served lost late sound =
-    let same = same_lost old.left new.left served.bytes bytes served.lost lost in
-    let both = sym late ∙ ap m.late same ∙ sound in cc
-
 -- and they are within the limit
 pub never_over : (m : Meaning) (limit : ℕ) (old new : Ends) (recent bytes : List ℕ)
     → HasServed m limit old new recent OverLimit → Loses old.left new.left bytes → length bytes ≤ limit → ⊥
 never_over m limit old new recent bytes served lost within =
     let same = same_lost old.left new.left served.bytes bytes served.lost lost in
     omega (arith, ap length same, served.outcome.1)
-
--- how a run ends at a fault is none of these
-pub not_no_memory : (fault : FaultNote) → status_of fault ≡ NoMemory → ⊥
-not_no_memory (Capture fault) e = cc
-not_no_memory (Script fault) e = cc
-
-pub not_read_fault : (fault : FaultNote) → status_of fault ≡ ReadFault → ⊥
-not_read_fault (Capture fault) e = cc
-not_read_fault (Script fault) e = cc
-
-pub not_write_fault : (fault : FaultNote) → status_of fault ≡ WriteFault → ⊥
-not_write_fault (Capture fault) e = cc
-not_write_fault (Script fault) e = cc
 
 -- with no memory to begin with nothing is read or written, whatever the task
 keeps : (left : Option (List ℕ)) → Keeps left left

@@ -21,7 +21,7 @@ use Rattle.trace_stream.specs.Served.{Meaning}
 use Rattle.trace_stream.specs.Recent.{last_sixteen}
 use Rattle.trace_text.specs.NoteText.{last_line, slipped_line, buffer_line, image_line}
 use Rattle.capture_run.specs.Notes.{fault_text, script_note}
-use Rattle.capture_run.specs.Run.{TaskMeaning, Streams, HasRun, HasMade}
+use Rattle.capture_run.specs.Run.{TaskMeaning, TaskNotes, task_of, Streams, HasRun, HasMade}
 use Rattle.capture_run.specs.declared.status.Status.{Status}
 use Rattle.capture_run.specs.declared.status.Status.TheVariants.{CaptureFault, ScriptFault, BadImage}
 
@@ -34,59 +34,45 @@ abbrev pub split_note : SplitPlan → List ℕ → List ℕ
 split_note plan seen = fault_text (port_of plan.frames seen).fault ++ last_note seen
 
 -- a fault of a capture is certain at some byte, and none is mended by what comes after it
-abbrev pub of_capture : Meaning → (List ℕ → List ℕ) → TaskMeaning
-of_capture action note =
-    record {
-      action = action;
-      late = λ bytes. false;
-      done_note = λ bytes. [];
-      fault_note = note;
-      fault_status = CaptureFault;
-      exact = false;
-    }
+abbrev pub captured : (List ℕ → List ℕ) → TaskNotes
+captured note =
+    record { late = λ bytes. false; done_note = λ bytes. []; fault_note = note; fault_status = CaptureFault }
 
--- where a script ends, its last line needs no line feed, and may have a fault that it would not have if it went on
-abbrev pub rebuild_late : RebuildPlan → List ℕ → Bool
-rebuild_late plan bytes = is_some (script_of plan.plan bytes).fault
-
--- its first fault is noted by its line
-abbrev pub rebuild_note : RebuildPlan → List ℕ → List ℕ
-rebuild_note plan bytes = script_note (script_of plan.plan bytes).fault
+-- where a script ends, its last line needs no line feed, and may have a fault that it would not have if it went on; its
+-- first fault is noted by its line
+abbrev pub rebuild_notes : RebuildPlan → TaskNotes
+rebuild_notes plan = record {
+  late = λ bytes. is_some (script_of plan.plan bytes).fault;
+  done_note = λ bytes. [];
+  fault_note = λ bytes. script_note (script_of plan.plan bytes).fault;
+  fault_status = ScriptFault;
+}
 
 -- `exercise` reads nothing
 abbrev pub reads_nothing : List ℕ → TaskMeaning
 reads_nothing text =
     let action : Meaning = record { faulty = λ bytes. ⊥; text = λ bytes. []; ending = λ bytes. text; due = false } in
-    of_capture action (λ bytes. [])
+    task_of action (captured (λ bytes. []))
 
 -- what realigning does not write is noted where it is done
-abbrev pub realign_note : List ℕ → List ℕ
-realign_note bytes = let r = realigned bytes in slipped_line r.skipped r.dropped r.patterns
-
-abbrev pub realigning : TaskMeaning
-realigning =
-    record {
-      action = realign_meaning;
-      late = λ bytes. false;
-      done_note = realign_note;
-      fault_note = last_note;
-      fault_status = CaptureFault;
-      exact = false;
-    }
+abbrev pub realign_notes : TaskNotes
+realign_notes = record {
+  late = λ bytes. false;
+  done_note = λ bytes. let r = realigned bytes in slipped_line r.skipped r.dropped r.patterns;
+  fault_note = last_note;
+  fault_status = CaptureFault;
+}
 
 -- the image of a trace buffer of this size is written at the input's end, and what tells its bytes' order is noted
 abbrev pub buffering : ℕ → TaskMeaning
 buffering size =
-    let action : Meaning =
-    record { faulty = λ bytes. ⊥; text = λ bytes. []; ending = image size; due = false } in
-    record {
-      action = action;
+    let action : Meaning = record { faulty = λ bytes. ⊥; text = λ bytes. []; ending = image size; due = false } in
+    task_of action (record {
       late = λ bytes. false;
       done_note = λ bytes. buffer_line (pointer size bytes) (is_full size bytes) (dropped size bytes);
       fault_note = λ bytes. [];
       fault_status = CaptureFault;
-      exact = false;
-    }
+    })
 
 -- the bytes of an image of this size are written in order; an input of another size is no image, and nothing is written
 abbrev pub ordering : ℕ → ℕ → Bool → TaskMeaning
@@ -106,23 +92,16 @@ ordering size at full =
 abbrev pub meaning_of : Task → TaskMeaning
 meaning_of (Show plan only window) =
     let listing : ListPlan = record { plan = plan; only = only; window = window } in
-    of_capture (show_meaning listing) last_note
+    task_of (show_meaning listing) (captured last_note)
 meaning_of (Split frames id) =
     let plan : SplitPlan = record { frames = frames; id = id } in
-    of_capture (split_meaning plan) (split_note plan)
-meaning_of (Check plan) = of_capture (check_meaning plan) last_note
+    task_of (split_meaning plan) (captured (split_note plan))
+meaning_of (Check plan) = task_of (check_meaning plan) (captured last_note)
 meaning_of (Rebuild plan sync half) =
     let script : RebuildPlan = record { plan = plan; every = sync; halves = half } in
-    record {
-      action = rebuild_meaning script;
-      late = rebuild_late script;
-      done_note = λ bytes. [];
-      fault_note = rebuild_note script;
-      fault_status = ScriptFault;
-      exact = false;
-    }
+    task_of (rebuild_meaning script) (rebuild_notes script)
 meaning_of (Exercise items lose) = reads_nothing (exercise_summary items lose)
-meaning_of Realign = realigning
+meaning_of Realign = task_of realign_meaning realign_notes
 meaning_of (Ring size) = buffering size
 meaning_of (Unring size at full) = ordering size at full
 
@@ -134,15 +113,7 @@ limit_of task limit = limit
 -- What was read, written and noted, by the status. `exercise` reads nothing.
 abbrev pub HasDone : Task → ℕ → Streams → Streams → Status → Type 0
 HasDone (Exercise items lose) limit old new status = HasMade (exercise_summary items lose) old new status
-HasDone (Show plan only window) limit old new status =
-    HasRun (meaning_of (Show plan only window)) limit old new status
-HasDone (Split frames id) limit old new status = HasRun (meaning_of (Split frames id)) limit old new status
-HasDone (Check plan) limit old new status = HasRun (meaning_of (Check plan)) limit old new status
-HasDone (Rebuild plan sync half) limit old new status =
-    HasRun (meaning_of (Rebuild plan sync half)) limit old new status
-HasDone Realign limit old new status = HasRun (meaning_of Realign) limit old new status
-HasDone (Ring size) limit old new status = HasRun (meaning_of (Ring size)) limit old new status
-HasDone (Unring size at full) limit old new status = HasRun (meaning_of (Unring size at full)) size old new status
+HasDone task limit old new status = HasRun (meaning_of task) (limit_of task limit) old new status
 
 -- these bytes, as all of the input, have no fault
 pub record IsSoundInput (task : Task) (bytes : List ℕ) : Type 0 where

@@ -25,6 +25,24 @@ pub record TaskMeaning : Type 1 where
   pub fault_status : Status
   pub exact : Bool
 
+-- what is noted of the bytes that a task read, and how it ends at a fault
+pub record TaskNotes : Type 0 where
+  pub late : List ℕ → Bool
+  pub done_note : List ℕ → List ℕ
+  pub fault_note : List ℕ → List ℕ
+  pub fault_status : Status
+
+-- a task of this action, which notes this; its input may have any number of bytes
+abbrev pub task_of : Meaning → TaskNotes → TaskMeaning
+task_of action notes = record {
+  action = action;
+  late = notes.late;
+  done_note = notes.done_note;
+  fault_note = notes.fault_note;
+  fault_status = notes.fault_status;
+  exact = false;
+}
+
 -- what the streams of a run show at a moment: the bytes that are left in the input, those that the output and the
 -- notes took, and how often the notes failed
 pub record Streams : Type 0 where

@@ -1,9 +1,9 @@
-//! What is noted at a fault, by the action, and how a run ends then.
+//! What is noted where a run ends, by the action, and how it ends at a fault.
 
-ghost use Rattle.std.specs.Prelude.{◌≡◌, ◌⊎◌, ℕ, List, Bool, true, false};
+ghost use Rattle.std.specs.Prelude.{◌≡◌, ◌⊎◌, ℕ, List, true, false};
 ghost use Rattle.trace_stream.specs.Recent.{last_sixteen};
 ghost use Rattle.capture_run.specs.Notes.{text_of, done_text, status_of};
-ghost use Rattle.capture_run.specs.declared.status.Status.{Status};
+ghost use Rattle.capture_run.specs.Run.{TaskNotes};
 
 use crate::status::Status;
 use capture_actions::{Check, Realign, Show, Split};
@@ -42,159 +42,105 @@ pub enum DoneNote {
     Realigned(Slipped),
 }
 
+/// What is noted where a run ends.
+#[derive(Clone, Copy, Drop)]
+pub struct Ending {
+    /// Whether what was read has a fault where it is all of the input.
+    pub is_late: bool,
+    /// What is noted where it is all of the input and has none.
+    pub done: DoneNote,
+    /// What is noted at the fault.
+    pub fault: FaultNote,
+}
+
+impl Ending {
+    ghost use Rattle.capture_run.specs.declared.actions.DoneNote.TheVariants.{Nothing};
+    ghost use Rattle.capture_run.specs.declared.actions.FaultNote.TheVariants.{Capture};
+
+    /// That of a capture with this fault of the port: none of its faults is late, and nothing is noted where it is done.
+    fn of_capture(port: Option<Fault>) -> Ending
+        ensures { result ≡ record { is_late = false; done = Nothing; fault = Capture port } }
+    {
+        Ending {
+            is_late: false,
+            done: DoneNote::Nothing,
+            fault: FaultNote::Capture(port),
+        }
+    }
+}
+
 /// An action of the command that reads the input.
 pub trait CommandAction: Action {
-    // these bytes have a fault where they are all of the input
-    ghost late: { Self.Plan → List ℕ → Bool };
-    // what is noted where these bytes are all of the input and have none
-    ghost done: { Self.Plan → List ℕ → List ℕ };
-    // what is noted where a fault is certain with the last of these bytes, or where they are all of the input and have
-    // one
-    ghost noted: { Self.Plan → List ℕ → List ℕ };
-    // how a run ends at a fault
-    ghost faulted: { Self.Plan → Status };
+    // what is noted of the bytes that were read, and how a run ends at a fault
+    ghost notes: { Self.Plan → TaskNotes };
 
-    /// Whether what was read has a fault where it is all of the input.
-    fn is_late(&self) -> bool
-        ensures { (seen : List ℕ) → Self.stands self.now seen → result ≡ late (Self.plan self.now) seen };
-
-    /// What is noted where what was read is all of the input and has no fault.
-    fn done_note(&self) -> DoneNote
-        ensures { (seen : List ℕ) → Self.stands self.now seen → done_text result ≡ done (Self.plan self.now) seen };
-
-    /// What is noted at the fault.
-    fn fault_note(&self) -> FaultNote
-        ensures status { status_of result ≡ faulted (Self.plan self.now) }
-        ensures text { (seen recent : List ℕ) → Self.stands self.now seen →
-            (recent ≡ last_sixteen seen) ⊎ (late (Self.plan self.now) seen ≡ true) →
-            text_of result recent ≡ noted (Self.plan self.now) seen };
+    /// What is noted where a run ends.
+    fn ending(&self) -> Ending
+        ensures status { status_of result.fault ≡ (notes (Self.plan self.now)).fault_status }
+        ensures late { (seen : List ℕ) → Self.stands self.now seen →
+            result.is_late ≡ (notes (Self.plan self.now)).late seen }
+        ensures done { (seen : List ℕ) → Self.stands self.now seen →
+            done_text result.done ≡ (notes (Self.plan self.now)).done_note seen }
+        ensures fault { (seen recent : List ℕ) → Self.stands self.now seen →
+            (recent ≡ last_sixteen seen) ⊎ ((notes (Self.plan self.now)).late seen ≡ true) →
+            text_of result.fault recent ≡ (notes (Self.plan self.now)).fault_note seen };
 }
 
 impl CommandAction for Show {
-    ghost use Rattle.std.specs.Prelude.{[]};
-    ghost use Rattle.capture_run.specs.Actions.{last_note};
-    ghost use Rattle.capture_run.specs.declared.status.Status.TheVariants.{CaptureFault};
+    ghost use Rattle.capture_run.specs.Actions.{captured, last_note};
 
-    ghost late = { λ _ _. false };
+    ghost notes = { λ _. captured last_note };
 
-    ghost done = { λ _ _. [] };
-
-    ghost noted = { λ _. last_note };
-
-    ghost faulted = { λ _. CaptureFault };
-
-    fn is_late(&self) -> bool {
-        false
-    }
-
-    fn done_note(&self) -> DoneNote {
-        DoneNote::Nothing
-    }
-
-    fn fault_note(&self) -> FaultNote {
-        FaultNote::Capture(None)
+    fn ending(&self) -> Ending {
+        Ending::of_capture(None)
     }
 }
 
 impl CommandAction for Split {
-    ghost use Rattle.std.specs.Prelude.{[]};
-    ghost use Rattle.capture_run.specs.Actions.{split_note};
-    ghost use Rattle.capture_run.specs.declared.status.Status.TheVariants.{CaptureFault};
+    ghost use Rattle.capture_run.specs.Actions.{captured, split_note};
 
-    ghost late = { λ _ _. false };
+    ghost notes = { λ plan. captured (split_note plan) };
 
-    ghost done = { λ _ _. [] };
-
-    ghost noted = { split_note };
-
-    ghost faulted = { λ _. CaptureFault };
-
-    fn is_late(&self) -> bool {
-        false
-    }
-
-    fn done_note(&self) -> DoneNote {
-        DoneNote::Nothing
-    }
-
-    fn fault_note(&self) -> FaultNote {
-        FaultNote::Capture(self.fault())
+    fn ending(&self) -> Ending {
+        Ending::of_capture(self.fault())
     }
 }
 
 impl CommandAction for Check {
-    ghost use Rattle.std.specs.Prelude.{[]};
-    ghost use Rattle.capture_run.specs.Actions.{last_note};
-    ghost use Rattle.capture_run.specs.declared.status.Status.TheVariants.{CaptureFault};
+    ghost use Rattle.capture_run.specs.Actions.{captured, last_note};
 
-    ghost late = { λ _ _. false };
+    ghost notes = { λ _. captured last_note };
 
-    ghost done = { λ _ _. [] };
-
-    ghost noted = { λ _. last_note };
-
-    ghost faulted = { λ _. CaptureFault };
-
-    fn is_late(&self) -> bool {
-        false
-    }
-
-    fn done_note(&self) -> DoneNote {
-        DoneNote::Nothing
-    }
-
-    fn fault_note(&self) -> FaultNote {
-        FaultNote::Capture(None)
+    fn ending(&self) -> Ending {
+        Ending::of_capture(None)
     }
 }
 
 impl CommandAction for Rebuild {
-    ghost use Rattle.std.specs.Prelude.{[]};
-    ghost use Rattle.capture_run.specs.Actions.{rebuild_note, rebuild_late};
-    ghost use Rattle.capture_run.specs.declared.status.Status.TheVariants.{ScriptFault as ScriptFaulted};
+    ghost use Rattle.capture_run.specs.Actions.{rebuild_notes};
 
-    ghost late = { rebuild_late };
+    ghost notes = { rebuild_notes };
 
-    ghost done = { λ _ _. [] };
-
-    ghost noted = { rebuild_note };
-
-    ghost faulted = { λ _. ScriptFaulted };
-
-    fn is_late(&self) -> bool {
-        self.last_fault().is_some()
-    }
-
-    fn done_note(&self) -> DoneNote {
-        DoneNote::Nothing
-    }
-
-    fn fault_note(&self) -> FaultNote {
-        FaultNote::Script(self.last_fault())
+    fn ending(&self) -> Ending {
+        let fault = self.last_fault();
+        Ending {
+            is_late: fault.is_some(),
+            done: DoneNote::Nothing,
+            fault: FaultNote::Script(fault),
+        }
     }
 }
 
 impl CommandAction for Realign {
-    ghost use Rattle.capture_run.specs.Actions.{last_note, realign_note};
-    ghost use Rattle.capture_run.specs.declared.status.Status.TheVariants.{CaptureFault};
+    ghost use Rattle.capture_run.specs.Actions.{realign_notes};
 
-    ghost late = { λ _ _. false };
+    ghost notes = { λ _. realign_notes };
 
-    ghost done = { λ _. realign_note };
-
-    ghost noted = { λ _. last_note };
-
-    ghost faulted = { λ _. CaptureFault };
-
-    fn is_late(&self) -> bool {
-        false
-    }
-
-    fn done_note(&self) -> DoneNote {
-        DoneNote::Realigned(self.slipped())
-    }
-
-    fn fault_note(&self) -> FaultNote {
-        FaultNote::Capture(None)
+    fn ending(&self) -> Ending {
+        Ending {
+            is_late: false,
+            done: DoneNote::Realigned(self.slipped()),
+            fault: FaultNote::Capture(None),
+        }
     }
 }

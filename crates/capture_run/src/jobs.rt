@@ -7,7 +7,7 @@ ghost use Rattle.trace_stream.specs.declared.limits.TheConstants.{GREATEST_CAPTU
 ghost use Rattle.capture_words.specs.Jobs.{IsSoundTask};
 ghost use Rattle.capture_run.specs.Actions.{HasDone, IsSoundInput, limit_of};
 ghost use Rattle.capture_run.specs.Notes.{Notes};
-ghost use Rattle.capture_run.specs.Run.{HasRun, TaskMeaning, streams, Loses, IsDoneOrNoMemory};
+ghost use Rattle.capture_run.specs.Run.{HasRun, task_of, streams, Loses, IsDoneOrNoMemory};
 
 use crate::actions::CommandAction;
 use crate::exercise::run_exercise;
@@ -35,17 +35,9 @@ fn run_action<A: CommandAction, I: Source, O: Sink, N: Sink>(
     requires fresh { IsFresh (A.live action.old) (A.stands action.old) (A.taken action.old) buffers.old }
     requires small { limit ≤ GREATEST_CAPTURE }
     ensures ran { let p = A.plan action.old in
-        let meaning : TaskMeaning = record {
-          action = record { faulty = A.faulty p; text = A.text p; ending = A.ending p; due = A.due p };
-          late = A.late p;
-          done_note = A.done p;
-          fault_note = A.noted p;
-          fault_status = A.faulted p;
-          exact = false;
-        } in
         let before = streams (I.left input.old) (O.held output.old) (N.held notes.old) (N.faults notes.old) in
         let after = streams (I.left input.new) (O.held output.new) (N.held notes.new) (N.faults notes.new) in
-        HasRun meaning limit before after result }
+        HasRun (task_of (A.meaning p) (A.notes p)) limit before after result }
     ensures opened { result ≢ Status.NoMemory }
     ensures one_empty_read { I.empty_reads input.new ≤ I.empty_reads input.old + 1 }
     ensures read_cause { result ≡ Status.ReadFault → Rose (I.faults input.old) (I.faults input.new) }
@@ -53,20 +45,21 @@ fn run_action<A: CommandAction, I: Source, O: Sink, N: Sink>(
     ensures complete { (bytes : List ℕ) → Loses (I.left input.old) (I.left input.new) bytes →
         (Rose (I.faults input.old) (I.faults input.new) → ⊥) →
         (Rose (O.faults output.old) (O.faults output.new) → ⊥) →
-        length bytes ≤ limit → (A.faulty (A.plan action.old) bytes → ⊥) →
-        A.late (A.plan action.old) bytes ≡ false → IsDoneOrNoMemory result }
+        length bytes ≤ limit → ((A.meaning (A.plan action.old)).faulty bytes → ⊥) →
+        (A.notes (A.plan action.old)).late bytes ≡ false → IsDoneOrNoMemory result }
 {
     let outcome = serve(buffers, action, limit, input, output);
     match outcome {
         Outcome::AtEnd => {
-            if action.is_late() {
-                note_fault(notes, action.fault_note(), buffers)
+            let ending = action.ending();
+            if ending.is_late {
+                note_fault(notes, ending.fault, buffers)
             } else {
-                note_done(notes, action.done_note());
+                note_done(notes, ending.done);
                 Status::Done
             }
         }
-        Outcome::FaultFound => note_fault(notes, action.fault_note(), buffers),
+        Outcome::FaultFound => note_fault(notes, action.ending().fault, buffers),
         Outcome::ReadFailed => {
             note(notes, b"read fault\n");
             Status::ReadFault

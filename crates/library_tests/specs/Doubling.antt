@@ -1,5 +1,6 @@
 -- What the tests' action writes. The program has nothing of it.
 use Rattle.std.specs.Prelude.{◌≡◌, ◌==◌, ◌||◌, ℕ, Bool, true, false, if◌then◌else◌, List, [], ◌∷◌, codes}
+use Rattle.trace_stream.specs.Served.{Meaning}
 
 -- what the tests' action does: whether there is an FF
 abbrev pub has_fault : List ℕ → Bool
@@ -17,3 +18,7 @@ doubled (b ∷ bs) = if b == 255 then [] else b ∷ b ∷ doubled bs
 -- the line after them
 abbrev pub last_line : List ℕ → List ℕ
 last_line bytes = if has_fault bytes then codes "\nfault\n" else codes "\nend\n"
+
+-- what the action makes of bytes
+abbrev pub doubling : Meaning
+doubling = record { faulty = HasFault; text = doubled; ending = last_line; due = false }

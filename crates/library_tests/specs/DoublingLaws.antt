@@ -1,11 +1,9 @@
 -- Proofs about the tests' action.
 use Rattle.std.specs.Prelude.{◌≡◌, ◌==◌, ◌||◌, ℕ, true, false, if◌then◌else◌, List, [], ◌∷◌, ◌++◌, refl}
 use Rattle.std.proofs.Common.{ap, ◌∙◌}
+use Rattle.trace_stream.specs.Served.{IsLawful}
 use Rattle.trace_stream.specs.Written.{GrowsOnly}
-use Rattle.library_tests.specs.Doubling.{has_fault, HasFault, doubled, last_line}
-
-pub none_at_first : HasFault [] → ⊥
-none_at_first h = cc
+use Rattle.library_tests.specs.Doubling.{has_fault, HasFault, doubled, last_line, doubling}
 
 -- a fault of two lists is one of either
 pub has_fault-append : (xs ys : List ℕ) → has_fault (xs ++ ys) ≡ (has_fault xs || has_fault ys)
@@ -14,10 +12,10 @@ has_fault-append (b ∷ xs) ys =
     elim (b == 255) as (λ v. (v || has_fault (xs ++ ys)) ≡ ((v || has_fault xs) || has_fault ys))
     [ true ↦ refl | false ↦ has_fault-append xs ys ]
 
-pub fault_stays : (xs ys : List ℕ) → HasFault xs → HasFault (xs ++ ys)
+fault_stays : (xs ys : List ℕ) → HasFault xs → HasFault (xs ++ ys)
 fault_stays xs ys h = has_fault-append xs ys ∙ ap (λ v. v || has_fault ys) h
 
-pub doubled_stays : (xs ys : List ℕ) → HasFault xs → doubled (xs ++ ys) ≡ doubled xs
+doubled_stays : (xs ys : List ℕ) → HasFault xs → doubled (xs ++ ys) ≡ doubled xs
 doubled_stays [] ys h = let no : false ≡ true = h in cc
 doubled_stays (b ∷ xs) ys h =
     (elim (b == 255) as (λ v. (v || has_fault xs) ≡ true →
@@ -32,10 +30,10 @@ doubled-append (b ∷ xs) ys h =
     (if v then [] else b ∷ b ∷ doubled (xs ++ ys)) ≡ (if v then [] else b ∷ b ∷ doubled xs) ++ doubled ys)
     [ true ↦ λ g. cc | false ↦ λ g. ap (λ l. b ∷ b ∷ l) (doubled-append xs ys g) ]) h
 
-pub last_line_stays : (xs ys : List ℕ) → HasFault xs → last_line (xs ++ ys) ≡ last_line xs
+last_line_stays : (xs ys : List ℕ) → HasFault xs → last_line (xs ++ ys) ≡ last_line xs
 last_line_stays xs ys h = let g = fault_stays xs ys h in rw (h, g) refl
 
-pub doubled_grows : (xs ys : List ℕ) → GrowsOnly (doubled xs) (doubled (xs ++ ys))
+doubled_grows : (xs ys : List ℕ) → GrowsOnly (doubled xs) (doubled (xs ++ ys))
 doubled_grows [] ys = (doubled ys, refl)
 doubled_grows (b ∷ xs) ys =
     elim (b == 255) as
@@ -43,3 +41,13 @@ doubled_grows (b ∷ xs) ys =
       | true ↦ ([], refl)
       | false ↦ let more = doubled_grows xs ys in (more.0, ap (λ l. b ∷ b ∷ l) more.1)
     ]
+
+pub doubling_lawful : IsLawful doubling
+doubling_lawful = record {
+  never_at_first = λ h. cc;
+  nothing_at_first = refl;
+  faulty_stays = fault_stays;
+  text_stays = doubled_stays;
+  ending_stays = last_line_stays;
+  text_grows = doubled_grows;
+}

@@ -1,9 +1,8 @@
 //! Runs of an action over inputs and outputs in memory, which fail at each of their calls in turn.
 
-ghost use Rattle.std.specs.Prelude.{◌≡◌, true, false, not, refl};
-ghost use Rattle.library_tests.specs.Doubling.{has_fault, HasFault, doubled, last_line};
-ghost use Rattle.library_tests.specs.DoublingLaws.{none_at_first, fault_stays, doubled_stays, last_line_stays};
-ghost use Rattle.library_tests.specs.DoublingLaws.{doubled_grows};
+ghost use Rattle.std.specs.Prelude.{◌≡◌, true, not};
+ghost use Rattle.library_tests.specs.Doubling.{has_fault, doubling};
+ghost use Rattle.library_tests.specs.DoublingLaws.{doubling_lawful};
 
 mod watched;
 
@@ -13,7 +12,7 @@ use std::process::Abort;
 use std::test::Fail;
 use trace_io::{MemorySink, MemorySource};
 use trace_stream::{
-    Action, Buffers, Flow, GREATEST_CAPTURE, Outcome, Outlet, RECENT_ROOM, Taken, serve,
+    Action, Buffers, GREATEST_CAPTURE, Outcome, Outlet, Progress, RECENT_ROOM, serve,
 };
 
 // Each byte twice, up to the first FF.
@@ -34,41 +33,25 @@ impl Action for Doubling {
 
     ghost stands = { λ d seen. d.is_clean ≡ not (has_fault seen) };
 
-    ghost faulty = { λ _. HasFault };
+    ghost meaning = { λ _. doubling };
 
-    ghost text = { λ _. doubled };
+    ghost lawful = { λ _. doubling_lawful };
 
-    ghost ending = { λ _. last_line };
-
-    ghost due = { λ _. false };
-
-    ghost never_at_first = { λ _. none_at_first };
-
-    ghost nothing_at_first = { λ _. refl };
-
-    ghost faulty_stays = { λ _. fault_stays };
-
-    ghost text_stays = { λ _. doubled_stays };
-
-    ghost ending_stays = { λ _. last_line_stays };
-
-    ghost text_grows = { λ _. doubled_grows };
-
-    fn feed(&mut self, piece: &[u8], outlet: &mut Outlet) -> Taken {
+    fn feed(&mut self, piece: &[u8], outlet: &mut Outlet) -> Progress {
         let byte = piece[0];
         self.count += 1;
         if byte == 255 {
             self.is_clean = false;
-            return Taken {
+            return Progress {
                 bytes: 1,
-                flow: Flow::Stopped,
+                is_faulty: true,
             };
         }
         outlet.push(byte);
         outlet.push(byte);
-        Taken {
+        Progress {
             bytes: 1,
-            flow: Flow::On,
+            is_faulty: false,
         }
     }
 

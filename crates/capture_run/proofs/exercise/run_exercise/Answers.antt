@@ -45,4 +45,4 @@ returns-in-OverLimit-clause-made g c = λ left.
     (few_left c.args.items c.args.lose c.capture_len-capture.result c.capture_len-capture.ensures.len c.capture_len-capture.ensures.few))
 
 pub returns-in-ReadFailed-clause-made : goal.returns-in-ReadFailed-clause-made
-returns-in-ReadFailed-clause-made g c = let rose = c.in-ReadFailed.ensures.read_cause refl in absurd (omega (arith, rose))
+returns-in-ReadFailed-clause-made g c = let rose = c.in-ReadFailed.ensures.causes.read_cause refl in absurd (omega (arith, rose))
