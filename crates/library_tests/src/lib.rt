@@ -3,6 +3,8 @@
 #![tactic(auto)]
 
 #[cfg(test)]
+mod buffer_ring_tests;
+#[cfg(test)]
 mod decimal_words_tests;
 #[cfg(test)]
 mod deformatter_tests;
@@ -27,6 +29,10 @@ mod port_sync_tests;
 #[cfg(test)]
 mod reading_modes_tests;
 #[cfg(test)]
+mod recovering_port_tests;
+#[cfg(test)]
+mod recovering_source_tests;
+#[cfg(test)]
 mod same;
 #[cfg(test)]
 mod script_text_tests;
@@ -42,6 +48,8 @@ mod stp_encoder_tests;
 mod stp_grammar_tests;
 #[cfg(test)]
 mod trace_clock_tests;
+#[cfg(test)]
+mod trace_io_tests;
 #[cfg(test)]
 mod trace_stream_tests;
 #[cfg(test)]

@@ -10,8 +10,3 @@ pub use hearer::Hearer;
 pub use port::RecoveringPort;
 pub use run::feed_run;
 pub use source::RecoveringSource;
-
-#[cfg(test)]
-mod port_tests;
-#[cfg(test)]
-mod source_tests;

@@ -113,24 +113,3 @@ impl Sink for MemorySink<'_> {
         Ok(count)
     }
 }
-
-#[cfg(test)]
-mod tests {
-    use super::*;
-
-    #[test]
-    fn takes_its_pieces_until_the_room_is_full(rt: HostRuntime) {
-        let mut room = [0; 4];
-        let mut sink = MemorySink::new(&mut room, &[2, 0, 5], &[0]);
-        let table: [(Result<usize, Failed>, &str); 4] = [
-            (Err(Failed), ""),
-            (Ok(1), "a"),
-            (Ok(3), "aabc"),
-            (Err(Failed), "aabc"),
-        ];
-        for (want, held) in table {
-            assert_eq!(rt; sink.write(b"abcd"), want);
-            assert_eq!(rt; sink.held(), held.as_bytes());
-        }
-    }
-}

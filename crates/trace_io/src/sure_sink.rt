@@ -63,22 +63,3 @@ impl Sink for SureSink {
         Ok(piece.len())
     }
 }
-
-#[cfg(test)]
-mod tests {
-    use super::*;
-    use crate::sink::write_whole;
-
-    #[test]
-    fn counts_the_bytes_that_it_takes(rt: HostRuntime) {
-        let mut sink = SureSink::new();
-        assert_eq!(rt; sink.write(b"abc"), Ok(3));
-        assert_eq!(rt; write_whole(&mut sink, b"defgh"), Ok(()));
-        assert_eq!(rt; sink.taken(), 8);
-        let mut full = SureSink {
-            taken: u64::MAX - 1,
-        };
-        assert_eq!(rt; full.write(b"abc"), Ok(3));
-        assert_eq!(rt; full.taken(), u64::MAX);
-    }
-}

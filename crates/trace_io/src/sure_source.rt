@@ -69,23 +69,3 @@ impl Source for SureSource<'_> {
         Ok(count)
     }
 }
-
-#[cfg(test)]
-mod tests {
-    use super::*;
-
-    #[test]
-    fn gives_its_bytes_to_the_end(rt: HostRuntime) {
-        let mut source = SureSource::new(b"abcdef");
-        let mut buf = [0; 4];
-        for (want, bytes) in [
-            (Ok(4), "abcd"),
-            (Ok(2), "efcd"),
-            (Ok(0), "efcd"),
-            (Ok(0), "efcd"),
-        ] {
-            assert_eq!(rt; source.read(&mut buf), want);
-            assert_eq!(rt; buf.as_slice(), bytes.as_bytes());
-        }
-    }
-}

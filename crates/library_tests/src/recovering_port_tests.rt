@@ -1,6 +1,6 @@
-use crate::RecoveringPort;
 use arrayvec::ArrayVec;
 use deformatter::PortStep;
+use recovering_machines::RecoveringPort;
 
 /// A full synchronisation inside a frame, and then a frame of the trigger source: the fault is at the second FF, and
 /// the lock at the last byte of the synchronisation has the six bytes before it.

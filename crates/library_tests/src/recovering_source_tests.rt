@@ -1,6 +1,6 @@
 //! Rows of recovering sources whose first unit begins a packet: where their fault is, and where they lock.
 
-use crate::RecoveringSource;
+use recovering_machines::RecoveringSource;
 use source_events::SourceKind;
 use std::process::Abort;
 use stp_grammar::packet::Order;
