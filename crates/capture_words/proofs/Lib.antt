@@ -3,3 +3,4 @@ pub mod Calls
 pub mod Chosen
 mod Lines
 mod Windows
+pub mod IdLists

@@ -127,6 +127,28 @@ pub fn check()
         (Check (planned FramesHunt PacketsHunt [] (5 ∷ []) Lsn)) 68719476736 }
 {}
 
+/// Lists of IDs.
+pub fn lists()
+    ensures some { Does (codes "show --itm 1,2 --stp 5,4,3")
+        (Show (planned FramesHunt PacketsHunt (1 ∷ 2 ∷ []) (5 ∷ 4 ∷ 3 ∷ []) Msn) None None) 68719476736 }
+    ensures eight { Does (codes "check --itm=111,1,2,3,4,5,6,7")
+        (Check (planned FramesHunt PacketsHunt (111 ∷ 1 ∷ 2 ∷ 3 ∷ 4 ∷ 5 ∷ 6 ∷ 7 ∷ []) [] Msn)) 68719476736 }
+    ensures rebuilt { Does (codes "rebuild --stp 2,1 --itm 4,3")
+        (Rebuild (planned FramesHunt PacketsHunt (4 ∷ 3 ∷ []) (2 ∷ 1 ∷ []) Msn) 64 0) 68719476736 }
+    ensures nine { Faults (codes "show --itm 1,2,3,4,5,6,7,8,9") (BadValue Itm) }
+    ensures nothing_last { Faults (codes "show --itm 1,") (BadValue Itm) }
+    ensures nothing_first { Faults (codes "check --stp ,1") (BadValue Stp) }
+    ensures nothing_between { Faults (codes "rebuild --stp 1,,2") (BadValue Stp) }
+    ensures comma { Faults (codes "show --itm ,") (BadValue Itm) }
+    ensures empty { Faults (codes "show --itm=") (BadValue Itm) }
+    ensures zeros { Faults (codes "show --itm 1,02") (BadValue Itm) }
+    ensures last_112 { Faults (codes "show --itm 1,112") (BadValue Itm) }
+    ensures again { Faults (codes "rebuild --itm 1,1") (MappedTwice 1) }
+    ensures first_again { Faults (codes "show --itm 4,2,5,2,4") (MappedTwice 2) }
+    ensures of_both { Faults (codes "check --stp 3,2,3 --itm 1,2") (MappedTwice 2) }
+    ensures of_one { Faults (codes "show --stp 3,3 --itm 1") (MappedTwice 3) }
+{}
+
 /// Values that are none of their options'.
 pub fn bad_values()
     ensures frames { Faults (codes "check --frames Hunt") (BadValue Frames) }

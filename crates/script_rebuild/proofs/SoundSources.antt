@@ -1,13 +1,11 @@
--- The mapped sources of a sound plan.
-use Rattle.std.proofs.Common.{◌≡◌, ℕ, zero, suc, ◌≤◌, List, [], ◌∷◌, ◌++◌, refl, sym, subst, arith, Bool, true, false, length}
-use Rattle.std.specs.Prelude.{◌==◌, ◌&&◌, nat_le, not}
+-- The mapped sources of a sound plan, and IDs in increasing order.
+use Rattle.std.proofs.Common.{◌≡◌, ℕ, zero, suc, ◌+◌, ◌<◌, ◌≤◌, List, [], ◌∷◌, ◌++◌, refl, sym, ap, ◌∙◌, subst, arith, Bool, true, false, length, get_or, ◌||◌}
+use Rattle.std.specs.Prelude.{◌==◌, ◌&&◌, nat_le, not, if◌then◌else◌}
 use Rattle.std.specs.List.{filter, list_any, range_with_len}
-use Rattle.std.specs.Str.{bytes_eq}
-use Rattle.std.proofs.lemmas.Slice.Eq.{bytes_eq-Decides}
 use Rattle.std.proofs.lemmas.Bool.Decides.{nat_tests}
-use Rattle.source_events.specs.declared.plan.Plan.{Plan}
-use Rattle.source_events.specs.Plan.{are_sound, is_sound}
-use Rattle.script_rebuild.specs.Versions.{stp_ids}
+use Rattle.source_events.specs.Plan.{are_sound}
+use Rattle.script_rebuild.specs.Script.{in_order}
+use Rattle.script_rebuild.specs.Encoding.{IsRising}
 
 and_last : (a b c d : Bool) → (a && b && c && d) ≡ true → d ≡ true
 and_last true true true d h = h
@@ -20,54 +18,155 @@ later_sound [] ids h = h
 later_sound (x ∷ front) ids h = later_sound front ids
     (and_last (nat_le 1 x) (nat_le x 111) (not (list_any (λ y. y == x) (front ++ ids))) (are_sound (front ++ ids)) h)
 
--- the IDs of this list, in increasing order
-abbrev sorted : List ℕ → List ℕ
-sorted ids = filter (λ x. list_any (λ y. y == x) ids) (range_with_len 1 126)
+-- a number is among these
+abbrev pub among : List ℕ → ℕ → Bool
+among ids x = list_any (λ y. y == x) ids
 
--- each of the IDs up to this one is in increasing order alone
-abbrev alone : ℕ → Bool
-alone zero = true
-alone (suc x) = bytes_eq (sorted (suc x ∷ [])) (suc x ∷ []) && alone x
+-- of the numbers from one on, those that pass a test
+module _ (p : ℕ → Bool) where
+  abbrev kept : ℕ → ℕ → List ℕ
+  kept a n = filter p (range_with_len a n)
 
-all_alone : alone 111 ≡ true
-all_alone = refl
+  abbrev one_before : ℕ → List ℕ → Bool → List ℕ
+  one_before a xs v = if v then a ∷ xs else xs
 
-and_both : (a b : Bool) → (a && b) ≡ true → (a ≡ true) × (b ≡ true)
-and_both true b h = (refl, h)
-and_both false b h = cc
+  none_less : (a n x : ℕ) → x < a → among (kept a n) x ≡ false
+  none_less a zero x lt = refl
+  none_less a (suc n) x lt = by (p a) (none_less (suc a) n x (omega (arith, lt)))
+    where
+      by : (v : Bool) → among (kept (suc a) n) x ≡ false → among (one_before a (kept (suc a) n) v) x ≡ false
+      by true rest = (let other : (a == x) ≡ false = grind (arith, nat_tests) in rw other rest)
+      by false rest = rest
 
-below_alone : (n x : ℕ) → alone n ≡ true → 1 ≤ x → x ≤ n → sorted (x ∷ []) ≡ x ∷ []
-below_alone zero x h some few = absurd (omega arith)
-below_alone (suc n) x h some few = by (x == suc n) refl (below_alone n x)
+  those_kept : (a n x : ℕ) → a ≤ x → x < a + n → among (kept a n) x ≡ p x
+  those_kept a zero x le lt = absurd (omega (arith, le, lt))
+  those_kept a (suc n) x le lt = by (p a) refl (a == x) refl (λ more. those_kept (suc a) n x more (omega (arith, lt)))
+    where
+      by : (v : Bool) → p a ≡ v → (w : Bool) → (a == x) ≡ w → (suc a ≤ x → among (kept (suc a) n) x ≡ p x) →
+          among (one_before a (kept (suc a) n) v) x ≡ p x
+      by true h true e more =
+          let same : a ≡ x = grind (arith, nat_tests) in
+          ap (λ (b : Bool). b || among (kept (suc a) n) x) e ∙ sym (sym (ap p same) ∙ h)
+      by true h false e more =
+          let le : suc a ≤ x = grind (arith, nat_tests) in
+          ap (λ (b : Bool). b || among (kept (suc a) n) x) e ∙ more le
+      by false h true e more =
+          let same : a ≡ x = grind (arith, nat_tests) in
+          none_less (suc a) n x (omega (arith, same)) ∙ sym (sym (ap p same) ∙ h)
+      by false h false e more = (let le : suc a ≤ x = grind (arith, nat_tests) in more le)
+
+  kept_sound : ((x : ℕ) → p x ≡ true → (1 ≤ x) × (x ≤ 111)) → (a n : ℕ) → are_sound (kept a n) ≡ true
+  kept_sound within a zero = refl
+  kept_sound within a (suc n) =
+      by (p a) refl (none_less (suc a) n a (omega arith)) (kept_sound within (suc a) n)
+    where
+      by : (v : Bool) → p a ≡ v → among (kept (suc a) n) a ≡ false → are_sound (kept (suc a) n) ≡ true →
+          are_sound (one_before a (kept (suc a) n) v) ≡ true
+      by true h once rest =
+          let l : 1 ≤ a = (within a h).0 in
+          let m : a ≤ 111 = (within a h).1 in
+          let low : nat_le 1 a ≡ true = grind (arith, nat_tests) in
+          let high : nat_le a 111 ≡ true = grind (arith, nat_tests) in
+          rw (low, high, once) rest
+      by false h once rest = rest
+
+  from_first : (a n k d : ℕ) → k < length (kept a n) → a ≤ get_or (kept a n) k d
+  from_first a zero k d lt = absurd (omega (arith, lt))
+  from_first a (suc n) k d = by (p a) k (λ m lt. from_first (suc a) n m d lt)
+    where
+      by : (v : Bool) (k : ℕ) → ((m : ℕ) → m < length (kept (suc a) n) → suc a ≤ get_or (kept (suc a) n) m d) →
+          k < length (one_before a (kept (suc a) n) v) → a ≤ get_or (one_before a (kept (suc a) n) v) k d
+      by true zero more lt = omega arith
+      by true (suc k) more lt = (let le = more k (omega (arith, lt)) in omega (arith, le))
+      by false k more lt = (let le = more k lt in omega (arith, le))
+
+  kept_rising : (a n : ℕ) → IsRising (kept a n)
+  kept_rising a zero j k d lt within = absurd (omega (arith, within))
+  kept_rising a (suc n) j k d =
+      by (p a) j k (λ m le. from_first (suc a) n m d le) (λ i m less le. kept_rising (suc a) n i m d less le)
+    where
+      by : (v : Bool) (j k : ℕ) → ((m : ℕ) → m < length (kept (suc a) n) → suc a ≤ get_or (kept (suc a) n) m d) →
+          ((i m : ℕ) → i < m → m < length (kept (suc a) n) → get_or (kept (suc a) n) i d < get_or (kept (suc a) n) m d) →
+          j < k → k < length (one_before a (kept (suc a) n) v) →
+          get_or (one_before a (kept (suc a) n) v) j d < get_or (one_before a (kept (suc a) n) v) k d
+      by true j zero first more lt within = absurd (omega (arith, lt))
+      by true zero (suc k) first more lt within = (let le = first k (omega (arith, within)) in omega (arith, le))
+      by true (suc j) (suc k) first more lt within = more j k (omega (arith, lt)) (omega (arith, within))
+      by false j k first more lt within = more j k lt within
+
+-- there are no more than in the list: each test for one number passes one number at most
+one_more : (p : ℕ → Bool) (y : ℕ) (xs : List ℕ) →
+    length (filter (λ x. (y == x) || p x) xs) ≤ length (filter p xs) + length (filter (λ x. y == x) xs)
+one_more p y [] = omega arith
+one_more p y (x ∷ xs) = by (y == x) (p x) (one_more p y xs)
   where
-    k : (bytes_eq (sorted (suc n ∷ [])) (suc n ∷ []) ≡ true) × (alone n ≡ true)
-    k = and_both (bytes_eq (sorted (suc n ∷ [])) (suc n ∷ [])) (alone n) h
+    by : (v w : Bool) → length (filter (λ x. (y == x) || p x) xs) ≤ length (filter p xs) + length (filter (λ x. y == x) xs) →
+        length (if v || w then x ∷ filter (λ x. (y == x) || p x) xs else filter (λ x. (y == x) || p x) xs)
+        ≤ length (if w then x ∷ filter p xs else filter p xs)
+        + length (if v then x ∷ filter (λ x. y == x) xs else filter (λ x. y == x) xs)
+    by true true h = omega (arith, h)
+    by true false h = omega (arith, h)
+    by false true h = omega (arith, h)
+    by false false h = h
 
-    same : sorted (suc n ∷ []) ≡ suc n ∷ []
-    same = (bytes_eq-Decides (sorted (suc n ∷ [])) (suc n ∷ [])).0 k.0
+none_later : (y a n : ℕ) → y < a → length (filter (λ x. y == x) (range_with_len a n)) ≡ 0
+none_later y a zero lt = refl
+none_later y a (suc n) lt =
+    let other : (y == a) ≡ false = grind (arith, nat_tests) in
+    let rest = none_later y (suc a) n (omega (arith, lt)) in
+    rw other rest
 
-    by : (v : Bool) → (x == suc n) ≡ v → (alone n ≡ true → 1 ≤ x → x ≤ n → sorted (x ∷ []) ≡ x ∷ []) →
-        sorted (x ∷ []) ≡ x ∷ []
-    by true e more = (let f : x ≡ suc n = grind (arith, nat_tests) in subst (λ (y : ℕ). sorted (y ∷ []) ≡ y ∷ []) (sym f) same)
-    by false e more = (let f : x ≤ n = grind (arith, nat_tests) in more k.1 some f)
-
-one_sorted : (ids : List ℕ) → are_sound ids ≡ true → length ids ≤ 1 → sorted ids ≡ ids
-one_sorted [] h few = refl
-one_sorted (x ∷ []) h few =
-    let low : 1 ≤ x = by_low (nat_le 1 x) (nat_le x 111) refl h in
-    let high : x ≤ 111 = by_high (nat_le 1 x) (nat_le x 111) refl h in
-    below_alone 111 x all_alone low high
+one_alone : (y a n : ℕ) → length (filter (λ x. y == x) (range_with_len a n)) ≤ 1
+one_alone y a zero = omega arith
+one_alone y a (suc n) = by (y == a) refl (one_alone y (suc a) n)
   where
-    by_low : (a b : Bool) → nat_le 1 x ≡ a → (a && b && true && true) ≡ true → 1 ≤ x
-    by_low true b e h = grind (arith, nat_tests)
-    by_low false b e h = cc
+    by : (v : Bool) → (y == a) ≡ v → length (filter (λ x. y == x) (range_with_len (suc a) n)) ≤ 1 →
+        length (if v then a ∷ filter (λ x. y == x) (range_with_len (suc a) n) else filter (λ x. y == x) (range_with_len (suc a) n)) ≤ 1
+    by true e few =
+        let same : y ≡ a = grind (arith, nat_tests) in
+        let none = none_later y (suc a) n (omega (arith, same)) in
+        omega (arith, none)
+    by false e few = few
 
-    by_high : (a b : Bool) → nat_le x 111 ≡ b → (a && b && true && true) ≡ true → x ≤ 111
-    by_high true true e h = grind (arith, nat_tests)
-    by_high true false e h = cc
-    by_high false b e h = cc
-one_sorted (x ∷ (y ∷ ids)) h few = absurd (omega arith)
+no_more : (ids : List ℕ) (a n : ℕ) → length (filter (among ids) (range_with_len a n)) ≤ length ids
+no_more [] a zero = omega arith
+no_more [] a (suc n) = no_more [] (suc a) n
+no_more (y ∷ ids) a n =
+    let more = one_more (among ids) y (range_with_len a n) in
+    let alone = one_alone y a n in
+    let few = no_more ids a n in
+    omega (arith, more, alone, few)
 
--- one source at most is in increasing order
-pub stp_sorted : (plan : Plan) → is_sound plan ≡ true → length plan.stp ≤ 1 → stp_ids plan ≡ plan.stp
-stp_sorted plan h few = one_sorted plan.stp (later_sound plan.itm plan.stp h) few
+-- IDs in increasing order
+pub in_order_few : (ids : List ℕ) (n : ℕ) → length (filter (among ids) (range_with_len 1 n)) ≤ length ids
+in_order_few ids n = no_more ids 1 n
+
+pub in_order_rising : (ids : List ℕ) → IsRising (in_order ids)
+unfolding in_order
+in_order_rising ids = kept_rising (among ids) 1 126
+
+pub in_order_among : (ids : List ℕ) (x : ℕ) → 1 ≤ x → x ≤ 126 → among (in_order ids) x ≡ among ids x
+unfolding in_order
+in_order_among ids x low high = those_kept (among ids) 1 126 x low (omega (arith, high))
+
+sound_within : (ids : List ℕ) → are_sound ids ≡ true → (x : ℕ) → among ids x ≡ true → (1 ≤ x) × (x ≤ 111)
+sound_within [] h x e = cc
+sound_within (y ∷ ids) h x e =
+    by (nat_le 1 y) (nat_le y 111) (not (among ids y)) refl refl h (y == x) refl e (λ sound k. sound_within ids sound x k)
+  where
+    by : (a b c : Bool) → nat_le 1 y ≡ a → nat_le y 111 ≡ b → (a && b && c && are_sound ids) ≡ true →
+        (v : Bool) → (y == x) ≡ v → (v || among ids x) ≡ true →
+        (are_sound ids ≡ true → among ids x ≡ true → (1 ≤ x) × (x ≤ 111)) → (1 ≤ x) × (x ≤ 111)
+    by true true true low high h true e k more =
+        let same : y ≡ x = grind (arith, nat_tests) in
+        let l : 1 ≤ y = grind (arith, nat_tests) in
+        let m : y ≤ 111 = grind (arith, nat_tests) in
+        (omega (arith, same, l), omega (arith, same, m))
+    by true true true low high h false e k more = more h k
+    by true true false low high h v e k more = cc
+    by true false c low high h v e k more = cc
+    by false b c low high h v e k more = cc
+
+pub in_order_sound : (ids : List ℕ) → are_sound ids ≡ true → are_sound (in_order ids) ≡ true
+unfolding in_order
+in_order_sound ids h = kept_sound (among ids) (sound_within ids h) 1 126
