@@ -1,6 +1,7 @@
 //! The bytes of items, and the putting of them.
 
-ghost use Rattle.std.specs.Prelude.{◌≡◌, ◌≤◌, ◌<◌, ◌+◌, ◌*◌, ◌++◌, [], ℕ, List, length};
+ghost use Rattle.std.specs.Prelude.{◌≡◌, ◌≤◌, ◌<◌, ◌+◌, ◌*◌, ◌++◌, ◌==◌, [], ℕ, List, length};
+ghost use Rattle.std.specs.List.{position};
 ghost use Rattle.std.specs.Result.{OnErr};
 ghost use Rattle.arrayvec.specs.ArrayVec.{array_vec_len};
 ghost use Rattle.trace_values.specs.declared.limits.TheConstants.{COUNT_ROOM};
@@ -18,7 +19,7 @@ ghost use Rattle.script_rebuild.specs.Script.{tagged};
 ghost use Rattle.script_rebuild.specs.Putting.{Puts};
 ghost use Rattle.script_rebuild.specs.Encoding.{ids_in, NextItem, Left, AreReady, Answers};
 
-use crate::encoders::Encoders;
+use crate::encoders::{Encoders, SourceEncoder};
 use arrayvec::ArrayVec;
 use dwt_packets::packet_of;
 use frame_writer::SureWriter;
@@ -70,11 +71,18 @@ fn put_packet(frames: &mut SureWriter, id: SourceId, packet: &ItmPacket, out: &m
     put_bytes(frames, id, packed.as_slice(), out);
 }
 
+/// The index of the encoder of a source, if it is one of system traces.
+fn find(encoders: &[SourceEncoder], id: SourceId) -> Option<usize>
+    ensures { result ≡ position (λ e. e.id == id) encoders.now }
+{
+    encoders.iter().position(|slot| slot.id == id)
+}
+
 /// Puts the bytes that the encoder of a source adds for an item of its system trace. Apart, so that packets of other
 /// sources need no room for it.
 #[inline(never)]
 fn put_stp(
-    encoders: &mut Encoders,
+    encoders: &mut [SourceEncoder],
     frames: &mut SureWriter,
     id: SourceId,
     item: &StpItem,
@@ -84,25 +92,25 @@ fn put_stp(
     requires source { 0 < id }
     requires empty { out.old.items ≡ [] }
     requires room { count_of frames.old + 100 ≤ COUNT_ROOM }
-    ensures ids { ids_in encoders.new.items ≡ ids_in encoders.old.items }
+    ensures ids { ids_in encoders.new ≡ ids_in encoders.old }
     ensures same { OnErr result
         ((encoders.new ≡ encoders.old) × (frames.new ≡ frames.old) × (out.new ≡ out.old)) }
     ensures puts { (order : Order) (given : ℕ → List Put) (line : Line) →
         let next : NextItem = record { order = order; given = given; id = id; item = Stp item.now } in
         let left : Left = record {
-          encoders = encoders.new.items;
+          encoders = encoders.new;
           old = frames.old;
           new = frames.new;
           more = out.new.items;
         } in
-        AreReady next encoders.old.items → Answers next line result left }
+        AreReady next encoders.old → Answers next line result left }
     ensures count { count_of frames.new ≤ count_of frames.old + 100 }
 {
-    let Some(index) = encoders.iter().position(|slot| slot.id == id) else {
+    let Some(index) = find(encoders, id) else {
         return Err(LineFault::Unfit);
     };
     let mut written = ArrayVec::new();
-    match encoders.as_mut_slice()[index].encoder.put(item, &mut written) {
+    match encoders[index].encoder.put(item, &mut written) {
         Ok(()) => {
             put_bytes(frames, id, written.as_slice(), out);
             Ok(())
@@ -127,7 +135,7 @@ pub(crate) fn put_item(
     requires room { count_of frames.old + 100 ≤ COUNT_ROOM }
     ensures ids { ids_in encoders.new.items ≡ ids_in encoders.old.items }
     ensures same { OnErr result
-        ((encoders.new ≡ encoders.old) × (frames.new ≡ frames.old) × (out.new ≡ out.old)) }
+        ((encoders.new.items ≡ encoders.old.items) × (frames.new ≡ frames.old) × (out.new ≡ out.old)) }
     ensures puts { (order : Order) (given : ℕ → List Put) (line : Line) →
         let next : NextItem = record { order = order; given = given; id = id; item = item.now } in
         let left : Left = record {
@@ -146,7 +154,7 @@ pub(crate) fn put_item(
             let packet = ItmPacket::Hardware { disc, size, value };
             put_packet(frames, id, &packet, out);
         }
-        Item::Stp(item) => return put_stp(encoders, frames, id, item, out),
+        Item::Stp(item) => return put_stp(encoders.as_mut_slice(), frames, id, item, out),
         Item::Raw(raw) => put_bytes(frames, id, raw.as_slice(), out),
     }
     Ok(())

@@ -19,6 +19,16 @@ pub struct SourceEncoder {
     pub encoder: StpEncoder,
 }
 
+impl Default for SourceEncoder {
+    /// That of the null source, which nothing was put to.
+    fn default() -> Self {
+        SourceEncoder {
+            id: SourceId::default(),
+            encoder: StpEncoder::new(Order::Msn),
+        }
+    }
+}
+
 /// The encoders of all sources of system traces, in increasing order of their IDs.
 pub type Encoders = ArrayVec<SourceEncoder, KIND_SOURCES>;
 
@@ -27,10 +37,11 @@ pub fn encoders_for(ids: &SourceIds, order: Order) -> Encoders
     ensures ids { ids_in result.items ≡ in_order ids.now }
     ensures fresh { AllStand order result.items (λ _. []) }
 {
+    let ids = ids.as_slice();
     let mut encoders = ArrayVec::new();
     for number in 1..127u8 {
         if let Some(id) = SourceId::new(number) {
-            if ids.contains(id) {
+            if ids.contains(&id) {
                 encoders.push(SourceEncoder {
                     id,
                     encoder: StpEncoder::new(order),

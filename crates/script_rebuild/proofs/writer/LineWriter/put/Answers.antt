@@ -4,6 +4,7 @@ use Rattle.script_text.specs.declared.lines.Line.TheVariants.{Of}
 use Rattle.script_rebuild.specs.Script.{fitting, fitting_item, given_puts}
 use Rattle.script_rebuild.specs.Writer.{CanBePut, stp_of}
 use Rattle.script_rebuild.proofs.Standing.{as_given, are_ready, stands_nothing, grown_nothing, stands_put, grown_put}
+use Rattle.script_rebuild.proofs.EachEncoder.{named_still}
 use Rattle.script_rebuild.proofs.writer.LineWriter.put.Goals as goal
 
 pub returns-in-Nothing-clause-list : goal.returns-in-Nothing-clause-list
@@ -47,3 +48,8 @@ returns-in-Of-clause-grown c = λ every halves lines s.
     let line = Of c.in-Of.id c.in-Of.item in
     let answers = c.put_item.ensures.puts w.order (λ x. given_puts x lines) line (are_ready w every halves lines c.in-Of.id c.in-Of.item source s) in
     grown_put c.put_item.result w every halves lines c.args.line.now c.in-Of.id c.in-Of.item _ c.in-Of.is refl answers.put s
+
+pub invariant_of-self : goal.invariant_of-self
+invariant_of-self c = record {
+  named = named_still c.args.self.now.encoders.items c.put_item.new.encoders.items c.put_item.ensures.ids c.args.self.now.named;
+}
