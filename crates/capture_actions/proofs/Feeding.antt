@@ -1,8 +1,8 @@
 -- What a block of an engine is for the report of the capture.
 use Rattle.std.proofs.Common.{◌≡◌, ℕ, suc, ◌+◌, List, [], ◌∷◌, ◌++◌, length, refl, sym, ◌∙◌, ap, subst, append_assoc}
-use Rattle.std.proofs.Common.{arith, Option, None, Some, true}
+use Rattle.std.proofs.Common.{arith, Option, None, Some, true, false}
 use Rattle.std.specs.Prelude.{is_none, option_map}
-use Rattle.capture_actions.specs.Names.{Reason, Place, Placed, placed_from, placed, FlowAfter, On, Stopped as Ended}
+use Rattle.capture_actions.specs.Names.{Reason, Place, Placed, placed_from, placed, FaultAfter}
 use Rattle.capture_actions.specs.Names.{offsets_of, Event, Stop, Packet, Plan, stop_of, report_of, fault_of, Going}
 use Rattle.capture_actions.specs.Names.{Engine, Stands, is_live, plan_of}
 use Rattle.trace_values.proofs.Placing.{placed_append}
@@ -13,7 +13,7 @@ use Rattle.source_merge.specs.declared.flow.Flow.TheVariants.{Stopped}
 use Rattle.source_merge.specs.Engine.{next_of}
 use Rattle.source_merge.specs.Front.{Reads}
 use Rattle.capture_actions.specs.Faulty.{IsFaulty}
-use Rattle.capture_actions.specs.Stopping.{flow_by, stop_by}
+use Rattle.capture_actions.specs.Stopping.{is_stopped, stop_by}
 
 abbrev pub Fault : Type 0
 Fault = Option (Place × (Reason × Option ℕ))
@@ -30,7 +30,7 @@ end_from at (b ∷ bytes) = end_from (at + 1) bytes ∙ (let k : at + 1 + length
 pub capture_end : (bytes : List ℕ) → end_at 0 (offsets_of (placed bytes)) ≡ length bytes
 capture_end bytes = end_from 0 bytes ∙ (let k : 0 + length bytes ≡ length bytes = omega arith in k)
 
--- how an action goes on
+-- whether a fault is certain with the last of these bytes
 module _ (plan : Plan) (seen bytes : List ℕ) (at : ℕ) (given : List (Event Packet)) (flow : Flow) (e : at ≡ length seen)
     (reads : Reads plan (placed seen) at bytes given flow) where
   pub report_grew : report_of plan (placed (seen ++ bytes)) ≡ report_of plan (placed seen) ++ given
@@ -39,11 +39,11 @@ module _ (plan : Plan) (seen bytes : List ℕ) (at : ℕ) (given : List (Event P
   pub fault_after : fault_of plan (placed (seen ++ bytes)) ≡ fault_by flow
   fault_after = ap (fault_of plan) (sym (next_bytes seen bytes at e)) ∙ reads.fault
 
-  pub goes_on : flow ≡ Going → FlowAfter (IsFaulty plan) (seen ++ bytes) On
+  pub goes_on : flow ≡ Going → FaultAfter (IsFaulty plan) (seen ++ bytes) false
   goes_on g h = (let k : fault_of plan (placed (seen ++ bytes)) ≡ None = fault_after ∙ ap fault_by g in
       let l = ap (λ (o : Fault). is_none o) k in let m = h in cc)
 
-  pub ends : (stop : Stop) → flow ≡ Stopped stop → FlowAfter (IsFaulty plan) (seen ++ bytes) Ended
+  pub ends : (stop : Stop) → flow ≡ Stopped stop → FaultAfter (IsFaulty plan) (seen ++ bytes) true
   ends stop g = let certain = reads.certain (ap is_on g) in record {
     front = seen ++ certain.front;
     last = certain.last;
@@ -56,7 +56,7 @@ module _ (plan : Plan) (seen bytes : List ℕ) (at : ℕ) (given : List (Event P
   }
 
 flows : (plan : Plan) (seen bytes : List ℕ) (at : ℕ) (given : List (Event Packet)) (flow : Flow) (e : at ≡ length seen) →
-    Reads plan (placed seen) at bytes given flow → FlowAfter (IsFaulty plan) (seen ++ bytes) (flow_by flow)
+    Reads plan (placed seen) at bytes given flow → FaultAfter (IsFaulty plan) (seen ++ bytes) (is_stopped flow)
 flows plan seen bytes at given Going e reads = goes_on plan seen bytes at given Going e reads refl
 flows plan seen bytes at given (Stopped stop) e reads = ends plan seen bytes at given (Stopped stop) e reads stop refl
 
@@ -93,7 +93,7 @@ module _ (old new : Engine) (seen bytes : List ℕ) (at : ℕ) (given : List (Ev
       kept flow stop h ∙ sym (fault_after (plan_of old) seen bytes at given flow here reads)
       ∙ sym (ap (λ (plan : Plan). fault_of plan (placed (seen ++ bytes))) same)
 
-  pub flow_after : FlowAfter (IsFaulty (plan_of old)) (seen ++ bytes) (flow_by flow)
+  pub flow_after : FaultAfter (IsFaulty (plan_of old)) (seen ++ bytes) (is_stopped flow)
   flow_after = flows (plan_of old) seen bytes at given flow here reads
 
 -- an engine after a whole frame that it counted, and what an action keeps of it
@@ -111,7 +111,7 @@ module _ (old new : Engine) (seen bytes : List ℕ) (at : ℕ) (stands : Stands 
   counted_stop None h = sym counted_none
   counted_stop (Some stop) h = cc
 
-  pub counted_on : FlowAfter (IsFaulty (plan_of old)) (seen ++ bytes) On
+  pub counted_on : FaultAfter (IsFaulty (plan_of old)) (seen ++ bytes) false
   counted_on h =
       (let k : fault_of (plan_of old) (placed (seen ++ bytes)) ≡ None =
       sym (ap (λ (plan : Plan). fault_of plan (placed (seen ++ bytes))) same) ∙ counted_none in

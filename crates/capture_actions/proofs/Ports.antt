@@ -1,28 +1,23 @@
 -- How the reading of a capture's port grows with one more byte.
 use Rattle.std.proofs.Common.{◌≡◌, ℕ, ◌+◌, ◌≤◌, take, List, [], ◌∷◌, ◌++◌, length, refl, sym, ◌∙◌, ap, subst, arith}
 use Rattle.std.proofs.Common.{append_assoc, append-nil, length-append, Option, Some, None, true}
-use Rattle.std.specs.Prelude.{is_none, option_map}
+use Rattle.std.specs.Prelude.{is_none, is_some, not, option_map}
 use Rattle.std.specs.List.{flat_map}
 use Rattle.std.proofs.lemmas.List.Concat.{flat_map-append}
 use Rattle.capture_actions.specs.Names.{Cell, Reason, Place, Placed, byte_at, placed_from, placed, FramesMode, IsWhole}
 use Rattle.capture_actions.specs.Names.{PortStep, Quiet, Fault as Faulty, PortReading, port_reading, cells_of}
-use Rattle.capture_actions.specs.Names.{GrowsByFrame, frames_by, CellsFit, fault_by, FlowAfter, told}
+use Rattle.capture_actions.specs.Names.{GrowsByFrame, frames_by, CellsFit, fault_by, FaultAfter, told}
 use Rattle.trace_values.specs.declared.fault.Fault.{Fault}
 use Rattle.trace_values.proofs.Placing.{placed_from_push, placed_append}
 use Rattle.frame_grammar.specs.Frame.{IsProperFrame}
-use Rattle.frame_grammar.specs.Runs.{HasRuns}
 use Rattle.frame_grammar.proofs.Wholes.{plain_is_whole}
 use Rattle.std.proofs.lemmas.List.{length-take-le}
 use Rattle.deformatter.specs.declared.step.PortStep.TheVariants.{Half, Full, Frame, Locked}
 use Rattle.deformatter.specs.ReadingGrowth.{Grows, Answers}
 use Rattle.deformatter.specs.Block.{EachByte, FedAs}
-use Rattle.capture_actions.specs.Flows.{flow_by}
-use Rattle.deformatter.proofs.PortReadingLaws.{frames_have_runs}
-use Rattle.deformatter.specs.Runs.{HaveRuns}
-use Rattle.deformatter.proofs.RunLaws.{last_has_runs}
-use Rattle.frame_grammar.proofs.Runs.{none_has_runs}
+use Rattle.deformatter.specs.Growth.{goes_on}
 use Rattle.capture_actions.specs.Port.{port_of, IsPortFaulty}
-use Rattle.capture_actions.specs.PortGrowth.{Grew}
+use Rattle.capture_actions.specs.PortGrowth.{Gained}
 
 -- the bytes after those seen are the next of the capture
 pub next_bytes : (seen bytes : List ℕ) (at : ℕ) → at ≡ length seen → placed seen ++ placed_from at bytes ≡ placed (seen ++ bytes)
@@ -49,11 +44,11 @@ cells_by_step Frame cells fit = append-nil cells
 cells_by_step (Locked skipped) cells fit = sym fit
 cells_by_step (Faulty f) cells fit = sym fit
 
-pub cells_more : (old new : PortReading) (step : PortStep) (cells : List Cell) → Grew old new step cells → cells_of new ≡ cells_of old ++ cells
-cells_more old new step cells g =
-    ap (flat_map (λ (frame : List Cell). frame)) g.frames
+cells_more : (old new : PortReading) (step : PortStep) (cells : List Cell) → new.frames ≡ old.frames ++ frames_by step cells → CellsFit step cells → cells_of new ≡ cells_of old ++ cells
+cells_more old new step cells frames fit =
+    ap (flat_map (λ (frame : List Cell). frame)) frames
     ∙ flat_map-append (λ (frame : List Cell). frame) old.frames (frames_by step cells)
-    ∙ ap (λ (l : List Cell). cells_of old ++ l) (cells_by_step step cells g.fit)
+    ∙ ap (λ (l : List Cell). cells_of old ++ l) (cells_by_step step cells fit)
 
 pub frame_cells_more : (old new : PortReading) (inner : ℕ) (cells : List Cell) → GrowsByFrame old new inner cells → cells_of new ≡ cells_of old ++ cells
 frame_cells_more old new inner cells g =
@@ -61,27 +56,13 @@ frame_cells_more old new inner cells g =
     ∙ flat_map-append (λ (frame : List Cell). frame) old.frames (cells ∷ [])
     ∙ ap (λ (l : List Cell). cells_of old ++ l) (append-nil cells)
 
--- and their runs are those of a frame
-runs_by_step : (old new : List (List Cell)) (step : PortStep) (cells : List Cell) → new ≡ old ++ frames_by step cells → CellsFit step cells → HaveRuns new → HasRuns cells
-runs_by_step old new Quiet cells e fit runs = subst HasRuns (sym fit) none_has_runs
-runs_by_step old new Half cells e fit runs = subst HasRuns (sym fit) none_has_runs
-runs_by_step old new Full cells e fit runs = subst HasRuns (sym fit) none_has_runs
-runs_by_step old new Frame cells e fit runs = last_has_runs old cells (subst HaveRuns e runs)
-runs_by_step old new (Locked skipped) cells e fit runs = subst HasRuns (sym fit) none_has_runs
-runs_by_step old new (Faulty f) cells e fit runs = subst HasRuns (sym fit) none_has_runs
-
-pub cells_have_runs : (mode : FramesMode) (seen next : List ℕ) (step : PortStep) (cells : List Cell) → Grew (port_of mode seen) (port_of mode next) step cells → HasRuns cells
-cells_have_runs mode seen next step cells g = runs_by_step (port_of mode seen).frames (port_of mode next).frames step cells g.frames g.fit (frames_have_runs mode (placed next))
-
--- quiet bytes leave the reading as it is, without a fault
+-- quiet bytes leave the frames as they are, without a fault
 pub record IsStill (old new : PortReading) : Type 0 where
   pub frames : new.frames ≡ old.frames
-  pub fulls : new.fulls ≡ old.fulls
-  pub halves : new.halves ≡ old.halves
   pub sound : new.fault ≡ None
 
 pub still_none : (mode : FramesMode) (u : List Placed) → (port_reading mode u).fault ≡ None → IsStill (port_reading mode u) (port_reading mode (u ++ []))
-still_none mode u n = subst (λ (v : List Placed). IsStill (port_reading mode u) (port_reading mode v)) (sym (append-nil u)) (record { frames = refl; fulls = refl; halves = refl; sound = n })
+still_none mode u n = subst (λ (v : List Placed). IsStill (port_reading mode u) (port_reading mode v)) (sym (append-nil u)) (record { frames = refl; sound = n })
 
 pub still : (mode : FramesMode) (u : List Placed) (at : ℕ) (bytes : List ℕ) → EachByte (Answers mode Quiet []) u at bytes → (port_reading mode u).fault ≡ None →
     IsStill (port_reading mode u) (port_reading mode (u ++ placed_from at bytes))
@@ -92,20 +73,18 @@ still mode u at (b ∷ bytes) e n =
     subst (λ (v : List Placed). IsStill (port_reading mode u) (port_reading mode v)) (append_assoc u (byte_at at b ∷ []) (placed_from (at + 1) bytes))
     (record {
       frames = more.frames ∙ g.frames ∙ append-nil (port_reading mode u).frames;
-      fulls = (let f = more.fulls in let h = g.fulls in omega arith);
-      halves = (let f = more.halves in let h = g.halves in omega arith);
       sound = more.sound;
     })
 
--- where the last byte says this, an action goes on so
-flow_after : (mode : FramesMode) (seen front : List ℕ) (last : ℕ) (step : PortStep) → seen ≡ front ++ last ∷ [] → (port_of mode front).fault ≡ None → (port_of mode seen).fault ≡ fault_by step →
-    FlowAfter (IsPortFaulty mode) seen (flow_by step)
-flow_after mode seen front last Quiet e n f = not_faulty mode seen f
-flow_after mode seen front last Half e n f = not_faulty mode seen f
-flow_after mode seen front last Full e n f = not_faulty mode seen f
-flow_after mode seen front last Frame e n f = not_faulty mode seen f
-flow_after mode seen front last (Locked skipped) e n f = not_faulty mode seen f
-flow_after mode seen front last (Faulty fault) e n f = record {
+-- where the last byte says this, a fault is certain with it or there is none
+fault_after : (mode : FramesMode) (seen front : List ℕ) (last : ℕ) (step : PortStep) → seen ≡ front ++ last ∷ [] → (port_of mode front).fault ≡ None → (port_of mode seen).fault ≡ fault_by step →
+    FaultAfter (IsPortFaulty mode) seen (not (goes_on step))
+fault_after mode seen front last Quiet e n f = not_faulty mode seen f
+fault_after mode seen front last Half e n f = not_faulty mode seen f
+fault_after mode seen front last Full e n f = not_faulty mode seen f
+fault_after mode seen front last Frame e n f = not_faulty mode seen f
+fault_after mode seen front last (Locked skipped) e n f = not_faulty mode seen f
+fault_after mode seen front last (Faulty fault) e n f = record {
   front = front;
   last = last;
   all = e;
@@ -115,8 +94,8 @@ flow_after mode seen front last (Faulty fault) e n f = record {
 
 -- how the reading grew with bytes of a piece
 pub record HasGrown (mode : FramesMode) (seen bytes : List ℕ) (step : PortStep) (cells : List Cell) : Type 0 where
-  pub grew : Grew (port_of mode seen) (port_of mode (seen ++ bytes)) step cells
-  pub flow : FlowAfter (IsPortFaulty mode) (seen ++ bytes) (flow_by step)
+  pub fault : (port_of mode (seen ++ bytes)).fault ≡ fault_by step
+  pub gained : Gained mode seen (seen ++ bytes) cells (not (goes_on step))
 
 pub has_grown : (mode : FramesMode) (seen bytes : List ℕ) (at : ℕ) (step : PortStep) (cells : List Cell) → at ≡ length seen → (port_of mode seen).fault ≡ None →
     FedAs (Answers mode Quiet []) (Answers mode step cells) (placed seen) at bytes → HasGrown mode seen bytes step cells
@@ -129,17 +108,20 @@ has_grown mode seen bytes at step cells e n r =
     ∙ next_bytes seen bytes at e in
     let last = subst (λ (v : List Placed). Grows (port_reading mode w) (port_reading mode v) (at + length r.front) step cells) next r.ends in
     record {
-      grew = record {
-        frames = last.frames ∙ ap (λ (l : List (List Cell)). l ++ frames_by step cells) quiet.frames;
-        fit = last.fit;
-        fulls = (let f = last.fulls in let h = quiet.fulls in omega arith);
-        halves = (let f = last.halves in let h = quiet.halves in omega arith);
-        fault = last.fault;
+      fault = last.fault;
+      gained = record {
+        cells = cells_more (port_of mode seen) (port_of mode (seen ++ bytes)) step cells
+            (last.frames ∙ ap (λ (l : List (List Cell)). l ++ frames_by step cells) quiet.frames) last.fit;
+        fault = fault_after mode (seen ++ bytes) (seen ++ r.front) r.last step
+            (ap (λ (l : List ℕ). seen ++ l) r.parts ∙ sym (append_assoc seen r.front (r.last ∷ [])))
+            (ap (λ (v : List Placed). (port_reading mode v).fault) (sym (next_bytes seen r.front at e)) ∙ quiet.sound) last.fault;
       };
-      flow = flow_after mode (seen ++ bytes) (seen ++ r.front) r.last step
-          (ap (λ (l : List ℕ). seen ++ l) r.parts ∙ sym (append_assoc seen r.front (r.last ∷ [])))
-          (ap (λ (v : List Placed). (port_reading mode v).fault) (sym (next_bytes seen r.front at e)) ∙ quiet.sound) last.fault;
     }
+
+-- whether a fault is kept
+pub fault_is : (fault : Option Fault) (step : PortStep) → is_none fault ≡ goes_on step → is_some fault ≡ not (goes_on step)
+fault_is None step e = ap not e
+fault_is (Some fault) step e = ap not e
 
 -- the first 16 bytes of a piece that are a plain frame are a whole one
 pub plain_whole : (piece frame : List ℕ) → frame ≡ take 16 piece → 16 ≤ length piece → IsProperFrame frame → IsWhole (take 16 piece) frame 0

@@ -26,15 +26,5 @@ abbrev pub IsLive : BufferAction → Type 0
 IsLive action = Unit {0}
 
 -- no bytes have a fault, and nothing is written for any
-abbrev pub buffer_faulty : ℕ → List ℕ → Type 0
-buffer_faulty size bytes = ⊥
-
-abbrev pub buffer_text : ℕ → List ℕ → List ℕ
-buffer_text size bytes = []
-
-abbrev pub buffer_ending : ℕ → List ℕ → List ℕ
-buffer_ending size bytes = []
-
 abbrev pub buffer_meaning : ℕ → Meaning
-buffer_meaning size =
-    record { faulty = buffer_faulty size; text = buffer_text size; ending = buffer_ending size; due = false }
+buffer_meaning size = record { faulty = λ bytes. ⊥; text = λ bytes. []; ending = λ bytes. []; due = false }

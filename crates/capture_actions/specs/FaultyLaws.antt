@@ -1,7 +1,7 @@
 -- A fault of a report stays.
-use Rattle.std.specs.Prelude.{◌≡◌, ℕ, List, [], ◌++◌, Option, is_none}
+use Rattle.std.specs.Prelude.{◌≡◌, ℕ, List, [], ◌++◌, Option, Some, None, is_none, false}
 use Rattle.std.proofs.Common.{ap, ◌∙◌}
-use Rattle.capture_actions.specs.Names.{Reason, Place, placed, Plan, sources_by, report_of, fault_of}
+use Rattle.capture_actions.specs.Names.{Reason, Place, Placed, placed, Plan, sources_by, report_of, fault_of}
 use Rattle.source_events.proofs.Captures as captures
 use Rattle.source_events.proofs.Lawful.{plan_lawful}
 use Rattle.capture_actions.specs.Faulty.{IsFaulty}
@@ -21,3 +21,19 @@ same_report plan xs ys h = (captures.stays_same (sources_by plan) (plan_lawful p
 
 pub faulty_stays : (plan : Plan) (xs ys : List ℕ) → IsFaulty plan xs → IsFaulty plan (xs ++ ys)
 faulty_stays plan xs ys h = ap (λ (o : Option (Place × (Reason × Option ℕ))). is_none o) (same_fault plan xs ys h) ∙ h
+
+-- at a fault its line is written, whatever was read
+line_stays : (text : List Placed → Option (Place × (Reason × Option ℕ)) → List ℕ) →
+    ((u w : List Placed) (fault : Place × (Reason × Option ℕ)) → text u (Some fault) ≡ text w (Some fault)) →
+    (u w : List Placed) (f g : Option (Place × (Reason × Option ℕ))) → is_none f ≡ false → g ≡ f → text u g ≡ text w f
+line_stays text same u w None g h e = cc
+line_stays text same u w (Some f) g h e = ap (text u) e ∙ same u w f
+
+-- what comes after the text of a report, by its fault, stays at a fault where it is that fault's line
+pub ending_stays : (plan : Plan) (text : List Placed → Option (Place × (Reason × Option ℕ)) → List ℕ) →
+    ((u w : List Placed) (fault : Place × (Reason × Option ℕ)) → text u (Some fault) ≡ text w (Some fault)) →
+    (xs ys : List ℕ) → IsFaulty plan xs →
+    text (placed (xs ++ ys)) (fault_of plan (placed (xs ++ ys))) ≡ text (placed xs) (fault_of plan (placed xs))
+ending_stays plan text same xs ys h =
+    line_stays text same (placed (xs ++ ys)) (placed xs) (fault_of plan (placed xs)) (fault_of plan (placed (xs ++ ys)))
+    h (same_fault plan xs ys h)

@@ -2,7 +2,6 @@ pub mod Names
 pub mod BufferAction
 pub mod BufferLaws
 pub mod CapturePort
-pub mod Flows
 pub mod Port
 pub mod PortGrowth
 pub mod PortLaws

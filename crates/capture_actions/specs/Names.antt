@@ -42,11 +42,8 @@ pub use Rattle.source_merge.specs.declared.flow.Flow.TheVariants.{Going}
 pub use Rattle.stp_grammar.specs.declared.item.StpItem.{StpItem}
 pub use Rattle.trace_clock.specs.GlobalTime.{GlobalStamp}
 pub use Rattle.trace_clock.specs.LocalTime.{local_time}
-pub use Rattle.trace_stream.specs.Served.{Meaning}
-pub use Rattle.trace_stream.specs.Taken.{FlowAfter, HasTaken}
-pub use Rattle.trace_stream.specs.Written.{GrowsOnly}
-pub use Rattle.trace_stream.specs.declared.action.Flow.{Flow}
-pub use Rattle.trace_stream.specs.declared.action.Flow.TheVariants.{On, Stopped}
+pub use Rattle.trace_stream.specs.Served.{IsLawful, Meaning}
+pub use Rattle.trace_stream.specs.Taken.{FaultAfter, HasTaken}
 pub use Rattle.trace_stream.specs.declared.action.TheConstants.{ACTION_ROOM}
 pub use Rattle.trace_stream.specs.declared.limits.TheConstants.{GREATEST_CAPTURE}
 pub use Rattle.trace_stream.specs.declared.outlet.TheConstants.{OUTLET_ROOM, TEXT_ROOM}

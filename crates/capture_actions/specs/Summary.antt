@@ -26,14 +26,10 @@ abbrev pub summary_by : Plan → List Placed → Option (Place × (Reason × Opt
 summary_by plan u None = counts_text plan u
 summary_by plan u (Some fault) = fault_line (is_stp plan fault.1.1) fault
 
--- nothing is written before the end
-abbrev pub check_text : Plan → List ℕ → List ℕ
-check_text plan bytes = []
-
 -- the summary: the counts and the end lines, or the line of the fault alone in their place
 abbrev pub summary : Plan → List ℕ → List ℕ
 summary plan bytes = summary_by plan (placed bytes) (fault_of plan (placed bytes))
 
--- all that `check` makes of the bytes of a capture
+-- all that `check` makes of the bytes of a capture: nothing is written before the end
 abbrev pub check_meaning : Plan → Meaning
-check_meaning plan = record { faulty = IsFaulty plan; text = check_text plan; ending = summary plan; due = false }
+check_meaning plan = record { faulty = IsFaulty plan; text = λ bytes. []; ending = summary plan; due = false }

@@ -3,7 +3,7 @@
 ghost use Rattle.std.specs.Prelude.{◌≡◌, ℕ, ◌≤◌, List, []};
 
 use buffer_ring::TraceBuffer;
-use trace_stream::{Action, Flow, Outlet, Taken};
+use trace_stream::{Action, Outlet, Progress};
 
 /// Puts all bytes into a trace buffer, and writes nothing: what the buffer then holds is its caller's.
 #[derive(Drop)]
@@ -35,11 +35,8 @@ impl BufferAction {
 }
 
 impl Action for BufferAction {
-    ghost use Rattle.std.specs.Prelude.{false};
-    ghost use Rattle.capture_actions.specs.BufferAction.{Stands, plan_of, taken_by, IsLive};
-    ghost use Rattle.capture_actions.specs.BufferAction.{buffer_faulty, buffer_text, buffer_ending};
-    ghost use Rattle.capture_actions.specs.BufferLaws.{none_at_first, nothing_at_first, faulty_stays, text_stays};
-    ghost use Rattle.capture_actions.specs.BufferLaws.{ending_stays, text_grows};
+    ghost use Rattle.capture_actions.specs.BufferAction.{Stands, plan_of, taken_by, IsLive, buffer_meaning};
+    ghost use Rattle.capture_actions.specs.BufferLaws.{buffer_lawful};
 
     // the size
     type Plan = usize;
@@ -52,32 +49,16 @@ impl Action for BufferAction {
 
     ghost stands = { Stands };
 
-    ghost faulty = { buffer_faulty };
+    ghost meaning = { buffer_meaning };
 
-    ghost text = { buffer_text };
-
-    ghost ending = { buffer_ending };
-
-    ghost due = { λ _. false };
-
-    ghost never_at_first = { none_at_first };
-
-    ghost nothing_at_first = { nothing_at_first };
-
-    ghost faulty_stays = { faulty_stays };
-
-    ghost text_stays = { text_stays };
-
-    ghost ending_stays = { ending_stays };
-
-    ghost text_grows = { text_grows };
+    ghost lawful = { buffer_lawful };
 
     /// Takes the whole piece.
-    fn feed(&mut self, piece: &[u8], _outlet: &mut Outlet) -> Taken {
+    fn feed(&mut self, piece: &[u8], _outlet: &mut Outlet) -> Progress {
         self.buffer.push_all(piece);
-        Taken {
+        Progress {
             bytes: piece.len(),
-            flow: Flow::On,
+            is_faulty: false,
         }
     }
 

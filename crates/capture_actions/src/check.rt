@@ -13,7 +13,7 @@ use source_counts::Counts;
 use source_events::{Event, Packet, Plan, SourceKind, Stop};
 use source_machine::Told;
 use source_merge::{Engine, Receiver};
-use trace_stream::{Action, Flow, OUTLET_ROOM, Outlet, TEXT_ROOM, Taken};
+use trace_stream::{Action, OUTLET_ROOM, Outlet, Progress, TEXT_ROOM};
 use trace_text::{PortCountsLines, TAILS_ROOM, print_fault, print_tails, put_source_counts};
 use trace_values::{ID_COUNT, SourceId};
 
@@ -191,12 +191,9 @@ impl Check {
 }
 
 impl Action for Check {
-    ghost use Rattle.std.specs.Prelude.{false};
     ghost use Rattle.source_events.specs.declared.plan.Plan.{Plan};
-    ghost use Rattle.capture_actions.specs.Faulty.{IsFaulty};
-    ghost use Rattle.capture_actions.specs.Summary.{check_text, summary};
-    ghost use Rattle.capture_actions.specs.CheckLaws.{none_at_first, nothing_at_first, faulty_stays, text_stays};
-    ghost use Rattle.capture_actions.specs.CheckLaws.{summary_stays, text_grows};
+    ghost use Rattle.capture_actions.specs.Summary.{check_meaning};
+    ghost use Rattle.capture_actions.specs.CheckLaws.{check_lawful};
     ghost use Rattle.capture_actions.specs.Check.{Stands, plan_of, taken_by, IsLive};
 
     type Plan = Plan;
@@ -209,41 +206,25 @@ impl Action for Check {
 
     ghost stands = { Stands };
 
-    ghost faulty = { IsFaulty };
+    ghost meaning = { check_meaning };
 
-    ghost text = { check_text };
-
-    ghost ending = { summary };
-
-    ghost due = { λ _. false };
-
-    ghost never_at_first = { none_at_first };
-
-    ghost nothing_at_first = { nothing_at_first };
-
-    ghost faulty_stays = { faulty_stays };
-
-    ghost text_stays = { text_stays };
-
-    ghost ending_stays = { summary_stays };
-
-    ghost text_grows = { text_grows };
+    ghost lawful = { check_lawful };
 
     /// A whole frame is counted at once where no source is mapped.
-    fn feed(&mut self, piece: &[u8], _outlet: &mut Outlet) -> Taken {
+    fn feed(&mut self, piece: &[u8], _outlet: &mut Outlet) -> Progress {
         let at = self.engine.next();
         let bytes = count_frames(&mut self.engine, at, piece);
         if bytes > 0 {
-            return Taken {
+            return Progress {
                 bytes,
-                flow: Flow::On,
+                is_faulty: false,
             };
         }
         let fed = self.engine.take(at, piece, &mut Ignored, &mut ());
-        let flow = keep_stop(&mut self.stop, fed.flow);
-        Taken {
+        let is_faulty = keep_stop(&mut self.stop, fed.flow);
+        Progress {
             bytes: fed.bytes,
-            flow,
+            is_faulty,
         }
     }
 

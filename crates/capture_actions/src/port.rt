@@ -1,18 +1,18 @@
 //! The reading of a capture's port.
 
-ghost use Rattle.std.specs.Prelude.{◌≡◌, ◌+◌, ◌<◌, ◌≤◌, ◌++◌, [], ℕ, List, length, take, true, is_none};
+ghost use Rattle.std.specs.Prelude.{◌≡◌, ◌+◌, ◌<◌, ◌≤◌, ◌++◌, [], ℕ, List, length, take, false, is_none};
 ghost use Rattle.std.specs.Prelude.{option_map, Option, IsTrue};
-ghost use Rattle.capture_actions.specs.Names.{id_after, IsWhole, fault_by, Quiet, GrowsByFrame, told, FlowAfter};
+ghost use Rattle.capture_actions.specs.Names.{id_after, IsWhole, fault_by, GrowsByFrame, told};
 ghost use Rattle.capture_actions.specs.Names.{GREATEST_CAPTURE};
 ghost use Rattle.deformatter.specs.Growth.{goes_on};
 ghost use Rattle.deformatter.specs.Reader.{is_live, tail_of, skipped_by};
-ghost use Rattle.capture_actions.specs.Port.{port_of, IsPortFaulty};
-ghost use Rattle.capture_actions.specs.PortGrowth.{Grew, whole_cells};
-ghost use Rattle.capture_actions.specs.Flows.{flow_by};
+ghost use Rattle.capture_actions.specs.Port.{port_of};
+ghost use Rattle.capture_actions.specs.PortGrowth.{Gained, whole_cells};
+ghost use Rattle.trace_io.specs.Bytes.{TakesSome};
 
 use arrayvec::ArrayVec;
-use deformatter::{PortReader, PortStep, Taken};
-use trace_stream::Flow;
+use deformatter::{PortReader, PortStep};
+use trace_stream::Progress;
 use trace_values::{Cell, Fault, FramesMode, SourceId};
 
 /// Reads the bytes of a capture's port, the first of which is at offset 0, and keeps its fault.
@@ -38,21 +38,6 @@ fn fault_in(step: &PortStep) -> Option<Fault>
         | PortStep::Full
         | PortStep::Frame
         | PortStep::Locked { .. } => None,
-    }
-}
-
-/// Whether an action goes on after such a step: not after a fault.
-#[inline]
-pub fn flow_after(step: &PortStep) -> Flow
-    ensures { result ≡ flow_by step.now }
-{
-    match step {
-        PortStep::Fault(_) => Flow::Stopped,
-        PortStep::Quiet
-        | PortStep::Half
-        | PortStep::Full
-        | PortStep::Frame
-        | PortStep::Locked { .. } => Flow::On,
     }
 }
 
@@ -112,29 +97,25 @@ impl CapturePort {
 
     /// Takes bytes from the front of a piece up to the first with which a frame or a synchronisation ends, or a
     /// fault is certain, or to the piece's end. Where a frame ends, `cells` has its cells afterwards, and else nothing.
-    pub fn feed_piece(&mut self, piece: &[u8], cells: &mut ArrayVec<Cell, 15>) -> Taken
+    pub fn feed_piece(&mut self, piece: &[u8], cells: &mut ArrayVec<Cell, 15>) -> Progress
         requires live { IsLive self.old }
         requires empty { cells.old.items ≡ [] }
         requires some { 0 < length piece.now }
         requires count { count_of self.old + length piece.now ≤ GREATEST_CAPTURE }
         ensures same { frames_mode self.new ≡ frames_mode self.old }
-        ensures bytes { (0 < result.bytes) × (result.bytes ≤ length piece.now) }
-        ensures stops { result.step ≡ Quiet → result.bytes ≡ length piece.now }
+        ensures front { TakesSome piece.now result.bytes }
         ensures count { count_of self.new ≡ count_of self.old + result.bytes }
-        ensures read { (seen : List ℕ) → Stands self.old seen →
-            Stands self.new (seen ++ take result.bytes piece.now) }
-        ensures grew { (seen : List ℕ) → Stands self.old seen →
-            Grew (port_of (frames_mode self.old) seen)
-            (port_of (frames_mode self.old) (seen ++ take result.bytes piece.now)) result.step cells.new.items }
-        ensures flow { (seen : List ℕ) → Stands self.old seen →
-            FlowAfter (IsPortFaulty (frames_mode self.old)) (seen ++ take result.bytes piece.now)
-            (flow_by result.step) }
-        ensures live { goes_on result.step ≡ true → IsLive self.new }
+        ensures read { (seen : List ℕ) → Stands self.old seen → let next = seen ++ take result.bytes piece.now in
+            Stands self.new next × Gained (frames_mode self.old) seen next cells.new.items result.is_faulty }
+        ensures live { result.is_faulty ≡ false → IsLive self.new }
     {
         let taken = self.reader.feed_block(self.count, piece, cells);
         self.count += taken.bytes as u64;
         self.fault = fault_in(&taken.step);
-        taken
+        Progress {
+            bytes: taken.bytes,
+            is_faulty: self.fault.is_some(),
+        }
     }
 
     /// Its fault, if it has one.

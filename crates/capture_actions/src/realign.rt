@@ -7,7 +7,7 @@ ghost use Rattle.capture_actions.specs.Realigner.{Pushes};
 
 use arrayvec::ArrayVec;
 use port_slip::{Slip, Slipped};
-use trace_stream::{ACTION_ROOM, Action, Flow, Outlet, Taken};
+use trace_stream::{ACTION_ROOM, Action, Outlet, Progress};
 
 /// Realigns the bytes that it takes, so that what it writes is the realigned bytes of them.
 #[derive(Drop)]
@@ -67,7 +67,7 @@ fn push_all(slip: &mut Slip, bytes: &[u8], outlet: &mut Outlet)
 
 /// What `realign` writes for some bytes, and what it puts at their end, are the realigned bytes.
 pub fn realign_law()
-    ensures { (bytes : List ℕ) → realign_text tt bytes ++ realign_ending tt bytes ≡ (realigned bytes).bytes }
+    ensures { (bytes : List ℕ) → realign_text bytes ++ realign_ending bytes ≡ (realigned bytes).bytes }
 {}
 
 impl Realign {
@@ -92,11 +92,9 @@ impl Realign {
 }
 
 impl Action for Realign {
-    ghost use Rattle.std.specs.Prelude.{true};
-    ghost use Rattle.capture_actions.specs.Realigned.{realign_faulty, realign_text, realign_ending};
+    ghost use Rattle.capture_actions.specs.Realigned.{realign_meaning};
     ghost use Rattle.capture_actions.specs.Realigner.{Stands, plan_of, taken_by, IsLive};
-    ghost use Rattle.capture_actions.specs.RealignLaws.{none_at_first, nothing_at_first, faulty_stays, text_stays};
-    ghost use Rattle.capture_actions.specs.RealignLaws.{ending_stays, text_grows};
+    ghost use Rattle.capture_actions.specs.RealignLaws.{realign_lawful};
 
     type Plan = ();
 
@@ -108,33 +106,17 @@ impl Action for Realign {
 
     ghost stands = { Stands };
 
-    ghost faulty = { realign_faulty };
+    ghost meaning = { λ _. realign_meaning };
 
-    ghost text = { realign_text };
-
-    ghost ending = { realign_ending };
-
-    ghost due = { λ _. true };
-
-    ghost never_at_first = { none_at_first };
-
-    ghost nothing_at_first = { nothing_at_first };
-
-    ghost faulty_stays = { faulty_stays };
-
-    ghost text_stays = { text_stays };
-
-    ghost ending_stays = { ending_stays };
-
-    ghost text_grows = { text_grows };
+    ghost lawful = { λ _. realign_lawful };
 
     /// Takes as many bytes as there is room for.
-    fn feed(&mut self, piece: &[u8], outlet: &mut Outlet) -> Taken {
+    fn feed(&mut self, piece: &[u8], outlet: &mut Outlet) -> Progress {
         let bytes = piece.len().min(ACTION_ROOM);
         push_all(&mut self.slip, &piece[..bytes], outlet);
-        Taken {
+        Progress {
             bytes,
-            flow: Flow::On,
+            is_faulty: false,
         }
     }
 

@@ -1,7 +1,7 @@
 //! `show`: the listing of the events of a capture.
 
-ghost use Rattle.std.specs.Prelude.{◌≡◌, ◌+◌, ◌<◌, ◌≤◌, [], List, length, is_none, true};
-ghost use Rattle.capture_actions.specs.Names.{On, ACTION_ROOM, is_sound, is_live, OUTLET_ROOM};
+ghost use Rattle.std.specs.Prelude.{◌≡◌, ◌+◌, ◌<◌, ◌≤◌, [], List, length, is_none, true, false};
+ghost use Rattle.capture_actions.specs.Names.{ACTION_ROOM, is_sound, is_live, OUTLET_ROOM};
 
 use crate::list_plan::ListPlan;
 use crate::lister::Lister;
@@ -9,7 +9,7 @@ use crate::plan_table::sends_stp;
 use crate::stopping::keep_stop;
 use source_events::Stop;
 use source_merge::Engine;
-use trace_stream::{ACTION_ROOM, Action, Flow, OUTLET_ROOM, Outlet, Taken};
+use trace_stream::{ACTION_ROOM, Action, OUTLET_ROOM, Outlet, Progress};
 use trace_text::{print_fault, print_tails};
 
 /// How many times one call takes bytes at most, where their lines leave room for more.
@@ -24,22 +24,18 @@ pub struct Show {
     ghost alive: { is_live engine ≡ is_none stop },
 }
 
-/// Nothing ends the reading, the piece has more bytes, and there is room for the lines of another frame.
+/// There is no fault, the piece has more bytes, and there is room for the lines of another frame.
 #[inline(always)]
-fn has_more(flow: &Flow, done: usize, piece: &[u8], outlet: &Outlet) -> bool
-    ensures flow { result ≡ true → flow.now ≡ On }
+fn has_more(is_faulty: bool, done: usize, piece: &[u8], outlet: &Outlet) -> bool
+    ensures sound { result ≡ true → is_faulty ≡ false }
     ensures some { result ≡ true → done < length piece.now }
     ensures room { result ≡ true → length outlet.now + ACTION_ROOM ≤ OUTLET_ROOM }
 {
-    match flow {
-        Flow::On => done < piece.len() && outlet.len() <= OUTLET_ROOM - ACTION_ROOM,
-        _ => false,
-    }
+    !is_faulty && done < piece.len() && outlet.len() <= OUTLET_ROOM - ACTION_ROOM
 }
 
 impl Show {
     ghost use Rattle.std.specs.Prelude.{◌<◌, take};
-    ghost use Rattle.trace_stream.specs.declared.action.Flow.TheVariants.{On};
     ghost use Rattle.trace_stream.specs.declared.limits.TheConstants.{GREATEST_CAPTURE};
     ghost use Rattle.trace_io.specs.Bytes.{TakesSome};
     ghost use Rattle.capture_actions.specs.Feeding.{HasFed};
@@ -62,29 +58,27 @@ impl Show {
 
     /// Takes a whole frame, or bytes up to a synchronisation or a fault, or packets, and puts the lines of their events.
     #[inline(always)]
-    fn take(&mut self, piece: &[u8], outlet: &mut Outlet) -> Taken
+    fn take(&mut self, piece: &[u8], outlet: &mut Outlet) -> Progress
         requires live { IsLive self.old }
         requires some { 0 < length piece.now }
         requires room { length outlet.old + ACTION_ROOM ≤ OUTLET_ROOM }
         requires count { taken_by self.old + length piece.now ≤ GREATEST_CAPTURE }
         ensures front { TakesSome piece.now result.bytes }
-        ensures fed { HasFed self.old self.new (take result.bytes piece.now) result.flow outlet.old outlet.new }
+        ensures fed { HasFed self.old self.new (take result.bytes piece.now) result.is_faulty outlet.old outlet.new }
     {
         let at = self.engine.next();
         let fed = self.engine.take(at, piece, &mut self.lister, outlet);
-        let flow = keep_stop(&mut self.stop, fed.flow);
-        Taken {
+        let is_faulty = keep_stop(&mut self.stop, fed.flow);
+        Progress {
             bytes: fed.bytes,
-            flow,
+            is_faulty,
         }
     }
 }
 
 impl Action for Show {
-    ghost use Rattle.std.specs.Prelude.{false};
-    ghost use Rattle.capture_actions.specs.Listing.{listed, ending};
-    ghost use Rattle.capture_actions.specs.ListingLaws.{Faulty, none_at_first, nothing_at_first, faulty_stays};
-    ghost use Rattle.capture_actions.specs.ListingLaws.{listed_stays, ending_stays, listed_grows};
+    ghost use Rattle.capture_actions.specs.Listing.{show_meaning};
+    ghost use Rattle.capture_actions.specs.ListingLaws.{show_lawful};
     ghost use Rattle.capture_actions.specs.Show.{plan_of, Stands, taken_by, IsLive};
 
     type Plan = ListPlan;
@@ -97,42 +91,26 @@ impl Action for Show {
 
     ghost stands = { Stands };
 
-    ghost faulty = { Faulty };
+    ghost meaning = { show_meaning };
 
-    ghost text = { listed };
-
-    ghost ending = { ending };
-
-    ghost due = { λ _. false };
-
-    ghost never_at_first = { none_at_first };
-
-    ghost nothing_at_first = { nothing_at_first };
-
-    ghost faulty_stays = { faulty_stays };
-
-    ghost text_stays = { listed_stays };
-
-    ghost ending_stays = { ending_stays };
-
-    ghost text_grows = { listed_grows };
+    ghost lawful = { show_lawful };
 
     /// Takes bytes while the outlet has room for the lines of a frame, and puts the lines of their events.
-    fn feed(&mut self, piece: &[u8], outlet: &mut Outlet) -> Taken {
+    fn feed(&mut self, piece: &[u8], outlet: &mut Outlet) -> Progress {
         let mut done = 0;
         for turn in 0..TURNS {
             let taken = self.take(&piece[done..], outlet);
             done += taken.bytes;
-            if !has_more(&taken.flow, done, piece, outlet) {
-                return Taken {
+            if !has_more(taken.is_faulty, done, piece, outlet) {
+                return Progress {
                     bytes: done,
-                    flow: taken.flow,
+                    is_faulty: taken.is_faulty,
                 };
             }
         }
-        Taken {
+        Progress {
             bytes: done,
-            flow: Flow::On,
+            is_faulty: false,
         }
     }
 

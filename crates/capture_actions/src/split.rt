@@ -5,14 +5,14 @@ ghost use Rattle.capture_actions.specs.Names.{OUTLET_ROOM, is_source, told};
 ghost use Rattle.capture_actions.specs.CapturePort.{frames_mode};
 ghost use Rattle.capture_actions.specs.Split.{bytes_of_id};
 
-use crate::port::{CapturePort, flow_after};
+use crate::port::CapturePort;
 use crate::split_plan::SplitPlan;
 use arrayvec::ArrayVec;
 use frame_grammar::frame::FRAME_BYTES;
 use frame_grammar::gather::gather_frame_at;
 use frame_grammar::plain::plain_frame;
 use frame_grammar::source_bytes::copy_source_bytes;
-use trace_stream::{Action, Flow, Outlet, Taken};
+use trace_stream::{Action, Outlet, Progress};
 use trace_values::{Cell, Fault, SourceId};
 
 /// The reading of a port, and whose bytes of it are written.
@@ -46,12 +46,11 @@ fn put_cells(outlet: &mut Outlet, id: SourceId, cells: &[Cell])
 }
 
 impl Split {
-    ghost use Rattle.std.specs.Prelude.{[], ℕ, List, ◌*◌, ◌<◌, take};
+    ghost use Rattle.std.specs.Prelude.{[], ℕ, List, ◌*◌, ◌<◌, take, false};
     ghost use Rattle.trace_io.specs.Bytes.{TakesSome};
     ghost use Rattle.trace_stream.specs.Taken.{HasTaken, Turn};
     ghost use Rattle.trace_stream.specs.declared.limits.TheConstants.{GREATEST_CAPTURE};
     ghost use Rattle.trace_stream.specs.declared.action.TheConstants.{ACTION_ROOM};
-    ghost use Rattle.trace_stream.specs.declared.action.Flow.TheVariants.{On};
     ghost use Rattle.frame_grammar.specs.Whole.{IsWhole};
     ghost use Rattle.frame_grammar.specs.declared.frame.TheConstants.{FRAME_BYTES};
     ghost use Rattle.capture_actions.specs.CapturePort.{IsBetween};
@@ -74,17 +73,17 @@ impl Split {
 
     /// Takes a whole frame with this many half synchronisations between its halfwords.
     #[inline]
-    fn feed_frame(&mut self, frame: &[u8; FRAME_BYTES], halves: usize, outlet: &mut Outlet) -> Taken
+    fn feed_frame(&mut self, frame: &[u8; FRAME_BYTES], halves: usize, outlet: &mut Outlet) -> Progress
         requires live { IsLive self.old }
         requires between { IsBetween self.old.port }
         requires room { length outlet.old + ACTION_ROOM ≤ OUTLET_ROOM }
         requires count { taken_by self.old + (FRAME_BYTES + 2 * halves) ≤ GREATEST_CAPTURE }
         ensures same { plan_of self.new ≡ plan_of self.old }
-        ensures taken { result ≡ record { bytes = FRAME_BYTES + 2 * halves; flow = On } }
+        ensures taken { result ≡ record { bytes = FRAME_BYTES + 2 * halves; is_faulty = false } }
         ensures count { taken_by self.new ≡ taken_by self.old + (FRAME_BYTES + 2 * halves) }
         ensures fed { (seen w : List ℕ) → Stands self.old seen → IsWhole w frame.now halves →
             let turn : Turn = record { seen = seen; front = w; before = outlet.old; after = outlet.new } in
-            HasTaken (Stands self.new) (split_meaning (plan_of self.old)) turn On }
+            HasTaken (Stands self.new) (split_meaning (plan_of self.old)) turn false }
         ensures live { IsLive self.new }
     {
         let mut bytes = [0; FRAME_BYTES];
@@ -92,14 +91,14 @@ impl Split {
         outlet.append_front(&bytes, copied.len);
         let size = FRAME_BYTES + 2 * halves;
         self.port.pass_frame(size, copied.after);
-        Taken {
+        Progress {
             bytes: size,
-            flow: Flow::On,
+            is_faulty: false,
         }
     }
 
     /// Takes the piece's bytes up to the end of a frame or a synchronisation.
-    fn feed_bytes(&mut self, piece: &[u8], outlet: &mut Outlet) -> Taken
+    fn feed_bytes(&mut self, piece: &[u8], outlet: &mut Outlet) -> Progress
         requires live { IsLive self.old }
         requires some { 0 < length piece.now }
         requires room { length outlet.old + ACTION_ROOM ≤ OUTLET_ROOM }
@@ -110,16 +109,13 @@ impl Split {
         ensures fed { (seen : List ℕ) → Stands self.old seen →
             let front = take result.bytes piece.now in
             let turn : Turn = record { seen = seen; front = front; before = outlet.old; after = outlet.new } in
-            HasTaken (Stands self.new) (split_meaning (plan_of self.old)) turn result.flow }
-        ensures live { result.flow ≡ Flow.On → IsLive self.new }
+            HasTaken (Stands self.new) (split_meaning (plan_of self.old)) turn result.is_faulty }
+        ensures live { result.is_faulty ≡ false → IsLive self.new }
     {
         let mut cells = ArrayVec::<Cell, 15>::new();
         let taken = self.port.feed_piece(piece, &mut cells);
         put_cells(outlet, self.plan.id, cells.as_slice());
-        Taken {
-            bytes: taken.bytes,
-            flow: flow_after(&taken.step),
-        }
+        taken
     }
 
     /// The port's fault, if it has one.
@@ -132,11 +128,9 @@ impl Split {
 }
 
 impl Action for Split {
-    ghost use Rattle.std.specs.Prelude.{false};
-    ghost use Rattle.capture_actions.specs.Split.{split_faulty, split_text, split_ending};
+    ghost use Rattle.capture_actions.specs.Split.{split_meaning};
     ghost use Rattle.capture_actions.specs.Splitter.{Stands, plan_of, taken_by, IsLive};
-    ghost use Rattle.capture_actions.specs.SplitLaws.{none_at_first, nothing_at_first, faulty_stays, text_stays};
-    ghost use Rattle.capture_actions.specs.SplitLaws.{ending_stays, text_grows};
+    ghost use Rattle.capture_actions.specs.SplitLaws.{split_lawful};
 
     type Plan = SplitPlan;
 
@@ -148,29 +142,13 @@ impl Action for Split {
 
     ghost stands = { Stands };
 
-    ghost faulty = { split_faulty };
+    ghost meaning = { split_meaning };
 
-    ghost text = { split_text };
-
-    ghost ending = { split_ending };
-
-    ghost due = { λ _. false };
-
-    ghost never_at_first = { none_at_first };
-
-    ghost nothing_at_first = { nothing_at_first };
-
-    ghost faulty_stays = { faulty_stays };
-
-    ghost text_stays = { text_stays };
-
-    ghost ending_stays = { ending_stays };
-
-    ghost text_grows = { text_grows };
+    ghost lawful = { split_lawful };
 
     /// Takes a whole frame at once where one is there, and else the piece's bytes up to the end of a frame or a
     /// synchronisation.
-    fn feed(&mut self, piece: &[u8], outlet: &mut Outlet) -> Taken {
+    fn feed(&mut self, piece: &[u8], outlet: &mut Outlet) -> Progress {
         if self.port.is_between() {
             if let Some(frame) = plain_frame(piece) {
                 return self.feed_frame(frame, 0, outlet);

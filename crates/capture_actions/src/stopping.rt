@@ -1,23 +1,22 @@
 //! How an action goes on after a block of the engine.
 
 ghost use Rattle.std.specs.Prelude.{◌≡◌};
-ghost use Rattle.capture_actions.specs.Stopping.{flow_by, stop_by};
+ghost use Rattle.capture_actions.specs.Stopping.{is_stopped, stop_by};
 
 use source_events::Stop;
-use source_merge::Flow as Reading;
-use trace_stream::Flow;
+use source_merge::Flow;
 
-/// Keeps the fault with which the reading stops, and answers whether the action goes on.
+/// Keeps the fault with which the reading stops, and answers whether it has one.
 #[inline]
-pub fn keep_stop(stop: &mut Option<Stop>, reading: Reading) -> Flow
-    ensures kept { stop.new ≡ stop_by reading stop.old }
-    ensures flow { result ≡ flow_by reading }
+pub fn keep_stop(stop: &mut Option<Stop>, flow: Flow) -> bool
+    ensures kept { stop.new ≡ stop_by flow stop.old }
+    ensures flow { result ≡ is_stopped flow }
 {
-    match reading {
-        Reading::Going => Flow::On,
-        Reading::Stopped(fault) => {
+    match flow {
+        Flow::Going => false,
+        Flow::Stopped(fault) => {
             *stop = Some(fault);
-            Flow::Stopped
+            true
         }
     }
 }

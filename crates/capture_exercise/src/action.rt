@@ -5,7 +5,7 @@ ghost use Rattle.source_events.specs.Plan.{is_sound};
 
 use crate::plans::ExercisePlan;
 use capture_actions::Check;
-use trace_stream::{Action, Outlet, Taken};
+use trace_stream::{Action, Outlet, Progress};
 use trace_text::ExerciseLines;
 
 /// The reading of what is left of an exercise's capture. It writes nothing until the end: then how many items there
@@ -38,11 +38,9 @@ impl Exercise {
 }
 
 impl Action for Exercise {
-    ghost use Rattle.std.specs.Prelude.{false};
     ghost use Rattle.capture_exercise.specs.declared.plans.ExercisePlan.{ExercisePlan};
-    ghost use Rattle.capture_exercise.specs.Summary.{IsFaulty, exercise_text, exercise_ending};
-    ghost use Rattle.capture_exercise.specs.SummaryLaws.{none_at_first, nothing_at_first, faulty_stays, text_stays};
-    ghost use Rattle.capture_exercise.specs.SummaryLaws.{ending_stays, text_grows};
+    ghost use Rattle.capture_exercise.specs.Summary.{exercise_meaning};
+    ghost use Rattle.capture_exercise.specs.SummaryLaws.{exercise_lawful};
     ghost use Rattle.capture_exercise.specs.Exerciser.{Stands, plan_of, taken_by, IsLive};
 
     type Plan = ExercisePlan;
@@ -55,27 +53,11 @@ impl Action for Exercise {
 
     ghost stands = { Stands };
 
-    ghost faulty = { IsFaulty };
+    ghost meaning = { exercise_meaning };
 
-    ghost text = { exercise_text };
+    ghost lawful = { exercise_lawful };
 
-    ghost ending = { exercise_ending };
-
-    ghost due = { λ _. false };
-
-    ghost never_at_first = { none_at_first };
-
-    ghost nothing_at_first = { nothing_at_first };
-
-    ghost faulty_stays = { faulty_stays };
-
-    ghost text_stays = { text_stays };
-
-    ghost ending_stays = { ending_stays };
-
-    ghost text_grows = { text_grows };
-
-    fn feed(&mut self, piece: &[u8], outlet: &mut Outlet) -> Taken {
+    fn feed(&mut self, piece: &[u8], outlet: &mut Outlet) -> Progress {
         self.check.feed(piece, outlet)
     }
 

@@ -1,5 +1,6 @@
 pub mod Shapes
 pub mod Calls
+mod Answering
 pub mod Chosen
 mod Lines
 mod Windows

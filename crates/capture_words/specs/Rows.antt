@@ -1,5 +1,5 @@
 -- Worked rows of the words, in text.
-use Rattle.std.specs.Prelude.{◌≡◌, ℕ, List, [], ◌∷◌, None, Some, nat_eq, if◌then◌else◌}
+use Rattle.std.specs.Prelude.{◌≡◌, ℕ, List, [], ◌∷◌, None, Some, Result, Ok, Err, nat_eq, if◌then◌else◌}
 use Rattle.clap.specs.Words.{Text}
 use Rattle.clap.specs.declared.error.kind.ErrorKind.{ErrorKind}
 use Rattle.trace_values.specs.declared.reading_modes.FramesMode.{FramesMode}
@@ -12,6 +12,7 @@ use Rattle.item_tap.specs.declared.choice.Choice.{Choice}
 use Rattle.source_events.specs.declared.plan.Plan.{Plan}
 use Rattle.capture_words.specs.Calls.{AsksFor, Misuses}
 use Rattle.capture_words.specs.Command.{refusals}
+use Rattle.capture_words.specs.declared.job.Job.{Job}
 use Rattle.capture_words.specs.declared.job.Task.{Task}
 use Rattle.capture_words.specs.declared.job.Task.TheVariants.{Show}
 use Rattle.capture_words.specs.declared.usage.UsageFault.{UsageFault}
@@ -31,18 +32,28 @@ abbrev pub planned : FramesMode → PacketsMode → List ℕ → List ℕ → Or
 planned frames packets itm stp order =
     record { frames = frames; packets = packets; itm = itm; stp = stp; order = order }
 
--- the words of a text ask for this task, and this limit
-abbrev pub Does : Text → Task → ℕ → Type 0
-Does text task limit = AsksFor (words_of text) (record { task = task; limit = limit })
+-- a text whose words ask for this task, and this limit
+abbrev pub does : Text → Task → ℕ → Text × Result Job UsageFault
+does text task limit = (text, Ok (record { task = task; limit = limit }))
 
--- they ask for a listing of these events, by defaults alone
-abbrev pub Lists : Text → Choice → Type 0
-Lists text only = Does text (Show (planned FramesHunt PacketsHunt [] [] Msn) (Some only) None) 68719476736
+-- one whose words ask for a listing of these events, by defaults alone
+abbrev pub lists : Text → Choice → Text × Result Job UsageFault
+lists text only = does text (Show (planned FramesHunt PacketsHunt [] [] Msn) (Some only) None) 68719476736
 
--- they have this fault
-abbrev pub Faults : Text → UsageFault → Type 0
-Faults text fault = Misuses (words_of text) fault
+-- and one whose words have this fault
+abbrev pub faults : Text → UsageFault → Text × Result Job UsageFault
+faults text fault = (text, Err fault)
 
--- clap refuses them, for this
+-- the words are a call of the command, and have this answer
+abbrev pub HasAnswer : List Text → Result Job UsageFault → Type 0
+HasAnswer words (Ok job) = AsksFor words job
+HasAnswer words (Err fault) = Misuses words fault
+
+-- the words of each text have the answer beside it
+unfoldable pub AllAnswered : List (Text × Result Job UsageFault) → Type 0
+AllAnswered [] = Unit {0}
+AllAnswered (row ∷ rows) = HasAnswer (words_of row.0) row.1 × AllAnswered rows
+
+-- clap refuses the words of the text, for this
 abbrev pub Refuses : Text → ErrorKind → Type 0
 Refuses text kind = refusals (words_of text) ≡ kind ∷ []

@@ -1,10 +1,9 @@
 -- What the action takes.
-use Rattle.std.proofs.Common.{◌≡◌, ℕ, ◌+◌, ◌≤◌, List, [], ◌∷◌, ◌++◌, refl, sym, ◌∙◌, ap, subst, true, false, Option, Some, None, Result, Ok, Err, append-nil, append_assoc, length, length-append, arith, All, drop}
-use Rattle.std.specs.Prelude.{◌==◌, is_some, is_none, option_map}
+use Rattle.std.proofs.Common.{◌≡◌, ℕ, ◌+◌, ◌≤◌, List, [], ◌∷◌, ◌++◌, refl, sym, ◌∙◌, ap, subst, Bool, true, false, Option, Some, None, Result, Ok, Err, append-nil, append_assoc, length, length-append, arith, All, drop}
+use Rattle.std.specs.Prelude.{◌==◌, is_some, option_map}
 use Rattle.stp_grammar.specs.declared.packet.Order.{Order}
-use Rattle.trace_stream.specs.Taken.{HasTaken}
+use Rattle.trace_stream.specs.Taken.{HasTaken, FaultAfter}
 use Rattle.trace_stream.specs.declared.limits.TheConstants.{GREATEST_CAPTURE}
-use Rattle.trace_stream.specs.declared.action.Flow.TheVariants.{On, Stopped}
 use Rattle.frame_writer.specs.Written.{capture}
 use Rattle.frame_writer.specs.Fronts.{sure}
 use Rattle.script_text.specs.declared.lines.Line.{Line}
@@ -15,7 +14,7 @@ use Rattle.script_rebuild.specs.declared.writer.LineWriter.{LineWriter}
 use Rattle.script_rebuild.specs.declared.plan.RebuildPlan.{RebuildPlan}
 use Rattle.script_rebuild.specs.declared.plan.ScriptFault.{ScriptFault}
 use Rattle.script_rebuild.specs.declared.rebuild.Rebuild.{Rebuild}
-use Rattle.script_rebuild.specs.Rebuilt.{open_line, read_so_far, text, ending, left_of, script_capture, rebuild_meaning}
+use Rattle.script_rebuild.specs.Rebuilt.{IsFaulty, open_line, read_so_far, text, ending, left_of, script_capture, rebuild_meaning}
 use Rattle.script_rebuild.specs.PutLine.{PutsLine}
 use Rattle.script_rebuild.specs.Rebuilder.{told, IsLive, Stands, TakesByte, Feeds}
 use Rattle.script_rebuild.specs.SplitLaws.{plain_open, fed_open}
@@ -108,33 +107,35 @@ some_of (Some f) o e = ap (λ (x : Option (ℕ × LineFault)). is_some x) (sym e
 pub is_faulty : (r : Rebuild) (seen : List ℕ) → Stands r seen → is_some (read_so_far r.plan.plan seen).fault ≡ is_some r.fault
 is_faulty r seen s = some_of r.fault (read_so_far r.plan.plan seen).fault s.fault
 
-never : (f : Option ScriptFault) (o : Option (ℕ × LineFault)) → f ≡ None → is_some o ≡ is_some f → is_some o ≡ true → ⊥
-never None o n e h = let k : false ≡ true = sym e ∙ h in cc
-never (Some f) o n e h = cc
-
 pub fault_none : (f : Option ScriptFault) → is_some f ≡ false → f ≡ None
 fault_none None h = refl
 fault_none (Some f) h = cc
 
-pub none_is : (f : Option ScriptFault) → is_none f ≡ true → f ≡ None
-none_is None h = refl
-none_is (Some f) h = cc
+-- a reader of this plan tells by its fault whether these bytes have one
+faulty_is : (r : Rebuild) (p : RebuildPlan) (seen : List ℕ) → r.plan ≡ p → Stands r seen → is_some (read_so_far p.plan seen).fault ≡ is_some r.fault
+faulty_is r p seen plan s = subst (λ (q : RebuildPlan). is_some (read_so_far q.plan seen).fault ≡ is_some r.fault) plan (is_faulty r seen s)
 
-pub some_is : (f : Option ScriptFault) → is_none f ≡ false → is_some f ≡ true
-some_is None h = cc
-some_is (Some f) h = refl
+none_is : (f : Option ScriptFault) → f ≡ None → is_some f ≡ false
+none_is f e = ap (λ (x : Option ScriptFault). is_some x) e
+
+sound_after : (r : Rebuild) (p : RebuildPlan) (seen : List ℕ) → r.plan ≡ p → Stands r seen → is_some r.fault ≡ false → IsFaulty p seen → ⊥
+sound_after r p seen plan s none h = let no : false ≡ true = sym (faulty_is r p seen plan s ∙ none) ∙ h in cc
 
 -- a front that is the whole piece
-pub all_taken : (new : Rebuild) (p : RebuildPlan) (seen front outlet : List ℕ) → new.plan ≡ p → new.fault ≡ None → Stands new (seen ++ front) →
-    read_so_far p.plan (seen ++ front) ≡ read_so_far p.plan seen →
-    HasTaken (Stands new) (rebuild_meaning p) (record { seen = seen; front = front; before = outlet; after = outlet }) On
-all_taken new p seen front outlet plan live stands read = record {
-  read = stands;
-  more = [];
-  grown = ap (λ (r : Reading Line). sure p.every p.halves (put_of p.plan.order r.lines)) read ∙ sym (append-nil (text p seen));
-  gained = sym (append-nil outlet);
-  goes_on = λ h. never new.fault (read_so_far new.plan.plan (seen ++ front)).fault live (is_faulty new (seen ++ front) stands)
-      (subst (λ (q : RebuildPlan). is_some (read_so_far q.plan (seen ++ front)).fault ≡ true) (sym plan) h);
+pub all_taken : (old new : Rebuild) (front outlet : List ℕ) → new.plan ≡ old.plan → new.fault ≡ None
+    → ((seen : List ℕ) → Stands old seen → Stands new (seen ++ front))
+    → ((seen : List ℕ) → Stands old seen → read_so_far old.plan.plan (seen ++ front) ≡ read_so_far old.plan.plan seen)
+    → Feeds old new front outlet outlet false
+all_taken old new front outlet plan live stands read = record {
+  same = plan;
+  live = λ e. live;
+  fed = λ seen s. record {
+    read = stands seen s;
+    more = [];
+    grown = ap (λ (r : Reading Line). sure old.plan.every old.plan.halves (put_of old.plan.plan.order r.lines)) (read seen s) ∙ sym (append-nil (text old.plan seen));
+    gained = sym (append-nil outlet);
+    fault = sound_after new old.plan (seen ++ front) plan (stands seen s) (none_is new.fault live);
+  };
 }
 
 module _ (mid new : Rebuild) (p : RebuildPlan) (seen front piece : List ℕ) (b : ℕ) (before after : List ℕ) (was : mid.plan ≡ p) (plan : new.plan ≡ mid.plan) (live : mid.fault ≡ None)
@@ -146,36 +147,26 @@ module _ (mid new : Rebuild) (p : RebuildPlan) (seen front piece : List ℕ) (b 
   there : Stands new (seen ++ piece)
   there = subst (Stands new) (sym join) takes.stands
 
-  grown : text p (seen ++ piece) ≡ text p seen ++ takes.more
-  grown =
-      ap (text p) join
-      ∙ subst (λ (q : RebuildPlan). text q ((seen ++ front) ++ b ∷ []) ≡ text q (seen ++ front) ++ takes.more) was takes.grown
-      ∙ ap (λ (r : Reading Line). sure p.every p.halves (put_of p.plan.order r.lines) ++ takes.more) read
-
-  pub goes_on : new.fault ≡ None → HasTaken (Stands new) (rebuild_meaning p) (record { seen = seen; front = piece; before = before; after = after }) On
-  goes_on none = record {
-    read = there;
-    more = takes.more;
-    grown = grown;
-    gained = takes.gained;
-    goes_on = λ h. never new.fault (read_so_far new.plan.plan (seen ++ piece)).fault none (is_faulty new (seen ++ piece) there)
-        (subst (λ (q : RebuildPlan). is_some (read_so_far q.plan (seen ++ piece)).fault ≡ true) (sym (plan ∙ was)) h);
+  fault_there : (is_faulty : Bool) → is_faulty ≡ is_some new.fault → FaultAfter (IsFaulty p) (seen ++ piece) is_faulty
+  fault_there false e = sound_after new p (seen ++ piece) (plan ∙ was) there (sym e)
+  fault_there true e = record {
+    front = seen ++ front;
+    last = b;
+    all = join;
+    sound = sound_after mid p (seen ++ front) was stands (none_is mid.fault live);
+    broken = faulty_is new p (seen ++ piece) (plan ∙ was) there ∙ sym e;
   }
 
-  pub stops : is_some new.fault ≡ true → HasTaken (Stands new) (rebuild_meaning p) (record { seen = seen; front = piece; before = before; after = after }) Stopped
-  stops some = record {
+  -- it took the front and one more byte
+  pub byte_taken : (is_faulty : Bool) → is_faulty ≡ is_some new.fault → HasTaken (Stands new) (rebuild_meaning p) (record { seen = seen; front = piece; before = before; after = after }) is_faulty
+  byte_taken is_faulty e = record {
     read = there;
     more = takes.more;
-    grown = grown;
+    grown = ap (text p) join
+        ∙ subst (λ (q : RebuildPlan). text q ((seen ++ front) ++ b ∷ []) ≡ text q (seen ++ front) ++ takes.more) was takes.grown
+        ∙ ap (λ (r : Reading Line). sure p.every p.halves (put_of p.plan.order r.lines) ++ takes.more) read;
     gained = takes.gained;
-    goes_on = record {
-      front = seen ++ front;
-      last = b;
-      all = join;
-      sound = λ h. never mid.fault (read_so_far mid.plan.plan (seen ++ front)).fault live (is_faulty mid (seen ++ front) stands)
-          (subst (λ (q : RebuildPlan). is_some (read_so_far q.plan (seen ++ front)).fault ≡ true) (sym was) h);
-      broken = subst (λ (q : RebuildPlan). is_some (read_so_far q.plan (seen ++ piece)).fault ≡ true) (plan ∙ was) (is_faulty new (seen ++ piece) there ∙ some);
-    };
+    fault = fault_there is_faulty e;
   }
 
 -- what is left of a list after its front
@@ -273,9 +264,12 @@ whole_line old new seen line before after small live closed few plain s takes =
       takes = takes stands;
     }
 
-module _ (old new : Rebuild) (seen line before after : List ℕ) (same : new.plan ≡ old.plan) (t : TakesLine old new seen line before after) where
-  pub line_goes_on : new.fault ≡ None → Feeds old new seen (line ++ 10 ∷ []) before after On
-  line_goes_on none = goes_on t.mid new old.plan seen line (line ++ 10 ∷ []) 10 before after t.same (same ∙ sym t.same) t.live refl t.stands t.read t.takes none
-
-  pub line_stops : is_some new.fault ≡ true → Feeds old new seen (line ++ 10 ∷ []) before after Stopped
-  line_stops some = stops t.mid new old.plan seen line (line ++ 10 ∷ []) 10 before after t.same (same ∙ sym t.same) t.live refl t.stands t.read t.takes some
+pub line_taken : (old new : Rebuild) (line before after : List ℕ) (is_faulty : Bool) → new.plan ≡ old.plan → is_faulty ≡ is_some new.fault
+    → ((seen : List ℕ) → Stands old seen → TakesLine old new seen line before after) → Feeds old new (line ++ 10 ∷ []) before after is_faulty
+line_taken old new line before after is_faulty same e takes = record {
+  same = same;
+  live = λ f. fault_none new.fault (sym e ∙ f);
+  fed = λ seen s.
+      let t = takes seen s in
+      byte_taken t.mid new old.plan seen line (line ++ 10 ∷ []) 10 before after t.same (same ∙ sym t.same) t.live refl t.stands t.read t.takes is_faulty e;
+}

@@ -1,5 +1,5 @@
 -- What the action stands for.
-use Rattle.std.specs.Prelude.{◌≡◌, ℕ, List, [], ◌∷◌, ◌++◌, length, None, option_map}
+use Rattle.std.specs.Prelude.{◌≡◌, ℕ, List, [], ◌∷◌, ◌++◌, length, None, option_map, Bool, false}
 use Rattle.script_rebuild.specs.Writer as writers
 use Rattle.script_text.specs.declared.line_fault.LineFault.{LineFault}
 use Rattle.script_rebuild.specs.declared.plan.RebuildPlan.{RebuildPlan}
@@ -7,7 +7,6 @@ use Rattle.script_rebuild.specs.declared.plan.ScriptFault.{ScriptFault}
 use Rattle.script_rebuild.specs.declared.rebuild.Rebuild.{Rebuild}
 use Rattle.script_rebuild.specs.Rebuilt.{open_line, read_so_far, text, rebuild_meaning}
 use Rattle.trace_stream.specs.Taken.{HasTaken}
-use Rattle.trace_stream.specs.declared.action.Flow.{Flow}
 
 -- a fault as its line's number and its cause
 abbrev pub told : ScriptFault → ℕ × LineFault
@@ -52,8 +51,9 @@ pub record IsOpen (mid r : Rebuild) (line : List ℕ) : Type 0 where
   pub writer : mid.writer ≡ r.writer
   pub line_is : mid.line.items ≡ line
 
--- it took a front of a piece, and goes on or stops after it
-abbrev pub Feeds : Rebuild → Rebuild → List ℕ → List ℕ → List ℕ → List ℕ → Flow → Type 0
-Feeds old new seen front before after flow =
-    HasTaken (Stands new) (rebuild_meaning old.plan)
-    (record { seen = seen; front = front; before = before; after = after }) flow
+-- it took a front of a piece, and may be fed more where that has no fault
+pub record Feeds (old new : Rebuild) (front before after : List ℕ) (is_faulty : Bool) : Type 0 where
+  pub same : plan_of new ≡ plan_of old
+  pub live : is_faulty ≡ false → IsLive new
+  pub fed : (seen : List ℕ) → Stands old seen → HasTaken (Stands new) (rebuild_meaning old.plan)
+      (record { seen = seen; front = front; before = before; after = after }) is_faulty

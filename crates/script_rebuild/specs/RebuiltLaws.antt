@@ -1,7 +1,7 @@
 -- How what is written grows with the bytes of a script.
 use Rattle.std.specs.Prelude.{◌≡◌, ℕ, List, [], ◌++◌, refl, Option, None, Some, is_some, true}
 use Rattle.std.proofs.Common.{[], ap, sym, ◌∙◌, append-nil}
-use Rattle.trace_stream.specs.Written.{GrowsOnly}
+use Rattle.trace_stream.specs.Served.{IsLawful}
 use Rattle.frame_writer.specs.Fronts.{sure}
 use Rattle.frame_writer.proofs.Fronts.{sure_grows}
 use Rattle.frame_writer.proofs.Sureness.{nothing_sure}
@@ -9,40 +9,33 @@ use Rattle.script_text.specs.declared.line_fault.LineFault.{LineFault}
 use Rattle.script_rebuild.specs.Script.{put_of, put_after, script_of}
 use Rattle.script_rebuild.specs.ScriptLaws.{put_after-append}
 use Rattle.script_rebuild.specs.declared.plan.RebuildPlan.{RebuildPlan}
-use Rattle.script_rebuild.specs.Rebuilt.{read_so_far, IsFaulty, text, left_of, script_capture, ending}
+use Rattle.script_rebuild.specs.Rebuilt.{read_so_far, text, left_of, script_capture, rebuild_meaning}
 use Rattle.script_rebuild.specs.GrowthLaws.{settled, so_far_extends, whole_settled}
-
-pub none_at_first : (p : RebuildPlan) → IsFaulty p [] → ⊥
-none_at_first p h = cc
-
-pub nothing_at_first : (p : RebuildPlan) → text p [] ≡ []
-nothing_at_first p = sym (nothing_sure p.every p.halves [] refl ∙ append-nil (sure p.every p.halves []))
-
-pub faulty_stays : (p : RebuildPlan) (xs ys : List ℕ) → IsFaulty p xs → IsFaulty p (xs ++ ys)
-faulty_stays p xs ys h = ap (λ r. is_some r.fault) (settled p.plan xs ys h).so_far ∙ h
-
-pub text_stays : (p : RebuildPlan) (xs ys : List ℕ) → IsFaulty p xs → text p (xs ++ ys) ≡ text p xs
-text_stays p xs ys h = ap (λ r. sure p.every p.halves (put_of p.plan.order r.lines)) (settled p.plan xs ys h).so_far
 
 pub nothing_left : (whole front : List ℕ) (fault : Option (ℕ × LineFault)) → is_some fault ≡ true →
     left_of whole front fault ≡ []
 nothing_left whole front None h = cc
 nothing_left whole front (Some fault) h = refl
 
-pub ending_stays : (p : RebuildPlan) (xs ys : List ℕ) → IsFaulty p xs → ending p (xs ++ ys) ≡ ending p xs
-ending_stays p xs ys h =
-    nothing_left (script_capture p (xs ++ ys)) (text p (xs ++ ys)) (script_of p.plan (xs ++ ys)).fault
-    (ap (λ r. is_some r.fault) (settled p.plan xs ys h).whole ∙ h)
-    ∙ sym (nothing_left (script_capture p xs) (text p xs) (script_of p.plan xs).fault
-    (ap (λ r. is_some r.fault) (whole_settled p.plan xs h) ∙ h))
-
-pub text_grows : (p : RebuildPlan) (xs ys : List ℕ) → GrowsOnly (text p xs) (text p (xs ++ ys))
-text_grows p xs ys =
-    let order = p.plan.order in
-    let lines = (read_so_far p.plan xs).lines in
-    let longer = so_far_extends p.plan xs ys in
-    let grown = sure_grows p.every p.halves [] (put_of order lines) (put_after order lines longer.more) in (
-      grown.0,
-      ap (λ l. sure p.every p.halves (put_of order l)) longer.all
-          ∙ ap (sure p.every p.halves) (put_after-append order [] lines longer.more) ∙ grown.1,
-    )
+pub rebuild_lawful : (p : RebuildPlan) → IsLawful (rebuild_meaning p)
+rebuild_lawful p = record {
+  never_at_first = λ h. cc;
+  nothing_at_first = sym (nothing_sure p.every p.halves [] refl ∙ append-nil (sure p.every p.halves []));
+  faulty_stays = λ xs ys h. ap (λ r. is_some r.fault) (settled p.plan xs ys h).so_far ∙ h;
+  text_stays = λ xs ys h.
+      ap (λ r. sure p.every p.halves (put_of p.plan.order r.lines)) (settled p.plan xs ys h).so_far;
+  ending_stays = λ xs ys h.
+      nothing_left (script_capture p (xs ++ ys)) (text p (xs ++ ys)) (script_of p.plan (xs ++ ys)).fault
+      (ap (λ r. is_some r.fault) (settled p.plan xs ys h).whole ∙ h)
+      ∙ sym (nothing_left (script_capture p xs) (text p xs) (script_of p.plan xs).fault
+      (ap (λ r. is_some r.fault) (whole_settled p.plan xs h) ∙ h));
+  text_grows = λ xs ys.
+      let order = p.plan.order in
+      let lines = (read_so_far p.plan xs).lines in
+      let longer = so_far_extends p.plan xs ys in
+      let grown = sure_grows p.every p.halves [] (put_of order lines) (put_after order lines longer.more) in (
+        grown.0,
+        ap (λ l. sure p.every p.halves (put_of order l)) longer.all
+            ∙ ap (sure p.every p.halves) (put_after-append order [] lines longer.more) ∙ grown.1,
+      );
+}

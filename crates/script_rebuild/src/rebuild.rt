@@ -1,7 +1,7 @@
 //! The action `rebuild`.
 
 ghost use Rattle.std.specs.Prelude.{◌≡◌, ◌≢◌, ◌≤◌, ◌<◌, ◌+◌, ◌*◌, ◌++◌, ◌==◌, [], ℕ, List, All, length, take};
-ghost use Rattle.std.specs.Prelude.{slice_index, false, None, Err, IfSome, option_map, is_none};
+ghost use Rattle.std.specs.Prelude.{slice_index, false, None, Err, IfSome, option_map, is_some};
 ghost use Rattle.std.specs.Result.{IfErr, OnErr, OnOk};
 ghost use Rattle.trace_values.specs.declared.limits.TheConstants.{COUNT_ROOM};
 ghost use Rattle.trace_stream.specs.declared.limits.TheConstants.{GREATEST_CAPTURE};
@@ -20,7 +20,7 @@ use arrayvec::ArrayVec;
 use memchr::memchr;
 use script_text::{Item, LINE_BYTES, Line, LineFault, PacketLine, packet_line, read_into};
 use source_events::{Plan, SourceKind};
-use trace_stream::{Action, Flow, Outlet, Taken};
+use trace_stream::{Action, Outlet, Progress};
 
 /// A script as it is read: its open line, and the writer of what the lines before it put. It allocates nothing.
 #[derive(Drop)]
@@ -201,7 +201,7 @@ impl Rebuild {
         len
     }
 
-    /// Takes a byte after a front: a line feed, or one with which the line is too long.
+    /// Takes a byte after a front: a line feed, or one with which the line is too long. Answers whether it has a fault.
     fn take_byte(&mut self, byte: u8, outlet: &mut Outlet) -> bool
         requires live { IsLive self.old }
         requires last { byte ≢ 10 → open_len self.old ≡ 256 }
@@ -211,7 +211,7 @@ impl Rebuild {
         ensures count { taken_by self.new ≡ taken_by self.old + 1 }
         ensures taken { (seen : List ℕ) → Stands self.old seen →
             TakesByte self.old self.new seen byte outlet.old outlet.new }
-        ensures flow { result ≡ is_none self.new.fault }
+        ensures fault { result ≡ is_some self.new.fault }
     {
         if byte == b'\n' {
             let mut text = ArrayVec::new();
@@ -222,7 +222,7 @@ impl Rebuild {
         }
     }
 
-    /// The line is too long with this byte.
+    /// The line is too long with this byte, which is its fault.
     fn refuse_line(&mut self, byte: u8) -> bool
         requires live { IsLive self.old }
         requires full { open_len self.old ≡ 256 }
@@ -232,7 +232,7 @@ impl Rebuild {
         ensures count { taken_by self.new ≡ taken_by self.old + 1 }
         ensures taken { (seen : List ℕ) (outlet : List ℕ) → Stands self.old seen →
             TakesByte self.old self.new seen byte outlet outlet }
-        ensures flow { result ≡ is_none self.new.fault }
+        ensures fault { result ≡ is_some self.new.fault }
     {
         self.count += 1;
         self.fault = Some(ScriptFault {
@@ -240,10 +240,10 @@ impl Rebuild {
             fault: LineFault::LongLine,
         });
         let _last = byte;
-        false
+        true
     }
 
-    /// A line of this text is at its end: what it says is put, or its fault is kept.
+    /// A line of this text is at its end: what it says is put, or its fault is kept. Answers whether it has one.
     #[inline(always)]
     fn end_line(&mut self, text: &[u8], found: &Option<PacketLine>, outlet: &mut Outlet) -> bool
         requires live { IsLive self.old }
@@ -255,7 +255,7 @@ impl Rebuild {
         ensures count { taken_by self.new ≡ taken_by self.old + 1 }
         ensures taken { (mid : Rebuild) (seen : List ℕ) → IsOpen mid self.old text.now → Stands mid seen →
             TakesByte mid self.new seen 10 outlet.old outlet.new }
-        ensures flow { result ≡ is_none self.new.fault }
+        ensures fault { result ≡ is_some self.new.fault }
     {
         self.count += 1;
         match put_line(
@@ -269,21 +269,21 @@ impl Rebuild {
                 give(&mut self.sure, outlet);
                 self.line.clear();
                 self.lines += 1;
-                true
+                false
             }
             Err(fault) => {
                 self.fault = Some(ScriptFault {
                     line: self.lines + 1,
                     fault,
                 });
-                false
+                true
             }
         }
     }
 
     /// Takes a whole line and its line feed, where no line is open. It is read where it lies.
     #[inline(always)]
-    fn take_line(&mut self, text: &[u8], found: &Option<PacketLine>, outlet: &mut Outlet) -> Taken
+    fn take_line(&mut self, text: &[u8], found: &Option<PacketLine>, outlet: &mut Outlet) -> Progress
         requires live { IsLive self.old }
         requires closed { open_len self.old ≡ 0 }
         requires few { length text.now ≤ 256 }
@@ -291,55 +291,47 @@ impl Rebuild {
         requires found { IfSome found.now (λ p. IsPacketOf text.now p.id p.packet) }
         requires room { length outlet.old + ACTION_ROOM ≤ OUTLET_ROOM }
         requires count { taken_by self.old + length text.now < GREATEST_CAPTURE }
-        ensures same { plan_of self.new ≡ plan_of self.old }
         ensures bytes { result.bytes ≡ length text.now + 1 }
         ensures count { taken_by self.new ≡ taken_by self.old + result.bytes }
-        ensures fed { (seen : List ℕ) → Stands self.old seen →
-            Feeds self.old self.new seen (text.now ++ 10 ∷ []) outlet.old outlet.new result.flow }
-        ensures live { result.flow ≡ Flow.On → IsLive self.new }
+        ensures fed { Feeds self.old self.new (text.now ++ 10 ∷ []) outlet.old outlet.new result.is_faulty }
     {
         self.count += text.len() as u64;
-        let goes_on = self.end_line(text, found, outlet);
-        Taken {
+        let is_faulty = self.end_line(text, found, outlet);
+        Progress {
             bytes: text.len() + 1,
-            flow: if goes_on { Flow::On } else { Flow::Stopped },
+            is_faulty,
         }
     }
 
     /// Takes more of the open line: the bytes up to a line feed, and that.
-    fn feed_open(&mut self, piece: &[u8], outlet: &mut Outlet) -> Taken
+    fn feed_open(&mut self, piece: &[u8], outlet: &mut Outlet) -> Progress
         requires live { IsLive self.old }
         requires some { 0 < length piece.now }
         requires room { length outlet.old + ACTION_ROOM ≤ OUTLET_ROOM }
         requires count { taken_by self.old + length piece.now ≤ GREATEST_CAPTURE }
-        ensures same { plan_of self.new ≡ plan_of self.old }
         ensures front { TakesSome piece.now result.bytes }
         ensures count { taken_by self.new ≡ taken_by self.old + result.bytes }
-        ensures fed { (seen : List ℕ) → Stands self.old seen →
-            Feeds self.old self.new seen (take result.bytes piece.now) outlet.old outlet.new result.flow }
-        ensures live { result.flow ≡ Flow.On → IsLive self.new }
+        ensures fed { Feeds self.old self.new (take result.bytes piece.now) outlet.old outlet.new result.is_faulty }
     {
         let len = self.add_front(piece);
         if len == piece.len() {
-            return Taken {
+            return Progress {
                 bytes: len,
-                flow: Flow::On,
+                is_faulty: false,
             };
         }
-        let goes_on = self.take_byte(piece[len], outlet);
-        Taken {
+        let is_faulty = self.take_byte(piece[len], outlet);
+        Progress {
             bytes: len + 1,
-            flow: if goes_on { Flow::On } else { Flow::Stopped },
+            is_faulty,
         }
     }
 }
 
 impl Action for Rebuild {
-    ghost use Rattle.std.specs.Prelude.{false};
     ghost use Rattle.script_rebuild.specs.Rebuilder.{plan_of, taken_by, IsLive, Stands};
-    ghost use Rattle.script_rebuild.specs.Rebuilt.{IsFaulty, text, ending};
-    ghost use Rattle.script_rebuild.specs.RebuiltLaws.{none_at_first, nothing_at_first, faulty_stays, text_stays};
-    ghost use Rattle.script_rebuild.specs.RebuiltLaws.{ending_stays, text_grows};
+    ghost use Rattle.script_rebuild.specs.Rebuilt.{rebuild_meaning};
+    ghost use Rattle.script_rebuild.specs.RebuiltLaws.{rebuild_lawful};
 
     type Plan = RebuildPlan;
 
@@ -351,28 +343,12 @@ impl Action for Rebuild {
 
     ghost stands = { Stands };
 
-    ghost faulty = { IsFaulty };
+    ghost meaning = { rebuild_meaning };
 
-    ghost text = { text };
-
-    ghost ending = { ending };
-
-    ghost due = { λ _. false };
-
-    ghost never_at_first = { none_at_first };
-
-    ghost nothing_at_first = { nothing_at_first };
-
-    ghost faulty_stays = { faulty_stays };
-
-    ghost text_stays = { text_stays };
-
-    ghost ending_stays = { ending_stays };
-
-    ghost text_grows = { text_grows };
+    ghost lawful = { rebuild_lawful };
 
     /// Takes the bytes up to a line feed, and that.
-    fn feed(&mut self, piece: &[u8], outlet: &mut Outlet) -> Taken {
+    fn feed(&mut self, piece: &[u8], outlet: &mut Outlet) -> Progress {
         if self.line.is_empty() {
             let found = packet_line(piece);
             if let Some(line) = &found {

@@ -1,6 +1,5 @@
-use Rattle.std.proofs.Common.{◌≡◌, ℕ, ◌+◌, ◌-◌, List, [], ◌++◌, ap, ◌∙◌, sym, length, length-append, length-drop, take, drop, drop-drop, append-nil, arith}
+use Rattle.std.proofs.Common.{◌≡◌, ℕ, ◌+◌, ◌-◌, List, ◌++◌, ap, ◌∙◌, sym, length, length-append, length-drop, drop, drop-drop, arith}
 use Rattle.std.proofs.lemmas.List.{drop-append-le}
-use Rattle.std.proofs.Math.Seq.{take-append_seam}
 use Rattle.circular_buffer.specs.Buffer.{keep_last}
 use Rattle.trace_stream.specs.Recent.{last_sixteen}
 
@@ -15,14 +14,5 @@ keep_last_again n xs ys =
     ap (drop rest) front ∙ drop-drop rest cut (xs ++ ys) ∙ ap (λ k. drop k (xs ++ ys)) all
 
 -- the ring goes on by what was fed
-pub kept_more : (recent recent' seen front fed : List ℕ) → recent ≡ last_sixteen seen → recent' ≡ last_sixteen (recent ++ front) → front ≡ fed → recent' ≡ last_sixteen (seen ++ fed)
-kept_more recent recent' seen front fed was now same =
-    now ∙ ap (λ l. last_sixteen (recent ++ l)) same ∙ ap (λ l. last_sixteen (l ++ fed)) was ∙ keep_last_again 16 seen fed
-
--- the first bytes of the piece, of this count, are those that were fed
-pub kept_front : (piece fed rest : List ℕ) (count : ℕ) → count ≡ length fed → piece ≡ fed ++ rest → take count piece ≡ fed
-kept_front piece fed rest count counted parts = ap (λ n. take n piece) counted ∙ ap (take (length fed)) parts ∙ take-append_seam fed rest
-
--- and all of it, where nothing is left
-pub kept_piece : (piece fed rest : List ℕ) (count : ℕ) → count ≡ length fed → piece ≡ fed ++ rest → rest ≡ [] → take count piece ≡ piece
-kept_piece piece fed rest count counted parts none = kept_front piece fed rest count counted parts ∙ sym (parts ∙ ap (λ l. fed ++ l) none ∙ append-nil fed)
+pub kept_more : (recent recent' seen fed : List ℕ) → recent ≡ last_sixteen seen → recent' ≡ last_sixteen (recent ++ fed) → recent' ≡ last_sixteen (seen ++ fed)
+kept_more recent recent' seen fed was now = now ∙ ap (λ l. last_sixteen (l ++ fed)) was ∙ keep_last_again 16 seen fed

@@ -9,7 +9,7 @@ use Rattle.trace_stream.specs.declared.outcome.Outcome.{Outcome}
 use Rattle.trace_stream.specs.declared.outcome.Outcome.TheVariants.{AtEnd, FaultFound, ReadFailed, WriteFailed, OverLimit}
 use Rattle.trace_stream.specs.BuffersState.{BuffersState}
 use Rattle.trace_stream.specs.Pumped.{HasPumped}
-use Rattle.trace_stream.specs.Served.{Meaning, Ends, IsAllRead, HasServed, HasStopped, HasEnded, text_at_stop}
+use Rattle.trace_stream.specs.Served.{Meaning, IsLawful, Ends, IsAllRead, HasServed, HasStopped, HasEnded, text_at_stop}
 
 -- the output went on after the reading
 abbrev pub written : Ends → Option (List ℕ) → Ends
@@ -30,7 +30,7 @@ served_at_end stands m limit old new buffers held pumped put =
       lost = subst (Consumes old.left new.left) (ap (λ l. pumped.seen ++ l) pumped.outcome.1 ∙ append-nil pumped.seen) pumped.lost;
       gained = put;
       at_most = omega (arith, pumped.within);
-      outcome = (pumped.outcome.0.sound, pumped.within, refl);
+      outcome = (pumped.outcome.0.fault, pumped.within, refl);
       ended = λ e. pumped.outcome.2;
     } in
     record { served = served; holds = pumped.outcome.0.read }
@@ -39,31 +39,25 @@ served_at_end stands m limit old new buffers held pumped put =
 longer : {old held : Option (List ℕ)} {part whole : List ℕ} (prefix : AppendsPrefix old held part) → GrowsOnly part whole → GrowsOnly prefix.1.front whole
 longer prefix grows = (prefix.0 ++ grows.0, grows.1 ∙ ap (λ l. l ++ grows.0) prefix.1.all ∙ append_assoc prefix.1.front prefix.0 grows.0)
 
--- what a fault adds to is the same, whatever comes after it
-pub record Stays (m : Meaning) : Type 0 where
-  pub faulty : (xs ys : List ℕ) → m.faulty xs → m.faulty (xs ++ ys)
-  pub text : (xs ys : List ℕ) → m.faulty xs → m.text (xs ++ ys) ≡ m.text xs
-  pub ending : (xs ys : List ℕ) → m.faulty xs → m.ending (xs ++ ys) ≡ m.ending xs
-
 -- at a stop, where the action stands
-pub served_stopped : (stands : List ℕ → Type 0) (m : Meaning) (limit : ℕ) (old new : Ends) (buffers : BuffersState) (held : Option (List ℕ)) → Stays m
+pub served_stopped : (stands : List ℕ → Type 0) (m : Meaning) (limit : ℕ) (old new : Ends) (buffers : BuffersState) (held : Option (List ℕ)) → IsLawful m
     → (pumped : HasPumped stands m limit old new buffers FaultFound) → Appends old.held held (m.text pumped.seen ++ m.ending pumped.seen)
     → HasStopped stands m limit old (written new held) buffers.recent
-served_stopped stands m limit old new buffers held stays pumped put =
+served_stopped stands m limit old new buffers held lawful pumped put =
     let more = take (limit - length pumped.seen) pumped.extra in
     let front = first_bytes limit pumped.seen pumped.extra pumped.within in
-    let same_text : m.text (take limit (pumped.seen ++ pumped.extra)) ≡ m.text pumped.seen = ap m.text front ∙ stays.text pumped.seen more pumped.outcome.certain.broken in
-    let same_ending : m.ending (take limit (pumped.seen ++ pumped.extra)) ≡ m.ending pumped.seen = ap m.ending front ∙ stays.ending pumped.seen more pumped.outcome.certain.broken in
+    let same_text : m.text (take limit (pumped.seen ++ pumped.extra)) ≡ m.text pumped.seen = ap m.text front ∙ lawful.text_stays pumped.seen more pumped.outcome.0.fault.broken in
+    let same_ending : m.ending (take limit (pumped.seen ++ pumped.extra)) ≡ m.ending pumped.seen = ap m.ending front ∙ lawful.ending_stays pumped.seen more pumped.outcome.0.fault.broken in
     let served : HasServed m limit old (written new held) buffers.recent FaultFound = record {
       bytes = pumped.seen ++ pumped.extra;
       out = m.text pumped.seen ++ m.ending pumped.seen;
       lost = pumped.lost;
       gained = put;
       at_most = omega (arith, pumped.at_most, length-append pumped.seen pumped.extra);
-      outcome = (record { seen = pumped.seen; rest = more; parts = front; certain = pumped.outcome.certain; broken = subst m.faulty (sym front) (stays.faulty pumped.seen more pumped.outcome.certain.broken) }, cc, pumped.kept);
+      outcome = (record { seen = pumped.seen; rest = more; parts = front; certain = pumped.outcome.0.fault; broken = subst m.faulty (sym front) (lawful.faulty_stays pumped.seen more pumped.outcome.0.fault.broken) }, cc, pumped.outcome.1);
       ended = λ e. cc;
     } in
-    record { served = served; holds = pumped.outcome.read }
+    record { served = served; holds = pumped.outcome.0.read }
 
 -- where a read failed, with what was due
 pub served_read_failed : (stands : List ℕ → Type 0) (m : Meaning) (limit : ℕ) (old new : Ends) (buffers : BuffersState) (held : Option (List ℕ))
@@ -75,7 +69,7 @@ served_read_failed stands m limit old new buffers held pumped put = record {
   lost = subst (Consumes old.left new.left) (ap (λ l. pumped.seen ++ l) pumped.outcome.1 ∙ append-nil pumped.seen) pumped.lost;
   gained = put;
   at_most = omega (arith, pumped.within);
-  outcome = (pumped.outcome.0.sound, pumped.within, refl);
+  outcome = (pumped.outcome.0.fault, pumped.within, refl);
   ended = λ e. cc;
 }
 
@@ -96,7 +90,7 @@ served_over_limit stands m limit old new buffers held pumped put =
       lost = pumped.lost;
       gained = put;
       at_most = omega (arith, pumped.at_most, length-append pumped.seen pumped.extra);
-      outcome = (subst (λ l. m.faulty l → ⊥) (sym front) pumped.outcome.0.sound, omega (arith, count, pumped.outcome.2, length-append pumped.seen pumped.extra), sym (ap (text_at_stop m) front));
+      outcome = (subst (λ l. m.faulty l → ⊥) (sym front) pumped.outcome.0.fault, omega (arith, count, pumped.outcome.2, length-append pumped.seen pumped.extra), sym (ap (text_at_stop m) front));
       ended = λ e. cc;
     }
 
@@ -144,10 +138,10 @@ pub all_read : (faulty : List ℕ → Type 0) (limit : ℕ) (left : Option (List
 all_read faulty limit left seen extra none within ended =
     inr (subst (λ l. length l ≤ limit) (sym (ap (λ l. seen ++ l) none ∙ append-nil seen)) within, ended)
 
-pub all_stopped : (m : Meaning) (limit : ℕ) (left : Option (List ℕ)) (seen extra : List ℕ) → Stays m → m.faulty seen → length seen ≤ limit
+pub all_stopped : (m : Meaning) (limit : ℕ) (left : Option (List ℕ)) (seen extra : List ℕ) → IsLawful m → m.faulty seen → length seen ≤ limit
     → IsAllRead m.faulty limit left (seen ++ extra)
-all_stopped m limit left seen extra stays broken within =
-    inl (subst m.faulty (sym (first_bytes limit seen extra within)) (stays.faulty seen (take (limit - length seen) extra) broken))
+all_stopped m limit left seen extra lawful broken within =
+    inl (subst m.faulty (sym (first_bytes limit seen extra within)) (lawful.faulty_stays seen (take (limit - length seen) extra) broken))
 
 pub all_in_part : (text ending : List ℕ → List ℕ) (limit : ℕ) (seen extra : List ℕ) → extra ≡ [] → length seen ≤ limit
     → GrowsOnly (text seen ++ ending seen) (text (take limit (seen ++ extra)) ++ ending (take limit (seen ++ extra)))
@@ -155,13 +149,13 @@ all_in_part text ending limit seen extra none within =
     let same : take limit (seen ++ extra) ≡ seen = ap (take limit) (ap (λ l. seen ++ l) none ∙ append-nil seen) ∙ take_all limit seen within in
     ([], ap (λ l. text l ++ ending l) same ∙ sym (append-nil (text seen ++ ending seen)))
 
-pub stopped_in_part : (m : Meaning) (limit : ℕ) (seen extra : List ℕ) → Stays m → m.faulty seen → length seen ≤ limit
+pub stopped_in_part : (m : Meaning) (limit : ℕ) (seen extra : List ℕ) → IsLawful m → m.faulty seen → length seen ≤ limit
     → GrowsOnly (m.text seen ++ m.ending seen) (m.text (take limit (seen ++ extra)) ++ m.ending (take limit (seen ++ extra)))
-stopped_in_part m limit seen extra stays broken within =
+stopped_in_part m limit seen extra lawful broken within =
     let more = take (limit - length seen) extra in
     let front = first_bytes limit seen extra within in
-    let same_text : m.text (take limit (seen ++ extra)) ≡ m.text seen = ap m.text front ∙ stays.text seen more broken in
-    let same_ending : m.ending (take limit (seen ++ extra)) ≡ m.ending seen = ap m.ending front ∙ stays.ending seen more broken in
+    let same_text : m.text (take limit (seen ++ extra)) ≡ m.text seen = ap m.text front ∙ lawful.text_stays seen more broken in
+    let same_ending : m.ending (take limit (seen ++ extra)) ≡ m.ending seen = ap m.ending front ∙ lawful.ending_stays seen more broken in
     ([], ap (λ l. l ++ m.ending (take limit (seen ++ extra))) same_text ∙ ap (λ l. m.text seen ++ l) same_ending ∙ sym (append-nil (m.text seen ++ m.ending seen)))
 
 pub over_in_part : (text ending : List ℕ → List ℕ) (limit : ℕ) (seen extra : List ℕ) → length seen ≡ limit

@@ -1,5 +1,5 @@
 -- What a run read and wrote, by its outcome.
-use Rattle.std.specs.Prelude.{◌≡◌, ◌⊎◌, ℕ, ◌+◌, ◌<◌, ◌≤◌, List, ◌++◌, length, take, Bool, true, if◌then◌else◌}
+use Rattle.std.specs.Prelude.{◌≡◌, ◌⊎◌, ℕ, ◌+◌, ◌<◌, ◌≤◌, List, [], ◌++◌, length, take, Bool, true, if◌then◌else◌}
 use Rattle.std.specs.declared.option.Option.{Option}
 use Rattle.std.specs.Io.KnownBytes.{Appends, Consumes, IsAtEnd}
 use Rattle.trace_stream.specs.Written.{GrowsOnly, IsCertainAt}
@@ -15,6 +15,16 @@ pub record Meaning : Type 1 where
   pub text : List ℕ → List ℕ
   pub ending : List ℕ → List ℕ
   pub due : Bool
+
+-- What a run asks of a meaning: no bytes have no fault and no text, bytes after a fault don't mend it and add neither to
+-- the text nor to what comes after it, and further bytes take nothing of the text back.
+pub record IsLawful (m : Meaning) : Type 0 where
+  pub never_at_first : m.faulty [] → ⊥
+  pub nothing_at_first : m.text [] ≡ []
+  pub faulty_stays : (xs ys : List ℕ) → m.faulty xs → m.faulty (xs ++ ys)
+  pub text_stays : (xs ys : List ℕ) → m.faulty xs → m.text (xs ++ ys) ≡ m.text xs
+  pub ending_stays : (xs ys : List ℕ) → m.faulty xs → m.ending (xs ++ ys) ≡ m.ending xs
+  pub text_grows : (xs ys : List ℕ) → GrowsOnly (m.text xs) (m.text (xs ++ ys))
 
 -- what is written for these bytes where more may come that is not read
 abbrev pub text_at_stop : Meaning → List ℕ → List ℕ

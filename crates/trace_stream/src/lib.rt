@@ -15,7 +15,7 @@ mod pumping;
 mod recent;
 mod serving;
 
-pub use action::{ACTION_ROOM, Action, Flow, Taken};
+pub use action::{ACTION_ROOM, Action, Progress};
 pub use buffers::Buffers;
 pub use limits::GREATEST_CAPTURE;
 pub use outcome::Outcome;

@@ -3,15 +3,15 @@
 ghost use Rattle.std.specs.Prelude.{◌≡◌, ℕ, ◌+◌, ◌<◌, ◌≤◌, List, [], length};
 ghost use Rattle.std.specs.Io.{ReadsAtMost};
 ghost use Rattle.std.specs.Io.KnownBytes.{ReadConsumes};
-ghost use Rattle.trace_io.specs.Causes.{HasCause, CountsEmpty, Rose};
+ghost use Rattle.trace_io.specs.Causes.{HasCause, CountsEmpty};
 ghost use Rattle.trace_stream.specs.Fresh.{IsFresh};
 ghost use Rattle.trace_stream.specs.BuffersState.{BuffersState};
-ghost use Rattle.trace_stream.specs.Pumped.{HasPumped};
-ghost use Rattle.trace_stream.specs.Served.{Meaning, Ends};
+ghost use Rattle.trace_stream.specs.Pumped.{HasPumped, HasCauses, counts};
+ghost use Rattle.trace_stream.specs.Served.{Ends};
 ghost use Rattle.trace_stream.specs.declared.limits.TheConstants.{GREATEST_CAPTURE};
 
 use crate::action::Action;
-use crate::feeding::{FeedEnd, feed_and_write};
+use crate::feeding::feed_piece;
 use crate::outcome::Outcome;
 use crate::outlet::Outlet;
 use crate::recent::Recent;
@@ -46,17 +46,13 @@ pub fn pump<A: Action, I: Source, O: Sink>(
     requires some { 0 < length buffer.old }
     requires small { limit ≤ GREATEST_CAPTURE }
     ensures same { A.plan action.new ≡ A.plan action.old }
-    ensures pumped { let p = A.plan action.old in
-        let meaning : Meaning = record { faulty = A.faulty p; text = A.text p; ending = A.ending p; due = A.due p } in
-        let before : Ends = record { left = I.left input.old; held = O.held output.old } in
+    ensures pumped { let before : Ends = record { left = I.left input.old; held = O.held output.old } in
         let after : Ends = record { left = I.left input.new; held = O.held output.new } in
         let buffers : BuffersState = record { pending = outlet.new; recent = recent.new } in
-        HasPumped (A.stands action.new) meaning limit before after buffers result }
-    ensures one_empty_read { I.empty_reads input.new ≤ I.empty_reads input.old + 1 }
-    ensures read_later { I.faults input.old ≤ I.faults input.new }
-    ensures write_later { O.faults output.old ≤ O.faults output.new }
-    ensures read_cause { result ≡ Outcome.ReadFailed → Rose (I.faults input.old) (I.faults input.new) }
-    ensures write_cause { result ≡ Outcome.WriteFailed → Rose (O.faults output.old) (O.faults output.new) }
+        HasPumped (A.stands action.new) (A.meaning (A.plan action.old)) limit before after buffers result }
+    ensures causes { let before = counts (I.empty_reads input.old) (I.faults input.old) (O.faults output.old) in
+        let after = counts (I.empty_reads input.new) (I.faults input.new) (O.faults output.new) in
+        HasCauses before after result }
 {
     let mut count = 0;
     loop {
@@ -71,12 +67,13 @@ pub fn pump<A: Action, I: Source, O: Sink>(
             return Outcome::AtEnd;
         }
         let taken = got.min(room as usize);
-        let fed = feed_and_write(action, outlet, output, &buffer[..taken]);
+        let fed = match feed_piece(action, outlet, output, &buffer[..taken]) {
+            Ok(fed) => fed,
+            Err(_) => return Outcome::WriteFailed,
+        };
         recent.keep(&buffer[..fed.bytes]);
-        match fed.end {
-            FeedEnd::All => {}
-            FeedEnd::FaultFound => return Outcome::FaultFound,
-            FeedEnd::WriteFailed => return Outcome::WriteFailed,
+        if fed.is_faulty {
+            return Outcome::FaultFound;
         }
         if taken < got {
             return Outcome::OverLimit;

@@ -4,9 +4,10 @@ ghost use Rattle.std.specs.Prelude.{◌≡◌, ◌≢◌, ℕ, ◌+◌, ◌<◌,
 ghost use Rattle.std.specs.declared.option.Option.{Option};
 ghost use Rattle.std.specs.Io.KnownBytes.{Appends};
 ghost use Rattle.trace_io.specs.Bytes.{TakesFront, AppendsPrefix};
-ghost use Rattle.trace_io.specs.Causes.{HasCause, Rose};
+ghost use Rattle.trace_io.specs.Causes.{HasCause};
 ghost use Rattle.trace_stream.specs.Fresh.{IsFresh};
-ghost use Rattle.trace_stream.specs.Served.{Meaning, Ends, HasServed, HasStopped, HasEnded, text_at_stop};
+ghost use Rattle.trace_stream.specs.Pumped.{HasCauses, counts};
+ghost use Rattle.trace_stream.specs.Served.{Ends, HasServed, HasStopped, HasEnded, text_at_stop};
 ghost use Rattle.trace_stream.specs.declared.limits.TheConstants.{GREATEST_CAPTURE};
 
 use crate::action::Action;
@@ -20,13 +21,13 @@ use trace_io::{Failed, Sink, Source};
 fn finish<A: Action, O: Sink>(action: &A, outlet: &mut Outlet, output: &mut O) -> Result<(), Failed>
     ensures ok { (start : Option (List ℕ)) (seen : List ℕ) (p : A.Plan) →
         A.plan action.now ≡ p → A.stands action.now seen →
-        TakesFront start (O.held output.old) (A.text p seen) outlet.old →
-        OnOk result (Appends start (O.held output.new) (A.text p seen ++ A.ending p seen)) }
+        TakesFront start (O.held output.old) ((A.meaning p).text seen) outlet.old →
+        OnOk result (Appends start (O.held output.new) ((A.meaning p).text seen ++ (A.meaning p).ending seen)) }
     ensures emptied { OnOk result (outlet.new ≡ []) }
     ensures err { (start : Option (List ℕ)) (seen : List ℕ) (p : A.Plan) →
         A.plan action.now ≡ p → A.stands action.now seen →
-        TakesFront start (O.held output.old) (A.text p seen) outlet.old →
-        OnErr result (AppendsPrefix start (O.held output.new) (A.text p seen ++ A.ending p seen)) }
+        TakesFront start (O.held output.old) ((A.meaning p).text seen) outlet.old →
+        OnErr result (AppendsPrefix start (O.held output.new) ((A.meaning p).text seen ++ (A.meaning p).ending seen)) }
     ensures cause { HasCause (O.faults output.old) (O.faults output.new) result }
 {
     outlet.flush(output)?;
@@ -44,14 +45,14 @@ fn finish_if_due<A: Action, O: Sink>(
     requires emptied { outlet.old ≡ [] }
     ensures ok { (start : Option (List ℕ)) (seen : List ℕ) (p : A.Plan) →
         A.plan action.now ≡ p → A.stands action.now seen →
-        TakesFront start (O.held output.old) (A.text p seen) outlet.old →
-        let meaning : Meaning = record { faulty = A.faulty p; text = A.text p; ending = A.ending p; due = A.due p } in
-        OnOk result (Appends start (O.held output.new) (text_at_stop meaning seen)) }
+        TakesFront start (O.held output.old) ((A.meaning p).text seen) outlet.old →
+        OnOk result (Appends start (O.held output.new) (text_at_stop (A.meaning p) seen)) }
     ensures emptied { OnOk result (outlet.new ≡ []) }
     ensures err { (start : Option (List ℕ)) (seen : List ℕ) (p : A.Plan) →
         A.plan action.now ≡ p → A.stands action.now seen →
-        TakesFront start (O.held output.old) (A.text p seen) outlet.old →
-        OnErr result ((A.due p ≡ true) × AppendsPrefix start (O.held output.new) (A.text p seen ++ A.ending p seen)) }
+        TakesFront start (O.held output.old) ((A.meaning p).text seen) outlet.old →
+        OnErr result (((A.meaning p).due ≡ true)
+        × AppendsPrefix start (O.held output.new) ((A.meaning p).text seen ++ (A.meaning p).ending seen)) }
     ensures cause { HasCause (O.faults output.old) (O.faults output.new) result }
 {
     if action.is_due() {
@@ -76,28 +77,22 @@ pub fn serve<A: Action, I: Source, O: Sink>(
 ) -> Outcome
     requires fresh { IsFresh (A.live action.old) (A.stands action.old) (A.taken action.old) buffers.old }
     requires small { limit ≤ GREATEST_CAPTURE }
-    ensures served { let p = A.plan action.old in
-        let meaning : Meaning = record { faulty = A.faulty p; text = A.text p; ending = A.ending p; due = A.due p } in
-        let before : Ends = record { left = I.left input.old; held = O.held output.old } in
+    ensures served { let before : Ends = record { left = I.left input.old; held = O.held output.old } in
         let after : Ends = record { left = I.left input.new; held = O.held output.new } in
-        HasServed meaning limit before after buffers.new.recent result }
+        HasServed (A.meaning (A.plan action.old)) limit before after buffers.new.recent result }
     ensures same { A.plan action.new ≡ A.plan action.old }
-    ensures stopped { result ≡ Outcome.FaultFound → let p = A.plan action.old in
-        let meaning : Meaning = record { faulty = A.faulty p; text = A.text p; ending = A.ending p; due = A.due p } in
+    ensures stopped { result ≡ Outcome.FaultFound →
         let before : Ends = record { left = I.left input.old; held = O.held output.old } in
         let after : Ends = record { left = I.left input.new; held = O.held output.new } in
-        HasStopped (A.stands action.new) meaning limit before after buffers.new.recent }
-    ensures ended { result ≡ Outcome.AtEnd → let p = A.plan action.old in
-        let meaning : Meaning = record { faulty = A.faulty p; text = A.text p; ending = A.ending p; due = A.due p } in
+        HasStopped (A.stands action.new) (A.meaning (A.plan action.old)) limit before after buffers.new.recent }
+    ensures ended { result ≡ Outcome.AtEnd →
         let before : Ends = record { left = I.left input.old; held = O.held output.old } in
         let after : Ends = record { left = I.left input.new; held = O.held output.new } in
-        HasEnded (A.stands action.new) meaning limit before after buffers.new.recent }
+        HasEnded (A.stands action.new) (A.meaning (A.plan action.old)) limit before after buffers.new.recent }
     ensures written { result ≢ Outcome.WriteFailed → buffers.new.pending ≡ [] }
-    ensures one_empty_read { I.empty_reads input.new ≤ I.empty_reads input.old + 1 }
-    ensures read_later { I.faults input.old ≤ I.faults input.new }
-    ensures write_later { O.faults output.old ≤ O.faults output.new }
-    ensures read_cause { result ≡ Outcome.ReadFailed → Rose (I.faults input.old) (I.faults input.new) }
-    ensures write_cause { result ≡ Outcome.WriteFailed → Rose (O.faults output.old) (O.faults output.new) }
+    ensures causes { let before = counts (I.empty_reads input.old) (I.faults input.old) (O.faults output.old) in
+        let after = counts (I.empty_reads input.new) (I.faults input.new) (O.faults output.new) in
+        HasCauses before after result }
 {
     let Buffers {
         input: buffer,

@@ -1,7 +1,6 @@
-use Rattle.std.proofs.Common.{◌≡◌, ◌+◌, ◌≤◌, List, ℕ, length}
+use Rattle.std.proofs.Common.{◌≡◌, ◌+◌, ◌≤◌, List, ℕ, length, false}
 use Rattle.std.specs.declared.option.Option.{Option}
 use Rattle.trace_stream.specs.Fed.{Writing, StandsAfter}
-use Rattle.trace_stream.specs.Served.{Meaning}
 use Rattle.trace_stream.proofs.Pieces.{IsFeeding}
 use Rattle.trace_stream.proofs.feeding.feed_piece.Given as goal
 
@@ -12,11 +11,10 @@ invariant-loop-rest g l = record {
   count : g.A.Action.taken l.action + length l.rest ≡ g.A.Action.taken l.initial.action + length l.piece;
   within : length l.rest ≤ length l.piece;
   feeding : (start : Option (List ℕ)) (seen : List ℕ) (p : _) → g.A.Action.plan l.initial.action ≡ p →
-      let meaning : Meaning = record { faulty = g.A.Action.faulty p; text = g.A.Action.text p; ending = g.A.Action.ending p; due = g.A.Action.due p } in
       let before : Writing = record { start = start; held = g.O.Sink.held l.initial.output; pending = l.initial.outlet } in
       let now : Writing = record { start = start; held = g.O.Sink.held l.output; pending = l.outlet } in
-      StandsAfter (g.A.Action.stands l.initial.action) meaning before seen →
-      IsFeeding (g.A.Action.stands l.action) meaning now seen l.piece l.rest;
+      StandsAfter (g.A.Action.stands l.initial.action) (g.A.Action.meaning p) before false seen →
+      IsFeeding (g.A.Action.stands l.action) (g.A.Action.meaning p) now seen l.piece l.rest;
   later : g.O.Sink.faults l.initial.output ≤ g.O.Sink.faults l.output;
 }
 

@@ -1,7 +1,7 @@
 use Rattle.std.proofs.Common.{◌≡◌, ◌+◌, ◌-◌, ◌≤◌, []}
 use Rattle.trace_stream.proofs.Inputs.{IsPumping}
 use Rattle.trace_stream.specs.BuffersState.{BuffersState}
-use Rattle.trace_stream.specs.Served.{Meaning, Ends}
+use Rattle.trace_stream.specs.Served.{Ends}
 use Rattle.trace_stream.proofs.pumping.pump.Given as goal
 
 abbrev pub invariant-loop-got : goal.invariant-loop-got
@@ -10,12 +10,10 @@ invariant-loop-got g l = record {
   live : g.A.Action.live l.action;
   taken : g.A.Action.taken l.action ≡ l.count;
   empty : l.outlet ≡ [];
-  pumping : let p = g.A.Action.plan l.initial.action in
-      let meaning : Meaning = record { faulty = g.A.Action.faulty p; text = g.A.Action.text p; ending = g.A.Action.ending p; due = g.A.Action.due p } in
-      let before : Ends = record { left = g.I.Source.left l.initial.input; held = g.O.Sink.held l.initial.output } in
+  pumping : let before : Ends = record { left = g.I.Source.left l.initial.input; held = g.O.Sink.held l.initial.output } in
       let now : Ends = record { left = g.I.Source.left l.input; held = g.O.Sink.held l.output } in
       let buffers : BuffersState = record { pending = l.outlet; recent = l.recent } in
-      IsPumping (g.A.Action.stands l.action) meaning before now buffers l.count;
+      IsPumping (g.A.Action.stands l.action) (g.A.Action.meaning (g.A.Action.plan l.initial.action)) before now buffers l.count;
   within : l.count ≤ l.limit;
   no_empty_read : g.I.Source.empty_reads l.input ≡ g.I.Source.empty_reads l.initial.input;
   read_later : g.I.Source.faults l.initial.input ≤ g.I.Source.faults l.input;

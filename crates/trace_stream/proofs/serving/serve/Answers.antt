@@ -1,14 +1,13 @@
 use Rattle.std.proofs.Common.{sym, ◌∙◌, inl, inr}
-use Rattle.trace_stream.proofs.Parts.{Stays, served_at_end, served_stopped, served_read_failed, served_over_limit, served_in_part, served_to_end, text_in_part, all_in_part, over_in_part, all_read, all_stopped, stopped_in_part}
-use Rattle.trace_stream.specs.Served.{Meaning}
+use Rattle.trace_stream.proofs.Parts.{served_at_end, served_stopped, served_read_failed, served_over_limit, served_in_part, served_to_end, text_in_part, all_in_part, over_in_part, all_read, all_stopped, stopped_in_part}
 use Rattle.trace_stream.proofs.serving.serve.Goals as goal
 use Rattle.trace_stream.proofs.serving.serve.Goals.{in-AtEnd+in-Ok, in-AtEnd+in-Err, in-FaultFound+in-Ok-finish, in-FaultFound+in-Err-finish, in-ReadFailed+in-Ok-finish_if_due, in-ReadFailed+in-Err-finish_if_due, in-WriteFailed, in-OverLimit+in-Ok-finish_if_due-2, in-OverLimit+in-Err-finish_if_due-2}
 
 pub returns-clause-served : goal.returns-clause-served
 returns-clause-served g c =
     let plan = g.A.Action.plan c.args.action.now in
-    let m : Meaning = record { faulty = g.A.Action.faulty plan; text = g.A.Action.text plan; ending = g.A.Action.ending plan; due = g.A.Action.due plan } in
-    let stays : Stays m = record { faulty = g.met.A.Action.faulty_stays plan; text = g.met.A.Action.text_stays plan; ending = g.met.A.Action.ending_stays plan } in
+    let m = g.A.Action.meaning plan in
+    let lawful = g.met.A.Action.lawful plan in
     let limit = c.args.limit in
     elim c.match-pump.branch [
       | in-AtEnd+in-Ok w ↦
@@ -22,13 +21,13 @@ returns-clause-served g c =
       | in-FaultFound+in-Ok-finish w ↦
           let p = w.in-FaultFound.ensures.pumped in
           rw (w.result-is, w.output-is, w.buffers-inside-is)
-          (served_stopped _ _ _ _ _ _ _ stays p (w.in-Ok-finish.ensures.ok _ p.seen _ w.in-FaultFound.ensures.same p.outcome.read p.outcome.written)).served
+          (served_stopped _ _ _ _ _ _ _ lawful p (w.in-Ok-finish.ensures.ok _ p.seen _ w.in-FaultFound.ensures.same p.outcome.0.read p.outcome.0.written)).served
       | in-FaultFound+in-Err-finish w ↦
           let p = w.in-FaultFound.ensures.pumped in
           rw (w.result-is, w.output-is, w.buffers-inside-is)
-          (served_to_end _ _ _ _ _ _ _ _ p _ (w.in-Err-finish.ensures.err _ p.seen _ w.in-FaultFound.ensures.same p.outcome.read p.outcome.written)
-          (inl (all_stopped m limit _ p.seen p.extra stays p.outcome.certain.broken p.within))
-          (stopped_in_part m limit p.seen p.extra stays p.outcome.certain.broken p.within))
+          (served_to_end _ _ _ _ _ _ _ _ p _ (w.in-Err-finish.ensures.err _ p.seen _ w.in-FaultFound.ensures.same p.outcome.0.read p.outcome.0.written)
+          (inl (all_stopped m limit _ p.seen p.extra lawful p.outcome.0.fault.broken p.within))
+          (stopped_in_part m limit p.seen p.extra lawful p.outcome.0.fault.broken p.within))
       | in-ReadFailed+in-Ok-finish_if_due w ↦
           let p = w.in-ReadFailed.ensures.pumped in
           rw (w.result-is, w.output-is, w.buffers-inside-is)
@@ -40,7 +39,7 @@ returns-clause-served g c =
           (served_to_end _ _ _ _ _ _ _ _ p _ put.1 (inr put.0) (all_in_part m.text m.ending limit p.seen p.extra p.outcome.1 p.within))
       | in-WriteFailed w ↦
           let p = w.in-WriteFailed.ensures.pumped in
-          rw (w.result-is, w.output-is, w.buffers-inside-is) (served_in_part _ _ _ _ _ _ _ _ p _ p.outcome (text_in_part m.text limit p.seen p.extra (g.met.A.Action.text_grows plan) p.within))
+          rw (w.result-is, w.output-is, w.buffers-inside-is) (served_in_part _ _ _ _ _ _ _ _ p _ p.outcome (text_in_part m.text limit p.seen p.extra lawful.text_grows p.within))
       | in-OverLimit+in-Ok-finish_if_due-2 w ↦
           let p = w.in-OverLimit.ensures.pumped in
           rw (w.result-is, w.output-is, w.buffers-inside-is)
@@ -55,13 +54,13 @@ returns-clause-served g c =
 pub returns-clause-stopped : goal.returns-clause-stopped
 returns-clause-stopped g c = λ e.
     let plan = g.A.Action.plan c.args.action.now in
-    let m : Meaning = record { faulty = g.A.Action.faulty plan; text = g.A.Action.text plan; ending = g.A.Action.ending plan; due = g.A.Action.due plan } in
-    let stays : Stays m = record { faulty = g.met.A.Action.faulty_stays plan; text = g.met.A.Action.text_stays plan; ending = g.met.A.Action.ending_stays plan } in
+    let m = g.A.Action.meaning plan in
+    let lawful = g.met.A.Action.lawful plan in
     elim c.match-pump.branch [
       | in-FaultFound+in-Ok-finish w ↦
           let p = w.in-FaultFound.ensures.pumped in
           rw (w.output-is, w.buffers-inside-is)
-          (served_stopped _ _ _ _ _ _ _ stays p (w.in-Ok-finish.ensures.ok _ p.seen _ w.in-FaultFound.ensures.same p.outcome.read p.outcome.written))
+          (served_stopped _ _ _ _ _ _ _ lawful p (w.in-Ok-finish.ensures.ok _ p.seen _ w.in-FaultFound.ensures.same p.outcome.0.read p.outcome.0.written))
       | in-AtEnd+in-Ok w ↦ let no = sym w.result-is ∙ e in cc
       | in-AtEnd+in-Err w ↦ let no = sym w.result-is ∙ e in cc
       | in-FaultFound+in-Err-finish w ↦ let no = sym w.result-is ∙ e in cc

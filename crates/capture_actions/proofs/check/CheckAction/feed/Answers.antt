@@ -1,6 +1,6 @@
-use Rattle.std.proofs.Common.{◌∙◌, ◌++◌, [], List, refl, sym, ap, subst, append-nil, take, arith}
+use Rattle.std.proofs.Common.{◌∙◌, ◌++◌, [], Bool, List, refl, sym, ap, subst, append-nil, take, arith}
 use Rattle.std.specs.Prelude.{option_map}
-use Rattle.capture_actions.specs.Names.{Placed, placed, placed_from, Engine, ReadsTo, FlowAfter, Flow, stop_of}
+use Rattle.capture_actions.specs.Names.{Placed, placed, placed_from, Engine, ReadsTo, FaultAfter, stop_of}
 use Rattle.source_merge.specs.Engine as engine
 use Rattle.capture_actions.specs.Check.{plan_of}
 use Rattle.capture_actions.specs.Faulty.{IsFaulty}
@@ -25,7 +25,7 @@ returns-then-bytes-gt0-clause-fed c = λ seen s.
       more = [];
       grown = refl;
       gained = sym (append-nil c.args._outlet.now);
-      goes_on = counted_on old.engine new seen bytes at s.engine c.next-at.ensures same live list;
+      fault = counted_on old.engine new seen bytes at s.engine c.next-at.ensures same live list;
     }
 
 pub returns-clause-fed : goal.returns-clause-fed
@@ -46,13 +46,13 @@ returns-clause-fed c = λ seen s.
     record {
       read = record {
         engine = stands_after old.engine new seen bytes at given fed.flow s.engine c.next-at.ensures same list reads;
-        stop = ap (option_map stop_of) c.keep_stop-flow.ensures.kept
+        stop = ap (option_map stop_of) c.keep_stop-is_faulty.ensures.kept
             ∙ stop_after old.engine new seen bytes at given fed.flow s.engine c.next-at.ensures same list reads
             old.stop (sym old.alive ∙ c.requires.live);
       };
       more = [];
       grown = refl;
       gained = sym (append-nil c.args._outlet.now);
-      goes_on = subst (λ (f : Flow). FlowAfter (IsFaulty p) (seen ++ bytes) f) (sym c.keep_stop-flow.ensures.flow)
+      fault = subst (λ (f : Bool). FaultAfter (IsFaulty p) (seen ++ bytes) f) (sym c.keep_stop-is_faulty.ensures.flow)
           (flow_after old.engine new seen bytes at given fed.flow s.engine c.next-at.ensures same list reads);
     }

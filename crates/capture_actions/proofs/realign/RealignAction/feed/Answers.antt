@@ -15,5 +15,5 @@ returns-clause-fed c = λ seen s.
       more = p.more;
       grown = sym same;
       gained = p.added;
-      goes_on = λ f. f;
+      fault = λ f. f;
     }

@@ -20,7 +20,7 @@ returns-clause-fed c =
       same = some.takes.same;
       list = some.takes.list;
       reads = some.reads.2;
-      stop = c.keep_stop-flow.ensures.kept;
+      stop = c.keep_stop-is_faulty.ensures.kept;
     })
     (given_put (engine.plan_of old.engine) old.lister one.new.out some.reads.0 c.args.outlet.now one.new.to some.reads.1)
-    c.keep_stop-flow.result c.keep_stop-flow.ensures.flow
+    c.keep_stop-is_faulty.result c.keep_stop-is_faulty.ensures.flow

@@ -1,5 +1,5 @@
-use Rattle.std.proofs.Common.{◌+◌, ◌<◌, ◌≤◌, length, take}
-use Rattle.capture_actions.specs.Names.{On, ACTION_ROOM, OUTLET_ROOM}
+use Rattle.std.proofs.Common.{◌+◌, ◌<◌, ◌≤◌, length, take, false}
+use Rattle.capture_actions.specs.Names.{ACTION_ROOM, OUTLET_ROOM}
 use Rattle.capture_actions.specs.Feeding.{HasFed}
 use Rattle.capture_actions.proofs.show.ShowAction.feed.Given as goal
 
@@ -8,6 +8,6 @@ abbrev pub invariant-loop-turn : goal.invariant-loop-turn
 invariant-loop-turn l = record {
   within : l.done < length l.piece;
   some : l.turn ≤ l.done;
-  fed : HasFed l.fn.self l.self (take l.done l.piece) On l.fn.outlet l.outlet;
+  fed : HasFed l.fn.self l.self (take l.done l.piece) false l.fn.outlet l.outlet;
   room : length l.outlet + ACTION_ROOM ≤ OUTLET_ROOM;
 }

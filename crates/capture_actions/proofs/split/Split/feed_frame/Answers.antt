@@ -32,5 +32,5 @@ returns-clause-fed c = λ seen w s whole.
           ∙ ap (λ (l : List ℕ). c.args.outlet.now ++ l)
           (c.copy_source_bytes-copied.ensures.bytes (offsets_of (without_halves (placed_from (length seen) w)))
           ∙ ap (λ (i : Option ℕ). bytes_of_id plan.id (whole_cells (length seen) w frame i)) c.id.ensures);
-      goes_on = not_faulty plan.frames next (ap (λ (m : FramesMode). (port_of m next).fault) (sym moded) ∙ grew.fault);
+      fault = not_faulty plan.frames next (ap (λ (m : FramesMode). (port_of m next).fault) (sym moded) ∙ grew.fault);
     }

@@ -15,7 +15,8 @@ returns-then-piece-len-eq10-clause-fed c = λ seen s.
     let bytes : c.take_line-then-piece-len-eq10.result.bytes ≡ n + 1 = c.take_line-then-piece-len-eq10.ensures.bytes ∙ ap (λ (k : ℕ). k + 1) (length-take-le n piece c.plain_len-len.ensures.bound) in
     let front : take n piece ++ 10 ∷ [] ≡ take c.take_line-then-piece-len-eq10.result.bytes piece =
     ap (λ (b : ℕ). take n piece ++ b ∷ []) (sym c.if-piece-len-eq10.true) ∙ sym (take_more piece n 0 c.if-len-piece.true) ∙ ap (λ (k : ℕ). take k piece) (sym bytes) in
-    subst (λ l. Feeds c.args.self.now c.take_line-then-piece-len-eq10.new.self seen l c.args.outlet.now c.take_line-then-piece-len-eq10.new.outlet c.take_line-then-piece-len-eq10.result.flow) front (c.take_line-then-piece-len-eq10.ensures.fed seen s)
+    let line = c.take_line-then-piece-len-eq10 in
+    (subst (λ l. Feeds c.args.self.now line.new.self l c.args.outlet.now line.new.outlet line.result.is_faulty) front line.ensures.fed).fed seen s
 
 pub take_line-requires-clause-plain : goal.take_line-requires-clause-plain
 take_line-requires-clause-plain c =
@@ -29,5 +30,6 @@ take_line-requires-clause-found c =
 pub returns-in-Some-clause-fed : goal.returns-in-Some-clause-fed
 returns-in-Some-clause-fed c = λ seen s.
     let first = there (IsFirstLine c.args.piece.now) c.packet_line-found.result c.in-Some.line c.in-Some.is c.packet_line-found.ensures in
-    subst (λ l. Feeds c.args.self.now c.take_line.new.self seen l c.args.outlet.now c.take_line.new.outlet c.take_line.result.flow)
-    (first_ended c.args.piece.now c.in-Some.line first c.take_line.result.bytes c.take_line.ensures.bytes) (c.take_line.ensures.fed seen s)
+    let line = c.take_line in
+    (subst (λ l. Feeds c.args.self.now line.new.self l c.args.outlet.now line.new.outlet line.result.is_faulty)
+    (first_ended c.args.piece.now c.in-Some.line first line.result.bytes line.ensures.bytes) line.ensures.fed).fed seen s
