@@ -283,7 +283,12 @@ impl Rebuild {
 
     /// Takes a whole line and its line feed, where no line is open. It is read where it lies.
     #[inline(always)]
-    fn take_line(&mut self, text: &[u8], found: &Option<PacketLine>, outlet: &mut Outlet) -> Progress
+    fn take_line(
+        &mut self,
+        text: &[u8],
+        found: &Option<PacketLine>,
+        outlet: &mut Outlet,
+    ) -> Progress
         requires live { IsLive self.old }
         requires closed { open_len self.old ≡ 0 }
         requires few { length text.now ≤ 256 }
