@@ -8,7 +8,7 @@ use Rattle.stp_grammar.specs.declared.packet.Order.TheVariants.{Msn}
 use Rattle.frame_writer.specs.Written.{Tagged, capture, frames_by}
 use Rattle.frame_writer.proofs.Fronts.{sure_grows, sure_begins}
 use Rattle.script_text.specs.declared.lines.Line.{Line}
-use Rattle.script_rebuild.specs.Script.{put_by, put_after, put_of, ends_of, script_bytes}
+use Rattle.script_rebuild.specs.Script.{put_by, put_after, put_of, ends_of, in_order, script_bytes}
 use Rattle.capture_exercise.specs.Exercise.{line_at, exercise_lines, exercise_plan, exercise_capture}
 use Rattle.capture_exercise.specs.Making.{so_far, later}
 
@@ -37,7 +37,7 @@ unfolding exercise_capture
 front items n le =
     let lines = exercise_lines n in
     let more = drop n (exercise_lines items) in
-    let ends = ends_of Msn (exercise_lines items) (2 ∷ []) in
+    let ends = ends_of Msn (exercise_lines items) (in_order (2 ∷ [])) in
     let t = put_of Msn lines in
     let u = put_after Msn lines more ++ ends in
     let same : script_bytes exercise_plan (exercise_lines items) ≡ t ++ u =

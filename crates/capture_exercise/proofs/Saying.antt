@@ -1,12 +1,13 @@
 -- Each line of the exercise says what it may: its numbers are in their ranges, and it is of a source for it.
-use Rattle.std.proofs.Common.{ℕ, zero, suc, ◌+◌, ◌/◌, ◌%◌, ◌<◌, ◌==◌, [], ◌∷◌, refl, arith, rules, Bool, true, false, cond}
-use Rattle.std.specs.Prelude.{Some, slice_index}
+use Rattle.std.proofs.Common.{◌≡◌, ℕ, zero, suc, ◌+◌, ◌/◌, ◌%◌, ◌<◌, ◌==◌, List, [], ◌∷◌, refl, sym, subst, arith, rules, Bool, true, false, cond}
+use Rattle.std.specs.Prelude.{slice_index}
 use Rattle.itm_grammar.specs.declared.packet.Size.TheVariants.{Four}
 use Rattle.itm_grammar.specs.declared.packet.Lateness.TheVariants.{Exact}
 use Rattle.itm_grammar.specs.declared.packet.ItmPacket.TheVariants.{Sync, Software, Local}
 use Rattle.stp_grammar.specs.declared.packet.Width.TheVariants.{Sixteen}
 use Rattle.stp_grammar.specs.declared.item.Stamp.TheVariants.{Natural}
 use Rattle.stp_grammar.specs.declared.item.StpItem.TheVariants.{Async, Version, Datum}
+use Rattle.script_rebuild.specs.Script.{in_order}
 use Rattle.script_rebuild.specs.Writer.{CanBePut}
 use Rattle.trace_vectors.specs.declared.made.Made.{Made}
 use Rattle.trace_vectors.specs.declared.made.Made.TheVariants.{Itm, Stp, Raw, Trigger}
@@ -14,7 +15,7 @@ use Rattle.trace_vectors.specs.Items.{itm_packet, stp_item, byte_item, item_of, 
 use Rattle.capture_exercise.specs.Exercise.{line_of_made, line_at}
 
 abbrev IsSaid : Made → Type 0
-IsSaid made = IsProperMade made → CanBePut (Some 2) (line_of_made made)
+IsSaid made = IsProperMade made → CanBePut (2 ∷ []) (line_of_made made)
 
 itm_said : (s t : Bool) (m : ℕ) → IsSaid (Itm (cond s Sync (cond t (Software (m % 32) Four m) (Local Exact (m % 1000 + 1)))))
 itm_said true t m p = (omega arith, omega arith, (p, tt), tt)
@@ -39,6 +40,13 @@ kind_said true b m = itm_said (m % 16 == 0) (m % 2 == 1) m
 kind_said false true m = stp_said (m % 16 == 0) (m % 16 == 1) m
 kind_said false false m = byte_said (m % 16 == 15) (m % 256)
 
-pub line_said : (k : ℕ) → IsProperMade (item_of k) → CanBePut (Some 2) (line_at k)
+alone_in_order : in_order (2 ∷ []) ≡ 2 ∷ []
+unfolding in_order
+alone_in_order = refl
+
+of_kind : (k : ℕ) → IsProperMade (item_of k) → CanBePut (2 ∷ []) (line_at k)
 unfolding item_of
-line_said k = kind_said (k % 3 == 0) (k % 3 == 1) (k / 3)
+of_kind k = kind_said (k % 3 == 0) (k % 3 == 1) (k / 3)
+
+pub line_said : (k : ℕ) → IsProperMade (item_of k) → CanBePut (in_order (2 ∷ [])) (line_at k)
+line_said k p = subst (λ (ids : List ℕ). CanBePut ids (line_at k)) (sym alone_in_order) (of_kind k p)

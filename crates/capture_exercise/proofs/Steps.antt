@@ -1,13 +1,13 @@
 -- One piece of the capture.
 use Rattle.std.proofs.Common.{◌≡◌, ℕ, ◌+◌, ◌-◌, ◌<◌, List, [], ◌∷◌, ◌++◌, sym, ◌∙◌, ap, subst, append-nil, arith, Bool, true, false, cond}
-use Rattle.std.specs.Prelude.{Option, Some, Result, Ok, Err, OnOk, IfErr, option_to_list}
+use Rattle.std.specs.Prelude.{Result, Ok, Err, OnOk, IfErr}
 use Rattle.stp_grammar.specs.declared.packet.Order.{Order}
 use Rattle.stp_grammar.specs.declared.packet.Order.TheVariants.{Msn}
 use Rattle.frame_writer.specs.Written.{capture}
 use Rattle.frame_writer.specs.Fronts.{sure}
 use Rattle.script_text.specs.declared.lines.Line.{Line}
 use Rattle.script_text.specs.declared.line_fault.LineFault.{LineFault}
-use Rattle.script_rebuild.specs.Script.{put_of, ends_of}
+use Rattle.script_rebuild.specs.Script.{put_of, ends_of, in_order}
 use Rattle.script_rebuild.specs.Writer.{Stands}
 use Rattle.script_rebuild.specs.declared.writer.LineWriter.{LineWriter}
 use Rattle.capture_exercise.specs.Exercise.{line_at, exercise_lines, exercise_capture}
@@ -37,15 +37,15 @@ line_bytes items n order line out lt o e grown =
     later_more items n out (omega arith) (ap (λ (l : List Line). sure 64 0 (put_of Msn l)) lines ∙ by)
 
 -- and the rest
-pub rest_bytes : (items n : ℕ) (order : Order) (stp : Option ℕ) (out : List ℕ) → n ≡ items → order ≡ Msn → stp ≡ Some 2 →
-    capture 64 0 (put_of order (exercise_lines n) ++ ends_of order (exercise_lines n) (option_to_list stp)) ≡
+pub rest_bytes : (items n : ℕ) (order : Order) (stp out : List ℕ) → n ≡ items → order ≡ Msn → stp ≡ in_order (2 ∷ []) →
+    capture 64 0 (put_of order (exercise_lines n) ++ ends_of order (exercise_lines n) stp) ≡
     sure 64 0 (put_of order (exercise_lines n)) ++ out →
     later items n ≡ out
 unfolding exercise_capture
 rest_bytes items n order stp out e o s whole =
     let lines = exercise_lines n in
-    let first = subst (λ (x : Order). capture 64 0 (put_of x lines ++ ends_of x lines (option_to_list stp)) ≡ sure 64 0 (put_of x lines) ++ out) o whole in
-    let second = subst (λ (x : Option ℕ). capture 64 0 (put_of Msn lines ++ ends_of Msn lines (option_to_list x)) ≡ so_far n ++ out) s first in
+    let first = subst (λ (x : Order). capture 64 0 (put_of x lines ++ ends_of x lines stp) ≡ sure 64 0 (put_of x lines) ++ out) o whole in
+    let second = subst (λ (x : List ℕ). capture 64 0 (put_of Msn lines ++ ends_of Msn lines x) ≡ so_far n ++ out) s first in
     let third = subst (λ (m : ℕ). exercise_capture m ≡ so_far m ++ out) e second in
     ap (later items) e ∙ later_last items out third
 

@@ -1,12 +1,14 @@
 //! The items as lines of a script.
 
-ghost use Rattle.std.specs.Prelude.{◌≡◌, ◌≤◌, Some};
+ghost use Rattle.std.specs.Prelude.{◌≡◌, ◌≤◌, ◌∷◌, []};
 ghost use Rattle.script_text.specs.declared.lines.Line.TheVariants.{Of};
+ghost use Rattle.script_rebuild.specs.Script.{in_order};
 ghost use Rattle.script_rebuild.specs.Writer.{CanBePut};
 ghost use Rattle.trace_vectors.specs.Items.{IsProperMade};
 ghost use Rattle.capture_exercise.specs.Exercise.{line_of_made, line_at};
 
 use script_text::{Item, Line, RawBytes};
+use source_events::SourceIds;
 use trace_values::SourceId;
 use trace_vectors::{Made, item_at};
 
@@ -34,10 +36,21 @@ fn line_of(made: Made) -> Line
     }
 }
 
+/// The sources of system traces: 2 alone.
+pub(crate) fn stp_sources() -> SourceIds
+    ensures { result ≡ 2 ∷ [] }
+{
+    let mut ids = SourceIds::new();
+    if let Some(id) = SourceId::new(2) {
+        ids.push(id);
+    }
+    ids
+}
+
 /// The line of the item of this number.
 pub(crate) fn line_at(k: u32) -> Line
     ensures value { result ≡ line_at k }
-    ensures said { CanBePut (Some 2) result }
+    ensures said { CanBePut (in_order (2 ∷ [])) result }
 {
     line_of(item_at(k))
 }

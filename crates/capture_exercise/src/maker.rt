@@ -1,16 +1,16 @@
 //! The capture, piece by piece.
 
-ghost use Rattle.std.specs.Prelude.{◌≡◌, ◌↔◌, ◌≤◌, ◌<◌, ◌+◌, ◌*◌, ◌++◌, [], Some, IsTrue};
+ghost use Rattle.std.specs.Prelude.{◌≡◌, ◌↔◌, ◌≤◌, ◌<◌, ◌+◌, ◌*◌, ◌++◌, ◌∷◌, [], IsTrue};
 ghost use Rattle.stp_grammar.specs.declared.packet.Order.TheVariants.{Msn};
+ghost use Rattle.script_rebuild.specs.Script.{in_order};
 ghost use Rattle.script_rebuild.specs.Writer.{Stands, stp_of, order_of, count_of};
 ghost use Rattle.script_text.specs.declared.raw_bytes.TheConstants.{RAW_BYTES};
 ghost use Rattle.capture_exercise.specs.declared.maker.TheConstants.{MOST_ITEMS};
 ghost use Rattle.capture_exercise.specs.Exercise.{exercise_lines, exercise_capture};
 
-use crate::lines::line_at;
+use crate::lines::{line_at, stp_sources};
 use script_rebuild::{LineBytes, LineWriter};
 use stp_grammar::packet::Order;
-use trace_values::SourceId;
 
 /// The most items of an exercise.
 pub const MOST_ITEMS: u32 = 1_000_000;
@@ -30,7 +30,7 @@ pub(crate) struct CaptureMaker {
     ghost few: { items ≤ MOST_ITEMS },
     ghost within: { next ≤ items },
     ghost stands: { ∥ Stands writer 64 0 (exercise_lines next) ∥₁ },
-    ghost stp: { stp_of writer ≡ Some 2 },
+    ghost stp: { stp_of writer ≡ in_order (2 ∷ []) },
     ghost order: { order_of writer ≡ Msn },
     ghost count: { count_of writer ≤ RAW_BYTES * next },
 }
@@ -48,7 +48,7 @@ impl CaptureMaker {
         CaptureMaker {
             items,
             next: 0,
-            writer: LineWriter::new(SourceId::new(2), Order::Msn, 64, 0),
+            writer: LineWriter::new(&stp_sources(), Order::Msn, 64, 0),
             is_whole: false,
         }
     }

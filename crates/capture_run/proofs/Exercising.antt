@@ -1,5 +1,5 @@
 -- The capture of the exercise reads as its lines give it, and what is left of it has no fault.
-use Rattle.std.proofs.Common.{◌≡◌, ℕ, zero, suc, ◌+◌, ◌/◌, ◌%◌, ◌^◌, ◌<◌, ◌≤◌, ◌==◌, List, [], take, drop, refl, sym}
+use Rattle.std.proofs.Common.{◌≡◌, ℕ, zero, suc, ◌+◌, ◌/◌, ◌%◌, ◌^◌, ◌<◌, ◌≤◌, ◌==◌, List, [], ◌∷◌, take, drop, refl, sym}
 use Rattle.std.proofs.Common.{◌∙◌, ap, subst, arith, Bool, true, false, cond, None, Some}
 use Rattle.std.proofs.lemmas.List.{take-append-drop}
 use Rattle.capture_actions.specs.Summary.{counts_text, summary, summary_by}
@@ -13,6 +13,7 @@ use Rattle.itm_grammar.specs.Proper.{IsProper}
 use Rattle.itm_grammar.specs.declared.packet.Size.TheVariants.{Four}
 use Rattle.itm_grammar.specs.declared.packet.Lateness.TheVariants.{Exact}
 use Rattle.itm_grammar.specs.declared.packet.ItmPacket.TheVariants.{Sync, Software, Local}
+use Rattle.script_rebuild.specs.Script.{in_order}
 use Rattle.script_rebuild.specs.Writer.{CanBePut as IsPuttable}
 use Rattle.deformatter.specs.PortReading.{port_reading}
 use Rattle.script_laws.specs.Puts.{SuitsPlan, CanAllBePut}
@@ -61,7 +62,7 @@ unfolding item_of
 item_proper k h = kind_proper (k % 3 == 0) (k % 3 == 1) (k / 3) (omega arith)
 
 -- each line is of its source
-made_suits : (made : Made) → IsPuttable (Some 2) (line_of_made made) → SuitsPlan exercise_plan (line_of_made made)
+made_suits : (made : Made) → IsPuttable (in_order (2 ∷ [])) (line_of_made made) → SuitsPlan exercise_plan (line_of_made made)
 made_suits (Itm packet) h = (h.0, h.1, h.2, tt)
 made_suits (Stp item) h = (h.0, h.1, h.2, tt)
 made_suits (Raw byte) h = (h.0, h.1, h.2, tt)

@@ -1,7 +1,6 @@
 -- The rows, computed.
 use Rattle.std.proofs.Common.{◌≡◌, List, [], ◌∷◌, Result, Ok, Err, map}
 use Rattle.clap.specs.Words.{Text}
-use Rattle.capture_words.specs.Calls.{AsksFor, Misuses}
 use Rattle.capture_words.specs.Command.{refusals, rows_of_words}
 use Rattle.capture_words.specs.Jobs.{job_of}
 use Rattle.capture_words.specs.Rows.{words_of, HasAnswer, AllAnswered}

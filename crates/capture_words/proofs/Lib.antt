@@ -4,3 +4,4 @@ mod Answering
 pub mod Chosen
 mod Lines
 mod Windows
+pub mod IdLists

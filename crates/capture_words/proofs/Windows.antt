@@ -38,7 +38,7 @@ lacks_more x xs ne h (suc i) lt = h i (grind (arith, common_steps))
 lacks_nothing : Lacks 44 []
 lacks_nothing i lt = absurd (omega (arith, lt))
 
-lacks_number : (n : ℕ) → n < 2 ^ 64 → Lacks 44 (decimal n)
+pub lacks_number : (n : ℕ) → n < 2 ^ 64 → Lacks 44 (decimal n)
 lacks_number n small i lt = let d = digit_at (decimal n) i (decimal_digits n small) lt in grind arith
 
 kind_lacks : (kind : Kind) → Lacks 44 (kind_text kind)

@@ -1,5 +1,6 @@
--- The text of each choice of events.
-use Rattle.std.specs.Prelude.{◌≤◌, codes, decimal, ◌++◌, ◌∷◌}
+-- The texts of choices of events, of windows, and of lists of IDs.
+use Rattle.std.specs.Prelude.{◌≤◌, ℕ, List, codes, decimal, ◌++◌, ◌∷◌, length, map}
+use Rattle.std.specs.List.{All, join_with_byte}
 use Rattle.clap.specs.Words.{Text}
 use Rattle.item_tap.specs.declared.bounds.Bounds.{Bounds}
 use Rattle.item_tap.specs.declared.choice.Choice.{Choice}
@@ -31,3 +32,11 @@ window_text window = choice_text window.first ++ 44 ∷ choice_text window.last
 
 abbrev pub IsWindow : Bounds → Type 0
 IsWindow window = IsChoice window.first × IsChoice window.last
+
+-- the text of IDs of mapped sources: their numbers with commas, 2C, between
+abbrev pub ids_text : List ℕ → Text
+ids_text ids = join_with_byte 44 (map decimal ids)
+
+-- from one to eight, each from 1 to 111
+abbrev pub AreIds : List ℕ → Type 0
+AreIds ids = All (λ x. (1 ≤ x) × (x ≤ 111)) ids × (1 ≤ length ids) × (length ids ≤ 8)

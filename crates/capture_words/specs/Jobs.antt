@@ -1,6 +1,7 @@
 -- The job of the entries, or the first fault.
-use Rattle.std.specs.Prelude.{◌≡◌, ◌≤◌, ◌<◌, ℕ, ◌^◌, length, List, [], ◌∷◌, Bool, true, Option, Some, None, Result}
+use Rattle.std.specs.Prelude.{◌≡◌, ◌≤◌, ◌<◌, ℕ, ◌^◌, List, [], ◌∷◌, ◌++◌, Bool, true, Option, Some, None, Result}
 use Rattle.std.specs.Prelude.{Ok, Err, ◌==◌, nat_lt, if◌then◌else◌, option_map}
+use Rattle.std.specs.List.{list_any}
 use Rattle.clap.specs.Words.{Row}
 use Rattle.trace_values.specs.declared.reading_modes.FramesMode.{FramesMode}
 use Rattle.source_events.specs.Plan.{is_sound}
@@ -66,32 +67,31 @@ settings_in rows = do
     full = full;
   })
 
--- no ID, or one
-abbrev pub ids_of : Option ℕ → List ℕ
-ids_of None = []
-ids_of (Some x) = x ∷ []
-
 -- how a capture is read
 abbrev pub plan_of : Settings → Plan
 plan_of s = record {
   frames = s.frames;
   packets = s.packets;
-  itm = ids_of s.itm;
-  stp = ids_of s.stp;
+  itm = s.itm;
+  stp = s.stp;
   order = s.order;
 }
 
--- the ID that is mapped twice: to an ITM and to an STP source
-abbrev pub mapped_twice : Option ℕ → Option ℕ → Option ℕ
-mapped_twice (Some x) (Some y) = if x == y then Some x else None
-mapped_twice itm stp = None
+-- the first of these IDs that stands earlier already, among them or before them
+abbrev pub again_after : List ℕ → List ℕ → Option ℕ
+again_after before [] = None
+again_after before (x ∷ xs) = if list_any (λ y. y == x) before then Some x else again_after (before ++ x ∷ []) xs
+
+-- the first ID that is mapped twice, of those of the ITM sources and then those of the STP sources
+abbrev pub mapped_twice : Settings → Option ℕ
+mapped_twice s = again_after [] (s.itm ++ s.stp)
 
 abbrev pub fault_or : {A : Type 0} → Option UsageFault → A → Result A UsageFault
 fault_or (Some fault) value = Err fault
 fault_or None value = Ok value
 
 abbrev pub plan_with : Settings → Result Plan UsageFault
-plan_with s = fault_or (option_map MappedTwice (mapped_twice s.itm s.stp)) (plan_of s)
+plan_with s = fault_or (option_map MappedTwice (mapped_twice s)) (plan_of s)
 
 -- `split` needs an ID, and maps none
 abbrev pub split_with : FramesMode → Option ℕ → Result Task UsageFault
@@ -129,14 +129,14 @@ job_of rows = do
   task ← task_with name settings
   Ok (record { task = task; limit = settings.limit })
 
--- What is sure of a task: its plan is sound. For a script it has at most one STP source, and there are at most eight
--- half synchronisations in a gap. From 1 to 1,000,000 items are made, of which at most 1,000,000 bytes are lost. A
--- trace buffer has from 16 to 2^24 bytes, and its write pointer is one of them.
+-- What is sure of a task: its plan is sound, and for a script there are at most eight half synchronisations in a gap.
+-- From 1 to 1,000,000 items are made, of which at most 1,000,000 bytes are lost. A trace buffer has from 16 to 2^24
+-- bytes, and its write pointer is one of them.
 abbrev pub IsSoundTask : Task → Type 0
 IsSoundTask (Show plan only window) = is_sound plan ≡ true
 IsSoundTask (Split frames id) = Unit {0}
 IsSoundTask (Check plan) = is_sound plan ≡ true
-IsSoundTask (Rebuild plan sync half) = (is_sound plan ≡ true) × (length plan.stp ≤ 1) × (half ≤ 8)
+IsSoundTask (Rebuild plan sync half) = (is_sound plan ≡ true) × (half ≤ 8)
 IsSoundTask (Exercise items lose) = (1 ≤ items) × (items ≤ 1000000) × (lose ≤ 1000000)
 IsSoundTask Realign = Unit {0}
 IsSoundTask (Ring size) = (16 ≤ size) × (size ≤ 2 ^ 24)

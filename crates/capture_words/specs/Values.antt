@@ -1,8 +1,8 @@
 -- What the texts of the action and of the options say.
 use Rattle.std.specs.Prelude.{ℕ, List, codes, Bool, true, false, Option, Some, None, Result, if◌then◌else◌, ◌==◌}
-use Rattle.std.specs.Prelude.{ok_or, option_and_then, option_map}
+use Rattle.std.specs.Prelude.{[], ◌∷◌, ok_or, option_and_then, option_map, map, length, nat_le}
 use Rattle.std.specs.Str.{bytes_eq}
-use Rattle.std.specs.List.{before_first, after_first}
+use Rattle.std.specs.List.{before_first, after_first, slice_split}
 use Rattle.clap.specs.Words.{Text, Row, first_of}
 use Rattle.trace_values.specs.ReadingModes.{frames_named, packets_named}
 use Rattle.trace_values.specs.declared.reading_modes.FramesMode.{FramesMode}
@@ -105,17 +105,30 @@ frames_in = option_in Frames FramesHunt frames_named
 abbrev pub packets_in : List Row → Result PacketsMode UsageFault
 packets_in = option_in Packets PacketsHunt packets_named
 
+-- all values, where there is each
+abbrev pub each : {T : Type 0} → List (Option T) → Option (List T)
+each [] = Some []
+each (x ∷ xs) = option_and_then (λ value. option_map (λ values. value ∷ values) (each xs)) x
+
+abbrev pub at_most_eight : {T : Type 0} → List T → Option (List T)
+at_most_eight xs = if nat_le (length xs) 8 then Some xs else None
+
+-- the IDs of mapped sources that a text names: numbers from 1 to 111 with commas, 2C, between, at most eight
+abbrev pub ids_named : Text → Option (List ℕ)
+ids_named text =
+    option_and_then at_most_eight (each (map (number_named 1 111) (slice_split (λ c. c == 44) text)))
+
 -- an option whose value is a number within these bounds, and none by default
 abbrev pub number_if_given : CommandOption → ℕ → ℕ → List Row → Result (Option ℕ) UsageFault
 number_if_given option least greatest =
     option_in option None (λ text. option_map Some (number_named least greatest text))
 
--- the ID of an ITM source and that of an STP source are 1 to 111
-abbrev pub itm_in : List Row → Result (Option ℕ) UsageFault
-itm_in = number_if_given Itm 1 111
+-- the IDs of the ITM sources and those of the STP sources, none by default
+abbrev pub itm_in : List Row → Result (List ℕ) UsageFault
+itm_in = option_in Itm [] ids_named
 
-abbrev pub stp_in : List Row → Result (Option ℕ) UsageFault
-stp_in = number_if_given Stp 1 111
+abbrev pub stp_in : List Row → Result (List ℕ) UsageFault
+stp_in = option_in Stp [] ids_named
 
 abbrev pub order_in : List Row → Result Order UsageFault
 order_in = option_in StpOrder Msn order_named

@@ -1,19 +1,21 @@
 //! The job of the entries.
 
-ghost use Rattle.std.specs.Prelude.{◌≡◌, ◌≤◌, true, length, IfOk, IfSome};
+ghost use Rattle.std.specs.Prelude.{◌≡◌, ◌≤◌, true, IfOk, IfSome};
+ghost use Rattle.std.specs.List.{All};
 ghost use Rattle.capture_words.specs.declared.values.TheConstants.{GREATEST_LIMIT, GREATEST_HALF, GREATEST_ITEMS};
 ghost use Rattle.capture_words.specs.declared.values.TheConstants.{GREATEST_LOSS, LEAST_SIZE, GREATEST_SIZE};
 ghost use Rattle.clap.specs.Words.{rows_of, found_of};
 ghost use Rattle.source_events.specs.Plan.{is_sound};
-ghost use Rattle.capture_words.specs.Jobs.{ids_of, mapped_twice, plan_with, split_with, ring_with, unring_with};
+ghost use Rattle.capture_words.specs.Jobs.{plan_with, split_with, ring_with, unring_with};
 ghost use Rattle.capture_words.specs.Jobs.{task_with, job_of, IsSoundTask};
 
+use crate::ids::mapped_twice;
 use crate::settings::{Settings, settings_in};
 use crate::usage::UsageFault;
 use crate::values::{ActionName, action_in};
 use clap::ArgMatches;
 use item_tap::{Bounds, Choice};
-use source_events::{Plan, SourceIds};
+use source_events::Plan;
 use trace_values::{FramesMode, SourceId};
 
 /// What is done with a capture.
@@ -80,42 +82,20 @@ pub struct Job {
     pub limit: u64,
 }
 
-/// No ID, or one.
-fn ids_of(id: Option<SourceId>) -> SourceIds
-    ensures { result ≡ ids_of id }
-{
-    let mut ids = SourceIds::new();
-    if let Some(id) = id {
-        ids.push(id);
-    }
-    ids
-}
-
-/// The ID that both options map.
-fn mapped_twice(itm: Option<SourceId>, stp: Option<SourceId>) -> Option<SourceId>
-    ensures { result ≡ mapped_twice itm stp }
-{
-    let (Some(itm), Some(stp)) = (itm, stp) else {
-        return None;
-    };
-    if itm == stp { Some(itm) } else { None }
-}
-
 /// How the capture is read, or that an ID is mapped twice.
-fn plan_with(settings: &Settings) -> Result<Plan, UsageFault>
-    requires itm { IfSome settings.now.itm (λ n. (1 ≤ n) × (n ≤ 111)) }
-    requires stp { IfSome settings.now.stp (λ n. (1 ≤ n) × (n ≤ 111)) }
-    ensures plan { result ≡ plan_with settings.now }
+fn plan_with(settings: Settings) -> Result<Plan, UsageFault>
+    requires itm { All (λ n. (1 ≤ n) × (n ≤ 111)) settings.itm }
+    requires stp { All (λ n. (1 ≤ n) × (n ≤ 111)) settings.stp }
+    ensures plan { result ≡ plan_with settings }
     ensures sound { IfOk result (λ plan. is_sound plan ≡ true) }
-    ensures few { IfOk result (λ plan. length plan.stp ≤ 1) }
 {
-    match mapped_twice(settings.itm, settings.stp) {
+    match mapped_twice(&settings.itm, &settings.stp) {
         Some(id) => Err(UsageFault::MappedTwice(id)),
         None => Ok(Plan {
             frames: settings.frames,
             packets: settings.packets,
-            itm: ids_of(settings.itm),
-            stp: ids_of(settings.stp),
+            itm: settings.itm,
+            stp: settings.stp,
             order: settings.order,
         }),
     }
@@ -169,36 +149,42 @@ fn unring_with(settings: &Settings) -> Result<Task, UsageFault>
 }
 
 /// The task of an action, with what it needs of the options.
-fn task_with(name: ActionName, settings: &Settings) -> Result<Task, UsageFault>
-    requires itm { IfSome settings.now.itm (λ n. (1 ≤ n) × (n ≤ 111)) }
-    requires stp { IfSome settings.now.stp (λ n. (1 ≤ n) × (n ≤ 111)) }
-    requires half { settings.now.half ≤ GREATEST_HALF }
-    requires items { (1 ≤ settings.now.items) × (settings.now.items ≤ GREATEST_ITEMS) }
-    requires lose { settings.now.lose ≤ GREATEST_LOSS }
-    requires size { IfSome settings.now.size (λ n. (LEAST_SIZE ≤ n) × (n ≤ GREATEST_SIZE)) }
-    ensures task { result ≡ task_with name settings.now }
+fn task_with(name: ActionName, settings: Settings) -> Result<Task, UsageFault>
+    requires itm { All (λ n. (1 ≤ n) × (n ≤ 111)) settings.itm }
+    requires stp { All (λ n. (1 ≤ n) × (n ≤ 111)) settings.stp }
+    requires half { settings.half ≤ GREATEST_HALF }
+    requires items { (1 ≤ settings.items) × (settings.items ≤ GREATEST_ITEMS) }
+    requires lose { settings.lose ≤ GREATEST_LOSS }
+    requires size { IfSome settings.size (λ n. (LEAST_SIZE ≤ n) × (n ≤ GREATEST_SIZE)) }
+    ensures task { result ≡ task_with name settings }
     ensures sound { IfOk result IsSoundTask }
 {
     match name {
-        ActionName::Show => Ok(Task::Show {
-            plan: plan_with(settings)?,
-            only: settings.only,
-            window: settings.window,
-        }),
-        ActionName::Split => split_with(settings),
+        ActionName::Show => {
+            let (only, window) = (settings.only, settings.window);
+            Ok(Task::Show {
+                plan: plan_with(settings)?,
+                only,
+                window,
+            })
+        }
+        ActionName::Split => split_with(&settings),
         ActionName::Check => Ok(Task::Check(plan_with(settings)?)),
-        ActionName::Rebuild => Ok(Task::Rebuild {
-            plan: plan_with(settings)?,
-            sync: settings.sync,
-            half: settings.half,
-        }),
+        ActionName::Rebuild => {
+            let (sync, half) = (settings.sync, settings.half);
+            Ok(Task::Rebuild {
+                plan: plan_with(settings)?,
+                sync,
+                half,
+            })
+        }
         ActionName::Exercise => Ok(Task::Exercise {
             items: settings.items,
             lose: settings.lose,
         }),
         ActionName::Realign => Ok(Task::Realign),
-        ActionName::Ring => ring_with(settings),
-        ActionName::Unring => unring_with(settings),
+        ActionName::Ring => ring_with(&settings),
+        ActionName::Unring => unring_with(&settings),
     }
 }
 
@@ -210,9 +196,7 @@ pub fn job_of(matches: &ArgMatches<'_>) -> Result<Job, UsageFault>
 {
     let name = action_in(matches)?;
     let settings = settings_in(matches)?;
-    let task = task_with(name, &settings)?;
-    Ok(Job {
-        task,
-        limit: settings.limit,
-    })
+    let limit = settings.limit;
+    let task = task_with(name, settings)?;
+    Ok(Job { task, limit })
 }

@@ -1,13 +1,13 @@
 //! Laws of the words, over their definitions alone.
 
-ghost use Rattle.std.specs.Prelude.{◌≡◌, ◌≤◌, ◌⊎◌, ◌↔◌, List, Some, length};
+ghost use Rattle.std.specs.Prelude.{◌≡◌, ◌≤◌, ◌⊎◌, ◌↔◌, ℕ, List, Some, length};
 ghost use Rattle.clap.specs.Words.{Text};
 ghost use Rattle.capture_words.specs.Calls.{AsksFor, Misuses, IsMisuse};
 ghost use Rattle.item_tap.specs.declared.bounds.Bounds.{Bounds};
 ghost use Rattle.item_tap.specs.declared.choice.Choice.{Choice};
-ghost use Rattle.capture_words.specs.Choices.{IsChoice, choice_text, IsWindow, window_text};
+ghost use Rattle.capture_words.specs.Choices.{IsChoice, choice_text, IsWindow, window_text, AreIds, ids_text};
 ghost use Rattle.capture_words.specs.Texts.{usage_line, IsFault};
-ghost use Rattle.capture_words.specs.Values.{choice_named, window_named};
+ghost use Rattle.capture_words.specs.Values.{choice_named, window_named, ids_named};
 ghost use Rattle.capture_words.specs.declared.job.Job.{Job};
 ghost use Rattle.capture_words.specs.declared.usage.TheConstants.{LINE_ROOM};
 ghost use Rattle.capture_words.specs.declared.usage.UsageFault.{UsageFault};
@@ -36,4 +36,9 @@ pub fn choice_law()
 pub fn window_law()
     ensures { (window : Bounds) (text : Text) →
         (window_named text ≡ Some window) ↔ (IsWindow window × (text ≡ window_text window)) }
+{}
+
+/// The same of lists of IDs: a text names exactly those whose text it is, one to eight from 1 to 111 with commas between.
+pub fn ids_law()
+    ensures { (ids : List ℕ) (text : Text) → (ids_named text ≡ Some ids) ↔ (AreIds ids × (text ≡ ids_text ids)) }
 {}

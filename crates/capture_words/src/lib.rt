@@ -4,6 +4,7 @@
 mod choices;
 mod command;
 mod entries;
+mod ids;
 mod job;
 pub mod laws;
 mod option;

@@ -10,9 +10,9 @@ pub enum CommandOption {
     Frames,
     /// `--packets`: where the reading of a source begins.
     Packets,
-    /// `--itm`: the source that sends ITM packets.
+    /// `--itm`: the sources that send ITM packets.
     Itm,
-    /// `--stp`: the source that sends STP packets.
+    /// `--stp`: the sources that send STP packets.
     Stp,
     /// `--stp-order`: the order of the nibbles of an STP value.
     StpOrder,
@@ -77,8 +77,12 @@ impl CommandOption {
                 "Where packets begin: hunt (at the first synchronisation packet, the default) or aligned (at \
                 the first byte)"
             }
-            CommandOption::Itm => "The source that sends ITM packets: 1 to 111",
-            CommandOption::Stp => "The source that sends STP packets: 1 to 111",
+            CommandOption::Itm => {
+                "The sources that send ITM packets: one to eight from 1 to 111, with commas between"
+            }
+            CommandOption::Stp => {
+                "The sources that send STP packets: one to eight from 1 to 111, with commas between"
+            }
             CommandOption::StpOrder => {
                 "Which nibble of an STP value comes first: msn (the most significant, the default) or lsn \
                 (the least significant)"

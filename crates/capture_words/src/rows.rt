@@ -99,6 +99,13 @@ pub fn asks()
         (Check (planned Bare PacketsAligned [] [] Msn)) 65536 ∷
         does (codes "check --stp 5 --stp-order lsn")
         (Check (planned FramesHunt PacketsHunt [] (5 ∷ []) Lsn)) 68719476736 ∷ []) }
+    ensures several { AllAnswered (
+        does (codes "show --itm 1,2 --stp 5,4,3")
+        (Show (planned FramesHunt PacketsHunt (1 ∷ 2 ∷ []) (5 ∷ 4 ∷ 3 ∷ []) Msn) None None) 68719476736 ∷
+        does (codes "check --itm=111,1,2,3,4,5,6,7")
+        (Check (planned FramesHunt PacketsHunt (111 ∷ 1 ∷ 2 ∷ 3 ∷ 4 ∷ 5 ∷ 6 ∷ 7 ∷ []) [] Msn)) 68719476736 ∷
+        does (codes "rebuild --stp 2,1 --itm 4,3")
+        (Rebuild (planned FramesHunt PacketsHunt (4 ∷ 3 ∷ []) (2 ∷ 1 ∷ []) Msn) 64 0) 68719476736 ∷ []) }
 {}
 
 /// Words with a fault: values that are none of their options', values that are no choice of events, and which fault is
@@ -154,6 +161,20 @@ pub fn misuses()
         faults (codes "show --window ,itm") (BadValue Window) ∷
         faults (codes "show --window itm,") (BadValue Window) ∷
         faults (codes "check --window port=32,itm") (BadValue Window) ∷ []) }
+    ensures bad_ids { AllAnswered (
+        faults (codes "show --itm 1,2,3,4,5,6,7,8,9") (BadValue Itm) ∷
+        faults (codes "show --itm 1,") (BadValue Itm) ∷
+        faults (codes "check --stp ,1") (BadValue Stp) ∷
+        faults (codes "rebuild --stp 1,,2") (BadValue Stp) ∷
+        faults (codes "show --itm ,") (BadValue Itm) ∷
+        faults (codes "show --itm=") (BadValue Itm) ∷
+        faults (codes "show --itm 1,02") (BadValue Itm) ∷
+        faults (codes "show --itm 1,112") (BadValue Itm) ∷ []) }
+    ensures mapped_twice { AllAnswered (
+        faults (codes "rebuild --itm 1,1") (MappedTwice 1) ∷
+        faults (codes "show --itm 4,2,5,2,4") (MappedTwice 2) ∷
+        faults (codes "check --stp 3,2,3 --itm 1,2") (MappedTwice 2) ∷
+        faults (codes "show --stp 3,3 --itm 1") (MappedTwice 3) ∷ []) }
     ensures order { AllAnswered (
         faults (codes "play --frames x") UnknownAction ∷
         faults (codes "split --packets x --frames x") (BadValue Frames) ∷

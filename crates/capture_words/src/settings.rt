@@ -1,6 +1,7 @@
 //! What all options say.
 
 ghost use Rattle.std.specs.Prelude.{◌≡◌, ◌≤◌, ℕ, Option, IfOk, IfSome};
+ghost use Rattle.std.specs.List.{All};
 ghost use Rattle.capture_words.specs.declared.values.TheConstants.{GREATEST_LIMIT, GREATEST_SYNC, GREATEST_HALF};
 ghost use Rattle.capture_words.specs.declared.values.TheConstants.{GREATEST_ITEMS, GREATEST_LOSS};
 ghost use Rattle.capture_words.specs.declared.values.TheConstants.{LEAST_SIZE, GREATEST_SIZE};
@@ -14,6 +15,7 @@ use crate::values::{
 };
 use clap::ArgMatches;
 use item_tap::{Bounds, Choice};
+use source_events::SourceIds;
 use stp_grammar::packet::Order;
 use trace_values::{FramesMode, PacketsMode, SourceId};
 
@@ -24,10 +26,10 @@ pub struct Settings {
     pub frames: FramesMode,
     /// Where the reading of a source begins.
     pub packets: PacketsMode,
-    /// The source that sends ITM packets.
-    pub itm: Option<SourceId>,
-    /// The source that sends STP packets.
-    pub stp: Option<SourceId>,
+    /// The sources that send ITM packets.
+    pub itm: SourceIds,
+    /// The sources that send STP packets.
+    pub stp: SourceIds,
     /// The order of the nibbles of an STP value.
     pub order: Order,
     /// The source whose bytes are taken.
@@ -57,8 +59,8 @@ pub struct Settings {
 /// What the options say, or the first whose value is none of its own.
 pub fn settings_in(matches: &ArgMatches<'_>) -> Result<Settings, UsageFault>
     ensures settings { result ≡ settings_in (rows_of (found_of matches.now)) }
-    ensures itm { IfOk result (λ s. IfSome s.itm (λ n. (1 ≤ n) × (n ≤ 111))) }
-    ensures stp { IfOk result (λ s. IfSome s.stp (λ n. (1 ≤ n) × (n ≤ 111))) }
+    ensures itm { IfOk result (λ s. All (λ n. (1 ≤ n) × (n ≤ 111)) s.itm) }
+    ensures stp { IfOk result (λ s. All (λ n. (1 ≤ n) × (n ≤ 111)) s.stp) }
     ensures sync { IfOk result (λ s. s.sync ≤ GREATEST_SYNC) }
     ensures half { IfOk result (λ s. s.half ≤ GREATEST_HALF) }
     ensures limit { IfOk result (λ s. (1 ≤ s.limit) × (s.limit ≤ GREATEST_LIMIT)) }

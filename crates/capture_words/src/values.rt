@@ -1,19 +1,22 @@
 //! What the texts of the action and of the options say.
 
-ghost use Rattle.std.specs.Prelude.{◌≡◌, ◌≤◌, option_map, IfOk, IfSome};
+ghost use Rattle.std.specs.Prelude.{◌≡◌, ◌≤◌, [], option_map, IfOk, IfSome};
+ghost use Rattle.std.specs.List.{All};
 ghost use Rattle.clap.specs.Words.{rows_of, found_of, first_of};
 ghost use Rattle.capture_words.specs.Command.{option_name};
 ghost use Rattle.capture_words.specs.Values.{action_named, order_named, bit_named, action_in, frames_in, packets_in};
 ghost use Rattle.capture_words.specs.Values.{number_if_given, itm_in, stp_in, order_in, id_in, only_in, window_in};
 ghost use Rattle.capture_words.specs.Values.{number_given, sync_in, half_in, limit_in, items_in, lose_in, size_in};
-ghost use Rattle.capture_words.specs.Values.{pointer_in, full_in};
+ghost use Rattle.capture_words.specs.Values.{pointer_in, full_in, option_in, ids_named};
 
 use crate::choices::{choice_named, window_named};
+use crate::ids::ids_named;
 use crate::option::CommandOption;
 use crate::usage::UsageFault;
 use clap::ArgMatches;
 use decimal_words::{id_named, number_named};
 use item_tap::{Bounds, Choice};
+use source_events::SourceIds;
 use stp_grammar::packet::Order;
 use trace_values::{FramesMode, PacketsMode, SourceId};
 
@@ -165,20 +168,34 @@ fn id_given(
     }
 }
 
-/// The source that sends ITM packets, 1 to 111, if one is given.
-pub fn itm_in(matches: &ArgMatches<'_>) -> Result<Option<SourceId>, UsageFault>
-    ensures value { result ≡ itm_in (rows_of (found_of matches.now)) }
-    ensures in_range { IfOk result (λ id. IfSome id (λ n. (1 ≤ n) × (n ≤ 111))) }
+/// The sources of an option, one to eight from 1 to 111, or none where it is absent.
+fn ids_given(matches: &ArgMatches<'_>, option: CommandOption) -> Result<SourceIds, UsageFault>
+    ensures value { result ≡ option_in option [] ids_named (rows_of (found_of matches.now)) }
+    ensures in_range { IfOk result (All (λ n. (1 ≤ n) × (n ≤ 111))) }
 {
-    id_given(matches, CommandOption::Itm, 1, 111)
+    match text_of(matches, option) {
+        None => Ok(SourceIds::new()),
+        Some(text) => match ids_named(text) {
+            Some(ids) => Ok(ids),
+            None => Err(UsageFault::BadValue(option)),
+        },
+    }
 }
 
-/// The source that sends STP packets, 1 to 111, if one is given.
-pub fn stp_in(matches: &ArgMatches<'_>) -> Result<Option<SourceId>, UsageFault>
-    ensures value { result ≡ stp_in (rows_of (found_of matches.now)) }
-    ensures in_range { IfOk result (λ id. IfSome id (λ n. (1 ≤ n) × (n ≤ 111))) }
+/// The sources that send ITM packets, one to eight from 1 to 111, or none where the option is absent.
+pub fn itm_in(matches: &ArgMatches<'_>) -> Result<SourceIds, UsageFault>
+    ensures value { result ≡ itm_in (rows_of (found_of matches.now)) }
+    ensures in_range { IfOk result (All (λ n. (1 ≤ n) × (n ≤ 111))) }
 {
-    id_given(matches, CommandOption::Stp, 1, 111)
+    ids_given(matches, CommandOption::Itm)
+}
+
+/// The sources that send STP packets, one to eight from 1 to 111, or none where the option is absent.
+pub fn stp_in(matches: &ArgMatches<'_>) -> Result<SourceIds, UsageFault>
+    ensures value { result ≡ stp_in (rows_of (found_of matches.now)) }
+    ensures in_range { IfOk result (All (λ n. (1 ≤ n) × (n ≤ 111))) }
+{
+    ids_given(matches, CommandOption::Stp)
 }
 
 /// The order of the nibbles of an STP value: `msn` or `lsn`, and `msn` where it is absent.

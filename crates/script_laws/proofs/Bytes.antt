@@ -27,11 +27,12 @@ use Rattle.script_text.specs.declared.items.Item.TheVariants.{Itm, Dwt, Stp, Raw
 use Rattle.script_text.specs.declared.lines.Line.{Line}
 use Rattle.script_text.specs.declared.lines.Line.TheVariants.{Nothing, Of}
 use Rattle.script_text.specs.Said.{IsSayable}
-use Rattle.script_rebuild.specs.Script.{packets_of, packets_by, given_packets, items_of, items_by, given_items, given_puts, raw_of, raw_by, given_bytes, item_bytes, tagged, put_by, put_after, put_of, ends_of, script_bytes}
+use Rattle.script_rebuild.specs.Script.{packets_of, packets_by, given_packets, items_of, items_by, given_items, given_puts, raw_of, raw_by, given_bytes, item_bytes, tagged, put_by, put_after, put_of, ends_of, in_order, script_bytes}
 use Rattle.script_laws.specs.Puts.{HasKind, SuitsPlan, CanAllBePut}
 use Rattle.script_laws.specs.ReadBack.{is_line_of, has_line}
 use Rattle.script_laws.proofs.Said.{given_more}
-use Rattle.script_laws.proofs.MappedIds.{is_one, sound_first, sound_back, stp_one}
+use Rattle.script_rebuild.proofs.InOrder.{in_order_sound}
+use Rattle.script_laws.proofs.MappedIds.{is_one, sound_first, sound_back, stp_in_order}
 
 -- the bytes of a source among tagged bytes
 abbrev pub bytes_for : ℕ → List Tagged → List ℕ
@@ -253,8 +254,8 @@ module _ (plan : Plan) (x : ℕ) where
   module _ (lines : List Line) (g : CanAllBePut plan [] lines) where
     without_end : (given : List ℕ) → (kind_of plan x ≡ Some kinds.Stp → ⊥) → bytes_for x (put_of plan.order lines) ≡ given → bytes_for x (script_bytes plan lines) ≡ given
     without_end given n e =
-        for_append x (put_of plan.order lines) (ends_of plan.order lines plan.stp)
-        ∙ ap (λ (l : List ℕ). bytes_for x (put_of plan.order lines) ++ l) (ends_empty plan.order lines plan.stp (no_items [] lines n g))
+        for_append x (put_of plan.order lines) (ends_of plan.order lines (in_order plan.stp))
+        ∙ ap (λ (l : List ℕ). bytes_for x (put_of plan.order lines) ++ l) (ends_empty plan.order lines (in_order plan.stp) (no_items [] lines n g))
         ∙ append-nil (bytes_for x (put_of plan.order lines)) ∙ e
 
     pub itm_bytes : kind_of plan x ≡ Some kinds.Itm → bytes_for x (script_bytes plan lines) ≡ spelled (given_packets x lines)
@@ -265,9 +266,9 @@ module _ (plan : Plan) (x : ℕ) where
 
     pub stp_bytes : is_sound plan ≡ true → kind_of plan x ≡ Some kinds.Stp → bytes_for x (script_bytes plan lines) ≡ encoded plan.order (given_puts x lines)
     stp_bytes s k =
-        for_append x (put_of plan.order lines) (ends_of plan.order lines plan.stp)
-        ∙ ap (λ (l : List ℕ). l ++ bytes_for x (ends_of plan.order lines plan.stp)) (put_items plan.order lines g k)
-        ∙ ap (λ (l : List ℕ). written plan.order (given_puts x lines) ++ l) (ends_in plan.order lines plan.stp (sound_back plan.itm plan.stp s) (stp_one plan x k).1)
+        for_append x (put_of plan.order lines) (ends_of plan.order lines (in_order plan.stp))
+        ∙ ap (λ (l : List ℕ). l ++ bytes_for x (ends_of plan.order lines (in_order plan.stp))) (put_items plan.order lines g k)
+        ∙ ap (λ (l : List ℕ). written plan.order (given_puts x lines) ++ l) (ends_in plan.order lines (in_order plan.stp) (in_order_sound plan.stp (sound_back plan.itm plan.stp s)) (stp_in_order plan x s k))
         ∙ sym (filled_append (nibbles_for plan.order (given_puts x lines)))
 
   -- without a line of the source there is none
@@ -310,9 +311,9 @@ module _ (plan : Plan) (x : ℕ) where
 
   pub none_bytes : (lines : List Line) → has_line x lines ≡ false → bytes_for x (script_bytes plan lines) ≡ []
   none_bytes lines e =
-      for_append x (put_of plan.order lines) (ends_of plan.order lines plan.stp)
-      ∙ ap (λ (l : List ℕ). l ++ bytes_for x (ends_of plan.order lines plan.stp)) (none_put plan.order [] lines e)
-      ∙ ends_empty plan.order lines plan.stp (none_items lines e)
+      for_append x (put_of plan.order lines) (ends_of plan.order lines (in_order plan.stp))
+      ∙ ap (λ (l : List ℕ). l ++ bytes_for x (ends_of plan.order lines (in_order plan.stp))) (none_put plan.order [] lines e)
+      ∙ ends_empty plan.order lines (in_order plan.stp) (none_items lines e)
 
 -- all are of sources
 tagged_sources : (id : ℕ) (bytes : List ℕ) → 1 ≤ id → id ≤ 126 → All IsOfSource (tagged id bytes)
@@ -341,8 +342,8 @@ ends_sources order lines (id ∷ ids) s =
 
 pub all_sources : (plan : Plan) (lines : List Line) → is_sound plan ≡ true → CanAllBePut plan [] lines → All IsOfSource (script_bytes plan lines)
 all_sources plan lines s g =
-    All-append IsOfSource (put_of plan.order lines) (ends_of plan.order lines plan.stp)
-    (put_sources plan plan.order [] lines g) (ends_sources plan.order lines plan.stp (sound_back plan.itm plan.stp s))
+    All-append IsOfSource (put_of plan.order lines) (ends_of plan.order lines (in_order plan.stp))
+    (put_sources plan plan.order [] lines g) (ends_sources plan.order lines (in_order plan.stp) (in_order_sound plan.stp (sound_back plan.itm plan.stp s)))
 
 -- the packets that lines give are proper
 proper_append : (a b : List ItmPacket) → AreProper a → AreProper b → AreProper (a ++ b)

@@ -7,6 +7,8 @@ use Rattle.source_events.specs.declared.plan.Plan.{Plan}
 use Rattle.source_events.specs.declared.plan.SourceKind.{SourceKind}
 use Rattle.source_events.specs.declared.plan.SourceKind.TheVariants.{Itm, Stp}
 use Rattle.source_events.specs.Plan.{kind_of, are_sound, is_sound}
+use Rattle.script_rebuild.specs.Script.{in_order}
+use Rattle.script_rebuild.proofs.InOrder.{in_order_among}
 
 -- it is one of these
 abbrev pub is_one : ℕ → List ℕ → Bool
@@ -134,6 +136,12 @@ mapped_low plan x Itm s e = (one_range plan x s (ap (λ (a : Bool). a || is_one 
 mapped_low plan x Stp s e =
     let k = stp_one plan x e in
     (one_range plan x s (ap (λ (a : Bool). a || is_one x plan.stp) k.0 ∙ k.1)).0
+
+pub stp_in_order : (plan : Plan) (x : ℕ) → is_sound plan ≡ true → kind_of plan x ≡ Some Stp → is_one x (in_order plan.stp) ≡ true
+stp_in_order plan x s e =
+    let k = stp_one plan x e in
+    let range = one_range plan x s (ap (λ (a : Bool). a || is_one x plan.stp) k.0 ∙ k.1) in
+    in_order_among plan.stp x range.0 (omega (arith, range.1)) ∙ k.1
 
 pub null_none : (plan : Plan) → is_sound plan ≡ true → kind_of plan 0 ≡ None
 null_none plan s = by (kind_of plan 0) refl

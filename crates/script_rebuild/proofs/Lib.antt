@@ -6,6 +6,8 @@ pub mod FirstLines
 pub mod Lines
 pub mod Puts
 pub mod Standing
-pub mod SoundSources
+pub mod InOrder
+pub mod EachEncoder
 pub mod OneVersion
 pub mod AllSegments
+pub mod EndsPut

@@ -1,16 +1,9 @@
 -- What one more line puts and gives.
-use Rattle.std.proofs.Common.{◌≡◌, ℕ, List, [], ◌∷◌, ◌++◌, refl, sym, ◌∙◌, ap, Bool, true, false, Option, Some, append_assoc, append-nil, arith}
-use Rattle.std.specs.Prelude.{◌==◌, if◌then◌else◌}
-use Rattle.std.proofs.lemmas.Bool.Decides.{nat_tests}
+use Rattle.std.proofs.Common.{◌≡◌, ℕ, List, [], ◌∷◌, ◌++◌, ◌∙◌, ap, append-nil}
 use Rattle.std.proofs.lemmas.List.Concat.{flat_map-append}
 use Rattle.stp_grammar.specs.declared.packet.Order.{Order}
-use Rattle.stp_grammar.specs.declared.item.StpItem.{StpItem}
-use Rattle.script_text.specs.declared.items.Item.{Item}
-use Rattle.script_text.specs.declared.items.Item.TheVariants.{Itm, Dwt, Stp, Raw}
 use Rattle.script_text.specs.declared.lines.Line.{Line}
-use Rattle.script_text.specs.declared.lines.Line.TheVariants.{Of}
-use Rattle.script_rebuild.specs.Script.{items_of, items_by, given_items, put_by, put_after, put_of}
-use Rattle.script_rebuild.specs.Writer.{IsOfSource}
+use Rattle.script_rebuild.specs.Script.{items_by, given_items, put_by, put_of}
 use Rattle.script_rebuild.specs.ScriptLaws.{put_after-append}
 
 -- one more line puts its bytes after all others
@@ -24,20 +17,3 @@ pub given_more : (id : ℕ) (lines : List Line) (line : Line) →
     given_items id (lines ++ line ∷ []) ≡ given_items id lines ++ items_by id line
 given_more id lines line =
     flat_map-append (items_by id) lines (line ∷ []) ∙ ap (λ l. given_items id lines ++ l) (append-nil (items_by id line))
-
-either : (v : Bool) (items : List StpItem) → (if v then items else items) ≡ items
-either true items = refl
-either false items = refl
-
-same_number : (x y : ℕ) → x ≡ y → (x == y) ≡ true
-same_number x y e = grind (arith, nat_tests)
-
--- the items of a system trace are all of its source
-pub items_of_source : (stp : Option ℕ) (id source : ℕ) (item : Item) → IsOfSource stp source item → stp ≡ Some id →
-    items_by id (Of source item) ≡ items_of item
-items_of_source stp id source (Itm p) h e = either (source == id) []
-items_of_source stp id source (Dwt d) h e = either (source == id) []
-items_of_source stp id source (Raw bytes) h e = either (source == id) []
-items_of_source stp id source (Stp item) h e =
-    let same : source ≡ id = cc in
-    ap (λ v. if v then item ∷ [] else []) (same_number source id same)

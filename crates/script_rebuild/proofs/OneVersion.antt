@@ -1,5 +1,5 @@
 -- A script of version 1 among those of both versions.
-use Rattle.std.proofs.Common.{◌≡◌, ℕ, suc, ◌+◌, ◌≤◌, List, [], ◌∷◌, ◌++◌, refl, sym, ◌∙◌, ap, Bool, true, false, length, append_assoc, append-nil, Result, Ok, Err, Some}
+use Rattle.std.proofs.Common.{◌≡◌, ℕ, suc, ◌+◌, List, [], ◌∷◌, ◌++◌, refl, sym, ◌∙◌, ap, Bool, true, false, length, append_assoc, append-nil, Result, Ok, Err, Some}
 use Rattle.std.specs.Prelude.{map, if◌then◌else◌}
 use Rattle.std.specs.Str.{bytes_eq}
 use Rattle.std.proofs.lemmas.List.{map-append}
@@ -9,7 +9,6 @@ use Rattle.stp_encoder.specs.Bytes.{end_bytes}
 use Rattle.stp_encoder.proofs.Standing.{unmarked_append}
 use Rattle.frame_writer.specs.Written.{Tagged}
 use Rattle.source_events.specs.declared.plan.Plan.{Plan}
-use Rattle.source_events.specs.Plan.{is_sound}
 use Rattle.script_text.specs.declared.lines.Line.{Line}
 use Rattle.script_text.specs.declared.lines.Line.TheVariants.{Nothing, Of}
 use Rattle.script_text.specs.declared.version_two.Line2.{Line2}
@@ -17,9 +16,8 @@ use Rattle.script_text.specs.declared.version_two.Line2.TheVariants.{One}
 use Rattle.script_text.specs.declared.line_fault.LineFault.{LineFault}
 use Rattle.script_text.specs.Lines.{◌>>=◌, line_of}
 use Rattle.script_text.specs.VersionTwo.{as_one}
-use Rattle.script_rebuild.specs.Script.{items_by, given_items, given_puts, item_bytes, tagged, bytes_with, ends_with, put_by, put_after, put_of, script_bytes, lines_in, fitting, line_after, read_on, read_by, read_after, script_of}
-use Rattle.script_rebuild.specs.Versions.{ones, source_puts, Segments, with_bytes, now_ended, segments_after, segments_of, script_segments, fitting2, says_one, says_two, header, first_of, first_text, read_texts, as_ones, script2_of}
-use Rattle.script_rebuild.proofs.SoundSources.{stp_sorted}
+use Rattle.script_rebuild.specs.Script.{items_by, given_items, given_puts, item_bytes, tagged, bytes_with, ends_with, in_order, put_by, put_after, put_of, script_bytes, lines_in, fitting, line_after, read_on, read_by, read_after, script_of}
+use Rattle.script_rebuild.specs.Versions.{ones, source_puts, Segments, with_bytes, now_ended, segments_after, script_segments, fitting2, says_one, says_two, header, first_of, first_text, read_texts, as_ones, script2_of}
 
 -- what such lines give a source
 one_puts : (x : ℕ) (lines : List Line) → source_puts x (map One lines) ≡ given_puts x lines
@@ -54,14 +52,13 @@ one_ends order lines (x ∷ ids) =
     ap (λ (l : List Put). tagged x (end_bytes order l) ++ ends_with order (λ x. source_puts x (map One lines)) ids) (one_puts x lines)
     ∙ ap (λ (l : List Tagged). tagged x (end_bytes order (given_puts x lines)) ++ l) (one_ends order lines ids)
 
-pub one_segment_alone : (plan : Plan) (lines : List Line) → is_sound plan ≡ true → length plan.stp ≤ 1 →
+pub one_segment_alone : (plan : Plan) (lines : List Line) →
     script_segments plan (map One lines) ≡ script_bytes plan lines ∷ []
-one_segment_alone plan lines h few =
-    ap (λ (ids : List ℕ). now_ended (with_bytes (segments_of plan.order ids (map One lines))
-    (ends_with plan.order (λ x. source_puts x (map One lines)) ids))) (stp_sorted plan h few)
-    ∙ ap (λ (s : Segments). now_ended (with_bytes s (ends_with plan.order (λ x. source_puts x (map One lines)) plan.stp)))
-    (one_segment plan.order plan.stp [] (record { ended = []; begun = [] }) lines)
-    ∙ ap (λ (l : List Tagged). (put_of plan.order lines ++ l) ∷ []) (one_ends plan.order lines plan.stp)
+one_segment_alone plan lines =
+    let ids = in_order plan.stp in
+    ap (λ (s : Segments). now_ended (with_bytes s (ends_with plan.order (λ x. source_puts x (map One lines)) ids)))
+    (one_segment plan.order ids [] (record { ended = []; begun = [] }) lines)
+    ∙ ap (λ (l : List Tagged). (put_of plan.order lines ++ l) ∷ []) (one_ends plan.order lines ids)
 
 -- what such lines are read as
 ones_of : (lines : List Line) → ones (map One lines) ≡ lines

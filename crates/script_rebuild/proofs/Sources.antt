@@ -1,36 +1,25 @@
 -- The sources of a plan, and what a line says.
-use Rattle.std.proofs.Common.{Option, Some, ◌≡◌, ℕ, ◌<◌, ◌≤◌, List, [], ◌∷◌, ◌++◌, refl, sym, ◌∙◌, ap, subst, Bool, true, false, Result, Ok, Err, arith, length, get_or}
-use Rattle.std.specs.Prelude.{◌==◌, ◌&&◌, nat_le, not, IfSome}
+use Rattle.std.proofs.Common.{Option, Some, ◌≡◌, ℕ, ◌≤◌, List, refl, ◌∙◌, ap, subst, Bool, true, false, Result, Ok, Err, length}
+use Rattle.std.specs.Prelude.{IfSome, None, ◌==◌, if◌then◌else◌}
 use Rattle.std.specs.List.{list_any}
 use Rattle.std.specs.Result.{IfErr, OnOk}
-use Rattle.std.proofs.lemmas.Bool.Decides.{nat_tests}
 use Rattle.source_events.specs.declared.plan.Plan.{Plan}
-use Rattle.source_events.specs.Plan.{are_sound, kind_of}
+use Rattle.source_events.specs.Plan.{kind_of}
 use Rattle.script_text.specs.declared.lines.Line.{Line}
 use Rattle.script_text.specs.declared.line_fault.LineFault.{LineFault}
 use Rattle.source_events.specs.declared.plan.SourceKind.{SourceKind}
 use Rattle.source_events.specs.declared.plan.SourceKind.TheVariants as kinds
 use Rattle.script_text.specs.declared.quick.PacketLine.{PacketLine}
 use Rattle.script_text.specs.declared.items.Item.TheVariants as items
-use Rattle.script_text.specs.declared.lines.Line.TheVariants.{Of}
+use Rattle.script_text.specs.declared.lines.Line.TheVariants.{Nothing, Of}
 use Rattle.script_text.specs.Quick.{IsPacketOf}
 use Rattle.script_text.specs.Said.{IsSaid}
 use Rattle.script_text.proofs.PacketLines.{line_says, item_is_said}
 use Rattle.script_text.specs.Lines.{◌>>=◌, line_of, taken_by}
-use Rattle.script_rebuild.specs.Script.{fitting, line_after}
-use Rattle.script_rebuild.proofs.SoundSources.{later_sound}
-
-and_first : (a b c d : Bool) → (a && b && c && d) ≡ true → a ≡ true
-and_first true b c d h = refl
-and_first false b c d h = cc
-
-first_named : (ids : List ℕ) (x : ℕ) → are_sound ids ≡ true → 1 ≤ length ids → x ≡ get_or ids 0 x → 0 < x
-first_named [] x h l e = absurd (omega arith)
-first_named (y ∷ ids) x h l e = let k = and_first (nat_le 1 y) (nat_le y 111) (not (list_any (λ z. z == y) ids)) (are_sound ids) h in grind (arith, nat_tests)
-
--- the first source of system traces of a sound plan
-pub stp_named : (plan : Plan) (ids : List ℕ) (x : ℕ) → are_sound (plan.itm ++ plan.stp) ≡ true → ids ≡ plan.stp → 1 ≤ length ids → x ≡ get_or ids 0 x → 0 < x
-stp_named plan ids x h same l e = first_named ids x (subst (λ s. are_sound s ≡ true) (sym same) (later_sound plan.itm plan.stp h)) l e
+use Rattle.stp_grammar.specs.declared.item.StpItem.{StpItem}
+use Rattle.script_rebuild.specs.Script.{in_order, fitting, line_after}
+use Rattle.script_rebuild.specs.Writer.{CanBePut}
+use Rattle.script_rebuild.proofs.InOrder.{in_order_among}
 
 -- a line's text
 pub says_line : (plan : Plan) (lines : List Line) (text : List ℕ) (line : Line) (answer : Result Line LineFault) → line_of plan text ≡ Ok line → fitting lines line ≡ answer →
@@ -59,6 +48,27 @@ module _ (plan : Plan) (text : List ℕ) (found : PacketLine) (says : IsPacketOf
 
   pub packet_said : IsSaid plan line
   packet_said = item_is_said plan text found.id (items.Itm found.packet) (Ok tt) line says taken
+
+-- what a line of the plan says can be put where its sources of system traces are in order
+of_kind : (plan : Plan) (id : ℕ) (item : StpItem) (a b : Bool) → list_any (λ y. y == id) plan.stp ≡ b →
+    taken_by (if a then Some kinds.Itm else if b then Some kinds.Stp else None) id (items.Stp item) ≡ Ok (Of id (items.Stp item)) →
+    list_any (λ y. y == id) plan.stp ≡ true
+of_kind plan id item true b e h = absurd cc
+of_kind plan id item false true e h = e
+of_kind plan id item false false e h = absurd cc
+
+pub can_be_put : (plan : Plan) (line : Line) → IsSaid plan line → CanBePut (in_order plan.stp) line
+can_be_put plan Nothing h = tt
+can_be_put plan (Of id (items.Itm packet)) h = (h.0, h.1, h.2, tt)
+can_be_put plan (Of id (items.Dwt item)) h = (h.0, h.1, h.2, tt)
+can_be_put plan (Of id (items.Raw bytes)) h = (h.0, h.1, h.2, tt)
+can_be_put plan (Of id (items.Stp item)) h = (
+  h.0,
+  h.1,
+  h.2,
+  in_order_among plan.stp id h.0 h.1
+      ∙ of_kind plan id item (list_any (λ y. y == id) plan.itm) (list_any (λ y. y == id) plan.stp) refl h.3,
+)
 
 -- what is known of a value that is there
 pub there : {A : Type 0} (P : A → Type 0) (o : Option A) (x : A) → o ≡ Some x → IfSome o P → P x

@@ -1,6 +1,6 @@
 -- What the action takes.
 use Rattle.std.proofs.Common.{◌≡◌, ℕ, ◌+◌, ◌≤◌, List, [], ◌∷◌, ◌++◌, refl, sym, ◌∙◌, ap, subst, Bool, true, false, Option, Some, None, Result, Ok, Err, append-nil, append_assoc, length, length-append, arith, All, drop}
-use Rattle.std.specs.Prelude.{◌==◌, is_some, option_map, option_to_list}
+use Rattle.std.specs.Prelude.{◌==◌, is_some, option_map}
 use Rattle.stp_grammar.specs.declared.packet.Order.{Order}
 use Rattle.trace_stream.specs.Taken.{HasTaken, FaultAfter}
 use Rattle.trace_stream.specs.declared.limits.TheConstants.{GREATEST_CAPTURE}
@@ -8,7 +8,7 @@ use Rattle.frame_writer.specs.Written.{capture}
 use Rattle.frame_writer.specs.Fronts.{sure}
 use Rattle.script_text.specs.declared.lines.Line.{Line}
 use Rattle.script_text.specs.declared.line_fault.LineFault.{LineFault}
-use Rattle.script_rebuild.specs.Script.{Reading, line_after, put_of, ends_of, script_of, script_bytes}
+use Rattle.script_rebuild.specs.Script.{Reading, line_after, put_of, ends_of, in_order, script_of, script_bytes}
 use Rattle.script_rebuild.specs.Writer as writers
 use Rattle.script_rebuild.specs.declared.writer.LineWriter.{LineWriter}
 use Rattle.script_rebuild.specs.declared.plan.RebuildPlan.{RebuildPlan}
@@ -185,16 +185,16 @@ last_says r seen words answer s live few same says =
 
 pub ends_whole : (r : Rebuild) (w : LineWriter) (seen words out rest : List ℕ) → Stands r seen → r.fault ≡ None → length r.line.items ≤ 256 → words ≡ r.line.items →
     (puts : PutsLine r.plan.plan words w r.plan.every r.plan.halves (read_so_far r.plan.plan seen).lines out) → writers.order_of w ≡ r.plan.plan.order →
-    option_to_list (writers.stp_of w) ≡ r.plan.plan.stp →
+    writers.stp_of w ≡ in_order r.plan.plan.stp →
     (let lines = (read_so_far r.plan.plan seen).lines ++ puts.line ∷ [] in
-    capture r.plan.every r.plan.halves (put_of (writers.order_of w) lines ++ ends_of (writers.order_of w) lines (option_to_list (writers.stp_of w)))
+    capture r.plan.every r.plan.halves (put_of (writers.order_of w) lines ++ ends_of (writers.order_of w) lines (writers.stp_of w))
     ≡ sure r.plan.every r.plan.halves (put_of (writers.order_of w) lines) ++ rest) →
     ending r.plan seen ≡ out ++ rest
 ends_whole r w seen words out rest s live few same puts order stp whole =
     let p = r.plan in
     let lines = (read_so_far p.plan seen).lines ++ puts.line ∷ [] in
     let with_stp = subst (λ (ids : List ℕ). capture p.every p.halves (put_of (writers.order_of w) lines ++ ends_of (writers.order_of w) lines ids) ≡ sure p.every p.halves (put_of (writers.order_of w) lines) ++ rest) stp whole in
-    let all = subst (λ (o : Order). capture p.every p.halves (put_of o lines ++ ends_of o lines p.plan.stp) ≡ sure p.every p.halves (put_of o lines) ++ rest) order with_stp in
+    let all = subst (λ (o : Order). capture p.every p.halves (put_of o lines ++ ends_of o lines (in_order p.plan.stp)) ≡ sure p.every p.halves (put_of o lines) ++ rest) order with_stp in
     ap (λ (x : Reading Line). left_of (capture p.every p.halves (script_bytes p.plan x.lines)) (text p seen) x.fault) (last_says r seen words (Ok puts.line) s live few same puts.says)
     ∙ behind_front (text p seen) (out ++ rest) (capture p.every p.halves (script_bytes p.plan lines)) (all ∙ ap (λ l. l ++ rest) puts.grown ∙ append_assoc (text p seen) out rest)
 

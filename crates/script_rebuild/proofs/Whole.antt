@@ -7,7 +7,7 @@ use Rattle.frame_writer.proofs.Fronts.{sure_grows, sure_begins}
 use Rattle.script_text.specs.declared.lines.Line.{Line}
 use Rattle.script_text.specs.declared.line_fault.LineFault.{LineFault}
 use Rattle.script_text.specs.declared.line_fault.LineFault.TheVariants.{LongLine}
-use Rattle.script_rebuild.specs.Script.{read_after, line_after, script_of, put_of, put_after, ends_of}
+use Rattle.script_rebuild.specs.Script.{read_after, line_after, script_of, put_of, put_after, ends_of, in_order}
 use Rattle.script_rebuild.specs.ScriptLaws.{put_after-append}
 use Rattle.script_rebuild.specs.declared.plan.RebuildPlan.{RebuildPlan}
 use Rattle.script_rebuild.specs.Rebuilt.{read_so_far, text, ending, left_of, script_capture, IsFirstFault}
@@ -24,7 +24,7 @@ text_begins p bytes few =
     let longer = end_extends p.plan bytes in
     let t = put_of order so_far in
     let more = put_after order so_far longer.more in
-    let ends = ends_of order lines p.plan.stp in
+    let ends = ends_of order lines (in_order p.plan.stp) in
     let grown = sure_grows p.every p.halves [] t (more ++ ends) in
     let begins = sure_begins p.every p.halves [] (t ++ (more ++ ends)) few in (
       grown.0 ++ begins.0,

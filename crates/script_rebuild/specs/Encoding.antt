@@ -1,12 +1,68 @@
--- What an encoder has to stand for, so that an item is written.
-use Rattle.std.specs.Prelude.{List}
-use Rattle.stp_encoder.specs.Puts.{Put}
-use Rattle.stp_encoder.specs.Encoder.{Stands}
-use Rattle.stp_encoder.specs.declared.encoder.StpEncoder.{StpEncoder}
+-- The encoders of system traces, and what they have to stand for, so that an item is written.
+use Rattle.std.specs.Prelude.{◌≡◌, ◌<◌, ℕ, List, [], ◌++◌, length, map, ◌==◌, if◌then◌else◌, slice_index_or, true}
+use Rattle.std.specs.Prelude.{Result, Ok, Err}
+use Rattle.std.specs.Result.{IfErr, OnOk}
+use Rattle.std.specs.List.{All, list_any}
+use Rattle.stp_grammar.specs.declared.packet.Order.{Order}
+use Rattle.stp_encoder.specs.Puts.{Put, items_in, unmarked}
+use Rattle.stp_encoder.specs.Encoder as encoders
+use Rattle.frame_writer.specs.declared.sure.SureWriter.{SureWriter}
 use Rattle.script_text.specs.declared.items.Item.{Item}
 use Rattle.script_text.specs.declared.items.Item.TheVariants.{Stp}
+use Rattle.script_text.specs.declared.lines.Line.{Line}
+use Rattle.script_text.specs.declared.line_fault.LineFault.{LineFault}
+use Rattle.script_rebuild.specs.Script.{items_of, item_bytes, tagged, fitting_item}
+use Rattle.script_rebuild.specs.Putting.{Puts}
+use Rattle.script_rebuild.specs.declared.encoders.SourceEncoder.{SourceEncoder}
 
--- what was put before, where the item is one of a system trace
-abbrev pub StandsFor : StpEncoder → List Put → Item → Type 0
-StandsFor encoder before (Stp item) = Stands encoder before
-StandsFor encoder before item = Unit {0}
+abbrev pub ids_in : List SourceEncoder → List ℕ
+ids_in slots = map (λ e. e.id) slots
+
+-- each number is greater than those before it
+abbrev pub IsRising : List ℕ → Type 0
+IsRising xs = (j k d : ℕ) → j < k → k < length xs → slice_index_or xs j d < slice_index_or xs k d
+
+-- each stands for what its source was given, and writes numbers in this order of their nibbles
+abbrev pub AllStand : Order → List SourceEncoder → (ℕ → List Put) → Type 0
+AllStand order slots given =
+    All (λ e. (encoders.order_of e.encoder ≡ order) × encoders.Stands e.encoder (given e.id)) slots
+
+-- an item of a system trace is one of a source of such items
+abbrev pub IsOfSource : List ℕ → ℕ → Item → Type 0
+IsOfSource stp id (Stp item) = list_any (λ x. x == id) stp ≡ true
+IsOfSource stp id item = Unit {0}
+
+-- an item of a source, and what each source was given before; numbers are written in this order of their nibbles
+pub record NextItem : Type 0 where
+  pub order : Order
+  pub given : ℕ → List Put
+  pub id : ℕ
+  pub item : Item
+
+-- the encoders stand for what each source was given, and one is for the source of the item
+pub record AreReady (next : NextItem) (slots : List SourceEncoder) : Type 0 where
+  pub stand : AllStand next.order slots next.given
+  pub rising : IsRising (ids_in slots)
+  pub source : IsOfSource (ids_in slots) next.id next.item
+
+-- what each source was given after it
+abbrev pub given_after : NextItem → ℕ → List Put
+given_after next x = next.given x ++ unmarked (if next.id == x then items_of next.item else [])
+
+-- what its putting left, and what became sure with it
+pub record Left : Type 0 where
+  pub encoders : List SourceEncoder
+  pub old : SureWriter
+  pub new : SureWriter
+  pub more : List ℕ
+
+-- the encoders stand for it too, and its bytes were put
+pub record IsPut (next : NextItem) (left : Left) : Type 0 where
+  pub stand : AllStand next.order left.encoders (given_after next)
+  pub put : Puts left.old left.new (tagged next.id (item_bytes next.order (next.given next.id) next.item)) left.more
+
+-- the answer is good exactly where the item can be written, and then it is put
+pub record Answers (next : NextItem) (line : Line) (answer : Result (Unit {0}) LineFault) (left : Left) : Type 0 where
+  pub fits : OnOk answer (fitting_item line (items_in (next.given next.id)) next.item ≡ Ok line)
+  pub unfit : IfErr answer (λ fault. fitting_item line (items_in (next.given next.id)) next.item ≡ Err fault)
+  pub put : OnOk answer (IsPut next left)

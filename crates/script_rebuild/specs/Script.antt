@@ -1,7 +1,7 @@
 -- Scripts (this project's profile): what their lines say, what they give each source, and the bytes that they put.
 use Rattle.std.specs.Prelude.{ℕ, ◌+◌, List, [], ◌∷◌, ◌++◌, length, map, flat_map, ◌==◌, if◌then◌else◌}
 use Rattle.std.specs.Prelude.{Option, None, Some, Result, Ok, Err}
-use Rattle.std.specs.List.{slice_split}
+use Rattle.std.specs.List.{slice_split, filter, list_any, range_with_len}
 use Rattle.itm_grammar.specs.Shortest.{short}
 use Rattle.itm_grammar.specs.declared.packet.Size.{Size}
 use Rattle.itm_grammar.specs.declared.packet.ItmPacket.{ItmPacket}
@@ -112,9 +112,13 @@ put_of order lines = put_after order [] lines
 abbrev pub ends_of : Order → List Line → List ℕ → List Tagged
 ends_of order lines ids = ends_with order (λ x. given_puts x lines) ids
 
--- all that the lines of a script put
+-- IDs in increasing order
+unfoldable pub in_order : List ℕ → List ℕ
+in_order ids = filter (λ x. list_any (λ y. y == x) ids) (range_with_len 1 126)
+
+-- all that the lines of a script put: the kept nibbles come in the order of their sources' IDs
 abbrev pub script_bytes : Plan → List Line → List Tagged
-script_bytes plan lines = put_of plan.order lines ++ ends_of plan.order lines plan.stp
+script_bytes plan lines = put_of plan.order lines ++ ends_of plan.order lines (in_order plan.stp)
 
 -- == The lines of a script
 

@@ -1,7 +1,6 @@
 -- Scripts of version 1 and of version 2 (this project's profile): what their lines say, what they give each source, and
 -- the segments of bytes that they put. Version 1 has one segment.
 use Rattle.std.specs.Prelude.{ℕ, List, [], ◌∷◌, ◌++◌, map, flat_map, codes, ◌==◌, if◌then◌else◌, None, Result, Ok}
-use Rattle.std.specs.List.{filter, list_any, range_with_len}
 use Rattle.std.specs.Str.{bytes_eq}
 use Rattle.stp_grammar.specs.declared.packet.Order.{Order}
 use Rattle.stp_encoder.specs.Puts.{Put, unmarked}
@@ -15,7 +14,7 @@ use Rattle.script_text.specs.declared.version_two.Line2.TheVariants.{One, Flush,
 use Rattle.script_text.specs.declared.line_fault.LineFault.{LineFault}
 use Rattle.script_text.specs.Lines.{◌>>=◌, line_of}
 use Rattle.script_text.specs.VersionTwo.{as_one, line2_of}
-use Rattle.script_rebuild.specs.Script.{items_by, raw_by, tagged, bytes_with, ends_with, lines_in, fitting}
+use Rattle.script_rebuild.specs.Script.{items_by, raw_by, tagged, bytes_with, ends_with, in_order, lines_in, fitting}
 use Rattle.script_rebuild.specs.Script.{Reading, read_by}
 
 -- == What lines give each source
@@ -85,15 +84,11 @@ segments_after order ids before s (line ∷ lines) =
 abbrev pub segments_of : Order → List ℕ → List Line2 → Segments
 segments_of order ids lines = segments_after order ids [] (record { ended = []; begun = [] }) lines
 
--- the STP sources of a plan, in increasing order
-abbrev pub stp_ids : Plan → List ℕ
-stp_ids plan = filter (λ x. list_any (λ y. y == x) plan.stp) (range_with_len 1 126)
-
 -- all that the lines of a script put: after the last line the kept nibbles are put as at a flush
 abbrev pub script_segments : Plan → List Line2 → List (List Tagged)
 script_segments plan lines =
-    now_ended (with_bytes (segments_of plan.order (stp_ids plan) lines)
-    (ends_with plan.order (λ x. source_puts x lines) (stp_ids plan)))
+    now_ended (with_bytes (segments_of plan.order (in_order plan.stp) lines)
+    (ends_with plan.order (λ x. source_puts x lines) (in_order plan.stp)))
 
 -- == The lines of a script
 

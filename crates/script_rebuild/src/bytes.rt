@@ -1,32 +1,31 @@
 //! The bytes of items, and the putting of them.
 
-ghost use Rattle.std.specs.Prelude.{◌≡◌, ◌≤◌, ◌<◌, ◌+◌, ◌*◌, ◌++◌, ◌∷◌, [], ℕ, List, length};
-ghost use Rattle.std.specs.Result.{IfErr, OnErr, OnOk};
-ghost use Rattle.std.specs.Prelude.{Ok, Err, is_err};
+ghost use Rattle.std.specs.Prelude.{◌≡◌, ◌≤◌, ◌<◌, ◌+◌, ◌*◌, ◌++◌, ◌==◌, [], ℕ, List, length};
+ghost use Rattle.std.specs.List.{position};
+ghost use Rattle.std.specs.Result.{OnErr};
 ghost use Rattle.arrayvec.specs.ArrayVec.{array_vec_len};
 ghost use Rattle.trace_values.specs.declared.limits.TheConstants.{COUNT_ROOM};
 ghost use Rattle.itm_grammar.specs.Proper.{IsProper};
 ghost use Rattle.itm_grammar.specs.Shortest.{short};
 ghost use Rattle.stp_grammar.specs.Proper.{IsProperItem};
-ghost use Rattle.stp_encoder.specs.Fitting.{version_after, is_unfit};
-ghost use Rattle.stp_encoder.specs.Puts.{Put, Of, items_in, unmarked};
-ghost use Rattle.stp_encoder.specs.Bytes.{put_bytes as put_bytes_by};
-ghost use Rattle.stp_encoder.specs.Encoder.{Stands, order_of};
+ghost use Rattle.stp_grammar.specs.declared.packet.Order.{Order};
+ghost use Rattle.stp_encoder.specs.Puts.{Put};
 ghost use Rattle.frame_writer.specs.Sure.{count_of};
+ghost use Rattle.script_text.specs.declared.items.Item.TheVariants.{Stp};
 ghost use Rattle.script_text.specs.declared.lines.Line.{Line};
 ghost use Rattle.script_text.specs.Said.{IsSayable};
 ghost use Rattle.script_text.specs.declared.raw_bytes.TheConstants.{RAW_BYTES};
-ghost use Rattle.script_rebuild.specs.Script.{items_of, item_bytes as bytes_by, fitting_item, tagged};
+ghost use Rattle.script_rebuild.specs.Script.{tagged};
 ghost use Rattle.script_rebuild.specs.Putting.{Puts};
-ghost use Rattle.script_rebuild.specs.Encoding.{StandsFor};
+ghost use Rattle.script_rebuild.specs.Encoding.{ids_in, NextItem, Left, AreReady, Answers};
 
+use crate::encoders::{Encoders, SourceEncoder};
 use arrayvec::ArrayVec;
 use dwt_packets::packet_of;
 use frame_writer::SureWriter;
 use itm_codec::encode;
 use itm_grammar::packet::ItmPacket;
 use script_text::{Item, LineFault, RAW_BYTES};
-use stp_encoder::StpEncoder;
 use stp_grammar::item::StpItem;
 use trace_values::SourceId;
 
@@ -72,10 +71,18 @@ fn put_packet(frames: &mut SureWriter, id: SourceId, packet: &ItmPacket, out: &m
     put_bytes(frames, id, packed.as_slice(), out);
 }
 
-/// Puts the bytes that the encoder adds for an item. Apart, so that packets of other sources need no room for it.
+/// The index of the encoder of a source, if it is one of system traces.
+fn find(encoders: &[SourceEncoder], id: SourceId) -> Option<usize>
+    ensures { result ≡ position (λ e. e.id == id) encoders.now }
+{
+    encoders.iter().position(|slot| slot.id == id)
+}
+
+/// Puts the bytes that the encoder of a source adds for an item of its system trace. Apart, so that packets of other
+/// sources need no room for it.
 #[inline(never)]
 fn put_stp(
-    encoder: &mut StpEncoder,
+    encoders: &mut [SourceEncoder],
     frames: &mut SureWriter,
     id: SourceId,
     item: &StpItem,
@@ -85,20 +92,25 @@ fn put_stp(
     requires source { 0 < id }
     requires empty { out.old.items ≡ [] }
     requires room { count_of frames.old + 100 ≤ COUNT_ROOM }
-    ensures order { order_of encoder.new ≡ order_of encoder.old }
-    ensures unfit { (before : List Put) → Stands encoder.old before →
-        is_err result ≡ is_unfit (version_after (items_in before)) item.now }
-    ensures fault { IfErr result (λ f. f ≡ LineFault.Unfit) }
+    ensures ids { ids_in encoders.new ≡ ids_in encoders.old }
     ensures same { OnErr result
-        ((encoder.new ≡ encoder.old) × (frames.new ≡ frames.old) × (out.new ≡ out.old)) }
-    ensures list { (before : List Put) → Stands encoder.old before →
-        OnOk result (Stands encoder.new (before ++ Of item.now ∷ [])) }
-    ensures put { (before : List Put) → Stands encoder.old before → OnOk result
-        (Puts frames.old frames.new (tagged id (put_bytes_by (order_of encoder.old) before item.now)) out.new.items) }
+        ((encoders.new ≡ encoders.old) × (frames.new ≡ frames.old) × (out.new ≡ out.old)) }
+    ensures puts { (order : Order) (given : ℕ → List Put) (line : Line) →
+        let next : NextItem = record { order = order; given = given; id = id; item = Stp item.now } in
+        let left : Left = record {
+          encoders = encoders.new;
+          old = frames.old;
+          new = frames.new;
+          more = out.new.items;
+        } in
+        AreReady next encoders.old → Answers next line result left }
     ensures count { count_of frames.new ≤ count_of frames.old + 100 }
 {
+    let Some(index) = find(encoders, id) else {
+        return Err(LineFault::Unfit);
+    };
     let mut written = ArrayVec::new();
-    match encoder.put(item, &mut written) {
+    match encoders[index].encoder.put(item, &mut written) {
         Ok(()) => {
             put_bytes(frames, id, written.as_slice(), out);
             Ok(())
@@ -107,11 +119,11 @@ fn put_stp(
     }
 }
 
-/// Puts the bytes of an item of a source, which the encoder adds where it is one of a system trace, and gives what
+/// Puts the bytes of an item of a source, which its encoder adds where it is one of a system trace, and gives what
 /// becomes sure with them. Where it can't be written, all is as before.
 #[inline(always)]
 pub(crate) fn put_item(
-    encoder: &mut StpEncoder,
+    encoders: &mut Encoders,
     frames: &mut SureWriter,
     id: SourceId,
     item: &Item,
@@ -121,17 +133,18 @@ pub(crate) fn put_item(
     requires source { 0 < id }
     requires empty { out.old.items ≡ [] }
     requires room { count_of frames.old + 100 ≤ COUNT_ROOM }
-    ensures order { order_of encoder.new ≡ order_of encoder.old }
-    ensures fits { (before : List Put) (line : Line) → StandsFor encoder.old before item.now →
-        OnOk result (fitting_item line (items_in before) item.now ≡ Ok line) }
-    ensures unfit { (before : List Put) (line : Line) → StandsFor encoder.old before item.now →
-        IfErr result (λ fault. fitting_item line (items_in before) item.now ≡ Err fault) }
+    ensures ids { ids_in encoders.new.items ≡ ids_in encoders.old.items }
     ensures same { OnErr result
-        ((encoder.new ≡ encoder.old) × (frames.new ≡ frames.old) × (out.new ≡ out.old)) }
-    ensures list { (before : List Put) → Stands encoder.old before →
-        OnOk result (Stands encoder.new (before ++ unmarked (items_of item.now))) }
-    ensures put { (before : List Put) → StandsFor encoder.old before item.now → OnOk result
-        (Puts frames.old frames.new (tagged id (bytes_by (order_of encoder.old) before item.now)) out.new.items) }
+        ((encoders.new.items ≡ encoders.old.items) × (frames.new ≡ frames.old) × (out.new ≡ out.old)) }
+    ensures puts { (order : Order) (given : ℕ → List Put) (line : Line) →
+        let next : NextItem = record { order = order; given = given; id = id; item = item.now } in
+        let left : Left = record {
+          encoders = encoders.new.items;
+          old = frames.old;
+          new = frames.new;
+          more = out.new.items;
+        } in
+        AreReady next encoders.old.items → Answers next line result left }
     ensures count { count_of frames.new ≤ count_of frames.old + 100 }
 {
     match item {
@@ -141,7 +154,7 @@ pub(crate) fn put_item(
             let packet = ItmPacket::Hardware { disc, size, value };
             put_packet(frames, id, &packet, out);
         }
-        Item::Stp(item) => return put_stp(encoder, frames, id, item, out),
+        Item::Stp(item) => return put_stp(encoders.as_mut_slice(), frames, id, item, out),
         Item::Raw(raw) => put_bytes(frames, id, raw.as_slice(), out),
     }
     Ok(())

@@ -3,6 +3,7 @@
 #![tactic(auto)]
 
 mod bytes;
+mod encoders;
 pub mod laws;
 mod plan;
 mod rebuild;

@@ -6,7 +6,7 @@ use source_events::Plan;
 /// What the sources of a script send, and which synchronisations are written.
 #[derive(Drop)]
 pub struct RebuildPlan {
-    /// What is mapped: of system traces at most one source. Its modes make no difference.
+    /// What is mapped. Its modes make no difference.
     pub plan: Plan,
     /// A full synchronisation is written before each frame whose number, from 0 on, is a multiple of this; none where
     /// it is 0.

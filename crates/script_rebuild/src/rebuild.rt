@@ -1,17 +1,15 @@
 //! The action `rebuild`.
 
 ghost use Rattle.std.specs.Prelude.{◌≡◌, ◌≢◌, ◌≤◌, ◌<◌, ◌+◌, ◌*◌, ◌++◌, ◌==◌, [], ℕ, List, All, length, take};
-ghost use Rattle.std.specs.Prelude.{slice_index, true, false, None, Err, IfSome, option_map, option_to_list, is_some};
-ghost use Rattle.std.specs.Option.{ForSome};
+ghost use Rattle.std.specs.Prelude.{slice_index, false, None, Err, IfSome, option_map, is_some};
 ghost use Rattle.std.specs.Result.{IfErr, OnErr, OnOk};
 ghost use Rattle.trace_values.specs.declared.limits.TheConstants.{COUNT_ROOM};
 ghost use Rattle.trace_stream.specs.declared.limits.TheConstants.{GREATEST_CAPTURE};
 ghost use Rattle.trace_stream.specs.declared.outlet.TheConstants.{OUTLET_ROOM};
 ghost use Rattle.trace_stream.specs.declared.action.TheConstants.{ACTION_ROOM};
-ghost use Rattle.source_events.specs.Plan.{is_sound};
 ghost use Rattle.script_text.specs.declared.lines.Line.{Line};
 ghost use Rattle.script_text.specs.Quick.{IsPacketOf};
-ghost use Rattle.script_rebuild.specs.Script.{line_after};
+ghost use Rattle.script_rebuild.specs.Script.{in_order, line_after};
 ghost use Rattle.script_rebuild.specs.Writer.{stp_of, order_of, count_of};
 ghost use Rattle.script_rebuild.specs.Writer.{Stands as StandsForLines};
 ghost use Rattle.script_rebuild.specs.PutLine.{PutsLine};
@@ -23,7 +21,6 @@ use memchr::memchr;
 use script_text::{Item, LINE_BYTES, Line, LineFault, PacketLine, packet_line, read_into};
 use source_events::{Plan, SourceKind};
 use trace_stream::{Action, Outlet, Progress};
-use trace_values::SourceId;
 
 /// A script as it is read: its open line, and the writer of what the lines before it put. It allocates nothing.
 #[derive(Drop)]
@@ -45,7 +42,7 @@ pub struct Rebuild {
     ghost frames: { count_of writer ≤ 100 * count },
     ghost small: { count ≤ GREATEST_CAPTURE },
     ghost order: { order_of writer ≡ plan.plan.order },
-    ghost stp: { option_to_list (stp_of writer) ≡ plan.plan.stp },
+    ghost stp: { stp_of writer ≡ in_order plan.plan.stp },
 }
 
 /// How many of the first bytes are no line feed, at most this many.
@@ -70,19 +67,6 @@ fn append(line: &mut ArrayVec<u8, LINE_BYTES>, bytes: &[u8])
     let _ = line.try_extend_from_slice(bytes);
 }
 
-/// The source of system traces, if one is mapped.
-fn stp_source(plan: &Plan) -> Option<SourceId>
-    requires sound { is_sound plan.now ≡ true }
-    requires one { length plan.now.stp ≤ 1 }
-    ensures list { option_to_list result ≡ plan.now.stp }
-    ensures named { ForSome result (λ id. 0 < id) }
-{
-    match plan.stp.as_slice() {
-        [] => None,
-        [id, ..] => Some(*id),
-    }
-}
-
 /// Puts what a line says, which may have been found, and gives what has become sure with it. At a fault the writer is
 /// as before.
 #[inline(always)]
@@ -96,7 +80,7 @@ fn put_line(
     requires few { length text.now ≤ 256 }
     requires found { IfSome found.now (λ p. IsPacketOf text.now p.id p.packet) }
     requires order { order_of writer.old ≡ plan.now.order }
-    requires stp { option_to_list (stp_of writer.old) ≡ plan.now.stp }
+    requires stp { stp_of writer.old ≡ in_order plan.now.stp }
     requires empty { out.old.items ≡ [] }
     requires room { count_of writer.old + 100 ≤ COUNT_ROOM }
     ensures stp { stp_of writer.new ≡ stp_of writer.old }
@@ -144,18 +128,15 @@ impl Rebuild {
     ghost use Rattle.script_rebuild.specs.Rebuilder.{told, plan_of, taken_by, open_len, IsLive, Stands, TakesByte};
     ghost use Rattle.script_rebuild.specs.Rebuilder.{IsOpen, Feeds};
 
-    /// Nothing is read yet. The plan is sound, as `Plan::is_sound` tells, and maps at most one source of system traces.
+    /// Nothing is read yet.
     pub fn new(plan: RebuildPlan) -> Rebuild
         requires few { plan.halves ≤ 8 }
-        requires sound { is_sound plan.plan ≡ true }
-        requires one { length plan.plan.stp ≤ 1 }
         ensures plan { plan_of result ≡ plan }
         ensures stands { Stands result [] }
         ensures count { taken_by result ≡ 0 }
         ensures live { IsLive result }
     {
-        let stp = stp_source(&plan.plan);
-        let writer = LineWriter::new(stp, plan.plan.order, plan.every, plan.halves);
+        let writer = LineWriter::new(&plan.plan.stp, plan.plan.order, plan.every, plan.halves);
         Rebuild {
             plan,
             line: ArrayVec::new(),

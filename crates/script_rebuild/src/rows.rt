@@ -48,7 +48,7 @@ pub fn unfit()
 
 /// A flush puts the nibbles that are kept, of the STP sources in increasing order, each with a NULL above it, and ends
 /// the segment; so does the end. A trigger is a byte of source 125. The items of a source have a mark at each flush.
-#[tactic(auto, unfolding(stp_encoder::specs::Packets::packets_for, stp_encoder::specs::Packets::shortest_stamp, stp_encoder::specs::Bytes::nibbles_for, stp_grammar::specs::Attribution::version_of, stp_grammar::specs::Attribution::master_of, stp_grammar::specs::Attribution::channel_of, stp_grammar::specs::Attribution::last_word_of, trace_clock::specs::LastWord::last_word,))]
+#[tactic(auto, unfolding(stp_encoder::specs::Packets::packets_for, stp_encoder::specs::Packets::shortest_stamp, stp_encoder::specs::Bytes::nibbles_for, stp_grammar::specs::Attribution::version_of, stp_grammar::specs::Attribution::master_of, stp_grammar::specs::Attribution::channel_of, stp_grammar::specs::Attribution::last_word_of, trace_clock::specs::LastWord::last_word, crate::specs::Script::in_order,))]
 pub fn flushes()
     ensures put { script_segments two_stp flushed_lines ≡
         (of_source 3 (codes "FF FF FF FF FF FF FF FF FF FF 0F 0F 30 44")

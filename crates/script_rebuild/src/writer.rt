@@ -1,29 +1,29 @@
 //! The writer of lines.
 
 ghost use Rattle.std.specs.Prelude.{◌<◌};
-ghost use Rattle.std.specs.Option.{ForSome};
+ghost use Rattle.std.specs.List.{All};
 
 use crate::bytes::{LineBytes, append, put_bytes, put_item};
+use crate::encoders::{Encoders, encoders_for};
 use arrayvec::ArrayVec;
 use frame_writer::{SureWriter, TwoFrames};
 use script_text::{Line, LineFault};
-use stp_encoder::StpEncoder;
+use source_events::SourceIds;
 use stp_grammar::packet::Order;
-use trace_values::SourceId;
 
 /// Writes the lines of a script as a capture: the bytes of each item as bytes of its source, in the frames of a
-/// `SureWriter`. A nibble of the system trace is kept until the rest of its byte is known.
+/// `SureWriter`. A nibble of a system trace is kept until the rest of its byte is known.
 #[derive(Drop)]
 pub struct LineWriter {
-    /// The source of the items of a system trace.
-    stp: Option<SourceId>,
-    encoder: StpEncoder,
+    /// In which order the nibbles of numbers of a system trace are written.
+    order: Order,
+    encoders: Encoders,
     frames: SureWriter,
-    ghost named: { ForSome stp (λ id. 0 < id) },
+    ghost named: { All (λ e. 0 < e.id) encoders.items },
 }
 
 impl LineWriter {
-    ghost use Rattle.std.specs.Prelude.{◌≡◌, ◌≤◌, ◌+◌, ◌-◌, ◌++◌, ◌∷◌, [], ℕ, List, Ok, Err, option_to_list};
+    ghost use Rattle.std.specs.Prelude.{◌≡◌, ◌≤◌, ◌+◌, ◌-◌, ◌++◌, ◌∷◌, [], ℕ, List, Ok, Err};
     ghost use Rattle.std.specs.Result.{IfErr, OnErr, OnOk};
     ghost use Rattle.trace_values.specs.declared.limits.TheConstants.{COUNT_ROOM};
     ghost use Rattle.frame_writer.specs.Written.{capture};
@@ -33,24 +33,23 @@ impl LineWriter {
     ghost use Rattle.script_rebuild.specs.Putting.{Puts};
     ghost use Rattle.script_rebuild.specs.declared.bytes.TheConstants.{LINE_ROOM};
     ghost use Rattle.script_text.specs.declared.lines.Line.{Line};
-    ghost use Rattle.script_rebuild.specs.Script.{put_of, ends_of, fitting};
+    ghost use Rattle.script_rebuild.specs.Script.{put_of, ends_of, in_order, fitting};
     ghost use Rattle.script_rebuild.specs.Writer.{stp_of, order_of, count_of, CanBePut, Stands};
 
-    /// A writer of no line. The items of a system trace are those of the source `stp`, and their numbers are written in
+    /// A writer of no line. The items of system traces are those of the sources `stp`, and their numbers are written in
     /// this order of their nibbles. Synchronisations are written as `FrameWriter::new` says: a full one before each
     /// frame whose number is a multiple of `every`, none where that is 0, and `halves` half ones, at most 8, in each
     /// gap of a frame.
-    pub fn new(stp: Option<SourceId>, order: Order, every: u32, halves: u8) -> LineWriter
-        requires named { ForSome stp (λ id. 0 < id) }
+    pub fn new(stp: &SourceIds, order: Order, every: u32, halves: u8) -> LineWriter
         requires few { halves ≤ 8 }
         ensures fresh { Stands result every halves [] }
-        ensures stp { stp_of result ≡ stp }
+        ensures stp { stp_of result ≡ in_order stp.now }
         ensures order { order_of result ≡ order }
         ensures count { count_of result ≡ 0 }
     {
         LineWriter {
-            stp,
-            encoder: StpEncoder::new(order),
+            order,
+            encoders: encoders_for(stp, order),
             frames: SureWriter::new(every, halves),
         }
     }
@@ -90,7 +89,7 @@ impl LineWriter {
     {
         match line {
             Line::Nothing => Ok(()),
-            Line::Of { id, item } => put_item(&mut self.encoder, &mut self.frames, *id, item, out),
+            Line::Of { id, item } => put_item(&mut self.encoders, &mut self.frames, *id, item, out),
         }
     }
 
@@ -102,43 +101,46 @@ impl LineWriter {
         ensures list { (every halves : ℕ) (lines : List Line) → Stands self.now every halves lines →
             Stands result every halves lines }
     {
+        let mut encoders = ArrayVec::new();
+        let _ = encoders.try_extend_from_slice(self.encoders.as_slice());
         LineWriter {
-            stp: self.stp,
-            encoder: self.encoder,
+            order: self.order,
+            encoders,
             frames: self.frames.copied(),
         }
     }
 
-    /// The rest of the capture, once the lines are at their end: what is not sure of it, and before it the nibble that
-    /// is kept of the system trace, with a NULL above it.
+    /// The rest of the capture, once the lines are at their end: what is not sure of it, and before it the nibbles that
+    /// are kept of system traces, each with a NULL above it, in increasing order of their sources' IDs.
     pub fn rest(&self, out: &mut LineBytes)
         requires empty { out.old.items ≡ [] }
-        requires room { count_of self.now < COUNT_ROOM }
+        requires room { count_of self.now + 100 ≤ COUNT_ROOM }
         ensures whole { (every halves : ℕ) (lines : List Line) → Stands self.now every halves lines →
             let order = order_of self.now in
-            capture every halves (put_of order lines ++ ends_of order lines (option_to_list (stp_of self.now))) ≡
+            capture every halves (put_of order lines ++ ends_of order lines (stp_of self.now)) ≡
             sure every halves (put_of order lines) ++ out.new.items }
     {
         let mut frames = self.frames.copied();
-        self.put_end(&mut frames, out);
+        self.put_ends(&mut frames, out);
         let mut rest = TwoFrames::new();
         frames.rest(&mut rest);
         append(out, rest.as_slice());
     }
 
-    /// Puts the byte of the nibble that is kept, if there is one.
-    fn put_end(&self, frames: &mut SureWriter, out: &mut LineBytes)
+    /// Puts the bytes of the nibbles that are kept.
+    fn put_ends(&self, frames: &mut SureWriter, out: &mut LineBytes)
         requires empty { out.old.items ≡ [] }
-        requires room { frame_count frames.old < COUNT_ROOM }
+        requires room { frame_count frames.old + 100 ≤ COUNT_ROOM }
         ensures put { (every halves : ℕ) (lines : List Line) → Stands self.now every halves lines →
-            let ends = ends_of (order_of self.now) lines (option_to_list (stp_of self.now)) in
-            Puts frames.old frames.new ends out.new.items }
+            Puts frames.old frames.new (ends_of (order_of self.now) lines (stp_of self.now)) out.new.items }
         ensures few { array_vec_len out.new ≤ LINE_ROOM - 528 }
     {
-        if let Some(id) = self.stp {
+        for slot in self.encoders.as_slice() {
             let mut last = ArrayVec::new();
-            self.encoder.finish(&mut last);
-            put_bytes(frames, id, last.as_slice(), out);
+            slot.encoder.finish(&mut last);
+            let mut sure = LineBytes::new();
+            put_bytes(frames, slot.id, last.as_slice(), &mut sure);
+            append(out, sure.as_slice());
         }
     }
 }

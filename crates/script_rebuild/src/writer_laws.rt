@@ -1,11 +1,10 @@
 //! Laws of scripts of both versions, over their definitions alone.
 
-ghost use Rattle.std.specs.Prelude.{◌≡◌, ◌≤◌, ◌++◌, ◌∷◌, [], ℕ, List, length, map, true, false};
+ghost use Rattle.std.specs.Prelude.{◌≡◌, ◌++◌, ◌∷◌, [], ℕ, List, map, false};
 ghost use Rattle.std.specs.Str.{bytes_eq};
 ghost use Rattle.stp_grammar.specs.declared.packet.Order.{Order};
 ghost use Rattle.stp_encoder.specs.Puts.{items_in};
 ghost use Rattle.source_events.specs.declared.plan.Plan.{Plan};
-ghost use Rattle.source_events.specs.Plan.{is_sound};
 ghost use Rattle.script_text.specs.declared.lines.Line.{Line};
 ghost use Rattle.script_text.specs.declared.version_two.Line2.{Line2};
 ghost use Rattle.script_text.specs.declared.version_two.Line2.TheVariants.{One};
@@ -15,11 +14,11 @@ ghost use Rattle.script_rebuild.specs.Versions.{ones, source_puts, now_ended, wi
 ghost use Rattle.script_rebuild.specs.Versions.{line_bytes, header, first_text, script2_of, as_ones};
 
 /// A script whose first line is not the header is read as one of version 1, and what its lines put is one segment, with
-/// the bytes that version 1 puts, where at most one source of system traces is mapped.
+/// the bytes that version 1 puts.
 pub fn one_version_law()
     ensures reading { (plan : Plan) (script : List ℕ) → bytes_eq header (first_text script) ≡ false →
         script2_of plan script ≡ as_ones (script_of plan script) }
-    ensures segments { (plan : Plan) (lines : List Line) → is_sound plan ≡ true → length plan.stp ≤ 1 →
+    ensures segments { (plan : Plan) (lines : List Line) →
         script_segments plan (map One lines) ≡ script_bytes plan lines ∷ [] }
 {}
 

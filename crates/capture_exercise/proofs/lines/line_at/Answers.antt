@@ -1,8 +1,9 @@
 use Rattle.std.proofs.Common.{subst, sym, ◌∙◌, ap}
-use Rattle.std.specs.Prelude.{Some}
+use Rattle.std.specs.Prelude.{◌∷◌, []}
 use Rattle.script_text.specs.declared.lines.Line.{Line}
 use Rattle.trace_vectors.specs.declared.made.Made.{Made}
 use Rattle.trace_vectors.specs.Items.{IsProperMade}
+use Rattle.script_rebuild.specs.Script.{in_order}
 use Rattle.script_rebuild.specs.Writer.{CanBePut}
 use Rattle.capture_exercise.specs.Exercise.{line_of_made}
 use Rattle.capture_exercise.proofs.Saying.{line_said}
@@ -12,4 +13,4 @@ pub returns-clause-said : goal.returns-clause-said
 returns-clause-said c =
     let proper = subst (λ (m : Made). IsProperMade m) c.item_at.ensures.value c.item_at.ensures.proper in
     let said = line_said c.args.k proper in
-    subst (λ (l : Line). CanBePut (Some 2) l) (sym (c.line_of.ensures ∙ ap line_of_made c.item_at.ensures.value)) said
+    subst (λ (l : Line). CanBePut (in_order (2 ∷ [])) l) (sym (c.line_of.ensures ∙ ap line_of_made c.item_at.ensures.value)) said

@@ -18,4 +18,5 @@ returns c = record {
   unring = all_answered _ refl refl;
   split = all_answered _ refl refl;
   check = all_answered _ refl refl;
+  several = all_answered _ refl refl;
 }

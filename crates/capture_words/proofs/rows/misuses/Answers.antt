@@ -10,5 +10,7 @@ unfolding trace_app clap_on_literals digits
 returns c = record {
   bad_values = all_answered _ refl refl;
   bad_choices = all_answered _ refl refl;
+  bad_ids = all_answered _ refl refl;
+  mapped_twice = all_answered _ refl refl;
   order = all_answered _ refl refl;
 }

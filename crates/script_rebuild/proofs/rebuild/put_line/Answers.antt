@@ -8,7 +8,8 @@ use Rattle.frame_writer.specs.Fronts.{sure}
 use Rattle.script_text.specs.declared.line_fault.LineFault.{LineFault}
 use Rattle.script_text.specs.Lines.{answer}
 use Rattle.script_rebuild.specs.Script.{line_after, fitting, put_of}
-use Rattle.script_rebuild.proofs.Sources.{says_line, all_ok, err_weaker, packet_read, packet_said, there}
+use Rattle.script_rebuild.specs.Writer.{CanBePut}
+use Rattle.script_rebuild.proofs.Sources.{says_line, all_ok, err_weaker, packet_read, packet_said, can_be_put, there}
 use Rattle.script_rebuild.proofs.rebuild.put_line.Goals as goal
 
 pub returns-in-Ok-clause-ok : goal.returns-in-Ok-clause-ok
@@ -65,3 +66,7 @@ returns-in-Some-Itm-clause-err c = λ every halves lines s.
     err_weaker c.put.result (λ (fault : LineFault). fitting lines line ≡ Err fault) (λ (fault : LineFault). line_after c.args.plan.now lines c.args.text.now ≡ Err fault)
     (λ fault h. says_line c.args.plan.now lines c.args.text.now line (Err fault) read h)
     (c.put.ensures.unfit every halves lines s)
+
+pub put-requires-in-Ok-clause-said : goal.put-requires-in-Ok-clause-said
+put-requires-in-Ok-clause-said c =
+    subst (λ ids. CanBePut ids c.read_into.new.said) (sym c.requires.stp) (can_be_put c.args.plan.now c.read_into.new.said c.in-Ok.ensures.said)

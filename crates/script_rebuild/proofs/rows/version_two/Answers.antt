@@ -10,6 +10,7 @@ use Rattle.script_text.specs.Lines.{line_of_words, line_of}
 use Rattle.script_text.specs.VersionTwo.{trigger_said, line2_of}
 use Rattle.stp_encoder.specs.Bytes.{nibbles_for}
 use Rattle.frame_writer.specs.Written.{filled, frame_bytes, frames_by}
+use Rattle.script_rebuild.specs.Script.{in_order}
 use Rattle.script_rebuild.proofs.rows.version_two.Goals as goal
 
 pub returns-clause-lines : goal.returns-clause-lines
@@ -17,7 +18,7 @@ unfolding line2_of trigger_said line_of line_of_words shape_named itm_of dwt_of 
 returns-clause-lines c = refl
 
 pub returns-clause-capture : goal.returns-clause-capture
-unfolding line2_of trigger_said line_of line_of_words shape_named itm_of dwt_of name stp_of raw_named hexadecimal_named digits decode_pairs nibbles_for filled frame_bytes frames_by
+unfolding line2_of trigger_said line_of line_of_words shape_named itm_of dwt_of name stp_of raw_named hexadecimal_named digits decode_pairs nibbles_for filled frame_bytes frames_by in_order
 returns-clause-capture c = refl
 
 pub returns-clause-header_alone : goal.returns-clause-header_alone

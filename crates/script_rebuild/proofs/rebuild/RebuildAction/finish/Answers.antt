@@ -1,5 +1,4 @@
 use Rattle.std.proofs.Common.{◌≤◌, [], ◌∷◌, ◌∙◌, ◌++◌, sym, ap, length, arith}
-use Rattle.std.specs.Option.{option_to_list}
 use Rattle.script_rebuild.specs.Rebuilt.{read_so_far}
 use Rattle.script_rebuild.proofs.Taking.{fault_none, ends_whole, ends_at_fault, ends_at_last}
 use Rattle.script_rebuild.proofs.rebuild.RebuildAction.finish.Goals as goal
@@ -22,7 +21,7 @@ returns-in-Ok c = record {
       ∙ ap (λ l. l ++ c.as_slice-in-Ok-2.result.now) (c.append.ensures ∙ ap (λ l. l ++ c.as_slice-in-Ok.result.now) c.requires.empty ∙ c.as_slice-in-Ok.ensures.value)
       ∙ ap (λ l. out ++ l) c.as_slice-in-Ok-2.ensures.value
       ∙ sym (ends_whole r c.put_line.new.writer seen c.as_slice.result.now out c.rest.new.out.items s live few c.as_slice.ensures.value puts
-      (c.put_line.ensures.order ∙ c.copied-writer.ensures.order ∙ r.order) (ap option_to_list (c.put_line.ensures.stp ∙ c.copied-writer.ensures.stp) ∙ r.stp)
+      (c.put_line.ensures.order ∙ c.copied-writer.ensures.order ∙ r.order) (c.put_line.ensures.stp ∙ c.copied-writer.ensures.stp ∙ r.stp)
       (c.rest.ensures.whole r.plan.every r.plan.halves (lines ++ puts.line ∷ []) puts.stands));
 }
 
