@@ -90,7 +90,7 @@ returns-clause-fed g c =
       record {
         same = c.step-step.ensures.same ∙ c.take.ensures.same;
         live = c.step-step.ensures.tells.0 ∙ goes_as c.step-step.result ∙ sym (ap (λ (o : Option Fault). is_none o) c.give_step.ensures.fault);
-        few = (let a = c.step-step.ensures.few in let b = (c.take.ensures.none none).1 in omega (arith, a, b));
+        few = (let a = c.step-step.ensures.few in let b = (c.take.ensures.none none).1 in let d = (c.take.ensures.none none).2 in omega (arith, a, b, d));
         feeds = λ u old h.
             subst (λ (l : List Cell). FeedsBy reading now u l c.args.source (old ++ es) c.give_step.result)
             (sym (next_cell run done cell c.requires.done c.cell-cell.ensures))
