@@ -15,7 +15,7 @@ use Rattle.script_rebuild.specs.declared.plan.RebuildPlan.{RebuildPlan}
 use Rattle.script_rebuild.specs.declared.plan.ScriptFault.{ScriptFault}
 use Rattle.script_rebuild.specs.declared.rebuild.Rebuild.{Rebuild}
 use Rattle.script_rebuild.specs.Rebuilt.{IsFaulty, open_line, read_so_far, text, ending, left_of, script_capture, rebuild_meaning}
-use Rattle.script_rebuild.specs.PutLine.{PutsLine}
+use Rattle.script_rebuild.specs.PutLine.{PutsLine, IsFor}
 use Rattle.script_rebuild.specs.Rebuilder.{told, IsLive, Stands, TakesByte, Feeds}
 use Rattle.script_rebuild.specs.SplitLaws.{plain_open, fed_open}
 use Rattle.script_rebuild.specs.ReadingLaws.{with_answer}
@@ -184,17 +184,16 @@ last_says r seen words answer s live few same says =
     (ap (line_after r.plan.plan (read_so_far r.plan.plan seen).lines) (sym (same ∙ s.open_bytes live)) ∙ says)
 
 pub ends_whole : (r : Rebuild) (w : LineWriter) (seen words out rest : List ℕ) → Stands r seen → r.fault ≡ None → length r.line.items ≤ 256 → words ≡ r.line.items →
-    (puts : PutsLine r.plan.plan words w r.plan.every r.plan.halves (read_so_far r.plan.plan seen).lines out) → writers.order_of w ≡ r.plan.plan.order →
-    writers.stp_of w ≡ in_order r.plan.plan.stp →
+    (puts : PutsLine r.plan.plan words w r.plan.every r.plan.halves (read_so_far r.plan.plan seen).lines out) → IsFor r.plan.plan w →
     (let lines = (read_so_far r.plan.plan seen).lines ++ puts.line ∷ [] in
     capture r.plan.every r.plan.halves (put_of (writers.order_of w) lines ++ ends_of (writers.order_of w) lines (writers.stp_of w))
     ≡ sure r.plan.every r.plan.halves (put_of (writers.order_of w) lines) ++ rest) →
     ending r.plan seen ≡ out ++ rest
-ends_whole r w seen words out rest s live few same puts order stp whole =
+ends_whole r w seen words out rest s live few same puts suits whole =
     let p = r.plan in
     let lines = (read_so_far p.plan seen).lines ++ puts.line ∷ [] in
-    let with_stp = subst (λ (ids : List ℕ). capture p.every p.halves (put_of (writers.order_of w) lines ++ ends_of (writers.order_of w) lines ids) ≡ sure p.every p.halves (put_of (writers.order_of w) lines) ++ rest) stp whole in
-    let all = subst (λ (o : Order). capture p.every p.halves (put_of o lines ++ ends_of o lines (in_order p.plan.stp)) ≡ sure p.every p.halves (put_of o lines) ++ rest) order with_stp in
+    let with_stp = subst (λ (ids : List ℕ). capture p.every p.halves (put_of (writers.order_of w) lines ++ ends_of (writers.order_of w) lines ids) ≡ sure p.every p.halves (put_of (writers.order_of w) lines) ++ rest) suits.stp whole in
+    let all = subst (λ (o : Order). capture p.every p.halves (put_of o lines ++ ends_of o lines (in_order p.plan.stp)) ≡ sure p.every p.halves (put_of o lines) ++ rest) suits.order with_stp in
     ap (λ (x : Reading Line). left_of (capture p.every p.halves (script_bytes p.plan x.lines)) (text p seen) x.fault) (last_says r seen words (Ok puts.line) s live few same puts.says)
     ∙ behind_front (text p seen) (out ++ rest) (capture p.every p.halves (script_bytes p.plan lines)) (all ∙ ap (λ l. l ++ rest) puts.grown ∙ append_assoc (text p seen) out rest)
 
@@ -227,8 +226,7 @@ opened r line n small = record {
   given = r.given;
   frames = omega (arith, r.frames);
   small = small;
-  order = r.order;
-  stp = r.stp;
+  suits = r.suits;
 }
 
 no_items : (l : List ℕ) → length l ≡ 0 → l ≡ []

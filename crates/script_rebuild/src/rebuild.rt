@@ -8,11 +8,10 @@ ghost use Rattle.trace_stream.specs.declared.limits.TheConstants.{GREATEST_CAPTU
 ghost use Rattle.trace_stream.specs.declared.outlet.TheConstants.{OUTLET_ROOM};
 ghost use Rattle.trace_stream.specs.declared.action.TheConstants.{ACTION_ROOM};
 ghost use Rattle.script_text.specs.declared.lines.Line.{Line};
-ghost use Rattle.script_text.specs.Quick.{IsPacketOf};
-ghost use Rattle.script_rebuild.specs.Script.{in_order, line_after};
-ghost use Rattle.script_rebuild.specs.Writer.{stp_of, order_of, count_of};
+ghost use Rattle.script_rebuild.specs.Script.{line_after};
+ghost use Rattle.script_rebuild.specs.Writer.{count_of};
 ghost use Rattle.script_rebuild.specs.Writer.{Stands as StandsForLines};
-ghost use Rattle.script_rebuild.specs.PutLine.{PutsLine};
+ghost use Rattle.script_rebuild.specs.PutLine.{PutsLine, IsFor, IsText};
 
 use crate::plan::{RebuildPlan, ScriptFault};
 use crate::{LineBytes, LineWriter};
@@ -41,8 +40,7 @@ pub struct Rebuild {
     ghost given: { sure.items ≡ [] },
     ghost frames: { count_of writer ≤ 100 * count },
     ghost small: { count ≤ GREATEST_CAPTURE },
-    ghost order: { order_of writer ≡ plan.plan.order },
-    ghost stp: { stp_of writer ≡ in_order plan.plan.stp },
+    ghost suits: { IsFor plan.plan writer },
 }
 
 /// How many of the first bytes are no line feed, at most this many.
@@ -77,14 +75,11 @@ fn put_line(
     found: &Option<PacketLine>,
     out: &mut LineBytes,
 ) -> Result<(), LineFault>
-    requires few { length text.now ≤ 256 }
-    requires found { IfSome found.now (λ p. IsPacketOf text.now p.id p.packet) }
-    requires order { order_of writer.old ≡ plan.now.order }
-    requires stp { stp_of writer.old ≡ in_order plan.now.stp }
+    requires text { IsText text.now found.now }
+    requires plan { IsFor plan.now writer.old }
     requires empty { out.old.items ≡ [] }
     requires room { count_of writer.old + 100 ≤ COUNT_ROOM }
-    ensures stp { stp_of writer.new ≡ stp_of writer.old }
-    ensures order { order_of writer.new ≡ order_of writer.old }
+    ensures plan { IsFor plan.now writer.new }
     ensures count { count_of writer.new ≤ count_of writer.old + 100 }
     ensures same { OnErr result ((writer.new ≡ writer.old) × (out.new ≡ out.old)) }
     ensures ok { (every halves : ℕ) (lines : List Line) → StandsForLines writer.old every halves lines →
@@ -247,8 +242,7 @@ impl Rebuild {
     #[inline(always)]
     fn end_line(&mut self, text: &[u8], found: &Option<PacketLine>, outlet: &mut Outlet) -> bool
         requires live { IsLive self.old }
-        requires few { length text.now ≤ 256 }
-        requires found { IfSome found.now (λ p. IsPacketOf text.now p.id p.packet) }
+        requires text { IsText text.now found.now }
         requires room { length outlet.old + ACTION_ROOM ≤ OUTLET_ROOM }
         requires count { taken_by self.old < GREATEST_CAPTURE }
         ensures same { plan_of self.new ≡ plan_of self.old }
@@ -291,9 +285,8 @@ impl Rebuild {
     ) -> Progress
         requires live { IsLive self.old }
         requires closed { open_len self.old ≡ 0 }
-        requires few { length text.now ≤ 256 }
+        requires text { IsText text.now found.now }
         requires plain { All (λ b. (b == 10) ≡ false) text.now }
-        requires found { IfSome found.now (λ p. IsPacketOf text.now p.id p.packet) }
         requires room { length outlet.old + ACTION_ROOM ≤ OUTLET_ROOM }
         requires count { taken_by self.old + length text.now < GREATEST_CAPTURE }
         ensures bytes { result.bytes ≡ length text.now + 1 }

@@ -23,8 +23,8 @@ pub struct LineWriter {
 }
 
 impl LineWriter {
-    ghost use Rattle.std.specs.Prelude.{◌≡◌, ◌≤◌, ◌+◌, ◌-◌, ◌++◌, ◌∷◌, [], ℕ, List, Ok, Err};
-    ghost use Rattle.std.specs.Result.{IfErr, OnErr, OnOk};
+    ghost use Rattle.std.specs.Prelude.{◌≡◌, ◌≤◌, ◌+◌, ◌-◌, ◌++◌, ◌∷◌, [], ℕ, List};
+    ghost use Rattle.std.specs.Result.{OnErr};
     ghost use Rattle.trace_values.specs.declared.limits.TheConstants.{COUNT_ROOM};
     ghost use Rattle.frame_writer.specs.Written.{capture};
     ghost use Rattle.frame_writer.specs.Fronts.{sure};
@@ -33,7 +33,8 @@ impl LineWriter {
     ghost use Rattle.script_rebuild.specs.Putting.{Puts};
     ghost use Rattle.script_rebuild.specs.declared.bytes.TheConstants.{LINE_ROOM};
     ghost use Rattle.script_text.specs.declared.lines.Line.{Line};
-    ghost use Rattle.script_rebuild.specs.Script.{put_of, ends_of, in_order, fitting};
+    ghost use Rattle.script_rebuild.specs.Script.{put_of, ends_of, in_order};
+    ghost use Rattle.script_rebuild.specs.PutLine.{PutsAfter};
     ghost use Rattle.script_rebuild.specs.Writer.{stp_of, order_of, count_of, CanBePut, Stands};
 
     /// A writer of no line. The items of system traces are those of the sources `stp`, and their numbers are written in
@@ -74,17 +75,10 @@ impl LineWriter {
         requires room { count_of self.old + 100 ≤ COUNT_ROOM }
         ensures stp { stp_of self.new ≡ stp_of self.old }
         ensures order { order_of self.new ≡ order_of self.old }
-        ensures fits { (every halves : ℕ) (lines : List Line) → Stands self.old every halves lines →
-            OnOk result (fitting lines line.now ≡ Ok line.now) }
-        ensures unfit { (every halves : ℕ) (lines : List Line) → Stands self.old every halves lines →
-            IfErr result (λ fault. fitting lines line.now ≡ Err fault) }
+        ensures puts { (every halves : ℕ) (lines : List Line) → Stands self.old every halves lines →
+            PutsAfter self.old self.new every halves lines
+            (record { line = line.now; answer = result; more = out.new.items }) }
         ensures same { OnErr result ((self.new ≡ self.old) × (out.new ≡ out.old)) }
-        ensures list { (every halves : ℕ) (lines : List Line) → Stands self.old every halves lines →
-            OnOk result (Stands self.new every halves (lines ++ line.now ∷ [])) }
-        ensures grown { (every halves : ℕ) (lines : List Line) → Stands self.old every halves lines →
-            OnOk result (let order = order_of self.old in
-            sure every halves (put_of order (lines ++ line.now ∷ [])) ≡
-            sure every halves (put_of order lines) ++ out.new.items) }
         ensures count { count_of self.new ≤ count_of self.old + 100 }
     {
         match line {

@@ -19,7 +19,7 @@ invariant_of-self-else-self-clause-stands c =
     let fits = subst (λ (x : Line). fitting lines x ≡ Ok x) (sym c.line_at-line.ensures.value) (line_fits self.next) in
     ∥∥₁_map self.stands (λ s.
     stands_more c.put.new.self self.next line c.line_at-line.ensures.value
-    (surely c.put.result (fitting lines line) line _ fits (c.put.ensures.unfit 64 0 lines s) (c.put.ensures.list 64 0 lines s)))
+    (surely c.put.result (fitting lines line) line _ fits (c.put.ensures.puts 64 0 lines s).unfit (c.put.ensures.puts 64 0 lines s).list))
 
 pub returns-then-self-clause-bytes : goal.returns-then-self-clause-bytes
 returns-then-self-clause-bytes c =
@@ -43,4 +43,4 @@ returns-else-self-clause-bytes c =
     line_made self.is_whole (self.items - self.next + 1) (later self.items self.next) (later self.items (self.next + 1)) out
     c.requires.more
     (line_bytes self.items self.next (order_of self.writer) line out below self.order c.line_at-line.ensures.value
-    (surely c.put.result (fitting lines line) line _ fits (c.put.ensures.unfit 64 0 lines s) (c.put.ensures.grown 64 0 lines s))))
+    (surely c.put.result (fitting lines line) line _ fits (c.put.ensures.puts 64 0 lines s).unfit (c.put.ensures.puts 64 0 lines s).grown)))

@@ -15,7 +15,7 @@ returns-in-Ok-clause-taken c = λ mid seen is s.
     let out = c.put_line.new.out.items in
     let lines = (read_so_far mid.plan.plan seen).lines in
     let live = is.fault ∙ c.requires.live in
-    let few : length mid.line.items ≤ 256 = omega (arith, ap length is.line_is, c.requires.few) in
+    let few : length mid.line.items ≤ 256 = omega (arith, ap length is.line_is, c.requires.text.0) in
     let at = subst (λ (w : LineWriter). writers.Stands w mid.plan.every mid.plan.halves lines) is.writer s.writer in
     let puts = subst (λ (p : RebuildPlan). PutsLine p.plan text c.put_line.new.writer mid.plan.every mid.plan.halves lines out) (sym is.plan)
     (c.in-Ok.ensures.ok mid.plan.every mid.plan.halves lines at) in
@@ -28,7 +28,7 @@ returns-in-Err-clause-taken c = λ mid seen is s.
     let fault = c.in-Err.fault in
     let lines = (read_so_far mid.plan.plan seen).lines in
     let live = is.fault ∙ c.requires.live in
-    let few : length mid.line.items ≤ 256 = omega (arith, ap length is.line_is, c.requires.few) in
+    let few : length mid.line.items ≤ 256 = omega (arith, ap length is.line_is, c.requires.text.0) in
     let at = subst (λ (w : LineWriter). writers.Stands w mid.plan.every mid.plan.halves lines) is.writer s.writer in
     let says = subst (λ (p : RebuildPlan). line_after p.plan lines text ≡ Err fault) (sym is.plan) (c.in-Err.ensures.err mid.plan.every mid.plan.halves lines at) in
     refused mid _ seen 10 fault c.args.outlet.now (sym is.plan) live (ap (λ (n : ℕ). Some (record { line = n + 1; fault = fault })) (sym is.lines)) (ap (λ (n : ℕ). n + 1) (sym is.count))

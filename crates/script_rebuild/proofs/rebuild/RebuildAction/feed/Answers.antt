@@ -1,6 +1,6 @@
-use Rattle.std.proofs.Common.{◌≡◌, ◌∷◌, [], ◌++◌, ◌+◌, ◌∙◌, ℕ, ap, sym, subst, take}
+use Rattle.std.proofs.Common.{arith, ◌≡◌, ◌∷◌, [], ◌++◌, ◌+◌, ◌∙◌, ℕ, ap, sym, subst, take}
 use Rattle.std.specs.Prelude.{IfSome}
-use Rattle.std.proofs.lemmas.List.{take_more, length-take-le}
+use Rattle.std.proofs.lemmas.List.{take_more, length-take, length-take-le}
 use Rattle.script_text.specs.declared.quick.PacketLine.{PacketLine}
 use Rattle.script_text.specs.Quick.{IsFirstLine, IsPacketOf}
 use Rattle.script_rebuild.specs.Rebuilder.{Feeds}
@@ -22,10 +22,14 @@ pub take_line-requires-clause-plain : goal.take_line-requires-clause-plain
 take_line-requires-clause-plain c =
     first_plain c.args.piece.now c.in-Some.line (there (IsFirstLine c.args.piece.now) c.packet_line-found.result c.in-Some.line c.in-Some.is c.packet_line-found.ensures)
 
-pub take_line-requires-clause-found : goal.take_line-requires-clause-found
-take_line-requires-clause-found c =
-    subst (λ o. IfSome o (λ (p : PacketLine). IsPacketOf (take c.in-Some.line.bytes c.args.piece.now) p.id p.packet)) (sym c.in-Some.is)
-    (first_says c.args.piece.now c.in-Some.line (there (IsFirstLine c.args.piece.now) c.packet_line-found.result c.in-Some.line c.in-Some.is c.packet_line-found.ensures))
+pub take_line-requires-clause-text : goal.take_line-requires-clause-text
+take_line-requires-clause-text c =
+    let first = there (IsFirstLine c.args.piece.now) c.packet_line-found.result c.in-Some.line c.in-Some.is c.packet_line-found.ensures in
+    let size = length-take c.in-Some.line.bytes c.args.piece.now in (
+      omega (arith, size, first.bytes, first.few),
+      subst (λ o. IfSome o (λ (p : PacketLine). IsPacketOf (take c.in-Some.line.bytes c.args.piece.now) p.id p.packet)) (sym c.in-Some.is)
+          (first_says c.args.piece.now c.in-Some.line first),
+    )
 
 pub returns-in-Some-clause-fed : goal.returns-in-Some-clause-fed
 returns-in-Some-clause-fed c = λ seen s.

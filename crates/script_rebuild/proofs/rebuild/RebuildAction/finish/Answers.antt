@@ -21,7 +21,7 @@ returns-in-Ok c = record {
       ∙ ap (λ l. l ++ c.as_slice-in-Ok-2.result.now) (c.append.ensures ∙ ap (λ l. l ++ c.as_slice-in-Ok.result.now) c.requires.empty ∙ c.as_slice-in-Ok.ensures.value)
       ∙ ap (λ l. out ++ l) c.as_slice-in-Ok-2.ensures.value
       ∙ sym (ends_whole r c.put_line.new.writer seen c.as_slice.result.now out c.rest.new.out.items s live few c.as_slice.ensures.value puts
-      (c.put_line.ensures.order ∙ c.copied-writer.ensures.order ∙ r.order) (c.put_line.ensures.stp ∙ c.copied-writer.ensures.stp ∙ r.stp)
+      c.put_line.ensures.plan
       (c.rest.ensures.whole r.plan.every r.plan.halves (lines ++ puts.line ∷ []) puts.stands));
 }
 
