@@ -43,5 +43,5 @@ pub rebuilds_script : (task : Task) (plan : Plan) (sync half limit : ℕ) (old n
 rebuilds_script task plan sync half limit old new status script sound run is done loses =
     let told : IsSoundTask (Rebuild plan sync half) = subst IsSoundTask is sound in
     let ran = subst (λ (t : Task). HasDone t limit old new status) is run in
-    rebuilds plan sync half limit old new script told.0 told.2
+    rebuilds plan sync half limit old new script told.0 told.1
     (subst (HasRun (meaning_of (Rebuild plan sync half)) limit old new) done ran) loses
