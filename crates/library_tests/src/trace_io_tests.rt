@@ -14,12 +14,12 @@ use trace_io::{
 fn check_reads<S: Source>(
     rt: &impl Abort,
     source: &mut S,
-    rows: &[(Result<usize, Failed>, &[u8; 4])],
+    rows: &[(Result<usize, Failed>, [u8; 4])],
 ) {
     let mut buf = [0; 4];
     for (want, held) in rows {
         same(rt, held, &source.read(&mut buf), want);
-        same(rt, held, &&buf, held);
+        same(rt, held, &buf, held);
     }
 }
 
@@ -27,21 +27,21 @@ fn check_reads<S: Source>(
 fn sources_give_their_bytes_to_the_end(rt: HostRuntime) {
     let mut source = MemorySource::new(b"abcdef", &[1, 0, 2], &[2]);
     let rows = [
-        (Ok(1), b"a\0\0\0"),
-        (Ok(1), b"b\0\0\0"),
-        (Err(Failed), b"b\0\0\0"),
-        (Ok(1), b"c\0\0\0"),
-        (Ok(1), b"d\0\0\0"),
-        (Ok(2), b"ef\0\0"),
-        (Ok(0), b"ef\0\0"),
-        (Ok(0), b"ef\0\0"),
+        (Ok(1), *b"a\0\0\0"),
+        (Ok(1), *b"b\0\0\0"),
+        (Err(Failed), *b"b\0\0\0"),
+        (Ok(1), *b"c\0\0\0"),
+        (Ok(1), *b"d\0\0\0"),
+        (Ok(2), *b"ef\0\0"),
+        (Ok(0), *b"ef\0\0"),
+        (Ok(0), *b"ef\0\0"),
     ];
     check_reads(&rt, &mut source, &rows);
     let whole = [
-        (Ok(4), b"abcd"),
-        (Ok(2), b"efcd"),
-        (Ok(0), b"efcd"),
-        (Ok(0), b"efcd"),
+        (Ok(4), *b"abcd"),
+        (Ok(2), *b"efcd"),
+        (Ok(0), *b"efcd"),
+        (Ok(0), *b"efcd"),
     ];
     check_reads(&rt, &mut MemorySource::new(b"abcdef", &[], &[]), &whole);
     check_reads(&rt, &mut SureSource::new(b"abcdef"), &whole);
@@ -112,11 +112,11 @@ fn a_failed_read_of_std_is_a_fault(rt: HostRuntime) {
             inner,
         });
         let rows = [
-            (Err(Failed), b"\0\0\0\0"),
-            (Err(Failed), b"\0\0\0\0"),
-            (Ok(4), b"abcd"),
-            (Ok(2), b"efcd"),
-            (Ok(0), b"efcd"),
+            (Err(Failed), *b"\0\0\0\0"),
+            (Err(Failed), *b"\0\0\0\0"),
+            (Ok(4), *b"abcd"),
+            (Ok(2), *b"efcd"),
+            (Ok(0), *b"efcd"),
         ];
         check_reads(&rt, &mut source, &rows);
     }
@@ -135,7 +135,7 @@ fn check_writes(rt: &impl Abort, kind: Option<ErrorKind>) {
         same(rt, &"write", &sink.write(b"abc"), &want);
     }
     drop(sink);
-    same(rt, &"room", &&room, &b"abca");
+    same(rt, &"room", &room, b"abca");
 }
 
 #[test]
