@@ -1,5 +1,7 @@
 //! Sources and sinks: in memory, over the readers and writers of std, and those that never fail.
 
+ghost use Rattle.std.specs.Prelude.{◌≡◌, IfOk};
+
 use crate::same::same;
 use std::io;
 use std::io::{ErrorKind, Read, Write};
@@ -59,35 +61,33 @@ struct FailsFirst<T> {
     inner: T,
 }
 
-impl<T> FailsFirst<T> {
-    /// The answer to a call that fails.
-    fn failing(&mut self) -> Option<io::Result<usize>> {
-        if self.calls == 0 {
-            return None;
-        }
-        self.calls -= 1;
-        Some(match self.kind {
-            Some(kind) => Err(kind.into()),
-            None => Ok(0),
-        })
+/// The answer to a call that fails.
+fn failure(kind: Option<ErrorKind>) -> io::Result<usize>
+    ensures { IfOk result (λ n. n ≡ 0) }
+{
+    match kind {
+        Some(kind) => Err(kind.into()),
+        None => Ok(0),
     }
 }
 
 impl Read for FailsFirst<&[u8]> {
     fn read(&mut self, buf: &mut [u8]) -> io::Result<usize> {
-        match self.failing() {
-            Some(answer) => answer,
-            None => self.inner.read(buf),
+        if self.calls > 0 {
+            self.calls -= 1;
+            return failure(self.kind);
         }
+        self.inner.read(buf)
     }
 }
 
 impl Write for FailsFirst<&mut [u8]> {
     fn write(&mut self, buf: &[u8]) -> io::Result<usize> {
-        match self.failing() {
-            Some(answer) => answer,
-            None => self.inner.write(buf),
+        if self.calls > 0 {
+            self.calls -= 1;
+            return failure(self.kind);
         }
+        self.inner.write(buf)
     }
 
     fn flush(&mut self) -> io::Result<()> {
