@@ -12,14 +12,18 @@ use Rattle.stp_grammar.specs.declared.item.StpItem.{StpItem}
 use Rattle.stp_grammar.specs.declared.item.StpItem.TheVariants.{Async, Version, Datum}
 use Rattle.stp_encoder.specs.Fitting.{version_named, version_after, is_unfit}
 use Rattle.script_text.specs.declared.items.Item.TheVariants as items
-use Rattle.script_text.specs.declared.lines.Line.{Line}
+use Rattle.script_text.specs.declared.version_two.Line2.{Line2}
+use Rattle.script_text.specs.declared.version_two.Line2.TheVariants.{One}
 use Rattle.script_text.specs.declared.lines.Line.TheVariants.{Of}
 use Rattle.script_text.specs.declared.line_fault.LineFault.{LineFault}
 use Rattle.script_text.specs.declared.line_fault.LineFault.TheVariants.{Unfit}
 use Rattle.trace_vectors.specs.declared.made.Made.{Made}
 use Rattle.trace_vectors.specs.declared.made.Made.TheVariants.{Itm, Stp, Raw, Trigger}
 use Rattle.trace_vectors.specs.Items.{itm_packet, stp_item, byte_item, item_of, place}
-use Rattle.script_rebuild.specs.Script.{items_by, given_items, fitting}
+use Rattle.script_text.specs.VersionTwo.{as_one}
+use Rattle.script_text.specs.declared.lines.Line.{Line}
+use Rattle.script_rebuild.specs.Script.{by_item, items_by, given_items}
+use Rattle.script_rebuild.specs.Versions.{fitting}
 use Rattle.capture_exercise.specs.Exercise.{line_of_made, line_at, exercise_lines}
 use Rattle.capture_exercise.proofs.Making.{lines_more}
 
@@ -33,14 +37,14 @@ version_at n = version_after (given_items 2 (exercise_lines n))
 
 -- the versions that an item names
 abbrev named_by : Made → List ℕ
-named_by made = filter_map version_named (items_by 2 (line_of_made made))
+named_by made = filter_map version_named (by_item (items_by 2) (line_of_made made))
 
 version_more : (n : ℕ) → version_at (n + 1) ≡ last_or (version_at n) (named_by (item_of n))
 version_more n =
     let before = given_items 2 (exercise_lines n) in
-    let more = items_by 2 (line_at n) in
+    let more = by_item (items_by 2) (line_at n) in
     let given : given_items 2 (exercise_lines (n + 1)) ≡ before ++ more =
-    ap (given_items 2) (lines_more n) ∙ flat_map-append (items_by 2) (exercise_lines n) (line_at n ∷ [])
+    ap (given_items 2) (lines_more n) ∙ flat_map-append (by_item (items_by 2)) (exercise_lines n) (line_at n ∷ [])
     ∙ ap (λ (l : List StpItem). before ++ l) (append-nil more) in
     ap version_after given ∙ ap (last_or None) (filter_map-append version_named before more)
     ∙ last_or_append None (filter_map version_named before) (filter_map version_named more)
@@ -79,21 +83,21 @@ version_from (suc d) n e =
     ∙ ap (λ (v : Option ℕ). last_or v (named_by (item_of (d + 5)))) (version_from d (d + 5) refl) ∙ keeps (d + 5)
 
 -- the line of an item can be written after these
-abbrev Fits : List Line → Made → Type 0
+abbrev Fits : List Line2 → Made → Type 0
 Fits before made = fitting before (line_of_made made) ≡ Ok (line_of_made made)
 
 abbrev datum : ℕ → StpItem
 datum m = Datum (place m) Sixteen (m % 65536) false (Natural m)
 
-stp_fits : (before : List Line) (s t : Bool) (m : ℕ) → (s ≡ false → t ≡ false → version_after (given_items 2 before) ≡ Some 3) →
+stp_fits : (before : List Line2) (s t : Bool) (m : ℕ) → (s ≡ false → t ≡ false → version_after (given_items 2 before) ≡ Some 3) →
     Fits before (Stp (cond s Async (cond t (Version 3) (datum m))))
 stp_fits before true t m h = refl
 stp_fits before false true m h = refl
 stp_fits before false false m h =
     let said : Result Line LineFault = Ok (Of 2 (items.Stp (datum m))) in
-    ap (λ (v : Option ℕ). cond (is_unfit v (datum m)) (Err Unfit) said) (h refl refl)
+    ap (λ (v : Option ℕ). as_one (cond (is_unfit v (datum m)) (Err Unfit) said)) (h refl refl)
 
-byte_fits : (before : List Line) (s : Bool) (b : ℕ) → Fits before (cond s (Trigger b) (Raw b))
+byte_fits : (before : List Line2) (s : Bool) (b : ℕ) → Fits before (cond s (Trigger b) (Raw b))
 byte_fits before true b = refl
 byte_fits before false b = refl
 

@@ -1,31 +1,22 @@
 -- The capture is made line by line: what is sure after some lines, and what comes after that.
-use Rattle.std.proofs.Common.{◌≡◌, ℕ, ◌+◌, ◌≤◌, List, [], ◌∷◌, ◌++◌, length, drop, refl, sym, ◌∙◌, ap, append_assoc, append-nil, zero-add, arith}
+use Rattle.std.proofs.Common.{◌≡◌, ℕ, ◌+◌, ◌≤◌, List, [], ◌∷◌, ◌++◌, length, drop, refl, sym, ◌∙◌, ap, append_assoc}
+use Rattle.std.proofs.Common.{zero-add, arith}
 use Rattle.std.proofs.lemmas.List.{take-append-drop}
 use Rattle.std.proofs.lemmas.List.FromFn.{take-map-range_with_len, map-range_with_len_more}
 use Rattle.std.proofs.Math.Seq.{drop-append_seam}
-use Rattle.stp_grammar.specs.declared.packet.Order.{Order}
 use Rattle.stp_grammar.specs.declared.packet.Order.TheVariants.{Msn}
-use Rattle.frame_writer.specs.Written.{Tagged, capture, frames_by}
-use Rattle.frame_writer.proofs.Fronts.{sure_grows, sure_begins}
-use Rattle.script_text.specs.declared.lines.Line.{Line}
-use Rattle.script_rebuild.specs.Script.{put_by, put_after, put_of, ends_of, in_order, script_bytes}
-use Rattle.capture_exercise.specs.Exercise.{line_at, exercise_lines, exercise_plan, exercise_capture}
+use Rattle.frame_writer.specs.Written.{written_segments, frames_by}
+use Rattle.script_text.specs.declared.version_two.Line2.{Line2}
+use Rattle.script_rebuild.specs.Script.{in_order}
+use Rattle.script_rebuild.specs.Segments.{segments_with_ends}
+use Rattle.script_rebuild.specs.ScriptLaws.{sure_whole}
+use Rattle.capture_exercise.specs.Exercise.{line_at, exercise_lines, exercise_capture}
 use Rattle.capture_exercise.specs.Making.{so_far, later}
-
--- lines put what the first of them put, and then what the others put after those
-put_after_append : (order : Order) (before a b : List Line) → put_after order before (a ++ b) ≡ put_after order before a ++ put_after order (before ++ a) b
-put_after_append order before [] b = ap (λ (l : List Line). put_after order l b) (sym (append-nil before))
-put_after_append order before (x ∷ a) b =
-    let put = put_by order before x in
-    let middle = put_after order (before ++ x ∷ []) a in
-    ap (λ (l : List Tagged). put ++ l) (put_after_append order (before ++ x ∷ []) a b)
-    ∙ sym (append_assoc put middle (put_after order ((before ++ x ∷ []) ++ a) b))
-    ∙ ap (λ (l : List Line). (put ++ middle) ++ put_after order l b) (append_assoc before (x ∷ []) a)
 
 lines_begin : (items n : ℕ) → n ≤ items → exercise_lines items ≡ exercise_lines n ++ drop n (exercise_lines items)
 lines_begin items n le =
     sym (take-append-drop n (exercise_lines items))
-    ∙ ap (λ (l : List Line). l ++ drop n (exercise_lines items)) (take-map-range_with_len line_at 0 items n le)
+    ∙ ap (λ (l : List Line2). l ++ drop n (exercise_lines items)) (take-map-range_with_len line_at 0 items n le)
 
 -- one line more
 pub lines_more : (n : ℕ) → exercise_lines (n + 1) ≡ exercise_lines n ++ line_at n ∷ []
@@ -35,20 +26,9 @@ lines_more n = map-range_with_len_more line_at 0 n n (zero-add n)
 front : (items n : ℕ) → n ≤ items → (rest : List ℕ) × (exercise_capture items ≡ so_far n ++ rest)
 unfolding exercise_capture
 front items n le =
-    let lines = exercise_lines n in
-    let more = drop n (exercise_lines items) in
-    let ends = ends_of Msn (exercise_lines items) (in_order (2 ∷ [])) in
-    let t = put_of Msn lines in
-    let u = put_after Msn lines more ++ ends in
-    let same : script_bytes exercise_plan (exercise_lines items) ≡ t ++ u =
-    ap (λ (l : List Tagged). l ++ ends) (ap (put_of Msn) (lines_begin items n le) ∙ put_after_append Msn [] lines more)
-    ∙ append_assoc t (put_after Msn lines more) ends in
-    let whole = sure_begins 64 0 [] (t ++ u) (omega arith) in
-    let grown = sure_grows 64 0 [] t u in (
-      grown.0 ++ whole.0,
-      ap (capture 64 0) same ∙ whole.1 ∙ ap (λ (l : List ℕ). l ++ whole.0) grown.1
-          ∙ append_assoc (so_far n) grown.0 whole.0,
-    )
+    let ids = in_order (2 ∷ []) in
+    let whole = sure_whole 64 0 Msn ids (exercise_lines n) (drop n (exercise_lines items)) (omega arith) in
+    (whole.0, ap (λ (l : List Line2). written_segments 64 0 (segments_with_ends Msn ids l)) (lines_begin items n le) ∙ whole.1)
 
 -- before the first line all of the capture is to come
 pub later_first : (items : ℕ) → later items 0 ≡ exercise_capture items

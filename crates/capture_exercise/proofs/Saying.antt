@@ -8,14 +8,14 @@ use Rattle.stp_grammar.specs.declared.packet.Width.TheVariants.{Sixteen}
 use Rattle.stp_grammar.specs.declared.item.Stamp.TheVariants.{Natural}
 use Rattle.stp_grammar.specs.declared.item.StpItem.TheVariants.{Async, Version, Datum}
 use Rattle.script_rebuild.specs.Script.{in_order}
-use Rattle.script_rebuild.specs.Writer.{CanBePut}
+use Rattle.script_rebuild.specs.Writer.{CanBePut2}
 use Rattle.trace_vectors.specs.declared.made.Made.{Made}
 use Rattle.trace_vectors.specs.declared.made.Made.TheVariants.{Itm, Stp, Raw, Trigger}
 use Rattle.trace_vectors.specs.Items.{itm_packet, stp_item, byte_item, item_of, place, IsProperMade}
 use Rattle.capture_exercise.specs.Exercise.{line_of_made, line_at}
 
 abbrev IsSaid : Made → Type 0
-IsSaid made = IsProperMade made → CanBePut (2 ∷ []) (line_of_made made)
+IsSaid made = IsProperMade made → CanBePut2 (2 ∷ []) (line_of_made made)
 
 itm_said : (s t : Bool) (m : ℕ) → IsSaid (Itm (cond s Sync (cond t (Software (m % 32) Four m) (Local Exact (m % 1000 + 1)))))
 itm_said true t m p = (omega arith, omega arith, (p, tt), tt)
@@ -32,7 +32,7 @@ bytes_said b p zero = p
 bytes_said b p (suc i) = omega arith
 
 byte_said : (s : Bool) (b : ℕ) → IsSaid (cond s (Trigger b) (Raw b))
-byte_said true b p = (omega arith, omega arith, (omega arith, omega arith, bytes_said b p), tt)
+byte_said true b p = tt
 byte_said false b p = (omega arith, omega arith, (omega arith, omega arith, bytes_said b p), tt)
 
 kind_said : (a b : Bool) (m : ℕ) → IsSaid (cond a (Itm (itm_packet m)) (cond b (Stp (stp_item m)) (byte_item m)))
@@ -44,9 +44,9 @@ alone_in_order : in_order (2 ∷ []) ≡ 2 ∷ []
 unfolding in_order
 alone_in_order = refl
 
-of_kind : (k : ℕ) → IsProperMade (item_of k) → CanBePut (2 ∷ []) (line_at k)
+of_kind : (k : ℕ) → IsProperMade (item_of k) → CanBePut2 (2 ∷ []) (line_at k)
 unfolding item_of
 of_kind k = kind_said (k % 3 == 0) (k % 3 == 1) (k / 3)
 
-pub line_said : (k : ℕ) → IsProperMade (item_of k) → CanBePut (in_order (2 ∷ [])) (line_at k)
-line_said k p = subst (λ (ids : List ℕ). CanBePut ids (line_at k)) (sym alone_in_order) (of_kind k p)
+pub line_said : (k : ℕ) → IsProperMade (item_of k) → CanBePut2 (in_order (2 ∷ [])) (line_at k)
+line_said k p = subst (λ (ids : List ℕ). CanBePut2 ids (line_at k)) (sym alone_in_order) (of_kind k p)

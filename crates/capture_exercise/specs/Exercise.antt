@@ -5,37 +5,38 @@ use Rattle.std.specs.List.{range_with_len}
 use Rattle.trace_values.specs.declared.reading_modes.FramesMode.TheVariants.{Hunt as FramesHunt}
 use Rattle.trace_values.specs.declared.reading_modes.PacketsMode.TheVariants.{Hunt}
 use Rattle.stp_grammar.specs.declared.packet.Order.TheVariants.{Msn}
-use Rattle.frame_writer.specs.Written.{capture}
+use Rattle.frame_writer.specs.Written.{written_segments}
 use Rattle.source_events.specs.declared.plan.Plan.{Plan}
 use Rattle.script_text.specs.declared.items.Item.TheVariants as items
-use Rattle.script_text.specs.declared.lines.Line.{Line}
 use Rattle.script_text.specs.declared.lines.Line.TheVariants.{Of}
+use Rattle.script_text.specs.declared.version_two.Line2.{Line2}
+use Rattle.script_text.specs.declared.version_two.Line2.TheVariants.{One, Trigger as TriggerLine}
 use Rattle.trace_vectors.specs.declared.made.Made.{Made}
 use Rattle.trace_vectors.specs.declared.made.Made.TheVariants.{Itm, Stp, Raw, Trigger}
 use Rattle.trace_vectors.specs.Items.{item_of}
-use Rattle.script_rebuild.specs.Script.{script_bytes}
+use Rattle.script_rebuild.specs.Segments.{script_segments}
 
 -- the plan by which it is written and read
 abbrev pub exercise_plan : Plan
 exercise_plan = record { frames = FramesHunt; packets = Hunt; itm = 1 ∷ []; stp = 2 ∷ []; order = Msn }
 
--- an item as the line of a script; a byte of the trigger source is one too, although no script can say it
-abbrev pub line_of_made : Made → Line
-line_of_made (Itm packet) = Of 1 (items.Itm packet)
-line_of_made (Stp item) = Of 2 (items.Stp item)
-line_of_made (Raw byte) = Of 16 (items.Raw (byte ∷ []))
-line_of_made (Trigger byte) = Of 125 (items.Raw (byte ∷ []))
+-- an item as the line of a script
+abbrev pub line_of_made : Made → Line2
+line_of_made (Itm packet) = One (Of 1 (items.Itm packet))
+line_of_made (Stp item) = One (Of 2 (items.Stp item))
+line_of_made (Raw byte) = One (Of 16 (items.Raw (byte ∷ [])))
+line_of_made (Trigger byte) = TriggerLine byte
 
-abbrev pub line_at : ℕ → Line
+abbrev pub line_at : ℕ → Line2
 line_at k = line_of_made (item_of k)
 
 -- the lines of this many items, from item 0 on
-abbrev pub exercise_lines : ℕ → List Line
+abbrev pub exercise_lines : ℕ → List Line2
 exercise_lines count = map line_at (range_with_len 0 count)
 
 -- their capture, with a full synchronisation before each 64th frame and no half ones
 unfoldable pub exercise_capture : ℕ → List ℕ
-exercise_capture count = capture 64 0 (script_bytes exercise_plan (exercise_lines count))
+exercise_capture count = written_segments 64 0 (script_segments exercise_plan (exercise_lines count))
 
 -- what is left of it where this many bytes of its front are lost
 abbrev pub exercise_rest : ℕ → ℕ → List ℕ

@@ -70,11 +70,12 @@ impl CaptureMaker {
         ensures pieces { pieces_left self.new + 1 ≡ pieces_left self.old }
     {
         if self.next == self.items {
-            self.writer.rest(out);
+            let mut last = self.writer.copied();
+            last.flush(out);
             self.is_whole = true;
         } else {
             let line = line_at(self.next);
-            let _ = self.writer.put(&line, out);
+            let _ = self.writer.put2(&line, out);
             self.next += 1;
         }
     }

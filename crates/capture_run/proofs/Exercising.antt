@@ -14,14 +14,15 @@ use Rattle.itm_grammar.specs.declared.packet.Size.TheVariants.{Four}
 use Rattle.itm_grammar.specs.declared.packet.Lateness.TheVariants.{Exact}
 use Rattle.itm_grammar.specs.declared.packet.ItmPacket.TheVariants.{Sync, Software, Local}
 use Rattle.script_rebuild.specs.Script.{in_order}
-use Rattle.script_rebuild.specs.Writer.{CanBePut as IsPuttable}
+use Rattle.script_rebuild.specs.Writer.{CanBePut2 as IsPuttable}
 use Rattle.deformatter.specs.PortReading.{port_reading}
-use Rattle.script_laws.specs.Puts.{SuitsPlan, CanAllBePut}
+use Rattle.script_laws.specs.Puts.{CanAllBePut}
 use Rattle.script_laws.specs.ReadBack.{aligned, ReadsAsGiven}
 use Rattle.script_laws.proofs.Given.{reads_as_given}
 use Rattle.script_laws.proofs.Said.{put_more}
 use Rattle.resync_laws.proofs.ReportRest.{report_follows}
-use Rattle.script_text.specs.declared.lines.Line.{Line}
+use Rattle.script_text.specs.declared.version_two.Line2.{Line2}
+use Rattle.script_text.specs.VersionTwo.{IsSaid2}
 use Rattle.source_events.specs.Plan.{sources_by}
 use Rattle.source_events.specs.Report.{stop_in}
 use Rattle.source_merge.specs.Answering.{fault_of}
@@ -62,20 +63,21 @@ unfolding item_of
 item_proper k h = kind_proper (k % 3 == 0) (k % 3 == 1) (k / 3) (omega arith)
 
 -- each line is of its source
-made_suits : (made : Made) → IsPuttable (in_order (2 ∷ [])) (line_of_made made) → SuitsPlan exercise_plan (line_of_made made)
-made_suits (Itm packet) h = (h.0, h.1, h.2, tt)
-made_suits (Stp item) h = (h.0, h.1, h.2, tt)
-made_suits (Raw byte) h = (h.0, h.1, h.2, tt)
-made_suits (Trigger byte) h = (h.0, h.1, h.2, tt)
+made_said : (made : Made) → IsProperMade made → IsPuttable (in_order (2 ∷ [])) (line_of_made made) → IsSaid2 exercise_plan (line_of_made made)
+made_said (Itm packet) p h = (h.0, h.1, h.2, refl)
+made_said (Stp item) p h = (h.0, h.1, h.2, refl)
+made_said (Raw byte) p h = (h.0, h.1, h.2, refl)
+made_said (Trigger byte) p h = p
 
 all_put : (items : ℕ) → items ≤ MOST_ITEMS → CanAllBePut exercise_plan [] (exercise_lines items)
 all_put zero h = tt
 all_put (suc n) h =
     let next : suc n ≡ n + 1 = omega arith in
     let few : n < 2 ^ 32 = omega arith in
-    subst (λ (l : List Line). CanAllBePut exercise_plan [] l) (sym (ap exercise_lines next ∙ lines_more n))
+    let proper = item_proper n few in
+    subst (λ (l : List Line2). CanAllBePut exercise_plan [] l) (sym (ap exercise_lines next ∙ lines_more n))
     (put_more exercise_plan [] (exercise_lines n) (line_at n) (all_put n (omega arith))
-    (record { said = made_suits (item_of n) (line_said n (item_proper n few)); fits = line_fits n }))
+    (record { said = made_said (item_of n) proper (line_said n proper); fits = line_fits n }))
 
 pub reads_whole : (items : ℕ) → items ≤ MOST_ITEMS → ReadsAsGiven exercise_plan (exercise_lines items) (placed (exercise_capture items))
 unfolding exercise_capture

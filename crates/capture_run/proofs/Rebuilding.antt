@@ -2,7 +2,7 @@
 use Rattle.std.proofs.Common.{◌≡◌, ◌≤◌, ℕ, List, ◌++◌, true, false, Option, None, Some, ap, sym, ◌∙◌, subst, refl}
 use Rattle.std.specs.Prelude.{is_some}
 use Rattle.std.specs.Io.KnownBytes.{Appends}
-use Rattle.script_rebuild.specs.Script.{script_of}
+use Rattle.script_rebuild.specs.Versions.{script_of}
 use Rattle.script_laws.proofs.Given.{reads_as_given}
 use Rattle.script_laws.proofs.Said.{script_good}
 use Rattle.script_rebuild.proofs.Whole.{text_and_ending}

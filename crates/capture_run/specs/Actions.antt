@@ -13,7 +13,7 @@ use Rattle.capture_actions.specs.Listing.{show_meaning}
 use Rattle.capture_actions.specs.Summary.{check_meaning}
 use Rattle.capture_actions.specs.declared.list_plan.ListPlan.{ListPlan}
 use Rattle.capture_exercise.specs.Summary.{exercise_summary}
-use Rattle.script_rebuild.specs.Script.{script_of}
+use Rattle.script_rebuild.specs.Versions.{script_of}
 use Rattle.port_slip.specs.Segments.{realigned}
 use Rattle.script_rebuild.specs.Rebuilt.{rebuild_meaning}
 use Rattle.script_rebuild.specs.declared.plan.RebuildPlan.{RebuildPlan}

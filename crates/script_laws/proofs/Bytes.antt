@@ -1,22 +1,24 @@
 -- The bytes that the lines of a script put, by source.
-use Rattle.std.proofs.Common.{◌≡◌, ℕ, ◌≤◌, List, [], ◌∷◌, ◌++◌, refl, sym, ◌∙◌, ap, subst, arith, Bool, true, false, append-nil, append_assoc, Option, None, Some}
+use Rattle.std.proofs.Common.{◌≡◌, ℕ, ◌≤◌, List, [], ◌∷◌, ◌++◌, refl, sym, ◌∙◌, ap, subst, arith, Bool, true, false}
+use Rattle.std.proofs.Common.{append-nil, append_assoc, Option, None, Some, Ok}
 use Rattle.std.specs.Prelude.{◌==◌, ◌||◌, flat_map, if◌then◌else◌}
 use Rattle.std.specs.List.{All}
 use Rattle.std.proofs.lemmas.Bool.Decides.{nat_tests}
 use Rattle.std.proofs.lemmas.List.Concat.{flat_map-append}
-use Rattle.std.proofs.lemmas.List.Elements.{All-nil, All-cons, All-append}
+use Rattle.std.proofs.lemmas.List.Elements.{All-nil, All-cons, All-append, All-push}
 use Rattle.itm_grammar.specs.declared.packet.ItmPacket.{ItmPacket}
 use Rattle.itm_grammar.specs.Proper.{IsProper}
 use Rattle.itm_grammar.specs.Shortest.{short}
 use Rattle.dwt_packets.proofs.Inverses.{name_of_packet, in_range}
 use Rattle.stp_grammar.specs.declared.packet.Order.{Order}
-use Rattle.stp_grammar.specs.declared.item.StpItem.{StpItem}
-use Rattle.stp_encoder.specs.Puts.{Put, unmarked}
+use Rattle.stp_grammar.specs.declared.packet.StpPacket.{StpPacket}
+use Rattle.stp_encoder.specs.Puts.{Put, items_in, unmarked}
+use Rattle.stp_encoder.specs.Puts.{Of as PutOf, Flush as FlushPut}
 use Rattle.stp_encoder.specs.Packets.{packets_for}
-use Rattle.stp_encoder.specs.Bytes.{nibbles_for, written, end_bytes, encoded}
+use Rattle.stp_encoder.specs.Bytes.{nibbles_after, nibbles_for, written, end_bytes, encoded, joined as joined_nibbles, filled}
 use Rattle.stp_encoder.proofs.Joining.{filled_append}
-use Rattle.stp_encoder.proofs.Standing.{written_more, unmarked_append}
-use Rattle.frame_writer.specs.Written.{Tagged}
+use Rattle.stp_encoder.proofs.Standing.{written_more, written_flush}
+use Rattle.frame_writer.specs.Written.{Tagged, joined}
 use Rattle.frame_writer.specs.ReadBack.{IsOfSource}
 use Rattle.source_events.specs.declared.plan.Plan.{Plan}
 use Rattle.source_events.specs.declared.plan.SourceKind.{SourceKind}
@@ -26,13 +28,42 @@ use Rattle.script_text.specs.declared.items.Item.{Item}
 use Rattle.script_text.specs.declared.items.Item.TheVariants.{Itm, Dwt, Stp, Raw}
 use Rattle.script_text.specs.declared.lines.Line.{Line}
 use Rattle.script_text.specs.declared.lines.Line.TheVariants.{Nothing, Of}
+use Rattle.script_text.specs.declared.version_two.Line2.{Line2}
+use Rattle.script_text.specs.declared.version_two.Line2.TheVariants.{One, Flush, Trigger}
+use Rattle.script_text.specs.Lines.{taken_by}
 use Rattle.script_text.specs.Said.{IsSayable}
-use Rattle.script_rebuild.specs.Script.{packets_of, packets_by, given_packets, items_of, items_by, given_items, given_puts, raw_of, raw_by, given_bytes, item_bytes, tagged, put_by, put_after, put_of, ends_of, in_order, script_bytes}
-use Rattle.script_laws.specs.Puts.{HasKind, SuitsPlan, CanAllBePut}
-use Rattle.script_laws.specs.ReadBack.{is_line_of, has_line}
-use Rattle.script_laws.proofs.Said.{given_more}
+use Rattle.script_text.specs.VersionTwo.{IsSaid2}
+use Rattle.script_rebuild.specs.Script.{by_item, packets_of, packets_by, given_packets, items_of, items_by, given_items}
+use Rattle.script_rebuild.specs.Script.{puts_by, given_puts, raw_of, bytes_by, given_bytes, item_bytes, tagged, ends_with, in_order}
+use Rattle.script_rebuild.specs.Segments.{Segments, no_segments, with_bytes, now_ended, line_bytes, after_line, with_line}
+use Rattle.script_rebuild.specs.Segments.{segments_after, segments_of, script_segments}
+use Rattle.script_rebuild.proofs.AllSegments.{joined_with, joined_more, given_more, items_put}
 use Rattle.script_rebuild.proofs.InOrder.{in_order_sound}
-use Rattle.script_laws.proofs.MappedIds.{is_one, sound_first, sound_back, stp_in_order}
+use Rattle.script_laws.specs.Puts.{CanAllBePut}
+use Rattle.script_laws.specs.ReadBack.{is_line_of, has_line}
+use Rattle.script_laws.proofs.MappedIds.{is_one, sound_first, sound_back, stp_in_order, trigger_none, other_out}
+
+-- what a source of this kind sends: ITM packets, STP items, or bytes where it is not mapped
+abbrev HasKind : Option SourceKind → Item → Type 0
+HasKind (Some kinds.Itm) (Itm p) = Unit {0}
+HasKind (Some kinds.Itm) (Dwt d) = Unit {0}
+HasKind (Some kinds.Itm) (Stp item) = ⊥
+HasKind (Some kinds.Itm) (Raw bytes) = ⊥
+HasKind (Some kinds.Stp) (Itm p) = ⊥
+HasKind (Some kinds.Stp) (Dwt d) = ⊥
+HasKind (Some kinds.Stp) (Stp item) = Unit {0}
+HasKind (Some kinds.Stp) (Raw bytes) = ⊥
+HasKind None (Itm p) = ⊥
+HasKind None (Dwt d) = ⊥
+HasKind None (Stp item) = ⊥
+HasKind None (Raw bytes) = Unit {0}
+
+taken_kind : (kind : Option SourceKind) (id : ℕ) (item : Item) (line : Line) → taken_by kind id item ≡ Ok line → HasKind kind item
+taken_kind (Some kinds.Itm) id (Itm p) line e = tt
+taken_kind (Some kinds.Itm) id (Dwt d) line e = tt
+taken_kind (Some kinds.Stp) id (Stp item) line e = tt
+taken_kind None id (Raw bytes) line e = tt
+taken_kind kind id item line e = cc
 
 -- the bytes of a source among tagged bytes
 abbrev pub bytes_for : ℕ → List Tagged → List ℕ
@@ -69,229 +100,241 @@ for_tagged x id (b ∷ bytes) = by (id == x) (for_tagged x id bytes)
     by true e = ap (λ (l : List ℕ). b ∷ l) e
     by false e = e
 
-module _ (plan : Plan) (x : ℕ) where
-  -- the item of a line of this source is for its kind
-  abbrev OfKind : Option SourceKind → Line → Type 0
-  OfKind kind Nothing = Unit {0}
-  OfKind kind (Of id item) = id ≡ x → HasKind kind item
+-- no items have no bytes, however often they are flushed
+none_nibbles : (order : Order) (before : List StpPacket) (puts : List Put) → items_in puts ≡ [] → nibbles_after order before [] puts ≡ []
+none_nibbles order before [] e = refl
+none_nibbles order before (PutOf item ∷ puts) e = cc
+none_nibbles order before (FlushPut ∷ puts) e = none_nibbles order before puts e
 
-  line_kind : (line : Line) → SuitsPlan plan line → OfKind (kind_of plan x) line
-  line_kind Nothing s = tt
-  line_kind (Of id item) s = λ same. subst (λ (k : ℕ). HasKind (kind_of plan k) item) same s.3
+none_encoded : (order : Order) (puts : List Put) → items_in puts ≡ [] → encoded order puts ≡ []
+unfolding nibbles_for
+none_encoded order puts e = ap (λ (n : List ℕ). joined_nibbles (filled n)) (none_nibbles order [] puts e)
+
+nothing_written : (order : Order) → written order [] ≡ []
+unfolding packets_for nibbles_for
+nothing_written order = refl
+
+module _ (plan : Plan) (x : ℕ) (sound : is_sound plan ≡ true) where
+  abbrev ids : List ℕ
+  ids = in_order plan.stp
+
+  -- what lines put, and what one more puts of this source
+  abbrev put : List Line2 → List Tagged
+  put lines = joined (now_ended (segments_of plan.order ids lines))
+
+  abbrev own : List Line2 → Line2 → List ℕ
+  own before line = bytes_for x (line_bytes plan.order ids before line)
+
+  -- a line of this source is for its kind
+  abbrev OfKind : Option SourceKind → Line2 → Type 0
+  OfKind kind (One Nothing) = Unit {0}
+  OfKind kind (One (Of id item)) = id ≡ x → HasKind kind item
+  OfKind kind Flush = Unit {0}
+  OfKind kind (Trigger byte) = 125 ≡ x → kind ≡ None
+
+  line_kind : (line : Line2) → IsSaid2 plan line → OfKind (kind_of plan x) line
+  line_kind (One Nothing) s = tt
+  line_kind (One (Of id item)) s = λ same.
+      subst (λ (k : ℕ). HasKind (kind_of plan k) item) same (taken_kind (kind_of plan id) id item (Of id item) s.3)
+  line_kind Flush s = tt
+  line_kind (Trigger byte) s = λ same. subst (λ (k : ℕ). kind_of plan k ≡ None) same (trigger_none plan sound)
 
   -- what lines put of this source, where G is it so far
-  module _ (order : Order) (kind : Option SourceKind) (k : kind_of plan x ≡ kind) (G : List Line → List ℕ)
-      (step : (before : List Line) (line : Line) → OfKind kind line → G before ++ bytes_for x (put_by order before line) ≡ G (before ++ line ∷ [])) where
-    put_as : (before lines : List Line) → CanAllBePut plan before lines → G before ++ bytes_for x (put_after order before lines) ≡ G (before ++ lines)
-    put_as before [] g = append-nil (G before) ∙ ap G (sym (append-nil before))
-    put_as before (line ∷ lines) g =
-        let own = subst (λ (o : Option SourceKind). OfKind o line) k (line_kind line g.0.said) in
-        ap (λ (l : List ℕ). G before ++ l) (for_append x (put_by order before line) (put_after order (before ++ line ∷ []) lines))
-        ∙ sym (append_assoc (G before) (bytes_for x (put_by order before line)) (bytes_for x (put_after order (before ++ line ∷ []) lines)))
-        ∙ ap (λ (l : List ℕ). l ++ bytes_for x (put_after order (before ++ line ∷ []) lines)) (step before line own)
-        ∙ put_as (before ++ line ∷ []) lines g.1 ∙ ap G (append_assoc before (line ∷ []) lines)
+  module _ (kind : Option SourceKind) (k : kind_of plan x ≡ kind) (G : List Line2 → List ℕ)
+      (step : (before : List Line2) (line : Line2) → OfKind kind line → G before ++ own before line ≡ G (before ++ line ∷ [])) where
+    put_as : (before lines : List Line2) → CanAllBePut plan before lines → bytes_for x (put before) ≡ G before →
+        bytes_for x (put (before ++ lines)) ≡ G (before ++ lines)
+    put_as before [] g e = ap (λ (l : List Line2). bytes_for x (put l)) (append-nil before) ∙ e ∙ ap G (sym (append-nil before))
+    put_as before (line ∷ lines) g e =
+        let one = subst (λ (o : Option SourceKind). OfKind o line) k (line_kind line g.0.said) in
+        subst (λ (l : List Line2). bytes_for x (put l) ≡ G l) (append_assoc before (line ∷ []) lines)
+        (put_as (before ++ line ∷ []) lines g.1
+        (ap (bytes_for x) (joined_more plan.order ids before line)
+        ∙ for_append x (put before) (line_bytes plan.order ids before line)
+        ∙ ap (λ (l : List ℕ). l ++ own before line) e ∙ step before line one))
 
   -- a line's bytes, and what it gives, where the item alone tells the bytes
-  by_item : (order : Order) (before : List Line) (id : ℕ) (item : Item) (given : List ℕ) → (id ≡ x → item_bytes order (given_puts id before) item ≡ given) →
-      bytes_for x (put_by order before (Of id item)) ≡ (if id == x then given else [])
-  by_item order before id item given h = for_tagged x id (item_bytes order (given_puts id before) item) ∙ by (id == x) refl
+  by_kind : (before : List Line2) (id : ℕ) (item : Item) (given : List ℕ) →
+      (id ≡ x → item_bytes plan.order (given_puts id before) item ≡ given) →
+      own before (One (Of id item)) ≡ (if id == x then given else [])
+  by_kind before id item given h = for_tagged x id (item_bytes plan.order (given_puts id before) item) ∙ by (id == x) refl
     where
-      by : (v : Bool) → (id == x) ≡ v → (if v then item_bytes order (given_puts id before) item else []) ≡ (if v then given else [])
+      by : (v : Bool) → (id == x) ≡ v → (if v then item_bytes plan.order (given_puts id before) item else []) ≡ (if v then given else [])
       by true e = h (grind (arith, nat_tests))
       by false e = refl
 
+  -- a trigger's byte is of no mapped source
+  no_trigger : (before : List Line2) (kind : SourceKind) (byte : ℕ) → OfKind (Some kind) (Trigger byte) → own before (Trigger byte) ≡ []
+  no_trigger before kind byte h = for_tagged x 125 (byte ∷ []) ∙ by (125 == x) refl
+    where
+      by : (v : Bool) → (125 == x) ≡ v → (if v then byte ∷ [] else []) ≡ []
+      by true e = (let no : Some kind ≡ None = h (grind (arith, nat_tests)) in cc)
+      by false e = refl
+
+  -- what a flush, or the end, puts
+  module _ (given : ℕ → List Put) where
+    ends_by : (id : ℕ) → bytes_for x (tagged id (end_bytes plan.order (given id))) ≡ (if id == x then end_bytes plan.order (given x) else [])
+    ends_by id = for_tagged x id (end_bytes plan.order (given id)) ∙ by (id == x) refl
+      where
+        by : (v : Bool) → (id == x) ≡ v → (if v then end_bytes plan.order (given id) else []) ≡ (if v then end_bytes plan.order (given x) else [])
+        by true e = (let same : id ≡ x = grind (arith, nat_tests) in ap (λ (k : ℕ). end_bytes plan.order (given k)) same)
+        by false e = refl
+
+    ends_more : (id : ℕ) (l : List ℕ) → bytes_for x (ends_with plan.order given (id ∷ l))
+        ≡ (if id == x then end_bytes plan.order (given x) else []) ++ bytes_for x (ends_with plan.order given l)
+    ends_more id l =
+        for_append x (tagged id (end_bytes plan.order (given id))) (ends_with plan.order given l)
+        ∙ ap (λ (b : List ℕ). b ++ bytes_for x (ends_with plan.order given l)) (ends_by id)
+
+    ends_out : (l : List ℕ) → is_one x l ≡ false → bytes_for x (ends_with plan.order given l) ≡ []
+    ends_out [] e = refl
+    ends_out (id ∷ l) e = ends_more id l ∙ by (id == x) e (λ k. ends_out l k)
+      where
+        by : (v : Bool) → (v || is_one x l) ≡ false → (is_one x l ≡ false → bytes_for x (ends_with plan.order given l) ≡ []) →
+            (if v then end_bytes plan.order (given x) else []) ++ bytes_for x (ends_with plan.order given l) ≡ []
+        by true k more = (let z : true ≡ false = k in cc)
+        by false k more = more k
+
+    ends_in : (l : List ℕ) → are_sound l ≡ true → is_one x l ≡ true → bytes_for x (ends_with plan.order given l) ≡ end_bytes plan.order (given x)
+    ends_in [] s e = (let z : false ≡ true = e in cc)
+    ends_in (id ∷ l) s e =
+        let f = sound_first id l s in
+        ends_more id l ∙ by (id == x) refl e f.once (λ k. ends_in l f.rest k)
+      where
+        by : (v : Bool) → (id == x) ≡ v → (v || is_one x l) ≡ true → is_one id l ≡ false →
+            (is_one x l ≡ true → bytes_for x (ends_with plan.order given l) ≡ end_bytes plan.order (given x)) →
+            (if v then end_bytes plan.order (given x) else []) ++ bytes_for x (ends_with plan.order given l) ≡ end_bytes plan.order (given x)
+        by true i k once more =
+            let same : id ≡ x = grind (arith, nat_tests) in
+            ap (λ (b : List ℕ). end_bytes plan.order (given x) ++ b) (ends_out l (subst (λ (z : ℕ). is_one z l ≡ false) same once))
+            ∙ append-nil (end_bytes plan.order (given x))
+        by false i k once more = more k
+
   -- packets
-  item_spelled : (order : Order) (before : List Put) (item : Item) → HasKind (Some kinds.Itm) item → item_bytes order before item ≡ spelled (packets_of item)
-  item_spelled order before (Itm p) h = sym (append-nil (short p))
-  item_spelled order before (Dwt d) h = sym (append-nil (item_bytes order before (Dwt d)))
-  item_spelled order before (Stp item) h = absurd h
-  item_spelled order before (Raw bytes) h = absurd h
+  item_spelled : (before : List Put) (item : Item) → HasKind (Some kinds.Itm) item → item_bytes plan.order before item ≡ spelled (packets_of item)
+  item_spelled before (Itm p) h = sym (append-nil (short p))
+  item_spelled before (Dwt d) h = sym (append-nil (item_bytes plan.order before (Dwt d)))
+  item_spelled before (Stp item) h = absurd h
+  item_spelled before (Raw bytes) h = absurd h
 
   choose_spelled : (v : Bool) (packets : List ItmPacket) → (if v then spelled packets else []) ≡ spelled (if v then packets else [])
   choose_spelled true packets = refl
   choose_spelled false packets = refl
 
-  line_spelled : (order : Order) (before : List Line) (line : Line) → OfKind (Some kinds.Itm) line → bytes_for x (put_by order before line) ≡ spelled (packets_by x line)
-  line_spelled order before Nothing h = refl
-  line_spelled order before (Of id item) h =
-      by_item order before id item (spelled (packets_of item)) (λ same. item_spelled order (given_puts id before) item (h same)) ∙ choose_spelled (id == x) (packets_of item)
+  line_spelled : is_one x ids ≡ false → (before : List Line2) (line : Line2) → OfKind (Some kinds.Itm) line →
+      own before line ≡ spelled (by_item (packets_by x) line)
+  line_spelled out before (One Nothing) h = refl
+  line_spelled out before (One (Of id item)) h =
+      by_kind before id item (spelled (packets_of item)) (λ same. item_spelled (given_puts id before) item (h same))
+      ∙ choose_spelled (id == x) (packets_of item)
+  line_spelled out before Flush h = ends_out (λ y. given_puts y before) ids out
+  line_spelled out before (Trigger byte) h = no_trigger before kinds.Itm byte h
 
-  packets_more : (before : List Line) (line : Line) → spelled (given_packets x before) ++ spelled (packets_by x line) ≡ spelled (given_packets x (before ++ line ∷ []))
+  packets_more : (before : List Line2) (line : Line2) →
+      spelled (given_packets x before) ++ spelled (by_item (packets_by x) line) ≡ spelled (given_packets x (before ++ line ∷ []))
   packets_more before line =
-      sym (flat_map-append short (given_packets x before) (packets_by x line))
-      ∙ ap spelled (sym (flat_map-append (packets_by x) before (line ∷ []) ∙ ap (λ (l : List ItmPacket). given_packets x before ++ l) (append-nil (packets_by x line))))
-
-  pub put_packets : (order : Order) (lines : List Line) → CanAllBePut plan [] lines → kind_of plan x ≡ Some kinds.Itm → bytes_for x (put_of order lines) ≡ spelled (given_packets x lines)
-  put_packets order lines g k =
-      put_as order (Some kinds.Itm) k (λ l. spelled (given_packets x l))
-      (λ before line h. ap (λ (l : List ℕ). spelled (given_packets x before) ++ l) (line_spelled order before line h) ∙ packets_more before line) [] lines g
+      sym (flat_map-append short (given_packets x before) (by_item (packets_by x) line))
+      ∙ ap spelled (sym (flat_map-append (by_item (packets_by x)) before (line ∷ [])
+      ∙ ap (λ (l : List ItmPacket). given_packets x before ++ l) (append-nil (by_item (packets_by x) line))))
 
   -- bytes
-  item_raw : (order : Order) (before : List Put) (item : Item) → HasKind None item → item_bytes order before item ≡ raw_of item
-  item_raw order before (Raw bytes) h = refl
-  item_raw order before (Itm p) h = absurd h
-  item_raw order before (Dwt d) h = absurd h
-  item_raw order before (Stp item) h = absurd h
+  item_raw : (before : List Put) (item : Item) → HasKind None item → item_bytes plan.order before item ≡ raw_of item
+  item_raw before (Raw bytes) h = refl
+  item_raw before (Itm p) h = absurd h
+  item_raw before (Dwt d) h = absurd h
+  item_raw before (Stp item) h = absurd h
 
-  line_raw : (order : Order) (before : List Line) (line : Line) → OfKind None line → bytes_for x (put_by order before line) ≡ raw_by x line
-  line_raw order before Nothing h = refl
-  line_raw order before (Of id item) h = by_item order before id item (raw_of item) (λ same. item_raw order (given_puts id before) item (h same))
+  line_raw : is_one x ids ≡ false → (before : List Line2) (line : Line2) → OfKind None line → own before line ≡ bytes_by x line
+  line_raw out before (One Nothing) h = refl
+  line_raw out before (One (Of id item)) h = by_kind before id item (raw_of item) (λ same. item_raw (given_puts id before) item (h same))
+  line_raw out before Flush h = ends_out (λ y. given_puts y before) ids out
+  line_raw out before (Trigger byte) h = for_tagged x 125 (byte ∷ [])
 
-  raw_more : (before : List Line) (line : Line) → given_bytes x before ++ raw_by x line ≡ given_bytes x (before ++ line ∷ [])
+  raw_more : (before : List Line2) (line : Line2) → given_bytes x before ++ bytes_by x line ≡ given_bytes x (before ++ line ∷ [])
   raw_more before line =
-      sym (flat_map-append (raw_by x) before (line ∷ []) ∙ ap (λ (l : List ℕ). given_bytes x before ++ l) (append-nil (raw_by x line)))
-
-  pub put_raw : (order : Order) (lines : List Line) → CanAllBePut plan [] lines → kind_of plan x ≡ None → bytes_for x (put_of order lines) ≡ given_bytes x lines
-  put_raw order lines g k =
-      put_as order None k (λ l. given_bytes x l)
-      (λ before line h. ap (λ (l : List ℕ). given_bytes x before ++ l) (line_raw order before line h) ∙ raw_more before line) [] lines g
+      sym (flat_map-append (bytes_by x) before (line ∷ []) ∙ ap (λ (l : List ℕ). given_bytes x before ++ l) (append-nil (bytes_by x line)))
 
   -- STP items
-  items_written : (order : Order) (before : List Line) (line : Line) → OfKind (Some kinds.Stp) line →
-      written order (given_puts x before) ++ bytes_for x (put_by order before line) ≡ written order (given_puts x (before ++ line ∷ []))
-  items_written order before Nothing h = append-nil (written order (given_puts x before)) ∙ ap (written order) (sym (ap unmarked (given_more x before Nothing ∙ append-nil (given_items x before))))
-  items_written order before (Of id item) h =
-      ap (λ (l : List ℕ). written order (given_puts x before) ++ l) (for_tagged x id (item_bytes order (given_puts id before) item))
-      ∙ by (id == x) refl ∙ ap (written order) (sym (ap unmarked (given_more x before (Of id item)) ∙ unmarked_append (given_items x before) (items_by x (Of id item))))
+  line_written : is_one x ids ≡ true → (before : List Line2) (line : Line2) → OfKind (Some kinds.Stp) line →
+      written plan.order (given_puts x before) ++ own before line ≡ written plan.order (given_puts x before ++ puts_by x line)
+  line_written among before (One Nothing) h =
+      append-nil (written plan.order (given_puts x before)) ∙ ap (written plan.order) (sym (append-nil (given_puts x before)))
+  line_written among before Flush h =
+      ap (λ (l : List ℕ). written plan.order (given_puts x before) ++ l)
+      (ends_in (λ y. given_puts y before) ids (in_order_sound plan.stp (sound_back plan.itm plan.stp sound)) among)
+      ∙ sym (written_flush plan.order (given_puts x before))
+  line_written among before (Trigger byte) h =
+      ap (λ (l : List ℕ). written plan.order (given_puts x before) ++ l) (no_trigger before kinds.Stp byte h)
+      ∙ append-nil (written plan.order (given_puts x before)) ∙ ap (written plan.order) (sym (append-nil (given_puts x before)))
+  line_written among before (One (Of id item)) h =
+      ap (λ (l : List ℕ). written plan.order (given_puts x before) ++ l) (for_tagged x id (item_bytes plan.order (given_puts id before) item))
+      ∙ by (id == x) refl
     where
-      of_item : (item : Item) → HasKind (Some kinds.Stp) item → written order (given_puts x before) ++ item_bytes order (given_puts x before) item ≡ written order (given_puts x before ++ unmarked (items_of item))
-      of_item (Stp item) k = sym (written_more order (given_puts x before) item)
+      of_item : (item : Item) → HasKind (Some kinds.Stp) item →
+          written plan.order (given_puts x before) ++ item_bytes plan.order (given_puts x before) item ≡ written plan.order (given_puts x before ++ unmarked (items_of item))
+      of_item (Stp item) k = sym (written_more plan.order (given_puts x before) item)
       of_item (Itm p) k = absurd k
       of_item (Dwt d) k = absurd k
       of_item (Raw bytes) k = absurd k
 
       by : (v : Bool) → (id == x) ≡ v →
-          written order (given_puts x before) ++ (if v then item_bytes order (given_puts id before) item else []) ≡ written order (given_puts x before ++ unmarked (if v then items_of item else []))
+          written plan.order (given_puts x before) ++ (if v then item_bytes plan.order (given_puts id before) item else [])
+          ≡ written plan.order (given_puts x before ++ unmarked (if v then items_of item else []))
       by true e =
           let same : id ≡ x = grind (arith, nat_tests) in
-          ap (λ (k : ℕ). written order (given_puts x before) ++ item_bytes order (given_puts k before) item) same ∙ of_item item (h same)
-      by false e = append-nil (written order (given_puts x before)) ∙ ap (written order) (sym (append-nil (given_puts x before)))
-
-  nothing_written : (order : Order) → written order [] ≡ []
-  unfolding packets_for nibbles_for
-  nothing_written order = refl
-
-  pub put_items : (order : Order) (lines : List Line) → CanAllBePut plan [] lines → kind_of plan x ≡ Some kinds.Stp → bytes_for x (put_of order lines) ≡ written order (given_puts x lines)
-  put_items order lines g k =
-      ap (λ (l : List ℕ). l ++ bytes_for x (put_of order lines)) (sym (nothing_written order))
-      ∙ put_as order (Some kinds.Stp) k (λ l. written order (given_puts x l)) (λ before line h. items_written order before line h) [] lines g
-
-  -- a source of another kind is given no STP items
-  no_item : (kind : Option SourceKind) (line : Line) → (kind ≡ Some kinds.Stp → ⊥) → OfKind kind line → items_by x line ≡ []
-  no_item kind Nothing n h = refl
-  no_item kind (Of id item) n h = by (id == x) refl
-    where
-      of_item : (kind : Option SourceKind) (item : Item) → (kind ≡ Some kinds.Stp → ⊥) → HasKind kind item → items_of item ≡ []
-      of_item kind (Itm p) n h = refl
-      of_item kind (Dwt d) n h = refl
-      of_item kind (Raw bytes) n h = refl
-      of_item (Some kinds.Itm) (Stp item) n h = absurd h
-      of_item (Some kinds.Stp) (Stp item) n h = absurd (n refl)
-      of_item None (Stp item) n h = absurd h
-
-      by : (v : Bool) → (id == x) ≡ v → (if v then items_of item else []) ≡ []
-      by true e = of_item kind item n (h (grind (arith, nat_tests)))
-      by false e = refl
-
-  pub no_items : (before lines : List Line) → (kind_of plan x ≡ Some kinds.Stp → ⊥) → CanAllBePut plan before lines → given_items x lines ≡ []
-  no_items before [] n g = refl
-  no_items before (line ∷ lines) n g =
-      ap (λ (l : List StpItem). l ++ given_items x lines) (no_item (kind_of plan x) line n (line_kind line g.0.said))
-      ∙ no_items (before ++ line ∷ []) lines n g.1
-
-  -- what the end adds: of no items nothing
-  no_end : (order : Order) → end_bytes order [] ≡ []
-  unfolding packets_for nibbles_for
-  no_end order = refl
-
-  ends_by : (order : Order) (lines : List Line) (id : ℕ) → bytes_for x (tagged id (end_bytes order (given_puts id lines))) ≡ (if id == x then end_bytes order (given_puts x lines) else [])
-  ends_by order lines id = for_tagged x id (end_bytes order (given_puts id lines)) ∙ by (id == x) refl
-    where
-      by : (v : Bool) → (id == x) ≡ v → (if v then end_bytes order (given_puts id lines) else []) ≡ (if v then end_bytes order (given_puts x lines) else [])
-      by true e = (let same : id ≡ x = grind (arith, nat_tests) in ap (λ (k : ℕ). end_bytes order (given_puts k lines)) same)
-      by false e = refl
-
-  ends_more : (order : Order) (lines : List Line) (id : ℕ) (ids : List ℕ) →
-      bytes_for x (ends_of order lines (id ∷ ids)) ≡ (if id == x then end_bytes order (given_puts x lines) else []) ++ bytes_for x (ends_of order lines ids)
-  ends_more order lines id ids =
-      for_append x (tagged id (end_bytes order (given_puts id lines))) (ends_of order lines ids)
-      ∙ ap (λ (l : List ℕ). l ++ bytes_for x (ends_of order lines ids)) (ends_by order lines id)
-
-  pub ends_empty : (order : Order) (lines : List Line) (ids : List ℕ) → given_items x lines ≡ [] → bytes_for x (ends_of order lines ids) ≡ []
-  ends_empty order lines [] e = refl
-  ends_empty order lines (id ∷ ids) e =
-      ends_more order lines id ids ∙ ap (λ (l : List ℕ). (if id == x then end_bytes order (given_puts x lines) else []) ++ l) (ends_empty order lines ids e)
-      ∙ by (id == x)
-    where
-      by : (v : Bool) → (if v then end_bytes order (given_puts x lines) else []) ++ [] ≡ []
-      by true = append-nil (end_bytes order (given_puts x lines)) ∙ ap (λ (l : List StpItem). end_bytes order (unmarked l)) e ∙ no_end order
-      by false = refl
-
-  ends_out : (order : Order) (lines : List Line) (ids : List ℕ) → is_one x ids ≡ false → bytes_for x (ends_of order lines ids) ≡ []
-  ends_out order lines [] e = refl
-  ends_out order lines (id ∷ ids) e = ends_more order lines id ids ∙ by (id == x) e (λ k. ends_out order lines ids k)
-    where
-      by : (v : Bool) → (v || is_one x ids) ≡ false → (is_one x ids ≡ false → bytes_for x (ends_of order lines ids) ≡ []) →
-          (if v then end_bytes order (given_puts x lines) else []) ++ bytes_for x (ends_of order lines ids) ≡ []
-      by true k more = (let z : true ≡ false = k in cc)
-      by false k more = more k
-
-  ends_in : (order : Order) (lines : List Line) (ids : List ℕ) → are_sound ids ≡ true → is_one x ids ≡ true → bytes_for x (ends_of order lines ids) ≡ end_bytes order (given_puts x lines)
-  ends_in order lines [] s e = (let z : false ≡ true = e in cc)
-  ends_in order lines (id ∷ ids) s e =
-      let f = sound_first id ids s in
-      ends_more order lines id ids ∙ by (id == x) refl e f.once (λ k. ends_in order lines ids f.rest k)
-    where
-      by : (v : Bool) → (id == x) ≡ v → (v || is_one x ids) ≡ true → is_one id ids ≡ false → (is_one x ids ≡ true → bytes_for x (ends_of order lines ids) ≡ end_bytes order (given_puts x lines)) →
-          (if v then end_bytes order (given_puts x lines) else []) ++ bytes_for x (ends_of order lines ids) ≡ end_bytes order (given_puts x lines)
-      by true i k once more =
-          let same : id ≡ x = grind (arith, nat_tests) in
-          ap (λ (l : List ℕ). end_bytes order (given_puts x lines) ++ l) (ends_out order lines ids (subst (λ (z : ℕ). is_one z ids ≡ false) same once))
-          ∙ append-nil (end_bytes order (given_puts x lines))
-      by false i k once more = more k
+          ap (λ (k : ℕ). written plan.order (given_puts x before) ++ item_bytes plan.order (given_puts k before) item) same ∙ of_item item (h same)
+      by false e = append-nil (written plan.order (given_puts x before)) ∙ ap (written plan.order) (sym (append-nil (given_puts x before)))
 
   -- all bytes of the script
-  module _ (lines : List Line) (g : CanAllBePut plan [] lines) where
-    without_end : (given : List ℕ) → (kind_of plan x ≡ Some kinds.Stp → ⊥) → bytes_for x (put_of plan.order lines) ≡ given → bytes_for x (script_bytes plan lines) ≡ given
-    without_end given n e =
-        for_append x (put_of plan.order lines) (ends_of plan.order lines (in_order plan.stp))
-        ∙ ap (λ (l : List ℕ). bytes_for x (put_of plan.order lines) ++ l) (ends_empty plan.order lines (in_order plan.stp) (no_items [] lines n g))
-        ∙ append-nil (bytes_for x (put_of plan.order lines)) ∙ e
+  module _ (lines : List Line2) (g : CanAllBePut plan [] lines) where
+    abbrev given : ℕ → List Put
+    given y = given_puts y lines
 
-    pub itm_bytes : kind_of plan x ≡ Some kinds.Itm → bytes_for x (script_bytes plan lines) ≡ spelled (given_packets x lines)
-    itm_bytes k = without_end (spelled (given_packets x lines)) (λ s. (let z : Some kinds.Itm ≡ Some kinds.Stp = sym k ∙ s in cc)) (put_packets plan.order lines g k)
+    abbrev ends : List ℕ
+    ends = bytes_for x (ends_with plan.order given ids)
 
-    pub raw_bytes : kind_of plan x ≡ None → bytes_for x (script_bytes plan lines) ≡ given_bytes x lines
-    raw_bytes k = without_end (given_bytes x lines) (λ s. (let z = sym k ∙ s in cc)) (put_raw plan.order lines g k)
+    all_parts : (so_far : List ℕ) → bytes_for x (put lines) ≡ so_far → bytes_for x (joined (script_segments plan lines)) ≡ so_far ++ ends
+    all_parts so_far e =
+        ap (bytes_for x) (joined_with (segments_of plan.order ids lines) (ends_with plan.order given ids))
+        ∙ for_append x (put lines) (ends_with plan.order given ids) ∙ ap (λ (l : List ℕ). l ++ ends) e
 
-    pub stp_bytes : is_sound plan ≡ true → kind_of plan x ≡ Some kinds.Stp → bytes_for x (script_bytes plan lines) ≡ encoded plan.order (given_puts x lines)
-    stp_bytes s k =
-        for_append x (put_of plan.order lines) (ends_of plan.order lines (in_order plan.stp))
-        ∙ ap (λ (l : List ℕ). l ++ bytes_for x (ends_of plan.order lines (in_order plan.stp))) (put_items plan.order lines g k)
-        ∙ ap (λ (l : List ℕ). written plan.order (given_puts x lines) ++ l) (ends_in plan.order lines (in_order plan.stp) (in_order_sound plan.stp (sound_back plan.itm plan.stp s)) (stp_in_order plan x s k))
+    without_end : (so_far : List ℕ) → is_one x ids ≡ false → bytes_for x (put lines) ≡ so_far → bytes_for x (joined (script_segments plan lines)) ≡ so_far
+    without_end so_far out e = all_parts so_far e ∙ ap (λ (l : List ℕ). so_far ++ l) (ends_out given ids out) ∙ append-nil so_far
+
+    pub itm_bytes : kind_of plan x ≡ Some kinds.Itm → bytes_for x (joined (script_segments plan lines)) ≡ spelled (given_packets x lines)
+    itm_bytes k =
+        let out = other_out plan x sound (λ s. (let z : Some kinds.Itm ≡ Some kinds.Stp = sym k ∙ s in cc)) in
+        without_end (spelled (given_packets x lines)) out
+        (put_as (Some kinds.Itm) k (λ l. spelled (given_packets x l))
+        (λ before line h. ap (λ (l : List ℕ). spelled (given_packets x before) ++ l) (line_spelled out before line h) ∙ packets_more before line)
+        [] lines g refl)
+
+    pub raw_bytes : kind_of plan x ≡ None → bytes_for x (joined (script_segments plan lines)) ≡ given_bytes x lines
+    raw_bytes k =
+        let out = other_out plan x sound (λ s. (let z = sym k ∙ s in cc)) in
+        without_end (given_bytes x lines) out
+        (put_as None k (λ l. given_bytes x l)
+        (λ before line h. ap (λ (l : List ℕ). given_bytes x before ++ l) (line_raw out before line h) ∙ raw_more before line)
+        [] lines g refl)
+
+    pub stp_bytes : kind_of plan x ≡ Some kinds.Stp → bytes_for x (joined (script_segments plan lines)) ≡ encoded plan.order (given_puts x lines)
+    stp_bytes k =
+        let among = stp_in_order plan x sound k in
+        all_parts (written plan.order (given_puts x lines))
+        (put_as (Some kinds.Stp) k (λ l. written plan.order (given_puts x l))
+        (λ before line h. line_written among before line h ∙ ap (written plan.order) (sym (given_more x before line)))
+        [] lines g (sym (nothing_written plan.order)))
+        ∙ ap (λ (l : List ℕ). written plan.order (given_puts x lines) ++ l)
+        (ends_in given ids (in_order_sound plan.stp (sound_back plan.itm plan.stp sound)) among)
         ∙ sym (filled_append (nibbles_for plan.order (given_puts x lines)))
 
-  -- without a line of the source there is none
-  no_line : (order : Order) (before : List Line) (line : Line) → is_line_of x line ≡ false → bytes_for x (put_by order before line) ≡ []
-  no_line order before Nothing e = refl
-  no_line order before (Of id item) e =
-      for_tagged x id (item_bytes order (given_puts id before) item) ∙ ap (λ (v : Bool). if v then item_bytes order (given_puts id before) item else []) e
-
+  -- without a line of the source nothing is given
   either : (a b : Bool) → (a || b) ≡ false → (a ≡ false) × (b ≡ false)
   either true b e = cc
   either false b e = (refl, e)
 
-  none_put : (order : Order) (before lines : List Line) → has_line x lines ≡ false → bytes_for x (put_after order before lines) ≡ []
-  none_put order before [] e = refl
-  none_put order before (line ∷ lines) e =
-      let k = either (is_line_of x line) (has_line x lines) e in
-      for_append x (put_by order before line) (put_after order (before ++ line ∷ []) lines)
-      ∙ ap (λ (l : List ℕ). l ++ bytes_for x (put_after order (before ++ line ∷ []) lines)) (no_line order before line k.0)
-      ∙ none_put order (before ++ line ∷ []) lines k.1
-
-  -- and nothing is given
-  none_of : {A : Type 0} (given : Line → List A) → ((line : Line) → is_line_of x line ≡ false → given line ≡ []) →
-      (lines : List Line) → has_line x lines ≡ false → flat_map given lines ≡ []
+  none_of : {A : Type 0} (given : Line2 → List A) → ((line : Line2) → is_line_of x line ≡ false → given line ≡ []) →
+      (lines : List Line2) → has_line x lines ≡ false → flat_map given lines ≡ []
   none_of given none [] e = refl
   none_of {A = A} given none (line ∷ lines) e =
       let k = either (is_line_of x line) (has_line x lines) e in
@@ -299,21 +342,32 @@ module _ (plan : Plan) (x : ℕ) where
 
   none_by : {A : Type 0} (given : Line → List A) (of : Item → List A) → given Nothing ≡ [] →
       ((id : ℕ) (item : Item) → given (Of id item) ≡ (if id == x then of item else [])) →
-      (line : Line) → is_line_of x line ≡ false → given line ≡ []
-  none_by given of n f Nothing e = n
-  none_by {A = A} given of n f (Of id item) e = f id item ∙ ap (λ (v : Bool). let r : List A = if v then of item else [] in r) e
+      (line : Line2) → is_line_of x line ≡ false → by_item given line ≡ []
+  none_by given of n f (One Nothing) e = n
+  none_by {A = A} given of n f (One (Of id item)) e = f id item ∙ ap (λ (v : Bool). let r : List A = if v then of item else [] in r) e
+  none_by given of n f Flush e = refl
+  none_by given of n f (Trigger byte) e = refl
 
-  pub none_items : (lines : List Line) → has_line x lines ≡ false → given_items x lines ≡ []
-  none_items lines e = none_of (items_by x) (none_by (items_by x) items_of refl (λ id item. refl)) lines e
+  pub none_items : (lines : List Line2) → has_line x lines ≡ false → given_items x lines ≡ []
+  none_items lines e = none_of (by_item (items_by x)) (none_by (items_by x) items_of refl (λ id item. refl)) lines e
 
-  pub none_packets : (lines : List Line) → has_line x lines ≡ false → given_packets x lines ≡ []
-  none_packets lines e = none_of (packets_by x) (none_by (packets_by x) packets_of refl (λ id item. refl)) lines e
+  pub none_packets : (lines : List Line2) → has_line x lines ≡ false → given_packets x lines ≡ []
+  none_packets lines e = none_of (by_item (packets_by x)) (none_by (packets_by x) packets_of refl (λ id item. refl)) lines e
 
-  pub none_bytes : (lines : List Line) → has_line x lines ≡ false → bytes_for x (script_bytes plan lines) ≡ []
-  none_bytes lines e =
-      for_append x (put_of plan.order lines) (ends_of plan.order lines (in_order plan.stp))
-      ∙ ap (λ (l : List ℕ). l ++ bytes_for x (ends_of plan.order lines (in_order plan.stp))) (none_put plan.order [] lines e)
-      ∙ ends_empty plan.order lines (in_order plan.stp) (none_items lines e)
+  none_byte : (line : Line2) → is_line_of x line ≡ false → bytes_by x line ≡ []
+  none_byte (One Nothing) e = refl
+  none_byte (One (Of id item)) e = ap (λ (v : Bool). let r : List ℕ = if v then raw_of item else [] in r) e
+  none_byte Flush e = refl
+  none_byte (Trigger byte) e = ap (λ (v : Bool). let r : List ℕ = if v then byte ∷ [] else [] in r) e
+
+  pub none_bytes : (lines : List Line2) → CanAllBePut plan [] lines → has_line x lines ≡ false → bytes_for x (joined (script_segments plan lines)) ≡ []
+  none_bytes lines g e = by (kind_of plan x) refl
+    where
+      by : (o : Option SourceKind) → kind_of plan x ≡ o → bytes_for x (joined (script_segments plan lines)) ≡ []
+      by None k = raw_bytes lines g k ∙ none_of (bytes_by x) none_byte lines e
+      by (Some kinds.Itm) k = itm_bytes lines g k ∙ ap spelled (none_packets lines e)
+      by (Some kinds.Stp) k =
+          stp_bytes lines g k ∙ none_encoded plan.order (given_puts x lines) (items_put x lines ∙ none_items lines e)
 
 -- all are of sources
 tagged_sources : (id : ℕ) (bytes : List ℕ) → 1 ≤ id → id ≤ 126 → All IsOfSource (tagged id bytes)
@@ -321,29 +375,51 @@ tagged_sources id [] low high = All-nil IsOfSource
 tagged_sources id (b ∷ bytes) low high =
     All-cons IsOfSource (record { id = id; byte = b }) (tagged id bytes) (record { named = low; in_range = high }) (tagged_sources id bytes low high)
 
-line_sources : (plan : Plan) (order : Order) (before : List Line) (line : Line) → SuitsPlan plan line → All IsOfSource (put_by order before line)
-line_sources plan order before Nothing s = All-nil IsOfSource
-line_sources plan order before (Of id item) s = tagged_sources id (item_bytes order (given_puts id before) item) s.0 s.1
-
-put_sources : (plan : Plan) (order : Order) (before lines : List Line) → CanAllBePut plan before lines → All IsOfSource (put_after order before lines)
-put_sources plan order before [] g = All-nil IsOfSource
-put_sources plan order before (line ∷ lines) g =
-    All-append IsOfSource (put_by order before line) (put_after order (before ++ line ∷ []) lines)
-    (line_sources plan order before line g.0.said) (put_sources plan order (before ++ line ∷ []) lines g.1)
-
-ends_sources : (order : Order) (lines : List Line) (ids : List ℕ) → are_sound ids ≡ true → All IsOfSource (ends_of order lines ids)
-ends_sources order lines [] s = All-nil IsOfSource
-ends_sources order lines (id ∷ ids) s =
+ends_sources : (order : Order) (given : ℕ → List Put) (ids : List ℕ) → are_sound ids ≡ true → All IsOfSource (ends_with order given ids)
+ends_sources order given [] s = All-nil IsOfSource
+ends_sources order given (id ∷ ids) s =
     let f = sound_first id ids s in
     let low = f.low in
     let high = f.high in
-    All-append IsOfSource (tagged id (end_bytes order (given_puts id lines))) (ends_of order lines ids)
-    (tagged_sources id (end_bytes order (given_puts id lines)) low (omega arith)) (ends_sources order lines ids f.rest)
+    All-append IsOfSource (tagged id (end_bytes order (given id))) (ends_with order given ids)
+    (tagged_sources id (end_bytes order (given id)) low (omega arith)) (ends_sources order given ids f.rest)
 
-pub all_sources : (plan : Plan) (lines : List Line) → is_sound plan ≡ true → CanAllBePut plan [] lines → All IsOfSource (script_bytes plan lines)
-all_sources plan lines s g =
-    All-append IsOfSource (put_of plan.order lines) (ends_of plan.order lines (in_order plan.stp))
-    (put_sources plan plan.order [] lines g) (ends_sources plan.order lines (in_order plan.stp) (in_order_sound plan.stp (sound_back plan.itm plan.stp s)))
+record AreNamed (s : Segments) : Type 0 where
+  ended : All (λ t. All IsOfSource t) s.ended
+  begun : All IsOfSource s.begun
+
+now_named : (s : Segments) (bytes : List Tagged) → AreNamed s → All IsOfSource bytes → All (λ t. All IsOfSource t) (now_ended (with_bytes s bytes))
+now_named s bytes n b =
+    All-push (λ (t : List Tagged). All IsOfSource t) s.ended (s.begun ++ bytes) n.ended (All-append IsOfSource s.begun bytes n.begun b)
+
+line_named : (s : Segments) (bytes : List Tagged) (line : Line2) → AreNamed s → All IsOfSource bytes → AreNamed (after_line line (with_bytes s bytes))
+line_named s bytes (One line) n b = record { ended = n.ended; begun = All-append IsOfSource s.begun bytes n.begun b }
+line_named s bytes (Trigger byte) n b = record { ended = n.ended; begun = All-append IsOfSource s.begun bytes n.begun b }
+line_named s bytes Flush n b = record { ended = now_named s bytes n b; begun = All-nil IsOfSource }
+
+module _ (plan : Plan) (sound : is_sound plan ≡ true) where
+  ids_sound : are_sound (in_order plan.stp) ≡ true
+  ids_sound = in_order_sound plan.stp (sound_back plan.itm plan.stp sound)
+
+  line_sources : (before : List Line2) (line : Line2) → IsSaid2 plan line → All IsOfSource (line_bytes plan.order (in_order plan.stp) before line)
+  line_sources before (One Nothing) s = All-nil IsOfSource
+  line_sources before (One (Of id item)) s = tagged_sources id (item_bytes plan.order (given_puts id before) item) s.0 s.1
+  line_sources before Flush s = ends_sources plan.order (λ y. given_puts y before) (in_order plan.stp) ids_sound
+  line_sources before (Trigger byte) s = tagged_sources 125 (byte ∷ []) (omega arith) (omega arith)
+
+  put_sources : (before : List Line2) (s : Segments) (lines : List Line2) → AreNamed s → CanAllBePut plan before lines →
+      AreNamed (segments_after plan.order (in_order plan.stp) before s lines)
+  put_sources before s [] n g = n
+  put_sources before s (line ∷ lines) n g =
+      put_sources (before ++ line ∷ []) (with_line plan.order (in_order plan.stp) before s line) lines
+      (line_named s (line_bytes plan.order (in_order plan.stp) before line) line n (line_sources before line g.0.said)) g.1
+
+  pub all_sources : (lines : List Line2) → CanAllBePut plan [] lines → All (λ t. All IsOfSource t) (script_segments plan lines)
+  all_sources lines g =
+      let ids = in_order plan.stp in
+      now_named (segments_of plan.order ids lines) (ends_with plan.order (λ y. given_puts y lines) ids)
+      (put_sources [] no_segments lines (record { ended = All-nil (λ (t : List Tagged). All IsOfSource t); begun = All-nil IsOfSource }) g)
+      (ends_sources plan.order (λ y. given_puts y lines) ids ids_sound)
 
 -- the packets that lines give are proper
 proper_append : (a b : List ItmPacket) → AreProper a → AreProper b → AreProper (a ++ b)
@@ -356,15 +432,17 @@ item_proper (Dwt d) h = (let k = name_of_packet d (in_range d h) in (k.0, k.1), 
 item_proper (Stp item) h = tt
 item_proper (Raw bytes) h = tt
 
-line_proper : (plan : Plan) (x : ℕ) (line : Line) → SuitsPlan plan line → AreProper (packets_by x line)
-line_proper plan x Nothing s = tt
-line_proper plan x (Of id item) s = by (id == x)
+line_proper : (plan : Plan) (x : ℕ) (line : Line2) → IsSaid2 plan line → AreProper (by_item (packets_by x) line)
+line_proper plan x (One Nothing) s = tt
+line_proper plan x Flush s = tt
+line_proper plan x (Trigger byte) s = tt
+line_proper plan x (One (Of id item)) s = by (id == x)
   where
     by : (v : Bool) → AreProper (if v then packets_of item else [])
     by true = item_proper item s.2
     by false = tt
 
-pub all_proper : (plan : Plan) (x : ℕ) (before lines : List Line) → CanAllBePut plan before lines → AreProper (given_packets x lines)
+pub all_proper : (plan : Plan) (x : ℕ) (before lines : List Line2) → CanAllBePut plan before lines → AreProper (given_packets x lines)
 all_proper plan x before [] g = tt
 all_proper plan x before (line ∷ lines) g =
-    proper_append (packets_by x line) (given_packets x lines) (line_proper plan x line g.0.said) (all_proper plan x (before ++ line ∷ []) lines g.1)
+    proper_append (by_item (packets_by x) line) (given_packets x lines) (line_proper plan x line g.0.said) (all_proper plan x (before ++ line ∷ []) lines g.1)

@@ -3,21 +3,20 @@ use Rattle.std.proofs.Common.{◌≡◌, ℕ, List, [], ◌∷◌, refl, sym, su
 use Rattle.std.specs.Prelude.{codes, if◌then◌else◌}
 use Rattle.std.specs.Str.{bytes_eq}
 use Rattle.std.proofs.lemmas.Slice.Eq.{bytes_eq-Decides}
-use Rattle.itm_grammar.specs.declared.packet.Size.TheVariants.{One, Two, Four as FourBytes}
-use Rattle.itm_grammar.specs.declared.packet.Lateness.TheVariants.{Exact, StampLate, PacketLate, BothLate}
-use Rattle.dwt_packets.specs.declared.item.Change.TheVariants.{Enter, Exit, Return}
+use Rattle.itm_grammar.specs.declared.packet.Size.TheVariants.{One}
+use Rattle.itm_grammar.specs.declared.packet.Lateness.TheVariants.{Exact}
+use Rattle.dwt_packets.specs.declared.item.Change.TheVariants.{Enter}
 use Rattle.stp_grammar.specs.declared.packet.Width.TheVariants.{Four, Eight, Sixteen, ThirtyTwo, SixtyFour}
 use Rattle.script_text.specs.declared.shapes.Shape.{Shape}
 use Rattle.script_text.specs.declared.shapes.Shape.TheVariants.{Itm, Dwt, Stp, Raw}
 use Rattle.script_text.specs.declared.itm_shapes.ItmShape.{ItmShape}
-use Rattle.script_text.specs.declared.itm_shapes.ItmShape.TheVariants.{Sync, Overflow, Software, Local, GlobalFirst}
+use Rattle.script_text.specs.declared.itm_shapes.ItmShape.TheVariants.{Software, Local}
 use Rattle.script_text.specs.declared.itm_shapes.ItmShape.TheVariants.{GlobalSecond, Extension}
 use Rattle.script_text.specs.declared.dwt_shapes.DwtShape.{DwtShape}
-use Rattle.script_text.specs.declared.dwt_shapes.DwtShape.TheVariants.{Counters, Exception, Sample, Asleep, MatchPc}
-use Rattle.script_text.specs.declared.dwt_shapes.DwtShape.TheVariants.{MatchAddress, Read, Written, Other}
+use Rattle.script_text.specs.declared.dwt_shapes.DwtShape.TheVariants.{Exception}
+use Rattle.script_text.specs.declared.dwt_shapes.DwtShape.TheVariants.{Read, Written, Other}
 use Rattle.script_text.specs.declared.stp_shapes.StpShape.{StpShape}
-use Rattle.script_text.specs.declared.stp_shapes.StpShape.TheVariants.{Async, Version, MasterError, GlobalError, Datum}
-use Rattle.script_text.specs.declared.stp_shapes.StpShape.TheVariants.{Flag, Trigger, Frequency, NullStamp}
+use Rattle.script_text.specs.declared.stp_shapes.StpShape.TheVariants.{Datum}
 use Rattle.script_text.specs.Shapes.{fields_of, fits, first_fitting, shapes_named, shape_named}
 use Rattle.script_text.specs.Table.{Row, Values, word_in, fields_in, itm_row, dwt_row, stp_row, raw_row}
 use Rattle.script_laws.proofs.Fields.{row_sound, row_words}

@@ -7,16 +7,15 @@ use Rattle.trace_values.specs.declared.fault.Reason.{Reason}
 use Rattle.trace_values.specs.Placed.{Place, Placed, units_of}
 use Rattle.trace_values.specs.Nibbles.{nibbles_of}
 use Rattle.trace_values.specs.declared.reading_modes.FramesMode.TheVariants.{Aligned}
-use Rattle.frame_writer.specs.Written.{Tagged, capture}
+use Rattle.frame_writer.specs.Written.{Tagged, joined, written_segments}
 use Rattle.frame_writer.specs.ReadBack as framed
-use Rattle.frame_writer.proofs.ReadingBack.{capture_reads}
+use Rattle.frame_writer.proofs.ReadingBack.{written_reads}
 use Rattle.itm_grammar.specs.declared.packet.ItmPacket.{ItmPacket}
 use Rattle.itm_codec.specs.Reading.{packets_in}
 use Rattle.stp_grammar.specs.declared.item.StpItem.{StpItem}
 use Rattle.stp_codec.specs.Reading.{items_in}
 use Rattle.stp_encoder.specs.ReadBack as encoded
 use Rattle.stp_encoder.specs.Fitting.{AreFitting}
-use Rattle.stp_encoder.proofs.Standing.{items_unmarked}
 use Rattle.stp_encoder.proofs.ReadingBack.{bytes_back}
 use Rattle.source_events.specs.declared.event.Event.{Event}
 use Rattle.source_events.specs.declared.event.What.{What}
@@ -35,8 +34,10 @@ use Rattle.source_events.proofs.Least.{Full, least_none}
 use Rattle.source_events.proofs.Captures.{capture_rises}
 use Rattle.source_events.proofs.Lawful.{plan_lawful}
 use Rattle.source_events.proofs.Merging.{capture_merged}
-use Rattle.script_text.specs.declared.lines.Line.{Line}
-use Rattle.script_rebuild.specs.Script.{script_bytes, given_packets, given_items, given_puts, given_bytes}
+use Rattle.script_text.specs.declared.version_two.Line2.{Line2}
+use Rattle.script_rebuild.specs.Script.{given_packets, given_items, given_puts, given_bytes}
+use Rattle.script_rebuild.specs.Segments.{script_segments}
+use Rattle.script_rebuild.proofs.AllSegments.{items_put}
 use Rattle.script_laws.specs.ReadBack.{aligned, rebuilt, port_of, report_of, said_of, bytes_in, SaysBytes, has_line, ReadsAsGiven}
 use Rattle.script_laws.specs.Puts.{CanAllBePut}
 use Rattle.script_laws.proofs.Said.{all_fit}
@@ -58,9 +59,12 @@ no_whats : (es : List (Event Packet)) → map (λ (e : Event Packet). e.what) es
 no_whats [] e = refl
 no_whats (x ∷ es) e = cc
 
-module _ (every halves : ℕ) (plan : Plan) (lines : List Line) (sound : is_sound plan ≡ true) (good : CanAllBePut plan [] lines) where
+module _ (every halves : ℕ) (plan : Plan) (lines : List Line2) (sound : is_sound plan ≡ true) (good : CanAllBePut plan [] lines) where
   abbrev bytes : List Tagged
-  bytes = script_bytes plan lines
+  bytes = joined (script_segments plan lines)
+
+  abbrev capture : List ℕ
+  capture = written_segments every halves (script_segments plan lines)
 
   abbrev u : List Placed
   u = rebuilt every halves plan lines
@@ -71,21 +75,21 @@ module _ (every halves : ℕ) (plan : Plan) (lines : List Line) (sound : is_soun
   abbrev runs : List (List Cell)
   runs = runs_in (port_of u)
 
-  law : framed.ReadsBack (capture every halves bytes) bytes
-  law = capture_reads every halves bytes (all_sources plan lines sound good)
+  law : framed.ReadsBack capture bytes
+  law = written_reads every halves (script_segments plan lines) (all_sources plan sound lines good)
 
   -- mapped sources
   itm_reads : (x : ℕ) → kind_of plan x ≡ Some Itm → IsReadAs (list_of x runs) (given_packets x lines)
   itm_reads x k =
       read_as (given_packets x lines) (all_proper plan x [] lines good) (list_of x runs)
-      (list_bytes every halves bytes law x (not_null x (mapped_low plan x Itm sound k)) ∙ itm_bytes plan x lines good k)
+      (list_bytes capture bytes law x (not_null x (mapped_low plan x Itm sound k)) ∙ itm_bytes plan x sound lines good k)
 
   stp_reads : (x : ℕ) → kind_of plan x ≡ Some Stp → encoded.ReadsBack plan.order (given_items x lines) (nibbles_of (list_of x runs))
   stp_reads x k =
-      let same = items_unmarked (given_items x lines) in
+      let same = items_put x lines in
       subst (λ (items : List StpItem). encoded.ReadsBack plan.order items (nibbles_of (list_of x runs))) same
       (bytes_back plan.order (given_puts x lines) (subst AreFitting (sym same) (all_fit plan x lines good)) (list_of x runs)
-      (list_bytes every halves bytes law x (not_null x (mapped_low plan x Stp sound k)) ∙ stp_bytes plan x lines good sound k))
+      (list_bytes capture bytes law x (not_null x (mapped_low plan x Stp sound k)) ∙ stp_bytes plan x sound lines good k))
 
   no_fault : stop_in sources (port_of u) ≡ None
   no_fault =
@@ -100,7 +104,7 @@ module _ (every halves : ℕ) (plan : Plan) (lines : List Line) (sound : is_soun
 
   merged : IsMerged (port_events Aligned u) (events sources) runs (capture_events sources Aligned u)
   merged =
-      (capture_merged Packet sources (plan_lawful (aligned plan)) Aligned u 0 (length (capture every halves bytes)) (capture_rises (capture every halves bytes))
+      (capture_merged Packet sources (plan_lawful (aligned plan)) Aligned u 0 (length capture) (capture_rises capture)
       (capture_events sources Aligned u)).1 refl
 
   part_is : (x : ℕ) → part (Some x) (report_of plan u) ≡ told (Some x) (events sources x runs)
@@ -136,10 +140,10 @@ module _ (every halves : ℕ) (plan : Plan) (lines : List Line) (sound : is_soun
   other_bytes : (x : ℕ) → 1 ≤ x → kind_of plan x ≡ None → flat_map bytes_in (said_of plan u x) ≡ given_bytes x lines
   other_bytes x l k =
       ap (λ (said : List (What Packet)). flat_map bytes_in said) (other_said x k) ∙ raws_bytes x runs (not_null x l)
-      ∙ list_bytes every halves bytes law x (not_null x l) ∙ raw_bytes plan x lines good k
+      ∙ list_bytes capture bytes law x (not_null x l) ∙ raw_bytes plan x sound lines good k
 
   no_list : (x : ℕ) → 1 ≤ x → has_line x lines ≡ false → list_of x runs ≡ []
-  no_list x l e = no_units (list_of x runs) (list_bytes every halves bytes law x (not_null x l) ∙ none_bytes plan x lines e)
+  no_list x l e = no_units (list_of x runs) (list_bytes capture bytes law x (not_null x l) ∙ none_bytes plan x sound lines good e)
 
   unsaid : (x : ℕ) → has_line x lines ≡ false → said_of plan u x ≡ []
   unsaid x e = by (kind_of plan x) refl
@@ -150,8 +154,8 @@ module _ (every halves : ℕ) (plan : Plan) (lines : List Line) (sound : is_soun
 
       by : (o : Option SourceKind) → kind_of plan x ≡ o → said_of plan u x ≡ []
       by None k = by_number x k e
-      by (Some Itm) k = itm_said x k ∙ ap (λ (l : List ItmPacket). map (λ (p : ItmPacket). PacketEvent (ItmPacket_ p)) l) (none_packets plan x lines e)
-      by (Some Stp) k = stp_said x k ∙ ap (λ (l : List StpItem). map (λ (i : StpItem). PacketEvent (StpPacket_ i)) l) (none_items plan x lines e)
+      by (Some Itm) k = itm_said x k ∙ ap (λ (l : List ItmPacket). map (λ (p : ItmPacket). PacketEvent (ItmPacket_ p)) l) (none_packets plan x sound lines e)
+      by (Some Stp) k = stp_said x k ∙ ap (λ (l : List StpItem). map (λ (i : StpItem). PacketEvent (StpPacket_ i)) l) (none_items plan x sound lines e)
 
   pub reads_as_given : ReadsAsGiven plan lines u
   reads_as_given = record {
@@ -164,6 +168,6 @@ module _ (every halves : ℕ) (plan : Plan) (lines : List Line) (sound : is_soun
     plain = other_plain;
     bytes = λ x l h k. other_bytes x l k;
     silent = λ x e. no_whats (part (Some x) (report_of plan u)) (unsaid x e);
-    absent = λ x l e. no_cell every halves bytes law x (not_null x l) (none_bytes plan x lines e);
+    absent = λ x l e. no_cell capture bytes law x (not_null x l) (none_bytes plan x sound lines good e);
     no_notice = ap (λ (es : List (Event Packet)). part None es) report_is ∙ merged.of_port;
   }

@@ -9,7 +9,7 @@ use Rattle.itm_grammar.specs.declared.packet.Size.TheVariants.{One, Two, Four}
 use Rattle.itm_grammar.specs.declared.packet.ItmPacket.{ItmPacket}
 use Rattle.itm_grammar.specs.declared.packet.ItmPacket.TheVariants as itm
 use Rattle.dwt_packets.specs.Packet.{IsInRange}
-use Rattle.dwt_packets.specs.declared.item.Change.TheVariants.{Enter, Exit, Return}
+use Rattle.dwt_packets.specs.declared.item.Change.TheVariants.{Enter}
 use Rattle.dwt_packets.specs.declared.item.DwtItem.{DwtItem}
 use Rattle.dwt_packets.specs.declared.item.DwtItem.TheVariants as dwt
 use Rattle.dwt_packets.proofs.Inverses.{in_range}

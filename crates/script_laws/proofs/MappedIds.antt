@@ -8,7 +8,7 @@ use Rattle.source_events.specs.declared.plan.SourceKind.{SourceKind}
 use Rattle.source_events.specs.declared.plan.SourceKind.TheVariants.{Itm, Stp}
 use Rattle.source_events.specs.Plan.{kind_of, are_sound, is_sound}
 use Rattle.script_rebuild.specs.Script.{in_order}
-use Rattle.script_rebuild.proofs.InOrder.{in_order_among}
+use Rattle.script_rebuild.proofs.InOrder.{in_order_among, in_order_sound}
 
 -- it is one of these
 abbrev pub is_one : ℕ → List ℕ → Bool
@@ -149,3 +149,28 @@ null_none plan s = by (kind_of plan 0) refl
     by : (o : Option SourceKind) → kind_of plan 0 ≡ o → o ≡ None
     by None e = refl
     by (Some kind) e = (let k : 1 ≤ 0 = mapped_low plan 0 kind s e in absurd (omega arith))
+
+-- the trigger source is not mapped
+pub trigger_none : (plan : Plan) → is_sound plan ≡ true → kind_of plan 125 ≡ None
+trigger_none plan s = by (kind_of plan 125) refl
+  where
+    high : (kind : SourceKind) → kind_of plan 125 ≡ Some kind → 125 ≤ 111
+    high Itm e = (one_range plan 125 s (ap (λ (a : Bool). a || is_one 125 plan.stp) (itm_one plan 125 e))).1
+    high Stp e =
+        let k = stp_one plan 125 e in
+        (one_range plan 125 s (ap (λ (a : Bool). a || is_one 125 plan.stp) k.0 ∙ k.1)).1
+
+    by : (o : Option SourceKind) → kind_of plan 125 ≡ o → o ≡ None
+    by None e = refl
+    by (Some kind) e = (let k = high kind e in absurd (omega (arith, k)))
+
+-- a source of another kind is not among the STP sources
+pub other_out : (plan : Plan) (x : ℕ) → is_sound plan ≡ true → (kind_of plan x ≡ Some Stp → ⊥) →
+    is_one x (in_order plan.stp) ≡ false
+other_out plan x s other = by (is_one x (in_order plan.stp)) refl
+  where
+    by : (v : Bool) → is_one x (in_order plan.stp) ≡ v → v ≡ false
+    by false e = refl
+    by true e =
+        let range = in_range x (in_order plan.stp) (in_order_sound plan.stp (sound_back plan.itm plan.stp s)) e in
+        absurd (other (one_stp plan x s (sym (in_order_among plan.stp x range.0 (omega (arith, range.1))) ∙ e)))

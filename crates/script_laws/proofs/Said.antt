@@ -1,15 +1,12 @@
 -- The lines of a script up to its first fault: each can be said, of its source, and its STP items can be written.
-use Rattle.std.proofs.Common.{◌≡◌, ℕ, List, [], ◌∷◌, ◌++◌, length, refl, sym, ◌∙◌, ap, subst, arith, append-nil, append_assoc, Bool, true, false, Option, None, Some, Result, Ok, Err}
+use Rattle.std.proofs.Common.{◌≡◌, ℕ, List, [], ◌∷◌, ◌++◌, length, refl, sym, ◌∙◌, ap, subst, arith, append-nil, append_assoc, Bool, true, false, Result, Ok, Err}
 use Rattle.std.specs.Prelude.{◌==◌, nat_lt, if◌then◌else◌}
 use Rattle.std.proofs.lemmas.Bool.Decides.{nat_tests}
 use Rattle.std.proofs.lemmas.List.Concat.{flat_map-append}
 use Rattle.stp_grammar.specs.declared.item.StpItem.{StpItem}
-use Rattle.stp_encoder.specs.Fitting.{version_after, is_unfit, AreFitting}
+use Rattle.stp_encoder.specs.Fitting.{version_after as version_after_items, is_unfit, AreFitting}
 use Rattle.stp_encoder.proofs.Fitted.{none_fit, more_fit}
 use Rattle.source_events.specs.declared.plan.Plan.{Plan}
-use Rattle.source_events.specs.declared.plan.SourceKind.{SourceKind}
-use Rattle.source_events.specs.declared.plan.SourceKind.TheVariants as kinds
-use Rattle.source_events.specs.Plan.{kind_of}
 use Rattle.script_text.specs.declared.items.Item.{Item}
 use Rattle.script_text.specs.declared.items.Item.TheVariants.{Itm, Dwt, Stp, Raw}
 use Rattle.script_text.specs.declared.lines.Line.{Line}
@@ -17,12 +14,20 @@ use Rattle.script_text.specs.declared.lines.Line.TheVariants.{Nothing, Of}
 use Rattle.script_text.specs.declared.line_fault.LineFault.{LineFault}
 use Rattle.script_text.specs.declared.line_fault.LineFault.TheVariants.{LongLine, BadLine, Unfit}
 use Rattle.script_text.specs.Words.{are_printable, words_in, are_words}
-use Rattle.script_text.specs.Lines.{line_of, line_of_words, is_nothing, taken_by, ◌>>=◌}
+use Rattle.std.specs.Str.{bytes_eq}
+use Rattle.script_text.specs.Lines.{line_of, line_of_words, is_nothing, ◌>>=◌}
 use Rattle.script_text.specs.Said.{IsSaid}
 use Rattle.script_text.proofs.LineRanges.{ok_of, words_said_if}
-use Rattle.script_rebuild.specs.Script.{items_of, items_by, given_items, fitting_item, fitting, line_after, script_of, lines_in}
-use Rattle.script_laws.specs.Puts.{HasKind, SuitsPlan, CanBePut, CanAllBePut}
+use Rattle.script_text.specs.declared.version_two.Line2.{Line2}
+use Rattle.script_text.specs.declared.version_two.Line2.TheVariants.{One, Flush, Trigger}
+use Rattle.script_text.specs.VersionTwo.{as_one, line2_of, IsSaid2}
+use Rattle.script_rebuild.specs.declared.version.Version.{Version}
+use Rattle.script_rebuild.specs.declared.version.Version.TheVariants.{Unknown, First, Second}
+use Rattle.script_rebuild.specs.Script.{by_item, items_of, items_by, given_items}
+use Rattle.script_rebuild.specs.Versions.{fitting_item, fitting_one, fitting, header, version_after, says, says_one, script_of, lines_in}
+use Rattle.script_laws.specs.Puts.{CanBePut, CanAllBePut}
 use Rattle.script_laws.proofs.Texts.{AreFrom, read_from}
+use Rattle.script_laws.proofs.TriggerLaw.{trigger_small, one_only}
 
 line_said : (plan : Plan) (text : List ℕ) (line : Line) → line_of plan text ≡ Ok line → IsSaid plan line
 unfolding line_of
@@ -40,84 +45,112 @@ item_same : (line other : Line) (before : List StpItem) (item : Item) → fittin
 item_same line other before (Itm p) e = ok_of line other e
 item_same line other before (Dwt d) e = ok_of line other e
 item_same line other before (Raw bytes) e = ok_of line other e
-item_same line other before (Stp item) e = by (is_unfit (version_after before) item) e
+item_same line other before (Stp item) e = by (is_unfit (version_after_items before) item) e
   where
     by : (v : Bool) → (if v then Err Unfit else Ok line) ≡ Ok other → line ≡ other
     by true e = cc
     by false e = ok_of line other e
 
-fit_same : (before : List Line) (line other : Line) → fitting before line ≡ Ok other → line ≡ other
-fit_same before Nothing other e = ok_of Nothing other e
-fit_same before (Of id item) other e = item_same (Of id item) other (given_items id before) item e
+one_same : (before : List Line2) (line other : Line) → fitting_one before line ≡ Ok other → line ≡ other
+one_same before Nothing other e = ok_of Nothing other e
+one_same before (Of id item) other e = item_same (Of id item) other (given_items id before) item e
 
--- a line that can be said is of its source
-taken_kind : (kind : Option SourceKind) (id : ℕ) (item : Item) (line : Line) → taken_by kind id item ≡ Ok line → HasKind kind item
-taken_kind (Some kinds.Itm) id (Itm p) line e = tt
-taken_kind (Some kinds.Itm) id (Dwt d) line e = tt
-taken_kind (Some kinds.Stp) id (Stp item) line e = tt
-taken_kind None id (Raw bytes) line e = tt
-taken_kind kind id item line e = cc
-
-line_suits : (plan : Plan) (line : Line) → IsSaid plan line → SuitsPlan plan line
-line_suits plan Nothing s = tt
-line_suits plan (Of id item) s = (s.0, s.1, s.2, taken_kind (kind_of plan id) id item (Of id item) s.3)
-
-line_good : (plan : Plan) (before : List Line) (text : List ℕ) (line : Line) → line_after plan before text ≡ Ok line → CanBePut plan before line
-line_good plan before text line e = by (line_of plan text) refl e
+fit_same : (before : List Line2) (line other : Line2) → fitting before line ≡ Ok other → line ≡ other
+fit_same before (One line) other e = by (fitting_one before line) refl e
   where
-    by : (r : Result Line LineFault) → line_of plan text ≡ r → (r >>= fitting before) ≡ Ok line → CanBePut plan before line
-    by (Err f) k e = cc
-    by (Ok given) k e =
-        let same = fit_same before given line e in
-        record { said = line_suits plan line (line_said plan text line (k ∙ ap (λ (l : Line). Ok l) same)); fits = ap (fitting before) (sym same) ∙ e }
+    by : (r : Result Line LineFault) → fitting_one before line ≡ r → as_one r ≡ Ok other → One line ≡ other
+    by (Ok found) k e = ap One (one_same before line found k) ∙ ok_of (One found) other e
+    by (Err fault) k e = cc
+fit_same before Flush other e = ok_of Flush other e
+fit_same before (Trigger byte) other e = ok_of (Trigger byte) other e
 
-all_good : (plan : Plan) (before : List Line) (texts : List (List ℕ)) (lines : List Line) → AreFrom plan before texts lines → CanAllBePut plan before lines
-all_good plan before texts [] h = tt
-all_good plan before [] (line ∷ lines) h = absurd h
-all_good plan before (text ∷ texts) (line ∷ lines) h = (line_good plan before text line h.0, all_good plan (before ++ line ∷ []) texts lines h.1)
+-- what a text says can be put
+answer_good : (plan : Plan) (before : List Line2) (r : Result Line2 LineFault) (line : Line2) →
+    ((given : Line2) → r ≡ Ok given → IsSaid2 plan given) → (r >>= fitting before) ≡ Ok line → CanBePut plan before line
+answer_good plan before (Err fault) line said e = cc
+answer_good plan before (Ok given) line said e =
+    let same = fit_same before given line e in
+    record { said = subst (IsSaid2 plan) same (said given refl); fits = ap (fitting before) (sym same) ∙ e }
+
+one_said : (plan : Plan) (text : List ℕ) (given : Line2) → as_one (line_of plan text) ≡ Ok given → IsSaid2 plan given
+one_said plan text given e = by (line_of plan text) refl e
+  where
+    by : (r : Result Line LineFault) → line_of plan text ≡ r → as_one r ≡ Ok given → IsSaid2 plan given
+    by (Ok line) k e = subst (IsSaid2 plan) (ok_of (One line) given e) (line_said plan text line k)
+    by (Err fault) k e = cc
+
+two_said : (plan : Plan) (text : List ℕ) (given : Line2) → line2_of plan text ≡ Ok given → IsSaid2 plan given
+two_said plan text (One line) e = line_said plan text line (one_only plan text line e)
+two_said plan text Flush e = tt
+two_said plan text (Trigger byte) e = trigger_small plan text byte e
+
+line_good : (plan : Plan) (version : Version) (before : List Line2) (text : List ℕ) (line : Line2) →
+    says plan version before text ≡ Ok line → CanBePut plan before line
+line_good plan Unknown before text line e = by (bytes_eq header text) e
+  where
+    by : (v : Bool) → (if v then Ok (One Nothing) else says_one plan before text) ≡ Ok line → CanBePut plan before line
+    by true e = subst (CanBePut plan before) (ok_of (One Nothing) line e) (record { said = tt; fits = refl })
+    by false e = answer_good plan before (as_one (line_of plan text)) line (one_said plan text) e
+line_good plan First before text line e = answer_good plan before (as_one (line_of plan text)) line (one_said plan text) e
+line_good plan Second before text line e = answer_good plan before (line2_of plan text) line (two_said plan text) e
+
+all_good : (plan : Plan) (version : Version) (before : List Line2) (texts : List (List ℕ)) (lines : List Line2) →
+    AreFrom plan version before texts lines → CanAllBePut plan before lines
+all_good plan version before texts [] h = tt
+all_good plan version before [] (line ∷ lines) h = absurd h
+all_good plan version before (text ∷ texts) (line ∷ lines) h =
+    (line_good plan version before text line h.0, all_good plan (version_after version text) (before ++ line ∷ []) texts lines h.1)
 
 -- one line more
-pub put_more : (plan : Plan) (before lines : List Line) (line : Line) → CanAllBePut plan before lines → CanBePut plan (before ++ lines) line →
+pub put_more : (plan : Plan) (before lines : List Line2) (line : Line2) → CanAllBePut plan before lines → CanBePut plan (before ++ lines) line →
     CanAllBePut plan before (lines ++ line ∷ [])
-put_more plan before [] line all one = (subst (λ (l : List Line). CanBePut plan l line) (append-nil before) one, tt)
+put_more plan before [] line all one = (subst (λ (l : List Line2). CanBePut plan l line) (append-nil before) one, tt)
 put_more plan before (x ∷ lines) line all one =
-    (all.0, put_more plan (before ++ x ∷ []) lines line all.1 (subst (λ (l : List Line). CanBePut plan l line) (sym (append_assoc before (x ∷ []) lines)) one))
+    (all.0, put_more plan (before ++ x ∷ []) lines line all.1 (subst (λ (l : List Line2). CanBePut plan l line) (sym (append_assoc before (x ∷ []) lines)) one))
 
 pub script_good : (plan : Plan) (script : List ℕ) → CanAllBePut plan [] (script_of plan script).lines
 script_good plan script =
-    let m = read_from plan (lines_in script) [] in
-    subst (CanAllBePut plan []) (sym m.lines_are) (all_good plan [] (lines_in script) m.more m.all)
+    let m = read_from plan Unknown (lines_in script) [] in
+    subst (CanAllBePut plan []) (sym m.lines_are) (all_good plan Unknown [] (lines_in script) m.more m.all)
 
 -- the STP items of a source are fitting ones
-pub given_more : (x : ℕ) (before : List Line) (line : Line) → given_items x (before ++ line ∷ []) ≡ given_items x before ++ items_by x line
+given_more : (x : ℕ) (before : List Line2) (line : Line2) →
+    given_items x (before ++ line ∷ []) ≡ given_items x before ++ by_item (items_by x) line
 given_more x before line =
-    flat_map-append (items_by x) before (line ∷ []) ∙ ap (λ (l : List StpItem). given_items x before ++ l) (append-nil (items_by x line))
+    flat_map-append (by_item (items_by x)) before (line ∷ [])
+    ∙ ap (λ (l : List StpItem). given_items x before ++ l) (append-nil (by_item (items_by x) line))
 
-is_fit : (line : Line) (v : Bool) → (let r : Result Line LineFault = if v then Err Unfit else Ok line in r ≡ Ok line) → v ≡ false
+is_fit : (line : Line) (v : Bool) → (let r : Result Line LineFault = if v then Err Unfit else Ok line in as_one r ≡ Ok (One line)) → v ≡ false
 is_fit line true e = cc
 is_fit line false e = refl
 
-item_fits : (plan : Plan) (x : ℕ) (before : List Line) (item : Item) → CanBePut plan before (Of x item) → AreFitting (given_items x before) →
+item_fits : (plan : Plan) (x : ℕ) (before : List Line2) (item : Item) → CanBePut plan before (One (Of x item)) → AreFitting (given_items x before) →
     AreFitting (given_items x before ++ items_of item)
 item_fits plan x before (Itm p) g h = subst AreFitting (sym (append-nil (given_items x before))) h
 item_fits plan x before (Dwt d) g h = subst AreFitting (sym (append-nil (given_items x before))) h
 item_fits plan x before (Raw bytes) g h = subst AreFitting (sym (append-nil (given_items x before))) h
 item_fits plan x before (Stp item) g h =
-    more_fit (given_items x before) item h g.said.2.0 (is_fit (Of x (Stp item)) (is_unfit (version_after (given_items x before)) item) g.fits)
+    more_fit (given_items x before) item h g.said.2.0 (is_fit (Of x (Stp item)) (is_unfit (version_after_items (given_items x before)) item) g.fits)
 
-line_fits : (plan : Plan) (x : ℕ) (before : List Line) (line : Line) → CanBePut plan before line → AreFitting (given_items x before) → AreFitting (given_items x before ++ items_by x line)
-line_fits plan x before Nothing g h = subst AreFitting (sym (append-nil (given_items x before))) h
-line_fits plan x before (Of id item) g h = by (id == x) refl
+line_fits : (plan : Plan) (x : ℕ) (before : List Line2) (line : Line2) → CanBePut plan before line → AreFitting (given_items x before) →
+    AreFitting (given_items x before ++ by_item (items_by x) line)
+line_fits plan x before (One Nothing) g h = subst AreFitting (sym (append-nil (given_items x before))) h
+line_fits plan x before Flush g h = subst AreFitting (sym (append-nil (given_items x before))) h
+line_fits plan x before (Trigger byte) g h = subst AreFitting (sym (append-nil (given_items x before))) h
+line_fits plan x before (One (Of id item)) g h = by (id == x) refl
   where
     by : (v : Bool) → (id == x) ≡ v → AreFitting (given_items x before ++ (if v then items_of item else []))
-    by true e = (let same : id ≡ x = grind (arith, nat_tests) in item_fits plan x before item (subst (λ (k : ℕ). CanBePut plan before (Of k item)) same g) h)
+    by true e =
+        let same : id ≡ x = grind (arith, nat_tests) in
+        item_fits plan x before item (subst (λ (k : ℕ). CanBePut plan before (One (Of k item))) same g) h
     by false e = subst AreFitting (sym (append-nil (given_items x before))) h
 
-items_fit : (plan : Plan) (x : ℕ) (before lines : List Line) → CanAllBePut plan before lines → AreFitting (given_items x before) → AreFitting (given_items x (before ++ lines))
-items_fit plan x before [] g h = subst (λ (l : List Line). AreFitting (given_items x l)) (sym (append-nil before)) h
+items_fit : (plan : Plan) (x : ℕ) (before lines : List Line2) → CanAllBePut plan before lines → AreFitting (given_items x before) →
+    AreFitting (given_items x (before ++ lines))
+items_fit plan x before [] g h = subst (λ (l : List Line2). AreFitting (given_items x l)) (sym (append-nil before)) h
 items_fit plan x before (line ∷ lines) g h =
-    subst (λ (l : List Line). AreFitting (given_items x l)) (append_assoc before (line ∷ []) lines)
+    subst (λ (l : List Line2). AreFitting (given_items x l)) (append_assoc before (line ∷ []) lines)
     (items_fit plan x (before ++ line ∷ []) lines g.1 (subst AreFitting (sym (given_more x before line)) (line_fits plan x before line g.0 h)))
 
-pub all_fit : (plan : Plan) (x : ℕ) (lines : List Line) → CanAllBePut plan [] lines → AreFitting (given_items x lines)
+pub all_fit : (plan : Plan) (x : ℕ) (lines : List Line2) → CanAllBePut plan [] lines → AreFitting (given_items x lines)
 all_fit plan x lines g = items_fit plan x [] lines g none_fit

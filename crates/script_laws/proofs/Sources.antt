@@ -10,7 +10,7 @@ use Rattle.frame_grammar.specs.Reading.{is_source, source_list}
 use Rattle.frame_grammar.specs.SourceBytes.{source_units}
 use Rattle.deformatter.specs.PortReading.{cells_of}
 use Rattle.deformatter.proofs.PortReadingLaws.{frames_have_runs}
-use Rattle.frame_writer.specs.Written.{Tagged, capture}
+use Rattle.frame_writer.specs.Written.{Tagged}
 use Rattle.frame_writer.specs.ReadBack.{ReadsBack, seen, as_seen, source_cells}
 use Rattle.source_events.specs.Runs.{list_of}
 use Rattle.source_events.specs.Report.{runs_in}
@@ -49,9 +49,9 @@ pick_tagged : (x : ℕ) (t : List Tagged) → pick x (map as_seen t) ≡ bytes_f
 pick_tagged x [] = refl
 pick_tagged x (b ∷ t) = ap (λ (l : List ℕ). if b.id == x then b.byte ∷ l else l) (pick_tagged x t)
 
-module _ (every halves : ℕ) (t : List Tagged) (law : ReadsBack (capture every halves t) t) where
+module _ (bytes : List ℕ) (t : List Tagged) (law : ReadsBack bytes t) where
   abbrev written : List Placed
-  written = placed (capture every halves t)
+  written = placed bytes
 
   -- the bytes of a source's cells
   pub cell_bytes : (x : ℕ) → x ≢ 0 → units_of (source_units x (cells_of (port_of written))) ≡ bytes_for x t

@@ -18,6 +18,7 @@ use Rattle.script_text.specs.declared.line_fault.LineFault.TheVariants.{LongLine
 use Rattle.script_text.specs.Words.{are_printable, words_in, are_words, word_of}
 use Rattle.script_text.specs.Numbers.{hexadecimal_named, hexadecimal_at}
 use Rattle.script_text.specs.Lines.{◌>>=◌, line_of_words, line_of, is_nothing}
+use Rattle.script_text.proofs.Hexadecimals.{hexadecimal_small}
 use Rattle.script_text.specs.VersionTwo.{flush_line, is_trigger, trigger_said, as_one, line2_of}
 use Rattle.script_text.proofs.NewLines.{two_by, too_many}
 use Rattle.script_laws.specs.Lowered.{lowered}
@@ -123,9 +124,15 @@ decimal_is : (text : List ℕ) → joined (decimal 125 ∷ (codes "trigger" ∷ 
 unfolding digits
 decimal_is text = refl
 
-pub trigger_only : (plan : Plan) (line : List ℕ) (byte : ℕ) → byte < 256 → line2_of plan line ≡ Ok (Trigger byte) →
+pub trigger_small : (plan : Plan) (line : List ℕ) (byte : ℕ) → line2_of plan line ≡ Ok (Trigger byte) → byte < 256
+trigger_small plan line byte e =
+    let t = trigger_line plan line byte e in
+    hexadecimal_small 2 (word_of (words_in line) 2) byte (said_parts (words_in line) byte t.1).1
+
+pub trigger_only : (plan : Plan) (line : List ℕ) (byte : ℕ) → line2_of plan line ≡ Ok (Trigger byte) →
     map lowered line ≡ trigger_text byte
-trigger_only plan line byte small e =
+trigger_only plan line byte e =
+    let small = trigger_small plan line byte e in
     let t = trigger_line plan line byte e in
     let w = trigger_parts (words_in line) byte t.0 t.1 in
     ap (map lowered) (sym (join_with_byte-slice_split 32 line))

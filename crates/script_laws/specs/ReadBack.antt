@@ -7,7 +7,7 @@ use Rattle.trace_values.specs.declared.reading_modes.FramesMode.TheVariants.{Ali
 use Rattle.trace_values.specs.declared.reading_modes.PacketsMode.TheVariants.{Aligned as PacketsAligned}
 use Rattle.frame_grammar.specs.Reading.{source_list}
 use Rattle.deformatter.specs.PortReading.{PortReading, port_reading, cells_of}
-use Rattle.frame_writer.specs.Written.{capture}
+use Rattle.frame_writer.specs.Written.{written_segments}
 use Rattle.source_events.specs.declared.event.Event.{Event}
 use Rattle.source_events.specs.declared.event.What.{What}
 use Rattle.source_events.specs.declared.event.What.TheVariants.{Locked, Packet as PacketEvent, Raw, Trigger}
@@ -20,9 +20,11 @@ use Rattle.source_events.specs.Merge.{part}
 use Rattle.source_events.specs.Plan.{sources_by, kind_of}
 use Rattle.source_events.specs.Report.{stop_in, report}
 use Rattle.source_events.specs.Tails.{tail_of}
-use Rattle.script_text.specs.declared.lines.Line.{Line}
 use Rattle.script_text.specs.declared.lines.Line.TheVariants.{Nothing, Of}
-use Rattle.script_rebuild.specs.Script.{script_bytes, given_packets, given_items, given_bytes}
+use Rattle.script_text.specs.declared.version_two.Line2.{Line2}
+use Rattle.script_text.specs.declared.version_two.Line2.TheVariants.{One, Flush, Trigger as TriggerLine}
+use Rattle.script_rebuild.specs.Script.{given_packets, given_items, given_bytes}
+use Rattle.script_rebuild.specs.Segments.{script_segments}
 
 -- the plan that a rebuilt capture is read by: the same sources and order, and all from the first byte on
 abbrev pub aligned : Plan → Plan
@@ -36,8 +38,8 @@ aligned plan = record {
 
 -- the capture that lines are rebuilt to, with a full synchronisation before each frame whose number is a multiple of
 -- `every`, if that isn't 0, and with `halves` half synchronisations in each gap of a frame
-abbrev pub rebuilt : ℕ → ℕ → Plan → List Line → List Placed
-rebuilt every halves plan lines = placed (capture every halves (script_bytes plan lines))
+abbrev pub rebuilt : ℕ → ℕ → Plan → List Line2 → List Placed
+rebuilt every halves plan lines = placed (written_segments every halves (script_segments plan lines))
 
 -- what the port reads there, and the report
 abbrev pub port_of : List Placed → PortReading
@@ -65,19 +67,21 @@ SaysBytes (Raw bytes) = Unit {0}
 SaysBytes (Trigger byte) = Unit {0}
 
 -- some line is of this source
-abbrev pub is_line_of : ℕ → Line → Bool
-is_line_of x Nothing = false
-is_line_of x (Of id item) = id == x
+abbrev pub is_line_of : ℕ → Line2 → Bool
+is_line_of x (One Nothing) = false
+is_line_of x (One (Of id item)) = id == x
+is_line_of x Flush = false
+is_line_of x (TriggerLine byte) = 125 == x
 
-abbrev pub has_line : ℕ → List Line → Bool
+abbrev pub has_line : ℕ → List Line2 → Bool
 has_line x lines = list_any (is_line_of x) lines
 
 -- The report of these bytes has no fault, the port has no tail, and each cell has an ID. What an ITM source says is
 -- exactly the packets that the lines give it, and what an STP source says is exactly its items, with their places and
--- timestamps; no byte and no nibble of theirs is left. Each other source says bytes alone, and those of a source from
--- 1 to 126 are the ones that the lines give it. A source without a line says nothing, and has no cell unless it is the
--- null source; and the port says nothing.
-pub record ReadsAsGiven (plan : Plan) (lines : List Line) (u : List Placed) : Type 0 where
+-- timestamps; no byte and no nibble of theirs is left. Each other source says bytes alone, and those of a source from 1
+-- to 126, the trigger source among them, are the ones that the lines give it. A source without a line says nothing, and
+-- has no cell unless it is the null source; and the port says nothing.
+pub record ReadsAsGiven (plan : Plan) (lines : List Line2) (u : List Placed) : Type 0 where
   pub no_fault : stop_in (sources_by (aligned plan)) (port_of u) ≡ None
   pub no_tail : (port_of u).tail ≡ 0
   pub attributed : All (λ c. c.id ≢ None) (cells_of (port_of u))

@@ -1,28 +1,34 @@
 -- How the lines of a script are read: each text after the lines before it, up to the first with a fault.
 use Rattle.std.specs.Prelude.{◌≡◌, ℕ, ◌+◌, ◌<◌, ◌≤◌, List, [], length, take, slice_index_or}
-use Rattle.std.specs.Prelude.{Option, None, Some, Ok, Err}
+use Rattle.std.specs.Prelude.{Option, None, Some, Result, Ok, Err}
 use Rattle.source_events.specs.declared.plan.Plan.{Plan}
-use Rattle.script_text.specs.declared.lines.Line.{Line}
 use Rattle.script_text.specs.declared.lines.Line.TheVariants.{Nothing}
+use Rattle.script_text.specs.declared.version_two.Line2.{Line2}
+use Rattle.script_text.specs.declared.version_two.Line2.TheVariants.{One}
 use Rattle.script_text.specs.declared.line_fault.LineFault.{LineFault}
-use Rattle.script_rebuild.specs.Script.{line_after}
+use Rattle.script_rebuild.specs.declared.version.Version.TheVariants.{Unknown}
+use Rattle.script_rebuild.specs.Versions.{says, version_then}
 
 -- the text, and the line, of this number, from 0 on
 abbrev pub text_at : List (List ℕ) → ℕ → List ℕ
 text_at texts k = slice_index_or texts k []
 
-abbrev pub line_at : List Line → ℕ → Line
-line_at lines k = slice_index_or lines k Nothing
+abbrev pub line_at : List Line2 → ℕ → Line2
+line_at lines k = slice_index_or lines k (One Nothing)
+
+-- what the text of this number says after lines, where the texts before it tell the version
+abbrev pub says_at : Plan → List (List ℕ) → List Line2 → ℕ → Result Line2 LineFault
+says_at plan texts before k = says plan (version_then Unknown (take k texts)) before (text_at texts k)
 
 -- each of these lines is what the text of its number says after the lines before it
-abbrev pub AreLinesOf : Plan → List (List ℕ) → List Line → Type 0
+abbrev pub AreLinesOf : Plan → List (List ℕ) → List Line2 → Type 0
 AreLinesOf plan texts lines =
-    (k : ℕ) → k < length lines → line_after plan (take k lines) (text_at texts k) ≡ Ok (line_at lines k)
+    (k : ℕ) → k < length lines → says_at plan texts (take k lines) k ≡ Ok (line_at lines k)
 
 -- without a fault there are as many lines as texts; with one, it is that of the text after the lines, and has its
 -- number, from 1 on
-abbrev pub EndsWith : Plan → List (List ℕ) → List Line → Option (ℕ × LineFault) → Type 0
+abbrev pub EndsWith : Plan → List (List ℕ) → List Line2 → Option (ℕ × LineFault) → Type 0
 EndsWith plan texts lines None = length lines ≡ length texts
 EndsWith plan texts lines (Some found) =
     (found.0 ≡ length lines + 1) × (found.0 ≤ length texts)
-    × (line_after plan lines (text_at texts (length lines)) ≡ Err found.1)
+    × (says_at plan texts lines (length lines) ≡ Err found.1)

@@ -1,12 +1,13 @@
 -- Worked rows of scripts, in text.
 use Rattle.std.specs.Prelude.{ℕ, List, [], ◌∷◌, codes, Option}
 use Rattle.trace_values.specs.Placed.{placed}
-use Rattle.frame_writer.specs.Written.{capture}
+use Rattle.frame_writer.specs.Written.{written_segments}
 use Rattle.source_events.specs.declared.event.What.{What}
 use Rattle.source_events.specs.declared.packet.Packet.{Packet}
 use Rattle.source_events.specs.declared.plan.Plan.{Plan}
 use Rattle.script_text.specs.declared.line_fault.LineFault.{LineFault}
-use Rattle.script_rebuild.specs.Script.{script_bytes, script_of}
+use Rattle.script_rebuild.specs.Segments.{script_segments}
+use Rattle.script_rebuild.specs.Versions.{script_of}
 use Rattle.script_rebuild.specs.Rows.{script}
 use Rattle.script_laws.specs.ReadBack.{said_of}
 
@@ -18,7 +19,7 @@ several = codes "1 sync" ∷ (codes "2 async" ∷ (codes "2 version 3" ∷ (code
 -- the capture that it is rebuilt to, with a full synchronisation before each frame whose number is a multiple of
 -- `every`, and no half synchronisation
 abbrev pub written : ℕ → Plan → List (List ℕ) → List ℕ
-written every plan lines = capture every 0 (script_bytes plan (script_of plan (script lines)).lines)
+written every plan lines = written_segments every 0 (script_segments plan (script_of plan (script lines)).lines)
 
 -- what a source says in that capture
 abbrev pub read : ℕ → Plan → List (List ℕ) → ℕ → List (What Packet)

@@ -35,7 +35,7 @@ pub fn line_law()
 pub fn trigger_law()
     ensures reads { (plan : Plan) (byte : ℕ) → byte < 256 →
         line2_of plan (codes "125 trigger " ++ encode_lower (byte ∷ [])) ≡ Ok (Trigger byte) }
-    ensures only { (plan : Plan) (line : List ℕ) (byte : ℕ) → byte < 256 → line2_of plan line ≡ Ok (Trigger byte) →
+    ensures only { (plan : Plan) (line : List ℕ) (byte : ℕ) → line2_of plan line ≡ Ok (Trigger byte) →
         map lowered line ≡ codes "125 trigger " ++ encode_lower (byte ∷ []) }
     ensures one { (plan : Plan) (line : List ℕ) (said : Line) →
         (line2_of plan line ≡ Ok (One said)) ↔ (line_of plan line ≡ Ok said) }

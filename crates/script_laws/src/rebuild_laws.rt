@@ -3,9 +3,9 @@
 ghost use Rattle.std.specs.Prelude.{◌≡◌, ℕ, List, [], true, Option};
 ghost use Rattle.source_events.specs.declared.plan.Plan.{Plan};
 ghost use Rattle.source_events.specs.Plan.{is_sound};
-ghost use Rattle.script_text.specs.declared.lines.Line.{Line};
+ghost use Rattle.script_text.specs.declared.version_two.Line2.{Line2};
 ghost use Rattle.script_text.specs.declared.line_fault.LineFault.{LineFault};
-ghost use Rattle.script_rebuild.specs.Script.{lines_in, script_of};
+ghost use Rattle.script_rebuild.specs.Versions.{lines_in, script_of};
 ghost use Rattle.script_laws.specs.Puts.{CanAllBePut};
 ghost use Rattle.script_laws.specs.Reading.{AreLinesOf, EndsWith};
 ghost use Rattle.script_laws.specs.ReadBack.{rebuilt, ReadsAsGiven};
@@ -17,21 +17,21 @@ pub fn lines_law()
     ensures lines { (plan : Plan) (script : List ℕ) → AreLinesOf plan (lines_in script) (script_of plan script).lines }
     ensures fault { (plan : Plan) (script : List ℕ) →
         EndsWith plan (lines_in script) (script_of plan script).lines (script_of plan script).fault }
-    ensures only { (plan : Plan) (script : List ℕ) (lines : List Line) (fault : Option (ℕ × LineFault)) →
+    ensures only { (plan : Plan) (script : List ℕ) (lines : List Line2) (fault : Option (ℕ × LineFault)) →
         AreLinesOf plan (lines_in script) lines → EndsWith plan (lines_in script) lines fault →
         script_of plan script ≡ record { lines = lines; fault = fault } }
 {}
 
 /// What the lines of a script are rebuilt to, or those before its first fault, reads back as exactly what they give
-/// each source, in whatever order the lines of the sources are: from the first byte on, with the same mapped sources
-/// and the same order of nibbles.
+/// each source, in whatever order the lines of the sources are, and wherever they are flushed: from the first byte on,
+/// with the same mapped sources and the same order of nibbles.
 pub fn rebuild_law()
     ensures { (every halves : ℕ) (plan : Plan) (script : List ℕ) → is_sound plan ≡ true →
         ReadsAsGiven plan (script_of plan script).lines (rebuilt every halves plan (script_of plan script).lines) }
 {}
 
-/// So does what any lines are rebuilt to that can be put, those of the trigger source too, which no script can say.
+/// So does what any lines are rebuilt to that can be put.
 pub fn put_law()
-    ensures { (every halves : ℕ) (plan : Plan) (lines : List Line) → is_sound plan ≡ true → CanAllBePut plan [] lines →
+    ensures { (every halves : ℕ) (plan : Plan) (lines : List Line2) → is_sound plan ≡ true → CanAllBePut plan [] lines →
         ReadsAsGiven plan lines (rebuilt every halves plan lines) }
 {}

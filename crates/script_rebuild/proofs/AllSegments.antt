@@ -1,35 +1,23 @@
--- The segments of one more line.
+-- The segments of one more line, joined, and the items that are put.
 use Rattle.std.proofs.Common.{◌≡◌, ℕ, List, [], ◌∷◌, ◌++◌, refl, sym, ◌∙◌, ap, append_assoc, append-nil}
+use Rattle.std.proofs.lemmas.List.Concat.{flat_map-append}
 use Rattle.stp_grammar.specs.declared.packet.Order.{Order}
 use Rattle.stp_grammar.specs.declared.item.StpItem.{StpItem}
-use Rattle.stp_encoder.specs.Puts.{items_in}
+use Rattle.stp_encoder.specs.Puts.{Put, items_in}
 use Rattle.stp_encoder.proofs.Standing.{items_append, items_unmarked}
 use Rattle.frame_writer.specs.Written.{Tagged, joined}
 use Rattle.script_text.specs.declared.version_two.Line2.{Line2}
 use Rattle.script_text.specs.declared.version_two.Line2.TheVariants.{One, Flush, Trigger}
-use Rattle.script_rebuild.specs.Script.{items_by, given_items}
-use Rattle.script_rebuild.specs.Versions.{ones, puts_by, source_puts, Segments, with_bytes, now_ended, line_bytes, after_line, with_line, segments_after, segments_of}
-
-segments_append : (order : Order) (ids : List ℕ) (before : List Line2) (s : Segments) (lines : List Line2) (line : Line2) →
-    segments_after order ids before s (lines ++ line ∷ [])
-    ≡ with_line order ids (before ++ lines) (segments_after order ids before s lines) line
-segments_append order ids before s [] line = ap (λ (l : List Line2). with_line order ids l s line) (sym (append-nil before))
-segments_append order ids before s (first ∷ lines) line =
-    segments_append order ids (before ++ first ∷ []) (with_line order ids before s first) lines line
-    ∙ ap (λ (l : List Line2). with_line order ids l
-    (segments_after order ids (before ++ first ∷ []) (with_line order ids before s first) lines) line)
-    (append_assoc before (first ∷ []) lines)
-
-pub segments_more : (order : Order) (ids : List ℕ) (lines : List Line2) (line : Line2) →
-    segments_of order ids (lines ++ line ∷ []) ≡ with_line order ids lines (segments_of order ids lines) line
-segments_more order ids lines line = segments_append order ids [] (record { ended = []; begun = [] }) lines line
+use Rattle.script_rebuild.specs.Script.{items_by, given_items, puts_by, given_puts}
+use Rattle.script_rebuild.specs.Segments.{Segments, with_bytes, now_ended, line_bytes, after_line, segments_of}
+use Rattle.script_rebuild.specs.ScriptLaws.{segments_more}
 
 -- the bytes of segments after others
 joined_append : (closed : List (List Tagged)) (t : List Tagged) → joined (closed ++ t ∷ []) ≡ joined closed ++ t
 joined_append [] t = append-nil t
 joined_append (s ∷ closed) t = ap (λ (l : List Tagged). s ++ l) (joined_append closed t) ∙ sym (append_assoc s (joined closed) t)
 
-joined_with : (s : Segments) (bytes : List Tagged) → joined (now_ended (with_bytes s bytes)) ≡ joined (now_ended s) ++ bytes
+pub joined_with : (s : Segments) (bytes : List Tagged) → joined (now_ended (with_bytes s bytes)) ≡ joined (now_ended s) ++ bytes
 joined_with s bytes =
     joined_append s.ended (s.begun ++ bytes) ∙ sym (append_assoc (joined s.ended) s.begun bytes)
     ∙ ap (λ (l : List Tagged). l ++ bytes) (sym (joined_append s.ended s.begun))
@@ -49,11 +37,18 @@ joined_more order ids lines line =
     ap (λ (s : Segments). joined (now_ended s)) (segments_more order ids lines line)
     ∙ joined_after line (with_bytes s bytes) ∙ joined_with s bytes
 
-pub items_put : (x : ℕ) (lines : List Line2) → items_in (source_puts x lines) ≡ given_items x (ones lines)
+pub items_put : (x : ℕ) (lines : List Line2) → items_in (given_puts x lines) ≡ given_items x lines
 items_put x [] = refl
 items_put x (One line ∷ lines) =
-    items_append (puts_by x (One line)) (source_puts x lines)
-    ∙ ap (λ (l : List StpItem). l ++ items_in (source_puts x lines)) (items_unmarked (items_by x line))
+    items_append (puts_by x (One line)) (given_puts x lines)
+    ∙ ap (λ (l : List StpItem). l ++ items_in (given_puts x lines)) (items_unmarked (items_by x line))
     ∙ ap (λ (l : List StpItem). items_by x line ++ l) (items_put x lines)
 items_put x (Flush ∷ lines) = items_put x lines
 items_put x (Trigger byte ∷ lines) = items_put x lines
+
+-- one more line gives each source its items, and the mark of a flush, after all others
+pub given_more : (x : ℕ) (lines : List Line2) (line : Line2) →
+    given_puts x (lines ++ line ∷ []) ≡ given_puts x lines ++ puts_by x line
+given_more x lines line =
+    flat_map-append (puts_by x) lines (line ∷ [])
+    ∙ ap (λ (l : List Put). given_puts x lines ++ l) (append-nil (puts_by x line))

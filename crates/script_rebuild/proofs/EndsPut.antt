@@ -1,23 +1,26 @@
--- The bytes of the nibbles that are kept, put one after the other.
-use Rattle.std.proofs.Common.{◌≡◌, ℕ, ◌+◌, ◌<◌, List, [], ◌∷◌, ◌++◌, sym, ap, ◌∙◌, subst, length, get_or, take, append_assoc, append-nil, arith}
+-- The bytes of the nibbles that are kept, put one after the other, and the end of the segment behind them.
+use Rattle.std.proofs.Common.{◌≡◌, ℕ, ◌+◌, ◌<◌, List, [], ◌∷◌, ◌++◌, sym, ap, ◌∙◌, subst, length, get_or, take}
+use Rattle.std.proofs.Common.{append_assoc, append-nil, arith}
 use Rattle.std.proofs.lemmas.List.{take_all, take_more, map-append}
 use Rattle.std.proofs.lemmas.List.Concat.{flat_map-append}
+use Rattle.std.proofs.lemmas.List.Elements.{All-push}
 use Rattle.stp_grammar.specs.declared.packet.Order.{Order}
 use Rattle.stp_encoder.specs.Puts.{Put}
+use Rattle.stp_encoder.specs.Puts.{Flush as FlushPut}
 use Rattle.stp_encoder.specs.Bytes.{end_bytes}
 use Rattle.stp_encoder.specs.Encoder as encoders
+use Rattle.stp_encoder.specs.declared.encoder.StpEncoder.{StpEncoder}
 use Rattle.frame_writer.specs.Written.{Tagged}
 use Rattle.frame_writer.specs.Fronts.{sure_after}
 use Rattle.frame_writer.specs.Sure.{IsSure}
 use Rattle.frame_writer.specs.declared.sure.SureWriter.{SureWriter}
-use Rattle.script_text.specs.declared.lines.Line.{Line}
 use Rattle.script_rebuild.specs.declared.encoders.SourceEncoder.{SourceEncoder}
-use Rattle.script_rebuild.specs.Script.{given_puts, tagged, ends_of}
-use Rattle.script_rebuild.specs.Encoding.{ids_in, AllStand}
+use Rattle.script_rebuild.specs.Script.{tagged, ends_with}
+use Rattle.script_rebuild.specs.Encoding.{ids_in, AllStand, flushed}
 use Rattle.script_rebuild.specs.Putting.{Puts}
 
-puts_both : (a b c : SureWriter) (first second : List Tagged) (out more : List ℕ) → Puts a b first out → Puts b c second more →
-    Puts a c (first ++ second) (out ++ more)
+puts_both : (a b c : SureWriter) (first second : List Tagged) (out more : List ℕ) →
+    Puts a b first out → Puts b c second more → Puts a c (first ++ second) (out ++ more)
 puts_both a b c first second out more p q = record {
   list = λ every halves closed t s. subst (IsSure c every halves closed) (append_assoc t first second)
       (q.list every halves closed (t ++ first) (p.list every halves closed t s));
@@ -29,32 +32,56 @@ puts_both a b c first second out more p q = record {
 }
 
 -- with one more source
-ends_more : (order : Order) (lines : List Line) (slots : List SourceEncoder) (i : ℕ) (d : SourceEncoder) → i < length slots →
-    ends_of order lines (ids_in (take (i + 1) slots))
-    ≡ ends_of order lines (ids_in (take i slots)) ++ tagged (get_or slots i d).id (end_bytes order (given_puts (get_or slots i d).id lines))
-ends_more order lines slots i d lt =
+pub ids_more : (slots : List SourceEncoder) (i : ℕ) (d : SourceEncoder) → i < length slots →
+    ids_in (take (i + 1) slots) ≡ ids_in (take i slots) ++ (get_or slots i d).id ∷ []
+ids_more slots i d lt =
+    ap ids_in (take_more slots i d lt)
+    ∙ map-append (λ (e : SourceEncoder). e.id) (take i slots) (get_or slots i d ∷ [])
+
+ends_more : (order : Order) (given : ℕ → List Put) (slots : List SourceEncoder) (i : ℕ) (d : SourceEncoder) →
+    i < length slots →
+    ends_with order given (ids_in (take (i + 1) slots))
+    ≡ ends_with order given (ids_in (take i slots))
+    ++ tagged (get_or slots i d).id (end_bytes order (given (get_or slots i d).id))
+ends_more order given slots i d lt =
     let one = get_or slots i d in
-    ap (λ (l : List SourceEncoder). ends_of order lines (ids_in l)) (take_more slots i d lt)
-    ∙ ap (ends_of order lines) (map-append (λ (e : SourceEncoder). e.id) (take i slots) (one ∷ []))
-    ∙ flat_map-append (λ (x : ℕ). tagged x (end_bytes order (given_puts x lines))) (ids_in (take i slots)) (one.id ∷ [])
-    ∙ ap (λ (l : List Tagged). ends_of order lines (ids_in (take i slots)) ++ l) (append-nil (tagged one.id (end_bytes order (given_puts one.id lines))))
+    let ids = ids_in (take i slots) in
+    ap (ends_with order given) (ids_more slots i d lt)
+    ∙ flat_map-append (λ (x : ℕ). tagged x (end_bytes order (given x))) ids (one.id ∷ [])
+    ∙ ap (λ (l : List Tagged). ends_with order given ids ++ l) (append-nil (tagged one.id (end_bytes order (given one.id))))
 
-pub end_put : (order : Order) (lines : List Line) (slots : List SourceEncoder) (i : ℕ) (d : SourceEncoder) (a b c : SureWriter)
-    (bytes out more new : List ℕ) → i < length slots → d ≡ get_or slots i d → AllStand order slots (λ x. given_puts x lines) →
+-- the first of these encoders are flushed, and the bytes of their nibbles are put
+pub record Flushed (order : Order) (given : ℕ → List Put) (slots : List SourceEncoder) (i : ℕ)
+    (later : List SourceEncoder) (a b : SureWriter) (out : List ℕ) : Type 0 where
+  pub stand : AllStand order later (flushed given)
+  pub put : Puts a b (ends_with order given (ids_in (take i slots))) out
+
+pub one_flushed : (order : Order) (given : ℕ → List Put) (slots : List SourceEncoder) (i : ℕ) (d : SourceEncoder)
+    (later : List SourceEncoder) (next : StpEncoder) (a b c : SureWriter) (bytes out more new : List ℕ) →
+    i < length slots → d ≡ get_or slots i d → AllStand order slots given →
+    encoders.order_of next ≡ encoders.order_of d.encoder →
+    ((puts : List Put) → encoders.Stands d.encoder puts → encoders.Stands next (puts ++ FlushPut ∷ [])) →
     ((puts : List Put) → encoders.Stands d.encoder puts → bytes ≡ end_bytes (encoders.order_of d.encoder) puts) →
-    Puts a b (ends_of order lines (ids_in (take i slots))) out → Puts b c (tagged d.id bytes) more → new ≡ out ++ more →
-    Puts a c (ends_of order lines (ids_in (take (i + 1) slots))) new
-end_put order lines slots i d a b c bytes out more new lt is stand ends before put e =
-    let one = subst (λ (s : SourceEncoder). (encoders.order_of s.encoder ≡ order) × encoders.Stands s.encoder (given_puts s.id lines)) (sym is) (stand i d lt) in
-    let same : bytes ≡ end_bytes order (given_puts d.id lines) =
-    ends (given_puts d.id lines) one.1 ∙ ap (λ (o : Order). end_bytes o (given_puts d.id lines)) one.0 in
-    let last = subst (λ (l : List ℕ). Puts b c (tagged d.id l) more) same put in
-    let moved = subst (λ (s : SourceEncoder). Puts b c (tagged s.id (end_bytes order (given_puts s.id lines))) more) is last in
-    subst (λ (l : List ℕ). Puts a c (ends_of order lines (ids_in (take (i + 1) slots))) l) (sym e)
-    (subst (λ (l : List Tagged). Puts a c l (out ++ more)) (sym (ends_more order lines slots i d lt))
-    (puts_both a b c _ _ out more before moved))
+    Flushed order given slots i later a b out → Puts b c (tagged d.id bytes) more → new ≡ out ++ more →
+    Flushed order given slots (i + 1) (later ++ record { id = d.id; encoder = next } ∷ []) a c new
+one_flushed order given slots i d later next a b c bytes out more new lt is stand same list ends before put e =
+    let one = subst (λ (s : SourceEncoder). (encoders.order_of s.encoder ≡ order) × encoders.Stands s.encoder (given s.id))
+    (sym is) (stand i d lt) in
+    let written : bytes ≡ end_bytes order (given d.id) =
+    ends (given d.id) one.1 ∙ ap (λ (o : Order). end_bytes o (given d.id)) one.0 in
+    let last = subst (λ (l : List ℕ). Puts b c (tagged d.id l) more) written put in
+    let moved = subst (λ (s : SourceEncoder). Puts b c (tagged s.id (end_bytes order (given s.id))) more) is last in
+    record {
+      stand = All-push (λ e. (encoders.order_of e.encoder ≡ order) × encoders.Stands e.encoder (flushed given e.id)) later
+          (record { id = d.id; encoder = next }) before.stand (same ∙ one.0, list (given d.id) one.1);
+      put = subst (Puts a c (ends_with order given (ids_in (take (i + 1) slots)))) (sym e)
+          (subst (λ (l : List Tagged). Puts a c l (out ++ more)) (sym (ends_more order given slots i d lt))
+          (puts_both a b c _ _ out more before.put moved));
+    }
 
-pub all_ends : (order : Order) (lines : List Line) (slots : List SourceEncoder) (i : ℕ) (a b : SureWriter) (out : List ℕ) → i ≡ length slots →
-    Puts a b (ends_of order lines (ids_in (take i slots))) out → Puts a b (ends_of order lines (ids_in slots)) out
-all_ends order lines slots i a b out e put =
-    subst (λ (l : List SourceEncoder). Puts a b (ends_of order lines (ids_in l)) out) (take_all i slots (omega (arith, e))) put
+pub all_flushed : (order : Order) (given : ℕ → List Put) (slots : List SourceEncoder) (i : ℕ) (a b : SureWriter)
+    (out : List ℕ) → i ≡ length slots → Puts a b (ends_with order given (ids_in (take i slots))) out →
+    Puts a b (ends_with order given (ids_in slots)) out
+all_flushed order given slots i a b out e put =
+    subst (λ (l : List SourceEncoder). Puts a b (ends_with order given (ids_in l)) out)
+    (take_all i slots (omega (arith, e))) put

@@ -3,11 +3,8 @@ pub mod Taking
 pub mod Sources
 pub mod Whole
 pub mod FirstLines
-pub mod Lines
-pub mod Puts
 pub mod Standing
 pub mod InOrder
 pub mod EachEncoder
-pub mod OneVersion
 pub mod AllSegments
 pub mod EndsPut

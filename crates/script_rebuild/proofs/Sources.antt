@@ -1,39 +1,123 @@
--- The sources of a plan, and what a line says.
-use Rattle.std.proofs.Common.{Option, Some, ◌≡◌, ℕ, ◌≤◌, List, refl, ◌∙◌, ap, subst, Bool, true, false, Result, Ok, Err, length}
+-- What a text says in each version, and the sources of a plan.
+use Rattle.std.proofs.Common.{Option, Some, ◌≡◌, ℕ, ◌≤◌, List, [], ◌∷◌, ◌++◌, refl, sym, ◌∙◌, ap, subst, Bool, true, false, Result, Ok, Err, length}
 use Rattle.std.specs.Prelude.{IfSome, None, ◌==◌, if◌then◌else◌}
 use Rattle.std.specs.List.{list_any}
 use Rattle.std.specs.Result.{IfErr, OnOk}
+use Rattle.std.specs.Str.{bytes_eq}
+use Rattle.std.proofs.lemmas.Slice.Eq.{bytes_eq-Decides}
+use Rattle.stp_grammar.specs.declared.packet.Order.{Order}
+use Rattle.stp_grammar.specs.declared.item.StpItem.{StpItem}
 use Rattle.source_events.specs.declared.plan.Plan.{Plan}
 use Rattle.source_events.specs.Plan.{kind_of}
-use Rattle.script_text.specs.declared.lines.Line.{Line}
-use Rattle.script_text.specs.declared.line_fault.LineFault.{LineFault}
 use Rattle.source_events.specs.declared.plan.SourceKind.{SourceKind}
 use Rattle.source_events.specs.declared.plan.SourceKind.TheVariants as kinds
+use Rattle.script_text.specs.declared.lines.Line.{Line}
+use Rattle.script_text.specs.declared.lines.Line.TheVariants.{Nothing, Of}
+use Rattle.script_text.specs.declared.line_fault.LineFault.{LineFault}
+use Rattle.script_text.specs.declared.line_fault.LineFault.TheVariants.{LongLine, BadLine}
+use Rattle.script_text.specs.declared.version_two.Line2.{Line2}
+use Rattle.script_text.specs.declared.version_two.Line2.TheVariants.{One}
 use Rattle.script_text.specs.declared.quick.PacketLine.{PacketLine}
 use Rattle.script_text.specs.declared.items.Item.TheVariants as items
-use Rattle.script_text.specs.declared.lines.Line.TheVariants.{Nothing, Of}
 use Rattle.script_text.specs.Quick.{IsPacketOf}
 use Rattle.script_text.specs.Said.{IsSaid}
+use Rattle.script_text.specs.Shapes.{shape_named}
+use Rattle.script_text.specs.Lines.{◌>>=◌, line_of, line_of_words, taken_by}
+use Rattle.script_text.specs.VersionTwo.{as_one, line2_of}
 use Rattle.script_text.proofs.PacketLines.{line_says, item_is_said}
-use Rattle.script_text.specs.Lines.{◌>>=◌, line_of, taken_by}
-use Rattle.stp_grammar.specs.declared.item.StpItem.{StpItem}
-use Rattle.script_rebuild.specs.Script.{in_order, fitting, line_after}
-use Rattle.script_rebuild.specs.Writer.{CanBePut}
+use Rattle.script_text.proofs.NewLines.{same_line}
+use Rattle.script_rebuild.specs.declared.version.Version.{Version}
+use Rattle.script_rebuild.specs.declared.version.Version.TheVariants.{Unknown, First, Second}
+use Rattle.script_rebuild.specs.declared.writer.LineWriter.{LineWriter}
+use Rattle.script_rebuild.specs.Script.{in_order}
+use Rattle.script_rebuild.specs.Segments.{sure_lines}
+use Rattle.script_rebuild.specs.Versions.{header, says, says_one, fitting}
+use Rattle.script_rebuild.specs.PutLine.{PutsLine, PutsAfter, IsFor}
+use Rattle.script_rebuild.specs.Writer.{CanBePut, stp_of}
 use Rattle.script_rebuild.proofs.InOrder.{in_order_among}
 
--- a line's text
-pub says_line : (plan : Plan) (lines : List Line) (text : List ℕ) (line : Line) (answer : Result Line LineFault) → line_of plan text ≡ Ok line → fitting lines line ≡ answer →
-    line_after plan lines text ≡ answer
-says_line plan lines text line answer e f = ap (λ r. r >>= fitting lines) e ∙ f
+-- the header is no line of version 1
+header_bad : (plan : Plan) → line_of plan header ≡ Err BadLine
+unfolding line_of line_of_words shape_named
+header_bad plan = refl
 
--- what holds where an answer is good, and where it is a fault
-pub all_ok : {T E P Q S R : Type 0} (r : Result T E) → (P → Q → S → R) → OnOk r P → OnOk r Q → OnOk r S → OnOk r R
-all_ok (Ok x) f p q s = f p q s
-all_ok (Err e) f p q s = tt
+abbrev cause_of : Result Line LineFault → LineFault
+cause_of (Ok line) = LongLine
+cause_of (Err fault) = fault
 
-pub err_weaker : {T E : Type 0} (r : Result T E) (F G : E → Type 0) → ((e : E) → F e → G e) → IfErr r F → IfErr r G
-err_weaker (Ok x) F G f h = tt
-err_weaker (Err e) F G f h = f e h
+not_header : (plan : Plan) (text : List ℕ) → (line_of plan text ≡ Err BadLine → ⊥) → bytes_eq header text ≡ false
+not_header plan text other = by (bytes_eq header text) refl
+  where
+    by : (v : Bool) → bytes_eq header text ≡ v → v ≡ false
+    by false e = refl
+    by true e =
+        absurd (other (ap (line_of plan) (sym ((bytes_eq-Decides header text).0 e)) ∙ header_bad plan))
+
+no_header : (plan : Plan) (text : List ℕ) (line : Line) → line_of plan text ≡ Ok line → bytes_eq header text ≡ false
+no_header plan text line e = not_header plan text (λ h. let no = sym e ∙ h in cc)
+
+no_header_at : (plan : Plan) (text : List ℕ) (fault : LineFault) → line_of plan text ≡ Err fault →
+    (fault ≡ BadLine → ⊥) → bytes_eq header text ≡ false
+no_header_at plan text fault e other = not_header plan text (λ h. other (ap cause_of (sym e ∙ h)))
+
+-- what a text says in each version where it is a line of version 1
+pub says_same : (plan : Plan) (version : Version) (lines : List Line2) (text : List ℕ) (line : Line) →
+    line_of plan text ≡ Ok line → says plan version lines text ≡ fitting lines (One line)
+says_same plan Unknown lines text line e =
+    ap (λ (v : Bool). if v then Ok (One Nothing) else says_one plan lines text) (no_header plan text line e)
+    ∙ ap (λ r. as_one r >>= fitting lines) e
+says_same plan First lines text line e = ap (λ r. as_one r >>= fitting lines) e
+says_same plan Second lines text line e = ap (λ r. r >>= fitting lines) (same_line plan text (Ok line) e (λ h. cc))
+
+-- and where it has another fault than BadLine
+pub says_fault : (plan : Plan) (version : Version) (lines : List Line2) (text : List ℕ) (fault : LineFault) →
+    line_of plan text ≡ Err fault → (fault ≡ BadLine → ⊥) → says plan version lines text ≡ Err fault
+says_fault plan Unknown lines text fault e other =
+    ap (λ (v : Bool). if v then Ok (One Nothing) else says_one plan lines text) (no_header_at plan text fault e other)
+    ∙ ap (λ r. as_one r >>= fitting lines) e
+says_fault plan First lines text fault e other = ap (λ r. as_one r >>= fitting lines) e
+says_fault plan Second lines text fault e other =
+    ap (λ r. r >>= fitting lines) (same_line plan text (Err fault) e (λ h. other (ap cause_of h)))
+
+-- where its words are those of no line of version 1, it is the header, or of version 2
+pub says_header : (plan : Plan) (lines : List Line2) (text : List ℕ) → bytes_eq header text ≡ true →
+    says plan Unknown lines text ≡ Ok (One Nothing)
+says_header plan lines text h = ap (λ (v : Bool). if v then Ok (One Nothing) else says_one plan lines text) h
+
+pub says_bad_first : (plan : Plan) (lines : List Line2) (text : List ℕ) → bytes_eq header text ≡ false →
+    line_of plan text ≡ Err BadLine → says plan Unknown lines text ≡ Err BadLine
+says_bad_first plan lines text h e =
+    ap (λ (v : Bool). if v then Ok (One Nothing) else says_one plan lines text) h ∙ ap (λ r. as_one r >>= fitting lines) e
+
+pub says_new : (plan : Plan) (lines : List Line2) (text : List ℕ) (answer : Result Line2 LineFault) →
+    answer ≡ line2_of plan text → says plan Second lines text ≡ (answer >>= fitting lines)
+says_new plan lines text answer e = ap (λ r. r >>= fitting lines) (sym e)
+
+-- the putting of a line that the text says
+pub puts_said : (plan : Plan) (version : Version) (text : List ℕ) (w new : LineWriter) (every halves : ℕ) (lines : List Line2)
+    (line : Line2) (answer : Result (Unit {0}) LineFault) (more : List ℕ) → IsFor plan w →
+    says plan version lines text ≡ fitting lines line →
+    PutsAfter w new every halves lines (record { line = line; answer = answer; more = more }) →
+    OnOk answer (PutsLine plan version text new every halves lines more)
+puts_said plan version text w new every halves lines line (Ok done) more suits same put =
+    let sure : Order → List ℕ → List Line2 → List ℕ = λ order ids l. sure_lines every halves order ids l in
+    let now = lines ++ line ∷ [] in
+    record {
+      line = line;
+      said = same ∙ put.fits;
+      stands = put.list;
+      grown = subst (λ (ids : List ℕ). sure plan.order ids now ≡ sure plan.order ids lines ++ more) suits.stp
+          (subst (λ (o : Order). sure o (stp_of w) now ≡ sure o (stp_of w) lines ++ more) suits.order put.grown);
+    }
+puts_said plan version text w new every halves lines line (Err fault) more suits same put = tt
+
+pub unfit_said : (plan : Plan) (version : Version) (text : List ℕ) (w new : LineWriter) (every halves : ℕ) (lines : List Line2)
+    (line : Line2) (answer : Result (Unit {0}) LineFault) (more : List ℕ) →
+    says plan version lines text ≡ fitting lines line →
+    PutsAfter w new every halves lines (record { line = line; answer = answer; more = more }) →
+    IfErr answer (λ fault. says plan version lines text ≡ Err fault)
+unfit_said plan version text w new every halves lines line (Ok done) more same put = tt
+unfit_said plan version text w new every halves lines line (Err fault) more same put = same ∙ put.unfit
 
 -- a line that says a packet, where its source is one of packets
 module _ (plan : Plan) (text : List ℕ) (found : PacketLine) (says : IsPacketOf text found.id found.packet) (kind : kind_of plan found.id ≡ Some kinds.Itm) where

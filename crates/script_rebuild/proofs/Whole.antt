@@ -1,14 +1,16 @@
 -- Scripts at their end.
-use Rattle.std.proofs.Common.{◌≡◌, ℕ, ◌+◌, ◌≤◌, List, [], ◌∷◌, ◌++◌, refl, sym, ◌∙◌, ap, Option, Some, None, Result, Ok, Err, append_assoc, length, length-append, arith}
+use Rattle.std.proofs.Common.{◌≡◌, ℕ, ◌+◌, ◌≤◌, List, [], ◌∷◌, ◌++◌, refl, sym, ◌∙◌, ap, Option, Some, None, Result, Ok, Err, length, length-append, arith}
 use Rattle.source_events.specs.declared.plan.Plan.{Plan}
-use Rattle.frame_writer.specs.Written.{capture}
-use Rattle.frame_writer.specs.Fronts.{sure}
-use Rattle.frame_writer.proofs.Fronts.{sure_grows, sure_begins}
-use Rattle.script_text.specs.declared.lines.Line.{Line}
+use Rattle.frame_writer.specs.Written.{written_segments}
+use Rattle.script_text.specs.declared.version_two.Line2.{Line2}
 use Rattle.script_text.specs.declared.line_fault.LineFault.{LineFault}
 use Rattle.script_text.specs.declared.line_fault.LineFault.TheVariants.{LongLine}
-use Rattle.script_rebuild.specs.Script.{read_after, line_after, script_of, put_of, put_after, ends_of, in_order}
-use Rattle.script_rebuild.specs.ScriptLaws.{put_after-append}
+use Rattle.script_rebuild.specs.declared.version.Version.{Version}
+use Rattle.script_rebuild.specs.declared.version.Version.TheVariants.{Unknown}
+use Rattle.script_rebuild.specs.Script.{in_order}
+use Rattle.script_rebuild.specs.Segments.{segments_with_ends}
+use Rattle.script_rebuild.specs.Versions.{read_in, read_texts, says, version_after, version_then, script_of}
+use Rattle.script_rebuild.specs.ScriptLaws.{sure_whole}
 use Rattle.script_rebuild.specs.declared.plan.RebuildPlan.{RebuildPlan}
 use Rattle.script_rebuild.specs.Rebuilt.{read_so_far, text, ending, left_of, script_capture, IsFirstFault}
 use Rattle.script_rebuild.specs.ReadingLaws.{with_answer, read_first}
@@ -19,22 +21,10 @@ use Rattle.script_rebuild.proofs.Taking.{behind_front}
 text_begins : (p : RebuildPlan) (bytes : List ℕ) → p.halves ≤ 8 → (rest : List ℕ) × (script_capture p bytes ≡ text p bytes ++ rest)
 text_begins p bytes few =
     let order = p.plan.order in
-    let so_far = (read_so_far p.plan bytes).lines in
-    let lines = (script_of p.plan bytes).lines in
+    let ids = in_order p.plan.stp in
     let longer = end_extends p.plan bytes in
-    let t = put_of order so_far in
-    let more = put_after order so_far longer.more in
-    let ends = ends_of order lines (in_order p.plan.stp) in
-    let grown = sure_grows p.every p.halves [] t (more ++ ends) in
-    let begins = sure_begins p.every p.halves [] (t ++ (more ++ ends)) few in (
-      grown.0 ++ begins.0,
-      ap (λ l. capture p.every p.halves (put_of order l ++ ends)) longer.all
-          ∙ ap (λ l. capture p.every p.halves (l ++ ends)) (put_after-append order [] so_far longer.more)
-          ∙ ap (capture p.every p.halves) (append_assoc t more ends)
-          ∙ begins.1
-          ∙ ap (λ l. l ++ begins.0) grown.1
-          ∙ append_assoc (sure p.every p.halves t) grown.0 begins.0,
-    )
+    let whole = sure_whole p.every p.halves order ids (read_so_far p.plan bytes).lines longer.more few in
+    (whole.0, ap (λ l. written_segments p.every p.halves (segments_with_ends order ids l)) longer.all ∙ whole.1)
 
 -- with what comes after it, it is the capture
 pub text_and_ending : (p : RebuildPlan) (bytes : List ℕ) → p.halves ≤ 8 → (script_of p.plan bytes).fault ≡ None → text p bytes ++ ending p bytes ≡ script_capture p bytes
@@ -45,14 +35,14 @@ text_and_ending p bytes few none =
     ∙ sym begins.1
 
 -- the first fault after some lines
-record FaultAfter (plan : Plan) (lines : List Line) (texts : List (List ℕ)) (number : ℕ) (fault : LineFault) : Type 0 where
+record FaultAfter (plan : Plan) (version : Version) (lines : List Line2) (texts : List (List ℕ)) (number : ℕ) (fault : LineFault) : Type 0 where
   before : List (List ℕ)
   line : List ℕ
   after : List (List ℕ)
   parts : texts ≡ before ++ line ∷ after
   place : number ≡ length lines + length before + 1
-  sound : (read_after plan lines before).fault ≡ None
-  says : line_after plan (read_after plan lines before).lines line ≡ Err fault
+  sound : (read_in plan version lines before).fault ≡ None
+  refused : says plan (version_then version before) (read_in plan version lines before).lines line ≡ Err fault
 
 abbrev number_in : Option (ℕ × LineFault) → ℕ
 number_in None = 0
@@ -62,17 +52,21 @@ abbrev cause_in : Option (ℕ × LineFault) → LineFault
 cause_in None = LongLine
 cause_in (Some p) = p.1
 
-fault_after : (plan : Plan) (lines : List Line) (texts : List (List ℕ)) (number : ℕ) (fault : LineFault) → (read_after plan lines texts).fault ≡ Some (number, fault) →
-    FaultAfter plan lines texts number fault
-fault_after plan lines [] number fault h = cc
-fault_after plan lines (text ∷ texts) number fault h = by (line_after plan lines text) refl h (λ line k. fault_after plan (lines ++ line ∷ []) texts number fault k)
+fault_after : (plan : Plan) (version : Version) (lines : List Line2) (texts : List (List ℕ)) (number : ℕ) (fault : LineFault) →
+    (read_in plan version lines texts).fault ≡ Some (number, fault) → FaultAfter plan version lines texts number fault
+fault_after plan version lines [] number fault h = cc
+fault_after plan version lines (text ∷ texts) number fault h =
+    by (says plan version lines text) refl h (λ line k. fault_after plan next (lines ++ line ∷ []) texts number fault k)
   where
-    by : (answer : Result Line LineFault) → line_after plan lines text ≡ answer → (with_answer plan lines texts answer).fault ≡ Some (number, fault) →
-        ((line : Line) → (read_after plan (lines ++ line ∷ []) texts).fault ≡ Some (number, fault) → FaultAfter plan (lines ++ line ∷ []) texts number fault) →
-        FaultAfter plan lines (text ∷ texts) number fault
+    next : Version
+    next = version_after version text
+
+    by : (answer : Result Line2 LineFault) → says plan version lines text ≡ answer → (with_answer plan next lines texts answer).fault ≡ Some (number, fault) →
+        ((line : Line2) → (read_in plan next (lines ++ line ∷ []) texts).fault ≡ Some (number, fault) → FaultAfter plan next (lines ++ line ∷ []) texts number fault) →
+        FaultAfter plan version lines (text ∷ texts) number fault
     by (Ok line) e h more =
         let k = more line h in
-        let first = read_first plan lines text k.before (Ok line) e in
+        let first = read_first plan version lines text k.before (Ok line) e in
         record {
           before = text ∷ k.before;
           line = k.line;
@@ -80,7 +74,7 @@ fault_after plan lines (text ∷ texts) number fault h = by (line_after plan lin
           parts = ap (λ l. text ∷ l) k.parts;
           place = omega (arith, k.place, length-append lines (line ∷ []));
           sound = ap (λ r. r.fault) first ∙ k.sound;
-          says = ap (λ r. line_after plan r.lines k.line) first ∙ k.says;
+          refused = ap (λ r. says plan (version_then next k.before) r.lines k.line) first ∙ k.refused;
         }
     by (Err found) e h more =
         let same : found ≡ fault = ap cause_in h in
@@ -92,10 +86,10 @@ fault_after plan lines (text ∷ texts) number fault h = by (line_after plan lin
           parts = refl;
           place = omega arith;
           sound = refl;
-          says = e ∙ ap Err same;
+          refused = e ∙ ap Err same;
         }
 
-pub first_fault : (plan : Plan) (texts : List (List ℕ)) (number : ℕ) (fault : LineFault) → (read_after plan [] texts).fault ≡ Some (number, fault) → IsFirstFault plan texts number fault
+pub first_fault : (plan : Plan) (texts : List (List ℕ)) (number : ℕ) (fault : LineFault) → (read_texts plan texts).fault ≡ Some (number, fault) → IsFirstFault plan texts number fault
 first_fault plan texts number fault h =
-    let k = fault_after plan [] texts number fault h in
-    record { before = k.before; line = k.line; after = k.after; parts = k.parts; place = omega (arith, k.place); sound = k.sound; says = k.says }
+    let k = fault_after plan Unknown [] texts number fault h in
+    record { before = k.before; line = k.line; after = k.after; parts = k.parts; place = omega (arith, k.place); sound = k.sound; refused = k.refused }

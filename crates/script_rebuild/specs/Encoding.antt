@@ -1,17 +1,19 @@
 -- The encoders of system traces, and what they have to stand for, so that an item is written.
-use Rattle.std.specs.Prelude.{◌≡◌, ◌<◌, ℕ, List, [], ◌++◌, length, map, ◌==◌, if◌then◌else◌, slice_index_or, true}
+use Rattle.std.specs.Prelude.{◌≡◌, ◌<◌, ℕ, List, [], ◌∷◌, ◌++◌, length, map, ◌==◌, if◌then◌else◌, slice_index_or, true}
 use Rattle.std.specs.Prelude.{Result, Ok, Err}
 use Rattle.std.specs.Result.{IfErr, OnOk}
 use Rattle.std.specs.List.{All, list_any}
 use Rattle.stp_grammar.specs.declared.packet.Order.{Order}
 use Rattle.stp_encoder.specs.Puts.{Put, items_in, unmarked}
+use Rattle.stp_encoder.specs.Puts.{Flush as FlushPut}
 use Rattle.stp_encoder.specs.Encoder as encoders
 use Rattle.frame_writer.specs.declared.sure.SureWriter.{SureWriter}
 use Rattle.script_text.specs.declared.items.Item.{Item}
 use Rattle.script_text.specs.declared.items.Item.TheVariants.{Stp}
 use Rattle.script_text.specs.declared.lines.Line.{Line}
 use Rattle.script_text.specs.declared.line_fault.LineFault.{LineFault}
-use Rattle.script_rebuild.specs.Script.{items_of, item_bytes, tagged, fitting_item}
+use Rattle.script_rebuild.specs.Script.{items_of, item_bytes, tagged}
+use Rattle.script_rebuild.specs.Versions.{fitting_item}
 use Rattle.script_rebuild.specs.Putting.{Puts}
 use Rattle.script_rebuild.specs.declared.encoders.SourceEncoder.{SourceEncoder}
 
@@ -48,6 +50,10 @@ pub record AreReady (next : NextItem) (slots : List SourceEncoder) : Type 0 wher
 -- what each source was given after it
 abbrev pub given_after : NextItem → ℕ → List Put
 given_after next x = next.given x ++ unmarked (if next.id == x then items_of next.item else [])
+
+-- and after a flush
+abbrev pub flushed : (ℕ → List Put) → ℕ → List Put
+flushed given x = given x ++ FlushPut ∷ []
 
 -- what its putting left, and what became sure with it
 pub record Left : Type 0 where

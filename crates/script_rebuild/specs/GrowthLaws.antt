@@ -21,7 +21,9 @@ use Rattle.std.proofs.Common.{
 use Rattle.std.specs.Prelude.{nat_lt, is_some, if◌then◌else◌}
 use Rattle.source_events.specs.declared.plan.Plan.{Plan}
 use Rattle.frame_writer.specs.Fronts.{all_but_last}
-use Rattle.script_rebuild.specs.Script.{lines_in, read_after, script_of}
+use Rattle.script_rebuild.specs.declared.version.Version.{Version}
+use Rattle.script_rebuild.specs.declared.version.Version.TheVariants.{Unknown}
+use Rattle.script_rebuild.specs.Versions.{lines_in, read_texts, version_then, script_of}
 use Rattle.script_rebuild.specs.Rebuilt.{last_of, open_line, too_long, certain_lines, read_so_far}
 use Rattle.script_rebuild.specs.SplitLaws.{onto_line, some_line, but_last_more, last_more, lines_append}
 use Rattle.script_rebuild.specs.ReadingLaws.{go_on, read_append, Extends, goes_extends, stuck, long_more, same_long}
@@ -40,6 +42,9 @@ pub record IsSettled (plan : Plan) (xs ys : List ℕ) : Type 0 where
 module _ (plan : Plan) (xs ys : List ℕ) where
   abbrev ended : List (List ℕ)
   ended = all_but_last (lines_in xs)
+
+  abbrev version : Version
+  version = version_then Unknown ended
 
   -- the open line as it goes on, and the lines after it
   abbrev next : List ℕ
@@ -70,12 +75,12 @@ module _ (plan : Plan) (xs ys : List ℕ) where
       let longer = long_more (open_line xs) (some_line ys).0 h in
       let begins = long_begins next later longer in
       record {
-        so_far = ap (read_after plan []) (certain_more ∙ ap (λ l. ended ++ l) begins.1)
-            ∙ same_long plan ended next (open_line xs) begins.0 [] longer h
-            ∙ ap (read_after plan []) (sym (long_is h));
-        whole = ap (read_after plan []) lines_more
-            ∙ same_long plan ended next (open_line xs) later [] longer h
-            ∙ ap (read_after plan []) (sym (long_is h));
+        so_far = ap (read_texts plan) (certain_more ∙ ap (λ l. ended ++ l) begins.1)
+            ∙ same_long plan Unknown ended next (open_line xs) begins.0 [] longer h
+            ∙ ap (read_texts plan) (sym (long_is h));
+        whole = ap (read_texts plan) lines_more
+            ∙ same_long plan Unknown ended next (open_line xs) later [] longer h
+            ∙ ap (read_texts plan) (sym (long_is h));
       }
 
   -- and where it is not
@@ -83,17 +88,17 @@ module _ (plan : Plan) (xs ys : List ℕ) where
   short_is h = ap (λ v. ended ++ (if v then open_line xs ∷ [] else [])) h ∙ append-nil ended
 
   goes : (more : List (List ℕ)) → nat_lt 256 (length (open_line xs)) ≡ false →
-      read_after plan [] (ended ++ more) ≡ go_on plan (read_so_far plan xs) more (read_so_far plan xs).fault
-  goes more h = read_append plan [] ended more
-      ∙ ap (λ l. go_on plan (read_after plan [] l) more (read_after plan [] l).fault) (sym (short_is h))
+      read_texts plan (ended ++ more) ≡ go_on plan version (read_so_far plan xs) more (read_so_far plan xs).fault
+  goes more h = read_append plan Unknown [] ended more
+      ∙ ap (λ l. go_on plan version (read_texts plan l) more (read_texts plan l).fault) (sym (short_is h))
 
   short_so_far : nat_lt 256 (length (open_line xs)) ≡ false →
-      read_so_far plan (xs ++ ys) ≡ go_on plan (read_so_far plan xs) certain_later (read_so_far plan xs).fault
-  short_so_far h = ap (read_after plan []) certain_more ∙ goes certain_later h
+      read_so_far plan (xs ++ ys) ≡ go_on plan version (read_so_far plan xs) certain_later (read_so_far plan xs).fault
+  short_so_far h = ap (read_texts plan) certain_more ∙ goes certain_later h
 
   short_whole : nat_lt 256 (length (open_line xs)) ≡ false →
-      script_of plan (xs ++ ys) ≡ go_on plan (read_so_far plan xs) (next ∷ later) (read_so_far plan xs).fault
-  short_whole h = ap (read_after plan []) lines_more ∙ goes (next ∷ later) h
+      script_of plan (xs ++ ys) ≡ go_on plan version (read_so_far plan xs) (next ∷ later) (read_so_far plan xs).fault
+  short_whole h = ap (read_texts plan) lines_more ∙ goes (next ∷ later) h
 
   pub settled : is_some (read_so_far plan xs).fault ≡ true → IsSettled plan xs ys
   settled faulty = by (nat_lt 256 (length (open_line xs))) refl
@@ -101,8 +106,10 @@ module _ (plan : Plan) (xs ys : List ℕ) where
       by : (v : Bool) → nat_lt 256 (length (open_line xs)) ≡ v → IsSettled plan xs ys
       by true h = long_settled h
       by false h = record {
-        so_far = short_so_far h ∙ stuck plan (read_so_far plan xs) certain_later (read_so_far plan xs).fault faulty;
-        whole = short_whole h ∙ stuck plan (read_so_far plan xs) (next ∷ later) (read_so_far plan xs).fault faulty;
+        so_far = short_so_far h
+            ∙ stuck plan version (read_so_far plan xs) certain_later (read_so_far plan xs).fault faulty;
+        whole = short_whole h
+            ∙ stuck plan version (read_so_far plan xs) (next ∷ later) (read_so_far plan xs).fault faulty;
       }
 
   pub so_far_extends : Extends (read_so_far plan xs).lines (read_so_far plan (xs ++ ys)).lines
@@ -115,7 +122,7 @@ module _ (plan : Plan) (xs ys : List ℕ) where
         all = ap (λ r. r.lines) (long_settled h).so_far ∙ sym (append-nil (read_so_far plan xs).lines);
       }
       by false h =
-          let goes = goes_extends plan (read_so_far plan xs) certain_later (read_so_far plan xs).fault in
+          let goes = goes_extends plan version (read_so_far plan xs) certain_later (read_so_far plan xs).fault in
           record { more = goes.more; all = ap (λ r. r.lines) (short_so_far h) ∙ goes.all }
 
   pub whole_extends : Extends (read_so_far plan xs).lines (script_of plan (xs ++ ys)).lines
@@ -128,7 +135,7 @@ module _ (plan : Plan) (xs ys : List ℕ) where
         all = ap (λ r. r.lines) (long_settled h).whole ∙ sym (append-nil (read_so_far plan xs).lines);
       }
       by false h =
-          let goes = goes_extends plan (read_so_far plan xs) (next ∷ later) (read_so_far plan xs).fault in
+          let goes = goes_extends plan version (read_so_far plan xs) (next ∷ later) (read_so_far plan xs).fault in
           record { more = goes.more; all = ap (λ r. r.lines) (short_whole h) ∙ goes.all }
 
 -- the same at the end of a script

@@ -1,4 +1,5 @@
 pub mod Script
+pub mod Segments
 pub mod Versions
 pub mod Putting
 pub mod Encoding

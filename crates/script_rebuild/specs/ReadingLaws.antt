@@ -11,7 +11,9 @@ use Rattle.std.proofs.Common.{
   sym,
   ◌∙◌,
   ap,
+  Bool,
   true,
+  false,
   Option,
   Some,
   None,
@@ -24,60 +26,77 @@ use Rattle.std.proofs.Common.{
   length-append,
   arith,
 }
-use Rattle.std.specs.Prelude.{nat_lt, is_some}
+use Rattle.std.specs.Prelude.{nat_lt, is_some, if◌then◌else◌}
+use Rattle.std.specs.Str.{bytes_eq}
 use Rattle.std.proofs.lemmas.Bool.Decides.{nat_tests}
+use Rattle.std.proofs.lemmas.Slice.Eq.{bytes_eq-Decides}
 use Rattle.source_events.specs.declared.plan.Plan.{Plan}
-use Rattle.script_text.specs.declared.lines.Line.{Line}
+use Rattle.script_text.specs.declared.version_two.Line2.{Line2}
+use Rattle.script_text.specs.declared.version_two.Line2.TheVariants.{One}
+use Rattle.script_text.specs.declared.lines.Line.TheVariants.{Nothing}
 use Rattle.script_text.specs.declared.line_fault.LineFault.{LineFault}
 use Rattle.script_text.specs.declared.line_fault.LineFault.TheVariants.{LongLine}
 use Rattle.script_text.specs.Lines.{◌>>=◌, line_of}
-use Rattle.script_rebuild.specs.Script.{Reading, read_after, line_after, fitting}
+use Rattle.script_text.specs.VersionTwo.{as_one, line2_of}
+use Rattle.script_rebuild.specs.declared.version.Version.{Version}
+use Rattle.script_rebuild.specs.declared.version.Version.TheVariants.{Unknown, First, Second}
+use Rattle.script_rebuild.specs.Versions.{Reading, header, version_after, version_then, says, says_one, fitting}
+use Rattle.script_rebuild.specs.Versions.{read_in, read_on}
 
 -- what one line's answer makes of the lines after it
-abbrev pub with_answer : Plan → List Line → List (List ℕ) → Result Line LineFault → Reading Line
-with_answer plan before texts (Ok line) = read_after plan (before ++ line ∷ []) texts
-with_answer plan before texts (Err fault) = record { lines = before; fault = Some (length before + 1, fault) }
+abbrev pub with_answer : Plan → Version → List Line2 → List (List ℕ) → Result Line2 LineFault → Reading
+with_answer plan version before texts answer =
+    read_on (λ line. read_in plan version (before ++ line ∷ []) texts) before answer
 
-pub read_first : (plan : Plan) (before : List Line) (text : List ℕ) (texts : List (List ℕ))
-    (answer : Result Line LineFault) → line_after plan before text ≡ answer →
-    read_after plan before (text ∷ texts) ≡ with_answer plan before texts answer
-read_first plan before text texts answer e = ap (λ r. with_answer plan before texts r) e
+pub read_first : (plan : Plan) (version : Version) (before : List Line2) (text : List ℕ) (texts : List (List ℕ))
+    (answer : Result Line2 LineFault) → says plan version before text ≡ answer →
+    read_in plan version before (text ∷ texts) ≡ with_answer plan (version_after version text) before texts answer
+read_first plan version before text texts answer e =
+    ap (λ r. with_answer plan (version_after version text) before texts r) e
 
 -- the reading goes on where it has no fault
-abbrev pub go_on : Plan → Reading Line → List (List ℕ) → Option (ℕ × LineFault) → Reading Line
-go_on plan r texts None = read_after plan r.lines texts
-go_on plan r texts (Some fault) = r
+abbrev pub go_on : Plan → Version → Reading → List (List ℕ) → Option (ℕ × LineFault) → Reading
+go_on plan version r texts None = read_in plan version r.lines texts
+go_on plan version r texts (Some fault) = r
 
-pub read_append : (plan : Plan) (before : List Line) (front texts : List (List ℕ)) →
-    read_after plan before (front ++ texts)
-    ≡ go_on plan (read_after plan before front) texts (read_after plan before front).fault
-read_append plan before [] texts = refl
-read_append plan before (text ∷ front) texts =
-    by (line_after plan before text) (λ line. read_append plan (before ++ line ∷ []) front texts)
+pub read_append : (plan : Plan) (version : Version) (before : List Line2) (front texts : List (List ℕ)) →
+    read_in plan version before (front ++ texts)
+    ≡ go_on plan (version_then version front) (read_in plan version before front) texts
+    (read_in plan version before front).fault
+read_append plan version before [] texts = refl
+read_append plan version before (text ∷ front) texts =
+    by (says plan version before text) (λ line. read_append plan next (before ++ line ∷ []) front texts)
   where
-    by : (answer : Result Line LineFault) →
-        ((line : Line) → read_after plan (before ++ line ∷ []) (front ++ texts)
-        ≡ go_on plan (read_after plan (before ++ line ∷ []) front) texts
-        (read_after plan (before ++ line ∷ []) front).fault) →
-        with_answer plan before (front ++ texts) answer
-        ≡ go_on plan (with_answer plan before front answer) texts (with_answer plan before front answer).fault
+    next : Version
+    next = version_after version text
+
+    by : (answer : Result Line2 LineFault) →
+        ((line : Line2) → read_in plan next (before ++ line ∷ []) (front ++ texts)
+        ≡ go_on plan (version_then next front) (read_in plan next (before ++ line ∷ []) front) texts
+        (read_in plan next (before ++ line ∷ []) front).fault) →
+        with_answer plan next before (front ++ texts) answer
+        ≡ go_on plan (version_then next front) (with_answer plan next before front answer) texts
+        (with_answer plan next before front answer).fault
     by (Ok line) more = more line
     by (Err fault) more = refl
 
 -- lines are only added
-pub record Extends (old new : List Line) : Type 0 where
-  pub more : List Line
+pub record Extends (old new : List Line2) : Type 0 where
+  pub more : List Line2
   pub all : new ≡ old ++ more
 
-pub read_extends : (plan : Plan) (before : List Line) (texts : List (List ℕ)) →
-    Extends before (read_after plan before texts).lines
-read_extends plan before [] = record { more = []; all = sym (append-nil before) }
-read_extends plan before (text ∷ texts) =
-    by (line_after plan before text) (λ line. read_extends plan (before ++ line ∷ []) texts)
+pub read_extends : (plan : Plan) (version : Version) (before : List Line2) (texts : List (List ℕ)) →
+    Extends before (read_in plan version before texts).lines
+read_extends plan version before [] = record { more = []; all = sym (append-nil before) }
+read_extends plan version before (text ∷ texts) =
+    by (says plan version before text) (λ line. read_extends plan next (before ++ line ∷ []) texts)
   where
-    by : (answer : Result Line LineFault) →
-        ((line : Line) → Extends (before ++ line ∷ []) (read_after plan (before ++ line ∷ []) texts).lines) →
-        Extends before (with_answer plan before texts answer).lines
+    next : Version
+    next = version_after version text
+
+    by : (answer : Result Line2 LineFault) →
+        ((line : Line2) → Extends (before ++ line ∷ []) (read_in plan next (before ++ line ∷ []) texts).lines) →
+        Extends before (with_answer plan next before texts answer).lines
     by (Ok line) more = record {
       more = line ∷ (more line).more;
       all =
@@ -85,42 +104,68 @@ read_extends plan before (text ∷ texts) =
     }
     by (Err fault) more = record { more = []; all = sym (append-nil before) }
 
-pub goes_extends : (plan : Plan) (r : Reading Line) (texts : List (List ℕ)) (fault : Option (ℕ × LineFault)) →
-    Extends r.lines (go_on plan r texts fault).lines
-goes_extends plan r texts None = read_extends plan r.lines texts
-goes_extends plan r texts (Some fault) = record { more = []; all = sym (append-nil r.lines) }
+pub goes_extends : (plan : Plan) (version : Version) (r : Reading) (texts : List (List ℕ))
+    (fault : Option (ℕ × LineFault)) → Extends r.lines (go_on plan version r texts fault).lines
+goes_extends plan version r texts None = read_extends plan version r.lines texts
+goes_extends plan version r texts (Some fault) = record { more = []; all = sym (append-nil r.lines) }
 
-pub stuck : (plan : Plan) (r : Reading Line) (texts : List (List ℕ)) (fault : Option (ℕ × LineFault)) →
-    is_some fault ≡ true → go_on plan r texts fault ≡ r
-stuck plan r texts None h = cc
-stuck plan r texts (Some fault) h = refl
+pub stuck : (plan : Plan) (version : Version) (r : Reading) (texts : List (List ℕ)) (fault : Option (ℕ × LineFault)) →
+    is_some fault ≡ true → go_on plan version r texts fault ≡ r
+stuck plan version r texts None h = cc
+stuck plan version r texts (Some fault) h = refl
 
 -- a line of over 256 bytes
-pub long_line : (plan : Plan) (line : List ℕ) → nat_lt 256 (length line) ≡ true → line_of plan line ≡ Err LongLine
+long_line : (plan : Plan) (line : List ℕ) → nat_lt 256 (length line) ≡ true → line_of plan line ≡ Err LongLine
 unfolding line_of
 long_line plan line h = rw h refl
+
+long_line2 : (plan : Plan) (line : List ℕ) → nat_lt 256 (length line) ≡ true → line2_of plan line ≡ Err LongLine
+unfolding line2_of
+long_line2 plan line h = rw h refl
 
 pub long_more : (front back : List ℕ) → nat_lt 256 (length front) ≡ true → nat_lt 256 (length (front ++ back)) ≡ true
 long_more front back h = let len = length-append front back in grind (arith, nat_tests)
 
-read_long : (plan : Plan) (before : List Line) (line : List ℕ) (lines : List (List ℕ)) →
+-- is not the header
+not_header : (line : List ℕ) → nat_lt 256 (length line) ≡ true → bytes_eq header line ≡ false
+not_header line h = by (bytes_eq header line) refl
+  where
+    by : (v : Bool) → bytes_eq header line ≡ v → v ≡ false
+    by false e = refl
+    by true e =
+        let same : header ≡ line = (bytes_eq-Decides header line).0 e in
+        let short : nat_lt 256 (length line) ≡ false = ap (λ (l : List ℕ). nat_lt 256 (length l)) (sym same) in
+        let clash : true ≡ false = sym h ∙ short in cc
+
+pub says_long : (plan : Plan) (version : Version) (before : List Line2) (line : List ℕ) →
+    nat_lt 256 (length line) ≡ true → says plan version before line ≡ Err LongLine
+says_long plan Unknown before line h =
+    ap (λ (v : Bool). if v then Ok (One Nothing) else says_one plan before line) (not_header line h)
+    ∙ ap (λ r. as_one r >>= fitting before) (long_line plan line h)
+says_long plan First before line h = ap (λ r. as_one r >>= fitting before) (long_line plan line h)
+says_long plan Second before line h = ap (λ r. r >>= fitting before) (long_line2 plan line h)
+
+read_long : (plan : Plan) (version : Version) (before : List Line2) (line : List ℕ) (lines : List (List ℕ)) →
     nat_lt 256 (length line) ≡ true →
-    read_after plan before (line ∷ lines) ≡ record { lines = before; fault = Some (length before + 1, LongLine) }
-read_long plan before line lines h = read_first plan before line lines (Err LongLine)
-    (ap (λ r. r >>= fitting before) (long_line plan line h))
+    read_in plan version before (line ∷ lines) ≡ record { lines = before; fault = Some (length before + 1, LongLine) }
+read_long plan version before line lines h =
+    read_first plan version before line lines (Err LongLine) (says_long plan version before line h)
 
 -- after the same lines one such line is as another, whatever follows
-pub same_long : (plan : Plan) (front : List (List ℕ)) (line other : List ℕ) (lines others : List (List ℕ)) →
-    nat_lt 256 (length line) ≡ true → nat_lt 256 (length other) ≡ true →
-    read_after plan [] (front ++ line ∷ lines) ≡ read_after plan [] (front ++ other ∷ others)
-same_long plan front line other lines others h k =
-    read_append plan [] front (line ∷ lines)
-    ∙ by (read_after plan [] front).fault
-    ∙ sym (read_append plan [] front (other ∷ others))
+pub same_long : (plan : Plan) (version : Version) (front : List (List ℕ)) (line other : List ℕ)
+    (lines others : List (List ℕ)) → nat_lt 256 (length line) ≡ true → nat_lt 256 (length other) ≡ true →
+    read_in plan version [] (front ++ line ∷ lines) ≡ read_in plan version [] (front ++ other ∷ others)
+same_long plan version front line other lines others h k =
+    read_append plan version [] front (line ∷ lines)
+    ∙ by (read_in plan version [] front).fault
+    ∙ sym (read_append plan version [] front (other ∷ others))
   where
+    next : Version
+    next = version_then version front
+
     by : (fault : Option (ℕ × LineFault)) →
-        go_on plan (read_after plan [] front) (line ∷ lines) fault
-        ≡ go_on plan (read_after plan [] front) (other ∷ others) fault
-    by None = let before = (read_after plan [] front).lines in read_long plan before line lines h
-        ∙ sym (read_long plan before other others k)
+        go_on plan next (read_in plan version [] front) (line ∷ lines) fault
+        ≡ go_on plan next (read_in plan version [] front) (other ∷ others) fault
+    by None = let before = (read_in plan version [] front).lines in read_long plan next before line lines h
+        ∙ sym (read_long plan next before other others k)
     by (Some fault) = refl

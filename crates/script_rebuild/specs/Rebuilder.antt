@@ -1,10 +1,13 @@
 -- What the action stands for.
 use Rattle.std.specs.Prelude.{◌≡◌, ℕ, List, [], ◌∷◌, ◌++◌, length, None, option_map, Bool, false}
+use Rattle.frame_writer.specs.Fronts.{all_but_last}
 use Rattle.script_rebuild.specs.Writer as writers
 use Rattle.script_text.specs.declared.line_fault.LineFault.{LineFault}
 use Rattle.script_rebuild.specs.declared.plan.RebuildPlan.{RebuildPlan}
 use Rattle.script_rebuild.specs.declared.plan.ScriptFault.{ScriptFault}
 use Rattle.script_rebuild.specs.declared.rebuild.Rebuild.{Rebuild}
+use Rattle.script_rebuild.specs.declared.version.Version.TheVariants.{Unknown}
+use Rattle.script_rebuild.specs.Versions.{lines_in, version_then}
 use Rattle.script_rebuild.specs.Rebuilt.{open_line, read_so_far, text, rebuild_meaning}
 use Rattle.trace_stream.specs.Taken.{HasTaken}
 
@@ -27,12 +30,13 @@ abbrev pub open_len : Rebuild → ℕ
 open_len r = length r.line.items
 
 -- It keeps the first fault of these bytes, its writer stands for the lines before it, and while there is none it keeps
--- the open line and counts the lines before.
+-- the open line, counts the lines before, and knows what they tell of the version.
 pub record Stands (r : Rebuild) (seen : List ℕ) : Type 0 where
   pub count : r.count ≡ length seen
   pub fault : option_map told r.fault ≡ (read_so_far r.plan.plan seen).fault
   pub open_bytes : r.fault ≡ None → r.line.items ≡ open_line seen
   pub lines : r.fault ≡ None → r.lines ≡ length (read_so_far r.plan.plan seen).lines
+  pub version : r.fault ≡ None → r.version ≡ version_then Unknown (all_but_last (lines_in seen))
   pub writer : writers.Stands r.writer r.plan.every r.plan.halves (read_so_far r.plan.plan seen).lines
 
 -- it took one more byte, and the outlet gained what became sure with it
@@ -47,6 +51,7 @@ pub record IsOpen (mid r : Rebuild) (line : List ℕ) : Type 0 where
   pub plan : mid.plan ≡ r.plan
   pub fault : mid.fault ≡ r.fault
   pub lines : mid.lines ≡ r.lines
+  pub version : mid.version ≡ r.version
   pub count : mid.count ≡ r.count
   pub writer : mid.writer ≡ r.writer
   pub line_is : mid.line.items ≡ line

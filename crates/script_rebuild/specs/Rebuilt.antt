@@ -3,11 +3,13 @@ use Rattle.std.specs.Prelude.{◌≡◌, ℕ, ◌+◌, List, [], ◌∷◌, ◌+
 use Rattle.std.specs.Prelude.{if◌then◌else◌, Option, None, Some, is_some, Err, false}
 use Rattle.trace_stream.specs.Served.{Meaning}
 use Rattle.source_events.specs.declared.plan.Plan.{Plan}
-use Rattle.frame_writer.specs.Written.{capture}
-use Rattle.frame_writer.specs.Fronts.{all_but_last, sure}
-use Rattle.script_text.specs.declared.lines.Line.{Line}
+use Rattle.frame_writer.specs.Written.{written_segments}
+use Rattle.frame_writer.specs.Fronts.{all_but_last}
 use Rattle.script_text.specs.declared.line_fault.LineFault.{LineFault}
-use Rattle.script_rebuild.specs.Script.{lines_in, Reading, read_after, line_after, script_of, put_of, script_bytes}
+use Rattle.script_rebuild.specs.declared.version.Version.TheVariants.{Unknown}
+use Rattle.script_rebuild.specs.Script.{in_order}
+use Rattle.script_rebuild.specs.Segments.{sure_lines, script_segments}
+use Rattle.script_rebuild.specs.Versions.{lines_in, Reading, read_texts, says, script_of, version_then}
 use Rattle.script_rebuild.specs.declared.plan.RebuildPlan.{RebuildPlan}
 
 abbrev pub last_of : List (List ℕ) → List ℕ
@@ -28,8 +30,8 @@ abbrev pub certain_lines : List ℕ → List (List ℕ)
 certain_lines bytes = all_but_last (lines_in bytes) ++ too_long (open_line bytes)
 
 -- what they say, up to the first fault
-abbrev pub read_so_far : Plan → List ℕ → Reading Line
-read_so_far plan bytes = read_after plan [] (certain_lines bytes)
+abbrev pub read_so_far : Plan → List ℕ → Reading
+read_so_far plan bytes = read_texts plan (certain_lines bytes)
 
 -- one of them has a fault
 abbrev pub IsFaulty : RebuildPlan → List ℕ → Type 0
@@ -37,11 +39,11 @@ IsFaulty p bytes = is_some (read_so_far p.plan bytes).fault ≡ true
 
 -- what is written for them: what is sure of the capture of all that the lines before the first fault put
 abbrev pub text : RebuildPlan → List ℕ → List ℕ
-text p bytes = sure p.every p.halves (put_of p.plan.order (read_so_far p.plan bytes).lines)
+text p bytes = sure_lines p.every p.halves p.plan.order (in_order p.plan.stp) (read_so_far p.plan bytes).lines
 
 -- the capture of a script, to its end
 abbrev pub script_capture : RebuildPlan → List ℕ → List ℕ
-script_capture p bytes = capture p.every p.halves (script_bytes p.plan (script_of p.plan bytes).lines)
+script_capture p bytes = written_segments p.every p.halves (script_segments p.plan (script_of p.plan bytes).lines)
 
 -- what comes after the text where the script is at its end: what is left of the capture, and nothing where a line has a
 -- fault, with or without a line feed
@@ -62,5 +64,5 @@ pub record IsFirstFault (plan : Plan) (texts : List (List ℕ)) (number : ℕ) (
   pub after : List (List ℕ)
   pub parts : texts ≡ before ++ line ∷ after
   pub place : number ≡ length before + 1
-  pub sound : (read_after plan [] before).fault ≡ None
-  pub says : line_after plan (read_after plan [] before).lines line ≡ Err fault
+  pub sound : (read_texts plan before).fault ≡ None
+  pub refused : says plan (version_then Unknown before) (read_texts plan before).lines line ≡ Err fault

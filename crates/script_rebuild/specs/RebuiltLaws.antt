@@ -3,11 +3,12 @@ use Rattle.std.specs.Prelude.{◌≡◌, ℕ, List, [], ◌++◌, refl, Option, 
 use Rattle.std.proofs.Common.{[], ap, sym, ◌∙◌, append-nil}
 use Rattle.trace_stream.specs.Served.{IsLawful}
 use Rattle.frame_writer.specs.Fronts.{sure}
-use Rattle.frame_writer.proofs.Fronts.{sure_grows}
 use Rattle.frame_writer.proofs.Sureness.{nothing_sure}
 use Rattle.script_text.specs.declared.line_fault.LineFault.{LineFault}
-use Rattle.script_rebuild.specs.Script.{put_of, put_after, script_of}
-use Rattle.script_rebuild.specs.ScriptLaws.{put_after-append}
+use Rattle.script_rebuild.specs.Script.{in_order}
+use Rattle.script_rebuild.specs.Segments.{sure_lines}
+use Rattle.script_rebuild.specs.Versions.{script_of}
+use Rattle.script_rebuild.specs.ScriptLaws.{sure_more}
 use Rattle.script_rebuild.specs.declared.plan.RebuildPlan.{RebuildPlan}
 use Rattle.script_rebuild.specs.Rebuilt.{read_so_far, text, left_of, script_capture, rebuild_meaning}
 use Rattle.script_rebuild.specs.GrowthLaws.{settled, so_far_extends, whole_settled}
@@ -23,7 +24,7 @@ rebuild_lawful p = record {
   nothing_at_first = sym (nothing_sure p.every p.halves [] refl ∙ append-nil (sure p.every p.halves []));
   faulty_stays = λ xs ys h. ap (λ r. is_some r.fault) (settled p.plan xs ys h).so_far ∙ h;
   text_stays = λ xs ys h.
-      ap (λ r. sure p.every p.halves (put_of p.plan.order r.lines)) (settled p.plan xs ys h).so_far;
+      ap (λ r. sure_lines p.every p.halves p.plan.order (in_order p.plan.stp) r.lines) (settled p.plan xs ys h).so_far;
   ending_stays = λ xs ys h.
       nothing_left (script_capture p (xs ++ ys)) (text p (xs ++ ys)) (script_of p.plan (xs ++ ys)).fault
       (ap (λ r. is_some r.fault) (settled p.plan xs ys h).whole ∙ h)
@@ -33,9 +34,7 @@ rebuild_lawful p = record {
       let order = p.plan.order in
       let lines = (read_so_far p.plan xs).lines in
       let longer = so_far_extends p.plan xs ys in
-      let grown = sure_grows p.every p.halves [] (put_of order lines) (put_after order lines longer.more) in (
-        grown.0,
-        ap (λ l. sure p.every p.halves (put_of order l)) longer.all
-            ∙ ap (sure p.every p.halves) (put_after-append order [] lines longer.more) ∙ grown.1,
-      );
+      let ids = in_order p.plan.stp in
+      let grown = sure_more p.every p.halves order ids lines longer.more in
+      (grown.0, ap (sure_lines p.every p.halves order ids) longer.all ∙ grown.1);
 }

@@ -1,5 +1,5 @@
 -- Lines, for worked rows.
-use Rattle.std.specs.Prelude.{ℕ, List, [], ◌∷◌, ◌++◌, flat_map, codes}
+use Rattle.std.specs.Prelude.{ℕ, List, [], ◌∷◌, ◌++◌, map, flat_map, codes}
 use Rattle.frame_grammar.specs.Rows.{hex}
 use Rattle.stp_grammar.specs.declared.item.Stamp.TheVariants.{None as NoStamp, Natural}
 use Rattle.stp_grammar.specs.declared.item.StpItem.TheVariants.{Async, Version}
@@ -8,7 +8,6 @@ use Rattle.itm_grammar.specs.declared.packet.Size.TheVariants.{One}
 use Rattle.itm_grammar.specs.declared.packet.ItmPacket.TheVariants.{Sync, Software}
 use Rattle.dwt_packets.specs.declared.item.DwtItem.TheVariants.{Counters}
 use Rattle.script_text.specs.declared.items.Item.TheVariants.{Itm, Dwt, Stp, Raw}
-use Rattle.script_text.specs.declared.lines.Line.{Line}
 use Rattle.script_text.specs.declared.lines.Line.TheVariants.{Nothing, Of}
 use Rattle.script_text.specs.declared.version_two.Line2.{Line2}
 use Rattle.script_text.specs.declared.version_two.Line2.TheVariants.{One as OneLine, Flush, Trigger}
@@ -16,16 +15,16 @@ use Rattle.source_events.specs.declared.plan.Plan.{Plan}
 use Rattle.script_text.specs.Rows.{both}
 
 -- `1 sync`, `2 async`, `2 version 3`, `16 raw a5`, `1 port 0 u8 41` and `2 data 1 0 u8 42 - n=5`
-abbrev pub three_sources : List Line
+abbrev pub three_sources : List Line2
 three_sources =
-    Of 1 (Itm Sync) ∷ (Of 2 (Stp Async) ∷ (Of 2 (Stp (Version 3)) ∷ (Of 16 (Raw (hex (codes "A5")))
-    ∷ (Of 1 (Itm (Software 0 One 0x41)) ∷ (Of 2 (Stp (byte_at (at 1 0) 0x42 (Natural 5))) ∷ [])))))
+    map OneLine (Of 1 (Itm Sync) ∷ (Of 2 (Stp Async) ∷ (Of 2 (Stp (Version 3)) ∷ (Of 16 (Raw (hex (codes "A5")))
+    ∷ (Of 1 (Itm (Software 0 One 0x41)) ∷ (Of 2 (Stp (byte_at (at 1 0) 0x42 (Natural 5))) ∷ []))))))
 
 -- `2 async`, `2 version 3`, `2 data 0 0 u8 41 -`, `1 counters 01`, an empty line and `2 data 0 0 u8 41 -`
-abbrev pub kept_over_a_line : List Line
+abbrev pub kept_over_a_line : List Line2
 kept_over_a_line =
-    Of 2 (Stp Async) ∷ (Of 2 (Stp (Version 3)) ∷ (Of 2 (Stp (byte_at (at 0 0) 0x41 NoStamp))
-    ∷ (Of 1 (Dwt (Counters 1)) ∷ (Nothing ∷ (Of 2 (Stp (byte_at (at 0 0) 0x41 NoStamp)) ∷ [])))))
+    map OneLine (Of 2 (Stp Async) ∷ (Of 2 (Stp (Version 3)) ∷ (Of 2 (Stp (byte_at (at 0 0) 0x41 NoStamp))
+    ∷ (Of 1 (Dwt (Counters 1)) ∷ (Nothing ∷ (Of 2 (Stp (byte_at (at 0 0) 0x41 NoStamp)) ∷ []))))))
 
 -- a script of these lines, each with its line feed
 abbrev pub script : List (List ℕ) → List ℕ
@@ -37,8 +36,8 @@ two_stp = record both { itm = []; stp = 3 ∷ (2 ∷ []) }
 
 -- `async`, `version 3` and `data 0 0 u8 41 -` of a source
 abbrev pub odd_nibbles : ℕ → List Line2
-odd_nibbles x = OneLine (Of x (Stp Async)) ∷ (OneLine (Of x (Stp (Version 3)))
-    ∷ (OneLine (Of x (Stp (byte_at (at 0 0) 0x41 NoStamp))) ∷ []))
+odd_nibbles x =
+    map OneLine (Of x (Stp Async) ∷ (Of x (Stp (Version 3)) ∷ (Of x (Stp (byte_at (at 0 0) 0x41 NoStamp)) ∷ [])))
 
 -- these lines of source 3 and of source 2, `flush`, `125 trigger 07` and `2 data 0 0 u8 41 -`
 abbrev pub flushed_lines : List Line2

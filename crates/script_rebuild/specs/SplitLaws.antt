@@ -4,7 +4,7 @@ use Rattle.std.specs.Prelude.{◌==◌, if◌then◌else◌, All}
 use Rattle.std.specs.List.{onto_first}
 use Rattle.std.proofs.lemmas.List.Splits.{slice_split_none}
 use Rattle.frame_writer.specs.Fronts.{all_but_last}
-use Rattle.script_rebuild.specs.Script.{lines_in}
+use Rattle.script_rebuild.specs.Versions.{lines_in}
 use Rattle.script_rebuild.specs.Rebuilt.{last_of, open_line}
 
 -- bytes before the first line

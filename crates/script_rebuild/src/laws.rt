@@ -1,18 +1,23 @@
-//! Laws of rebuilt scripts, over their definitions alone.
+//! Laws of scripts and of what they are rebuilt to, over their definitions alone.
 
-ghost use Rattle.std.specs.Prelude.{◌≡◌, ◌≤◌, ◌++◌, ℕ, List, None, Some};
+ghost use Rattle.std.specs.Prelude.{◌≡◌, ◌≤◌, ◌++◌, ◌∷◌, [], ℕ, List, None, Some};
+ghost use Rattle.stp_grammar.specs.declared.packet.Order.{Order};
+ghost use Rattle.stp_encoder.specs.Puts.{items_in};
 ghost use Rattle.source_events.specs.declared.plan.Plan.{Plan};
-ghost use Rattle.frame_writer.specs.Written.{capture};
+ghost use Rattle.frame_writer.specs.Written.{joined, written_segments};
 ghost use Rattle.script_text.specs.declared.line_fault.LineFault.{LineFault};
-ghost use Rattle.script_rebuild.specs.Script.{lines_in, script_of, script_bytes};
+ghost use Rattle.script_text.specs.declared.version_two.Line2.{Line2};
+ghost use Rattle.script_rebuild.specs.Script.{given_items, given_puts};
+ghost use Rattle.script_rebuild.specs.Segments.{now_ended, with_line, line_bytes, segments_of, script_segments};
+ghost use Rattle.script_rebuild.specs.Versions.{lines_in, script_of};
 ghost use Rattle.script_rebuild.specs.declared.plan.RebuildPlan.{RebuildPlan};
 ghost use Rattle.script_rebuild.specs.Rebuilt.{read_so_far, IsFaulty, text, ending, IsFirstFault};
 
-/// What is written for a script without a fault, the text and what comes after it, is the capture of its lines.
+/// What is written for a script without a fault, the text and what comes after it, is its lines' segments as written.
 pub fn capture_law()
     ensures { (p : RebuildPlan) (bytes : List ℕ) → p.halves ≤ 8 → (script_of p.plan bytes).fault ≡ None →
         text p bytes ++ ending p bytes ≡
-        capture p.every p.halves (script_bytes p.plan (script_of p.plan bytes).lines) }
+        written_segments p.every p.halves (script_segments p.plan (script_of p.plan bytes).lines) }
 {}
 
 /// The fault of a script is that of its first line with one. Once it is certain it is the script's, whatever follows.
@@ -21,4 +26,15 @@ pub fn fault_law()
         (script_of plan bytes).fault ≡ Some (number, fault) → IsFirstFault plan (lines_in bytes) number fault }
     ensures certain { (p : RebuildPlan) (bytes more : List ℕ) → IsFaulty p bytes →
         script_of p.plan (bytes ++ more) ≡ read_so_far p.plan bytes }
+{}
+
+/// A line more is put after all others. The segments joined are the bytes that the lines put, in order. The items that
+/// are put for a source are those that the lines give it.
+pub fn segments_law()
+    ensures more { (order : Order) (ids : List ℕ) (lines : List Line2) (line : Line2) →
+        segments_of order ids (lines ++ line ∷ []) ≡ with_line order ids lines (segments_of order ids lines) line }
+    ensures joined { (order : Order) (ids : List ℕ) (lines : List Line2) (line : Line2) →
+        joined (now_ended (segments_of order ids (lines ++ line ∷ []))) ≡
+        joined (now_ended (segments_of order ids lines)) ++ line_bytes order ids lines line }
+    ensures items { (x : ℕ) (lines : List Line2) → items_in (given_puts x lines) ≡ given_items x lines }
 {}

@@ -1,5 +1,5 @@
-//! Scripts become captures: each line's item as the bytes of its source, those in frames, and the action `rebuild`, which
-//! does it as the script's bytes come.
+//! Scripts become captures: each line's item as the bytes of its source, those in frames, and the action `rebuild`,
+//! which does it as the script's bytes come.
 #![tactic(auto)]
 
 mod bytes;
@@ -8,8 +8,8 @@ pub mod laws;
 mod plan;
 mod rebuild;
 pub mod rows;
+mod version;
 mod writer;
-pub mod writer_laws;
 
 pub use bytes::{LINE_ROOM, LineBytes};
 pub use plan::{RebuildPlan, ScriptFault};

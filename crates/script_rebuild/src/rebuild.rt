@@ -2,22 +2,28 @@
 
 ghost use Rattle.std.specs.Prelude.{◌≡◌, ◌≢◌, ◌≤◌, ◌<◌, ◌+◌, ◌*◌, ◌++◌, ◌==◌, [], ℕ, List, All, length, take};
 ghost use Rattle.std.specs.Prelude.{slice_index, false, None, Err, IfSome, option_map, is_some};
+ghost use Rattle.script_text.specs.declared.line_fault.LineFault.TheVariants.{BadLine};
 ghost use Rattle.std.specs.Result.{IfErr, OnErr, OnOk};
 ghost use Rattle.trace_values.specs.declared.limits.TheConstants.{COUNT_ROOM};
 ghost use Rattle.trace_stream.specs.declared.limits.TheConstants.{GREATEST_CAPTURE};
 ghost use Rattle.trace_stream.specs.declared.outlet.TheConstants.{OUTLET_ROOM};
 ghost use Rattle.trace_stream.specs.declared.action.TheConstants.{ACTION_ROOM};
-ghost use Rattle.script_text.specs.declared.lines.Line.{Line};
-ghost use Rattle.script_rebuild.specs.Script.{line_after};
-ghost use Rattle.script_rebuild.specs.Writer.{count_of};
+ghost use Rattle.source_events.specs.declared.plan.Plan.{Plan};
+ghost use Rattle.script_text.specs.declared.version_two.Line2.{Line2};
+ghost use Rattle.script_text.specs.Lines.{line_of};
+ghost use Rattle.script_rebuild.specs.Versions.{says};
+ghost use Rattle.script_rebuild.specs.Writer.{count_of, order_of, stp_of};
 ghost use Rattle.script_rebuild.specs.Writer.{Stands as StandsForLines};
 ghost use Rattle.script_rebuild.specs.PutLine.{PutsLine, IsFor, IsText};
 
 use crate::plan::{RebuildPlan, ScriptFault};
+use crate::version::{Version, is_header};
 use crate::{LineBytes, LineWriter};
 use arrayvec::ArrayVec;
 use memchr::memchr;
-use script_text::{Item, LINE_BYTES, Line, LineFault, PacketLine, packet_line, read_into};
+use script_text::{
+    Item, LINE_BYTES, Line, LineFault, PacketLine, packet_line, read_into, read_new,
+};
 use source_events::{Plan, SourceKind};
 use trace_stream::{Action, Outlet, Progress};
 
@@ -29,6 +35,8 @@ pub struct Rebuild {
     line: ArrayVec<u8, LINE_BYTES>,
     /// How many lines ended.
     lines: u64,
+    /// What they tell of the script's version.
+    version: Version,
     writer: LineWriter,
     /// What becomes sure with a line, which is nothing between lines: made once, since it has room for much more than
     /// most lines fill.
@@ -65,12 +73,45 @@ fn append(line: &mut ArrayVec<u8, LINE_BYTES>, bytes: &[u8])
     let _ = line.try_extend_from_slice(bytes);
 }
 
+/// Puts what a line says whose words are those of no line of version 1: nothing as the header, or a line of version 2.
+/// Apart, so that lines of version 1 need no room for it.
+#[inline(never)]
+fn put_new(
+    writer: &mut LineWriter,
+    version: Version,
+    text: &[u8],
+    out: &mut LineBytes,
+) -> Result<(), LineFault>
+    requires empty { out.old.items ≡ [] }
+    requires room { count_of writer.old + 100 ≤ COUNT_ROOM }
+    ensures order { order_of writer.new ≡ order_of writer.old }
+    ensures stp { stp_of writer.new ≡ stp_of writer.old }
+    ensures count { count_of writer.new ≤ count_of writer.old + 100 }
+    ensures same { OnErr result ((writer.new ≡ writer.old) × (out.new ≡ out.old)) }
+    ensures ok { (plan : Plan) (every halves : ℕ) (lines : List Line2) → line_of plan text.now ≡ Err BadLine →
+        IsFor plan writer.old → StandsForLines writer.old every halves lines →
+        OnOk result (PutsLine plan version text.now writer.new every halves lines out.new.items) }
+    ensures err { (plan : Plan) (every halves : ℕ) (lines : List Line2) → line_of plan text.now ≡ Err BadLine →
+        StandsForLines writer.old every halves lines →
+        IfErr result (λ fault. says plan version lines text.now ≡ Err fault) }
+{
+    match version {
+        Version::Second => {
+            let said = read_new(text)?;
+            writer.put2(&said, out)
+        }
+        Version::Unknown if is_header(text) => writer.put(&Line::Nothing, out),
+        _ => Err(LineFault::BadLine),
+    }
+}
+
 /// Puts what a line says, which may have been found, and gives what has become sure with it. At a fault the writer is
 /// as before.
 #[inline(always)]
 fn put_line(
     writer: &mut LineWriter,
     plan: &Plan,
+    version: Version,
     text: &[u8],
     found: &Option<PacketLine>,
     out: &mut LineBytes,
@@ -82,10 +123,10 @@ fn put_line(
     ensures plan { IsFor plan.now writer.new }
     ensures count { count_of writer.new ≤ count_of writer.old + 100 }
     ensures same { OnErr result ((writer.new ≡ writer.old) × (out.new ≡ out.old)) }
-    ensures ok { (every halves : ℕ) (lines : List Line) → StandsForLines writer.old every halves lines →
-        OnOk result (PutsLine plan.now text.now writer.new every halves lines out.new.items) }
-    ensures err { (every halves : ℕ) (lines : List Line) → StandsForLines writer.old every halves lines →
-        IfErr result (λ fault. line_after plan.now lines text.now ≡ Err fault) }
+    ensures ok { (every halves : ℕ) (lines : List Line2) → StandsForLines writer.old every halves lines →
+        OnOk result (PutsLine plan.now version text.now writer.new every halves lines out.new.items) }
+    ensures err { (every halves : ℕ) (lines : List Line2) → StandsForLines writer.old every halves lines →
+        IfErr result (λ fault. says plan.now version lines text.now ≡ Err fault) }
 {
     if let Some(found) = found {
         if let Some(SourceKind::Itm) = plan.kind_of(found.id) {
@@ -99,7 +140,10 @@ fn put_line(
     let mut said = Line::Nothing;
     match read_into(text, plan, &mut said) {
         Ok(()) => writer.put(&said, out),
-        Err(fault) => Err(fault),
+        Err(fault) => match fault {
+            LineFault::BadLine => put_new(writer, version, text, out),
+            _ => Err(fault),
+        },
     }
 }
 
@@ -117,7 +161,7 @@ fn give(sure: &mut LineBytes, outlet: &mut Outlet)
 
 impl Rebuild {
     ghost use Rattle.std.specs.Prelude.{◌∷◌};
-    ghost use Rattle.script_rebuild.specs.Script.{script_of};
+    ghost use Rattle.script_rebuild.specs.Versions.{script_of};
     ghost use Rattle.script_rebuild.specs.Rebuilt.{read_so_far};
     ghost use Rattle.trace_io.specs.Bytes.{TakesSome};
     ghost use Rattle.script_rebuild.specs.Rebuilder.{told, plan_of, taken_by, open_len, IsLive, Stands, TakesByte};
@@ -136,6 +180,7 @@ impl Rebuild {
             plan,
             line: ArrayVec::new(),
             lines: 0,
+            version: Version::Unknown,
             writer,
             sure: LineBytes::new(),
             count: 0,
@@ -164,6 +209,7 @@ impl Rebuild {
         match put_line(
             &mut writer,
             &self.plan.plan,
+            self.version,
             self.line.as_slice(),
             &None,
             &mut out,
@@ -255,6 +301,7 @@ impl Rebuild {
         match put_line(
             &mut self.writer,
             &self.plan.plan,
+            self.version,
             text,
             found,
             &mut self.sure,
@@ -263,6 +310,7 @@ impl Rebuild {
                 give(&mut self.sure, outlet);
                 self.line.clear();
                 self.lines += 1;
+                self.version = self.version.after(text);
                 false
             }
             Err(fault) => {
@@ -370,13 +418,14 @@ impl Action for Rebuild {
         match put_line(
             &mut writer,
             &self.plan.plan,
+            self.version,
             self.line.as_slice(),
             &None,
             &mut out,
         ) {
             Ok(()) => {
                 let mut rest = LineBytes::new();
-                writer.rest(&mut rest);
+                writer.flush(&mut rest);
                 outlet.append(out.as_slice());
                 outlet.append(rest.as_slice());
             }

@@ -3,16 +3,18 @@
 ghost use Rattle.std.specs.Prelude.{◌<◌};
 ghost use Rattle.std.specs.List.{All};
 
-use crate::bytes::{LineBytes, append, put_bytes, put_item};
-use crate::encoders::{Encoders, encoders_for};
+use crate::bytes::{LineBytes, put_bytes, put_item};
+use crate::encoders::{Encoders, encoders_for, put_kept};
 use arrayvec::ArrayVec;
-use frame_writer::{SureWriter, TwoFrames};
-use script_text::{Line, LineFault};
+use frame_writer::SureWriter;
+use script_text::{Line, Line2, LineFault, TRIGGER_SOURCE};
 use source_events::SourceIds;
 use stp_grammar::packet::Order;
+use trace_values::SourceId;
 
 /// Writes the lines of a script as a capture: the bytes of each item as bytes of its source, in the frames of a
-/// `SureWriter`. A nibble of a system trace is kept until the rest of its byte is known.
+/// `SureWriter`, whose segments its flushes end. A nibble of a system trace is kept until the rest of its byte is
+/// known.
 #[derive(Drop)]
 pub struct LineWriter {
     /// In which order the nibbles of numbers of a system trace are written.
@@ -23,19 +25,16 @@ pub struct LineWriter {
 }
 
 impl LineWriter {
-    ghost use Rattle.std.specs.Prelude.{◌≡◌, ◌≤◌, ◌+◌, ◌-◌, ◌++◌, ◌∷◌, [], ℕ, List};
+    ghost use Rattle.std.specs.Prelude.{◌≡◌, ◌≤◌, ◌+◌, ◌++◌, ◌∷◌, [], ℕ, List, Ok};
     ghost use Rattle.std.specs.Result.{OnErr};
     ghost use Rattle.trace_values.specs.declared.limits.TheConstants.{COUNT_ROOM};
-    ghost use Rattle.frame_writer.specs.Written.{capture};
-    ghost use Rattle.frame_writer.specs.Fronts.{sure};
-    ghost use Rattle.frame_writer.specs.Sure.{count_of as frame_count};
-    ghost use Rattle.arrayvec.specs.ArrayVec.{array_vec_len};
-    ghost use Rattle.script_rebuild.specs.Putting.{Puts};
-    ghost use Rattle.script_rebuild.specs.declared.bytes.TheConstants.{LINE_ROOM};
-    ghost use Rattle.script_text.specs.declared.lines.Line.{Line};
-    ghost use Rattle.script_rebuild.specs.Script.{put_of, ends_of, in_order};
+    ghost use Rattle.frame_writer.specs.Written.{written_segments};
+    ghost use Rattle.script_text.specs.declared.version_two.Line2.{Line2};
+    ghost use Rattle.script_text.specs.declared.version_two.Line2.TheVariants.{One, Flush, Trigger};
+    ghost use Rattle.script_rebuild.specs.Script.{in_order};
+    ghost use Rattle.script_rebuild.specs.Segments.{segments_with_ends, sure_lines};
     ghost use Rattle.script_rebuild.specs.PutLine.{PutsAfter};
-    ghost use Rattle.script_rebuild.specs.Writer.{stp_of, order_of, count_of, CanBePut, Stands};
+    ghost use Rattle.script_rebuild.specs.Writer.{stp_of, order_of, count_of, CanBePut, CanBePut2, Stands};
 
     /// A writer of no line. The items of system traces are those of the sources `stp`, and their numbers are written in
     /// this order of their nibbles. Synchronisations are written as `FrameWriter::new` says: a full one before each
@@ -62,7 +61,8 @@ impl LineWriter {
         self.frames.frames()
     }
 
-    /// Puts a line, and gives what has become sure of the capture: all frames but the last that is begun.
+    /// Puts a line of version 1, and gives what has become sure of the capture: all frames of ended segments, and of
+    /// the unfinished one all but the last that is begun.
     ///
     /// # Errors
     ///
@@ -75,9 +75,9 @@ impl LineWriter {
         requires room { count_of self.old + 100 ≤ COUNT_ROOM }
         ensures stp { stp_of self.new ≡ stp_of self.old }
         ensures order { order_of self.new ≡ order_of self.old }
-        ensures puts { (every halves : ℕ) (lines : List Line) → Stands self.old every halves lines →
+        ensures puts { (every halves : ℕ) (lines : List Line2) → Stands self.old every halves lines →
             PutsAfter self.old self.new every halves lines
-            (record { line = line.now; answer = result; more = out.new.items }) }
+            (record { line = One line.now; answer = result; more = out.new.items }) }
         ensures same { OnErr result ((self.new ≡ self.old) × (out.new ≡ out.old)) }
         ensures count { count_of self.new ≤ count_of self.old + 100 }
     {
@@ -87,12 +87,74 @@ impl LineWriter {
         }
     }
 
+    /// Puts a line of either version, as `put` does. Apart, so that lines of version 1 need no room for it.
+    ///
+    /// # Errors
+    ///
+    /// As of `put`: a flush and a trigger can always be put.
+    #[inline(never)]
+    pub fn put2(&mut self, line: &Line2, out: &mut LineBytes) -> Result<(), LineFault>
+        requires said { CanBePut2 (stp_of self.old) line.now }
+        requires empty { out.old.items ≡ [] }
+        requires room { count_of self.old + 100 ≤ COUNT_ROOM }
+        ensures stp { stp_of self.new ≡ stp_of self.old }
+        ensures order { order_of self.new ≡ order_of self.old }
+        ensures puts { (every halves : ℕ) (lines : List Line2) → Stands self.old every halves lines →
+            PutsAfter self.old self.new every halves lines
+            (record { line = line.now; answer = result; more = out.new.items }) }
+        ensures same { OnErr result ((self.new ≡ self.old) × (out.new ≡ out.old)) }
+        ensures count { count_of self.new ≤ count_of self.old + 100 }
+    {
+        match line {
+            Line2::One(line) => return self.put(line, out),
+            Line2::Flush => self.flush(out),
+            Line2::Trigger(byte) => self.put_trigger(*byte, out),
+        }
+        Ok(())
+    }
+
+    /// Puts a byte of the trigger source, and gives what has become sure.
+    fn put_trigger(&mut self, byte: u8, out: &mut LineBytes)
+        requires empty { out.old.items ≡ [] }
+        requires room { count_of self.old + 100 ≤ COUNT_ROOM }
+        ensures stp { stp_of self.new ≡ stp_of self.old }
+        ensures order { order_of self.new ≡ order_of self.old }
+        ensures puts { (every halves : ℕ) (lines : List Line2) → Stands self.old every halves lines →
+            PutsAfter self.old self.new every halves lines
+            (record { line = Trigger byte; answer = Ok tt; more = out.new.items }) }
+        ensures count { count_of self.new ≤ count_of self.old + 100 }
+    {
+        if let Some(id) = SourceId::new(TRIGGER_SOURCE) {
+            put_bytes(&mut self.frames, id, &[byte], out);
+        }
+    }
+
+    /// Ends the segment: puts the nibbles that are kept of system traces, each with a NULL above it, in increasing
+    /// order of their sources' IDs, and gives what has become sure. Then all that is written so far is sure: so this,
+    /// of a copy, gives the rest of the capture, once the lines are at their end.
+    pub fn flush(&mut self, out: &mut LineBytes)
+        requires empty { out.old.items ≡ [] }
+        requires room { count_of self.old + 100 ≤ COUNT_ROOM }
+        ensures stp { stp_of self.new ≡ stp_of self.old }
+        ensures order { order_of self.new ≡ order_of self.old }
+        ensures puts { (every halves : ℕ) (lines : List Line2) → Stands self.old every halves lines →
+            PutsAfter self.old self.new every halves lines
+            (record { line = Flush; answer = Ok tt; more = out.new.items }) }
+        ensures whole { (every halves : ℕ) (lines : List Line2) → Stands self.old every halves lines →
+            written_segments every halves (segments_with_ends (order_of self.old) (stp_of self.old) lines) ≡
+            sure_lines every halves (order_of self.old) (stp_of self.old) lines ++ out.new.items }
+        ensures count { count_of self.new ≤ count_of self.old + 100 }
+    {
+        self.encoders = put_kept(&self.encoders, &mut self.frames, out);
+        self.frames.flush(out);
+    }
+
     /// Another writer of the same lines.
     pub fn copied(&self) -> LineWriter
         ensures stp { stp_of result ≡ stp_of self.now }
         ensures order { order_of result ≡ order_of self.now }
         ensures count { count_of result ≡ count_of self.now }
-        ensures list { (every halves : ℕ) (lines : List Line) → Stands self.now every halves lines →
+        ensures list { (every halves : ℕ) (lines : List Line2) → Stands self.now every halves lines →
             Stands result every halves lines }
     {
         let mut encoders = ArrayVec::new();
@@ -101,40 +163,6 @@ impl LineWriter {
             order: self.order,
             encoders,
             frames: self.frames.copied(),
-        }
-    }
-
-    /// The rest of the capture, once the lines are at their end: what is not sure of it, and before it the nibbles that
-    /// are kept of system traces, each with a NULL above it, in increasing order of their sources' IDs.
-    pub fn rest(&self, out: &mut LineBytes)
-        requires empty { out.old.items ≡ [] }
-        requires room { count_of self.now + 100 ≤ COUNT_ROOM }
-        ensures whole { (every halves : ℕ) (lines : List Line) → Stands self.now every halves lines →
-            let order = order_of self.now in
-            capture every halves (put_of order lines ++ ends_of order lines (stp_of self.now)) ≡
-            sure every halves (put_of order lines) ++ out.new.items }
-    {
-        let mut frames = self.frames.copied();
-        self.put_ends(&mut frames, out);
-        let mut rest = TwoFrames::new();
-        frames.rest(&mut rest);
-        append(out, rest.as_slice());
-    }
-
-    /// Puts the bytes of the nibbles that are kept.
-    fn put_ends(&self, frames: &mut SureWriter, out: &mut LineBytes)
-        requires empty { out.old.items ≡ [] }
-        requires room { frame_count frames.old + 100 ≤ COUNT_ROOM }
-        ensures put { (every halves : ℕ) (lines : List Line) → Stands self.now every halves lines →
-            Puts frames.old frames.new (ends_of (order_of self.now) lines (stp_of self.now)) out.new.items }
-        ensures few { array_vec_len out.new ≤ LINE_ROOM - 528 }
-    {
-        for slot in self.encoders.as_slice() {
-            let mut last = ArrayVec::new();
-            slot.encoder.finish(&mut last);
-            let mut sure = LineBytes::new();
-            put_bytes(frames, slot.id, last.as_slice(), &mut sure);
-            append(out, sure.as_slice());
         }
     }
 }

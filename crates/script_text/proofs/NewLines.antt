@@ -1,6 +1,6 @@
 -- The lines of version 2 beside those of version 1.
 use Rattle.std.proofs.Common.{◌≡◌, ℕ, suc, arith, List, [], ◌∷◌, length, refl, sym, ◌∙◌, ap, subst, Bool, true, false, nat_lt, Result, Ok, Err}
-use Rattle.std.specs.Prelude.{◌==◌, ◌&&◌, if◌then◌else◌, codes}
+use Rattle.std.specs.Prelude.{◌==◌, ◌&&◌, if◌then◌else◌, codes, IfOk}
 use Rattle.std.specs.Str.{bytes_eq}
 use Rattle.std.proofs.lemmas.Slice.Eq.{bytes_eq-Decides}
 use Rattle.std.proofs.lemmas.Bool.Decides.{nat_tests}
@@ -8,13 +8,13 @@ use Rattle.source_events.specs.declared.plan.Plan.{Plan}
 use Rattle.script_text.specs.declared.lines.Line.{Line}
 use Rattle.script_text.specs.declared.lines.Line.TheVariants.{Nothing}
 use Rattle.script_text.specs.declared.version_two.Line2.{Line2}
-use Rattle.script_text.specs.declared.version_two.Line2.TheVariants.{One, Flush}
+use Rattle.script_text.specs.declared.version_two.Line2.TheVariants.{One, Flush, Trigger}
 use Rattle.script_text.specs.declared.line_fault.LineFault.{LineFault}
 use Rattle.script_text.specs.declared.line_fault.LineFault.TheVariants.{LongLine, BadLine}
 use Rattle.script_text.specs.Words.{are_printable, words_in, are_words}
 use Rattle.script_text.specs.Shapes.{shape_named}
 use Rattle.script_text.specs.Lines.{line_of_words, line_of, is_nothing}
-use Rattle.script_text.specs.VersionTwo.{flush_line, is_trigger, trigger_said, trigger_of, as_one, line2_of}
+use Rattle.script_text.specs.VersionTwo.{flush_line, is_trigger, trigger_said, trigger_of, as_one, line2_of, IsSaid2, IsNew}
 
 -- a line of version 1, by the tests on it: too long, empty or a remark, printable, of words; and what the words say
 abbrev one_by : Bool → Bool → Bool → Bool → Result Line LineFault → Result Line LineFault
@@ -115,3 +115,10 @@ module _ (plan : Plan) (line : List ℕ) (bad : line_of plan line ≡ Err BadLin
   pub words_read : bytes_eq flush_line line ≡ false → (are_printable line && are_words 0 (words_in line)) ≡ true →
       trigger_of (words_in line) ≡ line2_of plan line
   words_read e f = sym (by_tests false true e f)
+
+-- and what version 2 alone says is in its ranges
+pub new_is_said : (plan : Plan) (r : Result Line2 LineFault) → IfOk r IsNew → IfOk r (IsSaid2 plan)
+new_is_said plan (Ok (One line)) h = absurd h
+new_is_said plan (Ok Flush) h = tt
+new_is_said plan (Ok (Trigger byte)) h = h
+new_is_said plan (Err fault) h = tt

@@ -59,3 +59,9 @@ abbrev pub IsSaid2 : Plan → Line2 → Type 0
 IsSaid2 plan (One line) = IsSaid plan line
 IsSaid2 plan Flush = Unit {0}
 IsSaid2 plan (Trigger byte) = byte < 256
+
+-- what version 2 alone says
+abbrev pub IsNew : Line2 → Type 0
+IsNew (One line) = ⊥
+IsNew Flush = Unit {0}
+IsNew (Trigger byte) = byte < 256

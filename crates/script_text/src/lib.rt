@@ -20,7 +20,7 @@ mod words;
 
 pub use items::Item;
 pub use line_fault::LineFault;
-pub use lines::{LINE_BYTES, Line, read_into, read_line};
+pub use lines::{LINE_BYTES, Line, TRIGGER_SOURCE, read_into, read_line};
 pub use quick::{PacketLine, packet_line};
 pub use raw_bytes::{RAW_BYTES, RawBytes};
-pub use version_two::{Line2, read_line2};
+pub use version_two::{Line2, read_line2, read_new};

@@ -34,7 +34,7 @@ pub enum Line {
 pub const LINE_BYTES: usize = 256;
 
 /// The source that is never raw: its bytes are triggers.
-pub(crate) const TRIGGER_SOURCE: u8 = 125;
+pub const TRIGGER_SOURCE: u8 = 125;
 
 /// Whether an item is one that its source can have, by what the source sends; bytes are of a source that is not mapped.
 #[inline(always)]

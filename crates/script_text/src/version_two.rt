@@ -4,7 +4,7 @@ ghost use Rattle.std.specs.Prelude.{◌≡◌, Err, IfOk};
 ghost use Rattle.source_events.specs.declared.plan.Plan.{Plan};
 ghost use Rattle.script_text.specs.Words.{texts};
 ghost use Rattle.script_text.specs.Lines.{line_of};
-ghost use Rattle.script_text.specs.VersionTwo.{is_trigger, line2_of, trigger_of, IsSaid2};
+ghost use Rattle.script_text.specs.VersionTwo.{is_trigger, line2_of, trigger_of, IsSaid2, IsNew};
 
 use crate::line_fault::LineFault;
 use crate::lines::{Line, TRIGGER_SOURCE, read_line};
@@ -35,7 +35,7 @@ fn is_trigger(words: &[&[u8]]) -> bool
 #[tactic(auto, unfolding(crate::specs::VersionTwo::trigger_said))]
 fn read_trigger(words: &[&[u8]]) -> Result<Line2, LineFault>
     ensures value { result ≡ trigger_of (texts words.now) }
-    ensures said { (plan : Plan) → IfOk result (IsSaid2 plan) }
+    ensures new { IfOk result IsNew }
 {
     if !is_trigger(words) {
         return Err(LineFault::BadLine);
@@ -49,10 +49,14 @@ fn read_trigger(words: &[&[u8]]) -> Result<Line2, LineFault>
     }
 }
 
-/// What a line says whose words are those of no line of version 1.
-fn read_new(line: &[u8]) -> Result<Line2, LineFault>
+/// What a line says whose words are those of no line of version 1: `Flush` or a `Trigger`.
+///
+/// # Errors
+///
+/// Those that `read_line2` has for such a line.
+pub fn read_new(line: &[u8]) -> Result<Line2, LineFault>
     ensures value { (plan : Plan) → line_of plan line.now ≡ Err LineFault.BadLine → result ≡ line2_of plan line.now }
-    ensures said { (plan : Plan) → IfOk result (IsSaid2 plan) }
+    ensures new { IfOk result IsNew }
 {
     if "flush".as_bytes() == line {
         return Ok(Line2::Flush);

@@ -1,6 +1,6 @@
 //! Captures of several sources in frames: pieces and prefixes of such a capture.
 
-use super::fronts::{items, tagged};
+use super::fronts::{OF_TABLE, items, tagged};
 use super::written::written;
 use super::{LONG_ROOM, answer, output_of};
 use crate::same::same;
@@ -23,7 +23,7 @@ const ALIGNED: [&str; 9] = [
 
 #[test]
 fn pieces_of_any_length_give_one_text(rt: HostRuntime) -> Result<(), Fail> {
-    let bytes = tagged(rt.alloc())?;
+    let bytes = tagged(rt.alloc(), &OF_TABLE)?;
     let calls: [&[&str]; 2] = [
         &["show", "--itm", "1", "--stp", "2"],
         &["check", "--itm", "1", "--stp", "2"],
@@ -49,7 +49,7 @@ fn pieces_of_any_length_give_one_text(rt: HostRuntime) -> Result<(), Fail> {
 
 #[test]
 fn each_prefix_lists_what_its_whole_frames_have(rt: HostRuntime) -> Result<(), Fail> {
-    let bytes = tagged(rt.alloc())?;
+    let bytes = tagged(rt.alloc(), &OF_TABLE)?;
     let capture = written(&rt, 1, 0, &bytes);
     let capture = capture.as_slice();
     let whole = output_of(rt.alloc(), &rt, &ALIGNED, capture)?;

@@ -285,18 +285,74 @@ fn a_system_trace_after_each_front_is_as_in_the_whole(rt: HostRuntime) -> Result
     check_bare(rt.alloc(), &rt, STP, "--stp", Kind::Stp)
 }
 
-/// The bytes of all runs, each with its source.
-pub(super) fn tagged(alloc: Global) -> Result<Vec<(u8, u8)>, AllocError> {
-    let mut bytes = Vec::new(alloc);
-    for (id, run) in RUNS {
+/// Sources that wrote what the table has: each ITM what source 1 has in it, and each system trace what 2 has.
+pub(super) struct Sources {
+    itms: &'static [(u8, &'static str)],
+    stps: &'static [(u8, &'static str)],
+    /// The words of `--itm` and of `--stp` that map them.
+    mapped: (&'static str, &'static str),
+}
+
+/// The sources of the table.
+pub(super) const OF_TABLE: Sources = Sources {
+    itms: &[(1, "1")],
+    stps: &[(2, "2")],
+    mapped: ("1", "2"),
+};
+
+/// Eight of each kind.
+const SIXTEEN: Sources = Sources {
+    itms: &[
+        (1, "1"),
+        (3, "3"),
+        (5, "5"),
+        (7, "7"),
+        (9, "9"),
+        (11, "11"),
+        (13, "13"),
+        (111, "111"),
+    ],
+    stps: &[
+        (2, "2"),
+        (4, "4"),
+        (6, "6"),
+        (8, "8"),
+        (10, "10"),
+        (12, "12"),
+        (14, "14"),
+        (110, "110"),
+    ],
+    mapped: ("111,1,3,5,7,9,11,13", "2,4,6,110,8,10,12,14"),
+};
+
+/// Appends a run of the table, once for each source that wrote it.
+fn put_run(
+    bytes: &mut Vec<(u8, u8)>,
+    sources: &[(u8, &str)],
+    run: &[u8],
+) -> Result<(), AllocError> {
+    for &(id, _) in sources {
         for &byte in run {
             bytes.push((id, byte))?;
+        }
+    }
+    Ok(())
+}
+
+/// The bytes of all runs, each with its source.
+pub(super) fn tagged(alloc: Global, sources: &Sources) -> Result<Vec<(u8, u8)>, AllocError> {
+    let mut bytes = Vec::new(alloc);
+    for (id, run) in RUNS {
+        match id {
+            1 => put_run(&mut bytes, sources.itms, run)?,
+            2 => put_run(&mut bytes, sources.stps, run)?,
+            _ => put_run(&mut bytes, &[(id, "")], run)?,
         }
     }
     Ok(bytes)
 }
 
-/// The bytes of one source.
+/// The bytes of one source of the table.
 fn bytes_of(alloc: Global, id: u8) -> Result<Vec<u8>, AllocError> {
     let mut bytes = Vec::new(alloc);
     for (number, run) in RUNS {
@@ -338,7 +394,7 @@ fn check_mapped(
     let source = id as usize;
     assert!(rt; lost <= capture.len());
     let bytes = output_of(alloc, rt, &["split", "--id", name], &capture[lost..])?;
-    let all = bytes_of(alloc, id)?;
+    let all = bytes_of(alloc, if kind == Kind::Itm { 1 } else { 2 })?;
     assert!(rt; all.ends_with(&bytes), "{id} without {lost} bytes");
     check_last(alloc, rt, (whole, rest), lost, (source, kind))?;
     check_synchronised(rt, &items(alloc, rest, source)?, &bytes, (source, kind));
@@ -346,36 +402,52 @@ fn check_mapped(
 }
 
 /// Each front of what the frame writer writes of all runs.
-fn check_frames(alloc: Global, rt: &impl Abort, every: u32, halves: u8) -> Result<(), Fail> {
-    let bytes = tagged(alloc)?;
+fn check_frames(
+    alloc: Global,
+    rt: &impl Abort,
+    sources: &Sources,
+    (every, halves): (u32, u8),
+) -> Result<(), Fail> {
+    let bytes = tagged(alloc, sources)?;
     let written = written(rt, every, halves, &bytes);
     let capture = written.as_slice();
+    let (itm, stp) = sources.mapped;
     let aligned = [
         "show",
-        "--frames",
-        "aligned",
-        "--packets",
-        "aligned",
+        "--frames=aligned",
+        "--packets=aligned",
         "--itm",
-        "1",
+        itm,
         "--stp",
-        "2",
+        stp,
     ];
     let whole = output_of(alloc, rt, &aligned, capture)?;
     for lost in 0..=capture.len() {
         let left = &capture[lost..];
-        let rest = output_of(alloc, rt, &["show", "--itm", "1", "--stp", "2"], left)?;
+        let rest = output_of(alloc, rt, &["show", "--itm", itm, "--stp", stp], left)?;
         let lock = full_synchronisation(capture, lost);
         let listings: (&[u8], &[u8]) = (&whole, &rest);
         check_port(alloc, rt, listings, (lost, lock))?;
-        check_mapped(alloc, rt, listings, (capture, lost), (1, "1", Kind::Itm))?;
-        check_mapped(alloc, rt, listings, (capture, lost), (2, "2", Kind::Stp))?;
+        for &(id, name) in sources.itms {
+            check_mapped(alloc, rt, listings, (capture, lost), (id, name, Kind::Itm))?;
+        }
+        for &(id, name) in sources.stps {
+            check_mapped(alloc, rt, listings, (capture, lost), (id, name, Kind::Stp))?;
+        }
     }
     Ok(())
 }
 
 #[test]
 fn frames_after_each_front_are_as_in_the_whole(rt: HostRuntime) -> Result<(), Fail> {
-    check_frames(rt.alloc(), &rt, 1, 0)?;
-    check_frames(rt.alloc(), &rt, 3, 1)
+    check_frames(rt.alloc(), &rt, &OF_TABLE, (1, 0))?;
+    check_frames(rt.alloc(), &rt, &OF_TABLE, (3, 1))
+}
+
+#[test]
+fn frames_of_sixteen_sources_after_each_front_are_as_in_the_whole(
+    rt: HostRuntime,
+) -> Result<(), Fail> {
+    check_frames(rt.alloc(), &rt, &SIXTEEN, (1, 0))?;
+    check_frames(rt.alloc(), &rt, &SIXTEEN, (4, 1))
 }

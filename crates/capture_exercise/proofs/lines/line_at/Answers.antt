@@ -1,10 +1,10 @@
 use Rattle.std.proofs.Common.{subst, sym, ◌∙◌, ap}
 use Rattle.std.specs.Prelude.{◌∷◌, []}
-use Rattle.script_text.specs.declared.lines.Line.{Line}
+use Rattle.script_text.specs.declared.version_two.Line2.{Line2}
 use Rattle.trace_vectors.specs.declared.made.Made.{Made}
 use Rattle.trace_vectors.specs.Items.{IsProperMade}
 use Rattle.script_rebuild.specs.Script.{in_order}
-use Rattle.script_rebuild.specs.Writer.{CanBePut}
+use Rattle.script_rebuild.specs.Writer.{CanBePut2}
 use Rattle.capture_exercise.specs.Exercise.{line_of_made}
 use Rattle.capture_exercise.proofs.Saying.{line_said}
 use Rattle.capture_exercise.proofs.lines.line_at.Goals as goal
@@ -13,4 +13,4 @@ pub returns-clause-said : goal.returns-clause-said
 returns-clause-said c =
     let proper = subst (λ (m : Made). IsProperMade m) c.item_at.ensures.value c.item_at.ensures.proper in
     let said = line_said c.args.k proper in
-    subst (λ (l : Line). CanBePut (in_order (2 ∷ [])) l) (sym (c.line_of.ensures ∙ ap line_of_made c.item_at.ensures.value)) said
+    subst (λ (l : Line2). CanBePut2 (in_order (2 ∷ [])) l) (sym (c.line_of.ensures ∙ ap line_of_made c.item_at.ensures.value)) said

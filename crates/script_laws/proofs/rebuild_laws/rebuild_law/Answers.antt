@@ -1,4 +1,4 @@
-use Rattle.script_rebuild.specs.Script.{script_of}
+use Rattle.script_rebuild.specs.Versions.{script_of}
 use Rattle.script_laws.proofs.Said.{script_good}
 use Rattle.script_laws.proofs.Given.{reads_as_given}
 use Rattle.script_laws.proofs.rebuild_laws.rebuild_law.Goals as goal

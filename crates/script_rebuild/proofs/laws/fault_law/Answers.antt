@@ -1,4 +1,4 @@
-use Rattle.script_rebuild.specs.Script.{lines_in}
+use Rattle.script_rebuild.specs.Versions.{lines_in}
 use Rattle.script_rebuild.specs.GrowthLaws.{settled}
 use Rattle.script_rebuild.proofs.Whole.{first_fault}
 use Rattle.script_rebuild.proofs.laws.fault_law.Goals as goal

@@ -10,7 +10,7 @@ returns-clause-stands c = λ seen s.
     let front = take n c.args.piece.now in
     let count = length-take-le n c.args.piece.now c.plain_len-len.ensures.bound in
     let few : length (r.line.items ++ front) ≤ 256 = omega (arith, length-append r.line.items front, count, c.len.ensures.value, c.plain_len-len.ensures.few) in
-    front_stands r _ seen front n refl refl refl refl refl (sym count) c.append.ensures c.requires.live few c.plain_len-len.ensures.plain s
+    front_stands r _ seen front n refl refl refl refl refl refl (sym count) c.append.ensures c.requires.live few c.plain_len-len.ensures.plain s
 
 pub returns-clause-read : goal.returns-clause-read
 returns-clause-read c = λ seen s.

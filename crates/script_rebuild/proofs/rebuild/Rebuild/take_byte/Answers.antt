@@ -9,6 +9,7 @@ returns-then-byte-eq10-clause-taken c = λ seen s.
       plan = refl;
       fault = refl;
       lines = refl;
+      version = refl;
       count = refl;
       writer = refl;
       line_is = sym (c.as_slice-then-byte-eq10.ensures.value ∙ c.append.ensures ∙ ap (λ l. l ++ c.as_slice.result.now) c.new-text.ensures ∙ c.as_slice.ensures.value);

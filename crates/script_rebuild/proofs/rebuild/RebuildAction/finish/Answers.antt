@@ -20,9 +20,9 @@ returns-in-Ok c = record {
       c.append-in-Ok.ensures
       ∙ ap (λ l. l ++ c.as_slice-in-Ok-2.result.now) (c.append.ensures ∙ ap (λ l. l ++ c.as_slice-in-Ok.result.now) c.requires.empty ∙ c.as_slice-in-Ok.ensures.value)
       ∙ ap (λ l. out ++ l) c.as_slice-in-Ok-2.ensures.value
-      ∙ sym (ends_whole r c.put_line.new.writer seen c.as_slice.result.now out c.rest.new.out.items s live few c.as_slice.ensures.value puts
+      ∙ sym (ends_whole r c.put_line.new.writer seen c.as_slice.result.now out c.flush.new.out.items s live few c.as_slice.ensures.value puts
       c.put_line.ensures.plan
-      (c.rest.ensures.whole r.plan.every r.plan.halves (lines ++ puts.line ∷ []) puts.stands));
+      (c.flush.ensures.whole r.plan.every r.plan.halves (lines ++ puts.line ∷ []) puts.stands));
 }
 
 pub returns-in-Err : goal.returns-in-Err

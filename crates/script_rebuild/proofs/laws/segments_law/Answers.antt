@@ -1,5 +1,6 @@
-use Rattle.script_rebuild.proofs.AllSegments.{segments_more, joined_more, items_put}
-use Rattle.script_rebuild.proofs.writer_laws.segments_law.Goals as goal
+use Rattle.script_rebuild.specs.ScriptLaws.{segments_more}
+use Rattle.script_rebuild.proofs.AllSegments.{joined_more, items_put}
+use Rattle.script_rebuild.proofs.laws.segments_law.Goals as goal
 
 pub returns-clause-more : goal.returns-clause-more
 returns-clause-more c = segments_more
