@@ -1,7 +1,7 @@
 -- An item's own packet gives the item back, with its place and its timestamp.
 use Rattle.std.proofs.Common.{◌≡◌, ℕ, ◌^◌, ◌<◌, ◌==◌, List, [], ◌∷◌, ◌++◌, refl, sym, ◌∙◌, ap, subst, arith, Bool, true, false, cond, not, ◌||◌, Option, None, Some}
 use Rattle.std.specs.List.{filter_map, after_last}
-use Rattle.std.proofs.lemmas.Bool.Decides.{nat_tests}
+use Rattle.std.proofs.lemmas.Bool.{eqb-true}
 use Rattle.stp_encoder.specs.Names.{natural_of, gray_of, SizedWord, WordFits, sized, last_word, next_word, Row}
 use Rattle.stp_encoder.specs.Names.{StpPacket, Plain, Stamped, Place, Stamp, None as NoStamp, Natural, Gray, Raw}
 use Rattle.stp_encoder.specs.Names.{StpItem, line_of, IsProper, IsProperStamp, next_master, next_channel, version_of}
@@ -28,9 +28,7 @@ word_fits packets =
 
 version_is : (n : ℕ) (o : Option ℕ) → is_version n o ≡ true → o ≡ Some n
 version_is n None e = cc
-version_is n (Some v) e = ap Some (same v n e) where
-  same : (a b : ℕ) → (a == b) ≡ true → a ≡ b
-  same a b e = grind (arith, nat_tests)
+version_is n (Some v) e = ap Some (eqb-true v n e)
 
 -- the size and the word that a stamp is packed in fit, and tell the stamp
 pub packed_fits : (before : List StpPacket) (stamp : Stamp) (s : SizedWord) → IsProperStamp stamp → packed_stamp before stamp ≡ Some s → WordFits s.size s.word
