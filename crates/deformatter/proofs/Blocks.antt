@@ -3,12 +3,13 @@ use Rattle.std.proofs.Common.{◌≡◌, ◌≢◌, ℕ, zero, suc, ◌+◌, ◌
 use Rattle.std.specs.Prelude.{◌==◌}
 use Rattle.std.specs.List.{range_with_len}
 use Rattle.std.proofs.lemmas.List.{take_more, length-take-le}
+use Rattle.std.proofs.lemmas.Bool.{ne_eqb}
 use Rattle.deformatter.specs.Names.{Mode, Next, Cell, Go, End, Fail, Placed, byte_at, placed_from, Walked, Whole, after}
 use Rattle.deformatter.specs.Names.{walk, StandsIn, hunts, is_locked, IsProperBelow, PortItem, Full, Half, Frame}
 use Rattle.deformatter.specs.Names.{Between, First, One, State, start, rule, offsets_of, pattern}
 use Rattle.trace_values.proofs.Modes as laws
 use Rattle.trace_values.proofs.Placing.{next_placed}
-use Rattle.frame_grammar.proofs.Deciding.{at, no}
+use Rattle.frame_grammar.proofs.Deciding.{at}
 use Rattle.deformatter.specs.Reading.{port_stream, cells_in}
 use Rattle.deformatter.specs.Growth.{PortGrows}
 use Rattle.deformatter.specs.Rule.{step_by, item_step, cells_by}
@@ -82,7 +83,7 @@ the_item v w e = cc
 
 -- a halfword's first byte
 first_byte : (n : ℕ) (f : List Placed) (h : ℕ) (x : Placed) → x.unit ≢ 255 → rule (at n f h Between) x ≡ Go (at n f h (First x))
-first_byte n f h x e = ap (λ (b : Bool). cond {A = Next State PortItem} b (Go (at n f h One)) (Go (at n f h (First x)))) (no x.unit 255 e)
+first_byte n f h x e = ap (λ (b : Bool). cond {A = Next State PortItem} b (Go (at n f h One)) (Go (at n f h (First x)))) (ne_eqb x.unit 255 e)
 
 module _ (m : Mode) (locked : is_locked m ≡ true) where
   abbrev Stands : State → List Placed → Type 0
