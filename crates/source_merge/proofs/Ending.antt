@@ -9,15 +9,12 @@ use Rattle.std.proofs.lemmas.Bool.Decides.{nat_tests}
 use Rattle.std.proofs.lemmas.Grind.{flat_map-append}
 use Rattle.std.proofs.lemmas.List.{map-append}
 use Rattle.std.proofs.lemmas.List.Sums.{sum_by-append, count_by-le-length}
+use Rattle.std.proofs.lemmas.Bool.{or_right, eqb-true}
 use Rattle.source_merge.specs.Names.{Cell, Placed, Stream, Stands, reading_of, Packet, Plan, SourceKind, Itm, Stp, stream_of, sources_by}
 use Rattle.source_merge.specs.Names.{kind_of, PortReading, SourceTail, Mapped, source_tails, tail_by, list_of}
 use Rattle.source_events.proofs.Merges.{test_same, test_other}
 use Rattle.source_merge.specs.declared.slot.Slot.{Slot}
 use Rattle.source_merge.specs.Routing.{mapped_of, AllStand, HasNot}
-
-or_right : (t u : Bool) → u ≡ true → (t || u) ≡ true
-or_right true u e = refl
-or_right false u e = e
 
 -- what the bytes of the first source of this ID read as
 abbrev pub reading_at : {V : Type 0} → ℕ → List (Mapped V) → Option (List Placed → Stream V)
@@ -56,9 +53,6 @@ after_one p n k e = by (nat_lt (1 + p) (suc n)) refl e where
   by true q h = (ap (λ (t : Bool). cond t (Some p) None) (less q), (let z = h in cc))
   by false q h = cc
 
-test_is : (a b : ℕ) → (a == b) ≡ true → a ≡ b
-test_is a b e = grind (arith, nat_tests)
-
 module _ (x : ℕ) where
   pub first_at : (slots : List Slot) (k : ℕ) → position (λ (s : Slot). s.id == x) slots ≡ Some k →
       FirstAt x slots k
@@ -76,7 +70,7 @@ module _ (x : ℕ) where
       parts = refl;
       count = at_zero (length slots) k h;
       own = ap (λ (t : Bool). cond t (Some (reading_of s.machine)) (reading_at x (mapped_of slots))) q;
-      id_is = test_is s.id x q;
+      id_is = eqb-true s.id x q;
     }
     by false q h rest =
         let p = position_or_len (λ (s : Slot). s.id == x) slots in
