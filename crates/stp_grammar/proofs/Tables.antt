@@ -2,14 +2,7 @@
 use Rattle.std.proofs.Common.{◌≡◌, ℕ, zero, suc, ◌<◌, Bool, true, false, refl, ◌∙◌, ap, arith}
 use Rattle.std.specs.Prelude.{◌==◌, ◌&&◌}
 use Rattle.std.proofs.lemmas.Bool.Decides.{nat_tests}
-
-front : (a b : Bool) → (a && b) ≡ true → a ≡ true
-front true b e = refl
-front false b e = cc
-
-rest : (a b : Bool) → (a && b) ≡ true → b ≡ true
-rest true b e = e
-rest false b e = cc
+use Rattle.std.proofs.lemmas.Bool.{and_parts}
 
 -- this is so of all numbers below n
 unfoldable pub under : (ℕ → Bool) → ℕ → Bool
@@ -19,9 +12,9 @@ under p (suc n) = p n && under p n
 pub below : (p : ℕ → Bool) (n k : ℕ) → k < n → under p n ≡ true → p k ≡ true
 unfolding under
 below p zero k l e = absurd (omega arith)
-below p (suc n) k l e = by (λ (h : k < n). below p n k h (rest (p n) (under p n) e)) (k == n) refl where
+below p (suc n) k l e = by (λ (h : k < n). below p n k h (and_parts (p n) (under p n) e).1) (k == n) refl where
   by : (k < n → p k ≡ true) → (t : Bool) → (k == n) ≡ t → p k ≡ true
-  by f true h = ap p (grind (arith, nat_tests)) ∙ front (p n) (under p n) e
+  by f true h = ap p (grind (arith, nat_tests)) ∙ (and_parts (p n) (under p n) e).0
   by f false h = f (grind (arith, nat_tests))
 
 unfoldable pub same : Bool → Bool → Bool
