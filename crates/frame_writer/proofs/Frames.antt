@@ -3,7 +3,7 @@ use Rattle.std.proofs.Common.{◌≡◌, ℕ, zero, suc, ◌+◌, ◌-◌, ◌*�
 use Rattle.std.specs.Prelude.{◌==◌, ◌&&◌, not, nat_lt}
 use Rattle.std.proofs.lemmas.Bool.Decides.{nat_tests}
 use Rattle.std.proofs.lemmas.List.{length_push}
-use Rattle.std.proofs.lemmas.Bool.{eqb-true}
+use Rattle.std.proofs.lemmas.Bool.{eqb-true, and_parts}
 use Rattle.frame_writer.specs.declared.pair.Pair.{Pair}
 use Rattle.frame_writer.specs.Written.{Tagged, Later, segments_then, first, after_first, is_id, paired, closed, Paired, Closed, Filled, with_pair, filled, frame_bytes, frames_by, frames_from, known, is_due, following, naming, is_odd}
 use Rattle.frame_writer.specs.Unfinished.{queued, middle, continued, is_empty, is_sound}
@@ -133,10 +133,6 @@ same_id i = grind (arith, nat_tests)
 not_eq : (i j : ℕ) → (i == j) ≡ false → (j == i) ≡ false
 not_eq i j e = grind (arith, nat_tests)
 
-both : (a b : Bool) → (a && b) ≡ true → b ≡ true
-both true b e = e
-both false b e = cc
-
 module _ (every halves : ℕ) (later : Later) where
   due_not : (b : Bool) (i : ℕ) → not (true && b) ≡ true → cond b None (Some i) ≡ Some i
   due_not true i e = cc
@@ -149,7 +145,7 @@ module _ (every halves : ℕ) (later : Later) where
   known_is : (n : ℕ) (c held : Option ℕ) → is_sound every n [] c held ≡ true → known every n c ≡ c
   known_is n None held e = either (is_due every n) None
   known_is n (Some i) None e = due_not (is_due every n) i e
-  known_is n (Some i) (Some b) e = due_not (is_due every n) i (both (nat_lt 0 i && true) (not (true && is_due every n)) e)
+  known_is n (Some i) (Some b) e = due_not (is_due every n) i (and_parts (nat_lt 0 i && true) (not (true && is_due every n)) e).1
 
   in_middle : (n : ℕ) (pairs : List Pair) (c held : Option ℕ) (t u : List Tagged) (x : Tagged) → is_sound every n pairs c held ≡ true → queued held c t ≡ x ∷ u →
       continued every halves later n pairs c held t ≡ middle every halves later n pairs c (x ∷ u)
