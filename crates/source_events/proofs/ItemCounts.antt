@@ -7,7 +7,7 @@ use Rattle.std.specs.List.{All}
 use Rattle.std.proofs.lemmas.List.{length-append}
 use Rattle.std.proofs.lemmas.List.Sums.{sum_by-cons}
 use Rattle.std.proofs.lemmas.Grind.{flat_map-append}
-use Rattle.std.proofs.lemmas.Bool.{and_left, and_right}
+use Rattle.std.proofs.lemmas.Bool.{and_left, and_right, and_parts}
 use Rattle.trace_values.specs.declared.cell.Cell.{Cell}
 use Rattle.trace_values.specs.Placed.{Place, byte_at}
 use Rattle.frame_grammar.specs.Reading.{is_source, source_list}
@@ -57,10 +57,6 @@ or_same : (a b : Bool) → (a ≡ true → b ≡ true) → (a || b) ≡ b
 or_same true b h = sym (h refl)
 or_same false b h = refl
 
-and_test : (a b : Bool) → (a && b) ≡ true → b ≡ true
-and_test true b e = e
-and_test false b e = cc
-
 abbrev Few : List Cell → Type 0
 Few [] = Unit {0}
 Few (c ∷ cells) = (c.run ≤ 8) × Few cells
@@ -86,7 +82,7 @@ module _ (x : ℕ) where
   count_old c d cells e r =
       count_same (has_run x (c ∷ (d ∷ cells))) (has_run x (d ∷ cells)) 0 9
       (λ k l. or_same (is_source x c.id && c.run == k) (has_run x (d ∷ cells) k)
-      (λ h. there k (and_test (is_source x c.id) (c.run == k) h))) where
+      (λ h. there k (and_parts (is_source x c.id) (c.run == k) h).1)) where
         there : (k : ℕ) → (c.run == k) ≡ true → has_run x (d ∷ cells) k ≡ true
         there k h =
             ap (λ (b : Bool). (b && d.run == k) || has_run x cells k) e
