@@ -10,6 +10,7 @@ use Rattle.std.proofs.lemmas.Grind.{flat_map-append}
 use Rattle.std.proofs.lemmas.List.{map-append}
 use Rattle.std.proofs.lemmas.List.Sums.{sum_by-append, count_by-le-length}
 use Rattle.std.proofs.lemmas.Bool.{or_right, eqb-true}
+use Rattle.frame_grammar.proofs.CellLaws.{range_push}
 use Rattle.source_merge.specs.Names.{Cell, Placed, Stream, Stands, reading_of, Packet, Plan, SourceKind, Itm, Stp, stream_of, sources_by}
 use Rattle.source_merge.specs.Names.{kind_of, PortReading, SourceTail, Mapped, source_tails, tail_by, list_of}
 use Rattle.source_events.proofs.Merges.{test_same, test_other}
@@ -193,20 +194,13 @@ pub below_all : (n : ℕ) (slots : List Slot) → below n slots ≤ length slots
 unfolding below
 below_all n slots = count_by-le-length (λ (s : Slot). nat_lt s.id n) slots
 
-range_more : (a n : ℕ) → range_with_len a (suc n) ≡ range_with_len a n ++ (a + n) ∷ []
-range_more a zero = ap (λ (x : ℕ). x ∷ []) (let e : a ≡ a + 0 = omega arith in e)
-range_more a (suc n) =
-    ap (λ (l : List ℕ). a ∷ l)
-    (range_more (a + 1) n
-    ∙ (let e : a + 1 + n ≡ a + suc n = omega arith in ap (λ (x : ℕ). range_with_len (a + 1) n ++ x ∷ []) e))
-
 -- the tails of one more ID
 pub tails_more : (plan : Plan) (r : PortReading) (n : ℕ) →
     source_tails plan r (n + 1) ≡ source_tails plan r n ++ tail_by plan r n (kind_of plan n)
 unfolding source_tails
 tails_more plan r n =
     ap (λ (m : ℕ). flat_map one (range_with_len 0 m)) (let e : n + 1 ≡ suc n = omega arith in e)
-    ∙ ap (flat_map one) (range_more 0 n ∙ ap (λ (m : ℕ). range_with_len 0 n ++ m ∷ []) (let e : 0 + n ≡ n = omega arith in e))
+    ∙ ap (flat_map one) (range_push 0 n ∙ ap (λ (m : ℕ). range_with_len 0 n ++ m ∷ []) (let e : 0 + n ≡ n = omega arith in e))
     ∙ flat_map-append one (range_with_len 0 n) (n ∷ [])
     ∙ ap (λ (l : List SourceTail). flat_map one (range_with_len 0 n) ++ l) (append-nil (one n)) where
       one : ℕ → List SourceTail
