@@ -64,7 +64,3 @@ took_part a b c piece rest part after t e p =
         count = (let n = old.count in let m = p.count in let k = length-append t.front part in omega (arith, n, m, k));
       };
     }
-
-pub took_all : (a b : TraceBuffer) (piece rest : List ℕ) → Took a b piece rest → rest ≡ [] → Takes a b piece
-took_all a b piece rest t e =
-    subst (Takes a b) (sym (t.parts ∙ ap (λ (l : List ℕ). t.front ++ l) e ∙ append-nil t.front)) t.taken

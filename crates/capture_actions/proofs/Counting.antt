@@ -2,17 +2,12 @@
 use Rattle.std.proofs.Common.{◌≡◌, ℕ, zero, suc, ◌+◌, List, [], ◌∷◌, ◌++◌, flat_map, append-nil, append_assoc, sym, ◌∙◌, ap, arith}
 use Rattle.std.specs.List.{range_with_len}
 use Rattle.std.proofs.lemmas.Grind.{flat_map-append}
+use Rattle.frame_grammar.proofs.CellLaws.{range_push}
 use Rattle.capture_actions.specs.Names.{Placed, Plan, port_counts_of, source_counts_of, tails_of, port_counts_text}
 use Rattle.capture_actions.specs.Names.{tails_text, ID_COUNT}
 use Rattle.source_events.specs.declared.tails.PortCounts.{PortCounts}
 use Rattle.source_events.specs.declared.tails.Tails.{Tails}
 use Rattle.capture_actions.specs.Summary.{source_text, sources_text, counts_text}
-
-range_more : (a n : ℕ) → range_with_len a (suc n) ≡ range_with_len a n ++ (a + n) ∷ []
-range_more a zero = (let e : a ≡ a + 0 = omega arith in ap (λ (x : ℕ). x ∷ []) e)
-range_more a (suc n) =
-    ap (λ (l : List ℕ). a ∷ l) (range_more (a + 1) n
-    ∙ (let e : a + 1 + n ≡ a + suc n = omega arith in ap (λ (x : ℕ). range_with_len (a + 1) n ++ x ∷ []) e))
 
 -- one more ID has its own line after those before it
 pub sources_more : (plan : Plan) (u : List Placed) (n : ℕ) →
@@ -23,7 +18,7 @@ sources_more plan u n =
     let next : n + 1 ≡ suc n = omega arith in
     let here : 0 + n ≡ n = omega arith in
     ap (λ (m : ℕ). flat_map line (range_with_len 0 m)) next
-    ∙ ap (flat_map line) (range_more 0 n ∙ ap (λ (m : ℕ). range_with_len 0 n ++ m ∷ []) here)
+    ∙ ap (flat_map line) (range_push 0 n ∙ ap (λ (m : ℕ). range_with_len 0 n ++ m ∷ []) here)
     ∙ flat_map-append line (range_with_len 0 n) (n ∷ [])
     ∙ ap (λ (l : List ℕ). flat_map line (range_with_len 0 n) ++ l) (append-nil (line n))
 

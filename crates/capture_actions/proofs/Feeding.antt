@@ -2,10 +2,10 @@
 use Rattle.std.proofs.Common.{◌≡◌, ℕ, suc, ◌+◌, List, [], ◌∷◌, ◌++◌, length, refl, sym, ◌∙◌, ap, subst, append_assoc}
 use Rattle.std.proofs.Common.{arith, Option, None, Some, true, false}
 use Rattle.std.specs.Prelude.{is_none, option_map}
+use Rattle.capture_actions.proofs.Ports.{next_bytes}
 use Rattle.capture_actions.specs.Names.{Reason, Place, Placed, placed_from, placed, FaultAfter}
 use Rattle.capture_actions.specs.Names.{offsets_of, Event, Stop, Packet, Plan, stop_of, report_of, fault_of, Going}
 use Rattle.capture_actions.specs.Names.{Engine, Stands, is_live, plan_of}
-use Rattle.trace_values.proofs.Placing.{placed_append}
 use Rattle.deformatter.specs.Rising.{end_at}
 use Rattle.source_merge.specs.Answering.{fault_by, goes_on as is_on}
 use Rattle.source_merge.specs.declared.flow.Flow.{Flow}
@@ -17,11 +17,6 @@ use Rattle.capture_actions.specs.Stopping.{is_stopped, stop_by}
 
 abbrev pub Fault : Type 0
 Fault = Option (Place × (Reason × Option ℕ))
-
--- offsets of a capture
-pub next_bytes : (seen bytes : List ℕ) (at : ℕ) → at ≡ length seen →
-    placed seen ++ placed_from at bytes ≡ placed (seen ++ bytes)
-next_bytes seen bytes at e = ap (λ (n : ℕ). placed seen ++ placed_from n bytes) e ∙ sym (placed_append seen bytes)
 
 end_from : (at : ℕ) (bytes : List ℕ) → end_at at (offsets_of (placed_from at bytes)) ≡ at + length bytes
 end_from at [] = (let k : at ≡ at + 0 = omega arith in k)

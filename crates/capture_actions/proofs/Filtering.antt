@@ -1,17 +1,14 @@
 -- What is listed after one more event.
-use Rattle.std.proofs.Common.{◌≡◌, Bool, true, false, ◌&&◌, ◌||◌, List, [], ◌∷◌, ◌++◌, refl, sym, ◌∙◌, ap, append-nil, cond, Option, not}
+use Rattle.std.proofs.Common.{◌≡◌, Bool, true, false, ◌&&◌, ◌||◌, List, [], ◌∷◌, ◌++◌, refl, sym, ◌∙◌, ap, cond, Option, not}
 use Rattle.std.proofs.lemmas.List.Elements.{filter-append}
+use Rattle.std.proofs.lemmas.Bool.{or_right}
 use Rattle.capture_actions.specs.Names.{Event, Packet, is_item, Bounds, Choice}
 use Rattle.capture_actions.specs.Listing.{items_in, meets, is_within, is_listed}
-
-or_true : (b : Bool) → (b || true) ≡ true
-or_true true = refl
-or_true false = refl
 
 -- two answers of which each is true for a notice
 pub both_or_notice : (a b n : Bool) → ((a || n) && (b || n)) ≡ (a && b || n)
 both_or_notice true b n = refl
-both_or_notice false b true = or_true b
+both_or_notice false b true = or_right b true refl
 both_or_notice false b false = refl
 
 -- an event that is within the window or a notice is listed if it meets the choice or is a notice
@@ -31,8 +28,3 @@ pub item_more : (es : List (Event Packet)) (e : Event Packet) → is_item e.what
     items_in (es ++ e ∷ []) ≡ items_in es ++ e ∷ []
 item_more es e h =
     items_more es e ∙ ap (λ (b : Bool). items_in es ++ cond b (e ∷ []) []) h
-
-pub notice_more : (es : List (Event Packet)) (e : Event Packet) → is_item e.what ≡ false →
-    items_in (es ++ e ∷ []) ≡ items_in es
-notice_more es e h =
-    items_more es e ∙ ap (λ (b : Bool). items_in es ++ cond b (e ∷ []) []) h ∙ append-nil (items_in es)

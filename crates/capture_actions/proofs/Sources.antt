@@ -10,7 +10,7 @@ use Rattle.capture_actions.specs.Clocks.{Stands}
 use Rattle.capture_actions.specs.Listing.{itm_packet, itm_packets}
 use Rattle.capture_actions.specs.LineLaws.{packets_push}
 use Rattle.capture_actions.specs.Remarks.{is_stamp}
-use Rattle.capture_actions.proofs.Timing.{after_other, no_deltas, no_stamps}
+use Rattle.capture_actions.proofs.Timing.{after_other, no_times}
 
 same_number : (id x : ℕ) → x ≡ id → (id == x) ≡ true
 same_number id x h = grind (arith, nat_tests)
@@ -58,7 +58,7 @@ module _ (es : List (Event Packet)) (e : Event Packet) (packet : ItmPacket) (id 
       Stands k (itm_packets (Some x) (es ++ e ∷ []))
   stand_same other x k stands = elim (cases_eq x id) [
     | inl h ↦ subst (Stands k) (sym (own x h))
-        (after_other k (itm_packets (Some x) es) packet (no_deltas packet other) (no_stamps packet other) stands)
+        (after_other k (itm_packets (Some x) es) packet (no_times packet other).0 (no_times packet other).1 stands)
     | inr h ↦ subst (Stands k) (sym (another x h)) stands
   ]
 

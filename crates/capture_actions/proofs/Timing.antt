@@ -30,25 +30,15 @@ after_other clocks packets p d s b = after_push clocks clocks packets p b
     (subst (clock.Stands clocks.global) (sym (append-nil (flat_map stamps_in packets)) ∙ ap (λ (l : List GlobalStamp). flat_map stamps_in packets ++ l) (sym s)) b.global)
 
 -- a packet that is no timestamp has no ticks and no time, and nothing is beside it
-pub no_deltas : (p : ItmPacket) → is_stamp p ≡ false → deltas_in p ≡ []
-no_deltas Sync h = refl
-no_deltas Overflow h = refl
-no_deltas (Software port size v) h = refl
-no_deltas (Hardware disc size v) h = refl
-no_deltas (Local l delta) h = cc
-no_deltas (GlobalFirst len v c w) h = cc
-no_deltas (GlobalSecond wide v) h = cc
-no_deltas (Extension dwt v) h = refl
-
-pub no_stamps : (p : ItmPacket) → is_stamp p ≡ false → stamps_in p ≡ []
-no_stamps Sync h = refl
-no_stamps Overflow h = refl
-no_stamps (Software port size v) h = refl
-no_stamps (Hardware disc size v) h = refl
-no_stamps (Local l delta) h = cc
-no_stamps (GlobalFirst len v c w) h = cc
-no_stamps (GlobalSecond wide v) h = cc
-no_stamps (Extension dwt v) h = refl
+pub no_times : (p : ItmPacket) → is_stamp p ≡ false → (deltas_in p ≡ []) × (stamps_in p ≡ [])
+no_times Sync h = (refl, refl)
+no_times Overflow h = (refl, refl)
+no_times (Software port size v) h = (refl, refl)
+no_times (Hardware disc size v) h = (refl, refl)
+no_times (Local l delta) h = ((cc), (cc))
+no_times (GlobalFirst len v c w) h = ((cc), (cc))
+no_times (GlobalSecond wide v) h = ((cc), (cc))
+no_times (Extension dwt v) h = (refl, refl)
 
 pub no_remark : (packets : List ItmPacket) (p : ItmPacket) → is_stamp p ≡ false → remark_by packets p ≡ NoRemark
 no_remark packets Sync h = refl

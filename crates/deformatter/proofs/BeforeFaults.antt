@@ -10,6 +10,7 @@ use Rattle.deformatter.specs.Names.{with_part, pattern}
 use Rattle.trace_values.specs.Hunted.{Hunt}
 use Rattle.std.proofs.lemmas.List.{length-append}
 use Rattle.std.proofs.Math.Seq.{drop-append_seam}
+use Rattle.std.proofs.lemmas.Bool.{eqb-true}
 use Rattle.frame_grammar.proofs.Deciding.{ended_never}
 use Rattle.trace_values.proofs.Standings.{progress_push}
 use Rattle.trace_values.proofs.HuntSteps.{Seeks-empty, Seeks-fed}
@@ -35,11 +36,8 @@ PartEndsNext (Go t) u = PartEnds t.part u
 PartEndsNext (End v) u = Unit {0}
 PartEndsNext (Fail e) u = Unit {0}
 
-eq_of : (a b : ℕ) → (a == b) ≡ true → a ≡ b
-eq_of a b e = (let k = e in grind arith)
-
 is_ff : (x : Placed) → (x.unit == 255) ≡ true → x ≡ ff x.place
-is_ff x e = ap (λ (n : ℕ). record { unit = n; place = x.place }) (eq_of x.unit 255 e)
+is_ff x e = ap (λ (n : ℕ). record { unit = n; place = x.place }) (eqb-true x.unit 255 e)
 
 begins : (s : State) (u : List Placed) (x : Placed) (t : Bool) → (x.unit == 255) ≡ t →
     PartEndsNext (if t then Go (with_part s One) else Go (with_part s (First x))) (u ++ x ∷ [])

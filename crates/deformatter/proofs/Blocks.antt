@@ -3,12 +3,14 @@ use Rattle.std.proofs.Common.{◌≡◌, ◌≢◌, ℕ, zero, suc, ◌+◌, ◌
 use Rattle.std.specs.Prelude.{◌==◌}
 use Rattle.std.specs.List.{range_with_len}
 use Rattle.std.proofs.lemmas.List.{take_more, length-take-le}
+use Rattle.std.proofs.lemmas.Bool.{ne_eqb}
+use Rattle.frame_grammar.proofs.CellLaws.{range_push}
 use Rattle.deformatter.specs.Names.{Mode, Next, Cell, Go, End, Fail, Placed, byte_at, placed_from, Walked, Whole, after}
 use Rattle.deformatter.specs.Names.{walk, StandsIn, hunts, is_locked, IsProperBelow, PortItem, Full, Half, Frame}
 use Rattle.deformatter.specs.Names.{Between, First, One, State, start, rule, offsets_of, pattern}
 use Rattle.trace_values.proofs.Modes as laws
 use Rattle.trace_values.proofs.Placing.{next_placed}
-use Rattle.frame_grammar.proofs.Deciding.{at, no}
+use Rattle.frame_grammar.proofs.Deciding.{at}
 use Rattle.deformatter.specs.Reading.{port_stream, cells_in}
 use Rattle.deformatter.specs.Growth.{PortGrows}
 use Rattle.deformatter.specs.Rule.{step_by, item_step, cells_by}
@@ -23,14 +25,8 @@ pub offsets_are : (from : ℕ) (bytes : List ℕ) → offsets_of (placed_from fr
 offsets_are from [] = refl
 offsets_are from (b ∷ bytes) = ap (λ (l : List ℕ). from ∷ l) (offsets_are (from + 1) bytes)
 
-range_suc : (from n : ℕ) → range_with_len from (suc n) ≡ range_with_len from n ++ (from + n) ∷ []
-range_suc from zero = ap (λ (k : ℕ). k ∷ []) (let e : from ≡ from + 0 = omega arith in e)
-range_suc from (suc n) =
-    ap (λ (l : List ℕ). from ∷ l) (range_suc (from + 1) n
-    ∙ ap (λ (k : ℕ). range_with_len (from + 1) n ++ k ∷ []) (let e : from + 1 + n ≡ from + suc n = omega arith in e))
-
 pub range_more : (from n : ℕ) → range_with_len from (n + 1) ≡ range_with_len from n ++ (from + n) ∷ []
-range_more from n = ap (range_with_len from) (let e : n + 1 ≡ suc n = omega arith in e) ∙ range_suc from n
+range_more from n = ap (range_with_len from) (let e : n + 1 ≡ suc n = omega arith in e) ∙ range_push from n
 
 -- a quiet byte has no cells
 pub silent_cells : (from : ℕ) (s : State) (id : Option ℕ) (n : Next State PortItem) → step_by from s n ≡ Quiet → cells_by id n ≡ []
@@ -82,7 +78,7 @@ the_item v w e = cc
 
 -- a halfword's first byte
 first_byte : (n : ℕ) (f : List Placed) (h : ℕ) (x : Placed) → x.unit ≢ 255 → rule (at n f h Between) x ≡ Go (at n f h (First x))
-first_byte n f h x e = ap (λ (b : Bool). cond {A = Next State PortItem} b (Go (at n f h One)) (Go (at n f h (First x)))) (no x.unit 255 e)
+first_byte n f h x e = ap (λ (b : Bool). cond {A = Next State PortItem} b (Go (at n f h One)) (Go (at n f h (First x)))) (ne_eqb x.unit 255 e)
 
 module _ (m : Mode) (locked : is_locked m ≡ true) where
   abbrev Stands : State → List Placed → Type 0

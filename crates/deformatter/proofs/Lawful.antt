@@ -1,8 +1,8 @@
 -- What the port's rule keeps: two and three FF are between frames, and between frames no half synchronisation is counted.
-use Rattle.std.proofs.Common.{◌≡◌, ◌≢◌, ℕ, zero, suc, ◌+◌, ◌≤◌, List, [], ◌∷◌, ◌++◌, length, refl, sym, ◌⊎◌, inl, inr, arith, subst, Bool, true, false, cond, length-append, Option, None, Some}
+use Rattle.std.proofs.Common.{◌≡◌, ℕ, zero, suc, ◌+◌, ◌≤◌, List, [], ◌∷◌, ◌++◌, length, refl, sym, ◌⊎◌, inl, inr, arith, subst, Bool, true, false, cond, length-append, Option, None, Some}
 use Rattle.std.specs.Prelude.{◌==◌}
-use Rattle.std.proofs.lemmas.Bool.Decides.{nat_tests}
 use Rattle.std.proofs.lemmas.List.{length_push}
+use Rattle.std.proofs.lemmas.Bool.{eqb-true, eqb-false}
 use Rattle.deformatter.specs.Names.{Reason, BadSync, SyncInFrame, Next, Go, End, Fail, Place, Placed, Progress}
 use Rattle.deformatter.specs.Names.{with_unit, advance, progress_from, unread, progress, PortItem, Full, Half, Frame}
 use Rattle.deformatter.specs.Names.{Part, Between, First, One, Two, Three, State, start, word_ended, part_rule, rule}
@@ -27,12 +27,6 @@ Lawful s (End Full) = s.halves ≡ 0
 Lawful s (End Half) = s.halves ≡ 0
 Lawful s (End (Frame bytes halves)) = halves ≡ s.halves
 Lawful s (Fail e) = Unit {0}
-
-is_yes : (a b : ℕ) → (a == b) ≡ true → a ≡ b
-is_yes a b e = grind (arith, nat_tests)
-
-is_no : (a b : ℕ) → (a == b) ≡ false → a ≢ b
-is_no a b e h = let k : (a == b) ≡ true = grind (arith, nat_tests) in cc
 
 abbrev pick : Bool → Next State PortItem → Next State PortItem → Next State PortItem
 pick t x y = cond t x y
@@ -60,10 +54,10 @@ lawful_at n f h (First a) x s = worded n f h a x s
 lawful_at n f h One x s = by (x.unit == 127) (x.unit == 255) (n == 7) refl where
   by : (t u w : Bool) → (n == 7) ≡ w → Lawful (at n f h One)
       (pick t (pick (n == 7) (End Half) (Go (at n f (h + 1) Between))) (pick u (pick (n == 7) (Go (at n f h Two)) (Fail SyncInFrame)) (Fail BadSync)))
-  by true u true e = subst (λ (z : Bool). Lawful (at n f h One) (pick z (End Half) (Go (at n f (h + 1) Between)))) (sym e) (s.none (is_yes n 7 e))
+  by true u true e = subst (λ (z : Bool). Lawful (at n f h One) (pick z (End Half) (Go (at n f (h + 1) Between)))) (sym e) (s.none (eqb-true n 7 e))
   by true u false e = subst (λ (z : Bool). Lawful (at n f h One) (pick z (End Half) (Go (at n f (h + 1) Between)))) (sym e)
-      (record { within = s.within; none = λ k. absurd (is_no n 7 e k); fits = tt }, inr refl, omega arith)
-  by false true true e = subst (λ (z : Bool). Lawful (at n f h One) (pick z (Go (at n f h Two)) (Fail SyncInFrame))) (sym e) (parted n f h One Two s (is_yes n 7 e) refl)
+      (record { within = s.within; none = λ k. absurd (eqb-false n 7 e k); fits = tt }, inr refl, omega arith)
+  by false true true e = subst (λ (z : Bool). Lawful (at n f h One) (pick z (Go (at n f h Two)) (Fail SyncInFrame))) (sym e) (parted n f h One Two s (eqb-true n 7 e) refl)
   by false true false e = subst (λ (z : Bool). Lawful (at n f h One) (pick z (Go (at n f h Two)) (Fail SyncInFrame))) (sym e) tt
   by false false w e = tt
 lawful_at n f h Two x s = by (x.unit == 255) where

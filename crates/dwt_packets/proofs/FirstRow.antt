@@ -1,8 +1,9 @@
 -- The first row of the table that fits.
 use Rattle.std.proofs.Common.{◌≡◌, ℕ, Bool, true, false, refl, List, [], ◌∷◌, ◌++◌, cond, Some, ◌<◌, arith}
-use Rattle.std.specs.Prelude.{find, ◌||◌}
+use Rattle.std.specs.Prelude.{find}
 use Rattle.std.specs.List.{list_any}
 use Rattle.std.specs.Option.{option_map_or}
+use Rattle.std.proofs.lemmas.Bool.{or_parts}
 use Rattle.itm_grammar.specs.declared.packet.Size.{Size}
 use Rattle.dwt_packets.specs.declared.item.DwtItem.{DwtItem}
 use Rattle.dwt_packets.specs.declared.item.DwtItem.TheVariants.{Other}
@@ -25,10 +26,6 @@ each_comparator P each =
     (each_append P (comparator_rows 1) (comparator_rows 2 ++ comparator_rows 3) (each 1 (omega arith))
     (each_append P (comparator_rows 2) (comparator_rows 3) (each 2 (omega arith)) (each 3 (omega arith))))
 
-neither : (t u : Bool) → (t || u) ≡ false → (t ≡ false) × (u ≡ false)
-neither true u e = cc
-neither false u e = (refl, e)
-
 -- what the first row that fits gives, of any rows
 abbrev named_by : ℕ → Size → ℕ → List Row → DwtItem
 named_by d s v rows = option_map_or (λ row. row.item s v) (find (fits d s v) rows) (Other d s v)
@@ -47,7 +44,7 @@ by_rows P d s v (row ∷ rows) each other = by_test (fits d s v row) refl (λ e.
 none_of : (d : ℕ) (s : Size) (v : ℕ) (rows : List Row) → list_any (fits d s v) rows ≡ false → named_by d s v rows ≡ Other d s v
 none_of d s v [] none = refl
 none_of d s v (row ∷ rows) none =
-    let n = neither (fits d s v row) (list_any (fits d s v) rows) none in rw n.0 (none_of d s v rows n.1)
+    let n = or_parts (fits d s v row) (list_any (fits d s v) rows) none in rw n.0 (none_of d s v rows n.1)
 
 -- A name has a property where each row that fits has it, and another item has it where none does.
 pub by_table : (P : DwtItem → Type 0) (d : ℕ) (s : Size) (v : ℕ) →

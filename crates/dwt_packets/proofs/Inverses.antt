@@ -2,6 +2,7 @@
 use Rattle.std.proofs.Common.{◌≡◌, ℕ, zero, suc, ◌+◌, ◌*◌, ◌^◌, ◌<◌, Bool, true, false, refl, subst, ◌∙◌, arith}
 use Rattle.std.specs.Prelude.{IsTrue, ◌↔◌, nat_lt, ◌==◌, ◌&&◌}
 use Rattle.std.proofs.lemmas.Bool.Decides.{nat_tests}
+use Rattle.std.proofs.lemmas.Bool.{eqb-true}
 use Rattle.itm_grammar.specs.declared.packet.Size.{Size}
 use Rattle.itm_grammar.specs.declared.packet.Size.TheVariants.{One, Two, Four}
 use Rattle.itm_grammar.specs.Spelling.{byte_count}
@@ -55,9 +56,6 @@ exception_again v h e =
     let k = reserved_and_change (bits 15 14 v) (bits 11 9 v) (bits 13 12 v) e in
     rw (change_again (bits 13 12 v) k.2 (omega arith)) (omega arith)
 
-same : (n m : ℕ) → (n == m) ≡ true → n ≡ m
-same n m e = grind (arith, nat_tests)
-
 -- an item of a packet: it has that packet, and is in its range
 abbrev pub Inverse : ℕ → Size → ℕ → DwtItem → Type 0
 Inverse d s v item = (packet item ≡ (d, s, v)) × IsInRange item
@@ -101,7 +99,7 @@ inverse d s v g h = by_table (Inverse d s v) d s v
         let f = fitting d 0 (one s) (bits 7 6 v == 0) e in
         let z = is_one s f.1 in
         let k : v < 256 ^ 1 = fits_in s One v z h in
-        let n : bits 7 6 v ≡ 0 = same (bits 7 6 v) 0 f.2 in
+        let n : bits 7 6 v ≡ 0 = eqb-true (bits 7 6 v) 0 f.2 in
         of_row d 0 s One v (Counters v) refl f.0 z (omega arith)
 
     exceptions : (d == 1 && (two s && is_exception v)) ≡ true → Inverse d s v (Exception (bits 8 0 v) (change_of (bits 13 12 v)))
@@ -120,7 +118,7 @@ inverse d s v g h = by_table (Inverse d s v) d s v
     sleeps e =
         let f = fitting d 2 (one s) (v == 0) e in
         let z = is_one s f.1 in
-        let n = same v 0 f.2 in of_row d 2 s One v Asleep (rw n refl) f.0 z tt
+        let n = eqb-true v 0 f.2 in of_row d 2 s One v Asleep (rw n refl) f.0 z tt
 
 -- what holds of each comparator
 each_of_four : (P : ℕ → Type 0) → P 0 × P 1 × P 2 × P 3 → (c : ℕ) → c < 4 → P c

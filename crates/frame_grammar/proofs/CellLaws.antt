@@ -57,7 +57,8 @@ rises_push xs m c h r = record {
   below = All-append (λ x. x.run ≤ c.run) xs (c ∷ []) (all_up xs m c.run h r.below) (one (λ x. x.run ≤ c.run) c (omega arith));
 }
 
-range_push : (a n : ℕ) → range_with_len a (suc n) ≡ range_with_len a n ++ (a + n) ∷ []
+-- one number more
+pub range_push : (a n : ℕ) → range_with_len a (suc n) ≡ range_with_len a n ++ (a + n) ∷ []
 range_push a zero = ap (λ (x : ℕ). x ∷ []) (let e : a ≡ a + 0 = omega arith in e)
 range_push a (suc n) = ap (λ (l : List ℕ). a ∷ l) (range_push (a + 1) n ∙ ap (λ (x : ℕ). range_with_len (a + 1) n ++ x ∷ []) (let e : a + 1 + n ≡ a + suc n = omega arith in e))
 

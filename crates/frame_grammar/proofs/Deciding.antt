@@ -1,7 +1,7 @@
 -- The rule decides the port grammar.
 use Rattle.std.proofs.Common.{◌≡◌, ◌≢◌, ℕ, zero, suc, ◌+◌, ◌<◌, ◌≤◌, List, [], ◌∷◌, ◌++◌, refl, sym, ◌∙◌, ap, ◌⊎◌, inl, inr, arith, subst, Bool, true, false, cond, append_assoc}
 use Rattle.std.specs.Prelude.{◌==◌}
-use Rattle.std.proofs.lemmas.Bool.Decides.{nat_tests}
+use Rattle.std.proofs.lemmas.Bool.{eq-eqb, ne_eqb, eqb-true, eqb-false}
 use Rattle.frame_grammar.specs.Names.{Reason, BadSync, SyncInFrame, Next, Go, End, Fail, Placed, byte_at, units_of}
 use Rattle.frame_grammar.specs.Names.{Walked, Within, Whole, after, walk, Decides}
 use Rattle.trace_values.proofs.Walks as walks
@@ -13,32 +13,20 @@ at n f h p = record { left = n; bytes = f; halves = h; part = p }
 abbrev pub on : State → List Placed → Walked State PortItem
 on s r = walk rule s r
 
-pub yes : (a b : ℕ) → a ≡ b → (a == b) ≡ true
-yes a b e = grind (arith, nat_tests)
-
-pub no : (a b : ℕ) → a ≢ b → (a == b) ≡ false
-no a b e = grind (arith, nat_tests)
-
-pub is_yes : (a b : ℕ) → (a == b) ≡ true → a ≡ b
-is_yes a b e = grind (arith, nat_tests)
-
-pub is_no : (a b : ℕ) → (a == b) ≡ false → a ≢ b
-is_no a b e h = let k = yes a b h in cc
-
 -- the walk after a unit of which the rule says this
 says : (s : State) (x : Placed) (r : List Placed) (y : Next State PortItem) → rule s x ≡ y → on s (x ∷ r) ≡ after y (λ t. on t r) r
 says s x r y e = ap (λ (z : Next State PortItem). after z (λ t. on t r) r) e
 
 mark : (n : ℕ) (f : List Placed) (h : ℕ) (x : Placed) → x.unit ≡ 255 → rule (at n f h Between) x ≡ Go (at n f h One)
-mark n f h x e = ap (λ (b : Bool). cond {A = Next State PortItem} b (Go (at n f h One)) (Go (at n f h (First x)))) (yes x.unit 255 e)
+mark n f h x e = ap (λ (b : Bool). cond {A = Next State PortItem} b (Go (at n f h One)) (Go (at n f h (First x)))) (eq-eqb x.unit 255 e)
 
 word : (n : ℕ) (f : List Placed) (h : ℕ) (x : Placed) → x.unit ≢ 255 → rule (at n f h Between) x ≡ Go (at n f h (First x))
-word n f h x e = ap (λ (b : Bool). cond {A = Next State PortItem} b (Go (at n f h One)) (Go (at n f h (First x)))) (no x.unit 255 e)
+word n f h x e = ap (λ (b : Bool). cond {A = Next State PortItem} b (Go (at n f h One)) (Go (at n f h (First x)))) (ne_eqb x.unit 255 e)
 
 inner : (n : ℕ) (f : List Placed) (h : ℕ) (x : Placed) → x.unit ≡ 127 → n ≢ 7 → rule (at n f h One) x ≡ Go (at n f (h + 1) Between)
 inner n f h x e l =
-    ap (λ (b : Bool). cond b (half_ended (at n f h One)) (cond (x.unit == 255) (full_begun (at n f h One)) (Fail BadSync))) (yes x.unit 127 e)
-    ∙ ap (λ (b : Bool). cond {A = Next State PortItem} b (End Half) (Go (at n f (h + 1) Between))) (no n 7 l)
+    ap (λ (b : Bool). cond b (half_ended (at n f h One)) (cond (x.unit == 255) (full_begun (at n f h One)) (Fail BadSync))) (eq-eqb x.unit 127 e)
+    ∙ ap (λ (b : Bool). cond {A = Next State PortItem} b (End Half) (Go (at n f (h + 1) Between))) (ne_eqb n 7 l)
 
 -- complete
 halves_on : (k n : ℕ) (f : List Placed) (h : ℕ) (g r : List Placed) → n ≢ 7 → units_of g ≡ half_spelling k → on (at n f h Between) (g ++ r) ≡ on (at n f (h + k) Between) r
@@ -158,15 +146,15 @@ words_sound n f h v (x ∷ []) l e = elim (pick (x.unit == 255) _ _ [] v e) [ in
 words_sound n f h v (x ∷ (y ∷ r)) l e = elim (pick (x.unit == 255) _ _ (y ∷ r) v e) [
   | inl m ↦ elim (pick (y.unit == 127) _ _ r v m.1) [
     | inl o ↦ elim (pick (n == 7) _ _ r v o.1) [
-      | inl q ↦ absurd (let k = is_yes n 7 q.0 in omega arith)
-      | inr q ↦ more_halves n f h v x y r (is_yes x.unit 255 m.0) (is_yes y.unit 127 o.0) (words_sound n f (h + 1) v r l q.1)
+      | inl q ↦ absurd (let k = eqb-true n 7 q.0 in omega arith)
+      | inr q ↦ more_halves n f h v x y r (eqb-true x.unit 255 m.0) (eqb-true y.unit 127 o.0) (words_sound n f (h + 1) v r l q.1)
     ]
     | inr o ↦ elim (pick (y.unit == 255) _ _ r v o.1) [
-      | inl q ↦ elim (pick (n == 7) _ _ r v q.1) [ inl z ↦ absurd (let k = is_yes n 7 z.0 in omega arith) | inr z ↦ (let k = z.1 in cc) ]
+      | inl q ↦ elim (pick (n == 7) _ _ r v q.1) [ inl z ↦ absurd (let k = eqb-true n 7 z.0 in omega arith) | inr z ↦ (let k = z.1 in cc) ]
       | inr q ↦ (let k = q.1 in cc)
     ]
   ]
-  | inr m ↦ here n l (λ k d. words_sound k (f ++ (x ∷ (y ∷ []))) h v r d) (is_no x.unit 255 m.0) m.1
+  | inr m ↦ here n l (λ k d. words_sound k (f ++ (x ∷ (y ∷ []))) h v r d) (eqb-false x.unit 255 m.0) m.1
 ] where
   here : (n : ℕ) → n ≤ 6 → ((k : ℕ) → k ≤ 6 → on (at k (f ++ (x ∷ (y ∷ []))) h Between) r ≡ Whole v → EndsWords k (f ++ (x ∷ (y ∷ []))) h v r) → x.unit ≢ 255 →
       after (word_ended n (f ++ (x ∷ (y ∷ []))) h) (λ s. on s r) r ≡ Whole v → EndsWords n f h v (x ∷ (y ∷ r))
@@ -192,7 +180,7 @@ full_sound x y v [] e f k = cc
 full_sound x y v (z ∷ []) e f k = elim (pick (z.unit == 255) _ _ [] v k) [ inl m ↦ (let q = m.1 in cc) | inr m ↦ (let q = m.1 in cc) ]
 full_sound x y v (z ∷ (w ∷ r)) e f k = elim (pick (z.unit == 255) _ _ (w ∷ r) v k) [
   | inl m ↦ elim (pick (w.unit == 127) _ _ r v m.1) [
-    | inl o ↦ (let q = alone Full v r o.1 in spelled v Full _ q.1 (four_bytes x y z w r e f (is_yes z.unit 255 m.0) (is_yes w.unit 127 o.0) q.0))
+    | inl o ↦ (let q = alone Full v r o.1 in spelled v Full _ q.1 (four_bytes x y z w r e f (eqb-true z.unit 255 m.0) (eqb-true w.unit 127 o.0) q.0))
     | inr o ↦ (let q = o.1 in cc)
   ]
   | inr m ↦ (let q = m.1 in cc)
@@ -203,13 +191,13 @@ sound v [] e = cc
 sound v (x ∷ []) e = elim (pick (x.unit == 255) _ _ [] v e) [ inl m ↦ (let k = m.1 in cc) | inr m ↦ (let k = m.1 in cc) ]
 sound v (x ∷ (y ∷ r)) e = elim (pick (x.unit == 255) _ _ (y ∷ r) v e) [
   | inl m ↦ elim (pick (y.unit == 127) _ _ r v m.1) [
-    | inl o ↦ (let q = alone Half v r o.1 in spelled v Half _ q.1 (two_bytes x y r (is_yes x.unit 255 m.0) (is_yes y.unit 127 o.0) q.0))
+    | inl o ↦ (let q = alone Half v r o.1 in spelled v Half _ q.1 (two_bytes x y r (eqb-true x.unit 255 m.0) (eqb-true y.unit 127 o.0) q.0))
     | inr o ↦ elim (pick (y.unit == 255) _ _ r v o.1) [
-      | inl q ↦ full_sound x y v r (is_yes x.unit 255 m.0) (is_yes y.unit 255 q.0) q.1
+      | inl q ↦ full_sound x y v r (eqb-true x.unit 255 m.0) (eqb-true y.unit 255 q.0) q.1
       | inr q ↦ (let k = q.1 in cc)
     ]
   ]
-  | inr m ↦ framed (is_no x.unit 255 m.0) (words_sound 6 (x ∷ (y ∷ [])) 0 v r (omega arith) m.1)
+  | inr m ↦ framed (eqb-false x.unit 255 m.0) (words_sound 6 (x ∷ (y ∷ [])) 0 v r (omega arith) m.1)
 ] where
   framed : x.unit ≢ 255 → EndsWords 6 (x ∷ (y ∷ [])) 0 v r → Spells v (x ∷ (y ∷ r))
   framed ex (g, k, ev, s) =
@@ -296,7 +284,7 @@ stays_at n f h One t x i e = elim (chosen (x.unit == 127) (half_ended (at n f h 
   ]
   | inr m ↦ elim (chosen (x.unit == 255) (full_begun (at n f h One)) (Fail BadSync) (Go t) m.1) [
     | inl q ↦ elim (chosen (n == 7) (Go (at n f h Two)) (Fail SyncInFrame) (Go t) q.1) [
-      | inl z ↦ absurd (let k = is_yes n 7 z.0 in omega arith)
+      | inl z ↦ absurd (let k = eqb-true n 7 z.0 in omega arith)
       | inr z ↦ (let k = z.1 in cc)
     ]
     | inr q ↦ (let k = q.1 in cc)
@@ -355,7 +343,7 @@ full_stays_at n f h (First a) t x i e = absurd i
 full_stays_at n f h One t x i e = elim (chosen (x.unit == 127) (half_ended (at n f h One)) (cond (x.unit == 255) (full_begun (at n f h One)) (Fail BadSync)) (Go t) e) [
   | inl m ↦ elim (chosen (n == 7) (End Half) (Go (at n f (h + 1) Between)) (Go t) m.1) [
     | inl q ↦ (let k = q.1 in cc)
-    | inr q ↦ absurd (is_no n 7 q.0 i)
+    | inr q ↦ absurd (eqb-false n 7 q.0 i)
   ]
   | inr m ↦ elim (chosen (x.unit == 255) (full_begun (at n f h One)) (Fail BadSync) (Go t) m.1) [
     | inl q ↦ elim (chosen (n == 7) (Go (at n f h Two)) (Fail SyncInFrame) (Go t) q.1) [
@@ -382,7 +370,7 @@ full_fails_at n f h One e x i k = elim (chosen (x.unit == 127) (half_ended (at n
   | inr m ↦ elim (chosen (x.unit == 255) (full_begun (at n f h One)) (Fail BadSync) (Fail e) m.1) [
     | inl q ↦ elim (chosen (n == 7) (Go (at n f h Two)) (Fail SyncInFrame) (Fail e) q.1) [
       | inl z ↦ (let k = z.1 in cc)
-      | inr z ↦ absurd (is_no n 7 z.0 i)
+      | inr z ↦ absurd (eqb-false n 7 z.0 i)
     ]
     | inr q ↦ failed BadSync e BadSync q.1 refl
   ]
@@ -401,10 +389,10 @@ reason s [] b e h k = absurd (between_never 7 [] 0 b e (let same : start ≡ s =
 reason s (x ∷ r) b e h k = by (x.unit == 255) refl where
   by : (t : Bool) → (x.unit == 255) ≡ t → e ≡ why (x ∷ (r ++ b ∷ []))
   by true f =
-      let i = reached InFullState full_stays (at 7 [] 0 One) s r refl (sym (says start x r _ (mark 7 [] 0 x (is_yes x.unit 255 f))) ∙ h) in
+      let i = reached InFullState full_stays (at 7 [] 0 One) s r refl (sym (says start x r _ (mark 7 [] 0 x (eqb-true x.unit 255 f))) ∙ h) in
       full_fails_at s.left s.bytes s.halves s.part e b i k ∙ sym (ap (λ (t : Bool). cond t BadSync (inside (last_unit (r ++ b ∷ [])))) f)
   by false f =
-      let i = reached InFrameState stays (at 7 [] 0 (First x)) s r (let l : 7 ≤ 7 = omega arith in l) (sym (says start x r _ (word 7 [] 0 x (is_no x.unit 255 f))) ∙ h) in
+      let i = reached InFrameState stays (at 7 [] 0 (First x)) s r (let l : 7 ≤ 7 = omega arith in l) (sym (says start x r _ (word 7 [] 0 x (eqb-false x.unit 255 f))) ∙ h) in
       fails_at s.left s.bytes s.halves s.part e b i k ∙ ap inside (sym (last_unit-push r b)) ∙ sym (ap (λ (t : Bool). cond t BadSync (inside (last_unit (r ++ b ∷ [])))) f)
 
 pub port_decided : Decides Spells why rule start

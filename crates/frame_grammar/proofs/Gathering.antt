@@ -6,12 +6,13 @@ use Rattle.std.specs.Array.{IsFirstChunk}
 use Rattle.std.proofs.lemmas.List.{map-append, take-append-drop, length-append, length-drop, length-set, length-take-le, take_rest, take_more_set}
 use Rattle.std.proofs.lemmas.Grind.{take-set_at}
 use Rattle.std.proofs.Math.Seq.{take-append_seam, drop-cons}
+use Rattle.std.proofs.lemmas.Bool.{eq-eqb, ne_eqb, eqb-true, eqb-false}
 use Rattle.frame_grammar.specs.Names.{Placed, units_of, byte_at, placed_from}
 use Rattle.trace_values.proofs.Placing.{placed_from_append, length-placed_from}
 use Rattle.frame_grammar.specs.Port.{half_spelling, IsWord, IsWords, IsFrame}
 use Rattle.frame_grammar.specs.Reading.{offsets_of}
 use Rattle.frame_grammar.specs.Whole.{without_halves, IsWhole}
-use Rattle.frame_grammar.proofs.Deciding.{yes, no, is_yes, is_no, none_before}
+use Rattle.frame_grammar.proofs.Deciding.{none_before}
 use Rattle.frame_grammar.proofs.Items.{spelled_length}
 use Rattle.frame_grammar.proofs.Wholes.{units_from, word, word_stays}
 
@@ -35,17 +36,17 @@ gathered (suc n) (x ∷ (y ∷ r)) =
 
 pub at_half : (n x y : ℕ) (r : List ℕ) → x ≡ 255 → y ≡ 127 → gathered (suc n) (x ∷ (y ∷ r)) ≡ option_map (joined 1 []) (gathered (suc n) r)
 at_half n x y r e f =
-    ap (λ (t : Bool). cond t (cond (y == 127) (option_map (joined 1 []) (gathered (suc n) r)) None) (option_map (joined 0 (x ∷ (y ∷ []))) (gathered n r))) (yes x 255 e)
-    ∙ ap (λ (t : Bool). cond t (option_map (joined 1 []) (gathered (suc n) r)) None) (yes y 127 f)
+    ap (λ (t : Bool). cond t (cond (y == 127) (option_map (joined 1 []) (gathered (suc n) r)) None) (option_map (joined 0 (x ∷ (y ∷ []))) (gathered n r))) (eq-eqb x 255 e)
+    ∙ ap (λ (t : Bool). cond t (option_map (joined 1 []) (gathered (suc n) r)) None) (eq-eqb y 127 f)
 
 pub at_fault : (n x y : ℕ) (r : List ℕ) → x ≡ 255 → y ≢ 127 → gathered (suc n) (x ∷ (y ∷ r)) ≡ None
 at_fault n x y r e f =
-    ap (λ (t : Bool). cond t (cond (y == 127) (option_map (joined 1 []) (gathered (suc n) r)) None) (option_map (joined 0 (x ∷ (y ∷ []))) (gathered n r))) (yes x 255 e)
-    ∙ ap (λ (t : Bool). cond t (option_map (joined 1 []) (gathered (suc n) r)) None) (no y 127 f)
+    ap (λ (t : Bool). cond t (cond (y == 127) (option_map (joined 1 []) (gathered (suc n) r)) None) (option_map (joined 0 (x ∷ (y ∷ []))) (gathered n r))) (eq-eqb x 255 e)
+    ∙ ap (λ (t : Bool). cond t (option_map (joined 1 []) (gathered (suc n) r)) None) (ne_eqb y 127 f)
 
 pub at_word : (n x y : ℕ) (r : List ℕ) → x ≢ 255 → gathered (suc n) (x ∷ (y ∷ r)) ≡ option_map (joined 0 (x ∷ (y ∷ []))) (gathered n r)
 at_word n x y r e =
-    ap (λ (t : Bool). cond t (cond (y == 127) (option_map (joined 1 []) (gathered (suc n) r)) None) (option_map (joined 0 (x ∷ (y ∷ []))) (gathered n r))) (no x 255 e)
+    ap (λ (t : Bool). cond t (cond (y == 127) (option_map (joined 1 []) (gathered (suc n) r)) None) (option_map (joined 0 (x ∷ (y ∷ []))) (gathered n r))) (ne_eqb x 255 e)
 
 -- joined to what was joined
 pub joined_twice : (h k : ℕ) (f g : List ℕ) (o : Option Gathered) → option_map (joined h f) (option_map (joined k g) o) ≡ option_map (joined (h + k) (f ++ g)) o
@@ -72,8 +73,8 @@ mapped f (Some x) g e = record { before = x; was = refl; is = cc }
 
 pub half_goes : (a b : Placed) (w : List Placed) → a.unit ≡ 255 → b.unit ≡ 127 → without_halves (a ∷ (b ∷ w)) ≡ without_halves w
 half_goes a b w h k =
-    ap (λ (t : Bool). cond (t && b.unit == 127) (without_halves w) (a ∷ (b ∷ without_halves w))) (yes a.unit 255 h)
-    ∙ ap (λ (t : Bool). cond t (without_halves w) (a ∷ (b ∷ without_halves w))) (yes b.unit 127 k)
+    ap (λ (t : Bool). cond (t && b.unit == 127) (without_halves w) (a ∷ (b ∷ without_halves w))) (eq-eqb a.unit 255 h)
+    ∙ ap (λ (t : Bool). cond t (without_halves w) (a ∷ (b ∷ without_halves w))) (eq-eqb b.unit 127 k)
 
 one_half : (n k : ℕ) (x y : Placed) (f r : List Placed) → x.unit ≡ 255 → y.unit ≡ 127 → IsWords (suc n) k f r → IsWords (suc n) (suc k) f (x ∷ (y ∷ r))
 one_half n k x y f r ex ey (here, later, a, b, g, w, i, ek, ef, m) = (
@@ -138,12 +139,12 @@ is_gathered (suc n) (x ∷ (y ∷ r)) g e = by (x == 255) (y == 127) (λ h q. is
   by : (t u : Bool) → ((h : Gathered) → gathered (suc n) r ≡ Some h → IsGathered (suc n) r h) → ((h : Gathered) → gathered n r ≡ Some h → IsGathered n r h) →
       (x == 255) ≡ t → (y == 127) ≡ u → IsGathered (suc n) (x ∷ (y ∷ r)) g
   by true true more next ex ey =
-      let m = mapped (joined 1 []) (gathered (suc n) r) g (sym (at_half n x y r (is_yes x 255 ex) (is_yes y 127 ey)) ∙ e) in
-      subst (λ (z : Gathered). IsGathered (suc n) (x ∷ (y ∷ r)) z) m.is (with_half n x y r m.before (is_yes x 255 ex) (is_yes y 127 ey) (more m.before m.was))
-  by true false more next ex ey = let m = sym (at_fault n x y r (is_yes x 255 ex) (is_no y 127 ey)) ∙ e in cc
+      let m = mapped (joined 1 []) (gathered (suc n) r) g (sym (at_half n x y r (eqb-true x 255 ex) (eqb-true y 127 ey)) ∙ e) in
+      subst (λ (z : Gathered). IsGathered (suc n) (x ∷ (y ∷ r)) z) m.is (with_half n x y r m.before (eqb-true x 255 ex) (eqb-true y 127 ey) (more m.before m.was))
+  by true false more next ex ey = let m = sym (at_fault n x y r (eqb-true x 255 ex) (eqb-false y 127 ey)) ∙ e in cc
   by false u more next ex ey =
-      let m = mapped (joined 0 (x ∷ (y ∷ []))) (gathered n r) g (sym (at_word n x y r (is_no x 255 ex)) ∙ e) in
-      subst (λ (z : Gathered). IsGathered (suc n) (x ∷ (y ∷ r)) z) m.is (with_word n x y r m.before (is_no x 255 ex) (next m.before m.was))
+      let m = mapped (joined 0 (x ∷ (y ∷ []))) (gathered n r) g (sym (at_word n x y r (eqb-false x 255 ex)) ∙ e) in
+      subst (λ (z : Gathered). IsGathered (suc n) (x ∷ (y ∷ r)) z) m.is (with_word n x y r m.before (eqb-false x 255 ex) (next m.before m.was))
 
 -- no half synchronisation is before a first byte that is not FF
 none_first : (k : ℕ) (before r : List Placed) (x : Placed) (w : List Placed) → units_of before ≡ half_spelling k → r ≡ before ++ (x ∷ w) →

@@ -2,13 +2,14 @@
 use Rattle.std.proofs.Common.{◌≡◌, ◌≢◌, ℕ, zero, suc, ◌+◌, ◌*◌, ◌<◌, ◌≤◌, List, [], ◌∷◌, ◌++◌, length, refl, sym, ◌∙◌, ap, arith, Bool, true, false, cond, Option, None, Some, append_assoc, append-nil, ◌⊎◌, inl, inr}
 use Rattle.std.specs.Prelude.{◌==◌, ◌&&◌, slice_index}
 use Rattle.std.proofs.lemmas.List.{length-append}
+use Rattle.std.proofs.lemmas.Bool.{eq-eqb, ne_eqb, eqb-true, eqb-false}
 use Rattle.frame_grammar.specs.Names.{Cell, Reason, Next, Go, End, Fail, Place, Placed, units_of, Walked, Within, after}
 use Rattle.frame_grammar.specs.Names.{walk, Progress, with_unit, advance, progress_from, unread, progress}
 use Rattle.trace_values.proofs.Walks.{walk_push, walked}
 use Rattle.frame_grammar.specs.Frame.{IsProperBelow, IsProperFrame}
 use Rattle.frame_grammar.specs.Port.{PortItem, Full, Half, Frame, half_spelling, IsWord, IsWords, Spells, half_words, Between, First, One, Two, Three, State, start, word_ended, rule}
 use Rattle.frame_grammar.specs.Reading.{item_cells, item_id, cells_of_items, id_of_items}
-use Rattle.frame_grammar.proofs.Deciding.{yes, no, is_yes, is_no, at, on}
+use Rattle.frame_grammar.proofs.Deciding.{at, on}
 
 -- items after items
 pub id_of_items-append : (id : Option ℕ) (xs ys : List PortItem) → id_of_items id (xs ++ ys) ≡ id_of_items (id_of_items id xs) ys
@@ -75,10 +76,10 @@ frame_spelling f r halves (a, b, g, w, i, ef, m) = let l = spelled_length 7 halv
 -- half synchronisations among the halfwords
 half_first : (x y : Placed) (r : List Placed) → x.unit ≡ 255 → y.unit ≡ 127 → half_words (x ∷ (y ∷ r)) ≡ half_words r + 1
 half_first x y r e f =
-    ap (λ (b : Bool). cond (b && y.unit == 127) (half_words r + 1) (half_words r)) (yes x.unit 255 e) ∙ ap (λ (b : Bool). cond b (half_words r + 1) (half_words r)) (yes y.unit 127 f)
+    ap (λ (b : Bool). cond (b && y.unit == 127) (half_words r + 1) (half_words r)) (eq-eqb x.unit 255 e) ∙ ap (λ (b : Bool). cond b (half_words r + 1) (half_words r)) (eq-eqb y.unit 127 f)
 
 plain_first : (x y : Placed) (r : List Placed) → x.unit ≢ 255 → half_words (x ∷ (y ∷ r)) ≡ half_words r
-plain_first x y r e = ap (λ (b : Bool). cond (b && y.unit == 127) (half_words r + 1) (half_words r)) (no x.unit 255 e)
+plain_first x y r e = ap (λ (b : Bool). cond (b && y.unit == 127) (half_words r + 1) (half_words r)) (ne_eqb x.unit 255 e)
 
 halves_first : (n : ℕ) (h r : List Placed) → units_of h ≡ half_spelling n → half_words (h ++ r) ≡ n + half_words r
 halves_first zero [] r e = omega arith
@@ -126,15 +127,15 @@ inside_halves n f h (x ∷ []) t l e = elim (pick (x.unit == 255) _ _ [] t e) [
 inside_halves n f h (x ∷ (y ∷ r)) t l e = elim (pick (x.unit == 255) _ _ (y ∷ r) t e) [
   | inl m ↦ elim (pick (y.unit == 127) _ _ r t m.1) [
     | inl o ↦ elim (pick (n == 7) _ _ r t o.1) [
-      | inl q ↦ absurd (let k = is_yes n 7 q.0 in omega arith)
-      | inr q ↦ (let k = inside_halves n f (h + 1) r t l q.1 in let d = half_first x y r (is_yes x.unit 255 m.0) (is_yes y.unit 127 o.0) in one_more h (half_words r) (half_words (x ∷ (y ∷ r))) t.halves k d)
+      | inl q ↦ absurd (let k = eqb-true n 7 q.0 in omega arith)
+      | inr q ↦ (let k = inside_halves n f (h + 1) r t l q.1 in let d = half_first x y r (eqb-true x.unit 255 m.0) (eqb-true y.unit 127 o.0) in one_more h (half_words r) (half_words (x ∷ (y ∷ r))) t.halves k d)
     ]
     | inr o ↦ elim (pick (y.unit == 255) _ _ r t o.1) [
-      | inl q ↦ elim (pick (n == 7) _ _ r t q.1) [ inl z ↦ absurd (let k = is_yes n 7 z.0 in omega arith) | inr z ↦ (let k = z.1 in cc) ]
+      | inl q ↦ elim (pick (n == 7) _ _ r t q.1) [ inl z ↦ absurd (let k = eqb-true n 7 z.0 in omega arith) | inr z ↦ (let k = z.1 in cc) ]
       | inr q ↦ (let k = q.1 in cc)
     ]
   ]
-  | inr m ↦ here n l (λ k d. inside_halves k (f ++ (x ∷ (y ∷ []))) h r t d) (is_no x.unit 255 m.0) m.1
+  | inr m ↦ here n l (λ k d. inside_halves k (f ++ (x ∷ (y ∷ []))) h r t d) (eqb-false x.unit 255 m.0) m.1
 ] where
   one_more : (h a b c : ℕ) → c ≡ h + 1 + a → b ≡ a + 1 → c ≡ h + b
   one_more h a b c e f = omega arith
@@ -146,8 +147,8 @@ inside_halves n f h (x ∷ (y ∷ r)) t l e = elim (pick (x.unit == 255) _ _ (y 
 
 two_full : (x y : Placed) (r : List Placed) → x.unit ≡ 255 → y.unit ≡ 255 → half_words (x ∷ (y ∷ r)) ≡ half_words r
 two_full x y r e f =
-    ap (λ (b : Bool). cond (x.unit == 255 && b) (half_words r + 1) (half_words r)) (no y.unit 127 (λ h. (let k : 255 ≡ 127 = sym f ∙ h in absurd (omega arith))))
-    ∙ ap (λ (b : Bool). cond (b && false) (half_words r + 1) (half_words r)) (yes x.unit 255 e)
+    ap (λ (b : Bool). cond (x.unit == 255 && b) (half_words r + 1) (half_words r)) (ne_eqb y.unit 127 (λ h. (let k : 255 ≡ 127 = sym f ∙ h in absurd (omega arith))))
+    ∙ ap (λ (b : Bool). cond (b && false) (half_words r + 1) (half_words r)) (eq-eqb x.unit 255 e)
 
 sync_halves : (x y : Placed) (r : List Placed) (t : State) → x.unit ≡ 255 → y.unit ≡ 255 → on (at 7 [] 0 Two) r ≡ Within t → t.halves ≡ half_words (x ∷ (y ∷ r))
 sync_halves x y [] t e f k = same_halves (at 7 [] 0 Two) t k ∙ sym (two_full x y [] e f)
@@ -173,13 +174,13 @@ walk_halves (x ∷ (y ∷ r)) t e = elim (pick (x.unit == 255) _ _ (y ∷ r) t e
   | inl m ↦ elim (pick (y.unit == 127) _ _ r t m.1) [
     | inl o ↦ absurd (never Half r t o.1)
     | inr o ↦ elim (pick (y.unit == 255) _ _ r t o.1) [
-      | inl q ↦ sync_halves x y r t (is_yes x.unit 255 m.0) (is_yes y.unit 255 q.0) q.1
+      | inl q ↦ sync_halves x y r t (eqb-true x.unit 255 m.0) (eqb-true y.unit 255 q.0) q.1
       | inr q ↦ (let k = q.1 in cc)
     ]
   ]
   | inr m ↦ (
       let k = inside_halves 6 (x ∷ (y ∷ [])) 0 r t (omega arith) m.1 in
-      let d = plain_first x y r (is_no x.unit 255 m.0) in omega arith
+      let d = plain_first x y r (eqb-false x.unit 255 m.0) in omega arith
       )
 ]
 

@@ -2,12 +2,12 @@
 use Rattle.std.proofs.Common.{◌≡◌, ◌≢◌, ℕ, zero, suc, ◌+◌, ◌*◌, List, [], ◌∷◌, length, refl, sym, ◌∙◌, ap, subst, arith, Bool, cond}
 use Rattle.std.specs.Prelude.{◌==◌, ◌&&◌, slice_index}
 use Rattle.std.proofs.lemmas.List.{length-map}
+use Rattle.std.proofs.lemmas.Bool.{ne_eqb}
 use Rattle.frame_grammar.specs.Names.{Placed, units_of, byte_at, placed_from}
 use Rattle.trace_values.proofs.Placing.{length-placed_from}
 use Rattle.frame_grammar.specs.Frame.{IsProperBelow, IsProperFrame}
 use Rattle.frame_grammar.specs.Port.{Frame, IsWord, IsWords, Spells}
 use Rattle.frame_grammar.specs.Whole.{without_halves, IsWhole}
-use Rattle.frame_grammar.proofs.Deciding.{no}
 use Rattle.frame_grammar.proofs.Items.{frame_bytes, frame_proper, frame_spelling}
 
 pub units_from : (at : ℕ) (bytes : List ℕ) → units_of (placed_from at bytes) ≡ bytes
@@ -59,7 +59,7 @@ spells at (a ∷ (b ∷ bytes)) e p = (
 
 -- a halfword that is no half synchronisation stays
 pub word_stays : (a b : Placed) (w : List Placed) → a.unit ≢ 255 → without_halves (a ∷ (b ∷ w)) ≡ a ∷ (b ∷ without_halves w)
-word_stays a b w h = ap (λ (t : Bool). cond (t && b.unit == 127) (without_halves w) (a ∷ (b ∷ without_halves w))) (no a.unit 255 h)
+word_stays a b w h = ap (λ (t : Bool). cond (t && b.unit == 127) (without_halves w) (a ∷ (b ∷ without_halves w))) (ne_eqb a.unit 255 h)
 
 pub nothing_goes : (n at : ℕ) (bytes : List ℕ) → length bytes ≡ 2 * n → IsProperBelow n bytes → without_halves (placed_from at bytes) ≡ placed_from at bytes
 nothing_goes zero at [] e p = refl

@@ -5,7 +5,7 @@ use Rattle.std.specs.Int.{w64, trailing_zeros}
 use Rattle.std.specs.Int.Count.{count_trailing_zeros}
 use Rattle.std.specs.List.{filter, range_with_len}
 use Rattle.std.proofs.lemmas.Bool.Decides.{nat_tests}
-use Rattle.std.proofs.lemmas.Bool.{agree_below_at, and_parts, cases_Bool, cases_lt, eqb-true, true≢false}
+use Rattle.std.proofs.lemmas.Bool.{agree_below_at, and_parts, cases_Bool, cases_lt, eqb-true, true≢false, or_right}
 use Rattle.frame_grammar.specs.Frame.{names}
 use Rattle.frame_runs.specs.Data.{first_bytes, last_bytes}
 use Rattle.frame_runs.specs.Pairs.{bits_of_half, end_at, ends_from, is_end, places}
@@ -38,10 +38,6 @@ or_false : (b : Bool) → (b || false) ≡ b
 or_false true = refl
 or_false false = refl
 
-or_true : (b : Bool) → (b || true) ≡ true
-or_true true = refl
-or_true false = refl
-
 lower_bit : (named bits k : ℕ) → bits ≡ named % 128 + 128 → k < 7 → bits / 2 ^ k % 2 ≡ named / 2 ^ k % 2
 lower_bit named bits zero b l = omega (arith, b)
 lower_bit named bits (suc zero) b l = omega (arith, b)
@@ -65,7 +61,7 @@ each_end frame named bits k e b l = ⊎_elim (λ low. below low) (λ last. here 
   here last =
       ap (λ (n : ℕ). bits / 2 ^ n % 2 == 1) last
       ∙ ap (λ (x : ℕ). x == 1) (let one : bits / 128 % 2 ≡ 1 = omega (arith, b) in one)
-      ∙ sym (ap (λ (n : ℕ). names frame k || n == 7) last ∙ or_true (names frame k))
+      ∙ sym (ap (λ (n : ℕ). names frame k || n == 7) last ∙ or_right (names frame k) true refl)
 
 pub ends_are : (frame : List ℕ) (named bits : ℕ) → named ≡ named_in frame → bits ≡ named % 128 + 128 → places bits ≡ ends_from frame 0
 unfolding places ends_from

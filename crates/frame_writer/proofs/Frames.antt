@@ -3,6 +3,7 @@ use Rattle.std.proofs.Common.{◌≡◌, ℕ, zero, suc, ◌+◌, ◌-◌, ◌*�
 use Rattle.std.specs.Prelude.{◌==◌, ◌&&◌, not, nat_lt}
 use Rattle.std.proofs.lemmas.Bool.Decides.{nat_tests}
 use Rattle.std.proofs.lemmas.List.{length_push}
+use Rattle.std.proofs.lemmas.Bool.{eqb-true, and_parts}
 use Rattle.frame_writer.specs.declared.pair.Pair.{Pair}
 use Rattle.frame_writer.specs.Written.{Tagged, Later, segments_then, first, after_first, is_id, paired, closed, Paired, Closed, Filled, with_pair, filled, frame_bytes, frames_by, frames_from, known, is_due, following, naming, is_odd}
 use Rattle.frame_writer.specs.Unfinished.{queued, middle, continued, is_empty, is_sound}
@@ -129,15 +130,8 @@ module _ (every halves : ℕ) (later : Later) where
 same_id : (i : ℕ) → (i == i) ≡ true
 same_id i = grind (arith, nat_tests)
 
-pub eq_of : (i j : ℕ) → (i == j) ≡ true → i ≡ j
-eq_of i j e = grind (arith, nat_tests)
-
 not_eq : (i j : ℕ) → (i == j) ≡ false → (j == i) ≡ false
 not_eq i j e = grind (arith, nat_tests)
-
-both : (a b : Bool) → (a && b) ≡ true → b ≡ true
-both true b e = e
-both false b e = cc
 
 module _ (every halves : ℕ) (later : Later) where
   due_not : (b : Bool) (i : ℕ) → not (true && b) ≡ true → cond b None (Some i) ≡ Some i
@@ -151,7 +145,7 @@ module _ (every halves : ℕ) (later : Later) where
   known_is : (n : ℕ) (c held : Option ℕ) → is_sound every n [] c held ≡ true → known every n c ≡ c
   known_is n None held e = either (is_due every n) None
   known_is n (Some i) None e = due_not (is_due every n) i e
-  known_is n (Some i) (Some b) e = due_not (is_due every n) i (both (nat_lt 0 i && true) (not (true && is_due every n)) e)
+  known_is n (Some i) (Some b) e = due_not (is_due every n) i (and_parts (nat_lt 0 i && true) (not (true && is_due every n)) e).1
 
   in_middle : (n : ℕ) (pairs : List Pair) (c held : Option ℕ) (t u : List Tagged) (x : Tagged) → is_sound every n pairs c held ≡ true → queued held c t ≡ x ∷ u →
       continued every halves later n pairs c held t ≡ middle every halves later n pairs c (x ∷ u)
@@ -178,8 +172,8 @@ module _ (every halves : ℕ) (later : Later) where
   pub holds : (n : ℕ) (pairs : List Pair) (c : Option ℕ) (i b : ℕ) (t : List Tagged) → is_id c i ≡ true →
       continued every halves later n pairs c None (record { id = i; byte = b } ∷ t) ≡ continued every halves later n pairs c (Some b) t
   holds n pairs None i b t e = cc
-  holds n [] (Some k) i b t e = ap (λ j. frames_from every halves later n (Some k) (record { id = j; byte = b } ∷ t)) (sym (eq_of k i e))
-  holds n (p ∷ pairs) (Some k) i b t e = ap (λ j. middle every halves later n (p ∷ pairs) (Some k) (record { id = j; byte = b } ∷ t)) (sym (eq_of k i e))
+  holds n [] (Some k) i b t e = ap (λ j. frames_from every halves later n (Some k) (record { id = j; byte = b } ∷ t)) (sym (eqb-true k i e))
+  holds n (p ∷ pairs) (Some k) i b t e = ap (λ j. middle every halves later n (p ∷ pairs) (Some k) (record { id = j; byte = b } ∷ t)) (sym (eqb-true k i e))
 
   pub follows : (n : ℕ) (pairs : List Pair) (c : Option ℕ) (i h b : ℕ) (t : List Tagged) → is_sound every n pairs c (Some h) ≡ true → length pairs < 7 → is_id c i ≡ true →
       continued every halves later n pairs c (Some h) (record { id = i; byte = b } ∷ t)
@@ -188,7 +182,7 @@ module _ (every halves : ℕ) (later : Later) where
   follows n pairs (Some k) i h b t s l e =
       let x : Tagged = record { id = k; byte = h } in
       let y : Tagged = record { id = i; byte = b } in
-      let is : (i == k) ≡ true = ap (λ j. i == j) (eq_of k i e) ∙ same_id i in
+      let is : (i == k) ≡ true = ap (λ j. i == j) (eqb-true k i e) ∙ same_id i in
       in_middle n pairs (Some k) (Some h) _ (y ∷ t) x s refl
       ∙ takes every halves later n pairs (Some k) (x ∷ (y ∷ t)) l
       ∙ ap (λ (p : Paired). middle every halves later n (pairs ++ p.pair ∷ []) p.id p.rest)

@@ -5,6 +5,7 @@ use Rattle.std.specs.Int.{bit_at}
 use Rattle.std.proofs.lemmas.Bool.Decides.{nat_tests}
 use Rattle.std.proofs.lemmas.Nat.Bits.{bit_at-suc, bit_at_lowest}
 use Rattle.std.proofs.lemmas.List.{length_push, get_or-append-add, map-append, replicate-append-replicate}
+use Rattle.std.proofs.lemmas.Bool.{eqb-true}
 use Rattle.trace_values.specs.Cells.{source_id}
 use Rattle.trace_values.specs.declared.cell.Cell.{Cell}
 use Rattle.frame_grammar.specs.Frame.{names, aux_bit, even_data, even_cells, odd_cells, cells_below, cells, id_after, IsInForce}
@@ -13,7 +14,7 @@ use Rattle.frame_grammar.proofs.Pairs.{made, even_is, even_no, odd_is}
 use Rattle.frame_writer.specs.declared.pair.Pair.{Pair}
 use Rattle.frame_writer.specs.Written.{Tagged, first, after_first, is_id, is_odd, paired, closed, Paired, Closed, Filled, filled, following, naming, bit, aux_byte}
 use Rattle.frame_writer.specs.ReadBack.{seen, as_seen}
-use Rattle.frame_writer.proofs.Frames.{filled_zero, filled_suc, eq_of}
+use Rattle.frame_writer.proofs.Frames.{filled_zero, filled_suc}
 use Rattle.frame_writer.proofs.Bytes.{bit_small}
 
 abbrev pub flat : List Pair → List ℕ
@@ -118,7 +119,7 @@ bit_odd b = grind (arith, nat_tests)
 
 known_id : (c id : Option ℕ) (i : ℕ) → Knows c id → is_id c i ≡ true → id ≡ Some i
 known_id None id i k e = cc
-known_id (Some j) id i k e = k ∙ ap (λ (n : ℕ). Some n) (eq_of j i e)
+known_id (Some j) id i k e = k ∙ ap (λ (n : ℕ). Some n) (eqb-true j i e)
 
 module _ (frame offsets : List ℕ) (before : Option ℕ) where
   -- pair k carries the first of the bytes t, and what is left is rest
@@ -225,7 +226,7 @@ module _ (frame offsets : List ℕ) (before : Option ℕ) where
 
     by_next : (b : Bool) → (y.id == x.id) ≡ b → is_id c x.id ≡ true →
         CarriesPaired k t (cond b (record { pair = record { even = 2 * (x.byte / 2); aux = is_odd x.byte; odd = y.byte }; id = c; rest = after_first (after_first t) }) (record { pair = record { even = 2 * y.id + 1; aux = true; odd = x.byte }; id = Some y.id; rest = after_first t }))
-    by_next true e d = carries_two k run c id t h a f kn (known_id c id x.id kn d) (eq_of y.id x.id e)
+    by_next true e d = carries_two k run c id t h a f kn (known_id c id x.id kn d) (eqb-true y.id x.id e)
     by_next false e d = carries_deferring k run c id t h a f (known_id c id x.id kn d)
 
     by_id : (b : Bool) → is_id c x.id ≡ b → CarriesPaired k t (cond b (following c x y (after_first t) (after_first (after_first t))) (naming x (after_first t)))
@@ -295,7 +296,7 @@ module _ (frame offsets : List ℕ) (before : Option ℕ) where
 
   known_both : (c id : Option ℕ) (i : ℕ) → Knows c id → is_id c i ≡ true → c ≡ Some i
   known_both None id i k e = cc
-  known_both (Some j) id i k e = ap (λ (n : ℕ). Some n) (eq_of j i e)
+  known_both (Some j) id i k e = ap (λ (n : ℕ). Some n) (eqb-true j i e)
 
   abbrev WalksClosed : List Tagged → Closed → Type 0
   WalksClosed t e = slice_index frame 14 ≡ e.even → aux_bit frame 7 ≡ bit e.aux → Walks t (even_cells frame offsets before 7) (record { pairs = []; end = e }) (id_after frame before)

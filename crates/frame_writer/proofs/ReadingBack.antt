@@ -7,6 +7,8 @@ use Rattle.std.specs.List.{All, concat, filter}
 use Rattle.std.proofs.lemmas.Bool.Decides.{nat_tests}
 use Rattle.std.proofs.lemmas.List.{map-append, replicate-append-replicate}
 use Rattle.std.proofs.lemmas.List.Elements.{All-nil, All-cons, All-head, All-tail, filter-append}
+use Rattle.frame_grammar.proofs.Wholes.{units_from}
+use Rattle.frame_grammar.proofs.Items.{id_of_items-push, cells_of_items-push}
 use Rattle.trace_values.specs.declared.cell.Cell.{Cell}
 use Rattle.trace_values.specs.Placed.{Place, Placed, units_of, byte_at, placed_from, placed}
 use Rattle.trace_values.specs.Reading.{Progress, progress_from, advance}
@@ -27,10 +29,6 @@ use Rattle.deformatter.proofs.Grammar.{aligned_cells}
 use Rattle.frame_writer.specs.ReadBack.{IsOfSource, seen, as_seen, source_cells, read_back, ReadsBack}
 use Rattle.frame_writer.proofs.Frames.{filled_zero, filled_suc, filled_less, by_some, by_nothing}
 use Rattle.frame_writer.proofs.Law.{flat, null, AllIds, Knows, frame_law, filled_length, first_id, behind_ids}
-
-units_placed : (m : ℕ) (l : List ℕ) → units_of (placed_from m l) ≡ l
-units_placed m [] = refl
-units_placed m (b ∷ l) = ap (λ (k : List ℕ). b ∷ k) (units_placed (m + 1) l)
 
 -- how many half synchronisations are after pairs
 abbrev halves_in : ℕ → List Pair → ℕ
@@ -57,7 +55,7 @@ words h m [] e a n k =
         y,
         [],
         [],
-        record { before = placed_from m (half_spelling h); halves_are = units_placed m (half_spelling h); proper = k; parts = placed_from_append m (half_spelling h) (e ∷ (a ∷ [])) },
+        record { before = placed_from m (half_spelling h); halves_are = units_from m (half_spelling h); proper = k; parts = placed_from_append m (half_spelling h) (e ∷ (a ∷ [])) },
         refl,
         refl,
         (refl, refl, refl),
@@ -80,7 +78,7 @@ words h m (p ∷ pairs) e a n k =
         w,
         record {
           before = placed_from m (half_spelling h);
-          halves_are = units_placed m (half_spelling h);
+          halves_are = units_from m (half_spelling h);
           proper = n.0;
           parts = placed_from_append m (half_spelling h) (spread h (p ∷ pairs) ++ (e ∷ (a ∷ [])))
               ∙ ap (λ (l : List ℕ). placed_from m (half_spelling h) ++ (x ∷ (y ∷ placed_from (z + 1 + 1) l))) (append_assoc (half_spelling h) (spread h pairs) (e ∷ (a ∷ [])));
@@ -153,17 +151,6 @@ filled_marks (suc r) c t a =
     subst (λ (f : Filled). NoMarks f.pairs × (f.end.even ≢ 255)) (sym (filled_suc r c t))
     (let m = filled_marks r (paired c t).id (paired c t).rest (placed_ids c t a) in ((placed_mark c t a, m.0), m.1))
 
--- one more item
-id_push : (id : Option ℕ) (l : List PortItem) (p : PortItem) → id_of_items id (l ++ p ∷ []) ≡ item_id (id_of_items id l) p
-id_push id [] p = refl
-id_push id (q ∷ l) p = id_push (item_id id q) l p
-
-cells_push : (id : Option ℕ) (l : List PortItem) (p : PortItem) → cells_of_items id (l ++ p ∷ []) ≡ cells_of_items id l ++ item_cells (id_of_items id l) p
-cells_push id [] p = append-nil (item_cells id p)
-cells_push id (q ∷ l) p =
-    ap (λ (c : List Cell). item_cells id q ++ c) (cells_push (item_id id q) l p)
-    ∙ sym (append_assoc (item_cells id q) (cells_of_items (item_id id q) l) (item_cells (id_of_items (item_id id q) l) p))
-
 progress_append : (p : Progress State PortItem) (u w : List Placed) → progress_from rule start p (u ++ w) ≡ progress_from rule start (progress_from rule start p u) w
 progress_append p [] w = refl
 progress_append p (b ∷ u) w = progress_append (advance rule start p b) u w
@@ -202,9 +189,9 @@ adds_last u a l id p c s =
       record {
         items = more;
         reads = reads;
-        id_is = ap (id_of_items None) items ∙ id_push None (map item_of c.items) p ∙ ap (λ (z : Option ℕ). item_id z p) c.id_is;
+        id_is = ap (id_of_items None) items ∙ id_of_items-push None (map item_of c.items) p ∙ ap (λ (z : Option ℕ). item_id z p) c.id_is;
       },
-      items_are (u ++ (a ++ l ∷ [])) more reads ∙ ap (cells_of_items None) items ∙ cells_push None (map item_of c.items) p
+      items_are (u ++ (a ++ l ∷ [])) more reads ∙ ap (cells_of_items None) items ∙ cells_of_items-push None (map item_of c.items) p
           ∙ ap (λ (z : Option ℕ). cells_of_items None (map item_of c.items) ++ item_cells z p) c.id_is
           ∙ ap (λ (x : List Cell). x ++ item_cells id p) (sym (items_are u c.items c.reads)),
     )

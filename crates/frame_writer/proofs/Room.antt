@@ -3,6 +3,7 @@ use Rattle.std.proofs.Common.{◌≡◌, ℕ, zero, suc, ◌+◌, ◌-◌, ◌*�
 use Rattle.std.specs.Prelude.{nat_lt, ◌&&◌}
 use Rattle.std.specs.List.{concat}
 use Rattle.std.proofs.lemmas.Bool.Decides.{nat_tests}
+use Rattle.std.proofs.lemmas.List.{nil_from_length}
 use Rattle.frame_grammar.specs.Port.{half_spelling}
 use Rattle.frame_writer.specs.declared.pair.Pair.{Pair}
 use Rattle.frame_writer.specs.declared.writer.FrameWriter.{FrameWriter}
@@ -81,10 +82,6 @@ short_bytes : (fs : List (List ℕ)) → IsShort fs → length (concat fs) ≤ 1
 short_bytes [] s = omega arith
 short_bytes (f ∷ fs) s = let e : concat (f ∷ fs) ≡ f = ap (λ (l : List (List ℕ)). concat (f ∷ l)) s.1 ∙ append-nil f in let k = ap length e in let l = s.0 in omega arith
 
-no_rest : (t : List Tagged) → length t ≤ 0 → t ≡ []
-no_rest [] h = refl
-no_rest (x ∷ t) h = absurd (omega arith)
-
 module _ (every halves n : ℕ) (few : halves ≤ 8) where
   middle_short : (pairs : List Pair) (c : Option ℕ) (t : List Tagged) → length pairs ≤ 7 → length (filled (7 - length pairs) c t).end.rest ≤ 0 → IsShort (middle every halves none_later n pairs c t)
   middle_short pairs c t h k =
@@ -92,7 +89,7 @@ module _ (every halves n : ℕ) (few : halves ≤ 8) where
       let a = length-append pairs f.pairs in
       let b = filled_length (7 - length pairs) c t in (
         frame_size every halves n (pairs ++ f.pairs) f.end.even f.end.aux few (omega arith),
-        ap (λ (l : List Tagged). frames_from every halves none_later (n + 1) f.end.id l) (no_rest f.end.rest k) ∙ nothing every halves none_later (n + 1) f.end.id,
+        ap (λ (l : List Tagged). frames_from every halves none_later (n + 1) f.end.id l) (nil_from_length f.end.rest (omega (arith, k))) ∙ nothing every halves none_later (n + 1) f.end.id,
       )
 
   first_short : (c : Option ℕ) (x : Tagged) → IsShort (frames_from every halves none_later n c (x ∷ []))

@@ -3,6 +3,7 @@ use Rattle.std.proofs.Common.{◌≡◌, ℕ, zero, suc, ◌+◌, ◌-◌, ◌<�
 use Rattle.std.specs.Prelude.{is_some}
 use Rattle.std.specs.List.{concat}
 use Rattle.std.proofs.lemmas.List.Folds.{concat-append}
+use Rattle.std.proofs.lemmas.List.{nil_from_length}
 use Rattle.frame_writer.specs.declared.pair.Pair.{Pair}
 use Rattle.frame_writer.specs.declared.writer.FrameWriter.{FrameWriter}
 use Rattle.frame_writer.specs.Written.{Tagged, none_later, segment_frames, written_segments, filled, frame_bytes, frames_from, known}
@@ -13,10 +14,6 @@ use Rattle.frame_writer.proofs.Frames.{filled_fewer, filled_less, by_some, nothi
 use Rattle.frame_writer.proofs.Standing.{as_bytes, stands_now}
 use Rattle.frame_writer.proofs.Fronts.{last_off, sure_all, all_sure, none_last}
 
-no_more : (l : List Tagged) → length l ≤ 0 → l ≡ []
-no_more [] h = refl
-no_more (x ∷ l) h = absurd (omega arith)
-
 one_less : (k : ℕ) (c : Option ℕ) (x : Tagged) → 0 < k → length (filled k c (x ∷ [])).end.rest ≤ 0
 one_less zero c x h = absurd (omega arith)
 one_less (suc k) c x h = filled_less k c x []
@@ -26,7 +23,7 @@ module _ (every halves : ℕ) where
   frame_alone n pairs c t h =
       let f = filled (7 - length pairs) c t in
       let head = frame_bytes every halves n (pairs ++ f.pairs) f.end.even f.end.aux in
-      (head, ap (λ (l : List Tagged). head ∷ frames_from every halves none_later (n + 1) f.end.id l) (no_more f.end.rest h) ∙ ap (λ (l : List (List ℕ)). head ∷ l) (nothing every halves none_later (n + 1) f.end.id))
+      (head, ap (λ (l : List Tagged). head ∷ frames_from every halves none_later (n + 1) f.end.id l) (nil_from_length f.end.rest (omega (arith, h))) ∙ ap (λ (l : List (List ℕ)). head ∷ l) (nothing every halves none_later (n + 1) f.end.id))
 
   none_alone : (n : ℕ) (pairs : List Pair) (c : Option ℕ) → HasOne (middle every halves none_later n pairs c [])
   none_alone n pairs c = frame_alone n pairs c [] (filled_fewer (7 - length pairs) c [])

@@ -1,6 +1,7 @@
 -- A window after one more event, and both forms of what passes.
-use Rattle.std.proofs.Common.{◌≡◌, ◌↔◌, Bool, true, false, not, ◌&&◌, ◌||◌, inl, inr, ◌⊎◌, List, [], ◌∷◌, ◌++◌, refl, sym, ◌∙◌, ap}
+use Rattle.std.proofs.Common.{◌≡◌, ◌↔◌, Bool, true, false, not, ◌&&◌, ◌||◌, inl, inr, List, [], ◌∷◌, ◌++◌, refl, sym, ◌∙◌, ap}
 use Rattle.std.proofs.lemmas.List.Folds.{list_all-append}
+use Rattle.std.proofs.lemmas.Bool.{or_cases, and_parts, or_right}
 use Rattle.source_events.specs.declared.event.Event.{Event}
 use Rattle.source_events.specs.declared.packet.Packet.{Packet}
 use Rattle.item_tap.specs.Windows.{holds_for_none, IsOpenAfter, Passes, is_open_after, passes}
@@ -9,23 +10,11 @@ and_true : (b : Bool) → (b && true) ≡ b
 and_true true = refl
 and_true false = refl
 
-or_true : (b : Bool) → (b || true) ≡ true
-or_true true = refl
-or_true false = refl
-
 pub either_order : (a b : Bool) → (a || b) ≡ (b || a)
 either_order true true = refl
 either_order true false = refl
 either_order false true = refl
 either_order false false = refl
-
-either : (a b : Bool) → (a || b) ≡ true → (a ≡ true) ⊎ (b ≡ true)
-either true b h = inl refl
-either false b h = inr h
-
-both : (a b : Bool) → (a && b) ≡ true → (a ≡ true) × (b ≡ true)
-both true b h = (refl, h)
-both false b h = cc
 
 alone : (f l : Bool) → (f && (not l && true) || false) ≡ ((f || false) && not l)
 alone true true = refl
@@ -59,9 +48,9 @@ module _ (first last : Event Packet → Bool) where
 
   opened : (es : List (Event Packet)) → is_open_after first last es ≡ true → IsOpenAfter first last es
   opened [] h = cc
-  opened (x ∷ es) h = elim (either (first x && holds_for_none last (x ∷ es)) (is_open_after first last es) h) [
+  opened (x ∷ es) h = elim (or_cases (first x && holds_for_none last (x ∷ es)) (is_open_after first last es) h) [
     | inl k ↦ (
-        let here = both (first x) (holds_for_none last (x ∷ es)) k in
+        let here = and_parts (first x) (holds_for_none last (x ∷ es)) k in
         record { front = []; opening = x; between = es; parts = refl; opens = here.0; stays = here.1 }
         )
     | inr k ↦ (
@@ -84,7 +73,7 @@ module _ (first last : Event Packet → Bool) where
       ∙ ap (λ b. b || is_open_after first last between) s
   open_there (y ∷ front) x between o s =
       ap (λ b. first y && holds_for_none last (y ∷ (front ++ x ∷ between)) || b) (open_there front x between o s)
-      ∙ or_true (first y && holds_for_none last (y ∷ (front ++ x ∷ between)))
+      ∙ or_right (first y && holds_for_none last (y ∷ (front ++ x ∷ between))) true refl
 
   open_so : (es : List (Event Packet)) → IsOpenAfter first last es → is_open_after first last es ≡ true
   open_so es h = ap (is_open_after first last) h.parts ∙ open_there h.front h.opening h.between h.opens h.stays
@@ -93,7 +82,7 @@ module _ (first last : Event Packet → Bool) where
   open_both es = (opened es, open_so es)
 
   passed : (before : List (Event Packet)) (e : Event Packet) → passes first last before e ≡ true → Passes first last before e
-  passed before e h = elim (either (first e) (is_open_after first last before) h) [
+  passed before e h = elim (or_cases (first e) (is_open_after first last before) h) [
     | inl k ↦ inl k
     | inr k ↦ inr (opened before k)
   ]
@@ -101,7 +90,7 @@ module _ (first last : Event Packet → Bool) where
   pass_so : (before : List (Event Packet)) (e : Event Packet) → Passes first last before e → passes first last before e ≡ true
   pass_so before e h = elim h [
     | inl k ↦ ap (λ b. b || is_open_after first last before) k
-    | inr k ↦ ap (λ b. first e || b) (open_so before k) ∙ or_true (first e)
+    | inr k ↦ ap (λ b. first e || b) (open_so before k) ∙ or_right (first e) true refl
   ]
 
   pub pass_both : (before : List (Event Packet)) (e : Event Packet) →

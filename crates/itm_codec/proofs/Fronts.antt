@@ -3,6 +3,7 @@ use Rattle.std.proofs.Common.{◌≡◌, ℕ, zero, suc, ◌+◌, ◌-◌, ◌*�
 use Rattle.std.specs.Int.{w64, from_le_bytes}
 use Rattle.std.specs.Int.Bits.{and_zero_r}
 use Rattle.std.proofs.lemmas.Nat.{and_block, and_mask}
+use Rattle.itm_grammar.proofs.ShortSpellings.{continued_more}
 use Rattle.itm_codec.specs.Names.{Within, walk, ItmPacket, GlobalSecond, Partial, Header, rule, Spells, IsContinued}
 use Rattle.itm_codec.specs.Names.{groups, number}
 use Rattle.itm_grammar.proofs.Deciding.{decided}
@@ -65,13 +66,9 @@ EachContinues [] = Unit {0}
 EachContinues (b ∷ l) = (128 ≤ b) × EachContinues l
 
 -- a payload goes on after them
-grown : (b : ℕ) (r : List ℕ) → 128 ≤ b → IsContinued r → IsContinued (b ∷ r)
-grown b [] h k = absurd k
-grown b (c ∷ r) h k = (h, k)
-
 goes_on : (p q : List ℕ) → EachContinues p → IsContinued q → IsContinued (p ++ q)
 goes_on [] q a k = k
-goes_on (b ∷ p) q a k = grown b (p ++ q) a.0 (goes_on p q a.1 k)
+goes_on (b ∷ p) q a k = continued_more b (p ++ q) a.0 (goes_on p q a.1 k)
 
 -- so many of them, and a last byte
 filled : ℕ → List ℕ
@@ -81,7 +78,7 @@ filled (suc n) = 128 ∷ filled n
 filled_continued : (n : ℕ) → IsContinued (filled n)
 unfolding filled
 filled_continued zero = omega arith
-filled_continued (suc n) = grown 128 (filled n) (omega arith) (filled_continued n)
+filled_continued (suc n) = continued_more 128 (filled n) (omega arith) (filled_continued n)
 
 filled_length : (n : ℕ) → length (filled n) ≡ n + 1
 unfolding filled

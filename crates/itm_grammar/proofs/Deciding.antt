@@ -4,6 +4,7 @@ use Rattle.std.proofs.lemmas.List.{length-replicate}
 use Rattle.std.proofs.Math.Nat.{pow-suc}
 use Rattle.std.specs.Prelude.{nat_lt, ◌==◌, ◌&&◌}
 use Rattle.std.proofs.lemmas.Bool.Decides.{nat_tests}
+use Rattle.std.proofs.lemmas.Bool.{eqb-true}
 use Rattle.itm_grammar.specs.Names.{Reason, BadItmSync, LongStamp, ShortStamp, Next, Go, End, Fail, Walked, Within}
 use Rattle.itm_grammar.specs.Names.{Whole, after, Decides}
 use Rattle.trace_values.proofs.Walks as walks
@@ -113,10 +114,6 @@ fits_within (b ∷ p) (suc n) h =
     let e : 128 ^ suc n ≡ 128 ^ n * 128 = pow-suc 128 n in
     rw e (omega arith)
 
--- what the tests say
-equal : (n m : ℕ) → (n == m) ≡ true → n ≡ m
-equal n m e = grind (arith, nat_tests)
-
 under_128 : (n : ℕ) → nat_lt n 128 ≡ true → n < 128
 under_128 n e = grind (arith, nat_tests)
 
@@ -197,11 +194,11 @@ second_sound h p v k e =
           elim (chosen (length p == 4) s) [
             | inl o ↦
                 let q : v ≡ GlobalSecond false (groups p % 2 ^ 22) = stopped _ v o.1 in
-                subst (λ (x : ItmPacket). Spells x (h ∷ p)) (sym q) (p, ap (λ (i : ℕ). i ∷ p) a.0, t.0, equal (length p) 4 o.0, refl)
+                subst (λ (x : ItmPacket). Spells x (h ∷ p)) (sym q) (p, ap (λ (i : ℕ). i ∷ p) a.0, t.0, eqb-true (length p) 4 o.0, refl)
             | inr o ↦ elim (chosen (length p == 6) o.1) [
               | inl u ↦
                   let q : v ≡ GlobalSecond true (groups p % 2 ^ 38) = stopped _ v u.1 in
-                  subst (λ (x : ItmPacket). Spells x (h ∷ p)) (sym q) (p, ap (λ (i : ℕ). i ∷ p) a.0, t.0, equal (length p) 6 u.0, refl)
+                  subst (λ (x : ItmPacket). Spells x (h ∷ p)) (sym q) (p, ap (λ (i : ℕ). i ∷ p) a.0, t.0, eqb-true (length p) 6 u.0, refl)
               | inr u ↦ (let s = u.1 in cc)
             ]
           ]

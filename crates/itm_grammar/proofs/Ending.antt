@@ -2,6 +2,7 @@
 use Rattle.std.proofs.Common.{◌≡◌, ℕ, zero, suc, ◌+◌, ◌*◌, ◌/◌, ◌%◌, ◌^◌, ◌<◌, Bool, true, false, cond, refl, arith}
 use Rattle.std.specs.Prelude.{nat_lt, ◌==◌}
 use Rattle.std.proofs.lemmas.Bool.Decides.{nat_tests}
+use Rattle.std.proofs.lemmas.Bool.{and_parts}
 use Rattle.itm_grammar.specs.Names.{Next}
 use Rattle.itm_grammar.specs.declared.packet.Size.{Size}
 use Rattle.itm_grammar.specs.declared.packet.Size.TheVariants.{One, Two, Four}
@@ -14,7 +15,6 @@ use Rattle.itm_grammar.specs.Header.{is_proper_class}
 use Rattle.itm_grammar.specs.Spelling.{byte_count}
 use Rattle.itm_grammar.specs.Proper.{IsProper}
 use Rattle.itm_grammar.specs.Rule.{rule, last, source, first_stamp, another_follows, digit, base_of, is_sound_payload, is_sound, StopsProperly}
-use Rattle.itm_grammar.proofs.Headers.{both}
 use Rattle.itm_grammar.proofs.Fitting.{parts, more_bytes, more_groups, fits_last}
 
 -- a choice by a test
@@ -75,5 +75,5 @@ last_stops Reserved n v b h p s = tt
 -- one more payload byte
 pub payload_stops : (c : Class) (n v b : ℕ) → b < 256 → is_sound (Payload c n v) ≡ true → StopsProperly (rule (Payload c n v) b)
 payload_stops c n v b h s =
-    let k = both (is_proper_class c) (is_sound_payload c n v) s in
+    let k = and_parts (is_proper_class c) (is_sound_payload c n v) s in
     either (another_follows c n b) _ _ tt (last_stops c n v b h k.0 k.1)

@@ -36,7 +36,7 @@ more_groups (suc (suc (suc (suc zero)))) v b h k l = (omega arith, λ s. absurd 
 more_groups (suc (suc (suc (suc (suc zero))))) v b h k l = (omega arith, λ s. absurd (omega arith))
 more_groups (suc (suc (suc (suc (suc (suc n)))))) v b h k l = absurd (omega arith)
 
-at_most_four : (size : Size) → byte_count size ≤ 4
+pub at_most_four : (size : Size) → byte_count size ≤ 4
 at_most_four One = omega arith
 at_most_four Two = omega arith
 at_most_four Four = omega arith

@@ -2,6 +2,7 @@
 use Rattle.std.proofs.Common.{◌≡◌, ℕ, zero, suc, ◌+◌, ◌*◌, ◌/◌, ◌%◌, ◌<◌, ◌≤◌, Bool, true, false, cond, refl, sym, ◌∙◌, ap, subst, ◌⊎◌, inl, inr, arith}
 use Rattle.std.specs.Prelude.{nat_lt, nat_le, ◌==◌, ◌&&◌, ◌||◌}
 use Rattle.std.proofs.lemmas.Bool.Decides.{nat_tests}
+use Rattle.std.proofs.lemmas.Bool.{and_parts, eqb-true, ltb-true}
 use Rattle.itm_grammar.specs.declared.packet.Size.{Size}
 use Rattle.itm_grammar.specs.declared.packet.Size.TheVariants.{One, Two, Four}
 use Rattle.itm_grammar.specs.declared.packet.Lateness.TheVariants.{Exact, StampLate, PacketLate, BothLate}
@@ -39,14 +40,10 @@ abbrev all_under : (ℕ → Bool) → ℕ → Bool
 all_under f zero = true
 all_under f (suc n) = f n && all_under f n
 
-pub both : (s t : Bool) → (s && t) ≡ true → (s ≡ true) × (t ≡ true)
-both true t e = (refl, e)
-both false t e = cc
-
 under_at : (f : ℕ → Bool) (n k : ℕ) → all_under f n ≡ true → k < n → f k ≡ true
 under_at f zero k e h = absurd (omega arith)
 under_at f (suc n) k e h =
-    let m = both (f n) (all_under f n) e in
+    let m = and_parts (f n) (all_under f n) e in
     elim (split k n (omega arith)) [
       | inl l ↦ under_at f n k m.1 l
       | inr l ↦ subst (λ (i : ℕ). f i ≡ true) (sym l) m.0
@@ -71,10 +68,7 @@ reserved_is Reserved e = refl
 
 read_right : (s t u : Bool) → (s || (t && u)) ≡ true → (s ≡ true) ⊎ ((t ≡ true) × (u ≡ true))
 read_right true t u e = inl refl
-read_right false t u e = inr (both t u e)
-
-equal : (n m : ℕ) → (n == m) ≡ true → n ≡ m
-equal n m e = grind (arith, nat_tests)
+read_right false t u e = inr (and_parts t u e)
 
 no_byte : (h : ℕ) → 256 ≤ h → class_of h ≡ Reserved
 no_byte h g = let t : nat_lt h 256 ≡ false = grind (arith, nat_tests) in rw t refl
@@ -83,7 +77,7 @@ known : (h : ℕ) → (class_of h ≡ Reserved) ⊎ ((h ≡ header_of (class_of 
 known h = elim (ordered h) [
   | inl m ↦ elim (read_right (is_reserved (class_of h)) (h == header_of (class_of h)) (is_proper_class (class_of h)) (under_at is_right 256 h all_right m)) [
     | inl n ↦ inl (reserved_is (class_of h) n)
-    | inr n ↦ inr (equal h (header_of (class_of h)) n.0, n.1)
+    | inr n ↦ inr (eqb-true h (header_of (class_of h)) n.0, n.1)
   ]
   | inr m ↦ inl (no_byte h m)
 ] where
@@ -96,9 +90,6 @@ header_is h c k n = elim (known h) [
   | inl m ↦ absurd (n (sym k ∙ m))
   | inr m ↦ (m.0 ∙ ap header_of k, sym (ap is_proper_class k) ∙ m.1)
 ]
-
-lower : (n m : ℕ) → nat_lt n m ≡ true → n < m
-lower n m e = grind (arith, nat_tests)
 
 short_under : (delta : ℕ) → (nat_lt 0 delta && nat_lt delta 7) ≡ true → delta < 7
 short_under delta e = grind (arith, nat_tests)
@@ -144,12 +135,12 @@ extension_made h low more dwt a b c d e =
 pub made : (c : Class) → is_proper_class c ≡ true → (c ≡ Reserved → ⊥) → class_of (header_of c) ≡ c
 made Zero p n = refl
 made Overflowed p n = refl
-made (Source true number One) p n = let k = lower number 32 p in source_made (8 * number + 4 + 1) 1 number true One (omega arith) (omega arith) (omega arith) (omega arith) (omega arith) refl
-made (Source true number Two) p n = let k = lower number 32 p in source_made (8 * number + 4 + 2) 2 number true Two (omega arith) (omega arith) (omega arith) (omega arith) (omega arith) refl
-made (Source true number Four) p n = let k = lower number 32 p in source_made (8 * number + 4 + 3) 3 number true Four (omega arith) (omega arith) (omega arith) (omega arith) (omega arith) refl
-made (Source false number One) p n = let k = lower number 32 p in source_made (8 * number + 0 + 1) 1 number false One (omega arith) (omega arith) (omega arith) (omega arith) (omega arith) refl
-made (Source false number Two) p n = let k = lower number 32 p in source_made (8 * number + 0 + 2) 2 number false Two (omega arith) (omega arith) (omega arith) (omega arith) (omega arith) refl
-made (Source false number Four) p n = let k = lower number 32 p in source_made (8 * number + 0 + 3) 3 number false Four (omega arith) (omega arith) (omega arith) (omega arith) (omega arith) refl
+made (Source true number One) p n = let k = ltb-true number 32 p in source_made (8 * number + 4 + 1) 1 number true One (omega arith) (omega arith) (omega arith) (omega arith) (omega arith) refl
+made (Source true number Two) p n = let k = ltb-true number 32 p in source_made (8 * number + 4 + 2) 2 number true Two (omega arith) (omega arith) (omega arith) (omega arith) (omega arith) refl
+made (Source true number Four) p n = let k = ltb-true number 32 p in source_made (8 * number + 4 + 3) 3 number true Four (omega arith) (omega arith) (omega arith) (omega arith) (omega arith) refl
+made (Source false number One) p n = let k = ltb-true number 32 p in source_made (8 * number + 0 + 1) 1 number false One (omega arith) (omega arith) (omega arith) (omega arith) (omega arith) refl
+made (Source false number Two) p n = let k = ltb-true number 32 p in source_made (8 * number + 0 + 2) 2 number false Two (omega arith) (omega arith) (omega arith) (omega arith) (omega arith) refl
+made (Source false number Four) p n = let k = ltb-true number 32 p in source_made (8 * number + 0 + 3) 3 number false Four (omega arith) (omega arith) (omega arith) (omega arith) (omega arith) refl
 made (LocalShort zero) p n = cc
 made (LocalShort (suc zero)) p n = refl
 made (LocalShort (suc (suc zero))) p n = refl
@@ -164,8 +155,8 @@ made (LocalLong PacketLate) p n = refl
 made (LocalLong BothLate) p n = refl
 made First p n = refl
 made Second p n = refl
-made (Extended true true low) p n = let k = lower low 8 p in extension_made (128 + 16 * low + 4 + 8) low true true (omega arith) (omega arith) (omega arith) (omega arith) (omega arith)
-made (Extended true false low) p n = let k = lower low 8 p in extension_made (128 + 16 * low + 0 + 8) low true false (omega arith) (omega arith) (omega arith) (omega arith) (omega arith)
-made (Extended false true low) p n = let k = lower low 8 p in extension_made (0 + 16 * low + 4 + 8) low false true (omega arith) (omega arith) (omega arith) (omega arith) (omega arith)
-made (Extended false false low) p n = let k = lower low 8 p in extension_made (0 + 16 * low + 0 + 8) low false false (omega arith) (omega arith) (omega arith) (omega arith) (omega arith)
+made (Extended true true low) p n = let k = ltb-true low 8 p in extension_made (128 + 16 * low + 4 + 8) low true true (omega arith) (omega arith) (omega arith) (omega arith) (omega arith)
+made (Extended true false low) p n = let k = ltb-true low 8 p in extension_made (128 + 16 * low + 0 + 8) low true false (omega arith) (omega arith) (omega arith) (omega arith) (omega arith)
+made (Extended false true low) p n = let k = ltb-true low 8 p in extension_made (0 + 16 * low + 4 + 8) low false true (omega arith) (omega arith) (omega arith) (omega arith) (omega arith)
+made (Extended false false low) p n = let k = ltb-true low 8 p in extension_made (0 + 16 * low + 0 + 8) low false false (omega arith) (omega arith) (omega arith) (omega arith) (omega arith)
 made Reserved p n = absurd (n refl)

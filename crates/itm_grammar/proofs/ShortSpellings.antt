@@ -45,7 +45,7 @@ record Groups (n value : ℕ) (p : List ℕ) : Type 0 where
   continued : IsContinued p
   bytes : AllBytes p
 
-continued_more : (b : ℕ) (p : List ℕ) → 128 ≤ b → IsContinued p → IsContinued (b ∷ p)
+pub continued_more : (b : ℕ) (p : List ℕ) → 128 ≤ b → IsContinued p → IsContinued (b ∷ p)
 continued_more b [] h k = absurd k
 continued_more b (c ∷ p) h k = (h, k)
 

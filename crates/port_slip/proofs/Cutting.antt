@@ -1,12 +1,12 @@
 -- Where a list of bits is cut, from its front on.
 use Rattle.std.proofs.Common.{◌≡◌, ℕ, zero, suc, ◌+◌, ◌<◌, ◌≤◌, List, [], ◌∷◌, ◌++◌, length, length-append, take, drop, Bool, true, false, nat_lt, refl, sym, ◌∙◌, ap, subst, arith, append_assoc}
-use Rattle.std.proofs.lemmas.Bool.{ltb-true}
+use Rattle.std.proofs.lemmas.Bool.{ltb-true, and_parts}
 use Rattle.port_slip.specs.Bits.{ones}
 use Rattle.port_slip.specs.Segments.{Cut, begins, with_bit, cut}
 use Rattle.port_slip.specs.Runs.{run_after, is_quiet, later}
 use Rattle.port_slip.specs.Coming.{opened}
 use Rattle.port_slip.proofs.Bits.{ones_length}
-use Rattle.port_slip.proofs.Runs.{both, Clear, clear_quiet, quiet_ones, ones_push, ones_add}
+use Rattle.port_slip.proofs.Runs.{Clear, clear_quiet, quiet_ones, ones_push, ones_add}
 
 -- the same with more bits before it
 abbrev pub prefixed : List Bool → Cut → Cut
@@ -82,7 +82,7 @@ module _ (more : List Bool) where
   skips r (true ∷ s) q =
       let i = skips (suc r) s q in (i.0, (let e = i.1 in omega arith), ap cut (ones_push r (s ++ more)) ∙ i.2)
   skips r (false ∷ s) q =
-      let b = both (nat_lt r 31) (is_quiet 0 s) q in
+      let b = and_parts (nat_lt r 31) (is_quiet 0 s) q in
       let l : r < 31 = ltb-true r 31 b.0 in
       let i = skips 0 s b.1 in
       let x = ones r ++ false ∷ [] in

@@ -1,14 +1,10 @@
 -- Runs of ones, and where a pattern can begin.
-use Rattle.std.proofs.Common.{◌≡◌, ℕ, zero, suc, ◌+◌, ◌<◌, ◌≤◌, List, [], ◌∷◌, ◌++◌, length, min, drop, Bool, true, false, nat_lt, refl, sym, ◌∙◌, ap, inl, inr, arith}
+use Rattle.std.proofs.Common.{◌≡◌, ℕ, zero, suc, ◌+◌, ◌-◌, ◌<◌, ◌≤◌, List, [], ◌∷◌, ◌++◌, length, min, drop, Bool, true, false, nat_lt, refl, sym, ◌∙◌, ap, inl, inr, arith}
 use Rattle.std.specs.Prelude.{◌&&◌}
-use Rattle.std.proofs.lemmas.Bool.{ltb-true, lt-ltb, cases_lt}
+use Rattle.std.proofs.lemmas.Bool.{ltb-true, lt-ltb, cases_lt, and_parts}
 use Rattle.port_slip.specs.Bits.{ones}
 use Rattle.port_slip.specs.Segments.{begins}
 use Rattle.port_slip.specs.Runs.{run_after, is_quiet, later}
-
-pub both : (a b : Bool) → (a && b) ≡ true → (a ≡ true) × (b ≡ true)
-both true b e = (refl, e)
-both false b e = cc
 
 pub run_append : (r : ℕ) (s t : List Bool) → run_after r (s ++ t) ≡ run_after (run_after r s) t
 run_append r [] t = refl
@@ -19,20 +15,20 @@ pub quiet_append : (r : ℕ) (s t : List Bool) → is_quiet r s ≡ true → is_
     is_quiet r (s ++ t) ≡ true
 quiet_append r [] t h k = k
 quiet_append r (true ∷ s) t h k = quiet_append (suc r) s t h k
-quiet_append r (false ∷ s) t h k = let b = both (nat_lt r 31) (is_quiet 0 s) h in ap (λ x. x && is_quiet 0 (s ++ t)) b.0 ∙ quiet_append 0 s t b.1 k
+quiet_append r (false ∷ s) t h k = let b = and_parts (nat_lt r 31) (is_quiet 0 s) h in ap (λ x. x && is_quiet 0 (s ++ t)) b.0 ∙ quiet_append 0 s t b.1 k
 
 pub quiet_less : (r q : ℕ) (s : List Bool) → q ≤ r → is_quiet r s ≡ true → is_quiet q s ≡ true
 quiet_less r q [] h k = refl
 quiet_less r q (true ∷ s) h k = quiet_less (suc r) (suc q) s (omega arith) k
 quiet_less r q (false ∷ s) h k =
-    let b = both (nat_lt r 31) (is_quiet 0 s) k in
+    let b = and_parts (nat_lt r 31) (is_quiet 0 s) k in
     let l : r < 31 = ltb-true r 31 b.0 in ap (λ x. x && is_quiet 0 s) (lt-ltb q 31 (omega (arith, l))) ∙ b.1
 
 -- of two parts the second
 pub quiet_end : (r : ℕ) (s t : List Bool) → is_quiet r (s ++ t) ≡ true → is_quiet 0 t ≡ true
 quiet_end r [] t h = quiet_less r 0 t (omega arith) h
 quiet_end r (true ∷ s) t h = quiet_end (suc r) s t h
-quiet_end r (false ∷ s) t h = quiet_end 0 s t (both (nat_lt r 31) (is_quiet 0 (s ++ t)) h).1
+quiet_end r (false ∷ s) t h = quiet_end 0 s t (and_parts (nat_lt r 31) (is_quiet 0 (s ++ t)) h).1
 
 pub quiet_later : (s : List Bool) → is_quiet 0 s ≡ true → is_quiet 0 (later s) ≡ true
 quiet_later [] h = refl
@@ -56,7 +52,7 @@ quiet_not : (m r : ℕ) (s more : List Bool) → is_quiet r s ≡ true → m + r
 quiet_not m r [] more h e l = absurd (omega arith)
 quiet_not zero r (true ∷ s) more h e l = refl
 quiet_not (suc m) r (true ∷ s) more h e l = quiet_not m (suc r) s more h (omega arith) (omega arith)
-quiet_not zero r (false ∷ s) more h e l = let k : r < 31 = ltb-true r 31 (both (nat_lt r 31) (is_quiet 0 s) h).0 in absurd (omega arith)
+quiet_not zero r (false ∷ s) more h e l = let k : r < 31 = ltb-true r 31 (and_parts (nat_lt r 31) (is_quiet 0 s) h).0 in absurd (omega arith)
 quiet_not (suc m) r (false ∷ s) more h e l = refl
 
 -- no pattern begins at the first n places
@@ -125,7 +121,7 @@ quiet_short r (false ∷ s) h = ap (λ x. x && is_quiet 0 s) (lt-ltb r 31 (omega
 pub quiet_most : (q r : ℕ) (s : List Bool) → (q < 31 → q ≡ r) → is_quiet q s ≡ true → is_quiet r s ≡ true
 quiet_most q r [] h k = refl
 quiet_most q r (true ∷ s) h k = quiet_most (suc q) (suc r) s (λ l. ap suc (h (omega arith))) k
-quiet_most q r (false ∷ s) h k = ap (λ x. nat_lt x 31 && is_quiet 0 s) (sym (h (ltb-true q 31 (both (nat_lt q 31) (is_quiet 0 s) k).0))) ∙ k
+quiet_most q r (false ∷ s) h k = ap (λ x. nat_lt x 31 && is_quiet 0 s) (sym (h (ltb-true q 31 (and_parts (nat_lt q 31) (is_quiet 0 s) k).0))) ∙ k
 
 pub run_counts : (q r : ℕ) (s : List Bool) → (q < 31 → q ≡ r) → (31 ≤ q → 31 ≤ r) →
     min 31 (run_after q s) ≡ min 31 (run_after r s)
@@ -155,6 +151,15 @@ drop_one zero (x ∷ s) = refl
 drop_one (suc n) [] = refl
 drop_one (suc n) (x ∷ s) = drop_one n s
 
+-- with more bits behind them, and how many there are
+pub later_append : (k s : List Bool) → 0 < length k → later (k ++ s) ≡ later k ++ s
+later_append [] s h = absurd (omega arith)
+later_append (x ∷ k) s h = refl
+
+pub later_length : (s : List Bool) → length (later s) ≡ length s - 1
+later_length [] = refl
+later_length (x ∷ s) = omega arith
+
 pub later_drop : (n : ℕ) (s : List Bool) → later (drop n s) ≡ drop n (later s)
 later_drop zero s = refl
 later_drop (suc n) [] = refl
@@ -172,5 +177,5 @@ pub quiet_none : (m r : ℕ) (s : List Bool) → is_quiet r s ≡ true → m + r
 quiet_none m r [] h e = refl
 quiet_none zero r (true ∷ s) h e = refl
 quiet_none (suc m) r (true ∷ s) h e = quiet_none m (suc r) s h (omega arith)
-quiet_none zero r (false ∷ s) h e = let k : r < 31 = ltb-true r 31 (both (nat_lt r 31) (is_quiet 0 s) h).0 in absurd (omega arith)
+quiet_none zero r (false ∷ s) h e = let k : r < 31 = ltb-true r 31 (and_parts (nat_lt r 31) (is_quiet 0 s) h).0 in absurd (omega arith)
 quiet_none (suc m) r (false ∷ s) h e = refl

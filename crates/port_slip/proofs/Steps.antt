@@ -2,14 +2,14 @@
 use Rattle.std.proofs.Common.{◌≡◌, ℕ, zero, suc, ◌+◌, ◌-◌, ◌*◌, ◌%◌, ◌<◌, ◌≤◌, List, [], ◌∷◌, ◌++◌, length, length-append, length-drop, take, drop, min, Bool, true, false, refl, sym, ◌∙◌, ap, ◌⊎◌, inl, inr, arith, append_assoc, append-nil}
 use Rattle.std.specs.Prelude.{flat_map}
 use Rattle.std.proofs.lemmas.Bool.{cases_lt}
-use Rattle.std.proofs.lemmas.List.{take-append-drop, take-append-le}
+use Rattle.std.proofs.lemmas.List.{length-take-le, take-append-drop, take-append-le, take-take}
 use Rattle.std.proofs.Math.Seq.{drop-append_seam}
 use Rattle.port_slip.specs.Bits.{ones, whole_bytes}
 use Rattle.port_slip.specs.Segments.{with_bit, cut, Realigned, of_cut, loose, all_loose}
 use Rattle.port_slip.specs.Runs.{run_after, is_quiet, later, IsWindow}
 use Rattle.port_slip.specs.Coming.{opened, of_open}
 use Rattle.port_slip.proofs.Bits.{ones_length, few_bits}
-use Rattle.port_slip.proofs.Runs.{run_append, run_ones, quiet_append, quiet_ones, quiet_most, quiet_none, quiet_later, run_parts, ones_add}
+use Rattle.port_slip.proofs.Runs.{later_append, run_append, run_ones, quiet_append, quiet_ones, quiet_most, quiet_none, quiet_later, run_parts, ones_add}
 use Rattle.port_slip.proofs.Cutting.{prefixed, opened_cut, opened_drop, begun, cut_begun, skips, skips_most}
 
 abbrev pub made : List ℕ → ℕ → ℕ → ℕ → Realigned
@@ -65,25 +65,6 @@ hunt_goes run b s n q = by (cases_lt 31 (run_after run b)) where
       ap of_cut (k.2 ∙ ap (λ x. prefixed k.0 (cut (ones x ++ s))) m)
       ∙ made_same refl (length-append k.0 (cut (ones (min 31 (run_after run b)) ++ s)).before ∙ (let c = k.1 in omega (arith, c, m, n))) refl refl
 
-later_append : (k s : List Bool) → 0 < length k → later (k ++ s) ≡ later k ++ s
-later_append [] s h = absurd (omega arith)
-later_append (x ∷ k) s h = refl
-
-later_length : (s : List Bool) → length (later s) ≡ length s - 1
-later_length [] = refl
-later_length (x ∷ s) = omega arith
-
-length_take : (n : ℕ) (s : List Bool) → n ≤ length s → length (take n s) ≡ n
-length_take zero s h = refl
-length_take (suc n) [] h = absurd (omega arith)
-length_take (suc n) (x ∷ s) h = ap suc (length_take n s (omega arith))
-
-take_take : (n m : ℕ) (s : List Bool) → n ≤ m → take n (take m s) ≡ take n s
-take_take zero m s h = refl
-take_take (suc n) zero s h = absurd (omega arith)
-take_take (suc n) (suc m) [] h = refl
-take_take (suc n) (suc m) (x ∷ s) h = ap (λ l. x ∷ l) (take_take n m s (omega arith))
-
 -- the first byte of a segment's bits is that of all
 pub first_goes : (k b : List Bool) (first : ℕ) → 8 ≤ length k → ((s : List Bool) →
     whole_bytes (take 8 k ++ s) ≡ first ∷ whole_bytes s) →
@@ -108,7 +89,7 @@ module _ (run : ℕ) (k : List Bool) (w : IsWindow run k) where
       let quiet : is_quiet 0 (later (k ++ b)) ≡ true = ap (is_quiet 0) la ∙ quiet_append 0 (later k) b w.quiet (quiet_most run real b few q) in
       let ln = length-append k b in
       let o = opened (drop (8 * n) (k ++ b) ++ s) in
-      let tn : length (take (8 * n) (k ++ b) ++ o.before) ≡ 8 * n + length o.before = length-append (take (8 * n) (k ++ b)) o.before ∙ (let t = length_take (8 * n) (k ++ b) (omega (arith, ln, e)) in omega (arith, t)) in
+      let tn : length (take (8 * n) (k ++ b) ++ o.before) ≡ 8 * n + length o.before = length-append (take (8 * n) (k ++ b)) o.before ∙ (let t = length-take-le (8 * n) (k ++ b) (omega (arith, ln, e)) in omega (arith, t)) in
       ap (λ (y : List Bool). of_open (opened y)) (sym (append_assoc k b s)) ∙ ap of_open (opened_drop (8 * n) (k ++ b) s quiet (omega (arith, some)) (omega (arith, ln, e, kl)))
       ∙ made_same (ap (λ (y : List ℕ). y ++ flat_map whole_bytes o.segments) (whole o.before) ∙ append_assoc out (whole_bytes o.before) (flat_map whole_bytes o.segments)) refl
       (ap (λ m. m % 8 + all_loose o.segments) tn ∙ (omega arith)) refl
@@ -129,12 +110,12 @@ module _ (run : ℕ) (k : List Bool) (w : IsWindow run k) (first : ℕ) (byte_is
   last_bytes : (n : ℕ) (l : List Bool) → take 8 l ≡ take 8 k → n ≤ length l → n < 16 →
       ((8 ≤ n) × (whole_bytes (take n l) ≡ first ∷ [])) ⊎ ((n < 8) × (whole_bytes (take n l) ≡ []))
   last_bytes n l e h m = elim (cases_lt n 8) [
-    | inl s ↦ inr (s, few_bits (take n l) (let t = length_take n l h in omega (arith, t, s)))
+    | inl s ↦ inr (s, few_bits (take n l) (let t = length-take-le n l h in omega (arith, t, s)))
     | inr s ↦ inl (
       s,
       (
-          ap whole_bytes (sym (take-append-drop 8 (take n l)) ∙ ap (λ (y : List Bool). y ++ drop 8 (take n l)) (take_take 8 n l s ∙ e)) ∙ byte_is (drop 8 (take n l))
-          ∙ ap (λ y. first ∷ y) (few_bits (drop 8 (take n l)) (let t = length_take n l h in let d = length-drop 8 (take n l) in omega (arith, t, d, m)))),
+          ap whole_bytes (sym (take-append-drop 8 (take n l)) ∙ ap (λ (y : List Bool). y ++ drop 8 (take n l)) (take-take 8 n l s ∙ e)) ∙ byte_is (drop 8 (take n l))
+          ∙ ap (λ y. first ∷ y) (few_bits (drop 8 (take n l)) (let t = length-take-le n l h in let d = length-drop 8 (take n l) in omega (arith, t, d, m)))),
     )
   ]
 
@@ -158,7 +139,7 @@ module _ (run : ℕ) (k : List Bool) (w : IsWindow run k) (first : ℕ) (byte_is
       let t : cut (drop n l ++ more) ≡ cut (begun z ++ s) = ap (λ (y : List Bool). cut (y ++ more)) ends ∙ ap cut (sym (append_assoc (ones 31) (false ∷ z) s)) in
       let nl : n ≤ length l = omega (arith, ln) in
       let tk : take 8 l ≡ take 8 k = take-append-le 8 k (ones count) (omega (arith, kl)) in
-      let tn : length (take n l) ≡ n = length_take n l nl in
+      let tn : length (take n l) ≡ n = length-take-le n l nl in
       ap (λ (y : List Bool). of_open (opened y)) e ∙ ap of_open (opened_cut n l more quiet (omega (arith, kl)) (omega (arith, ln, kl)) ∙ ap (prefixed (take n l)) (t ∙ cut_begun z s))
       ∙ made_same (ap (λ (y : List Bool). whole_bytes y ++ (whole_bytes (opened (begun z ++ s)).before ++ flat_map whole_bytes (opened (begun z ++ s)).segments)) (append-nil (take n l))
       ∙ ap (λ (y : List ℕ). y ++ (of_open (opened (begun z ++ s))).bytes) (elim (last_bytes n l tk nl (omega arith)) [

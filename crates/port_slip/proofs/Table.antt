@@ -2,12 +2,11 @@
 use Rattle.std.proofs.Common.{◌≡◌, ◌≢◌, ℕ, zero, suc, ◌+◌, ◌-◌, ◌/◌, ◌%◌, ◌^◌, ◌<◌, ◌≤◌, ◌∷◌, ◌++◌, Bool, true, false, cond, nat_lt, refl, sym, ◌∙◌, ap, subst, inl, inr, arith}
 use Rattle.std.specs.Prelude.{◌==◌, ◌&&◌, ◌||◌}
 use Rattle.std.specs.Int.{w8, trailing_ones, leading_ones}
-use Rattle.std.proofs.lemmas.Bool.{eqb-true, ltb-true, cases_lt}
+use Rattle.std.proofs.lemmas.Bool.{eqb-true, ltb-true, cases_lt, and_parts}
 use lib.Count.{count_trailing_zeros, count_leading_zeros}
 use Rattle.port_slip.specs.Bits.{bits, ones}
 use Rattle.port_slip.specs.Runs.{run_after}
 use Rattle.port_slip.proofs.Bits.{halved}
-use Rattle.port_slip.proofs.Runs.{both}
 
 -- the ones from bit 0 up
 low_ones : ℕ → ℕ → ℕ
@@ -41,8 +40,8 @@ one : (n : ℕ) (f : ℕ → Bool) → all n f ≡ true → (b : ℕ) → b < n 
 unfolding all
 one zero f h b l = absurd (omega arith)
 one (suc n) f h b l = elim (cases_lt b n) [
-  | inl k ↦ one n f (both (f n) (all n f) h).1 b k
-  | inr k ↦ ap f (let e : b ≡ n = omega (arith, k, l) in e) ∙ (both (f n) (all n f) h).0
+  | inl k ↦ one n f (and_parts (f n) (all n f) h).1 b k
+  | inr k ↦ ap f (let e : b ≡ n = omega (arith, k, l) in e) ∙ (and_parts (f n) (all n f) h).0
 ]
 
 first_test : ℕ → Bool
@@ -69,7 +68,7 @@ pub first_parts : (b : ℕ) → b < 256 → b ≢ 255 →
     (trailing_ones w8 b ≤ 7) × (bits 8 b ≡ ones (trailing_ones w8 b) ++ (false ∷ bits (7 - trailing_ones w8 b) (b / 2 ^ (trailing_ones w8 b + 1))))
 unfolding first_test
 first_parts b h n =
-    let t = both (trailing_ones w8 b == low_ones 8 b) (b == 255 || nat_lt (trailing_ones w8 b) 8) (one 256 first_test first_all b h) in
+    let t = and_parts (trailing_ones w8 b == low_ones 8 b) (b == 255 || nat_lt (trailing_ones w8 b) 8) (one 256 first_test first_all b h) in
     let same : trailing_ones w8 b ≡ low_ones 8 b = eqb-true (trailing_ones w8 b) (low_ones 8 b) t.0 in
     let few : trailing_ones w8 b < 8 = ltb-true (trailing_ones w8 b) 8 (other b (nat_lt (trailing_ones w8 b) 8) n t.1) in
     let k : suc (trailing_ones w8 b) ≡ trailing_ones w8 b + 1 = omega arith in
@@ -83,6 +82,6 @@ first_parts b h n =
 pub last_run : (b : ℕ) → b < 256 → b ≢ 255 → (leading_ones w8 b ≤ 7) × (run_after 0 (bits 8 b) ≡ leading_ones w8 b)
 unfolding last_test
 last_run b h n =
-    let t = both (leading_ones w8 b == run_after 0 (bits 8 b)) (nat_lt (leading_ones w8 b) 8) (other b ((leading_ones w8 b == run_after 0 (bits 8 b)) && nat_lt (leading_ones w8 b) 8) n (one 256 last_test last_all b h)) in
+    let t = and_parts (leading_ones w8 b == run_after 0 (bits 8 b)) (nat_lt (leading_ones w8 b) 8) (other b ((leading_ones w8 b == run_after 0 (bits 8 b)) && nat_lt (leading_ones w8 b) 8) n (one 256 last_test last_all b h)) in
     let few : leading_ones w8 b < 8 = ltb-true (leading_ones w8 b) 8 t.1 in
     (omega (arith, few), sym (eqb-true (leading_ones w8 b) (run_after 0 (bits 8 b)) t.0))

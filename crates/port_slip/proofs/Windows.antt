@@ -8,7 +8,7 @@ use Rattle.std.proofs.Math.Pow.{shr_lt}
 use Rattle.port_slip.specs.Bits.{bits, ones, whole_bytes}
 use Rattle.port_slip.specs.Runs.{run_after, is_quiet, later, IsWindow}
 use Rattle.port_slip.proofs.Bits.{bits_length, bits_append, bits_split, bits_drop, bits_take, few_bits, whole_step, whole_low, low_bytes}
-use Rattle.port_slip.proofs.Runs.{run_append, quiet_append, quiet_ones, quiet_short, quiet_most, run_counts, quiet_drop, run_drop, later_drop, run_ones}
+use Rattle.port_slip.proofs.Runs.{later_append, later_length, run_append, quiet_append, quiet_ones, quiet_short, quiet_most, run_counts, quiet_drop, run_drop, later_drop, run_ones}
 use Rattle.port_slip.proofs.Cutting.{begun}
 use Rattle.port_slip.proofs.Table.{first_parts, last_run}
 
@@ -76,14 +76,6 @@ pub begun_run : (n : ℕ) (z : List Bool) → run_after 0 (ones n ++ (false ∷ 
 begun_run n z = run_append 0 (ones n) (false ∷ z)
 
 -- with one more byte, in which no pattern ends, and without the first eight
-later_append : (k s : List Bool) → 0 < length k → later (k ++ s) ≡ later k ++ s
-later_append [] s h = absurd (omega arith)
-later_append (x ∷ k) s h = refl
-
-later_length : (s : List Bool) → length (later s) ≡ length s - 1
-later_length [] = refl
-later_length (x ∷ s) = omega arith
-
 pub passed_window : (n run : ℕ) (k b : List Bool) → length b ≡ n → IsWindow run k → is_quiet run b ≡ true →
     IsWindow (min 31 (run_after run b)) (drop n (k ++ b))
 passed_window n run k b e w q =

@@ -1,8 +1,8 @@
 -- Sources inside a capture.
-use Rattle.std.proofs.Common.{◌≡◌, ℕ, List, [], ◌∷◌, ◌++◌, sym, ◌∙◌, ap, Bool, None}
-use Rattle.std.proofs.lemmas.List.Concat.{flat_map-append}
+use Rattle.std.proofs.Common.{◌≡◌, ℕ, List, [], ◌++◌, sym, ◌∙◌, ap, Bool, None}
+use Rattle.trace_values.proofs.NibbleModes.{nibbles_append}
 use Rattle.trace_values.specs.Grammar.{InUnits}
-use Rattle.trace_values.specs.Nibbles.{low_of, high_of, nibbles_of}
+use Rattle.trace_values.specs.Nibbles.{nibbles_of}
 use Rattle.trace_values.specs.Placed.{Placed, units_of}
 use Rattle.trace_values.specs.Walk.{by_unit}
 use Rattle.trace_values.specs.declared.reading_modes.FramesMode.{FramesMode}
@@ -34,9 +34,6 @@ pub itm_capture : (mode : FramesMode) (hunts : Bool) (id : ℕ) (lost rest : Lis
 itm_capture mode hunts id lost rest e f =
     let b = bytes_rest mode id lost rest e in
     (b.0, b.1, itm_rest hunts b.0 (source_bytes (rest_mode mode) id rest) (ap (λ l. (packets_in hunts l).fault) (sym b.1) ∙ f))
-
-nibbles_append : (a b : List Placed) → nibbles_of (a ++ b) ≡ nibbles_of a ++ nibbles_of b
-nibbles_append a b = flat_map-append (λ (x : Placed). low_of x.place.at x.unit ∷ (high_of x.place.at x.unit ∷ [])) a b
 
 pub stp_capture : (order : Order) (mode : FramesMode) (hunts : Bool) (id : ℕ) (lost rest : List Placed) → (port_reading mode (lost ++ rest)).fault ≡ None →
     (items_in order hunts (source_bytes mode id (lost ++ rest))).fault ≡ None →

@@ -1,6 +1,7 @@
 -- 00 00 00 00 00 80 ends a synchronisation packet or is a fault, whatever comes before it.
 use Rattle.std.proofs.Common.{◌≡◌, ℕ, suc, ◌+◌, ◌<◌, ◌≤◌, List, refl, sym, subst, ◌⊎◌, inl, inr, arith, true}
 use Rattle.std.proofs.lemmas.Bool.Decides.{nat_tests}
+use Rattle.itm_grammar.proofs.Fitting.{at_most_four}
 use Rattle.trace_values.specs.declared.next.Next.{Next}
 use Rattle.trace_values.specs.declared.next.Next.TheVariants.{Go, End, Fail}
 use Rattle.trace_values.specs.Placed.{units_of}
@@ -37,11 +38,6 @@ Leads k (Payload class count value) = Room k class count
 
 abbrev Says : ℕ → Next Partial ItmPacket → Type 0
 Says = running.Says rule Header pattern Sync Leads
-
-at_most_four : (size : Size) → byte_count size ≤ 4
-at_most_four One = omega arith
-at_most_four Two = omega arith
-at_most_four Four = omega arith
 
 -- four do so after any
 leads_in_four : (s : Partial) → Leads 4 s

@@ -1,9 +1,10 @@
 -- After the first cell with an ID each cell has one, where bytes are bytes.
 use Rattle.std.proofs.Common.{◌≡◌, ◌≢◌, ℕ, zero, suc, ◌+◌, ◌*◌, ◌<◌, ◌≤◌, List, [], ◌∷◌, ◌++◌, map, refl, sym, ◌∙◌, ap, subst, ◌⊎◌, inl, inr, arith, append_assoc, append-nil, Bool, true, false, cond, Option, None, Some}
-use Rattle.std.specs.Prelude.{◌==◌, ◌&&◌, ◌||◌, ◌/◌, ◌%◌, not, nat_lt, nat_le, is_none, slice_index}
+use Rattle.std.specs.Prelude.{◌==◌, ◌&&◌, ◌||◌, ◌/◌, ◌%◌, not, nat_lt, is_none, slice_index}
 use Rattle.std.specs.List.{filter, range_with_len}
 use Rattle.std.proofs.lemmas.List.{append_cancel_left}
 use Rattle.std.proofs.lemmas.Bool.Decides.{nat_tests}
+use Rattle.std.proofs.lemmas.Bool.{le-leb}
 use Rattle.trace_values.specs.declared.cell.Cell.{Cell}
 use Rattle.trace_values.specs.Placed.{Place, Placed, units_of}
 use Rattle.trace_values.specs.Cells.{source_id}
@@ -214,10 +215,7 @@ is_id : (n : ℕ) → n < 256 → n ≢ 255 → (n % 2 == 1) ≡ true → is_non
 is_id n h k e =
     let o : n % 2 ≡ 1 = grind (arith, nat_tests) in
     let l : n / 2 ≤ 126 = few n h k o in
-    ap (λ (b : Bool). is_none (cond b (Some (n / 2)) None)) (test (n / 2) 126 l) where
-      test : (a b : ℕ) → a ≤ b → nat_le a b ≡ true
-      test a b h = grind (arith, nat_tests)
-
+    ap (λ (b : Bool). is_none (cond b (Some (n / 2)) None)) (le-leb (n / 2) 126 l) where
       few : (n : ℕ) → n < 256 → n ≢ 255 → n % 2 ≡ 1 → n / 2 ≤ 126
       few n h k o = grind arith
 

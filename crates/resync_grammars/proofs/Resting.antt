@@ -1,7 +1,7 @@
 -- What the rest of a port's bytes reads as, against the whole.
-use Rattle.std.proofs.Common.{◌≡◌, ℕ, ◌+◌, List, [], ◌∷◌, ◌++◌, length, length-append, refl, sym, ◌∙◌, ap, subst, inl, inr, arith, append_assoc, append-nil, Bool, true, false, Option, None, Some}
+use Rattle.std.proofs.Common.{◌≡◌, ℕ, ◌+◌, List, [], ◌∷◌, ◌++◌, length, length-append, sym, ◌∙◌, ap, subst, inl, inr, arith, append_assoc, append-nil, Bool, true, false, Option, None, Some}
 use Rattle.std.specs.List.{sum_by}
-use Rattle.std.proofs.lemmas.List.{map-append}
+use Rattle.std.proofs.lemmas.List.{map-append, nil_from_length}
 use Rattle.std.proofs.lemmas.List.Sums.{sum_by-append}
 use Rattle.trace_values.specs.declared.cell.Cell.{Cell}
 use Rattle.trace_values.specs.Placed.{Place, Placed, units_of}
@@ -47,10 +47,6 @@ skips x e =
     ap (λ (o : Option (Found State PortItem)). port_hunted (hunt pattern Full rule start x).units o) e
     ∙ ap all_skipped (locking.units_counted Spells why rule start pattern Full port_syncs x)
 
-none_left : {A : Type 0} (l : List A) → length l ≡ 0 → l ≡ []
-none_left [] e = refl
-none_left (x ∷ l) e = absurd (omega arith)
-
 not_empty : (before : List (PortItem × Place)) (x : PortItem × Place) → [] ≡ before ++ x ∷ [] → ⊥
 not_empty [] x e = cc
 not_empty (y ∷ before) x e = cc
@@ -62,7 +58,7 @@ ends_pattern h x e = elim (locking.by_mode Spells why rule start pattern Full po
   | inl r ↦
       let s = reads h x (length r.front) r.place (prog r.seen) r.here in
       let items : (prog r.seen).items ≡ e.before ++ (Full, e.place) ∷ [] = ap (λ (z : PortStream). z.items) (sym s) ∙ e.items in
-      let none : (prog r.seen).rest ≡ [] = none_left (prog r.seen).rest (ap (λ (z : PortStream). z.tail) (sym s) ∙ e.tail) in
+      let none : (prog r.seen).rest ≡ [] = nil_from_length (prog r.seen).rest (ap (λ (z : PortStream). z.tail) (sym s) ∙ e.tail) in
       let splits = (readings.reading_is Spells why rule start port_decided r.seen).splits in
       let at : Splits Spells (e.before ++ (Full, e.place) ∷ []) [] r.seen =
       subst (λ (z : List Placed). Splits Spells (e.before ++ (Full, e.place) ∷ []) z r.seen) none (subst (λ (z : List (PortItem × Place)). Splits Spells z (prog r.seen).rest r.seen) items splits) in

@@ -1,7 +1,8 @@
 -- 21 nibbles F and a nibble 0 end an ASYNC or are a fault, after the front of any spelling.
-use Rattle.std.proofs.Common.{◌≡◌, ◌≢◌, ℕ, suc, ◌+◌, ◌<◌, ◌≤◌, List, ◌++◌, replicate, refl, sym, ◌∙◌, ap, subst, arith, Bool, true, false, cond, None}
+use Rattle.std.proofs.Common.{◌≡◌, ℕ, suc, ◌+◌, ◌<◌, ◌≤◌, List, ◌++◌, replicate, refl, sym, ◌∙◌, ap, subst, arith, Bool, true, false, cond, None}
 use Rattle.std.specs.Prelude.{nat_le, ◌==◌}
-use Rattle.std.proofs.lemmas.Bool.Decides.{nat_tests}
+use Rattle.std.proofs.lemmas.Bool.{leb-true, eqb-true, eqb-false}
+use Rattle.trace_clock.proofs.LastWords.{few_nibbles}
 use Rattle.trace_values.specs.declared.fault.Reason.TheVariants.{BadAsync}
 use Rattle.trace_values.specs.declared.next.Next.{Next}
 use Rattle.trace_values.specs.declared.next.Next.TheVariants.{Go, End, Fail}
@@ -34,14 +35,8 @@ use Rattle.resync_rules.proofs.Running as running
 use Rattle.resync_rules.proofs.Syncing.{parts_of}
 use Rattle.resync_grammars.specs.Stp.{IsRun, OnlyInAsync}
 
-at_most : (n m : ℕ) → nat_le n m ≡ true → n ≤ m
-at_most n m e = grind (arith, nat_tests)
-
 few : (row : Row) → (line_of row).payload ≤ 16
-few row = at_most (line_of row).payload 16 (each_test (λ row. nat_le (line_of row).payload 16) refl row)
-
-word_few : (size : ℕ) → size < 15 → nibble_count size ≤ 16
-word_few size h = grind (arith, nat_tests)
+few row = leb-true (line_of row).payload 16 (each_test (λ row. nat_le (line_of row).payload 16) refl row)
 
 -- after k nibbles F there is a run of them, or a fault
 abbrev Leads : ℕ → Partial → Type 0
@@ -52,12 +47,6 @@ Leads k (Run count) = Unit {0}
 Leads k (Payload row count value) = (count < (line_of row).payload) × ((line_of row).payload + 2 ≤ count + k)
 Leads k (Size row payload) = 1 ≤ k
 Leads k (Word row payload size count word) = (count < nibble_count size) × (nibble_count size + 2 ≤ count + k)
-
-equal : (a b : ℕ) → (a == b) ≡ true → a ≡ b
-equal a b e = grind (arith, nat_tests)
-
-apart : (a b : ℕ) → (a == b) ≡ false → a ≢ b
-apart a b e h = let k : (a == b) ≡ true = grind (arith, nat_tests) in cc
 
 module _ (order : Order) where
   abbrev Says : ℕ → Next Partial StpPacket → Type 0
@@ -78,18 +67,18 @@ module _ (order : Order) where
         Says k (cond b (after_payload row (number_with order count value 15)) (Go (Payload row (count + 1) (number_with order count value 15))))
     by true e =
         after_says k row (number_with order count value 15) (line_of row).stamped
-        (let l = equal (count + 1) (line_of row).payload e in let g = h.1 in omega (arith, l, g))
+        (let l = eqb-true (count + 1) (line_of row).payload e in let g = h.1 in omega (arith, l, g))
     by false e =
-        let l = apart (count + 1) (line_of row).payload e in let f = h.0 in let g = h.1 in (
+        let l = eqb-false (count + 1) (line_of row).payload e in let f = h.0 in let g = h.1 in (
           (let q : count + 1 < (line_of row).payload = grind (arith, l, f) in q),
           (let q : (line_of row).payload + 2 ≤ count + 1 + k = omega (arith, g) in q),
         )
   less k (Word row payload size count word) h = by (count + 1 == nibble_count size) refl where
     by : (b : Bool) → (count + 1 == nibble_count size) ≡ b →
         Says k (cond b (End (Stamped row payload size (number_with order count word 15))) (Go (Word row payload size (count + 1) (number_with order count word 15))))
-    by true e = (let l = equal (count + 1) (nibble_count size) e in let g = h.1 in let q : 2 ≤ k = omega (arith, l, g) in q)
+    by true e = (let l = eqb-true (count + 1) (nibble_count size) e in let g = h.1 in let q : 2 ≤ k = omega (arith, l, g) in q)
     by false e =
-        let l = apart (count + 1) (nibble_count size) e in let f = h.0 in let g = h.1 in (
+        let l = eqb-false (count + 1) (nibble_count size) e in let f = h.0 in let g = h.1 in (
           (let q : count + 1 < nibble_count size = grind (arith, l, f) in q),
           (let q : nibble_count size + 2 ≤ count + 1 + k = omega (arith, g) in q),
         )
@@ -122,7 +111,7 @@ module _ (order : Order) where
   reached (Payload row count value) r e = (let b = belongs order (Payload row count value) r e in let f = few row in (b.0, (let q : (line_of row).payload + 2 ≤ count + 18 = omega (arith, f) in q)))
   reached (Size row payload) r e = omega arith
   reached (Word row payload size count word) r e =
-      let b = belongs order (Word row payload size count word) r e in let f = word_few size b.1 in
+      let b = belongs order (Word row payload size count word) r e in let f = few_nibbles size b.1 in
       (b.2, (let q : nibble_count size + 2 ≤ count + 18 = omega (arith, f) in q))
 
   closes : (r : List ℕ) → Spells order Async r → EndsWith (pattern_of pattern) r

@@ -4,6 +4,7 @@ use Rattle.std.proofs.Common.{true, false, cond}
 use Rattle.std.specs.Prelude.{Option, None, Some, ◌==◌, ◌||◌}
 use Rattle.std.specs.List.{list_any}
 use Rattle.std.proofs.lemmas.Bool.Decides.{nat_tests}
+use Rattle.std.proofs.lemmas.Bool.{eqb-true}
 use Rattle.trace_values.specs.declared.cell.Cell.{Cell}
 use Rattle.trace_values.specs.Placed.{Place, Placed}
 use Rattle.trace_values.specs.Stream.{Said, Notice, Kept}
@@ -39,9 +40,6 @@ use Rattle.resync_laws.proofs.Points.{port_point}
 
 other_way : (a b : ℕ) → (a == b) ≡ (b == a)
 other_way a b = grind (arith, nat_tests)
-
-same : (a b : ℕ) → (a == b) ≡ true → a ≡ b
-same a b e = grind (arith, nat_tests)
 
 version_point : (g : List (Said StpItem × Place)) → first_item is_version (given_as StpPacket g) ≡ first_version g
 version_point [] = refl
@@ -118,7 +116,7 @@ module _ (plan : Plan) (runs : List (List Cell)) (x : ℕ) where
   sound_one kind [] more a e = cc
   sound_one kind (y ∷ ids) more a e = by (y == x) refl e (λ f. sound_one kind ids more a.1 f) where
     by : (t : Bool) → (y == x) ≡ t → (t || list_any (λ y. y == x) ids) ≡ true → (list_any (λ y. y == x) ids ≡ true → (stream_of plan kind (list_of x runs)).fault ≡ None) → (stream_of plan kind (list_of x runs)).fault ≡ None
-    by true k f more_of = subst (λ (z : ℕ). (stream_of plan kind (list_of z runs)).fault ≡ None) (same y x k) a.0
+    by true k f more_of = subst (λ (z : ℕ). (stream_of plan kind (list_of z runs)).fault ≡ None) (eqb-true y x k) a.0
     by false k f more_of = more_of f
 
   skip : (kind : SourceKind) (ids : List ℕ) (more : List (ℕ × SourceKind)) → AreSound (ones (map (λ y. (y, kind)) ids ++ more)) runs → AreSound (ones more) runs

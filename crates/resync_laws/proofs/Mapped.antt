@@ -3,6 +3,7 @@ use Rattle.std.proofs.Common.{◌≡◌, ℕ, List, [], ◌∷◌, ◌++◌, map
 use Rattle.std.specs.Prelude.{Option, None, Some, ◌==◌, ◌||◌}
 use Rattle.std.specs.Option.{is_some}
 use Rattle.std.specs.List.{list_any}
+use Rattle.trace_values.proofs.NibbleModes.{nibbles_append}
 use Rattle.trace_values.specs.Placed.{Place, Placed, units_of}
 use Rattle.trace_values.specs.Grammar.{InUnits}
 use Rattle.trace_values.specs.Nibbles.{nibbles_of}
@@ -53,7 +54,7 @@ use Rattle.resync_laws.proofs.ReportTerms.{AllRead}
 use Rattle.resync_laws.proofs.PlanTerms.{is_version_item, is_version, resumed_by, sources_of, unit_reads}
 use Rattle.resync_laws.specs.Report.{rest_plan}
 use Rattle.resync_laws.proofs.Lifting.{can_as}
-use Rattle.resync_laws.proofs.Nibbling.{nibbles_append, nibbles_rise, nibbles_shift}
+use Rattle.resync_laws.proofs.Nibbling.{nibbles_rise, nibbles_shift}
 use Rattle.resync_laws.proofs.Recipe as recipe
 use Rattle.resync_laws.proofs.Recipe.{AreUnits}
 

@@ -1,5 +1,5 @@
 -- Nibbles of bytes: they append, rise, and move to later offsets as the bytes do.
-use Rattle.std.proofs.Common.{◌≡◌, ℕ, suc, ◌+◌, ◌*◌, ◌≤◌, List, [], ◌∷◌, ◌++◌, map, refl, ap, arith}
+use Rattle.std.proofs.Common.{◌≡◌, ℕ, suc, ◌+◌, ◌*◌, ◌≤◌, List, [], ◌∷◌, map, refl, ap, arith}
 use Rattle.std.specs.Prelude.{◌/◌, ◌%◌}
 use Rattle.trace_values.specs.Placed.{Placed}
 use Rattle.resync_rules.specs.Points.{Between, IsRising}
@@ -13,10 +13,6 @@ low b = record { unit = b.unit % 16; place = record { at = b.place.at; half = 0 
 
 abbrev high : Placed → Placed
 high b = record { unit = b.unit / 16 % 16; place = record { at = b.place.at; half = 1 } }
-
-pub nibbles_append : (u w : List Placed) → nibbles_of (u ++ w) ≡ nibbles_of u ++ nibbles_of w
-nibbles_append [] w = refl
-nibbles_append (b ∷ u) w = ap (λ (l : List Placed). low b ∷ (high b ∷ l)) (nibbles_append u w)
 
 pub nibbles_shift : (c : ℕ) (u : List Placed) → nibbles_of (map (λ b. later c b) u) ≡ map (λ b. later c b) (nibbles_of u)
 nibbles_shift c [] = refl

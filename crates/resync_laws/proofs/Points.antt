@@ -3,7 +3,7 @@ use Rattle.std.proofs.Common.{◌≡◌, ℕ, suc, ◌<◌, List, [], ◌∷◌,
 use Rattle.std.proofs.Common.{false, cond, Option, None, Some}
 use Rattle.std.specs.Prelude.{◌==◌, is_none}
 use Rattle.std.specs.List.{flat_map, Contains}
-use Rattle.std.proofs.lemmas.Bool.Decides.{nat_tests}
+use Rattle.std.proofs.lemmas.Bool.{eqb-true}
 use Rattle.trace_values.specs.declared.cell.Cell.{Cell}
 use Rattle.trace_values.specs.Placed.{Place}
 use Rattle.deformatter.specs.PortReading.{port_reading}
@@ -23,9 +23,6 @@ Alike (c ∷ (d ∷ cells)) = (d.run ≡ c.run → d.id ≡ c.id) × Alike (d �
 abbrev place : Cell → Place
 place c = record { at = c.at; half = 0 }
 
-same : (a b : ℕ) → (a == b) ≡ true → a ≡ b
-same a b h = grind (arith, nat_tests)
-
 first_runs : (cells : List Cell) → Alike cells → first_named (runs_of cells) ≡ first_in cells
 first_runs [] h = refl
 first_runs (c ∷ []) h = refl
@@ -40,7 +37,7 @@ first_runs (c ∷ (d ∷ cells)) h =
 
       by : (run : List Cell) (more : List (List Cell)) (t : Bool) → (d.run == c.run) ≡ t → first_named ((d ∷ run) ∷ more) ≡ first_in (d ∷ cells) →
           first_named (cond t ((c ∷ (d ∷ run)) ∷ more) ((c ∷ []) ∷ ((d ∷ run) ∷ more))) ≡ first_in (c ∷ (d ∷ cells))
-      by run more true e k = none run more (h.0 (same d.run c.run e)) k (is_none c.id) refl
+      by run more true e k = none run more (h.0 (eqb-true d.run c.run e)) k (is_none c.id) refl
       by run more false e k = ap (λ (o : Option Place). cond (is_none c.id) o (Some (place c))) k
 
 abbrev or_else : Option Place → Option Place → Option Place

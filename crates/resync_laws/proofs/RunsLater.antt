@@ -5,7 +5,7 @@ use Rattle.std.specs.Prelude.{◌==◌, is_none}
 use Rattle.std.specs.List.{Contains}
 use Rattle.std.proofs.lemmas.List.{map-append}
 use Rattle.std.proofs.lemmas.List.Elements.{Contains-append_right}
-use Rattle.std.proofs.lemmas.Bool.Decides.{nat_tests}
+use Rattle.std.proofs.lemmas.Bool.{ne_eqb}
 use Rattle.trace_values.specs.declared.cell.Cell.{Cell}
 use Rattle.trace_values.specs.Placed.{units_of}
 use Rattle.frame_grammar.specs.Frame.{cells, id_after}
@@ -40,9 +40,6 @@ begins c ((d ∷ run) ∷ runs) = by (d.run == c.run) where
   by true = (d ∷ run, runs, refl)
   by false = ([], (d ∷ run) ∷ runs, refl)
 
-differs : (a b : ℕ) → a ≢ b → (a == b) ≡ false
-differs a b h = grind (arith, nat_tests)
-
 -- after a cell of another run, runs begin anew
 abbrev Apart : Cell → List Cell → Cell → Type 0
 Apart c [] y = y.run ≢ c.run
@@ -57,7 +54,7 @@ joined_more c d run runs more = by (d.run == c.run) where
 runs_append : (c : Cell) (xs : List Cell) (y : Cell) (ys : List Cell) → Apart c xs y → runs_of ((c ∷ xs) ++ (y ∷ ys)) ≡ runs_of (c ∷ xs) ++ runs_of (y ∷ ys)
 runs_append c [] y ys h =
     let b = begins y (runs_of ys) in
-    ap (joined c) b.2 ∙ ap (λ (t : Bool). cond t ((c ∷ (y ∷ b.0)) ∷ b.1) ((c ∷ []) ∷ ((y ∷ b.0) ∷ b.1))) (differs y.run c.run h) ∙ ap (λ (r : List (List Cell)). (c ∷ []) ∷ r) (sym b.2)
+    ap (joined c) b.2 ∙ ap (λ (t : Bool). cond t ((c ∷ (y ∷ b.0)) ∷ b.1) ((c ∷ []) ∷ ((y ∷ b.0) ∷ b.1))) (ne_eqb y.run c.run h) ∙ ap (λ (r : List (List Cell)). (c ∷ []) ∷ r) (sym b.2)
 runs_append c (d ∷ xs) y ys h =
     let b = begins d (runs_of xs) in
     ap (joined c) (runs_append d xs y ys h) ∙ ap (λ (r : List (List Cell)). joined c (r ++ runs_of (y ∷ ys))) b.2

@@ -1,19 +1,17 @@
 -- From the first value on that begins the state anew, the rest gives the items that the whole gives.
-use Rattle.std.proofs.Common.{◌≡◌, ℕ, suc, ◌<◌, ◌≤◌, List, [], ◌∷◌, ◌++◌, refl, sym, ◌∙◌, ap, subst, arith, append-nil, append_assoc, Bool, true, false, cond, Option, None, Some}
+use Rattle.std.proofs.Common.{◌≡◌, ℕ, suc, ◌≤◌, List, [], ◌∷◌, ◌++◌, refl, sym, ◌∙◌, ap, subst, arith, append-nil, append_assoc, Bool, true, false, cond, Option, None, Some}
 use Rattle.std.specs.Prelude.{nat_le}
 use Rattle.std.proofs.lemmas.List.Elements.{filter-append}
-use Rattle.std.proofs.lemmas.Bool.Decides.{nat_tests}
+use Rattle.std.proofs.lemmas.Bool.{le-leb, leb-true, lt-leb}
 use Rattle.trace_values.specs.Placed.{Place, Placed}
 use Rattle.trace_values.specs.Stream.{Stream, Said, Notice, Kept}
 use Rattle.resync_rules.specs.Points.{Between, IsRising, is_kept, items_of, point_of, from_point, Follows, FollowsFrom}
 use Rattle.resync_rules.specs.Points.{key, is_from}
 use Rattle.resync_rules.specs.Points.{AllFrom}
-use Rattle.resync_rules.proofs.Following.{between_append, between_down}
+use Rattle.resync_rules.proofs.Following.{at_item, between_append, between_down}
 use Rattle.trace_values.specs.Decorated.{kept_if, decorate, carried, decorated}
+use Rattle.trace_values.proofs.Decorating.{decorate_append}
 use Rattle.resync_rules.proofs.ItemTerms.{first_item, IsMarked, AllFit, BeginsAnew}
-
-abbrev at_item : {V : Type 0} → Said V × Place → ℕ
-at_item x = key x.1
 
 -- items before a place, and from it on
 abbrev AllUnder : {V : Type 0} → Place → List (Said V × Place) → Type 0
@@ -28,18 +26,9 @@ drop_under : {V : Type 0} (p : Place) (xs : List (Said V × Place)) → AllUnder
 drop_under p [] h = refl
 drop_under p (x ∷ xs) h = ap (λ (b : Bool). cond b (x ∷ from_point (Some p) xs) (from_point (Some p) xs)) h.0 ∙ drop_under p xs h.1
 
-le_true : (a b : ℕ) → a ≤ b → nat_le a b ≡ true
-le_true a b h = grind (arith, nat_tests)
-
-le_false : (a b : ℕ) → b < a → nat_le a b ≡ false
-le_false a b h = grind (arith, nat_tests)
-
-true_le : (a b : ℕ) → nat_le a b ≡ true → a ≤ b
-true_le a b h = grind (arith, nat_tests)
-
 all_above : {V : Type 0} (p : Place) (xs : List (Said V × Place)) (lo hi : ℕ) → Between at_item lo hi xs → key p ≤ lo → AllFrom (Some p) xs
 all_above p [] lo hi b l = tt
-all_above p (x ∷ xs) lo hi b l = (le_true (key p) (key x.1) (let k = b.0 in omega arith), all_above p xs (suc (key x.1)) hi b.1 (let k = b.0 in omega arith))
+all_above p (x ∷ xs) lo hi b l = (le-leb (key p) (key x.1) (let k = b.0 in omega arith), all_above p xs (suc (key x.1)) hi b.1 (let k = b.0 in omega arith))
 
 -- no notices
 abbrev AllKept : {V : Type 0} → List (Said V × Place) → Type 0
@@ -87,7 +76,7 @@ cut_at : {V : Type 0} (p : Place) (xs : List (Said V × Place)) (lo hi : ℕ) �
 cut_at p [] lo hi b = record { early = []; late = []; parts = refl; low = tt; high = tt }
 cut_at {V} p (x ∷ xs) lo hi b = by (nat_le (key p) (key x.1)) refl (cut_at p xs (suc (key x.1)) hi b.1) where
   by : (t : Bool) → nat_le (key p) (key x.1) ≡ t → Cut p xs → Cut p (x ∷ xs)
-  by true e k = record { early = []; late = x ∷ xs; parts = refl; low = tt; high = (e, all_above p xs (suc (key x.1)) hi b.1 (let l = true_le (key p) (key x.1) e in omega arith)) }
+  by true e k = record { early = []; late = x ∷ xs; parts = refl; low = tt; high = (e, all_above p xs (suc (key x.1)) hi b.1 (let l = leb-true (key p) (key x.1) e in omega arith)) }
   by false e k = record { early = x ∷ k.early; late = k.late; parts = ap (λ (l : List (Said V × Place)). x ∷ l) k.parts; low = (e, k.low); high = k.high }
 
 late_is : {V : Type 0} (p : Place) (xs : List (Said V × Place)) (k : Cut p xs) → from_point (Some p) xs ≡ k.late
@@ -102,20 +91,10 @@ from_later {V} l p (x ∷ xs) h = by (is_from (Some l) x.1) refl (is_from (Some 
   by : (s : Bool) → is_from (Some l) x.1 ≡ s → (t : Bool) → is_from (Some p) x.1 ≡ t → from_point (Some p) (from_point (Some l) xs) ≡ from_point (Some p) xs →
       from_point (Some p) (cond s (x ∷ from_point (Some l) xs) (from_point (Some l) xs)) ≡ cond (is_from (Some p) x.1) (x ∷ from_point (Some p) xs) (from_point (Some p) xs)
   by true d t e k = ap (λ (y : List (Said V × Place)). cond (is_from (Some p) x.1) (x ∷ y) y) k
-  by false d true e k = absurd (let a = true_le (key p) (key x.1) e in let b = le_true (key l) (key x.1) (omega arith) in let c : true ≡ false = sym b ∙ d in cc)
+  by false d true e k = absurd (let a = leb-true (key p) (key x.1) e in let b = le-leb (key l) (key x.1) (omega arith) in let c : true ≡ false = sym b ∙ d in cc)
   by false d false e k = k ∙ ap (λ (b : Bool). cond b (x ∷ from_point (Some p) xs) (from_point (Some p) xs)) (sym e)
 
 module _ {V W T : Type 0} (step : T → V → Option W × T) where
-  kept_append : (o : Option W) (p : Place) (xs ys : List (Said W × Place)) → kept_if o p (xs ++ ys) ≡ kept_if o p xs ++ ys
-  kept_append None p xs ys = refl
-  kept_append (Some w) p xs ys = refl
-
-  pub decorate_append : (xs ys : List (Said V × Place)) (t : T) → decorate step t (xs ++ ys) ≡ decorate step t xs ++ decorate step (carried step t xs) ys
-  decorate_append [] ys t = refl
-  decorate_append ((Notice n, p) ∷ xs) ys t = ap (λ (l : List (Said W × Place)). (Notice n, p) ∷ l) (decorate_append xs ys t)
-  decorate_append ((Kept v, p) ∷ xs) ys t =
-      ap (λ (l : List (Said W × Place)). kept_if (step t v).0 p l) (decorate_append xs ys (step t v).1) ∙ kept_append (step t v).0 p (decorate step (step t v).1 xs) (decorate step (carried step (step t v).1 xs) ys)
-
   items_kept : (o : Option W) (p : Place) (xs : List (Said W × Place)) → items_of (kept_if o p xs) ≡ kept_if o p (items_of xs)
   items_kept None p xs = refl
   items_kept (Some w) p xs = refl
@@ -148,7 +127,7 @@ module _ {V W T : Type 0} (step : T → V → Option W × T) where
   late_made : (p : Place) (xs : List (Said V × Place)) (t : T) (k : Cut p xs) → from_point (Some p) (decorate step t xs) ≡ decorate step (carried step t k.early) k.late
   late_made p xs t k =
       ap (λ (l : List (Said V × Place)). from_point (Some p) (decorate step t l)) k.parts
-      ∙ ap (from_point (Some p)) (decorate_append k.early k.late t)
+      ∙ ap (from_point (Some p)) (decorate_append step k.early k.late t)
       ∙ filter-append (λ (x : Said W × Place). is_from (Some p) x.1) (decorate step t k.early) (decorate step (carried step t k.early) k.late)
       ∙ ap (λ (l : List (Said W × Place)). l ++ from_point (Some p) (decorate step (carried step t k.early) k.late)) (drop_under p (decorate step t k.early) (all_under p k.early t k.low))
       ∙ keep_all (Some p) (decorate step (carried step t k.early) k.late) (all_from (Some p) k.late (carried step t k.early) k.high)
@@ -210,9 +189,9 @@ module _ {V W T : Type 0} (step : T → V → Option W × T) where
           IsAnew (cond (is_from (Some p) q) ((Kept v, q) ∷ from_point (Some p) xs) (from_point (Some p) xs))
       by true r k after more =
           let s : q ≡ p = cc in
-          subst (λ (b : Bool). IsAnew (cond b ((Kept v, q) ∷ from_point (Some p) xs) (from_point (Some p) xs))) (sym (le_true (key p) (key q) (subst (λ (z : Place). key z ≤ key q) s (let l : key q ≤ key q = omega arith in l)))) r
+          subst (λ (b : Bool). IsAnew (cond b ((Kept v, q) ∷ from_point (Some p) xs) (from_point (Some p) xs))) (sym (le-leb (key p) (key q) (subst (λ (z : Place). key z ≤ key q) s (let l : key q ≤ key q = omega arith in l)))) r
       by false r k after more =
-          subst (λ (b : Bool). IsAnew (cond b ((Kept v, q) ∷ from_point (Some p) xs) (from_point (Some p) xs))) (sym (le_false (key p) (key q) (let l = after k in omega arith))) (more k)
+          subst (λ (b : Bool). IsAnew (cond b ((Kept v, q) ∷ from_point (Some p) xs) (from_point (Some p) xs))) (sym (lt-leb (key p) (key q) (let l = after k in omega arith))) (more k)
 
     -- the point is not before the lock
     first_from : (xs : List (Said V × Place)) (o : Option Place) (p : Place) → AllFrom o xs → first_item resets xs ≡ Some p → is_from o p ≡ true
@@ -256,7 +235,7 @@ module _ {V W T : Type 0} (step : T → V → Option W × T) where
           ∙ ap (decorate step (carried step start kb.early)) (same ∙ late_is p b kb) ∙ sym (late_made p b start kb) where
             later : (o : Option Place) (p : Place) (xs : List (Said V × Place)) → is_from o p ≡ true → from_point (Some p) (from_point o xs) ≡ from_point (Some p) xs
             later None p xs e = cc
-            later (Some l) p xs e = from_later l p xs (true_le (key l) (key p) e)
+            later (Some l) p xs e = from_later l p xs (leb-true (key l) (key p) e)
 
       -- From the first value that begins the state anew on, the items of the rest are those of the whole.
       pub follows_from : FollowsFrom (λ s. first_item marks s.given) (λ u. decorated step start (whole u)) (λ u. decorated step start (rest u))

@@ -1,9 +1,9 @@
 -- From its point on a source gives what the whole's source gives, with each front of its units.
-use Rattle.std.proofs.Common.{◌≡◌, ℕ, suc, ◌+◌, ◌<◌, ◌≤◌, List, [], ◌∷◌, ◌++◌, length, length-append, refl, sym, ◌∙◌, ap, subst, inl, inr, arith, append_assoc, Bool, true, false, cond, Option, None, Some}
-use Rattle.std.specs.Prelude.{nat_le, is_none}
+use Rattle.std.proofs.Common.{◌≡◌, ℕ, suc, ◌+◌, ◌≤◌, List, [], ◌∷◌, ◌++◌, length, length-append, refl, sym, ◌∙◌, ap, subst, inl, inr, arith, append_assoc, Bool, true, false, cond, Option, None, Some}
+use Rattle.std.specs.Prelude.{is_none}
 use Rattle.std.proofs.lemmas.List.{append_cancel_left, same_from_push, map-append}
 use Rattle.std.proofs.lemmas.List.Elements.{filter-append}
-use Rattle.std.proofs.lemmas.Bool.Decides.{nat_tests}
+use Rattle.std.proofs.lemmas.Bool.{le-leb, lt-leb}
 use Rattle.trace_values.specs.declared.fault.Reason.{Reason}
 use Rattle.trace_values.specs.declared.next.Next.{Next}
 use Rattle.trace_values.specs.declared.next.Next.TheVariants.{Go, End, Fail}
@@ -44,14 +44,8 @@ module _ {A : Type 0} (f : A → ℕ) where
   between_down [] lo low hi b h = (let k : lo ≤ hi = b in omega (arith, k))
   between_down (x ∷ xs) lo low hi b h = ((let k = b.0 in omega (arith, k)), b.1)
 
-abbrev at_item : {V : Type 0} → Said V × Place → ℕ
+abbrev pub at_item : {V : Type 0} → Said V × Place → ℕ
 at_item x = key x.1
-
-under : (a b : ℕ) → b < a → nat_le a b ≡ false
-under a b h = grind (arith, nat_tests)
-
-over : (a b : ℕ) → a ≤ b → nat_le a b ≡ true
-over a b h = grind (arith, nat_tests)
 
 module _ {V : Type 0} where
   none_from : (xs : List (Said V × Place)) → from_point None xs ≡ []
@@ -62,13 +56,13 @@ module _ {V : Type 0} where
   none_yet point [] lo hi b h = refl
   none_yet point (x ∷ xs) lo hi b h =
       let l = between_le at_item xs (suc (key x.1)) hi b.1 in
-      ap (λ (t : Bool). cond t (x ∷ from_point (Some point) xs) (from_point (Some point) xs)) (under (key point) (key x.1) (omega arith)) ∙ none_yet point xs (suc (key x.1)) hi b.1 h
+      ap (λ (t : Bool). cond t (x ∷ from_point (Some point) xs) (from_point (Some point) xs)) (lt-leb (key point) (key x.1) (omega arith)) ∙ none_yet point xs (suc (key x.1)) hi b.1 h
 
   all_from : (point : Place) (xs : List (Said V × Place)) (lo hi : ℕ) → Between at_item lo hi xs → key point ≤ lo → from_point (Some point) xs ≡ xs
   all_from point [] lo hi b h = refl
   all_from point (x ∷ xs) lo hi b h =
       let l = b.0 in
-      ap (λ (t : Bool). cond t (x ∷ from_point (Some point) xs) (from_point (Some point) xs)) (over (key point) (key x.1) (omega arith))
+      ap (λ (t : Bool). cond t (x ∷ from_point (Some point) xs) (from_point (Some point) xs)) (le-leb (key point) (key x.1) (omega arith))
       ∙ ap (λ (ys : List (Said V × Place)). x ∷ ys) (all_from point xs (suc (key x.1)) hi b.1 (omega arith))
 
   from_append : (point : Option Place) (xs ys : List (Said V × Place)) → from_point point (xs ++ ys) ≡ from_point point xs ++ from_point point ys

@@ -1,5 +1,6 @@
 -- The rest of a list locks where the whole has a value that ends with the pattern, and both read the same from there.
 use Rattle.std.proofs.Common.{◌≡◌, ℕ, ◌+◌, ◌≤◌, List, [], ◌∷◌, ◌++◌, length, length-append, refl, sym, ◌∙◌, ap, subst, ◌⊎◌, inl, inr, arith, append_assoc, append-nil, Bool, true, false, Option, None, Some}
+use Rattle.std.proofs.lemmas.Bool.{true_from_ne_false}
 use Rattle.std.proofs.lemmas.List.{append_cancel_left}
 use Rattle.trace_values.specs.declared.fault.Reason.{Reason}
 use Rattle.trace_values.specs.declared.next.Next.{Next}
@@ -10,10 +11,11 @@ use Rattle.trace_values.specs.declared.pattern.Pattern.{Pattern}
 use Rattle.trace_values.specs.Hunted.{pattern_of, Found, Hunt, hunt_on, hunt_from, no_hunt, hunt}
 use Rattle.trace_values.proofs.Lists.{fronts_meet, same_fronts}
 use Rattle.trace_values.proofs.Standings.{from_append}
+use Rattle.trace_values.proofs.HuntSteps as hunt_steps
 use Rattle.trace_values.proofs.HuntedLemmas as hunting
 use Rattle.resync_rules.specs.Syncing.{Syncs}
 use Rattle.resync_rules.proofs.Continuing as continuing
-use Rattle.resync_rules.proofs.Syncing.{units_append, units_length, parts_of, push_of}
+use Rattle.resync_rules.proofs.Syncing.{units_append, units_length, parts_of}
 use Rattle.resync_rules.proofs.Syncing as syncing
 
 -- where the pattern is it is with more units
@@ -32,10 +34,6 @@ after_here pattern a b z e = (z, units_append a b ∙ ap (λ (l : List ℕ). uni
 
 same_place : {V : Type 0} (v : V) (a b : Place) (l : List (V × Place)) → (v, a) ∷ [] ≡ (v, b) ∷ l → a ≡ b
 same_place {V} v a b l e = ap (λ x. x.1) (let k : (let x : V × Place = (v, a) in x ≡ (v, b)) = cc in k)
-
-is_true : (h : Bool) → (h ≡ false → ⊥) → h ≡ true
-is_true true n = refl
-is_true false n = absurd (n refl)
 
 module _ {S V : Type 0} (Spells : V → List Placed → Type 0) (why : List Placed → Reason) (rule : S → Placed → Next S V) (start : S) (p : Pattern) (v : V)
     (k : Syncs Spells why rule start p v) where
@@ -62,10 +60,6 @@ module _ {S V : Type 0} (Spells : V → List Placed → Type 0) (why : List Plac
   abbrev pub Sound : Option (Found S V) → Type 0
   Sound None = Unit {0}
   Sound (Some f) = f.reading.fault ≡ None
-
-  hunt_append : (u w : List Placed) (h : Hunt S V) → hunt_from p v rule start h (u ++ w) ≡ hunt_from p v rule start (hunt_from p v rule start h u) w
-  hunt_append [] w h = refl
-  hunt_append (b ∷ u) w h = hunt_append u w (hunt_on p v rule start h b h.found)
 
   -- after the lock a hunt reads on
   found_from : (y : List Placed) (h : Hunt S V) (f : Found S V) → h.found ≡ Some f →
@@ -127,7 +121,7 @@ module _ {S V : Type 0} (Spells : V → List Placed → Type 0) (why : List Plac
           begins = λ _. subst (λ (r : Progress S V). BeginsAt r.items f.place) q.5 q.6;
           here = e ∙ ap (λ (n : ℕ). at_found n f.place f.reading) (sym q.4) ∙ ap (at_found (length q.0) f.place) q.5;
           on = λ y.
-              ap (λ (g : Hunt S V). g.found) (hunt_append x y no_hunt) ∙ found_from y (hunt_of x) f e
+              ap (λ (g : Hunt S V). g.found) (hunt_steps.from_append p v rule start x y no_hunt) ∙ found_from y (hunt_of x) f e
               ∙ ap (λ (n : ℕ). at_found n f.place (progress_from rule start f.reading y)) (sym q.4)
               ∙ ap (λ (r : Progress S V). at_found (length q.0) f.place (progress_from rule start r y)) q.5
               ∙ ap (at_found (length q.0) f.place) (sym (from_append rule start q.1 y (continuing.ended rule start [])));
@@ -216,7 +210,7 @@ module _ {S V : Type 0} (Spells : V → List Placed → Type 0) (why : List Plac
 
     beyond : (r : Reads h (u ++ (a ++ m))) (c : List Placed) (g : Placed) → r.front ≡ u ++ (g ∷ c) → Goes r
     beyond r c g e =
-        let hunts : h ≡ true = is_true h (λ n. no_front (r.none n)) in
+        let hunts : h ≡ true = true_from_ne_false h (λ n. no_front (r.none n)) in
         let f = r.first hunts in
         let rest : a ++ m ≡ (g ∷ c) ++ r.seen =
         append_cancel_left u (a ++ m) ((g ∷ c) ++ r.seen) (r.parts ∙ ap (λ (l : List Placed). l ++ r.seen) e ∙ append_assoc u (g ∷ c) r.seen) in

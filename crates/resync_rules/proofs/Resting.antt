@@ -1,7 +1,7 @@
 -- What the rest of a source's units reads as, against the whole.
 use Rattle.std.proofs.Common.{◌≡◌, ℕ, ◌+◌, ◌-◌, List, [], ◌∷◌, ◌++◌, length, length-append, refl, sym, ◌∙◌, ap, subst, ◌⊎◌, inl, inr, arith, append_assoc, append-nil, Bool, true, false, Option, None, Some}
 use Rattle.std.specs.List.{AllByRecursion}
-use Rattle.std.proofs.lemmas.List.{map-append, same_from_push}
+use Rattle.std.proofs.lemmas.List.{map-append, nil_from_length, same_from_push}
 use Rattle.trace_values.specs.declared.fault.Reason.{Reason}
 use Rattle.trace_values.specs.declared.next.Next.{Next}
 use Rattle.trace_values.specs.Placed.{Place, Placed, units_of}
@@ -58,10 +58,6 @@ last_kept {V} front before items v place s e = by items refl where
         (m.0, m.1, m.2, inside m.1.0 v (ap (λ x. x.0) same))
   ]
 
-none_left : {A : Type 0} (l : List A) → length l ≡ 0 → l ≡ []
-none_left [] e = refl
-none_left (x ∷ l) e = absurd (omega arith)
-
 module _ {S V : Type 0} (Spells : V → List Placed → Type 0) (why : List Placed → Reason) (rule : S → Placed → Next S V) (start : S) (p : Pattern) (v : V)
     (k : Syncs Spells why rule start p v) where
   abbrev prog : List Placed → Progress S V
@@ -102,7 +98,7 @@ module _ {S V : Type 0} (Spells : V → List Placed → Type 0) (why : List Plac
     | inl r ↦
         let s = shows h x (length r.front) r.place (prog r.seen) r.here in
         let l = last_kept (notice h (length r.front) r.place) e.before (prog r.seen).items v e.place (notice_silent h (length r.front) r.place) (ap (λ (z : Stream V). z.given) (sym s) ∙ e.given) in
-        let none : (prog r.seen).rest ≡ [] = none_left (prog r.seen).rest (ap (λ (z : Stream V). z.held) (sym s) ∙ e.held) in
+        let none : (prog r.seen).rest ≡ [] = nil_from_length (prog r.seen).rest (ap (λ (z : Stream V). z.held) (sym s) ∙ e.held) in
         let splits = (readings.reading_is Spells why rule start k.decides r.seen).splits in
         let at : Splits Spells (l.0 ++ l.1 ∷ []) [] r.seen =
         subst (λ (z : List Placed). Splits Spells (l.0 ++ l.1 ∷ []) z r.seen) none (subst (λ (z : List (V × Place)). Splits Spells z (prog r.seen).rest r.seen) l.2 splits) in

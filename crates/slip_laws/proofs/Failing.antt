@@ -2,7 +2,7 @@
 use Rattle.std.proofs.Common.{◌≡◌, ◌↔◌, ℕ, zero, suc, ◌+◌, ◌<◌, ◌≤◌, List, [], ◌∷◌, ◌++◌, length, length-append, ◌-◌, Bool, true, false, cond, refl, sym, ◌∙◌, ap, subst, inl, inr, arith, append_assoc, None}
 use Rattle.std.specs.Prelude.{◌==◌}
 use Rattle.std.specs.List.{AllByRecursion}
-use Rattle.std.proofs.lemmas.Bool.{cases_lt, eqb-true}
+use Rattle.std.proofs.lemmas.Bool.{cases_lt, ne_eqb}
 use Rattle.trace_values.specs.declared.fault.Reason.TheVariants.{BadSync, SyncInFrame}
 use Rattle.trace_values.specs.declared.next.Next.{Next}
 use Rattle.trace_values.specs.declared.next.Next.TheVariants.{Go, End, Fail}
@@ -133,12 +133,6 @@ three_full x a h =
           ∙ ap (λ (l : List ℕ). l ++ 255 ∷ []) (append_assoc k.0 (255 ∷ []) (255 ∷ [])) ∙ append_assoc k.0 (255 ∷ (255 ∷ [])) (255 ∷ []),
     )
 
-not_equal : (a b : ℕ) → (a ≡ b → ⊥) → (a == b) ≡ false
-not_equal a b n = by (a == b) refl where
-  by : (t : Bool) → (a == b) ≡ t → (a == b) ≡ false
-  by false e = e
-  by true e = absurd (n (eqb-true a b e))
-
 pub sync_bits : bits_of (255 ∷ (255 ∷ (255 ∷ (127 ∷ [])))) ≡ sync
 unfolding bits ones
 sync_bits = refl
@@ -184,7 +178,7 @@ module _ (u : List Placed) (r : Reading PortItem) (a : AllByRecursion (λ (b : P
             let m = four s.1 b post s.4 in
             let w = ff m.0 ∷ (ff m.1 ∷ (ff m.2 ∷ (m.3 ∷ []))) in
             let k : u ≡ (s.0 ++ w) ++ m.4 = s.2 ∙ ap (λ (x : List Placed). s.0 ++ x) m.5 ∙ sym (append_assoc s.0 w m.4) in
-            none_there m.3 (not_equal m.3.unit 255 (λ h. no_ff (sym m.6 ∙ h))) (not_equal m.3.unit 127 (λ h. no_end (sym m.6 ∙ h))) s.0 m.0 m.1 m.2
+            none_there m.3 (ne_eqb m.3.unit 255 (λ h. no_ff (sym m.6 ∙ h))) (ne_eqb m.3.unit 127 (λ h. no_end (sym m.6 ∙ h))) s.0 m.0 m.1 m.2
             (no_fault_before Spells why rule start pattern Full port_syncs (s.0 ++ w) m.4 (ap (λ (x : List Placed). (progress rule start x).fault) (sym k) ∙ sound))
 
         closed : (p post : List ℕ) → units_of u ≡ p ++ (255 ∷ (255 ∷ (255 ∷ (127 ∷ post)))) → (front : List Bool) →

@@ -7,6 +7,7 @@ use Rattle.std.proofs.lemmas.List.{length-append, get_or_at}
 use Rattle.std.proofs.lemmas.List.Elements.{All-nil, All-same, All-weaker, All-contains, Contains-push, Contains-append_left, filter-append}
 use Rattle.std.proofs.lemmas.List.Sums.{sum_by-cons, sum_by_push}
 use Rattle.std.proofs.lemmas.List.Folds.{list_any-append, list_any_none, list_any_at}
+use Rattle.std.proofs.lemmas.Bool.{or_right, and_left, and_from, and_right, and_parts, ne_eqb}
 use Rattle.trace_values.specs.declared.cell.Cell.{Cell}
 use Rattle.frame_grammar.specs.Reading.{is_source, source_list}
 use Rattle.frame_grammar.specs.Runs.{HasRuns}
@@ -63,31 +64,8 @@ or_there true b h = refl
 or_there false true h = sym (h refl)
 or_there false false h = refl
 
-or_new : (a b : Bool) → b ≡ true → (a || b) ≡ true
-or_new true b h = refl
-or_new false b h = h
-
-and_false : (a b : Bool) → a ≡ false → (a && b) ≡ false
-and_false true b h = absurd (cc)
-and_false false b h = refl
-
-and_true : (a b : Bool) → a ≡ true → b ≡ true → (a && b) ≡ true
-and_true true b h k = k
-and_true false b h k = absurd (cc)
-
-and_right : (a b : Bool) → (a && b) ≡ true → b ≡ true
-and_right true b h = h
-and_right false b h = absurd (cc)
-
-and_none : (a b : Bool) → b ≡ false → (a && b) ≡ false
-and_none true b h = h
-and_none false b h = refl
-
 itself : (a : ℕ) → (a == a) ≡ true
 itself a = grind (arith, nat_tests)
-
-other_number : (a b : ℕ) → a ≢ b → (a == b) ≡ false
-other_number a b h = grind (arith, nat_tests)
 
 is_not : (a b : ℕ) → not (a == b) ≡ true → a ≢ b
 is_not a b h e = grind (arith, nat_tests)
@@ -109,7 +87,7 @@ module _ (id : ℕ) (cs : List Cell) (c : Cell) where
   -- a cell of another source
   no_run : is_source id c.id ≡ false → runs_of id (cs ++ c ∷ []) ≡ runs_of id cs
   unfolding is_run
-  no_run h = same_runs (λ r e. (let f = and_false (is_source id c.id) (c.run == r) h in cc))
+  no_run h = same_runs (λ r e. (let f = and_left (is_source id c.id) (c.run == r) h in cc))
 
   -- a cell after one of its run
   old_run : is_source id c.id ≡ true → (d : Cell) → Contains cs d → d.id ≡ c.id → d.run ≡ c.run → runs_of id (cs ++ c ∷ []) ≡ runs_of id cs
@@ -117,17 +95,17 @@ module _ (id : ℕ) (cs : List Cell) (c : Cell) where
   old_run s d w i e = same_runs (λ r h.
       list_any_at (is_run r) cs w.0 d w.1
       (subst (λ (x : Cell). is_run r x ≡ true) (sym w.2)
-      (and_true (is_source id d.id) (d.run == r) (ap (is_source id) i ∙ s) (ap (λ (n : ℕ). n == r) e ∙ and_right (is_source id c.id) (c.run == r) h))))
+      (and_from (is_source id d.id) (d.run == r) (ap (is_source id) i ∙ s) (ap (λ (n : ℕ). n == r) e ∙ (and_parts (is_source id c.id) (c.run == r) h).1))))
 
   -- a cell after those of lower runs
   new_run : is_source id c.id ≡ true → c.run ≤ 8 → All (λ x. x.run < c.run) cs → runs_of id (cs ++ c ∷ []) ≡ runs_of id cs + 1
   unfolding is_run
   new_run s l h =
       count_more (has_run id (cs ++ c ∷ [])) (has_run id cs) c.run 0 9 (omega arith) (omega arith)
-      (λ r n. run_push r ∙ or_other (has_run id cs r) (is_run r c) (and_none (is_source id c.id) (c.run == r) (other_number c.run r (λ e. n (sym e)))))
-      (run_push c.run ∙ or_new (has_run id cs c.run) (is_run c.run c) (and_true (is_source id c.id) (c.run == c.run) s (itself c.run)))
+      (λ r n. run_push r ∙ or_other (has_run id cs r) (is_run r c) (and_right (is_source id c.id) (c.run == r) (ne_eqb c.run r (λ e. n (sym e)))))
+      (run_push c.run ∙ or_right (has_run id cs c.run) (is_run c.run c) (and_from (is_source id c.id) (c.run == c.run) s (itself c.run)))
       (list_any_none (is_run c.run) cs (All-weaker (λ x. x.run < c.run) (λ x. is_run c.run x ≡ false)
-      (λ x k. and_none (is_source id x.id) (x.run == c.run) (other_number x.run c.run (λ e. (let g : x.run ≡ c.run = e in omega arith)))) cs h))
+      (λ x k. and_right (is_source id x.id) (x.run == c.run) (ne_eqb x.run c.run (λ e. (let g : x.run ≡ c.run = e in omega arith)))) cs h))
 
 -- a cell of this run begins a run after a cell of that run, or after none
 abbrev pub begins : Option ℕ → ℕ → Bool

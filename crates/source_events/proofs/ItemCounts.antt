@@ -1,25 +1,24 @@
 -- Where no source is mapped, the events of a source are counted by the runs of its frames.
-use Rattle.std.specs.Prelude.{◌==◌, ◌&&◌, ◌||◌, is_none}
-use Rattle.std.proofs.Common.{◌≡◌, ◌≢◌, ℕ, zero, suc, ◌+◌, ◌<◌, ◌≤◌, List, [], ◌∷◌, ◌++◌, length, map, filter, take}
-use Rattle.std.proofs.Common.{drop, flat_map, refl, sym, ◌∙◌, ap, subst, ◌⊎◌, inl, inr, arith, Option, None, Some}
+use Rattle.std.specs.Prelude.{◌==◌, ◌&&◌, ◌||◌}
+use Rattle.std.proofs.Common.{◌≡◌, ◌≢◌, ℕ, zero, suc, ◌+◌, ◌<◌, ◌≤◌, List, [], ◌∷◌, length, map, take}
+use Rattle.std.proofs.Common.{drop, refl, sym, ◌∙◌, ap, inl, inr, arith, None, Some}
 use Rattle.std.proofs.Common.{Bool, true, false, cond}
-use Rattle.std.specs.List.{All, count_by, sum_by, list_any, range_with_len}
+use Rattle.std.specs.List.{All}
 use Rattle.std.proofs.lemmas.List.{length-append}
 use Rattle.std.proofs.lemmas.List.Sums.{sum_by-cons}
 use Rattle.std.proofs.lemmas.Grind.{flat_map-append}
+use Rattle.std.proofs.lemmas.Bool.{and_left, and_right, and_parts}
 use Rattle.trace_values.specs.declared.cell.Cell.{Cell}
-use Rattle.trace_values.specs.Placed.{Place, Placed, byte_at}
+use Rattle.trace_values.specs.Placed.{Place, byte_at}
 use Rattle.frame_grammar.specs.Reading.{is_source, source_list}
 use Rattle.frame_grammar.specs.Runs.{HasRuns}
 use Rattle.deformatter.specs.Runs.{HaveRuns}
 use Rattle.source_counts.specs.Counts.{has_run, runs_of as run_count, frame_items, items_of}
 use Rattle.source_counts.proofs.Counting.{count_same, count_more}
-use Rattle.source_events.specs.declared.event.Event.{Event}
 use Rattle.source_events.specs.declared.event.What.{What}
 use Rattle.source_events.specs.declared.event.What.TheVariants.{Raw, Trigger}
 use Rattle.source_events.specs.Runs.{joined, runs_of, all_runs, id_of, bytes_of, placed_run, last_at, list_of, more_of}
-use Rattle.source_events.specs.Merge.{told, is_of, part}
-use Rattle.source_events.specs.Report.{triggers, raw_events, raws, is_item}
+use Rattle.source_events.specs.Report.{triggers, raw_events, raws}
 use Rattle.source_events.proofs.Merges.{test_same, test_other, same_or_not}
 use Rattle.source_events.proofs.Running.{runs_split}
 use Rattle.source_events.proofs.Raws.{raw_is}
@@ -58,18 +57,6 @@ or_same : (a b : Bool) → (a ≡ true → b ≡ true) → (a || b) ≡ b
 or_same true b h = sym (h refl)
 or_same false b h = refl
 
-and_left : (a b : Bool) → a ≡ false → (a && b) ≡ false
-and_left true b e = cc
-and_left false b e = refl
-
-and_right : (a b : Bool) → b ≡ false → (a && b) ≡ false
-and_right true b e = e
-and_right false b e = refl
-
-and_test : (a b : Bool) → (a && b) ≡ true → b ≡ true
-and_test true b e = e
-and_test false b e = cc
-
 abbrev Few : List Cell → Type 0
 Few [] = Unit {0}
 Few (c ∷ cells) = (c.run ≤ 8) × Few cells
@@ -95,7 +82,7 @@ module _ (x : ℕ) where
   count_old c d cells e r =
       count_same (has_run x (c ∷ (d ∷ cells))) (has_run x (d ∷ cells)) 0 9
       (λ k l. or_same (is_source x c.id && c.run == k) (has_run x (d ∷ cells) k)
-      (λ h. there k (and_test (is_source x c.id) (c.run == k) h))) where
+      (λ h. there k (and_parts (is_source x c.id) (c.run == k) h).1)) where
         there : (k : ℕ) → (c.run == k) ≡ true → has_run x (d ∷ cells) k ≡ true
         there k h =
             ap (λ (b : Bool). (b && d.run == k) || has_run x cells k) e

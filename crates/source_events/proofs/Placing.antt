@@ -1,21 +1,19 @@
 -- The runs of frames whose cells rise in offset are in order, after the notice of the port's lock.
-use Rattle.std.proofs.Common.{◌≡◌, ℕ, zero, suc, ◌+◌, ◌≤◌, List, [], ◌∷◌, ◌++◌, length, take, drop, flat_map, refl}
-use Rattle.std.proofs.Common.{sym, ◌∙◌, ap, subst, inl, inr, arith, append_assoc}
+use Rattle.std.proofs.Common.{ℕ, zero, suc, ◌+◌, ◌≤◌, List, [], ◌∷◌, ◌++◌, length, take, drop, flat_map}
+use Rattle.std.proofs.Common.{sym, subst, arith}
 use Rattle.std.proofs.lemmas.List.{map-append}
-use Rattle.std.proofs.lemmas.Grind.{flat_map-append}
 use Rattle.trace_values.specs.declared.cell.Cell.{Cell}
 use Rattle.trace_values.specs.Placed.{Place, Placed}
 use Rattle.trace_values.specs.Reading.{Splits}
 use Rattle.trace_values.specs.declared.reading_modes.FramesMode.{FramesMode}
 use Rattle.trace_values.specs.declared.reading_modes.FramesMode.TheVariants.{Hunt, Aligned, Bare}
-use Rattle.frame_grammar.specs.Reading.{offsets_of}
-use Rattle.deformatter.specs.PortReading.{PortReading, port_reading, cells_of}
+use Rattle.deformatter.specs.PortReading.{PortReading, port_reading}
 use Rattle.deformatter.specs.Rising.{Rise, offsets_in, BytesRise, CellsRise, end_at}
 use Rattle.deformatter.proofs.RisingLaws.{rise_split, reading_rises}
 use Rattle.source_events.specs.Runs.{runs_of, all_runs, RisesFrom, IsRunFrom, end_of, more_of}
 use Rattle.source_events.specs.Merge.{Between, InOrder}
 use Rattle.source_events.specs.Report.{runs_in}
-use Rattle.source_events.proofs.Running.{runs_split, rises_take}
+use Rattle.source_events.proofs.Running.{runs_split, rises_take, shorter}
 
 -- runs from one offset on, up to another
 abbrev pub RunsBetween : ℕ → ℕ → List (List Cell) → Type 0
@@ -30,11 +28,6 @@ after_run : (m n k : ℕ) (c : Cell) (cells : List Cell) → CellsRise n k (c �
 after_run zero n k c cells r = r.1
 after_run (suc m) n k c [] r = r.1
 after_run (suc m) n k c (d ∷ cells) r = after_run m (c.at + 1) k d cells r.1
-
-shorter : (k : ℕ) (xs : List Cell) → length (drop k xs) ≤ length xs
-shorter zero xs = omega arith
-shorter (suc k) [] = omega arith
-shorter (suc k) (x ∷ xs) = (let a = shorter k xs in omega arith)
 
 -- the runs of cells that rise
 frame_between : (size n k : ℕ) (cells : List Cell) → length cells ≤ size → CellsRise n k cells →

@@ -54,14 +54,15 @@ end_within n [] r = absurd r
 end_within n (c ∷ []) r = (let a = r.0 in omega arith)
 end_within n (c ∷ (d ∷ run)) r = let a = r.0 in let b = end_within (c.at + 1) (d ∷ run) r.1 in omega arith
 
+pub shorter : (k : ℕ) (xs : List Cell) → length (drop k xs) ≤ length xs
+shorter zero xs = omega arith
+shorter (suc k) [] = omega arith
+shorter (suc k) (x ∷ xs) = (let a = shorter k xs in omega arith)
+
 -- the runs of a frame are in order
 pub runs_in_order : (size : ℕ) (n : ℕ) (cells : List Cell) → length cells ≤ size → RisesFrom n cells → InOrder IsRunFrom end_of n (runs_of cells)
 runs_in_order size n [] l r = tt
 runs_in_order zero n (c ∷ cells) l r = absurd (omega arith)
 runs_in_order (suc size) n (c ∷ cells) l r =
     subst (λ (x : List (List Cell)). InOrder IsRunFrom end_of n x) (sym (runs_split c cells))
-    ((r.0, rises_take (more_of c cells) (c.at + 1) cells r.1), runs_in_order size (end_of (c ∷ take (more_of c cells) cells)) (drop (more_of c cells) cells) (omega (arith, shorter (more_of c cells) cells)) (rises_behind (more_of c cells) n c cells r)) where
-      shorter : (k : ℕ) (xs : List Cell) → length (drop k xs) ≤ length xs
-      shorter zero xs = omega arith
-      shorter (suc k) [] = omega arith
-      shorter (suc k) (x ∷ xs) = (let a = shorter k xs in omega arith)
+    ((r.0, rises_take (more_of c cells) (c.at + 1) cells r.1), runs_in_order size (end_of (c ∷ take (more_of c cells) cells)) (drop (more_of c cells) cells) (omega (arith, shorter (more_of c cells) cells)) (rises_behind (more_of c cells) n c cells r))

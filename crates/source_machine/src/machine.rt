@@ -22,54 +22,42 @@ pub enum SourceMachine {
     Stp(StpDecoder),
 }
 
-/// What an ITM decoder answers, as a machine of sources does.
+/// What a decoder of this kind answers, as a machine of sources does.
+macro_rules! packet_step {
+    ($step:expr, $kind:ident) => {
+        match $step {
+            Step::Quiet => Step::Quiet,
+            Step::Skipping => Step::Skipping,
+            Step::Item { half, item } => Step::Item {
+                half,
+                item: Packet::$kind(item),
+            },
+            Step::Locked {
+                skipped,
+                half,
+                item,
+            } => Step::Locked {
+                skipped,
+                half,
+                item: Packet::$kind(item),
+            },
+            Step::Fault(fault) => Step::Fault(fault),
+        }
+    };
+}
+
 #[inline(always)]
 pub(crate) fn itm_step(step: Step<ItmPacket>) -> Step<Packet>
     ensures { result ≡ step_as Itm step }
 {
-    match step {
-        Step::Quiet => Step::Quiet,
-        Step::Skipping => Step::Skipping,
-        Step::Item { half, item } => Step::Item {
-            half,
-            item: Packet::Itm(item),
-        },
-        Step::Locked {
-            skipped,
-            half,
-            item,
-        } => Step::Locked {
-            skipped,
-            half,
-            item: Packet::Itm(item),
-        },
-        Step::Fault(fault) => Step::Fault(fault),
-    }
+    packet_step!(step, Itm)
 }
 
-/// What an STP decoder answers, as a machine of sources does.
 #[inline(always)]
 pub(crate) fn stp_step(step: Step<StpItem>) -> Step<Packet>
     ensures { result ≡ step_as Stp step }
 {
-    match step {
-        Step::Quiet => Step::Quiet,
-        Step::Skipping => Step::Skipping,
-        Step::Item { half, item } => Step::Item {
-            half,
-            item: Packet::Stp(item),
-        },
-        Step::Locked {
-            skipped,
-            half,
-            item,
-        } => Step::Locked {
-            skipped,
-            half,
-            item: Packet::Stp(item),
-        },
-        Step::Fault(fault) => Step::Fault(fault),
-    }
+    packet_step!(step, Stp)
 }
 
 impl SourceMachine {

@@ -9,15 +9,13 @@ use Rattle.std.proofs.lemmas.Bool.Decides.{nat_tests}
 use Rattle.std.proofs.lemmas.Grind.{flat_map-append}
 use Rattle.std.proofs.lemmas.List.{map-append}
 use Rattle.std.proofs.lemmas.List.Sums.{sum_by-append, count_by-le-length}
+use Rattle.std.proofs.lemmas.Bool.{or_right, eqb-true}
+use Rattle.frame_grammar.proofs.CellLaws.{range_push}
 use Rattle.source_merge.specs.Names.{Cell, Placed, Stream, Stands, reading_of, Packet, Plan, SourceKind, Itm, Stp, stream_of, sources_by}
 use Rattle.source_merge.specs.Names.{kind_of, PortReading, SourceTail, Mapped, source_tails, tail_by, list_of}
 use Rattle.source_events.proofs.Merges.{test_same, test_other}
 use Rattle.source_merge.specs.declared.slot.Slot.{Slot}
 use Rattle.source_merge.specs.Routing.{mapped_of, AllStand, HasNot}
-
-or_right : (t u : Bool) → u ≡ true → (t || u) ≡ true
-or_right true u e = refl
-or_right false u e = e
 
 -- what the bytes of the first source of this ID read as
 abbrev pub reading_at : {V : Type 0} → ℕ → List (Mapped V) → Option (List Placed → Stream V)
@@ -56,9 +54,6 @@ after_one p n k e = by (nat_lt (1 + p) (suc n)) refl e where
   by true q h = (ap (λ (t : Bool). cond t (Some p) None) (less q), (let z = h in cc))
   by false q h = cc
 
-test_is : (a b : ℕ) → (a == b) ≡ true → a ≡ b
-test_is a b e = grind (arith, nat_tests)
-
 module _ (x : ℕ) where
   pub first_at : (slots : List Slot) (k : ℕ) → position (λ (s : Slot). s.id == x) slots ≡ Some k →
       FirstAt x slots k
@@ -76,7 +71,7 @@ module _ (x : ℕ) where
       parts = refl;
       count = at_zero (length slots) k h;
       own = ap (λ (t : Bool). cond t (Some (reading_of s.machine)) (reading_at x (mapped_of slots))) q;
-      id_is = test_is s.id x q;
+      id_is = eqb-true s.id x q;
     }
     by false q h rest =
         let p = position_or_len (λ (s : Slot). s.id == x) slots in
@@ -199,20 +194,13 @@ pub below_all : (n : ℕ) (slots : List Slot) → below n slots ≤ length slots
 unfolding below
 below_all n slots = count_by-le-length (λ (s : Slot). nat_lt s.id n) slots
 
-range_more : (a n : ℕ) → range_with_len a (suc n) ≡ range_with_len a n ++ (a + n) ∷ []
-range_more a zero = ap (λ (x : ℕ). x ∷ []) (let e : a ≡ a + 0 = omega arith in e)
-range_more a (suc n) =
-    ap (λ (l : List ℕ). a ∷ l)
-    (range_more (a + 1) n
-    ∙ (let e : a + 1 + n ≡ a + suc n = omega arith in ap (λ (x : ℕ). range_with_len (a + 1) n ++ x ∷ []) e))
-
 -- the tails of one more ID
 pub tails_more : (plan : Plan) (r : PortReading) (n : ℕ) →
     source_tails plan r (n + 1) ≡ source_tails plan r n ++ tail_by plan r n (kind_of plan n)
 unfolding source_tails
 tails_more plan r n =
     ap (λ (m : ℕ). flat_map one (range_with_len 0 m)) (let e : n + 1 ≡ suc n = omega arith in e)
-    ∙ ap (flat_map one) (range_more 0 n ∙ ap (λ (m : ℕ). range_with_len 0 n ++ m ∷ []) (let e : 0 + n ≡ n = omega arith in e))
+    ∙ ap (flat_map one) (range_push 0 n ∙ ap (λ (m : ℕ). range_with_len 0 n ++ m ∷ []) (let e : 0 + n ≡ n = omega arith in e))
     ∙ flat_map-append one (range_with_len 0 n) (n ∷ [])
     ∙ ap (λ (l : List SourceTail). flat_map one (range_with_len 0 n) ++ l) (append-nil (one n)) where
       one : ℕ → List SourceTail

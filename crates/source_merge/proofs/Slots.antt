@@ -4,6 +4,7 @@ use Rattle.std.specs.Prelude.{◌==◌, position, nat_lt, not}
 use Rattle.std.specs.List.{position_or_len}
 use Rattle.std.proofs.lemmas.Bool.Decides.{nat_tests}
 use Rattle.std.proofs.lemmas.List.{map-append}
+use Rattle.std.proofs.lemmas.Bool.{eqb-false}
 use Rattle.source_merge.specs.Names.{Cell, Place, Placed, Said, is_source, id_of, placed_run, list_of, told}
 use Rattle.source_merge.specs.Names.{grown, Mapped, Stands, Stop, held_of, is_live, reading_of, skipped_by, IsLawful, AreLawful, lifted, raw_events, events}
 use Rattle.source_merge.specs.declared.slot.Slot.{Slot}
@@ -12,9 +13,6 @@ use Rattle.source_merge.specs.Routing.{mapped_of, AllStand, AreReady, HasNot, Ar
 use Rattle.source_events.proofs.Least.{AreSound}
 use Rattle.source_events.proofs.Merges.{test_same, test_other, grown_by}
 use Rattle.source_events.proofs.Family.{list_other, raws_own, events_other, own_push}
-
-test_not : (a b : ℕ) → (a == b) ≡ false → a ≢ b
-test_not a b e = grind (arith, nat_tests)
 
 -- a source that is not there
 cond_none : (t : Bool) (a : ℕ) → cond t (Some a) None ≡ None → t ≡ false
@@ -38,7 +36,7 @@ pub not_found : (x : ℕ) (slots : List Slot) → position (λ s. s.id == x) slo
 not_found x [] e = tt
 not_found x (s ∷ slots) e =
     let k = none_behind (λ (t : Slot). t.id == x) s slots e in
-    ((λ h. test_not s.id x k.0 (sym h)), not_found x slots k.1)
+    ((λ h. eqb-false s.id x k.0 (sym h)), not_found x slots k.1)
 
 pub ready_at : (n : ℕ) (front : List Slot) (s : Slot) (back : List Slot) → AreReady n (front ++ (s ∷ back)) →
     (is_live s.machine ≡ true) × (held_of s.machine + skipped_by s.machine ≤ n)

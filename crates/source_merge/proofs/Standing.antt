@@ -1,10 +1,10 @@
 -- How what an engine keeps goes on with more bytes.
-use Rattle.std.proofs.Common.{◌≡◌, ◌≢◌, ℕ, List, [], ◌∷◌, ◌++◌, map, refl, sym, ◌∙◌, ap, arith, Option, None, Some, true, false, Bool}
+use Rattle.std.proofs.Common.{◌≡◌, ℕ, List, [], ◌∷◌, ◌++◌, map, refl, sym, ◌∙◌, ap, Option, None, Some, true, false, Bool}
 use Rattle.std.specs.Prelude.{is_none, nat_le, not, ◌&&◌, ◌||◌, ◌==◌}
 use Rattle.std.specs.Option.{option_map, is_some}
 use Rattle.std.specs.List.{list_any}
 use Rattle.std.proofs.lemmas.List.{map-append}
-use Rattle.std.proofs.lemmas.Bool.Decides.{nat_tests}
+use Rattle.std.proofs.lemmas.Bool.{and_parts, eqb-false, not-true}
 use Rattle.source_merge.specs.Names.{Stop, Packet, Plan, SourceKind, Itm, Stp, stream_of, sources_by, is_sound, Mapped}
 use Rattle.source_merge.specs.Names.{stop_of}
 use Rattle.source_events.specs.Plan.{mapped_ids, are_sound}
@@ -31,13 +31,6 @@ ids_are plan =
     ∙ ap (λ (l : List ℕ). l ++ map (λ (s : ℕ × SourceKind). s.0) (map (λ (x : ℕ). (x, Stp)) plan.stp)) (ids_with Itm plan.itm)
     ∙ ap (λ (l : List ℕ). plan.itm ++ l) (ids_with Stp plan.stp)
 
-both : (a b : Bool) → (a && b) ≡ true → (a ≡ true) × (b ≡ true)
-both true b e = (refl, e)
-both false b e = cc
-
-other : (x y : ℕ) → (x == y) ≡ false → x ≢ y
-other x y e = grind (arith, nat_tests)
-
 has_not : (x : ℕ) (ss : List (Mapped Packet)) → list_any (λ (y : ℕ). y == x) (ids_of ss) ≡ false → HasNot x ss
 unfolding ids_of
 has_not x [] e = tt
@@ -45,20 +38,16 @@ has_not x (s ∷ ss) e = by (s.id == x) refl e (λ h. has_not x ss h) where
   by : (t : Bool) → (s.id == x) ≡ t → (t || list_any (λ (y : ℕ). y == x) (ids_of ss)) ≡ false →
       (list_any (λ (y : ℕ). y == x) (ids_of ss) ≡ false → HasNot x ss) → HasNot x (s ∷ ss)
   by true k h more = cc
-  by false k h more = ((λ q. other s.id x k (sym q)), more h)
-
-un_not : (t : Bool) → not t ≡ true → t ≡ false
-un_not true k = cc
-un_not false k = refl
+  by false k h more = ((λ q. eqb-false s.id x k (sym q)), more h)
 
 distinct_are : (ss : List (Mapped Packet)) → are_sound (ids_of ss) ≡ true → AreDistinct ss
 unfolding ids_of
 distinct_are [] e = tt
 distinct_are (s ∷ ss) e =
     let not_in = not (list_any (λ (y : ℕ). y == s.id) (ids_of ss)) in
-    let a = both (nat_le 1 s.id && nat_le s.id 111 && not_in) (are_sound (ids_of ss)) e in
-    let b = both (nat_le 1 s.id && nat_le s.id 111) not_in a.0 in
-    (has_not s.id ss (un_not _ b.1), distinct_are ss a.1)
+    let a = and_parts (nat_le 1 s.id && nat_le s.id 111 && not_in) (are_sound (ids_of ss)) e in
+    let b = and_parts (nat_le 1 s.id && nat_le s.id 111) not_in a.0 in
+    (has_not s.id ss (not-true _ b.1), distinct_are ss a.1)
 
 pub distinct : (plan : Plan) → is_sound plan ≡ true → AreDistinct (sources_by plan)
 distinct plan e = distinct_are (sources_by plan) (ap are_sound (ids_are plan) ∙ e)

@@ -3,7 +3,7 @@ use Rattle.std.proofs.Common.{◌≡◌, ℕ, zero, suc, ◌+◌, ◌-◌, ◌*�
 use Rattle.std.proofs.Common.{length-append, take, drop, get_or, sym, ◌∙◌, ap, subst, arith}
 use Rattle.std.proofs.Math.Nat.{pow-suc, mul-le-mul_right}
 use Rattle.std.proofs.lemmas.Nat.{div-mul-add, pow-add}
-use Rattle.stp_grammar.proofs.Numbers.{pow_of}
+use Rattle.trace_clock.proofs.LastWords.{pow_of}
 use Rattle.stp_codec.specs.Names.{Msn, number}
 use Rattle.stp_codec.specs.Wholes.{nibbles_in, between}
 use Rattle.stp_codec.proofs.Between.{length-nibbles, between_parts, length-between}

@@ -18,9 +18,6 @@ leaves_is (Go r) t h = h
 leaves_is (End v) t h = sym h
 leaves_is (Fail r) t h = absurd h
 
-pub few_word : (size : ℕ) → size < 15 → nibble_count size ≤ 16
-few_word size h = grind (arith, nat_tests)
-
 -- a timestamp's size and word
 pub ends_stamp : (xs : List ℕ) (start size word : ℕ) (row : Row) (payload : ℕ) → start < length xs → size ≡ get_or xs start 0 → size < 15 →
     start + 1 + nibble_count size ≤ length xs → word ≡ number_from Msn 0 0 (between xs (start + 1) (start + 1 + nibble_count size)) →

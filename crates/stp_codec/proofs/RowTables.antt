@@ -3,9 +3,10 @@ use Rattle.std.proofs.Common.{◌≡◌, ℕ, ◌+◌, ◌*◌, ◌%◌, ◌⊎�
 use Rattle.std.proofs.Common.{ap, arith}
 use Rattle.std.specs.Prelude.{◌==◌, ◌&&◌, ◌||◌, nat_le, nat_lt}
 use Rattle.std.proofs.lemmas.Bool.Decides.{nat_tests}
+use Rattle.std.proofs.lemmas.Bool.{eqb-true, leb-true}
 use Rattle.stp_codec.specs.Names.{Next, Go, End, Fail, StpPacket, Partial, row_at, Order, begin, is_sound}
 use Rattle.stp_codec.specs.Wholes.{left_by}
-use Rattle.stp_grammar.proofs.Tables.{under, below, equal, at_most}
+use Rattle.stp_grammar.proofs.Tables.{under, below}
 use Rattle.stp_codec.specs.declared.flat.TheConstants.{OPCODES}
 
 -- a packet that goes on
@@ -27,7 +28,7 @@ row_goes n h l =
 -- the table by an opcode's last nibble: after none, after F, and after F and 0
 number_few : (n : ℕ) → n < 48 → get_or OPCODES.now n 0 ≤ 35
 unfolding under
-number_few n l = at_most _ _ (below (λ k. nat_le (get_or OPCODES.now k 0) 35) 48 n l refl)
+number_few n l = leb-true _ _ (below (λ k. nat_le (get_or OPCODES.now k 0) 35) 48 n l refl)
 
 pub one_at_most : (s : Bool) → cond s 1 0 ≤ 1
 one_at_most true = omega arith
@@ -41,7 +42,7 @@ number_most s t two three x e f =
 
 pub number_of_one : (a : ℕ) → a < 15 → get_or OPCODES.now a 0 ≡ a
 unfolding under
-number_of_one a l = equal _ _ (below (λ k. get_or OPCODES.now k 0 == k) 15 a l refl)
+number_of_one a l = eqb-true _ _ (below (λ k. get_or OPCODES.now k 0 == k) 15 a l refl)
 
 says_two : ℕ → ℕ → Bool
 says_two b n = (b == 0) || ((n == 35) || (nat_lt b 15 && (n == 14 + b)))

@@ -2,8 +2,7 @@
 use Rattle.std.proofs.Common.{◌≡◌, ℕ, zero, suc, ◌+◌, ◌/◌, ◌%◌, ◌^◌, ◌<◌, ◌≤◌, ◌==◌, List, [], ◌∷◌, ◌++◌, refl, sym, ◌∙◌, ap, arith, Bool, true, false, cond, Option, None, Some, inl, inr, unwrap_or}
 use Rattle.std.specs.List.{find, range_with_len}
 use Rattle.std.proofs.lemmas.Nat.{mod-mul-add, mod_below}
-use Rattle.std.proofs.lemmas.Bool.{cases_lt}
-use Rattle.std.proofs.lemmas.Bool.Decides.{nat_tests}
+use Rattle.std.proofs.lemmas.Bool.{cases_lt, eq-eqb, ne_eqb, eqb-true}
 use Rattle.std.proofs.Math.Nat.{pow-le-pow_right}
 use Rattle.stp_encoder.specs.Names.{natural_of, gray_of, SizedWord, sized, nibble_count, WordFits, last_word, next_word}
 use Rattle.stp_encoder.specs.Names.{IsLeast}
@@ -13,20 +12,6 @@ use Rattle.stp_encoder.specs.Packets.{low_nibbles, shortest_stamp}
 
 pow_pos : (n : ℕ) → 0 < 16 ^ n
 pow_pos n = let k : 16 ^ 0 ≤ 16 ^ n = pow-le-pow_right (omega arith) {i = 0} {j = n} (omega arith) in omega (arith, k)
-
-same : (a b : ℕ) → a ≡ b → (a == b) ≡ true
-same a b e = grind (arith, nat_tests)
-
-not_same : (a b : ℕ) → (a ≡ b → ⊥) → (a == b) ≡ false
-not_same a b h = by (a == b) refl where
-  by : (t : Bool) → (a == b) ≡ t → t ≡ false
-  by true e = absurd (h (are_same a b e)) where
-    are_same : (a b : ℕ) → (a == b) ≡ true → a ≡ b
-    are_same a b e = grind (arith, nat_tests)
-  by false e = refl
-
-is_same : (a b : ℕ) → (a == b) ≡ true → a ≡ b
-is_same a b e = grind (arith, nat_tests)
 
 -- the first of a row of numbers that passes a test
 module _ (test : ℕ → Bool) where
@@ -97,8 +82,8 @@ unfolding shortest_stamp makes
 shortest_is last target size word f e least =
     let found : find (makes last target) (range_with_len 0 15) ≡ Some size =
     find_first (makes last target) 15 0 size (omega arith) (let z = f.0 in omega (arith, z))
-    (λ y a b. not_same (next_word last (low_nibbles target y)) target (λ q. least y (target % 16 ^ nibble_count y) b (low_fits target y (let z = f.0 in omega (arith, b, z))) q))
-    (same (next_word last (low_nibbles target size)) target (made_by_low last target size word f e)) in
+    (λ y a b. ne_eqb (next_word last (low_nibbles target y)) target (λ q. least y (target % 16 ^ nibble_count y) b (low_fits target y (let z = f.0 in omega (arith, b, z))) q))
+    (eq-eqb (next_word last (low_nibbles target size)) target (made_by_low last target size word f e)) in
     ap (sized size) (low_is last target size word f e) ∙ ap (λ (o : Option ℕ). low_nibbles target (unwrap_or o 14)) (sym found)
 
 -- it makes the word
@@ -114,14 +99,14 @@ shortest_makes last word l h = by (find (makes last word) (range_with_len 0 15))
   by None e = (low_fits word 14 (omega arith), whole_makes last word l h)
   by (Some x) e =
       let p = find_passes (makes last word) 15 0 x e in
-      (low_fits word x (let z = p.1 in omega (arith, z)), is_same (next_word last (low_nibbles word x)) word p.0)
+      (low_fits word x (let z = p.1 in omega (arith, z)), eqb-true (next_word last (low_nibbles word x)) word p.0)
 
 -- and no smaller one does
 none_smaller : (last word other w : ℕ) → last < 2 ^ 64 → word < 2 ^ 64 → other < (shortest_stamp last word).size → WordFits other w → next_word last (sized other w) ≡ word → ⊥
 unfolding shortest_stamp makes
 none_smaller last word other w l h less f e = by (find (makes last word) (range_with_len 0 15)) refl less where
   passes : makes last word other ≡ true
-  passes = same (next_word last (low_nibbles word other)) word (made_by_low last word other w f e)
+  passes = eq-eqb (next_word last (low_nibbles word other)) word (made_by_low last word other w f e)
 
   by : (o : Option ℕ) → find (makes last word) (range_with_len 0 15) ≡ o → other < unwrap_or o 14 → ⊥
   by None g less = let n = find_none (makes last word) 15 0 other g (omega arith) (omega (arith, less)) in let p = passes in cc

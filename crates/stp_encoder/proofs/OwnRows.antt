@@ -1,11 +1,11 @@
 -- The rows of items' own packets, and what it says of an item that it fits.
 use Rattle.std.proofs.Common.{◌≡◌, ℕ, ◌^◌, ◌<◌, refl, subst, arith, ◌==◌, Bool, true, false, not, ◌||◌, Option}
+use Rattle.std.proofs.lemmas.Bool.{eqb-true}
 use Rattle.stp_encoder.specs.Names.{Width, Row, StpItem, Datum as DatumItem, Flag as FlagItem, Trigger as TriggerItem}
 use Rattle.stp_encoder.specs.Names.{Frequency as FrequencyItem, NullStamp as NullStampItem, line_of, bits_of}
 use Rattle.stp_grammar.specs.declared.packet.Row.TheVariants.{Datum, Flag, NullStamp, Trigger, Frequency}
 use Rattle.stp_grammar.proofs.EachRow.{each_test}
 use Rattle.stp_encoder.specs.Fitting.{item_place, item_stamp, is_of_version, is_named, has_content, is_unfit}
-use Rattle.stp_encoder.proofs.Places.{are_same}
 use Rattle.stp_encoder.proofs.Stamps.{MakesItem}
 
 -- the rows of items with a timestamp or none
@@ -16,7 +16,7 @@ datum_width row = true
 datum_fits : (width : Width) (marked stamped : Bool) (value : ℕ) → value < 2 ^ bits_of width → value < 16 ^ (line_of (Datum width marked stamped)).payload
 unfolding datum_width
 datum_fits width marked stamped value h =
-    subst (λ (n : ℕ). value < n) (are_same (2 ^ bits_of width) (16 ^ (line_of (Datum width marked stamped)).payload) (each_test datum_width refl (Datum width marked stamped))) h
+    subst (λ (n : ℕ). value < n) (eqb-true (2 ^ bits_of width) (16 ^ (line_of (Datum width marked stamped)).payload) (each_test datum_width refl (Datum width marked stamped))) h
 
 pub makes_datum : (width : Width) (marked stamped : Bool) (value : ℕ) → value < 2 ^ bits_of width → MakesItem (Datum width marked stamped) value (λ place stamp. DatumItem place width value marked stamp)
 makes_datum width marked stamped value h = record { makes = λ p s. refl; fits = datum_fits width marked stamped value h; quiet = λ o. (refl, refl) }

@@ -1,14 +1,11 @@
 -- The packets before an item make its place the one in force, and are no items.
 use Rattle.std.proofs.Common.{◌≡◌, ℕ, ◌+◌, ◌*◌, ◌/◌, ◌%◌, ◌^◌, ◌<◌, ◌==◌, List, [], ◌∷◌, ◌++◌, refl, sym, ◌∙◌, ap, subst, append_assoc, append-nil, arith, Bool, true, false, cond, Option, None, Some}
 use Rattle.std.specs.Option.{ForSome}
-use Rattle.std.proofs.lemmas.Bool.Decides.{nat_tests}
+use Rattle.std.proofs.lemmas.Bool.{eqb-true}
 use Rattle.stp_encoder.specs.Names.{Row, Master8, Channel8, Master16, Channel16, StpPacket, Plain, Place, IsProper}
 use Rattle.stp_encoder.specs.Names.{master_of, channel_of, place_of, next_number, next_master, next_channel}
 use Rattle.stp_grammar.proofs.Attributing.{master_more, channel_more}
 use Rattle.stp_encoder.specs.Packets.{telling, telling_place}
-
-pub are_same : (a b : ℕ) → (a == b) ≡ true → a ≡ b
-are_same a b e = grind (arith, nat_tests)
 
 -- other low 8 bits under the same high ones
 low_told : (k n : ℕ) → k / 256 ≡ n / 256 → k / 256 * 256 + n % 256 ≡ n
@@ -21,10 +18,10 @@ module _ (of : List StpPacket → Option ℕ) (low whole : Row) (before : List S
   by_known None e = all
   by_known (Some k) e = choose (k == n) (k / 256 == n / 256) refl refl where
     choose : (s t : Bool) → (k == n) ≡ s → (k / 256 == n / 256) ≡ t → of (before ++ cond s [] (cond t (Plain low (n % 256) ∷ []) (Plain whole n ∷ []))) ≡ Some n
-    choose true t f g = ap of (append-nil before) ∙ e ∙ ap Some (are_same k n f)
+    choose true t f g = ap of (append-nil before) ∙ e ∙ ap Some (eqb-true k n f)
     choose false true f g =
         part ∙ ap (λ (o : Option ℕ). next_number o None (Some (n % 256))) e
-        ∙ ap Some (low_told k n (are_same (k / 256) (n / 256) g))
+        ∙ ap Some (low_told k n (eqb-true (k / 256) (n / 256) g))
     choose false false f g = all
 
 master_told : (before : List StpPacket) (n : ℕ) → n < 2 ^ 16 → master_of (before ++ telling Master8 Master16 (master_of before) (Some n)) ≡ Some n

@@ -1,42 +1,27 @@
 -- An item's own packet gives the item back, with its place and its timestamp.
-use Rattle.std.proofs.Common.{◌≡◌, ℕ, ◌^◌, ◌<◌, ◌==◌, List, [], ◌∷◌, ◌++◌, refl, sym, ◌∙◌, ap, subst, arith, Bool, true, false, cond, not, ◌||◌, Option, None, Some}
-use Rattle.std.specs.List.{filter_map, after_last}
-use Rattle.std.proofs.lemmas.Bool.Decides.{nat_tests}
-use Rattle.stp_encoder.specs.Names.{natural_of, gray_of, SizedWord, WordFits, sized, last_word, next_word, Row}
+use Rattle.std.proofs.Common.{◌≡◌, ℕ, ◌^◌, ◌<◌, ◌==◌, List, [], ◌∷◌, ◌++◌, refl, sym, ◌∙◌, ap, subst, Bool, true, false, cond, not, ◌||◌, Option, None, Some}
+use Rattle.std.proofs.lemmas.Bool.{eqb-true}
+use Rattle.stp_grammar.proofs.Items.{last_lt}
+use Rattle.stp_encoder.specs.Names.{natural_of, gray_of, SizedWord, WordFits, sized, next_word, Row}
 use Rattle.stp_encoder.specs.Names.{StpPacket, Plain, Stamped, Place, Stamp, None as NoStamp, Natural, Gray, Raw}
 use Rattle.stp_encoder.specs.Names.{StpItem, line_of, IsProper, IsProperStamp, next_master, next_channel, version_of}
 use Rattle.stp_encoder.specs.Names.{last_word_of, place_of, stamp_of, stamp_by, keeps_word, item_with, item_of}
-use Rattle.stp_encoder.specs.Names.{stamp_in, begins_master}
 use Rattle.trace_clock.proofs.GrayCodes.{to_and_fro, gray_lt}
-use Rattle.trace_clock.proofs.LastWords.{word_lt}
 use Rattle.stp_grammar.proofs.Attributing.{version_more, last_more}
 use Rattle.stp_encoder.specs.Fitting.{is_version, is_of_version}
 use Rattle.stp_encoder.specs.Packets.{shortest_stamp, packed_stamp, with_stamp}
 use Rattle.stp_encoder.proofs.Least.{shortest_makes}
 use Rattle.stp_encoder.proofs.Places.{place_kept}
 
--- a last word has 64 bits
-chosen_fits : (t : Bool) (word : ℕ) → word < 2 ^ 64 → cond t word 0 < 2 ^ 64
-chosen_fits true word h = h
-chosen_fits false word h = omega arith
-
-word_fits : (packets : List StpPacket) → last_word_of packets < 2 ^ 64
-unfolding last_word_of
-word_fits packets =
-    let stamps = filter_map stamp_in (after_last begins_master packets) in
-    chosen_fits (keeps_word (version_of packets)) (last_word stamps) (word_lt stamps)
-
 version_is : (n : ℕ) (o : Option ℕ) → is_version n o ≡ true → o ≡ Some n
 version_is n None e = cc
-version_is n (Some v) e = ap Some (same v n e) where
-  same : (a b : ℕ) → (a == b) ≡ true → a ≡ b
-  same a b e = grind (arith, nat_tests)
+version_is n (Some v) e = ap Some (eqb-true v n e)
 
 -- the size and the word that a stamp is packed in fit, and tell the stamp
 pub packed_fits : (before : List StpPacket) (stamp : Stamp) (s : SizedWord) → IsProperStamp stamp → packed_stamp before stamp ≡ Some s → WordFits s.size s.word
 packed_fits before NoStamp s h e = cc
-packed_fits before (Natural time) s h e = let q : shortest_stamp (last_word_of before) time ≡ s = cc in subst (λ (z : SizedWord). WordFits z.size z.word) q (shortest_makes (last_word_of before) time (word_fits before) h).0
-packed_fits before (Gray time) s h e = let q : shortest_stamp (last_word_of before) (gray_of time) ≡ s = cc in subst (λ (z : SizedWord). WordFits z.size z.word) q (shortest_makes (last_word_of before) (gray_of time) (word_fits before) (gray_lt time)).0
+packed_fits before (Natural time) s h e = let q : shortest_stamp (last_word_of before) time ≡ s = cc in subst (λ (z : SizedWord). WordFits z.size z.word) q (shortest_makes (last_word_of before) time (last_lt before) h).0
+packed_fits before (Gray time) s h e = let q : shortest_stamp (last_word_of before) (gray_of time) ≡ s = cc in subst (λ (z : SizedWord). WordFits z.size z.word) q (shortest_makes (last_word_of before) (gray_of time) (last_lt before) (gray_lt time)).0
 packed_fits before (Raw size word) s h e = let q : sized size word ≡ s = cc in subst (λ (z : SizedWord). WordFits z.size z.word) q h
 
 raw_stays : (o : Option ℕ) (last size word : ℕ) → not (keeps_word o) ≡ true → stamp_by o last size word ≡ Raw size word
@@ -67,11 +52,11 @@ module _ (before : List StpPacket) (row : Row) (payload : ℕ) where
   stamp_back NoStamp s p h e k = cc
   stamp_back (Natural time) s p h e k =
       let q : shortest_stamp (last_word_of before) time ≡ s = cc in
-      let m = shortest_makes (last_word_of before) time (word_fits before) h in
+      let m = shortest_makes (last_word_of before) time (last_lt before) h in
       timed 3 time s (p, packed_fits before (Natural time) s h k) (version_is 3 (version_of before) e) refl (ap (next_word (last_word_of before)) (sym q) ∙ m.1)
   stamp_back (Gray time) s p h e k =
       let q : shortest_stamp (last_word_of before) (gray_of time) ≡ s = cc in
-      let m = shortest_makes (last_word_of before) (gray_of time) (word_fits before) (gray_lt time) in
+      let m = shortest_makes (last_word_of before) (gray_of time) (last_lt before) (gray_lt time) in
       timed 4 (gray_of time) s (p, packed_fits before (Gray time) s h k) (version_is 4 (version_of before) e) refl (ap (next_word (last_word_of before)) (sym q) ∙ m.1)
       ∙ ap Gray (to_and_fro time h)
   stamp_back (Raw size word) s p h e k =

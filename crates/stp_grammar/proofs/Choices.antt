@@ -1,6 +1,6 @@
 -- Tests, and what they say.
 use Rattle.std.proofs.Common.{◌≡◌, ℕ, ◌+◌, ◌<◌, List, [], ◌∷◌, length, Bool, true, false, cond, refl, ◌⊎◌, inl, inr, arith}
-use Rattle.std.specs.Prelude.{nat_lt, ◌==◌}
+use Rattle.std.specs.Prelude.{◌==◌}
 use Rattle.std.proofs.lemmas.Bool.Decides.{nat_tests}
 use Rattle.stp_grammar.specs.Names.{nibble_count}
 
@@ -9,18 +9,11 @@ pub chosen : {A : Type 0} (t : Bool) {x y z : A} → cond t x y ≡ z → ((t �
 chosen true e = inl (refl, e)
 chosen false e = inr (refl, e)
 
-pub tested : (t : Bool) → (t ≡ true) ⊎ (t ≡ false)
-tested true = inl refl
-tested false = inr refl
-
 pub is_zero : (n : ℕ) → (n == 0) ≡ true → n ≡ 0
 is_zero n e = grind (arith, nat_tests)
 
 pub not_zero : (n : ℕ) → (n == 0) ≡ false → 0 < n
 not_zero n e = grind (arith, nat_tests)
-
-pub under : (n m : ℕ) → nat_lt n m ≡ true → n < m
-under n m e = grind (arith, nat_tests)
 
 pub still_under : (n m : ℕ) → n < m → (n + 1 == m) ≡ false → n + 1 < m
 still_under n m h e = grind (arith, nat_tests)

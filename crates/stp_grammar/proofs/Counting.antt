@@ -1,7 +1,7 @@
 -- A state counts the nibbles of the unfinished packet.
 use Rattle.std.proofs.Common.{◌≡◌, ℕ, ◌+◌, ◌≤◌, List, [], ◌∷◌, length, Bool, true, false, cond, refl, sym, ◌∙◌, ap, subst, inl, inr, arith}
 use Rattle.std.specs.Prelude.{nat_lt, nat_le, ◌==◌, ◌&&◌}
-use Rattle.std.proofs.lemmas.Bool.Decides.{nat_tests}
+use Rattle.std.proofs.lemmas.Bool.{eqb-true}
 use Rattle.stp_grammar.specs.Names.{BadAsync, StampSize, Next, Go, End, Fail, Placed, Walked, Within, after, walk}
 use Rattle.stp_grammar.specs.Names.{nibble_count}
 use Rattle.stp_grammar.specs.declared.packet.Order.{Order}
@@ -24,15 +24,12 @@ choose : (n : ℕ) (t : Bool) (x y : Next Partial StpPacket) → (t ≡ true →
 choose n true x y h k = h refl
 choose n false x y h k = k refl
 
-equal : (n m : ℕ) → (n == m) ≡ true → n ≡ m
-equal n m e = grind (arith, nat_tests)
-
 paid : (row : Row) (payload n : ℕ) → n + 1 ≡ length (line_of row).opcode + (line_of row).payload → CountsOn n (after_payload row payload)
 paid row payload n e = choose n (line_of row).stamped (Go (Size row payload)) (End (Plain row payload)) (λ t. sym e) (λ t. tt)
 
 begun : (row : Row) (n : ℕ) → n + 1 ≡ length (line_of row).opcode → CountsOn n (begin row)
 begun row n e = choose n ((line_of row).payload == 0) (after_payload row 0) (Go (Payload row 0 0))
-    (λ t. paid row 0 n (let k = equal (line_of row).payload 0 t in omega (arith, k, e))) (λ t. omega (arith, e))
+    (λ t. paid row 0 n (let k = eqb-true (line_of row).payload 0 t in omega (arith, k, e))) (λ t. omega (arith, e))
 
 by_row : (o : Opening) (more : Partial) (r : List ℕ) (n : ℕ) → n + 1 ≡ length r → IsRow o r → CountsOn n (opened o more)
 by_row o more r n e (row, f, g) = subst (λ (z : Opening). CountsOn n (opened z more)) (sym f) (begun row n (e ∙ ap length (sym g)))
@@ -65,7 +62,7 @@ all_count order (Run count) b =
 all_count order (Payload row count value) b =
     let n = length (line_of row).opcode + count in
     choose n (count + 1 == (line_of row).payload) (after_payload row (number_with order count value b)) (Go (Payload row (count + 1) (number_with order count value b)))
-    (λ t. paid row (number_with order count value b) n (let k = equal (count + 1) (line_of row).payload t in omega (arith, k))) (λ t. omega arith)
+    (λ t. paid row (number_with order count value b) n (let k = eqb-true (count + 1) (line_of row).payload t in omega (arith, k))) (λ t. omega arith)
 all_count order (Size row payload) b =
     let n = length (line_of row).opcode + (line_of row).payload in
     choose n (nat_lt b 15) (cond (b == 0) (End (Stamped row payload 0 0)) (Go (Word row payload b 0 0))) (Fail StampSize)

@@ -2,6 +2,7 @@
 use Rattle.std.proofs.Common.{◌≡◌, ℕ, zero, suc, ◌≤◌, List, [], ◌∷◌, ◌++◌, replicate, append-nil, true, false, refl, sym, ◌∙◌, ap, subst, inl, inr, arith}
 use Rattle.std.specs.Prelude.{◌==◌}
 use Rattle.std.proofs.lemmas.Bool.Decides.{nat_tests}
+use Rattle.std.proofs.lemmas.Bool.{cases_Bool}
 use Rattle.stp_grammar.specs.Names.{Unsupported, Go, End, Fail, Walked, Whole, after, walk, Decides}
 use Rattle.trace_values.proofs.Walks as walks
 use Rattle.stp_grammar.specs.declared.packet.Order.{Order}
@@ -15,7 +16,6 @@ use Rattle.stp_grammar.specs.Spelling.{Spells, number, why}
 use Rattle.stp_grammar.specs.Rule.{rule, first_opening, second_opening, third_opening, begin, opened, after_payload}
 use Rattle.stp_grammar.proofs.EachRow.{AllOf, each}
 use Rattle.stp_grammar.proofs.Openings.{IsRow, first_cases, second_cases, third_cases}
-use Rattle.stp_grammar.proofs.Choices.{tested}
 use Rattle.stp_grammar.proofs.Walking.{says}
 use Rattle.stp_grammar.proofs.Runs.{run_complete, run_sound}
 use Rattle.stp_grammar.proofs.StampWalks.{stamp_complete}
@@ -77,7 +77,7 @@ module _ (order : Order) where
 
   pub second_sound : (r : List ℕ) (x : StpPacket) → from Second r ≡ Whole x → Spells order x (15 ∷ r)
   second_sound [] x w = cc
-  second_sound (b ∷ r) x w = elim (tested (b == 15)) [
+  second_sound (b ∷ r) x w = elim (cases_Bool (b == 15)) [
     | inl t ↦
         let s = run_sound order 2 r x (sym (says order (rule order Second b) (Go (Run 2)) r (rw t refl)) ∙ w) in
         let a : b ≡ 15 = (grind (arith, nat_tests)) in

@@ -1,6 +1,7 @@
 -- Each state that is reached can be finished.
 use Rattle.std.proofs.Common.{◌≡◌, ℕ, ◌-◌, List, [], ◌∷◌, ◌++◌, replicate, false, refl, ◌∙◌, inl, inr, arith}
 use Rattle.std.proofs.lemmas.List.{length-replicate}
+use Rattle.std.proofs.lemmas.Bool.{cases_Bool}
 use Rattle.stp_grammar.specs.Names.{Go, End, Walked, Within, Whole, after, walk, nibble_count}
 use Rattle.stp_grammar.specs.declared.packet.Order.{Order}
 use Rattle.stp_grammar.specs.declared.packet.Order.TheVariants.{Msn, Lsn}
@@ -13,7 +14,6 @@ use Rattle.stp_grammar.specs.declared.partial.Partial.TheVariants.{Start, Second
 use Rattle.stp_grammar.specs.Opcodes.{line_of}
 use Rattle.stp_grammar.specs.Rule.{rule, after_payload}
 use Rattle.stp_grammar.proofs.Digits.{value_from, stage_whole}
-use Rattle.stp_grammar.proofs.Choices.{tested}
 use Rattle.stp_grammar.proofs.Walking.{says}
 use Rattle.stp_grammar.proofs.Runs.{run_complete}
 use Rattle.stp_grammar.proofs.StampWalks.{word_same}
@@ -29,7 +29,7 @@ module _ (order : Order) where
   CanEnd s = (x : StpPacket) × (w : List ℕ) × (from s w ≡ Whole x)
 
   pub paid_ends : (row : Row) (payload : ℕ) → (x : StpPacket) × (w : List ℕ) × (after (after_payload row payload) (λ t. from t w) w ≡ Whole x)
-  paid_ends row payload = elim (tested (line_of row).stamped) [
+  paid_ends row payload = elim (cases_Bool (line_of row).stamped) [
     | inl m ↦ (Stamped row payload 0 0, 0 ∷ [], says order (after_payload row payload) (Go (Size row payload)) (0 ∷ []) (rw m refl))
     | inr m ↦ (Plain row payload, [], says order (after_payload row payload) (End (Plain row payload)) [] (rw m refl))
   ]

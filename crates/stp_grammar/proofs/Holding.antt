@@ -1,9 +1,10 @@
 -- But for a run of nibbles F, a state holds few nibbles.
-use Rattle.std.proofs.Common.{◌≡◌, ℕ, zero, suc, ◌+◌, ◌<◌, ◌≤◌, ◌⊎◌, inl, inr, List, length, replicate, All, true, refl, sym, ◌∙◌, subst, arith}
+use Rattle.std.proofs.Common.{◌≡◌, ℕ, zero, suc, ◌+◌, ◌≤◌, ◌⊎◌, inl, inr, List, length, replicate, All, true, refl, sym, ◌∙◌, subst, arith}
 use Rattle.std.specs.Prelude.{nat_le}
 use Rattle.std.proofs.lemmas.List.Elements.{All-nil, All-cons}
 use Rattle.std.proofs.lemmas.Bool.Decides.{nat_tests}
-use Rattle.stp_grammar.specs.Names.{Within, walk, nibble_count}
+use Rattle.trace_clock.proofs.LastWords.{few_nibbles}
+use Rattle.stp_grammar.specs.Names.{Within, walk}
 use Rattle.stp_grammar.specs.declared.packet.Order.{Order}
 use Rattle.stp_grammar.specs.declared.packet.Row.{Row}
 use Rattle.stp_grammar.specs.declared.partial.Partial.{Partial}
@@ -19,9 +20,6 @@ line_few row = at_most (length (line_of row).opcode + (line_of row).payload) (ea
   at_most : (n : ℕ) → nat_le n 18 ≡ true → n ≤ 18
   at_most n e = grind (arith, nat_tests)
 
-word_few : (size : ℕ) → size < 15 → nibble_count size ≤ 16
-word_few size h = grind (arith, nat_tests)
-
 all_same : (n b : ℕ) → All (λ c. c ≡ b) (replicate n b)
 all_same zero b = All-nil (λ c. c ≡ b)
 all_same (suc n) b = All-cons (λ c. c ≡ b) b (replicate n b) refl (all_same n b)
@@ -36,7 +34,7 @@ few order Third r h = inl (omega arith)
 few order (Run n) r h = inr (subst (λ l. All (λ b. b ≡ 15) l) (sym h.1) (all_same n 15))
 few order (Payload row n v) r h = inl (let k = line_few row in let l = h.0 in omega arith)
 few order (Size row p) r h = inl (let k = line_few row in omega arith)
-few order (Word row p size n v) r h = inl (let k = line_few row in let l = word_few size h.1 in let m = h.2 in omega arith)
+few order (Word row p size n v) r h = inl (let k = line_few row in let l = few_nibbles size h.1 in let m = h.2 in omega arith)
 
 pub holds_few : (order : Order) (s : Partial) (r : List ℕ) → walk (rule order) Start r ≡ Within s → Few (length r) r
 holds_few order s r e = subst (λ n. Few n r) (counted_nibbles order Start s r e ∙ nothing (length r)) (few order s r (belongs order s r e)) where

@@ -86,7 +86,7 @@ unfolding master_of channel_of
 place_proper ps a = (number_under begins_master master16_in master8_in master_tells ps a, number_under begins_channel channel16_in channel8_in channel_tells ps a)
 
 -- a timestamp
-last_lt : (ps : List StpPacket) → last_word_of ps < 2 ^ 64
+pub last_lt : (ps : List StpPacket) → last_word_of ps < 2 ^ 64
 unfolding last_word_of
 last_lt ps = by (keeps_word (version_of ps)) (filter_map stamp_in (after_last begins_master ps)) where
   by : (t : Bool) (stamps : List SizedWord) → cond t (last_word stamps) 0 < 2 ^ 64

@@ -1,8 +1,8 @@
 -- One more nibble of a number.
-use Rattle.std.proofs.Common.{◌≡◌, ℕ, zero, suc, ◌+◌, ◌*◌, ◌^◌, ◌%◌, ◌<◌, ◌≤◌, refl, sym, ◌∙◌, ap, arith}
+use Rattle.std.proofs.Common.{◌≡◌, ℕ, zero, suc, ◌+◌, ◌*◌, ◌^◌, ◌%◌, ◌<◌, ◌≤◌, ◌∙◌, ap, arith}
 use Rattle.std.proofs.Math.Nat.{pow-le-pow_right, mul-le-mul_left, mod-eq_of_lt, mul_comm}
-use Rattle.std.proofs.lemmas.Nat.{pow-add}
 use Rattle.std.proofs.lemmas.Grind.{pow_more}
+use Rattle.trace_clock.proofs.LastWords.{pow_of}
 use Rattle.stp_grammar.specs.declared.packet.Order.{Order}
 use Rattle.stp_grammar.specs.declared.packet.Order.TheVariants.{Msn, Lsn}
 use Rattle.stp_grammar.specs.Rule.{number_with}
@@ -18,13 +18,6 @@ lsn_fits n v b h k l =
     let p = pow_more 16 n in
     let q : 16 ^ n * b ≤ 16 ^ n * 15 = mul-le-mul_left (16 ^ n) (omega arith) in
     (omega (arith, p, q), most n h)
-
-pub pow_of : (n : ℕ) → 2 ^ (4 * n) ≡ 16 ^ n
-pow_of zero = refl
-pow_of (suc n) =
-    let e : 4 * suc n ≡ 4 * n + 4 = omega arith in
-    let f : suc n ≡ n + 1 = omega arith in
-    ap (λ k. 2 ^ k) e ∙ pow-add 2 (4 * n) 4 ∙ ap (λ x. x * 16) (pow_of n) ∙ sym (pow_more 16 n) ∙ ap (λ k. 16 ^ k) (sym f)
 
 shifted_one : (n b : ℕ) → n < 16 → b < 16 → b * 2 ^ (4 * n) % 2 ^ 64 ≡ 16 ^ n * b
 shifted_one n b h l =

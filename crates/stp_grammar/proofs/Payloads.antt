@@ -1,6 +1,7 @@
 -- The walk over a payload, and what follows it.
 use Rattle.std.proofs.Common.{◌≡◌, ℕ, ◌+◌, List, [], ◌++◌, length, append-nil, cond, refl, sym, ◌∙◌, ap, subst, inl, inr, arith}
 use Rattle.std.specs.Prelude.{◌==◌}
+use Rattle.std.proofs.lemmas.Bool.{cases_Bool}
 use Rattle.stp_grammar.specs.Names.{Go, End, Walked, Whole, after, walk}
 use Rattle.stp_grammar.specs.declared.packet.Order.{Order}
 use Rattle.stp_grammar.specs.declared.packet.Row.{Row}
@@ -12,7 +13,7 @@ use Rattle.stp_grammar.specs.Opcodes.{line_of}
 use Rattle.stp_grammar.specs.Spelling.{Spells, IsNumber, number}
 use Rattle.stp_grammar.specs.Rule.{rule, number_with, begin, after_payload}
 use Rattle.stp_grammar.proofs.Digits.{number_none, value_from, value_whole, stage_whole, stage_sound}
-use Rattle.stp_grammar.proofs.Choices.{empty, tested, is_zero, not_zero}
+use Rattle.stp_grammar.proofs.Choices.{empty, is_zero, not_zero}
 use Rattle.stp_grammar.proofs.Walking.{says, end_whole}
 use Rattle.stp_grammar.proofs.StampWalks.{stamp_sound}
 
@@ -26,7 +27,7 @@ module _ (order : Order) where
 
   pub paid_sound : (row : Row) (payload : ℕ) (p w : List ℕ) (x : StpPacket) → IsNumber order (line_of row).payload payload p → after (after_payload row payload) (λ t. from t w) w ≡ Whole x →
       Spells order x ((line_of row).opcode ++ (p ++ w))
-  paid_sound row payload p w x n e = elim (tested (line_of row).stamped) [
+  paid_sound row payload p w x n e = elim (cases_Bool (line_of row).stamped) [
     | inl m ↦
         let s = stamp_sound order row payload w x (sym (says order (after_payload row payload) (Go (Size row payload)) w (rw m refl)) ∙ e) in
         subst (λ (y : StpPacket). Spells order y ((line_of row).opcode ++ (p ++ w))) (sym s.6)
@@ -38,7 +39,7 @@ module _ (order : Order) where
   ]
 
   pub begun_sound : (row : Row) (r : List ℕ) (x : StpPacket) → after (begin row) (λ t. from t r) r ≡ Whole x → Spells order x ((line_of row).opcode ++ r)
-  begun_sound row r x e = elim (tested ((line_of row).payload == 0)) [
+  begun_sound row r x e = elim (cases_Bool ((line_of row).payload == 0)) [
     | inl m ↦ paid_sound row 0 [] r x (sym (is_zero (line_of row).payload m), number_none order)
         (sym (says order (begin row) (after_payload row 0) r (rw m refl)) ∙ e)
     | inr m ↦
@@ -51,7 +52,7 @@ module _ (order : Order) where
   -- after the opcode and the payload
   pub begun_whole : (row : Row) (p w : List ℕ) → length p ≡ (line_of row).payload →
       after (begin row) (λ t. from t (p ++ w)) (p ++ w) ≡ after (after_payload row (number order p)) (λ t. from t w) w
-  begun_whole row p w l = elim (tested ((line_of row).payload == 0)) [
+  begun_whole row p w l = elim (cases_Bool ((line_of row).payload == 0)) [
     | inl m ↦
         let none : p ≡ [] = empty p (l ∙ is_zero (line_of row).payload m) in
         says order (begin row) (after_payload row 0) (p ++ w) (rw m refl)

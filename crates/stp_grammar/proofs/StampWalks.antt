@@ -2,6 +2,7 @@
 use Rattle.std.proofs.Common.{◌≡◌, ℕ, ◌+◌, ◌<◌, List, [], ◌∷◌, ◌++◌, length, append-nil, true, cond, refl, sym, ◌∙◌, ap, ◌⊎◌, inl, inr, arith}
 use Rattle.std.specs.Prelude.{nat_lt, ◌==◌}
 use Rattle.std.proofs.lemmas.Bool.Decides.{nat_tests}
+use Rattle.std.proofs.lemmas.Bool.{cases_Bool, ltb-true}
 use Rattle.stp_grammar.specs.Names.{StampSize, Go, End, Fail, Walked, Whole, after, walk, nibble_count}
 use Rattle.stp_grammar.specs.declared.packet.Order.{Order}
 use Rattle.stp_grammar.specs.declared.packet.Row.{Row}
@@ -12,7 +13,7 @@ use Rattle.stp_grammar.specs.declared.partial.Partial.TheVariants.{Size, Word}
 use Rattle.stp_grammar.specs.Spelling.{IsNumber, number}
 use Rattle.stp_grammar.specs.Rule.{rule, number_with, size_with}
 use Rattle.stp_grammar.proofs.Digits.{number_none, value_from, value_whole, stage_whole, stage_sound}
-use Rattle.stp_grammar.proofs.Choices.{empty, chosen, tested, is_zero, not_zero, under, some_word}
+use Rattle.stp_grammar.proofs.Choices.{empty, chosen, is_zero, not_zero, some_word}
 use Rattle.stp_grammar.proofs.Walking.{says, end_whole}
 
 module _ (order : Order) where
@@ -29,10 +30,10 @@ module _ (order : Order) where
 
   pub size_cases : (row : Row) (payload size : ℕ) →
       ((size ≡ 0) × (size_with row payload size ≡ End (Stamped row payload 0 0))) ⊎ ((0 < size) × (size < 15) × (size_with row payload size ≡ Go (Word row payload size 0 0))) ⊎ (size_with row payload size ≡ Fail StampSize)
-  size_cases row payload size = elim (tested (nat_lt size 15)) [
-    | inl m ↦ elim (tested (size == 0)) [
+  size_cases row payload size = elim (cases_Bool (nat_lt size 15)) [
+    | inl m ↦ elim (cases_Bool (size == 0)) [
       | inl n ↦ inl (is_zero size n, rw m (rw n refl))
-      | inr n ↦ inr (inl (not_zero size n, under size 15 m, rw m (rw n refl)))
+      | inr n ↦ inr (inl (not_zero size n, ltb-true size 15 m, rw m (rw n refl)))
     ]
     | inr m ↦ inr (inr (rw m refl))
   ]

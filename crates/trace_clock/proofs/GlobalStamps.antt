@@ -1,11 +1,12 @@
 -- One more global timestamp.
 use Rattle.std.proofs.Common.{◌≡◌, ◌≢◌, ℕ, zero, suc, ◌+◌, ◌*◌, ◌/◌, ◌^◌, ◌<◌, ◌≤◌, List, [], ◌∷◌, ◌++◌, refl, sym, ◌∙◌, ap, subst, arith, Bool, true, false, cond}
-use Rattle.std.specs.Prelude.{◌==◌, ◌||◌, nat_lt, Option, None, Some, unwrap_or, option_map}
+use Rattle.std.specs.Prelude.{◌==◌, ◌||◌, Option, None, Some, unwrap_or, option_map}
 use Rattle.std.specs.List.{list_any, after_last}
 use Rattle.std.specs.Int.{bit_at}
 use Rattle.std.proofs.lemmas.Bool.Decides.{nat_tests}
 use Rattle.std.proofs.lemmas.List.Folds.{list_any-append}
 use Rattle.std.proofs.lemmas.Nat.Bits.{bit_at-lt}
+use Rattle.std.proofs.lemmas.Bool.{lt-ltb, le-ltb}
 use Rattle.trace_clock.specs.GlobalTime.{GlobalStamp, First, Second, first_bits, is_whole, is_wrap, carried, second_value, low_bit, low_part, high_part, known_low}
 use Rattle.trace_clock.proofs.DigitSums.{number, number_same, number_of_digits, number_replaced}
 use Rattle.trace_clock.proofs.LastStamps.{last_given, given, not_given, after_itself, after_same}
@@ -30,19 +31,14 @@ high_kept stamps len value wrap e =
 -- a bit under 26
 bit_told : (stamps : List GlobalStamp) (len value : ℕ) (wrap : Bool) (b : ℕ) → b < first_bits len → low_bit (stamps ++ First len value wrap ∷ []) b ≡ bit_at value b
 bit_told stamps len value wrap b h =
-    let e : carried b (First len value wrap) ≡ Some value = ap (λ t. cond t (Some value) None) (is_lt b (first_bits len) h) in
+    let e : carried b (First len value wrap) ≡ Some value = ap (λ t. cond t (Some value) None) (lt-ltb b (first_bits len) h) in
     ap (λ o. bit_at (unwrap_or o 0) b) (given (carried b) stamps (First len value wrap) value e)
-  where
-    is_lt : (a n : ℕ) → a < n → nat_lt a n ≡ true
-    is_lt a n h = grind (arith, nat_tests)
 
 bit_kept : (stamps : List GlobalStamp) (stamp : GlobalStamp) (b : ℕ) → carried b stamp ≡ None → low_bit (stamps ++ stamp ∷ []) b ≡ low_bit stamps b
 bit_kept stamps stamp b e = ap (λ o. bit_at (unwrap_or o 0) b) (not_given (carried b) stamps stamp e)
 
 not_carried : (len value : ℕ) (wrap : Bool) (b : ℕ) → first_bits len ≤ b → carried b (First len value wrap) ≡ None
-not_carried len value wrap b h = ap (λ t. cond t (Some value) None) (is_not b (first_bits len) h) where
-  is_not : (a n : ℕ) → n ≤ a → nat_lt a n ≡ false
-  is_not a n h = grind (arith, nat_tests)
+not_carried len value wrap b h = ap (λ t. cond t (Some value) None) (le-ltb b (first_bits len) h)
 
 bit_lt : (stamps : List GlobalStamp) (b : ℕ) → low_bit stamps b < 2
 bit_lt stamps b = bit_at-lt _ b

@@ -1,9 +1,10 @@
 -- One more timestamp after the others.
 use Rattle.std.proofs.Common.{◌≡◌, ℕ, zero, suc, ◌+◌, ◌*◌, ◌/◌, ◌%◌, ◌^◌, ◌<◌, ◌≤◌, List, [], ◌∷◌, ◌++◌, refl, sym, ◌∙◌, ap, subst, arith, true, false, cond}
-use Rattle.std.specs.Prelude.{◌↔◌, nat_lt, nat_eq, IsTrue, None, Some, unwrap_or}
+use Rattle.std.specs.Prelude.{◌↔◌, nat_eq, IsTrue, None, Some, unwrap_or}
 use Rattle.std.proofs.lemmas.Bool.Decides.{nat_tests}
 use Rattle.std.proofs.lemmas.Nat.{pow-add, pow_pos, shr_split, shr_high}
 use Rattle.std.proofs.Math.Nat.{mod-lt, div-eq_of_lt}
+use Rattle.std.proofs.lemmas.Bool.{lt-ltb, le-ltb}
 use Rattle.trace_clock.specs.GrayCode.{natural_of, gray_of}
 use Rattle.trace_clock.specs.LastWord.{SizedWord, sized, nibble_count, WordFits, nibble_at, long_word, last_nibble, last_word, next_word, IsLeast}
 use Rattle.trace_clock.proofs.DigitSums.{number, number_same, number_of_digits, number_replaced, number_lt, digit_of_number}
@@ -19,19 +20,13 @@ nibble_lt stamps k = omega arith
 module _ (stamps : List SizedWord) (stamp : SizedWord) where
   nibble_told : (k : ℕ) → k < nibble_count stamp.size → last_nibble (stamps ++ stamp ∷ []) k ≡ nibble_at stamp.word k
   nibble_told k h =
-      let e : long_word k stamp ≡ Some stamp.word = ap (λ t. cond t (Some stamp.word) None) (is_lt k (nibble_count stamp.size) h) in
+      let e : long_word k stamp ≡ Some stamp.word = ap (λ t. cond t (Some stamp.word) None) (lt-ltb k (nibble_count stamp.size) h) in
       ap (λ o. nibble_at (unwrap_or o 0) k) (given (long_word k) stamps stamp stamp.word e)
-    where
-      is_lt : (a n : ℕ) → a < n → nat_lt a n ≡ true
-      is_lt a n h = grind (arith, nat_tests)
 
   nibble_kept : (k : ℕ) → nibble_count stamp.size ≤ k → last_nibble (stamps ++ stamp ∷ []) k ≡ last_nibble stamps k
   nibble_kept k h =
-      let e : long_word k stamp ≡ None = ap (λ t. cond t (Some stamp.word) None) (is_not k (nibble_count stamp.size) h) in
+      let e : long_word k stamp ≡ None = ap (λ t. cond t (Some stamp.word) None) (le-ltb k (nibble_count stamp.size) h) in
       ap (λ o. nibble_at (unwrap_or o 0) k) (not_given (long_word k) stamps stamp e)
-    where
-      is_not : (a n : ℕ) → n ≤ a → nat_lt a n ≡ false
-      is_not a n h = grind (arith, nat_tests)
 
   replaced : (n : ℕ) → nibble_count stamp.size ≡ n → n ≤ 16 → stamp.word < 16 ^ n → last_word (stamps ++ stamp ∷ []) ≡ last_word stamps / 16 ^ n * 16 ^ n + stamp.word
   unfolding last_word
@@ -47,7 +42,7 @@ module _ (stamps : List SizedWord) (stamp : SizedWord) where
       number_replaced 16 (omega arith) f g j 15 (omega arith) (nibble_lt stamps) (λ k l. nibble_kept k (omega (arith, e))) in
       all ∙ ap (λ v. number 16 f 15 / 16 ^ suc j * 16 ^ suc j + v) own
 
-few_nibbles : (size : ℕ) → size < 15 → nibble_count size ≤ 16
+pub few_nibbles : (size : ℕ) → size < 15 → nibble_count size ≤ 16
 few_nibbles size h = grind (arith, nat_tests)
 
 pub few_bits : (size : ℕ) → size < 15 → 4 * nibble_count size ≤ 64

@@ -1,10 +1,10 @@
 //! A sink in memory, for tests.
 
-ghost use Rattle.std.specs.Prelude.{Some, ◌≡◌, ◌↔◌, ◌⊎◌, ◌<◌, ◌≤◌, ◌-◌, ◌^◌, min, [], length, Contains, IsErr, IfOk};
+ghost use Rattle.std.specs.Prelude.{Some, ◌≡◌, ◌<◌, ◌≤◌, ◌-◌, ◌^◌, [], length, IfOk};
 ghost use Rattle.std.specs.Io.KnownBytes.{WriteAppends};
 ghost use Rattle.trace_io.specs.Bytes.{TakesSome};
-ghost use Rattle.trace_io.specs.Causes.{HasCause, raised, faults_after};
-ghost use Rattle.trace_io.specs.Memory.{piece_at};
+ghost use Rattle.trace_io.specs.Causes.{HasCause, faults_after};
+ghost use Rattle.trace_io.specs.Memory.{WritesAsStated};
 
 use crate::pieces::piece_len;
 use crate::sink::Sink;
@@ -86,17 +86,7 @@ impl Sink for MemorySink<'_> {
         ensures cause { HasCause self.old.faults self.new.faults result }
         ensures counted { self.new.faults ≡ faults_after result self.old.faults }
         ensures bounded { self.new.faults ≤ 2 ^ 64 - 1 }
-
-        // Which calls fail, and how many bytes the others take.
-        ensures fails { IsErr result ↔
-            (Contains self.old.fail self.old.calls ⊎ (length self.old.taken ≡ self.old.room)) }
-        ensures count { IfOk result (λ n. n ≡ piece_at self.old.pieces self.old.calls
-            (min (self.old.room - length self.old.taken) (length piece.now))) }
-
-        ensures calls { self.new.calls ≡ raised self.old.calls }
-        ensures room { self.new.room ≡ self.old.room }
-        ensures pieces { self.new.pieces ≡ self.old.pieces }
-        ensures fail { self.new.fail ≡ self.old.fail }
+        ensures stated { WritesAsStated self.old self.new (length piece.now) result }
     {
         let call = self.calls;
         let faults = self.faults;

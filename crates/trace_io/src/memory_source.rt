@@ -1,10 +1,10 @@
 //! A source in memory, for tests.
 
-ghost use Rattle.std.specs.Prelude.{Some, ◌≡◌, ◌↔◌, ◌-◌, ◌^◌, ◌<◌, ◌≤◌, min, [], length, Contains, IsErr, IfOk};
+ghost use Rattle.std.specs.Prelude.{Some, ◌≡◌, ◌-◌, ◌^◌, ◌<◌, ◌≤◌, [], length};
 ghost use Rattle.std.specs.Io.{ReadsAtMost};
 ghost use Rattle.std.specs.Io.KnownBytes.{ReadConsumes};
-ghost use Rattle.trace_io.specs.Causes.{HasCause, CountsEmpty, raised, faults_after};
-ghost use Rattle.trace_io.specs.Memory.{piece_at};
+ghost use Rattle.trace_io.specs.Causes.{HasCause, CountsEmpty, faults_after};
+ghost use Rattle.trace_io.specs.Memory.{ReadsAsStated};
 
 use crate::pieces::piece_len;
 use crate::source::{Failed, Source};
@@ -78,15 +78,7 @@ impl Source for MemorySource<'_> {
         ensures counted { self.new.faults ≡ faults_after result self.old.faults }
         ensures bounded { self.new.faults ≤ 2 ^ 64 - 1 }
         ensures empty { CountsEmpty result self.old.empty_reads self.new.empty_reads }
-
-        // Which calls fail, and how many bytes the others give.
-        ensures fails { IsErr result ↔ Contains self.old.fail self.old.calls }
-        ensures count { IfOk result (λ n. n ≡
-            piece_at self.old.pieces self.old.calls (min (length self.old.left) (length buf.old))) }
-
-        ensures calls { self.new.calls ≡ raised self.old.calls }
-        ensures pieces { self.new.pieces ≡ self.old.pieces }
-        ensures fail { self.new.fail ≡ self.old.fail }
+        ensures stated { ReadsAsStated self.old self.new (length buf.old) result }
     {
         let call = self.calls;
         let faults = self.faults;

@@ -4,6 +4,7 @@ use Rattle.std.specs.Prelude.{slice_index}
 use Rattle.std.specs.Int.{bytes_high_first, byte_at}
 use Rattle.std.proofs.Math.Nat.{div-div-eq-div-mul, mul-div-mul_right, mod-eq_of_lt, pow-zero, pow-suc}
 use Rattle.std.proofs.lemmas.Nat.{pow-add, mul-pow, mul-le}
+use Rattle.trace_clock.proofs.LastWords.{pow_of}
 use Rattle.hex.specs.Hex.{encode_with, lower_digits, encode_lower}
 use Rattle.trace_clock.specs.LastWord.{nibble_at}
 use Rattle.trace_text.specs.HexDigits.{hex_digits}
@@ -60,12 +61,6 @@ first (suc n) (suc m) a v e =
     ap (λ x. v * 16 ^ a / x % 16) p ∙ ap (λ x. x % 16) (mul-div-mul_right v (16 ^ n) (some a)) in
     ap (λ d. slice_index lower_digits d ∷ take n (hex_digits m (v * 16 ^ a))) q
     ∙ ap (λ ds. slice_index lower_digits (nibble_at v n) ∷ ds) (first n m a v f)
-
-pow_of : (n : ℕ) → 2 ^ (4 * n) ≡ 16 ^ n
-pow_of zero = omega (arith, pow-zero 2, pow-zero 16)
-pow_of (suc n) =
-    let e : 4 * suc n ≡ 4 * n + 4 = omega arith in
-    ap (λ k. 2 ^ k) e ∙ pow-add 2 (4 * n) 4 ∙ ap (λ x. x * 16) (pow_of n) ∙ sym (pow-suc 16 n)
 
 -- a number of these nibbles, moved to the top of a word of sixteen
 pub moved : (count number : ℕ) → count ≤ 16 → number < 16 ^ count → number * 2 ^ (64 - 4 * count) % 2 ^ 64 ≡ number * 16 ^ (16 - count)

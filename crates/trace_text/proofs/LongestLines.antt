@@ -79,17 +79,18 @@ lateness : (l : Lateness) → length (lateness_text l) ≤ 11
 lateness Exact = omega arith
 lateness l = omega arith
 
+by_flag : (text : Bool → List ℕ) (most : ℕ) → length (text true) ≤ most → length (text false) ≤ most → (b : Bool) → length (text b) ≤ most
+by_flag text most at_true at_false true = at_true
+by_flag text most at_true at_false false = at_false
+
 flag : (b : Bool) → length (flag_text b) ≤ 1
-flag true = omega arith
-flag false = omega arith
+flag = by_flag flag_text 1 (omega arith) (omega arith)
 
 bits : (wide : Bool) → length (bits_text wide) ≤ 2
-bits true = omega arith
-bits false = omega arith
+bits = by_flag bits_text 2 (omega arith) (omega arith)
 
 owner : (dwt : Bool) → length (owner_text dwt) ≤ 3
-owner true = omega arith
-owner false = omega arith
+owner = by_flag owner_text 3 (omega arith) (omega arith)
 
 -- a first global timestamp has at most 26 bits, and a second one 38
 few_bits : (len : ℕ) → len ≤ 4 → first_bits len ≤ 26

@@ -32,14 +32,6 @@ loose p = record { text = p.text; same = p.same; end = (let k = p.end in omega a
 pub joined : (a b old x y : List ℕ) → a ≡ b ++ y → b ≡ old ++ x → a ≡ old ++ (x ++ y)
 joined a b old x y e f = e ∙ ap (λ (l : List ℕ). l ++ y) f ∙ append_assoc old x y
 
-pub both : {old mid new : List ℕ} {from at to m n : ℕ} {a b : List ℕ} → PutsAll old mid from at m a → PutsAll mid new at to n b →
-    PutsAll old new from to (m + n) (a ++ b)
-both p q = record {
-  text = joined _ _ _ _ _ q.text p.text;
-  same = q.same ∙ p.same;
-  end = (let k = p.end in let l = q.end in omega arith);
-}
-
 pub then : {old mid new : List ℕ} {from at to m n : ℕ} {a b : List ℕ} → Puts old mid from at m a → Puts mid new at to n b →
     Puts old new from to (m + n) (a ++ b)
 then p q = record {
@@ -47,6 +39,17 @@ then p q = record {
   same = q.same ∙ p.same;
   end = (let k = p.end in let l = q.end in omega arith);
 }
+
+pub both : {old mid new : List ℕ} {from at to m n : ℕ} {a b : List ℕ} → PutsAll old mid from at m a → PutsAll mid new at to n b →
+    PutsAll old new from to (m + n) (a ++ b)
+both p q =
+    let all = then (loose p) (loose q) in
+    record { text = all.text; same = all.same; end = (let k = p.end in let l = q.end in omega arith) }
+
+-- a front and the rest of a text
+pub followed : {old mid new : List ℕ} {from at to m n room : ℕ} {whole front rest : List ℕ} → whole ≡ front ++ rest →
+    Puts old mid from at m front → PutsAll mid new at to n rest → m + n ≤ room → Puts old new from to room whole
+followed e p q fits = within (then p (loose q)) fits (sym e)
 
 -- the first bytes of a piece
 pub front_of : {old new : List ℕ} {from to size : ℕ} {a : List ℕ} (len : ℕ) → PutsAll old new from to size a → len ≤ size →

@@ -1,8 +1,10 @@
 -- The tables hold the parts of the texts of their rows.
-use Rattle.std.proofs.Common.{◌≡◌, ℕ, ◌*◌, ◌/◌, ◌%◌, ◌^◌, ◌<◌, ◌≤◌, take, drop, get_or, Bool, true, false, not, refl}
+use Rattle.std.proofs.Common.{◌≡◌, ℕ, ◌*◌, ◌/◌, ◌%◌, ◌^◌, ◌<◌, ◌≤◌, List, take, drop, get_or, Bool, true, false, not, refl}
 use Rattle.std.specs.Prelude.{◌==◌, ◌||◌, nat_le}
+use Rattle.std.proofs.lemmas.Bool.{eqb-true, leb-true}
+use Rattle.stp_grammar.specs.declared.packet.Row.{Row}
 use Rattle.stp_grammar.specs.Opcodes.{line_of, row_at}
-use Rattle.stp_grammar.proofs.Tables.{under, below, same, is_same, equal, at_most}
+use Rattle.stp_grammar.proofs.Tables.{under, below, same, is_same}
 use Rattle.trace_text.specs.declared.said_tables.TheConstants.{WRITTEN, PLACE_COUNTS, WORDS, WORD_LENS, WIDTHS, WIDTH_LENS, DIGIT_COUNTS, MARKS, MARK_LENS}
 use Rattle.trace_text.specs.SaidText.{is_written, is_placed, word_at, width_at, mark_at}
 use Rattle.std.specs.Str.{bytes_eq}
@@ -12,6 +14,18 @@ use Rattle.trace_text.proofs.DigitTables.{same_bytes}
 asked : (a b : Bool) → a ≡ true → (not a || b) ≡ true → b ≡ true
 asked true b e f = f
 asked false b e f = cc
+
+-- no row has more in a table than this
+few_at : (most : ℕ) (counts : List ℕ) → under (λ k. nat_le (get_or counts k 0) most) 35 ≡ true → (n : ℕ) → n < 35 → get_or counts n 0 ≤ most
+few_at most counts all n l = leb-true _ _ (below (λ k. nat_le (get_or counts k 0) most) 35 n l all)
+
+-- a table of entries of this size has this text for a row, if the row is put so
+abbrev has_text : ℕ → List ℕ → List ℕ → (Row → List ℕ) → ℕ → Bool
+has_text size lens table text k = not (is_written (row_at k)) || bytes_eq (take (get_or lens k 0) (drop (size * k) table)) (text (row_at k))
+
+text_at : (size : ℕ) (lens table : List ℕ) (text : Row → List ℕ) → under (has_text size lens table text) 35 ≡ true → (n : ℕ) → n < 35 →
+    is_written (row_at n) ≡ true → take (get_or lens n 0) (drop (size * n) table) ≡ text (row_at n)
+text_at size lens table text all n l w = same_bytes _ _ (asked _ _ w (below (has_text size lens table text) 35 n l all))
 
 pub written_is : (n : ℕ) → n < 35 → (WRITTEN / 2 ^ n % 2 == 1) ≡ is_written (row_at n)
 unfolding under same
@@ -23,39 +37,28 @@ placed_is n l = is_same _ _ (below (λ k. same (get_or PLACE_COUNTS.now k 0 == 1
 
 pub places_few : (n : ℕ) → n < 35 → get_or PLACE_COUNTS.now n 0 ≤ 1
 unfolding under
-places_few n l = at_most _ _ (below (λ k. nat_le (get_or PLACE_COUNTS.now k 0) 1) 35 n l refl)
+places_few = few_at 1 PLACE_COUNTS.now refl
 
 pub digit_count_is : (n : ℕ) → n < 35 → is_written (row_at n) ≡ true → get_or DIGIT_COUNTS.now n 0 ≡ (line_of (row_at n)).payload
 unfolding under
-digit_count_is n l w = equal _ _ (asked _ _ w (below (λ k. not (is_written (row_at k)) || (get_or DIGIT_COUNTS.now k 0 == (line_of (row_at k)).payload)) 35 n l refl))
+digit_count_is n l w = eqb-true _ _ (asked _ _ w (below (λ k. not (is_written (row_at k)) || (get_or DIGIT_COUNTS.now k 0 == (line_of (row_at k)).payload)) 35 n l refl))
 
 pub digits_few : (n : ℕ) → n < 35 → get_or DIGIT_COUNTS.now n 0 ≤ 16
 unfolding under
-digits_few n l = at_most _ _ (below (λ k. nat_le (get_or DIGIT_COUNTS.now k 0) 16) 35 n l refl)
+digits_few = few_at 16 DIGIT_COUNTS.now refl
 
-pub word_few : (n : ℕ) → n < 35 → get_or WORD_LENS.now n 0 ≤ 8
+-- the word, the width and the mark of a row
+pub parts_few : (n : ℕ) → n < 35 → (get_or WORD_LENS.now n 0 ≤ 8) × (get_or WIDTH_LENS.now n 0 ≤ 8) × (get_or MARK_LENS.now n 0 ≤ 4)
 unfolding under
-word_few n l = at_most _ _ (below (λ k. nat_le (get_or WORD_LENS.now k 0) 8) 35 n l refl)
+parts_few n l = (few_at 8 WORD_LENS.now refl n l, few_at 8 WIDTH_LENS.now refl n l, few_at 4 MARK_LENS.now refl n l)
 
-pub word_is : (n : ℕ) → n < 35 → is_written (row_at n) ≡ true → take (get_or WORD_LENS.now n 0) (drop (8 * n) WORDS.now) ≡ word_at (row_at n)
+pub parts_are : (n : ℕ) → n < 35 → is_written (row_at n) ≡ true →
+    (take (get_or WORD_LENS.now n 0) (drop (8 * n) WORDS.now) ≡ word_at (row_at n))
+    × (take (get_or WIDTH_LENS.now n 0) (drop (8 * n) WIDTHS.now) ≡ width_at (row_at n))
+    × (take (get_or MARK_LENS.now n 0) (drop (4 * n) MARKS.now) ≡ mark_at (row_at n))
 unfolding under
-word_is n l w =
-    same_bytes _ _ (asked _ _ w (below (λ k. not (is_written (row_at k)) || bytes_eq (take (get_or WORD_LENS.now k 0) (drop (8 * k) WORDS.now)) (word_at (row_at k))) 35 n l refl))
-
-pub width_few : (n : ℕ) → n < 35 → get_or WIDTH_LENS.now n 0 ≤ 8
-unfolding under
-width_few n l = at_most _ _ (below (λ k. nat_le (get_or WIDTH_LENS.now k 0) 8) 35 n l refl)
-
-pub width_is : (n : ℕ) → n < 35 → is_written (row_at n) ≡ true → take (get_or WIDTH_LENS.now n 0) (drop (8 * n) WIDTHS.now) ≡ width_at (row_at n)
-unfolding under
-width_is n l w =
-    same_bytes _ _ (asked _ _ w (below (λ k. not (is_written (row_at k)) || bytes_eq (take (get_or WIDTH_LENS.now k 0) (drop (8 * k) WIDTHS.now)) (width_at (row_at k))) 35 n l refl))
-
-pub mark_few : (n : ℕ) → n < 35 → get_or MARK_LENS.now n 0 ≤ 4
-unfolding under
-mark_few n l = at_most _ _ (below (λ k. nat_le (get_or MARK_LENS.now k 0) 4) 35 n l refl)
-
-pub mark_is : (n : ℕ) → n < 35 → is_written (row_at n) ≡ true → take (get_or MARK_LENS.now n 0) (drop (4 * n) MARKS.now) ≡ mark_at (row_at n)
-unfolding under
-mark_is n l w =
-    same_bytes _ _ (asked _ _ w (below (λ k. not (is_written (row_at k)) || bytes_eq (take (get_or MARK_LENS.now k 0) (drop (4 * k) MARKS.now)) (mark_at (row_at k))) 35 n l refl))
+parts_are n l w = (
+  text_at 8 WORD_LENS.now WORDS.now word_at refl n l w,
+  text_at 8 WIDTH_LENS.now WIDTHS.now width_at refl n l w,
+  text_at 4 MARK_LENS.now MARKS.now mark_at refl n l w,
+)

@@ -3,6 +3,7 @@ use Rattle.std.proofs.Common.{◌≡◌, ◌≢◌, ℕ, suc, ◌+◌, ◌<◌, 
 use Rattle.std.specs.Prelude.{◌==◌, nat_lt, IsTrue}
 use Rattle.std.proofs.lemmas.Bool.Decides.{nat_tests}
 use Rattle.std.proofs.lemmas.List.{length-replicate}
+use Rattle.std.proofs.lemmas.Bool.{ne_eqb}
 use Rattle.trace_values.specs.declared.pattern.Pattern.{Pattern}
 use Rattle.trace_values.specs.Hunt.{EndsWith, EndsInRun}
 use Rattle.trace_values.specs.Hunted.{pattern_of, run_after}
@@ -16,9 +17,6 @@ run_cases b a run most = grind (arith, nat_tests)
 
 long : (run most : ℕ) → run ≤ most → (((run == most) ≡ true) × (run ≡ most)) ⊎ (((run == most) ≡ false) × (run < most))
 long run most h = grind (arith, nat_tests)
-
-differ : (x y : ℕ) → x ≢ y → (x == y) ≡ false
-differ x y n = grind (arith, nat_tests)
 
 -- before the first unit there is no run
 pub no_run : (a most : ℕ) → EndsInRun a most 0 []
@@ -60,5 +58,5 @@ module _ (p : Pattern) (apart : p.unit ≢ p.last) where
   ]
 
   pub no_end : (run b : ℕ) (u : List ℕ) → b ≢ p.last → EndsInRun p.unit p.most run u → IsTrue (b == p.last) ↔ EndsWith (pattern_of p) (u ++ b ∷ [])
-  no_end run b u n r = subst (λ (x : Bool). IsTrue x ↔ EndsWith (pattern_of p) (u ++ b ∷ [])) (sym (differ b p.last n))
+  no_end run b u n r = subst (λ (x : Bool). IsTrue x ↔ EndsWith (pattern_of p) (u ++ b ∷ [])) (sym (ne_eqb b p.last n))
       ((λ f. (let k : false ≡ true = f in cc)), λ s. absurd (not_here p.unit p.last p.most apart run b u r (inl n) s.0 s.1))

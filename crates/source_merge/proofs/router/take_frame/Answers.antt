@@ -87,14 +87,8 @@ taken_to g c =
     c.take_run-stop.ensures.slots c.take_run-stop.ensures.took g.met.V.Receiver.gets_more c.in-Some.stop c.in-Some.is (2 ^ 58) c.requires.ready.slots_are
     (let a = ap length c.of.ensures in let b = length-take-le k rest within in let d = c.add_run.ensures.more in omega arith)
 
-pub returns-in-Some-clause-slots : goal.returns-in-Some-clause-slots
-returns-in-Some-clause-slots g c = (taken_to g c).slots_are
-
-pub returns-in-Some-clause-fed : goal.returns-in-Some-clause-fed
-returns-in-Some-clause-fed g c = (taken_to g c).fed
-
-pub returns-in-Some-clause-counts : goal.returns-in-Some-clause-counts
-returns-in-Some-clause-counts g c = (taken_to g c).counts_are
+pub returns-in-Some : goal.returns-in-Some
+returns-in-Some g c = let k = taken_to g c in record { slots = k.slots_are; fed = k.fed; counts = k.counts_are }
 
 -- all are taken
 taken_all : (g : bound.Over) → (c : goal.After-loop-rest g) → IsTaken g.V.Receiver.gets g.V.Receiver.room c.args.cells.now c.args.slots.now
@@ -105,11 +99,5 @@ taken_all g c =
     c.loop-rest.rest.now (grind (arith, nat_tests)) c.loop-rest.slots c.loop-rest.counts (c.loop-rest.items, (c.loop-rest.out, c.loop-rest.to))
     c.loop-rest.invariant (2 ^ 58) c.requires.ready.slots_are
 
-pub returns-clause-slots : goal.returns-clause-slots
-returns-clause-slots g c = (taken_all g c).slots_are
-
-pub returns-clause-fed : goal.returns-clause-fed
-returns-clause-fed g c = (taken_all g c).fed
-
-pub returns-clause-counts : goal.returns-clause-counts
-returns-clause-counts g c = (taken_all g c).counts_are
+pub returns : goal.returns
+returns g c = let k = taken_all g c in record { slots = k.slots_are; fed = k.fed; counts = k.counts_are }

@@ -37,8 +37,8 @@ returns-in_default-find-clause-took g c =
           (c.requires.own.own ∙ c.in-Some.is) a,
     )
 
-pub returns-clause-slots : goal.returns-clause-slots
-returns-clause-slots g c =
+pub returns : goal.returns
+returns g c =
     let slots = c.args.slots.now in
     let x = c.in-Some.id in
     let at : FirstAt x slots c.in-Some-find.index = first_at x slots c.in-Some-find.index (sym c.find.ensures ∙ c.in-Some-find.is) in
@@ -47,22 +47,17 @@ returns-clause-slots g c =
     let fed = given.2 place at.parts at.count in
     let run = g.R.Run.cells c.args.run.now in
     record {
-      same = same_mapped place slots c.feed_slot.new.slots at.parts run x given.0 c.feed_slot.result fed;
-      ready = λ e.
-          ready_on place slots c.feed_slot.new.slots at.parts run x given.0 c.feed_slot.result fed
-          (not_stopped x c.feed_slot.result (sym c.stop_by.ensures ∙ e));
+      slots = record {
+        same = same_mapped place slots c.feed_slot.new.slots at.parts run x given.0 c.feed_slot.result fed;
+        ready = λ e.
+            ready_on place slots c.feed_slot.new.slots at.parts run x given.0 c.feed_slot.result fed
+            (not_stopped x c.feed_slot.result (sym c.stop_by.ensures ∙ e));
+      };
+      took = (
+        given.0,
+        given.1,
+        λ runs n d a r.
+            took_own place slots c.feed_slot.new.slots at.parts run x given.0 c.feed_slot.result fed runs n _ c.stop_by.ensures
+            (c.requires.own.own ∙ c.in-Some.is) (sym at.id_is) _ c.requires.ready d a r,
+      );
     }
-
-pub returns-clause-took : goal.returns-clause-took
-returns-clause-took g c =
-    let slots = c.args.slots.now in
-    let x = c.in-Some.id in
-    let at : FirstAt x slots c.in-Some-find.index = first_at x slots c.in-Some-find.index (sym c.find.ensures ∙ c.in-Some-find.is) in
-    let place : SlotPlace = record { front = at.front; slot = at.slot; back = at.back } in
-    let given = c.feed_slot.ensures in (
-      given.0,
-      given.1,
-      λ runs n d a r.
-          took_own place slots c.feed_slot.new.slots at.parts (g.R.Run.cells c.args.run.now) x given.0 c.feed_slot.result
-          (given.2 place at.parts at.count) runs n _ c.stop_by.ensures (c.requires.own.own ∙ c.in-Some.is) (sym at.id_is) _ c.requires.ready d a r,
-    )

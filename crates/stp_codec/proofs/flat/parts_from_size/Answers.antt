@@ -2,7 +2,8 @@ use Rattle.std.proofs.Common.{◌≡◌, ◌+◌, ◌<◌, sym, subst, arith, Bo
 use Rattle.stp_codec.specs.Names.{Go, Msn, Plain, Stamped, Size, row_at}
 use Rattle.stp_codec.specs.Wholes.{nibbles_in, between, Ends, number_from}
 use Rattle.stp_codec.proofs.Between.{length-nibbles}
-use Rattle.stp_codec.proofs.PartsPieces.{ends_stamp, few_word}
+use Rattle.trace_clock.proofs.LastWords.{few_nibbles}
+use Rattle.stp_codec.proofs.PartsPieces.{ends_stamp}
 use Rattle.stp_codec.proofs.flat.parts_from_size.Goals as goal
 
 pub returns-clause-whole : goal.returns-clause-whole
@@ -15,7 +16,7 @@ returns-clause-whole c =
     let word = c.number_at_once-word.result in
     let count = c.word_nibbles-count.ensures.count in
     let small : size < 15 = (let a = c.nibble_of-size.ensures.small in let b = c.if-size-eq15.false in omega (arith, a, b)) in
-    let few = few_word size small in
+    let few = few_nibbles size small in
     subst (λ (t : Bool). Ends Msn (Go (Size row c.args.payload)) (between xs start (start + 1 + c.word_nibbles-count.result))
     (cond t (Stamped row c.args.payload size word) (Plain row c.args.payload))) (sym c.requires.stamped)
     (subst (λ (n : ℕ). Ends Msn (Go (Size row c.args.payload)) (between xs start (start + 1 + n)) (Stamped row c.args.payload size word))

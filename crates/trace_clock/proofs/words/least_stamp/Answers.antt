@@ -1,18 +1,14 @@
-use Rattle.std.proofs.Common.{◌≡◌, ◌<◌, ◌*◌, ◌/◌, ◌%◌, ◌^◌, ℕ, true, false, sym, ◌∙◌, ap, subst, arith}
-use Rattle.std.specs.Prelude.{◌==◌}
-use Rattle.std.proofs.lemmas.Bool.Decides.{nat_tests}
+use Rattle.std.proofs.Common.{◌≡◌, ◌<◌, ◌*◌, ◌/◌, ◌%◌, ◌^◌, true, false, sym, ◌∙◌, ap, subst, arith}
+use Rattle.std.proofs.lemmas.Bool.{eqb-true}
 use Rattle.trace_clock.specs.LastWord.{IsLeast}
 use Rattle.trace_clock.proofs.LastWords.{IsSame, least_is, greatest_is}
 use Rattle.trace_clock.proofs.words.least_stamp.Goals as goal
-
-equal : (a b : ℕ) → (a == b) ≡ true → a ≡ b
-equal a b e = grind (arith, nat_tests)
 
 pub returns-then-has_same_high : goal.returns-then-has_same_high
 returns-then-has_same_high c = λ stamps last.
     let n = c.word_nibbles-count.ensures.count in
     let h : c.loop-size.size < 15 = (let t = c.loop-size-test.true in omega (arith, t)) in
-    let same = equal _ _ (sym c.has_same_high.ensures ∙ c.if-has_same_high.true) in
+    let same = eqb-true _ _ (sym c.has_same_high.ensures ∙ c.if-has_same_high.true) in
     subst (λ w. IsLeast false stamps c.args.target c.loop-size.size w) (ap (λ k. c.args.target % 2 ^ (4 * k)) (sym n) ∙ sym c.low_bits.ensures)
     (least_is stamps c.args.target c.loop-size.size h
     (subst (λ x. IsSame x c.args.target c.loop-size.size) last (subst (λ k. c.args.last / 2 ^ (4 * k) ≡ c.args.target / 2 ^ (4 * k)) n same))

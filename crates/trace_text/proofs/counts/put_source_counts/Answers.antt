@@ -1,6 +1,7 @@
-use Rattle.std.proofs.Common.{◌≡◌, ℕ, ◌+◌, ◌≤◌, ◌<◌, ◌++◌, List, length, length-append, ap, refl, arith}
+use Rattle.std.proofs.Common.{◌≡◌, ℕ, ◌+◌, ◌≤◌, ◌<◌, List, length, length-append, refl, arith}
 use Rattle.std.specs.Prelude.{codes, decimal}
 use Rattle.std.proofs.lemmas.Fmt.{length-decimal-le}
+use Rattle.trace_text.proofs.LongestLines.{longer}
 use Rattle.trace_text.specs.CountText.{source_counts_line}
 use Rattle.trace_text.proofs.counts.put_source_counts.Goals as goal
 
@@ -13,9 +14,6 @@ line_fits id bytes items m n h k l =
     let e : length (codes " items ") ≡ 7 = refl in
     let f : length (codes "\n") ≡ 1 = refl in
     simp (length-append) (omega arith)
-
-longer : (n : ℕ) (old new line : List ℕ) → new ≡ old ++ line → length line ≤ n → length new ≤ length old + n
-longer n old new line e h = omega (arith, ap length e, length-append old line)
 
 pub returns-clause-bound : goal.returns-clause-bound
 returns-clause-bound c =

@@ -1,11 +1,10 @@
-use Rattle.std.proofs.Common.{sym, arith}
+use Rattle.std.proofs.Common.{arith}
 use Rattle.trace_text.proofs.Fours.{decimal_four}
-use Rattle.trace_text.proofs.Putting.{within, loose, then}
+use Rattle.trace_text.proofs.Putting.{followed}
 use Rattle.trace_text.proofs.room.put_medium.Goals as goal
 
 pub returns : goal.returns
 returns c =
     let big = c.if-number-lt10000.false in
     let fits = c.ranges.number.fits in
-    within (then c.put_short-from.ensures (loose c.put_four.ensures)) (omega arith)
-    (sym (decimal_four c.args.number (omega (arith, big)) (omega (arith, fits))))
+    followed (decimal_four c.args.number (omega (arith, big)) (omega (arith, fits))) c.put_short-from.ensures c.put_four.ensures (omega arith)

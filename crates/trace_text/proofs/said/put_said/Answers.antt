@@ -4,18 +4,18 @@ use Rattle.stp_grammar.specs.Said.{said_item}
 use Rattle.trace_text.specs.HexDigits.{hex_digits}
 use Rattle.trace_text.specs.StpText.{place_text}
 use Rattle.trace_text.proofs.Putting.{named, within, loose, then}
-use Rattle.trace_text.proofs.SaidTables.{word_is, word_few, width_is, width_few, mark_is, mark_few}
+use Rattle.trace_text.proofs.SaidTables.{parts_are, parts_few}
 use Rattle.trace_text.proofs.SaidTexts.{written_text}
 use Rattle.trace_text.proofs.said.put_said.Goals as goal
 
 pub put_part-from-requires-clause-few : goal.put_part-from-requires-clause-few
-put_part-from-requires-clause-few c = word_few c.args.said.number c.requires.proper.number
+put_part-from-requires-clause-few c = (parts_few c.args.said.number c.requires.proper.number).0
 
 pub put_part-from-requires-2-clause-few : goal.put_part-from-requires-2-clause-few
-put_part-from-requires-2-clause-few c = width_few c.args.said.number c.requires.proper.number
+put_part-from-requires-2-clause-few c = (parts_few c.args.said.number c.requires.proper.number).1
 
 pub put_part-from-requires-3-clause-few : goal.put_part-from-requires-3-clause-few
-put_part-from-requires-3-clause-few c = mark_few c.args.said.number c.requires.proper.number
+put_part-from-requires-3-clause-few c = (parts_few c.args.said.number c.requires.proper.number).2
 
 pub returns : goal.returns
 unfolding said_item
@@ -23,11 +23,12 @@ returns c =
     let said = c.args.said in
     let low = c.requires.proper.number in
     let written = c.requires.written in
-    let word = named c.put_part-from.ensures (word_is said.number low written) in
+    let parts = parts_are said.number low written in
+    let word = named c.put_part-from.ensures parts.0 in
     let place = named c.put_times-from.ensures (ap (λ (t : Bool). cond t (place_text said.place) []) c.place_count.ensures.placed) in
-    let width = named c.put_part-from-2.ensures (width_is said.number low written) in
+    let width = named c.put_part-from-2.ensures parts.1 in
     let value = named (loose c.put_nibbles-from.ensures) (ap (λ (k : ℕ). hex_digits k said.payload) c.digit_count.ensures.count) in
-    let mark = named c.put_part-from-3.ensures (mark_is said.number low written) in
+    let mark = named c.put_part-from-3.ensures parts.2 in
     let few = c.digit_count.ensures.few in
     within (then word (then place (then width (then value (then mark c.put_stamp.ensures))))) (omega arith)
     (written_text said.place said.stamp (row_at said.number) said.payload written c.requires.proper.payload)

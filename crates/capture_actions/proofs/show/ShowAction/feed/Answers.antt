@@ -1,4 +1,4 @@
-use Rattle.std.proofs.Common.{◌≡◌, ◌∙◌, ◌+◌, ◌-◌, ℕ, Bool, true, ap, drop, length, subst, arith, take, rules}
+use Rattle.std.proofs.Common.{◌≡◌, ◌≤◌, ◌∙◌, ◌+◌, ◌-◌, ℕ, Bool, true, ap, drop, length, subst, arith, take, rules}
 use Rattle.std.proofs.lemmas.List.{length-drop, length-take-le}
 use Rattle.capture_actions.specs.Feeding.{HasFed}
 use Rattle.capture_actions.specs.Show.{taken_by}
@@ -21,30 +21,21 @@ loop-turn-preserved c =
       room = more.room so;
     }
 
-pub returns-then-not-has_more-clause-same : goal.returns-then-not-has_more-clause-same
-returns-then-not-has_more-clause-same c =
-    (fed_next c.args.self.now c.loop-turn.self c.take-taken.new.self c.args.piece.now c.loop-turn.done
-    c.take-taken.result.bytes c.take-taken.result.is_faulty c.args.outlet.now c.loop-turn.outlet c.take-taken.new.outlet
-    c.loop-turn.invariant.fed c.take-taken.ensures.fed).same
-
-pub returns-then-not-has_more-clause-fed : goal.returns-then-not-has_more-clause-fed
-returns-then-not-has_more-clause-fed c =
-    (fed_next c.args.self.now c.loop-turn.self c.take-taken.new.self c.args.piece.now c.loop-turn.done
-    c.take-taken.result.bytes c.take-taken.result.is_faulty c.args.outlet.now c.loop-turn.outlet c.take-taken.new.outlet
-    c.loop-turn.invariant.fed c.take-taken.ensures.fed).fed
-
-pub returns-then-not-has_more-clause-live : goal.returns-then-not-has_more-clause-live
-returns-then-not-has_more-clause-live c =
-    (fed_next c.args.self.now c.loop-turn.self c.take-taken.new.self c.args.piece.now c.loop-turn.done
-    c.take-taken.result.bytes c.take-taken.result.is_faulty c.args.outlet.now c.loop-turn.outlet c.take-taken.new.outlet
-    c.loop-turn.invariant.fed c.take-taken.ensures.fed).live
-
-pub returns-then-not-has_more-clause-count : goal.returns-then-not-has_more-clause-count
-returns-then-not-has_more-clause-count c =
-    (fed_next c.args.self.now c.loop-turn.self c.take-taken.new.self c.args.piece.now c.loop-turn.done
-    c.take-taken.result.bytes c.take-taken.result.is_faulty c.args.outlet.now c.loop-turn.outlet c.take-taken.new.outlet
-    c.loop-turn.invariant.fed c.take-taken.ensures.fed).count
-    ∙ ap (λ (n : ℕ). taken_by c.args.self.now + n)
-    (length-take-le (c.loop-turn.done + c.take-taken.result.bytes) c.args.piece.now
-    (let w = c.loop-turn.invariant.within in let k = c.take-taken.ensures.front in let d = length-drop c.loop-turn.done c.args.piece.now in
-    let t = length-take-le (length c.args.piece.now - c.loop-turn.done) (drop c.loop-turn.done c.args.piece.now) (omega (arith, d)) in omega (arith, w, k.at_most_all, d, t)))
+pub returns-then-not-has_more : goal.returns-then-not-has_more
+returns-then-not-has_more c =
+    let done = c.loop-turn.done in
+    let piece = c.args.piece.now in
+    let one = c.take-taken.ensures in
+    let front = one.front in
+    let all : done + c.take-taken.result.bytes ≤ length piece =
+    (let w = c.loop-turn.invariant.within in let d = length-drop done piece in
+    let t = length-take-le (length piece - done) (drop done piece) (omega (arith, d)) in omega (arith, w, front.at_most_all, d, t)) in
+    let fed = fed_next c.args.self.now c.loop-turn.self c.take-taken.new.self piece done c.take-taken.result.bytes c.take-taken.result.is_faulty
+    c.args.outlet.now c.loop-turn.outlet c.take-taken.new.outlet c.loop-turn.invariant.fed one.fed in
+    record {
+      same = fed.same;
+      front = record { some = omega (arith, front.some); at_most_all = all };
+      count = fed.count ∙ ap (λ (n : ℕ). taken_by c.args.self.now + n) (length-take-le (done + c.take-taken.result.bytes) piece all);
+      fed = fed.fed;
+      live = fed.live;
+    }

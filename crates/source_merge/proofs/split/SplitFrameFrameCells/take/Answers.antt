@@ -119,14 +119,8 @@ taken_to g c =
     c.take_run.result c.take_run.ensures.slots c.take_run.ensures.took g.met.V.Receiver.gets_more c.in-Some-take_run.stop c.in-Some-take_run.is (2 ^ 58)
     c.requires.ready.slots_are (let a = x.count in let d = c.add_run.ensures.more in omega (arith, a, d))
 
-pub returns-in-Some-take_run-clause-slots : goal.returns-in-Some-take_run-clause-slots
-returns-in-Some-take_run-clause-slots g c = (taken_to g c).slots_are
-
-pub returns-in-Some-take_run-clause-fed : goal.returns-in-Some-take_run-clause-fed
-returns-in-Some-take_run-clause-fed g c = (taken_to g c).fed
-
-pub returns-in-Some-take_run-clause-counts : goal.returns-in-Some-take_run-clause-counts
-returns-in-Some-take_run-clause-counts g c = (taken_to g c).counts_are
+pub returns-in-Some-take_run : goal.returns-in-Some-take_run
+returns-in-Some-take_run g c = let k = taken_to g c in record { slots = k.slots_are; fed = k.fed; counts = k.counts_are }
 
 pub loop-pair-preserved : goal.loop-pair-preserved
 loop-pair-preserved g c =
@@ -177,11 +171,5 @@ taken_all g c =
     (none_left c.args.self.now c.loop-pair.begun (ends_left c.loop-pair.ends) (c.in_default.ensures.none refl)) c.loop-pair.slots c.loop-pair.counts
     (c.loop-pair.items, (c.loop-pair.out, c.loop-pair.to)) c.loop-pair.invariant.so_far (2 ^ 58) c.requires.ready.slots_are
 
-pub returns-clause-slots : goal.returns-clause-slots
-returns-clause-slots g c = (taken_all g c).slots_are
-
-pub returns-clause-fed : goal.returns-clause-fed
-returns-clause-fed g c = (taken_all g c).fed
-
-pub returns-clause-counts : goal.returns-clause-counts
-returns-clause-counts g c = (taken_all g c).counts_are
+pub returns : goal.returns
+returns g c = let k = taken_all g c in record { slots = k.slots_are; fed = k.fed; counts = k.counts_are }
