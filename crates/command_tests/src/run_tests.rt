@@ -34,7 +34,7 @@ const ALIGNED: [&str; 7] = [
 const ROOM: usize = 256;
 
 /// Room for the listing of a capture of all kinds of packets.
-const LONG_ROOM: usize = 2048;
+const LONG_ROOM: usize = 8192;
 
 /// What `run` answers to these words.
 fn answer<I: Source, O: Sink, N: Sink>(
