@@ -1,0 +1,56 @@
+-- Each turn of a funnel with bytes gives at least one.
+use Rattle.std.proofs.Common.{◌≡◌, ℕ, zero, suc, ◌+◌, ◌*◌, ◌<◌, ◌≤◌, List, [], ◌∷◌, ◌++◌, length, length-append, length-drop}
+use Rattle.std.proofs.Common.{map, take, drop, Bool, true, false, cond, nat_lt, refl, sym, ◌∙◌, ap, subst, ◌⊎◌, inl, inr, arith}
+use Rattle.std.proofs.Common.{append_assoc, append-nil, Option, None, Some}
+use Rattle.std.specs.Prelude.{◌==◌, not}
+use Rattle.std.proofs.lemmas.Bool.{cases_lt, cases_eq, eq-eqb, eqb-true, ltb-true, lt-ltb, ne_eqb}
+use Rattle.std.proofs.lemmas.List.{take-append-drop, length-map}
+use Rattle.std.proofs.Math.Nat.{mul-le-mul_right}
+use Rattle.trace_funnel.specs.declared.tagged.Tagged.{Tagged}
+use Rattle.trace_funnel.specs.Turns.{Place, is_busy, Found, found_on, first_busy, waits, served, longer, tagged, given}
+use Rattle.trace_funnel.specs.Turns.{Turned, turn_of, turn, queue_of, waited_of, put, turns_while, is_full, offer, drain, load}
+use Rattle.trace_funnel.specs.Kept.{bytes_for, count, Apart, AreBounded}
+use Rattle.trace_funnel.proofs.Places.{count_append, bytes_append, past, here, missing, waits_at, count_waits, queue_waits, AreIdle, IsFound, found, not_same}
+use Rattle.trace_funnel.proofs.Turning.{same_count, turn_and, stay, counts_turn, counts_turns, turn_keeps, turns_keep}
+
+pub load_append : (a b : List Place) → load (a ++ b) ≡ load a + load b
+load_append [] b = omega arith
+load_append (p ∷ a) b = let i = load_append a b in omega (arith, i)
+
+pub load_waits : (n : ℕ) (a : List Place) → load (map (waits n) a) ≡ load a
+load_waits n [] = refl
+load_waits n (p ∷ a) = ap (λ (q : List ℕ). length q + load (map (waits n) a)) (waits_at n p).1 ∙ ap (λ m. length p.queue + m) (load_waits n a)
+
+pub idle_load : (a : List Place) → AreIdle a → load a ≡ 0
+idle_load [] i = refl
+idle_load (p ∷ a) i = (let e = empty p.queue i.0 in let r = idle_load a i.1 in omega (arith, e, r)) where
+  empty : (l : List ℕ) → nat_lt 0 (length l) ≡ false → length l ≡ 0
+  empty [] e = refl
+  empty (y ∷ l) e = absurd (let k = lt-ltb 0 (length (y ∷ l)) (omega arith) in let r = sym k ∙ e in cc)
+
+pub less_load : (hold : ℕ) (ps : List Place) → 1 ≤ hold → 0 < load ps → load (turn hold ps).places < load ps
+less_load hold ps h l = by (first_busy ps) (found ps) where
+  by : (o : Option Found) → IsFound ps o → load (turn_of hold ps o).places < load ps
+  by None f = absurd (let z = idle_load ps f in omega (arith, z, l))
+  by (Some v) f =
+      let n = length (take hold v.place.queue) in
+      let a = load_append (map (waits n) v.behind) (map (waits n) v.before ++ served hold v.place ∷ []) in
+      let b = load_append (map (waits n) v.before) (served hold v.place ∷ []) in
+      let c = load_waits n v.behind in
+      let d = load_waits n v.before in
+      let e = ap load f.0 in
+      let g = load_append v.before (v.place ∷ v.behind) in
+      let s = length-drop hold v.place.queue in
+      let t = ltb-true 0 (length v.place.queue) f.2 in
+      omega (arith, a, b, c, d, e, g, s, t, h)
+
+pub drained : (hold most : ℕ) (ps : List Place) → 1 ≤ hold → load ps ≤ most → load (turns_while (λ qs. nat_lt 0 (load qs)) hold most ps).places ≡ 0
+drained hold zero ps h l = omega arith
+drained hold (suc most) ps h l = by (nat_lt 0 (load ps)) refl (drained hold most (turn hold ps).places h) where
+  by : (t : Bool) → nat_lt 0 (load ps) ≡ t → (load (turn hold ps).places ≤ most → load (turns_while (λ qs. nat_lt 0 (load qs)) hold most (turn hold ps).places).places ≡ 0) →
+      load (cond t (turn_and hold ps (turns_while (λ qs. nat_lt 0 (load qs)) hold most (turn hold ps).places)) (stay ps)).places ≡ 0
+  by true e i = i (let k = less_load hold ps h (ltb-true 0 (load ps) e) in omega (arith, k, l))
+  by false e i = elim (cases_lt 0 (load ps)) [
+    | inl g ↦ absurd (let k = lt-ltb 0 (load ps) g in let r = sym k ∙ e in cc)
+    | inr g ↦ omega arith
+  ]

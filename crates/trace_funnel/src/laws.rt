@@ -1,0 +1,31 @@
+//! The law of funnels, over the definitions alone.
+
+ghost use Rattle.std.specs.Prelude.{◌≡◌, ◌≤◌, ◌+◌, ◌-◌, ◌*◌, ℕ, true, false, List, [], ◌∷◌, ◌++◌, length, ◌==◌};
+ghost use Rattle.std.specs.List.{list_any};
+ghost use Rattle.trace_funnel.specs.Turns.{Place, queue_of, waited_of, turns_while, is_full, load, drain, empty};
+ghost use Rattle.trace_funnel.specs.Kept.{bytes_for};
+ghost use Rattle.trace_funnel.specs.Acts.{Act, Drain, acts, offered, are_of};
+ghost use Rattle.trace_funnel.specs.Order.{are_apart};
+
+/// Whatever a funnel did since its beginning: of each source, what it gave and then what is in its queue is what was
+/// offered, so nothing is lost, made or moved; and after a drain, what it gave is all that was offered. A place waits
+/// while at most as many bytes are given as all other places may give in one turn each. An offer is made after at most
+/// one turn of each place: more turns change nothing. What is done in two parts is the one and then the other.
+pub fn funnel_law()
+    ensures kept { (hold depth : ℕ) (ids : List ℕ) (done : List Act) → are_apart ids ≡ true →
+        are_of ids (offered done) ≡ true → let t = acts hold depth (empty ids) done in
+        (id : ℕ) → bytes_for id t.out ++ queue_of id t.places ≡ bytes_for id (offered done) }
+    ensures drained { (hold depth : ℕ) (ids : List ℕ) (done : List Act) → 1 ≤ hold → are_apart ids ≡ true →
+        are_of ids (offered done) ≡ true → let t = acts hold depth (empty ids) (done ++ Drain ∷ []) in
+        (load t.places ≡ 0) × ((id : ℕ) → bytes_for id t.out ≡ bytes_for id (offered done)) }
+    ensures waits { (hold depth : ℕ) (ids : List ℕ) (done : List Act) (id : ℕ) →
+        waited_of id (acts hold depth (empty ids) done).places ≤ (length ids - 1) * hold }
+    ensures turns { (hold depth : ℕ) (ids : List ℕ) (done : List Act) (id : ℕ) → 1 ≤ hold → 1 ≤ depth →
+        are_apart ids ≡ true → are_of ids (offered done) ≡ true → list_any (λ x. x == id) ids ≡ true →
+        let ps = (acts hold depth (empty ids) done).places in
+        let made = turns_while (is_full depth id) hold (length ids) ps in (is_full depth id made.places ≡ false)
+        × ((more : ℕ) → turns_while (is_full depth id) hold (length ids + more) ps ≡ made) }
+    ensures joined { (hold depth : ℕ) (ps : List Place) (first next : List Act) →
+        let t = acts hold depth ps first in let u = acts hold depth t.places next in
+        acts hold depth ps (first ++ next) ≡ record { out = t.out ++ u.out; places = u.places } }
+{}
