@@ -4,7 +4,7 @@ use Rattle.std.proofs.Common.{Bool, true, false, cond, refl, sym, ◌∙◌, ap,
 use Rattle.std.specs.Prelude.{not}
 use Rattle.std.proofs.lemmas.Bool.{lt-ltb, ltb-true, cases_lt}
 use Rattle.trace_funnel.specs.declared.tagged.Tagged.{Tagged}
-use Rattle.trace_funnel.specs.Turns.{Place, Turned, turn, turns_while, is_full, queue_of}
+use Rattle.trace_funnel.specs.Turns.{Place, Turned, turn, turns_while, is_full, put, queue_of}
 use Rattle.trace_funnel.specs.Kept.{count}
 use Rattle.trace_funnel.specs.State.{State, with_places, id_at, turn_by, HasPlace}
 use Rattle.trace_funnel.proofs.Turning.{turn_and, stay}
@@ -116,3 +116,12 @@ offering_all f g place out o e =
       idle ps zero e = refl
       idle ps (suc n) e =
           ap (λ t. cond t (turn_and g.hold ps (turns_while (is_full g.depth (id_at g place)) g.hold n (turn g.hold ps).places)) (stay ps)) e
+
+-- and the byte is put where the turns have made room
+pub offering_put : (f g h : State) (place byte : ℕ) (out : List Tagged) → Offering f g place out →
+    is_full g.depth (id_at g place) g.places ≡ false →
+    h ≡ with_places g (put (id_at g place) byte g.places) →
+    h ≡ with_places f (put (id_at f place) byte (turns_by f place (length f.places)).places)
+offering_put f g h place byte out o e p =
+    p ∙ ap (λ s. with_places s (put (id_at s place) byte g.places)) o.same
+    ∙ ap (λ (t : Turned). with_places f (put (id_at f place) byte t.places)) (sym (offering_all f g place out o e))

@@ -1,11 +1,12 @@
 //! A funnel.
 
-ghost use Rattle.std.specs.Prelude.{◌≡◌, ◌==◌, ◌≤◌, ◌<◌, ◌+◌, ◌-◌, ◌*◌, ◌++◌, ◌↔◌, [], length, true, false, not, IsTrue, IfOk, if◌then◌else◌};
+ghost use Rattle.std.specs.Prelude.{◌≡◌, ◌==◌, ◌≤◌, ◌<◌, ◌+◌, ◌-◌, ◌*◌, ◌++◌, ◌↔◌, [], length, true, false, IsTrue, IfOk};
+ghost use Rattle.std.specs.Prelude.{if◌then◌else◌};
 ghost use Rattle.arrayvec.specs.ArrayVec.{array_vec_len};
-ghost use Rattle.trace_funnel.specs.declared.queue.TheConstants.{MOST_HELD};
 ghost use Rattle.trace_funnel.specs.Turns.{is_full, put, load};
 ghost use Rattle.trace_funnel.specs.Order.{are_apart};
-ghost use Rattle.trace_funnel.specs.State.{State, fresh, with_places, id_at, queue_at, waited_at, turn_by, offer_by, HasPlace};
+ghost use Rattle.trace_funnel.specs.State.{fresh, with_places, turn_by, offer_by, HasPlace};
+ghost use Rattle.trace_funnel.specs.State.{id_at, queue_at, waited_at};
 
 use crate::queue::{MOST_HELD, Queue, next_busy, queues_of, serve};
 use crate::tagged::Tagged;

@@ -2,15 +2,16 @@
 
 ghost use Rattle.std.specs.Prelude.{◌≡◌, ◌≤◌, ◌+◌, ◌-◌, ◌*◌, ℕ, true, false, List, [], ◌∷◌, ◌++◌, length, ◌==◌};
 ghost use Rattle.std.specs.List.{list_any};
-ghost use Rattle.trace_funnel.specs.Turns.{Place, queue_of, waited_of, turns_while, is_full, load, drain, empty};
+ghost use Rattle.trace_funnel.specs.Turns.{Place, queue_of, waited_of, turns_while, is_full, load, empty};
 ghost use Rattle.trace_funnel.specs.Kept.{bytes_for};
 ghost use Rattle.trace_funnel.specs.Acts.{Act, Drain, acts, offered, are_of};
 ghost use Rattle.trace_funnel.specs.Order.{are_apart};
 
-/// Whatever a funnel did since its beginning: of each source, what it gave and then what is in its queue is what was
-/// offered, so nothing is lost, made or moved; and after a drain, what it gave is all that was offered. A place waits
-/// while at most as many bytes are given as all other places may give in one turn each. An offer is made after at most
-/// one turn of each place: more turns change nothing. What is done in two parts is the one and then the other.
+/// What holds of a funnel whatever it did since its beginning. Of each source, what it gave and then what is in its
+/// queue is what was offered: nothing is lost, made or moved. After a drain, what it gave is all that was offered. A
+/// place waits while at most as many bytes are given as all other places may give in one turn each. Before an offer at
+/// most as many turns are made as there are places: then the queue has room, and to allow more changes nothing. What
+/// is done in two parts is the one and then the other.
 pub fn funnel_law()
     ensures kept { (hold depth : ℕ) (ids : List ℕ) (done : List Act) → are_apart ids ≡ true →
         are_of ids (offered done) ≡ true → let t = acts hold depth (empty ids) done in

@@ -1,6 +1,6 @@
 //! The queues of a funnel, one for each place.
 
-ghost use Rattle.std.specs.Prelude.{◌≡◌, ◌==◌, ◌≤◌, ◌<◌, ◌+◌, ◌^◌, ◌++◌, [], length, map, min, take, IfOk, Option, None, Some, position, slice_get, slice_set, nat_lt};
+ghost use Rattle.std.specs.Prelude.{◌≡◌, ◌≤◌, ◌<◌, ◌+◌, ◌^◌, ◌++◌, [], length, map, position, IfOk, None};
 ghost use Rattle.std.specs.List.{AllByRecursion};
 ghost use Rattle.arrayvec.specs.ArrayVec.{array_vec_len};
 ghost use Rattle.trace_funnel.specs.Turns.{is_busy, waits, served, given, longer, tagged, first_busy};
@@ -19,7 +19,7 @@ pub const MOST_HELD: usize = 15;
 pub struct Queue {
     pub id: SourceId,
     pub bytes: HeapCircularBuffer<u8>,
-    // How many bytes others gave since this one gave, or since it has bytes.
+    // How many bytes others gave since this one gave, or since it has bytes: 0 where it has none.
     pub waited: u64,
 }
 

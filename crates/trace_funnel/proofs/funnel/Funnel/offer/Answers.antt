@@ -1,5 +1,6 @@
-use Rattle.std.proofs.Common.{◌≡◌, true, sym, ◌∙◌}
-use Rattle.trace_funnel.proofs.Offering.{offering_none, offering_more, turns_fall}
+use Rattle.std.proofs.Common.{◌≡◌, true, List, sym, ◌∙◌, ap}
+use Rattle.trace_funnel.specs.Turns.{Turned}
+use Rattle.trace_funnel.proofs.Offering.{offering_none, offering_more, turns_fall, offering_all, offering_put}
 use Rattle.trace_funnel.proofs.funnel.Funnel.offer.Goals as goal
 
 pub loop-self-init : goal.loop-self-init
@@ -15,3 +16,13 @@ loop-self-preserved c =
     offering_more c.args.self.now c.loop-self.self c.give.new.self c.args.place c.loop-self.out.items
     c.give.new.out.items c.loop-self.invariant c.is_full.ensures.has
     (sym c.is_full.ensures.full ∙ c.loop-self-test.true) c.give.ensures.places c.give.ensures.given c.give.ensures.len
+
+pub returns-clause-given : goal.returns-clause-given
+returns-clause-given c =
+    ap (λ (t : Turned). t.out) (sym (offering_all c.args.self.now c.loop-self.self c.args.place c.loop-self.out.items
+    c.loop-self.invariant (sym c.is_full.ensures.full ∙ c.loop-self-test.false)))
+
+pub returns-clause-places : goal.returns-clause-places
+returns-clause-places c =
+    offering_put c.args.self.now c.loop-self.self c.put.new.self c.args.place c.args.byte c.loop-self.out.items
+    c.loop-self.invariant (sym c.is_full.ensures.full ∙ c.loop-self-test.false) c.put.ensures
