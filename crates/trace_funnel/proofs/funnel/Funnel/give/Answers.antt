@@ -29,7 +29,7 @@ serve-requires g c =
       (
         within,
         (
-          c.self.invariant.held,
+          (let held = c.self.invariant.held in omega (arith, held)),
           (
             subst (λ (l : List Queue). AllByRecursion (λ (p : Place). p.waited ≤ 2 ^ 32) (places_of l))
                 (sym c.as_mut_slice.ensures.value) few,
