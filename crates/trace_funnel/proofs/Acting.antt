@@ -124,7 +124,7 @@ act_bounded hold depth ps (Offer y) b =
 act_bounded hold depth ps Turn b = turn_bounded hold ps b
 act_bounded hold depth ps Drain b = turns_bounded (λ qs. nat_lt 0 (load qs)) hold (load ps) ps b
 
-acts_bounded : (hold depth : ℕ) (done : List Act) (ps : List Place) → AreBounded hold ps →
+pub acts_bounded : (hold depth : ℕ) (done : List Act) (ps : List Place) → AreBounded hold ps →
     AreBounded hold (acts hold depth ps done).places
 acts_bounded hold depth [] ps b = b
 acts_bounded hold depth (a ∷ rest) ps b =
@@ -147,7 +147,7 @@ counts_act hold depth ps (Offer y) x =
 counts_act hold depth ps Turn x = counts_turn hold ps x
 counts_act hold depth ps Drain x = counts_turns (λ qs. nat_lt 0 (load qs)) hold (load ps) ps x
 
-apart_act : (hold depth : ℕ) (ps : List Place) (a : Act) → Apart ps → Apart (act hold depth ps a).places
+pub apart_act : (hold depth : ℕ) (ps : List Place) (a : Act) → Apart ps → Apart (act hold depth ps a).places
 apart_act hold depth ps a apart x = let e = counts_act hold depth ps a x in let h = apart x in omega (arith, e, h)
 
 -- each byte that is offered has a place
@@ -319,7 +319,7 @@ acts_short hold depth (a ∷ rest) ps h d apart here short =
     (here_after ps t.places (counts_act hold depth ps a) rest here.1)
     (act_short hold depth ps a h d apart here.0 short)
 
-counts_acts : (hold depth : ℕ) (done : List Act) (ps : List Place) (x : ℕ) →
+pub counts_acts : (hold depth : ℕ) (done : List Act) (ps : List Place) (x : ℕ) →
     count x (acts hold depth ps done).places ≡ count x ps
 counts_acts hold depth [] ps x = refl
 counts_acts hold depth (a ∷ rest) ps x =
@@ -339,7 +339,7 @@ acts_room hold depth ids done x h d a o i =
     (λ y. let e = ap length (queue_empty y ids) in omega (arith, e)) x))
 
 -- where the test doesn't hold, more turns change nothing
-idle_turns : (test : List Place → Bool) (hold n : ℕ) (ps : List Place) → test ps ≡ false →
+pub idle_turns : (test : List Place → Bool) (hold n : ℕ) (ps : List Place) → test ps ≡ false →
     turns_while test hold n ps ≡ stay ps
 idle_turns test hold zero ps e = refl
 idle_turns test hold (suc n) ps e =

@@ -9,3 +9,4 @@ mod Serving
 mod Rounding
 mod Fields
 mod Offering
+mod Counting

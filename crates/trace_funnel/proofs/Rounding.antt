@@ -43,7 +43,7 @@ queue_round x n ps apart =
     queue_swap x (take n ps) (drop n ps) (subst (λ (l : List Place). count x l ≤ 1) (sym (take-append-drop n ps)) (apart x))
     ∙ ap (queue_of x) (take-append-drop n ps)
 
-wait_past : (x : ℕ) (a b : List Place) → count x a ≡ 0 → waited_of x (a ++ b) ≡ waited_of x b
+pub wait_past : (x : ℕ) (a b : List Place) → count x a ≡ 0 → waited_of x (a ++ b) ≡ waited_of x b
 wait_past x [] b h = refl
 wait_past x (p ∷ a) b h = by (p.id == x) h (wait_past x a b) where
   by : (t : Bool) → cond t (count x a + 1) (count x a) ≡ 0 → (count x a ≡ 0 → waited_of x (a ++ b) ≡ waited_of x b) →
@@ -51,7 +51,7 @@ wait_past x (p ∷ a) b h = by (p.id == x) h (wait_past x a b) where
   by true h f = absurd (omega arith)
   by false h f = f h
 
-wait_here : (x : ℕ) (a b : List Place) → 1 ≤ count x a → waited_of x (a ++ b) ≡ waited_of x a
+pub wait_here : (x : ℕ) (a b : List Place) → 1 ≤ count x a → waited_of x (a ++ b) ≡ waited_of x a
 wait_here x [] b h = absurd (omega arith)
 wait_here x (p ∷ a) b h = by (p.id == x) h (wait_here x a b) where
   by : (t : Bool) → 1 ≤ cond t (count x a + 1) (count x a) → (1 ≤ count x a → waited_of x (a ++ b) ≡ waited_of x a) →

@@ -1,8 +1,8 @@
-//! The law of funnels, over the definitions alone.
+//! The laws of funnels, over the definitions alone.
 
 ghost use Rattle.std.specs.Prelude.{◌≡◌, ◌≤◌, ◌+◌, ◌-◌, ◌*◌, ℕ, true, false, List, [], ◌∷◌, ◌++◌, length, ◌==◌};
 ghost use Rattle.std.specs.List.{list_any};
-ghost use Rattle.trace_funnel.specs.Turns.{Place, queue_of, waited_of, turns_while, is_full, load, empty};
+ghost use Rattle.trace_funnel.specs.Turns.{Place, queue_of, waited_of, turn, turns_while, is_full, offer, load, empty};
 ghost use Rattle.trace_funnel.specs.Kept.{bytes_for};
 ghost use Rattle.trace_funnel.specs.Acts.{Act, Drain, acts, offered, are_of};
 ghost use Rattle.trace_funnel.specs.Order.{are_apart};
@@ -29,4 +29,20 @@ pub fn funnel_law()
     ensures joined { (hold depth : ℕ) (ps : List Place) (first next : List Act) →
         let t = acts hold depth ps first in let u = acts hold depth t.places next in
         acts hold depth ps (first ++ next) ≡ record { out = t.out ++ u.out; places = u.places } }
+{}
+
+/// What a waited number counts: the bytes that other places gave since the later of two moments. While a place has
+/// bytes and gives none, it rises by each byte that is given; with the place's own turn it is 0; and it is 0 as its
+/// queue begins to have bytes.
+pub fn waited_law()
+    ensures counts { (hold depth : ℕ) (ids : List ℕ) (done more : List Act) (id : ℕ) → 1 ≤ hold →
+        are_apart ids ≡ true → let ps = (acts hold depth (empty ids) done).places in let t = acts hold depth ps more in
+        1 ≤ length (queue_of id ps) → bytes_for id t.out ≡ [] →
+        waited_of id t.places ≡ waited_of id ps + length t.out }
+    ensures gave { (hold depth : ℕ) (ids : List ℕ) (done : List Act) (id : ℕ) → are_apart ids ≡ true →
+        let t = turn hold (acts hold depth (empty ids) done).places in
+        (bytes_for id t.out ≡ [] → ⊥) → waited_of id t.places ≡ 0 }
+    ensures came { (hold depth : ℕ) (ids : List ℕ) (done : List Act) (id byte : ℕ) → 1 ≤ depth →
+        are_apart ids ≡ true → let ps = (acts hold depth (empty ids) done).places in
+        queue_of id ps ≡ [] → waited_of id (offer hold depth ps id byte).places ≡ 0 }
 {}
