@@ -3,13 +3,12 @@ use Rattle.std.proofs.Common.{◌≡◌, ℕ, zero, suc, ◌+◌, ◌-◌, ◌*�
 use Rattle.std.proofs.Common.{Bool, true, false, cond, nat_lt, refl, sym, ◌∙◌, ap, subst, ◌⊎◌, inl, inr, arith}
 use Rattle.std.proofs.Common.{append_assoc, append-nil, length-append, Option, None, Some, take}
 use Rattle.std.specs.Prelude.{◌==◌, not, ◌&&◌, ◌||◌, nat_le}
-use Rattle.std.specs.List.{list_any, AllByRecursion}
-use Rattle.std.proofs.lemmas.Bool.{cases_lt, cases_eq, eq-eqb, eqb-true, and_parts, not-true, or_cases}
+use Rattle.std.specs.List.{list_any}
+use Rattle.std.proofs.lemmas.Bool.{cases_eq, eq-eqb, and_parts, not-true}
 use Rattle.std.proofs.lemmas.List.{length-map}
-use Rattle.std.proofs.Math.Nat.{mul-le-mul_right}
 use Rattle.trace_funnel.specs.declared.tagged.Tagged.{Tagged}
 use Rattle.trace_funnel.specs.Turns.{Place, waits, served, Found, first_busy, Turned, turn_of, turn, queue_of, waited_of, put}
-use Rattle.trace_funnel.specs.Turns.{turns_while, is_full, offer, drain, load, empty}
+use Rattle.trace_funnel.specs.Turns.{turns_while, is_full, drain, load, empty}
 use Rattle.trace_funnel.specs.Kept.{bytes_for, count, Apart, AreBounded}
 use Rattle.trace_funnel.specs.Acts.{Act, Offer, Turn, Drain, act, acts, offered, are_of}
 use Rattle.trace_funnel.specs.Order.{are_apart}

@@ -1,17 +1,17 @@
 -- What a waited number counts.
-use Rattle.std.proofs.Common.{◌≡◌, ℕ, zero, suc, ◌+◌, ◌<◌, ◌≤◌, List, [], ◌∷◌, ◌++◌, length, length-append, map, take, min}
-use Rattle.std.proofs.Common.{Bool, true, false, cond, nat_lt, refl, sym, ◌∙◌, ap, subst, arith, Option, None, Some, ◌⊎◌, inl, inr}
+use Rattle.std.proofs.Common.{◌≡◌, ℕ, zero, suc, ◌+◌, ◌≤◌, List, [], ◌∷◌, ◌++◌, length, length-append, map, take}
+use Rattle.std.proofs.Common.{Bool, true, false, cond, nat_lt, refl, sym, ◌∙◌, ap, subst, arith, Option, None, Some, inl, inr}
 use Rattle.std.specs.Prelude.{◌==◌, not}
 use Rattle.std.proofs.lemmas.Bool.{cases_lt, cases_eq, eq-eqb, lt-ltb, ltb-true}
 use Rattle.std.proofs.lemmas.List.{length-map, length-take}
 use Rattle.trace_funnel.specs.declared.tagged.Tagged.{Tagged}
-use Rattle.trace_funnel.specs.Turns.{Place, is_busy, Found, first_busy, waits, served, longer, given, Turned, turn_of, turn}
+use Rattle.trace_funnel.specs.Turns.{Place, Found, first_busy, waits, served, longer, Turned, turn_of, turn}
 use Rattle.trace_funnel.specs.Turns.{queue_of, waited_of, put, turns_while, is_full, offer, load, empty}
-use Rattle.trace_funnel.specs.Kept.{bytes_for, count, Apart, AreBounded}
+use Rattle.trace_funnel.specs.Kept.{bytes_for, count, Apart}
 use Rattle.trace_funnel.specs.Acts.{Act, Offer, Turn, Drain, act, acts}
 use Rattle.trace_funnel.specs.Order.{are_apart}
 use Rattle.trace_funnel.proofs.Places.{count_append, bytes_append, past, here, missing, waits_at, count_waits, IsFound, found, not_same}
-use Rattle.trace_funnel.proofs.Turning.{given_all, turn_and, stay, turn_keeps, turns_keep, put_same, put_other, counts_turns}
+use Rattle.trace_funnel.proofs.Turning.{given_all, turn_and, stay, turn_keeps, turns_keep}
 use Rattle.trace_funnel.proofs.Waiting.{waited_idle}
 use Rattle.trace_funnel.proofs.Rounding.{wait_past, wait_here}
 use Rattle.trace_funnel.proofs.Acting.{apart_empty, bounded_empty, acts_bounded, counts_acts, apart_act, idle_turns}

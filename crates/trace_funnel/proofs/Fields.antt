@@ -5,7 +5,7 @@ use Rattle.std.proofs.Common.{◌⊎◌, inl, inr}
 use Rattle.std.specs.Prelude.{◌==◌, not, nat_eq, IsTrue, is_some, IfNone, IfSome}
 use Rattle.std.specs.List.{AllByRecursion}
 use Rattle.std.proofs.lemmas.Bool.{cases_lt, cases_eq, eq-eqb, ne_eqb, lt-ltb, le-ltb, ltb-true}
-use Rattle.std.proofs.lemmas.List.{take-append-drop, length-map, get_or-map, get_or_default, length-set}
+use Rattle.std.proofs.lemmas.List.{take-append-drop, length-map, get_or-map, length-set}
 use Rattle.trace_funnel.specs.declared.queue.Queue.{Queue}
 use Rattle.trace_funnel.specs.declared.funnel.Funnel.TheInside.{Inside}
 use Rattle.trace_funnel.specs.Turns.{Place, Found, first_busy, longer, put, is_full, load, queue_of, waited_of, turn, empty}

@@ -1,17 +1,14 @@
 -- The place of an ID comes nearer with each turn, and then gives.
-use Rattle.std.proofs.Common.{◌≡◌, ℕ, zero, suc, ◌+◌, ◌*◌, ◌<◌, ◌≤◌, List, [], ◌∷◌, ◌++◌, length, length-append, length-drop}
+use Rattle.std.proofs.Common.{◌≡◌, ℕ, zero, suc, ◌+◌, ◌<◌, ◌≤◌, List, [], ◌∷◌, ◌++◌, length, length-drop}
 use Rattle.std.proofs.Common.{map, take, drop, Bool, true, false, cond, nat_lt, refl, sym, ◌∙◌, ap, subst, ◌⊎◌, inl, inr, arith}
-use Rattle.std.proofs.Common.{append_assoc, append-nil, Option, None, Some}
+use Rattle.std.proofs.Common.{append-nil, Option, None, Some}
 use Rattle.std.specs.Prelude.{◌==◌, not, if◌then◌else◌}
-use Rattle.std.proofs.lemmas.Bool.{cases_lt, cases_eq, eq-eqb, eqb-true, ltb-true, lt-ltb, ne_eqb}
-use Rattle.std.proofs.lemmas.List.{take-append-drop, length-map}
-use Rattle.std.proofs.Math.Nat.{mul-le-mul_right}
-use Rattle.trace_funnel.specs.declared.tagged.Tagged.{Tagged}
-use Rattle.trace_funnel.specs.Turns.{Place, is_busy, Found, found_on, first_busy, waits, served, longer, tagged, given}
-use Rattle.trace_funnel.specs.Turns.{Turned, turn_of, turn, queue_of, waited_of, put, turns_while, is_full, offer, drain, load}
-use Rattle.trace_funnel.specs.Kept.{bytes_for, count, Apart, AreBounded}
-use Rattle.trace_funnel.proofs.Places.{count_append, bytes_append, past, here, missing, waits_at, count_waits, queue_waits, AreIdle, IsFound, found, not_same}
-use Rattle.trace_funnel.proofs.Turning.{same_count, turn_and, stay, counts_turn, counts_turns, turn_keeps, turns_keep}
+use Rattle.std.proofs.lemmas.Bool.{cases_lt, cases_eq, eq-eqb, ltb-true, lt-ltb}
+use Rattle.trace_funnel.specs.Turns.{Place, is_busy, Found, first_busy, waits, served}
+use Rattle.trace_funnel.specs.Turns.{turn_of, turn, queue_of, turns_while}
+use Rattle.trace_funnel.specs.Kept.{count}
+use Rattle.trace_funnel.proofs.Places.{count_append, past, here, waits_at, count_waits, queue_waits, AreIdle, IsFound, found, not_same}
+use Rattle.trace_funnel.proofs.Turning.{same_count, turn_and, stay}
 
 -- how many places are before that of an ID
 abbrev pub ahead : ℕ → List Place → ℕ

@@ -1,15 +1,13 @@
 -- Places and their IDs: how many there are of one, and where its queue is.
-use Rattle.std.proofs.Common.{◌≡◌, ℕ, zero, suc, ◌+◌, ◌*◌, ◌<◌, ◌≤◌, List, [], ◌∷◌, ◌++◌, length, length-append, length-drop}
-use Rattle.std.proofs.Common.{map, take, drop, Bool, true, false, cond, nat_lt, refl, sym, ◌∙◌, ap, subst, ◌⊎◌, inl, inr, arith}
-use Rattle.std.proofs.Common.{append_assoc, append-nil, Option, None, Some}
-use Rattle.std.specs.Prelude.{◌==◌, not}
-use Rattle.std.proofs.lemmas.Bool.{cases_lt, cases_eq, eq-eqb, eqb-true, ltb-true, lt-ltb, ne_eqb}
-use Rattle.std.proofs.lemmas.List.{take-append-drop, length-map}
-use Rattle.std.proofs.Math.Nat.{mul-le-mul_right}
+use Rattle.std.proofs.Common.{◌≡◌, ℕ, ◌+◌, ◌≤◌, List, [], ◌∷◌, ◌++◌}
+use Rattle.std.proofs.Common.{map, Bool, true, false, cond, refl, sym, ◌∙◌, ap, arith}
+use Rattle.std.proofs.Common.{append-nil, Option, None, Some}
+use Rattle.std.specs.Prelude.{◌==◌}
+use Rattle.std.proofs.lemmas.Bool.{eqb-true}
 use Rattle.trace_funnel.specs.declared.tagged.Tagged.{Tagged}
-use Rattle.trace_funnel.specs.Turns.{Place, is_busy, Found, found_on, first_busy, waits, served, longer, tagged, given}
-use Rattle.trace_funnel.specs.Turns.{Turned, turn_of, turn, queue_of, waited_of, put, turns_while, is_full, offer, drain, load}
-use Rattle.trace_funnel.specs.Kept.{bytes_for, count, Apart, AreBounded}
+use Rattle.trace_funnel.specs.Turns.{Place, is_busy, Found, found_on, first_busy, waits}
+use Rattle.trace_funnel.specs.Turns.{queue_of}
+use Rattle.trace_funnel.specs.Kept.{bytes_for, count}
 
 pub count_append : (x : ℕ) (a b : List Place) → count x (a ++ b) ≡ count x a + count x b
 count_append x [] b = omega arith

@@ -1,19 +1,17 @@
 -- Places in their order, and from the next one on, going round.
-use Rattle.std.proofs.Common.{◌≡◌, ℕ, zero, suc, ◌+◌, ◌*◌, ◌^◌, ◌<◌, ◌≤◌, List, [], ◌∷◌, ◌++◌, length, map, take, drop}
+use Rattle.std.proofs.Common.{◌≡◌, ℕ, ◌+◌, ◌^◌, ◌<◌, ◌≤◌, List, [], ◌∷◌, ◌++◌, length, map, take, drop}
 use Rattle.std.proofs.Common.{Bool, true, false, cond, refl, sym, ◌∙◌, ap, subst, arith, append_assoc, append-nil, length-append}
-use Rattle.std.proofs.Common.{Option, None, Some, ◌⊎◌, inl, inr}
+use Rattle.std.proofs.Common.{Some, inl, inr}
 use Rattle.std.specs.Prelude.{◌==◌}
 use Rattle.std.specs.List.{AllByRecursion}
 use Rattle.std.proofs.lemmas.Bool.{cases_lt, cases_eq, eq-eqb, ne_eqb}
 use Rattle.std.proofs.lemmas.List.{take-append-drop, map-append, take_at, drop_at, length-map, take-map, drop-map}
 use Rattle.std.proofs.lemmas.Nat.{mul-le}
-use Rattle.trace_funnel.specs.declared.tagged.Tagged.{Tagged}
-use Rattle.trace_funnel.specs.Turns.{Place, is_busy, Found, first_busy, waits, served, longer, given, Turned, turn_of, turn}
+use Rattle.trace_funnel.specs.Turns.{Place, first_busy, waits, served, longer, given, Turned, turn_of, turn}
 use Rattle.trace_funnel.specs.Turns.{queue_of, waited_of, put}
 use Rattle.trace_funnel.specs.Kept.{count, Apart, AreBounded}
 use Rattle.trace_funnel.specs.Queues.{ids_of, round, IsNextBusy, after_turn}
-use Rattle.trace_funnel.proofs.Places.{count_append, past, here, missing, waits_at, not_same}
-use Rattle.trace_funnel.proofs.Turning.{count_put}
+use Rattle.trace_funnel.proofs.Places.{count_append, past, here, missing, waits_at}
 
 -- the places of a list, going round from any of them, have the same IDs, queues and waited numbers
 count_swap : (x : ℕ) (a b : List Place) → count x (b ++ a) ≡ count x (a ++ b)

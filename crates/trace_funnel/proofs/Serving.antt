@@ -1,8 +1,7 @@
 -- A queue of a place stands between others: what a change of it is to all of them.
-use Rattle.std.proofs.Common.{◌≡◌, ℕ, zero, suc, ◌+◌, ◌<◌, List, [], ◌∷◌, ◌++◌, length, map, take, drop, min}
-use Rattle.std.proofs.Common.{refl, sym, ◌∙◌, ap, subst, arith, get_or, set}
+use Rattle.std.proofs.Common.{◌≡◌, ℕ, ◌+◌, ◌<◌, List, [], ◌∷◌, ◌++◌, length, map, take, drop, min}
+use Rattle.std.proofs.Common.{refl, sym, ◌∙◌, ap, arith, get_or, set}
 use Rattle.std.proofs.lemmas.List.{take-append-drop, length-take, length-take-le, drop_more, drop-set, take-set, map-append, length-map}
-use Rattle.trace_funnel.specs.declared.tagged.Tagged.{Tagged}
 use Rattle.trace_funnel.specs.declared.queue.Queue.{Queue}
 use Rattle.trace_funnel.specs.Turns.{Place, waits, served, given, tagged}
 use Rattle.trace_funnel.specs.Queues.{place_of, places_of, after_turn}

@@ -1,16 +1,15 @@
 -- Turns, offers and drains keep the bytes of each source.
-use Rattle.std.proofs.Common.{◌≡◌, ℕ, zero, suc, ◌+◌, ◌*◌, ◌<◌, ◌≤◌, List, [], ◌∷◌, ◌++◌, length, length-append, length-drop}
+use Rattle.std.proofs.Common.{◌≡◌, ℕ, zero, suc, ◌+◌, ◌≤◌, List, [], ◌∷◌, ◌++◌, length}
 use Rattle.std.proofs.Common.{map, take, drop, Bool, true, false, cond, nat_lt, refl, sym, ◌∙◌, ap, subst, ◌⊎◌, inl, inr, arith}
 use Rattle.std.proofs.Common.{append_assoc, append-nil, Option, None, Some}
 use Rattle.std.specs.Prelude.{◌==◌, not}
-use Rattle.std.proofs.lemmas.Bool.{cases_lt, cases_eq, eq-eqb, eqb-true, ltb-true, lt-ltb, ne_eqb}
-use Rattle.std.proofs.lemmas.List.{take-append-drop, length-map}
-use Rattle.std.proofs.Math.Nat.{mul-le-mul_right}
+use Rattle.std.proofs.lemmas.Bool.{cases_lt, cases_eq, eq-eqb, eqb-true}
+use Rattle.std.proofs.lemmas.List.{take-append-drop}
 use Rattle.trace_funnel.specs.declared.tagged.Tagged.{Tagged}
-use Rattle.trace_funnel.specs.Turns.{Place, is_busy, Found, found_on, first_busy, waits, served, longer, tagged, given}
-use Rattle.trace_funnel.specs.Turns.{Turned, turn_of, turn, queue_of, waited_of, put, turns_while, is_full, offer, drain, load}
-use Rattle.trace_funnel.specs.Kept.{bytes_for, count, Apart, AreBounded}
-use Rattle.trace_funnel.proofs.Places.{count_append, bytes_append, past, here, missing, waits_at, count_waits, queue_waits, AreIdle, IsFound, found, not_same}
+use Rattle.trace_funnel.specs.Turns.{Place, Found, first_busy, waits, served, longer, given}
+use Rattle.trace_funnel.specs.Turns.{Turned, turn_of, turn, queue_of, put, turns_while, offer}
+use Rattle.trace_funnel.specs.Kept.{bytes_for, count, Apart}
+use Rattle.trace_funnel.proofs.Places.{count_append, bytes_append, past, here, missing, count_waits, queue_waits, IsFound, found, not_same}
 
 pub given_all : (id : ℕ) (l : List ℕ) (x : ℕ) → bytes_for x (map (λ (b : ℕ). let y : Tagged = record { id = id; byte = b } in y) l) ≡ cond (id == x) l []
 given_all id [] x = by (id == x) where

@@ -1,4 +1,4 @@
-use Rattle.std.proofs.Common.{◌<◌, ◌++◌, List, length, ◌∙◌, ap, arith, get_or, min}
+use Rattle.std.proofs.Common.{◌++◌, List, ◌∙◌, ap, arith, get_or, min}
 use Rattle.trace_funnel.specs.declared.tagged.Tagged.{Tagged}
 use Rattle.trace_funnel.specs.Queues.{room_of}
 use Rattle.trace_funnel.proofs.Serving.{gives, serves, map_same}

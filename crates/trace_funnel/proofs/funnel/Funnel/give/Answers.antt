@@ -1,4 +1,4 @@
-use Rattle.std.proofs.Common.{◌≡◌, ◌≤◌, ◌^◌, ◌++◌, List, ◌∷◌, ◌<◌, length, length-append, refl, sym, ◌∙◌, ap, subst, arith, rules}
+use Rattle.std.proofs.Common.{◌≤◌, ◌^◌, ◌++◌, List, ◌∷◌, ◌<◌, length, length-append, refl, sym, ◌∙◌, ap, subst, arith, rules}
 use Rattle.std.specs.List.{AllByRecursion}
 use Rattle.std.specs.Vec.{with_items}
 use Rattle.std.proofs.lemmas.List.{length-map, with_items_is}
@@ -8,7 +8,7 @@ use Rattle.trace_funnel.specs.declared.funnel.Funnel.TheInside.{Inside}
 use Rattle.trace_funnel.specs.Turns.{Place}
 use Rattle.trace_funnel.specs.State.{State, with_places, turn_by}
 use Rattle.trace_funnel.specs.Queues.{place_of, places_of, rooms_of, IsNextBusy}
-use Rattle.trace_funnel.proofs.Rounding.{few_round, at_within, out_is}
+use Rattle.trace_funnel.proofs.Rounding.{few_round, out_is}
 use Rattle.trace_funnel.proofs.Fields.{turn_state, turn_whole}
 use Rattle.trace_funnel.proofs.funnel.Funnel.give.Goals as goal
 

@@ -1,4 +1,4 @@
-use Rattle.std.proofs.Common.{◌≡◌, ◌≤◌, ◌<◌, ◌∙◌, ap, length, map, refl, arith}
+use Rattle.std.proofs.Common.{◌∙◌, ap, length, map, refl, arith}
 use Rattle.trace_funnel.specs.declared.funnel.Funnel.TheInside.{Inside}
 use Rattle.trace_funnel.specs.Turns.{empty}
 use Rattle.trace_funnel.proofs.Fields.{fresh_state, fresh_whole}

@@ -1,4 +1,4 @@
-use Rattle.std.proofs.Common.{◌≡◌, true, List, sym, ◌∙◌, ap}
+use Rattle.std.proofs.Common.{sym, ◌∙◌, ap}
 use Rattle.trace_funnel.specs.Turns.{Turned}
 use Rattle.trace_funnel.proofs.Offering.{offering_none, offering_more, turns_fall, offering_all, offering_put}
 use Rattle.trace_funnel.proofs.funnel.Funnel.offer.Goals as goal
