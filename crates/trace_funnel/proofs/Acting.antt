@@ -4,7 +4,7 @@ use Rattle.std.proofs.Common.{Bool, true, false, cond, nat_lt, refl, sym, ◌∙
 use Rattle.std.proofs.Common.{append_assoc, append-nil, length-append, Option, None, Some, take}
 use Rattle.std.specs.Prelude.{◌==◌, not, ◌&&◌, ◌||◌, nat_le}
 use Rattle.std.specs.List.{list_any}
-use Rattle.std.proofs.lemmas.Bool.{cases_eq, eq-eqb, and_parts, not-true}
+use Rattle.std.proofs.lemmas.Bool.{cases_eq, eq-eqb, ne_eqb, and_parts, not-true}
 use Rattle.std.proofs.lemmas.List.{length-map}
 use Rattle.trace_funnel.specs.declared.tagged.Tagged.{Tagged}
 use Rattle.trace_funnel.specs.Turns.{Place, waits, served, Found, first_busy, Turned, turn_of, turn, queue_of, waited_of, put}
@@ -12,7 +12,7 @@ use Rattle.trace_funnel.specs.Turns.{turns_while, is_full, drain, load, empty}
 use Rattle.trace_funnel.specs.Kept.{bytes_for, count, Apart, AreBounded}
 use Rattle.trace_funnel.specs.Acts.{Act, Offer, Turn, Drain, act, acts, offered, are_of}
 use Rattle.trace_funnel.specs.Order.{are_apart}
-use Rattle.trace_funnel.proofs.Places.{bytes_append, not_same, IsFound, found}
+use Rattle.trace_funnel.proofs.Places.{bytes_append, IsFound, found}
 use Rattle.trace_funnel.proofs.Turning.{turn_and, stay, counts_turn, counts_turns, turn_keeps, turns_keep, offer_keeps, count_put, put_same, put_other}
 use Rattle.trace_funnel.proofs.Waiting.{turn_bounded, put_bounded, waited_few}
 use Rattle.trace_funnel.proofs.Nearing.{has_room, ahead_few}
@@ -35,7 +35,7 @@ apart_more y ids alone rest x = by (cases_eq y x) where
       let here = ap (λ t. cond t (count x (empty ids) + 1) (count x (empty ids))) (eq-eqb y x e) in
       omega (arith, none, here)
   by (inr n) =
-      let here = ap (λ t. cond t (count x (empty ids) + 1) (count x (empty ids))) (not_same y x n) in
+      let here = ap (λ t. cond t (count x (empty ids) + 1) (count x (empty ids))) (ne_eqb y x n) in
       let more = rest x in
       omega (arith, here, more)
 
@@ -180,9 +180,9 @@ act_keeps : (hold depth : ℕ) (ps : List Place) (a : Act) → Apart ps → IsHe
     bytes_for x (act hold depth ps a).out ++ queue_of x (act hold depth ps a).places
     ≡ queue_of x ps ++ bytes_for x (offered (a ∷ []))
 act_keeps hold depth ps (Offer y) apart h x = offer_keeps hold depth ps y.id y.byte apart h x
-act_keeps hold depth ps Turn apart h x = (turn_keeps hold ps apart).1 x ∙ sym (append-nil (queue_of x ps))
+act_keeps hold depth ps Turn apart h x = (turn_keeps hold ps apart).all x ∙ sym (append-nil (queue_of x ps))
 act_keeps hold depth ps Drain apart h x =
-    (turns_keep (λ qs. nat_lt 0 (load qs)) hold (load ps) ps apart).1 x ∙ sym (append-nil (queue_of x ps))
+    (turns_keep (λ qs. nat_lt 0 (load qs)) hold (load ps) ps apart).all x ∙ sym (append-nil (queue_of x ps))
 
 offered_first : (a : Act) (rest : List Act) → offered (a ∷ rest) ≡ offered (a ∷ []) ++ offered rest
 offered_first (Offer y) rest = refl
@@ -281,13 +281,13 @@ act_short : (hold depth : ℕ) (ps : List Place) (a : Act) → 1 ≤ hold → 1 
     AreShort depth ps → AreShort depth (act hold depth ps a).places
 act_short hold depth ps Turn h d apart here short x =
     let t = turn hold ps in
-    let l = less (bytes_for x t.out) (queue_of x t.places) (queue_of x ps) ((turn_keeps hold ps apart).1 x) in
+    let l = less (bytes_for x t.out) (queue_of x t.places) (queue_of x ps) ((turn_keeps hold ps apart).all x) in
     let s = short x in omega (arith, l, s)
 act_short hold depth ps Drain h d apart here short x =
     let t = drain hold ps in
     let l =
     less (bytes_for x t.out) (queue_of x t.places) (queue_of x ps)
-    ((turns_keep (λ qs. nat_lt 0 (load qs)) hold (load ps) ps apart).1 x)
+    ((turns_keep (λ qs. nat_lt 0 (load qs)) hold (load ps) ps apart).all x)
     in
     let s = short x in omega (arith, l, s)
 act_short hold depth ps (Offer y) h d apart here short x = by (cases_eq y.id x) where
@@ -305,7 +305,7 @@ act_short hold depth ps (Offer y) h d apart here short x = by (cases_eq y.id x) 
       let t = turns_while (is_full depth y.id) hold (length ps) ps in
       let l =
       less (bytes_for x t.out) (queue_of x t.places) (queue_of x ps)
-      ((turns_keep (is_full depth y.id) hold (length ps) ps apart).1 x)
+      ((turns_keep (is_full depth y.id) hold (length ps) ps apart).all x)
       in
       let s = short x in omega (arith, same, l, s)
 

@@ -2,7 +2,7 @@
 use Rattle.std.proofs.Common.{◌≡◌, ℕ, zero, suc, ◌+◌, ◌≤◌, List, [], ◌∷◌, ◌++◌, length, length-append, map, take}
 use Rattle.std.proofs.Common.{Bool, true, false, cond, nat_lt, refl, sym, ◌∙◌, ap, subst, arith, Option, None, Some, inl, inr}
 use Rattle.std.specs.Prelude.{◌==◌, not}
-use Rattle.std.proofs.lemmas.Bool.{cases_lt, cases_eq, eq-eqb, lt-ltb, ltb-true}
+use Rattle.std.proofs.lemmas.Bool.{cases_eq, eq-eqb, ne_eqb, lt-ltb, ltb-true}
 use Rattle.std.proofs.lemmas.List.{length-map, length-take}
 use Rattle.trace_funnel.specs.declared.tagged.Tagged.{Tagged}
 use Rattle.trace_funnel.specs.Turns.{Place, Found, first_busy, waits, served, longer, Turned, turn_of, turn}
@@ -10,10 +10,10 @@ use Rattle.trace_funnel.specs.Turns.{queue_of, waited_of, put, turns_while, is_f
 use Rattle.trace_funnel.specs.Kept.{bytes_for, count, Apart}
 use Rattle.trace_funnel.specs.Acts.{Act, Offer, Turn, Drain, act, acts}
 use Rattle.trace_funnel.specs.Order.{are_apart}
-use Rattle.trace_funnel.proofs.Places.{count_append, bytes_append, past, here, missing, waits_at, count_waits, IsFound, found, not_same}
-use Rattle.trace_funnel.proofs.Turning.{given_all, turn_and, stay, turn_keeps, turns_keep}
+use Rattle.trace_funnel.proofs.Places.{bytes_append, waits_at, IsFound, found}
+use Rattle.trace_funnel.proofs.Turning.{given_all, others, waiting, queue_before, waited_before, waited_after}
+use Rattle.trace_funnel.proofs.Turning.{turn_and, stay, turn_keeps, turns_keep}
 use Rattle.trace_funnel.proofs.Waiting.{waited_idle}
-use Rattle.trace_funnel.proofs.Rounding.{wait_past, wait_here}
 use Rattle.trace_funnel.proofs.Acting.{apart_empty, bounded_empty, acts_bounded, counts_acts, apart_act, idle_turns}
 
 -- a busy place waits while others give
@@ -34,101 +34,45 @@ waits_counts id n (p ∷ a) h =
       by true h f = busy h
       by false h f = f h
 
--- a turn of another place
-module _ (hold id : ℕ) (ps : List Place) (f : Found) (parts : ps ≡ f.before ++ (f.place ∷ f.behind)) (apart : Apart ps) where
-  abbrev n : ℕ
-  n = length (take hold f.place.queue)
-
-  abbrev behind : List Place
-  behind = map (waits n) f.behind
-
-  abbrev before : List Place
-  before = map (waits n) f.before
-
-  all : count id ps ≡ count id f.before + count id (f.place ∷ f.behind)
-  all = ap (count id) parts ∙ count_append id f.before (f.place ∷ f.behind)
-
-  other : (f.place.id ≡ id → ⊥) → 1 ≤ length (queue_of id ps) →
-      waited_of id (behind ++ (before ++ served hold f.place ∷ [])) ≡ waited_of id ps + n
-  other o busy = elim (cases_lt 0 (count id f.behind)) [
-    | inl one ↦ (
-        let none : count id f.before ≡ 0 = (let a = all in let m = apart id in let s = skip in omega (arith, a, m, s, one)) in
-        let queue : queue_of id ps ≡ queue_of id f.behind =
-        ap (queue_of id) parts ∙ past id f.before (f.place ∷ f.behind) none
-        ∙ ap (λ t. cond t f.place.queue (queue_of id f.behind)) differs in
-        let waited : waited_of id ps ≡ waited_of id f.behind =
-        ap (waited_of id) parts ∙ wait_past id f.before (f.place ∷ f.behind) none
-        ∙ ap (λ t. cond t f.place.waited (waited_of id f.behind)) differs in
-        let same = count_waits id n f.behind in
-        wait_here id behind (before ++ served hold f.place ∷ []) (omega (arith, same, one))
-        ∙ waits_counts id n f.behind (subst (λ (l : List ℕ). 1 ≤ length l) queue busy) ∙ ap (λ m. m + n) (sym waited))
-    | inr few ↦ (
-        let none : count id f.behind ≡ 0 = omega (arith, few) in
-        wait_past id behind (before ++ served hold f.place ∷ []) (count_waits id n f.behind ∙ none)
-        ∙ elim (cases_lt 0 (count id f.before)) [
-          | inl one ↦ (
-              let queue : queue_of id ps ≡ queue_of id f.before =
-              ap (queue_of id) parts ∙ here id f.before (f.place ∷ f.behind) one in
-              let waited : waited_of id ps ≡ waited_of id f.before =
-              ap (waited_of id) parts ∙ wait_here id f.before (f.place ∷ f.behind) one in
-              let same = count_waits id n f.before in
-              wait_here id before (served hold f.place ∷ []) (omega (arith, same, one))
-              ∙ waits_counts id n f.before (subst (λ (l : List ℕ). 1 ≤ length l) queue busy)
-              ∙ ap (λ m. m + n) (sym waited))
-          | inr fewer ↦ absurd (
-              let a = all in
-              let s = skip in
-              let e = ap length (missing id ps (omega (arith, a, s, none, fewer))) in
-              omega (arith, busy, e))
-        ])
-  ] where
-    differs : (f.place.id == id) ≡ false
-    differs = not_same f.place.id id o
-
-    skip : count id (f.place ∷ f.behind) ≡ count id f.behind
-    skip = ap (λ t. cond t (count id f.behind + 1) (count id f.behind)) differs
-
-  own : f.place.id ≡ id → waited_of id (behind ++ (before ++ served hold f.place ∷ [])) ≡ 0
-  own e =
-      wait_past id behind (before ++ served hold f.place ∷ []) (count_waits id n f.behind ∙ none.0)
-      ∙ wait_past id before (served hold f.place ∷ []) (count_waits id n f.before ∙ none.1)
-      ∙ ap (λ t. cond t 0 0) (eq-eqb f.place.id id e) where
-        here_too : count id (f.place ∷ f.behind) ≡ count id f.behind + 1
-        here_too = ap (λ t. cond t (count id f.behind + 1) (count id f.behind)) (eq-eqb f.place.id id e)
-
-        none : (count id f.behind ≡ 0) × (count id f.before ≡ 0)
-        none = let a = all in let m = apart id in let s = here_too in (omega (arith, a, m, s), omega (arith, a, m, s))
-
-turn_counts : (hold : ℕ) (ps : List Place) (id : ℕ) → 1 ≤ hold → Apart ps → 1 ≤ length (queue_of id ps) →
-    bytes_for id (turn hold ps).out ≡ [] → waited_of id (turn hold ps).places ≡ waited_of id ps + length (turn hold ps).out
-turn_counts hold ps id h apart busy = by (first_busy ps) (found ps) where
+-- a turn of another place, and of its own
+turn_counts : (hold : ℕ) (ps : List Place) (id : ℕ) → 1 ≤ hold → count id ps ≤ 1 → 1 ≤ length (queue_of id ps) →
+    bytes_for id (turn hold ps).out ≡ [] →
+    waited_of id (turn hold ps).places ≡ waited_of id ps + length (turn hold ps).out
+turn_counts hold ps id h few busy = by (first_busy ps) (found ps) where
   by : (o : Option Found) → IsFound ps o → bytes_for id (turn_of hold ps o).out ≡ [] →
       waited_of id (turn_of hold ps o).places ≡ waited_of id ps + length (turn_of hold ps o).out
   by None g none = omega arith
   by (Some f) g none = elim (cases_eq f.place.id id) [
     | inl e ↦ absurd (
-        let given : take hold f.place.queue ≡ [] =
-        sym (given_all f.place.id (take hold f.place.queue) id
-        ∙ ap (λ t. cond t (take hold f.place.queue) []) (eq-eqb f.place.id id e)) ∙ none in
+        let given = ap length (sym (given_all f.place.id (take hold f.place.queue) id
+        ∙ ap (λ t. cond t (take hold f.place.queue) []) (eq-eqb f.place.id id e)) ∙ none) in
         let some = ltb-true 0 (length f.place.queue) g.2 in
         let l = length-take hold f.place.queue in
-        let z = ap length given in
-        omega (arith, some, l, z, h))
-    | inr o ↦
-        other hold id ps f g.0 apart o busy
-        ∙ ap (λ m. waited_of id ps + m) (sym (length-map (take hold f.place.queue) _))
+        omega (arith, some, l, given, h))
+    | inr o ↦ (
+        let n = length (take hold f.place.queue) in
+        let rest = others hold ps f g.0 in
+        let t = ne_eqb f.place.id id o in
+        let queue = queue_before hold ps f g.0 id few ∙ ap (λ b. cond b f.place.queue (queue_of id rest)) t in
+        let before = waited_before hold ps f g.0 id few ∙ ap (λ b. cond b f.place.waited (waited_of id rest)) t in
+        waited_after hold ps f g.0 id few ∙ ap (λ b. cond b 0 (waited_of id (waiting hold ps f g.0))) t
+        ∙ waits_counts id n rest (subst (λ (l : List ℕ). 1 ≤ length l) queue busy)
+        ∙ ap (λ m. m + n) (sym before)
+        ∙ ap (λ m. waited_of id ps + m) (sym (length-map (take hold f.place.queue) _)))
   ]
 
-pub turn_gave : (hold : ℕ) (ps : List Place) (id : ℕ) → Apart ps → (bytes_for id (turn hold ps).out ≡ [] → ⊥) →
+turn_gave : (hold : ℕ) (ps : List Place) (id : ℕ) → count id ps ≤ 1 → (bytes_for id (turn hold ps).out ≡ [] → ⊥) →
     waited_of id (turn hold ps).places ≡ 0
-turn_gave hold ps id apart = by (first_busy ps) (found ps) where
+turn_gave hold ps id few = by (first_busy ps) (found ps) where
   by : (o : Option Found) → IsFound ps o → (bytes_for id (turn_of hold ps o).out ≡ [] → ⊥) →
       waited_of id (turn_of hold ps o).places ≡ 0
   by None g some = absurd (some refl)
   by (Some f) g some = elim (cases_eq f.place.id id) [
-    | inl e ↦ own hold id ps f g.0 apart e
+    | inl e ↦
+        waited_after hold ps f g.0 id few
+        ∙ ap (λ b. cond b 0 (waited_of id (waiting hold ps f g.0))) (eq-eqb f.place.id id e)
     | inr o ↦ absurd (some (given_all f.place.id (take hold f.place.queue) id
-        ∙ ap (λ t. cond t (take hold f.place.queue) []) (not_same f.place.id id o)))
+        ∙ ap (λ t. cond t (take hold f.place.queue) []) (ne_eqb f.place.id id o)))
   ]
 
 -- a byte that is put changes no waited number
@@ -156,7 +100,7 @@ turns_counts : (test : List Place → Bool) (hold most : ℕ) (ps : List Place) 
     waited_of id (turns_while test hold most ps).places ≡ waited_of id ps + length (turns_while test hold most ps).out
 turns_counts test hold zero ps id h apart busy none = omega arith
 turns_counts test hold (suc most) ps id h apart busy none =
-    by (test ps) none (turns_counts test hold most (turn hold ps).places id h (turn_keeps hold ps apart).0) where
+    by (test ps) none (turns_counts test hold most (turn hold ps).places id h (turn_keeps hold ps apart).apart) where
       by : (v : Bool) →
           bytes_for id (cond v (turn_and hold ps (turns_while test hold most (turn hold ps).places)) (stay ps)).out ≡ [] →
           (1 ≤ length (queue_of id (turn hold ps).places) →
@@ -169,8 +113,8 @@ turns_counts test hold (suc most) ps id h apart busy none =
       by true none i =
           let u = turns_while test hold most (turn hold ps).places in
           let both = none_both id (turn hold ps).out u.out none in
-          let one = turn_counts hold ps id h apart busy both.0 in
-          let queue = stays (bytes_for id (turn hold ps).out) (queue_of id (turn hold ps).places) (queue_of id ps) ((turn_keeps hold ps apart).1 id) both.0 in
+          let one = turn_counts hold ps id h (apart id) busy both.0 in
+          let queue = stays (bytes_for id (turn hold ps).out) (queue_of id (turn hold ps).places) (queue_of id ps) ((turn_keeps hold ps apart).all id) both.0 in
           let more = i (subst (λ (l : List ℕ). 1 ≤ length l) (sym queue) busy) both.1 in
           let len = length-append (turn hold ps).out u.out in
           omega (arith, one, more, len)
@@ -198,9 +142,9 @@ act_counts : (hold depth : ℕ) (ps : List Place) (a : Act) (id : ℕ) → 1 ≤
     1 ≤ length (queue_of id ps) → bytes_for id (act hold depth ps a).out ≡ [] →
     Counted ps (act hold depth ps a).places (act hold depth ps a).out id
 act_counts hold depth ps Turn id h apart busy none = record {
-  waited = turn_counts hold ps id h apart busy none;
+  waited = turn_counts hold ps id h (apart id) busy none;
   busy = subst (λ (l : List ℕ). 1 ≤ length l) (sym (stays (bytes_for id (turn hold ps).out)
-      (queue_of id (turn hold ps).places) (queue_of id ps) ((turn_keeps hold ps apart).1 id) none)) busy;
+      (queue_of id (turn hold ps).places) (queue_of id ps) ((turn_keeps hold ps apart).all id) none)) busy;
 }
 act_counts hold depth ps Drain id h apart busy none =
     let test : List Place → Bool = λ qs. nat_lt 0 (load qs) in
@@ -208,7 +152,7 @@ act_counts hold depth ps Drain id h apart busy none =
     record {
       waited = turns_counts test hold (load ps) ps id h apart busy none;
       busy = subst (λ (l : List ℕ). 1 ≤ length l) (sym (stays (bytes_for id t.out) (queue_of id t.places) (queue_of id ps)
-          ((turns_keep test hold (load ps) ps apart).1 id) none)) busy;
+          ((turns_keep test hold (load ps) ps apart).all id) none)) busy;
     }
 act_counts hold depth ps (Offer y) id h apart busy none =
     let t = turns_while (is_full depth y.id) hold (length ps) ps in
@@ -218,7 +162,7 @@ act_counts hold depth ps (Offer y) id h apart busy none =
           ∙ turns_counts (is_full depth y.id) hold (length ps) ps id h apart busy none;
       busy =
           let same = ap length (stays (bytes_for id t.out) (queue_of id t.places) (queue_of id ps)
-          ((turns_keep (is_full depth y.id) hold (length ps) ps apart).1 id) none) in
+          ((turns_keep (is_full depth y.id) hold (length ps) ps apart).all id) none) in
           let more = put_longer id y.id y.byte t.places in
           omega (arith, same, more, busy);
     }
@@ -252,7 +196,7 @@ module _ (hold depth : ℕ) (ids : List ℕ) (done : List Act) (apart : are_apar
   waited_counts more id h busy none = acts_count hold depth more now id h apart_now busy none
 
   pub waited_gave : (id : ℕ) → (bytes_for id (turn hold now).out ≡ [] → ⊥) → waited_of id (turn hold now).places ≡ 0
-  waited_gave id some = turn_gave hold now id apart_now some
+  waited_gave id some = turn_gave hold now id (apart_now id) some
 
   pub waited_came : (id byte : ℕ) → 1 ≤ depth → queue_of id now ≡ [] →
       waited_of id (offer hold depth now id byte).places ≡ 0

@@ -1,8 +1,8 @@
 -- Each turn of a funnel with bytes gives at least one.
 use Rattle.std.proofs.Common.{◌≡◌, ℕ, zero, suc, ◌+◌, ◌<◌, ◌≤◌, List, [], ◌∷◌, ◌++◌, length, length-drop}
-use Rattle.std.proofs.Common.{map, take, Bool, true, false, cond, nat_lt, refl, sym, ◌∙◌, ap, inl, inr, arith}
+use Rattle.std.proofs.Common.{map, take, Bool, true, false, cond, nat_lt, refl, sym, ◌∙◌, ap, arith}
 use Rattle.std.proofs.Common.{Option, None, Some}
-use Rattle.std.proofs.lemmas.Bool.{cases_lt, ltb-true, lt-ltb}
+use Rattle.std.proofs.lemmas.Bool.{ltb-true, ltb-false, lt-ltb}
 use Rattle.trace_funnel.specs.Turns.{Place, Found, first_busy, waits, served}
 use Rattle.trace_funnel.specs.Turns.{turn_of, turn, turns_while, load}
 use Rattle.trace_funnel.proofs.Places.{waits_at, AreIdle, IsFound, found}
@@ -14,7 +14,9 @@ load_append (p ∷ a) b = let i = load_append a b in omega (arith, i)
 
 pub load_waits : (n : ℕ) (a : List Place) → load (map (waits n) a) ≡ load a
 load_waits n [] = refl
-load_waits n (p ∷ a) = ap (λ (q : List ℕ). length q + load (map (waits n) a)) (waits_at n p).1 ∙ ap (λ m. length p.queue + m) (load_waits n a)
+load_waits n (p ∷ a) =
+    ap (λ (q : List ℕ). length q + load (map (waits n) a)) (waits_at n p).1
+    ∙ ap (λ m. length p.queue + m) (load_waits n a)
 
 pub idle_load : (a : List Place) → AreIdle a → load a ≡ 0
 idle_load [] i = refl
@@ -39,13 +41,15 @@ less_load hold ps h l = by (first_busy ps) (found ps) where
       let t = ltb-true 0 (length v.place.queue) f.2 in
       omega (arith, a, b, c, d, e, g, s, t, h)
 
-pub drained : (hold most : ℕ) (ps : List Place) → 1 ≤ hold → load ps ≤ most → load (turns_while (λ qs. nat_lt 0 (load qs)) hold most ps).places ≡ 0
+abbrev has_bytes : List Place → Bool
+has_bytes ps = nat_lt 0 (load ps)
+
+pub drained : (hold most : ℕ) (ps : List Place) → 1 ≤ hold → load ps ≤ most →
+    load (turns_while has_bytes hold most ps).places ≡ 0
 drained hold zero ps h l = omega arith
-drained hold (suc most) ps h l = by (nat_lt 0 (load ps)) refl (drained hold most (turn hold ps).places h) where
-  by : (t : Bool) → nat_lt 0 (load ps) ≡ t → (load (turn hold ps).places ≤ most → load (turns_while (λ qs. nat_lt 0 (load qs)) hold most (turn hold ps).places).places ≡ 0) →
-      load (cond t (turn_and hold ps (turns_while (λ qs. nat_lt 0 (load qs)) hold most (turn hold ps).places)) (stay ps)).places ≡ 0
+drained hold (suc most) ps h l = by (has_bytes ps) refl (drained hold most (turn hold ps).places h) where
+  by : (t : Bool) → has_bytes ps ≡ t →
+      (load (turn hold ps).places ≤ most → load (turns_while has_bytes hold most (turn hold ps).places).places ≡ 0) →
+      load (cond t (turn_and hold ps (turns_while has_bytes hold most (turn hold ps).places)) (stay ps)).places ≡ 0
   by true e i = i (let k = less_load hold ps h (ltb-true 0 (load ps) e) in omega (arith, k, l))
-  by false e i = elim (cases_lt 0 (load ps)) [
-    | inl g ↦ absurd (let k = lt-ltb 0 (load ps) g in let r = sym k ∙ e in cc)
-    | inr g ↦ omega arith
-  ]
+  by false e i = let k = ltb-false 0 (load ps) e in omega (arith, k)

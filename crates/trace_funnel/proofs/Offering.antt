@@ -8,7 +8,7 @@ use Rattle.trace_funnel.specs.Turns.{Place, Turned, turn, turns_while, is_full, 
 use Rattle.trace_funnel.specs.Kept.{count}
 use Rattle.trace_funnel.specs.State.{State, with_places, id_at, turn_by, HasPlace}
 use Rattle.trace_funnel.proofs.Turning.{turn_and, stay}
-use Rattle.trace_funnel.proofs.Nearing.{ahead, ahead_few, nearer}
+use Rattle.trace_funnel.proofs.Nearing.{ahead, ahead_few, nearer, full_long}
 
 -- how many turns are still to be made at most
 abbrev pub turns_left : State → ℕ → ℕ
@@ -39,12 +39,6 @@ offering_none f place out e = record {
       cond t (ahead (id_at f place) f.places + 1) 0 ≤ length f.places
   by true h = omega (arith, h)
   by false h = omega arith
-
-full_long : (depth id : ℕ) (ps : List Place) → is_full depth id ps ≡ true → depth ≤ length (queue_of id ps)
-full_long depth id ps e = elim (cases_lt (length (queue_of id ps)) depth) [
-  | inl l ↦ absurd (let k = ap not (lt-ltb (length (queue_of id ps)) depth l) in let r = sym k ∙ e in cc)
-  | inr l ↦ l
-]
 
 -- a turn brings the offer nearer
 pub turns_fall : (g h : State) (place : ℕ) → HasPlace g place → is_full g.depth (id_at g place) g.places ≡ true →

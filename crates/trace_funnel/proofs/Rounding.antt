@@ -11,74 +11,20 @@ use Rattle.trace_funnel.specs.Turns.{Place, first_busy, waits, served, longer, g
 use Rattle.trace_funnel.specs.Turns.{queue_of, waited_of, put}
 use Rattle.trace_funnel.specs.Kept.{count, Apart, AreBounded}
 use Rattle.trace_funnel.specs.Queues.{ids_of, round, IsNextBusy, after_turn}
-use Rattle.trace_funnel.proofs.Places.{count_append, past, here, missing, waits_at}
+use Rattle.trace_funnel.proofs.Places.{count_append, count_swap, queue_past, queue_swap, waited_past, waited_swap, waits_at}
 
 -- the places of a list, going round from any of them, have the same IDs, queues and waited numbers
-count_swap : (x : ℕ) (a b : List Place) → count x (b ++ a) ≡ count x (a ++ b)
-count_swap x a b = let e = count_append x a b in let f = count_append x b a in omega (arith, e, f)
-
 pub count_round : (x n : ℕ) (ps : List Place) → count x (round n ps) ≡ count x ps
 count_round x n ps = count_swap x (take n ps) (drop n ps) ∙ ap (count x) (take-append-drop n ps)
-
-queue_swap : (x : ℕ) (a b : List Place) → count x (a ++ b) ≤ 1 → queue_of x (b ++ a) ≡ queue_of x (a ++ b)
-queue_swap x a b h = elim (cases_lt 0 (count x a)) [
-  | inl one ↦ (
-      let all = count_append x a b in
-      let none : count x b ≡ 0 = omega (arith, h, one, all) in
-      past x b a none ∙ sym (here x a b one))
-  | inr few ↦ (
-      let none : count x a ≡ 0 = omega (arith, few) in
-      elim (cases_lt 0 (count x b)) [
-        | inl one ↦ here x b a one ∙ sym (past x a b none)
-        | inr few_too ↦ (
-            let gone : count x b ≡ 0 = omega (arith, few_too) in
-            past x b a gone ∙ missing x a none ∙ sym (past x a b none ∙ missing x b gone))
-      ])
-]
 
 pub queue_round : (x n : ℕ) (ps : List Place) → Apart ps → queue_of x (round n ps) ≡ queue_of x ps
 queue_round x n ps apart =
     queue_swap x (take n ps) (drop n ps) (subst (λ (l : List Place). count x l ≤ 1) (sym (take-append-drop n ps)) (apart x))
     ∙ ap (queue_of x) (take-append-drop n ps)
 
-pub wait_past : (x : ℕ) (a b : List Place) → count x a ≡ 0 → waited_of x (a ++ b) ≡ waited_of x b
-wait_past x [] b h = refl
-wait_past x (p ∷ a) b h = by (p.id == x) h (wait_past x a b) where
-  by : (t : Bool) → cond t (count x a + 1) (count x a) ≡ 0 → (count x a ≡ 0 → waited_of x (a ++ b) ≡ waited_of x b) →
-      cond t p.waited (waited_of x (a ++ b)) ≡ waited_of x b
-  by true h f = absurd (omega arith)
-  by false h f = f h
-
-pub wait_here : (x : ℕ) (a b : List Place) → 1 ≤ count x a → waited_of x (a ++ b) ≡ waited_of x a
-wait_here x [] b h = absurd (omega arith)
-wait_here x (p ∷ a) b h = by (p.id == x) h (wait_here x a b) where
-  by : (t : Bool) → 1 ≤ cond t (count x a + 1) (count x a) → (1 ≤ count x a → waited_of x (a ++ b) ≡ waited_of x a) →
-      cond t p.waited (waited_of x (a ++ b)) ≡ cond t p.waited (waited_of x a)
-  by true h f = refl
-  by false h f = f h
-
-wait_missing : (x : ℕ) (a : List Place) → count x a ≡ 0 → waited_of x a ≡ 0
-wait_missing x a h = ap (waited_of x) (sym (append-nil a)) ∙ wait_past x a [] h
-
-wait_swap : (x : ℕ) (a b : List Place) → count x (a ++ b) ≤ 1 → waited_of x (b ++ a) ≡ waited_of x (a ++ b)
-wait_swap x a b h = elim (cases_lt 0 (count x a)) [
-  | inl one ↦ (
-      let all = count_append x a b in
-      let none : count x b ≡ 0 = omega (arith, h, one, all) in
-      wait_past x b a none ∙ sym (wait_here x a b one))
-  | inr few ↦ (
-      let none : count x a ≡ 0 = omega (arith, few) in
-      elim (cases_lt 0 (count x b)) [
-        | inl one ↦ wait_here x b a one ∙ sym (wait_past x a b none)
-        | inr few_too ↦ (
-            let gone : count x b ≡ 0 = omega (arith, few_too) in
-            wait_past x b a gone ∙ wait_missing x a none ∙ sym (wait_past x a b none ∙ wait_missing x b gone))
-      ])
-]
-
 pub waited_round : (x n : ℕ) (ps : List Place) → Apart ps → waited_of x (round n ps) ≡ waited_of x ps
 waited_round x n ps apart =
-    wait_swap x (take n ps) (drop n ps) (subst (λ (l : List Place). count x l ≤ 1) (sym (take-append-drop n ps)) (apart x))
+    waited_swap x (take n ps) (drop n ps) (subst (λ (l : List Place). count x l ≤ 1) (sym (take-append-drop n ps)) (apart x))
     ∙ ap (waited_of x) (take-append-drop n ps)
 
 -- the place that stands between others is the only one of its ID
@@ -100,12 +46,12 @@ module _ (ps front back : List Place) (p : Place) (parts : ps ≡ front ++ (p �
 
   pub queue_there : queue_of p.id ps ≡ p.queue
   queue_there =
-      ap (queue_of p.id) parts ∙ past p.id front (p ∷ back) none_front
+      ap (queue_of p.id) parts ∙ queue_past p.id front (p ∷ back) none_front
       ∙ ap (λ t. cond t p.queue (queue_of p.id back)) (eq-eqb p.id p.id refl)
 
   pub waited_there : waited_of p.id ps ≡ p.waited
   waited_there =
-      ap (waited_of p.id) parts ∙ wait_past p.id front (p ∷ back) none_front
+      ap (waited_of p.id) parts ∙ waited_past p.id front (p ∷ back) none_front
       ∙ ap (λ t. cond t p.waited (waited_of p.id back)) (eq-eqb p.id p.id refl)
 
   put_none : (b : ℕ) (a : List Place) → count p.id a ≡ 0 → put p.id b a ≡ a

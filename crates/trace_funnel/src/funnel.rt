@@ -1,7 +1,7 @@
 //! A funnel.
 
-ghost use Rattle.std.specs.Prelude.{◌≡◌, ◌==◌, ◌≤◌, ◌<◌, ◌+◌, ◌-◌, ◌*◌, ◌++◌, ◌↔◌, [], length, true, false, IsTrue, IfOk};
-ghost use Rattle.std.specs.Prelude.{if◌then◌else◌};
+ghost use Rattle.std.specs.Prelude.{◌≡◌, ◌==◌, ◌≤◌, ◌<◌, ◌+◌, ◌-◌, ◌*◌, ◌++◌, ◌↔◌, [], length, true, false};
+ghost use Rattle.std.specs.Prelude.{IsTrue, IfOk, if◌then◌else◌};
 ghost use Rattle.arrayvec.specs.ArrayVec.{array_vec_len};
 ghost use Rattle.trace_funnel.specs.Turns.{is_full, put, load};
 ghost use Rattle.trace_funnel.specs.Order.{are_apart};
@@ -63,7 +63,7 @@ impl Funnel {
     ) -> Result<Funnel, AllocError>
         requires some { 0 < array_vec_len order.now }
         requires apart { are_apart order.now.items ≡ true }
-        requires hold { (1 ≤ hold) × (hold ≤ MOST_HELD) }
+        requires hold { (1 ≤ hold) × (hold ≤ 15) }
         requires depth { (1 ≤ depth) × (depth ≤ 4096) }
         ensures { IfOk result (λ f. f ≡ fresh order.now.items hold depth) }
     {
