@@ -5,7 +5,7 @@ use Rattle.std.specs.Prelude.{◌==◌, not}
 use Rattle.std.proofs.lemmas.Bool.{cases_eq, eq-eqb, ne_eqb, lt-ltb, ltb-true}
 use Rattle.std.proofs.lemmas.List.{length-map, length-take}
 use Rattle.trace_funnel.specs.declared.tagged.Tagged.{Tagged}
-use Rattle.trace_funnel.specs.Turns.{Place, Found, first_busy, waits, served, longer, Turned, turn_of, turn}
+use Rattle.trace_funnel.specs.Turns.{Place, Found, first_busy, waits, longer, Turned, turn_of, turn}
 use Rattle.trace_funnel.specs.Turns.{queue_of, waited_of, put, turns_while, is_full, offer, load, empty}
 use Rattle.trace_funnel.specs.Kept.{bytes_for, count, Apart}
 use Rattle.trace_funnel.specs.Acts.{Act, Offer, Turn, Drain, act, acts}

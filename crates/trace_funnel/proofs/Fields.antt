@@ -1,26 +1,25 @@
 -- What the fields of a funnel say of its places.
-use Rattle.std.proofs.Common.{◌≡◌, ℕ, zero, suc, ◌+◌, ◌-◌, ◌*◌, ◌<◌, ◌≤◌, List, [], ◌∷◌, ◌++◌, length, map, take, drop}
-use Rattle.std.proofs.Common.{Bool, true, false, cond, nat_lt, refl, sym, ◌∙◌, ap, subst, arith, length-append, append-nil, get_or, set, Option, None, Some}
+use Rattle.std.proofs.Common.{◌≡◌, ℕ, zero, suc, ◌-◌, ◌*◌, ◌<◌, ◌≤◌, List, [], ◌∷◌, ◌++◌, length, map, take, drop}
+use Rattle.std.proofs.Common.{Bool, true, false, nat_lt, refl, sym, ◌∙◌, ap, subst, arith, length-append, append-nil, get_or, set, Option, None, Some}
 use Rattle.std.proofs.Common.{◌⊎◌, inl, inr}
-use Rattle.std.specs.Prelude.{◌==◌, not, nat_eq, IsTrue, is_some, IfNone, IfSome}
+use Rattle.std.specs.Prelude.{not, nat_eq, IsTrue, is_some, IfNone, IfSome}
 use Rattle.std.specs.List.{AllByRecursion}
-use Rattle.std.proofs.lemmas.Bool.{cases_lt, cases_eq, eq-eqb, ne_eqb, lt-ltb, le-ltb, ltb-true}
+use Rattle.std.proofs.lemmas.Bool.{cases_lt, eq-eqb, ne_eqb, lt-ltb, le-ltb, ltb-true}
 use Rattle.std.proofs.lemmas.List.{take-append-drop, length-map, get_or-map, length-set}
 use Rattle.trace_funnel.specs.declared.queue.Queue.{Queue}
 use Rattle.trace_funnel.specs.declared.funnel.Funnel.TheInside.{Inside}
-use Rattle.trace_funnel.specs.Turns.{Place, Found, first_busy, longer, put, is_full, load, queue_of, waited_of, turn, empty}
+use Rattle.trace_funnel.specs.Turns.{Place, Found, first_busy, longer, put, is_full, load, queue_of, waited_of, empty}
 use Rattle.trace_funnel.specs.Kept.{count, Apart, AreBounded}
 use Rattle.trace_funnel.specs.Order.{are_apart}
-use Rattle.trace_funnel.specs.State.{State, fresh, with_places, id_at, queue_at, waited_at, turn_by, HasPlace}
-use Rattle.trace_funnel.specs.Queues.{place_of, places_of, room_of, rooms_of, ids_of, round, IsNextBusy, after_turn}
+use Rattle.trace_funnel.specs.State.{State, fresh, with_places, id_at, queue_at, waited_at, HasPlace}
+use Rattle.trace_funnel.specs.Queues.{place_of, places_of, room_of, rooms_of, ids_of, round, IsNextBusy}
 use Rattle.trace_funnel.specs.Inside.{state_of, IsWhole}
 use Rattle.trace_funnel.proofs.Places.{IsFound, found}
 use Rattle.trace_funnel.proofs.Emptying.{idle_load, load_append}
-use Rattle.trace_funnel.proofs.Waiting.{put_bounded, turn_bounded, waited_few, waited_idle}
+use Rattle.trace_funnel.proofs.Waiting.{put_bounded, waited_few, waited_idle}
 use Rattle.trace_funnel.proofs.Acting.{apart_empty, bounded_empty}
 use Rattle.trace_funnel.proofs.Serving.{map_split, map_set, front_of, back_of, map_same}
 use Rattle.trace_funnel.proofs.Rounding.{count_round, queue_round, waited_round, one_there, queue_there, waited_there, put_there, put_round, apart_same, ids_put}
-use Rattle.trace_funnel.proofs.Rounding.{places_is, ids_is, at_within}
 
 all_at : (P : ℕ → Type 0) (xs : List ℕ) (i d : ℕ) → AllByRecursion P xs → i < length xs → P (get_or xs i d)
 all_at P [] i d a h = absurd (omega arith)
@@ -33,7 +32,7 @@ length_round n ps =
     let c = ap length (take-append-drop n ps) in omega (arith, a, b, c)
 
 -- states with the same parts
-same_state : {o o' : List ℕ} {k k' d d' : ℕ} {ps ps' : List Place} → o ≡ o' → k ≡ k' → d ≡ d' → ps ≡ ps' →
+pub same_state : {o o' : List ℕ} {k k' d d' : ℕ} {ps ps' : List Place} → o ≡ o' → k ≡ k' → d ≡ d' → ps ≡ ps' →
     (let s : State = record { order = o; hold = k; depth = d; places = ps } in s)
     ≡ record { order = o'; hold = k'; depth = d'; places = ps' }
 same_state e k d p = (cc)
@@ -158,63 +157,6 @@ module _ (f : Inside) (whole : IsWhole f) (place : ℕ) (h : place < length (sta
           ∙ ap (λ n. round n (places_of (set qs place new))) b ∙ round_puts))
           (put_bounded f.hold q.id byte (round f.next (places_of qs)) whole.bounded));
     }
-
--- a turn
-module _ (f g : Inside) (whole : IsWhole f) (qs : List Queue) (place len : ℕ)
-    (next : IsNextBusy f.next (places_of f.queues.items) place)
-    (after : (front back : List Place) (p : Place) → places_of f.queues.items ≡ front ++ (p ∷ back) → length front ≡ place →
-    places_of qs ≡ after_turn f.hold front p back) (rooms : rooms_of qs ≡ rooms_of f.queues.items)
-    (items : g.queues.items ≡ qs) (count : len ≡ length f.queues.items)
-    (at : g.next ≡ cond (place + 1 == len) 0 (place + 1)) (hold : g.hold ≡ f.hold) (depth : g.depth ≡ f.depth) where
-  len_is : len ≡ length (places_of f.queues.items)
-  len_is = count ∙ sym (length-map f.queues.items place_of)
-
-  ids_stay_too : ids_of (places_of g.queues.items) ≡ ids_of (places_of f.queues.items)
-  ids_stay_too =
-      ap (λ l. ids_of (places_of l)) items ∙ ids_is f.hold f.next (places_of f.queues.items) (places_of qs) place next after
-
-  round_turns : round g.next (places_of g.queues.items) ≡ (turn f.hold (round f.next (places_of f.queues.items))).places
-  round_turns =
-      ap (λ l. round g.next (places_of l)) items ∙ ap (λ n. round n (places_of qs)) at
-      ∙ places_is f.hold f.next (places_of f.queues.items) (places_of qs) place next after len len_is
-
-  same_len : length g.queues.items ≡ length f.queues.items
-  same_len =
-      ap length items ∙ sym (length-map qs room_of) ∙ ap length rooms ∙ length-map f.queues.items room_of
-
-  next_within : g.next < length g.queues.items
-  next_within =
-      let w = at_within f.hold f.next (places_of f.queues.items) (places_of qs) place next after in
-      let l = length-map f.queues.items place_of in
-      let s = same_len in
-      subst (λ n. n < length g.queues.items) (sym at) (by (cases_eq (place + 1) len) (omega (arith, w, l)) s) where
-        by : ((place + 1 ≡ len) ⊎ (place + 1 ≡ len → ⊥)) → place < length f.queues.items →
-            length g.queues.items ≡ length f.queues.items → cond (place + 1 == len) 0 (place + 1) < length g.queues.items
-        by (inl e) w s = subst (λ t. cond t 0 (place + 1) < length g.queues.items) (sym (eq-eqb (place + 1) len e)) (omega (arith, w, s))
-        by (inr o) w s =
-            subst (λ t. cond t 0 (place + 1) < length g.queues.items) (sym (ne_eqb (place + 1) len o))
-            (elim (cases_lt (place + 1) len) [
-              | inl less ↦ omega (arith, less, s, count)
-              | inr more ↦ absurd (o (omega (arith, more, w, count)))
-            ])
-
-  pub turn_state : state_of g ≡ with_places (state_of f) (turn_by (state_of f)).places
-  turn_state = same_state ids_stay_too hold depth round_turns
-
-  pub turn_whole : IsWhole g
-  turn_whole = record {
-    next = next_within;
-    few = (let l = same_len in let n = whole.few in omega (arith, l, n));
-    rooms = subst (λ n. AllByRecursion (λ room. room ≡ n) (rooms_of g.queues.items)) (sym depth)
-        (subst (AllByRecursion (λ room. room ≡ f.depth)) (sym (ap rooms_of items ∙ rooms)) whole.rooms);
-    some = (let n = whole.some in omega (arith, n, hold));
-    held = (let n = whole.held in omega (arith, n, hold));
-    deep = (let n = whole.deep in omega (arith, n, depth));
-    apart = apart_same (places_of f.queues.items) (places_of g.queues.items) ids_stay_too whole.apart;
-    bounded = subst (λ n. AreBounded n (round g.next (places_of g.queues.items))) (sym hold)
-        (subst (AreBounded f.hold) (sym round_turns)
-        (turn_bounded f.hold (round f.next (places_of f.queues.items)) whole.bounded));
-  }
 
 -- a fresh funnel
 ids_empty : (ids : List ℕ) → ids_of (empty ids) ≡ ids

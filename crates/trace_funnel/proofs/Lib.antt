@@ -10,3 +10,4 @@ mod Rounding
 mod Fields
 mod Offering
 mod Counting
+mod Giving

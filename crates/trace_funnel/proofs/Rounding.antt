@@ -4,7 +4,7 @@ use Rattle.std.proofs.Common.{Bool, true, false, cond, refl, sym, ◌∙◌, ap,
 use Rattle.std.proofs.Common.{Some, inl, inr}
 use Rattle.std.specs.Prelude.{◌==◌}
 use Rattle.std.specs.List.{AllByRecursion}
-use Rattle.std.proofs.lemmas.Bool.{cases_lt, cases_eq, eq-eqb, ne_eqb}
+use Rattle.std.proofs.lemmas.Bool.{cases_eq, eq-eqb, ne_eqb}
 use Rattle.std.proofs.lemmas.List.{take-append-drop, map-append, take_at, drop_at, length-map, take-map, drop-map}
 use Rattle.std.proofs.lemmas.Nat.{mul-le}
 use Rattle.trace_funnel.specs.Turns.{Place, first_busy, waits, served, longer, given, Turned, turn_of, turn}
@@ -193,10 +193,12 @@ module _ (hold n : ℕ) (ps qs : List Place) (at : ℕ) (next : IsNextBusy n ps 
   pub ids_is : ids_of qs ≡ ids_of ps
   ids_is = ap ids_of qs_is ∙ ids_turn hold next.front next.back next.place ∙ ap ids_of (sym next.parts)
 
-  pub at_within : at < length ps
-  at_within =
-      let a = ap length next.parts in let b = length-append next.front (next.place ∷ next.back) in
-      let c = next.number in omega (arith, a, b, c)
+pub at_within : (n : ℕ) (ps : List Place) (at : ℕ) → IsNextBusy n ps at → at < length ps
+at_within n ps at next =
+    let a = ap length next.parts in
+    let b = length-append next.front (next.place ∷ next.back) in
+    let c = next.number in
+    omega (arith, a, b, c)
 
 -- no place waits for long
 all_few : (hold : ℕ) (ps : List Place) → AreBounded hold ps → length ps ≤ 16 → hold ≤ 15 →

@@ -1,11 +1,10 @@
 -- Turns, offers and drains keep the bytes of each source.
 use Rattle.std.proofs.Common.{◌≡◌, ℕ, zero, suc, ◌+◌, ◌≤◌, List, [], ◌∷◌, ◌++◌, length}
-use Rattle.std.proofs.Common.{map, take, drop, Bool, true, false, cond, refl, sym, ◌∙◌, ap, subst, ◌⊎◌, inl, inr, arith}
+use Rattle.std.proofs.Common.{map, take, drop, Bool, true, false, cond, refl, sym, ◌∙◌, ap, subst, inl, inr, arith}
 use Rattle.std.proofs.Common.{append_assoc, append-nil, Option, None, Some}
 use Rattle.std.specs.Prelude.{◌==◌}
 use Rattle.std.proofs.lemmas.Bool.{cases_eq, eq-eqb, eqb-true, ne_eqb}
 use Rattle.std.proofs.lemmas.List.{take-append-drop, map-append}
-use Rattle.trace_funnel.specs.declared.tagged.Tagged.{Tagged}
 use Rattle.trace_funnel.specs.Turns.{Place, Found, first_busy, waits, served, longer, tagged, given}
 use Rattle.trace_funnel.specs.Turns.{Turned, turn_of, turn, queue_of, waited_of, put, turns_while, is_full, offer}
 use Rattle.trace_funnel.specs.Kept.{bytes_for, count, Apart}
