@@ -7,13 +7,15 @@ use Rattle.std.specs.List.{list_any}
 use Rattle.std.proofs.lemmas.Bool.{cases_eq, eq-eqb, ne_eqb, and_parts, not-true}
 use Rattle.std.proofs.lemmas.List.{length-map}
 use Rattle.trace_funnel.specs.declared.tagged.Tagged.{Tagged}
-use Rattle.trace_funnel.specs.Turns.{Place, waits, served, Found, first_busy, Turned, turn_of, turn, queue_of, waited_of, put}
+use Rattle.trace_funnel.specs.Turns.{Place, waits, served, Found, first_busy, Turned, turn_of, turn, queue_of}
+use Rattle.trace_funnel.specs.Turns.{waited_of, put}
 use Rattle.trace_funnel.specs.Turns.{turns_while, is_full, drain, load, empty}
 use Rattle.trace_funnel.specs.Kept.{bytes_for, count, Apart, AreBounded}
 use Rattle.trace_funnel.specs.Acts.{Act, Offer, Turn, Drain, act, acts, offered, are_of}
 use Rattle.trace_funnel.specs.Order.{are_apart}
 use Rattle.trace_funnel.proofs.Places.{bytes_append, IsFound, found}
-use Rattle.trace_funnel.proofs.Turning.{turn_and, stay, counts_turn, counts_turns, turn_keeps, turns_keep, offer_keeps, count_put, put_same, put_other}
+use Rattle.trace_funnel.proofs.Turning.{turn_and, stay, counts_turn, counts_turns, turn_keeps, turns_keep}
+use Rattle.trace_funnel.proofs.Turning.{offer_keeps, count_put, put_same, put_other}
 use Rattle.trace_funnel.proofs.Waiting.{turn_bounded, put_bounded, waited_few}
 use Rattle.trace_funnel.proofs.Nearing.{has_room, ahead_few}
 use Rattle.trace_funnel.proofs.Emptying.{drained}
@@ -22,7 +24,8 @@ use Rattle.trace_funnel.proofs.Emptying.{drained}
 none_of : (x : ℕ) (ids : List ℕ) → list_any (λ y. y == x) ids ≡ false → count x (empty ids) ≡ 0
 none_of x [] h = refl
 none_of x (y ∷ ids) h = by (y == x) h (none_of x ids) where
-  by : (t : Bool) → (t || list_any (λ z. z == x) ids) ≡ false → (list_any (λ z. z == x) ids ≡ false → count x (empty ids) ≡ 0) →
+  by : (t : Bool) → (t || list_any (λ z. z == x) ids) ≡ false → (list_any (λ z. z == x) ids ≡ false →
+      count x (empty ids) ≡ 0) →
       cond t (count x (empty ids) + 1) (count x (empty ids)) ≡ 0
   by true h f = cc
   by false h f = f h
@@ -49,7 +52,8 @@ apart_empty (y ∷ ids) h =
 pub some_of : (x : ℕ) (ids : List ℕ) → list_any (λ y. y == x) ids ≡ true → 1 ≤ count x (empty ids)
 some_of x [] h = absurd (cc)
 some_of x (y ∷ ids) h = by (y == x) h (some_of x ids) where
-  by : (t : Bool) → (t || list_any (λ z. z == x) ids) ≡ true → (list_any (λ z. z == x) ids ≡ true → 1 ≤ count x (empty ids)) →
+  by : (t : Bool) → (t || list_any (λ z. z == x) ids) ≡ true → (list_any (λ z. z == x) ids ≡ true →
+      1 ≤ count x (empty ids)) →
       1 ≤ cond t (count x (empty ids) + 1) (count x (empty ids))
   by true h f = omega arith
   by false h f = f h
@@ -112,7 +116,8 @@ turns_bounded test hold zero ps b = b
 turns_bounded test hold (suc most) ps b =
     by (test ps) (turns_bounded test hold most (turn hold ps).places (turn_bounded hold ps b)) where
       by : (t : Bool) → AreBounded hold (turns_while test hold most (turn hold ps).places).places →
-          AreBounded hold (cond t (turn_and hold ps (turns_while test hold most (turn hold ps).places)) (stay ps)).places
+          AreBounded hold (cond t (turn_and hold ps (turns_while test hold most (turn hold ps).places))
+          (stay ps)).places
       by true e = e
       by false e = b
 
@@ -291,8 +296,10 @@ act_short hold depth ps Drain h d apart here short x =
     in
     let s = short x in omega (arith, l, s)
 act_short hold depth ps (Offer y) h d apart here short x = by (cases_eq y.id x) where
-  by : ((y.id ≡ x) ⊎ (y.id ≡ x → ⊥)) → length (queue_of x (put y.id y.byte (turns_while (is_full depth y.id) hold (length ps) ps).places)) ≤ depth
-  by (inl e) = subst (λ z. length (queue_of z (put y.id y.byte (turns_while (is_full depth y.id) hold (length ps) ps).places)) ≤ depth) e (
+  by : ((y.id ≡ x) ⊎ (y.id ≡ x → ⊥)) →
+      length (queue_of x (put y.id y.byte (turns_while (is_full depth y.id) hold (length ps) ps).places)) ≤ depth
+  by (inl e) = subst (λ z. length (queue_of z (put y.id y.byte (turns_while (is_full depth y.id) hold
+      (length ps) ps).places)) ≤ depth) e (
       let qs = (turns_while (is_full depth y.id) hold (length ps) ps).places in
       let room = room_for hold depth ps y.id h d here (short y.id) in
       let same = counts_turns (is_full depth y.id) hold (length ps) ps y.id in

@@ -1,6 +1,7 @@
 -- What a waited number counts.
 use Rattle.std.proofs.Common.{◌≡◌, ℕ, zero, suc, ◌+◌, ◌≤◌, List, [], ◌∷◌, ◌++◌, length, length-append, map, take}
-use Rattle.std.proofs.Common.{Bool, true, false, cond, nat_lt, refl, sym, ◌∙◌, ap, subst, arith, Option, None, Some, inl, inr}
+use Rattle.std.proofs.Common.{Bool, true, false, cond, nat_lt, refl, sym, ◌∙◌, ap, subst, arith, Option, None, Some}
+use Rattle.std.proofs.Common.{inl, inr}
 use Rattle.std.specs.Prelude.{◌==◌, not}
 use Rattle.std.proofs.lemmas.Bool.{cases_eq, eq-eqb, ne_eqb, lt-ltb, ltb-true}
 use Rattle.std.proofs.lemmas.List.{length-map, length-take}
@@ -102,19 +103,22 @@ turns_counts test hold zero ps id h apart busy none = omega arith
 turns_counts test hold (suc most) ps id h apart busy none =
     by (test ps) none (turns_counts test hold most (turn hold ps).places id h (turn_keeps hold ps apart).apart) where
       by : (v : Bool) →
-          bytes_for id (cond v (turn_and hold ps (turns_while test hold most (turn hold ps).places)) (stay ps)).out ≡ [] →
+          bytes_for id (cond v (turn_and hold ps (turns_while test hold most (turn hold ps).places))
+          (stay ps)).out ≡ [] →
           (1 ≤ length (queue_of id (turn hold ps).places) →
           bytes_for id (turns_while test hold most (turn hold ps).places).out ≡ [] →
           waited_of id (turns_while test hold most (turn hold ps).places).places
           ≡ waited_of id (turn hold ps).places + length (turns_while test hold most (turn hold ps).places).out) →
           waited_of id (cond v (turn_and hold ps (turns_while test hold most (turn hold ps).places)) (stay ps)).places
-          ≡ waited_of id ps + length (cond v (turn_and hold ps (turns_while test hold most (turn hold ps).places)) (stay ps)).out
+          ≡ waited_of id ps + length (cond v (turn_and hold ps (turns_while test hold most (turn hold ps).places))
+          (stay ps)).out
       by false none i = omega arith
       by true none i =
           let u = turns_while test hold most (turn hold ps).places in
           let both = none_both id (turn hold ps).out u.out none in
           let one = turn_counts hold ps id h (apart id) busy both.0 in
-          let queue = stays (bytes_for id (turn hold ps).out) (queue_of id (turn hold ps).places) (queue_of id ps) ((turn_keeps hold ps apart).all id) both.0 in
+          let queue = stays (bytes_for id (turn hold ps).out) (queue_of id (turn hold ps).places) (queue_of id ps)
+          ((turn_keeps hold ps apart).all id) both.0 in
           let more = i (subst (λ (l : List ℕ). 1 ≤ length l) (sym queue) busy) both.1 in
           let len = length-append (turn hold ps).out u.out in
           omega (arith, one, more, len)
@@ -151,7 +155,8 @@ act_counts hold depth ps Drain id h apart busy none =
     let t = turns_while test hold (load ps) ps in
     record {
       waited = turns_counts test hold (load ps) ps id h apart busy none;
-      busy = subst (λ (l : List ℕ). 1 ≤ length l) (sym (stays (bytes_for id t.out) (queue_of id t.places) (queue_of id ps)
+      busy = subst (λ (l : List ℕ). 1 ≤ length l) (sym (stays (bytes_for id t.out) (queue_of id t.places)
+          (queue_of id ps)
           ((turns_keep test hold (load ps) ps apart).all id) none)) busy;
     }
 act_counts hold depth ps (Offer y) id h apart busy none =
@@ -201,7 +206,8 @@ module _ (hold depth : ℕ) (ids : List ℕ) (done : List Act) (apart : are_apar
   pub waited_came : (id byte : ℕ) → 1 ≤ depth → queue_of id now ≡ [] →
       waited_of id (offer hold depth now id byte).places ≡ 0
   waited_came id byte d none =
-      let idle = idle_turns (is_full depth id) hold (length now) now (ap (λ (l : List ℕ). not (nat_lt (length l) depth)) none
+      let idle = idle_turns (is_full depth id) hold (length now) now (ap (λ (l : List ℕ). not (nat_lt
+      (length l) depth)) none
       ∙ ap not (lt-ltb 0 depth d)) in
       wait_put id id byte (turns_while (is_full depth id) hold (length now) now).places
       ∙ ap (λ (t : Turned). waited_of id t.places) idle

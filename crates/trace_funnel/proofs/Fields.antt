@@ -1,6 +1,7 @@
 -- What the fields of a funnel say of its places.
 use Rattle.std.proofs.Common.{◌≡◌, ℕ, zero, suc, ◌-◌, ◌*◌, ◌<◌, ◌≤◌, List, [], ◌∷◌, ◌++◌, length, map, take, drop}
-use Rattle.std.proofs.Common.{Bool, true, false, nat_lt, refl, sym, ◌∙◌, ap, subst, arith, length-append, append-nil, get_or, set, Option, None, Some}
+use Rattle.std.proofs.Common.{Bool, true, false, nat_lt, refl, sym, ◌∙◌, ap, subst, arith, length-append, append-nil}
+use Rattle.std.proofs.Common.{get_or, set, Option, None, Some}
 use Rattle.std.proofs.Common.{◌⊎◌, inl, inr}
 use Rattle.std.specs.Prelude.{not, nat_eq, IsTrue, is_some, IfNone, IfSome}
 use Rattle.std.specs.List.{AllByRecursion}
@@ -19,7 +20,8 @@ use Rattle.trace_funnel.proofs.Emptying.{idle_load, load_append}
 use Rattle.trace_funnel.proofs.Waiting.{put_bounded, waited_few, waited_idle}
 use Rattle.trace_funnel.proofs.Acting.{apart_empty, bounded_empty}
 use Rattle.trace_funnel.proofs.Serving.{map_split, map_set, front_of, back_of, map_same}
-use Rattle.trace_funnel.proofs.Rounding.{count_round, queue_round, waited_round, one_there, queue_there, waited_there, put_there, put_round, apart_same, ids_put}
+use Rattle.trace_funnel.proofs.Rounding.{count_round, queue_round, waited_round, one_there, queue_there, waited_there}
+use Rattle.trace_funnel.proofs.Rounding.{put_there, put_round, apart_same, ids_put}
 
 all_at : (P : ℕ → Type 0) (xs : List ℕ) (i d : ℕ) → AllByRecursion P xs → i < length xs → P (get_or xs i d)
 all_at P [] i d a h = absurd (omega arith)
@@ -52,7 +54,8 @@ module _ (f : Inside) (whole : IsWhole f) (place : ℕ) (h : place < length (sta
   id_is =
       get_or-map (λ (p : Place). p.id) (places_of qs) place (place_of q) 0
       (let b = length-map qs place_of in let w = within in omega (arith, b, w))
-      ∙ ap (λ (p : Place). p.id) (get_or-map place_of qs place q (place_of q) within) ∙ ap (λ (y : Queue). y.id) (sym is)
+      ∙ ap (λ (p : Place). p.id) (get_or-map place_of qs place q (place_of q) within)
+      ∙ ap (λ (y : Queue). y.id) (sym is)
 
   parts : places_of qs ≡ front_of place_of qs place within ++ (place_of q ∷ back_of place_of qs place within)
   parts = map_split place_of qs place within q is
@@ -90,15 +93,16 @@ module _ (f : Inside) (whole : IsWhole f) (place : ℕ) (h : place < length (sta
 
   pub full_is : length q.bytes.items ≤ room_of q → nat_eq (length q.bytes.items) f.depth
       ≡ is_full f.depth (id_at (state_of f) place) (state_of f).places
-  full_is l = by (cases_lt (length q.bytes.items) f.depth) ∙ ap (λ n. not (nat_lt n f.depth)) (sym (ap length queue_is)) where
-    by : ((length q.bytes.items < f.depth) ⊎ (f.depth ≤ length q.bytes.items)) →
-        nat_eq (length q.bytes.items) f.depth ≡ not (nat_lt (length q.bytes.items) f.depth)
-    by (inl less) =
-        ne_eqb (length q.bytes.items) f.depth (λ e. omega (arith, e, less))
-        ∙ sym (ap not (lt-ltb (length q.bytes.items) f.depth less))
-    by (inr more) =
-        eq-eqb (length q.bytes.items) f.depth (let r = room_is in omega (arith, r, l, more))
-        ∙ sym (ap not (le-ltb (length q.bytes.items) f.depth more))
+  full_is l = by (cases_lt (length q.bytes.items) f.depth)
+      ∙ ap (λ n. not (nat_lt n f.depth)) (sym (ap length queue_is)) where
+        by : ((length q.bytes.items < f.depth) ⊎ (f.depth ≤ length q.bytes.items)) →
+            nat_eq (length q.bytes.items) f.depth ≡ not (nat_lt (length q.bytes.items) f.depth)
+        by (inl less) =
+            ne_eqb (length q.bytes.items) f.depth (λ e. omega (arith, e, less))
+            ∙ sym (ap not (lt-ltb (length q.bytes.items) f.depth less))
+        by (inr more) =
+            eq-eqb (length q.bytes.items) f.depth (let r = room_is in omega (arith, r, l, more))
+            ∙ sym (ap not (le-ltb (length q.bytes.items) f.depth more))
 
   pub room_left : is_full f.depth (id_at (state_of f) place) (state_of f).places ≡ false →
       length q.bytes.items < room_of q
@@ -121,7 +125,8 @@ module _ (f : Inside) (whole : IsWhole f) (place : ℕ) (h : place < length (sta
   idle_is e = sym waited_is ∙ waited_idle f.hold (id_at (state_of f) place) (state_of f).places whole.bounded e
 
   -- a byte more in its queue
-  module _ (byte : ℕ) (new : Queue) (longer_is : place_of new ≡ longer byte (place_of q)) (same_room : room_of new ≡ room_of q) where
+  module _ (byte : ℕ) (new : Queue) (longer_is : place_of new
+      ≡ longer byte (place_of q)) (same_room : room_of new ≡ room_of q) where
     pub puts : places_of (set qs place new) ≡ put q.id byte (places_of qs)
     puts =
         map_set place_of qs place within new
@@ -134,24 +139,28 @@ module _ (f : Inside) (whole : IsWhole f) (place : ℕ) (h : place < length (sta
     ids_stay : ids_of (places_of (set qs place new)) ≡ ids_of (places_of qs)
     ids_stay = ap ids_of puts ∙ ids_put q.id byte (places_of qs)
 
-    pub put_state : (g : Inside) → g.queues.items ≡ set qs place new → g.next ≡ f.next → g.hold ≡ f.hold → g.depth ≡ f.depth →
+    pub put_state : (g : Inside) → g.queues.items ≡ set qs place new → g.next ≡ f.next → g.hold ≡ f.hold →
+        g.depth ≡ f.depth →
         state_of g ≡ with_places (state_of f) (put (id_at (state_of f) place) byte (state_of f).places)
     put_state g a b c d =
         same_state (ap (λ l. ids_of (places_of l)) a ∙ ids_stay) c d
         (ap (λ l. round g.next (places_of l)) a ∙ ap (λ n. round n (places_of (set qs place new))) b ∙ round_puts
         ∙ ap (λ id. put id byte (round f.next (places_of qs))) (sym id_is))
 
-    pub put_whole : (g : Inside) → g.queues.items ≡ set qs place new → g.next ≡ f.next → g.hold ≡ f.hold → g.depth ≡ f.depth →
+    pub put_whole : (g : Inside) → g.queues.items ≡ set qs place new → g.next ≡ f.next → g.hold ≡ f.hold →
+        g.depth ≡ f.depth →
         IsWhole g
     put_whole g a b c d = record {
       next = (let l = ap length a ∙ length-set qs place new in let n = whole.next in omega (arith, l, n, b));
       few = (let l = ap length a ∙ length-set qs place new in let n = whole.few in omega (arith, l, n));
       rooms = subst (λ n. AllByRecursion (λ room. room ≡ n) (rooms_of g.queues.items)) (sym d)
-          (subst (AllByRecursion (λ room. room ≡ f.depth)) (sym (ap rooms_of a ∙ map_same room_of qs place q new within is same_room)) whole.rooms);
+          (subst (AllByRecursion (λ room. room ≡ f.depth)) (sym (ap rooms_of a
+          ∙ map_same room_of qs place q new within is same_room)) whole.rooms);
       some = (let n = whole.some in omega (arith, n, c));
       held = (let n = whole.held in omega (arith, n, c));
       deep = (let n = whole.deep in omega (arith, n, d));
-      apart = apart_same (places_of qs) (places_of g.queues.items) (ap (λ l. ids_of (places_of l)) a ∙ ids_stay) whole.apart;
+      apart = apart_same (places_of qs) (places_of g.queues.items) (ap (λ l. ids_of (places_of l)) a
+          ∙ ids_stay) whole.apart;
       bounded = subst (λ n. AreBounded n (round g.next (places_of g.queues.items))) (sym c)
           (subst (AreBounded f.hold) (sym (ap (λ l. round g.next (places_of l)) a
           ∙ ap (λ n. round n (places_of (set qs place new))) b ∙ round_puts))

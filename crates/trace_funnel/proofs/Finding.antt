@@ -1,6 +1,7 @@
 -- The first queue that has bytes, from a place on, going round.
 use Rattle.std.proofs.Common.{◌≡◌, ℕ, suc, ◌+◌, ◌<◌, ◌≤◌, List, [], ◌∷◌, ◌++◌, length, length-append, take, drop}
-use Rattle.std.proofs.Common.{Bool, true, false, cond, nat_lt, refl, sym, ◌∙◌, ap, subst, arith, append_assoc, Option, None, Some}
+use Rattle.std.proofs.Common.{Bool, true, false, cond, nat_lt, refl, sym, ◌∙◌, ap, subst, arith, append_assoc, Option}
+use Rattle.std.proofs.Common.{None, Some}
 use Rattle.std.specs.Prelude.{not, position, IfSome, IfNone}
 use Rattle.std.specs.List.{prefix_len}
 use Rattle.std.proofs.lemmas.Bool.{ltb-true, ltb-false}
@@ -80,7 +81,8 @@ none_busy (q ∷ qs) h = by (test q) refl h (none_busy qs) where
       ap (λ t. found_on t (place_of q) (places_of qs) (first_busy (places_of qs))) e
       ∙ ap (found_on false (place_of q) (places_of qs)) (f (omega (arith, h)))
 
-pub position_first : (qs : List Queue) (i : ℕ) → Some i ≡ position (λ q. is_busy (place_of q)) qs → IsFirst (places_of qs) i
+pub position_first : (qs : List Queue) (i : ℕ) → Some i ≡ position (λ q. is_busy (place_of q)) qs →
+    IsFirst (places_of qs) i
 position_first qs i e = by (nat_lt (idle_len qs) (length qs)) refl e where
   by : (t : Bool) → nat_lt (idle_len qs) (length qs) ≡ t → Some i ≡ cond t (Some (idle_len qs)) None →
       IsFirst (places_of qs) i
@@ -89,7 +91,8 @@ position_first qs i e = by (nat_lt (idle_len qs) (length qs)) refl e where
       subst (IsFirst (places_of qs)) same (first_at qs (ltb-true (idle_len qs) (length qs) l))
   by false l e = absurd (cc)
 
-pub position_none : (qs : List Queue) → None ≡ position (λ q. is_busy (place_of q)) qs → first_busy (places_of qs) ≡ None
+pub position_none : (qs : List Queue) → None ≡ position (λ q. is_busy (place_of q)) qs →
+    first_busy (places_of qs) ≡ None
 position_none qs e = by (nat_lt (idle_len qs) (length qs)) refl e where
   by : (t : Bool) → nat_lt (idle_len qs) (length qs) ≡ t → None ≡ cond t (Some (idle_len qs)) None →
       first_busy (places_of qs) ≡ None

@@ -39,7 +39,8 @@ module _ (f : Inside) (whole : IsWhole f) (read lent : List Queue) (place : ℕ)
   next = subst (λ (l : List Queue). IsNextBusy f.next (places_of l) place) a seen
 
   place_within : place < length f.queues.items
-  place_within = let w = at_within f.next ps place next in let l = length-map f.queues.items place_of in omega (arith, w, l)
+  place_within = let w = at_within f.next ps place next in let l = length-map f.queues.items place_of in
+      omega (arith, w, l)
 
   pub within : place < length lent
   within = let w = place_within in let l = ap length b in omega (arith, w, l)
@@ -53,7 +54,8 @@ module _ (f : Inside) (whole : IsWhole f) (read lent : List Queue) (place : ℕ)
 
   -- and it left these
   module _ (new : List Queue) (served : (front back : List Place) (p : Place) → places_of lent ≡ front ++ (p ∷ back) →
-      length front ≡ place → places_of new ≡ after_turn f.hold front p back) (rooms : rooms_of new ≡ rooms_of lent) where
+      length front ≡ place →
+      places_of new ≡ after_turn f.hold front p back) (rooms : rooms_of new ≡ rooms_of lent) where
     after : (front back : List Place) (p : Place) → places_of f.queues.items ≡ front ++ (p ∷ back) →
         length front ≡ place → places_of new ≡ after_turn f.hold front p back
     after front back p parts number = served front back p (ap places_of b ∙ parts) number

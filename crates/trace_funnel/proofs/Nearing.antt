@@ -140,7 +140,8 @@ module _ (hold depth id : ℕ) (h1 : 1 ≤ hold) (d1 : 1 ≤ depth) where
       ap (λ v. (cond (not v) (turn_and hold ps (turns_while (is_full depth id) hold most (turn hold ps).places))
       (stay ps)).places) (lt-ltb (length (queue_of id ps)) depth l)
 
-  pub has_room : (most : ℕ) (ps : List Place) → Has ps → ahead id ps < most → length (queue_of id (rest most ps)) < depth
+  pub has_room : (most : ℕ) (ps : List Place) → Has ps → ahead id ps < most →
+      length (queue_of id (rest most ps)) < depth
   has_room zero ps k l = absurd (omega arith)
   has_room (suc most) ps k l = by (is_full depth id ps) refl (has_room most (turn hold ps).places) where
     by : (t : Bool) → is_full depth id ps ≡ t → (Has (turn hold ps).places → ahead id (turn hold ps).places < most →

@@ -1,6 +1,7 @@
 -- An offer, turn by turn.
 use Rattle.std.proofs.Common.{◌≡◌, ℕ, zero, suc, ◌+◌, ◌*◌, ◌<◌, ◌≤◌, List, [], ◌++◌, length}
-use Rattle.std.proofs.Common.{Bool, true, false, cond, refl, sym, ◌∙◌, ap, subst, arith, append_assoc, append-nil, ◌⊎◌, inl, inr}
+use Rattle.std.proofs.Common.{Bool, true, false, cond, refl, sym, ◌∙◌, ap, subst, arith, append_assoc, append-nil}
+use Rattle.std.proofs.Common.{◌⊎◌, inl, inr}
 use Rattle.std.specs.Prelude.{not}
 use Rattle.std.proofs.lemmas.Bool.{lt-ltb}
 use Rattle.trace_funnel.specs.declared.tagged.Tagged.{Tagged}
@@ -31,8 +32,13 @@ pub offering_none : (f : State) (place : ℕ) (out : List Tagged) → out ≡ []
 offering_none f place out e = record {
   same = refl;
   left = length f.places;
-  all = ap (λ (l : List Tagged). let t : Turned = record { out = l ++ (turns_by f place (length f.places)).out; places = (turns_by f place (length f.places)).places } in t) (sym e);
-  enough = λ h. by (is_full f.depth (id_at f place) f.places) (let one = h.one in ahead_few (id_at f place) f.places (omega (arith, one)));
+  all = ap (λ (l : List Tagged). let t : Turned = record {
+    out = l ++ (turns_by f place
+        (length f.places)).out;
+    places = (turns_by f place (length f.places)).places;
+  } in t) (sym e);
+  enough = λ h. by (is_full f.depth (id_at f place) f.places) (let one = h.one in
+      ahead_few (id_at f place) f.places (omega (arith, one)));
   room = λ h. (let a = ap length e in let few = h.few in omega (arith, a, few));
 } where
   by : (t : Bool) → ahead (id_at f place) f.places < length f.places →
@@ -58,7 +64,8 @@ turns_fall g h place has full e =
 
       by : ((length (queue_of (id_at g place) (turn_by g).places) < g.depth)
           ⊎ ((ahead (id_at g place) (turn_by g).places < ahead (id_at g place) g.places)
-          × ((count (id_at g place) (turn_by g).places ≡ 1) × (length (queue_of (id_at g place) (turn_by g).places) ≤ g.depth)))) →
+          × ((count (id_at g place) (turn_by g).places
+          ≡ 1) × (length (queue_of (id_at g place) (turn_by g).places) ≤ g.depth)))) →
           cond (is_full g.depth (id_at g place) (turn_by g).places) (ahead (id_at g place) (turn_by g).places + 1) 0
           < ahead (id_at g place) g.places + 1
       by (inl room) =
@@ -103,13 +110,15 @@ pub offering_all : (f g : State) (place : ℕ) (out : List Tagged) → Offering 
     is_full g.depth (id_at g place) g.places ≡ false →
     turns_by f place (length f.places) ≡ record { out = out; places = g.places }
 offering_all f g place out o e =
-    o.all ∙ ap (λ (t : Turned). let u : Turned = record { out = out ++ t.out; places = t.places } in u) (idle g.places o.left e)
+    o.all ∙ ap (λ (t : Turned). let u : Turned = record { out = out ++ t.out; places = t.places } in
+    u) (idle g.places o.left e)
     ∙ ap (λ (l : List Tagged). let u : Turned = record { out = l; places = g.places } in u) (append-nil out) where
       idle : (ps : List Place) (n : ℕ) → is_full g.depth (id_at g place) ps ≡ false →
           turns_while (is_full g.depth (id_at g place)) g.hold n ps ≡ stay ps
       idle ps zero e = refl
       idle ps (suc n) e =
-          ap (λ t. cond t (turn_and g.hold ps (turns_while (is_full g.depth (id_at g place)) g.hold n (turn g.hold ps).places)) (stay ps)) e
+          ap (λ t. cond t (turn_and g.hold ps (turns_while (is_full g.depth (id_at g place)) g.hold n
+          (turn g.hold ps).places)) (stay ps)) e
 
 -- and the byte is put where the turns have made room
 pub offering_put : (f g h : State) (place byte : ℕ) (out : List Tagged) → Offering f g place out →

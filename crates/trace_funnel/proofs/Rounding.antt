@@ -1,6 +1,7 @@
 -- Places in their order, and from the next one on, going round.
 use Rattle.std.proofs.Common.{◌≡◌, ℕ, ◌+◌, ◌^◌, ◌<◌, ◌≤◌, List, [], ◌∷◌, ◌++◌, length, map, take, drop}
-use Rattle.std.proofs.Common.{Bool, true, false, cond, refl, sym, ◌∙◌, ap, subst, arith, append_assoc, append-nil, length-append}
+use Rattle.std.proofs.Common.{Bool, true, false, cond, refl, sym, ◌∙◌, ap, subst, arith, append_assoc, append-nil}
+use Rattle.std.proofs.Common.{length-append}
 use Rattle.std.proofs.Common.{Some, inl, inr}
 use Rattle.std.specs.Prelude.{◌==◌}
 use Rattle.std.specs.List.{AllByRecursion}
@@ -11,7 +12,8 @@ use Rattle.trace_funnel.specs.Turns.{Place, first_busy, waits, served, longer, g
 use Rattle.trace_funnel.specs.Turns.{queue_of, waited_of, put}
 use Rattle.trace_funnel.specs.Kept.{count, Apart, AreBounded}
 use Rattle.trace_funnel.specs.Queues.{ids_of, round, IsNextBusy, after_turn}
-use Rattle.trace_funnel.proofs.Places.{count_append, count_swap, queue_past, queue_swap, waited_past, waited_swap, waits_at}
+use Rattle.trace_funnel.proofs.Places.{count_append, count_swap, queue_past, queue_swap, waited_past, waited_swap}
+use Rattle.trace_funnel.proofs.Places.{waits_at}
 
 -- the places of a list, going round from any of them, have the same IDs, queues and waited numbers
 pub count_round : (x n : ℕ) (ps : List Place) → count x (round n ps) ≡ count x ps
@@ -19,12 +21,14 @@ count_round x n ps = count_swap x (take n ps) (drop n ps) ∙ ap (count x) (take
 
 pub queue_round : (x n : ℕ) (ps : List Place) → Apart ps → queue_of x (round n ps) ≡ queue_of x ps
 queue_round x n ps apart =
-    queue_swap x (take n ps) (drop n ps) (subst (λ (l : List Place). count x l ≤ 1) (sym (take-append-drop n ps)) (apart x))
+    queue_swap x (take n ps) (drop n ps) (subst (λ (l : List Place). count x l ≤ 1) (sym (take-append-drop n ps))
+    (apart x))
     ∙ ap (queue_of x) (take-append-drop n ps)
 
 pub waited_round : (x n : ℕ) (ps : List Place) → Apart ps → waited_of x (round n ps) ≡ waited_of x ps
 waited_round x n ps apart =
-    waited_swap x (take n ps) (drop n ps) (subst (λ (l : List Place). count x l ≤ 1) (sym (take-append-drop n ps)) (apart x))
+    waited_swap x (take n ps) (drop n ps) (subst (λ (l : List Place). count x l ≤ 1) (sym (take-append-drop n ps))
+    (apart x))
     ∙ ap (waited_of x) (take-append-drop n ps)
 
 -- the place that stands between others is the only one of its ID
@@ -132,7 +136,8 @@ module _ (hold : ℕ) (front back : List Place) (p : Place) where
   round_more : (at : ℕ) → length front ≡ at → round (at + 1) (after_turn hold front p back) ≡ turned
   round_more at e =
       let front_len : length (waiting front ++ served hold p ∷ []) ≡ at + 1 =
-      (let a = length-append (waiting front) (served hold p ∷ []) in let b = length-map front (λ q. waits n q) in omega (arith, a, b, e)) in
+      (let a = length-append (waiting front) (served hold p ∷ []) in let b = length-map front (λ q. waits n q) in
+      omega (arith, a, b, e)) in
       ap (round (at + 1)) (sym split)
       ∙ ap (λ (l : List Place). l ++ take (at + 1) ((waiting front ++ served hold p ∷ []) ++ waiting back))
       (drop_at (waiting front ++ served hold p ∷ []) (waiting back) (at + 1) front_len)
@@ -162,11 +167,13 @@ module _ (hold : ℕ) (front back : List Place) (p : Place) where
     none [] h = refl
     none (q ∷ b) h = absurd (omega arith)
 
-  pub turn_is : (ps before behind : List Place) → first_busy ps ≡ Some (record { before = before; place = p; behind = behind }) →
+  pub turn_is : (ps before behind : List Place) →
+      first_busy ps ≡ Some (record { before = before; place = p; behind = behind }) →
       behind ++ before ≡ back ++ front → turn hold ps ≡ record { out = given hold p; places = turned }
   unfolding turned
   turn_is ps before behind e o =
-      ap (turn_of hold ps) e ∙ ap (λ (l : List Place). let t : Turned = record { out = given hold p; places = l } in t) (
+      ap (turn_of hold ps) e
+      ∙ ap (λ (l : List Place). let t : Turned = record { out = given hold p; places = l } in t) (
       sym (append_assoc (waiting behind) (waiting before) (served hold p ∷ []))
       ∙ ap (λ (l : List Place). l ++ served hold p ∷ []) (sym (map-append (λ q. waits n q) behind before))
       ∙ ap (λ (l : List Place). waiting l ++ served hold p ∷ []) o)
@@ -178,13 +185,15 @@ module _ (hold n : ℕ) (ps qs : List Place) (at : ℕ) (next : IsNextBusy n ps 
   qs_is : qs ≡ after_turn hold next.front next.place next.back
   qs_is = after next.front next.back next.place next.parts next.number
 
-  turned_by : turn hold (round n ps) ≡ record { out = given hold next.place; places = turned hold next.front next.back next.place }
+  turned_by : turn hold (round n ps)
+      ≡ record { out = given hold next.place; places = turned hold next.front next.back next.place }
   turned_by = turn_is hold next.front next.back next.place (round n ps) next.before next.behind next.found next.others
 
   pub out_is : given hold next.place ≡ (turn hold (round n ps)).out
   out_is = ap (λ (t : Turned). t.out) (sym turned_by)
 
-  pub places_is : (len : ℕ) → len ≡ length ps → round (cond (at + 1 == len) 0 (at + 1)) qs ≡ (turn hold (round n ps)).places
+  pub places_is : (len : ℕ) → len ≡ length ps →
+      round (cond (at + 1 == len) 0 (at + 1)) qs ≡ (turn hold (round n ps)).places
   places_is len l =
       ap (round (cond (at + 1 == len) 0 (at + 1))) qs_is
       ∙ round_behind hold next.front next.back next.place at len next.number (l ∙ ap length next.parts)
@@ -209,11 +218,13 @@ all_few hold (p ∷ ps) b l h =
     let w = b.0 in
     (omega (arith, m, w), all_few hold ps b.2 (omega (arith, l)) h)
 
-all_append : (P : Place → Type 0) (a b : List Place) → AllByRecursion P a → AllByRecursion P b → AllByRecursion P (a ++ b)
+all_append : (P : Place → Type 0) (a b : List Place) → AllByRecursion P a → AllByRecursion P b →
+    AllByRecursion P (a ++ b)
 all_append P [] b h k = k
 all_append P (p ∷ a) b h k = (h.0, all_append P a b h.1 k)
 
-all_parts : (P : Place → Type 0) (a b : List Place) → AllByRecursion P (a ++ b) → AllByRecursion P a × AllByRecursion P b
+all_parts : (P : Place → Type 0) (a b : List Place) → AllByRecursion P (a ++ b) →
+    AllByRecursion P a × AllByRecursion P b
 all_parts P [] b h = (tt, h)
 all_parts P (p ∷ a) b h = let r = all_parts P a b h.1 in ((h.0, r.0), r.1)
 

@@ -1,7 +1,8 @@
 -- A queue of a place stands between others: what a change of it is to all of them.
 use Rattle.std.proofs.Common.{◌≡◌, ℕ, ◌+◌, ◌<◌, List, [], ◌∷◌, ◌++◌, length, map, take, drop, min}
 use Rattle.std.proofs.Common.{refl, sym, ◌∙◌, ap, arith, get_or, set}
-use Rattle.std.proofs.lemmas.List.{take-append-drop, length-take, length-take-le, drop_more, drop-set, take-set, map-append, length-map}
+use Rattle.std.proofs.lemmas.List.{take-append-drop, length-take, length-take-le, drop_more, drop-set, take-set}
+use Rattle.std.proofs.lemmas.List.{map-append, length-map}
 use Rattle.trace_funnel.specs.declared.queue.Queue.{Queue}
 use Rattle.trace_funnel.specs.Turns.{Place, waits, served, given, tagged}
 use Rattle.trace_funnel.specs.Queues.{place_of, places_of, after_turn}
@@ -17,7 +18,8 @@ module _ {B : Type 0} (f : Queue → B) (qs : List Queue) (place : ℕ) (h : pla
   pub map_split : (q : Queue) → q ≡ get_or qs place q → map f qs ≡ front_of ++ (f q ∷ back_of)
   map_split q e =
       ap (map f) (sym (take-append-drop place qs)
-      ∙ ap (λ (l : List Queue). take place qs ++ l) (drop_more qs place q h ∙ ap (λ y. y ∷ drop (place + 1) qs) (sym e)))
+      ∙ ap (λ (l : List Queue). take place qs ++ l) (drop_more qs place q h
+      ∙ ap (λ y. y ∷ drop (place + 1) qs) (sym e)))
       ∙ map-append f (take place qs) (q ∷ drop (place + 1) qs)
 
   pub map_set : (q : Queue) → map f (set qs place q) ≡ front_of ++ (f q ∷ back_of)

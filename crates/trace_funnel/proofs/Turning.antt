@@ -170,7 +170,8 @@ pub counts_turns : (test : List Place → Bool) (hold most : ℕ) (ps : List Pla
 counts_turns test hold zero ps x = refl
 counts_turns test hold (suc most) ps x = by (test ps) (counts_turns test hold most (turn hold ps).places x) where
   by : (t : Bool) → count x (turns_while test hold most (turn hold ps).places).places ≡ count x (turn hold ps).places →
-      count x (cond t (turn_and hold ps (turns_while test hold most (turn hold ps).places)) (stay ps)).places ≡ count x ps
+      count x (cond t (turn_and hold ps (turns_while test hold most (turn hold ps).places)) (stay ps)).places
+      ≡ count x ps
   by true e = e ∙ counts_turn hold ps x
   by false e = refl
 

@@ -10,8 +10,10 @@ pub put-requires : goal.put-requires
 put-requires c =
     let place = c.args.place in
     let here = subst (λ (s : State). place < length s.order) (sym c.self.view_is) c.requires.place in
-    let room = subst (λ (s : State). is_full s.depth (id_at s place) s.places ≡ false) (sym c.self.view_is) c.requires.room in
-    record { room = room_left c.self.inside c.self.invariant place here c.index_mut.result.now c.index_mut.ensures.value room }
+    let full = c.requires.room in
+    let room = subst (λ (s : State). is_full s.depth (id_at s place) s.places ≡ false) (sym c.self.view_is) full in
+    let q = c.index_mut.result.now in
+    record { room = room_left c.self.inside c.self.invariant place here q c.index_mut.ensures.value room }
 
 pub invariant_of-self : goal.invariant_of-self
 invariant_of-self c =
