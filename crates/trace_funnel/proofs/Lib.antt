@@ -1,0 +1,13 @@
+mod Places
+mod Turning
+mod Waiting
+mod Nearing
+mod Emptying
+mod Acting
+mod Finding
+mod Serving
+mod Rounding
+mod Fields
+mod Offering
+mod Counting
+mod Giving

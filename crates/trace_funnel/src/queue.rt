@@ -1,0 +1,168 @@
+//! The queues of a funnel, one for each place.
+
+ghost use Rattle.std.specs.Prelude.{◌≡◌, ◌≤◌, ◌<◌, ◌+◌, ◌^◌, ◌++◌, [], length, map, position, IfOk, None};
+ghost use Rattle.std.specs.List.{AllByRecursion};
+ghost use Rattle.arrayvec.specs.ArrayVec.{array_vec_len};
+ghost use Rattle.trace_funnel.specs.Turns.{is_busy, waits, served, given, longer, tagged, first_busy};
+
+use crate::tagged::Tagged;
+use arrayvec::ArrayVec;
+use circular_buffer::HeapCircularBuffer;
+use std::alloc::{AllocError, Global};
+use trace_values::SourceId;
+
+/// The most bytes that a turn gives.
+pub const MOST_HELD: usize = 15;
+
+/// A place of a funnel: the bytes of its source that were offered and not given yet, from the oldest to the newest.
+#[derive(Drop)]
+pub struct Queue {
+    pub id: SourceId,
+    pub bytes: HeapCircularBuffer<u8>,
+    // How many bytes others gave since this one gave, or since it has bytes: 0 where it has none.
+    pub waited: u64,
+}
+
+/// Appends these bytes, tagged with an ID.
+fn tag_all<const N: usize>(id: SourceId, bytes: &[u8], out: &mut ArrayVec<Tagged, N>)
+    requires room { array_vec_len out.old + length bytes.now ≤ N }
+    ensures items { out.new.items ≡ out.old.items ++ tagged id bytes.now }
+    ensures len { array_vec_len out.new ≡ array_vec_len out.old + length bytes.now }
+{
+    for byte in bytes {
+        out.push(Tagged { id, byte: *byte });
+    }
+}
+
+impl Queue {
+    ghost use Rattle.trace_funnel.specs.Queues.{place_of, room_of};
+
+    /// An empty queue of this source, with the memory for so many bytes.
+    pub fn new(alloc: Global, id: SourceId, depth: usize) -> Result<Queue, AllocError>
+        ensures place { IfOk result (λ q. place_of q ≡ record { id = id; queue = []; waited = 0 }) }
+        ensures room { IfOk result (λ q. room_of q ≡ depth) }
+    {
+        let bytes = HeapCircularBuffer::with_capacity(alloc, depth)?;
+        Ok(Queue {
+            id,
+            bytes,
+            waited: 0,
+        })
+    }
+
+    /// Whether it has bytes.
+    pub fn is_busy(&self) -> bool
+        ensures { result ≡ is_busy (place_of self.now) }
+    {
+        !self.bytes.is_empty()
+    }
+
+    /// Waits while another gives so many bytes.
+    pub fn wait(&mut self, count: u64)
+        requires few { self.old.waited + count < 2 ^ 64 }
+        ensures place { place_of self.new ≡ waits count (place_of self.old) }
+        ensures room { room_of self.new ≡ room_of self.old }
+    {
+        if self.is_busy() {
+            self.waited += count;
+        }
+    }
+
+    /// Takes a byte, for which there is room.
+    pub fn put(&mut self, byte: u8)
+        requires room { length self.old.bytes.items < room_of self.old }
+        ensures place { place_of self.new ≡ longer byte (place_of self.old) }
+        ensures room { room_of self.new ≡ room_of self.old }
+    {
+        self.bytes.push_back(byte);
+    }
+
+    /// Gives its first bytes, at most so many, and waits anew.
+    pub fn give<const N: usize>(&mut self, hold: usize, out: &mut ArrayVec<Tagged, N>)
+        requires few { hold ≤ MOST_HELD }
+        requires room { array_vec_len out.old + hold ≤ N }
+        ensures given { out.new.items ≡ out.old.items ++ given hold (place_of self.old) }
+        ensures len { array_vec_len out.new ≤ array_vec_len out.old + hold }
+        ensures place { place_of self.new ≡ served hold (place_of self.old) }
+        ensures room { room_of self.new ≡ room_of self.old }
+    {
+        let mut bytes = [0; MOST_HELD];
+        let count = self.bytes.read_into(&mut bytes[..hold]);
+        tag_all(self.id, &bytes[..count], out);
+        self.waited = 0;
+    }
+}
+
+ghost use Rattle.std.specs.Prelude.{List, ◌∷◌, IfNone, IfSome};
+ghost use Rattle.trace_funnel.specs.Turns.{Place, empty};
+ghost use Rattle.trace_funnel.specs.Queues.{place_of, places_of, rooms_of, round, IsNextBusy, after_turn};
+
+/// The empty queues of these sources, in this order, each with the memory for so many bytes.
+pub fn queues_of(alloc: Global, order: &[SourceId], depth: usize) -> Result<Vec<Queue>, AllocError>
+    ensures places { IfOk result (λ qs. places_of qs.items ≡ empty order.now) }
+    ensures rooms { IfOk result (λ qs. rooms_of qs.items ≡ map (λ _. depth) order.now) }
+{
+    let mut queues = Vec::with_capacity(alloc, order.len())?;
+    for id in order {
+        let queue = Queue::new(alloc, *id, depth)?;
+        queues.push(queue)?;
+    }
+    Ok(queues)
+}
+
+/// Which of these is the first that has bytes.
+fn first_busy_of(queues: &[Queue]) -> Option<usize>
+    ensures value { result ≡ position (λ q. is_busy (place_of q)) queues.now }
+    ensures within { IfSome result (λ index. index < length queues.now) }
+{
+    queues.iter().position(|queue| queue.is_busy())
+}
+
+/// Which of these is the first that has bytes, from `next` on, going round.
+pub fn next_busy(queues: &[Queue], next: usize) -> Option<usize>
+    requires { next ≤ length queues.now }
+    ensures none { IfNone result (first_busy (round next (places_of queues.now)) ≡ None) }
+    ensures some { IfSome result (λ place. IsNextBusy next (places_of queues.now) place) }
+{
+    let (before, from) = queues.split_at(next);
+    match first_busy_of(from) {
+        Some(index) => Some(next + index),
+        None => first_busy_of(before),
+    }
+}
+
+/// All that have bytes wait while another gives so many.
+fn wait_all(queues: &mut [Queue], count: u64)
+    requires { AllByRecursion (λ p. p.waited + count < 2 ^ 64) (places_of queues.old) }
+    ensures places { places_of queues.new ≡ map (λ p. waits count p) (places_of queues.old) }
+    ensures rooms { rooms_of queues.new ≡ rooms_of queues.old }
+{
+    let Some((queue, rest)) = queues.split_first_mut() else {
+        return;
+    };
+    queue.wait(count);
+    wait_all(rest, count);
+}
+
+/// The queue of this place gives its first bytes, at most so many, and all others wait while it does.
+pub fn serve<const N: usize>(
+    queues: &mut [Queue],
+    place: usize,
+    hold: usize,
+    out: &mut ArrayVec<Tagged, N>,
+)
+    requires place { place < length queues.old }
+    requires hold { hold ≤ MOST_HELD }
+    requires few { AllByRecursion (λ p. p.waited ≤ 2 ^ 32) (places_of queues.old) }
+    requires room { array_vec_len out.old + hold ≤ N }
+    ensures given { (front back : List Place) (p : Place) → places_of queues.old ≡ front ++ (p ∷ back) →
+        length front ≡ place → out.new.items ≡ out.old.items ++ given hold p }
+    ensures places { (front back : List Place) (p : Place) → places_of queues.old ≡ front ++ (p ∷ back) →
+        length front ≡ place → places_of queues.new ≡ after_turn hold front p back }
+    ensures len { array_vec_len out.new ≤ array_vec_len out.old + hold }
+    ensures rooms { rooms_of queues.new ≡ rooms_of queues.old }
+{
+    let count = hold.min(queues[place].bytes.len());
+    wait_all(queues, count as u64);
+    queues[place].give(hold, out);
+}
