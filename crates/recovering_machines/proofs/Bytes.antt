@@ -105,6 +105,10 @@ module _ (m e : SourceMachine) (past count : ℕ) (r : Stretches) (k : Keeps m p
     pub goes : goes_on s ≡ true → fed_from reads from_fault r (map One (units_at kind at byte)) ≡ longer reads r taken
     goes on = goes_by reads r at byte kind s on sound grows.fault
 
+    pub hunts_goes : goes_on s ≡ true →
+        (fed_from reads from_fault r (map One (units_at kind at byte))).now.hunts ≡ r.now.hunts
+    hunts_goes on = ap (λ x. x.now.hunts) (goes on)
+
     pub keeps_goes : goes_on s ≡ true →
         Keeps e past count (fed_from reads from_fault r (map One (units_at kind at byte)))
     keeps_goes on = subst (λ x. Keeps e past count x) (sym (goes on)) (record {
@@ -133,6 +137,9 @@ module _ (m e : SourceMachine) (past count : ℕ) (r : Stretches) (k : Keeps m p
     falls_to : fed_from reads from_fault r (map One (units_at kind at byte)) ≡ fallen reads r fault_taken next
     falls_to = falls_by reads r at byte kind x (quiet m (low_of at byte ∷ (high_of at byte ∷ [])) (omega arith)).1
         (sound (Faulty x) t) (grows (Faulty x) t).fault
+
+    pub hunts_falls : (fed_from reads from_fault r (map One (units_at kind at byte))).now.hunts ≡ true
+    hunts_falls = ap (λ y. y.now.hunts) falls_to
 
     shown : (skipped_by e ≡ (reads r.now.hunts (units ++ fault_taken)).skipped)
         × (held_of e + 1 ≡ (reads r.now.hunts (units ++ fault_taken)).held)

@@ -28,9 +28,10 @@ pub record Keeps (m : SourceMachine) (past count : ℕ) (r : Stretches) : Type 0
   pub past_is : past ≡ sum_by (lost_in (units.reads_on m) from_fault) r.past
   pub count_is : count ≡ r.now.count
 
--- it stands for these stretches
-abbrev pub Stands : RecoveringSource → Stretches → Type 0
-Stands s r = Keeps s.machine s.past s.count r
+-- It stands for these stretches: its machine does, and it knows whether the last of them hunts.
+pub record Stands (s : RecoveringSource) (r : Stretches) : Type 0 where
+  pub keeps : Keeps s.machine s.past s.count r
+  pub hunts : s.hunts ≡ r.now.hunts
 
 -- what they read as
 abbrev pub heard_by : RecoveringSource → Stretches → Stream (Heard Packet)

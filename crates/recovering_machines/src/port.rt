@@ -5,7 +5,7 @@
 //! is this project's profile.
 
 ghost use Rattle.std.specs.Prelude.{◌≡◌, true, false};
-ghost use Rattle.deformatter.specs.Deformatter.{is_live};
+ghost use Rattle.deformatter.specs.Deformatter.{is_hunter, is_live};
 ghost use Rattle.trace_values.specs.declared.limits.TheConstants.{COUNT_ROOM};
 
 use arrayvec::ArrayVec;
@@ -24,7 +24,10 @@ pub struct RecoveringPort {
     past: u64,
     /// How many bytes the present one counts before its own.
     count: u64,
+    /// The present one hunts.
+    hunts: bool,
     ghost live: { is_live port ≡ true },
+    ghost mode: { is_hunter port ≡ hunts },
 }
 
 impl RecoveringPort {
@@ -45,6 +48,7 @@ impl RecoveringPort {
             port: Deformatter::aligned(),
             past: 0,
             count: 0,
+            hunts: false,
         }
     }
 
@@ -58,6 +62,7 @@ impl RecoveringPort {
             port: Deformatter::hunting(),
             past: 0,
             count: 0,
+            hunts: true,
         }
     }
 
@@ -81,6 +86,7 @@ impl RecoveringPort {
                 self.past += self.count + self.port.passed_over();
                 self.count = self.port.left_over();
                 self.port = self.port.hunting_from(byte);
+                self.hunts = true;
                 PortStep::Fault(fault)
             }
             PortStep::Locked { .. } => PortStep::Locked {
@@ -88,6 +94,13 @@ impl RecoveringPort {
             },
             step => step,
         }
+    }
+
+    /// The present stretch hunts: the first one where it was made to hunt, and each further one.
+    pub fn hunts(&self) -> bool
+        ensures { (r : Stretches) → Stands self.now r → result ≡ r.now.hunts }
+    {
+        self.hunts
     }
 
     /// False in a hunt: before the first lock, where it was made to hunt, and from a fault to the next lock.

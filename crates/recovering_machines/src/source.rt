@@ -7,6 +7,7 @@
 ghost use Rattle.std.specs.Prelude.{◌≡◌, ◌+◌, ◌≤◌, true};
 ghost use Rattle.stretch_readings.specs.Steps.{raised};
 ghost use Rattle.source_events.specs.Fitting.{PacketFits};
+ghost use Rattle.trace_values.specs.ReadingModes.{packets_hunt};
 ghost use Rattle.trace_values.specs.Stream.{LocksAfter, StepFits};
 ghost use Rattle.source_machine.specs.Machine.{is_live};
 ghost use Rattle.trace_values.specs.declared.limits.TheConstants.{COUNT_ROOM};
@@ -29,7 +30,19 @@ pub struct RecoveringSource {
     past: u64,
     /// How many units the present one counts before its own.
     count: u64,
+    /// The present one hunts.
+    hunts: bool,
     ghost live: { is_live machine ≡ true },
+}
+
+/// The packets are read in a hunt from the first one on.
+fn hunts(packets: PacketsMode) -> bool
+    ensures { result ≡ packets_hunt packets }
+{
+    match packets {
+        PacketsMode::Hunt => true,
+        PacketsMode::Aligned => false,
+    }
 }
 
 /// An answer with its lock's count, which is this number of units, raised.
@@ -53,7 +66,6 @@ fn raised(step: Step<Packet>, count: u64, skipped: u64) -> Step<Packet>
 impl RecoveringSource {
     ghost use Rattle.std.specs.Prelude.{◌++◌};
     ghost use Rattle.stretch_readings.specs.Stretches.{Stretches, before, from_fault, parted};
-    ghost use Rattle.trace_values.specs.ReadingModes.{packets_hunt};
     ghost use Rattle.source_machine.specs.Units.{reads_by};
     ghost use Rattle.stretch_readings.specs.Steps.{said_by};
     ghost use Rattle.recovering_machines.specs.Source.{Answers, Stands, heard_by, kind_of, reads_of, total_of};
@@ -70,6 +82,7 @@ impl RecoveringSource {
             machine: SourceMachine::new(kind, packets, order),
             past: 0,
             count: 0,
+            hunts: hunts(packets),
         }
     }
 
@@ -93,6 +106,7 @@ impl RecoveringSource {
                 self.past += self.count + self.machine.skipped();
                 self.count = self.machine.held();
                 self.machine = self.machine.hunting_from(at, fault.half, byte);
+                self.hunts = true;
                 Step::Fault(fault)
             }
             step => raised(step, self.count, self.machine.skipped()),
@@ -112,6 +126,14 @@ impl RecoveringSource {
         self.past += self.count + self.machine.skipped() + self.machine.held();
         self.count = 0;
         self.machine = self.machine.hunting_again();
+        self.hunts = true;
+    }
+
+    /// The present stretch hunts: the first one where it was made to hunt, and each further one.
+    pub fn hunts(&self) -> bool
+        ensures { (r : Stretches) → Stands self.now r → result ≡ r.now.hunts }
+    {
+        self.hunts
     }
 
     /// False in a hunt: before the first lock, where it was made to hunt, and from a fault or a cut to the next lock.

@@ -34,7 +34,7 @@ use Rattle.recovery_engine.specs.Taking.{Takes}
 use Rattle.recovery_engine.specs.declared.slot.RecoveringSlot.{RecoveringSlot}
 
 -- the stretches of a port with one more byte
-port_push : (mode : FramesMode) (u : List Placed) (b : Placed) →
+pub port_push : (mode : FramesMode) (u : List Placed) (b : Placed) →
     port_stretches mode (u ++ b ∷ []) ≡ fed items_by from_halfword (port_stretches mode u) (One b)
 port_push mode u b =
     ap (λ l. fed_from items_by from_halfword (before items_by from_halfword (hunts mode)) l) (map-append One u (b ∷ []))

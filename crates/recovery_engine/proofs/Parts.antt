@@ -1,9 +1,6 @@
 -- Parts that are taken, one after the other.
-use Rattle.std.proofs.Common.{◌≡◌, ◌≢◌, ℕ, List, [], ◌∷◌, ◌++◌, length, drop, refl, sym, ◌∙◌, ap, subst, append_assoc}
+use Rattle.std.proofs.Common.{◌≡◌, ◌≢◌, ℕ, List, [], ◌∷◌, ◌++◌, refl, sym, ◌∙◌, ap, subst, append_assoc}
 use Rattle.std.proofs.Common.{append-nil, Option, None, Some, Bool, false, map, inl, inr}
-use Rattle.std.specs.Prelude.{flat_map}
-use Rattle.std.proofs.lemmas.Grind.{flat_map-append}
-use Rattle.std.proofs.Math.Seq.{drop-append_seam}
 use Rattle.trace_values.specs.declared.cell.Cell.{Cell}
 use Rattle.trace_values.specs.declared.fault.Reason.{Reason}
 use Rattle.trace_values.specs.Placed.{Place, Placed}
@@ -16,18 +13,16 @@ use Rattle.source_events.specs.declared.plan.Plan.{Plan}
 use Rattle.source_events.specs.declared.plan.SourceKind.{SourceKind}
 use Rattle.source_events.specs.Merge.{told}
 use Rattle.source_events.specs.Plan as plans
-use Rattle.source_events.specs.Report.{lifted, raw_events, raws}
+use Rattle.source_events.specs.Report.{lifted, raw_events}
 use Rattle.source_events.specs.Runs.{id_of}
-use Rattle.source_events.proofs.Family.{raws_own}
-use Rattle.source_events.proofs.Merges.{same_or_not, test_same, test_other}
+use Rattle.source_events.proofs.Merges.{same_or_not, test_other}
 use Rattle.source_machine.specs.Units.{reads_by}
 use Rattle.stretch_readings.specs.declared.heard.Heard.{Heard}
 use Rattle.stretch_readings.specs.Stretches.{One, fed_from, heard_of, from_fault, parted}
 use Rattle.recovering_machines.specs.Run.{units_in, with_run}
 use Rattle.recovering_machines.specs.Source.{Stands, kind_of}
 use Rattle.recovering_machines.specs.declared.source.RecoveringSource.{RecoveringSource}
-use Rattle.recovery_report.specs.Report.{Part, Run, Locks, Breaks, added, added_by, report_from, run_in, events_of}
-use Rattle.recovery_report.specs.Report.{events_by, stretches_of}
+use Rattle.recovery_report.specs.Report.{Part, Run, Locks, Breaks, added, added_by, report_from, stretches_of}
 use Rattle.recovery_report.proofs.PartLaws as laws
 use Rattle.recovery_engine.specs.Slots.{IsSource, StandsAt, StandFor, source_at}
 use Rattle.recovery_engine.specs.Taking.{Grown, Takes, TakesOwn, IsCut, AreCut}
@@ -97,18 +92,11 @@ grown_none plan parts run slots e k =
 other_run : (x y : ℕ) (run : List Cell) → id_of run ≡ Some x → y ≢ x → is_source y (id_of run) ≡ false
 other_run x y run e n = ap (is_source y) e ∙ test_other x y (λ q. n (sym q))
 
-runs_push : (parts : List Part) (m : Part) → flat_map run_in (parts ++ m ∷ []) ≡ flat_map run_in parts ++ run_in m
-runs_push parts m = flat_map-append run_in parts (m ∷ []) ∙ ap (λ l. flat_map run_in parts ++ l) (append-nil (run_in m))
-
 pub grown_raw : (plan : Plan) (parts : List Part) (run : List Cell) (x : ℕ) (slots : List RecoveringSlot) → id_of run ≡ Some x →
     source_at slots x ≡ None → StandFor plan parts slots →
     Grown plan parts (Run run ∷ []) slots (told (Some x) (raw_events x run))
 grown_raw plan parts run x slots e n k =
     let none : plans.kind_of plan x ≡ None = subst (λ o. StandsAt plan parts x o) n (k x) in
-    let was : events_of plan x parts ≡ raws x (flat_map run_in parts) = ap (λ o. events_by plan o x parts) none in
-    let is : events_of plan x (parts ++ Run run ∷ []) ≡ raws x (flat_map run_in parts) ++ raw_events x run =
-    ap (λ o. events_by plan o x (parts ++ Run run ∷ [])) none ∙ ap (raws x) (runs_push parts (Run run))
-    ∙ raws_own x (flat_map run_in parts) run (ap (is_source x) e ∙ test_same x x refl) in
     grown_by plan parts (Run run) slots (told (Some x) (raw_events x run))
     (λ y. elim (same_or_not y x) [
       | inl q ↦ subst (λ z. StandsAt plan (parts ++ Run run ∷ []) z (source_at slots z)) (sym q)
@@ -116,10 +104,7 @@ grown_raw plan parts run x slots e n k =
       | inr q ↦ same_at plan parts (Run run) y (source_at slots y)
           (λ kind. laws.other plan kind y parts run (other_run x y run e q)) (k y)
     ])
-    (ap (λ o. added_by plan parts o (Run run)) e
-    ∙ ap (λ l. told (Some x) (drop (length l) (events_of plan x (parts ++ Run run ∷ [])))) was
-    ∙ ap (λ l. told (Some x) (drop (length (raws {V = Heard Packet} x (flat_map run_in parts))) l)) is
-    ∙ ap (told (Some x)) (drop-append_seam (raws x (flat_map run_in parts)) (raw_events x run)))
+    (laws.raw plan x parts run none e)
 
 -- one of a source of its own
 module _ {S : Type 0} (gets : S → Heards → S → Type 0) (room : S →

@@ -4,6 +4,7 @@ use Rattle.trace_values.specs.Placed.{Placed}
 use Rattle.source_events.specs.declared.plan.Plan.{Plan}
 use Rattle.recovery_report.specs.Port.{recovered}
 use Rattle.recovery_report.specs.Report.{parts_in}
+use Rattle.recovery_engine.specs.Counting.{HasCounted}
 use Rattle.recovery_engine.specs.Port.{PortStands}
 use Rattle.recovery_engine.specs.Slots.{StandFor}
 use Rattle.recovery_engine.specs.declared.engine.Recovery.{Recovery}
@@ -15,8 +16,10 @@ plan_of e = e.plan
 abbrev pub count_of : Recovery → ℕ
 count_of e = e.count
 
--- It has read these bytes: its port and its sources stand for what they are in the recovering report.
+-- It has read these bytes: its port and its sources stand for what they are in the recovering report, and it has
+-- counted what the port's stretches have.
 pub record Stands (e : Recovery) (u : List Placed) : Type 0 where
   pub port : PortStands e.plan.frames e.port u
   pub sources : StandFor e.plan (parts_in (recovered e.plan.frames u)) e.slots.items
+  pub counted : HasCounted e.totals (recovered e.plan.frames u)
   pub count : e.count ≡ length u

@@ -2,4 +2,9 @@ pub mod Port
 pub mod Slots
 pub mod Fresh
 pub mod Taking
+pub mod Counting
+pub mod Heard
+pub mod HeardLaws
+pub mod Ends
 pub mod Engine
+pub mod Counted

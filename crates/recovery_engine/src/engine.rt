@@ -2,16 +2,19 @@
 
 ghost use Rattle.std.specs.Prelude.{◌≡◌, ◌+◌, ◌*◌, ◌≤◌};
 ghost use Rattle.recovering_machines.specs.Port.{total_of};
+ghost use Rattle.recovery_engine.specs.Counting.{counted_of};
 ghost use Rattle.recovery_engine.specs.Slots.{total};
 ghost use Rattle.recovery_engine.specs.declared.engine.TheConstants.{GREATEST_OFFSET};
 
+use crate::counts::PortTotals;
+use crate::ends::{port_end, source_tails};
 use crate::port::feed_port;
 use crate::router::take_step;
 use crate::slot::{Slots, slots_of};
 use arrayvec::ArrayVec;
 use recovering_machines::{Hearer, RecoveringPort};
-use source_events::Plan;
-use trace_values::{Cell, FramesMode};
+use source_events::{Plan, PortCounts, Tails};
+use trace_values::{Cell, FramesMode, SourceId};
 
 /// The greatest offset of a byte of a capture.
 pub const GREATEST_OFFSET: u64 = 1 << 36;
@@ -26,12 +29,14 @@ pub struct Recovery {
     plan: Plan,
     port: RecoveringPort,
     slots: Slots,
+    totals: PortTotals,
     /// The cells of the frame that is taken.
     cells: ArrayVec<Cell, 15>,
     /// How many bytes were fed.
     count: u64,
     ghost port_few: { total_of port ≤ 8 * count },
     ghost few: { total slots.items ≤ 60 * count },
+    ghost counted_few: { counted_of totals ≤ 16 * count },
     ghost limit: { count ≤ GREATEST_OFFSET + 1 },
 }
 
@@ -41,7 +46,10 @@ impl Recovery {
     ghost use Rattle.source_events.specs.declared.event.Event.{Event};
     ghost use Rattle.source_events.specs.declared.packet.Packet.{Packet};
     ghost use Rattle.stretch_readings.specs.declared.heard.Heard.{Heard};
-    ghost use Rattle.recovery_report.specs.Report.{report};
+    ghost use Rattle.source_counts.specs.Counts.{bytes_of};
+    ghost use Rattle.recovery_report.specs.Counts.{port_counts_of};
+    ghost use Rattle.recovery_report.specs.Port.{frames_of, recovered};
+    ghost use Rattle.recovery_report.specs.Report.{report, tails_of};
     ghost use Rattle.recovery_engine.specs.Engine.{Stands, count_of, plan_of};
 
     /// An engine before the first byte.
@@ -59,6 +67,7 @@ impl Recovery {
             plan,
             port,
             slots,
+            totals: PortTotals::new(),
             cells: ArrayVec::new(),
             count: 0,
         }
@@ -78,13 +87,41 @@ impl Recovery {
     {
         self.cells.clear();
         let step = feed_port(&mut self.port, self.plan.frames, at, byte, &mut self.cells);
-        take_step(
-            self.slots.as_mut_slice(),
-            at,
-            step,
-            self.cells.as_slice(),
-            out,
-        );
+        let cells = self.cells.as_slice();
+        self.totals.add_step(&step, cells);
+        take_step(self.slots.as_mut_slice(), at, step, cells, out);
         self.count += 1;
+    }
+
+    /// How many bytes a source has in the frames of all stretches.
+    pub fn bytes(&self, id: SourceId) -> u64
+        ensures { (u : List Placed) → Stands self.now u →
+            result ≡ bytes_of id (frames_of (recovered (plan_of self.now).frames u)) }
+    {
+        self.totals.bytes(id)
+    }
+
+    /// How many synchronisations and frames the port has in all its stretches. Half synchronisations inside a frame
+    /// that a fault breaks, or that is not finished, are counted too.
+    pub fn port_counts(&self) -> PortCounts
+        ensures { (u : List Placed) → Stands self.now u → result ≡ port_counts_of (plan_of self.now) u }
+    {
+        self.totals.port_counts()
+    }
+
+    /// How the capture ends here: how the last stretch of its port and of each mapped source was read, what all
+    /// stretches skipped, and what is left over of the last.
+    pub fn finish(&self) -> Tails
+        ensures { (u : List Placed) → Stands self.now u → result ≡ tails_of (plan_of self.now) u }
+    {
+        let port = port_end(&self.port, self.plan.frames);
+        Tails {
+            bytes: self.count,
+            mode: port.mode,
+            skipped: port.skipped,
+            tail: port.tail,
+            unattributed: self.totals.unattributed(),
+            sources: source_tails(&self.plan, self.slots.as_slice()),
+        }
     }
 }

@@ -1,9 +1,15 @@
 //! The reading of a capture with all its sources, which goes on after each fault.
 #![tactic(auto)]
 
+mod counting;
+mod counts;
+mod ends;
 mod engine;
+mod heard_counts;
 mod port;
 mod router;
 mod slot;
 
+pub use counting::CountingRecovery;
 pub use engine::{GREATEST_OFFSET, Recovery};
+pub use heard_counts::HeardCounts;

@@ -5,6 +5,7 @@ ghost use Rattle.trace_values.specs.Placed.{Placed, byte_at};
 ghost use Rattle.trace_values.specs.declared.limits.TheConstants.{COUNT_ROOM};
 ghost use Rattle.deformatter.specs.PortReading.{bare_cell};
 ghost use Rattle.recovering_machines.specs.Port.{total_of};
+ghost use Rattle.recovery_report.specs.Counts.{CountsGrow};
 ghost use Rattle.recovery_report.specs.Port.{recovered};
 ghost use Rattle.recovery_report.specs.Report.{parts_in};
 ghost use Rattle.recovery_report.specs.Words.{parts_by};
@@ -52,6 +53,8 @@ pub fn feed_port(
     ensures parts { (u : List Placed) → PortStands mode port.old u →
         parts_in (recovered mode (u ++ byte_at at byte ∷ []))
         ≡ parts_in (recovered mode u) ++ parts_by 0 at result out.new.items }
+    ensures counted { (u : List Placed) → PortStands mode port.old u →
+        CountsGrow (recovered mode u) (recovered mode (u ++ byte_at at byte ∷ [])) result out.new.items }
     ensures few { total_of port.new ≤ total_of port.old + 8 }
 {
     match mode {

@@ -1,3 +1,4 @@
 pub mod PartLaws
 pub mod PortLaws
+pub mod CountLaws
 pub mod Sounds

@@ -1,7 +1,7 @@
 -- One more part.
 use Rattle.std.proofs.Common.{◌≡◌, ℕ, List, [], ◌∷◌, ◌++◌, length, drop, refl, sym, ◌∙◌, ap, append_assoc}
-use Rattle.std.proofs.Common.{append-nil, Some, false}
-use Rattle.std.specs.Prelude.{map, if◌then◌else◌}
+use Rattle.std.proofs.Common.{append-nil, None, Some, false}
+use Rattle.std.specs.Prelude.{map, flat_map, if◌then◌else◌}
 use Rattle.std.proofs.lemmas.Grind.{flat_map-append}
 use Rattle.std.proofs.Math.Seq.{drop-append_seam}
 use Rattle.trace_values.specs.declared.cell.Cell.{Cell}
@@ -9,19 +9,22 @@ use Rattle.trace_values.specs.declared.fault.Reason.{Reason}
 use Rattle.trace_values.specs.Placed.{Place}
 use Rattle.frame_grammar.specs.Reading.{is_source}
 use Rattle.trace_values.specs.ReadingModes.{packets_hunt}
+use Rattle.source_events.specs.declared.packet.Packet.{Packet}
 use Rattle.source_events.specs.declared.plan.Plan.{Plan}
 use Rattle.source_events.specs.declared.plan.SourceKind.{SourceKind}
 use Rattle.source_events.specs.Merge.{told}
 use Rattle.source_events.specs.Plan.{kind_of}
-use Rattle.source_events.specs.Report.{lifted}
+use Rattle.source_events.specs.Report.{lifted, raw_events, raws}
 use Rattle.source_events.specs.Runs.{id_of}
 use Rattle.stretch_readings.proofs.StretchLaws.{from_append}
 use Rattle.stretch_readings.specs.Stretches.{One, fed_from, before, parted, from_fault}
 use Rattle.recovering_machines.specs.Run.{units_in}
 use Rattle.source_machine.specs.Units.{reads_by}
+use Rattle.source_events.proofs.Family.{raws_own}
 use Rattle.source_events.proofs.Merges.{test_same}
+use Rattle.stretch_readings.specs.declared.heard.Heard.{Heard}
 use Rattle.recovering_machines.proofs.Runs.{lifted_append}
-use Rattle.recovery_report.specs.Report.{Part, Run, Locks, Breaks, added, added_by, report_from, fed_by}
+use Rattle.recovery_report.specs.Report.{Part, Run, Locks, Breaks, added, added_by, report_from, fed_by, run_in}
 use Rattle.recovery_report.specs.Report.{list_of, stretches_of, stream_of, events_of, events_by}
 use Rattle.recovery_report.specs.Words.{OwnRun}
 
@@ -86,3 +89,19 @@ own plan kind x parts run k i = record {
       ∙ ap (λ l. told (Some x) (drop (length (lifted (stream_of plan kind x parts).given)) l)) is
       ∙ ap (told (Some x)) (drop-append_seam (lifted (stream_of plan kind x parts).given) (lifted said));
 }
+
+-- a run of a source that is not mapped
+runs_push : (parts : List Part) (m : Part) → flat_map run_in (parts ++ m ∷ []) ≡ flat_map run_in parts ++ run_in m
+runs_push parts m = flat_map-append run_in parts (m ∷ []) ∙ ap (λ l. flat_map run_in parts ++ l) (append-nil (run_in m))
+
+pub raw : (plan : Plan) (x : ℕ) (parts : List Part) (run : List Cell) → kind_of plan x ≡ None → id_of run ≡ Some x →
+    added plan parts (Run run) ≡ told (Some x) (raw_events x run)
+raw plan x parts run none e =
+    let was : events_of plan x parts ≡ raws x (flat_map run_in parts) = ap (λ o. events_by plan o x parts) none in
+    let is : events_of plan x (parts ++ Run run ∷ []) ≡ raws x (flat_map run_in parts) ++ raw_events x run =
+    ap (λ o. events_by plan o x (parts ++ Run run ∷ [])) none ∙ ap (raws x) (runs_push parts (Run run))
+    ∙ raws_own x (flat_map run_in parts) run (ap (is_source x) e ∙ test_same x x refl) in
+    ap (λ o. added_by plan parts o (Run run)) e
+    ∙ ap (λ l. told (Some x) (drop (length l) (events_of plan x (parts ++ Run run ∷ [])))) was
+    ∙ ap (λ l. told (Some x) (drop (length (raws {V = Heard Packet} x (flat_map run_in parts))) l)) is
+    ∙ ap (told (Some x)) (drop-append_seam (raws x (flat_map run_in parts)) (raw_events x run))

@@ -2,3 +2,4 @@ pub mod Port
 pub mod Report
 pub mod Rows
 pub mod Words
+pub mod Counts

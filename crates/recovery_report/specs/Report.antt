@@ -131,7 +131,7 @@ abbrev pub tail_by : Plan → List Part → ℕ → Option SourceKind → List S
 tail_by plan parts x None = []
 tail_by plan parts x (Some kind) = tail_of plan parts x kind ∷ []
 
-abbrev pub source_tails : Plan → List Part → ℕ → List SourceTail
+unfoldable pub source_tails : Plan → List Part → ℕ → List SourceTail
 source_tails plan parts ids = flat_map (λ x. tail_by plan parts x (kind_of plan x)) (range_with_len 0 ids)
 
 -- how a capture ends

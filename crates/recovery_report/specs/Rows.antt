@@ -20,6 +20,9 @@ use Rattle.source_events.specs.declared.tails.Tails.{Tails}
 use Rattle.source_machine.specs.Units.{reads_by}
 use Rattle.stretch_readings.specs.declared.heard.Heard.{Heard}
 use Rattle.stretch_readings.specs.Stretches.{One, Resumption, recovering}
+use Rattle.source_counts.specs.declared.counts.Counts.{Counts}
+use Rattle.source_events.specs.declared.tails.PortCounts.{PortCounts}
+use Rattle.recovery_report.specs.Counts.{faults_of, port_counts_of, source_counts_of}
 use Rattle.recovery_report.specs.Report.{report, tails_of}
 
 -- source 1 is of ITM
@@ -45,6 +48,11 @@ row_of plan text = record {
   events = map (λ e. (e.at, e.half, e.source, e.what)) (report plan (placed (hex text)));
   end = tails_of plan (placed (hex text));
 }
+
+-- what is counted of a capture: its faults, its synchronisations and frames, and how much a source sent
+abbrev pub counts_row : Plan → ℕ → List ℕ → ℕ × PortCounts × Counts
+counts_row plan x text =
+    let u = placed (hex text) in (faults_of plan u, port_counts_of plan u, source_counts_of plan u x)
 
 -- how a capture ends with nothing left over, and each byte with its source; and source 1 of this kind, locked
 abbrev pub ends : ℕ → PortMode → ℕ → List SourceTail → Tails

@@ -15,7 +15,7 @@ ghost use Rattle.source_events.specs.declared.packet.Packet.TheVariants.{Itm, St
 ghost use Rattle.source_events.specs.declared.plan.SourceKind.TheVariants.{Itm as ItmKind, Stp as StpKind};
 ghost use Rattle.source_events.specs.declared.port_mode.PortMode.TheVariants.{Bare, Locked as IsLocked};
 ghost use Rattle.stretch_readings.specs.declared.heard.Heard.TheVariants.{Read, Broken};
-ghost use Rattle.recovery_report.specs.Rows.{ends, itm, raw, source_one, stp, row_of, said_at_next};
+ghost use Rattle.recovery_report.specs.Rows.{counts_row, ends, itm, raw, source_one, stp, row_of, said_at_next};
 
 /// A reserved header: the source hunts again from it on.
 pub fn reserved()
@@ -115,4 +115,29 @@ pub fn read_on_at_the_next_byte()
           ∷ (Kept (Read (Itm Overflow)), record { at = 3; half = 0 }) ∷ [],
       1,
     ) }
+{}
+
+/// What is counted: faults and notices of locks are no items, and the frame that a fault breaks is none.
+pub fn counts()
+    ensures source { counts_row (itm FramesBare Aligned) 1 (codes "01 41 04 00 00 00 00 00 80 70") ≡
+        (1, record { fulls = 0; halves = 0; frames = 10 }, record { bytes = 10; items = 3 }) }
+    ensures port { counts_row (raw FramesAligned) 125
+        (codes "03 00 00 00 00 00 FF FF FF 7F " ++ codes "FB 07 01 00 00 00 00 00 00 00 00 00 00 00 00 00") ≡
+        (1, record { fulls = 1; halves = 0; frames = 1 }, record { bytes = 1; items = 1 }) }
+{}
+
+/// Half synchronisations inside a frame count where a fault breaks the frame, and where it is not finished.
+pub fn halves_of_no_frame()
+    ensures broken { counts_row (raw FramesAligned) 1 (codes "03 41 FF 7F 00 00 FF FF FF 7F") ≡
+        (1, record { fulls = 1; halves = 1; frames = 0 }, record { bytes = 0; items = 0 }) }
+    ensures unfinished { counts_row (raw FramesAligned) 1 (codes "03 41 FF 7F 00 00") ≡
+        (0, record { fulls = 0; halves = 1; frames = 0 }, record { bytes = 0; items = 0 }) }
+{}
+
+/// A fault of the port cuts the source, whose bytes and items of all stretches count.
+pub fn counts_of_all_stretches()
+    ensures { counts_row (itm FramesAligned Aligned) 1
+        (codes "03 70 01 03 00 00 00 00 00 00 00 00 00 00 00 02 FF 00 "
+        ++ codes "FF FF FF 7F 03 00 00 00 00 00 80 01 01 41 00 00 00 00 00 10") ≡
+        (1, record { fulls = 1; halves = 0; frames = 2 }, record { bytes = 10; items = 3 }) }
 {}

@@ -1,4 +1,4 @@
-use Rattle.std.proofs.Common.{[]}
+use Rattle.std.proofs.Common.{[], refl}
 use Rattle.source_machine.specs.UnitLaws.{quiet}
 use Rattle.std.proofs.Common.{arith}
 use Rattle.stretch_readings.proofs.Feeding.{given_parted}
@@ -10,8 +10,11 @@ pub returns-clause-list : goal.returns-clause-list
 returns-clause-list c = λ r k.
     let s = c.args.self.now in
     let z = c.hunting_again-self in
-    keeps_parted s.machine z.result s.past s.count r c.skipped.result c.held.result k s.live c.skipped.ensures
-    c.held.ensures z.ensures.reads z.ensures.mode z.ensures.list
+    record {
+      keeps = keeps_parted s.machine z.result s.past s.count r c.skipped.result c.held.result k.keeps s.live
+          c.skipped.ensures c.held.ensures z.ensures.reads z.ensures.mode z.ensures.list;
+      hunts = refl;
+    }
 
 pub returns-clause-given : goal.returns-clause-given
 returns-clause-given c = λ r k. let q = quiet c.args.self.now.machine [] (omega arith) in

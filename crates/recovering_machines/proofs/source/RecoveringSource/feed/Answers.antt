@@ -4,6 +4,7 @@ use Rattle.source_machine.specs.Units.{StandsOn, TakesUnits, units_from}
 use Rattle.stretch_readings.specs.Steps.{said_by, raised}
 use Rattle.recovering_machines.specs.Source.{heard_by}
 use Rattle.recovering_machines.proofs.Bytes.{keeps_falls, given_falls, keeps_goes, given_goes, goes_of, grows}
+use Rattle.recovering_machines.proofs.Bytes.{hunts_falls, hunts_goes}
 use Rattle.recovering_machines.proofs.source.RecoveringSource.feed.Goals as goal
 
 pub returns-in-Fault-clause-list : goal.returns-in-Fault-clause-list
@@ -11,14 +12,18 @@ returns-in-Fault-clause-list c = λ r k.
     let s = c.args.self.now in
     let e = c.feed_units.new.self in
     let z = c.hunting_from-self in
-    keeps_falls s.machine e s.past s.count r k s.live c.args.at c.args.byte c.feed_units.ensures.reads
-    c.feed_units.ensures.mode
-    c.in-Fault.fault (subst (λ x. TakesUnits s.machine e r.now.units c.args.at c.args.byte x) c.in-Fault.is
-    (c.feed_units.ensures.takes r.now.units k.stands)) c.in-Fault.ensures.tells.0
-    z.result c.skipped.result c.held-self.result c.skipped.ensures c.held-self.ensures (z.ensures.reads
-    ∙ c.feed_units.ensures.reads) z.ensures.mode
-    (subst (λ kind. StandsOn z.result (units_from kind c.in-Fault.fault.half c.args.at c.args.byte))
-    c.feed_units.ensures.kind z.ensures.list)
+    let takes = subst (λ x. TakesUnits s.machine e r.now.units c.args.at c.args.byte x) c.in-Fault.is
+    (c.feed_units.ensures.takes r.now.units k.keeps.stands) in
+    record {
+      keeps = keeps_falls s.machine e s.past s.count r k.keeps s.live c.args.at c.args.byte c.feed_units.ensures.reads
+          c.feed_units.ensures.mode c.in-Fault.fault takes c.in-Fault.ensures.tells.0
+          z.result c.skipped.result c.held-self.result c.skipped.ensures c.held-self.ensures
+          (z.ensures.reads ∙ c.feed_units.ensures.reads) z.ensures.mode
+          (subst (λ kind. StandsOn z.result (units_from kind c.in-Fault.fault.half c.args.at c.args.byte))
+          c.feed_units.ensures.kind z.ensures.list);
+      hunts = sym (hunts_falls s.machine e s.past s.count r k.keeps s.live c.args.at c.args.byte
+          c.feed_units.ensures.reads c.feed_units.ensures.mode c.in-Fault.fault takes c.in-Fault.ensures.tells.0);
+    }
 
 pub returns-in-Fault-clause-step : goal.returns-in-Fault-clause-step
 returns-in-Fault-clause-step c = λ r k.
@@ -27,20 +32,20 @@ returns-in-Fault-clause-step c = λ r k.
     record {
       own = Faulty c.in-Fault.fault;
       is = refl;
-      grows = grows s.machine e s.past s.count r k s.live c.args.at c.args.byte c.feed_units.ensures.reads
+      grows = grows s.machine e s.past s.count r k.keeps s.live c.args.at c.args.byte c.feed_units.ensures.reads
           c.feed_units.ensures.mode (Faulty c.in-Fault.fault)
           (subst (λ x. TakesUnits s.machine e r.now.units c.args.at c.args.byte x) c.in-Fault.is
-          (c.feed_units.ensures.takes r.now.units k.stands));
+          (c.feed_units.ensures.takes r.now.units k.keeps.stands));
     }
 
 pub returns-in-Fault-clause-given : goal.returns-in-Fault-clause-given
 returns-in-Fault-clause-given c = λ r k.
     let s = c.args.self.now in
     let e = c.feed_units.new.self in
-    given_falls s.machine e s.past s.count r k s.live c.args.at c.args.byte c.feed_units.ensures.reads
+    given_falls s.machine e s.past s.count r k.keeps s.live c.args.at c.args.byte c.feed_units.ensures.reads
     c.feed_units.ensures.mode
     c.in-Fault.fault (subst (λ x. TakesUnits s.machine e r.now.units c.args.at c.args.byte x) c.in-Fault.is
-    (c.feed_units.ensures.takes r.now.units k.stands)) c.in-Fault.ensures.tells.0
+    (c.feed_units.ensures.takes r.now.units k.keeps.stands)) c.in-Fault.ensures.tells.0
 
 pub returns-in_default : goal.returns-in_default
 returns-in_default c =
@@ -50,18 +55,23 @@ returns-in_default c =
     record {
       kind = c.feed_units.ensures.kind;
       reads = c.feed_units.ensures.reads;
-      list = λ r k. keeps_goes s.machine e s.past s.count r k s.live c.args.at c.args.byte c.feed_units.ensures.reads
+      list = λ r k. record {
+        keeps = keeps_goes s.machine e s.past s.count r k.keeps s.live c.args.at c.args.byte
+            c.feed_units.ensures.reads c.feed_units.ensures.mode
+            c.feed_units.result (c.feed_units.ensures.takes r.now.units k.keeps.stands) on;
+        hunts = k.hunts ∙ sym (hunts_goes s.machine e s.past s.count r k.keeps s.live c.args.at c.args.byte
+            c.feed_units.ensures.reads c.feed_units.ensures.mode
+            c.feed_units.result (c.feed_units.ensures.takes r.now.units k.keeps.stands) on);
+      };
+      given = λ r k. given_goes s.machine e s.past s.count r k.keeps s.live c.args.at c.args.byte c.feed_units.ensures.reads
           c.feed_units.ensures.mode
-          c.feed_units.result (c.feed_units.ensures.takes r.now.units k.stands) on;
-      given = λ r k. given_goes s.machine e s.past s.count r k s.live c.args.at c.args.byte c.feed_units.ensures.reads
-          c.feed_units.ensures.mode
-          c.feed_units.result (c.feed_units.ensures.takes r.now.units k.stands) on
+          c.feed_units.result (c.feed_units.ensures.takes r.now.units k.keeps.stands) on
           ∙ ap (λ x. (heard_by s r).given ++ said_by c.args.at x) (sym c.raised.ensures.value);
       step = λ r k. record {
         own = c.feed_units.result;
-        is = c.raised.ensures.value ∙ ap (λ n. raised n c.feed_units.result) k.count_is;
-        grows = grows s.machine e s.past s.count r k s.live c.args.at c.args.byte c.feed_units.ensures.reads
-            c.feed_units.ensures.mode c.feed_units.result (c.feed_units.ensures.takes r.now.units k.stands);
+        is = c.raised.ensures.value ∙ ap (λ n. raised n c.feed_units.result) k.keeps.count_is;
+        grows = grows s.machine e s.past s.count r k.keeps s.live c.args.at c.args.byte c.feed_units.ensures.reads
+            c.feed_units.ensures.mode c.feed_units.result (c.feed_units.ensures.takes r.now.units k.keeps.stands);
       };
       fits = c.raised.ensures.fits;
       few = (let k = c.feed_units.ensures.few in omega (arith, k));

@@ -1,0 +1,13 @@
+use Rattle.std.proofs.Common.{sym, subst}
+use Rattle.source_counts.specs.Kept.{HasBytes}
+use Rattle.recovery_engine.proofs.PortCounts.{none_yet}
+use Rattle.recovery_engine.proofs.counts.PortTotals.new.Goals as goal
+
+pub returns-clause-fresh : goal.returns-clause-fresh
+returns-clause-fresh c = λ mode.
+    let n = none_yet mode in
+    record {
+      frames = subst (λ l. HasBytes c.new.result l) (sym n.0) c.new.ensures.fresh.bytes;
+      fulls = sym n.1;
+      halves = sym n.2;
+    }

@@ -1,0 +1,16 @@
+-- What counters of events are given adds up: proofs that their `impl` cites.
+use Rattle.std.proofs.Common.{List, [], ◌++◌, sym, subst, append_assoc, append-nil}
+use Rattle.source_events.specs.declared.event.Event.{Event}
+use Rattle.source_events.specs.declared.packet.Packet.{Packet}
+use Rattle.stretch_readings.specs.declared.heard.Heard.{Heard}
+use Rattle.recovery_engine.specs.declared.heard_counts.HeardCounts.{HeardCounts}
+use Rattle.recovery_engine.specs.Heard.{HasHeard, gets}
+
+-- given nothing they are as before
+pub gets_none : (s : HeardCounts) → gets s [] s
+gets_none s = λ before k. subst (λ l. HasHeard s l) (sym (append-nil before)) k
+
+-- given some events and then more, they have counted all of them
+pub gets_more : (a b c : HeardCounts) (es fs : List (Event (Heard Packet))) → gets a es b → gets b fs c →
+    gets a (es ++ fs) c
+gets_more a b c es fs h k = λ before j. subst (λ l. HasHeard c l) (append_assoc before es fs) (k (before ++ es) (h before j))

@@ -1,0 +1,80 @@
+//! What is counted of the port of a recovering engine.
+
+ghost use Rattle.std.specs.Prelude.{◌≡◌, ◌+◌, ◌≤◌, length};
+ghost use Rattle.trace_values.specs.declared.limits.TheConstants.{COUNT_ROOM};
+
+use deformatter::PortStep;
+use source_counts::SourceCounts;
+use source_events::PortCounts;
+use trace_values::{Cell, SourceId};
+
+/// How many bytes each source has in the frames of all stretches, and how many synchronisations these have.
+#[derive(Drop)]
+pub struct PortTotals {
+    frames: SourceCounts,
+    fulls: u64,
+    halves: u64,
+}
+
+impl PortTotals {
+    ghost use Rattle.std.specs.Prelude.{[]};
+    ghost use Rattle.trace_values.specs.declared.reading_modes.FramesMode.{FramesMode};
+    ghost use Rattle.source_counts.specs.Counts.{bytes_of, unattributed_of};
+    ghost use Rattle.recovery_report.specs.Counts.{CountsGrow};
+    ghost use Rattle.recovery_report.specs.Port.{PortStretches, frames_of, fulls_of, halves_of, recovered};
+    ghost use Rattle.recovery_engine.specs.Counting.{HasCounted, counted_of};
+
+    /// Nothing came yet.
+    pub fn new() -> PortTotals
+        ensures fresh { (mode : FramesMode) → HasCounted result (recovered mode []) }
+        ensures none { counted_of result ≡ 0 }
+    {
+        PortTotals {
+            frames: SourceCounts::new(),
+            fulls: 0,
+            halves: 0,
+        }
+    }
+
+    /// Counts what a step of the port ends: a frame of these cells, or a synchronisation.
+    pub fn add_step(&mut self, step: &PortStep, cells: &[Cell])
+        requires size { length cells.now ≤ 15 }
+        requires room { counted_of self.old + 16 ≤ COUNT_ROOM }
+        ensures counted { (old new : PortStretches) → CountsGrow old new step.now cells.now → HasCounted self.old old →
+            HasCounted self.new new }
+        ensures more { counted_of self.new ≤ counted_of self.old + 16 }
+    {
+        match step {
+            PortStep::Frame => self.frames.add_frame(cells),
+            PortStep::Full | PortStep::Locked { .. } => self.fulls += 1,
+            PortStep::Half => self.halves += 1,
+            PortStep::Quiet | PortStep::Fault(_) => {}
+        }
+    }
+
+    /// How many bytes a source has.
+    pub fn bytes(&self, id: SourceId) -> u64
+        ensures { (r : PortStretches) → HasCounted self.now r → result ≡ bytes_of id (frames_of r) }
+    {
+        self.frames.of(id).bytes
+    }
+
+    /// How many bytes of frames have no source.
+    pub fn unattributed(&self) -> u64
+        ensures { (r : PortStretches) → HasCounted self.now r → result ≡ unattributed_of (frames_of r) }
+    {
+        self.frames.unattributed()
+    }
+
+    /// How many synchronisations and frames there are.
+    pub fn port_counts(&self) -> PortCounts
+        ensures { (r : PortStretches) → HasCounted self.now r →
+            result ≡ record { fulls = fulls_of r; halves = halves_of r; frames = length (frames_of r) } }
+    {
+        PortCounts {
+            fulls: self.fulls,
+            halves: self.halves,
+            frames: self.frames.frames(),
+        }
+    }
+}

@@ -1,0 +1,88 @@
+//! Counts the events of a recovering report.
+
+ghost use Rattle.std.specs.Prelude.{◌≡◌, [], ℕ, ◌+◌, ◌<◌, ◌≤◌, slice_index, if◌then◌else◌};
+ghost use Rattle.trace_values.specs.declared.limits.TheConstants.{COUNT_ROOM};
+ghost use Rattle.std.specs.Prelude.{Some};
+ghost use Rattle.source_events.specs.Merge.{is_of};
+
+use recovering_machines::Hearer;
+use source_events::{Event, Packet, What};
+use stretch_readings::Heard;
+use trace_values::{ID_COUNT, SourceId};
+
+/// Takes events, and counts the items of each source, and the faults. Notices of locks are neither.
+#[derive(Debug, Drop)]
+pub struct HeardCounts {
+    items: [u64; ID_COUNT],
+    faults: u64,
+}
+
+impl HeardCounts {
+    ghost use Rattle.std.specs.Prelude.{List};
+    ghost use Rattle.source_events.specs.declared.event.Event.{Event};
+    ghost use Rattle.source_events.specs.declared.packet.Packet.{Packet};
+    ghost use Rattle.stretch_readings.specs.declared.heard.Heard.{Heard};
+    ghost use Rattle.recovery_report.specs.Counts.{faults_in, items_in};
+    ghost use Rattle.recovery_engine.specs.Heard.{HasHeard, heard_of};
+
+    /// No event came yet.
+    pub fn new() -> HeardCounts
+        ensures fresh { HasHeard result [] }
+        ensures none { heard_of result ≡ 0 }
+    {
+        HeardCounts {
+            items: [0; ID_COUNT],
+            faults: 0,
+        }
+    }
+
+    /// How many items a source has.
+    pub fn items(&self, id: SourceId) -> u64
+        ensures { (es : List (Event (Heard Packet))) → HasHeard self.now es → result ≡ items_in id es }
+    {
+        self.items[usize::from(id.number())]
+    }
+
+    /// How many faults the port and all sources have.
+    pub fn faults(&self) -> u64
+        ensures { (es : List (Event (Heard Packet))) → HasHeard self.now es → result ≡ faults_in es }
+    {
+        self.faults
+    }
+
+    /// Counts an item of a source; one of the port is none.
+    fn add_item(&mut self, source: Option<SourceId>)
+        requires room { heard_of self.old < COUNT_ROOM }
+        ensures items { (x : ℕ) → slice_index self.new.items x ≡
+            slice_index self.old.items x + (if is_of (Some x) source then 1 else 0) }
+        ensures faults { self.new.faults ≡ self.old.faults }
+        ensures more { heard_of self.new ≤ heard_of self.old + 1 }
+    {
+        if let Some(id) = source {
+            self.items[usize::from(id.number())] += 1;
+        }
+    }
+}
+
+impl Hearer for HeardCounts {
+    ghost use Rattle.recovery_engine.specs.Heard.{gets, room};
+    ghost use Rattle.recovery_engine.specs.HeardLaws.{gets_more, gets_none};
+
+    ghost gets = { gets };
+
+    ghost room = { room };
+
+    ghost gets_none = { gets_none };
+
+    ghost gets_more = { gets_more };
+
+    fn hear(&mut self, event: Event<Heard<Packet>>) {
+        match event.what {
+            What::Locked(_) => {}
+            What::Packet(Heard::Broken(_)) => self.faults += 1,
+            What::Packet(Heard::Read(_)) | What::Raw(_) | What::Trigger(_) => {
+                self.add_item(event.source);
+            }
+        }
+    }
+}

@@ -1,0 +1,19 @@
+//! Laws of recovering reports beside strict ones, over their definitions alone.
+
+ghost use Rattle.std.specs.Prelude.{◌≡◌, ℕ, List, None, true};
+ghost use Rattle.trace_values.specs.Placed.{Placed};
+ghost use Rattle.deformatter.specs.PortReading.{port_reading};
+ghost use Rattle.deformatter.specs.Rising.{BytesRise};
+ghost use Rattle.source_events.specs.declared.plan.Plan.{Plan};
+ghost use Rattle.source_events.specs.Plan.{is_sound, sources_by};
+ghost use Rattle.source_events.specs.Report.{stop_in};
+ghost use Rattle.recovery_laws.specs.Strict.{EndsAsStrict, IsStrictBefore};
+
+/// Of bytes at rising offsets, the recovering report is the strict one up to its first fault, which is the strict
+/// report's. Where the strict report has no fault both are the same, and so are all counts and the ends.
+pub fn strict_law()
+    ensures before { (plan : Plan) (n k : ℕ) (u : List Placed) → is_sound plan ≡ true → BytesRise n k u →
+        IsStrictBefore plan u }
+    ensures ends { (plan : Plan) (n k : ℕ) (u : List Placed) → is_sound plan ≡ true → BytesRise n k u →
+        stop_in (sources_by plan) (port_reading plan.frames u) ≡ None → EndsAsStrict plan u }
+{}

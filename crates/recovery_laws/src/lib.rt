@@ -1,0 +1,4 @@
+//! Laws of recovering reports beside strict ones.
+#![tactic(auto)]
+
+pub mod laws;
