@@ -24,12 +24,12 @@ use Rattle.capture_words.specs.Command.{option_name}
 use Rattle.capture_words.specs.declared.option.CommandOption.{CommandOption}
 use Rattle.capture_words.specs.declared.option.CommandOption.TheVariants.{Frames, Packets, Itm, Stp, StpOrder, Id}
 use Rattle.capture_words.specs.declared.option.CommandOption.TheVariants.{Only, Window, Sync, Half, Limit, Items}
-use Rattle.capture_words.specs.declared.option.CommandOption.TheVariants.{Lose, Size, Pointer, Full}
+use Rattle.capture_words.specs.declared.option.CommandOption.TheVariants.{Lose, Size, Pointer, Full, Port as PortOption}
 use Rattle.capture_words.specs.declared.usage.UsageFault.{UsageFault}
 use Rattle.capture_words.specs.declared.usage.UsageFault.TheVariants.{UnknownAction, BadValue}
 use Rattle.capture_words.specs.declared.values.ActionName.{ActionName}
 use Rattle.capture_words.specs.declared.values.ActionName.TheVariants.{Show, Split, Check, Rebuild, Exercise}
-use Rattle.capture_words.specs.declared.values.ActionName.TheVariants.{Realign, Ring, Unring}
+use Rattle.capture_words.specs.declared.values.ActionName.TheVariants.{Realign, Ring, Unring, Text as TextName}
 
 -- the action that a text names
 abbrev pub action_named : Text → Option ActionName
@@ -42,6 +42,7 @@ action_named text =
     else if bytes_eq text (codes "realign") then Some Realign
     else if bytes_eq text (codes "ring") then Some Ring
     else if bytes_eq text (codes "unring") then Some Unring
+    else if bytes_eq text (codes "text") then Some TextName
     else None
 
 -- the order of nibbles that a text names
@@ -172,6 +173,10 @@ pointer_in = number_given Pointer 0 0 GREATEST_POINTER
 
 abbrev pub full_in : List Row → Result Bool UsageFault
 full_in = option_in Full false bit_named
+
+-- the stimulus port whose bytes are written, 0 by default
+abbrev pub port_in : List Row → Result ℕ UsageFault
+port_in = number_given PortOption 0 0 31
 
 abbrev pub limit_in : List Row → Result ℕ UsageFault
 limit_in = number_given Limit GREATEST_LIMIT 1 GREATEST_LIMIT

@@ -3,10 +3,10 @@
 ghost use Rattle.std.specs.Prelude.{◌≡◌, ◌≤◌, true, IfOk, IfSome};
 ghost use Rattle.std.specs.List.{All};
 ghost use Rattle.capture_words.specs.declared.values.TheConstants.{GREATEST_LIMIT, GREATEST_HALF, GREATEST_ITEMS};
-ghost use Rattle.capture_words.specs.declared.values.TheConstants.{GREATEST_LOSS, LEAST_SIZE, GREATEST_SIZE};
+ghost use Rattle.capture_words.specs.declared.values.TheConstants.{GREATEST_LOSS, LEAST_SIZE, GREATEST_SIZE, GREATEST_PORT};
 ghost use Rattle.clap.specs.Words.{rows_of, found_of};
 ghost use Rattle.source_events.specs.Plan.{is_sound};
-ghost use Rattle.capture_words.specs.Jobs.{plan_with, split_with, ring_with, unring_with};
+ghost use Rattle.capture_words.specs.Jobs.{plan_with, split_with, ring_with, unring_with, text_with};
 ghost use Rattle.capture_words.specs.Jobs.{task_with, job_of, IsSoundTask};
 
 use crate::ids::mapped_twice;
@@ -15,7 +15,7 @@ use crate::usage::UsageFault;
 use crate::values::{ActionName, action_in};
 use clap::ArgMatches;
 use item_tap::{Bounds, Choice};
-use source_events::Plan;
+use source_events::{Plan, SourceIds};
 use trace_values::{FramesMode, SourceId};
 
 /// What is done with a capture.
@@ -70,6 +70,13 @@ pub enum Task {
         pointer: usize,
         /// Whether the buffer took as many bytes as it has, or more, so that its oldest byte is that at the pointer.
         full: bool,
+    },
+    /// What software wrote to a stimulus port.
+    Text {
+        /// How the capture is read. It maps one source, which sends ITM packets.
+        plan: Plan,
+        /// The port, 0 to 31.
+        port: u8,
     },
 }
 
@@ -139,6 +146,29 @@ fn unring_with(buffer: BufferSettings) -> Result<Task, UsageFault>
     }
 }
 
+/// What software wrote to a port of a source, which is needed and alone.
+fn text_with(plan: Plan, port: u8) -> Result<Task, UsageFault>
+    requires itm { All (λ n. (1 ≤ n) × (n ≤ 111)) plan.itm }
+    requires port { port ≤ GREATEST_PORT }
+    ensures task { result ≡ text_with plan.itm plan port }
+    ensures sound { IfOk result IsSoundTask }
+{
+    match plan.itm.as_slice().len() {
+        0 => Err(UsageFault::TextNeedsItm),
+        1 => Ok(Task::Text {
+            plan: Plan {
+                frames: plan.frames,
+                packets: plan.packets,
+                itm: plan.itm,
+                stp: SourceIds::new(),
+                order: plan.order,
+            },
+            port,
+        }),
+        _ => Err(UsageFault::TextReadsOneSource),
+    }
+}
+
 /// The task of an action, with what it needs of the options.
 fn task_with(name: ActionName, settings: Settings) -> Result<Task, UsageFault>
     requires itm { All (λ n. (1 ≤ n) × (n ≤ 111)) settings.plan.itm }
@@ -146,6 +176,7 @@ fn task_with(name: ActionName, settings: Settings) -> Result<Task, UsageFault>
     requires half { settings.half ≤ GREATEST_HALF }
     requires items { (1 ≤ settings.items) × (settings.items ≤ GREATEST_ITEMS) }
     requires lose { settings.lose ≤ GREATEST_LOSS }
+    requires port { settings.port ≤ GREATEST_PORT }
     requires size { IfSome settings.buffer.size (λ n. (LEAST_SIZE ≤ n) × (n ≤ GREATEST_SIZE)) }
     ensures task { result ≡ task_with name settings }
     ensures sound { IfOk result IsSoundTask }
@@ -170,6 +201,7 @@ fn task_with(name: ActionName, settings: Settings) -> Result<Task, UsageFault>
         ActionName::Realign => Ok(Task::Realign),
         ActionName::Ring => ring_with(settings.buffer.size),
         ActionName::Unring => unring_with(settings.buffer),
+        ActionName::Text => text_with(settings.plan, settings.port),
     }
 }
 

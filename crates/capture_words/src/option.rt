@@ -38,10 +38,12 @@ pub enum CommandOption {
     Pointer,
     /// `--full`: whether a trace buffer has taken as many bytes as it has, or more.
     Full,
+    /// `--port`: the stimulus port whose text is written.
+    Port,
 }
 
 /// The options, in that order.
-pub(crate) const ALL_OPTIONS: [CommandOption; 16] = [
+pub(crate) const ALL_OPTIONS: [CommandOption; 17] = [
     CommandOption::Frames,
     CommandOption::Packets,
     CommandOption::Itm,
@@ -58,6 +60,7 @@ pub(crate) const ALL_OPTIONS: [CommandOption; 16] = [
     CommandOption::Size,
     CommandOption::Pointer,
     CommandOption::Full,
+    CommandOption::Port,
 ];
 
 impl CommandOption {
@@ -83,6 +86,7 @@ impl CommandOption {
             CommandOption::Size => "size",
             CommandOption::Pointer => "pointer",
             CommandOption::Full => "full",
+            CommandOption::Port => "port",
         }
     }
 
@@ -142,6 +146,8 @@ impl CommandOption {
                 "Whether the trace buffer of unring took as many bytes as it has, or more: 0 (no, the default) or \
                 1 (yes)"
             }
+            CommandOption::Port =>
+                "The stimulus port whose bytes text writes: 0 (the default) to 31",
         }
     }
 }

@@ -13,14 +13,16 @@ ghost use Rattle.item_tap.specs.declared.choice.Kind.TheVariants.{Itm as ItmKind
 ghost use Rattle.item_tap.specs.declared.choice.Kind.TheVariants.{Raw as RawKind, Trigger as TriggerKind};
 ghost use Rattle.capture_words.specs.Rows.{does, lists, faults, AllAnswered, Refuses, planned};
 ghost use Rattle.capture_words.specs.declared.job.Task.TheVariants.{Show, Split, Check, Rebuild, Exercise};
-ghost use Rattle.capture_words.specs.declared.job.Task.TheVariants.{Realign, Ring, Unring};
+ghost use Rattle.capture_words.specs.declared.job.Task.TheVariants.{Realign, Ring, Unring, Text};
 ghost use Rattle.capture_words.specs.declared.option.CommandOption.TheVariants.{Frames, Packets, Itm, Stp, StpOrder};
 ghost use Rattle.capture_words.specs.declared.option.CommandOption.TheVariants.{Id, Only, Window, Sync};
 ghost use Rattle.capture_words.specs.declared.option.CommandOption.TheVariants.{Half, Limit, Items, Lose};
 ghost use Rattle.capture_words.specs.declared.option.CommandOption.TheVariants.{Size, Pointer, Full};
+ghost use Rattle.capture_words.specs.declared.option.CommandOption.TheVariants.{Port as PortOption};
 ghost use Rattle.capture_words.specs.declared.usage.UsageFault.TheVariants.{UnknownAction, BadValue, SplitNeedsId};
 ghost use Rattle.capture_words.specs.declared.usage.UsageFault.TheVariants.{MappedTwice, RingNeedsSize};
-ghost use Rattle.capture_words.specs.declared.usage.UsageFault.TheVariants.{UnringNeedsSize, PointerNotUnderSize};
+ghost use Rattle.capture_words.specs.declared.usage.UsageFault.TheVariants.{UnringNeedsSize, PointerNotUnderSize, TextNeedsItm};
+ghost use Rattle.capture_words.specs.declared.usage.UsageFault.TheVariants.{TextReadsOneSource};
 
 /// Words that ask for a job, in several orders and spellings.
 pub fn asks()
@@ -85,6 +87,11 @@ pub fn asks()
         does (codes "unring --size 16777216 --pointer 16777215 --full 1 --limit 3")
         (Unring 16777216 16777215 true) 3 ∷
         does (codes "unring --size 17 --id 5 --sync 1 --itm 5 --stp 5") (Unring 17 0 false) 68719476736 ∷ []) }
+    ensures text { AllAnswered (
+        does (codes "text --itm 1") (Text (planned FramesHunt PacketsHunt (1 ∷ []) [] Msn) 0) 68719476736 ∷
+        does (codes "text --itm 111 --port 31 --frames bare --packets aligned --limit 5 --stp 2,2,111")
+        (Text (planned Bare PacketsAligned (111 ∷ []) [] Msn) 31) 5 ∷
+        does (codes "show --port 5") (Show (planned FramesHunt PacketsHunt [] [] Msn) None None) 68719476736 ∷ []) }
     ensures split { AllAnswered (
         does (codes "split --id 5") (Split FramesHunt 5) 68719476736 ∷
         does (codes "split --frames aligned --id 0") (Split FramesAligned 0) 68719476736 ∷
@@ -138,6 +145,8 @@ pub fn misuses()
         faults (codes "unring --size 16 --full 2") (BadValue Full) ∷
         faults (codes "ring --size 16 --full 01") (BadValue Full) ∷
         faults (codes "realign --full yes") (BadValue Full) ∷
+        faults (codes "text --itm 1 --port 32") (BadValue PortOption) ∷
+        faults (codes "show --port 01") (BadValue PortOption) ∷
         faults (codes "unring --size 16 --limit 0") (BadValue Limit) ∷
         faults (codes "check --limit 0") (BadValue Limit) ∷
         faults (codes "show --limit 68719476737") (BadValue Limit) ∷
@@ -192,6 +201,7 @@ pub fn misuses()
         faults (codes "check --pointer x --size x") (BadValue Size) ∷
         faults (codes "check --full x --pointer x") (BadValue Pointer) ∷
         faults (codes "ring --full x") (BadValue Full) ∷
+        faults (codes "ring --port x --full x") (BadValue Full) ∷
         faults (codes "split") SplitNeedsId ∷
         faults (codes "split --limit x") (BadValue Limit) ∷
         faults (codes "show --itm 5 --stp 5") (MappedTwice 5) ∷
@@ -201,7 +211,10 @@ pub fn misuses()
         faults (codes "ring --itm 5 --stp 5 --pointer 4") RingNeedsSize ∷
         faults (codes "unring --pointer 16777215 --full 1") UnringNeedsSize ∷
         faults (codes "unring --size 16 --pointer 16") PointerNotUnderSize ∷
-        faults (codes "unring --pointer 99 --size 98 --full 1") PointerNotUnderSize ∷ []) }
+        faults (codes "unring --pointer 99 --size 98 --full 1") PointerNotUnderSize ∷
+        faults (codes "text --stp 2") TextNeedsItm ∷
+        faults (codes "text --itm 1,2") TextReadsOneSource ∷
+        faults (codes "text --itm 1,1 --port 3") TextReadsOneSource ∷ []) }
 {}
 
 /// Words that `clap` refuses, and what for.

@@ -4,14 +4,14 @@ ghost use Rattle.std.specs.Prelude.{◌≡◌, ◌≤◌, ℕ, Option, IfOk, IfS
 ghost use Rattle.std.specs.List.{All};
 ghost use Rattle.capture_words.specs.declared.values.TheConstants.{GREATEST_LIMIT, GREATEST_SYNC, GREATEST_HALF};
 ghost use Rattle.capture_words.specs.declared.values.TheConstants.{GREATEST_ITEMS, GREATEST_LOSS};
-ghost use Rattle.capture_words.specs.declared.values.TheConstants.{LEAST_SIZE, GREATEST_SIZE};
+ghost use Rattle.capture_words.specs.declared.values.TheConstants.{LEAST_SIZE, GREATEST_SIZE, GREATEST_PORT};
 ghost use Rattle.clap.specs.Words.{rows_of, found_of};
 ghost use Rattle.capture_words.specs.Settings.{plan_in, buffer_in, settings_in};
 
 use crate::usage::UsageFault;
 use crate::values::{
     frames_in, full_in, half_in, id_in, items_in, itm_in, limit_in, lose_in, only_in, order_in,
-    packets_in, pointer_in, size_in, stp_in, sync_in, window_in,
+    packets_in, pointer_in, port_in, size_in, stp_in, sync_in, window_in,
 };
 use clap::ArgMatches;
 use item_tap::{Bounds, Choice};
@@ -52,6 +52,8 @@ pub struct Settings {
     pub lose: u32,
     /// A trace buffer.
     pub buffer: BufferSettings,
+    /// The stimulus port whose bytes are written.
+    pub port: u8,
 }
 
 /// How a capture is read, by the first five options.
@@ -92,6 +94,7 @@ pub fn settings_in(matches: &ArgMatches<'_>) -> Result<Settings, UsageFault>
     ensures items { IfOk result (λ s. (1 ≤ s.items) × (s.items ≤ GREATEST_ITEMS)) }
     ensures lose { IfOk result (λ s. s.lose ≤ GREATEST_LOSS) }
     ensures size { IfOk result (λ s. IfSome s.buffer.size (λ n. (LEAST_SIZE ≤ n) × (n ≤ GREATEST_SIZE))) }
+    ensures port { IfOk result (λ s. s.port ≤ GREATEST_PORT) }
 {
     Ok(Settings {
         plan: plan_in(matches)?,
@@ -104,5 +107,6 @@ pub fn settings_in(matches: &ArgMatches<'_>) -> Result<Settings, UsageFault>
         items: items_in(matches)?,
         lose: lose_in(matches)?,
         buffer: buffer_in(matches)?,
+        port: port_in(matches)?,
     })
 }

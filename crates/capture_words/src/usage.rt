@@ -29,6 +29,10 @@ pub enum UsageFault {
     UnringNeedsSize,
     /// The action is `unring`, and the write pointer isn't under the size.
     PointerNotUnderSize,
+    /// The action is `text`, and `--itm` is absent.
+    TextNeedsItm,
+    /// The action is `text`, and `--itm` has more than one ID.
+    TextReadsOneSource,
 }
 
 /// The text of these parts, one after another.
@@ -59,6 +63,8 @@ impl UsageFault {
             UsageFault::RingNeedsSize => joined("usage: ring needs --size\n", "", ""),
             UsageFault::UnringNeedsSize => joined("usage: unring needs --size\n", "", ""),
             UsageFault::PointerNotUnderSize => joined("usage: pointer isn't under size\n", "", ""),
+            UsageFault::TextNeedsItm => joined("usage: text needs --itm\n", "", ""),
+            UsageFault::TextReadsOneSource => joined("usage: text reads one source\n", "", ""),
         }
     }
 }

@@ -7,7 +7,7 @@ ghost use Rattle.capture_words.specs.Command.{option_name};
 ghost use Rattle.capture_words.specs.Values.{action_named, order_named, bit_named, action_in, frames_in, packets_in};
 ghost use Rattle.capture_words.specs.Values.{number_if_given, itm_in, stp_in, order_in, id_in, only_in, window_in};
 ghost use Rattle.capture_words.specs.Values.{number_given, sync_in, half_in, limit_in, items_in, lose_in, size_in};
-ghost use Rattle.capture_words.specs.Values.{pointer_in, full_in, option_in, ids_named};
+ghost use Rattle.capture_words.specs.Values.{pointer_in, full_in, option_in, ids_named, port_in};
 
 use crate::choices::{choice_named, window_named};
 use crate::ids::ids_named;
@@ -41,6 +41,8 @@ pub const LEAST_SIZE: u32 = 16;
 pub const GREATEST_SIZE: u32 = 1 << 24;
 /// The greatest write pointer of a trace buffer, that of the last byte of the greatest; it is 0 where none is given.
 pub const GREATEST_POINTER: u32 = (1 << 24) - 1;
+/// The greatest stimulus port.
+pub const GREATEST_PORT: u8 = 31;
 
 /// The action that a word names.
 #[derive(Clone, Copy, Drop)]
@@ -61,6 +63,8 @@ pub enum ActionName {
     Ring,
     /// `unring`
     Unring,
+    /// `text`
+    Text,
 }
 
 impl ActionName {
@@ -77,6 +81,7 @@ impl ActionName {
             "realign" => Some(ActionName::Realign),
             "ring" => Some(ActionName::Ring),
             "unring" => Some(ActionName::Unring),
+            "text" => Some(ActionName::Text),
             _ => None,
         }
     }
@@ -118,7 +123,8 @@ fn text_of<'a>(matches: &ArgMatches<'a>, option: CommandOption) -> Option<&'a st
     text_named(matches, option.name())
 }
 
-/// The action: `show`, `split`, `check`, `rebuild`, `exercise`, `realign`, `ring` or `unring`.
+/// The action: `show`, `split`, `check`, `rebuild`, `exercise`, `realign`, `ring`, `unring` or
+/// `text`.
 pub fn action_in(matches: &ArgMatches<'_>) -> Result<ActionName, UsageFault>
     ensures { result ≡ action_in (rows_of (found_of matches.now)) }
 {
@@ -332,6 +338,15 @@ pub fn full_in(matches: &ArgMatches<'_>) -> Result<bool, UsageFault>
         None => Ok(false),
         Some(text) => bit_named(text).ok_or(UsageFault::BadValue(CommandOption::Full)),
     }
+}
+
+/// The stimulus port whose bytes are written: 0 to 31, and 0 where it is absent.
+pub fn port_in(matches: &ArgMatches<'_>) -> Result<u8, UsageFault>
+    ensures value { result ≡ port_in (rows_of (found_of matches.now)) }
+    ensures in_range { IfOk result (λ n. n ≤ GREATEST_PORT) }
+{
+    let port = number_given(matches, CommandOption::Port, 0, 0, u32::from(GREATEST_PORT))?;
+    Ok(port as u8)
 }
 
 /// How many bytes are read at most: 1 to the greatest limit, which holds where it is absent.
