@@ -1,6 +1,6 @@
 -- The job of the entries, or the first fault.
 use Rattle.std.specs.Prelude.{◌≡◌, ◌≤◌, ◌<◌, ℕ, ◌^◌, List, [], ◌∷◌, ◌++◌, Bool, true, Option, Some, None, Result}
-use Rattle.std.specs.Prelude.{Ok, Err, ◌==◌, nat_lt, if◌then◌else◌, option_map}
+use Rattle.std.specs.Prelude.{length, Ok, Err, ◌==◌, nat_lt, if◌then◌else◌, option_map}
 use Rattle.std.specs.List.{list_any}
 use Rattle.clap.specs.Words.{Row}
 use Rattle.trace_values.specs.declared.reading_modes.FramesMode.{FramesMode}
