@@ -22,11 +22,13 @@ not_both words job asks (inl no_call) = no_call asks.call
 not_both words job asks (inr misuse) = no_fault words job misuse.0 asks misuse.1
 
 -- words that clap takes ask for a job, or have a fault
-of_call : (words : List Text) → IsCall words → (r : Result Job UsageFault) → job_of (rows_of_words words) ≡ r → IsMisuse words ⊎ ((job : Job) × AsksFor words job)
+of_call : (words : List Text) → IsCall words → (r : Result Job UsageFault) → job_of (rows_of_words words) ≡ r →
+    IsMisuse words ⊎ ((job : Job) × AsksFor words job)
 of_call words call (Ok job) e = inr (job, record { call = call; job_is = e })
 of_call words call (Err fault) e = inl (inr (fault, record { call = call; fault_is = e }))
 
-by_refusals : (words : List Text) (kinds : Kinds) → refusals words ≡ kinds → IsMisuse words ⊎ ((job : Job) × AsksFor words job)
+by_refusals : (words : List Text) (kinds : Kinds) → refusals words ≡ kinds →
+    IsMisuse words ⊎ ((job : Job) × AsksFor words job)
 by_refusals words [] e = of_call words e (job_of (rows_of_words words)) refl
 by_refusals words (kind ∷ kinds) e = inl (inl (λ call. let no : [] ≡ kind ∷ kinds = sym call ∙ e in cc))
 

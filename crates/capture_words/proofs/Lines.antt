@@ -36,7 +36,8 @@ fits (BadValue Full) is = lit≤ tt
 fits (BadValue Port) is = lit≤ tt
 fits SplitNeedsId is = lit≤ tt
 fits (MappedTwice id) is =
-    let number : length (decimal id) ≤ 3 = length-decimal-le 3 id (omega arith) (omega (arith, is)) (omega (arith, is)) in
+    let number : length (decimal id) ≤ 3 =
+    length-decimal-le 3 id (omega arith) (omega (arith, is)) (omega (arith, is)) in
     grind (arith, common_steps, number)
 fits RingNeedsSize is = lit≤ tt
 fits UnringNeedsSize is = lit≤ tt

@@ -1,7 +1,8 @@
 -- A text names exactly the window whose text it is.
-use Rattle.std.proofs.Common.{◌≡◌, ◌≢◌, ◌↔◌, ℕ, zero, suc, ◌<◌, ◌≤◌, ◌^◌, List, [], ◌∷◌, ◌++◌, Option, Some, None, refl, sym, ap, ◌∙◌, length, arith, get_or}
-use Rattle.std.specs.Prelude.{◌==◌, decimal, not}
-use Rattle.std.specs.List.{position_or_len, before_first, after_first}
+use Rattle.std.proofs.Common.{◌≡◌, ◌≢◌, ◌↔◌, ℕ, zero, suc, ◌<◌, ◌≤◌, ◌^◌, List, [], ◌∷◌, ◌++◌, Option, Some, None}
+use Rattle.std.proofs.Common.{refl, sym, ap, ◌∙◌, length, arith, get_or, codes, Bool, true, false}
+use Rattle.std.specs.Prelude.{◌==◌, ◌||◌, decimal, not}
+use Rattle.std.specs.List.{list_any, position_or_len, before_first, after_first}
 use Rattle.std.proofs.lemmas.List.{drop_all}
 use Rattle.std.proofs.lemmas.List.Sums.{split_at_first, passes_at_first, prefix_len-le-length}
 use Rattle.std.proofs.lemmas.Str.Parse.{digit_at}
@@ -41,17 +42,27 @@ lacks_nothing i lt = absurd (omega (arith, lt))
 pub lacks_number : (n : ℕ) → n < 2 ^ 64 → Lacks 44 (decimal n)
 lacks_number n small i lt = let d = digit_at (decimal n) i (decimal_digits n small) lt in grind arith
 
+-- nor has a front without one, with such a text after it
+lacks_front : (front text : List ℕ) → list_any (λ c. c == 44) front ≡ false → Lacks 44 text → Lacks 44 (front ++ text)
+lacks_front [] text none h = h
+lacks_front (x ∷ front) text none h = go (x == 44) refl none (λ e. lacks_front front text e h)
+  where
+    go : (b : Bool) → (x == 44) ≡ b → (b || list_any (λ c. c == 44) front) ≡ false →
+        (list_any (λ c. c == 44) front ≡ false → Lacks 44 (front ++ text)) → Lacks 44 (x ∷ (front ++ text))
+    go true b none more = absurd cc
+    go false b none more = lacks_more x (front ++ text) (grind (arith, nat_tests)) (more none)
+
 kind_lacks : (kind : Kind) → Lacks 44 (kind_text kind)
-kind_lacks Itm = lacks_more 105 (116 ∷ 109 ∷ []) (omega arith) (lacks_more 116 (109 ∷ []) (omega arith) (lacks_more 109 ([]) (omega arith) lacks_nothing))
-kind_lacks Dwt = lacks_more 100 (119 ∷ 116 ∷ []) (omega arith) (lacks_more 119 (116 ∷ []) (omega arith) (lacks_more 116 ([]) (omega arith) lacks_nothing))
-kind_lacks Stp = lacks_more 115 (116 ∷ 112 ∷ []) (omega arith) (lacks_more 116 (112 ∷ []) (omega arith) (lacks_more 112 ([]) (omega arith) lacks_nothing))
-kind_lacks Raw = lacks_more 114 (97 ∷ 119 ∷ []) (omega arith) (lacks_more 97 (119 ∷ []) (omega arith) (lacks_more 119 ([]) (omega arith) lacks_nothing))
-kind_lacks Trigger = lacks_more 116 (114 ∷ 105 ∷ 103 ∷ 103 ∷ 101 ∷ 114 ∷ []) (omega arith) (lacks_more 114 (105 ∷ 103 ∷ 103 ∷ 101 ∷ 114 ∷ []) (omega arith) (lacks_more 105 (103 ∷ 103 ∷ 101 ∷ 114 ∷ []) (omega arith) (lacks_more 103 (103 ∷ 101 ∷ 114 ∷ []) (omega arith) (lacks_more 103 (101 ∷ 114 ∷ []) (omega arith) (lacks_more 101 (114 ∷ []) (omega arith) (lacks_more 114 ([]) (omega arith) lacks_nothing))))))
+kind_lacks Itm = lacks_front (codes "itm") [] refl lacks_nothing
+kind_lacks Dwt = lacks_front (codes "dwt") [] refl lacks_nothing
+kind_lacks Stp = lacks_front (codes "stp") [] refl lacks_nothing
+kind_lacks Raw = lacks_front (codes "raw") [] refl lacks_nothing
+kind_lacks Trigger = lacks_front (codes "trigger") [] refl lacks_nothing
 
 choice_lacks : (choice : Choice) → IsChoice choice → Lacks 44 (choice_text choice)
 choice_lacks (OfKind kind) is = kind_lacks kind
-choice_lacks (Source x) is = lacks_more 105 (100 ∷ 61 ∷ decimal x) (omega arith) (lacks_more 100 (61 ∷ decimal x) (omega arith) (lacks_more 61 (decimal x) (omega arith) (lacks_number x (omega (arith, is.1)))))
-choice_lacks (Port n) is = lacks_more 112 (111 ∷ 114 ∷ 116 ∷ 61 ∷ decimal n) (omega arith) (lacks_more 111 (114 ∷ 116 ∷ 61 ∷ decimal n) (omega arith) (lacks_more 114 (116 ∷ 61 ∷ decimal n) (omega arith) (lacks_more 116 (61 ∷ decimal n) (omega arith) (lacks_more 61 (decimal n) (omega arith) (lacks_number n (omega (arith, is)))))))
+choice_lacks (Source x) is = lacks_front (codes "id=") (decimal x) refl (lacks_number x (omega (arith, is.1)))
+choice_lacks (Port n) is = lacks_front (codes "port=") (decimal n) refl (lacks_number n (omega (arith, is)))
 
 -- from the window to its text
 named_so : (window : Bounds) → IsWindow window → window_named (window_text window) ≡ Some window
@@ -59,7 +70,8 @@ named_so window is =
     let first = choice_text window.first in
     let last = choice_text window.last in
     let lacks = choice_lacks window.first is.0 in
-    ap (λ (t : List ℕ). bounds_of (choice_named t) (choice_named (after_first (λ c. c == 44) (first ++ 44 ∷ last)))) (before_first-at 44 first last lacks)
+    let after = choice_named (after_first (λ c. c == 44) (first ++ 44 ∷ last)) in
+    ap (λ (t : List ℕ). bounds_of (choice_named t) after) (before_first-at 44 first last lacks)
     ∙ ap (λ (t : List ℕ). bounds_of (choice_named first) (choice_named t)) (after_first-at 44 first last lacks)
     ∙ ap (λ (c : Option Choice). bounds_of c (choice_named last)) ((names window.first first).1 (is.0, refl))
     ∙ ap (λ (c : Option Choice). bounds_of (Some window.first) c) ((names window.last last).1 (is.1, refl))
@@ -93,7 +105,8 @@ around text ne =
     split_at_first (λ c. c == 44) text 0 less
     ∙ ap (λ (c : ℕ). before_first (λ c. c == 44) text ++ c ∷ after_first (λ c. c == 44) text) comma
 
-window_is : (window : Bounds) (text : List ℕ) → window_named text ≡ Some window → IsWindow window × (text ≡ window_text window)
+window_is : (window : Bounds) (text : List ℕ) → window_named text ≡ Some window →
+    IsWindow window × (text ≡ window_text window)
 window_is window text e =
     let b = both _ _ window e in
     let first = (names window.first (before_first (λ c. c == 44) text)).0 b.first_is in
@@ -104,5 +117,6 @@ window_is window text e =
           ∙ ap (λ (t : List ℕ). choice_text window.first ++ 44 ∷ t) last.1,
     )
 
-pub names_window : (window : Bounds) (text : Text) → (window_named text ≡ Some window) ↔ (IsWindow window × (text ≡ window_text window))
+pub names_window : (window : Bounds) (text : Text) →
+    (window_named text ≡ Some window) ↔ (IsWindow window × (text ≡ window_text window))
 names_window window text = (window_is window text, λ h. ap window_named h.1 ∙ named_so window h.0)

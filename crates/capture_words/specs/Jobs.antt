@@ -15,8 +15,8 @@ use Rattle.capture_words.specs.declared.job.Job.{Job}
 use Rattle.capture_words.specs.declared.settings.Settings.{Settings}
 use Rattle.capture_words.specs.declared.usage.UsageFault.{UsageFault}
 use Rattle.capture_words.specs.declared.usage.UsageFault.TheVariants.{SplitNeedsId, MappedTwice, RingNeedsSize}
-use Rattle.capture_words.specs.declared.usage.UsageFault.TheVariants.{UnringNeedsSize, PointerNotUnderSize, TextNeedsItm}
-use Rattle.capture_words.specs.declared.usage.UsageFault.TheVariants.{TextReadsOneSource}
+use Rattle.capture_words.specs.declared.usage.UsageFault.TheVariants.{UnringNeedsSize, PointerNotUnderSize}
+use Rattle.capture_words.specs.declared.usage.UsageFault.TheVariants.{TextNeedsItm, TextReadsOneSource}
 use Rattle.capture_words.specs.declared.values.ActionName.{ActionName}
 use Rattle.capture_words.specs.declared.values.ActionName.TheVariants.{Show as ShowName, Split as SplitName}
 use Rattle.capture_words.specs.declared.values.ActionName.TheVariants.{Check as CheckName, Rebuild as RebuildName}

@@ -3,7 +3,8 @@
 ghost use Rattle.std.specs.Prelude.{◌≡◌, ◌≤◌, true, IfOk, IfSome};
 ghost use Rattle.std.specs.List.{All};
 ghost use Rattle.capture_words.specs.declared.values.TheConstants.{GREATEST_LIMIT, GREATEST_HALF, GREATEST_ITEMS};
-ghost use Rattle.capture_words.specs.declared.values.TheConstants.{GREATEST_LOSS, LEAST_SIZE, GREATEST_SIZE, GREATEST_PORT};
+ghost use Rattle.capture_words.specs.declared.values.TheConstants.{GREATEST_LOSS, LEAST_SIZE, GREATEST_SIZE};
+ghost use Rattle.capture_words.specs.declared.values.TheConstants.{GREATEST_PORT};
 ghost use Rattle.clap.specs.Words.{rows_of, found_of};
 ghost use Rattle.source_events.specs.Plan.{is_sound};
 ghost use Rattle.capture_words.specs.Jobs.{plan_with, split_with, ring_with, unring_with, text_with};

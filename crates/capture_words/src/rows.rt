@@ -18,12 +18,13 @@ ghost use Rattle.capture_words.specs.declared.option.CommandOption.TheVariants.{
 ghost use Rattle.capture_words.specs.declared.option.CommandOption.TheVariants.{Id, Only, Window, Sync};
 ghost use Rattle.capture_words.specs.declared.option.CommandOption.TheVariants.{Half, Limit, Items, Lose};
 ghost use Rattle.capture_words.specs.declared.option.CommandOption.TheVariants.{Size, Pointer, Full};
-ghost use Rattle.capture_words.specs.declared.option.CommandOption.TheVariants.{Port as PortOption, Recover as RecoverOption};
+ghost use Rattle.capture_words.specs.declared.option.CommandOption.TheVariants.{Port as PortOption};
+ghost use Rattle.capture_words.specs.declared.option.CommandOption.TheVariants.{Recover as RecoverOption};
 ghost use Rattle.capture_words.specs.declared.recover.Recover.TheVariants.{Off, On};
 ghost use Rattle.capture_words.specs.declared.usage.UsageFault.TheVariants.{UnknownAction, BadValue, SplitNeedsId};
 ghost use Rattle.capture_words.specs.declared.usage.UsageFault.TheVariants.{MappedTwice, RingNeedsSize};
-ghost use Rattle.capture_words.specs.declared.usage.UsageFault.TheVariants.{UnringNeedsSize, PointerNotUnderSize, TextNeedsItm};
-ghost use Rattle.capture_words.specs.declared.usage.UsageFault.TheVariants.{TextReadsOneSource};
+ghost use Rattle.capture_words.specs.declared.usage.UsageFault.TheVariants.{UnringNeedsSize, PointerNotUnderSize};
+ghost use Rattle.capture_words.specs.declared.usage.UsageFault.TheVariants.{TextNeedsItm, TextReadsOneSource};
 
 /// Words that ask for a job, in several orders and spellings.
 pub fn asks()
@@ -50,7 +51,8 @@ pub fn asks()
         lists (codes "show --only port=31") (Port 31) ∷ []) }
     ensures window { AllAnswered (
         does (codes "show --window raw,trigger")
-        (Show (planned FramesHunt PacketsHunt [] [] Msn) None (Some (record { first = OfKind RawKind; last = OfKind TriggerKind })) Off)
+        (Show (planned FramesHunt PacketsHunt [] [] Msn) None
+        (Some (record { first = OfKind RawKind; last = OfKind TriggerKind })) Off)
         68719476736 ∷
         does (codes "show --window=id=126,port=0")
         (Show (planned FramesHunt PacketsHunt [] [] Msn) None (Some (record { first = Source 126; last = Port 0 })) Off)

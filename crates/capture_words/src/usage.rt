@@ -20,8 +20,8 @@ pub enum UsageFault {
     BadValue(CommandOption),
     /// The action is `split`, and `--id` is absent.
     SplitNeedsId,
-    /// The action reads mapped sources, and this is the first ID that stands earlier already, of those of `--itm` and then
-    /// those of `--stp`.
+    /// The action reads mapped sources, and this is the first ID that stands earlier already, of those of `--itm` and
+    /// then those of `--stp`.
     MappedTwice(SourceId),
     /// The action is `ring`, and `--size` is absent.
     RingNeedsSize,

@@ -20,5 +20,6 @@ pub returns : goal.returns
 unfolding trace_app
 returns c =
     let app = app_of c.loop-option.command in
-    let all : length ALL_OPTIONS ≡ c.loop-option.option-index = omega (arith, c.loop-option.auto.option-index-end, c.loop-option-test.false) in
+    let all : length ALL_OPTIONS ≡ c.loop-option.option-index =
+    omega (arith, c.loop-option.auto.option-index-end, c.loop-option-test.false) in
     ap (λ n. with_options (drop n ALL_OPTIONS) app) all ∙ c.loop-option.invariant

@@ -8,9 +8,13 @@ use Rattle.capture_words.proofs.entries.entries_of.Goals as goal
 pub returns-clause-kinds : goal.returns-clause-kinds
 returns-clause-kinds c =
     let app = c.in_ok-command.ensures in
-    fails_as _ _ _ (ap (λ a. fault_of a (map (λ s. s.now) c.args.words.now)) app) (c.try_get_matches_from.ensures.kinds (ap is_simple_and_free app ∙ trace_app_is_free))
+    fails_as _ _ _ (ap (λ a. fault_of a (map (λ s. s.now) c.args.words.now)) app)
+    (c.try_get_matches_from.ensures.kinds (ap is_simple_and_free app ∙ trace_app_is_free))
 
 pub returns-clause-rows : goal.returns-clause-rows
 returns-clause-rows c =
     let app = c.in_ok-command.ensures in
-    IfOk-weaker c.try_get_matches_from.result _ _ (λ m h. (h (ap is_simple app ∙ trace_app_is_simple)).0 ∙ ap (λ a. matches_of a (map (λ s. s.now) c.args.words.now)) app) c.try_get_matches_from.ensures.matches
+    let simple = ap is_simple app ∙ trace_app_is_simple in
+    IfOk-weaker c.try_get_matches_from.result _ _
+    (λ m h. (h simple).0 ∙ ap (λ a. matches_of a (map (λ s. s.now) c.args.words.now)) app)
+    c.try_get_matches_from.ensures.matches
