@@ -25,3 +25,13 @@ front_join old mid new text pending rest p q = subst (λ t. TakesFront old new t
 -- where all that is pending is written, all of the text is
 pub front_written : (old mid new : Option (List ℕ)) (text pending : List ℕ) → TakesFront old mid text pending → Appends mid new pending → Appends old new text
 front_written old mid new text pending p q = subst (Appends old new) (sym p.all) (Appends-trans old mid new p.front pending p.took q)
+
+-- what is pending, and what is owed after it, are the rest of a text: some of what is pending is written
+pub front_pending : (old mid new : Option (List ℕ)) (text pending rest owed : List ℕ) → TakesFront old mid text (pending ++ owed) → TakesFront mid new pending rest → TakesFront old new text (rest ++ owed)
+front_pending old mid new text pending rest owed p q =
+    front_join old mid new text (pending ++ owed) (rest ++ owed) p (record { front = q.front; took = q.took; all = ap (λ l. l ++ owed) q.all ∙ append_assoc q.front rest owed })
+
+-- or a write of it fails
+pub prefix_pending : (old mid new : Option (List ℕ)) (text pending owed : List ℕ) → TakesFront old mid text (pending ++ owed) → AppendsPrefix mid new pending → AppendsPrefix old new text
+prefix_pending old mid new text pending owed p q =
+    prefix_join old mid new text (pending ++ owed) p (AppendsPrefix-append mid new pending owed q)
