@@ -1,8 +1,8 @@
 //! What is done to the bytes of a capture as they come.
 
-ghost use Rattle.std.specs.Prelude.{◌≡◌, ℕ, ◌+◌, ◌<◌, ◌≤◌, List, [], ◌++◌, length, take, false};
+ghost use Rattle.std.specs.Prelude.{◌≡◌, ℕ, ◌+◌, ◌<◌, ◌≤◌, List, [], length, take, false};
 ghost use Rattle.trace_io.specs.Bytes.{TakesSome};
-ghost use Rattle.trace_stream.specs.Debt.{Debt, paid, Pours};
+ghost use Rattle.trace_stream.specs.Debt.{Debt, Paid, with_debt, Pours};
 ghost use Rattle.trace_stream.specs.Served.{Meaning, IsLawful};
 ghost use Rattle.trace_stream.specs.Taken.{HasTaken, Turn};
 ghost use Rattle.trace_stream.specs.declared.limits.TheConstants.{GREATEST_CAPTURE};
@@ -57,7 +57,7 @@ pub trait Action {
     /// the run calls it again with the rest, and what is written is the same.
     fn feed(&mut self, piece: &[u8], outlet: &mut Outlet) -> Progress
         requires live { live self.old }
-        requires paid { debt self.old ≡ paid }
+        requires paid { debt self.old ≡ Paid }
         requires some { 0 < length piece.now }
         requires room { length outlet.old + ACTION_ROOM ≤ OUTLET_ROOM }
         requires count { taken self.old + length piece.now ≤ GREATEST_CAPTURE }
@@ -66,19 +66,19 @@ pub trait Action {
         ensures count { taken self.new ≡ taken self.old + result.bytes }
         ensures fed { (seen : List ℕ) → stands self.old seen →
             let front = take result.bytes piece.now in
-            let after = outlet.new ++ (debt self.new).text in
+            let after = with_debt outlet.new (debt self.new) in
             let turn : Turn = record { seen = seen; front = front; before = outlet.old; after = after } in
             HasTaken (stands self.new) (meaning (plan self.old)) turn result.is_faulty }
         ensures live { result.is_faulty ≡ false → live self.new };
 
     /// Puts what is written after the text into the outlet, which is empty, or owes it.
     fn finish(&mut self, outlet: &mut Outlet)
-        requires paid { debt self.old ≡ paid }
+        requires paid { debt self.old ≡ Paid }
         requires empty { outlet.old ≡ [] }
         ensures same { plan self.new ≡ plan self.old }
         ensures stands { (seen : List ℕ) → stands self.old seen → stands self.new seen }
         ensures ended { (seen : List ℕ) → stands self.old seen →
-            outlet.new ++ (debt self.new).text ≡ (meaning (plan self.old)).ending seen };
+            with_debt outlet.new (debt self.new) ≡ (meaning (plan self.old)).ending seen };
 
     /// Whether what comes after the text is written at a failed read and at the limit, too.
     fn is_due(&self) -> bool

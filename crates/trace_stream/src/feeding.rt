@@ -1,10 +1,10 @@
 //! The feeding of a piece to an action.
 
-ghost use Rattle.std.specs.Prelude.{◌≡◌, ℕ, ◌+◌, ◌≤◌, List, ◌++◌, length, OnOk, OnErr, IfOk, false};
+ghost use Rattle.std.specs.Prelude.{◌≡◌, ℕ, ◌+◌, ◌≤◌, List, length, OnOk, OnErr, IfOk, false};
 ghost use Rattle.std.specs.declared.option.Option.{Option};
 ghost use Rattle.trace_io.specs.Bytes.{AppendsPrefix, TakesFront};
 ghost use Rattle.trace_io.specs.Causes.{HasCause};
-ghost use Rattle.trace_stream.specs.Debt.{paid};
+ghost use Rattle.trace_stream.specs.Debt.{Paid, with_debt};
 ghost use Rattle.trace_stream.specs.Fed.{Writing, StandsAfter, HasFed, IsFed};
 ghost use Rattle.trace_stream.specs.declared.limits.TheConstants.{GREATEST_CAPTURE};
 
@@ -39,11 +39,11 @@ pub fn pour_all<A: Action, O: Sink>(
     ensures count { A.taken action.new ≡ A.taken action.old }
     ensures live { A.live action.old → A.live action.new }
     ensures stands { (seen : List ℕ) → A.stands action.old seen → A.stands action.new seen }
-    ensures paid { OnOk result (A.debt action.new ≡ paid) }
-    ensures ok { let pending = outlet.old ++ (A.debt action.old).text in
+    ensures paid { OnOk result (A.debt action.new ≡ Paid) }
+    ensures ok { let pending = with_debt outlet.old (A.debt action.old) in
         OnOk result (TakesFront (O.held output.old) (O.held output.new) pending outlet.new) }
     ensures room { OnOk result (length outlet.new + ACTION_ROOM ≤ OUTLET_ROOM) }
-    ensures err { let pending = outlet.old ++ (A.debt action.old).text in
+    ensures err { let pending = with_debt outlet.old (A.debt action.old) in
         OnErr result (AppendsPrefix (O.held output.old) (O.held output.new) pending) }
     ensures cause { HasCause (O.faults output.old) (O.faults output.new) result }
 {
@@ -65,10 +65,10 @@ pub fn feed_piece<A: Action, O: Sink>(
     piece: &[u8],
 ) -> Result<Progress, Failed>
     requires live { A.live action.old }
-    requires paid { A.debt action.old ≡ paid }
+    requires paid { A.debt action.old ≡ Paid }
     requires count { A.taken action.old + length piece.now ≤ GREATEST_CAPTURE }
     ensures same { A.plan action.new ≡ A.plan action.old }
-    ensures paid { OnOk result (A.debt action.new ≡ paid) }
+    ensures paid { OnOk result (A.debt action.new ≡ Paid) }
     ensures taken { let before = A.taken action.old in
         IfOk result (IsFed (A.live action.new) before (A.taken action.new) (length piece.now) outlet.new) }
     ensures fed { (start : Option (List ℕ)) (seen : List ℕ) (p : A.Plan) → A.plan action.old ≡ p →

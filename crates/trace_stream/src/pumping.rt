@@ -4,7 +4,7 @@ ghost use Rattle.std.specs.Prelude.{◌≡◌, ◌≢◌, ℕ, ◌+◌, ◌<◌,
 ghost use Rattle.std.specs.Io.{ReadsAtMost};
 ghost use Rattle.std.specs.Io.KnownBytes.{ReadConsumes};
 ghost use Rattle.trace_io.specs.Causes.{HasCause, CountsEmpty};
-ghost use Rattle.trace_stream.specs.Debt.{paid};
+ghost use Rattle.trace_stream.specs.Debt.{Paid};
 ghost use Rattle.trace_stream.specs.Fresh.{IsFresh};
 ghost use Rattle.trace_stream.specs.BuffersState.{BuffersState};
 ghost use Rattle.trace_stream.specs.Pumped.{HasPumped, HasCauses, counts};
@@ -47,7 +47,7 @@ pub fn pump<A: Action, I: Source, O: Sink>(
     requires some { 0 < length buffer.old }
     requires small { limit ≤ GREATEST_CAPTURE }
     ensures same { A.plan action.new ≡ A.plan action.old }
-    ensures paid { result ≢ Outcome.WriteFailed → A.debt action.new ≡ paid }
+    ensures paid { result ≢ Outcome.WriteFailed → A.debt action.new ≡ Paid }
     ensures pumped { let before : Ends = record { left = I.left input.old; held = O.held output.old } in
         let after : Ends = record { left = I.left input.new; held = O.held output.new } in
         let buffers : BuffersState = record { pending = outlet.new; recent = recent.new } in

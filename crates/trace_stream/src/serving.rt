@@ -5,7 +5,7 @@ ghost use Rattle.std.specs.declared.option.Option.{Option};
 ghost use Rattle.std.specs.Io.KnownBytes.{Appends};
 ghost use Rattle.trace_io.specs.Bytes.{TakesFront, AppendsPrefix};
 ghost use Rattle.trace_io.specs.Causes.{HasCause};
-ghost use Rattle.trace_stream.specs.Debt.{paid};
+ghost use Rattle.trace_stream.specs.Debt.{Paid};
 ghost use Rattle.trace_stream.specs.Fresh.{IsFresh};
 ghost use Rattle.trace_stream.specs.Pumped.{HasCauses, counts};
 ghost use Rattle.trace_stream.specs.Served.{Ends, HasServed, HasStopped, HasEnded, text_at_stop};
@@ -25,7 +25,7 @@ fn finish<A: Action, O: Sink>(
     outlet: &mut Outlet,
     output: &mut O,
 ) -> Result<(), Failed>
-    requires paid { A.debt action.old ≡ paid }
+    requires paid { A.debt action.old ≡ Paid }
     ensures same { A.plan action.new ≡ A.plan action.old }
     ensures stands { (seen : List ℕ) → A.stands action.old seen → A.stands action.new seen }
     ensures ok { (start : Option (List ℕ)) (seen : List ℕ) (p : A.Plan) →
@@ -52,7 +52,7 @@ fn finish_if_due<A: Action, O: Sink>(
     outlet: &mut Outlet,
     output: &mut O,
 ) -> Result<(), Failed>
-    requires paid { A.debt action.old ≡ paid }
+    requires paid { A.debt action.old ≡ Paid }
     requires emptied { outlet.old ≡ [] }
     ensures same { A.plan action.new ≡ A.plan action.old }
     ensures stands { (seen : List ℕ) → A.stands action.old seen → A.stands action.new seen }

@@ -1,6 +1,6 @@
 use Rattle.std.proofs.Common.{◌≡◌, ◌+◌, ◌≤◌, List, ℕ, length, false}
 use Rattle.std.specs.declared.option.Option.{Option}
-use Rattle.trace_stream.specs.Debt.{paid}
+use Rattle.trace_stream.specs.Debt.{Paid}
 use Rattle.trace_stream.specs.Fed.{Writing, StandsAfter}
 use Rattle.trace_stream.proofs.Pieces.{IsFeeding}
 use Rattle.trace_stream.specs.declared.action.TheConstants.{ACTION_ROOM}
@@ -11,7 +11,7 @@ abbrev pub invariant-loop-rest : goal.invariant-loop-rest
 invariant-loop-rest g l = record {
   same : g.A.Action.plan l.action ≡ g.A.Action.plan l.fn.action;
   live : g.A.Action.live l.action;
-  nothing_owed : g.A.Action.debt l.action ≡ paid;
+  nothing_owed : g.A.Action.debt l.action ≡ Paid;
   room : length l.outlet + ACTION_ROOM ≤ OUTLET_ROOM;
   count : g.A.Action.taken l.action + length l.rest ≡ g.A.Action.taken l.fn.action + length l.piece;
   within : length l.rest ≤ length l.piece;
