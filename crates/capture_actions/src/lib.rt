@@ -21,8 +21,9 @@ mod split_plan;
 mod stopping;
 
 pub use buffer::BufferAction;
-pub use check::{Check, SUMMARY_ROOM};
+pub use check::{Check, SOURCE_ROOM, SUMMARY_ROOM, put_source_line};
 pub use list_plan::ListPlan;
+pub use lister::Lister;
 pub use realign::{Realign, realign_law};
 pub use show::Show;
 pub use split::Split;

@@ -35,20 +35,11 @@ use Rattle.recovery_report.specs.Report.{report_from}
 use Rattle.recovery_laws.specs.Strict.{IsStrictBefore, upto, first_fault}
 use Rattle.recovery_laws.proofs.Ports.{IsParted, EndsBy, parted}
 use Rattle.recovery_laws.proofs.Runs.{IsSame, all_same, runs_report}
+use Rattle.recovery_report.proofs.PartLaws.{from_append}
 use Rattle.recovery_laws.proofs.Uptos.{Found, after_none, after_some}
 
 abbrev Heards : Type 0
 Heards = List (Event (Heard Packet))
-
--- parts after others
-from_append : (plan : Plan) (ms ns ahead : List Part) →
-    report_from plan ahead (ms ++ ns) ≡ report_from plan ahead ms ++ report_from plan (ahead ++ ms) ns
-from_append plan [] ns ahead = ap (λ p. report_from plan p ns) (sym (append-nil ahead))
-from_append plan (m ∷ ms) ns ahead =
-    ap (λ l. added plan ahead m ++ l) (from_append plan ms ns (ahead ++ m ∷ []))
-    ∙ ap (λ p. added plan ahead m ++ (report_from plan (ahead ++ m ∷ []) ms ++ report_from plan p ns))
-    (append_assoc ahead (m ∷ []) ms)
-    ∙ sym (append_assoc (added plan ahead m) (report_from plan (ahead ++ m ∷ []) ms) (report_from plan (ahead ++ (m ∷ ms)) ns))
 
 -- a lock is nothing to any source
 module _ (plan : Plan) (n : ℕ) (place : Place) where

@@ -17,11 +17,11 @@ returns-clause-takes g t c =
     let more = take (length cells - n) rest in
     let left = length-drop n cells in
     let tail : more ≡ rest = take_all (length cells - n) rest (omega (arith, left)) in
-    subst (λ l. Takes g.V.Hearer.gets (map Run l) (c.args.slots.now, c.args.out.now)
-    (c.take_frame.new.slots, c.take_frame.new.out))
+    subst (λ l. Takes g.V.Hearer.gets (map Run l) (c.args.slots.now, (c.args.out.now, c.args.to.now))
+    (c.take_frame.new.slots, (c.take_frame.new.out, c.take_frame.new.to)))
     (ap (λ l. take n cells ∷ runs_of l) tail ∙ sym (cut_at cells n c.run_length-n.ensures.value some))
-    (takes_then g.V.Hearer.gets g.met.V.Hearer.gets_more (c.args.slots.now, c.args.out.now) (
+    (takes_then g.V.Hearer.gets g.met.V.Hearer.gets_more (c.args.slots.now, (c.args.out.now, c.args.to.now)) (
       c.take_run.new.slots,
-      c.take_run.new.out,
-    ) (c.take_frame.new.slots, c.take_frame.new.out)
+      (c.take_run.new.out, c.take_run.new.to),
+    ) (c.take_frame.new.slots, (c.take_frame.new.out, c.take_frame.new.to))
     (Run (take n cells) ∷ []) (map Run (runs_of more)) c.take_run.ensures.takes c.take_frame.ensures.takes)

@@ -1,0 +1,37 @@
+use Rattle.std.proofs.Common.{ℕ, List, [], ◌∷◌, ◌++◌, length, take, sym, ◌∙◌, ap, refl, subst, append_assoc, append-nil, arith}
+use Rattle.std.proofs.lemmas.List.{take_more}
+use Rattle.recovery_listing.specs.Check.{Stands}
+use Rattle.recovery_listing.proofs.check.RecoveringCheckAction.feed.Goals as goal
+
+pub loop-index-init : goal.loop-index-init
+loop-index-init c = record {
+  same = refl;
+  count = omega arith;
+  list = λ seen s. subst (Stands c.args.self.now) (sym (append-nil seen)) s;
+}
+
+pub loop-index-preserved : goal.loop-index-preserved
+loop-index-preserved c =
+    let i = c.loop-index.invariant in
+    let piece = c.args.piece.now in
+    let k = c.loop-index.index in
+    let byte = c.index-piece-index.result in
+    record {
+      same = c.take.ensures.same ∙ i.same;
+      count = (let a = i.count in let b = c.take.ensures.count in omega (arith, a, b));
+      list = λ seen s.
+          subst (Stands c.take.new.self)
+          (append_assoc seen (take k piece) (byte ∷ [])
+          ∙ ap (λ (l : List ℕ). seen ++ l) (ap (λ (x : ℕ). take k piece ++ x ∷ []) c.index-piece-index.is
+          ∙ sym (take_more piece k byte c.loop-index-test.true)))
+          (c.take.ensures.list (seen ++ take k piece) (i.list seen s));
+    }
+
+pub returns-clause-fed : goal.returns-clause-fed
+returns-clause-fed c = λ seen s. record {
+  read = c.loop-index.invariant.list seen s;
+  more = [];
+  grown = refl;
+  gained = sym (append-nil c.args._outlet.now);
+  fault = λ h. h;
+}
