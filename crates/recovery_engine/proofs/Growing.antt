@@ -33,7 +33,7 @@ use Rattle.recovering_machines.proofs.Feeding.{same}
 use Rattle.recovery_report.specs.Port.{of_stretches, port_stretches, recovered, stretch_of}
 use Rattle.recovery_report.specs.Report.{Part, Run, parts_in, parts_of, report, report_from}
 use Rattle.recovery_report.specs.Words.{parts_by}
-use Rattle.recovery_report.proofs.PartLaws.{from_append}
+use Rattle.recovery_report.proofs.PartLaws.{report_append}
 use Rattle.recovery_report.proofs.PortLaws as laws
 use Rattle.recovery_report.proofs.Sounds.{port_begins, port_sound}
 use Rattle.recovery_engine.proofs.Feeding.{bare_parts, port_push}
@@ -160,7 +160,7 @@ report_grows plan xs ys =
     let more = with_bytes plan.frames (placed xs) (length xs) ys in
     let parts = parts_in (recovered plan.frames (placed xs)) in (
       report_from plan parts more.0,
-      ap (report plan) (placed_append xs ys) ∙ ap (report_from plan []) more.1 ∙ from_append plan parts more.0 [],
+      ap (report plan) (placed_append xs ys) ∙ ap (report_from plan []) more.1 ∙ report_append plan parts more.0 [],
     )
 
 -- of no bytes there is no event

@@ -74,8 +74,8 @@ pub fn take_own<V: Hearer>(
     requires room { 2 * length cells.now ≤ V.room (out.old, to.old) }
     ensures own { result ≡ true → TakesOwn V.gets V.room id cells.now
         (slots.old, (out.old, to.old)) (slots.new, (out.new, to.new)) }
-    ensures other { result ≡ false → (slots.new ≡ slots.old) × ((out.new, to.new) ≡ (out.old, to.old))
-        × (source_at slots.old id ≡ None) }
+    ensures other { result ≡ false →
+        (slots.new ≡ slots.old) × (out.new ≡ out.old) × (to.new ≡ to.old) × (source_at slots.old id ≡ None) }
     ensures len { length slots.new ≡ length slots.old }
     ensures few { total slots.new ≤ total slots.old + 4 * length cells.now }
     ensures room { V.room (out.old, to.old) ≤ V.room (out.new, to.new) + 2 * length cells.now }

@@ -29,11 +29,11 @@ use Rattle.recovery_report.specs.Report.{list_of, stretches_of, stream_of, event
 use Rattle.recovery_report.specs.Words.{OwnRun}
 
 -- the report of parts after others
-pub from_append : (plan : Plan) (ms ns ahead : List Part) →
+pub report_append : (plan : Plan) (ms ns ahead : List Part) →
     report_from plan ahead (ms ++ ns) ≡ report_from plan ahead ms ++ report_from plan (ahead ++ ms) ns
-from_append plan [] ns ahead = ap (λ p. report_from plan p ns) (sym (append-nil ahead))
-from_append plan (m ∷ ms) ns ahead =
-    ap (λ l. added plan ahead m ++ l) (from_append plan ms ns (ahead ++ m ∷ []))
+report_append plan [] ns ahead = ap (λ p. report_from plan p ns) (sym (append-nil ahead))
+report_append plan (m ∷ ms) ns ahead =
+    ap (λ l. added plan ahead m ++ l) (report_append plan ms ns (ahead ++ m ∷ []))
     ∙ ap (λ p. added plan ahead m ++ (report_from plan (ahead ++ m ∷ []) ms ++ report_from plan p ns))
     (append_assoc ahead (m ∷ []) ms)
     ∙ sym (append_assoc (added plan ahead m) (report_from plan (ahead ++ m ∷ []) ms)
@@ -42,7 +42,7 @@ from_append plan (m ∷ ms) ns ahead =
 pub growing : (plan : Plan) (parts : List Part) (m : Part) →
     report_from plan [] (parts ++ m ∷ []) ≡ report_from plan [] parts ++ added plan parts m
 growing plan parts m =
-    from_append plan parts (m ∷ []) []
+    report_append plan parts (m ∷ []) []
     ∙ ap (λ l. report_from plan [] parts ++ l) (append-nil (added plan parts m))
 
 -- a source's list and stretches part by part

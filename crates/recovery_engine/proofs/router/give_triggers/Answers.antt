@@ -1,4 +1,4 @@
-use Rattle.std.proofs.Common.{◌∷◌, [], take, subst, arith}
+use Rattle.std.proofs.Common.{◌∷◌, [], take, subst, refl, arith}
 use Rattle.source_merge.proofs.Triggers.{told_by, trigger, one_more}
 use Rattle.recovery_engine.proofs.router.give_triggers.Goals as goal
 
@@ -6,9 +6,12 @@ pub loop-index-init : goal.loop-index-init
 loop-index-init g c = record { given = g.met.V.Hearer.gets_none (c.args.out.now, c.args.to.now); space = omega arith }
 
 pub hear-requires : goal.hear-requires
-hear-requires g c =
-    (let a = c.loop-index.invariant.space in let b = c.requires.room in
-    let h = c.loop-index-test.true in omega (arith, a, b, h))
+hear-requires g c = record {
+  fits = refl;
+  room =
+      (let a = c.loop-index.invariant.space in let b = c.requires.room in
+      let h = c.loop-index-test.true in omega (arith, a, b, h));
+}
 
 pub loop-index-preserved : goal.loop-index-preserved
 loop-index-preserved g c =

@@ -28,10 +28,12 @@ returns-then-not-take_own-clause-takes g c =
     let run = c.args.cells.now in
     let other = c.take_own.ensures.other c.if-not-take_own.true in (
       told (Some x) (raw_events x run),
-      subst (λ s. g.V.Hearer.gets s (told (Some x) (raw_events x run)) (c.give_raw.new.out, c.give_raw.new.to)) other.1
-          c.give_raw.ensures.given,
+      subst (λ o. g.V.Hearer.gets (o, c.args.to.now) (told (Some x) (raw_events x run))
+          (c.give_raw.new.out, c.give_raw.new.to)) other.1
+          (subst (λ t. g.V.Hearer.gets (c.take_own.new.out, t) (told (Some x) (raw_events x run))
+          (c.give_raw.new.out, c.give_raw.new.to)) other.2 c.give_raw.ensures.given),
       λ plan parts k. subst (λ l. Grown plan parts (Run run ∷ []) l (told (Some x) (raw_events x run))) (sym other.0)
-          (grown_raw plan parts run x c.args.slots.now (first_id run _ c.requires.some ∙ c.in-Some.is) other.2 k),
+          (grown_raw plan parts run x c.args.slots.now (first_id run _ c.requires.some ∙ c.in-Some.is) other.3 k),
     )
 
 pub returns-else-not-take_own-clause-takes : goal.returns-else-not-take_own-clause-takes
