@@ -1,6 +1,6 @@
 -- How long lines are at most.
 use Rattle.std.proofs.Common.{◌≡◌, ℕ, zero, suc, ◌+◌, ◌*◌, ◌/◌, ◌^◌, ◌≤◌, ◌<◌, List, [], ◌∷◌, ◌++◌, length, length-append, Bool, true, false, refl, ap, arith}
-use Rattle.std.specs.Prelude.{codes, Option, None, Some, ◌==◌, nat_lt, if◌then◌else◌}
+use Rattle.std.specs.Prelude.{codes, decimal, Option, None, Some, ◌==◌, nat_lt, if◌then◌else◌}
 use Rattle.std.specs.Option.{ForSome}
 use Rattle.std.specs.Fmt.{digits as fmt_digits}
 use Rattle.std.specs.Int.{to_be_bytes, w8, w16, w32}
@@ -35,6 +35,7 @@ use Rattle.trace_values.specs.declared.fault.Reason.{Reason}
 use Rattle.trace_values.specs.declared.fault.Reason.TheVariants.{BadSync, SyncInFrame, ReservedHeader, BadItmSync}
 use Rattle.trace_values.specs.declared.fault.Reason.TheVariants.{LongStamp, ShortStamp, Unsupported, StampSize}
 use Rattle.trace_values.specs.declared.fault.Reason.TheVariants.{BadAsync}
+use Rattle.trace_values.specs.Faults.{name_of, number_of}
 use Rattle.trace_values.specs.Placed.{Place}
 use Rattle.source_events.specs.declared.event.Event.{Event}
 use Rattle.source_events.specs.declared.event.What.{What}
@@ -56,7 +57,7 @@ use Rattle.trace_text.specs.declared.remark.Remark.{Remark}
 use Rattle.trace_text.specs.declared.remark.Remark.TheVariants.{None as NoRemark, Clock, Time}
 use Rattle.trace_text.specs.LineText.{half_text, source_text, what_text, remark_text, event_line, itm_event, stp_event, raw_event}
 use Rattle.trace_text.specs.Printable.{IsProperWhat, IsNone, SuitsPacket, Suits, HasSource, IsPrintable}
-use Rattle.trace_text.specs.FaultText.{reason_text, fault_line}
+use Rattle.trace_text.specs.FaultText.{fault_line}
 use Rattle.trace_text.specs.Lengths.{HasDigits, IsShortWhat, IsShortSource, IsShortRemark, IsShort, IsShortFault}
 use Rattle.trace_text.specs.EndText.{mode_text, kind_text, source_line}
 
@@ -234,7 +235,7 @@ pub raw_run : (at id : ℕ) (bytes : List ℕ) → length bytes ≤ 15 → HasDi
     length (event_line false (raw_event at id bytes) NoRemark) ≤ 92
 raw_run at id bytes few a b = simp length-append (omega (arith, length-encode_with lower_digits bytes))
 
-reason : (r : Reason) → length (reason_text r) ≤ 17
+reason : (r : Reason) → length (decimal (number_of r)) + length (name_of r) ≤ 15
 unfolding fmt_digits
 reason BadSync = omega arith
 reason SyncInFrame = omega arith
