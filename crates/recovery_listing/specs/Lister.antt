@@ -7,17 +7,18 @@ use Rattle.capture_actions.specs.declared.list_plan.ListPlan.{ListPlan}
 use Rattle.capture_actions.specs.Filter.{plan_by, HasSeen}
 use Rattle.capture_actions.specs.Lister as strict
 use Rattle.capture_actions.specs.SourceClocks.{AllStand}
-use Rattle.recovery_listing.specs.Listing.{clocked_from, lines_after, seen_in}
+use Rattle.recovery_listing.specs.Listing.{clocked_from, has_fault, lines_after, seen_in}
 use Rattle.recovery_listing.specs.declared.lister.RecoveringLister.{RecoveringLister}
 
 -- what it was asked for
 abbrev pub plan_of : RecoveringLister → ListPlan
 plan_of lister = plan_by lister.lister.plan lister.lister.filter
 
--- its clocks and its window have taken these events
+-- its clocks and its window have taken these events, and it knows whether there is a fault among them
 pub record Stands (lister : RecoveringLister) (es : List (Event (Heard Packet))) : Type 0 where
   pub clocks : AllStand lister.lister.clocks (clocked_from [] es)
   pub seen : HasSeen lister.lister.filter (seen_in es)
+  pub faulty : lister.is_faulty ≡ has_fault es
 
 -- It put the lines of these events, which follow all that it stands for. An outlet's value is the list of its bytes.
 pub record ListerGets (old : RecoveringLister × List ℕ) (es : List (Event (Heard Packet)))

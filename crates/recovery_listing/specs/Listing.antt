@@ -1,10 +1,12 @@
 -- What `show` writes of a recovering report: the lines of its events, the faults among them, and the end lines.
-use Rattle.std.specs.Prelude.{ℕ, List, [], ◌∷◌, ◌++◌, flat_map, Result, Ok, Err, false}
+use Rattle.std.specs.Prelude.{ℕ, List, [], ◌∷◌, ◌++◌, flat_map, Result, Ok, Err, Bool, true, false}
+use Rattle.std.specs.List.{list_any}
 use Rattle.trace_values.specs.declared.fault.Reason.{Reason}
 use Rattle.trace_values.specs.Placed.{placed}
 use Rattle.source_events.specs.declared.event.Event.{Event}
 use Rattle.source_events.specs.declared.event.What.{What}
 use Rattle.source_events.specs.declared.packet.Packet.{Packet}
+use Rattle.source_events.specs.declared.plan.Plan.{Plan}
 use Rattle.source_events.specs.Merge.{place_of}
 use Rattle.stretch_readings.specs.declared.heard.Heard.{Heard}
 use Rattle.recovering_machines.specs.Hearing.{as_event, as_strict}
@@ -34,6 +36,17 @@ seen_by e (Err reason) = []
 
 abbrev pub seen_in : List (Event (Heard Packet)) → List (Event Packet)
 seen_in es = flat_map (λ e. seen_by e (as_strict e.what)) es
+
+-- there is a fault among these events, or in the report of these bytes
+abbrev pub is_err : Result (What Packet) Reason → Bool
+is_err (Ok what) = false
+is_err (Err reason) = true
+
+abbrev pub has_fault : List (Event (Heard Packet)) → Bool
+has_fault es = list_any (λ e. is_err (as_strict e.what)) es
+
+abbrev pub is_faulty : Plan → List ℕ → Bool
+is_faulty plan bytes = has_fault (report plan (placed bytes))
 
 -- the line of an event after those before it; none where it is not listed, and a fault always is
 abbrev pub line_of : ListPlan → List (Event (Heard Packet)) → Event (Heard Packet) → Result (What Packet) Reason →

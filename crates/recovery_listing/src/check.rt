@@ -49,6 +49,7 @@ fn put_sources(outlet: &mut Outlet, engine: &CountingRecovery)
 impl RecoveringCheck {
     ghost use Rattle.source_events.specs.declared.plan.Plan.{Plan};
     ghost use Rattle.recovery_listing.specs.Check.{Stands, plan_of, taken_by};
+    ghost use Rattle.recovery_listing.specs.Listing.{is_faulty};
     ghost use Rattle.recovery_listing.specs.Summary.{summary};
 
     /// Nothing is read yet.
@@ -60,6 +61,13 @@ impl RecoveringCheck {
         RecoveringCheck {
             engine: CountingRecovery::new(plan),
         }
+    }
+
+    /// The report of the bytes that were taken has a fault.
+    pub fn is_faulty(&self) -> bool
+        ensures { (seen : List ℕ) → Stands self.now seen → result ≡ is_faulty (plan_of self.now) seen }
+    {
+        self.engine.faults() != 0
     }
 
     /// Takes the next byte.

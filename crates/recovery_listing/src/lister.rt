@@ -15,6 +15,8 @@ use trace_values::{Fault, Reason};
 #[derive(Drop)]
 pub struct RecoveringLister {
     lister: Lister,
+    /// A fault came.
+    is_faulty: bool,
 }
 
 /// What an event is in a strict report, or the reason of its fault.
@@ -33,7 +35,11 @@ fn strictly(what: What<Heard<Packet>>) -> Result<What<Packet>, Reason>
 impl RecoveringLister {
     ghost use Rattle.item_tap.specs.declared.bounds.Bounds.{Bounds};
     ghost use Rattle.item_tap.specs.declared.choice.Choice.{Choice};
+    ghost use Rattle.source_events.specs.declared.event.Event.{Event};
+    ghost use Rattle.source_events.specs.declared.packet.Packet.{Packet};
+    ghost use Rattle.stretch_readings.specs.declared.heard.Heard.{Heard};
     ghost use Rattle.recovery_listing.specs.Lister.{Stands, plan_of};
+    ghost use Rattle.recovery_listing.specs.Listing.{has_fault};
 
     /// No event came yet. It lists those of a capture that is read so which meet a choice, if there is one, and are
     /// within a window, if there is one.
@@ -43,7 +49,15 @@ impl RecoveringLister {
     {
         RecoveringLister {
             lister: Lister::new(plan, only, window),
+            is_faulty: false,
         }
+    }
+
+    /// A fault came.
+    pub fn is_faulty(&self) -> bool
+        ensures { (es : List (Event (Heard Packet))) → Stands self.now es → result ≡ has_fault es }
+    {
+        self.is_faulty
     }
 }
 
@@ -77,6 +91,7 @@ impl Hearer for RecoveringLister {
             Err(reason) => {
                 let fault = Fault { at, half, reason };
                 self.lister.put_fault(outlet, &Stop { fault, source });
+                self.is_faulty = true;
             }
         }
     }

@@ -19,6 +19,7 @@ pub struct RecoveringShow {
 impl RecoveringShow {
     ghost use Rattle.capture_actions.specs.declared.list_plan.ListPlan.{ListPlan};
     ghost use Rattle.recovery_listing.specs.Feeding.{HasFed};
+    ghost use Rattle.recovery_listing.specs.Listing.{is_faulty};
     ghost use Rattle.recovery_listing.specs.Show.{plan_of, Stands, taken_by};
 
     /// Nothing is read yet.
@@ -31,6 +32,13 @@ impl RecoveringShow {
             lister: RecoveringLister::new(&plan.plan, plan.only, plan.window),
             engine: Recovery::new(plan.plan),
         }
+    }
+
+    /// The report of the bytes that were taken has a fault.
+    pub fn is_faulty(&self) -> bool
+        ensures { (seen : List ℕ) → Stands self.now seen → result ≡ is_faulty (plan_of self.now).plan seen }
+    {
+        self.lister.is_faulty()
     }
 
     /// Takes the next byte, and puts the lines of the events that it ends.
