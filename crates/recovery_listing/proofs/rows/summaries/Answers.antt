@@ -7,4 +7,4 @@ use Rattle.recovery_listing.proofs.rows.summaries.Goals as goal
 
 pub returns : goal.returns
 unfolding digits hex_on_literals source_tails sources_text
-returns c = refl
+returns c = record { faults = refl }

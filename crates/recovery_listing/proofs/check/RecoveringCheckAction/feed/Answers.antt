@@ -1,4 +1,4 @@
-use Rattle.std.proofs.Common.{ℕ, List, [], ◌∷◌, ◌++◌, length, take, sym, ◌∙◌, ap, refl, subst, append_assoc, append-nil, arith}
+use Rattle.std.proofs.Common.{◌≡◌, ℕ, List, [], ◌∷◌, ◌++◌, length, get_or, take, sym, ◌∙◌, ap, refl, subst, append_assoc, append-nil, arith}
 use Rattle.std.proofs.lemmas.List.{take_more}
 use Rattle.recovery_listing.specs.Check.{Stands}
 use Rattle.recovery_listing.proofs.check.RecoveringCheckAction.feed.Goals as goal
@@ -15,21 +15,23 @@ loop-index-preserved c =
     let i = c.loop-index.invariant in
     let piece = c.args.piece.now in
     let k = c.loop-index.index in
-    let byte = c.index-piece-index.result in
     record {
       same = c.take.ensures.same ∙ i.same;
       count = (let a = i.count in let b = c.take.ensures.count in omega (arith, a, b));
       list = λ seen s.
           subst (Stands c.take.new.self)
-          (append_assoc seen (take k piece) (byte ∷ [])
-          ∙ ap (λ (l : List ℕ). seen ++ l) (ap (λ (x : ℕ). take k piece ++ x ∷ []) c.index-piece-index.is
-          ∙ sym (take_more piece k byte c.loop-index-test.true)))
+          (append_assoc seen (take k piece) (get_or piece k 0 ∷ [])
+          ∙ ap (λ (l : List ℕ). seen ++ l) (sym (take_more piece k 0 c.loop-index-test.true)))
           (c.take.ensures.list (seen ++ take k piece) (i.list seen s));
     }
 
 pub returns-clause-fed : goal.returns-clause-fed
 returns-clause-fed c = λ seen s. record {
-  read = c.loop-index.invariant.list seen s;
+  read =
+      let all : c.loop-index.index ≡ length c.args.piece.now =
+      (let a = c.loop-index.auto.index-end in let b = c.loop-index-test.false in omega (arith, a, b)) in
+      subst (λ (n : ℕ). Stands c.loop-index.self (seen ++ take n c.args.piece.now)) all
+      (c.loop-index.invariant.list seen s);
   more = [];
   grown = refl;
   gained = sym (append-nil c.args._outlet.now);
