@@ -101,6 +101,7 @@ impl RecoveringCheck {
 
 impl Action for RecoveringCheck {
     ghost use Rattle.std.specs.Prelude.{⊤};
+    ghost use Rattle.trace_stream.specs.Debt.{Paid};
     ghost use Rattle.source_events.specs.declared.plan.Plan.{Plan};
     ghost use Rattle.recovery_listing.specs.Check.{Stands, plan_of, taken_by};
     ghost use Rattle.recovery_listing.specs.MeaningLaws.{check_lawful};
@@ -116,9 +117,16 @@ impl Action for RecoveringCheck {
 
     ghost stands = { Stands };
 
+    ghost debt = { λ _. Paid };
+
     ghost meaning = { check_meaning };
 
     ghost lawful = { check_lawful };
+
+    #[inline]
+    fn pour(&mut self, _outlet: &mut Outlet) -> bool {
+        false
+    }
 
     /// Takes the whole piece.
     fn feed(&mut self, piece: &[u8], _outlet: &mut Outlet) -> Progress {
@@ -131,7 +139,7 @@ impl Action for RecoveringCheck {
         }
     }
 
-    fn finish(&self, outlet: &mut Outlet) {
+    fn finish(&mut self, outlet: &mut Outlet) {
         self.put_summary(outlet);
     }
 

@@ -54,6 +54,7 @@ impl RecoveringShow {
 
 impl Action for RecoveringShow {
     ghost use Rattle.std.specs.Prelude.{⊤};
+    ghost use Rattle.trace_stream.specs.Debt.{Paid};
     ghost use Rattle.capture_actions.specs.declared.list_plan.ListPlan.{ListPlan};
     ghost use Rattle.recovery_listing.specs.Listing.{show_meaning};
     ghost use Rattle.recovery_listing.specs.MeaningLaws.{show_lawful};
@@ -69,9 +70,16 @@ impl Action for RecoveringShow {
 
     ghost stands = { Stands };
 
+    ghost debt = { λ _. Paid };
+
     ghost meaning = { show_meaning };
 
     ghost lawful = { show_lawful };
+
+    #[inline]
+    fn pour(&mut self, _outlet: &mut Outlet) -> bool {
+        false
+    }
 
     /// Takes bytes while the outlet has room for the lines of another one.
     fn feed(&mut self, piece: &[u8], outlet: &mut Outlet) -> Progress {
@@ -86,7 +94,7 @@ impl Action for RecoveringShow {
         }
     }
 
-    fn finish(&self, outlet: &mut Outlet) {
+    fn finish(&mut self, outlet: &mut Outlet) {
         print_tails(outlet, &self.engine.finish());
     }
 
