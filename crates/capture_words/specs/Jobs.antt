@@ -6,9 +6,8 @@ use Rattle.clap.specs.Words.{Row}
 use Rattle.trace_values.specs.declared.reading_modes.FramesMode.{FramesMode}
 use Rattle.source_events.specs.Plan.{is_sound}
 use Rattle.source_events.specs.declared.plan.Plan.{Plan}
-use Rattle.capture_words.specs.Values.{action_in, frames_in, packets_in, itm_in, stp_in, order_in, id_in, only_in}
-use Rattle.capture_words.specs.Values.{window_in, sync_in, half_in, limit_in, items_in, lose_in, size_in, pointer_in}
-use Rattle.capture_words.specs.Values.{full_in}
+use Rattle.capture_words.specs.Settings.{◌>>=◌, settings_in}
+use Rattle.capture_words.specs.Values.{action_in}
 use Rattle.capture_words.specs.declared.job.Task.{Task}
 use Rattle.capture_words.specs.declared.job.Task.TheVariants.{Show, Split, Check, Rebuild, Exercise}
 use Rattle.capture_words.specs.declared.job.Task.TheVariants.{Realign, Ring, Unring}
@@ -23,75 +22,21 @@ use Rattle.capture_words.specs.declared.values.ActionName.TheVariants.{Check as 
 use Rattle.capture_words.specs.declared.values.ActionName.TheVariants.{Exercise as ExerciseName, Realign as RealignName}
 use Rattle.capture_words.specs.declared.values.ActionName.TheVariants.{Ring as RingName, Unring as UnringName}
 
-infixl 10 ◌>>=◌
--- a fault, or else what is made of the value
-abbrev ◌>>=◌ : {A B : Type 0} → Result A UsageFault → (A → Result B UsageFault) → Result B UsageFault
-Err fault >>= next = Err fault
-Ok value >>= next = next value
-
--- what all options say, or the first fault in the order of the command
-abbrev pub settings_in : List Row → Result Settings UsageFault
-settings_in rows = do
-  frames ← frames_in rows
-  packets ← packets_in rows
-  itm ← itm_in rows
-  stp ← stp_in rows
-  order ← order_in rows
-  id ← id_in rows
-  only ← only_in rows
-  window ← window_in rows
-  sync ← sync_in rows
-  half ← half_in rows
-  limit ← limit_in rows
-  items ← items_in rows
-  lose ← lose_in rows
-  size ← size_in rows
-  pointer ← pointer_in rows
-  full ← full_in rows
-  Ok (record {
-    frames = frames;
-    packets = packets;
-    itm = itm;
-    stp = stp;
-    order = order;
-    id = id;
-    only = only;
-    window = window;
-    sync = sync;
-    half = half;
-    limit = limit;
-    items = items;
-    lose = lose;
-    size = size;
-    pointer = pointer;
-    full = full;
-  })
-
--- how a capture is read
-abbrev pub plan_of : Settings → Plan
-plan_of s = record {
-  frames = s.frames;
-  packets = s.packets;
-  itm = s.itm;
-  stp = s.stp;
-  order = s.order;
-}
-
 -- the first of these IDs that stands earlier already, among them or before them
 abbrev pub again_after : List ℕ → List ℕ → Option ℕ
 again_after before [] = None
 again_after before (x ∷ xs) = if list_any (λ y. y == x) before then Some x else again_after (before ++ x ∷ []) xs
 
 -- the first ID that is mapped twice, of those of the ITM sources and then those of the STP sources
-abbrev pub mapped_twice : Settings → Option ℕ
-mapped_twice s = again_after [] (s.itm ++ s.stp)
+abbrev pub mapped_twice : Plan → Option ℕ
+mapped_twice plan = again_after [] (plan.itm ++ plan.stp)
 
 abbrev pub fault_or : {A : Type 0} → Option UsageFault → A → Result A UsageFault
 fault_or (Some fault) value = Err fault
 fault_or None value = Ok value
 
-abbrev pub plan_with : Settings → Result Plan UsageFault
-plan_with s = fault_or (option_map MappedTwice (mapped_twice s)) (plan_of s)
+abbrev pub plan_with : Plan → Result Plan UsageFault
+plan_with plan = fault_or (option_map MappedTwice (mapped_twice plan)) plan
 
 -- `split` needs an ID, and maps none
 abbrev pub split_with : FramesMode → Option ℕ → Result Task UsageFault
@@ -111,14 +56,14 @@ unring_with (Some size) pointer full =
 
 -- the task of an action with what it needs of the options
 abbrev pub task_with : ActionName → Settings → Result Task UsageFault
-task_with ShowName s = plan_with s >>= (λ plan. Ok (Show plan s.only s.window))
-task_with SplitName s = split_with s.frames s.id
-task_with CheckName s = plan_with s >>= (λ plan. Ok (Check plan))
-task_with RebuildName s = plan_with s >>= (λ plan. Ok (Rebuild plan s.sync s.half))
+task_with ShowName s = plan_with s.plan >>= (λ plan. Ok (Show plan s.only s.window))
+task_with SplitName s = split_with s.plan.frames s.id
+task_with CheckName s = plan_with s.plan >>= (λ plan. Ok (Check plan))
+task_with RebuildName s = plan_with s.plan >>= (λ plan. Ok (Rebuild plan s.sync s.half))
 task_with ExerciseName s = Ok (Exercise s.items s.lose)
 task_with RealignName s = Ok Realign
-task_with RingName s = ring_with s.size
-task_with UnringName s = unring_with s.size s.pointer s.full
+task_with RingName s = ring_with s.buffer.size
+task_with UnringName s = unring_with s.buffer.size s.buffer.pointer s.buffer.full
 
 -- The first fault of the action's name, of the options' values in the order of the command, and of what the
 -- action needs; and where there is none, the job. An option that the action doesn't use has no effect.

@@ -4,7 +4,7 @@ ghost use Rattle.std.specs.Prelude.{◌≡◌, IfOk, codes};
 ghost use Rattle.clap.specs.Words.{app_of, with_rule, new_app};
 ghost use Rattle.capture_words.specs.Command.{trace_app, option_rule, action_rule};
 
-use crate::option::CommandOption;
+use crate::option::{ALL_OPTIONS, CommandOption};
 use clap::{Arg, ArgAction, Command};
 use std::alloc::{AllocError, Global};
 
@@ -53,21 +53,9 @@ fn with_action<'a>(alloc: Global) -> Result<Command<'a>, AllocError>
 pub fn trace_command<'a>(alloc: Global) -> Result<Command<'a>, AllocError>
     ensures { IfOk result (λ c. app_of c ≡ trace_app) }
 {
-    let command = with_action(alloc)?;
-    let command = with_option(alloc, command, CommandOption::Frames)?;
-    let command = with_option(alloc, command, CommandOption::Packets)?;
-    let command = with_option(alloc, command, CommandOption::Itm)?;
-    let command = with_option(alloc, command, CommandOption::Stp)?;
-    let command = with_option(alloc, command, CommandOption::StpOrder)?;
-    let command = with_option(alloc, command, CommandOption::Id)?;
-    let command = with_option(alloc, command, CommandOption::Only)?;
-    let command = with_option(alloc, command, CommandOption::Window)?;
-    let command = with_option(alloc, command, CommandOption::Sync)?;
-    let command = with_option(alloc, command, CommandOption::Half)?;
-    let command = with_option(alloc, command, CommandOption::Limit)?;
-    let command = with_option(alloc, command, CommandOption::Items)?;
-    let command = with_option(alloc, command, CommandOption::Lose)?;
-    let command = with_option(alloc, command, CommandOption::Size)?;
-    let command = with_option(alloc, command, CommandOption::Pointer)?;
-    with_option(alloc, command, CommandOption::Full)
+    let mut command = with_action(alloc)?;
+    for option in ALL_OPTIONS {
+        command = with_option(alloc, command, option)?;
+    }
+    Ok(command)
 }

@@ -10,7 +10,7 @@ ghost use Rattle.capture_words.specs.Jobs.{plan_with, split_with, ring_with, unr
 ghost use Rattle.capture_words.specs.Jobs.{task_with, job_of, IsSoundTask};
 
 use crate::ids::mapped_twice;
-use crate::settings::{Settings, settings_in};
+use crate::settings::{BufferSettings, Settings, settings_in};
 use crate::usage::UsageFault;
 use crate::values::{ActionName, action_in};
 use clap::ArgMatches;
@@ -82,66 +82,57 @@ pub struct Job {
     pub limit: u64,
 }
 
-/// How the capture is read, or that an ID is mapped twice.
-fn plan_with(settings: Settings) -> Result<Plan, UsageFault>
-    requires itm { All (λ n. (1 ≤ n) × (n ≤ 111)) settings.itm }
-    requires stp { All (λ n. (1 ≤ n) × (n ≤ 111)) settings.stp }
-    ensures plan { result ≡ plan_with settings }
+/// The plan, or that an ID is mapped twice.
+fn plan_with(plan: Plan) -> Result<Plan, UsageFault>
+    requires itm { All (λ n. (1 ≤ n) × (n ≤ 111)) plan.itm }
+    requires stp { All (λ n. (1 ≤ n) × (n ≤ 111)) plan.stp }
+    ensures plan { result ≡ plan_with plan }
     ensures sound { IfOk result (λ plan. is_sound plan ≡ true) }
 {
-    match mapped_twice(&settings.itm, &settings.stp) {
+    match mapped_twice(&plan.itm, &plan.stp) {
         Some(id) => Err(UsageFault::MappedTwice(id)),
-        None => Ok(Plan {
-            frames: settings.frames,
-            packets: settings.packets,
-            itm: settings.itm,
-            stp: settings.stp,
-            order: settings.order,
-        }),
+        None => Ok(plan),
     }
 }
 
 /// The bytes of a source, whose ID is needed.
-fn split_with(settings: &Settings) -> Result<Task, UsageFault>
-    ensures task { result ≡ split_with settings.now.frames settings.now.id }
+fn split_with(frames: FramesMode, id: Option<SourceId>) -> Result<Task, UsageFault>
+    ensures task { result ≡ split_with frames id }
     ensures sound { IfOk result IsSoundTask }
 {
-    match settings.id {
-        Some(id) => Ok(Task::Split {
-            frames: settings.frames,
-            id,
-        }),
+    match id {
+        Some(id) => Ok(Task::Split { frames, id }),
         None => Err(UsageFault::SplitNeedsId),
     }
 }
 
 /// The image of a trace buffer, whose size is needed.
-fn ring_with(settings: &Settings) -> Result<Task, UsageFault>
-    requires { IfSome settings.now.size (λ n. (LEAST_SIZE ≤ n) × (n ≤ GREATEST_SIZE)) }
-    ensures task { result ≡ ring_with settings.now.size }
+fn ring_with(size: Option<usize>) -> Result<Task, UsageFault>
+    requires { IfSome size (λ n. (LEAST_SIZE ≤ n) × (n ≤ GREATEST_SIZE)) }
+    ensures task { result ≡ ring_with size }
     ensures sound { IfOk result IsSoundTask }
 {
-    match settings.size {
+    match size {
         Some(size) => Ok(Task::Ring { size }),
         None => Err(UsageFault::RingNeedsSize),
     }
 }
 
 /// The bytes of an image in order. Its size is needed, and its write pointer is under it.
-fn unring_with(settings: &Settings) -> Result<Task, UsageFault>
-    requires { IfSome settings.now.size (λ n. (LEAST_SIZE ≤ n) × (n ≤ GREATEST_SIZE)) }
-    ensures task { result ≡ unring_with settings.now.size settings.now.pointer settings.now.full }
+fn unring_with(buffer: BufferSettings) -> Result<Task, UsageFault>
+    requires { IfSome buffer.size (λ n. (LEAST_SIZE ≤ n) × (n ≤ GREATEST_SIZE)) }
+    ensures task { result ≡ unring_with buffer.size buffer.pointer buffer.full }
     ensures sound { IfOk result IsSoundTask }
 {
-    let Some(size) = settings.size else {
+    let Some(size) = buffer.size else {
         return Err(UsageFault::UnringNeedsSize);
     };
-    let pointer = settings.pointer;
+    let BufferSettings { pointer, full, .. } = buffer;
     if pointer < size {
         Ok(Task::Unring {
             size,
             pointer,
-            full: settings.full,
+            full,
         })
     } else {
         Err(UsageFault::PointerNotUnderSize)
@@ -150,41 +141,35 @@ fn unring_with(settings: &Settings) -> Result<Task, UsageFault>
 
 /// The task of an action, with what it needs of the options.
 fn task_with(name: ActionName, settings: Settings) -> Result<Task, UsageFault>
-    requires itm { All (λ n. (1 ≤ n) × (n ≤ 111)) settings.itm }
-    requires stp { All (λ n. (1 ≤ n) × (n ≤ 111)) settings.stp }
+    requires itm { All (λ n. (1 ≤ n) × (n ≤ 111)) settings.plan.itm }
+    requires stp { All (λ n. (1 ≤ n) × (n ≤ 111)) settings.plan.stp }
     requires half { settings.half ≤ GREATEST_HALF }
     requires items { (1 ≤ settings.items) × (settings.items ≤ GREATEST_ITEMS) }
     requires lose { settings.lose ≤ GREATEST_LOSS }
-    requires size { IfSome settings.size (λ n. (LEAST_SIZE ≤ n) × (n ≤ GREATEST_SIZE)) }
+    requires size { IfSome settings.buffer.size (λ n. (LEAST_SIZE ≤ n) × (n ≤ GREATEST_SIZE)) }
     ensures task { result ≡ task_with name settings }
     ensures sound { IfOk result IsSoundTask }
 {
     match name {
-        ActionName::Show => {
-            let (only, window) = (settings.only, settings.window);
-            Ok(Task::Show {
-                plan: plan_with(settings)?,
-                only,
-                window,
-            })
-        }
-        ActionName::Split => split_with(&settings),
-        ActionName::Check => Ok(Task::Check(plan_with(settings)?)),
-        ActionName::Rebuild => {
-            let (sync, half) = (settings.sync, settings.half);
-            Ok(Task::Rebuild {
-                plan: plan_with(settings)?,
-                sync,
-                half,
-            })
-        }
+        ActionName::Show => Ok(Task::Show {
+            plan: plan_with(settings.plan)?,
+            only: settings.only,
+            window: settings.window,
+        }),
+        ActionName::Split => split_with(settings.plan.frames, settings.id),
+        ActionName::Check => Ok(Task::Check(plan_with(settings.plan)?)),
+        ActionName::Rebuild => Ok(Task::Rebuild {
+            plan: plan_with(settings.plan)?,
+            sync: settings.sync,
+            half: settings.half,
+        }),
         ActionName::Exercise => Ok(Task::Exercise {
             items: settings.items,
             lose: settings.lose,
         }),
         ActionName::Realign => Ok(Task::Realign),
-        ActionName::Ring => ring_with(&settings),
-        ActionName::Unring => unring_with(&settings),
+        ActionName::Ring => ring_with(settings.buffer.size),
+        ActionName::Unring => unring_with(settings.buffer),
     }
 }
 

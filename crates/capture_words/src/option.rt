@@ -40,6 +40,26 @@ pub enum CommandOption {
     Full,
 }
 
+/// The options, in that order.
+pub(crate) const ALL_OPTIONS: [CommandOption; 16] = [
+    CommandOption::Frames,
+    CommandOption::Packets,
+    CommandOption::Itm,
+    CommandOption::Stp,
+    CommandOption::StpOrder,
+    CommandOption::Id,
+    CommandOption::Only,
+    CommandOption::Window,
+    CommandOption::Sync,
+    CommandOption::Half,
+    CommandOption::Limit,
+    CommandOption::Items,
+    CommandOption::Lose,
+    CommandOption::Size,
+    CommandOption::Pointer,
+    CommandOption::Full,
+];
+
 impl CommandOption {
     /// The name of the option, after the two dashes, at the lifetime of the command that takes it.
     pub fn name<'a>(self) -> &'a str

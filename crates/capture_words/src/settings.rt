@@ -6,7 +6,7 @@ ghost use Rattle.capture_words.specs.declared.values.TheConstants.{GREATEST_LIMI
 ghost use Rattle.capture_words.specs.declared.values.TheConstants.{GREATEST_ITEMS, GREATEST_LOSS};
 ghost use Rattle.capture_words.specs.declared.values.TheConstants.{LEAST_SIZE, GREATEST_SIZE};
 ghost use Rattle.clap.specs.Words.{rows_of, found_of};
-ghost use Rattle.capture_words.specs.Jobs.{settings_in};
+ghost use Rattle.capture_words.specs.Settings.{plan_in, buffer_in, settings_in};
 
 use crate::usage::UsageFault;
 use crate::values::{
@@ -15,23 +15,25 @@ use crate::values::{
 };
 use clap::ArgMatches;
 use item_tap::{Bounds, Choice};
-use source_events::SourceIds;
-use stp_grammar::packet::Order;
-use trace_values::{FramesMode, PacketsMode, SourceId};
+use source_events::Plan;
+use trace_values::SourceId;
+
+/// What the options say of a trace buffer.
+#[derive(Clone, Copy, Drop)]
+pub struct BufferSettings {
+    /// How many bytes it has.
+    pub size: Option<usize>,
+    /// Where it would have put its next byte.
+    pub pointer: usize,
+    /// Whether it has taken as many bytes as it has, or more.
+    pub full: bool,
+}
 
 /// What the options say, each with its default where it is absent.
 #[derive(Drop)]
 pub struct Settings {
-    /// Where the reading of the port begins.
-    pub frames: FramesMode,
-    /// Where the reading of a source begins.
-    pub packets: PacketsMode,
-    /// The sources that send ITM packets.
-    pub itm: SourceIds,
-    /// The sources that send STP packets.
-    pub stp: SourceIds,
-    /// The order of the nibbles of an STP value.
-    pub order: Order,
+    /// How a capture is read; an ID may be mapped twice.
+    pub plan: Plan,
     /// The source whose bytes are taken.
     pub id: Option<SourceId>,
     /// Which events are listed.
@@ -48,58 +50,59 @@ pub struct Settings {
     pub items: u32,
     /// How many bytes are lost of the front of what is made.
     pub lose: u32,
-    /// How many bytes a trace buffer has.
-    pub size: Option<usize>,
-    /// Where a trace buffer would have put its next byte.
-    pub pointer: usize,
-    /// Whether a trace buffer has taken as many bytes as it has, or more.
-    pub full: bool,
+    /// A trace buffer.
+    pub buffer: BufferSettings,
+}
+
+/// How a capture is read, by the first five options.
+fn plan_in(matches: &ArgMatches<'_>) -> Result<Plan, UsageFault>
+    ensures plan { result ≡ plan_in (rows_of (found_of matches.now)) }
+    ensures itm { IfOk result (λ plan. All (λ n. (1 ≤ n) × (n ≤ 111)) plan.itm) }
+    ensures stp { IfOk result (λ plan. All (λ n. (1 ≤ n) × (n ≤ 111)) plan.stp) }
+{
+    Ok(Plan {
+        frames: frames_in(matches)?,
+        packets: packets_in(matches)?,
+        itm: itm_in(matches)?,
+        stp: stp_in(matches)?,
+        order: order_in(matches)?,
+    })
+}
+
+/// What the options say of a trace buffer.
+fn buffer_in(matches: &ArgMatches<'_>) -> Result<BufferSettings, UsageFault>
+    ensures buffer { result ≡ buffer_in (rows_of (found_of matches.now)) }
+    ensures size { IfOk result (λ b. IfSome b.size (λ n. (LEAST_SIZE ≤ n) × (n ≤ GREATEST_SIZE))) }
+{
+    Ok(BufferSettings {
+        size: size_in(matches)?,
+        pointer: pointer_in(matches)?,
+        full: full_in(matches)?,
+    })
 }
 
 /// What the options say, or the first whose value is none of its own.
 pub fn settings_in(matches: &ArgMatches<'_>) -> Result<Settings, UsageFault>
     ensures settings { result ≡ settings_in (rows_of (found_of matches.now)) }
-    ensures itm { IfOk result (λ s. All (λ n. (1 ≤ n) × (n ≤ 111)) s.itm) }
-    ensures stp { IfOk result (λ s. All (λ n. (1 ≤ n) × (n ≤ 111)) s.stp) }
+    ensures itm { IfOk result (λ s. All (λ n. (1 ≤ n) × (n ≤ 111)) s.plan.itm) }
+    ensures stp { IfOk result (λ s. All (λ n. (1 ≤ n) × (n ≤ 111)) s.plan.stp) }
     ensures sync { IfOk result (λ s. s.sync ≤ GREATEST_SYNC) }
     ensures half { IfOk result (λ s. s.half ≤ GREATEST_HALF) }
     ensures limit { IfOk result (λ s. (1 ≤ s.limit) × (s.limit ≤ GREATEST_LIMIT)) }
     ensures items { IfOk result (λ s. (1 ≤ s.items) × (s.items ≤ GREATEST_ITEMS)) }
     ensures lose { IfOk result (λ s. s.lose ≤ GREATEST_LOSS) }
-    ensures size { IfOk result (λ s. IfSome s.size (λ n. (LEAST_SIZE ≤ n) × (n ≤ GREATEST_SIZE))) }
+    ensures size { IfOk result (λ s. IfSome s.buffer.size (λ n. (LEAST_SIZE ≤ n) × (n ≤ GREATEST_SIZE))) }
 {
-    let frames = frames_in(matches)?;
-    let packets = packets_in(matches)?;
-    let itm = itm_in(matches)?;
-    let stp = stp_in(matches)?;
-    let order = order_in(matches)?;
-    let id = id_in(matches)?;
-    let only = only_in(matches)?;
-    let window = window_in(matches)?;
-    let sync = sync_in(matches)?;
-    let half = half_in(matches)?;
-    let limit = limit_in(matches)?;
-    let items = items_in(matches)?;
-    let lose = lose_in(matches)?;
-    let size = size_in(matches)?;
-    let pointer = pointer_in(matches)?;
-    let full = full_in(matches)?;
     Ok(Settings {
-        frames,
-        packets,
-        itm,
-        stp,
-        order,
-        id,
-        only,
-        window,
-        sync,
-        half,
-        limit,
-        items,
-        lose,
-        size,
-        pointer,
-        full,
+        plan: plan_in(matches)?,
+        id: id_in(matches)?,
+        only: only_in(matches)?,
+        window: window_in(matches)?,
+        sync: sync_in(matches)?,
+        half: half_in(matches)?,
+        limit: limit_in(matches)?,
+        items: items_in(matches)?,
+        lose: lose_in(matches)?,
+        buffer: buffer_in(matches)?,
     })
 }
