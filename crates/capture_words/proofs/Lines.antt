@@ -6,7 +6,7 @@ use Rattle.std.proofs.lemmas.Grind.{common_steps}
 use Rattle.capture_words.specs.Texts.{usage_line, IsFault}
 use Rattle.capture_words.specs.declared.option.CommandOption.TheVariants.{Frames, Packets, Itm, Stp, StpOrder, Id}
 use Rattle.capture_words.specs.declared.option.CommandOption.TheVariants.{Only, Window, Sync, Half, Limit, Items}
-use Rattle.capture_words.specs.declared.option.CommandOption.TheVariants.{Lose, Size, Pointer, Full}
+use Rattle.capture_words.specs.declared.option.CommandOption.TheVariants.{Lose, Recover, Size, Pointer, Full}
 use Rattle.capture_words.specs.declared.usage.TheConstants.{LINE_ROOM}
 use Rattle.capture_words.specs.declared.usage.UsageFault.{UsageFault}
 use Rattle.capture_words.specs.declared.usage.UsageFault.TheVariants.{UnknownAction, BadValue, SplitNeedsId}
@@ -28,6 +28,7 @@ fits (BadValue Half) is = lit≤ tt
 fits (BadValue Limit) is = lit≤ tt
 fits (BadValue Items) is = lit≤ tt
 fits (BadValue Lose) is = lit≤ tt
+fits (BadValue Recover) is = lit≤ tt
 fits (BadValue Size) is = lit≤ tt
 fits (BadValue Pointer) is = lit≤ tt
 fits (BadValue Full) is = lit≤ tt

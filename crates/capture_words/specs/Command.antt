@@ -8,7 +8,7 @@ use Rattle.capture_words.specs.declared.option.TheConstants.{ALL_OPTIONS}
 use Rattle.capture_words.specs.declared.option.CommandOption.{CommandOption}
 use Rattle.capture_words.specs.declared.option.CommandOption.TheVariants.{Frames, Packets, Itm, Stp, StpOrder, Id}
 use Rattle.capture_words.specs.declared.option.CommandOption.TheVariants.{Only, Window, Sync, Half, Limit, Items}
-use Rattle.capture_words.specs.declared.option.CommandOption.TheVariants.{Lose, Size, Pointer, Full}
+use Rattle.capture_words.specs.declared.option.CommandOption.TheVariants.{Lose, Recover, Size, Pointer, Full}
 
 -- the name of an option, after the two dashes
 abbrev pub option_name : CommandOption → Text
@@ -25,6 +25,7 @@ option_name Half = codes "half"
 option_name Limit = codes "limit"
 option_name Items = codes "items"
 option_name Lose = codes "lose"
+option_name Recover = codes "recover"
 option_name Size = codes "size"
 option_name Pointer = codes "pointer"
 option_name Full = codes "full"

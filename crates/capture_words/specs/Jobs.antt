@@ -56,9 +56,9 @@ unring_with (Some size) pointer full =
 
 -- the task of an action with what it needs of the options
 abbrev pub task_with : ActionName → Settings → Result Task UsageFault
-task_with ShowName s = plan_with s.plan >>= (λ plan. Ok (Show plan s.only s.window))
+task_with ShowName s = plan_with s.plan >>= (λ plan. Ok (Show plan s.only s.window s.recover))
 task_with SplitName s = split_with s.plan.frames s.id
-task_with CheckName s = plan_with s.plan >>= (λ plan. Ok (Check plan))
+task_with CheckName s = plan_with s.plan >>= (λ plan. Ok (Check plan s.recover))
 task_with RebuildName s = plan_with s.plan >>= (λ plan. Ok (Rebuild plan s.sync s.half))
 task_with ExerciseName s = Ok (Exercise s.items s.lose)
 task_with RealignName s = Ok Realign
@@ -78,9 +78,9 @@ job_of rows = do
 -- From 1 to 1,000,000 items are made, of which at most 1,000,000 bytes are lost. A trace buffer has from 16 to 2^24
 -- bytes, and its write pointer is one of them.
 abbrev pub IsSoundTask : Task → Type 0
-IsSoundTask (Show plan only window) = is_sound plan ≡ true
+IsSoundTask (Show plan only window recover) = is_sound plan ≡ true
 IsSoundTask (Split frames id) = Unit {0}
-IsSoundTask (Check plan) = is_sound plan ≡ true
+IsSoundTask (Check plan recover) = is_sound plan ≡ true
 IsSoundTask (Rebuild plan sync half) = (is_sound plan ≡ true) × (half ≤ 8)
 IsSoundTask (Exercise items lose) = (1 ≤ items) × (items ≤ 1000000) × (lose ≤ 1000000)
 IsSoundTask Realign = Unit {0}

@@ -15,6 +15,7 @@ use Rattle.capture_words.specs.Command.{refusals}
 use Rattle.capture_words.specs.declared.job.Job.{Job}
 use Rattle.capture_words.specs.declared.job.Task.{Task}
 use Rattle.capture_words.specs.declared.job.Task.TheVariants.{Show}
+use Rattle.capture_words.specs.declared.recover.Recover.TheVariants.{Off}
 use Rattle.capture_words.specs.declared.usage.UsageFault.{UsageFault}
 
 -- a character in front of the first word
@@ -38,7 +39,7 @@ does text task limit = (text, Ok (record { task = task; limit = limit }))
 
 -- one whose words ask for a listing of these events, by defaults alone
 abbrev pub lists : Text → Choice → Text × Result Job UsageFault
-lists text only = does text (Show (planned FramesHunt PacketsHunt [] [] Msn) (Some only) None) 68719476736
+lists text only = does text (Show (planned FramesHunt PacketsHunt [] [] Msn) (Some only) None Off) 68719476736
 
 -- and one whose words have this fault
 abbrev pub faults : Text → UsageFault → Text × Result Job UsageFault

@@ -4,6 +4,7 @@ use Rattle.clap.specs.Words.{Row}
 use Rattle.source_events.specs.declared.plan.Plan.{Plan}
 use Rattle.capture_words.specs.Values.{frames_in, packets_in, itm_in, stp_in, order_in, id_in, only_in, window_in}
 use Rattle.capture_words.specs.Values.{sync_in, half_in, limit_in, items_in, lose_in, size_in, pointer_in, full_in}
+use Rattle.capture_words.specs.Values.{recover_in}
 use Rattle.capture_words.specs.declared.settings.BufferSettings.{BufferSettings}
 use Rattle.capture_words.specs.declared.settings.Settings.{Settings}
 use Rattle.capture_words.specs.declared.usage.UsageFault.{UsageFault}
@@ -43,6 +44,7 @@ settings_in rows = do
   limit ← limit_in rows
   items ← items_in rows
   lose ← lose_in rows
+  recover ← recover_in rows
   buffer ← buffer_in rows
   Ok (record {
     plan = plan;
@@ -54,5 +56,6 @@ settings_in rows = do
     limit = limit;
     items = items;
     lose = lose;
+    recover = recover;
     buffer = buffer;
   })

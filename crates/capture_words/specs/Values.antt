@@ -25,6 +25,9 @@ use Rattle.capture_words.specs.declared.option.CommandOption.{CommandOption}
 use Rattle.capture_words.specs.declared.option.CommandOption.TheVariants.{Frames, Packets, Itm, Stp, StpOrder, Id}
 use Rattle.capture_words.specs.declared.option.CommandOption.TheVariants.{Only, Window, Sync, Half, Limit, Items}
 use Rattle.capture_words.specs.declared.option.CommandOption.TheVariants.{Lose, Size, Pointer, Full}
+use Rattle.capture_words.specs.declared.option.CommandOption.TheVariants.{Recover as RecoverOption}
+use Rattle.capture_words.specs.declared.recover.Recover.{Recover}
+use Rattle.capture_words.specs.declared.recover.Recover.TheVariants.{Off, On}
 use Rattle.capture_words.specs.declared.usage.UsageFault.{UsageFault}
 use Rattle.capture_words.specs.declared.usage.UsageFault.TheVariants.{UnknownAction, BadValue}
 use Rattle.capture_words.specs.declared.values.ActionName.{ActionName}
@@ -162,6 +165,14 @@ items_in = number_given Items 12000 1 1000000
 
 abbrev pub lose_in : List Row → Result ℕ UsageFault
 lose_in = number_given Lose 0 0 1000000
+
+-- whether reading goes on after a fault; it does not if nothing else is said
+abbrev pub recover_named : Text → Option Recover
+recover_named text =
+    if bytes_eq text (codes "off") then Some Off else if bytes_eq text (codes "on") then Some On else None
+
+abbrev pub recover_in : List Row → Result Recover UsageFault
+recover_in = option_in RecoverOption Off recover_named
 
 -- a trace buffer's size in bytes, its write pointer, and whether it is full
 abbrev pub size_in : List Row → Result (Option ℕ) UsageFault

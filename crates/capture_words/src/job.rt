@@ -10,6 +10,7 @@ ghost use Rattle.capture_words.specs.Jobs.{plan_with, split_with, ring_with, unr
 ghost use Rattle.capture_words.specs.Jobs.{task_with, job_of, IsSoundTask};
 
 use crate::ids::mapped_twice;
+use crate::recover::Recover;
 use crate::settings::{BufferSettings, Settings, settings_in};
 use crate::usage::UsageFault;
 use crate::values::{ActionName, action_in};
@@ -29,6 +30,8 @@ pub enum Task {
         only: Option<Choice>,
         /// From which event to which the listing goes; over all where it is absent.
         window: Option<Bounds>,
+        /// Whether the listing goes on after a fault.
+        recover: Recover,
     },
     /// The bytes of one source, taken out of the frames of a port.
     Split {
@@ -37,8 +40,13 @@ pub enum Task {
         /// The source.
         id: SourceId,
     },
-    /// The capture is read so, and what is in it is counted.
-    Check(Plan),
+    /// What is in the capture is counted.
+    Check {
+        /// How the capture is read.
+        plan: Plan,
+        /// Whether the reading goes on after a fault.
+        recover: Recover,
+    },
     /// The capture of a script.
     Rebuild {
         /// What the script's sources send. Its modes make no difference.
@@ -155,9 +163,13 @@ fn task_with(name: ActionName, settings: Settings) -> Result<Task, UsageFault>
             plan: plan_with(settings.plan)?,
             only: settings.only,
             window: settings.window,
+            recover: settings.recover,
         }),
         ActionName::Split => split_with(settings.plan.frames, settings.id),
-        ActionName::Check => Ok(Task::Check(plan_with(settings.plan)?)),
+        ActionName::Check => Ok(Task::Check {
+            plan: plan_with(settings.plan)?,
+            recover: settings.recover,
+        }),
         ActionName::Rebuild => Ok(Task::Rebuild {
             plan: plan_with(settings.plan)?,
             sync: settings.sync,

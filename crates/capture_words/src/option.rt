@@ -32,6 +32,8 @@ pub enum CommandOption {
     Items,
     /// `--lose`: how many bytes are lost of the front of what is made.
     Lose,
+    /// `--recover`: whether reading goes on after a fault.
+    Recover,
     /// `--size`: how many bytes a trace buffer has.
     Size,
     /// `--pointer`: where a trace buffer would have put its next byte.
@@ -41,7 +43,7 @@ pub enum CommandOption {
 }
 
 /// The options, in that order.
-pub(crate) const ALL_OPTIONS: [CommandOption; 16] = [
+pub(crate) const ALL_OPTIONS: [CommandOption; 17] = [
     CommandOption::Frames,
     CommandOption::Packets,
     CommandOption::Itm,
@@ -55,6 +57,7 @@ pub(crate) const ALL_OPTIONS: [CommandOption; 16] = [
     CommandOption::Limit,
     CommandOption::Items,
     CommandOption::Lose,
+    CommandOption::Recover,
     CommandOption::Size,
     CommandOption::Pointer,
     CommandOption::Full,
@@ -80,6 +83,7 @@ impl CommandOption {
             CommandOption::Limit => "limit",
             CommandOption::Items => "items",
             CommandOption::Lose => "lose",
+            CommandOption::Recover => "recover",
             CommandOption::Size => "size",
             CommandOption::Pointer => "pointer",
             CommandOption::Full => "full",
@@ -130,6 +134,9 @@ impl CommandOption {
                 "How many items exercise makes: 1 to 1000000, 12000 where it is not given",
             CommandOption::Lose => {
                 "How many bytes exercise loses at the front: 0 (the default) to 1000000"
+            }
+            CommandOption::Recover => {
+                "Whether show and check go on after a fault, at the next synchronisation: off (the default) or on"
             }
             CommandOption::Size => {
                 "How many bytes the trace buffer of ring or unring has: 16 to 16777216"

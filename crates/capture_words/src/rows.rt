@@ -18,6 +18,8 @@ ghost use Rattle.capture_words.specs.declared.option.CommandOption.TheVariants.{
 ghost use Rattle.capture_words.specs.declared.option.CommandOption.TheVariants.{Id, Only, Window, Sync};
 ghost use Rattle.capture_words.specs.declared.option.CommandOption.TheVariants.{Half, Limit, Items, Lose};
 ghost use Rattle.capture_words.specs.declared.option.CommandOption.TheVariants.{Size, Pointer, Full};
+ghost use Rattle.capture_words.specs.declared.option.CommandOption.TheVariants.{Recover as RecoverOption};
+ghost use Rattle.capture_words.specs.declared.recover.Recover.TheVariants.{Off, On};
 ghost use Rattle.capture_words.specs.declared.usage.UsageFault.TheVariants.{UnknownAction, BadValue, SplitNeedsId};
 ghost use Rattle.capture_words.specs.declared.usage.UsageFault.TheVariants.{MappedTwice, RingNeedsSize};
 ghost use Rattle.capture_words.specs.declared.usage.UsageFault.TheVariants.{UnringNeedsSize, PointerNotUnderSize};
@@ -25,16 +27,16 @@ ghost use Rattle.capture_words.specs.declared.usage.UsageFault.TheVariants.{Unri
 /// Words that ask for a job, in several orders and spellings.
 pub fn asks()
     ensures show { AllAnswered (
-        does (codes "show") (Show (planned FramesHunt PacketsHunt [] [] Msn) None None) 68719476736 ∷
-        does (codes "show --itm 1") (Show (planned FramesHunt PacketsHunt (1 ∷ []) [] Msn) None None) 68719476736 ∷
+        does (codes "show") (Show (planned FramesHunt PacketsHunt [] [] Msn) None None Off) 68719476736 ∷
+        does (codes "show --itm 1") (Show (planned FramesHunt PacketsHunt (1 ∷ []) [] Msn) None None Off) 68719476736 ∷
         does (codes "show --frames bare --itm 111 --packets aligned")
-        (Show (planned Bare PacketsAligned (111 ∷ []) [] Msn) None None) 68719476736 ∷
+        (Show (planned Bare PacketsAligned (111 ∷ []) [] Msn) None None Off) 68719476736 ∷
         does (codes "show --stp 2 --stp-order lsn --limit 16777217")
-        (Show (planned FramesHunt PacketsHunt [] (2 ∷ []) Lsn) None None) 16777217 ∷
+        (Show (planned FramesHunt PacketsHunt [] (2 ∷ []) Lsn) None None Off) 16777217 ∷
         does (codes "--stp=2 --packets=hunt --stp-order=msn --itm=1 show --frames=aligned --limit=1")
-        (Show (planned FramesAligned PacketsHunt (1 ∷ []) (2 ∷ []) Msn) None None) 1 ∷
+        (Show (planned FramesAligned PacketsHunt (1 ∷ []) (2 ∷ []) Msn) None None Off) 1 ∷
         does (codes "show --id 126 --limit 68719476736")
-        (Show (planned FramesHunt PacketsHunt [] [] Msn) None None) 68719476736 ∷ []) }
+        (Show (planned FramesHunt PacketsHunt [] [] Msn) None None Off) 68719476736 ∷ []) }
     ensures only { AllAnswered (
         lists (codes "show --only itm") (OfKind ItmKind) ∷
         lists (codes "show --only dwt") (OfKind DwtKind) ∷
@@ -47,17 +49,17 @@ pub fn asks()
         lists (codes "show --only port=31") (Port 31) ∷ []) }
     ensures window { AllAnswered (
         does (codes "show --window raw,trigger")
-        (Show (planned FramesHunt PacketsHunt [] [] Msn) None (Some (record { first = OfKind RawKind; last = OfKind TriggerKind })))
+        (Show (planned FramesHunt PacketsHunt [] [] Msn) None (Some (record { first = OfKind RawKind; last = OfKind TriggerKind })) Off)
         68719476736 ∷
         does (codes "show --window=id=126,port=0")
-        (Show (planned FramesHunt PacketsHunt [] [] Msn) None (Some (record { first = Source 126; last = Port 0 })))
+        (Show (planned FramesHunt PacketsHunt [] [] Msn) None (Some (record { first = Source 126; last = Port 0 })) Off)
         68719476736 ∷
         does (codes "--window port=31,port=31 show")
-        (Show (planned FramesHunt PacketsHunt [] [] Msn) None (Some (record { first = Port 31; last = Port 31 })))
+        (Show (planned FramesHunt PacketsHunt [] [] Msn) None (Some (record { first = Port 31; last = Port 31 })) Off)
         68719476736 ∷
         does (codes "show --window itm,dwt --only stp")
         (Show (planned FramesHunt PacketsHunt [] [] Msn) (Some (OfKind StpKind))
-        (Some (record { first = OfKind ItmKind; last = OfKind DwtKind })))
+        (Some (record { first = OfKind ItmKind; last = OfKind DwtKind })) Off)
         68719476736 ∷ []) }
     ensures rebuild { AllAnswered (
         does (codes "rebuild") (Rebuild (planned FramesHunt PacketsHunt [] [] Msn) 64 0) 68719476736 ∷
@@ -85,6 +87,12 @@ pub fn asks()
         does (codes "unring --size 16777216 --pointer 16777215 --full 1 --limit 3")
         (Unring 16777216 16777215 true) 3 ∷
         does (codes "unring --size 17 --id 5 --sync 1 --itm 5 --stp 5") (Unring 17 0 false) 68719476736 ∷ []) }
+    ensures recover { AllAnswered (
+        does (codes "show --recover on --only itm")
+        (Show (planned FramesHunt PacketsHunt [] [] Msn) (Some (OfKind ItmKind)) None On) 68719476736 ∷
+        does (codes "--recover=off show") (Show (planned FramesHunt PacketsHunt [] [] Msn) None None Off) 68719476736 ∷
+        does (codes "check --recover=on") (Check (planned FramesHunt PacketsHunt [] [] Msn) On) 68719476736 ∷
+        does (codes "realign --recover on") Realign 68719476736 ∷ []) }
     ensures split { AllAnswered (
         does (codes "split --id 5") (Split FramesHunt 5) 68719476736 ∷
         does (codes "split --frames aligned --id 0") (Split FramesAligned 0) 68719476736 ∷
@@ -92,18 +100,18 @@ pub fn asks()
         (Split Bare 126) 7 ∷
         does (codes "split --id 5 --itm 7 --stp 7") (Split FramesHunt 5) 68719476736 ∷ []) }
     ensures check { AllAnswered (
-        does (codes "check") (Check (planned FramesHunt PacketsHunt [] [] Msn)) 68719476736 ∷
+        does (codes "check") (Check (planned FramesHunt PacketsHunt [] [] Msn) Off) 68719476736 ∷
         does (codes "check --frames aligned --itm 110 --stp 111")
-        (Check (planned FramesAligned PacketsHunt (110 ∷ []) (111 ∷ []) Msn)) 68719476736 ∷
+        (Check (planned FramesAligned PacketsHunt (110 ∷ []) (111 ∷ []) Msn) Off) 68719476736 ∷
         does (codes "--frames=bare --limit=65536 check --id 0 --only port=7 --packets aligned")
-        (Check (planned Bare PacketsAligned [] [] Msn)) 65536 ∷
+        (Check (planned Bare PacketsAligned [] [] Msn) Off) 65536 ∷
         does (codes "check --stp 5 --stp-order lsn")
-        (Check (planned FramesHunt PacketsHunt [] (5 ∷ []) Lsn)) 68719476736 ∷ []) }
+        (Check (planned FramesHunt PacketsHunt [] (5 ∷ []) Lsn) Off) 68719476736 ∷ []) }
     ensures several { AllAnswered (
         does (codes "show --itm 1,2 --stp 5,4,3")
-        (Show (planned FramesHunt PacketsHunt (1 ∷ 2 ∷ []) (5 ∷ 4 ∷ 3 ∷ []) Msn) None None) 68719476736 ∷
+        (Show (planned FramesHunt PacketsHunt (1 ∷ 2 ∷ []) (5 ∷ 4 ∷ 3 ∷ []) Msn) None None Off) 68719476736 ∷
         does (codes "check --itm=111,1,2,3,4,5,6,7")
-        (Check (planned FramesHunt PacketsHunt (111 ∷ 1 ∷ 2 ∷ 3 ∷ 4 ∷ 5 ∷ 6 ∷ 7 ∷ []) [] Msn)) 68719476736 ∷
+        (Check (planned FramesHunt PacketsHunt (111 ∷ 1 ∷ 2 ∷ 3 ∷ 4 ∷ 5 ∷ 6 ∷ 7 ∷ []) [] Msn) Off) 68719476736 ∷
         does (codes "rebuild --stp 2,1 --itm 4,3")
         (Rebuild (planned FramesHunt PacketsHunt (4 ∷ 3 ∷ []) (2 ∷ 1 ∷ []) Msn) 64 0) 68719476736 ∷ []) }
 {}
@@ -131,6 +139,8 @@ pub fn misuses()
         faults (codes "check --items 1000001") (BadValue Items) ∷
         faults (codes "exercise --lose 1000001") (BadValue Lose) ∷
         faults (codes "exercise --lose 4294967296") (BadValue Lose) ∷
+        faults (codes "show --recover yes") (BadValue RecoverOption) ∷
+        faults (codes "check --recover On") (BadValue RecoverOption) ∷
         faults (codes "ring --size 15") (BadValue Size) ∷
         faults (codes "show --size 16777217") (BadValue Size) ∷
         faults (codes "unring --size 16 --pointer 16777216") (BadValue Pointer) ∷
@@ -188,7 +198,8 @@ pub fn misuses()
         faults (codes "check --limit 0 --half x") (BadValue Half) ∷
         faults (codes "check --items x --limit 0") (BadValue Limit) ∷
         faults (codes "check --lose x --items x") (BadValue Items) ∷
-        faults (codes "check --size x --lose x") (BadValue Lose) ∷
+        faults (codes "check --recover x --lose x") (BadValue Lose) ∷
+        faults (codes "check --size x --recover x") (BadValue RecoverOption) ∷
         faults (codes "check --pointer x --size x") (BadValue Size) ∷
         faults (codes "check --full x --pointer x") (BadValue Pointer) ∷
         faults (codes "ring --full x") (BadValue Full) ∷

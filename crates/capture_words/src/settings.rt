@@ -8,10 +8,11 @@ ghost use Rattle.capture_words.specs.declared.values.TheConstants.{LEAST_SIZE, G
 ghost use Rattle.clap.specs.Words.{rows_of, found_of};
 ghost use Rattle.capture_words.specs.Settings.{plan_in, buffer_in, settings_in};
 
+use crate::recover::Recover;
 use crate::usage::UsageFault;
 use crate::values::{
     frames_in, full_in, half_in, id_in, items_in, itm_in, limit_in, lose_in, only_in, order_in,
-    packets_in, pointer_in, size_in, stp_in, sync_in, window_in,
+    packets_in, pointer_in, recover_in, size_in, stp_in, sync_in, window_in,
 };
 use clap::ArgMatches;
 use item_tap::{Bounds, Choice};
@@ -50,6 +51,8 @@ pub struct Settings {
     pub items: u32,
     /// How many bytes are lost of the front of what is made.
     pub lose: u32,
+    /// Whether reading goes on after a fault.
+    pub recover: Recover,
     /// A trace buffer.
     pub buffer: BufferSettings,
 }
@@ -103,6 +106,7 @@ pub fn settings_in(matches: &ArgMatches<'_>) -> Result<Settings, UsageFault>
         limit: limit_in(matches)?,
         items: items_in(matches)?,
         lose: lose_in(matches)?,
+        recover: recover_in(matches)?,
         buffer: buffer_in(matches)?,
     })
 }

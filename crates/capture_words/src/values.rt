@@ -8,10 +8,12 @@ ghost use Rattle.capture_words.specs.Values.{action_named, order_named, bit_name
 ghost use Rattle.capture_words.specs.Values.{number_if_given, itm_in, stp_in, order_in, id_in, only_in, window_in};
 ghost use Rattle.capture_words.specs.Values.{number_given, sync_in, half_in, limit_in, items_in, lose_in, size_in};
 ghost use Rattle.capture_words.specs.Values.{pointer_in, full_in, option_in, ids_named};
+ghost use Rattle.capture_words.specs.Values.{recover_in};
 
 use crate::choices::{choice_named, window_named};
 use crate::ids::ids_named;
 use crate::option::CommandOption;
+use crate::recover::Recover;
 use crate::usage::UsageFault;
 use clap::ArgMatches;
 use decimal_words::{id_named, number_named};
@@ -300,6 +302,16 @@ pub fn lose_in(matches: &ArgMatches<'_>) -> Result<u32, UsageFault>
     ensures in_range { IfOk result (λ n. n ≤ GREATEST_LOSS) }
 {
     number_given(matches, CommandOption::Lose, 0, 0, GREATEST_LOSS)
+}
+
+/// Whether reading goes on after a fault: `off` or `on`, and `off` where it is absent.
+pub fn recover_in(matches: &ArgMatches<'_>) -> Result<Recover, UsageFault>
+    ensures { result ≡ recover_in (rows_of (found_of matches.now)) }
+{
+    match text_of(matches, CommandOption::Recover) {
+        None => Ok(Recover::Off),
+        Some(text) => Recover::named(text).ok_or(UsageFault::BadValue(CommandOption::Recover)),
+    }
 }
 
 /// How many bytes a trace buffer has, 16 to 16,777,216, if that is given.
