@@ -5,9 +5,9 @@ use Rattle.trace_text.specs.EndText.{tails_text}
 use Rattle.recovery_report.specs.Report.{tails_of}
 use Rattle.recovery_listing.proofs.show.RecoveringShowAction.finish.Goals as goal
 
-pub returns : goal.returns
-returns c = record { ended = λ seen s.
+pub returns-clause-ended : goal.returns-clause-ended
+returns-clause-ended c = λ seen s.
     c.print_tails.ensures.lines
     ∙ ap (λ (l : List ℕ). l ++ tails_text c.finish.result) c.requires.empty
     ∙ ap tails_text (c.finish.ensures (placed seen) s.engine)
-    ∙ ap (λ (p : Plan). tails_text (tails_of p (placed seen))) s.plan }
+    ∙ ap (λ (p : Plan). tails_text (tails_of p (placed seen))) s.plan
