@@ -44,7 +44,7 @@ writes_stop : (fault : FaultNote) (m : TaskMeaning) (limit : ℕ) (left : Option
 writes_stop (Capture fault) m limit left bytes out note e x sound w = (sym e, inl w)
 writes_stop (Script fault) m limit left bytes out note e x sound w = (sym e, inl w)
 writes_stop Recovery m limit left bytes out note e x sound w = (sym e, inl w)
-writes_stop (Image size) m limit left bytes out note e x sound w = absurd (sound (sym x) w.1.0.0.broken)
+writes_stop (Image size) m limit left bytes out note e x sound w = absurd (sound (sym x) w.1.0.broken)
 
 writes_over : (fault : FaultNote) (m : TaskMeaning) (limit : ℕ) (left : Option (List ℕ)) (bytes out recent : List ℕ)
     → is_image fault ≡ m.exact → (m.exact ≡ true → text_of fault [] ≡ m.fault_note bytes)
@@ -120,7 +120,7 @@ keeps : (left : Option (List ℕ)) → Keeps left left
 keeps None = tt
 keeps (Some xs) = refl
 
-run_unopened : (m : TaskMeaning) (limit : ℕ) (left held noted noted' : Option (List ℕ)) (faults faults' : ℕ)
+pub run_unopened : (m : TaskMeaning) (limit : ℕ) (left held noted noted' : Option (List ℕ)) (faults faults' : ℕ)
     → Notes noted noted' faults faults' (codes "no memory\n")
     → HasRun m limit (record { left = left; held = held; noted = noted; note_faults = faults }) (record { left = left; held = held; noted = noted'; note_faults = faults' }) NoMemory
 run_unopened m limit left held noted noted' faults faults' n =

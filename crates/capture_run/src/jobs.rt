@@ -15,9 +15,7 @@ use crate::actions::CommandAction;
 use crate::exercise::run_exercise;
 use crate::notes::{note, note_done, note_fault, note_over};
 use crate::status::Status;
-use capture_actions::{
-    Check, ListPlan, Realign, Ring, Show, Split, SplitPlan, Unring, UnringPlan,
-};
+use capture_actions::{Check, ListPlan, Realign, Ring, Show, Split, SplitPlan, Unring, UnringPlan};
 use capture_words::{Job, Recover, Task};
 use recovery_listing::{RecoveringCheck, RecoveringShow};
 use script_rebuild::{Rebuild, RebuildPlan};
@@ -35,8 +33,7 @@ fn run_action<A: CommandAction, I: Source, O: Sink, N: Sink>(
     output: &mut O,
     notes: &mut N,
 ) -> Status
-    requires fresh {
-        IsFresh (A.live action.old) (A.stands action.old) (A.taken action.old) (A.debt action.old) buffers.old }
+    requires fresh { IsFresh (A.live action.old) (A.stands action.old) (A.taken action.old) (A.debt action.old) buffers.old }
     requires small { limit ≤ GREATEST_CAPTURE }
     ensures ran { let p = A.plan action.old in
         let before = streams (I.left input.old) (O.held output.old) (N.held notes.old) (N.faults notes.old) in
@@ -261,8 +258,19 @@ pub fn run_job<I: Source, O: Sink, N: Sink>(
             let opened = Ring::open(alloc, size);
             run_opened(&mut buffers, opened, limit, input, output, notes)
         }
-        Task::Unring { size, pointer, full } => {
-            let opened = Unring::open(alloc, UnringPlan { size, pointer, full });
+        Task::Unring {
+            size,
+            pointer,
+            full,
+        } => {
+            let opened = Unring::open(
+                alloc,
+                UnringPlan {
+                    size,
+                    pointer,
+                    full,
+                },
+            );
             run_opened(&mut buffers, opened, size as u64, input, output, notes)
         }
         Task::Exercise { items, lose } => run_exercise(&mut buffers, items, lose, output, notes),

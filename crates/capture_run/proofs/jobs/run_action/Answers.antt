@@ -1,4 +1,4 @@
-use Rattle.std.proofs.Common.{sym, subst, ◌∙◌, inl, inr, refl, []}
+use Rattle.std.proofs.Common.{◌≡◌, List, ℕ, true, sym, subst, ◌∙◌, inl, inr, refl, []}
 use Rattle.trace_stream.specs.Served.{Ends}
 use Rattle.capture_run.proofs.Running.{run_late, run_stopped, run_over, never_stopped, never_over}
 use Rattle.capture_run.proofs.jobs.run_action.Goals as goal
@@ -16,7 +16,10 @@ returns-in-FaultFound-clause-ran g c =
     let k = c.in-FaultFound.ensures.stopped refl in
     let e = c.ending.ensures in
     let same = c.serve-outcome.ensures.same in
-    let sound = λ seen exact faulty. e.sound seen exact (subst (λ p. (g.A.Action.meaning p).faulty seen) (sym same) faulty) in
+    let plan = g.A.Action.plan c.args.action.now in
+    let now = g.A.Action.plan c.serve-outcome.new.action in
+    let sound : (seen : List ℕ) → (g.A.CommandAction.notes now).exact ≡ true → (g.A.Action.meaning plan).faulty seen → ⊥ =
+    λ seen exact faulty. e.sound seen exact (subst (λ p. (g.A.Action.meaning p).faulty seen) (sym same) faulty) in
     run_stopped g.A.CommandAction.notes _ _ same _ _ _ _ c.serve-outcome.new.buffers.recent c.ending.result.fault _ e.status e.exact
     _ k c.note_fault-in-FaultFound.ensures.status c.note_fault-in-FaultFound.ensures.noted sound
     (e.fault k.served.outcome.0.seen _ k.holds (inl k.served.outcome.2))

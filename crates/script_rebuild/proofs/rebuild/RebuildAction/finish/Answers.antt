@@ -6,14 +6,28 @@ use Rattle.script_rebuild.proofs.rebuild.RebuildAction.finish.Goals as goal
 pub returns-then-is_some : goal.returns-then-is_some
 returns-then-is_some c = record {
   same = refl;
-  stands = λ seen s. s;
+  stands = λ seen s. record {
+    count = s.count;
+    fault = s.fault;
+    open_bytes = s.open_bytes;
+    lines = s.lines;
+    version = s.version;
+    writer = s.writer;
+  };
   ended = λ seen s. c.requires.empty ∙ sym (ends_at_fault c.args.self.now seen s (sym c.is_some.ensures ∙ c.if-is_some.true));
 }
 
 pub returns-in-Ok : goal.returns-in-Ok
 returns-in-Ok c = record {
   same = refl;
-  stands = λ seen s. s;
+  stands = λ seen s. record {
+    count = s.count;
+    fault = s.fault;
+    open_bytes = s.open_bytes;
+    lines = s.lines;
+    version = s.version;
+    writer = s.writer;
+  };
   ended = λ seen s.
       let r = c.args.self.now in
       let lines = (read_so_far r.plan.plan seen).lines in
@@ -32,7 +46,14 @@ returns-in-Ok c = record {
 pub returns-in-Err : goal.returns-in-Err
 returns-in-Err c = record {
   same = refl;
-  stands = λ seen s. s;
+  stands = λ seen s. record {
+    count = s.count;
+    fault = s.fault;
+    open_bytes = s.open_bytes;
+    lines = s.lines;
+    version = s.version;
+    writer = s.writer;
+  };
   ended = λ seen s.
       let r = c.args.self.now in
       let lines = (read_so_far r.plan.plan seen).lines in
