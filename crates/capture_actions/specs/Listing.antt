@@ -42,12 +42,16 @@ is_within (Some bounds) before e = passes (holds bounds.first) (holds bounds.las
 abbrev pub is_listed : Option Choice → Option Bounds → List (Event Packet) → Event Packet → Bool
 is_listed only window before e = is_within window before e && meets only e || not (is_item e.what)
 
--- the line of an event after those before it; none where it is not listed
-abbrev pub line_after : ListPlan → List (Event Packet) → Event Packet → List ℕ
-line_after p before e =
-    if is_listed p.only p.window before e
-    then event_line (is_stp p.plan e.source) e (remark_of (itm_packets e.source before) e.what)
+-- the line of an event, where the clocks have taken some events and the window has seen some; none where it is not listed
+abbrev pub line_by : ListPlan → List (Event Packet) → List (Event Packet) → Event Packet → List ℕ
+line_by p clocked seen e =
+    if is_listed p.only p.window seen e
+    then event_line (is_stp p.plan e.source) e (remark_of (itm_packets e.source clocked) e.what)
     else []
+
+-- the line of an event after those before it
+abbrev pub line_after : ListPlan → List (Event Packet) → Event Packet → List ℕ
+line_after p before e = line_by p before before e
 
 -- the lines of events after those before them, in order
 abbrev pub lines_after : ListPlan → List (Event Packet) → List (Event Packet) → List ℕ

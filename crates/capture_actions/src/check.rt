@@ -18,7 +18,7 @@ use trace_text::{PortCountsLines, TAILS_ROOM, print_fault, print_tails, put_sour
 use trace_values::{ID_COUNT, SourceId};
 
 /// The most bytes of the line of what a source sent, in a capture.
-const SOURCE_ROOM: usize = 44;
+pub const SOURCE_ROOM: usize = 44;
 
 /// Bytes of room that a summary is given: more than any has.
 pub const SUMMARY_ROOM: usize = ID_COUNT * SOURCE_ROOM + TAILS_ROOM + 2 * TEXT_ROOM;
@@ -102,7 +102,7 @@ fn count_frames(reading: &mut Engine, at: u64, piece: &[u8]) -> usize
 }
 
 /// The line of what a source sent, if it sent a byte.
-fn put_counts(outlet: &mut Outlet, id: SourceId, counts: Counts)
+pub fn put_source_line(outlet: &mut Outlet, id: SourceId, counts: Counts)
     requires bytes { counts.bytes ≤ GREATEST_COUNT }
     requires items { counts.items ≤ GREATEST_COUNT }
     requires room { length outlet.old + TEXT_ROOM ≤ OUTLET_ROOM }
@@ -124,7 +124,7 @@ fn put_source(outlet: &mut Outlet, number: u8, reading: &Engine)
     ensures bound { length outlet.new ≤ length outlet.old + SOURCE_ROOM }
 {
     match SourceId::new(number) {
-        Some(id) => put_counts(outlet, id, reading.counts(id)),
+        Some(id) => put_source_line(outlet, id, reading.counts(id)),
         None => {}
     }
 }
@@ -134,7 +134,7 @@ fn put_sources(outlet: &mut Outlet, reading: &Engine)
     requires live { is_live reading.now ≡ true }
     requires room { length outlet.old + ID_COUNT * SOURCE_ROOM + TEXT_ROOM ≤ OUTLET_ROOM }
     ensures text { (u : List Placed) → engine.Stands reading.now u →
-        outlet.new ≡ outlet.old ++ sources_text (engine.plan_of reading.now) u ID_COUNT }
+        outlet.new ≡ outlet.old ++ sources_text (source_counts_of (engine.plan_of reading.now) u) ID_COUNT }
     ensures bound { length outlet.new ≤ length outlet.old + ID_COUNT * SOURCE_ROOM }
 {
     for number in 0..ID_COUNT as u8 {

@@ -23,8 +23,9 @@ mod stopping;
 mod unring;
 mod unring_plan;
 
-pub use check::{Check, SUMMARY_ROOM};
+pub use check::{Check, SOURCE_ROOM, SUMMARY_ROOM, put_source_line};
 pub use list_plan::ListPlan;
+pub use lister::Lister;
 pub use realign::{Realign, realign_law};
 pub use ring::Ring;
 pub use show::Show;

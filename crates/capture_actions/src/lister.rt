@@ -3,7 +3,7 @@
 ghost use Rattle.std.specs.Prelude.{◌≡◌, ◌+◌, ◌≤◌, ◌++◌, ◌∷◌, [], List, Some, false, length};
 ghost use Rattle.std.specs.Prelude.{if◌then◌else◌};
 ghost use Rattle.capture_actions.specs.Names.{IsProper, Event, Packet, Itm, EventFits, PacketFits, packet_event};
-ghost use Rattle.capture_actions.specs.Names.{StpItem, event_line, Suits, TEXT_ROOM, OUTLET_ROOM};
+ghost use Rattle.capture_actions.specs.Names.{StpItem, event_line, fault_line, stop_of, Suits, TEXT_ROOM, OUTLET_ROOM};
 ghost use Rattle.source_events.specs.declared.event.What.TheVariants.{Packet as GivenPacket};
 ghost use Rattle.std.specs.Option.{is_some};
 ghost use Rattle.std.specs.Prelude.{true};
@@ -12,8 +12,8 @@ ghost use Rattle.stp_grammar.specs.Said.{said_item, IsProperSaid};
 ghost use Rattle.trace_text.specs.LineText.{itm_event, raw_event, stp_event};
 ghost use Rattle.capture_actions.specs.Faulty.{is_stp};
 ghost use Rattle.capture_actions.specs.Filter.{plan_by, HasSeen};
-ghost use Rattle.capture_actions.specs.Listing.{is_listed, itm_packets, line_after, remark_of};
-ghost use Rattle.capture_actions.specs.SourceClocks.{AllStand};
+ghost use Rattle.capture_actions.specs.Listing.{is_listed, itm_packets, line_by, remark_of};
+ghost use Rattle.capture_actions.specs.SourceClocks.{AllStand, without};
 
 use crate::clocks::is_stamp;
 use crate::filter::Filter;
@@ -21,12 +21,14 @@ use crate::plan_table::{PlanTable, sends_stp};
 use crate::source_clocks::SourceClocks;
 use item_tap::{Bounds, Choice};
 use itm_grammar::packet::ItmPacket;
-use source_events::{Event, Packet, Plan, RunBytes, SourceKind, What};
+use source_events::{Event, Packet, Plan, RunBytes, SourceKind, Stop, What};
 use source_machine::Told;
 use source_merge::Receiver;
 use stp_grammar::said::Said;
 use trace_stream::{OUTLET_ROOM, Outlet, TEXT_ROOM};
-use trace_text::{Digits, EVENT_ROOM, Remark, print, put_line, put_raw_line, put_said_line};
+use trace_text::{
+    Digits, EVENT_ROOM, Remark, print, print_fault, put_line, put_raw_line, put_said_line,
+};
 use trace_values::SourceId;
 
 /// What puts the lines of events, and what it needs of the events before them.
@@ -119,12 +121,16 @@ impl Lister {
         }
     }
 
-    /// Takes the next event, and puts its line if it is listed.
+    /// Takes the next event, and puts its line if it is listed. The clocks may have begun anew since the window's first
+    /// event.
     #[inline(always)]
-    fn put_next(&mut self, outlet: &mut Outlet, event: &Event<Packet>)
+    pub fn put_next(&mut self, outlet: &mut Outlet, event: &Event<Packet>)
         requires fits { EventFits PacketFits event.now }
         requires room { length outlet.old + TEXT_ROOM ≤ OUTLET_ROOM }
         ensures gets { gets (self.old, outlet.old) (event.now ∷ []) (self.new, outlet.new) }
+        ensures line { (clocked seen : List (Event Packet)) → AllStand self.old.clocks clocked →
+            HasSeen self.old.filter seen → let p = plan_by self.old.plan self.old.filter in
+            outlet.new ≡ outlet.old ++ line_by p clocked seen event.now }
         ensures bound { length outlet.new ≤ length outlet.old + EVENT_ROOM }
     {
         let remark = self.clocks.remark(event);
@@ -136,6 +142,21 @@ impl Lister {
             event,
             remark,
         );
+    }
+
+    /// Puts the line of a fault. Behind it the clocks of its source begin anew, and behind one of the port those of all.
+    pub fn put_fault(&mut self, outlet: &mut Outlet, stop: &Stop)
+        requires room { length outlet.old + TEXT_ROOM ≤ OUTLET_ROOM }
+        ensures plan { self.new.plan ≡ self.old.plan }
+        ensures filter { self.new.filter ≡ self.old.filter }
+        ensures clocks { (es : List (Event Packet)) → AllStand self.old.clocks es →
+            AllStand self.new.clocks (without stop.now.source es) }
+        ensures line { outlet.new ≡
+            outlet.old ++ fault_line (is_stp self.old.plan stop.now.source) (stop_of stop.now) }
+        ensures bound { length outlet.new ≤ length outlet.old + EVENT_ROOM }
+    {
+        print_fault(outlet, stop, sends_stp(self.plan.plan(), stop.source));
+        self.clocks.renew(stop.source);
     }
 
     /// Takes the next event, which is one that comes seldom.

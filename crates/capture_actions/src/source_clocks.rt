@@ -6,7 +6,7 @@ ghost use Rattle.capture_actions.specs.Names.{SuitsPacket, None as NoRemark};
 ghost use Rattle.source_events.specs.declared.event.What.TheVariants.{Packet as Said};
 ghost use Rattle.capture_actions.specs.Remarks.{is_stamp};
 ghost use Rattle.capture_actions.specs.Listing.{itm_packet, itm_packets, remark_of};
-ghost use Rattle.capture_actions.specs.SourceClocks.{AllStand};
+ghost use Rattle.capture_actions.specs.SourceClocks.{AllStand, without};
 
 use crate::clocks::Clocks;
 use itm_grammar::packet::ItmPacket;
@@ -27,6 +27,16 @@ impl SourceClocks {
     {
         SourceClocks {
             clocks: [Clocks::new(); ID_COUNT],
+        }
+    }
+
+    /// Begins the clocks of this source anew, or those of all.
+    pub fn renew(&mut self, source: Option<SourceId>)
+        ensures { (es : List (Event Packet)) → AllStand self.old es → AllStand self.new (without source es) }
+    {
+        match source {
+            None => *self = SourceClocks::new(),
+            Some(id) => self.clocks[id.number() as usize] = Clocks::new(),
         }
     }
 

@@ -7,6 +7,7 @@ use Rattle.capture_words.specs.Calls.{AsksFor}
 use Rattle.capture_words.specs.declared.job.Job.{Job}
 use Rattle.capture_words.specs.declared.job.Task.{Task}
 use Rattle.capture_words.specs.declared.job.Task.TheVariants.{Show}
+use Rattle.capture_words.specs.declared.recover.Recover.TheVariants.{Off}
 use Rattle.capture_words.specs.declared.usage.UsageFault.{UsageFault}
 use Rattle.resync_laws.specs.Report.{rest_plan}
 use Rattle.resync_laws.proofs.ReportRest.{report_follows}
@@ -31,7 +32,7 @@ same_job words a b p q = ap (job_or a) (sym p.job_is ∙ q.job_is)
 
 -- of the task that lists the rest, where all is done
 show_follows : (limit : ℕ) (old new : Streams) (whole : Plan) (lost left : List ℕ)
-    → HasRun (meaning_of (Show (rest_plan whole) None None)) limit old new Done → Loses old.left new.left left
+    → HasRun (meaning_of (Show (rest_plan whole) None None Off)) limit old new Done → Loses old.left new.left left
     → IsSoundWhole whole lost left → FollowsWhole whole lost left old.held new.held
 show_follows limit old new whole lost left run loses sound =
     let law = report_follows whole lost left sound in
@@ -51,4 +52,4 @@ pub follows_whole : (task : Task) (limit : ℕ) (old new : Streams) (status : St
     → IsSoundWhole whole lost left → FollowsWhole whole lost left old.held new.held
 follows_whole task limit old new status whole lost left run lists done loses sound =
     let shown = subst (λ (t : Task). HasDone t limit old new status) lists run in
-    show_follows limit old new whole lost left (subst (HasRun (meaning_of (Show (rest_plan whole) None None)) limit old new) done shown) loses sound
+    show_follows limit old new whole lost left (subst (HasRun (meaning_of (Show (rest_plan whole) None None Off)) limit old new) done shown) loses sound

@@ -15,7 +15,7 @@ use Rattle.capture_run.specs.Actions.{HasDone, meaning_of}
 use Rattle.capture_run.specs.Notes.{Notes, text_of, status_of, is_image, over_text, over_status}
 use Rattle.capture_run.specs.Run.{HasRun, TaskMeaning, TaskNotes, task_of, Streams, Stops, EndsLate, WritesBy, Loses}
 use Rattle.capture_run.specs.declared.actions.FaultNote.{FaultNote}
-use Rattle.capture_run.specs.declared.actions.FaultNote.TheVariants.{Capture, Script, Image}
+use Rattle.capture_run.specs.declared.actions.FaultNote.TheVariants.{Capture, Script, Recovery, Image}
 use Rattle.capture_run.specs.declared.status.Status.{Status}
 use Rattle.capture_run.specs.declared.status.Status.TheVariants.{Done, ReadFault, WriteFault, NoMemory, Limit}
 
@@ -35,6 +35,7 @@ writes_late : (fault : FaultNote) (m : TaskMeaning) (limit : ℕ) (left : Option
     → EndsLate m limit left bytes out note → WritesBy m limit left (status_of fault) bytes out note
 writes_late (Capture fault) m limit left bytes out note e x w = (sym e, inr w)
 writes_late (Script fault) m limit left bytes out note e x w = (sym e, inr w)
+writes_late Recovery m limit left bytes out note e x w = (sym e, inr w)
 writes_late (Image size) m limit left bytes out note e x w = (sym x, inl w)
 
 writes_stop : (fault : FaultNote) (m : TaskMeaning) (limit : ℕ) (left : Option (List ℕ)) (bytes out note : List ℕ)
@@ -42,6 +43,7 @@ writes_stop : (fault : FaultNote) (m : TaskMeaning) (limit : ℕ) (left : Option
     → Stops m limit left bytes out note → WritesBy m limit left (status_of fault) bytes out note
 writes_stop (Capture fault) m limit left bytes out note e x sound w = (sym e, inl w)
 writes_stop (Script fault) m limit left bytes out note e x sound w = (sym e, inl w)
+writes_stop Recovery m limit left bytes out note e x sound w = (sym e, inl w)
 writes_stop (Image size) m limit left bytes out note e x sound w = absurd (sound (sym x) w.1.0.broken)
 
 writes_over : (fault : FaultNote) (m : TaskMeaning) (limit : ℕ) (left : Option (List ℕ)) (bytes out recent : List ℕ)
@@ -50,6 +52,7 @@ writes_over : (fault : FaultNote) (m : TaskMeaning) (limit : ℕ) (left : Option
     → WritesBy m limit left (over_status fault) bytes out (over_text fault limit)
 writes_over (Capture fault) m limit left bytes out recent x told w = (sym x, w, refl)
 writes_over (Script fault) m limit left bytes out recent x told w = (sym x, w, refl)
+writes_over Recovery m limit left bytes out recent x told w = (sym x, w, refl)
 writes_over (Image size) m limit left bytes out recent x told w = (sym x, inr (w, told (sym x)))
 
 -- A fault is noted, by a plan that is that of the run.
@@ -126,9 +129,9 @@ run_unopened m limit left held noted noted' faults faults' n =
 pub done_unopened : (task : Task) (limit : ℕ) (left held noted noted' : Option (List ℕ)) (faults faults' : ℕ)
     → Notes noted noted' faults faults' (codes "no memory\n")
     → HasDone task limit (record { left = left; held = held; noted = noted; note_faults = faults }) (record { left = left; held = held; noted = noted'; note_faults = faults' }) NoMemory
-done_unopened (tasks.Show plan only window) limit left held noted noted' faults faults' n = run_unopened (meaning_of (tasks.Show plan only window)) limit left held noted noted' faults faults' n
+done_unopened (tasks.Show plan only window recover) limit left held noted noted' faults faults' n = run_unopened (meaning_of (tasks.Show plan only window recover)) limit left held noted noted' faults faults' n
 done_unopened (tasks.Split frames id) limit left held noted noted' faults faults' n = run_unopened (meaning_of (tasks.Split frames id)) limit left held noted noted' faults faults' n
-done_unopened (tasks.Check plan) limit left held noted noted' faults faults' n = run_unopened (meaning_of (tasks.Check plan)) limit left held noted noted' faults faults' n
+done_unopened (tasks.Check plan recover) limit left held noted noted' faults faults' n = run_unopened (meaning_of (tasks.Check plan recover)) limit left held noted noted' faults faults' n
 done_unopened (tasks.Rebuild plan sync half) limit left held noted noted' faults faults' n = run_unopened (meaning_of (tasks.Rebuild plan sync half)) limit left held noted noted' faults faults' n
 done_unopened tasks.Realign limit left held noted noted' faults faults' n = run_unopened (meaning_of tasks.Realign) limit left held noted noted' faults faults' n
 done_unopened (tasks.Ring size) limit left held noted noted' faults faults' n = run_unopened (meaning_of (tasks.Ring size)) limit left held noted noted' faults faults' n

@@ -4,6 +4,8 @@ use Rattle.std.specs.Prelude.{◌≡◌, ℕ, List, [], ◌++◌, true, false, i
 use Rattle.capture_words.specs.declared.job.Task.{Task}
 use Rattle.capture_words.specs.declared.job.Task.TheVariants.{Show, Split, Check, Rebuild, Exercise, Realign, Ring}
 use Rattle.capture_words.specs.declared.job.Task.TheVariants.{Unring}
+use Rattle.capture_words.specs.declared.recover.Recover.{Recover}
+use Rattle.capture_words.specs.declared.recover.Recover.TheVariants.{Off, On}
 use Rattle.buffer_ring.specs.Image.{pointer, is_full, dropped}
 use Rattle.capture_actions.specs.Port.{port_of}
 use Rattle.capture_actions.specs.Realigned.{realign_meaning}
@@ -18,6 +20,10 @@ use Rattle.capture_actions.specs.declared.unring_plan.UnringPlan.{UnringPlan}
 use Rattle.capture_exercise.specs.Summary.{exercise_summary}
 use Rattle.script_rebuild.specs.Versions.{script_of}
 use Rattle.port_slip.specs.Segments.{realigned}
+use Rattle.recovery_listing.specs.Listing as recovering
+use Rattle.recovery_listing.specs.Listing.{is_faulty}
+use Rattle.recovery_listing.specs.Summary as recovering_summary
+use Rattle.source_events.specs.declared.plan.Plan.{Plan}
 use Rattle.script_rebuild.specs.Rebuilt.{rebuild_meaning}
 use Rattle.script_rebuild.specs.declared.plan.RebuildPlan.{RebuildPlan}
 use Rattle.trace_stream.specs.Served.{Meaning}
@@ -26,7 +32,7 @@ use Rattle.trace_text.specs.NoteText.{last_line, slipped_line, buffer_line, imag
 use Rattle.capture_run.specs.Notes.{fault_text, script_note}
 use Rattle.capture_run.specs.Run.{TaskMeaning, TaskNotes, task_of, Streams, HasRun, HasMade}
 use Rattle.capture_run.specs.declared.status.Status.{Status}
-use Rattle.capture_run.specs.declared.status.Status.TheVariants.{CaptureFault, ScriptFault, BadImage}
+use Rattle.capture_run.specs.declared.status.Status.TheVariants.{CaptureFault, ScriptFault, Recovered, BadImage}
 
 -- the note at a fault that is certain with the last of these bytes: the last sixteen of them
 abbrev pub last_note : List ℕ → List ℕ
@@ -43,6 +49,17 @@ captured note = record {
   done_note = λ bytes. [];
   fault_note = note;
   fault_status = CaptureFault;
+  exact = false;
+}
+
+-- Where reading goes on after each fault, none ends it. Whether the report of the whole input has one tells how the run
+-- ends, and what is written tells the faults.
+abbrev pub recovered_notes : Plan → TaskNotes
+recovered_notes plan = record {
+  late = is_faulty plan;
+  done_note = λ bytes. [];
+  fault_note = λ bytes. [];
+  fault_status = Recovered;
   exact = false;
 }
 
@@ -93,15 +110,22 @@ unring_notes plan = record {
   exact = true;
 }
 
+-- a listing and a summary, up to a capture's first fault or with all its faults
+abbrev pub showing : Recover → ListPlan → TaskMeaning
+showing Off p = task_of (show_meaning p) (captured last_note)
+showing On p = task_of (recovering.show_meaning p) (recovered_notes p.plan)
+
+abbrev pub checking : Recover → Plan → TaskMeaning
+checking Off plan = task_of (check_meaning plan) (captured last_note)
+checking On plan = task_of (recovering_summary.check_meaning plan) (recovered_notes plan)
+
 -- what the task makes of the bytes of its input
 abbrev pub meaning_of : Task → TaskMeaning
-meaning_of (Show plan only window) =
-    let listing : ListPlan = record { plan = plan; only = only; window = window } in
-    task_of (show_meaning listing) (captured last_note)
+meaning_of (Show plan only window recover) = showing recover (record { plan = plan; only = only; window = window })
 meaning_of (Split frames id) =
     let plan : SplitPlan = record { frames = frames; id = id } in
     task_of (split_meaning plan) (captured (split_note plan))
-meaning_of (Check plan) = task_of (check_meaning plan) (captured last_note)
+meaning_of (Check plan recover) = checking recover plan
 meaning_of (Rebuild plan sync half) =
     let script : RebuildPlan = record { plan = plan; every = sync; halves = half } in
     task_of (rebuild_meaning script) (rebuild_notes script)

@@ -5,6 +5,7 @@ use Rattle.capture_actions.specs.Listing.{listed}
 use Rattle.capture_actions.specs.declared.list_plan.ListPlan.{ListPlan}
 use Rattle.capture_words.specs.declared.job.Task.{Task}
 use Rattle.capture_words.specs.declared.job.Task.TheVariants.{Show}
+use Rattle.capture_words.specs.declared.recover.Recover.TheVariants.{Off}
 use Rattle.deformatter.specs.PortReading.{port_reading}
 use Rattle.resync_laws.specs.Report.{rest_plan, left_bytes, left_report, ReportFollows, skips}
 use Rattle.resync_grammars.specs.Port.{rest_mode}
@@ -22,7 +23,7 @@ use Rattle.trace_values.specs.Placed.{placed}
 -- sources and order of values, and hunting at the port, if it has frames, and at each source. The plan itself may hunt
 -- or not.
 abbrev pub ListsRest : Plan → Task → Type 0
-ListsRest whole task = task ≡ Show (rest_plan whole) None None
+ListsRest whole task = task ≡ Show (rest_plan whole) None None Off
 
 -- this plan reads without a fault the whole capture, of which some bytes are lost and others are left
 abbrev pub IsSoundWhole : Plan → List ℕ → List ℕ → Type 0

@@ -4,4 +4,5 @@ pub mod Actions
 pub mod Run
 pub mod Fronts
 pub mod Rebuilds
+pub mod Recovers
 pub mod Rings

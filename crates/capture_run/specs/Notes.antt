@@ -13,9 +13,9 @@ use Rattle.trace_text.specs.NoteText.{last_line, script_fault_line, slipped_line
 use Rattle.capture_run.specs.declared.actions.DoneNote.{DoneNote}
 use Rattle.capture_run.specs.declared.actions.DoneNote.TheVariants.{Nothing, Realigned, Buffered}
 use Rattle.capture_run.specs.declared.actions.FaultNote.{FaultNote}
-use Rattle.capture_run.specs.declared.actions.FaultNote.TheVariants.{Capture, Script, Image}
+use Rattle.capture_run.specs.declared.actions.FaultNote.TheVariants.{Capture, Script, Recovery, Image}
 use Rattle.capture_run.specs.declared.status.Status.{Status}
-use Rattle.capture_run.specs.declared.status.Status.TheVariants.{CaptureFault, ScriptFault, BadImage, Limit}
+use Rattle.capture_run.specs.declared.status.Status.TheVariants.{CaptureFault, ScriptFault, Recovered, BadImage, Limit}
 
 -- the line of the port's fault, where there is one
 abbrev pub fault_text : Option (Place × Reason) → List ℕ
@@ -31,6 +31,7 @@ script_note (Some fault) = script_fault_line fault.0 (number_of fault.1) (name_o
 abbrev pub text_of : FaultNote → List ℕ → List ℕ
 text_of (Capture fault) recent = fault_text (option_map told fault) ++ last_line recent
 text_of (Script fault) recent = script_note (option_map told_of_script fault)
+text_of Recovery recent = []
 text_of (Image size) recent = image_line size
 
 -- what is noted where a run is done
@@ -43,23 +44,27 @@ done_text (Buffered pointer full dropped) = buffer_line pointer full dropped
 abbrev pub status_of : FaultNote → Status
 status_of (Capture fault) = CaptureFault
 status_of (Script fault) = ScriptFault
+status_of Recovery = Recovered
 status_of (Image size) = BadImage
 
 -- only what is told of an image may be told of an input that has too many bytes
 abbrev pub is_image : FaultNote → Bool
 is_image (Capture fault) = false
 is_image (Script fault) = false
+is_image Recovery = false
 is_image (Image size) = true
 
 -- what is noted where the input has more bytes than the limit, and how a run ends then
 abbrev pub over_text : FaultNote → ℕ → List ℕ
 over_text (Capture fault) limit = limit_line limit
 over_text (Script fault) limit = limit_line limit
+over_text Recovery limit = limit_line limit
 over_text (Image size) limit = image_line size
 
 abbrev pub over_status : FaultNote → Status
 over_status (Capture fault) = Limit
 over_status (Script fault) = Limit
+over_status Recovery = Limit
 over_status (Image size) = BadImage
 
 -- the notes gained this text, unless they failed

@@ -10,7 +10,7 @@ use Rattle.trace_text.specs.NoteText.{limit_line}
 use Rattle.capture_run.specs.Notes.{Notes}
 use Rattle.capture_run.specs.declared.status.Status.{Status}
 use Rattle.capture_run.specs.declared.status.Status.TheVariants.{Done, Usage, CaptureFault, ReadFault, WriteFault}
-use Rattle.capture_run.specs.declared.status.Status.TheVariants.{NoMemory, ScriptFault, Limit, BadImage}
+use Rattle.capture_run.specs.declared.status.Status.TheVariants.{NoMemory, ScriptFault, Limit, Recovered, BadImage}
 
 -- What a task makes of the bytes that it reads: what its action does; which bytes have a fault where they are all of
 -- the input, one that further bytes might have mended; what is noted where they are all and have none; what is noted
@@ -87,6 +87,8 @@ WritesBy m limit left ScriptFault bytes out note =
     (m.fault_status ≡ ScriptFault) × (Stops m limit left bytes out note ⊎ EndsLate m limit left bytes out note)
 WritesBy m limit left BadImage bytes out note =
     (m.exact ≡ true) × (EndsLate m limit left bytes out note ⊎ EndsOver m limit left bytes out note)
+WritesBy m limit left Recovered bytes out note =
+    (m.fault_status ≡ Recovered) × (Stops m limit left bytes out note ⊎ EndsLate m limit left bytes out note)
 WritesBy m limit left ReadFault bytes out note =
     ServedBy m.action limit left ReadFailed bytes out [] × (note ≡ codes "read fault\n")
 WritesBy m limit left Limit bytes out note =
@@ -118,6 +120,7 @@ MakesBy text CaptureFault out note = ⊥
 MakesBy text ScriptFault out note = ⊥
 MakesBy text ReadFault out note = ⊥
 MakesBy text Limit out note = ⊥
+MakesBy text Recovered out note = ⊥
 MakesBy text BadImage out note = ⊥
 
 pub record HasMade (text : List ℕ) (old new : Streams) (status : Status) : Type 0 where

@@ -2,7 +2,7 @@
 use Rattle.std.specs.Prelude.{ℕ}
 use Rattle.capture_run.specs.declared.status.Status.{Status}
 use Rattle.capture_run.specs.declared.status.Status.TheVariants.{Done, Usage, CaptureFault, ReadFault, WriteFault}
-use Rattle.capture_run.specs.declared.status.Status.TheVariants.{NoMemory, ScriptFault, Limit, BadImage}
+use Rattle.capture_run.specs.declared.status.Status.TheVariants.{NoMemory, ScriptFault, Limit, Recovered, BadImage}
 
 abbrev pub number_of : Status → ℕ
 number_of Done = 0
@@ -13,4 +13,5 @@ number_of WriteFault = 5
 number_of NoMemory = 6
 number_of ScriptFault = 7
 number_of Limit = 8
+number_of Recovered = 9
 number_of BadImage = 10

@@ -8,6 +8,7 @@ ghost use Rattle.capture_run.specs.Run.{TaskNotes};
 use crate::status::Status;
 use capture_actions::{Check, Realign, Ring, Show, Split, Unring};
 use port_slip::Slipped;
+use recovery_listing::{RecoveringCheck, RecoveringShow};
 use script_rebuild::{Rebuild, ScriptFault};
 use trace_stream::Action;
 use trace_values::Fault;
@@ -20,6 +21,8 @@ pub enum FaultNote {
     Capture(Option<Fault>),
     /// The line of a script's fault.
     Script(Option<ScriptFault>),
+    /// Nothing: what is written tells the faults of the capture.
+    Recovery,
     /// That the input isn't an image of this many bytes.
     Image(u64),
 }
@@ -32,6 +35,7 @@ impl FaultNote {
         match self {
             FaultNote::Capture(_) => Status::CaptureFault,
             FaultNote::Script(_) => Status::ScriptFault,
+            FaultNote::Recovery => Status::Recovered,
             FaultNote::Image(_) => Status::BadImage,
         }
     }
@@ -64,7 +68,7 @@ pub struct Ending {
 
 impl Ending {
     ghost use Rattle.capture_run.specs.declared.actions.DoneNote.TheVariants.{Nothing};
-    ghost use Rattle.capture_run.specs.declared.actions.FaultNote.TheVariants.{Capture};
+    ghost use Rattle.capture_run.specs.declared.actions.FaultNote.TheVariants.{Capture, Recovery};
 
     /// That of a capture with this fault of the port: none of its faults is late, and nothing is noted where it is done.
     fn of_capture(port: Option<Fault>) -> Ending
@@ -74,6 +78,18 @@ impl Ending {
             is_late: false,
             done: DoneNote::Nothing,
             fault: FaultNote::Capture(port),
+        }
+    }
+
+    /// That of a capture that is read on after each fault: nothing is noted, and where it has a fault the run ends
+    /// otherwise.
+    fn of_recovery(is_faulty: bool) -> Ending
+        ensures { result ≡ record { is_late = is_faulty; done = Nothing; fault = Recovery } }
+    {
+        Ending {
+            is_late: is_faulty,
+            done: DoneNote::Nothing,
+            fault: FaultNote::Recovery,
         }
     }
 }
@@ -127,6 +143,26 @@ impl CommandAction for Check {
 
     fn ending(&self) -> Ending {
         Ending::of_capture(None)
+    }
+}
+
+impl CommandAction for RecoveringShow {
+    ghost use Rattle.capture_run.specs.Actions.{recovered_notes};
+
+    ghost notes = { λ p. recovered_notes p.plan };
+
+    fn ending(&self) -> Ending {
+        Ending::of_recovery(self.is_faulty())
+    }
+}
+
+impl CommandAction for RecoveringCheck {
+    ghost use Rattle.capture_run.specs.Actions.{recovered_notes};
+
+    ghost notes = { recovered_notes };
+
+    fn ending(&self) -> Ending {
+        Ending::of_recovery(self.is_faulty())
     }
 }
 

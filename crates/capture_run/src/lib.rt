@@ -16,6 +16,7 @@ ghost use Rattle.capture_run.specs.Actions.{HasDone, IsSoundInput, limit_of};
 ghost use Rattle.capture_run.specs.Fronts.{ListsRest, IsSoundWhole, FollowsWhole};
 ghost use Rattle.capture_run.specs.Notes.{Notes};
 ghost use Rattle.capture_run.specs.Rebuilds.{Rebuilds};
+ghost use Rattle.capture_run.specs.Recovers.{GoesOn, IsRecovered};
 ghost use Rattle.capture_run.specs.Run.{streams, Untouched, Loses, IsDoneOrNoMemory};
 
 mod actions;
@@ -36,7 +37,8 @@ use trace_io::{Sink, Source};
 /// All that the program does: it reads the words, does what they ask for on the input, and answers how
 /// that ended.
 ///
-/// A status is the first that holds of Usage, WriteFault, CaptureFault or ScriptFault, ReadFault, Limit and Done.
+/// A status is the first that holds of Usage, WriteFault, CaptureFault or ScriptFault, ReadFault, Limit, Recovered and
+/// Done.
 /// Want of memory is the one free answer, and comes only where no byte was read and none written. By these clauses a
 /// failed write to the notes changes no other status; that it changes none at all is read in the code.
 ///
@@ -83,6 +85,13 @@ pub fn run<I: Source, O: Sink, N: Sink>(
         (Rose (I.faults input.old) (I.faults input.new) → ⊥) →
         (Rose (O.faults output.old) (O.faults output.new) → ⊥) →
         length bytes ≤ limit_of job.task job.limit → IsSoundInput job.task bytes → IsDoneOrNoMemory result }
+
+    // What goes on after faults is done, with or without faults, if nothing outside fails.
+    ensures goes_on { (job : Job) (bytes : List ℕ) → AsksFor (map string_bytes words.now) job → GoesOn job.task →
+        Loses (I.left input.old) (I.left input.new) bytes →
+        (Rose (I.faults input.old) (I.faults input.new) → ⊥) →
+        (Rose (O.faults output.old) (O.faults output.new) → ⊥) →
+        length bytes ≤ job.limit → IsRecovered result }
 
     // Where a front of the capture may be lost: what was written follows the whole.
     ensures fronts { (job : Job) (whole : Plan) (lost bytes : List ℕ) → AsksFor (map string_bytes words.now) job →

@@ -94,6 +94,7 @@ pub fn note_fault<N: Sink>(notes: &mut N, fault: FaultNote, buffers: &Buffers) -
     match fault {
         FaultNote::Capture(fault) => note_stop(notes, fault, buffers),
         FaultNote::Script(fault) => note_script(notes, fault),
+        FaultNote::Recovery => {}
         FaultNote::Image(size) => note_text(notes, &ImageLine { size }),
     }
     fault.status()

@@ -23,6 +23,8 @@ pub enum Status {
     ScriptFault,
     /// The input has more bytes than the limit.
     Limit,
+    /// All of the input was read, and its whole text was written, which tells the faults that the capture has.
+    Recovered,
     /// The input is no image: it has fewer or more bytes than the trace buffer.
     BadImage,
 }
@@ -41,6 +43,7 @@ impl Status {
             Status::NoMemory => 6,
             Status::ScriptFault => 7,
             Status::Limit => 8,
+            Status::Recovered => 9,
             Status::BadImage => 10,
         }
     }

@@ -101,6 +101,7 @@ fn calls_ask_for_a_listing(rt: HostRuntime) -> Result<(), Fail> {
                         plan,
                         only: None,
                         window: None,
+                        ..
                     } => check_plan(&rt, text, &plan, want),
                     task => assert!(rt; false, "{text}: {task:?}"),
                 }
@@ -218,7 +219,7 @@ fn calls_ask_for_a_check(rt: HostRuntime) -> Result<(), Fail> {
             Asked::Do(job) => {
                 same(&rt, &text, &job.limit, limit);
                 match job.task {
-                    Task::Check(plan) => check_plan(&rt, text, &plan, want),
+                    Task::Check { plan, .. } => check_plan(&rt, text, &plan, want),
                     task => assert!(rt; false, "{text}: {task:?}"),
                 }
             }

@@ -1,3 +1,4 @@
 pub mod Port
 pub mod Source
+pub mod Hearing
 pub mod Run

@@ -1,11 +1,13 @@
 //! A run of a recovering source.
 
 ghost use Rattle.std.specs.Prelude.{◌≡◌, ◌+◌, ◌*◌, ◌≤◌, length, Some};
+ghost use Rattle.source_events.specs.Fitting.{PacketFits};
 ghost use Rattle.source_events.specs.Merge.{told};
 ghost use Rattle.source_events.specs.Report.{lifted};
 ghost use Rattle.stretch_readings.specs.Steps.{said_by};
 ghost use Rattle.recovering_machines.specs.Run.{TakesRun};
 ghost use Rattle.recovering_machines.specs.Source.{total_of};
+ghost use Rattle.trace_values.specs.Stream.{StepFits};
 ghost use Rattle.trace_values.specs.declared.limits.TheConstants.{COUNT_ROOM};
 
 use crate::hearer::Hearer;
@@ -27,44 +29,47 @@ fn event_at(id: SourceId, at: u64, half: u8, what: What<Heard<Packet>>) -> Event
 }
 
 /// Gives the events of an answer to the byte at this offset.
-fn hear_step<V: Hearer>(id: SourceId, at: u64, step: Step<Packet>, out: &mut V)
-    requires room { 2 ≤ V.room out.old }
-    ensures received { V.gets out.old (told (Some id) (lifted (said_by at step))) out.new }
-    ensures room { V.room out.old ≤ V.room out.new + 2 }
+fn hear_step<V: Hearer>(id: SourceId, at: u64, step: Step<Packet>, out: &mut V, to: &mut V::To)
+    requires fits { StepFits PacketFits step }
+    requires room { 2 ≤ V.room (out.old, to.old) }
+    ensures received { V.gets (out.old, to.old) (told (Some id) (lifted (said_by at step))) (out.new, to.new) }
+    ensures room { V.room (out.old, to.old) ≤ V.room (out.new, to.new) + 2 }
 {
     match step {
         Step::Quiet | Step::Skipping => {}
         Step::Item { half, item } => {
-            out.hear(event_at(id, at, half, What::Packet(Heard::Read(item))));
+            out.hear(to, event_at(id, at, half, What::Packet(Heard::Read(item))));
         }
         Step::Locked {
             skipped,
             half,
             item,
         } => {
-            out.hear(event_at(id, at, half, What::Locked(skipped)));
-            out.hear(event_at(id, at, half, What::Packet(Heard::Read(item))));
+            out.hear(to, event_at(id, at, half, What::Locked(skipped)));
+            out.hear(to, event_at(id, at, half, What::Packet(Heard::Read(item))));
         }
         Step::Fault(fault) => {
-            out.hear(event_at(
-                id,
-                at,
-                fault.half,
-                What::Packet(Heard::Broken(fault.reason)),
-            ));
+            let what = What::Packet(Heard::Broken(fault.reason));
+            out.hear(to, event_at(id, at, fault.half, what));
         }
     }
 }
 
 /// Takes a run of this source, and gives its events: at most two for each byte.
-pub fn feed_run<V: Hearer>(source: &mut RecoveringSource, id: SourceId, cells: &[Cell], out: &mut V)
+pub fn feed_run<V: Hearer>(
+    source: &mut RecoveringSource,
+    id: SourceId,
+    cells: &[Cell],
+    out: &mut V,
+    to: &mut V::To,
+)
     requires few { total_of source.old + 4 * length cells.now ≤ COUNT_ROOM }
-    requires room { 2 * length cells.now ≤ V.room out.old }
-    ensures { TakesRun V.gets V.room id cells.now source.old source.new out.old out.new }
+    requires room { 2 * length cells.now ≤ V.room (out.old, to.old) }
+    ensures { TakesRun V.gets V.room id cells.now source.old source.new (out.old, to.old) (out.new, to.new) }
 {
     for index in 0..cells.len() {
         let cell = cells[index];
         let step = source.feed(cell.at, cell.byte);
-        hear_step(id, cell.at, step, out);
+        hear_step(id, cell.at, step, out, to);
     }
 }

@@ -2,5 +2,6 @@ pub mod Adding
 pub mod PortCounts
 pub mod Ending
 pub mod Feeding
+pub mod Growing
 pub mod Owning
 pub mod Parts

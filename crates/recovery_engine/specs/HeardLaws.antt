@@ -7,10 +7,11 @@ use Rattle.recovery_engine.specs.declared.heard_counts.HeardCounts.{HeardCounts}
 use Rattle.recovery_engine.specs.Heard.{HasHeard, gets}
 
 -- given nothing they are as before
-pub gets_none : (s : HeardCounts) → gets s [] s
-gets_none s = λ before k. subst (λ l. HasHeard s l) (sym (append-nil before)) k
+pub gets_none : (s : HeardCounts × Unit {0}) → gets s [] s
+gets_none s = λ before k. subst (λ l. HasHeard s.0 l) (sym (append-nil before)) k
 
 -- given some events and then more, they have counted all of them
-pub gets_more : (a b c : HeardCounts) (es fs : List (Event (Heard Packet))) → gets a es b → gets b fs c →
+pub gets_more : (a b c : HeardCounts × Unit {0}) (es fs : List (Event (Heard Packet))) → gets a es b → gets b fs c →
     gets a (es ++ fs) c
-gets_more a b c es fs h k = λ before j. subst (λ l. HasHeard c l) (append_assoc before es fs) (k (before ++ es) (h before j))
+gets_more a b c es fs h k = λ before j.
+    subst (λ l. HasHeard c.0 l) (append_assoc before es fs) (k (before ++ es) (h before j))

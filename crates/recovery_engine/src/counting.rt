@@ -4,11 +4,12 @@ ghost use Rattle.std.specs.Prelude.{◌≡◌, ◌+◌, ◌*◌, ◌≤◌};
 ghost use Rattle.recovery_engine.specs.Engine as reading;
 ghost use Rattle.recovery_engine.specs.Heard.{heard_of};
 ghost use Rattle.recovery_engine.specs.declared.engine.TheConstants.{GREATEST_OFFSET};
+ghost use Rattle.source_events.specs.declared.tails.TheConstants.{GREATEST_COUNT};
 
 use crate::engine::Recovery;
 use crate::heard_counts::HeardCounts;
 use source_counts::Counts;
-use source_events::{Plan, PortCounts, Tails};
+use source_events::{GREATEST_COUNT, Plan, PortCounts, Tails};
 use trace_values::SourceId;
 
 /// Reads a capture byte by byte as `Recovery` does, and counts its events: the items of each source, and the faults.
@@ -41,6 +42,13 @@ impl CountingRecovery {
         }
     }
 
+    /// The offset of the next byte: how many were fed.
+    pub fn next(&self) -> u64
+        ensures { result ≡ count_of self.now }
+    {
+        self.engine.next()
+    }
+
     /// Takes the next byte, which is at this offset.
     pub fn feed(&mut self, at: u64, byte: u8)
         requires limit { count_of self.old ≤ GREATEST_OFFSET }
@@ -48,16 +56,18 @@ impl CountingRecovery {
         ensures count { count_of self.new ≡ count_of self.old + 1 }
         ensures list { (u : List Placed) → Stands self.old u → Stands self.new (u ++ byte_at at byte ∷ []) }
     {
-        self.engine.feed(at, byte, &mut self.heard);
+        self.engine.feed(at, byte, &mut self.heard, &mut ());
     }
 
     /// How many bytes a source has, and how many items: its packets, or the runs of one that is not mapped. Notices of
     /// locks and faults are none.
     pub fn counts(&self, id: SourceId) -> Counts
-        ensures { (u : List Placed) → Stands self.now u → result ≡ source_counts_of (plan_of self.now) u id }
+        ensures value { (u : List Placed) → Stands self.now u → result ≡ source_counts_of (plan_of self.now) u id }
+        ensures few { (result.bytes ≤ GREATEST_COUNT) × (result.items ≤ GREATEST_COUNT) }
     {
+        let _bytes = self.engine.next();
         Counts {
-            bytes: self.engine.bytes(id),
+            bytes: self.engine.bytes(id).min(GREATEST_COUNT),
             items: self.heard.items(id),
         }
     }

@@ -54,7 +54,8 @@ impl PortTotals {
 
     /// How many bytes a source has.
     pub fn bytes(&self, id: SourceId) -> u64
-        ensures { (r : PortStretches) → HasCounted self.now r → result ≡ bytes_of id (frames_of r) }
+        ensures value { (r : PortStretches) → HasCounted self.now r → result ≡ bytes_of id (frames_of r) }
+        ensures few { (r : PortStretches) → HasCounted self.now r → result ≤ counted_of self.now }
     {
         self.frames.of(id).bytes
     }

@@ -74,29 +74,38 @@ impl Recovery {
     }
 
     /// Takes the next byte, which is at this offset, and gives the events that the recovering report grows by.
-    pub fn feed<V: Hearer>(&mut self, at: u64, byte: u8, out: &mut V)
+    pub fn feed<V: Hearer>(&mut self, at: u64, byte: u8, out: &mut V, to: &mut V::To)
         requires limit { count_of self.old ≤ GREATEST_OFFSET }
-        requires room { 30 ≤ V.room out.old }
+        requires room { 30 ≤ V.room (out.old, to.old) }
         ensures plan { plan_of self.new ≡ plan_of self.old }
         ensures count { count_of self.new ≡ count_of self.old + 1 }
         ensures list { (u : List Placed) → Stands self.old u → Stands self.new (u ++ byte_at at byte ∷ []) }
-        ensures given { (given : List (Event (Heard Packet))) × V.gets out.old given out.new
+        ensures given { (given : List (Event (Heard Packet))) × V.gets (out.old, to.old) given (out.new, to.new)
             × ((u : List Placed) → Stands self.old u →
             report (plan_of self.old) (u ++ byte_at at byte ∷ []) ≡ report (plan_of self.old) u ++ given) }
-        ensures room { V.room out.old ≤ V.room out.new + 30 }
+        ensures room { V.room (out.old, to.old) ≤ V.room (out.new, to.new) + 30 }
     {
         self.cells.clear();
         let step = feed_port(&mut self.port, self.plan.frames, at, byte, &mut self.cells);
         let cells = self.cells.as_slice();
         self.totals.add_step(&step, cells);
-        take_step(self.slots.as_mut_slice(), at, step, cells, out);
+        take_step(self.slots.as_mut_slice(), at, step, cells, out, to);
         self.count += 1;
+    }
+
+    /// The offset of the next byte: how many were fed.
+    pub fn next(&self) -> u64
+        ensures count { result ≡ count_of self.now }
+        ensures limit { count_of self.now ≤ GREATEST_OFFSET + 1 }
+    {
+        self.count
     }
 
     /// How many bytes a source has in the frames of all stretches.
     pub fn bytes(&self, id: SourceId) -> u64
-        ensures { (u : List Placed) → Stands self.now u →
+        ensures value { (u : List Placed) → Stands self.now u →
             result ≡ bytes_of id (frames_of (recovered (plan_of self.now).frames u)) }
+        ensures few { (u : List Placed) → Stands self.now u → result ≤ 16 * count_of self.now }
     {
         self.totals.bytes(id)
     }

@@ -1,19 +1,20 @@
 //! Counts the events of a recovering report.
 
-ghost use Rattle.std.specs.Prelude.{◌≡◌, [], ℕ, ◌+◌, ◌<◌, ◌≤◌, slice_index, if◌then◌else◌};
+ghost use Rattle.std.specs.Prelude.{◌≡◌, [], ℕ, ◌+◌, ◌<◌, ◌≤◌, if◌then◌else◌};
 ghost use Rattle.trace_values.specs.declared.limits.TheConstants.{COUNT_ROOM};
 ghost use Rattle.std.specs.Prelude.{Some};
 ghost use Rattle.source_events.specs.Merge.{is_of};
 
 use recovering_machines::Hearer;
 use source_events::{Event, Packet, What};
+use source_merge::PerSource;
 use stretch_readings::Heard;
-use trace_values::{ID_COUNT, SourceId};
+use trace_values::SourceId;
 
 /// Takes events, and counts the items of each source, and the faults. Notices of locks are neither.
 #[derive(Debug, Drop)]
 pub struct HeardCounts {
-    items: [u64; ID_COUNT],
+    items: PerSource,
     faults: u64,
 }
 
@@ -23,6 +24,7 @@ impl HeardCounts {
     ghost use Rattle.source_events.specs.declared.packet.Packet.{Packet};
     ghost use Rattle.stretch_readings.specs.declared.heard.Heard.{Heard};
     ghost use Rattle.recovery_report.specs.Counts.{faults_in, items_in};
+    ghost use Rattle.source_merge.specs.Counting.{number_of};
     ghost use Rattle.recovery_engine.specs.Heard.{HasHeard, heard_of};
 
     /// No event came yet.
@@ -31,16 +33,17 @@ impl HeardCounts {
         ensures none { heard_of result ≡ 0 }
     {
         HeardCounts {
-            items: [0; ID_COUNT],
+            items: PerSource::new(),
             faults: 0,
         }
     }
 
     /// How many items a source has.
     pub fn items(&self, id: SourceId) -> u64
-        ensures { (es : List (Event (Heard Packet))) → HasHeard self.now es → result ≡ items_in id es }
+        ensures value { (es : List (Event (Heard Packet))) → HasHeard self.now es → result ≡ items_in id es }
+        ensures few { result ≤ heard_of self.now }
     {
-        self.items[usize::from(id.number())]
+        self.items.of(id)
     }
 
     /// How many faults the port and all sources have.
@@ -53,13 +56,13 @@ impl HeardCounts {
     /// Counts an item of a source; one of the port is none.
     fn add_item(&mut self, source: Option<SourceId>)
         requires room { heard_of self.old < COUNT_ROOM }
-        ensures items { (x : ℕ) → slice_index self.new.items x ≡
-            slice_index self.old.items x + (if is_of (Some x) source then 1 else 0) }
+        ensures items { (x : ℕ) → number_of self.new.items x ≡
+            number_of self.old.items x + (if is_of (Some x) source then 1 else 0) }
         ensures faults { self.new.faults ≡ self.old.faults }
         ensures more { heard_of self.new ≤ heard_of self.old + 1 }
     {
         if let Some(id) = source {
-            self.items[usize::from(id.number())] += 1;
+            self.items.add(id, 1);
         }
     }
 }
@@ -67,6 +70,8 @@ impl HeardCounts {
 impl Hearer for HeardCounts {
     ghost use Rattle.recovery_engine.specs.Heard.{gets, room};
     ghost use Rattle.recovery_engine.specs.HeardLaws.{gets_more, gets_none};
+
+    type To = ();
 
     ghost gets = { gets };
 
@@ -76,7 +81,7 @@ impl Hearer for HeardCounts {
 
     ghost gets_more = { gets_more };
 
-    fn hear(&mut self, event: Event<Heard<Packet>>) {
+    fn hear(&mut self, _to: &mut (), event: Event<Heard<Packet>>) {
         match event.what {
             What::Locked(_) => {}
             What::Packet(Heard::Broken(_)) => self.faults += 1,

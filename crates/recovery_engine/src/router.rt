@@ -25,81 +25,95 @@ const NULL: u8 = 0;
 const TRIGGER: u8 = 125;
 
 /// Gives each byte of a run of the trigger source.
-fn give_triggers<V: Hearer>(id: SourceId, cells: &[Cell], out: &mut V)
-    requires room { 2 * length cells.now ≤ V.room out.old }
-    ensures given { V.gets out.old (told (Some id) (triggers cells.now)) out.new }
-    ensures room { V.room out.old ≤ V.room out.new + 2 * length cells.now }
+fn give_triggers<V: Hearer>(id: SourceId, cells: &[Cell], out: &mut V, to: &mut V::To)
+    requires room { 2 * length cells.now ≤ V.room (out.old, to.old) }
+    ensures given { V.gets (out.old, to.old) (told (Some id) (triggers cells.now)) (out.new, to.new) }
+    ensures room { V.room (out.old, to.old) ≤ V.room (out.new, to.new) + 2 * length cells.now }
 {
     for index in 0..cells.len() {
         let cell = cells[index];
-        out.hear(Event {
+        let event = Event {
             at: cell.at,
             half: 0,
             source: Some(id),
             what: What::Trigger(cell.byte),
-        });
+        };
+        out.hear(to, event);
     }
 }
 
 /// Gives a run of a source that is not mapped.
-fn give_raw<V: Hearer>(id: SourceId, cells: &[Cell], out: &mut V)
+fn give_raw<V: Hearer>(id: SourceId, cells: &[Cell], out: &mut V, to: &mut V::To)
     requires some { 0 < length cells.now }
     requires size { length cells.now ≤ 15 }
-    requires room { 2 * length cells.now ≤ V.room out.old }
-    ensures given { V.gets out.old (told (Some id) (raw_events id cells.now)) out.new }
-    ensures room { V.room out.old ≤ V.room out.new + 2 * length cells.now }
+    requires room { 2 * length cells.now ≤ V.room (out.old, to.old) }
+    ensures given { V.gets (out.old, to.old) (told (Some id) (raw_events id cells.now)) (out.new, to.new) }
+    ensures room { V.room (out.old, to.old) ≤ V.room (out.new, to.new) + 2 * length cells.now }
 {
     let number = id.number();
     if number == NULL {
         return;
     }
     if number == TRIGGER {
-        give_triggers(id, cells, out);
+        give_triggers(id, cells, out, to);
         return;
     }
-    out.hear(Event {
+    let event = Event {
         at: cells[cells.len() - 1].at,
         half: 0,
         source: Some(id),
         what: What::Raw(RunBytes::of(cells)),
-    });
+    };
+    out.hear(to, event);
 }
 
 /// Takes a run of one source, or of none.
-fn take_run<V: Hearer>(slots: &mut [RecoveringSlot], cells: &[Cell], out: &mut V)
+fn take_run<V: Hearer>(
+    slots: &mut [RecoveringSlot],
+    cells: &[Cell],
+    out: &mut V,
+    to: &mut V::To,
+)
     requires some { 0 < length cells.now }
     requires size { length cells.now ≤ 15 }
     requires few { total slots.old + 4 * length cells.now ≤ COUNT_ROOM }
-    requires room { 2 * length cells.now ≤ V.room out.old }
-    ensures takes { Takes V.gets (Run cells.now ∷ []) (slots.old, out.old) (slots.new, out.new) }
+    requires room { 2 * length cells.now ≤ V.room (out.old, to.old) }
+    ensures takes { Takes V.gets (Run cells.now ∷ [])
+        (slots.old, (out.old, to.old)) (slots.new, (out.new, to.new)) }
     ensures len { length slots.new ≡ length slots.old }
     ensures few { total slots.new ≤ total slots.old + 4 * length cells.now }
-    ensures room { V.room out.old ≤ V.room out.new + 2 * length cells.now }
+    ensures room { V.room (out.old, to.old) ≤ V.room (out.new, to.new) + 2 * length cells.now }
 {
     let Some(id) = cells[0].id else {
         return;
     };
-    if !take_own(slots, id, cells, out) {
-        give_raw(id, cells, out);
+    if !take_own(slots, id, cells, out, to) {
+        give_raw(id, cells, out, to);
     }
 }
 
 /// Takes the cells of a frame, run by run.
-fn take_frame<V: Hearer>(slots: &mut [RecoveringSlot], cells: &[Cell], out: &mut V)
+fn take_frame<V: Hearer>(
+    slots: &mut [RecoveringSlot],
+    cells: &[Cell],
+    out: &mut V,
+    to: &mut V::To,
+)
     requires size { length cells.now ≤ 15 }
     requires few { total slots.old + 4 * length cells.now ≤ COUNT_ROOM }
-    requires room { 2 * length cells.now ≤ V.room out.old }
-    ensures takes { Takes V.gets (map Run (runs_of cells.now)) (slots.old, out.old) (slots.new, out.new) }
+    requires room { 2 * length cells.now ≤ V.room (out.old, to.old) }
+    ensures takes { Takes V.gets (map Run (runs_of cells.now))
+        (slots.old, (out.old, to.old)) (slots.new, (out.new, to.new)) }
     ensures len { length slots.new ≡ length slots.old }
     ensures few { total slots.new ≤ total slots.old + 4 * length cells.now }
-    ensures room { V.room out.old ≤ V.room out.new + 2 * length cells.now }
+    ensures room { V.room (out.old, to.old) ≤ V.room (out.new, to.new) + 2 * length cells.now }
 {
     if cells.is_empty() {
         return;
     }
     let n = run_length(cells);
-    take_run(slots, &cells[..n], out);
-    take_frame(slots, &cells[n..], out);
+    take_run(slots, &cells[..n], out, to);
+    take_frame(slots, &cells[n..], out, to);
 }
 
 /// Takes what a step of the port at this offset ends: a frame of these cells, the bytes before a lock, or the lists of
@@ -110,31 +124,37 @@ pub fn take_step<V: Hearer>(
     step: PortStep,
     cells: &[Cell],
     out: &mut V,
+    to: &mut V::To,
 )
     requires size { length cells.now ≤ 15 }
     requires few { total slots.old + 60 ≤ COUNT_ROOM }
-    requires room { 30 ≤ V.room out.old }
-    ensures takes { Takes V.gets (parts_by 0 at step cells.now) (slots.old, out.old) (slots.new, out.new) }
+    requires room { 30 ≤ V.room (out.old, to.old) }
+    ensures takes { Takes V.gets (parts_by 0 at step cells.now)
+        (slots.old, (out.old, to.old)) (slots.new, (out.new, to.new)) }
     ensures len { length slots.new ≡ length slots.old }
     ensures few { total slots.new ≤ total slots.old + 60 }
-    ensures room { V.room out.old ≤ V.room out.new + 30 }
+    ensures room { V.room (out.old, to.old) ≤ V.room (out.new, to.new) + 30 }
 {
     match step {
         PortStep::Quiet | PortStep::Half | PortStep::Full => {}
-        PortStep::Frame => take_frame(slots, cells, out),
-        PortStep::Locked { skipped } => out.hear(Event {
-            at,
-            half: 0,
-            source: None,
-            what: What::Locked(skipped),
-        }),
+        PortStep::Frame => take_frame(slots, cells, out, to),
+        PortStep::Locked { skipped } => {
+            let event = Event {
+                at,
+                half: 0,
+                source: None,
+                what: What::Locked(skipped),
+            };
+            out.hear(to, event);
+        }
         PortStep::Fault(fault) => {
-            out.hear(Event {
+            let event = Event {
                 at: fault.at,
                 half: fault.half,
                 source: None,
                 what: What::Packet(Heard::Broken(fault.reason)),
-            });
+            };
+            out.hear(to, event);
             cut_all(slots);
         }
     }

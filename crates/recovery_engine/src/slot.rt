@@ -68,23 +68,26 @@ pub fn take_own<V: Hearer>(
     id: SourceId,
     cells: &[Cell],
     out: &mut V,
+    to: &mut V::To,
 ) -> bool
     requires few { total slots.old + 4 * length cells.now ≤ COUNT_ROOM }
-    requires room { 2 * length cells.now ≤ V.room out.old }
-    ensures own { result ≡ true → TakesOwn V.gets V.room id cells.now (slots.old, out.old) (slots.new, out.new) }
-    ensures other { result ≡ false → (slots.new ≡ slots.old) × (out.new ≡ out.old) × (source_at slots.old id ≡ None) }
+    requires room { 2 * length cells.now ≤ V.room (out.old, to.old) }
+    ensures own { result ≡ true → TakesOwn V.gets V.room id cells.now
+        (slots.old, (out.old, to.old)) (slots.new, (out.new, to.new)) }
+    ensures other { result ≡ false →
+        (slots.new ≡ slots.old) × (out.new ≡ out.old) × (to.new ≡ to.old) × (source_at slots.old id ≡ None) }
     ensures len { length slots.new ≡ length slots.old }
     ensures few { total slots.new ≤ total slots.old + 4 * length cells.now }
-    ensures room { V.room out.old ≤ V.room out.new + 2 * length cells.now }
+    ensures room { V.room (out.old, to.old) ≤ V.room (out.new, to.new) + 2 * length cells.now }
 {
     let Some((slot, rest)) = slots.split_first_mut() else {
         return false;
     };
     if slot.id == id {
-        feed_run(&mut slot.source, id, cells, out);
+        feed_run(&mut slot.source, id, cells, out, to);
         return true;
     }
-    take_own(rest, id, cells, out)
+    take_own(rest, id, cells, out, to)
 }
 
 /// Cuts the lists of all sources.

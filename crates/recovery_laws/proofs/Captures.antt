@@ -35,20 +35,11 @@ use Rattle.recovery_report.specs.Report.{report_from}
 use Rattle.recovery_laws.specs.Strict.{IsStrictBefore, upto, first_fault}
 use Rattle.recovery_laws.proofs.Ports.{IsParted, EndsBy, parted}
 use Rattle.recovery_laws.proofs.Runs.{IsSame, all_same, runs_report}
+use Rattle.recovery_report.proofs.PartLaws.{report_append}
 use Rattle.recovery_laws.proofs.Uptos.{Found, after_none, after_some}
 
 abbrev Heards : Type 0
 Heards = List (Event (Heard Packet))
-
--- parts after others
-from_append : (plan : Plan) (ms ns ahead : List Part) →
-    report_from plan ahead (ms ++ ns) ≡ report_from plan ahead ms ++ report_from plan (ahead ++ ms) ns
-from_append plan [] ns ahead = ap (λ p. report_from plan p ns) (sym (append-nil ahead))
-from_append plan (m ∷ ms) ns ahead =
-    ap (λ l. added plan ahead m ++ l) (from_append plan ms ns (ahead ++ m ∷ []))
-    ∙ ap (λ p. added plan ahead m ++ (report_from plan (ahead ++ m ∷ []) ms ++ report_from plan p ns))
-    (append_assoc ahead (m ∷ []) ms)
-    ∙ sym (append_assoc (added plan ahead m) (report_from plan (ahead ++ m ∷ []) ms) (report_from plan (ahead ++ (m ∷ ms)) ns))
 
 -- a lock is nothing to any source
 module _ (plan : Plan) (n : ℕ) (place : Place) where
@@ -145,8 +136,8 @@ module _ (plan : Plan) (sound : is_sound plan ≡ true) (lo hi : ℕ) (u : List 
   report_is : report plan u ≡ locked ++ (runs_report plan rs ++ broken)
   report_is =
       ap (report_from plan []) p.parts
-      ∙ from_append plan (lock_of p.items p.count) (map Run rs ++ p.rest) []
-      ∙ ap (λ l. locked ++ l) (from_append plan (map Run rs) p.rest (lock_of p.items p.count)
+      ∙ report_append plan (lock_of p.items p.count) (map Run rs ++ p.rest) []
+      ∙ ap (λ l. locked ++ l) (report_append plan (map Run rs) p.rest (lock_of p.items p.count)
       ∙ ap (λ l. l ++ broken) (after_locks plan p.items p.count rs))
 
   said : (upto locked ≡ front) × (first_fault locked ≡ None)

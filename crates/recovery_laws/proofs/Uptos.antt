@@ -20,7 +20,8 @@ use Rattle.stretch_readings.specs.declared.heard.Heard.{Heard}
 use Rattle.stretch_readings.specs.declared.heard.Heard.TheVariants.{Read, Broken}
 use Rattle.stretch_readings.specs.Stretches.{heard, from_fault}
 use Rattle.recovery_report.specs.Counts.{is_item, items_in}
-use Rattle.recovery_laws.specs.Strict.{as_strict, upto_by, upto, first_by, first_fault}
+use Rattle.recovering_machines.specs.Hearing.{as_strict}
+use Rattle.recovery_laws.specs.Strict.{upto_by, upto, first_by, first_fault}
 
 abbrev pub Found : Type 0
 Found = Option (Place × (Reason × Option ℕ))

@@ -5,7 +5,6 @@ use Rattle.trace_values.specs.Placed.{Place, Placed}
 use Rattle.deformatter.specs.PortReading.{port_reading}
 use Rattle.source_events.specs.declared.event.Event.{Event}
 use Rattle.source_events.specs.declared.event.What.{What}
-use Rattle.source_events.specs.declared.event.What.TheVariants.{Locked, Packet as Said, Raw, Trigger}
 use Rattle.source_events.specs.declared.packet.Packet.{Packet}
 use Rattle.source_events.specs.declared.plan.Plan.{Plan}
 use Rattle.source_events.specs.Merge.{place_of}
@@ -13,21 +12,13 @@ use Rattle.source_events.specs.Plan.{sources_by}
 use Rattle.source_events.specs.Report as strict
 use Rattle.source_events.specs.Tails as strict_ends
 use Rattle.stretch_readings.specs.declared.heard.Heard.{Heard}
-use Rattle.stretch_readings.specs.declared.heard.Heard.TheVariants.{Read, Broken}
+use Rattle.recovering_machines.specs.Hearing.{as_event, as_strict}
 use Rattle.recovery_report.specs.Counts.{port_counts_of, source_counts_of}
 use Rattle.recovery_report.specs.Report.{report, tails_of}
 
--- what an event of a recovering report is in a strict one, or the reason of its fault
-abbrev pub as_strict : What (Heard Packet) → Result (What Packet) Reason
-as_strict (Locked skipped) = Ok (Locked skipped)
-as_strict (Said (Read packet)) = Ok (Said packet)
-as_strict (Said (Broken reason)) = Err reason
-as_strict (Raw bytes) = Ok (Raw bytes)
-as_strict (Trigger byte) = Ok (Trigger byte)
-
 -- an event before others, or the end where it is a fault
 abbrev pub upto_by : Event (Heard Packet) → Result (What Packet) Reason → List (Event Packet) → List (Event Packet)
-upto_by e (Ok what) rest = record { at = e.at; half = e.half; source = e.source; what = what } ∷ rest
+upto_by e (Ok what) rest = as_event e what ∷ rest
 upto_by e (Err reason) rest = []
 
 -- the events before the first fault, as a strict report has them

@@ -1,1 +1,10 @@
 pub mod Listing
+pub mod Summary
+pub mod LineLaws
+pub mod Lister
+pub mod ListerLaws
+pub mod Show
+pub mod Feeding
+pub mod Check
+pub mod MeaningLaws
+pub mod Rows

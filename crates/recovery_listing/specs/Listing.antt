@@ -1,53 +1,75 @@
 -- What `show` writes of a recovering report: the lines of its events, the faults among them, and the end lines.
-use Rattle.std.specs.Prelude.{ℕ, List, [], ◌∷◌, ◌++◌, Option, ◌||◌, if◌then◌else◌, is_none}
+use Rattle.std.specs.Prelude.{ℕ, List, [], ◌∷◌, ◌++◌, flat_map, Result, Ok, Err, Bool, true, false}
+use Rattle.std.specs.List.{list_any}
+use Rattle.trace_values.specs.declared.fault.Reason.{Reason}
 use Rattle.trace_values.specs.Placed.{placed}
-use Rattle.itm_grammar.specs.declared.packet.ItmPacket.{ItmPacket}
 use Rattle.source_events.specs.declared.event.Event.{Event}
 use Rattle.source_events.specs.declared.event.What.{What}
-use Rattle.source_events.specs.declared.event.What.TheVariants.{Locked, Packet as Said, Raw, Trigger}
 use Rattle.source_events.specs.declared.packet.Packet.{Packet}
 use Rattle.source_events.specs.declared.plan.Plan.{Plan}
-use Rattle.source_events.specs.Merge.{is_of, place_of}
-use Rattle.trace_text.specs.LineText.{event_line}
-use Rattle.trace_text.specs.FaultText.{fault_line}
-use Rattle.trace_text.specs.EndText.{tails_text}
-use Rattle.capture_actions.specs.Faulty.{is_stp}
-use Rattle.capture_actions.specs.Listing.{itm_packet, remark_of}
+use Rattle.source_events.specs.Merge.{place_of}
 use Rattle.stretch_readings.specs.declared.heard.Heard.{Heard}
-use Rattle.stretch_readings.specs.declared.heard.Heard.TheVariants.{Read, Broken}
+use Rattle.recovering_machines.specs.Hearing.{as_event, as_strict}
 use Rattle.recovery_report.specs.Report.{report, tails_of}
+use Rattle.trace_stream.specs.Served.{Meaning}
+use Rattle.trace_text.specs.EndText.{tails_text}
+use Rattle.trace_text.specs.FaultText.{fault_line}
+use Rattle.capture_actions.specs.declared.list_plan.ListPlan.{ListPlan}
+use Rattle.capture_actions.specs.Faulty.{is_stp}
+use Rattle.capture_actions.specs.Listing.{line_by}
+use Rattle.capture_actions.specs.SourceClocks.{without}
 
--- the ITM packets of a source after one more event: a fault of it, or of the port, begins them anew, and its clocks
-abbrev pub packets_on : Option ℕ → List ItmPacket → Event (Heard Packet) → What (Heard Packet) → List ItmPacket
-packets_on source packets e (Said (Read p)) =
-    if is_of source e.source then packets ++ itm_packet (Said p) else packets
-packets_on source packets e (Said (Broken reason)) =
-    if is_of source e.source || is_none e.source then [] else packets
-packets_on source packets e what = packets
+-- The events that the clocks have taken, with one more. Behind a fault of a source its clocks begin anew, and behind
+-- one of the port those of all.
+abbrev pub clocked_by : List (Event Packet) → Event (Heard Packet) → Result (What Packet) Reason → List (Event Packet)
+clocked_by clocked e (Ok what) = clocked ++ as_event e what ∷ []
+clocked_by clocked e (Err reason) = without e.source clocked
 
-abbrev pub packets_from : Option ℕ → List ItmPacket → List (Event (Heard Packet)) → List ItmPacket
-packets_from source packets [] = packets
-packets_from source packets (e ∷ es) = packets_from source (packets_on source packets e e.what) es
+abbrev pub clocked_from : List (Event Packet) → List (Event (Heard Packet)) → List (Event Packet)
+clocked_from clocked [] = clocked
+clocked_from clocked (e ∷ es) = clocked_from (clocked_by clocked e (as_strict e.what)) es
 
--- an event, as a strict report has it
-abbrev pub as_event : Event (Heard Packet) → What Packet → Event Packet
-as_event e what = record { at = e.at; half = e.half; source = e.source; what = what }
+-- the events that a window sees: it does not see faults
+abbrev pub seen_by : Event (Heard Packet) → Result (What Packet) Reason → List (Event Packet)
+seen_by e (Ok what) = as_event e what ∷ []
+seen_by e (Err reason) = []
 
--- the line of an event after those before it
-abbrev pub line_of : Plan → List (Event (Heard Packet)) → Event (Heard Packet) → What (Heard Packet) → List ℕ
-line_of plan before e (Said (Broken reason)) = fault_line (is_stp plan e.source) (place_of e, (reason, e.source))
-line_of plan before e (Said (Read p)) =
-    event_line (is_stp plan e.source) (as_event e (Said p)) (remark_of (packets_from e.source [] before) (Said p))
-line_of plan before e (Locked n) = event_line (is_stp plan e.source) (as_event e (Locked n)) (remark_of [] (Locked n))
-line_of plan before e (Raw bytes) =
-    event_line (is_stp plan e.source) (as_event e (Raw bytes)) (remark_of [] (Raw bytes))
-line_of plan before e (Trigger byte) =
-    event_line (is_stp plan e.source) (as_event e (Trigger byte)) (remark_of [] (Trigger byte))
+abbrev pub seen_in : List (Event (Heard Packet)) → List (Event Packet)
+seen_in es = flat_map (λ e. seen_by e (as_strict e.what)) es
 
-abbrev pub lines_after : Plan → List (Event (Heard Packet)) → List (Event (Heard Packet)) → List ℕ
-lines_after plan before [] = []
-lines_after plan before (e ∷ es) = line_of plan before e e.what ++ lines_after plan (before ++ e ∷ []) es
+-- there is a fault among these events, or in the report of these bytes
+abbrev pub is_err : Result (What Packet) Reason → Bool
+is_err (Ok what) = false
+is_err (Err reason) = true
 
--- the whole listing of a capture
-abbrev pub listing : Plan → List ℕ → List ℕ
-listing plan bytes = lines_after plan [] (report plan (placed bytes)) ++ tails_text (tails_of plan (placed bytes))
+abbrev pub has_fault : List (Event (Heard Packet)) → Bool
+has_fault es = list_any (λ e. is_err (as_strict e.what)) es
+
+abbrev pub is_faulty : Plan → List ℕ → Bool
+is_faulty plan bytes = has_fault (report plan (placed bytes))
+
+-- the line of an event after those before it; none where it is not listed, and a fault always is
+abbrev pub line_of : ListPlan → List (Event (Heard Packet)) → Event (Heard Packet) → Result (What Packet) Reason →
+    List ℕ
+line_of p before e (Ok what) = line_by p (clocked_from [] before) (seen_in before) (as_event e what)
+line_of p before e (Err reason) = fault_line (is_stp p.plan e.source) (place_of e, (reason, e.source))
+
+-- the lines of events after those before them, in order
+abbrev pub lines_after : ListPlan → List (Event (Heard Packet)) → List (Event (Heard Packet)) → List ℕ
+lines_after p before [] = []
+lines_after p before (e ∷ es) = line_of p before e (as_strict e.what) ++ lines_after p (before ++ e ∷ []) es
+
+-- the lines of the events of the report, and what comes after them
+abbrev pub listed : ListPlan → List ℕ → List ℕ
+listed p bytes = lines_after p [] (report p.plan (placed bytes))
+
+abbrev pub ending : ListPlan → List ℕ → List ℕ
+ending p bytes = tails_text (tails_of p.plan (placed bytes))
+
+-- the whole listing
+abbrev pub listing : ListPlan → List ℕ → List ℕ
+listing p bytes = listed p bytes ++ ending p bytes
+
+-- all that `show` makes of the bytes of a capture: no fault ends it
+abbrev pub show_meaning : ListPlan → Meaning
+show_meaning p = record { faulty = λ bytes. ⊥; text = listed p; ending = ending p; due = false }

@@ -1,4 +1,11 @@
-//! Listings of captures with faults, that go on after each.
+//! What the command does with a capture's bytes where it goes on after each fault: it lists the faults among what all
+//! sources sent, or counts them too. Each is an action that `trace_stream` serves.
 #![tactic(auto)]
 
+mod check;
+mod lister;
 pub mod rows;
+mod show;
+
+pub use check::RecoveringCheck;
+pub use show::RecoveringShow;

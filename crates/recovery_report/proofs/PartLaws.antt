@@ -28,19 +28,22 @@ use Rattle.recovery_report.specs.Report.{Part, Run, Locks, Breaks, added, added_
 use Rattle.recovery_report.specs.Report.{list_of, stretches_of, stream_of, events_of, events_by}
 use Rattle.recovery_report.specs.Words.{OwnRun}
 
--- the report part by part
-from_push : (plan : Plan) (ms ahead : List Part) (m : Part) →
-    report_from plan ahead (ms ++ m ∷ []) ≡ report_from plan ahead ms ++ added plan (ahead ++ ms) m
-from_push plan [] ahead m = append-nil (added plan ahead m) ∙ ap (λ p. added plan p m) (sym (append-nil ahead))
-from_push plan (n ∷ ms) ahead m =
-    ap (λ l. added plan ahead n ++ l) (from_push plan ms (ahead ++ n ∷ []) m)
-    ∙ ap (λ p. added plan ahead n ++ (report_from plan (ahead ++ n ∷ []) ms ++ added plan p m))
-    (append_assoc ahead (n ∷ []) ms)
-    ∙ sym (append_assoc (added plan ahead n) (report_from plan (ahead ++ n ∷ []) ms) (added plan (ahead ++ (n ∷ ms)) m))
+-- the report of parts after others
+pub report_append : (plan : Plan) (ms ns ahead : List Part) →
+    report_from plan ahead (ms ++ ns) ≡ report_from plan ahead ms ++ report_from plan (ahead ++ ms) ns
+report_append plan [] ns ahead = ap (λ p. report_from plan p ns) (sym (append-nil ahead))
+report_append plan (m ∷ ms) ns ahead =
+    ap (λ l. added plan ahead m ++ l) (report_append plan ms ns (ahead ++ m ∷ []))
+    ∙ ap (λ p. added plan ahead m ++ (report_from plan (ahead ++ m ∷ []) ms ++ report_from plan p ns))
+    (append_assoc ahead (m ∷ []) ms)
+    ∙ sym (append_assoc (added plan ahead m) (report_from plan (ahead ++ m ∷ []) ms)
+    (report_from plan (ahead ++ (m ∷ ms)) ns))
 
 pub growing : (plan : Plan) (parts : List Part) (m : Part) →
     report_from plan [] (parts ++ m ∷ []) ≡ report_from plan [] parts ++ added plan parts m
-growing plan parts m = from_push plan parts [] m
+growing plan parts m =
+    report_append plan parts (m ∷ []) []
+    ∙ ap (λ l. report_from plan [] parts ++ l) (append-nil (added plan parts m))
 
 -- a source's list and stretches part by part
 module _ (plan : Plan) (kind : SourceKind) (x : ℕ) (parts : List Part) where

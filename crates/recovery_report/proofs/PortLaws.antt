@@ -195,12 +195,18 @@ part_is s at byte =
     (map Run (all_runs (framed (port_stream s.hunts s.units)).frames) ++ break_of
     (port_stream s.hunts s.units).fault)) (same s.hunts s.units).2
 
-nothing_yet : (v : List Placed) (count : ℕ) → (hunt pattern Full rule start v).found ≡ None →
+pub nothing_yet : (v : List Placed) (count : ℕ) → (hunt pattern Full rule start v).found ≡ None →
     parts_of (stretch_of (record { hunts = true; count = count; units = v })) ≡ []
 nothing_yet v count e =
     ap (λ o. (let s = port_hunted (hunt pattern Full rule start v).units o in
     lock_of s.items (skipped_in items_by from_halfword (record { hunts = true; count = count; units = v })) ++
     (map Run (all_runs (framed s).frames) ++ break_of s.fault))) e
+
+-- the parts of the stretches that are over, and then those of the last one
+pub all_parts : (past : List Stretch) (s : Stretch) → flat_map parts_of (map stretch_of past ++ stretch_of s ∷ [])
+    ≡ flat_map parts_of (map stretch_of past) ++ parts_of (stretch_of s)
+all_parts past s = flat_map-append parts_of (map stretch_of past) (stretch_of s ∷ [])
+    ∙ ap (λ l. flat_map parts_of (map stretch_of past) ++ l) (append-nil (parts_of (stretch_of s)))
 
 module _ (r : Stretches) (at byte : ℕ) (step : PortStep) (cells : List Cell)
     (none : (port_stream r.now.hunts r.now.units).fault ≡ None)
@@ -216,12 +222,6 @@ module _ (r : Stretches) (at byte : ℕ) (step : PortStep) (cells : List Cell)
 
   abbrev ended : List Part
   ended = flat_map parts_of (map stretch_of r.past)
-
-  all_parts : (past : List Stretch) (s : Stretch) →
-      flat_map parts_of (map stretch_of past ++ stretch_of s ∷ []) ≡ flat_map parts_of
-      (map stretch_of past) ++ parts_of (stretch_of s)
-  all_parts past s = flat_map-append parts_of (map stretch_of past) (stretch_of s ∷ [])
-      ∙ ap (λ l. flat_map parts_of (map stretch_of past) ++ l) (append-nil (parts_of (stretch_of s)))
 
   grown : parts_of (stretch_of longer.now) ≡ parts_of (stretch_of r.now) ++ parts_by r.now.count at step cells
   grown =

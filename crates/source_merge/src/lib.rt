@@ -16,6 +16,7 @@ mod split;
 mod step;
 mod tails;
 
+pub use counts::PerSource;
 pub use engine::{Engine, GREATEST_OFFSET};
 pub use flow::{Fed, Flow};
 pub use receiver::Receiver;

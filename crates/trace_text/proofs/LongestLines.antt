@@ -1,7 +1,8 @@
 -- How long lines are at most.
 use Rattle.std.proofs.Common.{◌≡◌, ℕ, zero, suc, ◌+◌, ◌*◌, ◌/◌, ◌^◌, ◌≤◌, ◌<◌, List, [], ◌∷◌, ◌++◌, length, length-append, Bool, true, false, refl, ap, arith}
-use Rattle.std.specs.Prelude.{codes, Option, None, Some, ◌==◌, nat_lt, if◌then◌else◌}
+use Rattle.std.specs.Prelude.{codes, decimal, Option, None, Some, ◌==◌, nat_lt, if◌then◌else◌}
 use Rattle.std.specs.Option.{ForSome}
+use Rattle.std.specs.Fmt.{digits as fmt_digits}
 use Rattle.std.specs.Int.{to_be_bytes, w8, w16, w32}
 use Rattle.std.proofs.lemmas.Fmt.{length-decimal-le}
 use Rattle.std.proofs.Math.Nat.{pow-le-pow_right}
@@ -30,6 +31,12 @@ use Rattle.stp_grammar.specs.declared.item.Stamp.TheVariants.{None as NoStamp, N
 use Rattle.stp_grammar.specs.declared.item.StpItem.{StpItem}
 use Rattle.stp_grammar.specs.declared.item.StpItem.TheVariants.{Async, Version, MasterError, GlobalError, Datum, Flag, Trigger as StpTrigger, Frequency, NullStamp}
 use Rattle.stp_grammar.specs.Proper.{bits_of, IsProperStamp, IsProperItem}
+use Rattle.trace_values.specs.declared.fault.Reason.{Reason}
+use Rattle.trace_values.specs.declared.fault.Reason.TheVariants.{BadSync, SyncInFrame, ReservedHeader, BadItmSync}
+use Rattle.trace_values.specs.declared.fault.Reason.TheVariants.{LongStamp, ShortStamp, Unsupported, StampSize}
+use Rattle.trace_values.specs.declared.fault.Reason.TheVariants.{BadAsync}
+use Rattle.trace_values.specs.Faults.{name_of, number_of}
+use Rattle.trace_values.specs.Placed.{Place}
 use Rattle.source_events.specs.declared.event.Event.{Event}
 use Rattle.source_events.specs.declared.event.What.{What}
 use Rattle.source_events.specs.declared.event.What.TheVariants.{Locked, Packet as Said, Raw, Trigger}
@@ -50,7 +57,8 @@ use Rattle.trace_text.specs.declared.remark.Remark.{Remark}
 use Rattle.trace_text.specs.declared.remark.Remark.TheVariants.{None as NoRemark, Clock, Time}
 use Rattle.trace_text.specs.LineText.{half_text, source_text, what_text, remark_text, event_line, itm_event, stp_event, raw_event}
 use Rattle.trace_text.specs.Printable.{IsProperWhat, IsNone, SuitsPacket, Suits, HasSource, IsPrintable}
-use Rattle.trace_text.specs.Lengths.{HasDigits, IsShortWhat, IsShortSource, IsShortRemark, IsShort}
+use Rattle.trace_text.specs.FaultText.{fault_line}
+use Rattle.trace_text.specs.Lengths.{HasDigits, IsShortWhat, IsShortSource, IsShortRemark, IsShort, IsShortFault}
 use Rattle.trace_text.specs.EndText.{mode_text, kind_text, source_line}
 
 value : (size : Size) (v : ℕ) → length (value_text size v) ≤ 12
@@ -226,6 +234,22 @@ stp_item at half id i proper a b c =
 pub raw_run : (at id : ℕ) (bytes : List ℕ) → length bytes ≤ 15 → HasDigits 20 at → HasDigits 3 id →
     length (event_line false (raw_event at id bytes) NoRemark) ≤ 92
 raw_run at id bytes few a b = simp length-append (omega (arith, length-encode_with lower_digits bytes))
+
+reason : (r : Reason) → length (decimal (number_of r)) + length (name_of r) ≤ 15
+unfolding fmt_digits
+reason BadSync = omega arith
+reason SyncInFrame = omega arith
+reason ReservedHeader = omega arith
+reason BadItmSync = omega arith
+reason LongStamp = omega arith
+reason ShortStamp = omega arith
+reason Unsupported = omega arith
+reason StampSize = omega arith
+reason BadAsync = omega arith
+
+-- the line of a fault
+pub fault : (s : Bool) (f : Place × (Reason × Option ℕ)) → IsShortFault f → length (fault_line s f) ≤ 92
+fault s f a = simp length-append (omega (arith, half s f.0.half a.half, source f.1.1 a.source, reason f.1.0, a.at))
 
 mode : (m : PortMode) → length (mode_text m) ≤ 7
 mode Bare = omega arith

@@ -7,6 +7,10 @@ port_counts_text fulls halves frames =
     codes "full " ++ (decimal fulls ++ (codes "\nhalf " ++ (decimal halves
     ++ (codes "\nframes " ++ (decimal frames ++ codes "\n")))))
 
+-- `faults N`: faults of a recovering report
+abbrev pub faults_line : ℕ → List ℕ
+faults_line faults = codes "faults " ++ (decimal faults ++ codes "\n")
+
 -- `items N` and `capture N`: the items of an exercise, and the bytes of its capture
 abbrev pub exercise_lines : ℕ → ℕ → List ℕ
 exercise_lines items capture =

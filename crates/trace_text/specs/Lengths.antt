@@ -1,5 +1,7 @@
 -- Which numbers and runs are as short as their types make them.
 use Rattle.std.specs.Prelude.{ℕ, ◌≤◌, length, decimal, Option, None, Some}
+use Rattle.trace_values.specs.declared.fault.Reason.{Reason}
+use Rattle.trace_values.specs.Placed.{Place}
 use Rattle.source_events.specs.declared.event.Event.{Event}
 use Rattle.source_events.specs.declared.event.What.{What}
 use Rattle.source_events.specs.declared.event.What.TheVariants.{Locked, Packet as Said, Raw, Trigger}
@@ -33,3 +35,9 @@ pub record IsShort (event : Event Packet) : Type 0 where
   pub half : HasDigits 3 event.half
   pub source : IsShortSource event.source
   pub what : IsShortWhat event.what
+
+-- what the types say of a fault with its source
+pub record IsShortFault (fault : Place × (Reason × Option ℕ)) : Type 0 where
+  pub at : HasDigits 20 fault.0.at
+  pub half : HasDigits 3 fault.0.half
+  pub source : IsShortSource fault.1.1

@@ -2,7 +2,7 @@
 
 ghost use Rattle.source_events.specs.declared.tails.TheConstants.{GREATEST_COUNT};
 ghost use Rattle.std.specs.Prelude.{◌≡◌, ◌+◌, ◌≤◌, ◌^◌, ◌++◌, length};
-ghost use Rattle.trace_text.specs.CountText.{port_counts_text, exercise_lines, source_counts_line};
+ghost use Rattle.trace_text.specs.CountText.{port_counts_text, faults_line, exercise_lines, source_counts_line};
 
 use crate::room::{put_bytes, put_count, put_short};
 use trace_stream::{OUTLET_ROOM, Outlet, TEXT_ROOM, Text};
@@ -28,6 +28,23 @@ impl Text for PortCountsLines {
         let from = put_count(room, from, b"full ", self.fulls);
         let from = put_count(room, from, b"\nhalf ", self.halves);
         let from = put_count(room, from, b"\nframes ", self.frames);
+        put_bytes(room, from, b"\n")
+    }
+}
+
+/// How many faults the report of a capture has that goes on after each: `faults N`.
+#[derive(Clone, Copy)]
+pub struct FaultCountLine {
+    pub faults: u64,
+}
+
+impl Text for FaultCountLine {
+    ghost fits = { λ _. Unit {0} };
+
+    ghost text = { λ l. faults_line l.faults };
+
+    fn put(&self, room: &mut [u8], from: usize) -> usize {
+        let from = put_count(room, from, b"faults ", self.faults);
         put_bytes(room, from, b"\n")
     }
 }

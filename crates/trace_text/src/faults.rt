@@ -5,7 +5,8 @@ ghost use Rattle.source_events.specs.Report.{stop_of};
 ghost use Rattle.trace_text.specs.FaultText.{reason_text, fault_line};
 ghost use Rattle.trace_text.specs.Puts.{Puts};
 
-use crate::lines::{put_half, put_source};
+use crate::lengths::short_stop;
+use crate::lines::{EVENT_ROOM, put_half, put_source};
 use crate::room::{PART_ROOM, put_byte, put_count, put_short, put_slice};
 use source_events::Stop;
 use trace_stream::{OUTLET_ROOM, Outlet, TEXT_ROOM, Text};
@@ -45,10 +46,12 @@ impl Text for FaultLine {
     }
 }
 
-/// Puts the line of the fault that ends a report; `stp` says that its source is an STP source.
+/// Puts the line of a fault; `stp` says that its source is an STP source.
 pub fn print_fault(outlet: &mut Outlet, stop: &Stop, stp: bool)
     requires room { length outlet.old + TEXT_ROOM ≤ OUTLET_ROOM }
-    ensures { outlet.new ≡ outlet.old ++ fault_line stp (stop_of stop.now) }
+    ensures line { outlet.new ≡ outlet.old ++ fault_line stp (stop_of stop.now) }
+    ensures bound { length outlet.new ≤ length outlet.old + EVENT_ROOM }
 {
+    short_stop(stop);
     outlet.put(&FaultLine { stop: *stop, stp });
 }

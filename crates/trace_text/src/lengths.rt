@@ -1,9 +1,11 @@
 //! How long the parts of a line are, by their types: for proofs alone. Nothing is done here when the program runs.
 
+ghost use Rattle.source_events.specs.Report.{stop_of};
 ghost use Rattle.trace_text.specs.Lengths.{HasDigits, IsShortWhat, IsShortSource, IsShortRemark, IsShort};
+ghost use Rattle.trace_text.specs.Lengths.{IsShortFault};
 
 use crate::remark::Remark;
-use source_events::{Event, Packet, What};
+use source_events::{Event, Packet, Stop, What};
 use trace_values::SourceId;
 
 /// A number of 64 bits has at most 20 digits.
@@ -73,4 +75,14 @@ pub(crate) fn short_event(event: &Event<Packet>)
     few_half_digits(event.half);
     short_source(event.source);
     short_what(&event.what);
+}
+
+/// All parts of a fault.
+#[inline(always)]
+pub(crate) fn short_stop(stop: &Stop)
+    ensures { IsShortFault (stop_of stop.now) }
+{
+    few_digits(stop.fault.at);
+    few_half_digits(stop.fault.half);
+    short_source(stop.source);
 }

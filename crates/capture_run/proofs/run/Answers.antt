@@ -1,10 +1,12 @@
-use Rattle.std.proofs.Common.{List, ℕ, map, subst, sym, ap, ◌∙◌}
+use Rattle.std.proofs.Common.{◌≤◌, List, ℕ, length, map, subst, sym, ap, ◌∙◌}
 use Rattle.std.specs.String.{string_bytes}
 use Rattle.capture_words.specs.Calls.{AsksFor, AskedBy}
 use Rattle.capture_words.specs.declared.job.Job.{Job}
 use Rattle.capture_run.specs.Fronts.{ListsRest}
+use Rattle.capture_run.specs.Recovers.{GoesOn}
 use Rattle.capture_run.specs.Run.{Streams}
 use Rattle.capture_run.proofs.Fronts.{same_job, follows_whole}
+use Rattle.capture_run.proofs.GoingOn.{goes_on}
 use Rattle.capture_run.proofs.Rebuilding.{rebuilds_script}
 use Rattle.capture_run.proofs.Running.{done_unopened}
 use Rattle.capture_run.proofs.run.Goals as goal
@@ -19,6 +21,28 @@ returns-in-Do-clause-fronts g c = λ job whole lost bytes asks lists loses sound
     let new : Streams = record { left = g.I.Source.left c.run_job.new.input; held = g.O.Sink.held c.run_job.new.output; noted = g.N.Sink.held c.run_job.new.notes; note_faults = g.N.Sink.faults c.run_job.new.notes } in
     follows_whole mine.task mine.limit old new c.run_job.result whole lost bytes c.run_job.ensures.ran
     (subst (λ (j : Job). ListsRest whole j.task) same lists) done loses sound
+
+pub returns-in-Do-clause-goes_on : goal.returns-in-Do-clause-goes_on
+returns-in-Do-clause-goes_on g c = λ job bytes asks on loses no_read no_write within.
+    let words : List (List ℕ) = map string_bytes c.args.words.now in
+    let mine : Job = c.in-Do.job in
+    let asked : AsksFor words mine = subst (AskedBy words) c.in-Do.is c.read_words.ensures.asked in
+    let same = same_job words job mine asks asked in
+    let old : Streams = record {
+      left = g.I.Source.left c.args.input.now;
+      held = g.O.Sink.held c.args.output.now;
+      noted = g.N.Sink.held c.args.notes.now;
+      note_faults = g.N.Sink.faults c.args.notes.now;
+    } in
+    let new : Streams = record {
+      left = g.I.Source.left c.run_job.new.input;
+      held = g.O.Sink.held c.run_job.new.output;
+      noted = g.N.Sink.held c.run_job.new.notes;
+      note_faults = g.N.Sink.faults c.run_job.new.notes;
+    } in
+    goes_on mine.task mine.limit old new c.run_job.result bytes c.run_job.ensures.ran
+    (subst (λ (j : Job). GoesOn j.task) same on) loses (subst (λ (j : Job). length bytes ≤ j.limit) same within)
+    (λ e. no_read (c.run_job.ensures.read_cause e)) (λ e. no_write (c.run_job.ensures.write_cause e))
 
 pub returns-in-Do-clause-reads_back : goal.returns-in-Do-clause-reads_back
 returns-in-Do-clause-reads_back g c = λ job plan sync half script asks is loses done.

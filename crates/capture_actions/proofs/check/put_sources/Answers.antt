@@ -1,18 +1,19 @@
 use Rattle.std.proofs.Common.{arith}
-use Rattle.capture_actions.specs.Names.{plan_of}
+use Rattle.capture_actions.specs.Names.{plan_of, source_counts_of}
 use Rattle.capture_actions.proofs.Counting.{no_lines, lines_more}
 use Rattle.capture_actions.proofs.check.put_sources.Goals as goal
 
 pub loop-number-init : goal.loop-number-init
 loop-number-init c = record {
-  text = λ u h. no_lines (plan_of c.args.reading.now) u c.args.outlet.now;
+  text = λ u h. no_lines (source_counts_of (plan_of c.args.reading.now) u) c.args.outlet.now;
   bound = omega arith;
 }
 
 pub loop-number-preserved : goal.loop-number-preserved
 loop-number-preserved c = record {
   text = λ u h.
-      lines_more (plan_of c.args.reading.now) u c.loop-number.number c.args.outlet.now c.loop-number.outlet c.put_source.new.outlet
+      lines_more (source_counts_of (plan_of c.args.reading.now) u) c.loop-number.number c.args.outlet.now
+      c.loop-number.outlet c.put_source.new.outlet
       (c.loop-number.invariant.text u h) (c.put_source.ensures.text u h);
   bound = omega (arith, c.put_source.ensures.bound, c.loop-number.invariant.bound);
 }

@@ -14,8 +14,9 @@ returns-in-Locked-clause-received g c =
     let gets = g.V.Hearer.gets in
     let a = c.event_at-in-Locked.result in
     let b = c.event_at-in-Locked-2.result in
-    let both = g.met.V.Hearer.gets_more c.args.out.now c.hear-in-Locked.new.self c.hear-in-Locked-2.new.self (a ∷ [])
-    (b ∷ []) c.hear-in-Locked.ensures.gets c.hear-in-Locked-2.ensures.gets in
+    let both = g.met.V.Hearer.gets_more (c.args.out.now, c.args.to.now)
+    (c.hear-in-Locked.new.self, c.hear-in-Locked.new.to) (c.hear-in-Locked-2.new.self, c.hear-in-Locked-2.new.to)
+    (a ∷ []) (b ∷ []) c.hear-in-Locked.ensures.gets c.hear-in-Locked-2.ensures.gets in
     let first : Event (Heard Packet) = record {
       at = c.args.at;
       half = c.in-Locked.half;
@@ -30,9 +31,11 @@ returns-in-Locked-clause-received g c =
           Some c.args.id;
       what = Said (Read c.in-Locked.item);
     } in
-    subst (λ s. gets c.args.out.now (told (Some c.args.id) (lifted (said_by c.args.at s)))
-    c.hear-in-Locked-2.new.self) (sym c.in-Locked.is)
-    (subst (λ (x : Event (Heard Packet)). gets c.args.out.now (x ∷ (second ∷ [])) c.hear-in-Locked-2.new.self)
+    subst (λ s. gets (c.args.out.now, c.args.to.now) (told (Some c.args.id) (lifted (said_by c.args.at s)))
+    (c.hear-in-Locked-2.new.self, c.hear-in-Locked-2.new.to)) (sym c.in-Locked.is)
+    (subst (λ (x : Event (Heard Packet)). gets (c.args.out.now, c.args.to.now) (x ∷ (second ∷ []))
+    (c.hear-in-Locked-2.new.self, c.hear-in-Locked-2.new.to))
     c.event_at-in-Locked.ensures
-    (subst (λ (y : Event (Heard Packet)). gets c.args.out.now (a ∷ (y ∷ [])) c.hear-in-Locked-2.new.self)
+    (subst (λ (y : Event (Heard Packet)). gets (c.args.out.now, c.args.to.now) (a ∷ (y ∷ []))
+    (c.hear-in-Locked-2.new.self, c.hear-in-Locked-2.new.to))
     c.event_at-in-Locked-2.ensures both))

@@ -1,11 +1,26 @@
-use Rattle.std.proofs.Common.{◌≡◌, ◌<◌, ◌-◌, [], ◌∷◌, take, drop, length, map, sym, ◌∙◌, ap, subst, arith}
+use Rattle.std.proofs.Common.{◌≡◌, ◌<◌, ◌-◌, [], ◌∷◌, take, drop, length, map, sym, ◌∙◌, ap, subst, refl, arith}
+use Rattle.std.proofs.Common.{List}
+use Rattle.std.proofs.lemmas.Bool.Decides.{nat_tests}
 use Rattle.std.proofs.lemmas.List.{length-drop, take_all}
+use Rattle.trace_values.specs.declared.cell.Cell.{Cell}
 use Rattle.source_events.specs.Runs.{runs_of}
 use Rattle.source_merge.proofs.Framing.{cut_at}
 use Rattle.recovery_report.specs.Report.{Run}
 use Rattle.recovery_engine.specs.Taking.{Takes}
-use Rattle.recovery_engine.proofs.Parts.{takes_then}
+use Rattle.recovery_engine.proofs.Parts.{takes_none, takes_then}
 use Rattle.recovery_engine.proofs.router.+take_frame.Goals as goal
+
+no_cells : (cells : List Cell) → length cells ≡ 0 → cells ≡ []
+no_cells [] e = refl
+no_cells (x ∷ cells) e = absurd (omega arith)
+
+pub returns-then-is_empty-clause-takes : goal.returns-then-is_empty-clause-takes
+returns-then-is_empty-clause-takes g t c =
+    let none : length c.args.cells.now ≡ 0 = (let e = c.is_empty.ensures in let f = c.if-is_empty.ensures in
+    let h = c.if-is_empty.true in grind (arith, nat_tests)) in
+    subst (λ l. Takes g.V.Hearer.gets (map Run (runs_of l)) (c.args.slots.now, (c.args.out.now, c.args.to.now))
+    (c.args.slots.now, (c.args.out.now, c.args.to.now))) (sym (no_cells c.args.cells.now none))
+    (takes_none g.V.Hearer.gets g.met.V.Hearer.gets_none (c.args.slots.now, (c.args.out.now, c.args.to.now)))
 
 pub returns-clause-takes : goal.returns-clause-takes
 returns-clause-takes g t c =
@@ -17,11 +32,11 @@ returns-clause-takes g t c =
     let more = take (length cells - n) rest in
     let left = length-drop n cells in
     let tail : more ≡ rest = take_all (length cells - n) rest (omega (arith, left)) in
-    subst (λ l. Takes g.V.Hearer.gets (map Run l) (c.args.slots.now, c.args.out.now)
-    (c.take_frame.new.slots, c.take_frame.new.out))
+    subst (λ l. Takes g.V.Hearer.gets (map Run l) (c.args.slots.now, (c.args.out.now, c.args.to.now))
+    (c.take_frame.new.slots, (c.take_frame.new.out, c.take_frame.new.to)))
     (ap (λ l. take n cells ∷ runs_of l) tail ∙ sym (cut_at cells n c.run_length-n.ensures.value some))
-    (takes_then g.V.Hearer.gets g.met.V.Hearer.gets_more (c.args.slots.now, c.args.out.now) (
+    (takes_then g.V.Hearer.gets g.met.V.Hearer.gets_more (c.args.slots.now, (c.args.out.now, c.args.to.now)) (
       c.take_run.new.slots,
-      c.take_run.new.out,
-    ) (c.take_frame.new.slots, c.take_frame.new.out)
+      (c.take_run.new.out, c.take_run.new.to),
+    ) (c.take_frame.new.slots, (c.take_frame.new.out, c.take_frame.new.to))
     (Run (take n cells) ∷ []) (map Run (runs_of more)) c.take_run.ensures.takes c.take_frame.ensures.takes)

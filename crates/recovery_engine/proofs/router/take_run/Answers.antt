@@ -17,7 +17,7 @@ first_id (c ∷ run) d h = refl
 pub returns-in_default-clause-takes : goal.returns-in_default-clause-takes
 returns-in_default-clause-takes g c = (
   [],
-  g.met.V.Hearer.gets_none c.args.out.now,
+  g.met.V.Hearer.gets_none (c.args.out.now, c.args.to.now),
   λ plan parts k. grown_none plan parts c.args.cells.now c.args.slots.now
       (first_id c.args.cells.now _ c.requires.some ∙ c.in_default.is) k,
 )
@@ -28,14 +28,16 @@ returns-then-not-take_own-clause-takes g c =
     let run = c.args.cells.now in
     let other = c.take_own.ensures.other c.if-not-take_own.true in (
       told (Some x) (raw_events x run),
-      subst (λ s. g.V.Hearer.gets s (told (Some x) (raw_events x run)) c.give_raw.new.out) other.1
-          c.give_raw.ensures.given,
+      subst (λ o. g.V.Hearer.gets (o, c.args.to.now) (told (Some x) (raw_events x run))
+          (c.give_raw.new.out, c.give_raw.new.to)) other.1
+          (subst (λ t. g.V.Hearer.gets (c.take_own.new.out, t) (told (Some x) (raw_events x run))
+          (c.give_raw.new.out, c.give_raw.new.to)) other.2 c.give_raw.ensures.given),
       λ plan parts k. subst (λ l. Grown plan parts (Run run ∷ []) l (told (Some x) (raw_events x run))) (sym other.0)
-          (grown_raw plan parts run x c.args.slots.now (first_id run _ c.requires.some ∙ c.in-Some.is) other.2 k),
+          (grown_raw plan parts run x c.args.slots.now (first_id run _ c.requires.some ∙ c.in-Some.is) other.3 k),
     )
 
 pub returns-else-not-take_own-clause-takes : goal.returns-else-not-take_own-clause-takes
 returns-else-not-take_own-clause-takes g c =
-    takes_own g.V.Hearer.gets g.V.Hearer.room c.args.cells.now c.in-Some.id (c.args.slots.now, c.args.out.now)
-    (c.take_own.new.slots, c.take_own.new.out)
+    takes_own g.V.Hearer.gets g.V.Hearer.room c.args.cells.now c.in-Some.id (c.args.slots.now, (c.args.out.now, c.args.to.now))
+    (c.take_own.new.slots, (c.take_own.new.out, c.take_own.new.to))
     (first_id c.args.cells.now _ c.requires.some ∙ c.in-Some.is) (c.take_own.ensures.own c.if-not-take_own.false)

@@ -1,4 +1,5 @@
-use Rattle.std.proofs.Common.{◌≡◌, ℕ}
+use Rattle.std.proofs.Common.{◌≡◌, ◌∙◌, ℕ, ◌*◌, ◌≤◌, arith}
+use Rattle.std.proofs.lemmas.Bool.Decides.{nat_tests}
 use Rattle.source_counts.specs.declared.counts.Counts.{Counts}
 use Rattle.recovery_report.specs.Report.{report}
 use Rattle.recovery_engine.specs.Counted.{plan_of}
@@ -8,6 +9,12 @@ same_counts : (b c i j : ℕ) → b ≡ c → i ≡ j →
     (let a : Counts = record { bytes = b; items = i } in let d : Counts = record { bytes = c; items = j } in a ≡ d)
 same_counts b c i j e f = cc
 
-pub returns : goal.returns
-returns c = λ u k. same_counts _ _ _ _ (c.bytes.ensures u k.engine)
-    (c.items.ensures (report (plan_of c.args.self.now) u) k.heard)
+pub returns-clause-value : goal.returns-clause-value
+returns-clause-value c = λ u k.
+    let few = c.bytes.ensures.few u k.engine in
+    let count = c.next-bytes.ensures.count in
+    let limit = c.next-bytes.ensures.limit in
+    let small : c.bytes.result ≤ 4398046511104 = omega (arith, few, count, limit) in
+    let all : c.min.result ≡ c.bytes.result = (let m = c.min.ensures in grind (arith, nat_tests)) in
+    same_counts _ _ _ _ (all ∙ c.bytes.ensures.value u k.engine)
+    (c.items.ensures.value (report (plan_of c.args.self.now) u) k.heard)

@@ -1,0 +1,10 @@
+use Rattle.std.proofs.Common.{refl}
+use Rattle.std.specs.Fmt.{digits}
+use Rattle.hex.proofs.OnLiterals.{hex_on_literals}
+use Rattle.recovery_report.specs.Report.{source_tails}
+use Rattle.capture_actions.specs.Summary.{sources_text}
+use Rattle.recovery_listing.proofs.rows.summaries.Goals as goal
+
+pub returns : goal.returns
+unfolding digits hex_on_literals source_tails sources_text
+returns c = record { faults = refl }

@@ -1,0 +1,13 @@
+use Rattle.std.proofs.Common.{◌∙◌, ◌++◌, ℕ, List, ap}
+use Rattle.trace_values.specs.Placed.{placed}
+use Rattle.source_events.specs.declared.plan.Plan.{Plan}
+use Rattle.trace_text.specs.EndText.{tails_text}
+use Rattle.recovery_report.specs.Report.{tails_of}
+use Rattle.recovery_listing.proofs.show.RecoveringShowAction.finish.Goals as goal
+
+pub returns-clause-ended : goal.returns-clause-ended
+returns-clause-ended c = λ seen s.
+    c.print_tails.ensures.lines
+    ∙ ap (λ (l : List ℕ). l ++ tails_text c.finish.result) c.requires.empty
+    ∙ ap tails_text (c.finish.ensures (placed seen) s.engine)
+    ∙ ap (λ (p : Plan). tails_text (tails_of p (placed seen))) s.plan

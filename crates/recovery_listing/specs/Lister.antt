@@ -1,0 +1,36 @@
+-- What puts the lines of a recovering report stands for, and what it was given.
+use Rattle.std.specs.Prelude.{◌≡◌, ℕ, List, [], ◌++◌}
+use Rattle.source_events.specs.declared.event.Event.{Event}
+use Rattle.source_events.specs.declared.packet.Packet.{Packet}
+use Rattle.stretch_readings.specs.declared.heard.Heard.{Heard}
+use Rattle.capture_actions.specs.declared.list_plan.ListPlan.{ListPlan}
+use Rattle.capture_actions.specs.Filter.{plan_by, HasSeen}
+use Rattle.capture_actions.specs.Lister as strict
+use Rattle.capture_actions.specs.SourceClocks.{AllStand}
+use Rattle.recovery_listing.specs.Listing.{clocked_from, has_fault, lines_after, seen_in}
+use Rattle.recovery_listing.specs.declared.lister.RecoveringLister.{RecoveringLister}
+
+-- what it was asked for
+abbrev pub plan_of : RecoveringLister → ListPlan
+plan_of lister = plan_by lister.lister.plan lister.lister.filter
+
+-- its clocks and its window have taken these events, and it knows whether there is a fault among them
+pub record Stands (lister : RecoveringLister) (es : List (Event (Heard Packet))) : Type 0 where
+  pub clocks : AllStand lister.lister.clocks (clocked_from [] es)
+  pub seen : HasSeen lister.lister.filter (seen_in es)
+  pub faulty : lister.is_faulty ≡ has_fault es
+
+-- It put the lines of these events, which follow all that it stands for. An outlet's value is the list of its bytes.
+pub record ListerGets (old : RecoveringLister × List ℕ) (es : List (Event (Heard Packet)))
+    (new : RecoveringLister × List ℕ) : Type 0 where
+  pub same : plan_of new.0 ≡ plan_of old.0
+  pub stands : (before : List (Event (Heard Packet))) → Stands old.0 before → Stands new.0 (before ++ es)
+  pub text : (before : List (Event (Heard Packet))) → Stands old.0 before →
+      new.1 ≡ old.1 ++ lines_after (plan_of old.0) before es
+
+abbrev pub gets : RecoveringLister × List ℕ → List (Event (Heard Packet)) → RecoveringLister × List ℕ → Type 0
+gets old es new = ListerGets old es new
+
+-- how many more events it has room for
+abbrev pub room : RecoveringLister × List ℕ → ℕ
+room s = strict.room (s.0.lister, s.1)

@@ -1,0 +1,17 @@
+-- Worked rows of recovering listings and summaries, in text.
+use Rattle.std.specs.Prelude.{ℕ, List, None, Some}
+use Rattle.trace_values.specs.Hex.{hex}
+use Rattle.item_tap.specs.declared.choice.Choice.{Choice}
+use Rattle.source_events.specs.declared.plan.Plan.{Plan}
+use Rattle.recovery_listing.specs.Listing.{listing}
+use Rattle.recovery_listing.specs.Summary.{summary}
+
+-- the listing of a text with all its events, that with those that meet a choice, and its summary
+abbrev pub listing_row : Plan → List ℕ → List ℕ
+listing_row plan text = listing (record { plan = plan; only = None; window = None }) (hex text)
+
+abbrev pub chosen_row : Choice → Plan → List ℕ → List ℕ
+chosen_row choice plan text = listing (record { plan = plan; only = Some choice; window = None }) (hex text)
+
+abbrev pub summary_row : Plan → List ℕ → List ℕ
+summary_row plan text = summary plan (hex text)
