@@ -10,3 +10,4 @@ pub mod Shown
 pub mod Filtering
 pub mod Choosing
 pub mod Few
+pub mod Values

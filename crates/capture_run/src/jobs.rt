@@ -15,7 +15,7 @@ use crate::images::{run_ring, run_unring};
 use crate::notes::{note, note_done, note_fault, note_text};
 use crate::status::Status;
 use buffer_ring::TraceBuffer;
-use capture_actions::{Check, ListPlan, Realign, Show, Split, SplitPlan};
+use capture_actions::{Check, ListPlan, PortText, PortTextPlan, Realign, Show, Split, SplitPlan};
 use capture_words::{Job, Task};
 use script_rebuild::{Rebuild, RebuildPlan};
 use std::alloc::Global;
@@ -110,6 +110,10 @@ pub fn run_job<I: Source, O: Sink, N: Sink>(
         }
         Task::Split { frames, id } => {
             let mut action = Split::new(SplitPlan { frames, id });
+            run_action(&mut buffers, &mut action, limit, input, output, notes)
+        }
+        Task::Text { plan, port } => {
+            let mut action = PortText::new(PortTextPlan { plan, port });
             run_action(&mut buffers, &mut action, limit, input, output, notes)
         }
         Task::Check(plan) => {
