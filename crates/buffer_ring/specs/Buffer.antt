@@ -3,7 +3,10 @@ use Rattle.std.specs.Prelude.{◌≡◌, ℕ, ◌+◌, List, ◌++◌, length}
 use Rattle.buffer_ring.specs.declared.buffer.TraceBuffer.{TraceBuffer}
 use Rattle.buffer_ring.specs.Image.{image, pointer}
 
--- its size, and how many bytes were pushed
+-- its memory, its size, and how many bytes were pushed
+abbrev pub memory_of : TraceBuffer → List ℕ
+memory_of b = b.bytes.items
+
 abbrev pub size_of : TraceBuffer → ℕ
 size_of b = length b.bytes.items
 

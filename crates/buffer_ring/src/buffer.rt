@@ -29,7 +29,7 @@ fn place_at(end: usize, size: usize) -> usize
 impl TraceBuffer {
     ghost use Rattle.std.specs.Prelude.{◌-◌, ◌∷◌, [], List, ℕ, IfOk, nat_le};
     ghost use Rattle.buffer_ring.specs.Image.{image, pointer, is_full, dropped};
-    ghost use Rattle.buffer_ring.specs.Buffer.{Stands, Takes, size_of, pushed_by};
+    ghost use Rattle.buffer_ring.specs.Buffer.{Stands, Takes, memory_of, size_of, pushed_by};
 
     /// A buffer of this many bytes, 16 to 2^24, all of them 00. It takes all its memory here, and fails only for want
     /// of it.
@@ -84,6 +84,7 @@ impl TraceBuffer {
 
     /// The memory, from its first byte to its last.
     pub fn image(&self) -> &[u8]
+        ensures bytes { result.now ≡ memory_of self.now }
         ensures size { length result.now ≡ size_of self.now }
         ensures image { (u : List ℕ) → Stands self.now u → result.now ≡ image (size_of self.now) u }
         ensures exact { (u : List ℕ) → Stands self.now u → length u ≡ size_of self.now → result.now ≡ u }

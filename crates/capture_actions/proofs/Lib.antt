@@ -11,3 +11,4 @@ pub mod Filtering
 pub mod Choosing
 pub mod Few
 pub mod Values
+pub mod Owing

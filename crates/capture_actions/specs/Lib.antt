@@ -1,6 +1,8 @@
 pub mod Names
-pub mod BufferAction
-pub mod BufferLaws
+pub mod Owed
+pub mod Ring
+pub mod Unring
+pub mod RingLaws
 pub mod CapturePort
 pub mod Port
 pub mod PortGrowth

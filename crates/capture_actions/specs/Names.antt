@@ -42,6 +42,7 @@ pub use Rattle.source_merge.specs.declared.flow.Flow.TheVariants.{Going}
 pub use Rattle.stp_grammar.specs.declared.item.StpItem.{StpItem}
 pub use Rattle.trace_clock.specs.GlobalTime.{GlobalStamp}
 pub use Rattle.trace_clock.specs.LocalTime.{local_time}
+pub use Rattle.trace_stream.specs.Debt.{Debt, Paid, Owes, owing, with_debt, calls_of, Pours}
 pub use Rattle.trace_stream.specs.Served.{IsLawful, Meaning}
 pub use Rattle.trace_stream.specs.Taken.{FaultAfter, HasTaken}
 pub use Rattle.trace_stream.specs.declared.action.TheConstants.{ACTION_ROOM}

@@ -195,6 +195,7 @@ impl Action for Check {
     ghost use Rattle.capture_actions.specs.Summary.{check_meaning};
     ghost use Rattle.capture_actions.specs.CheckLaws.{check_lawful};
     ghost use Rattle.capture_actions.specs.Check.{Stands, plan_of, taken_by, IsLive};
+    ghost use Rattle.capture_actions.specs.Names.{Paid};
 
     type Plan = Plan;
 
@@ -206,9 +207,16 @@ impl Action for Check {
 
     ghost stands = { Stands };
 
+    ghost debt = { λ _. Paid };
+
     ghost meaning = { check_meaning };
 
     ghost lawful = { check_lawful };
+
+    #[inline]
+    fn pour(&mut self, _outlet: &mut Outlet) -> bool {
+        false
+    }
 
     /// A whole frame is counted at once where no source is mapped.
     fn feed(&mut self, piece: &[u8], _outlet: &mut Outlet) -> Progress {
@@ -228,7 +236,7 @@ impl Action for Check {
         }
     }
 
-    fn finish(&self, outlet: &mut Outlet) {
+    fn finish(&mut self, outlet: &mut Outlet) {
         self.put_summary(outlet);
     }
 

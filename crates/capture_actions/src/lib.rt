@@ -1,34 +1,39 @@
 //! What the command does with a capture's bytes as they come: it lists or counts what all sources sent, takes out the
 //! bytes of one source or what software wrote to one of its ports, realigns those of a port whose line loses bits, or
-//! puts all into a trace buffer. Each is an action that `trace_stream` serves.
+//! makes the image of a trace buffer and puts one in order. Each is an action that `trace_stream` serves.
 #![tactic(auto)]
 
-mod buffer;
 mod check;
 mod clocks;
 mod filter;
 pub mod laws;
 mod list_plan;
 mod lister;
+mod owed;
 mod plan_table;
 mod port;
 mod port_text;
 mod port_text_plan;
 mod port_values;
 mod realign;
+mod ring;
 pub mod rows;
 mod show;
 mod source_clocks;
 mod split;
 mod split_plan;
 mod stopping;
+mod unring;
+mod unring_plan;
 
-pub use buffer::BufferAction;
 pub use check::{Check, SUMMARY_ROOM};
 pub use list_plan::ListPlan;
 pub use port_text::PortText;
 pub use port_text_plan::PortTextPlan;
 pub use realign::{Realign, realign_law};
+pub use ring::Ring;
 pub use show::Show;
 pub use split::Split;
 pub use split_plan::SplitPlan;
+pub use unring::Unring;
+pub use unring_plan::UnringPlan;

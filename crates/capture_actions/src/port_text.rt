@@ -55,6 +55,7 @@ impl Action for PortText {
     ghost use Rattle.capture_actions.specs.PortText.{port_text_meaning};
     ghost use Rattle.capture_actions.specs.PortTextLaws.{port_text_lawful};
     ghost use Rattle.capture_actions.specs.PortTexter.{plan_of, Stands, taken_by, IsLive};
+    ghost use Rattle.capture_actions.specs.Names.{Paid};
 
     type Plan = PortTextPlan;
 
@@ -66,9 +67,16 @@ impl Action for PortText {
 
     ghost stands = { Stands };
 
+    ghost debt = { λ _. Paid };
+
     ghost meaning = { port_text_meaning };
 
     ghost lawful = { port_text_lawful };
+
+    #[inline]
+    fn pour(&mut self, _outlet: &mut Outlet) -> bool {
+        false
+    }
 
     /// Takes a whole frame, or bytes up to a synchronisation or a fault, or packets, and puts the values among them.
     fn feed(&mut self, piece: &[u8], outlet: &mut Outlet) -> Progress {
@@ -81,7 +89,7 @@ impl Action for PortText {
         }
     }
 
-    fn finish(&self, _outlet: &mut Outlet) {}
+    fn finish(&mut self, _outlet: &mut Outlet) {}
 
     fn is_due(&self) -> bool {
         false

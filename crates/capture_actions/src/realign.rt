@@ -95,6 +95,7 @@ impl Action for Realign {
     ghost use Rattle.capture_actions.specs.Realigned.{realign_meaning};
     ghost use Rattle.capture_actions.specs.Realigner.{Stands, plan_of, taken_by, IsLive};
     ghost use Rattle.capture_actions.specs.RealignLaws.{realign_lawful};
+    ghost use Rattle.capture_actions.specs.Names.{Paid};
 
     type Plan = ();
 
@@ -106,9 +107,16 @@ impl Action for Realign {
 
     ghost stands = { Stands };
 
+    ghost debt = { λ _. Paid };
+
     ghost meaning = { λ _. realign_meaning };
 
     ghost lawful = { λ _. realign_lawful };
+
+    #[inline]
+    fn pour(&mut self, _outlet: &mut Outlet) -> bool {
+        false
+    }
 
     /// Takes as many bytes as there is room for.
     fn feed(&mut self, piece: &[u8], outlet: &mut Outlet) -> Progress {
@@ -121,7 +129,7 @@ impl Action for Realign {
     }
 
     /// Puts the last bytes, which are not sure while more may come.
-    fn finish(&self, outlet: &mut Outlet) {
+    fn finish(&mut self, outlet: &mut Outlet) {
         let mut last = ArrayVec::new();
         let _ = self.slip.finish(&mut last);
         outlet.append(last.as_slice());

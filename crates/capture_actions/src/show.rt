@@ -80,6 +80,7 @@ impl Action for Show {
     ghost use Rattle.capture_actions.specs.Listing.{show_meaning};
     ghost use Rattle.capture_actions.specs.ListingLaws.{show_lawful};
     ghost use Rattle.capture_actions.specs.Show.{plan_of, Stands, taken_by, IsLive};
+    ghost use Rattle.capture_actions.specs.Names.{Paid};
 
     type Plan = ListPlan;
 
@@ -91,9 +92,16 @@ impl Action for Show {
 
     ghost stands = { Stands };
 
+    ghost debt = { λ _. Paid };
+
     ghost meaning = { show_meaning };
 
     ghost lawful = { show_lawful };
+
+    #[inline]
+    fn pour(&mut self, _outlet: &mut Outlet) -> bool {
+        false
+    }
 
     /// Takes bytes while the outlet has room for the lines of a frame, and puts the lines of their events.
     fn feed(&mut self, piece: &[u8], outlet: &mut Outlet) -> Progress {
@@ -114,7 +122,7 @@ impl Action for Show {
         }
     }
 
-    fn finish(&self, outlet: &mut Outlet) {
+    fn finish(&mut self, outlet: &mut Outlet) {
         match &self.stop {
             None => print_tails(outlet, &self.engine.finish()),
             Some(stop) => print_fault(outlet, stop, sends_stp(self.engine.plan(), stop.source)),

@@ -136,6 +136,7 @@ impl Action for Split {
     ghost use Rattle.capture_actions.specs.Split.{split_meaning};
     ghost use Rattle.capture_actions.specs.Splitter.{Stands, plan_of, taken_by, IsLive};
     ghost use Rattle.capture_actions.specs.SplitLaws.{split_lawful};
+    ghost use Rattle.capture_actions.specs.Names.{Paid};
 
     type Plan = SplitPlan;
 
@@ -147,9 +148,16 @@ impl Action for Split {
 
     ghost stands = { Stands };
 
+    ghost debt = { λ _. Paid };
+
     ghost meaning = { split_meaning };
 
     ghost lawful = { split_lawful };
+
+    #[inline]
+    fn pour(&mut self, _outlet: &mut Outlet) -> bool {
+        false
+    }
 
     /// Takes a whole frame at once where one is there, and else the piece's bytes up to the end of a frame or a
     /// synchronisation.
@@ -165,7 +173,7 @@ impl Action for Split {
         self.feed_bytes(piece, outlet)
     }
 
-    fn finish(&self, _outlet: &mut Outlet) {}
+    fn finish(&mut self, _outlet: &mut Outlet) {}
 
     fn is_due(&self) -> bool {
         false

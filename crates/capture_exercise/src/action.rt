@@ -42,6 +42,7 @@ impl Action for Exercise {
     ghost use Rattle.capture_exercise.specs.Summary.{exercise_meaning};
     ghost use Rattle.capture_exercise.specs.SummaryLaws.{exercise_lawful};
     ghost use Rattle.capture_exercise.specs.Exerciser.{Stands, plan_of, taken_by, IsLive};
+    ghost use Rattle.trace_stream.specs.Debt.{Paid};
 
     type Plan = ExercisePlan;
 
@@ -53,15 +54,22 @@ impl Action for Exercise {
 
     ghost stands = { Stands };
 
+    ghost debt = { λ _. Paid };
+
     ghost meaning = { exercise_meaning };
 
     ghost lawful = { exercise_lawful };
+
+    #[inline]
+    fn pour(&mut self, _outlet: &mut Outlet) -> bool {
+        false
+    }
 
     fn feed(&mut self, piece: &[u8], outlet: &mut Outlet) -> Progress {
         self.check.feed(piece, outlet)
     }
 
-    fn finish(&self, outlet: &mut Outlet) {
+    fn finish(&mut self, outlet: &mut Outlet) {
         outlet.put(&self.lines);
         self.check.put_summary(outlet);
     }

@@ -5,17 +5,17 @@ use Rattle.std.specs.declared.option.Option.{Option}
 use Rattle.std.specs.Prelude.{codes}
 use Rattle.std.specs.Io.KnownBytes.{Consumes, Keeps}
 use Rattle.std.proofs.KnownBytes.{Consumes-nil, Appends-nil}
-use Rattle.trace_stream.specs.Served.{Meaning, Ends, HasServed, HasStopped, HasEnded}
+use Rattle.trace_stream.specs.Served.{Meaning, Ends, HasServed, HasStopped, HasEnded, ServedBy}
 use Rattle.trace_stream.specs.declared.outcome.Outcome.{Outcome}
 use Rattle.trace_stream.specs.declared.outcome.Outcome.TheVariants.{AtEnd, FaultFound, ReadFailed, WriteFailed, OverLimit}
 use Rattle.trace_text.specs.NoteText.{limit_line}
 use Rattle.capture_words.specs.declared.job.Task.{Task}
 use Rattle.capture_words.specs.declared.job.Task.TheVariants as tasks
 use Rattle.capture_run.specs.Actions.{HasDone, meaning_of}
-use Rattle.capture_run.specs.Notes.{Notes, text_of, status_of}
+use Rattle.capture_run.specs.Notes.{Notes, text_of, status_of, is_image, over_text, over_status}
 use Rattle.capture_run.specs.Run.{HasRun, TaskMeaning, TaskNotes, task_of, Streams, Stops, EndsLate, WritesBy, Loses}
 use Rattle.capture_run.specs.declared.actions.FaultNote.{FaultNote}
-use Rattle.capture_run.specs.declared.actions.FaultNote.TheVariants.{Capture, Script}
+use Rattle.capture_run.specs.declared.actions.FaultNote.TheVariants.{Capture, Script, Image}
 use Rattle.capture_run.specs.declared.status.Status.{Status}
 use Rattle.capture_run.specs.declared.status.Status.TheVariants.{Done, ReadFault, WriteFault, NoMemory, Limit}
 
@@ -29,44 +29,74 @@ same_lost (Some a) (Some b) xs ys p q = append_cancel_right xs ys b (sym p ∙ q
 abbrev pub ends : Streams → Ends
 ends s = record { left = s.left; held = s.held }
 
--- a fault by its note
-writes_fault : (fault : FaultNote) (m : TaskMeaning) (limit : ℕ) (left : Option (List ℕ)) (bytes out note : List ℕ) → status_of fault ≡ m.fault_status
-    → Stops m limit left bytes out note ⊎ EndsLate m limit left bytes out note → WritesBy m limit left (status_of fault) bytes out note
-writes_fault (Capture fault) m limit left bytes out note e w = (sym e, w)
-writes_fault (Script fault) m limit left bytes out note e w = (sym e, w)
+-- a fault by its note: at the end of the input, where it became certain before, and where the input is too long
+writes_late : (fault : FaultNote) (m : TaskMeaning) (limit : ℕ) (left : Option (List ℕ)) (bytes out note : List ℕ)
+    → status_of fault ≡ m.fault_status → is_image fault ≡ m.exact
+    → EndsLate m limit left bytes out note → WritesBy m limit left (status_of fault) bytes out note
+writes_late (Capture fault) m limit left bytes out note e x w = (sym e, inr w)
+writes_late (Script fault) m limit left bytes out note e x w = (sym e, inr w)
+writes_late (Image size) m limit left bytes out note e x w = (sym x, inl w)
+
+writes_stop : (fault : FaultNote) (m : TaskMeaning) (limit : ℕ) (left : Option (List ℕ)) (bytes out note : List ℕ)
+    → status_of fault ≡ m.fault_status → is_image fault ≡ m.exact → (m.exact ≡ true → m.action.faulty (take limit bytes) → ⊥)
+    → Stops m limit left bytes out note → WritesBy m limit left (status_of fault) bytes out note
+writes_stop (Capture fault) m limit left bytes out note e x sound w = (sym e, inl w)
+writes_stop (Script fault) m limit left bytes out note e x sound w = (sym e, inl w)
+writes_stop (Image size) m limit left bytes out note e x sound w = absurd (sound (sym x) w.1.0.0.broken)
+
+writes_over : (fault : FaultNote) (m : TaskMeaning) (limit : ℕ) (left : Option (List ℕ)) (bytes out recent : List ℕ)
+    → is_image fault ≡ m.exact → (m.exact ≡ true → text_of fault [] ≡ m.fault_note bytes)
+    → ServedBy m.action limit left OverLimit bytes out recent
+    → WritesBy m limit left (over_status fault) bytes out (over_text fault limit)
+writes_over (Capture fault) m limit left bytes out recent x told w = (sym x, w, refl)
+writes_over (Script fault) m limit left bytes out recent x told w = (sym x, w, refl)
+writes_over (Image size) m limit left bytes out recent x told w = (sym x, inr (w, told (sym x)))
 
 -- A fault is noted, by a plan that is that of the run.
 module _ {Plan : Type 0} (notes : Plan → TaskNotes) (plan now : Plan) (same : now ≡ plan) (action : Meaning) (limit : ℕ) (old new : Streams) (recent : List ℕ)
-    (there : List ℕ → Type 0) (fault : FaultNote) (status : Status) (status_is : status ≡ status_of fault) (ends_so : status_of fault ≡ (notes now).fault_status)
-    (noted : Notes old.noted new.noted old.note_faults new.note_faults (text_of fault recent)) where
+    (fault : FaultNote) (status : Status) (ends_so : status_of fault ≡ (notes now).fault_status) (exact : is_image fault ≡ (notes now).exact) where
   abbrev m : TaskMeaning
   m = task_of action (notes now)
 
-  ran : (outcome : Outcome) (s : HasServed action limit (ends old) (ends new) recent outcome)
-      → Stops m limit new.left s.bytes s.out (text_of fault recent) ⊎ EndsLate m limit new.left s.bytes s.out (text_of fault recent)
-      → HasRun (task_of action (notes plan)) limit old new status
-  ran outcome s w =
+  abbrev Noted : List ℕ → Type 0
+  Noted note = Notes old.noted new.noted old.note_faults new.note_faults note
+
+  ran : (outcome : Outcome) (s : HasServed action limit (ends old) (ends new) recent outcome) (by : Status) (note : List ℕ) → status ≡ by → Noted note
+      → WritesBy m limit new.left by s.bytes s.out note → HasRun (task_of action (notes plan)) limit old new status
+  ran outcome s by note is noted w =
       subst (λ p. HasRun (task_of action (notes p)) limit old new status) same
-      (subst (HasRun m limit old new) (sym status_is) (record {
+      (subst (HasRun m limit old new) (sym is) (record {
         bytes = s.bytes;
         out = s.out;
-        note = text_of fault recent;
+        note = note;
         lost = s.lost;
         gained = s.gained;
         noted = noted;
         at_most = s.at_most;
-        writes = writes_fault fault m limit new.left s.bytes s.out (text_of fault recent) ends_so w;
+        writes = w;
       }))
 
   -- at the end of the input
-  pub run_late : (k : HasEnded there action limit (ends old) (ends new) recent) → (notes now).late k.served.bytes ≡ true
-      → text_of fault recent ≡ (notes now).fault_note k.served.bytes → HasRun (task_of action (notes plan)) limit old new status
-  run_late k late text = ran AtEnd k.served (inr (k.served.outcome, k.served.ended refl, late, text))
+  pub run_late : (there : List ℕ → Type 0) (k : HasEnded there action limit (ends old) (ends new) recent) → status ≡ status_of fault → Noted (text_of fault recent)
+      → (notes now).late k.served.bytes ≡ true → text_of fault recent ≡ (notes now).fault_note k.served.bytes → HasRun (task_of action (notes plan)) limit old new status
+  run_late there k is noted late text =
+      ran AtEnd k.served (status_of fault) (text_of fault recent) is noted
+      (writes_late fault m limit new.left k.served.bytes k.served.out (text_of fault recent) ends_so exact (k.served.outcome, k.served.ended refl, late, text))
 
   -- where it became certain before
-  pub run_stopped : (k : HasStopped there action limit (ends old) (ends new) recent) → text_of fault recent ≡ (notes now).fault_note k.served.outcome.0.seen
-      → HasRun (task_of action (notes plan)) limit old new status
-  run_stopped k text = ran FaultFound k.served (inl (recent, k.served.outcome, text))
+  pub run_stopped : (there : List ℕ → Type 0) (k : HasStopped there action limit (ends old) (ends new) recent) → status ≡ status_of fault → Noted (text_of fault recent)
+      → ((seen : List ℕ) → (notes now).exact ≡ true → action.faulty seen → ⊥)
+      → text_of fault recent ≡ (notes now).fault_note k.served.outcome.0.seen → HasRun (task_of action (notes plan)) limit old new status
+  run_stopped there k is noted sound text =
+      ran FaultFound k.served (status_of fault) (text_of fault recent) is noted
+      (writes_stop fault m limit new.left k.served.bytes k.served.out (text_of fault recent) ends_so exact (sound (take limit k.served.bytes)) (recent, k.served.outcome, text))
+
+  -- where the input has too many bytes
+  pub run_over : (s : HasServed action limit (ends old) (ends new) recent OverLimit) → status ≡ over_status fault → Noted (over_text fault limit)
+      → ((bytes : List ℕ) → (notes now).exact ≡ true → text_of fault [] ≡ (notes now).fault_note bytes) → HasRun (task_of action (notes plan)) limit old new status
+  run_over s is noted told =
+      ran OverLimit s (over_status fault) (over_text fault limit) is noted
+      (writes_over fault m limit new.left s.bytes s.out recent exact (told s.bytes) s.outcome)
 
 -- no fault became certain, since all bytes that were read have none
 pub never_stopped : (m : Meaning) (limit : ℕ) (old new : Ends) (recent bytes : List ℕ)

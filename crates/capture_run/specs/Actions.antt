@@ -1,19 +1,22 @@
 -- What each action that reads the input does: which bytes have a fault, what is written for them, what comes after it
 -- at the end or at a fault, what is noted at the end and at a fault, and how the run ends then.
-use Rattle.std.specs.Prelude.{◌≡◌, ℕ, List, [], ◌++◌, Bool, true, false, is_some, length, not, ◌==◌, if◌then◌else◌, None}
+use Rattle.std.specs.Prelude.{◌≡◌, ℕ, List, [], ◌++◌, true, false, is_some, length, not, ◌==◌, None}
 use Rattle.capture_words.specs.declared.job.Task.{Task}
 use Rattle.capture_words.specs.declared.job.Task.TheVariants.{Show, Split, Check, Rebuild, Exercise, Realign, Ring}
 use Rattle.capture_words.specs.declared.job.Task.TheVariants.{Unring, Text}
-use Rattle.buffer_ring.specs.Image.{image, pointer, is_full, dropped, ordered}
+use Rattle.buffer_ring.specs.Image.{pointer, is_full, dropped}
 use Rattle.capture_actions.specs.Port.{port_of}
 use Rattle.capture_actions.specs.PortText.{port_text_meaning}
 use Rattle.capture_actions.specs.declared.port_text_plan.PortTextPlan.{PortTextPlan}
 use Rattle.capture_actions.specs.Realigned.{realign_meaning}
+use Rattle.capture_actions.specs.Ring.{ring_meaning}
 use Rattle.capture_actions.specs.Split.{split_meaning}
 use Rattle.capture_actions.specs.declared.split_plan.SplitPlan.{SplitPlan}
 use Rattle.capture_actions.specs.Listing.{show_meaning}
 use Rattle.capture_actions.specs.Summary.{check_meaning}
+use Rattle.capture_actions.specs.Unring.{unring_meaning}
 use Rattle.capture_actions.specs.declared.list_plan.ListPlan.{ListPlan}
+use Rattle.capture_actions.specs.declared.unring_plan.UnringPlan.{UnringPlan}
 use Rattle.capture_exercise.specs.Summary.{exercise_summary}
 use Rattle.script_rebuild.specs.Versions.{script_of}
 use Rattle.source_events.specs.Report.{of_source}
@@ -44,8 +47,13 @@ text_note p seen = fault_text (fault_of p.plan (placed seen)) ++ last_note seen
 
 -- a fault of a capture is certain at some byte, and none is mended by what comes after it
 abbrev pub captured : (List ℕ → List ℕ) → TaskNotes
-captured note =
-    record { late = λ bytes. false; done_note = λ bytes. []; fault_note = note; fault_status = CaptureFault }
+captured note = record {
+  late = λ bytes. false;
+  done_note = λ bytes. [];
+  fault_note = note;
+  fault_status = CaptureFault;
+  exact = false;
+}
 
 -- where a script ends, its last line needs no line feed, and may have a fault that it would not have if it went on; its
 -- first fault is noted by its line
@@ -55,6 +63,7 @@ rebuild_notes plan = record {
   done_note = λ bytes. [];
   fault_note = λ bytes. script_note (script_of plan.plan bytes).fault;
   fault_status = ScriptFault;
+  exact = false;
 }
 
 -- `exercise` reads nothing
@@ -70,32 +79,28 @@ realign_notes = record {
   done_note = λ bytes. let r = realigned bytes in slipped_line r.skipped r.dropped r.patterns;
   fault_note = last_note;
   fault_status = CaptureFault;
+  exact = false;
 }
 
--- the image of a trace buffer of this size is written at the input's end, and what tells its bytes' order is noted
-abbrev pub buffering : ℕ → TaskMeaning
-buffering size =
-    let action : Meaning = record { faulty = λ bytes. ⊥; text = λ bytes. []; ending = image size; due = false } in
-    task_of action (record {
-      late = λ bytes. false;
-      done_note = λ bytes. buffer_line (pointer size bytes) (is_full size bytes) (dropped size bytes);
-      fault_note = λ bytes. [];
-      fault_status = CaptureFault;
-    })
+-- what tells the order of the bytes of an image of this size is noted where it is done
+abbrev pub ring_notes : ℕ → TaskNotes
+ring_notes size = record {
+  late = λ bytes. false;
+  done_note = λ bytes. buffer_line (pointer size bytes) (is_full size bytes) (dropped size bytes);
+  fault_note = last_note;
+  fault_status = CaptureFault;
+  exact = false;
+}
 
--- the bytes of an image of this size are written in order; an input of another size is no image, and nothing is written
-abbrev pub ordering : ℕ → ℕ → Bool → TaskMeaning
-ordering size at full =
-    let in_order : List ℕ → List ℕ = λ bytes. if length bytes == size then ordered bytes at full else [] in
-    let action : Meaning = record { faulty = λ bytes. ⊥; text = λ bytes. []; ending = in_order; due = false } in
-    record {
-      action = action;
-      late = λ bytes. not (length bytes == size);
-      done_note = λ bytes. [];
-      fault_note = λ bytes. image_line size;
-      fault_status = BadImage;
-      exact = true;
-    }
+-- an input of another size than an image's is none, and nothing is written
+abbrev pub unring_notes : UnringPlan → TaskNotes
+unring_notes plan = record {
+  late = λ bytes. not (length bytes == plan.size);
+  done_note = λ bytes. [];
+  fault_note = λ bytes. image_line plan.size;
+  fault_status = BadImage;
+  exact = true;
+}
 
 -- what the task makes of the bytes of its input
 abbrev pub meaning_of : Task → TaskMeaning
@@ -114,8 +119,10 @@ meaning_of (Rebuild plan sync half) =
     task_of (rebuild_meaning script) (rebuild_notes script)
 meaning_of (Exercise items lose) = reads_nothing (exercise_summary items lose)
 meaning_of Realign = task_of realign_meaning realign_notes
-meaning_of (Ring size) = buffering size
-meaning_of (Unring size at full) = ordering size at full
+meaning_of (Ring size) = task_of (ring_meaning size) (ring_notes size)
+meaning_of (Unring size at full) =
+    let image : UnringPlan = record { size = size; pointer = at; full = full } in
+    task_of (unring_meaning image) (unring_notes image)
 
 -- how many bytes of its input a task reads at most: as many as the words allow, or as an image is to have
 abbrev pub limit_of : Task → ℕ → ℕ

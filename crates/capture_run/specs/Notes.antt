@@ -1,5 +1,5 @@
 -- The notes of a run.
-use Rattle.std.specs.Prelude.{ℕ, List, [], ◌++◌, option_map, Some, None, false}
+use Rattle.std.specs.Prelude.{ℕ, List, [], ◌++◌, option_map, Some, None, Bool, true, false}
 use Rattle.std.specs.declared.option.Option.{Option}
 use Rattle.std.specs.Io.KnownBytes.{Appends}
 use Rattle.script_text.specs.Faults.{number_of, name_of}
@@ -10,13 +10,13 @@ use Rattle.trace_values.specs.declared.fault.Reason.{Reason}
 use Rattle.trace_values.specs.Placed.{Place}
 use Rattle.source_events.specs.Report.{stop_of}
 use Rattle.trace_text.specs.FaultText.{fault_line}
-use Rattle.trace_text.specs.NoteText.{last_line, script_fault_line, slipped_line}
+use Rattle.trace_text.specs.NoteText.{last_line, script_fault_line, slipped_line, buffer_line, image_line, limit_line}
 use Rattle.capture_run.specs.declared.actions.DoneNote.{DoneNote}
-use Rattle.capture_run.specs.declared.actions.DoneNote.TheVariants.{Nothing, Realigned}
+use Rattle.capture_run.specs.declared.actions.DoneNote.TheVariants.{Nothing, Realigned, Buffered}
 use Rattle.capture_run.specs.declared.actions.FaultNote.{FaultNote}
-use Rattle.capture_run.specs.declared.actions.FaultNote.TheVariants.{Capture, Script}
+use Rattle.capture_run.specs.declared.actions.FaultNote.TheVariants.{Capture, Script, Image}
 use Rattle.capture_run.specs.declared.status.Status.{Status}
-use Rattle.capture_run.specs.declared.status.Status.TheVariants.{CaptureFault, ScriptFault}
+use Rattle.capture_run.specs.declared.status.Status.TheVariants.{CaptureFault, ScriptFault, BadImage, Limit}
 
 -- the line of a fault of the port or of an ITM source, where there is one
 abbrev pub fault_text : Option (Place × (Reason × Option ℕ)) → List ℕ
@@ -32,16 +32,36 @@ script_note (Some fault) = script_fault_line fault.0 (number_of fault.1) (name_o
 abbrev pub text_of : FaultNote → List ℕ → List ℕ
 text_of (Capture stop) recent = fault_text (option_map stop_of stop) ++ last_line recent
 text_of (Script fault) recent = script_note (option_map told_of_script fault)
+text_of (Image size) recent = image_line size
 
 -- what is noted where a run is done
 abbrev pub done_text : DoneNote → List ℕ
 done_text Nothing = []
 done_text (Realigned slipped) = slipped_line slipped.skipped slipped.dropped slipped.patterns
+done_text (Buffered pointer full dropped) = buffer_line pointer full dropped
 
 -- how a run ends at such a fault
 abbrev pub status_of : FaultNote → Status
 status_of (Capture stop) = CaptureFault
 status_of (Script fault) = ScriptFault
+status_of (Image size) = BadImage
+
+-- only what is told of an image may be told of an input that has too many bytes
+abbrev pub is_image : FaultNote → Bool
+is_image (Capture fault) = false
+is_image (Script fault) = false
+is_image (Image size) = true
+
+-- what is noted where the input has more bytes than the limit, and how a run ends then
+abbrev pub over_text : FaultNote → ℕ → List ℕ
+over_text (Capture fault) limit = limit_line limit
+over_text (Script fault) limit = limit_line limit
+over_text (Image size) limit = image_line size
+
+abbrev pub over_status : FaultNote → Status
+over_status (Capture fault) = Limit
+over_status (Script fault) = Limit
+over_status (Image size) = BadImage
 
 -- the notes gained this text, unless they failed
 abbrev pub Notes : Option (List ℕ) → Option (List ℕ) → ℕ → ℕ → List ℕ → Type 0

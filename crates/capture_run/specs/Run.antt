@@ -25,14 +25,16 @@ pub record TaskMeaning : Type 1 where
   pub fault_status : Status
   pub exact : Bool
 
--- what is noted of the bytes that a task read, and how it ends at a fault
+-- what is noted of the bytes that a task read, how it ends at a fault, and whether its input is to have exactly as many
+-- bytes as the limit
 pub record TaskNotes : Type 0 where
   pub late : List ℕ → Bool
   pub done_note : List ℕ → List ℕ
   pub fault_note : List ℕ → List ℕ
   pub fault_status : Status
+  pub exact : Bool
 
--- a task of this action, which notes this; its input may have any number of bytes
+-- a task of this action, which notes this
 abbrev pub task_of : Meaning → TaskNotes → TaskMeaning
 task_of action notes = record {
   action = action;
@@ -40,7 +42,7 @@ task_of action notes = record {
   done_note = notes.done_note;
   fault_note = notes.fault_note;
   fault_status = notes.fault_status;
-  exact = false;
+  exact = notes.exact;
 }
 
 -- what the streams of a run show at a moment: the bytes that are left in the input, those that the output and the

@@ -4,11 +4,11 @@ ghost use Rattle.std.specs.Prelude.{◌≡◌, ◌⊎◌, ℕ, List, None, optio
 ghost use Rattle.source_events.specs.Report.{of_source, stop_of};
 ghost use Rattle.trace_text.specs.FaultText.{told};
 ghost use Rattle.trace_stream.specs.Recent.{last_sixteen};
-ghost use Rattle.capture_run.specs.Notes.{text_of, done_text, status_of};
+ghost use Rattle.capture_run.specs.Notes.{text_of, done_text, status_of, is_image};
 ghost use Rattle.capture_run.specs.Run.{TaskNotes};
 
 use crate::status::Status;
-use capture_actions::{Check, PortText, Realign, Show, Split};
+use capture_actions::{Check, PortText, Realign, Ring, Show, Split, Unring};
 use port_slip::Slipped;
 use script_rebuild::{Rebuild, ScriptFault};
 use source_events::Stop;
@@ -23,6 +23,8 @@ pub enum FaultNote {
     Capture(Option<Stop>),
     /// The line of a script's fault.
     Script(Option<ScriptFault>),
+    /// That the input isn't an image of this many bytes.
+    Image(u64),
 }
 
 impl FaultNote {
@@ -33,6 +35,7 @@ impl FaultNote {
         match self {
             FaultNote::Capture(_) => Status::CaptureFault,
             FaultNote::Script(_) => Status::ScriptFault,
+            FaultNote::Image(_) => Status::BadImage,
         }
     }
 }
@@ -43,6 +46,12 @@ pub enum DoneNote {
     Nothing,
     /// What realigning did not write.
     Realigned(Slipped),
+    /// Of a trace buffer, where the next byte would go, whether it is full, and how many bytes were overwritten.
+    Buffered {
+        pointer: u64,
+        full: bool,
+        dropped: u64,
+    },
 }
 
 /// What is noted where a run ends.
@@ -86,7 +95,12 @@ pub trait CommandAction: Action {
             done_text result.done ≡ (notes (Self.plan self.now)).done_note seen }
         ensures fault { (seen recent : List ℕ) → Self.stands self.now seen →
             (recent ≡ last_sixteen seen) ⊎ ((notes (Self.plan self.now)).late seen ≡ true) →
-            text_of result.fault recent ≡ (notes (Self.plan self.now)).fault_note seen };
+            text_of result.fault recent ≡ (notes (Self.plan self.now)).fault_note seen }
+        ensures exact { is_image result.fault ≡ (notes (Self.plan self.now)).exact }
+        ensures sound { (seen : List ℕ) → (notes (Self.plan self.now)).exact ≡ true →
+            (Self.meaning (Self.plan self.now)).faulty seen → ⊥ }
+        ensures size { (bytes recent : List ℕ) → (notes (Self.plan self.now)).exact ≡ true →
+            text_of result.fault recent ≡ (notes (Self.plan self.now)).fault_note bytes };
 }
 
 impl CommandAction for Show {
@@ -167,6 +181,39 @@ impl CommandAction for Realign {
             is_late: false,
             done: DoneNote::Realigned(self.slipped()),
             fault: FaultNote::Capture(None),
+        }
+    }
+}
+
+impl CommandAction for Ring {
+    ghost use Rattle.capture_run.specs.Actions.{ring_notes};
+
+    ghost notes = { ring_notes };
+
+    fn ending(&self) -> Ending {
+        let buffer = self.buffer();
+        Ending {
+            is_late: false,
+            done: DoneNote::Buffered {
+                pointer: buffer.pointer() as u64,
+                full: buffer.is_full(),
+                dropped: buffer.dropped(),
+            },
+            fault: FaultNote::Capture(None),
+        }
+    }
+}
+
+impl CommandAction for Unring {
+    ghost use Rattle.capture_run.specs.Actions.{unring_notes};
+
+    ghost notes = { unring_notes };
+
+    fn ending(&self) -> Ending {
+        Ending {
+            is_late: !self.is_image(),
+            done: DoneNote::Nothing,
+            fault: FaultNote::Image(self.size() as u64),
         }
     }
 }

@@ -1,9 +1,10 @@
 //! A job, done.
 
-ghost use Rattle.std.specs.Prelude.{◌≡◌, ◌≢◌, ◌+◌, ◌≤◌, ℕ, List, [], length, codes, false};
+ghost use Rattle.std.specs.Prelude.{◌≡◌, ◌≢◌, ◌+◌, ◌≤◌, ℕ, List, [], length, codes, false, IfOk};
 ghost use Rattle.trace_io.specs.Causes.{Rose};
 ghost use Rattle.trace_stream.specs.Fresh.{IsFresh};
 ghost use Rattle.trace_stream.specs.declared.limits.TheConstants.{GREATEST_CAPTURE};
+ghost use Rattle.script_rebuild.specs.Rebuilder.{Stands, plan_of, taken_by, IsLive};
 ghost use Rattle.capture_words.specs.Jobs.{IsSoundTask};
 ghost use Rattle.capture_run.specs.Actions.{HasDone, IsSoundInput, limit_of};
 ghost use Rattle.capture_run.specs.Notes.{Notes};
@@ -11,17 +12,18 @@ ghost use Rattle.capture_run.specs.Run.{HasRun, task_of, streams, Loses, IsDoneO
 
 use crate::actions::CommandAction;
 use crate::exercise::run_exercise;
-use crate::images::{run_ring, run_unring};
-use crate::notes::{note, note_done, note_fault, note_text};
+use crate::notes::{note, note_done, note_fault, note_over};
 use crate::status::Status;
-use buffer_ring::TraceBuffer;
-use capture_actions::{Check, ListPlan, PortText, PortTextPlan, Realign, Show, Split, SplitPlan};
+use capture_actions::{
+    Check, ListPlan, PortText, PortTextPlan, Realign, Ring, Show, Split, SplitPlan, Unring,
+    UnringPlan,
+};
 use capture_words::{Job, Task};
 use script_rebuild::{Rebuild, RebuildPlan};
-use std::alloc::Global;
+use source_events::Plan;
+use std::alloc::{AllocError, Global};
 use trace_io::{Sink, Source};
 use trace_stream::{Buffers, Outcome, serve};
-use trace_text::LimitLine;
 
 /// Serves the input by an action that has read nothing, and notes how that ended.
 fn run_action<A: CommandAction, I: Source, O: Sink, N: Sink>(
@@ -32,7 +34,8 @@ fn run_action<A: CommandAction, I: Source, O: Sink, N: Sink>(
     output: &mut O,
     notes: &mut N,
 ) -> Status
-    requires fresh { IsFresh (A.live action.old) (A.stands action.old) (A.taken action.old) buffers.old }
+    requires fresh {
+        IsFresh (A.live action.old) (A.stands action.old) (A.taken action.old) (A.debt action.old) buffers.old }
     requires small { limit ≤ GREATEST_CAPTURE }
     ensures ran { let p = A.plan action.old in
         let before = streams (I.left input.old) (O.held output.old) (N.held notes.old) (N.faults notes.old) in
@@ -68,11 +71,66 @@ fn run_action<A: CommandAction, I: Source, O: Sink, N: Sink>(
             note(notes, b"write fault\n");
             Status::WriteFault
         }
-        Outcome::OverLimit => {
-            note_text(notes, &LimitLine { limit });
-            Status::Limit
-        }
+        Outcome::OverLimit => note_over(notes, action.ending().fault, limit),
     }
+}
+
+/// Notes that there is no memory, and answers how the run ends then.
+fn note_no_memory<N: Sink>(notes: &mut N) -> Status
+    ensures noted { Notes (N.held notes.old) (N.held notes.new) (N.faults notes.old) (N.faults notes.new)
+        (codes "no memory\n") }
+    ensures status { result ≡ Status.NoMemory }
+{
+    note(notes, b"no memory\n");
+    Status::NoMemory
+}
+
+/// Does what `run_action` does by an action that took memory, if there was any.
+fn run_opened<A: CommandAction + Drop, I: Source, O: Sink, N: Sink>(
+    buffers: &mut Buffers,
+    opened: Result<A, AllocError>,
+    limit: u64,
+    input: &mut I,
+    output: &mut O,
+    notes: &mut N,
+) -> Status
+    requires fresh { IfOk opened (λ a. IsFresh (A.live a) (A.stands a) (A.taken a) (A.debt a) buffers.old) }
+    requires small { limit ≤ GREATEST_CAPTURE }
+    ensures ran { (p : A.Plan) → IfOk opened (λ a. A.plan a ≡ p) →
+        let before = streams (I.left input.old) (O.held output.old) (N.held notes.old) (N.faults notes.old) in
+        let after = streams (I.left input.new) (O.held output.new) (N.held notes.new) (N.faults notes.new) in
+        HasRun (task_of (A.meaning p) (A.notes p)) limit before after result }
+    ensures memory_note { result ≡ Status.NoMemory →
+        Notes (N.held notes.old) (N.held notes.new) (N.faults notes.old) (N.faults notes.new) (codes "no memory\n") }
+    ensures one_empty_read { I.empty_reads input.new ≤ I.empty_reads input.old + 1 }
+    ensures read_cause { result ≡ Status.ReadFault → Rose (I.faults input.old) (I.faults input.new) }
+    ensures write_cause { result ≡ Status.WriteFault → Rose (O.faults output.old) (O.faults output.new) }
+    ensures complete { (p : A.Plan) (bytes : List ℕ) → IfOk opened (λ a. A.plan a ≡ p) →
+        Loses (I.left input.old) (I.left input.new) bytes →
+        (Rose (I.faults input.old) (I.faults input.new) → ⊥) →
+        (Rose (O.faults output.old) (O.faults output.new) → ⊥) →
+        length bytes ≤ limit → ((A.meaning p).faulty bytes → ⊥) →
+        (A.notes p).late bytes ≡ false → IsDoneOrNoMemory result }
+{
+    match opened {
+        Ok(mut action) => run_action(buffers, &mut action, limit, input, output, notes),
+        Err(_) => note_no_memory(notes),
+    }
+}
+
+/// The action `rebuild`, which read nothing yet.
+fn rebuild(plan: Plan, sync: u32, half: u8) -> Rebuild
+    requires few { half ≤ 8 }
+    ensures plan { plan_of result ≡ record { plan = plan; every = sync; halves = half } }
+    ensures stands { Stands result [] }
+    ensures count { taken_by result ≡ 0 }
+    ensures live { IsLive result }
+{
+    Rebuild::new(RebuildPlan {
+        plan,
+        every: sync,
+        halves: half,
+    })
 }
 
 /// Does the job. All memory is taken before anything is read.
@@ -99,8 +157,7 @@ pub fn run_job<I: Source, O: Sink, N: Sink>(
         length bytes ≤ limit_of job.task job.limit → IsSoundInput job.task bytes → IsDoneOrNoMemory result }
 {
     let Ok(mut buffers) = Buffers::open(alloc) else {
-        note(notes, b"no memory\n");
-        return Status::NoMemory;
+        return note_no_memory(notes);
     };
     let Job { task, limit } = job;
     match task {
@@ -121,11 +178,7 @@ pub fn run_job<I: Source, O: Sink, N: Sink>(
             run_action(&mut buffers, &mut action, limit, input, output, notes)
         }
         Task::Rebuild { plan, sync, half } => {
-            let mut action = Rebuild::new(RebuildPlan {
-                plan,
-                every: sync,
-                halves: half,
-            });
+            let mut action = rebuild(plan, sync, half);
             run_action(&mut buffers, &mut action, limit, input, output, notes)
         }
         Task::Realign => {
@@ -133,22 +186,12 @@ pub fn run_job<I: Source, O: Sink, N: Sink>(
             run_action(&mut buffers, &mut action, limit, input, output, notes)
         }
         Task::Ring { size } => {
-            let Ok(buffer) = TraceBuffer::new(alloc, size) else {
-                note(notes, b"no memory\n");
-                return Status::NoMemory;
-            };
-            run_ring(&mut buffers, buffer, limit, input, output, notes)
+            let opened = Ring::open(alloc, size);
+            run_opened(&mut buffers, opened, limit, input, output, notes)
         }
-        Task::Unring {
-            size,
-            pointer,
-            full,
-        } => {
-            let Ok(buffer) = TraceBuffer::new(alloc, size) else {
-                note(notes, b"no memory\n");
-                return Status::NoMemory;
-            };
-            run_unring(&mut buffers, buffer, pointer, full, input, output, notes)
+        Task::Unring { size, pointer, full } => {
+            let opened = Unring::open(alloc, UnringPlan { size, pointer, full });
+            run_opened(&mut buffers, opened, size as u64, input, output, notes)
         }
         Task::Exercise { items, lose } => run_exercise(&mut buffers, items, lose, output, notes),
     }

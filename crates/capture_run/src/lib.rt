@@ -20,11 +20,9 @@ ghost use Rattle.capture_run.specs.Run.{streams, Untouched, Loses, IsDoneOrNoMem
 
 mod actions;
 mod exercise;
-mod images;
 mod jobs;
 pub mod laws;
 mod notes;
-mod pieces;
 mod rows;
 mod status;
 

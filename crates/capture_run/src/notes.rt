@@ -5,6 +5,7 @@ ghost use Rattle.source_events.specs.Report.{stop_of};
 ghost use Rattle.trace_text.specs.NoteText.{last_line};
 ghost use Rattle.script_rebuild.specs.Rebuilder.{told as told_of_script};
 ghost use Rattle.capture_run.specs.Notes.{Notes, fault_text, script_note, text_of, done_text, status_of};
+ghost use Rattle.capture_run.specs.Notes.{over_text, over_status};
 
 use crate::actions::{DoneNote, FaultNote};
 use crate::status::Status;
@@ -13,7 +14,9 @@ use script_rebuild::ScriptFault;
 use source_events::Stop;
 use trace_io::{Sink, write_whole};
 use trace_stream::{Buffers, RECENT_ROOM, TEXT_ROOM, Text};
-use trace_text::{FaultLine, LastLine, ScriptFaultLine, SlippedLine};
+use trace_text::{
+    BufferLine, FaultLine, ImageLine, LastLine, LimitLine, ScriptFaultLine, SlippedLine,
+};
 
 /// Writes the line. Where that fails nothing changes.
 pub fn note<N: Sink>(notes: &mut N, line: &[u8])
@@ -86,8 +89,23 @@ pub fn note_fault<N: Sink>(notes: &mut N, fault: FaultNote, buffers: &Buffers) -
     match fault {
         FaultNote::Capture(stop) => note_stop(notes, stop, buffers),
         FaultNote::Script(fault) => note_script(notes, fault),
+        FaultNote::Image(size) => note_text(notes, &ImageLine { size }),
     }
     fault.status()
+}
+
+/// Notes that the input has more bytes than the limit, or than an image, and answers how the run ends.
+pub fn note_over<N: Sink>(notes: &mut N, fault: FaultNote, limit: u64) -> Status
+    ensures noted { Notes (N.held notes.old) (N.held notes.new) (N.faults notes.old) (N.faults notes.new)
+        (over_text fault limit) }
+    ensures status { result ≡ over_status fault }
+{
+    if let FaultNote::Image(size) = fault {
+        note_text(notes, &ImageLine { size });
+        return Status::BadImage;
+    }
+    note_text(notes, &LimitLine { limit });
+    Status::Limit
 }
 
 /// Notes what is told of a run that is done.
@@ -108,6 +126,18 @@ pub fn note_done<N: Sink>(notes: &mut N, done: DoneNote)
                 skipped,
                 dropped,
                 patterns,
+            };
+            note_text(notes, &line);
+        }
+        DoneNote::Buffered {
+            pointer,
+            full,
+            dropped,
+        } => {
+            let line = BufferLine {
+                pointer,
+                full,
+                dropped,
             };
             note_text(notes, &line);
         }

@@ -1,6 +1,7 @@
 //! Runs of an action over inputs and outputs in memory, which fail at each of their calls in turn.
 
 ghost use Rattle.std.specs.Prelude.{◌≡◌, true, not};
+ghost use Rattle.trace_stream.specs.Debt.{Paid};
 ghost use Rattle.library_tests.specs.Doubling.{has_fault, doubling};
 ghost use Rattle.library_tests.specs.DoublingLaws.{doubling_lawful};
 
@@ -33,9 +34,16 @@ impl Action for Doubling {
 
     ghost stands = { λ d seen. d.is_clean ≡ not (has_fault seen) };
 
+    ghost debt = { λ _. Paid };
+
     ghost meaning = { λ _. doubling };
 
     ghost lawful = { λ _. doubling_lawful };
+
+    #[inline]
+    fn pour(&mut self, _outlet: &mut Outlet) -> bool {
+        false
+    }
 
     fn feed(&mut self, piece: &[u8], outlet: &mut Outlet) -> Progress {
         let byte = piece[0];
@@ -55,7 +63,7 @@ impl Action for Doubling {
         }
     }
 
-    fn finish(&self, outlet: &mut Outlet) {
+    fn finish(&mut self, outlet: &mut Outlet) {
         let line = if self.is_clean {
             "\nend\n"
         } else {

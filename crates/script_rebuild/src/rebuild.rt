@@ -378,6 +378,7 @@ impl Action for Rebuild {
     ghost use Rattle.script_rebuild.specs.Rebuilder.{plan_of, taken_by, IsLive, Stands};
     ghost use Rattle.script_rebuild.specs.Rebuilt.{rebuild_meaning};
     ghost use Rattle.script_rebuild.specs.RebuiltLaws.{rebuild_lawful};
+    ghost use Rattle.trace_stream.specs.Debt.{Paid};
 
     type Plan = RebuildPlan;
 
@@ -389,9 +390,16 @@ impl Action for Rebuild {
 
     ghost stands = { Stands };
 
+    ghost debt = { λ _. Paid };
+
     ghost meaning = { rebuild_meaning };
 
     ghost lawful = { rebuild_lawful };
+
+    #[inline]
+    fn pour(&mut self, _outlet: &mut Outlet) -> bool {
+        false
+    }
 
     /// Takes the bytes up to a line feed, and that.
     fn feed(&mut self, piece: &[u8], outlet: &mut Outlet) -> Progress {
@@ -409,7 +417,7 @@ impl Action for Rebuild {
     }
 
     /// Puts what the last line says, and the rest of the capture.
-    fn finish(&self, outlet: &mut Outlet) {
+    fn finish(&mut self, outlet: &mut Outlet) {
         if self.fault.is_some() {
             return;
         }

@@ -4,6 +4,7 @@ use Rattle.std.specs.Io.KnownBytes.{Appends}
 use Rattle.std.proofs.KnownBytes.{Appends-trans}
 use Rattle.trace_io.specs.Bytes.{AppendsPrefix, TakesFront}
 use Rattle.trace_io.proofs.Writes.{front_more}
+use Rattle.trace_stream.specs.Debt.{Debt, Paid, Owes, with_debt}
 
 -- a prefix of a piece is one of the piece and more
 pub AppendsPrefix-append : (old new : Option (List ℕ)) (piece more : List ℕ) → AppendsPrefix old new piece → AppendsPrefix old new (piece ++ more)
@@ -25,3 +26,31 @@ front_join old mid new text pending rest p q = subst (λ t. TakesFront old new t
 -- where all that is pending is written, all of the text is
 pub front_written : (old mid new : Option (List ℕ)) (text pending : List ℕ) → TakesFront old mid text pending → Appends mid new pending → Appends old new text
 front_written old mid new text pending p q = subst (Appends old new) (sym p.all) (Appends-trans old mid new p.front pending p.took q)
+
+-- what is owed comes after what is pending: some of that is written
+front_owed : (old new : Option (List ℕ)) (pending rest : List ℕ) (debt : Debt) → TakesFront old new pending rest
+    → TakesFront old new (with_debt pending debt) (with_debt rest debt)
+front_owed old new pending rest Paid p = p
+front_owed old new pending rest (Owes text calls) p = record {
+  front = p.front;
+  took = p.took;
+  all = ap (λ l. l ++ text) p.all ∙ append_assoc p.front rest text;
+}
+
+pub front_pending : (old mid new : Option (List ℕ)) (text pending rest : List ℕ) (debt : Debt)
+    → TakesFront old mid text (with_debt pending debt) → TakesFront mid new pending rest
+    → TakesFront old new text (with_debt rest debt)
+front_pending old mid new text pending rest debt p q =
+    front_join old mid new text (with_debt pending debt) (with_debt rest debt) p
+    (front_owed mid new pending rest debt q)
+
+-- or a write of it fails
+prefix_owed : (old new : Option (List ℕ)) (pending : List ℕ) (debt : Debt) → AppendsPrefix old new pending
+    → AppendsPrefix old new (with_debt pending debt)
+prefix_owed old new pending Paid p = p
+prefix_owed old new pending (Owes text calls) p = AppendsPrefix-append old new pending text p
+
+pub prefix_pending : (old mid new : Option (List ℕ)) (text pending : List ℕ) (debt : Debt)
+    → TakesFront old mid text (with_debt pending debt) → AppendsPrefix mid new pending → AppendsPrefix old new text
+prefix_pending old mid new text pending debt p q =
+    prefix_join old mid new text (with_debt pending debt) p (prefix_owed mid new pending debt q)

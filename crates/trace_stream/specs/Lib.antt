@@ -1,4 +1,5 @@
 pub mod BuffersState
+pub mod Debt
 pub mod Fed
 pub mod Fresh
 pub mod Pumped

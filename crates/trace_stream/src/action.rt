@@ -2,6 +2,7 @@
 
 ghost use Rattle.std.specs.Prelude.{◌≡◌, ℕ, ◌+◌, ◌<◌, ◌≤◌, List, [], length, take, false};
 ghost use Rattle.trace_io.specs.Bytes.{TakesSome};
+ghost use Rattle.trace_stream.specs.Debt.{Debt, Paid, with_debt, Pours};
 ghost use Rattle.trace_stream.specs.Served.{Meaning, IsLawful};
 ghost use Rattle.trace_stream.specs.Taken.{HasTaken, Turn};
 ghost use Rattle.trace_stream.specs.declared.limits.TheConstants.{GREATEST_CAPTURE};
@@ -24,7 +25,8 @@ pub struct Progress {
 /// and the first fault ends the reading.
 ///
 /// `plan` is what stays the same during a run, and `meaning` says by it what the bytes mean; `stands` ties the action's
-/// state to the bytes that it took.
+/// state to the bytes that it took. What is written for them may be longer than one call can put: the rest is the
+/// action's `debt`, which `pour` puts.
 pub trait Action {
     type Plan;
 
@@ -36,14 +38,26 @@ pub trait Action {
     ghost taken: { Self → ℕ };
     // it took these bytes
     ghost stands: { Self → List ℕ → Type 0 };
+    // what it still owes of what is written for them
+    ghost debt: { Self → Debt };
     // what it makes of the bytes of a capture
     ghost meaning: { Self.Plan → Meaning };
 
-    /// Takes a front of the piece and puts its text into the outlet. It goes no further than the byte that
+    /// Puts what it owes, as far as there is room, and answers whether it owed anything.
+    fn pour(&mut self, outlet: &mut Outlet) -> bool
+        requires room { length outlet.old + ACTION_ROOM ≤ OUTLET_ROOM }
+        ensures same { plan self.new ≡ plan self.old }
+        ensures count { taken self.new ≡ taken self.old }
+        ensures live { live self.old → live self.new }
+        ensures stands { (seen : List ℕ) → stands self.old seen → stands self.new seen }
+        ensures poured { Pours (debt self.old) (debt self.new) outlet.old outlet.new result };
+
+    /// Takes a front of the piece and puts its text into the outlet, or owes it. It goes no further than the byte that
     /// makes a fault certain. Where it stops before that is its own affair, and only its speed depends on it:
     /// the run calls it again with the rest, and what is written is the same.
     fn feed(&mut self, piece: &[u8], outlet: &mut Outlet) -> Progress
         requires live { live self.old }
+        requires paid { debt self.old ≡ Paid }
         requires some { 0 < length piece.now }
         requires room { length outlet.old + ACTION_ROOM ≤ OUTLET_ROOM }
         requires count { taken self.old + length piece.now ≤ GREATEST_CAPTURE }
@@ -52,15 +66,19 @@ pub trait Action {
         ensures count { taken self.new ≡ taken self.old + result.bytes }
         ensures fed { (seen : List ℕ) → stands self.old seen →
             let front = take result.bytes piece.now in
-            let turn : Turn = record { seen = seen; front = front; before = outlet.old; after = outlet.new } in
+            let after = with_debt outlet.new (debt self.new) in
+            let turn : Turn = record { seen = seen; front = front; before = outlet.old; after = after } in
             HasTaken (stands self.new) (meaning (plan self.old)) turn result.is_faulty }
         ensures live { result.is_faulty ≡ false → live self.new };
 
-    /// Puts what is written after the text into the outlet, which is empty.
-    fn finish(&self, outlet: &mut Outlet)
+    /// Puts what is written after the text into the outlet, which is empty, or owes it.
+    fn finish(&mut self, outlet: &mut Outlet)
+        requires paid { debt self.old ≡ Paid }
         requires empty { outlet.old ≡ [] }
-        ensures ended { (seen : List ℕ) → stands self.now seen →
-            outlet.new ≡ (meaning (plan self.now)).ending seen };
+        ensures same { plan self.new ≡ plan self.old }
+        ensures stands { (seen : List ℕ) → stands self.old seen → stands self.new seen }
+        ensures ended { (seen : List ℕ) → stands self.old seen →
+            with_debt outlet.new (debt self.new) ≡ (meaning (plan self.old)).ending seen };
 
     /// Whether what comes after the text is written at a failed read and at the limit, too.
     fn is_due(&self) -> bool

@@ -1,9 +1,10 @@
 //! The reading of an input to its end, a fault or the limit.
 
-ghost use Rattle.std.specs.Prelude.{◌≡◌, ℕ, ◌+◌, ◌<◌, ◌≤◌, List, [], length};
+ghost use Rattle.std.specs.Prelude.{◌≡◌, ◌≢◌, ℕ, ◌+◌, ◌<◌, ◌≤◌, List, [], length};
 ghost use Rattle.std.specs.Io.{ReadsAtMost};
 ghost use Rattle.std.specs.Io.KnownBytes.{ReadConsumes};
 ghost use Rattle.trace_io.specs.Causes.{HasCause, CountsEmpty};
+ghost use Rattle.trace_stream.specs.Debt.{Paid};
 ghost use Rattle.trace_stream.specs.Fresh.{IsFresh};
 ghost use Rattle.trace_stream.specs.BuffersState.{BuffersState};
 ghost use Rattle.trace_stream.specs.Pumped.{HasPumped, HasCauses, counts};
@@ -41,11 +42,12 @@ pub fn pump<A: Action, I: Source, O: Sink>(
     input: &mut I,
     output: &mut O,
 ) -> Outcome
-    requires fresh { IsFresh (A.live action.old) (A.stands action.old) (A.taken action.old)
-        (record { pending = outlet.old; recent = recent.old }) }
+    requires fresh { let buffers : BuffersState = record { pending = outlet.old; recent = recent.old } in
+        IsFresh (A.live action.old) (A.stands action.old) (A.taken action.old) (A.debt action.old) buffers }
     requires some { 0 < length buffer.old }
     requires small { limit ≤ GREATEST_CAPTURE }
     ensures same { A.plan action.new ≡ A.plan action.old }
+    ensures paid { result ≢ Outcome.WriteFailed → A.debt action.new ≡ Paid }
     ensures pumped { let before : Ends = record { left = I.left input.old; held = O.held output.old } in
         let after : Ends = record { left = I.left input.new; held = O.held output.new } in
         let buffers : BuffersState = record { pending = outlet.new; recent = recent.new } in

@@ -5,6 +5,7 @@ ghost use Rattle.std.specs.declared.option.Option.{Option};
 ghost use Rattle.std.specs.Io.KnownBytes.{Appends};
 ghost use Rattle.trace_io.specs.Bytes.{TakesFront, AppendsPrefix};
 ghost use Rattle.trace_io.specs.Causes.{HasCause};
+ghost use Rattle.trace_stream.specs.Debt.{Paid};
 ghost use Rattle.trace_stream.specs.Fresh.{IsFresh};
 ghost use Rattle.trace_stream.specs.Pumped.{HasCauses, counts};
 ghost use Rattle.trace_stream.specs.Served.{Ends, HasServed, HasStopped, HasEnded, text_at_stop};
@@ -12,44 +13,56 @@ ghost use Rattle.trace_stream.specs.declared.limits.TheConstants.{GREATEST_CAPTU
 
 use crate::action::Action;
 use crate::buffers::Buffers;
+use crate::feeding::pour_all;
 use crate::outcome::Outcome;
 use crate::outlet::Outlet;
 use crate::pumping::pump;
 use trace_io::{Failed, Sink, Source};
 
 // Writes what is pending, and then what comes after the text.
-fn finish<A: Action, O: Sink>(action: &A, outlet: &mut Outlet, output: &mut O) -> Result<(), Failed>
+fn finish<A: Action, O: Sink>(
+    action: &mut A,
+    outlet: &mut Outlet,
+    output: &mut O,
+) -> Result<(), Failed>
+    requires paid { A.debt action.old ≡ Paid }
+    ensures same { A.plan action.new ≡ A.plan action.old }
+    ensures stands { (seen : List ℕ) → A.stands action.old seen → A.stands action.new seen }
     ensures ok { (start : Option (List ℕ)) (seen : List ℕ) (p : A.Plan) →
-        A.plan action.now ≡ p → A.stands action.now seen →
+        A.plan action.old ≡ p → A.stands action.old seen →
         TakesFront start (O.held output.old) ((A.meaning p).text seen) outlet.old →
         OnOk result (Appends start (O.held output.new) ((A.meaning p).text seen ++ (A.meaning p).ending seen)) }
     ensures emptied { OnOk result (outlet.new ≡ []) }
     ensures err { (start : Option (List ℕ)) (seen : List ℕ) (p : A.Plan) →
-        A.plan action.now ≡ p → A.stands action.now seen →
+        A.plan action.old ≡ p → A.stands action.old seen →
         TakesFront start (O.held output.old) ((A.meaning p).text seen) outlet.old →
         OnErr result (AppendsPrefix start (O.held output.new) ((A.meaning p).text seen ++ (A.meaning p).ending seen)) }
     ensures cause { HasCause (O.faults output.old) (O.faults output.new) result }
 {
     outlet.flush(output)?;
     action.finish(outlet);
+    pour_all(action, outlet, output)?;
     outlet.flush(output)
 }
 
 /// Ends a run that a failed read or the limit stops, where nothing is pending: writes what comes after the text if that
 /// is due.
 fn finish_if_due<A: Action, O: Sink>(
-    action: &A,
+    action: &mut A,
     outlet: &mut Outlet,
     output: &mut O,
 ) -> Result<(), Failed>
+    requires paid { A.debt action.old ≡ Paid }
     requires emptied { outlet.old ≡ [] }
+    ensures same { A.plan action.new ≡ A.plan action.old }
+    ensures stands { (seen : List ℕ) → A.stands action.old seen → A.stands action.new seen }
     ensures ok { (start : Option (List ℕ)) (seen : List ℕ) (p : A.Plan) →
-        A.plan action.now ≡ p → A.stands action.now seen →
+        A.plan action.old ≡ p → A.stands action.old seen →
         TakesFront start (O.held output.old) ((A.meaning p).text seen) outlet.old →
         OnOk result (Appends start (O.held output.new) (text_at_stop (A.meaning p) seen)) }
     ensures emptied { OnOk result (outlet.new ≡ []) }
     ensures err { (start : Option (List ℕ)) (seen : List ℕ) (p : A.Plan) →
-        A.plan action.now ≡ p → A.stands action.now seen →
+        A.plan action.old ≡ p → A.stands action.old seen →
         TakesFront start (O.held output.old) ((A.meaning p).text seen) outlet.old →
         OnErr result (((A.meaning p).due ≡ true)
         × AppendsPrefix start (O.held output.new) ((A.meaning p).text seen ++ (A.meaning p).ending seen)) }
@@ -75,7 +88,7 @@ pub fn serve<A: Action, I: Source, O: Sink>(
     input: &mut I,
     output: &mut O,
 ) -> Outcome
-    requires fresh { IsFresh (A.live action.old) (A.stands action.old) (A.taken action.old) buffers.old }
+    requires fresh { IsFresh (A.live action.old) (A.stands action.old) (A.taken action.old) (A.debt action.old) buffers.old }
     requires small { limit ≤ GREATEST_CAPTURE }
     ensures served { let before : Ends = record { left = I.left input.old; held = O.held output.old } in
         let after : Ends = record { left = I.left input.new; held = O.held output.new } in

@@ -49,6 +49,7 @@ loop-got-preserved g c =
       same = c.in-Ok-feed_piece.ensures.same ∙ c.loop-got.invariant.same;
       live = all.0;
       taken = omega (arith, c.in-Ok-feed_piece.ensures.taken.count, all.1, count, c.loop-got.invariant.taken);
+      nothing_owed = c.in-Ok-feed_piece.ensures.paid;
       empty = all.2;
       pumping = subst (IsPumping (g.A.Action.stands c.feed_piece.new.action) meaning before now buffers) (ap (λ n. c.loop-got.count + n) count)
           (pump_more _ _ meaning before _ now _ buffers c.loop-got.count piece c.loop-got.invariant.pumping lost c.in-Ok-feed_piece.fed.bytes all.1 stands (cut_kept _ c.loop-got.recent c.keep.new.self c.in-Ok-feed_piece.fed.bytes c.min-taken.result c.in-Ok-feed_piece.ensures.taken.within c.keep.ensures));

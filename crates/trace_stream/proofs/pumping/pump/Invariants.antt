@@ -1,6 +1,7 @@
 use Rattle.std.proofs.Common.{◌≡◌, ◌+◌, ◌-◌, ◌≤◌, []}
 use Rattle.trace_stream.proofs.Inputs.{IsPumping}
 use Rattle.trace_stream.specs.BuffersState.{BuffersState}
+use Rattle.trace_stream.specs.Debt.{Paid}
 use Rattle.trace_stream.specs.Served.{Ends}
 use Rattle.trace_stream.proofs.pumping.pump.Given as goal
 
@@ -9,6 +10,7 @@ invariant-loop-got g l = record {
   same : g.A.Action.plan l.action ≡ g.A.Action.plan l.initial.action;
   live : g.A.Action.live l.action;
   taken : g.A.Action.taken l.action ≡ l.count;
+  nothing_owed : g.A.Action.debt l.action ≡ Paid;
   empty : l.outlet ≡ [];
   pumping : let before : Ends = record { left = g.I.Source.left l.initial.input; held = g.O.Sink.held l.initial.output } in
       let now : Ends = record { left = g.I.Source.left l.input; held = g.O.Sink.held l.output } in

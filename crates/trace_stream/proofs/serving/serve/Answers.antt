@@ -59,8 +59,8 @@ returns-clause-stopped g c = λ e.
     elim c.match-pump.branch [
       | in-FaultFound+in-Ok-finish w ↦
           let p = w.in-FaultFound.ensures.pumped in
-          rw (w.output-is, w.buffers-inside-is)
-          (served_stopped _ _ _ _ _ _ _ lawful p (w.in-Ok-finish.ensures.ok _ p.seen _ w.in-FaultFound.ensures.same p.outcome.0.read p.outcome.0.written))
+          let k = served_stopped _ _ _ _ _ _ _ lawful p (w.in-Ok-finish.ensures.ok _ p.seen _ w.in-FaultFound.ensures.same p.outcome.0.read p.outcome.0.written) in
+          rw (w.action-is, w.output-is, w.buffers-inside-is) (record { served = k.served; holds = w.in-Ok-finish.ensures.stands _ k.holds })
       | in-AtEnd+in-Ok w ↦ let no = sym w.result-is ∙ e in cc
       | in-AtEnd+in-Err w ↦ let no = sym w.result-is ∙ e in cc
       | in-FaultFound+in-Err-finish w ↦ let no = sym w.result-is ∙ e in cc
@@ -76,7 +76,8 @@ returns-clause-ended g c = λ e.
     elim c.match-pump.branch [
       | in-AtEnd+in-Ok w ↦
           let p = w.in-AtEnd.ensures.pumped in
-          rw (w.output-is, w.buffers-inside-is) (served_at_end _ _ _ _ _ _ _ p (w.in-Ok.ensures.ok _ p.seen _ w.in-AtEnd.ensures.same p.outcome.0.read p.outcome.0.written))
+          let k = served_at_end _ _ _ _ _ _ _ p (w.in-Ok.ensures.ok _ p.seen _ w.in-AtEnd.ensures.same p.outcome.0.read p.outcome.0.written) in
+          rw (w.action-is, w.output-is, w.buffers-inside-is) (record { served = k.served; holds = w.in-Ok.ensures.stands _ k.holds })
       | in-AtEnd+in-Err w ↦ let no = sym w.result-is ∙ e in cc
       | in-FaultFound+in-Ok-finish w ↦ let no = sym w.result-is ∙ e in cc
       | in-FaultFound+in-Err-finish w ↦ let no = sym w.result-is ∙ e in cc

@@ -1,4 +1,4 @@
-use Rattle.std.proofs.Common.{◌≡◌, ◌-◌, ◌++◌, ℕ, List, [], length, take, drop, sym, ◌∙◌, ap}
+use Rattle.std.proofs.Common.{◌≡◌, ◌-◌, ◌++◌, ℕ, List, [], length, take, drop, sym, refl, ◌∙◌, ap}
 use Rattle.std.proofs.lemmas.List.{take-append-drop, append_cancel_left}
 use Rattle.capture_actions.specs.Names.{realigned, sure}
 use Rattle.port_slip.specs.Segments.{Realigned}
@@ -6,6 +6,8 @@ use Rattle.capture_actions.proofs.realign.RealignAction.finish.Goals as goal
 
 pub returns : goal.returns
 returns c = record {
+  same = refl;
+  stands = λ seen s. s;
   ended = λ seen s. (
       let b = (realigned seen).bytes in
       let w = ap (λ (r : Realigned). r.bytes) (c.finish.ensures.whole seen (sure seen) s) in

@@ -1,15 +1,19 @@
-use Rattle.std.proofs.Common.{◌≤◌, [], ◌∷◌, ◌∙◌, ◌++◌, sym, ap, length, arith}
+use Rattle.std.proofs.Common.{◌≤◌, [], ◌∷◌, ◌∙◌, ◌++◌, sym, ap, length, arith, refl}
 use Rattle.script_rebuild.specs.Rebuilt.{read_so_far}
 use Rattle.script_rebuild.proofs.Taking.{fault_none, ends_whole, ends_at_fault, ends_at_last}
 use Rattle.script_rebuild.proofs.rebuild.RebuildAction.finish.Goals as goal
 
 pub returns-then-is_some : goal.returns-then-is_some
 returns-then-is_some c = record {
+  same = refl;
+  stands = λ seen s. s;
   ended = λ seen s. c.requires.empty ∙ sym (ends_at_fault c.args.self.now seen s (sym c.is_some.ensures ∙ c.if-is_some.true));
 }
 
 pub returns-in-Ok : goal.returns-in-Ok
 returns-in-Ok c = record {
+  same = refl;
+  stands = λ seen s. s;
   ended = λ seen s.
       let r = c.args.self.now in
       let lines = (read_so_far r.plan.plan seen).lines in
@@ -27,6 +31,8 @@ returns-in-Ok c = record {
 
 pub returns-in-Err : goal.returns-in-Err
 returns-in-Err c = record {
+  same = refl;
+  stands = λ seen s. s;
   ended = λ seen s.
       let r = c.args.self.now in
       let lines = (read_so_far r.plan.plan seen).lines in
