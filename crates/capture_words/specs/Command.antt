@@ -8,7 +8,7 @@ use Rattle.capture_words.specs.declared.option.TheConstants.{ALL_OPTIONS}
 use Rattle.capture_words.specs.declared.option.CommandOption.{CommandOption}
 use Rattle.capture_words.specs.declared.option.CommandOption.TheVariants.{Frames, Packets, Itm, Stp, StpOrder, Id}
 use Rattle.capture_words.specs.declared.option.CommandOption.TheVariants.{Only, Window, Sync, Half, Limit, Items}
-use Rattle.capture_words.specs.declared.option.CommandOption.TheVariants.{Lose, Size, Pointer, Full}
+use Rattle.capture_words.specs.declared.option.CommandOption.TheVariants.{Lose, Size, Pointer, Full, Order, Hold, Depth}
 
 -- the name of an option, after the two dashes
 abbrev pub option_name : CommandOption → Text
@@ -28,6 +28,9 @@ option_name Lose = codes "lose"
 option_name Size = codes "size"
 option_name Pointer = codes "pointer"
 option_name Full = codes "full"
+option_name Order = codes "order"
+option_name Hold = codes "hold"
+option_name Depth = codes "depth"
 
 -- an option has one value, and is given once at most
 abbrev pub option_rule : CommandOption → Rule

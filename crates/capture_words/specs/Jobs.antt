@@ -1,6 +1,6 @@
 -- The job of the entries, or the first fault.
 use Rattle.std.specs.Prelude.{◌≡◌, ◌≤◌, ◌<◌, ℕ, ◌^◌, List, [], ◌∷◌, ◌++◌, Bool, true, Option, Some, None, Result}
-use Rattle.std.specs.Prelude.{Ok, Err, ◌==◌, nat_lt, if◌then◌else◌, option_map}
+use Rattle.std.specs.Prelude.{length, Ok, Err, ◌==◌, nat_lt, if◌then◌else◌, option_map}
 use Rattle.std.specs.List.{list_any}
 use Rattle.clap.specs.Words.{Row}
 use Rattle.trace_values.specs.declared.reading_modes.FramesMode.{FramesMode}
@@ -10,17 +10,20 @@ use Rattle.capture_words.specs.Settings.{◌>>=◌, settings_in}
 use Rattle.capture_words.specs.Values.{action_in}
 use Rattle.capture_words.specs.declared.job.Task.{Task}
 use Rattle.capture_words.specs.declared.job.Task.TheVariants.{Show, Split, Check, Rebuild, Exercise}
-use Rattle.capture_words.specs.declared.job.Task.TheVariants.{Realign, Ring, Unring}
+use Rattle.capture_words.specs.declared.job.Task.TheVariants.{Realign, Ring, Unring, Funnel}
 use Rattle.capture_words.specs.declared.job.Job.{Job}
 use Rattle.capture_words.specs.declared.settings.Settings.{Settings}
 use Rattle.capture_words.specs.declared.usage.UsageFault.{UsageFault}
 use Rattle.capture_words.specs.declared.usage.UsageFault.TheVariants.{SplitNeedsId, MappedTwice, RingNeedsSize}
-use Rattle.capture_words.specs.declared.usage.UsageFault.TheVariants.{UnringNeedsSize, PointerNotUnderSize}
+use Rattle.capture_words.specs.declared.usage.UsageFault.TheVariants.{UnringNeedsSize, PointerNotUnderSize, FunnelNeedsOrder}
+use Rattle.capture_words.specs.declared.usage.UsageFault.TheVariants.{OrderedTwice}
 use Rattle.capture_words.specs.declared.values.ActionName.{ActionName}
 use Rattle.capture_words.specs.declared.values.ActionName.TheVariants.{Show as ShowName, Split as SplitName}
 use Rattle.capture_words.specs.declared.values.ActionName.TheVariants.{Check as CheckName, Rebuild as RebuildName}
 use Rattle.capture_words.specs.declared.values.ActionName.TheVariants.{Exercise as ExerciseName, Realign as RealignName}
 use Rattle.capture_words.specs.declared.values.ActionName.TheVariants.{Ring as RingName, Unring as UnringName}
+use Rattle.capture_words.specs.declared.values.ActionName.TheVariants.{Funnel as FunnelName}
+use Rattle.trace_funnel.specs.Order.{are_apart}
 
 -- the first of these IDs that stands earlier already, among them or before them
 abbrev pub again_after : List ℕ → List ℕ → Option ℕ
@@ -54,6 +57,17 @@ unring_with None pointer full = Err UnringNeedsSize
 unring_with (Some size) pointer full =
     if nat_lt pointer size then Ok (Unring size pointer full) else Err PointerNotUnderSize
 
+-- `funnel` needs the order of its sources, in which none is twice
+abbrev pub turns_with : Option (List ℕ) → Result (List ℕ) UsageFault
+turns_with None = Err FunnelNeedsOrder
+turns_with (Some order) = fault_or (option_map OrderedTwice (again_after [] order)) order
+
+abbrev pub funnel_with : Settings → Result Task UsageFault
+funnel_with s = do
+  plan ← plan_with s.plan
+  order ← turns_with s.funnel.order
+  Ok (Funnel plan s.sync s.half order s.funnel.hold s.funnel.depth)
+
 -- the task of an action with what it needs of the options
 abbrev pub task_with : ActionName → Settings → Result Task UsageFault
 task_with ShowName s = plan_with s.plan >>= (λ plan. Ok (Show plan s.only s.window))
@@ -64,6 +78,7 @@ task_with ExerciseName s = Ok (Exercise s.items s.lose)
 task_with RealignName s = Ok Realign
 task_with RingName s = ring_with s.buffer.size
 task_with UnringName s = unring_with s.buffer.size s.buffer.pointer s.buffer.full
+task_with FunnelName s = funnel_with s
 
 -- The first fault of the action's name, of the options' values in the order of the command, and of what the
 -- action needs; and where there is none, the job. An option that the action doesn't use has no effect.
@@ -76,7 +91,7 @@ job_of rows = do
 
 -- What is sure of a task: its plan is sound, and for a script there are at most eight half synchronisations in a gap.
 -- From 1 to 1,000,000 items are made, of which at most 1,000,000 bytes are lost. A trace buffer has from 16 to 2^24
--- bytes, and its write pointer is one of them.
+-- bytes, and its write pointer is one of them. A funnel has some sources from 1 to 126, none twice.
 abbrev pub IsSoundTask : Task → Type 0
 IsSoundTask (Show plan only window) = is_sound plan ≡ true
 IsSoundTask (Split frames id) = Unit {0}
@@ -86,3 +101,6 @@ IsSoundTask (Exercise items lose) = (1 ≤ items) × (items ≤ 1000000) × (los
 IsSoundTask Realign = Unit {0}
 IsSoundTask (Ring size) = (16 ≤ size) × (size ≤ 2 ^ 24)
 IsSoundTask (Unring size pointer full) = (16 ≤ size) × (size ≤ 2 ^ 24) × (pointer < size)
+IsSoundTask (Funnel plan sync half order hold depth) =
+    (is_sound plan ≡ true) × (half ≤ 8) × (1 ≤ length order) × (are_apart order ≡ true)
+    × ((1 ≤ hold) × (hold ≤ 15)) × ((1 ≤ depth) × (depth ≤ 4096))

@@ -10,7 +10,7 @@ use std::alloc::{AllocError, Global};
 
 /// What `--help` says below the options: how a capture is given.
 const CAPTURE_HELP: &str =
-    "The capture, or for rebuild the script and for unring the image, is read from standard input, as in: \
+    "The capture, or for rebuild and funnel the script and for unring the image, is read from standard input, as in: \
     ./lipparoy check < CAPTURE";
 
 /// What `--help` says of the action.
@@ -18,7 +18,8 @@ const ACTION_HELP: &str =
     "show lists events, split writes the bytes of one source, check counts those of each, rebuild \
     writes the capture of a script, exercise tries the tool on a capture of its own, realign writes a capture \
     that lost bits in whole bytes again, ring writes the image of a trace buffer that took a capture, unring \
-    writes the bytes of such an image from the oldest on";
+    writes the bytes of such an image from the oldest on, funnel writes the capture of a script whose sources \
+    take turns";
 
 /// The command with this option besides. It takes one value, and is given once at most.
 fn with_option<'a>(

@@ -1,16 +1,19 @@
 //! The job of the entries.
 
-ghost use Rattle.std.specs.Prelude.{◌≡◌, ◌≤◌, true, IfOk, IfSome};
+ghost use Rattle.std.specs.Prelude.{◌≡◌, ◌≤◌, length, true, IfOk, IfSome};
 ghost use Rattle.std.specs.List.{All};
 ghost use Rattle.capture_words.specs.declared.values.TheConstants.{GREATEST_LIMIT, GREATEST_HALF, GREATEST_ITEMS};
 ghost use Rattle.capture_words.specs.declared.values.TheConstants.{GREATEST_LOSS, LEAST_SIZE, GREATEST_SIZE};
 ghost use Rattle.clap.specs.Words.{rows_of, found_of};
 ghost use Rattle.source_events.specs.Plan.{is_sound};
-ghost use Rattle.capture_words.specs.Jobs.{plan_with, split_with, ring_with, unring_with};
+ghost use Rattle.trace_funnel.specs.Order.{are_apart};
+ghost use Rattle.capture_words.specs.Settings.{IsFunnelInRange};
+ghost use Rattle.capture_words.specs.Jobs.{plan_with, split_with, ring_with, unring_with, turns_with, funnel_with};
 ghost use Rattle.capture_words.specs.Jobs.{task_with, job_of, IsSoundTask};
 
-use crate::ids::mapped_twice;
-use crate::settings::{BufferSettings, Settings, settings_in};
+use crate::ids::{first_again, mapped_twice};
+use crate::settings::{BufferSettings, FunnelSettings, Settings, settings_in};
+use crate::turns::TurnIds;
 use crate::usage::UsageFault;
 use crate::values::{ActionName, action_in};
 use clap::ArgMatches;
@@ -71,6 +74,21 @@ pub enum Task {
         /// Whether the buffer took as many bytes as it has, or more, so that its oldest byte is that at the pointer.
         full: bool,
     },
+    /// The capture of a script whose bytes pass through a funnel.
+    Funnel {
+        /// What the script's sources send. Its modes make no difference.
+        plan: Plan,
+        /// How many frames are written for each full synchronisation, or 0 for none.
+        sync: u32,
+        /// How many half synchronisations are written in each gap of a frame, at most 8.
+        half: u8,
+        /// The funnel's sources in the order of their turns, each from 1 to 126, and none twice.
+        order: TurnIds,
+        /// How many bytes one gives in its turn at most, 1 to 15.
+        hold: u8,
+        /// How many bytes are kept of one at most, 1 to 4,096.
+        depth: usize,
+    },
 }
 
 /// What the words ask for.
@@ -89,7 +107,7 @@ fn plan_with(plan: Plan) -> Result<Plan, UsageFault>
     ensures plan { result ≡ plan_with plan }
     ensures sound { IfOk result (λ plan. is_sound plan ≡ true) }
 {
-    match mapped_twice(&plan.itm, &plan.stp) {
+    match mapped_twice(&plan) {
         Some(id) => Err(UsageFault::MappedTwice(id)),
         None => Ok(plan),
     }
@@ -139,6 +157,50 @@ fn unring_with(buffer: BufferSettings) -> Result<Task, UsageFault>
     }
 }
 
+/// The sources of a funnel, which are needed, and of which none is ordered twice.
+fn turns_with(order: Option<TurnIds>) -> Result<TurnIds, UsageFault>
+    requires in_range { IfSome order (All (λ n. (1 ≤ n) × (n ≤ 126))) }
+    requires some { IfSome order (λ ids. 1 ≤ length ids) }
+    ensures order { result ≡ turns_with order }
+    ensures some { IfOk result (λ ids. 1 ≤ length ids) }
+    ensures apart { IfOk result (λ ids. are_apart ids ≡ true) }
+{
+    let Some(order) = order else {
+        return Err(UsageFault::FunnelNeedsOrder);
+    };
+    match first_again(order.as_slice()) {
+        Some(id) => Err(UsageFault::OrderedTwice(id)),
+        None => Ok(order),
+    }
+}
+
+/// The capture of a script through a funnel.
+fn funnel_with(settings: Settings) -> Result<Task, UsageFault>
+    requires itm { All (λ n. (1 ≤ n) × (n ≤ 111)) settings.plan.itm }
+    requires stp { All (λ n. (1 ≤ n) × (n ≤ 111)) settings.plan.stp }
+    requires half { settings.half ≤ GREATEST_HALF }
+    requires funnel { IsFunnelInRange settings.funnel }
+    ensures task { result ≡ funnel_with settings }
+    ensures sound { IfOk result IsSoundTask }
+{
+    let Settings {
+        plan,
+        sync,
+        half,
+        funnel,
+        ..
+    } = settings;
+    let FunnelSettings { order, hold, depth } = funnel;
+    Ok(Task::Funnel {
+        plan: plan_with(plan)?,
+        sync,
+        half,
+        order: turns_with(order)?,
+        hold,
+        depth,
+    })
+}
+
 /// The task of an action, with what it needs of the options.
 fn task_with(name: ActionName, settings: Settings) -> Result<Task, UsageFault>
     requires itm { All (λ n. (1 ≤ n) × (n ≤ 111)) settings.plan.itm }
@@ -146,6 +208,7 @@ fn task_with(name: ActionName, settings: Settings) -> Result<Task, UsageFault>
     requires half { settings.half ≤ GREATEST_HALF }
     requires items { (1 ≤ settings.items) × (settings.items ≤ GREATEST_ITEMS) }
     requires lose { settings.lose ≤ GREATEST_LOSS }
+    requires funnel { IsFunnelInRange settings.funnel }
     requires size { IfSome settings.buffer.size (λ n. (LEAST_SIZE ≤ n) × (n ≤ GREATEST_SIZE)) }
     ensures task { result ≡ task_with name settings }
     ensures sound { IfOk result IsSoundTask }
@@ -170,6 +233,7 @@ fn task_with(name: ActionName, settings: Settings) -> Result<Task, UsageFault>
         ActionName::Realign => Ok(Task::Realign),
         ActionName::Ring => ring_with(settings.buffer.size),
         ActionName::Unring => unring_with(settings.buffer),
+        ActionName::Funnel => funnel_with(settings),
     }
 }
 

@@ -38,10 +38,16 @@ pub enum CommandOption {
     Pointer,
     /// `--full`: whether a trace buffer has taken as many bytes as it has, or more.
     Full,
+    /// `--order`: the sources of a funnel, in the order of their turns.
+    Order,
+    /// `--hold`: how many bytes a source of a funnel gives in its turn at most.
+    Hold,
+    /// `--depth`: how many bytes a funnel keeps of a source at most.
+    Depth,
 }
 
 /// The options, in that order.
-pub(crate) const ALL_OPTIONS: [CommandOption; 16] = [
+pub(crate) const ALL_OPTIONS: [CommandOption; 19] = [
     CommandOption::Frames,
     CommandOption::Packets,
     CommandOption::Itm,
@@ -58,6 +64,9 @@ pub(crate) const ALL_OPTIONS: [CommandOption; 16] = [
     CommandOption::Size,
     CommandOption::Pointer,
     CommandOption::Full,
+    CommandOption::Order,
+    CommandOption::Hold,
+    CommandOption::Depth,
 ];
 
 impl CommandOption {
@@ -83,6 +92,9 @@ impl CommandOption {
             CommandOption::Size => "size",
             CommandOption::Pointer => "pointer",
             CommandOption::Full => "full",
+            CommandOption::Order => "order",
+            CommandOption::Hold => "hold",
+            CommandOption::Depth => "depth",
         }
     }
 
@@ -141,6 +153,16 @@ impl CommandOption {
             CommandOption::Full => {
                 "Whether the trace buffer of unring took as many bytes as it has, or more: 0 (no, the default) or \
                 1 (yes)"
+            }
+            CommandOption::Order => {
+                "The sources of funnel, in the order of their turns: one to sixteen from 1 to 126, with commas \
+                between"
+            }
+            CommandOption::Hold => {
+                "How many bytes a source of funnel gives in its turn at most: 1 to 15, 4 where it is not given"
+            }
+            CommandOption::Depth => {
+                "How many bytes funnel keeps of a source at most: 1 to 4096, 256 where it is not given"
             }
         }
     }

@@ -6,12 +6,13 @@ ghost use Rattle.capture_words.specs.declared.values.TheConstants.{GREATEST_LIMI
 ghost use Rattle.capture_words.specs.declared.values.TheConstants.{GREATEST_ITEMS, GREATEST_LOSS};
 ghost use Rattle.capture_words.specs.declared.values.TheConstants.{LEAST_SIZE, GREATEST_SIZE};
 ghost use Rattle.clap.specs.Words.{rows_of, found_of};
-ghost use Rattle.capture_words.specs.Settings.{plan_in, buffer_in, settings_in};
+ghost use Rattle.capture_words.specs.Settings.{plan_in, buffer_in, funnel_in, settings_in, IsFunnelInRange};
 
+use crate::turns::TurnIds;
 use crate::usage::UsageFault;
 use crate::values::{
-    frames_in, full_in, half_in, id_in, items_in, itm_in, limit_in, lose_in, only_in, order_in,
-    packets_in, pointer_in, size_in, stp_in, sync_in, window_in,
+    depth_in, frames_in, full_in, half_in, hold_in, id_in, items_in, itm_in, limit_in, lose_in,
+    only_in, order_in, packets_in, pointer_in, size_in, stp_in, sync_in, turns_in, window_in,
 };
 use clap::ArgMatches;
 use item_tap::{Bounds, Choice};
@@ -27,6 +28,17 @@ pub struct BufferSettings {
     pub pointer: usize,
     /// Whether it has taken as many bytes as it has, or more.
     pub full: bool,
+}
+
+/// What the options say of a funnel.
+#[derive(Drop)]
+pub struct FunnelSettings {
+    /// Its sources, in the order of their turns.
+    pub order: Option<TurnIds>,
+    /// How many bytes one gives in its turn at most.
+    pub hold: u8,
+    /// How many bytes are kept of one at most.
+    pub depth: usize,
 }
 
 /// What the options say, each with its default where it is absent.
@@ -52,6 +64,8 @@ pub struct Settings {
     pub lose: u32,
     /// A trace buffer.
     pub buffer: BufferSettings,
+    /// A funnel; an ID may be ordered twice.
+    pub funnel: FunnelSettings,
 }
 
 /// How a capture is read, by the first five options.
@@ -81,6 +95,18 @@ fn buffer_in(matches: &ArgMatches<'_>) -> Result<BufferSettings, UsageFault>
     })
 }
 
+/// What the options say of a funnel.
+fn funnel_in(matches: &ArgMatches<'_>) -> Result<FunnelSettings, UsageFault>
+    ensures funnel { result ≡ funnel_in (rows_of (found_of matches.now)) }
+    ensures range { IfOk result IsFunnelInRange }
+{
+    Ok(FunnelSettings {
+        order: turns_in(matches)?,
+        hold: hold_in(matches)?,
+        depth: depth_in(matches)?,
+    })
+}
+
 /// What the options say, or the first whose value is none of its own.
 pub fn settings_in(matches: &ArgMatches<'_>) -> Result<Settings, UsageFault>
     ensures settings { result ≡ settings_in (rows_of (found_of matches.now)) }
@@ -92,6 +118,7 @@ pub fn settings_in(matches: &ArgMatches<'_>) -> Result<Settings, UsageFault>
     ensures items { IfOk result (λ s. (1 ≤ s.items) × (s.items ≤ GREATEST_ITEMS)) }
     ensures lose { IfOk result (λ s. s.lose ≤ GREATEST_LOSS) }
     ensures size { IfOk result (λ s. IfSome s.buffer.size (λ n. (LEAST_SIZE ≤ n) × (n ≤ GREATEST_SIZE))) }
+    ensures funnel { IfOk result (λ s. IsFunnelInRange s.funnel) }
 {
     Ok(Settings {
         plan: plan_in(matches)?,
@@ -104,5 +131,6 @@ pub fn settings_in(matches: &ArgMatches<'_>) -> Result<Settings, UsageFault>
         items: items_in(matches)?,
         lose: lose_in(matches)?,
         buffer: buffer_in(matches)?,
+        funnel: funnel_in(matches)?,
     })
 }

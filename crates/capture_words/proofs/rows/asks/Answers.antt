@@ -16,6 +16,7 @@ returns c = record {
   realign = all_answered _ refl refl;
   ring = all_answered _ refl refl;
   unring = all_answered _ refl refl;
+  funnel = all_answered _ refl refl;
   split = all_answered _ refl refl;
   check = all_answered _ refl refl;
   several = all_answered _ refl refl;
