@@ -8,7 +8,7 @@ use Rattle.capture_words.specs.declared.option.TheConstants.{ALL_OPTIONS}
 use Rattle.capture_words.specs.declared.option.CommandOption.{CommandOption}
 use Rattle.capture_words.specs.declared.option.CommandOption.TheVariants.{Frames, Packets, Itm, Stp, StpOrder, Id}
 use Rattle.capture_words.specs.declared.option.CommandOption.TheVariants.{Only, Window, Sync, Half, Limit, Items}
-use Rattle.capture_words.specs.declared.option.CommandOption.TheVariants.{Lose, Size, Pointer, Full, Order, Hold, Depth}
+use Rattle.capture_words.specs.declared.option.CommandOption.TheVariants.{Lose, Size, Pointer, Full, Order, Hold, Depth, Port}
 
 -- the name of an option, after the two dashes
 abbrev pub option_name : CommandOption → Text
@@ -31,6 +31,7 @@ option_name Full = codes "full"
 option_name Order = codes "order"
 option_name Hold = codes "hold"
 option_name Depth = codes "depth"
+option_name Port = codes "port"
 
 -- an option has one value, and is given once at most
 abbrev pub option_rule : CommandOption → Rule

@@ -10,19 +10,19 @@ use Rattle.capture_words.specs.Settings.{◌>>=◌, settings_in}
 use Rattle.capture_words.specs.Values.{action_in}
 use Rattle.capture_words.specs.declared.job.Task.{Task}
 use Rattle.capture_words.specs.declared.job.Task.TheVariants.{Show, Split, Check, Rebuild, Exercise}
-use Rattle.capture_words.specs.declared.job.Task.TheVariants.{Realign, Ring, Unring, Funnel}
+use Rattle.capture_words.specs.declared.job.Task.TheVariants.{Realign, Ring, Unring, Funnel, Text}
 use Rattle.capture_words.specs.declared.job.Job.{Job}
 use Rattle.capture_words.specs.declared.settings.Settings.{Settings}
 use Rattle.capture_words.specs.declared.usage.UsageFault.{UsageFault}
 use Rattle.capture_words.specs.declared.usage.UsageFault.TheVariants.{SplitNeedsId, MappedTwice, RingNeedsSize}
 use Rattle.capture_words.specs.declared.usage.UsageFault.TheVariants.{UnringNeedsSize, PointerNotUnderSize, FunnelNeedsOrder}
-use Rattle.capture_words.specs.declared.usage.UsageFault.TheVariants.{OrderedTwice}
+use Rattle.capture_words.specs.declared.usage.UsageFault.TheVariants.{OrderedTwice, TextNeedsItm, TextReadsOneSource}
 use Rattle.capture_words.specs.declared.values.ActionName.{ActionName}
 use Rattle.capture_words.specs.declared.values.ActionName.TheVariants.{Show as ShowName, Split as SplitName}
 use Rattle.capture_words.specs.declared.values.ActionName.TheVariants.{Check as CheckName, Rebuild as RebuildName}
 use Rattle.capture_words.specs.declared.values.ActionName.TheVariants.{Exercise as ExerciseName, Realign as RealignName}
 use Rattle.capture_words.specs.declared.values.ActionName.TheVariants.{Ring as RingName, Unring as UnringName}
-use Rattle.capture_words.specs.declared.values.ActionName.TheVariants.{Funnel as FunnelName}
+use Rattle.capture_words.specs.declared.values.ActionName.TheVariants.{Funnel as FunnelName, Text as TextName}
 use Rattle.trace_funnel.specs.Order.{are_apart}
 
 -- the first of these IDs that stands earlier already, among them or before them
@@ -68,6 +68,12 @@ funnel_with s = do
   order ← turns_with s.funnel.order
   Ok (Funnel plan s.sync s.half order s.funnel.hold s.funnel.depth)
 
+-- `text` reads one source that sends ITM packets, and no system trace
+abbrev pub text_with : List ℕ → Plan → ℕ → Result Task UsageFault
+text_with [] plan port = Err TextNeedsItm
+text_with (id ∷ []) plan port = Ok (Text (record plan { itm = id ∷ []; stp = [] }) port)
+text_with (id ∷ other ∷ ids) plan port = Err TextReadsOneSource
+
 -- the task of an action with what it needs of the options
 abbrev pub task_with : ActionName → Settings → Result Task UsageFault
 task_with ShowName s = plan_with s.plan >>= (λ plan. Ok (Show plan s.only s.window))
@@ -79,6 +85,7 @@ task_with RealignName s = Ok Realign
 task_with RingName s = ring_with s.buffer.size
 task_with UnringName s = unring_with s.buffer.size s.buffer.pointer s.buffer.full
 task_with FunnelName s = funnel_with s
+task_with TextName s = text_with s.plan.itm s.plan s.port
 
 -- The first fault of the action's name, of the options' values in the order of the command, and of what the
 -- action needs; and where there is none, the job. An option that the action doesn't use has no effect.
@@ -91,7 +98,8 @@ job_of rows = do
 
 -- What is sure of a task: its plan is sound, and for a script there are at most eight half synchronisations in a gap.
 -- From 1 to 1,000,000 items are made, of which at most 1,000,000 bytes are lost. A trace buffer has from 16 to 2^24
--- bytes, and its write pointer is one of them. A funnel has some sources from 1 to 126, none twice.
+-- bytes, and its write pointer is one of them. A funnel has some sources from 1 to 126, none twice. The text of
+-- a stimulus port, 0 to 31, is that of one ITM source.
 abbrev pub IsSoundTask : Task → Type 0
 IsSoundTask (Show plan only window) = is_sound plan ≡ true
 IsSoundTask (Split frames id) = Unit {0}
@@ -104,3 +112,4 @@ IsSoundTask (Unring size pointer full) = (16 ≤ size) × (size ≤ 2 ^ 24) × (
 IsSoundTask (Funnel plan sync half order hold depth) =
     (is_sound plan ≡ true) × (half ≤ 8) × (1 ≤ length order) × (are_apart order ≡ true)
     × ((1 ≤ hold) × (hold ≤ 15)) × ((1 ≤ depth) × (depth ≤ 4096))
+IsSoundTask (Text plan port) = (is_sound plan ≡ true) × (length plan.itm ≡ 1) × (plan.stp ≡ []) × (port ≤ 31)

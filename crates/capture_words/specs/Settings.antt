@@ -5,7 +5,7 @@ use Rattle.clap.specs.Words.{Row}
 use Rattle.source_events.specs.declared.plan.Plan.{Plan}
 use Rattle.capture_words.specs.Values.{frames_in, packets_in, itm_in, stp_in, order_in, id_in, only_in, window_in}
 use Rattle.capture_words.specs.Values.{sync_in, half_in, limit_in, items_in, lose_in, size_in, pointer_in, full_in}
-use Rattle.capture_words.specs.Values.{turns_in, hold_in, depth_in}
+use Rattle.capture_words.specs.Values.{turns_in, hold_in, depth_in, port_in}
 use Rattle.capture_words.specs.declared.settings.BufferSettings.{BufferSettings}
 use Rattle.capture_words.specs.declared.settings.FunnelSettings.{FunnelSettings}
 use Rattle.capture_words.specs.declared.settings.Settings.{Settings}
@@ -62,6 +62,7 @@ settings_in rows = do
   lose ← lose_in rows
   buffer ← buffer_in rows
   funnel ← funnel_in rows
+  port ← port_in rows
   Ok (record {
     plan = plan;
     id = id;
@@ -74,4 +75,5 @@ settings_in rows = do
     lose = lose;
     buffer = buffer;
     funnel = funnel;
+    port = port;
   })

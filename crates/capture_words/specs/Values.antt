@@ -25,12 +25,12 @@ use Rattle.capture_words.specs.declared.option.CommandOption.{CommandOption}
 use Rattle.capture_words.specs.declared.option.CommandOption.TheVariants.{Frames, Packets, Itm, Stp, StpOrder, Id}
 use Rattle.capture_words.specs.declared.option.CommandOption.TheVariants.{Only, Window, Sync, Half, Limit, Items}
 use Rattle.capture_words.specs.declared.option.CommandOption.TheVariants.{Lose, Size, Pointer, Full, Hold, Depth}
-use Rattle.capture_words.specs.declared.option.CommandOption.TheVariants.{Order as TurnOrder}
+use Rattle.capture_words.specs.declared.option.CommandOption.TheVariants.{Order as TurnOrder, Port as PortOption}
 use Rattle.capture_words.specs.declared.usage.UsageFault.{UsageFault}
 use Rattle.capture_words.specs.declared.usage.UsageFault.TheVariants.{UnknownAction, BadValue}
 use Rattle.capture_words.specs.declared.values.ActionName.{ActionName}
 use Rattle.capture_words.specs.declared.values.ActionName.TheVariants.{Show, Split, Check, Rebuild, Exercise}
-use Rattle.capture_words.specs.declared.values.ActionName.TheVariants.{Realign, Ring, Unring, Funnel}
+use Rattle.capture_words.specs.declared.values.ActionName.TheVariants.{Realign, Ring, Unring, Funnel, Text as TextName}
 
 -- the action that a text names
 abbrev pub action_named : Text → Option ActionName
@@ -44,6 +44,7 @@ action_named text =
     else if bytes_eq text (codes "ring") then Some Ring
     else if bytes_eq text (codes "unring") then Some Unring
     else if bytes_eq text (codes "funnel") then Some Funnel
+    else if bytes_eq text (codes "text") then Some TextName
     else None
 
 -- the order of nibbles that a text names
@@ -184,6 +185,10 @@ hold_in = number_given Hold 4 1 15
 
 abbrev pub depth_in : List Row → Result ℕ UsageFault
 depth_in = number_given Depth 256 1 4096
+
+-- the stimulus port whose bytes are written, 0 by default
+abbrev pub port_in : List Row → Result ℕ UsageFault
+port_in = number_given PortOption 0 0 31
 
 abbrev pub limit_in : List Row → Result ℕ UsageFault
 limit_in = number_given Limit GREATEST_LIMIT 1 GREATEST_LIMIT

@@ -3,12 +3,12 @@
 ghost use Rattle.std.specs.Prelude.{◌≡◌, ◌≤◌, length, true, IfOk, IfSome};
 ghost use Rattle.std.specs.List.{All};
 ghost use Rattle.capture_words.specs.declared.values.TheConstants.{GREATEST_LIMIT, GREATEST_HALF, GREATEST_ITEMS};
-ghost use Rattle.capture_words.specs.declared.values.TheConstants.{GREATEST_LOSS, LEAST_SIZE, GREATEST_SIZE};
+ghost use Rattle.capture_words.specs.declared.values.TheConstants.{GREATEST_LOSS, LEAST_SIZE, GREATEST_SIZE, GREATEST_PORT};
 ghost use Rattle.clap.specs.Words.{rows_of, found_of};
 ghost use Rattle.source_events.specs.Plan.{is_sound};
 ghost use Rattle.trace_funnel.specs.Order.{are_apart};
 ghost use Rattle.capture_words.specs.Settings.{IsFunnelInRange};
-ghost use Rattle.capture_words.specs.Jobs.{plan_with, split_with, ring_with, unring_with, turns_with, funnel_with};
+ghost use Rattle.capture_words.specs.Jobs.{plan_with, split_with, ring_with, unring_with, turns_with, funnel_with, text_with};
 ghost use Rattle.capture_words.specs.Jobs.{task_with, job_of, IsSoundTask};
 
 use crate::ids::{first_again, mapped_twice};
@@ -18,7 +18,7 @@ use crate::usage::UsageFault;
 use crate::values::{ActionName, action_in};
 use clap::ArgMatches;
 use item_tap::{Bounds, Choice};
-use source_events::Plan;
+use source_events::{Plan, SourceIds};
 use trace_values::{FramesMode, SourceId};
 
 /// What is done with a capture.
@@ -88,6 +88,13 @@ pub enum Task {
         hold: u8,
         /// How many bytes are kept of one at most, 1 to 4,096.
         depth: usize,
+    },
+    /// What software wrote to a stimulus port.
+    Text {
+        /// How the capture is read. It maps one source, which sends ITM packets.
+        plan: Plan,
+        /// The port, 0 to 31.
+        port: u8,
     },
 }
 
@@ -201,6 +208,29 @@ fn funnel_with(settings: Settings) -> Result<Task, UsageFault>
     })
 }
 
+/// What software wrote to a port of a source, which is needed and alone.
+fn text_with(plan: Plan, port: u8) -> Result<Task, UsageFault>
+    requires itm { All (λ n. (1 ≤ n) × (n ≤ 111)) plan.itm }
+    requires port { port ≤ GREATEST_PORT }
+    ensures task { result ≡ text_with plan.itm plan port }
+    ensures sound { IfOk result IsSoundTask }
+{
+    match plan.itm.as_slice().len() {
+        0 => Err(UsageFault::TextNeedsItm),
+        1 => Ok(Task::Text {
+            plan: Plan {
+                frames: plan.frames,
+                packets: plan.packets,
+                itm: plan.itm,
+                stp: SourceIds::new(),
+                order: plan.order,
+            },
+            port,
+        }),
+        _ => Err(UsageFault::TextReadsOneSource),
+    }
+}
+
 /// The task of an action, with what it needs of the options.
 fn task_with(name: ActionName, settings: Settings) -> Result<Task, UsageFault>
     requires itm { All (λ n. (1 ≤ n) × (n ≤ 111)) settings.plan.itm }
@@ -209,6 +239,7 @@ fn task_with(name: ActionName, settings: Settings) -> Result<Task, UsageFault>
     requires items { (1 ≤ settings.items) × (settings.items ≤ GREATEST_ITEMS) }
     requires lose { settings.lose ≤ GREATEST_LOSS }
     requires funnel { IsFunnelInRange settings.funnel }
+    requires port { settings.port ≤ GREATEST_PORT }
     requires size { IfSome settings.buffer.size (λ n. (LEAST_SIZE ≤ n) × (n ≤ GREATEST_SIZE)) }
     ensures task { result ≡ task_with name settings }
     ensures sound { IfOk result IsSoundTask }
@@ -234,6 +265,7 @@ fn task_with(name: ActionName, settings: Settings) -> Result<Task, UsageFault>
         ActionName::Ring => ring_with(settings.buffer.size),
         ActionName::Unring => unring_with(settings.buffer),
         ActionName::Funnel => funnel_with(settings),
+        ActionName::Text => text_with(settings.plan, settings.port),
     }
 }
 

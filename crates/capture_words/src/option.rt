@@ -44,10 +44,12 @@ pub enum CommandOption {
     Hold,
     /// `--depth`: how many bytes a funnel keeps of a source at most.
     Depth,
+    /// `--port`: the stimulus port whose text is written.
+    Port,
 }
 
 /// The options, in that order.
-pub(crate) const ALL_OPTIONS: [CommandOption; 19] = [
+pub(crate) const ALL_OPTIONS: [CommandOption; 20] = [
     CommandOption::Frames,
     CommandOption::Packets,
     CommandOption::Itm,
@@ -67,6 +69,7 @@ pub(crate) const ALL_OPTIONS: [CommandOption; 19] = [
     CommandOption::Order,
     CommandOption::Hold,
     CommandOption::Depth,
+    CommandOption::Port,
 ];
 
 impl CommandOption {
@@ -95,6 +98,7 @@ impl CommandOption {
             CommandOption::Order => "order",
             CommandOption::Hold => "hold",
             CommandOption::Depth => "depth",
+            CommandOption::Port => "port",
         }
     }
 
@@ -164,6 +168,8 @@ impl CommandOption {
             CommandOption::Depth => {
                 "How many bytes funnel keeps of a source at most: 1 to 4096, 256 where it is not given"
             }
+            CommandOption::Port =>
+                "The stimulus port whose bytes text writes: 0 (the default) to 31",
         }
     }
 }

@@ -13,15 +13,17 @@ ghost use Rattle.item_tap.specs.declared.choice.Kind.TheVariants.{Itm as ItmKind
 ghost use Rattle.item_tap.specs.declared.choice.Kind.TheVariants.{Raw as RawKind, Trigger as TriggerKind};
 ghost use Rattle.capture_words.specs.Rows.{does, lists, faults, AllAnswered, Refuses, planned};
 ghost use Rattle.capture_words.specs.declared.job.Task.TheVariants.{Show, Split, Check, Rebuild, Exercise};
-ghost use Rattle.capture_words.specs.declared.job.Task.TheVariants.{Realign, Ring, Unring, Funnel};
+ghost use Rattle.capture_words.specs.declared.job.Task.TheVariants.{Realign, Ring, Unring, Funnel, Text};
 ghost use Rattle.capture_words.specs.declared.option.CommandOption.TheVariants.{Frames, Packets, Itm, Stp, StpOrder};
 ghost use Rattle.capture_words.specs.declared.option.CommandOption.TheVariants.{Id, Only, Window, Sync};
 ghost use Rattle.capture_words.specs.declared.option.CommandOption.TheVariants.{Half, Limit, Items, Lose};
 ghost use Rattle.capture_words.specs.declared.option.CommandOption.TheVariants.{Size, Pointer, Full, Order, Hold, Depth};
+ghost use Rattle.capture_words.specs.declared.option.CommandOption.TheVariants.{Port as PortOption};
 ghost use Rattle.capture_words.specs.declared.usage.UsageFault.TheVariants.{UnknownAction, BadValue, SplitNeedsId};
 ghost use Rattle.capture_words.specs.declared.usage.UsageFault.TheVariants.{MappedTwice, RingNeedsSize};
 ghost use Rattle.capture_words.specs.declared.usage.UsageFault.TheVariants.{UnringNeedsSize, PointerNotUnderSize};
-ghost use Rattle.capture_words.specs.declared.usage.UsageFault.TheVariants.{FunnelNeedsOrder, OrderedTwice};
+ghost use Rattle.capture_words.specs.declared.usage.UsageFault.TheVariants.{FunnelNeedsOrder, OrderedTwice, TextNeedsItm};
+ghost use Rattle.capture_words.specs.declared.usage.UsageFault.TheVariants.{TextReadsOneSource};
 
 /// Words that ask for a job, in several orders and spellings.
 pub fn asks()
@@ -94,6 +96,11 @@ pub fn asks()
         (Funnel (planned FramesHunt PacketsHunt [] (2 ∷ []) Lsn) 64 0
         (126 ∷ 1 ∷ 2 ∷ 3 ∷ 4 ∷ 5 ∷ 6 ∷ 7 ∷ 8 ∷ 9 ∷ 10 ∷ 11 ∷ 12 ∷ 13 ∷ 14 ∷ 15 ∷ []) 15 4096) 68719476736 ∷
         does (codes "check --order 5,5 --hold 1 --depth 1") (Check (planned FramesHunt PacketsHunt [] [] Msn)) 68719476736 ∷ []) }
+    ensures text { AllAnswered (
+        does (codes "text --itm 1") (Text (planned FramesHunt PacketsHunt (1 ∷ []) [] Msn) 0) 68719476736 ∷
+        does (codes "text --itm 111 --port 31 --frames bare --packets aligned --limit 5 --stp 2,2,111")
+        (Text (planned Bare PacketsAligned (111 ∷ []) [] Msn) 31) 5 ∷
+        does (codes "show --port 5") (Show (planned FramesHunt PacketsHunt [] [] Msn) None None) 68719476736 ∷ []) }
     ensures split { AllAnswered (
         does (codes "split --id 5") (Split FramesHunt 5) 68719476736 ∷
         does (codes "split --frames aligned --id 0") (Split FramesAligned 0) 68719476736 ∷
@@ -155,6 +162,8 @@ pub fn misuses()
         faults (codes "show --hold 16") (BadValue Hold) ∷
         faults (codes "funnel --order 1 --depth 0") (BadValue Depth) ∷
         faults (codes "funnel --order 1 --depth 4097") (BadValue Depth) ∷
+        faults (codes "text --itm 1 --port 32") (BadValue PortOption) ∷
+        faults (codes "show --port 01") (BadValue PortOption) ∷
         faults (codes "unring --size 16 --limit 0") (BadValue Limit) ∷
         faults (codes "check --limit 0") (BadValue Limit) ∷
         faults (codes "show --limit 68719476737") (BadValue Limit) ∷
@@ -212,6 +221,7 @@ pub fn misuses()
         faults (codes "ring --order x --full x") (BadValue Full) ∷
         faults (codes "ring --hold x --order x") (BadValue Order) ∷
         faults (codes "ring --depth x --hold x") (BadValue Hold) ∷
+        faults (codes "ring --port x --depth x") (BadValue Depth) ∷
         faults (codes "split") SplitNeedsId ∷
         faults (codes "split --limit x") (BadValue Limit) ∷
         faults (codes "show --itm 5 --stp 5") (MappedTwice 5) ∷
@@ -226,7 +236,10 @@ pub fn misuses()
         faults (codes "funnel --itm 5 --order 5 --depth 0") (BadValue Depth) ∷
         faults (codes "funnel --itm 5") FunnelNeedsOrder ∷
         faults (codes "funnel --order 16,16") (OrderedTwice 16) ∷
-        faults (codes "funnel --order 4,2,5,2,4") (OrderedTwice 2) ∷ []) }
+        faults (codes "funnel --order 4,2,5,2,4") (OrderedTwice 2) ∷
+        faults (codes "text --stp 2") TextNeedsItm ∷
+        faults (codes "text --itm 1,2") TextReadsOneSource ∷
+        faults (codes "text --itm 1,1 --port 3") TextReadsOneSource ∷ []) }
 {}
 
 /// Words that `clap` refuses, and what for.

@@ -4,7 +4,7 @@ ghost use Rattle.std.specs.Prelude.{◌≡◌, ◌≤◌, ℕ, Option, IfOk, IfS
 ghost use Rattle.std.specs.List.{All};
 ghost use Rattle.capture_words.specs.declared.values.TheConstants.{GREATEST_LIMIT, GREATEST_SYNC, GREATEST_HALF};
 ghost use Rattle.capture_words.specs.declared.values.TheConstants.{GREATEST_ITEMS, GREATEST_LOSS};
-ghost use Rattle.capture_words.specs.declared.values.TheConstants.{LEAST_SIZE, GREATEST_SIZE};
+ghost use Rattle.capture_words.specs.declared.values.TheConstants.{LEAST_SIZE, GREATEST_SIZE, GREATEST_PORT};
 ghost use Rattle.clap.specs.Words.{rows_of, found_of};
 ghost use Rattle.capture_words.specs.Settings.{plan_in, buffer_in, funnel_in, settings_in, IsFunnelInRange};
 
@@ -12,7 +12,8 @@ use crate::turns::TurnIds;
 use crate::usage::UsageFault;
 use crate::values::{
     depth_in, frames_in, full_in, half_in, hold_in, id_in, items_in, itm_in, limit_in, lose_in,
-    only_in, order_in, packets_in, pointer_in, size_in, stp_in, sync_in, turns_in, window_in,
+    only_in, order_in, packets_in, pointer_in, port_in, size_in, stp_in, sync_in, turns_in,
+    window_in,
 };
 use clap::ArgMatches;
 use item_tap::{Bounds, Choice};
@@ -66,6 +67,8 @@ pub struct Settings {
     pub buffer: BufferSettings,
     /// A funnel; an ID may be ordered twice.
     pub funnel: FunnelSettings,
+    /// The stimulus port whose bytes are written.
+    pub port: u8,
 }
 
 /// How a capture is read, by the first five options.
@@ -119,6 +122,7 @@ pub fn settings_in(matches: &ArgMatches<'_>) -> Result<Settings, UsageFault>
     ensures lose { IfOk result (λ s. s.lose ≤ GREATEST_LOSS) }
     ensures size { IfOk result (λ s. IfSome s.buffer.size (λ n. (LEAST_SIZE ≤ n) × (n ≤ GREATEST_SIZE))) }
     ensures funnel { IfOk result (λ s. IsFunnelInRange s.funnel) }
+    ensures port { IfOk result (λ s. s.port ≤ GREATEST_PORT) }
 {
     Ok(Settings {
         plan: plan_in(matches)?,
@@ -132,5 +136,6 @@ pub fn settings_in(matches: &ArgMatches<'_>) -> Result<Settings, UsageFault>
         lose: lose_in(matches)?,
         buffer: buffer_in(matches)?,
         funnel: funnel_in(matches)?,
+        port: port_in(matches)?,
     })
 }

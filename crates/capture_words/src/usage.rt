@@ -33,6 +33,10 @@ pub enum UsageFault {
     FunnelNeedsOrder,
     /// The action is `funnel`, and this is the first ID of `--order` that stands earlier already.
     OrderedTwice(SourceId),
+    /// The action is `text`, and `--itm` is absent.
+    TextNeedsItm,
+    /// The action is `text`, and `--itm` has more than one ID.
+    TextReadsOneSource,
 }
 
 /// The text of these parts, one after another.
@@ -71,6 +75,8 @@ impl UsageFault {
             UsageFault::PointerNotUnderSize => joined("usage: pointer isn't under size\n", "", ""),
             UsageFault::FunnelNeedsOrder => joined("usage: funnel needs --order\n", "", ""),
             UsageFault::OrderedTwice(id) => line_of_id(*id, " is ordered twice\n"),
+            UsageFault::TextNeedsItm => joined("usage: text needs --itm\n", "", ""),
+            UsageFault::TextReadsOneSource => joined("usage: text reads one source\n", "", ""),
         }
     }
 }

@@ -7,7 +7,7 @@ ghost use Rattle.capture_words.specs.Command.{option_name};
 ghost use Rattle.capture_words.specs.Values.{action_named, order_named, bit_named, action_in, frames_in, packets_in};
 ghost use Rattle.capture_words.specs.Values.{number_if_given, itm_in, stp_in, order_in, id_in, only_in, window_in};
 ghost use Rattle.capture_words.specs.Values.{number_given, sync_in, half_in, limit_in, items_in, lose_in, size_in};
-ghost use Rattle.capture_words.specs.Values.{pointer_in, full_in, option_in, ids_named, turns_in, hold_in, depth_in};
+ghost use Rattle.capture_words.specs.Values.{pointer_in, full_in, option_in, ids_named, turns_in, hold_in, depth_in, port_in};
 
 use crate::choices::{choice_named, window_named};
 use crate::ids::{ids_named, source_ids};
@@ -50,6 +50,8 @@ pub const DEFAULT_HOLD: u8 = 4;
 pub const GREATEST_DEPTH: u32 = 4096;
 /// The same where no number is given.
 pub const DEFAULT_DEPTH: u32 = 256;
+/// The greatest stimulus port.
+pub const GREATEST_PORT: u8 = 31;
 
 /// The action that a word names.
 #[derive(Clone, Copy, Drop)]
@@ -72,6 +74,8 @@ pub enum ActionName {
     Unring,
     /// `funnel`
     Funnel,
+    /// `text`
+    Text,
 }
 
 impl ActionName {
@@ -89,6 +93,7 @@ impl ActionName {
             "ring" => Some(ActionName::Ring),
             "unring" => Some(ActionName::Unring),
             "funnel" => Some(ActionName::Funnel),
+            "text" => Some(ActionName::Text),
             _ => None,
         }
     }
@@ -130,7 +135,8 @@ fn text_of<'a>(matches: &ArgMatches<'a>, option: CommandOption) -> Option<&'a st
     text_named(matches, option.name())
 }
 
-/// The action: `show`, `split`, `check`, `rebuild`, `exercise`, `realign`, `ring`, `unring` or `funnel`.
+/// The action: `show`, `split`, `check`, `rebuild`, `exercise`, `realign`, `ring`, `unring`, `funnel` or
+/// `text`.
 pub fn action_in(matches: &ArgMatches<'_>) -> Result<ActionName, UsageFault>
     ensures { result ≡ action_in (rows_of (found_of matches.now)) }
 {
@@ -389,6 +395,15 @@ pub fn depth_in(matches: &ArgMatches<'_>) -> Result<usize, UsageFault>
         GREATEST_DEPTH,
     )?;
     Ok(depth as usize)
+}
+
+/// The stimulus port whose bytes are written: 0 to 31, and 0 where it is absent.
+pub fn port_in(matches: &ArgMatches<'_>) -> Result<u8, UsageFault>
+    ensures value { result ≡ port_in (rows_of (found_of matches.now)) }
+    ensures in_range { IfOk result (λ n. n ≤ GREATEST_PORT) }
+{
+    let port = number_given(matches, CommandOption::Port, 0, 0, u32::from(GREATEST_PORT))?;
+    Ok(port as u8)
 }
 
 /// How many bytes are read at most: 1 to the greatest limit, which holds where it is absent.
