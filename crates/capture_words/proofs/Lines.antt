@@ -6,12 +6,13 @@ use Rattle.std.proofs.lemmas.Grind.{common_steps}
 use Rattle.capture_words.specs.Texts.{usage_line, IsFault}
 use Rattle.capture_words.specs.declared.option.CommandOption.TheVariants.{Frames, Packets, Itm, Stp, StpOrder, Id}
 use Rattle.capture_words.specs.declared.option.CommandOption.TheVariants.{Only, Window, Sync, Half, Limit, Items}
-use Rattle.capture_words.specs.declared.option.CommandOption.TheVariants.{Lose, Size, Pointer, Full}
+use Rattle.capture_words.specs.declared.option.CommandOption.TheVariants.{Lose, Size, Pointer, Full, Order, Hold, Depth, Port}
 use Rattle.capture_words.specs.declared.usage.TheConstants.{LINE_ROOM}
 use Rattle.capture_words.specs.declared.usage.UsageFault.{UsageFault}
 use Rattle.capture_words.specs.declared.usage.UsageFault.TheVariants.{UnknownAction, BadValue, SplitNeedsId}
 use Rattle.capture_words.specs.declared.usage.UsageFault.TheVariants.{MappedTwice, RingNeedsSize, UnringNeedsSize}
-use Rattle.capture_words.specs.declared.usage.UsageFault.TheVariants.{PointerNotUnderSize}
+use Rattle.capture_words.specs.declared.usage.UsageFault.TheVariants.{PointerNotUnderSize, FunnelNeedsOrder, OrderedTwice}
+use Rattle.capture_words.specs.declared.usage.UsageFault.TheVariants.{TextNeedsItm, TextReadsOneSource}
 
 pub fits : (fault : UsageFault) → IsFault fault → length (usage_line fault) ≤ LINE_ROOM
 fits UnknownAction is = lit≤ tt
@@ -31,6 +32,10 @@ fits (BadValue Lose) is = lit≤ tt
 fits (BadValue Size) is = lit≤ tt
 fits (BadValue Pointer) is = lit≤ tt
 fits (BadValue Full) is = lit≤ tt
+fits (BadValue Order) is = lit≤ tt
+fits (BadValue Hold) is = lit≤ tt
+fits (BadValue Depth) is = lit≤ tt
+fits (BadValue Port) is = lit≤ tt
 fits SplitNeedsId is = lit≤ tt
 fits (MappedTwice id) is =
     let number : length (decimal id) ≤ 3 = length-decimal-le 3 id (omega arith) (omega (arith, is)) (omega (arith, is)) in
@@ -38,6 +43,12 @@ fits (MappedTwice id) is =
 fits RingNeedsSize is = lit≤ tt
 fits UnringNeedsSize is = lit≤ tt
 fits PointerNotUnderSize is = lit≤ tt
+fits FunnelNeedsOrder is = lit≤ tt
+fits TextNeedsItm is = lit≤ tt
+fits TextReadsOneSource is = lit≤ tt
+fits (OrderedTwice id) is =
+    let number : length (decimal id) ≤ 3 = length-decimal-le 3 id (omega arith) (omega (arith, is)) (omega (arith, is)) in
+    grind (arith, common_steps, number)
 
 pub tight : (fault : UsageFault) × (length (usage_line fault) ≡ LINE_ROOM)
 tight = (PointerNotUnderSize, refl)

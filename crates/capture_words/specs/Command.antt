@@ -4,10 +4,11 @@ use Rattle.clap.specs.Words.{App, Row, Rule, Text, new_app, new_rule, with_rule,
 use Rattle.clap.specs.Faults.{fault_of}
 use Rattle.clap.specs.Kinds.{Kinds}
 use Rattle.clap.specs.declared.builder.ArgAction.TheVariants.{Set}
+use Rattle.capture_words.specs.declared.option.TheConstants.{ALL_OPTIONS}
 use Rattle.capture_words.specs.declared.option.CommandOption.{CommandOption}
 use Rattle.capture_words.specs.declared.option.CommandOption.TheVariants.{Frames, Packets, Itm, Stp, StpOrder, Id}
 use Rattle.capture_words.specs.declared.option.CommandOption.TheVariants.{Only, Window, Sync, Half, Limit, Items}
-use Rattle.capture_words.specs.declared.option.CommandOption.TheVariants.{Lose, Size, Pointer, Full}
+use Rattle.capture_words.specs.declared.option.CommandOption.TheVariants.{Lose, Size, Pointer, Full, Order, Hold, Depth, Port}
 
 -- the name of an option, after the two dashes
 abbrev pub option_name : CommandOption → Text
@@ -27,6 +28,10 @@ option_name Lose = codes "lose"
 option_name Size = codes "size"
 option_name Pointer = codes "pointer"
 option_name Full = codes "full"
+option_name Order = codes "order"
+option_name Hold = codes "hold"
+option_name Depth = codes "depth"
+option_name Port = codes "port"
 
 -- an option has one value, and is given once at most
 abbrev pub option_rule : CommandOption → Rule
@@ -36,18 +41,13 @@ option_rule option = record (new_rule (option_name option)) { long = Some (optio
 abbrev pub action_rule : Rule
 action_rule = record (new_rule (codes "action")) { required = true; action = Some Set }
 
-abbrev pub all_options : List CommandOption
-all_options =
-    Frames ∷ Packets ∷ Itm ∷ Stp ∷ StpOrder ∷ Id ∷ Only ∷ Window ∷ Sync ∷ Half ∷ Limit ∷ Items ∷ Lose
-    ∷ Size ∷ Pointer ∷ Full ∷ []
-
 abbrev pub with_options : List CommandOption → App → App
 with_options [] app = app
 with_options (option ∷ options) app = with_options options (with_rule app (option_rule option))
 
 -- the command, with its action and its options, and no defaults of clap's
 unfoldable pub trace_app : App
-trace_app = with_options all_options (with_rule (new_app (codes "trace")) action_rule)
+trace_app = with_options ALL_OPTIONS (with_rule (new_app (codes "trace")) action_rule)
 
 -- the entries of the words, by clap's function of a simple command's words; the program's name is in front
 abbrev pub rows_of_words : List Text → List Row

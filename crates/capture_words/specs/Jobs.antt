@@ -1,81 +1,29 @@
 -- The job of the entries, or the first fault.
 use Rattle.std.specs.Prelude.{◌≡◌, ◌≤◌, ◌<◌, ℕ, ◌^◌, List, [], ◌∷◌, ◌++◌, Bool, true, Option, Some, None, Result}
-use Rattle.std.specs.Prelude.{Ok, Err, ◌==◌, nat_lt, if◌then◌else◌, option_map}
+use Rattle.std.specs.Prelude.{length, Ok, Err, ◌==◌, nat_lt, if◌then◌else◌, option_map}
 use Rattle.std.specs.List.{list_any}
 use Rattle.clap.specs.Words.{Row}
 use Rattle.trace_values.specs.declared.reading_modes.FramesMode.{FramesMode}
 use Rattle.source_events.specs.Plan.{is_sound}
 use Rattle.source_events.specs.declared.plan.Plan.{Plan}
-use Rattle.capture_words.specs.Values.{action_in, frames_in, packets_in, itm_in, stp_in, order_in, id_in, only_in}
-use Rattle.capture_words.specs.Values.{window_in, sync_in, half_in, limit_in, items_in, lose_in, size_in, pointer_in}
-use Rattle.capture_words.specs.Values.{full_in}
+use Rattle.capture_words.specs.Settings.{◌>>=◌, settings_in}
+use Rattle.capture_words.specs.Values.{action_in}
 use Rattle.capture_words.specs.declared.job.Task.{Task}
 use Rattle.capture_words.specs.declared.job.Task.TheVariants.{Show, Split, Check, Rebuild, Exercise}
-use Rattle.capture_words.specs.declared.job.Task.TheVariants.{Realign, Ring, Unring}
+use Rattle.capture_words.specs.declared.job.Task.TheVariants.{Realign, Ring, Unring, Funnel, Text}
 use Rattle.capture_words.specs.declared.job.Job.{Job}
 use Rattle.capture_words.specs.declared.settings.Settings.{Settings}
 use Rattle.capture_words.specs.declared.usage.UsageFault.{UsageFault}
 use Rattle.capture_words.specs.declared.usage.UsageFault.TheVariants.{SplitNeedsId, MappedTwice, RingNeedsSize}
-use Rattle.capture_words.specs.declared.usage.UsageFault.TheVariants.{UnringNeedsSize, PointerNotUnderSize}
+use Rattle.capture_words.specs.declared.usage.UsageFault.TheVariants.{UnringNeedsSize, PointerNotUnderSize, FunnelNeedsOrder}
+use Rattle.capture_words.specs.declared.usage.UsageFault.TheVariants.{OrderedTwice, TextNeedsItm, TextReadsOneSource}
 use Rattle.capture_words.specs.declared.values.ActionName.{ActionName}
 use Rattle.capture_words.specs.declared.values.ActionName.TheVariants.{Show as ShowName, Split as SplitName}
 use Rattle.capture_words.specs.declared.values.ActionName.TheVariants.{Check as CheckName, Rebuild as RebuildName}
 use Rattle.capture_words.specs.declared.values.ActionName.TheVariants.{Exercise as ExerciseName, Realign as RealignName}
 use Rattle.capture_words.specs.declared.values.ActionName.TheVariants.{Ring as RingName, Unring as UnringName}
-
-infixl 10 ◌>>=◌
--- a fault, or else what is made of the value
-abbrev ◌>>=◌ : {A B : Type 0} → Result A UsageFault → (A → Result B UsageFault) → Result B UsageFault
-Err fault >>= next = Err fault
-Ok value >>= next = next value
-
--- what all options say, or the first fault in the order of the command
-abbrev pub settings_in : List Row → Result Settings UsageFault
-settings_in rows = do
-  frames ← frames_in rows
-  packets ← packets_in rows
-  itm ← itm_in rows
-  stp ← stp_in rows
-  order ← order_in rows
-  id ← id_in rows
-  only ← only_in rows
-  window ← window_in rows
-  sync ← sync_in rows
-  half ← half_in rows
-  limit ← limit_in rows
-  items ← items_in rows
-  lose ← lose_in rows
-  size ← size_in rows
-  pointer ← pointer_in rows
-  full ← full_in rows
-  Ok (record {
-    frames = frames;
-    packets = packets;
-    itm = itm;
-    stp = stp;
-    order = order;
-    id = id;
-    only = only;
-    window = window;
-    sync = sync;
-    half = half;
-    limit = limit;
-    items = items;
-    lose = lose;
-    size = size;
-    pointer = pointer;
-    full = full;
-  })
-
--- how a capture is read
-abbrev pub plan_of : Settings → Plan
-plan_of s = record {
-  frames = s.frames;
-  packets = s.packets;
-  itm = s.itm;
-  stp = s.stp;
-  order = s.order;
-}
+use Rattle.capture_words.specs.declared.values.ActionName.TheVariants.{Funnel as FunnelName, Text as TextName}
+use Rattle.trace_funnel.specs.Order.{are_apart}
 
 -- the first of these IDs that stands earlier already, among them or before them
 abbrev pub again_after : List ℕ → List ℕ → Option ℕ
@@ -83,15 +31,15 @@ again_after before [] = None
 again_after before (x ∷ xs) = if list_any (λ y. y == x) before then Some x else again_after (before ++ x ∷ []) xs
 
 -- the first ID that is mapped twice, of those of the ITM sources and then those of the STP sources
-abbrev pub mapped_twice : Settings → Option ℕ
-mapped_twice s = again_after [] (s.itm ++ s.stp)
+abbrev pub mapped_twice : Plan → Option ℕ
+mapped_twice plan = again_after [] (plan.itm ++ plan.stp)
 
 abbrev pub fault_or : {A : Type 0} → Option UsageFault → A → Result A UsageFault
 fault_or (Some fault) value = Err fault
 fault_or None value = Ok value
 
-abbrev pub plan_with : Settings → Result Plan UsageFault
-plan_with s = fault_or (option_map MappedTwice (mapped_twice s)) (plan_of s)
+abbrev pub plan_with : Plan → Result Plan UsageFault
+plan_with plan = fault_or (option_map MappedTwice (mapped_twice plan)) plan
 
 -- `split` needs an ID, and maps none
 abbrev pub split_with : FramesMode → Option ℕ → Result Task UsageFault
@@ -109,16 +57,35 @@ unring_with None pointer full = Err UnringNeedsSize
 unring_with (Some size) pointer full =
     if nat_lt pointer size then Ok (Unring size pointer full) else Err PointerNotUnderSize
 
+-- `funnel` needs the order of its sources, in which none is twice
+abbrev pub turns_with : Option (List ℕ) → Result (List ℕ) UsageFault
+turns_with None = Err FunnelNeedsOrder
+turns_with (Some order) = fault_or (option_map OrderedTwice (again_after [] order)) order
+
+abbrev pub funnel_with : Settings → Result Task UsageFault
+funnel_with s = do
+  plan ← plan_with s.plan
+  order ← turns_with s.funnel.order
+  Ok (Funnel plan s.sync s.half order s.funnel.hold s.funnel.depth)
+
+-- `text` reads one source that sends ITM packets, and no system trace
+abbrev pub text_with : List ℕ → Plan → ℕ → Result Task UsageFault
+text_with [] plan port = Err TextNeedsItm
+text_with (id ∷ []) plan port = Ok (Text (record plan { itm = id ∷ []; stp = [] }) port)
+text_with (id ∷ other ∷ ids) plan port = Err TextReadsOneSource
+
 -- the task of an action with what it needs of the options
 abbrev pub task_with : ActionName → Settings → Result Task UsageFault
-task_with ShowName s = plan_with s >>= (λ plan. Ok (Show plan s.only s.window))
-task_with SplitName s = split_with s.frames s.id
-task_with CheckName s = plan_with s >>= (λ plan. Ok (Check plan))
-task_with RebuildName s = plan_with s >>= (λ plan. Ok (Rebuild plan s.sync s.half))
+task_with ShowName s = plan_with s.plan >>= (λ plan. Ok (Show plan s.only s.window))
+task_with SplitName s = split_with s.plan.frames s.id
+task_with CheckName s = plan_with s.plan >>= (λ plan. Ok (Check plan))
+task_with RebuildName s = plan_with s.plan >>= (λ plan. Ok (Rebuild plan s.sync s.half))
 task_with ExerciseName s = Ok (Exercise s.items s.lose)
 task_with RealignName s = Ok Realign
-task_with RingName s = ring_with s.size
-task_with UnringName s = unring_with s.size s.pointer s.full
+task_with RingName s = ring_with s.buffer.size
+task_with UnringName s = unring_with s.buffer.size s.buffer.pointer s.buffer.full
+task_with FunnelName s = funnel_with s
+task_with TextName s = text_with s.plan.itm s.plan s.port
 
 -- The first fault of the action's name, of the options' values in the order of the command, and of what the
 -- action needs; and where there is none, the job. An option that the action doesn't use has no effect.
@@ -131,7 +98,8 @@ job_of rows = do
 
 -- What is sure of a task: its plan is sound, and for a script there are at most eight half synchronisations in a gap.
 -- From 1 to 1,000,000 items are made, of which at most 1,000,000 bytes are lost. A trace buffer has from 16 to 2^24
--- bytes, and its write pointer is one of them.
+-- bytes, and its write pointer is one of them. A funnel has some sources from 1 to 126, none twice. The text of
+-- a stimulus port, 0 to 31, is that of one ITM source.
 abbrev pub IsSoundTask : Task → Type 0
 IsSoundTask (Show plan only window) = is_sound plan ≡ true
 IsSoundTask (Split frames id) = Unit {0}
@@ -141,3 +109,7 @@ IsSoundTask (Exercise items lose) = (1 ≤ items) × (items ≤ 1000000) × (los
 IsSoundTask Realign = Unit {0}
 IsSoundTask (Ring size) = (16 ≤ size) × (size ≤ 2 ^ 24)
 IsSoundTask (Unring size pointer full) = (16 ≤ size) × (size ≤ 2 ^ 24) × (pointer < size)
+IsSoundTask (Funnel plan sync half order hold depth) =
+    (is_sound plan ≡ true) × (half ≤ 8) × (1 ≤ length order) × (are_apart order ≡ true)
+    × ((1 ≤ hold) × (hold ≤ 15)) × ((1 ≤ depth) × (depth ≤ 4096))
+IsSoundTask (Text plan port) = (is_sound plan ≡ true) × (length plan.itm ≡ 1) × (plan.stp ≡ []) × (port ≤ 31)

@@ -1,5 +1,6 @@
 pub mod Command
 pub mod Values
+pub mod Settings
 pub mod Jobs
 pub mod Texts
 pub mod Choices

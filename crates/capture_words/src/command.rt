@@ -4,13 +4,13 @@ ghost use Rattle.std.specs.Prelude.{◌≡◌, IfOk, codes};
 ghost use Rattle.clap.specs.Words.{app_of, with_rule, new_app};
 ghost use Rattle.capture_words.specs.Command.{trace_app, option_rule, action_rule};
 
-use crate::option::CommandOption;
+use crate::option::{ALL_OPTIONS, CommandOption};
 use clap::{Arg, ArgAction, Command};
 use std::alloc::{AllocError, Global};
 
 /// What `--help` says below the options: how a capture is given.
 const CAPTURE_HELP: &str =
-    "The capture, or for rebuild the script and for unring the image, is read from standard input, as in: \
+    "The capture, or for rebuild and funnel the script and for unring the image, is read from standard input, as in: \
     ./lipparoy check < CAPTURE";
 
 /// What `--help` says of the action.
@@ -18,7 +18,8 @@ const ACTION_HELP: &str =
     "show lists events, split writes the bytes of one source, check counts those of each, rebuild \
     writes the capture of a script, exercise tries the tool on a capture of its own, realign writes a capture \
     that lost bits in whole bytes again, ring writes the image of a trace buffer that took a capture, unring \
-    writes the bytes of such an image from the oldest on";
+    writes the bytes of such an image from the oldest on, funnel writes the capture of a script whose sources \
+    take turns, text writes what software sent to a stimulus port";
 
 /// The command with this option besides. It takes one value, and is given once at most.
 fn with_option<'a>(
@@ -53,21 +54,9 @@ fn with_action<'a>(alloc: Global) -> Result<Command<'a>, AllocError>
 pub fn trace_command<'a>(alloc: Global) -> Result<Command<'a>, AllocError>
     ensures { IfOk result (λ c. app_of c ≡ trace_app) }
 {
-    let command = with_action(alloc)?;
-    let command = with_option(alloc, command, CommandOption::Frames)?;
-    let command = with_option(alloc, command, CommandOption::Packets)?;
-    let command = with_option(alloc, command, CommandOption::Itm)?;
-    let command = with_option(alloc, command, CommandOption::Stp)?;
-    let command = with_option(alloc, command, CommandOption::StpOrder)?;
-    let command = with_option(alloc, command, CommandOption::Id)?;
-    let command = with_option(alloc, command, CommandOption::Only)?;
-    let command = with_option(alloc, command, CommandOption::Window)?;
-    let command = with_option(alloc, command, CommandOption::Sync)?;
-    let command = with_option(alloc, command, CommandOption::Half)?;
-    let command = with_option(alloc, command, CommandOption::Limit)?;
-    let command = with_option(alloc, command, CommandOption::Items)?;
-    let command = with_option(alloc, command, CommandOption::Lose)?;
-    let command = with_option(alloc, command, CommandOption::Size)?;
-    let command = with_option(alloc, command, CommandOption::Pointer)?;
-    with_option(alloc, command, CommandOption::Full)
+    let mut command = with_action(alloc)?;
+    for option in ALL_OPTIONS {
+        command = with_option(alloc, command, option)?;
+    }
+    Ok(command)
 }

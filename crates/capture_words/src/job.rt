@@ -1,21 +1,24 @@
 //! The job of the entries.
 
-ghost use Rattle.std.specs.Prelude.{◌≡◌, ◌≤◌, true, IfOk, IfSome};
+ghost use Rattle.std.specs.Prelude.{◌≡◌, ◌≤◌, length, true, IfOk, IfSome};
 ghost use Rattle.std.specs.List.{All};
 ghost use Rattle.capture_words.specs.declared.values.TheConstants.{GREATEST_LIMIT, GREATEST_HALF, GREATEST_ITEMS};
-ghost use Rattle.capture_words.specs.declared.values.TheConstants.{GREATEST_LOSS, LEAST_SIZE, GREATEST_SIZE};
+ghost use Rattle.capture_words.specs.declared.values.TheConstants.{GREATEST_LOSS, LEAST_SIZE, GREATEST_SIZE, GREATEST_PORT};
 ghost use Rattle.clap.specs.Words.{rows_of, found_of};
 ghost use Rattle.source_events.specs.Plan.{is_sound};
-ghost use Rattle.capture_words.specs.Jobs.{plan_with, split_with, ring_with, unring_with};
+ghost use Rattle.trace_funnel.specs.Order.{are_apart};
+ghost use Rattle.capture_words.specs.Settings.{IsFunnelInRange};
+ghost use Rattle.capture_words.specs.Jobs.{plan_with, split_with, ring_with, unring_with, turns_with, funnel_with, text_with};
 ghost use Rattle.capture_words.specs.Jobs.{task_with, job_of, IsSoundTask};
 
-use crate::ids::mapped_twice;
-use crate::settings::{Settings, settings_in};
+use crate::ids::{first_again, mapped_twice};
+use crate::settings::{BufferSettings, FunnelSettings, Settings, settings_in};
+use crate::turns::TurnIds;
 use crate::usage::UsageFault;
 use crate::values::{ActionName, action_in};
 use clap::ArgMatches;
 use item_tap::{Bounds, Choice};
-use source_events::Plan;
+use source_events::{Plan, SourceIds};
 use trace_values::{FramesMode, SourceId};
 
 /// What is done with a capture.
@@ -71,6 +74,28 @@ pub enum Task {
         /// Whether the buffer took as many bytes as it has, or more, so that its oldest byte is that at the pointer.
         full: bool,
     },
+    /// The capture of a script whose bytes pass through a funnel.
+    Funnel {
+        /// What the script's sources send. Its modes make no difference.
+        plan: Plan,
+        /// How many frames are written for each full synchronisation, or 0 for none.
+        sync: u32,
+        /// How many half synchronisations are written in each gap of a frame, at most 8.
+        half: u8,
+        /// The funnel's sources in the order of their turns, each from 1 to 126, and none twice.
+        order: TurnIds,
+        /// How many bytes one gives in its turn at most, 1 to 15.
+        hold: u8,
+        /// How many bytes are kept of one at most, 1 to 4,096.
+        depth: usize,
+    },
+    /// What software wrote to a stimulus port.
+    Text {
+        /// How the capture is read. It maps one source, which sends ITM packets.
+        plan: Plan,
+        /// The port, 0 to 31.
+        port: u8,
+    },
 }
 
 /// What the words ask for.
@@ -82,109 +107,165 @@ pub struct Job {
     pub limit: u64,
 }
 
-/// How the capture is read, or that an ID is mapped twice.
-fn plan_with(settings: Settings) -> Result<Plan, UsageFault>
-    requires itm { All (λ n. (1 ≤ n) × (n ≤ 111)) settings.itm }
-    requires stp { All (λ n. (1 ≤ n) × (n ≤ 111)) settings.stp }
-    ensures plan { result ≡ plan_with settings }
+/// The plan, or that an ID is mapped twice.
+fn plan_with(plan: Plan) -> Result<Plan, UsageFault>
+    requires itm { All (λ n. (1 ≤ n) × (n ≤ 111)) plan.itm }
+    requires stp { All (λ n. (1 ≤ n) × (n ≤ 111)) plan.stp }
+    ensures plan { result ≡ plan_with plan }
     ensures sound { IfOk result (λ plan. is_sound plan ≡ true) }
 {
-    match mapped_twice(&settings.itm, &settings.stp) {
+    match mapped_twice(&plan) {
         Some(id) => Err(UsageFault::MappedTwice(id)),
-        None => Ok(Plan {
-            frames: settings.frames,
-            packets: settings.packets,
-            itm: settings.itm,
-            stp: settings.stp,
-            order: settings.order,
-        }),
+        None => Ok(plan),
     }
 }
 
 /// The bytes of a source, whose ID is needed.
-fn split_with(settings: &Settings) -> Result<Task, UsageFault>
-    ensures task { result ≡ split_with settings.now.frames settings.now.id }
+fn split_with(frames: FramesMode, id: Option<SourceId>) -> Result<Task, UsageFault>
+    ensures task { result ≡ split_with frames id }
     ensures sound { IfOk result IsSoundTask }
 {
-    match settings.id {
-        Some(id) => Ok(Task::Split {
-            frames: settings.frames,
-            id,
-        }),
+    match id {
+        Some(id) => Ok(Task::Split { frames, id }),
         None => Err(UsageFault::SplitNeedsId),
     }
 }
 
 /// The image of a trace buffer, whose size is needed.
-fn ring_with(settings: &Settings) -> Result<Task, UsageFault>
-    requires { IfSome settings.now.size (λ n. (LEAST_SIZE ≤ n) × (n ≤ GREATEST_SIZE)) }
-    ensures task { result ≡ ring_with settings.now.size }
+fn ring_with(size: Option<usize>) -> Result<Task, UsageFault>
+    requires { IfSome size (λ n. (LEAST_SIZE ≤ n) × (n ≤ GREATEST_SIZE)) }
+    ensures task { result ≡ ring_with size }
     ensures sound { IfOk result IsSoundTask }
 {
-    match settings.size {
+    match size {
         Some(size) => Ok(Task::Ring { size }),
         None => Err(UsageFault::RingNeedsSize),
     }
 }
 
 /// The bytes of an image in order. Its size is needed, and its write pointer is under it.
-fn unring_with(settings: &Settings) -> Result<Task, UsageFault>
-    requires { IfSome settings.now.size (λ n. (LEAST_SIZE ≤ n) × (n ≤ GREATEST_SIZE)) }
-    ensures task { result ≡ unring_with settings.now.size settings.now.pointer settings.now.full }
+fn unring_with(buffer: BufferSettings) -> Result<Task, UsageFault>
+    requires { IfSome buffer.size (λ n. (LEAST_SIZE ≤ n) × (n ≤ GREATEST_SIZE)) }
+    ensures task { result ≡ unring_with buffer.size buffer.pointer buffer.full }
     ensures sound { IfOk result IsSoundTask }
 {
-    let Some(size) = settings.size else {
+    let Some(size) = buffer.size else {
         return Err(UsageFault::UnringNeedsSize);
     };
-    let pointer = settings.pointer;
+    let BufferSettings { pointer, full, .. } = buffer;
     if pointer < size {
         Ok(Task::Unring {
             size,
             pointer,
-            full: settings.full,
+            full,
         })
     } else {
         Err(UsageFault::PointerNotUnderSize)
     }
 }
 
+/// The sources of a funnel, which are needed, and of which none is ordered twice.
+fn turns_with(order: Option<TurnIds>) -> Result<TurnIds, UsageFault>
+    requires in_range { IfSome order (All (λ n. (1 ≤ n) × (n ≤ 126))) }
+    requires some { IfSome order (λ ids. 1 ≤ length ids) }
+    ensures order { result ≡ turns_with order }
+    ensures some { IfOk result (λ ids. 1 ≤ length ids) }
+    ensures apart { IfOk result (λ ids. are_apart ids ≡ true) }
+{
+    let Some(order) = order else {
+        return Err(UsageFault::FunnelNeedsOrder);
+    };
+    match first_again(order.as_slice()) {
+        Some(id) => Err(UsageFault::OrderedTwice(id)),
+        None => Ok(order),
+    }
+}
+
+/// The capture of a script through a funnel.
+fn funnel_with(settings: Settings) -> Result<Task, UsageFault>
+    requires itm { All (λ n. (1 ≤ n) × (n ≤ 111)) settings.plan.itm }
+    requires stp { All (λ n. (1 ≤ n) × (n ≤ 111)) settings.plan.stp }
+    requires half { settings.half ≤ GREATEST_HALF }
+    requires funnel { IsFunnelInRange settings.funnel }
+    ensures task { result ≡ funnel_with settings }
+    ensures sound { IfOk result IsSoundTask }
+{
+    let Settings {
+        plan,
+        sync,
+        half,
+        funnel,
+        ..
+    } = settings;
+    let FunnelSettings { order, hold, depth } = funnel;
+    Ok(Task::Funnel {
+        plan: plan_with(plan)?,
+        sync,
+        half,
+        order: turns_with(order)?,
+        hold,
+        depth,
+    })
+}
+
+/// What software wrote to a port of a source, which is needed and alone.
+fn text_with(plan: Plan, port: u8) -> Result<Task, UsageFault>
+    requires itm { All (λ n. (1 ≤ n) × (n ≤ 111)) plan.itm }
+    requires port { port ≤ GREATEST_PORT }
+    ensures task { result ≡ text_with plan.itm plan port }
+    ensures sound { IfOk result IsSoundTask }
+{
+    match plan.itm.as_slice().len() {
+        0 => Err(UsageFault::TextNeedsItm),
+        1 => Ok(Task::Text {
+            plan: Plan {
+                frames: plan.frames,
+                packets: plan.packets,
+                itm: plan.itm,
+                stp: SourceIds::new(),
+                order: plan.order,
+            },
+            port,
+        }),
+        _ => Err(UsageFault::TextReadsOneSource),
+    }
+}
+
 /// The task of an action, with what it needs of the options.
 fn task_with(name: ActionName, settings: Settings) -> Result<Task, UsageFault>
-    requires itm { All (λ n. (1 ≤ n) × (n ≤ 111)) settings.itm }
-    requires stp { All (λ n. (1 ≤ n) × (n ≤ 111)) settings.stp }
+    requires itm { All (λ n. (1 ≤ n) × (n ≤ 111)) settings.plan.itm }
+    requires stp { All (λ n. (1 ≤ n) × (n ≤ 111)) settings.plan.stp }
     requires half { settings.half ≤ GREATEST_HALF }
     requires items { (1 ≤ settings.items) × (settings.items ≤ GREATEST_ITEMS) }
     requires lose { settings.lose ≤ GREATEST_LOSS }
-    requires size { IfSome settings.size (λ n. (LEAST_SIZE ≤ n) × (n ≤ GREATEST_SIZE)) }
+    requires funnel { IsFunnelInRange settings.funnel }
+    requires port { settings.port ≤ GREATEST_PORT }
+    requires size { IfSome settings.buffer.size (λ n. (LEAST_SIZE ≤ n) × (n ≤ GREATEST_SIZE)) }
     ensures task { result ≡ task_with name settings }
     ensures sound { IfOk result IsSoundTask }
 {
     match name {
-        ActionName::Show => {
-            let (only, window) = (settings.only, settings.window);
-            Ok(Task::Show {
-                plan: plan_with(settings)?,
-                only,
-                window,
-            })
-        }
-        ActionName::Split => split_with(&settings),
-        ActionName::Check => Ok(Task::Check(plan_with(settings)?)),
-        ActionName::Rebuild => {
-            let (sync, half) = (settings.sync, settings.half);
-            Ok(Task::Rebuild {
-                plan: plan_with(settings)?,
-                sync,
-                half,
-            })
-        }
+        ActionName::Show => Ok(Task::Show {
+            plan: plan_with(settings.plan)?,
+            only: settings.only,
+            window: settings.window,
+        }),
+        ActionName::Split => split_with(settings.plan.frames, settings.id),
+        ActionName::Check => Ok(Task::Check(plan_with(settings.plan)?)),
+        ActionName::Rebuild => Ok(Task::Rebuild {
+            plan: plan_with(settings.plan)?,
+            sync: settings.sync,
+            half: settings.half,
+        }),
         ActionName::Exercise => Ok(Task::Exercise {
             items: settings.items,
             lose: settings.lose,
         }),
         ActionName::Realign => Ok(Task::Realign),
-        ActionName::Ring => ring_with(&settings),
-        ActionName::Unring => unring_with(&settings),
+        ActionName::Ring => ring_with(settings.buffer.size),
+        ActionName::Unring => unring_with(settings.buffer),
+        ActionName::Funnel => funnel_with(settings),
+        ActionName::Text => text_with(settings.plan, settings.port),
     }
 }
 

@@ -11,11 +11,13 @@ mod option;
 mod reading;
 pub mod rows;
 mod settings;
+mod turns;
 mod usage;
 mod values;
 
 pub use job::{Job, Task};
 pub use option::CommandOption;
 pub use reading::{Asked, read_words};
+pub use turns::TurnIds;
 pub use usage::{LINE_ROOM, UsageFault};
 pub use values::GREATEST_LIMIT;

@@ -38,7 +38,39 @@ pub enum CommandOption {
     Pointer,
     /// `--full`: whether a trace buffer has taken as many bytes as it has, or more.
     Full,
+    /// `--order`: the sources of a funnel, in the order of their turns.
+    Order,
+    /// `--hold`: how many bytes a source of a funnel gives in its turn at most.
+    Hold,
+    /// `--depth`: how many bytes a funnel keeps of a source at most.
+    Depth,
+    /// `--port`: the stimulus port whose text is written.
+    Port,
 }
+
+/// The options, in that order.
+pub(crate) const ALL_OPTIONS: [CommandOption; 20] = [
+    CommandOption::Frames,
+    CommandOption::Packets,
+    CommandOption::Itm,
+    CommandOption::Stp,
+    CommandOption::StpOrder,
+    CommandOption::Id,
+    CommandOption::Only,
+    CommandOption::Window,
+    CommandOption::Sync,
+    CommandOption::Half,
+    CommandOption::Limit,
+    CommandOption::Items,
+    CommandOption::Lose,
+    CommandOption::Size,
+    CommandOption::Pointer,
+    CommandOption::Full,
+    CommandOption::Order,
+    CommandOption::Hold,
+    CommandOption::Depth,
+    CommandOption::Port,
+];
 
 impl CommandOption {
     /// The name of the option, after the two dashes, at the lifetime of the command that takes it.
@@ -63,6 +95,10 @@ impl CommandOption {
             CommandOption::Size => "size",
             CommandOption::Pointer => "pointer",
             CommandOption::Full => "full",
+            CommandOption::Order => "order",
+            CommandOption::Hold => "hold",
+            CommandOption::Depth => "depth",
+            CommandOption::Port => "port",
         }
     }
 
@@ -122,6 +158,18 @@ impl CommandOption {
                 "Whether the trace buffer of unring took as many bytes as it has, or more: 0 (no, the default) or \
                 1 (yes)"
             }
+            CommandOption::Order => {
+                "The sources of funnel, in the order of their turns: one to sixteen from 1 to 126, with commas \
+                between"
+            }
+            CommandOption::Hold => {
+                "How many bytes a source of funnel gives in its turn at most: 1 to 15, 4 where it is not given"
+            }
+            CommandOption::Depth => {
+                "How many bytes funnel keeps of a source at most: 1 to 4096, 256 where it is not given"
+            }
+            CommandOption::Port =>
+                "The stimulus port whose bytes text writes: 0 (the default) to 31",
         }
     }
 }

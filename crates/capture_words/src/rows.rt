@@ -13,14 +13,17 @@ ghost use Rattle.item_tap.specs.declared.choice.Kind.TheVariants.{Itm as ItmKind
 ghost use Rattle.item_tap.specs.declared.choice.Kind.TheVariants.{Raw as RawKind, Trigger as TriggerKind};
 ghost use Rattle.capture_words.specs.Rows.{does, lists, faults, AllAnswered, Refuses, planned};
 ghost use Rattle.capture_words.specs.declared.job.Task.TheVariants.{Show, Split, Check, Rebuild, Exercise};
-ghost use Rattle.capture_words.specs.declared.job.Task.TheVariants.{Realign, Ring, Unring};
+ghost use Rattle.capture_words.specs.declared.job.Task.TheVariants.{Realign, Ring, Unring, Funnel, Text};
 ghost use Rattle.capture_words.specs.declared.option.CommandOption.TheVariants.{Frames, Packets, Itm, Stp, StpOrder};
 ghost use Rattle.capture_words.specs.declared.option.CommandOption.TheVariants.{Id, Only, Window, Sync};
 ghost use Rattle.capture_words.specs.declared.option.CommandOption.TheVariants.{Half, Limit, Items, Lose};
-ghost use Rattle.capture_words.specs.declared.option.CommandOption.TheVariants.{Size, Pointer, Full};
+ghost use Rattle.capture_words.specs.declared.option.CommandOption.TheVariants.{Size, Pointer, Full, Order, Hold, Depth};
+ghost use Rattle.capture_words.specs.declared.option.CommandOption.TheVariants.{Port as PortOption};
 ghost use Rattle.capture_words.specs.declared.usage.UsageFault.TheVariants.{UnknownAction, BadValue, SplitNeedsId};
 ghost use Rattle.capture_words.specs.declared.usage.UsageFault.TheVariants.{MappedTwice, RingNeedsSize};
 ghost use Rattle.capture_words.specs.declared.usage.UsageFault.TheVariants.{UnringNeedsSize, PointerNotUnderSize};
+ghost use Rattle.capture_words.specs.declared.usage.UsageFault.TheVariants.{FunnelNeedsOrder, OrderedTwice, TextNeedsItm};
+ghost use Rattle.capture_words.specs.declared.usage.UsageFault.TheVariants.{TextReadsOneSource};
 
 /// Words that ask for a job, in several orders and spellings.
 pub fn asks()
@@ -85,6 +88,19 @@ pub fn asks()
         does (codes "unring --size 16777216 --pointer 16777215 --full 1 --limit 3")
         (Unring 16777216 16777215 true) 3 ∷
         does (codes "unring --size 17 --id 5 --sync 1 --itm 5 --stp 5") (Unring 17 0 false) 68719476736 ∷ []) }
+    ensures funnel { AllAnswered (
+        does (codes "funnel --order 16") (Funnel (planned FramesHunt PacketsHunt [] [] Msn) 64 0 (16 ∷ []) 4 256) 68719476736 ∷
+        does (codes "funnel --order 16,17 --hold 2 --depth 4 --sync 0 --itm 1,2 --half 8 --limit 5")
+        (Funnel (planned FramesHunt PacketsHunt (1 ∷ 2 ∷ []) [] Msn) 0 8 (16 ∷ 17 ∷ []) 2 4) 5 ∷
+        does (codes "--depth=4096 --hold=15 --order=126,1,2,3,4,5,6,7,8,9,10,11,12,13,14,15 funnel --stp 2 --stp-order lsn")
+        (Funnel (planned FramesHunt PacketsHunt [] (2 ∷ []) Lsn) 64 0
+        (126 ∷ 1 ∷ 2 ∷ 3 ∷ 4 ∷ 5 ∷ 6 ∷ 7 ∷ 8 ∷ 9 ∷ 10 ∷ 11 ∷ 12 ∷ 13 ∷ 14 ∷ 15 ∷ []) 15 4096) 68719476736 ∷
+        does (codes "check --order 5,5 --hold 1 --depth 1") (Check (planned FramesHunt PacketsHunt [] [] Msn)) 68719476736 ∷ []) }
+    ensures text { AllAnswered (
+        does (codes "text --itm 1") (Text (planned FramesHunt PacketsHunt (1 ∷ []) [] Msn) 0) 68719476736 ∷
+        does (codes "text --itm 111 --port 31 --frames bare --packets aligned --limit 5 --stp 2,2,111")
+        (Text (planned Bare PacketsAligned (111 ∷ []) [] Msn) 31) 5 ∷
+        does (codes "show --port 5") (Show (planned FramesHunt PacketsHunt [] [] Msn) None None) 68719476736 ∷ []) }
     ensures split { AllAnswered (
         does (codes "split --id 5") (Split FramesHunt 5) 68719476736 ∷
         does (codes "split --frames aligned --id 0") (Split FramesAligned 0) 68719476736 ∷
@@ -138,6 +154,16 @@ pub fn misuses()
         faults (codes "unring --size 16 --full 2") (BadValue Full) ∷
         faults (codes "ring --size 16 --full 01") (BadValue Full) ∷
         faults (codes "realign --full yes") (BadValue Full) ∷
+        faults (codes "funnel --order 127") (BadValue Order) ∷
+        faults (codes "funnel --order 0,1") (BadValue Order) ∷
+        faults (codes "show --order 1,2,3,4,5,6,7,8,9,10,11,12,13,14,15,16,17") (BadValue Order) ∷
+        faults (codes "funnel --order 1,") (BadValue Order) ∷
+        faults (codes "funnel --order 1 --hold 0") (BadValue Hold) ∷
+        faults (codes "show --hold 16") (BadValue Hold) ∷
+        faults (codes "funnel --order 1 --depth 0") (BadValue Depth) ∷
+        faults (codes "funnel --order 1 --depth 4097") (BadValue Depth) ∷
+        faults (codes "text --itm 1 --port 32") (BadValue PortOption) ∷
+        faults (codes "show --port 01") (BadValue PortOption) ∷
         faults (codes "unring --size 16 --limit 0") (BadValue Limit) ∷
         faults (codes "check --limit 0") (BadValue Limit) ∷
         faults (codes "show --limit 68719476737") (BadValue Limit) ∷
@@ -192,6 +218,10 @@ pub fn misuses()
         faults (codes "check --pointer x --size x") (BadValue Size) ∷
         faults (codes "check --full x --pointer x") (BadValue Pointer) ∷
         faults (codes "ring --full x") (BadValue Full) ∷
+        faults (codes "ring --order x --full x") (BadValue Full) ∷
+        faults (codes "ring --hold x --order x") (BadValue Order) ∷
+        faults (codes "ring --depth x --hold x") (BadValue Hold) ∷
+        faults (codes "ring --port x --depth x") (BadValue Depth) ∷
         faults (codes "split") SplitNeedsId ∷
         faults (codes "split --limit x") (BadValue Limit) ∷
         faults (codes "show --itm 5 --stp 5") (MappedTwice 5) ∷
@@ -201,7 +231,15 @@ pub fn misuses()
         faults (codes "ring --itm 5 --stp 5 --pointer 4") RingNeedsSize ∷
         faults (codes "unring --pointer 16777215 --full 1") UnringNeedsSize ∷
         faults (codes "unring --size 16 --pointer 16") PointerNotUnderSize ∷
-        faults (codes "unring --pointer 99 --size 98 --full 1") PointerNotUnderSize ∷ []) }
+        faults (codes "unring --pointer 99 --size 98 --full 1") PointerNotUnderSize ∷
+        faults (codes "funnel --itm 5 --stp 5") (MappedTwice 5) ∷
+        faults (codes "funnel --itm 5 --order 5 --depth 0") (BadValue Depth) ∷
+        faults (codes "funnel --itm 5") FunnelNeedsOrder ∷
+        faults (codes "funnel --order 16,16") (OrderedTwice 16) ∷
+        faults (codes "funnel --order 4,2,5,2,4") (OrderedTwice 2) ∷
+        faults (codes "text --stp 2") TextNeedsItm ∷
+        faults (codes "text --itm 1,2") TextReadsOneSource ∷
+        faults (codes "text --itm 1,1 --port 3") TextReadsOneSource ∷ []) }
 {}
 
 /// Words that `clap` refuses, and what for.

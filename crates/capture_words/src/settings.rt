@@ -4,34 +4,49 @@ ghost use Rattle.std.specs.Prelude.{◌≡◌, ◌≤◌, ℕ, Option, IfOk, IfS
 ghost use Rattle.std.specs.List.{All};
 ghost use Rattle.capture_words.specs.declared.values.TheConstants.{GREATEST_LIMIT, GREATEST_SYNC, GREATEST_HALF};
 ghost use Rattle.capture_words.specs.declared.values.TheConstants.{GREATEST_ITEMS, GREATEST_LOSS};
-ghost use Rattle.capture_words.specs.declared.values.TheConstants.{LEAST_SIZE, GREATEST_SIZE};
+ghost use Rattle.capture_words.specs.declared.values.TheConstants.{LEAST_SIZE, GREATEST_SIZE, GREATEST_PORT};
 ghost use Rattle.clap.specs.Words.{rows_of, found_of};
-ghost use Rattle.capture_words.specs.Jobs.{settings_in};
+ghost use Rattle.capture_words.specs.Settings.{plan_in, buffer_in, funnel_in, settings_in, IsFunnelInRange};
 
+use crate::turns::TurnIds;
 use crate::usage::UsageFault;
 use crate::values::{
-    frames_in, full_in, half_in, id_in, items_in, itm_in, limit_in, lose_in, only_in, order_in,
-    packets_in, pointer_in, size_in, stp_in, sync_in, window_in,
+    depth_in, frames_in, full_in, half_in, hold_in, id_in, items_in, itm_in, limit_in, lose_in,
+    only_in, order_in, packets_in, pointer_in, port_in, size_in, stp_in, sync_in, turns_in,
+    window_in,
 };
 use clap::ArgMatches;
 use item_tap::{Bounds, Choice};
-use source_events::SourceIds;
-use stp_grammar::packet::Order;
-use trace_values::{FramesMode, PacketsMode, SourceId};
+use source_events::Plan;
+use trace_values::SourceId;
+
+/// What the options say of a trace buffer.
+#[derive(Clone, Copy, Drop)]
+pub struct BufferSettings {
+    /// How many bytes it has.
+    pub size: Option<usize>,
+    /// Where it would have put its next byte.
+    pub pointer: usize,
+    /// Whether it has taken as many bytes as it has, or more.
+    pub full: bool,
+}
+
+/// What the options say of a funnel.
+#[derive(Drop)]
+pub struct FunnelSettings {
+    /// Its sources, in the order of their turns.
+    pub order: Option<TurnIds>,
+    /// How many bytes one gives in its turn at most.
+    pub hold: u8,
+    /// How many bytes are kept of one at most.
+    pub depth: usize,
+}
 
 /// What the options say, each with its default where it is absent.
 #[derive(Drop)]
 pub struct Settings {
-    /// Where the reading of the port begins.
-    pub frames: FramesMode,
-    /// Where the reading of a source begins.
-    pub packets: PacketsMode,
-    /// The sources that send ITM packets.
-    pub itm: SourceIds,
-    /// The sources that send STP packets.
-    pub stp: SourceIds,
-    /// The order of the nibbles of an STP value.
-    pub order: Order,
+    /// How a capture is read; an ID may be mapped twice.
+    pub plan: Plan,
     /// The source whose bytes are taken.
     pub id: Option<SourceId>,
     /// Which events are listed.
@@ -48,58 +63,79 @@ pub struct Settings {
     pub items: u32,
     /// How many bytes are lost of the front of what is made.
     pub lose: u32,
-    /// How many bytes a trace buffer has.
-    pub size: Option<usize>,
-    /// Where a trace buffer would have put its next byte.
-    pub pointer: usize,
-    /// Whether a trace buffer has taken as many bytes as it has, or more.
-    pub full: bool,
+    /// A trace buffer.
+    pub buffer: BufferSettings,
+    /// A funnel; an ID may be ordered twice.
+    pub funnel: FunnelSettings,
+    /// The stimulus port whose bytes are written.
+    pub port: u8,
+}
+
+/// How a capture is read, by the first five options.
+fn plan_in(matches: &ArgMatches<'_>) -> Result<Plan, UsageFault>
+    ensures plan { result ≡ plan_in (rows_of (found_of matches.now)) }
+    ensures itm { IfOk result (λ plan. All (λ n. (1 ≤ n) × (n ≤ 111)) plan.itm) }
+    ensures stp { IfOk result (λ plan. All (λ n. (1 ≤ n) × (n ≤ 111)) plan.stp) }
+{
+    Ok(Plan {
+        frames: frames_in(matches)?,
+        packets: packets_in(matches)?,
+        itm: itm_in(matches)?,
+        stp: stp_in(matches)?,
+        order: order_in(matches)?,
+    })
+}
+
+/// What the options say of a trace buffer.
+fn buffer_in(matches: &ArgMatches<'_>) -> Result<BufferSettings, UsageFault>
+    ensures buffer { result ≡ buffer_in (rows_of (found_of matches.now)) }
+    ensures size { IfOk result (λ b. IfSome b.size (λ n. (LEAST_SIZE ≤ n) × (n ≤ GREATEST_SIZE))) }
+{
+    Ok(BufferSettings {
+        size: size_in(matches)?,
+        pointer: pointer_in(matches)?,
+        full: full_in(matches)?,
+    })
+}
+
+/// What the options say of a funnel.
+fn funnel_in(matches: &ArgMatches<'_>) -> Result<FunnelSettings, UsageFault>
+    ensures funnel { result ≡ funnel_in (rows_of (found_of matches.now)) }
+    ensures range { IfOk result IsFunnelInRange }
+{
+    Ok(FunnelSettings {
+        order: turns_in(matches)?,
+        hold: hold_in(matches)?,
+        depth: depth_in(matches)?,
+    })
 }
 
 /// What the options say, or the first whose value is none of its own.
 pub fn settings_in(matches: &ArgMatches<'_>) -> Result<Settings, UsageFault>
     ensures settings { result ≡ settings_in (rows_of (found_of matches.now)) }
-    ensures itm { IfOk result (λ s. All (λ n. (1 ≤ n) × (n ≤ 111)) s.itm) }
-    ensures stp { IfOk result (λ s. All (λ n. (1 ≤ n) × (n ≤ 111)) s.stp) }
+    ensures itm { IfOk result (λ s. All (λ n. (1 ≤ n) × (n ≤ 111)) s.plan.itm) }
+    ensures stp { IfOk result (λ s. All (λ n. (1 ≤ n) × (n ≤ 111)) s.plan.stp) }
     ensures sync { IfOk result (λ s. s.sync ≤ GREATEST_SYNC) }
     ensures half { IfOk result (λ s. s.half ≤ GREATEST_HALF) }
     ensures limit { IfOk result (λ s. (1 ≤ s.limit) × (s.limit ≤ GREATEST_LIMIT)) }
     ensures items { IfOk result (λ s. (1 ≤ s.items) × (s.items ≤ GREATEST_ITEMS)) }
     ensures lose { IfOk result (λ s. s.lose ≤ GREATEST_LOSS) }
-    ensures size { IfOk result (λ s. IfSome s.size (λ n. (LEAST_SIZE ≤ n) × (n ≤ GREATEST_SIZE))) }
+    ensures size { IfOk result (λ s. IfSome s.buffer.size (λ n. (LEAST_SIZE ≤ n) × (n ≤ GREATEST_SIZE))) }
+    ensures funnel { IfOk result (λ s. IsFunnelInRange s.funnel) }
+    ensures port { IfOk result (λ s. s.port ≤ GREATEST_PORT) }
 {
-    let frames = frames_in(matches)?;
-    let packets = packets_in(matches)?;
-    let itm = itm_in(matches)?;
-    let stp = stp_in(matches)?;
-    let order = order_in(matches)?;
-    let id = id_in(matches)?;
-    let only = only_in(matches)?;
-    let window = window_in(matches)?;
-    let sync = sync_in(matches)?;
-    let half = half_in(matches)?;
-    let limit = limit_in(matches)?;
-    let items = items_in(matches)?;
-    let lose = lose_in(matches)?;
-    let size = size_in(matches)?;
-    let pointer = pointer_in(matches)?;
-    let full = full_in(matches)?;
     Ok(Settings {
-        frames,
-        packets,
-        itm,
-        stp,
-        order,
-        id,
-        only,
-        window,
-        sync,
-        half,
-        limit,
-        items,
-        lose,
-        size,
-        pointer,
-        full,
+        plan: plan_in(matches)?,
+        id: id_in(matches)?,
+        only: only_in(matches)?,
+        window: window_in(matches)?,
+        sync: sync_in(matches)?,
+        half: half_in(matches)?,
+        limit: limit_in(matches)?,
+        items: items_in(matches)?,
+        lose: lose_in(matches)?,
+        buffer: buffer_in(matches)?,
+        funnel: funnel_in(matches)?,
+        port: port_in(matches)?,
     })
 }

@@ -1,6 +1,6 @@
 //! Faults of the words that are the command's own, and their lines.
 
-ghost use Rattle.std.specs.Prelude.{◌≡◌, ◌≤◌, ◌+◌, ◌++◌, length};
+ghost use Rattle.std.specs.Prelude.{◌≡◌, ◌≤◌, ◌+◌, ◌++◌, codes, decimal, length};
 ghost use Rattle.capture_words.specs.Texts.{usage_line};
 
 use crate::option::CommandOption;
@@ -29,6 +29,14 @@ pub enum UsageFault {
     UnringNeedsSize,
     /// The action is `unring`, and the write pointer isn't under the size.
     PointerNotUnderSize,
+    /// The action is `funnel`, and `--order` is absent.
+    FunnelNeedsOrder,
+    /// The action is `funnel`, and this is the first ID of `--order` that stands earlier already.
+    OrderedTwice(SourceId),
+    /// The action is `text`, and `--itm` is absent.
+    TextNeedsItm,
+    /// The action is `text`, and `--itm` has more than one ID.
+    TextReadsOneSource,
 }
 
 /// The text of these parts, one after another.
@@ -43,6 +51,15 @@ fn joined(first: &str, second: &str, third: &str) -> ArrayString<LINE_ROOM>
     text
 }
 
+/// The line of a fault of this ID.
+fn line_of_id(id: SourceId, what: &str) -> ArrayString<LINE_ROOM>
+    requires { length what.now ≤ 18 }
+    ensures { result.bytes ≡ codes "usage: " ++ decimal id ++ what.now }
+{
+    let mut number = Buffer::new();
+    joined("usage: ", number.format(id.number()), what)
+}
+
 impl UsageFault {
     /// The line of the fault, with its line feed.
     pub fn line(&self) -> ArrayString<LINE_ROOM>
@@ -52,13 +69,14 @@ impl UsageFault {
             UsageFault::UnknownAction => joined("usage: unknown action\n", "", ""),
             UsageFault::BadValue(option) => joined("usage: bad value of --", option.name(), "\n"),
             UsageFault::SplitNeedsId => joined("usage: split needs --id\n", "", ""),
-            UsageFault::MappedTwice(id) => {
-                let mut number = Buffer::new();
-                joined("usage: ", number.format(id.number()), " is mapped twice\n")
-            }
+            UsageFault::MappedTwice(id) => line_of_id(*id, " is mapped twice\n"),
             UsageFault::RingNeedsSize => joined("usage: ring needs --size\n", "", ""),
             UsageFault::UnringNeedsSize => joined("usage: unring needs --size\n", "", ""),
             UsageFault::PointerNotUnderSize => joined("usage: pointer isn't under size\n", "", ""),
+            UsageFault::FunnelNeedsOrder => joined("usage: funnel needs --order\n", "", ""),
+            UsageFault::OrderedTwice(id) => line_of_id(*id, " is ordered twice\n"),
+            UsageFault::TextNeedsItm => joined("usage: text needs --itm\n", "", ""),
+            UsageFault::TextReadsOneSource => joined("usage: text reads one source\n", "", ""),
         }
     }
 }

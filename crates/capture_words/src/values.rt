@@ -1,17 +1,18 @@
 //! What the texts of the action and of the options say.
 
-ghost use Rattle.std.specs.Prelude.{◌≡◌, ◌≤◌, [], option_map, IfOk, IfSome};
+ghost use Rattle.std.specs.Prelude.{◌≡◌, ◌≤◌, [], option_map, length, IfOk, IfSome};
 ghost use Rattle.std.specs.List.{All};
 ghost use Rattle.clap.specs.Words.{rows_of, found_of, first_of};
 ghost use Rattle.capture_words.specs.Command.{option_name};
 ghost use Rattle.capture_words.specs.Values.{action_named, order_named, bit_named, action_in, frames_in, packets_in};
 ghost use Rattle.capture_words.specs.Values.{number_if_given, itm_in, stp_in, order_in, id_in, only_in, window_in};
 ghost use Rattle.capture_words.specs.Values.{number_given, sync_in, half_in, limit_in, items_in, lose_in, size_in};
-ghost use Rattle.capture_words.specs.Values.{pointer_in, full_in, option_in, ids_named};
+ghost use Rattle.capture_words.specs.Values.{pointer_in, full_in, option_in, ids_named, turns_in, hold_in, depth_in, port_in};
 
 use crate::choices::{choice_named, window_named};
-use crate::ids::ids_named;
+use crate::ids::{ids_named, source_ids};
 use crate::option::CommandOption;
+use crate::turns::TurnIds;
 use crate::usage::UsageFault;
 use clap::ArgMatches;
 use decimal_words::{id_named, number_named};
@@ -41,6 +42,16 @@ pub const LEAST_SIZE: u32 = 16;
 pub const GREATEST_SIZE: u32 = 1 << 24;
 /// The greatest write pointer of a trace buffer, that of the last byte of the greatest; it is 0 where none is given.
 pub const GREATEST_POINTER: u32 = (1 << 24) - 1;
+/// The most bytes that a source of a funnel gives in its turn.
+pub const GREATEST_HOLD: u8 = 15;
+/// The same where no number is given.
+pub const DEFAULT_HOLD: u8 = 4;
+/// The most bytes that a funnel keeps of a source.
+pub const GREATEST_DEPTH: u32 = 4096;
+/// The same where no number is given.
+pub const DEFAULT_DEPTH: u32 = 256;
+/// The greatest stimulus port.
+pub const GREATEST_PORT: u8 = 31;
 
 /// The action that a word names.
 #[derive(Clone, Copy, Drop)]
@@ -61,6 +72,10 @@ pub enum ActionName {
     Ring,
     /// `unring`
     Unring,
+    /// `funnel`
+    Funnel,
+    /// `text`
+    Text,
 }
 
 impl ActionName {
@@ -77,6 +92,8 @@ impl ActionName {
             "realign" => Some(ActionName::Realign),
             "ring" => Some(ActionName::Ring),
             "unring" => Some(ActionName::Unring),
+            "funnel" => Some(ActionName::Funnel),
+            "text" => Some(ActionName::Text),
             _ => None,
         }
     }
@@ -118,7 +135,8 @@ fn text_of<'a>(matches: &ArgMatches<'a>, option: CommandOption) -> Option<&'a st
     text_named(matches, option.name())
 }
 
-/// The action: `show`, `split`, `check`, `rebuild`, `exercise`, `realign`, `ring` or `unring`.
+/// The action: `show`, `split`, `check`, `rebuild`, `exercise`, `realign`, `ring`, `unring`, `funnel` or
+/// `text`.
 pub fn action_in(matches: &ArgMatches<'_>) -> Result<ActionName, UsageFault>
     ensures { result ≡ action_in (rows_of (found_of matches.now)) }
 {
@@ -170,13 +188,13 @@ fn id_given(
 
 /// The sources of an option, one to eight from 1 to 111, or none where it is absent.
 fn ids_given(matches: &ArgMatches<'_>, option: CommandOption) -> Result<SourceIds, UsageFault>
-    ensures value { result ≡ option_in option [] ids_named (rows_of (found_of matches.now)) }
+    ensures value { result ≡ option_in option [] (ids_named 8 111) (rows_of (found_of matches.now)) }
     ensures in_range { IfOk result (All (λ n. (1 ≤ n) × (n ≤ 111))) }
 {
     match text_of(matches, option) {
         None => Ok(SourceIds::new()),
-        Some(text) => match ids_named(text) {
-            Some(ids) => Ok(ids),
+        Some(text) => match ids_named(111, text) {
+            Some(ids) => Ok(source_ids(&ids)),
             None => Err(UsageFault::BadValue(option)),
         },
     }
@@ -332,6 +350,60 @@ pub fn full_in(matches: &ArgMatches<'_>) -> Result<bool, UsageFault>
         None => Ok(false),
         Some(text) => bit_named(text).ok_or(UsageFault::BadValue(CommandOption::Full)),
     }
+}
+
+/// The sources of a funnel, one to sixteen from 1 to 126, if they are given.
+pub fn turns_in(matches: &ArgMatches<'_>) -> Result<Option<TurnIds>, UsageFault>
+    ensures value { result ≡ turns_in (rows_of (found_of matches.now)) }
+    ensures in_range { IfOk result (λ turns. IfSome turns (All (λ n. (1 ≤ n) × (n ≤ 126)))) }
+    ensures some { IfOk result (λ turns. IfSome turns (λ ids. 1 ≤ length ids)) }
+{
+    match text_of(matches, CommandOption::Order) {
+        None => Ok(None),
+        Some(text) => match ids_named(126, text) {
+            Some(ids) => Ok(Some(TurnIds::of(ids))),
+            None => Err(UsageFault::BadValue(CommandOption::Order)),
+        },
+    }
+}
+
+/// How many bytes a source of a funnel gives in its turn at most: 1 to 15, and 4 where it is absent.
+pub fn hold_in(matches: &ArgMatches<'_>) -> Result<u8, UsageFault>
+    ensures value { result ≡ hold_in (rows_of (found_of matches.now)) }
+    ensures in_range { IfOk result (λ n. (1 ≤ n) × (n ≤ GREATEST_HOLD)) }
+{
+    let hold = number_given(
+        matches,
+        CommandOption::Hold,
+        u32::from(DEFAULT_HOLD),
+        1,
+        u32::from(GREATEST_HOLD),
+    )?;
+    Ok(hold as u8)
+}
+
+/// How many bytes a funnel keeps of a source at most: 1 to 4,096, and 256 where it is absent.
+pub fn depth_in(matches: &ArgMatches<'_>) -> Result<usize, UsageFault>
+    ensures value { result ≡ depth_in (rows_of (found_of matches.now)) }
+    ensures in_range { IfOk result (λ n. (1 ≤ n) × (n ≤ GREATEST_DEPTH)) }
+{
+    let depth = number_given(
+        matches,
+        CommandOption::Depth,
+        DEFAULT_DEPTH,
+        1,
+        GREATEST_DEPTH,
+    )?;
+    Ok(depth as usize)
+}
+
+/// The stimulus port whose bytes are written: 0 to 31, and 0 where it is absent.
+pub fn port_in(matches: &ArgMatches<'_>) -> Result<u8, UsageFault>
+    ensures value { result ≡ port_in (rows_of (found_of matches.now)) }
+    ensures in_range { IfOk result (λ n. n ≤ GREATEST_PORT) }
+{
+    let port = number_given(matches, CommandOption::Port, 0, 0, u32::from(GREATEST_PORT))?;
+    Ok(port as u8)
 }
 
 /// How many bytes are read at most: 1 to the greatest limit, which holds where it is absent.

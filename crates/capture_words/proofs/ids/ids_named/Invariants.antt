@@ -8,6 +8,7 @@ use Rattle.capture_words.proofs.ids.ids_named.Given as goal
 
 -- the IDs so far and those of the rest are those of the text
 abbrev pub invariant-loop : goal.invariant-loop
-invariant-loop l = shadow (Utf8 l.rest) × (length l.ids ≡ l.counter) × All (λ n. (1 ≤ n) × (n ≤ 111)) l.ids
-    × (each (map (number_named 1 111) (slice_split (λ c. c == 44) l.text))
-    ≡ option_map (λ (xs : List ℕ). l.ids ++ xs) (each (map (number_named 1 111) (slice_split (λ c. c == 44) l.rest))))
+invariant-loop g l = shadow (Utf8 l.rest) × (length l.ids.items ≡ l.counter) × All (λ n. (1 ≤ n) × (n ≤ l.greatest)) l.ids.items
+    × (each (map (number_named 1 l.greatest) (slice_split (λ c. c == 44) l.text))
+    ≡ option_map (λ (xs : List ℕ). l.ids.items ++ xs)
+    (each (map (number_named 1 l.greatest) (slice_split (λ c. c == 44) l.rest))))
