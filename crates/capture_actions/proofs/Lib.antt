@@ -10,4 +10,5 @@ pub mod Shown
 pub mod Filtering
 pub mod Choosing
 pub mod Few
+pub mod Values
 pub mod Owing

@@ -31,5 +31,10 @@ pub mod Summary
 pub mod CheckLaws
 pub mod Check
 pub mod Ignored
+pub mod PortText
+pub mod PortTextLaws
+pub mod PortValues
+pub mod PortValuesLaws
+pub mod PortTexter
 pub mod Rows
 pub mod Stopping

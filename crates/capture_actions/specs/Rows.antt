@@ -5,6 +5,7 @@ use Rattle.trace_values.specs.declared.reading_modes.PacketsMode.{PacketsMode}
 use Rattle.stp_grammar.specs.declared.packet.Order.TheVariants.{Msn, Lsn}
 use Rattle.trace_values.specs.Hex.{hex}
 use Rattle.capture_actions.specs.Listing.{listing}
+use Rattle.capture_actions.specs.PortText.{port_text}
 use Rattle.capture_actions.specs.Summary.{summary}
 
 -- what is mapped: no source, an ITM source, an STP source, or both
@@ -43,3 +44,7 @@ both_row choice first last plan text =
 -- and its summary
 abbrev pub summary_row : Plan → List ℕ → List ℕ
 summary_row plan text = summary plan (hex text)
+
+-- and what software wrote to a port
+abbrev pub text_row : ℕ → Plan → List ℕ → List ℕ
+text_row port plan text = port_text (record { plan = plan; port = port }) (hex text)

@@ -1,6 +1,6 @@
 //! What the command does with a capture's bytes as they come: it lists or counts what all sources sent, takes out the
-//! bytes of one source, realigns those of a port whose line loses bits, or makes the image of a trace buffer and puts
-//! one in order. Each is an action that `trace_stream` serves.
+//! bytes of one source or what software wrote to one of its ports, realigns those of a port whose line loses bits, or
+//! makes the image of a trace buffer and puts one in order. Each is an action that `trace_stream` serves.
 #![tactic(auto)]
 
 mod check;
@@ -12,6 +12,9 @@ mod lister;
 mod owed;
 mod plan_table;
 mod port;
+mod port_text;
+mod port_text_plan;
+mod port_values;
 mod realign;
 mod ring;
 pub mod rows;
@@ -26,6 +29,8 @@ mod unring_plan;
 pub use check::{Check, SOURCE_ROOM, SUMMARY_ROOM, put_source_line};
 pub use list_plan::ListPlan;
 pub use lister::Lister;
+pub use port_text::PortText;
+pub use port_text_plan::PortTextPlan;
 pub use realign::{Realign, realign_law};
 pub use ring::Ring;
 pub use show::Show;

@@ -1,11 +1,11 @@
-//! Worked rows of listings and summaries, which the checker computes.
+//! Worked rows of listings, texts and summaries, which the checker computes.
 
 ghost use Rattle.std.specs.Prelude.{◌≡◌, codes};
 ghost use Rattle.trace_values.specs.declared.reading_modes.FramesMode.TheVariants.{Hunt as FramesHunt, Aligned as FramesAligned, Bare};
 ghost use Rattle.trace_values.specs.declared.reading_modes.PacketsMode.TheVariants.{Hunt, Aligned};
 ghost use Rattle.item_tap.specs.declared.choice.Choice.TheVariants.{OfKind, Source, Port};
 ghost use Rattle.item_tap.specs.declared.choice.Kind.TheVariants.{Itm, Dwt, Stp, Raw};
-ghost use Rattle.capture_actions.specs.Rows.{raw, itm, stp, stp_lsn, both, mixed, listing_row, window_row, both_row, summary_row};
+ghost use Rattle.capture_actions.specs.Rows.{raw, itm, stp, stp_lsn, both, mixed, listing_row, window_row, both_row, text_row, summary_row};
 
 /// Sources that are not mapped: raw bytes by run, bytes of the trigger source, and the port's lock.
 pub fn raw_sources()
@@ -76,6 +76,16 @@ pub fn bare_windows()
         codes "4 1 port 0 u8 41\n5 1 local exact 2 clock=138\nend 6\nport bare skipped 0 tail 0 unattributed 0\n1 itm aligned skipped 0 tail 0\n" }
     ensures fault { window_row (OfKind Raw) (OfKind Raw) (itm Bare Aligned 1) (codes "03 00 00 00 00 80") ≡
         codes "fault 5 1 3 ReservedHeader\n" }
+{}
+
+/// What software wrote to a port, in a bare capture with values of each size, of another port and of hardware, up to a
+/// fault, and in frames.
+pub fn port_texts()
+    ensures sizes { text_row 0 (itm Bare Aligned 1) (codes "01 41 02 43 42 09 5A 05 48 70 03 47 46 45 44") ≡ codes "ACBGFED" }
+    ensures another { text_row 1 (itm Bare Aligned 1) (codes "01 41 02 43 42 09 5A 05 48 70 03 47 46 45 44") ≡ codes "Z" }
+    ensures fault { text_row 0 (itm Bare Aligned 1) (codes "01 41 01 42 04 01 43") ≡ codes "AB" }
+    ensures framed { text_row 0 (both FramesHunt Hunt 1 2) mixed ≡ codes "A" }
+    ensures unmapped { text_row 0 (raw Bare) (codes "01 41") ≡ codes "" }
 {}
 
 /// What is counted in captures in frames, in one that has lost its front, in a bare one, and of a mapped source.

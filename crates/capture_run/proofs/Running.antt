@@ -131,6 +131,7 @@ pub done_unopened : (task : Task) (limit : ℕ) (left held noted noted' : Option
     → HasDone task limit (record { left = left; held = held; noted = noted; note_faults = faults }) (record { left = left; held = held; noted = noted'; note_faults = faults' }) NoMemory
 done_unopened (tasks.Show plan only window recover) limit left held noted noted' faults faults' n = run_unopened (meaning_of (tasks.Show plan only window recover)) limit left held noted noted' faults faults' n
 done_unopened (tasks.Split frames id) limit left held noted noted' faults faults' n = run_unopened (meaning_of (tasks.Split frames id)) limit left held noted noted' faults faults' n
+done_unopened (tasks.Text plan port) limit left held noted noted' faults faults' n = run_unopened (meaning_of (tasks.Text plan port)) limit left held noted noted' faults faults' n
 done_unopened (tasks.Check plan recover) limit left held noted noted' faults faults' n = run_unopened (meaning_of (tasks.Check plan recover)) limit left held noted noted' faults faults' n
 done_unopened (tasks.Rebuild plan sync half) limit left held noted noted' faults faults' n = run_unopened (meaning_of (tasks.Rebuild plan sync half)) limit left held noted noted' faults faults' n
 done_unopened tasks.Realign limit left held noted noted' faults faults' n = run_unopened (meaning_of tasks.Realign) limit left held noted noted' faults faults' n

@@ -1,13 +1,15 @@
 -- What each action that reads the input does: which bytes have a fault, what is written for them, what comes after it
 -- at the end or at a fault, what is noted at the end and at a fault, and how the run ends then.
-use Rattle.std.specs.Prelude.{◌≡◌, ℕ, List, [], ◌++◌, true, false, is_some, length, not, ◌==◌}
+use Rattle.std.specs.Prelude.{◌≡◌, ℕ, List, [], ◌++◌, true, false, is_some, length, not, ◌==◌, None}
 use Rattle.capture_words.specs.declared.job.Task.{Task}
 use Rattle.capture_words.specs.declared.job.Task.TheVariants.{Show, Split, Check, Rebuild, Exercise, Realign, Ring}
-use Rattle.capture_words.specs.declared.job.Task.TheVariants.{Unring}
+use Rattle.capture_words.specs.declared.job.Task.TheVariants.{Unring, Text}
 use Rattle.capture_words.specs.declared.recover.Recover.{Recover}
 use Rattle.capture_words.specs.declared.recover.Recover.TheVariants.{Off, On}
 use Rattle.buffer_ring.specs.Image.{pointer, is_full, dropped}
 use Rattle.capture_actions.specs.Port.{port_of}
+use Rattle.capture_actions.specs.PortText.{port_text_meaning}
+use Rattle.capture_actions.specs.declared.port_text_plan.PortTextPlan.{PortTextPlan}
 use Rattle.capture_actions.specs.Realigned.{realign_meaning}
 use Rattle.capture_actions.specs.Ring.{ring_meaning}
 use Rattle.capture_actions.specs.Split.{split_meaning}
@@ -19,6 +21,8 @@ use Rattle.capture_actions.specs.declared.list_plan.ListPlan.{ListPlan}
 use Rattle.capture_actions.specs.declared.unring_plan.UnringPlan.{UnringPlan}
 use Rattle.capture_exercise.specs.Summary.{exercise_summary}
 use Rattle.script_rebuild.specs.Versions.{script_of}
+use Rattle.source_events.specs.Report.{of_source}
+use Rattle.source_merge.specs.Answering.{fault_of}
 use Rattle.port_slip.specs.Segments.{realigned}
 use Rattle.recovery_listing.specs.Listing as recovering
 use Rattle.recovery_listing.specs.Listing.{is_faulty}
@@ -28,6 +32,7 @@ use Rattle.script_rebuild.specs.Rebuilt.{rebuild_meaning}
 use Rattle.script_rebuild.specs.declared.plan.RebuildPlan.{RebuildPlan}
 use Rattle.trace_stream.specs.Served.{Meaning}
 use Rattle.trace_stream.specs.Recent.{last_sixteen}
+use Rattle.trace_values.specs.Placed.{placed}
 use Rattle.trace_text.specs.NoteText.{last_line, slipped_line, buffer_line, image_line}
 use Rattle.capture_run.specs.Notes.{fault_text, script_note}
 use Rattle.capture_run.specs.Run.{TaskMeaning, TaskNotes, task_of, Streams, HasRun, HasMade}
@@ -40,7 +45,11 @@ last_note seen = last_line (last_sixteen seen)
 
 -- with `split` the line of the port's fault comes before it, since the output has none
 abbrev pub split_note : SplitPlan → List ℕ → List ℕ
-split_note plan seen = fault_text (port_of plan.frames seen).fault ++ last_note seen
+split_note plan seen = fault_text (of_source None (port_of plan.frames seen).fault) ++ last_note seen
+
+-- and with `text` that of the report's fault, which may be the source's
+abbrev pub text_note : PortTextPlan → List ℕ → List ℕ
+text_note p seen = fault_text (fault_of p.plan (placed seen)) ++ last_note seen
 
 -- a fault of a capture is certain at some byte, and none is mended by what comes after it
 abbrev pub captured : (List ℕ → List ℕ) → TaskNotes
@@ -125,6 +134,9 @@ meaning_of (Show plan only window recover) = showing recover (record { plan = pl
 meaning_of (Split frames id) =
     let plan : SplitPlan = record { frames = frames; id = id } in
     task_of (split_meaning plan) (captured (split_note plan))
+meaning_of (Text plan port) =
+    let p : PortTextPlan = record { plan = plan; port = port } in
+    task_of (port_text_meaning p) (captured (text_note p))
 meaning_of (Check plan recover) = checking recover plan
 meaning_of (Rebuild plan sync half) =
     let script : RebuildPlan = record { plan = plan; every = sync; halves = half } in

@@ -8,7 +8,8 @@ use Rattle.script_rebuild.specs.Rebuilder.{told as told_of_script}
 use Rattle.trace_io.specs.Causes.{Rose}
 use Rattle.trace_values.specs.declared.fault.Reason.{Reason}
 use Rattle.trace_values.specs.Placed.{Place}
-use Rattle.trace_text.specs.FaultText.{told, port_fault_line}
+use Rattle.source_events.specs.Report.{stop_of}
+use Rattle.trace_text.specs.FaultText.{fault_line}
 use Rattle.trace_text.specs.NoteText.{last_line, script_fault_line, slipped_line, buffer_line, image_line, limit_line}
 use Rattle.capture_run.specs.declared.actions.DoneNote.{DoneNote}
 use Rattle.capture_run.specs.declared.actions.DoneNote.TheVariants.{Nothing, Realigned, Buffered}
@@ -17,10 +18,10 @@ use Rattle.capture_run.specs.declared.actions.FaultNote.TheVariants.{Capture, Sc
 use Rattle.capture_run.specs.declared.status.Status.{Status}
 use Rattle.capture_run.specs.declared.status.Status.TheVariants.{CaptureFault, ScriptFault, Recovered, BadImage, Limit}
 
--- the line of the port's fault, where there is one
-abbrev pub fault_text : Option (Place × Reason) → List ℕ
+-- the line of a fault of the port or of an ITM source, where there is one
+abbrev pub fault_text : Option (Place × (Reason × Option ℕ)) → List ℕ
 fault_text None = []
-fault_text (Some fault) = port_fault_line fault
+fault_text (Some fault) = fault_line false fault
 
 -- the line of a script's fault, where there is one: with the number of its line
 abbrev pub script_note : Option (ℕ × LineFault) → List ℕ
@@ -29,7 +30,7 @@ script_note (Some fault) = script_fault_line fault.0 (number_of fault.1) (name_o
 
 -- what is noted at a fault, where these bytes are the last up to it
 abbrev pub text_of : FaultNote → List ℕ → List ℕ
-text_of (Capture fault) recent = fault_text (option_map told fault) ++ last_line recent
+text_of (Capture stop) recent = fault_text (option_map stop_of stop) ++ last_line recent
 text_of (Script fault) recent = script_note (option_map told_of_script fault)
 text_of Recovery recent = []
 text_of (Image size) recent = image_line size
@@ -42,7 +43,7 @@ done_text (Buffered pointer full dropped) = buffer_line pointer full dropped
 
 -- how a run ends at such a fault
 abbrev pub status_of : FaultNote → Status
-status_of (Capture fault) = CaptureFault
+status_of (Capture stop) = CaptureFault
 status_of (Script fault) = ScriptFault
 status_of Recovery = Recovered
 status_of (Image size) = BadImage

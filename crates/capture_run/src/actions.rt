@@ -1,24 +1,27 @@
 //! What is noted where a run ends, by the action, and how it ends at a fault.
 
-ghost use Rattle.std.specs.Prelude.{◌≡◌, ◌⊎◌, ℕ, List, true, false};
+ghost use Rattle.std.specs.Prelude.{◌≡◌, ◌⊎◌, ℕ, List, None, option_map, true, false};
+ghost use Rattle.source_events.specs.Report.{of_source, stop_of};
+ghost use Rattle.trace_text.specs.FaultText.{told};
 ghost use Rattle.trace_stream.specs.Recent.{last_sixteen};
 ghost use Rattle.capture_run.specs.Notes.{text_of, done_text, status_of, is_image};
 ghost use Rattle.capture_run.specs.Run.{TaskNotes};
 
 use crate::status::Status;
-use capture_actions::{Check, Realign, Ring, Show, Split, Unring};
+use capture_actions::{Check, PortText, Realign, Ring, Show, Split, Unring};
 use port_slip::Slipped;
 use recovery_listing::{RecoveringCheck, RecoveringShow};
 use script_rebuild::{Rebuild, ScriptFault};
+use source_events::Stop;
 use trace_stream::Action;
 use trace_values::Fault;
 
 /// What is noted at a fault.
 #[derive(Clone, Copy, Drop)]
 pub enum FaultNote {
-    /// The last bytes up to the fault of a capture, and before them the line of the port's fault, if the output has no
-    /// line of it.
-    Capture(Option<Fault>),
+    /// The last bytes up to the fault of a capture, and before them its line, if the output has none: that of a fault of
+    /// the port or of an ITM source.
+    Capture(Option<Stop>),
     /// The line of a script's fault.
     Script(Option<ScriptFault>),
     /// Nothing: what is written tells the faults of the capture.
@@ -70,14 +73,14 @@ impl Ending {
     ghost use Rattle.capture_run.specs.declared.actions.DoneNote.TheVariants.{Nothing};
     ghost use Rattle.capture_run.specs.declared.actions.FaultNote.TheVariants.{Capture, Recovery};
 
-    /// That of a capture with this fault of the port: none of its faults is late, and nothing is noted where it is done.
-    fn of_capture(port: Option<Fault>) -> Ending
-        ensures { result ≡ record { is_late = false; done = Nothing; fault = Capture port } }
+    /// That of a capture with this fault, if its line is noted: none is late, and nothing is noted where it is done.
+    fn of_capture(stop: Option<Stop>) -> Ending
+        ensures { result ≡ record { is_late = false; done = Nothing; fault = Capture stop } }
     {
         Ending {
             is_late: false,
             done: DoneNote::Nothing,
-            fault: FaultNote::Capture(port),
+            fault: FaultNote::Capture(stop),
         }
     }
 
@@ -126,13 +129,36 @@ impl CommandAction for Show {
     }
 }
 
+/// A fault of the port, as one of a capture.
+fn port_stop(fault: Option<Fault>) -> Option<Stop>
+    ensures { option_map stop_of result ≡ of_source None (option_map told fault) }
+{
+    match fault {
+        Some(fault) => Some(Stop {
+            fault,
+            source: None,
+        }),
+        None => None,
+    }
+}
+
 impl CommandAction for Split {
     ghost use Rattle.capture_run.specs.Actions.{captured, split_note};
 
     ghost notes = { λ plan. captured (split_note plan) };
 
     fn ending(&self) -> Ending {
-        Ending::of_capture(self.fault())
+        Ending::of_capture(port_stop(self.fault()))
+    }
+}
+
+impl CommandAction for PortText {
+    ghost use Rattle.capture_run.specs.Actions.{captured, text_note};
+
+    ghost notes = { λ plan. captured (text_note plan) };
+
+    fn ending(&self) -> Ending {
+        Ending::of_capture(self.stop())
     }
 }
 

@@ -15,7 +15,9 @@ use crate::actions::CommandAction;
 use crate::exercise::run_exercise;
 use crate::notes::{note, note_done, note_fault, note_over};
 use crate::status::Status;
-use capture_actions::{Check, ListPlan, Realign, Ring, Show, Split, SplitPlan, Unring};
+use capture_actions::{
+    Check, ListPlan, PortText, PortTextPlan, Realign, Ring, Show, Split, SplitPlan, Unring,
+};
 use capture_words::{Job, Recover, Task};
 use recovery_listing::{RecoveringCheck, RecoveringShow};
 use script_rebuild::{Rebuild, RebuildPlan};
@@ -54,13 +56,13 @@ fn run_action<A: CommandAction, I: Source, O: Sink, N: Sink>(
         Outcome::AtEnd => {
             let ending = action.ending();
             if ending.is_late {
-                note_fault(notes, ending.fault, buffers)
+                note_fault(notes, &ending.fault, buffers)
             } else {
                 note_done(notes, ending.done);
                 Status::Done
             }
         }
-        Outcome::FaultFound => note_fault(notes, action.ending().fault, buffers),
+        Outcome::FaultFound => note_fault(notes, &action.ending().fault, buffers),
         Outcome::ReadFailed => {
             note(notes, b"read fault\n");
             Status::ReadFault
@@ -235,12 +237,21 @@ pub fn run_job<I: Source, O: Sink, N: Sink>(
     };
     let Job { task, limit } = job;
     match task {
-        Task::Show { plan, only, window, recover } => {
+        Task::Show {
+            plan,
+            only,
+            window,
+            recover,
+        } => {
             let listing = ListPlan { plan, only, window };
             run_show(&mut buffers, listing, recover, limit, input, output, notes)
         }
         Task::Split { frames, id } => {
             let mut action = Split::new(SplitPlan { frames, id });
+            run_action(&mut buffers, &mut action, limit, input, output, notes)
+        }
+        Task::Text { plan, port } => {
+            let mut action = PortText::new(PortTextPlan { plan, port });
             run_action(&mut buffers, &mut action, limit, input, output, notes)
         }
         Task::Check { plan, recover } => {

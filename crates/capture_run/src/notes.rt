@@ -1,7 +1,7 @@
 //! The notes of a run, each one line.
 
 ghost use Rattle.std.specs.Prelude.{◌≡◌, ◌≤◌, ◌++◌, option_map};
-ghost use Rattle.trace_text.specs.FaultText.{told};
+ghost use Rattle.source_events.specs.Report.{stop_of};
 ghost use Rattle.trace_text.specs.NoteText.{last_line};
 ghost use Rattle.script_rebuild.specs.Rebuilder.{told as told_of_script};
 ghost use Rattle.capture_run.specs.Notes.{Notes, fault_text, script_note, text_of, done_text, status_of};
@@ -17,7 +17,6 @@ use trace_stream::{Buffers, RECENT_ROOM, TEXT_ROOM, Text};
 use trace_text::{
     BufferLine, FaultLine, ImageLine, LastLine, LimitLine, ScriptFaultLine, SlippedLine,
 };
-use trace_values::Fault;
 
 /// Writes the line. Where that fails nothing changes.
 pub fn note<N: Sink>(notes: &mut N, line: &[u8])
@@ -55,17 +54,19 @@ fn note_last<N: Sink>(notes: &mut N, buffers: &Buffers)
     );
 }
 
-/// The port's fault, where there is one, and the last bytes up to the fault of the run.
-fn note_stop<N: Sink>(notes: &mut N, fault: Option<Fault>, buffers: &Buffers)
+/// The fault of the port or of an ITM source, where there is one, and the last bytes up to the fault of the run.
+fn note_stop<N: Sink>(notes: &mut N, stop: &Option<Stop>, buffers: &Buffers)
     ensures noted { Notes (N.held notes.old) (N.held notes.new) (N.faults notes.old) (N.faults notes.new)
-        (fault_text (option_map told fault) ++ last_line buffers.now.recent) }
+        (fault_text (option_map stop_of stop.now) ++ last_line buffers.now.recent) }
 {
-    if let Some(fault) = fault {
-        let stop = Stop {
-            fault,
-            source: None,
-        };
-        note_text(notes, &FaultLine { stop, stp: false });
+    if let Some(stop) = stop {
+        note_text(
+            notes,
+            &FaultLine {
+                stop: *stop,
+                stp: false,
+            },
+        );
     }
     note_last(notes, buffers);
 }
@@ -86,16 +87,16 @@ fn note_script<N: Sink>(notes: &mut N, fault: Option<ScriptFault>)
 }
 
 /// Notes a fault, over these buffers, and answers how the run ends.
-pub fn note_fault<N: Sink>(notes: &mut N, fault: FaultNote, buffers: &Buffers) -> Status
+pub fn note_fault<N: Sink>(notes: &mut N, fault: &FaultNote, buffers: &Buffers) -> Status
     ensures noted { Notes (N.held notes.old) (N.held notes.new) (N.faults notes.old) (N.faults notes.new)
-        (text_of fault buffers.now.recent) }
-    ensures status { result ≡ status_of fault }
+        (text_of fault.now buffers.now.recent) }
+    ensures status { result ≡ status_of fault.now }
 {
     match fault {
-        FaultNote::Capture(fault) => note_stop(notes, fault, buffers),
-        FaultNote::Script(fault) => note_script(notes, fault),
+        FaultNote::Capture(stop) => note_stop(notes, stop, buffers),
+        FaultNote::Script(fault) => note_script(notes, *fault),
         FaultNote::Recovery => {}
-        FaultNote::Image(size) => note_text(notes, &ImageLine { size }),
+        FaultNote::Image(size) => note_text(notes, &ImageLine { size: *size }),
     }
     fault.status()
 }

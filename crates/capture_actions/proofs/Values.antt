@@ -1,0 +1,58 @@
+-- The values that software wrote to a port, event by event.
+use Rattle.std.proofs.Common.{◌≡◌, ℕ, List, [], ◌∷◌, ◌++◌, refl, ◌∙◌, ap, flat_map, filter, Option, Bool, true, false, cond, append-nil}
+use Rattle.std.proofs.lemmas.Grind.{flat_map-append}
+use Rattle.std.specs.Prelude.{◌==◌, ◌&&◌}
+use Rattle.itm_grammar.specs.Shortest.{bytes_of}
+use Rattle.itm_grammar.specs.Spelling.{byte_count}
+use Rattle.itm_grammar.specs.declared.packet.ItmPacket.TheVariants.{Sync, Overflow, Software, Hardware, Local}
+use Rattle.itm_grammar.specs.declared.packet.ItmPacket.TheVariants.{GlobalFirst, GlobalSecond, Extension}
+use Rattle.item_tap.specs.declared.choice.Choice.TheVariants.{Port}
+use Rattle.item_tap.specs.Choices.{is_of_port}
+use Rattle.source_events.specs.declared.event.What.TheVariants.{Locked, Packet as Said, Trigger}
+use Rattle.source_events.specs.declared.packet.Packet.TheVariants.{Stp as StpOf}
+use Rattle.capture_actions.specs.Names.{Event, What, Packet, Itm, Raw, is_of, holds}
+use Rattle.capture_actions.specs.Listing.{itm_packet, itm_packets}
+use Rattle.capture_actions.specs.PortText.{value_of, written_by, values_in}
+
+module _ (port : ℕ) where
+  -- what an event has of the port is its value, if it was written there
+  of_port : (what : What Packet) →
+      flat_map (value_of port) (itm_packet what) ≡ cond (is_of_port port what) (written_by what) []
+  of_port (Locked skipped) = refl
+  of_port (Raw bytes) = refl
+  of_port (Trigger byte) = refl
+  of_port (Said (StpOf item)) = refl
+  of_port (Said (Itm Sync)) = refl
+  of_port (Said (Itm Overflow)) = refl
+  of_port (Said (Itm (Software n size value))) = append-nil (cond (n == port) (bytes_of (byte_count size) value) [])
+  of_port (Said (Itm (Hardware disc size value))) = refl
+  of_port (Said (Itm (Local lateness delta))) = refl
+  of_port (Said (Itm (GlobalFirst len value change wrap))) = refl
+  of_port (Said (Itm (GlobalSecond wide value))) = refl
+  of_port (Said (Itm (Extension dwt value))) = refl
+
+  abbrev all_written : List (Event Packet) → List ℕ
+  all_written es = flat_map (λ (e : Event Packet). written_by e.what) es
+
+  chosen : (is : Bool) (e : Event Packet) (rest : List (Event Packet)) →
+      cond is (written_by e.what) [] ++ all_written rest ≡ all_written (cond is (e ∷ rest) rest)
+  chosen true e rest = refl
+  chosen false e rest = refl
+
+  -- an event, by whether it is of the source
+  one : (mine : Bool) (e : Event Packet) (rest : List (Event Packet)) →
+      flat_map (value_of port) (cond mine (itm_packet e.what) []) ++ all_written rest
+      ≡ all_written (cond (mine && is_of_port port e.what) (e ∷ rest) rest)
+  one false e rest = refl
+  one true e rest =
+      ap (λ (l : List ℕ). l ++ all_written rest) (of_port e.what) ∙ chosen (is_of_port port e.what) e rest
+
+  -- the values are those of the events that are chosen
+  pub values_chosen : (source : Option ℕ) (es : List (Event Packet)) →
+      values_in source port es ≡ all_written (filter (λ e. is_of source e.source && holds (Port port) e) es)
+  values_chosen source [] = refl
+  values_chosen source (e ∷ es) =
+      flat_map-append (value_of port) (cond (is_of source e.source) (itm_packet e.what) []) (itm_packets source es)
+      ∙ ap (λ (l : List ℕ). flat_map (value_of port) (cond (is_of source e.source) (itm_packet e.what) []) ++ l)
+      (values_chosen source es)
+      ∙ one (is_of source e.source) e (filter (λ x. is_of source x.source && holds (Port port) x) es)

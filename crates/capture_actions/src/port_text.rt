@@ -1,0 +1,97 @@
+//! `text`: the values that software wrote to one stimulus port of an ITM source.
+
+ghost use Rattle.std.specs.Prelude.{◌≡◌, ℕ, List, [], is_none, option_map, true};
+ghost use Rattle.capture_actions.specs.Names.{placed, is_sound, stop_of, fault_of, is_live};
+
+use crate::port_text_plan::PortTextPlan;
+use crate::port_values::PortValues;
+use crate::stopping::keep_stop;
+use source_events::Stop;
+use source_merge::Engine;
+use trace_stream::{Action, Outlet, Progress};
+
+/// The reading of a capture, and whose values are written.
+#[derive(Drop)]
+pub struct PortText {
+    engine: Engine,
+    values: PortValues,
+    stop: Option<Stop>,
+    ghost alive: { is_live engine ≡ is_none stop },
+}
+
+impl PortText {
+    ghost use Rattle.capture_actions.specs.PortTexter.{plan_of, Stands, taken_by, IsLive};
+
+    /// Nothing is read yet. The plan is sound.
+    pub fn new(plan: PortTextPlan) -> PortText
+        requires sound { is_sound plan.plan ≡ true }
+        ensures plan { plan_of result ≡ plan }
+        ensures stands { Stands result [] }
+        ensures count { taken_by result ≡ 0 }
+        ensures live { IsLive result }
+    {
+        let values = PortValues {
+            source: plan.plan.itm.as_slice().first().copied(),
+            port: plan.port,
+        };
+        PortText {
+            engine: Engine::new(plan.plan),
+            values,
+            stop: None,
+        }
+    }
+
+    /// The fault of the report, if it has one: the port's or a source's.
+    pub fn stop(&self) -> Option<Stop>
+        ensures { (seen : List ℕ) → Stands self.now seen →
+            option_map stop_of result ≡ fault_of (plan_of self.now).plan (placed seen) }
+    {
+        self.stop
+    }
+}
+
+/// Only the values are written: nothing comes after them, not at a fault either.
+impl Action for PortText {
+    ghost use Rattle.capture_actions.specs.PortText.{port_text_meaning};
+    ghost use Rattle.capture_actions.specs.PortTextLaws.{port_text_lawful};
+    ghost use Rattle.capture_actions.specs.PortTexter.{plan_of, Stands, taken_by, IsLive};
+    ghost use Rattle.capture_actions.specs.Names.{Paid};
+
+    type Plan = PortTextPlan;
+
+    ghost plan = { plan_of };
+
+    ghost live = { IsLive };
+
+    ghost taken = { taken_by };
+
+    ghost stands = { Stands };
+
+    ghost debt = { λ _. Paid };
+
+    ghost meaning = { port_text_meaning };
+
+    ghost lawful = { port_text_lawful };
+
+    #[inline]
+    fn pour(&mut self, _outlet: &mut Outlet) -> bool {
+        false
+    }
+
+    /// Takes a whole frame, or bytes up to a synchronisation or a fault, or packets, and puts the values among them.
+    fn feed(&mut self, piece: &[u8], outlet: &mut Outlet) -> Progress {
+        let at = self.engine.next();
+        let fed = self.engine.take(at, piece, &mut self.values, outlet);
+        let is_faulty = keep_stop(&mut self.stop, fed.flow);
+        Progress {
+            bytes: fed.bytes,
+            is_faulty,
+        }
+    }
+
+    fn finish(&mut self, _outlet: &mut Outlet) {}
+
+    fn is_due(&self) -> bool {
+        false
+    }
+}

@@ -1,0 +1,126 @@
+//! What puts the values of one stimulus port into an outlet, as they come.
+
+ghost use Rattle.std.specs.Prelude.{◌≡◌, ◌+◌, ◌≤◌, ◌++◌, ◌<◌, ◌∷◌, [], length, take, Some, if◌then◌else◌};
+ghost use Rattle.itm_grammar.specs.Shortest.{bytes_of};
+ghost use Rattle.itm_grammar.specs.Spelling.{byte_count};
+ghost use Rattle.capture_actions.specs.Names.{OUTLET_ROOM, is_of};
+ghost use Rattle.capture_actions.specs.PortText.{value_of};
+
+use itm_grammar::packet::{ItmPacket, Size};
+use source_events::{Event, Packet, SourceKind, What};
+use source_machine::Told;
+use source_merge::Receiver;
+use trace_stream::{OUTLET_ROOM, Outlet};
+use trace_values::SourceId;
+
+/// The most bytes of a value.
+const VALUE_ROOM: usize = 4;
+
+/// Bytes of room that a value is given: those that are copied at once.
+const COPY_ROOM: usize = 16;
+
+/// What puts the values that software wrote to a stimulus port of a source.
+#[derive(Clone, Copy, Drop)]
+pub struct PortValues {
+    /// The source; of none nothing is put.
+    pub source: Option<SourceId>,
+    /// The stimulus port, 0 to 31.
+    pub port: u8,
+}
+
+/// The bytes of a number, the least first, and after them others.
+#[inline(always)]
+fn low_first(value: u32) -> [u8; COPY_ROOM]
+    ensures { take 4 result ≡ bytes_of 4 value }
+{
+    let mut bytes = [0; COPY_ROOM];
+    bytes[0] = (value % 256) as u8;
+    bytes[1] = (value / 256 % 256) as u8;
+    bytes[2] = (value / 256 / 256 % 256) as u8;
+    bytes[3] = (value / 256 / 256 / 256 % 256) as u8;
+    bytes
+}
+
+/// Puts a value of this size, the least byte first.
+#[inline(always)]
+fn put_value(outlet: &mut Outlet, size: Size, value: u32)
+    requires room { length outlet.old + COPY_ROOM ≤ OUTLET_ROOM }
+    ensures text { outlet.new ≡ outlet.old ++ bytes_of (byte_count size) value }
+    ensures bound { length outlet.new ≤ length outlet.old + VALUE_ROOM }
+{
+    outlet.append_front(&low_first(value), size.byte_count() as usize);
+}
+
+impl PortValues {
+    /// Takes the next packet of this source, and puts its value if it is one of the port.
+    #[inline(always)]
+    fn put_packet(&self, outlet: &mut Outlet, source: Option<SourceId>, packet: &ItmPacket)
+        requires room { length outlet.old + COPY_ROOM ≤ OUTLET_ROOM }
+        ensures text { outlet.new ≡ outlet.old ++
+            (if is_of self.now.source source then value_of self.now.port packet.now else []) }
+        ensures bound { length outlet.new ≤ length outlet.old + VALUE_ROOM }
+    {
+        if let ItmPacket::Software { port, size, value } = packet {
+            if *port == self.port && self.source == source {
+                put_value(outlet, *size, *value);
+            }
+        }
+    }
+}
+
+/// Of all events the values of the port alone go to the outlet.
+impl Receiver for PortValues {
+    ghost use Rattle.std.specs.Prelude.{⊤};
+    ghost use Rattle.capture_actions.specs.PortValues.{gets, room};
+    ghost use Rattle.capture_actions.specs.PortValuesLaws.{gets_none, gets_more};
+
+    type To = Outlet;
+
+    ghost gets = { gets };
+
+    ghost room = { room };
+
+    ghost takes = { λ values source kind. ⊤ };
+
+    ghost gets_none = { gets_none };
+
+    ghost gets_more = { gets_more };
+
+    #[inline(always)]
+    fn give(&mut self, outlet: &mut Outlet, event: Event<Packet>) {
+        if let What::Packet(Packet::Itm(packet)) = &event.what {
+            self.put_packet(outlet, event.source, packet);
+        }
+    }
+
+    #[inline(always)]
+    fn events_left(&self, outlet: &Outlet) -> usize {
+        (OUTLET_ROOM + VALUE_ROOM - COPY_ROOM).saturating_sub(outlet.len()) / VALUE_ROOM
+    }
+
+    /// A packet is looked at as what it says, whatever its source.
+    #[inline(always)]
+    fn takes_told(&self, _source: SourceId, _kind: SourceKind) -> bool {
+        true
+    }
+
+    #[inline(always)]
+    fn give_told(
+        &mut self,
+        outlet: &mut Outlet,
+        _at: u64,
+        _half: u8,
+        source: SourceId,
+        told: Told,
+    ) {
+        if let Told::Itm(packet) = told {
+            self.put_packet(outlet, Some(source), &packet);
+        }
+    }
+
+    #[inline(always)]
+    fn give_raw(&mut self, _outlet: &mut Outlet, _at: u64, _source: SourceId, _bytes: &[u8]) {}
+
+    #[inline(always)]
+    fn give_trigger(&mut self, _outlet: &mut Outlet, _at: u64, _source: SourceId, _byte: u8) {}
+}
