@@ -17,8 +17,6 @@ mod frame_grammar_tests;
 #[cfg(test)]
 mod frame_writer_tests;
 #[cfg(test)]
-mod item_tap_tests;
-#[cfg(test)]
 mod itm_codec_tests;
 #[cfg(test)]
 mod itm_grammar_tests;
