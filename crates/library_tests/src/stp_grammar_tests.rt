@@ -1,4 +1,4 @@
-//! Opcodes, packets by their nibbles, the items that packets tell, and which numbers are in their ranges.
+//! Packets by their nibbles, the items that packets tell, and which numbers are in their ranges.
 
 ghost use Rattle.std.specs.Prelude.{◌<◌};
 
@@ -6,145 +6,10 @@ use crate::same::same;
 use std::process::Abort;
 use stp_grammar::attribution::Attribution;
 use stp_grammar::item::{Place, Stamp, StpItem};
-use stp_grammar::nibble::{nibbles, number_with};
-use stp_grammar::opcode::{Head, opcode_of, row_at};
 use stp_grammar::packet::{Order, Row, StpPacket, Width};
 use stp_grammar::partial::Partial;
 use stp_grammar::proper::{is_proper, is_proper_stp};
 use trace_values::{Next, Reason};
-
-#[test]
-fn halves_bytes_and_joins_nibbles(rt: HostRuntime) {
-    same(&rt, &"nibbles(0x00)", &nibbles(0x00), &(0, 0));
-    same(&rt, &"nibbles(0x41)", &nibbles(0x41), &(1, 4));
-    same(&rt, &"nibbles(0xFE)", &nibbles(0xFE), &(14, 15));
-    same(
-        &rt,
-        &"number_with(Order::Msn, 2, 0x41, 0xA)",
-        &number_with(Order::Msn, 2, 0x41, 0xA),
-        &0x41A,
-    );
-    same(
-        &rt,
-        &"number_with(Order::Lsn, 2, 0x41, 0xA)",
-        &number_with(Order::Lsn, 2, 0x41, 0xA),
-        &0xA41,
-    );
-    let low = 0x0FFF_FFFF_FFFF_FFFF;
-    same(
-        &rt,
-        &"number_with(Order::Msn, 15, low, 0)",
-        &number_with(Order::Msn, 15, low, 0),
-        &0xFFFF_FFFF_FFFF_FFF0,
-    );
-    same(
-        &rt,
-        &"number_with(Order::Lsn, 15, low, 8)",
-        &number_with(Order::Lsn, 15, low, 8),
-        &0x8FFF_FFFF_FFFF_FFFF,
-    );
-}
-
-/// The opcodes in the order of their rows, with how many nibbles the payload has and whether a timestamp follows.
-const TABLE: [(u8, Option<u8>, Option<u8>, u8, bool); 35] = [
-    (0x0, None, None, 0, false),
-    (0x1, None, None, 2, false),
-    (0x2, None, None, 2, false),
-    (0x3, None, None, 2, false),
-    (0x4, None, None, 2, false),
-    (0x5, None, None, 4, false),
-    (0x6, None, None, 8, false),
-    (0x7, None, None, 16, false),
-    (0x8, None, None, 2, true),
-    (0x9, None, None, 4, true),
-    (0xA, None, None, 8, true),
-    (0xB, None, None, 16, true),
-    (0xC, None, None, 1, false),
-    (0xD, None, None, 1, true),
-    (0xE, None, None, 0, true),
-    (0xF, Some(0x1), None, 4, false),
-    (0xF, Some(0x2), None, 2, false),
-    (0xF, Some(0x3), None, 4, false),
-    (0xF, Some(0x4), None, 2, true),
-    (0xF, Some(0x5), None, 4, true),
-    (0xF, Some(0x6), None, 8, true),
-    (0xF, Some(0x7), None, 16, true),
-    (0xF, Some(0x8), None, 2, false),
-    (0xF, Some(0x9), None, 4, false),
-    (0xF, Some(0xA), None, 8, false),
-    (0xF, Some(0xB), None, 16, false),
-    (0xF, Some(0xC), None, 1, true),
-    (0xF, Some(0xD), None, 1, false),
-    (0xF, Some(0xE), None, 0, false),
-    (0xF, Some(0x0), Some(0x0), 1, false),
-    (0xF, Some(0x0), Some(0x1), 0, true),
-    (0xF, Some(0x0), Some(0x6), 2, false),
-    (0xF, Some(0x0), Some(0x7), 2, true),
-    (0xF, Some(0x0), Some(0x8), 8, false),
-    (0xF, Some(0x0), Some(0x9), 8, true),
-];
-
-#[test]
-fn has_the_table(rt: HostRuntime) {
-    for number in 0..35u8 {
-        let (first, second, third, payload, stamped) = TABLE[usize::from(number)];
-        let row = row_at(number);
-        let nibbles = 1 + u8::from(second.is_some()) + u8::from(third.is_some());
-        same(&rt, &row, &row.opcode_nibbles(), &nibbles);
-        same(&rt, &row, &row.payload_nibbles(), &payload);
-        same(&rt, &row, &row.is_stamped(), &stamped);
-        same(
-            &rt,
-            &row,
-            &opcode(&rt, first, second, third),
-            &Head::Whole(number),
-        );
-    }
-}
-
-/// What the nibbles begin, which must be under 16, and a third after a second.
-fn opcode(rt: &impl Abort, first: u8, second: Option<u8>, third: Option<u8>) -> Head {
-    assert!(rt; first < 16);
-    match (second, third) {
-        (Some(b), Some(c)) => assert!(rt; b < 16 && c < 16),
-        (Some(b), None) => assert!(rt; b < 16),
-        (None, Some(_)) => assert!(rt; false),
-        (None, None) => {}
-    }
-    opcode_of(first, second, third)
-}
-
-#[test]
-fn answers_what_nibbles_begin(rt: HostRuntime) {
-    let rows: [(u8, Option<u8>, Option<u8>, Head); 18] = [
-        (0x0, Some(0x0), Some(0x2), Head::Whole(0)),
-        (0xE, Some(0xF), None, Head::Whole(14)),
-        (0xF, None, None, Head::More),
-        (0xF, Some(0x0), None, Head::More),
-        (0xF, Some(0x1), Some(0x2), Head::Whole(15)),
-        (0xF, Some(0xE), Some(0xF), Head::Whole(28)),
-        (0xF, Some(0xF), None, Head::More),
-        (0xF, Some(0xF), Some(0xF), Head::More),
-        (0xF, Some(0xF), Some(0xE), Head::Refused),
-        (0xF, Some(0xF), Some(0x0), Head::Refused),
-        (0xF, Some(0x0), Some(0x2), Head::Refused),
-        (0xF, Some(0x0), Some(0x3), Head::Refused),
-        (0xF, Some(0x0), Some(0x4), Head::Refused),
-        (0xF, Some(0x0), Some(0x5), Head::Refused),
-        (0xF, Some(0x0), Some(0xA), Head::Refused),
-        (0xF, Some(0x0), Some(0xC), Head::Refused),
-        (0xF, Some(0x0), Some(0xE), Head::Refused),
-        (0xF, Some(0x0), Some(0xF), Head::Refused),
-    ];
-    for (first, second, third, head) in rows {
-        same(
-            &rt,
-            &(&first, &second, &third),
-            &opcode(&rt, first, second, third),
-            &head,
-        );
-    }
-}
 
 /// The digit that a character 0 to 9 or A to F is.
 fn digit(code: u8) -> u8
