@@ -29,20 +29,25 @@ impl Unring {
     ghost use Rattle.capture_actions.specs.Unring.{Stands, plan_of, taken_by, debt_of, ordered_of};
     ghost use Rattle.capture_actions.specs.Names.{Paid};
 
-    /// Over a buffer that took nothing yet, for an image of 16 to 2^24 bytes. It takes all its memory here, and fails
-    /// only for want of it.
-    pub fn open(alloc: Global, plan: UnringPlan) -> Result<Unring, AllocError>
-        requires least { 16 ≤ plan.size }
-        requires most { plan.size ≤ 2 ^ 24 }
-        requires within { plan.pointer < plan.size }
-        ensures plan { IfOk result (λ u. plan_of u ≡ plan) }
+    /// Over a buffer that took nothing yet, for an image of 16 to 2^24 bytes with this pointer, which is full or not. It
+    /// takes all its memory here, and fails only for want of it.
+    pub fn open(
+        alloc: Global,
+        size: usize,
+        pointer: usize,
+        full: bool,
+    ) -> Result<Unring, AllocError>
+        requires least { 16 ≤ size }
+        requires most { size ≤ 2 ^ 24 }
+        requires within { pointer < size }
+        ensures plan { IfOk result (λ u. plan_of u ≡ record { size = size; pointer = pointer; full = full }) }
         ensures fresh { IfOk result (λ u. Stands u [] × (taken_by u ≡ 0) × (debt_of u ≡ Paid)) }
     {
-        let buffer = TraceBuffer::new(alloc, plan.size)?;
+        let buffer = TraceBuffer::new(alloc, size)?;
         Ok(Unring {
             buffer,
-            pointer: plan.pointer,
-            full: plan.full,
+            pointer,
+            full,
             owed: 0,
         })
     }

@@ -15,7 +15,7 @@ use crate::actions::CommandAction;
 use crate::exercise::run_exercise;
 use crate::notes::{note, note_done, note_fault, note_over};
 use crate::status::Status;
-use capture_actions::{Check, ListPlan, Realign, Ring, Show, Split, SplitPlan, Unring, UnringPlan};
+use capture_actions::{Check, ListPlan, Realign, Ring, Show, Split, SplitPlan, Unring};
 use capture_words::{Job, Recover, Task};
 use recovery_listing::{RecoveringCheck, RecoveringShow};
 use script_rebuild::{Rebuild, RebuildPlan};
@@ -251,8 +251,14 @@ pub fn run_job<I: Source, O: Sink, N: Sink>(
             run_action(&mut buffers, &mut action, limit, input, output, notes)
         }
         Task::Realign => {
-            let mut action = Realign::new();
-            run_action(&mut buffers, &mut action, limit, input, output, notes)
+            run_action(
+                &mut buffers,
+                &mut Realign::new(),
+                limit,
+                input,
+                output,
+                notes,
+            )
         }
         Task::Ring { size } => {
             let opened = Ring::open(alloc, size);
@@ -263,14 +269,7 @@ pub fn run_job<I: Source, O: Sink, N: Sink>(
             pointer,
             full,
         } => {
-            let opened = Unring::open(
-                alloc,
-                UnringPlan {
-                    size,
-                    pointer,
-                    full,
-                },
-            );
+            let opened = Unring::open(alloc, size, pointer, full);
             run_opened(&mut buffers, opened, size as u64, input, output, notes)
         }
         Task::Exercise { items, lose } => run_exercise(&mut buffers, items, lose, output, notes),
