@@ -34,8 +34,8 @@ pub goes_on : (task : Task) (limit : ℕ) (old new : Streams) (status : Status) 
     HasDone task limit old new status → GoesOn task → Loses old.left new.left bytes → length bytes ≤ limit →
     (status ≡ ReadFault → ⊥) → (status ≡ WriteFault → ⊥) → IsRecovered status
 goes_on (Show plan only window On) limit old new status bytes run on lost within =
-    ends_so (showing On (record { plan = plan; only = only; window = window })) refl refl limit old new bytes lost within
-    status run
+    ends_so (showing On (record { plan = plan; only = only; window = window })) refl refl limit old new bytes lost
+    within status run
 goes_on (Show plan only window Off) limit old new status bytes run on lost within = absurd on
 goes_on (Check plan On) limit old new status bytes run on lost within =
     ends_so (checking On plan) refl refl limit old new bytes lost within status run

@@ -235,7 +235,12 @@ pub fn run_job<I: Source, O: Sink, N: Sink>(
     };
     let Job { task, limit } = job;
     match task {
-        Task::Show { plan, only, window, recover } => {
+        Task::Show {
+            plan,
+            only,
+            window,
+            recover,
+        } => {
             let listing = ListPlan { plan, only, window };
             run_show(&mut buffers, listing, recover, limit, input, output, notes)
         }

@@ -114,11 +114,11 @@ grows_once : (r : Stretches) (at byte : ℕ) → (port_stream r.now.hunts r.now.
     ≡ parts_in (of_stretches r) ++ more)
 grows_once r at byte none = elim (by_mode r.now.hunts r.now.units) [
   | inl q ↦ (
-      parts_by r.now.count at (step r.now.hunts r.now.units at byte none q)
-          (cells_by (id_in (port_stream r.now.hunts r.now.units)) (n r.now.hunts r.now.units at byte none q)),
-      laws.port r at byte _ _ none (grows r.now.hunts r.now.units at byte none q)
-          (cells r.now.hunts r.now.units at byte none q),
-    )
+    parts_by r.now.count at (step r.now.hunts r.now.units at byte none q)
+        (cells_by (id_in (port_stream r.now.hunts r.now.units)) (n r.now.hunts r.now.units at byte none q)),
+    laws.port r at byte _ _ none (grows r.now.hunts r.now.units at byte none q)
+        (cells r.now.hunts r.now.units at byte none q),
+  )
   | inr q ↦ begun r
       (subst (λ (h : Bool). parts_of (stretch_of (record { hunts = h; count = r.now.count; units = r.now.units })) ≡ [])
       (sym q.0) (laws.nothing_yet r.now.units r.now.count q.1)) (byte_at at byte)
@@ -141,9 +141,11 @@ with_byte Bare u at byte = (map Run (runs_of (bare_cell (byte_at at byte) ∷ []
 
 with_bytes : (mode : FramesMode) (u : List Placed) (at : ℕ) (bytes : List ℕ) → (more : List Part) ×
     (parts_in (recovered mode (u ++ placed_from at bytes)) ≡ parts_in (recovered mode u) ++ more)
-with_bytes mode u at [] =
-    ([], ap (λ (l : List Placed). parts_in (recovered mode l)) (append-nil u)
-    ∙ sym (append-nil (parts_in (recovered mode u))))
+with_bytes mode u at [] = (
+  [],
+  ap (λ (l : List Placed). parts_in (recovered mode l)) (append-nil u)
+      ∙ sym (append-nil (parts_in (recovered mode u))),
+)
 with_bytes mode u at (b ∷ bytes) =
     let one = with_byte mode u at b in
     let rest = with_bytes mode (u ++ byte_at at b ∷ []) (at + 1) bytes in (

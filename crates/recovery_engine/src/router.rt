@@ -68,12 +68,7 @@ fn give_raw<V: Hearer>(id: SourceId, cells: &[Cell], out: &mut V, to: &mut V::To
 }
 
 /// Takes a run of one source, or of none.
-fn take_run<V: Hearer>(
-    slots: &mut [RecoveringSlot],
-    cells: &[Cell],
-    out: &mut V,
-    to: &mut V::To,
-)
+fn take_run<V: Hearer>(slots: &mut [RecoveringSlot], cells: &[Cell], out: &mut V, to: &mut V::To)
     requires some { 0 < length cells.now }
     requires size { length cells.now ≤ 15 }
     requires few { total slots.old + 4 * length cells.now ≤ COUNT_ROOM }
@@ -93,12 +88,7 @@ fn take_run<V: Hearer>(
 }
 
 /// Takes the cells of a frame, run by run.
-fn take_frame<V: Hearer>(
-    slots: &mut [RecoveringSlot],
-    cells: &[Cell],
-    out: &mut V,
-    to: &mut V::To,
-)
+fn take_frame<V: Hearer>(slots: &mut [RecoveringSlot], cells: &[Cell], out: &mut V, to: &mut V::To)
     requires size { length cells.now ≤ 15 }
     requires few { total slots.old + 4 * length cells.now ≤ COUNT_ROOM }
     requires room { 2 * length cells.now ≤ V.room (out.old, to.old) }

@@ -30,7 +30,8 @@ line_so : (p : ListPlan) (before : List (Event (Heard Packet))) (e : Event (Hear
     (r : Result (What Packet) Reason) (lines : List (Bool × List ℕ)) → line_of p before e r ++ listed_lines lines
     ≡ listed_lines ((has_line p before e r, line_of (unfiltered p) before e r) ∷ lines)
 line_so p before e (Ok what) lines =
-    one_so (is_listed p.only p.window (seen_in before) (as_event e what)) (line_of (unfiltered p) before e (Ok what)) lines
+    one_so (is_listed p.only p.window (seen_in before) (as_event e what))
+    (line_of (unfiltered p) before e (Ok what)) lines
 line_so p before e (Err reason) lines = refl
 
 some_so : (p : ListPlan) (before es : List (Event (Heard Packet))) →

@@ -20,7 +20,9 @@ mod said_tables;
 mod stp;
 mod tables;
 
-pub use counts::{ExerciseLines, FaultCountLine, PortCountsLines, SOURCE_COUNTS_ROOM, put_source_counts};
+pub use counts::{
+    ExerciseLines, FaultCountLine, PortCountsLines, SOURCE_COUNTS_ROOM, put_source_counts,
+};
 pub use digits::Digits;
 pub use ends::{EndLine, PortEndLine, SourceEndLine, TAILS_ROOM, print_tails};
 pub use faults::{FaultLine, print_fault};
