@@ -94,7 +94,8 @@ others_left id x h [] = refl
 others_left id x h (e ∷ es) = by (is_of (Some id) e.source) refl (others_left id x h es) where
   by : (t : Bool) → is_of (Some id) e.source ≡ t →
       itm_packets (Some x) (without (Some id) es) ≡ itm_packets (Some x) es →
-      itm_packets (Some x) (cond (not t) (e ∷ without (Some id) es) (without (Some id) es)) ≡ itm_packets (Some x) (e ∷ es)
+      itm_packets (Some x) (cond (not t) (e ∷ without (Some id) es) (without (Some id) es))
+      ≡ itm_packets (Some x) (e ∷ es)
   by true q r =
       r ∙ ap (λ (b : Bool). cond b (itm_packet e.what) [] ++ itm_packets (Some x) es) (sym (not_both id x h e.source q))
   by false q r = ap (λ (l : List ItmPacket). cond (is_of (Some x) e.source) (itm_packet e.what) [] ++ l) r
@@ -113,7 +114,8 @@ stand_anew es old new id within fresh x d stands = elim (cases_eq x id) [
       (subst (Stands new) (sym none) fresh)
       )
   | inr h ↦ (
-      subst (λ (k : Clocks). Stands k (itm_packets (Some x) (without (Some id) es))) (sym (get_or-set_other old id x new d h))
+      subst (λ (k : Clocks). Stands k (itm_packets (Some x) (without (Some id) es)))
+      (sym (get_or-set_other old id x new d h))
       (subst (Stands (get_or old x d)) (sym (others_left id x h es)) stands)
       )
 ]

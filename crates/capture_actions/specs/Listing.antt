@@ -42,7 +42,8 @@ is_within (Some bounds) before e = passes (holds bounds.first) (holds bounds.las
 abbrev pub is_listed : Option Choice → Option Bounds → List (Event Packet) → Event Packet → Bool
 is_listed only window before e = is_within window before e && meets only e || not (is_item e.what)
 
--- the line of an event, where the clocks have taken some events and the window has seen some; none where it is not listed
+-- The line of an event, where the clocks have taken some events and the window has seen some; none where it is not
+-- listed.
 abbrev pub line_by : ListPlan → List (Event Packet) → List (Event Packet) → Event Packet → List ℕ
 line_by p clocked seen e =
     if is_listed p.only p.window seen e

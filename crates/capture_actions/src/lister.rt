@@ -144,7 +144,7 @@ impl Lister {
         );
     }
 
-    /// Puts the line of a fault. Behind it the clocks of its source begin anew, and behind one of the port those of all.
+    /// Puts the line of a fault. Behind it the clocks of its source begin anew, behind one of the port those of all.
     pub fn put_fault(&mut self, outlet: &mut Outlet, stop: &Stop)
         requires room { length outlet.old + TEXT_ROOM ≤ OUTLET_ROOM }
         ensures plan { self.new.plan ≡ self.old.plan }

@@ -3,7 +3,7 @@ use Rattle.std.proofs.Common.{◌≡◌, ◌≤◌, List, ℕ, refl, sym, ◌∙
 use Rattle.trace_io.specs.Causes.{Rose}
 use Rattle.capture_words.specs.declared.job.Task.{Task}
 use Rattle.capture_words.specs.declared.job.Task.TheVariants.{Show, Split, Check, Rebuild, Exercise, Realign, Ring}
-use Rattle.capture_words.specs.declared.job.Task.TheVariants.{Unring}
+use Rattle.capture_words.specs.declared.job.Task.TheVariants.{Unring, Text}
 use Rattle.capture_words.specs.declared.recover.Recover.TheVariants.{Off, On}
 use Rattle.capture_run.specs.Actions.{HasDone, checking, showing}
 use Rattle.capture_run.specs.Recovers.{GoesOn, IsRecovered}
@@ -34,13 +34,14 @@ pub goes_on : (task : Task) (limit : ℕ) (old new : Streams) (status : Status) 
     HasDone task limit old new status → GoesOn task → Loses old.left new.left bytes → length bytes ≤ limit →
     (status ≡ ReadFault → ⊥) → (status ≡ WriteFault → ⊥) → IsRecovered status
 goes_on (Show plan only window On) limit old new status bytes run on lost within =
-    ends_so (showing On (record { plan = plan; only = only; window = window })) refl refl limit old new bytes lost within
-    status run
+    ends_so (showing On (record { plan = plan; only = only; window = window })) refl refl limit old new bytes lost
+    within status run
 goes_on (Show plan only window Off) limit old new status bytes run on lost within = absurd on
 goes_on (Check plan On) limit old new status bytes run on lost within =
     ends_so (checking On plan) refl refl limit old new bytes lost within status run
 goes_on (Check plan Off) limit old new status bytes run on lost within = absurd on
 goes_on (Split frames id) limit old new status bytes run on lost within = absurd on
+goes_on (Text plan port) limit old new status bytes run on lost within = absurd on
 goes_on (Rebuild plan sync half) limit old new status bytes run on lost within = absurd on
 goes_on (Exercise items lose) limit old new status bytes run on lost within = absurd on
 goes_on Realign limit old new status bytes run on lost within = absurd on

@@ -50,7 +50,8 @@ module _ (old new : RecoveringShow) (at byte : ℕ) (given : List (Event (Heard 
           engine = subst (λ (u : List Placed). reading.Stands new.engine u) (sym here) (list (placed seen) s.engine);
           plan = same ∙ s.plan ∙ sym (ap (λ (q : ListPlan). q.plan) gets.same);
           lister = subst (λ (q : ListPlan). lister.Stands new.lister (report q.plan (placed all))) (sym gets.same)
-              (subst (λ (l : List (Event (Heard Packet))). lister.Stands new.lister l) (sym more) (gets.stands said s.lister));
+              (subst (λ (l : List (Event (Heard Packet))). lister.Stands new.lister l) (sym more)
+              (gets.stands said s.lister));
         };
         more = lines_after p said given;
         grown = ap (lines_after p []) more ∙ lines_append p [] said given;
@@ -69,7 +70,8 @@ fed_none show a = record {
   fed = λ seen s. record {
     read = subst (Stands show) (sym (append-nil seen)) s;
     more = [];
-    grown = ap (show_meaning (plan_of show)).text (append-nil seen) ∙ sym (append-nil ((show_meaning (plan_of show)).text seen));
+    grown = ap (show_meaning (plan_of show)).text (append-nil seen) ∙ sym
+        (append-nil ((show_meaning (plan_of show)).text seen));
     gained = sym (append-nil a);
     fault = λ h. h;
   };

@@ -1,4 +1,5 @@
 pub mod Listing
+pub mod Filtered
 pub mod Summary
 pub mod LineLaws
 pub mod Lister

@@ -3,6 +3,7 @@
 #![tactic(auto)]
 
 mod check;
+pub mod laws;
 mod lister;
 pub mod rows;
 mod show;

@@ -13,12 +13,12 @@ use Rattle.hex.proofs.HexLemmas.{length-encode_with}
 use Rattle.itm_grammar.specs.declared.packet.Size.{Size}
 use Rattle.itm_grammar.specs.declared.packet.Size.TheVariants.{One, Two, Four}
 use Rattle.itm_grammar.specs.declared.packet.Lateness.{Lateness}
-use Rattle.itm_grammar.specs.declared.packet.Lateness.TheVariants.{Exact, StampLate, PacketLate, BothLate}
+use Rattle.itm_grammar.specs.declared.packet.Lateness.TheVariants.{Exact}
 use Rattle.itm_grammar.specs.declared.packet.ItmPacket.{ItmPacket}
 use Rattle.itm_grammar.specs.declared.packet.ItmPacket.TheVariants.{Sync, Overflow, Software, Hardware, Local, GlobalFirst, GlobalSecond, Extension}
 use Rattle.itm_grammar.specs.Proper.{IsProper, first_bits, second_bits}
 use Rattle.dwt_packets.specs.declared.item.Change.{Change}
-use Rattle.dwt_packets.specs.declared.item.Change.TheVariants.{Enter, Exit, Return}
+use Rattle.dwt_packets.specs.declared.item.Change.TheVariants.{Enter}
 use Rattle.dwt_packets.specs.declared.item.DwtItem.{DwtItem}
 use Rattle.dwt_packets.specs.declared.item.DwtItem.TheVariants.{Counters, Exception, Sample, Asleep, MatchPc, MatchAddress, Read, Written, Other}
 use Rattle.dwt_packets.specs.Table.{name}
@@ -45,7 +45,7 @@ use Rattle.source_events.specs.declared.packet.Packet.TheVariants.{Itm, Stp}
 use Rattle.source_events.specs.declared.plan.SourceKind.{SourceKind}
 use Rattle.source_events.specs.declared.plan.SourceKind.TheVariants.{Itm as Itm_kind, Stp as Stp_kind}
 use Rattle.source_events.specs.declared.port_mode.PortMode.{PortMode}
-use Rattle.source_events.specs.declared.port_mode.PortMode.TheVariants.{Bare, Aligned, Locked as Locked_mode, Hunting}
+use Rattle.source_events.specs.declared.port_mode.PortMode.TheVariants.{Bare}
 use Rattle.source_events.specs.declared.tails.SourceTail.{SourceTail}
 use Rattle.trace_clock.specs.LastWord.{nibble_count}
 use Rattle.trace_text.specs.Values.{value_text}

@@ -24,7 +24,8 @@ returns-in-Off-clause-ran g c =
       note_faults = g.N.Sink.faults c.run_action.new.notes;
     } in
     subst (λ (r : Recover). HasRun (checking r c.args.plan) c.args.limit old new c.run_action.result) (sym c.in-Off.is)
-    (subst (λ (p : Plan). HasRun (task_of (check_meaning p) (captured last_note)) c.args.limit old new c.run_action.result)
+    (subst (λ (p : Plan). HasRun (task_of (check_meaning p) (captured last_note)) c.args.limit old new
+    c.run_action.result)
     c.new-action.ensures.plan c.run_action.ensures.ran)
 
 pub returns-in-Off-clause-complete : goal.returns-in-Off-clause-complete
@@ -47,8 +48,10 @@ returns-in-On-clause-ran g c =
       noted = g.N.Sink.held c.run_action-in-On.new.notes;
       note_faults = g.N.Sink.faults c.run_action-in-On.new.notes;
     } in
-    subst (λ (r : Recover). HasRun (checking r c.args.plan) c.args.limit old new c.run_action-in-On.result) (sym c.in-On.is)
-    (subst (λ (p : Plan). HasRun (task_of (recovering.check_meaning p) (recovered_notes p)) c.args.limit old new c.run_action-in-On.result)
+    subst (λ (r : Recover). HasRun (checking r c.args.plan) c.args.limit old new c.run_action-in-On.result)
+    (sym c.in-On.is)
+    (subst (λ (p : Plan). HasRun (task_of (recovering.check_meaning p) (recovered_notes p)) c.args.limit old new
+    c.run_action-in-On.result)
     c.new-action-in-On.ensures.plan c.run_action-in-On.ensures.ran)
 
 pub returns-in-On-clause-complete : goal.returns-in-On-clause-complete

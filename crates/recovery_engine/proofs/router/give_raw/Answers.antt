@@ -18,14 +18,16 @@ told_by x n run = told (Some x) (raw_events n run)
 pub returns-then-number-eq-NULL-clause-given : goal.returns-then-number-eq-NULL-clause-given
 returns-then-number-eq-NULL-clause-given g c =
     let x = c.args.id in
-    subst (λ n. g.V.Hearer.gets (c.args.out.now, c.args.to.now) (told_by x n c.args.cells.now) (c.args.out.now, c.args.to.now))
+    subst (λ n. g.V.Hearer.gets (c.args.out.now, c.args.to.now) (told_by x n c.args.cells.now)
+    (c.args.out.now, c.args.to.now))
     (sym (sym c.number-number.ensures.value ∙ c.if-number-eq-NULL.true))
     (g.met.V.Hearer.gets_none (c.args.out.now, c.args.to.now))
 
 pub returns-then-number-eq-TRIGGER-clause-given : goal.returns-then-number-eq-TRIGGER-clause-given
 returns-then-number-eq-TRIGGER-clause-given g c =
     let x = c.args.id in
-    subst (λ n. g.V.Hearer.gets (c.args.out.now, c.args.to.now) (told_by x n c.args.cells.now) (c.give_triggers.new.out, c.give_triggers.new.to))
+    subst (λ n. g.V.Hearer.gets (c.args.out.now, c.args.to.now) (told_by x n c.args.cells.now)
+    (c.give_triggers.new.out, c.give_triggers.new.to))
     (sym (sym c.number-number.ensures.value ∙ c.if-number-eq-TRIGGER.true))
     c.give_triggers.ensures.given
 
@@ -34,7 +36,8 @@ returns-clause-given g c =
     let run = c.args.cells.now in
     let x = c.args.id in
     let last = c.index-cells-cells.result in
-    subst (λ (l : List (What (Heard Packet) × Place)). g.V.Hearer.gets (c.args.out.now, c.args.to.now) (told (Some x) l) (c.hear.new.self, c.hear.new.to))
+    subst (λ (l : List (What (Heard Packet) × Place)). g.V.Hearer.gets (c.args.out.now, c.args.to.now)
+    (told (Some x) l) (c.hear.new.self, c.hear.new.to))
     (ap (λ (n : ℕ). (Raw c.of.result, record { at = n; half = 0 }) ∷ [])
     (last_is run last c.requires.some)
     ∙ ap (λ (b : List ℕ). (Raw b, record { at = last_at run; half = 0 }) ∷ []) c.of.ensures

@@ -24,7 +24,8 @@ loop-index-preserved g c =
       given =
           subst (λ l. g.V.Hearer.gets (c.args.out.now, c.args.to.now) l (c.hear.new.self, c.hear.new.to))
           (one_more x run k cell c.loop-index-test.true c.index-cells-index.is)
-          (g.met.V.Hearer.gets_more (c.args.out.now, c.args.to.now) (c.loop-index.out, c.loop-index.to) (c.hear.new.self, c.hear.new.to) (told_by x (take k run))
+          (g.met.V.Hearer.gets_more (c.args.out.now, c.args.to.now) (c.loop-index.out, c.loop-index.to)
+          (c.hear.new.self, c.hear.new.to) (told_by x (take k run))
           (trigger x cell ∷ []) i.given c.hear.ensures.gets);
       space = (let a = i.space in let h = c.hear.ensures.room in omega (arith, a, h));
     }

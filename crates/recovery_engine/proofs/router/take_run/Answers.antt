@@ -38,6 +38,7 @@ returns-then-not-take_own-clause-takes g c =
 
 pub returns-else-not-take_own-clause-takes : goal.returns-else-not-take_own-clause-takes
 returns-else-not-take_own-clause-takes g c =
-    takes_own g.V.Hearer.gets g.V.Hearer.room c.args.cells.now c.in-Some.id (c.args.slots.now, (c.args.out.now, c.args.to.now))
+    takes_own g.V.Hearer.gets g.V.Hearer.room c.args.cells.now c.in-Some.id
+    (c.args.slots.now, (c.args.out.now, c.args.to.now))
     (c.take_own.new.slots, (c.take_own.new.out, c.take_own.new.to))
     (first_id c.args.cells.now _ c.requires.some ∙ c.in-Some.is) (c.take_own.ensures.own c.if-not-take_own.false)

@@ -21,14 +21,16 @@ returns-in-Quiet-clause-takes g c =
 
 pub returns-in-Frame-clause-takes : goal.returns-in-Frame-clause-takes
 returns-in-Frame-clause-takes g c =
-    subst (λ s. Takes g.V.Hearer.gets (parts_by 0 c.args.at s c.args.cells.now) (c.args.slots.now, (c.args.out.now, c.args.to.now))
+    subst (λ s. Takes g.V.Hearer.gets (parts_by 0 c.args.at s c.args.cells.now)
+    (c.args.slots.now, (c.args.out.now, c.args.to.now))
     (c.take_frame.new.slots, (c.take_frame.new.out, c.take_frame.new.to))) (sym c.in-Frame.is)
     c.take_frame.ensures.takes
 
 pub returns-in-Locked-clause-takes : goal.returns-in-Locked-clause-takes
 returns-in-Locked-clause-takes g c =
     let place : Place = record { at = c.args.at; half = 0 } in
-    subst (λ s. Takes g.V.Hearer.gets (parts_by 0 c.args.at s c.args.cells.now) (c.args.slots.now, (c.args.out.now, c.args.to.now))
+    subst (λ s. Takes g.V.Hearer.gets (parts_by 0 c.args.at s c.args.cells.now)
+    (c.args.slots.now, (c.args.out.now, c.args.to.now))
     (c.args.slots.now, (c.hear.new.self, c.hear.new.to))) (sym c.in-Locked.is) (
       _,
       c.hear.ensures.gets,
@@ -41,7 +43,8 @@ pub returns-in-Fault-clause-takes : goal.returns-in-Fault-clause-takes
 returns-in-Fault-clause-takes g c =
     let f = c.in-Fault.fault in
     let place : Place = record { at = f.at; half = f.half } in
-    subst (λ s. Takes g.V.Hearer.gets (parts_by 0 c.args.at s c.args.cells.now) (c.args.slots.now, (c.args.out.now, c.args.to.now))
+    subst (λ s. Takes g.V.Hearer.gets (parts_by 0 c.args.at s c.args.cells.now)
+    (c.args.slots.now, (c.args.out.now, c.args.to.now))
     (c.cut_all.new.slots, (c.hear-in-Fault.new.self, c.hear-in-Fault.new.to))) (sym c.in-Fault.is) (
       _,
       c.hear-in-Fault.ensures.gets,

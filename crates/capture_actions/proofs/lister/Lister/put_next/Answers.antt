@@ -11,7 +11,8 @@ returns-clause-line c = λ clocked seen h f.
     let e = c.args.event.now in
     let at = c.args.outlet.now in
     let p = plan_by old.plan old.filter in
-    subst (λ (q : Plan). c.put_event.new.outlet ≡ at ++ cond (is_listed old.filter.only (plan_by q old.filter).window seen e)
+    subst (λ (q : Plan). c.put_event.new.outlet ≡ at ++ cond
+    (is_listed old.filter.only (plan_by q old.filter).window seen e)
     (event_line (is_stp q e.source) e c.remark-remark.result) []) c.plan.ensures (c.put_event.ensures.text seen f)
     ∙ ap (λ (r : Remark). at ++ cond (is_listed p.only p.window seen e) (event_line (is_stp p.plan e.source) e r) [])
     (c.remark-remark.ensures.remark clocked h)
@@ -22,10 +23,12 @@ returns-clause-gets c =
     let at = c.args.outlet.now in
     record {
       kept = refl;
-      asked = subst (λ (p : Plan). plan_by p c.put_event.new.filter ≡ plan_by p old.filter) c.plan.ensures c.put_event.ensures.same;
+      asked = subst (λ (p : Plan). plan_by p c.put_event.new.filter ≡ plan_by p old.filter) c.plan.ensures
+      c.put_event.ensures.same;
       clocks = c.remark-remark.ensures.stand;
       seen = c.put_event.ensures.seen;
       text = λ before h f.
           returns-clause-line c before before h f
-          ∙ ap (λ (l : List ℕ). at ++ l) (sym (append-nil (line_after (plan_by old.plan old.filter) before c.args.event.now)));
+          ∙ ap (λ (l : List ℕ). at ++ l)
+          (sym (append-nil (line_after (plan_by old.plan old.filter) before c.args.event.now)));
     }

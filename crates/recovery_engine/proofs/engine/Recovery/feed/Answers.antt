@@ -24,7 +24,8 @@ returns-clause-list g c = λ u k.
     record {
       port = c.feed_port-step.ensures.list u k.port;
       sources =
-          subst (λ (l : List RecoveringSlot). StandFor plan (parts_in (recovered plan.frames (u ++ b ∷ []))) l) (sym all)
+          subst (λ (l : List RecoveringSlot). StandFor plan (parts_in (recovered plan.frames (u ++ b ∷ []))) l)
+          (sym all)
           (stands_more g.V.Hearer.gets plan u (u ++ b ∷ [])
           (parts_by 0 c.args.at c.feed_port-step.result c.as_slice-cells.result.now)
           (c.as_mut_slice.result.now, (c.args.out.now, c.args.to.now)) (new, (c.take_step.new.out, c.take_step.new.to))
