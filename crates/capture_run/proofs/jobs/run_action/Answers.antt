@@ -1,6 +1,5 @@
 use Rattle.std.proofs.Common.{◌≡◌, List, ℕ, true, sym, subst, ◌∙◌, inl, inr, refl, []}
-use Rattle.trace_stream.specs.Served.{Ends}
-use Rattle.capture_run.proofs.Running.{run_late, run_stopped, run_over, never_stopped, never_over}
+use Rattle.capture_run.proofs.Running.{run_late, run_stopped, run_over}
 use Rattle.capture_run.proofs.jobs.run_action.Goals as goal
 
 pub returns-then-ending-clause-ran : goal.returns-then-ending-clause-ran
@@ -29,17 +28,3 @@ returns-in-OverLimit-clause-ran g c =
     let e = c.ending-in-OverLimit.ensures in
     run_over g.A.CommandAction.notes _ _ c.serve-outcome.ensures.same _ _ _ _ c.serve-outcome.new.buffers.recent c.ending-in-OverLimit.result.fault _ e.status e.exact
     c.in-OverLimit.ensures.served c.note_over.ensures.status c.note_over.ensures.noted (λ bytes exact. e.size bytes [] exact)
-
-pub returns-in-FaultFound-clause-complete : goal.returns-in-FaultFound-clause-complete
-returns-in-FaultFound-clause-complete g c = λ bytes lost no_read no_write within sound not_late.
-    let meaning = g.A.Action.meaning (g.A.Action.plan c.args.action.now) in
-    let old : Ends = record { left = g.I.Source.left c.args.input.now; held = g.O.Sink.held c.args.output.now } in
-    let new : Ends = record { left = g.I.Source.left c.serve-outcome.new.input; held = g.O.Sink.held c.serve-outcome.new.output } in
-    absurd (never_stopped meaning c.args.limit old new c.serve-outcome.new.buffers.recent bytes c.in-FaultFound.ensures.served lost within sound)
-
-pub returns-in-OverLimit-clause-complete : goal.returns-in-OverLimit-clause-complete
-returns-in-OverLimit-clause-complete g c = λ bytes lost no_read no_write within sound not_late.
-    let meaning = g.A.Action.meaning (g.A.Action.plan c.args.action.now) in
-    let old : Ends = record { left = g.I.Source.left c.args.input.now; held = g.O.Sink.held c.args.output.now } in
-    let new : Ends = record { left = g.I.Source.left c.serve-outcome.new.input; held = g.O.Sink.held c.serve-outcome.new.output } in
-    absurd (never_over meaning c.args.limit old new c.serve-outcome.new.buffers.recent bytes c.in-OverLimit.ensures.served lost within)

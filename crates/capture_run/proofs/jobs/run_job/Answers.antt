@@ -1,59 +1,9 @@
-use Rattle.std.proofs.Common.{sym, subst, refl, length, ◌≤◌}
-use Rattle.capture_words.specs.declared.job.Task.{Task}
-use Rattle.capture_words.specs.declared.job.Task.TheVariants.{Show, Check, Ring, Unring}
-use Rattle.capture_actions.specs.declared.unring_plan.UnringPlan.{UnringPlan}
-use Rattle.capture_run.specs.Actions.{HasDone, IsSoundInput, limit_of}
+use Rattle.std.proofs.Common.{sym, subst}
+use Rattle.capture_run.specs.Actions.{HasDone}
 use Rattle.capture_run.specs.Run.{Streams}
 use Rattle.capture_run.specs.declared.status.Status.{Status}
 use Rattle.capture_run.proofs.Running.{done_unopened}
 use Rattle.capture_run.proofs.jobs.run_job.Goals as goal
-
-pub returns-in-Show-clause-ran : goal.returns-in-Show-clause-ran
-returns-in-Show-clause-ran g c =
-    let old : Streams = record {
-      left = g.I.Source.left c.args.input.now;
-      held = g.O.Sink.held c.args.output.now;
-      noted = g.N.Sink.held c.args.notes.now;
-      note_faults = g.N.Sink.faults c.args.notes.now;
-    } in
-    let new : Streams = record {
-      left = g.I.Source.left c.run_show.new.input;
-      held = g.O.Sink.held c.run_show.new.output;
-      noted = g.N.Sink.held c.run_show.new.notes;
-      note_faults = g.N.Sink.faults c.run_show.new.notes;
-    } in
-    subst (λ (t : Task). HasDone t c.args.job.limit old new c.run_show.result) (sym c.in-Show.is) c.run_show.ensures.ran
-
-pub returns-in-Show-clause-complete : goal.returns-in-Show-clause-complete
-returns-in-Show-clause-complete g c = λ bytes lost no_read no_write within sound.
-    let t = c.in-Show in
-    let told : IsSoundInput (Show t.plan t.only t.window t.recover) bytes =
-    subst (λ (u : Task). IsSoundInput u bytes) t.is sound in
-    c.run_show.ensures.complete bytes lost no_read no_write
-    (subst (λ (u : Task). length bytes ≤ limit_of u c.args.job.limit) t.is within) told.sound told.not_late
-
-pub returns-in-Check-clause-ran : goal.returns-in-Check-clause-ran
-returns-in-Check-clause-ran g c =
-    let old : Streams = record {
-      left = g.I.Source.left c.args.input.now;
-      held = g.O.Sink.held c.args.output.now;
-      noted = g.N.Sink.held c.args.notes.now;
-      note_faults = g.N.Sink.faults c.args.notes.now;
-    } in
-    let new : Streams = record {
-      left = g.I.Source.left c.run_check.new.input;
-      held = g.O.Sink.held c.run_check.new.output;
-      noted = g.N.Sink.held c.run_check.new.notes;
-      note_faults = g.N.Sink.faults c.run_check.new.notes;
-    } in
-    subst (λ (t : Task). HasDone t c.args.job.limit old new c.run_check.result) (sym c.in-Check.is) c.run_check.ensures.ran
-
-pub returns-in-Check-clause-complete : goal.returns-in-Check-clause-complete
-returns-in-Check-clause-complete g c = λ bytes lost no_read no_write within sound.
-    let t = c.in-Check in
-    let told : IsSoundInput (Check t.plan t.recover) bytes = subst (λ (u : Task). IsSoundInput u bytes) t.is sound in
-    c.run_check.ensures.complete bytes lost no_read no_write
-    (subst (λ (u : Task). length bytes ≤ limit_of u c.args.job.limit) t.is within) told.sound told.not_late
 
 pub returns-in_default-clause-ran : goal.returns-in_default-clause-ran
 returns-in_default-clause-ran g c =
@@ -65,16 +15,3 @@ returns-in_default-clause-ran g c =
     let new : Streams = record { left = left; held = held; noted = g.N.Sink.held c.note_no_memory.new.notes; note_faults = g.N.Sink.faults c.note_no_memory.new.notes } in
     subst (λ (s : Status). HasDone c.args.job.task c.args.job.limit old new s) (sym c.note_no_memory.ensures.status)
     (done_unopened c.args.job.task c.args.job.limit left held noted new.noted faults new.note_faults c.note_no_memory.ensures.noted)
-
-pub returns-in-Ring-clause-complete : goal.returns-in-Ring-clause-complete
-returns-in-Ring-clause-complete g c = λ bytes lost no_read no_write within sound.
-    c.run_opened.ensures.complete c.in-Ring.size bytes c.open-opened.ensures.plan lost no_read no_write
-    (subst (λ (t : Task). length bytes ≤ limit_of t c.args.job.limit) c.in-Ring.is within) (λ f. f) refl
-
-pub returns-in-Unring-clause-complete : goal.returns-in-Unring-clause-complete
-returns-in-Unring-clause-complete g c = λ bytes lost no_read no_write within sound.
-    let t = c.in-Unring in
-    let plan : UnringPlan = record { size = t.size; pointer = t.pointer; full = t.full } in
-    let told : IsSoundInput (Unring t.size t.pointer t.full) bytes = subst (λ (u : Task). IsSoundInput u bytes) t.is sound in
-    c.run_opened-in-Unring.ensures.complete plan bytes c.open-opened-in-Unring.ensures.plan lost no_read no_write
-    (subst (λ (u : Task). length bytes ≤ limit_of u c.args.job.limit) t.is within) (λ f. f) told.not_late
