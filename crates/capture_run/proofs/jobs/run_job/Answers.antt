@@ -1,6 +1,6 @@
 use Rattle.std.proofs.Common.{sym, subst, refl, length, ◌≤◌}
 use Rattle.capture_words.specs.declared.job.Task.{Task}
-use Rattle.capture_words.specs.declared.job.Task.TheVariants.{Show, Ring, Unring}
+use Rattle.capture_words.specs.declared.job.Task.TheVariants.{Show, Unring}
 use Rattle.capture_actions.specs.Faulty.{IsFaulty}
 use Rattle.capture_actions.specs.Listing.{show_meaning}
 use Rattle.capture_actions.specs.declared.list_plan.ListPlan.{ListPlan}
