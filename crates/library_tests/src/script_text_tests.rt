@@ -278,6 +278,7 @@ fn numbers_and_names_of_faults(rt: HostRuntime) {
         (LineFault::Unmapped, 5, "Unmapped"),
         (LineFault::Mixed, 6, "Mixed"),
         (LineFault::Unfit, 7, "Unfit"),
+        (LineFault::Unrouted, 8, "Unrouted"),
     ];
     for (fault, number, name) in rows {
         same(&rt, &"fault.number()", &fault.number(), &number);
