@@ -270,7 +270,7 @@ fn lines_that_say_nothing(rt: HostRuntime) {
 
 #[test]
 fn numbers_and_names_of_faults(rt: HostRuntime) {
-    let rows: [(LineFault, u8, &str); 7] = [
+    let rows: [(LineFault, u8, &str); 8] = [
         (LineFault::LongLine, 1, "LongLine"),
         (LineFault::BadLine, 2, "BadLine"),
         (LineFault::BadId, 3, "BadId"),
