@@ -13,7 +13,6 @@ use Rattle.stp_grammar.specs.declared.item.StpItem.TheVariants.{Async, Version, 
 use Rattle.stp_encoder.specs.Fitting.{version_named, version_after, is_unfit}
 use Rattle.script_text.specs.declared.items.Item.TheVariants as items
 use Rattle.script_text.specs.declared.version_two.Line2.{Line2}
-use Rattle.script_text.specs.declared.version_two.Line2.TheVariants.{One}
 use Rattle.script_text.specs.declared.lines.Line.TheVariants.{Of}
 use Rattle.script_text.specs.declared.line_fault.LineFault.{LineFault}
 use Rattle.script_text.specs.declared.line_fault.LineFault.TheVariants.{Unfit}

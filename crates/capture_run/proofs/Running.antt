@@ -1,5 +1,5 @@
 -- How a run ends, by the outcome of the serving of its input.
-use Rattle.std.proofs.Common.{◌≡◌, ◌⊎◌, ℕ, ◌≤◌, List, [], Some, None, refl, sym, ap, ◌∙◌, subst, inl, inr, length, take, arith, true, false}
+use Rattle.std.proofs.Common.{◌≡◌, ℕ, ◌≤◌, List, [], Some, None, refl, sym, ap, ◌∙◌, subst, inl, inr, length, take, arith, true}
 use Rattle.std.proofs.lemmas.List.{append_cancel_right, take_all}
 use Rattle.std.specs.declared.option.Option.{Option}
 use Rattle.std.specs.Prelude.{codes}
@@ -7,8 +7,7 @@ use Rattle.std.specs.Io.KnownBytes.{Consumes, Keeps}
 use Rattle.std.proofs.KnownBytes.{Consumes-nil, Appends-nil}
 use Rattle.trace_stream.specs.Served.{Meaning, Ends, HasServed, HasStopped, HasEnded, ServedBy}
 use Rattle.trace_stream.specs.declared.outcome.Outcome.{Outcome}
-use Rattle.trace_stream.specs.declared.outcome.Outcome.TheVariants.{AtEnd, FaultFound, ReadFailed, WriteFailed, OverLimit}
-use Rattle.trace_text.specs.NoteText.{limit_line}
+use Rattle.trace_stream.specs.declared.outcome.Outcome.TheVariants.{AtEnd, FaultFound, OverLimit}
 use Rattle.capture_words.specs.declared.job.Task.{Task}
 use Rattle.capture_words.specs.declared.job.Task.TheVariants as tasks
 use Rattle.capture_run.specs.Actions.{HasDone, meaning_of}
@@ -17,7 +16,7 @@ use Rattle.capture_run.specs.Run.{HasRun, TaskMeaning, TaskNotes, task_of, Strea
 use Rattle.capture_run.specs.declared.actions.FaultNote.{FaultNote}
 use Rattle.capture_run.specs.declared.actions.FaultNote.TheVariants.{Capture, Script, Recovery, Image}
 use Rattle.capture_run.specs.declared.status.Status.{Status}
-use Rattle.capture_run.specs.declared.status.Status.TheVariants.{Done, ReadFault, WriteFault, NoMemory, Limit}
+use Rattle.capture_run.specs.declared.status.Status.TheVariants.{NoMemory}
 
 -- the bytes that were lost are told by what was left
 pub same_lost : (old new : Option (List ℕ)) (xs ys : List ℕ) → Consumes old new xs → Loses old new ys → xs ≡ ys

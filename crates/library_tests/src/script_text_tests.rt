@@ -270,7 +270,7 @@ fn lines_that_say_nothing(rt: HostRuntime) {
 
 #[test]
 fn numbers_and_names_of_faults(rt: HostRuntime) {
-    let rows: [(LineFault, u8, &str); 7] = [
+    let rows: [(LineFault, u8, &str); 8] = [
         (LineFault::LongLine, 1, "LongLine"),
         (LineFault::BadLine, 2, "BadLine"),
         (LineFault::BadId, 3, "BadId"),
@@ -278,6 +278,7 @@ fn numbers_and_names_of_faults(rt: HostRuntime) {
         (LineFault::Unmapped, 5, "Unmapped"),
         (LineFault::Mixed, 6, "Mixed"),
         (LineFault::Unfit, 7, "Unfit"),
+        (LineFault::Unrouted, 8, "Unrouted"),
     ];
     for (fault, number, name) in rows {
         same(&rt, &"fault.number()", &fault.number(), &number);

@@ -4,7 +4,7 @@ use Rattle.std.specs.Prelude.{flat_map}
 use Rattle.std.specs.List.{All}
 use Rattle.trace_values.specs.declared.cell.Cell.{Cell}
 use Rattle.trace_values.specs.declared.fault.Reason.{Reason}
-use Rattle.trace_values.specs.Placed.{Place, Placed, units_of}
+use Rattle.trace_values.specs.Placed.{Place, Placed, units_of, placed}
 use Rattle.trace_values.specs.Nibbles.{nibbles_of}
 use Rattle.trace_values.specs.declared.reading_modes.FramesMode.TheVariants.{Aligned}
 use Rattle.frame_writer.specs.Written.{Tagged, joined, written_segments}
@@ -42,7 +42,7 @@ use Rattle.script_laws.specs.ReadBack.{aligned, rebuilt, port_of, report_of, sai
 use Rattle.script_laws.specs.Puts.{CanAllBePut}
 use Rattle.script_laws.proofs.Said.{all_fit}
 use Rattle.script_laws.proofs.MappedIds.{itm_one, stp_one, none_one, one_itm, one_stp, mapped_low}
-use Rattle.script_laws.proofs.Bytes.{itm_bytes, stp_bytes, raw_bytes, none_items, none_packets, none_bytes, all_sources, all_proper}
+use Rattle.script_laws.proofs.Bytes.{bytes_for, itm_bytes, stp_bytes, raw_bytes, none_items, none_packets, none_bytes, all_sources, all_proper}
 use Rattle.script_laws.proofs.Sources.{list_bytes, no_cell}
 use Rattle.script_laws.proofs.Packets.{IsReadAs, read_as}
 use Rattle.script_laws.proofs.Events.{whats, told_whats, itm_events, stp_events, other_events, no_faults, lifted_whats, raws_bytes, raws_plain, raws_none, raws_null}
@@ -59,15 +59,17 @@ no_whats : (es : List (Event Packet)) → map (λ (e : Event Packet). e.what) es
 no_whats [] e = refl
 no_whats (x ∷ es) e = cc
 
-module _ (every halves : ℕ) (plan : Plan) (lines : List Line2) (sound : is_sound plan ≡ true) (good : CanAllBePut plan [] lines) where
+-- The frames of segments in which each source has the bytes that the lines put.
+module _ (every halves : ℕ) (plan : Plan) (lines : List Line2) (sound : is_sound plan ≡ true) (good : CanAllBePut plan [] lines) (segments : List (List Tagged))
+    (named : All (λ (t : List Tagged). All framed.IsOfSource t) segments) (kept : (x : ℕ) → bytes_for x (joined segments) ≡ bytes_for x (joined (script_segments plan lines))) where
   abbrev bytes : List Tagged
-  bytes = joined (script_segments plan lines)
+  bytes = joined segments
 
   abbrev capture : List ℕ
-  capture = written_segments every halves (script_segments plan lines)
+  capture = written_segments every halves segments
 
   abbrev u : List Placed
-  u = rebuilt every halves plan lines
+  u = placed capture
 
   abbrev sources : List (Mapped Packet)
   sources = sources_by (aligned plan)
@@ -76,20 +78,20 @@ module _ (every halves : ℕ) (plan : Plan) (lines : List Line2) (sound : is_sou
   runs = runs_in (port_of u)
 
   law : framed.ReadsBack capture bytes
-  law = written_reads every halves (script_segments plan lines) (all_sources plan sound lines good)
+  law = written_reads every halves segments named
 
   -- mapped sources
   itm_reads : (x : ℕ) → kind_of plan x ≡ Some Itm → IsReadAs (list_of x runs) (given_packets x lines)
   itm_reads x k =
       read_as (given_packets x lines) (all_proper plan x [] lines good) (list_of x runs)
-      (list_bytes capture bytes law x (not_null x (mapped_low plan x Itm sound k)) ∙ itm_bytes plan x sound lines good k)
+      (list_bytes capture bytes law x (not_null x (mapped_low plan x Itm sound k)) ∙ kept x ∙ itm_bytes plan x sound lines good k)
 
   stp_reads : (x : ℕ) → kind_of plan x ≡ Some Stp → encoded.ReadsBack plan.order (given_items x lines) (nibbles_of (list_of x runs))
   stp_reads x k =
       let same = items_put x lines in
       subst (λ (items : List StpItem). encoded.ReadsBack plan.order items (nibbles_of (list_of x runs))) same
       (bytes_back plan.order (given_puts x lines) (subst AreFitting (sym same) (all_fit plan x lines good)) (list_of x runs)
-      (list_bytes capture bytes law x (not_null x (mapped_low plan x Stp sound k)) ∙ stp_bytes plan x sound lines good k))
+      (list_bytes capture bytes law x (not_null x (mapped_low plan x Stp sound k)) ∙ kept x ∙ stp_bytes plan x sound lines good k))
 
   no_fault : stop_in sources (port_of u) ≡ None
   no_fault =
@@ -140,10 +142,10 @@ module _ (every halves : ℕ) (plan : Plan) (lines : List Line2) (sound : is_sou
   other_bytes : (x : ℕ) → 1 ≤ x → kind_of plan x ≡ None → flat_map bytes_in (said_of plan u x) ≡ given_bytes x lines
   other_bytes x l k =
       ap (λ (said : List (What Packet)). flat_map bytes_in said) (other_said x k) ∙ raws_bytes x runs (not_null x l)
-      ∙ list_bytes capture bytes law x (not_null x l) ∙ raw_bytes plan x sound lines good k
+      ∙ list_bytes capture bytes law x (not_null x l) ∙ kept x ∙ raw_bytes plan x sound lines good k
 
   no_list : (x : ℕ) → 1 ≤ x → has_line x lines ≡ false → list_of x runs ≡ []
-  no_list x l e = no_units (list_of x runs) (list_bytes capture bytes law x (not_null x l) ∙ none_bytes plan x sound lines good e)
+  no_list x l e = no_units (list_of x runs) (list_bytes capture bytes law x (not_null x l) ∙ kept x ∙ none_bytes plan x sound lines good e)
 
   unsaid : (x : ℕ) → has_line x lines ≡ false → said_of plan u x ≡ []
   unsaid x e = by (kind_of plan x) refl
@@ -157,8 +159,8 @@ module _ (every halves : ℕ) (plan : Plan) (lines : List Line2) (sound : is_sou
       by (Some Itm) k = itm_said x k ∙ ap (λ (l : List ItmPacket). map (λ (p : ItmPacket). PacketEvent (ItmPacket_ p)) l) (none_packets plan x sound lines e)
       by (Some Stp) k = stp_said x k ∙ ap (λ (l : List StpItem). map (λ (i : StpItem). PacketEvent (StpPacket_ i)) l) (none_items plan x sound lines e)
 
-  pub reads_as_given : ReadsAsGiven plan lines u
-  reads_as_given = record {
+  pub any_reads_as_given : ReadsAsGiven plan lines u
+  any_reads_as_given = record {
     no_fault = no_fault;
     no_tail = law.no_tail;
     attributed = law.attributed;
@@ -168,6 +170,12 @@ module _ (every halves : ℕ) (plan : Plan) (lines : List Line2) (sound : is_sou
     plain = other_plain;
     bytes = λ x l h k. other_bytes x l k;
     silent = λ x e. no_whats (part (Some x) (report_of plan u)) (unsaid x e);
-    absent = λ x l e. no_cell capture bytes law x (not_null x l) (none_bytes plan x sound lines good e);
+    absent = λ x l e. no_cell capture bytes law x (not_null x l) (kept x ∙ none_bytes plan x sound lines good e);
     no_notice = ap (λ (es : List (Event Packet)). part None es) report_is ∙ merged.of_port;
   }
+
+-- so have those that the lines put themselves
+pub reads_as_given : (every halves : ℕ) (plan : Plan) (lines : List Line2) → is_sound plan ≡ true → CanAllBePut plan [] lines →
+    ReadsAsGiven plan lines (rebuilt every halves plan lines)
+reads_as_given every halves plan lines sound good =
+    any_reads_as_given every halves plan lines sound good (script_segments plan lines) (all_sources plan sound lines good) (λ x. refl)

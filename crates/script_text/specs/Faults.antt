@@ -2,7 +2,7 @@
 use Rattle.std.specs.Prelude.{ℕ, List, codes}
 use Rattle.script_text.specs.declared.line_fault.LineFault.{LineFault}
 use Rattle.script_text.specs.declared.line_fault.LineFault.TheVariants.{LongLine, BadLine, BadId, BadNumber}
-use Rattle.script_text.specs.declared.line_fault.LineFault.TheVariants.{Unmapped, Mixed, Unfit}
+use Rattle.script_text.specs.declared.line_fault.LineFault.TheVariants.{Unmapped, Mixed, Unfit, Unrouted}
 
 abbrev pub number_of : LineFault → ℕ
 number_of LongLine = 1
@@ -12,6 +12,7 @@ number_of BadNumber = 4
 number_of Unmapped = 5
 number_of Mixed = 6
 number_of Unfit = 7
+number_of Unrouted = 8
 
 abbrev pub name_of : LineFault → List ℕ
 name_of LongLine = codes "LongLine"
@@ -21,3 +22,4 @@ name_of BadNumber = codes "BadNumber"
 name_of Unmapped = codes "Unmapped"
 name_of Mixed = codes "Mixed"
 name_of Unfit = codes "Unfit"
+name_of Unrouted = codes "Unrouted"

@@ -23,10 +23,13 @@ pub enum LineFault {
     /// An STP item has a timestamp that the version of the protocol has not. `read_line` never answers this fault,
     /// since it depends on the lines before.
     Unfit,
+    /// It gives bytes of a source that has no place in the order of a funnel. `read_line` never answers this fault,
+    /// since it comes only where the bytes go through a funnel.
+    Unrouted,
 }
 
 impl LineFault {
-    /// The fault's number, as its note has it, 1 to 7: of several that hold, a line has the one of the least number.
+    /// The fault's number, as its note has it, 1 to 8: of several that hold, a line has the one of the least number.
     pub fn number(&self) -> u8
         ensures { result ≡ number_of self.now }
     {
@@ -38,6 +41,7 @@ impl LineFault {
             LineFault::Unmapped => 5,
             LineFault::Mixed => 6,
             LineFault::Unfit => 7,
+            LineFault::Unrouted => 8,
         }
     }
 
@@ -53,6 +57,7 @@ impl LineFault {
             LineFault::Unmapped => "Unmapped",
             LineFault::Mixed => "Mixed",
             LineFault::Unfit => "Unfit",
+            LineFault::Unrouted => "Unrouted",
         }
     }
 }

@@ -3,7 +3,7 @@ mod Turning
 mod Waiting
 mod Nearing
 mod Emptying
-mod Acting
+pub mod Acting
 mod Finding
 mod Serving
 mod Rounding

@@ -1,4 +1,4 @@
-use Rattle.std.proofs.Common.{◌≡◌, ◌++◌, ◌-◌, ◌∙◌, List, ℕ, length, take, drop, refl, sym, ap, append_assoc, arith}
+use Rattle.std.proofs.Common.{◌≡◌, ◌++◌, ◌-◌, ◌∙◌, List, ℕ, length, take, drop, sym, ap, append_assoc, arith}
 use Rattle.std.proofs.lemmas.List.{take-append-drop, take_rest, length-take, length-drop, length-append}
 use Rattle.capture_actions.specs.Owed.{last_of}
 use Rattle.capture_actions.proofs.Owing.{pours, of_first, of_second}

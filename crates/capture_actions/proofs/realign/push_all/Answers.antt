@@ -1,4 +1,4 @@
-use Rattle.std.proofs.Common.{◌≡◌, ◌++◌, ◌∙◌, List, ℕ, take, drop, sym, ap}
+use Rattle.std.proofs.Common.{◌≡◌, ◌++◌, ◌∙◌, List, ℕ, drop, sym, ap}
 use Rattle.std.proofs.lemmas.List.{take-append-drop}
 use Rattle.capture_actions.proofs.Pushing.{nothing_pushed, more_pushed, all_pushed}
 use Rattle.capture_actions.proofs.realign.push_all.Goals as goal

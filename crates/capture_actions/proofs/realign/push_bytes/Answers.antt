@@ -1,4 +1,4 @@
-use Rattle.std.proofs.Common.{◌≡◌, ◌+◌, ◌++◌, ◌∷◌, [], List, ℕ, length, length-append, take, get_or, sym, ap, subst, arith}
+use Rattle.std.proofs.Common.{◌∷◌, [], List, ℕ, take, get_or, sym, subst}
 use Rattle.std.proofs.lemmas.List.{take_more}
 use Rattle.capture_actions.specs.Realigner.{Pushes}
 use Rattle.capture_actions.proofs.Pushing.{pushes_none, pushes_more}

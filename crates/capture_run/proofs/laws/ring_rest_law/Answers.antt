@@ -1,4 +1,4 @@
-use Rattle.std.proofs.Common.{◌≡◌, List, ℕ, None, ap, sym, subst}
+use Rattle.std.proofs.Common.{◌≡◌, List, ℕ, None, subst}
 use Rattle.source_merge.specs.Answering.{fault_of}
 use Rattle.trace_values.specs.Placed.{placed}
 use Rattle.capture_run.specs.Rings.{kept_of}

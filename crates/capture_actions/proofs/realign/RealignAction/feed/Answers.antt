@@ -1,4 +1,4 @@
-use Rattle.std.proofs.Common.{◌≡◌, ◌++◌, List, ℕ, take, sym, subst}
+use Rattle.std.proofs.Common.{◌++◌, List, ℕ, take, sym, subst}
 use Rattle.port_slip.specs.Slip as slips
 use Rattle.capture_actions.specs.Names.{sure}
 use Rattle.port_slip.proofs.Standing.{stands_sure}

@@ -1,4 +1,4 @@
-use Rattle.std.proofs.Common.{◌≡◌, ◌-◌, ◌++◌, ℕ, List, [], length, take, drop, sym, refl, ◌∙◌, ap}
+use Rattle.std.proofs.Common.{◌-◌, ◌++◌, ℕ, List, length, drop, sym, refl, ◌∙◌, ap}
 use Rattle.std.proofs.lemmas.List.{take-append-drop, append_cancel_left}
 use Rattle.capture_actions.specs.Names.{realigned, sure}
 use Rattle.port_slip.specs.Segments.{Realigned}

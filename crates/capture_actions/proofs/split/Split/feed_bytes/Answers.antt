@@ -1,4 +1,4 @@
-use Rattle.std.proofs.Common.{List, ◌++◌, take, sym, ◌∙◌, ap, subst}
+use Rattle.std.proofs.Common.{List, ◌++◌, take, ◌∙◌, ap, subst}
 use Rattle.capture_actions.specs.Names.{Cell, FramesMode, cells_of}
 use Rattle.capture_actions.specs.Port.{port_of}
 use Rattle.capture_actions.specs.PortGrowth.{Gained}

@@ -1,8 +1,8 @@
-use Rattle.std.proofs.Common.{◌≡◌, ◌++◌, ◌-◌, ◌∙◌, List, ℕ, Bool, true, [], cond, length, drop, sym, ap, arith}
+use Rattle.std.proofs.Common.{◌≡◌, ◌-◌, ◌∙◌, List, ℕ, Bool, true, [], cond, length, drop, sym, ap, arith}
 use Rattle.std.specs.Prelude.{◌==◌}
 use Rattle.std.proofs.lemmas.Bool.Decides.{nat_tests}
 use Rattle.buffer_ring.specs.Image.{ordered}
-use Rattle.capture_actions.specs.Names.{Debt, owing, with_debt}
+use Rattle.capture_actions.specs.Names.{owing, with_debt}
 use Rattle.capture_actions.specs.Owed.{last_of}
 use Rattle.capture_actions.specs.Unring.{ordered_of}
 use Rattle.capture_actions.proofs.Owing.{with_last}
