@@ -6,3 +6,4 @@ pub mod Runs
 pub mod Ports
 pub mod Captures
 pub mod Ends
+pub mod Hearing
