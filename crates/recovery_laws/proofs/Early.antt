@@ -53,7 +53,7 @@ rises_as f old new p r = record {
 }
 
 module _ (order : Order) where
-  rises : (kind : SourceKind) (h : Bool) (u : List Placed) (b : Placed) →
+  pub rises : (kind : SourceKind) (h : Bool) (u : List Placed) (b : Placed) →
       RisesOn (reads_by order kind h u) (reads_by order kind h (u ++ b ∷ [])) b.place
   rises Itm h u b = rises_as ItmOf (packets_in h u) (packets_in h (u ++ b ∷ [])) b.place
       (modes.rises_on pattern Sync (by_unit rule) Header h u b)

@@ -7,3 +7,4 @@ pub mod Ports
 pub mod Captures
 pub mod Ends
 pub mod Hearing
+pub mod Adding
