@@ -8,3 +8,5 @@ pub mod Captures
 pub mod Ends
 pub mod Hearing
 pub mod Adding
+pub mod Ordering
+pub mod Placing

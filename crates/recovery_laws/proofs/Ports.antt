@@ -40,7 +40,7 @@ use Rattle.recovery_report.specs.Report.{Part, Run, Breaks, break_of, lock_of, p
 use Rattle.recovery_report.proofs.Sounds.{port_sound, port_begins, port_settles}
 
 -- the items of what a port says
-items_from : List (Said PortItem × Place) → List (PortItem × Place)
+pub items_from : List (Said PortItem × Place) → List (PortItem × Place)
 items_from [] = []
 items_from ((Notice n, p) ∷ given) = items_from given
 items_from ((Kept v, p) ∷ given) = (v, p) ∷ items_from given
@@ -56,7 +56,7 @@ unfolding items_from
 from_found n None = refl
 from_found n (Some f) = from_kept f.reading.items
 
-from_given : (h : Bool) (u : List Placed) → items_from (items_by h u).given ≡ (port_stream h u).items
+pub from_given : (h : Bool) (u : List Placed) → items_from (items_by h u).given ≡ (port_stream h u).items
 from_given false u = from_kept (port_progress u).items
 from_given true u = from_found (hunt pattern Full rule start u).units (hunt pattern Full rule start u).found
 
@@ -65,7 +65,7 @@ pub record IsStill (old new : PortStream) : Type 0 where
   pub items : new.items ≡ old.items
   pub skipped : new.skipped ≡ old.skipped
 
-still : (h : Bool) (u : List Placed) (b : Placed) → is_none (items_by h (u ++ b ∷ [])).fault ≡ false →
+pub still : (h : Bool) (u : List Placed) (b : Placed) → is_none (items_by h (u ++ b ∷ [])).fault ≡ false →
     IsStill (port_stream h u) (port_stream h (u ++ b ∷ []))
 still h u b k =
     let held = falls.holds pattern Full rule start h u b k in
@@ -124,7 +124,7 @@ abbrev pub lock_by : Bool → List (PortItem × Place) → List (PortItem × Pla
 lock_by true items = items
 lock_by false items = []
 
-if_lock : (h : Bool) (items : List (PortItem × Place)) (n : ℕ) →
+pub if_lock : (h : Bool) (items : List (PortItem × Place)) (n : ℕ) →
     (if h then lock_of items n else []) ≡ lock_of (lock_by h items) n
 if_lock true items n = refl
 if_lock false items n = refl
