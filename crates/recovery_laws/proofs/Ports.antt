@@ -40,7 +40,7 @@ use Rattle.recovery_report.specs.Report.{Part, Run, Breaks, break_of, lock_of, p
 use Rattle.recovery_report.proofs.Sounds.{port_sound, port_begins, port_settles}
 
 -- the items of what a port says
-pub items_from : List (Said PortItem × Place) → List (PortItem × Place)
+unfoldable pub items_from : List (Said PortItem × Place) → List (PortItem × Place)
 items_from [] = []
 items_from ((Notice n, p) ∷ given) = items_from given
 items_from ((Kept v, p) ∷ given) = (v, p) ∷ items_from given
