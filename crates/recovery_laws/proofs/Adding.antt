@@ -1,5 +1,5 @@
 -- What one more part adds to the events of each source.
-use Rattle.std.proofs.Common.{◌≡◌, ℕ, ◌+◌, ◌≤◌, List, [], ◌∷◌, ◌++◌, map, refl, sym, ◌∙◌, ap, arith, inl, inr, ◌⊎◌}
+use Rattle.std.proofs.Common.{◌≡◌, ℕ, ◌+◌, ◌≤◌, List, [], ◌∷◌, ◌++◌, map, refl, sym, ◌∙◌, ap, inl, inr, ◌⊎◌}
 use Rattle.std.proofs.Common.{append-nil, Option, None, Some, Bool, true, false}
 use Rattle.std.specs.Prelude.{flat_map}
 use Rattle.std.proofs.lemmas.Grind.{flat_map-append}
@@ -7,7 +7,6 @@ use Rattle.trace_values.specs.declared.cell.Cell.{Cell}
 use Rattle.trace_values.specs.declared.fault.Reason.{Reason}
 use Rattle.trace_values.specs.Placed.{Place}
 use Rattle.trace_values.specs.ReadingModes.{packets_hunt}
-use Rattle.trace_values.specs.Stream.{Said}
 use Rattle.frame_grammar.specs.Reading.{is_source}
 use Rattle.source_events.specs.declared.event.What.{What}
 use Rattle.source_events.specs.declared.packet.Packet.{Packet}
@@ -32,7 +31,7 @@ use Rattle.recovery_report.specs.Report.{stretches_of}
 use Rattle.recovery_report.proofs.PartLaws as parts
 use Rattle.recovery_report.proofs.Sounds.{sources_begin, sources_sound}
 use Rattle.recovery_laws.proofs.Early.{rises}
-use Rattle.recovery_laws.proofs.Hearing.{IsFed, cells_in, stays_whole, units_more}
+use Rattle.recovery_laws.proofs.Hearing.{cells_in, stays_whole, units_more}
 
 -- where a part lies: from an offset on, and before another
 abbrev pub PartLies : ℕ → Part → Type 0
@@ -77,7 +76,8 @@ module _ (plan : Plan) (x : ℕ) (kind : SourceKind) where
       let h = packets_hunt plan.packets in
       let read = reads_by plan.order kind in
       said [] k
-      ∙ ap (λ l. lifted (map (heard read from_fault 0) l ++ broken read from_fault (read h []).fault)) (quiet plan kind h)
+      ∙ ap (λ l. lifted (map (heard read from_fault 0) l ++ broken read from_fault (read h []).fault))
+      (quiet plan kind h)
       ∙ ap (λ o. lifted (broken read from_fault o)) (sources_begin plan.order kind h)
 
   module _ (n : ℕ) (ms : List Part) (k : kind_of plan x ≡ Some kind) where
@@ -107,8 +107,9 @@ module _ (plan : Plan) (x : ℕ) (kind : SourceKind) where
         let read = reads_by plan.order kind in
         let sound = sources_sound plan.order kind in
         let r = stretches_of plan kind x ms in
+        let h = packets_hunt plan.packets in
         let whole = stays_whole read (rises plan.order kind) sound (quiet plan kind true) begins (list_of kind x ms)
-        (before read from_fault (packets_hunt plan.packets)) (sources_begin plan.order kind (packets_hunt plan.packets)) in
+        (before read from_fault h) (sources_begin plan.order kind h) in
         let f = units_more read (rises plan.order kind) sound (quiet plan kind true) begins (units_in kind run) r
         (start_of n) (end_of run) whole
         (cells_in kind run n (end_of run) (start_of n) (within_run n run l) (at_most_self (start_of n))) in
@@ -131,7 +132,8 @@ module _ (plan : Plan) (x n : ℕ) (ms : List Part) (none : kind_of plan x ≡ N
   raw_more : (m : Part) (more : Heards) →
       raws x (flat_map run_in ms ++ run_in m) ≡ raws x (flat_map run_in ms) ++ more →
       events_of plan x (ms ++ m ∷ []) ≡ events_of plan x ms ++ more
-  raw_more m more e = raw_said (ms ++ m ∷ []) ∙ ap (raws x) (runs_push ms m) ∙ e ∙ ap (λ l. l ++ more) (sym (raw_said ms))
+  raw_more m more e =
+      raw_said (ms ++ m ∷ []) ∙ ap (raws x) (runs_push ms m) ∙ e ∙ ap (λ l. l ++ more) (sym (raw_said ms))
 
   raw_same : (m : Part) → run_in m ≡ [] → events_of plan x (ms ++ m ∷ []) ≡ events_of plan x ms ++ []
   raw_same m e =
@@ -152,7 +154,8 @@ module _ (plan : Plan) (x n : ℕ) (ms : List Part) where
         (((id_of run ≡ Some x) × (is_source x (id_of run) ≡ true))
         ⊎ ((id_of run ≡ Some x → ⊥) × (is_source x (id_of run) ≡ false))) → More (Run run)
     by (Some kind) k (inl i) = own_run plan x kind n ms k run l i.0
-    by (Some kind) k (inr i) = no_more (Run run) (given_by plan x kind n ms k (Run run) (parts.other plan kind x ms run i.1))
+    by (Some kind) k (inr i) =
+        no_more (Run run) (given_by plan x kind n ms k (Run run) (parts.other plan kind x ms run i.1))
     by None k (inl i) = record {
       more = raw_events x run;
       given = raw_more plan x n ms k (Run run) (raw_events x run) (raws_own x (flat_map run_in ms) run i.1);

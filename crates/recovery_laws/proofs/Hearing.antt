@@ -1,6 +1,6 @@
 -- What a recovering source says more with units at places in order is at these places.
-use Rattle.std.proofs.Common.{◌≡◌, ℕ, ◌+◌, ◌<◌, ◌≤◌, List, [], ◌∷◌, ◌++◌, map, refl, sym, ◌∙◌, ap, subst, arith, inl, inr}
-use Rattle.std.proofs.Common.{append_assoc, append-nil, Option, None, Some, Bool, true}
+use Rattle.std.proofs.Common.{◌≡◌, ℕ, ◌+◌, ◌<◌, ◌≤◌, List, [], ◌∷◌, ◌++◌, map, refl, sym, ◌∙◌, ap, subst, arith}
+use Rattle.std.proofs.Common.{inl, inr, append_assoc, append-nil, Option, None, Some, Bool, true}
 use Rattle.std.specs.Prelude.{is_none, flat_map}
 use Rattle.std.proofs.lemmas.Grind.{flat_map-append}
 use Rattle.std.proofs.lemmas.List.{map-append}
@@ -130,7 +130,8 @@ module _ {V : Type 0} (reads : Bool → List Placed → Stream V)
         let next = fallen reads r (b ∷ []) (b ∷ []) in
         let last : List (Said (Heard V) × Place) = (Kept (Broken f.1), f.0) ∷ [] in
         let first = rises true [] b in
-        let again = map (heard reads from_fault next.now.count) first.more in
+        let renew = heard reads from_fault next.now.count in
+        let again = map renew first.more in
         let none : (reads true (b ∷ [])).fault ≡ None =
         ap (λ w. (reads true w).fault) (sym (last_unit r.now.units b))
         ∙ sound r.now.hunts r.now.units b whole (ap is_none e) in
@@ -138,9 +139,9 @@ module _ {V : Type 0} (reads : Bool → List Placed → Stream V)
         ap (λ o. hear new.given ++ broken reads from_fault o) e ∙ ap (λ l. l ++ last) grew
         ∙ append_assoc (told reads from_fault r.now) (hear on.more) last in
         let now : told reads from_fault next.now ≡ again =
-        ap (λ o. map (heard reads from_fault next.now.count) (reads true (b ∷ [])).given ++ broken reads from_fault o) none
-        ∙ append-nil (map (heard reads from_fault next.now.count) (reads true (b ∷ [])).given)
-        ∙ ap (map (heard reads from_fault next.now.count)) (first.given ∙ ap (λ l. l ++ first.more) quiet) in
+        ap (λ o. map renew (reads true (b ∷ [])).given ++ broken reads from_fault o) none
+        ∙ append-nil (map renew (reads true (b ∷ [])).given)
+        ∙ ap (map renew) (first.given ∙ ap (λ l. l ++ first.more) quiet) in
         let place : f.0 ≡ b.place =
         subst (λ (o : Option (Place × Reason)). FaultOn b.place o (Some f)) whole
         (subst (λ (o : Option (Place × Reason)). FaultOn b.place old.fault o) e on.fault) in

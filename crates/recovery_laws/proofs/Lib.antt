@@ -10,3 +10,4 @@ pub mod Hearing
 pub mod Adding
 pub mod Ordering
 pub mod Placing
+pub mod Parting

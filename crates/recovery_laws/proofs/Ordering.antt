@@ -1,6 +1,6 @@
 -- The report of parts in order is sorted by place, and its parts are what the port and each source say.
-use Rattle.std.proofs.Common.{◌≡◌, ◌≢◌, ℕ, ◌+◌, ◌<◌, ◌≤◌, List, [], ◌∷◌, ◌++◌, refl, sym, ◌∙◌, ap, subst, arith, inl, inr, ◌⊎◌}
-use Rattle.std.proofs.Common.{append_assoc, append-nil, Option, None, Some}
+use Rattle.std.proofs.Common.{◌≡◌, ◌≢◌, ℕ, ◌+◌, ◌<◌, ◌≤◌, List, [], ◌∷◌, ◌++◌, refl, sym, ◌∙◌, ap, subst, arith}
+use Rattle.std.proofs.Common.{inl, inr, ◌⊎◌, append_assoc, append-nil, Option, None, Some}
 use Rattle.trace_values.specs.declared.cell.Cell.{Cell}
 use Rattle.trace_values.specs.Placed.{Place}
 use Rattle.source_events.specs.declared.event.Event.{Event}
@@ -10,7 +10,7 @@ use Rattle.source_events.specs.declared.packet.Packet.{Packet}
 use Rattle.source_events.specs.declared.plan.Plan.{Plan}
 use Rattle.source_events.specs.Merge.{AllIn, InOrder, IsAtMost, IsMerged, SortedFrom, part, start_of, told}
 use Rattle.source_events.specs.Runs.{id_of}
-use Rattle.source_events.proofs.Merges.{all_weaker, at_most_self, at_most_trans, grown_by, part_append, part_told_other}
+use Rattle.source_events.proofs.Merges.{all_weaker, at_most_trans, grown_by, part_append, part_told_other}
 use Rattle.source_events.proofs.Merges.{part_told_own, same_or_not, sorted_told, start_le, told_append}
 use Rattle.source_events.proofs.Running.{end_within}
 use Rattle.stretch_readings.specs.declared.heard.Heard.{Heard}

@@ -1,7 +1,7 @@
 use Rattle.recovery_report.specs.Port.{recovered}
 use Rattle.recovery_report.specs.Report.{parts_in}
 use Rattle.recovery_laws.proofs.Ordering.{merged}
-use Rattle.recovery_laws.proofs.Placing.{parts_placed}
+use Rattle.recovery_laws.proofs.Parting.{parts_placed}
 use Rattle.recovery_laws.proofs.laws.order_law.Goals as goal
 
 pub returns : goal.returns
