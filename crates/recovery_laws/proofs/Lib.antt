@@ -11,3 +11,4 @@ pub mod Adding
 pub mod Ordering
 pub mod Placing
 pub mod Parting
+pub mod Only

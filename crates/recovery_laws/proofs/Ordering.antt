@@ -36,13 +36,14 @@ no_source x e = cc
 
 module _ (plan : Plan) where
   -- What a part adds, and whose it is: nothing of it is of any other.
-  record IsAdded (n : ℕ) (ms : List Part) (m : Part) (l : PartLies n m) : Type 0 where
-    who : Option ℕ
-    more : Heards
-    is : added plan ms m ≡ told who more
-    all : AllIn (start_of n) (part_end m) more
-    of_port : part None (told {V = Heard Packet} who more) ≡ told None (port_said_in m)
-    of_source : (x : ℕ) → part (Some x) (told {V = Heard Packet} who more) ≡ told (Some x) (adds plan x n ms m l).more
+  pub record IsAdded (n : ℕ) (ms : List Part) (m : Part) (l : PartLies n m) : Type 0 where
+    pub who : Option ℕ
+    pub more : Heards
+    pub is : added plan ms m ≡ told who more
+    pub all : AllIn (start_of n) (part_end m) more
+    pub of_port : part None (told {V = Heard Packet} who more) ≡ told None (port_said_in m)
+    pub of_source : (x : ℕ) →
+        part (Some x) (told {V = Heard Packet} who more) ≡ told (Some x) (adds plan x n ms m l).more
 
   module _ (n : ℕ) (ms : List Part) where
     -- nothing of another source
@@ -103,7 +104,7 @@ module _ (plan : Plan) where
           ∙ other m l x (λ k. no_source x (sym who ∙ k));
     }
 
-    added_is : (m : Part) (l : PartLies n m) → IsAdded n ms m l
+    pub added_is : (m : Part) (l : PartLies n m) → IsAdded n ms m l
     added_is (Run run) l = of_run run l
     added_is (Locks skipped place) l =
         of_port_at (Locks skipped place) l (Locked skipped) place refl refl refl refl l

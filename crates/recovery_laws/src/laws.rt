@@ -7,7 +7,7 @@ ghost use Rattle.deformatter.specs.Rising.{BytesRise};
 ghost use Rattle.source_events.specs.declared.plan.Plan.{Plan};
 ghost use Rattle.source_events.specs.Plan.{is_sound, sources_by};
 ghost use Rattle.source_events.specs.Report.{stop_in};
-ghost use Rattle.recovery_laws.specs.Order.{IsOrdered};
+ghost use Rattle.recovery_laws.specs.Order.{IsOnlyOrder, IsOrdered};
 ghost use Rattle.recovery_laws.specs.Strict.{EndsAsStrict, IsStrictBefore};
 
 /// Of bytes at rising offsets, the recovering report is the strict one up to its first fault, which is the strict
@@ -20,7 +20,8 @@ pub fn strict_law()
 {}
 
 /// Of bytes at rising offsets, the recovering report is sorted by place. Its part of the port is all that the port
-/// says, its locks and faults, and its part of each source is all that this source says.
+/// says, its locks and faults, and its part of each source is all that this source says. No other list is so.
 pub fn order_law()
-    ensures { (plan : Plan) (n k : ℕ) (u : List Placed) → BytesRise n k u → IsOrdered plan u }
+    ensures ordered { (plan : Plan) (n k : ℕ) (u : List Placed) → BytesRise n k u → IsOrdered plan u }
+    ensures only { (plan : Plan) (n k : ℕ) (u : List Placed) → BytesRise n k u → IsOnlyOrder plan u }
 {}
