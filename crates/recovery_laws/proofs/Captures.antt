@@ -9,28 +9,25 @@ use Rattle.deformatter.specs.PortReading.{port_reading}
 use Rattle.deformatter.specs.Rising.{BytesRise}
 use Rattle.source_events.specs.declared.event.Event.{Event}
 use Rattle.source_events.specs.declared.event.What.{What}
-use Rattle.source_events.specs.declared.event.What.TheVariants.{Locked, Packet as Packs}
 use Rattle.source_events.specs.declared.packet.Packet.{Packet}
 use Rattle.source_events.specs.declared.plan.Plan.{Plan}
 use Rattle.source_events.specs.declared.plan.SourceKind.{SourceKind}
 use Rattle.source_events.specs.Merge.{told, cut, AllIn, Below, IsAtMost, start_of}
 use Rattle.source_events.specs.Plan.{is_sound, kind_of, sources_by}
-use Rattle.source_events.specs.Report as strict
 use Rattle.source_events.specs.Report.{Mapped, AreLawful, all_events, events, least_fault, lesser, lock_at, of_source}
-use Rattle.source_events.specs.Report.{port_events, reported, runs_in, stop_in}
+use Rattle.source_events.specs.Report.{port_events, runs_in, stop_in}
 use Rattle.source_events.specs.Runs.{id_of, IsRunFrom, end_of}
 use Rattle.source_events.proofs.Family.{adds}
 use Rattle.source_events.proofs.Growth.{between_weaker, sound_first}
 use Rattle.source_events.proofs.Lawful.{plan_lawful}
-use Rattle.source_events.proofs.Least.{Full, Later, later_of, others_later, second_wins}
+use Rattle.source_events.proofs.Least.{Full, Later, others_later, second_wins}
 use Rattle.source_events.proofs.Locking.{first_end}
 use Rattle.source_events.proofs.Merges.{below, below_append, below_told, below_weaker, cut_append, cut_below}
 use Rattle.source_events.proofs.Placing.{RunsBetween, between_order}
 use Rattle.source_events.proofs.Running.{end_within}
 use Rattle.source_events.proofs.Settling.{all_sound, least_below}
 use Rattle.stretch_readings.specs.declared.heard.Heard.{Heard}
-use Rattle.stretch_readings.specs.declared.heard.Heard.TheVariants.{Broken}
-use Rattle.recovery_report.specs.Report.{Part, Run, Locks, Breaks, added, added_by, events_by, lock_of, parts_in, report}
+use Rattle.recovery_report.specs.Report.{Part, Run, Locks, Breaks, added, added_by, events_by, lock_of, report}
 use Rattle.recovery_report.specs.Report.{report_from}
 use Rattle.recovery_laws.specs.Strict.{IsStrictBefore, upto, first_fault}
 use Rattle.recovery_laws.proofs.Ports.{IsParted, EndsBy, parted}

@@ -1,14 +1,12 @@
 -- What is given of units before a fault is at places before it.
-use Rattle.std.proofs.Common.{◌≡◌, ◌⊎◌, inl, inr, ℕ, ◌+◌, ◌<◌, ◌≤◌, List, [], ◌∷◌, ◌++◌, refl, sym, ◌∙◌, ap, subst}
-use Rattle.std.proofs.Common.{arith, append_assoc, append-nil, map, Option, None, Some, Bool, true, false, cond}
+use Rattle.std.proofs.Common.{◌≡◌, ◌⊎◌, inl, inr, ℕ, ◌+◌, ◌<◌, List, [], ◌∷◌, ◌++◌, refl, sym, ◌∙◌, ap, subst}
+use Rattle.std.proofs.Common.{arith, append_assoc, append-nil, Option, None, Some, Bool, true, false, cond}
 use Rattle.std.specs.Prelude.{is_none, ◌==◌, ◌&&◌, ◌||◌, nat_lt}
 use Rattle.std.proofs.lemmas.Bool.Decides.{nat_tests}
-use Rattle.std.proofs.lemmas.List.{map-append}
 use Rattle.trace_values.specs.declared.cell.Cell.{Cell}
 use Rattle.trace_values.specs.declared.fault.Reason.{Reason}
-use Rattle.trace_values.specs.Nibbles.{low_of, high_of}
-use Rattle.trace_values.specs.Placed.{Place, Placed, byte_at}
-use Rattle.trace_values.specs.Stream.{Said, Stream, Holds, Settled}
+use Rattle.trace_values.specs.Placed.{Place, Placed}
+use Rattle.trace_values.specs.Stream.{Said, Stream}
 use Rattle.trace_values.specs.Walk.{by_unit}
 use Rattle.trace_values.proofs.Decorating as decorating
 use Rattle.trace_values.proofs.Falls as falls
@@ -29,10 +27,10 @@ use Rattle.source_events.specs.declared.packet.Packet.{Packet}
 use Rattle.source_events.specs.declared.packet.Packet.TheVariants.{Itm as ItmOf, Stp as StpOf}
 use Rattle.source_events.specs.declared.plan.SourceKind.{SourceKind}
 use Rattle.source_events.specs.declared.plan.SourceKind.TheVariants.{Itm, Stp}
-use Rattle.source_events.specs.Merge.{told, cut, is_before}
-use Rattle.source_events.specs.Packets.{said_as, given_as, stream_as}
+use Rattle.source_events.specs.Merge.{told, cut}
+use Rattle.source_events.specs.Packets.{given_as, stream_as}
 use Rattle.source_events.specs.Report.{lifted, what_of}
-use Rattle.source_events.specs.Runs.{IsRunFrom, RisesFrom, placed_run}
+use Rattle.source_events.specs.Runs.{RisesFrom, placed_run}
 use Rattle.source_events.proofs.Lawful.{given_append}
 use Rattle.source_machine.specs.Units.{reads_by}
 use Rattle.recovery_report.proofs.Sounds.{sources_settle}
@@ -53,7 +51,7 @@ rises_as f old new p r = record {
 }
 
 module _ (order : Order) where
-  rises : (kind : SourceKind) (h : Bool) (u : List Placed) (b : Placed) →
+  pub rises : (kind : SourceKind) (h : Bool) (u : List Placed) (b : Placed) →
       RisesOn (reads_by order kind h u) (reads_by order kind h (u ++ b ∷ [])) b.place
   rises Itm h u b = rises_as ItmOf (packets_in h u) (packets_in h (u ++ b ∷ [])) b.place
       (modes.rises_on pattern Sync (by_unit rule) Header h u b)

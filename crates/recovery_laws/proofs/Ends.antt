@@ -4,8 +4,6 @@ use Rattle.std.proofs.Common.{length, Option, None, Some, Bool, true, false}
 use Rattle.std.specs.Prelude.{flat_map}
 use Rattle.std.specs.List.{range_with_len, sum_by}
 use Rattle.std.proofs.lemmas.List.Sums.{sum_by_push}
-use Rattle.trace_values.specs.declared.cell.Cell.{Cell}
-use Rattle.trace_values.specs.declared.fault.Reason.{Reason}
 use Rattle.trace_values.specs.declared.limits.TheConstants.{ID_COUNT}
 use Rattle.trace_values.specs.Placed.{Place, Placed}
 use Rattle.trace_values.specs.Stream.{Stream}
@@ -29,8 +27,7 @@ use Rattle.source_events.specs.declared.tails.SourceTail.{SourceTail}
 use Rattle.source_events.specs.declared.tails.Tails.{Tails}
 use Rattle.source_events.specs.Plan.{is_sound, kind_of, sources_by}
 use Rattle.source_events.specs.Plan as strict
-use Rattle.source_events.specs.Report as strict_report
-use Rattle.source_events.specs.Report.{least_fault, lesser, of_source, runs_in, stop_in}
+use Rattle.source_events.specs.Report.{least_fault, of_source, runs_in, stop_in}
 use Rattle.source_events.specs.Runs.{list_of}
 use Rattle.source_events.specs.Tails as strict_ends
 use Rattle.source_events.specs.Tails.{source_tails as strict_tails}
@@ -38,17 +35,16 @@ use Rattle.source_events.proofs.Growth.{no_stop}
 use Rattle.source_events.proofs.Least.{AreSound}
 use Rattle.source_events.proofs.Settling.{all_sound, lesser_none}
 use Rattle.source_merge.proofs.Slots.{sound_back}
-use Rattle.stretch_readings.specs.Stretches.{One, Stretch, Stretches, heard_of, from_fault, stretches, lost_in}
+use Rattle.stretch_readings.specs.Stretches.{One, Stretch, Stretches, heard_of, from_fault, stretches}
 use Rattle.stretch_readings.proofs.StretchLaws as laws
 use Rattle.recovering_machines.specs.Port.{items_by, from_halfword}
 use Rattle.recovering_machines.proofs.Feeding.{same}
-use Rattle.recovery_report.specs.Counts.{port_counts_of, source_counts_of}
 use Rattle.recovery_report.specs.Port.{PortStretch, PortStretches, bare_stretch, frames_of, fulls_of, halves_of}
 use Rattle.recovery_report.specs.Port.{of_stretches, recovered, skipped_of, stretch_of}
 use Rattle.recovery_report.specs.Report.{Part, Run, list_of as list_in, lock_of, mode_by, parts_in, port_mode, report}
-use Rattle.recovery_report.specs.Report.{source_tails, stretches_of, tail_by, tail_of, tails_of}
+use Rattle.recovery_report.specs.Report.{source_tails, tail_by, tail_of}
 use Rattle.recovery_report.proofs.Sounds.{port_sound, port_begins, port_settles}
-use Rattle.recovery_laws.specs.Strict.{EndsAsStrict, first_fault, upto}
+use Rattle.recovery_laws.specs.Strict.{EndsAsStrict}
 use Rattle.recovery_laws.proofs.Captures.{before, from_start}
 use Rattle.recovery_laws.proofs.Lists.{hunts, one_stretch, reads, reads_are, units}
 use Rattle.recovery_laws.proofs.Ports.{IsParted, EndsBy, parted}

@@ -6,3 +6,9 @@ pub mod Runs
 pub mod Ports
 pub mod Captures
 pub mod Ends
+pub mod Hearing
+pub mod Adding
+pub mod Ordering
+pub mod Placing
+pub mod Parting
+pub mod Only

@@ -1,7 +1,6 @@
 -- The lists and stretches of mapped sources in runs, beside what their bytes strictly read as.
 use Rattle.std.proofs.Common.{◌≡◌, ℕ, List, [], ◌∷◌, ◌++◌, map, refl, sym, ◌∙◌, ap, append_assoc, append-nil}
-use Rattle.std.proofs.Common.{Option, None, Some, Bool, true, false, cond}
-use Rattle.std.specs.Prelude.{flat_map}
+use Rattle.std.proofs.Common.{None, Some, Bool, true, false, cond}
 use Rattle.std.proofs.lemmas.Grind.{flat_map-append}
 use Rattle.std.proofs.lemmas.List.{map-append}
 use Rattle.trace_values.specs.declared.cell.Cell.{Cell}
@@ -21,10 +20,10 @@ use Rattle.source_events.specs.Runs.{id_of, placed_run}
 use Rattle.source_machine.specs.Units.{reads_by}
 use Rattle.stretch_readings.specs.declared.heard.Heard.{Heard}
 use Rattle.stretch_readings.specs.declared.heard.Heard.TheVariants.{Broken}
-use Rattle.stretch_readings.specs.Stretches.{Fed, One, Stretches, heard, heard_of, broken, from_fault, stretches}
+use Rattle.stretch_readings.specs.Stretches.{One, Stretches, heard, heard_of, broken, from_fault, stretches}
 use Rattle.stretch_readings.proofs.StretchLaws as laws
 use Rattle.recovering_machines.specs.Run.{units_in}
-use Rattle.recovery_report.specs.Report.{Part, Run, fed_by, list_of, stretches_of, stream_of}
+use Rattle.recovery_report.specs.Report.{Run, list_of, stretches_of, stream_of}
 use Rattle.recovery_report.proofs.Sounds.{sources_sound, sources_begin, sources_settle}
 
 -- the units of bytes

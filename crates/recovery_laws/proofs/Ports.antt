@@ -1,13 +1,12 @@
 -- The parts of a port, and what its bytes strictly read as.
-use Rattle.std.proofs.Common.{◌≡◌, ◌≢◌, ℕ, ◌+◌, ◌≤◌, List, [], ◌∷◌, ◌++◌, map, refl, sym, ◌∙◌, ap, subst, arith}
+use Rattle.std.proofs.Common.{◌≡◌, ℕ, ◌+◌, ◌≤◌, List, [], ◌∷◌, ◌++◌, map, refl, sym, ◌∙◌, ap, subst, arith}
 use Rattle.std.proofs.Common.{append_assoc, append-nil, Option, None, Some, Bool, true, false}
 use Rattle.std.specs.Prelude.{flat_map, is_none, if◌then◌else◌}
-use Rattle.std.proofs.lemmas.Grind.{flat_map-append}
 use Rattle.std.proofs.lemmas.List.{map-append}
 use Rattle.trace_values.specs.declared.cell.Cell.{Cell}
 use Rattle.trace_values.specs.declared.fault.Reason.{Reason}
 use Rattle.trace_values.specs.Placed.{Place, Placed}
-use Rattle.trace_values.specs.Stream.{Said, Notice, Kept, Stream, kept}
+use Rattle.trace_values.specs.Stream.{Said, Notice, Kept, kept}
 use Rattle.trace_values.specs.Hunted.{Found, hunt, hunted_by}
 use Rattle.trace_values.proofs.Falls as falls
 use Rattle.trace_values.proofs.Modes as modes
@@ -17,13 +16,12 @@ use Rattle.trace_values.specs.declared.reading_modes.FramesMode.TheVariants.{Hun
 use Rattle.frame_grammar.specs.Port.{PortItem, Full, State, start, rule}
 use Rattle.port_sync.specs.Hunting.{pattern}
 use Rattle.deformatter.specs.Growth.{PortSettled}
-use Rattle.deformatter.specs.Modes.{hunts}
 use Rattle.deformatter.specs.Reading.{PortStream, port_stream, port_hunted, items_of}
-use Rattle.deformatter.specs.PortReading.{PortReading, framed, frames_of_items, port_reading}
+use Rattle.deformatter.specs.PortReading.{framed, frames_of_items, port_reading}
 use Rattle.deformatter.specs.Rising.{BytesRise, Rise, end_at}
 use Rattle.deformatter.specs.Names.{offsets_of, port_progress}
 use Rattle.deformatter.proofs.ReadingLaws as port
-use Rattle.deformatter.proofs.RisingLaws.{rise_split, rise_le}
+use Rattle.deformatter.proofs.RisingLaws.{rise_split}
 use Rattle.source_events.specs.declared.packet.Packet.{Packet}
 use Rattle.source_events.specs.Report.{lock_at, port_events, runs_in}
 use Rattle.source_events.specs.Runs.{all_runs}
@@ -34,13 +32,13 @@ use Rattle.stretch_readings.specs.Words.{Goes}
 use Rattle.stretch_readings.proofs.StretchLaws as laws
 use Rattle.recovering_machines.specs.Port.{items_by, from_halfword}
 use Rattle.recovering_machines.proofs.Feeding.{same}
-use Rattle.recovery_report.specs.Port.{PortStretch, PortStretches, all_of, bare_stretch, of_stretches, port_stretches}
+use Rattle.recovery_report.specs.Port.{of_stretches}
 use Rattle.recovery_report.specs.Port.{recovered, stretch_of}
 use Rattle.recovery_report.specs.Report.{Part, Run, Breaks, break_of, lock_of, parts_in, parts_of}
 use Rattle.recovery_report.proofs.Sounds.{port_sound, port_begins, port_settles}
 
 -- the items of what a port says
-items_from : List (Said PortItem × Place) → List (PortItem × Place)
+unfoldable pub items_from : List (Said PortItem × Place) → List (PortItem × Place)
 items_from [] = []
 items_from ((Notice n, p) ∷ given) = items_from given
 items_from ((Kept v, p) ∷ given) = (v, p) ∷ items_from given
@@ -56,7 +54,7 @@ unfolding items_from
 from_found n None = refl
 from_found n (Some f) = from_kept f.reading.items
 
-from_given : (h : Bool) (u : List Placed) → items_from (items_by h u).given ≡ (port_stream h u).items
+pub from_given : (h : Bool) (u : List Placed) → items_from (items_by h u).given ≡ (port_stream h u).items
 from_given false u = from_kept (port_progress u).items
 from_given true u = from_found (hunt pattern Full rule start u).units (hunt pattern Full rule start u).found
 
@@ -65,7 +63,7 @@ pub record IsStill (old new : PortStream) : Type 0 where
   pub items : new.items ≡ old.items
   pub skipped : new.skipped ≡ old.skipped
 
-still : (h : Bool) (u : List Placed) (b : Placed) → is_none (items_by h (u ++ b ∷ [])).fault ≡ false →
+pub still : (h : Bool) (u : List Placed) (b : Placed) → is_none (items_by h (u ++ b ∷ [])).fault ≡ false →
     IsStill (port_stream h u) (port_stream h (u ++ b ∷ []))
 still h u b k =
     let held = falls.holds pattern Full rule start h u b k in
@@ -124,7 +122,7 @@ abbrev pub lock_by : Bool → List (PortItem × Place) → List (PortItem × Pla
 lock_by true items = items
 lock_by false items = []
 
-if_lock : (h : Bool) (items : List (PortItem × Place)) (n : ℕ) →
+pub if_lock : (h : Bool) (items : List (PortItem × Place)) (n : ℕ) →
     (if h then lock_of items n else []) ≡ lock_of (lock_by h items) n
 if_lock true items n = refl
 if_lock false items n = refl

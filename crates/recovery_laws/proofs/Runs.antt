@@ -1,5 +1,5 @@
 -- The report over runs is the strict one up to its first fault.
-use Rattle.std.proofs.Common.{◌≡◌, ℕ, ◌+◌, ◌<◌, ◌≤◌, List, [], ◌∷◌, ◌++◌, map, refl, sym, ◌∙◌, ap, subst, arith}
+use Rattle.std.proofs.Common.{◌≡◌, ℕ, ◌+◌, ◌≤◌, List, [], ◌∷◌, ◌++◌, map, refl, sym, ◌∙◌, ap, subst, arith}
 use Rattle.std.proofs.Common.{append_assoc, append-nil, Option, None, Some, true}
 use Rattle.std.proofs.lemmas.List.{map-append}
 use Rattle.trace_values.specs.declared.cell.Cell.{Cell}
@@ -8,11 +8,10 @@ use Rattle.trace_values.specs.Placed.{Place, Placed}
 use Rattle.trace_values.specs.Stream.{Said, Kept, Stream}
 use Rattle.frame_grammar.specs.Reading.{is_source}
 use Rattle.source_events.specs.declared.event.Event.{Event}
-use Rattle.source_events.specs.declared.event.What.TheVariants.{Packet as Packs}
 use Rattle.source_events.specs.declared.packet.Packet.{Packet}
 use Rattle.source_events.specs.declared.plan.Plan.{Plan}
 use Rattle.source_events.specs.declared.plan.SourceKind.{SourceKind}
-use Rattle.source_events.specs.Merge.{told, cut, grown, merged_from, Below}
+use Rattle.source_events.specs.Merge.{told, cut, grown}
 use Rattle.source_events.specs.Plan.{is_sound, kind_of, sources_by}
 use Rattle.source_events.specs.Plan as strict
 use Rattle.source_events.specs.Report.{Mapped, AreLawful, IsLawful, lifted, raw_events, events, least_fault, all_events}
@@ -37,7 +36,7 @@ use Rattle.recovering_machines.proofs.Runs.{lifted_append}
 use Rattle.recovery_report.specs.Report.{Run, added, added_by, report_from, stream_of}
 use Rattle.recovery_report.proofs.PartLaws as parts
 use Rattle.recovery_laws.specs.Strict.{upto, first_fault}
-use Rattle.recovery_laws.proofs.Early.{IsEarly, early, cut_none, run_rises}
+use Rattle.recovery_laws.proofs.Early.{early, cut_none, run_rises}
 use Rattle.recovery_laws.proofs.Lists.{units, units_append, reads, hunts, reads_are, said_none, said_some}
 use Rattle.recovery_laws.proofs.Sources.{IsAmong, mapped, there, missing, sound_join, sound_none}
 use Rattle.recovery_laws.proofs.Uptos.{Found, after_none, after_some, told_as, raw_as, said_as, broken_as}

@@ -1,6 +1,6 @@
 -- The mapped sources of a plan, as one list.
 use Rattle.std.proofs.Common.{◌≡◌, ◌≢◌, ℕ, List, [], ◌∷◌, ◌++◌, map, refl, sym, ◌∙◌, ap, subst, append_assoc}
-use Rattle.std.proofs.Common.{Option, None, Some, Bool, true, false, cond}
+use Rattle.std.proofs.Common.{None, Some, Bool, true, false, cond}
 use Rattle.std.specs.Prelude.{◌==◌, ◌||◌}
 use Rattle.std.specs.List.{list_any}
 use Rattle.std.proofs.lemmas.Bool.Decides.{nat_tests}

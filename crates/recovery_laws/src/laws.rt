@@ -1,4 +1,4 @@
-//! Laws of recovering reports beside strict ones, over their definitions alone.
+//! Laws of recovering reports, over their definitions alone: their order, and what they are beside strict ones.
 
 ghost use Rattle.std.specs.Prelude.{◌≡◌, ℕ, List, None, true};
 ghost use Rattle.trace_values.specs.Placed.{Placed};
@@ -7,6 +7,7 @@ ghost use Rattle.deformatter.specs.Rising.{BytesRise};
 ghost use Rattle.source_events.specs.declared.plan.Plan.{Plan};
 ghost use Rattle.source_events.specs.Plan.{is_sound, sources_by};
 ghost use Rattle.source_events.specs.Report.{stop_in};
+ghost use Rattle.recovery_laws.specs.Order.{IsOnlyOrder, IsOrdered};
 ghost use Rattle.recovery_laws.specs.Strict.{EndsAsStrict, IsStrictBefore};
 
 /// Of bytes at rising offsets, the recovering report is the strict one up to its first fault, which is the strict
@@ -16,4 +17,11 @@ pub fn strict_law()
         IsStrictBefore plan u }
     ensures ends { (plan : Plan) (n k : ℕ) (u : List Placed) → is_sound plan ≡ true → BytesRise n k u →
         stop_in (sources_by plan) (port_reading plan.frames u) ≡ None → EndsAsStrict plan u }
+{}
+
+/// Of bytes at rising offsets, the recovering report is sorted by place. Its part of the port is all that the port
+/// says, its locks and faults, and its part of each source is all that this source says. No other list is so.
+pub fn order_law()
+    ensures ordered { (plan : Plan) (n k : ℕ) (u : List Placed) → BytesRise n k u → IsOrdered plan u }
+    ensures only { (plan : Plan) (n k : ℕ) (u : List Placed) → BytesRise n k u → IsOnlyOrder plan u }
 {}

@@ -1,4 +1,4 @@
-//! Laws of recovering reports beside strict ones.
+//! Laws of recovering reports: their order, and what they are beside strict ones.
 #![tactic(auto)]
 
 pub mod laws;
