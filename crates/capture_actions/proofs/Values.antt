@@ -1,5 +1,6 @@
 -- The values that software wrote to a port, event by event.
-use Rattle.std.proofs.Common.{◌≡◌, ℕ, List, [], ◌∷◌, ◌++◌, refl, ◌∙◌, ap, flat_map, filter, Option, Bool, true, false, cond, append-nil}
+use Rattle.std.proofs.Common.{◌≡◌, ℕ, List, [], ◌∷◌, ◌++◌, refl, ◌∙◌, ap, flat_map, filter, append-nil}
+use Rattle.std.proofs.Common.{Option, Bool, true, false, cond}
 use Rattle.std.proofs.lemmas.Grind.{flat_map-append}
 use Rattle.std.specs.Prelude.{◌==◌, ◌&&◌}
 use Rattle.itm_grammar.specs.Shortest.{bytes_of}

@@ -1,7 +1,7 @@
 //! Laws of listings, over their definitions alone.
 
-ghost use Rattle.std.specs.Prelude.{◌≡◌, ◌+◌, ◌*◌, ◌<◌, ◌≤◌, ◌^◌, ℕ, List, ◌∷◌, ◌++◌, length, filter, flat_map, sum, Some};
-ghost use Rattle.std.specs.Prelude.{◌&&◌};
+ghost use Rattle.std.specs.Prelude.{◌≡◌, ◌+◌, ◌*◌, ◌<◌, ◌≤◌, ◌^◌, ◌&&◌, ◌∷◌, ◌++◌, ℕ, List, length, sum, Some};
+ghost use Rattle.std.specs.Prelude.{filter, flat_map};
 ghost use Rattle.itm_grammar.specs.Spelling.{Spells, size_bits};
 ghost use Rattle.itm_grammar.specs.declared.packet.Size.{Size};
 ghost use Rattle.itm_grammar.specs.declared.packet.ItmPacket.TheVariants.{Software};
@@ -49,5 +49,6 @@ pub fn port_text_law()
     ensures listed { (p : PortTextPlan) (bytes : List ℕ) → port_text p bytes ≡ flat_map (λ e. written_by e.what)
         (filter (λ e. is_of (source_of p.plan) e.source && holds (Port p.port) e) (report_of p.plan (placed bytes))) }
     ensures payload { (port value : ℕ) (size : Size) → IsProper (Software port size value) →
-        Spells (Software port size value) ((8 * port + size_bits size) ∷ written_by (Said (Itm (Software port size value)))) }
+        let packet = Software port size value in
+        Spells packet ((8 * port + size_bits size) ∷ written_by (Said (Itm packet))) }
 {}

@@ -38,6 +38,7 @@ returns-clause-fed c = λ seen s.
           (report_here old.engine new seen bytes at given fed.flow s.engine c.next-at.ensures same list reads)
           ∙ values_append source p.port report given;
       gained = put.1 ∙ ap (λ i. c.args.outlet.now ++ values_in i p.port given) s.source;
-      fault = subst (λ (f : Bool). FaultAfter (IsFaulty p.plan) (seen ++ bytes) f) (sym c.keep_stop-is_faulty.ensures.flow)
+      fault = subst (λ (f : Bool). FaultAfter (IsFaulty p.plan) (seen ++ bytes) f)
+          (sym c.keep_stop-is_faulty.ensures.flow)
           (flow_after old.engine new seen bytes at given fed.flow s.engine c.next-at.ensures same list reads);
     }
