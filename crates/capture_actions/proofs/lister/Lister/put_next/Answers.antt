@@ -24,7 +24,7 @@ returns-clause-gets c =
     record {
       kept = refl;
       asked = subst (λ (p : Plan). plan_by p c.put_event.new.filter ≡ plan_by p old.filter) c.plan.ensures
-      c.put_event.ensures.same;
+          c.put_event.ensures.same;
       clocks = c.remark-remark.ensures.stand;
       seen = c.put_event.ensures.seen;
       text = λ before h f.
