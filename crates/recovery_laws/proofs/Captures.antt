@@ -1,6 +1,7 @@
 -- The report of a capture is the strict one up to its first fault.
 use Rattle.std.proofs.Common.{◌≡◌, ℕ, ◌+◌, ◌<◌, ◌≤◌, List, [], ◌∷◌, ◌++◌, map, refl, sym, ◌∙◌, ap, subst, arith}
-use Rattle.std.proofs.Common.{append_assoc, append-nil, drop, length, zero, suc, ◌⊎◌, inl, inr, Option, None, Some, true}
+use Rattle.std.proofs.Common.{append_assoc, append-nil, drop, length, zero, suc, ◌⊎◌, inl, inr}
+use Rattle.std.proofs.Common.{Option, None, Some, true}
 use Rattle.trace_values.specs.declared.cell.Cell.{Cell}
 use Rattle.trace_values.specs.declared.fault.Reason.{Reason}
 use Rattle.trace_values.specs.Placed.{Place, Placed}
@@ -51,7 +52,8 @@ module _ (plan : Plan) (n : ℕ) (place : Place) where
   same_added before run (Some x) =
       let k = same_events (kind_of plan x) x before in
       let m = same_events (kind_of plan x) x (before ++ Run run ∷ []) in
-      ap (λ l. told (Some x) (drop (length l) (events_by plan (kind_of plan x) x ((Locks n place ∷ before) ++ Run run ∷ [])))) k
+      ap (λ l. told (Some x) (drop (length l)
+      (events_by plan (kind_of plan x) x ((Locks n place ∷ before) ++ Run run ∷ [])))) k
       ∙ ap (λ l. told (Some x) (drop (length (events_by plan (kind_of plan x) x before)) l)) m
 
   after_lock : (rs : List (List Cell)) (before : List Part) →
@@ -149,7 +151,8 @@ module _ (plan : Plan) (sound : is_sound plan ≡ true) (lo hi : ℕ) (u : List 
   front_below : Below start front
   front_below =
       subst (λ (l : List (What Packet × Place)). Below (first_end 0 l) (told None l)) (sym p.lock_is)
-      (below_told None (first_end 0 (lock_at {V = Packet} p.count p.items)) (first_end 0 (lock_at {V = Packet} p.count p.items))
+      (below_told None (first_end 0 (lock_at {V = Packet} p.count p.items))
+      (first_end 0 (lock_at {V = Packet} p.count p.items))
       (start_of 0) (lock_at p.count p.items) (lock_below p.count p.items) (omega arith))
 
   late : Later start (least_fault ss rs)
@@ -169,8 +172,10 @@ module _ (plan : Plan) (sound : is_sound plan ≡ true) (lo hi : ℕ) (u : List 
   after : (upto (report plan u) ≡ front ++ upto (runs_report plan rs ++ broken))
       × (first_fault (report plan u) ≡ first_fault (runs_report plan rs ++ broken))
   after =
-      let a = after_none locked (runs_report plan rs ++ broken) said.1 in
-      (ap upto report_is ∙ a.0 ∙ ap (λ l. l ++ upto (runs_report plan rs ++ broken)) said.0, ap first_fault report_is ∙ a.1)
+      let a = after_none locked (runs_report plan rs ++ broken) said.1 in (
+        ap upto report_is ∙ a.0 ∙ ap (λ l. l ++ upto (runs_report plan rs ++ broken)) said.0,
+        ap first_fault report_is ∙ a.1,
+      )
 
   with_none : least_fault ss rs ≡ None → (o : Option (Place × Reason)) → fault ≡ o → EndsBy o p.end p.rest →
       IsStrictBefore plan u
@@ -224,7 +229,8 @@ module _ (plan : Plan) (sound : is_sound plan ≡ true) (lo hi : ℕ) (u : List 
       record {
         events =
             ap (λ z. cut z (front ++ all_events ss rs)) stop ∙ cut_append g front (all_events ss rs)
-            ∙ ap (λ l. l ++ cut (Some g) (all_events ss rs)) (cut_below g front (below_weaker start g.0.at front from front_below))
+            ∙ ap (λ l. l ++ cut (Some g) (all_events ss rs))
+            (cut_below g front (below_weaker start g.0.at front from front_below))
             ∙ ap (λ z. front ++ cut z (all_events ss rs)) (sym e)
             ∙ ap (λ l. front ++ l) (same_runs.events ∙ sym b.0) ∙ sym after.0;
         fault = stop ∙ sym b.1 ∙ sym after.1;

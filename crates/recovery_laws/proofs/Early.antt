@@ -95,8 +95,10 @@ all_after Stp p n (c ∷ cells) l r = (
 pub run_rises : (kind : SourceKind) (n : ℕ) (cells : List Cell) → RisesFrom n cells →
     UnitsRise (units kind (placed_run cells))
 run_rises Itm n [] r = tt
-run_rises Itm n (c ∷ cells) r =
-    (all_after Itm (record { at = c.at; half = 0 }) (c.at + 1) cells (omega arith) r.1, run_rises Itm (c.at + 1) cells r.1)
+run_rises Itm n (c ∷ cells) r = (
+  all_after Itm (record { at = c.at; half = 0 }) (c.at + 1) cells (omega arith) r.1,
+  run_rises Itm (c.at + 1) cells r.1,
+)
 run_rises Stp n [] r = tt
 run_rises Stp n (c ∷ cells) r = (
   (
@@ -155,7 +157,8 @@ module _ (order : Order) (kind : SourceKind) (h : Bool) where
                   ap (λ l. (read l).given) (sym same) ∙ r.given ∙ ap (λ l. l ++ r.more) on.given
                   ∙ append_assoc (read n).given on.more r.more;
               before =
-                  before_append f.0 on.more r.more (on_before b.place f.0 on.more on.all (r.among b.place a.0)) r.before;
+                  before_append f.0 on.more r.more
+                  (on_before b.place f.0 on.more on.all (r.among b.place a.0)) r.before;
               among = λ p q. r.among p q.1;
             }
         by (Some g) x more =

@@ -10,7 +10,8 @@ use Rattle.trace_values.specs.Stream.{Stream}
 use Rattle.trace_values.specs.declared.reading_modes.FramesMode.{FramesMode}
 use Rattle.trace_values.specs.declared.reading_modes.FramesMode.TheVariants.{Hunt, Aligned, Bare}
 use Rattle.trace_values.specs.declared.reading_modes.PacketsMode.{PacketsMode}
-use Rattle.trace_values.specs.declared.reading_modes.PacketsMode.TheVariants.{Hunt as PacketsHunt, Aligned as PacketsAligned}
+use Rattle.trace_values.specs.declared.reading_modes.PacketsMode.TheVariants.{Hunt as PacketsHunt}
+use Rattle.trace_values.specs.declared.reading_modes.PacketsMode.TheVariants.{Aligned as PacketsAligned}
 use Rattle.trace_values.specs.ReadingModes.{packets_hunt}
 use Rattle.frame_grammar.specs.Port.{PortItem}
 use Rattle.deformatter.specs.Reading.{port_stream}
@@ -79,7 +80,8 @@ hunted_mode false = refl
 
 one_by : (h : Bool) (u : List Placed) → (port_stream h u).fault ≡ None →
     of_stretches (stretches items_by from_halfword h (map One u)) ≡ alone (stretch_of (stretch h u))
-one_by h u e = ap of_stretches (laws.strict items_by from_halfword port_sound port_begins port_settles h u ((same h u).0 ∙ e))
+one_by h u e =
+    ap of_stretches (laws.strict items_by from_halfword port_sound port_begins port_settles h u ((same h u).0 ∙ e))
 
 one_port : (mode : FramesMode) (u : List Placed) → (port_reading mode u).fault ≡ None →
     IsOnePort mode (recovered mode u) (port_reading mode u)
@@ -154,7 +156,8 @@ module _ (plan : Plan) (x : ℕ) (kind : SourceKind) (r : PortReading) (parts : 
       ∙ same_tail x kind _ _ _ _ _ _
       (packets_same plan.packets (reads plan kind (hunts plan kind) own).locked
       ∙ ap (λ (z : Stream Packet). strict_ends.packets_mode plan.packets z.locked) read_is)
-      ((let z : 0 + (0 + (reads plan kind (hunts plan kind) own).skipped) ≡ (reads plan kind (hunts plan kind) own).skipped =
+      ((let z : 0 + (0 + (reads plan kind (hunts plan kind) own).skipped)
+      ≡ (reads plan kind (hunts plan kind) own).skipped =
       omega arith in z) ∙ ap (λ (z : Stream Packet). z.skipped) read_is)
       (ap (λ (z : Stream Packet). z.held) read_is)
 

@@ -51,7 +51,8 @@ pub list_is : (kind : SourceKind) (x : ℕ) (rs : List (List Cell)) →
     list_of kind x (map Run rs) ≡ map One (units kind (runs.list_of x rs))
 list_is kind x [] = ap (map One) (sym (units_none kind))
 list_is kind x (r ∷ rs) = by (is_source x (id_of r)) (list_is kind x rs) where
-  by : (t : Bool) → list_of kind x (map Run rs) ≡ map One (units kind (runs.list_of x rs)) → cond t (map One (units_in kind r)) [] ++ list_of kind x (map Run rs)
+  by : (t : Bool) → list_of kind x (map Run rs) ≡ map One (units kind (runs.list_of x rs)) →
+      cond t (map One (units_in kind r)) [] ++ list_of kind x (map Run rs)
       ≡ map One (units kind (cond t (placed_run r) [] ++ runs.list_of x rs))
   by false e = e
   by true e =
@@ -88,7 +89,8 @@ module _ (plan : Plan) (kind : SourceKind) where
         ∙ append-nil (map (heard reads from_fault 0) (reads hunts own).given)
 
     -- and with one it is said after what is strictly given
-    pub said_some : (f : Place × Reason) → (reads hunts own).fault ≡ Some f → (rest : List (Said (Heard Packet) × Place))
+    pub said_some : (f : Place × Reason) → (reads hunts own).fault ≡ Some f →
+        (rest : List (Said (Heard Packet) × Place))
         × ((stream_of plan kind x (map Run rs)).given
         ≡ map (heard reads from_fault 0) (reads hunts own).given ++ ((Kept (Broken f.1), f.0) ∷ rest))
     said_some f e =
@@ -96,7 +98,8 @@ module _ (plan : Plan) (kind : SourceKind) where
         (sources_settle plan.order kind) hunts own f e in (
           k.0,
           ap (λ (r : Stretches). (heard_of reads from_fault r).given) stretches_are ∙ k.1
-              ∙ append_assoc (map (heard reads from_fault 0) (reads hunts own).given) ((Kept (Broken f.1), f.0) ∷ []) k.0,
+              ∙ append_assoc (map (heard reads from_fault 0) (reads hunts own).given)
+              ((Kept (Broken f.1), f.0) ∷ []) k.0,
         )
 
 -- what its bytes strictly read as

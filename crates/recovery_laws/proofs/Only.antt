@@ -1,6 +1,6 @@
 -- No other list is sorted by place with the same parts.
-use Rattle.std.proofs.Common.{◌≡◌, ◌≢◌, ◌⊎◌, ℕ, ◌+◌, ◌<◌, ◌≤◌, List, [], ◌∷◌, ◌++◌, refl, sym, ◌∙◌, ap, subst, arith}
-use Rattle.std.proofs.Common.{inl, inr, Option, None, Some, Bool, true, false, cond}
+use Rattle.std.proofs.Common.{◌≡◌, ◌≢◌, ℕ, ◌<◌, ◌≤◌, List, [], ◌∷◌, ◌++◌, refl, sym, ◌∙◌, ap, subst, arith}
+use Rattle.std.proofs.Common.{inl, inr, Option, None, Some, Bool, cond}
 use Rattle.trace_values.specs.Placed.{Place}
 use Rattle.source_events.specs.declared.event.Event.{Event}
 use Rattle.source_events.specs.declared.event.What.{What}
@@ -143,7 +143,8 @@ module _ (plan : Plan) where
       let b = begins a.who (part_end m) rest (from_parts ms (ahead ++ m ∷ []) (part_end m) r.1) a.more (start_of n)
       a.all ys q s (λ x. h x ∙ ap (λ (g : Events). part x (g ++ rest)) a.is) in
       b.is
-      ∙ ap (λ l. told a.who a.more ++ l) (only_from ms (ahead ++ m ∷ []) (part_end m) r.1 b.more b.place b.sorted b.same)
+      ∙ ap (λ l. told a.who a.more ++ l)
+      (only_from ms (ahead ++ m ∷ []) (part_end m) r.1 b.more b.place b.sorted b.same)
       ∙ ap (λ (g : Events). g ++ rest) (sym a.is)
 
   pub only : (ms : List Part) (n : ℕ) → InOrder PartLies part_end n ms → (es : Events) →

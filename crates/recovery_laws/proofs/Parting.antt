@@ -46,8 +46,8 @@ stretch_parts s o e =
     ∙ sym (append_assoc (lock_of (lock_by s.hunts t.items) skipped) runs (break_of t.fault))
     ∙ ap (λ z. front s.hunts skipped t.items ++ break_of z) e
 
--- Stretches of bytes up to an offset: the parts of those that are over end where the last one's begin, which are of its
--- bytes after those that it took again. With these alone it has no item.
+-- Stretches of bytes up to an offset. The last one took some bytes again, which are no item yet: so each of its parts is
+-- at the bytes after these, and they begin where the parts of the stretches that are over end.
 record IsPlaced (lo n : ℕ) (r : Stretches) : Type 0 where
   again : List Placed
   after : List Placed

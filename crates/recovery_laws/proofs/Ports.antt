@@ -95,7 +95,8 @@ module _ (h : Bool) (u : List Placed) (f : Place × Reason) (e : (port_stream h 
   broken_by (s ∷ more) p g =
       let w = g.0 ++ g.1 ∷ [] in
       let all : w ++ g.2 ≡ u = append_assoc g.0 (g.1 ∷ []) g.2 ∙ sym g.3 in
-      let t = subst (λ l. PortSettled (port_stream h w) (port_stream h l)) all (port.settles h w g.2 (ap is_none (sym (same h w).0) ∙ g.6)) in
+      let t = subst (λ l. PortSettled (port_stream h w) (port_stream h l)) all
+      (port.settles h w g.2 (ap is_none (sym (same h w).0) ∙ g.6)) in
       let fault : (port_stream h w).fault ≡ Some f = sym t.fault ∙ e in
       let on = (modes.rises_on pattern Full rule start h g.0 g.1).fault in
       record {
@@ -154,7 +155,8 @@ module _ (h : Bool) (u : List Placed) where
       let skipped : skipped_in items_by from_halfword s ≡ whole.skipped =
       (let z : 0 + (items_by h w).skipped ≡ (items_by h w).skipped = omega arith in z) ∙ (same h w).2 ∙ f in
       ap (λ l. l ++ (map Run (runs_by t) ++ break_of t.fault))
-      (if_lock h t.items (skipped_in items_by from_halfword s) ∙ ap (λ i. lock_of (lock_by h i) (skipped_in items_by from_halfword s)) e
+      (if_lock h t.items (skipped_in items_by from_halfword s)
+      ∙ ap (λ i. lock_of (lock_by h i) (skipped_in items_by from_halfword s)) e
       ∙ ap (λ n. lock_of (lock_by h whole.items) n) skipped)
       ∙ ap (λ l. lock_of (lock_by h whole.items) whole.skipped ++ (map Run l ++ break_of t.fault)) (runs_same t whole e)
 
@@ -243,7 +245,8 @@ module _ (h : Bool) (u : List Placed) (hi : ℕ) (rise : BytesRise 0 hi u)
         parts = parts_some h u f e;
         end = mid;
         between =
-            subst (λ (l : List (List Cell)). RunsBetween (first_end 0 (lock_at {V = Packet} t.skipped (lock_by h t.items))) mid l)
+            subst (λ (l : List (List Cell)).
+            RunsBetween (first_end 0 (lock_at {V = Packet} t.skipped (lock_by h t.items))) mid l)
             (runs_same (port_stream h v) t items)
             (subst (λ (n : ℕ). RunsBetween (first_end 0 (lock_at {V = Packet} n (lock_by h t.items))) mid
             (runs_by (port_stream h v))) skipped

@@ -26,8 +26,8 @@ use Rattle.source_events.proofs.Placing.{RunsBetween, between_join}
 use Rattle.source_events.proofs.Running.{end_within}
 use Rattle.source_events.proofs.Settling.{all_sound, least_stays, report_stays}
 use Rattle.source_merge.specs.Routing.{AreDistinct, HasNot}
-use Rattle.source_merge.proofs.Slots.{grown_own, grown_raw, grown_none, not_before, not_behind, sound_other, sound_front}
-use Rattle.source_merge.proofs.Slots.{sound_back, lawful_at}
+use Rattle.source_merge.proofs.Slots.{grown_own, grown_raw, grown_none, not_before, not_behind, sound_other}
+use Rattle.source_merge.proofs.Slots.{sound_front, sound_back, lawful_at}
 use Rattle.source_merge.proofs.Standing.{distinct}
 use Rattle.stretch_readings.specs.declared.heard.Heard.{Heard}
 use Rattle.stretch_readings.specs.declared.heard.Heard.TheVariants.{Broken}
@@ -225,7 +225,8 @@ module _ (plan : Plan) (sound : is_sound plan ≡ true) where
               let told_is = broken_as (Some x) (lifted (Hear i.more)) (lifted t.0) (lifted i.more) f
               (said_as (reads plan kind) i.more) in
               let full : Place × (Reason × Option ℕ) = (f.0, (f.1, Some x)) in
-              let from = (run_fault s.stream laws.1.rises laws.1.settles run old n (end_of run) (within_run n run r) none f
+              let from = (run_fault s.stream laws.1.rises laws.1.settles run old n (end_of run)
+              (within_run n run r) none f
               (ap (λ l. (strict.stream_of plan kind l).fault) (sym longer) ∙ k)).0 in
               record {
                 given = told (Some x) (lifted i.more);

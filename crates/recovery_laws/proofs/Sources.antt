@@ -77,7 +77,8 @@ module _ (plan : Plan) (x : ℕ) where
   abbrev any : List ℕ → Bool
   any ids = list_any (λ y. y == x) ids
 
-  kinds : (i s : Bool) → any plan.itm ≡ i → any plan.stp ≡ s → kind_of plan x ≡ cond i (Some Itm) (cond s (Some Stp) None)
+  kinds : (i s : Bool) → any plan.itm ≡ i → any plan.stp ≡ s →
+      kind_of plan x ≡ cond i (Some Itm) (cond s (Some Stp) None)
   kinds i s e f = ap (λ b. cond b (Some Itm) (cond (any plan.stp) (Some Stp) None)) e
       ∙ ap (λ b. cond i (Some Itm) (cond b (Some Stp) None)) f
 

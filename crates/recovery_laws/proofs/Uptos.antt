@@ -158,5 +158,6 @@ items_as x (y ∷ es) e = by y.what e (λ h. items_as x es h) where
       ∙ sym (strict_count (upto es) (record { at = y.at; half = y.half; source = y.source; what = Raw b }))
   by (Trigger b) h more =
       count es (record { at = y.at; half = y.half; source = y.source; what = Trigger b })
-      ∙ ap (λ k. items_in x (record { at = y.at; half = y.half; source = y.source; what = Trigger b } ∷ []) + k) (more h)
+      ∙ ap (λ k. items_in x (record { at = y.at; half = y.half; source = y.source; what = Trigger b } ∷ []) + k)
+      (more h)
       ∙ sym (strict_count (upto es) (record { at = y.at; half = y.half; source = y.source; what = Trigger b }))
