@@ -28,10 +28,10 @@ module _ (m : TaskMeaning) (limit : ℕ) (old new : Streams) (bytes : List ℕ) 
         Stops m limit new.left run.bytes run.out run.note ⊎ EndsLate m limit new.left run.bytes run.out run.note → ⊥
     no_fault status run (inl stops) =
         let same = same_lost old.left new.left run.bytes bytes run.lost lost in
-        sound (subst m.action.faulty (ap (take limit) same ∙ take_all limit bytes within) stops.1.0.0.broken)
+        sound (subst m.action.faulty (ap (take limit) same ∙ take_all limit bytes within) stops.1.0.broken)
     no_fault status run (inr late) =
         let same = same_lost old.left new.left run.bytes bytes run.lost lost in
-        let is : true ≡ false = sym late.2.0 ∙ ap m.late same ∙ not_late in
+        let is : true ≡ false = sym late.2 ∙ ap m.late same ∙ not_late in
         cc
 
     -- bytes without a fault
@@ -45,11 +45,11 @@ module _ (m : TaskMeaning) (limit : ℕ) (old new : Streams) (bytes : List ℕ) 
     completes Recovered run no_read no_write = absurd (no_fault Recovered run run.writes.1)
     completes BadImage run no_read no_write = elim run.writes.1 [
       | inl late ↦ absurd (no_fault BadImage run (inr late))
-      | inr over ↦ absurd (never_over BadImage run over.0.1.0)
+      | inr over ↦ absurd (never_over BadImage run over.0.1)
     ]
     completes ReadFault run no_read no_write = absurd (no_read refl)
     completes WriteFault run no_read no_write = absurd (no_write refl)
-    completes Limit run no_read no_write = absurd (never_over Limit run run.writes.1.0.1.0)
+    completes Limit run no_read no_write = absurd (never_over Limit run run.writes.1.1)
 
   -- where reading goes on after each fault
   module _ (ends : m.fault_status ≡ Recovered) (exact : m.exact ≡ false) where
@@ -64,7 +64,7 @@ module _ (m : TaskMeaning) (limit : ℕ) (old new : Streams) (bytes : List ℕ) 
     recovers BadImage run no_read no_write = (let k : true ≡ false = sym run.writes.0 ∙ exact in cc)
     recovers ReadFault run no_read no_write = absurd (no_read refl)
     recovers WriteFault run no_read no_write = absurd (no_write refl)
-    recovers Limit run no_read no_write = absurd (never_over Limit run run.writes.1.0.1.0)
+    recovers Limit run no_read no_write = absurd (never_over Limit run run.writes.1.1)
 
 -- what reads nothing
 makes : (text : List ℕ) (old new : Streams) (status : Status) → HasMade text old new status →

@@ -1,12 +1,13 @@
 //! A job, done.
 
-ghost use Rattle.std.specs.Prelude.{◌≡◌, ◌+◌, ◌≤◌, codes, IfOk};
+ghost use Rattle.std.specs.Prelude.{◌≡◌, ◌+◌, ◌≤◌, [], codes, true, IfOk};
 ghost use Rattle.trace_io.specs.Causes.{Rose};
 ghost use Rattle.trace_stream.specs.Fresh.{IsFresh};
 ghost use Rattle.trace_stream.specs.declared.limits.TheConstants.{GREATEST_CAPTURE};
 ghost use Rattle.script_rebuild.specs.Rebuilder.{Stands, plan_of, taken_by, IsLive};
 ghost use Rattle.capture_words.specs.Jobs.{IsSoundTask};
-ghost use Rattle.capture_run.specs.Actions.{HasDone};
+ghost use Rattle.capture_run.specs.Actions.{HasDone, checking, showing};
+ghost use Rattle.source_events.specs.Plan.{is_sound};
 ghost use Rattle.capture_run.specs.Notes.{Notes};
 ghost use Rattle.capture_run.specs.Run.{HasRun, task_of, streams};
 
@@ -103,6 +104,70 @@ fn run_opened<A: CommandAction + Drop, I: Source, O: Sink, N: Sink>(
     }
 }
 
+/// Lists a capture, up to its first fault or with all its faults.
+fn run_show<I: Source, O: Sink, N: Sink>(
+    buffers: &mut Buffers,
+    plan: ListPlan,
+    recover: Recover,
+    limit: u64,
+    input: &mut I,
+    output: &mut O,
+    notes: &mut N,
+) -> Status
+    requires empty { (buffers.old.pending ≡ []) × (buffers.old.recent ≡ []) }
+    requires sound { is_sound plan.plan ≡ true }
+    requires small { limit ≤ GREATEST_CAPTURE }
+    ensures ran { let before = streams (I.left input.old) (O.held output.old) (N.held notes.old) (N.faults notes.old) in
+        let after = streams (I.left input.new) (O.held output.new) (N.held notes.new) (N.faults notes.new) in
+        HasRun (showing recover plan) limit before after result }
+    ensures one_empty_read { I.empty_reads input.new ≤ I.empty_reads input.old + 1 }
+    ensures read_cause { result ≡ Status.ReadFault → Rose (I.faults input.old) (I.faults input.new) }
+    ensures write_cause { result ≡ Status.WriteFault → Rose (O.faults output.old) (O.faults output.new) }
+{
+    match recover {
+        Recover::Off => {
+            let mut action = Show::new(plan);
+            run_action(buffers, &mut action, limit, input, output, notes)
+        }
+        Recover::On => {
+            let mut action = RecoveringShow::new(plan);
+            run_action(buffers, &mut action, limit, input, output, notes)
+        }
+    }
+}
+
+/// Counts what is in a capture, up to its first fault or with all its faults.
+fn run_check<I: Source, O: Sink, N: Sink>(
+    buffers: &mut Buffers,
+    plan: Plan,
+    recover: Recover,
+    limit: u64,
+    input: &mut I,
+    output: &mut O,
+    notes: &mut N,
+) -> Status
+    requires empty { (buffers.old.pending ≡ []) × (buffers.old.recent ≡ []) }
+    requires sound { is_sound plan ≡ true }
+    requires small { limit ≤ GREATEST_CAPTURE }
+    ensures ran { let before = streams (I.left input.old) (O.held output.old) (N.held notes.old) (N.faults notes.old) in
+        let after = streams (I.left input.new) (O.held output.new) (N.held notes.new) (N.faults notes.new) in
+        HasRun (checking recover plan) limit before after result }
+    ensures one_empty_read { I.empty_reads input.new ≤ I.empty_reads input.old + 1 }
+    ensures read_cause { result ≡ Status.ReadFault → Rose (I.faults input.old) (I.faults input.new) }
+    ensures write_cause { result ≡ Status.WriteFault → Rose (O.faults output.old) (O.faults output.new) }
+{
+    match recover {
+        Recover::Off => {
+            let mut action = Check::new(plan);
+            run_action(buffers, &mut action, limit, input, output, notes)
+        }
+        Recover::On => {
+            let mut action = RecoveringCheck::new(plan);
+            run_action(buffers, &mut action, limit, input, output, notes)
+        }
+    }
+}
+
 /// The action `rebuild`, which read nothing yet.
 fn rebuild(plan: Plan, sync: u32, half: u8) -> Rebuild
     requires few { half ≤ 8 }
@@ -144,19 +209,10 @@ pub fn run_job<I: Source, O: Sink, N: Sink>(
             plan,
             only,
             window,
-            recover: Recover::Off,
+            recover,
         } => {
-            let mut action = Show::new(ListPlan { plan, only, window });
-            run_action(&mut buffers, &mut action, limit, input, output, notes)
-        }
-        Task::Show {
-            plan,
-            only,
-            window,
-            recover: Recover::On,
-        } => {
-            let mut action = RecoveringShow::new(ListPlan { plan, only, window });
-            run_action(&mut buffers, &mut action, limit, input, output, notes)
+            let listing = ListPlan { plan, only, window };
+            run_show(&mut buffers, listing, recover, limit, input, output, notes)
         }
         Task::Split { frames, id } => {
             let mut action = Split::new(SplitPlan { frames, id });
@@ -166,19 +222,8 @@ pub fn run_job<I: Source, O: Sink, N: Sink>(
             let mut action = PortText::new(PortTextPlan { plan, port });
             run_action(&mut buffers, &mut action, limit, input, output, notes)
         }
-        Task::Check {
-            plan,
-            recover: Recover::Off,
-        } => {
-            let mut action = Check::new(plan);
-            run_action(&mut buffers, &mut action, limit, input, output, notes)
-        }
-        Task::Check {
-            plan,
-            recover: Recover::On,
-        } => {
-            let mut action = RecoveringCheck::new(plan);
-            run_action(&mut buffers, &mut action, limit, input, output, notes)
+        Task::Check { plan, recover } => {
+            run_check(&mut buffers, plan, recover, limit, input, output, notes)
         }
         Task::Rebuild { plan, sync, half } => {
             let mut action = rebuild(plan, sync, half);
