@@ -20,10 +20,11 @@ text_begins p bytes few =
     let order = p.plan.order in
     let ids = in_order p.plan.stp in
     let longer = end_lines_extend p.order.items p.plan bytes in
-    let whole = sure_passed_whole p.every p.halves (turns_of p) order ids (routed_so_far p bytes).lines longer.more few in (
+    let lines = (routed_so_far p bytes).lines in
+    let whole = sure_passed_whole p.every p.halves (turns_of p) order ids lines longer.more few in (
       whole.0,
-      ap (λ (l : List Line2). written_segments p.every p.halves (all_passed (turns_of p) (segments_with_ends order ids l)))
-          longer.all ∙ whole.1,
+      ap (λ (l : List Line2). let all = all_passed (turns_of p) (segments_with_ends order ids l) in
+          written_segments p.every p.halves all) longer.all ∙ whole.1,
     )
 
 -- with what comes after it, it is all

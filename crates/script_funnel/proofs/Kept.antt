@@ -67,7 +67,8 @@ drained_last segment [] = (offers (to_funnel segment), append-nil (whole_acts se
 drained_last segment (next ∷ rest) =
     let more = drained_last next rest in (
       whole_acts segment ++ more.0,
-      ap (λ (l : List Act). whole_acts segment ++ l) more.1 ∙ sym (append_assoc (whole_acts segment) more.0 (Drain ∷ [])),
+      ap (λ (l : List Act). whole_acts segment ++ l) more.1
+          ∙ sym (append_assoc (whole_acts segment) more.0 (Drain ∷ [])),
     )
 
 offered_last : (done : List Act) → offered (done ++ Drain ∷ []) ≡ offered done

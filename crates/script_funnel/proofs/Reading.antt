@@ -1,6 +1,6 @@
 -- What is funnelled of a script reads back as what its lines give.
-use Rattle.std.proofs.Common.{◌≡◌, ◌≤◌, ℕ, List, [], ◌∷◌, ◌++◌, refl, sym, ◌∙◌, ap, subst, append_assoc, append-nil, Bool}
-use Rattle.std.proofs.Common.{true, false, cond, arith, Option, None, Some, length}
+use Rattle.std.proofs.Common.{◌≡◌, ◌≤◌, ℕ, List, [], ◌∷◌, ◌++◌, refl, sym, ◌∙◌, ap, subst, append_assoc, append-nil}
+use Rattle.std.proofs.Common.{Bool, true, false, cond, arith, Option, None, Some, length}
 use Rattle.std.specs.Prelude.{◌==◌, ◌&&◌, ◌||◌, nat_le, ◌+◌}
 use Rattle.std.specs.List.{All, list_any}
 use Rattle.std.proofs.lemmas.Bool.Decides.{nat_tests}
@@ -74,7 +74,8 @@ rest_none x b bytes e = by (b.id == x) e
 
 first_none : (b : Tagged) (bytes : List Tagged) → bytes_for b.id (b ∷ bytes) ≡ [] → ⊥
 first_none b bytes e =
-    let no = ap (λ (v : Bool). cond v (b.byte ∷ bytes_for b.id bytes) (bytes_for b.id bytes)) (sym (self_is b.id)) ∙ e in
+    let rest = bytes_for b.id bytes in
+    let no = ap (λ (v : Bool). cond v (b.byte ∷ rest) rest) (sym (self_is b.id)) ∙ e in
     cc
 
 of_order : (order : List ℕ) (bytes : List Tagged) →
@@ -122,20 +123,26 @@ none_of_both (y ∷ a) b e = absurd (let no = e in cc)
 abbrev AreNamed : List (List Tagged) → Type 0
 AreNamed segments = All (λ (bytes : List Tagged). All IsOfSource bytes) segments
 
-all_outside : (x : ℕ) (segments : List (List Tagged)) → AreNamed segments → in_range x ≡ false → bytes_for x (joined segments) ≡ []
+all_outside : (x : ℕ) (segments : List (List Tagged)) → AreNamed segments → in_range x ≡ false →
+    bytes_for x (joined segments) ≡ []
 all_outside x [] all e = refl
 all_outside x (segment ∷ rest) all e =
     for_append x segment (joined rest)
-    ∙ ap (λ (l : List ℕ). l ++ bytes_for x (joined rest)) (outside x segment (All-head (λ (l : List Tagged). All IsOfSource l) segment rest all) e)
+    ∙ ap (λ (l : List ℕ). l ++ bytes_for x (joined rest))
+    (outside x segment (All-head (λ (l : List Tagged). All IsOfSource l) segment rest all) e)
     ∙ all_outside x rest (All-tail (λ (l : List Tagged). All IsOfSource l) segment rest all) e
 
-all_inside : (segments : List (List Tagged)) → ((x : ℕ) → in_range x ≡ false → bytes_for x (joined segments) ≡ []) → AreNamed segments
+all_inside : (segments : List (List Tagged)) →
+    ((x : ℕ) → in_range x ≡ false → bytes_for x (joined segments) ≡ []) → AreNamed segments
 all_inside [] none = All-nil (λ (l : List Tagged). All IsOfSource l)
 all_inside (segment ∷ rest) none =
-    All-cons (λ (l : List Tagged). All IsOfSource l) segment rest (inside segment (λ x e. (both x e).0)) (all_inside rest (λ x e. (both x e).1))
+    All-cons (λ (l : List Tagged). All IsOfSource l) segment rest (inside segment (λ x e. (both x e).0))
+    (all_inside rest (λ x e. (both x e).1))
   where
     both : (x : ℕ) → in_range x ≡ false → (bytes_for x segment ≡ []) × (bytes_for x (joined rest) ≡ [])
-    both x e = none_of_both (bytes_for x segment) (bytes_for x (joined rest)) (sym (for_append x segment (joined rest)) ∙ none x e)
+    both x e =
+        none_of_both (bytes_for x segment) (bytes_for x (joined rest))
+        (sym (for_append x segment (joined rest)) ∙ none x e)
 
 module _ (every halves : ℕ) (t : Turns) (plan : Plan) (lines : List Line2) (sound : is_sound plan ≡ true)
     (good : CanAllBePut plan [] lines) (some : 1 ≤ t.hold) (apart : are_apart t.order ≡ true)

@@ -15,8 +15,8 @@ use Rattle.script_funnel.specs.declared.plan.FunnelPlan.{FunnelPlan}
 abbrev pub turns_of : FunnelPlan → Turns
 turns_of p = record { order = p.order.items; hold = p.hold; depth = p.depth }
 
--- what is read of the lines about which no further byte can change anything, and of all lines where the script is at its
--- end
+-- what is read of the lines about which no further byte can change anything, and of all lines where the script is at
+-- its end
 abbrev pub routed_so_far : FunnelPlan → List ℕ → Reading
 routed_so_far p bytes = routed p.order.items (read_so_far p.plan bytes)
 

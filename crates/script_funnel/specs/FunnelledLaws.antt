@@ -24,7 +24,8 @@ funnel_lawful p = record {
   ending_stays = λ xs ys h.
       let settled = routed_settled p.order.items p.plan xs ys h in
       let same = end_settled p.order.items p.plan xs h in
-      nothing_left (funnelled p (routed_script p (xs ++ ys)).lines) (text p (xs ++ ys)) (routed_script p (xs ++ ys)).fault
+      nothing_left (funnelled p (routed_script p (xs ++ ys)).lines) (text p (xs ++ ys))
+      (routed_script p (xs ++ ys)).fault
       (ap (λ (r : Reading). is_some r.fault) settled.whole ∙ h)
       ∙ sym (nothing_left (funnelled p (routed_script p xs).lines) (text p xs) (routed_script p xs).fault
       (ap (λ (r : Reading). is_some r.fault) same ∙ h));

@@ -8,13 +8,14 @@ use Rattle.script_text.specs.declared.version_two.Line2.{Line2}
 use Rattle.script_text.specs.declared.version_two.Line2.TheVariants.{One, Flush, Trigger}
 use Rattle.script_rebuild.specs.Script.{given_puts, ends_with}
 use Rattle.script_rebuild.specs.ScriptLaws.{segments_append}
-use Rattle.script_rebuild.specs.Segments.{Segments, no_segments, with_bytes, now_ended, line_bytes, after_line, with_line}
-use Rattle.script_rebuild.specs.Segments.{segments_after, segments_of, segments_with_ends, sure_of}
+use Rattle.script_rebuild.specs.Segments.{Segments, no_segments, with_bytes, now_ended, line_bytes, after_line}
+use Rattle.script_rebuild.specs.Segments.{with_line, segments_after, segments_of, segments_with_ends, sure_of}
 use Rattle.trace_funnel.proofs.Acting.{acts_append}
 use Rattle.trace_funnel.specs.Acts.{Act, Offer, Drain, offers}
 use Rattle.trace_funnel.specs.Turns.{Place, Turned, empty}
 use Rattle.trace_funnel.specs.declared.tagged.Tagged.{Tagged as Given}
-use Rattle.script_funnel.specs.Passed.{Turns, to_funnel, from_funnel, whole_acts, act_by, passed_from, passed, all_passed}
+use Rattle.script_funnel.specs.Passed.{Turns, to_funnel, from_funnel, whole_acts, act_by, passed_from, passed}
+use Rattle.script_funnel.specs.Passed.{all_passed}
 
 offers_more : (a b : List Tagged) → offers (to_funnel (a ++ b)) ≡ offers (to_funnel a) ++ offers (to_funnel b)
 offers_more a b =
@@ -81,7 +82,8 @@ passed_whole t ps ended begun bytes =
     let ends = passed_ends t ps ended (begun ++ bytes) in (
       put.0 ++ ends.0,
       ends.1
-          ∙ ap (λ (s : Segments). let r : Segments = record { ended = now_ended (with_bytes s ends.0); begun = [] } in r)
+          ∙ ap (λ (s : Segments). let now = with_bytes s ends.0 in
+          let r : Segments = record { ended = now_ended now; begun = [] } in r)
           put.1
           ∙ ap (λ (l : List Tagged). let r : Segments = record { ended = p.ended ++ l ∷ []; begun = [] } in r)
           (append_assoc p.begun put.0 ends.0),

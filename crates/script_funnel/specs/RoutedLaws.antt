@@ -21,7 +21,8 @@ module _ (order : List ℕ) where
   pub routed_extends : (fault : Option (ℕ × LineFault)) (before lines : List Line2) →
       Extends before (routed_on order fault before lines).lines
   routed_extends fault before [] = record { more = []; all = sym (append-nil before) }
-  routed_extends fault before (line ∷ lines) = by (is_routed order line) (routed_extends fault (before ++ line ∷ []) lines)
+  routed_extends fault before (line ∷ lines) =
+      by (is_routed order line) (routed_extends fault (before ++ line ∷ []) lines)
     where
       by : (v : Bool) → Extends (before ++ line ∷ []) (routed_on order fault (before ++ line ∷ []) lines).lines →
           Extends before (cond v (routed_on order fault (before ++ line ∷ []) lines) (unrouted before)).lines
@@ -37,7 +38,8 @@ module _ (order : List ℕ) where
       next : List Line2
       next = before ++ line ∷ []
 
-      by : (v : Bool) → Extends (routed_on order fault next lines).lines (routed_on order later next (lines ++ more)).lines →
+      by : (v : Bool) →
+          Extends (routed_on order fault next lines).lines (routed_on order later next (lines ++ more)).lines →
           Extends (cond v (routed_on order fault next lines) (unrouted before)).lines
           (cond v (routed_on order later next (lines ++ more)) (unrouted before)).lines
       by true e = e
@@ -95,7 +97,8 @@ module _ (order : List ℕ) (plan : Plan) (xs ys : List ℕ) where
   lines_extend =
       let longer = so_far_extends plan xs ys in
       let all = read_so_far plan (xs ++ ys) in
-      subst (λ (l : List Line2). Extends (routed order old).lines (routed_on order all.fault [] l).lines) (sym longer.all)
+      subst (λ (l : List Line2). Extends (routed order old).lines (routed_on order all.fault [] l).lines)
+      (sym longer.all)
       (routed_more order old.fault all.fault [] old.lines longer.more)
 
 pub end_settled : (order : List ℕ) (plan : Plan) (xs : List ℕ) →
@@ -111,5 +114,6 @@ end_lines_extend order plan xs =
     let longer = end_extends plan xs in
     let old = read_so_far plan xs in
     let all = script_of plan xs in
-    subst (λ (l : List Line2). Extends (routed order old).lines (routed_on order all.fault [] l).lines) (sym longer.all)
+    subst (λ (l : List Line2). Extends (routed order old).lines (routed_on order all.fault [] l).lines)
+    (sym longer.all)
     (routed_more order old.fault all.fault [] old.lines longer.more)
