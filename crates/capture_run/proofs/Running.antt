@@ -10,7 +10,10 @@ use Rattle.trace_stream.specs.declared.outcome.Outcome.{Outcome}
 use Rattle.trace_stream.specs.declared.outcome.Outcome.TheVariants.{AtEnd, FaultFound, OverLimit}
 use Rattle.capture_words.specs.declared.job.Task.{Task}
 use Rattle.capture_words.specs.declared.job.Task.TheVariants as tasks
-use Rattle.capture_run.specs.Actions.{HasDone, meaning_of}
+use Rattle.capture_actions.specs.declared.list_plan.ListPlan.{ListPlan}
+use Rattle.capture_words.specs.declared.recover.Recover.{Recover}
+use Rattle.source_events.specs.declared.plan.Plan.{Plan}
+use Rattle.capture_run.specs.Actions.{HasDone, checking, meaning_of, showing}
 use Rattle.capture_run.specs.Notes.{Notes, text_of, status_of, is_image, over_text, over_status}
 use Rattle.capture_run.specs.Run.{HasRun, TaskMeaning, TaskNotes, task_of, Streams, Stops, EndsLate, WritesBy, Loses}
 use Rattle.capture_run.specs.declared.actions.FaultNote.{FaultNote}
@@ -99,6 +102,23 @@ module _ {Plan : Type 0} (notes : Plan → TaskNotes) (plan now : Plan) (same : 
   run_over s is noted told =
       ran OverLimit s (over_status fault) (over_text fault limit) is noted
       (writes_over fault m limit new.left s.bytes s.out recent exact (told s.bytes) s.outcome)
+
+-- a run by equal words, plans and tasks
+pub same_show : (r s : Recover) (p q : ListPlan) (limit : ℕ) (old new : Streams) (status : Status) → r ≡ s → p ≡ q →
+    HasRun (showing s p) limit old new status → HasRun (showing r q) limit old new status
+same_show r s p q limit old new status is same run =
+    subst (λ (v : ListPlan). HasRun (showing r v) limit old new status) same
+    (subst (λ (v : Recover). HasRun (showing v p) limit old new status) (sym is) run)
+
+pub same_check : (r s : Recover) (p q : Plan) (limit : ℕ) (old new : Streams) (status : Status) → r ≡ s → p ≡ q →
+    HasRun (checking s p) limit old new status → HasRun (checking r q) limit old new status
+same_check r s p q limit old new status is same run =
+    subst (λ (v : Plan). HasRun (checking r v) limit old new status) same
+    (subst (λ (v : Recover). HasRun (checking v p) limit old new status) (sym is) run)
+
+pub same_task : (t u : Task) (limit : ℕ) (old new : Streams) (status : Status) → t ≡ u →
+    HasDone u limit old new status → HasDone t limit old new status
+same_task t u limit old new status is run = subst (λ (v : Task). HasDone v limit old new status) (sym is) run
 
 -- with no memory to begin with nothing is read or written, whatever the task
 keeps : (left : Option (List ℕ)) → Keeps left left

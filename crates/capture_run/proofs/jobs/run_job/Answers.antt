@@ -1,42 +1,20 @@
 use Rattle.std.proofs.Common.{sym, subst}
-use Rattle.capture_words.specs.declared.job.Task.{Task}
+use Rattle.capture_words.specs.declared.job.Task.TheVariants.{Check, Show}
 use Rattle.capture_run.specs.Actions.{HasDone}
 use Rattle.capture_run.specs.Run.{Streams}
 use Rattle.capture_run.specs.declared.status.Status.{Status}
-use Rattle.capture_run.proofs.Running.{done_unopened}
+use Rattle.capture_run.proofs.Running.{done_unopened, same_task}
 use Rattle.capture_run.proofs.jobs.run_job.Goals as goal
 
 pub returns-in-Show-clause-ran : goal.returns-in-Show-clause-ran
 returns-in-Show-clause-ran g c =
-    let old : Streams = record {
-      left = g.I.Source.left c.args.input.now;
-      held = g.O.Sink.held c.args.output.now;
-      noted = g.N.Sink.held c.args.notes.now;
-      note_faults = g.N.Sink.faults c.args.notes.now;
-    } in
-    let new : Streams = record {
-      left = g.I.Source.left c.run_show.new.input;
-      held = g.O.Sink.held c.run_show.new.output;
-      noted = g.N.Sink.held c.run_show.new.notes;
-      note_faults = g.N.Sink.faults c.run_show.new.notes;
-    } in
-    subst (λ (t : Task). HasDone t c.args.job.limit old new c.run_show.result) (sym c.in-Show.is) c.run_show.ensures.ran
+    let t = c.in-Show in
+    same_task c.args.job.task (Show t.plan t.only t.window t.recover) c.args.job.limit _ _ _ t.is c.run_show.ensures.ran
 
 pub returns-in-Check-clause-ran : goal.returns-in-Check-clause-ran
 returns-in-Check-clause-ran g c =
-    let old : Streams = record {
-      left = g.I.Source.left c.args.input.now;
-      held = g.O.Sink.held c.args.output.now;
-      noted = g.N.Sink.held c.args.notes.now;
-      note_faults = g.N.Sink.faults c.args.notes.now;
-    } in
-    let new : Streams = record {
-      left = g.I.Source.left c.run_check.new.input;
-      held = g.O.Sink.held c.run_check.new.output;
-      noted = g.N.Sink.held c.run_check.new.notes;
-      note_faults = g.N.Sink.faults c.run_check.new.notes;
-    } in
-    subst (λ (t : Task). HasDone t c.args.job.limit old new c.run_check.result) (sym c.in-Check.is) c.run_check.ensures.ran
+    let t = c.in-Check in
+    same_task c.args.job.task (Check t.plan t.recover) c.args.job.limit _ _ _ t.is c.run_check.ensures.ran
 
 pub returns-in_default-clause-ran : goal.returns-in_default-clause-ran
 returns-in_default-clause-ran g c =
