@@ -3,17 +3,18 @@ use Rattle.std.proofs.Common.{◌≡◌, ◌⊎◌, ◌<◌, ◌≤◌, List, �
 use Rattle.std.proofs.Common.{true, false}
 use Rattle.std.proofs.lemmas.List.{take_all}
 use Rattle.std.specs.Prelude.{codes}
-use Rattle.capture_actions.specs.declared.list_plan.ListPlan.{ListPlan}
+use Rattle.capture_exercise.specs.Summary.{exercise_summary}
 use Rattle.capture_words.specs.declared.job.Task.{Task}
 use Rattle.capture_words.specs.declared.job.Task.TheVariants as tasks
 use Rattle.capture_words.specs.declared.recover.Recover.TheVariants.{Off, On}
-use Rattle.capture_run.specs.Actions.{HasDone, IsSoundInput, checking, limit_of, meaning_of, showing}
+use Rattle.capture_run.specs.Actions.{HasDone, IsSoundInput, limit_of, meaning_of}
 use Rattle.capture_run.specs.Notes.{Notes}
 use Rattle.capture_run.specs.Recovers.{GoesOn, IsRecovered}
 use Rattle.capture_run.specs.Run.{HasMade, HasRun, Loses, Streams, TaskMeaning, IsDoneOrNoMemory, Stops, EndsLate}
 use Rattle.capture_run.specs.declared.status.Status.{Status}
 use Rattle.capture_run.specs.declared.status.Status.TheVariants.{Done, Usage, CaptureFault, ReadFault, WriteFault}
 use Rattle.capture_run.specs.declared.status.Status.TheVariants.{NoMemory, ScriptFault, Limit, Recovered, BadImage}
+use Rattle.capture_run.proofs.EachTask.{Kind, kind_of}
 use Rattle.capture_run.proofs.Running.{same_lost}
 
 module _ (m : TaskMeaning) (limit : ℕ) (old new : Streams) (bytes : List ℕ) (lost : Loses old.left new.left bytes)
@@ -86,55 +87,62 @@ said : (old new : Streams) (note : List ℕ) → note ≡ codes "no memory\n" �
     Notes old.noted new.noted old.note_faults new.note_faults (codes "no memory\n")
 said old new note is noted = subst (Notes old.noted new.noted old.note_faults new.note_faults) is noted
 
-pub complete : (task : Task) (limit : ℕ) (old new : Streams) (status : Status) (bytes : List ℕ) →
-    HasDone task limit old new status → Loses old.left new.left bytes → length bytes ≤ limit_of task limit →
-    IsSoundInput task bytes → (status ≡ ReadFault → ⊥) → (status ≡ WriteFault → ⊥) → IsDoneOrNoMemory status
-complete (tasks.Show plan only window recover) limit old new status bytes run lost within is =
-    completes (meaning_of (tasks.Show plan only window recover)) limit old new bytes lost within is.sound is.not_late status run
-complete (tasks.Split frames id) limit old new status bytes run lost within is =
-    completes (meaning_of (tasks.Split frames id)) limit old new bytes lost within is.sound is.not_late status run
-complete (tasks.Text plan port) limit old new status bytes run lost within is =
-    completes (meaning_of (tasks.Text plan port)) limit old new bytes lost within is.sound is.not_late status run
-complete (tasks.Check plan recover) limit old new status bytes run lost within is =
-    completes (meaning_of (tasks.Check plan recover)) limit old new bytes lost within is.sound is.not_late status run
-complete (tasks.Rebuild plan sync half) limit old new status bytes run lost within is =
-    completes (meaning_of (tasks.Rebuild plan sync half)) limit old new bytes lost within is.sound is.not_late status run
-complete tasks.Realign limit old new status bytes run lost within is =
-    completes (meaning_of tasks.Realign) limit old new bytes lost within is.sound is.not_late status run
-complete (tasks.Ring size) limit old new status bytes run lost within is =
-    completes (meaning_of (tasks.Ring size)) limit old new bytes lost within is.sound is.not_late status run
-complete (tasks.Unring size at full) limit old new status bytes run lost within is =
-    completes (meaning_of (tasks.Unring size at full)) size old new bytes lost within is.sound is.not_late status run
-complete (tasks.Exercise items lose) limit old new status bytes run lost within is = λ no_read no_write.
-    makes _ old new status run no_write
+-- what goes on is noted so at a fault, and reads as many bytes as the words allow
+recovering : (task : Task) → GoesOn task → ((meaning_of task).fault_status ≡ Recovered)
+    × ((meaning_of task).exact ≡ false) × ((limit : ℕ) → limit_of task limit ≡ limit)
+recovering (tasks.Show plan only window On) on = (refl, refl, λ limit. refl)
+recovering (tasks.Show plan only window Off) on = absurd on
+recovering (tasks.Check plan On) on = (refl, refl, λ limit. refl)
+recovering (tasks.Check plan Off) on = absurd on
+recovering (tasks.Split frames id) on = absurd on
+recovering (tasks.Text plan port) on = absurd on
+recovering (tasks.Rebuild plan sync half) on = absurd on
+recovering tasks.Realign on = absurd on
+recovering (tasks.Ring size) on = absurd on
+recovering (tasks.Unring size at full) on = absurd on
+recovering (tasks.Exercise items lose) on = absurd on
 
-pub goes_on : (task : Task) (limit : ℕ) (old new : Streams) (status : Status) (bytes : List ℕ) →
-    HasDone task limit old new status → GoesOn task → Loses old.left new.left bytes → length bytes ≤ limit →
-    (status ≡ ReadFault → ⊥) → (status ≡ WriteFault → ⊥) → IsRecovered status
-goes_on (tasks.Show plan only window On) limit old new status bytes run on lost within =
-    let p : ListPlan = record { plan = plan; only = only; window = window } in
-    recovers (showing On p) limit old new bytes lost within refl refl status run
-goes_on (tasks.Show plan only window Off) limit old new status bytes run on lost within = absurd on
-goes_on (tasks.Check plan On) limit old new status bytes run on lost within =
-    recovers (checking On plan) limit old new bytes lost within refl refl status run
-goes_on (tasks.Check plan Off) limit old new status bytes run on lost within = absurd on
-goes_on (tasks.Split frames id) limit old new status bytes run on lost within = absurd on
-goes_on (tasks.Text plan port) limit old new status bytes run on lost within = absurd on
-goes_on (tasks.Rebuild plan sync half) limit old new status bytes run on lost within = absurd on
-goes_on tasks.Realign limit old new status bytes run on lost within = absurd on
-goes_on (tasks.Ring size) limit old new status bytes run on lost within = absurd on
-goes_on (tasks.Unring size at full) limit old new status bytes run on lost within = absurd on
-goes_on (tasks.Exercise items lose) limit old new status bytes run on lost within = absurd on
+module _ (task : Task) (limit : ℕ) (old new : Streams) (status : Status) (run : HasDone task limit old new status)
+    where
+  abbrev made : (e : (items lose : ℕ) × (task ≡ tasks.Exercise items lose)) →
+      HasMade (exercise_summary e.0 e.1) old new status
+  made e = subst (λ (t : Task). HasDone t limit old new status) e.2 run
 
--- want of memory is noted
-pub noted : (task : Task) (limit : ℕ) (old new : Streams) → HasDone task limit old new NoMemory →
-    Notes old.noted new.noted old.note_faults new.note_faults (codes "no memory\n")
-noted (tasks.Show plan only window recover) limit old new run = said old new run.note run.writes.2 run.noted
-noted (tasks.Split frames id) limit old new run = said old new run.note run.writes.2 run.noted
-noted (tasks.Text plan port) limit old new run = said old new run.note run.writes.2 run.noted
-noted (tasks.Check plan recover) limit old new run = said old new run.note run.writes.2 run.noted
-noted (tasks.Rebuild plan sync half) limit old new run = said old new run.note run.writes.2 run.noted
-noted tasks.Realign limit old new run = said old new run.note run.writes.2 run.noted
-noted (tasks.Ring size) limit old new run = said old new run.note run.writes.2 run.noted
-noted (tasks.Unring size at full) limit old new run = said old new run.note run.writes.2 run.noted
-noted (tasks.Exercise items lose) limit old new run = said old new run.note run.makes.1 run.noted
+  pub complete : (bytes : List ℕ) → Loses old.left new.left bytes → length bytes ≤ limit_of task limit →
+      IsSoundInput task bytes → (status ≡ ReadFault → ⊥) → (status ≡ WriteFault → ⊥) → IsDoneOrNoMemory status
+  complete bytes lost within is no_read no_write = by (kind_of task)
+    where
+      by : Kind task → IsDoneOrNoMemory status
+      by (inl reads) =
+          completes (meaning_of task) (limit_of task limit) old new bytes lost within is.sound is.not_late status
+          (reads.run limit old new status run) no_read no_write
+      by (inr e) = makes (exercise_summary e.0 e.1) old new status (made e) no_write
+
+  pub goes_on : (bytes : List ℕ) → GoesOn task → Loses old.left new.left bytes → length bytes ≤ limit →
+      (status ≡ ReadFault → ⊥) → (status ≡ WriteFault → ⊥) → IsRecovered status
+  goes_on bytes on lost within no_read no_write = by (kind_of task)
+    where
+      is : ((meaning_of task).fault_status ≡ Recovered) × ((meaning_of task).exact ≡ false)
+          × ((l : ℕ) → limit_of task l ≡ l)
+      is = recovering task on
+
+      by : Kind task → IsRecovered status
+      by (inl reads) =
+          recovers (meaning_of task) (limit_of task limit) old new bytes lost
+          (subst (λ (l : ℕ). length bytes ≤ l) (sym (is.2 limit)) within) is.0 is.1 status
+          (reads.run limit old new status run) no_read no_write
+      by (inr e) = absurd (subst GoesOn e.2 on)
+
+  -- want of memory is noted
+  pub noted : status ≡ NoMemory →
+      Notes old.noted new.noted old.note_faults new.note_faults (codes "no memory\n")
+  noted none = by (kind_of task)
+    where
+      by : Kind task → Notes old.noted new.noted old.note_faults new.note_faults (codes "no memory\n")
+      by (inl reads) =
+          let r = subst (HasRun (meaning_of task) (limit_of task limit) old new) none
+          (reads.run limit old new status run) in
+          said old new r.note r.writes.2 r.noted
+      by (inr e) =
+          let r = subst (HasMade (exercise_summary e.0 e.1) old new) none (made e) in
+          said old new r.note r.makes.1 r.noted

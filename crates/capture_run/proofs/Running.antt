@@ -1,5 +1,6 @@
 -- How a run ends, by the outcome of the serving of its input.
-use Rattle.std.proofs.Common.{◌≡◌, ℕ, ◌≤◌, List, [], Some, None, refl, sym, ap, ◌∙◌, subst, inl, inr, length, take, arith, true}
+use Rattle.std.proofs.Common.{◌≡◌, ℕ, ◌≤◌, List, [], Some, None, refl, sym, ap, ◌∙◌, subst, inl, inr, length, take}
+use Rattle.std.proofs.Common.{arith, true}
 use Rattle.std.proofs.lemmas.List.{append_cancel_right, take_all}
 use Rattle.std.specs.declared.option.Option.{Option}
 use Rattle.std.specs.Prelude.{codes}
@@ -9,17 +10,19 @@ use Rattle.trace_stream.specs.Served.{Meaning, Ends, HasServed, HasStopped, HasE
 use Rattle.trace_stream.specs.declared.outcome.Outcome.{Outcome}
 use Rattle.trace_stream.specs.declared.outcome.Outcome.TheVariants.{AtEnd, FaultFound, OverLimit}
 use Rattle.capture_words.specs.declared.job.Task.{Task}
-use Rattle.capture_words.specs.declared.job.Task.TheVariants as tasks
 use Rattle.capture_actions.specs.declared.list_plan.ListPlan.{ListPlan}
 use Rattle.capture_words.specs.declared.recover.Recover.{Recover}
 use Rattle.source_events.specs.declared.plan.Plan.{Plan}
-use Rattle.capture_run.specs.Actions.{HasDone, checking, meaning_of, showing}
+use Rattle.capture_exercise.specs.Summary.{exercise_summary}
+use Rattle.capture_run.specs.Actions.{HasDone, checking, limit_of, meaning_of, showing}
 use Rattle.capture_run.specs.Notes.{Notes, text_of, status_of, is_image, over_text, over_status}
-use Rattle.capture_run.specs.Run.{HasRun, TaskMeaning, TaskNotes, task_of, Streams, Stops, EndsLate, WritesBy, Loses}
+use Rattle.capture_run.specs.Run.{HasMade, HasRun, TaskMeaning, TaskNotes, task_of, Streams, Stops, EndsLate}
+use Rattle.capture_run.specs.Run.{WritesBy, Loses}
 use Rattle.capture_run.specs.declared.actions.FaultNote.{FaultNote}
 use Rattle.capture_run.specs.declared.actions.FaultNote.TheVariants.{Capture, Script, Recovery, Image}
 use Rattle.capture_run.specs.declared.status.Status.{Status}
 use Rattle.capture_run.specs.declared.status.Status.TheVariants.{NoMemory}
+use Rattle.capture_run.proofs.EachTask.{Kind, kind_of}
 
 -- the bytes that were lost are told by what was left
 pub same_lost : (old new : Option (List ℕ)) (xs ys : List ℕ) → Consumes old new xs → Loses old new ys → xs ≡ ys
@@ -41,8 +44,8 @@ writes_late Recovery m limit left bytes out note e x w = (sym e, inr w)
 writes_late (Image size) m limit left bytes out note e x w = (sym x, inl w)
 
 writes_stop : (fault : FaultNote) (m : TaskMeaning) (limit : ℕ) (left : Option (List ℕ)) (bytes out note : List ℕ)
-    → status_of fault ≡ m.fault_status → is_image fault ≡ m.exact → (m.exact ≡ true → m.action.faulty (take limit bytes) → ⊥)
-    → Stops m limit left bytes out note → WritesBy m limit left (status_of fault) bytes out note
+    → status_of fault ≡ m.fault_status → is_image fault ≡ m.exact
+    → (m.exact ≡ true → m.action.faulty (take limit bytes) → ⊥) → Stops m limit left bytes out note → WritesBy m limit left (status_of fault) bytes out note
 writes_stop (Capture fault) m limit left bytes out note e x sound w = (sym e, inl w)
 writes_stop (Script fault) m limit left bytes out note e x sound w = (sym e, inl w)
 writes_stop Recovery m limit left bytes out note e x sound w = (sym e, inl w)
@@ -58,16 +61,18 @@ writes_over Recovery m limit left bytes out recent x told w = (sym x, w, refl)
 writes_over (Image size) m limit left bytes out recent x told w = (sym x, inr (w, told (sym x)))
 
 -- A fault is noted, by a plan that is that of the run.
-module _ {Plan : Type 0} (notes : Plan → TaskNotes) (plan now : Plan) (same : now ≡ plan) (action : Meaning) (limit : ℕ) (old new : Streams) (recent : List ℕ)
-    (fault : FaultNote) (status : Status) (ends_so : status_of fault ≡ (notes now).fault_status) (exact : is_image fault ≡ (notes now).exact) where
+module _ {Plan : Type 0} (notes : Plan → TaskNotes) (plan now : Plan) (same : now ≡ plan) (action : Meaning) (limit : ℕ)
+    (old new : Streams) (recent : List ℕ) (fault : FaultNote) (status : Status)
+    (ends_so : status_of fault ≡ (notes now).fault_status) (exact : is_image fault ≡ (notes now).exact) where
   abbrev m : TaskMeaning
   m = task_of action (notes now)
 
   abbrev Noted : List ℕ → Type 0
   Noted note = Notes old.noted new.noted old.note_faults new.note_faults note
 
-  ran : (outcome : Outcome) (s : HasServed action limit (ends old) (ends new) recent outcome) (by : Status) (note : List ℕ) → status ≡ by → Noted note
-      → WritesBy m limit new.left by s.bytes s.out note → HasRun (task_of action (notes plan)) limit old new status
+  ran : (outcome : Outcome) (s : HasServed action limit (ends old) (ends new) recent outcome) (by : Status)
+      (note : List ℕ) → status ≡ by → Noted note → WritesBy m limit new.left by s.bytes s.out note →
+      HasRun (task_of action (notes plan)) limit old new status
   ran outcome s by note is noted w =
       subst (λ p. HasRun (task_of action (notes p)) limit old new status) same
       (subst (HasRun m limit old new) (sym is) (record {
@@ -82,23 +87,31 @@ module _ {Plan : Type 0} (notes : Plan → TaskNotes) (plan now : Plan) (same : 
       }))
 
   -- at the end of the input
-  pub run_late : (there : List ℕ → Type 0) (k : HasEnded there action limit (ends old) (ends new) recent) → status ≡ status_of fault → Noted (text_of fault recent)
-      → (notes now).late k.served.bytes ≡ true → text_of fault recent ≡ (notes now).fault_note k.served.bytes → HasRun (task_of action (notes plan)) limit old new status
+  pub run_late : (there : List ℕ → Type 0) (k : HasEnded there action limit (ends old) (ends new) recent) →
+      status ≡ status_of fault → Noted (text_of fault recent) → (notes now).late k.served.bytes ≡ true →
+      text_of fault recent ≡ (notes now).fault_note k.served.bytes →
+      HasRun (task_of action (notes plan)) limit old new status
   run_late there k is noted late text =
       ran AtEnd k.served (status_of fault) (text_of fault recent) is noted
-      (writes_late fault m limit new.left k.served.bytes k.served.out (text_of fault recent) ends_so exact (k.served.outcome, k.served.ended refl, late, text))
+      (writes_late fault m limit new.left k.served.bytes k.served.out (text_of fault recent) ends_so exact
+      (k.served.outcome, k.served.ended refl, late, text))
 
   -- where it became certain before
-  pub run_stopped : (there : List ℕ → Type 0) (k : HasStopped there action limit (ends old) (ends new) recent) → status ≡ status_of fault → Noted (text_of fault recent)
-      → ((seen : List ℕ) → (notes now).exact ≡ true → action.faulty seen → ⊥)
-      → text_of fault recent ≡ (notes now).fault_note k.served.outcome.0.seen → HasRun (task_of action (notes plan)) limit old new status
+  pub run_stopped : (there : List ℕ → Type 0) (k : HasStopped there action limit (ends old) (ends new) recent) →
+      status ≡ status_of fault → Noted (text_of fault recent) →
+      ((seen : List ℕ) → (notes now).exact ≡ true → action.faulty seen → ⊥) →
+      text_of fault recent ≡ (notes now).fault_note k.served.outcome.0.seen →
+      HasRun (task_of action (notes plan)) limit old new status
   run_stopped there k is noted sound text =
       ran FaultFound k.served (status_of fault) (text_of fault recent) is noted
-      (writes_stop fault m limit new.left k.served.bytes k.served.out (text_of fault recent) ends_so exact (sound (take limit k.served.bytes)) (recent, k.served.outcome, text))
+      (writes_stop fault m limit new.left k.served.bytes k.served.out (text_of fault recent) ends_so exact
+      (sound (take limit k.served.bytes)) (recent, k.served.outcome, text))
 
   -- where the input has too many bytes
-  pub run_over : (s : HasServed action limit (ends old) (ends new) recent OverLimit) → status ≡ over_status fault → Noted (over_text fault limit)
-      → ((bytes : List ℕ) → (notes now).exact ≡ true → text_of fault [] ≡ (notes now).fault_note bytes) → HasRun (task_of action (notes plan)) limit old new status
+  pub run_over : (s : HasServed action limit (ends old) (ends new) recent OverLimit) → status ≡ over_status fault →
+      Noted (over_text fault limit) →
+      ((bytes : List ℕ) → (notes now).exact ≡ true → text_of fault [] ≡ (notes now).fault_note bytes) →
+      HasRun (task_of action (notes plan)) limit old new status
   run_over s is noted told =
       ran OverLimit s (over_status fault) (over_text fault limit) is noted
       (writes_over fault m limit new.left s.bytes s.out recent exact (told s.bytes) s.outcome)
@@ -125,22 +138,41 @@ keeps : (left : Option (List ℕ)) → Keeps left left
 keeps None = tt
 keeps (Some xs) = refl
 
-pub run_unopened : (m : TaskMeaning) (limit : ℕ) (left held noted noted' : Option (List ℕ)) (faults faults' : ℕ)
-    → Notes noted noted' faults faults' (codes "no memory\n")
-    → HasRun m limit (record { left = left; held = held; noted = noted; note_faults = faults }) (record { left = left; held = held; noted = noted'; note_faults = faults' }) NoMemory
-run_unopened m limit left held noted noted' faults faults' n =
-    record { bytes = []; out = []; note = codes "no memory\n"; lost = Consumes-nil left; gained = Appends-nil held; noted = n; at_most = omega arith; writes = (refl, refl, refl) }
+-- what the streams show then, where the notes took this and failed so often
+abbrev pub with_notes : Streams → Option (List ℕ) → ℕ → Streams
+with_notes old noted faults = record { left = old.left; held = old.held; noted = noted; note_faults = faults }
 
-pub done_unopened : (task : Task) (limit : ℕ) (left held noted noted' : Option (List ℕ)) (faults faults' : ℕ)
-    → Notes noted noted' faults faults' (codes "no memory\n")
-    → HasDone task limit (record { left = left; held = held; noted = noted; note_faults = faults }) (record { left = left; held = held; noted = noted'; note_faults = faults' }) NoMemory
-done_unopened (tasks.Show plan only window recover) limit left held noted noted' faults faults' n = run_unopened (meaning_of (tasks.Show plan only window recover)) limit left held noted noted' faults faults' n
-done_unopened (tasks.Split frames id) limit left held noted noted' faults faults' n = run_unopened (meaning_of (tasks.Split frames id)) limit left held noted noted' faults faults' n
-done_unopened (tasks.Text plan port) limit left held noted noted' faults faults' n = run_unopened (meaning_of (tasks.Text plan port)) limit left held noted noted' faults faults' n
-done_unopened (tasks.Check plan recover) limit left held noted noted' faults faults' n = run_unopened (meaning_of (tasks.Check plan recover)) limit left held noted noted' faults faults' n
-done_unopened (tasks.Rebuild plan sync half) limit left held noted noted' faults faults' n = run_unopened (meaning_of (tasks.Rebuild plan sync half)) limit left held noted noted' faults faults' n
-done_unopened tasks.Realign limit left held noted noted' faults faults' n = run_unopened (meaning_of tasks.Realign) limit left held noted noted' faults faults' n
-done_unopened (tasks.Ring size) limit left held noted noted' faults faults' n = run_unopened (meaning_of (tasks.Ring size)) limit left held noted noted' faults faults' n
-done_unopened (tasks.Unring size at full) limit left held noted noted' faults faults' n = run_unopened (meaning_of (tasks.Unring size at full)) size left held noted noted' faults faults' n
-done_unopened (tasks.Exercise items lose) limit left held noted noted' faults faults' n =
-    record { out = []; note = codes "no memory\n"; lost = keeps left; gained = Appends-nil held; noted = n; makes = (refl, refl) }
+module _ (limit : ℕ) (old : Streams) (noted : Option (List ℕ)) (faults : ℕ)
+    (note : Notes old.noted noted old.note_faults faults (codes "no memory\n")) where
+  pub run_unopened : (m : TaskMeaning) → HasRun m limit old (with_notes old noted faults) NoMemory
+  run_unopened m = record {
+    bytes = [];
+    out = [];
+    note = codes "no memory\n";
+    lost = Consumes-nil old.left;
+    gained = Appends-nil old.held;
+    noted = note;
+    at_most = omega arith;
+    writes = (refl, refl, refl);
+  }
+
+  pub made_unopened : (text : List ℕ) → HasMade text old (with_notes old noted faults) NoMemory
+  made_unopened text = record {
+    out = [];
+    note = codes "no memory\n";
+    lost = keeps old.left;
+    gained = Appends-nil old.held;
+    noted = note;
+    makes = (refl, refl);
+  }
+
+pub done_unopened : (task : Task) (limit : ℕ) (old : Streams) (noted : Option (List ℕ)) (faults : ℕ) →
+    Notes old.noted noted old.note_faults faults (codes "no memory\n") →
+    HasDone task limit old (with_notes old noted faults) NoMemory
+done_unopened task limit old noted faults note = by (kind_of task)
+  where
+    by : Kind task → HasDone task limit old (with_notes old noted faults) NoMemory
+    by (inl reads) = reads.done limit old (with_notes old noted faults) NoMemory
+        (run_unopened (limit_of task limit) old noted faults note (meaning_of task))
+    by (inr e) = subst (λ (t : Task). HasDone t limit old (with_notes old noted faults) NoMemory) (sym e.2)
+        (made_unopened limit old noted faults note (exercise_summary e.0 e.1))

@@ -5,7 +5,7 @@ use Rattle.capture_words.specs.declared.job.Job.{Job}
 use Rattle.capture_run.specs.Actions.{HasDone, IsSoundInput, limit_of}
 use Rattle.capture_run.specs.Fronts.{ListsRest}
 use Rattle.capture_run.specs.Recovers.{GoesOn}
-use Rattle.capture_run.specs.Run.{Streams}
+use Rattle.capture_run.specs.Run.{Streams, streams}
 use Rattle.capture_run.specs.declared.status.Status.{Status}
 use Rattle.capture_run.proofs.Completing.{complete, goes_on, noted}
 use Rattle.capture_run.proofs.Fronts.{same_job, follows_whole}
@@ -16,7 +16,7 @@ use Rattle.capture_run.proofs.run.Goals as goal
 pub returns-in-Do-clause-memory_note : goal.returns-in-Do-clause-memory_note
 returns-in-Do-clause-memory_note g c = λ none.
     let mine : Job = c.in-Do.job in
-    noted mine.task mine.limit _ _ (subst (HasDone mine.task mine.limit _ _) none c.run_job.ensures.ran)
+    noted mine.task mine.limit _ _ c.run_job.result c.run_job.ensures.ran none
 
 pub returns-in-Do-clause-complete : goal.returns-in-Do-clause-complete
 returns-in-Do-clause-complete g c = λ job bytes asks loses no_read no_write within sound.
@@ -24,7 +24,7 @@ returns-in-Do-clause-complete g c = λ job bytes asks loses no_read no_write wit
     let mine : Job = c.in-Do.job in
     let asked : AsksFor words mine = subst (AskedBy words) c.in-Do.is c.read_words.ensures.asked in
     let same = same_job words job mine asks asked in
-    complete mine.task mine.limit _ _ c.run_job.result bytes c.run_job.ensures.ran loses
+    complete mine.task mine.limit _ _ c.run_job.result c.run_job.ensures.ran bytes loses
     (subst (λ (j : Job). length bytes ≤ limit_of j.task j.limit) same within)
     (subst (λ (j : Job). IsSoundInput j.task bytes) same sound)
     (λ e. no_read (c.run_job.ensures.read_cause e)) (λ e. no_write (c.run_job.ensures.write_cause e))
@@ -35,7 +35,7 @@ returns-in-Do-clause-goes_on g c = λ job bytes asks on loses no_read no_write w
     let mine : Job = c.in-Do.job in
     let asked : AsksFor words mine = subst (AskedBy words) c.in-Do.is c.read_words.ensures.asked in
     let same = same_job words job mine asks asked in
-    goes_on mine.task mine.limit _ _ c.run_job.result bytes c.run_job.ensures.ran
+    goes_on mine.task mine.limit _ _ c.run_job.result c.run_job.ensures.ran bytes
     (subst (λ (j : Job). GoesOn j.task) same on) loses (subst (λ (j : Job). length bytes ≤ j.limit) same within)
     (λ e. no_read (c.run_job.ensures.read_cause e)) (λ e. no_write (c.run_job.ensures.write_cause e))
 
@@ -60,4 +60,7 @@ returns-in-Do-clause-reads_back g c = λ job plan sync half script asks is loses
 
 pub returns-in-NoMemory-clause-ran : goal.returns-in-NoMemory-clause-ran
 returns-in-NoMemory-clause-ran g c = λ job asks.
-    done_unopened job.task job.limit (g.I.Source.left c.args.input.now) (g.O.Sink.held c.args.output.now) (g.N.Sink.held c.args.notes.now) _ (g.N.Sink.faults c.args.notes.now) _ c.note-in-NoMemory.ensures.noted
+    let left = g.I.Source.left c.args.input.now in
+    let held = g.O.Sink.held c.args.output.now in
+    let old : Streams = streams left held (g.N.Sink.held c.args.notes.now) (g.N.Sink.faults c.args.notes.now) in
+    done_unopened job.task job.limit old _ _ c.note-in-NoMemory.ensures.noted

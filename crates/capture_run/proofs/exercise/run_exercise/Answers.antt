@@ -3,44 +3,61 @@ use Rattle.trace_stream.specs.declared.limits.TheConstants.{GREATEST_CAPTURE}
 use Rattle.trace_stream.specs.declared.outcome.Outcome.TheVariants.{AtEnd, FaultFound, WriteFailed, OverLimit}
 use Rattle.capture_exercise.specs.Exerciser.{plan_of}
 use Rattle.capture_exercise.specs.Source.{left_of}
-use Rattle.capture_run.specs.Run.{Streams}
-use Rattle.capture_run.proofs.Exercised.{served_for, made_done, made_stopped, made_failed, never_over as made_within, same_notes, few_left}
+use Rattle.capture_run.specs.Run.{Streams, streams}
+use Rattle.capture_run.proofs.Exercised.{served_for, made_done, made_stopped, made_failed, same_notes, few_left}
+use Rattle.capture_run.proofs.Exercised.{never_over as made_within}
 use Rattle.capture_run.proofs.exercise.run_exercise.Goals as goal
 
 pub returns-in-WriteFailed-clause-made : goal.returns-in-WriteFailed-clause-made
 returns-in-WriteFailed-clause-made g c = λ left.
-    let old : Streams = record { left = left; held = g.O.Sink.held c.args.output.now; noted = g.N.Sink.held c.args.notes.now; note_faults = g.N.Sink.faults c.args.notes.now } in
-    let new : Streams = record { left = left; held = g.O.Sink.held c.serve-outcome.new.output; noted = g.N.Sink.held c.note.new.notes; note_faults = g.N.Sink.faults c.note.new.notes } in
-    let served = served_for WriteFailed (plan_of c.new-action.result) (left_of c.new-rest.result) c.args.items c.args.lose GREATEST_CAPTURE c.capture_len-capture.result c.exercise_plan.result
-    (g.O.Sink.held c.args.output.now) (g.O.Sink.held c.serve-outcome.new.output) _ c.serve-outcome.new.buffers.recent
-    c.new-action.ensures.plan c.capture_len-capture.ensures.len c.exercise_plan.ensures.value c.new-rest.ensures.left c.in-WriteFailed.ensures.served in
+    let before = c.args.notes.now in
+    let held = g.O.Sink.held c.args.output.now in
+    let now = g.O.Sink.held c.serve-outcome.new.output in
+    let old : Streams = streams left held (g.N.Sink.held before) (g.N.Sink.faults before) in
+    let new : Streams = streams left now (g.N.Sink.held c.note.new.notes) (g.N.Sink.faults c.note.new.notes) in
+    let served = served_for WriteFailed (plan_of c.new-action.result) (left_of c.new-rest.result) c.args.items c.args.lose
+    GREATEST_CAPTURE c.capture_len-capture.result c.exercise_plan.result held now _ c.serve-outcome.new.buffers.recent
+    c.new-action.ensures.plan c.capture_len-capture.ensures.len c.exercise_plan.ensures.value c.new-rest.ensures.left
+    c.in-WriteFailed.ensures.served in
     made_failed c.args.items c.args.lose GREATEST_CAPTURE left old new _ c.serve-outcome.new.buffers.recent served c.note.ensures.noted
 
 pub returns-in-AtEnd-clause-made : goal.returns-in-AtEnd-clause-made
 returns-in-AtEnd-clause-made g c = λ left.
-    let old : Streams = record { left = left; held = g.O.Sink.held c.args.output.now; noted = g.N.Sink.held c.args.notes.now; note_faults = g.N.Sink.faults c.args.notes.now } in
-    let new : Streams = record { left = left; held = g.O.Sink.held c.serve-outcome.new.output; noted = g.N.Sink.held c.args.notes.now; note_faults = g.N.Sink.faults c.args.notes.now } in
-    let served = served_for AtEnd (plan_of c.new-action.result) (left_of c.new-rest.result) c.args.items c.args.lose GREATEST_CAPTURE c.capture_len-capture.result c.exercise_plan.result
-    (g.O.Sink.held c.args.output.now) (g.O.Sink.held c.serve-outcome.new.output) _ c.serve-outcome.new.buffers.recent
-    c.new-action.ensures.plan c.capture_len-capture.ensures.len c.exercise_plan.ensures.value c.new-rest.ensures.left c.in-AtEnd.ensures.served in
+    let before = c.args.notes.now in
+    let held = g.O.Sink.held c.args.output.now in
+    let now = g.O.Sink.held c.serve-outcome.new.output in
+    let old : Streams = streams left held (g.N.Sink.held before) (g.N.Sink.faults before) in
+    let new : Streams = streams left now (g.N.Sink.held c.args.notes.now) (g.N.Sink.faults c.args.notes.now) in
+    let served = served_for AtEnd (plan_of c.new-action.result) (left_of c.new-rest.result) c.args.items c.args.lose
+    GREATEST_CAPTURE c.capture_len-capture.result c.exercise_plan.result held now _ c.serve-outcome.new.buffers.recent
+    c.new-action.ensures.plan c.capture_len-capture.ensures.len c.exercise_plan.ensures.value c.new-rest.ensures.left
+    c.in-AtEnd.ensures.served in
     made_done c.args.items c.args.lose GREATEST_CAPTURE left old new _ c.serve-outcome.new.buffers.recent served (same_notes _ _)
 
 pub returns-in-FaultFound-clause-made : goal.returns-in-FaultFound-clause-made
 returns-in-FaultFound-clause-made g c = λ left.
-    let old : Streams = record { left = left; held = g.O.Sink.held c.args.output.now; noted = g.N.Sink.held c.args.notes.now; note_faults = g.N.Sink.faults c.args.notes.now } in
-    let new : Streams = record { left = left; held = g.O.Sink.held c.serve-outcome.new.output; noted = g.N.Sink.held c.args.notes.now; note_faults = g.N.Sink.faults c.args.notes.now } in
-    let served = served_for FaultFound (plan_of c.new-action.result) (left_of c.new-rest.result) c.args.items c.args.lose GREATEST_CAPTURE c.capture_len-capture.result c.exercise_plan.result
-    (g.O.Sink.held c.args.output.now) (g.O.Sink.held c.serve-outcome.new.output) _ c.serve-outcome.new.buffers.recent
-    c.new-action.ensures.plan c.capture_len-capture.ensures.len c.exercise_plan.ensures.value c.new-rest.ensures.left c.in-FaultFound.ensures.served in
+    let before = c.args.notes.now in
+    let held = g.O.Sink.held c.args.output.now in
+    let now = g.O.Sink.held c.serve-outcome.new.output in
+    let old : Streams = streams left held (g.N.Sink.held before) (g.N.Sink.faults before) in
+    let new : Streams = streams left now (g.N.Sink.held c.args.notes.now) (g.N.Sink.faults c.args.notes.now) in
+    let served = served_for FaultFound (plan_of c.new-action.result) (left_of c.new-rest.result) c.args.items c.args.lose
+    GREATEST_CAPTURE c.capture_len-capture.result c.exercise_plan.result held now _ c.serve-outcome.new.buffers.recent
+    c.new-action.ensures.plan c.capture_len-capture.ensures.len c.exercise_plan.ensures.value c.new-rest.ensures.left
+    c.in-FaultFound.ensures.served in
     made_stopped c.args.items c.args.lose GREATEST_CAPTURE left old new _ c.serve-outcome.new.buffers.recent served (same_notes _ _)
 
 pub returns-in-OverLimit-clause-made : goal.returns-in-OverLimit-clause-made
 returns-in-OverLimit-clause-made g c = λ left.
-    let old : Streams = record { left = left; held = g.O.Sink.held c.args.output.now; noted = g.N.Sink.held c.args.notes.now; note_faults = g.N.Sink.faults c.args.notes.now } in
-    let new : Streams = record { left = left; held = g.O.Sink.held c.serve-outcome.new.output; noted = g.N.Sink.held c.args.notes.now; note_faults = g.N.Sink.faults c.args.notes.now } in
-    let served = served_for OverLimit (plan_of c.new-action.result) (left_of c.new-rest.result) c.args.items c.args.lose GREATEST_CAPTURE c.capture_len-capture.result c.exercise_plan.result
-    (g.O.Sink.held c.args.output.now) (g.O.Sink.held c.serve-outcome.new.output) _ c.serve-outcome.new.buffers.recent
-    c.new-action.ensures.plan c.capture_len-capture.ensures.len c.exercise_plan.ensures.value c.new-rest.ensures.left c.in-OverLimit.ensures.served in
+    let before = c.args.notes.now in
+    let held = g.O.Sink.held c.args.output.now in
+    let now = g.O.Sink.held c.serve-outcome.new.output in
+    let old : Streams = streams left held (g.N.Sink.held before) (g.N.Sink.faults before) in
+    let new : Streams = streams left now (g.N.Sink.held c.args.notes.now) (g.N.Sink.faults c.args.notes.now) in
+    let served = served_for OverLimit (plan_of c.new-action.result) (left_of c.new-rest.result) c.args.items c.args.lose
+    GREATEST_CAPTURE c.capture_len-capture.result c.exercise_plan.result held now _ c.serve-outcome.new.buffers.recent
+    c.new-action.ensures.plan c.capture_len-capture.ensures.len c.exercise_plan.ensures.value c.new-rest.ensures.left
+    c.in-OverLimit.ensures.served in
     absurd (made_within c.args.items c.args.lose GREATEST_CAPTURE left old new _ c.serve-outcome.new.buffers.recent served
     (few_left c.args.items c.args.lose c.capture_len-capture.result c.capture_len-capture.ensures.len c.capture_len-capture.ensures.few))
 

@@ -1,7 +1,7 @@
 use Rattle.std.proofs.Common.{sym, subst}
 use Rattle.capture_words.specs.declared.job.Task.TheVariants.{Check, Show}
 use Rattle.capture_run.specs.Actions.{HasDone}
-use Rattle.capture_run.specs.Run.{Streams}
+use Rattle.capture_run.specs.Run.{Streams, streams}
 use Rattle.capture_run.specs.declared.status.Status.{Status}
 use Rattle.capture_run.proofs.Running.{done_unopened, same_task}
 use Rattle.capture_run.proofs.jobs.run_job.Goals as goal
@@ -20,9 +20,8 @@ pub returns-in_default-clause-ran : goal.returns-in_default-clause-ran
 returns-in_default-clause-ran g c =
     let left = g.I.Source.left c.args.input.now in
     let held = g.O.Sink.held c.args.output.now in
-    let noted = g.N.Sink.held c.args.notes.now in
-    let faults = g.N.Sink.faults c.args.notes.now in
-    let old : Streams = record { left = left; held = held; noted = noted; note_faults = faults } in
-    let new : Streams = record { left = left; held = held; noted = g.N.Sink.held c.note_no_memory.new.notes; note_faults = g.N.Sink.faults c.note_no_memory.new.notes } in
-    subst (λ (s : Status). HasDone c.args.job.task c.args.job.limit old new s) (sym c.note_no_memory.ensures.status)
-    (done_unopened c.args.job.task c.args.job.limit left held noted new.noted faults new.note_faults c.note_no_memory.ensures.noted)
+    let old : Streams = streams left held (g.N.Sink.held c.args.notes.now) (g.N.Sink.faults c.args.notes.now) in
+    let new = c.note_no_memory.new.notes in
+    subst (HasDone c.args.job.task c.args.job.limit old _) (sym c.note_no_memory.ensures.status)
+    (done_unopened c.args.job.task c.args.job.limit old (g.N.Sink.held new) (g.N.Sink.faults new)
+    c.note_no_memory.ensures.noted)
