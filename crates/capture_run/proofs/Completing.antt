@@ -103,46 +103,46 @@ recovering (tasks.Unring size at full) on = absurd on
 recovering (tasks.Exercise items lose) on = absurd on
 
 module _ (task : Task) (limit : ℕ) (old new : Streams) (status : Status) (run : HasDone task limit old new status)
-    where
-  abbrev made : (e : (items lose : ℕ) × (task ≡ tasks.Exercise items lose)) →
-      HasMade (exercise_summary e.0 e.1) old new status
-  made e = subst (λ (t : Task). HasDone t limit old new status) e.2 run
+  where
+    abbrev made : (e : (items lose : ℕ) × (task ≡ tasks.Exercise items lose)) →
+        HasMade (exercise_summary e.0 e.1) old new status
+    made e = subst (λ (t : Task). HasDone t limit old new status) e.2 run
 
-  pub complete : (bytes : List ℕ) → Loses old.left new.left bytes → length bytes ≤ limit_of task limit →
-      IsSoundInput task bytes → (status ≡ ReadFault → ⊥) → (status ≡ WriteFault → ⊥) → IsDoneOrNoMemory status
-  complete bytes lost within is no_read no_write = by (kind_of task)
-    where
-      by : Kind task → IsDoneOrNoMemory status
-      by (inl reads) =
-          completes (meaning_of task) (limit_of task limit) old new bytes lost within is.sound is.not_late status
-          (reads.run limit old new status run) no_read no_write
-      by (inr e) = makes (exercise_summary e.0 e.1) old new status (made e) no_write
+    pub complete : (bytes : List ℕ) → Loses old.left new.left bytes → length bytes ≤ limit_of task limit →
+        IsSoundInput task bytes → (status ≡ ReadFault → ⊥) → (status ≡ WriteFault → ⊥) → IsDoneOrNoMemory status
+    complete bytes lost within is no_read no_write = by (kind_of task)
+      where
+        by : Kind task → IsDoneOrNoMemory status
+        by (inl reads) =
+            completes (meaning_of task) (limit_of task limit) old new bytes lost within is.sound is.not_late status
+            (reads.run limit old new status run) no_read no_write
+        by (inr e) = makes (exercise_summary e.0 e.1) old new status (made e) no_write
 
-  pub goes_on : (bytes : List ℕ) → GoesOn task → Loses old.left new.left bytes → length bytes ≤ limit →
-      (status ≡ ReadFault → ⊥) → (status ≡ WriteFault → ⊥) → IsRecovered status
-  goes_on bytes on lost within no_read no_write = by (kind_of task)
-    where
-      is : ((meaning_of task).fault_status ≡ Recovered) × ((meaning_of task).exact ≡ false)
-          × ((l : ℕ) → limit_of task l ≡ l)
-      is = recovering task on
+    pub goes_on : (bytes : List ℕ) → GoesOn task → Loses old.left new.left bytes → length bytes ≤ limit →
+        (status ≡ ReadFault → ⊥) → (status ≡ WriteFault → ⊥) → IsRecovered status
+    goes_on bytes on lost within no_read no_write = by (kind_of task)
+      where
+        is : ((meaning_of task).fault_status ≡ Recovered) × ((meaning_of task).exact ≡ false)
+            × ((l : ℕ) → limit_of task l ≡ l)
+        is = recovering task on
 
-      by : Kind task → IsRecovered status
-      by (inl reads) =
-          recovers (meaning_of task) (limit_of task limit) old new bytes lost
-          (subst (λ (l : ℕ). length bytes ≤ l) (sym (is.2 limit)) within) is.0 is.1 status
-          (reads.run limit old new status run) no_read no_write
-      by (inr e) = absurd (subst GoesOn e.2 on)
+        by : Kind task → IsRecovered status
+        by (inl reads) =
+            recovers (meaning_of task) (limit_of task limit) old new bytes lost
+            (subst (λ (l : ℕ). length bytes ≤ l) (sym (is.2 limit)) within) is.0 is.1 status
+            (reads.run limit old new status run) no_read no_write
+        by (inr e) = absurd (subst GoesOn e.2 on)
 
-  -- want of memory is noted
-  pub noted : status ≡ NoMemory →
-      Notes old.noted new.noted old.note_faults new.note_faults (codes "no memory\n")
-  noted none = by (kind_of task)
-    where
-      by : Kind task → Notes old.noted new.noted old.note_faults new.note_faults (codes "no memory\n")
-      by (inl reads) =
-          let r = subst (HasRun (meaning_of task) (limit_of task limit) old new) none
-          (reads.run limit old new status run) in
-          said old new r.note r.writes.2 r.noted
-      by (inr e) =
-          let r = subst (HasMade (exercise_summary e.0 e.1) old new) none (made e) in
-          said old new r.note r.makes.1 r.noted
+    -- want of memory is noted
+    pub noted : status ≡ NoMemory →
+        Notes old.noted new.noted old.note_faults new.note_faults (codes "no memory\n")
+    noted none = by (kind_of task)
+      where
+        by : Kind task → Notes old.noted new.noted old.note_faults new.note_faults (codes "no memory\n")
+        by (inl reads) =
+            let r = subst (HasRun (meaning_of task) (limit_of task limit) old new) none
+            (reads.run limit old new status run) in
+            said old new r.note r.writes.2 r.noted
+        by (inr e) =
+            let r = subst (HasMade (exercise_summary e.0 e.1) old new) none (made e) in
+            said old new r.note r.makes.1 r.noted
