@@ -1,6 +1,6 @@
 //! Frames that bytes come to straight.
 
-ghost use Rattle.std.specs.Prelude.{◌≡◌, ◌≤◌, ◌+◌, length, drop};
+ghost use Rattle.std.specs.Prelude.{◌≡◌, ◌≤◌, ◌+◌, ◌++◌, length, take, drop, min};
 ghost use Rattle.trace_stream.specs.Debt.{owing, Pours};
 
 use arrayvec::ArrayVec;
@@ -28,6 +28,18 @@ fn without_front<const N: usize>(bytes: &ArrayVec<u8, N>, count: usize) -> Array
     rest
 }
 
+/// Puts the first of these bytes, as many as a call may put, and answers how many.
+#[inline]
+fn put_front(bytes: &[u8], outlet: &mut Outlet) -> usize
+    requires room { length outlet.old + ACTION_ROOM ≤ OUTLET_ROOM }
+    ensures put { outlet.new ≡ outlet.old ++ take result bytes.now }
+    ensures count { result ≡ min (length bytes.now) ACTION_ROOM }
+{
+    let count = bytes.len().min(ACTION_ROOM);
+    outlet.append(&bytes[..count]);
+    count
+}
+
 /// Moves the first of these bytes to the outlet, as many as a call may put, and answers whether there were any.
 #[inline]
 pub(crate) fn give_front<const N: usize>(bytes: &mut ArrayVec<u8, N>, outlet: &mut Outlet) -> bool
@@ -39,12 +51,11 @@ pub(crate) fn give_front<const N: usize>(bytes: &mut ArrayVec<u8, N>, outlet: &m
     if bytes.is_empty() {
         return false;
     }
-    if bytes.len() <= ACTION_ROOM {
-        outlet.append(bytes.as_slice());
+    let count = put_front(bytes.as_slice(), outlet);
+    if count == bytes.len() {
         bytes.clear();
     } else {
-        outlet.append(&bytes.as_slice()[..ACTION_ROOM]);
-        *bytes = without_front(bytes, ACTION_ROOM);
+        *bytes = without_front(bytes, count);
     }
     true
 }
