@@ -4,4 +4,6 @@ mod Answering
 pub mod Chosen
 mod Lines
 mod Windows
+mod CommaLists
+mod Again
 pub mod IdLists

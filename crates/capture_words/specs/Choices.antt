@@ -33,10 +33,10 @@ window_text window = choice_text window.first ++ 44 ∷ choice_text window.last
 abbrev pub IsWindow : Bounds → Type 0
 IsWindow window = IsChoice window.first × IsChoice window.last
 
--- the text of IDs of mapped sources: their numbers with commas, 2C, between
+-- the text of IDs: their numbers with commas, 2C, between
 abbrev pub ids_text : List ℕ → Text
 ids_text ids = join_with_byte 44 (map decimal ids)
 
--- from one to eight, each from 1 to 111
-abbrev pub AreIds : List ℕ → Type 0
-AreIds ids = All (λ x. (1 ≤ x) × (x ≤ 111)) ids × (1 ≤ length ids) × (length ids ≤ 8)
+-- from one to so many, each from 1 to `greatest`
+abbrev pub AreIds : ℕ → ℕ → List ℕ → Type 0
+AreIds most greatest ids = All (λ x. (1 ≤ x) × (x ≤ greatest)) ids × (1 ≤ length ids) × (length ids ≤ most)

@@ -8,7 +8,8 @@ use Rattle.capture_words.specs.declared.option.TheConstants.{ALL_OPTIONS}
 use Rattle.capture_words.specs.declared.option.CommandOption.{CommandOption}
 use Rattle.capture_words.specs.declared.option.CommandOption.TheVariants.{Frames, Packets, Itm, Stp, StpOrder, Id}
 use Rattle.capture_words.specs.declared.option.CommandOption.TheVariants.{Only, Window, Sync, Half, Limit, Items}
-use Rattle.capture_words.specs.declared.option.CommandOption.TheVariants.{Lose, Recover, Size, Pointer, Full, Port}
+use Rattle.capture_words.specs.declared.option.CommandOption.TheVariants.{Lose, Recover, Size, Pointer, Full}
+use Rattle.capture_words.specs.declared.option.CommandOption.TheVariants.{Order, Hold, Depth, Port}
 
 -- the name of an option, after the two dashes
 abbrev pub option_name : CommandOption → Text
@@ -29,6 +30,9 @@ option_name Recover = codes "recover"
 option_name Size = codes "size"
 option_name Pointer = codes "pointer"
 option_name Full = codes "full"
+option_name Order = codes "order"
+option_name Hold = codes "hold"
+option_name Depth = codes "depth"
 option_name Port = codes "port"
 
 -- an option has one value, and is given once at most

@@ -6,23 +6,27 @@ use Rattle.clap.specs.Words.{Row}
 use Rattle.trace_values.specs.declared.reading_modes.FramesMode.{FramesMode}
 use Rattle.source_events.specs.Plan.{is_sound}
 use Rattle.source_events.specs.declared.plan.Plan.{Plan}
+use Rattle.trace_funnel.specs.SoundTurns.{IsSoundTurns}
+use Rattle.trace_funnel.specs.declared.turns.Turns.{Turns}
 use Rattle.capture_words.specs.Settings.{◌>>=◌, settings_in}
 use Rattle.capture_words.specs.Values.{action_in}
 use Rattle.capture_words.specs.declared.job.Task.{Task}
 use Rattle.capture_words.specs.declared.job.Task.TheVariants.{Show, Split, Check, Rebuild, Exercise}
-use Rattle.capture_words.specs.declared.job.Task.TheVariants.{Realign, Ring, Unring, Text}
+use Rattle.capture_words.specs.declared.job.Task.TheVariants.{Realign, Ring, Unring, Text, Funnel}
 use Rattle.capture_words.specs.declared.job.Job.{Job}
 use Rattle.capture_words.specs.declared.settings.Settings.{Settings}
+use Rattle.capture_words.specs.declared.settings.TurnSettings.{TurnSettings}
 use Rattle.capture_words.specs.declared.usage.UsageFault.{UsageFault}
 use Rattle.capture_words.specs.declared.usage.UsageFault.TheVariants.{SplitNeedsId, MappedTwice, RingNeedsSize}
 use Rattle.capture_words.specs.declared.usage.UsageFault.TheVariants.{UnringNeedsSize, PointerNotUnderSize}
 use Rattle.capture_words.specs.declared.usage.UsageFault.TheVariants.{TextNeedsItm, TextReadsOneSource}
+use Rattle.capture_words.specs.declared.usage.UsageFault.TheVariants.{FunnelNeedsOrder, OrderedTwice}
 use Rattle.capture_words.specs.declared.values.ActionName.{ActionName}
 use Rattle.capture_words.specs.declared.values.ActionName.TheVariants.{Show as ShowName, Split as SplitName}
 use Rattle.capture_words.specs.declared.values.ActionName.TheVariants.{Check as CheckName, Rebuild as RebuildName}
 use Rattle.capture_words.specs.declared.values.ActionName.TheVariants.{Exercise as ExerciseName, Realign as RealignName}
 use Rattle.capture_words.specs.declared.values.ActionName.TheVariants.{Ring as RingName, Unring as UnringName}
-use Rattle.capture_words.specs.declared.values.ActionName.TheVariants.{Text as TextName}
+use Rattle.capture_words.specs.declared.values.ActionName.TheVariants.{Text as TextName, Funnel as FunnelName}
 
 -- the first of these IDs that stands earlier already, among them or before them
 abbrev pub again_after : List ℕ → List ℕ → Option ℕ
@@ -62,6 +66,15 @@ text_with [] plan port = Err TextNeedsItm
 text_with (id ∷ []) plan port = Ok (Text (record plan { itm = id ∷ []; stp = [] }) port)
 text_with (id ∷ other ∷ ids) plan port = Err TextReadsOneSource
 
+-- `funnel` needs the order of its turns, in which no source stands twice
+abbrev pub order_with : Option (List ℕ) → Result (List ℕ) UsageFault
+order_with None = Err FunnelNeedsOrder
+order_with (Some order) = fault_or (option_map OrderedTwice (again_after [] order)) order
+
+abbrev pub turns_with : TurnSettings → Result Turns UsageFault
+turns_with settings = order_with settings.order >>= (λ order.
+    Ok (record { order = order; hold = settings.hold; depth = settings.depth }))
+
 -- the task of an action with what it needs of the options
 abbrev pub task_with : ActionName → Settings → Result Task UsageFault
 task_with ShowName s = plan_with s.plan >>= (λ plan. Ok (Show plan s.only s.window s.recover))
@@ -73,6 +86,8 @@ task_with RealignName s = Ok Realign
 task_with RingName s = ring_with s.buffer.size
 task_with UnringName s = unring_with s.buffer.size s.buffer.pointer s.buffer.full
 task_with TextName s = text_with s.plan.itm s.plan s.port
+task_with FunnelName s =
+    plan_with s.plan >>= (λ plan. turns_with s.turns >>= (λ turns. Ok (Funnel plan s.sync s.half turns)))
 
 -- The first fault of the action's name, of the options' values in the order of the command, and of what the
 -- action needs; and where there is none, the job. An option that the action doesn't use has no effect.
@@ -85,8 +100,8 @@ job_of rows = do
 
 -- What is sure of a task: its plan is sound, and for a script there are at most eight half synchronisations in a gap.
 -- From 1 to 1,000,000 items are made, of which at most 1,000,000 bytes are lost. A trace buffer has from 16 to 2^24
--- bytes, and its write pointer is one of them. The text of
--- a stimulus port, 0 to 31, is that of one ITM source.
+-- bytes, and its write pointer is one of them. The text of a stimulus port, 0 to 31, is that of one ITM source. The
+-- turns of a funnel are sound.
 abbrev pub IsSoundTask : Task → Type 0
 IsSoundTask (Show plan only window recover) = is_sound plan ≡ true
 IsSoundTask (Split frames id) = Unit {0}
@@ -97,3 +112,4 @@ IsSoundTask Realign = Unit {0}
 IsSoundTask (Ring size) = (16 ≤ size) × (size ≤ 2 ^ 24)
 IsSoundTask (Unring size pointer full) = (16 ≤ size) × (size ≤ 2 ^ 24) × (pointer < size)
 IsSoundTask (Text plan port) = (is_sound plan ≡ true) × (length plan.itm ≡ 1) × (plan.stp ≡ []) × (port ≤ 31)
+IsSoundTask (Funnel plan sync half turns) = (is_sound plan ≡ true) × (half ≤ 8) × IsSoundTurns turns

@@ -10,6 +10,7 @@ use Rattle.stp_grammar.specs.declared.packet.Order.{Order}
 use Rattle.stp_grammar.specs.declared.packet.Order.TheVariants.{Msn}
 use Rattle.item_tap.specs.declared.choice.Choice.{Choice}
 use Rattle.source_events.specs.declared.plan.Plan.{Plan}
+use Rattle.trace_funnel.specs.declared.turns.Turns.{Turns}
 use Rattle.capture_words.specs.Calls.{AsksFor, Misuses}
 use Rattle.capture_words.specs.Command.{refusals}
 use Rattle.capture_words.specs.declared.job.Job.{Job}
@@ -32,6 +33,10 @@ words_of (c ∷ text) = if nat_eq c 32 then [] ∷ words_of text else in_front c
 abbrev pub planned : FramesMode → PacketsMode → List ℕ → List ℕ → Order → Plan
 planned frames packets itm stp order =
     record { frames = frames; packets = packets; itm = itm; stp = stp; order = order }
+
+-- the turns of a funnel: the order of its sources, and how many bytes a turn gives and a queue has at most
+abbrev pub turning : List ℕ → ℕ → ℕ → Turns
+turning order hold depth = record { order = order; hold = hold; depth = depth }
 
 -- a text whose words ask for this task, and this limit
 abbrev pub does : Text → Task → ℕ → Text × Result Job UsageFault

@@ -4,8 +4,9 @@ use Rattle.clap.specs.Words.{Row}
 use Rattle.source_events.specs.declared.plan.Plan.{Plan}
 use Rattle.capture_words.specs.Values.{frames_in, packets_in, itm_in, stp_in, order_in, id_in, only_in, window_in}
 use Rattle.capture_words.specs.Values.{sync_in, half_in, limit_in, items_in, lose_in, size_in, pointer_in, full_in}
-use Rattle.capture_words.specs.Values.{recover_in, port_in}
+use Rattle.capture_words.specs.Values.{recover_in, turn_order_in, hold_in, depth_in, port_in}
 use Rattle.capture_words.specs.declared.settings.BufferSettings.{BufferSettings}
+use Rattle.capture_words.specs.declared.settings.TurnSettings.{TurnSettings}
 use Rattle.capture_words.specs.declared.settings.Settings.{Settings}
 use Rattle.capture_words.specs.declared.usage.UsageFault.{UsageFault}
 
@@ -32,6 +33,13 @@ buffer_in rows = do
   full ← full_in rows
   Ok (record { size = size; pointer = pointer; full = full })
 
+abbrev pub turns_in : List Row → Result TurnSettings UsageFault
+turns_in rows = do
+  order ← turn_order_in rows
+  hold ← hold_in rows
+  depth ← depth_in rows
+  Ok (record { order = order; hold = hold; depth = depth })
+
 -- what all options say, or the first fault in the order of the command
 abbrev pub settings_in : List Row → Result Settings UsageFault
 settings_in rows = do
@@ -46,6 +54,7 @@ settings_in rows = do
   lose ← lose_in rows
   recover ← recover_in rows
   buffer ← buffer_in rows
+  turns ← turns_in rows
   port ← port_in rows
   Ok (record {
     plan = plan;
@@ -59,5 +68,6 @@ settings_in rows = do
     lose = lose;
     recover = recover;
     buffer = buffer;
+    turns = turns;
     port = port;
   })

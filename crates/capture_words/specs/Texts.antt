@@ -6,6 +6,7 @@ use Rattle.capture_words.specs.declared.usage.UsageFault.TheVariants.{UnknownAct
 use Rattle.capture_words.specs.declared.usage.UsageFault.TheVariants.{MappedTwice, RingNeedsSize, UnringNeedsSize}
 use Rattle.capture_words.specs.declared.usage.UsageFault.TheVariants.{PointerNotUnderSize}
 use Rattle.capture_words.specs.declared.usage.UsageFault.TheVariants.{TextNeedsItm, TextReadsOneSource}
+use Rattle.capture_words.specs.declared.usage.UsageFault.TheVariants.{FunnelNeedsOrder, OrderedTwice}
 
 abbrev pub usage_line : UsageFault → List ℕ
 usage_line UnknownAction = codes "usage: unknown action\n"
@@ -17,8 +18,11 @@ usage_line UnringNeedsSize = codes "usage: unring needs --size\n"
 usage_line PointerNotUnderSize = codes "usage: pointer isn't under size\n"
 usage_line TextNeedsItm = codes "usage: text needs --itm\n"
 usage_line TextReadsOneSource = codes "usage: text reads one source\n"
+usage_line FunnelNeedsOrder = codes "usage: funnel needs --order\n"
+usage_line (OrderedTwice id) = codes "usage: " ++ decimal id ++ codes " is ordered twice\n"
 
--- An ID that is mapped twice is one that can be mapped.
+-- An ID that is mapped twice is one that can be mapped, and one that is ordered twice is of a source.
 abbrev pub IsFault : UsageFault → Type 0
 IsFault (MappedTwice id) = id ≤ 111
+IsFault (OrderedTwice id) = id ≤ 126
 IsFault fault = Unit {0}

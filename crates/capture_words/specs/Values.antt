@@ -26,13 +26,14 @@ use Rattle.capture_words.specs.declared.option.CommandOption.TheVariants.{Frames
 use Rattle.capture_words.specs.declared.option.CommandOption.TheVariants.{Only, Window, Sync, Half, Limit, Items}
 use Rattle.capture_words.specs.declared.option.CommandOption.TheVariants.{Lose, Size, Pointer, Full, Port as PortOption}
 use Rattle.capture_words.specs.declared.option.CommandOption.TheVariants.{Recover as RecoverOption}
+use Rattle.capture_words.specs.declared.option.CommandOption.TheVariants.{Order as OrderOption, Hold, Depth}
 use Rattle.capture_words.specs.declared.recover.Recover.{Recover}
 use Rattle.capture_words.specs.declared.recover.Recover.TheVariants.{Off, On}
 use Rattle.capture_words.specs.declared.usage.UsageFault.{UsageFault}
 use Rattle.capture_words.specs.declared.usage.UsageFault.TheVariants.{UnknownAction, BadValue}
 use Rattle.capture_words.specs.declared.values.ActionName.{ActionName}
 use Rattle.capture_words.specs.declared.values.ActionName.TheVariants.{Show, Split, Check, Rebuild, Exercise}
-use Rattle.capture_words.specs.declared.values.ActionName.TheVariants.{Realign, Ring, Unring, Text as TextName}
+use Rattle.capture_words.specs.declared.values.ActionName.TheVariants.{Realign, Ring, Unring, Text as TextName, Funnel}
 
 -- the action that a text names
 abbrev pub action_named : Text → Option ActionName
@@ -46,6 +47,7 @@ action_named text =
     else if bytes_eq text (codes "ring") then Some Ring
     else if bytes_eq text (codes "unring") then Some Unring
     else if bytes_eq text (codes "text") then Some TextName
+    else if bytes_eq text (codes "funnel") then Some Funnel
     else None
 
 -- the order of nibbles that a text names
@@ -114,25 +116,28 @@ abbrev pub each : {T : Type 0} → List (Option T) → Option (List T)
 each [] = Some []
 each (x ∷ xs) = option_and_then (λ value. option_map (λ values. value ∷ values) (each xs)) x
 
-abbrev pub at_most_eight : {T : Type 0} → List T → Option (List T)
-at_most_eight xs = if nat_le (length xs) 8 then Some xs else None
+abbrev pub at_most : {T : Type 0} → ℕ → List T → Option (List T)
+at_most most xs = if nat_le (length xs) most then Some xs else None
 
--- the IDs of mapped sources that a text names: numbers from 1 to 111 with commas, 2C, between, at most eight
-abbrev pub ids_named : Text → Option (List ℕ)
-ids_named text =
-    option_and_then at_most_eight (each (map (number_named 1 111) (slice_split (λ c. c == 44) text)))
+-- what the parts of a text name that have commas, 2C, between, at most so many
+abbrev pub parts_named : {T : Type 0} → (Text → Option T) → ℕ → Text → Option (List T)
+parts_named named most text = option_and_then (at_most most) (each (map named (slice_split (λ c. c == 44) text)))
+
+-- the IDs that a text names: numbers from 1 to `greatest`
+abbrev pub ids_named : ℕ → ℕ → Text → Option (List ℕ)
+ids_named most greatest = parts_named (number_named 1 greatest) most
 
 -- an option whose value is a number within these bounds, and none by default
 abbrev pub number_if_given : CommandOption → ℕ → ℕ → List Row → Result (Option ℕ) UsageFault
 number_if_given option least greatest =
     option_in option None (λ text. option_map Some (number_named least greatest text))
 
--- the IDs of the ITM sources and those of the STP sources, none by default
+-- the IDs of the ITM sources and those of the STP sources, up to eight that can be mapped, none by default
 abbrev pub itm_in : List Row → Result (List ℕ) UsageFault
-itm_in = option_in Itm [] ids_named
+itm_in = option_in Itm [] (ids_named 8 111)
 
 abbrev pub stp_in : List Row → Result (List ℕ) UsageFault
-stp_in = option_in Stp [] ids_named
+stp_in = option_in Stp [] (ids_named 8 111)
 
 abbrev pub order_in : List Row → Result Order UsageFault
 order_in = option_in StpOrder Msn order_named
@@ -184,6 +189,16 @@ pointer_in = number_given Pointer 0 0 GREATEST_POINTER
 
 abbrev pub full_in : List Row → Result Bool UsageFault
 full_in = option_in Full false bit_named
+
+-- the order of the turns of a funnel's sources, up to sixteen; how many bytes a turn gives and a queue has at most
+abbrev pub turn_order_in : List Row → Result (Option (List ℕ)) UsageFault
+turn_order_in = option_in OrderOption None (λ text. option_map Some (ids_named 16 126 text))
+
+abbrev pub hold_in : List Row → Result ℕ UsageFault
+hold_in = number_given Hold 4 1 15
+
+abbrev pub depth_in : List Row → Result ℕ UsageFault
+depth_in = number_given Depth 256 1 4096
 
 -- the stimulus port whose bytes are written, 0 by default
 abbrev pub port_in : List Row → Result ℕ UsageFault

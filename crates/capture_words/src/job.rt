@@ -8,16 +8,19 @@ ghost use Rattle.capture_words.specs.declared.values.TheConstants.{GREATEST_PORT
 ghost use Rattle.clap.specs.Words.{rows_of, found_of};
 ghost use Rattle.source_events.specs.Plan.{is_sound};
 ghost use Rattle.capture_words.specs.Jobs.{plan_with, split_with, ring_with, unring_with, text_with};
-ghost use Rattle.capture_words.specs.Jobs.{task_with, job_of, IsSoundTask};
+ghost use Rattle.capture_words.specs.Jobs.{turns_with, task_with, job_of, IsSoundTask};
+ghost use Rattle.capture_words.specs.Choices.{AreIds};
+ghost use Rattle.trace_funnel.specs.SoundTurns.{IsSoundTurns};
 
-use crate::ids::mapped_twice;
+use crate::ids::{first_again, mapped_twice};
 use crate::recover::Recover;
-use crate::settings::{BufferSettings, Settings, settings_in};
+use crate::settings::{BufferSettings, Settings, TurnSettings, settings_in};
 use crate::usage::UsageFault;
 use crate::values::{ActionName, action_in};
 use clap::ArgMatches;
 use item_tap::{Bounds, Choice};
 use source_events::{Plan, SourceIds};
+use trace_funnel::Turns;
 use trace_values::{FramesMode, SourceId};
 
 /// What is done with a capture.
@@ -86,6 +89,17 @@ pub enum Task {
         plan: Plan,
         /// The port, 0 to 31.
         port: u8,
+    },
+    /// The capture of a script whose bytes pass through a funnel.
+    Funnel {
+        /// What the script's sources send. Its modes make no difference.
+        plan: Plan,
+        /// How many frames are written for each full synchronisation, or 0 for none.
+        sync: u32,
+        /// How many half synchronisations are written in each gap of a frame, at most 8.
+        half: u8,
+        /// How the funnel takes turns.
+        turns: Turns,
     },
 }
 
@@ -178,6 +192,24 @@ fn text_with(plan: Plan, port: u8) -> Result<Task, UsageFault>
     }
 }
 
+/// The turns of a funnel, whose order is needed, and in which no source stands twice.
+fn turns_with(settings: TurnSettings) -> Result<Turns, UsageFault>
+    requires order { IfSome settings.order (AreIds 16 126) }
+    requires hold { (1 ≤ settings.hold) × (settings.hold ≤ 15) }
+    requires depth { (1 ≤ settings.depth) × (settings.depth ≤ 4096) }
+    ensures turns { result ≡ turns_with settings }
+    ensures sound { IfOk result (λ turns. IsSoundTurns turns) }
+{
+    let TurnSettings { order, hold, depth } = settings;
+    let Some(order) = order else {
+        return Err(UsageFault::FunnelNeedsOrder);
+    };
+    match first_again(order.as_slice()) {
+        Some(id) => Err(UsageFault::OrderedTwice(id)),
+        None => Ok(Turns { order, hold, depth }),
+    }
+}
+
 /// The task of an action, with what it needs of the options.
 fn task_with(name: ActionName, settings: Settings) -> Result<Task, UsageFault>
     requires itm { All (λ n. (1 ≤ n) × (n ≤ 111)) settings.plan.itm }
@@ -187,6 +219,9 @@ fn task_with(name: ActionName, settings: Settings) -> Result<Task, UsageFault>
     requires lose { settings.lose ≤ GREATEST_LOSS }
     requires port { settings.port ≤ GREATEST_PORT }
     requires size { IfSome settings.buffer.size (λ n. (LEAST_SIZE ≤ n) × (n ≤ GREATEST_SIZE)) }
+    requires order { IfSome settings.turns.order (AreIds 16 126) }
+    requires hold { (1 ≤ settings.turns.hold) × (settings.turns.hold ≤ 15) }
+    requires depth { (1 ≤ settings.turns.depth) × (settings.turns.depth ≤ 4096) }
     ensures task { result ≡ task_with name settings }
     ensures sound { IfOk result IsSoundTask }
 {
@@ -215,6 +250,12 @@ fn task_with(name: ActionName, settings: Settings) -> Result<Task, UsageFault>
         ActionName::Ring => ring_with(settings.buffer.size),
         ActionName::Unring => unring_with(settings.buffer),
         ActionName::Text => text_with(settings.plan, settings.port),
+        ActionName::Funnel => Ok(Task::Funnel {
+            plan: plan_with(settings.plan)?,
+            sync: settings.sync,
+            half: settings.half,
+            turns: turns_with(settings.turns)?,
+        }),
     }
 }
 

@@ -38,7 +38,9 @@ pub fn window_law()
         (window_named text ≡ Some window) ↔ (IsWindow window × (text ≡ window_text window)) }
 {}
 
-/// The same of lists of IDs: a text names exactly those whose text it is, one to eight from 1 to 111 with commas between.
+/// The same of lists of IDs: a text names exactly those whose text it is, one to so many with commas between. Those of
+/// mapped sources are up to eight from 1 to 111, and those of a funnel's order up to sixteen from 1 to 126.
 pub fn ids_law()
-    ensures { (ids : List ℕ) (text : Text) → (ids_named text ≡ Some ids) ↔ (AreIds ids × (text ≡ ids_text ids)) }
+    ensures { (most greatest : ℕ) (ids : List ℕ) (text : Text) → greatest ≤ 126 →
+        (ids_named most greatest text ≡ Some ids) ↔ (AreIds most greatest ids × (text ≡ ids_text ids)) }
 {}

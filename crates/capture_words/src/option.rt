@@ -40,12 +40,18 @@ pub enum CommandOption {
     Pointer,
     /// `--full`: whether a trace buffer has taken as many bytes as it has, or more.
     Full,
+    /// `--order`: the sources of a funnel in the order of their turns.
+    Order,
+    /// `--hold`: how many bytes a source of a funnel gives in its turn at most.
+    Hold,
+    /// `--depth`: how many bytes each queue of a funnel has at most.
+    Depth,
     /// `--port`: the stimulus port whose text is written.
     Port,
 }
 
 /// The options, in that order.
-pub(crate) const ALL_OPTIONS: [CommandOption; 18] = [
+pub(crate) const ALL_OPTIONS: [CommandOption; 21] = [
     CommandOption::Frames,
     CommandOption::Packets,
     CommandOption::Itm,
@@ -63,6 +69,9 @@ pub(crate) const ALL_OPTIONS: [CommandOption; 18] = [
     CommandOption::Size,
     CommandOption::Pointer,
     CommandOption::Full,
+    CommandOption::Order,
+    CommandOption::Hold,
+    CommandOption::Depth,
     CommandOption::Port,
 ];
 
@@ -90,6 +99,9 @@ impl CommandOption {
             CommandOption::Size => "size",
             CommandOption::Pointer => "pointer",
             CommandOption::Full => "full",
+            CommandOption::Order => "order",
+            CommandOption::Hold => "hold",
+            CommandOption::Depth => "depth",
             CommandOption::Port => "port",
         }
     }
@@ -152,6 +164,15 @@ impl CommandOption {
             CommandOption::Full => {
                 "Whether the trace buffer of unring took as many bytes as it has, or more: 0 (no, the default) or \
                 1 (yes)"
+            }
+            CommandOption::Order => {
+                "The sources of a funnel in the order of their turns: 1 to 16 IDs from 1 to 126, with commas between"
+            }
+            CommandOption::Hold => {
+                "How many bytes a source of a funnel gives in its turn at most: 1 to 15, 4 where it is not given"
+            }
+            CommandOption::Depth => {
+                "How many bytes each queue of a funnel has at most: 1 to 4096, 256 where it is not given"
             }
             CommandOption::Port =>
                 "The stimulus port whose bytes text writes: 0 (the default) to 31",

@@ -11,13 +11,13 @@ ghost use Rattle.stp_grammar.specs.declared.packet.Order.TheVariants.{Msn, Lsn};
 ghost use Rattle.item_tap.specs.declared.choice.Choice.TheVariants.{OfKind, Source, Port};
 ghost use Rattle.item_tap.specs.declared.choice.Kind.TheVariants.{Itm as ItmKind, Dwt as DwtKind, Stp as StpKind};
 ghost use Rattle.item_tap.specs.declared.choice.Kind.TheVariants.{Raw as RawKind, Trigger as TriggerKind};
-ghost use Rattle.capture_words.specs.Rows.{does, lists, faults, AllAnswered, Refuses, planned};
+ghost use Rattle.capture_words.specs.Rows.{does, lists, faults, AllAnswered, Refuses, planned, turning};
 ghost use Rattle.capture_words.specs.declared.job.Task.TheVariants.{Show, Split, Check, Rebuild, Exercise};
-ghost use Rattle.capture_words.specs.declared.job.Task.TheVariants.{Realign, Ring, Unring, Text};
+ghost use Rattle.capture_words.specs.declared.job.Task.TheVariants.{Realign, Ring, Unring, Text, Funnel};
 ghost use Rattle.capture_words.specs.declared.option.CommandOption.TheVariants.{Frames, Packets, Itm, Stp, StpOrder};
 ghost use Rattle.capture_words.specs.declared.option.CommandOption.TheVariants.{Id, Only, Window, Sync};
 ghost use Rattle.capture_words.specs.declared.option.CommandOption.TheVariants.{Half, Limit, Items, Lose};
-ghost use Rattle.capture_words.specs.declared.option.CommandOption.TheVariants.{Size, Pointer, Full};
+ghost use Rattle.capture_words.specs.declared.option.CommandOption.TheVariants.{Size, Pointer, Full, Order, Hold, Depth};
 ghost use Rattle.capture_words.specs.declared.option.CommandOption.TheVariants.{Port as PortOption};
 ghost use Rattle.capture_words.specs.declared.option.CommandOption.TheVariants.{Recover as RecoverOption};
 ghost use Rattle.capture_words.specs.declared.recover.Recover.TheVariants.{Off, On};
@@ -25,6 +25,7 @@ ghost use Rattle.capture_words.specs.declared.usage.UsageFault.TheVariants.{Unkn
 ghost use Rattle.capture_words.specs.declared.usage.UsageFault.TheVariants.{MappedTwice, RingNeedsSize};
 ghost use Rattle.capture_words.specs.declared.usage.UsageFault.TheVariants.{UnringNeedsSize, PointerNotUnderSize};
 ghost use Rattle.capture_words.specs.declared.usage.UsageFault.TheVariants.{TextNeedsItm, TextReadsOneSource};
+ghost use Rattle.capture_words.specs.declared.usage.UsageFault.TheVariants.{FunnelNeedsOrder, OrderedTwice};
 
 /// Words that ask for a job, in several orders and spellings.
 pub fn asks()
@@ -101,6 +102,16 @@ pub fn asks()
         does (codes "text --itm 111 --port 31 --frames bare --packets aligned --limit 5 --stp 2,2,111")
         (Text (planned Bare PacketsAligned (111 ∷ []) [] Msn) 31) 5 ∷
         does (codes "show --port 5") (Show (planned FramesHunt PacketsHunt [] [] Msn) None None Off) 68719476736 ∷ []) }
+    ensures funnel { AllAnswered (
+        does (codes "funnel --order 126")
+        (Funnel (planned FramesHunt PacketsHunt [] [] Msn) 64 0 (turning (126 ∷ []) 4 256)) 68719476736 ∷
+        does (codes "funnel --order 2,1 --itm 1 --stp 2 --stp-order lsn --sync 0 --half 8 --hold 15 --depth 4096 --limit 5")
+        (Funnel (planned FramesHunt PacketsHunt (1 ∷ []) (2 ∷ []) Lsn) 0 8 (turning (2 ∷ 1 ∷ []) 15 4096)) 5 ∷
+        does (codes "--depth=1 --hold=1 --order=16,15,14,13,12,11,10,9,8,7,6,5,4,3,2,1 funnel --port 5")
+        (Funnel (planned FramesHunt PacketsHunt [] [] Msn) 64 0
+        (turning (16 ∷ 15 ∷ 14 ∷ 13 ∷ 12 ∷ 11 ∷ 10 ∷ 9 ∷ 8 ∷ 7 ∷ 6 ∷ 5 ∷ 4 ∷ 3 ∷ 2 ∷ 1 ∷ []) 1 1)) 68719476736 ∷
+        does (codes "rebuild --order 1,1 --hold 2 --depth 3")
+        (Rebuild (planned FramesHunt PacketsHunt [] [] Msn) 64 0) 68719476736 ∷ []) }
     ensures split { AllAnswered (
         does (codes "split --id 5") (Split FramesHunt 5) 68719476736 ∷
         does (codes "split --frames aligned --id 0") (Split FramesAligned 0) 68719476736 ∷
@@ -156,6 +167,12 @@ pub fn misuses()
         faults (codes "unring --size 16 --full 2") (BadValue Full) ∷
         faults (codes "ring --size 16 --full 01") (BadValue Full) ∷
         faults (codes "realign --full yes") (BadValue Full) ∷
+        faults (codes "funnel --order 0") (BadValue Order) ∷
+        faults (codes "show --order 127") (BadValue Order) ∷
+        faults (codes "funnel --order 1 --hold 0") (BadValue Hold) ∷
+        faults (codes "rebuild --hold 16") (BadValue Hold) ∷
+        faults (codes "funnel --order 1 --depth 0") (BadValue Depth) ∷
+        faults (codes "check --depth 4097") (BadValue Depth) ∷
         faults (codes "text --itm 1 --port 32") (BadValue PortOption) ∷
         faults (codes "show --port 01") (BadValue PortOption) ∷
         faults (codes "unring --size 16 --limit 0") (BadValue Limit) ∷
@@ -189,12 +206,21 @@ pub fn misuses()
         faults (codes "show --itm ,") (BadValue Itm) ∷
         faults (codes "show --itm=") (BadValue Itm) ∷
         faults (codes "show --itm 1,02") (BadValue Itm) ∷
-        faults (codes "show --itm 1,112") (BadValue Itm) ∷ []) }
+        faults (codes "show --itm 1,112") (BadValue Itm) ∷
+        faults (codes "funnel --order=") (BadValue Order) ∷
+        faults (codes "funnel --order 1,,2") (BadValue Order) ∷
+        faults (codes "funnel --order 1,+2") (BadValue Order) ∷
+        faults (codes "funnel --order 126,127") (BadValue Order) ∷
+        faults (codes "funnel --order 1,2,3,4,5,6,7,8,9,10,11,12,13,14,15,16,17") (BadValue Order) ∷ []) }
     ensures mapped_twice { AllAnswered (
         faults (codes "rebuild --itm 1,1") (MappedTwice 1) ∷
         faults (codes "show --itm 4,2,5,2,4") (MappedTwice 2) ∷
         faults (codes "check --stp 3,2,3 --itm 1,2") (MappedTwice 2) ∷
-        faults (codes "show --stp 3,3 --itm 1") (MappedTwice 3) ∷ []) }
+        faults (codes "show --stp 3,3 --itm 1") (MappedTwice 3) ∷
+        faults (codes "funnel --stp 3,3") (MappedTwice 3) ∷ []) }
+    ensures ordered_twice { AllAnswered (
+        faults (codes "funnel --order 126,126") (OrderedTwice 126) ∷
+        faults (codes "funnel --order 1,2,3,2,1 --itm 1") (OrderedTwice 2) ∷ []) }
     ensures order { AllAnswered (
         faults (codes "play --frames x") UnknownAction ∷
         faults (codes "split --packets x --frames x") (BadValue Frames) ∷
@@ -213,7 +239,10 @@ pub fn misuses()
         faults (codes "check --pointer x --size x") (BadValue Size) ∷
         faults (codes "check --full x --pointer x") (BadValue Pointer) ∷
         faults (codes "ring --full x") (BadValue Full) ∷
-        faults (codes "ring --port x --full x") (BadValue Full) ∷
+        faults (codes "funnel --order x --full x") (BadValue Full) ∷
+        faults (codes "funnel --hold x --order x") (BadValue Order) ∷
+        faults (codes "funnel --depth x --hold x") (BadValue Hold) ∷
+        faults (codes "ring --port x --depth x") (BadValue Depth) ∷
         faults (codes "split") SplitNeedsId ∷
         faults (codes "split --limit x") (BadValue Limit) ∷
         faults (codes "show --itm 5 --stp 5") (MappedTwice 5) ∷
@@ -226,7 +255,11 @@ pub fn misuses()
         faults (codes "unring --pointer 99 --size 98 --full 1") PointerNotUnderSize ∷
         faults (codes "text --stp 2") TextNeedsItm ∷
         faults (codes "text --itm 1,2") TextReadsOneSource ∷
-        faults (codes "text --itm 1,1 --port 3") TextReadsOneSource ∷ []) }
+        faults (codes "text --itm 1,1 --port 3") TextReadsOneSource ∷
+        faults (codes "funnel --itm 1 --stp 2") FunnelNeedsOrder ∷
+        faults (codes "funnel --itm 5 --stp 5") (MappedTwice 5) ∷
+        faults (codes "funnel --order 1,1 --itm 5 --stp 5") (MappedTwice 5) ∷
+        faults (codes "funnel --order 1,1 --port x") (BadValue PortOption) ∷ []) }
 {}
 
 /// Words that `clap` refuses, and what for.

@@ -6,17 +6,20 @@ ghost use Rattle.capture_words.specs.declared.values.TheConstants.{GREATEST_LIMI
 ghost use Rattle.capture_words.specs.declared.values.TheConstants.{GREATEST_ITEMS, GREATEST_LOSS};
 ghost use Rattle.capture_words.specs.declared.values.TheConstants.{LEAST_SIZE, GREATEST_SIZE, GREATEST_PORT};
 ghost use Rattle.clap.specs.Words.{rows_of, found_of};
-ghost use Rattle.capture_words.specs.Settings.{plan_in, buffer_in, settings_in};
+ghost use Rattle.capture_words.specs.Settings.{plan_in, buffer_in, turns_in, settings_in};
+ghost use Rattle.capture_words.specs.Choices.{AreIds};
 
 use crate::recover::Recover;
 use crate::usage::UsageFault;
 use crate::values::{
-    frames_in, full_in, half_in, id_in, items_in, itm_in, limit_in, lose_in, only_in, order_in,
-    packets_in, pointer_in, port_in, recover_in, size_in, stp_in, sync_in, window_in,
+    depth_in, frames_in, full_in, half_in, hold_in, id_in, items_in, itm_in, limit_in, lose_in,
+    only_in, order_in, packets_in, pointer_in, port_in, recover_in, size_in, stp_in, sync_in,
+    turn_order_in, window_in,
 };
 use clap::ArgMatches;
 use item_tap::{Bounds, Choice};
 use source_events::Plan;
+use trace_funnel::TurnOrder;
 use trace_values::SourceId;
 
 /// What the options say of a trace buffer.
@@ -28,6 +31,17 @@ pub struct BufferSettings {
     pub pointer: usize,
     /// Whether it has taken as many bytes as it has, or more.
     pub full: bool,
+}
+
+/// What the options say of a funnel.
+#[derive(Drop)]
+pub struct TurnSettings {
+    /// Its sources in the order of their turns; an ID may stand twice.
+    pub order: Option<TurnOrder>,
+    /// How many bytes a source gives in its turn at most.
+    pub hold: u8,
+    /// How many bytes each queue has at most.
+    pub depth: usize,
 }
 
 /// What the options say, each with its default where it is absent.
@@ -55,6 +69,8 @@ pub struct Settings {
     pub recover: Recover,
     /// A trace buffer.
     pub buffer: BufferSettings,
+    /// The turns of a funnel.
+    pub turns: TurnSettings,
     /// The stimulus port whose bytes are written.
     pub port: u8,
 }
@@ -86,6 +102,20 @@ fn buffer_in(matches: &ArgMatches<'_>) -> Result<BufferSettings, UsageFault>
     })
 }
 
+/// What the options say of a funnel.
+fn turns_in(matches: &ArgMatches<'_>) -> Result<TurnSettings, UsageFault>
+    ensures turns { result ≡ turns_in (rows_of (found_of matches.now)) }
+    ensures order { IfOk result (λ t. IfSome t.order (AreIds 16 126)) }
+    ensures hold { IfOk result (λ t. (1 ≤ t.hold) × (t.hold ≤ 15)) }
+    ensures depth { IfOk result (λ t. (1 ≤ t.depth) × (t.depth ≤ 4096)) }
+{
+    Ok(TurnSettings {
+        order: turn_order_in(matches)?,
+        hold: hold_in(matches)?,
+        depth: depth_in(matches)?,
+    })
+}
+
 /// What the options say, or the first whose value is none of its own.
 pub fn settings_in(matches: &ArgMatches<'_>) -> Result<Settings, UsageFault>
     ensures settings { result ≡ settings_in (rows_of (found_of matches.now)) }
@@ -97,6 +127,9 @@ pub fn settings_in(matches: &ArgMatches<'_>) -> Result<Settings, UsageFault>
     ensures items { IfOk result (λ s. (1 ≤ s.items) × (s.items ≤ GREATEST_ITEMS)) }
     ensures lose { IfOk result (λ s. s.lose ≤ GREATEST_LOSS) }
     ensures size { IfOk result (λ s. IfSome s.buffer.size (λ n. (LEAST_SIZE ≤ n) × (n ≤ GREATEST_SIZE))) }
+    ensures order { IfOk result (λ s. IfSome s.turns.order (AreIds 16 126)) }
+    ensures hold { IfOk result (λ s. (1 ≤ s.turns.hold) × (s.turns.hold ≤ 15)) }
+    ensures depth { IfOk result (λ s. (1 ≤ s.turns.depth) × (s.turns.depth ≤ 4096)) }
     ensures port { IfOk result (λ s. s.port ≤ GREATEST_PORT) }
 {
     Ok(Settings {
@@ -111,6 +144,7 @@ pub fn settings_in(matches: &ArgMatches<'_>) -> Result<Settings, UsageFault>
         lose: lose_in(matches)?,
         recover: recover_in(matches)?,
         buffer: buffer_in(matches)?,
+        turns: turns_in(matches)?,
         port: port_in(matches)?,
     })
 }

@@ -1,6 +1,6 @@
 //! Faults of the words that are the command's own, and their lines.
 
-ghost use Rattle.std.specs.Prelude.{◌≡◌, ◌≤◌, ◌+◌, ◌++◌, length};
+ghost use Rattle.std.specs.Prelude.{◌≡◌, ◌≤◌, ◌+◌, ◌++◌, codes, decimal, length};
 ghost use Rattle.capture_words.specs.Texts.{usage_line};
 
 use crate::option::CommandOption;
@@ -33,6 +33,10 @@ pub enum UsageFault {
     TextNeedsItm,
     /// The action is `text`, and `--itm` has more than one ID.
     TextReadsOneSource,
+    /// The action is `funnel`, and `--order` is absent.
+    FunnelNeedsOrder,
+    /// The action is `funnel`, and this is the first ID of `--order` that stands there earlier already.
+    OrderedTwice(SourceId),
 }
 
 /// The text of these parts, one after another.
@@ -47,6 +51,15 @@ fn joined(first: &str, second: &str, third: &str) -> ArrayString<LINE_ROOM>
     text
 }
 
+/// The line of an ID with a fault.
+fn id_line(id: SourceId, fault: &str) -> ArrayString<LINE_ROOM>
+    requires { length fault.now ≤ 20 }
+    ensures { result.bytes ≡ codes "usage: " ++ decimal id ++ fault.now }
+{
+    let mut number = Buffer::new();
+    joined("usage: ", number.format(id.number()), fault)
+}
+
 impl UsageFault {
     /// The line of the fault, with its line feed.
     pub fn line(&self) -> ArrayString<LINE_ROOM>
@@ -56,15 +69,14 @@ impl UsageFault {
             UsageFault::UnknownAction => joined("usage: unknown action\n", "", ""),
             UsageFault::BadValue(option) => joined("usage: bad value of --", option.name(), "\n"),
             UsageFault::SplitNeedsId => joined("usage: split needs --id\n", "", ""),
-            UsageFault::MappedTwice(id) => {
-                let mut number = Buffer::new();
-                joined("usage: ", number.format(id.number()), " is mapped twice\n")
-            }
+            UsageFault::MappedTwice(id) => id_line(*id, " is mapped twice\n"),
             UsageFault::RingNeedsSize => joined("usage: ring needs --size\n", "", ""),
             UsageFault::UnringNeedsSize => joined("usage: unring needs --size\n", "", ""),
             UsageFault::PointerNotUnderSize => joined("usage: pointer isn't under size\n", "", ""),
             UsageFault::TextNeedsItm => joined("usage: text needs --itm\n", "", ""),
             UsageFault::TextReadsOneSource => joined("usage: text reads one source\n", "", ""),
+            UsageFault::FunnelNeedsOrder => joined("usage: funnel needs --order\n", "", ""),
+            UsageFault::OrderedTwice(id) => id_line(*id, " is ordered twice\n"),
         }
     }
 }

@@ -8,9 +8,11 @@ ghost use Rattle.capture_words.specs.Values.{action_named, order_named, bit_name
 ghost use Rattle.capture_words.specs.Values.{number_if_given, itm_in, stp_in, order_in, id_in, only_in, window_in};
 ghost use Rattle.capture_words.specs.Values.{number_given, sync_in, half_in, limit_in, items_in, lose_in, size_in};
 ghost use Rattle.capture_words.specs.Values.{pointer_in, full_in, option_in, ids_named, port_in, recover_in};
+ghost use Rattle.capture_words.specs.Values.{turn_order_in, hold_in, depth_in};
+ghost use Rattle.capture_words.specs.Choices.{AreIds};
 
 use crate::choices::{choice_named, window_named};
-use crate::ids::ids_named;
+use crate::ids::{order_named as turn_order_named, sources_named};
 use crate::option::CommandOption;
 use crate::recover::Recover;
 use crate::usage::UsageFault;
@@ -19,6 +21,7 @@ use decimal_words::{id_named, number_named};
 use item_tap::{Bounds, Choice};
 use source_events::SourceIds;
 use stp_grammar::packet::Order;
+use trace_funnel::TurnOrder;
 use trace_values::{FramesMode, PacketsMode, SourceId};
 
 /// The greatest limit, and the limit where none is given: how many bytes of a capture are read at most.
@@ -42,6 +45,14 @@ pub const LEAST_SIZE: u32 = 16;
 pub const GREATEST_SIZE: u32 = 1 << 24;
 /// The greatest write pointer of a trace buffer, that of the last byte of the greatest; it is 0 where none is given.
 pub const GREATEST_POINTER: u32 = (1 << 24) - 1;
+/// The most bytes that a source of a funnel gives in its turn, and how many where no number is given.
+pub const GREATEST_HOLD: u8 = 15;
+/// The same where none is given.
+pub const DEFAULT_HOLD: u8 = 4;
+/// The most bytes that a queue of a funnel has, and how many where no number is given.
+pub const GREATEST_DEPTH: u32 = 4096;
+/// The same where none is given.
+pub const DEFAULT_DEPTH: u32 = 256;
 /// The greatest stimulus port.
 pub const GREATEST_PORT: u8 = 31;
 
@@ -66,6 +77,8 @@ pub enum ActionName {
     Unring,
     /// `text`
     Text,
+    /// `funnel`
+    Funnel,
 }
 
 impl ActionName {
@@ -83,6 +96,7 @@ impl ActionName {
             "ring" => Some(ActionName::Ring),
             "unring" => Some(ActionName::Unring),
             "text" => Some(ActionName::Text),
+            "funnel" => Some(ActionName::Funnel),
             _ => None,
         }
     }
@@ -124,8 +138,7 @@ fn text_of<'a>(matches: &ArgMatches<'a>, option: CommandOption) -> Option<&'a st
     text_named(matches, option.name())
 }
 
-/// The action: `show`, `split`, `check`, `rebuild`, `exercise`, `realign`, `ring`, `unring` or
-/// `text`.
+/// The action: `show`, `split`, `check`, `rebuild`, `exercise`, `realign`, `ring`, `unring`, `text` or `funnel`.
 pub fn action_in(matches: &ArgMatches<'_>) -> Result<ActionName, UsageFault>
     ensures { result ≡ action_in (rows_of (found_of matches.now)) }
 {
@@ -177,12 +190,12 @@ fn id_given(
 
 /// The sources of an option, one to eight from 1 to 111, or none where it is absent.
 fn ids_given(matches: &ArgMatches<'_>, option: CommandOption) -> Result<SourceIds, UsageFault>
-    ensures value { result ≡ option_in option [] ids_named (rows_of (found_of matches.now)) }
+    ensures value { result ≡ option_in option [] (ids_named 8 111) (rows_of (found_of matches.now)) }
     ensures in_range { IfOk result (All (λ n. (1 ≤ n) × (n ≤ 111))) }
 {
     match text_of(matches, option) {
         None => Ok(SourceIds::new()),
-        Some(text) => match ids_named(text) {
+        Some(text) => match sources_named(text) {
             Some(ids) => Ok(ids),
             None => Err(UsageFault::BadValue(option)),
         },
@@ -349,6 +362,50 @@ pub fn full_in(matches: &ArgMatches<'_>) -> Result<bool, UsageFault>
         None => Ok(false),
         Some(text) => bit_named(text).ok_or(UsageFault::BadValue(CommandOption::Full)),
     }
+}
+
+/// The sources of a funnel in the order of their turns, one to sixteen from 1 to 126, if they are given.
+pub fn turn_order_in(matches: &ArgMatches<'_>) -> Result<Option<TurnOrder>, UsageFault>
+    ensures value { result ≡ turn_order_in (rows_of (found_of matches.now)) }
+    ensures in_range { IfOk result (λ order. IfSome order (AreIds 16 126)) }
+{
+    match text_of(matches, CommandOption::Order) {
+        None => Ok(None),
+        Some(text) => match turn_order_named(text) {
+            Some(order) => Ok(Some(order)),
+            None => Err(UsageFault::BadValue(CommandOption::Order)),
+        },
+    }
+}
+
+/// How many bytes a source of a funnel gives in its turn at most: 1 to 15, and 4 where it is absent.
+pub fn hold_in(matches: &ArgMatches<'_>) -> Result<u8, UsageFault>
+    ensures value { result ≡ hold_in (rows_of (found_of matches.now)) }
+    ensures in_range { IfOk result (λ n. (1 ≤ n) × (n ≤ 15)) }
+{
+    let hold = number_given(
+        matches,
+        CommandOption::Hold,
+        u32::from(DEFAULT_HOLD),
+        1,
+        u32::from(GREATEST_HOLD),
+    )?;
+    Ok(hold as u8)
+}
+
+/// How many bytes each queue of a funnel has at most: 1 to 4,096, and 256 where it is absent.
+pub fn depth_in(matches: &ArgMatches<'_>) -> Result<usize, UsageFault>
+    ensures value { result ≡ depth_in (rows_of (found_of matches.now)) }
+    ensures in_range { IfOk result (λ n. (1 ≤ n) × (n ≤ 4096)) }
+{
+    let depth = number_given(
+        matches,
+        CommandOption::Depth,
+        DEFAULT_DEPTH,
+        1,
+        GREATEST_DEPTH,
+    )?;
+    Ok(depth as usize)
 }
 
 /// The stimulus port whose bytes are written: 0 to 31, and 0 where it is absent.

@@ -1,18 +1,28 @@
--- Which events a choice holds for.
-use Rattle.std.specs.Prelude.{ℕ, Bool, true, false, not, Some, ◌&&◌, ◌==◌}
+-- Which events a choice holds for, and a list of choices.
+use Rattle.std.specs.Prelude.{ℕ, Bool, true, false, not, List, Option, Some, ◌&&◌, ◌==◌}
+use Rattle.std.specs.List.{list_any}
 use Rattle.itm_grammar.specs.declared.packet.ItmPacket.{ItmPacket}
-use Rattle.itm_grammar.specs.declared.packet.ItmPacket.TheVariants.{Software, Hardware}
+use Rattle.itm_grammar.specs.declared.packet.ItmPacket.TheVariants.{Software, Hardware, Local, GlobalFirst, GlobalSecond}
 use Rattle.source_events.specs.declared.event.Event.{Event}
 use Rattle.source_events.specs.declared.event.What.{What}
-use Rattle.source_events.specs.declared.event.What.TheVariants.{Packet as Given, Raw as Bytes, Trigger as TriggerByte}
+use Rattle.source_events.specs.declared.event.What.TheVariants.{Locked, Packet as Given, Raw as Bytes, Trigger as TriggerByte}
 use Rattle.source_events.specs.declared.packet.Packet.{Packet}
 use Rattle.source_events.specs.declared.packet.Packet.TheVariants.{Itm as ItmKind, Stp as StpKind}
 use Rattle.source_events.specs.Merge.{is_of}
-use Rattle.source_events.specs.Report.{is_item}
 use Rattle.item_tap.specs.declared.choice.Choice.{Choice}
-use Rattle.item_tap.specs.declared.choice.Choice.TheVariants.{OfKind, Source, Port}
+use Rattle.item_tap.specs.declared.choice.Choice.TheVariants.{OfKind, Source, Port, Time}
 use Rattle.item_tap.specs.declared.choice.Kind.{Kind}
 use Rattle.item_tap.specs.declared.choice.Kind.TheVariants.{Itm, Dwt, Stp, Raw, Trigger}
+use Rattle.item_tap.specs.declared.content.Content.{Content}
+use Rattle.item_tap.specs.declared.content.Content.TheVariants.{Notice, Itm as OfItm, Stp as OfStp, Raw as OfRaw, Trigger as OfTrigger}
+
+-- what choices see of what an event tells
+abbrev pub content_of : What Packet → Content
+content_of (Locked skipped) = Notice
+content_of (Given (ItmKind packet)) = OfItm packet
+content_of (Given (StpKind item)) = OfStp
+content_of (Bytes bytes) = OfRaw
+content_of (TriggerByte byte) = OfTrigger
 
 -- a hardware source packet, which an ITM sends for a DWT unit (ARMv7-M Architecture Reference Manual, Arm DDI 0403E,
 -- appendix D4 'Debug ITM and DWT Packet Protocol', section D4.2 'Packet descriptions')
@@ -20,27 +30,56 @@ abbrev pub is_hardware : ItmPacket → Bool
 is_hardware (Hardware disc size value) = true
 is_hardware packet = false
 
+-- a local or a global timestamp (the same section)
+abbrev pub is_stamp : ItmPacket → Bool
+is_stamp (Local lateness delta) = true
+is_stamp (GlobalFirst len value change wrap) = true
+is_stamp (GlobalSecond wide value) = true
+is_stamp packet = false
+
 -- What is of a kind: hardware source packets are of the DWT, and all other packets of an ITM source of the ITM. A
 -- notice of a lock is of no kind.
-abbrev pub is_of_kind : Kind → What Packet → Bool
-is_of_kind Itm (Given (ItmKind packet)) = not (is_hardware packet)
-is_of_kind Dwt (Given (ItmKind packet)) = is_hardware packet
-is_of_kind Stp (Given (StpKind item)) = true
-is_of_kind Raw (Bytes bytes) = true
-is_of_kind Trigger (TriggerByte byte) = true
-is_of_kind kind what = false
+abbrev pub is_of_kind : Kind → Content → Bool
+is_of_kind Itm (OfItm packet) = not (is_hardware packet)
+is_of_kind Dwt (OfItm packet) = is_hardware packet
+is_of_kind Stp OfStp = true
+is_of_kind Raw OfRaw = true
+is_of_kind Trigger OfTrigger = true
+is_of_kind kind content = false
 
 -- what software wrote to this stimulus port
-abbrev pub is_of_port : ℕ → What Packet → Bool
-is_of_port n (Given (ItmKind (Software port size value))) = port == n
-is_of_port n what = false
+abbrev pub is_of_port : ℕ → Content → Bool
+is_of_port n (OfItm (Software port size value)) = port == n
+is_of_port n content = false
 
--- an event of this source, and no notice of its lock
-abbrev pub is_item_of : ℕ → Event Packet → Bool
-is_item_of x e = is_item e.what && is_of (Some x) e.source
+-- a timestamp of an ITM source
+abbrev pub is_time : Content → Bool
+is_time (OfItm packet) = is_stamp packet
+is_time content = false
 
--- the choice holds for the event
+-- the notice of a lock
+abbrev pub is_notice : Content → Bool
+is_notice Notice = true
+is_notice content = false
+
+-- what a source of this ID gives, and no notice of its lock
+abbrev pub is_of_source : ℕ → Option ℕ → Content → Bool
+is_of_source x source content = not (is_notice content) && is_of (Some x) source
+
+-- the choice holds for what this source gives, or the port
+abbrev pub holds_in : Choice → Option ℕ → Content → Bool
+holds_in (OfKind kind) source content = is_of_kind kind content
+holds_in (Source x) source content = is_of_source x source content
+holds_in (Port n) source content = is_of_port n content
+holds_in Time source content = is_time content
+
+-- one of these choices does
+abbrev pub holds_any_in : List Choice → Option ℕ → Content → Bool
+holds_any_in choices source content = list_any (λ choice. holds_in choice source content) choices
+
+-- the choice holds for the event, and one of these choices does
 abbrev pub holds : Choice → Event Packet → Bool
-holds (OfKind kind) e = is_of_kind kind e.what
-holds (Source x) e = is_item_of x e
-holds (Port n) e = is_of_port n e.what
+holds choice e = holds_in choice e.source (content_of e.what)
+
+abbrev pub holds_any : List Choice → Event Packet → Bool
+holds_any choices e = list_any (λ choice. holds choice e) choices

@@ -1,11 +1,13 @@
 //! Choices of events.
 
 ghost use Rattle.std.specs.Prelude.{◌≡◌};
-ghost use Rattle.item_tap.specs.Choices.{is_hardware, is_of_kind, is_item_of, is_of_port, holds};
+ghost use Rattle.item_tap.specs.Choices.{is_hardware, is_stamp, is_of_kind, is_of_source, is_of_port, is_time};
+ghost use Rattle.item_tap.specs.Choices.{holds, holds_in};
 
+use crate::content::Content;
 use crate::rule::Rule;
 use itm_grammar::packet::ItmPacket;
-use source_events::{Event, Packet, What};
+use source_events::{Event, Packet};
 use trace_values::SourceId;
 
 /// A kind of events.
@@ -32,6 +34,15 @@ pub enum Choice {
     Source(SourceId),
     /// What software wrote to this stimulus port of an ITM, 0 to 31.
     Port(u8),
+    /// The local and global timestamps of an ITM. Those of a system trace are no events of their own.
+    Time,
+}
+
+/// The default choice only fills the unused places of a list.
+impl Default for Choice {
+    fn default() -> Choice {
+        Choice::Time
+    }
 }
 
 impl Rule for Choice {
@@ -39,54 +50,89 @@ impl Rule for Choice {
 }
 
 /// Whether a packet is a hardware source packet.
+#[inline(always)]
 fn is_hardware(packet: &ItmPacket) -> bool
     ensures { result ≡ is_hardware packet.now }
 {
     matches!(packet, ItmPacket::Hardware { .. })
 }
 
+/// Whether a packet is a timestamp.
+#[inline(always)]
+pub fn is_stamp(packet: &ItmPacket) -> bool
+    ensures { result ≡ is_stamp packet.now }
+{
+    matches!(
+        packet,
+        ItmPacket::Local { .. } | ItmPacket::GlobalFirst { .. } | ItmPacket::GlobalSecond { .. }
+    )
+}
+
 impl Kind {
-    /// Whether what an event tells is of this kind.
-    fn is_kind_of(self, what: &What<Packet>) -> bool
-        ensures { result ≡ is_of_kind self what.now }
+    /// Whether this is of the kind.
+    #[inline(always)]
+    fn is_kind_of(self, content: &Content) -> bool
+        ensures { result ≡ is_of_kind self content.now }
     {
-        match (self, what) {
-            (Kind::Itm, What::Packet(Packet::Itm(packet))) => !is_hardware(packet),
-            (Kind::Dwt, What::Packet(Packet::Itm(packet))) => is_hardware(packet),
-            (Kind::Stp, What::Packet(Packet::Stp(_))) => true,
-            (Kind::Raw, What::Raw(_)) => true,
-            (Kind::Trigger, What::Trigger(_)) => true,
+        match (self, content) {
+            (Kind::Itm, Content::Itm(packet)) => !is_hardware(packet),
+            (Kind::Dwt, Content::Itm(packet)) => is_hardware(packet),
+            (Kind::Stp, Content::Stp) => true,
+            (Kind::Raw, Content::Raw) => true,
+            (Kind::Trigger, Content::Trigger) => true,
             _ => false,
         }
     }
 }
 
-/// Whether an event is one of this source, and no notice of its lock.
-fn is_item_of(id: SourceId, event: &Event<Packet>) -> bool
-    ensures { result ≡ is_item_of id event.now }
+/// Whether this comes from the source of this ID, and is no notice of its lock.
+#[inline(always)]
+fn is_of_source(id: SourceId, source: Option<SourceId>, content: &Content) -> bool
+    ensures { result ≡ is_of_source id source content.now }
 {
-    !matches!(event.what, What::Locked(_)) && event.source == Some(id)
+    !matches!(content, Content::Notice) && source == Some(id)
 }
 
-/// Whether what an event tells was written to this stimulus port.
-fn is_of_port(number: u8, what: &What<Packet>) -> bool
-    ensures { result ≡ is_of_port number what.now }
+/// Whether this was written to the stimulus port of this number.
+#[inline(always)]
+fn is_of_port(number: u8, content: &Content) -> bool
+    ensures { result ≡ is_of_port number content.now }
 {
-    match what {
-        What::Packet(Packet::Itm(ItmPacket::Software { port, .. })) => *port == number,
+    match content {
+        Content::Itm(ItmPacket::Software { port, .. }) => *port == number,
+        _ => false,
+    }
+}
+
+/// Whether this is a timestamp of an ITM.
+#[inline(always)]
+fn is_time(content: &Content) -> bool
+    ensures { result ≡ is_time content.now }
+{
+    match content {
+        Content::Itm(packet) => is_stamp(packet),
         _ => false,
     }
 }
 
 impl Choice {
+    /// Whether the choice holds for what a source gives, or the port.
+    #[inline(always)]
+    pub fn holds_in(&self, source: Option<SourceId>, content: &Content) -> bool
+        ensures { result ≡ holds_in self.now source content.now }
+    {
+        match self {
+            Choice::OfKind(kind) => kind.is_kind_of(content),
+            Choice::Source(id) => is_of_source(*id, source, content),
+            Choice::Port(number) => is_of_port(*number, content),
+            Choice::Time => is_time(content),
+        }
+    }
+
     /// Whether the choice holds for an event.
     pub fn holds_for(&self, event: &Event<Packet>) -> bool
         ensures { result ≡ holds self.now event.now }
     {
-        match self {
-            Choice::OfKind(kind) => kind.is_kind_of(&event.what),
-            Choice::Source(id) => is_item_of(*id, event),
-            Choice::Port(number) => is_of_port(*number, &event.what),
-        }
+        self.holds_in(event.source, &Content::of(&event.what))
     }
 }

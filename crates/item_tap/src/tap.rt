@@ -4,9 +4,10 @@ ghost use Rattle.std.specs.Prelude.{◌≡◌, Bool, ⊤};
 ghost use Rattle.std.specs.Fn.{FnReturnsAt};
 ghost use Rattle.source_events.specs.declared.event.Event.{Event};
 ghost use Rattle.source_events.specs.declared.packet.Packet.{Packet};
-ghost use Rattle.item_tap.specs.Choices.{holds};
+ghost use Rattle.item_tap.specs.Choices.{holds, holds_any};
 
 use crate::choice::Choice;
+use crate::choices::Choices;
 use crate::rule::Rule;
 use source_events::{Event, Packet};
 use std::marker::Model;
@@ -47,6 +48,17 @@ impl Test for Choice {
 
     fn test(&self, event: &Event<Packet>) -> bool {
         self.holds_for(event)
+    }
+}
+
+/// A list of choices is its own test.
+impl Test for Choices {
+    ghost may_test = { λ c. ⊤ };
+
+    ghost may_answer = { λ c e b. b ≡ holds_any c e };
+
+    fn test(&self, event: &Event<Packet>) -> bool {
+        self.hold_for(event)
     }
 }
 

@@ -1,64 +1,42 @@
-use Rattle.std.proofs.Common.{rules, ◌≡◌, ◌≤◌, ◌<◌, ◌+◌, ◌==◌, ◌++◌, ◌∷◌, [], length, Some, None, sym, ◌∙◌, ap, subst, arith}
-use Rattle.std.specs.List.{All, position_or_len, before_first, after_first}
-use Rattle.std.proofs.lemmas.List.Elements.{All-push}
-use Rattle.std.proofs.lemmas.List.{length_push}
+use Rattle.std.proofs.Common.{rules, ◌≡◌, ◌<◌, ◌+◌, ◌++◌, ◌∷◌, [], length, map, option_map, Some, None, sym, ◌∙◌, ap, subst, arith, lit<}
+use Rattle.std.proofs.lemmas.Iterator.Consumers.{YieldsList-at, YieldsList-turn, YieldsList-end}
+use Rattle.std.proofs.lemmas.Iterator.Splits.{YieldsList-from_str_split}
+use Rattle.std.proofs.lemmas.List.{map_push, length-map, length_push}
 use Rattle.decimal_words.specs.Numbers.{number_named}
-use Rattle.capture_words.proofs.IdLists.{Goes, none_last, some_last, none_first, goes_on, too_many}
+use Rattle.capture_words.proofs.CommaLists.{Reads, reads_on, reads_as_many, found_all, found_none, found_many}
 use Rattle.capture_words.proofs.ids.ids_named.Goals as goal
 
-pub returns-in_err-id_named-clause-value : goal.returns-in_err-id_named-clause-value
-returns-in_err-id_named-clause-value c =
-    let all : position_or_len (λ b. b == 44) c.loop.rest.now ≡ length c.loop.rest.now = search rules in
-    let none : number_named 1 111 c.loop.rest.now ≡ None = search rules in
-    let it = none_last c.args.text.now c.loop.rest.now c.loop.ids c.loop.invariant.3 all none in
-    search (rules, it)
+pub returns-then-is_full : goal.returns-then-is_full
+returns-then-is_full g c =
+    let road = YieldsList-at c.into_iter-part-iterator.ensures.into_iter_gives (YieldsList-from_str_split 44 c.args.text.now (lit< tt) c.split-part-items.ensures.text c.split-part-items.ensures.has_more c.split-part-items.ensures.pattern) in
+    let turn = YieldsList-turn road c.loop-part.yielded _ c.loop-part.yielded_by _ _ c.in-Some.part c.in-Some.is c.next.ensures.steps in
+    let read = reads_as_many (number_named 1 c.args.greatest) (map (λ s. s.now) c.loop-part.yielded) c.loop-part.ids.items c.loop-part.invariant.0 in
+    let as_many = length-map c.loop-part.yielded (λ s. s.now) in
+    let full : length c.loop-part.ids.items ≡ g.row.N = search rules in
+    record { value = sym (found_many (number_named 1 c.args.greatest) g.row.N c.args.text.now (omega (arith, turn.0, read, as_many, full))) }
 
-pub returns-in_default-clause-value : goal.returns-in_default-clause-value
-returns-in_default-clause-value c =
-    let all : position_or_len (λ b. b == 44) c.loop.rest.now ≡ length c.loop.rest.now = search rules in
-    let is : number_named 1 111 c.loop.rest.now ≡ Some c.in_ok-id_named.field-0 = search rules in
-    let it = some_last c.args.text.now c.loop.rest.now c.loop.ids c.in_ok-id_named.field-0 c.loop.invariant.3 all is (omega (arith, c.loop.invariant.1, c.loop-test.true)) in
-    ap (λ l. Some l) c.push.ensures ∙ sym it
+pub returns-in_err-id_named : goal.returns-in_err-id_named
+returns-in_err-id_named g c =
+    let road = YieldsList-at c.into_iter-part-iterator.ensures.into_iter_gives (YieldsList-from_str_split 44 c.args.text.now (lit< tt) c.split-part-items.ensures.text c.split-part-items.ensures.has_more c.split-part-items.ensures.pattern) in
+    let turn = YieldsList-turn road c.loop-part.yielded _ c.loop-part.yielded_by _ _ c.in-Some.part c.in-Some.is c.next.ensures.steps in
+    let none : number_named 1 c.args.greatest c.in-Some.part.now ≡ None = search rules in
+    let it = found_none (number_named 1 c.args.greatest) g.row.N c.args.text.now c.in-Some.part.now (length c.loop-part.yielded) turn none in
+    record { value = ap (option_map (λ ids. ids.items)) c.from_residual.ensures ∙ sym it }
 
-pub returns-in_err-id_named-2-clause-value : goal.returns-in_err-id_named-2-clause-value
-returns-in_err-id_named-2-clause-value c =
-    let less : position_or_len (λ b. b == 44) c.loop.rest.now < length c.loop.rest.now = search rules in
-    let none : number_named 1 111 (before_first (λ b. b == 44) c.loop.rest.now) ≡ None = search rules in
-    let it = none_first c.args.text.now c.loop.rest.now c.loop.ids c.loop.invariant.3 less none in
-    search (rules, it)
-
-pub returns-clause-value : goal.returns-clause-value
-returns-clause-value c =
-    sym (too_many c.args.text.now c.loop.rest.now c.loop.ids c.loop.invariant.3 (omega (arith, c.loop.invariant.1, c.loop-test.false)))
-
-pub push-requires : goal.push-requires
-push-requires c = omega (arith, c.loop.invariant.1, c.loop-test.true)
-
-pub push-requires-in-loop : goal.push-requires-in-loop
-push-requires-in-loop c = omega (arith, c.loop.invariant.1, c.loop-test.true)
-
-pub returns-in_default-clause-in_range : goal.returns-in_default-clause-in_range
-returns-in_default-clause-in_range c =
-    let range : (1 ≤ c.in_ok-id_named.field-0) × (c.in_ok-id_named.field-0 ≤ 111) = search rules in
-    subst (All (λ n. (1 ≤ n) × (n ≤ 111))) (sym c.push.ensures)
-    (All-push (λ n. (1 ≤ n) × (n ≤ 111)) c.loop.ids c.in_ok-id_named.field-0 c.loop.invariant.2 range)
-
-pub loop-preserved : goal.loop-preserved
-loop-preserved c =
-    let text = c.args.text.now in
-    let rest = c.loop.rest.now in
-    let ids = c.loop.ids in
-    let x = c.in_ok-id_named-2.field-0 in
-    let less : position_or_len (λ b. b == 44) rest < length rest = search rules in
-    let is : number_named 1 111 (before_first (λ b. b == 44) rest) ≡ Some x = search rules in
-    let others : after_first (λ b. b == 44) rest ≡ c.in-Some.others.now = search rules in
-    let range : (1 ≤ x) × (x ≤ 111) = search rules in
-    let goes = goes_on text rest ids x c.loop.invariant.3 less is in
-    let count = length_push ids x in (
-      search rules,
-      ap length c.push-in-loop.ensures ∙ count ∙ ap (λ n. n + 1) c.loop.invariant.1,
-      subst (All (λ n. (1 ≤ n) × (n ≤ 111))) (sym c.push-in-loop.ensures)
-          (All-push (λ n. (1 ≤ n) × (n ≤ 111)) ids x c.loop.invariant.2 range),
-      subst (λ l. Goes text l c.in-Some.others.now) (sym c.push-in-loop.ensures)
-          (subst (λ l. Goes text (ids ++ x ∷ []) l) others goes),
+pub loop-part-preserved : goal.loop-part-preserved
+loop-part-preserved g c =
+    let named = number_named 1 c.args.greatest in
+    let is : named c.in-Some.part.now ≡ Some c.in_ok-id_named.field-0 = search rules in
+    let on = reads_on named (map (λ s. s.now) c.loop-part.yielded) c.in-Some.part.now c.loop-part.ids.items c.in_ok-id_named.field-0 c.loop-part.invariant.0 is in
+    let room : length c.loop-part.ids.items < g.row.N = search rules in
+    let count : length c.push.new.self.items ≡ length c.loop-part.ids.items + 1 = search (rules, length_push) in (
+      subst (λ parts. Reads named parts c.push.new.self.items) (sym (map_push (λ s. s.now) c.loop-part.yielded c.in-Some.part))
+          (subst (λ xs. Reads named (map (λ s. s.now) c.loop-part.yielded ++ c.in-Some.part.now ∷ []) xs) (sym c.push.ensures.items) on),
+      omega (arith, room, count),
     )
+
+pub returns : goal.returns
+returns g c =
+    let road = YieldsList-at c.into_iter-part-iterator.ensures.into_iter_gives (YieldsList-from_str_split 44 c.args.text.now (lit< tt) c.split-part-items.ensures.text c.split-part-items.ensures.has_more c.split-part-items.ensures.pattern) in
+    let end = YieldsList-end road c.loop-part.yielded _ c.loop-part.yielded_by _ _ c.in-None.is c.next.ensures.steps in
+    record { value = sym (found_all (number_named 1 c.args.greatest) g.row.N c.args.text.now (map (λ s. s.now) c.loop-part.yielded) c.loop-part.ids.items end.0 c.loop-part.invariant.0 c.loop-part.invariant.1) }

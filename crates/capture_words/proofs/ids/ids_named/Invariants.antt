@@ -1,13 +1,9 @@
-use Rattle.std.proofs.Common.{◌≡◌, ◌≤◌, ◌==◌, ℕ, List, ◌++◌, map, option_map, length}
-use denote.Text.{Utf8}
-use denote.Shadow.{shadow}
-use Rattle.std.specs.List.{All, slice_split}
+use Rattle.std.proofs.Common.{◌≤◌, map, length}
 use Rattle.decimal_words.specs.Numbers.{number_named}
-use Rattle.capture_words.specs.Values.{each}
+use Rattle.capture_words.proofs.CommaLists.{Reads}
 use Rattle.capture_words.proofs.ids.ids_named.Given as goal
 
--- the IDs so far and those of the rest are those of the text
-abbrev pub invariant-loop : goal.invariant-loop
-invariant-loop l = shadow (Utf8 l.rest) × (length l.ids ≡ l.counter) × All (λ n. (1 ≤ n) × (n ≤ 111)) l.ids
-    × (each (map (number_named 1 111) (slice_split (λ c. c == 44) l.text))
-    ≡ option_map (λ (xs : List ℕ). l.ids ++ xs) (each (map (number_named 1 111) (slice_split (λ c. c == 44) l.rest))))
+-- the IDs are those that the parts so far name, at most N
+abbrev pub invariant-loop-part : goal.invariant-loop-part
+invariant-loop-part g l =
+    Reads (number_named 1 l.greatest) (map (λ s. s.now) l.yielded) l.ids.items × (length l.ids.items ≤ g.row.N)

@@ -18,6 +18,7 @@ returns c = record {
   unring = all_answered _ refl refl;
   recover = all_answered _ refl refl;
   text = all_answered _ refl refl;
+  funnel = all_answered _ refl refl;
   split = all_answered _ refl refl;
   check = all_answered _ refl refl;
   several = all_answered _ refl refl;

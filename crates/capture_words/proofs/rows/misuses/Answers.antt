@@ -12,5 +12,6 @@ returns c = record {
   bad_choices = all_answered _ refl refl;
   bad_ids = all_answered _ refl refl;
   mapped_twice = all_answered _ refl refl;
+  ordered_twice = all_answered _ refl refl;
   order = all_answered _ refl refl;
 }
