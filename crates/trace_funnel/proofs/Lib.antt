@@ -3,6 +3,7 @@ mod Turning
 mod Waiting
 mod Nearing
 mod Emptying
+mod Shortness
 pub mod Acting
 mod Finding
 mod Serving
@@ -11,3 +12,6 @@ mod Fields
 mod Offering
 mod Counting
 mod Giving
+pub mod Loading
+pub mod Naming
+pub mod Placing

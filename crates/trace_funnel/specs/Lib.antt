@@ -6,3 +6,4 @@ pub mod State
 pub mod Queues
 pub mod Inside
 pub mod Rows
+pub mod SoundTurns

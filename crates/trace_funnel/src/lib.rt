@@ -12,6 +12,10 @@ pub mod laws;
 mod queue;
 pub mod rows;
 mod tagged;
+mod turn_order;
+mod turns;
 
 pub use funnel::Funnel;
 pub use tagged::Tagged;
+pub use turn_order::{MOST_PLACES, TurnOrder};
+pub use turns::Turns;
