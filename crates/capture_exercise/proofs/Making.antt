@@ -5,12 +5,13 @@ use Rattle.std.proofs.lemmas.List.{take-append-drop}
 use Rattle.std.proofs.lemmas.List.FromFn.{take-map-range_with_len, map-range_with_len_more}
 use Rattle.std.proofs.Math.Seq.{drop-append_seam}
 use Rattle.stp_grammar.specs.declared.packet.Order.TheVariants.{Msn}
-use Rattle.frame_writer.specs.Written.{written_segments, frames_by}
+use Rattle.frame_writer.specs.Written.{frames_by}
+use Rattle.port_formatter.specs.Port.{written}
 use Rattle.script_text.specs.declared.version_two.Line2.{Line2}
 use Rattle.script_rebuild.specs.Script.{in_order}
 use Rattle.script_rebuild.specs.Segments.{segments_with_ends}
 use Rattle.script_rebuild.specs.ScriptLaws.{sure_whole}
-use Rattle.capture_exercise.specs.Exercise.{line_at, exercise_lines, exercise_capture}
+use Rattle.capture_exercise.specs.Exercise.{line_at, exercise_port, exercise_lines, exercise_capture}
 use Rattle.capture_exercise.specs.Making.{so_far, later}
 
 lines_begin : (items n : ℕ) → n ≤ items → exercise_lines items ≡ exercise_lines n ++ drop n (exercise_lines items)
@@ -27,8 +28,8 @@ front : (items n : ℕ) → n ≤ items → (rest : List ℕ) × (exercise_captu
 unfolding exercise_capture
 front items n le =
     let ids = in_order (2 ∷ []) in
-    let whole = sure_whole 64 0 Msn ids (exercise_lines n) (drop n (exercise_lines items)) (omega arith) in
-    (whole.0, ap (λ (l : List Line2). written_segments 64 0 (segments_with_ends Msn ids l)) (lines_begin items n le) ∙ whole.1)
+    let whole = sure_whole exercise_port Msn ids (exercise_lines n) (drop n (exercise_lines items)) (omega arith) in
+    (whole.0, ap (λ (l : List Line2). written exercise_port (segments_with_ends Msn ids l)) (lines_begin items n le) ∙ whole.1)
 
 -- before the first line all of the capture is to come
 pub later_first : (items : ℕ) → later items 0 ≡ exercise_capture items

@@ -1,11 +1,11 @@
 -- The exercise (this project's own): a script of stated items, the capture that it makes, and what is left of that
 -- capture where its front is lost.
-use Rattle.std.specs.Prelude.{ℕ, List, [], ◌∷◌, map, drop}
+use Rattle.std.specs.Prelude.{ℕ, List, [], ◌∷◌, map, drop, None}
 use Rattle.std.specs.List.{range_with_len}
 use Rattle.trace_values.specs.declared.reading_modes.FramesMode.TheVariants.{Hunt as FramesHunt}
 use Rattle.trace_values.specs.declared.reading_modes.PacketsMode.TheVariants.{Hunt}
 use Rattle.stp_grammar.specs.declared.packet.Order.TheVariants.{Msn}
-use Rattle.frame_writer.specs.Written.{written_segments}
+use Rattle.port_formatter.specs.Port.{Port, written}
 use Rattle.source_events.specs.declared.plan.Plan.{Plan}
 use Rattle.script_text.specs.declared.items.Item.TheVariants as items
 use Rattle.script_text.specs.declared.lines.Line.TheVariants.{Of}
@@ -34,9 +34,13 @@ line_at k = line_of_made (item_of k)
 abbrev pub exercise_lines : ℕ → List Line2
 exercise_lines count = map line_at (range_with_len 0 count)
 
--- their capture, with a full synchronisation before each 64th frame and no half ones
+-- the port that writes them: a full synchronisation before each 64th frame, no half ones, and no funnel
+abbrev pub exercise_port : Port
+exercise_port = record { every = 64; halves = 0; funnel = None }
+
+-- their capture
 unfoldable pub exercise_capture : ℕ → List ℕ
-exercise_capture count = written_segments 64 0 (script_segments exercise_plan (exercise_lines count))
+exercise_capture count = written exercise_port (script_segments exercise_plan (exercise_lines count))
 
 -- what is left of it where this many bytes of its front are lost
 abbrev pub exercise_rest : ℕ → ℕ → List ℕ

@@ -9,7 +9,7 @@ items_of s = makers.items_of s.maker
 
 -- what is made and not given yet
 abbrev pub pending : ExerciseSource → List ℕ
-pending s = drop s.given s.piece.items
+pending s = drop s.given (makers.made_by s.maker)
 
 -- the bytes still to come
 abbrev pub left_of : ExerciseSource → List ℕ

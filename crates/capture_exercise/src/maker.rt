@@ -1,15 +1,17 @@
 //! The capture, piece by piece.
 
-ghost use Rattle.std.specs.Prelude.{◌≡◌, ◌↔◌, ◌≤◌, ◌<◌, ◌+◌, ◌*◌, ◌++◌, ◌∷◌, [], IsTrue};
+ghost use Rattle.std.specs.Prelude.{◌≡◌, ◌↔◌, ◌≤◌, ◌<◌, ◌+◌, ◌*◌, ◌++◌, ◌∷◌, [], IsTrue, length, false, None};
 ghost use Rattle.stp_grammar.specs.declared.packet.Order.TheVariants.{Msn};
+ghost use Rattle.port_formatter.specs.declared.straight.TheConstants.{KEPT_ROOM};
 ghost use Rattle.script_rebuild.specs.Script.{in_order};
-ghost use Rattle.script_rebuild.specs.Writer.{Stands, stp_of, order_of, count_of};
+ghost use Rattle.script_rebuild.specs.Writer.{Stands, stp_of, order_of, turns_of, count_of};
 ghost use Rattle.script_text.specs.declared.raw_bytes.TheConstants.{RAW_BYTES};
 ghost use Rattle.capture_exercise.specs.declared.maker.TheConstants.{MOST_ITEMS};
-ghost use Rattle.capture_exercise.specs.Exercise.{exercise_lines, exercise_capture};
+ghost use Rattle.capture_exercise.specs.Exercise.{exercise_port, exercise_lines, exercise_capture};
 
 use crate::lines::{line_at, stp_sources};
-use script_rebuild::{LineBytes, LineWriter};
+use port_formatter::Formatter;
+use script_rebuild::LineWriter;
 use stp_grammar::packet::Order;
 
 /// The most items of an exercise.
@@ -29,26 +31,28 @@ pub(crate) struct CaptureMaker {
     is_whole: bool,
     ghost few: { items ≤ MOST_ITEMS },
     ghost within: { next ≤ items },
-    ghost stands: { ∥ Stands writer 64 0 (exercise_lines next) ∥₁ },
+    ghost stands: { is_whole ≡ false → ∥ Stands writer exercise_port (exercise_lines next) ∥₁ },
     ghost stp: { stp_of writer ≡ in_order (2 ∷ []) },
     ghost order: { order_of writer ≡ Msn },
-    ghost count: { count_of writer ≤ RAW_BYTES * next },
+    ghost turns: { turns_of writer ≡ None },
+    ghost count: { is_whole ≡ false → count_of writer ≤ RAW_BYTES * next },
 }
 
 impl CaptureMaker {
-    ghost use Rattle.capture_exercise.specs.Maker.{items_of, to_come, pieces_left};
+    ghost use Rattle.capture_exercise.specs.Maker.{items_of, made_by, to_come, pieces_left};
 
     /// Nothing is made yet.
     pub(crate) fn new(items: u32) -> CaptureMaker
         requires few { items ≤ MOST_ITEMS }
         ensures items { items_of result ≡ items }
+        ensures none { made_by result ≡ [] }
         ensures bytes { to_come result ≡ exercise_capture items }
         ensures pieces { pieces_left result ≡ items + 1 }
     {
         CaptureMaker {
             items,
             next: 0,
-            writer: LineWriter::new(&stp_sources(), Order::Msn, 64, 0),
+            writer: LineWriter::new(&stp_sources(), Order::Msn, Formatter::new(64, 0)),
             is_whole: false,
         }
     }
@@ -61,21 +65,29 @@ impl CaptureMaker {
         self.is_whole
     }
 
+    /// The piece that was made last.
+    pub(crate) fn made(&self) -> &[u8]
+        ensures value { result.now ≡ made_by self.now }
+        ensures few { length result.now ≤ KEPT_ROOM }
+    {
+        let (piece, _none) = self.writer.kept();
+        piece
+    }
+
     /// Makes the next piece: what becomes sure with the next line, or the rest.
-    pub(crate) fn make(&mut self, out: &mut LineBytes)
-        requires empty { out.old.items ≡ [] }
+    pub(crate) fn make(&mut self)
         requires more { 0 < pieces_left self.old }
         ensures items { items_of self.new ≡ items_of self.old }
-        ensures bytes { to_come self.old ≡ out.new.items ++ to_come self.new }
+        ensures bytes { to_come self.old ≡ made_by self.new ++ to_come self.new }
         ensures pieces { pieces_left self.new + 1 ≡ pieces_left self.old }
     {
+        self.writer.forget();
         if self.next == self.items {
-            let mut last = self.writer.copied();
-            last.flush(out);
+            self.writer.flush();
             self.is_whole = true;
         } else {
             let line = line_at(self.next);
-            let _ = self.writer.put2(&line, out);
+            let _ = self.writer.put2(&line);
             self.next += 1;
         }
     }

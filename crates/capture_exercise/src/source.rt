@@ -7,10 +7,9 @@ ghost use Rattle.trace_io.specs.Causes.{HasCause, CountsEmpty, faults_after};
 ghost use Rattle.capture_exercise.specs.Exercise.{exercise_capture, exercise_rest};
 ghost use Rattle.capture_exercise.specs.Maker as makers;
 ghost use Rattle.capture_exercise.specs.declared.maker.TheConstants.{MOST_BYTES};
-ghost use Rattle.script_rebuild.specs.declared.bytes.TheConstants.{LINE_ROOM};
+ghost use Rattle.port_formatter.specs.declared.straight.TheConstants.{KEPT_ROOM};
 
 use crate::maker::{CaptureMaker, MOST_ITEMS};
-use script_rebuild::LineBytes;
 use trace_io::{Failed, Source};
 
 /// The capture of the exercise, without a front that is lost, as a source that never fails. It makes the bytes as they
@@ -20,16 +19,13 @@ use trace_io::{Failed, Source};
 #[derive(Drop)]
 pub struct ExerciseSource {
     maker: CaptureMaker,
-    /// What was made last.
-    piece: LineBytes,
-    /// How many bytes of it are given.
+    /// How many bytes are given of the piece that was made last.
     given: usize,
     /// How many bytes are made so far.
     made: u64,
     empty_reads: u64,
-    ghost within: { given ≤ length piece.items },
-    ghost room: { length piece.items ≤ LINE_ROOM },
-    ghost few: { made + LINE_ROOM * makers.pieces_left maker ≤ MOST_BYTES },
+    ghost within: { given ≤ length (makers.made_by maker) },
+    ghost few: { made + KEPT_ROOM * makers.pieces_left maker ≤ MOST_BYTES },
     ghost total: { made + length (makers.to_come maker) ≡ length (exercise_capture (makers.items_of maker)) },
 }
 
@@ -69,7 +65,6 @@ impl ExerciseSource {
     {
         ExerciseSource {
             maker: CaptureMaker::new(items),
-            piece: LineBytes::new(),
             given: 0,
             made: 0,
             empty_reads: 0,
@@ -84,10 +79,9 @@ impl ExerciseSource {
         ensures same { IsSame self.old self.new }
         ensures pieces { pieces_left self.new + 1 ≡ pieces_left self.old }
     {
-        self.piece.clear();
         self.given = 0;
-        self.maker.make(&mut self.piece);
-        self.made += self.piece.len() as u64;
+        self.maker.make();
+        self.made += self.maker.made().len() as u64;
     }
 
     /// Makes pieces until a byte is there, or the capture is at its end.
@@ -106,7 +100,7 @@ impl ExerciseSource {
     pub(crate) fn pending(&self) -> &[u8]
         ensures { result.now ≡ pending self.now }
     {
-        &self.piece.as_slice()[self.given..]
+        &self.maker.made()[self.given..]
     }
 
     /// Gives the first of them.

@@ -3,8 +3,7 @@ use Rattle.std.proofs.Common.{◌≡◌, ◌≤◌, ℕ, List, ◌++◌, true, f
 use Rattle.std.specs.Prelude.{is_some}
 use Rattle.std.specs.Io.KnownBytes.{Appends}
 use Rattle.script_rebuild.specs.Versions.{script_of}
-use Rattle.script_laws.proofs.Given.{reads_as_given}
-use Rattle.script_laws.proofs.Said.{script_good}
+use Rattle.script_laws.proofs.Ported.{script_reads}
 use Rattle.script_rebuild.proofs.Whole.{text_and_ending}
 use Rattle.script_rebuild.specs.Rebuilt.{text, ending}
 use Rattle.script_rebuild.specs.declared.plan.RebuildPlan.{RebuildPlan}
@@ -14,7 +13,7 @@ use Rattle.capture_words.specs.Jobs.{IsSoundTask}
 use Rattle.capture_words.specs.declared.job.Task.{Task}
 use Rattle.capture_words.specs.declared.job.Task.TheVariants.{Rebuild}
 use Rattle.capture_run.specs.Actions.{meaning_of, HasDone}
-use Rattle.capture_run.specs.Rebuilds.{Rebuilds}
+use Rattle.capture_run.specs.Rebuilds.{Rebuilds, straight}
 use Rattle.capture_run.specs.Run.{HasRun, Streams, Loses}
 use Rattle.capture_run.specs.declared.status.Status.{Status}
 use Rattle.capture_run.specs.declared.status.Status.TheVariants.{Done}
@@ -28,13 +27,13 @@ rebuilds : (plan : Plan) (sync half limit : ℕ) (old new : Streams) (script : L
     → HasRun (meaning_of (Rebuild plan sync half)) limit old new Done → Loses old.left new.left script
     → Rebuilds plan sync half script old.held new.held
 rebuilds plan sync half limit old new script sound few run loses =
-    let p : RebuildPlan = record { plan = plan; every = sync; halves = half } in
+    let p : RebuildPlan = straight plan sync half in
     let same = same_lost old.left new.left run.bytes script run.lost loses in
     let no_fault = none_is (script_of plan script).fault (ap (λ b. is_some (script_of plan b).fault) (sym same) ∙ run.writes.2) in
     record {
       no_fault = no_fault;
       written = subst (Appends old.held new.held) (run.writes.0.2 ∙ ap (λ b. text p b ++ ending p b) same ∙ text_and_ending p script few no_fault) run.gained;
-      reads = reads_as_given sync half plan (script_of plan script).lines sound (script_good plan script);
+      reads = script_reads p script sound tt;
     }
 
 pub rebuilds_script : (task : Task) (plan : Plan) (sync half limit : ℕ) (old new : Streams) (status : Status) (script : List ℕ) → IsSoundTask task

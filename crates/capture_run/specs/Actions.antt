@@ -20,7 +20,6 @@ use Rattle.capture_actions.specs.Unring.{unring_meaning}
 use Rattle.capture_actions.specs.declared.list_plan.ListPlan.{ListPlan}
 use Rattle.capture_actions.specs.declared.unring_plan.UnringPlan.{UnringPlan}
 use Rattle.capture_exercise.specs.Summary.{exercise_summary}
-use Rattle.script_rebuild.specs.Versions.{script_of}
 use Rattle.source_events.specs.Report.{of_source}
 use Rattle.source_merge.specs.Answering.{fault_of}
 use Rattle.port_slip.specs.Segments.{realigned}
@@ -28,7 +27,7 @@ use Rattle.recovery_listing.specs.Listing as recovering
 use Rattle.recovery_listing.specs.Listing.{is_faulty}
 use Rattle.recovery_listing.specs.Summary as recovering_summary
 use Rattle.source_events.specs.declared.plan.Plan.{Plan}
-use Rattle.script_rebuild.specs.Rebuilt.{rebuild_meaning}
+use Rattle.script_rebuild.specs.Rebuilt.{routed_script, rebuild_meaning}
 use Rattle.script_rebuild.specs.declared.plan.RebuildPlan.{RebuildPlan}
 use Rattle.trace_stream.specs.Served.{Meaning}
 use Rattle.trace_stream.specs.Recent.{last_sixteen}
@@ -76,9 +75,9 @@ recovered_notes plan = record {
 -- first fault is noted by its line
 abbrev pub rebuild_notes : RebuildPlan → TaskNotes
 rebuild_notes plan = record {
-  late = λ bytes. is_some (script_of plan.plan bytes).fault;
+  late = λ bytes. is_some (routed_script plan bytes).fault;
   done_note = λ bytes. [];
-  fault_note = λ bytes. script_note (script_of plan.plan bytes).fault;
+  fault_note = λ bytes. script_note (routed_script plan bytes).fault;
   fault_status = ScriptFault;
   exact = false;
 }
@@ -139,7 +138,7 @@ meaning_of (Text plan port) =
     task_of (port_text_meaning p) (captured (text_note p))
 meaning_of (Check plan recover) = checking recover plan
 meaning_of (Rebuild plan sync half) =
-    let script : RebuildPlan = record { plan = plan; every = sync; halves = half } in
+    let script : RebuildPlan = record { plan = plan; every = sync; halves = half; funnel = None } in
     task_of (rebuild_meaning script) (rebuild_notes script)
 meaning_of (Exercise items lose) = reads_nothing (exercise_summary items lose)
 meaning_of Realign = task_of realign_meaning realign_notes

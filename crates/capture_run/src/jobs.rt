@@ -4,7 +4,8 @@ ghost use Rattle.std.specs.Prelude.{◌≡◌, ◌+◌, ◌≤◌, [], codes, tr
 ghost use Rattle.trace_io.specs.Causes.{Rose};
 ghost use Rattle.trace_stream.specs.Fresh.{IsFresh};
 ghost use Rattle.trace_stream.specs.declared.limits.TheConstants.{GREATEST_CAPTURE};
-ghost use Rattle.script_rebuild.specs.Rebuilder.{Stands, plan_of, taken_by, IsLive};
+ghost use Rattle.script_rebuild.specs.Rebuilder.{Stands, plan_of, taken_by, debt_of, IsLive};
+ghost use Rattle.trace_stream.specs.Debt.{Paid};
 ghost use Rattle.capture_words.specs.Jobs.{IsSoundTask};
 ghost use Rattle.capture_run.specs.Actions.{HasDone, checking, showing};
 ghost use Rattle.source_events.specs.Plan.{is_sound};
@@ -171,15 +172,17 @@ fn run_check<I: Source, O: Sink, N: Sink>(
 /// The action `rebuild`, which read nothing yet.
 fn rebuild(plan: Plan, sync: u32, half: u8) -> Rebuild
     requires few { half ≤ 8 }
-    ensures plan { plan_of result ≡ record { plan = plan; every = sync; halves = half } }
+    ensures plan { plan_of result ≡ record { plan = plan; every = sync; halves = half; funnel = None } }
     ensures stands { Stands result [] }
     ensures count { taken_by result ≡ 0 }
+    ensures paid { debt_of result ≡ Paid }
     ensures live { IsLive result }
 {
     Rebuild::new(RebuildPlan {
         plan,
         every: sync,
         halves: half,
+        funnel: None,
     })
 }
 

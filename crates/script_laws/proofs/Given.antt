@@ -1,4 +1,4 @@
--- What the lines of a script are rebuilt to reads back as what they give.
+-- Frames in which each source has the bytes that the lines of a script put read back as what the lines give.
 use Rattle.std.proofs.Common.{◌≡◌, ◌≢◌, ℕ, zero, suc, ◌≤◌, List, [], ◌∷◌, length, refl, sym, ◌∙◌, ap, subst, arith, true, false, Option, None, Some, map}
 use Rattle.std.specs.Prelude.{flat_map}
 use Rattle.std.specs.List.{All}
@@ -38,7 +38,7 @@ use Rattle.script_text.specs.declared.version_two.Line2.{Line2}
 use Rattle.script_rebuild.specs.Script.{given_packets, given_items, given_puts, given_bytes}
 use Rattle.script_rebuild.specs.Segments.{script_segments}
 use Rattle.script_rebuild.proofs.AllSegments.{items_put}
-use Rattle.script_laws.specs.ReadBack.{aligned, rebuilt, port_of, report_of, said_of, bytes_in, SaysBytes, has_line, ReadsAsGiven}
+use Rattle.script_laws.specs.ReadBack.{aligned, port_of, report_of, said_of, bytes_in, SaysBytes, has_line, ReadsAsGiven}
 use Rattle.script_laws.specs.Puts.{CanAllBePut}
 use Rattle.script_laws.proofs.Said.{all_fit}
 use Rattle.script_laws.proofs.MappedIds.{itm_one, stp_one, none_one, one_itm, one_stp, mapped_low}
@@ -173,9 +173,3 @@ module _ (every halves : ℕ) (plan : Plan) (lines : List Line2) (sound : is_sou
     absent = λ x l e. no_cell capture bytes law x (not_null x l) (kept x ∙ none_bytes plan x sound lines good e);
     no_notice = ap (λ (es : List (Event Packet)). part None es) report_is ∙ merged.of_port;
   }
-
--- so have those that the lines put themselves
-pub reads_as_given : (every halves : ℕ) (plan : Plan) (lines : List Line2) → is_sound plan ≡ true → CanAllBePut plan [] lines →
-    ReadsAsGiven plan lines (rebuilt every halves plan lines)
-reads_as_given every halves plan lines sound good =
-    any_reads_as_given every halves plan lines sound good (script_segments plan lines) (all_sources plan sound lines good) (λ x. refl)

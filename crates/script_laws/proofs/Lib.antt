@@ -15,3 +15,5 @@ pub mod Sources
 pub mod Packets
 pub mod Events
 pub mod Given
+pub mod Kept
+pub mod Ported

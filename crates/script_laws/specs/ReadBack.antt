@@ -1,13 +1,12 @@
 -- What the lines of a script write, read again: the report of the written capture.
-use Rattle.std.specs.Prelude.{◌≡◌, ◌≢◌, ◌≤◌, ℕ, List, [], ◌∷◌, map, flat_map, Bool, false, ◌==◌}
-use Rattle.std.specs.Prelude.{None, Some}
+use Rattle.std.specs.Prelude.{◌≡◌, ◌≢◌, ◌≤◌, ℕ, List, [], ◌∷◌, map, flat_map, Bool, true, false, ◌==◌}
+use Rattle.std.specs.Prelude.{Option, None, Some}
 use Rattle.std.specs.List.{All, list_any}
 use Rattle.trace_values.specs.Placed.{Placed, placed}
 use Rattle.trace_values.specs.declared.reading_modes.FramesMode.TheVariants.{Aligned as FramesAligned}
 use Rattle.trace_values.specs.declared.reading_modes.PacketsMode.TheVariants.{Aligned as PacketsAligned}
 use Rattle.frame_grammar.specs.Reading.{source_list}
 use Rattle.deformatter.specs.PortReading.{PortReading, port_reading, cells_of}
-use Rattle.frame_writer.specs.Written.{written_segments}
 use Rattle.source_events.specs.declared.event.Event.{Event}
 use Rattle.source_events.specs.declared.event.What.{What}
 use Rattle.source_events.specs.declared.event.What.TheVariants.{Locked, Packet as PacketEvent, Raw, Trigger}
@@ -24,7 +23,10 @@ use Rattle.script_text.specs.declared.lines.Line.TheVariants.{Nothing, Of}
 use Rattle.script_text.specs.declared.version_two.Line2.{Line2}
 use Rattle.script_text.specs.declared.version_two.Line2.TheVariants.{One, Flush, Trigger as TriggerLine}
 use Rattle.script_rebuild.specs.Script.{given_packets, given_items, given_bytes}
-use Rattle.script_rebuild.specs.Segments.{script_segments}
+use Rattle.script_rebuild.specs.Rebuilt.{capture_of}
+use Rattle.script_rebuild.specs.declared.plan.RebuildPlan.{RebuildPlan}
+use Rattle.trace_funnel.specs.Order.{are_apart}
+use Rattle.trace_funnel.specs.declared.turns.Turns.{Turns}
 
 -- the plan that a rebuilt capture is read by: the same sources and order, and all from the first byte on
 abbrev pub aligned : Plan → Plan
@@ -36,10 +38,14 @@ aligned plan = record {
   order = plan.order;
 }
 
--- the capture that lines are rebuilt to, with a full synchronisation before each frame whose number is a multiple of
--- `every`, if that isn't 0, and with `halves` half synchronisations in each gap of a frame
-abbrev pub rebuilt : ℕ → ℕ → Plan → List Line2 → List Placed
-rebuilt every halves plan lines = placed (written_segments every halves (script_segments plan lines))
+-- the capture that lines are rebuilt to by a plan, through its funnel if it has one
+abbrev pub rebuilt : RebuildPlan → List Line2 → List Placed
+rebuilt p lines = placed (capture_of p lines)
+
+-- a funnel that gives a byte in each turn and has no place twice, or none
+abbrev pub IsFair : Option Turns → Type 0
+IsFair None = Unit {0}
+IsFair (Some turns) = (1 ≤ turns.hold) × (are_apart turns.order ≡ true)
 
 -- what the port reads there, and the report
 abbrev pub port_of : List Placed → PortReading

@@ -8,7 +8,10 @@ ghost use Rattle.script_text.specs.declared.line_fault.LineFault.{LineFault};
 ghost use Rattle.script_rebuild.specs.Versions.{lines_in, script_of};
 ghost use Rattle.script_laws.specs.Puts.{CanAllBePut};
 ghost use Rattle.script_laws.specs.Reading.{AreLinesOf, EndsWith};
-ghost use Rattle.script_laws.specs.ReadBack.{rebuilt, ReadsAsGiven};
+ghost use Rattle.script_laws.specs.ReadBack.{rebuilt, IsFair, ReadsAsGiven};
+ghost use Rattle.script_rebuild.specs.Rebuilt.{routed_script};
+ghost use Rattle.script_rebuild.specs.Routed.{are_placed};
+ghost use Rattle.script_rebuild.specs.declared.plan.RebuildPlan.{RebuildPlan};
 
 /// A script is read line by line up to its first fault: each line before it is what its text says after the lines
 /// before that. Where there is no fault, every text of the script has its line; or else the fault is that of the text
@@ -22,16 +25,17 @@ pub fn lines_law()
         script_of plan script ≡ record { lines = lines; fault = fault } }
 {}
 
-/// What the lines of a script are rebuilt to, or those before its first fault, reads back as exactly what they give
-/// each source, in whatever order the lines of the sources are, and wherever they are flushed: from the first byte on,
-/// with the same mapped sources and the same order of nibbles.
+/// What the lines of a script are rebuilt to, or those before its first fault and its first line without a place, reads
+/// back as exactly what they give each source, in whatever order the lines of the sources are, wherever they are
+/// flushed, and straight or through a funnel: from the first byte on, with the same mapped sources and the same order of
+/// nibbles.
 pub fn rebuild_law()
-    ensures { (every halves : ℕ) (plan : Plan) (script : List ℕ) → is_sound plan ≡ true →
-        ReadsAsGiven plan (script_of plan script).lines (rebuilt every halves plan (script_of plan script).lines) }
+    ensures { (p : RebuildPlan) (script : List ℕ) → is_sound p.plan ≡ true → IsFair p.funnel →
+        ReadsAsGiven p.plan (routed_script p script).lines (rebuilt p (routed_script p script).lines) }
 {}
 
 /// So does what any lines are rebuilt to that can be put.
 pub fn put_law()
-    ensures { (every halves : ℕ) (plan : Plan) (lines : List Line2) → is_sound plan ≡ true → CanAllBePut plan [] lines →
-        ReadsAsGiven plan lines (rebuilt every halves plan lines) }
+    ensures { (p : RebuildPlan) (lines : List Line2) → is_sound p.plan ≡ true → IsFair p.funnel →
+        CanAllBePut p.plan [] lines → are_placed p.funnel lines ≡ true → ReadsAsGiven p.plan lines (rebuilt p lines) }
 {}

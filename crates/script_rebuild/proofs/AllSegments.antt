@@ -9,7 +9,8 @@ use Rattle.frame_writer.specs.Written.{Tagged, joined}
 use Rattle.script_text.specs.declared.version_two.Line2.{Line2}
 use Rattle.script_text.specs.declared.version_two.Line2.TheVariants.{One, Flush, Trigger}
 use Rattle.script_rebuild.specs.Script.{items_by, given_items, puts_by, given_puts}
-use Rattle.script_rebuild.specs.Segments.{Segments, with_bytes, now_ended, line_bytes, after_line, segments_of}
+use Rattle.port_formatter.specs.Segments.{Segments, with_bytes, now_ended}
+use Rattle.script_rebuild.specs.Segments.{line_bytes, after_line, segments_of}
 use Rattle.script_rebuild.specs.ScriptLaws.{segments_more}
 
 -- the bytes of segments after others

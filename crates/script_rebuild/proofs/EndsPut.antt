@@ -3,32 +3,43 @@ use Rattle.std.proofs.Common.{◌≡◌, ℕ, ◌+◌, ◌<◌, List, [], ◌∷
 use Rattle.std.proofs.Common.{append_assoc, append-nil, arith}
 use Rattle.std.proofs.lemmas.List.{take_all, take_more, map-append}
 use Rattle.std.proofs.lemmas.List.Concat.{flat_map-append}
-use Rattle.std.proofs.lemmas.List.Elements.{All-push}
+use Rattle.std.proofs.lemmas.List.Elements.{All-nil, All-push}
 use Rattle.stp_grammar.specs.declared.packet.Order.{Order}
 use Rattle.stp_encoder.specs.Puts.{Put}
-use Rattle.stp_encoder.specs.Puts.{Flush as FlushPut}
 use Rattle.stp_encoder.specs.Bytes.{end_bytes}
-use Rattle.stp_encoder.specs.Encoder as encoders
-use Rattle.stp_encoder.specs.declared.encoder.StpEncoder.{StpEncoder}
 use Rattle.frame_writer.specs.Written.{Tagged}
-use Rattle.frame_writer.specs.Fronts.{sure_after}
-use Rattle.frame_writer.specs.Sure.{IsSure}
-use Rattle.frame_writer.specs.declared.sure.SureWriter.{SureWriter}
+use Rattle.port_formatter.specs.Formatter.{Puts, Stands, kept_by}
+use Rattle.port_formatter.specs.Port.{sure_of}
+use Rattle.port_formatter.specs.Segments.{Segments, with_bytes}
+use Rattle.port_formatter.specs.declared.formatter.Formatter.{Formatter}
 use Rattle.script_rebuild.specs.declared.encoders.SourceEncoder.{SourceEncoder}
 use Rattle.script_rebuild.specs.Script.{tagged, ends_with}
-use Rattle.script_rebuild.specs.Encoding.{ids_in, AllStand, flushed}
-use Rattle.script_rebuild.specs.Putting.{Puts}
+use Rattle.script_rebuild.specs.Encoding.{ids_in, StandsFor, AllStand, flushed}
 
-puts_both : (a b c : SureWriter) (first second : List Tagged) (out more : List ℕ) →
-    Puts a b first out → Puts b c second more → Puts a c (first ++ second) (out ++ more)
-puts_both a b c first second out more p q = record {
-  list = λ every halves closed t s. subst (IsSure c every halves closed) (append_assoc t first second)
-      (q.list every halves closed (t ++ first) (p.list every halves closed t s));
-  grown = λ every halves closed t s.
-      ap (sure_after every halves closed) (sym (append_assoc t first second))
-      ∙ q.grown every halves closed (t ++ first) (p.list every halves closed t s)
-      ∙ ap (λ (l : List ℕ). l ++ more) (p.grown every halves closed t s)
-      ∙ append_assoc (sure_after every halves closed t) out more;
+-- bytes in the unfinished segment
+abbrev begun_with : Segments → List Tagged → Segments
+begun_with s bytes = record { ended = s.ended; begun = bytes }
+
+puts_both : (a b c : Formatter) (first second : List Tagged) → Puts a b first → Puts b c second → Puts a c (first ++ second)
+puts_both a b c first second p q = record {
+  more = p.more ++ q.more;
+  kept = q.kept ∙ ap (λ (l : List ℕ). l ++ q.more) p.kept ∙ append_assoc (kept_by a) p.more q.more;
+  list = λ port s st. subst (λ (l : List Tagged). Stands c port (begun_with s l)) (append_assoc s.begun first second)
+      (q.list port (with_bytes s first) (p.list port s st));
+  grown = λ port s st.
+      ap (λ (l : List Tagged). sure_of port (begun_with s l)) (sym (append_assoc s.begun first second))
+      ∙ q.grown port (with_bytes s first) (p.list port s st)
+      ∙ ap (λ (l : List ℕ). l ++ q.more) (p.grown port s st)
+      ∙ append_assoc (sure_of port s) p.more q.more;
+}
+
+pub nothing_put : (a : Formatter) → Puts a a []
+nothing_put a = record {
+  more = [];
+  kept = sym (append-nil (kept_by a));
+  list = λ port s st. subst (λ (l : List Tagged). Stands a port (begun_with s l)) (sym (append-nil s.begun)) st;
+  grown = λ port s st.
+      ap (λ (l : List Tagged). sure_of port (begun_with s l)) (append-nil s.begun) ∙ sym (append-nil (sure_of port s));
 }
 
 -- with one more source
@@ -52,36 +63,29 @@ ends_more order given slots i d lt =
 
 -- the first of these encoders are flushed, and the bytes of their nibbles are put
 pub record Flushed (order : Order) (given : ℕ → List Put) (slots : List SourceEncoder) (i : ℕ)
-    (later : List SourceEncoder) (a b : SureWriter) (out : List ℕ) : Type 0 where
+    (later : List SourceEncoder) (a b : Formatter) : Type 0 where
   pub stand : AllStand order later (flushed given)
-  pub put : Puts a b (ends_with order given (ids_in (take i slots))) out
+  pub put : Puts a b (ends_with order given (ids_in (take i slots)))
+
+pub none_flushed : (order : Order) (given : ℕ → List Put) (slots : List SourceEncoder) (a : Formatter) →
+    Flushed order given slots 0 [] a a
+none_flushed order given slots a = record { stand = All-nil (StandsFor order (flushed given)); put = nothing_put a }
 
 pub one_flushed : (order : Order) (given : ℕ → List Put) (slots : List SourceEncoder) (i : ℕ) (d : SourceEncoder)
-    (later : List SourceEncoder) (next : StpEncoder) (a b c : SureWriter) (bytes out more new : List ℕ) →
-    i < length slots → d ≡ get_or slots i d → AllStand order slots given →
-    encoders.order_of next ≡ encoders.order_of d.encoder →
-    ((puts : List Put) → encoders.Stands d.encoder puts → encoders.Stands next (puts ++ FlushPut ∷ [])) →
-    ((puts : List Put) → encoders.Stands d.encoder puts → bytes ≡ end_bytes (encoders.order_of d.encoder) puts) →
-    Flushed order given slots i later a b out → Puts b c (tagged d.id bytes) more → new ≡ out ++ more →
-    Flushed order given slots (i + 1) (later ++ record { id = d.id; encoder = next } ∷ []) a c new
-one_flushed order given slots i d later next a b c bytes out more new lt is stand same list ends before put e =
-    let one = subst (λ (s : SourceEncoder). (encoders.order_of s.encoder ≡ order) × encoders.Stands s.encoder (given s.id))
-    (sym is) (stand i d lt) in
-    let written : bytes ≡ end_bytes order (given d.id) =
-    ends (given d.id) one.1 ∙ ap (λ (o : Order). end_bytes o (given d.id)) one.0 in
-    let last = subst (λ (l : List ℕ). Puts b c (tagged d.id l) more) written put in
-    let moved = subst (λ (s : SourceEncoder). Puts b c (tagged s.id (end_bytes order (given s.id))) more) is last in
+    (later : List SourceEncoder) (next : SourceEncoder) (a b c : Formatter) → i < length slots → d ≡ get_or slots i d →
+    StandsFor order (flushed given) next → Puts b c (tagged d.id (end_bytes order (given d.id))) →
+    Flushed order given slots i later a b → Flushed order given slots (i + 1) (later ++ next ∷ []) a c
+one_flushed order given slots i d later next a b c lt is stand put before =
+    let moved = subst (λ (s : SourceEncoder). Puts b c (tagged s.id (end_bytes order (given s.id)))) is put in
     record {
-      stand = All-push (λ e. (encoders.order_of e.encoder ≡ order) × encoders.Stands e.encoder (flushed given e.id)) later
-          (record { id = d.id; encoder = next }) before.stand (same ∙ one.0, list (given d.id) one.1);
-      put = subst (Puts a c (ends_with order given (ids_in (take (i + 1) slots)))) (sym e)
-          (subst (λ (l : List Tagged). Puts a c l (out ++ more)) (sym (ends_more order given slots i d lt))
-          (puts_both a b c _ _ out more before.put moved));
+      stand = All-push (StandsFor order (flushed given)) later next before.stand stand;
+      put = subst (λ (l : List Tagged). Puts a c l) (sym (ends_more order given slots i d lt))
+          (puts_both a b c _ _ before.put moved);
     }
 
-pub all_flushed : (order : Order) (given : ℕ → List Put) (slots : List SourceEncoder) (i : ℕ) (a b : SureWriter)
-    (out : List ℕ) → i ≡ length slots → Puts a b (ends_with order given (ids_in (take i slots))) out →
-    Puts a b (ends_with order given (ids_in slots)) out
-all_flushed order given slots i a b out e put =
-    subst (λ (l : List SourceEncoder). Puts a b (ends_with order given (ids_in l)) out)
+pub all_flushed : (order : Order) (given : ℕ → List Put) (slots : List SourceEncoder) (i : ℕ) (a b : Formatter) →
+    i ≡ length slots → Puts a b (ends_with order given (ids_in (take i slots))) →
+    Puts a b (ends_with order given (ids_in slots))
+all_flushed order given slots i a b e put =
+    subst (λ (l : List SourceEncoder). Puts a b (ends_with order given (ids_in l)))
     (take_all i slots (omega (arith, e))) put

@@ -32,7 +32,11 @@ use Rattle.script_rebuild.specs.declared.writer.LineWriter.{LineWriter}
 use Rattle.script_rebuild.specs.Script.{in_order}
 use Rattle.script_rebuild.specs.Segments.{sure_lines}
 use Rattle.script_rebuild.specs.Versions.{header, says, says_one, fitting}
-use Rattle.script_rebuild.specs.PutLine.{PutsLine, PutsAfter, IsFor}
+use Rattle.script_rebuild.specs.PutLine.{PutsLine, PutsAfter, IsFor, says_placed}
+use Rattle.script_rebuild.specs.Rebuilt.{port_of}
+use Rattle.script_rebuild.specs.Routed.{placed, puttable, line_if}
+use Rattle.script_rebuild.specs.declared.plan.RebuildPlan.{RebuildPlan}
+use Rattle.trace_funnel.specs.declared.turns.Turns.{Turns}
 use Rattle.script_rebuild.specs.Writer.{CanBePut, stp_of}
 use Rattle.script_rebuild.proofs.InOrder.{in_order_among}
 
@@ -94,30 +98,35 @@ pub says_new : (plan : Plan) (lines : List Line2) (text : List ℕ) (answer : Re
 says_new plan lines text answer e = ap (λ r. r >>= fitting lines) (sym e)
 
 -- the putting of a line that the text says
-pub puts_said : (plan : Plan) (version : Version) (text : List ℕ) (w new : LineWriter) (every halves : ℕ) (lines : List Line2)
-    (line : Line2) (answer : Result (Unit {0}) LineFault) (more : List ℕ) → IsFor plan w →
-    says plan version lines text ≡ fitting lines line →
-    PutsAfter w new every halves lines (record { line = line; answer = answer; more = more }) →
-    OnOk answer (PutsLine plan version text new every halves lines more)
-puts_said plan version text w new every halves lines line (Ok done) more suits same put =
-    let sure : Order → List ℕ → List Line2 → List ℕ = λ order ids l. sure_lines every halves order ids l in
-    let now = lines ++ line ∷ [] in
-    record {
-      line = line;
-      said = same ∙ put.fits;
-      stands = put.list;
-      grown = subst (λ (ids : List ℕ). sure plan.order ids now ≡ sure plan.order ids lines ++ more) suits.stp
-          (subst (λ (o : Order). sure o (stp_of w) now ≡ sure o (stp_of w) lines ++ more) suits.order put.grown);
-    }
-puts_said plan version text w new every halves lines line (Err fault) more suits same put = tt
+module _ (p : RebuildPlan) (version : Version) (text : List ℕ) (w new : LineWriter) (lines : List Line2) (line : Line2)
+    (suits : IsFor p w) (same : says p.plan version lines text ≡ fitting lines line) where
+  placed_said : (answer : Result (Unit {0}) LineFault) → PutsAfter w new (port_of p) lines line answer →
+      says_placed p version lines text ≡ line_if answer line
+  placed_said answer put =
+      ap (λ (r : Result Line2 LineFault). r >>= placed p.funnel) same
+      ∙ ap (λ (f : Option Turns). puttable f lines line) (sym suits.turns) ∙ put.told
 
-pub unfit_said : (plan : Plan) (version : Version) (text : List ℕ) (w new : LineWriter) (every halves : ℕ) (lines : List Line2)
-    (line : Line2) (answer : Result (Unit {0}) LineFault) (more : List ℕ) →
-    says plan version lines text ≡ fitting lines line →
-    PutsAfter w new every halves lines (record { line = line; answer = answer; more = more }) →
-    IfErr answer (λ fault. says plan version lines text ≡ Err fault)
-unfit_said plan version text w new every halves lines line (Ok done) more same put = tt
-unfit_said plan version text w new every halves lines line (Err fault) more same put = same ∙ put.unfit
+  pub puts_said : (answer : Result (Unit {0}) LineFault) → PutsAfter w new (port_of p) lines line answer →
+      OnOk answer (PutsLine p version text w new lines)
+  puts_said (Ok done) put =
+      let now = lines ++ line ∷ [] in
+      let sure : Order → List ℕ → List Line2 → List ℕ = λ order ids l. sure_lines (port_of p) order ids l in
+      let more = put.adds.more in
+      record {
+        line = line;
+        said = placed_said (Ok done) put;
+        stands = put.adds.stands;
+        more = more;
+        kept = put.adds.kept;
+        grown = subst (λ (ids : List ℕ). sure p.plan.order ids now ≡ sure p.plan.order ids lines ++ more) suits.stp
+            (subst (λ (o : Order). sure o (stp_of w) now ≡ sure o (stp_of w) lines ++ more) suits.order put.adds.grown);
+      }
+  puts_said (Err fault) put = tt
+
+  pub unfit_said : (answer : Result (Unit {0}) LineFault) → PutsAfter w new (port_of p) lines line answer →
+      IfErr answer (λ fault. says_placed p version lines text ≡ Err fault)
+  unfit_said (Ok done) put = tt
+  unfit_said (Err fault) put = placed_said (Err fault) put
 
 -- a line that says a packet, where its source is one of packets
 module _ (plan : Plan) (text : List ℕ) (found : PacketLine) (says : IsPacketOf text found.id found.packet) (kind : kind_of plan found.id ≡ Some kinds.Itm) where

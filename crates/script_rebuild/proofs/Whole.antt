@@ -1,18 +1,18 @@
 -- Scripts at their end.
 use Rattle.std.proofs.Common.{◌≡◌, ℕ, ◌+◌, ◌≤◌, List, [], ◌∷◌, ◌++◌, refl, sym, ◌∙◌, ap, Option, Some, None, Result, Ok, Err, length, length-append, arith}
 use Rattle.source_events.specs.declared.plan.Plan.{Plan}
-use Rattle.frame_writer.specs.Written.{written_segments}
 use Rattle.script_text.specs.declared.version_two.Line2.{Line2}
 use Rattle.script_text.specs.declared.line_fault.LineFault.{LineFault}
 use Rattle.script_text.specs.declared.line_fault.LineFault.TheVariants.{LongLine}
 use Rattle.script_rebuild.specs.declared.version.Version.{Version}
 use Rattle.script_rebuild.specs.declared.version.Version.TheVariants.{Unknown}
 use Rattle.script_rebuild.specs.Script.{in_order}
-use Rattle.script_rebuild.specs.Segments.{segments_with_ends}
 use Rattle.script_rebuild.specs.Versions.{read_in, read_texts, says, version_after, version_then, script_of}
 use Rattle.script_rebuild.specs.ScriptLaws.{sure_whole}
 use Rattle.script_rebuild.specs.declared.plan.RebuildPlan.{RebuildPlan}
-use Rattle.script_rebuild.specs.Rebuilt.{read_so_far, text, ending, left_of, script_capture, IsFirstFault}
+use Rattle.script_rebuild.specs.Rebuilt.{read_so_far, port_of, routed_so_far, routed_script, text, ending, left_of}
+use Rattle.script_rebuild.specs.Rebuilt.{capture_of, script_capture, IsFirstFault}
+use Rattle.script_rebuild.specs.RoutedLaws.{lines_extend, all_placed}
 use Rattle.script_rebuild.specs.ReadingLaws.{with_answer, read_first}
 use Rattle.script_rebuild.specs.GrowthLaws.{end_extends}
 use Rattle.script_rebuild.proofs.Taking.{behind_front}
@@ -20,19 +20,19 @@ use Rattle.script_rebuild.proofs.Taking.{behind_front}
 -- the text is a front of the capture
 text_begins : (p : RebuildPlan) (bytes : List ℕ) → p.halves ≤ 8 → (rest : List ℕ) × (script_capture p bytes ≡ text p bytes ++ rest)
 text_begins p bytes few =
-    let order = p.plan.order in
-    let ids = in_order p.plan.stp in
-    let longer = end_extends p.plan bytes in
-    let whole = sure_whole p.every p.halves order ids (read_so_far p.plan bytes).lines longer.more few in
-    (whole.0, ap (λ l. written_segments p.every p.halves (segments_with_ends order ids l)) longer.all ∙ whole.1)
+    let longer = lines_extend p.funnel (read_so_far p.plan bytes) (script_of p.plan bytes) (end_extends p.plan bytes) in
+    let whole = sure_whole (port_of p) p.plan.order (in_order p.plan.stp) (routed_so_far p bytes).lines longer.more few in
+    (whole.0, ap (λ (l : List Line2). capture_of p l) longer.all ∙ whole.1)
 
--- with what comes after it, it is the capture
-pub text_and_ending : (p : RebuildPlan) (bytes : List ℕ) → p.halves ≤ 8 → (script_of p.plan bytes).fault ≡ None → text p bytes ++ ending p bytes ≡ script_capture p bytes
+-- with what comes after it, it is the capture of all lines
+pub text_and_ending : (p : RebuildPlan) (bytes : List ℕ) → p.halves ≤ 8 → (routed_script p bytes).fault ≡ None →
+    text p bytes ++ ending p bytes ≡ capture_of p (script_of p.plan bytes).lines
 text_and_ending p bytes few none =
     let begins = text_begins p bytes few in
-    ap (λ f. text p bytes ++ left_of (script_capture p bytes) (text p bytes) f) none
-    ∙ ap (λ l. text p bytes ++ l) (behind_front (text p bytes) begins.0 (script_capture p bytes) begins.1)
+    ap (λ (f : Option (ℕ × LineFault)). text p bytes ++ left_of (script_capture p bytes) (text p bytes) f) none
+    ∙ ap (λ (l : List ℕ). text p bytes ++ l) (behind_front (text p bytes) begins.0 (script_capture p bytes) begins.1)
     ∙ sym begins.1
+    ∙ ap (λ (l : List Line2). capture_of p l) (all_placed p.funnel (script_of p.plan bytes) none).same
 
 -- the first fault after some lines
 record FaultAfter (plan : Plan) (version : Version) (lines : List Line2) (texts : List (List ℕ)) (number : ℕ) (fault : LineFault) : Type 0 where

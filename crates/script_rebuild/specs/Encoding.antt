@@ -1,20 +1,28 @@
 -- The encoders of system traces, and what they have to stand for, so that an item is written.
-use Rattle.std.specs.Prelude.{◌≡◌, ◌<◌, ℕ, List, [], ◌∷◌, ◌++◌, length, map, ◌==◌, if◌then◌else◌, slice_index_or, true}
-use Rattle.std.specs.Prelude.{Result, Ok, Err}
-use Rattle.std.specs.Result.{IfErr, OnOk}
+use Rattle.std.specs.Prelude.{◌≡◌, ◌<◌, ℕ, List, [], ◌∷◌, ◌++◌, length, map, ◌==◌, if◌then◌else◌, slice_index_or, true, false}
+use Rattle.std.specs.Prelude.{Option, Result}
+use Rattle.std.specs.Result.{OnOk}
 use Rattle.std.specs.List.{All, list_any}
 use Rattle.stp_grammar.specs.declared.packet.Order.{Order}
 use Rattle.stp_encoder.specs.Puts.{Put, items_in, unmarked}
 use Rattle.stp_encoder.specs.Puts.{Flush as FlushPut}
 use Rattle.stp_encoder.specs.Encoder as encoders
-use Rattle.frame_writer.specs.declared.sure.SureWriter.{SureWriter}
+use Rattle.stp_encoder.specs.Bytes.{end_bytes}
+use Rattle.port_formatter.specs.Formatter.{Puts}
+use Rattle.port_formatter.specs.Port.{has_place}
+use Rattle.port_formatter.specs.declared.formatter.Formatter.{Formatter}
+use Rattle.trace_funnel.specs.declared.turns.Turns.{Turns}
 use Rattle.script_text.specs.declared.items.Item.{Item}
 use Rattle.script_text.specs.declared.items.Item.TheVariants.{Stp}
-use Rattle.script_text.specs.declared.lines.Line.{Line}
+use Rattle.script_text.specs.declared.lines.Line.TheVariants.{Of as OfLine}
+use Rattle.script_text.specs.declared.version_two.Line2.{Line2}
+use Rattle.script_text.specs.declared.version_two.Line2.TheVariants.{One}
+use Rattle.script_text.specs.Lines.{◌>>=◌}
+use Rattle.script_text.specs.VersionTwo.{as_one}
 use Rattle.script_text.specs.declared.line_fault.LineFault.{LineFault}
 use Rattle.script_rebuild.specs.Script.{items_of, item_bytes, tagged}
 use Rattle.script_rebuild.specs.Versions.{fitting_item}
-use Rattle.script_rebuild.specs.Putting.{Puts}
+use Rattle.script_rebuild.specs.Routed.{placed, line_if}
 use Rattle.script_rebuild.specs.declared.encoders.SourceEncoder.{SourceEncoder}
 
 abbrev pub ids_in : List SourceEncoder → List ℕ
@@ -24,10 +32,12 @@ ids_in slots = map (λ e. e.id) slots
 abbrev pub IsRising : List ℕ → Type 0
 IsRising xs = (j k d : ℕ) → j < k → k < length xs → slice_index_or xs j d < slice_index_or xs k d
 
--- each stands for what its source was given, and writes numbers in this order of their nibbles
+-- it stands for what its source was given, and writes numbers in this order of their nibbles
+abbrev pub StandsFor : Order → (ℕ → List Put) → SourceEncoder → Type 0
+StandsFor order given e = (encoders.order_of e.encoder ≡ order) × encoders.Stands e.encoder (given e.id)
+
 abbrev pub AllStand : Order → List SourceEncoder → (ℕ → List Put) → Type 0
-AllStand order slots given =
-    All (λ e. (encoders.order_of e.encoder ≡ order) × encoders.Stands e.encoder (given e.id)) slots
+AllStand order slots given = All (StandsFor order given) slots
 
 -- an item of a system trace is one of a source of such items
 abbrev pub IsOfSource : List ℕ → ℕ → Item → Type 0
@@ -55,20 +65,29 @@ given_after next x = next.given x ++ unmarked (if next.id == x then items_of nex
 abbrev pub flushed : (ℕ → List Put) → ℕ → List Put
 flushed given x = given x ++ FlushPut ∷ []
 
--- what its putting left, and what became sure with it
+-- of a source without a place nothing is kept
+abbrev pub KeepsPlaced : Option Turns → Order → (ℕ → List Put) → ℕ → Type 0
+KeepsPlaced funnel order given x = has_place funnel x ≡ false → end_bytes order (given x) ≡ []
+
+-- what its putting left
 pub record Left : Type 0 where
   pub encoders : List SourceEncoder
-  pub old : SureWriter
-  pub new : SureWriter
-  pub more : List ℕ
+  pub old : Formatter
+  pub new : Formatter
 
--- the encoders stand for it too, and its bytes were put
-pub record IsPut (next : NextItem) (left : Left) : Type 0 where
+-- its source has a place, the encoders stand for it too, and its bytes were put
+pub record IsPut (funnel : Option Turns) (next : NextItem) (left : Left) : Type 0 where
+  pub place : has_place funnel next.id ≡ true
   pub stand : AllStand next.order left.encoders (given_after next)
-  pub put : Puts left.old left.new (tagged next.id (item_bytes next.order (next.given next.id) next.item)) left.more
+  pub put : Puts left.old left.new (tagged next.id (item_bytes next.order (next.given next.id) next.item))
 
--- the answer is good exactly where the item can be written, and then it is put
-pub record Answers (next : NextItem) (line : Line) (answer : Result (Unit {0}) LineFault) (left : Left) : Type 0 where
-  pub fits : OnOk answer (fitting_item line (items_in (next.given next.id)) next.item ≡ Ok line)
-  pub unfit : IfErr answer (λ fault. fitting_item line (items_in (next.given next.id)) next.item ≡ Err fault)
-  pub put : OnOk answer (IsPut next left)
+-- the line of it, where it fits after what its source was given, and has a place
+abbrev pub line_for : Option Turns → NextItem → Result Line2 LineFault
+line_for funnel next =
+    as_one (fitting_item (OfLine next.id next.item) (items_in (next.given next.id)) next.item) >>= placed funnel
+
+-- the answer is good exactly where the item can be put, and then it is
+pub record Answers (funnel : Option Turns) (next : NextItem) (answer : Result (Unit {0}) LineFault) (left : Left)
+    : Type 0 where
+  pub told : line_for funnel next ≡ line_if answer (One (OfLine next.id next.item))
+  pub put : OnOk answer (IsPut funnel next left)

@@ -1,7 +1,7 @@
 pub mod Script
 pub mod Segments
 pub mod Versions
-pub mod Putting
+pub mod Routed
 pub mod Encoding
 pub mod Writer
 pub mod ScriptLaws
@@ -10,6 +10,7 @@ pub mod Rebuilt
 pub mod SplitLaws
 pub mod ReadingLaws
 pub mod GrowthLaws
+pub mod RoutedLaws
 pub mod RebuiltLaws
 pub mod PutLine
 pub mod Rebuilder

@@ -1,45 +1,68 @@
 -- What the putting of a line does, and what is known of a line's text.
-use Rattle.std.specs.Prelude.{◌≡◌, ◌≤◌, ℕ, List, [], ◌∷◌, ◌++◌, length, Option, IfSome, Result, Ok, Err}
-use Rattle.std.specs.Result.{IfErr, OnOk}
+use Rattle.std.specs.Prelude.{◌≡◌, ◌≤◌, ℕ, List, [], ◌∷◌, ◌++◌, length, Option, IfSome, Result, Ok}
+use Rattle.std.specs.Result.{OnOk}
+use Rattle.port_formatter.specs.Port.{Port, written}
 use Rattle.source_events.specs.declared.plan.Plan.{Plan}
 use Rattle.script_text.specs.declared.version_two.Line2.{Line2}
+use Rattle.script_text.specs.declared.version_two.Line2.TheVariants.{Flush}
 use Rattle.script_text.specs.declared.line_fault.LineFault.{LineFault}
 use Rattle.script_text.specs.declared.quick.PacketLine.{PacketLine}
+use Rattle.script_text.specs.Lines.{◌>>=◌}
 use Rattle.script_text.specs.Quick.{IsPacketOf}
+use Rattle.script_rebuild.specs.declared.plan.RebuildPlan.{RebuildPlan}
 use Rattle.script_rebuild.specs.declared.version.Version.{Version}
+use Rattle.script_rebuild.specs.Rebuilt.{port_of}
+use Rattle.script_rebuild.specs.Routed.{placed, puttable, line_if}
 use Rattle.script_rebuild.specs.Script.{in_order}
-use Rattle.script_rebuild.specs.Segments.{sure_lines}
-use Rattle.script_rebuild.specs.Versions.{says, fitting}
-use Rattle.script_rebuild.specs.Writer.{Stands, order_of, stp_of}
+use Rattle.script_rebuild.specs.Segments.{segments_with_ends, sure_lines}
+use Rattle.script_rebuild.specs.Versions.{says}
+use Rattle.script_rebuild.specs.Writer.{Stands, order_of, stp_of, turns_of, kept_by}
 use Rattle.script_rebuild.specs.declared.writer.LineWriter.{LineWriter}
 
--- the text says a line after these, the writer stands for it too, and this is what became sure with it
-pub record PutsLine (plan : Plan) (version : Version) (text : List ℕ) (new : LineWriter) (every halves : ℕ)
-    (lines : List Line2) (out : List ℕ) : Type 0 where
-  pub line : Line2
-  pub said : says plan version lines text ≡ Ok line
-  pub stands : Stands new every halves (lines ++ line ∷ [])
-  pub grown : sure_lines every halves plan.order (in_order plan.stp) (lines ++ line ∷ [])
-      ≡ sure_lines every halves plan.order (in_order plan.stp) lines ++ out
-
--- a line that is put, the answer, and what became sure
-pub record LinePut : Type 0 where
-  pub line : Line2
-  pub answer : Result (Unit {0}) LineFault
+-- the writer stands for one more line, and what became sure with it is kept
+pub record Adds (old new : LineWriter) (port : Port) (lines : List Line2) (line : Line2) : Type 0 where
+  pub stands : Stands new port (lines ++ line ∷ [])
   pub more : List ℕ
+  pub kept : kept_by new ≡ kept_by old ++ more
+  pub grown : sure_lines port (order_of old) (stp_of old) (lines ++ line ∷ [])
+      ≡ sure_lines port (order_of old) (stp_of old) lines ++ more
 
--- the answer is good exactly where the line fits after these, and then the writer stands for it too
-pub record PutsAfter (old new : LineWriter) (every halves : ℕ) (lines : List Line2) (put : LinePut) : Type 0 where
-  pub fits : OnOk put.answer (fitting lines put.line ≡ Ok put.line)
-  pub unfit : IfErr put.answer (λ fault. fitting lines put.line ≡ Err fault)
-  pub list : OnOk put.answer (Stands new every halves (lines ++ put.line ∷ []))
-  pub grown : OnOk put.answer (sure_lines every halves (order_of old) (stp_of old) (lines ++ put.line ∷ [])
-      ≡ sure_lines every halves (order_of old) (stp_of old) lines ++ put.more)
+-- the answer is good exactly where the line can be put after these, and then it is added
+pub record PutsAfter (old new : LineWriter) (port : Port) (lines : List Line2) (line : Line2)
+    (answer : Result (Unit {0}) LineFault) : Type 0 where
+  pub told : puttable (turns_of old) lines line ≡ line_if answer line
+  pub adds : OnOk answer (Adds old new port lines line)
 
--- a writer for the sources of a plan
-pub record IsFor (plan : Plan) (w : LineWriter) : Type 0 where
-  pub order : order_of w ≡ plan.order
-  pub stp : stp_of w ≡ in_order plan.stp
+-- a flush is added, and with what became sure all is, if nothing comes after it
+pub record Flushes (old new : LineWriter) (port : Port) (lines : List Line2) : Type 0 where
+  pub adds : Adds old new port lines Flush
+  pub all : written port (segments_with_ends (order_of old) (stp_of old) lines)
+      ≡ sure_lines port (order_of old) (stp_of old) lines ++ adds.more
+
+-- a writer for a plan
+pub record IsFor (p : RebuildPlan) (w : LineWriter) : Type 0 where
+  pub order : order_of w ≡ p.plan.order
+  pub stp : stp_of w ≡ in_order p.plan.stp
+  pub turns : turns_of w ≡ p.funnel
+
+-- what a text says after these lines, where that can be put
+abbrev pub says_placed : RebuildPlan → Version → List Line2 → List ℕ → Result Line2 LineFault
+says_placed p version lines text = says p.plan version lines text >>= placed p.funnel
+
+-- some line is said
+abbrev pub SaysLine : Result Line2 LineFault → Type 0
+SaysLine said = (line : Line2) × (said ≡ Ok line)
+
+-- the text says a line after these, the writer stands for it too, and what became sure with it is kept
+pub record PutsLine (p : RebuildPlan) (version : Version) (text : List ℕ) (old new : LineWriter) (lines : List Line2)
+    : Type 0 where
+  pub line : Line2
+  pub said : says_placed p version lines text ≡ Ok line
+  pub stands : Stands new (port_of p) (lines ++ line ∷ [])
+  pub more : List ℕ
+  pub kept : kept_by new ≡ kept_by old ++ more
+  pub grown : sure_lines (port_of p) p.plan.order (in_order p.plan.stp) (lines ++ line ∷ [])
+      ≡ sure_lines (port_of p) p.plan.order (in_order p.plan.stp) lines ++ more
 
 -- a line's text, with the packet that was found in it, if one was
 abbrev pub IsText : List ℕ → Option PacketLine → Type 0

@@ -1,6 +1,7 @@
 -- What the action stands for.
-use Rattle.std.specs.Prelude.{◌≡◌, ℕ, List, [], ◌∷◌, ◌++◌, length, None, option_map, Bool, false}
+use Rattle.std.specs.Prelude.{◌≡◌, ℕ, List, [], ◌∷◌, ◌++◌, length, Option, None, Some, is_some, option_map, Bool, true, false}
 use Rattle.frame_writer.specs.Fronts.{all_but_last}
+use Rattle.port_formatter.specs.Owed.{last_of}
 use Rattle.script_rebuild.specs.Writer as writers
 use Rattle.script_text.specs.declared.line_fault.LineFault.{LineFault}
 use Rattle.script_rebuild.specs.declared.plan.RebuildPlan.{RebuildPlan}
@@ -8,7 +9,8 @@ use Rattle.script_rebuild.specs.declared.plan.ScriptFault.{ScriptFault}
 use Rattle.script_rebuild.specs.declared.rebuild.Rebuild.{Rebuild}
 use Rattle.script_rebuild.specs.declared.version.Version.TheVariants.{Unknown}
 use Rattle.script_rebuild.specs.Versions.{lines_in, version_then}
-use Rattle.script_rebuild.specs.Rebuilt.{open_line, read_so_far, text, rebuild_meaning}
+use Rattle.script_rebuild.specs.Rebuilt.{open_line, port_of, routed_so_far, routed_script, text, ending, rebuild_meaning}
+use Rattle.trace_stream.specs.Debt.{Debt, owing, with_debt}
 use Rattle.trace_stream.specs.Taken.{HasTaken}
 
 -- a fault as its line's number and its cause
@@ -21,29 +23,49 @@ plan_of r = r.plan
 abbrev pub taken_by : Rebuild → ℕ
 taken_by r = r.count
 
--- it may be fed while it has no fault
-abbrev pub IsLive : Rebuild → Type 0
-IsLive r = r.fault ≡ None
+-- it may be fed while it has no fault and the script is not at its end
+pub record IsLive (r : Rebuild) : Type 0 where
+  pub sound : r.fault ≡ None
+  pub reading : r.owed ≡ None
+
+-- What it owes: while it reads, all that is kept, which is given away; after the end so many of the last bytes of what
+-- is kept.
+abbrev pub debt_with : Option ℕ → List ℕ → Debt
+debt_with None kept = owing kept (length kept)
+debt_with (Some owed) kept = owing (last_of owed kept) owed
+
+abbrev pub debt_of : Rebuild → Debt
+debt_of r = debt_with r.owed (writers.kept_by r.writer)
 
 -- how many bytes of the open line it keeps
 abbrev pub open_len : Rebuild → ℕ
 open_len r = length r.line.items
 
--- It keeps the first fault of these bytes, its writer stands for the lines before it, and while there is none it keeps
--- the open line, counts the lines before, and knows what they tell of the version.
-pub record Stands (r : Rebuild) (seen : List ℕ) : Type 0 where
+-- While it reads, it keeps the first fault of these bytes, its writer stands for the lines before it, and while there is
+-- none it keeps the open line, counts the lines before, and knows what they tell of the version.
+pub record Reads (r : Rebuild) (seen : List ℕ) : Type 0 where
   pub count : r.count ≡ length seen
-  pub fault : option_map told r.fault ≡ (read_so_far r.plan.plan seen).fault
+  pub fault : option_map told r.fault ≡ (routed_so_far r.plan seen).fault
   pub open_bytes : r.fault ≡ None → r.line.items ≡ open_line seen
-  pub lines : r.fault ≡ None → r.lines ≡ length (read_so_far r.plan.plan seen).lines
+  pub lines : r.fault ≡ None → r.lines ≡ length (routed_so_far r.plan seen).lines
   pub version : r.fault ≡ None → r.version ≡ version_then Unknown (all_but_last (lines_in seen))
-  pub writer : writers.Stands r.writer r.plan.every r.plan.halves (read_so_far r.plan.plan seen).lines
+  pub writer : writers.Stands r.writer (port_of r.plan) (routed_so_far r.plan seen).lines
 
--- it took one more byte, and the outlet gained what became sure with it
+-- After the end it keeps the fault of the script, and all that comes after its text.
+pub record HasEnded (r : Rebuild) (seen : List ℕ) : Type 0 where
+  pub fault : option_map told r.fault ≡ (routed_script r.plan seen).fault
+  pub kept : writers.kept_by r.writer ≡ ending r.plan seen
+
+-- it took these bytes, and reads on, or has ended
+pub record Stands (r : Rebuild) (seen : List ℕ) : Type 0 where
+  pub reads : r.owed ≡ None → Reads r seen
+  pub ended : is_some r.owed ≡ true → HasEnded r seen
+
+-- it took one more byte, and the outlet gained what became sure with it, or it is owed
 pub record TakesByte (old new : Rebuild) (seen : List ℕ) (byte : ℕ) (before after : List ℕ) : Type 0 where
-  pub stands : Stands new (seen ++ byte ∷ [])
+  pub reads : Reads new (seen ++ byte ∷ [])
   pub more : List ℕ
-  pub gained : after ≡ before ++ more
+  pub gained : with_debt after (debt_of new) ≡ before ++ more
   pub grown : text old.plan (seen ++ byte ∷ []) ≡ text old.plan seen ++ more
 
 -- the first is the second with this text as its open line
@@ -59,6 +81,7 @@ pub record IsOpen (mid r : Rebuild) (line : List ℕ) : Type 0 where
 -- it took a front of a piece, and may be fed more where that has no fault
 pub record Feeds (old new : Rebuild) (front before after : List ℕ) (is_faulty : Bool) : Type 0 where
   pub same : plan_of new ≡ plan_of old
-  pub live : is_faulty ≡ false → IsLive new
-  pub fed : (seen : List ℕ) → Stands old seen → HasTaken (Stands new) (rebuild_meaning old.plan)
-      (record { seen = seen; front = front; before = before; after = after }) is_faulty
+  pub reading : new.owed ≡ None
+  pub live : is_faulty ≡ false → new.fault ≡ None
+  pub fed : (seen : List ℕ) → Reads old seen → HasTaken (Reads new) (rebuild_meaning old.plan)
+      (record { seen = seen; front = front; before = before; after = with_debt after (debt_of new) }) is_faulty

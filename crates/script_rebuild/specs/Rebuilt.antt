@@ -3,10 +3,12 @@ use Rattle.std.specs.Prelude.{◌≡◌, ℕ, ◌+◌, List, [], ◌∷◌, ◌+
 use Rattle.std.specs.Prelude.{if◌then◌else◌, Option, None, Some, is_some, Err, false}
 use Rattle.trace_stream.specs.Served.{Meaning}
 use Rattle.source_events.specs.declared.plan.Plan.{Plan}
-use Rattle.frame_writer.specs.Written.{written_segments}
 use Rattle.frame_writer.specs.Fronts.{all_but_last}
+use Rattle.port_formatter.specs.Port.{Port, written}
 use Rattle.script_text.specs.declared.line_fault.LineFault.{LineFault}
+use Rattle.script_text.specs.declared.version_two.Line2.{Line2}
 use Rattle.script_rebuild.specs.declared.version.Version.TheVariants.{Unknown}
+use Rattle.script_rebuild.specs.Routed.{routed_by}
 use Rattle.script_rebuild.specs.Script.{in_order}
 use Rattle.script_rebuild.specs.Segments.{sure_lines, script_segments}
 use Rattle.script_rebuild.specs.Versions.{lines_in, Reading, read_texts, says, script_of, version_then}
@@ -33,17 +35,32 @@ certain_lines bytes = all_but_last (lines_in bytes) ++ too_long (open_line bytes
 abbrev pub read_so_far : Plan → List ℕ → Reading
 read_so_far plan bytes = read_texts plan (certain_lines bytes)
 
--- one of them has a fault
+-- how what lines put goes to the port
+abbrev pub port_of : RebuildPlan → Port
+port_of p = record { every = p.every; halves = p.halves; funnel = p.funnel }
+
+-- what is read of the certain lines, and of all where the script is at its end, up to the first that has a fault or no
+-- place
+abbrev pub routed_so_far : RebuildPlan → List ℕ → Reading
+routed_so_far p bytes = routed_by p.funnel (read_so_far p.plan bytes)
+
+abbrev pub routed_script : RebuildPlan → List ℕ → Reading
+routed_script p bytes = routed_by p.funnel (script_of p.plan bytes)
+
+-- one of the certain lines has a fault
 abbrev pub IsFaulty : RebuildPlan → List ℕ → Type 0
-IsFaulty p bytes = is_some (read_so_far p.plan bytes).fault ≡ true
+IsFaulty p bytes = is_some (routed_so_far p bytes).fault ≡ true
 
 -- what is written for them: what is sure of the capture of all that the lines before the first fault put
 abbrev pub text : RebuildPlan → List ℕ → List ℕ
-text p bytes = sure_lines p.every p.halves p.plan.order (in_order p.plan.stp) (read_so_far p.plan bytes).lines
+text p bytes = sure_lines (port_of p) p.plan.order (in_order p.plan.stp) (routed_so_far p bytes).lines
 
--- the capture of a script, to its end
+-- the capture of lines, and of a script, to its end
+abbrev pub capture_of : RebuildPlan → List Line2 → List ℕ
+capture_of p lines = written (port_of p) (script_segments p.plan lines)
+
 abbrev pub script_capture : RebuildPlan → List ℕ → List ℕ
-script_capture p bytes = written_segments p.every p.halves (script_segments p.plan (script_of p.plan bytes).lines)
+script_capture p bytes = capture_of p (routed_script p bytes).lines
 
 -- what comes after the text where the script is at its end: what is left of the capture, and nothing where a line has a
 -- fault, with or without a line feed
@@ -52,7 +69,7 @@ left_of whole front None = drop (length front) whole
 left_of whole front (Some fault) = []
 
 abbrev pub ending : RebuildPlan → List ℕ → List ℕ
-ending p bytes = left_of (script_capture p bytes) (text p bytes) (script_of p.plan bytes).fault
+ending p bytes = left_of (script_capture p bytes) (text p bytes) (routed_script p bytes).fault
 
 abbrev pub rebuild_meaning : RebuildPlan → Meaning
 rebuild_meaning p = record { faulty = IsFaulty p; text = text p; ending = ending p; due = false }

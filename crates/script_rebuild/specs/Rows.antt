@@ -13,6 +13,12 @@ use Rattle.script_text.specs.declared.version_two.Line2.{Line2}
 use Rattle.script_text.specs.declared.version_two.Line2.TheVariants.{One as OneLine, Flush, Trigger}
 use Rattle.source_events.specs.declared.plan.Plan.{Plan}
 use Rattle.script_text.specs.Rows.{both}
+use Rattle.frame_writer.specs.Written.{Tagged, written_segments}
+use Rattle.port_formatter.specs.Passed.{all_passed}
+use Rattle.trace_funnel.specs.declared.turns.Turns.{Turns}
+use Rattle.script_rebuild.specs.Routed.{routed}
+use Rattle.script_rebuild.specs.Segments.{script_segments}
+use Rattle.script_rebuild.specs.Versions.{Reading, script_of}
 
 -- `1 sync`, `2 async`, `2 version 3`, `16 raw a5`, `1 port 0 u8 41` and `2 data 1 0 u8 42 - n=5`
 abbrev pub three_sources : List Line2
@@ -43,3 +49,20 @@ odd_nibbles x =
 abbrev pub flushed_lines : List Line2
 flushed_lines = odd_nibbles 3 ++ (odd_nibbles 2 ++ (Flush ∷ (Trigger 7
     ∷ (OneLine (Of 2 (Stp (byte_at (at 0 0) 0x41 NoStamp))) ∷ []))))
+
+-- == Through a funnel
+
+-- a funnel of these sources
+abbrev pub turns : List ℕ → ℕ → ℕ → Turns
+turns order hold depth = record { order = order; hold = hold; depth = depth }
+
+-- what is read of a script of these lines, and the segments that are passed on
+abbrev pub reading : Turns → List (List ℕ) → Reading
+reading t lines = routed t.order (script_of both (script lines))
+
+abbrev pub passed_row : Turns → List (List ℕ) → List (List Tagged)
+passed_row t lines = all_passed t (script_segments both (reading t lines).lines)
+
+-- their frames, without synchronisations
+abbrev pub written_row : Turns → List (List ℕ) → List ℕ
+written_row t lines = written_segments 0 0 (passed_row t lines)

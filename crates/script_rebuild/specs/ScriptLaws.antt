@@ -1,13 +1,15 @@
 -- What lines put after others.
 use Rattle.std.proofs.Common.{◌≡◌, ◌≤◌, ℕ, List, [], ◌∷◌, ◌++◌, sym, ◌∙◌, ap, append_assoc, append-nil}
 use Rattle.stp_grammar.specs.declared.packet.Order.{Order}
-use Rattle.frame_writer.specs.Written.{Tagged, written_segments}
-use Rattle.frame_writer.proofs.Fronts.{sure_grows, sure_closes, sure_begins}
+use Rattle.frame_writer.specs.Written.{Tagged}
+use Rattle.port_formatter.specs.Port.{Port, sure_of, written}
+use Rattle.port_formatter.specs.PortLaws.{sure_grows, sure_flushed, sure_begins}
+use Rattle.port_formatter.specs.Segments.{Segments, no_segments, with_bytes}
 use Rattle.script_text.specs.declared.version_two.Line2.{Line2}
 use Rattle.script_text.specs.declared.version_two.Line2.TheVariants.{One, Flush, Trigger}
 use Rattle.script_rebuild.specs.Script.{given_puts, ends_with}
-use Rattle.script_rebuild.specs.Segments.{Segments, no_segments, with_bytes, line_bytes, after_line, with_line}
-use Rattle.script_rebuild.specs.Segments.{segments_after, segments_of, segments_with_ends, sure_of, sure_lines}
+use Rattle.script_rebuild.specs.Segments.{line_bytes, after_line, with_line, segments_after, segments_of}
+use Rattle.script_rebuild.specs.Segments.{segments_with_ends, sure_lines}
 
 pub segments_append : (order : Order) (ids : List ℕ) (before : List Line2) (s : Segments) (lines more : List Line2) →
     segments_after order ids before s (lines ++ more)
@@ -26,51 +28,40 @@ pub segments_more : (order : Order) (ids : List ℕ) (lines : List Line2) (line 
 segments_more order ids lines line = segments_append order ids [] no_segments lines (line ∷ [])
 
 -- what is sure stays so where bytes are put, and where the segment is ended
-bytes_grow : (every halves : ℕ) (s : Segments) (line : Line2) (bytes : List Tagged) →
-    (rest : List ℕ) × (sure_of every halves (after_line line (with_bytes s bytes)) ≡ sure_of every halves s ++ rest)
-bytes_grow every halves s (One line) bytes = sure_grows every halves s.ended s.begun bytes
-bytes_grow every halves s (Trigger byte) bytes = sure_grows every halves s.ended s.begun bytes
-bytes_grow every halves s Flush bytes =
-    let grown = sure_grows every halves s.ended s.begun bytes in
-    let closed = sure_closes every halves s.ended (s.begun ++ bytes) [] in (
-      grown.0 ++ closed.0,
-      closed.1 ∙ ap (λ (l : List ℕ). l ++ closed.0) grown.1 ∙ append_assoc (sure_of every halves s) grown.0 closed.0,
-    )
+bytes_grow : (port : Port) (s : Segments) (line : Line2) (bytes : List Tagged) →
+    (rest : List ℕ) × (sure_of port (after_line line (with_bytes s bytes)) ≡ sure_of port s ++ rest)
+bytes_grow port s (One line) bytes = sure_grows port s bytes
+bytes_grow port s (Trigger byte) bytes = sure_grows port s bytes
+bytes_grow port s Flush bytes = sure_flushed port s bytes
 
-after_grow : (every halves : ℕ) (order : Order) (ids : List ℕ) (before : List Line2) (s : Segments)
-    (lines : List Line2) →
-    (rest : List ℕ) × (sure_of every halves (segments_after order ids before s lines) ≡ sure_of every halves s ++ rest)
-after_grow every halves order ids before s [] = ([], sym (append-nil (sure_of every halves s)))
-after_grow every halves order ids before s (line ∷ lines) =
-    let one = bytes_grow every halves s line (line_bytes order ids before line) in
-    let more = after_grow every halves order ids (before ++ line ∷ []) (with_line order ids before s line) lines in (
+after_grow : (port : Port) (order : Order) (ids : List ℕ) (before : List Line2) (s : Segments) (lines : List Line2) →
+    (rest : List ℕ) × (sure_of port (segments_after order ids before s lines) ≡ sure_of port s ++ rest)
+after_grow port order ids before s [] = ([], sym (append-nil (sure_of port s)))
+after_grow port order ids before s (line ∷ lines) =
+    let one = bytes_grow port s line (line_bytes order ids before line) in
+    let more = after_grow port order ids (before ++ line ∷ []) (with_line order ids before s line) lines in (
       one.0 ++ more.0,
-      more.1 ∙ ap (λ (l : List ℕ). l ++ more.0) one.1 ∙ append_assoc (sure_of every halves s) one.0 more.0,
+      more.1 ∙ ap (λ (l : List ℕ). l ++ more.0) one.1 ∙ append_assoc (sure_of port s) one.0 more.0,
     )
 
-pub sure_more : (every halves : ℕ) (order : Order) (ids : List ℕ) (lines more : List Line2) →
-    (rest : List ℕ)
-    × (sure_lines every halves order ids (lines ++ more) ≡ sure_lines every halves order ids lines ++ rest)
-sure_more every halves order ids lines more =
+pub sure_more : (port : Port) (order : Order) (ids : List ℕ) (lines more : List Line2) →
+    (rest : List ℕ) × (sure_lines port order ids (lines ++ more) ≡ sure_lines port order ids lines ++ rest)
+sure_more port order ids lines more =
     let s = segments_of order ids lines in
-    let grown = after_grow every halves order ids lines s more in
-    (grown.0, ap (sure_of every halves) (segments_append order ids [] no_segments lines more) ∙ grown.1)
+    let grown = after_grow port order ids lines s more in
+    (grown.0, ap (sure_of port) (segments_append order ids [] no_segments lines more) ∙ grown.1)
 
 -- and is a front of all, with the ends
-pub sure_whole : (every halves : ℕ) (order : Order) (ids : List ℕ) (lines more : List Line2) → halves ≤ 8 →
-    (rest : List ℕ) × (written_segments every halves (segments_with_ends order ids (lines ++ more))
-    ≡ sure_lines every halves order ids lines ++ rest)
-sure_whole every halves order ids lines more few =
+pub sure_whole : (port : Port) (order : Order) (ids : List ℕ) (lines more : List Line2) → port.halves ≤ 8 →
+    (rest : List ℕ) × (written port (segments_with_ends order ids (lines ++ more))
+    ≡ sure_lines port order ids lines ++ rest)
+sure_whole port order ids lines more few =
     let all = lines ++ more in
     let s = segments_of order ids all in
     let ends = ends_with order (λ x. given_puts x all) ids in
-    let first = sure_more every halves order ids lines more in
-    let grown = sure_grows every halves s.ended s.begun ends in
-    let begins = sure_begins every halves s.ended (s.begun ++ ends) few in
-    let so_far = sure_lines every halves order ids lines in (
-      first.0 ++ (grown.0 ++ begins.0),
-      begins.1 ∙ ap (λ (l : List ℕ). l ++ begins.0) grown.1
-          ∙ append_assoc (sure_of every halves s) grown.0 begins.0
-          ∙ ap (λ (l : List ℕ). l ++ (grown.0 ++ begins.0)) first.1
-          ∙ append_assoc so_far first.0 (grown.0 ++ begins.0),
+    let first = sure_more port order ids lines more in
+    let begins = sure_begins port s ends few in
+    let so_far = sure_lines port order ids lines in (
+      first.0 ++ begins.0,
+      begins.1 ∙ ap (λ (l : List ℕ). l ++ begins.0) first.1 ∙ append_assoc so_far first.0 begins.0,
     )

@@ -2,26 +2,12 @@
 use Rattle.std.specs.Prelude.{ℕ, List, [], ◌∷◌, ◌++◌}
 use Rattle.stp_grammar.specs.declared.packet.Order.{Order}
 use Rattle.frame_writer.specs.Written.{Tagged}
-use Rattle.frame_writer.specs.Fronts.{sure_after}
+use Rattle.port_formatter.specs.Port.{Port, sure_of}
+use Rattle.port_formatter.specs.Segments.{Segments, no_segments, with_bytes, now_ended, after_flush}
 use Rattle.source_events.specs.declared.plan.Plan.{Plan}
 use Rattle.script_text.specs.declared.version_two.Line2.{Line2}
 use Rattle.script_text.specs.declared.version_two.Line2.TheVariants.{One, Flush, Trigger}
 use Rattle.script_rebuild.specs.Script.{given_puts, tagged, bytes_with, ends_with, in_order}
-
--- those that are ended, and the unfinished one
-pub record Segments : Type 0 where
-  pub ended : List (List Tagged)
-  pub begun : List Tagged
-
-abbrev pub no_segments : Segments
-no_segments = record { ended = []; begun = [] }
-
--- bytes are put in the unfinished one, and that is ended
-abbrev pub with_bytes : Segments → List Tagged → Segments
-with_bytes s bytes = record { ended = s.ended; begun = s.begun ++ bytes }
-
-abbrev pub now_ended : Segments → List (List Tagged)
-now_ended s = s.ended ++ s.begun ∷ []
 
 -- the bytes that a line puts after others: a flush those of these STP sources' kept nibbles
 abbrev pub line_bytes : Order → List ℕ → List Line2 → Line2 → List Tagged
@@ -33,7 +19,7 @@ line_bytes order ids before Flush = ends_with order (λ x. given_puts x before) 
 abbrev pub after_line : Line2 → Segments → Segments
 after_line (One line) s = s
 after_line (Trigger byte) s = s
-after_line Flush s = record { ended = now_ended s; begun = [] }
+after_line Flush s = after_flush s
 
 abbrev pub with_line : Order → List ℕ → List Line2 → Segments → Line2 → Segments
 with_line order ids before s line = after_line line (with_bytes s (line_bytes order ids before line))
@@ -56,9 +42,6 @@ segments_with_ends order ids lines =
 abbrev pub script_segments : Plan → List Line2 → List (List Tagged)
 script_segments plan lines = segments_with_ends plan.order (in_order plan.stp) lines
 
--- what is sure of segments, of which the last one goes on, and so of what lines put, whatever comes after them
-abbrev pub sure_of : ℕ → ℕ → Segments → List ℕ
-sure_of every halves s = sure_after every halves s.ended s.begun
-
-abbrev pub sure_lines : ℕ → ℕ → Order → List ℕ → List Line2 → List ℕ
-sure_lines every halves order ids lines = sure_of every halves (segments_of order ids lines)
+-- what is sure of what lines put, whatever comes after them
+abbrev pub sure_lines : Port → Order → List ℕ → List Line2 → List ℕ
+sure_lines port order ids lines = sure_of port (segments_of order ids lines)

@@ -1,27 +1,44 @@
 -- What a writer of lines stands for.
-use Rattle.std.specs.Prelude.{◌≤◌, ℕ, List}
+use Rattle.std.specs.Prelude.{◌≡◌, ◌≤◌, ℕ, List, Option, true}
 use Rattle.stp_grammar.specs.declared.packet.Order.{Order}
-use Rattle.frame_writer.specs.Sure as sures
-use Rattle.frame_writer.specs.declared.sure.SureWriter.{SureWriter}
+use Rattle.port_formatter.specs.Formatter as formatters
+use Rattle.port_formatter.specs.Port.{Port}
+use Rattle.trace_funnel.specs.declared.turns.Turns.{Turns}
+use Rattle.trace_stream.specs.Debt.{Debt}
 use Rattle.script_text.specs.declared.lines.Line.{Line}
 use Rattle.script_text.specs.declared.lines.Line.TheVariants.{Nothing, Of}
 use Rattle.script_text.specs.declared.version_two.Line2.{Line2}
 use Rattle.script_text.specs.declared.version_two.Line2.TheVariants.{One, Flush, Trigger}
 use Rattle.script_text.specs.Said.{IsSayable}
+use Rattle.script_rebuild.specs.Routed.{are_placed}
 use Rattle.script_rebuild.specs.Script.{given_puts}
-use Rattle.script_rebuild.specs.Segments.{Segments, segments_of}
+use Rattle.script_rebuild.specs.Segments.{segments_of}
 use Rattle.script_rebuild.specs.Encoding.{ids_in, IsRising, AllStand, IsOfSource}
 use Rattle.script_rebuild.specs.declared.writer.LineWriter.{LineWriter}
 
--- the sources of system traces, the order of the nibbles of their numbers, and how many frames are whole
+-- the sources of system traces, and the order of the nibbles of their numbers
 abbrev pub stp_of : LineWriter → List ℕ
 stp_of w = ids_in w.encoders.items
 
 abbrev pub order_of : LineWriter → Order
 order_of w = w.order
 
+-- of its formatter: how its funnel takes turns, if it has one, what is kept, the frames and bytes that are counted, for
+-- how many pairs there is room, and what is owed
+abbrev pub turns_of : LineWriter → Option Turns
+turns_of w = formatters.turns_of w.formatter
+
+abbrev pub kept_by : LineWriter → List ℕ
+kept_by w = formatters.kept_by w.formatter
+
 abbrev pub count_of : LineWriter → ℕ
-count_of w = sures.count_of w.frames
+count_of w = formatters.count_of w.formatter
+
+abbrev pub HasRoom : LineWriter → ℕ → Type 0
+HasRoom w pairs = formatters.HasRoom w.formatter pairs
+
+abbrev pub debt_of : LineWriter → Debt
+debt_of w = formatters.debt_of w.formatter
 
 -- a line that can be put: what it says is in its ranges, and of a source of it
 abbrev pub CanBePut : List ℕ → Line → Type 0
@@ -33,13 +50,10 @@ CanBePut2 stp (One line) = CanBePut stp line
 CanBePut2 stp Flush = Unit {0}
 CanBePut2 stp (Trigger byte) = Unit {0}
 
--- a writer of frames that was given these segments
-abbrev pub IsSureOf : SureWriter → ℕ → ℕ → Segments → Type 0
-IsSureOf frames every halves s = sures.IsSure frames every halves s.ended s.begun
-
--- It stands for these lines: its encoders for what they give each source of a system trace, and its writer of frames
--- for all that they put.
-pub record Stands (w : LineWriter) (every halves : ℕ) (lines : List Line2) : Type 0 where
+-- It stands for these lines, each of which has a place: its encoders for what they give each source of a system trace,
+-- and its formatter for all that they put.
+pub record Stands (w : LineWriter) (port : Port) (lines : List Line2) : Type 0 where
   pub items : AllStand w.order w.encoders.items (λ x. given_puts x lines)
   pub rising : IsRising (ids_in w.encoders.items)
-  pub frames : IsSureOf w.frames every halves (segments_of w.order (ids_in w.encoders.items) lines)
+  pub places : are_placed (turns_of w) lines ≡ true
+  pub formatter : formatters.Stands w.formatter port (segments_of w.order (ids_in w.encoders.items) lines)

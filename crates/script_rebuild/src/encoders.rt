@@ -1,20 +1,15 @@
 //! The encoders of system traces.
 
-ghost use Rattle.std.specs.Prelude.{◌≡◌, ◌≤◌, ◌<◌, ◌+◌, ◌-◌, [], ℕ, List};
+ghost use Rattle.std.specs.Prelude.{◌≡◌, ◌≤◌, ◌<◌, ◌+◌, [], ℕ, List};
 ghost use Rattle.std.specs.List.{All};
-ghost use Rattle.arrayvec.specs.ArrayVec.{array_vec_len};
 ghost use Rattle.trace_values.specs.declared.limits.TheConstants.{COUNT_ROOM};
 ghost use Rattle.stp_grammar.specs.declared.packet.Order.{Order};
+ghost use Rattle.stp_encoder.specs.Bytes.{end_bytes};
 ghost use Rattle.stp_encoder.specs.Puts.{Put};
-ghost use Rattle.frame_writer.specs.Sure.{count_of};
-ghost use Rattle.script_rebuild.specs.declared.bytes.TheConstants.{LINE_ROOM};
-ghost use Rattle.script_rebuild.specs.Encoding.{ids_in, AllStand, flushed};
-ghost use Rattle.script_rebuild.specs.Putting.{Puts};
-ghost use Rattle.script_rebuild.specs.Script.{in_order, ends_with};
+ghost use Rattle.port_formatter.specs.Formatter.{Puts, HasRoom, count_of, turns_of};
 
-use crate::bytes::{LineBytes, append, put_bytes};
 use arrayvec::ArrayVec;
-use frame_writer::SureWriter;
+use port_formatter::Formatter;
 use source_events::{KIND_SOURCES, SourceIds};
 use stp_encoder::StpEncoder;
 use stp_grammar::packet::Order;
@@ -39,6 +34,9 @@ impl Default for SourceEncoder {
     }
 }
 
+ghost use Rattle.script_rebuild.specs.Encoding.{ids_in, StandsFor, AllStand, KeepsPlaced, flushed};
+ghost use Rattle.script_rebuild.specs.Script.{in_order, ends_with, tagged};
+
 /// The encoders of all sources of system traces, in increasing order of their IDs.
 pub type Encoders = ArrayVec<SourceEncoder, KIND_SOURCES>;
 
@@ -62,36 +60,52 @@ pub fn encoders_for(ids: &SourceIds, order: Order) -> Encoders
     encoders
 }
 
-/// Puts of each source the nibble that is kept, with a NULL above it, in the order of the encoders, and gives what
-/// becomes sure with them. The encoders go on where these were.
-pub(crate) fn put_kept(
-    encoders: &Encoders,
-    frames: &mut SureWriter,
-    out: &mut LineBytes,
-) -> Encoders
+/// Puts of one source the nibble that is kept, with a NULL above it. The encoder goes on where this one was.
+fn put_end(slot: &SourceEncoder, formatter: &mut Formatter) -> SourceEncoder
+    requires named { 0 < slot.now.id }
+    requires count { count_of formatter.old < COUNT_ROOM }
+    requires room { HasRoom formatter.old 2 }
+    ensures id { result.id ≡ slot.now.id }
+    ensures turns { turns_of formatter.new ≡ turns_of formatter.old }
+    ensures stand { (order : Order) (given : ℕ → List Put) → StandsFor order given slot.now →
+        StandsFor order (flushed given) result }
+    ensures put { (order : Order) (given : ℕ → List Put) → StandsFor order given slot.now →
+        KeepsPlaced (turns_of formatter.old) order given slot.now.id →
+        Puts formatter.old formatter.new (tagged slot.now.id (end_bytes order (given slot.now.id))) }
+    ensures count { count_of formatter.new ≤ count_of formatter.old + 1 }
+    ensures room { (more : ℕ) → HasRoom formatter.old (2 + more) → HasRoom formatter.new more }
+{
+    let mut encoder = slot.encoder;
+    let mut last = ArrayVec::new();
+    encoder.flush(&mut last);
+    if formatter.takes(slot.id) {
+        formatter.put_all(slot.id, last.as_slice());
+    }
+    SourceEncoder {
+        id: slot.id,
+        encoder,
+    }
+}
+
+/// Puts of each source the nibble that is kept, in the order of the encoders, which go on where these were. Nothing is
+/// kept of a source without a place, since none of its lines was put.
+pub(crate) fn put_kept(encoders: &Encoders, formatter: &mut Formatter) -> Encoders
     requires named { All (λ e. 0 < e.id) encoders.now.items }
-    requires empty { out.old.items ≡ [] }
-    requires room { count_of frames.old + 99 ≤ COUNT_ROOM }
+    requires count { count_of formatter.old + 8 ≤ COUNT_ROOM }
+    requires room { HasRoom formatter.old 16 }
     ensures ids { ids_in result.items ≡ ids_in encoders.now.items }
+    ensures turns { turns_of formatter.new ≡ turns_of formatter.old }
     ensures stand { (order : Order) (given : ℕ → List Put) → AllStand order encoders.now.items given →
         AllStand order result.items (flushed given) }
     ensures put { (order : Order) (given : ℕ → List Put) → AllStand order encoders.now.items given →
-        Puts frames.old frames.new (ends_with order given (ids_in encoders.now.items)) out.new.items }
-    ensures count { count_of frames.new ≤ count_of frames.old + 8 }
-    ensures few { array_vec_len out.new ≤ LINE_ROOM - 528 }
+        ((x : ℕ) → KeepsPlaced (turns_of formatter.old) order given x) →
+        Puts formatter.old formatter.new (ends_with order given (ids_in encoders.now.items)) }
+    ensures count { count_of formatter.new ≤ count_of formatter.old + 8 }
+    ensures room { (more : ℕ) → HasRoom formatter.old (16 + more) → HasRoom formatter.new more }
 {
     let mut later = Encoders::new();
     for slot in encoders.as_slice() {
-        let mut encoder = slot.encoder;
-        let mut last = ArrayVec::new();
-        encoder.flush(&mut last);
-        let mut sure = LineBytes::new();
-        put_bytes(frames, slot.id, last.as_slice(), &mut sure);
-        append(out, sure.as_slice());
-        later.push(SourceEncoder {
-            id: slot.id,
-            encoder,
-        });
+        later.push(put_end(slot, formatter));
     }
     later
 }

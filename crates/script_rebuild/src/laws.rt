@@ -4,28 +4,31 @@ ghost use Rattle.std.specs.Prelude.{◌≡◌, ◌≤◌, ◌++◌, ◌∷◌, [
 ghost use Rattle.stp_grammar.specs.declared.packet.Order.{Order};
 ghost use Rattle.stp_encoder.specs.Puts.{items_in};
 ghost use Rattle.source_events.specs.declared.plan.Plan.{Plan};
-ghost use Rattle.frame_writer.specs.Written.{joined, written_segments};
+ghost use Rattle.frame_writer.specs.Written.{joined};
+ghost use Rattle.port_formatter.specs.Segments.{now_ended};
 ghost use Rattle.script_text.specs.declared.line_fault.LineFault.{LineFault};
 ghost use Rattle.script_text.specs.declared.version_two.Line2.{Line2};
 ghost use Rattle.script_rebuild.specs.Script.{given_items, given_puts};
-ghost use Rattle.script_rebuild.specs.Segments.{now_ended, with_line, line_bytes, segments_of, script_segments};
+ghost use Rattle.script_rebuild.specs.Segments.{with_line, line_bytes, segments_of};
 ghost use Rattle.script_rebuild.specs.Versions.{lines_in, script_of};
 ghost use Rattle.script_rebuild.specs.declared.plan.RebuildPlan.{RebuildPlan};
-ghost use Rattle.script_rebuild.specs.Rebuilt.{read_so_far, IsFaulty, text, ending, IsFirstFault};
+ghost use Rattle.script_rebuild.specs.Rebuilt.{routed_so_far, routed_script, IsFaulty, text, ending, capture_of};
+ghost use Rattle.script_rebuild.specs.Rebuilt.{IsFirstFault};
 
-/// What is written for a script without a fault, the text and what comes after it, is its lines' segments as written.
+/// What is written for a script without a fault, the text and what comes after it, is its lines' segments as the port
+/// writes them.
 pub fn capture_law()
-    ensures { (p : RebuildPlan) (bytes : List ℕ) → p.halves ≤ 8 → (script_of p.plan bytes).fault ≡ None →
-        text p bytes ++ ending p bytes ≡
-        written_segments p.every p.halves (script_segments p.plan (script_of p.plan bytes).lines) }
+    ensures { (p : RebuildPlan) (bytes : List ℕ) → p.halves ≤ 8 → (routed_script p bytes).fault ≡ None →
+        text p bytes ++ ending p bytes ≡ capture_of p (script_of p.plan bytes).lines }
 {}
 
-/// The fault of a script is that of its first line with one. Once it is certain it is the script's, whatever follows.
+/// The fault of a script is that of its first line with one. Once it is certain, or a line has no place, it is the
+/// script's, whatever follows.
 pub fn fault_law()
     ensures first { (plan : Plan) (bytes : List ℕ) (number : ℕ) (fault : LineFault) →
         (script_of plan bytes).fault ≡ Some (number, fault) → IsFirstFault plan (lines_in bytes) number fault }
     ensures certain { (p : RebuildPlan) (bytes more : List ℕ) → IsFaulty p bytes →
-        script_of p.plan (bytes ++ more) ≡ read_so_far p.plan bytes }
+        routed_script p (bytes ++ more) ≡ routed_so_far p bytes }
 {}
 
 /// A line more is put after all others. The segments joined are the bytes that the lines put, in order. The items that

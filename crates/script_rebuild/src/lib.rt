@@ -11,7 +11,6 @@ pub mod rows;
 mod version;
 mod writer;
 
-pub use bytes::{LINE_ROOM, LineBytes};
 pub use plan::{RebuildPlan, ScriptFault};
 pub use rebuild::Rebuild;
 pub use writer::LineWriter;

@@ -2,8 +2,9 @@
 
 use script_text::LineFault;
 use source_events::Plan;
+use trace_funnel::Turns;
 
-/// What the sources of a script send, and which synchronisations are written.
+/// What the sources of a script send, and how it goes to the port.
 #[derive(Drop)]
 pub struct RebuildPlan {
     /// What is mapped. Its modes make no difference.
@@ -13,6 +14,8 @@ pub struct RebuildPlan {
     pub every: u32,
     /// How many half synchronisations, at most 8, are written in each gap of a frame.
     pub halves: u8,
+    /// How the funnel takes turns through which all bytes pass before the port, if one is there.
+    pub funnel: Option<Turns>,
 }
 
 /// The first fault of a script.

@@ -1,33 +1,40 @@
 //! The action `rebuild`.
 
-ghost use Rattle.std.specs.Prelude.{◌≡◌, ◌≢◌, ◌≤◌, ◌<◌, ◌+◌, ◌*◌, ◌++◌, ◌==◌, [], ℕ, List, All, length, take};
-ghost use Rattle.std.specs.Prelude.{slice_index, false, None, Err, IfSome, option_map, is_some};
+ghost use Rattle.std.specs.Prelude.{◌≡◌, ◌≢◌, ◌≤◌, ◌<◌, ◌+◌, ◌*◌, ◌++◌, ◌==◌, ℕ, List, All, length, take};
+ghost use Rattle.std.specs.Prelude.{slice_index, false, true, None, Err, option_map, is_some};
+ghost use Rattle.std.specs.Option.{ForSome};
 ghost use Rattle.script_text.specs.declared.line_fault.LineFault.TheVariants.{BadLine};
-ghost use Rattle.std.specs.Result.{IfErr, OnErr, OnOk};
+ghost use Rattle.std.specs.Result.{IfOk, IfErr, OnErr, OnOk};
 ghost use Rattle.trace_values.specs.declared.limits.TheConstants.{COUNT_ROOM};
+ghost use Rattle.trace_stream.specs.Debt.{Paid};
 ghost use Rattle.trace_stream.specs.declared.limits.TheConstants.{GREATEST_CAPTURE};
 ghost use Rattle.trace_stream.specs.declared.outlet.TheConstants.{OUTLET_ROOM};
 ghost use Rattle.trace_stream.specs.declared.action.TheConstants.{ACTION_ROOM};
-ghost use Rattle.source_events.specs.declared.plan.Plan.{Plan};
+ghost use Rattle.trace_funnel.specs.SoundTurns.{IsSoundTurns};
 ghost use Rattle.script_text.specs.declared.version_two.Line2.{Line2};
-ghost use Rattle.script_text.specs.Lines.{line_of};
-ghost use Rattle.script_rebuild.specs.Versions.{says};
-ghost use Rattle.script_rebuild.specs.Writer.{count_of, order_of, stp_of};
-ghost use Rattle.script_rebuild.specs.Writer.{Stands as StandsForLines};
-ghost use Rattle.script_rebuild.specs.PutLine.{PutsLine, IsFor, IsText};
+ghost use Rattle.script_text.specs.Lines.{line_of, ◌>>=◌};
+ghost use Rattle.script_rebuild.specs.Versions.{says, fitting};
+ghost use Rattle.script_rebuild.specs.Writer.{count_of, kept_by, HasRoom, CanBePut2};
+ghost use Rattle.script_rebuild.specs.Writer.{Stands as StandsForLines, debt_of as debt_of_writer};
+ghost use Rattle.script_rebuild.specs.PutLine.{PutsLine, IsFor, IsText, says_placed};
+ghost use Rattle.script_rebuild.specs.Rebuilt.{port_of};
+ghost use Rattle.script_rebuild.specs.Script.{in_order};
 
+use crate::LineWriter;
 use crate::plan::{RebuildPlan, ScriptFault};
 use crate::version::{Version, is_header};
-use crate::{LineBytes, LineWriter};
 use arrayvec::ArrayVec;
 use memchr::memchr;
+use port_formatter::{Formatter, put_owed};
 use script_text::{
-    Item, LINE_BYTES, Line, LineFault, PacketLine, packet_line, read_into, read_new,
+    Item, LINE_BYTES, Line, Line2, LineFault, PacketLine, packet_line, read_into, read_new,
 };
 use source_events::{Plan, SourceKind};
+use std::alloc::{AllocError, Global};
 use trace_stream::{Action, Outlet, Progress};
 
-/// A script as it is read: its open line, and the writer of what the lines before it put. It allocates nothing.
+/// A script as it is read: its open line, and the writer of what the lines before it put. After its making it allocates
+/// nothing.
 #[derive(Drop)]
 pub struct Rebuild {
     plan: RebuildPlan,
@@ -38,17 +45,16 @@ pub struct Rebuild {
     /// What they tell of the script's version.
     version: Version,
     writer: LineWriter,
-    /// What becomes sure with a line, which is nothing between lines: made once, since it has room for much more than
-    /// most lines fill.
-    sure: LineBytes,
     /// How many bytes were taken.
     count: u64,
     fault: Option<ScriptFault>,
+    /// After the script's end how many of the last bytes that the writer keeps are still to be put.
+    owed: Option<usize>,
     ghost few: { lines ≤ count },
-    ghost given: { sure.items ≡ [] },
-    ghost frames: { count_of writer ≤ 100 * count },
+    ghost frames: { owed ≡ None → count_of writer ≤ 100 * count },
     ghost small: { count ≤ GREATEST_CAPTURE },
-    ghost suits: { IsFor plan.plan writer },
+    ghost suits: { IsFor plan writer },
+    ghost owes: { ForSome owed (λ n. n ≤ length (kept_by writer)) },
 }
 
 /// How many of the first bytes are no line feed, at most this many.
@@ -73,152 +79,199 @@ fn append(line: &mut ArrayVec<u8, LINE_BYTES>, bytes: &[u8])
     let _ = line.try_extend_from_slice(bytes);
 }
 
-/// Puts what a line says whose words are those of no line of version 1: nothing as the header, or a line of version 2.
-/// Apart, so that lines of version 1 need no room for it.
+/// What a line says whose words are those of no line of version 1: nothing as the header, or a line of version 2. Apart,
+/// so that lines of version 1 need no room for it.
 #[inline(never)]
-fn put_new(
-    writer: &mut LineWriter,
-    version: Version,
-    text: &[u8],
-    out: &mut LineBytes,
-) -> Result<(), LineFault>
-    requires empty { out.old.items ≡ [] }
-    requires room { count_of writer.old + 100 ≤ COUNT_ROOM }
-    ensures order { order_of writer.new ≡ order_of writer.old }
-    ensures stp { stp_of writer.new ≡ stp_of writer.old }
-    ensures count { count_of writer.new ≤ count_of writer.old + 100 }
-    ensures same { OnErr result ((writer.new ≡ writer.old) × (out.new ≡ out.old)) }
-    ensures ok { (plan : Plan) (every halves : ℕ) (lines : List Line2) → line_of plan text.now ≡ Err BadLine →
-        IsFor plan writer.old → StandsForLines writer.old every halves lines →
-        OnOk result (PutsLine plan version text.now writer.new every halves lines out.new.items) }
-    ensures err { (plan : Plan) (every halves : ℕ) (lines : List Line2) → line_of plan text.now ≡ Err BadLine →
-        StandsForLines writer.old every halves lines →
-        IfErr result (λ fault. says plan version lines text.now ≡ Err fault) }
+fn read_later(version: Version, text: &[u8]) -> Result<Line2, LineFault>
+    ensures said { (plan : Plan) (lines : List Line2) → line_of plan text.now ≡ Err BadLine →
+        says plan version lines text.now ≡ (result >>= fitting lines) }
+    ensures can { (stp : List ℕ) → IfOk result (λ line. CanBePut2 stp line) }
 {
     match version {
-        Version::Second => {
-            let said = read_new(text)?;
-            writer.put2(&said, out)
-        }
-        Version::Unknown if is_header(text) => writer.put(&Line::Nothing, out),
+        Version::Second => read_new(text),
+        Version::Unknown if is_header(text) => Ok(Line2::One(Line::Nothing)),
         _ => Err(LineFault::BadLine),
     }
 }
 
-/// Puts what a line says, which may have been found, and gives what has become sure with it. At a fault the writer is
-/// as before.
-#[inline(always)]
-fn put_line(
-    writer: &mut LineWriter,
-    plan: &Plan,
-    version: Version,
-    text: &[u8],
-    found: &Option<PacketLine>,
-    out: &mut LineBytes,
-) -> Result<(), LineFault>
-    requires text { IsText text.now found.now }
-    requires plan { IsFor plan.now writer.old }
-    requires empty { out.old.items ≡ [] }
-    requires room { count_of writer.old + 100 ≤ COUNT_ROOM }
-    ensures plan { IsFor plan.now writer.new }
-    ensures count { count_of writer.new ≤ count_of writer.old + 100 }
-    ensures same { OnErr result ((writer.new ≡ writer.old) × (out.new ≡ out.old)) }
-    ensures ok { (every halves : ℕ) (lines : List Line2) → StandsForLines writer.old every halves lines →
-        OnOk result (PutsLine plan.now version text.now writer.new every halves lines out.new.items) }
-    ensures err { (every halves : ℕ) (lines : List Line2) → StandsForLines writer.old every halves lines →
-        IfErr result (λ fault. says plan.now version lines text.now ≡ Err fault) }
+/// What a line says.
+fn read_line(plan: &Plan, version: Version, text: &[u8]) -> Result<Line2, LineFault>
+    ensures said { (lines : List Line2) → says plan.now version lines text.now ≡ (result >>= fitting lines) }
+    ensures can { IfOk result (λ line. CanBePut2 (in_order plan.now.stp) line) }
 {
-    if let Some(found) = found {
-        if let Some(SourceKind::Itm) = plan.kind_of(found.id) {
-            let said = Line::Of {
-                id: found.id,
-                item: Item::Itm(found.packet),
-            };
-            return writer.put(&said, out);
-        }
-    }
     let mut said = Line::Nothing;
     match read_into(text, plan, &mut said) {
-        Ok(()) => writer.put(&said, out),
+        Ok(()) => Ok(Line2::One(said)),
         Err(fault) => match fault {
-            LineFault::BadLine => put_new(writer, version, text, out),
+            LineFault::BadLine => read_later(version, text),
             _ => Err(fault),
         },
     }
 }
 
-/// Moves what became sure, if something did, to the outlet.
-fn give(sure: &mut LineBytes, outlet: &mut Outlet)
-    requires room { length outlet.old + ACTION_ROOM ≤ OUTLET_ROOM }
-    ensures given { outlet.new ≡ outlet.old ++ sure.old.items }
-    ensures empty { sure.new.items ≡ [] }
+/// Puts what a line says, which may have been found. At a fault the writer is as before.
+#[inline(always)]
+fn put_line(
+    writer: &mut LineWriter,
+    plan: &RebuildPlan,
+    version: Version,
+    text: &[u8],
+    found: &Option<PacketLine>,
+) -> Result<(), LineFault>
+    requires text { IsText text.now found.now }
+    requires plan { IsFor plan.now writer.old }
+    requires count { count_of writer.old + 100 ≤ COUNT_ROOM }
+    requires room { HasRoom writer.old 200 }
+    ensures plan { IsFor plan.now writer.new }
+    ensures same { OnErr result (writer.new ≡ writer.old) }
+    ensures ok { (lines : List Line2) → StandsForLines writer.old (port_of plan.now) lines →
+        OnOk result (PutsLine plan.now version text.now writer.old writer.new lines) }
+    ensures err { (lines : List Line2) → StandsForLines writer.old (port_of plan.now) lines →
+        IfErr result (λ fault. says_placed plan.now version lines text.now ≡ Err fault) }
+    ensures count { count_of writer.new ≤ count_of writer.old + 100 }
+    ensures room { (more : ℕ) → HasRoom writer.old (200 + more) → HasRoom writer.new more }
 {
-    if !sure.is_empty() {
-        outlet.append(sure.as_slice());
-        sure.clear();
+    if let Some(found) = found {
+        if let Some(SourceKind::Itm) = plan.plan.kind_of(found.id) {
+            let said = Line::Of {
+                id: found.id,
+                item: Item::Itm(found.packet),
+            };
+            return writer.put(&said);
+        }
+    }
+    let mut said = Line::Nothing;
+    match read_into(text, &plan.plan, &mut said) {
+        Ok(()) => writer.put(&said),
+        Err(fault) => match fault {
+            LineFault::BadLine => {
+                let later = read_later(version, text)?;
+                writer.put2(&later)
+            }
+            _ => Err(fault),
+        },
     }
 }
 
 impl Rebuild {
-    ghost use Rattle.std.specs.Prelude.{◌∷◌};
-    ghost use Rattle.script_rebuild.specs.Versions.{script_of};
-    ghost use Rattle.script_rebuild.specs.Rebuilt.{read_so_far};
+    ghost use Rattle.std.specs.Prelude.{[], ◌∷◌};
     ghost use Rattle.trace_io.specs.Bytes.{TakesSome};
-    ghost use Rattle.script_rebuild.specs.Rebuilder.{told, plan_of, taken_by, open_len, IsLive, Stands, TakesByte};
-    ghost use Rattle.script_rebuild.specs.Rebuilder.{IsOpen, Feeds};
+    ghost use Rattle.trace_stream.specs.Debt.{with_debt};
+    ghost use Rattle.script_rebuild.specs.Rebuilt.{routed_so_far, routed_script};
+    ghost use Rattle.port_formatter.specs.Formatter as formatters;
+    ghost use Rattle.port_formatter.specs.Segments.{no_segments};
+    ghost use Rattle.script_rebuild.specs.Rebuilder.{told, plan_of, taken_by, debt_of, open_len, IsLive, Reads, Stands};
+    ghost use Rattle.script_rebuild.specs.Rebuilder.{HasEnded, TakesByte, IsOpen, Feeds};
+    ghost use Rattle.script_rebuild.specs.PutLine.{SaysLine};
 
-    /// Nothing is read yet.
+    /// Nothing is read yet, and no funnel is before the port.
     pub fn new(plan: RebuildPlan) -> Rebuild
         requires few { plan.halves ≤ 8 }
+        requires straight { plan.funnel ≡ None }
         ensures plan { plan_of result ≡ plan }
         ensures stands { Stands result [] }
         ensures count { taken_by result ≡ 0 }
+        ensures paid { debt_of result ≡ Paid }
         ensures live { IsLive result }
     {
-        let writer = LineWriter::new(&plan.plan.stp, plan.plan.order, plan.every, plan.halves);
+        let formatter = Formatter::new(plan.every, plan.halves);
+        Rebuild::over(plan, formatter)
+    }
+
+    /// Nothing is read yet, and a funnel is before the port. It takes all its memory here, and fails only for want of
+    /// it.
+    pub fn through(alloc: Global, plan: RebuildPlan) -> Result<Rebuild, AllocError>
+        requires few { plan.halves ≤ 8 }
+        requires sound { ForSome plan.funnel IsSoundTurns }
+        ensures plan { IfOk result (λ r. plan_of r ≡ plan) }
+        ensures fresh { IfOk result (λ r. Stands r [] × (taken_by r ≡ 0) × (debt_of r ≡ Paid) × IsLive r) }
+    {
+        let formatter = match &plan.funnel {
+            Some(turns) => Formatter::through(alloc, plan.every, plan.halves, turns)?,
+            None => Formatter::new(plan.every, plan.halves),
+        };
+        Ok(Rebuild::over(plan, formatter))
+    }
+
+    /// Over a formatter for the plan that was given nothing.
+    fn over(plan: RebuildPlan, formatter: Formatter) -> Rebuild
+        requires fresh { formatters.Stands formatter (port_of plan) no_segments }
+        requires turns { formatters.turns_of formatter ≡ plan.funnel }
+        requires kept { formatters.kept_by formatter ≡ [] }
+        requires count { formatters.count_of formatter ≡ 0 }
+        ensures plan { plan_of result ≡ plan }
+        ensures stands { Stands result [] }
+        ensures count { taken_by result ≡ 0 }
+        ensures paid { debt_of result ≡ Paid }
+        ensures live { IsLive result }
+    {
+        let writer = LineWriter::new(&plan.plan.stp, plan.plan.order, formatter);
         Rebuild {
             plan,
             line: ArrayVec::new(),
             lines: 0,
             version: Version::Unknown,
             writer,
-            sure: LineBytes::new(),
             count: 0,
             fault: None,
+            owed: None,
         }
-    }
-
-    /// The first fault of the lines that ended, or of the open one if it is too long.
-    pub fn fault(&self) -> Option<ScriptFault>
-        ensures { (seen : List ℕ) → Stands self.now seen →
-            option_map told result ≡ (read_so_far (plan_of self.now).plan seen).fault }
-    {
-        self.fault
     }
 
     /// The first fault where the script is at its end: the open line is its last then.
     pub fn last_fault(&self) -> Option<ScriptFault>
         ensures { (seen : List ℕ) → Stands self.now seen →
-            option_map told result ≡ (script_of (plan_of self.now).plan seen).fault }
+            option_map told result ≡ (routed_script (plan_of self.now) seen).fault }
     {
-        if self.fault.is_some() {
+        if self.owed.is_some() || self.fault.is_some() {
             return self.fault;
         }
-        let mut writer = self.writer.copied();
-        let mut out = LineBytes::new();
-        match put_line(
-            &mut writer,
-            &self.plan.plan,
-            self.version,
-            self.line.as_slice(),
-            &None,
-            &mut out,
-        ) {
+        match self.last_fits() {
             Ok(()) => None,
             Err(fault) => Some(ScriptFault {
                 line: self.lines + 1,
                 fault,
             }),
+        }
+    }
+
+    /// Whether what the open line says can be put, if it is the last.
+    fn last_fits(&self) -> Result<(), LineFault>
+        ensures ok { (lines : List Line2) → StandsForLines self.now.writer (port_of self.now.plan) lines →
+            OnOk result (SaysLine (says_placed self.now.plan self.now.version lines self.now.line.items)) }
+        ensures err { (lines : List Line2) → StandsForLines self.now.writer (port_of self.now.plan) lines →
+            IfErr result (λ fault. says_placed self.now.plan self.now.version lines self.now.line.items ≡ Err fault) }
+    {
+        let line = read_line(&self.plan.plan, self.version, self.line.as_slice())?;
+        self.writer.fits(&line)
+    }
+
+    /// The script is at its end: what its last line says is put, and the segment is ended, or the line's fault is kept.
+    fn end(&mut self)
+        requires reading { self.old.owed ≡ None }
+        requires paid { debt_of_writer self.old.writer ≡ Paid }
+        ensures same { plan_of self.new ≡ plan_of self.old }
+        ensures count { taken_by self.new ≡ taken_by self.old }
+        ensures ended { (seen : List ℕ) → Reads self.old seen → HasEnded self.new seen }
+    {
+        self.owed = Some(0);
+        if self.fault.is_some() {
+            return;
+        }
+        match put_line(
+            &mut self.writer,
+            &self.plan,
+            self.version,
+            self.line.as_slice(),
+            &None,
+        ) {
+            Ok(()) => self.writer.flush(),
+            Err(fault) => {
+                self.fault = Some(ScriptFault {
+                    line: self.lines + 1,
+                    fault,
+                });
+            }
         }
     }
 
@@ -230,10 +283,11 @@ impl Rebuild {
         ensures live { IsLive self.new }
         ensures count { taken_by self.new ≡ taken_by self.old + result }
         ensures bound { result ≤ length piece.now }
-        ensures stands { (seen : List ℕ) → Stands self.old seen → Stands self.new (seen ++ take result piece.now) }
-        ensures read { (seen : List ℕ) → Stands self.old seen →
-            read_so_far (plan_of self.old).plan (seen ++ take result piece.now) ≡
-            read_so_far (plan_of self.old).plan seen }
+        ensures reads { (seen : List ℕ) → Reads self.old seen → Reads self.new (seen ++ take result piece.now) }
+        ensures read { (seen : List ℕ) → Reads self.old seen →
+            routed_so_far (plan_of self.old) (seen ++ take result piece.now) ≡
+            routed_so_far (plan_of self.old) seen }
+        ensures writer { self.new.writer ≡ self.old.writer }
         ensures rest { result < length piece.now → slice_index piece.now result ≢ 10 → open_len self.new ≡ 256 }
     {
         let len = plain_len(piece, LINE_BYTES - self.line.len());
@@ -245,13 +299,15 @@ impl Rebuild {
     /// Takes a byte after a front: a line feed, or one with which the line is too long. Answers whether it has a fault.
     fn take_byte(&mut self, byte: u8, outlet: &mut Outlet) -> bool
         requires live { IsLive self.old }
+        requires paid { debt_of_writer self.old.writer ≡ Paid }
         requires last { byte ≢ 10 → open_len self.old ≡ 256 }
         requires room { length outlet.old + ACTION_ROOM ≤ OUTLET_ROOM }
         requires count { taken_by self.old < GREATEST_CAPTURE }
         ensures same { plan_of self.new ≡ plan_of self.old }
         ensures count { taken_by self.new ≡ taken_by self.old + 1 }
-        ensures taken { (seen : List ℕ) → Stands self.old seen →
+        ensures taken { (seen : List ℕ) → Reads self.old seen →
             TakesByte self.old self.new seen byte outlet.old outlet.new }
+        ensures reading { self.new.owed ≡ None }
         ensures fault { result ≡ is_some self.new.fault }
     {
         if byte == b'\n' {
@@ -266,13 +322,15 @@ impl Rebuild {
     /// The line is too long with this byte, which is its fault.
     fn refuse_line(&mut self, byte: u8) -> bool
         requires live { IsLive self.old }
+        requires paid { debt_of_writer self.old.writer ≡ Paid }
         requires full { open_len self.old ≡ 256 }
         requires other { byte ≢ 10 }
         requires count { taken_by self.old < GREATEST_CAPTURE }
         ensures same { plan_of self.new ≡ plan_of self.old }
         ensures count { taken_by self.new ≡ taken_by self.old + 1 }
-        ensures taken { (seen : List ℕ) (outlet : List ℕ) → Stands self.old seen →
+        ensures taken { (seen : List ℕ) (outlet : List ℕ) → Reads self.old seen →
             TakesByte self.old self.new seen byte outlet outlet }
+        ensures reading { self.new.owed ≡ None }
         ensures fault { result ≡ is_some self.new.fault }
     {
         self.count += 1;
@@ -288,26 +346,27 @@ impl Rebuild {
     #[inline(always)]
     fn end_line(&mut self, text: &[u8], found: &Option<PacketLine>, outlet: &mut Outlet) -> bool
         requires live { IsLive self.old }
+        requires paid { debt_of_writer self.old.writer ≡ Paid }
         requires text { IsText text.now found.now }
         requires room { length outlet.old + ACTION_ROOM ≤ OUTLET_ROOM }
         requires count { taken_by self.old < GREATEST_CAPTURE }
         ensures same { plan_of self.new ≡ plan_of self.old }
         ensures count { taken_by self.new ≡ taken_by self.old + 1 }
-        ensures taken { (mid : Rebuild) (seen : List ℕ) → IsOpen mid self.old text.now → Stands mid seen →
+        ensures taken { (mid : Rebuild) (seen : List ℕ) → IsOpen mid self.old text.now → Reads mid seen →
             TakesByte mid self.new seen 10 outlet.old outlet.new }
+        ensures reading { self.new.owed ≡ None }
         ensures fault { result ≡ is_some self.new.fault }
     {
         self.count += 1;
         match put_line(
             &mut self.writer,
-            &self.plan.plan,
+            &self.plan,
             self.version,
             text,
             found,
-            &mut self.sure,
         ) {
             Ok(()) => {
-                give(&mut self.sure, outlet);
+                self.writer.give(outlet);
                 self.line.clear();
                 self.lines += 1;
                 self.version = self.version.after(text);
@@ -332,6 +391,7 @@ impl Rebuild {
         outlet: &mut Outlet,
     ) -> Progress
         requires live { IsLive self.old }
+        requires paid { debt_of_writer self.old.writer ≡ Paid }
         requires closed { open_len self.old ≡ 0 }
         requires text { IsText text.now found.now }
         requires plain { All (λ b. (b == 10) ≡ false) text.now }
@@ -352,6 +412,7 @@ impl Rebuild {
     /// Takes more of the open line: the bytes up to a line feed, and that.
     fn feed_open(&mut self, piece: &[u8], outlet: &mut Outlet) -> Progress
         requires live { IsLive self.old }
+        requires paid { debt_of_writer self.old.writer ≡ Paid }
         requires some { 0 < length piece.now }
         requires room { length outlet.old + ACTION_ROOM ≤ OUTLET_ROOM }
         requires count { taken_by self.old + length piece.now ≤ GREATEST_CAPTURE }
@@ -375,10 +436,9 @@ impl Rebuild {
 }
 
 impl Action for Rebuild {
-    ghost use Rattle.script_rebuild.specs.Rebuilder.{plan_of, taken_by, IsLive, Stands};
+    ghost use Rattle.script_rebuild.specs.Rebuilder.{plan_of, taken_by, debt_of, IsLive, Stands};
     ghost use Rattle.script_rebuild.specs.Rebuilt.{rebuild_meaning};
     ghost use Rattle.script_rebuild.specs.RebuiltLaws.{rebuild_lawful};
-    ghost use Rattle.trace_stream.specs.Debt.{Paid};
 
     type Plan = RebuildPlan;
 
@@ -390,15 +450,22 @@ impl Action for Rebuild {
 
     ghost stands = { Stands };
 
-    ghost debt = { λ _. Paid };
+    ghost debt = { debt_of };
 
     ghost meaning = { rebuild_meaning };
 
     ghost lawful = { rebuild_lawful };
 
     #[inline]
-    fn pour(&mut self, _outlet: &mut Outlet) -> bool {
-        false
+    fn pour(&mut self, outlet: &mut Outlet) -> bool {
+        match self.owed {
+            None => self.writer.give(outlet),
+            Some(owed) => {
+                let (first, second) = self.writer.kept();
+                self.owed = Some(put_owed(first, second, owed, outlet));
+                owed > 0
+            }
+        }
     }
 
     /// Takes the bytes up to a line feed, and that.
@@ -416,29 +483,13 @@ impl Action for Rebuild {
         self.feed_open(piece, outlet)
     }
 
-    /// Puts what the last line says, and the rest of the capture.
-    fn finish(&mut self, outlet: &mut Outlet) {
-        if self.fault.is_some() {
-            return;
+    /// Owes what the last line puts, and the rest of the capture.
+    fn finish(&mut self, _outlet: &mut Outlet) {
+        if self.owed.is_none() {
+            self.end();
         }
-        let mut writer = self.writer.copied();
-        let mut out = LineBytes::new();
-        match put_line(
-            &mut writer,
-            &self.plan.plan,
-            self.version,
-            self.line.as_slice(),
-            &None,
-            &mut out,
-        ) {
-            Ok(()) => {
-                let mut rest = LineBytes::new();
-                writer.flush(&mut rest);
-                outlet.append(out.as_slice());
-                outlet.append(rest.as_slice());
-            }
-            Err(_) => {}
-        }
+        let (first, second) = self.writer.kept();
+        self.owed = Some(first.len() + second.len());
     }
 
     fn is_due(&self) -> bool {

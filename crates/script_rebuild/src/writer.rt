@@ -3,87 +3,122 @@
 ghost use Rattle.std.specs.Prelude.{◌<◌};
 ghost use Rattle.std.specs.List.{All};
 
-use crate::bytes::{LineBytes, put_bytes, put_item};
+use crate::bytes::{item_fits, put_item};
 use crate::encoders::{Encoders, encoders_for, put_kept};
-use arrayvec::ArrayVec;
-use frame_writer::SureWriter;
+use port_formatter::Formatter;
 use script_text::{Line, Line2, LineFault, TRIGGER_SOURCE};
 use source_events::SourceIds;
 use stp_grammar::packet::Order;
+use trace_stream::Outlet;
 use trace_values::SourceId;
 
-/// Writes the lines of a script as a capture: the bytes of each item as bytes of its source, in the frames of a
-/// `SureWriter`, whose segments its flushes end. A nibble of a system trace is kept until the rest of its byte is
-/// known.
+/// Writes the lines of a script as a capture: the bytes of each item as bytes of its source, by a formatter, whose
+/// segments its flushes end and which keeps what has become sure of the capture until it is given. A nibble of a system
+/// trace is kept until the rest of its byte is known.
 #[derive(Drop)]
 pub struct LineWriter {
     /// In which order the nibbles of numbers of a system trace are written.
     order: Order,
     encoders: Encoders,
-    frames: SureWriter,
+    formatter: Formatter,
     ghost named: { All (λ e. 0 < e.id) encoders.items },
 }
 
+ghost use Rattle.std.specs.Prelude.{◌≡◌, ◌≤◌, ◌+◌, ◌++◌, ◌∷◌, [], ℕ, List, length, true, false, None};
+ghost use Rattle.std.specs.Result.{IfOk, IfErr, OnErr};
+ghost use Rattle.port_formatter.specs.Formatter as formatters;
+ghost use Rattle.port_formatter.specs.Port.{has_place};
+ghost use Rattle.script_text.specs.declared.line_fault.LineFault.TheVariants.{Unrouted};
+
+/// The trigger source, where it has a place.
+fn trigger_source(formatter: &Formatter) -> Result<SourceId, LineFault>
+    ensures ok { IfOk result (λ id. (id ≡ 125) × (has_place (formatters.turns_of formatter.now) 125 ≡ true)) }
+    ensures err { IfErr result (λ fault. (fault ≡ Unrouted)
+        × (has_place (formatters.turns_of formatter.now) 125 ≡ false)) }
+{
+    match SourceId::new(TRIGGER_SOURCE) {
+        Some(id) if formatter.takes(id) => Ok(id),
+        _ => Err(LineFault::Unrouted),
+    }
+}
+
 impl LineWriter {
-    ghost use Rattle.std.specs.Prelude.{◌≡◌, ◌≤◌, ◌+◌, ◌++◌, ◌∷◌, [], ℕ, List, Ok};
-    ghost use Rattle.std.specs.Result.{OnErr};
     ghost use Rattle.trace_values.specs.declared.limits.TheConstants.{COUNT_ROOM};
-    ghost use Rattle.frame_writer.specs.Written.{written_segments};
+    ghost use Rattle.port_formatter.specs.Port.{Port};
+    ghost use Rattle.port_formatter.specs.Segments.{no_segments};
     ghost use Rattle.script_text.specs.declared.version_two.Line2.{Line2};
     ghost use Rattle.script_text.specs.declared.version_two.Line2.TheVariants.{One, Flush, Trigger};
+    ghost use Rattle.script_rebuild.specs.Routed.{puttable, line_if};
     ghost use Rattle.script_rebuild.specs.Script.{in_order};
-    ghost use Rattle.script_rebuild.specs.Segments.{segments_with_ends, sure_lines};
-    ghost use Rattle.script_rebuild.specs.PutLine.{PutsAfter};
-    ghost use Rattle.script_rebuild.specs.Writer.{stp_of, order_of, count_of, CanBePut, CanBePut2, Stands};
+    ghost use Rattle.script_rebuild.specs.PutLine.{PutsAfter, Flushes};
+    ghost use Rattle.script_rebuild.specs.Writer.{stp_of, order_of, turns_of, kept_by, count_of, debt_of, HasRoom};
+    ghost use Rattle.script_rebuild.specs.Writer.{CanBePut, CanBePut2, Stands};
+    ghost use Rattle.trace_stream.specs.Debt.{Paid, Pours};
+    ghost use Rattle.trace_stream.specs.declared.outlet.TheConstants.{OUTLET_ROOM};
+    ghost use Rattle.trace_stream.specs.declared.action.TheConstants.{ACTION_ROOM};
 
-    /// A writer of no line. The items of system traces are those of the sources `stp`, and their numbers are written in
-    /// this order of their nibbles. Synchronisations are written as `FrameWriter::new` says: a full one before each
-    /// frame whose number is a multiple of `every`, none where that is 0, and `halves` half ones, at most 8, in each
-    /// gap of a frame.
-    pub fn new(stp: &SourceIds, order: Order, every: u32, halves: u8) -> LineWriter
-        requires few { halves ≤ 8 }
-        ensures fresh { Stands result every halves [] }
+    /// A writer of no line, over a formatter that was given nothing. The items of system traces are those of the sources
+    /// `stp`, and their numbers are written in this order of their nibbles.
+    pub fn new(stp: &SourceIds, order: Order, formatter: Formatter) -> LineWriter
+        ensures fresh { (port : Port) → formatters.Stands formatter port no_segments → Stands result port [] }
         ensures stp { stp_of result ≡ in_order stp.now }
         ensures order { order_of result ≡ order }
-        ensures count { count_of result ≡ 0 }
+        ensures formatter { result.formatter ≡ formatter }
     {
         LineWriter {
             order,
             encoders: encoders_for(stp, order),
-            frames: SureWriter::new(every, halves),
+            formatter,
         }
     }
 
-    /// How many frames are whole, also where the last of them is not sure yet.
-    pub fn frames(&self) -> u64
-        ensures { result ≡ count_of self.now }
-    {
-        self.frames.frames()
-    }
-
-    /// Puts a line of version 1, and gives what has become sure of the capture: all frames of ended segments, and of
-    /// the unfinished one all but the last that is begun.
+    /// Whether a line can be put after the lines before it, by its first fault if it can't.
     ///
     /// # Errors
     ///
-    /// `Unfit` exactly where the line is an item of a system trace that can't be written after the lines before: then
-    /// the writer and `out` are as before.
+    /// As of `put`.
+    pub fn fits(&self, line: &Line2) -> Result<(), LineFault>
+        requires { CanBePut2 (stp_of self.now) line.now }
+        ensures { (port : Port) (lines : List Line2) → Stands self.now port lines →
+            puttable (turns_of self.now) lines line.now ≡ line_if result line.now }
+    {
+        match line {
+            Line2::One(Line::Of { id, item }) => {
+                item_fits(&self.encoders, &self.formatter, *id, item)
+            }
+            Line2::One(Line::Nothing) | Line2::Flush => Ok(()),
+            Line2::Trigger(_) => {
+                let _source = trigger_source(&self.formatter)?;
+                Ok(())
+            }
+        }
+    }
+
+    /// Puts a line of version 1, and keeps what has become sure of the capture: all frames of ended segments, and of the
+    /// unfinished one all but the last that is begun.
+    ///
+    /// # Errors
+    ///
+    /// `Unfit` exactly where the line is an item of a system trace that can't be written after the lines before, and
+    /// else `Unrouted` exactly where a funnel is before the port and has no place for the line's source: then the writer
+    /// is as before.
     #[inline(always)]
-    pub fn put(&mut self, line: &Line, out: &mut LineBytes) -> Result<(), LineFault>
+    pub fn put(&mut self, line: &Line) -> Result<(), LineFault>
         requires said { CanBePut (stp_of self.old) line.now }
-        requires empty { out.old.items ≡ [] }
-        requires room { count_of self.old + 100 ≤ COUNT_ROOM }
+        requires count { count_of self.old + 100 ≤ COUNT_ROOM }
+        requires room { HasRoom self.old 200 }
         ensures stp { stp_of self.new ≡ stp_of self.old }
         ensures order { order_of self.new ≡ order_of self.old }
-        ensures puts { (every halves : ℕ) (lines : List Line2) → Stands self.old every halves lines →
-            PutsAfter self.old self.new every halves lines
-            (record { line = One line.now; answer = result; more = out.new.items }) }
-        ensures same { OnErr result ((self.new ≡ self.old) × (out.new ≡ out.old)) }
+        ensures turns { turns_of self.new ≡ turns_of self.old }
+        ensures puts { (port : Port) (lines : List Line2) → Stands self.old port lines →
+            PutsAfter self.old self.new port lines (One line.now) result }
+        ensures same { OnErr result (self.new ≡ self.old) }
         ensures count { count_of self.new ≤ count_of self.old + 100 }
+        ensures room { (more : ℕ) → HasRoom self.old (200 + more) → HasRoom self.new more }
     {
         match line {
             Line::Nothing => Ok(()),
-            Line::Of { id, item } => put_item(&mut self.encoders, &mut self.frames, *id, item, out),
+            Line::Of { id, item } => put_item(&mut self.encoders, &mut self.formatter, *id, item),
         }
     }
 
@@ -91,78 +126,99 @@ impl LineWriter {
     ///
     /// # Errors
     ///
-    /// As of `put`: a flush and a trigger can always be put.
+    /// As of `put`: a flush can always be put, and a trigger where its source, 125, has a place.
     #[inline(never)]
-    pub fn put2(&mut self, line: &Line2, out: &mut LineBytes) -> Result<(), LineFault>
+    pub fn put2(&mut self, line: &Line2) -> Result<(), LineFault>
         requires said { CanBePut2 (stp_of self.old) line.now }
-        requires empty { out.old.items ≡ [] }
-        requires room { count_of self.old + 100 ≤ COUNT_ROOM }
+        requires count { count_of self.old + 100 ≤ COUNT_ROOM }
+        requires room { HasRoom self.old 200 }
         ensures stp { stp_of self.new ≡ stp_of self.old }
         ensures order { order_of self.new ≡ order_of self.old }
-        ensures puts { (every halves : ℕ) (lines : List Line2) → Stands self.old every halves lines →
-            PutsAfter self.old self.new every halves lines
-            (record { line = line.now; answer = result; more = out.new.items }) }
-        ensures same { OnErr result ((self.new ≡ self.old) × (out.new ≡ out.old)) }
+        ensures turns { turns_of self.new ≡ turns_of self.old }
+        ensures puts { (port : Port) (lines : List Line2) → Stands self.old port lines →
+            PutsAfter self.old self.new port lines line.now result }
+        ensures same { OnErr result (self.new ≡ self.old) }
         ensures count { count_of self.new ≤ count_of self.old + 100 }
+        ensures room { (more : ℕ) → HasRoom self.old (200 + more) → HasRoom self.new more }
     {
         match line {
-            Line2::One(line) => return self.put(line, out),
-            Line2::Flush => self.flush(out),
-            Line2::Trigger(byte) => self.put_trigger(*byte, out),
+            Line2::One(line) => self.put(line),
+            Line2::Flush => {
+                self.flush();
+                Ok(())
+            }
+            Line2::Trigger(byte) => self.put_trigger(*byte),
         }
+    }
+
+    /// Puts a byte of the trigger source.
+    fn put_trigger(&mut self, byte: u8) -> Result<(), LineFault>
+        requires count { count_of self.old + 100 ≤ COUNT_ROOM }
+        requires room { HasRoom self.old 200 }
+        ensures stp { stp_of self.new ≡ stp_of self.old }
+        ensures order { order_of self.new ≡ order_of self.old }
+        ensures turns { turns_of self.new ≡ turns_of self.old }
+        ensures puts { (port : Port) (lines : List Line2) → Stands self.old port lines →
+            PutsAfter self.old self.new port lines (Trigger byte) result }
+        ensures same { OnErr result (self.new ≡ self.old) }
+        ensures count { count_of self.new ≤ count_of self.old + 100 }
+        ensures room { (more : ℕ) → HasRoom self.old (200 + more) → HasRoom self.new more }
+    {
+        let id = trigger_source(&self.formatter)?;
+        self.formatter.put_all(id, &[byte]);
         Ok(())
     }
 
-    /// Puts a byte of the trigger source, and gives what has become sure.
-    fn put_trigger(&mut self, byte: u8, out: &mut LineBytes)
-        requires empty { out.old.items ≡ [] }
-        requires room { count_of self.old + 100 ≤ COUNT_ROOM }
-        ensures stp { stp_of self.new ≡ stp_of self.old }
-        ensures order { order_of self.new ≡ order_of self.old }
-        ensures puts { (every halves : ℕ) (lines : List Line2) → Stands self.old every halves lines →
-            PutsAfter self.old self.new every halves lines
-            (record { line = Trigger byte; answer = Ok tt; more = out.new.items }) }
-        ensures count { count_of self.new ≤ count_of self.old + 100 }
-    {
-        if let Some(id) = SourceId::new(TRIGGER_SOURCE) {
-            put_bytes(&mut self.frames, id, &[byte], out);
-        }
-    }
-
     /// Ends the segment: puts the nibbles that are kept of system traces, each with a NULL above it, in increasing
-    /// order of their sources' IDs, and gives what has become sure. Then all that is written so far is sure: so this,
-    /// of a copy, gives the rest of the capture, once the lines are at their end.
-    pub fn flush(&mut self, out: &mut LineBytes)
-        requires empty { out.old.items ≡ [] }
-        requires room { count_of self.old + 100 ≤ COUNT_ROOM }
+    /// order of their sources' IDs, and keeps what has become sure. Then all that is written so far is sure: so this
+    /// gives the rest of the capture, once the lines are at their end.
+    pub fn flush(&mut self)
+        requires count { count_of self.old + 100 ≤ COUNT_ROOM }
+        requires room { HasRoom self.old 23 }
         ensures stp { stp_of self.new ≡ stp_of self.old }
         ensures order { order_of self.new ≡ order_of self.old }
-        ensures puts { (every halves : ℕ) (lines : List Line2) → Stands self.old every halves lines →
-            PutsAfter self.old self.new every halves lines
-            (record { line = Flush; answer = Ok tt; more = out.new.items }) }
-        ensures whole { (every halves : ℕ) (lines : List Line2) → Stands self.old every halves lines →
-            written_segments every halves (segments_with_ends (order_of self.old) (stp_of self.old) lines) ≡
-            sure_lines every halves (order_of self.old) (stp_of self.old) lines ++ out.new.items }
+        ensures turns { turns_of self.new ≡ turns_of self.old }
+        ensures puts { (port : Port) (lines : List Line2) → Stands self.old port lines →
+            Flushes self.old self.new port lines }
         ensures count { count_of self.new ≤ count_of self.old + 100 }
+        ensures room { (more : ℕ) → HasRoom self.old (23 + more) → HasRoom self.new more }
     {
-        self.encoders = put_kept(&self.encoders, &mut self.frames, out);
-        self.frames.flush(out);
+        self.encoders = put_kept(&self.encoders, &mut self.formatter);
+        self.formatter.flush();
     }
 
-    /// Another writer of the same lines.
-    pub fn copied(&self) -> LineWriter
-        ensures stp { stp_of result ≡ stp_of self.now }
-        ensures order { order_of result ≡ order_of self.now }
-        ensures count { count_of result ≡ count_of self.now }
-        ensures list { (every halves : ℕ) (lines : List Line2) → Stands self.now every halves lines →
-            Stands result every halves lines }
+    /// Moves what is kept to the outlet, as far as a call may put, and answers whether something was kept.
+    #[inline(always)]
+    pub fn give(&mut self, outlet: &mut Outlet) -> bool
+        requires room { length outlet.old + ACTION_ROOM ≤ OUTLET_ROOM }
+        ensures stp { stp_of self.new ≡ stp_of self.old }
+        ensures order { order_of self.new ≡ order_of self.old }
+        ensures turns { turns_of self.new ≡ turns_of self.old }
+        ensures count { count_of self.new ≡ count_of self.old }
+        ensures stands { (port : Port) (lines : List Line2) → Stands self.old port lines → Stands self.new port lines }
+        ensures poured { Pours (debt_of self.old) (debt_of self.new) outlet.old outlet.new result }
+        ensures room { (more : ℕ) → HasRoom self.old more → HasRoom self.new more }
     {
-        let mut encoders = ArrayVec::new();
-        let _ = encoders.try_extend_from_slice(self.encoders.as_slice());
-        LineWriter {
-            order: self.order,
-            encoders,
-            frames: self.frames.copied(),
-        }
+        self.formatter.give(outlet)
+    }
+
+    /// What is kept, from the first byte on, in two parts: without a funnel all is in the first.
+    pub fn kept(&self) -> (&[u8], &[u8])
+        ensures parts { result.0.now ++ result.1.now ≡ kept_by self.now }
+        ensures one { turns_of self.now ≡ None → result.1.now ≡ [] }
+    {
+        self.formatter.kept()
+    }
+
+    /// Drops what is kept.
+    pub fn forget(&mut self)
+        ensures stp { stp_of self.new ≡ stp_of self.old }
+        ensures order { order_of self.new ≡ order_of self.old }
+        ensures turns { turns_of self.new ≡ turns_of self.old }
+        ensures count { count_of self.new ≡ count_of self.old }
+        ensures kept { kept_by self.new ≡ [] }
+        ensures stands { (port : Port) (lines : List Line2) → Stands self.old port lines → Stands self.new port lines }
+    {
+        self.formatter.forget();
     }
 }

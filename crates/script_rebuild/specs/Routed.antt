@@ -1,12 +1,16 @@
--- Which lines of a script go through a funnel (this project's profile): those of the sources of its order.
-use Rattle.std.specs.Prelude.{ℕ, ◌+◌, List, [], ◌∷◌, ◌++◌, length, Bool, true, ◌==◌, ◌&&◌, if◌then◌else◌, Option, Some}
+-- Which lines of a script go to the port (this project's profile): where a funnel is before it, those of the sources
+-- of its order.
+use Rattle.std.specs.Prelude.{ℕ, ◌+◌, List, [], ◌∷◌, ◌++◌, length, Bool, true, ◌==◌, ◌&&◌, if◌then◌else◌}
+use Rattle.std.specs.Prelude.{Option, None, Some, Result, Ok, Err}
 use Rattle.std.specs.List.{list_any}
 use Rattle.script_text.specs.declared.lines.Line.TheVariants.{Nothing, Of}
 use Rattle.script_text.specs.declared.line_fault.LineFault.{LineFault}
 use Rattle.script_text.specs.declared.line_fault.LineFault.TheVariants.{Unrouted}
 use Rattle.script_text.specs.declared.version_two.Line2.{Line2}
 use Rattle.script_text.specs.declared.version_two.Line2.TheVariants.{One, Flush, Trigger}
-use Rattle.script_rebuild.specs.Versions.{Reading}
+use Rattle.script_text.specs.Lines.{◌>>=◌}
+use Rattle.trace_funnel.specs.declared.turns.Turns.{Turns}
+use Rattle.script_rebuild.specs.Versions.{Reading, fitting}
 
 -- The source that a line gives bytes has a place in the order. A line of a system trace that gives it only a nibble,
 -- which is kept for its next byte, gives it that; so at a flush each kept nibble is of a source with a place.
@@ -31,3 +35,31 @@ routed_on order fault before (line ∷ lines) =
 -- what is read of a script, up to the first line that has another fault or no place
 abbrev pub routed : List ℕ → Reading → Reading
 routed order r = routed_on order r.fault [] r.lines
+
+-- == With a funnel or without
+
+-- a line, and each of these, goes to the port
+abbrev pub is_placed : Option Turns → Line2 → Bool
+is_placed None line = true
+is_placed (Some turns) line = is_routed turns.order line
+
+abbrev pub are_placed : Option Turns → List Line2 → Bool
+are_placed None lines = true
+are_placed (Some turns) lines = are_routed turns.order lines
+
+-- what is read of a script
+abbrev pub routed_by : Option Turns → Reading → Reading
+routed_by None r = r
+routed_by (Some turns) r = routed turns.order r
+
+-- a line that has a place, and one that fits after others, too
+abbrev pub placed : Option Turns → Line2 → Result Line2 LineFault
+placed funnel line = if is_placed funnel line then Ok line else Err Unrouted
+
+abbrev pub puttable : Option Turns → List Line2 → Line2 → Result Line2 LineFault
+puttable funnel before line = fitting before line >>= placed funnel
+
+-- a line, where the answer to its putting is good
+abbrev pub line_if : Result (Unit {0}) LineFault → Line2 → Result Line2 LineFault
+line_if (Ok done) line = Ok line
+line_if (Err fault) line = Err fault

@@ -10,9 +10,9 @@ use Rattle.script_text.specs.VersionTwo.{line2_of, trigger_said}
 use Rattle.script_text.specs.Rows.{both}
 use Rattle.script_rebuild.specs.Script.{in_order}
 use Rattle.script_rebuild.specs.Segments.{script_segments}
-use Rattle.script_funnel.specs.Passed.{all_passed}
-use Rattle.script_funnel.specs.Rows.{turns, reading}
-use Rattle.script_funnel.proofs.rows.two_sources.Goals as goal
+use Rattle.port_formatter.specs.Passed.{all_passed}
+use Rattle.script_rebuild.specs.Rows.{turns, reading}
+use Rattle.script_rebuild.proofs.rows.two_sources.Goals as goal
 
 -- what the lines put, what the funnel passes on of it, and the frame of that
 put : script_segments both (reading (turns (16 ∷ (17 ∷ [])) 2 4) (codes "16 raw 0102030405" ∷ (codes "17 raw aa" ∷ []))).lines

@@ -8,10 +8,10 @@ use Rattle.script_text.specs.VersionTwo.{line2_of, trigger_said}
 use Rattle.script_text.specs.Rows.{both}
 use Rattle.script_rebuild.specs.Script.{in_order}
 use Rattle.script_rebuild.specs.Segments.{script_segments}
-use Rattle.script_funnel.specs.Passed.{all_passed}
-use Rattle.script_funnel.specs.Rows.{turns, reading}
+use Rattle.port_formatter.specs.Passed.{all_passed}
+use Rattle.script_rebuild.specs.Rows.{turns, reading}
 use Rattle.frame_writer.specs.Written.{Tagged}
-use Rattle.script_funnel.proofs.rows.flushed.Goals as goal
+use Rattle.script_rebuild.proofs.rows.flushed.Goals as goal
 
 -- what the lines put, and what the funnel passes on of it
 abbrev lines : List (List ℕ)

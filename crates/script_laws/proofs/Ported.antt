@@ -1,4 +1,4 @@
--- What is funnelled of a script reads back as what its lines give.
+-- What the lines of a script are rebuilt to, straight or through a funnel, reads back as what they give.
 use Rattle.std.proofs.Common.{◌≡◌, ◌≤◌, ℕ, List, [], ◌∷◌, ◌++◌, refl, sym, ◌∙◌, ap, subst, append_assoc, append-nil}
 use Rattle.std.proofs.Common.{Bool, true, false, cond, arith, Option, None, Some, length}
 use Rattle.std.specs.Prelude.{◌==◌, ◌&&◌, ◌||◌, nat_le, ◌+◌}
@@ -10,11 +10,13 @@ use Rattle.frame_writer.specs.Written.{Tagged, joined, written_segments}
 use Rattle.script_laws.proofs.Bytes.{bytes_for, for_append, none_bytes, all_sources}
 use Rattle.script_laws.proofs.Given.{any_reads_as_given}
 use Rattle.script_laws.specs.Puts.{CanAllBePut}
-use Rattle.script_laws.specs.ReadBack.{is_line_of, has_line, ReadsAsGiven}
+use Rattle.script_laws.specs.ReadBack.{rebuilt, IsFair, is_line_of, has_line, ReadsAsGiven}
+use Rattle.script_rebuild.specs.Rebuilt.{routed_script}
+use Rattle.script_rebuild.specs.Routed.{is_routed, are_routed, are_placed}
+use Rattle.script_rebuild.specs.RoutedLaws.{placed_front}
 use Rattle.script_rebuild.specs.Segments.{script_segments}
-use Rattle.script_rebuild.specs.Versions.{Reading}
-use Rattle.script_text.specs.declared.line_fault.LineFault.{LineFault}
-use Rattle.script_text.specs.declared.line_fault.LineFault.TheVariants.{Unrouted}
+use Rattle.script_rebuild.specs.Versions.{script_of}
+use Rattle.script_rebuild.specs.declared.plan.RebuildPlan.{RebuildPlan}
 use Rattle.script_text.specs.declared.lines.Line.TheVariants.{Nothing, Of}
 use Rattle.script_text.specs.declared.version_two.Line2.{Line2}
 use Rattle.script_text.specs.declared.version_two.Line2.TheVariants.{One, Flush, Trigger}
@@ -23,9 +25,10 @@ use Rattle.source_events.specs.declared.plan.Plan.{Plan}
 use Rattle.trace_funnel.specs.Acts.{are_of}
 use Rattle.trace_funnel.specs.Order.{are_apart}
 use Rattle.trace_values.specs.Placed.{placed}
-use Rattle.script_funnel.specs.Passed.{Turns, to_funnel, all_passed}
-use Rattle.script_funnel.specs.Routed.{is_routed, are_routed, routed_on}
-use Rattle.script_funnel.proofs.Kept.{all_kept}
+use Rattle.trace_funnel.specs.declared.turns.Turns.{Turns}
+use Rattle.port_formatter.specs.Passed.{to_funnel, all_passed}
+use Rattle.script_laws.proofs.Kept.{all_kept}
+use Rattle.script_laws.proofs.Said.{script_good}
 
 -- a line of a source is of one with a place
 line_has : (order : List ℕ) (x : ℕ) (line : Line2) → is_routed order line ≡ true → is_line_of x line ≡ true →
@@ -144,52 +147,49 @@ all_inside (segment ∷ rest) none =
         none_of_both (bytes_for x segment) (bytes_for x (joined rest))
         (sym (for_append x segment (joined rest)) ∙ none x e)
 
-module _ (every halves : ℕ) (t : Turns) (plan : Plan) (lines : List Line2) (sound : is_sound plan ≡ true)
-    (good : CanAllBePut plan [] lines) (some : 1 ≤ t.hold) (apart : are_apart t.order ≡ true)
-    (all : are_routed t.order lines ≡ true) where
-  abbrev put : List Tagged
-  put = joined (script_segments plan lines)
+-- what lines put straight, and what a funnel passes on of it
+module _ (every halves : ℕ) (plan : Plan) (lines : List Line2) (sound : is_sound plan ≡ true)
+    (good : CanAllBePut plan [] lines) where
+  straight_reads : ReadsAsGiven plan lines (placed (written_segments every halves (script_segments plan lines)))
+  straight_reads =
+      any_reads_as_given every halves plan lines sound good (script_segments plan lines)
+      (all_sources plan sound lines good) (λ x. refl)
 
-  same : (x : ℕ) → bytes_for x (joined (all_passed t (script_segments plan lines))) ≡ bytes_for x put
-  same = all_kept t (script_segments plan lines) some apart
-      (of_order t.order put (λ x e. none_bytes plan x sound lines good (none_has t.order x lines all e)))
+  module _ (t : Turns) (some : 1 ≤ t.hold) (apart : are_apart t.order ≡ true)
+      (all : are_routed t.order lines ≡ true) where
+    abbrev put : List Tagged
+    put = joined (script_segments plan lines)
 
-  pub funnelled_reads :
-      ReadsAsGiven plan lines (placed (written_segments every halves (all_passed t (script_segments plan lines))))
-  funnelled_reads =
-      any_reads_as_given every halves plan lines sound good (all_passed t (script_segments plan lines))
-      (all_inside (all_passed t (script_segments plan lines))
-      (λ x e. same x ∙ all_outside x (script_segments plan lines) (all_sources plan sound lines good) e))
-      same
+    same : (x : ℕ) → bytes_for x (joined (all_passed t (script_segments plan lines))) ≡ bytes_for x put
+    same = all_kept t (script_segments plan lines) some apart
+        (of_order t.order put (λ x e. none_bytes plan x sound lines good (none_has t.order x lines all e)))
 
--- a reading without a fault has all lines, and each has a place
-pub record AreAllRouted (order : List ℕ) (fault : Option (ℕ × LineFault)) (before lines : List Line2) : Type 0 where
-  pub no_fault : fault ≡ None
-  pub same : (routed_on order fault before lines).lines ≡ before ++ lines
-  pub places : are_routed order lines ≡ true
+    funnelled_reads :
+        ReadsAsGiven plan lines (placed (written_segments every halves (all_passed t (script_segments plan lines))))
+    funnelled_reads =
+        any_reads_as_given every halves plan lines sound good (all_passed t (script_segments plan lines))
+        (all_inside (all_passed t (script_segments plan lines))
+        (λ x e. same x ∙ all_outside x (script_segments plan lines) (all_sources plan sound lines good) e))
+        same
 
-pub all_routed : (order : List ℕ) (fault : Option (ℕ × LineFault)) (before lines : List Line2) →
-    (routed_on order fault before lines).fault ≡ None → AreAllRouted order fault before lines
-all_routed order fault before [] e = record { no_fault = e; same = sym (append-nil before); places = refl }
-all_routed order fault before (line ∷ lines) e =
-    by (is_routed order line) refl e (λ f. all_routed order fault (before ++ line ∷ []) lines f)
-  where
-    next : List Line2
-    next = before ++ line ∷ []
+  pub port_reads : (funnel : Option Turns) → IsFair funnel → are_placed funnel lines ≡ true →
+      (let p : RebuildPlan = record { plan = plan; every = every; halves = halves; funnel = funnel } in
+      ReadsAsGiven plan lines (rebuilt p lines))
+  port_reads None fair all = straight_reads
+  port_reads (Some turns) fair all = funnelled_reads turns fair.0 fair.1 all
 
-    unrouted : Reading
-    unrouted = record { lines = before; fault = Some (length before + 1, Unrouted) }
+-- lines before others can be put where all can
+front_good : (plan : Plan) (before front rest : List Line2) → CanAllBePut plan before (front ++ rest) →
+    CanAllBePut plan before front
+front_good plan before [] rest good = tt
+front_good plan before (line ∷ front) rest good = (good.0, front_good plan (before ++ line ∷ []) front rest good.1)
 
-    by : (v : Bool) → is_routed order line ≡ v →
-        (cond v (routed_on order fault next lines) unrouted).fault ≡ None →
-        ((routed_on order fault next lines).fault ≡ None → AreAllRouted order fault next lines) →
-        AreAllRouted order fault before (line ∷ lines)
-    by true h f further =
-        let more = further f in
-        record {
-          no_fault = more.no_fault;
-          same = ap (λ (v : Bool). (cond v (routed_on order fault next lines) unrouted).lines) h ∙ more.same
-              ∙ append_assoc before (line ∷ []) lines;
-          places = ap (λ (v : Bool). v && are_routed order lines) h ∙ more.places;
-        }
-    by false h f further = absurd (let no = f in cc)
+-- so it is with a script's, as far as it has no fault and each line has a place
+pub script_reads : (p : RebuildPlan) (script : List ℕ) → is_sound p.plan ≡ true → IsFair p.funnel →
+    ReadsAsGiven p.plan (routed_script p script).lines (rebuilt p (routed_script p script).lines)
+script_reads p script sound fair =
+    let r = script_of p.plan script in
+    let all = placed_front p.funnel r in
+    let good = subst (λ (l : List Line2). CanAllBePut p.plan [] l) all.parts (script_good p.plan script) in
+    port_reads p.every p.halves p.plan (routed_script p script).lines sound
+    (front_good p.plan [] (routed_script p script).lines all.rest good) p.funnel fair all.places

@@ -11,7 +11,8 @@ use Rattle.trace_funnel.specs.Kept.{bytes_for as given_for}
 use Rattle.trace_funnel.specs.Order.{are_apart}
 use Rattle.trace_funnel.specs.Turns.{Place, Turned, empty}
 use Rattle.trace_funnel.specs.declared.tagged.Tagged.{Tagged as Given}
-use Rattle.script_funnel.specs.Passed.{Turns, to_funnel, from_funnel, whole_acts, act_by, passed_from, all_passed}
+use Rattle.port_formatter.specs.Passed.{to_funnel, from_funnel, whole_acts, act_by, passed_from, all_passed}
+use Rattle.trace_funnel.specs.declared.turns.Turns.{Turns}
 
 -- the bytes of a source are the same in both forms
 pub to_same : (x : ℕ) (bytes : List Tagged) → given_for x (to_funnel bytes) ≡ bytes_for x bytes
