@@ -97,6 +97,7 @@ recovering (tasks.Check plan Off) on = absurd on
 recovering (tasks.Split frames id) on = absurd on
 recovering (tasks.Text plan port) on = absurd on
 recovering (tasks.Rebuild plan sync half) on = absurd on
+recovering (tasks.Funnel plan sync half turns) on = absurd on
 recovering tasks.Realign on = absurd on
 recovering (tasks.Ring size) on = absurd on
 recovering (tasks.Unring size at full) on = absurd on

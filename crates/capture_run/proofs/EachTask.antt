@@ -2,7 +2,7 @@
 use Rattle.std.proofs.Common.{◌≡◌, ◌⊎◌, ℕ, refl, inl, inr}
 use Rattle.capture_words.specs.declared.job.Task.{Task}
 use Rattle.capture_words.specs.declared.job.Task.TheVariants.{Show, Split, Check, Rebuild, Exercise, Realign, Ring}
-use Rattle.capture_words.specs.declared.job.Task.TheVariants.{Unring, Text}
+use Rattle.capture_words.specs.declared.job.Task.TheVariants.{Unring, Text, Funnel}
 use Rattle.capture_run.specs.Actions.{HasDone, limit_of, meaning_of}
 use Rattle.capture_run.specs.Run.{HasRun, Streams}
 use Rattle.capture_run.specs.declared.status.Status.{Status}
@@ -24,6 +24,7 @@ kind_of (Split frames id) = inl (record { run = λ l s t e r. r; done = λ l s t
 kind_of (Text plan port) = inl (record { run = λ l s t e r. r; done = λ l s t e r. r })
 kind_of (Check plan recover) = inl (record { run = λ l s t e r. r; done = λ l s t e r. r })
 kind_of (Rebuild plan sync half) = inl (record { run = λ l s t e r. r; done = λ l s t e r. r })
+kind_of (Funnel plan sync half turns) = inl (record { run = λ l s t e r. r; done = λ l s t e r. r })
 kind_of Realign = inl (record { run = λ l s t e r. r; done = λ l s t e r. r })
 kind_of (Ring size) = inl (record { run = λ l s t e r. r; done = λ l s t e r. r })
 kind_of (Unring size at full) = inl (record { run = λ l s t e r. r; done = λ l s t e r. r })

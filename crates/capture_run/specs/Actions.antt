@@ -3,7 +3,7 @@
 use Rattle.std.specs.Prelude.{◌≡◌, ℕ, List, [], ◌++◌, true, false, is_some, length, not, ◌==◌, None}
 use Rattle.capture_words.specs.declared.job.Task.{Task}
 use Rattle.capture_words.specs.declared.job.Task.TheVariants.{Show, Split, Check, Rebuild, Exercise, Realign, Ring}
-use Rattle.capture_words.specs.declared.job.Task.TheVariants.{Unring, Text}
+use Rattle.capture_words.specs.declared.job.Task.TheVariants.{Unring, Text, Funnel}
 use Rattle.capture_words.specs.declared.recover.Recover.{Recover}
 use Rattle.capture_words.specs.declared.recover.Recover.TheVariants.{Off, On}
 use Rattle.buffer_ring.specs.Image.{pointer, is_full, dropped}
@@ -34,6 +34,7 @@ use Rattle.trace_stream.specs.Recent.{last_sixteen}
 use Rattle.trace_values.specs.Placed.{placed}
 use Rattle.trace_text.specs.NoteText.{last_line, slipped_line, buffer_line, image_line}
 use Rattle.capture_run.specs.Notes.{fault_text, script_note}
+use Rattle.capture_run.specs.Rebuilds.{straight, funnelled}
 use Rattle.capture_run.specs.Run.{TaskMeaning, TaskNotes, task_of, Streams, HasRun, HasMade}
 use Rattle.capture_run.specs.declared.status.Status.{Status}
 use Rattle.capture_run.specs.declared.status.Status.TheVariants.{CaptureFault, ScriptFault, Recovered, BadImage}
@@ -127,6 +128,10 @@ abbrev pub checking : Recover → Plan → TaskMeaning
 checking Off plan = task_of (check_meaning plan) (captured last_note)
 checking On plan = task_of (recovering_summary.check_meaning plan) (recovered_notes plan)
 
+-- the writing of a script's capture
+abbrev pub rebuilding : RebuildPlan → TaskMeaning
+rebuilding p = task_of (rebuild_meaning p) (rebuild_notes p)
+
 -- what the task makes of the bytes of its input
 abbrev pub meaning_of : Task → TaskMeaning
 meaning_of (Show plan only window recover) = showing recover (record { plan = plan; only = only; window = window })
@@ -137,9 +142,8 @@ meaning_of (Text plan port) =
     let p : PortTextPlan = record { plan = plan; port = port } in
     task_of (port_text_meaning p) (captured (text_note p))
 meaning_of (Check plan recover) = checking recover plan
-meaning_of (Rebuild plan sync half) =
-    let script : RebuildPlan = record { plan = plan; every = sync; halves = half; funnel = None } in
-    task_of (rebuild_meaning script) (rebuild_notes script)
+meaning_of (Rebuild plan sync half) = rebuilding (straight plan sync half)
+meaning_of (Funnel plan sync half turns) = rebuilding (funnelled plan sync half turns)
 meaning_of (Exercise items lose) = reads_nothing (exercise_summary items lose)
 meaning_of Realign = task_of realign_meaning realign_notes
 meaning_of (Ring size) = task_of (ring_meaning size) (ring_notes size)

@@ -4,8 +4,6 @@ ghost use Rattle.std.specs.Prelude.{◌≡◌, ◌+◌, ◌≤◌, [], codes, tr
 ghost use Rattle.trace_io.specs.Causes.{Rose};
 ghost use Rattle.trace_stream.specs.Fresh.{IsFresh};
 ghost use Rattle.trace_stream.specs.declared.limits.TheConstants.{GREATEST_CAPTURE};
-ghost use Rattle.script_rebuild.specs.Rebuilder.{Stands, plan_of, taken_by, debt_of, IsLive};
-ghost use Rattle.trace_stream.specs.Debt.{Paid};
 ghost use Rattle.capture_words.specs.Jobs.{IsSoundTask};
 ghost use Rattle.capture_run.specs.Actions.{HasDone, checking, showing};
 ghost use Rattle.source_events.specs.Plan.{is_sound};
@@ -24,6 +22,7 @@ use recovery_listing::{RecoveringCheck, RecoveringShow};
 use script_rebuild::{Rebuild, RebuildPlan};
 use source_events::Plan;
 use std::alloc::{AllocError, Global};
+use trace_funnel::Turns;
 use trace_io::{Sink, Source};
 use trace_stream::{Buffers, Outcome, serve};
 
@@ -169,21 +168,16 @@ fn run_check<I: Source, O: Sink, N: Sink>(
     }
 }
 
-/// The action `rebuild`, which read nothing yet.
-fn rebuild(plan: Plan, sync: u32, half: u8) -> Rebuild
-    requires few { half ≤ 8 }
-    ensures plan { plan_of result ≡ record { plan = plan; every = sync; halves = half; funnel = None } }
-    ensures stands { Stands result [] }
-    ensures count { taken_by result ≡ 0 }
-    ensures paid { debt_of result ≡ Paid }
-    ensures live { IsLive result }
+/// How a script is written: straight, or through a funnel that takes these turns.
+fn script_plan(plan: Plan, sync: u32, half: u8, funnel: Option<Turns>) -> RebuildPlan
+    ensures { result ≡ record { plan = plan; every = sync; halves = half; funnel = funnel } }
 {
-    Rebuild::new(RebuildPlan {
+    RebuildPlan {
         plan,
         every: sync,
         halves: half,
-        funnel: None,
-    })
+        funnel,
+    }
 }
 
 /// Does the job. All memory is taken before anything is read.
@@ -229,8 +223,19 @@ pub fn run_job<I: Source, O: Sink, N: Sink>(
             run_check(&mut buffers, plan, recover, limit, input, output, notes)
         }
         Task::Rebuild { plan, sync, half } => {
-            let mut action = rebuild(plan, sync, half);
-            run_action(&mut buffers, &mut action, limit, input, output, notes)
+            let script = script_plan(plan, sync, half, None);
+            let opened = Rebuild::through(alloc, script);
+            run_opened(&mut buffers, opened, limit, input, output, notes)
+        }
+        Task::Funnel {
+            plan,
+            sync,
+            half,
+            turns,
+        } => {
+            let script = script_plan(plan, sync, half, Some(turns));
+            let opened = Rebuild::through(alloc, script);
+            run_opened(&mut buffers, opened, limit, input, output, notes)
         }
         Task::Realign => {
             run_action(

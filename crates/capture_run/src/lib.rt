@@ -1,6 +1,6 @@
 //! All that the program does, as one call over its words and three streams: it lists what all sources of a capture
 //! gave, takes the bytes of one source out of the frames of a trace port, or counts what each source sent. Or it writes
-//! the capture of a script, or tries itself on a capture of its own.
+//! the capture of a script, straight or through a funnel, or tries itself on a capture of its own.
 #![tactic(auto)]
 
 ghost use Rattle.std.specs.Prelude.{◌≡◌, ◌⊎◌, ◌+◌, ◌≤◌, ℕ, List, length, map, codes};
@@ -9,13 +9,13 @@ ghost use Rattle.trace_io.specs.Causes.{Rose};
 ghost use Rattle.capture_words.specs.Calls.{AsksFor, Misuses, IsMisuse};
 ghost use Rattle.capture_words.specs.Texts.{usage_line};
 ghost use Rattle.capture_words.specs.declared.job.Job.{Job};
-ghost use Rattle.capture_words.specs.declared.job.Task.TheVariants.{Rebuild};
 ghost use Rattle.capture_words.specs.declared.usage.UsageFault.{UsageFault};
+ghost use Rattle.script_rebuild.specs.declared.plan.RebuildPlan.{RebuildPlan};
 ghost use Rattle.source_events.specs.declared.plan.Plan.{Plan};
 ghost use Rattle.capture_run.specs.Actions.{HasDone, IsSoundInput, limit_of};
 ghost use Rattle.capture_run.specs.Fronts.{ListsRest, IsSoundWhole, FollowsWhole};
 ghost use Rattle.capture_run.specs.Notes.{Notes};
-ghost use Rattle.capture_run.specs.Rebuilds.{Rebuilds};
+ghost use Rattle.capture_run.specs.Rebuilds.{Rebuilds, Writes};
 ghost use Rattle.capture_run.specs.Recovers.{GoesOn, IsRecovered};
 ghost use Rattle.capture_run.specs.Run.{streams, Untouched, Loses, IsDoneOrNoMemory};
 
@@ -47,8 +47,8 @@ use trace_io::{Sink, Source};
 /// at each source, has no filter and is done, what it wrote follows that whole: from each source's point on it
 /// lists the whole's events, in the whole's order, at offsets that count from the first byte read (`fronts`).
 ///
-/// Where `rebuild` is done, the output gained the capture of the script, and that capture reads back, source by source,
-/// as exactly what the script's lines give (`reads_back`).
+/// Where `rebuild` or `funnel` is done, the output gained the capture of the script, and that capture reads back, source
+/// by source, as exactly what the script's lines give (`reads_back`).
 pub fn run<I: Source, O: Sink, N: Sink>(
     alloc: Global,
     words: &[String],
@@ -100,10 +100,9 @@ pub fn run<I: Source, O: Sink, N: Sink>(
         FollowsWhole whole lost bytes (O.held output.old) (O.held output.new) }
 
     // What is rebuilt reads back as exactly what the lines of the script give each source.
-    ensures reads_back { (job : Job) (plan : Plan) (sync half : ℕ) (script : List ℕ) →
-        AsksFor (map string_bytes words.now) job → job.task ≡ Rebuild plan sync half →
-        Loses (I.left input.old) (I.left input.new) script → result ≡ Status.Done →
-        Rebuilds plan sync half script (O.held output.old) (O.held output.new) }
+    ensures reads_back { (job : Job) (p : RebuildPlan) (script : List ℕ) → AsksFor (map string_bytes words.now) job →
+        Writes p job.task → Loses (I.left input.old) (I.left input.new) script → result ≡ Status.Done →
+        Rebuilds p script (O.held output.old) (O.held output.new) }
 {
     match read_words(alloc, words) {
         Asked::Do(job) => run_job(alloc, job, input, output, notes),

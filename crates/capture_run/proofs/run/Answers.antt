@@ -4,6 +4,7 @@ use Rattle.capture_words.specs.Calls.{AsksFor, AskedBy}
 use Rattle.capture_words.specs.declared.job.Job.{Job}
 use Rattle.capture_run.specs.Actions.{HasDone, IsSoundInput, limit_of}
 use Rattle.capture_run.specs.Fronts.{ListsRest}
+use Rattle.capture_run.specs.Rebuilds.{Writes}
 use Rattle.capture_run.specs.Recovers.{GoesOn}
 use Rattle.capture_run.specs.Run.{Streams, streams}
 use Rattle.capture_run.specs.declared.status.Status.{Status}
@@ -49,14 +50,14 @@ returns-in-Do-clause-fronts g c = λ job whole lost bytes asks lists loses sound
     (subst (λ (j : Job). ListsRest whole j.task) same lists) done loses sound
 
 pub returns-in-Do-clause-reads_back : goal.returns-in-Do-clause-reads_back
-returns-in-Do-clause-reads_back g c = λ job plan sync half script asks is loses done.
+returns-in-Do-clause-reads_back g c = λ job p script asks writes loses done.
     let words : List (List ℕ) = map string_bytes c.args.words.now in
     let mine : Job = c.in-Do.job in
     let asked : AsksFor words mine = subst (AskedBy words) c.in-Do.is c.read_words.ensures.asked in
     let same = same_job words job mine asks asked in
-    rebuilds_script mine.task plan sync half mine.limit _ _ c.run_job.result script
+    rebuilds_script mine.limit _ _ script loses mine.task p c.run_job.result
     (c.read_words.ensures.sound mine c.in-Do.is) c.run_job.ensures.ran
-    (sym (ap (λ (j : Job). j.task) same) ∙ is) done loses
+    (subst (λ (j : Job). Writes p j.task) same writes) done
 
 pub returns-in-NoMemory-clause-ran : goal.returns-in-NoMemory-clause-ran
 returns-in-NoMemory-clause-ran g c = λ job asks.
