@@ -1,6 +1,7 @@
--- IDs of which none stands earlier already: the search for the first that does, and that they are sound where there is none.
-use Rattle.std.proofs.Common.{◌≡◌, ℕ, suc, ◌+◌, ◌<◌, ◌≤◌, List, [], ◌∷◌, ◌++◌, Bool, true, false, Some, None}
-use Rattle.std.proofs.Common.{refl, sym, ap, ◌∙◌, subst, length, arith, nat_le, ◌==◌, ◌||◌, if◌then◌else◌, drop, drop-cons, get_or}
+-- The search for the first of some IDs that stands earlier already, and that they are sound where there is none.
+use Rattle.std.proofs.Common.{◌≡◌, ℕ, suc, ◌+◌, ◌<◌, ◌≤◌, List, [], ◌∷◌, ◌++◌, Bool, true, false, Option, Some, None}
+use Rattle.std.proofs.Common.{refl, sym, ap, ◌∙◌, subst, length, arith, nat_le, ◌==◌, ◌||◌, if◌then◌else◌}
+use Rattle.std.proofs.Common.{drop, drop-cons, get_or}
 use Rattle.std.specs.List.{AllByRecursion, list_any}
 use Rattle.std.proofs.lemmas.Bool.Decides.{nat_tests}
 use Rattle.std.proofs.lemmas.List.Folds.{list_any-append}
@@ -37,7 +38,8 @@ absent before (z ∷ ids) x e h =
         (b || list_any (λ y. y == x) ids) ≡ false
     go true b none rest =
         let is : z ≡ x = grind (arith, nat_tests) in
-        let there : list_any (λ y. y == z) before ≡ true = subst (λ (n : ℕ). list_any (λ y. y == n) before ≡ true) (sym is) h in
+        let there : list_any (λ y. y == z) before ≡ true =
+        subst (λ (n : ℕ). list_any (λ y. y == n) before ≡ true) (sym is) h in
         absurd (let bad : true ≡ false = sym there ∙ none in cc)
     go false b none rest = rest
 
@@ -83,9 +85,10 @@ is_apart_list before (x ∷ ids) e h =
 
 -- the search: what is after this place is looked for after what is before it
 pub next_again : (before ids : List ℕ) (i x : ℕ) → i < length ids → x ≡ get_or ids i x →
-    again_after before (drop i ids) ≡ (if list_any (λ y. y == x) before then Some x else again_after (before ++ x ∷ []) (drop (i + 1) ids))
+    again_after before (drop i ids)
+    ≡ (if list_any (λ y. y == x) before then Some x else again_after (before ++ x ∷ []) (drop (i + 1) ids))
 next_again before ids i x lt is =
     let next : suc i ≡ i + 1 = omega arith in
-    ap (again_after before) (drop-cons ids i x lt)
-    ∙ ap (λ (z : ℕ). if list_any (λ y. y == z) before then Some z else again_after (before ++ z ∷ []) (drop (suc i) ids)) (sym is)
-    ∙ ap (λ (n : ℕ). if list_any (λ y. y == x) before then Some x else again_after (before ++ x ∷ []) (drop n ids)) next
+    let after : ℕ → ℕ → Option ℕ =
+    λ z n. if list_any (λ y. y == z) before then Some z else again_after (before ++ z ∷ []) (drop n ids) in
+    ap (again_after before) (drop-cons ids i x lt) ∙ ap (λ z. after z (suc i)) (sym is) ∙ ap (after x) next

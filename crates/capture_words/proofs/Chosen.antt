@@ -6,13 +6,13 @@ use Rattle.std.specs.Option.{option_and_then}
 use Rattle.std.specs.Str.{bytes_eq}
 use Rattle.std.proofs.lemmas.Slice.Eq.{bytes_eq-Decides}
 use Rattle.item_tap.specs.declared.choice.Choice.{Choice}
-use Rattle.item_tap.specs.declared.choice.Choice.TheVariants.{OfKind, Source, Port}
+use Rattle.item_tap.specs.declared.choice.Choice.TheVariants.{OfKind, Source, Port, Time}
 use Rattle.item_tap.specs.declared.choice.Kind.{Kind}
 use Rattle.item_tap.specs.declared.choice.Kind.TheVariants.{Itm, Dwt, Stp, Raw, Trigger}
 use Rattle.decimal_words.specs.Numbers.{number_named, number_after, text_after}
 use Rattle.decimal_words.proofs.Fronts.{begins}
 use Rattle.decimal_words.proofs.Numbers.{names_number, number_is}
-use Rattle.capture_words.specs.Values.{kind_named, choice_named, or_else}
+use Rattle.capture_words.specs.Values.{kind_named, time_named, choice_named, or_else}
 use Rattle.capture_words.specs.Choices.{kind_text, choice_text, IsChoice}
 
 -- from the choice to its text
@@ -38,6 +38,7 @@ named_so : (choice : Choice) → IsChoice choice → choice_named (choice_text c
 named_so (OfKind kind) is = kind_named_so kind
 named_so (Source x) is = source_named_so x is.0 is.1
 named_so (Port n) is = port_named_so n is
+named_so Time is = refl
 
 -- from a text to its choice
 picked : {T : Type 0} (b : Bool) (x y : T) (rest : Option T) → (if b then Some x else rest) ≡ Some y →
@@ -70,6 +71,12 @@ kind_is text kind e = elim (by_name text (codes "itm") Itm kind _ e) [
   ]
 ]
 
+time_is : (text : List ℕ) (choice : Choice) → time_named text ≡ Some choice → (text ≡ codes "time") × (Time ≡ choice)
+time_is text choice e = elim (by_name text (codes "time") Time choice None e) [
+  | inl h ↦ h
+  | inr e ↦ absurd (grind arith)
+]
+
 number_after_is : (front text : List ℕ) (least greatest n : ℕ) → number_after front least greatest text ≡ Some n →
     (least ≤ n) × (n ≤ greatest) × (text ≡ front ++ decimal n)
 number_after_is front text least greatest n = go (text_after front text) refl
@@ -87,25 +94,28 @@ same a b e = cc
 
 choice_is : (text : List ℕ) (choice : Choice) → choice_named text ≡ Some choice →
     IsChoice choice × (text ≡ choice_text choice)
-choice_is text choice = go (kind_named text) refl (number_after (codes "id=") 1 126 text) refl
-    (number_after (codes "port=") 0 31 text) refl
+choice_is text choice = go (kind_named text) refl (time_named text) refl
+    (number_after (codes "id=") 1 126 text) refl (number_after (codes "port=") 0 31 text) refl
   where
     Is : Choice → Type 0
     Is c = IsChoice c × (text ≡ choice_text c)
 
-    go : (kind : Option Kind) → kind_named text ≡ kind → (source : Option ℕ) →
-        number_after (codes "id=") 1 126 text ≡ source → (port : Option ℕ) →
-        number_after (codes "port=") 0 31 text ≡ port →
-        or_else (option_map OfKind kind) (or_else (option_map Source source) (option_map Port port)) ≡ Some choice →
-        Is choice
-    go (Some kind) k source s port p e = subst Is (same (OfKind kind) choice e) (tt, kind_is text kind k)
-    go None k (Some x) s port p e =
+    go : (kind : Option Kind) → kind_named text ≡ kind → (time : Option Choice) → time_named text ≡ time →
+        (source : Option ℕ) → number_after (codes "id=") 1 126 text ≡ source →
+        (port : Option ℕ) → number_after (codes "port=") 0 31 text ≡ port →
+        or_else (option_map OfKind kind) (or_else time (or_else (option_map Source source) (option_map Port port)))
+        ≡ Some choice → Is choice
+    go (Some kind) k time t source s port p e = subst Is (same (OfKind kind) choice e) (tt, kind_is text kind k)
+    go None k (Some c) t source s port p e =
+        let facts = time_is text c t in
+        subst Is (facts.1 ∙ same c choice e) (tt, facts.0)
+    go None k None t (Some x) s port p e =
         let facts = number_after_is (codes "id=") text 1 126 x s in
         subst Is (same (Source x) choice e) ((facts.0, facts.1), facts.2)
-    go None k None s (Some n) p e =
+    go None k None t None s (Some n) p e =
         let facts = number_after_is (codes "port=") text 0 31 n p in
         subst Is (same (Port n) choice e) (facts.1, facts.2)
-    go None k None s None p e = absurd (grind arith)
+    go None k None t None s None p e = absurd (grind arith)
 
 pub names : (choice : Choice) (text : List ℕ) →
     (choice_named text ≡ Some choice) ↔ (IsChoice choice × (text ≡ choice_text choice))

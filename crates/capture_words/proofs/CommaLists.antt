@@ -1,10 +1,13 @@
 -- A text names exactly the list whose text it is, each item with commas between, and how the search of it goes.
-use Rattle.std.proofs.Common.{◌≡◌, ◌↔◌, ℕ, zero, suc, ◌<◌, ◌≤◌, List, [], ◌∷◌, ◌++◌, Bool, true, false, Option, Some, None}
-use Rattle.std.proofs.Common.{refl, sym, ap, ◌∙◌, subst, length, arith, map, option_map, nat_le, ◌==◌, if◌then◌else◌, get_or}
+use Rattle.std.proofs.Common.{◌≡◌, ◌↔◌, ℕ, zero, suc, ◌<◌, ◌≤◌, ◌+◌, List, [], ◌∷◌, ◌++◌, Bool, true, false}
+use Rattle.std.proofs.Common.{Option, Some, None, refl, sym, ap, ◌∙◌, subst, length, arith, map, option_map, nat_le, ◌==◌}
+use Rattle.std.proofs.Common.{if◌then◌else◌, get_or, take}
 use Rattle.std.specs.List.{AllByRecursion, slice_split, join_with_byte}
+use Rattle.std.specs.Iterator.{Yields}
 use Rattle.std.specs.Option.{option_and_then}
 use Rattle.std.proofs.lemmas.Bool.Decides.{nat_tests}
-use Rattle.std.proofs.lemmas.List.{length-map}
+use Rattle.std.proofs.lemmas.Iterator.{YieldsList}
+use Rattle.std.proofs.lemmas.List.{length-map, length-take-le, take_all, take_more}
 use Rattle.std.proofs.lemmas.List.Splits.{join_with_byte-slice_split, length-slice_split}
 use Rattle.clap.specs.Words.{Text}
 use Rattle.clap.proofs.CutLemmas.{Lacks, slice_split-Lacks, slice_split-at}
@@ -60,7 +63,8 @@ each_push {T} named (first ∷ parts) part xs x e is =
     go (named first) (each (map named parts)) (λ ys so. each_push named parts part ys x so is) refl xs e
   where
     go : (f : Option T) (o : Option (List T)) →
-        ((ys : List T) → each (map named parts) ≡ Some ys → each (map named (parts ++ part ∷ [])) ≡ Some (ys ++ x ∷ [])) →
+        ((ys : List T) → each (map named parts) ≡ Some ys →
+        each (map named (parts ++ part ∷ [])) ≡ Some (ys ++ x ∷ [])) →
         each (map named parts) ≡ o → (all : List T) → joined o f ≡ Some all →
         joined (each (map named (parts ++ part ∷ []))) f ≡ Some (all ++ x ∷ [])
     go None o more so all e = absurd cc
@@ -70,8 +74,8 @@ each_push {T} named (first ∷ parts) part xs x e is =
         ap (λ others. joined others (Some y)) (more ys so)
         ∙ ap (λ (l : List T). Some (l ++ x ∷ [])) same
 
-each_length : {T : Type 0} (named : Text → Option T) (parts : List Text) (xs : List T) → each (map named parts) ≡ Some xs →
-    length xs ≡ length parts
+each_length : {T : Type 0} (named : Text → Option T) (parts : List Text) (xs : List T) →
+    each (map named parts) ≡ Some xs → length xs ≡ length parts
 each_length named [] [] e = refl
 each_length named [] (x ∷ xs) e = absurd cc
 each_length {T} named (first ∷ parts) xs e =
@@ -88,37 +92,52 @@ each_length {T} named (first ∷ parts) xs e =
 
 -- == The search, part by part
 
-pub found_all : {T : Type 0} (named : Text → Option T) (most : ℕ) (text : Text) (parts : List Text) (xs : List T) →
-    parts ≡ cut text → each (map named parts) ≡ Some xs → length xs ≤ most → parts_named named most text ≡ Some xs
-found_all named most text parts xs all e few =
-    ap (λ ps. option_and_then (at_most most) (each (map named ps))) (sym all)
-    ∙ ap (option_and_then (at_most most)) e ∙ at_most_so most xs few
+-- what the first parts of a text name, so many of them
+abbrev pub Reads : {T : Type 0} → (Text → Option T) → Text → ℕ → List T → Type 0
+Reads named text i xs = each (map named (take i (cut text))) ≡ Some xs
 
-pub found_none : {T : Type 0} (named : Text → Option T) (most : ℕ) (text part : Text) (i : ℕ) →
-    (i < length (cut text)) × (part ≡ get_or (cut text) i part) → named part ≡ None → parts_named named most text ≡ None
-found_none named most text part i h none =
-    ap (option_and_then (at_most most)) (each_none named (cut text) i part h.0 h.1 none)
+-- what an iterator gave, its first item and those after it
+pub from_first : {S A B : Type 0} {steps : S → Option A → S → Type 0} {v : A → B} {s : S} {all : List B} →
+    YieldsList steps v s all → (next start end : S) (r : Option A) (x : A) (xs : List A) → r ≡ Some x → steps s r next →
+    start ≡ next → Yields steps start xs end → Yields steps s (x ∷ xs) end
+from_first {steps = steps} {s = s} road next start end r x xs is step same by =
+    (next, subst (λ o. steps s o next) is step, subst (λ i. Yields steps i xs end) same by)
+
+-- the part at this place
+abbrev pub IsPart : Text → ℕ → Text → Type 0
+IsPart text i part = (i < length (cut text)) × (part ≡ get_or (cut text) i part)
+
+pub reads_next : {T : Type 0} (named : Text → Option T) (text part : Text) (i : ℕ) (xs : List T) (x : T) →
+    Reads named text i xs → IsPart text i part → named part ≡ Some x → Reads named text (i + 1) (xs ++ x ∷ [])
+reads_next named text part i xs x so at is =
+    subst (λ parts. each (map named parts) ≡ Some (xs ++ x ∷ []))
+    (ap (λ (p : Text). take i (cut text) ++ p ∷ []) at.1 ∙ sym (take_more (cut text) i part at.0))
+    (each_push named (take i (cut text)) part xs x so is)
+
+pub found_none : {T : Type 0} (named : Text → Option T) (most : ℕ) (text part : Text) (i : ℕ) → IsPart text i part →
+    named part ≡ None → parts_named named most text ≡ None
+found_none named most text part i at none =
+    ap (option_and_then (at_most most)) (each_none named (cut text) i part at.0 at.1 none)
 
 -- there are more parts than those read, which are as many as may be
-pub found_many : {T : Type 0} (named : Text → Option T) (most : ℕ) (text : Text) → most < length (cut text) →
-    parts_named named most text ≡ None
-found_many {T} named most text many = go (each (map named (cut text))) refl
+pub found_many : {T : Type 0} (named : Text → Option T) (most : ℕ) (text : Text) (i : ℕ) (xs : List T) →
+    Reads named text i xs → i < length (cut text) → length xs ≡ most → parts_named named most text ≡ None
+found_many {T} named most text i xs so more full = go (each (map named (cut text))) refl
   where
     go : (o : Option (List T)) → each (map named (cut text)) ≡ o → option_and_then (at_most most) o ≡ None
     go None e = refl
-    go (Some xs) e = let count = each_length named (cut text) xs e in at_most_not most xs (omega (arith, count, many))
+    go (Some all) e =
+        let count = each_length named (cut text) all e in
+        let read = each_length named (take i (cut text)) xs so in
+        let first = length-take-le i (cut text) (omega (arith, more)) in
+        at_most_not most all (omega (arith, count, read, first, more, full))
 
--- what the parts read so far name
-abbrev pub Reads : {T : Type 0} → (Text → Option T) → List Text → List T → Type 0
-Reads named parts xs = each (map named parts) ≡ Some xs
-
-pub reads_on : {T : Type 0} (named : Text → Option T) (parts : List Text) (part : Text) (xs : List T) (x : T) →
-    Reads named parts xs → named part ≡ Some x → Reads named (parts ++ part ∷ []) (xs ++ x ∷ [])
-reads_on = each_push
-
-pub reads_as_many : {T : Type 0} (named : Text → Option T) (parts : List Text) (xs : List T) → Reads named parts xs →
-    length xs ≡ length parts
-reads_as_many = each_length
+pub found_all : {T : Type 0} (named : Text → Option T) (most : ℕ) (text : Text) (i : ℕ) (xs : List T) →
+    Reads named text i xs → i ≡ length (cut text) → length xs ≤ most → parts_named named most text ≡ Some xs
+found_all named most text i xs so end few =
+    let all = take_all i (cut text) (omega (arith, end)) in
+    ap (λ parts. option_and_then (at_most most) (each (map named parts))) (sym all)
+    ∙ ap (option_and_then (at_most most)) so ∙ at_most_so most xs few
 
 -- == Exactly the list whose text it is
 
@@ -153,7 +172,8 @@ module _ {T : Type 0} (named : Text → Option T) (write : T → Text) (Is : T �
       ∙ ap (λ o. option_map (λ values. x ∷ values) o) (each_so xs h.1)
 
   -- the parts of the text of a list are the texts of its items
-  cut_so : (x : T) (xs : List T) → AllByRecursion Is (x ∷ xs) → cut (join_with_byte 44 (map write (x ∷ xs))) ≡ map write (x ∷ xs)
+  cut_so : (x : T) (xs : List T) → AllByRecursion Is (x ∷ xs) →
+      cut (join_with_byte 44 (map write (x ∷ xs))) ≡ map write (x ∷ xs)
   cut_so x [] h = slice_split-Lacks 44 (write x) (lacks x h.0)
   cut_so x (y ∷ xs) h =
       slice_split-at 44 (write x) (join_with_byte 44 (map write (y ∷ xs))) (lacks x h.0)
@@ -178,4 +198,5 @@ module _ {T : Type 0} (named : Text → Option T) (write : T → Text) (Is : T �
           let said = each_is (cut text) xs (so ∙ ap (λ (l : List T). Some l) same.0) in
           let count : length (cut text) ≡ length xs = ap length said.0 ∙ length-map xs write in
           let some = length-slice_split (λ c. c == 44) text in
-          (said.1, omega (arith, count, some), same.1, sym (join_with_byte-slice_split 44 text) ∙ ap (join_with_byte 44) said.0)
+          let whole = sym (join_with_byte-slice_split 44 text) ∙ ap (join_with_byte 44) said.0 in
+          (said.1, omega (arith, count, some), same.1, whole)

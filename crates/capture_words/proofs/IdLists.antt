@@ -25,15 +25,16 @@ id_lacks greatest small x is = lacks_number x (omega (arith, is.1, small))
 ids_so : (most greatest : ℕ) (ids : List ℕ) → greatest ≤ 126 → AreIds most greatest ids →
     ids_named most greatest (ids_text ids) ≡ Some ids
 ids_so most greatest ids small is =
-    list_so (number_named 1 greatest) decimal (InRange greatest) (names_id greatest small) (id_lacks greatest small) most ids
-    (recursion_from_All (InRange greatest) ids is.0) is.1 is.2
+    let each = recursion_from_All (InRange greatest) ids is.0 in
+    list_so (number_named 1 greatest) decimal (InRange greatest) (names_id greatest small) (id_lacks greatest small)
+    most ids each is.1 is.2
 
-pub ids_is : (most greatest : ℕ) (ids : List ℕ) (text : Text) → greatest ≤ 126 → ids_named most greatest text ≡ Some ids →
-    AreIds most greatest ids × (text ≡ ids_text ids)
+pub ids_is : (most greatest : ℕ) (ids : List ℕ) (text : Text) → greatest ≤ 126 →
+    ids_named most greatest text ≡ Some ids → AreIds most greatest ids × (text ≡ ids_text ids)
 ids_is most greatest ids text small e =
     let l =
-    list_is (number_named 1 greatest) decimal (InRange greatest) (names_id greatest small) (id_lacks greatest small) most
-    text ids e in
+    list_is (number_named 1 greatest) decimal (InRange greatest) (names_id greatest small) (id_lacks greatest small)
+    most text ids e in
     ((All-from_recursion (InRange greatest) ids l.0, l.1, l.2), l.3)
 
 pub names_ids : (most greatest : ℕ) (ids : List ℕ) (text : Text) → greatest ≤ 126 →

@@ -5,5 +5,6 @@ pub mod Chosen
 mod Lines
 mod Windows
 mod CommaLists
+mod ChoiceLists
 mod Again
 pub mod IdLists

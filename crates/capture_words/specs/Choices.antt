@@ -1,10 +1,10 @@
--- The texts of choices of events, of windows, and of lists of IDs.
+-- The texts of choices of events, of lists of them, of windows, and of lists of IDs.
 use Rattle.std.specs.Prelude.{◌≤◌, ℕ, List, codes, decimal, ◌++◌, ◌∷◌, length, map}
 use Rattle.std.specs.List.{All, join_with_byte}
 use Rattle.clap.specs.Words.{Text}
 use Rattle.item_tap.specs.declared.bounds.Bounds.{Bounds}
 use Rattle.item_tap.specs.declared.choice.Choice.{Choice}
-use Rattle.item_tap.specs.declared.choice.Choice.TheVariants.{OfKind, Source, Port}
+use Rattle.item_tap.specs.declared.choice.Choice.TheVariants.{OfKind, Source, Port, Time}
 use Rattle.item_tap.specs.declared.choice.Kind.{Kind}
 use Rattle.item_tap.specs.declared.choice.Kind.TheVariants.{Itm, Dwt, Stp, Raw, Trigger}
 
@@ -19,12 +19,21 @@ abbrev pub choice_text : Choice → Text
 choice_text (OfKind kind) = kind_text kind
 choice_text (Source x) = codes "id=" ++ decimal x
 choice_text (Port n) = codes "port=" ++ decimal n
+choice_text Time = codes "time"
 
 -- a source is from 1 to 126, since the null source, 0, gives no events, and a stimulus port from 0 to 31
 abbrev pub IsChoice : Choice → Type 0
 IsChoice (OfKind kind) = Unit {0}
 IsChoice (Source x) = (1 ≤ x) × (x ≤ 126)
 IsChoice (Port n) = n ≤ 31
+IsChoice Time = Unit {0}
+
+-- the text of choices: theirs with commas, 2C, between, from one to eight
+abbrev pub choices_text : List Choice → Text
+choices_text choices = join_with_byte 44 (map choice_text choices)
+
+abbrev pub AreChoices : List Choice → Type 0
+AreChoices choices = All IsChoice choices × (1 ≤ length choices) × (length choices ≤ 8)
 
 -- the text of a window: its two choices with a comma, 2C, between them
 abbrev pub window_text : Bounds → Text

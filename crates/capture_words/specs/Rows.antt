@@ -43,7 +43,7 @@ abbrev pub does : Text → Task → ℕ → Text × Result Job UsageFault
 does text task limit = (text, Ok (record { task = task; limit = limit }))
 
 -- one whose words ask for a listing of these events, by defaults alone
-abbrev pub lists : Text → Choice → Text × Result Job UsageFault
+abbrev pub lists : Text → List Choice → Text × Result Job UsageFault
 lists text only = does text (Show (planned FramesHunt PacketsHunt [] [] Msn) (Some only) None Off) 68719476736
 
 -- and one whose words have this fault

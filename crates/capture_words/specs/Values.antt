@@ -13,7 +13,7 @@ use Rattle.stp_grammar.specs.declared.packet.Order.{Order}
 use Rattle.stp_grammar.specs.declared.packet.Order.TheVariants.{Msn, Lsn}
 use Rattle.item_tap.specs.declared.bounds.Bounds.{Bounds}
 use Rattle.item_tap.specs.declared.choice.Choice.{Choice}
-use Rattle.item_tap.specs.declared.choice.Choice.TheVariants.{OfKind, Source, Port}
+use Rattle.item_tap.specs.declared.choice.Choice.TheVariants.{OfKind, Source, Port, Time}
 use Rattle.item_tap.specs.declared.choice.Kind.{Kind}
 use Rattle.item_tap.specs.declared.choice.Kind.TheVariants.{Itm as ItmKind, Dwt as DwtKind, Stp as StpKind}
 use Rattle.item_tap.specs.declared.choice.Kind.TheVariants.{Raw as RawKind, Trigger as TriggerKind}
@@ -75,12 +75,17 @@ abbrev pub or_else : {T : Type 0} → Option T → Option T → Option T
 or_else (Some x) other = Some x
 or_else None other = other
 
--- the choice of events that a text names: a kind, a source from 1 to 126, or a stimulus port from 0 to 31
+-- the times of ITM sources, if the text names them
+abbrev pub time_named : Text → Option Choice
+time_named text = if bytes_eq text (codes "time") then Some Time else None
+
+-- the choice of events that a text names: a kind, the times, a source from 1 to 126, or a stimulus port from 0 to 31
 abbrev pub choice_named : Text → Option Choice
 choice_named text =
     or_else (option_map OfKind (kind_named text))
+    (or_else (time_named text)
     (or_else (option_map Source (number_after (codes "id=") 1 126 text))
-    (option_map Port (number_after (codes "port=") 0 31 text)))
+    (option_map Port (number_after (codes "port=") 0 31 text))))
 
 -- a window from one choice to another, if there are both
 abbrev pub bounds_of : Option Choice → Option Choice → Option Bounds
@@ -146,9 +151,13 @@ order_in = option_in StpOrder Msn order_named
 abbrev pub id_in : List Row → Result (Option ℕ) UsageFault
 id_in = number_if_given Id 0 126
 
+-- the choices that a text names
+abbrev pub choices_named : Text → Option (List Choice)
+choices_named = parts_named choice_named 8
+
 -- which events are listed; all are by default
-abbrev pub only_in : List Row → Result (Option Choice) UsageFault
-only_in = option_in Only None (λ text. option_map Some (choice_named text))
+abbrev pub only_in : List Row → Result (Option (List Choice)) UsageFault
+only_in = option_in Only None (λ text. option_map Some (choices_named text))
 
 -- from which event to which the listing goes; over all by default
 abbrev pub window_in : List Row → Result (Option Bounds) UsageFault

@@ -2,10 +2,10 @@
 
 ghost use Rattle.std.specs.Prelude.{◌≡◌};
 ghost use Rattle.decimal_words.specs.Numbers.{number_after};
-ghost use Rattle.capture_words.specs.Values.{kind_named, choice_named, window_named};
+ghost use Rattle.capture_words.specs.Values.{kind_named, choice_named, choices_named, window_named};
 
 use decimal_words::{id_named, number_named, text_after};
-use item_tap::{Bounds, Choice, Kind};
+use item_tap::{Bounds, Choice, Choices, Kind, MOST_CHOICES};
 use trace_values::SourceId;
 
 /// The kind of events of this name.
@@ -45,12 +45,15 @@ fn port_after(front: &str, text: &str) -> Option<u8>
     }
 }
 
-/// The choice of this text: a kind of events, `id=N` with N from 1 to 126, or `port=N` with N from 0 to 31.
+/// The choice of this text: a kind of events, `time`, `id=N` with N from 1 to 126, or `port=N` with N from 0 to 31.
 pub fn choice_named(text: &str) -> Option<Choice>
     ensures { result ≡ choice_named text.now }
 {
     if let Some(kind) = kind_named(text) {
         return Some(Choice::OfKind(kind));
+    }
+    if text == "time" {
+        return Some(Choice::Time);
     }
     if let Some(id) = source_after("id=", text) {
         return Some(Choice::Source(id));
@@ -59,6 +62,21 @@ pub fn choice_named(text: &str) -> Option<Choice>
         Some(port) => Some(Choice::Port(port)),
         None => None,
     }
+}
+
+/// The choices of this text: one to eight with commas between.
+pub fn choices_named(text: &str) -> Option<Choices>
+    ensures { result ≡ choices_named text.now }
+{
+    let mut parts = text.split(',');
+    let mut choices = Choices::new(choice_named(parts.next()?)?);
+    for part in parts {
+        if choices.as_slice().len() == MOST_CHOICES {
+            return None;
+        }
+        choices.push(choice_named(part)?);
+    }
+    Some(choices)
 }
 
 /// The window of this text: two choices with a comma between them.

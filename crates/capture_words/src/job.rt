@@ -18,7 +18,7 @@ use crate::settings::{BufferSettings, Settings, TurnSettings, settings_in};
 use crate::usage::UsageFault;
 use crate::values::{ActionName, action_in};
 use clap::ArgMatches;
-use item_tap::{Bounds, Choice};
+use item_tap::{Bounds, Choices};
 use source_events::{Plan, SourceIds};
 use trace_funnel::Turns;
 use trace_values::{FramesMode, SourceId};
@@ -31,7 +31,7 @@ pub enum Task {
         /// How the capture is read.
         plan: Plan,
         /// Which events are listed; all where it is absent.
-        only: Option<Choice>,
+        only: Option<Choices>,
         /// From which event to which the listing goes; over all where it is absent.
         window: Option<Bounds>,
         /// Whether the listing goes on after a fault.

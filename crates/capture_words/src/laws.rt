@@ -5,9 +5,10 @@ ghost use Rattle.clap.specs.Words.{Text};
 ghost use Rattle.capture_words.specs.Calls.{AsksFor, Misuses, IsMisuse};
 ghost use Rattle.item_tap.specs.declared.bounds.Bounds.{Bounds};
 ghost use Rattle.item_tap.specs.declared.choice.Choice.{Choice};
-ghost use Rattle.capture_words.specs.Choices.{IsChoice, choice_text, IsWindow, window_text, AreIds, ids_text};
+ghost use Rattle.capture_words.specs.Choices.{IsChoice, choice_text, AreChoices, choices_text, IsWindow, window_text};
+ghost use Rattle.capture_words.specs.Choices.{AreIds, ids_text};
 ghost use Rattle.capture_words.specs.Texts.{usage_line, IsFault};
-ghost use Rattle.capture_words.specs.Values.{choice_named, window_named, ids_named};
+ghost use Rattle.capture_words.specs.Values.{choice_named, choices_named, window_named, ids_named};
 ghost use Rattle.capture_words.specs.declared.job.Job.{Job};
 ghost use Rattle.capture_words.specs.declared.usage.TheConstants.{LINE_ROOM};
 ghost use Rattle.capture_words.specs.declared.usage.UsageFault.{UsageFault};
@@ -30,6 +31,12 @@ pub fn line_law()
 pub fn choice_law()
     ensures { (choice : Choice) (text : Text) →
         (choice_named text ≡ Some choice) ↔ (IsChoice choice × (text ≡ choice_text choice)) }
+{}
+
+/// The same of lists of choices: a text names exactly those whose text it is, one to eight with commas between.
+pub fn choices_law()
+    ensures { (choices : List Choice) (text : Text) →
+        (choices_named text ≡ Some choices) ↔ (AreChoices choices × (text ≡ choices_text choices)) }
 {}
 
 /// The same of windows: a text names exactly the window whose text it is, two choices with a comma between them.

@@ -129,8 +129,9 @@ impl CommandOption {
             }
             CommandOption::Id => "The source whose bytes split writes: 0 to 126",
             CommandOption::Only => {
-                "Which events show lists: itm, dwt, stp, raw, trigger, id=N (of source N, 1 to 126) or port=N \
-                (of stimulus port N, 0 to 31)"
+                "Which events show lists: itm, dwt, stp, raw, trigger, time (the timestamps of ITM sources), id=N (of \
+                source N, 1 to 126) or port=N (of stimulus port N, 0 to 31), or those of one to eight of these choices \
+                with commas between, as in dwt,time"
             }
             CommandOption::Window => {
                 "From which event to which show lists: two of the choices of --only with a comma between, as in \

@@ -8,7 +8,7 @@ ghost use Rattle.trace_values.specs.declared.reading_modes.FramesMode.TheVariant
 ghost use Rattle.trace_values.specs.declared.reading_modes.PacketsMode.TheVariants.{Hunt as PacketsHunt};
 ghost use Rattle.trace_values.specs.declared.reading_modes.PacketsMode.TheVariants.{Aligned as PacketsAligned};
 ghost use Rattle.stp_grammar.specs.declared.packet.Order.TheVariants.{Msn, Lsn};
-ghost use Rattle.item_tap.specs.declared.choice.Choice.TheVariants.{OfKind, Source, Port};
+ghost use Rattle.item_tap.specs.declared.choice.Choice.TheVariants.{OfKind, Source, Port, Time};
 ghost use Rattle.item_tap.specs.declared.choice.Kind.TheVariants.{Itm as ItmKind, Dwt as DwtKind, Stp as StpKind};
 ghost use Rattle.item_tap.specs.declared.choice.Kind.TheVariants.{Raw as RawKind, Trigger as TriggerKind};
 ghost use Rattle.capture_words.specs.Rows.{does, lists, faults, AllAnswered, Refuses, planned, turning};
@@ -17,7 +17,8 @@ ghost use Rattle.capture_words.specs.declared.job.Task.TheVariants.{Realign, Rin
 ghost use Rattle.capture_words.specs.declared.option.CommandOption.TheVariants.{Frames, Packets, Itm, Stp, StpOrder};
 ghost use Rattle.capture_words.specs.declared.option.CommandOption.TheVariants.{Id, Only, Window, Sync};
 ghost use Rattle.capture_words.specs.declared.option.CommandOption.TheVariants.{Half, Limit, Items, Lose};
-ghost use Rattle.capture_words.specs.declared.option.CommandOption.TheVariants.{Size, Pointer, Full, Order, Hold, Depth};
+ghost use Rattle.capture_words.specs.declared.option.CommandOption.TheVariants.{Size, Pointer, Full};
+ghost use Rattle.capture_words.specs.declared.option.CommandOption.TheVariants.{Order, Hold, Depth};
 ghost use Rattle.capture_words.specs.declared.option.CommandOption.TheVariants.{Port as PortOption};
 ghost use Rattle.capture_words.specs.declared.option.CommandOption.TheVariants.{Recover as RecoverOption};
 ghost use Rattle.capture_words.specs.declared.recover.Recover.TheVariants.{Off, On};
@@ -41,15 +42,21 @@ pub fn asks()
         does (codes "show --id 126 --limit 68719476736")
         (Show (planned FramesHunt PacketsHunt [] [] Msn) None None Off) 68719476736 ∷ []) }
     ensures only { AllAnswered (
-        lists (codes "show --only itm") (OfKind ItmKind) ∷
-        lists (codes "show --only dwt") (OfKind DwtKind) ∷
-        lists (codes "show --only=stp") (OfKind StpKind) ∷
-        lists (codes "--only raw show") (OfKind RawKind) ∷
-        lists (codes "show --only trigger") (OfKind TriggerKind) ∷
-        lists (codes "show --only id=1") (Source 1) ∷
-        lists (codes "show --only=id=126") (Source 126) ∷
-        lists (codes "show --only port=0") (Port 0) ∷
-        lists (codes "show --only port=31") (Port 31) ∷ []) }
+        lists (codes "show --only itm") (OfKind ItmKind ∷ []) ∷
+        lists (codes "show --only dwt") (OfKind DwtKind ∷ []) ∷
+        lists (codes "show --only=stp") (OfKind StpKind ∷ []) ∷
+        lists (codes "--only raw show") (OfKind RawKind ∷ []) ∷
+        lists (codes "show --only trigger") (OfKind TriggerKind ∷ []) ∷
+        lists (codes "show --only time") (Time ∷ []) ∷
+        lists (codes "show --only id=1") (Source 1 ∷ []) ∷
+        lists (codes "show --only=id=126") (Source 126 ∷ []) ∷
+        lists (codes "show --only port=0") (Port 0 ∷ []) ∷
+        lists (codes "show --only port=31") (Port 31 ∷ []) ∷
+        lists (codes "show --only dwt,time") (OfKind DwtKind ∷ Time ∷ []) ∷
+        lists (codes "show --only=port=1,id=2,port=1") (Port 1 ∷ Source 2 ∷ Port 1 ∷ []) ∷
+        lists (codes "show --only itm,dwt,stp,raw,trigger,time,id=126,port=31")
+        (OfKind ItmKind ∷ OfKind DwtKind ∷ OfKind StpKind ∷ OfKind RawKind ∷ OfKind TriggerKind ∷ Time ∷ Source 126 ∷
+        Port 31 ∷ []) ∷ []) }
     ensures window { AllAnswered (
         does (codes "show --window raw,trigger")
         (Show (planned FramesHunt PacketsHunt [] [] Msn) None
@@ -61,8 +68,12 @@ pub fn asks()
         does (codes "--window port=31,port=31 show")
         (Show (planned FramesHunt PacketsHunt [] [] Msn) None (Some (record { first = Port 31; last = Port 31 })) Off)
         68719476736 ∷
+        does (codes "show --window time,dwt")
+        (Show (planned FramesHunt PacketsHunt [] [] Msn) None
+        (Some (record { first = Time; last = OfKind DwtKind })) Off)
+        68719476736 ∷
         does (codes "show --window itm,dwt --only stp")
-        (Show (planned FramesHunt PacketsHunt [] [] Msn) (Some (OfKind StpKind))
+        (Show (planned FramesHunt PacketsHunt [] [] Msn) (Some (OfKind StpKind ∷ []))
         (Some (record { first = OfKind ItmKind; last = OfKind DwtKind })) Off)
         68719476736 ∷ []) }
     ensures rebuild { AllAnswered (
@@ -93,7 +104,7 @@ pub fn asks()
         does (codes "unring --size 17 --id 5 --sync 1 --itm 5 --stp 5") (Unring 17 0 false) 68719476736 ∷ []) }
     ensures recover { AllAnswered (
         does (codes "show --recover on --only itm")
-        (Show (planned FramesHunt PacketsHunt [] [] Msn) (Some (OfKind ItmKind)) None On) 68719476736 ∷
+        (Show (planned FramesHunt PacketsHunt [] [] Msn) (Some (OfKind ItmKind ∷ [])) None On) 68719476736 ∷
         does (codes "--recover=off show") (Show (planned FramesHunt PacketsHunt [] [] Msn) None None Off) 68719476736 ∷
         does (codes "check --recover=on") (Check (planned FramesHunt PacketsHunt [] [] Msn) On) 68719476736 ∷
         does (codes "realign --recover on") Realign 68719476736 ∷ []) }
@@ -105,11 +116,11 @@ pub fn asks()
     ensures funnel { AllAnswered (
         does (codes "funnel --order 126")
         (Funnel (planned FramesHunt PacketsHunt [] [] Msn) 64 0 (turning (126 ∷ []) 4 256)) 68719476736 ∷
-        does (codes "funnel --order 2,1 --itm 1 --stp 2 --stp-order lsn --sync 0 --half 8 --hold 15 --depth 4096 --limit 5")
-        (Funnel (planned FramesHunt PacketsHunt (1 ∷ []) (2 ∷ []) Lsn) 0 8 (turning (2 ∷ 1 ∷ []) 15 4096)) 5 ∷
-        does (codes "--depth=1 --hold=1 --order=16,15,14,13,12,11,10,9,8,7,6,5,4,3,2,1 funnel --port 5")
+        does (codes "funnel --order 2,1 --itm 1 --stp 2 --stp-order lsn --sync 0 --half 8 --hold 15 --depth 4096")
+        (Funnel (planned FramesHunt PacketsHunt (1 ∷ []) (2 ∷ []) Lsn) 0 8 (turning (2 ∷ 1 ∷ []) 15 4096)) 68719476736 ∷
+        does (codes "--depth=1 --hold=1 --order=16,15,14,13,12,11,10,9,8,7,6,5,4,3,2,1 funnel --limit 5")
         (Funnel (planned FramesHunt PacketsHunt [] [] Msn) 64 0
-        (turning (16 ∷ 15 ∷ 14 ∷ 13 ∷ 12 ∷ 11 ∷ 10 ∷ 9 ∷ 8 ∷ 7 ∷ 6 ∷ 5 ∷ 4 ∷ 3 ∷ 2 ∷ 1 ∷ []) 1 1)) 68719476736 ∷
+        (turning (16 ∷ 15 ∷ 14 ∷ 13 ∷ 12 ∷ 11 ∷ 10 ∷ 9 ∷ 8 ∷ 7 ∷ 6 ∷ 5 ∷ 4 ∷ 3 ∷ 2 ∷ 1 ∷ []) 1 1)) 5 ∷
         does (codes "rebuild --order 1,1 --hold 2 --depth 3")
         (Rebuild (planned FramesHunt PacketsHunt [] [] Msn) 64 0) 68719476736 ∷ []) }
     ensures split { AllAnswered (
@@ -183,7 +194,12 @@ pub fn misuses()
     ensures bad_choices { AllAnswered (
         faults (codes "show --only all") (BadValue Only) ∷
         faults (codes "check --only ITM") (BadValue Only) ∷
-        faults (codes "show --only itm,dwt") (BadValue Only) ∷
+        faults (codes "show --only times") (BadValue Only) ∷
+        faults (codes "show --only itm,,dwt") (BadValue Only) ∷
+        faults (codes "show --only ,itm") (BadValue Only) ∷
+        faults (codes "show --only dwt,") (BadValue Only) ∷
+        faults (codes "show --only dwt,Time") (BadValue Only) ∷
+        faults (codes "check --only itm,dwt,stp,raw,trigger,time,id=1,id=2,port=1") (BadValue Only) ∷
         faults (codes "show --only=") (BadValue Only) ∷
         faults (codes "show --only id=0") (BadValue Only) ∷
         faults (codes "show --only id=127") (BadValue Only) ∷

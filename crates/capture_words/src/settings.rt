@@ -17,7 +17,7 @@ use crate::values::{
     turn_order_in, window_in,
 };
 use clap::ArgMatches;
-use item_tap::{Bounds, Choice};
+use item_tap::{Bounds, Choices};
 use source_events::Plan;
 use trace_funnel::TurnOrder;
 use trace_values::SourceId;
@@ -52,7 +52,7 @@ pub struct Settings {
     /// The source whose bytes are taken.
     pub id: Option<SourceId>,
     /// Which events are listed.
-    pub only: Option<Choice>,
+    pub only: Option<Choices>,
     /// From which event to which the listing goes.
     pub window: Option<Bounds>,
     /// How many frames are written for each full synchronisation, or 0 for none.

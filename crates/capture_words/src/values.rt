@@ -11,14 +11,14 @@ ghost use Rattle.capture_words.specs.Values.{pointer_in, full_in, option_in, ids
 ghost use Rattle.capture_words.specs.Values.{turn_order_in, hold_in, depth_in};
 ghost use Rattle.capture_words.specs.Choices.{AreIds};
 
-use crate::choices::{choice_named, window_named};
+use crate::choices::{choices_named, window_named};
 use crate::ids::{order_named as turn_order_named, sources_named};
 use crate::option::CommandOption;
 use crate::recover::Recover;
 use crate::usage::UsageFault;
 use clap::ArgMatches;
 use decimal_words::{id_named, number_named};
-use item_tap::{Bounds, Choice};
+use item_tap::{Bounds, Choices};
 use source_events::SourceIds;
 use stp_grammar::packet::Order;
 use trace_funnel::TurnOrder;
@@ -235,14 +235,14 @@ pub fn id_in(matches: &ArgMatches<'_>) -> Result<Option<SourceId>, UsageFault>
     id_given(matches, CommandOption::Id, 0, 126)
 }
 
-/// Which events are listed, if a choice is given.
-pub fn only_in(matches: &ArgMatches<'_>) -> Result<Option<Choice>, UsageFault>
+/// Which events are listed, if choices are given.
+pub fn only_in(matches: &ArgMatches<'_>) -> Result<Option<Choices>, UsageFault>
     ensures { result ≡ only_in (rows_of (found_of matches.now)) }
 {
     match text_of(matches, CommandOption::Only) {
         None => Ok(None),
-        Some(text) => match choice_named(text) {
-            Some(choice) => Ok(Some(choice)),
+        Some(text) => match choices_named(text) {
+            Some(choices) => Ok(Some(choices)),
             None => Err(UsageFault::BadValue(CommandOption::Only)),
         },
     }

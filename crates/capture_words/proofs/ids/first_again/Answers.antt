@@ -1,4 +1,5 @@
-use Rattle.std.proofs.Common.{◌≡◌, ◌+◌, ◌++◌, ◌∷◌, [], ◌==◌, ℕ, List, Bool, true, false, Some, sym, ap, ◌∙◌, take, drop, if◌then◌else◌}
+use Rattle.std.proofs.Common.{◌≡◌, ◌+◌, ◌++◌, ◌∷◌, [], ◌==◌, ℕ, List, Bool, true, false, Some, sym, ap, ◌∙◌}
+use Rattle.std.proofs.Common.{take, drop, if◌then◌else◌}
 use Rattle.std.proofs.lemmas.List.{take_more}
 use Rattle.std.specs.List.{list_any}
 use Rattle.capture_words.specs.Jobs.{again_after}
@@ -23,7 +24,8 @@ loop-place-preserved c =
     let it = next_again (take place ids) ids place x c.loop-place-test.true c.index-ids-place.is in
     let absent : list_any (λ y. y == x) (take place ids) ≡ false = sym c.contains.ensures.value ∙ c.if-contains.false in
     let more : take place ids ++ x ∷ [] ≡ take (place + 1) ids =
-    ap (λ (y : ℕ). take place ids ++ y ∷ []) c.index-ids-place.is ∙ sym (take_more ids place x c.loop-place-test.true) in
+    ap (λ (y : ℕ). take place ids ++ y ∷ []) c.index-ids-place.is
+    ∙ sym (take_more ids place x c.loop-place-test.true) in
     c.loop-place.invariant ∙ it
     ∙ ap (λ (b : Bool). if b then Some x else again_after (take place ids ++ x ∷ []) (drop (place + 1) ids)) absent
     ∙ ap (λ (before : List ℕ). again_after before (drop (place + 1) ids)) more

@@ -18,5 +18,6 @@ returns-clause-value c =
 pub returns-clause-in_range : goal.returns-clause-in_range
 returns-clause-in_range c =
     let all = c.loop-id.invariant.0 ∙ take_all c.loop-id.id-index c.as_slice-id-items.result.now c.loop-id-test.false in
-    let is = ids_is 8 111 c.loop-id.sources c.args.text.now (lit≤ tt) (c.loop-id.invariant.1 ∙ ap (λ l. Some l) (sym all)) in
+    let named = c.loop-id.invariant.1 ∙ ap (λ l. Some l) (sym all) in
+    let is = ids_is 8 111 c.loop-id.sources c.args.text.now (lit≤ tt) named in
     is.0.0

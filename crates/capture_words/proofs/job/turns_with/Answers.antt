@@ -9,7 +9,8 @@ pub returns-in-None-clause-sound : goal.returns-in-None-clause-sound
 returns-in-None-clause-sound c =
     let order = c.in-Some.order in
     let are : AreIds 16 126 order = subst (λ given. IfSome given (AreIds 16 126)) c.in-Some.is c.requires.order in
-    let none = ap (λ (ids : List ℕ). again_after [] ids) (sym c.as_slice.ensures.value) ∙ sym c.first_again.ensures ∙ c.in-None.is in (
+    let slice = ap (λ (ids : List ℕ). again_after [] ids) (sym c.as_slice.ensures.value) in
+    let none = slice ∙ sym c.first_again.ensures ∙ c.in-None.is in (
       omega (arith, are.1),
       is_apart_list [] order none (recursion_from_All (InRange 126) order are.0),
       c.requires.hold.0,
