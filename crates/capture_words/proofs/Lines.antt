@@ -7,7 +7,7 @@ use Rattle.capture_words.specs.Texts.{usage_line, IsFault}
 use Rattle.capture_words.specs.declared.option.CommandOption.TheVariants.{Frames, Packets, Itm, Stp, StpOrder, Id}
 use Rattle.capture_words.specs.declared.option.CommandOption.TheVariants.{Only, Window, Sync, Half, Limit, Items}
 use Rattle.capture_words.specs.declared.option.CommandOption.TheVariants.{Lose, Recover, Size, Pointer, Full}
-use Rattle.capture_words.specs.declared.option.CommandOption.TheVariants.{Order, Hold, Depth, Port}
+use Rattle.capture_words.specs.declared.option.CommandOption.TheVariants.{Order, Hold, Depth, Port, Hz}
 use Rattle.capture_words.specs.declared.usage.TheConstants.{LINE_ROOM}
 use Rattle.capture_words.specs.declared.usage.UsageFault.{UsageFault}
 use Rattle.capture_words.specs.declared.usage.UsageFault.TheVariants.{UnknownAction, BadValue, SplitNeedsId}
@@ -15,6 +15,7 @@ use Rattle.capture_words.specs.declared.usage.UsageFault.TheVariants.{MappedTwic
 use Rattle.capture_words.specs.declared.usage.UsageFault.TheVariants.{PointerNotUnderSize}
 use Rattle.capture_words.specs.declared.usage.UsageFault.TheVariants.{TextNeedsItm, TextReadsOneSource}
 use Rattle.capture_words.specs.declared.usage.UsageFault.TheVariants.{FunnelNeedsOrder, OrderedTwice}
+use Rattle.capture_words.specs.declared.usage.UsageFault.TheVariants.{VcdNeedsItm, VcdReadsOneSource}
 
 short_id : (id : ℕ) → id ≤ 126 → length (decimal id) ≤ 3
 short_id id is = length-decimal-le 3 id (omega arith) (omega (arith, is)) (omega (arith, is))
@@ -41,6 +42,7 @@ fits (BadValue Full) is = lit≤ tt
 fits (BadValue Order) is = lit≤ tt
 fits (BadValue Hold) is = lit≤ tt
 fits (BadValue Depth) is = lit≤ tt
+fits (BadValue Hz) is = lit≤ tt
 fits (BadValue Port) is = lit≤ tt
 fits SplitNeedsId is = lit≤ tt
 fits (MappedTwice id) is = let number = short_id id (omega (arith, is)) in grind (arith, common_steps, number)
@@ -50,6 +52,8 @@ fits PointerNotUnderSize is = lit≤ tt
 fits TextNeedsItm is = lit≤ tt
 fits TextReadsOneSource is = lit≤ tt
 fits FunnelNeedsOrder is = lit≤ tt
+fits VcdNeedsItm is = lit≤ tt
+fits VcdReadsOneSource is = lit≤ tt
 fits (OrderedTwice id) is = let number = short_id id is in grind (arith, common_steps, number)
 
 pub tight : (fault : UsageFault) × (length (usage_line fault) ≡ LINE_ROOM)

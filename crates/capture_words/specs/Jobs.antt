@@ -2,6 +2,7 @@
 use Rattle.std.specs.Prelude.{◌≡◌, ◌≤◌, ◌<◌, ℕ, ◌^◌, List, [], ◌∷◌, ◌++◌, Bool, true, Option, Some, None, Result}
 use Rattle.std.specs.Prelude.{length, Ok, Err, ◌==◌, nat_lt, if◌then◌else◌, option_map}
 use Rattle.std.specs.List.{list_any}
+use Rattle.std.specs.Option.{ForSome}
 use Rattle.clap.specs.Words.{Row}
 use Rattle.trace_values.specs.declared.reading_modes.FramesMode.{FramesMode}
 use Rattle.source_events.specs.Plan.{is_sound}
@@ -12,7 +13,7 @@ use Rattle.capture_words.specs.Settings.{◌>>=◌, settings_in}
 use Rattle.capture_words.specs.Values.{action_in}
 use Rattle.capture_words.specs.declared.job.Task.{Task}
 use Rattle.capture_words.specs.declared.job.Task.TheVariants.{Show, Split, Check, Rebuild, Exercise}
-use Rattle.capture_words.specs.declared.job.Task.TheVariants.{Realign, Ring, Unring, Text, Funnel}
+use Rattle.capture_words.specs.declared.job.Task.TheVariants.{Realign, Ring, Unring, Text, Funnel, Vcd}
 use Rattle.capture_words.specs.declared.job.Job.{Job}
 use Rattle.capture_words.specs.declared.settings.Settings.{Settings}
 use Rattle.capture_words.specs.declared.settings.TurnSettings.{TurnSettings}
@@ -21,12 +22,14 @@ use Rattle.capture_words.specs.declared.usage.UsageFault.TheVariants.{SplitNeeds
 use Rattle.capture_words.specs.declared.usage.UsageFault.TheVariants.{UnringNeedsSize, PointerNotUnderSize}
 use Rattle.capture_words.specs.declared.usage.UsageFault.TheVariants.{TextNeedsItm, TextReadsOneSource}
 use Rattle.capture_words.specs.declared.usage.UsageFault.TheVariants.{FunnelNeedsOrder, OrderedTwice}
+use Rattle.capture_words.specs.declared.usage.UsageFault.TheVariants.{VcdNeedsItm, VcdReadsOneSource}
 use Rattle.capture_words.specs.declared.values.ActionName.{ActionName}
 use Rattle.capture_words.specs.declared.values.ActionName.TheVariants.{Show as ShowName, Split as SplitName}
 use Rattle.capture_words.specs.declared.values.ActionName.TheVariants.{Check as CheckName, Rebuild as RebuildName}
 use Rattle.capture_words.specs.declared.values.ActionName.TheVariants.{Exercise as ExerciseName, Realign as RealignName}
 use Rattle.capture_words.specs.declared.values.ActionName.TheVariants.{Ring as RingName, Unring as UnringName}
 use Rattle.capture_words.specs.declared.values.ActionName.TheVariants.{Text as TextName, Funnel as FunnelName}
+use Rattle.capture_words.specs.declared.values.ActionName.TheVariants.{Vcd as VcdName}
 
 -- the first of these IDs that stands earlier already, among them or before them
 abbrev pub again_after : List ℕ → List ℕ → Option ℕ
@@ -60,11 +63,12 @@ unring_with None pointer full = Err UnringNeedsSize
 unring_with (Some size) pointer full =
     if nat_lt pointer size then Ok (Unring size pointer full) else Err PointerNotUnderSize
 
--- `text` reads one source that sends ITM packets, and no system trace
-abbrev pub text_with : List ℕ → Plan → ℕ → Result Task UsageFault
-text_with [] plan port = Err TextNeedsItm
-text_with (id ∷ []) plan port = Ok (Text (record plan { itm = id ∷ []; stp = [] }) port)
-text_with (id ∷ other ∷ ids) plan port = Err TextReadsOneSource
+-- The plan of what reads one source that sends ITM packets, and no system trace: the faults are that there is none, and
+-- that there are more.
+abbrev pub plan_of_one : UsageFault → UsageFault → List ℕ → Plan → Result Plan UsageFault
+plan_of_one none more [] plan = Err none
+plan_of_one none more (id ∷ []) plan = Ok (record plan { itm = id ∷ []; stp = [] })
+plan_of_one none more (id ∷ other ∷ ids) plan = Err more
 
 -- `funnel` needs the order of its turns, in which no source stands twice
 abbrev pub order_with : Option (List ℕ) → Result (List ℕ) UsageFault
@@ -85,7 +89,10 @@ task_with ExerciseName s = Ok (Exercise s.items s.lose)
 task_with RealignName s = Ok Realign
 task_with RingName s = ring_with s.buffer.size
 task_with UnringName s = unring_with s.buffer.size s.buffer.pointer s.buffer.full
-task_with TextName s = text_with s.plan.itm s.plan s.port
+task_with TextName s =
+    plan_of_one TextNeedsItm TextReadsOneSource s.plan.itm s.plan >>= (λ plan. Ok (Text plan s.port))
+task_with VcdName s =
+    plan_of_one VcdNeedsItm VcdReadsOneSource s.plan.itm s.plan >>= (λ plan. Ok (Vcd plan s.hz))
 task_with FunnelName s =
     plan_with s.plan >>= (λ plan. turns_with s.turns >>= (λ turns. Ok (Funnel plan s.sync s.half turns)))
 
@@ -98,10 +105,14 @@ job_of rows = do
   task ← task_with name settings
   Ok (record { task = task; limit = settings.limit })
 
+-- the plan is sound and maps one source, of ITM packets
+abbrev pub IsOfOne : Plan → Type 0
+IsOfOne plan = (is_sound plan ≡ true) × (length plan.itm ≡ 1) × (plan.stp ≡ [])
+
 -- What is sure of a task: its plan is sound, and for a script there are at most eight half synchronisations in a gap.
 -- From 1 to 1,000,000 items are made, of which at most 1,000,000 bytes are lost. A trace buffer has from 16 to 2^24
--- bytes, and its write pointer is one of them. The text of a stimulus port, 0 to 31, is that of one ITM source. The
--- turns of a funnel are sound.
+-- bytes, and its write pointer is one of them. The text of a stimulus port, 0 to 31, is that of one ITM source, and so is
+-- a value dump, whose clock has at least one tick in a second. The turns of a funnel are sound.
 abbrev pub IsSoundTask : Task → Type 0
 IsSoundTask (Show plan only window recover) = is_sound plan ≡ true
 IsSoundTask (Split frames id) = Unit {0}
@@ -111,5 +122,6 @@ IsSoundTask (Exercise items lose) = (1 ≤ items) × (items ≤ 1000000) × (los
 IsSoundTask Realign = Unit {0}
 IsSoundTask (Ring size) = (16 ≤ size) × (size ≤ 2 ^ 24)
 IsSoundTask (Unring size pointer full) = (16 ≤ size) × (size ≤ 2 ^ 24) × (pointer < size)
-IsSoundTask (Text plan port) = (is_sound plan ≡ true) × (length plan.itm ≡ 1) × (plan.stp ≡ []) × (port ≤ 31)
+IsSoundTask (Text plan port) = IsOfOne plan × (port ≤ 31)
 IsSoundTask (Funnel plan sync half turns) = (is_sound plan ≡ true) × (half ≤ 8) × IsSoundTurns turns
+IsSoundTask (Vcd plan hz) = IsOfOne plan × ForSome hz (λ n. 0 < n)

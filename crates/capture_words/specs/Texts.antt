@@ -7,6 +7,7 @@ use Rattle.capture_words.specs.declared.usage.UsageFault.TheVariants.{MappedTwic
 use Rattle.capture_words.specs.declared.usage.UsageFault.TheVariants.{PointerNotUnderSize}
 use Rattle.capture_words.specs.declared.usage.UsageFault.TheVariants.{TextNeedsItm, TextReadsOneSource}
 use Rattle.capture_words.specs.declared.usage.UsageFault.TheVariants.{FunnelNeedsOrder, OrderedTwice}
+use Rattle.capture_words.specs.declared.usage.UsageFault.TheVariants.{VcdNeedsItm, VcdReadsOneSource}
 
 abbrev pub usage_line : UsageFault → List ℕ
 usage_line UnknownAction = codes "usage: unknown action\n"
@@ -18,6 +19,8 @@ usage_line UnringNeedsSize = codes "usage: unring needs --size\n"
 usage_line PointerNotUnderSize = codes "usage: pointer isn't under size\n"
 usage_line TextNeedsItm = codes "usage: text needs --itm\n"
 usage_line TextReadsOneSource = codes "usage: text reads one source\n"
+usage_line VcdNeedsItm = codes "usage: vcd needs --itm\n"
+usage_line VcdReadsOneSource = codes "usage: vcd reads one source\n"
 usage_line FunnelNeedsOrder = codes "usage: funnel needs --order\n"
 usage_line (OrderedTwice id) = codes "usage: " ++ decimal id ++ codes " is ordered twice\n"
 

@@ -26,7 +26,7 @@ use Rattle.capture_words.specs.declared.option.CommandOption.TheVariants.{Frames
 use Rattle.capture_words.specs.declared.option.CommandOption.TheVariants.{Only, Window, Sync, Half, Limit, Items}
 use Rattle.capture_words.specs.declared.option.CommandOption.TheVariants.{Lose, Size, Pointer, Full, Port as PortOption}
 use Rattle.capture_words.specs.declared.option.CommandOption.TheVariants.{Recover as RecoverOption}
-use Rattle.capture_words.specs.declared.option.CommandOption.TheVariants.{Order as OrderOption, Hold, Depth}
+use Rattle.capture_words.specs.declared.option.CommandOption.TheVariants.{Order as OrderOption, Hold, Depth, Hz}
 use Rattle.capture_words.specs.declared.recover.Recover.{Recover}
 use Rattle.capture_words.specs.declared.recover.Recover.TheVariants.{Off, On}
 use Rattle.capture_words.specs.declared.usage.UsageFault.{UsageFault}
@@ -34,6 +34,7 @@ use Rattle.capture_words.specs.declared.usage.UsageFault.TheVariants.{UnknownAct
 use Rattle.capture_words.specs.declared.values.ActionName.{ActionName}
 use Rattle.capture_words.specs.declared.values.ActionName.TheVariants.{Show, Split, Check, Rebuild, Exercise}
 use Rattle.capture_words.specs.declared.values.ActionName.TheVariants.{Realign, Ring, Unring, Text as TextName, Funnel}
+use Rattle.capture_words.specs.declared.values.ActionName.TheVariants.{Vcd}
 
 -- the action that a text names
 abbrev pub action_named : Text → Option ActionName
@@ -48,6 +49,7 @@ action_named text =
     else if bytes_eq text (codes "unring") then Some Unring
     else if bytes_eq text (codes "text") then Some TextName
     else if bytes_eq text (codes "funnel") then Some Funnel
+    else if bytes_eq text (codes "vcd") then Some Vcd
     else None
 
 -- the order of nibbles that a text names
@@ -212,6 +214,10 @@ depth_in = number_given Depth 256 1 4096
 -- the stimulus port whose bytes are written, 0 by default
 abbrev pub port_in : List Row → Result ℕ UsageFault
 port_in = number_given PortOption 0 0 31
+
+-- how many ticks of the local timestamps there are in a second
+abbrev pub hz_in : List Row → Result (Option ℕ) UsageFault
+hz_in = number_if_given Hz 1 1000000000000
 
 abbrev pub limit_in : List Row → Result ℕ UsageFault
 limit_in = number_given Limit GREATEST_LIMIT 1 GREATEST_LIMIT

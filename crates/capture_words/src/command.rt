@@ -19,7 +19,8 @@ const ACTION_HELP: &str =
     writes the capture of a script, exercise tries the tool on a capture of its own, realign writes a capture \
     that lost bits in whole bytes again, ring writes the image of a trace buffer that took a capture, unring \
     writes the bytes of such an image from the oldest on, text writes what software sent to a stimulus port, funnel \
-    writes the capture of a script whose bytes pass through a funnel";
+    writes the capture of a script whose bytes pass through a funnel, vcd writes values and exceptions over time as a \
+    value change dump";
 
 /// The command with this option besides. It takes one value, and is given once at most.
 fn with_option<'a>(

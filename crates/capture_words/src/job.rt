@@ -1,14 +1,15 @@
 //! The job of the entries.
 
-ghost use Rattle.std.specs.Prelude.{◌≡◌, ◌≤◌, true, IfOk, IfSome};
+ghost use Rattle.std.specs.Prelude.{◌≡◌, ◌≤◌, ◌<◌, true, IfOk, IfSome};
 ghost use Rattle.std.specs.List.{All};
+ghost use Rattle.std.specs.Option.{ForSome};
 ghost use Rattle.capture_words.specs.declared.values.TheConstants.{GREATEST_LIMIT, GREATEST_HALF, GREATEST_ITEMS};
 ghost use Rattle.capture_words.specs.declared.values.TheConstants.{GREATEST_LOSS, LEAST_SIZE, GREATEST_SIZE};
 ghost use Rattle.capture_words.specs.declared.values.TheConstants.{GREATEST_PORT};
 ghost use Rattle.clap.specs.Words.{rows_of, found_of};
 ghost use Rattle.source_events.specs.Plan.{is_sound};
-ghost use Rattle.capture_words.specs.Jobs.{plan_with, split_with, ring_with, unring_with, text_with};
-ghost use Rattle.capture_words.specs.Jobs.{turns_with, task_with, job_of, IsSoundTask};
+ghost use Rattle.capture_words.specs.Jobs.{plan_with, split_with, ring_with, unring_with, plan_of_one};
+ghost use Rattle.capture_words.specs.Jobs.{turns_with, task_with, job_of, IsSoundTask, IsOfOne};
 ghost use Rattle.capture_words.specs.Choices.{AreIds};
 ghost use Rattle.trace_funnel.specs.SoundTurns.{IsSoundTurns};
 
@@ -82,6 +83,14 @@ pub enum Task {
         pointer: usize,
         /// Whether the buffer took as many bytes as it has, or more, so that its oldest byte is that at the pointer.
         full: bool,
+    },
+    /// The values of variables and exceptions over time, for viewers of value change dumps.
+    Vcd {
+        /// How the capture is read. It maps one source, which sends ITM packets.
+        plan: Plan,
+        /// How many ticks of the local timestamps there are in a second, at least one; where it is absent a tick is a
+        /// nanosecond.
+        hz: Option<u64>,
     },
     /// What software wrote to a stimulus port.
     Text {
@@ -169,26 +178,22 @@ fn unring_with(buffer: BufferSettings) -> Result<Task, UsageFault>
     }
 }
 
-/// What software wrote to a port of a source, which is needed and alone.
-fn text_with(plan: Plan, port: u8) -> Result<Task, UsageFault>
+/// The plan of what reads one source of ITM packets alone. The faults are that there is none, and that there are more.
+fn plan_of_one(plan: Plan, none: UsageFault, more: UsageFault) -> Result<Plan, UsageFault>
     requires itm { All (λ n. (1 ≤ n) × (n ≤ 111)) plan.itm }
-    requires port { port ≤ GREATEST_PORT }
-    ensures task { result ≡ text_with plan.itm plan port }
-    ensures sound { IfOk result IsSoundTask }
+    ensures plan { result ≡ plan_of_one none more plan.itm plan }
+    ensures sound { IfOk result IsOfOne }
 {
     match plan.itm.as_slice().len() {
-        0 => Err(UsageFault::TextNeedsItm),
-        1 => Ok(Task::Text {
-            plan: Plan {
-                frames: plan.frames,
-                packets: plan.packets,
-                itm: plan.itm,
-                stp: SourceIds::new(),
-                order: plan.order,
-            },
-            port,
+        0 => Err(none),
+        1 => Ok(Plan {
+            frames: plan.frames,
+            packets: plan.packets,
+            itm: plan.itm,
+            stp: SourceIds::new(),
+            order: plan.order,
         }),
-        _ => Err(UsageFault::TextReadsOneSource),
+        _ => Err(more),
     }
 }
 
@@ -218,6 +223,7 @@ fn task_with(name: ActionName, settings: Settings) -> Result<Task, UsageFault>
     requires items { (1 ≤ settings.items) × (settings.items ≤ GREATEST_ITEMS) }
     requires lose { settings.lose ≤ GREATEST_LOSS }
     requires port { settings.port ≤ GREATEST_PORT }
+    requires hz { ForSome settings.hz (λ n. 0 < n) }
     requires size { IfSome settings.buffer.size (λ n. (LEAST_SIZE ≤ n) × (n ≤ GREATEST_SIZE)) }
     requires order { IfSome settings.turns.order (AreIds 16 126) }
     requires hold { (1 ≤ settings.turns.hold) × (settings.turns.hold ≤ 15) }
@@ -249,7 +255,22 @@ fn task_with(name: ActionName, settings: Settings) -> Result<Task, UsageFault>
         ActionName::Realign => Ok(Task::Realign),
         ActionName::Ring => ring_with(settings.buffer.size),
         ActionName::Unring => unring_with(settings.buffer),
-        ActionName::Text => text_with(settings.plan, settings.port),
+        ActionName::Text => Ok(Task::Text {
+            plan: plan_of_one(
+                settings.plan,
+                UsageFault::TextNeedsItm,
+                UsageFault::TextReadsOneSource,
+            )?,
+            port: settings.port,
+        }),
+        ActionName::Vcd => Ok(Task::Vcd {
+            plan: plan_of_one(
+                settings.plan,
+                UsageFault::VcdNeedsItm,
+                UsageFault::VcdReadsOneSource,
+            )?,
+            hz: settings.hz,
+        }),
         ActionName::Funnel => Ok(Task::Funnel {
             plan: plan_with(settings.plan)?,
             sync: settings.sync,

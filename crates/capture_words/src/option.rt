@@ -48,10 +48,12 @@ pub enum CommandOption {
     Depth,
     /// `--port`: the stimulus port whose text is written.
     Port,
+    /// `--hz`: how many ticks of the local timestamps there are in a second.
+    Hz,
 }
 
 /// The options, in that order.
-pub(crate) const ALL_OPTIONS: [CommandOption; 21] = [
+pub(crate) const ALL_OPTIONS: [CommandOption; 22] = [
     CommandOption::Frames,
     CommandOption::Packets,
     CommandOption::Itm,
@@ -73,6 +75,7 @@ pub(crate) const ALL_OPTIONS: [CommandOption; 21] = [
     CommandOption::Hold,
     CommandOption::Depth,
     CommandOption::Port,
+    CommandOption::Hz,
 ];
 
 impl CommandOption {
@@ -103,6 +106,7 @@ impl CommandOption {
             CommandOption::Hold => "hold",
             CommandOption::Depth => "depth",
             CommandOption::Port => "port",
+            CommandOption::Hz => "hz",
         }
     }
 
@@ -177,6 +181,10 @@ impl CommandOption {
             }
             CommandOption::Port =>
                 "The stimulus port whose bytes text writes: 0 (the default) to 31",
+            CommandOption::Hz => {
+                "How many ticks of the local timestamps vcd has in a second, so that its times are nanoseconds: 1 to \
+                1000000000000; where it is not given a tick is a nanosecond"
+            }
         }
     }
 }

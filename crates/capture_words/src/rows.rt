@@ -13,12 +13,12 @@ ghost use Rattle.item_tap.specs.declared.choice.Kind.TheVariants.{Itm as ItmKind
 ghost use Rattle.item_tap.specs.declared.choice.Kind.TheVariants.{Raw as RawKind, Trigger as TriggerKind};
 ghost use Rattle.capture_words.specs.Rows.{does, lists, faults, AllAnswered, Refuses, planned, turning};
 ghost use Rattle.capture_words.specs.declared.job.Task.TheVariants.{Show, Split, Check, Rebuild, Exercise};
-ghost use Rattle.capture_words.specs.declared.job.Task.TheVariants.{Realign, Ring, Unring, Text, Funnel};
+ghost use Rattle.capture_words.specs.declared.job.Task.TheVariants.{Realign, Ring, Unring, Text, Funnel, Vcd};
 ghost use Rattle.capture_words.specs.declared.option.CommandOption.TheVariants.{Frames, Packets, Itm, Stp, StpOrder};
 ghost use Rattle.capture_words.specs.declared.option.CommandOption.TheVariants.{Id, Only, Window, Sync};
 ghost use Rattle.capture_words.specs.declared.option.CommandOption.TheVariants.{Half, Limit, Items, Lose};
 ghost use Rattle.capture_words.specs.declared.option.CommandOption.TheVariants.{Size, Pointer, Full};
-ghost use Rattle.capture_words.specs.declared.option.CommandOption.TheVariants.{Order, Hold, Depth};
+ghost use Rattle.capture_words.specs.declared.option.CommandOption.TheVariants.{Order, Hold, Depth, Hz};
 ghost use Rattle.capture_words.specs.declared.option.CommandOption.TheVariants.{Port as PortOption};
 ghost use Rattle.capture_words.specs.declared.option.CommandOption.TheVariants.{Recover as RecoverOption};
 ghost use Rattle.capture_words.specs.declared.recover.Recover.TheVariants.{Off, On};
@@ -27,6 +27,7 @@ ghost use Rattle.capture_words.specs.declared.usage.UsageFault.TheVariants.{Mapp
 ghost use Rattle.capture_words.specs.declared.usage.UsageFault.TheVariants.{UnringNeedsSize, PointerNotUnderSize};
 ghost use Rattle.capture_words.specs.declared.usage.UsageFault.TheVariants.{TextNeedsItm, TextReadsOneSource};
 ghost use Rattle.capture_words.specs.declared.usage.UsageFault.TheVariants.{FunnelNeedsOrder, OrderedTwice};
+ghost use Rattle.capture_words.specs.declared.usage.UsageFault.TheVariants.{VcdNeedsItm, VcdReadsOneSource};
 
 /// Words that ask for a job, in several orders and spellings.
 pub fn asks()
@@ -123,6 +124,11 @@ pub fn asks()
         (turning (16 ∷ 15 ∷ 14 ∷ 13 ∷ 12 ∷ 11 ∷ 10 ∷ 9 ∷ 8 ∷ 7 ∷ 6 ∷ 5 ∷ 4 ∷ 3 ∷ 2 ∷ 1 ∷ []) 1 1)) 5 ∷
         does (codes "rebuild --order 1,1 --hold 2 --depth 3")
         (Rebuild (planned FramesHunt PacketsHunt [] [] Msn) 64 0) 68719476736 ∷ []) }
+    ensures vcd { AllAnswered (
+        does (codes "vcd --itm 1") (Vcd (planned FramesHunt PacketsHunt (1 ∷ []) [] Msn) None) 68719476736 ∷
+        does (codes "vcd --itm 111 --hz 1000000000000 --frames bare --limit 5 --stp 2,2")
+        (Vcd (planned Bare PacketsHunt (111 ∷ []) [] Msn) (Some 1000000000000)) 5 ∷
+        does (codes "realign --hz 1") Realign 68719476736 ∷ []) }
     ensures split { AllAnswered (
         does (codes "split --id 5") (Split FramesHunt 5) 68719476736 ∷
         does (codes "split --frames aligned --id 0") (Split FramesAligned 0) 68719476736 ∷
@@ -186,6 +192,8 @@ pub fn misuses()
         faults (codes "check --depth 4097") (BadValue Depth) ∷
         faults (codes "text --itm 1 --port 32") (BadValue PortOption) ∷
         faults (codes "show --port 01") (BadValue PortOption) ∷
+        faults (codes "vcd --itm 1 --hz 0") (BadValue Hz) ∷
+        faults (codes "show --hz 1000000000001") (BadValue Hz) ∷
         faults (codes "unring --size 16 --limit 0") (BadValue Limit) ∷
         faults (codes "check --limit 0") (BadValue Limit) ∷
         faults (codes "show --limit 68719476737") (BadValue Limit) ∷
@@ -259,6 +267,7 @@ pub fn misuses()
         faults (codes "funnel --hold x --order x") (BadValue Order) ∷
         faults (codes "funnel --depth x --hold x") (BadValue Hold) ∷
         faults (codes "ring --port x --depth x") (BadValue Depth) ∷
+        faults (codes "vcd --hz x --port x") (BadValue PortOption) ∷
         faults (codes "split") SplitNeedsId ∷
         faults (codes "split --limit x") (BadValue Limit) ∷
         faults (codes "show --itm 5 --stp 5") (MappedTwice 5) ∷
@@ -272,6 +281,9 @@ pub fn misuses()
         faults (codes "text --stp 2") TextNeedsItm ∷
         faults (codes "text --itm 1,2") TextReadsOneSource ∷
         faults (codes "text --itm 1,1 --port 3") TextReadsOneSource ∷
+        faults (codes "vcd --stp 2") VcdNeedsItm ∷
+        faults (codes "vcd --itm 1,2 --hz 1") VcdReadsOneSource ∷
+        faults (codes "vcd --hz x") (BadValue Hz) ∷
         faults (codes "funnel --itm 1 --stp 2") FunnelNeedsOrder ∷
         faults (codes "funnel --itm 5 --stp 5") (MappedTwice 5) ∷
         faults (codes "funnel --order 1,1 --itm 5 --stp 5") (MappedTwice 5) ∷

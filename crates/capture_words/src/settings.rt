@@ -1,7 +1,8 @@
 //! What all options say.
 
-ghost use Rattle.std.specs.Prelude.{◌≡◌, ◌≤◌, ℕ, Option, IfOk, IfSome};
+ghost use Rattle.std.specs.Prelude.{◌≡◌, ◌≤◌, ◌<◌, ℕ, Option, IfOk, IfSome};
 ghost use Rattle.std.specs.List.{All};
+ghost use Rattle.std.specs.Option.{ForSome};
 ghost use Rattle.capture_words.specs.declared.values.TheConstants.{GREATEST_LIMIT, GREATEST_SYNC, GREATEST_HALF};
 ghost use Rattle.capture_words.specs.declared.values.TheConstants.{GREATEST_ITEMS, GREATEST_LOSS};
 ghost use Rattle.capture_words.specs.declared.values.TheConstants.{LEAST_SIZE, GREATEST_SIZE, GREATEST_PORT};
@@ -12,9 +13,9 @@ ghost use Rattle.capture_words.specs.Choices.{AreIds};
 use crate::recover::Recover;
 use crate::usage::UsageFault;
 use crate::values::{
-    depth_in, frames_in, full_in, half_in, hold_in, id_in, items_in, itm_in, limit_in, lose_in,
-    only_in, order_in, packets_in, pointer_in, port_in, recover_in, size_in, stp_in, sync_in,
-    turn_order_in, window_in,
+    depth_in, frames_in, full_in, half_in, hold_in, hz_in, id_in, items_in, itm_in, limit_in,
+    lose_in, only_in, order_in, packets_in, pointer_in, port_in, recover_in, size_in, stp_in,
+    sync_in, turn_order_in, window_in,
 };
 use clap::ArgMatches;
 use item_tap::{Bounds, Choices};
@@ -73,6 +74,8 @@ pub struct Settings {
     pub turns: TurnSettings,
     /// The stimulus port whose bytes are written.
     pub port: u8,
+    /// How many ticks of the local timestamps there are in a second.
+    pub hz: Option<u64>,
 }
 
 /// How a capture is read, by the first five options.
@@ -131,6 +134,7 @@ pub fn settings_in(matches: &ArgMatches<'_>) -> Result<Settings, UsageFault>
     ensures hold { IfOk result (λ s. (1 ≤ s.turns.hold) × (s.turns.hold ≤ 15)) }
     ensures depth { IfOk result (λ s. (1 ≤ s.turns.depth) × (s.turns.depth ≤ 4096)) }
     ensures port { IfOk result (λ s. s.port ≤ GREATEST_PORT) }
+    ensures hz { IfOk result (λ s. ForSome s.hz (λ n. 0 < n)) }
 {
     Ok(Settings {
         plan: plan_in(matches)?,
@@ -146,5 +150,6 @@ pub fn settings_in(matches: &ArgMatches<'_>) -> Result<Settings, UsageFault>
         buffer: buffer_in(matches)?,
         turns: turns_in(matches)?,
         port: port_in(matches)?,
+        hz: hz_in(matches)?,
     })
 }

@@ -33,6 +33,10 @@ pub enum UsageFault {
     TextNeedsItm,
     /// The action is `text`, and `--itm` has more than one ID.
     TextReadsOneSource,
+    /// The action is `vcd`, and `--itm` is absent.
+    VcdNeedsItm,
+    /// The action is `vcd`, and `--itm` has more than one ID.
+    VcdReadsOneSource,
     /// The action is `funnel`, and `--order` is absent.
     FunnelNeedsOrder,
     /// The action is `funnel`, and this is the first ID of `--order` that stands there earlier already.
@@ -75,6 +79,8 @@ impl UsageFault {
             UsageFault::PointerNotUnderSize => joined("usage: pointer isn't under size\n", "", ""),
             UsageFault::TextNeedsItm => joined("usage: text needs --itm\n", "", ""),
             UsageFault::TextReadsOneSource => joined("usage: text reads one source\n", "", ""),
+            UsageFault::VcdNeedsItm => joined("usage: vcd needs --itm\n", "", ""),
+            UsageFault::VcdReadsOneSource => joined("usage: vcd reads one source\n", "", ""),
             UsageFault::FunnelNeedsOrder => joined("usage: funnel needs --order\n", "", ""),
             UsageFault::OrderedTwice(id) => id_line(*id, " is ordered twice\n"),
         }

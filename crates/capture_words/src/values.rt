@@ -1,14 +1,15 @@
 //! What the texts of the action and of the options say.
 
-ghost use Rattle.std.specs.Prelude.{◌≡◌, ◌≤◌, [], option_map, IfOk, IfSome};
+ghost use Rattle.std.specs.Prelude.{◌≡◌, ◌≤◌, ◌<◌, [], option_map, IfOk, IfSome};
 ghost use Rattle.std.specs.List.{All};
+ghost use Rattle.std.specs.Option.{ForSome};
 ghost use Rattle.clap.specs.Words.{rows_of, found_of, first_of};
 ghost use Rattle.capture_words.specs.Command.{option_name};
 ghost use Rattle.capture_words.specs.Values.{action_named, order_named, bit_named, action_in, frames_in, packets_in};
 ghost use Rattle.capture_words.specs.Values.{number_if_given, itm_in, stp_in, order_in, id_in, only_in, window_in};
 ghost use Rattle.capture_words.specs.Values.{number_given, sync_in, half_in, limit_in, items_in, lose_in, size_in};
 ghost use Rattle.capture_words.specs.Values.{pointer_in, full_in, option_in, ids_named, port_in, recover_in};
-ghost use Rattle.capture_words.specs.Values.{turn_order_in, hold_in, depth_in};
+ghost use Rattle.capture_words.specs.Values.{turn_order_in, hold_in, depth_in, hz_in};
 ghost use Rattle.capture_words.specs.Choices.{AreIds};
 
 use crate::choices::{choices_named, window_named};
@@ -53,6 +54,8 @@ pub const DEFAULT_HOLD: u8 = 4;
 pub const GREATEST_DEPTH: u32 = 4096;
 /// The same where none is given.
 pub const DEFAULT_DEPTH: u32 = 256;
+/// The most ticks of a clock in a second.
+pub const GREATEST_HZ: u64 = 1_000_000_000_000;
 /// The greatest stimulus port.
 pub const GREATEST_PORT: u8 = 31;
 
@@ -79,6 +82,8 @@ pub enum ActionName {
     Text,
     /// `funnel`
     Funnel,
+    /// `vcd`
+    Vcd,
 }
 
 impl ActionName {
@@ -97,6 +102,7 @@ impl ActionName {
             "unring" => Some(ActionName::Unring),
             "text" => Some(ActionName::Text),
             "funnel" => Some(ActionName::Funnel),
+            "vcd" => Some(ActionName::Vcd),
             _ => None,
         }
     }
@@ -138,7 +144,7 @@ fn text_of<'a>(matches: &ArgMatches<'a>, option: CommandOption) -> Option<&'a st
     text_named(matches, option.name())
 }
 
-/// The action: `show`, `split`, `check`, `rebuild`, `exercise`, `realign`, `ring`, `unring`, `text` or `funnel`.
+/// The action: `show`, `split`, `check`, `rebuild`, `exercise`, `realign`, `ring`, `unring`, `text`, `funnel` or `vcd`.
 pub fn action_in(matches: &ArgMatches<'_>) -> Result<ActionName, UsageFault>
     ensures { result ≡ action_in (rows_of (found_of matches.now)) }
 {
@@ -415,6 +421,20 @@ pub fn port_in(matches: &ArgMatches<'_>) -> Result<u8, UsageFault>
 {
     let port = number_given(matches, CommandOption::Port, 0, 0, u32::from(GREATEST_PORT))?;
     Ok(port as u8)
+}
+
+/// How many ticks of the local timestamps there are in a second, 1 to 10^12, if that is given.
+pub fn hz_in(matches: &ArgMatches<'_>) -> Result<Option<u64>, UsageFault>
+    ensures value { result ≡ hz_in (rows_of (found_of matches.now)) }
+    ensures in_range { IfOk result (λ hz. ForSome hz (λ n. 0 < n)) }
+{
+    match text_of(matches, CommandOption::Hz) {
+        None => Ok(None),
+        Some(text) => match number_named(1, GREATEST_HZ, text) {
+            Some(hz) => Ok(Some(hz)),
+            None => Err(UsageFault::BadValue(CommandOption::Hz)),
+        },
+    }
 }
 
 /// How many bytes are read at most: 1 to the greatest limit, which holds where it is absent.

@@ -19,6 +19,7 @@ returns c = record {
   recover = all_answered _ refl refl;
   text = all_answered _ refl refl;
   funnel = all_answered _ refl refl;
+  vcd = all_answered _ refl refl;
   split = all_answered _ refl refl;
   check = all_answered _ refl refl;
   several = all_answered _ refl refl;
