@@ -1,0 +1,6 @@
+pub mod Names
+pub mod Signals
+pub mod Header
+pub mod Lines
+pub mod Dump
+pub mod Rows

@@ -1,0 +1,7 @@
+//! A value dump of one ITM source, as viewers of waveforms read it: at each local timestamp the signals that changed.
+#![tactic(auto)]
+
+pub mod rows;
+mod signals;
+
+pub use signals::{ASLEEP, EXCEPTION, FIRST_COMPARATOR, FIRST_PORT, LOST, PC, SIGNALS};
