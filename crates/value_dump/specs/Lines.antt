@@ -10,7 +10,7 @@ abbrev pub code_of : ℕ → ℕ
 code_of number = 33 + number
 
 -- a number in binary without leading zeros, if it has at most 32 bits
-abbrev pub binary : ℕ → List ℕ
+unfoldable pub binary : ℕ → List ℕ
 binary value = digits_onto 32 2 false value []
 
 -- the line of a signal's value: a scalar's value and code, or a vector's with a space between them
@@ -20,10 +20,14 @@ value_line number value =
     then binary value ++ code_of number ∷ codes "\n"
     else codes "b" ++ (binary value ++ (codes " " ++ code_of number ∷ codes "\n"))
 
+-- the line of a time
+abbrev pub time_line : ℕ → List ℕ
+time_line time = codes "#" ++ (decimal time ++ codes "\n")
+
 -- the line of a time, and after it others, if there are any
 abbrev pub timed : ℕ → List ℕ → List ℕ
 timed time [] = []
-timed time (byte ∷ lines) = codes "#" ++ (decimal time ++ (codes "\n" ++ byte ∷ lines))
+timed time (byte ∷ lines) = time_line time ++ byte ∷ lines
 
 -- These ticks in nanoseconds, rounded down, by a clock of so many Hz. With no such clock one tick is one nanosecond.
 abbrev pub nanoseconds : Option ℕ → ℕ → ℕ

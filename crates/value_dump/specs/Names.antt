@@ -5,6 +5,7 @@ pub use Rattle.dwt_packets.specs.declared.item.DwtItem.{DwtItem}
 pub use Rattle.dwt_packets.specs.declared.item.DwtItem.TheVariants.{Exception, Sample, Asleep, Read, Written}
 pub use Rattle.itm_grammar.specs.declared.packet.ItmPacket.{ItmPacket}
 pub use Rattle.itm_grammar.specs.declared.packet.ItmPacket.TheVariants.{Software, Hardware, Overflow, Local}
+pub use Rattle.trace_stream.specs.declared.outlet.TheConstants.{OUTLET_ROOM}
 -- TEMPORARY
 use Rattle.std.specs.Prelude.{ℕ, List, [], ◌∷◌, flat_map}
 use Rattle.trace_clock.specs.LocalTime.{local_time}

@@ -1,6 +1,8 @@
 //! A value dump of one ITM source, as viewers of waveforms read it: at each local timestamp the signals that changed.
 #![tactic(auto)]
 
+mod binary;
+mod lines;
 pub mod rows;
 mod signals;
 
