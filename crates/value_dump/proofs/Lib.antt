@@ -1,1 +1,2 @@
 pub mod BinaryDigits
+pub mod Changes

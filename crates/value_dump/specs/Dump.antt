@@ -1,7 +1,7 @@
 -- The value dump of an ITM source: at each local timestamp the signals that changed since the one before it.
 use Rattle.std.specs.Prelude.{ℕ, List, [], ◌∷◌, ◌++◌, Option, None, Some, Bool, true, false, ◌==◌, if◌then◌else◌}
-use Rattle.std.specs.Prelude.{flat_map}
-use Rattle.std.specs.List.{list_any, range_with_len}
+use Rattle.std.specs.Prelude.{zero, suc, get_or}
+use Rattle.std.specs.List.{list_any}
 use Rattle.value_dump.specs.Names.{ItmPacket, Local, local_after}
 use Rattle.value_dump.specs.Signals.{value_after}
 use Rattle.value_dump.specs.Lines.{value_line, timed, nanoseconds}
@@ -27,9 +27,14 @@ abbrev pub change : ℕ → Option ℕ → Option ℕ → List ℕ
 change number old None = []
 change number old (Some value) = if has_value old value then [] else value_line number value
 
--- the lines of all signals that changed from the first of two moments to the second, each by its values then
-abbrev pub changes : (ℕ → Option ℕ) → (ℕ → Option ℕ) → List ℕ
-changes old new = flat_map (λ number. change number (old number) (new number)) (range_with_len 0 SIGNALS)
+-- the lines of the signals that changed from the first of two moments to the second, each by its values then: of so many
+-- signals, and of all
+abbrev pub changes_of : ℕ → (ℕ → Option ℕ) → (ℕ → Option ℕ) → List ℕ
+changes_of zero old new = []
+changes_of (suc number) old new = changes_of number old new ++ change number (old number) (new number)
+
+unfoldable pub changes : (ℕ → Option ℕ) → (ℕ → Option ℕ) → List ℕ
+changes old new = changes_of SIGNALS old new
 
 -- what is written after these packets: the signals that changed since the last local timestamp of those before, at the
 -- local time after them
@@ -50,3 +55,7 @@ lines_after hz before (packet ∷ packets) =
 -- what is pending after all packets: the signals that changed since the last local timestamp, at its time
 abbrev pub pending : Option ℕ → List ItmPacket → List ℕ
 pending hz packets = stamp_lines hz packets packets
+
+-- the value that a list has of a signal, if it is known
+abbrev pub known : List (Option ℕ) → ℕ → Option ℕ
+known values number = get_or values number None

@@ -4,3 +4,4 @@ pub mod Header
 pub mod Lines
 pub mod Dump
 pub mod Rows
+pub mod Values

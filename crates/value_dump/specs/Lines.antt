@@ -20,6 +20,11 @@ value_line number value =
     then binary value ++ code_of number ∷ codes "\n"
     else codes "b" ++ (binary value ++ (codes " " ++ code_of number ∷ codes "\n"))
 
+-- the line of the value of a signal, if there is one
+abbrev pub line_of : ℕ → Option ℕ → List ℕ
+line_of number None = []
+line_of number (Some value) = value_line number value
+
 -- the line of a time
 abbrev pub time_line : ℕ → List ℕ
 time_line time = codes "#" ++ (decimal time ++ codes "\n")

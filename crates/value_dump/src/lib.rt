@@ -5,5 +5,6 @@ mod binary;
 mod lines;
 pub mod rows;
 mod signals;
+mod values;
 
 pub use signals::{ASLEEP, EXCEPTION, FIRST_COMPARATOR, FIRST_PORT, LOST, PC, SIGNALS};

@@ -43,7 +43,7 @@ pub fn lines()
 {}
 
 /// Dumps of packets.
-#[tactic(auto, unfolding(crate::specs::Rows::digits, crate::specs::Lines::binary, dwt_packets::specs::Table::name))]
+#[tactic(auto, unfolding(crate::specs::Rows::digits, crate::specs::Lines::binary, crate::specs::Dump::changes, dwt_packets::specs::Table::name))]
 pub fn dumps()
     ensures nothing { row None [] ≡ codes "" }
     ensures no_stamp { row None (written 0 5 ∷ []) ≡ codes "#0\nb101 $\n" }
