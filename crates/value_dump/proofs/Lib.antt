@@ -1,2 +1,3 @@
 pub mod BinaryDigits
 pub mod Changes
+pub mod Timed

@@ -1,7 +1,7 @@
 -- The lines of a value dump (IEEE 1364-2005, clause 18 'Value change dump (VCD) files', section 18.2 'Format of the
 -- four-state VCD file').
 use Rattle.std.specs.Prelude.{ℕ, ◌+◌, ◌*◌, ◌/◌, ◌^◌, List, [], ◌∷◌, ◌++◌, Option, None, Some, if◌then◌else◌, codes}
-use Rattle.std.specs.Prelude.{decimal, false}
+use Rattle.std.specs.Prelude.{decimal, Bool, true, false}
 use Rattle.std.specs.Fmt.{digits_onto}
 use Rattle.value_dump.specs.Signals.{is_bit}
 
@@ -33,6 +33,15 @@ time_line time = codes "#" ++ (decimal time ++ codes "\n")
 abbrev pub timed : ℕ → List ℕ → List ℕ
 timed time [] = []
 timed time (byte ∷ lines) = time_line time ++ byte ∷ lines
+
+-- these lines, and before them that of the time where it was not put
+abbrev pub lines_with : Bool → ℕ → List ℕ → List ℕ
+lines_with is_timed time lines = if is_timed then lines else timed time lines
+
+-- there are some
+abbrev pub are_some : List ℕ → Bool
+are_some [] = false
+are_some (byte ∷ lines) = true
 
 -- These ticks in nanoseconds, rounded down, by a clock of so many Hz. With no such clock one tick is one nanosecond.
 abbrev pub nanoseconds : Option ℕ → ℕ → ℕ

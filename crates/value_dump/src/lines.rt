@@ -2,7 +2,7 @@
 
 ghost use Rattle.std.specs.Prelude.{◌≡◌, ◌+◌, ◌≤◌, ◌<◌, ◌++◌, ◌∷◌, length, codes, decimal};
 ghost use Rattle.std.specs.Option.{ForSome};
-ghost use Rattle.value_dump.specs.Lines.{nanoseconds, time_line, value_line};
+ghost use Rattle.value_dump.specs.Lines.{lines_with, nanoseconds, time_line, value_line};
 ghost use Rattle.value_dump.specs.Names.{OUTLET_ROOM};
 ghost use Rattle.value_dump.specs.Signals.{is_bit};
 ghost use Rattle.value_dump.specs.declared.signals.TheConstants.{SIGNALS};
@@ -59,4 +59,22 @@ pub(crate) fn put_value(outlet: &mut Outlet, number: usize, value: u32)
     }
     outlet.push(FIRST_CODE + number as u8);
     outlet.push(b'\n');
+}
+
+/// Puts the line of the value of a signal, and before it that of the time if it was not put.
+pub(crate) fn put_line(
+    outlet: &mut Outlet,
+    number: usize,
+    value: u32,
+    time: u128,
+    is_timed: bool,
+)
+    requires signal { number < SIGNALS }
+    requires room { length outlet.old + length (lines_with is_timed time (value_line number value)) ≤ OUTLET_ROOM }
+    ensures { outlet.new ≡ outlet.old ++ lines_with is_timed time (value_line number value) }
+{
+    if !is_timed {
+        put_time(outlet, time);
+    }
+    put_value(outlet, number, value);
 }

@@ -4,11 +4,14 @@ ghost use Rattle.std.specs.Prelude.{◌≡◌, ◌+◌, ◌*◌, ◌≤◌, ◌<
 ghost use Rattle.std.specs.Prelude.{◌||◌, List};
 ghost use Rattle.value_dump.specs.Dump.{change, changes, known};
 ghost use Rattle.value_dump.specs.Signals.{last_told};
-ghost use Rattle.value_dump.specs.Lines.{line_of};
+ghost use Rattle.value_dump.specs.Lines.{are_some, line_of, lines_with, timed};
+ghost use Rattle.value_dump.specs.Names.{OUTLET_ROOM};
 ghost use Rattle.value_dump.specs.declared.signals.TheConstants.{SIGNALS};
-ghost use Rattle.value_dump.specs.declared.values.TheConstants.{ALL_ROOM, LINE_ROOM};
+ghost use Rattle.value_dump.specs.declared.values.TheConstants.{ALL_ROOM, LINE_ROOM, TIME_ROOM};
 
+use crate::lines::put_line;
 use crate::signals::SIGNALS;
+use trace_stream::Outlet;
 
 /// The most bytes of the line of a value.
 pub const LINE_ROOM: usize = 36;
@@ -84,5 +87,44 @@ impl SignalValues {
     {
         self.stamped = self.latest;
         self.owed = 0;
+    }
+
+    /// Puts the line of this signal if it changed, and before it that of the time if it was not put; answers whether
+    /// it is now.
+    fn put_change(
+        &self,
+        outlet: &mut Outlet,
+        number: usize,
+        time: u128,
+        is_timed: bool,
+    ) -> bool
+        requires signal { number < SIGNALS }
+        requires room { let line = change number (stamped_of self.now number) (latest_of self.now number) in
+            length outlet.old + length (lines_with is_timed time line) ≤ OUTLET_ROOM }
+        ensures text { let line = change number (stamped_of self.now number) (latest_of self.now number) in
+            outlet.new ≡ outlet.old ++ lines_with is_timed time line }
+        ensures timed { result ≡
+            (is_timed || are_some (change number (stamped_of self.now number) (latest_of self.now number))) }
+    {
+        match changed_value(self.stamped[number], self.latest[number]) {
+            None => is_timed,
+            Some(value) => {
+                put_line(outlet, number, value, time, is_timed);
+                true
+            }
+        }
+    }
+
+    /// Puts the lines of the signals that changed since the last local timestamp, and before them that of the time, if
+    /// there are any.
+    pub fn put_changes(&self, outlet: &mut Outlet, time: u128)
+        requires room { length outlet.old + (TIME_ROOM + owed_by self.now) ≤ OUTLET_ROOM }
+        ensures text { outlet.new ≡ outlet.old ++ timed time (changes (stamped_of self.now) (latest_of self.now)) }
+        ensures bound { length outlet.new ≤ length outlet.old + (TIME_ROOM + owed_by self.now) }
+    {
+        let mut is_timed = false;
+        for number in 0..SIGNALS {
+            is_timed = self.put_change(outlet, number, time, is_timed);
+        }
     }
 }
