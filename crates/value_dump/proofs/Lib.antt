@@ -1,3 +1,4 @@
 pub mod BinaryDigits
 pub mod Changes
 pub mod Timed
+pub mod ToldValues

@@ -5,6 +5,7 @@ mod binary;
 mod lines;
 pub mod rows;
 mod signals;
+mod telling;
 mod values;
 
 pub use signals::{ASLEEP, EXCEPTION, FIRST_COMPARATOR, FIRST_PORT, LOST, PC, SIGNALS};
