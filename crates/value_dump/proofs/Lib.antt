@@ -2,3 +2,4 @@ pub mod BinaryDigits
 pub mod Changes
 pub mod Timed
 pub mod ToldValues
+pub mod Packets

@@ -5,3 +5,4 @@ pub mod Lines
 pub mod Dump
 pub mod Rows
 pub mod Values
+pub mod Dumping

@@ -2,10 +2,12 @@
 #![tactic(auto)]
 
 mod binary;
+mod dump;
 mod lines;
 pub mod rows;
 mod signals;
 mod telling;
 mod values;
 
+pub use dump::{PACKET_ROOM, ValueDump};
 pub use signals::{ASLEEP, EXCEPTION, FIRST_COMPARATOR, FIRST_PORT, LOST, PC, SIGNALS};
