@@ -3,3 +3,4 @@ pub mod Changes
 pub mod Timed
 pub mod ToldValues
 pub mod Packets
+pub mod Declared

@@ -18,7 +18,7 @@ abbrev pub unknown : ℕ × Signal → List ℕ
 unknown (number, signal) =
     if is_bit number then codes "x" ++ code_of number ∷ codes "\n" else codes "bx " ++ code_of number ∷ codes "\n"
 
-abbrev pub declarations : List ℕ
+unfoldable pub declarations : List ℕ
 declarations =
     codes "$scope module itm $end\n"
     ++ (flat_map variable (enumerate_from 0 signals)

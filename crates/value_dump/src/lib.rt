@@ -3,6 +3,7 @@
 
 mod binary;
 mod dump;
+mod header;
 mod lines;
 pub mod rows;
 mod signals;

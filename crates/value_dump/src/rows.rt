@@ -11,7 +11,7 @@ ghost use Rattle.value_dump.specs.declared.signals.TheConstants.{EXCEPTION, PC, 
 ghost use Rattle.value_dump.specs.declared.signals.TheConstants.{FIRST_COMPARATOR, LOST, SIGNALS};
 
 /// The signals and their places, and lines of the header.
-#[tactic(auto, unfolding(crate::specs::Rows::digits))]
+#[tactic(auto, unfolding(crate::specs::Rows::digits, crate::specs::Header::declarations))]
 pub fn declared()
     ensures count { length signals ≡ SIGNALS }
     ensures bits { map is_bit (range_with_len 0 SIGNALS) ≡ map (λ s. s.width == 1) signals }
