@@ -6,3 +6,9 @@ pub mod Dump
 pub mod Rows
 pub mod Values
 pub mod Dumping
+pub mod DumpLaws
+pub mod SourceDump
+pub mod SourceDumpLaws
+pub mod Vcd
+pub mod VcdLaws
+pub mod VcdStands

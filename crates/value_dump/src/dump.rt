@@ -48,6 +48,21 @@ impl ValueDump {
         }
     }
 
+    /// Of how many Hz the clock of the local timestamps is, if times are in nanoseconds.
+    pub fn hz(&self) -> Option<u64>
+        ensures { result ≡ hz_of self.now }
+    {
+        self.hz
+    }
+
+    /// How many bytes what is pending has at most.
+    #[inline]
+    pub fn owed(&self) -> usize
+        ensures { result ≡ owed_by self.now }
+    {
+        self.values.owed()
+    }
+
     /// Takes a local timestamp, and puts the lines of the signals that changed since the one before.
     fn put_stamp(&mut self, outlet: &mut Outlet, delta: u32)
         requires room { length outlet.old + (TIME_ROOM + owed_by self.old) ≤ OUTLET_ROOM }

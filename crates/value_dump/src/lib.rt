@@ -7,8 +7,14 @@ mod header;
 mod lines;
 pub mod rows;
 mod signals;
+mod source_dump;
 mod telling;
 mod values;
+mod vcd;
+mod vcd_plan;
 
 pub use dump::{PACKET_ROOM, ValueDump};
+pub use source_dump::SourceDump;
 pub use signals::{ASLEEP, EXCEPTION, FIRST_COMPARATOR, FIRST_PORT, LOST, PC, SIGNALS};
+pub use vcd::Vcd;
+pub use vcd_plan::VcdPlan;

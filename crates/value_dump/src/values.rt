@@ -59,6 +59,14 @@ impl SignalValues {
         }
     }
 
+    /// How many bytes the lines of the signals that changed have at most.
+    #[inline]
+    pub fn owed(&self) -> usize
+        ensures { result ≡ owed_by self.now }
+    {
+        self.owed
+    }
+
     /// The value of this signal, if it is known.
     pub fn value(&self, number: usize) -> Option<u32>
         requires { number < SIGNALS }
