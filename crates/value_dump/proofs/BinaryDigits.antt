@@ -1,6 +1,5 @@
 -- The digits of a number in binary, from the last one on.
-use Rattle.std.proofs.Common.{◌≡◌, ℕ, ◌+◌, ◌≤◌, List, [], ◌++◌, length, drop, refl, ◌∙◌, ap, arith}
-use Rattle.std.proofs.Common.{length-append}
+use Rattle.std.proofs.Common.{◌≡◌, ℕ, ◌+◌, ◌≤◌, List, [], length, drop, ap, arith}
 use Rattle.std.proofs.Math.ListN.{drop_of_length-le}
 use Rattle.std.specs.Prelude.{false, ◌==◌, ◌/◌, ◌%◌, Bool, true, cond, ◌∷◌, zero, suc}
 use Rattle.std.specs.Fmt.{digits_onto, digit_glyph}

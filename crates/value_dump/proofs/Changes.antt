@@ -1,6 +1,6 @@
 -- The lines of the signals that changed.
-use Rattle.std.proofs.Common.{◌≡◌, ◌≢◌, ℕ, zero, suc, ◌+◌, ◌*◌, ◌<◌, ◌≤◌, List, [], ◌∷◌, ◌++◌, length, refl, sym, ◌∙◌, ap}
-use Rattle.std.proofs.Common.{subst, arith, append_assoc, append-nil, length-append, inl, inr, Option, None, Some, Bool, true, false, cond, set, replicate}
+use Rattle.std.proofs.Common.{◌≡◌, ◌≢◌, ℕ, zero, suc, ◌+◌, ◌*◌, ◌<◌, ◌≤◌, List, [], ◌∷◌, ◌++◌, length, refl, ◌∙◌, ap}
+use Rattle.std.proofs.Common.{arith, length-append, inl, inr, Option, None, Some, Bool, true, false, cond, set, replicate}
 use Rattle.std.specs.Prelude.{◌==◌}
 use Rattle.std.proofs.lemmas.List.{get_or-set_same, get_or-set_other}
 use Rattle.std.proofs.lemmas.Bool.{cases_eq}
@@ -18,8 +18,10 @@ short_line : (number value : ℕ) → length (value_line number value) ≤ 36
 short_line number value = by (is_bit number) where
   scalar : List ℕ
   scalar = binary value ++ code_of number ∷ 10 ∷ []
+
   vector : List ℕ
   vector = 98 ∷ (binary value ++ 32 ∷ code_of number ∷ 10 ∷ [])
+
   by : (t : Bool) → length (cond t (binary value ++ code_of number ∷ 10 ∷ []) (98 ∷ (binary value ++ 32 ∷ code_of number ∷ 10 ∷ []))) ≤ 36
   by true =
       (let h = few_digits value in let l = length-append (binary value) (code_of number ∷ 10 ∷ []) in omega (arith, h, l))

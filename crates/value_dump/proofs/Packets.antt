@@ -9,7 +9,7 @@ use Rattle.std.proofs.lemmas.Grind.{flat_map-append}
 use Rattle.std.proofs.lemmas.List.Sums.{sum_by-append}
 use Rattle.itm_grammar.specs.declared.packet.Lateness.{Lateness}
 use Rattle.value_dump.specs.Names.{ItmPacket, Local, deltas_in}
-use Rattle.value_dump.specs.Dump.{changes, changes_of, is_local, up_to_stamp}
+use Rattle.value_dump.specs.Dump.{changes, is_local, up_to_stamp}
 use Rattle.value_dump.specs.Signals.{is_overflow, last_told, lost_by, told_by, value_after}
 use Rattle.value_dump.specs.Values.{toggled, value_next}
 use Rattle.value_dump.proofs.Changes.{same_changes}

@@ -1,9 +1,8 @@
 -- What hardware packets tell of signals.
-use Rattle.std.proofs.Common.{◌≡◌, ◌≢◌, ℕ, ◌+◌, ◌<◌, ◌^◌, refl, ◌∙◌, ap, subst, arith, List, [], ◌∷◌, Option, Some, Bool, true, false, cond, inl, inr}
+use Rattle.std.proofs.Common.{◌≡◌, ℕ, ◌+◌, ◌<◌, refl, ◌∙◌, ap, subst, arith, [], ◌∷◌, Option, Some, Bool, true, false, cond, inl, inr}
 use Rattle.std.specs.Prelude.{◌==◌}
 use Rattle.std.proofs.lemmas.Bool.{cases_eq}
 use Rattle.std.proofs.lemmas.Bool.Decides.{nat_tests}
-use Rattle.itm_grammar.specs.Spelling.{byte_count}
 use Rattle.itm_grammar.specs.declared.packet.Size.{Size}
 use Rattle.dwt_packets.specs.declared.item.DwtItem.TheVariants.{Counters, MatchPc, MatchAddress, Other}
 use Rattle.dwt_packets.proofs.Inverses.{in_range}

@@ -1,5 +1,5 @@
 -- How a value dump grows with packets.
-use Rattle.std.proofs.Common.{◌≡◌, ℕ, List, [], ◌∷◌, ◌++◌, refl, sym, ◌∙◌, ap, append_assoc, append-nil, Option, cond}
+use Rattle.std.proofs.Common.{◌≡◌, ℕ, List, [], ◌∷◌, ◌++◌, sym, ◌∙◌, ap, append_assoc, append-nil, Option, cond}
 use Rattle.std.proofs.lemmas.Grind.{flat_map-append}
 use Rattle.value_dump.specs.Names.{Event, ItmPacket, Packet, is_of, itm_packet, itm_packets}
 use Rattle.value_dump.specs.Dump.{lines_after, packet_lines}

@@ -1,6 +1,6 @@
 -- What a value dump begins with (IEEE 1364-2005, clause 18 'Value change dump (VCD) files', section 18.2 'Format of the
 -- four-state VCD file'): the declarations of all signals, and that none is known.
-use Rattle.std.specs.Prelude.{ℕ, List, [], ◌∷◌, ◌++◌, Option, None, Some, if◌then◌else◌, flat_map, codes, decimal}
+use Rattle.std.specs.Prelude.{ℕ, List, ◌∷◌, ◌++◌, Option, None, Some, if◌then◌else◌, flat_map, codes, decimal}
 use Rattle.std.specs.List.{enumerate_from}
 use Rattle.value_dump.specs.Signals.{Signal, signals, is_bit}
 use Rattle.value_dump.specs.Lines.{code_of}

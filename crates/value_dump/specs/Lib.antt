@@ -3,7 +3,6 @@ pub mod Signals
 pub mod Header
 pub mod Lines
 pub mod Dump
-pub mod Rows
 pub mod Values
 pub mod Dumping
 pub mod DumpLaws
@@ -12,3 +11,4 @@ pub mod SourceDumpLaws
 pub mod Vcd
 pub mod VcdLaws
 pub mod VcdStands
+pub mod Rows

@@ -2,7 +2,12 @@
 use Rattle.std.specs.Prelude.{ℕ, ◌+◌, ◌*◌, List, [], ◌++◌, Option}
 unfoldable pub use Rattle.std.specs.Fmt.{digits}
 use Rattle.value_dump.specs.Names.{ItmPacket, Software, Hardware, Local}
+use Rattle.capture_actions.specs.Rows.{itm}
+use Rattle.trace_values.specs.Hex.{hex}
+use Rattle.trace_values.specs.declared.reading_modes.FramesMode.TheVariants.{Bare}
+use Rattle.trace_values.specs.declared.reading_modes.PacketsMode.TheVariants.{Aligned}
 use Rattle.value_dump.specs.Dump.{lines_after, pending}
+use Rattle.value_dump.specs.Vcd.{packets_of}
 use Rattle.itm_grammar.specs.declared.packet.Size.TheVariants.{One, Two, Four}
 use Rattle.itm_grammar.specs.declared.packet.Lateness.TheVariants.{Exact}
 
@@ -38,3 +43,7 @@ writes comparator value = Hardware (17 + 2 * comparator) One value
 -- all that is written of these packets after the header
 abbrev pub row : Option ℕ → List ItmPacket → List ℕ
 row hz packets = lines_after hz [] packets ++ pending hz packets
+
+-- the same of the packets of source 1 in a bare capture, by its bytes in hexadecimal
+abbrev pub capture_row : Option ℕ → List ℕ → List ℕ
+capture_row hz text = row hz (packets_of (record { plan = itm Bare Aligned 1; hz = hz }) (hex text))

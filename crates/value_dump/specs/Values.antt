@@ -1,5 +1,5 @@
 -- What is kept of the values of signals, and how a packet changes them.
-use Rattle.std.specs.Prelude.{ℕ, List, Option, None, Some, ◌==◌, if◌then◌else◌}
+use Rattle.std.specs.Prelude.{ℕ, Option, None, Some, ◌==◌, if◌then◌else◌}
 use Rattle.value_dump.specs.Names.{ItmPacket}
 use Rattle.value_dump.specs.Dump.{known}
 use Rattle.value_dump.specs.Signals.{is_overflow, last_told, told_by}

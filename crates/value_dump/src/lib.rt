@@ -14,7 +14,7 @@ mod vcd;
 mod vcd_plan;
 
 pub use dump::{PACKET_ROOM, ValueDump};
-pub use source_dump::SourceDump;
 pub use signals::{ASLEEP, EXCEPTION, FIRST_COMPARATOR, FIRST_PORT, LOST, PC, SIGNALS};
+pub use source_dump::SourceDump;
 pub use vcd::Vcd;
 pub use vcd_plan::VcdPlan;

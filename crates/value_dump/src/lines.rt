@@ -62,13 +62,7 @@ pub(crate) fn put_value(outlet: &mut Outlet, number: usize, value: u32)
 }
 
 /// Puts the line of the value of a signal, and before it that of the time if it was not put.
-pub(crate) fn put_line(
-    outlet: &mut Outlet,
-    number: usize,
-    value: u32,
-    time: u128,
-    is_timed: bool,
-)
+pub(crate) fn put_line(outlet: &mut Outlet, number: usize, value: u32, time: u128, is_timed: bool)
     requires signal { number < SIGNALS }
     requires room { length outlet.old + length (lines_with is_timed time (value_line number value)) ≤ OUTLET_ROOM }
     ensures { outlet.new ≡ outlet.old ++ lines_with is_timed time (value_line number value) }

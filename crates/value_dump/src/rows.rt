@@ -6,7 +6,7 @@ ghost use Rattle.value_dump.specs.Names.{Overflow};
 ghost use Rattle.value_dump.specs.Header.{comment, header, unknown, variable};
 ghost use Rattle.value_dump.specs.Lines.{binary, nanoseconds, value_line};
 ghost use Rattle.value_dump.specs.Signals.{is_bit, signals, signal};
-ghost use Rattle.value_dump.specs.Rows.{row, stamp, written, enters, exits, returns_to, sample, sleep, reads, writes};
+ghost use Rattle.value_dump.specs.Rows.{capture_row, row, stamp, written, enters, exits, returns_to, sample, sleep, reads, writes};
 ghost use Rattle.value_dump.specs.declared.signals.TheConstants.{EXCEPTION, PC, ASLEEP, FIRST_PORT};
 ghost use Rattle.value_dump.specs.declared.signals.TheConstants.{FIRST_COMPARATOR, LOST, SIGNALS};
 
@@ -60,4 +60,13 @@ pub fn dumps()
     ensures losses { row None (Overflow ∷ stamp 4 ∷ Overflow ∷ stamp 4 ∷ Overflow ∷ stamp 4 ∷ []) ≡ codes "#4\n1H\n#8\n0H\n#12\n1H\n" }
     ensures by_hertz { row (Some 3) (written 0 1 ∷ stamp 1 ∷ written 0 2 ∷ stamp 1 ∷ written 0 3 ∷ []) ≡
         codes "#333333333\nb1 $\n#666666666\nb10 $\n#666666666\nb11 $\n" }
+{}
+
+/// Dumps of captures: an exception, a sample of the program counter, one of a processor that sleeps, two ports, a
+/// comparator, an overflow, two local timestamps and a value that is pending; nothing; and one up to a fault.
+pub fn captures()
+    ensures all { capture_row (Some 3) (codes "0E 0F 10 17 08 00 00 00 15 00 01 41 09 5A 8D 2A 70 10 01 42 10 01 43") ≡
+        codes "#333333333\nb1111 !\nb1000 \"\n1#\nb1000001 $\nb1011010 %\nb101010 D\n1H\n#666666666\nb1000010 $\n#666666666\nb1000011 $\n" }
+    ensures nothing { capture_row None (codes "") ≡ codes "" }
+    ensures fault { capture_row None (codes "01 41 10 01 42 04 01 43") ≡ codes "#1\nb1000001 $\n#1\nb1000010 $\n" }
 {}

@@ -99,13 +99,7 @@ impl SignalValues {
 
     /// Puts the line of this signal if it changed, and before it that of the time if it was not put; answers whether
     /// it is now.
-    fn put_change(
-        &self,
-        outlet: &mut Outlet,
-        number: usize,
-        time: u128,
-        is_timed: bool,
-    ) -> bool
+    fn put_change(&self, outlet: &mut Outlet, number: usize, time: u128, is_timed: bool) -> bool
         requires signal { number < SIGNALS }
         requires room { let line = change number (stamped_of self.now number) (latest_of self.now number) in
             length outlet.old + length (lines_with is_timed time line) ≤ OUTLET_ROOM }

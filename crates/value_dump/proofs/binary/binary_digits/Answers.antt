@@ -17,8 +17,7 @@ loop-start-preserved c =
     let written =
     ap (digits_onto (l.start - 1) 2 false (l.rest / 2))
     (drop-set-cons l.out l.start _ _ c.loop-start-test.true (omega (arith, l.invariant.0, l.invariant.1))
-    (digit_glyph_below_ten false _ _ (omega arith) (omega arith))) in
-    (
+    (digit_glyph_below_ten false _ _ (omega arith) (omega arith))) in (
       omega (arith, l.invariant.0),
       size,
       written ∙ sym (digits_onto_step 2 false l.rest (drop l.start l.out) l.start c.loop-start-test.true c.if-rest-eq0.false)

@@ -1,5 +1,5 @@
-use Rattle.std.proofs.Common.{◌∙◌, ℕ, ap, sym, subst, Option}
-use Rattle.value_dump.specs.Names.{DwtItem, Hardware, IsInRange, ItmPacket}
+use Rattle.std.proofs.Common.{◌∙◌, ap, sym, subst}
+use Rattle.value_dump.specs.Names.{DwtItem, IsInRange, ItmPacket}
 use Rattle.value_dump.specs.Signals.{last_told, told_by_item}
 use Rattle.value_dump.specs.Values.{latest_of, value_next}
 use Rattle.value_dump.proofs.ToldValues.{item_next, means_proper}

@@ -1,10 +1,10 @@
-use Rattle.std.proofs.Common.{◌≡◌, ◌∙◌, ◌+◌, ◌≤◌, ◌∷◌, [], ◌++◌, ℕ, List, Option, ap, sym, refl, flat_map, false, arith, append-nil, Bool, cond}
+use Rattle.std.proofs.Common.{◌≡◌, ◌∙◌, ◌∷◌, [], ◌++◌, ℕ, List, Option, ap, sym, refl, false, arith, append-nil, Bool, cond}
 use Rattle.trace_clock.specs.LocalTime.{local_time}
-use Rattle.value_dump.specs.Dump.{known, is_local, stamp_lines, up_to_stamp}
+use Rattle.value_dump.specs.Dump.{known, is_local, stamp_lines}
 use Rattle.value_dump.specs.Lines.{nanoseconds}
-use Rattle.value_dump.specs.Names.{ItmPacket, Local, deltas_in, local_after}
+use Rattle.value_dump.specs.Names.{ItmPacket}
 use Rattle.value_dump.specs.Signals.{value_after}
-use Rattle.value_dump.specs.Values.{latest_of, stamped_of, value_next}
+use Rattle.value_dump.specs.Values.{value_next}
 use Rattle.value_dump.proofs.Packets.{not_local, stamp_other, ticks_other, value_push}
 use Rattle.value_dump.proofs.dump.ValueDump.put_packet.Goals as goal
 

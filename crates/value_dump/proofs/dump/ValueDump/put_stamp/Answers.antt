@@ -1,4 +1,4 @@
-use Rattle.std.proofs.Common.{◌≡◌, ◌∙◌, ◌∷◌, [], ◌++◌, ℕ, List, Option, ap, sym, refl, flat_map}
+use Rattle.std.proofs.Common.{◌∙◌, ◌∷◌, [], ◌++◌, ℕ, List, Option, ap, sym, refl, flat_map}
 use Rattle.trace_clock.specs.LocalTime.{local_time}
 use Rattle.value_dump.specs.Dump.{changes, known, up_to_stamp}
 use Rattle.value_dump.specs.Lines.{nanoseconds, timed}

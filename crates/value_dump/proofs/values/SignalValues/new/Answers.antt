@@ -1,4 +1,4 @@
-use Rattle.std.proofs.Common.{◌≤◌, None, arith, length, ap, replicate}
+use Rattle.std.proofs.Common.{None, arith, length, ap, replicate}
 use Rattle.value_dump.specs.Dump.{known}
 use Rattle.value_dump.proofs.Changes.{all_same, unknown}
 use Rattle.value_dump.proofs.values.SignalValues.new.Goals as goal

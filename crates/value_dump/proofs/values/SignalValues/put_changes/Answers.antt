@@ -1,4 +1,4 @@
-use Rattle.std.proofs.Common.{◌≡◌, ◌∙◌, ◌+◌, ◌≤◌, ◌++◌, ap, List, ℕ, arith, length, length-append}
+use Rattle.std.proofs.Common.{◌∙◌, ◌++◌, ap, List, ℕ, arith, length, length-append}
 use Rattle.value_dump.specs.Dump.{changes, known}
 use Rattle.value_dump.specs.Lines.{timed}
 use Rattle.value_dump.proofs.Timed.{all_lines, held_more, put_more, room_more, short_timed}

@@ -1,4 +1,4 @@
-use Rattle.std.proofs.Common.{◌≤◌, Some, arith, length, set, rules}
+use Rattle.std.proofs.Common.{Some, arith, set, rules}
 use Rattle.value_dump.specs.Dump.{known}
 use Rattle.value_dump.proofs.Changes.{all_few, all_more, other_value, set_value}
 use Rattle.value_dump.proofs.values.SignalValues.set.Goals as goal

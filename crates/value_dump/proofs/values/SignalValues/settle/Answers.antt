@@ -1,4 +1,4 @@
-use Rattle.std.proofs.Common.{◌≤◌, arith, length, ap}
+use Rattle.std.proofs.Common.{arith, length, ap}
 use Rattle.value_dump.specs.Dump.{known}
 use Rattle.value_dump.proofs.Changes.{all_same}
 use Rattle.value_dump.proofs.values.SignalValues.settle.Goals as goal
