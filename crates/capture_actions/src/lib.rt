@@ -36,5 +36,6 @@ pub use ring::Ring;
 pub use show::Show;
 pub use split::Split;
 pub use split_plan::SplitPlan;
+pub use stopping::keep_stop;
 pub use unring::Unring;
 pub use unring_plan::UnringPlan;

@@ -1,0 +1,13 @@
+-- The declarations in the code are those that are defined.
+use Rattle.std.proofs.Common.{◌≡◌, length, refl}
+use Rattle.value_dump.specs.Header.{declarations}
+use Rattle.value_dump.specs.Rows.{digits}
+use Rattle.value_dump.specs.declared.header.TheConstants.{DECLARATIONS}
+
+pub declared : DECLARATIONS.now ≡ declarations
+unfolding declarations digits
+declared = refl
+
+pub size : length declarations ≡ 1325
+unfolding declarations digits
+size = refl

@@ -1,0 +1,46 @@
+use Rattle.std.proofs.Common.{◌∙◌, ◌++◌, ap, List, ℕ, arith, length, length-append}
+use Rattle.value_dump.specs.Dump.{changes, known}
+use Rattle.value_dump.specs.Lines.{timed}
+use Rattle.value_dump.proofs.Timed.{all_lines, held_more, put_more, room_more, short_timed}
+use Rattle.value_dump.proofs.values.SignalValues.put_changes.Goals as goal
+
+pub put_change-is_timed-requires-clause-room : goal.put_change-is_timed-requires-clause-room
+put_change-is_timed-requires-clause-room c =
+    let s = c.args.self.now in
+    let l = c.loop-number in
+    let h =
+    room_more l.number c.args.time (known s.stamped) (known s.latest) c.args.outlet.now l.outlet l.is_timed
+    l.invariant.0 l.invariant.1 c.ranges.time.fits c.loop-number-test.true in
+    omega (arith, h, s.covered, c.requires.room)
+
+pub loop-number-preserved : goal.loop-number-preserved
+loop-number-preserved c =
+    let s = c.args.self.now in
+    let l = c.loop-number in
+    let put = c.put_change-is_timed.ensures in (
+      put.text
+          ∙ held_more l.number c.args.time (known s.stamped) (known s.latest) c.args.outlet.now l.outlet l.is_timed
+          l.invariant.0 l.invariant.1,
+      put.timed
+          ∙ put_more l.number c.args.time (known s.stamped) (known s.latest) c.args.outlet.now l.outlet l.is_timed
+          l.invariant.0 l.invariant.1,
+    )
+
+pub returns-clause-text : goal.returns-clause-text
+returns-clause-text c =
+    let s = c.args.self.now in
+    let l = c.loop-number in
+    l.invariant.0
+    ∙ ap (λ (lines : List ℕ). c.args.outlet.now ++ timed c.args.time lines)
+    (all_lines l.number (known s.stamped) (known s.latest)
+    (let a = l.auto.number-end in let b = c.loop-number-test.false in omega (arith, a, b)))
+
+pub returns-clause-bound : goal.returns-clause-bound
+returns-clause-bound c =
+    let s = c.args.self.now in
+    let l = c.loop-number in
+    let e = ap (λ (held : List ℕ). length held) (returns-clause-text c) in
+    let lines = changes (known s.stamped) (known s.latest) in
+    let f = length-append c.args.outlet.now (timed c.args.time lines) in
+    let g = short_timed c.args.time c.ranges.time.fits lines in
+    omega (arith, e, f, g, s.covered)

@@ -1,0 +1,61 @@
+-- The value dump of an ITM source: at each local timestamp the signals that changed since the one before it.
+use Rattle.std.specs.Prelude.{ℕ, List, [], ◌∷◌, ◌++◌, Option, None, Some, Bool, true, false, ◌==◌, if◌then◌else◌}
+use Rattle.std.specs.Prelude.{zero, suc, get_or}
+use Rattle.std.specs.List.{list_any}
+use Rattle.value_dump.specs.Names.{ItmPacket, Local, local_after}
+use Rattle.value_dump.specs.Signals.{value_after}
+use Rattle.value_dump.specs.Lines.{value_line, timed, nanoseconds}
+use Rattle.value_dump.specs.declared.signals.TheConstants.{SIGNALS}
+
+-- it is a local timestamp
+abbrev pub is_local : ItmPacket → Bool
+is_local (Local lateness delta) = true
+is_local packet = false
+
+-- these packets up to the last local timestamp
+abbrev pub up_to_stamp : List ItmPacket → List ItmPacket
+up_to_stamp [] = []
+up_to_stamp (packet ∷ packets) = if list_any is_local (packet ∷ packets) then packet ∷ up_to_stamp packets else []
+
+-- a signal has this value
+abbrev pub has_value : Option ℕ → ℕ → Bool
+has_value None value = false
+has_value (Some known) value = known == value
+
+-- the line of a signal that had one value and has another; none where it has the same one, or is not known
+abbrev pub change : ℕ → Option ℕ → Option ℕ → List ℕ
+change number old None = []
+change number old (Some value) = if has_value old value then [] else value_line number value
+
+-- the lines of the signals that changed from the first of two moments to the second, each by its values then: of so many
+-- signals, and of all
+abbrev pub changes_of : ℕ → (ℕ → Option ℕ) → (ℕ → Option ℕ) → List ℕ
+changes_of zero old new = []
+changes_of (suc number) old new = changes_of number old new ++ change number (old number) (new number)
+
+unfoldable pub changes : (ℕ → Option ℕ) → (ℕ → Option ℕ) → List ℕ
+changes old new = changes_of SIGNALS old new
+
+-- what is written after these packets: the signals that changed since the last local timestamp of those before, at the
+-- local time after them
+abbrev pub stamp_lines : Option ℕ → List ItmPacket → List ItmPacket → List ℕ
+stamp_lines hz before packets =
+    timed (nanoseconds hz (local_after packets)) (changes (value_after (up_to_stamp before)) (value_after packets))
+
+-- what is written for a packet after those before it
+abbrev pub packet_lines : Option ℕ → List ItmPacket → ItmPacket → List ℕ
+packet_lines hz before packet = if is_local packet then stamp_lines hz before (before ++ packet ∷ []) else []
+
+-- and for packets after those before them, in order
+abbrev pub lines_after : Option ℕ → List ItmPacket → List ItmPacket → List ℕ
+lines_after hz before [] = []
+lines_after hz before (packet ∷ packets) =
+    packet_lines hz before packet ++ lines_after hz (before ++ packet ∷ []) packets
+
+-- what is pending after all packets: the signals that changed since the last local timestamp, at its time
+abbrev pub pending : Option ℕ → List ItmPacket → List ℕ
+pending hz packets = stamp_lines hz packets packets
+
+-- the value that a list has of a signal, if it is known
+abbrev pub known : List (Option ℕ) → ℕ → Option ℕ
+known values number = get_or values number None

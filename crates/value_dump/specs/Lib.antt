@@ -1,0 +1,14 @@
+pub mod Names
+pub mod Signals
+pub mod Header
+pub mod Lines
+pub mod Dump
+pub mod Values
+pub mod Dumping
+pub mod DumpLaws
+pub mod SourceDump
+pub mod SourceDumpLaws
+pub mod Vcd
+pub mod VcdLaws
+pub mod VcdStands
+pub mod Rows

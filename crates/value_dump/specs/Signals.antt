@@ -1,0 +1,71 @@
+-- The signals of a value dump, and what the packets of an ITM source tell of them (ARMv7-M Architecture Reference
+-- Manual, Arm DDI 0403E, appendix D4 'Debug ITM and DWT Packet Protocol').
+use Rattle.std.specs.Prelude.{ℕ, ◌+◌, ◌%◌, List, [], ◌∷◌, ◌++◌, Option, None, Some, Bool, true, false, ◌==◌, ◌||◌}
+use Rattle.std.specs.Prelude.{if◌then◌else◌, flat_map, map, codes, decimal, count_by}
+use Rattle.std.specs.List.{range_with_len}
+use Rattle.value_dump.specs.Names.{ItmPacket, Software, Hardware, Overflow, DwtItem, Exception, Sample, Asleep, Read}
+use Rattle.value_dump.specs.Names.{Written, Enter, Exit, Return, name}
+use Rattle.value_dump.specs.declared.signals.TheConstants.{EXCEPTION, PC, ASLEEP, FIRST_PORT, FIRST_COMPARATOR, LOST}
+
+-- a signal, and how many bits it has
+pub record Signal : Type 0 where
+  pub name : List ℕ
+  pub width : ℕ
+
+abbrev pub signal : List ℕ → ℕ → Signal
+signal name width = record { name = name; width = width }
+
+-- signals of 32 bits with this name, and after it their number
+abbrev pub numbered : List ℕ → ℕ → List Signal
+numbered name count = map (λ n. signal (name ++ decimal n) 32) (range_with_len 0 count)
+
+-- All signals: a signal's number is its place here, from 0 on. They are the exception that was entered or returned to,
+-- the last sample of the program counter, whether the processor was asleep at the last one, what software wrote to
+-- each stimulus port, the data value of each comparator, and one that changes whenever packets were lost.
+abbrev pub signals : List Signal
+signals =
+    signal (codes "exception") 9
+    ∷ signal (codes "pc") 32
+    ∷ signal (codes "asleep") 1
+    ∷ (numbered (codes "port") 32 ++ (numbered (codes "cmp") 4 ++ signal (codes "lost") 1 ∷ []))
+
+-- those of one bit
+abbrev pub is_bit : ℕ → Bool
+is_bit number = number == ASLEEP || number == LOST
+
+-- which signals a hardware packet tells by what it means, each with its value; that an exception is exited tells not
+-- which one goes on
+abbrev pub told_by_item : DwtItem → List (ℕ × ℕ)
+told_by_item (Exception number Enter) = (EXCEPTION, number) ∷ []
+told_by_item (Exception number Exit) = []
+told_by_item (Exception number Return) = (EXCEPTION, number) ∷ []
+told_by_item (Sample pc) = (PC, pc) ∷ (ASLEEP, 0) ∷ []
+told_by_item Asleep = (ASLEEP, 1) ∷ []
+told_by_item (Read comparator size value) = (FIRST_COMPARATOR + comparator, value) ∷ []
+told_by_item (Written comparator size value) = (FIRST_COMPARATOR + comparator, value) ∷ []
+told_by_item item = []
+
+-- and which a packet tells
+abbrev pub told_by : ItmPacket → List (ℕ × ℕ)
+told_by (Software port size value) = (FIRST_PORT + port, value) ∷ []
+told_by (Hardware disc size value) = told_by_item (name disc size value)
+told_by packet = []
+
+-- the last value that is told of a signal, or what was known before, if none is
+abbrev pub last_told : ℕ → Option ℕ → List (ℕ × ℕ) → Option ℕ
+last_told number known [] = known
+last_told number known (told ∷ more) = last_told number (if told.0 == number then Some told.1 else known) more
+
+-- it says that packets were lost
+abbrev pub is_overflow : ItmPacket → Bool
+is_overflow Overflow = true
+is_overflow packet = false
+
+-- of so many losses the first sets the signal, and each changes it
+abbrev pub lost_by : ℕ → Option ℕ
+lost_by count = if count == 0 then None else Some (count % 2)
+
+-- the value of a signal after these packets, if it is known
+abbrev pub value_after : List ItmPacket → ℕ → Option ℕ
+value_after packets number =
+    if number == LOST then lost_by (count_by is_overflow packets) else last_told number None (flat_map told_by packets)

@@ -1,0 +1,91 @@
+//! What puts the value dump of one source into an outlet, as the events of a capture come.
+
+ghost use Rattle.std.specs.Prelude.{◌≡◌, ◌+◌, ◌<◌, ◌≤◌, ◌∷◌, []};
+ghost use Rattle.source_events.specs.declared.event.What.TheVariants.{Packet as Said};
+ghost use Rattle.value_dump.specs.Names.{Event, IsProper, Itm, Packet};
+ghost use Rattle.value_dump.specs.SourceDump.{gets, room};
+
+use crate::dump::{PACKET_ROOM, ValueDump};
+use itm_grammar::packet::ItmPacket;
+use source_events::{Event, Packet, SourceKind, What};
+use source_machine::Told;
+use source_merge::Receiver;
+use trace_stream::{OUTLET_ROOM, Outlet};
+use trace_values::SourceId;
+
+/// What puts the value dump of a source.
+#[derive(Drop)]
+pub struct SourceDump {
+    /// The source; of none nothing is put.
+    pub source: Option<SourceId>,
+    pub dump: ValueDump,
+}
+
+impl SourceDump {
+    /// Takes the next packet, which is of this source.
+    fn put_packet(&mut self, outlet: &mut Outlet, source: Option<SourceId>, packet: &ItmPacket)
+        requires proper { IsProper packet.now }
+        requires room { 0 < room (self.old, outlet.old) }
+        ensures gets { (event : Event Packet) → event.source ≡ source → event.what ≡ Said (Itm packet.now) →
+            gets (self.old, outlet.old) (event ∷ []) (self.new, outlet.new) }
+        ensures room { room (self.old, outlet.old) ≤ room (self.new, outlet.new) + 1 }
+    {
+        if self.source == source {
+            self.dump.put_packet(outlet, packet);
+        }
+    }
+}
+
+/// Of all events the packets of the source alone are looked at.
+impl Receiver for SourceDump {
+    ghost use Rattle.std.specs.Prelude.{⊤};
+    ghost use Rattle.value_dump.specs.SourceDump.{gets, room};
+    ghost use Rattle.value_dump.specs.SourceDumpLaws.{gets_none, gets_more};
+
+    type To = Outlet;
+
+    ghost gets = { gets };
+
+    ghost room = { room };
+
+    ghost takes = { λ dump source kind. ⊤ };
+
+    ghost gets_none = { gets_none };
+
+    ghost gets_more = { gets_more };
+
+    fn give(&mut self, outlet: &mut Outlet, event: Event<Packet>) {
+        if let What::Packet(Packet::Itm(packet)) = &event.what {
+            self.put_packet(outlet, event.source, packet);
+        }
+    }
+
+    fn events_left(&self, outlet: &Outlet) -> usize {
+        OUTLET_ROOM
+            .saturating_sub(self.dump.owed())
+            .saturating_sub(outlet.len())
+            / PACKET_ROOM
+    }
+
+    /// A packet is looked at as what it says, whatever its source.
+    fn takes_told(&self, _source: SourceId, _kind: SourceKind) -> bool {
+        true
+    }
+
+    fn give_told(
+        &mut self,
+        outlet: &mut Outlet,
+        _at: u64,
+        _half: u8,
+        source: SourceId,
+        told: Told,
+    ) {
+        if let Told::Itm(packet) = told {
+            self.put_packet(outlet, Some(source), &packet);
+        }
+    }
+
+    fn give_raw(&mut self, _outlet: &mut Outlet, _at: u64, _source: SourceId, _bytes: &[u8]) {}
+
+    fn give_trigger(&mut self, _outlet: &mut Outlet, _at: u64, _source: SourceId, _byte: u8) {}
+}
