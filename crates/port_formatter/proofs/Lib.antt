@@ -1,2 +1,5 @@
 pub mod Giving
 pub mod StraightWays
+pub mod RingWays
+pub mod Passings
+pub mod FunnelledWays

@@ -8,6 +8,7 @@ use Rattle.port_formatter.specs.Formatter.{Stands, Puts, Ends}
 use Rattle.port_formatter.specs.Port.{Port, sure_of, written}
 use Rattle.port_formatter.specs.Segments.{Segments, with_bytes, now_ended, after_flush}
 use Rattle.port_formatter.specs.declared.straight.StraightFrames.{StraightFrames}
+use Rattle.port_formatter.specs.declared.formatter.Formatter.{Formatter}
 use Rattle.port_formatter.specs.declared.formatter.Formatter.TheVariants.{Straight}
 
 abbrev port : ℕ → ℕ → Option Turns → Port
@@ -26,7 +27,7 @@ module _ (old new : StraightFrames) where
     puts_grown every halves None s st = a.grown every halves s.ended s.begun st.frames
     puts_grown every halves (Some t) s st = absurd st.funnel
 
-    pub straight_puts : Puts (Straight old) (Straight new) bytes
+    straight_puts : Puts (Straight old) (Straight new) bytes
     straight_puts = record {
       more = a.more;
       kept = a.appended;
@@ -51,7 +52,7 @@ module _ (old new : StraightFrames) where
     ends_all every halves None s st = a.all every halves s.ended s.begun st.frames
     ends_all every halves (Some t) s st = absurd st.funnel
 
-    pub straight_ends : Ends (Straight old) (Straight new)
+    straight_ends : Ends (Straight old) (Straight new)
     straight_ends = record {
       more = a.more;
       kept = a.appended;
@@ -60,15 +61,12 @@ module _ (old new : StraightFrames) where
       all = λ p s st. ends_all p.every p.halves p.funnel s st;
     }
 
-  -- where only what is kept is given
-  module _ (same : new.frames ≡ old.frames) where
-    stays_list : (every halves : ℕ) (o : Option Turns) (s : Segments) → Stands (Straight old) (port every halves o) s →
-        Stands (Straight new) (port every halves o) s
-    stays_list every halves None s st = record {
-      frames = subst (λ w. sures.IsSure w every halves s.ended s.begun) (sym same) st.frames;
-      funnel = tt;
-    }
-    stays_list every halves (Some t) s st = absurd st.funnel
+-- of a formatter that is such
+pub puts_straight : (f : Formatter) (old new : StraightFrames) (bytes : List Tagged) → f ≡ Straight old →
+    sures.Appends old.frames new.frames bytes old.kept.items new.kept.items → Puts f (Straight new) bytes
+puts_straight f old new bytes is a =
+    subst (λ (g : Formatter). Puts g (Straight new) bytes) (sym is) (straight_puts old new bytes a)
 
-    pub straight_stays : (p : Port) (s : Segments) → Stands (Straight old) p s → Stands (Straight new) p s
-    straight_stays p s st = stays_list p.every p.halves p.funnel s st
+pub ends_straight : (f : Formatter) (old new : StraightFrames) → f ≡ Straight old →
+    sures.Ends old.frames new.frames old.kept.items new.kept.items → Ends f (Straight new)
+ends_straight f old new is a = subst (λ (g : Formatter). Ends g (Straight new)) (sym is) (straight_ends old new a)

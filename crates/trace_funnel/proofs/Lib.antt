@@ -1,8 +1,8 @@
 mod Places
-mod Turning
+pub mod Turning
 mod Waiting
 mod Nearing
-mod Emptying
+pub mod Emptying
 mod Shortness
 pub mod Acting
 mod Finding
@@ -15,3 +15,4 @@ mod Giving
 pub mod Loading
 pub mod Naming
 pub mod Placing
+pub mod Draining
