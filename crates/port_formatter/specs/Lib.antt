@@ -7,3 +7,4 @@ pub mod Ring
 pub mod Passing
 pub mod Formatter
 pub mod FormatterLaws
+pub mod Owed

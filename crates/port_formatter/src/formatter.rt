@@ -1,7 +1,8 @@
 //! The formatter of a port.
 
-ghost use Rattle.std.specs.Prelude.{◌≡◌, ◌≤◌, ◌<◌, ◌+◌, ◌*◌, [], ℕ, length, true, None, Some, IfOk};
+ghost use Rattle.std.specs.Prelude.{◌≡◌, ◌≤◌, ◌<◌, ◌+◌, ◌*◌, ◌++◌, [], ℕ, length, true, None, Some, IfOk};
 ghost use Rattle.trace_values.specs.declared.limits.TheConstants.{COUNT_ROOM};
+ghost use Rattle.port_formatter.specs.declared.straight.TheConstants.{KEPT_ROOM};
 
 use crate::funnelled::FunnelledFrames;
 use crate::straight::{StraightFrames, give_front};
@@ -120,6 +121,31 @@ impl Formatter {
         match self {
             Formatter::Straight(to) => give_front(&mut to.kept, outlet),
             Formatter::Funnelled(to) => to.ring.give(outlet),
+        }
+    }
+
+    /// What is kept, from the first byte on, in two parts: without a funnel all is in the first.
+    pub fn kept(&self) -> (&[u8], &[u8])
+        ensures parts { result.0.now ++ result.1.now ≡ kept_by self.now }
+        ensures one { turns_of self.now ≡ None → result.1.now ≡ [] }
+        ensures few { turns_of self.now ≡ None → length result.0.now ≤ KEPT_ROOM }
+    {
+        match self {
+            Formatter::Straight(to) => (to.kept.as_slice(), &[]),
+            Formatter::Funnelled(to) => to.ring.kept(),
+        }
+    }
+
+    /// Drops what is kept.
+    pub fn forget(&mut self)
+        ensures turns { turns_of self.new ≡ turns_of self.old }
+        ensures count { count_of self.new ≡ count_of self.old }
+        ensures kept { kept_by self.new ≡ [] }
+        ensures stands { (p : Port) (s : Segments) → Stands self.old p s → Stands self.new p s }
+    {
+        match self {
+            Formatter::Straight(to) => to.kept.clear(),
+            Formatter::Funnelled(to) => to.ring.forget(),
         }
     }
 }

@@ -122,4 +122,20 @@ impl RingFrames {
         outlet.append(&bytes[..count]);
         true
     }
+
+    /// What is kept, from the first byte on, in two parts.
+    pub fn kept(&self) -> (&[u8], &[u8])
+        ensures { result.0.now ++ result.1.now ≡ kept_in self.now }
+    {
+        self.kept.as_slices()
+    }
+
+    /// Drops what is kept.
+    pub fn forget(&mut self)
+        ensures frames { self.new.frames ≡ self.old.frames }
+        ensures kept { kept_in self.new ≡ [] }
+        ensures capacity { self.new.kept.capacity ≡ self.old.kept.capacity }
+    {
+        self.kept.clear();
+    }
 }

@@ -8,7 +8,7 @@ use frame_writer::SureWriter;
 use trace_stream::{ACTION_ROOM, OUTLET_ROOM, Outlet};
 
 /// How many bytes are kept at most: more than a line of a script makes sure.
-pub(crate) const KEPT_ROOM: usize = 4608;
+pub const KEPT_ROOM: usize = 4608;
 
 /// Frames that bytes come to straight, and what became sure of them and was not given yet.
 #[derive(Drop)]

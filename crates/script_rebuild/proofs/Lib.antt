@@ -1,6 +1,7 @@
 pub mod Steps
 pub mod Rooms
 pub mod Placing
+pub mod Answering
 pub mod RoutedSteps
 pub mod Taking
 pub mod Sources

@@ -15,7 +15,7 @@ use Rattle.script_rebuild.specs.Rebuilt.{port_of}
 use Rattle.script_rebuild.specs.Routed.{placed, puttable, line_if}
 use Rattle.script_rebuild.specs.Script.{in_order}
 use Rattle.script_rebuild.specs.Segments.{segments_with_ends, sure_lines}
-use Rattle.script_rebuild.specs.Versions.{says}
+use Rattle.script_rebuild.specs.Versions.{says, fitting}
 use Rattle.script_rebuild.specs.Writer.{Stands, order_of, stp_of, turns_of, kept_by}
 use Rattle.script_rebuild.specs.declared.writer.LineWriter.{LineWriter}
 
@@ -44,6 +44,10 @@ pub record IsFor (p : RebuildPlan) (w : LineWriter) : Type 0 where
   pub order : order_of w ≡ p.plan.order
   pub stp : stp_of w ≡ in_order p.plan.stp
   pub turns : turns_of w ≡ p.funnel
+
+-- what was read of a text, where it fits after these lines
+abbrev pub fits_after : List Line2 → Result Line2 LineFault → Result Line2 LineFault
+fits_after lines read = read >>= fitting lines
 
 -- what a text says after these lines, where that can be put
 abbrev pub says_placed : RebuildPlan → Version → List Line2 → List ℕ → Result Line2 LineFault

@@ -13,9 +13,10 @@ ghost use Rattle.port_formatter.specs.Formatter.{Puts, HasRoom, count_of, turns_
 ghost use Rattle.port_formatter.specs.Port.{has_place};
 ghost use Rattle.script_text.specs.declared.items.Item.TheVariants.{Stp};
 ghost use Rattle.script_text.specs.declared.lines.Line.TheVariants.{Of};
+ghost use Rattle.script_text.specs.declared.version_two.Line2.{Line2};
 ghost use Rattle.script_text.specs.declared.version_two.Line2.TheVariants.{One};
 ghost use Rattle.script_text.specs.Said.{IsSayable};
-ghost use Rattle.script_rebuild.specs.Routed.{line_if};
+ghost use Rattle.script_rebuild.specs.Routed.{is_placed, placed, line_if};
 ghost use Rattle.script_rebuild.specs.Script.{tagged};
 ghost use Rattle.script_rebuild.specs.Encoding.{ids_in, NextItem, Left, AreReady, Answers, line_for};
 
@@ -109,6 +110,18 @@ fn stp_fits(encoders: &[SourceEncoder], id: SourceId, item: &StpItem) -> Result<
     }
 }
 
+/// Whether a source has a place.
+fn place_fits(formatter: &Formatter, id: SourceId) -> Result<(), LineFault>
+    ensures { (line : Line2) → is_placed (turns_of formatter.now) line ≡ has_place (turns_of formatter.now) id →
+        placed (turns_of formatter.now) line ≡ line_if result line }
+{
+    if formatter.takes(id) {
+        Ok(())
+    } else {
+        Err(LineFault::Unrouted)
+    }
+}
+
 /// Whether an item of a source can be put: it can be written after those before it, and its source has a place.
 pub(crate) fn item_fits(
     encoders: &Encoders,
@@ -122,13 +135,12 @@ pub(crate) fn item_fits(
         AreReady next encoders.now.items →
         line_for (turns_of formatter.now) next ≡ line_if result (One (Of id item.now)) }
 {
-    if let Item::Stp(item) = item {
-        stp_fits(encoders.as_slice(), id, item)?;
-    }
-    if formatter.takes(id) {
-        Ok(())
-    } else {
-        Err(LineFault::Unrouted)
+    match item {
+        Item::Stp(item) => {
+            stp_fits(encoders.as_slice(), id, item)?;
+            place_fits(formatter, id)
+        }
+        _ => place_fits(formatter, id),
     }
 }
 

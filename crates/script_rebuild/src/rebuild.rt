@@ -12,11 +12,11 @@ ghost use Rattle.trace_stream.specs.declared.outlet.TheConstants.{OUTLET_ROOM};
 ghost use Rattle.trace_stream.specs.declared.action.TheConstants.{ACTION_ROOM};
 ghost use Rattle.trace_funnel.specs.SoundTurns.{IsSoundTurns};
 ghost use Rattle.script_text.specs.declared.version_two.Line2.{Line2};
-ghost use Rattle.script_text.specs.Lines.{line_of, ◌>>=◌};
-ghost use Rattle.script_rebuild.specs.Versions.{says, fitting};
+ghost use Rattle.script_text.specs.Lines.{line_of};
+ghost use Rattle.script_rebuild.specs.Versions.{says};
 ghost use Rattle.script_rebuild.specs.Writer.{count_of, kept_by, HasRoom, CanBePut2};
 ghost use Rattle.script_rebuild.specs.Writer.{Stands as StandsForLines, debt_of as debt_of_writer};
-ghost use Rattle.script_rebuild.specs.PutLine.{PutsLine, IsFor, IsText, says_placed};
+ghost use Rattle.script_rebuild.specs.PutLine.{PutsLine, IsFor, IsText, fits_after, says_placed};
 ghost use Rattle.script_rebuild.specs.Rebuilt.{port_of};
 ghost use Rattle.script_rebuild.specs.Script.{in_order};
 
@@ -84,7 +84,7 @@ fn append(line: &mut ArrayVec<u8, LINE_BYTES>, bytes: &[u8])
 #[inline(never)]
 fn read_later(version: Version, text: &[u8]) -> Result<Line2, LineFault>
     ensures said { (plan : Plan) (lines : List Line2) → line_of plan text.now ≡ Err BadLine →
-        says plan version lines text.now ≡ (result >>= fitting lines) }
+        says plan version lines text.now ≡ fits_after lines result }
     ensures can { (stp : List ℕ) → IfOk result (λ line. CanBePut2 stp line) }
 {
     match version {
@@ -96,7 +96,7 @@ fn read_later(version: Version, text: &[u8]) -> Result<Line2, LineFault>
 
 /// What a line says.
 fn read_line(plan: &Plan, version: Version, text: &[u8]) -> Result<Line2, LineFault>
-    ensures said { (lines : List Line2) → says plan.now version lines text.now ≡ (result >>= fitting lines) }
+    ensures said { (lines : List Line2) → says plan.now version lines text.now ≡ fits_after lines result }
     ensures can { IfOk result (λ line. CanBePut2 (in_order plan.now.stp) line) }
 {
     let mut said = Line::Nothing;
