@@ -15,7 +15,7 @@ loop-done-init c = record {
 pub loop-done-preserved : goal.loop-done-preserved
 loop-done-preserved c =
     let i = c.loop-done.invariant in
-    let one = c.take.ensures in
+    let one = c.take-done.ensures in
     let piece = c.args.piece.now in
     let done = c.loop-done.done in
     let rest = rest_size done piece i.few in
@@ -24,8 +24,8 @@ loop-done-preserved c =
       same = one.same ∙ i.same;
       count = (let a = i.count in let b = one.count in omega (arith, a, b));
       list = λ seen s.
-          subst (Stands c.take.new.self)
-          (append_assoc seen (take done piece) _ ∙ ap (λ (l : List ℕ). seen ++ l) (front_next done c.take.result piece))
+          subst (Stands c.take-done.new.self)
+          (append_assoc seen (take done piece) _ ∙ ap (λ (l : List ℕ). seen ++ l) (front_next done c.take-done.result piece))
           (one.list (seen ++ take done piece) (i.list seen s));
     }
 
