@@ -12,15 +12,16 @@ fn sync_in_a_frame(rt: HostRuntime) {
     ];
     let mut port = RecoveringPort::aligned();
     let mut out = ArrayVec::new();
-    for (at, byte) in bytes.iter().enumerate() {
+    let mut taken = 0;
+    while taken < bytes.len() {
         out.clear();
-        match port.feed(at as u64, *byte, &mut out) {
-            PortStep::Fault(fault) => assert!(rt; at == 7 && fault.at == 7),
-            PortStep::Locked { skipped } => assert!(rt; at == 9 && skipped == 6),
-            PortStep::Frame => assert!(rt; at == 25 && out.len() == 13),
-            PortStep::Quiet | PortStep::Half | PortStep::Full => {
-                assert!(rt; at != 7 && at != 9 && at != 25);
-            }
+        let front = port.feed_block(taken as u64, &bytes[taken..], &mut out);
+        taken += front.bytes;
+        match front.step {
+            PortStep::Fault(fault) => assert!(rt; taken == 8 && fault.at == 7),
+            PortStep::Locked { skipped } => assert!(rt; taken == 10 && skipped == 6),
+            PortStep::Frame => assert!(rt; taken == 26 && out.len() == 13),
+            PortStep::Quiet | PortStep::Half | PortStep::Full => assert!(rt; false),
         }
     }
     assert!(rt; port.is_locked() && port.tail() == 0 && port.skipped() == 6);

@@ -1,9 +1,9 @@
 -- A run, cell by cell.
 use Rattle.std.proofs.Common.{◌≡◌, ℕ, ◌+◌, ◌≤◌, List, [], ◌∷◌, ◌++◌, refl, sym, ◌∙◌, ap, arith, subst, append_assoc}
-use Rattle.std.proofs.Common.{append-nil, Some, Bool}
+use Rattle.std.proofs.Common.{append-nil, drop, get_or, length, length-append, ◌<◌, ◌-◌, suc, take, zero, ◌*◌, Option, Some, Bool}
 use Rattle.std.specs.Prelude.{map}
 use Rattle.std.proofs.lemmas.Grind.{flat_map-append}
-use Rattle.std.proofs.lemmas.List.{map-append, length_push}
+use Rattle.std.proofs.lemmas.List.{length-drop, length-map, length-take-le, length_push, map-append, take_all, take_more}
 use Rattle.trace_values.specs.declared.cell.Cell.{Cell}
 use Rattle.trace_values.specs.declared.step.Step.{Step}
 use Rattle.trace_values.specs.Placed.{Place, Placed}
@@ -19,24 +19,20 @@ use Rattle.stretch_readings.specs.declared.heard.Heard.{Heard}
 use Rattle.stretch_readings.specs.Stretches.{One, Stretches, fed_from, heard_of, from_fault}
 use Rattle.stretch_readings.specs.Steps.{said_by}
 use Rattle.stretch_readings.proofs.StretchLaws.{from_append}
+use Rattle.source_events.specs.Runs.{bytes_of}
+use Rattle.recovering_machines.specs.AtOnce.{TakesCells, said_at}
 use Rattle.recovering_machines.specs.Run.{TakesRun, units_in, with_run}
 use Rattle.recovering_machines.specs.Source.{Stands, heard_by, kind_of, reads_of, total_of, with_byte}
 use Rattle.recovering_machines.specs.declared.source.RecoveringSource.{RecoveringSource}
 
-units_push : (kind : SourceKind) (cells : List Cell) (c : Cell) →
-    units_in kind (cells ++ c ∷ []) ≡ units_in kind cells ++ units_at kind c.at c.byte
-units_push kind cells c = flat_map-append (λ (x : Cell). units_at kind x.at x.byte) cells (c ∷ [])
-    ∙ ap (λ w. units_in kind cells ++ w) (append-nil (units_at kind c.at c.byte))
-
-run_push : (s : RecoveringSource) (r : Stretches) (cells : List Cell) (c : Cell) →
-    with_run s r (cells ++ c ∷ []) ≡ fed_from (reads_of s) from_fault (with_run s r cells)
-    (map One (units_at (kind_of s) c.at c.byte))
-run_push s r cells c =
-    ap (λ w. fed_from (reads_of s) from_fault r (map One w)) (units_push (kind_of s) cells c)
+run_more : (s : RecoveringSource) (r : Stretches) (xs ys : List Cell) →
+    with_run s r (xs ++ ys) ≡ fed_from (reads_of s) from_fault (with_run s r xs) (map One (units_in (kind_of s) ys))
+run_more s r xs ys =
+    ap (λ w. fed_from (reads_of s) from_fault r (map One w))
+    (flat_map-append (λ (c : Cell). units_at (kind_of s) c.at c.byte) xs ys)
     ∙ ap (λ l. fed_from (reads_of s) from_fault r l)
-    (map-append One (units_in (kind_of s) cells) (units_at (kind_of s) c.at c.byte))
-    ∙ from_append (reads_of s) from_fault (map One (units_in (kind_of s) cells))
-    (map One (units_at (kind_of s) c.at c.byte)) r
+    (map-append One (units_in (kind_of s) xs) (units_in (kind_of s) ys))
+    ∙ from_append (reads_of s) from_fault (map One (units_in (kind_of s) xs)) (map One (units_in (kind_of s) ys)) r
 
 -- what is said, and then more
 pub lifted_append : (a b : List (Said (Heard Packet) × Place)) → lifted (a ++ b) ≡ lifted a ++ lifted b
@@ -48,6 +44,61 @@ told_append id a b =
     ap (told (Some id)) (lifted_append a b)
     ∙ map-append (λ (e : What (Heard Packet) × Place).
     record { at = e.1.at; half = e.1.half; source = Some id; what = e.0 }) (lifted a) (lifted b)
+
+take_none : (k : ℕ) → take {A = Cell} k [] ≡ []
+take_none zero = refl
+take_none (suc k) = refl
+
+-- the front of a list, and what is taken after it
+pub take_parts : (n m : ℕ) (cells : List Cell) → take (n + m) cells ≡ take n cells ++ take m (drop n cells)
+take_parts zero m cells = ap (λ (k : ℕ). take k cells) (let z : 0 + m ≡ m = omega arith in z)
+take_parts (suc n) m [] =
+    ap (λ (k : ℕ). take k []) (let z : suc n + m ≡ suc (n + m) = omega arith in z) ∙ sym (take_none m)
+take_parts (suc n) m (x ∷ cells) =
+    ap (λ (k : ℕ). take k (x ∷ cells)) (let z : suc n + m ≡ suc (n + m) = omega arith in z)
+    ∙ ap (λ (l : List Cell). x ∷ l) (take_parts n m cells)
+
+-- the bytes of a front, and of a rest
+pub bytes_taken : (n : ℕ) (cells : List Cell) → bytes_of (take n cells) ≡ take n (bytes_of cells)
+bytes_taken zero cells = refl
+bytes_taken (suc n) [] = refl
+bytes_taken (suc n) (c ∷ cells) = ap (λ (l : List ℕ). c.byte ∷ l) (bytes_taken n cells)
+
+pub bytes_dropped : (n : ℕ) (cells : List Cell) → drop n (bytes_of cells) ≡ bytes_of (drop n cells)
+bytes_dropped zero cells = refl
+bytes_dropped (suc n) [] = refl
+bytes_dropped (suc n) (c ∷ cells) = bytes_dropped n cells
+
+pub bytes_size : (cells : List Cell) (bytes : List ℕ) → bytes ≡ bytes_of cells → length bytes ≡ length cells
+bytes_size cells bytes e = ap length e ∙ length-map cells (λ (c : Cell). c.byte)
+
+-- the last of the cells that are taken
+pub cells_last : (n : ℕ) (cells : List Cell) (d cell : Cell) → 0 < n → n ≤ length cells → cell ≡ get_or cells (n - 1) d →
+    take n cells ≡ take (n - 1) cells ++ cell ∷ []
+cells_last n cells d cell some l e =
+    ap (λ (k : ℕ). take k cells) (let k : n ≡ (n - 1) + 1 = omega (arith, some) in k)
+    ∙ take_more cells (n - 1) d (omega (arith, some, l))
+    ∙ ap (λ (c : Cell). take (n - 1) cells ++ c ∷ []) (sym e)
+
+-- what is left after a front
+tail_of : (n : ℕ) (cells : List Cell) → take (length cells - n) (drop n cells) ≡ drop n cells
+tail_of n cells = take_all (length cells - n) (drop n cells) (let a = length-drop n cells in omega (arith, a))
+
+pub front_next : (done n : ℕ) (cells : List Cell) →
+    take done cells ++ take n (take (length cells - done) (drop done cells)) ≡ take (done + n) cells
+front_next done n cells = ap (λ (l : List Cell). take done cells ++ take n l) (tail_of done cells)
+    ∙ sym (take_parts done n cells)
+
+pub rest_size : (done : ℕ) (cells : List Cell) → length (take (length cells - done) (drop done cells)) ≡ length cells - done
+rest_size done cells = ap length (tail_of done cells) ∙ length-drop done cells
+
+pub rest_bytes : (done : ℕ) (cells : List Cell) (bytes : List ℕ) → bytes ≡ bytes_of cells →
+    take (length bytes - done) (drop done bytes) ≡ bytes_of (take (length cells - done) (drop done cells))
+rest_bytes done cells bytes e =
+    ap (λ (b : List ℕ). take (length b - done) (drop done b)) e
+    ∙ ap (λ (n : ℕ). take (n - done) (drop done (bytes_of cells))) (length-map cells (λ (c : Cell). c.byte))
+    ∙ ap (take (length cells - done)) (bytes_dropped done cells)
+    ∙ sym (bytes_taken (length cells - done) (drop done cells))
 
 module _ {S : Type 0} (gets : S → List (Event (Heard Packet)) → S → Type 0) (room : S →
     ℕ) (gets_none : (s : S) → gets s [] s)
@@ -65,39 +116,104 @@ module _ {S : Type 0} (gets : S → List (Event (Heard Packet)) → S → Type 0
     few = omega arith;
   }
 
-  pub takes_more : (old mid new : RecoveringSource) (a b c : S) (cells : List Cell) (cell : Cell)
-      (step : Step Packet) → TakesRun gets room id cells old mid a b →
-      kind_of new ≡ kind_of mid → reads_of new ≡ reads_of mid →
-      ((r : Stretches) → Stands mid r → Stands new (with_byte mid r cell.at cell.byte)) →
-      ((r : Stretches) → Stands mid r → (heard_by mid (with_byte mid r cell.at cell.byte)).given
-      ≡ (heard_by mid r).given ++ said_by cell.at step) →
-      total_of new ≤ total_of mid + 4 → gets b (told (Some id) (lifted (said_by cell.at step))) c →
-      room b ≤ room c + 2 → TakesRun gets room id (cells ++ cell ∷ []) old new a c
-  takes_more old mid new a b c cells cell step t kind reads list given few received space =
-      let same : (r : Stretches) → with_byte mid (with_run old r cells) cell.at cell.byte
-      ≡ with_run old r (cells ++ cell ∷ []) =
-      λ r. ap (λ (f : Bool → List Placed → Stream Packet). fed_from f from_fault (with_run old r cells)
-      (map One (units_at (kind_of mid) cell.at cell.byte))) t.reads
-      ∙ ap (λ (k : SourceKind). fed_from (reads_of old) from_fault (with_run old r cells)
-      (map One (units_at k cell.at cell.byte))) t.kind
-      ∙ sym (run_push old r cells cell) in
+  -- cells, and then more
+  pub takes_then : (old mid new : RecoveringSource) (a b c : S) (xs ys : List Cell) →
+      TakesRun gets room id xs old mid a b → TakesRun gets room id ys mid new b c →
+      TakesRun gets room id (xs ++ ys) old new a c
+  takes_then old mid new a b c xs ys t v =
+      let same : (r : Stretches) → with_run mid (with_run old r xs) ys ≡ with_run old r (xs ++ ys) =
+      λ r. ap (λ (f : Bool → List Placed → Stream Packet). fed_from f from_fault (with_run old r xs)
+      (map One (units_in (kind_of mid) ys))) t.reads
+      ∙ ap (λ (k : SourceKind). fed_from (reads_of old) from_fault (with_run old r xs) (map One (units_in k ys))) t.kind
+      ∙ sym (run_more old r xs ys) in
       record {
-        kind = kind ∙ t.kind;
-        reads = reads ∙ t.reads;
-        list = λ r k. subst (Stands new) (same r) (list (with_run old r cells) (t.list r k));
-        said = t.said ++ said_by cell.at step;
-        received = subst (λ es. gets a es c) (sym (told_append id t.said (said_by cell.at step)))
-            (gets_more a b c (told (Some id) (lifted t.said))
-            (told (Some id) (lifted (said_by cell.at step))) t.received received);
+        kind = v.kind ∙ t.kind;
+        reads = v.reads ∙ t.reads;
+        list = λ r k. subst (Stands new) (same r) (v.list (with_run old r xs) (t.list r k));
+        said = t.said ++ v.said;
+        received = subst (λ es. gets a es c) (sym (told_append id t.said v.said))
+            (gets_more a b c (told (Some id) (lifted t.said)) (told (Some id) (lifted v.said)) t.received v.received);
         given = λ r k.
             ap (λ x. (heard_by old x).given) (sym (same r))
             ∙ ap (λ (f : Bool → List Placed → Stream Packet).
-            (heard_of f from_fault (with_byte mid (with_run old r cells) cell.at cell.byte)).given) (sym t.reads)
-            ∙ given (with_run old r cells) (t.list r k)
-            ∙ ap (λ (f : Bool → List Placed → Stream Packet). (heard_of f from_fault (with_run old r cells)).given
-            ++ said_by cell.at step) t.reads
-            ∙ ap (λ l. l ++ said_by cell.at step) (t.given r k)
-            ∙ append_assoc (heard_by old r).given t.said (said_by cell.at step);
-        space = (let l = length_push cells cell in let s = t.space in omega (arith, l, s, space));
-        few = (let l = length_push cells cell in let f = t.few in omega (arith, l, f, few));
+            (heard_of f from_fault (with_run mid (with_run old r xs) ys)).given) (sym t.reads)
+            ∙ v.given (with_run old r xs) (t.list r k)
+            ∙ ap (λ (f : Bool → List Placed → Stream Packet). (heard_of f from_fault (with_run old r xs)).given
+            ++ v.said) t.reads
+            ∙ ap (λ l. l ++ v.said) (t.given r k)
+            ∙ append_assoc (heard_by old r).given t.said v.said;
+        space = (let l = length-append xs ys in let s = t.space in let z = v.space in omega (arith, l, s, z));
+        few = (let l = length-append xs ys in let f = t.few in let z = v.few in omega (arith, l, f, z));
       }
+
+  -- one cell
+  pub takes_one : (old new : RecoveringSource) (a b : S) (cell : Cell) (step : Step Packet) →
+      kind_of new ≡ kind_of old → reads_of new ≡ reads_of old →
+      ((r : Stretches) → Stands old r → Stands new (with_byte old r cell.at cell.byte)) →
+      ((r : Stretches) → Stands old r → (heard_by old (with_byte old r cell.at cell.byte)).given
+      ≡ (heard_by old r).given ++ said_by cell.at step) →
+      total_of new ≤ total_of old + 4 → gets a (told (Some id) (lifted (said_by cell.at step))) b →
+      room a ≤ room b + 2 → TakesRun gets room id (cell ∷ []) old new a b
+  takes_one old new a b cell step kind reads list given few received space =
+      let same : (r : Stretches) → with_byte old r cell.at cell.byte ≡ with_run old r (cell ∷ []) =
+      λ r. ap (λ w. fed_from (reads_of old) from_fault r (map One w))
+      (sym (append-nil (units_at (kind_of old) cell.at cell.byte))) in
+      record {
+        kind = kind;
+        reads = reads;
+        list = λ r k. subst (Stands new) (same r) (list r k);
+        said = said_by cell.at step;
+        received = received;
+        given = λ r k. ap (λ x. (heard_by old x).given) (sym (same r)) ∙ given r k;
+        space = space;
+        few = few;
+      }
+
+  -- cells whose bytes were taken at once
+  pub takes_cells : (old new : RecoveringSource) (a b : S) (front : List Cell) (last : Cell) (bytes : List ℕ)
+      (half : ℕ) (item : Option Packet) → kind_of new ≡ kind_of old → reads_of new ≡ reads_of old →
+      TakesCells old new bytes (λ at. said_at half at item) → bytes_of (front ++ last ∷ []) ≡ bytes →
+      total_of new ≤ total_of old + 4 * length (front ++ last ∷ []) →
+      gets a (told (Some id) (lifted (said_at half last.at item))) b → room a ≤ room b + 1 →
+      TakesRun gets room id (front ++ last ∷ []) old new a b
+  takes_cells old new a b front last bytes half item kind reads t e few received space = record {
+    kind = kind;
+    reads = reads;
+    list = λ r k. t.list r front last k e;
+    said = said_at half last.at item;
+    received = received;
+    given = λ r k. t.given r front last k e;
+    space = (let l = length_push front last in omega (arith, l, space));
+    few = few;
+  }
+
+  -- nothing was taken
+  pub takes_idle : (old new : RecoveringSource) (a : S) → kind_of new ≡ kind_of old → reads_of new ≡ reads_of old →
+      ((r : Stretches) → Stands old r → Stands new r) → total_of new ≤ total_of old →
+      TakesRun gets room id [] old new a a
+  takes_idle old new a kind reads list few = record {
+    kind = kind;
+    reads = reads;
+    list = list;
+    said = [];
+    received = gets_none a;
+    given = λ r k. sym (append-nil (heard_by old r).given);
+    space = omega arith;
+    few = omega (arith, few);
+  }
+
+  -- the front of cells, whose bytes were taken at once
+  pub takes_packet : (old new : RecoveringSource) (a b : S) (n : ℕ) (cells : List Cell) (bytes : List ℕ)
+      (d cell : Cell) (half : ℕ) (item : Option Packet) → 0 < n → n ≤ length cells → cell ≡ get_or cells (n - 1) d →
+      bytes ≡ bytes_of cells → kind_of new ≡ kind_of old → reads_of new ≡ reads_of old →
+      TakesCells old new (take n bytes) (λ at. said_at half at item) → total_of new ≤ total_of old + 4 * n →
+      gets a (told (Some id) (lifted (said_at half cell.at item))) b → room a ≤ room b + 1 →
+      TakesRun gets room id (take n cells) old new a b
+  takes_packet old new a b n cells bytes d cell half item some l e same kind reads t few received space =
+      let split = cells_last n cells d cell some l e in
+      let size = length-take-le n cells l in
+      let whole : length (take (n - 1) cells ++ cell ∷ []) ≡ n = ap length (sym split) ∙ size in
+      subst (λ (c : List Cell). TakesRun gets room id c old new a b) (sym split)
+      (takes_cells old new a b (take (n - 1) cells) cell (take n bytes) half item kind reads t
+      (ap bytes_of (sym split) ∙ bytes_taken n cells ∙ ap (take n) (sym same))
+      (let f = few in let w = whole in omega (arith, f, w)) received space)

@@ -1,12 +1,14 @@
 -- What a recovering port keeps (CoreSight Architecture Specification, Arm IHI 0029E (version 3.0), chapter 'Trace
 -- Formatter', its section on frames; how it goes on after a fault is this project's profile).
-use Rattle.std.specs.Prelude.{◌≡◌, ℕ, ◌+◌, List, [], ◌∷◌, ◌++◌, Bool, true}
+use Rattle.std.specs.Prelude.{◌≡◌, ℕ, ◌+◌, List, [], ◌∷◌, ◌++◌, map, Bool, true}
 use Rattle.std.specs.List.{sum_by}
-use Rattle.trace_values.specs.Placed.{Placed, byte_at}
+use Rattle.trace_values.specs.Placed.{Placed, byte_at, placed_from}
 use Rattle.trace_values.specs.Stream.{Stream}
 use Rattle.trace_values.specs.Moded.{stream_in}
 use Rattle.frame_grammar.specs.Port.{PortItem, Full, start, rule}
 use Rattle.port_sync.specs.Hunting.{pattern}
+use Rattle.deformatter.specs.Block as block
+use Rattle.deformatter.specs.Block.{FedAs}
 use Rattle.deformatter.specs.Deformatter as deformatter
 use Rattle.deformatter.specs.Growth.{PortGrows}
 use Rattle.deformatter.specs.Reading.{port_stream}
@@ -15,7 +17,7 @@ use Rattle.deformatter.specs.declared.deformatter.Deformatter.{Deformatter}
 use Rattle.deformatter.specs.declared.step.PortStep.{PortStep}
 use Rattle.deformatter.specs.declared.step.PortStep.TheVariants.{Quiet, Half, Full as FullEnds, Frame, Locked}
 use Rattle.deformatter.specs.declared.step.PortStep.TheVariants.{Fault as Faulty}
-use Rattle.stretch_readings.specs.Stretches.{Resumption, Stretches, lost_in}
+use Rattle.stretch_readings.specs.Stretches.{One, Resumption, Stretches, fed_from, lost_in}
 use Rattle.recovering_machines.specs.declared.port.RecoveringPort.{RecoveringPort}
 
 -- the items of a port's bytes, from the first one on or in a hunt
@@ -42,6 +44,14 @@ Stands p r = Keeps p.port p.past p.count r
 abbrev pub total_of : RecoveringPort → ℕ
 total_of p = p.past + p.count + deformatter.tail_of p.port + deformatter.skipped_by p.port
 
+-- the stretches with these bytes, the first of which is at this offset; and with these as the last one's
+abbrev pub with_bytes : Stretches → ℕ → List ℕ → Stretches
+with_bytes r at bytes = fed_from items_by from_halfword r (map One (placed_from at bytes))
+
+abbrev pub with_units : Stretches → List Placed → Stretches
+with_units r u =
+    record { past = r.past; now = record { hunts = r.now.hunts; count = r.now.count; units = u } }
+
 -- an answer with its lock's count raised
 abbrev pub raised : ℕ → PortStep → PortStep
 raised count Quiet = Quiet
@@ -58,3 +68,9 @@ pub record Answers (r : Stretches) (at byte : ℕ) (step : PortStep) : Type 0 wh
   pub is : step ≡ raised r.now.count own
   pub grows : PortGrows (port_stream r.now.hunts r.now.units)
       (port_stream r.now.hunts (r.now.units ++ byte_at at byte ∷ [])) at own
+
+-- These bytes came, the first of which is at this offset: this is the answer to the last of them, and that to each one
+-- before it is quiet.
+abbrev pub IsFed : Stretches → ℕ → List ℕ → PortStep → Type 0
+IsFed r at bytes step =
+    FedAs (block.Answers r.now.hunts Quiet) (λ u a byte. Answers (with_units r u) a byte step) r.now.units at bytes

@@ -6,10 +6,10 @@
 
 ghost use Rattle.std.specs.Prelude.{◌≡◌, true, false};
 ghost use Rattle.deformatter.specs.Deformatter.{is_hunter, is_live};
-ghost use Rattle.trace_values.specs.declared.limits.TheConstants.{COUNT_ROOM};
+ghost use Rattle.trace_values.specs.declared.limits.TheConstants.{COUNT_ROOM, PART_ROOM};
 
 use arrayvec::ArrayVec;
-use deformatter::{Deformatter, PortStep};
+use deformatter::{Deformatter, PortStep, Taken};
 use trace_values::Cell;
 
 /// Reads the bytes of a port with a formatter. After a fault it hunts again, from the first byte of the halfword or
@@ -31,13 +31,14 @@ pub struct RecoveringPort {
 }
 
 impl RecoveringPort {
-    ghost use Rattle.std.specs.Prelude.{◌+◌, ◌≤◌, ◌++◌, ◌∷◌, []};
+    ghost use Rattle.std.specs.Prelude.{◌+◌, ◌*◌, ◌<◌, ◌≤◌, ◌++◌, [], length, take};
     ghost use Rattle.stretch_readings.specs.Stretches.{before, lost_in, skipped_in};
     ghost use Rattle.std.specs.List.{sum_by};
-    ghost use Rattle.trace_values.specs.Placed.{byte_at};
+    ghost use Rattle.trace_values.specs.Placed.{placed_from};
     ghost use Rattle.deformatter.specs.Reading.{cells_in, port_stream};
-    ghost use Rattle.stretch_readings.specs.Stretches.{One, Stretches, fed};
-    ghost use Rattle.recovering_machines.specs.Port.{Answers, Stands, items_by, from_halfword, total_of};
+    ghost use Rattle.deformatter.specs.declared.step.PortStep.TheVariants.{Quiet};
+    ghost use Rattle.stretch_readings.specs.Stretches.{Stretches};
+    ghost use Rattle.recovering_machines.specs.Port.{IsFed, Stands, from_halfword, items_by, total_of, with_bytes};
 
     /// One of bytes that begin with a frame or a synchronisation, before the first of them.
     pub fn aligned() -> RecoveringPort
@@ -66,33 +67,51 @@ impl RecoveringPort {
         }
     }
 
-    /// Takes the next byte, which is at this offset. Where it ends a frame, `out` has the frame's cells afterwards, and
-    /// else nothing; the first frame after a lock has no ID before it. After `Fault` it hunts already, and has taken
-    /// again what it takes again. `Locked` has the bytes that the present hunt skipped, and those that it counts from
-    /// the fault before it.
-    pub fn feed(&mut self, at: u64, byte: u8, out: &mut ArrayVec<Cell, 15>) -> PortStep
+    /// Takes bytes from the front of a piece, the first of which is at this offset, up to the first to which the answer is
+    /// not `Quiet`, or to the piece's end: a whole frame between frames at once, and else byte by byte. Where the last of
+    /// them ends a frame, `out` has the frame's cells afterwards, and else nothing; the first frame after a lock has no ID
+    /// before it. After `Fault` it hunts already, and has taken again what it takes again. `Locked` has the bytes that the
+    /// present hunt skipped, and those that it counts from the fault before it.
+    ///
+    /// The piece has a byte. The offset, the piece's length, and the bytes that it holds and skipped are each at most
+    /// `PART_ROOM`.
+    pub fn feed_block(&mut self, at: u64, piece: &[u8], out: &mut ArrayVec<Cell, 15>) -> Taken
         requires out { out.old.items ≡ [] }
-        requires room { total_of self.old ≤ COUNT_ROOM }
+        requires some { 0 < length piece.now }
+        requires offset { at ≤ PART_ROOM }
+        requires length { length piece.now ≤ PART_ROOM }
+        requires room { total_of self.old ≤ PART_ROOM }
+        ensures bytes { (0 < result.bytes) × (result.bytes ≤ length piece.now) }
+        ensures stops { result.step ≡ Quiet → result.bytes ≡ length piece.now }
         ensures list { (r : Stretches) → Stands self.old r →
-            Stands self.new (fed items_by from_halfword r (One (byte_at at byte))) }
-        ensures step { (r : Stretches) → Stands self.old r → Answers r at byte result }
+            Stands self.new (with_bytes r at (take result.bytes piece.now)) }
+        ensures fed { (r : Stretches) → Stands self.old r → IsFed r at (take result.bytes piece.now) result.step }
         ensures cells { (r : Stretches) → Stands self.old r →
-            cells_in (port_stream r.now.hunts (r.now.units ++ byte_at at byte ∷ []))
+            cells_in (port_stream r.now.hunts (r.now.units ++ placed_from at (take result.bytes piece.now)))
             ≡ cells_in (port_stream r.now.hunts r.now.units) ++ out.new.items }
-        ensures few { total_of self.new ≤ total_of self.old + 8 }
+        ensures few { total_of self.new ≤ total_of self.old + 8 * result.bytes }
     {
-        match self.port.feed(at, byte, out) {
+        let taken = self.port.feed_block(at, piece, out);
+        let bytes = taken.bytes;
+        match taken.step {
             PortStep::Fault(fault) => {
+                let byte = piece[bytes - 1];
                 self.past += self.count + self.port.passed_over();
                 self.count = self.port.left_over();
                 self.port = self.port.hunting_from(byte);
                 self.hunts = true;
-                PortStep::Fault(fault)
+                Taken {
+                    bytes,
+                    step: PortStep::Fault(fault),
+                }
             }
-            PortStep::Locked { .. } => PortStep::Locked {
-                skipped: self.count + self.port.skipped(),
+            PortStep::Locked { .. } => Taken {
+                bytes,
+                step: PortStep::Locked {
+                    skipped: self.count + self.port.skipped(),
+                },
             },
-            step => step,
+            step => Taken { bytes, step },
         }
     }
 

@@ -12,10 +12,11 @@ ghost use Rattle.trace_values.specs.Stream.{LocksAfter, StepFits};
 ghost use Rattle.source_machine.specs.Machine.{is_live};
 ghost use Rattle.trace_values.specs.declared.limits.TheConstants.{COUNT_ROOM};
 
+use crate::at_once::take_bytes;
 use source_events::{Packet, SourceKind};
 use source_machine::SourceMachine;
 use stp_grammar::packet::Order;
-use trace_values::{Machine, PacketsMode, Step};
+use trace_values::{Machine, PacketsMode, Step, TakenAtOnce};
 
 /// Reads the bytes of a mapped source. After a fault it hunts again from the fault's byte or nibble on, and after a cut
 /// from the next byte on. It is live always.
@@ -64,11 +65,12 @@ fn raised(step: Step<Packet>, count: u64, skipped: u64) -> Step<Packet>
 }
 
 impl RecoveringSource {
-    ghost use Rattle.std.specs.Prelude.{◌++◌};
+    ghost use Rattle.std.specs.Prelude.{◌++◌, ◌*◌, ◌<◌, IfSome, None, length, take};
     ghost use Rattle.stretch_readings.specs.Stretches.{Stretches, before, from_fault, parted};
     ghost use Rattle.source_machine.specs.Units.{reads_by};
     ghost use Rattle.stretch_readings.specs.Steps.{said_by};
     ghost use Rattle.recovering_machines.specs.Source.{Answers, Stands, heard_by, kind_of, reads_of, total_of};
+    ghost use Rattle.recovering_machines.specs.AtOnce.{TakesCells, said_at};
     ghost use Rattle.recovering_machines.specs.Source.{with_byte};
 
     /// One of a source of this kind before its first byte. The order is that of the nibbles of an STP source's numbers.
@@ -111,6 +113,23 @@ impl RecoveringSource {
             }
             step => raised(step, self.count, self.machine.skipped()),
         }
+    }
+
+    /// Takes bytes of a run within the unfinished packet up to the one in which it ends, or all of them, where none of
+    /// them is a fault. None says nothing of the bytes: then it stands for what it stood for.
+    pub fn take(&mut self, bytes: &[u8]) -> Option<TakenAtOnce<Packet>>
+        requires room { total_of self.old + 4 * length bytes.now ≤ COUNT_ROOM }
+        ensures kind { kind_of self.new ≡ kind_of self.old }
+        ensures reads { reads_of self.new ≡ reads_of self.old }
+        ensures bytes { IfSome result (λ taken. (0 < taken.bytes) × (taken.bytes ≤ length bytes.now)) }
+        ensures takes { IfSome result (λ taken.
+            TakesCells self.old self.new (take taken.bytes bytes.now) (λ at. said_at taken.half at taken.item)) }
+        ensures fits { IfSome result (λ taken. IfSome taken.item PacketFits) }
+        ensures few { IfSome result (λ taken. total_of self.new ≤ total_of self.old + 4 * taken.bytes) }
+        ensures none { result ≡ None → ((r : Stretches) → Stands self.old r → Stands self.new r)
+            × (total_of self.new ≤ total_of self.old) }
+    {
+        take_bytes(&mut self.machine, bytes)
     }
 
     /// Cuts the source's list here: what comes is hunted anew with a count of 0, and what is held is skipped.

@@ -1,4 +1,4 @@
--- One more byte.
+-- More bytes of the port.
 use Rattle.std.proofs.Common.{◌≡◌, ◌≢◌, ℕ, ◌+◌, List, [], ◌∷◌, ◌++◌, refl, sym, ◌∙◌, ap, subst}
 use Rattle.std.proofs.Common.{append-nil, arith, None, map}
 use Rattle.std.proofs.lemmas.Grind.{flat_map-append}
@@ -33,15 +33,19 @@ use Rattle.recovery_engine.specs.Slots.{StandFor}
 use Rattle.recovery_engine.specs.Taking.{Takes}
 use Rattle.recovery_engine.specs.declared.slot.RecoveringSlot.{RecoveringSlot}
 
--- the stretches of a port with one more byte
+-- the stretches of a port with more bytes
+pub port_more : (mode : FramesMode) (u w : List Placed) →
+    port_stretches mode (u ++ w) ≡ fed_from items_by from_halfword (port_stretches mode u) (map One w)
+port_more mode u w =
+    ap (λ l. fed_from items_by from_halfword (before items_by from_halfword (hunts mode)) l) (map-append One u w)
+    ∙ from_append items_by from_halfword (map One u) (map One w) (before items_by from_halfword (hunts mode))
+
 pub port_push : (mode : FramesMode) (u : List Placed) (b : Placed) →
     port_stretches mode (u ++ b ∷ []) ≡ fed items_by from_halfword (port_stretches mode u) (One b)
-port_push mode u b =
-    ap (λ l. fed_from items_by from_halfword (before items_by from_halfword (hunts mode)) l) (map-append One u (b ∷ []))
-    ∙ from_append items_by from_halfword (map One u) (One b ∷ []) (before items_by from_halfword (hunts mode))
+port_push mode u b = port_more mode u (b ∷ [])
 
 -- a step's parts, with its lock's count
-by_raised : (count at : ℕ) (own : PortStep) (cells : List Cell) →
+pub by_raised : (count at : ℕ) (own : PortStep) (cells : List Cell) →
     parts_by count at own cells ≡ parts_by 0 at (raised count own) cells
 by_raised count at Quiet cells = refl
 by_raised count at Half cells = refl
@@ -50,48 +54,6 @@ by_raised count at Frame cells = refl
 by_raised count at (Locked n) cells = ap (λ m. Locks m (record { at = at; half = 0 }) ∷ [])
     (let e : count + n ≡ 0 + (count + n) = omega arith in e)
 by_raised count at (Faulty f) cells = refl
-
-module _ (old new : RecoveringPort) (u : List Placed) (at byte : ℕ) where
-  abbrev b : Placed
-  b = byte_at at byte
-
-  pub port_list : (mode : FramesMode) → ((r : Stretches) → ports.Stands old r →
-      ports.Stands new (fed items_by from_halfword r (One b))) → PortStands mode old u →
-      PortStands mode new (u ++ b ∷ [])
-  port_list Bare f k = tt
-  port_list Aligned f k = subst (λ r. ports.Stands new r) (sym (port_push Aligned u b)) (f (port_stretches Aligned u) k)
-  port_list Hunt f k = subst (λ r. ports.Stands new r) (sym (port_push Hunt u b)) (f (port_stretches Hunt u) k)
-
-  module _ (step : PortStep) (cells : List Cell) where
-    abbrev Grows : Stretches → Type 0
-    Grows r = parts_in (of_stretches (fed items_by from_halfword r (One b)))
-        ≡ parts_in (of_stretches r) ++ parts_by 0 at step cells
-
-    grows : ((r : Stretches) → ports.Stands old r → Answers r at byte step) →
-        ((r : Stretches) → ports.Stands old r →
-        cells_in (port_stream r.now.hunts (r.now.units ++ b ∷ [])) ≡ cells_in
-        (port_stream r.now.hunts r.now.units) ++ cells) →
-        (r : Stretches) → ports.Stands old r → Grows r
-    grows f c r k =
-        let a = f r k in
-        let none : (port_stream r.now.hunts r.now.units).fault ≡ None =
-        ap (λ h. (port_stream h r.now.units).fault) (sym k.mode) ∙ none_before old.port r.now.units k.stands old.live in
-        laws.port r at byte a.own cells none a.grows (c r k)
-        ∙ ap (λ l. parts_in (of_stretches r) ++ l) (by_raised r.now.count at a.own cells
-        ∙ ap (λ s. parts_by 0 at s cells) (sym a.is))
-
-    pub framed_parts : (mode : FramesMode) → mode ≢ Bare →
-        ((r : Stretches) → ports.Stands old r → Answers r at byte step) →
-        ((r : Stretches) → ports.Stands old r →
-        cells_in (port_stream r.now.hunts (r.now.units ++ b ∷ [])) ≡ cells_in
-        (port_stream r.now.hunts r.now.units) ++ cells) →
-        PortStands mode old u → parts_in (recovered mode (u ++ b ∷ []))
-        ≡ parts_in (recovered mode u) ++ parts_by 0 at step cells
-    framed_parts Bare n f c k = absurd (n refl)
-    framed_parts Aligned n f c k = ap (λ r. parts_in (of_stretches r)) (port_push Aligned u b)
-        ∙ grows f c (port_stretches Aligned u) k
-    framed_parts Hunt n f c k = ap (λ r. parts_in (of_stretches r)) (port_push Hunt u b)
-        ∙ grows f c (port_stretches Hunt u) k
 
 -- with no formatter
 abbrev bare_frames : List Placed → List (List Cell)

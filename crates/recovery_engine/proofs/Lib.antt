@@ -1,4 +1,5 @@
 pub mod Adding
+pub mod Blocks
 pub mod PortCounts
 pub mod Ending
 pub mod Feeding

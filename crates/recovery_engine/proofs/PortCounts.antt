@@ -1,4 +1,4 @@
--- What a byte adds to the counts of the port.
+-- What bytes add to the counts of the port.
 use Rattle.std.proofs.Common.{◌≡◌, ◌≢◌, ℕ, ◌+◌, List, [], ◌∷◌, ◌++◌, refl, sym, ◌∙◌, ap, subst, arith, append-nil}
 use Rattle.std.proofs.Common.{None, map}
 use Rattle.std.proofs.lemmas.List.{map-append}
@@ -30,7 +30,7 @@ use Rattle.recovery_engine.specs.declared.counts.PortTotals.{PortTotals}
 use Rattle.recovery_engine.proofs.Feeding.{port_push}
 
 -- a lock ends as much, whatever its count
-by_raised : (old new : PortStretches) (count : ℕ) (step : PortStep) (cells : List Cell) →
+pub by_raised : (old new : PortStretches) (count : ℕ) (step : PortStep) (cells : List Cell) →
     CountsGrow old new step cells → CountsGrow old new (raised count step) cells
 by_raised old new count Quiet cells g = g
 by_raised old new count Half cells g = g
@@ -39,31 +39,21 @@ by_raised old new count Frame cells g = g
 by_raised old new count (Locked n) cells g = record { frames = g.frames; fulls = g.fulls; halves = g.halves }
 by_raised old new count (Faulty f) cells g = g
 
-module _ (old : RecoveringPort) (u : List Placed) (at byte : ℕ) (step : PortStep) (cells : List Cell)
-    (f : (r : Stretches) → ports.Stands old r → Answers r at byte step)
-    (c : (r : Stretches) → ports.Stands old r →
-    cells_in (port_stream r.now.hunts (r.now.units ++ byte_at at byte ∷ []))
-    ≡ cells_in (port_stream r.now.hunts r.now.units) ++ cells) where
-  grows : (r : Stretches) → ports.Stands old r →
-      CountsGrow (of_stretches r) (of_stretches (fed items_by from_halfword r (One (byte_at at byte)))) step cells
-  grows r k =
-      let a = f r k in
-      let none : (port_stream r.now.hunts r.now.units).fault ≡ None =
-      ap (λ h. (port_stream h r.now.units).fault) (sym k.mode) ∙ none_before old.port r.now.units k.stands old.live in
-      subst (λ s. CountsGrow (of_stretches r)
-      (of_stretches (fed items_by from_halfword r (One (byte_at at byte)))) s cells) (sym a.is)
-      (by_raised (of_stretches r) (of_stretches (fed items_by from_halfword r (One (byte_at at byte)))) r.now.count
-      a.own cells (laws.counts r at byte a.own cells none a.grows (c r k)))
+-- what a quiet byte adds, and then more
+pub counts_then : (a b c : PortStretches) (step : PortStep) (cells : List Cell) → CountsGrow a b Quiet [] →
+    CountsGrow b c step cells → CountsGrow a c step cells
+counts_then a b c step cells g h = record {
+  frames = h.frames ∙ ap (λ l. l ++ frames_by step cells) (g.frames ∙ append-nil (frames_of a));
+  fulls = (let x = g.fulls in let y = h.fulls in omega (arith, x, y));
+  halves = (let x = g.halves in let y = h.halves in omega (arith, x, y));
+}
 
-  pub framed_counts : (mode : FramesMode) → mode ≢ Bare → PortStands mode old u →
-      CountsGrow (recovered mode u) (recovered mode (u ++ byte_at at byte ∷ [])) step cells
-  framed_counts Bare n k = absurd (n refl)
-  framed_counts Aligned n k =
-      subst (λ r. CountsGrow (recovered Aligned u) (of_stretches r) step cells)
-      (sym (port_push Aligned u (byte_at at byte))) (grows (port_stretches Aligned u) k)
-  framed_counts Hunt n k =
-      subst (λ r. CountsGrow (recovered Hunt u) (of_stretches r) step cells)
-      (sym (port_push Hunt u (byte_at at byte))) (grows (port_stretches Hunt u) k)
+pub counts_none : (a : PortStretches) → CountsGrow a a Quiet []
+counts_none a = record {
+  frames = sym (append-nil (frames_of a));
+  fulls = (let e : fulls_of a ≡ fulls_of a + 0 = omega arith in e);
+  halves = (let e : halves_of a ≡ halves_of a + 0 = omega arith in e);
+}
 
 -- with no formatter each byte is a frame
 pub bare_counts : (u : List Placed) (b : Placed) →

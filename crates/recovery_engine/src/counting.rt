@@ -1,6 +1,6 @@
 //! The reading of a capture that goes on after each fault, and counts what it reads.
 
-ghost use Rattle.std.specs.Prelude.{◌≡◌, ◌+◌, ◌*◌, ◌≤◌};
+ghost use Rattle.std.specs.Prelude.{◌≡◌, ◌+◌, ◌*◌, ◌<◌, ◌≤◌};
 ghost use Rattle.recovery_engine.specs.Engine as reading;
 ghost use Rattle.recovery_engine.specs.Heard.{heard_of};
 ghost use Rattle.recovery_engine.specs.declared.engine.TheConstants.{GREATEST_OFFSET};
@@ -12,7 +12,7 @@ use source_counts::Counts;
 use source_events::{GREATEST_COUNT, Plan, PortCounts, Tails};
 use trace_values::SourceId;
 
-/// Reads a capture byte by byte as `Recovery` does, and counts its events: the items of each source, and the faults.
+/// Reads a capture as `Recovery` does, and counts its events: the items of each source, and the faults.
 ///
 /// It **stands for** a list of placed bytes if what it keeps is that of the list's recovering report. Its clauses hold
 /// for every list that it stood for before the call; a new one stands for the empty list.
@@ -24,8 +24,8 @@ pub struct CountingRecovery {
 }
 
 impl CountingRecovery {
-    ghost use Rattle.std.specs.Prelude.{◌++◌, ◌∷◌, [], List};
-    ghost use Rattle.trace_values.specs.Placed.{Placed, byte_at};
+    ghost use Rattle.std.specs.Prelude.{◌++◌, [], List, length, take};
+    ghost use Rattle.trace_values.specs.Placed.{Placed, placed_from};
     ghost use Rattle.recovery_report.specs.Counts.{faults_of, port_counts_of, source_counts_of};
     ghost use Rattle.recovery_report.specs.Report.{tails_of};
     ghost use Rattle.recovery_engine.specs.Counted.{Stands, count_of, plan_of};
@@ -49,14 +49,19 @@ impl CountingRecovery {
         self.engine.next()
     }
 
-    /// Takes the next byte, which is at this offset.
-    pub fn feed(&mut self, at: u64, byte: u8)
-        requires limit { count_of self.old ≤ GREATEST_OFFSET }
+    /// Takes bytes from the front of a piece, the first of which is at this offset, as the engine does, and answers how
+    /// many. The piece has a byte.
+    pub fn take(&mut self, at: u64, piece: &[u8]) -> usize
+        requires some { 0 < length piece.now }
+        requires limit { count_of self.old + length piece.now ≤ GREATEST_OFFSET + 1 }
+        requires offsets { at + length piece.now ≤ GREATEST_OFFSET + 1 }
+        ensures bytes { (0 < result) × (result ≤ length piece.now) }
         ensures plan { plan_of self.new ≡ plan_of self.old }
-        ensures count { count_of self.new ≡ count_of self.old + 1 }
-        ensures list { (u : List Placed) → Stands self.old u → Stands self.new (u ++ byte_at at byte ∷ []) }
+        ensures count { count_of self.new ≡ count_of self.old + result }
+        ensures list { (u : List Placed) → Stands self.old u →
+            Stands self.new (u ++ placed_from at (take result piece.now)) }
     {
-        self.engine.feed(at, byte, &mut self.heard, &mut ());
+        self.engine.take(at, piece, &mut self.heard, &mut ())
     }
 
     /// How many bytes a source has, and how many items: its packets, or the runs of one that is not mapped. Notices of

@@ -1,6 +1,6 @@
 //! The reading of a capture that goes on after each fault.
 
-ghost use Rattle.std.specs.Prelude.{◌≡◌, ◌+◌, ◌*◌, ◌≤◌};
+ghost use Rattle.std.specs.Prelude.{◌≡◌, ◌+◌, ◌*◌, ◌<◌, ◌≤◌};
 ghost use Rattle.recovering_machines.specs.Port.{total_of};
 ghost use Rattle.recovery_engine.specs.Counting.{counted_of};
 ghost use Rattle.recovery_engine.specs.Slots.{total};
@@ -19,7 +19,7 @@ use trace_values::{Cell, FramesMode, SourceId};
 /// The greatest offset of a byte of a capture.
 pub const GREATEST_OFFSET: u64 = 1 << 36;
 
-/// Reads a capture byte by byte, its port and each mapped source, and gives the events of its recovering report in
+/// Reads a capture piece by piece, its port and each mapped source, and gives the events of its recovering report in
 /// order.
 ///
 /// It **stands for** a list of placed bytes if what it keeps is that of the list's report. Its clauses hold for every
@@ -41,8 +41,8 @@ pub struct Recovery {
 }
 
 impl Recovery {
-    ghost use Rattle.std.specs.Prelude.{◌++◌, ◌∷◌, [], List};
-    ghost use Rattle.trace_values.specs.Placed.{Placed, byte_at};
+    ghost use Rattle.std.specs.Prelude.{◌++◌, [], List, length, take};
+    ghost use Rattle.trace_values.specs.Placed.{Placed, placed_from};
     ghost use Rattle.source_events.specs.declared.event.Event.{Event};
     ghost use Rattle.source_events.specs.declared.packet.Packet.{Packet};
     ghost use Rattle.stretch_readings.specs.declared.heard.Heard.{Heard};
@@ -73,24 +73,34 @@ impl Recovery {
         }
     }
 
-    /// Takes the next byte, which is at this offset, and gives the events that the recovering report grows by.
-    pub fn feed<V: Hearer>(&mut self, at: u64, byte: u8, out: &mut V, to: &mut V::To)
-        requires limit { count_of self.old ≤ GREATEST_OFFSET }
+    /// Takes bytes from the front of a piece, the first of which is at this offset, and gives the events that the
+    /// recovering report grows by: a whole frame, or else bytes up to the first one that ends a frame or a
+    /// synchronisation, or is a fault, or to the piece's end. With no formatter it takes one byte.
+    ///
+    /// The piece has a byte, and there is room for 30 events.
+    pub fn take<V: Hearer>(&mut self, at: u64, piece: &[u8], out: &mut V, to: &mut V::To) -> usize
+        requires some { 0 < length piece.now }
+        requires limit { count_of self.old + length piece.now ≤ GREATEST_OFFSET + 1 }
+        requires offsets { at + length piece.now ≤ GREATEST_OFFSET + 1 }
         requires room { 30 ≤ V.room (out.old, to.old) }
+        ensures bytes { (0 < result) × (result ≤ length piece.now) }
         ensures plan { plan_of self.new ≡ plan_of self.old }
-        ensures count { count_of self.new ≡ count_of self.old + 1 }
-        ensures list { (u : List Placed) → Stands self.old u → Stands self.new (u ++ byte_at at byte ∷ []) }
+        ensures count { count_of self.new ≡ count_of self.old + result }
+        ensures list { (u : List Placed) → Stands self.old u →
+            Stands self.new (u ++ placed_from at (take result piece.now)) }
         ensures given { (given : List (Event (Heard Packet))) × V.gets (out.old, to.old) given (out.new, to.new)
-            × ((u : List Placed) → Stands self.old u →
-            report (plan_of self.old) (u ++ byte_at at byte ∷ []) ≡ report (plan_of self.old) u ++ given) }
+            × ((u : List Placed) → Stands self.old u → report (plan_of self.old)
+            (u ++ placed_from at (take result piece.now)) ≡ report (plan_of self.old) u ++ given) }
         ensures room { V.room (out.old, to.old) ≤ V.room (out.new, to.new) + 30 }
     {
         self.cells.clear();
-        let step = feed_port(&mut self.port, self.plan.frames, at, byte, &mut self.cells);
+        let taken = feed_port(&mut self.port, self.plan.frames, at, piece, &mut self.cells);
         let cells = self.cells.as_slice();
-        self.totals.add_step(&step, cells);
-        take_step(self.slots.as_mut_slice(), at, step, cells, out, to);
-        self.count += 1;
+        self.totals.add_step(&taken.step, cells);
+        let last = at + (taken.bytes as u64 - 1);
+        take_step(self.slots.as_mut_slice(), last, taken.step, cells, out, to);
+        self.count += taken.bytes as u64;
+        taken.bytes
     }
 
     /// The offset of the next byte: how many were fed.

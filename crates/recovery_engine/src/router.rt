@@ -82,7 +82,8 @@ fn take_run<V: Hearer>(slots: &mut [RecoveringSlot], cells: &[Cell], out: &mut V
     let Some(id) = cells[0].id else {
         return;
     };
-    if !take_own(slots, id, cells, out, to) {
+    let bytes = RunBytes::of(cells);
+    if !take_own(slots, id, cells, bytes.as_slice(), out, to) {
         give_raw(id, cells, out, to);
     }
 }

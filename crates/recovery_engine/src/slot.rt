@@ -4,6 +4,7 @@ ghost use Rattle.std.specs.Prelude.{◌≡◌, ◌+◌, ◌*◌, ◌≤◌, leng
 ghost use Rattle.trace_values.specs.declared.limits.TheConstants.{COUNT_ROOM};
 ghost use Rattle.std.specs.Prelude.{ℕ};
 ghost use Rattle.arrayvec.specs.ArrayVec.{array_vec_len};
+ghost use Rattle.source_events.specs.Runs.{bytes_of};
 ghost use Rattle.source_events.specs.declared.plan.TheConstants.{MAPPED_SOURCES};
 ghost use Rattle.recovery_engine.specs.Fresh.{AreFresh, IsAdded};
 ghost use Rattle.recovery_engine.specs.Slots.{source_at, total};
@@ -62,14 +63,17 @@ fn add_slots(slots: &mut Slots, kind: SourceKind, ids: &[SourceId], plan: &Plan)
     }
 }
 
-/// Takes a run of the source of this ID, and gives its events. False where there is no such source.
+/// Takes a run of the source of this ID, which has these bytes, and gives its events. False where there is no such
+/// source.
 pub fn take_own<V: Hearer>(
     slots: &mut [RecoveringSlot],
     id: SourceId,
     cells: &[Cell],
+    bytes: &[u8],
     out: &mut V,
     to: &mut V::To,
 ) -> bool
+    requires bytes { bytes.now ≡ bytes_of cells.now }
     requires few { total slots.old + 4 * length cells.now ≤ COUNT_ROOM }
     requires room { 2 * length cells.now ≤ V.room (out.old, to.old) }
     ensures own { result ≡ true → TakesOwn V.gets V.room id cells.now
@@ -84,10 +88,10 @@ pub fn take_own<V: Hearer>(
         return false;
     };
     if slot.id == id {
-        feed_run(&mut slot.source, id, cells, out, to);
+        feed_run(&mut slot.source, id, cells, bytes, out, to);
         return true;
     }
-    take_own(rest, id, cells, out, to)
+    take_own(rest, id, cells, bytes, out, to)
 }
 
 /// Cuts the lists of all sources.

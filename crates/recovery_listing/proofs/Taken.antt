@@ -1,8 +1,10 @@
--- What `show` made of a byte, and of the front of a piece.
+-- What `show` made of the front of a piece.
 use Rattle.std.proofs.Common.{◌≡◌, ◌∙◌, ℕ, ◌+◌, [], ◌∷◌, List, ◌++◌, length, sym, ap, refl, subst, append_assoc}
-use Rattle.std.proofs.Common.{append-nil, length-append, arith, false}
-use Rattle.trace_values.specs.Placed.{Placed, byte_at, placed}
-use Rattle.trace_values.proofs.Placing.{length-placed_from, placed_from_push}
+use Rattle.std.proofs.Common.{append-nil, length-append, arith, false, take, drop, ◌-◌, ◌≤◌}
+use Rattle.std.proofs.lemmas.List.{length-drop}
+use Rattle.source_merge.proofs.Feds.{tail_of, take_parts}
+use Rattle.trace_values.specs.Placed.{Placed, placed, placed_from}
+use Rattle.trace_values.proofs.Placing.{length-placed_from, placed_append}
 use Rattle.source_events.specs.declared.event.Event.{Event}
 use Rattle.source_events.specs.declared.packet.Packet.{Packet}
 use Rattle.source_events.specs.declared.plan.Plan.{Plan}
@@ -19,31 +21,31 @@ use Rattle.recovery_listing.specs.Listing.{lines_after, show_meaning}
 use Rattle.recovery_listing.specs.Show.{plan_of, Stands, taken_by}
 use Rattle.recovery_listing.specs.declared.show.RecoveringShow.{RecoveringShow}
 
--- one more byte of a capture
-pub placed_push : (seen : List ℕ) (at byte : ℕ) → at ≡ length (placed seen) →
-    placed (seen ++ byte ∷ []) ≡ placed seen ++ byte_at at byte ∷ []
-placed_push seen at byte e =
-    placed_from_push 0 seen byte
-    ∙ ap (λ (n : ℕ). placed seen ++ byte_at n byte ∷ [])
-    (let l = length-placed_from 0 seen in let k : 0 + length seen ≡ at = omega (arith, l, e) in k)
+-- more bytes of a capture
+pub placed_more : (seen : List ℕ) (at : ℕ) (bytes : List ℕ) → at ≡ length (placed seen) →
+    placed (seen ++ bytes) ≡ placed seen ++ placed_from at bytes
+placed_more seen at bytes e =
+    placed_append seen bytes
+    ∙ ap (λ (n : ℕ). placed seen ++ placed_from n bytes)
+    (let l = length-placed_from 0 seen in let k : length seen ≡ at = omega (arith, l, e) in k)
 
-module _ (old new : RecoveringShow) (at byte : ℕ) (given : List (Event (Heard Packet))) (a b : List ℕ)
+module _ (old new : RecoveringShow) (at : ℕ) (bytes : List ℕ) (given : List (Event (Heard Packet))) (a b : List ℕ)
     (at_is : at ≡ taken_by old) (same : reading.plan_of new.engine ≡ reading.plan_of old.engine)
-    (count : taken_by new ≡ taken_by old + 1)
-    (list : (u : List Placed) → reading.Stands old.engine u → reading.Stands new.engine (u ++ byte_at at byte ∷ []))
+    (count : taken_by new ≡ taken_by old + length bytes)
+    (list : (u : List Placed) → reading.Stands old.engine u → reading.Stands new.engine (u ++ placed_from at bytes))
     (grew : (u : List Placed) → reading.Stands old.engine u →
-    report (reading.plan_of old.engine) (u ++ byte_at at byte ∷ []) ≡ report (reading.plan_of old.engine) u ++ given)
+    report (reading.plan_of old.engine) (u ++ placed_from at bytes) ≡ report (reading.plan_of old.engine) u ++ given)
     (gets : lister.gets (old.lister, a) given (new.lister, b)) where
   taken : (seen : List ℕ) → Stands old seen → HasTaken (Stands new) (show_meaning (plan_of old))
-      (record { seen = seen; front = byte ∷ []; before = a; after = b }) false
+      (record { seen = seen; front = bytes; before = a; after = b }) false
   taken seen s =
       let p = plan_of old in
-      let all = seen ++ byte ∷ [] in
-      let here = placed_push seen at byte (at_is ∙ s.engine.count) in
+      let all = seen ++ bytes in
+      let here = placed_more seen at bytes (at_is ∙ s.engine.count) in
       let said = report p.plan (placed seen) in
       let more : report p.plan (placed all) ≡ said ++ given =
       ap (report p.plan) here
-      ∙ subst (λ (q : Plan). report q (placed seen ++ byte_at at byte ∷ []) ≡ report q (placed seen) ++ given) s.plan
+      ∙ subst (λ (q : Plan). report q (placed seen ++ placed_from at bytes) ≡ report q (placed seen) ++ given) s.plan
       (grew (placed seen) s.engine) in
       record {
         read = record {
@@ -59,7 +61,7 @@ module _ (old new : RecoveringShow) (at byte : ℕ) (given : List (Event (Heard 
         fault = λ h. h;
       }
 
-  pub has_fed : HasFed old new (byte ∷ []) a b
+  pub has_fed : HasFed old new bytes a b
   has_fed = record { same = gets.same; count = count; fed = taken }
 
 -- no byte
@@ -104,3 +106,14 @@ module _ (old mid new : RecoveringShow) (front next a b c : List ℕ) (first : H
     count = second.count ∙ (let k = first.count in let l = length-append front next in omega (arith, k, l));
     fed = both;
   }
+
+-- the front of a piece, and what is taken of the rest
+pub front_next : (done n : ℕ) (piece : List ℕ) →
+    take done piece ++ take n (take (length piece - done) (drop done piece)) ≡ take (done + n) piece
+front_next done n piece = ap (λ (l : List ℕ). take done piece ++ take n l) (tail_of done piece)
+    ∙ sym (take_parts done n piece)
+
+-- how many bytes the rest has
+pub rest_size : (done : ℕ) (piece : List ℕ) → done ≤ length piece →
+    length (take (length piece - done) (drop done piece)) ≡ length piece - done
+rest_size done piece l = ap length (tail_of done piece) ∙ length-drop done piece

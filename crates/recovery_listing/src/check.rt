@@ -1,6 +1,6 @@
 //! `check` that goes on after faults: how many there are, what the port and each source sent, and how the capture ends.
 
-ghost use Rattle.std.specs.Prelude.{◌≡◌, ◌+◌, ◌*◌, ◌<◌, ◌≤◌, ◌++◌, ◌∷◌, [], ℕ, List, length};
+ghost use Rattle.std.specs.Prelude.{◌≡◌, ◌+◌, ◌*◌, ◌<◌, ◌≤◌, ◌++◌, [], ℕ, List, length, take};
 ghost use Rattle.trace_stream.specs.declared.limits.TheConstants.{GREATEST_CAPTURE};
 ghost use Rattle.trace_values.specs.Placed.{Placed};
 ghost use Rattle.capture_actions.specs.Summary.{source_text, sources_text};
@@ -70,15 +70,17 @@ impl RecoveringCheck {
         self.engine.faults() != 0
     }
 
-    /// Takes the next byte.
-    fn take(&mut self, byte: u8)
-        requires count { taken_by self.old < GREATEST_CAPTURE }
+    /// Takes bytes from the front of a piece, as the engine does, and answers how many. The piece has a byte.
+    fn take(&mut self, piece: &[u8]) -> usize
+        requires some { 0 < length piece.now }
+        requires count { taken_by self.old + length piece.now ≤ GREATEST_CAPTURE }
+        ensures bytes { (0 < result) × (result ≤ length piece.now) }
         ensures same { plan_of self.new ≡ plan_of self.old }
-        ensures count { taken_by self.new ≡ taken_by self.old + 1 }
-        ensures list { (seen : List ℕ) → Stands self.old seen → Stands self.new (seen ++ byte ∷ []) }
+        ensures count { taken_by self.new ≡ taken_by self.old + result }
+        ensures list { (seen : List ℕ) → Stands self.old seen → Stands self.new (seen ++ take result piece.now) }
     {
         let at = self.engine.next();
-        self.engine.feed(at, byte);
+        self.engine.take(at, piece)
     }
 
     /// Puts the summary of the bytes that were taken.
@@ -130,8 +132,9 @@ impl Action for RecoveringCheck {
 
     /// Takes the whole piece.
     fn feed(&mut self, piece: &[u8], _outlet: &mut Outlet) -> Progress {
-        for index in 0..piece.len() {
-            self.take(piece[index]);
+        let mut done = 0;
+        while done < piece.len() {
+            done += self.take(&piece[done..]);
         }
         Progress {
             bytes: piece.len(),

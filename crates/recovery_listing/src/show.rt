@@ -1,6 +1,6 @@
 //! `show` that goes on after faults: the listing of the events of a capture, with the faults among them.
 
-ghost use Rattle.std.specs.Prelude.{◌≡◌, ◌+◌, ◌<◌, ◌≤◌, ◌∷◌, [], ℕ, List, length};
+ghost use Rattle.std.specs.Prelude.{◌≡◌, ◌+◌, ◌<◌, ◌≤◌, [], ℕ, List, length, take};
 ghost use Rattle.trace_stream.specs.declared.limits.TheConstants.{GREATEST_CAPTURE};
 
 use crate::lister::RecoveringLister;
@@ -41,14 +41,17 @@ impl RecoveringShow {
         self.lister.is_faulty()
     }
 
-    /// Takes the next byte, and puts the lines of the events that it ends.
-    fn take(&mut self, byte: u8, outlet: &mut Outlet)
+    /// Takes bytes from the front of a piece, as the engine does, and puts the lines of the events that they end. Answers
+    /// how many. The piece has a byte.
+    fn take(&mut self, piece: &[u8], outlet: &mut Outlet) -> usize
+        requires some { 0 < length piece.now }
         requires room { length outlet.old + ACTION_ROOM ≤ OUTLET_ROOM }
-        requires count { taken_by self.old < GREATEST_CAPTURE }
-        ensures { HasFed self.old self.new (byte ∷ []) outlet.old outlet.new }
+        requires count { taken_by self.old + length piece.now ≤ GREATEST_CAPTURE }
+        ensures bytes { (0 < result) × (result ≤ length piece.now) }
+        ensures fed { HasFed self.old self.new (take result piece.now) outlet.old outlet.new }
     {
         let at = self.engine.next();
-        self.engine.feed(at, byte, &mut self.lister, outlet);
+        self.engine.take(at, piece, &mut self.lister, outlet)
     }
 }
 
@@ -81,12 +84,11 @@ impl Action for RecoveringShow {
         false
     }
 
-    /// Takes bytes while the outlet has room for the lines of another one.
+    /// Takes bytes while the outlet has room for the lines of a frame.
     fn feed(&mut self, piece: &[u8], outlet: &mut Outlet) -> Progress {
         let mut done = 0;
         while done < piece.len() && outlet.len() <= OUTLET_ROOM - ACTION_ROOM {
-            self.take(piece[done], outlet);
-            done += 1;
+            done += self.take(&piece[done..], outlet);
         }
         Progress {
             bytes: done,

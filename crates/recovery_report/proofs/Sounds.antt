@@ -32,6 +32,7 @@ use Rattle.stretch_readings.specs.Words.{IsSound, IsSettling}
 use Rattle.stretch_readings.proofs.Feeding.{last_unit}
 use Rattle.recovering_machines.specs.Port.{items_by, from_halfword}
 use Rattle.recovering_machines.proofs.Feeding.{same}
+pub use Rattle.recovering_machines.proofs.Going.{sources_settle}
 
 one_sound : (order : Order) (kind : SourceKind) (b : Placed) → (reads_by order kind true (b ∷ [])).fault ≡ None
 one_sound order Itm b = (quieting.quiet pattern Sync (by_unit rule) Header (b ∷ []) (omega arith)).fault
@@ -40,14 +41,6 @@ one_sound order Stp b = (quieting.quiet stp_pattern Async (by_unit (stp_rule ord
 pub sources_sound : (order : Order) (kind : SourceKind) → IsSound (reads_by order kind) from_fault
 sources_sound order kind = λ h u b e k. ap (λ w. (reads_by order kind true w).fault) (last_unit u b)
     ∙ one_sound order kind b
-
-pub sources_settle : (order : Order) (kind : SourceKind) → IsSettling (reads_by order kind)
-sources_settle order Itm = λ h u w e. settled_as ItmOf (packets_in h u) (packets_in h (u ++ w))
-    (modes.settles pattern Sync (by_unit rule) Header h u w e)
-sources_settle order Stp = λ h u w e.
-    settled_as StpOf (items_at order h u) (items_at order h (u ++ w))
-    (decorating.settles attribute [] (stp_packets_in order h u) (stp_packets_in order h (u ++ w))
-    (modes.settles stp_pattern Async (by_unit (stp_rule order)) Start h u w e))
 
 -- no unit is no fault
 pub sources_begin : (order : Order) (kind : SourceKind) (h : Bool) → (reads_by order kind h []).fault ≡ None
