@@ -96,6 +96,7 @@ recovering (tasks.Check plan On) on = (refl, refl, λ limit. refl)
 recovering (tasks.Check plan Off) on = absurd on
 recovering (tasks.Split frames id) on = absurd on
 recovering (tasks.Text plan port) on = absurd on
+recovering (tasks.Vcd plan hz) on = absurd on
 recovering (tasks.Rebuild plan sync half) on = absurd on
 recovering (tasks.Funnel plan sync half turns) on = absurd on
 recovering tasks.Realign on = absurd on

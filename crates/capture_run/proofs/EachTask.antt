@@ -2,7 +2,7 @@
 use Rattle.std.proofs.Common.{◌≡◌, ◌⊎◌, ℕ, refl, inl, inr}
 use Rattle.capture_words.specs.declared.job.Task.{Task}
 use Rattle.capture_words.specs.declared.job.Task.TheVariants.{Show, Split, Check, Rebuild, Exercise, Realign, Ring}
-use Rattle.capture_words.specs.declared.job.Task.TheVariants.{Unring, Text, Funnel}
+use Rattle.capture_words.specs.declared.job.Task.TheVariants.{Unring, Text, Funnel, Vcd}
 use Rattle.capture_run.specs.Actions.{HasDone, limit_of, meaning_of}
 use Rattle.capture_run.specs.Run.{HasRun, Streams}
 use Rattle.capture_run.specs.declared.status.Status.{Status}
@@ -22,6 +22,7 @@ pub kind_of : (task : Task) → Kind task
 kind_of (Show plan only window recover) = inl (record { run = λ l s t e r. r; done = λ l s t e r. r })
 kind_of (Split frames id) = inl (record { run = λ l s t e r. r; done = λ l s t e r. r })
 kind_of (Text plan port) = inl (record { run = λ l s t e r. r; done = λ l s t e r. r })
+kind_of (Vcd plan hz) = inl (record { run = λ l s t e r. r; done = λ l s t e r. r })
 kind_of (Check plan recover) = inl (record { run = λ l s t e r. r; done = λ l s t e r. r })
 kind_of (Rebuild plan sync half) = inl (record { run = λ l s t e r. r; done = λ l s t e r. r })
 kind_of (Funnel plan sync half turns) = inl (record { run = λ l s t e r. r; done = λ l s t e r. r })

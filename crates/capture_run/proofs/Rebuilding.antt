@@ -14,7 +14,7 @@ use Rattle.source_events.specs.Plan.{is_sound}
 use Rattle.capture_words.specs.Jobs.{IsSoundTask}
 use Rattle.capture_words.specs.declared.job.Task.{Task}
 use Rattle.capture_words.specs.declared.job.Task.TheVariants.{Show, Split, Check, Rebuild, Exercise, Realign, Ring}
-use Rattle.capture_words.specs.declared.job.Task.TheVariants.{Unring, Text, Funnel}
+use Rattle.capture_words.specs.declared.job.Task.TheVariants.{Unring, Text, Funnel, Vcd}
 use Rattle.capture_run.specs.Actions.{meaning_of, rebuilding, HasDone}
 use Rattle.capture_run.specs.Rebuilds.{Rebuilds, Writes, straight, funnelled}
 use Rattle.capture_run.specs.Run.{HasRun, Streams, Loses}
@@ -52,6 +52,7 @@ module _ (limit : ℕ) (old new : Streams) (script : List ℕ) (loses : Loses ol
   by_task (Show plan only window recover) p sound run is = absurd is
   by_task (Split frames id) p sound run is = absurd is
   by_task (Text plan port) p sound run is = absurd is
+  by_task (Vcd plan hz) p sound run is = absurd is
   by_task (Check plan recover) p sound run is = absurd is
   by_task Realign p sound run is = absurd is
   by_task (Ring size) p sound run is = absurd is

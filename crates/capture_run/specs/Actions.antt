@@ -3,7 +3,7 @@
 use Rattle.std.specs.Prelude.{◌≡◌, ℕ, List, [], ◌++◌, true, false, is_some, length, not, ◌==◌, None}
 use Rattle.capture_words.specs.declared.job.Task.{Task}
 use Rattle.capture_words.specs.declared.job.Task.TheVariants.{Show, Split, Check, Rebuild, Exercise, Realign, Ring}
-use Rattle.capture_words.specs.declared.job.Task.TheVariants.{Unring, Text, Funnel}
+use Rattle.capture_words.specs.declared.job.Task.TheVariants.{Unring, Text, Funnel, Vcd}
 use Rattle.capture_words.specs.declared.recover.Recover.{Recover}
 use Rattle.capture_words.specs.declared.recover.Recover.TheVariants.{Off, On}
 use Rattle.buffer_ring.specs.Image.{pointer, is_full, dropped}
@@ -30,6 +30,8 @@ use Rattle.source_events.specs.declared.plan.Plan.{Plan}
 use Rattle.script_rebuild.specs.Rebuilt.{routed_script, rebuild_meaning}
 use Rattle.script_rebuild.specs.declared.plan.RebuildPlan.{RebuildPlan}
 use Rattle.trace_stream.specs.Served.{Meaning}
+use Rattle.value_dump.specs.Vcd.{vcd_meaning}
+use Rattle.value_dump.specs.declared.vcd_plan.VcdPlan.{VcdPlan}
 use Rattle.trace_stream.specs.Recent.{last_sixteen}
 use Rattle.trace_values.specs.Placed.{placed}
 use Rattle.trace_text.specs.NoteText.{last_line, slipped_line, buffer_line, image_line}
@@ -47,9 +49,9 @@ last_note seen = last_line (last_sixteen seen)
 abbrev pub split_note : SplitPlan → List ℕ → List ℕ
 split_note plan seen = fault_text (of_source None (port_of plan.frames seen).fault) ++ last_note seen
 
--- and with `text` that of the report's fault, which may be the source's
-abbrev pub text_note : PortTextPlan → List ℕ → List ℕ
-text_note p seen = fault_text (fault_of p.plan (placed seen)) ++ last_note seen
+-- and with `text` and `vcd` that of the report's fault, which may be the source's
+abbrev pub report_note : Plan → List ℕ → List ℕ
+report_note plan seen = fault_text (fault_of plan (placed seen)) ++ last_note seen
 
 -- a fault of a capture is certain at some byte, and none is mended by what comes after it
 abbrev pub captured : (List ℕ → List ℕ) → TaskNotes
@@ -140,7 +142,10 @@ meaning_of (Split frames id) =
     task_of (split_meaning plan) (captured (split_note plan))
 meaning_of (Text plan port) =
     let p : PortTextPlan = record { plan = plan; port = port } in
-    task_of (port_text_meaning p) (captured (text_note p))
+    task_of (port_text_meaning p) (captured (report_note plan))
+meaning_of (Vcd plan hz) =
+    let p : VcdPlan = record { plan = plan; hz = hz } in
+    task_of (vcd_meaning p) (captured (report_note plan))
 meaning_of (Check plan recover) = checking recover plan
 meaning_of (Rebuild plan sync half) = rebuilding (straight plan sync half)
 meaning_of (Funnel plan sync half turns) = rebuilding (funnelled plan sync half turns)

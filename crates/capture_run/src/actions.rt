@@ -15,6 +15,7 @@ use script_rebuild::{Rebuild, ScriptFault};
 use source_events::Stop;
 use trace_stream::Action;
 use trace_values::Fault;
+use value_dump::Vcd;
 
 /// What is noted at a fault.
 #[derive(Clone, Copy, Drop)]
@@ -153,9 +154,19 @@ impl CommandAction for Split {
 }
 
 impl CommandAction for PortText {
-    ghost use Rattle.capture_run.specs.Actions.{captured, text_note};
+    ghost use Rattle.capture_run.specs.Actions.{captured, report_note};
 
-    ghost notes = { λ plan. captured (text_note plan) };
+    ghost notes = { λ p. captured (report_note p.plan) };
+
+    fn ending(&self) -> Ending {
+        Ending::of_capture(self.stop())
+    }
+}
+
+impl CommandAction for Vcd {
+    ghost use Rattle.capture_run.specs.Actions.{captured, report_note};
+
+    ghost notes = { λ p. captured (report_note p.plan) };
 
     fn ending(&self) -> Ending {
         Ending::of_capture(self.stop())

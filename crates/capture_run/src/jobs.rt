@@ -25,6 +25,7 @@ use std::alloc::{AllocError, Global};
 use trace_funnel::Turns;
 use trace_io::{Sink, Source};
 use trace_stream::{Buffers, Outcome, serve};
+use value_dump::{Vcd, VcdPlan};
 
 /// Serves the input by an action that has read nothing, and notes how that ended.
 fn run_action<A: CommandAction, I: Source, O: Sink, N: Sink>(
@@ -217,6 +218,10 @@ pub fn run_job<I: Source, O: Sink, N: Sink>(
         }
         Task::Text { plan, port } => {
             let mut action = PortText::new(PortTextPlan { plan, port });
+            run_action(&mut buffers, &mut action, limit, input, output, notes)
+        }
+        Task::Vcd { plan, hz } => {
+            let mut action = Vcd::new(VcdPlan { plan, hz });
             run_action(&mut buffers, &mut action, limit, input, output, notes)
         }
         Task::Check { plan, recover } => {
