@@ -42,33 +42,33 @@ module _ (old new : FunnelledFrames) (done : List Act) (p : Passes old new done)
 -- bytes that are offered
 module _ (old new : FunnelledFrames) (bytes : List Tagged) (p : Passes old new (bytes_acts bytes)) where
   module _ (every halves : ℕ) (t : Turns) (s : Segments) (st : Stands (Funnelled old) (port every halves (Some t)) s)
-      where
-    abbrev more : List Tagged
-    more = more_passed t (empty t.order) s.ended s.begun (bytes_acts bytes)
+    where
+      abbrev more : List Tagged
+      more = more_passed t (empty t.order) s.ended s.begun (bytes_acts bytes)
 
-    offered : passed t (with_bytes s bytes) ≡ with_bytes (passed t s) more
-    offered = passed_bytes t (empty t.order) s.ended s.begun bytes
+      offered : passed t (with_bytes s bytes) ≡ with_bytes (passed t s) more
+      offered = passed_bytes t (empty t.order) s.ended s.begun bytes
 
-    put_list : Stands (Funnelled new) (port every halves (Some t)) (with_bytes s bytes)
-    put_list = record {
-      frames = subst (λ (r : Segments). sures.IsSure new.ring.frames every halves r.ended r.begun) (sym offered)
-          (subst (λ (l : List Tagged). sures.IsSure new.ring.frames every halves (passed t s).ended
-          ((passed t s).begun ++ l)) (given old new (bytes_acts bytes) p t s st.funnel)
-          (p.frames.list every halves (passed t s).ended (passed t s).begun st.frames));
-      funnel = record {
-        turns = turns_same old new (bytes_acts bytes) p t s st.funnel;
-        places = places_now old new (bytes_acts bytes) p t s st.funnel
-            ∙ sym (places_bytes t (empty t.order) s.ended s.begun bytes);
-      };
-    }
+      put_list : Stands (Funnelled new) (port every halves (Some t)) (with_bytes s bytes)
+      put_list = record {
+        frames = subst (λ (r : Segments). sures.IsSure new.ring.frames every halves r.ended r.begun) (sym offered)
+            (subst (λ (l : List Tagged). sures.IsSure new.ring.frames every halves (passed t s).ended
+            ((passed t s).begun ++ l)) (given old new (bytes_acts bytes) p t s st.funnel)
+            (p.frames.list every halves (passed t s).ended (passed t s).begun st.frames));
+        funnel = record {
+          turns = turns_same old new (bytes_acts bytes) p t s st.funnel;
+          places = places_now old new (bytes_acts bytes) p t s st.funnel
+              ∙ sym (places_bytes t (empty t.order) s.ended s.begun bytes);
+        };
+      }
 
-    put_grown : sure_of (port every halves (Some t)) (with_bytes s bytes)
-        ≡ sure_of (port every halves (Some t)) s ++ p.frames.more
-    put_grown =
-        ap (λ (r : Segments). sure_after every halves r.ended r.begun) offered
-        ∙ ap (λ (l : List Tagged). sure_after every halves (passed t s).ended ((passed t s).begun ++ l))
-        (sym (given old new (bytes_acts bytes) p t s st.funnel))
-        ∙ p.frames.grown every halves (passed t s).ended (passed t s).begun st.frames
+      put_grown : sure_of (port every halves (Some t)) (with_bytes s bytes)
+          ≡ sure_of (port every halves (Some t)) s ++ p.frames.more
+      put_grown =
+          ap (λ (r : Segments). sure_after every halves r.ended r.begun) offered
+          ∙ ap (λ (l : List Tagged). sure_after every halves (passed t s).ended ((passed t s).begun ++ l))
+          (sym (given old new (bytes_acts bytes) p t s st.funnel))
+          ∙ p.frames.grown every halves (passed t s).ended (passed t s).begun st.frames
 
   puts_list : (every halves : ℕ) (o : Option Turns) (s : Segments) → Stands (Funnelled old) (port every halves o) s →
       Stands (Funnelled new) (port every halves o) (with_bytes s bytes)
@@ -92,50 +92,50 @@ module _ (old new : FunnelledFrames) (bytes : List Tagged) (p : Passes old new (
 module _ (old mid new : FunnelledFrames) (p : Passes old mid (Drain ∷ [])) (same : new.funnel ≡ mid.funnel)
     (e : sures.Ends mid.ring.frames new.ring.frames (kept_in mid.ring) (kept_in new.ring)) where
   module _ (every halves : ℕ) (t : Turns) (s : Segments) (st : Stands (Funnelled old) (port every halves (Some t)) s)
-      where
-    abbrev last : List Tagged
-    last = from_funnel (acts_of old.funnel (Drain ∷ [])).out
+    where
+      abbrev last : List Tagged
+      last = from_funnel (acts_of old.funnel (Drain ∷ [])).out
 
-    abbrev whole : Segments
-    whole = with_bytes (passed t s) last
+      abbrev whole : Segments
+      whole = with_bytes (passed t s) last
 
-    ended : passed t (after_flush s) ≡ after_flush whole
-    ended =
-        passed_ends t (empty t.order) s.ended s.begun
-        ∙ ap (λ (l : List Tagged). after_flush (with_bytes (passed t s) l))
-        (sym (given old mid (Drain ∷ []) p t s st.funnel))
+      ended : passed t (after_flush s) ≡ after_flush whole
+      ended =
+          passed_ends t (empty t.order) s.ended s.begun
+          ∙ ap (λ (l : List Tagged). after_flush (with_bytes (passed t s) l))
+          (sym (given old mid (Drain ∷ []) p t s st.funnel))
 
-    drained : sures.IsSure mid.ring.frames every halves whole.ended whole.begun
-    drained = p.frames.list every halves (passed t s).ended (passed t s).begun st.frames
+      drained : sures.IsSure mid.ring.frames every halves whole.ended whole.begun
+      drained = p.frames.list every halves (passed t s).ended (passed t s).begun st.frames
 
-    end_list : Stands (Funnelled new) (port every halves (Some t)) (after_flush s)
-    end_list = record {
-      frames = subst (λ (r : Segments). sures.IsSure new.ring.frames every halves r.ended r.begun) (sym ended)
-          (e.list every halves whole.ended whole.begun drained);
-      funnel = record {
-        turns = turns_same old mid (Drain ∷ []) p t s st.funnel ∙ sym (ap turns_by same);
-        places = ap (λ (f : State). f.places) same ∙ places_now old mid (Drain ∷ []) p t s st.funnel
-            ∙ sym (places_ends t (empty t.order) s.ended s.begun);
-      };
-    }
+      end_list : Stands (Funnelled new) (port every halves (Some t)) (after_flush s)
+      end_list = record {
+        frames = subst (λ (r : Segments). sures.IsSure new.ring.frames every halves r.ended r.begun) (sym ended)
+            (e.list every halves whole.ended whole.begun drained);
+        funnel = record {
+          turns = turns_same old mid (Drain ∷ []) p t s st.funnel ∙ sym (ap turns_by same);
+          places = ap (λ (f : State). f.places) same ∙ places_now old mid (Drain ∷ []) p t s st.funnel
+              ∙ sym (places_ends t (empty t.order) s.ended s.begun);
+        };
+      }
 
-    grows : sure_after every halves whole.ended whole.begun ++ e.more
-        ≡ sure_of (port every halves (Some t)) s ++ (p.frames.more ++ e.more)
-    grows =
-        ap (λ (l : List ℕ). l ++ e.more) (p.frames.grown every halves (passed t s).ended (passed t s).begun st.frames)
-        ∙ append_assoc (sure_of (port every halves (Some t)) s) p.frames.more e.more
+      grows : sure_after every halves whole.ended whole.begun ++ e.more
+          ≡ sure_of (port every halves (Some t)) s ++ (p.frames.more ++ e.more)
+      grows =
+          ap (λ (l : List ℕ). l ++ e.more) (p.frames.grown every halves (passed t s).ended (passed t s).begun st.frames)
+          ∙ append_assoc (sure_of (port every halves (Some t)) s) p.frames.more e.more
 
-    end_grown : sure_of (port every halves (Some t)) (after_flush s)
-        ≡ sure_of (port every halves (Some t)) s ++ (p.frames.more ++ e.more)
-    end_grown =
-        ap (λ (r : Segments). sure_after every halves r.ended r.begun) ended
-        ∙ e.grown every halves whole.ended whole.begun drained ∙ grows
+      end_grown : sure_of (port every halves (Some t)) (after_flush s)
+          ≡ sure_of (port every halves (Some t)) s ++ (p.frames.more ++ e.more)
+      end_grown =
+          ap (λ (r : Segments). sure_after every halves r.ended r.begun) ended
+          ∙ e.grown every halves whole.ended whole.begun drained ∙ grows
 
-    end_all : written (port every halves (Some t)) (now_ended s)
-        ≡ sure_of (port every halves (Some t)) s ++ (p.frames.more ++ e.more)
-    end_all =
-        ap (λ (r : Segments). written_segments every halves r.ended) ended
-        ∙ e.all every halves whole.ended whole.begun drained ∙ grows
+      end_all : written (port every halves (Some t)) (now_ended s)
+          ≡ sure_of (port every halves (Some t)) s ++ (p.frames.more ++ e.more)
+      end_all =
+          ap (λ (r : Segments). written_segments every halves r.ended) ended
+          ∙ e.all every halves whole.ended whole.begun drained ∙ grows
 
   ends_list : (every halves : ℕ) (o : Option Turns) (s : Segments) → Stands (Funnelled old) (port every halves o) s →
       Stands (Funnelled new) (port every halves o) (after_flush s)

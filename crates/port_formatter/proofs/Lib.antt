@@ -1,4 +1,3 @@
-pub mod Giving
 pub mod StraightWays
 pub mod RingWays
 pub mod Passings

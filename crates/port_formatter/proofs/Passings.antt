@@ -1,21 +1,18 @@
 -- What frames before which a funnel is do, one thing after the other.
-use Rattle.std.proofs.Common.{◌≡◌, ◌≤◌, ℕ, ◌+◌, ◌*◌, ◌<◌, List, [], ◌∷◌, ◌++◌, ap, sym, ◌∙◌, subst, append-nil, append_assoc}
-use Rattle.std.proofs.Common.{zero, suc, refl, length, take, get_or, arith, true, false, Option, None, Some, Bool}
-use Rattle.std.specs.Prelude.{◌==◌, IsTrue, is_some}
-use Rattle.std.specs.List.{All, list_any}
-use Rattle.std.proofs.lemmas.List.{take_more, map-append}
+use Rattle.std.proofs.Common.{◌≡◌, ◌≤◌, ℕ, ◌+◌, ◌*◌, ◌<◌, List, [], ◌∷◌, ◌++◌, ap, sym, ◌∙◌, subst}
+use Rattle.std.proofs.Common.{append-nil, append_assoc}
+use Rattle.std.proofs.Common.{zero, suc, refl, length, take, get_or, arith, true, false, Option, None, Bool}
+use Rattle.std.specs.Prelude.{IsTrue, is_some}
+use Rattle.std.proofs.lemmas.List.{take_more}
 use Rattle.frame_writer.specs.Sure.{of_one}
-use Rattle.frame_writer.specs.Written.{Tagged}
 use Rattle.trace_funnel.proofs.Acting.{acts_append}
 use Rattle.trace_funnel.proofs.Draining.{drain_none, drain_turn}
-use Rattle.trace_funnel.specs.Acts.{Act, Offer, Turn, Drain, act, acts}
+use Rattle.trace_funnel.specs.Acts.{Act, Offer, Turn, Drain, act}
 use Rattle.trace_funnel.specs.State.{State, with_places}
 use Rattle.trace_funnel.specs.Turns.{Place, Turned, turn, drain, load}
 use Rattle.trace_funnel.specs.declared.tagged.Tagged.{Tagged as Given}
-use Rattle.port_formatter.specs.Passed.{from_funnel, bytes_acts}
+use Rattle.port_formatter.specs.Passed.{bytes_acts}
 use Rattle.port_formatter.specs.Passing.{acts_of, Passes}
-use Rattle.port_formatter.specs.PassedLaws.{from_more}
-use Rattle.port_formatter.specs.Ring.{kept_in}
 use Rattle.port_formatter.specs.declared.funnelled.FunnelledFrames.{FunnelledFrames}
 use Rattle.port_formatter.specs.declared.ring_frames.RingFrames.{RingFrames}
 use Rattle.port_formatter.proofs.RingWays.{Keeps, keeps_none, keeps_join}
@@ -81,8 +78,10 @@ passes_more a b c id bytes i at h e p q =
 pub record Drains (old now : FunnelledFrames) : Type 0 where
   pub given : List Given
   pub all : drain old.funnel.hold old.funnel.places
-      ≡ record { out = given ++ (drain old.funnel.hold now.funnel.places).out;
-      places = (drain old.funnel.hold now.funnel.places).places }
+      ≡ record {
+        out = given ++ (drain old.funnel.hold now.funnel.places).out;
+        places = (drain old.funnel.hold now.funnel.places).places;
+      }
   pub same : now.funnel ≡ with_places old.funnel now.funnel.places
   pub kept : Keeps old.ring now.ring given
 

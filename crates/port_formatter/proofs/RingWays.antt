@@ -1,5 +1,5 @@
 -- Bytes of which what becomes sure is kept in a ring.
-use Rattle.std.proofs.Common.{◌≡◌, ℕ, ◌+◌, ◌<◌, List, [], ◌∷◌, ◌++◌, ap, sym, ◌∙◌, subst, length, take, get_or, true}
+use Rattle.std.proofs.Common.{◌≡◌, ℕ, ◌+◌, ◌<◌, List, [], ◌∷◌, ◌++◌, sym, subst, length, take, get_or, true}
 use Rattle.std.specs.Prelude.{◌==◌}
 use Rattle.std.proofs.lemmas.Bool.{eqb-true}
 use Rattle.std.proofs.lemmas.List.{nil_from_length, take_more}
@@ -24,7 +24,8 @@ nothing_given r given e = subst (Keeps r r) (sym (nil_from_length given (eqb-tru
 pub keeps_join : (a b c : RingFrames) (one two : List Given) → Keeps a b one → Keeps b c two → Keeps a c (one ++ two)
 keeps_join a b c one two k l =
     subst (λ t. Appends a.frames c.frames t (kept_in a) (kept_in c)) (sym (from_more one two))
-    (appends_join a.frames b.frames c.frames (from_funnel one) (from_funnel two) (kept_in a) (kept_in b) (kept_in c) k l)
+    (appends_join a.frames b.frames c.frames (from_funnel one) (from_funnel two) (kept_in a) (kept_in b) (kept_in c)
+    k l)
 
 -- one more of these
 pub keeps_more : (a b c : RingFrames) (given : List Given) (i : ℕ) (d : Given) → i < length given →

@@ -1,15 +1,15 @@
 -- What a funnel passes on grows with what is offered to it.
-use Rattle.std.proofs.Common.{◌≡◌, List, [], ◌∷◌, ◌++◌, sym, ◌∙◌, ap, append_assoc, append-nil}
+use Rattle.std.proofs.Common.{◌≡◌, List, [], ◌∷◌, ◌++◌, ◌∙◌, ap, append_assoc}
 use Rattle.std.proofs.lemmas.List.{map-append}
 use Rattle.frame_writer.specs.Written.{Tagged}
 use Rattle.trace_funnel.proofs.Acting.{acts_append}
 use Rattle.trace_funnel.specs.Acts.{Act, Offer, Drain, offers}
-use Rattle.trace_funnel.specs.Turns.{Place, Turned, empty}
+use Rattle.trace_funnel.specs.Turns.{Place, Turned}
 use Rattle.trace_funnel.specs.declared.tagged.Tagged.{Tagged as Given}
 use Rattle.trace_funnel.specs.declared.turns.Turns.{Turns}
-use Rattle.port_formatter.specs.Passed.{to_funnel, from_funnel, bytes_acts, whole_acts, act_by, passed_from, passed}
-use Rattle.port_formatter.specs.Passed.{all_passed, places_from, places_after}
-use Rattle.port_formatter.specs.Segments.{Segments, with_bytes, now_ended, after_flush}
+use Rattle.port_formatter.specs.Passed.{to_funnel, from_funnel, bytes_acts, whole_acts, act_by, passed_from}
+use Rattle.port_formatter.specs.Passed.{places_from}
+use Rattle.port_formatter.specs.Segments.{Segments, with_bytes, after_flush}
 
 offers_more : (a b : List Tagged) → bytes_acts (a ++ b) ≡ bytes_acts a ++ bytes_acts b
 offers_more a b =

@@ -1,5 +1,5 @@
 -- What is sure of a capture stays so.
-use Rattle.std.proofs.Common.{◌≡◌, ◌≤◌, ℕ, List, [], ◌∷◌, ◌++◌, ◌∙◌, ap, append_assoc, Option, None, Some}
+use Rattle.std.proofs.Common.{◌≡◌, ◌≤◌, ℕ, List, [], ◌++◌, ◌∙◌, ap, append_assoc, Option, None, Some}
 use Rattle.frame_writer.proofs.Fronts as fronts
 use Rattle.frame_writer.specs.Fronts.{sure_after}
 use Rattle.frame_writer.specs.Written.{Tagged, written_segments}

@@ -13,8 +13,8 @@ use trace_funnel::Turns;
 use trace_stream::{ACTION_ROOM, OUTLET_ROOM, Outlet};
 use trace_values::SourceId;
 
-/// Writes bytes of sources as the frames of a port, and keeps of them what stays so whatever comes after it, until it is
-/// given: the frames of ended segments, and of the unfinished segment all but the last.
+/// Writes bytes of sources as the frames of a port, and keeps of them what stays so whatever comes after it, until it
+/// is given: the frames of ended segments, and of the unfinished segment all but the last.
 #[derive(Drop)]
 pub enum Formatter {
     /// Bytes go to the frames straight.
@@ -50,7 +50,12 @@ impl Formatter {
 
     /// One that bytes go through a funnel to, which takes turns so; the rest is as of `new`. It takes all its memory
     /// here, and fails only for want of it.
-    pub fn through(alloc: Global, every: u32, halves: u8, turns: &Turns) -> Result<Formatter, AllocError>
+    pub fn through(
+        alloc: Global,
+        every: u32,
+        halves: u8,
+        turns: &Turns,
+    ) -> Result<Formatter, AllocError>
         requires few { halves ≤ 8 }
         requires sound { IsSoundTurns turns.now }
         ensures stands { IfOk result (λ f. Stands f
@@ -59,9 +64,7 @@ impl Formatter {
         ensures kept { IfOk result (λ f. kept_by f ≡ []) }
         ensures count { IfOk result (λ f. count_of f ≡ 0) }
     {
-        Ok(Formatter::Funnelled(FunnelledFrames::new(
-            alloc, every, halves, turns,
-        )?))
+        Ok(Formatter::Funnelled(FunnelledFrames::new(alloc, every, halves, turns)?))
     }
 
     /// Whether bytes of this source can be put: it has a place in the funnel, or there is none.
@@ -108,7 +111,8 @@ impl Formatter {
         }
     }
 
-    /// Moves the first of what is kept to the outlet, as much as a call may put, and answers whether something was kept.
+    /// Moves the first of what is kept to the outlet, as much as a call may put, and answers whether something was
+    /// kept.
     #[inline]
     pub fn give(&mut self, outlet: &mut Outlet) -> bool
         requires room { length outlet.old + ACTION_ROOM ≤ OUTLET_ROOM }

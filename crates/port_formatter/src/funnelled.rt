@@ -45,7 +45,12 @@ impl FunnelledFrames {
     ghost use Rattle.port_formatter.specs.declared.formatter.Formatter.TheVariants.{Funnelled};
 
     /// Frames of no bytes, as `Formatter::through` says.
-    pub fn new(alloc: Global, every: u32, halves: u8, turns: &Turns) -> Result<FunnelledFrames, AllocError>
+    pub fn new(
+        alloc: Global,
+        every: u32,
+        halves: u8,
+        turns: &Turns,
+    ) -> Result<FunnelledFrames, AllocError>
         requires few { halves ≤ 8 }
         requires sound { IsSoundTurns turns.now }
         ensures stands { IfOk result (λ f. Stands (Funnelled f)

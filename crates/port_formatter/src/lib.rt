@@ -1,5 +1,5 @@
-//! The formatter of a trace port: bytes of sources as frames, which come straight or through a funnel; and of these what
-//! stays so whatever comes after it, kept until it is given to a run's outlet.
+//! The formatter of a trace port: bytes of sources as frames, straight or through a funnel; and of these what stays so
+//! whatever comes after it, kept until it is given to a run's outlet.
 #![tactic(auto)]
 
 mod formatter;

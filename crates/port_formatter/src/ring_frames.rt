@@ -26,7 +26,12 @@ impl RingFrames {
     ghost use Rattle.port_formatter.specs.Ring.{kept_in, filled_of, space_of};
 
     /// Frames of no bytes, with the memory to keep so many.
-    pub fn new(alloc: Global, every: u32, halves: u8, capacity: usize) -> Result<RingFrames, AllocError>
+    pub fn new(
+        alloc: Global,
+        every: u32,
+        halves: u8,
+        capacity: usize,
+    ) -> Result<RingFrames, AllocError>
         requires few { halves ≤ 8 }
         ensures fresh { IfOk result (λ r. IsSure r.frames every halves [] []) }
         ensures count { IfOk result (λ r. count_of r.frames ≡ 0) }

@@ -1,8 +1,8 @@
 -- A drain, turn by turn.
-use Rattle.std.proofs.Common.{◌≡◌, ℕ, zero, suc, ◌<◌, ◌≤◌, List, [], ◌++◌, Bool, true, false, cond, nat_lt, sym, ◌∙◌, ap}
+use Rattle.std.proofs.Common.{◌≡◌, ℕ, zero, suc, ◌<◌, ◌≤◌, List, cond, nat_lt, ◌∙◌, ap}
 use Rattle.std.proofs.Common.{arith}
 use Rattle.std.proofs.lemmas.Bool.{lt-ltb}
-use Rattle.trace_funnel.specs.Turns.{Place, Turned, turn, turns_while, load, drain}
+use Rattle.trace_funnel.specs.Turns.{Place, turn, turns_while, load, drain}
 use Rattle.trace_funnel.proofs.Acting.{enough}
 use Rattle.trace_funnel.proofs.Emptying.{has_bytes, less_load, drained}
 use Rattle.trace_funnel.proofs.Turning.{turn_and, stay}

@@ -158,7 +158,8 @@ module _ (f : Inside) (whole : IsWhole f) (place : ℕ) (h : place < length (sta
           ∙ map_same room_of qs place q new within is same_room)) whole.rooms);
       short = subst (λ n. AreShort n (places_of g.queues.items)) (sym d)
           (subst (AreShort f.depth) (sym (ap places_of a ∙ map_set place_of qs place within new))
-          (put_short f.depth _ (place_of q) (place_of new) _ byte longer_is (let r = room_is in let room = room_left left in omega (arith, r, room))
+          (put_short f.depth _ (place_of q) (place_of new) _ byte longer_is
+          (let r = room_is in let room = room_left left in omega (arith, r, room))
           (subst (AreShort f.depth) parts whole.short)));
       some = (let n = whole.some in omega (arith, n, c));
       held = (let n = whole.held in omega (arith, n, c));

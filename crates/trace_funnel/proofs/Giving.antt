@@ -105,7 +105,8 @@ module _ (f : Inside) (whole : IsWhole f) (read lent : List Queue) (place : ℕ)
             subst (λ n. AreShort n (places_of g.queues.items)) (sym depth)
             (subst (AreShort f.depth)
             (sym (ap places_of items ∙ after next.front next.back next.place next.parts next.number))
-            (turn_short f.depth f.hold next.front next.place next.back (subst (AreShort f.depth) next.parts whole.short)));
+            (turn_short f.depth f.hold next.front next.place next.back
+            (subst (AreShort f.depth) next.parts whole.short)));
         some = (let n = whole.some in omega (arith, n, hold));
         held = (let n = whole.held in omega (arith, n, hold));
         deep = (let n = whole.deep in omega (arith, n, depth));

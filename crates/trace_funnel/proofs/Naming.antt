@@ -1,6 +1,6 @@
 -- Where all places are of sources other than 0, what they give is.
-use Rattle.std.proofs.Common.{◌≡◌, ℕ, zero, suc, ◌<◌, ◌≤◌, List, [], ◌∷◌, ◌++◌, length, map, take}
-use Rattle.std.proofs.Common.{Bool, true, false, cond, sym, ap, subst, arith, Option, None, Some}
+use Rattle.std.proofs.Common.{◌≡◌, ℕ, zero, suc, ◌<◌, List, [], ◌∷◌, ◌++◌, length, map, take}
+use Rattle.std.proofs.Common.{Bool, true, false, cond, sym, subst, arith, Option, None, Some}
 use Rattle.std.specs.Prelude.{◌==◌, ◌&&◌, not, nat_le}
 use Rattle.std.specs.List.{All, AllByRecursion, list_any}
 use Rattle.std.proofs.lemmas.Bool.{and_parts}
@@ -8,7 +8,7 @@ use Rattle.std.proofs.lemmas.Bool.Decides.{nat_tests}
 use Rattle.std.proofs.lemmas.List.Elements.{All-from_recursion, recursion_from_All}
 use Rattle.trace_funnel.specs.declared.tagged.Tagged.{Tagged}
 use Rattle.trace_funnel.specs.Turns.{Place, Found, first_busy, waits, served, longer, tagged, Turned, turn_of}
-use Rattle.trace_funnel.specs.Turns.{turn, turns_while, put, is_full, offer, drain, empty}
+use Rattle.trace_funnel.specs.Turns.{turn, turns_while, put, is_full, offer, empty}
 use Rattle.trace_funnel.specs.Order.{are_apart}
 use Rattle.trace_funnel.proofs.Places.{waits_at, IsFound, found}
 use Rattle.trace_funnel.proofs.Turning.{turn_and, stay}
@@ -48,7 +48,8 @@ turn_keeps hold ps h = by (first_busy ps) (found ps) where
         all_tagged v.place.id (take hold v.place.queue) parts.1.0,
         joined IsNamed (map (waits n) v.behind) (map (waits n) v.before ++ served hold v.place ∷ [])
             (waiting n v.behind parts.1.1)
-            (joined IsNamed (map (waits n) v.before) (served hold v.place ∷ []) (waiting n v.before parts.0) (parts.1.0, tt)),
+            (joined IsNamed (map (waits n) v.before) (served hold v.place ∷ []) (waiting n v.before parts.0)
+            (parts.1.0, tt)),
       )
 
 turns_keep : (test : List Place → Bool) (hold most : ℕ) (ps : List Place) → AreNamed ps →

@@ -1,4 +1,4 @@
-use Rattle.std.proofs.Common.{ℕ, ◌+◌, subst}
+use Rattle.std.proofs.Common.{◌+◌, subst}
 use Rattle.port_formatter.specs.Formatter.{HasRoom}
 use Rattle.port_formatter.specs.declared.formatter.Formatter.{Formatter}
 use Rattle.port_formatter.proofs.StraightWays.{ends_straight}

@@ -1,4 +1,4 @@
-use Rattle.std.proofs.Common.{ℕ, ◌+◌, ◌*◌, length, subst}
+use Rattle.std.proofs.Common.{◌+◌, ◌*◌, length, subst}
 use Rattle.frame_writer.specs.Sure.{of_one}
 use Rattle.port_formatter.specs.Formatter.{HasRoom}
 use Rattle.port_formatter.specs.declared.formatter.Formatter.{Formatter}

@@ -1,8 +1,8 @@
-use Rattle.std.proofs.Common.{◌≡◌, ◌<◌, ap, arith}
+use Rattle.std.proofs.Common.{ap, arith}
 use Rattle.trace_funnel.specs.State.{State}
 use Rattle.trace_funnel.specs.Turns.{load}
 use Rattle.trace_funnel.proofs.Emptying.{less_load}
-use Rattle.port_formatter.proofs.Passings.{drains_none, drains_more, drains_all, is_busy}
+use Rattle.port_formatter.proofs.Passings.{drains_none, drains_more, is_busy}
 use Rattle.port_formatter.proofs.funnelled.FunnelledFrames.drain.Goals as goal
 
 pub loop-self-init : goal.loop-self-init

@@ -1,6 +1,6 @@
-use Rattle.std.proofs.Common.{◌≡◌, ◌≤◌, ℕ}
+use Rattle.std.proofs.Common.{◌≤◌, ℕ}
 use Rattle.trace_funnel.specs.Turns.{load}
-use Rattle.port_formatter.specs.Formatter.{HasRoom, turns_of, count_of}
+use Rattle.port_formatter.specs.Formatter.{HasRoom, count_of}
 use Rattle.port_formatter.specs.declared.formatter.Formatter.TheVariants.{Funnelled}
 use Rattle.port_formatter.proofs.Passings.{Drains}
 use Rattle.port_formatter.proofs.funnelled.FunnelledFrames.drain.Given as goal

@@ -1,4 +1,4 @@
-use Rattle.std.proofs.Common.{ℕ, ◌+◌, refl, arith}
+use Rattle.std.proofs.Common.{◌+◌, refl, arith}
 use Rattle.port_formatter.proofs.FunnelledWays.{funnelled_ends}
 use Rattle.port_formatter.proofs.funnelled.FunnelledFrames.flush.Goals as goal
 

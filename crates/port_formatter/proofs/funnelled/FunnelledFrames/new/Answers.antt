@@ -1,4 +1,4 @@
-use Rattle.std.proofs.Common.{◌≡◌, ◌≤◌, ◌+◌, ◌*◌, ℕ, List, length, ◌∙◌, sym, ap, subst, arith}
+use Rattle.std.proofs.Common.{◌≡◌, ◌*◌, ℕ, length, ◌∙◌, sym, ap, subst, arith}
 use Rattle.std.specs.List.{All}
 use Rattle.trace_funnel.specs.State.{State, fresh}
 use Rattle.trace_funnel.specs.Turns.{load}

@@ -1,4 +1,4 @@
-use Rattle.std.proofs.Common.{List, sym, ◌∙◌, ◌∷◌, [], subst}
+use Rattle.std.proofs.Common.{List, sym, ◌∙◌, subst}
 use Rattle.std.specs.List.{All}
 use Rattle.trace_funnel.specs.Acts.{Offer}
 use Rattle.trace_funnel.specs.State.{State, id_at}

@@ -1,4 +1,4 @@
-use Rattle.std.proofs.Common.{List, sym, ◌∙◌, ◌∷◌, [], subst, arith}
+use Rattle.std.proofs.Common.{List, sym, ◌∙◌, subst, arith}
 use Rattle.std.specs.List.{All}
 use Rattle.trace_funnel.specs.Acts.{Turn}
 use Rattle.trace_funnel.specs.State.{State}

@@ -22,7 +22,8 @@ loop-x-preserved c =
     let one = c.put.ensures in
     record {
       put = keeps_more c.args.self.now c.loop-x.self c.put.new.self c.args.given.now c.loop-x.x-index c.x-item.result
-          c.loop-x-test.true kept.put (subst (λ (x : Given). Keeps c.loop-x.self c.put.new.self (x ∷ [])) c.x-item.is one.put);
+          c.loop-x-test.true kept.put
+          (subst (λ (x : Given). Keeps c.loop-x.self c.put.new.self (x ∷ [])) c.x-item.is one.put);
       moved = one.moved;
       count = (let a = kept.count in let b = one.count in omega (arith, a, b));
       filled = (let a = kept.filled in let b = one.filled in omega (arith, a, b));

@@ -1,4 +1,4 @@
-use Rattle.std.proofs.Common.{length, ◌+◌, ◌++◌, ◌∙◌, ap, arith}
+use Rattle.std.proofs.Common.{length, ◌++◌, ◌∙◌, ap, arith}
 use Rattle.trace_funnel.specs.Turns.{load}
 use Rattle.trace_funnel.specs.State.{State, turn_by}
 use Rattle.trace_funnel.specs.declared.tagged.Tagged.{Tagged}
