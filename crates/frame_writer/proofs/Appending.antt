@@ -14,7 +14,7 @@ appends_none w out = record {
   grown = λ every halves closed t s. ap (sure_after every halves closed) (append-nil t) ∙ sym (append-nil (sure_after every halves closed t));
 }
 
-appends_join : (a b c : SureWriter) (t u : List Tagged) (first mid last : List ℕ) → Appends a b t first mid → Appends b c u mid last → Appends a c (t ++ u) first last
+pub appends_join : (a b c : SureWriter) (t u : List Tagged) (first mid last : List ℕ) → Appends a b t first mid → Appends b c u mid last → Appends a c (t ++ u) first last
 appends_join a b c t u first mid last one two = record {
   more = one.more ++ two.more;
   appended = two.appended ∙ ap (λ (l : List ℕ). l ++ two.more) one.appended ∙ append_assoc first one.more two.more;

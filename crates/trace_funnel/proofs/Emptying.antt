@@ -41,7 +41,7 @@ less_load hold ps h l = by (first_busy ps) (found ps) where
       let t = ltb-true 0 (length v.place.queue) f.2 in
       omega (arith, a, b, c, d, e, g, s, t, h)
 
-abbrev has_bytes : List Place → Bool
+abbrev pub has_bytes : List Place → Bool
 has_bytes ps = nat_lt 0 (load ps)
 
 pub drained : (hold most : ℕ) (ps : List Place) → 1 ≤ hold → load ps ≤ most →

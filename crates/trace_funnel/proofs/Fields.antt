@@ -19,6 +19,7 @@ use Rattle.trace_funnel.proofs.Places.{IsFound, found}
 use Rattle.trace_funnel.proofs.Emptying.{idle_load, load_append}
 use Rattle.trace_funnel.proofs.Waiting.{put_bounded, waited_few, waited_idle}
 use Rattle.trace_funnel.proofs.Acting.{apart_empty, bounded_empty}
+use Rattle.trace_funnel.proofs.Shortness.{AreShort, empty_short, put_short}
 use Rattle.trace_funnel.proofs.Serving.{map_split, map_set, front_of, back_of, map_same}
 use Rattle.trace_funnel.proofs.Rounding.{count_round, queue_round, waited_round, one_there, queue_there, waited_there}
 use Rattle.trace_funnel.proofs.Rounding.{put_there, put_round, apart_same, ids_put}
@@ -148,14 +149,18 @@ module _ (f : Inside) (whole : IsWhole f) (place : ℕ) (h : place < length (sta
         ∙ ap (λ id. put id byte (round f.next (places_of qs))) (sym id_is))
 
     pub put_whole : (g : Inside) → g.queues.items ≡ set qs place new → g.next ≡ f.next → g.hold ≡ f.hold →
-        g.depth ≡ f.depth →
-        IsWhole g
-    put_whole g a b c d = record {
+        g.depth ≡ f.depth → is_full f.depth (id_at (state_of f) place) (state_of f).places ≡ false → IsWhole g
+    put_whole g a b c d left = record {
       next = (let l = ap length a ∙ length-set qs place new in let n = whole.next in omega (arith, l, n, b));
       few = (let l = ap length a ∙ length-set qs place new in let n = whole.few in omega (arith, l, n));
       rooms = subst (λ n. AllByRecursion (λ room. room ≡ n) (rooms_of g.queues.items)) (sym d)
           (subst (AllByRecursion (λ room. room ≡ f.depth)) (sym (ap rooms_of a
           ∙ map_same room_of qs place q new within is same_room)) whole.rooms);
+      short = subst (λ n. AreShort n (places_of g.queues.items)) (sym d)
+          (subst (AreShort f.depth) (sym (ap places_of a ∙ map_set place_of qs place within new))
+          (put_short f.depth _ (place_of q) (place_of new) _ byte longer_is
+          (let r = room_is in let room = room_left left in omega (arith, r, room))
+          (subst (AreShort f.depth) parts whole.short)));
       some = (let n = whole.some in omega (arith, n, c));
       held = (let n = whole.held in omega (arith, n, c));
       deep = (let n = whole.deep in omega (arith, n, d));
@@ -194,6 +199,7 @@ module _ (f : Inside) (ids : List ℕ) (places : places_of f.queues.items ≡ em
     next = (let l = len_now in omega (arith, l, some, next));
     few = (let l = len_now in omega (arith, l, few));
     rooms = subst (AllByRecursion (λ room. room ≡ f.depth)) (sym rooms) (rooms_same f.depth ids);
+    short = subst (AreShort f.depth) (sym places) (empty_short f.depth ids);
     some = one;
     held = held;
     deep = deep;

@@ -16,6 +16,7 @@ use Rattle.trace_funnel.specs.Inside.{state_of, IsWhole}
 use Rattle.trace_funnel.proofs.Waiting.{turn_bounded}
 use Rattle.trace_funnel.proofs.Rounding.{few_round, at_within, places_is, ids_is, out_is, apart_same}
 use Rattle.trace_funnel.proofs.Fields.{same_state}
+use Rattle.trace_funnel.proofs.Shortness.{AreShort, turn_short}
 
 -- the number behind a place, going round, is that of a place
 behind_within : (place len count : ℕ) → place < count → len ≡ count → cond (place + 1 == len) 0 (place + 1) < count
@@ -100,6 +101,12 @@ module _ (f : Inside) (whole : IsWhole f) (read lent : List Queue) (place : ℕ)
             subst (λ n. AllByRecursion (λ room. room ≡ n) (rooms_of g.queues.items)) (sym depth)
             (subst (AllByRecursion (λ room. room ≡ f.depth)) (sym (ap rooms_of items ∙ rooms ∙ ap rooms_of b))
             whole.rooms);
+        short =
+            subst (λ n. AreShort n (places_of g.queues.items)) (sym depth)
+            (subst (AreShort f.depth)
+            (sym (ap places_of items ∙ after next.front next.back next.place next.parts next.number))
+            (turn_short f.depth f.hold next.front next.place next.back
+            (subst (AreShort f.depth) next.parts whole.short)));
         some = (let n = whole.some in omega (arith, n, hold));
         held = (let n = whole.held in omega (arith, n, hold));
         deep = (let n = whole.deep in omega (arith, n, depth));

@@ -1,8 +1,9 @@
 mod Places
-mod Turning
+pub mod Turning
 mod Waiting
 mod Nearing
-mod Emptying
+pub mod Emptying
+mod Shortness
 pub mod Acting
 mod Finding
 mod Serving
@@ -11,3 +12,7 @@ mod Fields
 mod Offering
 mod Counting
 mod Giving
+pub mod Loading
+pub mod Naming
+pub mod Placing
+pub mod Draining

@@ -14,11 +14,13 @@ state_of f = record {
   places = round f.next (places_of f.queues.items);
 }
 
--- It has from 1 to 16 places, no two of one ID, and each of its queues has the same room. No place waits for too long.
+-- It has from 1 to 16 places, no two of one ID, and each of its queues has the same room, and no more bytes than that.
+-- No place waits for too long.
 pub record IsWhole (f : Inside) : Type 0 where
   pub next : f.next < length f.queues.items
   pub few : length f.queues.items ≤ 16
   pub rooms : AllByRecursion (λ room. room ≡ f.depth) (rooms_of f.queues.items)
+  pub short : AllByRecursion (λ p. length p.queue ≤ f.depth) (places_of f.queues.items)
   pub some : 1 ≤ f.hold
   pub held : f.hold ≤ 15
   pub deep : 1 ≤ f.depth

@@ -1,14 +1,14 @@
 //! A funnel.
 
 ghost use Rattle.std.specs.Prelude.{◌≡◌, ◌==◌, ◌≤◌, ◌<◌, ◌+◌, ◌-◌, ◌*◌, ◌++◌, ◌↔◌, [], length, true, false};
-ghost use Rattle.std.specs.Prelude.{IsTrue, IfOk, if◌then◌else◌};
+ghost use Rattle.std.specs.Prelude.{IsTrue, IfOk, if◌then◌else◌, position};
 ghost use Rattle.arrayvec.specs.ArrayVec.{array_vec_len};
 ghost use Rattle.trace_funnel.specs.Turns.{is_full, put, load};
 ghost use Rattle.trace_funnel.specs.Order.{are_apart};
 ghost use Rattle.trace_funnel.specs.State.{fresh, with_places, turn_by, offer_by, HasPlace};
 ghost use Rattle.trace_funnel.specs.State.{id_at, queue_at, waited_at};
 
-use crate::queue::{MOST_HELD, Queue, next_busy, queues_of, serve};
+use crate::queue::{MOST_HELD, Queue, next_busy, place_in, queues_of, serve};
 use crate::tagged::Tagged;
 use arrayvec::ArrayVec;
 use std::alloc::{AllocError, Global};
@@ -76,6 +76,13 @@ impl Funnel {
         })
     }
 
+    /// The place of this source, if it has one.
+    pub fn place(&self, id: SourceId) -> Option<usize>
+        ensures { result ≡ position (λ x. x == id) self.now.order }
+    {
+        place_in(self.queues.as_slice(), id)
+    }
+
     /// Offers a byte of the source that has this place. Where its queue is full, turns come first until it isn't: at
     /// most as many as there are places. `out` has what they gave.
     pub fn offer(&mut self, place: usize, byte: u8, out: &mut ArrayVec<Tagged, 240>)
@@ -83,6 +90,8 @@ impl Funnel {
         requires empty { out.old.items ≡ [] }
         ensures given { out.new.items ≡ (offer_by self.old place byte).out }
         ensures places { self.new ≡ with_places self.old (offer_by self.old place byte).places }
+        ensures count { length out.new.items + load self.new.places ≡ load self.old.places + 1 }
+        ensures few { load self.new.places ≤ length self.new.order * self.new.depth }
     {
         while self.is_full(place) {
             self.give(out);
@@ -96,6 +105,7 @@ impl Funnel {
         requires { out.old.items ≡ [] }
         ensures given { out.new.items ≡ (turn_by self.old).out }
         ensures places { self.new ≡ with_places self.old (turn_by self.old).places }
+        ensures count { length out.new.items + load self.new.places ≡ load self.old.places }
     {
         self.give(out);
     }
@@ -131,7 +141,8 @@ impl Funnel {
     fn put(&mut self, place: usize, byte: u8)
         requires place { place < length self.old.order }
         requires room { is_full self.old.depth (id_at self.old place) self.old.places ≡ false }
-        ensures { self.new ≡ with_places self.old (put (id_at self.old place) byte self.old.places) }
+        ensures places { self.new ≡ with_places self.old (put (id_at self.old place) byte self.old.places) }
+        ensures few { load self.new.places ≤ length self.new.order * self.new.depth }
     {
         self.queues[place].put(byte);
     }

@@ -1,6 +1,6 @@
 //! The queues of a funnel, one for each place.
 
-ghost use Rattle.std.specs.Prelude.{◌≡◌, ◌≤◌, ◌<◌, ◌+◌, ◌^◌, ◌++◌, [], length, map, position, IfOk, None};
+ghost use Rattle.std.specs.Prelude.{◌≡◌, ◌≤◌, ◌<◌, ◌+◌, ◌^◌, ◌++◌, [], length, map, position, ◌==◌, IfOk, None};
 ghost use Rattle.std.specs.List.{AllByRecursion};
 ghost use Rattle.arrayvec.specs.ArrayVec.{array_vec_len};
 ghost use Rattle.trace_funnel.specs.Turns.{is_busy, waits, served, given, longer, tagged, first_busy};
@@ -116,6 +116,13 @@ fn first_busy_of(queues: &[Queue]) -> Option<usize>
     ensures within { IfSome result (λ index. index < length queues.now) }
 {
     queues.iter().position(|queue| queue.is_busy())
+}
+
+/// Which of these is the first of this source.
+pub fn place_in(queues: &[Queue], id: SourceId) -> Option<usize>
+    ensures { result ≡ position (λ q. q.id == id) queues.now }
+{
+    queues.iter().position(|queue| queue.id == id)
 }
 
 /// Which of these is the first that has bytes, from `next` on, going round.

@@ -1,6 +1,7 @@
 use Rattle.std.proofs.Common.{sym, ◌∙◌, ap}
 use Rattle.trace_funnel.specs.Turns.{Turned}
 use Rattle.trace_funnel.proofs.Offering.{offering_none, offering_more, turns_fall, offering_all, offering_put}
+use Rattle.trace_funnel.proofs.Loading.{offer_load}
 use Rattle.trace_funnel.proofs.funnel.Funnel.offer.Goals as goal
 
 pub loop-self-init : goal.loop-self-init
@@ -25,4 +26,10 @@ returns-clause-given c =
 pub returns-clause-places : goal.returns-clause-places
 returns-clause-places c =
     offering_put c.args.self.now c.loop-self.self c.put.new.self c.args.place c.args.byte c.loop-self.out.items
-    c.loop-self.invariant (sym c.is_full.ensures.full ∙ c.loop-self-test.false) c.put.ensures
+    c.loop-self.invariant (sym c.is_full.ensures.full ∙ c.loop-self-test.false) c.put.ensures.places
+
+pub returns-clause-count : goal.returns-clause-count
+returns-clause-count c =
+    offer_load c.args.self.now c.loop-self.self c.put.new.self c.args.place c.args.byte c.loop-self.out.items
+    c.loop-self.invariant c.is_full.ensures.has (sym c.is_full.ensures.full ∙ c.loop-self-test.false)
+    c.put.ensures.places

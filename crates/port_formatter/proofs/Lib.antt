@@ -1,0 +1,4 @@
+pub mod StraightWays
+pub mod RingWays
+pub mod Passings
+pub mod FunnelledWays

@@ -1,0 +1,9 @@
+pub mod Segments
+pub mod Passed
+pub mod PassedLaws
+pub mod Port
+pub mod PortLaws
+pub mod Ring
+pub mod Passing
+pub mod Formatter
+pub mod FormatterLaws
