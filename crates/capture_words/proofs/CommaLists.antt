@@ -92,16 +92,16 @@ each_length {T} named (first ∷ parts) xs e =
 
 -- == The search, part by part
 
--- what the first parts of a text name, so many of them
-abbrev pub Reads : {T : Type 0} → (Text → Option T) → Text → ℕ → List T → Type 0
-Reads named text i xs = each (map named (take i (cut text))) ≡ Some xs
-
 -- what an iterator gave, its first item and those after it
 pub from_first : {S A B : Type 0} {steps : S → Option A → S → Type 0} {v : A → B} {s : S} {all : List B} →
     YieldsList steps v s all → (next start end : S) (r : Option A) (x : A) (xs : List A) → r ≡ Some x → steps s r next →
     start ≡ next → Yields steps start xs end → Yields steps s (x ∷ xs) end
 from_first {steps = steps} {s = s} road next start end r x xs is step same by =
     (next, subst (λ o. steps s o next) is step, subst (λ i. Yields steps i xs end) same by)
+
+-- what the first parts of a text name, so many of them
+abbrev pub Reads : {T : Type 0} → (Text → Option T) → Text → ℕ → List T → Type 0
+Reads named text i xs = each (map named (take i (cut text))) ≡ Some xs
 
 -- the part at this place
 abbrev pub IsPart : Text → ℕ → Text → Type 0

@@ -1,6 +1,6 @@
 //! Lists of IDs.
 
-ghost use Rattle.std.specs.Prelude.{◌≡◌, ◌≤◌, ◌++◌, ℕ, List, [], IfSome, option_map, length};
+ghost use Rattle.std.specs.Prelude.{◌≡◌, ◌≤◌, ◌++◌, [], IfSome, option_map};
 ghost use Rattle.std.specs.List.{All};
 ghost use Rattle.capture_words.specs.Choices.{AreIds};
 ghost use Rattle.capture_words.specs.Jobs.{again_after};
@@ -9,7 +9,7 @@ ghost use Rattle.capture_words.specs.Values.{ids_named};
 use arrayvec::ArrayVec;
 use decimal_words::id_named;
 use source_events::{KIND_SOURCES, MAPPED_SOURCES, SourceIds};
-use trace_funnel::TurnOrder;
+use trace_funnel::{MOST_PLACES, TurnOrder};
 use trace_values::SourceId;
 
 /// The IDs that a text names: one to `N` from 1 to `greatest`, with commas between.
@@ -41,11 +41,11 @@ pub fn sources_named(text: &str) -> Option<SourceIds>
 }
 
 /// The order of a funnel's turns that a text names: one to sixteen IDs from 1 to 126, with commas between.
-pub fn order_named(text: &str) -> Option<TurnOrder>
+pub fn turn_order_named(text: &str) -> Option<TurnOrder>
     ensures value { result ≡ ids_named 16 126 text.now }
     ensures in_range { IfSome result (AreIds 16 126) }
 {
-    let ids: ArrayVec<SourceId, 16> = ids_named(126, text)?;
+    let ids: ArrayVec<SourceId, MOST_PLACES> = ids_named(126, text)?;
     let mut order = TurnOrder::new();
     for id in ids.as_slice() {
         order.push(*id);

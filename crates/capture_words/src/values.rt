@@ -13,7 +13,7 @@ ghost use Rattle.capture_words.specs.Values.{turn_order_in, hold_in, depth_in, h
 ghost use Rattle.capture_words.specs.Choices.{AreIds};
 
 use crate::choices::{choices_named, window_named};
-use crate::ids::{order_named as turn_order_named, sources_named};
+use crate::ids::{sources_named, turn_order_named};
 use crate::option::CommandOption;
 use crate::recover::Recover;
 use crate::usage::UsageFault;
@@ -46,13 +46,13 @@ pub const LEAST_SIZE: u32 = 16;
 pub const GREATEST_SIZE: u32 = 1 << 24;
 /// The greatest write pointer of a trace buffer, that of the last byte of the greatest; it is 0 where none is given.
 pub const GREATEST_POINTER: u32 = (1 << 24) - 1;
-/// The most bytes that a source of a funnel gives in its turn, and how many where no number is given.
+/// The most bytes that a source of a funnel may be let give in its turn.
 pub const GREATEST_HOLD: u8 = 15;
-/// The same where none is given.
+/// How many bytes it gives at most where no number is given.
 pub const DEFAULT_HOLD: u8 = 4;
-/// The most bytes that a queue of a funnel has, and how many where no number is given.
+/// The greatest depth of a funnel's queues, in bytes.
 pub const GREATEST_DEPTH: u32 = 4096;
-/// The same where none is given.
+/// The depth where no number is given.
 pub const DEFAULT_DEPTH: u32 = 256;
 /// The most ticks of a clock in a second.
 pub const GREATEST_HZ: u64 = 1_000_000_000_000;

@@ -2,7 +2,7 @@ use Rattle.std.proofs.Common.{◌≤◌, Some, length, sym, ◌∙◌, ap, arith
 use Rattle.std.proofs.lemmas.Grind.{common_steps}
 use Rattle.std.proofs.lemmas.List.{take_all}
 use Rattle.capture_words.proofs.IdLists.{ids_is}
-use Rattle.capture_words.proofs.ids.order_named.Goals as goal
+use Rattle.capture_words.proofs.ids.turn_order_named.Goals as goal
 
 pub push-requires : goal.push-requires
 push-requires c =

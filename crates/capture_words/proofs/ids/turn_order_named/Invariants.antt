@@ -1,6 +1,6 @@
 use Rattle.std.proofs.Common.{◌≡◌, Some, take}
 use Rattle.capture_words.specs.Values.{ids_named}
-use Rattle.capture_words.proofs.ids.order_named.Given as goal
+use Rattle.capture_words.proofs.ids.turn_order_named.Given as goal
 
 -- those so far of the IDs that the text names
 abbrev pub invariant-loop-id : goal.invariant-loop-id
