@@ -1,6 +1,7 @@
 -- The lines of the signals that changed.
 use Rattle.std.proofs.Common.{◌≡◌, ◌≢◌, ℕ, zero, suc, ◌+◌, ◌*◌, ◌<◌, ◌≤◌, List, [], ◌∷◌, ◌++◌, length, refl, ◌∙◌, ap}
-use Rattle.std.proofs.Common.{arith, length-append, inl, inr, Option, None, Some, Bool, true, false, cond, set, replicate}
+use Rattle.std.proofs.Common.{arith, length-append, inl, inr, Option, None, Some, Bool, true, false, cond, set}
+use Rattle.std.proofs.Common.{replicate}
 use Rattle.std.specs.Prelude.{◌==◌}
 use Rattle.std.proofs.lemmas.List.{get_or-set_same, get_or-set_other}
 use Rattle.std.proofs.lemmas.Bool.{cases_eq}
@@ -22,11 +23,14 @@ short_line number value = by (is_bit number) where
   vector : List ℕ
   vector = 98 ∷ (binary value ++ 32 ∷ code_of number ∷ 10 ∷ [])
 
-  by : (t : Bool) → length (cond t (binary value ++ code_of number ∷ 10 ∷ []) (98 ∷ (binary value ++ 32 ∷ code_of number ∷ 10 ∷ []))) ≤ 36
+  by : (t : Bool) → length (cond t (binary value ++ code_of number ∷ 10 ∷ [])
+      (98 ∷ (binary value ++ 32 ∷ code_of number ∷ 10 ∷ []))) ≤ 36
   by true =
-      (let h = few_digits value in let l = length-append (binary value) (code_of number ∷ 10 ∷ []) in omega (arith, h, l))
+      (let h = few_digits value in
+      let l = length-append (binary value) (code_of number ∷ 10 ∷ []) in omega (arith, h, l))
   by false =
-      (let h = few_digits value in let l = length-append (binary value) (32 ∷ code_of number ∷ 10 ∷ []) in omega (arith, h, l))
+      (let h = few_digits value in
+      let l = length-append (binary value) (32 ∷ code_of number ∷ 10 ∷ []) in omega (arith, h, l))
 
 chosen : (line : List ℕ) → length line ≤ 36 → (t : Bool) → length (cond t [] line) ≤ 36
 chosen line h true = omega arith
@@ -93,7 +97,8 @@ more_changes (suc n) number old new new2 h =
 same_value : (number : ℕ) (v : Option ℕ) → change number v v ≡ []
 same_value number None = refl
 same_value number (Some value) =
-    ap (λ (t : Bool). cond t [] (value_line number value)) (let e : (value == value) ≡ true = grind (arith, nat_tests) in e)
+    ap (λ (t : Bool). cond t [] (value_line number value))
+    (let e : (value == value) ≡ true = grind (arith, nat_tests) in e)
 
 pub no_changes : (count : ℕ) (values : Values) → changes_of count values values ≡ []
 no_changes zero values = refl

@@ -1,5 +1,6 @@
 -- Values and times after one more packet.
-use Rattle.std.proofs.Common.{◌≡◌, ℕ, zero, suc, ◌+◌, ◌%◌, ◌<◌, List, [], ◌∷◌, ◌++◌, refl, sym, ◌∙◌, ap, arith, append-nil, Option, None, Some}
+use Rattle.std.proofs.Common.{◌≡◌, ℕ, zero, suc, ◌+◌, ◌%◌, ◌<◌, List, [], ◌∷◌, ◌++◌, refl, sym, ◌∙◌, ap, arith}
+use Rattle.std.proofs.Common.{append-nil, Option, None, Some}
 use Rattle.std.proofs.Common.{Bool, true, false, cond, flat_map, inl, inr}
 use Rattle.std.specs.Prelude.{◌==◌, ◌||◌, count_by}
 use Rattle.std.specs.List.{list_any}
@@ -60,7 +61,8 @@ module _ (packets : List ItmPacket) (packet : ItmPacket) where
       ap lost_by (sum_by-append (λ (p : ItmPacket). cond (is_overflow p) 1 0) packets (packet ∷ []))
       ∙ lost_more (count_by is_overflow packets) (is_overflow packet)
 
-  told_push : (number : ℕ) → told number (packets ++ packet ∷ []) ≡ last_told number (told number packets) (told_by packet)
+  told_push : (number : ℕ) →
+      told number (packets ++ packet ∷ []) ≡ last_told number (told number packets) (told_by packet)
   told_push number =
       ap (last_told number None)
       (flat_map-append told_by packets (packet ∷ [])

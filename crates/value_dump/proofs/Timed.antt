@@ -11,7 +11,8 @@ use Rattle.value_dump.proofs.Changes.{front_changes}
 -- the line of a time has at most 41 bytes
 short_time : (time : ℕ) → time < 2 ^ 128 → length (time_line time) ≤ 41
 short_time time h =
-    let k : length (decimal time) ≤ 39 = length-decimal-le_wide 39 time (omega arith) (omega (arith, h)) (omega (arith, h)) in
+    let k : length (decimal time) ≤ 39 =
+    length-decimal-le_wide 39 time (omega arith) (omega (arith, h)) (omega (arith, h)) in
     let l = length-append (decimal time) (10 ∷ []) in
     omega (arith, k, l)
 
@@ -37,7 +38,8 @@ some_before (x ∷ front) byte rest = refl
 -- the line of a value is not empty
 pub some_line : (number value : ℕ) → are_some (value_line number value) ≡ true
 some_line number value = by (is_bit number) where
-  by : (t : Bool) → are_some (cond t (binary value ++ code_of number ∷ 10 ∷ []) (98 ∷ (binary value ++ 32 ∷ code_of number ∷ 10 ∷ []))) ≡ true
+  by : (t : Bool) → are_some (cond t (binary value ++ code_of number ∷ 10 ∷ [])
+      (98 ∷ (binary value ++ 32 ∷ code_of number ∷ 10 ∷ []))) ≡ true
   by true = some_before (binary value) (code_of number) (10 ∷ [])
   by false = refl
 
@@ -72,7 +74,8 @@ module _ (count time : ℕ) (old new : ℕ → Option ℕ) (before held : List �
       ≡ before ++ timed time (changes_of (count + 1) old new)
   held_more =
       ap (λ (t : Bool). held ++ lines_with t time (change count (old count) (new count))) put
-      ∙ ap (λ (l : List ℕ). l ++ lines_with (are_some (changes_of count old new)) time (change count (old count) (new count))) here
+      ∙ ap (λ (l : List ℕ).
+      l ++ lines_with (are_some (changes_of count old new)) time (change count (old count) (new count))) here
       ∙ append_assoc before (timed time (changes_of count old new))
       (lines_with (are_some (changes_of count old new)) time (change count (old count) (new count)))
       ∙ ap (λ (l : List ℕ). before ++ l)

@@ -1,5 +1,6 @@
 -- What hardware packets tell of signals.
-use Rattle.std.proofs.Common.{◌≡◌, ℕ, ◌+◌, ◌<◌, refl, ◌∙◌, ap, subst, arith, [], ◌∷◌, Option, Some, Bool, true, false, cond, inl, inr}
+use Rattle.std.proofs.Common.{◌≡◌, ℕ, ◌+◌, ◌<◌, refl, ◌∙◌, ap, subst, arith, [], ◌∷◌, Option, Some}
+use Rattle.std.proofs.Common.{Bool, true, false, cond, inl, inr}
 use Rattle.std.specs.Prelude.{◌==◌}
 use Rattle.std.proofs.lemmas.Bool.{cases_eq}
 use Rattle.std.proofs.lemmas.Bool.Decides.{nat_tests}
@@ -37,7 +38,8 @@ none_lost (Written comparator size value) h known = never_lost (35 + comparator)
 none_lost (Other disc size value) h known = refl
 
 -- so a hardware packet tells of all signals as its item
-pub item_next : (disc : ℕ) (size : Size) (value : ℕ) → IsInRange (name disc size value) → (number : ℕ) (known : Option ℕ) →
+pub item_next : (disc : ℕ) (size : Size) (value : ℕ) → IsInRange (name disc size value) → (number : ℕ)
+    (known : Option ℕ) →
     last_told number known (told_by_item (name disc size value)) ≡ value_next (Hardware disc size value) number known
 item_next disc size value h number known = elim (cases_eq number 39) [
   | inl e ↦ (

@@ -27,8 +27,8 @@ abbrev pub change : ℕ → Option ℕ → Option ℕ → List ℕ
 change number old None = []
 change number old (Some value) = if has_value old value then [] else value_line number value
 
--- the lines of the signals that changed from the first of two moments to the second, each by its values then: of so many
--- signals, and of all
+-- the lines of the signals that changed from the first of two moments to the second, each by its values then: of so
+-- many signals, and of all
 abbrev pub changes_of : ℕ → (ℕ → Option ℕ) → (ℕ → Option ℕ) → List ℕ
 changes_of zero old new = []
 changes_of (suc number) old new = changes_of number old new ++ change number (old number) (new number)

@@ -12,7 +12,8 @@ lines_append hz before (x ∷ xs) ys =
     ap (λ (l : List ℕ). packet_lines hz before x ++ l) (lines_append hz (before ++ x ∷ []) xs ys)
     ∙ sym (append_assoc (packet_lines hz before x) (lines_after hz (before ++ x ∷ []) xs)
     (lines_after hz ((before ++ x ∷ []) ++ xs) ys))
-    ∙ ap (λ (l : List ItmPacket). (packet_lines hz before x ++ lines_after hz (before ++ x ∷ []) xs) ++ lines_after hz l ys)
+    ∙ ap (λ (l : List ItmPacket). (packet_lines hz before x ++ lines_after hz (before ++ x ∷ []) xs)
+    ++ lines_after hz l ys)
     (append_assoc before (x ∷ []) xs)
 
 -- the packets of a source among two lists of events

@@ -12,7 +12,8 @@ comment (Some hz) = codes "$comment local timestamps by a clock of " ++ (decimal
 
 abbrev pub variable : ℕ × Signal → List ℕ
 variable (number, signal) =
-    codes "$var wire " ++ (decimal signal.width ++ (codes " " ++ (code_of number ∷ codes " " ++ (signal.name ++ codes " $end\n"))))
+    codes "$var wire " ++ (decimal signal.width
+    ++ (codes " " ++ (code_of number ∷ codes " " ++ (signal.name ++ codes " $end\n"))))
 
 abbrev pub unknown : ℕ × Signal → List ℕ
 unknown (number, signal) =

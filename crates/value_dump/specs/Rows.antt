@@ -1,5 +1,5 @@
 -- Packets of worked rows.
-use Rattle.std.specs.Prelude.{ℕ, ◌+◌, ◌*◌, List, [], ◌++◌, Option}
+use Rattle.std.specs.Prelude.{ℕ, ◌+◌, ◌*◌, List, [], ◌++◌, Option, get_or}
 unfoldable pub use Rattle.std.specs.Fmt.{digits}
 use Rattle.value_dump.specs.Names.{ItmPacket, Software, Hardware, Local}
 use Rattle.capture_actions.specs.Rows.{itm}
@@ -7,11 +7,18 @@ use Rattle.trace_values.specs.Hex.{hex}
 use Rattle.trace_values.specs.declared.reading_modes.FramesMode.TheVariants.{Bare}
 use Rattle.trace_values.specs.declared.reading_modes.PacketsMode.TheVariants.{Aligned}
 use Rattle.value_dump.specs.Dump.{lines_after, pending}
+use Rattle.value_dump.specs.Header.{variable}
+use Rattle.value_dump.specs.Signals.{signal, signals}
 use Rattle.value_dump.specs.Vcd.{packets_of}
 use Rattle.itm_grammar.specs.declared.packet.Size.TheVariants.{One, Two, Four}
 use Rattle.itm_grammar.specs.declared.packet.Lateness.TheVariants.{Exact}
 
--- a local timestamp, a value that software wrote to a port, and an exception by its number: entered, exited, returned to
+-- the line of the declaration of a signal
+abbrev pub declared : ℕ → List ℕ
+declared number = variable (number, get_or signals number (signal [] 0))
+
+-- a local timestamp, a value that software wrote to a port, and an exception by its number: it is entered, exited, or
+-- returned to
 abbrev pub stamp : ℕ → ItmPacket
 stamp delta = Local Exact delta
 

@@ -6,8 +6,8 @@ use Rattle.value_dump.specs.Dumping.{Stands, hz_of, owed_by}
 use Rattle.value_dump.specs.declared.dump.TheConstants.{PACKET_ROOM}
 use Rattle.value_dump.specs.declared.source_dump.SourceDump.{SourceDump}
 
--- Its dump took the packets of its source among these events, and their lines were put. An outlet's value is the list of
--- its bytes.
+-- Its dump took the packets of its source among these events, and their lines were put. An outlet's value is the list
+-- of its bytes.
 pub record SourceDumpGets (old : SourceDump × List ℕ) (es : List (Event Packet)) (new : SourceDump × List ℕ)
     : Type 0 where
   pub source : new.0.source ≡ old.0.source

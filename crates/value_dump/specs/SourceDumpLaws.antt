@@ -22,7 +22,8 @@ gets_more a b c es fs g h =
     let two = itm_packets a.0.source fs in
     let hz = hz_of a.0.dump in
     let same : itm_packets b.0.source fs ≡ two = ap (λ (s : Option ℕ). itm_packets s fs) g.source in
-    let both : (before : List ItmPacket) → (before ++ one) ++ itm_packets b.0.source fs ≡ before ++ itm_packets a.0.source (es ++ fs) =
+    let both : (before : List ItmPacket) →
+    (before ++ one) ++ itm_packets b.0.source fs ≡ before ++ itm_packets a.0.source (es ++ fs) =
     (λ before. append_assoc before one (itm_packets b.0.source fs)
     ∙ ap (λ (l : List ItmPacket). before ++ (one ++ l)) same
     ∙ ap (λ (l : List ItmPacket). before ++ l) (sym (packets_append a.0.source es fs))) in
@@ -30,7 +31,8 @@ gets_more a b c es fs g h =
       source = h.source ∙ g.source;
       hz = h.hz ∙ g.hz;
       stands = λ before k.
-          subst (λ (l : List ItmPacket). Stands c.0.dump l) (both before) (h.stands (before ++ one) (g.stands before k));
+          subst (λ (l : List ItmPacket). Stands c.0.dump l) (both before)
+          (h.stands (before ++ one) (g.stands before k));
       text = λ before k.
           h.text (before ++ one) (g.stands before k)
           ∙ ap (λ (z : Option ℕ). b.1 ++ lines_after z (before ++ one) (itm_packets b.0.source fs)) g.hz

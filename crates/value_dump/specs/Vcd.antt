@@ -23,7 +23,7 @@ beginning p (byte ∷ bytes) = []
 abbrev pub ending : VcdPlan → List ℕ → List ℕ
 ending p bytes = beginning p bytes ++ pending p.hz (packets_of p bytes)
 
--- All that `vcd` makes of the bytes of a capture. What is pending is of bytes that were read: it is written where a read
--- failed and at the limit, too.
+-- All that `vcd` makes of the bytes of a capture. What is pending is of bytes that were read: it is written where a
+-- read failed and at the limit, too.
 abbrev pub vcd_meaning : VcdPlan → Meaning
 vcd_meaning p = record { faulty = IsFaulty p.plan; text = dump p; ending = ending p; due = true }

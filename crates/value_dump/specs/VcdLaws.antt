@@ -1,8 +1,8 @@
 -- How what `vcd` writes grows with the bytes of the capture.
 use Rattle.std.proofs.Common.{◌≡◌, ℕ, List, [], ◌∷◌, ◌++◌, ◌<◌, length, refl, sym, ◌∙◌, ap, append_assoc}
 use Rattle.std.proofs.Common.{append-nil, arith}
-use Rattle.value_dump.specs.Names.{Event, IsFaulty, IsLawful, ItmPacket, Packet, itm_packets, placed, report_of, source_of}
-use Rattle.value_dump.specs.Names.{sources_by}
+use Rattle.value_dump.specs.Names.{Event, IsFaulty, IsLawful, ItmPacket, Packet, itm_packets, placed, report_of}
+use Rattle.value_dump.specs.Names.{source_of, sources_by}
 use Rattle.capture_actions.specs.FaultyLaws as laws
 use Rattle.source_events.proofs.Captures as captures
 use Rattle.source_events.proofs.Lawful.{plan_lawful}

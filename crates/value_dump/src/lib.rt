@@ -4,6 +4,7 @@
 mod binary;
 mod dump;
 mod header;
+pub mod laws;
 mod lines;
 pub mod rows;
 mod signals;

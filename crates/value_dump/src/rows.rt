@@ -1,12 +1,13 @@
 //! Worked rows of value dumps, which the checker computes.
 
-ghost use Rattle.std.specs.Prelude.{◌≡◌, ◌∷◌, [], ◌==◌, codes, None, Some, length, map, get_or};
+ghost use Rattle.std.specs.Prelude.{◌≡◌, ◌∷◌, ◌++◌, [], ◌==◌, codes, None, Some, length, map};
 ghost use Rattle.std.specs.List.{range_with_len};
 ghost use Rattle.value_dump.specs.Names.{Overflow};
 ghost use Rattle.value_dump.specs.Header.{comment, header, unknown, variable};
 ghost use Rattle.value_dump.specs.Lines.{binary, nanoseconds, value_line};
 ghost use Rattle.value_dump.specs.Signals.{is_bit, signals, signal};
-ghost use Rattle.value_dump.specs.Rows.{capture_row, row, stamp, written, enters, exits, returns_to, sample, sleep, reads, writes};
+ghost use Rattle.value_dump.specs.Rows.{capture_row, declared, row, stamp, written, enters, exits, returns_to, sample};
+ghost use Rattle.value_dump.specs.Rows.{sleep, reads, writes};
 ghost use Rattle.value_dump.specs.declared.signals.TheConstants.{EXCEPTION, PC, ASLEEP, FIRST_PORT};
 ghost use Rattle.value_dump.specs.declared.signals.TheConstants.{FIRST_COMPARATOR, LOST, SIGNALS};
 
@@ -15,13 +16,13 @@ ghost use Rattle.value_dump.specs.declared.signals.TheConstants.{FIRST_COMPARATO
 pub fn declared()
     ensures count { length signals ≡ SIGNALS }
     ensures bits { map is_bit (range_with_len 0 SIGNALS) ≡ map (λ s. s.width == 1) signals }
-    ensures exception { variable (EXCEPTION, get_or signals EXCEPTION (signal [] 0)) ≡ codes "$var wire 9 ! exception $end\n" }
-    ensures pc { variable (PC, get_or signals PC (signal [] 0)) ≡ codes "$var wire 32 \" pc $end\n" }
-    ensures asleep { variable (ASLEEP, get_or signals ASLEEP (signal [] 0)) ≡ codes "$var wire 1 # asleep $end\n" }
-    ensures port { variable (FIRST_PORT, get_or signals FIRST_PORT (signal [] 0)) ≡ codes "$var wire 32 $ port0 $end\n" }
-    ensures last_port { variable (34, get_or signals 34 (signal [] 0)) ≡ codes "$var wire 32 C port31 $end\n" }
-    ensures comparator { variable (FIRST_COMPARATOR, get_or signals FIRST_COMPARATOR (signal [] 0)) ≡ codes "$var wire 32 D cmp0 $end\n" }
-    ensures lost { variable (LOST, get_or signals LOST (signal [] 0)) ≡ codes "$var wire 1 H lost $end\n" }
+    ensures exception { declared EXCEPTION ≡ codes "$var wire 9 ! exception $end\n" }
+    ensures pc { declared PC ≡ codes "$var wire 32 \" pc $end\n" }
+    ensures asleep { declared ASLEEP ≡ codes "$var wire 1 # asleep $end\n" }
+    ensures port { declared FIRST_PORT ≡ codes "$var wire 32 $ port0 $end\n" }
+    ensures last_port { declared 34 ≡ codes "$var wire 32 C port31 $end\n" }
+    ensures comparator { declared FIRST_COMPARATOR ≡ codes "$var wire 32 D cmp0 $end\n" }
+    ensures lost { declared LOST ≡ codes "$var wire 1 H lost $end\n" }
     ensures vector { unknown (PC, signal (codes "pc") 32) ≡ codes "bx \"\n" }
     ensures scalar { unknown (LOST, signal (codes "lost") 1) ≡ codes "xH\n" }
     ensures ticks { comment None ≡ codes "$comment 1 ns stands for one tick of the local timestamps $end\n" }
@@ -47,7 +48,8 @@ pub fn lines()
 pub fn dumps()
     ensures nothing { row None [] ≡ codes "" }
     ensures no_stamp { row None (written 0 5 ∷ []) ≡ codes "#0\nb101 $\n" }
-    ensures two_stamps { row None (written 0 5 ∷ stamp 10 ∷ written 1 0 ∷ stamp 7 ∷ []) ≡ codes "#10\nb101 $\n#17\nb0 %\n" }
+    ensures two_stamps { row None (written 0 5 ∷ stamp 10 ∷ written 1 0 ∷ stamp 7 ∷ []) ≡
+        codes "#10\nb101 $\n#17\nb0 %\n" }
     ensures last_value { row None (written 0 5 ∷ written 0 6 ∷ stamp 10 ∷ []) ≡ codes "#10\nb110 $\n" }
     ensures same_value { row None (written 0 5 ∷ stamp 10 ∷ written 0 5 ∷ stamp 10 ∷ []) ≡ codes "#10\nb101 $\n" }
     ensures no_change { row None (stamp 10 ∷ written 0 5 ∷ stamp 1 ∷ []) ≡ codes "#11\nb101 $\n" }
@@ -57,7 +59,8 @@ pub fn dumps()
         codes "#1\nb1111 !\n#3\nb0 !\n" }
     ensures sleeps { row None (sleep ∷ stamp 1 ∷ sample 8 ∷ stamp 1 ∷ []) ≡ codes "#1\n1#\n#2\nb1000 \"\n0#\n" }
     ensures comparators { row None (reads 0 7 ∷ writes 2 255 ∷ stamp 4 ∷ []) ≡ codes "#4\nb111 D\nb11111111 F\n" }
-    ensures losses { row None (Overflow ∷ stamp 4 ∷ Overflow ∷ stamp 4 ∷ Overflow ∷ stamp 4 ∷ []) ≡ codes "#4\n1H\n#8\n0H\n#12\n1H\n" }
+    ensures losses { row None (Overflow ∷ stamp 4 ∷ Overflow ∷ stamp 4 ∷ Overflow ∷ stamp 4 ∷ []) ≡
+        codes "#4\n1H\n#8\n0H\n#12\n1H\n" }
     ensures by_hertz { row (Some 3) (written 0 1 ∷ stamp 1 ∷ written 0 2 ∷ stamp 1 ∷ written 0 3 ∷ []) ≡
         codes "#333333333\nb1 $\n#666666666\nb10 $\n#666666666\nb11 $\n" }
 {}
@@ -66,7 +69,8 @@ pub fn dumps()
 /// comparator, an overflow, two local timestamps and a value that is pending; nothing; and one up to a fault.
 pub fn captures()
     ensures all { capture_row (Some 3) (codes "0E 0F 10 17 08 00 00 00 15 00 01 41 09 5A 8D 2A 70 10 01 42 10 01 43") ≡
-        codes "#333333333\nb1111 !\nb1000 \"\n1#\nb1000001 $\nb1011010 %\nb101010 D\n1H\n#666666666\nb1000010 $\n#666666666\nb1000011 $\n" }
+        codes "#333333333\nb1111 !\nb1000 \"\n1#\nb1000001 $\nb1011010 %\nb101010 D\n1H\n"
+        ++ codes "#666666666\nb1000010 $\n#666666666\nb1000011 $\n" }
     ensures nothing { capture_row None (codes "") ≡ codes "" }
     ensures fault { capture_row None (codes "01 41 10 01 42 04 01 43") ≡ codes "#1\nb1000001 $\n#1\nb1000010 $\n" }
 {}

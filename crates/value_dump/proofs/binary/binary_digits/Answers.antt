@@ -20,7 +20,9 @@ loop-start-preserved c =
     (digit_glyph_below_ten false _ _ (omega arith) (omega arith))) in (
       omega (arith, l.invariant.0),
       size,
-      written ∙ sym (digits_onto_step 2 false l.rest (drop l.start l.out) l.start c.loop-start-test.true c.if-rest-eq0.false)
+      written
+          ∙ sym (digits_onto_step 2 false l.rest (drop l.start l.out) l.start c.loop-start-test.true
+          c.if-rest-eq0.false)
           ∙ l.invariant.2,
     )
 

@@ -16,5 +16,6 @@ returns-in-Hardware-clause-latest c = λ number.
     let known = latest_of c.args.values.now number in
     c.tell_item.ensures.latest number
     ∙ ap (λ (item : DwtItem). last_told number known (told_by_item item)) c.meaning.ensures
-    ∙ item_next h.disc h.size h.value (means_proper c.args.packet.now h.disc h.size h.value h.is c.requires) number known
+    ∙ item_next h.disc h.size h.value (means_proper c.args.packet.now h.disc h.size h.value h.is c.requires) number
+    known
     ∙ ap (λ (packet : ItmPacket). value_next packet number known) (sym h.is)

@@ -1,4 +1,5 @@
-use Rattle.std.proofs.Common.{◌≡◌, ◌∙◌, ◌∷◌, [], ◌++◌, ℕ, List, Option, ap, sym, refl, false, arith, append-nil, Bool, cond}
+use Rattle.std.proofs.Common.{◌≡◌, ◌∙◌, ◌∷◌, [], ◌++◌, ℕ, List, Option, ap, sym, refl, false, arith}
+use Rattle.std.proofs.Common.{append-nil, Bool, cond}
 use Rattle.trace_clock.specs.LocalTime.{local_time}
 use Rattle.value_dump.specs.Dump.{known, is_local, stamp_lines}
 use Rattle.value_dump.specs.Lines.{nanoseconds}
@@ -17,7 +18,8 @@ returns-in_default c =
       hz = refl;
       stands = λ packets s. record {
         clock = s.clock ∙ ap local_time (sym (ticks_other packets packet other));
-        time = s.time ∙ ap (λ (l : List ℕ). nanoseconds dump.hz (local_time l)) (sym (ticks_other packets packet other));
+        time = s.time
+            ∙ ap (λ (l : List ℕ). nanoseconds dump.hz (local_time l)) (sym (ticks_other packets packet other));
         latest = λ number.
             c.tell.ensures.latest number ∙ ap (value_next packet number) (s.latest number)
             ∙ sym (value_push packets packet number);

@@ -2,7 +2,8 @@ use Rattle.std.proofs.Common.{◌∙◌, ◌<◌, ◌++◌, ℕ, Bool, List, Opt
 use Rattle.std.specs.Prelude.{option_map}
 use Rattle.std.proofs.lemmas.List.{length-take-le}
 use Rattle.capture_actions.proofs.Feeding.{stands_after, report_after, report_here, stop_after, flow_after}
-use Rattle.value_dump.specs.Names.{Event, FaultAfter, IsFaulty, ItmPacket, Packet, itm_packets, placed, report_of, source_of, stop_of}
+use Rattle.value_dump.specs.Names.{Event, FaultAfter, IsFaulty, ItmPacket, Packet, itm_packets, placed, report_of}
+use Rattle.value_dump.specs.Names.{source_of, stop_of}
 use Rattle.value_dump.specs.Dump.{lines_after}
 use Rattle.value_dump.specs.DumpLaws.{packets_append}
 use Rattle.value_dump.specs.Dumping as dumping
@@ -54,7 +55,8 @@ returns-clause-fed c = λ seen s.
       gained = put.text before s.dump
           ∙ ap (λ (l : List ℕ). l ++ lines_after p.hz before (itm_packets old.source.source given))
           (c.begin.ensures.text seen s)
-          ∙ append_assoc c.args.outlet.now (beginning p seen) (lines_after p.hz before (itm_packets old.source.source given))
+          ∙ append_assoc c.args.outlet.now (beginning p seen)
+          (lines_after p.hz before (itm_packets old.source.source given))
           ∙ ap (λ (i : Option ℕ). c.args.outlet.now
           ++ (beginning p seen ++ lines_after p.hz (itm_packets i report) (itm_packets i given))) s.source;
       fault = subst (λ (f : Bool). FaultAfter (IsFaulty p.plan) (seen ++ bytes) f)
