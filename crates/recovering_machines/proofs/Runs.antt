@@ -38,7 +38,7 @@ run_more s r xs ys =
 pub lifted_append : (a b : List (Said (Heard Packet) × Place)) → lifted (a ++ b) ≡ lifted a ++ lifted b
 lifted_append a b = map-append (λ (e : Said (Heard Packet) × Place). (what_of e.0, e.1)) a b
 
-told_append : (id : ℕ) (a b : List (Said (Heard Packet) × Place)) →
+pub told_append : (id : ℕ) (a b : List (Said (Heard Packet) × Place)) →
     told (Some id) (lifted (a ++ b)) ≡ told (Some id) (lifted a) ++ told (Some id) (lifted b)
 told_append id a b =
     ap (told (Some id)) (lifted_append a b)

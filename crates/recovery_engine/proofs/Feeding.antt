@@ -1,10 +1,11 @@
 -- More bytes of the port.
 use Rattle.std.proofs.Common.{◌≡◌, ◌≢◌, ℕ, ◌+◌, List, [], ◌∷◌, ◌++◌, refl, sym, ◌∙◌, ap, subst}
-use Rattle.std.proofs.Common.{append-nil, arith, None, map}
+use Rattle.std.proofs.Common.{append-nil, append_assoc, arith, drop, get_or, length, map, suc, take, zero, ◌<◌, ◌-◌}
 use Rattle.std.proofs.lemmas.Grind.{flat_map-append}
-use Rattle.std.proofs.lemmas.List.{map-append}
+use Rattle.std.proofs.lemmas.List.{length-take-le, map-append, take_more}
 use Rattle.trace_values.specs.declared.cell.Cell.{Cell}
-use Rattle.trace_values.specs.Placed.{Placed, byte_at}
+use Rattle.trace_values.specs.Placed.{Placed, byte_at, placed_from}
+use Rattle.trace_values.proofs.Placing.{placed_from_push}
 use Rattle.trace_values.specs.declared.reading_modes.FramesMode.{FramesMode}
 use Rattle.trace_values.specs.declared.reading_modes.FramesMode.TheVariants.{Hunt, Aligned, Bare}
 use Rattle.deformatter.specs.declared.step.PortStep.{PortStep}
@@ -16,7 +17,7 @@ use Rattle.deformatter.specs.PortReading.{bare_cell}
 use Rattle.source_events.specs.declared.event.Event.{Event}
 use Rattle.source_events.specs.declared.packet.Packet.{Packet}
 use Rattle.source_events.specs.declared.plan.Plan.{Plan}
-use Rattle.source_events.specs.Runs.{all_runs, runs_of}
+use Rattle.source_events.specs.Runs.{all_runs, bytes_of, runs_of}
 use Rattle.stretch_readings.specs.declared.heard.Heard.{Heard}
 use Rattle.stretch_readings.proofs.StretchLaws.{from_append}
 use Rattle.stretch_readings.specs.Stretches.{One, Stretches, fed, fed_from, before}
@@ -26,7 +27,7 @@ use Rattle.recovering_machines.specs.declared.port.RecoveringPort.{RecoveringPor
 use Rattle.recovering_machines.proofs.Feeding.{none_before}
 use Rattle.recovery_report.specs.Port.{port_stretches, recovered, of_stretches}
 use Rattle.recovery_report.specs.Report.{Part, Run, Locks, parts_in, report, report_from}
-use Rattle.recovery_report.specs.Words.{parts_by}
+use Rattle.recovery_report.specs.Words.{AreOf, parts_by, singles}
 use Rattle.recovery_report.proofs.PortLaws as laws
 use Rattle.recovery_engine.specs.Port.{PortStands}
 use Rattle.recovery_engine.specs.Slots.{StandFor}
@@ -72,7 +73,70 @@ bare_parts u b =
     ∙ map-append Run (all_runs (bare_frames u)) (runs_of (bare_cell b ∷ []) ++ [])
     ∙ ap (λ l. l ++ map Run (runs_of (bare_cell b ∷ []))) (sym (bare_parts_are u))
 
--- what was taken is what the byte adds
+-- one cell is one run
+one_run : (c : Cell) → runs_of (c ∷ []) ≡ (c ∷ []) ∷ []
+one_run c = refl
+
+pub bare_more : (w u : List Placed) →
+    parts_in (recovered Bare (u ++ w)) ≡ parts_in (recovered Bare u) ++ singles (map bare_cell w)
+bare_more [] u = ap (λ (v : List Placed). parts_in (recovered Bare v)) (append-nil u)
+    ∙ sym (append-nil (parts_in (recovered Bare u)))
+bare_more (b ∷ w) u =
+    ap (λ (v : List Placed). parts_in (recovered Bare v)) (sym (append_assoc u (b ∷ []) w))
+    ∙ bare_more w (u ++ b ∷ [])
+    ∙ ap (λ l. l ++ singles (map bare_cell w)) (bare_parts u b
+    ∙ ap (λ l. parts_in (recovered Bare u) ++ map Run l) (one_run (bare_cell b)))
+    ∙ append_assoc (parts_in (recovered Bare u)) (Run (bare_cell b ∷ []) ∷ []) (singles (map bare_cell w))
+
+-- they are all of source 1, and have the bytes' values
+pub bare_of : (w : List Placed) → AreOf 1 (map bare_cell w)
+bare_of [] = tt
+bare_of (b ∷ w) = (refl, bare_of w)
+
+pub bare_bytes : (at : ℕ) (bytes : List ℕ) → bytes_of (map bare_cell (placed_from at bytes)) ≡ bytes
+bare_bytes at [] = refl
+bare_bytes at (b ∷ bytes) = ap (λ (l : List ℕ). b ∷ l) (bare_bytes (at + 1) bytes)
+
+pub bare_size : (at : ℕ) (bytes : List ℕ) → length (map bare_cell (placed_from at bytes)) ≡ length bytes
+bare_size at [] = refl
+bare_size at (b ∷ bytes) = ap suc (bare_size (at + 1) bytes)
+
+pub bare_push : (at i : ℕ) (bytes : List ℕ) → i < length bytes →
+    map bare_cell (placed_from at (take (i + 1) bytes))
+    ≡ map bare_cell (placed_from at (take i bytes)) ++ bare_cell (byte_at (at + i) (get_or bytes i 0)) ∷ []
+bare_push at i bytes l =
+    ap (map bare_cell) (ap (placed_from at) (take_more bytes i 0 l)
+    ∙ placed_from_push at (take i bytes) (get_or bytes i 0)
+    ∙ ap (λ (n : ℕ). placed_from at (take i bytes) ++ byte_at (at + n) (get_or bytes i 0) ∷ [])
+    (length-take-le i bytes (omega (arith, l))))
+    ∙ map-append bare_cell (placed_from at (take i bytes)) (byte_at (at + i) (get_or bytes i 0) ∷ [])
+
+-- the next of a list, and the slice of it alone
+pub next_map : {A B : Type 0} (f : A → B) (i : ℕ) (xs : List A) → i < length xs →
+    (x : A) × (take (i + 1) xs ≡ take i xs ++ x ∷ []) × (take (i + 1 - i) (drop i (map f xs)) ≡ f x ∷ [])
+next_map f i [] l = absurd (omega (arith, l))
+next_map f zero (x ∷ xs) l = (x, refl, refl)
+next_map f (suc i) (x ∷ xs) l =
+    let r = next_map f i xs (omega (arith, l)) in (
+      r.0,
+      ap (λ (k : ℕ). take k (x ∷ xs)) (let z : suc i + 1 ≡ suc (i + 1) = omega arith in z)
+          ∙ ap (λ ys. x ∷ ys) r.1,
+      ap (λ (k : ℕ). take k (drop i (map f xs))) (let z : suc i + 1 - suc i ≡ i + 1 - i = omega arith in z) ∙ r.2,
+    )
+
+pub next_of : {A : Type 0} (i : ℕ) (xs : List A) → i < length xs →
+    (x : A) × (take (i + 1) xs ≡ take i xs ++ x ∷ []) × (take (i + 1 - i) (drop i xs) ≡ x ∷ [])
+next_of i [] l = absurd (omega (arith, l))
+next_of zero (x ∷ xs) l = (x, refl, refl)
+next_of (suc i) (x ∷ xs) l =
+    let r = next_of i xs (omega (arith, l)) in (
+      r.0,
+      ap (λ (k : ℕ). take k (x ∷ xs)) (let z : suc i + 1 ≡ suc (i + 1) = omega arith in z)
+          ∙ ap (λ ys. x ∷ ys) r.1,
+      ap (λ (k : ℕ). take k (drop i xs)) (let z : suc i + 1 - suc i ≡ i + 1 - i = omega arith in z) ∙ r.2,
+    )
+
+-- what was taken is what the bytes add
 module _ {S : Type 0} (gets : S → List (Event (Heard Packet)) → S →
     Type 0) (plan : Plan) (u w : List Placed) (more : List Part) (old new : List RecoveringSlot × S)
     (e : parts_in (recovered plan.frames w) ≡ parts_in (recovered plan.frames u) ++ more) (t : Takes gets more old new)

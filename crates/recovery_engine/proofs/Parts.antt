@@ -18,12 +18,15 @@ use Rattle.source_events.specs.Runs.{id_of}
 use Rattle.source_events.proofs.Merges.{same_or_not, test_other}
 use Rattle.source_machine.specs.Units.{reads_by}
 use Rattle.stretch_readings.specs.declared.heard.Heard.{Heard}
-use Rattle.stretch_readings.specs.Stretches.{One, fed_from, heard_of, from_fault, parted}
+use Rattle.stretch_readings.specs.Stretches.{One, Stretches, fed_from, heard_of, from_fault, parted}
 use Rattle.recovering_machines.specs.Run.{units_in, with_run}
 use Rattle.recovering_machines.specs.Source.{Stands, kind_of}
 use Rattle.recovering_machines.specs.declared.source.RecoveringSource.{RecoveringSource}
 use Rattle.recovery_report.specs.Report.{Part, Run, Locks, Breaks, added, added_by, report_from, stretches_of}
+use Rattle.recovery_report.specs.Words.{AreOf, singles}
 use Rattle.recovery_report.proofs.PartLaws as laws
+use Rattle.recovery_report.proofs.Singles.{singles_added, singles_other, singles_own}
+use Rattle.recovery_engine.specs.Bare.{raw_each}
 use Rattle.recovery_engine.specs.Slots.{IsSource, StandsAt, StandFor, source_at}
 use Rattle.recovery_engine.specs.Taking.{Grown, Takes, TakesOwn, IsCut, AreCut}
 use Rattle.recovery_engine.specs.declared.slot.RecoveringSlot.{RecoveringSlot}
@@ -195,3 +198,84 @@ pub grown_break : (plan : Plan) (parts : List Part) (reason : Reason) (place : P
 grown_break plan parts reason place old new c k =
     grown_by plan parts (Breaks reason place) new (added plan parts (Breaks reason place))
     (λ x. cut_at plan parts reason place x (source_at old x) (source_at new x) (c x) (k x)) refl
+
+-- cells each of which is a run of its own: a source for which they are nothing
+same_each : (plan : Plan) (parts : List Part) (cells : List Cell) (x y : ℕ) (o : Option RecoveringSource) →
+    is_source y (Some x) ≡ false → AreOf x cells → StandsAt plan parts y o →
+    StandsAt plan (parts ++ singles cells) y o
+same_each plan parts cells x y None e a k = k
+same_each plan parts cells x y (Some s) e a k = record {
+  kind = k.kind;
+  reads = k.reads;
+  list = subst (λ r. Stands s r) (sym (singles_other plan (kind_of s) x y cells parts e a)) k.list;
+}
+
+-- their own, which is not mapped
+pub grown_raws : (plan : Plan) (cells : List Cell) (parts : List Part) (x : ℕ) (slots : List RecoveringSlot) →
+    AreOf x cells → source_at slots x ≡ None → StandFor plan parts slots →
+    Grown plan parts (singles cells) slots (raw_each x cells)
+grown_raws plan [] parts x slots a n k = record {
+  list = subst (λ l. StandFor plan l slots) (sym (append-nil parts)) k;
+  grew = ap (λ l. report_from plan [] l) (append-nil parts) ∙ sym (append-nil (report_from plan [] parts));
+}
+grown_raws plan (c ∷ cells) parts x slots a n k =
+    let own : List Part = Run (c ∷ []) ∷ [] in
+    let one = grown_raw plan parts (c ∷ []) x slots a.0 n k in
+    let rest = grown_raws plan cells (parts ++ own) x slots a.1 n one.list in
+    let said = told (Some x) (raw_events x (c ∷ [])) in
+    record {
+      list = subst (λ l. StandFor plan l slots) (append_assoc parts own (singles cells)) rest.list;
+      grew = ap (λ l. report_from plan [] l) (sym (append_assoc parts own (singles cells))) ∙ rest.grew
+          ∙ ap (λ l. l ++ raw_each x cells) one.grew
+          ∙ append_assoc (report_from plan [] parts) said (raw_each x cells);
+    }
+
+-- or which is
+module _ {S : Type 0} (gets : S → Heards → S → Type 0) (room : S → ℕ) (plan : Plan) (parts : List Part)
+    (cells : List Cell) (x : ℕ) (old new : List RecoveringSlot × S) (a : AreOf x cells)
+    (k : StandFor plan parts old.0) (t : TakesOwn gets room x cells old new) where
+  abbrev was : RecoveringSource
+  was = t.before
+
+  abbrev its : SourceKind
+  its = kind_of was
+
+  here : IsSource plan parts x was
+  here = subst (λ o. StandsAt plan parts x o) t.was (k x)
+
+  abbrev r : Stretches
+  r = stretches_of plan its x parts
+
+  list_is : stretches_of plan its x (parts ++ singles cells) ≡ with_run was r cells
+  list_is = singles_own plan its x here.kind cells parts a
+      ∙ ap (λ (f : Bool → List Placed → Stream Packet). fed_from f from_fault r (map One (units_in its cells)))
+      (sym here.reads)
+
+  fed_each : IsSource plan (parts ++ singles cells) x t.after
+  fed_each = record {
+    kind = here.kind ∙ ap Some (sym t.takes.kind);
+    reads = t.takes.reads ∙ here.reads ∙ ap (reads_by plan.order) (sym t.takes.kind);
+    list = subst (λ (z : SourceKind). Stands t.after (stretches_of plan z x (parts ++ singles cells)))
+        (sym t.takes.kind) (subst (λ s. Stands t.after s) (sym list_is) (t.takes.list r here.list));
+  }
+
+  adds_each : report_from plan parts (singles cells) ≡ told (Some x) (lifted t.takes.said)
+  adds_each =
+      singles_added plan its x here.kind cells parts t.takes.said a
+      (ap (λ z. (heard_of (reads_by plan.order its) from_fault z).given) list_is
+      ∙ ap (λ (f : Bool → List Placed → Stream Packet). (heard_of f from_fault (with_run was r cells)).given)
+      (sym here.reads)
+      ∙ t.takes.given r here.list
+      ∙ ap (λ (f : Bool → List Placed → Stream Packet). (heard_of f from_fault r).given ++ t.takes.said) here.reads)
+
+  pub grown_each : Grown plan parts (singles cells) new.0 (told (Some x) (lifted t.takes.said))
+  grown_each = record {
+    list = λ y. elim (same_or_not y x) [
+      | inl q ↦ subst (λ z. StandsAt plan (parts ++ singles cells) z (source_at new.0 z)) (sym q)
+          (subst (λ o. StandsAt plan (parts ++ singles cells) x o) (sym t.is) fed_each)
+      | inr q ↦ subst (λ o. StandsAt plan (parts ++ singles cells) y o) (sym (t.others y q))
+          (same_each plan parts cells x y (source_at old.0 y) (test_other x y (λ e. q (sym e))) a (k y))
+    ];
+    grew = laws.report_append plan parts (singles cells) []
+        ∙ ap (λ l. report_from plan [] parts ++ l) adds_each;
+  }

@@ -2,6 +2,7 @@ pub mod Port
 pub mod Slots
 pub mod Fresh
 pub mod Taking
+pub mod Bare
 pub mod Counting
 pub mod Heard
 pub mod HeardLaws

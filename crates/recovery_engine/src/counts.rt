@@ -17,7 +17,10 @@ pub struct PortTotals {
 }
 
 impl PortTotals {
-    ghost use Rattle.std.specs.Prelude.{[]};
+    ghost use Rattle.std.specs.Prelude.{◌*◌, ◌++◌, [], List, map};
+    ghost use Rattle.trace_values.specs.Placed.{Placed};
+    ghost use Rattle.trace_values.specs.declared.reading_modes.FramesMode.TheVariants.{Bare};
+    ghost use Rattle.deformatter.specs.PortReading.{bare_cell};
     ghost use Rattle.trace_values.specs.declared.reading_modes.FramesMode.{FramesMode};
     ghost use Rattle.source_counts.specs.Counts.{bytes_of, unattributed_of};
     ghost use Rattle.recovery_report.specs.Counts.{CountsGrow};
@@ -49,6 +52,19 @@ impl PortTotals {
             PortStep::Full | PortStep::Locked { .. } => self.fulls += 1,
             PortStep::Half => self.halves += 1,
             PortStep::Quiet | PortStep::Fault(_) => {}
+        }
+    }
+
+    /// Counts cells, each of which is a frame of its own, as with no formatter.
+    pub fn add_bare(&mut self, cells: &[Cell])
+        requires size { length cells.now ≤ 15 }
+        requires room { counted_of self.old + 16 * length cells.now ≤ COUNT_ROOM }
+        ensures counted { (u w : List Placed) → cells.now ≡ map bare_cell w → HasCounted self.old (recovered Bare u) →
+            HasCounted self.new (recovered Bare (u ++ w)) }
+        ensures more { counted_of self.new ≤ counted_of self.old + 16 * length cells.now }
+    {
+        for index in 0..cells.len() {
+            self.add_step(&PortStep::Frame, &cells[index..index + 1]);
         }
     }
 

@@ -6,10 +6,10 @@ ghost use Rattle.recovery_engine.specs.Counting.{counted_of};
 ghost use Rattle.recovery_engine.specs.Slots.{total};
 ghost use Rattle.recovery_engine.specs.declared.engine.TheConstants.{GREATEST_OFFSET};
 
+use crate::bare::{BARE_BYTES, bare_source, push_bare};
 use crate::counts::PortTotals;
 use crate::ends::{port_end, source_tails};
-use crate::port::feed_port;
-use crate::router::take_step;
+use crate::router::{take_each, take_step};
 use crate::slot::{Slots, slots_of};
 use arrayvec::ArrayVec;
 use recovering_machines::{Hearer, RecoveringPort};
@@ -41,7 +41,8 @@ pub struct Recovery {
 }
 
 impl Recovery {
-    ghost use Rattle.std.specs.Prelude.{◌++◌, [], List, length, take};
+    ghost use Rattle.std.specs.Prelude.{◌≢◌, ◌++◌, [], List, length, take};
+    ghost use Rattle.trace_values.specs.declared.reading_modes.FramesMode.TheVariants.{Bare};
     ghost use Rattle.trace_values.specs.Placed.{Placed, placed_from};
     ghost use Rattle.source_events.specs.declared.event.Event.{Event};
     ghost use Rattle.source_events.specs.declared.packet.Packet.{Packet};
@@ -75,7 +76,7 @@ impl Recovery {
 
     /// Takes bytes from the front of a piece, the first of which is at this offset, and gives the events that the
     /// recovering report grows by: a whole frame, or else bytes up to the first one that ends a frame or a
-    /// synchronisation, or is a fault, or to the piece's end. With no formatter it takes one byte.
+    /// synchronisation, or is a fault, or to the piece's end. With no formatter it takes at most `BARE_BYTES` bytes.
     ///
     /// The piece has a byte, and there is room for 30 events.
     pub fn take<V: Hearer>(&mut self, at: u64, piece: &[u8], out: &mut V, to: &mut V::To) -> usize
@@ -93,8 +94,59 @@ impl Recovery {
             (u ++ placed_from at (take result piece.now)) ≡ report (plan_of self.old) u ++ given) }
         ensures room { V.room (out.old, to.old) ≤ V.room (out.new, to.new) + 30 }
     {
+        match self.plan.frames {
+            FramesMode::Bare => self.take_bare(at, piece, out, to),
+            FramesMode::Hunt | FramesMode::Aligned => self.take_framed(at, piece, out, to),
+        }
+    }
+
+    /// Takes bytes of a capture with no formatter.
+    fn take_bare<V: Hearer>(&mut self, at: u64, piece: &[u8], out: &mut V, to: &mut V::To) -> usize
+        requires bare { self.old.plan.frames ≡ Bare }
+        requires some { 0 < length piece.now }
+        requires limit { count_of self.old + length piece.now ≤ GREATEST_OFFSET + 1 }
+        requires offsets { at + length piece.now ≤ GREATEST_OFFSET + 1 }
+        requires room { 30 ≤ V.room (out.old, to.old) }
+        ensures bytes { (0 < result) × (result ≤ length piece.now) }
+        ensures plan { plan_of self.new ≡ plan_of self.old }
+        ensures count { count_of self.new ≡ count_of self.old + result }
+        ensures list { (u : List Placed) → Stands self.old u →
+            Stands self.new (u ++ placed_from at (take result piece.now)) }
+        ensures given { (given : List (Event (Heard Packet))) × V.gets (out.old, to.old) given (out.new, to.new)
+            × ((u : List Placed) → Stands self.old u → report (plan_of self.old)
+            (u ++ placed_from at (take result piece.now)) ≡ report (plan_of self.old) u ++ given) }
+        ensures room { V.room (out.old, to.old) ≤ V.room (out.new, to.new) + 30 }
+    {
+        let count = piece.len().min(BARE_BYTES);
+        let bytes = &piece[..count];
         self.cells.clear();
-        let taken = feed_port(&mut self.port, self.plan.frames, at, piece, &mut self.cells);
+        push_bare(at, bytes, &mut self.cells);
+        let cells = self.cells.as_slice();
+        self.totals.add_bare(cells);
+        take_each(self.slots.as_mut_slice(), bare_source(), cells, bytes, out, to);
+        self.count += count as u64;
+        count
+    }
+
+    /// Takes bytes of a capture in frames.
+    fn take_framed<V: Hearer>(&mut self, at: u64, piece: &[u8], out: &mut V, to: &mut V::To) -> usize
+        requires framed { self.old.plan.frames ≢ Bare }
+        requires some { 0 < length piece.now }
+        requires limit { count_of self.old + length piece.now ≤ GREATEST_OFFSET + 1 }
+        requires offsets { at + length piece.now ≤ GREATEST_OFFSET + 1 }
+        requires room { 30 ≤ V.room (out.old, to.old) }
+        ensures bytes { (0 < result) × (result ≤ length piece.now) }
+        ensures plan { plan_of self.new ≡ plan_of self.old }
+        ensures count { count_of self.new ≡ count_of self.old + result }
+        ensures list { (u : List Placed) → Stands self.old u →
+            Stands self.new (u ++ placed_from at (take result piece.now)) }
+        ensures given { (given : List (Event (Heard Packet))) × V.gets (out.old, to.old) given (out.new, to.new)
+            × ((u : List Placed) → Stands self.old u → report (plan_of self.old)
+            (u ++ placed_from at (take result piece.now)) ≡ report (plan_of self.old) u ++ given) }
+        ensures room { V.room (out.old, to.old) ≤ V.room (out.new, to.new) + 30 }
+    {
+        self.cells.clear();
+        let taken = self.port.feed_block(at, piece, &mut self.cells);
         let cells = self.cells.as_slice();
         self.totals.add_step(&taken.step, cells);
         let last = at + (taken.bytes as u64 - 1);

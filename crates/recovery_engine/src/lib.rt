@@ -1,12 +1,12 @@
 //! The reading of a capture with all its sources, which goes on after each fault.
 #![tactic(auto)]
 
+mod bare;
 mod counting;
 mod counts;
 mod ends;
 mod engine;
 mod heard_counts;
-mod port;
 mod router;
 mod slot;
 

@@ -4,11 +4,12 @@ ghost use Rattle.std.specs.Prelude.{◌≡◌, ◌+◌, ◌*◌, ◌<◌, ◌≤
 ghost use Rattle.trace_values.specs.declared.limits.TheConstants.{COUNT_ROOM};
 ghost use Rattle.source_events.specs.Merge.{told};
 ghost use Rattle.source_events.specs.Report.{raw_events, triggers};
-ghost use Rattle.source_events.specs.Runs.{runs_of};
+ghost use Rattle.source_events.specs.Runs.{bytes_of, runs_of};
 ghost use Rattle.std.specs.Prelude.{Some};
 ghost use Rattle.recovery_report.specs.Report.{Run};
-ghost use Rattle.recovery_report.specs.Words.{parts_by};
+ghost use Rattle.recovery_report.specs.Words.{AreOf, parts_by, singles};
 ghost use Rattle.recovery_engine.specs.Slots.{total};
+ghost use Rattle.recovery_engine.specs.Bare.{raw_each};
 ghost use Rattle.recovery_engine.specs.Taking.{Takes};
 
 use crate::slot::{RecoveringSlot, cut_all, take_own};
@@ -85,6 +86,41 @@ fn take_run<V: Hearer>(slots: &mut [RecoveringSlot], cells: &[Cell], out: &mut V
     let bytes = RunBytes::of(cells);
     if !take_own(slots, id, cells, bytes.as_slice(), out, to) {
         give_raw(id, cells, out, to);
+    }
+}
+
+/// Gives each cell of a source that is not mapped as a run of its own.
+fn give_each<V: Hearer>(id: SourceId, cells: &[Cell], out: &mut V, to: &mut V::To)
+    requires room { 2 * length cells.now ≤ V.room (out.old, to.old) }
+    ensures given { V.gets (out.old, to.old) (raw_each id cells.now) (out.new, to.new) }
+    ensures room { V.room (out.old, to.old) ≤ V.room (out.new, to.new) + 2 * length cells.now }
+{
+    for index in 0..cells.len() {
+        give_raw(id, &cells[index..index + 1], out, to);
+    }
+}
+
+/// Takes cells of one source, which have these bytes, and each of which is a run of its own.
+pub fn take_each<V: Hearer>(
+    slots: &mut [RecoveringSlot],
+    id: SourceId,
+    cells: &[Cell],
+    bytes: &[u8],
+    out: &mut V,
+    to: &mut V::To,
+)
+    requires own { AreOf id cells.now }
+    requires bytes { bytes.now ≡ bytes_of cells.now }
+    requires few { total slots.old + 4 * length cells.now ≤ COUNT_ROOM }
+    requires room { 2 * length cells.now ≤ V.room (out.old, to.old) }
+    ensures takes { Takes V.gets (singles cells.now)
+        (slots.old, (out.old, to.old)) (slots.new, (out.new, to.new)) }
+    ensures len { length slots.new ≡ length slots.old }
+    ensures few { total slots.new ≤ total slots.old + 4 * length cells.now }
+    ensures room { V.room (out.old, to.old) ≤ V.room (out.new, to.new) + 2 * length cells.now }
+{
+    if !take_own(slots, id, cells, bytes, out, to) {
+        give_each(id, cells, out, to);
     }
 }
 

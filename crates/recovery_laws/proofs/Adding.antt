@@ -30,8 +30,8 @@ use Rattle.recovery_report.specs.Report.{Part, Run, Locks, Breaks, events_by, ev
 use Rattle.recovery_report.specs.Report.{stretches_of}
 use Rattle.recovery_report.proofs.PartLaws as parts
 use Rattle.recovery_report.proofs.Sounds.{sources_begin, sources_sound}
-use Rattle.recovery_laws.proofs.Early.{rises}
-use Rattle.recovery_laws.proofs.Hearing.{cells_in, stays_whole, units_more}
+use Rattle.recovery_report.proofs.Hearing.{cells_in, stays_whole, units_more}
+use Rattle.recovery_report.proofs.Rises.{rises}
 
 -- where a part lies: from an offset on, and before another
 abbrev pub PartLies : ℕ → Part → Type 0

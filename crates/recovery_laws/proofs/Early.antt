@@ -33,32 +33,11 @@ use Rattle.source_events.specs.Report.{lifted, what_of}
 use Rattle.source_events.specs.Runs.{RisesFrom, placed_run}
 use Rattle.source_events.proofs.Lawful.{given_append}
 use Rattle.source_machine.specs.Units.{reads_by}
+use Rattle.recovery_report.proofs.Rises.{rises}
 use Rattle.recovery_report.proofs.Sounds.{sources_settle}
 use Rattle.recovery_laws.proofs.Lists.{units}
 
--- one unit more, of packets
-all_as : {V W : Type 0} (f : V → W) (p : Place) (xs : List (Said V × Place)) → AllOn p xs → AllOn p (given_as f xs)
-all_as f p [] a = tt
-all_as f p (x ∷ xs) a = (a.0, all_as f p xs a.1)
-
-rises_as : {V W : Type 0} (f : V → W) (old new : Stream V) (p : Place) → RisesOn old new p →
-    RisesOn (stream_as f old) (stream_as f new) p
-rises_as f old new p r = record {
-  more = given_as f r.more;
-  given = ap (given_as f) r.given ∙ given_append f old.given r.more;
-  all = all_as f p r.more r.all;
-  fault = r.fault;
-}
-
 module _ (order : Order) where
-  pub rises : (kind : SourceKind) (h : Bool) (u : List Placed) (b : Placed) →
-      RisesOn (reads_by order kind h u) (reads_by order kind h (u ++ b ∷ [])) b.place
-  rises Itm h u b = rises_as ItmOf (packets_in h u) (packets_in h (u ++ b ∷ [])) b.place
-      (modes.rises_on pattern Sync (by_unit rule) Header h u b)
-  rises Stp h u b = rises_as StpOf (items_at order h u) (items_at order h (u ++ b ∷ [])) b.place
-      (decorating.rises_on attribute [] (stp_packets_in order h u) (stp_packets_in order h (u ++ b ∷ [])) b.place
-      (modes.rises_on stp_pattern Async (by_unit (stp_rule order)) Start h u b))
-
   -- a unit with which there is a fault gives nothing
   gives_none : (kind : SourceKind) (h : Bool) (u : List Placed) (b : Placed) →
       is_none (reads_by order kind h (u ++ b ∷ [])).fault ≡ false →

@@ -6,7 +6,6 @@ pub mod Runs
 pub mod Ports
 pub mod Captures
 pub mod Ends
-pub mod Hearing
 pub mod Adding
 pub mod Ordering
 pub mod Placing

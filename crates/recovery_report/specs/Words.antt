@@ -34,3 +34,11 @@ parts_by count at FullEnds cells = []
 parts_by count at Frame cells = map Run (runs_of cells)
 parts_by count at (Locked skipped) cells = Locks (count + skipped) (record { at = at; half = 0 }) ∷ []
 parts_by count at (Faulty f) cells = Breaks f.reason (record { at = f.at; half = f.half }) ∷ []
+
+-- cells each of which is a run of its own, as with no formatter; and cells that are all of one source
+abbrev pub singles : List Cell → List Part
+singles cells = map (λ c. Run (c ∷ [])) cells
+
+abbrev pub AreOf : ℕ → List Cell → Type 0
+AreOf x [] = Unit {0}
+AreOf x (c ∷ cells) = (c.id ≡ Some x) × AreOf x cells

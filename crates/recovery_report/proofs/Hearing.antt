@@ -189,3 +189,14 @@ module _ {V : Type 0} (reads : Bool → List Placed → Stream V)
         is = y.is ∙ ap (λ l. l ++ y.more) x.is ∙ append_assoc (given r) x.more y.more;
         all = all_on p b.place n x.more y.more x.all i.0 i.1 y.all;
       }
+
+  -- with units wherever they are: nothing is taken back
+  pub units_grow : (w : List Placed) (r : Stretches) → IsWhole r →
+      (more : List (Said (Heard V) × Place)) × (given (fed_from reads from_fault r (map One w)) ≡ given r ++ more)
+  units_grow [] r e = ([], sym (append-nil (given r)))
+  units_grow (b ∷ w) r e =
+      let x = one_more r b e in
+      let y = units_grow w (fed reads from_fault r (One b)) x.whole in (
+        x.more ++ y.0,
+        y.1 ∙ ap (λ l. l ++ y.0) x.is ∙ append_assoc (given r) x.more y.0,
+      )

@@ -10,14 +10,15 @@ use Rattle.recovery_report.specs.Report.{parts_in}
 use Rattle.recovery_engine.specs.Slots.{StandFor}
 use Rattle.recovery_engine.specs.declared.slot.RecoveringSlot.{RecoveringSlot}
 use Rattle.source_merge.proofs.Refilled.{refilled}
+use Rattle.recovery_engine.proofs.Blocks.{framed_counts, framed_parts, port_list}
 use Rattle.recovery_engine.proofs.Feeding.{report_more, stands_more}
-use Rattle.recovery_engine.proofs.engine.Recovery.take.Goals as goal
+use Rattle.recovery_engine.proofs.engine.Recovery.take_framed.Goals as goal
 
 pub returns-clause-list : goal.returns-clause-list
 returns-clause-list g c = λ u k.
     let self = c.args.self.now in
     let plan = self.plan in
-    let port = c.feed_port-taken in
+    let port = c.feed_block-taken in
     let bytes = take port.result.bytes c.args.piece.now in
     let w = placed_from c.args.at bytes in
     let last = c.args.at + (port.result.bytes - 1) in
@@ -26,14 +27,16 @@ returns-clause-list g c = λ u k.
     let all : refill (length old) old new ≡ new =
     refilled old new (c.take_step.ensures.len ∙ ap length c.as_mut_slice.ensures.value) in
     record {
-      port = port.ensures.list u k.port;
+      port = port_list self.port port.new.self u c.args.at bytes plan.frames port.ensures.list k.port;
       sources =
           subst (λ (l : List RecoveringSlot). StandFor plan (parts_in (recovered plan.frames (u ++ w))) l)
           (sym all)
           (stands_more g.V.Hearer.gets plan u (u ++ w)
           (parts_by 0 last port.result.step c.as_slice-cells.result.now)
           (c.as_mut_slice.result.now, (c.args.out.now, c.args.to.now)) (new, (c.take_step.new.out, c.take_step.new.to))
-          (port.ensures.parts u k.port
+          (framed_parts self.port c.args.at bytes port.result.step port.new.out.items port.ensures.fed port.ensures.cells
+          plan.frames u port.result.bytes c.requires.framed
+          (length-take-le port.result.bytes c.args.piece.now port.ensures.bytes.1) k.port
           ∙ ap (λ l. parts_in (recovered plan.frames u) ++ parts_by 0 last port.result.step l)
           (sym c.as_slice-cells.ensures.value))
           c.take_step.ensures.takes
@@ -42,7 +45,8 @@ returns-clause-list g c = λ u k.
       counted =
           c.add_step.ensures.counted (recovered plan.frames u) (recovered plan.frames (u ++ w))
           (subst (λ l. CountsGrow (recovered plan.frames u) (recovered plan.frames (u ++ w)) port.result.step l)
-          (sym c.as_slice-cells.ensures.value) (port.ensures.counted u k.port)) k.counted;
+          (sym c.as_slice-cells.ensures.value) (framed_counts self.port c.args.at bytes port.result.step port.new.out.items
+          port.ensures.fed port.ensures.cells plan.frames u c.requires.framed k.port)) k.counted;
       count = (let e = k.count in let l = length-append u w in let p = length-placed_from c.args.at bytes in
           let n = length-take-le port.result.bytes c.args.piece.now port.ensures.bytes.1 in omega (arith, e, l, p, n));
     }
@@ -51,8 +55,9 @@ pub returns-clause-given : goal.returns-clause-given
 returns-clause-given g c =
     let self = c.args.self.now in
     let plan = self.plan in
-    let port = c.feed_port-taken in
-    let w = placed_from c.args.at (take port.result.bytes c.args.piece.now) in
+    let port = c.feed_block-taken in
+    let bytes = take port.result.bytes c.args.piece.now in
+    let w = placed_from c.args.at bytes in
     let last = c.args.at + (port.result.bytes - 1) in (
       c.take_step.ensures.takes.0,
       c.take_step.ensures.takes.1,
@@ -60,7 +65,9 @@ returns-clause-given g c =
           (parts_by 0 last port.result.step c.as_slice-cells.result.now)
           (c.as_mut_slice.result.now, (c.args.out.now, c.args.to.now))
           (c.take_step.new.slots, (c.take_step.new.out, c.take_step.new.to))
-          (port.ensures.parts u k.port
+          (framed_parts self.port c.args.at bytes port.result.step port.new.out.items port.ensures.fed port.ensures.cells
+          plan.frames u port.result.bytes c.requires.framed
+          (length-take-le port.result.bytes c.args.piece.now port.ensures.bytes.1) k.port
           ∙ ap (λ l. parts_in (recovered plan.frames u) ++ parts_by 0 last port.result.step l)
           (sym c.as_slice-cells.ensures.value))
           c.take_step.ensures.takes
