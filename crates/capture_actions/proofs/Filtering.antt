@@ -11,8 +11,8 @@ both_or_notice true b n = refl
 both_or_notice false b true = or_right b true refl
 both_or_notice false b false = refl
 
--- an event that is within the window or a notice is listed if it meets the choice or is a notice
-pub listed_where_met : (only : Option Choice) (window : Option Bounds) (es : List (Event Packet)) (e : Event Packet)
+-- an event that is within the window or a notice is listed if it meets one of the choices or is a notice
+pub listed_where_met : (only : Option (List Choice)) (window : Option Bounds) (es : List (Event Packet)) (e : Event Packet)
     (seen met : Bool) → seen ≡ true → seen ≡ (is_within window es e || not (is_item e.what)) →
     met ≡ (meets only e || not (is_item e.what)) → met ≡ is_listed only window es e
 listed_where_met only window es e seen met t h k =

@@ -8,6 +8,7 @@ pub mod Sources
 pub mod Counting
 pub mod Shown
 pub mod Filtering
+pub mod Wanted
 pub mod Choosing
 pub mod Few
 pub mod Values

@@ -9,7 +9,7 @@ use Rattle.capture_actions.specs.declared.clocks.Clocks.{Clocks}
 use Rattle.capture_actions.specs.Clocks.{Stands}
 use Rattle.capture_actions.specs.Listing.{itm_packet, itm_packets}
 use Rattle.capture_actions.specs.LineLaws.{packets_push}
-use Rattle.capture_actions.specs.Remarks.{is_stamp}
+use Rattle.capture_actions.specs.Names.{is_stamp}
 use Rattle.capture_actions.specs.SourceClocks.{without}
 use Rattle.capture_actions.proofs.Timing.{after_other, no_times}
 

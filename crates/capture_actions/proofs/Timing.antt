@@ -2,11 +2,11 @@
 use Rattle.std.proofs.Common.{◌≡◌, ℕ, List, [], ◌∷◌, ◌++◌, flat_map, append-nil, refl, sym, ◌∙◌, ap, subst, false}
 use Rattle.std.proofs.lemmas.Grind.{flat_map-append}
 use Rattle.capture_actions.specs.Names.{ItmPacket, Local, GlobalFirst, GlobalSecond, None as NoRemark, SuitsPacket}
-use Rattle.capture_actions.specs.Names.{local_time, GlobalStamp}
+use Rattle.capture_actions.specs.Names.{local_time, GlobalStamp, is_stamp}
 use Rattle.itm_grammar.specs.declared.packet.ItmPacket.TheVariants.{Sync, Overflow, Software, Hardware, Extension}
 use Rattle.trace_clock.specs.GlobalClock as clock
 use Rattle.capture_actions.specs.declared.clocks.Clocks.{Clocks}
-use Rattle.capture_actions.specs.Remarks.{is_stamp, deltas_in, stamps_in, remark_by}
+use Rattle.capture_actions.specs.Remarks.{deltas_in, stamps_in, remark_by}
 use Rattle.capture_actions.specs.Clocks.{Stands}
 
 pub deltas_push : (packets : List ItmPacket) (p : ItmPacket) → flat_map deltas_in (packets ++ p ∷ []) ≡ flat_map deltas_in packets ++ deltas_in p

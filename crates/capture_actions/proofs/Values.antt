@@ -11,14 +11,14 @@ use Rattle.item_tap.specs.declared.choice.Choice.TheVariants.{Port}
 use Rattle.item_tap.specs.Choices.{is_of_port}
 use Rattle.source_events.specs.declared.event.What.TheVariants.{Locked, Packet as Said, Trigger}
 use Rattle.source_events.specs.declared.packet.Packet.TheVariants.{Stp as StpOf}
-use Rattle.capture_actions.specs.Names.{Event, What, Packet, Itm, Raw, is_of, holds}
+use Rattle.capture_actions.specs.Names.{Event, What, Packet, Itm, Raw, is_of, holds, content_of}
 use Rattle.capture_actions.specs.Listing.{itm_packet, itm_packets}
 use Rattle.capture_actions.specs.PortText.{value_of, written_by, values_in}
 
 module _ (port : ℕ) where
   -- what an event has of the port is its value, if it was written there
   of_port : (what : What Packet) →
-      flat_map (value_of port) (itm_packet what) ≡ cond (is_of_port port what) (written_by what) []
+      flat_map (value_of port) (itm_packet what) ≡ cond (is_of_port port (content_of what)) (written_by what) []
   of_port (Locked skipped) = refl
   of_port (Raw bytes) = refl
   of_port (Trigger byte) = refl
@@ -43,10 +43,10 @@ module _ (port : ℕ) where
   -- an event, by whether it is of the source
   one : (mine : Bool) (e : Event Packet) (rest : List (Event Packet)) →
       flat_map (value_of port) (cond mine (itm_packet e.what) []) ++ all_written rest
-      ≡ all_written (cond (mine && is_of_port port e.what) (e ∷ rest) rest)
+      ≡ all_written (cond (mine && is_of_port port (content_of e.what)) (e ∷ rest) rest)
   one false e rest = refl
   one true e rest =
-      ap (λ (l : List ℕ). l ++ all_written rest) (of_port e.what) ∙ chosen (is_of_port port e.what) e rest
+      ap (λ (l : List ℕ). l ++ all_written rest) (of_port e.what) ∙ chosen (is_of_port port (content_of e.what)) e rest
 
   -- the values are those of the events that are chosen
   pub values_chosen : (source : Option ℕ) (es : List (Event Packet)) →

@@ -1,6 +1,6 @@
 -- What is asked of a listing, and what its window has seen.
-use Rattle.std.specs.Prelude.{List, Option, Some, None, ⊤}
-use Rattle.capture_actions.specs.Names.{Event, Packet, Plan, Bounds, Choice, holds}
+use Rattle.std.specs.Prelude.{ℕ, List, Option, Some, None, ⊤, Bool, true}
+use Rattle.capture_actions.specs.Names.{Event, Packet, Plan, Bounds, Choice, holds, Content, holds_any_in}
 use Rattle.item_tap.specs.declared.window.Window.{Window}
 use Rattle.item_tap.specs.Seen as seen
 use Rattle.capture_actions.specs.declared.filter.Filter.{Filter}
@@ -9,6 +9,11 @@ use Rattle.capture_actions.specs.Listing.{items_in}
 
 abbrev pub ChoiceWindow : Type 0
 ChoiceWindow = Window Choice Choice Choice Choice
+
+-- what this source gives, or the port, meets one of the choices, if there are any
+abbrev pub wants : Option (List Choice) → Option ℕ → Content → Bool
+wants None source content = true
+wants (Some choices) source content = holds_any_in choices source content
 
 -- the choices of a window, if there is one
 abbrev pub bounds_in : Option ChoiceWindow → Option Bounds

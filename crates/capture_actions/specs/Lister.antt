@@ -22,15 +22,13 @@ pub record ListerGets (old : Lister × List ℕ) (es : List (Event Packet)) (new
 abbrev pub gets : Lister × List ℕ → List (Event Packet) → Lister × List ℕ → Type 0
 gets old es new = ListerGets old es new
 
--- Packets of this source are listed from their parts: all events are listed, and by the plan it sends none of the other
+-- Packets of this source are listed from their parts: there is no window, and by the plan it sends none of the other
 -- kind.
 abbrev pub ListsItm : Lister → ℕ → Type 0
-ListsItm lister source =
-    (lister.filter.only ≡ None) × (lister.filter.window ≡ None) × (is_stp lister.plan (Some source) ≡ false)
+ListsItm lister source = (lister.filter.window ≡ None) × (is_stp lister.plan (Some source) ≡ false)
 
 abbrev pub ListsStp : Lister → ℕ → Type 0
-ListsStp lister source =
-    (lister.filter.only ≡ None) × (lister.filter.window ≡ None) × (is_stp lister.plan (Some source) ≡ true)
+ListsStp lister source = (lister.filter.window ≡ None) × (is_stp lister.plan (Some source) ≡ true)
 
 -- of this kind
 abbrev pub Lists : Lister → ℕ → SourceKind → Type 0

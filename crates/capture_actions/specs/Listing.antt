@@ -2,7 +2,7 @@
 use Rattle.std.specs.Prelude.{ℕ, List, [], ◌∷◌, ◌++◌, flat_map, filter, Option, Some, None, Bool, true, not, ◌&&◌, ◌||◌}
 use Rattle.std.specs.Prelude.{if◌then◌else◌, false}
 use Rattle.capture_actions.specs.Names.{Reason, Place, Placed, placed, Meaning, ItmPacket, Event, What, Packet, Itm}
-use Rattle.capture_actions.specs.Names.{Plan, is_of, is_item, tails_of, report_of, fault_of, Bounds, Choice, holds}
+use Rattle.capture_actions.specs.Names.{Plan, is_of, is_item, tails_of, report_of, fault_of, Bounds, Choice, holds, holds_any}
 use Rattle.capture_actions.specs.Names.{Remark, None as NoRemark, event_line, fault_line, tails_text}
 use Rattle.source_events.specs.declared.event.What.TheVariants.{Packet as Said}
 use Rattle.item_tap.specs.Windows.{passes}
@@ -28,18 +28,18 @@ remark_of before what = NoRemark
 abbrev pub items_in : List (Event Packet) → List (Event Packet)
 items_in es = filter (λ e. is_item e.what) es
 
--- an event meets the choice, if there is one
-abbrev pub meets : Option Choice → Event Packet → Bool
+-- an event meets one of the choices, if there are any
+abbrev pub meets : Option (List Choice) → Event Packet → Bool
 meets None e = true
-meets (Some choice) e = holds choice e
+meets (Some choices) e = holds_any choices e
 
 -- an event after these is within the window, if there is one; a window does not see notices
 abbrev pub is_within : Option Bounds → List (Event Packet) → Event Packet → Bool
 is_within None before e = true
 is_within (Some bounds) before e = passes (holds bounds.first) (holds bounds.last) (items_in before) e
 
--- an event is listed where it is within the window and meets the choice; the notice of a lock always is
-abbrev pub is_listed : Option Choice → Option Bounds → List (Event Packet) → Event Packet → Bool
+-- an event is listed where it is within the window and meets one of the choices; the notice of a lock always is
+abbrev pub is_listed : Option (List Choice) → Option Bounds → List (Event Packet) → Event Packet → Bool
 is_listed only window before e = is_within window before e && meets only e || not (is_item e.what)
 
 -- The line of an event, where the clocks have taken some events and the window has seen some; none where it is not

@@ -8,9 +8,10 @@ pub use Rattle.deformatter.specs.declared.step.PortStep.TheVariants.{Fault, Quie
 pub use Rattle.frame_grammar.specs.Frame.{cells, id_after}
 pub use Rattle.frame_grammar.specs.Reading.{is_source, offsets_of, source_list}
 pub use Rattle.frame_grammar.specs.Whole.{IsWhole, without_halves}
-pub use Rattle.item_tap.specs.Choices.{holds}
+pub use Rattle.item_tap.specs.Choices.{content_of, holds, holds_any, holds_any_in, is_stamp}
 pub use Rattle.item_tap.specs.declared.bounds.Bounds.{Bounds}
 pub use Rattle.item_tap.specs.declared.choice.Choice.{Choice}
+pub use Rattle.item_tap.specs.declared.content.Content.{Content}
 pub use Rattle.itm_grammar.specs.Proper.{IsProper}
 pub use Rattle.itm_grammar.specs.declared.packet.ItmPacket.{ItmPacket}
 pub use Rattle.itm_grammar.specs.declared.packet.ItmPacket.TheVariants.{GlobalFirst, GlobalSecond, Local}

@@ -1,17 +1,10 @@
 -- What is beside the timestamps of a source: the times after the packets up to each (ARMv7-M Architecture Reference
 -- Manual, Arm DDI 0403E, appendix D4 'Debug ITM and DWT Packet Protocol', section D4.2 'Packet descriptions').
-use Rattle.std.specs.Prelude.{ℕ, List, [], ◌∷◌, flat_map, Option, Bool, true, false}
+use Rattle.std.specs.Prelude.{ℕ, List, [], ◌∷◌, flat_map, Option}
 use Rattle.capture_actions.specs.Names.{ItmPacket, Local, GlobalFirst, GlobalSecond, local_time, GlobalStamp, Remark}
 use Rattle.capture_actions.specs.Names.{None as NoRemark}
 use Rattle.trace_clock.specs.GlobalTime.{First, Second, global_time}
 use Rattle.trace_text.specs.declared.remark.Remark.TheVariants.{Clock, Time}
-
--- it is a timestamp
-abbrev pub is_stamp : ItmPacket → Bool
-is_stamp (Local lateness delta) = true
-is_stamp (GlobalFirst len value change wrap) = true
-is_stamp (GlobalSecond wide value) = true
-is_stamp packet = false
 
 -- the ticks of a local timestamp, and a global one
 abbrev pub deltas_in : ItmPacket → List ℕ

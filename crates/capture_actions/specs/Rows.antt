@@ -28,17 +28,21 @@ both frames packets x y = record { frames = frames; packets = packets; itm = x �
 abbrev pub mixed : List ℕ
 mixed = codes "FF FF FF 7F 03 00 00 00 00 00 05 80 FE FF FE FF FE FF FE F8 FE FF FE 0F 0E 30 21 A5 03 01 05 41 00 F1 44 67 12 05 01 00 00 00 00 00 00 00 00 00 00 00 00 00"
 
--- the listing of a text, that of the events that meet a choice, of those within a window, and of those that are both
+-- the listing of a text, that of the events that meet one of some choices, of those within a window, and of those that
+-- are both
 abbrev pub listing_row : Plan → List ℕ → List ℕ
 listing_row plan text = listing (record { plan = plan; only = None; window = None }) (hex text)
+
+abbrev pub chosen_row : List Choice → Plan → List ℕ → List ℕ
+chosen_row choices plan text = listing (record { plan = plan; only = Some choices; window = None }) (hex text)
 
 abbrev pub window_row : Choice → Choice → Plan → List ℕ → List ℕ
 window_row first last plan text =
     listing (record { plan = plan; only = None; window = Some (record { first = first; last = last }) }) (hex text)
 
-abbrev pub both_row : Choice → Choice → Choice → Plan → List ℕ → List ℕ
-both_row choice first last plan text =
-    listing (record { plan = plan; only = Some choice; window = Some (record { first = first; last = last }) })
+abbrev pub both_row : List Choice → Choice → Choice → Plan → List ℕ → List ℕ
+both_row choices first last plan text =
+    listing (record { plan = plan; only = Some choices; window = Some (record { first = first; last = last }) })
     (hex text)
 
 -- and its summary

@@ -2,23 +2,12 @@
 
 ghost use Rattle.std.specs.Prelude.{◌≡◌, ◌++◌, ◌∷◌, [], List};
 ghost use Rattle.capture_actions.specs.Names.{IsProper, ItmPacket, SuitsPacket};
-ghost use Rattle.capture_actions.specs.Remarks.{is_stamp, remark_by};
+ghost use Rattle.capture_actions.specs.Remarks.{remark_by};
 ghost use Rattle.capture_actions.specs.Clocks.{Stands};
 
 use itm_grammar::packet::ItmPacket;
 use trace_clock::{GlobalClock, LocalClock};
 use trace_text::Remark;
-
-/// The packet is a timestamp: beside all others is nothing, and the clocks stay as they are.
-#[inline(always)]
-pub(crate) fn is_stamp(packet: &ItmPacket) -> bool
-    ensures { result ≡ is_stamp packet.now }
-{
-    matches!(
-        packet,
-        ItmPacket::Local { .. } | ItmPacket::GlobalFirst { .. } | ItmPacket::GlobalSecond { .. }
-    )
-}
 
 /// The local and the global clock of one source.
 #[derive(Clone, Copy, Debug, Drop)]

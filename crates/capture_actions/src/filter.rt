@@ -1,32 +1,32 @@
 //! Which events of a capture are listed.
 
-ghost use Rattle.std.specs.Prelude.{◌≡◌, ◌↔◌, ◌++◌, ◌∷◌, [], List, IsTrue, not, ◌||◌, ◌&&◌, is_none};
+ghost use Rattle.std.specs.Prelude.{◌≡◌, ◌↔◌, ◌++◌, ◌∷◌, [], List, IsTrue, not, ◌||◌, is_none, Some};
 ghost use Rattle.capture_actions.specs.Names.{Event, Packet, is_item};
 ghost use Rattle.capture_actions.specs.Listing.{meets, is_within, is_listed};
+ghost use Rattle.capture_actions.specs.Filter.{wants};
 
-use item_tap::{Bounds, Choice, ChoiceWindow};
+use item_tap::{Bounds, ChoiceWindow, Choices, Content};
 use source_events::{Event, Packet, What};
+use trace_values::SourceId;
 
-/// Which events are listed: those that meet a choice, if there is one, and are within a window, if there is one.
+/// Which events are listed: those that meet one of some choices, if there are any, and are within a window, if there is
+/// one.
 #[derive(Drop)]
 pub struct Filter {
-    only: Option<Choice>,
+    only: Option<Choices>,
     window: Option<ChoiceWindow>,
-    /// There is neither, and all events are listed.
-    all: bool,
-    ghost neither: { all ≡ (is_none only && is_none window) },
 }
 
-/// Whether an event meets the choice, if there is one, or is the notice of a lock.
+/// Whether an event meets one of the choices, if there are any, or is the notice of a lock.
 #[inline]
-fn meets(only: &Option<Choice>, event: &Event<Packet>) -> bool
+fn meets(only: &Option<Choices>, event: &Event<Packet>) -> bool
     ensures { result ≡ (meets only.now event.now || not (is_item event.now.what)) }
 {
     match only {
         None => true,
-        Some(choice) => match event.what {
+        Some(choices) => match event.what {
             What::Locked(_) => true,
-            What::Packet(_) | What::Raw(_) | What::Trigger(_) => choice.holds_for(event),
+            What::Packet(_) | What::Raw(_) | What::Trigger(_) => choices.hold_for(event),
         },
     }
 }
@@ -35,7 +35,7 @@ impl Filter {
     ghost use Rattle.capture_actions.specs.Filter.{bounds_in, SawAll, HasSeen};
 
     /// What is asked of the events, none of which is seen yet.
-    pub fn new(only: Option<Choice>, bounds: Option<Bounds>) -> Filter
+    pub fn new(only: Option<Choices>, bounds: Option<Bounds>) -> Filter
         ensures only { result.only ≡ only }
         ensures bounds { bounds_in result.window ≡ bounds }
         ensures seen { HasSeen result [] }
@@ -44,16 +44,26 @@ impl Filter {
             None => None,
             Some(bounds) => Some(bounds.window()),
         };
-        let all = only.is_none() && window.is_none();
-        Filter { only, window, all }
+        Filter { only, window }
     }
 
-    /// All events are listed: there is no choice and no window.
-    #[inline]
-    pub fn lists_all(&self) -> bool
-        ensures { IsTrue result ↔ ((self.now.only ≡ None) × (self.now.window ≡ None)) }
+    /// There is no window: what is listed can be told from what a source gives, one by one.
+    #[inline(always)]
+    pub fn has_no_window(&self) -> bool
+        ensures { IsTrue result ↔ (self.now.window ≡ None) }
     {
-        self.all
+        self.window.is_none()
+    }
+
+    /// Whether this, which a source gives, meets one of the choices, if there are any.
+    #[inline(always)]
+    pub fn wants(&self, source: SourceId, content: &Content) -> bool
+        ensures { result ≡ wants self.now.only (Some source) content.now }
+    {
+        match &self.only {
+            None => true,
+            Some(choices) => choices.hold_in(Some(source), content),
+        }
     }
 
     /// Whether an event is within the window, which takes it, if there is one, or is the notice of a lock, which the
@@ -76,7 +86,7 @@ impl Filter {
     }
 
     /// Takes the next event, and answers whether it is listed. Notices of locks are, and the window does not see them;
-    /// it sees all other events, also those that do not meet the choice.
+    /// it sees all other events, also those that meet none of the choices.
     #[tactic(auto, using(crate::proofs::Filtering::listed_where_met))]
     #[inline(always)]
     pub fn lists(&mut self, event: &Event<Packet>) -> bool

@@ -1,13 +1,13 @@
 //! What `show` is asked for.
 
-use item_tap::{Bounds, Choice};
+use item_tap::{Bounds, Choices};
 use source_events::Plan;
 
-/// How a capture is read, and which of its events are listed: those that meet a choice, if there is one, and are within
-/// a window, if there is one.
+/// How a capture is read, and which of its events are listed: those that meet one of some choices, if there are any, and
+/// are within a window, if there is one.
 #[derive(Debug, Drop)]
 pub struct ListPlan {
     pub plan: Plan,
-    pub only: Option<Choice>,
+    pub only: Option<Choices>,
     pub window: Option<Bounds>,
 }

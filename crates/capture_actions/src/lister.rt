@@ -15,11 +15,10 @@ ghost use Rattle.capture_actions.specs.Filter.{plan_by, HasSeen};
 ghost use Rattle.capture_actions.specs.Listing.{is_listed, itm_packets, line_by, remark_of};
 ghost use Rattle.capture_actions.specs.SourceClocks.{AllStand, without};
 
-use crate::clocks::is_stamp;
 use crate::filter::Filter;
 use crate::plan_table::{PlanTable, sends_stp};
 use crate::source_clocks::SourceClocks;
-use item_tap::{Bounds, Choice};
+use item_tap::{Bounds, Choices, Content, is_stamp};
 use itm_grammar::packet::ItmPacket;
 use source_events::{Event, Packet, Plan, RunBytes, SourceKind, Stop, What};
 use source_machine::Told;
@@ -104,9 +103,9 @@ impl Lister {
     ghost use Rattle.capture_actions.specs.Lister.{gets, ListsItm, ListsStp};
     ghost use Rattle.std.specs.Prelude.{[], ◌<◌, ◌↔◌, IfSome, IsTrue, true, false};
 
-    /// No event came yet. It lists those of a capture that is read so which meet a choice, if there is one, and are
-    /// within a window, if there is one.
-    pub fn new(plan: &Plan, only: Option<Choice>, window: Option<Bounds>) -> Lister
+    /// No event came yet. It lists those of a capture that is read so which meet one of some choices, if there are any,
+    /// and are within a window, if there is one.
+    pub fn new(plan: &Plan, only: Option<Choices>, window: Option<Bounds>) -> Lister
         ensures plan { result.plan ≡ plan.now }
         ensures only { result.filter.only ≡ only }
         ensures window { bounds_in result.filter.window ≡ window }
@@ -200,25 +199,25 @@ impl Lister {
         self.put_next(outlet, &event);
     }
 
-    /// The lines of ITM packets of this source are put from the packets' parts: all events are listed, and it sends no
-    /// STP packets.
+    /// The lines of ITM packets of this source are put from the packets' parts: there is no window, and it sends no STP
+    /// packets.
     #[inline(always)]
     fn lists_itm(&self, source: SourceId) -> bool
         ensures { IsTrue result ↔ ListsItm self.now source }
     {
-        self.filter.lists_all() && !self.plan.sends_stp(source)
+        self.filter.has_no_window() && !self.plan.sends_stp(source)
     }
 
-    /// The lines of items of this source are put from their parts: all events are listed, and it sends STP packets.
+    /// The lines of items of this source are put from their parts: there is no window, and it sends STP packets.
     #[inline(always)]
     fn lists_stp(&self, source: SourceId) -> bool
         ensures { IsTrue result ↔ ListsStp self.now source }
     {
-        self.filter.lists_all() && self.plan.sends_stp(source)
+        self.filter.has_no_window() && self.plan.sends_stp(source)
     }
 
-    /// Takes the next packet of this source, and puts its line from the packet's parts: the event itself goes nowhere,
-    /// so that it need not be in memory. In which half of the byte it ends is not in the line.
+    /// Takes the next packet of this source, and puts its line, if it is listed, from the packet's parts: the event
+    /// itself goes nowhere, so that it need not be in memory. In which half of the byte it ends is not in the line.
     #[inline(always)]
     fn put_own_itm(
         &mut self,
@@ -234,18 +233,22 @@ impl Lister {
         ensures gets { gets (self.old, outlet.old) (packet_event source at half (Itm packet) ∷ []) (self.new, outlet.new) }
         ensures bound { length outlet.new ≤ length outlet.old + EVENT_ROOM }
     {
-        put_itm_line(
-            outlet,
-            &mut self.digits,
-            &mut self.clocks,
-            at,
-            source,
-            &packet,
-        );
+        if self.filter.wants(source, &Content::Itm(packet)) {
+            put_itm_line(
+                outlet,
+                &mut self.digits,
+                &mut self.clocks,
+                at,
+                source,
+                &packet,
+            );
+        } else {
+            let _ = self.clocks.packet_remark(source, &packet);
+        }
     }
 
-    /// Takes the next item of this source, which is that of what a packet says, and puts its line from its parts. It is
-    /// kept out of line: in line, `give_told` would be too large to go into the loop over ITM packets.
+    /// Takes the next item of this source, which is that of what a packet says, and puts its line, if it is listed, from
+    /// its parts. It is kept out of line: in line, `give_told` would be too large to go into the loop over ITM packets.
     #[inline(never)]
     fn put_said(&mut self, outlet: &mut Outlet, at: u64, half: u8, source: SourceId, said: Said)
         requires proper { IsProperSaid said }
@@ -257,7 +260,39 @@ impl Lister {
         ensures bound { length outlet.new ≤ length outlet.old + EVENT_ROOM }
     {
         self.clocks.pass();
-        put_said_line(outlet, &mut self.digits, at, half, source, said);
+        if self.filter.wants(source, &Content::Stp) {
+            put_said_line(outlet, &mut self.digits, at, half, source, said);
+        }
+    }
+
+    /// Takes the next run of bytes of this source, and puts its line, if it is listed, from its parts.
+    #[inline(always)]
+    fn put_own_raw(&mut self, outlet: &mut Outlet, at: u64, source: SourceId, bytes: &[u8])
+        requires few { length bytes.now ≤ 15 }
+        requires own { ListsItm self.old source }
+        requires room { length outlet.old + TEXT_ROOM ≤ OUTLET_ROOM }
+        ensures gets { gets (self.old, outlet.old) (raw_event at source bytes.now ∷ []) (self.new, outlet.new) }
+        ensures bound { length outlet.new ≤ length outlet.old + EVENT_ROOM }
+    {
+        self.clocks.pass();
+        if self.filter.wants(source, &Content::Raw) {
+            put_raw_line(outlet, &mut self.digits, at, source, bytes);
+        }
+    }
+
+    /// Takes the next byte of the trigger source, and puts its line, if it is listed, from its parts.
+    #[inline(always)]
+    fn put_own_trigger(&mut self, outlet: &mut Outlet, at: u64, source: SourceId, byte: u8)
+        requires own { ListsItm self.old source }
+        requires room { length outlet.old + TEXT_ROOM ≤ OUTLET_ROOM }
+        ensures gets { gets (self.old, outlet.old) (trigger_event source at byte ∷ []) (self.new, outlet.new) }
+        ensures bound { length outlet.new ≤ length outlet.old + EVENT_ROOM }
+    {
+        self.clocks.pass();
+        if self.filter.wants(source, &Content::Trigger) {
+            let event = trigger_of(at, source, byte);
+            print(outlet, &mut self.digits, &event, false, Remark::None);
+        }
     }
 
     /// Takes the next run of bytes of this source, and puts its line if it is listed.
@@ -270,8 +305,7 @@ impl Lister {
         ensures bound { length outlet.new ≤ length outlet.old + EVENT_ROOM }
     {
         if self.lists_itm(source) {
-            self.clocks.pass();
-            put_raw_line(outlet, &mut self.digits, at, source, bytes);
+            self.put_own_raw(outlet, at, source, bytes);
         } else {
             self.give_raw_event(outlet, at, source, bytes);
         }
@@ -285,9 +319,7 @@ impl Lister {
         ensures bound { length outlet.new ≤ length outlet.old + EVENT_ROOM }
     {
         if self.lists_itm(source) {
-            self.clocks.pass();
-            let event = trigger_of(at, source, byte);
-            print(outlet, &mut self.digits, &event, false, Remark::None);
+            self.put_own_trigger(outlet, at, source, byte);
         } else {
             self.give_trigger_event(outlet, at, source, byte);
         }

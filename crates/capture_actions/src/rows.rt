@@ -1,11 +1,11 @@
 //! Worked rows of listings, texts and summaries, which the checker computes.
 
-ghost use Rattle.std.specs.Prelude.{◌≡◌, codes};
+ghost use Rattle.std.specs.Prelude.{◌≡◌, ◌∷◌, [], codes};
 ghost use Rattle.trace_values.specs.declared.reading_modes.FramesMode.TheVariants.{Hunt as FramesHunt, Aligned as FramesAligned, Bare};
 ghost use Rattle.trace_values.specs.declared.reading_modes.PacketsMode.TheVariants.{Hunt, Aligned};
-ghost use Rattle.item_tap.specs.declared.choice.Choice.TheVariants.{OfKind, Source, Port};
+ghost use Rattle.item_tap.specs.declared.choice.Choice.TheVariants.{OfKind, Source, Port, Time};
 ghost use Rattle.item_tap.specs.declared.choice.Kind.TheVariants.{Itm, Dwt, Stp, Raw};
-ghost use Rattle.capture_actions.specs.Rows.{raw, itm, stp, stp_lsn, both, mixed, listing_row, window_row, both_row, text_row, summary_row};
+ghost use Rattle.capture_actions.specs.Rows.{raw, itm, stp, stp_lsn, both, mixed, listing_row, chosen_row, window_row, both_row, text_row, summary_row};
 
 /// Sources that are not mapped: raw bytes by run, bytes of the trigger source, and the port's lock.
 pub fn raw_sources()
@@ -66,8 +66,23 @@ pub fn windows()
         codes "3 port locked 0\n11 1 locked 0\n11 1 sync\n23.1 2 locked 0\n31 1 port 0 u8 41\nend 52\nport locked skipped 0 tail 0 unattributed 0\n1 itm locked skipped 0 tail 0\n2 stp locked skipped 0 tail 0\n" }
     ensures never_opens { window_row (OfKind Dwt) (OfKind Itm) (both FramesHunt Hunt 1 2) mixed ≡
         codes "3 port locked 0\n11 1 locked 0\n23.1 2 locked 0\nend 52\nport locked skipped 0 tail 0 unattributed 0\n1 itm locked skipped 0 tail 0\n2 stp locked skipped 0 tail 0\n" }
-    ensures beside_a_choice { both_row (OfKind Itm) (OfKind Raw) (OfKind Stp) (both FramesHunt Hunt 1 2) mixed ≡
+    ensures beside_a_choice { both_row (OfKind Itm ∷ []) (OfKind Raw) (OfKind Stp) (both FramesHunt Hunt 1 2) mixed ≡
         codes "3 port locked 0\n11 1 locked 0\n23.1 2 locked 0\n31 1 port 0 u8 41\nend 52\nport locked skipped 0 tail 0 unattributed 0\n1 itm locked skipped 0 tail 0\n2 stp locked skipped 0 tail 0\n" }
+{}
+
+/// Lists of choices, in a bare capture with an exception, a local timestamp, a value of port 0, one that was written and
+/// a global timestamp, and in the capture in frames: an event is listed that meets one of them.
+pub fn lists()
+    ensures times { chosen_row (Time ∷ []) (itm Bare Aligned 1) (codes "0E 0F 10 20 01 41 8D 2A 94 05") ≡
+        codes "3 1 local exact 2 clock=2\n9 1 global1 1 5 0 0 time=?\nend 10\nport bare skipped 0 tail 0 unattributed 0\n1 itm aligned skipped 0 tail 0\n" }
+    ensures with_times { chosen_row (OfKind Dwt ∷ Time ∷ []) (itm Bare Aligned 1) (codes "0E 0F 10 20 01 41 8D 2A 94 05") ≡
+        codes "2 1 exception 15 enter\n3 1 local exact 2 clock=2\n7 1 cmp 0 write u8 2a\n9 1 global1 1 5 0 0 time=?\nend 10\nport bare skipped 0 tail 0 unattributed 0\n1 itm aligned skipped 0 tail 0\n" }
+    ensures unlisted_times { chosen_row (Port 1 ∷ Port 0 ∷ []) (itm Bare Aligned 1) (codes "0E 0F 10 20 01 41 8D 2A 94 05") ≡
+        codes "5 1 port 0 u8 41\nend 10\nport bare skipped 0 tail 0 unattributed 0\n1 itm aligned skipped 0 tail 0\n" }
+    ensures framed { chosen_row (Port 0 ∷ OfKind Raw ∷ []) (both FramesHunt Hunt 1 2) mixed ≡
+        codes "3 port locked 0\n11 1 locked 0\n23.1 2 locked 0\n27 16 raw a5\n31 1 port 0 u8 41\nend 52\nport locked skipped 0 tail 0 unattributed 0\n1 itm locked skipped 0 tail 0\n2 stp locked skipped 0 tail 0\n" }
+    ensures within { both_row (OfKind Dwt ∷ Time ∷ []) Time (OfKind Dwt) (itm Bare Aligned 1) (codes "0E 0F 10 20 01 41 8D 2A 94 05") ≡
+        codes "3 1 local exact 2 clock=2\n7 1 cmp 0 write u8 2a\n9 1 global1 1 5 0 0 time=?\nend 10\nport bare skipped 0 tail 0 unattributed 0\n1 itm aligned skipped 0 tail 0\n" }
 {}
 
 /// A bare capture with a window: a time counts what is not listed, and the line of a fault is always there.

@@ -49,8 +49,9 @@ impl Show {
         ensures count { taken_by result ≡ 0 }
         ensures live { IsLive result }
     {
+        let only = plan.only;
         Show {
-            lister: Lister::new(&plan.plan, plan.only, plan.window),
+            lister: Lister::new(&plan.plan, only, plan.window),
             engine: Engine::new(plan.plan),
             stop: None,
         }

@@ -2,9 +2,8 @@
 
 ghost use Rattle.std.specs.Prelude.{◌≡◌, ◌<◌, ◌++◌, ◌∷◌, [], ℕ, List, Some, false, get_or};
 ghost use Rattle.capture_actions.specs.Names.{ItmPacket, IsProper, Event, Packet, Itm, EventFits, PacketFits, Suits};
-ghost use Rattle.capture_actions.specs.Names.{SuitsPacket, None as NoRemark};
+ghost use Rattle.capture_actions.specs.Names.{SuitsPacket, None as NoRemark, is_stamp};
 ghost use Rattle.source_events.specs.declared.event.What.TheVariants.{Packet as Said};
-ghost use Rattle.capture_actions.specs.Remarks.{is_stamp};
 ghost use Rattle.capture_actions.specs.Listing.{itm_packet, itm_packets, remark_of};
 ghost use Rattle.capture_actions.specs.SourceClocks.{AllStand, without};
 

@@ -6,12 +6,13 @@ use Rattle.source_events.specs.declared.plan.Plan.{Plan}
 use Rattle.recovery_listing.specs.Listing.{listing}
 use Rattle.recovery_listing.specs.Summary.{summary}
 
--- the listing of a text with all its events, that with those that meet a choice, and its summary
+-- the listing of a text with all its events, that with those that meet one of some choices, and its
+-- summary
 abbrev pub listing_row : Plan → List ℕ → List ℕ
 listing_row plan text = listing (record { plan = plan; only = None; window = None }) (hex text)
 
-abbrev pub chosen_row : Choice → Plan → List ℕ → List ℕ
-chosen_row choice plan text = listing (record { plan = plan; only = Some choice; window = None }) (hex text)
+abbrev pub chosen_row : List Choice → Plan → List ℕ → List ℕ
+chosen_row choices plan text = listing (record { plan = plan; only = Some choices; window = None }) (hex text)
 
 abbrev pub summary_row : Plan → List ℕ → List ℕ
 summary_row plan text = summary plan (hex text)

@@ -4,7 +4,7 @@ ghost use Rattle.std.specs.Prelude.{◌≡◌, [], List};
 ghost use Rattle.recovering_machines.specs.Hearing.{as_strict};
 
 use capture_actions::Lister;
-use item_tap::{Bounds, Choice};
+use item_tap::{Bounds, Choices};
 use recovering_machines::Hearer;
 use source_events::{Event, Packet, Plan, Stop, What};
 use stretch_readings::Heard;
@@ -41,9 +41,9 @@ impl RecoveringLister {
     ghost use Rattle.recovery_listing.specs.Lister.{Stands, plan_of};
     ghost use Rattle.recovery_listing.specs.Listing.{has_fault};
 
-    /// No event came yet. It lists those of a capture that is read so which meet a choice, if there is one, and are
-    /// within a window, if there is one.
-    pub fn new(plan: &Plan, only: Option<Choice>, window: Option<Bounds>) -> RecoveringLister
+    /// No event came yet. It lists those of a capture that is read so which meet one of some choices, if there are any,
+    /// and are within a window, if there is one.
+    pub fn new(plan: &Plan, only: Option<Choices>, window: Option<Bounds>) -> RecoveringLister
         ensures plan { plan_of result ≡ record { plan = plan.now; only = only; window = window } }
         ensures stands { Stands result [] }
     {
@@ -61,7 +61,7 @@ impl RecoveringLister {
     }
 }
 
-/// An event goes to the outlet as its line, if it is listed. Neither the choice nor the window is asked of a fault.
+/// An event goes to the outlet as its line, if it is listed. Neither the choices nor the window are asked of a fault.
 impl Hearer for RecoveringLister {
     ghost use Rattle.recovery_listing.specs.Lister.{gets, room};
     ghost use Rattle.recovery_listing.specs.ListerLaws.{gets_more, gets_none};

@@ -1,10 +1,10 @@
 //! Worked rows of recovering listings and summaries, which the checker computes.
 
-ghost use Rattle.std.specs.Prelude.{◌≡◌, ◌++◌, codes};
+ghost use Rattle.std.specs.Prelude.{◌≡◌, ◌++◌, ◌∷◌, [], codes};
 ghost use Rattle.trace_values.specs.declared.reading_modes.FramesMode.TheVariants.{Aligned as FramesAligned, Bare};
 ghost use Rattle.trace_values.specs.declared.reading_modes.PacketsMode.TheVariants.{Aligned};
 ghost use Rattle.recovery_report.specs.Rows.{itm, raw};
-ghost use Rattle.item_tap.specs.declared.choice.Choice.TheVariants.{OfKind};
+ghost use Rattle.item_tap.specs.declared.choice.Choice.TheVariants.{OfKind, Port, Time};
 ghost use Rattle.item_tap.specs.declared.choice.Kind.TheVariants.{Dwt};
 ghost use Rattle.recovery_listing.specs.Rows.{chosen_row, listing_row, summary_row};
 
@@ -25,7 +25,11 @@ pub fn clocks_and_choices()
         codes "0 1 local exact 2 clock=2\nfault 1 1 3 ReservedHeader\n7 1 locked 1\n7 1 sync\n"
         ++ codes "8 1 local exact 2 clock=2\nend 9\n"
         ++ codes "port bare skipped 0 tail 0 unattributed 0\n1 itm locked skipped 1 tail 0\n" }
-    ensures choice { chosen_row (OfKind Dwt) (itm Bare Aligned) (codes "20 04 00 00 00 00 00 80 20") ≡
+    ensures choices { chosen_row (Port 1 ∷ Time ∷ []) (itm Bare Aligned) (codes "20 04 00 00 00 00 00 80 20") ≡
+        codes "0 1 local exact 2 clock=2\nfault 1 1 3 ReservedHeader\n7 1 locked 1\n"
+        ++ codes "8 1 local exact 2 clock=2\nend 9\n"
+        ++ codes "port bare skipped 0 tail 0 unattributed 0\n1 itm locked skipped 1 tail 0\n" }
+    ensures choice { chosen_row (OfKind Dwt ∷ []) (itm Bare Aligned) (codes "20 04 00 00 00 00 00 80 20") ≡
         codes "fault 1 1 3 ReservedHeader\n7 1 locked 1\nend 9\n"
         ++ codes "port bare skipped 0 tail 0 unattributed 0\n1 itm locked skipped 1 tail 0\n" }
 {}

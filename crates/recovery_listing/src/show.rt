@@ -28,8 +28,9 @@ impl RecoveringShow {
         ensures stands { Stands result [] }
         ensures count { taken_by result ≡ 0 }
     {
+        let only = plan.only;
         RecoveringShow {
-            lister: RecoveringLister::new(&plan.plan, plan.only, plan.window),
+            lister: RecoveringLister::new(&plan.plan, only, plan.window),
             engine: Recovery::new(plan.plan),
         }
     }

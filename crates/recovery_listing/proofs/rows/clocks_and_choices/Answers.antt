@@ -8,6 +8,10 @@ pub returns-clause-clocks : goal.returns-clause-clocks
 unfolding digits hex_on_literals source_tails
 returns-clause-clocks c = refl
 
+pub returns-clause-choices : goal.returns-clause-choices
+unfolding digits hex_on_literals source_tails
+returns-clause-choices c = refl
+
 pub returns-clause-choice : goal.returns-clause-choice
 unfolding digits hex_on_literals source_tails
 returns-clause-choice c = refl
